@@ -1,0 +1,187 @@
+-- Words at the end of a buffer.
+use Rattle.std.specs.Prelude.{◌≡◌, ℕ, ◌+◌, ◌-◌, Bool, true, false, not, cond, ◌&&◌, ◌==◌, List, [], ◌∷◌, ◌++◌, length, ◌<◌, suc, take, drop, count_by, nat_lt, Some, None, Result, Ok, Err, is_ok, is_err, OnOk, refl}
+use Rattle.std.specs.List.{list_all, slice_split, onto_first, position, position_or_len, before_first, after_first}
+use Rattle.std.proofs.Common.{sym, ◌∙◌, ap, arith, true≢false, append_assoc, ltb-true, ltb-false}
+use Rattle.std.proofs.lemmas.List.Splits.{join_with_byte-slice_split, slice_split_first, length-slice_split}
+use Rattle.std.proofs.lemmas.List.{length-drop}
+use Rattle.std.proofs.Math.Seq.{take-length}
+use Rattle.std.proofs.lemmas.List.Sums.{prefix_len-le-length}
+use Rattle.mm_lex.specs.Alphabet.{Name, is_visible}
+use Rattle.mm_lex.specs.Words.{spaced, words_of, is_word}
+
+abbrev is_space : ℕ → Bool
+is_space c = c == 32
+
+pub spaced-words_of : (text : List ℕ) → spaced (words_of text) ≡ text
+spaced-words_of [] = refl
+spaced-words_of (b ∷ text) = join_with_byte-slice_split 32 (b ∷ text)
+
+onto_first-append : (x : ℕ) (xs : List ℕ) (ys zs : List Name) → onto_first x ((xs ∷ ys) ++ zs) ≡ onto_first x (xs ∷ ys) ++ zs
+onto_first-append x xs ys zs = refl
+
+-- a split has a first part
+first_step : (t : Bool) (b : ℕ) (parts : List Name) → (x : List ℕ) × (xs : List Name) × (parts ≡ x ∷ xs)
+    → (x : List ℕ) × (xs : List Name) × (cond t ([] ∷ parts) (onto_first b parts) ≡ x ∷ xs)
+first_step true b parts p = ([], parts, refl)
+first_step false b parts p = (b ∷ p.0, p.1, ap (onto_first b) p.2)
+
+first_part : (text : List ℕ) → (x : List ℕ) × (xs : List Name) × (slice_split is_space text ≡ x ∷ xs)
+first_part [] = ([], [], refl)
+first_part (b ∷ text) = first_step (is_space b) b (slice_split is_space text) (first_part text)
+
+split_step : (t : Bool) (b : ℕ) (parts more : List Name) (x : List ℕ) (xs : List Name) → parts ≡ x ∷ xs
+    → cond t ([] ∷ (parts ++ more)) (onto_first b (parts ++ more)) ≡ cond t ([] ∷ parts) (onto_first b parts) ++ more
+split_step true b parts more x xs e = refl
+split_step false b parts more x xs e = rw e refl
+
+-- the parts of two texts with a space between them
+pub slice_split-space : (text more : List ℕ) → slice_split is_space (text ++ 32 ∷ more) ≡ slice_split is_space text ++ slice_split is_space more
+slice_split-space [] more = refl
+slice_split-space (b ∷ text) more =
+    let p : (x : List ℕ) × (xs : List Name) × (slice_split is_space text ≡ x ∷ xs) = first_part text in
+    ap (λ r. cond (is_space b) ([] ∷ r) (onto_first b r)) (slice_split-space text more)
+    ∙ split_step (is_space b) b (slice_split is_space text) (slice_split is_space more) p.0 p.1 p.2
+
+and_left : (a b : Bool) → (a && b) ≡ true → a ≡ true
+and_left true b h = refl
+and_left false b h = cc
+
+and_right : (a b : Bool) → (a && b) ≡ true → b ≡ true
+and_right true b h = h
+and_right false b h = cc
+
+visible_no_space : (b : ℕ) → is_visible b ≡ true → is_space b ≡ false
+visible_no_space b h = by (is_space b) refl
+  where
+    by : (t : Bool) → is_space b ≡ t → t ≡ false
+    by true e = let is : b ≡ 32 = grind (arith, e) in absurd (true≢false (sym h ∙ ap is_visible is))
+    by false e = refl
+
+split_visible : (w : Name) → list_all is_visible w ≡ true → slice_split is_space w ≡ w ∷ []
+split_visible [] h = refl
+split_visible (b ∷ w) h =
+    ap (λ t. cond t ([] ∷ slice_split is_space w) (onto_first b (slice_split is_space w))) (visible_no_space b (and_left (is_visible b) (list_all is_visible w) h))
+    ∙ ap (onto_first b) (split_visible w (and_right (is_visible b) (list_all is_visible w) h))
+
+-- one word alone
+pub words_of-one : (w : Name) → is_word w ≡ true → words_of w ≡ w ∷ []
+words_of-one [] h = cc
+words_of-one (b ∷ w) h = split_visible (b ∷ w) h
+
+-- a word more
+pub words_of-push : (b : ℕ) (text : List ℕ) (w : Name) → is_word w ≡ true → words_of ((b ∷ text) ++ 32 ∷ w) ≡ words_of (b ∷ text) ++ w ∷ []
+words_of-push b text [] h = cc
+words_of-push b text (c ∷ w) h = slice_split-space (b ∷ text) (c ∷ w) ∙ ap (λ r. slice_split is_space (b ∷ text) ++ r) (split_visible (c ∷ w) h)
+
+pub AreWords-push : (ws : List Name) (w : Name) → list_all is_word ws ≡ true → is_word w ≡ true → list_all is_word (ws ++ w ∷ []) ≡ true
+AreWords-push [] w h k = rw k refl
+AreWords-push (v ∷ ws) w h k = rw (and_left (is_word v) (list_all is_word ws) h) (AreWords-push ws w (and_right (is_word v) (list_all is_word ws) h) k)
+
+-- ---- a word added to a buffer
+
+abbrev pub Next : List ℕ → List ℕ → List ℕ → Type 0
+Next text w new = (words_of new ≡ words_of text ++ w ∷ []) × (list_all is_word (words_of text) ≡ true → list_all is_word (words_of new) ≡ true)
+
+next : (text w new : List ℕ) → is_word w ≡ true → words_of new ≡ words_of text ++ w ∷ [] → Next text w new
+next text w new h e = (e, λ k. ap (list_all is_word) e ∙ AreWords-push (words_of text) w k h)
+
+-- to an empty buffer
+pub next-first : (text w new : List ℕ) → is_word w ≡ true → text ≡ [] → new ≡ text ++ w → Next text w new
+next-first text w new h empty e =
+    next text w new h (ap words_of (e ∙ ap (λ r. r ++ w) empty) ∙ (words_of-one w h ∙ ap (λ r. words_of r ++ w ∷ []) (sym empty)))
+
+-- to another
+pub next-more : (text w new : List ℕ) → is_word w ≡ true → 0 < length text → new ≡ text ++ 32 ∷ [] ++ w → Next text w new
+next-more [] w new h some e = absurd (no some)
+  where
+    no : 0 < 0 → ⊥
+    no k = omega (arith, k)
+next-more (b ∷ text) w new h some e = next (b ∷ text) w new h (ap words_of (e ∙ append_assoc (b ∷ text) (32 ∷ []) w) ∙ words_of-push b text w h)
+
+empty_by_len : (text : List ℕ) (len : ℕ) → len ≡ length text → true ≡ (len == 0) → text ≡ []
+empty_by_len [] len e h = refl
+empty_by_len (b ∷ text) len e h = absurd (no h e)
+  where
+    no : true ≡ (len == 0) → len ≡ suc (length text) → ⊥
+    no h e = grind (arith, h, e)
+
+pub some_by_len : (text : List ℕ) (len : ℕ) → len ≡ length text → false ≡ (len == 0) → 0 < length text
+some_by_len [] len e h = absurd (no h e)
+  where
+    no : false ≡ (len == 0) → len ≡ 0 → ⊥
+    no h e = grind (arith, h, e)
+some_by_len (b ∷ text) len e h = omega arith
+
+module _ {A E : Type 0} (text w new : List ℕ) (len : ℕ) (long : len ≡ length text) (word : is_word w ≡ true) where
+  pub first-ok : (r : Result A E) → true ≡ (len == 0) → new ≡ cond (is_ok r) (text ++ w) text → OnOk r (words_of new ≡ words_of text ++ w ∷ [])
+  first-ok (Ok x) h e = (next-first text w new word (empty_by_len text len long h) e).0
+  first-ok (Err x) h e = tt
+
+  pub first-words : (r : Result A E) → list_all is_word (words_of text) ≡ true → true ≡ (len == 0) → new ≡ cond (is_ok r) (text ++ w) text → list_all is_word (words_of new) ≡ true
+  first-words (Ok x) k h e = (next-first text w new word (empty_by_len text len long h) e).1 k
+  first-words (Err x) k h e = ap (λ t. list_all is_word (words_of t)) e ∙ k
+
+  pub more-ok : (r : Result A E) (mid : List ℕ) → false ≡ (len == 0) → mid ≡ text ++ 32 ∷ [] → new ≡ cond (is_ok r) (mid ++ w) mid → false ≡ is_err r → OnOk r (words_of new ≡ words_of text ++ w ∷ [])
+  more-ok (Ok x) mid h m e o = (next-more text w new word (some_by_len text len long h) (e ∙ ap (λ t. t ++ w) m)).0
+  more-ok (Err x) mid h m e o = tt
+
+  pub more-words : (r : Result A E) (mid : List ℕ) → list_all is_word (words_of text) ≡ true → false ≡ (len == 0) → mid ≡ text ++ 32 ∷ [] → new ≡ cond (is_ok r) (mid ++ w) mid → false ≡ is_err r → list_all is_word (words_of new) ≡ true
+  more-words (Ok x) mid k h m e o = (next-more text w new word (some_by_len text len long h) (e ∙ ap (λ t. t ++ w) m)).1 k
+  more-words (Err x) mid k h m e o = cc
+
+-- ---- the words of a buffer, one after another
+
+whole_step : (t : Bool) (b : ℕ) (text : List ℕ) → cond (not t) (1 + position_or_len is_space text) 0 ≡ length (b ∷ text)
+    → (position_or_len is_space text ≡ length text → slice_split is_space text ≡ text ∷ [])
+    → cond t ([] ∷ slice_split is_space text) (onto_first b (slice_split is_space text)) ≡ (b ∷ text) ∷ []
+whole_step true b text k whole = absurd (omega (arith, k))
+whole_step false b text k whole = ap (onto_first b) (whole (omega (arith, k)))
+
+-- no space in it: one part
+slice_split-whole : (text : List ℕ) → position_or_len is_space text ≡ length text → slice_split is_space text ≡ text ∷ []
+slice_split-whole [] h = refl
+slice_split-whole (b ∷ text) h = whole_step (is_space b) b text h (slice_split-whole text)
+
+-- what is behind a space has a word
+words_of-behind : (text rest : List ℕ) (w : Name) → slice_split is_space text ≡ w ∷ slice_split is_space rest → list_all is_word (slice_split is_space text) ≡ true → slice_split is_space rest ≡ words_of rest
+words_of-behind text [] w e k = absurd (true≢false (sym (and_right (is_word w) false (sym (ap (list_all is_word) e) ∙ k))))
+words_of-behind text (b ∷ rest) w e k = refl
+
+words_of-last : (text : List ℕ) → position_or_len is_space text ≡ length text → 0 < length text → words_of text ≡ text ∷ []
+words_of-last [] all some = absurd (omega (arith, some))
+words_of-last (b ∷ text) all some = slice_split-whole (b ∷ text) all
+
+words_of-first : (text : List ℕ) → position_or_len is_space text < length text → list_all is_word (words_of text) ≡ true
+    → words_of text ≡ take (position_or_len is_space text) text ∷ words_of (drop (position_or_len is_space text + 1) text)
+words_of-first [] inside k = absurd (omega (arith, inside))
+words_of-first (b ∷ text) inside k =
+    let cut = slice_split_first is_space (b ∷ text) 0 inside in
+    cut ∙ ap (λ r. before_first is_space (b ∷ text) ∷ r) (words_of-behind (b ∷ text) (after_first is_space (b ∷ text)) (before_first is_space (b ∷ text)) cut k)
+
+-- where the search for a space ends
+module _ (text : List ℕ) where
+  pub at_position : (n : ℕ) → Some n ≡ position is_space text → list_all is_word (words_of text) ≡ true → words_of text ≡ take n text ∷ words_of (drop (n + 1) text)
+  at_position n = by (nat_lt (position_or_len is_space text) (length text)) refl
+    where
+      by : (t : Bool) → nat_lt (position_or_len is_space text) (length text) ≡ t → Some n ≡ cond t (Some (position_or_len is_space text)) None → list_all is_word (words_of text) ≡ true → words_of text ≡ take n text ∷ words_of (drop (n + 1) text)
+      by true e h k = let same : n ≡ position_or_len is_space text = cc in rw same (words_of-first text (ltb-true _ _ e) k)
+      by false e h k = cc
+
+  pub no_position : None ≡ position is_space text → 0 < length text → words_of text ≡ text ∷ []
+  no_position = by (nat_lt (position_or_len is_space text) (length text)) refl
+    where
+      by : (t : Bool) → nat_lt (position_or_len is_space text) (length text) ≡ t → None ≡ cond t (Some (position_or_len is_space text)) None → 0 < length text → words_of text ≡ text ∷ []
+      by true e h some = cc
+      by false e h some = words_of-last text (omega (arith, ltb-false _ _ e, prefix_len-le-length (λ c. not (is_space c)) text)) some
+
+-- the words behind the first are words
+pub AreWords-behind : (ws vs : List Name) (w : Name) → ws ≡ w ∷ vs → list_all is_word ws ≡ true → list_all is_word vs ≡ true
+AreWords-behind ws vs w e k = and_right (is_word w) (list_all is_word vs) (sym (ap (list_all is_word) e) ∙ k)
+
+pub length-words_of : (text : List ℕ) → 0 < length text → length (words_of text) ≡ count_by is_space text + 1
+length-words_of [] some = absurd (omega (arith, some))
+length-words_of (b ∷ text) some = length-slice_split is_space (b ∷ text)
+
+-- the slice from a place on is what is behind it
+pub take-rest : (k : ℕ) (text : List ℕ) → take (length text - k) (drop k text) ≡ drop k text
+take-rest k text = ap (λ n. take n (drop k text)) (sym (length-drop k text)) ∙ take-length (drop k text)

@@ -1,0 +1,62 @@
+-- Why a text has no tokens.
+-- Source: Metamath, 4.1.1 (the bytes of a text) and 4.1.2 (comments do not nest).
+-- The code answers the first fault that it meets; here each fault says what stands before it.
+use Rattle.std.specs.Prelude.{◌≡◌, ℕ, ◌<◌, ◌⊎◌, IsFalse, List, ◌∷◌, ◌++◌, length, take, slice_index}
+use Rattle.mm_lex.specs.declared.span.Span.{Span}
+use Rattle.mm_lex.specs.declared.fault.LexFault.{LexFault}
+use Rattle.mm_lex.specs.declared.fault.LexFault.TheVariants.{Text, Comment, Memory}
+use Rattle.mm_lex.specs.Alphabet.{is_allowed, runs, word}
+use Rattle.mm_lex.specs.Tokens.{opener, closer, AllPlain, IsClean, Cuts}
+
+-- the first byte that is not allowed
+pub record IsFirstBadByte (text : List ℕ) (offset : ℕ) : Type 0 where
+  pub inside : offset < length text
+  pub bad : IsFalse (is_allowed (slice_index text offset))
+  pub before : IsClean (take offset text)
+
+-- what comes before is well cut, and then a `$)` stands outside of a comment, ..
+pub record IsStrayCloser (text : List ℕ) (offset : ℕ) : Type 0 where
+  pub before : List Span
+  pub tokens : List Span
+  pub at : Span
+  pub rest : List Span
+  pub whole : runs text ≡ before ++ at ∷ rest
+  pub cut : Cuts text before tokens
+  pub closes : word text at ≡ closer
+  pub place : at.start ≡ offset
+
+-- .. or a `$(` inside of a comment, ..
+pub record IsNestedOpener (text : List ℕ) (offset : ℕ) : Type 0 where
+  pub before : List Span
+  pub tokens : List Span
+  pub outer : Span
+  pub inside : List Span
+  pub at : Span
+  pub rest : List Span
+  pub whole : runs text ≡ before ++ outer ∷ (inside ++ at ∷ rest)
+  pub cut : Cuts text before tokens
+  pub opens : word text outer ≡ opener
+  pub plain : AllPlain text inside
+  pub opens_again : word text at ≡ opener
+  pub place : at.start ≡ offset
+
+-- .. or a comment is never closed
+pub record IsUnclosed (text : List ℕ) (offset : ℕ) : Type 0 where
+  pub before : List Span
+  pub tokens : List Span
+  pub at : Span
+  pub inside : List Span
+  pub whole : runs text ≡ before ++ at ∷ inside
+  pub cut : Cuts text before tokens
+  pub opens : word text at ≡ opener
+  pub plain : AllPlain text inside
+  pub place : at.start ≡ offset
+
+abbrev pub IsCommentFault : List ℕ → ℕ → Type 0
+IsCommentFault text offset = IsClean text × (IsStrayCloser text offset ⊎ IsNestedOpener text offset ⊎ IsUnclosed text offset)
+
+-- what a fault says of the text
+abbrev pub IsLexFault : List ℕ → LexFault → Type 0
+IsLexFault text (Text offset) = IsFirstBadByte text offset
+IsLexFault text (Comment offset) = IsCommentFault text offset
+IsLexFault text Memory = Unit {0}

@@ -1,0 +1,69 @@
+-- The tokens of a text: its words outside comments.
+-- Source: Metamath, 4.1.1 and 4.1.2 (comments count as white space).
+-- The code reads once, left to right; here the whole list of runs is cut at the comments.
+use Rattle.std.specs.Prelude.{◌≡◌, ℕ, ◌<◌, ◌≤◌, length, Bool, not, ◌||◌, IsTrue, List, [], ◌∷◌, ◌++◌, map, flat_map, codes}
+use Rattle.std.specs.List.{list_all}
+use Rattle.mm_lex.specs.declared.span.Span.{Span}
+use Rattle.mm_lex.specs.Alphabet.{is_allowed, Name, name_eq, runs, word}
+use Rattle.mm_lex.specs.Words.{is_word}
+
+-- `$(` and `$)`
+abbrev pub opener : Name
+opener = codes "$("
+
+abbrev pub closer : Name
+closer = codes "$)"
+
+-- neither begins nor ends a comment
+abbrev pub is_plain : Name → Bool
+is_plain w = not (name_eq w opener || name_eq w closer)
+
+abbrev pub AllPlain : List ℕ → List Span → Type 0
+AllPlain text spans = IsTrue (list_all (λ s. is_plain (word text s)) spans)
+
+-- a comment, and what follows it up to the next comment
+pub record Part : Type 0 where
+  pub begin : Span
+  pub inside : List Span
+  pub end : Span
+  pub after : List Span
+
+abbrev pub part_spans : Part → List Span
+part_spans p = p.begin ∷ (p.inside ++ (p.end ∷ p.after))
+
+pub record IsPart (text : List ℕ) (p : Part) : Type 0 where
+  pub begins : word text p.begin ≡ opener
+  pub inside : AllPlain text p.inside
+  pub ends : word text p.end ≡ closer
+  pub after : AllPlain text p.after
+
+abbrev pub AreParts : List ℕ → List Part → Type 0
+AreParts text [] = Unit {0}
+AreParts text (p ∷ ps) = IsPart text p × AreParts text ps
+
+-- these runs of the text are plain words and whole comments, and the plain words outside are the tokens
+pub record Cuts (text : List ℕ) (spans tokens : List Span) : Type 0 where
+  pub first : List Span
+  pub parts : List Part
+  pub whole : spans ≡ first ++ flat_map part_spans parts
+  pub plain : AllPlain text first
+  pub comments : AreParts text parts
+  pub outside : tokens ≡ first ++ flat_map (λ p. p.after) parts
+
+-- each byte is allowed
+abbrev pub IsClean : List ℕ → Type 0
+IsClean text = IsTrue (list_all is_allowed text)
+
+-- the tokens of the text, as the places where they stand
+abbrev pub AreTokens : List ℕ → List Span → Type 0
+AreTokens text tokens = IsClean text × Cuts text (runs text) tokens
+
+-- the tokens themselves
+abbrev pub words : List ℕ → List Span → List Name
+words text tokens = map (word text) tokens
+
+-- the span is the place of a word of the text
+pub record IsWordAt (text : List ℕ) (s : Span) : Type 0 where
+  pub some : s.start < s.end
+  pub within : s.end ≤ length text
+  pub word : IsTrue (is_word (word text s))

@@ -1,0 +1,71 @@
+//! The words of a list, one after another.
+ghost use Rattle.std.specs.Prelude.{◌≡◌, ◌==◌, ◌<◌, ◌∷◌, length, IfSome};
+ghost use Rattle.std.specs.List.{position};
+ghost use Rattle.mm_lex.specs.Words.{words_of, AreWords};
+
+use std::marker::Model;
+
+/// Goes over the words of a list in order. Contracts see the words that are left.
+#[derive(Drop)]
+pub struct WordIter<'a> {
+    text: &'a [u8],
+}
+
+impl<'a> Model for WordIter<'a> {
+    ghost use Rattle.std.specs.Prelude.{ℕ, List};
+    ghost use Rattle.mm_lex.specs.Words.{words_of, AreWords};
+
+    ghost Value = { List (List ℕ) };
+
+    ghost view = { λ a. words_of a.text.now };
+
+    ghost invariant = { λ a. AreWords (words_of a.text.now) };
+}
+
+impl<'a> WordIter<'a> {
+    pub(crate) fn new(text: &'a [u8]) -> WordIter<'a>
+        requires { AreWords (words_of text.now) }
+        ensures { result ≡ words_of text.now }
+    {
+        WordIter { text }
+    }
+}
+
+impl<'a> Iterator for WordIter<'a> {
+    ghost use Rattle.std.specs.Iterator.{YieldsFirstRef, item_count};
+
+    type Item = &'a [u8];
+
+    ghost next_gives = { YieldsFirstRef (λ words. words) };
+
+    ghost remaining = { item_count (λ words. words) };
+
+    fn next(&mut self) -> Option<&'a [u8]> {
+        if self.text.is_empty() {
+            return None;
+        }
+        let (word, rest) = split_word(self.text);
+        self.text = rest;
+        Some(word)
+    }
+}
+
+/// The first word of a text, and what follows the space behind it.
+fn split_word<'a>(text: &'a [u8]) -> (&'a [u8], &'a [u8])
+    requires some { 0 < length text.now }
+    requires words { AreWords (words_of text.now) }
+    ensures first { words_of text.now ≡ result.0.now ∷ words_of result.1.now }
+    ensures rest { AreWords (words_of result.1.now) }
+{
+    match find_space(text) {
+        Some(end) => (&text[..end], &text[end + 1..]),
+        None => (text, &[]),
+    }
+}
+
+fn find_space(text: &[u8]) -> Option<usize>
+    ensures place { result ≡ position (λ b. b == 32) text.now }
+    ensures within { IfSome result (λ end. end < length text.now) }
+{
+    text.iter().position(|b| *b == b' ')
+}

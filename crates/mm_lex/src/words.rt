@@ -1,0 +1,127 @@
+//! A list of words in one buffer.
+ghost use Rattle.std.specs.Prelude.{◌≡◌, ◌↔◌, [], ◌∷◌, ◌++◌, ◌==◌, ◌≤◌, length, count_by, IsTrue, IfOk, OnOk, OnErr};
+ghost use Rattle.mm_lex.specs.Words.{spaced, words_of, is_word, AreWords};
+
+use crate::reading::WordIter;
+use std::alloc::{AllocError, Global};
+use std::marker::Model;
+
+/// A list of words in one buffer, with one space between two. Contracts see the list.
+#[derive(Drop)]
+pub struct Words {
+    text: Vec<u8>,
+}
+
+impl Model for Words {
+    ghost use Rattle.std.specs.Prelude.{ℕ, List};
+    ghost use Rattle.mm_lex.specs.Words.{words_of, AreWords};
+
+    ghost Value = { List (List ℕ) };
+
+    ghost view = { λ a. words_of a.text.items };
+
+    ghost invariant = { λ a. AreWords (words_of a.text.items) };
+}
+
+impl Words {
+    /// No words.
+    pub fn new(alloc: Global) -> Words
+        ensures { result ≡ [] }
+    {
+        Words {
+            text: Vec::new(alloc),
+        }
+    }
+
+    /// No words, with room for a list whose text has `bytes` bytes.
+    pub fn with_capacity(alloc: Global, bytes: usize) -> Result<Words, AllocError>
+        ensures { IfOk result (λ words. words ≡ []) }
+    {
+        let text = Vec::with_capacity(alloc, bytes)?;
+        Ok(Words { text })
+    }
+
+    /// Adds a word at the end.
+    pub fn push(&mut self, word: &[u8]) -> Result<(), AllocError>
+        requires { IsTrue (is_word word.now) }
+        ensures ok { OnOk result (self.new ≡ self.old ++ word.now ∷ []) }
+        ensures err { OnErr result (self.new ≡ self.old) }
+    {
+        push_word(&mut self.text, word)
+    }
+
+    /// The words, with one space between two.
+    pub fn as_text(&self) -> &[u8]
+        ensures text { result.now ≡ spaced self.now }
+        ensures words { AreWords self.now }
+    {
+        self.text.as_slice()
+    }
+
+    /// The words in order.
+    pub fn iter(&self) -> WordIter<'_>
+        ensures words { result ≡ self.now }
+        ensures visible { AreWords self.now }
+    {
+        WordIter::new(self.text.as_slice())
+    }
+
+    /// How many words there are. Cost: the size of their text.
+    pub fn len(&self) -> usize
+        ensures { result ≡ length self.now }
+    {
+        count_words(self.text.as_slice())
+    }
+
+    /// Whether there are no words.
+    pub fn is_empty(&self) -> bool
+        ensures { IsTrue result ↔ (self.now ≡ []) }
+    {
+        self.text.is_empty()
+    }
+
+    /// The same words again, in a buffer of their own size.
+    pub fn copy(&self, alloc: Global) -> Result<Words, AllocError>
+        ensures { IfOk result (λ words. words ≡ self.now) }
+    {
+        let text = Vec::from_slice(alloc, self.text.as_slice())?;
+        Ok(Words { text })
+    }
+}
+
+/// Adds a word behind the others.
+fn push_word(text: &mut Vec<u8>, word: &[u8]) -> Result<(), AllocError>
+    requires words { AreWords (words_of text.old.items) }
+    requires word { IsTrue (is_word word.now) }
+    ensures ok { OnOk result (words_of text.new.items ≡ words_of text.old.items ++ word.now ∷ []) }
+    ensures words { AreWords (words_of text.new.items) }
+    ensures err { OnErr result (text.new.items ≡ text.old.items) }
+{
+    if text.is_empty() {
+        return text.extend_from_slice(word);
+    }
+    let len = text.len();
+    text.push(b' ')?;
+    let added = text.extend_from_slice(word);
+    if added.is_err() {
+        text.truncate(len);
+    }
+    added
+}
+
+/// How many words a text has: one more than its spaces, where it is not empty.
+fn count_words(text: &[u8]) -> usize
+    ensures { result ≡ length (words_of text.now) }
+{
+    if text.is_empty() {
+        return 0;
+    }
+    count_spaces(text) + 1
+}
+
+fn count_spaces(text: &[u8]) -> usize
+    ensures count { result ≡ count_by (λ b. b == 32) text.now }
+    ensures within { result ≤ length text.now }
+{
+    text.iter().filter(|b| **b == b' ').count()
+}
