@@ -1,0 +1,2 @@
+pub mod FiniteMapLemmas
+pub mod PagesLemmas

@@ -1,0 +1,142 @@
+//! The finite map.
+ghost use Rattle.std.specs.Prelude.{◌≡◌, ◌<◌, ◌≤◌, ◌+◌, ◌↔◌, [], drop, max, IsTrue, IsOk, OnOk, Some, None, length, MatchOption};
+ghost use Rattle.slots.specs.FiniteMap.{entry_at, put_at, front_of, top_of};
+
+use crate::page::PAGE_SLOTS;
+use crate::pages::Pages;
+use std::alloc::{AllocError, Global};
+use std::marker::Model;
+
+/// The slots of a log: they are numbered from 0, below this.
+pub const SLOTS: u32 = 1_048_576;
+
+/// Entries by slot, below `SLOTS`, kept in pages of 256 slots.
+#[derive(Drop)]
+pub struct Slots<T> {
+    pages: Pages<T>,
+    front: u32,
+    top: u32,
+}
+
+impl<T> Model for Slots<T> {
+    ghost use Rattle.std.specs.Prelude.{length};
+    ghost use Rattle.slots.specs.FiniteMap.{SlotsView, trimmed};
+    ghost use Rattle.slots.specs.Pages.{AreSlots};
+
+    ghost Value = { SlotsView T };
+
+    ghost view = { λ s. record { entries = trimmed s.pages; room = length s.pages } };
+
+    ghost invariant = { λ s. AreSlots s.pages s.front s.top };
+}
+
+impl<T: Drop> Slots<T> {
+    /// No entries. It takes no memory.
+    pub fn new(alloc: Global) -> Self
+        ensures entries { result.entries ≡ [] }
+        ensures room { result.room ≡ 0 }
+    {
+        Slots {
+            pages: Pages::new(alloc),
+            front: 0,
+            top: 0,
+        }
+    }
+
+    /// Makes room at a slot. The entries stay.
+    ///
+    /// Cost: the pages that it adds.
+    pub fn room(&mut self, slot: u32) -> Result<(), AllocError>
+        requires { slot < SLOTS }
+        ensures ok { OnOk result (slot < self.new.room) }
+        ensures had { slot < self.old.room → IsOk result }
+        ensures entries { self.new.entries ≡ self.old.entries }
+        ensures room { self.old.room ≤ self.new.room }
+    {
+        let pages = slot as usize / PAGE_SLOTS + 1;
+        while self.pages.count() < pages {
+            self.pages.add()?;
+        }
+        Ok(())
+    }
+
+    /// Whether there is room at a slot.
+    pub fn has_room(&self, slot: u32) -> bool
+        ensures { IsTrue result ↔ (slot < self.now.room) }
+    {
+        (slot as usize) < self.pages.count() * PAGE_SLOTS
+    }
+
+    /// Puts an entry in place of the one before, which it gives back. It takes no memory.
+    ///
+    /// Cost: constant over many puts; one that fills a gap passes the entries above it once.
+    pub fn put(&mut self, slot: u32, entry: T) -> Option<T>
+        requires { slot < self.old.room }
+        ensures entries { self.new.entries ≡ put_at self.old.entries slot entry }
+        ensures room { self.new.room ≡ self.old.room }
+        ensures before { result ≡ entry_at self.old.entries slot }
+    {
+        let before = self.pages.put(slot as usize, entry);
+        self.front = gap_from(&self.pages, self.front);
+        self.top = top_with(self.top, slot);
+        before
+    }
+
+    /// The entry at a slot.
+    pub fn get(&self, slot: u32) -> Option<&T>
+        ensures { MatchOption result (entry_at self.now.entries slot ≡ None) (λ entry. entry_at self.now.entries slot ≡ Some entry.now) }
+    {
+        if self.has_room(slot) {
+            self.pages.get(slot as usize)
+        } else {
+            None
+        }
+    }
+
+    /// The least slot that is empty, or `SLOTS` where none is.
+    pub fn front(&self) -> u32
+        ensures front { result ≡ front_of self.now.entries }
+        ensures within { result ≤ SLOTS }
+    {
+        self.front
+    }
+
+    /// One above the greatest slot that is not empty, else 0.
+    pub fn top(&self) -> u32
+        ensures top { result ≡ top_of self.now.entries }
+        ensures within { result ≤ SLOTS }
+    {
+        self.top
+    }
+
+    /// Gives all entries up, and the room with them.
+    pub fn clear(&mut self)
+        ensures entries { self.new.entries ≡ [] }
+    {
+        self.pages.clear();
+        self.front = 0;
+        self.top = 0;
+    }
+}
+
+/// The first slot from `from` on that is empty, or the end of the pages.
+fn gap_from<T: Drop>(pages: &Pages<T>, from: u32) -> u32
+    requires pages { length pages.now ≤ SLOTS }
+    requires from { from ≤ length pages.now }
+    ensures { result ≡ from + front_of (drop from pages.now) }
+{
+    let end = (pages.count() * PAGE_SLOTS) as u32;
+    let mut slot = from;
+    while slot < end && pages.get(slot as usize).is_some() {
+        slot += 1;
+    }
+    slot
+}
+
+/// The top once there is an entry at a slot.
+fn top_with(top: u32, slot: u32) -> u32
+    requires { slot < SLOTS }
+    ensures { result ≡ max top (slot + 1) }
+{
+    if top <= slot { slot + 1 } else { top }
+}

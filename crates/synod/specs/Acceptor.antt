@@ -1,0 +1,63 @@
+-- The acceptor: what it promises and what it accepts.
+-- Source: Lamport, Paxos Made Simple, 2.2, phases 1(b) and 2(b); a refused proposer is told (2.5).
+-- The code makes the pages of a promise straight from the slots. The model lists all reports and cuts them.
+use Rattle.std.specs.Prelude.{ℕ, suc, nat_lt, List, [], ◌∷◌, Option, Some, None, length, if◌then◌else◌}
+use Rattle.slots.specs.FiniteMap.{put_at}
+use Rattle.synod.specs.declared.ballot.Ballot.{Ballot}
+use Rattle.synod.specs.declared.packet.Report.{Report}
+use Rattle.synod.specs.declared.packet.Packet.{Packet}
+use Rattle.synod.specs.declared.packet.Body.TheVariants.{Promise, Accepted, Nack}
+use Rattle.synod.specs.declared.change.Held.{Held}
+use Rattle.synod.specs.declared.change.Change.TheVariants.{Promise as PromiseChange, Entry}
+use Rattle.synod.specs.Ballots.{is_under}
+use Rattle.synod.specs.Packets.{packet, to_all}
+use Rattle.synod.specs.Pages.{pages_of}
+use Rattle.synod.specs.Node.{Node, Stepped, answers}
+
+-- the reports of the slots from first on, where the list begins at slot s
+abbrev pub reports_from : {V : Type 0} → ℕ → ℕ → List (Option (Held V)) → List (Report V)
+reports_from first s [] = []
+reports_from first s (None ∷ hs) = reports_from first (suc s) hs
+reports_from first s (Some h ∷ hs) =
+    if nat_lt s first
+    then reports_from first (suc s) hs
+    else (record { slot = s; ballot = h.ballot; value = h.value } ∷ reports_from first (suc s) hs)
+
+-- the packets of a promise, numbered from i
+abbrev pub promise_pages : {V : Type 0} → ℕ → ℕ → Ballot → ℕ → ℕ → List (List (Report V)) → List (Packet V)
+promise_pages me p b count i [] = []
+promise_pages me p b count i (page ∷ pages) = packet me p (Promise b i count page) ∷ promise_pages me p b count (suc i) pages
+
+abbrev pub promise_posts : {V : Type 0} → ℕ → ℕ → Ballot → List (List (Report V)) → List (Packet V)
+promise_posts me p b pages = promise_pages me p b (length pages) 1 pages
+
+-- the ballot is promised to p, with what was accepted from first on
+abbrev pub promises : {V : Type 0} → Node V → ℕ → Ballot → ℕ → Stepped V
+promises n p b first = record {
+  node = record n { promise = b };
+  change = Some (PromiseChange b);
+  posts = promise_posts n.me p b (pages_of (reports_from first 0 n.accepted));
+}
+
+-- p is told of the promise that stands against its ballot
+abbrev pub refuses : {V : Type 0} → Node V → ℕ → Ballot → Stepped V
+refuses n p b = answers n (packet n.me p (Nack b n.promise) ∷ [])
+
+-- Prepare(b, first) from p: a ballot above the promise is promised
+abbrev pub on_prepare : {V : Type 0} → Node V → ℕ → Ballot → ℕ → Stepped V
+on_prepare n p b first = if is_under n.promise b then promises n p b first else refuses n p b
+
+abbrev pub held : {V : Type 0} → Ballot → Option V → Held V
+held b v = record { ballot = b; value = v }
+
+-- the value is accepted, and the ballot is promised with it
+abbrev pub takes_value : {V : Type 0} → Node V → Ballot → ℕ → Option V → Stepped V
+takes_value n b s v = record {
+  node = record n { promise = b; accepted = put_at n.accepted s (held b v) };
+  change = Some (Entry s (held b v));
+  posts = to_all n.me n.weights (Accepted b s v);
+}
+
+-- Accept(b, s, v) from p: a ballot not below the promise is accepted
+abbrev pub on_accept : {V : Type 0} → Node V → ℕ → Ballot → ℕ → Option V → Stepped V
+on_accept n p b s v = if is_under b n.promise then refuses n p b else takes_value n b s v

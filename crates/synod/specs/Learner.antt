@@ -1,0 +1,94 @@
+-- The learner: whom it counts, and what it learns and tells.
+-- Source: Lamport, Paxos Made Simple, 2.3.
+-- The code keeps the first ballot of a slot apart from later ones. A vote is counted by set, never by a counter.
+use Rattle.std.specs.Prelude.{ℕ, Bool, false, true, nat_lt, List, [], ◌∷◌, Option, Some, None, slice_set, slice_index_or, replicate, if◌then◌else◌}
+use Rattle.slots.specs.declared.slots.TheConstants.{SLOTS}
+use Rattle.slots.specs.FiniteMap.{entry_at, put_at}
+use Rattle.synod.specs.declared.weights.TheConstants.{MOST_NODES}
+use Rattle.synod.specs.declared.ballot.Ballot.{Ballot}
+use Rattle.synod.specs.declared.packet.Packet.{Packet}
+use Rattle.synod.specs.declared.packet.Body.TheVariants.{Ask, Told}
+use Rattle.synod.specs.declared.learner.Tally.{Tally}
+use Rattle.synod.specs.Weights.{is_quorum}
+use Rattle.synod.specs.Ballots.{is_same}
+use Rattle.synod.specs.Packets.{packet, to_others}
+use Rattle.synod.specs.Node.{Node, Stepped, unchanged, answers}
+use Rattle.synod.specs.Log.{log_length}
+
+-- voters have a mark for each node
+abbrev pub is_voter : List Bool → ℕ → Bool
+is_voter voters k = slice_index_or voters k false
+
+abbrev pub with_voter : List Bool → ℕ → List Bool
+with_voter voters k = slice_set voters k true
+
+abbrev pub no_voters : List Bool
+no_voters = replicate MOST_NODES false
+
+-- node k is counted under the ballot
+abbrev pub voted_in : List Tally → Ballot → ℕ → Bool
+voted_in [] b k = false
+voted_in (t ∷ ts) b k = if is_same t.ballot b then is_voter t.voters k else voted_in ts b k
+
+abbrev pub counted_in : List Tally → Ballot → ℕ → List Tally
+counted_in [] b k = record { ballot = b; voters = with_voter no_voters k } ∷ []
+counted_in (t ∷ ts) b k =
+    if is_same t.ballot b then (record { ballot = t.ballot; voters = with_voter t.voters k } ∷ ts) else (t ∷ counted_in ts b k)
+
+abbrev pub tallies_at : Option (List Tally) → List Tally
+tallies_at None = []
+tallies_at (Some ts) = ts
+
+-- node k is counted at the slot under the ballot
+abbrev pub has_voter : List (Option (List Tally)) → ℕ → Ballot → ℕ → Bool
+has_voter tallies s b k = voted_in (tallies_at (entry_at tallies s)) b k
+
+-- each node is counted once for a slot and a ballot
+abbrev pub counted : List (Option (List Tally)) → ℕ → Ballot → ℕ → List (Option (List Tally))
+counted tallies s b k = put_at tallies s (counted_in (tallies_at (entry_at tallies s)) b k)
+
+abbrev pub learns : {V : Type 0} → Node V → ℕ → Option V → Node V
+learns n s v = record n { learned = put_at n.learned s v }
+
+-- where a gap is left below, the others are asked
+abbrev pub ask_below : {V : Type 0} → Node V → ℕ → List (Packet V)
+ask_below n s = if nat_lt (log_length n) s then to_others n.me n.weights (Ask (log_length n)) else []
+
+-- a quorum accepted it under one ballot
+abbrev pub chooses : {V : Type 0} → Node V → ℕ → Option V → Stepped V
+chooses n s v = answers (learns n s v) (ask_below (learns n s v) s)
+
+-- with one vote more
+abbrev pub counts : {V : Type 0} → Node V → Ballot → ℕ → Option V → Stepped V
+counts n b s v = if is_quorum n.weights (has_voter n.tallies s b) then chooses n s v else unchanged n
+
+abbrev pub on_accepted_at : {V : Type 0} → Option (Option V) → Node V → ℕ → Ballot → ℕ → Option V → Stepped V
+on_accepted_at (Some u) n p b s v = unchanged n
+on_accepted_at None n p b s v = counts (record n { tallies = counted n.tallies s b p }) b s v
+
+-- Accepted(b, s, v) from p: at a slot not learned p is counted
+abbrev pub on_accepted : {V : Type 0} → Node V → ℕ → Ballot → ℕ → Option V → Stepped V
+on_accepted n p b s v = on_accepted_at (entry_at n.learned s) n p b s v
+
+abbrev pub on_ask_at : {V : Type 0} → Option (Option V) → Node V → ℕ → ℕ → Stepped V
+on_ask_at None n p s = unchanged n
+on_ask_at (Some v) n p s = answers n (packet n.me p (Told s v) ∷ [])
+
+-- Ask(s) from p: what is learned is told
+abbrev pub on_ask : {V : Type 0} → Node V → ℕ → ℕ → Stepped V
+on_ask n p s = on_ask_at (entry_at n.learned s) n p s
+
+-- the next gap is asked for, while there is one
+abbrev pub ask_next : {V : Type 0} → Node V → ℕ → List (Packet V)
+ask_next n p = if nat_lt (log_length n) SLOTS then (packet n.me p (Ask (log_length n)) ∷ []) else []
+
+abbrev pub hears_told : {V : Type 0} → Node V → ℕ → ℕ → Option V → Stepped V
+hears_told n p s v = answers (learns n s v) (ask_next (learns n s v) p)
+
+abbrev pub on_told_at : {V : Type 0} → Option (Option V) → Node V → ℕ → ℕ → Option V → Stepped V
+on_told_at (Some u) n p s v = unchanged n
+on_told_at None n p s v = hears_told n p s v
+
+-- Told(s, v) from p: what is not learned is learned
+abbrev pub on_told : {V : Type 0} → Node V → ℕ → ℕ → Option V → Stepped V
+on_told n p s v = on_told_at (entry_at n.learned s) n p s v

@@ -1,0 +1,12 @@
+pub mod Weights
+pub mod Ballots
+pub mod Packets
+pub mod Pages
+pub mod Record
+pub mod Node
+pub mod Log
+pub mod Acceptor
+pub mod Proposer
+pub mod Learner
+pub mod Step
+pub mod Refusals

@@ -1,0 +1,86 @@
+-- The state of a node: proposer, acceptor and learner at once.
+-- Source: Lamport, Paxos Made Simple, 2.1 to 2.3 and 3.
+-- The code has room beside this state, and keeps the maps in pages.
+use Rattle.std.specs.Prelude.{ℕ, Bool, false, ◌==◌, ◌||◌, List, [], ◌∷◌, Option, None, is_some, map, slice_set, slice_index_or, if◌then◌else◌}
+use Rattle.slots.specs.FiniteMap.{entry_at, put_at}
+use Rattle.synod.specs.declared.ballot.Ballot.{Ballot}
+use Rattle.synod.specs.declared.packet.Report.{Report}
+use Rattle.synod.specs.declared.packet.Packet.{Packet}
+use Rattle.synod.specs.declared.change.Held.{Held}
+use Rattle.synod.specs.declared.change.Change.{Change}
+use Rattle.synod.specs.declared.proposer.Role.{Role}
+use Rattle.synod.specs.declared.proposer.Role.TheVariants.{Idle}
+use Rattle.synod.specs.declared.proposer.Heard.{Heard}
+use Rattle.synod.specs.declared.learner.Tally.{Tally}
+use Rattle.synod.specs.Record.{Kept, new_kept}
+
+pub record Node (V : Type 0) : Type 0 where
+  pub me : ℕ
+  pub weights : List ℕ
+  pub promise : Ballot
+  pub round : ℕ
+  pub accepted : List (Option (Held V))  -- by slot
+  pub role : Role
+  pub pages : List (List (Option (List (Report V))))  -- by node, and then by page, from 0
+  pub heard : List Heard  -- the first heard first
+  pub tallies : List (Option (List Tally))  -- by slot
+  pub learned : List (Option (Option V))  -- by slot
+  pub waiting : List V  -- the first in first
+
+-- the part that outlives a restart
+abbrev pub kept_of : {V : Type 0} → Node V → Kept V
+kept_of n = record { promise = n.promise; round = n.round; accepted = n.accepted }
+
+-- a node as it is after a restart
+abbrev pub rest_of : {V : Type 0} → ℕ → List ℕ → Kept V → Node V
+rest_of me weights kept = record {
+  me = me;
+  weights = weights;
+  promise = kept.promise;
+  round = kept.round;
+  accepted = kept.accepted;
+  role = Idle;
+  pages = [];
+  heard = [];
+  tallies = [];
+  learned = [];
+  waiting = [];
+}
+
+abbrev pub new_node : {V : Type 0} → ℕ → List ℕ → Node V
+new_node me weights = rest_of me weights new_kept
+
+-- what a step makes of a node: its state, its change of the kept part, and its posts in order
+pub record Stepped (V : Type 0) : Type 0 where
+  pub node : Node V
+  pub change : Option (Change V)
+  pub posts : List (Packet V)
+
+-- nothing happens
+abbrev pub unchanged : {V : Type 0} → Node V → Stepped V
+unchanged n = record { node = n; change = None; posts = [] }
+
+-- nothing happens, and an answer is posted
+abbrev pub answers : {V : Type 0} → Node V → List (Packet V) → Stepped V
+answers n posts = record { node = n; change = None; posts = posts }
+
+-- the pages had of node k
+abbrev pub pages_from : {V : Type 0} → List (List (Option (List (Report V)))) → ℕ → List (Option (List (Report V)))
+pages_from pages k = slice_index_or pages k []
+
+-- the page of node k at that index, where it was had
+abbrev pub page_of : {V : Type 0} → List (List (Option (List (Report V)))) → ℕ → ℕ → Option (List (Report V))
+page_of pages k i = entry_at (pages_from pages k) i
+
+-- a page is kept, unless it was had before
+abbrev pub with_page : {V : Type 0} → List (List (Option (List (Report V)))) → ℕ → ℕ → List (Report V) → List (List (Option (List (Report V))))
+with_page pages k i reports =
+    if is_some (page_of pages k i) then pages else slice_set pages k (put_at (pages_from pages k) i reports)
+
+-- no page was had of any node
+abbrev pub no_pages : {V : Type 0} → List ℕ → List (List (Option (List (Report V))))
+no_pages weights = map (λ w. []) weights
+
+abbrev pub is_heard : List Heard → ℕ → Bool
+is_heard [] k = false
+is_heard (h ∷ hs) k = (h.node == k) || is_heard hs k

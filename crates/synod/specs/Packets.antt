@@ -1,0 +1,68 @@
+-- Packets: whom they are for, and what every packet keeps.
+-- Source: Lamport, Paxos Made Simple, 2.2 (the messages of the two phases) and 2.3 (learning).
+-- The code posts them one after another into one list, as here.
+use Rattle.std.specs.Prelude.{ℕ, suc, ◌<◌, ◌≤◌, ◌==◌, List, [], ◌∷◌, ◌++◌, Option, All, if◌then◌else◌}
+use Rattle.slots.specs.declared.slots.TheConstants.{SLOTS}
+use Rattle.synod.specs.declared.packet.TheConstants.{MOST_PAGES}
+use Rattle.synod.specs.declared.ballot.Ballot.{Ballot}
+use Rattle.synod.specs.declared.packet.Report.{Report}
+use Rattle.synod.specs.declared.packet.Packet.{Packet}
+use Rattle.synod.specs.declared.packet.Body.{Body}
+use Rattle.synod.specs.declared.packet.Body.TheVariants.{Prepare, Promise, Accept, Accepted, Nack, Ask, Told}
+
+abbrev pub packet : {V : Type 0} → ℕ → ℕ → Body V → Packet V
+packet from to body = record { from = from; to = to; body = body }
+
+-- one packet to each of the nodes from k on, as many as there are weights
+abbrev pub to_all_from : {V : Type 0} → ℕ → Body V → ℕ → List ℕ → List (Packet V)
+to_all_from me body k [] = []
+to_all_from me body k (w ∷ ws) = packet me k body ∷ to_all_from me body (suc k) ws
+
+-- one packet to each node
+abbrev pub to_all : {V : Type 0} → ℕ → List ℕ → Body V → List (Packet V)
+to_all me weights body = to_all_from me body 0 weights
+
+abbrev pub to_others_from : {V : Type 0} → ℕ → Body V → ℕ → List ℕ → List (Packet V)
+to_others_from me body k [] = []
+to_others_from me body k (w ∷ ws) =
+    if k == me then to_others_from me body (suc k) ws else (packet me k body ∷ to_others_from me body (suc k) ws)
+
+-- one packet to each node but the sender
+abbrev pub to_others : {V : Type 0} → ℕ → List ℕ → Body V → List (Packet V)
+to_others me weights body = to_others_from me body 0 weights
+
+-- an Accept to all for each value, from slot s on
+abbrev pub accepts : {V : Type 0} → ℕ → List ℕ → Ballot → ℕ → List (Option V) → List (Packet V)
+accepts me weights ballot s [] = []
+accepts me weights ballot s (v ∷ vs) = to_all me weights (Accept ballot s v) ++ accepts me weights ballot (suc s) vs
+
+-- What every packet keeps: each slot that it names is below the limit, that of a Prepare at most the limit,
+-- and a page is one of those counted.
+
+abbrev pub IsReport : {V : Type 0} → Report V → Type 0
+IsReport report = report.slot < SLOTS
+
+pub record IsPage {V : Type 0} (page count : ℕ) (reports : List (Report V)) : Type 0 where
+  pub first : 1 ≤ page
+  pub last : page ≤ count
+  pub few : count ≤ MOST_PAGES
+  pub each : All IsReport reports
+
+abbrev pub IsBody : {V : Type 0} → Body V → Type 0
+IsBody (Prepare ballot first) = first ≤ SLOTS
+IsBody (Promise ballot page count reports) = IsPage page count reports
+IsBody (Accept ballot s v) = s < SLOTS
+IsBody (Accepted ballot s v) = s < SLOTS
+IsBody (Nack ballot promise) = Unit {0}
+IsBody (Ask s) = s < SLOTS
+IsBody (Told s v) = s < SLOTS
+
+-- what a node may take for granted of a packet, where there are so many nodes
+pub record IsPacket {V : Type 0} (nodes : ℕ) (p : Packet V) : Type 0 where
+  pub sender : p.from < nodes
+  pub body : IsBody p.body
+
+-- what a node keeps of a packet that it posts
+pub record IsPost {V : Type 0} (nodes : ℕ) (p : Packet V) : Type 0 where
+  pub packet : IsPacket nodes p
+  pub receiver : p.to < nodes

@@ -1,0 +1,30 @@
+-- The pages of a promise: its reports are sent in pages of 256.
+-- Source: this project's profile of Lamport, Paxos Made Simple, 2.5, where one promise serves all instances.
+-- The code keeps the pages had by sender and number. The model cuts a list, and joins what was had.
+use Rattle.std.specs.Prelude.{ℕ, zero, suc, Bool, not, nat_lt, List, [], ◌∷◌, ◌++◌, Option, Some, None}
+use Rattle.slots.specs.FiniteMap.{front_of}
+
+abbrev pub onto_first : {T : Type 0} → T → List (List T) → List (List T)
+onto_first x [] = (x ∷ []) ∷ []
+onto_first x (page ∷ pages) = (x ∷ page) ∷ pages
+
+-- the pages of a list, the first of which has room for so many
+abbrev pub cut : {T : Type 0} → ℕ → List T → List (List T)
+cut room [] = [] ∷ []
+cut (suc room) (x ∷ xs) = onto_first x (cut room xs)
+cut zero (x ∷ xs) = [] ∷ onto_first x (cut 255 xs)
+
+-- at least one page, and each but the last has 256
+abbrev pub pages_of : {T : Type 0} → List T → List (List T)
+pages_of xs = cut 256 xs
+
+-- the first so many pages are there
+abbrev pub all_had : {T : Type 0} → List (Option (List T)) → ℕ → Bool
+all_had pages count = not (nat_lt (front_of pages) count)
+
+-- what stands in the first so many pages
+abbrev pub joined_pages : {T : Type 0} → List (Option (List T)) → ℕ → List T
+joined_pages pages zero = []
+joined_pages [] (suc count) = []
+joined_pages (None ∷ pages) (suc count) = joined_pages pages count
+joined_pages (Some page ∷ pages) (suc count) = page ++ joined_pages pages count

@@ -1,0 +1,171 @@
+-- The proposer: what it offers, begins, hears and proposes.
+-- Source: Lamport, Paxos Made Simple, 2.2, phases 1(a) and 2(a), and section 3 for a leader of all instances.
+-- The code looks the highest report up by slot. The model asks it of one list of all reports heard.
+use Rattle.std.specs.Prelude.{ℕ, zero, suc, ◌+◌, ◌-◌, ◌^◌, max, Bool, false, not, ◌==◌, ◌&&◌, nat_lt, List, [], ◌∷◌, ◌++◌, map, take, drop, length, Option, Some, None, Result, Ok, Err, if◌then◌else◌}
+use Rattle.slots.specs.declared.slots.TheConstants.{SLOTS}
+use Rattle.synod.specs.declared.value.TheConstants.{MOST_BYTES}
+use Rattle.synod.specs.declared.proposer.TheConstants.{MOST_WAITING}
+use Rattle.synod.specs.declared.ballot.Ballot.{Ballot}
+use Rattle.synod.specs.declared.packet.Report.{Report}
+use Rattle.synod.specs.declared.packet.Body.TheVariants.{Prepare, Accept}
+use Rattle.synod.specs.declared.change.Change.TheVariants.{Round}
+use Rattle.synod.specs.declared.proposer.Heard.{Heard}
+use Rattle.synod.specs.declared.proposer.Role.{Role}
+use Rattle.synod.specs.declared.proposer.Role.TheVariants.{Idle, Preparing, Leading}
+use Rattle.synod.specs.declared.refusal.Refusal.{Refusal}
+use Rattle.synod.specs.declared.refusal.Refusal.TheVariants.{Busy, LogFull, RoundsSpent, TooLong}
+use Rattle.synod.specs.Weights.{is_quorum}
+use Rattle.synod.specs.Ballots.{is_under, is_same}
+use Rattle.synod.specs.Packets.{to_all, accepts}
+use Rattle.synod.specs.Pages.{all_had, joined_pages}
+use Rattle.synod.specs.Node.{Node, Stepped, unchanged, answers, pages_from, with_page, no_pages, is_heard}
+use Rattle.synod.specs.Log.{log_length}
+
+-- A value is offered.
+
+-- it waits, where it may
+abbrev pub waits : {V : Type 0} → Node V → V → Stepped V
+waits n v = answers (record n { waiting = n.waiting ++ v ∷ [] }) []
+
+abbrev pub offer_waits : {V : Type 0} → Node V → V → Result (Stepped V) Refusal
+offer_waits n v =
+    if log_length n == SLOTS then Err LogFull
+    else if nat_lt (length n.waiting) MOST_WAITING then Ok (waits n v)
+    else Err Busy
+
+-- it takes the next slot
+abbrev pub takes_slot : {V : Type 0} → Node V → Ballot → ℕ → V → Stepped V
+takes_slot n b next v =
+    answers (record n { role = Leading b (next + 1) }) (to_all n.me n.weights (Accept b next (Some v)))
+
+abbrev pub offer_leads : {V : Type 0} → Node V → Ballot → ℕ → V → Result (Stepped V) Refusal
+offer_leads n b next v = if next == SLOTS then Err LogFull else Ok (takes_slot n b next v)
+
+abbrev pub offer_as : {V : Type 0} → Role → Node V → V → Result (Stepped V) Refusal
+offer_as Idle n v = offer_waits n v
+offer_as (Preparing b first) n v = offer_waits n v
+offer_as (Leading b next) n v = offer_leads n b next v
+
+-- offer(v)
+abbrev pub offered : {V : Type 0} → (V → ℕ) → Node V → V → Result (Stepped V) Refusal
+offered size n v = if nat_lt MOST_BYTES (size v) then Err TooLong else offer_as n.role n v
+
+-- A ballot is begun.
+
+-- one above the greater of the kept round and the promise's round
+abbrev pub next_round : {V : Type 0} → Node V → ℕ
+next_round n = max n.round n.promise.round + 1
+
+abbrev pub next_ballot : {V : Type 0} → Node V → Ballot
+next_ballot n = record { round = next_round n; node = n.me }
+
+-- promises and pages heard are forgotten
+abbrev pub begins : {V : Type 0} → Node V → Stepped V
+begins n = record {
+  node = record n {
+    round = next_round n;
+    role = Preparing (next_ballot n) (log_length n);
+    pages = no_pages n.weights;
+    heard = [];
+  };
+  change = Some (Round (next_round n));
+  posts = to_all n.me n.weights (Prepare (next_ballot n) (log_length n));
+}
+
+-- begin
+abbrev pub begun : {V : Type 0} → Node V → Result (Stepped V) Refusal
+begun n = if nat_lt (next_round n) (2 ^ 64) then Ok (begins n) else Err RoundsSpent
+
+-- What is proposed.
+
+-- the earlier one, unless the later is of a higher ballot
+abbrev pub higher : {V : Type 0} → Report V → Option (Report V) → Option (Report V)
+higher r None = Some r
+higher r (Some q) = if is_under r.ballot q.ballot then Some q else Some r
+
+-- the first report of the highest ballot at the slot
+abbrev pub highest_at : {V : Type 0} → ℕ → List (Report V) → Option (Report V)
+highest_at s [] = None
+highest_at s (r ∷ rs) = if r.slot == s then higher r (highest_at s rs) else highest_at s rs
+
+-- its value, or the no-operation
+abbrev pub reported_value : {V : Type 0} → Option (Report V) → Option V
+reported_value None = None
+reported_value (Some r) = r.value
+
+-- one above the greatest slot reported
+abbrev pub above_all : {V : Type 0} → List (Report V) → ℕ
+above_all [] = 0
+above_all (r ∷ rs) = max (r.slot + 1) (above_all rs)
+
+abbrev pub top_reported : {V : Type 0} → ℕ → List (Report V) → ℕ
+top_reported first [] = first
+top_reported first (r ∷ rs) = above_all (r ∷ rs)
+
+-- the values for so many slots from s on
+abbrev pub fills : {V : Type 0} → List (Report V) → ℕ → ℕ → List (Option V)
+fills reports s zero = []
+fills reports s (suc count) = reported_value (highest_at s reports) ∷ fills reports (suc s) count
+
+-- the reports of all nodes heard, the first heard first
+abbrev pub all_reports : {V : Type 0} → List (List (Option (List (Report V)))) → List Heard → List (Report V)
+all_reports pages [] = []
+all_reports pages (h ∷ hs) = joined_pages (pages_from pages h.node) h.count ++ all_reports pages hs
+
+-- it leads: what was reported goes to the slots from first to top, and what waits to those after
+abbrev pub leads : {V : Type 0} → Node V → Ballot → ℕ → List (Report V) → ℕ → Stepped V
+leads n b first reports top =
+    let taken = take (SLOTS - top) n.waiting in
+    answers
+    (record n { role = Leading b (top + length taken); pages = []; heard = []; waiting = drop (SLOTS - top) n.waiting })
+    (accepts n.me n.weights b first (fills reports first (top - first)) ++ accepts n.me n.weights b top (map (λ v. Some v) taken))
+
+-- A page of a promise comes.
+
+-- the page is kept, and the promise has more
+abbrev pub keeps_page : {V : Type 0} → Node V → List (List (Option (List (Report V)))) → Stepped V
+keeps_page n pages = answers (record n { pages = pages }) []
+
+-- the sender is heard, and no quorum yet
+abbrev pub keeps_promise : {V : Type 0} → Node V → List (List (Option (List (Report V)))) → List Heard → Stepped V
+keeps_promise n pages heard = answers (record n { pages = pages; heard = heard }) []
+
+-- the sender is heard
+abbrev pub hears : {V : Type 0} → Node V → Ballot → ℕ → List (List (Option (List (Report V)))) → List Heard → Stepped V
+hears n b first pages heard =
+    if is_quorum n.weights (is_heard heard)
+    then leads n b first (all_reports pages heard) (top_reported first (all_reports pages heard))
+    else keeps_promise n pages heard
+
+-- a page that was asked for, of a node not heard yet
+abbrev pub gathers : {V : Type 0} → Node V → ℕ → Ballot → ℕ → ℕ → List (List (Option (List (Report V)))) → Stepped V
+gathers n p b first count pages =
+    if all_had (pages_from pages p) count
+    then hears n b first pages (n.heard ++ record { node = p; count = count } ∷ [])
+    else keeps_page n pages
+
+abbrev pub on_promise_as : {V : Type 0} → Role → Node V → ℕ → Ballot → ℕ → ℕ → List (Report V) → Stepped V
+on_promise_as Idle n p b page count reports = unchanged n
+on_promise_as (Leading c next) n p b page count reports = unchanged n
+on_promise_as (Preparing c first) n p b page count reports =
+    if is_same b c && not (is_heard n.heard p)
+    then gathers n p c first count (with_page n.pages p (page - 1) reports)
+    else unchanged n
+
+-- Promise(b, page, count, reports) from p
+abbrev pub on_promise : {V : Type 0} → Node V → ℕ → Ballot → ℕ → ℕ → List (Report V) → Stepped V
+on_promise n p b page count reports = on_promise_as n.role n p b page count reports
+
+-- A proposer is refused.
+
+abbrev pub is_at : Role → Ballot → Bool
+is_at Idle b = false
+is_at (Preparing c first) b = is_same c b
+is_at (Leading c next) b = is_same c b
+
+abbrev pub idles : {V : Type 0} → Node V → Stepped V
+idles n = answers (record n { role = Idle }) []
+
+-- Nack(b, c): its ballot stands under a higher promise
+abbrev pub on_nack : {V : Type 0} → Node V → Ballot → Ballot → Stepped V
+on_nack n b c = if is_at n.role b && is_under b c then idles n else unchanged n

@@ -1,0 +1,31 @@
+-- The kept part of a node, and its changes.
+-- Source: Lamport, Paxos Made Simple, 2.5: stable storage keeps what an acceptor must remember.
+-- The code stores one change at a time and loads a record. The kept part is that record.
+use Rattle.std.specs.Prelude.{ℕ, List, [], Option, Some, None}
+use Rattle.slots.specs.FiniteMap.{put_at}
+use Rattle.synod.specs.declared.ballot.Ballot.{Ballot}
+use Rattle.synod.specs.declared.change.Held.{Held}
+use Rattle.synod.specs.declared.change.Change.{Change}
+use Rattle.synod.specs.declared.change.Change.TheVariants.{Round, Promise, Entry}
+use Rattle.synod.specs.Ballots.{no_ballot}
+
+-- promise, round and accepted entries
+pub record Kept (V : Type 0) : Type 0 where
+  pub promise : Ballot
+  pub round : ℕ
+  pub accepted : List (Option (Held V))
+
+-- of a new node
+abbrev pub new_kept : {V : Type 0} → Kept V
+new_kept = record { promise = no_ballot; round = 0; accepted = [] }
+
+-- an accepted entry has its ballot as promise
+abbrev pub changed : {V : Type 0} → Kept V → Change V → Kept V
+changed kept (Round r) = record kept { round = r }
+changed kept (Promise b) = record kept { promise = b }
+changed kept (Entry s h) = record kept { promise = h.ballot; accepted = put_at kept.accepted s h }
+
+-- an event makes one change or none
+abbrev pub changed_by : {V : Type 0} → Kept V → Option (Change V) → Kept V
+changed_by kept None = kept
+changed_by kept (Some change) = changed kept change

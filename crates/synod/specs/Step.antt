@@ -1,0 +1,58 @@
+-- One node and one event: the step that the packet or the restart makes.
+-- Source: Lamport, Paxos Made Simple, 2.2 to 2.5.
+-- The code makes a step in two halves, ready and commit. The step is one.
+use Rattle.std.specs.Prelude.{◌<◌, ◌≤◌, ℕ, List, Option, Some, None, All, length}
+use Rattle.slots.specs.declared.slots.TheConstants.{SLOTS}
+use Rattle.synod.specs.declared.packet.Report.{Report}
+use Rattle.synod.specs.declared.packet.Packet.{Packet}
+use Rattle.synod.specs.declared.packet.Body.{Body}
+use Rattle.synod.specs.declared.packet.Body.TheVariants.{Prepare, Promise, Accept, Accepted, Nack, Ask, Told}
+use Rattle.synod.specs.declared.proposer.Role.{Role}
+use Rattle.synod.specs.declared.proposer.Role.TheVariants.{Idle, Preparing, Leading}
+use Rattle.synod.specs.Weights.{IsWeights}
+use Rattle.synod.specs.Packets.{IsReport, to_others}
+use Rattle.synod.specs.Record.{Kept}
+use Rattle.synod.specs.Node.{Node, Stepped, kept_of, rest_of}
+use Rattle.synod.specs.Acceptor.{on_prepare, on_accept}
+use Rattle.synod.specs.Proposer.{on_promise, on_nack}
+use Rattle.synod.specs.Learner.{on_accepted, on_ask, on_told}
+
+abbrev pub on_body : {V : Type 0} → Node V → ℕ → Body V → Stepped V
+on_body n p (Prepare b first) = on_prepare n p b first
+on_body n p (Promise b page count reports) = on_promise n p b page count reports
+on_body n p (Accept b s v) = on_accept n p b s v
+on_body n p (Accepted b s v) = on_accepted n p b s v
+on_body n p (Nack b c) = on_nack n b c
+on_body n p (Ask s) = on_ask n p s
+on_body n p (Told s v) = on_told n p s v
+
+-- a packet comes
+abbrev pub on_packet : {V : Type 0} → Node V → Packet V → Stepped V
+on_packet n p = on_body n p.from p.body
+
+-- it starts again with a kept part, and asks for what it may have missed
+abbrev pub reloaded : {V : Type 0} → Node V → Kept V → Stepped V
+reloaded n kept = record { node = rest_of n.me n.weights kept; change = None; posts = to_others n.me n.weights (Ask 0) }
+
+-- restart
+abbrev pub restarted : {V : Type 0} → Node V → Stepped V
+restarted n = reloaded n (kept_of n)
+
+-- What every node keeps: it is one of the nodes, and each slot that it knows of is below the limit.
+
+abbrev pub IsRole : Role → Type 0
+IsRole Idle = Unit {0}
+IsRole (Preparing b first) = first ≤ SLOTS
+IsRole (Leading b next) = next ≤ SLOTS
+
+abbrev pub ArePages : {V : Type 0} → Option (List (Report V)) → Type 0
+ArePages None = Unit {0}
+ArePages (Some reports) = All IsReport reports
+
+pub record IsNode {V : Type 0} (n : Node V) : Type 0 where
+  pub weights : IsWeights n.weights
+  pub me : n.me < length n.weights
+  pub accepted : length n.accepted ≤ SLOTS
+  pub learned : length n.learned ≤ SLOTS
+  pub role : IsRole n.role
+  pub pages : All (All ArePages) n.pages

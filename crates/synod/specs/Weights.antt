@@ -1,0 +1,20 @@
+-- The weights of the nodes, and quorums: sets of nodes that weigh more than half of all.
+-- Source: Lamport, Paxos Made Simple, 2.2, where a majority of the acceptors is such a set.
+-- The code keeps nine places and a count. A set of nodes is here a test on their numbers.
+use Rattle.std.specs.Prelude.{ℕ, suc, ◌+◌, ◌*◌, ◌≤◌, Bool, true, nat_lt, List, [], ◌∷◌, length, if◌then◌else◌, All}
+use Rattle.synod.specs.declared.weights.TheConstants.{MOST_NODES, MOST_WEIGHT}
+
+-- 1 to 9 nodes, each of a weight from 1 to 100
+pub record IsWeights (weights : List ℕ) : Type 0 where
+  pub some : 1 ≤ length weights
+  pub few : length weights ≤ MOST_NODES
+  pub each : All (λ w. (1 ≤ w) × (w ≤ MOST_WEIGHT)) weights
+
+-- the weight of the nodes that a test picks, the nodes being numbered from 0
+abbrev pub weigh : (ℕ → Bool) → List ℕ → ℕ
+weigh picks [] = 0
+weigh picks (w ∷ ws) = (if picks 0 then w else 0) + weigh (λ k. picks (suc k)) ws
+
+-- the nodes that a test picks are a quorum
+abbrev pub is_quorum : List ℕ → (ℕ → Bool) → Bool
+is_quorum weights picks = nat_lt (weigh (λ k. true) weights) (2 * weigh picks weights)

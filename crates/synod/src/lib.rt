@@ -1,0 +1,26 @@
+//! One node of the agreement: proposer, acceptor and learner at once.
+//!
+//! `NodeCore` makes exactly the steps of Multi-Paxos: each call's contract cites the definition of its
+//! step in `specs/Step.antt`, with the packets that it posts and the refusal that it meets. A step is made
+//! ready first, which may find no memory and changes nothing, and then committed, which takes none.
+//!
+//! Reading order: `weights`, `ballot`, `packet`, `change`, `proposer`, `learner`, `refusal`, `node`.
+#![tactic(auto)]
+
+mod ballot;
+mod change;
+mod learner;
+mod packet;
+mod proposer;
+mod refusal;
+mod value;
+mod weights;
+
+pub use ballot::Ballot;
+pub use change::{Change, Held};
+pub use learner::Tally;
+pub use packet::{Body, MOST_PAGES, PAGE_REPORTS, Packet, Report, Reports};
+pub use proposer::{Heard, MOST_WAITING, Role};
+pub use refusal::Refusal;
+pub use value::{MOST_BYTES, Value};
+pub use weights::{MOST_NODES, MOST_WEIGHT};
