@@ -1,0 +1,4 @@
+pub mod StatementsLemmas
+pub mod OneSpelling
+pub mod Places
+pub mod ShapeFaults

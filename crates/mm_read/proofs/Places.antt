@@ -1,0 +1,330 @@
+-- How far the tokens of a list of statements have come: a machine that goes over them one by one, and goes on exactly where
+-- some list of statements does.
+use Rattle.std.specs.Prelude.{◌≡◌, ℕ, ◌≤◌, zero, suc, Bool, true, false, ◌&&◌, cond, List, [], ◌∷◌, ◌++◌, length, Option, Some, None, codes}
+use Rattle.std.specs.List.{list_all}
+use Rattle.std.specs.Option.{option_and_then}
+use Rattle.std.proofs.Common.{sym, ◌∙◌, ap, arith, refl, subst, true≢false, append_assoc}
+use Rattle.std.proofs.lemmas.Bool.{and_parts}
+use Rattle.std.proofs.lemmas.Option.{option_and_then_some}
+use Rattle.std.proofs.lemmas.Slice.Eq.{bytes_eq-Decides}
+use Rattle.mm_lex.specs.Alphabet.{Name, name_eq, is_symbol, is_label, has_byte}
+use Rattle.mm_read.specs.declared.stmt.Stmt.{Stmt}
+use Rattle.mm_read.specs.declared.stmt.Stmt.TheVariants.{Open, Close, Const, Var, Disj, Float, Ess, Axiom, Prove}
+use Rattle.mm_read.specs.Statements.{Database, AreShaped, is_shaped, are_symbols, has_two, stmt_tokens, spelled}
+use Rattle.mm_read.specs.Reads.{CanGoOn}
+use Rattle.mm_read.proofs.StatementsLemmas.{label_plain, symbols_of, append_middle}
+
+-- what may follow: a statement, the keyword behind a label, at least (or exactly) so many symbols and then `$.`,
+-- at least so many symbols and then `$=`
+pub data Place : Type 0 where
+  between : Place
+  labelled : Place
+  listing : ℕ → Place
+  floating : ℕ → Place
+  proving : ℕ → Place
+
+abbrev pub step : Place → Name → Option Place
+step between t =
+    cond (name_eq t (codes "${")) (Some between)
+    (cond (name_eq t (codes "$}")) (Some between)
+    (cond (name_eq t (codes "$c")) (Some (listing 1))
+    (cond (name_eq t (codes "$v")) (Some (listing 1))
+    (cond (name_eq t (codes "$d")) (Some (listing 2))
+    (cond (is_label t) (Some labelled) None)))))
+step labelled t =
+    cond (name_eq t (codes "$f")) (Some (floating 2))
+    (cond (name_eq t (codes "$e")) (Some (listing 1))
+    (cond (name_eq t (codes "$a")) (Some (listing 1))
+    (cond (name_eq t (codes "$p")) (Some (proving 1)) None)))
+step (listing zero) t = cond (is_symbol t) (Some (listing 0)) (cond (name_eq t (codes "$.")) (Some between) None)
+step (listing (suc n)) t = cond (is_symbol t) (Some (listing n)) None
+step (floating zero) t = cond (name_eq t (codes "$.")) (Some between) None
+step (floating (suc n)) t = cond (is_symbol t) (Some (floating n)) None
+step (proving zero) t = cond (is_symbol t) (Some (proving 0)) (cond (name_eq t (codes "$=")) (Some (listing 0)) None)
+step (proving (suc n)) t = cond (is_symbol t) (Some (proving n)) None
+
+abbrev pub go : Place → List Name → Option Place
+go q [] = Some q
+go q (t ∷ tokens) = option_and_then (λ p. go p tokens) (step q t)
+
+pub go-append : (q : Place) (xs ys : List Name) → go q (xs ++ ys) ≡ option_and_then (λ p. go p ys) (go q xs)
+go-append q [] ys = refl
+go-append q (t ∷ xs) ys = by (λ p. go-append p xs ys) (step q t)
+  where
+    by : ((p : Place) → go p (xs ++ ys) ≡ option_and_then (λ r. go r ys) (go p xs)) → (o : Option Place)
+        → option_and_then (λ p. go p (xs ++ ys)) o ≡ option_and_then (λ p. go p ys) (option_and_then (λ p. go p xs) o)
+    by rest None = refl
+    by rest (Some p) = rest p
+
+-- ---- what can follow at a place
+
+abbrev pub CanFollow : Place → List Name → Type 0
+CanFollow between tokens = (S : Database) × AreShaped S × (spelled S ≡ tokens)
+CanFollow labelled tokens = (label : Name) → is_label label ≡ true → (S : Database) × AreShaped S × (spelled S ≡ label ∷ tokens)
+CanFollow (listing n) tokens =
+    (ws : List Name) × (S : Database) × (list_all is_symbol ws ≡ true) × (n ≤ length ws) × AreShaped S × (ws ++ codes "$." ∷ spelled S ≡ tokens)
+CanFollow (floating n) tokens =
+    (ws : List Name) × (S : Database) × (list_all is_symbol ws ≡ true) × (length ws ≡ n) × AreShaped S × (ws ++ codes "$." ∷ spelled S ≡ tokens)
+CanFollow (proving n) tokens =
+    (ws : List Name) × (proof : List Name) × (S : Database) × (list_all is_symbol ws ≡ true) × (list_all is_symbol proof ≡ true) × (n ≤ length ws) × AreShaped S
+    × (ws ++ codes "$=" ∷ (proof ++ codes "$." ∷ spelled S) ≡ tokens)
+
+-- one more statement before the others
+add : (s : Stmt) (S : Database) (tokens : List Name) → is_shaped s ≡ true → AreShaped S → stmt_tokens s ++ spelled S ≡ tokens → CanFollow between tokens
+add s S tokens hs hS e = (s ∷ S, rw hs hS, e)
+
+are_symbols_of : (ws : List Name) → list_all is_symbol ws ≡ true → 1 ≤ length ws → are_symbols ws ≡ true
+are_symbols_of [] h n = absurd (omega (arith, n))
+are_symbols_of (w ∷ ws) h n = h
+
+has_two_of : (ws : List Name) → 2 ≤ length ws → has_two ws ≡ true
+has_two_of [] n = absurd (omega (arith, n))
+has_two_of (w ∷ []) n = absurd (omega (arith, n))
+has_two_of (w ∷ v ∷ ws) n = refl
+
+-- a list of a keyword, symbols and `$.`
+list_follows : (make : List Name → Stmt) (k : Name) (n : ℕ) (tokens : List Name)
+    → ((ws : List Name) → list_all is_symbol ws ≡ true → n ≤ length ws → is_shaped (make ws) ≡ true)
+    → ((ws : List Name) → stmt_tokens (make ws) ≡ k ∷ (ws ++ codes "$." ∷ []))
+    → CanFollow (listing n) tokens → CanFollow between (k ∷ tokens)
+list_follows make k n tokens shaped tokens_of (ws, S, all, many, hS, e) =
+    add (make ws) S (k ∷ tokens) (shaped ws all many) hS
+    (ap (λ r. r ++ spelled S) (tokens_of ws) ∙ ap (λ r. k ∷ r) (append_middle ws (codes "$.") [] (spelled S) ∙ e))
+
+-- the same behind a label
+labelled_follows : (make : List Name → Stmt) (label k : Name) (tokens : List Name)
+    → ((ws : List Name) → list_all is_symbol ws ≡ true → 1 ≤ length ws → is_shaped (make ws) ≡ true)
+    → ((ws : List Name) → stmt_tokens (make ws) ≡ label ∷ k ∷ (ws ++ codes "$." ∷ []))
+    → CanFollow (listing 1) tokens → CanFollow between (label ∷ k ∷ tokens)
+labelled_follows make label k tokens shaped tokens_of (ws, S, all, many, hS, e) =
+    add (make ws) S (label ∷ k ∷ tokens) (shaped ws all many) hS
+    (ap (λ r. r ++ spelled S) (tokens_of ws) ∙ ap (λ r. label ∷ k ∷ r) (append_middle ws (codes "$.") [] (spelled S) ∙ e))
+
+float_follows : (label : Name) (tokens : List Name) → is_label label ≡ true → CanFollow (floating 2) tokens → CanFollow between (label ∷ codes "$f" ∷ tokens)
+float_follows label tokens h ([], S, all, two, hS, e) = absurd (omega (arith, two))
+float_follows label tokens h (c ∷ [], S, all, two, hS, e) = absurd (omega (arith, two))
+float_follows label tokens h (c ∷ v ∷ [], S, all, two, hS, e) =
+    let c_parts : (is_symbol c ≡ true) × ((is_symbol v && true) ≡ true) = and_parts (is_symbol c) (is_symbol v && true) all in
+    let v_parts : (is_symbol v ≡ true) × (true ≡ true) = and_parts (is_symbol v) true c_parts.1 in
+    add (Float label c v) S (label ∷ codes "$f" ∷ tokens) (rw (h, c_parts.0) v_parts.0) hS (ap (λ r. label ∷ codes "$f" ∷ r) e)
+float_follows label tokens h (c ∷ v ∷ u ∷ ws, S, all, two, hS, e) = absurd (omega (arith, two))
+
+prove_follows : (label : Name) (tokens : List Name) → is_label label ≡ true → CanFollow (proving 1) tokens → CanFollow between (label ∷ codes "$p" ∷ tokens)
+prove_follows label tokens h (ws, proof, S, all, all_proof, many, hS, e) =
+    add (Prove label ws proof) S (label ∷ codes "$p" ∷ tokens) (rw (h, are_symbols_of ws all many) all_proof) hS
+    (ap (λ r. label ∷ codes "$p" ∷ r) (append_middle ws (codes "$=") (proof ++ codes "$." ∷ []) (spelled S) ∙ (ap (λ r. ws ++ codes "$=" ∷ r) (append_middle proof (codes "$.") [] (spelled S)) ∙ e)))
+
+-- ---- a step back
+
+same : (t k : Name) → name_eq t k ≡ true → t ≡ k
+same t k h = (bytes_eq-Decides t k).0 h
+
+-- a place that is one of two, by a test
+chosen : {P : Type 0} (b : Bool) (q p : Place) (o : Option Place) → cond b (Some q) o ≡ Some p → (b ≡ true → q ≡ p → P) → (o ≡ Some p → P) → P
+chosen true q p o e then_so else_so = then_so refl cc
+chosen false q p o e then_so else_so = else_so e
+
+no_place : {P : Type 0} (p : Place) → ◌≡◌ {A = Option Place} None (Some p) → P
+no_place p e = absurd (none e)
+  where
+    none : ◌≡◌ {A = Option Place} None (Some p) → ⊥
+    none e = cc
+
+module _ (t : Name) (p : Place) (tokens : List Name) (after : CanFollow p tokens) where
+  -- the token is this keyword, or another
+  keyword : (r : Place) (k : Name) (q : Place) (o : Option Place) → cond (name_eq t k) (Some q) o ≡ Some p
+      → (CanFollow q tokens → CanFollow r (k ∷ tokens)) → (o ≡ Some p → CanFollow r (t ∷ tokens)) → CanFollow r (t ∷ tokens)
+  keyword r k q o e written =
+      chosen (name_eq t k) q p o e (λ is at. subst (λ w. CanFollow r (w ∷ tokens)) (sym (same t k is)) (written (subst (λ x. CanFollow x tokens) (sym at) after)))
+
+  -- the token is a symbol, or another
+  symbol : (r q : Place) (o : Option Place) → cond (is_symbol t) (Some q) o ≡ Some p
+      → (is_symbol t ≡ true → CanFollow q tokens → CanFollow r (t ∷ tokens)) → (o ≡ Some p → CanFollow r (t ∷ tokens)) → CanFollow r (t ∷ tokens)
+  symbol r q o e written = chosen (is_symbol t) q p o e (λ is at. written is (subst (λ x. CanFollow x tokens) (sym at) after))
+
+module _ (t : Name) (tokens : List Name) (is : is_symbol t ≡ true) where
+  listing_more : (n : ℕ) → CanFollow (listing n) tokens → CanFollow (listing (suc n)) (t ∷ tokens)
+  listing_more n (ws, S, all, many, hS, e) = (t ∷ ws, S, rw is all, omega (arith, many), hS, ap (λ r. t ∷ r) e)
+
+  listing_any : CanFollow (listing 0) tokens → CanFollow (listing 0) (t ∷ tokens)
+  listing_any (ws, S, all, many, hS, e) = (t ∷ ws, S, rw is all, omega arith, hS, ap (λ r. t ∷ r) e)
+
+  floating_more : (n : ℕ) → CanFollow (floating n) tokens → CanFollow (floating (suc n)) (t ∷ tokens)
+  floating_more n (ws, S, all, many, hS, e) = (t ∷ ws, S, rw is all, omega (arith, many), hS, ap (λ r. t ∷ r) e)
+
+  proving_more : (n : ℕ) → CanFollow (proving n) tokens → CanFollow (proving (suc n)) (t ∷ tokens)
+  proving_more n (ws, proof, S, all, all_proof, many, hS, e) = (t ∷ ws, proof, S, rw is all, all_proof, omega (arith, many), hS, ap (λ r. t ∷ r) e)
+
+  proving_any : CanFollow (proving 0) tokens → CanFollow (proving 0) (t ∷ tokens)
+  proving_any (ws, proof, S, all, all_proof, many, hS, e) = (t ∷ ws, proof, S, rw is all, all_proof, omega arith, hS, ap (λ r. t ∷ r) e)
+
+list_ends : (tokens : List Name) → CanFollow between tokens → CanFollow (listing 0) (codes "$." ∷ tokens)
+list_ends tokens (S, hS, e) = ([], S, refl, omega arith, hS, ap (λ r. codes "$." ∷ r) e)
+
+float_ends : (tokens : List Name) → CanFollow between tokens → CanFollow (floating 0) (codes "$." ∷ tokens)
+float_ends tokens (S, hS, e) = ([], S, refl, refl, hS, ap (λ r. codes "$." ∷ r) e)
+
+proof_begins : (tokens : List Name) → CanFollow (listing 0) tokens → CanFollow (proving 0) (codes "$=" ∷ tokens)
+proof_begins tokens (proof, S, all, many, hS, e) = ([], proof, S, refl, all, omega arith, hS, ap (λ r. codes "$=" ∷ r) e)
+
+back : (q : Place) (t : Name) (p : Place) (tokens : List Name) → step q t ≡ Some p → CanFollow p tokens → CanFollow q (t ∷ tokens)
+back between t p tokens e after =
+    keyword t p tokens after between (codes "${") between _ e (λ (S, hS, is). add Open S (codes "${" ∷ tokens) refl hS (ap (λ r. codes "${" ∷ r) is)) (λ e1.
+    keyword t p tokens after between (codes "$}") between _ e1 (λ (S, hS, is). add Close S (codes "$}" ∷ tokens) refl hS (ap (λ r. codes "$}" ∷ r) is)) (λ e2.
+    keyword t p tokens after between (codes "$c") (listing 1) _ e2 (list_follows Const (codes "$c") 1 tokens are_symbols_of (λ _. refl)) (λ e3.
+    keyword t p tokens after between (codes "$v") (listing 1) _ e3 (list_follows Var (codes "$v") 1 tokens are_symbols_of (λ _. refl)) (λ e4.
+    keyword t p tokens after between (codes "$d") (listing 2) _ e4
+    (list_follows Disj (codes "$d") 2 tokens (λ ws all many. rw (are_symbols_of ws all (omega (arith, many))) (has_two_of ws many)) (λ _. refl)) (λ e5.
+    chosen (is_label t) labelled p None e5 (λ is at. let f : CanFollow labelled tokens = subst (λ x. CanFollow x tokens) (sym at) after in f t is) (no_place p))))))
+back labelled t p tokens e after =
+    keyword t p tokens after labelled (codes "$f") (floating 2) _ e (λ f label h. float_follows label tokens h f) (λ e1.
+    keyword t p tokens after labelled (codes "$e") (listing 1) _ e1
+    (λ f label h. labelled_follows (Ess label) label (codes "$e") tokens (λ ws all many. rw h (are_symbols_of ws all many)) (λ _. refl) f) (λ e2.
+    keyword t p tokens after labelled (codes "$a") (listing 1) _ e2
+    (λ f label h. labelled_follows (Axiom label) label (codes "$a") tokens (λ ws all many. rw h (are_symbols_of ws all many)) (λ _. refl) f) (λ e3.
+    keyword t p tokens after labelled (codes "$p") (proving 1) None e3 (λ f label h. prove_follows label tokens h f) (no_place p))))
+back (listing zero) t p tokens e after =
+    symbol t p tokens after (listing 0) (listing 0) _ e (listing_any t tokens) (λ e1.
+    keyword t p tokens after (listing 0) (codes "$.") between None e1 (list_ends tokens) (no_place p))
+back (listing (suc n)) t p tokens e after = symbol t p tokens after (listing (suc n)) (listing n) None e (λ is. listing_more t tokens is n) (no_place p)
+back (floating zero) t p tokens e after = keyword t p tokens after (floating 0) (codes "$.") between None e (float_ends tokens) (no_place p)
+back (floating (suc n)) t p tokens e after = symbol t p tokens after (floating (suc n)) (floating n) None e (λ is. floating_more t tokens is n) (no_place p)
+back (proving zero) t p tokens e after =
+    symbol t p tokens after (proving 0) (proving 0) _ e (proving_any t tokens) (λ e1.
+    keyword t p tokens after (proving 0) (codes "$=") (listing 0) None e1 (proof_begins tokens) (no_place p))
+back (proving (suc n)) t p tokens e after = symbol t p tokens after (proving (suc n)) (proving n) None e (λ is. proving_more t tokens is n) (no_place p)
+
+-- what follows the last of these tokens follows the first place
+pub go_back : (q : Place) (xs : List Name) (p : Place) (tokens : List Name) → go q xs ≡ Some p → CanFollow p tokens → CanFollow q (xs ++ tokens)
+go_back q [] p tokens e after = subst (λ x. CanFollow x tokens) (sym (same_place q p e)) after
+  where
+    same_place : (a b : Place) → ◌≡◌ {A = Option Place} (Some a) (Some b) → a ≡ b
+    same_place a b e = cc
+go_back q (t ∷ xs) p tokens e after =
+    option_and_then_some (λ r. go r xs) (step q t) p e (λ r is rest. back q t r (xs ++ tokens) is (go_back r xs p tokens rest after))
+
+-- ---- every place can be left
+
+symbols : ℕ → List Name
+symbols zero = []
+symbols (suc n) = codes "a" ∷ symbols n
+
+all-symbols : (n : ℕ) → list_all is_symbol (symbols n) ≡ true
+unfolding symbols
+all-symbols zero = refl
+all-symbols (suc n) = all-symbols n
+
+length-symbols : (n : ℕ) → length (symbols n) ≡ n
+unfolding symbols
+length-symbols zero = refl
+length-symbols (suc n) = omega (arith, length-symbols n)
+
+leaves : (q : Place) → (tokens : List Name) × CanFollow q tokens
+leaves between = ([], ([], refl, refl))
+leaves labelled = (codes "$a" ∷ codes "a" ∷ codes "$." ∷ [], λ label h. (Axiom label (codes "a" ∷ []) ∷ [], rw h refl, refl))
+leaves (listing n) = (symbols n ++ codes "$." ∷ [], (symbols n, [], all-symbols n, omega (arith, length-symbols n), refl, refl))
+leaves (floating n) = (symbols n ++ codes "$." ∷ [], (symbols n, [], all-symbols n, length-symbols n, refl, refl))
+leaves (proving n) = (symbols n ++ codes "$=" ∷ codes "$." ∷ [], (symbols n, [], [], all-symbols n, refl, omega (arith, length-symbols n), refl, refl))
+
+-- where the machine goes, some list of statements goes on
+pub can_go_on : (xs : List Name) (p : Place) → go between xs ≡ Some p → CanGoOn xs
+can_go_on xs p e =
+    let way : (tokens : List Name) × CanFollow p tokens = leaves p in
+    let found : CanFollow between (xs ++ way.0) = go_back between xs p way.0 e way.1 in
+    record { statements = found.0; rest = way.0; shaped = found.1; whole = found.2 }
+
+-- ---- the machine goes over each list of statements
+
+plain_is_no_key : (w k : Name) → has_byte 36 w ≡ false → has_byte 36 k ≡ true → name_eq w k ≡ false
+plain_is_no_key w k plain has = by (name_eq w k) refl
+  where
+    by : (b : Bool) → name_eq w k ≡ b → b ≡ false
+    by true e = absurd (true≢false (sym has ∙ (ap (has_byte 36) (sym (same w k e)) ∙ plain)))
+    by false e = refl
+
+step-label : (label : Name) → is_label label ≡ true → step between label ≡ Some labelled
+step-label label h =
+    let plain : has_byte 36 label ≡ false = label_plain label h in
+    let open_no : name_eq label (codes "${") ≡ false = plain_is_no_key label (codes "${") plain refl in
+    let close_no : name_eq label (codes "$}") ≡ false = plain_is_no_key label (codes "$}") plain refl in
+    let const_no : name_eq label (codes "$c") ≡ false = plain_is_no_key label (codes "$c") plain refl in
+    let var_no : name_eq label (codes "$v") ≡ false = plain_is_no_key label (codes "$v") plain refl in
+    let disj_no : name_eq label (codes "$d") ≡ false = plain_is_no_key label (codes "$d") plain refl in
+    rw (open_no, close_no, const_no, var_no, disj_no, h) refl
+
+pub go-label : (label : Name) (tokens : List Name) → is_label label ≡ true → go between (label ∷ tokens) ≡ go labelled tokens
+go-label label tokens h = ap (option_and_then (λ p. go p tokens)) (step-label label h)
+
+-- symbols alone
+pub go-symbols : (ws tokens : List Name) → list_all is_symbol ws ≡ true → go (listing 0) (ws ++ tokens) ≡ go (listing 0) tokens
+go-symbols [] tokens h = refl
+go-symbols (w ∷ ws) tokens h =
+    let parts : (is_symbol w ≡ true) × (list_all is_symbol ws ≡ true) = and_parts (is_symbol w) (list_all is_symbol ws) h in
+    ap (λ b. option_and_then (λ p. go p (ws ++ tokens)) (cond b (Some (listing 0)) (cond (name_eq w (codes "$.")) (Some between) None))) parts.0 ∙ go-symbols ws tokens parts.1
+
+pub go-listing : (n : ℕ) (ws tokens : List Name) → list_all is_symbol ws ≡ true → n ≤ length ws → go (listing n) (ws ++ tokens) ≡ go (listing 0) tokens
+go-listing zero ws tokens h many = go-symbols ws tokens h
+go-listing (suc n) [] tokens h many = absurd (omega (arith, many))
+go-listing (suc n) (w ∷ ws) tokens h many =
+    let parts : (is_symbol w ≡ true) × (list_all is_symbol ws ≡ true) = and_parts (is_symbol w) (list_all is_symbol ws) h in
+    ap (λ b. option_and_then (λ p. go p (ws ++ tokens)) (cond b (Some (listing n)) None)) parts.0 ∙ go-listing n ws tokens parts.1 (omega (arith, many))
+
+go-proving_any : (ws tokens : List Name) → list_all is_symbol ws ≡ true → go (proving 0) (ws ++ tokens) ≡ go (proving 0) tokens
+go-proving_any [] tokens h = refl
+go-proving_any (w ∷ ws) tokens h =
+    let parts : (is_symbol w ≡ true) × (list_all is_symbol ws ≡ true) = and_parts (is_symbol w) (list_all is_symbol ws) h in
+    ap (λ b. option_and_then (λ p. go p (ws ++ tokens)) (cond b (Some (proving 0)) (cond (name_eq w (codes "$=")) (Some (listing 0)) None))) parts.0 ∙ go-proving_any ws tokens parts.1
+
+pub go-proving : (n : ℕ) (ws tokens : List Name) → list_all is_symbol ws ≡ true → n ≤ length ws → go (proving n) (ws ++ tokens) ≡ go (proving 0) tokens
+go-proving zero ws tokens h many = go-proving_any ws tokens h
+go-proving (suc n) [] tokens h many = absurd (omega (arith, many))
+go-proving (suc n) (w ∷ ws) tokens h many =
+    let parts : (is_symbol w ≡ true) × (list_all is_symbol ws ≡ true) = and_parts (is_symbol w) (list_all is_symbol ws) h in
+    ap (λ b. option_and_then (λ p. go p (ws ++ tokens)) (cond b (Some (proving n)) None)) parts.0 ∙ go-proving n ws tokens parts.1 (omega (arith, many))
+
+many_of : (ws : List Name) → are_symbols ws ≡ true → 1 ≤ length ws
+many_of [] h = absurd (true≢false (sym h))
+many_of (w ∷ ws) h = omega arith
+
+two_of : (ws : List Name) → has_two ws ≡ true → 2 ≤ length ws
+two_of [] h = absurd (true≢false (sym h))
+two_of (w ∷ []) h = absurd (true≢false (sym h))
+two_of (w ∷ v ∷ ws) h = omega arith
+
+go-list : (n : ℕ) (ws tokens : List Name) → list_all is_symbol ws ≡ true → n ≤ length ws → go (listing n) ((ws ++ codes "$." ∷ []) ++ tokens) ≡ go between tokens
+go-list n ws tokens h many = ap (go (listing n)) (append_middle ws (codes "$.") [] tokens) ∙ go-listing n ws (codes "$." ∷ tokens) h many
+
+go-statement : (s : Stmt) (tokens : List Name) → is_shaped s ≡ true → go between (stmt_tokens s ++ tokens) ≡ go between tokens
+go-statement Open tokens h = refl
+go-statement Close tokens h = refl
+go-statement (Const ws) tokens h = go-list 1 ws tokens (symbols_of ws h) (many_of ws h)
+go-statement (Var ws) tokens h = go-list 1 ws tokens (symbols_of ws h) (many_of ws h)
+go-statement (Disj ws) tokens h =
+    let parts : (are_symbols ws ≡ true) × (has_two ws ≡ true) = and_parts (are_symbols ws) (has_two ws) h in
+    go-list 2 ws tokens (symbols_of ws parts.0) (two_of ws parts.1)
+go-statement (Float label c v) tokens h =
+    let outer : ((is_label label && is_symbol c) ≡ true) × (is_symbol v ≡ true) = and_parts (is_label label && is_symbol c) (is_symbol v) h in
+    let inner : (is_label label ≡ true) × (is_symbol c ≡ true) = and_parts (is_label label) (is_symbol c) outer.0 in
+    go-label label (codes "$f" ∷ c ∷ v ∷ codes "$." ∷ tokens) inner.0
+    ∙ (ap (λ b. option_and_then (λ p. go p (v ∷ codes "$." ∷ tokens)) (cond b (Some (floating 1)) None)) inner.1
+    ∙ ap (λ b. option_and_then (λ p. go p (codes "$." ∷ tokens)) (cond b (Some (floating 0)) None)) outer.1)
+go-statement (Ess label ws) tokens h =
+    let parts : (is_label label ≡ true) × (are_symbols ws ≡ true) = and_parts (is_label label) (are_symbols ws) h in
+    go-label label (codes "$e" ∷ ((ws ++ codes "$." ∷ []) ++ tokens)) parts.0 ∙ go-list 1 ws tokens (symbols_of ws parts.1) (many_of ws parts.1)
+go-statement (Axiom label ws) tokens h =
+    let parts : (is_label label ≡ true) × (are_symbols ws ≡ true) = and_parts (is_label label) (are_symbols ws) h in
+    go-label label (codes "$a" ∷ ((ws ++ codes "$." ∷ []) ++ tokens)) parts.0 ∙ go-list 1 ws tokens (symbols_of ws parts.1) (many_of ws parts.1)
+go-statement (Prove label ws proof) tokens h =
+    let both : ((is_label label && are_symbols ws) ≡ true) × (list_all is_symbol proof ≡ true) = and_parts (is_label label && are_symbols ws) (list_all is_symbol proof) h in
+    let parts : (is_label label ≡ true) × (are_symbols ws ≡ true) = and_parts (is_label label) (are_symbols ws) both.0 in
+    go-label label (codes "$p" ∷ ((ws ++ codes "$=" ∷ (proof ++ codes "$." ∷ [])) ++ tokens)) parts.0
+    ∙ (ap (go (proving 1)) (append_middle ws (codes "$=") (proof ++ codes "$." ∷ []) tokens)
+    ∙ (go-proving 1 ws (codes "$=" ∷ ((proof ++ codes "$." ∷ []) ++ tokens)) (symbols_of ws parts.1) (many_of ws parts.1)
+    ∙ go-list 0 proof tokens both.1 (omega arith)))
+
+-- statements bring it back to where statements may begin
+pub go-spelled : (S : Database) (tokens : List Name) → list_all is_shaped S ≡ true → go between (spelled S ++ tokens) ≡ go between tokens
+go-spelled [] tokens h = refl
+go-spelled (s ∷ S) tokens h =
+    let parts : (is_shaped s ≡ true) × (list_all is_shaped S ≡ true) = and_parts (is_shaped s) (list_all is_shaped S) h in
+    ap (go between) (append_assoc (stmt_tokens s) (spelled S) tokens) ∙ (go-statement s (spelled S ++ tokens) parts.0 ∙ go-spelled S tokens parts.1)

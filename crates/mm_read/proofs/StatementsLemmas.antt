@@ -1,0 +1,41 @@
+-- Symbols and labels have no `$`, and keywords do; the parts of a shaped statement.
+use Rattle.std.specs.Prelude.{◌≡◌, ℕ, Bool, true, false, not, ◌&&◌, ◌||◌, ◌==◌, List, [], ◌∷◌, ◌++◌}
+use Rattle.std.specs.List.{list_all}
+use Rattle.std.proofs.Common.{sym, ◌∙◌, ap, arith, true≢false, refl}
+use Rattle.std.proofs.lemmas.Bool.{and_parts}
+use Rattle.mm_lex.specs.Alphabet.{Name, is_empty, is_symbol, is_label, is_label_byte, has_byte, is_visible}
+use Rattle.mm_read.specs.Statements.{are_symbols}
+
+not_true : (a : Bool) → not a ≡ true → a ≡ false
+not_true true h = cc
+not_true false h = refl
+
+-- a symbol has no `$`
+pub symbol_plain : (w : Name) → is_symbol w ≡ true → has_byte 36 w ≡ false
+symbol_plain w h = not_true (has_byte 36 w) (and_parts (not (is_empty w) && list_all is_visible w) (not (has_byte 36 w)) h).1
+
+label_byte : (c : ℕ) → is_label_byte c ≡ true → (c == 36) ≡ false
+label_byte c h = by (c == 36) refl
+  where
+    by : (b : Bool) → (c == 36) ≡ b → b ≡ false
+    by true e = let is : c ≡ 36 = grind (arith, e) in absurd (true≢false (sym h ∙ ap is_label_byte is))
+    by false e = refl
+
+label_bytes : (w : Name) → list_all is_label_byte w ≡ true → has_byte 36 w ≡ false
+label_bytes [] h = refl
+label_bytes (c ∷ w) h =
+    let parts : (is_label_byte c ≡ true) × (list_all is_label_byte w ≡ true) = and_parts (is_label_byte c) (list_all is_label_byte w) h in
+    ap (λ b. b || has_byte 36 w) (label_byte c parts.0) ∙ label_bytes w parts.1
+
+-- a label has no `$`
+pub label_plain : (w : Name) → is_label w ≡ true → has_byte 36 w ≡ false
+label_plain w h = label_bytes w (and_parts (not (is_empty w)) (list_all is_label_byte w) h).1
+
+-- each of one or more symbols is a symbol
+pub symbols_of : (ws : List Name) → are_symbols ws ≡ true → list_all is_symbol ws ≡ true
+symbols_of ws h = (and_parts (not (is_empty ws)) (list_all is_symbol ws) h).1
+
+-- `(xs ++ y ∷ ys) ++ zs` with the brackets moved
+pub append_middle : {A : Type 0} (xs : List A) (y : A) (ys zs : List A) → (xs ++ y ∷ ys) ++ zs ≡ xs ++ y ∷ (ys ++ zs)
+append_middle [] y ys zs = refl
+append_middle (x ∷ xs) y ys zs = ap (λ r. x ∷ r) (append_middle xs y ys zs)

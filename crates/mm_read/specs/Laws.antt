@@ -1,0 +1,20 @@
+-- The laws of reading.
+-- Source: Metamath, 4.1; they make "the statements of a text" one thing.
+-- The code meets them; they speak of the definitions alone.
+use Rattle.std.specs.Prelude.{◌≡◌, ℕ, ◌⊎◌, List}
+use Rattle.mm_lex.specs.Alphabet.{Name}
+use Rattle.mm_read.specs.Statements.{Database, AreShaped, spelled}
+use Rattle.mm_read.specs.Reads.{IsShapeFault}
+
+-- each list of tokens is spelled by at most one list of statements
+abbrev pub OneSpelling : Type 0
+OneSpelling = (S T : Database) → AreShaped S → AreShaped T → spelled S ≡ spelled T → S ≡ T
+
+-- each list of tokens is spelled by some list of statements, or has a token that fits nowhere
+abbrev pub SpelledOrFaulty : Type 0
+SpelledOrFaulty =
+    (tokens : List Name) → ((S : Database) × AreShaped S × (spelled S ≡ tokens)) ⊎ ((token : ℕ) × IsShapeFault tokens token)
+
+-- the token that fits nowhere is one
+abbrev pub OneShapeFault : Type 0
+OneShapeFault = (tokens : List Name) (t u : ℕ) → IsShapeFault tokens t → IsShapeFault tokens u → t ≡ u

@@ -1,0 +1,4 @@
+pub mod Statements
+pub mod Reads
+pub mod Export
+pub mod Laws

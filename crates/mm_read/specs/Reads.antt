@@ -1,0 +1,38 @@
+-- The statements that a text writes, and where a text stops being statements.
+-- Source: Metamath, 4.1 and appendix E.
+-- The code reads once from the left; here reading is the inverse of writing.
+use Rattle.std.specs.Prelude.{◌≡◌, ℕ, ◌+◌, ◌-◌, ◌⊎◌, List, ◌++◌, length, take}
+use Rattle.mm_lex.specs.declared.span.Span.{Span}
+use Rattle.mm_lex.specs.Alphabet.{Name}
+use Rattle.mm_lex.specs.Tokens.{AreTokens, words}
+use Rattle.mm_read.specs.Statements.{Database, AreShaped, spelled}
+
+-- the text's tokens are these
+abbrev pub HasTokens : List ℕ → List Name → Type 0
+HasTokens text tokens = (spans : List Span) × AreTokens text spans × (words text spans ≡ tokens)
+
+-- the text writes these statements
+pub record Reads (text : List ℕ) (S : Database) : Type 0 where
+  pub shaped : AreShaped S
+  pub tokens : HasTokens text (spelled S)
+
+-- some list of statements begins with these tokens
+pub record CanGoOn (tokens : List Name) : Type 0 where
+  pub statements : Database
+  pub rest : List Name
+  pub shaped : AreShaped statements
+  pub whole : spelled statements ≡ tokens ++ rest
+
+-- these tokens write no list of statements
+abbrev pub IsNoDatabase : List Name → Type 0
+IsNoDatabase tokens = (S : Database) → AreShaped S → spelled S ≡ tokens → ⊥
+
+-- the first token, from 1, after which no list of statements can go on, or the count of tokens plus 1
+pub record IsShapeFault (tokens : List Name) (token : ℕ) : Type 0 where
+  pub none : IsNoDatabase tokens
+  pub before : CanGoOn (take (token - 1) tokens)
+  pub here : (CanGoOn (take token tokens) → ⊥) ⊎ (token ≡ length tokens + 1)
+
+-- the text has tokens, and this is the first that fits nowhere
+abbrev pub HasShapeFault : List ℕ → ℕ → Type 0
+HasShapeFault text token = (tokens : List Name) × HasTokens text tokens × IsShapeFault tokens token

@@ -1,0 +1,59 @@
+-- Statements: what each of the eight shapes may hold, and the tokens that write it.
+-- Source: Metamath, 4.1 and appendix E.
+-- The code walks over the tokens from the left; here a statement is written out as its tokens.
+use Rattle.std.specs.Prelude.{Bool, true, false, not, ◌&&◌, IsTrue, List, [], ◌∷◌, ◌++◌, flat_map, codes}
+use Rattle.std.specs.List.{list_all}
+use Rattle.mm_lex.specs.Alphabet.{Name, is_empty, is_symbol, is_label}
+use Rattle.mm_read.specs.declared.stmt.Stmt.{Stmt}
+use Rattle.mm_read.specs.declared.stmt.Stmt.TheVariants.{Open, Close, Const, Var, Disj, Float, Ess, Axiom, Prove}
+
+-- an expression: its symbols, the leading constant first
+abbrev pub Expr : Type 0
+Expr = List Name
+
+-- a list of statements
+abbrev pub Database : Type 0
+Database = List Stmt
+
+-- one or more symbols
+abbrev pub are_symbols : Expr → Bool
+are_symbols ws = not (is_empty ws) && list_all is_symbol ws
+
+-- two or more of them
+abbrev pub has_two : Expr → Bool
+has_two [] = false
+has_two (w ∷ ws) = not (is_empty ws)
+
+-- the statement is of one of the eight shapes
+abbrev pub is_shaped : Stmt → Bool
+is_shaped Open = true
+is_shaped Close = true
+is_shaped (Const ws) = are_symbols ws
+is_shaped (Var ws) = are_symbols ws
+is_shaped (Disj ws) = are_symbols ws && has_two ws
+is_shaped (Float label constant variable) = is_label label && is_symbol constant && is_symbol variable
+is_shaped (Ess label expr) = is_label label && are_symbols expr
+is_shaped (Axiom label expr) = is_label label && are_symbols expr
+is_shaped (Prove label expr proof) = is_label label && are_symbols expr && list_all is_symbol proof
+
+abbrev pub IsShaped : Stmt → Type 0
+IsShaped s = IsTrue (is_shaped s)
+
+abbrev pub AreShaped : Database → Type 0
+AreShaped S = IsTrue (list_all is_shaped S)
+
+-- the tokens that write a statement
+abbrev pub stmt_tokens : Stmt → List Name
+stmt_tokens Open = codes "${" ∷ []
+stmt_tokens Close = codes "$}" ∷ []
+stmt_tokens (Const ws) = codes "$c" ∷ (ws ++ codes "$." ∷ [])
+stmt_tokens (Var ws) = codes "$v" ∷ (ws ++ codes "$." ∷ [])
+stmt_tokens (Disj ws) = codes "$d" ∷ (ws ++ codes "$." ∷ [])
+stmt_tokens (Float label constant variable) = label ∷ codes "$f" ∷ constant ∷ variable ∷ codes "$." ∷ []
+stmt_tokens (Ess label expr) = label ∷ codes "$e" ∷ (expr ++ codes "$." ∷ [])
+stmt_tokens (Axiom label expr) = label ∷ codes "$a" ∷ (expr ++ codes "$." ∷ [])
+stmt_tokens (Prove label expr proof) = label ∷ codes "$p" ∷ (expr ++ codes "$=" ∷ (proof ++ codes "$." ∷ []))
+
+-- the tokens that write a list of statements
+abbrev pub spelled : Database → List Name
+spelled S = flat_map stmt_tokens S

@@ -1,0 +1,17 @@
+//! The laws of reading, each a call that does nothing.
+ghost use Rattle.mm_read.specs.Laws.{OneSpelling, SpelledOrFaulty, OneShapeFault};
+
+/// Each list of tokens is spelled by at most one list of statements.
+pub fn one_spelling()
+    ensures { OneSpelling }
+{}
+
+/// Each list of tokens is spelled by some list of statements, or has a token that fits nowhere.
+pub fn spelled_or_faulty()
+    ensures { SpelledOrFaulty }
+{}
+
+/// Each list of tokens has at most one token that fits nowhere.
+pub fn one_shape_fault()
+    ensures { OneShapeFault }
+{}

@@ -1,0 +1,13 @@
+//! Statements of a Metamath text.
+//!
+//! `Stmt` is one of the eight shapes of a statement. `specs/Reads` says which statements a text writes, and where a text
+//! stops being statements; `laws` says that each text writes one list of statements at most.
+#![tactic(auto)]
+
+mod fault;
+mod laws;
+mod stmt;
+
+pub use fault::ReadFault;
+pub use laws::{one_shape_fault, one_spelling, spelled_or_faulty};
+pub use stmt::Stmt;
