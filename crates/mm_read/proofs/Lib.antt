@@ -1,4 +1,5 @@
 pub mod StatementsLemmas
+pub mod SpacedLemmas
 pub mod OneSpelling
 pub mod Places
 pub mod ShapeFaults

@@ -1,0 +1,175 @@
+//! The export form: statements as a text, a line each.
+ghost use Rattle.std.specs.Prelude.{◌≡◌, [], ◌∷◌, ◌++◌, if◌then◌else◌, flat_map, codes, IsTrue, IfOk, OnOk, OnErr};
+ghost use Rattle.mm_lex.specs.Alphabet.{is_empty};
+ghost use Rattle.mm_lex.specs.Words.{spaced, words_of, is_word};
+ghost use Rattle.mm_read.specs.Statements.{IsShaped, AreShaped, are_symbols};
+ghost use Rattle.mm_read.specs.Export.{line_of, export_of, with_proof};
+
+use crate::stmt::Stmt;
+use mm_lex::{Word, Words};
+use std::alloc::{AllocError, Global};
+
+/// The statements as a text: each is its tokens with one space between two, and a line feed.
+///
+/// Cost: the text's own size. Source: Metamath, 4.1; one space and one line feed are this project's choice.
+pub fn spell(alloc: Global, statements: &[Stmt]) -> Result<Vec<u8>, AllocError>
+    requires { AreShaped statements.now }
+    ensures text { IfOk result (λ text. text.items ≡ export_of statements.now) }
+{
+    let mut text = Vec::new(alloc);
+    for statement in statements {
+        push_line(&mut text, statement)?;
+    }
+    Ok(text)
+}
+
+/// Adds the statement's line. After a refusal the text is as before.
+pub fn push_line(text: &mut Vec<u8>, statement: &Stmt) -> Result<(), AllocError>
+    requires { IsShaped statement.now }
+    ensures line { OnOk result (text.new.items ≡ text.old.items ++ line_of statement.now) }
+    ensures same { OnErr result (text.new.items ≡ text.old.items) }
+{
+    match statement {
+        Stmt::Open => text.extend_from_slice(b"${\n"),
+        Stmt::Close => text.extend_from_slice(b"$}\n"),
+        Stmt::Const(symbols) => push_list(text, b"$c", symbols),
+        Stmt::Var(symbols) => push_list(text, b"$v", symbols),
+        Stmt::Disj(symbols) => push_list(text, b"$d", symbols),
+        Stmt::Float {
+            label,
+            constant,
+            variable,
+        } => push_floating(text, label, constant, variable),
+        Stmt::Ess { label, expr } => push_labelled(text, label, b"$e", expr),
+        Stmt::Axiom { label, expr } => push_labelled(text, label, b"$a", expr),
+        Stmt::Prove { label, expr, proof } => push_provable(text, label, expr, proof.as_text()),
+    }
+}
+
+/// Adds the statement's line with this word in place of its proof, where it has one. After a refusal the text is as before.
+pub fn push_line_with_proof(
+    text: &mut Vec<u8>,
+    statement: &Stmt,
+    proof: &[u8],
+) -> Result<(), AllocError>
+    requires shaped { IsShaped statement.now }
+    requires word { IsTrue (is_word proof.now) }
+    ensures line { OnOk result (text.new.items
+        ≡ text.old.items ++ line_of (with_proof statement.now (proof.now ∷ []))) }
+    ensures same { OnErr result (text.new.items ≡ text.old.items) }
+{
+    match statement {
+        Stmt::Prove { label, expr, .. } => push_provable(text, label, expr, proof),
+        _ => push_line(text, statement),
+    }
+}
+
+/// `$c`, `$v` and `$d`.
+fn push_list(text: &mut Vec<u8>, keyword: &[u8], symbols: &Words) -> Result<(), AllocError>
+    requires { IsTrue (are_symbols symbols.now) }
+    ensures line { OnOk result (text.new.items
+        ≡ text.old.items ++ (spaced (keyword.now ∷ (symbols.now ++ codes "$." ∷ [])) ++ 10 ∷ [])) }
+    ensures same { OnErr result (text.new.items ≡ text.old.items) }
+{
+    push_parts(text, &[keyword, b" ", symbols.as_text(), b" $.\n"])
+}
+
+/// `$e` and `$a`.
+fn push_labelled(
+    text: &mut Vec<u8>,
+    label: &Word,
+    keyword: &[u8],
+    expr: &Words,
+) -> Result<(), AllocError>
+    requires { IsTrue (are_symbols expr.now) }
+    ensures line { OnOk result (text.new.items
+        ≡ text.old.items ++ (spaced (label.now ∷ keyword.now ∷ (expr.now ++ codes "$." ∷ [])) ++ 10 ∷ [])) }
+    ensures same { OnErr result (text.new.items ≡ text.old.items) }
+{
+    push_parts(
+        text,
+        &[
+            label.as_bytes(),
+            b" ",
+            keyword,
+            b" ",
+            expr.as_text(),
+            b" $.\n",
+        ],
+    )
+}
+
+/// `$f`.
+fn push_floating(
+    text: &mut Vec<u8>,
+    label: &Word,
+    constant: &Word,
+    variable: &Word,
+) -> Result<(), AllocError>
+    ensures line { OnOk result (text.new.items
+        ≡ text.old.items
+        ++ (spaced (label.now ∷ codes "$f" ∷ constant.now ∷ variable.now ∷ codes "$." ∷ []) ++ 10 ∷ [])) }
+    ensures same { OnErr result (text.new.items ≡ text.old.items) }
+{
+    push_parts(
+        text,
+        &[
+            label.as_bytes(),
+            b" $f ",
+            constant.as_bytes(),
+            b" ",
+            variable.as_bytes(),
+            b" $.\n",
+        ],
+    )
+}
+
+/// `$p`, with the proof's tokens as a text.
+fn push_provable(
+    text: &mut Vec<u8>,
+    label: &Word,
+    expr: &Words,
+    proof: &[u8],
+) -> Result<(), AllocError>
+    requires { IsTrue (are_symbols expr.now) }
+    ensures line { OnOk result (text.new.items
+        ≡ text.old.items
+        ++ (spaced (label.now ∷ codes "$p" ∷ (expr.now ++ codes "$=" ∷ (words_of proof.now ++ codes "$." ∷ [])))
+        ++ 10 ∷ [])) }
+    ensures same { OnErr result (text.new.items ≡ text.old.items) }
+{
+    push_parts(
+        text,
+        &[
+            label.as_bytes(),
+            b" $p ",
+            expr.as_text(),
+            b" $=",
+            gap_before(proof),
+            proof,
+            b" $.\n",
+        ],
+    )
+}
+
+/// A space, where words follow.
+fn gap_before(text: &[u8]) -> &[u8]
+    ensures { result.now ≡ (if is_empty text.now then [] else codes " ") }
+{
+    if text.is_empty() { b"" } else { b" " }
+}
+
+/// Adds all of the parts, or nothing.
+fn push_parts(text: &mut Vec<u8>, parts: &[&[u8]]) -> Result<(), AllocError>
+    ensures ok { OnOk result (text.new.items ≡ text.old.items ++ flat_map (λ part. part.now) parts.now) }
+    ensures same { OnErr result (text.new.items ≡ text.old.items) }
+{
+    let len = text.len();
+    for part in parts {
+        if text.extend_from_slice(part).is_err() {
+            text.truncate(len);
+            return Err(AllocError);
+        }
+    }
+    Ok(())
+}
