@@ -1,2 +1,4 @@
 pub mod FiniteMapLemmas
 pub mod PagesLemmas
+pub mod Lists
+pub mod MapReads

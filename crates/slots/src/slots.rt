@@ -74,6 +74,7 @@ impl<T: Drop> Slots<T> {
         requires { slot < self.old.room }
         ensures entries { self.new.entries ≡ put_at self.old.entries slot entry }
         ensures room { self.new.room ≡ self.old.room }
+        ensures within { top_of self.new.entries ≤ SLOTS }
         ensures before { result ≡ entry_at self.old.entries slot }
     {
         let before = self.pages.put(slot as usize, entry);

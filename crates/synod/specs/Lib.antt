@@ -1,4 +1,5 @@
 pub mod Weights
+pub mod Places
 pub mod Ballots
 pub mod Packets
 pub mod Pages
@@ -10,3 +11,5 @@ pub mod Proposer
 pub mod Learner
 pub mod Step
 pub mod Refusals
+pub mod Core
+pub mod Plans

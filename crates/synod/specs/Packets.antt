@@ -1,7 +1,8 @@
 -- Packets: whom they are for, and what every packet keeps.
 -- Source: Lamport, Paxos Made Simple, 2.2 (the messages of the two phases) and 2.3 (learning).
 -- The code posts them one after another into one list, as here.
-use Rattle.std.specs.Prelude.{ℕ, suc, ◌<◌, ◌≤◌, ◌==◌, List, [], ◌∷◌, ◌++◌, Option, All, if◌then◌else◌}
+use Rattle.std.specs.Prelude.{ℕ, suc, ◌<◌, ◌≤◌, ◌==◌, List, [], ◌∷◌, ◌++◌, Option, if◌then◌else◌}
+use Rattle.std.specs.List.{AllByRecursion}
 use Rattle.slots.specs.declared.slots.TheConstants.{SLOTS}
 use Rattle.synod.specs.declared.packet.TheConstants.{MOST_PAGES}
 use Rattle.synod.specs.declared.ballot.Ballot.{Ballot}
@@ -46,7 +47,7 @@ pub record IsPage {V : Type 0} (page count : ℕ) (reports : List (Report V)) : 
   pub first : 1 ≤ page
   pub last : page ≤ count
   pub few : count ≤ MOST_PAGES
-  pub each : All IsReport reports
+  pub each : AllByRecursion IsReport reports
 
 abbrev pub IsBody : {V : Type 0} → Body V → Type 0
 IsBody (Prepare ballot first) = first ≤ SLOTS

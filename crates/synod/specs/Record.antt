@@ -1,7 +1,7 @@
 -- The kept part of a node, and its changes.
 -- Source: Lamport, Paxos Made Simple, 2.5: stable storage keeps what an acceptor must remember.
 -- The code stores one change at a time and loads a record. The kept part is that record.
-use Rattle.std.specs.Prelude.{ℕ, List, [], Option, Some, None}
+use Rattle.std.specs.Prelude.{ℕ, ◌<◌, List, [], Option, Some, None}
 use Rattle.slots.specs.FiniteMap.{put_at}
 use Rattle.synod.specs.declared.ballot.Ballot.{Ballot}
 use Rattle.synod.specs.declared.change.Held.{Held}
@@ -29,3 +29,15 @@ changed kept (Entry s h) = record kept { promise = h.ballot; accepted = put_at k
 abbrev pub changed_by : {V : Type 0} → Kept V → Option (Change V) → Kept V
 changed_by kept None = kept
 changed_by kept (Some change) = changed kept change
+
+-- what contracts see of a record: beside the kept part, how many slots from 0 on have room
+pub record RecordView (V : Type 0) : Type 0 where
+  pub kept : Kept V
+  pub room : ℕ
+
+-- there is room for the change
+abbrev pub HasRoomFor : {V : Type 0} → ℕ → Option (Change V) → Type 0
+HasRoomFor room None = Unit {0}
+HasRoomFor room (Some (Round r)) = Unit {0}
+HasRoomFor room (Some (Promise b)) = Unit {0}
+HasRoomFor room (Some (Entry s h)) = s < room

@@ -1,7 +1,8 @@
 -- One node and one event: the step that the packet or the restart makes.
 -- Source: Lamport, Paxos Made Simple, 2.2 to 2.5.
 -- The code makes a step in two halves, ready and commit. The step is one.
-use Rattle.std.specs.Prelude.{◌<◌, ◌≤◌, ℕ, List, Option, Some, None, All, length}
+use Rattle.std.specs.Prelude.{◌<◌, ◌≤◌, ℕ, List, Option, Some, None, length}
+use Rattle.std.specs.List.{AllByRecursion}
 use Rattle.slots.specs.declared.slots.TheConstants.{SLOTS}
 use Rattle.synod.specs.declared.packet.Report.{Report}
 use Rattle.synod.specs.declared.packet.Packet.{Packet}
@@ -47,7 +48,7 @@ IsRole (Leading b next) = next ≤ SLOTS
 
 abbrev pub ArePages : {V : Type 0} → Option (List (Report V)) → Type 0
 ArePages None = Unit {0}
-ArePages (Some reports) = All IsReport reports
+ArePages (Some reports) = AllByRecursion IsReport reports
 
 pub record IsNode {V : Type 0} (n : Node V) : Type 0 where
   pub weights : IsWeights n.weights
@@ -55,4 +56,4 @@ pub record IsNode {V : Type 0} (n : Node V) : Type 0 where
   pub accepted : length n.accepted ≤ SLOTS
   pub learned : length n.learned ≤ SLOTS
   pub role : IsRole n.role
-  pub pages : All (All ArePages) n.pages
+  pub pages : AllByRecursion (AllByRecursion ArePages) n.pages

@@ -1,4 +1,5 @@
 //! Ballots, which number the proposals.
+ghost use Rattle.std.specs.Prelude.{◌≡◌};
 
 /// A ballot, written R.N: ordered by its round and then by its node.
 ///
@@ -7,4 +8,29 @@
 pub struct Ballot {
     pub round: u64,
     pub node: u8,
+}
+
+impl Ballot {
+    ghost use Rattle.synod.specs.Ballots.{is_under, is_same, no_ballot};
+
+    /// What a new node has promised.
+    pub fn none() -> Self
+        ensures { result ≡ no_ballot }
+    {
+        Ballot { round: 0, node: 0 }
+    }
+
+    /// Whether it is lower than another.
+    pub fn is_under(self, other: Ballot) -> bool
+        ensures { result ≡ is_under self other }
+    {
+        self.round < other.round || (self.round == other.round && self.node < other.node)
+    }
+
+    /// Whether it is that ballot.
+    pub fn is_same(self, other: Ballot) -> bool
+        ensures { result ≡ is_same self other }
+    {
+        self.round == other.round && self.node == other.node
+    }
 }

@@ -21,3 +21,13 @@ pub trait Value: Sized + Drop {
     fn size(&self) -> u64
         ensures { result ≡ bytes self.now };
 }
+
+/// The value of an entry once more: `None` is the no-operation.
+pub(crate) fn copy_value<V: Value>(value: &Option<V>) -> Result<Option<V>, AllocError>
+    ensures { IfOk result (λ copy. copy ≡ value.now) }
+{
+    match value {
+        Some(value) => Ok(Some(value.copy()?)),
+        None => Ok(None),
+    }
+}

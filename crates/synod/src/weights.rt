@@ -1,7 +1,114 @@
 //! The weights of the nodes.
+ghost use Rattle.std.specs.Prelude.{◌≡◌, ◌≤◌, ◌<◌, ◌↔◌, false, length, replicate, slice_index_or, IsSome, IfSome, if◌then◌else◌};
+ghost use Rattle.synod.specs.Weights.{IsWeights, is_quorum};
+
+use std::marker::Model;
 
 /// The nodes of a world, at most.
 pub const MOST_NODES: usize = 9;
 
 /// The weight of one node, at most.
 pub const MOST_WEIGHT: u8 = 100;
+
+/// The weights of the nodes: 1 to 9 of them, each from 1 to 100. It holds no allocation.
+///
+/// Source: a majority of Lamport, Paxos Made Simple, 2.2, is more than half of the weight of all.
+#[derive(Clone, Copy)]
+pub struct Weights {
+    places: [u8; MOST_NODES],
+    count: usize,
+}
+
+impl Model for Weights {
+    ghost use Rattle.std.specs.Prelude.{List, ℕ, take, length};
+    ghost use Rattle.synod.specs.Places.{padded, ArePlaces};
+
+    ghost Value = { List ℕ };
+
+    ghost view = { λ w. take w.count w.places };
+
+    ghost invariant = { λ w. ArePlaces w.count w.places };
+
+    ghost inverse = { λ ws. record { places = padded ws; count = length ws } };
+
+    ghost inverse_ok = { λ w h i. record { places = h.padding i; count = h.length_is i } };
+}
+
+impl Weights {
+    /// The weights of the nodes 0, 1, and so on.
+    ///
+    /// It is `None` where there are not 1 to 9 numbers, or one is not 1 to 100. It takes no memory.
+    pub fn new(numbers: &[u8]) -> Option<Self>
+        ensures weights { IfSome result (λ weights. weights ≡ numbers.now) }
+        ensures some { IsSome result ↔ IsWeights numbers.now }
+    {
+        if numbers.is_empty() || numbers.len() > MOST_NODES {
+            return None;
+        }
+        let mut places = [0; MOST_NODES];
+        for (i, number) in numbers.iter().enumerate() {
+            if *number == 0 || *number > MOST_WEIGHT {
+                return None;
+            }
+            places[i] = *number;
+        }
+        Some(Weights {
+            places,
+            count: numbers.len(),
+        })
+    }
+
+    /// So many nodes, each of weight 1. It takes no memory.
+    pub fn equal(nodes: u8) -> Self
+        requires some { 1 ≤ nodes }
+        requires few { nodes ≤ MOST_NODES }
+        ensures { result ≡ replicate nodes 1 }
+    {
+        let mut places = [0; MOST_NODES];
+        for i in 0..nodes {
+            places[i as usize] = 1;
+        }
+        Weights {
+            places,
+            count: nodes as usize,
+        }
+    }
+
+    /// How many nodes there are.
+    pub fn count(&self) -> u8
+        ensures count { result ≡ length self.now }
+        ensures weights { IsWeights self.now }
+    {
+        self.count as u8
+    }
+
+    /// The weights, node by node.
+    pub fn as_slice(&self) -> &[u8]
+        ensures weights { result.now ≡ self.now }
+        ensures few { length self.now ≤ MOST_NODES }
+    {
+        &self.places[..self.count]
+    }
+
+    /// Whether the nodes that are marked are a quorum.
+    pub fn is_quorum(&self, marks: &[bool]) -> bool
+        requires { length self.now ≤ length marks.now }
+        ensures { result ≡ is_quorum self.now (λ k. slice_index_or marks.now k false) }
+    {
+        let weights = self.as_slice();
+        let mut all = 0u32;
+        let mut picked = 0u32;
+        for (i, weight) in weights.iter().enumerate() {
+            all += u32::from(*weight);
+            picked += weight_of(*weight, marks[i]);
+        }
+        all < 2 * picked
+    }
+}
+
+/// The weight of a node, where it is marked.
+fn weight_of(weight: u8, mark: bool) -> u32
+    ensures { result ≡ (if mark then weight else 0) }
+{
+    if mark { u32::from(weight) } else { 0 }
+}

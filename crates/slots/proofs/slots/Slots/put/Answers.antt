@@ -1,7 +1,7 @@
 use Rattle.std.proofs.Common.{◌∙◌, ◌+◌, ℕ, max, drop, sym, ap, arith, List, Option, Some, length}
 use Rattle.std.proofs.lemmas.List.{length-set}
 use Rattle.slots.specs.FiniteMap.{SlotsView, entry_at, put_at, trimmed, front_of, top_of}
-use Rattle.slots.proofs.FiniteMapLemmas.{trimmed-set, top_of-put_at, front_of-le, front_of-set, entry_at-trimmed}
+use Rattle.slots.proofs.FiniteMapLemmas.{trimmed-set, top_of-put_at, front_of-le, front_of-set, entry_at-trimmed, top_of-trimmed-le}
 use Rattle.slots.proofs.slots.Slots.put.Goals as goal
 
 pub gap_from-self-inside-requires-clause-from : goal.gap_from-self-inside-requires-clause-from
@@ -39,3 +39,8 @@ returns-clause-before g c =
     c.put-before.ensures.before
     ∙ sym (entry_at-trimmed c.self.inside.pages c.args.slot)
     ∙ ap (λ (v : SlotsView g.row.T.Denot). entry_at v.entries c.args.slot) c.self.view_is
+
+pub returns-clause-within : goal.returns-clause-within
+returns-clause-within g c =
+    let same = ap (λ (slots : List (Option g.row.T.Denot)). length slots) c.put-before.ensures.put ∙ length-set c.self.inside.pages c.args.slot (Some c.args.entry) in
+    omega (arith, same, c.self.invariant.within, top_of-trimmed-le c.put-before.new.self)

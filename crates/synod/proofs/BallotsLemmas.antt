@@ -1,0 +1,51 @@
+-- The order of ballots, as facts.
+use Rattle.std.proofs.Common.{◌≡◌, ℕ, ◌<◌, ◌≤◌, true, false, ◌⊎◌, inl, inr, refl, arith, ap₂, eq-or-lt_of_le}
+use Rattle.std.proofs.lemmas.Bool.Decides.{nat_tests}
+use Rattle.synod.specs.declared.ballot.Ballot.{Ballot}
+use Rattle.synod.specs.Ballots.{is_under, is_same}
+
+abbrev pub Under : Ballot → Ballot → Type 0
+Under a b = (a.round < b.round) ⊎ ((a.round ≡ b.round) × (a.node < b.node))
+
+-- a is under b, or is b
+abbrev pub Upto : Ballot → Ballot → Type 0
+Upto a b = (a.round < b.round) ⊎ ((a.round ≡ b.round) × (a.node ≤ b.node))
+
+pub under_true : (a b : Ballot) → is_under a b ≡ true → Under a b
+under_true a b h = grind (arith, nat_tests)
+
+pub under_false : (a b : Ballot) → is_under a b ≡ false → Upto b a
+under_false a b h = grind (arith, nat_tests)
+
+pub upto_under : (a b c : Ballot) → Upto a b → Under b c → Under a c
+upto_under a b c h k = grind arith
+
+pub under_upto : (a b c : Ballot) → Under a b → Upto b c → Under a c
+under_upto a b c h k = grind arith
+
+pub upto_upto : (a b c : Ballot) → Upto a b → Upto b c → Upto a c
+upto_upto a b c h k = grind arith
+
+pub not_both : (a b : Ballot) → Under a b → Upto b a → ⊥
+not_both a b h k = grind arith
+
+pub under_is_upto : (a b : Ballot) → Under a b → Upto a b
+under_is_upto a b h = grind arith
+
+pub upto_self : (a : Ballot) → Upto a a
+upto_self a = inr (refl, omega arith)
+
+pub same_ballots : (a b : Ballot) → a.round ≡ b.round → a.node ≡ b.node → a ≡ b
+same_ballots a b p q = ap₂ (λ (r k : ℕ). let x : Ballot = record { round = r; node = k } in x) p q
+
+pub same_true : (a b : Ballot) → is_same a b ≡ true → a ≡ b
+same_true a b h = same_ballots a b (grind (arith, nat_tests)) (grind (arith, nat_tests))
+
+-- up to b is under b, or b itself
+pub upto_splits : (a b : Ballot) → Upto a b → Under a b ⊎ (a ≡ b)
+upto_splits a b (inl h) = inl (inl h)
+upto_splits a b (inr (e, h)) =
+    elim (eq-or-lt_of_le h) [ inl n ↦ inr (same_ballots a b e n) | inr l ↦ inl (inr (e, l)) ]
+
+pub total : (a b : Ballot) → Under a b ⊎ Upto b a
+total a b = grind arith

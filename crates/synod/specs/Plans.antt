@@ -1,0 +1,56 @@
+-- What a step does to the proposer and to the learner, once it is ready.
+-- Source: this project's way of making a step ready, and then making it.
+-- The code moves these into the node, by no arithmetic and no growth.
+use Rattle.std.specs.Prelude.{ℕ, ◌<◌, ◌++◌, List, [], ◌∷◌, Option, Some, None, length, map, drop, slice_index_or, slice_set}
+use Rattle.slots.specs.FiniteMap.{SlotsView, put_at}
+use Rattle.synod.specs.declared.packet.Report.{Report}
+use Rattle.synod.specs.declared.proposer.Role.TheVariants.{Idle as RoleIdle, Preparing, Leading}
+use Rattle.synod.specs.declared.proposer.Proposal.{Proposal}
+use Rattle.synod.specs.declared.proposer.Proposal.TheVariants.{Wait, Propose, Begin, Page, Hear, Lead, Idle}
+use Rattle.synod.specs.declared.learner.Lesson.{Lesson}
+use Rattle.synod.specs.declared.learner.Lesson.TheVariants.{Count, Choose, Learn}
+use Rattle.synod.specs.Core.{Proposing, ProposerView, Learning, LearnerView}
+use Rattle.synod.specs.Node.{pages_from}
+
+-- the entries of several maps
+abbrev pub entries_of : {T : Type 0} → List (SlotsView T) → List (List (Option T))
+entries_of maps = map (λ m. m.entries) maps
+
+abbrev pub rooms_of : {T : Type 0} → List (SlotsView T) → List ℕ
+rooms_of maps = map (λ m. m.room) maps
+
+-- a page is put into a map of pages
+abbrev pub put_page : {V : Type 0} → List (List (Option (List (Report V)))) → ℕ → ℕ → List (Report V) → List (List (Option (List (Report V))))
+put_page pages k i reports = slice_set pages k (put_at (pages_from pages k) i reports)
+
+abbrev pub proposed : {V : Type 0} → Proposing V → Option (Proposal V) → Proposing V
+proposed p None = p
+proposed p (Some (Wait v)) = record p { waiting = p.waiting ++ v ∷ [] }
+proposed p (Some (Propose b next)) = record p { role = Leading b next }
+proposed p (Some (Begin b first pages)) = record p { role = Preparing b first; pages = entries_of pages; heard = [] }
+proposed p (Some (Page k i reports)) = record p { pages = put_page p.pages k i reports }
+proposed p (Some (Hear h)) = record p { heard = p.heard ++ h ∷ [] }
+proposed p (Some (Lead b next taken)) = record p { role = Leading b next; pages = []; heard = []; waiting = drop taken p.waiting }
+proposed p (Some Idle) = record p { role = RoleIdle }
+
+abbrev pub HasRoomToPropose : {V : Type 0} → ProposerView V → Option (Proposal V) → Type 0
+HasRoomToPropose p None = Unit {0}
+HasRoomToPropose p (Some (Wait v)) = length p.state.waiting < p.waiting_room
+HasRoomToPropose p (Some (Propose b next)) = Unit {0}
+HasRoomToPropose p (Some (Begin b first pages)) = Unit {0}
+HasRoomToPropose p (Some (Page k i reports)) = i < slice_index_or p.page_rooms k 0
+HasRoomToPropose p (Some (Hear h)) = length p.state.heard < p.heard_room
+HasRoomToPropose p (Some (Lead b next taken)) = Unit {0}
+HasRoomToPropose p (Some Idle) = Unit {0}
+
+abbrev pub taught : {V : Type 0} → Learning V → Option (Lesson V) → Learning V
+taught l None = l
+taught l (Some (Count s tallies)) = record l { tallies = put_at l.tallies s tallies }
+taught l (Some (Choose s tallies v)) = record l { tallies = put_at l.tallies s tallies; learned = put_at l.learned s v }
+taught l (Some (Learn s v)) = record l { learned = put_at l.learned s v }
+
+abbrev pub HasRoomToLearn : {V : Type 0} → LearnerView V → Option (Lesson V) → Type 0
+HasRoomToLearn l None = Unit {0}
+HasRoomToLearn l (Some (Count s tallies)) = s < l.tallies_room
+HasRoomToLearn l (Some (Choose s tallies v)) = (s < l.tallies_room) × (s < l.learned_room)
+HasRoomToLearn l (Some (Learn s v)) = s < l.learned_room

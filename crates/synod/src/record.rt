@@ -1,0 +1,104 @@
+//! The kept part of a node: what outlives a restart.
+ghost use Rattle.std.specs.Prelude.{◌≡◌, ◌<◌, ◌≤◌, OnOk, Some, None, MatchOption, length};
+ghost use Rattle.slots.specs.declared.slots.TheConstants.{SLOTS};
+ghost use Rattle.slots.specs.FiniteMap.{entry_at, top_of};
+
+use crate::ballot::Ballot;
+use crate::change::{Change, Held};
+use slots::Slots;
+use std::alloc::{AllocError, Global};
+use std::marker::Model;
+
+/// Promise, round and accepted entries.
+///
+/// Source: Lamport, Paxos Made Simple, 2.5, on stable storage.
+#[derive(Drop)]
+pub struct Record<V> {
+    promise: Ballot,
+    round: u64,
+    accepted: Slots<Held<V>>,
+}
+
+impl<V> Model for Record<V> {
+    ghost use Rattle.std.specs.Prelude.{length, ◌≤◌};
+    ghost use Rattle.slots.specs.declared.slots.TheConstants.{SLOTS};
+    ghost use Rattle.synod.specs.Record.{RecordView};
+
+    ghost Value = { RecordView V };
+
+    ghost view = { λ r. record {
+      kept = record { promise = r.promise; round = r.round; accepted = r.accepted.entries };
+      room = r.accepted.room;
+    } };
+
+    ghost invariant = { λ r. length r.accepted.entries ≤ SLOTS };
+}
+
+impl<V: Drop> Record<V> {
+    ghost use Rattle.synod.specs.Record.{new_kept, changed_by, HasRoomFor};
+
+    /// The record of a new node. It takes no memory.
+    pub fn new(alloc: Global) -> Self
+        ensures { result.kept ≡ new_kept }
+    {
+        Record {
+            promise: Ballot::none(),
+            round: 0,
+            accepted: Slots::new(alloc),
+        }
+    }
+
+    /// The ballot promised.
+    pub fn promise(&self) -> Ballot
+        ensures { result ≡ self.now.kept.promise }
+    {
+        self.promise
+    }
+
+    /// The round last begun.
+    pub fn round(&self) -> u64
+        ensures { result ≡ self.now.kept.round }
+    {
+        self.round
+    }
+
+    /// What is accepted at a slot.
+    pub fn get(&self, slot: u32) -> Option<&Held<V>>
+        ensures { MatchOption result (entry_at self.now.kept.accepted slot ≡ None) (λ held. entry_at self.now.kept.accepted slot ≡ Some held.now) }
+    {
+        self.accepted.get(slot)
+    }
+
+    /// One above the greatest slot with an accepted entry, else 0.
+    pub fn top(&self) -> u32
+        ensures top { result ≡ top_of self.now.kept.accepted }
+        ensures within { result ≤ SLOTS }
+    {
+        self.accepted.top()
+    }
+
+    /// Makes room for an entry at a slot. The kept part stays.
+    pub fn room(&mut self, slot: u32) -> Result<(), AllocError>
+        requires { slot < SLOTS }
+        ensures ok { OnOk result (slot < self.new.room) }
+        ensures kept { self.new.kept ≡ self.old.kept }
+    {
+        self.accepted.room(slot)
+    }
+
+    /// Makes a change, if there is one. It takes no memory.
+    pub fn change_by(&mut self, change: Option<Change<V>>)
+        requires { HasRoomFor self.old.room change }
+        ensures { self.new.kept ≡ changed_by self.old.kept change }
+    {
+        match change {
+            Some(Change::Round(round)) => self.round = round,
+            Some(Change::Promise(ballot)) => self.promise = ballot,
+            Some(Change::Entry { slot, held }) => {
+                self.promise = held.ballot;
+                self.accepted.put(slot, held);
+            }
+            None => {}
+        }
+    }
+}
