@@ -1,0 +1,27 @@
+-- What is chosen: a value that a quorum accepted at one slot under one ballot.
+-- Source: Lamport, Paxos Made Simple, section 2.2.
+-- The code keeps the last value accepted at a slot; the votes here are all that were ever cast.
+use Rattle.std.specs.Prelude.{◌≡◌, ℕ, Bool, true, List, Contains, Option}
+use Rattle.synod.specs.declared.ballot.Ballot.{Ballot}
+use Rattle.synod.specs.Weights.{is_quorum}
+
+-- the node accepted the value at the slot under the ballot
+pub record Vote (V : Type 0) : Type 0 where
+  pub node : ℕ
+  pub ballot : Ballot
+  pub slot : ℕ
+  pub value : Option V
+
+abbrev pub vote : {V : Type 0} → ℕ → Ballot → ℕ → Option V → Vote V
+vote k b s v = record { node = k; ballot = b; slot = s; value = v }
+
+-- the nodes of a quorum voted for the value at the slot under this ballot
+pub record IsChosenAt {V : Type 0} (weights : List ℕ) (votes : List (Vote V)) (ballot : Ballot) (slot : ℕ) (value : Option V) : Type 0 where
+  pub voters : ℕ → Bool
+  pub majority : is_quorum weights voters ≡ true
+  pub voted : (k : ℕ) → voters k ≡ true → Contains votes (vote k ballot slot value)
+
+-- they did so under some ballot
+pub record IsChosen {V : Type 0} (weights : List ℕ) (votes : List (Vote V)) (slot : ℕ) (value : Option V) : Type 0 where
+  pub ballot : Ballot
+  pub chosen : IsChosenAt weights votes ballot slot value

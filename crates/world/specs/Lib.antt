@@ -1,0 +1,5 @@
+pub mod World
+pub mod Chosen
+pub mod Agree
+pub mod KeptPart
+pub mod Laws

@@ -1,0 +1,12 @@
+ghost use Rattle.world.specs.Laws.{BallotsHaveOneValue, LaterBallotsKeepChosen, ChosenValuesAgree, LogEntriesAreChosen, LogsOfNodesAgree, LogEntriesWereOffered};
+
+/// Agreement: what holds of the nodes after any events that are taken, whatever was lost, repeated or delayed and whoever
+/// restarted, for any weights and any values. Source: Lamport, Paxos Made Simple, section 2.2.
+pub fn agreement<V>()
+    ensures one_value { BallotsHaveOneValue V }
+    ensures later_value { LaterBallotsKeepChosen V }
+    ensures chosen { ChosenValuesAgree V }
+    ensures logs_chosen { LogEntriesAreChosen V }
+    ensures logs_agree { LogsOfNodesAgree V }
+    ensures logs_offered { LogEntriesWereOffered V }
+{}
