@@ -1,2 +1,9 @@
 pub mod WordsLemmas
+pub mod FaultsLemmas
+pub mod RunsLemmas
+pub mod Cutting
+pub mod CuttingMeans
+pub mod Progress
+pub mod TokensLemmas
+pub mod OneCut
 mod Rows

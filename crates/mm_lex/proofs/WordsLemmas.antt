@@ -42,11 +42,11 @@ slice_split-space (b ∷ text) more =
     ap (λ r. cond (is_space b) ([] ∷ r) (onto_first b r)) (slice_split-space text more)
     ∙ split_step (is_space b) b (slice_split is_space text) (slice_split is_space more) p.0 p.1 p.2
 
-and_left : (a b : Bool) → (a && b) ≡ true → a ≡ true
+pub and_left : (a b : Bool) → (a && b) ≡ true → a ≡ true
 and_left true b h = refl
 and_left false b h = cc
 
-and_right : (a b : Bool) → (a && b) ≡ true → b ≡ true
+pub and_right : (a b : Bool) → (a && b) ≡ true → b ≡ true
 and_right true b h = h
 and_right false b h = cc
 
@@ -185,3 +185,24 @@ length-words_of (b ∷ text) some = length-slice_split is_space (b ∷ text)
 -- the slice from a place on is what is behind it
 pub take-rest : (k : ℕ) (text : List ℕ) → take (length text - k) (drop k text) ≡ drop k text
 take-rest k text = ap (λ n. take n (drop k text)) (sym (length-drop k text)) ∙ take-length (drop k text)
+
+-- a list of words is what its text is cut into
+split_word : (w : Name) → is_word w ≡ true → slice_split is_space w ≡ w ∷ []
+split_word [] h = cc
+split_word (b ∷ w) h = split_visible (b ∷ w) h
+
+split_spaced : (w : Name) (ws : List Name) → is_word w ≡ true → list_all is_word ws ≡ true → slice_split is_space (spaced (w ∷ ws)) ≡ w ∷ ws
+split_spaced w [] h k = split_word w h
+split_spaced w (v ∷ ws) h k =
+    slice_split-space w (spaced (v ∷ ws))
+    ∙ (ap (λ r. r ++ slice_split is_space (spaced (v ∷ ws))) (split_word w h)
+    ∙ ap (λ r. w ∷ r) (split_spaced v ws (and_left _ _ k) (and_right _ _ k)))
+
+same_words : (w : Name) (ws : List Name) → is_word w ≡ true → slice_split is_space (spaced (w ∷ ws)) ≡ w ∷ ws → words_of (spaced (w ∷ ws)) ≡ w ∷ ws
+same_words [] ws h e = cc
+same_words (b ∷ w) [] h e = e
+same_words (b ∷ w) (v ∷ ws) h e = e
+
+pub words_of-spaced : (ws : List Name) → list_all is_word ws ≡ true → words_of (spaced ws) ≡ ws
+words_of-spaced [] h = refl
+words_of-spaced (w ∷ ws) h = same_words w ws (and_left _ _ h) (split_spaced w ws (and_left _ _ h) (and_right _ _ h))

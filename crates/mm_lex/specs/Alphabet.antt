@@ -1,7 +1,7 @@
 -- The bytes of a text, its runs of visible bytes, and the kinds of names: labels and symbols.
 -- Source: Metamath, 4.1.1 and appendix E.
 -- The code reads once, left to right, from one run to the next.
-use Rattle.std.specs.Prelude.{ℕ, ◌+◌, ◌-◌, Bool, true, false, not, ◌&&◌, ◌||◌, ◌==◌, if◌then◌else◌, List, [], ◌∷◌, take, drop, bytes_eq, codes}
+use Rattle.std.specs.Prelude.{ℕ, ◌+◌, ◌-◌, ◌<◌, ◌≤◌, length, IsTrue, Bool, true, false, not, ◌&&◌, ◌||◌, ◌==◌, if◌then◌else◌, List, [], ◌∷◌, take, drop, bytes_eq, codes}
 use Rattle.std.specs.Char.{is_ascii_whitespace, is_ascii_graphic, is_ascii_alphanumeric}
 use Rattle.std.specs.List.{list_all, list_any}
 use Rattle.mm_lex.specs.declared.span.Span.{Span}
@@ -49,6 +49,12 @@ runs text = runs_from 0 text
 -- the bytes of a span
 abbrev pub word : List ℕ → Span → Name
 word text s = take (s.end - s.start) (drop s.start text)
+
+-- the span is the place of bytes of the text, at least one, none of them white
+pub record IsRunAt (text : List ℕ) (s : Span) : Type 0 where
+  pub some : s.start < s.end
+  pub within : s.end ≤ length text
+  pub visible : IsTrue (list_all (λ b. not (is_white b)) (word text s))
 
 -- whether the name is among these
 abbrev pub has_name : Name → List Name → Bool

@@ -15,25 +15,25 @@ pub record IsFirstBadByte (text : List ℕ) (offset : ℕ) : Type 0 where
   pub before : IsClean (take offset text)
 
 -- what comes before is well cut, and then a `$)` stands outside of a comment, ..
-pub record IsStrayCloser (text : List ℕ) (offset : ℕ) : Type 0 where
+pub record IsStrayCloser (text : List ℕ) (spans : List Span) (offset : ℕ) : Type 0 where
   pub before : List Span
   pub tokens : List Span
   pub at : Span
   pub rest : List Span
-  pub whole : runs text ≡ before ++ at ∷ rest
+  pub whole : spans ≡ before ++ at ∷ rest
   pub cut : Cuts text before tokens
   pub closes : word text at ≡ closer
   pub place : at.start ≡ offset
 
 -- .. or a `$(` inside of a comment, ..
-pub record IsNestedOpener (text : List ℕ) (offset : ℕ) : Type 0 where
+pub record IsNestedOpener (text : List ℕ) (spans : List Span) (offset : ℕ) : Type 0 where
   pub before : List Span
   pub tokens : List Span
   pub outer : Span
   pub inside : List Span
   pub at : Span
   pub rest : List Span
-  pub whole : runs text ≡ before ++ outer ∷ (inside ++ at ∷ rest)
+  pub whole : spans ≡ before ++ outer ∷ (inside ++ at ∷ rest)
   pub cut : Cuts text before tokens
   pub opens : word text outer ≡ opener
   pub plain : AllPlain text inside
@@ -41,19 +41,23 @@ pub record IsNestedOpener (text : List ℕ) (offset : ℕ) : Type 0 where
   pub place : at.start ≡ offset
 
 -- .. or a comment is never closed
-pub record IsUnclosed (text : List ℕ) (offset : ℕ) : Type 0 where
+pub record IsUnclosed (text : List ℕ) (spans : List Span) (offset : ℕ) : Type 0 where
   pub before : List Span
   pub tokens : List Span
   pub at : Span
   pub inside : List Span
-  pub whole : runs text ≡ before ++ at ∷ inside
+  pub whole : spans ≡ before ++ at ∷ inside
   pub cut : Cuts text before tokens
   pub opens : word text at ≡ opener
   pub plain : AllPlain text inside
   pub place : at.start ≡ offset
 
+-- these runs of the text are cut as far as this offset and no further
+abbrev pub StopsAt : List ℕ → List Span → ℕ → Type 0
+StopsAt text spans offset = IsStrayCloser text spans offset ⊎ IsNestedOpener text spans offset ⊎ IsUnclosed text spans offset
+
 abbrev pub IsCommentFault : List ℕ → ℕ → Type 0
-IsCommentFault text offset = IsClean text × (IsStrayCloser text offset ⊎ IsNestedOpener text offset ⊎ IsUnclosed text offset)
+IsCommentFault text offset = IsClean text × StopsAt text (runs text) offset
 
 -- what a fault says of the text
 abbrev pub IsLexFault : List ℕ → LexFault → Type 0

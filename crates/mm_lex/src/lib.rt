@@ -1,17 +1,26 @@
 //! The lowest layer: the tokens of a Metamath text, and lists of words.
 //!
 //! `tokens` gives the places of a text's tokens, its comments taken out. `Word` and `Words` keep
-//! words compactly. Reading order: `span`, `fault`, `word`, `words`, `reading`, `scan`.
+//! words compactly. Reading order: `span`, `fault`, `run`, `comment`, `scan`; `word`, `words`,
+//! `reading`; `laws`.
 #![tactic(auto)]
 
+mod comment;
 mod fault;
+mod laws;
 mod reading;
+mod run;
+mod scan;
 mod span;
+#[cfg(test)]
+mod tests;
 mod word;
 mod words;
 
 pub use fault::LexFault;
+pub use laws::{one_answer, one_cut};
 pub use reading::WordIter;
+pub use scan::tokens;
 pub use span::Span;
 pub use word::Word;
 pub use words::Words;

@@ -1,7 +1,7 @@
 //! The words of a list, one after another.
 ghost use Rattle.std.specs.Prelude.{◌≡◌, ◌==◌, ◌<◌, ◌∷◌, length, IfSome};
 ghost use Rattle.std.specs.List.{position};
-ghost use Rattle.mm_lex.specs.Words.{words_of, AreWords};
+ghost use Rattle.mm_lex.specs.Words.{spaced, words_of, AreWords};
 
 use std::marker::Model;
 
@@ -29,6 +29,14 @@ impl<'a> WordIter<'a> {
     {
         WordIter { text }
     }
+
+    /// The words that are left, with one space between two.
+    pub fn as_text(&self) -> &'a [u8]
+        ensures text { result.now ≡ spaced self.now }
+        ensures words { AreWords self.now }
+    {
+        self.text
+    }
 }
 
 impl<'a> Iterator for WordIter<'a> {
@@ -45,7 +53,7 @@ impl<'a> Iterator for WordIter<'a> {
             return None;
         }
         let (word, rest) = split_word(self.text);
-        self.text = rest;
+        *self = WordIter { text: rest };
         Some(word)
     }
 }

@@ -1,0 +1,202 @@
+-- How far the code has read: what the scan of the whole text gives, by what is left of it.
+use Rattle.std.specs.Prelude.{◌≡◌, ℕ, ◌-◌, ◌<◌, ◌≤◌, suc, zero, Bool, true, false, not, cond, ◌||◌, List, [], ◌∷◌, ◌++◌, length, take, drop, Some, None, Ok, Err, refl}
+use Rattle.std.specs.List.{list_all, All}
+use Rattle.std.proofs.Common.{sym, ◌∙◌, ap, arith, append_assoc, true≢false, min}
+use Rattle.std.proofs.lemmas.List.{append-nil, length-take, length-drop}
+use Rattle.std.proofs.lemmas.List.Elements.{All-push}
+use Rattle.std.proofs.lemmas.Slice.Eq.{bytes_eq-Decides}
+use Rattle.mm_lex.specs.declared.span.Span.{Span}
+use Rattle.mm_lex.specs.Alphabet.{Name, is_white, is_visible, is_allowed, runs, word, IsRunAt}
+use Rattle.mm_lex.specs.Words.{is_word}
+use Rattle.mm_lex.specs.Tokens.{opener, closer, is_plain, AllPlain, IsClean, AreTokens, IsWordAt}
+use Rattle.mm_lex.specs.Faults.{IsCommentFault}
+use Rattle.mm_lex.specs.Comments.{runs_behind, IsClosedAt, IsNestedAt}
+use Rattle.mm_lex.proofs.WordsLemmas.{and_left, and_right}
+use Rattle.mm_lex.proofs.Cutting.{Outcome, prepend, prepend-append, scan, opens, closes, scan_opener, scan_closer, scan_plain, scan_nested, scan_closing, scan_all_inside, is_opener, is_closer, closer_no_opener, scan-stops}
+use Rattle.mm_lex.proofs.CuttingMeans.{cut-scan, stops-scan, plain, and_both}
+
+-- ---- a run of a clean text is a word
+
+list_all-take : (p : ℕ → Bool) (n : ℕ) (xs : List ℕ) → list_all p xs ≡ true → list_all p (take n xs) ≡ true
+list_all-take p zero xs h = refl
+list_all-take p (suc n) [] h = refl
+list_all-take p (suc n) (x ∷ xs) h = and_both (p x) _ (and_left (p x) _ h) (list_all-take p n xs (and_right (p x) _ h))
+
+list_all-drop : (p : ℕ → Bool) (n : ℕ) (xs : List ℕ) → list_all p xs ≡ true → list_all p (drop n xs) ≡ true
+list_all-drop p zero xs h = h
+list_all-drop p (suc n) [] h = refl
+list_all-drop p (suc n) (x ∷ xs) h = list_all-drop p n xs (and_right (p x) _ h)
+
+visible_byte : (v w : Bool) → (v || w) ≡ true → not w ≡ true → v ≡ true
+visible_byte true w h k = refl
+visible_byte false true h k = cc
+visible_byte false false h k = cc
+
+all_visible : (bytes : Name) → list_all is_allowed bytes ≡ true → list_all (λ b. not (is_white b)) bytes ≡ true → list_all is_visible bytes ≡ true
+all_visible [] h k = refl
+all_visible (b ∷ bytes) h k =
+    and_both (is_visible b) _ (visible_byte (is_visible b) (is_white b) (and_left (is_allowed b) _ h) (and_left (not (is_white b)) _ k))
+    (all_visible bytes (and_right (is_allowed b) _ h) (and_right (not (is_white b)) _ k))
+
+some_word : (bytes : Name) → 0 < length bytes → list_all is_visible bytes ≡ true → is_word bytes ≡ true
+some_word [] some h = absurd (omega (arith, some))
+some_word (b ∷ bytes) some h = h
+
+pub IsWordAt-run : (text : List ℕ) (s : Span) → IsClean text → IsRunAt text s → IsWordAt text s
+IsWordAt-run text s clean is =
+    let long : length (word text s) ≡ min (s.end - s.start) (length text - s.start) = length-take (s.end - s.start) (drop s.start text) ∙ ap (min (s.end - s.start)) (length-drop s.start text) in
+    let some : 0 < length (word text s) = omega (arith, long, is.some, is.within) in
+    record {
+      some = is.some;
+      within = is.within;
+      word = some_word (word text s) some (all_visible (word text s) (list_all-take is_allowed (s.end - s.start) (drop s.start text) (list_all-drop is_allowed s.start text clean)) is.visible);
+    }
+
+-- ---- inside of a comment
+
+pub record Inside (text : List ℕ) (from at : ℕ) : Type 0 where
+  pub passed : List Span
+  pub later : from ≤ at
+  pub within : at ≤ length text
+  pub whole : runs_behind text from ≡ passed ++ runs_behind text at
+  pub plain : AllPlain text passed
+
+pub inside_start : (text : List ℕ) (from : ℕ) → from ≤ length text → Inside text from from
+inside_start text from within = record { passed = []; later = omega arith; within = within; whole = refl; plain = refl }
+
+all_plain-push : (text : List ℕ) (xs : List Span) (s : Span) → AllPlain text xs → is_plain (word text s) ≡ true → AllPlain text (xs ++ s ∷ [])
+all_plain-push text [] s h k = and_both _ _ k refl
+all_plain-push text (x ∷ xs) s h k = and_both (is_plain (word text x)) _ (and_left (is_plain (word text x)) _ h) (all_plain-push text xs s (and_right (is_plain (word text x)) _ h) k)
+
+module _ {text : List ℕ} {from at : ℕ} (so : Inside text from at) where
+  module _ (s : Span) (run : runs_behind text at ≡ s ∷ runs_behind text s.end) (is : IsRunAt text s) (later : at ≤ s.start) where
+    inside_whole : runs_behind text from ≡ so.passed ++ s ∷ runs_behind text s.end
+    inside_whole = so.whole ∙ ap (λ r. so.passed ++ r) run
+
+    pub inside_closed : word text s ≡ closer → IsClosedAt text from s.end
+    inside_closed closes = record {
+      inside = so.passed;
+      at = s;
+      later = omega (arith, so.later, later, is.some);
+      within = is.within;
+      whole = inside_whole;
+      plain = so.plain;
+      closes = closes;
+    }
+
+    pub inside_nested : word text s ≡ opener → IsNestedAt text from s.start
+    inside_nested opens = record {
+      inside = so.passed;
+      at = s;
+      rest = runs_behind text s.end;
+      whole = inside_whole;
+      plain = so.plain;
+      opens_again = opens;
+      place = refl;
+    }
+
+    pub inside_more : is_plain (word text s) ≡ true → Inside text from s.end
+    inside_more is_plain = record {
+      passed = so.passed ++ s ∷ [];
+      later = omega (arith, so.later, later, is.some);
+      within = is.within;
+      whole = inside_whole ∙ sym (append_assoc so.passed (s ∷ []) (runs_behind text s.end));
+      plain = all_plain-push text so.passed s so.plain is_plain;
+    }
+
+  pub inside_unclosed : runs_behind text at ≡ [] → AllPlain text (runs_behind text from)
+  inside_unclosed none = rw (so.whole ∙ (ap (λ r. so.passed ++ r) none ∙ append-nil so.passed)) so.plain
+
+-- ---- outside of comments
+
+pub record Cut (text : List ℕ) (spans : List Span) (refused : Bool) (at : ℕ) : Type 0 where
+  pub tokens : List Span
+  pub within : at ≤ length text
+  pub whole : scan text (runs text) None ≡ prepend tokens (scan text (runs_behind text at) None)
+  pub kept : refused ≡ false → spans ≡ tokens
+  pub words : All (IsWordAt text) spans
+
+runs_start : (text : List ℕ) → runs_behind text 0 ≡ runs text
+runs_start text = refl
+
+pub cut_start : (text : List ℕ) → Cut text [] false 0
+cut_start text = record { tokens = []; within = omega arith; whole = sym (prepend-none (scan text (runs text) None)); kept = λ e. refl; words = λ k d h. absurd (omega (arith, h)) }
+  where
+    prepend-none : (r : Outcome) → prepend [] r ≡ r
+    prepend-none (Ok rest) = refl
+    prepend-none (Err offset) = refl
+
+kept_push : (refused r : Bool) (spans tokens : List Span) (s : Span) → (refused ≡ false → spans ≡ tokens) → (refused ≡ true → r ≡ true)
+    → r ≡ false → cond r spans (spans ++ s ∷ []) ≡ tokens ++ s ∷ []
+kept_push true r spans tokens s kept stays e = absurd (true≢false (sym (stays refl) ∙ e))
+kept_push false r spans tokens s kept stays e = rw e (ap (λ t. t ++ s ∷ []) (kept refl))
+
+words_push : (text : List ℕ) (r : Bool) (spans : List Span) (s : Span) → All (IsWordAt text) spans → IsWordAt text s → All (IsWordAt text) (cond r spans (spans ++ s ∷ []))
+words_push text true spans s are is = are
+words_push text false spans s are is = All-push (IsWordAt text) spans s are is
+
+module _ {text : List ℕ} {spans : List Span} {refused : Bool} {at : ℕ} (so : Cut text spans refused at) where
+  module _ (s : Span) (run : runs_behind text at ≡ s ∷ runs_behind text s.end) where
+    here : scan text (runs text) None ≡ prepend so.tokens (scan text (s ∷ runs_behind text s.end) None)
+    here = so.whole ∙ ap (λ r. prepend so.tokens (scan text r None)) run
+
+    -- a token more
+    pub cut_more : IsClean text → IsRunAt text s → opens text s ≡ false → closes text s ≡ false
+        → (new : List Span) (r : Bool) → new ≡ cond r spans (spans ++ s ∷ []) → (refused ≡ true → r ≡ true) → Cut text new r s.end
+    cut_more clean is unopened unclosed new r e stays = record {
+      tokens = so.tokens ++ s ∷ [];
+      within = is.within;
+      whole = here ∙ (ap (prepend so.tokens) (scan_plain text s (runs_behind text s.end) unopened unclosed) ∙ prepend-append so.tokens (s ∷ []) (scan text (runs_behind text s.end) None));
+      kept = λ f. e ∙ kept_push refused r spans so.tokens s so.kept stays f;
+      words = rw e (words_push text r spans s so.words (IsWordAt-run text s clean is));
+    }
+
+    pub stops_closer : closes text s ≡ true → scan text (runs text) None ≡ Err s.start
+    stops_closer closed =
+        let unopened = closer_no_opener text s ((bytes_eq-Decides _ _).0 closed) in
+        here ∙ ap (prepend so.tokens) (scan_closer text s (runs_behind text s.end) unopened closed)
+
+    module _ (yes : opens text s ≡ true) where
+      opened : scan text (runs text) None ≡ prepend so.tokens (scan text (runs_behind text s.end) (Some s.start))
+      opened = here ∙ ap (prepend so.tokens) (scan_opener text s (runs_behind text s.end) yes)
+
+      -- a comment is passed over
+      pub cut_comment : (end : ℕ) → IsClosedAt text s.end end → Cut text spans refused end
+      cut_comment end is = record {
+        tokens = so.tokens;
+        within = is.within;
+        whole = opened ∙ ap (prepend so.tokens) (ap (λ r. scan text r (Some s.start)) is.whole
+            ∙ (scan_all_inside text is.inside (is.at ∷ runs_behind text end) s.start is.plain
+            ∙ scan_closing text is.at (runs_behind text end) s.start (closer_no_opener text is.at is.closes) (is_closer text is.at is.closes)));
+        kept = so.kept;
+        words = so.words;
+      }
+
+      pub stops_nested : (offset : ℕ) → IsNestedAt text s.end offset → scan text (runs text) None ≡ Err offset
+      stops_nested offset is =
+          opened ∙ (ap (prepend so.tokens) (ap (λ r. scan text r (Some s.start)) is.whole
+          ∙ (scan_all_inside text is.inside (is.at ∷ is.rest) s.start is.plain
+          ∙ scan_nested text is.at is.rest s.start (is_opener text is.at is.opens_again)))
+          ∙ ap Err is.place)
+
+      pub stops_unclosed : AllPlain text (runs_behind text s.end) → scan text (runs text) None ≡ Err s.start
+      stops_unclosed plain =
+          opened ∙ ap (prepend so.tokens) (ap (λ r. scan text r (Some s.start)) (sym (append-nil (runs_behind text s.end)))
+          ∙ scan_all_inside text (runs_behind text s.end) [] s.start plain)
+
+  pub cut_end : runs_behind text at ≡ [] → scan text (runs text) None ≡ Ok so.tokens
+  cut_end none = so.whole ∙ (ap (λ r. prepend so.tokens (scan text r None)) none ∙ ap Ok (append-nil so.tokens))
+
+-- ---- what the code may then answer
+
+pub AreTokens-scan : (text : List ℕ) (tokens : List Span) → IsClean text → scan text (runs text) None ≡ Ok tokens → AreTokens text tokens
+AreTokens-scan text tokens clean e = (clean, cut-scan text (runs text) tokens e)
+
+pub IsCommentFault-scan : (text : List ℕ) (offset : ℕ) → IsClean text → scan text (runs text) None ≡ Err offset → IsCommentFault text offset
+IsCommentFault-scan text offset clean e = (clean, stops-scan text (runs text) offset e)
+
+pub same_fault : (text : List ℕ) (a b : ℕ) → scan text (runs text) None ≡ Err a → IsCommentFault text b → a ≡ b
+same_fault text a b e is = let f = scan-stops text (runs text) b is.1 in cc
+
+pub no_fault : (text : List ℕ) (tokens : List Span) (offset : ℕ) → scan text (runs text) None ≡ Ok tokens → IsCommentFault text offset → ⊥
+no_fault text tokens offset e is = let f = scan-stops text (runs text) offset is.1 in cc

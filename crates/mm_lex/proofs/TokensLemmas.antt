@@ -1,0 +1,35 @@
+-- A text has exactly one of tokens, text fault and comment fault.
+use Rattle.std.specs.Prelude.{◌≡◌, ℕ, List, Option, Some, None, Ok, Err, refl}
+use Rattle.std.specs.List.{position}
+use Rattle.std.proofs.Common.{sym, inl, inr}
+use Rattle.mm_lex.specs.declared.span.Span.{Span}
+use Rattle.mm_lex.specs.Alphabet.{runs}
+use Rattle.mm_lex.specs.Tokens.{IsClean, Cuts, AreTokens}
+use Rattle.mm_lex.specs.Faults.{IsCommentFault}
+use Rattle.mm_lex.specs.Laws.{SomeAnswer}
+use Rattle.mm_lex.proofs.Cutting.{Outcome, scan, scan-cut, scan-stops}
+use Rattle.mm_lex.proofs.Progress.{AreTokens-scan, IsCommentFault-scan, same_fault, no_fault}
+use Rattle.mm_lex.proofs.FaultsLemmas.{is_bad, IsFirstBadByte-found, IsClean-none}
+
+pub Cuts-unique : (text : List ℕ) (spans a b : List Span) → Cuts text spans a → Cuts text spans b → a ≡ b
+Cuts-unique text spans a b is also = let e = scan-cut text spans a is in let f = scan-cut text spans b also in cc
+
+pub AreTokens-unique : (text : List ℕ) (a b : List Span) → AreTokens text a → AreTokens text b → a ≡ b
+AreTokens-unique text a b is also = Cuts-unique text (runs text) a b is.1 also.1
+
+pub AreTokens-no_comment_fault : (text : List ℕ) (tokens : List Span) (offset : ℕ) → AreTokens text tokens → IsCommentFault text offset → ⊥
+AreTokens-no_comment_fault text tokens offset is fault = no_fault text tokens offset (scan-cut text (runs text) tokens is.1) fault
+
+pub IsCommentFault-unique : (text : List ℕ) (a b : ℕ) → IsCommentFault text a → IsCommentFault text b → a ≡ b
+IsCommentFault-unique text a b is also = same_fault text a b (scan-stops text (runs text) a is.1) also
+
+pub some_answer : (text : List ℕ) → SomeAnswer text
+some_answer text = by (position is_bad text) refl
+  where
+    clean_answer : (r : Outcome) → scan text (runs text) None ≡ r → IsClean text → SomeAnswer text
+    clean_answer (Ok tokens) e clean = inl (tokens, AreTokens-scan text tokens clean e)
+    clean_answer (Err offset) e clean = inr (inr (offset, IsCommentFault-scan text offset clean e))
+
+    by : (o : Option ℕ) → position is_bad text ≡ o → SomeAnswer text
+    by (Some offset) e = inr (inl (offset, IsFirstBadByte-found text offset (sym e)))
+    by None e = clean_answer (scan text (runs text) None) refl (IsClean-none text (sym e))

@@ -1,0 +1,24 @@
+use Rattle.std.proofs.Common.{◌∙◌, ap, Err}
+use Rattle.mm_lex.specs.declared.fault.LexFault.TheVariants.{Text}
+use Rattle.mm_lex.proofs.RunsLemmas.{found_at}
+use Rattle.mm_lex.proofs.FaultsLemmas.{is_bad, IsFirstBadByte-found, IsFirstBadByte-place, IsClean-none, IsClean-no_fault}
+use Rattle.mm_lex.proofs.scan.tokens.Goals as goal
+
+pub returns-in-Some-clause-text_fault : goal.returns-in-Some-clause-text_fault
+returns-in-Some-clause-text_fault c = λ offset is.
+    let here = found_at is_bad c.args.text.now c.in-Some.offset c.in-Some.ensures in
+    ap (λ at. Err (Text at)) (here.0 ∙ IsFirstBadByte-place c.args.text.now offset is)
+
+pub returns-in-Some-clause-comment_fault : goal.returns-in-Some-clause-comment_fault
+returns-in-Some-clause-comment_fault c = λ offset is.
+    absurd (IsClean-no_fault c.args.text.now c.in-Some.offset is.0 (IsFirstBadByte-found c.args.text.now c.in-Some.offset c.in-Some.ensures))
+
+pub returns-in-Some-clause-fault : goal.returns-in-Some-clause-fault
+returns-in-Some-clause-fault c = IsFirstBadByte-found c.args.text.now c.in-Some.offset c.in-Some.ensures
+
+pub cut-requires : goal.cut-requires
+cut-requires c = IsClean-none c.args.text.now c.in_default.ensures
+
+pub returns-clause-text_fault : goal.returns-clause-text_fault
+returns-clause-text_fault c = λ offset is.
+    absurd (IsClean-no_fault c.args.text.now offset (IsClean-none c.args.text.now c.in_default.ensures) is)

@@ -1,0 +1,38 @@
+-- Where the comment ends that is open at a place of the text.
+-- Source: Metamath, 4.1.2 (a comment runs to the next `$)`; comments do not nest).
+-- The code goes from one run to the next; here the runs behind the place are cut in one.
+use Rattle.std.specs.Prelude.{◌≡◌, ℕ, ◌<◌, ◌≤◌, List, ◌∷◌, ◌++◌, length, drop}
+use Rattle.mm_lex.specs.declared.span.Span.{Span}
+use Rattle.mm_lex.specs.declared.comment.CommentEnd.{CommentEnd}
+use Rattle.mm_lex.specs.declared.comment.CommentEnd.TheVariants.{Closed, Nested, Unclosed}
+use Rattle.mm_lex.specs.Alphabet.{runs_from, word}
+use Rattle.mm_lex.specs.Tokens.{opener, closer, AllPlain}
+
+-- the runs that begin at a place or behind it
+abbrev pub runs_behind : List ℕ → ℕ → List Span
+runs_behind text at = runs_from at (drop at text)
+
+-- the next `$)` ends here, and no `$(` stands before it
+pub record IsClosedAt (text : List ℕ) (from end : ℕ) : Type 0 where
+  pub inside : List Span
+  pub at : Span
+  pub later : from < end
+  pub within : end ≤ length text
+  pub whole : runs_behind text from ≡ inside ++ at ∷ runs_behind text end
+  pub plain : AllPlain text inside
+  pub closes : word text at ≡ closer
+
+-- a `$(` stands here, and no `$)` before it
+pub record IsNestedAt (text : List ℕ) (from offset : ℕ) : Type 0 where
+  pub inside : List Span
+  pub at : Span
+  pub rest : List Span
+  pub whole : runs_behind text from ≡ inside ++ at ∷ rest
+  pub plain : AllPlain text inside
+  pub opens_again : word text at ≡ opener
+  pub place : at.start ≡ offset
+
+abbrev pub EndsComment : List ℕ → ℕ → CommentEnd → Type 0
+EndsComment text from (Closed end) = IsClosedAt text from end
+EndsComment text from (Nested offset) = IsNestedAt text from offset
+EndsComment text from Unclosed = AllPlain text (runs_behind text from)

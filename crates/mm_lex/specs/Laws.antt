@@ -1,0 +1,26 @@
+-- Laws of tokens: the cut into comments is unique, and each text has exactly one of tokens, text fault, comment fault.
+-- Source: Metamath, 4.1.1 and 4.1.2.
+-- The code stands on the same definitions; these laws say that they leave it no choice.
+use Rattle.std.specs.Prelude.{◌≡◌, ℕ, ◌⊎◌, List}
+use Rattle.mm_lex.specs.declared.span.Span.{Span}
+use Rattle.mm_lex.specs.Tokens.{Cuts, AreTokens}
+use Rattle.mm_lex.specs.Faults.{IsFirstBadByte, IsCommentFault}
+
+-- two cuts of the same runs leave the same tokens, and have the same comments
+abbrev pub OneCut : Type 0
+OneCut = (text : List ℕ) (spans tokens others : List Span) (cut : Cuts text spans tokens) (other : Cuts text spans others)
+    → (tokens ≡ others) × (cut.first ≡ other.first) × (cut.parts ≡ other.parts)
+
+-- a text has tokens, or a text fault, or a comment fault; ..
+abbrev pub SomeAnswer : List ℕ → Type 0
+SomeAnswer text = ((tokens : List Span) × AreTokens text tokens) ⊎ ((offset : ℕ) × IsFirstBadByte text offset) ⊎ ((offset : ℕ) × IsCommentFault text offset)
+
+-- .. no two of these; and of each at most one
+pub record OneAnswer : Type 0 where
+  pub some : (text : List ℕ) → SomeAnswer text
+  pub tokens_or_text : (text : List ℕ) (tokens : List Span) (offset : ℕ) → AreTokens text tokens → IsFirstBadByte text offset → ⊥
+  pub tokens_or_comment : (text : List ℕ) (tokens : List Span) (offset : ℕ) → AreTokens text tokens → IsCommentFault text offset → ⊥
+  pub text_or_comment : (text : List ℕ) (a b : ℕ) → IsFirstBadByte text a → IsCommentFault text b → ⊥
+  pub one_list : (text : List ℕ) (tokens others : List Span) → AreTokens text tokens → AreTokens text others → tokens ≡ others
+  pub one_text_fault : (text : List ℕ) (a b : ℕ) → IsFirstBadByte text a → IsFirstBadByte text b → a ≡ b
+  pub one_comment_fault : (text : List ℕ) (a b : ℕ) → IsCommentFault text a → IsCommentFault text b → a ≡ b

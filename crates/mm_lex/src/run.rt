@@ -1,0 +1,70 @@
+//! The runs of visible bytes in a text, one after another.
+ghost use Rattle.std.specs.Prelude.{◌≡◌, ◌-◌, ◌<◌, ◌≤◌, [], ◌∷◌, ℕ, not, length, take, drop, MatchOption, IfSome, IsTrue, slice_index, IsFalse};
+ghost use Rattle.std.specs.List.{position, position_or_len};
+ghost use Rattle.mm_lex.specs.Alphabet.{is_white, runs_from, IsRunAt, name_eq};
+ghost use Rattle.mm_lex.specs.Tokens.{opener, closer};
+
+use crate::span::Span;
+
+/// The first run that begins at `at` or behind it.
+pub(crate) fn next_run(text: &[u8], at: usize) -> Option<Span>
+    requires { at ≤ length text.now }
+    ensures run { MatchOption result (runs_from at (drop at text.now) ≡ [])
+        (λ s. runs_from at (drop at text.now) ≡ s ∷ runs_from s.end (drop s.end text.now)) }
+    ensures place { IfSome result (λ s. IsRunAt text.now s) }
+    ensures later { IfSome result (λ s. at ≤ s.start) }
+{
+    let rest = &text[at..];
+    let white = count_white(rest);
+    if white == rest.len() {
+        return None;
+    }
+    let visible = count_visible(&rest[white..]);
+    let start = at + white;
+    Some(Span {
+        start,
+        end: start + visible,
+    })
+}
+
+/// How many white bytes a text begins with.
+fn count_white(text: &[u8]) -> usize
+    ensures count { result ≡ position_or_len (λ b. not (is_white b)) text.now }
+    ensures within { result ≤ length text.now }
+{
+    first_visible(text).unwrap_or(text.len())
+}
+
+fn first_visible(text: &[u8]) -> Option<usize>
+    ensures { result ≡ position (λ b. not (is_white b)) text.now }
+{
+    text.iter().position(|b| !b.is_ascii_whitespace())
+}
+
+/// How many bytes a text begins with that are not white.
+fn count_visible(text: &[u8]) -> usize
+    ensures count { result ≡ position_or_len is_white text.now }
+    ensures within { result ≤ length text.now }
+{
+    first_white(text).unwrap_or(text.len())
+}
+
+fn first_white(text: &[u8]) -> Option<usize>
+    ensures { result ≡ position is_white text.now }
+{
+    text.iter().position(|b| b.is_ascii_whitespace())
+}
+
+/// Whether the word begins a comment.
+pub(crate) fn is_opener(word: &[u8]) -> bool
+    ensures { result ≡ name_eq word.now opener }
+{
+    word == b"$(".as_slice()
+}
+
+/// Whether the word ends a comment.
+pub(crate) fn is_closer(word: &[u8]) -> bool
+    ensures { result ≡ name_eq word.now closer }
+{
+    word == b"$)".as_slice()
+}

@@ -1,0 +1,82 @@
+//! The tokens of a text: its runs outside comments.
+ghost use Rattle.std.specs.Prelude.{◌≡◌, ℕ, [], ◌∷◌, ◌++◌, not, if◌then◌else◌, IfOk, IfErr, IsTrue};
+ghost use Rattle.std.specs.List.{All, position};
+ghost use Rattle.mm_lex.specs.Alphabet.{is_allowed};
+ghost use Rattle.mm_lex.specs.Tokens.{AreTokens, IsClean, IsWordAt};
+ghost use Rattle.mm_lex.specs.Faults.{IsFirstBadByte, IsCommentFault, IsLexFault};
+
+use crate::comment::{CommentEnd, comment_end};
+use crate::fault::LexFault;
+use crate::run::{is_closer, is_opener, next_run};
+use crate::span::Span;
+use std::alloc::Global;
+
+/// The tokens of a text, in order, its comments taken out.
+///
+/// Errors: `Text`, the first byte that no text may have, also inside a comment; else `Comment`, the
+/// first token that breaks the rules of comments; else `Memory`. The first two are found however
+/// little memory there is. Cost: the size of the text.
+/// Source: Metamath, 4.1.1 and 4.1.2.
+pub fn tokens(alloc: Global, text: &[u8]) -> Result<Vec<Span>, LexFault>
+    ensures tokens { IfOk result (λ spans. AreTokens text.now spans.items) }
+    ensures words { IfOk result (λ spans. All (IsWordAt text.now) spans.items) }
+
+    // A fault is answered also where every growth is refused.
+    ensures text_fault { (offset : ℕ) → IsFirstBadByte text.now offset → result ≡ Err (LexFault.Text offset) }
+    ensures comment_fault { (offset : ℕ) → IsCommentFault text.now offset → result ≡ Err (LexFault.Comment offset) }
+    ensures fault { IfErr result (λ fault. IsLexFault text.now fault) }
+{
+    if let Some(offset) = first_bad_byte(text) {
+        return Err(LexFault::Text { offset });
+    }
+    cut(alloc, text)
+}
+
+/// The tokens of a text whose bytes are all allowed.
+fn cut(alloc: Global, text: &[u8]) -> Result<Vec<Span>, LexFault>
+    requires { IsClean text.now }
+    ensures tokens { IfOk result (λ spans. AreTokens text.now spans.items) }
+    ensures words { IfOk result (λ spans. All (IsWordAt text.now) spans.items) }
+    ensures comment_fault { (offset : ℕ) → IsCommentFault text.now offset → result ≡ Err (LexFault.Comment offset) }
+    ensures fault { IfErr result (λ fault. IsLexFault text.now fault) }
+{
+    let mut spans = Vec::new(alloc);
+    let mut refused = false;
+    let mut at = 0;
+    while let Some(span) = next_run(text, at) {
+        let word = &text[span.start..span.end];
+        if is_closer(word) {
+            return Err(LexFault::Comment { offset: span.start });
+        }
+        if is_opener(word) {
+            match comment_end(text, span.end) {
+                CommentEnd::Closed(end) => at = end,
+                CommentEnd::Nested(offset) => return Err(LexFault::Comment { offset }),
+                CommentEnd::Unclosed => return Err(LexFault::Comment { offset: span.start }),
+            }
+        } else {
+            refused = add_token(&mut spans, refused, span);
+            at = span.end;
+        }
+    }
+    if refused {
+        return Err(LexFault::Memory);
+    }
+    Ok(spans)
+}
+
+/// Adds a token, unless a growth was refused before; answers whether one was.
+fn add_token(spans: &mut Vec<Span>, refused: bool, span: Span) -> bool
+    ensures items { spans.new.items ≡ (if result then spans.old.items else spans.old.items ++ span ∷ []) }
+    ensures stays { IsTrue refused → IsTrue result }
+{
+    refused || spans.push(span).is_err()
+}
+
+/// The first byte that no text may have.
+fn first_bad_byte(text: &[u8]) -> Option<usize>
+    ensures { result ≡ position (λ b. not (is_allowed b)) text.now }
+{
+    text.iter()
+        .position(|b| !(b.is_ascii_graphic() || b.is_ascii_whitespace()))
+}
