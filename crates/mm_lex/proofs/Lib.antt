@@ -1,4 +1,5 @@
 pub mod WordsLemmas
+pub mod PushLemmas
 pub mod FaultsLemmas
 pub mod RunsLemmas
 pub mod Cutting

@@ -1,7 +1,7 @@
 -- Words at the end of a buffer.
-use Rattle.std.specs.Prelude.{◌≡◌, ℕ, ◌+◌, ◌-◌, Bool, true, false, not, cond, ◌&&◌, ◌==◌, List, [], ◌∷◌, ◌++◌, length, ◌<◌, suc, take, drop, count_by, nat_lt, Some, None, Result, Ok, Err, is_ok, is_err, OnOk, refl}
+use Rattle.std.specs.Prelude.{◌≡◌, ℕ, ◌+◌, ◌-◌, Bool, true, false, not, cond, ◌&&◌, ◌==◌, List, [], ◌∷◌, ◌++◌, length, ◌<◌, take, drop, count_by, nat_lt, Some, None, refl}
 use Rattle.std.specs.List.{list_all, slice_split, onto_first, position, position_or_len, before_first, after_first}
-use Rattle.std.proofs.Common.{sym, ◌∙◌, ap, arith, true≢false, append_assoc, ltb-true, ltb-false}
+use Rattle.std.proofs.Common.{sym, ◌∙◌, ap, arith, true≢false, ltb-true, ltb-false}
 use Rattle.std.proofs.lemmas.List.Splits.{join_with_byte-slice_split, slice_split_first, length-slice_split}
 use Rattle.std.proofs.lemmas.List.{length-drop}
 use Rattle.std.proofs.Math.Seq.{take-length}
@@ -77,57 +77,12 @@ pub AreWords-push : (ws : List Name) (w : Name) → list_all is_word ws ≡ true
 AreWords-push [] w h k = rw k refl
 AreWords-push (v ∷ ws) w h k = rw (and_left (is_word v) (list_all is_word ws) h) (AreWords-push ws w (and_right (is_word v) (list_all is_word ws) h) k)
 
--- ---- a word added to a buffer
-
-abbrev pub Next : List ℕ → List ℕ → List ℕ → Type 0
-Next text w new = (words_of new ≡ words_of text ++ w ∷ []) × (list_all is_word (words_of text) ≡ true → list_all is_word (words_of new) ≡ true)
-
-next : (text w new : List ℕ) → is_word w ≡ true → words_of new ≡ words_of text ++ w ∷ [] → Next text w new
-next text w new h e = (e, λ k. ap (list_all is_word) e ∙ AreWords-push (words_of text) w k h)
-
--- to an empty buffer
-pub next-first : (text w new : List ℕ) → is_word w ≡ true → text ≡ [] → new ≡ text ++ w → Next text w new
-next-first text w new h empty e =
-    next text w new h (ap words_of (e ∙ ap (λ r. r ++ w) empty) ∙ (words_of-one w h ∙ ap (λ r. words_of r ++ w ∷ []) (sym empty)))
-
--- to another
-pub next-more : (text w new : List ℕ) → is_word w ≡ true → 0 < length text → new ≡ text ++ 32 ∷ [] ++ w → Next text w new
-next-more [] w new h some e = absurd (no some)
-  where
-    no : 0 < 0 → ⊥
-    no k = omega (arith, k)
-next-more (b ∷ text) w new h some e = next (b ∷ text) w new h (ap words_of (e ∙ append_assoc (b ∷ text) (32 ∷ []) w) ∙ words_of-push b text w h)
-
-empty_by_len : (text : List ℕ) (len : ℕ) → len ≡ length text → true ≡ (len == 0) → text ≡ []
-empty_by_len [] len e h = refl
-empty_by_len (b ∷ text) len e h = absurd (no h e)
-  where
-    no : true ≡ (len == 0) → len ≡ suc (length text) → ⊥
-    no h e = grind (arith, h, e)
-
 pub some_by_len : (text : List ℕ) (len : ℕ) → len ≡ length text → false ≡ (len == 0) → 0 < length text
 some_by_len [] len e h = absurd (no h e)
   where
     no : false ≡ (len == 0) → len ≡ 0 → ⊥
     no h e = grind (arith, h, e)
 some_by_len (b ∷ text) len e h = omega arith
-
-module _ {A E : Type 0} (text w new : List ℕ) (len : ℕ) (long : len ≡ length text) (word : is_word w ≡ true) where
-  pub first-ok : (r : Result A E) → true ≡ (len == 0) → new ≡ cond (is_ok r) (text ++ w) text → OnOk r (words_of new ≡ words_of text ++ w ∷ [])
-  first-ok (Ok x) h e = (next-first text w new word (empty_by_len text len long h) e).0
-  first-ok (Err x) h e = tt
-
-  pub first-words : (r : Result A E) → list_all is_word (words_of text) ≡ true → true ≡ (len == 0) → new ≡ cond (is_ok r) (text ++ w) text → list_all is_word (words_of new) ≡ true
-  first-words (Ok x) k h e = (next-first text w new word (empty_by_len text len long h) e).1 k
-  first-words (Err x) k h e = ap (λ t. list_all is_word (words_of t)) e ∙ k
-
-  pub more-ok : (r : Result A E) (mid : List ℕ) → false ≡ (len == 0) → mid ≡ text ++ 32 ∷ [] → new ≡ cond (is_ok r) (mid ++ w) mid → false ≡ is_err r → OnOk r (words_of new ≡ words_of text ++ w ∷ [])
-  more-ok (Ok x) mid h m e o = (next-more text w new word (some_by_len text len long h) (e ∙ ap (λ t. t ++ w) m)).0
-  more-ok (Err x) mid h m e o = tt
-
-  pub more-words : (r : Result A E) (mid : List ℕ) → list_all is_word (words_of text) ≡ true → false ≡ (len == 0) → mid ≡ text ++ 32 ∷ [] → new ≡ cond (is_ok r) (mid ++ w) mid → false ≡ is_err r → list_all is_word (words_of new) ≡ true
-  more-words (Ok x) mid k h m e o = (next-more text w new word (some_by_len text len long h) (e ∙ ap (λ t. t ++ w) m)).1 k
-  more-words (Err x) mid k h m e o = cc
 
 -- ---- the words of a buffer, one after another
 

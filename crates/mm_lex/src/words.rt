@@ -47,7 +47,16 @@ impl Words {
         ensures ok { OnOk result (self.new ≡ self.old ++ word.now ∷ []) }
         ensures err { OnErr result (self.new ≡ self.old) }
     {
-        push_word(&mut self.text, word)
+        push_words(&mut self.text, word)
+    }
+
+    /// Adds the words of a text at the end, which has one space between two of them.
+    pub fn push_text(&mut self, text: &[u8]) -> Result<(), AllocError>
+        requires { AreWords (words_of text.now) }
+        ensures ok { OnOk result (self.new ≡ self.old ++ words_of text.now) }
+        ensures err { OnErr result (self.new ≡ self.old) }
+    {
+        push_words(&mut self.text, text)
     }
 
     /// The words, with one space between two.
@@ -89,20 +98,23 @@ impl Words {
     }
 }
 
-/// Adds a word behind the others.
-fn push_word(text: &mut Vec<u8>, word: &[u8]) -> Result<(), AllocError>
+/// Adds the words of another text behind the others.
+fn push_words(text: &mut Vec<u8>, more: &[u8]) -> Result<(), AllocError>
     requires words { AreWords (words_of text.old.items) }
-    requires word { IsTrue (is_word word.now) }
-    ensures ok { OnOk result (words_of text.new.items ≡ words_of text.old.items ++ word.now ∷ []) }
+    requires more { AreWords (words_of more.now) }
+    ensures ok { OnOk result (words_of text.new.items ≡ words_of text.old.items ++ words_of more.now) }
     ensures words { AreWords (words_of text.new.items) }
     ensures err { OnErr result (text.new.items ≡ text.old.items) }
 {
+    if more.is_empty() {
+        return Ok(());
+    }
     if text.is_empty() {
-        return text.extend_from_slice(word);
+        return text.extend_from_slice(more);
     }
     let len = text.len();
     text.push(b' ')?;
-    let added = text.extend_from_slice(word);
+    let added = text.extend_from_slice(more);
     if added.is_err() {
         text.truncate(len);
     }
