@@ -4,3 +4,8 @@ pub mod QuorumLemmas
 pub mod PromisePages
 pub mod ReportsLemmas
 pub mod KnownLemmas
+pub mod PostsLemmas
+pub mod PagesHadLemmas
+pub mod RecordLemmas
+pub mod StepKeeps
+pub mod NodeLemmas

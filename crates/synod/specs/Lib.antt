@@ -12,4 +12,7 @@ pub mod Learner
 pub mod Step
 pub mod Refusals
 pub mod Core
+pub mod PagesHad
 pub mod Plans
+pub mod Said
+pub mod Ready

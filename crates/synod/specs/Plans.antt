@@ -1,27 +1,15 @@
 -- What a step does to the proposer and to the learner, once it is ready.
 -- Source: this project's way of making a step ready, and then making it.
 -- The code moves these into the node, by no arithmetic and no growth.
-use Rattle.std.specs.Prelude.{ℕ, ◌<◌, ◌++◌, List, [], ◌∷◌, Option, Some, None, length, map, drop, slice_index_or, slice_set}
-use Rattle.slots.specs.FiniteMap.{SlotsView, put_at}
-use Rattle.synod.specs.declared.packet.Report.{Report}
+use Rattle.std.specs.Prelude.{◌<◌, ◌≤◌, ◌++◌, [], ◌∷◌, Option, Some, None, length, drop, slice_index_or}
+use Rattle.slots.specs.FiniteMap.{put_at}
 use Rattle.synod.specs.declared.proposer.Role.TheVariants.{Idle as RoleIdle, Preparing, Leading}
 use Rattle.synod.specs.declared.proposer.Proposal.{Proposal}
 use Rattle.synod.specs.declared.proposer.Proposal.TheVariants.{Wait, Propose, Begin, Page, Hear, Lead, Idle}
 use Rattle.synod.specs.declared.learner.Lesson.{Lesson}
 use Rattle.synod.specs.declared.learner.Lesson.TheVariants.{Count, Choose, Learn}
 use Rattle.synod.specs.Core.{Proposing, ProposerView, Learning, LearnerView}
-use Rattle.synod.specs.Node.{pages_from}
-
--- the entries of several maps
-abbrev pub entries_of : {T : Type 0} → List (SlotsView T) → List (List (Option T))
-entries_of maps = map (λ m. m.entries) maps
-
-abbrev pub rooms_of : {T : Type 0} → List (SlotsView T) → List ℕ
-rooms_of maps = map (λ m. m.room) maps
-
--- a page is put into a map of pages
-abbrev pub put_page : {V : Type 0} → List (List (Option (List (Report V)))) → ℕ → ℕ → List (Report V) → List (List (Option (List (Report V))))
-put_page pages k i reports = slice_set pages k (put_at (pages_from pages k) i reports)
+use Rattle.synod.specs.PagesHad.{entries_of, put_page}
 
 abbrev pub proposed : {V : Type 0} → Proposing V → Option (Proposal V) → Proposing V
 proposed p None = p
@@ -40,7 +28,7 @@ HasRoomToPropose p (Some (Propose b next)) = Unit {0}
 HasRoomToPropose p (Some (Begin b first pages)) = Unit {0}
 HasRoomToPropose p (Some (Page k i reports)) = i < slice_index_or p.page_rooms k 0
 HasRoomToPropose p (Some (Hear h)) = length p.state.heard < p.heard_room
-HasRoomToPropose p (Some (Lead b next taken)) = Unit {0}
+HasRoomToPropose p (Some (Lead b next taken)) = taken ≤ length p.state.waiting
 HasRoomToPropose p (Some Idle) = Unit {0}
 
 abbrev pub taught : {V : Type 0} → Learning V → Option (Lesson V) → Learning V

@@ -11,7 +11,7 @@ use Rattle.synod.specs.declared.packet.Body.TheVariants.{Prepare, Promise, Accep
 use Rattle.synod.specs.declared.proposer.Role.{Role}
 use Rattle.synod.specs.declared.proposer.Role.TheVariants.{Idle, Preparing, Leading}
 use Rattle.synod.specs.Weights.{IsWeights}
-use Rattle.synod.specs.Packets.{IsReport, to_others}
+use Rattle.synod.specs.Packets.{IsReport, IsPost, to_others}
 use Rattle.synod.specs.Record.{Kept}
 use Rattle.synod.specs.Node.{Node, Stepped, kept_of, rest_of}
 use Rattle.synod.specs.Acceptor.{on_prepare, on_accept}
@@ -57,3 +57,8 @@ pub record IsNode {V : Type 0} (n : Node V) : Type 0 where
   pub learned : length n.learned ≤ SLOTS
   pub role : IsRole n.role
   pub pages : AllByRecursion (AllByRecursion ArePages) n.pages
+
+-- the step leaves a node, and posts packets for the nodes
+pub record Keeps {V : Type 0} (nodes : ℕ) (step : Stepped V) : Type 0 where
+  pub node : IsNode step.node
+  pub posts : AllByRecursion (IsPost nodes) step.posts

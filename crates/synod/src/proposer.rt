@@ -3,7 +3,7 @@ ghost use Rattle.std.specs.Prelude.{◌≡◌, ◌<◌, ◌≤◌, OnOk, IfOk, l
 
 use crate::ballot::Ballot;
 use crate::packet::Reports;
-use slots::Slots;
+use crate::pages::PagesHad;
 use std::alloc::{AllocError, Global};
 use std::marker::Model;
 
@@ -28,22 +28,6 @@ pub enum Role {
 pub struct Heard {
     pub node: u8,
     pub count: u32,
-}
-
-/// The pages had, by node and then by page, from 0.
-#[derive(Drop)]
-pub struct PagesHad<V> {
-    by_node: Vec<Slots<Reports<V>>>,
-}
-
-impl<V> Model for PagesHad<V> {
-    ghost use Rattle.std.specs.Prelude.{List};
-    ghost use Rattle.slots.specs.FiniteMap.{SlotsView};
-    ghost use Rattle.synod.specs.declared.packet.Report.{Report};
-
-    ghost Value = { List (SlotsView (List (Report V))) };
-
-    ghost view = { λ p. p.by_node.items };
 }
 
 /// What a step makes a proposer do.
@@ -93,7 +77,7 @@ pub struct Proposer<V> {
 impl<V> Model for Proposer<V> {
     ghost use Rattle.std.specs.Prelude.{vec_capacity};
     ghost use Rattle.synod.specs.Core.{ProposerView};
-    ghost use Rattle.synod.specs.Plans.{entries_of, rooms_of};
+    ghost use Rattle.synod.specs.PagesHad.{entries_of, rooms_of};
 
     ghost Value = { ProposerView V };
 
@@ -103,4 +87,107 @@ impl<V> Model for Proposer<V> {
       heard_room = vec_capacity p.heard;
       waiting_room = vec_capacity p.waiting;
     } };
+}
+
+impl<V: Drop> Proposer<V> {
+    ghost use Rattle.std.specs.Prelude.{[]};
+    ghost use Rattle.synod.specs.declared.proposer.Role.TheVariants.{Idle};
+    ghost use Rattle.synod.specs.Plans.{proposed, HasRoomToPropose};
+
+    /// At no ballot, with nothing heard and nothing waiting. It takes no memory.
+    pub(crate) fn new(alloc: Global) -> Self
+        ensures role { result.state.role ≡ Idle }
+        ensures pages { result.state.pages ≡ [] }
+        ensures heard { result.state.heard ≡ [] }
+        ensures waiting { result.state.waiting ≡ [] }
+    {
+        Proposer {
+            alloc,
+            role: Role::Idle,
+            pages: PagesHad::none(alloc),
+            heard: Vec::new(alloc),
+            waiting: Vec::new(alloc),
+        }
+    }
+
+    /// Its role.
+    pub(crate) fn role(&self) -> Role
+        ensures { result ≡ self.now.state.role }
+    {
+        self.role
+    }
+
+    /// What waits, the first in first.
+    pub(crate) fn waiting(&self) -> &[V]
+        ensures { result.now ≡ self.now.state.waiting }
+    {
+        self.waiting.as_slice()
+    }
+
+    /// The nodes heard, the first heard first.
+    pub(crate) fn heard(&self) -> &[Heard]
+        ensures { result.now ≡ self.now.state.heard }
+    {
+        self.heard.as_slice()
+    }
+
+    /// Makes room for a value that waits.
+    pub(crate) fn room_to_wait(&mut self) -> Result<(), AllocError>
+        ensures ok { OnOk result (length self.new.state.waiting < self.new.waiting_room) }
+        ensures state { self.new.state ≡ self.old.state }
+    {
+        self.waiting.reserve(1)
+    }
+
+    /// Makes room for a node that is heard.
+    pub(crate) fn room_to_hear(&mut self) -> Result<(), AllocError>
+        ensures ok { OnOk result (length self.new.state.heard < self.new.heard_room) }
+        ensures state { self.new.state ≡ self.old.state }
+    {
+        self.heard.reserve(1)
+    }
+
+    /// Does what is proposed, if anything is. It takes no memory.
+    pub(crate) fn propose(&mut self, proposal: Option<Proposal<V>>)
+        requires { HasRoomToPropose self.old proposal }
+        ensures { self.new.state ≡ proposed self.old.state proposal }
+    {
+        match proposal {
+            Some(Proposal::Wait(value)) => self.waiting.push_reserved(value),
+            Some(Proposal::Propose { ballot, next }) => self.role = Role::Leading { ballot, next },
+            Some(
+                Proposal::Begin {
+                    ballot,
+                    first,
+                    pages,
+                },
+            ) => {
+                self.role = Role::Preparing { ballot, first };
+                self.pages = pages;
+                self.heard.clear();
+            }
+            Some(
+                Proposal::Page {
+                    node,
+                    page,
+                    reports,
+                },
+            ) => self.pages.put(node, page, reports),
+            Some(Proposal::Hear(heard)) => self.heard.push_reserved(heard),
+            Some(
+                Proposal::Lead {
+                    ballot,
+                    next,
+                    taken,
+                },
+            ) => {
+                self.role = Role::Leading { ballot, next };
+                self.pages = PagesHad::none(self.alloc);
+                self.heard.clear();
+                self.waiting.drain(..taken);
+            }
+            Some(Proposal::Idle) => self.role = Role::Idle,
+            None => {}
+        }
+    }
 }

@@ -1,0 +1,30 @@
+-- What a node keeps, told of what contracts see of it.
+use Rattle.std.proofs.Common.{◌≡◌, ℕ, ◌^◌, ◌<◌, nat_lt, Bool, true, List, length, Result, Ok, Err, subst, sym, ap, arith, if◌then◌else◌}
+use Rattle.std.proofs.lemmas.Bool.Decides.{nat_tests}
+use Rattle.std.specs.List.{AllByRecursion}
+use Rattle.synod.specs.declared.refusal.Refusal.{Refusal}
+use Rattle.synod.specs.declared.refusal.Refusal.TheVariants.{RoundsSpent}
+use Rattle.synod.specs.Packets.{IsPost}
+use Rattle.synod.specs.Node.{Node, Stepped}
+use Rattle.synod.specs.Record.{RecordView}
+use Rattle.synod.specs.Core.{Core, ProposerView, LearnerView, core_of, assembled}
+use Rattle.synod.specs.Proposer.{begun, begins, next_round}
+use Rattle.synod.specs.Step.{IsNode, Keeps}
+use Rattle.synod.proofs.StepKeeps.{KeepsOnOk, keeps_begun}
+
+-- the parts of a node make a node
+pub node_of_parts : {V : Type 0} (me : ℕ) (weights : List ℕ) (r : RecordView V) (p : ProposerView V) (l : LearnerView V) (core : Core V) → core_of me weights r p l ≡ core → IsNode (assembled me weights r.kept p.state l.state) → IsNode core.node
+node_of_parts {V} me weights r p l core is node = subst (λ (c : Core V). IsNode c.node) is node
+
+below : (a b : ℕ) → a < b → nat_lt a b ≡ true
+below a b h = grind (arith, nat_tests)
+
+pub begins_keeps : {V : Type 0} (n : Node V) → IsNode n → next_round n < 2 ^ 64 → Keeps (length n.weights) (begins n)
+begins_keeps {V} n is low =
+    let P : Result (Stepped V) Refusal → Type 0 = λ r. KeepsOnOk (length n.weights) r in
+    let e : begun n ≡ Ok (begins n) = ap (λ (b : Bool). if b then Ok (begins n) else Err RoundsSpent) (below (next_round n) (2 ^ 64) low) in
+    subst P e (keeps_begun n is)
+
+-- the posts of a step that is made
+pub posts_kept : {V : Type 0} (nodes : ℕ) (step made : Stepped V) → made ≡ step → Keeps nodes step → AllByRecursion (IsPost nodes) made.posts
+posts_kept {V} nodes step made is keeps = subst (λ (s : Stepped V). AllByRecursion (IsPost nodes) s.posts) (sym is) keeps.posts

@@ -1,0 +1,10 @@
+use Rattle.std.proofs.Common.{◌≡◌, ◌++◌, drop}
+use Rattle.synod.specs.Packets.{to_others, to_others_from}
+use Rattle.synod.specs.Said.{body_of}
+use Rattle.synod.proofs.posts.post_to_others.Given as goal
+
+abbrev pub invariant-loop-place : goal.invariant-loop-place
+invariant-loop-place g l = record {
+  to : l.to ≡ l._place-index;
+  posts : l.posts.items ++ to_others_from l.fn.me (body_of l.said) l._place-index (drop l._place-index l.places) ≡ l.initial.posts.items ++ to_others l.fn.me l.places (body_of l.said);
+}

@@ -1,0 +1,18 @@
+-- The pages had, as the maps that keep them.
+-- Source: this project's own way of keeping them.
+-- The code keeps a map of pages for each node, with its room.
+use Rattle.std.specs.Prelude.{ℕ, List, Option, map, slice_set}
+use Rattle.slots.specs.FiniteMap.{SlotsView, put_at}
+use Rattle.synod.specs.declared.packet.Report.{Report}
+use Rattle.synod.specs.Node.{pages_from}
+
+-- the entries of several maps
+abbrev pub entries_of : {T : Type 0} → List (SlotsView T) → List (List (Option T))
+entries_of maps = map (λ m. m.entries) maps
+
+abbrev pub rooms_of : {T : Type 0} → List (SlotsView T) → List ℕ
+rooms_of maps = map (λ m. m.room) maps
+
+-- a page is put into the map of its node
+abbrev pub put_page : {V : Type 0} → List (List (Option (List (Report V)))) → ℕ → ℕ → List (Report V) → List (List (Option (List (Report V))))
+put_page pages k i reports = slice_set pages k (put_at (pages_from pages k) i reports)

@@ -1,0 +1,99 @@
+//! The pages of promises that a proposer has, by node and then by page, from 0.
+ghost use Rattle.std.specs.Prelude.{◌≡◌, ◌<◌, ◌≤◌, OnOk, IfOk, Some, None, MatchOption, length, slice_index_or};
+ghost use Rattle.slots.specs.declared.slots.TheConstants.{SLOTS};
+ghost use Rattle.slots.specs.FiniteMap.{entry_at, front_of};
+ghost use Rattle.synod.specs.Node.{no_pages, pages_from, page_of};
+ghost use Rattle.synod.specs.PagesHad.{entries_of, rooms_of, put_page};
+
+use crate::packet::Reports;
+use crate::weights::Weights;
+use slots::Slots;
+use std::alloc::{AllocError, Global};
+use std::marker::Model;
+
+/// The pages had: a finite map for each node.
+#[derive(Drop)]
+pub struct PagesHad<V> {
+    by_node: Vec<Slots<Reports<V>>>,
+}
+
+impl<V> Model for PagesHad<V> {
+    ghost use Rattle.std.specs.Prelude.{List};
+    ghost use Rattle.slots.specs.FiniteMap.{SlotsView};
+    ghost use Rattle.synod.specs.declared.packet.Report.{Report};
+
+    ghost Value = { List (SlotsView (List (Report V))) };
+
+    ghost view = { λ p. p.by_node.items };
+}
+
+impl<V: Drop> PagesHad<V> {
+    ghost use Rattle.std.specs.Prelude.{[]};
+
+    /// No pages, and no room for one. It takes no memory.
+    pub(crate) fn none(alloc: Global) -> Self
+        ensures { result ≡ [] }
+    {
+        PagesHad {
+            by_node: Vec::new(alloc),
+        }
+    }
+
+    /// No page was had of any node.
+    pub(crate) fn of_nodes(alloc: Global, weights: &Weights) -> Result<Self, AllocError>
+        ensures { IfOk result (λ pages. entries_of pages ≡ no_pages weights.now) }
+    {
+        let mut by_node = Vec::new(alloc);
+        for _weight in weights.as_slice() {
+            by_node.push(Slots::new(alloc))?;
+        }
+        Ok(PagesHad { by_node })
+    }
+
+    /// Makes room for a page. The pages stay.
+    pub(crate) fn room(&mut self, node: u8, page: u32) -> Result<(), AllocError>
+        requires node { node < length self.old }
+        requires page { page < SLOTS }
+        ensures ok { OnOk result (page < slice_index_or (rooms_of self.new) node 0) }
+        ensures pages { entries_of self.new ≡ entries_of self.old }
+    {
+        let pages = &mut self.by_node[node as usize];
+        pages.room(page)
+    }
+
+    /// Puts a page. It takes no memory.
+    pub(crate) fn put(&mut self, node: u8, page: u32, reports: Reports<V>)
+        requires { page < slice_index_or (rooms_of self.old) node 0 }
+        ensures { entries_of self.new ≡ put_page (entries_of self.old) node page reports }
+    {
+        let pages = &mut self.by_node[node as usize];
+        pages.put(page, reports);
+    }
+
+    /// The page of a node, where it was had.
+    pub(crate) fn get(&self, node: u8, page: u32) -> Option<&Reports<V>>
+        ensures { MatchOption result (page_of (entries_of self.now) node page ≡ None) (λ reports. page_of (entries_of self.now) node page ≡ Some reports.now) }
+    {
+        match self.by_node.get(node as usize) {
+            Some(pages) => pages.get(page),
+            None => None,
+        }
+    }
+
+    /// The first page of a node that was not had.
+    pub(crate) fn front(&self, node: u8) -> u32
+        ensures { result ≡ front_of (pages_from (entries_of self.now) node) }
+    {
+        match self.by_node.get(node as usize) {
+            Some(pages) => pages.front(),
+            None => 0,
+        }
+    }
+
+    /// How many nodes it has pages for.
+    pub(crate) fn nodes(&self) -> usize
+        ensures { result ≡ length self.now }
+    {
+        self.by_node.len()
+    }
+}
