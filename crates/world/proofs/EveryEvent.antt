@@ -127,7 +127,7 @@ module _ {V : Type 0} (offers : List V) (w : World V) (h : WorldHolds offers w) 
   happens_at_holds size (Deliver number) brought = delivered_holds number (slice_get w.packets number) refl
   happens_at_holds size (Restart k) brought = at_node_holds k (λ n. Ok (restarted n)) (λ n at sound holds. restart_continues n sound holds) (slice_get w.nodes k) refl
 
-spent_or : {V : Type 0} (P : World V → Type 0) (r : Result (World V) StepFault) (t : Bool) → IfTaken r P → IfTaken (if t then Err EventsSpent else r) P
+pub spent_or : {V : Type 0} (P : World V → Type 0) (r : Result (World V) StepFault) (t : Bool) → IfTaken r P → IfTaken (if t then Err EventsSpent else r) P
 spent_or P r true h = tt
 spent_or P r false h = h
 

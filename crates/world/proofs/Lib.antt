@@ -16,3 +16,5 @@ mod LaterBallots
 mod ChosenAgree
 mod LogsAgree
 mod Offered
+mod KeptPartLemmas
+mod Rows

@@ -12,4 +12,4 @@ mod laws;
 
 pub use event::{Event, MOST_EVENTS};
 pub use fault::StepFault;
-pub use laws::agreement;
+pub use laws::{agreement, kept_part};
