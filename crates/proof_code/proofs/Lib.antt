@@ -1,0 +1,8 @@
+pub mod LettersLemmas
+pub mod RowLemmas
+pub mod PlacesLemmas
+pub mod HeaderLemmas
+pub mod TextLemmas
+pub mod WritesLemmas
+pub mod AnswersLemmas
+pub mod OneList

@@ -1,0 +1,74 @@
+-- The text of some words: its letters, its length, and a byte in it.
+use Rattle.std.specs.Prelude.{◌≡◌, ℕ, ◌+◌, ◌*◌, ◌≤◌, Bool, true, false, ◌||◌, ◌==◌, List, [], ◌∷◌, ◌++◌, flat_map, length, refl}
+use Rattle.std.specs.List.{list_all, list_any}
+use Rattle.std.proofs.Common.{sym, ◌∙◌, ap, arith, true≢false, length-append}
+use Rattle.std.proofs.lemmas.List.{append-nil}
+use Rattle.std.proofs.lemmas.List.Folds.{list_any-append}
+use Rattle.mm_lex.specs.Alphabet.{Name, is_visible, has_byte}
+use Rattle.mm_lex.specs.Words.{spaced, is_word}
+use Rattle.proof_code.specs.Text.{letters_of}
+use Rattle.proof_code.proofs.LettersLemmas.{and_parts}
+
+pub not_space : (b : ℕ) → is_visible b ≡ true → (b == 32) ≡ false
+not_space b h = by (b == 32) refl
+  where
+    by : (t : Bool) → (b == 32) ≡ t → t ≡ false
+    by true e = let is : b ≡ 32 = grind (arith, e) in absurd (true≢false (sym h ∙ ap is_visible is))
+    by false e = refl
+
+letters_of-visible : (word : Name) (text : List ℕ) → list_all is_visible word ≡ true → letters_of (word ++ text) ≡ word ++ letters_of text
+letters_of-visible [] text h = refl
+letters_of-visible (b ∷ word) text h =
+    let parts : (is_visible b ≡ true) × (list_all is_visible word ≡ true) = and_parts (is_visible b) (list_all is_visible word) h in
+    rw (not_space b parts.0) (ap (λ r. b ∷ r) (letters_of-visible word text parts.1))
+
+visible : (word : Name) → is_word word ≡ true → list_all is_visible word ≡ true
+visible [] h = cc
+visible (b ∷ word) h = h
+
+-- the letters of words are the words joined
+pub letters_of-spaced : (words : List Name) → list_all is_word words ≡ true → letters_of (spaced words) ≡ flat_map (λ word. word) words
+letters_of-spaced [] h = refl
+letters_of-spaced (word ∷ []) h =
+    ap letters_of (sym (append-nil word)) ∙ letters_of-visible word [] (visible word (and_parts (is_word word) true h).0)
+letters_of-spaced (word ∷ next ∷ words) h =
+    let parts : (is_word word ≡ true) × (list_all is_word (next ∷ words) ≡ true) = and_parts (is_word word) (list_all is_word (next ∷ words)) h in
+    letters_of-visible word (32 ∷ spaced (next ∷ words)) (visible word parts.0) ∙ ap (λ r. word ++ r) (letters_of-spaced (next ∷ words) parts.1)
+
+some_byte : (word : Name) → is_word word ≡ true → 1 ≤ length word
+some_byte [] h = cc
+some_byte (b ∷ word) h = omega arith
+
+-- a text is about twice as long as its count of words, at least
+pub length-spaced : (words : List Name) → list_all is_word words ≡ true → 2 * length words ≤ length (spaced words) + 1
+length-spaced [] h = omega arith
+length-spaced (word ∷ []) h = omega (arith, some_byte word (and_parts (is_word word) true h).0)
+length-spaced (word ∷ next ∷ words) h =
+    let parts : (is_word word ≡ true) × (list_all is_word (next ∷ words) ≡ true) = and_parts (is_word word) (list_all is_word (next ∷ words)) h in
+    omega (arith, some_byte word parts.0, length-spaced (next ∷ words) parts.1, length-append word (32 ∷ spaced (next ∷ words)))
+
+-- a text behind another
+pub length-spaced_behind : (front words : List Name) → length (spaced words) ≤ length (spaced (front ++ words))
+length-spaced_behind [] words = omega arith
+length-spaced_behind (word ∷ []) [] = omega arith
+length-spaced_behind (word ∷ []) (next ∷ words) = omega (arith, length-append word (32 ∷ spaced (next ∷ words)))
+length-spaced_behind (word ∷ v ∷ front) words = omega (arith, length-spaced_behind (v ∷ front) words, length-append word (32 ∷ spaced (v ∷ (front ++ words))))
+
+-- a byte other than a space is in the text where it is in a word
+pub list_any-spaced : (byte : ℕ) (words : List Name) → (32 == byte) ≡ false → list_any (λ b. b == byte) (spaced words) ≡ list_any (has_byte byte) words
+list_any-spaced byte [] h = refl
+list_any-spaced byte (word ∷ []) h = or_none (list_any (λ b. b == byte) word)
+  where
+    or_none : (a : Bool) → a ≡ (a || false)
+    or_none true = refl
+    or_none false = refl
+list_any-spaced byte (word ∷ next ∷ words) h =
+    list_any-append (λ b. b == byte) word (32 ∷ spaced (next ∷ words))
+    ∙ (ap (λ t. has_byte byte word || (t || list_any (λ b. b == byte) (spaced (next ∷ words)))) h
+    ∙ ap (λ r. has_byte byte word || r) (list_any-spaced byte (next ∷ words) h))
+
+-- and in the words joined
+pub list_any-joined : (byte : ℕ) (words : List Name) → list_any (λ b. b == byte) (flat_map (λ word. word) words) ≡ list_any (has_byte byte) words
+list_any-joined byte [] = refl
+list_any-joined byte (word ∷ words) =
+    list_any-append (λ b. b == byte) word (flat_map (λ word. word) words) ∙ ap (λ r. has_byte byte word || r) (list_any-joined byte words)

@@ -1,0 +1,44 @@
+-- The words that letters write in a compressed proof, and the number of each.
+-- Source: Metamath, appendix B.
+-- The code computes a word's number in base 5 and base 20; here it is the word's place in the order of all words.
+use Rattle.std.specs.Prelude.{◌≡◌, ℕ, zero, suc, ◌+◌, ◌-◌, ◌*◌, Bool, ◌&&◌, nat_le, if◌then◌else◌, List, [], ◌∷◌, ◌++◌, map, flat_map, length, Option, Some, None, slice_get, codes}
+use Rattle.mm_lex.specs.Alphabet.{Name, is_empty}
+
+-- the letters that end a word, and those that stand before the end
+abbrev pub last_letters : List ℕ
+last_letters = codes "ABCDEFGHIJKLMNOPQRST"
+
+abbrev pub first_letters : List ℕ
+first_letters = codes "UVWXY"
+
+-- the words with n letters before the last, in the order of the alphabet
+abbrev pub words_of_size : ℕ → List Name
+words_of_size zero = map (λ letter. letter ∷ []) last_letters
+words_of_size (suc n) = flat_map (λ letter. map (λ word. letter ∷ word) (words_of_size n)) first_letters
+
+-- the words with fewer than n letters before the last, in order of length and then of the alphabet
+abbrev pub words_below : ℕ → List Name
+words_below zero = []
+words_below (suc n) = words_below n ++ words_of_size n
+
+-- the word has this number, counted from 1 over all words in order of length and then of the alphabet
+abbrev pub IsNumber : Name → ℕ → Type 0
+IsNumber word zero = ⊥
+IsNumber word (suc n) = slice_get (words_below (length word)) n ≡ Some word
+
+-- whether the letter is A to T, and U to Y
+abbrev pub is_last : ℕ → Bool
+is_last letter = nat_le 65 letter && nat_le letter 84
+
+abbrev pub is_first : ℕ → Bool
+is_first letter = nat_le 85 letter && nat_le letter 89
+
+-- the number by the formula, where the letters before came to n: U to Y count 1 to 5 in base 5, A to T then 1 to 20 in base 20
+abbrev pub number_from : ℕ → Name → Option ℕ
+number_from n [] = None
+number_from n (letter ∷ word) =
+    if is_first letter then number_from (5 * n + (letter - 84)) word
+    else (if is_last letter && is_empty word then Some (20 * n + (letter - 64)) else None)
+
+abbrev pub number_of : Name → Option ℕ
+number_of word = number_from 0 word

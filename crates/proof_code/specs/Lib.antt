@@ -1,0 +1,7 @@
+pub mod Letters
+pub mod Writes
+pub mod Numbers
+pub mod Text
+pub mod Places
+pub mod Answers
+pub mod Laws

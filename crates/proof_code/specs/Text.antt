@@ -1,0 +1,43 @@
+-- Tokens read from left to right, for the private functions.
+-- Source: Metamath, appendix B.
+-- This is the code's way to read; that it gives what `Writes` says is proved in RowLemmas and HeaderLemmas.
+use Rattle.std.specs.Prelude.{ℕ, ◌+◌, ◌-◌, ◌*◌, Bool, false, not, ◌&&◌, ◌==◌, nat_le, if◌then◌else◌, List, [], ◌∷◌, Option, Some, None}
+use Rattle.std.specs.Option.{option_map}
+use Rattle.mm_lex.specs.Alphabet.{Name, name_eq, has_name, is_label}
+use Rattle.proof_code.specs.Letters.{is_first, is_last}
+use Rattle.proof_code.specs.Writes.{finish}
+
+-- the bytes of a text, its spaces taken out
+abbrev pub letters_of : List ℕ → List ℕ
+letters_of [] = []
+letters_of (byte ∷ text) = if byte == 32 then letters_of text else byte ∷ letters_of text
+
+abbrev pub starts_with_mark : List ℕ → Bool
+starts_with_mark [] = false
+starts_with_mark (letter ∷ letters) = letter == 90
+
+-- a number that is not over the limit, before the others
+abbrev pub with_number : ℕ → ℕ → Option (List ℕ) → Option (List ℕ)
+with_number limit number rest = if nat_le number limit then option_map (λ numbers. number ∷ numbers) rest else None
+
+-- the numbers of the letters, 0 for a mark, where the letters U to Y of the word that is begun come to `digits`
+abbrev pub numbers_from : ℕ → ℕ → List ℕ → Option (List ℕ)
+numbers_from limit digits [] = if digits == 0 then Some [] else None
+numbers_from limit digits (letter ∷ letters) =
+    if is_first letter then numbers_from limit (5 * digits + (letter - 84)) letters
+    else (if is_last letter then with_number limit (20 * digits + (letter - 64)) (numbers_from limit 0 letters)
+    else (if (letter == 90) && (digits == 0) then option_map (λ numbers. 0 ∷ numbers) (numbers_from (limit + 1) 0 letters) else None))
+
+-- the labels up to `)`, and what follows it
+pub record Header : Type 0 where
+  pub listed : List Name
+  pub rest : List Name
+
+abbrev pub with_label : Name → Header → Header
+with_label label header = record { listed = label ∷ header.listed; rest = header.rest }
+
+abbrev pub header_of : List Name → List Name → Option Header
+header_of mandatory [] = None
+header_of mandatory (token ∷ tokens) =
+    if name_eq token finish then Some (record { listed = []; rest = tokens })
+    else (if is_label token && not (has_name token mandatory) then option_map (with_label token) (header_of mandatory tokens) else None)

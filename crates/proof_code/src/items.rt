@@ -1,0 +1,68 @@
+//! The items of a proof, as a table of labels and one number for each item.
+ghost use Rattle.std.specs.Prelude.{◌≡◌, IfOk, IsOkAnd};
+ghost use Rattle.proof_code.specs.Numbers.{items_of};
+
+use mm_lex::Words;
+use std::alloc::AllocError;
+use std::marker::Model;
+
+/// The items of a proof. Contracts see the list of them.
+///
+/// They are kept as a table of labels and one number for each item, so that no item holds a name.
+#[derive(Drop)]
+pub struct Items {
+    labels: Words,
+    numbers: Vec<u32>,
+}
+
+impl Model for Items {
+    ghost use Rattle.std.specs.Prelude.{List};
+    ghost use Rattle.proof_code.specs.declared.item.Item.{Item};
+    ghost use Rattle.proof_code.specs.Numbers.{items_of};
+
+    ghost Value = { List Item };
+
+    ghost view = { λ a. items_of a.labels a.numbers.items };
+}
+
+/// What `Items` keeps: the labels that may be cited, and for each item its number.
+///
+/// 0 marks, a number up to the count of the labels cites the label of that number, counted from 1, and a greater
+/// one recalls. For a compressed proof the labels are the mandatory ones and then the listed ones, and the
+/// numbers are those that the letters write; for a normal proof the labels are the tokens.
+#[derive(Clone, Copy)]
+pub struct Parts<'a> {
+    /// The labels that may be cited.
+    pub labels: &'a Words,
+    /// The number of each item.
+    pub numbers: &'a [u32],
+}
+
+impl Items {
+    /// The items that these labels and numbers are.
+    pub fn from_parts(labels: Words, numbers: Vec<u32>) -> Items
+        ensures { result ≡ items_of labels numbers.items }
+    {
+        Items { labels, numbers }
+    }
+
+    /// The labels and the numbers.
+    pub fn parts(&self) -> Parts<'_>
+        ensures { items_of result.labels.now result.numbers.now ≡ self.now }
+    {
+        Parts {
+            labels: &self.labels,
+            numbers: self.numbers.as_slice(),
+        }
+    }
+}
+
+/// The items of a table of labels and of numbers, where neither was refused a growth.
+pub(crate) fn join_parts(
+    labels: Result<Words, AllocError>,
+    numbers: Result<Vec<u32>, AllocError>,
+) -> Result<Items, AllocError>
+    ensures { IfOk result (λ items. IsOkAnd labels (λ labels. IsOkAnd numbers (λ numbers. items ≡ items_of labels numbers.items))) }
+{
+    Ok(Items::from_parts(labels?, numbers?))
+}

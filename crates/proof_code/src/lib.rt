@@ -1,0 +1,26 @@
+//! From the tokens of a Metamath proof to its items: citations, recalls and marks.
+//!
+//! The crate above uses `normal` and `packed`: an `Ok` holds the items that the tokens write, and where they write
+//! none the fault is `Unfinished` exactly where a token has the byte `?`, else `Malformed`. `Items` is seen as the
+//! list of items, and gives its labels once each and a number for each item.
+//!
+//! To read: `item`, `items`, `fault`, then `normal_proof` and `compressed_proof` with its parts `header` (the labels
+//! in parentheses) and `letters` (the numbers), and `laws`.
+#![tactic(auto)]
+
+mod compressed_proof;
+mod fault;
+mod header;
+mod item;
+mod items;
+mod label;
+mod laws;
+mod letters;
+mod normal_proof;
+
+pub use compressed_proof::packed;
+pub use fault::CodeFault;
+pub use item::Item;
+pub use items::{Items, Parts};
+pub use laws::{numbers_by_formula, one_answer, one_list_of_items};
+pub use normal_proof::normal;

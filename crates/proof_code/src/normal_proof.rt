@@ -1,0 +1,60 @@
+//! Normal proofs.
+ghost use Rattle.std.specs.Prelude.{◌≡◌, ◌↔◌, IsTrue, IfOk, Err, map};
+ghost use Rattle.std.specs.List.{list_all};
+ghost use Rattle.mm_lex.specs.Alphabet.{is_label};
+ghost use Rattle.proof_code.specs.declared.item.Item.TheVariants.{Cite};
+ghost use Rattle.proof_code.specs.Writes.{is_unfinished, WritesNormal, WritesPlain, IsMalformed};
+ghost use Rattle.proof_code.specs.Answers.{Answers};
+
+use crate::fault::{CodeFault, code_fault};
+use crate::items::Items;
+use crate::label::is_label;
+use mm_lex::Words;
+use std::alloc::{AllocError, Global};
+
+/// The items of a normal proof: a citation for each token.
+///
+/// Errors: `Unfinished` where a token has the byte `?`, else `Malformed` where a token is no label, both also where
+/// every growth is refused. Cost: the size of the tokens. Source: Metamath, 4.3.
+pub fn normal(alloc: Global, tokens: &Words) -> Result<Items, CodeFault>
+    ensures items { IfOk result (λ items. WritesPlain tokens.now items) }
+    ensures unfinished { (result ≡ Err CodeFault.Unfinished) ↔ IsTrue (is_unfinished tokens.now) }
+    ensures malformed { (result ≡ Err CodeFault.Malformed) ↔ IsMalformed tokens.now (WritesPlain tokens.now) }
+{
+    match read_normal(alloc, tokens) {
+        Some(Ok(items)) => Ok(items),
+        Some(Err(AllocError)) => Err(CodeFault::Memory),
+        None => Err(code_fault(tokens)),
+    }
+}
+
+/// The items of a normal proof, `None` where the tokens write none.
+fn read_normal(alloc: Global, tokens: &Words) -> Option<Result<Items, AllocError>>
+    ensures { Answers (WritesNormal tokens.now) result }
+{
+    if are_labels(tokens) {
+        Some(cite_all(alloc, tokens))
+    } else {
+        None
+    }
+}
+
+fn are_labels(tokens: &Words) -> bool
+    ensures { result ≡ list_all is_label tokens.now }
+{
+    tokens.iter().all(|token| is_label(token))
+}
+
+/// A citation of each of these labels.
+fn cite_all(alloc: Global, labels: &Words) -> Result<Items, AllocError>
+    ensures { IfOk result (λ items. items ≡ map (λ label. Cite label) labels.now) }
+{
+    let Ok(count) = u32::try_from(labels.len()) else {
+        return Err(AllocError);
+    };
+    let mut numbers = Vec::with_capacity(alloc, count as usize)?;
+    for before in 0..count {
+        numbers.push(before + 1)?;
+    }
+    Ok(Items::from_parts(labels.copy(alloc)?, numbers))
+}
