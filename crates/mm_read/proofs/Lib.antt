@@ -3,3 +3,7 @@ pub mod SpacedLemmas
 pub mod OneSpelling
 pub mod Places
 pub mod ShapeFaults
+pub mod FrontLemmas
+pub mod FrontFaults
+pub mod StatementByStatement
+pub mod OneReading

@@ -12,7 +12,7 @@ use Rattle.mm_read.specs.declared.stmt.Stmt.{Stmt}
 use Rattle.mm_read.specs.declared.stmt.Stmt.TheVariants.{Open, Close, Const, Var, Disj, Float, Ess, Axiom, Prove}
 use Rattle.mm_read.specs.Statements.{Database, AreShaped, is_shaped, are_symbols, has_two, stmt_tokens, spelled}
 use Rattle.mm_read.specs.Reads.{CanGoOn}
-use Rattle.mm_read.proofs.StatementsLemmas.{label_plain, symbols_of, append_middle}
+use Rattle.mm_read.proofs.StatementsLemmas.{label_plain, symbols_of, append_middle, are_symbols_of, has_two_of}
 
 -- what may follow: a statement, the keyword behind a label, at least (or exactly) so many symbols and then `$.`,
 -- at least so many symbols and then `$=`
@@ -72,15 +72,6 @@ CanFollow (proving n) tokens =
 -- one more statement before the others
 add : (s : Stmt) (S : Database) (tokens : List Name) → is_shaped s ≡ true → AreShaped S → stmt_tokens s ++ spelled S ≡ tokens → CanFollow between tokens
 add s S tokens hs hS e = (s ∷ S, rw hs hS, e)
-
-are_symbols_of : (ws : List Name) → list_all is_symbol ws ≡ true → 1 ≤ length ws → are_symbols ws ≡ true
-are_symbols_of [] h n = absurd (omega (arith, n))
-are_symbols_of (w ∷ ws) h n = h
-
-has_two_of : (ws : List Name) → 2 ≤ length ws → has_two ws ≡ true
-has_two_of [] n = absurd (omega (arith, n))
-has_two_of (w ∷ []) n = absurd (omega (arith, n))
-has_two_of (w ∷ v ∷ ws) n = refl
 
 -- a list of a keyword, symbols and `$.`
 list_follows : (make : List Name → Stmt) (k : Name) (n : ℕ) (tokens : List Name)

@@ -11,7 +11,7 @@ use Rattle.mm_read.specs.Reads.{CanGoOn, IsShapeFault}
 use Rattle.mm_read.specs.Laws as laws
 use Rattle.mm_read.proofs.Places.{Place, between, labelled, listing, floating, proving, step, go, go-append, go_back, can_go_on, go-spelled}
 
-append-nil : {A : Type 0} (xs : List A) → xs ++ [] ≡ xs
+pub append-nil : {A : Type 0} (xs : List A) → xs ++ [] ≡ xs
 append-nil [] = refl
 append-nil (x ∷ xs) = ap (λ r. x ∷ r) (append-nil xs)
 

@@ -1,11 +1,9 @@
 -- Words with one space between two, piece by piece.
-use Rattle.std.specs.Prelude.{◌≡◌, ℕ, true, false, ◌==◌, if◌then◌else◌, List, [], ◌∷◌, ◌++◌, codes}
-use Rattle.std.specs.List.{list_all, slice_split}
-use Rattle.std.proofs.Common.{sym, ◌∙◌, ap, refl, append_assoc, true≢false}
-use Rattle.std.proofs.lemmas.Bool.{and_parts}
+use Rattle.std.specs.Prelude.{◌≡◌, ℕ, true, if◌then◌else◌, List, [], ◌∷◌, ◌++◌, codes}
+use Rattle.std.proofs.Common.{sym, ◌∙◌, ap, refl, append_assoc}
 use Rattle.mm_lex.specs.Alphabet.{Name, is_empty}
-use Rattle.mm_lex.specs.Words.{spaced, words_of, is_word}
-use Rattle.mm_lex.proofs.WordsLemmas.{spaced-words_of, slice_split-space, words_of-one}
+use Rattle.mm_lex.specs.Words.{spaced, words_of}
+use Rattle.mm_lex.proofs.WordsLemmas.{spaced-words_of}
 use Rattle.mm_read.specs.Statements.{are_symbols}
 
 -- words before others
@@ -81,26 +79,3 @@ line-provable label ws text gap (b ∷ proof) h e g =
         ap (λ r. label ++ (codes " $p " ++ (text ++ (codes " $= " ++ (r ++ (codes " $." ++ 10 ∷ [])))))) (sym (spaced-words_of (b ∷ proof)) ∙ ap spaced is_list)
         ∙ (line-proved label ws text w list h e
         ∙ ap (λ r. spaced (label ∷ codes "$p" ∷ (ws ++ codes "$=" ∷ (r ++ codes "$." ∷ []))) ++ 10 ∷ []) (sym is_list))
-
--- ---- words are found again in their text
-
-split_spaced : (w : Name) (ws : List Name) → list_all is_word (w ∷ ws) ≡ true → words_of (spaced (w ∷ ws)) ≡ w ∷ ws
-split_spaced [] ws h = cc
-split_spaced (b ∷ w) [] h = words_of-one (b ∷ w) (and_parts (is_word (b ∷ w)) true h).0
-split_spaced (b ∷ w) ([] ∷ ws) h = absurd (no_word (and_parts (is_word (b ∷ w)) (list_all is_word ([] ∷ ws)) h).1)
-  where
-    no_word : false ≡ true → ⊥
-    no_word e = true≢false (sym e)
-split_spaced (b ∷ w) ((d ∷ v) ∷ ws) h =
-    let parts : (is_word (b ∷ w) ≡ true) × (list_all is_word ((d ∷ v) ∷ ws) ≡ true) = and_parts (is_word (b ∷ w)) (list_all is_word ((d ∷ v) ∷ ws)) h in
-    slice_split-space (b ∷ w) (spaced ((d ∷ v) ∷ ws))
-    ∙ (ap (λ r. r ++ slice_split (λ c. c == 32) (spaced ((d ∷ v) ∷ ws))) (words_of-one (b ∷ w) parts.0)
-    ∙ ap (λ r. (b ∷ w) ∷ r) (more ws (split_spaced (d ∷ v) ws parts.1)))
-  where
-    more : (ws : List Name) → words_of (spaced ((d ∷ v) ∷ ws)) ≡ (d ∷ v) ∷ ws → slice_split (λ c. c == 32) (spaced ((d ∷ v) ∷ ws)) ≡ (d ∷ v) ∷ ws
-    more [] e = e
-    more (u ∷ ws) e = e
-
-pub words_of-spaced : (ws : List Name) → list_all is_word ws ≡ true → words_of (spaced ws) ≡ ws
-words_of-spaced [] h = refl
-words_of-spaced (w ∷ ws) h = split_spaced w ws h

@@ -1,14 +1,18 @@
 -- Symbols and labels have no `$`, and keywords do; the parts of a shaped statement.
-use Rattle.std.specs.Prelude.{◌≡◌, ℕ, Bool, true, false, not, ◌&&◌, ◌||◌, ◌==◌, List, [], ◌∷◌, ◌++◌}
+use Rattle.std.specs.Prelude.{◌≡◌, ℕ, ◌≤◌, Bool, true, false, not, ◌&&◌, ◌||◌, ◌==◌, List, [], ◌∷◌, ◌++◌, length}
 use Rattle.std.specs.List.{list_all}
 use Rattle.std.proofs.Common.{sym, ◌∙◌, ap, arith, true≢false, refl}
 use Rattle.std.proofs.lemmas.Bool.{and_parts}
 use Rattle.mm_lex.specs.Alphabet.{Name, is_empty, is_symbol, is_label, is_label_byte, has_byte, is_visible}
-use Rattle.mm_read.specs.Statements.{are_symbols}
+use Rattle.mm_read.specs.Statements.{are_symbols, has_two}
 
-not_true : (a : Bool) → not a ≡ true → a ≡ false
+pub not_true : (a : Bool) → not a ≡ true → a ≡ false
 not_true true h = cc
 not_true false h = refl
+
+pub not_false : (a : Bool) → not a ≡ false → a ≡ true
+not_false true h = refl
+not_false false h = cc
 
 -- a symbol has no `$`
 pub symbol_plain : (w : Name) → is_symbol w ≡ true → has_byte 36 w ≡ false
@@ -39,3 +43,13 @@ symbols_of ws h = (and_parts (not (is_empty ws)) (list_all is_symbol ws) h).1
 pub append_middle : {A : Type 0} (xs : List A) (y : A) (ys zs : List A) → (xs ++ y ∷ ys) ++ zs ≡ xs ++ y ∷ (ys ++ zs)
 append_middle [] y ys zs = refl
 append_middle (x ∷ xs) y ys zs = ap (λ r. x ∷ r) (append_middle xs y ys zs)
+
+-- one or more symbols, by their number
+pub are_symbols_of : (ws : List Name) → list_all is_symbol ws ≡ true → 1 ≤ length ws → are_symbols ws ≡ true
+are_symbols_of [] h n = absurd (omega (arith, n))
+are_symbols_of (w ∷ ws) h n = h
+
+pub has_two_of : (ws : List Name) → 2 ≤ length ws → has_two ws ≡ true
+has_two_of [] n = absurd (omega (arith, n))
+has_two_of (w ∷ []) n = absurd (omega (arith, n))
+has_two_of (w ∷ v ∷ ws) n = refl

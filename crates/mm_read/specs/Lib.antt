@@ -1,4 +1,5 @@
 pub mod Statements
 pub mod Reads
+pub mod Front
 pub mod Export
 pub mod Laws

@@ -1,10 +1,15 @@
 -- The statements that a text writes, and where a text stops being statements.
 -- Source: Metamath, 4.1 and appendix E.
 -- The code reads once from the left; here reading is the inverse of writing.
-use Rattle.std.specs.Prelude.{◌≡◌, ℕ, ◌+◌, ◌-◌, ◌⊎◌, List, ◌++◌, length, take}
+use Rattle.std.specs.Prelude.{◌≡◌, ◌≢◌, ℕ, ◌+◌, ◌-◌, ◌⊎◌, List, ◌++◌, length, take}
 use Rattle.mm_lex.specs.declared.span.Span.{Span}
+use Rattle.mm_lex.specs.declared.fault.LexFault.{LexFault}
+use Rattle.mm_lex.specs.declared.fault.LexFault.TheVariants as lex
 use Rattle.mm_lex.specs.Alphabet.{Name}
+use Rattle.mm_lex.specs.Faults.{IsLexFault}
 use Rattle.mm_lex.specs.Tokens.{AreTokens, words}
+use Rattle.mm_read.specs.declared.fault.ReadFault.{ReadFault}
+use Rattle.mm_read.specs.declared.fault.ReadFault.TheVariants.{Text, Shape, Memory}
 use Rattle.mm_read.specs.Statements.{Database, AreShaped, spelled}
 
 -- the text's tokens are these
@@ -36,3 +41,14 @@ pub record IsShapeFault (tokens : List Name) (token : ℕ) : Type 0 where
 -- the text has tokens, and this is the first that fits nowhere
 abbrev pub HasShapeFault : List ℕ → ℕ → Type 0
 HasShapeFault text token = (tokens : List Name) × HasTokens text tokens × IsShapeFault tokens token
+
+-- what a fault says of the text
+abbrev pub IsReadFault : List ℕ → ReadFault → Type 0
+IsReadFault text (Text fault) = IsLexFault text fault × (fault ≢ lex.Memory)
+IsReadFault text (Shape token) = HasShapeFault text token
+IsReadFault text Memory = Unit {0}
+
+-- a fault of the tokens as one of reading
+abbrev pub read_fault : LexFault → ReadFault
+read_fault lex.Memory = Memory
+read_fault fault = Text fault

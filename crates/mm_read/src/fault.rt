@@ -1,5 +1,8 @@
 //! Why a text writes no statements.
+ghost use Rattle.std.specs.Prelude.{◌≡◌};
+
 use mm_lex::LexFault;
+use std::alloc::{AllocError, AllocFailed};
 
 /// Why a text writes no statements.
 #[derive(Clone, Copy, Debug, Drop, PartialEq, Eq)]
@@ -11,4 +14,37 @@ pub enum ReadFault {
     Shape { token: usize },
     /// A growth was refused.
     Memory,
+}
+
+impl From<LexFault> for ReadFault {
+    ghost use Rattle.mm_read.specs.Reads.{read_fault};
+
+    ghost from_gives = { λ lex fault. fault ≡ read_fault lex };
+
+    fn from(fault: LexFault) -> ReadFault {
+        match fault {
+            LexFault::Memory => ReadFault::Memory,
+            _ => ReadFault::Text(fault),
+        }
+    }
+}
+
+impl From<AllocError> for ReadFault {
+    ghost use Rattle.mm_read.specs.declared.fault.ReadFault.TheVariants.{Memory};
+
+    ghost from_gives = { λ _ fault. fault ≡ Memory };
+
+    fn from(_: AllocError) -> ReadFault {
+        ReadFault::Memory
+    }
+}
+
+impl<T: Drop> From<AllocFailed<T>> for ReadFault {
+    ghost use Rattle.mm_read.specs.declared.fault.ReadFault.TheVariants.{Memory};
+
+    ghost from_gives = { λ _ fault. fault ≡ Memory };
+
+    fn from(_: AllocFailed<T>) -> ReadFault {
+        ReadFault::Memory
+    }
 }

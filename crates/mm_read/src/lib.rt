@@ -1,16 +1,23 @@
 //! Statements of a Metamath text.
 //!
-//! `Stmt` is one of the eight shapes of a statement. `specs/Reads` says which statements a text writes, and where a text
-//! stops being statements; `laws` says that each text writes one list of statements at most. `spell` writes statements in
-//! the export form.
+//! `Stmt` is one of the eight shapes of a statement. `read` gives the one list of statements that a text writes, or says where
+//! the text stops being statements; `spell` writes statements in the export form. What a text writes is `specs/Reads`: the
+//! crates above rest on the clauses of `read`. Read `stmt`, `parse`, `statement`, `front`, `keyword`, then `export`.
 #![tactic(auto)]
 
 mod export;
 mod fault;
+mod front;
+mod keyword;
 mod laws;
+mod parse;
+mod statement;
 mod stmt;
+#[cfg(test)]
+mod tests;
 
 pub use export::{push_line, push_line_with_proof, spell};
 pub use fault::ReadFault;
 pub use laws::{one_shape_fault, one_spelling, spelled_or_faulty};
+pub use parse::read;
 pub use stmt::Stmt;

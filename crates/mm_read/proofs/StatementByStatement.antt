@@ -1,0 +1,123 @@
+-- A list of statements and what stands behind it: what fits there fits the whole, and what does not fit there does not fit the whole.
+use Rattle.std.specs.Prelude.{◌≡◌, ℕ, ◌+◌, ◌-◌, ◌<◌, ◌≤◌, ◌⊎◌, suc, zero, true, List, [], ◌∷◌, ◌++◌, length, take, drop}
+use Rattle.std.specs.List.{list_all}
+use Rattle.std.proofs.Common.{sym, ◌∙◌, ap, arith, refl, subst, inl, inr, append_assoc, length-append, drop-drop}
+use Rattle.std.proofs.Math.Seq.{take-append-add}
+use Rattle.std.proofs.lemmas.Bool.{and_parts}
+use Rattle.std.proofs.lemmas.List.{drop-map, length-map, length-drop, take_all}
+use Rattle.mm_lex.specs.declared.span.Span.{Span}
+use Rattle.mm_lex.specs.Alphabet.{Name, word}
+use Rattle.mm_lex.specs.Tokens.{words}
+use Rattle.mm_read.specs.declared.stmt.Stmt.{Stmt}
+use Rattle.mm_read.specs.declared.stmt.Stmt.TheVariants.{Open, Close, Const, Var, Disj, Float, Ess, Axiom, Prove}
+use Rattle.mm_read.specs.Statements.{Database, is_shaped, stmt_tokens, spelled}
+use Rattle.mm_read.specs.Reads.{CanGoOn, IsShapeFault}
+use Rattle.mm_read.specs.Front.{IsFront}
+use Rattle.mm_read.proofs.OneSpelling.{same_front}
+use Rattle.mm_read.proofs.ShapeFaults.{append-nil}
+
+spelled-append : (S T : Database) → spelled (S ++ T) ≡ spelled S ++ spelled T
+spelled-append [] T = refl
+spelled-append (s ∷ S) T = ap (λ r. stmt_tokens s ++ r) (spelled-append S T) ∙ sym (append_assoc (stmt_tokens s) (spelled S) (spelled T))
+
+shaped-append : (S T : Database) → list_all is_shaped S ≡ true → list_all is_shaped T ≡ true → list_all is_shaped (S ++ T) ≡ true
+shaped-append [] T hS hT = hT
+shaped-append (s ∷ S) T hS hT =
+    let parts : (is_shaped s ≡ true) × (list_all is_shaped S ≡ true) = and_parts (is_shaped s) (list_all is_shaped S) hS in
+    rw (parts.0) (shaped-append S T parts.1 hT)
+
+-- a statement has a token
+no_tokens : (s : Stmt) (rest : List Name) → stmt_tokens s ++ rest ≡ [] → ⊥
+no_tokens Open rest e = absurd cc
+no_tokens Close rest e = absurd cc
+no_tokens (Const ws) rest e = absurd cc
+no_tokens (Var ws) rest e = absurd cc
+no_tokens (Disj ws) rest e = absurd cc
+no_tokens (Float label constant variable) rest e = absurd cc
+no_tokens (Ess label expr) rest e = absurd cc
+no_tokens (Axiom label expr) rest e = absurd cc
+no_tokens (Prove label expr proof) rest e = absurd cc
+
+-- statements whose tokens begin with those of these statements begin with these statements
+cut : (S T : Database) (rest : List Name) → list_all is_shaped S ≡ true → list_all is_shaped T ≡ true → spelled T ≡ spelled S ++ rest
+    → (U : Database) × (list_all is_shaped U ≡ true) × (spelled U ≡ rest)
+cut [] T rest hS hT e = (T, hT, e)
+cut (s ∷ S) [] rest hS hT e = absurd (no_tokens s (spelled S ++ rest) (sym (append_assoc (stmt_tokens s) (spelled S) rest) ∙ sym e))
+cut (s ∷ S) (t ∷ T) rest hS hT e =
+    let of_s : (is_shaped s ≡ true) × (list_all is_shaped S ≡ true) = and_parts (is_shaped s) (list_all is_shaped S) hS in
+    let of_t : (is_shaped t ≡ true) × (list_all is_shaped T ≡ true) = and_parts (is_shaped t) (list_all is_shaped T) hT in
+    let same : (t ≡ s) × (spelled T ≡ spelled S ++ rest) = same_front t s (spelled T) (spelled S ++ rest) of_t.0 of_s.0 (e ∙ append_assoc (stmt_tokens s) (spelled S) rest) in
+    cut S T rest of_s.1 of_t.1 same.1
+
+-- the token of a fault counts from 1
+fault_some : (tokens : List Name) (token : ℕ) → IsShapeFault tokens token → 0 < token
+fault_some tokens zero fault = absurd (by fault.here)
+  where
+    by : (CanGoOn [] → ⊥) ⊎ (0 ≡ length tokens + 1) → ⊥
+    by (inl stop) = stop (record { statements = []; rest = []; shaped = refl; whole = refl })
+    by (inr end) = omega (arith, end)
+fault_some tokens (suc token) fault = omega arith
+
+-- .. and stands among them, or right behind
+pub fault_within : (tokens : List Name) (token : ℕ) → IsShapeFault tokens token → token ≤ length tokens + 1
+fault_within tokens token fault = by fault.here
+  where
+    beyond : (CanGoOn (take token tokens) → ⊥) → length tokens + 1 < token → ⊥
+    beyond stop far = stop (subst CanGoOn (take_all (token - 1) tokens (omega (arith, far)) ∙ sym (take_all token tokens (omega (arith, far)))) fault.before)
+
+    by : (CanGoOn (take token tokens) → ⊥) ⊎ (token ≡ length tokens + 1) → token ≤ length tokens + 1
+    by (inl stop) = omega (arith, beyond stop)
+    by (inr end) = omega (arith, end)
+
+module _ (S : Database) (shaped : list_all is_shaped S ≡ true) (rest : List Name) where
+  forth : (ts : List Name) → CanGoOn ts → CanGoOn (spelled S ++ ts)
+  forth ts on = record {
+    statements = S ++ on.statements;
+    rest = on.rest;
+    shaped = shaped-append S on.statements shaped on.shaped;
+    whole = spelled-append S on.statements ∙ (ap (λ r. spelled S ++ r) on.whole ∙ sym (append_assoc (spelled S) ts on.rest));
+  }
+
+  back : (ts : List Name) → CanGoOn (spelled S ++ ts) → CanGoOn ts
+  back ts on =
+      let found : (U : Database) × (list_all is_shaped U ≡ true) × (spelled U ≡ ts ++ on.rest) = cut S on.statements (ts ++ on.rest) shaped on.shaped (on.whole ∙ append_assoc (spelled S) ts on.rest) in
+      record { statements = found.0; rest = on.rest; shaped = found.1; whole = found.2 }
+
+  -- a fault behind statements is a fault of the whole
+  pub fault_behind : (token : ℕ) → IsShapeFault rest token → IsShapeFault (spelled S ++ rest) (length (spelled S) + token)
+  fault_behind token fault = record {
+    none = λ T hT e. let found : (U : Database) × (list_all is_shaped U ≡ true) × (spelled U ≡ rest) = cut S T rest shaped hT e in fault.none found.0 found.1 found.2;
+    before = subst CanGoOn (sym earlier) (forth (take (token - 1) rest) fault.before);
+    here = by fault.here;
+  }
+    where
+      earlier : take (length (spelled S) + token - 1) (spelled S ++ rest) ≡ spelled S ++ take (token - 1) rest
+      earlier = ap (λ n. take n (spelled S ++ rest)) (omega (arith, fault_some rest token fault)) ∙ take-append-add (spelled S) rest (token - 1)
+
+      by : (CanGoOn (take token rest) → ⊥) ⊎ (token ≡ length rest + 1) → (CanGoOn (take (length (spelled S) + token) (spelled S ++ rest)) → ⊥) ⊎ (length (spelled S) + token ≡ length (spelled S ++ rest) + 1)
+      by (inl stop) = inl (λ on. stop (back (take token rest) (subst CanGoOn (take-append-add (spelled S) rest token) on)))
+      by (inr end) = inr (omega (arith, end, length-append (spelled S) rest))
+
+-- ---- along the spans of a text
+
+module _ (text : List ℕ) (spans : List Span) (S : Database) (at : ℕ) (within : at ≤ length spans) (shaped : list_all is_shaped S ≡ true)
+    (written : words text spans ≡ spelled S ++ words text (drop at spans)) where
+  -- one more statement
+  pub one_more : (s : Stmt) (taken : ℕ) → IsFront (words text (drop at spans)) s taken
+      → (at + taken ≤ length spans) × (list_all is_shaped (S ++ s ∷ []) ≡ true) × (words text spans ≡ spelled (S ++ s ∷ []) ++ words text (drop (at + taken) spans))
+  one_more s taken front = (
+    omega (arith, within, front.within, length-map (drop at spans) (word text), length-drop at spans),
+    shaped-append S (s ∷ []) shaped (rw (front.shaped) refl),
+    written ∙ (ap (λ r. spelled S ++ r) (front.written ∙ ap (λ r. stmt_tokens s ++ r) (drop-map (word text) taken (drop at spans) ∙ ap (words text) (drop-drop taken at spans)))
+        ∙ (sym (append_assoc (spelled S) (stmt_tokens s) (words text (drop (at + taken) spans)))
+        ∙ ap (λ r. r ++ words text (drop (at + taken) spans)) (ap (λ r. spelled S ++ r) (sym (append-nil (stmt_tokens s))) ∙ sym (spelled-append S (s ∷ []))))),
+  )
+
+  at_is : length (spelled S) ≡ at
+  at_is = omega (arith, within, ap length written, length-append (spelled S) (words text (drop at spans)), length-map spans (word text), length-map (drop at spans) (word text), length-drop at spans)
+
+  -- a fault behind them
+  pub fault_at : (token : ℕ) → IsShapeFault (words text (drop at spans)) token → IsShapeFault (words text spans) (at + token)
+  fault_at token fault =
+      subst (λ ts. IsShapeFault ts (at + token)) (sym written)
+      (subst (λ n. IsShapeFault (spelled S ++ words text (drop at spans)) (n + token)) at_is (fault_behind S shaped (words text (drop at spans)) token fault))

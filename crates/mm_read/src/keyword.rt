@@ -1,0 +1,88 @@
+//! Tokens as words, symbols, labels and keywords.
+ghost use Rattle.std.specs.Prelude.{◌≡◌, ◌≤◌, [], ◌∷◌, IsTrue, length};
+ghost use Rattle.std.specs.List.{list_all};
+ghost use Rattle.mm_lex.specs.Alphabet.{word, is_symbol, is_label, is_label_byte};
+ghost use Rattle.mm_lex.specs.Words.{is_word};
+ghost use Rattle.mm_read.specs.Front.{IsKeyword};
+
+use mm_lex::Span;
+
+/// A keyword at which a statement is known, or another token.
+#[derive(Clone, Copy)]
+pub enum Keyword {
+    Open,
+    Close,
+    Const,
+    Var,
+    Disj,
+    Float,
+    Ess,
+    Axiom,
+    Prove,
+    Other,
+}
+
+/// The keyword that this token is.
+pub fn keyword_of(token: &[u8]) -> Keyword
+    ensures { IsKeyword result token.now }
+{
+    match token {
+        [b'$', letter] => keyword_of_letter(*letter),
+        _ => Keyword::Other,
+    }
+}
+
+/// The keyword of `$` and this letter.
+fn keyword_of_letter(letter: u8) -> Keyword
+    ensures { IsKeyword result (36 ∷ letter ∷ []) }
+{
+    match letter {
+        b'{' => Keyword::Open,
+        b'}' => Keyword::Close,
+        b'c' => Keyword::Const,
+        b'v' => Keyword::Var,
+        b'd' => Keyword::Disj,
+        b'f' => Keyword::Float,
+        b'e' => Keyword::Ess,
+        b'a' => Keyword::Axiom,
+        b'p' => Keyword::Prove,
+        _ => Keyword::Other,
+    }
+}
+
+/// The token's bytes.
+pub fn token(text: &[u8], span: Span) -> &[u8]
+    requires ordered { span.start ≤ span.end }
+    requires within { span.end ≤ length text.now }
+    ensures { result.now ≡ word text.now span }
+{
+    &text[span.start..span.end]
+}
+
+/// Whether the word is a symbol, or a token of a proof.
+pub fn is_symbol(word: &[u8]) -> bool
+    requires { IsTrue (is_word word.now) }
+    ensures { result ≡ is_symbol word.now }
+{
+    !word.contains(&b'$')
+}
+
+/// Whether the word is a label.
+pub fn is_label(word: &[u8]) -> bool
+    ensures { result ≡ is_label word.now }
+{
+    !word.is_empty() && has_label_bytes(word)
+}
+
+fn has_label_bytes(word: &[u8]) -> bool
+    ensures { result ≡ list_all is_label_byte word.now }
+{
+    word.iter().all(|b| is_label_byte(*b))
+}
+
+/// Letters, digits, `.`, `-` and `_`.
+fn is_label_byte(byte: u8) -> bool
+    ensures { result ≡ is_label_byte byte }
+{
+    byte.is_ascii_alphanumeric() || b".-_".contains(&byte)
+}
