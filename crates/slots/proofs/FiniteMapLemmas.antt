@@ -1,5 +1,5 @@
 -- The finite map of a list of options: its entries, its front and its top after each change.
-use Rattle.std.proofs.Common.{◌≡◌, ℕ, zero, suc, ◌+◌, ◌<◌, ◌≤◌, max, List, [], ◌∷◌, ◌++◌, length, get_or, set, drop, replicate, Option, Some, None, refl, ap, ◌∙◌, arith, le_of_suc-le-suc}
+use Rattle.std.proofs.Common.{◌≡◌, ℕ, zero, suc, ◌+◌, ◌<◌, ◌≤◌, max, List, [], ◌∷◌, ◌++◌, length, get_or, set, drop, replicate, Option, Some, None, refl, ap, ◌∙◌, arith, le_of_suc-le-suc, sym}
 use Rattle.slots.specs.FiniteMap.{entry_at, put_at, trim_head, trimmed, entries_to_gap, front_of, top_of}
 
 -- One entry is put.
@@ -116,3 +116,37 @@ front_of-set [] s v = refl
 front_of-set (None ∷ xs) s v = omega arith
 front_of-set (Some x ∷ xs) zero v = let here = front_of-drop-front_of xs in omega (arith, here)
 front_of-set (Some x ∷ xs) (suc s) v = let more = front_of-set xs s v in omega (arith, more)
+
+-- the front once there is an entry at a slot
+
+pub front_of-put_at-other : {T : Type 0} (xs : List (Option T)) (s : ℕ) (v : T) → (s ≡ front_of xs → ⊥) → front_of (put_at xs s v) ≡ front_of xs
+front_of-put_at-other [] zero v other = absurd (other refl)
+front_of-put_at-other [] (suc s) v other = refl
+front_of-put_at-other (None ∷ xs) zero v other = absurd (other refl)
+front_of-put_at-other (None ∷ xs) (suc s) v other = refl
+front_of-put_at-other (Some x ∷ xs) zero v other = refl
+front_of-put_at-other (Some x ∷ xs) (suc s) v other = ap suc (front_of-put_at-other xs s v (λ e. other (ap suc e)))
+
+front_of-put_at-front : {T : Type 0} (xs : List (Option T)) (v : T) → front_of (put_at xs (front_of xs) v) ≡ suc (front_of xs) + front_of (drop (suc (front_of xs)) xs)
+front_of-put_at-front [] v = refl
+front_of-put_at-front (None ∷ xs) v = omega arith
+front_of-put_at-front (Some x ∷ xs) v = let more = front_of-put_at-front xs v in omega (arith, more)
+
+front_of-drop-trim_head : {T : Type 0} (x : Option T) (ys : List (Option T)) (k : ℕ) → front_of (drop (suc k) (trim_head x ys)) ≡ front_of (drop k ys)
+front_of-drop-trim_head None [] zero = refl
+front_of-drop-trim_head None [] (suc k) = refl
+front_of-drop-trim_head None (y ∷ ys) k = refl
+front_of-drop-trim_head (Some x) ys k = refl
+
+front_of-drop-trimmed : {T : Type 0} (xs : List (Option T)) (k : ℕ) → front_of (drop k (trimmed xs)) ≡ front_of (drop k xs)
+front_of-drop-trimmed xs zero = front_of-trimmed xs
+front_of-drop-trimmed [] (suc k) = refl
+front_of-drop-trimmed (x ∷ xs) (suc k) = front_of-drop-trim_head x (trimmed xs) k ∙ front_of-drop-trimmed xs k
+
+pub front_of-put_at-trimmed : {T : Type 0} (xs : List (Option T)) (s : ℕ) (v : T) → s ≡ front_of xs → front_of (put_at (trimmed xs) s v) ≡ suc s + front_of (drop (suc s) xs)
+front_of-put_at-trimmed {T} xs s v here =
+    let at : s ≡ front_of (trimmed xs) = here ∙ sym (front_of-trimmed xs) in
+    ap (λ (i : ℕ). front_of (put_at (trimmed xs) i v)) at
+    ∙ front_of-put_at-front (trimmed xs) v
+    ∙ ap (λ (i : ℕ). suc i + front_of (drop (suc i) (trimmed xs))) (sym at)
+    ∙ ap (λ (n : ℕ). suc s + n) (front_of-drop-trimmed xs (suc s))

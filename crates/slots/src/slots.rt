@@ -102,6 +102,22 @@ impl<T: Drop> Slots<T> {
         self.front
     }
 
+    /// The front once there is an entry at a slot. The entries stay.
+    pub fn front_with(&self, slot: u32) -> u32
+        requires { slot < SLOTS }
+        ensures front { (entry : T) → front_of (put_at self.now.entries slot entry) ≡ result }
+        ensures within { result ≤ SLOTS }
+    {
+        if slot != self.front {
+            return self.front;
+        }
+        if self.has_room(slot) {
+            gap_from(&self.pages, slot + 1)
+        } else {
+            slot + 1
+        }
+    }
+
     /// One above the greatest slot that is not empty, else 0.
     pub fn top(&self) -> u32
         ensures top { result ≡ top_of self.now.entries }

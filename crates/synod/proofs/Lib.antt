@@ -9,3 +9,4 @@ pub mod PagesHadLemmas
 pub mod RecordLemmas
 pub mod StepKeeps
 pub mod NodeLemmas
+pub mod AcceptedLemmas

@@ -1,16 +1,20 @@
 -- What a node keeps, told of what contracts see of it.
-use Rattle.std.proofs.Common.{◌≡◌, ℕ, ◌^◌, ◌<◌, nat_lt, Bool, true, List, length, Result, Ok, Err, subst, sym, ap, arith, if◌then◌else◌}
+use Rattle.std.proofs.Common.{◌≡◌, ℕ, ◌^◌, ◌<◌, nat_lt, Bool, true, List, length, Result, Ok, Err, refl, subst, sym, ap, arith, if◌then◌else◌}
 use Rattle.std.proofs.lemmas.Bool.Decides.{nat_tests}
 use Rattle.std.specs.List.{AllByRecursion}
+use Rattle.std.specs.Result.{IfOk}
+use Rattle.std.specs.declared.alloc.AllocError.{AllocError}
 use Rattle.synod.specs.declared.refusal.Refusal.{Refusal}
-use Rattle.synod.specs.declared.refusal.Refusal.TheVariants.{RoundsSpent}
-use Rattle.synod.specs.Packets.{IsPost}
-use Rattle.synod.specs.Node.{Node, Stepped}
+use Rattle.synod.specs.declared.refusal.Refusal.TheVariants.{RoundsSpent, Memory}
+use Rattle.synod.specs.Packets.{IsPost, to_others}
+use Rattle.synod.specs.declared.packet.Body.TheVariants.{Ask}
+use Rattle.synod.specs.Node.{Node, Stepped, kept_of}
 use Rattle.synod.specs.Record.{RecordView}
 use Rattle.synod.specs.Core.{Core, ProposerView, LearnerView, core_of, assembled}
 use Rattle.synod.specs.Proposer.{begun, begins, next_round}
 use Rattle.synod.specs.Step.{IsNode, Keeps}
-use Rattle.synod.proofs.StepKeeps.{KeepsOnOk, keeps_begun}
+use Rattle.synod.specs.Ready.{Made, IsReadyFor}
+use Rattle.synod.proofs.StepKeeps.{KeepsOnOk, keeps_begun, keeps_reloaded}
 
 -- the parts of a node make a node
 pub node_of_parts : {V : Type 0} (me : ℕ) (weights : List ℕ) (r : RecordView V) (p : ProposerView V) (l : LearnerView V) (core : Core V) → core_of me weights r p l ≡ core → IsNode (assembled me weights r.kept p.state l.state) → IsNode core.node
@@ -28,3 +32,18 @@ begins_keeps {V} n is low =
 -- the posts of a step that is made
 pub posts_kept : {V : Type 0} (nodes : ℕ) (step made : Stepped V) → made ≡ step → Keeps nodes step → AllByRecursion (IsPost nodes) made.posts
 posts_kept {V} nodes step made is keeps = subst (λ (s : Stepped V). AllByRecursion (IsPost nodes) s.posts) (sym is) keeps.posts
+
+-- an answer where only a growth can be refused
+pub memory_posts : {V : Type 0} (nodes : ℕ) (core : Core V) (step : Stepped V) (inner : Result (Made V) AllocError) (answer : Result (Made V) Refusal)
+    → IfOk inner (IsReadyFor core step) → ((made : Made V) → inner ≡ Ok made → answer ≡ Ok made) → ((failed : AllocError) → inner ≡ Err failed → answer ≡ Err Memory) → Keeps nodes step
+    → IfOk answer (λ made. AllByRecursion (IsPost nodes) made.step.posts)
+memory_posts {V} nodes core step (Ok made) answer is ok err keeps =
+    let P : Result (Made V) Refusal → Type 0 = λ r. IfOk r (λ made. AllByRecursion (IsPost nodes) made.step.posts) in
+    subst P (sym (ok made refl)) (posts_kept nodes step made.step is.1 keeps)
+memory_posts {V} nodes core step (Err failed) answer is ok err keeps =
+    let P : Result (Made V) Refusal → Type 0 = λ r. IfOk r (λ made. AllByRecursion (IsPost nodes) made.step.posts) in
+    subst P (sym (err failed refl)) tt
+
+-- the others are asked for the first entry
+pub asks_all : {V : Type 0} (n : Node V) → IsNode n → AllByRecursion (IsPost {V = V} (length n.weights)) (to_others n.me n.weights (Ask 0))
+asks_all {V} n is = (keeps_reloaded n is (kept_of n) is.accepted).posts

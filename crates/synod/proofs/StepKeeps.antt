@@ -175,20 +175,25 @@ module _ {V : Type 0} (n : Node V) (is : IsNode n) where
     posts = posts_to_all nodes n.me (Prepare (next_ballot n) (log_length n)) is.me log_low 0 n.weights (omega arith);
   }) (λ e. tt)
 
+  pub value_waits : (v : V) → Keeps nodes (waits n v)
+  value_waits v = record { node = with_parts n.promise n.round n.accepted n.role n.pages n.heard n.learned (n.waiting ++ v ∷ []) is.accepted is.learned is.role is.pages; posts = tt }
+
+  pub slot_is_taken : (b : Ballot) (next : ℕ) (v : V) → next < SLOTS → Keeps nodes (takes_slot n b next v)
+  slot_is_taken b next v low = record {
+    node = with_parts n.promise n.round n.accepted (Leading b (next + 1)) n.pages n.heard n.learned n.waiting is.accepted is.learned (omega arith) is.pages;
+    posts = posts_to_all nodes n.me (Accept b next (Some v)) is.me low 0 n.weights (omega arith);
+  }
+
   waits_keep : (v : V) → KeepsOnOk nodes (offer_waits n v)
   waits_keep v = either_ok nodes (Err LogFull) (if nat_lt (length n.waiting) MOST_WAITING then Ok (waits n v) else Err Busy) (log_length n == SLOTS) (λ e. tt) (λ e.
       either_ok nodes (Ok (waits n v)) (Err Busy) (nat_lt (length n.waiting) MOST_WAITING)
-      (λ f. record { node = with_parts n.promise n.round n.accepted n.role n.pages n.heard n.learned (n.waiting ++ v ∷ []) is.accepted is.learned is.role is.pages; posts = tt }) (λ f. tt))
+      (λ f. value_waits v) (λ f. tt))
 
   offer_as_keeps : (role : Role) (v : V) → IsRole role → KeepsOnOk nodes (offer_as role n v)
   offer_as_keeps Idle v h = waits_keep v
   offer_as_keeps (Preparing b first) v h = waits_keep v
   offer_as_keeps (Leading b next) v h = either_ok nodes (Err LogFull) (Ok (takes_slot n b next v)) (next == SLOTS) (λ e. tt) (λ e.
-      let low : next < SLOTS = grind (arith, nat_tests) in
-      record {
-        node = with_parts n.promise n.round n.accepted (Leading b (next + 1)) n.pages n.heard n.learned n.waiting is.accepted is.learned (omega arith) is.pages;
-        posts = posts_to_all nodes n.me (Accept b next (Some v)) is.me low 0 n.weights (omega arith);
-      })
+      let low : next < SLOTS = grind (arith, nat_tests) in slot_is_taken b next v low)
 
   pub keeps_offered : (size : V → ℕ) (v : V) → KeepsOnOk nodes (offered size n v)
   keeps_offered size v = either_ok nodes (Err TooLong) (offer_as n.role n v) (nat_lt MOST_BYTES (size v)) (λ e. tt) (λ e. offer_as_keeps n.role v is.role)

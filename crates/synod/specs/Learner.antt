@@ -51,8 +51,11 @@ abbrev pub learns : {V : Type 0} → Node V → ℕ → Option V → Node V
 learns n s v = record n { learned = put_at n.learned s v }
 
 -- where a gap is left below, the others are asked
+abbrev pub asks_below : {V : Type 0} → Node V → ℕ → ℕ → List (Packet V)
+asks_below n s gap = if nat_lt gap s then to_others n.me n.weights (Ask gap) else []
+
 abbrev pub ask_below : {V : Type 0} → Node V → ℕ → List (Packet V)
-ask_below n s = if nat_lt (log_length n) s then to_others n.me n.weights (Ask (log_length n)) else []
+ask_below n s = asks_below n s (log_length n)
 
 -- a quorum accepted it under one ballot
 abbrev pub chooses : {V : Type 0} → Node V → ℕ → Option V → Stepped V
@@ -79,8 +82,11 @@ abbrev pub on_ask : {V : Type 0} → Node V → ℕ → ℕ → Stepped V
 on_ask n p s = on_ask_at (entry_at n.learned s) n p s
 
 -- the next gap is asked for, while there is one
+abbrev pub asks_for : {V : Type 0} → Node V → ℕ → ℕ → List (Packet V)
+asks_for n p gap = if nat_lt gap SLOTS then (packet n.me p (Ask gap) ∷ []) else []
+
 abbrev pub ask_next : {V : Type 0} → Node V → ℕ → List (Packet V)
-ask_next n p = if nat_lt (log_length n) SLOTS then (packet n.me p (Ask (log_length n)) ∷ []) else []
+ask_next n p = asks_for n p (log_length n)
 
 abbrev pub hears_told : {V : Type 0} → Node V → ℕ → ℕ → Option V → Stepped V
 hears_told n p s v = answers (learns n s v) (ask_next (learns n s v) p)

@@ -1,8 +1,10 @@
 -- A step that is made ready: the node that it is made for, and what it will be.
 -- Source: this project's way of storing a change before anything is seen of it.
 -- The code keeps a plan of what to move where. The step is what the plan comes to.
-use Rattle.std.specs.Prelude.{◌≡◌, Result, Ok, Err}
+use Rattle.std.specs.Prelude.{◌≡◌, Some, Result, Ok, Err}
 use Rattle.synod.specs.declared.ready.Plan.{Plan}
+use Rattle.synod.specs.declared.proposer.Proposal.{Proposal}
+use Rattle.synod.specs.declared.learner.Lesson.{Lesson}
 use Rattle.synod.specs.declared.refusal.Refusal.{Refusal}
 use Rattle.synod.specs.declared.refusal.Refusal.TheVariants.{Memory}
 use Rattle.synod.specs.Record.{changed_by, HasRoomFor}
@@ -44,3 +46,10 @@ Readies core (Ok step) (Ok made) = IsReadyFor core step made
 Readies core (Ok step) (Err refusal) = refusal ≡ Memory
 Readies core (Err met) (Err refusal) = refusal ≡ met
 Readies core (Err met) (Ok made) = ⊥
+
+-- the node once it has learned a lesson, or done what is proposed
+abbrev pub taught_node : {V : Type 0} → Node V → Lesson V → Node V
+taught_node n lesson = assembled n.me n.weights (kept_of n) (proposing_of n) (taught (learning_of n) (Some lesson))
+
+abbrev pub proposed_node : {V : Type 0} → Node V → Proposal V → Node V
+proposed_node n proposal = assembled n.me n.weights (kept_of n) (proposed (proposing_of n) (Some proposal)) (learning_of n)

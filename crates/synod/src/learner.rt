@@ -1,7 +1,7 @@
 //! The learner: whom it has counted, and what it has learned.
-ghost use Rattle.std.specs.Prelude.{◌≡◌, ◌<◌, ◌≤◌, ℕ, IfOk, OnOk, Some, None, MatchOption, false, length, slice_index_or};
+ghost use Rattle.std.specs.Prelude.{◌≡◌, ◌<◌, ◌≤◌, ℕ, IfOk, OnOk, Option, Some, None, MatchOption, false, length, slice_index_or};
 ghost use Rattle.slots.specs.declared.slots.TheConstants.{SLOTS};
-ghost use Rattle.slots.specs.FiniteMap.{entry_at, front_of};
+ghost use Rattle.slots.specs.FiniteMap.{entry_at, put_at, front_of};
 
 use crate::ballot::Ballot;
 use crate::weights::MOST_NODES;
@@ -216,6 +216,15 @@ impl<V: Drop> Learner<V> {
         ensures within { result ≤ SLOTS }
     {
         self.learned.front()
+    }
+
+    /// The length of the log once a slot is learned.
+    pub(crate) fn front_with(&self, slot: u32) -> u32
+        requires { slot < SLOTS }
+        ensures front { (value : Option V) → front_of (put_at self.now.state.learned slot value) ≡ result }
+        ensures within { result ≤ SLOTS }
+    {
+        self.learned.front_with(slot)
     }
 
     /// Whom a slot has counted.

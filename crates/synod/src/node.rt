@@ -2,18 +2,21 @@
 ghost use Rattle.std.specs.Prelude.{◌≡◌, ◌<◌, ◌≤◌, IfOk, Ok, Err, Some, None, MatchOption, length};
 ghost use Rattle.std.specs.List.{AllByRecursion};
 
+mod accepting;
+mod learning;
+mod proposing;
+
 use crate::ballot::Ballot;
-use crate::change::Change;
 use crate::learner::Learner;
 use crate::packet::Packet;
-use crate::pages::PagesHad;
-use crate::posts::{Said, post_to_all, post_to_others};
-use crate::proposer::{Proposal, Proposer};
+use crate::posts::{Said, post_to_others};
+use crate::proposer::{MOST_WAITING, Proposer, Role};
 use crate::ready::{Plan, Ready};
 use crate::record::Record;
 use crate::refusal::Refusal;
-use crate::value::{Value, copy_value};
+use crate::value::{MOST_BYTES, Value};
 use crate::weights::Weights;
+use slots::SLOTS;
 use std::alloc::{AllocError, Global};
 use std::marker::Model;
 
@@ -43,10 +46,11 @@ impl<V> Model for NodeCore<V> {
 
 impl<V: Value> NodeCore<V> {
     ghost use Rattle.std.specs.Prelude.{slice_get};
-    ghost use Rattle.synod.specs.Packets.{IsPacket, IsPost};
-    ghost use Rattle.synod.specs.Node.{new_node};
+    ghost use Rattle.synod.specs.Packets.{IsPacket, IsPost, to_others};
+    ghost use Rattle.synod.specs.declared.packet.Body.TheVariants.{Ask};
+    ghost use Rattle.synod.specs.Node.{new_node, unchanged};
     ghost use Rattle.synod.specs.Log.{log_of};
-    ghost use Rattle.synod.specs.Proposer.{begun, begins, next_ballot, offered};
+    ghost use Rattle.synod.specs.Proposer.{begun, offered, offer_waits};
     ghost use Rattle.synod.specs.Step.{Keeps, on_packet, reloaded, restarted};
     ghost use Rattle.synod.specs.Refusals.{Makes};
     ghost use Rattle.synod.specs.Ready.{Readies, IsReadyFor, planned, CanFollow};
@@ -81,10 +85,43 @@ impl<V: Value> NodeCore<V> {
             round: last + 1,
             node: self.me,
         };
-        match self.prepared(ballot) {
-            Ok(ready) => Ok(ready),
-            Err(_) => Err(Refusal::Memory),
+        or_memory(self.ready_ballot(ballot))
+    }
+
+    /// Makes the growths of `offer`, or answers its refusal. The node stays.
+    pub fn ready_offer(&mut self, value: V) -> Result<Ready<V>, Refusal>
+        ensures ready { Readies self.new (offered V.bytes self.old.node value) result }
+        ensures node { self.new.node ≡ self.old.node }
+        ensures posts { IfOk result (λ made. AllByRecursion (IsPost (length self.old.node.weights)) made.step.posts) }
+    {
+        if value.size() > MOST_BYTES {
+            return Err(Refusal::TooLong);
         }
+        match self.proposer.role() {
+            Role::Leading { ballot, next } => {
+                if next == SLOTS {
+                    return Err(Refusal::LogFull);
+                }
+                or_memory(self.ready_slot(ballot, next, value))
+            }
+            Role::Preparing { .. } => self.ready_offer_waiting(value),
+            Role::Idle => self.ready_offer_waiting(value),
+        }
+    }
+
+    /// The same where the node does not lead.
+    fn ready_offer_waiting(&mut self, value: V) -> Result<Ready<V>, Refusal>
+        ensures ready { Readies self.new (offer_waits self.old.node value) result }
+        ensures node { self.new.node ≡ self.old.node }
+        ensures posts { IfOk result (λ made. AllByRecursion (IsPost (length self.old.node.weights)) made.step.posts) }
+    {
+        if self.learner.front() == SLOTS {
+            return Err(Refusal::LogFull);
+        }
+        if self.proposer.waiting().len() >= MOST_WAITING {
+            return Err(Refusal::Busy);
+        }
+        or_memory(self.ready_waiting(value))
     }
 
     /// Makes the step that was made ready, and gives its posts. It takes no memory.
@@ -111,27 +148,63 @@ impl<V: Value> NodeCore<V> {
         }
     }
 
-    /// The step that begins a ballot.
-    fn prepared(&mut self, ballot: Ballot) -> Result<Ready<V>, AllocError>
-        requires keeps { Keeps (length self.old.node.weights) (begins self.old.node) }
-        requires ballot { ballot ≡ next_ballot self.old.node }
-        ensures ready { IfOk result (IsReadyFor self.new (begins self.old.node)) }
-        ensures node { self.new.node ≡ self.old.node }
+    /// Nothing happens.
+    pub(crate) fn ready_nothing(&self) -> Ready<V>
+        ensures { IsReadyFor self.now (unchanged self.now.node) result }
     {
-        let first = self.learner.front();
-        let pages = PagesHad::of_nodes(self.alloc, &self.weights)?;
-        let mut posts = Vec::new(self.alloc);
-        let said = Said::Prepare { ballot, first };
-        post_to_all(&mut posts, self.me, &self.weights, &said)?;
         let plan = Plan {
-            change: Some(Change::Round(ballot.round)),
-            proposal: Some(Proposal::Begin {
-                ballot,
-                first,
-                pages,
-            }),
+            change: None,
+            proposal: None,
             lesson: None,
         };
-        Ok(Ready::new(self, plan, posts))
+        Ready::new(self, plan, Vec::new(self.alloc))
+    }
+
+    /// Restarts: the kept part stays, and all else is as at first. The posts ask for what may be missed.
+    pub fn restart(&mut self) -> Result<Vec<Packet<V>>, Refusal>
+        ensures makes { Makes self.old.node self.new.node (Ok (restarted self.old.node)) result }
+        ensures posts { IfOk result (λ posts. AllByRecursion (IsPost (length self.old.node.weights)) posts.items) }
+    {
+        let Ok(posts) = self.ask_all() else {
+            return Err(Refusal::Memory);
+        };
+        self.proposer = Proposer::new(self.alloc);
+        self.learner = Learner::new(self.alloc);
+        Ok(posts)
+    }
+
+    /// Restarts with a loaded record as the kept part.
+    pub fn reload(&mut self, record: Record<V>) -> Result<Vec<Packet<V>>, Refusal>
+        ensures makes { Makes self.old.node self.new.node (Ok (reloaded self.old.node record.kept)) result }
+        ensures posts { IfOk result (λ posts. AllByRecursion (IsPost (length self.old.node.weights)) posts.items) }
+    {
+        let Ok(posts) = self.ask_all() else {
+            return Err(Refusal::Memory);
+        };
+        let _ = record.top();
+        self.record = record;
+        self.proposer = Proposer::new(self.alloc);
+        self.learner = Learner::new(self.alloc);
+        Ok(posts)
+    }
+
+    /// The other nodes are asked for the first entry.
+    fn ask_all(&self) -> Result<Vec<Packet<V>>, AllocError>
+        ensures { IfOk result (λ posts. posts.items ≡ to_others self.now.node.me self.now.node.weights (Ask 0)) }
+    {
+        let mut posts = Vec::new(self.alloc);
+        post_to_others(&mut posts, self.me, &self.weights, &Said::Ask { slot: 0 })?;
+        Ok(posts)
+    }
+}
+
+/// The answer, where only a growth can be refused.
+fn or_memory<T>(answer: Result<T, AllocError>) -> Result<T, Refusal>
+    ensures ok { (made : T) → answer ≡ Ok made → result ≡ Ok made }
+    ensures err { (failed : AllocError) → answer ≡ Err failed → result ≡ Err Refusal.Memory }
+{
+    match answer {
+        Ok(made) => Ok(made),
+        Err(_) => Err(Refusal::Memory),
     }
 }

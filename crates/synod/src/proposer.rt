@@ -23,6 +23,22 @@ pub enum Role {
     Leading { ballot: Ballot, next: u32 },
 }
 
+impl Role {
+    ghost use Rattle.synod.specs.Proposer.{is_at};
+
+    /// Whether it prepares or leads at a ballot.
+    pub fn is_at(self, ballot: Ballot) -> bool
+        ensures { result ≡ is_at self ballot }
+    {
+        match self {
+            Role::Idle => false,
+            Role::Preparing { ballot: at, .. } | Role::Leading { ballot: at, .. } => at.is_same(
+                ballot,
+            ),
+        }
+    }
+}
+
 /// A node that is heard, with the count of its promise's pages.
 #[derive(Debug, Clone, Copy, PartialEq, Eq)]
 pub struct Heard {

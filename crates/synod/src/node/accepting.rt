@@ -1,0 +1,75 @@
+//! The steps of an acceptor, made ready.
+ghost use Rattle.std.specs.Prelude.{◌≡◌, ◌<◌, IfOk, length};
+ghost use Rattle.slots.specs.declared.slots.TheConstants.{SLOTS};
+
+use crate::ballot::Ballot;
+use crate::change::{Change, Held};
+use crate::node::NodeCore;
+use crate::packet::{Body, Packet};
+use crate::posts::{Said, post_to_all};
+use crate::ready::{Plan, Ready};
+use crate::value::{Value, copy_value};
+use std::alloc::AllocError;
+
+impl<V: Value> NodeCore<V> {
+    ghost use Rattle.synod.specs.Acceptor.{refuses, on_accept};
+    ghost use Rattle.synod.specs.Step.{Keeps};
+    ghost use Rattle.synod.specs.Ready.{IsReadyFor};
+
+    /// A proposer is told of the promise that stands against its ballot.
+    fn ready_refusal(&self, from: u8, ballot: Ballot) -> Result<Ready<V>, AllocError>
+        ensures { IfOk result (IsReadyFor self.now (refuses self.now.node from ballot)) }
+    {
+        let mut posts = Vec::new(self.alloc);
+        posts.push(Packet {
+            from: self.me,
+            to: from,
+            body: Body::Nack {
+                ballot,
+                promise: self.record.promise(),
+            },
+        })?;
+        let plan = Plan {
+            change: None,
+            proposal: None,
+            lesson: None,
+        };
+        Ok(Ready::new(self, plan, posts))
+    }
+
+    /// An Accept came.
+    pub(crate) fn ready_accept(
+        &mut self,
+        from: u8,
+        ballot: Ballot,
+        slot: u32,
+        value: &Option<V>,
+    ) -> Result<Ready<V>, AllocError>
+        requires slot { slot < SLOTS }
+        requires keeps { Keeps (length self.old.node.weights) (on_accept self.old.node from ballot slot value.now) }
+        ensures ready { IfOk result (IsReadyFor self.new (on_accept self.old.node from ballot slot value.now)) }
+        ensures node { self.new.node ≡ self.old.node }
+    {
+        if ballot.is_under(self.record.promise()) {
+            return self.ready_refusal(from, ballot);
+        }
+        self.record.room(slot)?;
+        let mut posts = Vec::new(self.alloc);
+        let said = Said::Accepted {
+            ballot,
+            slot,
+            value,
+        };
+        post_to_all(&mut posts, self.me, &self.weights, &said)?;
+        let held = Held {
+            ballot,
+            value: copy_value(value)?,
+        };
+        let plan = Plan {
+            change: Some(Change::Entry { slot, held }),
+            proposal: None,
+            lesson: None,
+        };
+        Ok(Ready::new(self, plan, posts))
+    }
+}
