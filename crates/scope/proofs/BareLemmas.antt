@@ -1,0 +1,107 @@
+-- No rule looks at a proof.
+use Rattle.std.specs.Prelude.{◌≡◌, ℕ, zero, suc, ◌+◌, ◌==◌, Bool, true, false, not, cond, ◌||◌, ◌&&◌, nat_lt, List, [], ◌∷◌, Some, None, refl}
+use Rattle.std.specs.List.{list_any, list_all}
+use Rattle.std.proofs.Common.{◌∙◌, ap}
+use Rattle.mm_lex.specs.Alphabet.{Name, has_name}
+use Rattle.mm_read.specs.declared.stmt.Stmt.{Stmt}
+use Rattle.mm_read.specs.declared.stmt.Stmt.TheVariants.{Open, Close, Const, Var, Disj, Float, Ess, Axiom, Prove}
+use Rattle.mm_read.specs.Statements.{Database, Expr}
+use Rattle.scope.specs.Active.{bare, bares, count, stays_open, active_from, is_open, is_close, constants, variables, label_of, has_label, is_float_of, is_variable, is_constant, was_symbol, was_label, has_float}
+use Rattle.scope.specs.Legal.{broken_rule, end_rule, all_different}
+use Rattle.scope.specs.declared.rule.Rule.TheVariants.{G1, G2, G3, G4, G5, G6, G7, G8, G9, G10}
+
+-- what does not look at a proof is the same of a statement without one
+pub bare-same : {A : Type 0} (f : Stmt → A) → ((label : Name) (expr : Expr) (proof : List Name) → f (Prove label expr []) ≡ f (Prove label expr proof)) → (s : Stmt) → f (bare s) ≡ f s
+bare-same f h (Prove label expr proof) = h label expr proof
+bare-same f h Open = refl
+bare-same f h Close = refl
+bare-same f h (Const names) = refl
+bare-same f h (Var names) = refl
+bare-same f h (Disj names) = refl
+bare-same f h (Float label constant variable) = refl
+bare-same f h (Ess label expr) = refl
+bare-same f h (Axiom label expr) = refl
+
+any-bares : (p : Stmt → Bool) → ((s : Stmt) → p (bare s) ≡ p s) → (S : Database) → list_any p (bares S) ≡ list_any p S
+any-bares p h [] = refl
+any-bares p h (s ∷ S) = λ j. h s j || any-bares p h S j
+
+pub count-bares : (p : Stmt → Bool) → ((s : Stmt) → p (bare s) ≡ p s) → (S : Database) → count p (bares S) ≡ count p S
+count-bares p h [] = refl
+count-bares p h (s ∷ S) = λ j. cond (h s j) (1 + count-bares p h S j) (count-bares p h S j)
+
+pub stays_open-bares : (d : ℕ) (S : Database) → stays_open d (bares S) ≡ stays_open d S
+stays_open-bares d [] = refl
+stays_open-bares d (Open ∷ S) = stays_open-bares (suc d) S
+stays_open-bares zero (Close ∷ S) = refl
+stays_open-bares (suc d) (Close ∷ S) = stays_open-bares d S
+stays_open-bares d (Const names ∷ S) = stays_open-bares d S
+stays_open-bares d (Var names ∷ S) = stays_open-bares d S
+stays_open-bares d (Disj names ∷ S) = stays_open-bares d S
+stays_open-bares d (Float label constant variable ∷ S) = stays_open-bares d S
+stays_open-bares d (Ess label expr ∷ S) = stays_open-bares d S
+stays_open-bares d (Axiom label expr ∷ S) = stays_open-bares d S
+stays_open-bares d (Prove label expr proof ∷ S) = stays_open-bares d S
+
+any-active : (q : Stmt → Bool) → ((s : Stmt) → q (bare s) ≡ q s) → (at : ℕ) (S : Database) → list_any (λ p. q p.1) (active_from at (bares S)) ≡ list_any (λ p. q p.1) (active_from at S)
+any-active q h at [] = refl
+any-active q h at (s ∷ S) =
+    ap (λ b. list_any (λ p. q p.1) (cond b ((at, bare s) ∷ active_from (at + 1) (bares S)) (active_from (at + 1) (bares S)))) (stays_open-bares 0 S)
+    ∙ by (stays_open 0 S) (any-active q h (at + 1) S)
+  where
+    by : (b : Bool) → list_any (λ p. q p.1) (active_from (at + 1) (bares S)) ≡ list_any (λ p. q p.1) (active_from (at + 1) S)
+        → list_any (λ (p : ℕ × Stmt). q p.1) (cond b ((at, bare s) ∷ active_from (at + 1) (bares S)) (active_from (at + 1) (bares S))) ≡ list_any (λ (p : ℕ × Stmt). q p.1) (cond b ((at, s) ∷ active_from (at + 1) S) (active_from (at + 1) S))
+    by true e = λ j. h s j || e j
+    by false e = e
+
+module _ (S : Database) where
+  opens : count is_open (bares S) ≡ count is_open S
+  opens = count-bares is_open (bare-same is_open (λ l e p. refl)) S
+
+  closes : count is_close (bares S) ≡ count is_close S
+  closes = count-bares is_close (bare-same is_close (λ l e p. refl)) S
+
+  symbols : (x : Name) → was_symbol (bares S) x ≡ was_symbol S x
+  symbols x = any-bares (λ s. has_name x (constants s) || has_name x (variables s)) (bare-same (λ s. has_name x (constants s) || has_name x (variables s)) (λ l e p. refl)) S
+
+  labels : (x : Name) → was_label (bares S) x ≡ was_label S x
+  labels x = any-bares (λ s. has_label x (label_of s)) (bare-same (λ s. has_label x (label_of s)) (λ l e p. refl)) S
+
+  are_constants : (x : Name) → is_constant (bares S) x ≡ is_constant S x
+  are_constants x = any-bares (λ s. has_name x (constants s)) (bare-same (λ s. has_name x (constants s)) (λ l e p. refl)) S
+
+  are_variables : (x : Name) → is_variable (bares S) x ≡ is_variable S x
+  are_variables x = any-active (λ s. has_name x (variables s)) (bare-same (λ s. has_name x (variables s)) (λ l e p. refl)) 1 S
+
+  floats : (x : Name) → has_float (bares S) x ≡ has_float S x
+  floats x = any-active (is_float_of x) (bare-same (is_float_of x) (λ l e p. refl)) 1 S
+
+  labelled : (label : Name) (expr : Expr) → broken_rule (bares S) (Axiom label expr) ≡ broken_rule S (Axiom label expr)
+  labelled label [] = λ j.
+      cond (not (not (labels label j || symbols label j))) (Some G4) None
+  labelled label (x ∷ expr) = λ j.
+      cond (not (not (labels label j || symbols label j))) (Some G4)
+      (cond (not (list_all (λ y. are_constants y j || are_variables y j) (x ∷ expr))) (Some G5)
+      (cond (not (are_constants x j)) (Some G6)
+      (cond (not (list_all (λ y. not (are_variables y j) || floats y j) (x ∷ expr))) (Some G9) None)))
+
+  pub broken_rule-bares : (s : Stmt) → broken_rule (bares S) s ≡ broken_rule S s
+  broken_rule-bares Open = refl
+  broken_rule-bares Close = λ j. cond (not (nat_lt (closes j) (opens j))) (Some G10) None
+  broken_rule-bares (Const names) = λ j.
+      cond (not (opens j == closes j)) (Some G1)
+      (cond (not (list_all (λ x. not (symbols x j || labels x j)) names && all_different names)) (Some G2) None)
+  broken_rule-bares (Var names) = λ j.
+      cond (not (list_all (λ x. not (are_variables x j || are_constants x j || labels x j)) names && all_different names)) (Some G3) None
+  broken_rule-bares (Disj names) = λ j. cond (not (all_different names && list_all (λ x. are_variables x j) names)) (Some G8) None
+  broken_rule-bares (Float label constant variable) = λ j.
+      cond (not (not (labels label j || symbols label j))) (Some G4)
+      (cond (not (list_all (λ y. are_constants y j || are_variables y j) (constant ∷ variable ∷ []))) (Some G5)
+      (cond (not (are_constants constant j)) (Some G6)
+      (cond (not (are_variables variable j && not (floats variable j))) (Some G7) None)))
+  broken_rule-bares (Ess label expr) = labelled label expr
+  broken_rule-bares (Axiom label expr) = labelled label expr
+  broken_rule-bares (Prove label expr proof) = labelled label expr
+
+  pub end_rule-bares : end_rule (bares S) ≡ end_rule S
+  end_rule-bares = λ j. cond (opens j == closes j) None (Some G10)

@@ -1,0 +1,76 @@
+-- What a legal statement keeps.
+use Rattle.std.specs.Prelude.{◌≡◌, Bool, true, false, not, cond, ◌||◌, ◌&&◌, nat_lt, List, [], ◌∷◌, Option, Some, None, refl}
+use Rattle.std.specs.List.{list_all}
+use Rattle.std.proofs.Common.{◌∙◌, ap, sym}
+use Rattle.mm_lex.specs.Alphabet.{Name}
+use Rattle.mm_read.specs.declared.stmt.Stmt.{Stmt}
+use Rattle.mm_read.specs.declared.stmt.Stmt.TheVariants.{Open, Close, Const, Var, Disj, Float, Ess, Axiom, Prove}
+use Rattle.mm_read.specs.Statements.{Database}
+use Rattle.scope.specs.Active.{is_variable, is_constant, was_symbol, was_label, has_float, label_of, count, is_open, is_close}
+use Rattle.scope.specs.Legal.{all_different, broken_rule}
+use Rattle.scope.specs.declared.rule.Rule.{Rule}
+use Rattle.scope.specs.declared.rule.Rule.TheVariants.{G4, G5, G6, G7}
+
+first_rule : (b : Bool) (r : Rule) (rest : Option Rule) → cond (not b) (Some r) rest ≡ None → (b ≡ true) × (rest ≡ None)
+first_rule true r rest h = (refl, h)
+first_rule false r rest h = cc
+
+both : (a b : Bool) → (a && b) ≡ true → (a ≡ true) × (b ≡ true)
+both true true h = (refl, refl)
+both true false h = cc
+both false b h = cc
+
+or_comm : (a b : Bool) → (a || b) ≡ (b || a)
+or_comm true true = refl
+or_comm true false = refl
+or_comm false true = refl
+or_comm false false = refl
+
+pub legal-constants : (S : Database) (xs : List Name) → broken_rule S (Const xs) ≡ None
+    → (list_all (λ x. not (was_symbol S x || was_label S x)) xs ≡ true) × (all_different xs ≡ true)
+legal-constants S xs h = both _ _ (first_rule _ _ _ (first_rule _ _ _ h).1).0
+
+pub legal-variables : (S : Database) (xs : List Name) → broken_rule S (Var xs) ≡ None
+    → (list_all (λ x. not (is_variable S x || is_constant S x || was_label S x)) xs ≡ true) × (all_different xs ≡ true)
+legal-variables S xs h = both _ _ (first_rule _ _ _ h).0
+
+pub legal-close : (S : Database) → broken_rule S Close ≡ None → nat_lt (count is_close S) (count is_open S) ≡ true
+legal-close S h = (first_rule _ _ _ h).0
+
+fresh : (S : Database) (l : Name) → not (was_label S l || was_symbol S l) ≡ true → not (was_symbol S l || was_label S l) ≡ true
+fresh S l h = ap not (or_comm (was_symbol S l) (was_label S l)) ∙ h
+
+pub legal-label : (S : Database) (s : Stmt) (l : Name) → label_of s ≡ Some l → broken_rule S s ≡ None → not (was_symbol S l || was_label S l) ≡ true
+legal-label S Open l e h = cc
+legal-label S Close l e h = cc
+legal-label S (Const xs) l e h = cc
+legal-label S (Var xs) l e h = cc
+legal-label S (Disj xs) l e h = cc
+legal-label S (Float label constant variable) l e h = ap (λ x. not (was_symbol S x || was_label S x)) (sym (named label l e)) ∙ fresh S label (first_rule _ _ _ h).0
+  where
+    named : (a b : Name) → Some a ≡ Some b → a ≡ b
+    named a b e = cc
+legal-label S (Ess label expr) l e h = ap (λ x. not (was_symbol S x || was_label S x)) (sym (named label l e)) ∙ fresh S label (first_rule _ _ _ h).0
+  where
+    named : (a b : Name) → Some a ≡ Some b → a ≡ b
+    named a b e = cc
+legal-label S (Axiom label expr) l e h = ap (λ x. not (was_symbol S x || was_label S x)) (sym (named label l e)) ∙ fresh S label (first_rule _ _ _ h).0
+  where
+    named : (a b : Name) → Some a ≡ Some b → a ≡ b
+    named a b e = cc
+legal-label S (Prove label expr proof) l e h = ap (λ x. not (was_symbol S x || was_label S x)) (sym (named label l e)) ∙ fresh S label (first_rule _ _ _ h).0
+  where
+    named : (a b : Name) → Some a ≡ Some b → a ≡ b
+    named a b e = cc
+
+pub legal-float : (S : Database) (label constant variable : Name) → broken_rule S (Float label constant variable) ≡ None → (is_variable S variable ≡ true) × (not (has_float S variable) ≡ true)
+legal-float S label constant variable h =
+    both (is_variable S variable) (not (has_float S variable))
+    (by (not (was_label S label || was_symbol S label)) (list_all (λ x. is_constant S x || is_variable S x) (constant ∷ variable ∷ [])) (is_constant S constant) (is_variable S variable && not (has_float S variable)) h)
+  where
+    by : (a b c d : Bool) → cond (not a) (Some G4) (cond (not b) (Some G5) (cond (not c) (Some G6) (cond (not d) (Some G7) None))) ≡ None → d ≡ true
+    by a b c true h = refl
+    by true true true false h = cc
+    by true true false false h = cc
+    by true false c false h = cc
+    by false b c false h = cc

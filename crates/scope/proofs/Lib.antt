@@ -1,0 +1,12 @@
+pub mod Databases
+pub mod NumberingLemmas
+pub mod NamesLemmas
+pub mod SortsLemmas
+pub mod KeptLemmas
+pub mod LegalLemmas
+pub mod AcceptLemmas
+pub mod StackLemmas
+pub mod ActiveLemmas
+pub mod BlocksLemmas
+pub mod BareLemmas
+mod Rows

@@ -1,0 +1,42 @@
+-- The rules, worked out.
+use Rattle.std.specs.Prelude.{◌≡◌, [], ◌∷◌, ◌++◌, codes, refl, Some}
+use Rattle.mm_read.specs.declared.stmt.Stmt.TheVariants.{Open, Close, Const, Var, Float, Axiom}
+use Rattle.scope.specs.declared.rule.Rule.TheVariants.{G1, G2, G3, G4, G10}
+use Rattle.scope.specs.Legal.{first_broken, AllLegal}
+use Rattle.scope.proofs.Databases.{w, demo, row_seven, row_th}
+
+demo_legal : AllLegal demo
+demo_legal = refl
+
+row_seven_legal : AllLegal (row_seven ++ row_th ∷ Close ∷ [])
+row_seven_legal = refl
+
+inner_constant : first_broken 1 [] (Open ∷ Const (w (codes "a")) ∷ []) ≡ Some (2, G1)
+inner_constant = refl
+
+stray_close : first_broken 1 [] (Close ∷ []) ≡ Some (1, G10)
+stray_close = refl
+
+open_at_end : first_broken 1 [] (Open ∷ Var (w (codes "x")) ∷ []) ≡ Some (3, G10)
+open_at_end = refl
+
+twice : first_broken 1 [] (Const (w (codes "a a")) ∷ []) ≡ Some (1, G2)
+twice = refl
+
+label_again : first_broken 1 [] (Const (w (codes "|-")) ∷ Axiom (codes "p") (w (codes "|-")) ∷ Axiom (codes "p") (w (codes "|-")) ∷ []) ≡ Some (3, G4)
+label_again = refl
+
+label_is_symbol : first_broken 1 [] (Const (w (codes "o |-")) ∷ Axiom (codes "o") (w (codes "|-")) ∷ []) ≡ Some (2, G4)
+label_is_symbol = refl
+
+variable_again : first_broken 1 (Var (w (codes "x")) ∷ []) (Var (w (codes "x")) ∷ []) ≡ Some (1, G3)
+variable_again = refl
+
+-- row 7's first text: a variable with another type in another block
+retyped : AllLegal (Const (w (codes "wff set |- R")) ∷ Open ∷ Var (w (codes "x")) ∷ Float (codes "wx") (codes "wff") (codes "x") ∷ Axiom (codes "a1") (w (codes "|- x")) ∷ Close
+    ∷ Open ∷ Var (w (codes "x")) ∷ Float (codes "sx") (codes "set") (codes "x") ∷ Axiom (codes "a2") (w (codes "|- R x")) ∷ Close ∷ [])
+retyped = refl
+
+-- a symbol that was a variable of a closed block is no constant any more
+once_variable : first_broken 1 [] (Open ∷ Var (w (codes "x")) ∷ Close ∷ Const (w (codes "x")) ∷ []) ≡ Some (4, G2)
+once_variable = refl

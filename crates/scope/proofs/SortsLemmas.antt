@@ -1,0 +1,204 @@
+-- What a look-up says of a symbol.
+use Rattle.std.specs.Prelude.{◌≡◌, ℕ, suc, ◌+◌, ◌==◌, Bool, true, false, not, cond, ◌||◌, ◌&&◌, List, [], ◌∷◌, ◌++◌, length, Option, Some, None, is_some, nat_lt, refl}
+use Rattle.std.specs.List.{list_any, position_or_len, prefix_len, flat_map}
+use Rattle.std.proofs.Common.{sym, ◌∙◌, ap, arith, true≢false, take, ◌<◌, append_assoc, length-append}
+use Rattle.std.proofs.lemmas.List.{take_at, length_push}
+use Rattle.std.proofs.lemmas.Bool.Decides.{nat_tests}
+use Rattle.mm_lex.specs.Alphabet.{Name, name_eq, has_name}
+use Rattle.mm_read.specs.declared.stmt.Stmt.{Stmt}
+use Rattle.mm_read.specs.declared.stmt.Stmt.TheVariants.{Open, Close, Const, Var, Disj, Float, Ess, Axiom, Prove}
+use Rattle.mm_read.specs.Statements.{Database}
+use Rattle.scope.specs.Active.{variables, constants, active, is_float_of, typed_by, is_variable, is_constant, has_float, was_symbol, was_label, was_variable, active_variables, typed_variables}
+use Rattle.scope.specs.Legal.{all_different}
+use Rattle.scope.specs.Numbering.{number_in, numbers_in, code_of}
+use Rattle.scope.specs.Kinds.{Tells}
+use Rattle.scope.specs.Sorts.{IsSort, sort_by, is_constant_sort, is_variable_sort, is_label_sort, is_inactive_sort}
+use Rattle.scope.specs.declared.numbering.Kind.{Kind}
+use Rattle.scope.specs.declared.numbering.Kind.TheVariants.{Label, Constant, Variable}
+use Rattle.scope.specs.declared.legal.Sort.{Sort}
+use Rattle.scope.specs.declared.legal.Sort.TheVariants as sort
+use Rattle.scope.proofs.NamesLemmas.{has_name-append, same_name, name_eq-comm, number_in-same, active-was}
+
+-- ---- what is active, as lists of names
+
+pub any-variables : (es : List (ℕ × Stmt)) (x : Name) → list_any (λ p. has_name x (variables p.1)) es ≡ has_name x (flat_map (λ p. variables p.1) es)
+any-variables [] x = refl
+any-variables (p ∷ es) x = ap (λ b. has_name x (variables p.1) || b) (any-variables es x) ∙ sym (has_name-append x (variables p.1) (flat_map (λ p. variables p.1) es))
+
+pub is_variable-active : (S : Database) (x : Name) → is_variable S x ≡ has_name x (active_variables S)
+is_variable-active S x = any-variables (active S) x
+
+types : (s : Stmt) (x : Name) → is_float_of x s ≡ has_name x (typed_by s)
+types Open x = refl
+types Close x = refl
+types (Const names) x = refl
+types (Var names) x = refl
+types (Disj names) x = refl
+types (Float label constant variable) x = or_no (name_eq x variable)
+  where
+    or_no : (b : Bool) → b ≡ (b || false)
+    or_no true = refl
+    or_no false = refl
+types (Ess label expr) x = refl
+types (Axiom label expr) x = refl
+types (Prove label expr proof) x = refl
+
+pub any-typed : (es : List (ℕ × Stmt)) (x : Name) → list_any (λ p. is_float_of x p.1) es ≡ has_name x (flat_map (λ p. typed_by p.1) es)
+any-typed [] x = refl
+any-typed (p ∷ es) x =
+    ap (λ a. a || list_any (λ p. is_float_of x p.1) es) (types p.1 x)
+    ∙ (ap (λ b. has_name x (typed_by p.1) || b) (any-typed es x) ∙ sym (has_name-append x (typed_by p.1) (flat_map (λ p. typed_by p.1) es)))
+
+pub has_float-typed : (S : Database) (x : Name) → has_float S x ≡ has_name x (typed_variables S)
+has_float-typed S x = any-typed (active S) x
+
+pub was_symbol-either : (S : Database) (x : Name) → was_symbol S x ≡ (is_constant S x || was_variable S x)
+was_symbol-either [] x = refl
+was_symbol-either (s ∷ S) x =
+    ap (λ b. (has_name x (constants s) || has_name x (variables s)) || b) (was_symbol-either S x)
+    ∙ swap (has_name x (constants s)) (has_name x (variables s)) (is_constant S x) (was_variable S x)
+  where
+    swap : (a b c d : Bool) → ((a || b) || (c || d)) ≡ ((a || c) || (b || d))
+    swap true b c d = refl
+    swap false true true d = refl
+    swap false true false d = refl
+    swap false false c d = refl
+
+-- ---- numbers found
+
+pub lt_step : (b : Bool) (r l : ℕ) (q : Bool) → nat_lt r l ≡ q → nat_lt (cond (not b) (1 + r) 0) (suc l) ≡ (b || q)
+lt_step true r l q h = grind (arith)
+lt_step false r l true h = grind (arith, h)
+lt_step false r l false h = grind (arith, h)
+
+pub lt-list_any : {A : Type 0} (p : A → Bool) (xs : List A) → nat_lt (position_or_len p xs) (length xs) ≡ list_any p xs
+lt-list_any p [] = refl
+lt-list_any p (x ∷ xs) = lt_step (p x) (prefix_len (λ a. not (p a)) xs) (length xs) (list_any p xs) (lt-list_any p xs)
+
+some_cond : {A : Type 0} (b : Bool) (x y : A) → cond b (Some x) None ≡ Some y → (b ≡ true) × (x ≡ y)
+some_cond true x y h = (refl, cc)
+some_cond false x y h = cc
+
+none_cond : {A : Type 0} (b : Bool) (x : A) → cond b (Some x) None ≡ None → b ≡ false
+none_cond true x h = cc
+none_cond false x h = refl
+
+pub found-number : (names : List Name) (x : Name) (n : ℕ) → Some n ≡ code_of names x → (has_name x names ≡ true) × (number_in names x ≡ n)
+found-number names x n h =
+    let s = some_cond (nat_lt (number_in names x) (length names)) (number_in names x) n (sym h) in
+    (sym (lt-list_any (name_eq x) names) ∙ s.0, s.1)
+
+equal_numbers : (m n : ℕ) → (m == n) ≡ true → m ≡ n
+equal_numbers m n e = grind (arith, nat_tests)
+
+numbers_apart : (m n : ℕ) (b : Bool) → (m == n) ≡ b → (m ≡ n → ⊥) → b ≡ false
+numbers_apart m n true e differ = absurd (differ (equal_numbers m n e))
+numbers_apart m n false e differ = refl
+
+-- the number of a name is among the numbers of names exactly where the name is among them
+pub numbers-has : (names : List Name) (x : Name) (xs : List Name) → has_name x names ≡ true → list_any (λ n. n == number_in names x) (numbers_in names xs) ≡ has_name x xs
+numbers-has names x [] h = refl
+numbers-has names x (y ∷ xs) h = ap (λ b. b || list_any (λ n. n == number_in names x) (numbers_in names xs)) (one (name_eq x y) refl) ∙ ap (λ r. name_eq x y || r) (numbers-has names x xs h)
+  where
+    same : (m n : ℕ) → m ≡ n → (m == n) ≡ true
+    same m n e = grind (arith, nat_tests)
+
+    one : (b : Bool) → name_eq x y ≡ b → (number_in names y == number_in names x) ≡ b
+    one true e = same (number_in names y) (number_in names x) (ap (number_in names) (sym (same_name x y e)))
+    one false e = numbers_apart (number_in names y) (number_in names x) _ refl (λ k. true≢false (sym (number_in-same x y names h (sym k)) ∙ (name_eq-comm y x ∙ e)))
+
+-- ---- sorts
+
+not_active : (S : Database) (x : Name) → was_variable S x ≡ false → is_variable S x ≡ false
+not_active S x h = by (is_variable S x) refl
+  where
+    by : (b : Bool) → is_variable S x ≡ b → b ≡ false
+    by true e = absurd (true≢false (sym (active-was 1 S x (sym (is_variable-active S x) ∙ e)) ∙ h))
+    by false e = refl
+
+pub constant-sort : (S : Database) (x : Name) → Tells S x (Some Constant) → IsSort S x sort.Constant
+constant-sort S x t =
+    let no = not_active S x t.variable in
+    record { constant = t.constant; variable = no; label = t.label; untyped = ap (λ b. not b || has_float S x) no }
+
+pub label-sort : (S : Database) (x : Name) → Tells S x (Some Label) → IsSort S x sort.Label
+label-sort S x t =
+    let no = not_active S x t.variable in
+    record { constant = t.constant; variable = no; label = t.label; untyped = ap (λ b. not b || has_float S x) no }
+
+pub no-sort : (S : Database) (x : Name) → Tells S x None → IsSort S x sort.Inactive
+no-sort S x t =
+    let no = not_active S x t.variable in
+    record { constant = t.constant; variable = no; label = t.label; untyped = ap (λ b. not b || has_float S x) no }
+
+pub variable-sort : (S : Database) (x : Name) → Tells S x (Some Variable) → IsSort S x (sort_by (is_variable S x) (has_float S x))
+variable-sort S x t = by (is_variable S x) (has_float S x) refl refl
+  where
+    by : (a b : Bool) → is_variable S x ≡ a → has_float S x ≡ b → IsSort S x (sort_by a b)
+    by true true p q = record { constant = t.constant; variable = p; label = t.label; untyped = ap (λ c. not c || has_float S x) p ∙ q }
+    by true false p q = record { constant = t.constant; variable = p; label = t.label; untyped = ap (λ c. not c || has_float S x) p ∙ q }
+    by false b p q = record { constant = t.constant; variable = p; label = t.label; untyped = ap (λ c. not c || has_float S x) p }
+
+-- a name with no kind was never declared, and one with a kind was
+pub fresh-kind : (S : Database) (x : Name) (k : Option Kind) → Tells S x k → not (is_some k) ≡ not (was_symbol S x || was_label S x)
+fresh-kind S x None t = ap not (sym (ap (λ b. b || was_label S x) (was_symbol-either S x ∙ (ap (λ b. b || was_variable S x) t.constant ∙ t.variable)) ∙ t.label))
+fresh-kind S x (Some Label) t = ap not (sym (ap (λ b. b || was_label S x) (was_symbol-either S x ∙ (ap (λ b. b || was_variable S x) t.constant ∙ t.variable)) ∙ t.label))
+fresh-kind S x (Some Constant) t = ap not (sym (ap (λ b. b || was_label S x) (was_symbol-either S x ∙ ap (λ b. b || was_variable S x) t.constant)))
+fresh-kind S x (Some Variable) t = ap not (sym (ap (λ b. b || was_label S x) (was_symbol-either S x ∙ (ap (λ b. b || was_variable S x) t.constant ∙ t.variable))))
+
+-- ---- names that differ
+
+pub all_different-append : (xs : List Name) (w : Name) → all_different (xs ++ w ∷ []) ≡ (all_different xs && not (has_name w xs))
+all_different-append [] w = refl
+all_different-append (x ∷ xs) w =
+    ap (λ b. not b && all_different (xs ++ w ∷ [])) (has_name-append x xs (w ∷ []))
+    ∙ (ap (λ b. not (has_name x xs || (name_eq x w || false)) && b) (all_different-append xs w)
+    ∙ (ap (λ b. not (has_name x xs || (b || false)) && (all_different xs && not (has_name w xs))) (name_eq-comm x w)
+    ∙ by (has_name x xs) (name_eq w x) (all_different xs) (has_name w xs)))
+  where
+    by : (a b c d : Bool) → (not (a || (b || false)) && (c && not d)) ≡ ((not a && c) && not (b || d))
+    by true b c d = refl
+    by false true true d = refl
+    by false true false d = refl
+    by false false c d = refl
+
+pub all_different-front : (xs ys : List Name) → all_different xs ≡ false → all_different (xs ++ ys) ≡ false
+all_different-front [] ys h = cc
+all_different-front (x ∷ xs) ys h = by (has_name x xs) refl h (all_different-front xs ys)
+  where
+    and_false : (a : Bool) → (a && false) ≡ false
+    and_false true = refl
+    and_false false = refl
+
+    by : (a : Bool) → has_name x xs ≡ a → (not a && all_different xs) ≡ false → (all_different xs ≡ false → all_different (xs ++ ys) ≡ false) → (not (has_name x (xs ++ ys)) && all_different (xs ++ ys)) ≡ false
+    by true e h rest = ap (λ b. not b && all_different (xs ++ ys)) (has_name-append x xs ys ∙ ap (λ b. b || has_name x ys) e)
+    by false e h rest = ap (λ b. not (has_name x (xs ++ ys)) && b) (rest h) ∙ and_false (not (has_name x (xs ++ ys)))
+
+pub first-length : {A : Type 0} (xs rest ws : List A) (i : ℕ) → xs ++ rest ≡ ws → i + length rest ≡ length ws → length xs ≡ i
+first-length xs rest ws i e h = omega (arith, length-append xs rest, ap length e)
+
+pub first-more : {A : Type 0} (xs rest ws : List A) (w : A) (i : ℕ) → xs ++ (w ∷ rest) ≡ ws → length xs ≡ i → take (i + 1) ws ≡ xs ++ w ∷ []
+first-more xs rest ws w i e h =
+    ap (take (i + 1)) (sym e ∙ sym (append_assoc xs (w ∷ []) rest)) ∙ take_at (xs ++ w ∷ []) rest (i + 1) (length_push xs w ∙ ap (λ n. n + 1) h)
+
+pub short_differ : (xs : List Name) → length xs < 2 → all_different xs ≡ true
+short_differ [] h = refl
+short_differ (x ∷ []) h = refl
+short_differ (x ∷ y ∷ xs) h = absurd (omega arith)
+
+-- what may be declared as a variable
+pub inactive-sort : (S : Database) (x : Name) (k : Sort) → IsSort S x k → not (is_variable S x || is_constant S x || was_label S x) ≡ is_inactive_sort k
+inactive-sort S x k t =
+    ap (λ b. not (b || is_constant S x || was_label S x)) t.variable
+    ∙ (ap (λ b. not (is_variable_sort k || b || was_label S x)) t.constant
+    ∙ (ap (λ b. not (is_variable_sort k || is_constant_sort k || b)) t.label ∙ by k))
+  where
+    by : (k : Sort) → not (is_variable_sort k || is_constant_sort k || is_label_sort k) ≡ is_inactive_sort k
+    by sort.Constant = refl
+    by sort.Typed = refl
+    by sort.Untyped = refl
+    by sort.Label = refl
+    by sort.Inactive = refl
+
+pub unknown-number : (names : List Name) (x : Name) → None ≡ code_of names x → has_name x names ≡ false
+unknown-number names x h = sym (lt-list_any (name_eq x) names) ∙ none_cond (nat_lt (number_in names x) (length names)) (number_in names x) (sym h)

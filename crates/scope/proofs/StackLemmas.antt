@@ -1,0 +1,60 @@
+-- Where a number stands in a stack.
+use Rattle.std.specs.Prelude.{◌≡◌, ℕ, zero, suc, ◌<◌, Bool, true, false, ◌||◌, ◌==◌, List, [], ◌∷◌, ◌++◌, length, Some, slice_get, refl}
+use Rattle.std.specs.List.{list_any}
+use Rattle.std.proofs.Common.{sym, ◌∙◌, ap, arith, ◌≢◌, ◌⊎◌, inl, inr, true≢false, slice_set}
+use Rattle.std.proofs.lemmas.Bool.Decides.{nat_tests}
+
+-- it stands there, so it is among them
+pub member : (xs : List ℕ) (k n : ℕ) → slice_get xs k ≡ Some n → list_any (λ m. m == n) xs ≡ true
+member [] k n h = cc
+member (x ∷ xs) zero n h = found x n xs (cc h)
+  where
+    found : (x n : ℕ) (xs : List ℕ) → x ≡ n → ((x == n) || list_any (λ m. m == n) xs) ≡ true
+    found x n xs e = grind (arith, nat_tests)
+member (x ∷ xs) (suc k) n h = or_true (x == n) (list_any (λ m. m == n) xs) (member xs k n h)
+  where
+    or_true : (a b : Bool) → b ≡ true → (a || b) ≡ true
+    or_true true b e = refl
+    or_true false b e = e
+
+-- it stands nowhere, so it is not among them
+pub no_member : (xs : List ℕ) (n : ℕ) → ((k : ℕ) → slice_get xs k ≡ Some n → ⊥) → list_any (λ m. m == n) xs ≡ false
+no_member [] n none = refl
+no_member (x ∷ xs) n none = by (x == n) refl (no_member xs n (λ k h. none (suc k) h))
+  where
+    same : (x n : ℕ) → (x == n) ≡ true → x ≡ n
+    same x n e = grind (arith, nat_tests)
+
+    by : (b : Bool) → (x == n) ≡ b → list_any (λ m. m == n) xs ≡ false → (b || list_any (λ m. m == n) xs) ≡ false
+    by true e rest = absurd (none 0 (ap Some (same x n e)))
+    by false e rest = rest
+
+-- what stands there is not what is absent
+pub other : (xs : List ℕ) (k n m : ℕ) → list_any (λ y. y == m) xs ≡ false → slice_get xs k ≡ Some n → n ≡ m → ⊥
+other xs k n m absent h e = true≢false (sym (member xs k m (h ∙ ap Some e)) ∙ absent)
+
+-- in a stack with one more, it stood there before, or is the new one
+pub pushed : (xs : List ℕ) (y k n : ℕ) → slice_get (xs ++ y ∷ []) k ≡ Some n → (slice_get xs k ≡ Some n) ⊎ ((k ≡ length xs) × (n ≡ y))
+pushed [] y zero n h = inr (refl, cc)
+pushed [] y (suc k) n h = cc
+pushed (x ∷ xs) y zero n h = inl h
+pushed (x ∷ xs) y (suc k) n h = elim (pushed xs y k n h) [ inl h ↦ inl h | inr p ↦ inr (ap suc p.0, p.1) ]
+
+-- a write elsewhere leaves it
+pub set_other : (xs : List ℕ) (i v n k : ℕ) → n ≢ i → slice_get xs n ≡ Some k → slice_get (slice_set xs i v) n ≡ Some k
+set_other [] i v n k ne h = h
+set_other (x ∷ xs) zero v zero k ne h = absurd (ne refl)
+set_other (x ∷ xs) (suc i) v zero k ne h = h
+set_other (x ∷ xs) zero v (suc n) k ne h = h
+set_other (x ∷ xs) (suc i) v (suc n) k ne h = set_other xs i v n k (λ e. ne (ap suc e)) h
+
+pub set_same : (xs : List ℕ) (i v : ℕ) → i < length xs → slice_get (slice_set xs i v) i ≡ Some v
+set_same [] i v h = absurd (omega arith)
+set_same (x ∷ xs) zero v h = refl
+set_same (x ∷ xs) (suc i) v h = set_same xs i v (omega arith)
+
+-- what stands there stands there in a longer list
+pub longer : (xs ys : List ℕ) (n k : ℕ) → slice_get xs n ≡ Some k → slice_get (xs ++ ys) n ≡ Some k
+longer [] ys n k h = cc
+longer (x ∷ xs) ys zero k h = h
+longer (x ∷ xs) ys (suc n) k h = longer xs ys n k h

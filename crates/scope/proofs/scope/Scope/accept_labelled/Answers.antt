@@ -1,0 +1,14 @@
+use Rattle.std.proofs.Common.{◌≡◌, ◌∙◌, ap, sym, None, refl}
+use Rattle.scope.specs.Active.{bare}
+use Rattle.scope.specs.Legal.{broken_rule}
+use Rattle.scope.specs.Kinds.{with_kind}
+use Rattle.scope.specs.declared.numbering.Kind.TheVariants.{Label}
+use Rattle.scope.proofs.AcceptLemmas.{same-kept, accept-labelled, bare-labelled, bare-rule}
+use Rattle.scope.proofs.scope.Scope.accept_labelled.Goals as goal
+
+pub invariant_of-self-2 : goal.invariant_of-self-2
+invariant_of-self-2 c =
+    let a = c.self.inside in let S = a.accepted.statements in let s = c.args.stmt.now in
+    let legal : broken_rule S (bare s) ≡ None = bare-rule S s ∙ (ap (λ v. broken_rule v.statements s) c.self.view_is ∙ c.requires.legal) in
+    same-kept (sym c.after-self-inside.ensures) (sym (c.in_ok-declare_one.ensures.ok ∙ ap (with_kind a.names Label) c.as_bytes.ensures.bytes)) refl refl refl
+    (accept-labelled S a.marked.statements a.names a.variables a.typed a.blocks.items a.mark a.marked_names c.self.invariant (bare s) c.args.label.now (bare-labelled s c.args.label.now c.requires.labelled) legal)

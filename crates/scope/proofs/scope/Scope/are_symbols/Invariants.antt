@@ -1,0 +1,11 @@
+use Rattle.std.proofs.Common.{◌≡◌, ◌&&◌, ◌||◌}
+use Rattle.std.specs.List.{list_all}
+use Rattle.scope.specs.Active.{is_constant, is_variable}
+use Rattle.scope.specs.Legal.{are_typed}
+use Rattle.scope.proofs.scope.Scope.are_symbols.Given as goal
+
+abbrev pub invariant-loop-symbol : goal.invariant-loop-symbol
+invariant-loop-symbol l = record {
+  symbols : list_all (λ x. is_constant l.self.statements x || is_variable l.self.statements x) l.expr ≡ list_all (λ x. is_constant l.self.statements x || is_variable l.self.statements x) l.symbol-iterator;
+  typing : are_typed l.self.statements l.expr ≡ (l.typed && are_typed l.self.statements l.symbol-iterator);
+}

@@ -1,0 +1,62 @@
+-- What a name was declared as.
+-- Source: Metamath, 4.2.
+-- The code keeps a name's kind beside its number; the model looks through the statements.
+use Rattle.std.specs.Prelude.{◌≡◌, Bool, true, false, List, [], ◌∷◌, ◌++◌, map, Option, Some, None, is_some, if◌then◌else◌}
+use Rattle.mm_lex.specs.Alphabet.{Name, name_eq}
+use Rattle.mm_read.specs.declared.stmt.Stmt.{Stmt}
+use Rattle.mm_read.specs.Statements.{Database}
+use Rattle.scope.specs.Active.{is_constant, was_variable, was_label, label_of, constants, variables, typed_by, is_open, is_close}
+use Rattle.scope.specs.Numbering.{declared_by}
+use Rattle.scope.specs.declared.numbering.Kind.{Kind}
+use Rattle.scope.specs.declared.numbering.Kind.TheVariants.{Label, Constant, Variable}
+
+-- names with what they were declared as
+abbrev pub Declared : Type 0
+Declared = List (Name × Kind)
+
+abbrev pub declared_names : Declared → List Name
+declared_names names = map (λ p. p.0) names
+
+-- the kind of a name, by the first entry for it
+abbrev pub kind_in : Declared → Name → Option Kind
+kind_in [] x = None
+kind_in (p ∷ names) x = if name_eq x p.0 then Some p.1 else kind_in names x
+
+abbrev pub is_label_kind : Option Kind → Bool
+is_label_kind (Some Label) = true
+is_label_kind kind = false
+
+abbrev pub is_constant_kind : Option Kind → Bool
+is_constant_kind (Some Constant) = true
+is_constant_kind kind = false
+
+abbrev pub is_variable_kind : Option Kind → Bool
+is_variable_kind (Some Variable) = true
+is_variable_kind kind = false
+
+-- the kind tells what the statements say of the name
+pub record Tells (S : Database) (x : Name) (kind : Option Kind) : Type 0 where
+  pub label : was_label S x ≡ is_label_kind kind
+  pub constant : is_constant S x ≡ is_constant_kind kind
+  pub variable : was_variable S x ≡ is_variable_kind kind
+
+abbrev pub TellsAll : Database → Declared → Type 0
+TellsAll S names = (x : Name) → Tells S x (kind_in names x)
+
+-- the names after one is declared: it keeps the kind that it has
+abbrev pub with_kind : Declared → Kind → Name → Declared
+with_kind names kind x = if is_some (kind_in names x) then names else names ++ (x, kind) ∷ []
+
+abbrev pub with_kinds : Declared → Kind → List Name → Declared
+with_kinds names kind [] = names
+with_kinds names kind (x ∷ xs) = with_kinds (with_kind names kind x) kind xs
+
+-- a statement other than `$f` that declares this label alone
+pub record IsLabelled (s : Stmt) (label : Name) : Type 0 where
+  pub labelled : label_of s ≡ Some label
+  pub no_constants : constants s ≡ []
+  pub no_variables : variables s ≡ []
+  pub untyped : typed_by s ≡ []
+  pub declared : declared_by s ≡ label ∷ []
+  pub no_open : is_open s ≡ false
+  pub no_close : is_close s ≡ false

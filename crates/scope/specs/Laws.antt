@@ -1,0 +1,48 @@
+-- Laws of what is active and of the rules, in the book's words.
+-- Source: Metamath, 4.2.8 (scoping statements) and 4.2.
+-- The test of what is active recurses on the statements; the sentence counts brackets in each beginning of them.
+use Rattle.std.specs.Prelude.{◌≡◌, ℕ, ◌+◌, ◌-◌, ◌≤◌, ◌<◌, ◌↔◌, Bool, false, IsTrue, if◌then◌else◌, List, [], ◌∷◌, ◌++◌, length, take, drop}
+use Rattle.std.specs.List.{list_any}
+use Rattle.mm_read.specs.declared.stmt.Stmt.{Stmt}
+use Rattle.mm_read.specs.declared.stmt.Stmt.TheVariants.{Close}
+use Rattle.mm_read.specs.Statements.{Database}
+use Rattle.scope.specs.Active.{count, is_open, is_close, is_active, active, active_from, bare, bares}
+use Rattle.scope.specs.Legal.{broken_rule, end_rule}
+
+-- no beginning of the statements has more `$}` than `${`, of which `d` more are open before them
+abbrev pub NeverCloses : ℕ → Database → Type 0
+NeverCloses d S = (k : ℕ) → count is_close (take k S) ≤ count is_open (take k S) + d
+
+-- the statements strictly between two positions
+abbrev pub between : Database → ℕ → ℕ → Database
+between S i j = take (j - 1 - i) (drop i S)
+
+-- i is active at j exactly where i stands before j and no beginning of what stands between has more `$}` than `${`
+abbrev pub ActiveBySentence : Type 0
+ActiveBySentence = (S : Database) (i j : ℕ) → IsTrue (is_active S i j) ↔ ((1 ≤ i) × (i < j) × NeverCloses 0 (between S i j))
+
+-- a statement that closes no block becomes active, and what was active stays so
+abbrev pub ActiveMore : Type 0
+ActiveMore = (S : Database) (s : Stmt) → is_close s ≡ false → active (S ++ s ∷ []) ≡ active S ++ (1 + length S, s) ∷ []
+
+abbrev pub has_open : List (ℕ × Stmt) → Bool
+has_open es = list_any (λ p. is_open p.1) es
+
+-- what stands before the last `${`
+abbrev pub before_open : List (ℕ × Stmt) → List (ℕ × Stmt)
+before_open [] = []
+before_open (p ∷ es) = if has_open es then p ∷ before_open es else []
+
+-- a `$}` ends what became active since the last open `${`, and that `${` itself
+abbrev pub ActiveClosed : Type 0
+ActiveClosed = (S : Database) → active (S ++ Close ∷ []) ≡ before_open (active S) ++ (1 + length S, Close) ∷ []
+
+-- later statements that close none of the earlier blocks leave active what was
+abbrev pub ActiveLater : Type 0
+ActiveLater = (S T : Database) → NeverCloses 0 T → active (S ++ T) ≡ active S ++ active_from (1 + length S) T
+
+-- no rule looks at a proof
+pub record RulesIgnoreProofs : Type 0 where
+  pub before : (S : Database) (s : Stmt) → broken_rule (bares S) s ≡ broken_rule S s
+  pub next : (S : Database) (s : Stmt) → broken_rule S (bare s) ≡ broken_rule S s
+  pub at_end : (S : Database) → end_rule (bares S) ≡ end_rule S

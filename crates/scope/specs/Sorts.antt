@@ -1,0 +1,53 @@
+-- What a name is behind the statements: a constant, an active variable with or without an active `$f`, a label, or none of these.
+-- Source: Metamath, 4.2.
+-- The code looks a name up once; each rule on expressions is said by what it is.
+use Rattle.std.specs.Prelude.{◌≡◌, Bool, true, false, not, ◌||◌, ◌&&◌, Option, Some, None, if◌then◌else◌}
+use Rattle.mm_lex.specs.Alphabet.{Name}
+use Rattle.mm_read.specs.Statements.{Database}
+use Rattle.scope.specs.Active.{is_constant, is_variable, was_label, has_float}
+use Rattle.scope.specs.declared.rule.Rule.{Rule}
+use Rattle.scope.specs.declared.rule.Rule.TheVariants.{G5, G6, G7}
+use Rattle.scope.specs.declared.legal.Sort.{Sort}
+use Rattle.scope.specs.declared.legal.Sort.TheVariants.{Constant, Typed, Untyped, Label, Inactive}
+
+abbrev pub is_constant_sort : Sort → Bool
+is_constant_sort Constant = true
+is_constant_sort sort = false
+
+abbrev pub is_variable_sort : Sort → Bool
+is_variable_sort Typed = true
+is_variable_sort Untyped = true
+is_variable_sort sort = false
+
+abbrev pub is_untyped_sort : Sort → Bool
+is_untyped_sort Untyped = true
+is_untyped_sort sort = false
+
+abbrev pub is_label_sort : Sort → Bool
+is_label_sort Label = true
+is_label_sort sort = false
+
+abbrev pub is_inactive_sort : Sort → Bool
+is_inactive_sort Inactive = true
+is_inactive_sort sort = false
+
+-- by whether it is an active variable, and has an active `$f`
+abbrev pub sort_by : Bool → Bool → Sort
+sort_by false typed = Inactive
+sort_by true true = Typed
+sort_by true false = Untyped
+
+pub record IsSort (S : Database) (x : Name) (sort : Sort) : Type 0 where
+  pub constant : is_constant S x ≡ is_constant_sort sort
+  pub variable : is_variable S x ≡ is_variable_sort sort
+  pub label : was_label S x ≡ is_label_sort sort
+  pub untyped : (not (is_variable S x) || has_float S x) ≡ not (is_untyped_sort sort)
+
+abbrev pub is_symbol_sort : Sort → Bool
+is_symbol_sort sort = is_constant_sort sort || is_variable_sort sort
+
+-- the least rule that a `$f` breaks whose symbols are these
+abbrev pub sorts_rule : Sort → Sort → Option Rule
+sorts_rule constant variable =
+    if not (is_symbol_sort constant && is_symbol_sort variable) then Some G5
+    else (if not (is_constant_sort constant) then Some G6 else (if not (is_untyped_sort variable) then Some G7 else None))

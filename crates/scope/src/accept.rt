@@ -1,0 +1,287 @@
+//! What a legal statement does to the stacks.
+ghost use Rattle.std.specs.Prelude.{◌≡◌, ℕ, List, ◌++◌, ◌∷◌, [], ◌==◌, true, false, OnOk, OnErr};
+ghost use Rattle.std.specs.List.{list_all, list_any};
+ghost use Rattle.mm_lex.specs.Alphabet.{has_name};
+ghost use Rattle.mm_read.specs.declared.stmt.Stmt.TheVariants as shape;
+ghost use Rattle.scope.specs.Active.{bare, active};
+ghost use Rattle.scope.specs.Kept.{sizes_of};
+ghost use Rattle.scope.specs.Kinds.{Declared, declared_names, with_kind, with_kinds, IsLabelled};
+ghost use Rattle.scope.specs.Legal.{IsLegal};
+ghost use Rattle.scope.specs.declared.numbering.Kind.TheVariants as shape_kind;
+ghost use Rattle.scope.specs.Numbering.{number_in, numbers_in, with_names, can_push};
+
+use crate::history::History;
+use crate::numbering::{Kind, Numbering};
+use crate::scope::Scope;
+use crate::sizes::Sizes;
+use crate::stack::Stack;
+use mm_lex::{Word, Words};
+use mm_read::Stmt;
+use std::alloc::{AllocError, Global};
+
+impl Scope {
+    /// Accepts a legal statement.
+    pub(crate) fn accept(&mut self, stmt: &Stmt) -> Result<(), AllocError>
+        requires { IsLegal self.old.statements stmt.now }
+        ensures ok { OnOk result (self.new.statements ≡ self.old.statements ++ bare stmt.now ∷ []) }
+        ensures err { OnErr result (self.new.statements ≡ self.old.statements) }
+        ensures marked { self.new.marked ≡ self.old.marked }
+    {
+        match stmt {
+            Stmt::Open => self.accept_open(stmt),
+            Stmt::Close => {
+                self.accept_close(stmt);
+                Ok(())
+            }
+            Stmt::Const(symbols) => self.accept_constants(stmt, symbols),
+            Stmt::Var(symbols) => self.accept_variables(stmt, symbols),
+            Stmt::Disj(_) => {
+                self.accept_disjoint(stmt);
+                Ok(())
+            }
+            Stmt::Float {
+                label,
+                variable,
+                ..
+            } => self.accept_float(stmt, label, variable),
+            Stmt::Ess { label, .. } => self.accept_labelled(stmt, label),
+            Stmt::Axiom { label, .. } => self.accept_labelled(stmt, label),
+            Stmt::Prove { label, .. } => self.accept_labelled(stmt, label),
+        }
+    }
+
+    fn accept_open(&mut self, stmt: &Stmt) -> Result<(), AllocError>
+        requires { stmt.now ≡ shape.Open }
+        ensures ok { OnOk result (self.new.statements ≡ self.old.statements ++ bare stmt.now ∷ []) }
+        ensures err { OnErr result (self.new.statements ≡ self.old.statements) }
+        ensures marked { self.new.marked ≡ self.old.marked }
+    {
+        let sizes = self.sizes();
+        self.blocks.push(sizes)?;
+        self.accepted = History::after(&self.accepted, stmt);
+        Ok(())
+    }
+
+    fn accept_close(&mut self, stmt: &Stmt)
+        requires close { stmt.now ≡ shape.Close }
+        requires legal { IsLegal self.old.statements stmt.now }
+        ensures ok { self.new.statements ≡ self.old.statements ++ bare stmt.now ∷ [] }
+        ensures marked { self.new.marked ≡ self.old.marked }
+    {
+        match self.blocks.pop() {
+            Some(sizes) => {
+                self.variables.truncate(sizes.variables);
+                self.typed.truncate(sizes.typed);
+                self.accepted = History::after(&self.accepted, stmt);
+            }
+            None => unreachable!(),
+        }
+    }
+
+    fn accept_constants(&mut self, stmt: &Stmt, symbols: &Words) -> Result<(), AllocError>
+        requires constants { stmt.now ≡ shape.Const symbols.now }
+        requires legal { IsLegal self.old.statements stmt.now }
+        ensures ok { OnOk result (self.new.statements ≡ self.old.statements ++ bare stmt.now ∷ []) }
+        ensures err { OnErr result (self.new.statements ≡ self.old.statements) }
+        ensures marked { self.new.marked ≡ self.old.marked }
+    {
+        declare_all(&mut self.names, self.alloc, symbols, Kind::Constant)?;
+        self.accepted = History::after(&self.accepted, stmt);
+        Ok(())
+    }
+
+    fn accept_variables(&mut self, stmt: &Stmt, symbols: &Words) -> Result<(), AllocError>
+        requires variables { stmt.now ≡ shape.Var symbols.now }
+        requires legal { IsLegal self.old.statements stmt.now }
+        ensures ok { OnOk result (self.new.statements ≡ self.old.statements ++ bare stmt.now ∷ []) }
+        ensures err { OnErr result (self.new.statements ≡ self.old.statements) }
+        ensures marked { self.new.marked ≡ self.old.marked }
+    {
+        declare_and_push(&mut self.names, &mut self.variables, self.alloc, symbols)?;
+        self.accepted = History::after(&self.accepted, stmt);
+        Ok(())
+    }
+
+    fn accept_disjoint(&mut self, stmt: &Stmt)
+        requires { (names : List (List ℕ)) × (stmt.now ≡ shape.Disj names) }
+        ensures ok { self.new.statements ≡ self.old.statements ++ bare stmt.now ∷ [] }
+        ensures marked { self.new.marked ≡ self.old.marked }
+    {
+        self.accepted = History::after(&self.accepted, stmt);
+    }
+
+    fn accept_float(&mut self, stmt: &Stmt, label: &Word, variable: &Word) -> Result<(), AllocError>
+        requires float { (constant : List ℕ) × (stmt.now ≡ shape.Float label.now constant variable.now) }
+        requires legal { IsLegal self.old.statements stmt.now }
+        ensures ok { OnOk result (self.new.statements ≡ self.old.statements ++ bare stmt.now ∷ []) }
+        ensures err { OnErr result (self.new.statements ≡ self.old.statements) }
+        ensures marked { self.new.marked ≡ self.old.marked }
+    {
+        label_and_push(
+            &mut self.names,
+            &mut self.typed,
+            self.alloc,
+            label.as_bytes(),
+            variable.as_bytes(),
+        )?;
+        self.accepted = History::after(&self.accepted, stmt);
+        Ok(())
+    }
+
+    fn accept_labelled(&mut self, stmt: &Stmt, label: &Word) -> Result<(), AllocError>
+        requires labelled { IsLabelled stmt.now label.now }
+        requires legal { IsLegal self.old.statements stmt.now }
+        ensures ok { OnOk result (self.new.statements ≡ self.old.statements ++ bare stmt.now ∷ []) }
+        ensures err { OnErr result (self.new.statements ≡ self.old.statements) }
+        ensures marked { self.new.marked ≡ self.old.marked }
+    {
+        declare_one(&mut self.names, self.alloc, label.as_bytes(), Kind::Label)?;
+        self.accepted = History::after(&self.accepted, stmt);
+        Ok(())
+    }
+
+    /// How high the stacks stand.
+    pub(crate) fn sizes(&self) -> Sizes
+        ensures { result ≡ sizes_of (active self.now.statements) }
+    {
+        Sizes {
+            variables: self.variables.len(),
+            typed: self.typed.len(),
+        }
+    }
+}
+
+/// Declares variables and puts them on the stack of the active ones.
+fn declare_and_push(
+    names: &mut Numbering,
+    stack: &mut Stack,
+    alloc: Global,
+    symbols: &Words,
+) -> Result<(), AllocError>
+    requires { can_push stack.old (numbers_in (with_names (declared_names names.old) symbols.now) symbols.now) ≡ true }
+    ensures names { OnOk result (names.new ≡ with_kinds names.old shape_kind.Variable symbols.now) }
+    ensures stack { OnOk result (stack.new ≡ stack.old ++ numbers_in (declared_names names.new) symbols.now) }
+    ensures same_names { OnErr result (names.new ≡ names.old) }
+    ensures same_stack { OnErr result (stack.new ≡ stack.old) }
+{
+    let len = names.len();
+    declare_all(names, alloc, symbols, Kind::Variable)?;
+    let pushed = push_all(stack, names, symbols);
+    if pushed.is_err() {
+        names.truncate(len);
+    }
+    pushed
+}
+
+/// Declares the label of a `$f` and puts its variable on the stack of those that have one.
+fn label_and_push(
+    names: &mut Numbering,
+    stack: &mut Stack,
+    alloc: Global,
+    label: &[u8],
+    variable: &[u8],
+) -> Result<(), AllocError>
+    requires known { has_name variable.now (declared_names names.old) ≡ true }
+    requires apart { list_any (λ n. n == number_in (declared_names names.old) variable.now) stack.old ≡ false }
+    ensures names { OnOk result (names.new ≡ with_kind names.old shape_kind.Label label.now) }
+    ensures stack { OnOk result (stack.new ≡ stack.old ++ number_in (declared_names names.old) variable.now ∷ []) }
+    ensures same_names { OnErr result (names.new ≡ names.old) }
+    ensures same_stack { OnErr result (stack.new ≡ stack.old) }
+{
+    let number = number_of(names, variable);
+    let len = names.len();
+    declare_one(names, alloc, label, Kind::Label)?;
+    let pushed = stack.push(number);
+    if pushed.is_err() {
+        names.truncate(len);
+    }
+    pushed
+}
+
+/// The number of a name that has one.
+fn number_of(names: &Numbering, name: &[u8]) -> u32
+    requires { has_name name.now (declared_names names.now) ≡ true }
+    ensures { result ≡ number_in (declared_names names.now) name.now }
+{
+    match names.find(name) {
+        Some((number, _)) => number,
+        None => unreachable!(),
+    }
+}
+
+/// Gives a kind to a name that has none.
+fn declare_one(
+    names: &mut Numbering,
+    alloc: Global,
+    name: &[u8],
+    kind: Kind,
+) -> Result<(), AllocError>
+    ensures ok { OnOk result (names.new ≡ with_kind names.old kind name.now) }
+    ensures err { OnErr result (names.new ≡ names.old) }
+{
+    if names.find(name).is_some() {
+        return Ok(());
+    }
+    names.declare(alloc, name, kind)
+}
+
+/// Gives a kind to each of the names that has none.
+fn declare_all(
+    names: &mut Numbering,
+    alloc: Global,
+    symbols: &Words,
+    kind: Kind,
+) -> Result<(), AllocError>
+    ensures ok { OnOk result (names.new ≡ with_kinds names.old kind symbols.now) }
+    ensures err { OnErr result (names.new ≡ names.old) }
+{
+    let len = names.len();
+    let done = declare_each(names, alloc, symbols, kind);
+    if done.is_err() {
+        names.truncate(len);
+    }
+    done
+}
+
+fn declare_each(
+    names: &mut Numbering,
+    alloc: Global,
+    symbols: &Words,
+    kind: Kind,
+) -> Result<(), AllocError>
+    ensures ok { OnOk result (names.new ≡ with_kinds names.old kind symbols.now) }
+    ensures more { (more : Declared) × (names.new ≡ names.old ++ more) }
+{
+    for symbol in symbols.iter() {
+        declare_one(names, alloc, symbol, kind)?;
+    }
+    Ok(())
+}
+
+/// Puts the numbers of the names on the stack.
+fn push_all(stack: &mut Stack, names: &Numbering, symbols: &Words) -> Result<(), AllocError>
+    requires known { list_all (λ x. has_name x (declared_names names.now)) symbols.now ≡ true }
+    requires apart { can_push stack.old (numbers_in (declared_names names.now) symbols.now) ≡ true }
+    ensures ok { OnOk result (stack.new ≡ stack.old ++ numbers_in (declared_names names.now) symbols.now) }
+    ensures err { OnErr result (stack.new ≡ stack.old) }
+{
+    let len = stack.len();
+    let done = push_each(stack, names, symbols);
+    if done.is_err() {
+        stack.truncate(len);
+    }
+    done
+}
+
+fn push_each(stack: &mut Stack, names: &Numbering, symbols: &Words) -> Result<(), AllocError>
+    requires known { list_all (λ x. has_name x (declared_names names.now)) symbols.now ≡ true }
+    requires apart { can_push stack.old (numbers_in (declared_names names.now) symbols.now) ≡ true }
+    ensures ok { OnOk result (stack.new ≡ stack.old ++ numbers_in (declared_names names.now) symbols.now) }
+    ensures more { (more : List ℕ) × (stack.new ≡ stack.old ++ more) }
+{
+    for symbol in symbols.iter() {
+        let number = number_of(names, symbol);
+        stack.push(number)?;
+    }
+    Ok(())
+}

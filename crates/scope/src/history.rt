@@ -1,0 +1,41 @@
+//! The statements that were accepted, as contracts alone see them.
+ghost use Rattle.std.specs.Prelude.{◌≡◌, List, [], ◌∷◌, ◌++◌};
+ghost use Rattle.std.specs.Borrow.{ftrue};
+ghost use Rattle.mm_read.specs.declared.stmt.Stmt.{Stmt as Statement};
+ghost use Rattle.scope.specs.Active.{bare};
+
+use mm_read::Stmt;
+use std::marker::Model;
+
+/// The statements accepted so far, without their proofs. It takes no bytes.
+#[derive(Drop)]
+pub struct History {
+    pub ghost statements: { List Statement },
+}
+
+impl Model for History {
+    ghost also_owns = { λ _. ftrue };
+}
+
+impl History {
+    /// No statement.
+    pub fn new() -> History
+        ensures { result.statements ≡ [] }
+    {
+        History {}
+    }
+
+    /// The statements with one more.
+    pub fn after(_before: &History, _stmt: &Stmt) -> History
+        ensures { result.statements ≡ _before.now.statements ++ bare _stmt.now ∷ [] }
+    {
+        History {}
+    }
+
+    /// The same statements.
+    pub fn same(_of: &History) -> History
+        ensures { result.statements ≡ _of.now.statements }
+    {
+        History {}
+    }
+}

@@ -1,0 +1,23 @@
+//! May this statement come next, and what is active behind it: the rules G1 to G10.
+//!
+//! The crate above uses one contract: `Scope::add` accepts exactly the legal next statement, and
+//! else answers the least rule that it breaks. Read `rule`, then `scope`; `legal` has the tests,
+//! `accept` what a statement changes; `numbering` and `stack` are the parts, `laws` what is active.
+#![tactic(auto)]
+
+mod accept;
+mod history;
+mod laws;
+mod legal;
+mod numbering;
+mod rule;
+mod scope;
+mod sizes;
+mod stack;
+mod steps;
+
+pub use history::History;
+pub use laws::{active_by_sentence, active_closed, active_later, active_more, rules_ignore_proofs};
+pub use rule::Rule;
+pub use scope::Scope;
+pub use steps::Steps;

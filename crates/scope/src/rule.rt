@@ -1,0 +1,28 @@
+//! The ten rules of a statement.
+
+/// A rule that a statement breaks, or want of memory.
+#[derive(Clone, Copy, Debug, Drop, PartialEq, Eq)]
+pub enum Rule {
+    /// `$c` stands in the outermost block.
+    G1,
+    /// Each symbol of `$c` was never declared as a symbol, is no earlier label, and stands once in the statement.
+    G2,
+    /// Each symbol of `$v` is no active variable, was never declared as a constant, is no earlier label, and stands once in the statement.
+    G3,
+    /// The label was never used as a label and never declared as a symbol.
+    G4,
+    /// Each symbol of the expression of `$f`, `$e`, `$a`, `$p` is a constant or an active variable.
+    G5,
+    /// The first symbol of that expression is a constant.
+    G6,
+    /// The second symbol of `$f` is a variable that has no active `$f`.
+    G7,
+    /// `$d` names different active variables.
+    G8,
+    /// Each variable in `$e`, `$a`, `$p` has an active `$f`.
+    G9,
+    /// `$}` closes an open block; at the end of the text no block is open.
+    G10,
+    /// A growth was refused.
+    Memory,
+}

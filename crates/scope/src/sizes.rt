@@ -1,0 +1,8 @@
+//! How high the stacks of a scope stand.
+
+/// How many active variables there are, and how many of them have an active `$f`.
+#[derive(Clone, Copy, Debug, Drop, PartialEq, Eq)]
+pub struct Sizes {
+    pub variables: usize,
+    pub typed: usize,
+}
