@@ -1,7 +1,7 @@
 -- The first byte that is not allowed.
-use Rattle.std.specs.Prelude.{◌≡◌, ℕ, ◌+◌, ◌<◌, suc, zero, Bool, true, false, not, List, [], ◌∷◌, length, take, Some, None, refl}
+use Rattle.std.specs.Prelude.{◌≡◌, ℕ, ◌+◌, ◌<◌, nat_lt, suc, zero, Bool, true, false, not, List, [], ◌∷◌, length, take, Some, None, refl}
 use Rattle.std.specs.List.{list_all, position, position_or_len}
-use Rattle.std.proofs.Common.{sym, ◌∙◌, ap, arith, get_or}
+use Rattle.std.proofs.Common.{cond, ltb-true, sym, ◌∙◌, ap, arith, get_or}
 use Rattle.std.proofs.lemmas.List.Sums.{passes_at_first}
 use Rattle.std.proofs.Math.Seq.{take-length}
 use Rattle.mm_lex.specs.Alphabet.{is_allowed}
@@ -60,3 +60,10 @@ IsClean-no_fault text offset clean is = omega (arith, clean_is text clean, IsFir
 
 pub IsFirstBadByte-unique : (text : List ℕ) (a b : ℕ) → IsFirstBadByte text a → IsFirstBadByte text b → a ≡ b
 IsFirstBadByte-unique text a b is also = sym (IsFirstBadByte-place text a is) ∙ IsFirstBadByte-place text b also
+
+pub position-clean : (text : List ℕ) → IsClean text → None ≡ position is_bad text
+position-clean text clean = by (nat_lt (position_or_len is_bad text) (length text)) refl
+  where
+    by : (t : Bool) → nat_lt (position_or_len is_bad text) (length text) ≡ t → None ≡ cond t (Some (position_or_len is_bad text)) None
+    by true e = absurd (omega (arith, ltb-true _ _ e, clean_is text clean))
+    by false e = refl

@@ -4,6 +4,7 @@ pub mod FaultsLemmas
 pub mod RunsLemmas
 pub mod Cutting
 pub mod CuttingMeans
+pub mod PlainLemmas
 pub mod Progress
 pub mod TokensLemmas
 pub mod OneCut

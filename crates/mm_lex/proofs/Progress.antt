@@ -4,13 +4,14 @@ use Rattle.std.specs.List.{list_all, All}
 use Rattle.std.proofs.Common.{sym, ◌∙◌, ap, arith, append_assoc, true≢false, min}
 use Rattle.std.proofs.lemmas.List.{append-nil, length-take, length-drop}
 use Rattle.std.proofs.lemmas.List.Elements.{All-push}
+use Rattle.std.proofs.lemmas.List.Folds.{list_all-append}
 use Rattle.std.proofs.lemmas.Slice.Eq.{bytes_eq-Decides}
 use Rattle.mm_lex.specs.declared.span.Span.{Span}
 use Rattle.mm_lex.specs.Alphabet.{Name, is_white, is_visible, is_allowed, runs, word, IsRunAt}
 use Rattle.mm_lex.specs.Words.{is_word}
 use Rattle.mm_lex.specs.Tokens.{opener, closer, is_plain, AllPlain, IsClean, AreTokens, IsWordAt}
 use Rattle.mm_lex.specs.Faults.{IsCommentFault}
-use Rattle.mm_lex.specs.Comments.{runs_behind, IsClosedAt, IsNestedAt}
+use Rattle.mm_lex.specs.Comments.{runs_behind, PassesPlain, IsClosedAt, IsNestedAt}
 use Rattle.mm_lex.proofs.WordsLemmas.{and_left, and_right}
 use Rattle.mm_lex.proofs.Cutting.{Outcome, prepend, prepend-append, scan, opens, closes, scan_opener, scan_closer, scan_plain, scan_nested, scan_closing, scan_all_inside, is_opener, is_closer, closer_no_opener, scan-stops}
 use Rattle.mm_lex.proofs.CuttingMeans.{cut-scan, stops-scan, plain, and_both}
@@ -54,21 +55,24 @@ IsWordAt-run text s clean is =
 
 -- ---- inside of a comment
 
-pub record Inside (text : List ℕ) (from at : ℕ) : Type 0 where
-  pub passed : List Span
-  pub later : from ≤ at
-  pub within : at ≤ length text
-  pub whole : runs_behind text from ≡ passed ++ runs_behind text at
-  pub plain : AllPlain text passed
-
-pub inside_start : (text : List ℕ) (from : ℕ) → from ≤ length text → Inside text from from
+pub inside_start : (text : List ℕ) (from : ℕ) → from ≤ length text → PassesPlain text from from
 inside_start text from within = record { passed = []; later = omega arith; within = within; whole = refl; plain = refl }
+
+-- and on from there
+pub passes_on : {text : List ℕ} {from at end : ℕ} → PassesPlain text from at → PassesPlain text at end → PassesPlain text from end
+passes_on {text} {from} {at} {end} so more = record {
+  passed = so.passed ++ more.passed;
+  later = omega (arith, so.later, more.later);
+  within = more.within;
+  whole = so.whole ∙ (ap (λ r. so.passed ++ r) more.whole ∙ sym (append_assoc so.passed more.passed (runs_behind text end)));
+  plain = list_all-append (λ s. is_plain (word text s)) so.passed more.passed ∙ and_both _ _ so.plain more.plain;
+}
 
 all_plain-push : (text : List ℕ) (xs : List Span) (s : Span) → AllPlain text xs → is_plain (word text s) ≡ true → AllPlain text (xs ++ s ∷ [])
 all_plain-push text [] s h k = and_both _ _ k refl
 all_plain-push text (x ∷ xs) s h k = and_both (is_plain (word text x)) _ (and_left (is_plain (word text x)) _ h) (all_plain-push text xs s (and_right (is_plain (word text x)) _ h) k)
 
-module _ {text : List ℕ} {from at : ℕ} (so : Inside text from at) where
+module _ {text : List ℕ} {from at : ℕ} (so : PassesPlain text from at) where
   module _ (s : Span) (run : runs_behind text at ≡ s ∷ runs_behind text s.end) (is : IsRunAt text s) (later : at ≤ s.start) where
     inside_whole : runs_behind text from ≡ so.passed ++ s ∷ runs_behind text s.end
     inside_whole = so.whole ∙ ap (λ r. so.passed ++ r) run
@@ -95,7 +99,7 @@ module _ {text : List ℕ} {from at : ℕ} (so : Inside text from at) where
       place = refl;
     }
 
-    pub inside_more : is_plain (word text s) ≡ true → Inside text from s.end
+    pub inside_more : is_plain (word text s) ≡ true → PassesPlain text from s.end
     inside_more is_plain = record {
       passed = so.passed ++ s ∷ [];
       later = omega (arith, so.later, later, is.some);

@@ -12,6 +12,14 @@ use Rattle.mm_lex.specs.Tokens.{opener, closer, AllPlain}
 abbrev pub runs_behind : List ℕ → ℕ → List Span
 runs_behind text at = runs_from at (drop at text)
 
+-- the runs from one place up to another are plain
+pub record PassesPlain (text : List ℕ) (from at : ℕ) : Type 0 where
+  pub passed : List Span
+  pub later : from ≤ at
+  pub within : at ≤ length text
+  pub whole : runs_behind text from ≡ passed ++ runs_behind text at
+  pub plain : AllPlain text passed
+
 -- the next `$)` ends here, and no `$(` stands before it
 pub record IsClosedAt (text : List ℕ) (from end : ℕ) : Type 0 where
   pub inside : List Span

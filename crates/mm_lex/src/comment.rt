@@ -1,8 +1,10 @@
 //! The end of a comment.
-ghost use Rattle.std.specs.Prelude.{◌≤◌, length};
-ghost use Rattle.mm_lex.specs.Comments.{EndsComment};
+ghost use Rattle.std.specs.Prelude.{◌-◌, ◌<◌, ◌≤◌, length, slice_index, IsTrue};
+ghost use Rattle.mm_lex.specs.Alphabet.{is_white};
+ghost use Rattle.mm_lex.specs.Comments.{PassesPlain, EndsComment};
 
 use crate::run::{is_closer, is_opener, next_run};
+use memchr::memchr;
 
 /// How a comment ends.
 pub(crate) enum CommentEnd {
@@ -20,7 +22,7 @@ pub(crate) fn comment_end(text: &[u8], from: usize) -> CommentEnd
     ensures { EndsComment text.now from result }
 {
     let mut at = from;
-    while let Some(span) = next_run(text, at) {
+    while let Some(span) = next_run(text, plain_end(text, at)) {
         let word = &text[span.start..span.end];
         if is_closer(word) {
             return CommentEnd::Closed(span.end);
@@ -31,4 +33,28 @@ pub(crate) fn comment_end(text: &[u8], from: usize) -> CommentEnd
         at = span.end;
     }
     CommentEnd::Unclosed
+}
+
+/// Where the run stands in which the next `$` is, or the end of the text.
+fn plain_end(text: &[u8], at: usize) -> usize
+    requires { at ≤ length text.now }
+    ensures { PassesPlain text.now at result }
+{
+    match memchr(b'$', &text[at..]) {
+        Some(dollar) => at + white_end(&text[at..at + dollar]),
+        None => text.len(),
+    }
+}
+
+/// Where the last white byte ends, or 0.
+fn white_end(text: &[u8]) -> usize
+    ensures within { result ≤ length text.now }
+    ensures white { 0 < result → IsTrue (is_white (slice_index text.now (result - 1))) }
+{
+    for i in (0..text.len()).rev() {
+        if text[i].is_ascii_whitespace() {
+            return i + 1;
+        }
+    }
+    0
 }

@@ -1,6 +1,6 @@
 //! The tokens of a text: its runs outside comments.
 ghost use Rattle.std.specs.Prelude.{◌≡◌, ℕ, [], ◌∷◌, ◌++◌, not, if◌then◌else◌, IfOk, IfErr, IsTrue};
-ghost use Rattle.std.specs.List.{All, position};
+ghost use Rattle.std.specs.List.{All, list_all, position};
 ghost use Rattle.mm_lex.specs.Alphabet.{is_allowed};
 ghost use Rattle.mm_lex.specs.Tokens.{AreTokens, IsClean, IsWordAt};
 ghost use Rattle.mm_lex.specs.Faults.{IsFirstBadByte, IsCommentFault, IsLexFault};
@@ -73,10 +73,30 @@ fn add_token(spans: &mut Vec<Span>, refused: bool, span: Span) -> bool
     refused || spans.push(span).is_err()
 }
 
-/// The first byte that no text may have.
+/// The first byte that no text may have. A text without one is read once, many bytes at a time.
 fn first_bad_byte(text: &[u8]) -> Option<usize>
+    ensures { result ≡ position (λ b. not (is_allowed b)) text.now }
+{
+    if are_allowed(text) {
+        return None;
+    }
+    find_bad_byte(text)
+}
+
+fn find_bad_byte(text: &[u8]) -> Option<usize>
     ensures { result ≡ position (λ b. not (is_allowed b)) text.now }
 {
     text.iter()
         .position(|b| !(b.is_ascii_graphic() || b.is_ascii_whitespace()))
+}
+
+/// Whether a text may have all of these bytes.
+fn are_allowed(text: &[u8]) -> bool
+    ensures { result ≡ list_all is_allowed text.now }
+{
+    let mut all = true;
+    for b in text {
+        all &= b.is_ascii_graphic() | b.is_ascii_whitespace();
+    }
+    all
 }

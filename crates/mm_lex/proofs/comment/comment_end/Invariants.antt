@@ -1,9 +1,9 @@
 use Rattle.std.proofs.Common.{◌-◌, length}
-use Rattle.mm_lex.proofs.Progress.{Inside}
+use Rattle.mm_lex.specs.Comments.{PassesPlain}
 use Rattle.mm_lex.proofs.comment.comment_end.Given as goal
 
 abbrev pub invariant-loop-span : goal.invariant-loop-span
-invariant-loop-span l = Inside l.text l.from l.at
+invariant-loop-span l = PassesPlain l.text l.from l.at
 
 abbrev pub decreases-loop-span : goal.decreases-loop-span
 decreases-loop-span l = length l.text - l.at
