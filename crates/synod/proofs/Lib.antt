@@ -10,3 +10,4 @@ pub mod RecordLemmas
 pub mod StepKeeps
 pub mod NodeLemmas
 pub mod AcceptedLemmas
+pub mod LogLemmas

@@ -14,7 +14,7 @@ use crate::proposer::{MOST_WAITING, Proposer, Role};
 use crate::ready::{Plan, Ready};
 use crate::record::Record;
 use crate::refusal::Refusal;
-use crate::value::{MOST_BYTES, Value};
+use crate::value::{MOST_BYTES, Value, copy_value};
 use crate::weights::Weights;
 use slots::SLOTS;
 use std::alloc::{AllocError, Global};
@@ -158,6 +158,47 @@ impl<V: Value> NodeCore<V> {
             lesson: None,
         };
         Ready::new(self, plan, Vec::new(self.alloc))
+    }
+
+    /// Offers a value, and gives the posts. A refusal leaves the node as it was.
+    ///
+    /// Errors, of several the first: `TooLong`, `LogFull`, `Busy`, `Memory`.
+    pub fn offer(&mut self, value: V) -> Result<Vec<Packet<V>>, Refusal>
+        ensures makes { Makes self.old.node self.new.node (offered V.bytes self.old.node value) result }
+        ensures posts { IfOk result (λ posts. AllByRecursion (IsPost (length self.old.node.weights)) posts.items) }
+    {
+        match self.ready_offer(value) {
+            Ok(ready) => Ok(self.commit(ready)),
+            Err(refusal) => Err(refusal),
+        }
+    }
+
+    /// Entry `slot` of the log: what is learned there, where no gap is below.
+    pub fn entry(&self, slot: u32) -> Option<&Option<V>>
+        ensures { MatchOption result (slice_get (log_of self.now.node) slot ≡ None) (λ entry. slice_get (log_of self.now.node) slot ≡ Some entry.now) }
+    {
+        if slot < self.learner.front() {
+            self.learner.learned(slot)
+        } else {
+            None
+        }
+    }
+
+    /// The log: the learned entries of the slots from 0 to the first gap.
+    ///
+    /// Cost: the log, each value copied once.
+    pub fn log(&self) -> Result<Vec<Option<V>>, AllocError>
+        ensures { IfOk result (λ log. log.items ≡ log_of self.now.node) }
+    {
+        let mut log = Vec::new(self.alloc);
+        for slot in 0..self.learner.front() {
+            let Some(entry) = self.learner.learned(slot) else {
+                break;
+            };
+            let copy = copy_value(entry)?;
+            log.push(copy)?;
+        }
+        Ok(log)
     }
 
     /// Restarts: the kept part stays, and all else is as at first. The posts ask for what may be missed.

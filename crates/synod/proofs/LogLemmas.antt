@@ -1,0 +1,35 @@
+-- The log read from the slots below the first gap.
+use Rattle.std.proofs.Common.{◌≡◌, ◌∙◌, ℕ, zero, suc, ◌+◌, ◌<◌, ◌≤◌, List, [], ◌∷◌, ◌++◌, length, take, Option, Some, None, refl, ap, sym, arith, add-one, le_of_suc-le-suc}
+use Rattle.std.specs.List.{slice_get}
+use Rattle.slots.specs.FiniteMap.{entry_at, entries_to_gap, front_of}
+
+pub gap_entry : {T : Type 0} (xs : List (Option T)) (s : ℕ) → s < front_of xs → slice_get (entries_to_gap xs) s ≡ entry_at xs s
+gap_entry [] s h = absurd (omega arith)
+gap_entry (None ∷ xs) s h = absurd (omega arith)
+gap_entry (Some x ∷ xs) zero h = refl
+gap_entry (Some x ∷ xs) (suc s) h = gap_entry xs s (le_of_suc-le-suc h)
+
+pub get_past : {T : Type 0} (xs : List T) (s : ℕ) → length xs ≤ s → slice_get xs s ≡ None
+get_past [] s h = refl
+get_past (x ∷ xs) zero h = absurd (omega arith)
+get_past (x ∷ xs) (suc s) h = get_past xs s (le_of_suc-le-suc h)
+
+take_next : {T : Type 0} (xs : List T) (i : ℕ) (x : T) → slice_get xs i ≡ Some x → take (suc i) xs ≡ take i xs ++ x ∷ []
+take_next [] i x h = cc
+take_next (y ∷ xs) zero x h = cc
+take_next (y ∷ xs) (suc i) x h = ap (λ ys. y ∷ ys) (take_next xs i x h)
+
+-- one entry more of the log
+pub log_next : {T : Type 0} (xs : List (Option T)) (s : ℕ) (x : T) (log more : List T) → s < front_of xs → entry_at xs s ≡ Some x → log ≡ take s (entries_to_gap xs) → more ≡ log ++ x ∷ [] → more ≡ take (s + 1) (entries_to_gap xs)
+log_next {T} xs s x log more low here before pushed =
+    pushed
+    ∙ ap (λ (ys : List T). ys ++ x ∷ []) before
+    ∙ sym (take_next (entries_to_gap xs) s x (gap_entry xs s low ∙ here))
+    ∙ ap (λ (i : ℕ). take i (entries_to_gap xs)) (sym (add-one s))
+
+-- below the first gap there is an entry
+pub no_gap : {T : Type 0} (xs : List (Option T)) (s : ℕ) → s < front_of xs → entry_at xs s ≡ None → ⊥
+no_gap [] s h e = omega arith
+no_gap (None ∷ xs) s h e = omega arith
+no_gap (Some x ∷ xs) zero h e = cc
+no_gap (Some x ∷ xs) (suc s) h e = no_gap xs s (le_of_suc-le-suc h) e

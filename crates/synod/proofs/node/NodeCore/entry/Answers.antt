@@ -1,0 +1,19 @@
+use Rattle.std.proofs.Common.{◌≡◌, ◌∙◌, ap, sym, arith}
+use Rattle.std.specs.List.{slice_get}
+use Rattle.slots.specs.FiniteMap.{entry_at, entries_to_gap}
+use Rattle.synod.specs.Core.{Core}
+use Rattle.synod.specs.Log.{log_of}
+use Rattle.synod.proofs.LogLemmas.{gap_entry, get_past}
+use Rattle.synod.proofs.node.NodeCore.entry.Goals as goal
+
+pub returns-then-slot-front : goal.returns-then-slot-front
+returns-then-slot-front g c =
+    let same : slice_get (log_of c.args.self.now.node) c.args.slot ≡ entry_at c.self.inside.learner.state.learned c.args.slot =
+    ap (λ (core : Core g.row.V.Denot). slice_get (log_of core.node) c.args.slot) (sym c.self.view_is)
+    ∙ gap_entry c.self.inside.learner.state.learned c.args.slot (omega (arith, c.front.ensures.front, c.if-slot-front.true)) in
+    rw same c.learned.ensures
+
+pub returns-else-slot-front : goal.returns-else-slot-front
+returns-else-slot-front g c =
+    ap (λ (core : Core g.row.V.Denot). slice_get (log_of core.node) c.args.slot) (sym c.self.view_is)
+    ∙ get_past (entries_to_gap c.self.inside.learner.state.learned) c.args.slot (omega (arith, c.front.ensures.front, c.if-slot-front.false))

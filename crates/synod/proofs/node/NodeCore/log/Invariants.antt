@@ -1,0 +1,6 @@
+use Rattle.std.proofs.Common.{◌≡◌, take}
+use Rattle.synod.specs.Log.{log_of}
+use Rattle.synod.proofs.node.NodeCore.log.Given as goal
+
+abbrev pub invariant-loop-slot : goal.invariant-loop-slot
+invariant-loop-slot g l = l.log.items ≡ take l.slot (log_of l.fn.self.node)
