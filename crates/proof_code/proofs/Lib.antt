@@ -6,3 +6,4 @@ pub mod TextLemmas
 pub mod WritesLemmas
 pub mod AnswersLemmas
 pub mod OneList
+mod Rows

@@ -10,6 +10,16 @@ use crate::letters::{read_letters, starts_with_mark};
 use mm_lex::Words;
 use std::alloc::{AllocError, Global};
 
+/// Whether the tokens are those of a compressed proof: the first one is `(`.
+pub fn is_compressed(tokens: &Words) -> bool
+    ensures { result ≡ is_compressed tokens.now }
+{
+    match tokens.iter().next() {
+        Some(token) => token == b"(".as_slice(),
+        None => false,
+    }
+}
+
 /// The items of a compressed proof, where `mandatory` are the labels of the mandatory hypotheses in frame order.
 ///
 /// Errors: `Unfinished` where a token has the byte `?`, else `Malformed` where the tokens write no items, both also

@@ -17,8 +17,10 @@ mod label;
 mod laws;
 mod letters;
 mod normal_proof;
+#[cfg(test)]
+mod tests;
 
-pub use compressed_proof::packed;
+pub use compressed_proof::{is_compressed, packed};
 pub use fault::CodeFault;
 pub use item::Item;
 pub use items::{Items, Parts};

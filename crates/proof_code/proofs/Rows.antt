@@ -1,0 +1,92 @@
+-- Words, numbers and items, worked out.
+use Rattle.std.specs.Prelude.{◌≡◌, true, [], ◌∷◌, codes, None, Some, refl}
+use Rattle.std.proofs.Common.{arith}
+use Rattle.mm_lex.specs.Words.{words_of}
+use Rattle.proof_code.specs.declared.item.Item.TheVariants.{Cite, Recall, Mark}
+use Rattle.proof_code.specs.Letters.{IsNumber, number_of}
+use Rattle.proof_code.specs.Numbers.{items_of}
+use Rattle.proof_code.specs.Text.{letters_of, numbers_from}
+use Rattle.proof_code.specs.Writes.{is_unfinished, is_compressed, WritesPlain, WritesPacked}
+
+-- ---- the order of the words (Metamath, appendix B)
+
+first_word : IsNumber (codes "A") 1
+first_word = refl
+
+last_of_one_letter : IsNumber (codes "T") 20
+last_of_one_letter = refl
+
+first_of_two_letters : IsNumber (codes "UA") 21
+first_of_two_letters = refl
+
+last_behind_u : IsNumber (codes "UT") 40
+last_behind_u = refl
+
+first_behind_v : IsNumber (codes "VA") 41
+first_behind_v = refl
+
+last_of_two_letters : IsNumber (codes "YT") 120
+last_of_two_letters = refl
+
+first_of_three_letters : IsNumber (codes "UUA") 121
+first_of_three_letters = refl
+
+last_of_three_letters : IsNumber (codes "YYT") 620
+last_of_three_letters = refl
+
+formula_of_three_letters : number_of (codes "YYT") ≡ Some 620
+formula_of_three_letters = refl
+
+cut_word_has_no_number : number_of (codes "U") ≡ None
+cut_word_has_no_number = refl
+
+-- ---- letters
+
+spaces_cut_letters_anywhere : numbers_from 130 0 (letters_of (codes "TU AYTU UA")) ≡ Some (20 ∷ 21 ∷ 120 ∷ 121 ∷ [])
+spaces_cut_letters_anywhere = refl
+
+word_past_the_limit : numbers_from 130 0 (codes "UUK") ≡ None
+word_past_the_limit = refl
+
+mark_gives_one_number_more : numbers_from 1 0 (codes "AZB") ≡ Some (1 ∷ 0 ∷ 2 ∷ [])
+mark_gives_one_number_more = refl
+
+recall_before_its_mark : numbers_from 1 0 (codes "ABZ") ≡ None
+recall_before_its_mark = refl
+
+mark_inside_a_word : numbers_from 130 0 (codes "AUZA") ≡ None
+mark_inside_a_word = refl
+
+-- ---- items
+
+-- `( b ) ABZBC` with one mandatory label: a, b, a mark, b, the result marked
+compressed : WritesPacked (words_of (codes "( b ) AB ZBC")) (codes "a" ∷ []) (Cite (codes "a") ∷ Cite (codes "b") ∷ Mark ∷ Cite (codes "b") ∷ Recall 1 ∷ [])
+compressed = (
+  refl,
+  record {
+    listed = codes "b" ∷ [];
+    rest = words_of (codes "AB ZBC");
+    whole = refl;
+    labels = refl;
+    apart = refl;
+    letters = record {
+      row = words_of (codes "A B Z B C");
+      whole = refl;
+      means = (1, refl, (0, refl, refl), (2, refl, (1, refl, refl), (refl, (2, refl, (1, refl, refl), (3, refl, (refl, omega arith, omega arith), tt)))));
+      starts = refl;
+    };
+  },
+)
+
+-- the same items as numbers over the labels
+numbers_over_labels : items_of (codes "a" ∷ codes "b" ∷ []) (1 ∷ 2 ∷ 0 ∷ 2 ∷ 3 ∷ []) ≡ Cite (codes "a") ∷ Cite (codes "b") ∷ Mark ∷ Cite (codes "b") ∷ Recall 1 ∷ []
+numbers_over_labels = refl
+
+normal : WritesPlain (words_of (codes "tt tze")) (Cite (codes "tt") ∷ Cite (codes "tze") ∷ [])
+normal = (refl, record { labels = refl; cites = refl })
+
+question_mark_is_unfinished : is_unfinished (words_of (codes "( ) A?")) ≡ true
+question_mark_is_unfinished = refl
+
+parenthesis_is_compressed : is_compressed (words_of (codes "( ) A")) ≡ true
+parenthesis_is_compressed = refl
