@@ -7,3 +7,4 @@ pub mod FrontLemmas
 pub mod FrontFaults
 pub mod StatementByStatement
 pub mod OneReading
+pub mod ExportReads

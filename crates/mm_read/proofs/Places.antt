@@ -12,7 +12,7 @@ use Rattle.mm_read.specs.declared.stmt.Stmt.{Stmt}
 use Rattle.mm_read.specs.declared.stmt.Stmt.TheVariants.{Open, Close, Const, Var, Disj, Float, Ess, Axiom, Prove}
 use Rattle.mm_read.specs.Statements.{Database, AreShaped, is_shaped, are_symbols, has_two, stmt_tokens, spelled}
 use Rattle.mm_read.specs.Reads.{CanGoOn}
-use Rattle.mm_read.proofs.StatementsLemmas.{label_plain, symbols_of, append_middle, are_symbols_of, has_two_of}
+use Rattle.mm_read.proofs.StatementsLemmas.{label_plain, symbols_of, append_middle, are_symbols_of, has_two_of, plain_is_no_key}
 
 -- what may follow: a statement, the keyword behind a label, at least (or exactly) so many symbols and then `$.`,
 -- at least so many symbols and then `$=`
@@ -225,13 +225,6 @@ can_go_on xs p e =
     record { statements = found.0; rest = way.0; shaped = found.1; whole = found.2 }
 
 -- ---- the machine goes over each list of statements
-
-plain_is_no_key : (w k : Name) → has_byte 36 w ≡ false → has_byte 36 k ≡ true → name_eq w k ≡ false
-plain_is_no_key w k plain has = by (name_eq w k) refl
-  where
-    by : (b : Bool) → name_eq w k ≡ b → b ≡ false
-    by true e = absurd (true≢false (sym has ∙ (ap (has_byte 36) (sym (same w k e)) ∙ plain)))
-    by false e = refl
 
 step-label : (label : Name) → is_label label ≡ true → step between label ≡ Some labelled
 step-label label h =

@@ -3,7 +3,8 @@ use Rattle.std.specs.Prelude.{◌≡◌, ℕ, ◌≤◌, Bool, true, false, not,
 use Rattle.std.specs.List.{list_all}
 use Rattle.std.proofs.Common.{sym, ◌∙◌, ap, arith, true≢false, refl}
 use Rattle.std.proofs.lemmas.Bool.{and_parts}
-use Rattle.mm_lex.specs.Alphabet.{Name, is_empty, is_symbol, is_label, is_label_byte, has_byte, is_visible}
+use Rattle.std.proofs.lemmas.Slice.Eq.{bytes_eq-Decides}
+use Rattle.mm_lex.specs.Alphabet.{Name, name_eq, is_empty, is_symbol, is_label, is_label_byte, has_byte, is_visible}
 use Rattle.mm_read.specs.Statements.{are_symbols, has_two}
 
 pub not_true : (a : Bool) → not a ≡ true → a ≡ false
@@ -53,3 +54,11 @@ pub has_two_of : (ws : List Name) → 2 ≤ length ws → has_two ws ≡ true
 has_two_of [] n = absurd (omega (arith, n))
 has_two_of (w ∷ []) n = absurd (omega (arith, n))
 has_two_of (w ∷ v ∷ ws) n = refl
+
+-- a word without `$` is no keyword
+pub plain_is_no_key : (w k : Name) → has_byte 36 w ≡ false → has_byte 36 k ≡ true → name_eq w k ≡ false
+plain_is_no_key w k plain has = by (name_eq w k) refl
+  where
+    by : (b : Bool) → name_eq w k ≡ b → b ≡ false
+    by true e = absurd (true≢false (sym has ∙ (ap (has_byte 36) (sym ((bytes_eq-Decides w k).0 e)) ∙ plain)))
+    by false e = refl

@@ -1,10 +1,11 @@
--- The laws of reading.
+-- The laws of reading and writing.
 -- Source: Metamath, 4.1; they make "the statements of a text" one thing.
 -- The code meets them; they speak of the definitions alone.
 use Rattle.std.specs.Prelude.{◌≡◌, ℕ, ◌⊎◌, List}
 use Rattle.mm_lex.specs.Alphabet.{Name}
 use Rattle.mm_read.specs.Statements.{Database, AreShaped, spelled}
-use Rattle.mm_read.specs.Reads.{IsShapeFault}
+use Rattle.mm_read.specs.Reads.{Reads, IsShapeFault}
+use Rattle.mm_read.specs.Export.{export_of}
 
 -- each list of tokens is spelled by at most one list of statements
 abbrev pub OneSpelling : Type 0
@@ -18,3 +19,7 @@ SpelledOrFaulty =
 -- the token that fits nowhere is one
 abbrev pub OneShapeFault : Type 0
 OneShapeFault = (tokens : List Name) (t u : ℕ) → IsShapeFault tokens t → IsShapeFault tokens u → t ≡ u
+
+-- the export form of statements reads as these statements
+abbrev pub ExportReads : Type 0
+ExportReads = (S : Database) → AreShaped S → Reads (export_of S) S

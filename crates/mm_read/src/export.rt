@@ -3,6 +3,7 @@ ghost use Rattle.std.specs.Prelude.{◌≡◌, [], ◌∷◌, ◌++◌, if◌the
 ghost use Rattle.mm_lex.specs.Alphabet.{is_empty};
 ghost use Rattle.mm_lex.specs.Words.{spaced, words_of, is_word};
 ghost use Rattle.mm_read.specs.Statements.{IsShaped, AreShaped, are_symbols};
+ghost use Rattle.mm_read.specs.Reads.{Reads};
 ghost use Rattle.mm_read.specs.Export.{line_of, export_of, with_proof};
 
 use crate::stmt::Stmt;
@@ -15,6 +16,7 @@ use std::alloc::{AllocError, Global};
 pub fn spell(alloc: Global, statements: &[Stmt]) -> Result<Vec<u8>, AllocError>
     requires { AreShaped statements.now }
     ensures text { IfOk result (λ text. text.items ≡ export_of statements.now) }
+    ensures reads { IfOk result (λ text. Reads text.items statements.now) }
 {
     let mut text = Vec::new(alloc);
     for statement in statements {

@@ -1,5 +1,5 @@
-//! The laws of reading, each a call that does nothing.
-ghost use Rattle.mm_read.specs.Laws.{OneSpelling, SpelledOrFaulty, OneShapeFault};
+//! The laws of reading and writing, each a call that does nothing.
+ghost use Rattle.mm_read.specs.Laws.{OneSpelling, SpelledOrFaulty, OneShapeFault, ExportReads};
 
 /// Each list of tokens is spelled by at most one list of statements.
 pub fn one_spelling()
@@ -14,4 +14,9 @@ pub fn spelled_or_faulty()
 /// Each list of tokens has at most one token that fits nowhere.
 pub fn one_shape_fault()
     ensures { OneShapeFault }
+{}
+
+/// The export form of statements reads as these statements.
+pub fn export_reads()
+    ensures { ExportReads }
 {}

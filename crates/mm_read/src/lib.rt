@@ -18,6 +18,6 @@ mod tests;
 
 pub use export::{push_line, push_line_with_proof, spell};
 pub use fault::ReadFault;
-pub use laws::{one_shape_fault, one_spelling, spelled_or_faulty};
+pub use laws::{export_reads, one_shape_fault, one_spelling, spelled_or_faulty};
 pub use parse::read;
 pub use stmt::Stmt;
