@@ -1,0 +1,165 @@
+-- Collecting positions: the loops' steps.
+use Rattle.std.specs.Prelude.{◌≡◌, ℕ, zero, suc, ◌+◌, ◌-◌, ◌<◌, ◌≤◌, Bool, true, false, cond, ◌==◌, ◌&&◌, nat_lt, ◌⊎◌, List, [], ◌∷◌, ◌++◌, length, map, take, drop, get_or, slice_get, Option, Some, None, Result, Ok, Err, OnOk, refl}
+use Rattle.std.specs.List.{insert}
+use Rattle.std.proofs.Common.{sym, ◌∙◌, ap, subst, arith, inl, inr, append_assoc}
+use Rattle.std.proofs.lemmas.List.{length-map, take-append-drop}
+use Rattle.mm_read.specs.declared.stmt.Stmt.{Stmt}
+use Rattle.mm_read.specs.declared.stmt.Stmt.TheVariants as stmt
+use Rattle.mm_read.specs.Statements.{Database}
+use Rattle.mm_lex.specs.Alphabet.{Name}
+use Rattle.scope.specs.Active.{is_active, is_open, is_close}
+use Rattle.scope.specs.Numbering.{name_at, decode}
+use Rattle.frame.specs.declared.storage.Kind.{Kind}
+use Rattle.frame.specs.declared.storage.Kind.TheVariants.{Open, Close, Const, Var, Disj, Float, Ess, Axiom, Prove}
+use Rattle.frame.specs.declared.storage.Entry.{Entry}
+use Rattle.frame.specs.Stored.{inserted, floats, last_from, last_where, with_float, with_floats, with_essentials, symbols_at, stmt_by, stmt_of, is_float_kind, IsPlain}
+
+pub inserted-here : (p q : ℕ) (qs : List ℕ) → p ≡ q → inserted p (q ∷ qs) ≡ q ∷ qs
+inserted-here p q qs e = let t : (p == q) ≡ true = grind (arith, e) in ap (λ b. cond b (q ∷ qs) (cond (nat_lt p q) (p ∷ q ∷ qs) (q ∷ inserted p qs))) t
+
+pub inserted-before : (p q : ℕ) (qs : List ℕ) → p < q → inserted p (q ∷ qs) ≡ p ∷ q ∷ qs
+inserted-before p q qs l =
+    let f : (p == q) ≡ false = grind (arith, l) in
+    let t : nat_lt p q ≡ true = grind (arith, l) in
+    ap (λ b. cond b (q ∷ qs) (cond (nat_lt p q) (p ∷ q ∷ qs) (q ∷ inserted p qs))) f ∙ ap (λ b. cond b (p ∷ q ∷ qs) (q ∷ inserted p qs)) t
+
+pub inserted-after : (p q : ℕ) (qs : List ℕ) → q < p → inserted p (q ∷ qs) ≡ q ∷ inserted p qs
+inserted-after p q qs l =
+    let f : (p == q) ≡ false = grind (arith, l) in
+    let t : nat_lt p q ≡ false = grind (arith, l) in
+    ap (λ b. cond b (q ∷ qs) (cond (nat_lt p q) (p ∷ q ∷ qs) (q ∷ inserted p qs))) f ∙ ap (λ b. cond b (p ∷ q ∷ qs) (q ∷ inserted p qs)) t
+
+pub drop-at : (xs : List ℕ) (i : ℕ) → i < length xs → drop i xs ≡ get_or xs i 0 ∷ drop (i + 1) xs
+drop-at [] i h = absurd (omega (arith, h))
+drop-at (x ∷ xs) zero h = ap (λ r. x ∷ r) (drop-zero xs)
+  where
+    drop-zero : (ys : List ℕ) → ys ≡ drop (0 + 1) (x ∷ ys)
+    drop-zero ys = refl
+drop-at (x ∷ xs) (suc i) h = drop-at xs i (omega (arith, h)) ∙ ap (λ n. get_or xs i 0 ∷ drop n (x ∷ xs)) (place i)
+  where
+    place : (n : ℕ) → suc (n + 1) ≡ suc n + 1
+    place n = omega arith
+
+take-at : (xs : List ℕ) (i : ℕ) → i < length xs → take (i + 1) xs ≡ take i xs ++ get_or xs i 0 ∷ []
+take-at [] i h = absurd (omega (arith, h))
+take-at (x ∷ xs) zero h = by xs
+  where
+    by : (ys : List ℕ) → take (0 + 1) (x ∷ ys) ≡ x ∷ []
+    by [] = refl
+    by (y ∷ ys) = refl
+take-at (x ∷ xs) (suc i) h = ap (λ n. take n (x ∷ xs)) (place i) ∙ ap (λ r. x ∷ r) (take-at xs i (omega (arith, h)))
+  where
+    place : (n : ℕ) → suc n + 1 ≡ suc (n + 1)
+    place n = omega arith
+
+-- the walk over the list has come to i
+abbrev pub IsPassed : List ℕ → ℕ → ℕ → Type 0
+IsPassed list p i = inserted p list ≡ take i list ++ inserted p (drop i list)
+
+pub passed-step : (list : List ℕ) (p i : ℕ) → i < length list → get_or list i 0 < p → IsPassed list p i → IsPassed list p (i + 1)
+passed-step list p i h l e =
+    e ∙ (ap (λ r. take i list ++ inserted p r) (drop-at list i h)
+    ∙ (ap (λ r. take i list ++ r) (inserted-after p (get_or list i 0) (drop (i + 1) list) l)
+    ∙ (sym (append_assoc (take i list) (get_or list i 0 ∷ []) (inserted p (drop (i + 1) list))) ∙ ap (λ r. r ++ inserted p (drop (i + 1) list)) (sym (take-at list i h)))))
+
+pub passed-here : (list : List ℕ) (p i : ℕ) → i < length list → p ≡ get_or list i 0 → IsPassed list p i → inserted p list ≡ list
+passed-here list p i h same e =
+    e ∙ (ap (λ r. take i list ++ inserted p r) (drop-at list i h)
+    ∙ (ap (λ r. take i list ++ r) (inserted-here p (get_or list i 0) (drop (i + 1) list) same ∙ sym (drop-at list i h)) ∙ take-append-drop i list))
+
+pub passed-before : (list : List ℕ) (p i : ℕ) → i < length list → p < get_or list i 0 → IsPassed list p i → inserted p list ≡ insert list i p
+passed-before list p i h l e =
+    e ∙ (ap (λ r. take i list ++ inserted p r) (drop-at list i h)
+    ∙ (ap (λ r. take i list ++ r) (inserted-before p (get_or list i 0) (drop (i + 1) list) l) ∙ ap (λ r. take i list ++ p ∷ r) (sym (drop-at list i h))))
+
+-- ---- the last `$f` of a symbol
+
+last-is : (test : Entry → Bool) (found at : ℕ) (es : List Entry) (p : ℕ) → 1 ≤ at → last_from test found at es ≡ p
+    → (p ≡ found) ⊎ ((i : ℕ) × (e : Entry) × (slice_get es i ≡ Some e) × (test e ≡ true) × (p ≡ at + i))
+last-is test found at [] p one h = inl (sym h)
+last-is test found at (e ∷ es) p one h = by (last-is test (cond (test e) at found) (at + 1) es p (omega arith) h)
+  where
+    here : (b : Bool) → test e ≡ b → p ≡ cond b at found → (p ≡ found) ⊎ ((i : ℕ) × (d : Entry) × (slice_get (e ∷ es) i ≡ Some d) × (test d ≡ true) × (p ≡ at + i))
+    here true t q = inr (0, e, refl, t, omega (arith, q))
+    here false t q = inl q
+
+    by : (p ≡ cond (test e) at found) ⊎ ((i : ℕ) × (d : Entry) × (slice_get es i ≡ Some d) × (test d ≡ true) × (p ≡ at + 1 + i))
+        → (p ≡ found) ⊎ ((i : ℕ) × (d : Entry) × (slice_get (e ∷ es) i ≡ Some d) × (test d ≡ true) × (p ≡ at + i))
+    by (inl q) = here (test e) refl q
+    by (inr r) = let k = r.0 in inr (suc k, r.1, r.2, r.3, r.4 ∙ place at k)
+      where
+        place : (a n : ℕ) → a + 1 + n ≡ a + suc n
+        place a n = omega arith
+
+float-plain : (names labels : List Name) (e : Entry) → is_float_kind e.kind ≡ true → IsPlain (Some (stmt_of names labels e))
+float-plain names labels e = by e.kind
+  where
+    by : (kind : Kind) → is_float_kind kind ≡ true → IsPlain (Some (stmt_by kind (name_at labels e.label) (decode names e.symbols.items)))
+    by Float h = (refl, refl)
+    by Open h = cc
+    by Close h = cc
+    by Const h = cc
+    by Var h = cc
+    by Disj h = cc
+    by Ess h = cc
+    by Axiom h = cc
+    by Prove h = cc
+
+and-first : (a b : Bool) → (a && b) ≡ true → a ≡ true
+and-first true b h = refl
+and-first false b h = cc
+
+-- it stands in the list, and opens or closes no block
+pub float-stands : (names labels : List Name) (es : List Entry) (c p : ℕ) → p ≡ last_where (floats c) es → (p ≡ 0 → ⊥)
+    → (1 ≤ p) × (p ≤ length es) × IsPlain (slice_get (map (stmt_of names labels) es) (p - 1))
+float-stands names labels es c p h some = by (last-is (floats c) 0 1 es p (omega arith) (sym h))
+  where
+    get-map : (xs : List Entry) (i : ℕ) (e : Entry) → slice_get xs i ≡ Some e → slice_get (map (stmt_of names labels) xs) i ≡ Some (stmt_of names labels e)
+    get-map [] i e g = cc
+    get-map (x ∷ xs) zero e g = let same : x ≡ e = cc in ap (λ d. Some (stmt_of names labels d)) same
+    get-map (x ∷ xs) (suc i) e g = get-map xs i e g
+
+    get-below : (xs : List Entry) (i : ℕ) (e : Entry) → slice_get xs i ≡ Some e → i < length xs
+    get-below [] i e g = cc
+    get-below (x ∷ xs) zero e g = omega arith
+    get-below (x ∷ xs) (suc i) e g = let r = get-below xs i e g in omega (arith, r)
+
+    by : (p ≡ 0) ⊎ ((i : ℕ) × (e : Entry) × (slice_get es i ≡ Some e) × (floats c e ≡ true) × (p ≡ 1 + i)) → (1 ≤ p) × (p ≤ length es) × IsPlain (slice_get (map (stmt_of names labels) es) (p - 1))
+    by (inl z) = absurd (some z)
+    by (inr r) =
+        let k = r.0 in let at = r.4 in let lt = get-below es k r.1 r.2 in
+        let back : p - 1 ≡ k = omega (arith, at) in
+        let there : slice_get (map (stmt_of names labels) es) (p - 1) ≡ Some (stmt_of names labels r.1) = ap (slice_get (map (stmt_of names labels) es)) back ∙ get-map es k r.1 r.2 in
+        (omega (arith, at), omega (arith, at, lt), subst IsPlain (sym there) (float-plain names labels r.1 (and-first (is_float_kind r.1.kind) _ r.3)))
+
+pub float-none : (es : List Entry) (S : Database) (c : ℕ) (list : List ℕ) → last_where (floats c) es ≡ 0 → with_float es S c list ≡ list
+float-none es S c list z =
+    let t : (last_where (floats c) es == 0) ≡ true = grind (arith, z) in
+    ap (λ b. cond b list (cond (is_active S (last_where (floats c) es) (length S + 1)) (inserted (last_where (floats c) es) list) list)) t
+
+pub float-some : (es : List Entry) (S : Database) (c p : ℕ) (list : List ℕ) (b : Bool) → p ≡ last_where (floats c) es → (p ≡ 0 → ⊥) → is_active S p (length S + 1) ≡ b
+    → with_float es S c list ≡ cond b (inserted p list) list
+float-some es S c p list b h some a =
+    let f : (p == 0) ≡ false = grind (arith, some) in
+    ap (λ q. cond (q == 0) list (cond (is_active S q (length S + 1)) (inserted q list) list)) (sym h)
+    ∙ (ap (λ t. cond t list (cond (is_active S p (length S + 1)) (inserted p list) list)) f ∙ ap (λ t. cond t (inserted p list) list) a)
+
+pub floats-step : (es : List Entry) (S : Database) (codes : List ℕ) (i : ℕ) (list : List ℕ) → i < length codes
+    → with_floats es S (drop i codes) list ≡ with_floats es S (drop (i + 1) codes) (with_float es S (get_or codes i 0) list)
+floats-step es S codes i list h = ap (λ r. with_floats es S r list) (drop-at codes i h)
+
+-- ---- the active `$e`, from the last one back
+
+pub essentials-step : (es : List Entry) (S : Database) (qs : List (ℕ × Stmt)) (p : ℕ) (s : Stmt) (list : List ℕ)
+    → with_essentials es S (qs ++ (p, s) ∷ []) list ≡ with_essentials es S qs (with_floats es S (symbols_at es p) (inserted p list))
+essentials-step es S [] p s list = refl
+essentials-step es S (q ∷ qs) p s list = ap (λ r. with_floats es S (symbols_at es q.0) (inserted q.0 r)) (essentials-step es S qs p s list)
+
+pub index-is : {A : Type 0} (xs : List A) (i : ℕ) (x y : A) → slice_get xs i ≡ Some y → x ≡ get_or xs i x → x ≡ y
+index-is [] i x y h e = cc
+index-is (z ∷ xs) zero x y h e = let same : z ≡ y = cc in e ∙ same
+index-is (z ∷ xs) (suc i) x y h e = index-is xs i x y h e
+
+pub on-ok-weaker : {T E : Type 0} (r : Result T E) (P Q : Type 0) → (P → Q) → OnOk r P → OnOk r Q
+on-ok-weaker (Ok x) P Q f h = f h
+on-ok-weaker (Err x) P Q f h = tt

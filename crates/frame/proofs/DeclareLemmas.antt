@@ -1,0 +1,83 @@
+-- The last declarations of symbols, one statement more.
+use Rattle.std.specs.Prelude.{◌≡◌, ℕ, zero, suc, ◌+◌, ◌-◌, ◌<◌, ◌≤◌, Bool, true, false, cond, ◌&&◌, ◌||◌, ◌==◌, nat_eq, List, [], ◌∷◌, ◌++◌, length, map, take, get_or, slice_get, slice_set, Option, Some, None, refl}
+use Rattle.std.specs.List.{list_any}
+use Rattle.std.proofs.Common.{sym, ◌∙◌, ap, subst, arith}
+use Rattle.frame.specs.ByPlaces.{AreBelow}
+use Rattle.frame.specs.declared.storage.Entry.{Entry}
+use Rattle.frame.specs.declared.storage.Symbol.{Symbol}
+use Rattle.frame.specs.Stored.{floats, declares, last_from, last_where, symbol_of, with_entry}
+
+pub below-at : (n : ℕ) (codes : List ℕ) (k : ℕ) → AreBelow n codes → k < length codes → get_or codes k 0 < n
+below-at n [] k h l = absurd (omega (arith, l))
+below-at n (c ∷ codes) zero h l = h.0
+below-at n (c ∷ codes) (suc k) h l = below-at n codes k h.1 (omega (arith, l))
+
+or-true : (a : Bool) → (a || true) ≡ true
+or-true true = refl
+or-true false = refl
+
+or-false : (a : Bool) → (a || false) ≡ a
+or-false true = refl
+or-false false = refl
+
+pub any-take-more : (p : ℕ → Bool) (xs : List ℕ) (i : ℕ) → i < length xs → list_any p (take (i + 1) xs) ≡ (list_any p (take i xs) || p (get_or xs i 0))
+any-take-more p [] i h = absurd (omega (arith, h))
+any-take-more p (x ∷ xs) zero h = or-same (p x) xs
+  where
+    or-same : (b : Bool) (ys : List ℕ) → (b || list_any p (take 0 ys)) ≡ b
+    or-same true ys = refl
+    or-same false [] = refl
+    or-same false (y ∷ ys) = refl
+any-take-more p (x ∷ xs) (suc i) h =
+    ap (λ n. list_any p (take n (x ∷ xs))) (place i)
+    ∙ (ap (λ b. p x || b) (any-take-more p xs i (omega (arith, h))) ∙ sym (or-assoc (p x) (list_any p (take i xs)) (p (get_or xs i 0))))
+  where
+    place : (n : ℕ) → suc n + 1 ≡ suc (n + 1)
+    place n = omega arith
+
+    or-assoc : (a b c : Bool) → ((a || b) || c) ≡ (a || (b || c))
+    or-assoc true b c = refl
+    or-assoc false b c = refl
+
+abbrev pub noted : Symbol → ℕ → Bool → Symbol
+noted x at any = record { float = x.float; variable = cond any at x.variable }
+
+-- one symbol noted: the others stay
+pub note-step : (xs : List Symbol) (k c at : ℕ) (r x : Symbol) (any : Bool) → slice_get xs c ≡ Some (noted x at any) → r ≡ get_or xs k r
+    → slice_get (slice_set xs k (record { float = r.float; variable = at })) c ≡ Some (noted x at (any || nat_eq c k))
+note-step [] k c at r x any g e = cc
+note-step (y ∷ xs) zero zero at r x any g e =
+    let same : y ≡ noted x at any = cc in
+    let f : r.float ≡ x.float = ap (λ s. s.float) (e ∙ same) in
+    ap (λ n. Some (record { float = n; variable = at })) f ∙ ap (λ b. Some (noted x at b)) (sym (or-true any))
+note-step (y ∷ xs) zero (suc c) at r x any g e =
+    let no : nat_eq (suc c) zero ≡ false = grind arith in
+    g ∙ ap (λ b. Some (noted x at b)) (sym (ap (λ b. any || b) no ∙ or-false any))
+note-step (y ∷ xs) (suc k) zero at r x any g e =
+    let no : nat_eq zero (suc k) ≡ false = grind arith in
+    g ∙ ap (λ b. Some (noted x at b)) (sym (ap (λ b. any || b) no ∙ or-false any))
+note-step (y ∷ xs) (suc k) (suc c) at r x any g e =
+    let same : nat_eq c k ≡ nat_eq (suc c) (suc k) = grind arith in
+    note-step xs k c at r x any g e ∙ ap (λ b. Some (noted x at (any || b))) same
+
+pub last_from-push : (test : Entry → Bool) (found at : ℕ) (es : List Entry) (e : Entry) → last_from test found at (es ++ e ∷ []) ≡ cond (test e) (at + length es) (last_from test found at es)
+last_from-push test found at [] e = ap (λ n. cond (test e) n found) (place at)
+  where
+    place : (n : ℕ) → n ≡ n + 0
+    place n = omega arith
+last_from-push test found at (d ∷ es) e =
+    last_from-push test (cond (test d) at found) (at + 1) es e
+    ∙ ap (λ n. cond (test e) n (last_from test (cond (test d) at found) (at + 1) es)) (place at (length es))
+  where
+    place : (a n : ℕ) → a + 1 + n ≡ a + suc n
+    place a n = omega arith
+
+-- the last declarations behind one more entry
+pub symbol_of-push : (es : List Entry) (e : Entry) (c : ℕ) → symbol_of (es ++ e ∷ []) c ≡ with_entry e (1 + length es) c (symbol_of es c)
+symbol_of-push es e c =
+    let f = last_from-push (floats c) 0 1 es e in
+    let d = last_from-push (declares c) 0 1 es e in
+    symbol-by f d
+  where
+    symbol-by : {a b a' b' : ℕ} → a ≡ a' → b ≡ b' → ◌≡◌ {A = Symbol} (record { float = a; variable = b }) (record { float = a'; variable = b' })
+    symbol-by p q = cc

@@ -1,0 +1,99 @@
+-- What the verifier uses of legal statements.
+use Rattle.std.specs.Prelude.{◌≡◌, ℕ, zero, suc, ◌+◌, ◌-◌, ◌<◌, ◌≤◌, Bool, true, false, not, cond, ◌||◌, List, [], ◌∷◌, length, take, Option, Some, None, slice_get, find, refl}
+use Rattle.std.specs.List.{list_any}
+use Rattle.std.proofs.Common.{sym, ◌∙◌, ap, subst, arith}
+use Rattle.std.proofs.lemmas.Slice.Eq.{bytes_eq-Decides}
+use Rattle.mm_lex.specs.Alphabet.{Name, name_eq}
+use Rattle.mm_read.specs.declared.stmt.Stmt.{Stmt}
+use Rattle.mm_read.specs.declared.stmt.Stmt.TheVariants.{Open, Close, Const, Var, Disj, Float, Ess, Axiom, Prove}
+use Rattle.mm_read.specs.Statements.{Expr, Database}
+use Rattle.scope.specs.declared.rule.Rule.{Rule}
+use Rattle.scope.specs.declared.rule.Rule.TheVariants.{G1, G2, G3, G4}
+use Rattle.scope.specs.Active.{stmt_at, before, label_of, has_label, was_label, was_symbol, expr_of}
+use Rattle.scope.specs.Numbering.{name_at}
+use Rattle.scope.specs.Legal.{IsLegal, keeps, broken_rule}
+use Rattle.frame.specs.FrameOf.{HasAssertion}
+use Rattle.frame.specs.Substitution.{Images, apply as applied}
+use Rattle.frame.specs.declared.citation.Pattern.{Pattern}
+use Rattle.frame.specs.Citations.{Carries, OfVariables, IsInstance, premises}
+use Rattle.frame.specs.Templates.{filled}
+use Rattle.frame.specs.ByPlaces.{IsByPlaces}
+use Rattle.frame.specs.Reading.{HasLabelsOnce, IsSingle}
+
+-- each statement is legal behind those before it
+abbrev pub AllKept : Database → Type 0
+AllKept S = (j : ℕ) (s : Stmt) → stmt_at S j ≡ Some s → IsLegal (before S j) s
+
+fourth : (a b c d : Bool) (rest : Option Rule) → cond a (Some G1) (cond b (Some G2) (cond c (Some G3) (cond d (Some G4) rest))) ≡ None → d ≡ false
+fourth true b c d rest h = cc
+fourth false true c d rest h = cc
+fourth false false true d rest h = cc
+fourth false false false true rest h = cc
+fourth false false false false rest h = refl
+
+keeps_label : (S : Database) (s : Stmt) → IsLegal S s → not (keeps S s G4) ≡ false
+keeps_label S s h = fourth (not (keeps S s G1)) (not (keeps S s G2)) (not (keeps S s G3)) (not (keeps S s G4)) _ h
+
+not_or : (a b : Bool) → not (not (a || b)) ≡ false → a ≡ false
+not_or true b h = cc
+not_or false b h = refl
+
+pub fresh : (S : Database) (s : Stmt) (label : Name) → IsLegal S s → label_of s ≡ Some label → was_label S label ≡ false
+fresh S (Float l c v) label h e = let same : l ≡ label = cc in ap (was_label S) (sym same) ∙ not_or (was_label S l) (was_symbol S l) (keeps_label S (Float l c v) h)
+fresh S (Ess l x) label h e = let same : l ≡ label = cc in ap (was_label S) (sym same) ∙ not_or (was_label S l) (was_symbol S l) (keeps_label S (Ess l x) h)
+fresh S (Axiom l x) label h e = let same : l ≡ label = cc in ap (was_label S) (sym same) ∙ not_or (was_label S l) (was_symbol S l) (keeps_label S (Axiom l x) h)
+fresh S (Prove l x p) label h e = let same : l ≡ label = cc in ap (was_label S) (sym same) ∙ not_or (was_label S l) (was_symbol S l) (keeps_label S (Prove l x p) h)
+fresh S Open label h e = cc
+fresh S Close label h e = cc
+fresh S (Const ws) label h e = cc
+fresh S (Var ws) label h e = cc
+fresh S (Disj ws) label h e = cc
+
+has_own : (s : Stmt) (label : Name) → label_of s ≡ Some label → has_label label (label_of s) ≡ true
+has_own s label e = ap (has_label label) e ∙ (bytes_eq-Decides label label).1 refl
+
+or-left : (a b : Bool) → a ≡ true → (a || b) ≡ true
+or-left true b h = refl
+or-left false b h = cc
+
+or-right : (a b : Bool) → b ≡ true → (a || b) ≡ true
+or-right true b h = refl
+or-right false b h = h
+
+was_there : (S : Database) (n k : ℕ) (s : Stmt) (label : Name) → k < n → slice_get S k ≡ Some s → label_of s ≡ Some label → was_label (take n S) label ≡ true
+was_there [] n k s label h e l = cc
+was_there (x ∷ S) zero k s label h e l = absurd (omega (arith, h))
+was_there (x ∷ S) (suc n) zero s label h e l =
+    let same : x ≡ s = cc in
+    or-left (has_label label (label_of x)) (was_label (take n S) label) (ap (λ v. has_label label (label_of v)) same ∙ has_own s label l)
+was_there (x ∷ S) (suc n) (suc k) s label h e l =
+    or-right (has_label label (label_of x)) (was_label (take n S) label) (was_there S n k s label (omega (arith, h)) e l)
+
+no_later : (S : Database) → AllKept S → (i j : ℕ) (s r : Stmt) (label : Name) → Carries S i s label → Carries S j r label → i < j → ⊥
+no_later S kept zero j s r label p q h = let e = p.stands in cc
+no_later S kept (suc i) j s r label p q h =
+    let a = fresh (before S j) r label (kept j r q.stands) q.carried in
+    let b = was_there S (j - 1) i s label (omega (arith, h)) p.stands p.carried in
+    let c : true ≡ false = sym b ∙ a in cc
+
+-- no two legal statements carry one label
+pub legal-labels : (S : Database) → AllKept S → HasLabelsOnce S
+legal-labels S kept i j s r label p q =
+    let a = no_later S kept i j s r label p q in
+    let b = no_later S kept j i r s label q p in
+    omega (arith, a, b)
+
+-- two ways to fill in one assertion kept by places give one result
+pub by_places-single : (S : Database) (names : List Name) (a : ℕ) (s : Stmt) (patterns : List Pattern) (templates conclusion : List ℕ) (groups : List (List ℕ))
+    → IsByPlaces S names a s patterns templates conclusion groups → (σ τ : Images) → OfVariables S a σ → OfVariables S a τ
+    → premises S a s σ ≡ premises S a s τ → applied σ (expr_of s) ≡ applied τ (expr_of s)
+by_places-single S names a s patterns templates conclusion groups by σ τ p q e =
+    by.gives σ p ∙ (ap (λ v. filled (name_at names) (length patterns) v conclusion) e ∙ sym (by.gives τ q))
+
+-- where each assertion can be kept by places, each is single
+pub single-of : (S : Database) (names : List Name) (at : ℕ)
+    → ((a : ℕ) (s : Stmt) → HasAssertion S a s → (patterns : List Pattern) × (templates : List ℕ) × (conclusion : List ℕ) × (groups : List (List ℕ)) × IsByPlaces S names a s patterns templates conclusion groups)
+    → IsSingle S at
+single-of S names at by a s σ τ p q e =
+    let b = by a s (p.stands, p.assertion) in
+    by_places-single S names a s b.0 b.1 b.2 b.3 b.4 σ τ p.of_variables q.of_variables e

@@ -1,0 +1,19 @@
+use Rattle.std.proofs.Common.{◌≡◌, ◌∙◌, ap, sym, subst, take}
+use Rattle.frame.specs.Stored.{numbered, IsBehind, Extends}
+use Rattle.frame.proofs.StoredLemmas.{IsTakenBack, back-stored, back-numbered, on-err}
+use Rattle.frame.proofs.frames.Frames.push.Goals as goal
+
+pub invariant_of-self : goal.invariant_of-self
+invariant_of-self c =
+    let mid = c.extend-result.new.stock in
+    let behind = on-err c.extend-result.result (IsBehind c.self.inside.stock mid) (sym c.is_err.ensures.value ∙ c.if-is_err.true) c.extend-result.ensures.behind in
+    let cut = c.roll_back.ensures in
+    back-stored c.self.inside.stock mid c.roll_back.new.stock c.self.invariant (record {
+      behind = behind;
+      names_cut = cut.names ∙ ap (λ n. take n mid.names) c.len-names.ensures;
+      symbols_cut = cut.symbols ∙ ap (λ n. take n mid.symbols.items) c.len-names.ensures;
+      labels_cut = cut.labels ∙ ap (λ n. take n mid.labels) c.len-labels.ensures;
+      positions_cut = cut.positions ∙ ap (λ n. take n mid.positions.items) c.len-labels.ensures;
+      entries_cut = cut.entries;
+      links_cut = cut.links;
+    })

@@ -1,0 +1,8 @@
+use Rattle.std.proofs.Common.{◌≡◌, drop}
+use Rattle.frame.specs.Stored.{statements_of, with_floats}
+use Rattle.frame.proofs.mandatory.put_floats.Given as goal
+
+abbrev pub invariant-loop-code : goal.invariant-loop-code
+invariant-loop-code l =
+    with_floats l.stock.entries.items (statements_of l.stock) (drop l.code-index l.codes) l.list.items
+    ≡ with_floats l.stock.entries.items (statements_of l.stock) l.codes l.fn.list.items

@@ -1,0 +1,54 @@
+-- Citing a statement: a hypothesis that is active, or an earlier assertion with images for its variables.
+-- Metamath, 4.2.6: the hypotheses of a cited assertion, with the images put in, are the results that it takes.
+-- The code knows no images: it reads them off the results.
+use Rattle.std.specs.Prelude.{◌≡◌, ℕ, ◌<◌, Bool, true, false, IsTrue, List, [], ◌∷◌, map, Option, Some, None}
+use Rattle.std.specs.List.{list_all}
+use Rattle.mm_lex.specs.Alphabet.{Name}
+use Rattle.mm_read.specs.declared.stmt.Stmt.{Stmt}
+use Rattle.mm_read.specs.declared.stmt.Stmt.TheVariants.{Float, Ess}
+use Rattle.mm_read.specs.Statements.{Expr, Database}
+use Rattle.scope.specs.Active.{stmt_at, before, is_active, is_variable, is_assertion, expr_of, label_of}
+use Rattle.frame.specs.FrameOf.{hypotheses, mandatory_groups}
+use Rattle.frame.specs.Substitution.{Images, apply as applied}
+use Rattle.frame.specs.Disjoint.{are_groups_apart}
+
+-- the statement at i carries the label
+pub record Carries (S : Database) (i : ℕ) (s : Stmt) (label : Name) : Type 0 where
+  pub stands : stmt_at S i ≡ Some s
+  pub carried : label_of s ≡ Some label
+
+-- a `$f` or a `$e`
+abbrev pub is_hypothesis_kind : Stmt → Bool
+is_hypothesis_kind (Float label constant variable) = true
+is_hypothesis_kind (Ess label expr) = true
+is_hypothesis_kind s = false
+
+-- the hypothesis i is active at `at`
+pub record IsHypothesis (S : Database) (at i : ℕ) (s : Stmt) : Type 0 where
+  pub stands : stmt_at S i ≡ Some s
+  pub kind : IsTrue (is_hypothesis_kind s)
+  pub active : IsTrue (is_active S i at)
+
+-- the images are images of variables
+abbrev pub OfVariables : Database → ℕ → Images → Type 0
+OfVariables S a σ = IsTrue (list_all (λ p. is_variable (before S a) p.0) σ)
+
+-- the assertion a may be cited at `at` with these images of its variables
+pub record IsInstance (S : Database) (at a : ℕ) (s : Stmt) (σ : Images) : Type 0 where
+  pub earlier : a < at
+  pub stands : stmt_at S a ≡ Some s
+  pub assertion : IsTrue (is_assertion s)
+  pub of_variables : OfVariables S a σ
+  pub apart : IsTrue (are_groups_apart (before S at) σ (mandatory_groups (before S a) s))
+
+-- the expression of the statement at i
+abbrev pub option_expr : Option Stmt → Expr
+option_expr None = []
+option_expr (Some s) = expr_of s
+
+abbrev pub expr_at : Database → ℕ → Expr
+expr_at S i = option_expr (stmt_at S i)
+
+-- what the images make of the mandatory hypotheses, in order
+abbrev pub premises : Database → ℕ → Stmt → Images → List Expr
+premises S a s σ = map (λ i. applied σ (expr_at S i)) (hypotheses (before S a) s)

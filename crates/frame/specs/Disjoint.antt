@@ -1,0 +1,21 @@
+-- Images that are kept apart by the `$d` active behind the statements S.
+use Rattle.std.specs.Prelude.{Bool, not, ◌||◌, List}
+use Rattle.std.specs.List.{list_all}
+use Rattle.mm_lex.specs.Alphabet.{Name, name_eq}
+use Rattle.mm_read.specs.Statements.{Expr, Database}
+use Rattle.scope.specs.Active.{is_variable}
+use Rattle.frame.specs.FrameOf.{is_pair}
+use Rattle.frame.specs.Substitution.{Images, image}
+
+-- each pair of one variable from e and one from f is kept apart; so none stands in both
+abbrev pub are_apart : Database → Expr → Expr → Bool
+are_apart S e f =
+    list_all (λ u. list_all (λ v. not (is_variable S u) || not (is_variable S v) || is_pair S u v) f) e
+
+-- the images of each two variables that a list keeps apart are apart
+abbrev pub is_group_apart : Database → Images → List Name → Bool
+is_group_apart S σ names =
+    list_all (λ x. list_all (λ y. name_eq x y || are_apart S (image σ x) (image σ y)) names) names
+
+abbrev pub are_groups_apart : Database → Images → List (List Name) → Bool
+are_groups_apart S σ groups = list_all (is_group_apart S σ) groups

@@ -1,0 +1,83 @@
+-- The frame of an assertion behind the statements S.
+use Rattle.std.specs.Prelude.{◌≡◌, ℕ, Bool, true, false, not, ◌&&◌, ◌||◌, List, [], ◌∷◌, map, filter, Option, Some, None, IsTrue}
+use Rattle.std.specs.List.{list_any}
+use Rattle.mm_lex.specs.Alphabet.{Name, name_eq}
+use Rattle.mm_lex.specs.Alphabet.{has_name}
+use Rattle.mm_read.specs.declared.stmt.Stmt.{Stmt}
+use Rattle.mm_read.specs.declared.stmt.Stmt.TheVariants.{Float, Ess}
+use Rattle.mm_read.specs.Statements.{Database}
+use Rattle.scope.specs.Active.{active, stmt_at, separated, expr_of, is_essential, is_variable, is_assertion}
+use Rattle.frame.specs.Parts.{FrameParts}
+
+-- the symbol stands in the assertion or in an active `$e`
+abbrev pub is_used : Database → Stmt → Name → Bool
+is_used S s x = has_name x (expr_of s) || list_any (λ p. is_essential p.1 && has_name x (expr_of p.1)) (active S)
+
+abbrev pub is_mandatory : Database → Stmt → Name → Bool
+is_mandatory S s x = is_variable S x && is_used S s x
+
+-- an active `$e`, or the active `$f` of a mandatory variable
+abbrev pub is_hypothesis : Database → Stmt → Stmt → Bool
+is_hypothesis S s (Ess label expr) = true
+is_hypothesis S s (Float label constant variable) = is_mandatory S s variable
+is_hypothesis S s other = false
+
+-- the mandatory hypotheses, by position, in order
+abbrev pub hypotheses : Database → Stmt → List ℕ
+hypotheses S s = map (λ p. p.0) (filter (λ p. is_hypothesis S s p.1) (active S))
+
+-- the two are different, and stand together in one of the lists
+abbrev pub together : List (List Name) → Name → Name → Bool
+together groups x y = not (name_eq x y) && list_any (λ names. has_name x names && has_name y names) groups
+
+-- the lists of the active `$d`
+abbrev pub groups : Database → List (List Name)
+groups S = map (λ p. separated p.1) (active S)
+
+-- x and y stand together in an active `$d`
+abbrev pub is_pair : Database → Name → Name → Bool
+is_pair S x y = together (groups S) x y
+
+abbrev pub is_mandatory_pair : Database → Stmt → Name → Name → Bool
+is_mandatory_pair S s x y = is_pair S x y && is_mandatory S s x && is_mandatory S s y
+
+-- a list that says something, namely one of two or more
+abbrev pub separates : List Name → Bool
+separates [] = false
+separates (x ∷ []) = false
+separates (x ∷ y ∷ names) = true
+
+-- the lists of the active `$d`, of each its mandatory variables
+abbrev pub mandatory_groups : Database → Stmt → List (List Name)
+mandatory_groups S s = filter separates (map (filter (is_mandatory S s)) (groups S))
+
+abbrev pub frame_of : Database → Stmt → FrameParts
+frame_of S s = record { hypotheses = hypotheses S s; groups = mandatory_groups S s; conclusion = expr_of s }
+
+-- the assertion at a position of a database
+abbrev pub HasAssertion : Database → ℕ → Stmt → Type 0
+HasAssertion S at s = (stmt_at S at ≡ Some s) × IsTrue (is_assertion s)
+
+-- the variable of a `$f`
+abbrev pub variable_of : Stmt → Option Name
+variable_of (Float label constant variable) = Some variable
+variable_of s = None
+
+abbrev pub option_variable : Option Stmt → Option Name
+option_variable None = None
+option_variable (Some s) = variable_of s
+
+abbrev pub variable_at : Database → ℕ → Option Name
+variable_at S p = option_variable (stmt_at S p)
+
+-- the variables of the mandatory hypotheses, at their places
+abbrev pub variables_of : Database → Stmt → List (Option Name)
+variables_of S s = map (variable_at S) (hypotheses S s)
+
+abbrev pub is_some_name : Name → Option Name → Bool
+is_some_name x None = false
+is_some_name x (Some y) = name_eq x y
+
+-- x is the variable at some place
+abbrev pub has_place : List (Option Name) → Name → Bool
+has_place vs x = list_any (is_some_name x) vs

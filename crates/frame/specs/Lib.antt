@@ -1,0 +1,10 @@
+pub mod Parts
+pub mod FrameOf
+pub mod Substitution
+pub mod Disjoint
+pub mod Citations
+pub mod Templates
+pub mod ByPlaces
+pub mod Reading
+pub mod Links
+pub mod Stored

@@ -1,0 +1,37 @@
+-- What is active behind a list of statements, by kind: the last such statement, from which the one before it is found.
+-- Metamath, 4.2.8: blocks nest, so what is active where a statement stands that is active itself is active still.
+-- The code keeps for each position the last active statement of four kinds, and walks back from it.
+use Rattle.std.specs.Prelude.{◌≡◌, ℕ, suc, ◌-◌, ◌<◌, ◌≤◌, Bool, true, false, List, [], ◌∷◌, map, filter, take, slice_get, Some}
+use Rattle.mm_read.specs.declared.stmt.Stmt.{Stmt}
+use Rattle.mm_read.specs.declared.stmt.Stmt.TheVariants.{Var, Disj}
+use Rattle.mm_read.specs.Statements.{Database}
+use Rattle.scope.specs.Active.{active_from, is_open, is_essential}
+use Rattle.frame.specs.declared.links.Links.{Links}
+
+abbrev pub is_var : Stmt → Bool
+is_var (Var names) = true
+is_var s = false
+
+abbrev pub is_disj : Stmt → Bool
+is_disj (Disj names) = true
+is_disj s = false
+
+-- the active statements of a kind, with their positions
+abbrev pub actives_from : (Stmt → Bool) → ℕ → Database → List (ℕ × Stmt)
+actives_from kind at S = filter (λ p. kind p.1) (active_from at S)
+
+abbrev pub actives : (Stmt → Bool) → Database → List (ℕ × Stmt)
+actives kind S = actives_from kind 1 S
+
+-- the position at the end of the list, or 0
+abbrev pub last_position : List (ℕ × Stmt) → ℕ
+last_position [] = 0
+last_position (p ∷ []) = p.0
+last_position (p ∷ q ∷ ps) = last_position (q ∷ ps)
+
+-- the position of the last active statement of a kind, or 0
+abbrev pub last_active : (Stmt → Bool) → Database → ℕ
+last_active kind S = last_position (actives kind S)
+
+abbrev pub links_of : Database → Links
+links_of S = record { block = last_active is_open S; essential = last_active is_essential S; variable = last_active is_var S; disjoint = last_active is_disj S }

@@ -1,0 +1,15 @@
+-- What contracts see of a frame and of the frames of a database.
+use Rattle.std.specs.Prelude.{ℕ, List}
+use Rattle.mm_lex.specs.Alphabet.{Name}
+use Rattle.mm_read.specs.Statements.{Expr, Database}
+
+-- hypotheses by position, the lists of variables that are to be kept apart, and the conclusion
+pub record FrameParts : Type 0 where
+  pub hypotheses : List ℕ
+  pub groups : List (List Name)
+  pub conclusion : Expr
+
+-- the statements without their proofs, and the name that each code stands for
+pub record Numbered : Type 0 where
+  pub statements : Database
+  pub names : List Name

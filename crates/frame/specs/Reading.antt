@@ -1,0 +1,54 @@
+-- What a verifier reads of a database by position.
+-- Metamath, 4.2: labels name one statement each; what may be cited at a statement.
+-- The code answers by numbers; these words say which statements and names they stand for.
+use Rattle.std.specs.Prelude.{◌≡◌, ℕ, ◌<◌, ◌^◌, true, List, length, map, Option, Some, None}
+use Rattle.mm_lex.specs.Alphabet.{Name}
+use Rattle.mm_read.specs.declared.stmt.Stmt.{Stmt}
+use Rattle.mm_read.specs.Statements.{Database}
+use Rattle.scope.specs.Active.{stmt_at, expr_of, is_assertion}
+use Rattle.scope.specs.Numbering.{decode, AreDistinct}
+use Rattle.frame.specs.FrameOf.{HasAssertion}
+use Rattle.frame.specs.Substitution.{Images, apply as applied}
+use Rattle.frame.specs.declared.citation.Cited.{Cited}
+use Rattle.frame.specs.declared.citation.Meaning.{Meaning}
+use Rattle.frame.specs.declared.citation.Meaning.TheVariants.{Hypothesis, Assertion, Nothing}
+use Rattle.frame.specs.Citations.{Carries, IsHypothesis, IsInstance, premises}
+use Rattle.frame.specs.Templates.{AreIn}
+use Rattle.frame.specs.ByPlaces.{IsByPlaces, AreBelow, AreCoded}
+
+abbrev pub groups_of : Cited → List (List ℕ)
+groups_of c = map (λ v. v.items) c.groups.now
+
+-- the parts of the assertion s at a
+pub record IsCited (S : Database) (names : List Name) (a : ℕ) (s : Stmt) (c : Cited) : Type 0 where
+  pub by_places : IsByPlaces S names a s c.patterns.now c.templates.now c.conclusion.now (groups_of c)
+  pub coded : AreCoded (length names) c.patterns.now c.templates.now c.conclusion.now (groups_of c)
+  pub inside : AreIn (length c.templates.now) c.patterns.now
+  pub few : length c.patterns.now < 2 ^ 31
+
+-- what a citation of the statement at i means at `at`
+abbrev pub IsMeaning : Database → List Name → ℕ → ℕ → Meaning → Type 0
+IsMeaning S names at i (Hypothesis e) = (s : Stmt) × IsHypothesis S at i s × (decode names e.now ≡ expr_of s) × AreBelow (length names) e.now
+IsMeaning S names at i Assertion = (s : Stmt) × HasAssertion S i s × (i < at)
+IsMeaning S names at i Nothing = (s : Stmt) → stmt_at S i ≡ Some s → (IsHypothesis S at i s → ⊥) × (i < at → is_assertion s ≡ true → ⊥)
+
+-- the position of the statement with this label
+abbrev pub IsPosition : Database → Name → Option ℕ → Type 0
+IsPosition S label (Some i) = (s : Stmt) × Carries S i s label
+IsPosition S label None = (i : ℕ) (s : Stmt) → Carries S i s label → ⊥
+
+-- no two statements carry one label
+abbrev pub HasLabelsOnce : Database → Type 0
+HasLabelsOnce S = (i j : ℕ) (s r : Stmt) (label : Name) → Carries S i s label → Carries S j r label → i ≡ j
+
+-- the results that an assertion takes at `at` determine the one that it gives
+abbrev pub IsSingle : Database → ℕ → Type 0
+IsSingle S at =
+    (a : ℕ) (s : Stmt) (σ τ : Images) → IsInstance S at a s σ → IsInstance S at a s τ
+    → premises S a s σ ≡ premises S a s τ → applied σ (expr_of s) ≡ applied τ (expr_of s)
+
+-- what legal statements keep, and that their names are told apart
+pub record AreLegal (S : Database) (names : List Name) : Type 0 where
+  pub once : HasLabelsOnce S
+  pub single : (at : ℕ) → IsSingle S at
+  pub distinct : AreDistinct names

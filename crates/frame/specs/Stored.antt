@@ -1,0 +1,327 @@
+-- Statements kept as numbers: what each entry stands for, and what the parts of the storage say of the statements.
+-- The code's own form: no public clause cites it.
+use Rattle.std.specs.Prelude.{◌≡◌, ℕ, ◌+◌, ◌-◌, ◌<◌, ◌≤◌, ◌^◌, ◌==◌, nat_lt, Bool, true, false, ◌&&◌, if◌then◌else◌, List, [], ◌∷◌, ◌++◌, length, map, filter, take, get_or, slice_get, slice_range, Option, Some, None, unwrap_or}
+use Rattle.std.specs.List.{list_any, filter_map}
+use Rattle.mm_lex.specs.Alphabet.{Name, name_eq, has_name}
+use Rattle.mm_read.specs.declared.stmt.Stmt.{Stmt}
+use Rattle.mm_read.specs.declared.stmt.Stmt.TheVariants as stmt
+use Rattle.mm_read.specs.Statements.{Expr, Database}
+use Rattle.scope.specs.Active.{stmt_at, before, label_of, is_active, is_essential, is_open, is_close, stays_open}
+use Rattle.scope.specs.Legal.{IsLegal}
+use Rattle.scope.specs.Numbering.{name_at, decode, AreDistinct}
+use Rattle.frame.specs.FrameOf.{hypotheses, separates}
+use Rattle.frame.specs.declared.citation.Pattern.{Pattern}
+use Rattle.frame.specs.declared.citation.Pattern.TheVariants.{Typed, Full}
+use Rattle.frame.specs.declared.links.Links.{Links}
+use Rattle.frame.specs.declared.storage.Kind.{Kind}
+use Rattle.frame.specs.declared.storage.Kind.TheVariants.{Open, Close, Const, Var, Disj, Float, Ess, Axiom, Prove}
+use Rattle.frame.specs.declared.storage.Entry.{Entry}
+use Rattle.frame.specs.declared.storage.Assertion.{Assertion}
+use Rattle.frame.specs.declared.storage.Symbol.{Symbol}
+use Rattle.frame.specs.declared.storage.Stock.{Stock}
+use Rattle.frame.specs.Parts.{Numbered}
+use Rattle.frame.specs.Citations.{is_hypothesis_kind}
+use Rattle.frame.specs.ByPlaces.{AreBelow}
+use Rattle.frame.specs.Links.{links_of, actives, is_disj}
+
+-- a statement by its kind, its label and its names
+abbrev pub stmt_by : Kind → Name → Expr → Stmt
+stmt_by Open label names = stmt.Open
+stmt_by Close label names = stmt.Close
+stmt_by Const label names = stmt.Const names
+stmt_by Var label names = stmt.Var names
+stmt_by Disj label names = stmt.Disj names
+stmt_by Float label names = stmt.Float label (name_at names 0) (name_at names 1)
+stmt_by Ess label names = stmt.Ess label names
+stmt_by Axiom label names = stmt.Axiom label names
+stmt_by Prove label names = stmt.Prove label names []
+
+abbrev pub stmt_of : List Name → List Name → Entry → Stmt
+stmt_of names labels e = stmt_by e.kind (name_at labels e.label) (decode names e.symbols.items)
+
+abbrev pub statements_of : Stock → Database
+statements_of k = map (stmt_of k.names k.labels) k.entries.items
+
+abbrev pub numbered : Stock → Numbered
+numbered k = record { statements = statements_of k; names = k.names }
+
+-- the labels, in order, and where they stand
+abbrev pub option_list : {A : Type 0} → Option A → List A → List A
+option_list None xs = xs
+option_list (Some x) xs = x ∷ xs
+
+abbrev pub labels_of : Database → List Name
+labels_of [] = []
+labels_of (s ∷ S) = option_list (label_of s) (labels_of S)
+
+abbrev pub option_position : {A : Type 0} → Option A → ℕ → List ℕ → List ℕ
+option_position None at ps = ps
+option_position (Some x) at ps = at ∷ ps
+
+abbrev pub positions_from : ℕ → Database → List ℕ
+positions_from at [] = []
+positions_from at (s ∷ S) = option_position (label_of s) at (positions_from (at + 1) S)
+
+-- each statement is legal behind those before it
+abbrev pub AreAllLegal : Database → Type 0
+AreAllLegal S = (j : ℕ) (s : Stmt) → stmt_at S j ≡ Some s → IsLegal (before S j) s
+
+-- ---- what an entry says of a symbol's number
+
+-- a `$f` of it
+abbrev pub is_float_kind : Kind → Bool
+is_float_kind Float = true
+is_float_kind kind = false
+
+abbrev pub is_var_kind : Kind → Bool
+is_var_kind Var = true
+is_var_kind kind = false
+
+abbrev pub second_is : ℕ → List ℕ → Bool
+second_is c [] = false
+second_is c (x ∷ []) = false
+second_is c (x ∷ y ∷ codes) = c == y
+
+abbrev pub floats : ℕ → Entry → Bool
+floats c e = is_float_kind e.kind && second_is c e.symbols.items
+
+-- a `$v` that has it
+abbrev pub declares : ℕ → Entry → Bool
+declares c e = is_var_kind e.kind && list_any (λ x. c == x) e.symbols.items
+
+-- the position of the last entry that passes the test, or 0
+abbrev pub last_from : (Entry → Bool) → ℕ → ℕ → List Entry → ℕ
+last_from test found at [] = found
+last_from test found at (e ∷ es) = last_from test (if test e then at else found) (at + 1) es
+
+abbrev pub last_where : (Entry → Bool) → List Entry → ℕ
+last_where test es = last_from test 0 1 es
+
+abbrev pub symbol_of : List Entry → ℕ → Symbol
+symbol_of es c = record { float = last_where (floats c) es; variable = last_where (declares c) es }
+
+-- ---- numbers that stand for names
+
+-- a label's number has a name, where the kind has a label
+abbrev pub IsLabelBelow : Kind → ℕ → ℕ → Type 0
+IsLabelBelow Float label n = label < n
+IsLabelBelow Ess label n = label < n
+IsLabelBelow Axiom label n = label < n
+IsLabelBelow Prove label n = label < n
+IsLabelBelow kind label n = Unit {0}
+
+-- a `$f` has two symbols
+abbrev pub HasTwo : Kind → List ℕ → Type 0
+HasTwo Float codes = length codes ≡ 2
+HasTwo kind codes = Unit {0}
+
+abbrev pub AreNumbered : ℕ → ℕ → List Entry → Type 0
+AreNumbered n m [] = Unit {0}
+AreNumbered n m (e ∷ es) = AreBelow n e.symbols.items × IsLabelBelow e.kind e.label m × AreNumbered n m es × HasTwo e.kind e.symbols.items
+
+-- the storage of a database
+pub record AreKept (names labels : List Name) (positions : List ℕ) (symbols : List Symbol) (entries : List Entry) (links : Links) : Type 0 where
+  pub last : links ≡ links_of (map (stmt_of names labels) entries)
+  pub linked : (i : ℕ) (e : Entry) → slice_get entries i ≡ Some e → e.links ≡ links_of (take i (map (stmt_of names labels) entries))
+  pub stays : stays_open 0 (map (stmt_of names labels) entries) ≡ true
+  pub legal : AreAllLegal (map (stmt_of names labels) entries)
+  pub labels_kept : labels ≡ labels_of (map (stmt_of names labels) entries)
+  pub positions_kept : positions ≡ positions_from 1 (map (stmt_of names labels) entries)
+  pub coded : AreNumbered (length names) (length labels) entries
+  pub symbols_kept : (c : ℕ) → c < length names → slice_get symbols c ≡ Some (symbol_of entries c)
+  pub count : length symbols ≡ length names
+  pub few : length names < 2 ^ 31
+
+abbrev pub AreStored : Stock → Type 0
+AreStored k = AreKept k.names k.labels k.positions.items k.symbols.items k.entries.items k.links
+
+-- a statement that neither opens nor closes a block
+abbrev pub IsPlain : Option Stmt → Type 0
+IsPlain None = ⊥
+IsPlain (Some s) = (is_open s ≡ false) × (is_close s ≡ false)
+
+-- the list with more behind it
+abbrev pub Extends : {A : Type 0} → List A → List A → Type 0
+Extends {A} old new = (more : List A) × (new ≡ old ++ more)
+
+-- a symbol that nothing declares
+abbrev pub zero_symbol : Symbol
+zero_symbol = record { float = 0; variable = 0 }
+
+abbrev pub AreZero : List Symbol → Type 0
+AreZero [] = Unit {0}
+AreZero (x ∷ xs) = (x ≡ zero_symbol) × AreZero xs
+
+-- the list with symbols behind it that nothing declares
+abbrev pub AreZeroBehind : List Symbol → List Symbol → Type 0
+AreZeroBehind old new = (more : List Symbol) × (new ≡ old ++ more) × AreZero more
+
+abbrev pub kind_of : Stmt → Kind
+kind_of stmt.Open = Open
+kind_of stmt.Close = Close
+kind_of (stmt.Const names) = Const
+kind_of (stmt.Var names) = Var
+kind_of (stmt.Disj names) = Disj
+kind_of (stmt.Float label constant variable) = Float
+kind_of (stmt.Ess label expr) = Ess
+kind_of (stmt.Axiom label expr) = Axiom
+kind_of (stmt.Prove label expr proof) = Prove
+
+-- what one more entry makes of the last declarations of a symbol
+abbrev pub with_entry : Entry → ℕ → ℕ → Symbol → Symbol
+with_entry e at c x = record { float = if floats c e then at else x.float; variable = if declares c e then at else x.variable }
+
+-- there is room for the numbers of names: fewer than 2^31, and each with its declarations
+pub record HasRoom (k : Stock) : Type 0 where
+  pub count : length k.symbols.items ≡ length k.names
+  pub few : length k.names < 2 ^ 31
+
+-- more names, labels and positions behind those that were there; the entries and the links stay
+pub record Grown (old new : Stock) : Type 0 where
+  pub names : Extends old.names new.names
+  pub symbols : AreZeroBehind old.symbols.items new.symbols.items
+  pub labels : Extends old.labels new.labels
+  pub positions : Extends old.positions.items new.positions.items
+  pub entries : new.entries ≡ old.entries
+  pub links : new.links ≡ old.links
+
+-- the storage with more names, labels and positions behind those that were there: cut back it is as before
+pub record IsBehind (old new : Stock) : Type 0 where
+  pub names : Extends old.names new.names
+  pub symbols : AreZeroBehind old.symbols.items new.symbols.items
+  pub labels : Extends old.labels new.labels
+  pub positions : Extends old.positions.items new.positions.items
+  pub entries : new.entries.items ≡ old.entries.items
+  pub links : new.links ≡ old.links
+
+-- the label, if there is one, is new
+abbrev pub IsFresh : List Name → Option Name → Type 0
+IsFresh labels None = Unit {0}
+IsFresh labels (Some x) = has_name x labels ≡ false
+
+abbrev pub IsLabelled : Kind → Type 0
+IsLabelled Float = Unit {0}
+IsLabelled Ess = Unit {0}
+IsLabelled Axiom = Unit {0}
+IsLabelled Prove = Unit {0}
+IsLabelled kind = ⊥
+
+-- the entry is the statement: its numbers are among those of the storage, which has its label and position
+pub record Entered (old new : Stock) (s : Stmt) (e : Entry) : Type 0 where
+  pub stands : stmt_of new.names new.labels e ≡ s
+  pub symbols : AreBelow (length new.names) e.symbols.items
+  pub label : IsLabelBelow e.kind e.label (length new.labels)
+  pub two : HasTwo e.kind e.symbols.items
+  pub labels : new.labels ≡ old.labels ++ option_list (label_of s) []
+  pub positions : new.positions.items ≡ old.positions.items ++ option_position (label_of s) (length old.entries.items + 1) []
+  pub links : e.links ≡ old.links
+
+-- a `$f` or a `$e`
+abbrev pub IsHypothesisAt : Option Stmt → Type 0
+IsHypothesisAt None = ⊥
+IsHypothesisAt (Some s) = is_hypothesis_kind s ≡ true
+
+-- ---- an assertion by the places of its hypotheses, by numbers
+
+-- the variable of a `$f`, by its number
+abbrev pub variable_by : Kind → List ℕ → Option ℕ
+variable_by Float codes = slice_get codes 1
+variable_by kind codes = None
+
+abbrev pub option_variable : Option Entry → Option ℕ
+option_variable None = None
+option_variable (Some e) = variable_by e.kind e.symbols.items
+
+-- the variable of the `$f` at a position
+abbrev pub variable_at : List Entry → ℕ → Option ℕ
+variable_at es p = option_variable (slice_get es (p - 1))
+
+abbrev pub is_code : ℕ → Option ℕ → Bool
+is_code c None = false
+is_code c (Some x) = c == x
+
+-- the first place of a variable
+abbrev pub place_from : ℕ → List (Option ℕ) → ℕ → Option ℕ
+place_from k [] c = None
+place_from k (v ∷ vs) c = if is_code c v then Some k else place_from (k + 1) vs c
+
+abbrev pub place_of : List (Option ℕ) → ℕ → Option ℕ
+place_of vs c = place_from 0 vs c
+
+-- the place of a variable, or the number of a symbol behind the places
+abbrev pub template_number : List (Option ℕ) → ℕ → ℕ
+template_number vs c = unwrap_or (place_of vs c) (length vs + c)
+
+abbrev pub templated : List (Option ℕ) → List ℕ → List ℕ
+templated vs codes = map (template_number vs) codes
+
+-- the places of those that have one
+abbrev pub places_of : List (Option ℕ) → List ℕ → List ℕ
+places_of vs codes = filter_map (place_of vs) codes
+
+abbrev pub option_symbols : Option Entry → List ℕ
+option_symbols None = []
+option_symbols (Some e) = e.symbols.items
+
+abbrev pub symbols_at : List Entry → ℕ → List ℕ
+symbols_at es p = option_symbols (slice_get es (p - 1))
+
+-- two or more
+abbrev pub has_two : {A : Type 0} → List A → Bool
+has_two [] = false
+has_two (x ∷ []) = false
+has_two (x ∷ y ∷ xs) = true
+
+abbrev pub groups_by : List (Option ℕ) → List (List ℕ) → List (List ℕ)
+groups_by vs lists = filter has_two (map (places_of vs) lists)
+
+-- the pattern of the hypothesis e: the first symbol of a `$f`; the place of the template of a `$e`
+abbrev pub IsPatternOf : List (Option ℕ) → List ℕ → Entry → Pattern → Type 0
+IsPatternOf vs templates e (Typed c) = (e.kind ≡ Float) × (slice_get e.symbols.items 0 ≡ Some c)
+IsPatternOf vs templates e (Full from to) =
+    (e.kind ≡ Ess) × (from ≤ to) × (to ≤ length templates) × (slice_range templates from to ≡ templated vs e.symbols.items)
+
+abbrev pub ArePatterns : List Entry → List (Option ℕ) → List ℕ → List ℕ → List Pattern → Type 0
+ArePatterns es vs templates [] [] = Unit {0}
+ArePatterns es vs templates [] (q ∷ qs) = ⊥
+ArePatterns es vs templates (p ∷ ps) [] = ⊥
+ArePatterns es vs templates (p ∷ ps) (q ∷ qs) = ((e : Entry) × (slice_get es (p - 1) ≡ Some e) × IsPatternOf vs templates e q) × ArePatterns es vs templates ps qs
+
+-- the assertion e, which stands behind the first i statements S, is kept as d
+pub record IsKeptAs (es : List Entry) (S : Database) (s : Stmt) (e : Entry) (d : Assertion) : Type 0 where
+  pub hypotheses_kept : d.hypotheses.items ≡ hypotheses S s
+  pub patterns_kept : ArePatterns es (map (variable_at es) d.hypotheses.items) d.templates.items d.hypotheses.items d.patterns.items
+  pub conclusion_kept : d.conclusion.items ≡ templated (map (variable_at es) d.hypotheses.items) e.symbols.items
+  pub groups_kept : map (λ v. v.items) d.groups.items ≡ groups_by (map (variable_at es) d.hypotheses.items) (map (λ q. symbols_at es q.0) (actives is_disj S))
+  pub few : length d.hypotheses.items < 2 ^ 31
+
+abbrev pub is_assertion_kind : Kind → Bool
+is_assertion_kind Axiom = true
+is_assertion_kind Prove = true
+is_assertion_kind kind = false
+
+-- ---- how the mandatory hypotheses are found: the `$f` of the symbols of the assertion and of the active `$e`, and these
+
+-- the list with one more position in its place, each position once
+abbrev pub inserted : ℕ → List ℕ → List ℕ
+inserted p [] = p ∷ []
+inserted p (q ∷ qs) = if p == q then q ∷ qs else (if nat_lt p q then p ∷ q ∷ qs else q ∷ inserted p qs)
+
+-- with the last `$f` of the symbol c, where it is active behind all entries
+abbrev pub with_float : List Entry → Database → ℕ → List ℕ → List ℕ
+with_float es S c list =
+    let p = last_where (floats c) es in
+    if p == 0 then list else (if is_active S p (length S + 1) then inserted p list else list)
+
+abbrev pub with_floats : List Entry → Database → List ℕ → List ℕ → List ℕ
+with_floats es S [] list = list
+with_floats es S (c ∷ codes) list = with_floats es S codes (with_float es S c list)
+
+-- with the active `$e`, the last one first, and the `$f` of their symbols
+abbrev pub with_essentials : List Entry → Database → List (ℕ × Stmt) → List ℕ → List ℕ
+with_essentials es S [] list = list
+with_essentials es S (q ∷ qs) list =
+    with_floats es S (symbols_at es q.0) (inserted q.0 (with_essentials es S qs list))
+
+abbrev pub collected : List Entry → Database → List ℕ → List ℕ
+collected es S codes = with_essentials es S (actives is_essential S) (with_floats es S codes [])

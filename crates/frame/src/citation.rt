@@ -1,0 +1,35 @@
+//! What a verifier reads of an assertion that is cited.
+
+/// What the result for a hypothesis must be.
+#[derive(Clone, Copy, Debug, Drop, PartialEq, Eq)]
+pub enum Pattern {
+    /// This constant, and then anything: the hypothesis is a `$f`.
+    Typed(u32),
+    /// The template from the one place to the other, filled: the hypothesis is a `$e`.
+    Full(usize, usize),
+}
+
+/// An assertion by the places of its hypotheses. With r hypotheses a number below r is a place,
+/// and a number n from r on is the symbol n - r.
+#[derive(Clone, Copy, Drop)]
+pub struct Cited<'a> {
+    /// What the results for its hypotheses must be, in order.
+    pub patterns: &'a [Pattern],
+    /// The templates of its essential hypotheses.
+    pub templates: &'a [u32],
+    /// The template of its conclusion.
+    pub conclusion: &'a [u32],
+    /// The places whose images are kept apart, each two of a group.
+    pub groups: &'a [Vec<u32>],
+}
+
+/// What the citation of a statement means at another.
+#[derive(Clone, Copy, Drop)]
+pub enum Meaning<'a> {
+    /// An active hypothesis, and its expression.
+    Hypothesis(&'a [u32]),
+    /// An earlier assertion.
+    Assertion,
+    /// Nothing: it may not be cited there.
+    Nothing,
+}

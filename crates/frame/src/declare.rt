@@ -1,0 +1,110 @@
+//! What one more statement changes: the last declarations of symbols, and what is active behind it.
+ghost use Rattle.std.specs.Prelude.{◌≡◌, ℕ, ◌+◌, ◌<◌, ◌≤◌, ◌==◌, ◌++◌, ◌∷◌, [], Some, length, take, slice_get, IfOk, OnOk, OnErr, false, if◌then◌else◌};
+ghost use Rattle.std.specs.List.{list_any};
+ghost use Rattle.mm_lex.specs.Alphabet.{has_name};
+ghost use Rattle.mm_read.specs.declared.stmt.Stmt.{Stmt as Statement};
+ghost use Rattle.frame.specs.ByPlaces.{AreBelow};
+ghost use Rattle.frame.specs.Links.{links_of};
+ghost use Rattle.frame.specs.declared.storage.Symbol.{Symbol as Declared};
+ghost use Rattle.frame.specs.Stored.{AreStored, statements_of, with_entry, kind_of};
+
+use crate::links::Links;
+use crate::names::Names;
+use crate::reading::links_at;
+use crate::storage::{Entry, Kind, Stock, Symbol};
+use std::alloc::{AllocError, Global};
+
+/// Gives a label its number and its position.
+pub fn name_label(
+    alloc: Global,
+    labels: &mut Names,
+    positions: &mut Vec<usize>,
+    label: &[u8],
+    at: usize,
+) -> Result<usize, AllocError>
+    requires { has_name label.now labels.old ≡ false }
+    ensures number { IfOk result (λ n. n ≡ length labels.old) }
+    ensures labels { OnOk result (labels.new ≡ labels.old ++ label.now ∷ []) }
+    ensures positions { OnOk result (positions.new.items ≡ positions.old.items ++ at ∷ []) }
+    ensures labels_err { OnErr result (labels.new ≡ labels.old) }
+    ensures positions_err { OnErr result (positions.new.items ≡ positions.old.items) }
+{
+    let count = labels.len();
+    let number = labels.code(alloc, label)?;
+    let added = positions.push(at);
+    if added.is_err() {
+        labels.truncate(count);
+        return Err(AllocError);
+    }
+    Ok(number)
+}
+
+/// What is active behind one more statement of a kind.
+pub fn links_after(stock: &Stock, kind: Kind) -> Links
+    requires { AreStored stock.now }
+    ensures { (s : Statement) → kind_of s ≡ kind → result ≡ links_of (statements_of stock.now ++ s ∷ []) }
+{
+    let at = stock.entries.len() + 1;
+    let links = stock.links;
+    match kind {
+        Kind::Open => Links { block: at, ..links },
+        Kind::Close => {
+            if links.block == 0 {
+                Links {
+                    block: 0,
+                    essential: 0,
+                    variable: 0,
+                    disjoint: 0,
+                }
+            } else {
+                links_at(stock, links.block)
+            }
+        }
+        Kind::Var => Links {
+            variable: at,
+            ..links
+        },
+        Kind::Disj => Links {
+            disjoint: at,
+            ..links
+        },
+        Kind::Ess => Links {
+            essential: at,
+            ..links
+        },
+        Kind::Const => links,
+        Kind::Float => links,
+        Kind::Axiom => links,
+        Kind::Prove => links,
+    }
+}
+
+/// Notes the `$v` at `at` as the last one of its symbols.
+fn declare_all(symbols: &mut Vec<Symbol>, codes: &[u32], at: usize)
+    requires { AreBelow (length symbols.old.items) codes.now }
+    ensures each { (c : ℕ) (x : Declared) → slice_get symbols.old.items c ≡ Some x → slice_get symbols.new.items c ≡ Some (record { float = x.float; variable = if list_any (λ y. c == y) codes.now then at else x.variable }) }
+    ensures count { length symbols.new.items ≡ length symbols.old.items }
+{
+    for code in codes {
+        let symbol = &mut symbols[*code as usize];
+        symbol.variable = at;
+    }
+}
+
+/// Notes what the entry at `at` declares.
+pub fn declare(symbols: &mut Vec<Symbol>, entry: &Entry, at: usize)
+    requires { AreBelow (length symbols.old.items) entry.now.symbols.items }
+    ensures each { (c : ℕ) (x : Declared) → slice_get symbols.old.items c ≡ Some x → slice_get symbols.new.items c ≡ Some (with_entry entry.now at c x) }
+    ensures count { length symbols.new.items ≡ length symbols.old.items }
+{
+    match entry.kind {
+        Kind::Float => {
+            if entry.symbols.len() > 1 {
+                let symbol = &mut symbols[entry.symbols[1] as usize];
+                symbol.float = at;
+            }
+        }
+        Kind::Var => declare_all(symbols, &entry.symbols, at),
+        _ => {}
+    }
+}

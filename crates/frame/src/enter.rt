@@ -1,0 +1,180 @@
+//! A statement as numbers.
+ghost use Rattle.std.specs.Prelude.{◌≡◌, ℕ, ◌+◌, ◌<◌, ◌^◌, ◌++◌, ◌∷◌, [], Some, length, IfOk, OnOk, OnErr, false};
+ghost use Rattle.mm_lex.specs.Alphabet.{has_name};
+ghost use Rattle.scope.specs.Active.{bare, label_of};
+ghost use Rattle.scope.specs.Numbering.{decode, name_at};
+ghost use Rattle.frame.specs.ByPlaces.{AreBelow};
+ghost use Rattle.frame.specs.Stored.{Entered, Grown, IsFresh, IsLabelled, HasRoom, statements_of};
+
+use crate::declare::name_label;
+use crate::links::Links;
+use crate::numbers::{number, numbers};
+use crate::storage::{Entry, Kind, Stock};
+use mm_lex::{Word, Words};
+use mm_read::Stmt;
+use std::alloc::{AllocError, Global};
+
+/// A statement without words.
+fn plain(alloc: Global, kind: Kind, links: Links) -> Entry
+    ensures kind { result.kind ≡ kind }
+    ensures links { result.links ≡ links }
+    ensures symbols { result.symbols.items ≡ [] }
+{
+    Entry {
+        kind,
+        label: 0,
+        symbols: Vec::new(alloc),
+        links,
+        assertion: None,
+    }
+}
+
+/// A statement without a label.
+fn unlabelled(
+    alloc: Global,
+    stock: &mut Stock,
+    kind: Kind,
+    words: &Words,
+) -> Result<Entry, AllocError>
+    requires { HasRoom stock.old }
+    ensures grown { Grown stock.old stock.new }
+    ensures room { HasRoom stock.new }
+    ensures same_labels { stock.new.labels ≡ stock.old.labels }
+    ensures same_positions { stock.new.positions.items ≡ stock.old.positions.items }
+    ensures kind { IfOk result (λ e. e.kind ≡ kind) }
+    ensures links { IfOk result (λ e. e.links ≡ stock.old.links) }
+    ensures symbols { IfOk result (λ e. AreBelow (length stock.new.names) e.symbols.items) }
+    ensures stand { IfOk result (λ e. decode stock.new.names e.symbols.items ≡ words.now) }
+{
+    let symbols = numbers(alloc, &mut stock.names, &mut stock.symbols, words)?;
+    Ok(Entry {
+        kind,
+        label: 0,
+        symbols,
+        links: stock.links,
+        assertion: None,
+    })
+}
+
+/// The numbers of the two symbols of a `$f`.
+fn pair_numbers(
+    alloc: Global,
+    stock: &mut Stock,
+    constant: &Word,
+    variable: &Word,
+) -> Result<Vec<u32>, AllocError>
+    requires { HasRoom stock.old }
+    ensures grown { Grown stock.old stock.new }
+    ensures room { HasRoom stock.new }
+    ensures same_labels { stock.new.labels ≡ stock.old.labels }
+    ensures same_positions { stock.new.positions.items ≡ stock.old.positions.items }
+    ensures symbols { IfOk result (λ v. AreBelow (length stock.new.names) v.items) }
+    ensures stand { IfOk result (λ v. decode stock.new.names v.items ≡ constant.now ∷ variable.now ∷ []) }
+{
+    let mut codes = Vec::new(alloc);
+    let first = number(
+        alloc,
+        &mut stock.names,
+        &mut stock.symbols,
+        constant.as_bytes(),
+    )?;
+    let second = number(
+        alloc,
+        &mut stock.names,
+        &mut stock.symbols,
+        variable.as_bytes(),
+    )?;
+    codes.push(first)?;
+    codes.push(second)?;
+    Ok(codes)
+}
+
+/// The numbers of the symbols of an expression.
+fn expr_numbers(alloc: Global, stock: &mut Stock, expr: &Words) -> Result<Vec<u32>, AllocError>
+    requires { HasRoom stock.old }
+    ensures grown { Grown stock.old stock.new }
+    ensures room { HasRoom stock.new }
+    ensures same_labels { stock.new.labels ≡ stock.old.labels }
+    ensures same_positions { stock.new.positions.items ≡ stock.old.positions.items }
+    ensures symbols { IfOk result (λ v. AreBelow (length stock.new.names) v.items) }
+    ensures stand { IfOk result (λ v. decode stock.new.names v.items ≡ expr.now) }
+{
+    numbers(alloc, &mut stock.names, &mut stock.symbols, expr)
+}
+
+/// A statement with a label and these symbols.
+fn labelled(
+    alloc: Global,
+    stock: &mut Stock,
+    kind: Kind,
+    label: &Word,
+    symbols: Vec<u32>,
+) -> Result<Entry, AllocError>
+    requires fresh { has_name label.now stock.old.labels ≡ false }
+    ensures grown { Grown stock.old stock.new }
+    ensures names { stock.new.names ≡ stock.old.names }
+    ensures same_symbols { stock.new.symbols ≡ stock.old.symbols }
+    ensures labels { OnOk result (stock.new.labels ≡ stock.old.labels ++ label.now ∷ []) }
+    ensures positions { OnOk result (stock.new.positions.items ≡ stock.old.positions.items ++ (length stock.old.entries.items + 1) ∷ []) }
+    ensures number { IfOk result (λ e. e.label ≡ length stock.old.labels) }
+    ensures kind { IfOk result (λ e. e.kind ≡ kind) }
+    ensures links { IfOk result (λ e. e.links ≡ stock.old.links) }
+    ensures symbols { IfOk result (λ e. e.symbols.items ≡ symbols.items) }
+{
+    let at = stock.entries.len() + 1;
+    let number = name_label(
+        alloc,
+        &mut stock.labels,
+        &mut stock.positions,
+        label.as_bytes(),
+        at,
+    )?;
+    Ok(Entry {
+        kind,
+        label: number,
+        symbols,
+        links: stock.links,
+        assertion: None,
+    })
+}
+
+/// The statement as an entry, with its names and its label in the storage.
+pub fn enter(alloc: Global, stock: &mut Stock, stmt: &Stmt) -> Result<Entry, AllocError>
+    requires room { HasRoom stock.old }
+    requires fresh { IsFresh stock.old.labels (label_of stmt.now) }
+    ensures grown { Grown stock.old stock.new }
+    ensures room { HasRoom stock.new }
+    ensures entered { IfOk result (λ e. Entered stock.old stock.new (bare stmt.now) e) }
+{
+    match stmt {
+        Stmt::Open => Ok(plain(alloc, Kind::Open, stock.links)),
+        Stmt::Close => Ok(plain(alloc, Kind::Close, stock.links)),
+        Stmt::Const(words) => unlabelled(alloc, stock, Kind::Const, words),
+        Stmt::Var(words) => unlabelled(alloc, stock, Kind::Var, words),
+        Stmt::Disj(words) => unlabelled(alloc, stock, Kind::Disj, words),
+        Stmt::Float {
+            label,
+            constant,
+            variable,
+        } => {
+            let symbols = pair_numbers(alloc, stock, constant, variable)?;
+            labelled(alloc, stock, Kind::Float, label, symbols)
+        }
+        Stmt::Ess { label, expr } => {
+            let symbols = expr_numbers(alloc, stock, expr)?;
+            labelled(alloc, stock, Kind::Ess, label, symbols)
+        }
+        Stmt::Axiom { label, expr } => {
+            let symbols = expr_numbers(alloc, stock, expr)?;
+            labelled(alloc, stock, Kind::Axiom, label, symbols)
+        }
+        Stmt::Prove {
+            label,
+            expr,
+            proof: _,
+        } => {
+            let symbols = expr_numbers(alloc, stock, expr)?;
+            labelled(alloc, stock, Kind::Prove, label, symbols)
+        }
+    }
+}

@@ -1,0 +1,72 @@
+//! One statement more in the storage, or none.
+ghost use Rattle.std.specs.Prelude.{◌≡◌, ◌++◌, ◌∷◌, [], OnOk, OnErr, take, length};
+ghost use Rattle.scope.specs.Active.{bare};
+ghost use Rattle.scope.specs.Legal.{IsLegal};
+ghost use Rattle.frame.specs.Stored.{AreStored, IsBehind, Extends, statements_of, kind_of};
+
+use crate::declare::{declare, links_after};
+use crate::enter::enter;
+use crate::storage::{Kind, Stock};
+use mm_read::Stmt;
+use std::alloc::{AllocError, Global};
+
+fn kind(stmt: &Stmt) -> Kind
+    ensures { result ≡ kind_of (bare stmt.now) }
+{
+    match stmt {
+        Stmt::Open => Kind::Open,
+        Stmt::Close => Kind::Close,
+        Stmt::Const(_) => Kind::Const,
+        Stmt::Var(_) => Kind::Var,
+        Stmt::Disj(_) => Kind::Disj,
+        Stmt::Float {
+            label: _,
+            constant: _,
+            variable: _,
+        } => Kind::Float,
+        Stmt::Ess { label: _, expr: _ } => Kind::Ess,
+        Stmt::Axiom { label: _, expr: _ } => Kind::Axiom,
+        Stmt::Prove {
+            label: _,
+            expr: _,
+            proof: _,
+        } => Kind::Prove,
+    }
+}
+
+/// Adds the statement behind the others. Where a growth is refused, more may be left behind what was there.
+pub fn extend(alloc: Global, stock: &mut Stock, stmt: &Stmt) -> Result<(), AllocError>
+    requires stored { AreStored stock.old }
+    requires legal { IsLegal (statements_of stock.old) stmt.now }
+    ensures stored { OnOk result (AreStored stock.new) }
+    ensures added { OnOk result (statements_of stock.new ≡ statements_of stock.old ++ bare stmt.now ∷ []) }
+    ensures names { Extends stock.old.names stock.new.names }
+    ensures behind { OnErr result (IsBehind stock.old stock.new) }
+{
+    let at = stock.entries.len() + 1;
+    let links = links_after(stock, kind(stmt));
+    stock.entries.reserve(1)?;
+    let entry = enter(alloc, stock, stmt)?;
+    declare(&mut stock.symbols, &entry, at);
+    match stock.entries.push(entry) {
+        Ok(()) => {}
+        Err(_) => unreachable!(),
+    }
+    stock.links = links;
+    Ok(())
+}
+
+/// Takes back what was left behind the first names and labels.
+pub fn roll_back(stock: &mut Stock, names: usize, labels: usize)
+    ensures names { stock.new.names ≡ take names stock.old.names }
+    ensures symbols { stock.new.symbols.items ≡ take names stock.old.symbols.items }
+    ensures labels { stock.new.labels ≡ take labels stock.old.labels }
+    ensures positions { stock.new.positions.items ≡ take labels stock.old.positions.items }
+    ensures entries { stock.new.entries ≡ stock.old.entries }
+    ensures links { stock.new.links ≡ stock.old.links }
+{
+    stock.names.truncate(names);
+    stock.symbols.truncate(names);
+    stock.labels.truncate(labels);
+    stock.positions.truncate(labels);
+}

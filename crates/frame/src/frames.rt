@@ -1,0 +1,135 @@
+//! The statements of a database by position.
+ghost use Rattle.std.specs.Prelude.{◌≡◌, ℕ, ◌+◌, ◌≤◌, [], ◌∷◌, ◌++◌, Some, OnOk, OnErr, length};
+ghost use Rattle.mm_read.specs.declared.stmt.Stmt.{Stmt as Statement};
+ghost use Rattle.scope.specs.Active.{bare, before, stmt_at, expr_of};
+ghost use Rattle.scope.specs.Legal.{IsLegal};
+ghost use Rattle.scope.specs.Numbering.{decode};
+ghost use Rattle.frame.specs.ByPlaces.{AreBelow};
+ghost use Rattle.frame.specs.Reading.{IsMeaning, IsPosition};
+ghost use Rattle.frame.specs.Stored.{Extends};
+
+use crate::citation::Meaning;
+use crate::extend::{extend, roll_back};
+use crate::links::Links;
+use crate::names::Names;
+use crate::pairs::Pairs;
+use crate::reading::{expr_at, meaning_at};
+use crate::storage::Stock;
+use mm_read::Stmt;
+use scope::{Scope, Steps};
+use std::alloc::{AllocError, Global};
+use std::marker::Model;
+
+/// The statements of a database by position, without their proofs, with their symbols as numbers.
+///
+/// Contracts see the list of the statements, each legal behind those before it, and the names that the numbers
+/// stand for, in order of first appearance.
+#[derive(Drop)]
+pub struct Frames {
+    alloc: Global,
+    stock: Stock,
+}
+
+impl Model for Frames {
+    ghost use Rattle.frame.specs.Parts.{Numbered};
+
+    ghost Value = { Numbered };
+
+    ghost use Rattle.frame.specs.Stored.{numbered, AreStored};
+
+    ghost view = { λ a. numbered a.stock };
+
+    ghost invariant = { λ a. AreStored a.stock };
+}
+
+impl Frames {
+    /// No statements.
+    pub fn new(alloc: Global) -> Frames
+        ensures statements { result.statements ≡ [] }
+        ensures names { result.names ≡ [] }
+    {
+        Frames {
+            alloc,
+            stock: Stock {
+                names: Names::new(alloc),
+                labels: Names::new(alloc),
+                positions: Vec::new(alloc),
+                symbols: Vec::new(alloc),
+                entries: Vec::new(alloc),
+                links: Links {
+                    block: 0,
+                    essential: 0,
+                    variable: 0,
+                    disjoint: 0,
+                },
+            },
+        }
+    }
+
+    /// How many statements there are.
+    pub fn len(&self) -> usize
+        ensures { result ≡ length self.now.statements }
+    {
+        self.stock.entries.len()
+    }
+
+    /// Adds the statement that the scope accepts next.
+    ///
+    /// Where a growth is refused, everything is as before. One step is counted, whatever is answered.
+    /// Cost: the statement's own size.
+    pub fn push(&mut self, scope: &Scope, stmt: &Stmt, steps: &mut Steps) -> Result<(), AllocError>
+        requires same { scope.now.statements ≡ self.old.statements }
+        requires legal { IsLegal scope.now.statements stmt.now }
+        ensures added { OnOk result (self.new.statements ≡ self.old.statements ++ bare stmt.now ∷ []) }
+        ensures names { Extends self.old.names self.new.names }
+        ensures same { OnErr result (self.new ≡ self.old) }
+        ensures counted { steps.new.count ≡ steps.old.count + 1 }
+    {
+        let _scope = scope;
+        steps.tick();
+        let names = self.stock.names.len();
+        let labels = self.stock.labels.len();
+        let result = extend(self.alloc, &mut self.stock, stmt);
+        if result.is_err() {
+            roll_back(&mut self.stock, names, labels);
+        }
+        result
+    }
+
+    /// The position of the statement with this label.
+    pub fn position(&self, label: &[u8]) -> Option<usize>
+        ensures { IsPosition self.now.statements label.now result }
+    {
+        let number = self.stock.labels.find(label)?;
+        Some(self.stock.positions[number])
+    }
+
+    /// The expression of the statement at a position, by numbers; nothing where it has none.
+    pub fn expr(&self, at: usize) -> &[u32]
+        requires { (1 ≤ at) × (at ≤ length self.now.statements) }
+        ensures same { (s : Statement) → stmt_at self.now.statements at ≡ Some s → decode self.now.names result.now ≡ expr_of s }
+        ensures codes { AreBelow (length self.now.names) result.now }
+    {
+        expr_at(&self.stock, at)
+    }
+
+    /// What a citation of the statement at i means at `at`.
+    pub fn meaning(&self, at: usize, i: usize) -> Meaning<'_>
+        requires { (1 ≤ at) × (at ≤ length self.now.statements) }
+        ensures { IsMeaning self.now.statements self.now.names at i result }
+    {
+        meaning_at(&self.stock, at, i)
+    }
+
+    /// The variables that are kept apart at a position.
+    pub fn active_pairs(&self, at: usize) -> Pairs<'_>
+        requires { (1 ≤ at) × (at ≤ length self.now.statements) }
+        ensures statements { result.statements ≡ before self.now.statements at }
+        ensures names { result.names ≡ self.now.names }
+    {
+        Pairs {
+            stock: &self.stock,
+            at,
+        }
+    }
+}

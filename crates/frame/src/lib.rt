@@ -1,0 +1,23 @@
+//! What an assertion asks of who cites it.
+//!
+//! `Frames` keeps the statements of a database by position, and reads off them what a verifier asks:
+//! what a citation means at a statement, an assertion by the places of its hypotheses, and the variables that are kept apart.
+//! Reading order: `links`, `storage`, `names`, `numbers`, `declare`, `enter`, `extend`, `reading`, `frames`.
+#![tactic(auto)]
+
+mod citation;
+mod declare;
+mod enter;
+mod extend;
+mod frames;
+mod links;
+mod mandatory;
+mod names;
+mod numbers;
+mod pairs;
+mod reading;
+mod storage;
+
+pub use citation::{Cited, Meaning, Pattern};
+pub use frames::Frames;
+pub use pairs::Pairs;

@@ -1,0 +1,91 @@
+//! What is active at a position, read off the storage.
+ghost use Rattle.std.specs.Prelude.{◌≡◌, ◌+◌, ◌-◌, ◌<◌, ◌≤◌, Some, false, length, take, slice_get};
+ghost use Rattle.mm_read.specs.declared.stmt.Stmt.{Stmt as Statement};
+ghost use Rattle.scope.specs.Active.{is_active, is_open, is_close, stmt_at, expr_of};
+ghost use Rattle.scope.specs.Numbering.{decode};
+ghost use Rattle.frame.specs.ByPlaces.{AreBelow};
+ghost use Rattle.frame.specs.Reading.{IsMeaning};
+ghost use Rattle.frame.specs.Links.{last_active, links_of};
+ghost use Rattle.frame.specs.Stored.{AreStored, statements_of, IsPlain, IsHypothesisAt};
+
+use crate::citation::Meaning;
+use crate::links::Links;
+use crate::storage::{Kind, Stock};
+
+/// What is active before the statement at `at`, or at the end.
+pub fn links_at(stock: &Stock, at: usize) -> Links
+    requires stored { AreStored stock.now }
+    requires place { (1 ≤ at) × (at ≤ length (statements_of stock.now) + 1) }
+    ensures { result ≡ links_of (take (at - 1) (statements_of stock.now)) }
+{
+    if at <= stock.entries.len() {
+        stock.entries[at - 1].links
+    } else {
+        stock.links
+    }
+}
+
+/// Whether the statement at i, which is neither `${` nor `$}`, is active at `at`.
+///
+/// Cost: the blocks that opened between the two and are open at `at`.
+pub fn is_active_at(stock: &Stock, i: usize, at: usize) -> bool
+    requires stored { AreStored stock.now }
+    requires place { (1 ≤ i) × (i < at) × (at ≤ length (statements_of stock.now) + 1) }
+    requires plain { IsPlain (slice_get (statements_of stock.now) (i - 1)) }
+    ensures { result ≡ is_active (statements_of stock.now) i at }
+{
+    let mut block = links_at(stock, at).block;
+    while block > i {
+        block = links_at(stock, block).block;
+    }
+    links_at(stock, i).block == block
+}
+
+/// The expression of the statement at `at`; nothing where it has none.
+pub fn expr_at(stock: &Stock, at: usize) -> &[u32]
+    requires stored { AreStored stock.now }
+    requires place { (1 ≤ at) × (at ≤ length (statements_of stock.now)) }
+    ensures same { (s : Statement) → stmt_at (statements_of stock.now) at ≡ Some s → decode stock.now.names result.now ≡ expr_of s }
+    ensures codes { AreBelow (length stock.now.names) result.now }
+{
+    let entry = &stock.entries[at - 1];
+    match entry.kind {
+        Kind::Float => entry.symbols.as_slice(),
+        Kind::Ess => entry.symbols.as_slice(),
+        Kind::Axiom => entry.symbols.as_slice(),
+        Kind::Prove => entry.symbols.as_slice(),
+        _ => &[],
+    }
+}
+
+/// What a citation of the statement at i means at `at`.
+pub fn meaning_at(stock: &Stock, at: usize, i: usize) -> Meaning<'_>
+    requires stored { AreStored stock.now }
+    requires place { (1 ≤ at) × (at ≤ length (statements_of stock.now)) }
+    ensures { IsMeaning (statements_of stock.now) stock.now.names at i result }
+{
+    if i == 0 || i >= at {
+        return Meaning::Nothing;
+    }
+    match stock.entries[i - 1].kind {
+        Kind::Float => hypothesis_at(stock, at, i),
+        Kind::Ess => hypothesis_at(stock, at, i),
+        Kind::Axiom => Meaning::Assertion,
+        Kind::Prove => Meaning::Assertion,
+        _ => Meaning::Nothing,
+    }
+}
+
+/// What a citation of the `$f` or `$e` at i means at `at`.
+fn hypothesis_at(stock: &Stock, at: usize, i: usize) -> Meaning<'_>
+    requires stored { AreStored stock.now }
+    requires place { (1 ≤ i) × (i < at) × (at ≤ length (statements_of stock.now)) }
+    requires kind { IsHypothesisAt (slice_get (statements_of stock.now) (i - 1)) }
+    ensures { IsMeaning (statements_of stock.now) stock.now.names at i result }
+{
+    if is_active_at(stock, i, at) {
+        Meaning::Hypothesis(expr_at(stock, i))
+    } else {
+        Meaning::Nothing
+    }
+}
