@@ -11,3 +11,5 @@ pub mod StepKeeps
 pub mod NodeLemmas
 pub mod AcceptedLemmas
 pub mod LogLemmas
+pub mod ReportPages
+pub mod PagesWithLemmas

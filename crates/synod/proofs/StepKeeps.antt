@@ -222,7 +222,7 @@ few_either : {V : Type 0} (r : Report V) (rs : List (Report V)) (t : Bool) → l
 few_either r rs true = omega arith
 few_either r rs false = omega arith
 
-reports_few : {V : Type 0} (first s : ℕ) (accepted : List (Option (Held V))) → length (reports_from first s accepted) ≤ length accepted
+pub reports_few : {V : Type 0} (first s : ℕ) (accepted : List (Option (Held V))) → length (reports_from first s accepted) ≤ length accepted
 reports_few first s [] = omega arith
 reports_few first s (None ∷ hs) = let h = reports_few first (suc s) hs in omega arith
 reports_few first s (Some x ∷ hs) =
@@ -245,7 +245,7 @@ length-onto_first x [] h = absurd (omega arith)
 length-onto_first x (page ∷ pages) h = refl
 
 -- so many pages, the first with so much room, and at least one
-pages_few : {T : Type 0} (room : ℕ) (xs : List T) → (256 * length (cut room xs) + room < max (length xs) room + 512) × (1 ≤ length (cut room xs))
+pub pages_few : {T : Type 0} (room : ℕ) (xs : List T) → (256 * length (cut room xs) + room < max (length xs) room + 512) × (1 ≤ length (cut room xs))
 pages_few zero [] = (omega arith, omega arith)
 pages_few (suc room) [] = (omega arith, omega arith)
 pages_few (suc room) (x ∷ xs) = let h = pages_few room xs in let e = length-onto_first x (cut room xs) h.1 in (omega (arith, h.0, h.1, e), omega (arith, h.1, e))

@@ -14,6 +14,7 @@ mod node;
 mod packet;
 mod pages;
 mod posts;
+mod promise;
 mod proposer;
 mod ready;
 mod record;

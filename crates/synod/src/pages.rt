@@ -1,7 +1,8 @@
 //! The pages of promises that a proposer has, by node and then by page, from 0.
-ghost use Rattle.std.specs.Prelude.{◌≡◌, ◌<◌, ◌≤◌, OnOk, IfOk, Some, None, MatchOption, length, slice_index_or};
+ghost use Rattle.std.specs.Prelude.{◌≡◌, ◌<◌, ◌≤◌, List, OnOk, IfOk, Some, None, MatchOption, length, slice_index_or};
 ghost use Rattle.slots.specs.declared.slots.TheConstants.{SLOTS};
-ghost use Rattle.slots.specs.FiniteMap.{entry_at, front_of};
+ghost use Rattle.slots.specs.FiniteMap.{entry_at, put_at, front_of};
+ghost use Rattle.synod.specs.declared.packet.Report.{Report};
 ghost use Rattle.synod.specs.Node.{no_pages, pages_from, page_of};
 ghost use Rattle.synod.specs.PagesHad.{entries_of, rooms_of, put_page};
 
@@ -95,5 +96,46 @@ impl<V: Drop> PagesHad<V> {
         ensures { result ≡ length self.now }
     {
         self.by_node.len()
+    }
+
+    /// The first page of a node that is not had once a page is put.
+    pub(crate) fn front_with(&self, node: u8, page: u32) -> u32
+        requires node { node < length self.now }
+        requires page { page < SLOTS }
+        ensures { (reports : List (Report V)) → front_of (put_at (pages_from (entries_of self.now) node) page reports) ≡ result }
+    {
+        let pages = &self.by_node[node as usize];
+        pages.front_with(page)
+    }
+}
+
+/// The pages had, with the one just delivered.
+#[derive(Drop)]
+pub struct PagesWith<'a, V> {
+    pub pages: &'a PagesHad<V>,
+    pub node: u8,
+    pub page: u32,
+    pub reports: &'a Reports<V>,
+}
+
+impl<V: Drop> PagesWith<'_, V> {
+    ghost use Rattle.synod.specs.PagesHad.{pages_with};
+
+    /// The page of a node, where it was had or is the one delivered.
+    pub(crate) fn get(&self, node: u8, page: u32) -> Option<&Reports<V>>
+        requires { self.now.node < length self.now.pages.now }
+        ensures { MatchOption result (page_of (pages_with self.now) node page ≡ None) (λ reports. page_of (pages_with self.now) node page ≡ Some reports.now) }
+    {
+        let had = self.pages.get(node, page);
+        if had.is_some() {
+            return had;
+        }
+        if node != self.node {
+            return None;
+        }
+        if page != self.page {
+            return None;
+        }
+        Some(self.reports)
     }
 }

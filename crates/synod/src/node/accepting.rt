@@ -7,12 +7,13 @@ use crate::change::{Change, Held};
 use crate::node::NodeCore;
 use crate::packet::{Body, Packet};
 use crate::posts::{Said, post_to_all};
+use crate::promise::promise_posts;
 use crate::ready::{Plan, Ready};
 use crate::value::{Value, copy_value};
 use std::alloc::AllocError;
 
 impl<V: Value> NodeCore<V> {
-    ghost use Rattle.synod.specs.Acceptor.{refuses, on_accept};
+    ghost use Rattle.synod.specs.Acceptor.{refuses, on_prepare, on_accept};
     ghost use Rattle.synod.specs.Step.{Keeps};
     ghost use Rattle.synod.specs.Ready.{IsReadyFor};
 
@@ -31,6 +32,29 @@ impl<V: Value> NodeCore<V> {
         })?;
         let plan = Plan {
             change: None,
+            proposal: None,
+            lesson: None,
+        };
+        Ok(Ready::new(self, plan, posts))
+    }
+
+    /// A Prepare came.
+    pub(crate) fn ready_prepare(
+        &mut self,
+        from: u8,
+        ballot: Ballot,
+        first: u32,
+    ) -> Result<Ready<V>, AllocError>
+        requires { Keeps (length self.old.node.weights) (on_prepare self.old.node from ballot first) }
+        ensures ready { IfOk result (IsReadyFor self.new (on_prepare self.old.node from ballot first)) }
+        ensures node { self.new.node ≡ self.old.node }
+    {
+        if !self.record.promise().is_under(ballot) {
+            return self.ready_refusal(from, ballot);
+        }
+        let posts = promise_posts(self.alloc, &self.record, self.me, from, ballot, first)?;
+        let plan = Plan {
+            change: Some(Change::Promise(ballot)),
             proposal: None,
             lesson: None,
         };

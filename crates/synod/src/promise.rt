@@ -1,0 +1,85 @@
+//! What a promise reports: the accepted entries from a slot on, in pages.
+ghost use Rattle.std.specs.Prelude.{◌≡◌, ◌≤◌, ◌<◌, IfOk, length};
+ghost use Rattle.slots.specs.declared.slots.TheConstants.{SLOTS};
+ghost use Rattle.synod.specs.declared.packet.TheConstants.{MOST_PAGES};
+ghost use Rattle.synod.specs.Pages.{pages_of};
+ghost use Rattle.synod.specs.Acceptor.{reports_from, promise_posts};
+
+use crate::ballot::Ballot;
+use crate::packet::{Body, PAGE_REPORTS, Packet, Report, Reports};
+use crate::record::Record;
+use crate::value::{Value, copy_value};
+use std::alloc::{AllocError, Global};
+
+/// The reports of the entries from `first` on, in order of slots, cut into pages.
+fn report_pages<V: Value>(
+    alloc: Global,
+    record: &Record<V>,
+    first: u32,
+) -> Result<Vec<Reports<V>>, AllocError>
+    ensures pages { IfOk result (λ pages. pages.items ≡ pages_of (reports_from first 0 record.now.kept.accepted)) }
+    ensures few { IfOk result (λ pages. length pages.items ≤ MOST_PAGES) }
+{
+    let mut pages = Vec::new(alloc);
+    let mut page = Vec::new(alloc);
+    for slot in first..record.top() {
+        if let Some(held) = record.get(slot) {
+            if page.len() == PAGE_REPORTS {
+                pages.push(Reports::new(page))?;
+                page = Vec::new(alloc);
+            }
+            page.push(Report {
+                slot,
+                ballot: held.ballot,
+                value: copy_value(&held.value)?,
+            })?;
+        }
+    }
+    pages.push(Reports::new(page))?;
+    Ok(pages)
+}
+
+/// The packets of a promise, a page each.
+fn post_pages<V: Value>(
+    alloc: Global,
+    me: u8,
+    to: u8,
+    ballot: Ballot,
+    pages: Vec<Reports<V>>,
+) -> Result<Vec<Packet<V>>, AllocError>
+    requires { length pages.items ≤ MOST_PAGES }
+    ensures { IfOk result (λ posts. posts.items ≡ promise_posts me to ballot pages.items) }
+{
+    let count = pages.len() as u32;
+    let mut posts = Vec::new(alloc);
+    let mut number = 1;
+    for reports in pages {
+        posts.push(Packet {
+            from: me,
+            to,
+            body: Body::Promise {
+                ballot,
+                page: number,
+                count,
+                reports,
+            },
+        })?;
+        number += 1;
+    }
+    Ok(posts)
+}
+
+/// The packets of a promise: what was accepted from `first` on, in pages.
+pub(crate) fn promise_posts<V: Value>(
+    alloc: Global,
+    record: &Record<V>,
+    me: u8,
+    to: u8,
+    ballot: Ballot,
+    first: u32,
+) -> Result<Vec<Packet<V>>, AllocError>
+    ensures { IfOk result (λ posts. posts.items ≡ promise_posts me to ballot (pages_of (reports_from first 0 record.now.kept.accepted))) }
+{
+    let pages = report_pages(alloc, record, first)?;
+    post_pages(alloc, me, to, ballot, pages)
+}
