@@ -90,6 +90,7 @@ impl Scope {
 
     /// What the end of the text breaks: G10 where a block is open. It takes no memory.
     pub fn close_at_end(&self) -> Result<(), Rule>
+        ensures ok { OnOk result (IsTrue (is_closed self.now.statements)) }
         ensures open { IfSome (end_rule self.now.statements) (λ rule. result ≡ Err rule) }
         ensures closed { end_rule self.now.statements ≡ None → result ≡ Ok tt }
     {

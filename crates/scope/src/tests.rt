@@ -1,0 +1,108 @@
+//! Adding, copying, marking and going back with ample memory, and after a growth that is refused.
+ghost use Rattle.mm_read.specs.Statements.{AreShaped, IsShaped};
+
+use crate::{Rule, Scope, Steps};
+use mm_read::{ReadFault, Stmt, read};
+use std::alloc::Global;
+
+const SMALLEST: &[u8] = b"$c |- $. $( hi $) p $a |- $. q $p |- $= p $.";
+
+const BLOCKS: &[u8] =
+    b"$c wff |- R $. $v z $. ${ $v x y $. wx $f wff x $. $d x y $. h $e |- R x $. a1 $a |- x $. $} \
+    ${ $v x $. sx $f wff x $. a2 $p |- R x $= sx $. $}";
+
+#[test]
+fn copies_after_each_statement(rt: HostRuntime) {
+    for text in [SMALLEST, BLOCKS] {
+        let mut scope = Scope::new(rt.alloc());
+        if let Ok(statements) = read(rt.alloc(), text) {
+            for stmt in statements.iter() {
+                assert!(rt; add(&mut scope, stmt).is_ok());
+                assert!(rt; scope.copy().is_ok());
+            }
+        }
+        assert!(rt; scope.close_at_end().is_ok());
+    }
+}
+
+#[test]
+fn goes_back_to_its_mark(rt: HostRuntime) -> Result<(), Rule> {
+    let mut scope = Scope::new(rt.alloc());
+    assert!(rt; add_all(&mut scope, rt.alloc(), SMALLEST) == None);
+    scope.close_at_end()?;
+    scope.mark();
+    for _ in 0..2 {
+        assert!(rt;
+            add_all(
+                &mut scope,
+                rt.alloc(),
+                b"$c wff $. ${ $v x $. wx $f wff x $."
+            ) == None
+        );
+        assert!(rt; add_all(&mut scope, rt.alloc(), b"p $a |- $.") == Some(Rule::G4));
+        assert!(rt; add_all(&mut scope, rt.alloc(), b"$v x $.") == Some(Rule::G3));
+        assert!(rt; scope.close_at_end() == Err(Rule::G10));
+        scope.back();
+    }
+    assert!(rt; add_all(&mut scope, rt.alloc(), b"$v x $. $c wff $. wx $f wff x $.") == None);
+    Ok(())
+}
+
+/// A statement that met no memory is accepted when it is added again: run with each allocation
+/// refused in turn.
+#[test]
+fn adds_after_a_refused_growth(rt: HostRuntime) {
+    let mut scope = Scope::new(rt.alloc());
+    for _ in 0..2 {
+        if let Ok(statements) = read(rt.alloc(), BLOCKS) {
+            for stmt in statements.iter() {
+                if add(&mut scope, stmt) == Err(Rule::Memory) {
+                    assert!(rt; add(&mut scope, stmt).is_ok());
+                }
+            }
+        }
+        scope.back();
+    }
+}
+
+#[test]
+fn answers_each_rule(rt: HostRuntime) {
+    for (text, rule) in [
+        (b"${ $c a $.".as_slice(), Rule::G1),
+        (b"${ $v x $. $} $c x $.".as_slice(), Rule::G2),
+        (b"$v x $. $v x $.".as_slice(), Rule::G3),
+        (b"$c o |- $. o $a |- $.".as_slice(), Rule::G4),
+        (b"$c |- $. a $a |- x $.".as_slice(), Rule::G5),
+        (b"$v x $. a $a x $.".as_slice(), Rule::G6),
+        (
+            b"$c wff $. $v x $. a $f wff x $. b $f wff x $.".as_slice(),
+            Rule::G7,
+        ),
+        (b"$v x y $. $d x y x $.".as_slice(), Rule::G8),
+        (b"$c |- $. $v x $. a $a |- x $.".as_slice(), Rule::G9),
+        (b"${ $} $}".as_slice(), Rule::G10),
+    ] {
+        let mut scope = Scope::new(rt.alloc());
+        assert!(rt; add_all(&mut scope, rt.alloc(), text) == Some(rule));
+    }
+}
+
+fn add_all(scope: &mut Scope, alloc: Global, text: &[u8]) -> Option<Rule> {
+    match read(alloc, text) {
+        Ok(statements) => {
+            for stmt in statements.iter() {
+                if let Err(rule) = add(scope, stmt) {
+                    return Some(rule);
+                }
+            }
+            None
+        }
+        Err(_) => Some(Rule::Memory),
+    }
+}
+
+fn add(scope: &mut Scope, stmt: &Stmt) -> Result<(), Rule>
+    requires { IsShaped stmt.now }
+{
+    scope.add(stmt, &mut Steps::new())
+}
