@@ -13,3 +13,4 @@ pub mod AcceptedLemmas
 pub mod LogLemmas
 pub mod ReportPages
 pub mod PagesWithLemmas
+pub mod GatherLemmas

@@ -68,3 +68,13 @@ module _ {V : Type 0} (pages : List (List (Option (List (Report V))))) (k i : �
       → MatchOption r (page_of (with_page pages k i reports) l j ≡ None) (λ x. page_of (with_page pages k i reports) l j ≡ Some x.now)
   match_stays l j None had b told some within = cc
   match_stays l j (Some x) had b told some within = page_stays l j x.now had within
+
+  -- the pages of its node
+  pub pages_new : page_of pages k i ≡ None → k < length pages → pages_from (with_page pages k i reports) k ≡ put_at (pages_from pages k) i reports
+  pages_new none within =
+      ap (λ (ps : List (List (Option (List (Report V))))). pages_from ps k) (with_new none)
+      ∙ get_or-set_same pages k (put_at (pages_from pages k) i reports) [] within
+
+pub some_is : {X : Type 0} (r : Option (Bor X)) (o : Option X) → MatchOption r (o ≡ None) (λ x. o ≡ Some x.now) → (b : Bool) → b ≡ is_some r → b ≡ true → is_some o ≡ true
+some_is None o had b told some = cc
+some_is {X} (Some x) o had b told some = ap (λ (o : Option X). is_some o) had

@@ -5,7 +5,7 @@ use Rattle.std.specs.Prelude.{◌<◌, ◌≤◌, ◌++◌, [], ◌∷◌, Optio
 use Rattle.slots.specs.FiniteMap.{put_at}
 use Rattle.synod.specs.declared.proposer.Role.TheVariants.{Idle as RoleIdle, Preparing, Leading}
 use Rattle.synod.specs.declared.proposer.Proposal.{Proposal}
-use Rattle.synod.specs.declared.proposer.Proposal.TheVariants.{Wait, Propose, Begin, Page, Hear, Lead, Idle}
+use Rattle.synod.specs.declared.proposer.Proposal.TheVariants.{Wait, Propose, Begin, Page, Hear, HearPage, Lead, Idle}
 use Rattle.synod.specs.declared.learner.Lesson.{Lesson}
 use Rattle.synod.specs.declared.learner.Lesson.TheVariants.{Count, Choose, Learn}
 use Rattle.synod.specs.Core.{Proposing, ProposerView, Learning, LearnerView}
@@ -18,6 +18,7 @@ proposed p (Some (Propose b next)) = record p { role = Leading b next }
 proposed p (Some (Begin b first pages)) = record p { role = Preparing b first; pages = entries_of pages; heard = [] }
 proposed p (Some (Page k i reports)) = record p { pages = put_page p.pages k i reports }
 proposed p (Some (Hear h)) = record p { heard = p.heard ++ h ∷ [] }
+proposed p (Some (HearPage h i reports)) = record p { pages = put_page p.pages h.node i reports; heard = p.heard ++ h ∷ [] }
 proposed p (Some (Lead b next taken)) = record p { role = Leading b next; pages = []; heard = []; waiting = drop taken p.waiting }
 proposed p (Some Idle) = record p { role = RoleIdle }
 
@@ -28,6 +29,7 @@ HasRoomToPropose p (Some (Propose b next)) = Unit {0}
 HasRoomToPropose p (Some (Begin b first pages)) = Unit {0}
 HasRoomToPropose p (Some (Page k i reports)) = i < slice_index_or p.page_rooms k 0
 HasRoomToPropose p (Some (Hear h)) = length p.state.heard < p.heard_room
+HasRoomToPropose p (Some (HearPage h i reports)) = (i < slice_index_or p.page_rooms h.node 0) × (length p.state.heard < p.heard_room)
 HasRoomToPropose p (Some (Lead b next taken)) = taken ≤ length p.state.waiting
 HasRoomToPropose p (Some Idle) = Unit {0}
 

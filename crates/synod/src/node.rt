@@ -3,6 +3,7 @@ ghost use Rattle.std.specs.Prelude.{◌≡◌, ◌<◌, ◌≤◌, IfOk, Ok, Err
 ghost use Rattle.std.specs.List.{AllByRecursion};
 
 mod accepting;
+mod gathering;
 mod learning;
 mod proposing;
 

@@ -1,5 +1,9 @@
 //! What the nodes send one another.
+ghost use Rattle.std.specs.Prelude.{◌≡◌, IfOk};
+
 use crate::ballot::Ballot;
+use crate::value::{Value, copy_value};
+use std::alloc::{AllocError, Global};
 use std::marker::Model;
 
 /// The reports of a full page of a promise.
@@ -54,6 +58,25 @@ impl<V> Reports<V> {
     {
         self.all.as_slice()
     }
+}
+
+/// The same reports once more: each value is copied once.
+pub(crate) fn copy_reports<V: Value>(
+    alloc: Global,
+    reports: &Reports<V>,
+) -> Result<Reports<V>, AllocError>
+    ensures { IfOk result (λ copy. copy ≡ reports.now) }
+{
+    let mut all = Vec::new(alloc);
+    for report in reports.as_slice() {
+        let value = copy_value(&report.value)?;
+        all.push(Report {
+            slot: report.slot,
+            ballot: report.ballot,
+            value,
+        })?;
+    }
+    Ok(Reports::new(all))
 }
 
 /// What a packet says.

@@ -3,7 +3,7 @@ ghost use Rattle.std.specs.Prelude.{◌≡◌, ◌<◌, ◌≤◌, List, OnOk, I
 ghost use Rattle.slots.specs.declared.slots.TheConstants.{SLOTS};
 ghost use Rattle.slots.specs.FiniteMap.{entry_at, put_at, front_of};
 ghost use Rattle.synod.specs.declared.packet.Report.{Report};
-ghost use Rattle.synod.specs.Node.{no_pages, pages_from, page_of};
+ghost use Rattle.synod.specs.Node.{no_pages, pages_from, page_of, with_page};
 ghost use Rattle.synod.specs.PagesHad.{entries_of, rooms_of, put_page};
 
 use crate::packet::Reports;
@@ -106,6 +106,19 @@ impl<V: Drop> PagesHad<V> {
     {
         let pages = &self.by_node[node as usize];
         pages.front_with(page)
+    }
+}
+
+/// The first page of a node that is not had once a page is kept there.
+pub(crate) fn front_after<V: Drop>(pages: &PagesHad<V>, node: u8, page: u32) -> u32
+    requires node { node < length pages.now }
+    requires page { page < SLOTS }
+    ensures { (reports : List (Report V)) → front_of (pages_from (with_page (entries_of pages.now) node page reports) node) ≡ result }
+{
+    if pages.get(node, page).is_some() {
+        pages.front(node)
+    } else {
+        pages.front_with(node, page)
     }
 }
 

@@ -1,9 +1,10 @@
 //! The proposer: its role, whom it has heard, and what waits.
-ghost use Rattle.std.specs.Prelude.{◌≡◌, ◌<◌, ◌≤◌, OnOk, IfOk, length, map, slice_index_or};
+ghost use Rattle.std.specs.Prelude.{◌≡◌, ◌<◌, ◌≤◌, ℕ, OnOk, IfOk, false, length, slice_index_or};
 
 use crate::ballot::Ballot;
 use crate::packet::Reports;
 use crate::pages::PagesHad;
+use crate::weights::MOST_NODES;
 use std::alloc::{AllocError, Global};
 use std::marker::Model;
 
@@ -68,8 +69,14 @@ pub enum Proposal<V> {
         page: u32,
         reports: Reports<V>,
     },
-    /// It has heard a node.
+    /// It has heard a node, whose pages it has.
     Hear(Heard),
+    /// It keeps the last page of a node, which it has heard with it.
+    HearPage {
+        heard: Heard,
+        page: u32,
+        reports: Reports<V>,
+    },
     /// It leads, and some that waited are proposed.
     Lead {
         ballot: Ballot,
@@ -108,6 +115,8 @@ impl<V> Model for Proposer<V> {
 impl<V: Drop> Proposer<V> {
     ghost use Rattle.std.specs.Prelude.{[]};
     ghost use Rattle.synod.specs.declared.proposer.Role.TheVariants.{Idle};
+    ghost use Rattle.slots.specs.declared.slots.TheConstants.{SLOTS};
+    ghost use Rattle.synod.specs.PagesHad.{entries_of, rooms_of};
     ghost use Rattle.synod.specs.Plans.{proposed, HasRoomToPropose};
 
     /// At no ballot, with nothing heard and nothing waiting. It takes no memory.
@@ -147,6 +156,25 @@ impl<V: Drop> Proposer<V> {
         self.heard.as_slice()
     }
 
+    /// The pages had.
+    pub(crate) fn pages(&self) -> &PagesHad<V>
+        ensures pages { entries_of result.now ≡ self.now.state.pages }
+        ensures rooms { rooms_of result.now ≡ self.now.page_rooms }
+    {
+        &self.pages
+    }
+
+    /// Makes room for a page.
+    pub(crate) fn room_for_page(&mut self, node: u8, page: u32) -> Result<(), AllocError>
+        requires node { node < length self.old.state.pages }
+        requires page { page < SLOTS }
+        ensures ok { OnOk result (page < slice_index_or self.new.page_rooms node 0) }
+        ensures state { self.new.state ≡ self.old.state }
+        ensures heard { self.new.heard_room ≡ self.old.heard_room }
+    {
+        self.pages.room(node, page)
+    }
+
     /// Makes room for a value that waits.
     pub(crate) fn room_to_wait(&mut self) -> Result<(), AllocError>
         ensures ok { OnOk result (length self.new.state.waiting < self.new.waiting_room) }
@@ -159,6 +187,7 @@ impl<V: Drop> Proposer<V> {
     pub(crate) fn room_to_hear(&mut self) -> Result<(), AllocError>
         ensures ok { OnOk result (length self.new.state.heard < self.new.heard_room) }
         ensures state { self.new.state ≡ self.old.state }
+        ensures pages { self.new.page_rooms ≡ self.old.page_rooms }
     {
         self.heard.reserve(1)
     }
@@ -191,6 +220,16 @@ impl<V: Drop> Proposer<V> {
             ) => self.pages.put(node, page, reports),
             Some(Proposal::Hear(heard)) => self.heard.push_reserved(heard),
             Some(
+                Proposal::HearPage {
+                    heard,
+                    page,
+                    reports,
+                },
+            ) => {
+                self.pages.put(heard.node, page, reports);
+                self.heard.push_reserved(heard);
+            }
+            Some(
                 Proposal::Lead {
                     ballot,
                     next,
@@ -206,4 +245,29 @@ impl<V: Drop> Proposer<V> {
             None => {}
         }
     }
+}
+
+ghost use Rattle.synod.specs.Node.{is_heard};
+
+/// Whether a node is among those heard.
+pub(crate) fn is_heard(heard: &[Heard], node: u8) -> bool
+    ensures { result ≡ is_heard heard.now node }
+{
+    for one in heard {
+        if one.node == node {
+            return true;
+        }
+    }
+    false
+}
+
+/// A mark for each node that is heard.
+pub(crate) fn marks_of(heard: &[Heard]) -> [bool; MOST_NODES]
+    ensures { (k : ℕ) → k < MOST_NODES → slice_index_or result k false ≡ is_heard heard.now k }
+{
+    let mut marks = [false; MOST_NODES];
+    for node in 0..MOST_NODES {
+        marks[node] = is_heard(heard, node as u8);
+    }
+    marks
 }

@@ -21,7 +21,7 @@ impl<V: Value> NodeCore<V> {
     ghost use Rattle.synod.specs.Ready.{IsReadyFor, proposer_of, proposed_node};
 
     /// The proposer alone changes.
-    fn ready_proposal(&self, proposal: Proposal<V>, posts: Vec<Packet<V>>) -> Ready<V>
+    pub(crate) fn ready_proposal(&self, proposal: Proposal<V>, posts: Vec<Packet<V>>) -> Ready<V>
         requires room { HasRoomToPropose (proposer_of self.now) (Some proposal) }
         requires node { IsNode (proposed_node self.now.node proposal) }
         ensures { IsReadyFor self.now (answers (proposed_node self.now.node proposal) posts.items) result }
