@@ -6,4 +6,5 @@ pub mod TextLemmas
 pub mod WritesLemmas
 pub mod AnswersLemmas
 pub mod OneList
+pub mod KindsLemmas
 mod Rows

@@ -40,12 +40,12 @@ some-by_test : {A : Type 0} (o : Option A) → is_some o ≡ true → IsSome o
 some-by_test None h = cc
 some-by_test (Some x) h = search rules
 
-pub at_first : (labels : ℕ) (text numbers : List ℕ) (place : Place) → place.limit ≡ labels → place.digits ≡ 0 → numbers ≡ [] → IsReadTo labels text numbers true place 0
-at_first labels text numbers place limit digits none =
+pub at_first : (labels : ℕ) (text numbers : List ℕ) (kept : Bool) (place : Place) → place.limit ≡ labels → place.digits ≡ 0 → numbers ≡ [] → IsReadTo labels text numbers kept place 0
+at_first labels text numbers kept place limit digits none =
     let same : numbers_from labels 0 (letters_of text) ≡ numbers_at place text = ap (λ l. numbers_from l 0 (letters_of text)) (sym limit) ∙ ap (λ d. numbers_from place.limit d (letters_of text)) (sym digits) in
     record {
       decides = ap is_some same;
-      stand = λ kept. same ∙ (after-none (numbers_at place text) ∙ ap (λ ns. after ns (numbers_at place text)) (sym none));
+      stand = λ k. same ∙ (after-none (numbers_at place text) ∙ ap (λ ns. after ns (numbers_at place text)) (sym none));
       room = omega (arith, limit);
     }
 

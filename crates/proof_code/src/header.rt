@@ -3,7 +3,7 @@ ghost use Rattle.std.specs.Prelude.{◌≡◌, ◌+◌, ◌^◌, ◌<◌, ◌++�
 ghost use Rattle.mm_lex.specs.Words.{spaced, words_of, AreWords};
 ghost use Rattle.proof_code.specs.Text.{header_of};
 
-use crate::label::may_be_listed;
+use crate::mandatory::Mandatory;
 use mm_lex::{WordIter, Words};
 use std::alloc::{AllocError, Global};
 
@@ -25,6 +25,7 @@ pub(crate) fn read_listed<'a>(words: &mut WordIter<'a>, mandatory: &Words) -> Op
     ensures header { IfSome result (λ listed. IsSomeAnd (header_of mandatory.now words.old)
         (λ header. (header.rest ≡ words.new) × (length header.listed ≡ listed.count) × (spaced header.listed ≡ listed.text.now))) }
 {
+    let known = Mandatory::new(mandatory);
     let text = words.as_text();
     let mut end = 0usize;
     let mut count = 0;
@@ -35,7 +36,7 @@ pub(crate) fn read_listed<'a>(words: &mut WordIter<'a>, mandatory: &Words) -> Op
                 count,
             });
         }
-        if !may_be_listed(mandatory, word) {
+        if !known.allows(word) {
             return None;
         }
         end += word.len() + 1;

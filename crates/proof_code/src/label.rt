@@ -1,9 +1,7 @@
 //! Labels among the tokens of a proof.
-ghost use Rattle.std.specs.Prelude.{◌≡◌, ◌&&◌, not};
+ghost use Rattle.std.specs.Prelude.{◌≡◌};
 ghost use Rattle.std.specs.List.{list_all};
-ghost use Rattle.mm_lex.specs.Alphabet.{is_label, is_label_byte, has_name};
-
-use mm_lex::Words;
+ghost use Rattle.mm_lex.specs.Alphabet.{is_label, is_label_byte};
 
 /// Whether a token is a label: some bytes, each a letter, a digit, `.`, `-` or `_`.
 pub(crate) fn is_label(token: &[u8]) -> bool
@@ -22,18 +20,4 @@ fn is_label_byte(byte: u8) -> bool
     ensures { result ≡ is_label_byte byte }
 {
     byte.is_ascii_alphanumeric() || byte == b'.' || byte == b'-' || byte == b'_'
-}
-
-/// Whether a token is a label and none of the mandatory ones.
-pub(crate) fn may_be_listed(mandatory: &Words, token: &[u8]) -> bool
-    ensures { result ≡ (is_label token.now && not (has_name token.now mandatory.now)) }
-{
-    is_label(token) && !is_among(mandatory, token)
-}
-
-/// Whether the label is among these.
-fn is_among(labels: &Words, label: &[u8]) -> bool
-    ensures { result ≡ has_name label.now labels.now }
-{
-    labels.iter().any(|other| label == other)
 }

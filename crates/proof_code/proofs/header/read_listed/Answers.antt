@@ -1,6 +1,7 @@
 use Rattle.std.proofs.Common.{◌≡◌, ◌+◌, ◌≤◌, length, arith, sym, ◌∙◌, ap}
 use Rattle.std.proofs.lemmas.List.{length-take}
-use Rattle.mm_lex.specs.Alphabet.{name_eq}
+use Rattle.std.specs.Prelude.{◌&&◌, not}
+use Rattle.mm_lex.specs.Alphabet.{name_eq, has_name, is_label}
 use Rattle.mm_lex.specs.Words.{spaced}
 use Rattle.proof_code.proofs.HeaderLemmas.{listed_all, listed_more, end_within}
 use Rattle.proof_code.proofs.header.read_listed.Goals as goal
@@ -38,4 +39,4 @@ overflow_add-count c =
 pub loop-word-preserved : goal.loop-word-preserved
 loop-word-preserved c =
     listed_more _ _ _ _ _ c.loop-word.invariant c.in-Some.word.now c.next.new.self c.in-Some.ensures.steps
-    (sym (c.if-eq.ensures ∙ ap (name_eq c.in-Some.word.now) c.as_slice.ensures)) (sym c.if-not-may_be_listed.ensures)
+    (sym (c.if-eq.ensures ∙ ap (name_eq c.in-Some.word.now) c.as_slice.ensures)) (ap (λ ms. is_label c.in-Some.word.now && not (has_name c.in-Some.word.now ms)) (sym c.new-known.ensures) ∙ sym c.if-not-allows.ensures)

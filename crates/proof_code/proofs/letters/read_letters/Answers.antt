@@ -1,10 +1,10 @@
-use Rattle.std.proofs.Common.{arith, ap, refl}
+use Rattle.std.proofs.Common.{arith, ap, refl, ◌∙◌}
 use Rattle.proof_code.proofs.PlacesLemmas.{IsReadTo-same, at_first, quiet_byte, number_byte, broken_byte, cut_word, read_all, all_kept}
 use Rattle.proof_code.proofs.letters.read_letters.Goals.{in-Quiet, in-Number, then-kept, else-kept}
 use Rattle.proof_code.proofs.letters.read_letters.Goals as goal
 
 pub loop-byte-init : goal.loop-byte-init
-loop-byte-init c = at_first c.args.labels c.args.text.now _ _ refl refl c.new-numbers.ensures.items
+loop-byte-init c = at_first c.args.labels c.args.text.now _ _ _ refl refl (c.reserve_exact.ensures.items ∙ c.new-numbers.ensures.items)
 
 pub read-requires : goal.read-requires
 read-requires c = omega (arith, c.loop-byte.invariant.room)
