@@ -8,3 +8,4 @@ pub mod FrontFaults
 pub mod StatementByStatement
 pub mod OneReading
 pub mod ExportReads
+mod Rows

@@ -1,7 +1,8 @@
-//! Reading and writing with ample memory.
-use crate::{ReadFault, read, spell};
+//! Reading and writing with ample memory. Want of memory ends a test with an `Err`; a run that refuses a growth must meet no
+//! failed assertion.
+use crate::{ReadFault, push_line_with_proof, read, spell};
 use mm_lex::LexFault;
-use std::alloc::Global;
+use std::alloc::{AllocError, Global};
 
 #[test]
 fn reads_and_spells(rt: HostRuntime) -> Result<(), ReadFault> {
@@ -9,25 +10,34 @@ fn reads_and_spells(rt: HostRuntime) -> Result<(), ReadFault> {
     let statements = read(rt.alloc(), text)?;
     let spelled = spell(rt.alloc(), statements.as_slice())?;
     assert!(rt; spelled.as_slice() == b"$c |- $.\np $a |- $.\nq $p |- $= p $.\n".as_slice());
+    let mut line = Vec::new(rt.alloc());
+    for statement in &statements {
+        push_line_with_proof(&mut line, statement, b"1")?;
+    }
+    assert!(rt; line.as_slice() == b"$c |- $.\np $a |- $.\nq $p |- $= 1 $.\n".as_slice());
     Ok(())
 }
 
 #[test]
-fn names_each_fault(rt: HostRuntime) {
-    assert!(rt; fault_of(rt.alloc(), b"$c a") == Some(ReadFault::Shape { token: 3 }));
-    assert!(rt; fault_of(rt.alloc(), b"$[ x $]") == Some(ReadFault::Shape { token: 1 }));
+fn names_each_fault(rt: HostRuntime) -> Result<(), AllocError> {
+    let alloc = rt.alloc();
+    assert!(rt; fault_of(alloc, b"$c a")? == Some(ReadFault::Shape { token: 3 }));
+    assert!(rt; fault_of(alloc, b"$[ x $]")? == Some(ReadFault::Shape { token: 1 }));
+    assert!(rt; fault_of(alloc, b"\x80")? == Some(ReadFault::Text(LexFault::Text { offset: 0 })));
     assert!(rt;
-        fault_of(rt.alloc(), b"\x80") == Some(ReadFault::Text(LexFault::Text { offset: 0 }))
+        fault_of(alloc, b"$( $( $)")? == Some(ReadFault::Text(LexFault::Comment { offset: 3 }))
     );
     assert!(rt;
-        fault_of(rt.alloc(), b"$( $( $)") == Some(ReadFault::Text(LexFault::Comment { offset: 3 }))
+        fault_of(alloc, b"$( a")? == Some(ReadFault::Text(LexFault::Comment { offset: 0 }))
     );
-    assert!(rt;
-        fault_of(rt.alloc(), b"$( a") == Some(ReadFault::Text(LexFault::Comment { offset: 0 }))
-    );
-    assert!(rt; fault_of(rt.alloc(), b"${ $c a $.") == None);
+    assert!(rt; fault_of(alloc, b"${ $c a $.")? == None);
+    Ok(())
 }
 
-fn fault_of(alloc: Global, text: &[u8]) -> Option<ReadFault> {
-    read(alloc, text).err()
+fn fault_of(alloc: Global, text: &[u8]) -> Result<Option<ReadFault>, AllocError> {
+    match read(alloc, text) {
+        Ok(_) => Ok(None),
+        Err(ReadFault::Memory) => Err(AllocError),
+        Err(fault) => Ok(Some(fault)),
+    }
 }
