@@ -1,0 +1,2 @@
+mod OutlineLemmas
+mod RulesLemmas

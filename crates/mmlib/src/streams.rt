@@ -1,0 +1,51 @@
+//! What is read from the input, and how an answer is written.
+use std::alloc::Global;
+use std::io::{ErrorKind, Read, Write};
+
+/// The greatest count of bytes that a text may have.
+pub const TEXT_LIMIT: usize = 67_108_864;
+
+/// How many bytes are asked for at once.
+const PART: usize = 65_536;
+
+/// Why a text was not read.
+#[derive(Debug, Drop, PartialEq, Eq)]
+pub enum ReadFailure {
+    /// A read failed.
+    Input,
+    /// A growth was refused.
+    Memory,
+}
+
+/// The whole input, or its first bytes, one more than a text may have.
+pub fn read_text<I: Read>(alloc: Global, input: &mut I) -> Result<Vec<u8>, ReadFailure> {
+    let Ok(mut part) = vec![in alloc; 0u8; PART] else {
+        return Err(ReadFailure::Memory);
+    };
+    let mut text = Vec::new(alloc);
+    for _ in 0..u64::MAX {
+        let wanted = (TEXT_LIMIT + 1).saturating_sub(text.len()).min(part.len());
+        if wanted == 0 {
+            return Ok(text);
+        }
+        match input.read(&mut part[..wanted]) {
+            Ok(0) => return Ok(text),
+            Ok(count) => {
+                if text.extend_from_slice(&part[..count]).is_err() {
+                    return Err(ReadFailure::Memory);
+                }
+            }
+            Err(error) if error.kind() == ErrorKind::Interrupted => {}
+            Err(_) => return Err(ReadFailure::Input),
+        }
+    }
+    Err(ReadFailure::Input)
+}
+
+/// Writes the text, and gives this exit status, or 1 where a write failed.
+pub fn print<W: Write>(writer: &mut W, text: &[u8], status: u8) -> u8 {
+    if writer.write_all(text).is_err() || writer.flush().is_err() {
+        return 1;
+    }
+    status
+}
