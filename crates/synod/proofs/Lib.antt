@@ -14,3 +14,5 @@ pub mod LogLemmas
 pub mod ReportPages
 pub mod PagesWithLemmas
 pub mod GatherLemmas
+pub mod HeightsLemmas
+pub mod LeadLemmas

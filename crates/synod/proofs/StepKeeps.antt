@@ -265,7 +265,7 @@ all_low : {V : Type 0} (reports : List (Report V)) → AllByRecursion IsReport r
 all_low [] h = omega arith
 all_low (r ∷ rs) h = let rest = all_low rs h.1 in let low : r.slot < SLOTS = h.0 in omega arith
 
-top_low : {V : Type 0} (first : ℕ) (reports : List (Report V)) → first ≤ SLOTS → AllByRecursion IsReport reports → top_reported first reports ≤ SLOTS
+pub top_low : {V : Type 0} (first : ℕ) (reports : List (Report V)) → first ≤ SLOTS → AllByRecursion IsReport reports → top_reported first reports ≤ SLOTS
 top_low first [] low h = low
 top_low first (r ∷ rs) low h = all_low (r ∷ rs) h
 
@@ -290,6 +290,11 @@ all_with_page : {V : Type 0} (pages : List (List (Option (List (Report V))))) (p
     → AllByRecursion (AllByRecursion ArePages) (if t then pages else set pages p (put_at (pages_from pages p) i reports))
 all_with_page pages p i reports true h r = h
 all_with_page pages p i reports false h r = all_set (AllByRecursion ArePages) pages p (put_at (pages_from pages p) i reports) h (all_put (pages_from pages p) i reports (all_index (AllByRecursion ArePages) pages p [] h tt) r)
+
+-- what the nodes heard have reported, with a page just delivered
+pub reports_with_page : {V : Type 0} (pages : List (List (Option (List (Report V))))) (p i : ℕ) (reports : List (Report V)) (heard : List Heard) → AllByRecursion (AllByRecursion ArePages) pages → AllByRecursion IsReport reports
+    → AllByRecursion IsReport (all_reports (with_page pages p i reports) heard)
+reports_with_page pages p i reports heard each r = reports_heard (with_page pages p i reports) heard (all_with_page pages p i reports (is_some (page_of pages p i)) each r)
 
 length-fills : {V : Type 0} (reports : List (Report V)) (s count : ℕ) → length (fills reports s count) ≡ count
 length-fills reports s zero = refl

@@ -16,3 +16,4 @@ pub mod PagesHad
 pub mod Plans
 pub mod Said
 pub mod Ready
+pub mod Heights

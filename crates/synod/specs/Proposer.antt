@@ -120,6 +120,10 @@ leads n b first reports top =
     (record n { role = Leading b (top + length taken); pages = []; heard = []; waiting = drop (SLOTS - top) n.waiting })
     (accepts n.me n.weights b first (fills reports first (top - first)) ++ accepts n.me n.weights b top (map (λ v. Some v) taken))
 
+-- the same, of what the nodes heard have reported
+abbrev pub leads_with : {V : Type 0} → Node V → Ballot → ℕ → List (List (Option (List (Report V)))) → List Heard → Stepped V
+leads_with n b first pages heard = leads n b first (all_reports pages heard) (top_reported first (all_reports pages heard))
+
 -- A page of a promise comes.
 
 -- the page is kept, and the promise has more
@@ -134,7 +138,7 @@ keeps_promise n pages heard = answers (record n { pages = pages; heard = heard }
 abbrev pub hears : {V : Type 0} → Node V → Ballot → ℕ → List (List (Option (List (Report V)))) → List Heard → Stepped V
 hears n b first pages heard =
     if is_quorum n.weights (is_heard heard)
-    then leads n b first (all_reports pages heard) (top_reported first (all_reports pages heard))
+    then leads_with n b first pages heard
     else keeps_promise n pages heard
 
 -- a page that was asked for, of a node not heard yet

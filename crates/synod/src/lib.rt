@@ -9,6 +9,8 @@
 
 mod ballot;
 mod change;
+mod keep;
+mod leading;
 mod learner;
 mod node;
 mod packet;
@@ -24,6 +26,7 @@ mod weights;
 
 pub use ballot::Ballot;
 pub use change::{Change, Held};
+pub use keep::{Failed, Keep};
 pub use learner::{Tallies, Tally};
 pub use node::NodeCore;
 pub use packet::{Body, MOST_PAGES, PAGE_REPORTS, Packet, Report, Reports};

@@ -9,7 +9,7 @@ mod proposing;
 
 use crate::ballot::Ballot;
 use crate::learner::Learner;
-use crate::packet::Packet;
+use crate::packet::{Body, Packet};
 use crate::posts::{Said, post_to_others};
 use crate::proposer::{MOST_WAITING, Proposer, Role};
 use crate::ready::{Plan, Ready};
@@ -47,12 +47,12 @@ impl<V> Model for NodeCore<V> {
 
 impl<V: Value> NodeCore<V> {
     ghost use Rattle.std.specs.Prelude.{slice_get};
-    ghost use Rattle.synod.specs.Packets.{IsPacket, IsPost, to_others};
+    ghost use Rattle.synod.specs.Packets.{IsPacket, IsPost, IsBody, to_others};
     ghost use Rattle.synod.specs.declared.packet.Body.TheVariants.{Ask};
     ghost use Rattle.synod.specs.Node.{new_node, unchanged};
     ghost use Rattle.synod.specs.Log.{log_of};
     ghost use Rattle.synod.specs.Proposer.{begun, offered, offer_waits};
-    ghost use Rattle.synod.specs.Step.{Keeps, on_packet, reloaded, restarted};
+    ghost use Rattle.synod.specs.Step.{IsNode, Keeps, on_body, on_packet, reloaded, restarted};
     ghost use Rattle.synod.specs.Refusals.{Makes};
     ghost use Rattle.synod.specs.Ready.{Readies, IsReadyFor, planned, CanFollow};
 
@@ -70,6 +70,14 @@ impl<V: Value> NodeCore<V> {
             proposer: Proposer::new(alloc),
             learner: Learner::new(alloc),
         }
+    }
+
+    /// How many nodes there are. This one is a node of them, and knows of no slot past the limit.
+    pub fn nodes(&self) -> u8
+        ensures count { result ≡ length self.now.node.weights }
+        ensures node { IsNode self.now.node }
+    {
+        self.weights.count()
     }
 
     /// Makes the growths of `begin`, or answers its refusal. The node stays.
@@ -125,6 +133,49 @@ impl<V: Value> NodeCore<V> {
         or_memory(self.ready_waiting(value))
     }
 
+    /// Makes the growths of `on_packet`, or answers `Memory`. The node stays.
+    pub fn ready_packet(&mut self, packet: &Packet<V>) -> Result<Ready<V>, Refusal>
+        requires { IsPacket (length self.old.node.weights) packet.now }
+        ensures ready { Readies self.new (Ok (on_packet self.old.node packet.now)) result }
+        ensures node { self.new.node ≡ self.old.node }
+        ensures posts { IfOk result (λ made. AllByRecursion (IsPost (length self.old.node.weights)) made.step.posts) }
+    {
+        prove!(packet.from < self.nodes());
+        or_memory(self.ready_body(packet.from, &packet.body))
+    }
+
+    /// The step of each body.
+    fn ready_body(&mut self, from: u8, body: &Body<V>) -> Result<Ready<V>, AllocError>
+        requires from { from < length self.old.node.weights }
+        requires body { IsBody body.now }
+        requires keeps { Keeps (length self.old.node.weights) (on_body self.old.node from body.now) }
+        ensures ready { IfOk result (IsReadyFor self.new (on_body self.old.node from body.now)) }
+        ensures node { self.new.node ≡ self.old.node }
+    {
+        match body {
+            Body::Prepare { ballot, first } => self.ready_prepare(from, *ballot, *first),
+            Body::Promise {
+                ballot,
+                page,
+                count,
+                reports,
+            } => self.ready_promise(from, *ballot, *page, *count, reports),
+            Body::Accept {
+                ballot,
+                slot,
+                value,
+            } => self.ready_accept(from, *ballot, *slot, value),
+            Body::Accepted {
+                ballot,
+                slot,
+                value,
+            } => self.ready_accepted(from, *ballot, *slot, value),
+            Body::Nack { ballot, promise } => Ok(self.ready_nack(*ballot, *promise)),
+            Body::Ask { slot } => self.ready_ask(from, *slot),
+            Body::Told { slot, value } => self.ready_told(from, *slot, value),
+        }
+    }
+
     /// Makes the step that was made ready, and gives its posts. It takes no memory.
     pub fn commit(&mut self, ready: Ready<V>) -> Vec<Packet<V>>
         requires { ready.before ≡ self.old }
@@ -169,6 +220,20 @@ impl<V: Value> NodeCore<V> {
         ensures posts { IfOk result (λ posts. AllByRecursion (IsPost (length self.old.node.weights)) posts.items) }
     {
         match self.ready_offer(value) {
+            Ok(ready) => Ok(self.commit(ready)),
+            Err(refusal) => Err(refusal),
+        }
+    }
+
+    /// Takes a packet, and gives the posts. Where it answers `Memory`, it is as if the packet were lost.
+    ///
+    /// Cost: the packet and the posts; a promise costs its reports.
+    pub fn on_packet(&mut self, packet: &Packet<V>) -> Result<Vec<Packet<V>>, Refusal>
+        requires { IsPacket (length self.old.node.weights) packet.now }
+        ensures makes { Makes self.old.node self.new.node (Ok (on_packet self.old.node packet.now)) result }
+        ensures posts { IfOk result (λ posts. AllByRecursion (IsPost (length self.old.node.weights)) posts.items) }
+    {
+        match self.ready_packet(packet) {
             Ok(ready) => Ok(self.commit(ready)),
             Err(refusal) => Err(refusal),
         }
@@ -220,14 +285,14 @@ impl<V: Value> NodeCore<V> {
         ensures makes { Makes self.old.node self.new.node (Ok (reloaded self.old.node record.kept)) result }
         ensures posts { IfOk result (λ posts. AllByRecursion (IsPost (length self.old.node.weights)) posts.items) }
     {
-        let Ok(posts) = self.ask_all() else {
-            return Err(Refusal::Memory);
-        };
-        let _ = record.top();
-        self.record = record;
-        self.proposer = Proposer::new(self.alloc);
-        self.learner = Learner::new(self.alloc);
-        Ok(posts)
+        prove!(record.top() <= SLOTS);
+        match self.restart() {
+            Ok(posts) => {
+                self.record = record;
+                Ok(posts)
+            }
+            Err(refusal) => Err(refusal),
+        }
     }
 
     /// The other nodes are asked for the first entry.

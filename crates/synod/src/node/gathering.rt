@@ -1,11 +1,13 @@
 //! The pages of promises, as they come.
 ghost use Rattle.std.specs.Prelude.{◌≡◌, ◌<◌, ◌≤◌, ◌++◌, ◌∷◌, [], IfOk, Some, List, length};
+ghost use Rattle.std.specs.List.{AllByRecursion};
 ghost use Rattle.slots.specs.declared.slots.TheConstants.{SLOTS};
 
 use crate::ballot::Ballot;
+use crate::leading::lead_posts;
 use crate::node::NodeCore;
 use crate::packet::{Reports, copy_reports};
-use crate::pages::front_after;
+use crate::pages::{PagesWith, front_after};
 use crate::proposer::{Heard, Proposal, Role, is_heard, marks_of};
 use crate::ready::Ready;
 use crate::value::Value;
@@ -13,9 +15,9 @@ use std::alloc::AllocError;
 
 impl<V: Value> NodeCore<V> {
     ghost use Rattle.synod.specs.Weights.{is_quorum};
-    ghost use Rattle.synod.specs.Packets.{IsPage};
+    ghost use Rattle.synod.specs.Packets.{IsPage, IsReport};
     ghost use Rattle.synod.specs.Node.{is_heard, with_page};
-    ghost use Rattle.synod.specs.Proposer.{on_promise, gathers, hears, keeps_page, keeps_promise};
+    ghost use Rattle.synod.specs.Proposer.{on_promise, gathers, leads_with, keeps_page, keeps_promise};
     ghost use Rattle.synod.specs.Step.{Keeps};
     ghost use Rattle.synod.specs.Ready.{IsReadyFor};
 
@@ -80,5 +82,114 @@ impl<V: Value> NodeCore<V> {
     {
         let marks = marks_of(heard);
         self.weights.is_quorum(&marks)
+    }
+
+    /// A page that was asked for, of a node that is not heard yet.
+    fn ready_page(
+        &mut self,
+        ballot: Ballot,
+        first: u32,
+        heard: Heard,
+        page: u32,
+        reports: &Reports<V>,
+    ) -> Result<Ready<V>, AllocError>
+        requires node { heard.node < length self.old.node.pages }
+        requires first { first ≤ SLOTS }
+        requires page { page < SLOTS }
+        requires each { AllByRecursion IsReport reports.now }
+        requires keeps { Keeps (length self.old.node.weights) (gathers self.old.node heard.node ballot first heard.count (with_page self.old.node.pages heard.node page reports.now)) }
+        ensures ready { IfOk result (IsReadyFor self.new (gathers self.old.node heard.node ballot first heard.count (with_page self.old.node.pages heard.node page reports.now))) }
+        ensures node { self.new.node ≡ self.old.node }
+    {
+        let front = front_after(self.proposer.pages(), heard.node, page);
+        if front < heard.count {
+            return self.ready_to_keep(heard.node, page, reports);
+        }
+        let nodes = self.heard_with(heard)?;
+        if self.has_heard_quorum(&nodes) {
+            self.ready_to_lead(ballot, first, heard.node, page, reports, &nodes)
+        } else {
+            self.ready_to_hear(heard, page, reports)
+        }
+    }
+
+    /// The nodes heard, with one more.
+    fn heard_with(&self, heard: Heard) -> Result<Vec<Heard>, AllocError>
+        ensures { IfOk result (λ nodes. nodes.items ≡ self.now.node.heard ++ heard ∷ []) }
+    {
+        let mut nodes = Vec::from_slice(self.alloc, self.proposer.heard())?;
+        nodes.push(heard)?;
+        Ok(nodes)
+    }
+
+    /// A quorum is heard: the node leads.
+    fn ready_to_lead(
+        &self,
+        ballot: Ballot,
+        first: u32,
+        node: u8,
+        page: u32,
+        reports: &Reports<V>,
+        heard: &[Heard],
+    ) -> Result<Ready<V>, AllocError>
+        requires node { node < length self.now.node.pages }
+        requires first { first ≤ SLOTS }
+        requires each { AllByRecursion IsReport reports.now }
+        requires keeps { Keeps (length self.now.node.weights) (leads_with self.now.node ballot first (with_page self.now.node.pages node page reports.now) heard.now) }
+        ensures { IfOk result (IsReadyFor self.now (leads_with self.now.node ballot first (with_page self.now.node.pages node page reports.now) heard.now)) }
+    {
+        let delivered = PagesWith {
+            pages: self.proposer.pages(),
+            node,
+            page,
+            reports,
+        };
+        let waiting = self.proposer.waiting();
+        let lead = lead_posts(
+            self.alloc,
+            self.me,
+            &self.weights,
+            ballot,
+            first,
+            &delivered,
+            heard,
+            waiting,
+        )?;
+        let proposal = Proposal::Lead {
+            ballot,
+            next: lead.next,
+            taken: lead.taken,
+        };
+        Ok(self.ready_proposal(proposal, lead.posts))
+    }
+
+    /// A page of a Promise came.
+    pub(crate) fn ready_promise(
+        &mut self,
+        from: u8,
+        ballot: Ballot,
+        page: u32,
+        count: u32,
+        reports: &Reports<V>,
+    ) -> Result<Ready<V>, AllocError>
+        requires page { IsPage page count reports.now }
+        requires keeps { Keeps (length self.old.node.weights) (on_promise self.old.node from ballot page count reports.now) }
+        ensures ready { IfOk result (IsReadyFor self.new (on_promise self.old.node from ballot page count reports.now)) }
+        ensures node { self.new.node ≡ self.old.node }
+    {
+        let Role::Preparing { ballot: at, first } = self.proposer.role() else {
+            return Ok(self.ready_nothing());
+        };
+        if !ballot.is_same(at) {
+            return Ok(self.ready_nothing());
+        }
+        if is_heard(self.proposer.heard(), from) {
+            return Ok(self.ready_nothing());
+        }
+        if from as usize >= self.proposer.pages().nodes() {
+            return Ok(self.ready_nothing());
+        }
+        let heard = Heard { node: from, count };
+        self.ready_page(at, first, heard, page - 1, reports)
     }
 }

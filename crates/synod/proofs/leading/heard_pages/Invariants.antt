@@ -1,0 +1,8 @@
+use Rattle.std.proofs.Common.{◌≡◌, ◌++◌, drop}
+use Rattle.synod.specs.PagesHad.{pages_with}
+use Rattle.synod.specs.Proposer.{all_reports}
+use Rattle.synod.specs.Heights.{all_of}
+use Rattle.synod.proofs.leading.heard_pages.Given as goal
+
+abbrev pub invariant-loop-node : goal.invariant-loop-node
+invariant-loop-node g l = all_of l.all.items ++ all_reports (pages_with l.pages) (drop l.node-index l.heard) ≡ all_reports (pages_with l.pages) l.heard

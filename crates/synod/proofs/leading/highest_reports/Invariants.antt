@@ -1,0 +1,16 @@
+use Rattle.std.proofs.Common.{◌≡◌, ◌≤◌, ◌+◌, ◌-◌, ℕ, length, take, slice_index_or, None}
+use Rattle.synod.specs.Heights.{all_of, AreHighest}
+use Rattle.synod.proofs.leading.highest_reports.Given as goal
+
+abbrev pub invariant-loop-slot : goal.invariant-loop-slot
+invariant-loop-slot g l = record {
+  count : length l.table.items + l.first ≡ l._slot;
+  within : length l.table.items ≤ l.top - l.first;
+  none : (k : ℕ) → slice_index_or l.table.items k None ≡ None;
+}
+
+abbrev pub invariant-loop-page : goal.invariant-loop-page
+invariant-loop-page g l = record {
+  highest : AreHighest l.first l.table.items (all_of (take l.page-index l.pages));
+  slots : length l.table.items ≡ l.top - l.first;
+}

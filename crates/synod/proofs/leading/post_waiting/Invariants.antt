@@ -1,0 +1,11 @@
+use Rattle.std.proofs.Common.{◌≡◌, ◌+◌, ◌++◌, drop}
+use Rattle.synod.specs.Packets.{accepts}
+use Rattle.synod.specs.Heights.{some_of}
+use Rattle.synod.proofs.leading.post_waiting.Given as goal
+
+abbrev pub invariant-loop-value : goal.invariant-loop-value
+invariant-loop-value g l = record {
+  slot : l.slot ≡ l.top + l.value-index;
+  posted : l.posts.items ++ accepts l.me l.weights l.ballot l.slot (some_of (drop l.value-index l.waiting))
+      ≡ l.fn.posts.items ++ accepts l.me l.weights l.ballot l.top (some_of l.waiting);
+}

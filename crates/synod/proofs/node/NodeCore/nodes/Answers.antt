@@ -1,0 +1,6 @@
+use Rattle.synod.proofs.NodeLemmas.{node_of_parts}
+use Rattle.synod.proofs.node.NodeCore.nodes.Goals as goal
+
+pub returns-clause-node : goal.returns-clause-node
+returns-clause-node g c =
+    node_of_parts c.self.inside.me c.self.inside.weights c.self.inside.record c.self.inside.proposer c.self.inside.learner c.args.self.now c.self.view_is c.self.invariant

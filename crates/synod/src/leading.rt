@@ -1,0 +1,240 @@
+//! What a proposer proposes once a quorum is heard: at each slot the value of the highest ballot reported there.
+ghost use Rattle.std.specs.Prelude.{◌≡◌, ◌<◌, ◌≤◌, ◌+◌, ◌-◌, ◌++◌, [], ◌∷◌, ℕ, List, Option, Some, None, max, min, map, length, OnOk, IfOk, slice_index_or};
+ghost use Rattle.std.specs.List.{AllByRecursion};
+ghost use Rattle.slots.specs.declared.slots.TheConstants.{SLOTS};
+ghost use Rattle.synod.specs.declared.packet.Report.{Report};
+ghost use Rattle.synod.specs.Packets.{IsReport, accepts};
+ghost use Rattle.std.specs.Option.{option_copied};
+ghost use Rattle.synod.specs.Proposer.{above_all, top_reported, highest_at, reported_value, fills, all_reports};
+ghost use Rattle.synod.specs.Pages.{joined_pages};
+ghost use Rattle.synod.specs.Node.{pages_from};
+ghost use Rattle.synod.specs.PagesHad.{pages_with};
+ghost use Rattle.synod.specs.Heights.{all_of, AreHighest, some_of, IsLead};
+
+use crate::ballot::Ballot;
+use crate::packet::{Packet, Report};
+use crate::pages::PagesWith;
+use crate::posts::{Said, post_to_all};
+use crate::proposer::Heard;
+use crate::value::{Value, copy_value};
+use crate::weights::Weights;
+use slots::SLOTS;
+use std::alloc::{AllocError, Global};
+
+/// One above the greatest slot of the reports, or `above` where that is greater.
+fn above_page<V>(above: u32, reports: &[Report<V>]) -> u32
+    requires { AllByRecursion IsReport reports.now }
+    ensures { result ≡ max above (above_all reports.now) }
+{
+    let mut most = above;
+    for report in reports {
+        most = std::cmp::max(most, report.slot + 1);
+    }
+    most
+}
+
+/// One above the greatest slot reported, or `first` where none is.
+fn top_of_reports<V>(first: u32, pages: &[&[Report<V>]]) -> u32
+    requires { AllByRecursion IsReport (all_of pages.now) }
+    ensures { result ≡ top_reported first (all_of pages.now) }
+{
+    let mut above = 0;
+    for reports in pages {
+        above = above_page(above, reports);
+    }
+    if above == 0 { first } else { above }
+}
+
+/// Keeps a report where it is higher than what the table has at its slot.
+fn keep_report<'a, V>(table: &mut Vec<Option<&'a Report<V>>>, first: u32, report: &'a Report<V>)
+    ensures highest { (reports : List (Report V)) → AreHighest first table.old.items reports → AreHighest first table.new.items (reports ++ report.now ∷ []) }
+    ensures slots { length table.new.items ≡ length table.old.items }
+{
+    if report.slot < first {
+        return;
+    }
+    let place = (report.slot - first) as usize;
+    if place >= table.len() {
+        return;
+    }
+    let is_higher = match table[place] {
+        Some(best) => best.ballot.is_under(report.ballot),
+        None => true,
+    };
+    if is_higher {
+        table[place] = Some(report);
+    }
+}
+
+/// Keeps the reports of a page that are higher.
+fn keep_page<'a, V>(table: &mut Vec<Option<&'a Report<V>>>, first: u32, page: &'a [Report<V>])
+    ensures highest { (reports : List (Report V)) → AreHighest first table.old.items reports → AreHighest first table.new.items (reports ++ page.now) }
+    ensures slots { length table.new.items ≡ length table.old.items }
+{
+    for report in page {
+        keep_report(table, first, report);
+    }
+}
+
+/// The highest report of each slot from `first` to below `top`, of all pages.
+fn highest_reports<'a, V>(
+    alloc: Global,
+    first: u32,
+    top: u32,
+    pages: &[&'a [Report<V>]],
+) -> Result<Vec<Option<&'a Report<V>>>, AllocError>
+    ensures highest { IfOk result (λ table. AreHighest first table.items (all_of pages.now)) }
+    ensures slots { IfOk result (λ table. length table.items ≡ top - first) }
+{
+    let mut table = Vec::new(alloc);
+    for _slot in first..top {
+        table.push(None)?;
+    }
+    for page in pages {
+        keep_page(&mut table, first, page);
+    }
+    Ok(table)
+}
+
+/// The value that is proposed at a slot: that of its highest report, or the no-operation.
+fn value_of<V: Value>(highest: Option<&Report<V>>) -> Result<Option<V>, AllocError>
+    ensures { IfOk result (λ value. value ≡ reported_value (option_copied highest.entry)) }
+{
+    match highest {
+        Some(report) => copy_value(&report.value),
+        None => Ok(None),
+    }
+}
+
+/// An Accept to all for each slot from `first` to below `top`, with the value of the highest report.
+fn fill_posts<V: Value>(
+    alloc: Global,
+    posts: &mut Vec<Packet<V>>,
+    me: u8,
+    weights: &Weights,
+    ballot: Ballot,
+    first: u32,
+    top: u32,
+    pages: &[&[Report<V>]],
+) -> Result<(), AllocError>
+    ensures { OnOk result (posts.new.items ≡ posts.old.items ++ accepts me weights.now ballot first (fills (all_of pages.now) first (top - first))) }
+{
+    let table = highest_reports(alloc, first, top, pages)?;
+    let mut slot = first;
+    for highest in &table {
+        let value = value_of(*highest)?;
+        let said = Said::Accept {
+            ballot,
+            slot,
+            value: &value,
+        };
+        post_to_all(posts, me, weights, &said)?;
+        slot += 1;
+    }
+    Ok(())
+}
+
+/// Adds the first pages of a node, in order.
+fn add_pages<'a, V: Drop>(
+    all: &mut Vec<&'a [Report<V>]>,
+    pages: &'a PagesWith<'a, V>,
+    node: u8,
+    count: u32,
+) -> Result<(), AllocError>
+    requires { pages.now.node < length pages.now.pages.now }
+    ensures { OnOk result (all_of all.new.items ≡ all_of all.old.items ++ joined_pages (pages_from (pages_with pages.now) node) count) }
+{
+    for page in 0..count {
+        if let Some(reports) = pages.get(node, page) {
+            all.push(reports.as_slice())?;
+        }
+    }
+    Ok(())
+}
+
+/// The reports of all nodes heard, page by page, the first heard first.
+fn heard_pages<'a, V: Drop>(
+    alloc: Global,
+    pages: &'a PagesWith<'a, V>,
+    heard: &[Heard],
+) -> Result<Vec<&'a [Report<V>]>, AllocError>
+    requires { pages.now.node < length pages.now.pages.now }
+    ensures { IfOk result (λ all. all_of all.items ≡ all_reports (pages_with pages.now) heard.now) }
+{
+    let mut all = Vec::new(alloc);
+    for node in heard {
+        add_pages(&mut all, pages, node.node, node.count)?;
+    }
+    Ok(all)
+}
+
+/// An Accept to all for each value that waits, from slot `top` on.
+fn post_waiting<V: Value>(
+    posts: &mut Vec<Packet<V>>,
+    me: u8,
+    weights: &Weights,
+    ballot: Ballot,
+    top: u32,
+    waiting: &[V],
+) -> Result<(), AllocError>
+    requires { top + length waiting.now ≤ SLOTS }
+    ensures { OnOk result (posts.new.items ≡ posts.old.items ++ accepts me weights.now ballot top (some_of waiting.now)) }
+{
+    let mut slot = top;
+    for value in waiting {
+        let value = Some(value.copy()?);
+        let said = Said::Accept {
+            ballot,
+            slot,
+            value: &value,
+        };
+        post_to_all(posts, me, weights, &said)?;
+        slot += 1;
+    }
+    Ok(())
+}
+
+/// The lesser of two counts.
+fn lesser(a: usize, b: usize) -> usize
+    ensures { result ≡ min a b }
+{
+    std::cmp::min(a, b)
+}
+
+/// What a proposer posts once it leads, its next slot, and how many that waited are proposed.
+#[derive(Drop)]
+pub(crate) struct Lead<V> {
+    pub posts: Vec<Packet<V>>,
+    pub next: u32,
+    pub taken: usize,
+}
+
+/// The proposals of a proposer that has heard a quorum: what was reported goes to the slots from `first`
+/// on, and what waits to those after, while slots are left.
+pub(crate) fn lead_posts<V: Value>(
+    alloc: Global,
+    me: u8,
+    weights: &Weights,
+    ballot: Ballot,
+    first: u32,
+    pages: &PagesWith<V>,
+    heard: &[Heard],
+    waiting: &[V],
+) -> Result<Lead<V>, AllocError>
+    requires node { pages.now.node < length pages.now.pages.now }
+    requires first { first ≤ SLOTS }
+    requires reports { AllByRecursion IsReport (all_reports (pages_with pages.now) heard.now) }
+    ensures { IfOk result (λ lead. IsLead me weights.now ballot first (all_reports (pages_with pages.now) heard.now) waiting.now lead.posts.items lead.next lead.taken) }
+{
+    let all = heard_pages(alloc, pages, heard)?;
+    let top = top_of_reports(first, &all);
+    let mut posts = Vec::new(alloc);
+    fill_posts(alloc, &mut posts, me, weights, ballot, first, top, &all)?;
+    let taken = lesser(waiting.len(), (SLOTS - top) as usize);
+    post_waiting(&mut posts, me, weights, ballot, top, &waiting[..taken])?;
+    Ok(Lead {
+        posts,
+        next: top + taken as u32,
+        taken,
+    })
+}
