@@ -1,5 +1,7 @@
 -- Each kind of legal statement keeps what a scope keeps.
 use Rattle.std.specs.Prelude.{◌≡◌, ℕ, ◌==◌, Bool, true, false, not, ◌||◌, List, [], ◌∷◌, ◌++◌, cond, None, is_some, refl}
+use Rattle.std.proofs.Common.{Result, Ok, Err, OnOk}
+use Rattle.std.specs.Result.{is_err}
 use Rattle.std.specs.List.{list_any}
 use Rattle.std.proofs.Common.{◌∙◌, ap, sym, subst, true≢false}
 use Rattle.std.proofs.lemmas.List.{append-nil, append_assoc, map-append}
@@ -144,3 +146,7 @@ bare-rule S (Disj xs) = refl
 bare-rule S (Float label constant variable) = refl
 bare-rule S (Ess label expr) = refl
 bare-rule S (Axiom label expr) = refl
+
+pub ok_of : {A B : Type 0} {P : Type 0} (r : Result A B) → is_err r ≡ false → OnOk r P → P
+ok_of (Ok x) h p = p
+ok_of (Err e) h p = cc

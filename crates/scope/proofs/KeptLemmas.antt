@@ -120,7 +120,7 @@ marked-within S M names mark m named k =
 -- ---- a statement that is no bracket
 
 -- a list of one kind, after a statement that closes nothing
-flat_map-more : {A : Type 0} (f : ℕ × Stmt → List A) (S : Database) (s : Stmt) → is_close s ≡ false → flat_map f (active (S ++ s ∷ [])) ≡ flat_map f (active S) ++ f (1 + length S, s)
+pub flat_map-more : {A : Type 0} (f : ℕ × Stmt → List A) (S : Database) (s : Stmt) → is_close s ≡ false → flat_map f (active (S ++ s ∷ [])) ≡ flat_map f (active S) ++ f (1 + length S, s)
 flat_map-more f S s h =
     ap (flat_map f) (active_from-append 1 S s h)
     ∙ (flat_map-append f (active S) ((1 + length S, s) ∷ []) ∙ ap (λ r. flat_map f (active S) ++ r) (append-nil (f (1 + length S, s))))
@@ -192,7 +192,7 @@ kept-open S M names vs ts blocks mark sizes m height k = record {
 
 -- ---- a `$}`
 
-flat_map-close : {A : Type 0} (f : ℕ × Stmt → List A) (S : Database) → f (1 + length S, Close) ≡ [] → flat_map f (active (S ++ Close ∷ [])) ≡ flat_map f (before_open (active S))
+pub flat_map-close : {A : Type 0} (f : ℕ × Stmt → List A) (S : Database) → f (1 + length S, Close) ≡ [] → flat_map f (active (S ++ Close ∷ [])) ≡ flat_map f (before_open (active S))
 flat_map-close f S none =
     ap (flat_map f) (active_from-close 1 S)
     ∙ (flat_map-append f (before_open (active S)) ((1 + length S, Close) ∷ [])

@@ -3,6 +3,7 @@ pub mod NumberingLemmas
 pub mod NamesLemmas
 pub mod SortsLemmas
 pub mod KeptLemmas
+pub mod StandingLemmas
 pub mod LegalLemmas
 pub mod AcceptLemmas
 pub mod StackLemmas

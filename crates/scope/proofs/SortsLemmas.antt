@@ -1,5 +1,5 @@
 -- What a look-up says of a symbol.
-use Rattle.std.specs.Prelude.{◌≡◌, ℕ, suc, ◌+◌, ◌==◌, Bool, true, false, not, cond, ◌||◌, ◌&&◌, List, [], ◌∷◌, ◌++◌, length, Option, Some, None, is_some, nat_lt, refl}
+use Rattle.std.specs.Prelude.{◌≡◌, ℕ, suc, ◌+◌, ◌==◌, Bool, true, false, not, cond, ◌||◌, ◌&&◌, List, [], ◌∷◌, ◌++◌, length, Option, Some, None, is_some, nat_lt, refl, option_map}
 use Rattle.std.specs.List.{list_any, position_or_len, prefix_len, flat_map}
 use Rattle.std.proofs.Common.{sym, ◌∙◌, ap, arith, true≢false, take, ◌<◌, append_assoc, length-append}
 use Rattle.std.proofs.lemmas.List.{take_at, length_push}
@@ -11,13 +11,13 @@ use Rattle.mm_read.specs.Statements.{Database}
 use Rattle.scope.specs.Active.{variables, constants, active, is_float_of, typed_by, is_variable, is_constant, has_float, was_symbol, was_label, was_variable, active_variables, typed_variables}
 use Rattle.scope.specs.Legal.{all_different}
 use Rattle.scope.specs.Numbering.{number_in, numbers_in, code_of}
-use Rattle.scope.specs.Kinds.{Tells}
+use Rattle.scope.specs.Kinds.{Tells, Declared, declared_names, kind_in}
 use Rattle.scope.specs.Sorts.{IsSort, sort_by, is_constant_sort, is_variable_sort, is_label_sort, is_inactive_sort}
 use Rattle.scope.specs.declared.numbering.Kind.{Kind}
 use Rattle.scope.specs.declared.numbering.Kind.TheVariants.{Label, Constant, Variable}
 use Rattle.scope.specs.declared.legal.Sort.{Sort}
 use Rattle.scope.specs.declared.legal.Sort.TheVariants as sort
-use Rattle.scope.proofs.NamesLemmas.{has_name-append, same_name, name_eq-comm, number_in-same, active-was}
+use Rattle.scope.proofs.NamesLemmas.{has_name-append, same_name, name_eq-comm, number_in-same, active-was, kind-has}
 
 -- ---- what is active, as lists of names
 
@@ -202,3 +202,11 @@ inactive-sort S x k t =
 
 pub unknown-number : (names : List Name) (x : Name) → None ≡ code_of names x → has_name x names ≡ false
 unknown-number names x h = sym (lt-list_any (name_eq x) names) ∙ none_cond (nat_lt (number_in names x) (length names)) (number_in names x) (sym h)
+
+-- a name that is found has a kind, and so it is among the names
+pub some_second : {A B : Type 0} (r : Option (A × B)) → is_some r ≡ is_some (option_map (λ (p : A × B). p.1) r)
+some_second None = refl
+some_second (Some p) = refl
+
+pub found-has : (names : Declared) (x : Name) (r : Option (ℕ × Kind)) → option_map (λ (p : ℕ × Kind). p.1) r ≡ kind_in names x → is_some r ≡ has_name x (declared_names names)
+found-has names x r h = some_second r ∙ (ap is_some h ∙ kind-has names x)

@@ -8,11 +8,13 @@ use Rattle.mm_read.specs.Statements.{Database}
 use Rattle.scope.specs.Active.{active, stays_open, is_open, is_closed, variables, typed_by, active_variables, typed_variables}
 use Rattle.scope.specs.Numbering.{names_of, numbers_in, AreNamed}
 use Rattle.scope.specs.Kinds.{Declared, declared_names, TellsAll}
+use Rattle.scope.specs.Standing.{stands_at, IsStanding}
 use Rattle.scope.specs.declared.sizes.Sizes.{Sizes}
+use Rattle.scope.specs.declared.standing.Standing.{Standing}
 
 -- how high the stacks stand behind these active statements
 abbrev pub sizes_of : List (ℕ × Stmt) → Sizes
-sizes_of es = record { variables = length (flat_map (λ p. variables p.1) es); typed = length (flat_map (λ p. typed_by p.1) es) }
+sizes_of es = record { variables = length (flat_map (λ p. variables p.1) es); typed = length (flat_map (λ p. typed_by p.1) es); standing = length (flat_map (λ p. stands_at p.0 p.1) es) }
 
 -- how high they stood before each of the open blocks
 abbrev pub blocks_from : List (ℕ × Stmt) → List (ℕ × Stmt) → List Sizes
@@ -41,3 +43,7 @@ pub record IsKept (S M : Database) (names : Declared) (variable_stack typed_stac
   pub blocks_are : blocks ≡ blocks_of S
   pub never_below : stays_open 0 S ≡ true
   pub marked : IsMarked S M names mark marked_names
+
+pub record IsScope (S M : Database) (names : Declared) (variable_stack typed_stack : List ℕ) (standing : List Standing) (blocks : List Sizes) (mark : Sizes) (marked_names count marked_count : ℕ) : Type 0 where
+  pub kept : IsKept S M names variable_stack typed_stack blocks mark marked_names
+  pub stands : IsStanding S M standing count marked_count

@@ -3,6 +3,7 @@ pub mod Legal
 pub mod Accepted
 pub mod Numbering
 pub mod Kinds
+pub mod Standing
 pub mod Kept
 pub mod Sorts
 pub mod Laws

@@ -1,5 +1,5 @@
 //! What a legal statement does to the stacks.
-ghost use Rattle.std.specs.Prelude.{◌≡◌, ℕ, List, ◌++◌, ◌∷◌, [], ◌==◌, true, false, OnOk, OnErr};
+ghost use Rattle.std.specs.Prelude.{◌≡◌, ◌+◌, ◌<◌, ◌^◌, length, ℕ, List, ◌++◌, ◌∷◌, [], ◌==◌, true, false, OnOk, OnErr};
 ghost use Rattle.std.specs.List.{list_all, list_any};
 ghost use Rattle.mm_lex.specs.Alphabet.{has_name};
 ghost use Rattle.mm_read.specs.declared.stmt.Stmt.TheVariants as shape;
@@ -15,6 +15,7 @@ use crate::numbering::{Kind, Numbering};
 use crate::scope::Scope;
 use crate::sizes::Sizes;
 use crate::stack::Stack;
+use crate::standing::push_standing;
 use mm_lex::{Word, Words};
 use mm_read::Stmt;
 use std::alloc::{AllocError, Global};
@@ -22,7 +23,8 @@ use std::alloc::{AllocError, Global};
 impl Scope {
     /// Accepts a legal statement.
     pub(crate) fn accept(&mut self, stmt: &Stmt) -> Result<(), AllocError>
-        requires { IsLegal self.old.statements stmt.now }
+        requires legal { IsLegal self.old.statements stmt.now }
+        requires room { length self.old.statements + 1 < 2 ^ 64 }
         ensures ok { OnOk result (self.new.statements ≡ self.old.statements ++ bare stmt.now ∷ []) }
         ensures err { OnErr result (self.new.statements ≡ self.old.statements) }
         ensures marked { self.new.marked ≡ self.old.marked }
@@ -35,10 +37,7 @@ impl Scope {
             }
             Stmt::Const(symbols) => self.accept_constants(stmt, symbols),
             Stmt::Var(symbols) => self.accept_variables(stmt, symbols),
-            Stmt::Disj(_) => {
-                self.accept_disjoint(stmt);
-                Ok(())
-            }
+            Stmt::Disj(_) => self.accept_disjoint(stmt),
             Stmt::Float {
                 label,
                 variable,
@@ -51,7 +50,8 @@ impl Scope {
     }
 
     fn accept_open(&mut self, stmt: &Stmt) -> Result<(), AllocError>
-        requires { stmt.now ≡ shape.Open }
+        requires open { stmt.now ≡ shape.Open }
+        requires room { length self.old.statements + 1 < 2 ^ 64 }
         ensures ok { OnOk result (self.new.statements ≡ self.old.statements ++ bare stmt.now ∷ []) }
         ensures err { OnErr result (self.new.statements ≡ self.old.statements) }
         ensures marked { self.new.marked ≡ self.old.marked }
@@ -59,11 +59,13 @@ impl Scope {
         let sizes = self.sizes();
         self.blocks.push(sizes)?;
         self.accepted = History::after(&self.accepted, stmt);
+        self.count += 1;
         Ok(())
     }
 
     fn accept_close(&mut self, stmt: &Stmt)
         requires close { stmt.now ≡ shape.Close }
+        requires room { length self.old.statements + 1 < 2 ^ 64 }
         requires legal { IsLegal self.old.statements stmt.now }
         ensures ok { self.new.statements ≡ self.old.statements ++ bare stmt.now ∷ [] }
         ensures marked { self.new.marked ≡ self.old.marked }
@@ -72,7 +74,9 @@ impl Scope {
             Some(sizes) => {
                 self.variables.truncate(sizes.variables);
                 self.typed.truncate(sizes.typed);
+                self.standing.truncate(sizes.standing);
                 self.accepted = History::after(&self.accepted, stmt);
+                self.count += 1;
             }
             None => unreachable!(),
         }
@@ -80,6 +84,7 @@ impl Scope {
 
     fn accept_constants(&mut self, stmt: &Stmt, symbols: &Words) -> Result<(), AllocError>
         requires constants { stmt.now ≡ shape.Const symbols.now }
+        requires room { length self.old.statements + 1 < 2 ^ 64 }
         requires legal { IsLegal self.old.statements stmt.now }
         ensures ok { OnOk result (self.new.statements ≡ self.old.statements ++ bare stmt.now ∷ []) }
         ensures err { OnErr result (self.new.statements ≡ self.old.statements) }
@@ -87,11 +92,13 @@ impl Scope {
     {
         declare_all(&mut self.names, self.alloc, symbols, Kind::Constant)?;
         self.accepted = History::after(&self.accepted, stmt);
+        self.count += 1;
         Ok(())
     }
 
     fn accept_variables(&mut self, stmt: &Stmt, symbols: &Words) -> Result<(), AllocError>
         requires variables { stmt.now ≡ shape.Var symbols.now }
+        requires room { length self.old.statements + 1 < 2 ^ 64 }
         requires legal { IsLegal self.old.statements stmt.now }
         ensures ok { OnOk result (self.new.statements ≡ self.old.statements ++ bare stmt.now ∷ []) }
         ensures err { OnErr result (self.new.statements ≡ self.old.statements) }
@@ -99,44 +106,66 @@ impl Scope {
     {
         declare_and_push(&mut self.names, &mut self.variables, self.alloc, symbols)?;
         self.accepted = History::after(&self.accepted, stmt);
+        self.count += 1;
         Ok(())
     }
 
-    fn accept_disjoint(&mut self, stmt: &Stmt)
-        requires { (names : List (List ℕ)) × (stmt.now ≡ shape.Disj names) }
-        ensures ok { self.new.statements ≡ self.old.statements ++ bare stmt.now ∷ [] }
+    fn accept_disjoint(&mut self, stmt: &Stmt) -> Result<(), AllocError>
+        requires disjoint { (names : List (List ℕ)) × (stmt.now ≡ shape.Disj names) }
+        requires room { length self.old.statements + 1 < 2 ^ 64 }
+        ensures ok { OnOk result (self.new.statements ≡ self.old.statements ++ bare stmt.now ∷ []) }
+        ensures err { OnErr result (self.new.statements ≡ self.old.statements) }
         ensures marked { self.new.marked ≡ self.old.marked }
     {
+        push_standing(&mut self.standing, self.alloc, self.count + 1, stmt)?;
         self.accepted = History::after(&self.accepted, stmt);
+        self.count += 1;
+        Ok(())
     }
 
     fn accept_float(&mut self, stmt: &Stmt, label: &Word, variable: &Word) -> Result<(), AllocError>
         requires float { (constant : List ℕ) × (stmt.now ≡ shape.Float label.now constant variable.now) }
+        requires room { length self.old.statements + 1 < 2 ^ 64 }
         requires legal { IsLegal self.old.statements stmt.now }
         ensures ok { OnOk result (self.new.statements ≡ self.old.statements ++ bare stmt.now ∷ []) }
         ensures err { OnErr result (self.new.statements ≡ self.old.statements) }
         ensures marked { self.new.marked ≡ self.old.marked }
     {
-        label_and_push(
+        let standing = self.standing.len();
+        push_standing(&mut self.standing, self.alloc, self.count + 1, stmt)?;
+        let labelled = label_and_push(
             &mut self.names,
             &mut self.typed,
             self.alloc,
             label.as_bytes(),
             variable.as_bytes(),
-        )?;
+        );
+        if labelled.is_err() {
+            self.standing.truncate(standing);
+            return labelled;
+        }
         self.accepted = History::after(&self.accepted, stmt);
+        self.count += 1;
         Ok(())
     }
 
     fn accept_labelled(&mut self, stmt: &Stmt, label: &Word) -> Result<(), AllocError>
         requires labelled { IsLabelled stmt.now label.now }
+        requires room { length self.old.statements + 1 < 2 ^ 64 }
         requires legal { IsLegal self.old.statements stmt.now }
         ensures ok { OnOk result (self.new.statements ≡ self.old.statements ++ bare stmt.now ∷ []) }
         ensures err { OnErr result (self.new.statements ≡ self.old.statements) }
         ensures marked { self.new.marked ≡ self.old.marked }
     {
-        declare_one(&mut self.names, self.alloc, label.as_bytes(), Kind::Label)?;
+        let standing = self.standing.len();
+        push_standing(&mut self.standing, self.alloc, self.count + 1, stmt)?;
+        let labelled = declare_one(&mut self.names, self.alloc, label.as_bytes(), Kind::Label);
+        if labelled.is_err() {
+            self.standing.truncate(standing);
+            return labelled;
+        }
         self.accepted = History::after(&self.accepted, stmt);
+        self.count += 1;
         Ok(())
     }
 
@@ -147,6 +176,7 @@ impl Scope {
         Sizes {
             variables: self.variables.len(),
             typed: self.typed.len(),
+            standing: self.standing.len(),
         }
     }
 }

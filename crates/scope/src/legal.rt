@@ -1,5 +1,5 @@
 //! The rules of a statement, each as a test.
-ghost use Rattle.std.specs.Prelude.{◌≡◌, ◌==◌, Bool, true, false, not, ◌&&◌, ◌||◌, nat_lt, take, Some, None, if◌then◌else◌};
+ghost use Rattle.std.specs.Prelude.{◌≡◌, ◌==◌, Bool, true, false, not, ◌&&◌, ◌||◌, nat_lt, take, Some, None, IfOk, if◌then◌else◌};
 ghost use Rattle.std.specs.List.{list_all, list_any};
 ghost use Rattle.mm_lex.specs.Alphabet.{has_name};
 ghost use Rattle.mm_read.specs.declared.stmt.Stmt.TheVariants as stmt;
@@ -8,11 +8,12 @@ ghost use Rattle.scope.specs.Legal.{all_different, are_typed, starts_with_consta
 ghost use Rattle.scope.specs.Sorts.{IsSort, sort_by, sorts_rule};
 ghost use Rattle.scope.specs.Numbering.{names_of, numbers_in};
 
-use crate::numbering::Kind;
+use crate::numbering::{Kind, Numbering};
 use crate::rule::Rule;
 use crate::scope::Scope;
 use mm_lex::{Word, Words};
 use mm_read::Stmt;
+use std::alloc::{AllocError, Global};
 
 /// What a name is: a constant, an active variable with or without an active `$f`, a label, or
 /// none of these.
@@ -65,7 +66,7 @@ impl Scope {
         if !self.are_fresh(symbols) {
             return Some(Rule::G2);
         }
-        if !are_different(symbols) {
+        if !are_different(self.alloc, symbols) {
             return Some(Rule::G2);
         }
         None
@@ -77,7 +78,7 @@ impl Scope {
         if !self.are_inactive(symbols) {
             return Some(Rule::G3);
         }
-        if !are_different(symbols) {
+        if !are_different(self.alloc, symbols) {
             return Some(Rule::G3);
         }
         None
@@ -86,7 +87,7 @@ impl Scope {
     fn broken_by_disjoint(&self, symbols: &Words) -> Option<Rule>
         ensures { result ≡ broken_rule self.now.statements (stmt.Disj symbols.now) }
     {
-        if !are_different(symbols) {
+        if !are_different(self.alloc, symbols) {
             return Some(Rule::G8);
         }
         if !self.are_active(symbols) {
@@ -215,13 +216,6 @@ impl Scope {
     {
         matches!(self.sort(name), Sort::Inactive)
     }
-
-    /// Whether an active `$v` has it.
-    pub(crate) fn is_variable(&self, name: &[u8]) -> bool
-        ensures { result ≡ is_variable self.now.statements name.now }
-    {
-        matches!(self.sort(name), Sort::Typed | Sort::Untyped)
-    }
 }
 
 /// What the two symbols of a `$f` break, by what they are.
@@ -243,8 +237,31 @@ fn broken_by_sorts(constant: Sort, variable: Sort) -> Option<Rule>
     None
 }
 
-/// Whether no word stands twice in the list.
-fn are_different(words: &Words) -> bool
+/// Whether no word stands twice in the list. Cost: the size of the list, where memory can be had.
+fn are_different(alloc: Global, words: &Words) -> bool
+    ensures { result ≡ all_different words.now }
+{
+    match differ_by_table(alloc, words) {
+        Ok(differ) => differ,
+        Err(AllocError) => differ_pair_by_pair(words),
+    }
+}
+
+fn differ_by_table(alloc: Global, words: &Words) -> Result<bool, AllocError>
+    ensures { IfOk result (λ differ. differ ≡ all_different words.now) }
+{
+    let mut seen = Numbering::new(alloc);
+    for word in words.iter() {
+        if seen.find(word).is_some() {
+            return Ok(false);
+        }
+        seen.declare(alloc, word, Kind::Variable)?;
+    }
+    Ok(true)
+}
+
+/// The same without memory; the cost is the square of the count of words.
+fn differ_pair_by_pair(words: &Words) -> bool
     ensures { result ≡ all_different words.now }
 {
     if words.len() < 2 {

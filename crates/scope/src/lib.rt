@@ -10,10 +10,12 @@ mod history;
 mod laws;
 mod legal;
 mod numbering;
+mod reading;
 mod rule;
 mod scope;
 mod sizes;
 mod stack;
+mod standing;
 mod steps;
 #[cfg(test)]
 mod tests;
@@ -22,4 +24,5 @@ pub use history::History;
 pub use laws::{active_by_sentence, active_closed, active_later, active_more, rules_ignore_proofs};
 pub use rule::Rule;
 pub use scope::Scope;
+pub use standing::Standing;
 pub use steps::Steps;

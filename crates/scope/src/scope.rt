@@ -9,6 +9,7 @@ use crate::numbering::Numbering;
 use crate::rule::Rule;
 use crate::sizes::Sizes;
 use crate::stack::Stack;
+use crate::standing::{Standing, copy_standing};
 use crate::steps::Steps;
 use mm_read::Stmt;
 use std::alloc::{AllocError, Global};
@@ -22,21 +23,24 @@ pub struct Scope {
     pub(crate) names: Numbering,
     pub(crate) variables: Stack,
     pub(crate) typed: Stack,
+    pub(crate) standing: Vec<Standing>,
+    pub(crate) count: usize,
     pub(crate) blocks: Vec<Sizes>,
     pub(crate) mark: Sizes,
     pub(crate) marked_names: usize,
+    pub(crate) marked_count: usize,
     pub(crate) alloc: Global,
 }
 
 impl Model for Scope {
     ghost use Rattle.scope.specs.Accepted.{Accepted};
-    ghost use Rattle.scope.specs.Kept.{IsKept};
+    ghost use Rattle.scope.specs.Kept.{IsScope};
 
     ghost Value = { Accepted };
 
     ghost view = { λ a. record { statements = a.accepted.statements; marked = a.marked.statements } };
 
-    ghost invariant = { λ a. IsKept a.accepted.statements a.marked.statements a.names a.variables a.typed a.blocks.items a.mark a.marked_names };
+    ghost invariant = { λ a. IsScope a.accepted.statements a.marked.statements a.names a.variables a.typed a.standing.items a.blocks.items a.mark a.marked_names a.count a.marked_count };
 }
 
 impl Scope {
@@ -51,12 +55,16 @@ impl Scope {
             names: Numbering::new(alloc),
             variables: Stack::new(alloc),
             typed: Stack::new(alloc),
+            standing: Vec::new(alloc),
+            count: 0,
             blocks: Vec::new(alloc),
             mark: Sizes {
                 variables: 0,
                 typed: 0,
+                standing: 0,
             },
             marked_names: 0,
+            marked_count: 0,
             alloc,
         }
     }
@@ -81,6 +89,9 @@ impl Scope {
         steps.tick();
         if let Some(rule) = self.broken(stmt) {
             return Err(rule);
+        }
+        if self.count == usize::MAX {
+            return Err(Rule::Memory);
         }
         match self.accept(stmt) {
             Ok(()) => Ok(()),
@@ -109,6 +120,7 @@ impl Scope {
     {
         self.mark = self.sizes();
         self.marked_names = self.names.len();
+        self.marked_count = self.count;
         self.marked = History::same(&self.accepted);
     }
 
@@ -120,6 +132,8 @@ impl Scope {
         self.names.truncate(self.marked_names);
         self.variables.truncate(self.mark.variables);
         self.typed.truncate(self.mark.typed);
+        self.standing.truncate(self.mark.standing);
+        self.count = self.marked_count;
         self.blocks.clear();
         self.accepted = History::same(&self.marked);
     }
@@ -134,9 +148,12 @@ impl Scope {
             names: self.names.copy(self.alloc)?,
             variables: self.variables.copy(self.alloc)?,
             typed: self.typed.copy(self.alloc)?,
+            standing: copy_standing(self.alloc, self.standing.as_slice())?,
+            count: self.count,
             blocks: Vec::from_slice(self.alloc, self.blocks.as_slice())?,
             mark: self.mark,
             marked_names: self.marked_names,
+            marked_count: self.marked_count,
             alloc: self.alloc,
         })
     }

@@ -1,8 +1,10 @@
 //! How high the stacks of a scope stand.
 
-/// How many active variables there are, and how many of them have an active `$f`.
+/// How many active variables there are, and how many of them have an active `$f`, and how many
+/// `$f`, `$e` and `$d` are active.
 #[derive(Clone, Copy, Debug, Drop, PartialEq, Eq)]
 pub struct Sizes {
     pub variables: usize,
     pub typed: usize,
+    pub standing: usize,
 }

@@ -87,6 +87,26 @@ fn answers_each_rule(rt: HostRuntime) {
     }
 }
 
+#[test]
+fn tells_what_stands(rt: HostRuntime) {
+    let mut scope = Scope::new(rt.alloc());
+    let text =
+        b"$c wff |- $. $v x y $. wx $f wff x $. ${ $d x y $. h $e |- x $. a $a |- x $.".as_slice();
+    assert!(rt; add_all(&mut scope, rt.alloc(), text) == None);
+    assert!(rt; scope.len() == 7);
+    assert!(rt; scope.standing().len() == 3);
+    for (entry, want) in scope.standing().iter().zip([3usize, 5, 6].iter()) {
+        assert!(rt; entry.at == *want);
+    }
+    assert!(rt; scope.number(b"y") == Some(3));
+    assert!(rt; scope.number(b"a") == Some(6));
+    assert!(rt; scope.number(b"z") == None);
+    assert!(rt; scope.is_constant(b"wff") && !scope.is_constant(b"x"));
+    assert!(rt; scope.is_variable(b"x") && !scope.is_variable(b"wff"));
+    assert!(rt; add_all(&mut scope, rt.alloc(), b"$}") == None);
+    assert!(rt; scope.standing().len() == 1);
+}
+
 fn add_all(scope: &mut Scope, alloc: Global, text: &[u8]) -> Option<Rule> {
     match read(alloc, text) {
         Ok(statements) => {

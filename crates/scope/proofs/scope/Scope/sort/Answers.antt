@@ -16,15 +16,15 @@ pub returns-in-Some-default-Constant : goal.returns-in-Some-default-Constant
 returns-in-Some-default-Constant c =
     let S = c.self.inside.accepted.statements in let x = c.args.name.now in let s = c.in-Some-default-Constant in
     let kind : kind_in c.self.inside.names x ≡ Some Constant = sym s.ensures.kind ∙ ap Some s.field-0-1-is in
-    let t : Tells S x (Some Constant) = subst (λ (k : Option Kind). Tells S x k) kind (c.self.invariant.told x) in
+    let t : Tells S x (Some Constant) = subst (λ (k : Option Kind). Tells S x k) kind (c.self.invariant.kept.told x) in
     subst (λ (v : Accepted). IsSort v.statements x sort.Constant) c.self.view_is (constant-sort S x t)
 
 pub returns-in-Some-default-Variable : goal.returns-in-Some-default-Variable
 returns-in-Some-default-Variable c =
     let S = c.self.inside.accepted.statements in let x = c.args.name.now in let s = c.in-Some-default-Variable in
     let kind : kind_in c.self.inside.names x ≡ Some Variable = sym s.ensures.kind ∙ ap Some s.field-0-1-is in
-    let t : Tells S x (Some Variable) = subst (λ (k : Option Kind). Tells S x k) kind (c.self.invariant.told x) in
-    let found = found-number (names_of S) x s.number (s.ensures.number ∙ ap (λ names. code_of names x) c.self.invariant.named) in
+    let t : Tells S x (Some Variable) = subst (λ (k : Option Kind). Tells S x k) kind (c.self.invariant.kept.told x) in
+    let found = found-number (names_of S) x s.number (s.ensures.number ∙ ap (λ names. code_of names x) c.self.invariant.kept.named) in
     let active : list_any (λ n. n == s.number) (numbers_in (names_of S) (active_variables S)) ≡ is_variable S x =
     ap (λ k. list_any (λ n. n == k) (numbers_in (names_of S) (active_variables S))) (sym found.1) ∙ (numbers-has (names_of S) x (active_variables S) found.0 ∙ sym (is_variable-active S x)) in
     let typed : list_any (λ n. n == s.number) (numbers_in (names_of S) (typed_variables S)) ≡ has_float S x =
@@ -39,11 +39,11 @@ pub returns-in-Some-default-Label : goal.returns-in-Some-default-Label
 returns-in-Some-default-Label c =
     let S = c.self.inside.accepted.statements in let x = c.args.name.now in let s = c.in-Some-default-Label in
     let kind : kind_in c.self.inside.names x ≡ Some Label = sym s.ensures.kind ∙ ap Some s.field-0-1-is in
-    let t : Tells S x (Some Label) = subst (λ (k : Option Kind). Tells S x k) kind (c.self.invariant.told x) in
+    let t : Tells S x (Some Label) = subst (λ (k : Option Kind). Tells S x k) kind (c.self.invariant.kept.told x) in
     subst (λ (v : Accepted). IsSort v.statements x sort.Label) c.self.view_is (label-sort S x t)
 
 pub returns-in-None : goal.returns-in-None
 returns-in-None c =
     let S = c.self.inside.accepted.statements in let x = c.args.name.now in
-    let t : Tells S x None = subst (λ (k : Option Kind). Tells S x k) (sym c.in-None.ensures.kind) (c.self.invariant.told x) in
+    let t : Tells S x None = subst (λ (k : Option Kind). Tells S x k) (sym c.in-None.ensures.kind) (c.self.invariant.kept.told x) in
     subst (λ (v : Accepted). IsSort v.statements x sort.Inactive) c.self.view_is (no-sort S x t)

@@ -2,7 +2,7 @@ use Rattle.std.proofs.Common.{◌≡◌, ◌∙◌, ap, sym, arith, false, not, 
 use Rattle.mm_lex.specs.Alphabet.{has_name}
 use Rattle.scope.specs.Legal.{all_different}
 use Rattle.scope.proofs.SortsLemmas.{short_differ, first-length, first-more, all_different-append, all_different-front}
-use Rattle.scope.proofs.legal.are_different.Goals as goal
+use Rattle.scope.proofs.legal.differ_pair_by_pair.Goals as goal
 
 pub returns-then-len-lt2 : goal.returns-then-len-lt2
 returns-then-len-lt2 c = sym (short_differ c.args.words.now (omega arith))

@@ -1,6 +1,6 @@
 use Rattle.std.proofs.Common.{◌+◌, ◌<◌, ◌≡◌, true, take, ◌++◌, length, ◌^◌}
 use Rattle.scope.specs.Legal.{all_different}
-use Rattle.scope.proofs.legal.are_different.Given as goal
+use Rattle.scope.proofs.legal.differ_pair_by_pair.Given as goal
 
 abbrev pub invariant-loop-i : goal.invariant-loop-i
 invariant-loop-i l = record {

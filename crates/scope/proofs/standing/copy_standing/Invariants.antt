@@ -1,0 +1,7 @@
+use Rattle.std.proofs.Common.{◌≡◌, take}
+use Rattle.std.specs.List.{flat_map}
+use Rattle.scope.specs.Standing.{stands_at}
+use Rattle.scope.proofs.standing.copy_standing.Given as goal
+
+abbrev pub invariant-loop-entry : goal.invariant-loop-entry
+invariant-loop-entry l = l.copied.items ≡ flat_map (λ e. stands_at e.at e.stmt) (take l.entry-index l.standing)
