@@ -1,11 +1,16 @@
 -- Labels whose kinds are marked.
-use Rattle.std.specs.Prelude.{◌≡◌, ℕ, zero, suc, ◌<◌, Bool, true, false, ◌&&◌, List, [], ◌∷◌, ◌++◌, length, slice_index_or, slice_set, refl}
+use Rattle.std.specs.Prelude.{◌≡◌, ℕ, zero, suc, ◌<◌, Bool, true, false, ◌||◌, ◌&&◌, List, [], ◌∷◌, ◌++◌, length, slice_index_or, slice_set, bytes_eq, cond, refl, Result, Ok, Err, OnOk, is_err}
+use Rattle.std.specs.List.{list_any}
 use Rattle.std.proofs.Common.{sym, ◌∙◌, ap, arith, true≢false, append_assoc}
 use Rattle.std.proofs.lemmas.List.{append-nil}
-use Rattle.std.proofs.lemmas.List.Folds.{list_all-append}
+use Rattle.std.proofs.lemmas.List.Folds.{list_all-append, list_any-append}
 use Rattle.std.proofs.lemmas.Slice.Eq.{bytes_eq-Decides}
+use Rattle.std.specs.HashSet.{HashSet, contains}
+use Rattle.std.specs.declared.hash.FoldHasher.{FoldHasher}
+use Rattle.std.specs.declared.hash.BuildHasherDefault.{BuildHasherDefault}
+use Rattle.std.specs.Borrow.{Bor}
 use Rattle.mm_lex.specs.Alphabet.{Name, name_eq, has_name}
-use Rattle.proof_code.specs.Kinds.{kind_of, are_marked}
+use Rattle.proof_code.specs.Kinds.{kind_of, are_marked, AreNames}
 use Rattle.proof_code.proofs.LettersLemmas.{and_parts}
 
 -- a label of a kind that is not marked is none of these
@@ -56,3 +61,44 @@ marked_more labels left rest label k kinds m first is within = record {
 
 pub marked_all : (labels left : List Name) (kinds : List Bool) → AreMarkedTo labels left kinds → left ≡ [] → are_marked kinds labels ≡ true
 marked_all labels left kinds m none = ap (are_marked kinds) (m.whole ∙ (ap (λ ws. m.done ++ ws) none ∙ append-nil m.done)) ∙ m.marked
+
+-- ---- the set of the names
+
+pub record NamesTo (labels left : List Name) (names : HashSet (Bor Name) (BuildHasherDefault FoldHasher)) : Type 0 where
+  pub done : List Name
+  pub whole : labels ≡ done ++ left
+  pub named : AreNames names done
+
+bytes_eq-sym : (a b : Name) → bytes_eq a b ≡ bytes_eq b a
+bytes_eq-sym a b = by (bytes_eq a b) refl (bytes_eq b a) refl
+  where
+    by : (s : Bool) → bytes_eq a b ≡ s → (t : Bool) → bytes_eq b a ≡ t → s ≡ t
+    by true e true f = refl
+    by true e false f = absurd (true≢false (sym ((bytes_eq-Decides b a).1 (sym ((bytes_eq-Decides a b).0 e))) ∙ f))
+    by false e true f = absurd (true≢false (sym ((bytes_eq-Decides a b).1 (sym ((bytes_eq-Decides b a).0 f))) ∙ e))
+    by false e false f = refl
+
+pub names_none : (labels left : List Name) (names : HashSet (Bor Name) (BuildHasherDefault FoldHasher)) → left ≡ labels → names.keys ≡ [] → NamesTo labels left names
+names_none labels left names e empty = record { done = []; whole = sym e; named = λ label. ap (list_any (λ key. bytes_eq label.now key.now)) empty }
+
+pub names_more : (labels left rest : List Name) (label : Bor Name) (old new : HashSet (Bor Name) (BuildHasherDefault FoldHasher)) → NamesTo labels left old → left ≡ label.now ∷ rest
+    → ((q : Bor Name) → contains (λ a b. bytes_eq a.now b.now) new q ≡ cond (bytes_eq label.now q.now) true (contains (λ a b. bytes_eq a.now b.now) old q)) → NamesTo labels rest new
+names_more labels left rest label old new m first updates = record {
+  done = m.done ++ label.now ∷ [];
+  whole = m.whole ∙ (ap (λ ws. m.done ++ ws) first ∙ sym (append_assoc m.done (label.now ∷ []) rest));
+  named = λ q. updates q ∙ (ap (λ t. cond (bytes_eq label.now q.now) true t) (m.named q) ∙ (ap (λ t. cond t true (has_name q.now m.done)) (bytes_eq-sym label.now q.now)
+      ∙ (turn (bytes_eq q.now label.now) (has_name q.now m.done) ∙ sym (list_any-append (name_eq q.now) m.done (label.now ∷ [])))));
+}
+  where
+    turn : (a b : Bool) → cond a true b ≡ (b || (a || false))
+    turn true true = refl
+    turn true false = refl
+    turn false true = refl
+    turn false false = refl
+
+pub names_all : (labels left : List Name) (names : HashSet (Bor Name) (BuildHasherDefault FoldHasher)) → NamesTo labels left names → left ≡ [] → AreNames names labels
+names_all labels left names m none label = m.named label ∙ ap (has_name label.now) (sym (m.whole ∙ (ap (λ ws. m.done ++ ws) none ∙ append-nil m.done)))
+
+pub on_ok : {A E : Type 0} (r : Result A E) (P : Type 0) → OnOk r P → false ≡ is_err r → P
+on_ok (Ok x) P h e = h
+on_ok (Err x) P h e = cc

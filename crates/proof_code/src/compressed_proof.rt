@@ -23,8 +23,8 @@ pub fn is_compressed(tokens: &Words) -> bool
 /// The items of a compressed proof, where `mandatory` are the labels of the mandatory hypotheses in frame order.
 ///
 /// Errors: `Unfinished` where a token has the byte `?`, else `Malformed` where the tokens write no items, both also
-/// where every growth is refused. Cost: the sizes of the tokens and of the mandatory labels, and for each listed label
-/// a search among the mandatory ones. Source: Metamath, appendix B.
+/// where every growth is refused. Cost: the sizes of the tokens and of the mandatory labels (where there is no memory
+/// to hash many mandatory labels, each listed label is looked for among them). Source: Metamath, appendix B.
 pub fn packed(alloc: Global, tokens: &Words, mandatory: &Words) -> Result<Items, CodeFault>
     requires { IsTrue (is_compressed tokens.now) }
     ensures items { IfOk result (λ items. WritesPacked tokens.now mandatory.now items) }
@@ -49,7 +49,7 @@ fn read_compressed(
 {
     let mut words = tokens.iter();
     let _ = words.next();
-    let listed = read_listed(&mut words, mandatory)?;
+    let listed = read_listed(alloc, &mut words, mandatory)?;
     let letters = words.as_text();
     if starts_with_mark(letters) {
         return None;

@@ -18,14 +18,18 @@ pub(crate) struct Listed<'a> {
 
 /// Reads the listed labels, up to and with `)`; `None` where `)` is missing, or where a token before it is no label
 /// or is a mandatory one.
-pub(crate) fn read_listed<'a>(words: &mut WordIter<'a>, mandatory: &Words) -> Option<Listed<'a>>
+pub(crate) fn read_listed<'a>(
+    alloc: Global,
+    words: &mut WordIter<'a>,
+    mandatory: &Words,
+) -> Option<Listed<'a>>
     requires { AreWords words.old }
     ensures none { IfNone result (header_of mandatory.now words.old ≡ None) }
     ensures few { IfSome result (λ listed. listed.count + length (spaced words.new) < 2 ^ 63) }
     ensures header { IfSome result (λ listed. IsSomeAnd (header_of mandatory.now words.old)
         (λ header. (header.rest ≡ words.new) × (length header.listed ≡ listed.count) × (spaced header.listed ≡ listed.text.now))) }
 {
-    let known = Mandatory::new(mandatory);
+    let known = Mandatory::new(alloc, mandatory);
     let text = words.as_text();
     let mut end = 0usize;
     let mut count = 0;

@@ -47,9 +47,12 @@ fn read(alloc: Global, tokens: &Words, mandatory: &Words) -> Result<Items, CodeF
 
 /// The labels h1 to h130.
 fn hypotheses(alloc: Global) -> Result<Words, AllocError> {
-    let mut words = Words::new(alloc);
+    let mut words = Words::with_capacity(alloc, 512)?;
+    let mut label = String::new(alloc);
     for number in 1..=130 {
-        push(&mut words, format!(in alloc; "h{number}")?.as_bytes())?;
+        label.clear();
+        write!(label, "h{number}")?;
+        push(&mut words, label.as_bytes())?;
     }
     Ok(words)
 }
