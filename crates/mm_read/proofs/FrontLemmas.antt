@@ -10,7 +10,7 @@ use Rattle.mm_lex.specs.Tokens.{words}
 use Rattle.mm_read.specs.Front.{AreLeadingSymbols, HasList, EndsNoList, StopsList, IsFront, first, second}
 use Rattle.mm_read.specs.declared.stmt.Stmt.{Stmt}
 use Rattle.mm_read.specs.declared.stmt.Stmt.TheVariants.{Prove}
-use Rattle.mm_read.specs.Statements.{stmt_tokens, is_shaped, are_symbols}
+use Rattle.mm_read.specs.Statements.{stmt_tokens, is_shaped}
 use Rattle.mm_read.proofs.StatementsLemmas.{append_middle, are_symbols_of, not_true, not_false}
 
 same_head : {A : Type 0} (x y : A) (xs ys : List A) → x ∷ xs ≡ y ∷ ys → x ≡ y
@@ -158,24 +158,12 @@ ends_with_list tokens done from least end ws next s within whole list is shaped 
   written = with_list tokens done from least end ws next whole list ∙ ap (λ r. r ++ drop next tokens) (sym is);
 }
 
--- `$c`, `$v`, `$d`
-pub key_list : (tokens : List Name) (k : Name) (least : ℕ) (ws : List Name) (next : ℕ) (make : List Name → Stmt) → 0 < length tokens → first tokens ≡ k
-    → HasList tokens 1 least (codes "$.") ws next → stmt_tokens (make ws) ≡ k ∷ (ws ++ codes "$." ∷ []) → is_shaped (make ws) ≡ true → IsFront tokens (make ws) next
-key_list tokens k least ws next make some key list is shaped =
-    ends_with_list tokens (k ∷ []) 1 least (codes "$.") ws next (make ws) (omega (arith, some)) (one_token tokens some ∙ ap (λ t. t ∷ drop 1 tokens) key) list is shaped
-
 module _ (tokens : List Name) (label : Name) (two : 1 < length tokens) (is_first : label ≡ first tokens) (shaped : is_label (first tokens) ≡ true) where
   label_shaped : is_label label ≡ true
   label_shaped = ap is_label is_first ∙ shaped
 
   before_list : (k : Name) → second tokens ≡ k → tokens ≡ (label ∷ k ∷ []) ++ drop 2 tokens
   before_list k key = two_tokens tokens two ∙ (ap (λ t. t ∷ second tokens ∷ drop 2 tokens) (sym is_first) ∙ ap (λ t. label ∷ t ∷ drop 2 tokens) key)
-
-  -- `$e`, `$a`
-  pub labelled_list : (k : Name) (ws : List Name) (next : ℕ) (make : List Name → Stmt) → second tokens ≡ k → HasList tokens 2 1 (codes "$.") ws next
-      → stmt_tokens (make ws) ≡ label ∷ k ∷ (ws ++ codes "$." ∷ []) → (is_label label ≡ true → are_symbols ws ≡ true → is_shaped (make ws) ≡ true) → IsFront tokens (make ws) next
-  labelled_list k ws next make key list is shape =
-      ends_with_list tokens (label ∷ k ∷ []) 2 1 (codes "$.") ws next (make ws) (omega (arith, two)) (before_list k key) list is (shape label_shaped (are_symbols_of ws list.symbols list.many))
 
   -- `$p`
   pub provable_front : (expr proof : List Name) (after next : ℕ) → second tokens ≡ codes "$p" → HasList tokens 2 1 (codes "$=") expr after → HasList tokens after 0 (codes "$.") proof next

@@ -9,7 +9,8 @@ use Rattle.mm_lex.specs.Alphabet.{Name}
 use Rattle.mm_read.specs.Statements.{Database, AreShaped, is_shaped, spelled}
 use Rattle.mm_read.specs.Reads.{CanGoOn, IsShapeFault}
 use Rattle.mm_read.specs.Laws as laws
-use Rattle.mm_read.proofs.Places.{Place, between, labelled, listing, floating, proving, step, go, go-append, go_back, can_go_on, go-spelled}
+use Rattle.mm_read.proofs.Places.{Place, between, labelled, listing, floating, proving, step, go, go-append, go_back, can_go_on}
+use Rattle.mm_read.proofs.PlacesOver.{go-spelled}
 
 pub append-nil : {A : Type 0} (xs : List A) → xs ++ [] ≡ xs
 append-nil [] = refl

@@ -1,5 +1,5 @@
 //! The parts of a statement at the front of the tokens.
-ghost use Rattle.std.specs.Prelude.{◌≡◌, ◌≤◌, ◌<◌, ◌+◌, IsTrue, IfOk, IfErr, All, length, codes, drop};
+ghost use Rattle.std.specs.Prelude.{◌≡◌, ◌≤◌, IfOk, IfErr, All, length};
 ghost use Rattle.mm_lex.specs.Tokens.{IsWordAt, words};
 ghost use Rattle.mm_read.specs.Front.{AreLeadingSymbols, HasList, IsListFault};
 

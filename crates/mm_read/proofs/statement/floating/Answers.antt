@@ -1,6 +1,6 @@
 use Rattle.std.proofs.Common.{◌∙◌, ap, not}
 use Rattle.mm_lex.specs.Alphabet.{name_eq}
-use Rattle.mm_read.proofs.FrontFaults.{float_short, float_at_end, float_otherwise, float_stands}
+use Rattle.mm_read.proofs.FloatFront.{float_short, float_at_end, float_otherwise, float_stands}
 use Rattle.mm_read.proofs.statement.floating.Goals as goal
 use Rattle.mm_read.proofs.statement.floating.Goals.{then-count-lt2-via-then-count-lt2, then-count-lt2-via-else-count-lt2+then-next-spans, then-count-lt2-via-else-count-lt2+else-next-spans+then-ne}
 
