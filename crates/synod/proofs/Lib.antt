@@ -16,3 +16,4 @@ pub mod PagesWithLemmas
 pub mod GatherLemmas
 pub mod HeightsLemmas
 pub mod LeadLemmas
+pub mod Rows
