@@ -74,7 +74,7 @@ passed-before list p i h l e =
 
 -- ---- the last `$f` of a symbol
 
-last-is : (test : Entry → Bool) (found at : ℕ) (es : List Entry) (p : ℕ) → 1 ≤ at → last_from test found at es ≡ p
+pub last-is : (test : Entry → Bool) (found at : ℕ) (es : List Entry) (p : ℕ) → 1 ≤ at → last_from test found at es ≡ p
     → (p ≡ found) ⊎ ((i : ℕ) × (e : Entry) × (slice_get es i ≡ Some e) × (test e ≡ true) × (p ≡ at + i))
 last-is test found at [] p one h = inl (sym h)
 last-is test found at (e ∷ es) p one h = by (last-is test (cond (test e) at found) (at + 1) es p (omega arith) h)

@@ -7,10 +7,16 @@ pub mod DeclareLemmas
 pub mod EnterLemmas
 pub mod StoredLemmas
 pub mod CollectLemmas
+pub mod PairsLemmas
+pub mod MakeLemmas
+pub mod AssertionLemmas
+pub mod CitedLemmas
 pub mod WalkLemmas
 pub mod TemplatesLemmas
 pub mod Translate
 pub mod ByPlacesLemmas
 pub mod LegalLabels
 pub mod PlacesLemmas
+pub mod KeptLemmas
+pub mod CollectedLemmas
 mod Rows

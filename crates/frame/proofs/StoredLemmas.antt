@@ -25,15 +25,18 @@ use Rattle.frame.specs.declared.storage.Symbol.{Symbol}
 use Rattle.frame.specs.declared.storage.Stock.{Stock}
 use Rattle.frame.specs.Parts.{Numbered}
 use Rattle.frame.specs.Links.{links_of}
-use Rattle.frame.specs.Stored.{stmt_by, stmt_of, labels_of, positions_from, option_list, option_position, AreAllLegal, IsLabelBelow, HasTwo, AreNumbered, AreKept, Extends, AreZero, AreZeroBehind, zero_symbol, symbol_of, with_entry, floats, declares, second_is, is_float_kind, is_var_kind, last_from, IsFresh, AreStored, IsBehind, statements_of, numbered}
+use Rattle.frame.specs.Stored.{stmt_by, stmt_of, labels_of, positions_from, option_list, option_position, AreAllLegal, IsLabelBelow, HasTwo, AreNumbered, AreKept, Extends, AreZero, AreZeroBehind, zero_symbol, symbol_of, with_entry, floats, declares, second_is, is_float_kind, is_var_kind, last_from, IsFresh, is_assertion_kind, IsKept, AreStored, IsBehind, statements_of, numbered}
 use Rattle.frame.proofs.NumberLemmas.{decode-extends, name_at-extends, below-extends, below-more, extends-length, take-extends}
 use Rattle.frame.proofs.DeclareLemmas.{symbol_of-push}
 use Rattle.frame.proofs.OpenLemmas.{stays_open-push, stays_open-close}
 use Rattle.frame.proofs.LegalLabels.{fresh}
+use Rattle.frame.proofs.AssertionLemmas.{get-entry, kept-more}
+use Rattle.frame.specs.declared.storage.Assertion.{Assertion}
+use Rattle.std.specs.Global.{Box}
 
 -- ---- what was entered stands for what it stood for
 
-stmt-more : (names names' labels labels' : List Name) (e : Entry) → Extends names names' → Extends labels labels' → AreBelow (length names) e.symbols.items → IsLabelBelow e.kind e.label (length labels)
+pub stmt-more : (names names' labels labels' : List Name) (e : Entry) → Extends names names' → Extends labels labels' → AreBelow (length names) e.symbols.items → IsLabelBelow e.kind e.label (length labels)
     → stmt_of names' labels' e ≡ stmt_of names labels e
 stmt-more names names' labels labels' e p q below label =
     ap (stmt_by e.kind (name_at labels' e.label)) (decode-extends names names' e.symbols.items p below) ∙ by e.kind label
@@ -208,6 +211,23 @@ get-front [] more c x h = cc
 get-front (y ∷ old) more zero x h = h
 get-front (y ∷ old) more (suc c) x h = get-front old more c x h
 
+get-less : (i : ℕ) (S : Database) (k : ℕ) (s : Stmt) → slice_get (take i S) k ≡ Some s → slice_get S k ≡ Some s
+get-less zero [] k s g = g
+get-less zero (t ∷ S) k s g = cc
+get-less (suc i) [] k s g = g
+get-less (suc i) (t ∷ S) zero s g = g
+get-less (suc i) (t ∷ S) (suc k) s g = get-less i S k s g
+
+label-at : (n m : ℕ) (es : List Entry) → AreNumbered n m es → (k : ℕ) (e : Entry) → slice_get es k ≡ Some e → IsLabelBelow e.kind e.label m
+label-at n m [] h k e g = cc
+label-at n m (d ∷ es) h zero e g = let same : d ≡ e = cc in subst (λ x. IsLabelBelow x.kind x.label m) same h.1
+label-at n m (d ∷ es) h (suc k) e g = label-at n m es h.2 k e g
+
+is-kept-more : (names labels : List Name) (es more : List Entry) (S : Database) (s : Stmt) (e : Entry) (o : Option (Box Assertion)) → ((k : ℕ) (t : Stmt) → slice_get S k ≡ Some t → (x : Entry) × (slice_get es k ≡ Some x))
+    → IsKept es S s e o → IsKept (es ++ more) S s e o
+is-kept-more names labels es more S s e None h k = absurd k
+is-kept-more names labels es more S s e (Some b) h k = kept-more names labels es more S s e b.value h k
+
 -- ---- one more statement
 
 -- what was done to the parts
@@ -228,6 +248,7 @@ pub record IsPushed (names labels : List Name) (positions : List ℕ) (symbols :
   pub entry_links : e.links ≡ links
   pub entries_more : entries' ≡ entries ++ e ∷ []
   pub legal : IsLegal (map (stmt_of names labels) entries) s
+  pub kept : is_assertion_kind e.kind ≡ true → IsKept entries (map (stmt_of names labels) entries) s e e.assertion
   pub links_next : links' ≡ links_of (map (stmt_of names labels) entries ++ s ∷ [])
 
 module _ (names labels : List Name) (positions : List ℕ) (symbols : List Symbol) (entries : List Entry) (links : Links)
@@ -271,6 +292,34 @@ module _ (names labels : List Name) (positions : List ℕ) (symbols : List Symbo
           ∙ (get-zero symbols p.symbols_more.0 c p.symbols_more.2 (omega (arith, a, ge)) (omega (arith, size, b, lt))
           ∙ ap Some (sym (symbol_of-above (length names) (length labels) entries c k.coded ge)))
 
+  assertions' : (i : ℕ) (d : Entry) → slice_get entries' i ≡ Some d → is_assertion_kind d.kind ≡ true → IsKept entries' (take i (map (stmt_of names' labels') entries')) (stmt_of names' labels' d) d d.assertion
+  assertions' i d h a = by (get-push entries e d i (ap (λ r. slice_get r i) (sym p.entries_more) ∙ h))
+    where
+      S : Database
+      S = map (stmt_of names labels) entries
+
+      stands : (j : ℕ) (n : ℕ) (t : Stmt) → slice_get (take n (map (stmt_of names labels) entries)) j ≡ Some t → (x : Entry) × (slice_get entries j ≡ Some x)
+      stands j n t g = let x = get-entry names labels entries j t (get-less n (map (stmt_of names labels) entries) j t g) in (x.0, x.1)
+
+      by : ((i < length entries) × (slice_get entries i ≡ Some d)) ⊎ ((i ≡ length entries) × (e ≡ d)) → IsKept entries' (take i (map (stmt_of names' labels') entries')) (stmt_of names' labels' d) d d.assertion
+      by (inl q) =
+          let here : take i (map (stmt_of names' labels') entries') ≡ take i (map (stmt_of names labels) entries) =
+          ap (take i) pushed-statements ∙ take-append-le i (map (stmt_of names labels) entries) (s ∷ []) (omega (arith, q.0, len)) in
+          let same : stmt_of names' labels' d ≡ stmt_of names labels d = stmt-more names names' labels labels' d p.names_more labels-extend (numbered-at (length names) (length labels) entries k.coded i d q.1) (label-at (length names) (length labels) entries k.coded i d q.1) in
+          subst (λ es. IsKept es (take i (map (stmt_of names' labels') entries')) (stmt_of names' labels' d) d d.assertion) (sym p.entries_more)
+          (subst (λ T. IsKept (entries ++ e ∷ []) T (stmt_of names' labels' d) d d.assertion) (sym here)
+          (subst (λ t. IsKept (entries ++ e ∷ []) (take i (map (stmt_of names labels) entries)) t d d.assertion) (sym same)
+          (is-kept-more names labels entries (e ∷ []) (take i (map (stmt_of names labels) entries)) (stmt_of names labels d) d d.assertion (λ j t g. stands j i t g) (k.assertions_kept i d q.1 a))))
+      by (inr q) =
+          let here : take i (map (stmt_of names' labels') entries') ≡ map (stmt_of names labels) entries =
+          ap (take i) pushed-statements ∙ (ap (λ n. take n (map (stmt_of names labels) entries ++ s ∷ [])) (q.0 ∙ sym len) ∙ take-whole (map (stmt_of names labels) entries) s) in
+          let whole : (j : ℕ) (t : Stmt) → slice_get (map (stmt_of names labels) entries) j ≡ Some t → (x : Entry) × (slice_get entries j ≡ Some x) = λ j t g. let x = get-entry names labels entries j t g in (x.0, x.1) in
+          subst (λ w. IsKept entries' (take i (map (stmt_of names' labels') entries')) (stmt_of names' labels' w) w w.assertion) q.1
+          (subst (λ es. IsKept es (take i (map (stmt_of names' labels') entries')) (stmt_of names' labels' e) e e.assertion) (sym p.entries_more)
+          (subst (λ T. IsKept (entries ++ e ∷ []) T (stmt_of names' labels' e) e e.assertion) (sym here)
+          (subst (λ t. IsKept (entries ++ e ∷ []) (map (stmt_of names labels) entries) t e e.assertion) (sym p.stands)
+          (is-kept-more names labels entries (e ∷ []) (map (stmt_of names labels) entries) s e e.assertion whole (p.kept (ap (λ w. is_assertion_kind w.kind) q.1 ∙ a))))))
+
   pub kept-pushed : AreKept names' labels' positions' symbols' entries' links'
   kept-pushed = record {
     last = p.links_next ∙ ap links_of (sym pushed-statements);
@@ -286,6 +335,7 @@ module _ (names labels : List Name) (positions : List ℕ) (symbols : List Symbo
     symbols_kept = symbols'';
     count = p.noted_count ∙ p.count;
     few = p.few;
+    assertions_kept = assertions';
   }
 
 -- the same parts are a storage too
@@ -374,11 +424,6 @@ module _ (old mid new : Stock) (k : AreStored old) (t : IsTakenBack old mid new)
       ∙ ap (λ ns. record { statements = map (stmt_of ns old.labels) old.entries.items; names = ns }) back-names)
 
 -- ---- reading an entry
-
-pub get-entry : (names labels : List Name) (es : List Entry) (i : ℕ) (s : Stmt) → slice_get (map (stmt_of names labels) es) i ≡ Some s → (e : Entry) × (slice_get es i ≡ Some e) × (stmt_of names labels e ≡ s)
-get-entry names labels [] i s h = cc
-get-entry names labels (e ∷ es) zero s h = let same : stmt_of names labels e ≡ s = cc in (e, refl, same)
-get-entry names labels (e ∷ es) (suc i) s h = get-entry names labels es i s h
 
 pub get-stmt : (names labels : List Name) (es : List Entry) (i : ℕ) (e : Entry) → slice_get es i ≡ Some e → slice_get (map (stmt_of names labels) es) i ≡ Some (stmt_of names labels e)
 get-stmt names labels [] i e h = cc
@@ -515,3 +560,40 @@ entry-assertion names labels e = by e.kind
     by Disj h = absurd h
     by Float h = absurd h
     by Ess h = absurd h
+
+-- ---- more names alone
+pub kept-grown : (names labels : List Name) (positions : List ℕ) (symbols : List Symbol) (entries : List Entry) (links : Links) (names' : List Name) (symbols' : List Symbol)
+    → Extends names names' → AreZeroBehind symbols symbols' → length symbols' ≡ length names' → length names' < 2 ^ 31
+    → AreKept names labels positions symbols entries links → AreKept names' labels positions symbols' entries links
+kept-grown names labels positions symbols entries links names' symbols' p z n few k =
+    let same : map (stmt_of names' labels) entries ≡ map (stmt_of names labels) entries = statements-more names names' labels labels entries p ([], sym (append-nil labels)) k.coded in
+    record {
+      last = k.last ∙ ap links_of (sym same);
+      linked = λ i e h. k.linked i e h ∙ ap (λ S. links_of (take i S)) (sym same);
+      stays = ap (stays_open 0) same ∙ k.stays;
+      legal = subst AreAllLegal (sym same) k.legal;
+      labels_kept = k.labels_kept ∙ ap labels_of (sym same);
+      positions_kept = k.positions_kept ∙ ap (positions_from 1) (sym same);
+      coded = numbered-more (length names) (length names') (length labels) entries (extends-length names names' p) k.coded;
+      symbols_kept = λ c lt. by c lt (cases_lt c (length names));
+      count = n;
+      few = few;
+      assertions_kept = λ i e h a.
+          subst (λ S. IsKept entries (take i S) (stmt_of names' labels e) e e.assertion) (sym same)
+          (subst (λ t. IsKept entries (take i (map (stmt_of names labels) entries)) t e e.assertion)
+          (sym (stmt-more names names' labels labels e p ([], sym (append-nil labels)) (numbered-at (length names) (length labels) entries k.coded i e h) (label-at (length names) (length labels) entries k.coded i e h)))
+          (k.assertions_kept i e h a));
+    }
+  where
+    numbered-more : (a b m : ℕ) (es : List Entry) → a ≤ b → AreNumbered a m es → AreNumbered b m es
+    numbered-more a b m [] le h = tt
+    numbered-more a b m (e ∷ es) le h = (below-more a b e.symbols.items le h.0, h.1, numbered-more a b m es le h.2, h.3)
+
+    by : (c : ℕ) → c < length names' → (c < length names) ⊎ (length names ≤ c) → slice_get symbols' c ≡ Some (symbol_of entries c)
+    by c lt (inl l) = ap (λ r. slice_get r c) z.1 ∙ get-front symbols z.0 c (symbol_of entries c) (k.symbols_kept c l)
+    by c lt (inr ge) =
+        let size : length symbols' ≡ length (symbols ++ z.0) = ap length z.1 in
+        let a = k.count in
+        ap (λ r. slice_get r c) z.1
+        ∙ (get-zero symbols z.0 c z.2 (omega (arith, a, ge)) (omega (arith, size, n, lt))
+        ∙ ap Some (sym (symbol_of-above (length names) (length labels) entries c k.coded ge)))

@@ -1,12 +1,13 @@
 -- Statements kept as numbers: what each entry stands for, and what the parts of the storage say of the statements.
 -- The code's own form: no public clause cites it.
-use Rattle.std.specs.Prelude.{◌≡◌, ℕ, ◌+◌, ◌-◌, ◌<◌, ◌≤◌, ◌^◌, ◌==◌, nat_lt, Bool, true, false, ◌&&◌, if◌then◌else◌, List, [], ◌∷◌, ◌++◌, length, map, filter, take, get_or, slice_get, slice_range, Option, Some, None, unwrap_or}
+use Rattle.std.specs.Prelude.{◌≡◌, ℕ, ◌+◌, ◌-◌, ◌<◌, ◌≤◌, ◌^◌, ◌==◌, nat_lt, Bool, true, false, ◌&&◌, if◌then◌else◌, List, [], ◌∷◌, ◌++◌, length, map, flat_map, filter, take, get_or, slice_get, slice_range, Option, Some, None, unwrap_or}
 use Rattle.std.specs.List.{list_any, filter_map}
+use Rattle.std.specs.Global.{Box}
 use Rattle.mm_lex.specs.Alphabet.{Name, name_eq, has_name}
 use Rattle.mm_read.specs.declared.stmt.Stmt.{Stmt}
 use Rattle.mm_read.specs.declared.stmt.Stmt.TheVariants as stmt
 use Rattle.mm_read.specs.Statements.{Expr, Database}
-use Rattle.scope.specs.Active.{stmt_at, before, label_of, is_active, is_essential, is_open, is_close, stays_open}
+use Rattle.scope.specs.Active.{stmt_at, before, label_of, expr_of, is_assertion, is_active, is_essential, is_open, is_close, stays_open}
 use Rattle.scope.specs.Legal.{IsLegal}
 use Rattle.scope.specs.Numbering.{name_at, decode, AreDistinct}
 use Rattle.frame.specs.FrameOf.{hypotheses, separates}
@@ -119,22 +120,6 @@ abbrev pub AreNumbered : ℕ → ℕ → List Entry → Type 0
 AreNumbered n m [] = Unit {0}
 AreNumbered n m (e ∷ es) = AreBelow n e.symbols.items × IsLabelBelow e.kind e.label m × AreNumbered n m es × HasTwo e.kind e.symbols.items
 
--- the storage of a database
-pub record AreKept (names labels : List Name) (positions : List ℕ) (symbols : List Symbol) (entries : List Entry) (links : Links) : Type 0 where
-  pub last : links ≡ links_of (map (stmt_of names labels) entries)
-  pub linked : (i : ℕ) (e : Entry) → slice_get entries i ≡ Some e → e.links ≡ links_of (take i (map (stmt_of names labels) entries))
-  pub stays : stays_open 0 (map (stmt_of names labels) entries) ≡ true
-  pub legal : AreAllLegal (map (stmt_of names labels) entries)
-  pub labels_kept : labels ≡ labels_of (map (stmt_of names labels) entries)
-  pub positions_kept : positions ≡ positions_from 1 (map (stmt_of names labels) entries)
-  pub coded : AreNumbered (length names) (length labels) entries
-  pub symbols_kept : (c : ℕ) → c < length names → slice_get symbols c ≡ Some (symbol_of entries c)
-  pub count : length symbols ≡ length names
-  pub few : length names < 2 ^ 31
-
-abbrev pub AreStored : Stock → Type 0
-AreStored k = AreKept k.names k.labels k.positions.items k.symbols.items k.entries.items k.links
-
 -- a statement that neither opens nor closes a block
 abbrev pub IsPlain : Option Stmt → Type 0
 IsPlain None = ⊥
@@ -205,16 +190,6 @@ IsLabelled Ess = Unit {0}
 IsLabelled Axiom = Unit {0}
 IsLabelled Prove = Unit {0}
 IsLabelled kind = ⊥
-
--- the entry is the statement: its numbers are among those of the storage, which has its label and position
-pub record Entered (old new : Stock) (s : Stmt) (e : Entry) : Type 0 where
-  pub stands : stmt_of new.names new.labels e ≡ s
-  pub symbols : AreBelow (length new.names) e.symbols.items
-  pub label : IsLabelBelow e.kind e.label (length new.labels)
-  pub two : HasTwo e.kind e.symbols.items
-  pub labels : new.labels ≡ old.labels ++ option_list (label_of s) []
-  pub positions : new.positions.items ≡ old.positions.items ++ option_position (label_of s) (length old.entries.items + 1) []
-  pub links : e.links ≡ old.links
 
 -- a `$f` or a `$e`
 abbrev pub IsHypothesisAt : Option Stmt → Type 0
@@ -287,6 +262,17 @@ ArePatterns es vs templates [] (q ∷ qs) = ⊥
 ArePatterns es vs templates (p ∷ ps) [] = ⊥
 ArePatterns es vs templates (p ∷ ps) (q ∷ qs) = ((e : Entry) × (slice_get es (p - 1) ≡ Some e) × IsPatternOf vs templates e q) × ArePatterns es vs templates ps qs
 
+-- the template of a hypothesis, if it is a `$e`
+abbrev pub own_template : List (Option ℕ) → Entry → List ℕ
+own_template vs e = if is_float_kind e.kind then [] else templated vs e.symbols.items
+
+abbrev pub option_template : List (Option ℕ) → Option Entry → List ℕ
+option_template vs None = []
+option_template vs (Some e) = own_template vs e
+
+abbrev pub template_at : List Entry → List (Option ℕ) → ℕ → List ℕ
+template_at es vs p = option_template vs (slice_get es (p - 1))
+
 -- the assertion e, which stands behind the first i statements S, is kept as d
 pub record IsKeptAs (es : List Entry) (S : Database) (s : Stmt) (e : Entry) (d : Assertion) : Type 0 where
   pub hypotheses_kept : d.hypotheses.items ≡ hypotheses S s
@@ -294,6 +280,7 @@ pub record IsKeptAs (es : List Entry) (S : Database) (s : Stmt) (e : Entry) (d :
   pub conclusion_kept : d.conclusion.items ≡ templated (map (variable_at es) d.hypotheses.items) e.symbols.items
   pub groups_kept : map (λ v. v.items) d.groups.items ≡ groups_by (map (variable_at es) d.hypotheses.items) (map (λ q. symbols_at es q.0) (actives is_disj S))
   pub few : length d.hypotheses.items < 2 ^ 31
+  pub templates_kept : d.templates.items ≡ flat_map (template_at es (map (variable_at es) d.hypotheses.items)) d.hypotheses.items
 
 abbrev pub is_assertion_kind : Kind → Bool
 is_assertion_kind Axiom = true
@@ -325,3 +312,64 @@ with_essentials es S (q ∷ qs) list =
 
 abbrev pub collected : List Entry → Database → List ℕ → List ℕ
 collected es S codes = with_essentials es S (actives is_essential S) (with_floats es S codes [])
+
+abbrev pub is_hypothesis_entry : Kind → Bool
+is_hypothesis_entry Float = true
+is_hypothesis_entry Ess = true
+is_hypothesis_entry kind = false
+
+-- a `$f` or `$e` stands at each of the positions
+abbrev pub AreHypotheses : List Entry → List ℕ → Type 0
+AreHypotheses es [] = Unit {0}
+AreHypotheses es (p ∷ ps) = ((e : Entry) × (1 ≤ p) × (slice_get es (p - 1) ≡ Some e) × (is_hypothesis_entry e.kind ≡ true)) × AreHypotheses es ps
+
+-- the parts of an assertion with these symbols, behind the statements S
+pub record AreParts (es : List Entry) (S : Database) (codes : List ℕ) (d : Assertion) : Type 0 where
+  pub hypotheses_found : d.hypotheses.items ≡ collected es S codes
+  pub patterns_made : ArePatterns es (map (variable_at es) d.hypotheses.items) d.templates.items d.hypotheses.items d.patterns.items
+  pub conclusion_made : d.conclusion.items ≡ templated (map (variable_at es) d.hypotheses.items) codes
+  pub groups_made : map (λ v. v.items) d.groups.items ≡ groups_by (map (variable_at es) d.hypotheses.items) (map (λ q. symbols_at es q.0) (actives is_disj S))
+  pub few_places : length d.hypotheses.items < 2 ^ 31
+  pub templates_made : d.templates.items ≡ flat_map (template_at es (map (variable_at es) d.hypotheses.items)) d.hypotheses.items
+
+-- what an entry keeps of an assertion
+abbrev pub IsKept : List Entry → Database → Stmt → Entry → Option (Box Assertion) → Type 0
+IsKept es S s e None = ⊥
+IsKept es S s e (Some b) = IsKeptAs es S s e b.value
+
+-- the storage of a database
+pub record AreKept (names labels : List Name) (positions : List ℕ) (symbols : List Symbol) (entries : List Entry) (links : Links) : Type 0 where
+  pub last : links ≡ links_of (map (stmt_of names labels) entries)
+  pub linked : (i : ℕ) (e : Entry) → slice_get entries i ≡ Some e → e.links ≡ links_of (take i (map (stmt_of names labels) entries))
+  pub stays : stays_open 0 (map (stmt_of names labels) entries) ≡ true
+  pub legal : AreAllLegal (map (stmt_of names labels) entries)
+  pub labels_kept : labels ≡ labels_of (map (stmt_of names labels) entries)
+  pub positions_kept : positions ≡ positions_from 1 (map (stmt_of names labels) entries)
+  pub coded : AreNumbered (length names) (length labels) entries
+  pub symbols_kept : (c : ℕ) → c < length names → slice_get symbols c ≡ Some (symbol_of entries c)
+  pub count : length symbols ≡ length names
+  pub few : length names < 2 ^ 31
+  pub assertions_kept : (i : ℕ) (e : Entry) → slice_get entries i ≡ Some e → is_assertion_kind e.kind ≡ true → IsKept entries (take i (map (stmt_of names labels) entries)) (stmt_of names labels e) e e.assertion
+
+abbrev pub AreStored : Stock → Type 0
+AreStored k = AreKept k.names k.labels k.positions.items k.symbols.items k.entries.items k.links
+
+-- the entry is the statement: its numbers are among those of the storage, which has its label and position
+pub record Entered (old new : Stock) (s : Stmt) (e : Entry) : Type 0 where
+  pub stands : stmt_of new.names new.labels e ≡ s
+  pub symbols : AreBelow (length new.names) e.symbols.items
+  pub label : IsLabelBelow e.kind e.label (length new.labels)
+  pub two : HasTwo e.kind e.symbols.items
+  pub labels : new.labels ≡ old.labels ++ option_list (label_of s) []
+  pub positions : new.positions.items ≡ old.positions.items ++ option_position (label_of s) (length old.entries.items + 1) []
+  pub links : e.links ≡ old.links
+  pub kept : is_assertion_kind e.kind ≡ true → IsKept old.entries.items (statements_of old) s e e.assertion
+
+-- the symbols are those of the assertion s, which may come next
+pub record IsNext (k : Stock) (codes : List ℕ) (s : Stmt) : Type 0 where
+  pub legal : IsLegal (statements_of k) s
+  pub assertion : is_assertion s ≡ true
+  pub stand : decode k.names codes ≡ expr_of s
+
+abbrev pub IsKeptOf : Stock → List ℕ → Stmt → Box Assertion → Type 0
+IsKeptOf k codes s b = (e : Entry) → e.symbols.items ≡ codes → IsKeptAs k.entries.items (statements_of k) s e b.value

@@ -1,15 +1,18 @@
 //! A statement as numbers.
 ghost use Rattle.std.specs.Prelude.{◌≡◌, ℕ, ◌+◌, ◌<◌, ◌^◌, ◌++◌, ◌∷◌, [], Some, length, IfOk, OnOk, OnErr, false};
 ghost use Rattle.mm_lex.specs.Alphabet.{has_name};
+ghost use Rattle.mm_read.specs.declared.stmt.Stmt.{Stmt as Statement};
 ghost use Rattle.scope.specs.Active.{bare, label_of};
+ghost use Rattle.scope.specs.Legal.{IsLegal};
 ghost use Rattle.scope.specs.Numbering.{decode, name_at};
 ghost use Rattle.frame.specs.ByPlaces.{AreBelow};
-ghost use Rattle.frame.specs.Stored.{Entered, Grown, IsFresh, IsLabelled, HasRoom, statements_of};
+ghost use Rattle.frame.specs.Stored.{Entered, Grown, IsFresh, IsLabelled, HasRoom, AreStored, IsNext, IsKeptOf, statements_of};
 
 use crate::declare::name_label;
 use crate::links::Links;
+use crate::make::assertion;
 use crate::numbers::{number, numbers};
-use crate::storage::{Entry, Kind, Stock};
+use crate::storage::{Assertion, Entry, Kind, Stock};
 use mm_lex::{Word, Words};
 use mm_read::Stmt;
 use std::alloc::{AllocError, Global};
@@ -98,6 +101,8 @@ fn expr_numbers(alloc: Global, stock: &mut Stock, expr: &Words) -> Result<Vec<u3
     ensures same_positions { stock.new.positions.items ≡ stock.old.positions.items }
     ensures symbols { IfOk result (λ v. AreBelow (length stock.new.names) v.items) }
     ensures stand { IfOk result (λ v. decode stock.new.names v.items ≡ expr.now) }
+    ensures stored { AreStored stock.old → AreStored stock.new }
+    ensures statements { AreStored stock.old → statements_of stock.new ≡ statements_of stock.old }
 {
     numbers(alloc, &mut stock.names, &mut stock.symbols, expr)
 }
@@ -109,6 +114,7 @@ fn labelled(
     kind: Kind,
     label: &Word,
     symbols: Vec<u32>,
+    assertion: Option<Box<Assertion>>,
 ) -> Result<Entry, AllocError>
     requires fresh { has_name label.now stock.old.labels ≡ false }
     ensures grown { Grown stock.old stock.new }
@@ -120,6 +126,7 @@ fn labelled(
     ensures kind { IfOk result (λ e. e.kind ≡ kind) }
     ensures links { IfOk result (λ e. e.links ≡ stock.old.links) }
     ensures symbols { IfOk result (λ e. e.symbols.items ≡ symbols.items) }
+    ensures assertion { IfOk result (λ e. e.assertion ≡ assertion) }
 {
     let at = stock.entries.len() + 1;
     let number = name_label(
@@ -134,14 +141,29 @@ fn labelled(
         label: number,
         symbols,
         links: stock.links,
-        assertion: None,
+        assertion,
     })
+}
+
+/// What is kept of an assertion with these symbols.
+fn keep(alloc: Global, stock: &Stock, symbols: &[u32]) -> Result<Box<Assertion>, AllocError>
+    requires stored { AreStored stock.now }
+    requires codes { AreBelow (length stock.now.names) symbols.now }
+    requires assertion { (s : Statement) × IsNext stock.now symbols.now s }
+    ensures { (s : Statement) → IsNext stock.now symbols.now s → IfOk result (IsKeptOf stock.now symbols.now s) }
+{
+    stock.names.distinct();
+    let made = assertion(alloc, stock, symbols)?;
+    let kept = Box::new(alloc, made)?;
+    Ok(kept)
 }
 
 /// The statement as an entry, with its names and its label in the storage.
 pub fn enter(alloc: Global, stock: &mut Stock, stmt: &Stmt) -> Result<Entry, AllocError>
     requires room { HasRoom stock.old }
     requires fresh { IsFresh stock.old.labels (label_of stmt.now) }
+    requires stored { AreStored stock.old }
+    requires legal { IsLegal (statements_of stock.old) stmt.now }
     ensures grown { Grown stock.old stock.new }
     ensures room { HasRoom stock.new }
     ensures entered { IfOk result (λ e. Entered stock.old stock.new (bare stmt.now) e) }
@@ -158,15 +180,16 @@ pub fn enter(alloc: Global, stock: &mut Stock, stmt: &Stmt) -> Result<Entry, All
             variable,
         } => {
             let symbols = pair_numbers(alloc, stock, constant, variable)?;
-            labelled(alloc, stock, Kind::Float, label, symbols)
+            labelled(alloc, stock, Kind::Float, label, symbols, None)
         }
         Stmt::Ess { label, expr } => {
             let symbols = expr_numbers(alloc, stock, expr)?;
-            labelled(alloc, stock, Kind::Ess, label, symbols)
+            labelled(alloc, stock, Kind::Ess, label, symbols, None)
         }
         Stmt::Axiom { label, expr } => {
             let symbols = expr_numbers(alloc, stock, expr)?;
-            labelled(alloc, stock, Kind::Axiom, label, symbols)
+            let kept = keep(alloc, stock, &symbols)?;
+            labelled(alloc, stock, Kind::Axiom, label, symbols, Some(kept))
         }
         Stmt::Prove {
             label,
@@ -174,7 +197,8 @@ pub fn enter(alloc: Global, stock: &mut Stock, stmt: &Stmt) -> Result<Entry, All
             proof: _,
         } => {
             let symbols = expr_numbers(alloc, stock, expr)?;
-            labelled(alloc, stock, Kind::Prove, label, symbols)
+            let kept = keep(alloc, stock, &symbols)?;
+            labelled(alloc, stock, Kind::Prove, label, symbols, Some(kept))
         }
     }
 }

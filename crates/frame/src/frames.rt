@@ -5,15 +5,16 @@ ghost use Rattle.scope.specs.Active.{bare, before, stmt_at, expr_of};
 ghost use Rattle.scope.specs.Legal.{IsLegal};
 ghost use Rattle.scope.specs.Numbering.{decode};
 ghost use Rattle.frame.specs.ByPlaces.{AreBelow};
-ghost use Rattle.frame.specs.Reading.{IsMeaning, IsPosition};
+ghost use Rattle.frame.specs.FrameOf.{HasAssertion};
+ghost use Rattle.frame.specs.Reading.{IsMeaning, IsPosition, IsCited, AreLegal};
 ghost use Rattle.frame.specs.Stored.{Extends};
 
-use crate::citation::Meaning;
+use crate::citation::{Cited, Meaning};
 use crate::extend::{extend, roll_back};
 use crate::links::Links;
 use crate::names::Names;
 use crate::pairs::Pairs;
-use crate::reading::{expr_at, meaning_at};
+use crate::reading::{cited_at, expr_at, meaning_at};
 use crate::storage::Stock;
 use mm_read::Stmt;
 use scope::{Scope, Steps};
@@ -127,9 +128,27 @@ impl Frames {
         ensures statements { result.statements ≡ before self.now.statements at }
         ensures names { result.names ≡ self.now.names }
     {
+        self.stock.names.distinct();
         Pairs {
             stock: &self.stock,
             at,
         }
+    }
+
+    /// The assertion at a position, by the places of its hypotheses.
+    pub fn cited(&self, a: usize) -> Cited<'_>
+        requires { (s : Statement) × HasAssertion self.now.statements a s }
+        ensures { (s : Statement) → stmt_at self.now.statements a ≡ Some s → IsCited self.now.statements self.now.names a s result }
+    {
+        self.stock.names.distinct();
+        cited_at(&self.stock, a)
+    }
+
+    /// The statements are legal: no two carry one label, what an assertion takes determines what it gives,
+    /// and the names are told apart.
+    pub fn legal(&self)
+        ensures { AreLegal self.now.statements self.now.names }
+    {
+        self.stock.names.distinct();
     }
 }

@@ -11,12 +11,14 @@ mod enter;
 mod extend;
 mod frames;
 mod links;
+mod make;
 mod mandatory;
 mod names;
 mod numbers;
 mod pairs;
 mod reading;
 mod storage;
+mod templates;
 
 pub use citation::{Cited, Meaning, Pattern};
 pub use frames::Frames;

@@ -1,4 +1,13 @@
 //! The variables that are kept apart at a position.
+ghost use Rattle.std.specs.Prelude.{◌≡◌, ◌==◌, ◌&&◌, ◌<◌, ◌≤◌, length};
+ghost use Rattle.std.specs.List.{list_any};
+ghost use Rattle.mm_lex.specs.Alphabet.{has_name};
+ghost use Rattle.scope.specs.Active.{active, before, is_variable, separated};
+ghost use Rattle.scope.specs.Numbering.{name_at, AreDistinct};
+ghost use Rattle.frame.specs.FrameOf.{is_pair};
+ghost use Rattle.frame.specs.Stored.{AreStored, statements_of};
+
+use crate::reading::{is_active_at, links_at};
 use crate::storage::Stock;
 use std::marker::Model;
 
@@ -18,9 +27,98 @@ impl<'a> Model for Pairs<'a> {
 
     ghost use Rattle.std.specs.Prelude.{◌≤◌, length};
     ghost use Rattle.scope.specs.Active.{before};
+    ghost use Rattle.scope.specs.Numbering.{AreDistinct};
     ghost use Rattle.frame.specs.Stored.{statements_of, AreStored};
 
     ghost view = { λ a. record { statements = before (statements_of a.stock.now) a.at; names = a.stock.now.names } };
 
-    ghost invariant = { λ a. AreStored a.stock.now × (1 ≤ a.at) × (a.at ≤ length (statements_of a.stock.now)) };
+    ghost invariant = { λ a. AreStored a.stock.now × AreDistinct a.stock.now.names × (1 ≤ a.at) × (a.at ≤ length (statements_of a.stock.now)) };
+}
+
+impl<'a> Pairs<'a> {
+    /// Whether x and y are different and stand together in an active `$d`.
+    ///
+    /// Cost: the symbols of the active `$d`.
+    pub fn has(&self, x: u32, y: u32) -> bool
+        requires { (x < length self.now.names) × (y < length self.now.names) }
+        ensures { result ≡ is_pair self.now.statements (name_at self.now.names x) (name_at self.now.names y) }
+    {
+        x != y && stand_together(self.stock, self.at, x, y)
+    }
+
+    /// Whether x is a variable there.
+    ///
+    /// Cost: that of one look-up, but for a variable that is declared again behind the position: then the symbols
+    /// of the active `$v`.
+    pub fn variable(&self, x: u32) -> bool
+        requires { x < length self.now.names }
+        ensures { result ≡ is_variable self.now.statements (name_at self.now.names x) }
+    {
+        is_variable_at(self.stock, self.at, x)
+    }
+}
+
+/// Whether both stand in one `$d` that is active at `at`.
+fn stand_together(stock: &Stock, at: usize, x: u32, y: u32) -> bool
+    requires stored { AreStored stock.now }
+    requires place { (1 ≤ at) × (at ≤ length (statements_of stock.now)) }
+    requires names { (x < length stock.now.names) × (y < length stock.now.names) × AreDistinct stock.now.names }
+    ensures { result ≡ list_any (λ p. has_name (name_at stock.now.names x) (separated p.1) && has_name (name_at stock.now.names y) (separated p.1)) (active (before (statements_of stock.now) at)) }
+{
+    let mut last = links_at(stock, at).disjoint;
+    while last != 0 {
+        let entry = &stock.entries[last - 1];
+        if contains_both(&entry.symbols, x, y) {
+            return true;
+        }
+        last = entry.links.disjoint;
+    }
+    false
+}
+
+fn contains(codes: &[u32], x: u32) -> bool
+    ensures { result ≡ list_any (λ y. x == y) codes.now }
+{
+    codes.iter().any(|y| x == *y)
+}
+
+fn contains_both(codes: &[u32], x: u32, y: u32) -> bool
+    ensures { result ≡ (list_any (λ c. x == c) codes.now && list_any (λ c. y == c) codes.now) }
+{
+    contains(codes, x) && contains(codes, y)
+}
+
+/// Whether an active `$v` has it: the last one that has it, or another.
+fn is_variable_at(stock: &Stock, at: usize, x: u32) -> bool
+    requires stored { AreStored stock.now }
+    requires place { (1 ≤ at) × (at ≤ length (statements_of stock.now)) }
+    requires names { (x < length stock.now.names) × AreDistinct stock.now.names }
+    ensures { result ≡ is_variable (before (statements_of stock.now) at) (name_at stock.now.names x) }
+{
+    let declared = stock.symbols[x as usize].variable;
+    if declared == 0 {
+        return false;
+    }
+    if declared < at && is_active_at(stock, declared, at) {
+        return true;
+    }
+    is_listed_at(stock, at, x)
+}
+
+/// Whether one of the active `$v` has it.
+fn is_listed_at(stock: &Stock, at: usize, x: u32) -> bool
+    requires stored { AreStored stock.now }
+    requires place { (1 ≤ at) × (at ≤ length (statements_of stock.now)) }
+    requires names { (x < length stock.now.names) × AreDistinct stock.now.names }
+    ensures { result ≡ is_variable (before (statements_of stock.now) at) (name_at stock.now.names x) }
+{
+    let mut last = links_at(stock, at).variable;
+    while last != 0 {
+        let entry = &stock.entries[last - 1];
+        if contains(&entry.symbols, x) {
+            return true;
+        }
+        last = entry.links.variable;
+    }
+    false
 }

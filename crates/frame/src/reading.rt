@@ -2,15 +2,16 @@
 ghost use Rattle.std.specs.Prelude.{◌≡◌, ◌+◌, ◌-◌, ◌<◌, ◌≤◌, Some, false, length, take, slice_get};
 ghost use Rattle.mm_read.specs.declared.stmt.Stmt.{Stmt as Statement};
 ghost use Rattle.scope.specs.Active.{is_active, is_open, is_close, stmt_at, expr_of};
-ghost use Rattle.scope.specs.Numbering.{decode};
+ghost use Rattle.scope.specs.Numbering.{decode, AreDistinct};
 ghost use Rattle.frame.specs.ByPlaces.{AreBelow};
-ghost use Rattle.frame.specs.Reading.{IsMeaning};
+ghost use Rattle.frame.specs.FrameOf.{HasAssertion};
+ghost use Rattle.frame.specs.Reading.{IsMeaning, IsCited};
 ghost use Rattle.frame.specs.Links.{last_active, links_of};
 ghost use Rattle.frame.specs.Stored.{AreStored, statements_of, IsPlain, IsHypothesisAt};
 
-use crate::citation::Meaning;
+use crate::citation::{Cited, Meaning};
 use crate::links::Links;
-use crate::storage::{Kind, Stock};
+use crate::storage::{Assertion, Kind, Stock};
 
 /// What is active before the statement at `at`, or at the end.
 pub fn links_at(stock: &Stock, at: usize) -> Links
@@ -87,5 +88,32 @@ fn hypothesis_at(stock: &Stock, at: usize, i: usize) -> Meaning<'_>
         Meaning::Hypothesis(expr_at(stock, i))
     } else {
         Meaning::Nothing
+    }
+}
+
+/// The parts of the assertion at a position.
+pub fn cited_at(stock: &Stock, a: usize) -> Cited<'_>
+    requires stored { AreStored stock.now }
+    requires distinct { AreDistinct stock.now.names }
+    requires assertion { (s : Statement) × HasAssertion (statements_of stock.now) a s }
+    ensures { (s : Statement) → stmt_at (statements_of stock.now) a ≡ Some s → IsCited (statements_of stock.now) stock.now.names a s result }
+{
+    match &stock.entries[a - 1].assertion {
+        Some(kept) => parts(kept),
+        None => unreachable!(),
+    }
+}
+
+fn parts(kept: &Box<Assertion>) -> Cited<'_>
+    ensures patterns { result.patterns.now ≡ kept.now.value.patterns.items }
+    ensures templates { result.templates.now ≡ kept.now.value.templates.items }
+    ensures conclusion { result.conclusion.now ≡ kept.now.value.conclusion.items }
+    ensures groups { result.groups.now ≡ kept.now.value.groups.items }
+{
+    Cited {
+        patterns: &kept.patterns,
+        templates: &kept.templates,
+        conclusion: &kept.conclusion,
+        groups: &kept.groups,
     }
 }

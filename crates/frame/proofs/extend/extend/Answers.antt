@@ -1,8 +1,8 @@
 use Rattle.std.proofs.Common.{◌≡◌, ◌+◌, ◌∙◌, ap, sym, subst, arith, length, Some}
-use Rattle.std.specs.Prelude.{[], ◌∷◌, ◌++◌}
+use Rattle.std.specs.Prelude.{map, [], ◌∷◌, ◌++◌}
 use Rattle.std.proofs.lemmas.List.{length-map}
 use Rattle.scope.specs.Active.{bare, label_of}
-use Rattle.frame.specs.Stored.{statements_of, stmt_of, kind_of, option_position, with_entry}
+use Rattle.frame.specs.Stored.{statements_of, stmt_of, kind_of, option_position, with_entry, IsKept}
 use Rattle.frame.proofs.StoredLemmas.{IsPushed, kept-pushed, pushed-statements, legal-bare, legal-fresh}
 use Rattle.frame.proofs.extend.extend.Goals as goal
 
@@ -42,6 +42,7 @@ returns-clause-stored c =
       entry_links = own.links;
       entries_more = c.in-Ok.ensures.items ∙ (ap (λ q. q.items ++ e ∷ []) g.entries ∙ ap (λ q. q ++ e ∷ []) items);
       legal = legal-bare S c.args.stmt.now c.requires.legal;
+      kept = λ a. subst (λ es. IsKept es (map (stmt_of k.names k.labels) es) s e e.assertion) items (own.kept a);
       links_next = c.links_after-links.ensures s kind-is;
     } in
     kept-pushed k.names k.labels k.positions.items k.symbols.items k.entries.items k.links new.names new.labels new.positions.items new.symbols.items
@@ -79,6 +80,7 @@ returns-clause-added c =
       entry_links = own.links;
       entries_more = c.in-Ok.ensures.items ∙ (ap (λ q. q.items ++ e ∷ []) g.entries ∙ ap (λ q. q ++ e ∷ []) items);
       legal = legal-bare S c.args.stmt.now c.requires.legal;
+      kept = λ a. subst (λ es. IsKept es (map (stmt_of k.names k.labels) es) s e e.assertion) items (own.kept a);
       links_next = c.links_after-links.ensures s kind-is;
     } in
     pushed-statements k.names k.labels k.positions.items k.symbols.items k.entries.items k.links new.names new.labels new.positions.items new.symbols.items

@@ -1,0 +1,284 @@
+-- Looking through the active statements of a kind, from the last one back.
+use Rattle.std.specs.Prelude.{◌≡◌, ℕ, zero, suc, ◌+◌, ◌-◌, ◌<◌, ◌≤◌, Bool, true, false, cond, ◌&&◌, ◌||◌, ◌==◌, nat_eq, ◌⊎◌, List, [], ◌∷◌, ◌++◌, length, map, take, drop, filter, get_or, slice_get, Option, Some, None, refl}
+use Rattle.std.specs.List.{list_any}
+use Rattle.std.proofs.Common.{sym, ◌∙◌, ap, subst, arith, inl, inr}
+use Rattle.std.proofs.lemmas.List.{length-take-le, drop-take, take-append-drop}
+use Rattle.std.proofs.lemmas.List.Folds.{list_any-append}
+use Rattle.std.proofs.lemmas.Slice.Eq.{bytes_eq-Decides}
+use Rattle.mm_lex.specs.Alphabet.{Name, name_eq, has_name}
+use Rattle.mm_read.specs.declared.stmt.Stmt.{Stmt}
+use Rattle.mm_read.specs.declared.stmt.Stmt.TheVariants as stmt
+use Rattle.mm_read.specs.Statements.{Database}
+use Rattle.scope.specs.Active.{stays_open, active, active_from, is_active, separated, variables}
+use Rattle.scope.specs.Numbering.{name_at, decode, AreDistinct}
+use Rattle.frame.specs.ByPlaces.{AreBelow}
+use Rattle.frame.specs.Links.{actives, actives_from, last_active, is_var, is_disj}
+use Rattle.frame.proofs.OpenLemmas.{IsNoClose}
+use Rattle.frame.proofs.WalkLemmas.{IsBack, walk-back, walk-over, cut-here, get-take, active-stays}
+use Rattle.frame.proofs.NumberLemmas.{has-name}
+use Rattle.frame.proofs.PlacesLemmas.{stands-active}
+use Rattle.std.proofs.lemmas.List.{length-map}
+use Rattle.frame.proofs.WalkLemmas.{some-same}
+use Rattle.frame.proofs.CollectLemmas.{last-is}
+use Rattle.frame.proofs.StoredLemmas.{get-index, get-stmt, numbered-at}
+use Rattle.frame.proofs.AssertionLemmas.{get-entry}
+use Rattle.frame.specs.declared.storage.Kind.{Kind}
+use Rattle.frame.specs.declared.storage.Kind.TheVariants.{Open, Close, Const, Var, Disj, Float, Ess, Axiom, Prove}
+use Rattle.frame.specs.declared.storage.Entry.{Entry}
+use Rattle.frame.specs.Stored.{stmt_by, stmt_of, AreNumbered, declares, is_var_kind, last_from, last_where, IsPlain}
+
+-- ---- numbers are the same where their names are
+
+not-has : (names : List Name) (n : ℕ) (x : Name) → has_name x names ≡ false → n < length names → name_eq x (name_at names n) ≡ false
+not-has [] n x h l = absurd (omega (arith, l))
+not-has (y ∷ names) zero x h l = left (name_eq x y) (has_name x names) h
+  where
+    left : (a b : Bool) → (a || b) ≡ false → a ≡ false
+    left true b e = cc
+    left false b e = refl
+not-has (y ∷ names) (suc n) x h l = not-has names n x (right (name_eq x y) (has_name x names) h) (omega (arith, l))
+  where
+    right : (a b : Bool) → (a || b) ≡ false → b ≡ false
+    right true b e = cc
+    right false b e = e
+
+eq-flip : (x y : Name) → name_eq y x ≡ false → name_eq x y ≡ false
+eq-flip x y h = by (name_eq x y) refl
+  where
+    by : (b : Bool) → name_eq x y ≡ b → b ≡ false
+    by true e = let f : true ≡ false = sym ((bytes_eq-Decides y x).1 (sym ((bytes_eq-Decides x y).0 e))) ∙ h in cc
+    by false e = refl
+
+pub same-number : (names : List Name) (m n : ℕ) → AreDistinct names → m < length names → n < length names → nat_eq m n ≡ name_eq (name_at names m) (name_at names n)
+same-number [] m n d a b = absurd (omega (arith, a))
+same-number (x ∷ names) zero zero d a b = sym ((bytes_eq-Decides x x).1 refl)
+same-number (x ∷ names) zero (suc n) d a b = let f : nat_eq zero (suc n) ≡ false = grind arith in f ∙ sym (not-has names n x d.0 (omega (arith, b)))
+same-number (x ∷ names) (suc m) zero d a b = let f : nat_eq (suc m) zero ≡ false = grind arith in f ∙ sym (eq-flip (name_at names m) x (not-has names m x d.0 (omega (arith, a))))
+same-number (x ∷ names) (suc m) (suc n) d a b = let e : nat_eq (suc m) (suc n) ≡ nat_eq m n = grind arith in e ∙ same-number names m n d.1 (omega (arith, a)) (omega (arith, b))
+
+pub has-decode : (names : List Name) (x : ℕ) (codes : List ℕ) → AreDistinct names → x < length names → AreBelow (length names) codes
+    → list_any (λ y. x == y) codes ≡ has_name (name_at names x) (decode names codes)
+has-decode names x [] d l b = refl
+has-decode names x (c ∷ codes) d l b =
+    ap (λ t. t || list_any (λ y. x == y) codes) (same-number names x c d l b.0) ∙ ap (λ t. name_eq (name_at names x) (name_at names c) || t) (has-decode names x codes d l b.1)
+
+-- ---- a test of the active statements looks at those of a kind alone
+
+pub any-kind : (kind : Stmt → Bool) (g : ℕ × Stmt → Bool) → ((p : ℕ × Stmt) → kind p.1 ≡ false → g p ≡ false) → (ps : List (ℕ × Stmt)) → list_any g ps ≡ list_any g (filter (λ p. kind p.1) ps)
+any-kind kind g no_other [] = refl
+any-kind kind g no_other (p ∷ ps) = by (kind p.1) refl (any-kind kind g no_other ps)
+  where
+    by : (b : Bool) → kind p.1 ≡ b → list_any g ps ≡ list_any g (filter (λ q. kind q.1) ps) → (g p || list_any g ps) ≡ list_any g (cond b (p ∷ filter (λ q. kind q.1) ps) (filter (λ q. kind q.1) ps))
+    by true e r = ap (λ t. g p || t) r
+    by false e r = ap (λ t. t || list_any g ps) (no_other p e) ∙ r
+
+-- ---- the walk
+
+pub record IsSought (kind : Stmt → Bool) (g : ℕ × Stmt → Bool) (S : Database) (at p m : ℕ) : Type 0 where
+  pub high : m ≤ length S
+  pub last : p ≡ last_active kind (take m S)
+  pub same : list_any g (actives kind (take m S)) ≡ list_any g (actives kind (take (at - 1) S))
+
+or-false : (a : Bool) → (a || false) ≡ a
+or-false true = refl
+or-false false = refl
+
+or-right : (a b : Bool) → b ≡ true → (a || b) ≡ true
+or-right true b h = refl
+or-right false b h = h
+
+last-any : (g : ℕ × Stmt → Bool) (q : ℕ × Stmt) (b : Bool) → g q ≡ b → list_any g (q ∷ []) ≡ b
+last-any g q true h = ap (λ t. t || false) h
+last-any g q false h = ap (λ t. t || false) h
+
+module _ (kind : Stmt → Bool) (g : ℕ × Stmt → Bool) (S : Database) (at p m : ℕ) (n : IsNoClose kind) (w : IsSought kind g S at p m) where
+  pub sought-here : (p ≡ 0 → ⊥) → (s : Stmt) × IsBack kind S m p s
+  sought-here some = walk-back kind S m p n w.high w.last some
+
+  pub sought-found : (s : Stmt) → IsBack kind S m p s → g (p, s) ≡ true → list_any g (actives kind (take (at - 1) S)) ≡ true
+  sought-found s b h =
+      sym w.same ∙ (ap (list_any g) b.list ∙ (list_any-append g (actives kind (take (p - 1) S)) ((p, s) ∷ []) ∙ or-right (list_any g (actives kind (take (p - 1) S))) (list_any g ((p, s) ∷ [])) (last-any g (p, s) true h)))
+
+  pub sought-step : (s : Stmt) → IsBack kind S m p s → g (p, s) ≡ false → IsSought kind g S at (last_active kind (take (p - 1) S)) (p - 1)
+  sought-step s b h =
+      let a = b.within in let c = w.high in
+      record {
+        high = omega (arith, a, c);
+        last = refl;
+        same = sym (ap (list_any g) b.list ∙ (list_any-append g (actives kind (take (p - 1) S)) ((p, s) ∷ [])
+            ∙ (ap (λ t. list_any g (actives kind (take (p - 1) S)) || t) (last-any g (p, s) false h) ∙ or-false (list_any g (actives kind (take (p - 1) S)))))) ∙ w.same;
+      }
+
+  pub sought-over : p ≡ 0 → list_any g (actives kind (take (at - 1) S)) ≡ false
+  sought-over z = sym w.same ∙ ap (list_any g) (walk-over kind S m p n w.last z)
+
+-- ---- the entries walked over
+
+pub entry-disj : (names labels : List Name) (e : Entry) → is_disj (stmt_of names labels e) ≡ true → separated (stmt_of names labels e) ≡ decode names e.symbols.items
+entry-disj names labels e = by e.kind
+  where
+    by : (kind : Kind) → is_disj (stmt_by kind (name_at labels e.label) (decode names e.symbols.items)) ≡ true → separated (stmt_by kind (name_at labels e.label) (decode names e.symbols.items)) ≡ decode names e.symbols.items
+    by Disj h = refl
+    by Open h = cc
+    by Close h = cc
+    by Const h = cc
+    by Var h = cc
+    by Float h = cc
+    by Ess h = cc
+    by Axiom h = cc
+    by Prove h = cc
+
+pub entry-var : (names labels : List Name) (e : Entry) → is_var (stmt_of names labels e) ≡ true → variables (stmt_of names labels e) ≡ decode names e.symbols.items
+entry-var names labels e = by e.kind
+  where
+    by : (kind : Kind) → is_var (stmt_by kind (name_at labels e.label) (decode names e.symbols.items)) ≡ true → variables (stmt_by kind (name_at labels e.label) (decode names e.symbols.items)) ≡ decode names e.symbols.items
+    by Var h = refl
+    by Disj h = cc
+    by Open h = cc
+    by Close h = cc
+    by Const h = cc
+    by Float h = cc
+    by Ess h = cc
+    by Axiom h = cc
+    by Prove h = cc
+
+-- a statement that lists no variables
+pub other-disj : (s : Stmt) → is_disj s ≡ false → separated s ≡ []
+other-disj (stmt.Disj n) h = cc
+other-disj s h = refl
+
+pub other-var : (s : Stmt) → is_var s ≡ false → variables s ≡ []
+other-var (stmt.Var n) h = cc
+other-var s h = refl
+
+-- what is read at the place of the walk
+pub record IsRead (kind : Stmt → Bool) (names labels : List Name) (es : List Entry) (p m : ℕ) (e : Entry) (s : Stmt) : Type 0 where
+  pub entry : slice_get es (p - 1) ≡ Some e
+  pub is : stmt_of names labels e ≡ s
+  pub back : IsBack kind (map (stmt_of names labels) es) m p s
+
+pub read-here : (kind : Stmt → Bool) (g : ℕ × Stmt → Bool) (names labels : List Name) (es : List Entry) (at p m : ℕ) (e : Entry) → IsNoClose kind → IsSought kind g (map (stmt_of names labels) es) at p m → (p ≡ 0 → ⊥)
+    → e ≡ get_or es (p - 1) e → (s : Stmt) × IsRead kind names labels es p m e s
+read-here kind g names labels es at p m e n w some is =
+    let b = sought-here kind g (map (stmt_of names labels) es) at p m n w some in
+    let le = b.1.within in let one = b.1.above in let high = w.high in
+    let len = length-map es (stmt_of names labels) in
+    let got = get-index es (p - 1) e (omega (arith, le, one, high, len)) is in
+    (b.0, record { entry = got; is = some-same (sym (get-stmt names labels es (p - 1) e got) ∙ b.1.stands); back = b.1 })
+
+-- ---- the last `$v` of a symbol
+
+is-var-kind : (names labels : List Name) (e : Entry) → is_var (stmt_of names labels e) ≡ is_var_kind e.kind
+is-var-kind names labels e = by e.kind
+  where
+    by : (kind : Kind) → is_var (stmt_by kind (name_at labels e.label) (decode names e.symbols.items)) ≡ is_var_kind kind
+    by Var = refl
+    by Disj = refl
+    by Open = refl
+    by Close = refl
+    by Const = refl
+    by Float = refl
+    by Ess = refl
+    by Axiom = refl
+    by Prove = refl
+
+-- what an entry declares is what its statement declares
+pub declares-has : (names labels : List Name) (x : ℕ) (e : Entry) → AreDistinct names → x < length names → AreBelow (length names) e.symbols.items
+    → declares x e ≡ has_name (name_at names x) (variables (stmt_of names labels e))
+declares-has names labels x e d l b = by (is_var_kind e.kind) refl
+  where
+    by : (t : Bool) → is_var_kind e.kind ≡ t → declares x e ≡ has_name (name_at names x) (variables (stmt_of names labels e))
+    by true h =
+        ap (λ t. t && list_any (λ y. x == y) e.symbols.items) h
+        ∙ (has-decode names x e.symbols.items d l b ∙ ap (has_name (name_at names x)) (sym (entry-var names labels e (is-var-kind names labels e ∙ h))))
+    by false h =
+        ap (λ t. t && list_any (λ y. x == y) e.symbols.items) h ∙ sym (ap (has_name (name_at names x)) (other-var (stmt_of names labels e) (is-var-kind names labels e ∙ h)))
+
+none-last : (test : Entry → Bool) (found at : ℕ) (es : List Entry) → 1 ≤ at → last_from test found at es ≡ 0 → (found ≡ 0) × ((k : ℕ) (e : Entry) → slice_get es k ≡ Some e → test e ≡ false)
+none-last test found at [] one h = (h, λ k e g. cc)
+none-last test found at (d ∷ es) one h = by (test d) refl (none-last test (cond (test d) at found) (at + 1) es (omega arith) h)
+  where
+    by : (b : Bool) → test d ≡ b → (cond (test d) at found ≡ 0) × ((k : ℕ) (e : Entry) → slice_get es k ≡ Some e → test e ≡ false)
+        → (found ≡ 0) × ((k : ℕ) (e : Entry) → slice_get (d ∷ es) k ≡ Some e → test e ≡ false)
+    by true t r = let z : at ≡ 0 = sym (ap (λ b. cond b at found) t) ∙ r.0 in absurd (omega (arith, z, one))
+    by false t r = (sym (ap (λ b. cond b at found) t) ∙ r.0, first t r.1)
+      where
+        first : test d ≡ false → ((k : ℕ) (e : Entry) → slice_get es k ≡ Some e → test e ≡ false) → (k : ℕ) (e : Entry) → slice_get (d ∷ es) k ≡ Some e → test e ≡ false
+        first u rest zero e g = let same : d ≡ e = cc in ap test (sym same) ∙ u
+        first u rest (suc k) e g = rest k e g
+
+any-none : (g : ℕ × Stmt → Bool) (at : ℕ) (S : Database) → ((k : ℕ) (s : Stmt) → slice_get S k ≡ Some s → (q : ℕ) → g (q, s) ≡ false) → list_any g (active_from at S) ≡ false
+any-none g at [] h = refl
+any-none g at (s ∷ S) h = by (stays_open 0 S) (any-none g (at + 1) S (λ k t e. h (suc k) t e)) (h 0 s refl at)
+  where
+    by : (b : Bool) → list_any g (active_from (at + 1) S) ≡ false → g (at, s) ≡ false → list_any g (cond b ((at, s) ∷ active_from (at + 1) S) (active_from (at + 1) S)) ≡ false
+    by true r e = ap (λ t. t || list_any g (active_from (at + 1) S)) e ∙ r
+    by false r e = r
+
+-- no `$v` has it
+pub declared-none : (names labels : List Name) (m x n : ℕ) (es : List Entry) → AreDistinct names → x < length names → AreNumbered (length names) m es → last_where (declares x) es ≡ 0
+    → list_any (λ p. has_name (name_at names x) (variables p.1)) (active (take n (map (stmt_of names labels) es))) ≡ false
+declared-none names labels m x n es d l a z =
+    any-none (λ p. has_name (name_at names x) (variables p.1)) 1 (take n (map (stmt_of names labels) es)) (λ k s g q. one k s (get-less n (map (stmt_of names labels) es) k s g))
+  where
+    get-less : (i : ℕ) (S : Database) (k : ℕ) (s : Stmt) → slice_get (take i S) k ≡ Some s → slice_get S k ≡ Some s
+    get-less zero [] k s g = g
+    get-less zero (t ∷ S) k s g = cc
+    get-less (suc i) [] k s g = g
+    get-less (suc i) (t ∷ S) zero s g = g
+    get-less (suc i) (t ∷ S) (suc k) s g = get-less i S k s g
+
+    one : (k : ℕ) (s : Stmt) → slice_get (map (stmt_of names labels) es) k ≡ Some s → has_name (name_at names x) (variables s) ≡ false
+    one k s g =
+        let e = get-entry names labels es k s g in
+        ap (λ t. has_name (name_at names x) (variables t)) (sym e.2)
+        ∙ (sym (declares-has names labels x e.0 d l (numbered-at (length names) m es a k e.0 e.1)) ∙ (none-last (declares x) 0 1 es (omega arith) z).1 k e.0 e.1)
+
+-- the last one has it, and is active
+pub declared-active : (names labels : List Name) (m x p at : ℕ) (es : List Entry) → AreDistinct names → x < length names → AreNumbered (length names) m es
+    → p ≡ last_where (declares x) es → (p ≡ 0 → ⊥) → p < at → is_active (map (stmt_of names labels) es) p at ≡ true
+    → list_any (λ q. has_name (name_at names x) (variables q.1)) (active (take (at - 1) (map (stmt_of names labels) es))) ≡ true
+declared-active names labels m x p at es d l a h some lt act = by (last-is (declares x) 0 1 es p (omega arith) (sym h))
+  where
+    S : Database
+    S = map (stmt_of names labels) es
+
+    by : (p ≡ 0) ⊎ ((i : ℕ) × (e : Entry) × (slice_get es i ≡ Some e) × (declares x e ≡ true) × (p ≡ 1 + i)) → list_any (λ q. has_name (name_at names x) (variables q.1)) (active (take (at - 1) (map (stmt_of names labels) es))) ≡ true
+    by (inl z) = absurd (some z)
+    by (inr r) =
+        let i = r.0 in let e = r.1 in let place = r.4 in
+        let s = stmt_of names labels e in
+        let has : has_name (name_at names x) (variables s) ≡ true = sym (declares-has names labels x e d l (numbered-at (length names) m es a i e r.2)) ∙ r.3 in
+        let E = take (at - 1) (map (stmt_of names labels) es) in
+        let g : slice_get E i ≡ Some s = get-take i (at - 1) (map (stmt_of names labels) es) (omega (arith, lt, place)) ∙ get-stmt names labels es i e r.2 in
+        let cut : E ≡ take i E ++ s ∷ drop (suc i) E = cut-here E i s g in
+        let up : p ≡ suc i = omega (arith, place) in
+        let stays : stays_open 0 (drop (suc i) E) ≡ true =
+        ap (λ n. stays_open 0 (drop n E)) (sym up) ∙ (sym (active-stays (map (stmt_of names labels) es) p at (omega (arith, place)) lt) ∙ act) in
+        ap (λ T. list_any (λ q. has_name (name_at names x) (variables q.1)) (active T)) cut
+        ∙ stands-active (λ t. has_name (name_at names x) (variables t)) 1 (take i E) s (drop (suc i) E) stays has
+
+pub var-plain : (names labels : List Name) (x p : ℕ) (es : List Entry) → p ≡ last_where (declares x) es → (p ≡ 0 → ⊥) → (1 ≤ p) × IsPlain (slice_get (map (stmt_of names labels) es) (p - 1))
+var-plain names labels x p es h some = by (last-is (declares x) 0 1 es p (omega arith) (sym h))
+  where
+    first : (a b : Bool) → (a && b) ≡ true → a ≡ true
+    first true b e = refl
+    first false b e = cc
+
+    plain : (kind : Kind) (l : Name) (ws : List Name) → is_var_kind kind ≡ true → IsPlain (Some (stmt_by kind l ws))
+    plain Var l ws e = (refl, refl)
+    plain Disj l ws e = cc
+    plain Open l ws e = cc
+    plain Close l ws e = cc
+    plain Const l ws e = cc
+    plain Float l ws e = cc
+    plain Ess l ws e = cc
+    plain Axiom l ws e = cc
+    plain Prove l ws e = cc
+
+    by : (p ≡ 0) ⊎ ((i : ℕ) × (e : Entry) × (slice_get es i ≡ Some e) × (declares x e ≡ true) × (p ≡ 1 + i)) → (1 ≤ p) × IsPlain (slice_get (map (stmt_of names labels) es) (p - 1))
+    by (inl z) = absurd (some z)
+    by (inr r) =
+        let at = r.4 in
+        let back : p - 1 ≡ r.0 = omega (arith, at) in
+        (omega (arith, at), subst IsPlain (sym (ap (slice_get (map (stmt_of names labels) es)) back ∙ get-stmt names labels es r.0 r.1 r.2)) (plain r.1.kind _ _ (first (is_var_kind r.1.kind) _ r.3)))

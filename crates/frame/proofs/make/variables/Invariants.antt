@@ -1,0 +1,7 @@
+use Rattle.std.proofs.Common.{◌≡◌, take}
+use Rattle.std.specs.Prelude.{map}
+use Rattle.frame.specs.Stored.{variable_at}
+use Rattle.frame.proofs.make.variables.Given as goal
+
+abbrev pub invariant-loop-position : goal.invariant-loop-position
+invariant-loop-position l = l.found.items ≡ map (variable_at l.stock.entries.items) (take l.position-index l.hypotheses)

@@ -1,0 +1,82 @@
+use Rattle.std.proofs.Common.{◌≡◌, ◌∙◌, ◌-◌, ap, sym, subst, arith, length, take, refl, ℕ}
+use Rattle.std.specs.Prelude.{Bool, true, false, ◌&&◌, ◌==◌, List}
+use Rattle.std.specs.List.{list_any}
+use Rattle.std.proofs.lemmas.List.{length-map, length-take-le}
+use Rattle.mm_lex.specs.Alphabet.{has_name}
+use Rattle.mm_read.specs.declared.stmt.Stmt.{Stmt}
+use Rattle.scope.specs.Active.{active, before, separated, variables}
+use Rattle.scope.specs.Numbering.{name_at, decode}
+use Rattle.frame.specs.Links.{actives, last_active, is_disj, is_var}
+use Rattle.frame.specs.Stored.{statements_of, stmt_of}
+use Rattle.frame.proofs.WalkLemmas.{last-within}
+use Rattle.frame.proofs.StoredLemmas.{numbered-at}
+use Rattle.frame.proofs.PairsLemmas.{IsSought, sought-here, sought-found, sought-step, sought-over, read-here, any-kind, has-decode, entry-disj, entry-var, other-disj, other-var}
+use Rattle.frame.proofs.pairs.is_listed_at.Goals as goal
+
+pub index-entry-requires : goal.index-entry-requires
+index-entry-requires c =
+    let k = c.args.stock.now in
+    let g = (λ (p : ℕ × Stmt). has_name (name_at k.names c.args.x) (variables p.1)) in
+    let i = c.loop-last.invariant in
+    let p = c.loop-last.last in
+    let b = sought-here is_var g (statements_of k) c.args.at p i.0 refl i.1 c.loop-last-test.true in
+    let n = length-map k.entries.items (stmt_of k.names k.labels) in
+    let high = i.1.high in let le = b.1.within in let one = b.1.above in
+    omega (arith, n, high, le, one, k.entries.ok.0)
+
+pub loop-last-init : goal.loop-last-init
+loop-last-init c =
+    let n = c.requires.place in
+    (c.args.at - 1, record { high = omega (arith, n.0, n.1); last = ap (λ q. q.variable) c.links_at-last.ensures; same = refl })
+
+-- what the test of the code says of the statement
+told : (names labels : List (List ℕ)) (x : ℕ) (codes : List ℕ) (s : Stmt) (b : Bool) → list_any (λ y. x == y) codes ≡ has_name (name_at names x) (decode names codes) → variables s ≡ decode names codes → b ≡ list_any (λ y. x == y) codes → has_name (name_at names x) (variables s) ≡ b
+told names labels x codes s b h v e = ap (has_name (name_at names x)) v ∙ (sym h ∙ sym e)
+
+pub returns-then-contains : goal.returns-then-contains
+returns-then-contains c =
+    let k = c.args.stock.now in
+    let g = (λ (p : ℕ × Stmt). has_name (name_at k.names c.args.x) (variables p.1)) in
+    let i = c.loop-last.invariant in
+    let p = c.loop-last.last in
+    let r = read-here is_var g k.names k.labels k.entries.items c.args.at p i.0 c.index-entry.result.now refl i.1 c.loop-last-test.true c.index-entry.ensures in
+    let b = r.1.back in
+    let high = i.1.high in let le = b.within in let one = b.above in
+    let e = c.index-entry.result.now in
+    let yes = told k.names k.labels c.args.x e.symbols.items r.0 true (has-decode k.names c.args.x e.symbols.items c.requires.names.1 c.requires.names.0 (numbered-at (length k.names) (length k.labels) k.entries.items c.requires.stored.coded (p - 1) e r.1.entry)) (ap variables (sym r.1.is) ∙ entry-var k.names k.labels e (ap is_var r.1.is ∙ b.of_kind)) (sym c.if-contains.true ∙ (c.contains.ensures ∙ ap (list_any (λ y. c.args.x == y)) c.deref.ensures.value)) in
+    sym (any-kind is_var g (λ q h. ap (has_name (name_at k.names c.args.x)) (other-var q.1 h)) (active (before (statements_of k) c.args.at)) ∙ sought-found is_var g (statements_of k) c.args.at p i.0 refl i.1 r.0 b yes)
+
+pub loop-last-smaller : goal.loop-last-smaller
+loop-last-smaller c =
+    let k = c.args.stock.now in
+    let g = (λ (p : ℕ × Stmt). has_name (name_at k.names c.args.x) (variables p.1)) in
+    let i = c.loop-last.invariant in
+    let p = c.loop-last.last in
+    let r = read-here is_var g k.names k.labels k.entries.items c.args.at p i.0 c.index-entry.result.now refl i.1 c.loop-last-test.true c.index-entry.ensures in
+    let b = r.1.back in
+    let high = i.1.high in let le = b.within in let one = b.above in
+    let l = ap (λ q. q.variable) (c.requires.stored.linked (p - 1) c.index-entry.result.now r.1.entry) in
+    let a = last-within is_var (take (p - 1) (statements_of k)) refl in
+    let d = length-take-le (p - 1) (statements_of k) (omega (arith, le, high)) in
+    omega (arith, l, a, d, one)
+
+pub loop-last-preserved : goal.loop-last-preserved
+loop-last-preserved c =
+    let k = c.args.stock.now in
+    let g = (λ (p : ℕ × Stmt). has_name (name_at k.names c.args.x) (variables p.1)) in
+    let i = c.loop-last.invariant in
+    let p = c.loop-last.last in
+    let r = read-here is_var g k.names k.labels k.entries.items c.args.at p i.0 c.index-entry.result.now refl i.1 c.loop-last-test.true c.index-entry.ensures in
+    let b = r.1.back in
+    let high = i.1.high in let le = b.within in let one = b.above in
+    let e = c.index-entry.result.now in
+    let l = ap (λ q. q.variable) (c.requires.stored.linked (p - 1) e r.1.entry) in
+    let nay = told k.names k.labels c.args.x e.symbols.items r.0 false (has-decode k.names c.args.x e.symbols.items c.requires.names.1 c.requires.names.0 (numbered-at (length k.names) (length k.labels) k.entries.items c.requires.stored.coded (p - 1) e r.1.entry)) (ap variables (sym r.1.is) ∙ entry-var k.names k.labels e (ap is_var r.1.is ∙ b.of_kind)) (sym c.if-contains.false ∙ (c.contains.ensures ∙ ap (list_any (λ y. c.args.x == y)) c.deref.ensures.value)) in
+    (p - 1, subst (λ q. IsSought is_var g (statements_of k) c.args.at q (p - 1)) (sym l) (sought-step is_var g (statements_of k) c.args.at p i.0 refl i.1 r.0 b nay))
+
+pub returns : goal.returns
+returns c =
+    let k = c.args.stock.now in
+    let g = (λ (p : ℕ × Stmt). has_name (name_at k.names c.args.x) (variables p.1)) in
+    let i = c.loop-last.invariant in
+    sym (any-kind is_var g (λ q h. ap (has_name (name_at k.names c.args.x)) (other-var q.1 h)) (active (before (statements_of k) c.args.at)) ∙ sought-over is_var g (statements_of k) c.args.at c.loop-last.last i.0 refl i.1 c.loop-last-test.false)

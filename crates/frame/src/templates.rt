@@ -1,0 +1,91 @@
+//! Expressions in which a variable is known by its place among the hypotheses.
+ghost use Rattle.std.specs.Prelude.{◌≡◌, ◌+◌, ◌<◌, ◌^◌, ◌++◌, length, OnOk, IfOk, IfSome};
+ghost use Rattle.std.specs.Option.{option_to_list};
+ghost use Rattle.frame.specs.ByPlaces.{AreBelow};
+ghost use Rattle.frame.specs.Stored.{place_of, template_number, templated, places_of, variable_by};
+
+use crate::storage::{Entry, Kind};
+use std::alloc::{AllocError, Global};
+
+/// The variable of a `$f`.
+pub fn variable_of(entry: &Entry) -> Option<u32>
+    ensures { result ≡ variable_by entry.now.kind entry.now.symbols.items }
+{
+    match entry.kind {
+        Kind::Float => entry.symbols.get(1).copied(),
+        _ => None,
+    }
+}
+
+/// The first place of a variable.
+fn place(variables: &[Option<u32>], code: u32) -> Option<usize>
+    ensures place { result ≡ place_of variables.now code }
+    ensures within { IfSome result (λ k. k < length variables.now) }
+{
+    for (k, variable) in variables.iter().enumerate() {
+        if let Some(other) = variable {
+            if code == *other {
+                return Some(k);
+            }
+        }
+    }
+    None
+}
+
+/// One number of a template: the place of a variable, or the number of a symbol behind the places.
+fn number(variables: &[Option<u32>], code: u32) -> u32
+    requires few { length variables.now < 2 ^ 31 }
+    requires code { code < 2 ^ 31 }
+    ensures { result ≡ template_number variables.now code }
+{
+    match place(variables, code) {
+        Some(k) => k as u32,
+        None => variables.len() as u32 + code,
+    }
+}
+
+/// Adds the template of an expression.
+pub fn add_template(
+    variables: &[Option<u32>],
+    codes: &[u32],
+    templates: &mut Vec<u32>,
+) -> Result<(), AllocError>
+    requires few { length variables.now < 2 ^ 31 }
+    requires codes { AreBelow (2 ^ 31) codes.now }
+    ensures { OnOk result (templates.new.items ≡ templates.old.items ++ templated variables.now codes.now) }
+{
+    for code in codes {
+        templates.push(number(variables, *code))?;
+    }
+    Ok(())
+}
+
+/// The places of those of the variables that have one.
+pub fn places(
+    alloc: Global,
+    variables: &[Option<u32>],
+    codes: &[u32],
+) -> Result<Vec<u32>, AllocError>
+    requires few { length variables.now < 2 ^ 31 }
+    ensures { IfOk result (λ v. v.items ≡ places_of variables.now codes.now) }
+{
+    let mut found = Vec::new(alloc);
+    for code in codes {
+        add_place(place(variables, *code), &mut found)?;
+    }
+    Ok(found)
+}
+
+/// Adds a place, where there is one.
+fn add_place(place: Option<usize>, found: &mut Vec<u32>) -> Result<(), AllocError>
+    requires { IfSome place (λ k. k < 2 ^ 31) }
+    ensures { OnOk result (found.new.items ≡ found.old.items ++ option_to_list place) }
+{
+    match place {
+        Some(k) => {
+            found.push(k as u32)?;
+            Ok(())
+        }
+        None => Ok(()),
+    }
+}
