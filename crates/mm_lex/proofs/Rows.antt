@@ -1,6 +1,8 @@
--- Small texts, worked out.
-use Rattle.std.specs.Prelude.{[], ◌∷◌, codes, refl}
+-- The definitions on small texts.
+use Rattle.std.specs.Prelude.{◌≡◌, true, false, [], ◌∷◌, ◌++◌, codes, refl}
 use Rattle.std.proofs.Common.{inl, inr, arith}
+use Rattle.mm_lex.specs.Alphabet.{is_label, is_symbol}
+use Rattle.mm_lex.specs.Words.{spaced, words_of}
 use Rattle.mm_lex.specs.Tokens.{AreTokens}
 use Rattle.mm_lex.specs.Faults.{IsFirstBadByte, IsCommentFault}
 
@@ -59,3 +61,55 @@ unclosed = (
     place = refl;
   })),
 )
+
+stray : IsCommentFault (codes "a $)") 2
+stray = (
+  refl,
+  inl (record {
+    before = record { start = 0; end = 1 } ∷ [];
+    tokens = record { start = 0; end = 1 } ∷ [];
+    at = record { start = 2; end = 4 };
+    rest = [];
+    whole = refl;
+    cut = record { first = record { start = 0; end = 1 } ∷ []; parts = []; whole = refl; plain = refl; comments = tt; outside = refl };
+    closes = refl;
+    place = refl;
+  }),
+)
+
+-- a longer token inside of a comment does not end it
+longer_inside : AreTokens (codes "$( $)x $) b") (record { start = 10; end = 11 } ∷ [])
+longer_inside = (
+  refl,
+  record {
+    first = [];
+    parts = record {
+      begin = record { start = 0; end = 2 };
+      inside = record { start = 3; end = 6 } ∷ [];
+      end = record { start = 7; end = 9 };
+      after = record { start = 10; end = 11 } ∷ [];
+    } ∷ [];
+    whole = refl;
+    plain = refl;
+    comments = (record { begins = refl; inside = refl; ends = refl; after = refl }, tt);
+    outside = refl;
+  },
+)
+
+-- a byte that is not allowed is a fault inside of a comment too
+bad_byte_inside : IsFirstBadByte (codes "$( " ++ 127 ∷ codes " $)") 3
+bad_byte_inside = record { inside = omega arith; bad = refl; before = refl }
+
+-- ---- names and words
+
+labels : (is_label (codes "ax-1.b_2") ≡ true) × (is_label (codes "a+b") ≡ false) × (is_label [] ≡ false)
+labels = (refl, refl, refl)
+
+symbols : (is_symbol (codes "|-") ≡ true) × (is_symbol (codes "$a") ≡ false) × (is_symbol (codes "a b") ≡ false)
+symbols = (refl, refl, refl)
+
+words_in_a_buffer : (words_of (codes "wff P") ≡ codes "wff" ∷ codes "P" ∷ []) × (words_of [] ≡ [])
+words_in_a_buffer = (refl, refl)
+
+words_with_a_space : spaced (codes "wff" ∷ codes "P" ∷ []) ≡ codes "wff P"
+words_with_a_space = refl
