@@ -27,8 +27,11 @@ pub(crate) enum Sort {
 }
 
 impl Scope {
-    /// The least rule that the statement breaks.
-    pub(crate) fn broken(&self, stmt: &Stmt) -> Option<Rule>
+    /// The least rule that the statement would break as the next one. It takes no memory.
+    ///
+    /// Cost: the statement's own size. Source: Metamath, chapter 4; the rules are
+    /// `specs/Legal.antt`.
+    pub fn broken_rule(&self, stmt: &Stmt) -> Option<Rule>
         ensures { result ≡ broken_rule self.now.statements stmt.now }
     {
         match stmt {

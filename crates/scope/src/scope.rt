@@ -87,7 +87,7 @@ impl Scope {
         ensures counted { steps.new.count ≡ steps.old.count + 1 }
     {
         steps.tick();
-        if let Some(rule) = self.broken(stmt) {
+        if let Some(rule) = self.broken_rule(stmt) {
             return Err(rule);
         }
         if self.count == usize::MAX {
