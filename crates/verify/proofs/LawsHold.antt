@@ -1,0 +1,29 @@
+-- The laws, from the lemmas on runs and spellings.
+use Rattle.std.specs.Prelude.{◌+◌, [], ◌∷◌, refl}
+use Rattle.std.proofs.Common.{arith}
+use Rattle.frame.proofs.LegalLabels.{legal-labels}
+use Rattle.verify.specs.Laws.{RunsSpell, SpellingsRun, SpelledOnce}
+use Rattle.verify.proofs.Sound.{Spelled, sound}
+use Rattle.verify.proofs.Complete.{Result, complete, state}
+use Rattle.verify.proofs.Unique.{spelled_once}
+
+pub runs_spell : RunsSpell
+runs_spell S at items end e runs one =
+    let p : Spelled S at items e end.weight = sound S at items end e runs one in
+    record { tree = p.tree; after = p.after; spelled = p.spelled; concludes = p.concludes }
+
+pub spellings_run : SpellingsRun
+spellings_run S at single items t after weight spelled =
+    let r : Result S at single [] items t after weight [] = complete S at single spelled [] tt in
+    record {
+      end = state S at single (r.result ∷ []) r.saved' (0 + weight);
+      result = r.result;
+      runs = r.leads.runs [] 0;
+      one = refl;
+      concludes = r.concludes;
+      weighs = omega arith;
+    }
+
+pub once : SpelledOnce
+once S at legal items t u after after' weight weight' p q =
+    spelled_once S at (legal-labels S legal) [] after after' items t u weight weight' p q

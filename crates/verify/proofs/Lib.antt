@@ -1,0 +1,20 @@
+pub mod TreeLemmas
+pub mod Sound
+pub mod Complete
+pub mod Decide
+pub mod PlaceLemmas
+pub mod PartLemmas
+pub mod Named
+pub mod ApartLemmas
+pub mod TableLemmas
+pub mod StepLemmas
+pub mod Unique
+pub mod GrowthLemmas
+pub mod PlanLemmas
+pub mod SizeLemmas
+pub mod ExpandLemmas
+pub mod RightLemmas
+pub mod LawsHold
+pub mod Computed
+pub mod Examples
+mod Rows

@@ -1,0 +1,72 @@
+-- The worked proofs, found by computation.
+use Rattle.std.specs.Prelude.{◌≡◌, ℕ, List, [], ◌∷◌, ◌++◌, codes, refl, true, map, is_some, is_none, Option, Some, None}
+use Rattle.verify.specs.Derivations.{node_count}
+use Prim.Native.String.{String}
+use Rattle.mm_read.specs.declared.stmt.Stmt.TheVariants.{Open, Const, Var, Disj, Float, Axiom, Prove}
+use Rattle.mm_read.specs.Statements.{Database}
+use Rattle.scope.proofs.Databases.{w, demo, row_seven, row_th}
+use Rattle.scope.specs.Active.{bares, before}
+use Rattle.proof_code.specs.declared.item.Item.{Item}
+use Rattle.proof_code.specs.declared.item.Item.TheVariants.{Cite, Recall, Mark}
+use Rattle.verify.proofs.Examples.{swapped}
+use Rattle.verify.specs.Right.{IsRight}
+use Rattle.verify.proofs.Computed.{prove, found}
+
+abbrev cites : String → List Item
+cites text = map (λ l. Cite l) (w (codes text))
+
+row_four : IsRight swapped 6 (map (λ l. Cite l) (w (codes "wy wx ax")))
+row_four = found (prove swapped 6 (map (λ l. Cite l) (w (codes "wy wx ax")))) refl
+
+-- row 5: an empty image
+row_five : IsRight (Const (w (codes "wff |- ( )")) ∷ Var (w (codes "x")) ∷ Float (codes "wx") (codes "wff") (codes "x") ∷ Axiom (codes "we") (w (codes "wff"))
+    ∷ Axiom (codes "ax") (w (codes "|- ( x )")) ∷ Prove (codes "th") (w (codes "|- ( )")) [] ∷ []) 6 (cites "we ax")
+row_five = found (prove _ 6 (cites "we ax")) refl
+
+-- row 7: z is a dummy
+row_seven_right : IsRight (row_seven ++ row_th ∷ []) 16 (cites "wx wz wx wz ax r")
+row_seven_right = found (prove _ 16 (cites "wx wz wx wz ax r")) refl
+
+-- the first wrong body: two results left over are no proof
+two_left : is_none (prove (Const (w (codes "|- o")) ∷ Axiom (codes "a") (w (codes "|- o")) ∷ Prove (codes "th") (w (codes "|- o")) [] ∷ []) 3 (cites "a a")) ≡ true
+two_left = refl
+
+-- row 2
+demo_normal : is_some (prove (bares demo) 19 (cites "tt tze tpl tt weq tt tt weq tt a2 tt tze tpl tt weq tt tze tpl tt weq tt tt weq wim tt a2 tt tze tpl tt tt a1 mp mp")) ≡ true
+demo_normal = refl
+
+-- its weight, and how many nodes the derivation has
+abbrev weighed : {S : Database} {at : ℕ} {items : List Item} → Option (IsRight S at items) → ℕ × ℕ
+weighed None = (0, 0)
+weighed (Some r) = (r.1.weight, node_count r.0)
+
+demo_normal_weight : weighed (prove (bares demo) 19 (cites "tt tze tpl tt weq tt tt weq tt a2 tt tze tpl tt weq tt tze tpl tt weq tt tt weq wim tt a2 tt tze tpl tt tt a1 mp mp")) ≡ (166, 34)
+demo_normal_weight = refl
+
+-- row 3: the letters `ABCZADZAADZAEZJJKFLIAAGHH`
+abbrev demo_packed : List Item
+demo_packed = cites "tt tze tpl" ++ Mark ∷ (cites "tt weq" ++ Mark ∷ (cites "tt tt weq" ++ Mark ∷ (cites "tt a2" ++ Mark ∷ Recall 2 ∷ Recall 2 ∷ Recall 3 ∷ (cites "wim" ++ Recall 4 ∷ Recall 1 ∷ cites "tt tt a1 mp mp"))))
+
+demo_packed_weight : weighed (prove (bares demo) 19 demo_packed) ≡ (132, 34)
+demo_packed_weight = refl
+
+-- row 6: nothing keeps x and z apart at the theorem, and then a `$d` does
+row_six_open : is_none (prove (before row_seven 10 ++ Prove (codes "th") (w (codes "|- x R z")) [] ∷ []) 10 (cites "wx wz ax")) ≡ true
+row_six_open = refl
+
+row_six_kept : is_some (prove (before row_seven 10 ++ Open ∷ Disj (w (codes "x z")) ∷ Prove (codes "th") (w (codes "|- x R z")) [] ∷ []) 12 (cites "wx wz ax")) ≡ true
+row_six_kept = refl
+
+row_six_same : is_none (prove (before row_seven 10 ++ Open ∷ Disj (w (codes "x z")) ∷ Prove (codes "th") (w (codes "|- x R x")) [] ∷ []) 12 (cites "wx wx ax")) ≡ true
+row_six_same = refl
+
+-- row 7 with `th` alone: the closed block's `$d` is no use
+row_seven_alone : is_none (prove (before row_seven 14 ++ Prove (codes "th") (w (codes "|- R x")) [] ∷ []) 14 (cites "wx wz wx wz ax r")) ≡ true
+row_seven_alone = refl
+
+-- row 4 with the other theorem, and a proof that cites itself
+row_four_wrong : is_none (prove (before swapped 6 ++ Prove (codes "th") (w (codes "|- x R x")) [] ∷ []) 6 (cites "wy wx ax")) ≡ true
+row_four_wrong = refl
+
+itself : is_none (prove (Const (w (codes "|- o")) ∷ Prove (codes "th") (w (codes "|- o")) [] ∷ []) 2 (cites "th")) ≡ true
+itself = refl

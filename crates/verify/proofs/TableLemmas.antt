@@ -1,0 +1,74 @@
+-- What a label names, found once.
+use Rattle.std.specs.Prelude.{◌≡◌, ℕ, zero, suc, ◌<◌, Bool, true, false, nat_lt, List, [], ◌∷◌, ◌++◌, length, map, get_or, Some, refl}
+use Rattle.std.proofs.Common.{sym, ◌∙◌, ap, subst, arith, length-append, Bor}
+use Rattle.mm_lex.specs.Alphabet.{Name}
+use Rattle.mm_read.specs.declared.stmt.Stmt.{Stmt}
+use Rattle.mm_read.specs.Statements.{Database}
+use Rattle.scope.specs.Active.{stmt_at, is_assertion}
+use Rattle.frame.specs.Citations.{Carries, IsHypothesis}
+use Rattle.frame.specs.FrameOf.{HasAssertion}
+use Rattle.frame.specs.Reading.{HasLabelsOnce}
+use Rattle.verify.specs.Spells.{IsCitable}
+use Rattle.verify.specs.declared.table.Entry.{Entry}
+use Rattle.verify.specs.declared.table.Entry.TheVariants.{Nothing}
+use Rattle.verify.specs.Table.{IsEntry, AreEntries}
+use Rattle.verify.proofs.Decide.{some_same}
+use Rattle.verify.proofs.PlaceLemmas.{map-snoc}
+use Rattle.verify.proofs.StepLemmas.{get-default}
+
+pub get-front : {A : Type 0} (xs ys : List A) (k : ℕ) (d : A) → k < length xs → get_or (xs ++ ys) k d ≡ get_or xs k d
+get-front [] ys k d h = absurd (omega (arith, h))
+get-front (x ∷ xs) ys zero d h = refl
+get-front (x ∷ xs) ys (suc k) d h = get-front xs ys k d (omega (arith, h))
+
+pub get-last : {A : Type 0} (xs : List A) (x : A) (k : ℕ) (d : A) → k ≡ length xs → get_or (xs ++ x ∷ []) k d ≡ x
+get-last {A} xs x k d e = ap (λ n. get_or (xs ++ x ∷ []) n d) e ∙ at_end xs
+  where
+    at_end : (ys : List A) → get_or (ys ++ x ∷ []) (length ys) d ≡ x
+    at_end [] = refl
+    at_end (y ∷ ys) = at_end ys
+
+-- the one statement with the label may not be cited
+pub nothing : (S : Database) (at i : ℕ) (s : Stmt) (label : Name) → HasLabelsOnce S → Carries S i s label
+    → ((t : Stmt) → stmt_at S i ≡ Some t → (IsHypothesis S at i t → ⊥) × (i < at → is_assertion t ≡ true → ⊥))
+    → (j : ℕ) (t : Stmt) → Carries S j t label → (IsHypothesis S at j t → ⊥) × (IsCitable S at j t → ⊥)
+nothing S at i s label once carries none j t carries' =
+    let e : j ≡ i = once j i t s label carries' carries in
+    let n = none t (ap (stmt_at S) (sym e) ∙ carries'.stands) in
+    (λ h. n.0 (subst (λ k. IsHypothesis S at k t) e h), λ h. n.1 (subst (λ k. k < at) e h.earlier) h.assertion)
+
+-- the assertion that carries the label
+pub has_with : (S : Database) (a : ℕ) (s t : Stmt) (label : Name) → Carries S a s label → HasAssertion S a t → HasAssertion S a s
+has_with S a s t label carries has = (carries.stands, ap is_assertion (some_same carries.stands has.0) ∙ has.1)
+
+-- one more label
+pub table-more : (S : Database) (at : ℕ) (labels : List (Bor Name)) (label : Bor Name) (table table' : List Entry) (entry : Entry) → AreEntries S at (map (λ l. l.now) labels) table
+    → table' ≡ table ++ entry ∷ [] → IsEntry S at label.now entry → AreEntries S at (map (λ l. l.now) (labels ++ label ∷ [])) table'
+table-more S at labels label table table' entry are grown is =
+    subst (λ ls. AreEntries S at ls table') (sym (map-snoc (λ l. l.now) labels label))
+    (subst (AreEntries S at (map (λ l. l.now) labels ++ label.now ∷ [])) (sym grown) (more (map (λ l. l.now) labels) table are))
+  where
+    more : (ls : List Name) (es : List Entry) → AreEntries S at ls es → AreEntries S at (ls ++ label.now ∷ []) (es ++ entry ∷ [])
+    more ls es a = record { count = counted; each = λ k h. each k h (nat_lt k (length ls)) refl }
+      where
+        counted : length (es ++ entry ∷ []) ≡ length (ls ++ label.now ∷ [])
+        counted = let p = length-append es (entry ∷ []) in let q = length-append ls (label.now ∷ []) in let c = a.count in omega (arith, p, q, c)
+
+        each : (k : ℕ) → k < length (ls ++ label.now ∷ []) → (b : Bool) → nat_lt k (length ls) ≡ b → IsEntry S at (get_or (ls ++ label.now ∷ []) k []) (get_or (es ++ entry ∷ []) k Nothing)
+        each k h true q =
+            let lt : k < length ls = grind (arith, q) in
+            let c = a.count in
+            subst (λ l. IsEntry S at l (get_or (es ++ entry ∷ []) k Nothing)) (sym (get-front ls (label.now ∷ []) k [] lt))
+            (subst (IsEntry S at (get_or ls k [])) (sym (get-front es (entry ∷ []) k Nothing (omega (arith, lt, c)))) (a.each k lt))
+        each k h false q =
+            let p = length-append ls (label.now ∷ []) in
+            let same : k ≡ length ls = grind (arith, q, h, p) in
+            let c = a.count in
+            subst (λ l. IsEntry S at l (get_or (es ++ entry ∷ []) k Nothing)) (sym (get-last ls label.now k [] same))
+            (subst (IsEntry S at label.now) (sym (get-last es entry k Nothing (same ∙ sym c))) is)
+
+-- what a place of the table names
+pub entry_at : (S : Database) (at : ℕ) (labels : List Name) (table : List Entry) (k : ℕ) (d : Entry) → AreEntries S at labels table → k < length table → IsEntry S at (get_or labels k []) (get_or table k d)
+entry_at S at labels table k d are h =
+    let c = are.count in
+    subst (IsEntry S at (get_or labels k [])) (get-default table k Nothing d h) (are.each k (omega (arith, h, c)))

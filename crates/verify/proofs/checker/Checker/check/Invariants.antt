@@ -1,0 +1,16 @@
+use Rattle.std.proofs.Common.{◌≡◌, List, map, take}
+use Rattle.mm_lex.specs.Alphabet.{Name}
+use Rattle.frame.specs.Reading.{AreLegal}
+use Rattle.proof_code.specs.Numbers.{item_of, items_of}
+use Rattle.verify.specs.Table.{AreEntries}
+use Rattle.verify.proofs.StepLemmas.{Reached}
+use Rattle.verify.proofs.checker.Checker.check.Given as goal
+
+-- behind the items so far
+abbrev pub invariant-loop-number : goal.invariant-loop-number
+invariant-loop-number l =
+    (legal : AreLegal l.frames.statements l.frames.names)
+    × (labels : List Name)
+    × AreEntries l.frames.statements l.at labels l.self.table.items
+    × (items_of labels l.number-items ≡ l.items)
+    × Reached l.frames.statements l.frames.names l.at legal (map (item_of labels) (take l.number-index l.number-items)) l.self.results

@@ -1,0 +1,24 @@
+use Rattle.std.proofs.Common.{map, arith, sym, ap, ◌∙◌}
+use Rattle.verify.specs.Derivations.{apply, from_list}
+use Rattle.verify.specs.Plan.{built, pick}
+use Rattle.verify.proofs.TreeLemmas.{derivation-hyp, derivation-apply}
+use Rattle.verify.proofs.StepLemmas.{all-taken}
+use Rattle.verify.proofs.ExpandLemmas.{picked-hyp, picked-apply, kid-low}
+use Rattle.verify.proofs.tree_from_items.+expand.Goals as goal
+
+pub expand-requires : goal.expand-requires
+expand-requires t c =
+    let low = kid-low c.args.nodes.now c.args.number c.in-Apply.position c.in-Apply.kids c.index-nodes-number.result c.deref-kid-items.result.now c.loop-kid.kid-index c.requires.ordered c.requires.there
+    c.index-nodes-number.is c.in-Apply.is c.deref-kid-items.ensures.value c.loop-kid-test.true in
+    let d = c.decreases in
+    let there = c.requires.there in
+    (omega (arith, low, d), (c.requires.ordered, omega (arith, low, there)))
+
+pub returns-in-Hyp : goal.returns-in-Hyp
+returns-in-Hyp t c = derivation-hyp c.in-Hyp.position ∙ sym (picked-hyp c.args.nodes.now c.args.number c.in-Hyp.position c.index-nodes-number.result c.requires.there c.index-nodes-number.is c.in-Hyp.is)
+
+pub returns-after-loop-kid : goal.returns-after-loop-kid
+returns-after-loop-kid t c =
+    derivation-apply c.in-Apply.position c.loop-kid.trees
+    ∙ (ap (λ ks. apply c.in-Apply.position (from_list ks)) (c.loop-kid.invariant ∙ (all-taken (pick (built c.args.nodes.now)) c.deref-kid-items.result.now c.loop-kid.kid-index c.loop-kid-test.false ∙ ap (map (pick (built c.args.nodes.now))) c.deref-kid-items.ensures.value))
+    ∙ sym (picked-apply c.args.nodes.now c.args.number c.in-Apply.position c.in-Apply.kids c.index-nodes-number.result c.requires.ordered c.requires.there c.index-nodes-number.is c.in-Apply.is))

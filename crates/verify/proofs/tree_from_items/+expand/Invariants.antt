@@ -1,0 +1,10 @@
+use Rattle.std.proofs.Common.{◌≡◌, map, take}
+use Rattle.verify.specs.Derivations.{derivation_of}
+use Rattle.verify.specs.Plan.{built, pick}
+use Rattle.verify.proofs.tree_from_items.+expand.Given as goal
+
+abbrev pub decreases-expand : goal.decreases-expand
+decreases-expand l = l.number
+
+abbrev pub invariant-loop-kid : goal.invariant-loop-kid
+invariant-loop-kid l = map derivation_of l.trees.items ≡ map (pick (built l.nodes)) (take l.kid-index l.kid-items)

@@ -1,0 +1,18 @@
+use Rattle.std.proofs.Common.{◌≡◌, [], List, map, take}
+use Rattle.mm_lex.specs.Alphabet.{Name}
+use Rattle.frame.specs.Reading.{AreLegal}
+use Rattle.proof_code.specs.Numbers.{item_of, items_of}
+use Rattle.verify.specs.Growth.{trees, GrowsBy}
+use Rattle.verify.specs.Plan.{trees_of, IsPlan}
+use Rattle.verify.specs.Table.{AreEntries}
+use Rattle.verify.proofs.tree_from_items.plan_of.Given as goal
+
+-- behind the items so far
+abbrev pub invariant-loop-number : goal.invariant-loop-number
+invariant-loop-number l =
+    AreLegal l.frames.statements l.frames.names
+    × IsPlan l.plan
+    × ((labels : List Name)
+    × AreEntries l.frames.statements l.at labels l.table.items
+    × (items_of labels l.number-items ≡ l.items)
+    × GrowsBy l.frames.statements l.at (trees [] []) (map (item_of labels) (take l.number-index l.number-items)) (trees_of l.plan))

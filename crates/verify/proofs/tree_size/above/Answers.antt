@@ -1,0 +1,35 @@
+use Rattle.std.proofs.Common.{◌≡◌, ℕ, length, get_or, arith, ◌∙◌}
+use Rattle.std.specs.Prelude.{max}
+use Rattle.std.specs.Ordering.{nat_cmp, ord_max}
+use Rattle.std.proofs.lemmas.Bool.Decides.{nat_tests}
+use Rattle.verify.proofs.ApartLemmas.{below-at}
+use Rattle.verify.proofs.SizeLemmas.{so-far-step, extent-low}
+use Rattle.verify.proofs.tree_size.above.Goals as goal
+
+larger : (a b : ℕ) → ord_max nat_cmp a b ≡ max a b
+larger a b = grind (arith, nat_tests)
+
+pub numbered-extent-requires : goal.numbered-extent-requires
+numbered-extent-requires c = below-at (length c.args.extents.now) c.args.kids.now c.loop-kid.kid-index 0 c.requires.below c.loop-kid-test.true
+
+pub overflow_add-nodes : goal.overflow_add-nodes
+overflow_add-nodes c =
+    let e = (extent-low c.args.extents.now c.requires.measured.0 (get_or c.args.kids.now c.loop-kid.kid-index 0) c.numbered-extent.result c.requires.measured.1 c.numbered-extent.ensures).0 in
+    let n = c.loop-kid.invariant.0 in omega (arith, e, n)
+
+pub overflow_add-extent : goal.overflow_add-extent
+overflow_add-extent c =
+    let e = (extent-low c.args.extents.now c.requires.measured.0 (get_or c.args.kids.now c.loop-kid.kid-index 0) c.numbered-extent.result c.requires.measured.1 c.numbered-extent.ensures).1 in
+    omega (arith, e)
+
+pub loop-kid-preserved : goal.loop-kid-preserved
+loop-kid-preserved c =
+    let d : c.max-depth.result ≡ max c.loop-kid.depth c.min.result = c.max-depth.ensures ∙ larger c.loop-kid.depth c.min.result in
+    let n = c.min-nodes.ensures in
+    let m = c.min.ensures in
+    let low = c.loop-kid.invariant.1 in (
+      omega (arith, n),
+      omega (arith, d, m, low),
+      λ ts is. so-far-step ts c.args.kids.now c.args.extents.now c.loop-kid.kid-index c.loop-kid.nodes c.loop-kid.depth c.min-nodes.result c.max-depth.result c.numbered-extent.result (c.loop-kid.invariant.2 ts is) is c.loop-kid-test.true
+          c.numbered-extent.ensures n (omega (arith, d, m)),
+    )

@@ -1,0 +1,7 @@
+use Rattle.std.proofs.Common.{◌≡◌, map, take}
+use Rattle.verify.specs.Extents.{extent_of}
+use Rattle.verify.specs.Plan.{built}
+use Rattle.verify.proofs.tree_size.measure.Given as goal
+
+abbrev pub invariant-loop-node : goal.invariant-loop-node
+invariant-loop-node l = l.extents.items ≡ map extent_of (built (take l.node-index l.nodes))

@@ -1,0 +1,24 @@
+-- What a derivation at the statement `at` of S concludes.
+-- Metamath, 4.2.6: a result is a hypothesis, or follows from earlier results by one substitution in an assertion.
+-- The code has a stack of ranges in one buffer of symbols; here are trees.
+use Rattle.std.specs.Prelude.{◌≡◌, ℕ, List, [], ◌∷◌}
+use Rattle.mm_read.specs.declared.stmt.Stmt.{Stmt}
+use Rattle.mm_read.specs.Statements.{Expr, Database}
+use Rattle.scope.specs.Active.{expr_of}
+use Rattle.frame.specs.Substitution.{Images, apply as applied}
+use Rattle.frame.specs.Citations.{IsHypothesis, IsInstance, premises}
+use Rattle.verify.specs.Derivations.{Derivation, Derivations, hyp, apply, none, more}
+
+-- the derivation concludes the expression: a hypothesis its own, and an assertion, whose hypotheses the children
+-- conclude with the images put in, its own with the same images put in
+abbrev mutual
+  pub Concludes : Database → ℕ → Derivation → Expr → Type 0
+  Concludes S at (hyp i) e = (s : Stmt) × IsHypothesis S at i s × (e ≡ expr_of s)
+  Concludes S at (apply a kids) e =
+      (s : Stmt) × (σ : Images) × IsInstance S at a s σ × ConcludeAll S at kids (premises S a s σ) × (e ≡ applied σ (expr_of s))
+
+  pub ConcludeAll : Database → ℕ → Derivations → List Expr → Type 0
+  ConcludeAll S at none [] = Unit {0}
+  ConcludeAll S at none (e ∷ es) = ⊥
+  ConcludeAll S at (more t kids) [] = ⊥
+  ConcludeAll S at (more t kids) (e ∷ es) = Concludes S at t e × ConcludeAll S at kids es

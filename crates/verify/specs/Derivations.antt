@@ -1,0 +1,49 @@
+-- Derivations as data, and the derivation that a `Tree` is: the same, without where its lists lie in memory.
+use Rattle.std.specs.Prelude.{ℕ, ◌+◌, max, List, [], ◌∷◌}
+use Rattle.verify.specs.declared.tree.Tree.{Tree}
+use Rattle.verify.specs.declared.tree.Tree.TheOpen.{Tree-F}
+use Rattle.verify.specs.declared.tree.Tree.TheOpen as open_tree
+use Rattle.verify.specs.declared.tree.Tree.TheFolds.{fold-Tree}
+
+mutual
+  -- a hypothesis by its position, or an assertion by its position with a derivation of each of its hypotheses
+  pub data Derivation : Type 0 where
+    hyp : ℕ → Derivation
+    apply : ℕ → Derivations → Derivation
+
+  pub data Derivations : Type 0 where
+    none : Derivations
+    more : Derivation → Derivations → Derivations
+
+-- the derivations of a list
+abbrev pub from_list : List Derivation → Derivations
+from_list [] = none
+from_list (t ∷ ts) = more t (from_list ts)
+
+-- one node, with the derivations of its children in their place
+abbrev pub derivation_step : Tree-F Derivation → Derivation
+derivation_step (open_tree.Hyp i) = hyp i
+derivation_step (open_tree.Apply a kids) = apply a (from_list kids.items)
+
+-- the derivation that a tree is
+abbrev pub derivation_of : Tree → Derivation
+derivation_of = fold-Tree Derivation derivation_step
+
+-- how many nodes there are, and how deep they lie: a lone node has depth 1
+abbrev mutual
+  pub node_count : Derivation → ℕ
+  node_count (hyp i) = 1
+  node_count (apply a kids) = 1 + nodes_in kids
+
+  pub nodes_in : Derivations → ℕ
+  nodes_in none = 0
+  nodes_in (more t kids) = node_count t + nodes_in kids
+
+abbrev mutual
+  pub depth : Derivation → ℕ
+  depth (hyp i) = 1
+  depth (apply a kids) = 1 + depth_in kids
+
+  pub depth_in : Derivations → ℕ
+  depth_in none = 0
+  depth_in (more t kids) = max (depth t) (depth_in kids)

@@ -1,0 +1,60 @@
+-- What one item does to the derivations so far: a machine over derivations.
+-- Metamath, 4.2.6 and appendix B: the stack of a proof, read as trees.
+-- The code keeps each node once, by number; here the trees stand whole.
+use Rattle.std.specs.Prelude.{◌≡◌, ℕ, zero, suc, Bool, true, false, List, [], ◌∷◌, ◌++◌, length, Some, slice_get}
+use Rattle.mm_lex.specs.Alphabet.{Name}
+use Rattle.mm_read.specs.declared.stmt.Stmt.{Stmt}
+use Rattle.mm_read.specs.Statements.{Database}
+use Rattle.scope.specs.Active.{before}
+use Rattle.frame.specs.FrameOf.{hypotheses}
+use Rattle.frame.specs.Citations.{Carries, IsHypothesis}
+use Rattle.proof_code.specs.declared.item.Item.{Item}
+use Rattle.proof_code.specs.declared.item.Item.TheVariants.{Cite, Recall, Mark}
+use Rattle.verify.specs.Derivations.{Derivation, hyp, apply, from_list}
+use Rattle.verify.specs.Spells.{IsCitable}
+
+-- derivations that wait, the last on top; derivations that were marked
+pub record Trees : Type 0 where
+  pub stack : List Derivation
+  pub saved : List Derivation
+
+abbrev pub trees : List Derivation → List Derivation → Trees
+trees stack saved = record { stack = stack; saved = saved }
+
+-- the citation of a label gives t in place of the derivations above `below`
+pub data Builds (S : Database) (at : ℕ) (label : Name) (stack below : List Derivation) (t : Derivation) : Type 0 where
+  a_hypothesis : (i : ℕ) (s : Stmt) → Carries S i s label → IsHypothesis S at i s → t ≡ hyp i → stack ≡ below → Builds S at label stack below t
+  an_assertion : (a : ℕ) (s : Stmt) (kids : List Derivation) → Carries S a s label → IsCitable S at a s → length kids ≡ length (hypotheses (before S a) s)
+      → stack ≡ below ++ kids → t ≡ apply a (from_list kids) → Builds S at label stack below t
+
+-- the derivation saved as number k, from 1
+abbrev pub IsKept : List Derivation → ℕ → Derivation → Type 0
+IsKept saved zero t = ⊥
+IsKept saved (suc k) t = slice_get saved k ≡ Some t
+
+abbrev pub Grows : Database → ℕ → Trees → Item → Trees → Type 0
+Grows S at st (Cite label) st' = (below : List Derivation) × (t : Derivation) × Builds S at label st.stack below t × (st' ≡ trees (below ++ t ∷ []) st.saved)
+Grows S at st (Recall k) st' = (t : Derivation) × IsKept st.saved k t × (st' ≡ trees (st.stack ++ t ∷ []) st.saved)
+Grows S at st Mark st' = (below : List Derivation) × (t : Derivation) × (st.stack ≡ below ++ t ∷ []) × (st' ≡ trees st.stack (st.saved ++ t ∷ []))
+
+abbrev pub GrowsBy : Database → ℕ → Trees → List Item → Trees → Type 0
+GrowsBy S at st [] st' = st ≡ st'
+GrowsBy S at st (item ∷ items) st' = (next : Trees) × Grows S at st item next × GrowsBy S at next items st'
+
+-- the item was done, or it cannot be done
+abbrev pub Grew : Bool → Database → ℕ → Trees → Item → Trees → Type 0
+Grew true S at old item new = Grows S at old item new
+Grew false S at old item new = (next : Trees) → Grows S at old item next → ⊥
+
+-- the derivation t in place of those above `below`
+abbrev pub with_tree : Trees → List Derivation → Derivation → Trees
+with_tree st below t = trees (below ++ t ∷ []) st.saved
+
+-- a mark and a recall, done or not to be done
+abbrev pub GrowsMark : Bool → Trees → Trees → Type 0
+GrowsMark true old new = (below : List Derivation) × (t : Derivation) × (old.stack ≡ below ++ t ∷ []) × (new ≡ trees old.stack (old.saved ++ t ∷ []))
+GrowsMark false old new = old.stack ≡ []
+
+abbrev pub GrowsRecall : Bool → ℕ → Trees → Trees → Type 0
+GrowsRecall true k old new = (t : Derivation) × IsKept old.saved k t × (new ≡ trees (old.stack ++ t ∷ []) old.saved)
+GrowsRecall false k old new = (t : Derivation) → IsKept old.saved k t → ⊥

@@ -1,0 +1,13 @@
+pub mod Derivations
+pub mod Concludes
+pub mod Spells
+pub mod Right
+pub mod Machine
+pub mod Places
+pub mod Apart
+pub mod Goes
+pub mod Table
+pub mod Growth
+pub mod Plan
+pub mod Extents
+pub mod Laws

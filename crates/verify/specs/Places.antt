@@ -1,0 +1,44 @@
+-- Results that lie in one buffer.
+-- Metamath, 4.2.6: the stack of a proof.
+-- The code keeps where each result lies; here they are lists of symbols.
+use Rattle.std.specs.Prelude.{◌≡◌, ℕ, ◌+◌, ◌-◌, ◌<◌, ◌≤◌, Bool, true, false, List, [], ◌∷◌, ◌++◌, length, map, drop, take, slice_range}
+use Rattle.verify.specs.declared.results.Place.{Place}
+use Rattle.verify.specs.Machine.{Results, with_result, with_mark, IsSaved}
+use Rattle.verify.specs.Right.{weight_limit}
+
+abbrev pub seen_at : List ℕ → Place → List ℕ
+seen_at symbols p = slice_range symbols p.start p.end
+
+abbrev pub seen : List ℕ → List Place → List Place → ℕ → Results ℕ
+seen symbols stack saved weight = record { stack = map (seen_at symbols) stack; saved = map (seen_at symbols) saved; weight = weight }
+
+-- each place lies within so many symbols
+abbrev pub AreWithin : ℕ → List Place → Type 0
+AreWithin n [] = Unit {0}
+AreWithin n (p ∷ places) = (p.start ≤ p.end) × (p.end ≤ n) × AreWithin n places
+
+pub record AreKept (symbols : List ℕ) (stack saved : List Place) (weight : ℕ) : Type 0 where
+  pub stack_within : AreWithin (length symbols) stack
+  pub saved_within : AreWithin (length symbols) saved
+  pub light : weight ≤ weight_limit
+
+abbrev pub below : {A : Type 0} → ℕ → List A → List A
+below r stack = take (length stack - r) stack
+
+abbrev pub top : {A : Type 0} → ℕ → List A → List A
+top r stack = drop (length stack - r) stack
+
+-- the result is added, or it is too heavy
+abbrev pub Adds : {A : Type 0} → Bool → Results A → Results A → List (List A) → List A → Type 0
+Adds true old new stack e = new ≡ with_result old stack e
+Adds false old new stack e = weight_limit < old.weight + length e
+
+-- the last result was marked, or there is none
+abbrev pub Marks : {A : Type 0} → Bool → Results A → Results A → Type 0
+Marks {A} true old new = (stack : List (List A)) × (e : List A) × (old.stack ≡ stack ++ e ∷ []) × (new ≡ with_mark old e)
+Marks false old new = old.stack ≡ []
+
+-- a saved result was added; or none has that number, or it is too heavy
+abbrev pub Recalls : {A : Type 0} → Bool → Results A → Results A → ℕ → Type 0
+Recalls {A} true old new k = (e : List A) × IsSaved old.saved k e × (new ≡ with_result old old.stack e)
+Recalls {A} false old new k = (e : List A) → IsSaved old.saved k e → weight_limit < old.weight + length e

@@ -1,0 +1,55 @@
+-- A derivation planned: its nodes by number, each after those of its children.
+-- A recalled derivation stands in a tree again; a plan has its nodes once.
+-- The code makes a plan first, measures it, and makes the tree where it is small.
+use Rattle.std.specs.Prelude.{ℕ, ◌+◌, Bool, ◌&&◌, nat_le, List, [], ◌∷◌, ◌++◌, length, map, get_or}
+use Rattle.frame.specs.ByPlaces.{AreBelow}
+use Rattle.verify.specs.declared.plan.Node.{Node}
+use Rattle.verify.specs.declared.plan.Plan.{Plan}
+use Rattle.verify.specs.declared.plan.Node.TheVariants.{Hyp, Apply}
+use Rattle.verify.specs.Derivations.{Derivation, hyp, apply, from_list, node_count, depth}
+use Rattle.verify.specs.Growth.{Trees, trees}
+
+-- the derivation with this number
+abbrev pub pick : List Derivation → ℕ → Derivation
+pick ts k = get_or ts k (hyp 0)
+
+-- what a node stands for, over the derivations before it
+abbrev pub derive : List Derivation → Node → Derivation
+derive ts (Hyp i) = hyp i
+derive ts (Apply a kids) = apply a (from_list (map (pick ts) kids.items))
+
+-- the derivations of nodes, behind those that stand already
+abbrev pub built_from : List Derivation → List Node → List Derivation
+built_from ts [] = ts
+built_from ts (n ∷ ns) = built_from (ts ++ derive ts n ∷ []) ns
+
+abbrev pub built : List Node → List Derivation
+built ns = built_from [] ns
+
+-- the numbers of a node's children are below k
+abbrev pub IsAfter : ℕ → Node → Type 0
+IsAfter k (Hyp i) = Unit {0}
+IsAfter k (Apply a kids) = AreBelow k kids.items
+
+-- each node stands behind its children
+abbrev pub AreOrdered : ℕ → List Node → Type 0
+AreOrdered k [] = Unit {0}
+AreOrdered k (n ∷ ns) = IsAfter k n × AreOrdered (k + 1) ns
+
+-- the trees that numbers stand for
+abbrev pub seen_by : List Node → List ℕ → List ℕ → Trees
+seen_by ns stack saved = trees (map (pick (built ns)) stack) (map (pick (built ns)) saved)
+
+-- the trees of a plan
+abbrev pub trees_of : Plan → Trees
+trees_of p = seen_by p.nodes.items p.stack.items p.saved.items
+
+-- each node stands behind its children, and each number has a node
+pub record IsPlan (p : Plan) : Type 0 where
+  pub ordered : AreOrdered 0 p.nodes.items
+  pub stack_below : AreBelow (length p.nodes.items) p.stack.items
+  pub saved_below : AreBelow (length p.nodes.items) p.saved.items
+
+-- whether a derivation is within the limits
+abbrev pub is_small : Derivation → Bool
+is_small t = nat_le (node_count t) 65536 && nat_le (depth t) 1024

@@ -1,0 +1,42 @@
+-- Right proofs.
+-- Metamath, 4.2.6 and appendix B: the items spell a derivation of the statement's expression.
+-- The code answers from one run over the items; the limit on the weight is this project's.
+use Rattle.std.specs.Prelude.{◌≡◌, ℕ, ◌≤◌, IsTrue, List, [], Some}
+use Rattle.mm_read.specs.declared.stmt.Stmt.{Stmt}
+use Rattle.mm_read.specs.Statements.{Database}
+use Rattle.scope.specs.Active.{stmt_at, expr_of, is_provable}
+use Rattle.proof_code.specs.declared.item.Item.{Item}
+use Rattle.verify.specs.declared.answer.Answer.{Answer}
+use Rattle.verify.specs.declared.answer.Answer.TheVariants.{Proved, Wrong}
+use Rattle.verify.specs.Derivations.{Derivation, node_count, depth}
+use Rattle.verify.specs.Concludes.{Concludes}
+use Rattle.verify.specs.Spells.{Spells}
+
+abbrev pub weight_limit : ℕ
+weight_limit = 67108864
+
+-- a `$p` stands there
+pub record IsProvable (S : Database) (at : ℕ) (s : Stmt) : Type 0 where
+  pub stands : stmt_at S at ≡ Some s
+  pub provable : IsTrue (is_provable s)
+
+-- the items spell this derivation of the statement at `at`
+pub record Derives (S : Database) (at : ℕ) (items : List Item) (t : Derivation) : Type 0 where
+  pub stmt : Stmt
+  pub after : List Derivation
+  pub weight : ℕ
+  pub stands : stmt_at S at ≡ Some stmt
+  pub spelled : Spells S at [] items t after weight
+  pub concludes : Concludes S at t (expr_of stmt)
+  pub light : weight ≤ weight_limit
+
+abbrev pub IsRight : Database → ℕ → List Item → Type 0
+IsRight S at items = (t : Derivation) × Derives S at items t
+
+-- what the verifier's answer says
+abbrev pub Says : Answer → Type 0 → Type 0
+Says Proved P = P
+Says Wrong P = ¬ P
+
+abbrev pub IsSmall : Derivation → Type 0
+IsSmall t = (node_count t ≤ 65536) × (depth t ≤ 1024)

@@ -1,0 +1,35 @@
+//! What the verifier answers.
+
+ghost use Rattle.std.specs.Prelude.{◌≡◌};
+
+use std::alloc::AllocError;
+
+/// Whether a proof is right.
+#[derive(Clone, Copy, Debug, Drop, PartialEq, Eq)]
+pub enum Answer {
+    /// It is: its items spell a derivation of the statement.
+    Proved,
+    /// It is not.
+    Wrong,
+}
+
+/// Why no derivation is given out.
+#[derive(Clone, Copy, Debug, Drop, PartialEq, Eq)]
+pub enum TreeFault {
+    /// The proof is not right.
+    Wrong,
+    /// The proof is right, and its derivation has more nodes or lies deeper than the limits allow.
+    TooLarge,
+    /// There was no memory.
+    Memory,
+}
+
+impl From<AllocError> for TreeFault {
+    ghost use Rattle.verify.specs.declared.answer.TreeFault.TheVariants.{Memory};
+
+    ghost from_gives = { λ _ fault. fault ≡ Memory };
+
+    fn from(_error: AllocError) -> TreeFault {
+        TreeFault::Memory
+    }
+}

@@ -1,0 +1,100 @@
+//! One item of a proof.
+
+ghost use Rattle.std.specs.Prelude.{◌≡◌, ℕ, ◌<◌, List, IfOk};
+ghost use Rattle.mm_lex.specs.Alphabet.{Name};
+ghost use Rattle.mm_read.specs.declared.stmt.Stmt.{Stmt as Statement};
+ghost use Rattle.scope.specs.Active.{before};
+ghost use Rattle.frame.specs.FrameOf.{HasAssertion};
+ghost use Rattle.frame.specs.Citations.{Carries};
+ghost use Rattle.frame.specs.Reading.{AreLegal};
+ghost use Rattle.proof_code.specs.declared.item.Item.TheVariants.{Cite};
+ghost use Rattle.proof_code.specs.Numbers.{item_of};
+ghost use Rattle.verify.specs.Goes.{Goes, AreNamed};
+ghost use Rattle.verify.specs.Table.{IsEntry, AreEntries};
+
+use crate::results::Results;
+use crate::table::Entry;
+use frame::{Frames, Pairs};
+use std::alloc::AllocError;
+
+/// Takes the results that the assertion asks for, and adds what it gives.
+fn cite_assertion(
+    frames: &Frames,
+    at: usize,
+    pairs: &Pairs<'_>,
+    position: usize,
+    results: &mut Results,
+) -> Result<bool, AllocError>
+    requires legal { AreLegal frames.now.statements frames.now.names }
+    requires active { pairs.now.statements ≡ before frames.now.statements at }
+    requires names { pairs.now.names ≡ frames.now.names }
+    requires named { AreNamed frames.now.names results.old }
+    requires assertion { (s : Statement) × HasAssertion frames.now.statements position s }
+    requires earlier { position < at }
+    ensures { (label : Name) → (s : Statement) → Carries frames.now.statements position s label
+        → IfOk result (λ ok. Goes ok frames.now.statements at frames.now.names (Cite label) results.old results.new) }
+{
+    let cited = frames.cited(position);
+    let count = cited.patterns.len();
+    if count > results.len() {
+        return Ok(false);
+    }
+    if !results.fits(cited.patterns, cited.templates) {
+        return Ok(false);
+    }
+    if !results.are_apart(pairs, count, cited.groups) {
+        return Ok(false);
+    }
+    results.apply(count, cited.conclusion)
+}
+
+/// Cites what a label names.
+fn cite(
+    frames: &Frames,
+    at: usize,
+    pairs: &Pairs<'_>,
+    entry: Entry,
+    results: &mut Results,
+) -> Result<bool, AllocError>
+    requires legal { AreLegal frames.now.statements frames.now.names }
+    requires active { pairs.now.statements ≡ before frames.now.statements at }
+    requires names { pairs.now.names ≡ frames.now.names }
+    requires named { AreNamed frames.now.names results.old }
+    requires entry { (label : Name) × IsEntry frames.now.statements at label entry }
+    ensures { (label : Name) → IsEntry frames.now.statements at label entry
+        → IfOk result (λ ok. Goes ok frames.now.statements at frames.now.names (Cite label) results.old results.new) }
+{
+    match entry {
+        Entry::Hypothesis(position) => results.push(frames.expr(position)),
+        Entry::Assertion(position) => cite_assertion(frames, at, pairs, position, results),
+        Entry::Nothing => Ok(false),
+    }
+}
+
+/// Does one item, by its number.
+pub fn step(
+    frames: &Frames,
+    at: usize,
+    pairs: &Pairs<'_>,
+    table: &[Entry],
+    number: u32,
+    results: &mut Results,
+) -> Result<bool, AllocError>
+    requires legal { AreLegal frames.now.statements frames.now.names }
+    requires active { pairs.now.statements ≡ before frames.now.statements at }
+    requires names { pairs.now.names ≡ frames.now.names }
+    requires named { AreNamed frames.now.names results.old }
+    requires entries { (labels : List Name) × AreEntries frames.now.statements at labels table.now }
+    ensures { (labels : List Name) → AreEntries frames.now.statements at labels table.now
+        → IfOk result (λ ok. Goes ok frames.now.statements at frames.now.names (item_of labels number) results.old results.new) }
+{
+    if number == 0 {
+        return results.mark();
+    }
+    let place = number as usize - 1;
+    if place < table.len() {
+        cite(frames, at, pairs, table[place], results)
+    } else {
+        results.recall(place - table.len() + 1)
+    }
+}

@@ -1,0 +1,27 @@
+//! Proofs: whether the items of a proof are a right proof of a statement, and the derivation that they spell.
+//!
+//! The crate above uses one contract: `check` answers `Proved` exactly where some derivation is spelled by the items,
+//! concludes the statement's expression and weighs no more than the limit; else it answers `Wrong`.
+//!
+//! Reading order: `answer`, `tree`, `templates` and `results` (results as ranges of one buffer), `apart`, `table` and
+//! `citation` (one item), `checker` (a whole proof), `laws`.
+#![tactic(auto)]
+
+mod answer;
+mod apart;
+mod checker;
+mod citation;
+pub mod laws;
+mod plan;
+mod results;
+mod table;
+mod templates;
+mod tree;
+mod tree_from_items;
+mod tree_size;
+
+pub use answer::{Answer, TreeFault};
+pub use checker::{Checker, check};
+pub use tree::Tree;
+pub use tree_from_items::derivation;
+pub use tree_size::{MOST_DEPTH, MOST_NODES};

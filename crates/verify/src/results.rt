@@ -1,0 +1,177 @@
+//! The results of a proof so far, as ranges of one buffer.
+
+ghost use Rattle.std.specs.Prelude.{◌≡◌, ℕ, ◌+◌, ◌-◌, ◌<◌, ◌≤◌, ◌^◌, ◌↔◌, ◌∷◌, ◌++◌, [], List, length, map, drop, take, get_or, IfOk, IfSome, OnOk, IsTrue, slice_get, Some};
+ghost use Rattle.verify.specs.Places.{seen, seen_at, AreWithin, below, top, Adds, Marks, Recalls};
+ghost use Rattle.frame.specs.Templates.{filled, own, DoFit, AreIn};
+ghost use Rattle.scope.specs.Numbering.{decode};
+ghost use Rattle.frame.specs.ByPlaces.{are_places_apart, AllBelow};
+ghost use Rattle.verify.specs.Machine.{with_result, with_mark, IsSaved};
+ghost use Rattle.verify.specs.Right.{weight_limit};
+
+use crate::apart::groups_apart;
+use crate::templates::{all_fit, fill, filled_len, result_at};
+use frame::{Pairs, Pattern};
+use std::alloc::{AllocError, Global};
+use std::marker::Model;
+
+/// Where a result lies.
+#[derive(Clone, Copy, Drop)]
+pub struct Place {
+    pub start: usize,
+    pub end: usize,
+}
+
+const LIMIT: usize = 67_108_864;
+
+/// The results of a proof so far, their symbols in one buffer.
+#[derive(Drop)]
+pub struct Results {
+    symbols: Vec<u32>,
+    stack: Vec<Place>,
+    saved: Vec<Place>,
+    weight: usize,
+}
+
+impl Model for Results {
+    ghost use Rattle.std.specs.Prelude.{ℕ};
+    ghost use Rattle.verify.specs.Machine.{Results as Seen};
+    ghost use Rattle.verify.specs.Places.{seen, AreKept};
+
+    ghost Value = { Seen ℕ };
+
+    ghost view = { λ a. seen a.symbols.items a.stack.items a.saved.items a.weight };
+
+    ghost invariant = { λ a. AreKept a.symbols.items a.stack.items a.saved.items a.weight };
+}
+
+impl Results {
+    /// No results.
+    pub fn new(alloc: Global) -> Results
+        ensures { result ≡ record { stack = []; saved = []; weight = 0 } }
+    {
+        Results {
+            symbols: Vec::new(alloc),
+            stack: Vec::new(alloc),
+            saved: Vec::new(alloc),
+            weight: 0,
+        }
+    }
+
+    /// Takes all results away; the buffers stay.
+    pub fn clear(&mut self)
+        ensures { self.new ≡ record { stack = []; saved = []; weight = 0 } }
+    {
+        self.symbols.clear();
+        self.stack.clear();
+        self.saved.clear();
+        self.weight = 0;
+    }
+
+    /// Adds a result that is written out.
+    pub fn push(&mut self, expr: &[u32]) -> Result<bool, AllocError>
+        ensures { IfOk result (λ ok. Adds ok self.old self.new self.old.stack expr.now) }
+    {
+        if expr.len() > LIMIT - self.weight {
+            return Ok(false);
+        }
+        let start = self.symbols.len();
+        self.symbols.extend_from_slice(expr)?;
+        let end = self.symbols.len();
+        self.stack.push(Place { start, end })?;
+        self.weight += expr.len();
+        Ok(true)
+    }
+
+    /// Marks the last result.
+    pub fn mark(&mut self) -> Result<bool, AllocError>
+        ensures { IfOk result (λ ok. Marks ok self.old self.new) }
+    {
+        match self.stack.last() {
+            Some(place) => {
+                let place = *place;
+                self.saved.push(place)?;
+                Ok(true)
+            }
+            None => Ok(false),
+        }
+    }
+
+    /// Puts the saved result of that number on top, if there is one and it is light enough.
+    pub fn recall(&mut self, k: usize) -> Result<bool, AllocError>
+        ensures { IfOk result (λ ok. Recalls ok self.old self.new k) }
+    {
+        if k == 0 || k > self.saved.len() {
+            return Ok(false);
+        }
+        let place = self.saved[k - 1];
+        let len = place.end - place.start;
+        if len > LIMIT - self.weight {
+            return Ok(false);
+        }
+        self.stack.push(place)?;
+        self.weight += len;
+        Ok(true)
+    }
+
+    /// Takes the last r results and adds the filled template, if it is light enough.
+    pub fn apply(&mut self, r: usize, template: &[u32]) -> Result<bool, AllocError>
+        requires count { r ≤ length self.old.stack }
+        requires few { r < 2 ^ 31 }
+        ensures { IfOk result (λ ok. Adds ok self.old self.new (below r self.old.stack) (filled own r (top r self.old.stack) template.now)) }
+    {
+        let keep = self.stack.len() - r;
+        let room = LIMIT - self.weight;
+        let start = self.symbols.len();
+        let Some(len) = filled_len(&self.symbols, &self.stack[keep..], template, room) else {
+            return Ok(false);
+        };
+        fill(&mut self.symbols, &self.stack[keep..], template)?;
+        let end = self.symbols.len();
+        self.stack.truncate(keep);
+        self.stack.push(Place { start, end })?;
+        self.weight += len;
+        Ok(true)
+    }
+
+    /// Whether the last results are what the hypotheses ask for.
+    pub fn fits(&self, patterns: &[Pattern], templates: &[u32]) -> bool
+        requires count { length patterns.now ≤ length self.now.stack }
+        requires few { length patterns.now < 2 ^ 31 }
+        requires within { AreIn (length templates.now) patterns.now }
+        ensures { IsTrue result ↔ DoFit own patterns.now templates.now (top (length patterns.now) self.now.stack) }
+    {
+        let keep = self.stack.len() - patterns.len();
+        all_fit(&self.symbols, &self.stack[keep..], patterns, templates)
+    }
+
+    /// Whether the images of the last `count` results are apart as the groups of places ask.
+    pub fn are_apart(&self, pairs: &Pairs<'_>, count: usize, groups: &[Vec<u32>]) -> bool
+        requires count { count ≤ length self.now.stack }
+        requires named { AllBelow (length pairs.now.names) self.now.stack }
+        requires places { AllBelow count (map (λ group. group.items) groups.now) }
+        ensures { result ≡ are_places_apart pairs.now.statements
+            (map (decode pairs.now.names) (top count self.now.stack)) (map (λ group. group.items) groups.now) }
+    {
+        let keep = self.stack.len() - count;
+        groups_apart(pairs, groups, &self.symbols, &self.stack[keep..])
+    }
+
+    /// How many results wait.
+    pub fn len(&self) -> usize
+        ensures { result ≡ length self.now.stack }
+    {
+        self.stack.len()
+    }
+
+    /// Whether there is one result, and it is this.
+    pub fn is_only(&self, expr: &[u32]) -> bool
+        ensures only { IsTrue result ↔ (self.now.stack ≡ expr.now ∷ []) }
+        ensures light { self.now.weight ≤ weight_limit }
+    {
+        if self.stack.len() != 1 {
+            return false;
+        }
+        let place = self.stack[0];
+        result_at(&self.symbols, place) == expr
+    }
+}

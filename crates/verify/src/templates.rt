@@ -1,0 +1,155 @@
+//! Templates filled from results, and results matched against them.
+
+ghost use Rattle.std.specs.Prelude.{◌≡◌, ℕ, ◌+◌, ◌-◌, ◌^◌, ◌<◌, ◌≤◌, ◌↔◌, ◌++◌, [], List, length, map, drop, take, get_or, IfSome, IfNone, OnOk, OnErr, IsTrue, slice_range};
+ghost use Rattle.verify.specs.Places.{seen_at, AreWithin};
+ghost use Rattle.frame.specs.Templates.{part, filled, expected, own, IsIn, AreIn, DoFit};
+
+use crate::results::Place;
+use frame::Pattern;
+use std::alloc::AllocError;
+
+/// The symbols of a result.
+pub fn result_at(symbols: &[u32], place: Place) -> &[u32]
+    requires { (place.start ≤ place.end) × (place.end ≤ length symbols.now) }
+    ensures { result.now ≡ seen_at symbols.now place }
+{
+    &symbols[place.start..place.end]
+}
+
+/// The symbols of a result behind its first one.
+pub fn image(symbols: &[u32], place: Place) -> &[u32]
+    requires { (place.start ≤ place.end) × (place.end ≤ length symbols.now) }
+    ensures { result.now ≡ drop 1 (seen_at symbols.now place) }
+{
+    let whole = &symbols[place.start..place.end];
+    if whole.is_empty() { whole } else { &whole[1..] }
+}
+
+/// What stands behind one part of a template.
+pub fn behind<'a>(symbols: &[u32], images: &[Place], n: u32, rest: &'a [u32]) -> Option<&'a [u32]>
+    requires within { AreWithin (length symbols.now) images.now }
+    requires count { length images.now < 2 ^ 31 }
+    ensures some { IfSome result (λ more. rest.now ≡ part own (length images.now) (map (seen_at symbols.now) images.now) n ++ more.now) }
+    ensures none { IfNone result ((more : List ℕ) → rest.now ≡ part own (length images.now) (map (seen_at symbols.now) images.now) n ++ more → ⊥) }
+{
+    let r = images.len();
+    let at = n as usize;
+    if at < r {
+        rest.strip_prefix(image(symbols, images[at]))
+    } else if !rest.is_empty() && rest[0] as usize == at - r {
+        Some(&rest[1..])
+    } else {
+        None
+    }
+}
+
+/// Whether the result is the filled template.
+pub fn matches(symbols: &[u32], images: &[Place], template: &[u32], whole: &[u32]) -> bool
+    requires within { AreWithin (length symbols.now) images.now }
+    requires count { length images.now < 2 ^ 31 }
+    ensures { IsTrue result ↔ (whole.now ≡ filled own (length images.now) (map (seen_at symbols.now) images.now) template.now) }
+{
+    let mut rest = whole;
+    for n in template {
+        match behind(symbols, images, *n, rest) {
+            Some(more) => rest = more,
+            None => return false,
+        }
+    }
+    rest.is_empty()
+}
+
+/// Whether a result is what its hypothesis asks for.
+pub fn fits_one(
+    symbols: &[u32],
+    places: &[Place],
+    templates: &[u32],
+    k: usize,
+    pattern: Pattern,
+) -> bool
+    requires within { AreWithin (length symbols.now) places.now }
+    requires count { length places.now < 2 ^ 31 }
+    requires place { k < length places.now }
+    requires range { IsIn (length templates.now) pattern }
+    ensures { IsTrue result ↔ (get_or (map (seen_at symbols.now) places.now) k [] ≡ expected own (length places.now) (map (seen_at symbols.now) places.now) templates.now k pattern) }
+{
+    let whole = result_at(symbols, places[k]);
+    match pattern {
+        Pattern::Typed(constant) => !whole.is_empty() && whole[0] == constant,
+        Pattern::Full(from, to) => matches(symbols, places, &templates[from..to], whole),
+    }
+}
+
+/// Whether the results are what the hypotheses ask for.
+pub fn all_fit(symbols: &[u32], places: &[Place], patterns: &[Pattern], templates: &[u32]) -> bool
+    requires within { AreWithin (length symbols.now) places.now }
+    requires count { length places.now < 2 ^ 31 }
+    requires same { length places.now ≡ length patterns.now }
+    requires range { AreIn (length templates.now) patterns.now }
+    ensures { IsTrue result ↔ DoFit own patterns.now templates.now (map (seen_at symbols.now) places.now) }
+{
+    for (k, pattern) in patterns.iter().enumerate() {
+        if !fits_one(symbols, places, templates, k, *pattern) {
+            return false;
+        }
+    }
+    true
+}
+
+/// How long the filled template is, if it fits in the room.
+pub fn filled_len(symbols: &[u32], images: &[Place], template: &[u32], room: usize) -> Option<usize>
+    requires within { AreWithin (length symbols.now) images.now }
+    requires count { length images.now < 2 ^ 31 }
+    ensures some { IfSome result (λ n. (n ≡ length (filled own (length images.now) (map (seen_at symbols.now) images.now) template.now)) × (n ≤ room)) }
+    ensures none { IfNone result (room < length (filled own (length images.now) (map (seen_at symbols.now) images.now) template.now)) }
+{
+    let r = images.len();
+    let mut len = 0;
+    for n in template {
+        let at = *n as usize;
+        let more = if at < r {
+            image(symbols, images[at]).len()
+        } else {
+            1
+        };
+        if more > room - len {
+            return None;
+        }
+        len += more;
+    }
+    Some(len)
+}
+
+/// Adds the filled template at the end.
+pub fn fill(symbols: &mut Vec<u32>, images: &[Place], template: &[u32]) -> Result<(), AllocError>
+    requires within { AreWithin (length symbols.old.items) images.now }
+    requires count { length images.now < 2 ^ 31 }
+    ensures ok { OnOk result (symbols.new.items ≡ symbols.old.items ++ filled own (length images.now) (map (seen_at symbols.old.items) images.now) template.now) }
+    ensures grows { (more : List ℕ) × (symbols.new.items ≡ symbols.old.items ++ more) }
+{
+    for n in template {
+        fill_part(symbols, images, *n)?;
+    }
+    Ok(())
+}
+
+/// Adds what one number of a template gives.
+fn fill_part(symbols: &mut Vec<u32>, images: &[Place], n: u32) -> Result<(), AllocError>
+    requires within { AreWithin (length symbols.old.items) images.now }
+    requires count { length images.now < 2 ^ 31 }
+    ensures ok { OnOk result (symbols.new.items ≡ symbols.old.items ++ part own (length images.now) (map (seen_at symbols.old.items) images.now) n) }
+    ensures err { OnErr result (symbols.new.items ≡ symbols.old.items) }
+{
+    let r = images.len();
+    let at = n as usize;
+    if at < r {
+        let place = images[at];
+        if place.start == place.end {
+            return Ok(());
+        }
+        symbols.extend_from_within(place.start + 1..place.end)
+    } else {
+        symbols.push(n - r as u32)?;
+        Ok(())
+    }
+}

@@ -1,0 +1,10 @@
+//! Derivations that are given out.
+
+/// A derivation.
+#[derive(Drop)]
+pub enum Tree {
+    /// A hypothesis, by position.
+    Hyp(usize),
+    /// An assertion, by position, and the derivations of its hypotheses in order.
+    Apply(usize, Vec<Tree>),
+}

@@ -1,0 +1,106 @@
+//! The derivation that the items of a proof spell.
+
+ghost use Rattle.std.specs.Prelude.{◌≡◌, ℕ, ◌<◌, ◌⊎◌, [], IfOk, MatchOption, length};
+ghost use Rattle.mm_read.specs.declared.stmt.Stmt.{Stmt as Statement};
+ghost use Rattle.verify.specs.Derivations.{Derivation, derivation_of};
+ghost use Rattle.verify.specs.Right.{IsProvable, IsRight, Derives, IsSmall};
+ghost use Rattle.verify.specs.Growth.{Trees, trees, GrowsBy};
+ghost use Rattle.verify.specs.Plan.{built, pick, AreOrdered, trees_of, IsPlan};
+
+use crate::answer::{Answer, TreeFault};
+use crate::checker::check;
+use crate::plan::{Node, Plan, grow, new_plan};
+use crate::table::fill_table;
+use crate::tree::Tree;
+use crate::tree_size::measure;
+use frame::Frames;
+use proof_code::Items;
+use std::alloc::{AllocError, Global};
+
+/// The derivation that the items of a right proof of the `$p` at that position spell.
+///
+/// Errors: `Wrong` where they are no right proof; `TooLarge` where the derivation has more than 65,536 nodes or a
+/// depth above 1,024; or `Memory` in place of either. It is measured before it is made.
+/// Cost: a check, a node for each citation, and the tree. Source: Metamath, 4.2.6 and appendix B.
+pub fn derivation(
+    alloc: Global,
+    frames: &Frames,
+    at: usize,
+    items: &Items,
+) -> Result<Tree, TreeFault>
+    requires { (s : Statement) × IsProvable frames.now.statements at s }
+    ensures tree { IfOk result (λ tree. Derives frames.now.statements at items.now (derivation_of tree)) }
+    ensures small { IfOk result (λ tree. IsSmall (derivation_of tree)) }
+    ensures wrong { ¬ IsRight frames.now.statements at items.now → (result ≡ Err TreeFault.Wrong) ⊎ (result ≡ Err TreeFault.Memory) }
+    ensures only_wrong { result ≡ Err TreeFault.Wrong → ¬ IsRight frames.now.statements at items.now }
+    ensures large { (t : Derivation) → Derives frames.now.statements at items.now t → ¬ IsSmall t
+        → (result ≡ Err TreeFault.TooLarge) ⊎ (result ≡ Err TreeFault.Memory) }
+    ensures only_large { result ≡ Err TreeFault.TooLarge → (t : Derivation) × Derives frames.now.statements at items.now t × (¬ IsSmall t) }
+{
+    frames.legal();
+    match check(alloc, frames, at, items)? {
+        Answer::Proved => right_derivation(alloc, frames, at, items),
+        Answer::Wrong => Err(TreeFault::Wrong),
+    }
+}
+
+/// The derivation that the items of a right proof spell.
+fn right_derivation(
+    alloc: Global,
+    frames: &Frames,
+    at: usize,
+    items: &Items,
+) -> Result<Tree, TreeFault>
+    requires right { IsRight frames.now.statements at items.now }
+    ensures tree { IfOk result (λ tree. Derives frames.now.statements at items.now (derivation_of tree)) }
+    ensures small { IfOk result (λ tree. IsSmall (derivation_of tree)) }
+    ensures never { result ≡ Err TreeFault.Wrong → ⊥ }
+    ensures large { result ≡ Err TreeFault.TooLarge → (t : Derivation) × Derives frames.now.statements at items.now t × (¬ IsSmall t) }
+{
+    frames.legal();
+    let plan = plan_of(alloc, frames, at, items)?;
+    let root = plan.stack[0];
+    let extents = measure(alloc, &plan.nodes)?;
+    if !extents[root].is_small() {
+        return Err(TreeFault::TooLarge);
+    }
+    let tree = expand(alloc, &plan.nodes, root)?;
+    Ok(tree)
+}
+
+/// The plan that the items of a right proof make.
+fn plan_of(alloc: Global, frames: &Frames, at: usize, items: &Items) -> Result<Plan, AllocError>
+    requires { IsRight frames.now.statements at items.now }
+    ensures plan { IfOk result IsPlan }
+    ensures grown { IfOk result (λ plan. GrowsBy frames.now.statements at (trees [] []) items.now (trees_of plan)) }
+{
+    frames.legal();
+    let parts = items.parts();
+    let mut table = Vec::new(alloc);
+    fill_table(frames, at, parts.labels, &mut table)?;
+    let mut plan = new_plan(alloc);
+    for number in parts.numbers {
+        if !grow(frames, &table, *number, &mut plan)? {
+            unreachable!();
+        }
+    }
+    Ok(plan)
+}
+
+/// Makes the derivation with that number, and those below it again wherever they stand.
+fn expand(alloc: Global, nodes: &[Node], number: usize) -> Result<Tree, AllocError>
+    requires ordered { AreOrdered 0 nodes.now }
+    requires there { number < length nodes.now }
+    ensures { IfOk result (λ tree. derivation_of tree ≡ pick (built nodes.now) number) }
+{
+    match &nodes[number] {
+        Node::Hyp(position) => Ok(Tree::Hyp(*position)),
+        Node::Apply(position, kids) => {
+            let mut trees = Vec::with_capacity(alloc, kids.len())?;
+            for kid in kids {
+                trees.push(expand(alloc, nodes, *kid)?)?;
+            }
+            Ok(Tree::Apply(*position, trees))
+        }
+    }
+}
