@@ -1,4 +1,6 @@
 -- The ten rules of a statement, behind the statements before it.
+-- Source: Metamath, 4.2 (declarations, hypotheses, assertions, scoping) and appendix E; the numbering is this project's.
+-- The code looks each name up once and stops at the least rule broken; the model tests rule by rule.
 use Rattle.std.specs.Prelude.{◌≡◌, ℕ, ◌+◌, Bool, true, not, ◌&&◌, ◌||◌, nat_lt, if◌then◌else◌, List, [], ◌∷◌, ◌++◌, find, Option, Some, None}
 use Rattle.std.specs.List.{list_all}
 use Rattle.mm_lex.specs.Alphabet.{Name}

@@ -15,6 +15,9 @@ use mm_lex::{Word, Words};
 use mm_read::Stmt;
 use std::alloc::{AllocError, Global};
 
+/// Lists of fewer words are compared pair by pair.
+const FEW: usize = 16;
+
 /// What a name is: a constant, an active variable with or without an active `$f`, a label, or
 /// none of these.
 #[derive(Clone, Copy, Debug, Drop, PartialEq, Eq)]
@@ -244,6 +247,9 @@ fn broken_by_sorts(constant: Sort, variable: Sort) -> Option<Rule>
 fn are_different(alloc: Global, words: &Words) -> bool
     ensures { result ≡ all_different words.now }
 {
+    if words.len() < FEW {
+        return differ_pair_by_pair(words);
+    }
     match differ_by_table(alloc, words) {
         Ok(differ) => differ,
         Err(AllocError) => differ_pair_by_pair(words),
