@@ -11,6 +11,7 @@ pub mod PairsLemmas
 pub mod MakeLemmas
 pub mod AssertionLemmas
 pub mod CitedLemmas
+pub mod GroupsLemmas
 pub mod WalkLemmas
 pub mod TemplatesLemmas
 pub mod Translate

@@ -7,4 +7,5 @@ pub mod Templates
 pub mod ByPlaces
 pub mod Reading
 pub mod Links
+pub mod Laws
 pub mod Stored

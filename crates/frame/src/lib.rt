@@ -10,6 +10,7 @@ mod declare;
 mod enter;
 mod extend;
 mod frames;
+mod laws;
 mod links;
 mod make;
 mod mandatory;
@@ -22,4 +23,5 @@ mod templates;
 
 pub use citation::{Cited, Meaning, Pattern};
 pub use frames::Frames;
+pub use laws::groups_are_pairs;
 pub use pairs::Pairs;
