@@ -20,4 +20,5 @@ pub mod LegalLabels
 pub mod PlacesLemmas
 pub mod KeptLemmas
 pub mod CollectedLemmas
+pub mod OneFrameLemmas
 mod Rows

@@ -9,3 +9,4 @@ pub mod Reading
 pub mod Links
 pub mod Laws
 pub mod Stored
+pub mod OneFrame

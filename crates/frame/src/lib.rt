@@ -2,9 +2,11 @@
 //!
 //! `Frames` keeps the statements of a database by position, and reads off them what a verifier asks:
 //! what a citation means at a statement, an assertion by the places of its hypotheses, and the variables that are kept apart.
-//! Reading order: `links`, `storage`, `names`, `numbers`, `declare`, `enter`, `extend`, `reading`, `frames`.
+//! `frame` gathers the `Frame` of one assertion from what is active.
+//! Reading order: `links`, `storage`, `names`, `numbers`, `declare`, `enter`, `extend`, `reading`, `frames`; `assertion`, `one_frame`.
 #![tactic(auto)]
 
+mod assertion;
 mod citation;
 mod declare;
 mod enter;
@@ -16,12 +18,15 @@ mod make;
 mod mandatory;
 mod names;
 mod numbers;
+mod one_frame;
 mod pairs;
 mod reading;
 mod storage;
 mod templates;
 
+pub use assertion::Frame;
 pub use citation::{Cited, Meaning, Pattern};
 pub use frames::Frames;
 pub use laws::groups_are_pairs;
+pub use one_frame::frame;
 pub use pairs::Pairs;

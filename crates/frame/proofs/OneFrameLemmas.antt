@@ -1,0 +1,194 @@
+-- What is gathered from what stands is the frame of the definition.
+use Rattle.std.specs.Prelude.{◌≡◌, ℕ, zero, suc, ◌<◌, ◌≤◌, Bool, true, false, cond, ◌&&◌, ◌||◌, List, [], ◌∷◌, ◌++◌, map, filter, length, refl, Some, None, is_some, nat_lt}
+use Rattle.std.specs.List.{list_any, flat_map, position_or_len}
+use Rattle.std.proofs.Common.{◌∙◌, ap, sym, arith, ◌⊎◌, inl, inr}
+use Rattle.mm_lex.specs.Alphabet.{Name, name_eq, has_name}
+use Rattle.mm_read.specs.declared.stmt.Stmt.{Stmt}
+use Rattle.mm_read.specs.declared.stmt.Stmt.TheVariants.{Open, Close, Const, Var, Disj, Float, Ess, Axiom, Prove}
+use Rattle.mm_read.specs.Statements.{Database, Expr}
+use Rattle.scope.specs.Active.{active, separated, expr_of, is_essential, is_variable}
+use Rattle.scope.specs.Numbering.{name_at, code_of}
+use Rattle.scope.specs.Standing.{stands_at, standing_of}
+use Rattle.scope.specs.declared.standing.Standing.{Standing}
+use Rattle.scope.proofs.NamesLemmas.{name_same, same_name, has_name-append}
+use Rattle.frame.specs.Parts.{FrameParts}
+use Rattle.frame.specs.FrameOf.{is_mandatory, is_hypothesis, hypotheses, mandatory_groups, separates}
+use Rattle.frame.proofs.NameLemmas.{lt-list_any}
+use Rattle.frame.specs.OneFrame.{AreMandatory, is_in_essential, asks, asked, among, groups_among}
+
+has-at : (names : List Name) (n : ℕ) → n < length names → has_name (name_at names n) names ≡ true
+has-at [] n h = absurd (omega arith)
+has-at (x ∷ names) zero h = ap (λ b. b || has_name x names) (name_same x)
+has-at (x ∷ names) (suc n) h = or-true (name_eq (name_at names n) x) (has_name (name_at names n) names) (has-at names n (omega arith))
+  where
+    or-true : (a b : Bool) → b ≡ true → (a || b) ≡ true
+    or-true true b h = refl
+    or-true false b h = h
+
+or-false : (a : Bool) → (a || false) ≡ a
+or-false true = refl
+or-false false = refl
+
+known : (names : List Name) (x y : Name) (b : Bool) → name_eq x y ≡ b → has_name y names ≡ true → has_name x names ≡ (has_name x names || b)
+known names x y false e h = sym (or-false (has_name x names))
+known names x y true e h =
+    let has : has_name x names ≡ true = ap (λ z. has_name z names) (same_name x y e) ∙ h in
+    has ∙ ap (λ b. b || true) (sym has)
+
+noted-known : (old new : List Name) (x name : Name) (n : ℕ) → n < length old → name_at new n ≡ name → new ≡ old
+    → has_name x new ≡ (has_name x old || name_eq x name)
+noted-known old new x name n low at same =
+    ap (has_name x) same ∙ known old x name (name_eq x name) refl (ap (λ z. has_name z old) (sym (ap (λ z. name_at z n) (sym same) ∙ at)) ∙ has-at old n low)
+
+noted-new : (old : List Name) (x name : Name) → has_name x (old ++ name ∷ []) ≡ (has_name x old || name_eq x name)
+noted-new old x name = has_name-append x old (name ∷ []) ∙ ap (λ b. has_name x old || b) (or-false (name_eq x name))
+
+low-or-not : (n m : ℕ) → (n < m) ⊎ (m ≤ n)
+low-or-not n zero = inr (omega arith)
+low-or-not zero (suc m) = inl (omega arith)
+low-or-not (suc n) (suc m) = elim (low-or-not n m) [ inl h ↦ inl (omega (arith, h)) | inr h ↦ inr (omega (arith, h)) ]
+
+-- a name that is given a number where it has none
+pub noted : (old new : List Name) (x name : Name) (n : ℕ) → name_at new n ≡ name → (n < length old → new ≡ old) → (length old ≤ n → new ≡ old ++ name ∷ [])
+    → has_name x new ≡ (has_name x old || name_eq x name)
+noted old new x name n at same more = elim (low-or-not n (length old)) [
+  | inl h ↦ noted-known old new x name n h at (same h)
+  | inr h ↦ ap (has_name x) (more h) ∙ noted-new old x name
+]
+
+-- a variable of an expression noted
+pub noted-step : (S : Database) (x symbol : Name) (u r : Bool) → is_variable S symbol ≡ true
+    → ((u || name_eq x symbol) || (is_variable S x && r)) ≡ (u || (is_variable S x && (name_eq x symbol || r)))
+noted-step S x symbol u r is = by (name_eq x symbol) refl
+  where
+    bools : (u v r : Bool) → v ≡ true → ((u || true) || (v && r)) ≡ (u || (v && true))
+    bools true v r h = refl
+    bools false true r h = refl
+    bools false false r h = cc
+
+    flat : (u v r : Bool) → ((u || false) || (v && r)) ≡ (u || (v && r))
+    flat u v r = ap (λ b. b || (v && r)) (or-false u)
+
+    by : (b : Bool) → name_eq x symbol ≡ b → ((u || b) || (is_variable S x && r)) ≡ (u || (is_variable S x && (b || r)))
+    by true e = bools u (is_variable S x) r (ap (is_variable S) (same_name x symbol e) ∙ is)
+    by false e = flat u (is_variable S x) r
+
+-- another symbol passed over
+pub noted-skip : (S : Database) (x symbol : Name) (u r : Bool) → is_variable S symbol ≡ false
+    → (u || (is_variable S x && r)) ≡ (u || (is_variable S x && (name_eq x symbol || r)))
+noted-skip S x symbol u r is = by (name_eq x symbol) refl
+  where
+    bools : (v r : Bool) → v ≡ false → (v && r) ≡ (v && true)
+    bools false r h = refl
+    bools true r h = cc
+
+    by : (b : Bool) → name_eq x symbol ≡ b → (u || (is_variable S x && r)) ≡ (u || (is_variable S x && (b || r)))
+    by true e = ap (λ b. u || b) (bools (is_variable S x) r (ap (is_variable S) (same_name x symbol e) ∙ is))
+    by false e = refl
+
+pub noted-end : (u v : Bool) → (u || (v && false)) ≡ u
+noted-end true v = refl
+noted-end false true = refl
+noted-end false false = refl
+
+-- an `$e` more
+pub noted-more : (u v a r : Bool) → ((u || (v && a)) || (v && r)) ≡ (u || (v && (a || r)))
+noted-more true v a r = refl
+noted-more false true true r = refl
+noted-more false true false r = refl
+noted-more false false a r = refl
+
+any-standing : (x : Name) (es : List (ℕ × Stmt))
+    → list_any (is_in_essential x) (flat_map (λ p. stands_at p.0 p.1) es) ≡ list_any (λ p. is_essential p.1 && has_name x (expr_of p.1)) es
+any-standing x [] = refl
+any-standing x ((at, Open) ∷ es) = any-standing x es
+any-standing x ((at, Close) ∷ es) = any-standing x es
+any-standing x ((at, Const names) ∷ es) = any-standing x es
+any-standing x ((at, Var names) ∷ es) = any-standing x es
+any-standing x ((at, Disj names) ∷ es) = any-standing x es
+any-standing x ((at, Float label constant variable) ∷ es) = any-standing x es
+any-standing x ((at, Ess label expr) ∷ es) = ap (λ b. has_name x expr || b) (any-standing x es)
+any-standing x ((at, Axiom label expr) ∷ es) = any-standing x es
+any-standing x ((at, Prove label expr proof) ∷ es) = any-standing x es
+
+-- the assertion's own variables are noted, and the `$e` are left
+pub noted-start : (S : Database) (s : Stmt) (x : Name)
+    → ((false || (is_variable S x && has_name x (expr_of s))) || (is_variable S x && list_any (is_in_essential x) (standing_of S))) ≡ is_mandatory S s x
+noted-start S s x =
+    noted-more false (is_variable S x) (has_name x (expr_of s)) (list_any (is_in_essential x) (standing_of S))
+    ∙ ap (λ b. is_variable S x && (has_name x (expr_of s) || b)) (any-standing x (active S))
+
+-- ---- the parts
+
+asked-all : (S : Database) (s : Stmt) (used : List Name) → AreMandatory S s used → (es : List (ℕ × Stmt))
+    → asked used (flat_map (λ p. stands_at p.0 p.1) es) ≡ map (λ p. p.0) (filter (λ p. is_hypothesis S s p.1) es)
+asked-all S s used m [] = refl
+asked-all S s used m ((at, Open) ∷ es) = asked-all S s used m es
+asked-all S s used m ((at, Close) ∷ es) = asked-all S s used m es
+asked-all S s used m ((at, Const names) ∷ es) = asked-all S s used m es
+asked-all S s used m ((at, Var names) ∷ es) = asked-all S s used m es
+asked-all S s used m ((at, Disj names) ∷ es) = asked-all S s used m es
+asked-all S s used m ((at, Float label constant variable) ∷ es) =
+    by (has_name variable used) (is_mandatory S s variable) (m variable) (filter (λ (e : Standing). asks used e.stmt) (flat_map (λ p. stands_at p.0 p.1) es)) (filter (λ (p : ℕ × Stmt). is_hypothesis S s p.1) es) (asked-all S s used m es)
+  where
+    by : (a b : Bool) → a ≡ b → (xs : List Standing) (ps : List (ℕ × Stmt)) → map (λ (e : Standing). e.at) xs ≡ map (λ (p : ℕ × Stmt). p.0) ps
+        → map (λ (e : Standing). e.at) (cond a (record { at = at; stmt = Float label constant variable } ∷ xs) xs)
+        ≡ map (λ (p : ℕ × Stmt). p.0) (cond b ((at, Float label constant variable) ∷ ps) ps)
+    by true true e xs ps h = ap (λ qs. at ∷ qs) h
+    by false false e xs ps h = h
+    by true false e xs ps h = cc
+    by false true e xs ps h = cc
+asked-all S s used m ((at, Ess label expr) ∷ es) = ap (λ ps. at ∷ ps) (asked-all S s used m es)
+asked-all S s used m ((at, Axiom label expr) ∷ es) = asked-all S s used m es
+asked-all S s used m ((at, Prove label expr proof) ∷ es) = asked-all S s used m es
+
+pub asked-hypotheses : (S : Database) (s : Stmt) (used : List Name) → AreMandatory S s used → asked used (standing_of S) ≡ hypotheses S s
+asked-hypotheses S s used m = asked-all S s used m (active S)
+
+among-mandatory : (S : Database) (s : Stmt) (used : List Name) → AreMandatory S s used → (names : List Name) → among used names ≡ filter (is_mandatory S s) names
+among-mandatory S s used m [] = refl
+among-mandatory S s used m (x ∷ names) =
+    by (has_name x used) (is_mandatory S s x) (m x) (among used names) (filter (is_mandatory S s) names) (among-mandatory S s used m names)
+  where
+    by : (a b : Bool) → a ≡ b → (xs ys : List Name) → xs ≡ ys → cond a (x ∷ xs) xs ≡ cond b (x ∷ ys) ys
+    by true true e xs ys h = ap (λ zs. x ∷ zs) h
+    by false false e xs ys h = h
+    by true false e xs ys h = cc
+    by false true e xs ys h = cc
+
+groups-all : (S : Database) (s : Stmt) (used : List Name) → AreMandatory S s used → (es : List (ℕ × Stmt))
+    → groups_among used (flat_map (λ p. stands_at p.0 p.1) es) ≡ filter separates (map (filter (is_mandatory S s)) (map (λ p. separated p.1) es))
+groups-all S s used m [] = refl
+groups-all S s used m ((at, Open) ∷ es) = groups-all S s used m es
+groups-all S s used m ((at, Close) ∷ es) = groups-all S s used m es
+groups-all S s used m ((at, Const names) ∷ es) = groups-all S s used m es
+groups-all S s used m ((at, Var names) ∷ es) = groups-all S s used m es
+groups-all S s used m ((at, Disj names) ∷ es) =
+    ap (λ g. cond (separates g) (g ∷ groups_among used (flat_map (λ p. stands_at p.0 p.1) es)) (groups_among used (flat_map (λ p. stands_at p.0 p.1) es))) (among-mandatory S s used m names)
+    ∙ ap (λ r. cond (separates (filter (is_mandatory S s) names)) (filter (is_mandatory S s) names ∷ r) r) (groups-all S s used m es)
+groups-all S s used m ((at, Float label constant variable) ∷ es) = groups-all S s used m es
+groups-all S s used m ((at, Ess label expr) ∷ es) = groups-all S s used m es
+groups-all S s used m ((at, Axiom label expr) ∷ es) = groups-all S s used m es
+groups-all S s used m ((at, Prove label expr proof) ∷ es) = groups-all S s used m es
+
+pub groups-mandatory : (S : Database) (s : Stmt) (used : List Name) → AreMandatory S s used → groups_among used (standing_of S) ≡ mandatory_groups S s
+groups-mandatory S s used m = groups-all S s used m (active S)
+
+pub separates-two : (names : List Name) (b : Bool) → (b ≡ true → 1 < length names) → (b ≡ false → length names ≤ 1) → separates names ≡ b
+separates-two [] true h k = absurd (omega (arith, h refl))
+separates-two [] false h k = refl
+separates-two (x ∷ []) true h k = absurd (omega (arith, h refl))
+separates-two (x ∷ []) false h k = refl
+separates-two (x ∷ y ∷ names) true h k = refl
+separates-two (x ∷ y ∷ names) false h k = absurd (omega (arith, k refl))
+
+pub code-has : (names : List Name) (x : Name) → is_some (code_of names x) ≡ has_name x names
+code-has names x = by (nat_lt (position_or_len (name_eq x) names) (length names)) ∙ lt-list_any (name_eq x) names
+  where
+    by : (b : Bool) → is_some (cond b (Some (position_or_len (name_eq x) names)) None) ≡ b
+    by true = refl
+    by false = refl
+
+pub same-parts : {ps qs : List ℕ} {gs hs : List (List Name)} {e f : Expr} → ps ≡ qs → gs ≡ hs → e ≡ f
+    → (let a : FrameParts = record { hypotheses = ps; groups = gs; conclusion = e } in a) ≡ record { hypotheses = qs; groups = hs; conclusion = f }
+same-parts p q r = cc

@@ -1,0 +1,14 @@
+use Rattle.std.proofs.Common.{◌∙◌, ap}
+use Rattle.frame.specs.OneFrame.{AreMandatory, asked, groups_among}
+use Rattle.frame.proofs.OneFrameLemmas.{asked-hypotheses, groups-mandatory, same-parts}
+use Rattle.frame.proofs.one_frame.frame.Goals as goal
+
+pub returns : goal.returns
+returns c =
+    let S = c.args.scope.now.statements in
+    let s = c.args.stmt.now in
+    let used = c.in_ok-used.used in
+    let m : AreMandatory S s used = c.in_ok-used.ensures in
+    same-parts (c.in_ok-hypotheses.ensures ∙ (ap (asked used) c.standing.ensures ∙ asked-hypotheses S s used m))
+    (c.in_ok-groups.ensures ∙ (ap (groups_among used) c.standing-2.ensures ∙ groups-mandatory S s used m))
+    (c.in_ok-conclusion.ensures ∙ c.expression.ensures)

@@ -1,0 +1,10 @@
+use Rattle.std.proofs.Common.{◌≡◌, ◌++◌}
+use Rattle.mm_lex.specs.Words.{AreWords}
+use Rattle.frame.specs.OneFrame.{among}
+use Rattle.frame.proofs.one_frame.group.Given as goal
+
+abbrev pub invariant-loop-name : goal.invariant-loop-name
+invariant-loop-name l = record {
+  rest : l.group ++ among l.used l.name-iterator ≡ among l.used l.names;
+  words : AreWords l.name-iterator;
+}

@@ -1,0 +1,6 @@
+use Rattle.std.proofs.Common.{◌≡◌, ◌++◌, drop}
+use Rattle.frame.specs.OneFrame.{groups_among}
+use Rattle.frame.proofs.one_frame.groups.Given as goal
+
+abbrev pub invariant-loop-entry : goal.invariant-loop-entry
+invariant-loop-entry l = l.groups.items ++ groups_among l.used (drop l.entry-index l.standing) ≡ groups_among l.used l.standing

@@ -1,0 +1,7 @@
+use Rattle.std.proofs.Common.{◌∙◌, ap}
+use Rattle.std.specs.Prelude.{is_some}
+use Rattle.frame.proofs.OneFrameLemmas.{code-has}
+use Rattle.frame.proofs.one_frame.has.Goals as goal
+
+pub returns : goal.returns
+returns c = c.is_some.ensures ∙ (ap is_some c.find.ensures ∙ code-has c.args.used.now c.args.name.now)

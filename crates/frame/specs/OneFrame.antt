@@ -1,0 +1,38 @@
+-- The frame of one assertion, as it is gathered from what stands.
+-- The code's own form: no public clause cites it.
+use Rattle.std.specs.Prelude.{◌≡◌, ℕ, Bool, true, false, ◌&&◌, ◌||◌, List, map, filter}
+use Rattle.mm_lex.specs.Alphabet.{Name, has_name}
+use Rattle.mm_read.specs.declared.stmt.Stmt.{Stmt}
+use Rattle.mm_read.specs.declared.stmt.Stmt.TheVariants.{Float, Ess}
+use Rattle.mm_read.specs.Statements.{Expr, Database}
+use Rattle.scope.specs.Active.{separated, expr_of, is_essential, is_variable}
+use Rattle.scope.specs.declared.standing.Standing.{Standing}
+use Rattle.frame.specs.FrameOf.{is_mandatory, separates}
+
+-- the variables of the expression beside the others
+abbrev pub AreNoted : Database → List Name → List Name → Expr → Type 0
+AreNoted S old new expr = (x : Name) → has_name x new ≡ (has_name x old || (is_variable S x && has_name x expr))
+
+-- the mandatory variables of an assertion
+abbrev pub AreMandatory : Database → Stmt → List Name → Type 0
+AreMandatory S s used = (x : Name) → has_name x used ≡ is_mandatory S s x
+
+-- an `$e` that has it
+abbrev pub is_in_essential : Name → Standing → Bool
+is_in_essential x e = is_essential e.stmt && has_name x (expr_of e.stmt)
+
+-- an `$e`, or the `$f` of one of the variables
+abbrev pub asks : List Name → Stmt → Bool
+asks used (Ess label expr) = true
+asks used (Float label constant variable) = has_name variable used
+asks used other = false
+
+abbrev pub asked : List Name → List Standing → List ℕ
+asked used standing = map (λ e. e.at) (filter (λ e. asks used e.stmt) standing)
+
+-- those of the names that are among the variables
+abbrev pub among : List Name → List Name → List Name
+among used names = filter (λ x. has_name x used) names
+
+abbrev pub groups_among : List Name → List Standing → List (List Name)
+groups_among used standing = filter separates (map (λ e. among used (separated e.stmt)) standing)

@@ -1,0 +1,156 @@
+//! The frame of one assertion, from what is active.
+ghost use Rattle.std.specs.Prelude.{◌≡◌, ◌||◌, ◌&&◌, IsTrue, OnOk, IfOk, is_some};
+ghost use Rattle.mm_lex.specs.Alphabet.{Name, name_eq, has_name};
+ghost use Rattle.scope.specs.Active.{is_assertion, is_variable, expr_of};
+ghost use Rattle.scope.specs.Standing.{standing_of};
+ghost use Rattle.frame.specs.FrameOf.{frame_of, hypotheses, mandatory_groups, separates};
+ghost use Rattle.frame.specs.OneFrame.{AreNoted, AreMandatory, among, asked, asks, groups_among};
+
+use crate::assertion::Frame;
+use crate::names::Names;
+use mm_lex::Words;
+use mm_read::Stmt;
+use scope::{Scope, Standing};
+use smallvec::SmallVec;
+use std::alloc::{AllocError, Global};
+
+/// The frame of an assertion behind the statements of the scope.
+///
+/// Source: Metamath, 4.2.5 to 4.2.7. Cost: the size of the assertion and of the active `$f`, `$e` and `$d`.
+pub fn frame(alloc: Global, scope: &Scope, stmt: &Stmt) -> Result<Frame, AllocError>
+    requires assertion { IsTrue (is_assertion stmt.now) }
+    ensures { IfOk result (λ f. f ≡ frame_of scope.now.statements stmt.now) }
+{
+    let used = mandatory_variables(alloc, scope, stmt)?;
+    let hypotheses = mandatory_hypotheses(alloc, scope.standing(), &used)?;
+    let groups = groups(alloc, scope.standing(), &used)?;
+    let conclusion = expression(stmt).copy(alloc)?;
+    Ok(Frame {
+        hypotheses,
+        groups,
+        conclusion,
+    })
+}
+
+/// The expression of an assertion.
+fn expression(stmt: &Stmt) -> &Words
+    requires { IsTrue (is_assertion stmt.now) }
+    ensures { result.now ≡ expr_of stmt.now }
+{
+    match stmt {
+        Stmt::Axiom { label: _, expr } => expr,
+        Stmt::Prove {
+            label: _,
+            expr,
+            proof: _,
+        } => expr,
+        _ => unreachable!(),
+    }
+}
+
+/// The variables of an assertion and of the active `$e`.
+fn mandatory_variables(alloc: Global, scope: &Scope, stmt: &Stmt) -> Result<Names, AllocError>
+    requires { IsTrue (is_assertion stmt.now) }
+    ensures { IfOk result (λ used. AreMandatory scope.now.statements stmt.now used) }
+{
+    let mut used = Names::new(alloc);
+    note_variables(alloc, scope, &mut used, expression(stmt))?;
+    for entry in scope.standing().iter() {
+        if let Stmt::Ess { label: _, expr } = &entry.stmt {
+            note_variables(alloc, scope, &mut used, expr)?;
+        }
+    }
+    Ok(used)
+}
+
+/// Notes each variable of an expression.
+fn note_variables(
+    alloc: Global,
+    scope: &Scope,
+    used: &mut Names,
+    expr: &Words,
+) -> Result<(), AllocError>
+    ensures { OnOk result (AreNoted scope.now.statements used.old used.new expr.now) }
+{
+    for symbol in expr.iter() {
+        if scope.is_variable(symbol) {
+            note(alloc, used, symbol)?;
+        }
+    }
+    Ok(())
+}
+
+/// Notes a name, once.
+fn note(alloc: Global, used: &mut Names, name: &[u8]) -> Result<(), AllocError>
+    ensures { OnOk result ((x : Name) → has_name x used.new ≡ (has_name x used.old || name_eq x name.now)) }
+{
+    used.code(alloc, name)?;
+    Ok(())
+}
+
+/// The positions of the `$e`, and of the `$f` of the variables.
+fn mandatory_hypotheses(
+    alloc: Global,
+    standing: &[Standing],
+    used: &Names,
+) -> Result<SmallVec<usize, 8>, AllocError>
+    ensures { IfOk result (λ list. list.items ≡ asked used.now standing.now) }
+{
+    let mut list = SmallVec::new(alloc);
+    for entry in standing.iter() {
+        if is_asked(used, &entry.stmt) {
+            list.push(entry.at)?;
+        }
+    }
+    Ok(list)
+}
+
+/// Whether it is an `$e`, or the `$f` of one of the variables.
+fn is_asked(used: &Names, stmt: &Stmt) -> bool
+    ensures { result ≡ asks used.now stmt.now }
+{
+    match stmt {
+        Stmt::Ess { .. } => true,
+        Stmt::Float {
+            label: _,
+            constant: _,
+            variable,
+        } => has(used, variable.as_bytes()),
+        _ => false,
+    }
+}
+
+fn has(used: &Names, name: &[u8]) -> bool
+    ensures { result ≡ has_name name.now used.now }
+{
+    used.find(name).is_some()
+}
+
+/// Of each `$d` those of the variables, where they are two or more.
+fn groups(alloc: Global, standing: &[Standing], used: &Names) -> Result<Vec<Words>, AllocError>
+    ensures { IfOk result (λ groups. groups.items ≡ groups_among used.now standing.now) }
+{
+    let mut groups = Vec::new(alloc);
+    for entry in standing.iter() {
+        if let Stmt::Disj(names) = &entry.stmt {
+            let group = group(alloc, used, names)?;
+            if group.len() > 1 {
+                groups.push(group)?;
+            }
+        }
+    }
+    Ok(groups)
+}
+
+/// Those of the names that are among the variables.
+fn group(alloc: Global, used: &Names, names: &Words) -> Result<Words, AllocError>
+    ensures { IfOk result (λ group. group ≡ among used.now names.now) }
+{
+    let mut group = Words::new(alloc);
+    for name in names.iter() {
+        if has(used, name) {
+            group.push(name)?;
+        }
+    }
+    Ok(group)
+}
