@@ -1,5 +1,5 @@
 -- What is active behind one more statement, by its kind.
-use Rattle.std.specs.Prelude.{◌≡◌, ℕ, zero, suc, ◌+◌, ◌-◌, ◌<◌, ◌≤◌, Bool, true, false, cond, ◌==◌, List, [], ◌∷◌, ◌++◌, length, take, refl}
+use Rattle.std.specs.Prelude.{◌≡◌, ℕ, ◌+◌, ◌-◌, Bool, true, false, cond, ◌==◌, [], ◌∷◌, ◌++◌, length, take, refl}
 use Rattle.std.proofs.Common.{sym, ◌∙◌, ap, subst, arith}
 use Rattle.mm_read.specs.declared.stmt.Stmt.{Stmt}
 use Rattle.mm_read.specs.declared.stmt.Stmt.TheVariants as stmt
@@ -7,7 +7,7 @@ use Rattle.mm_read.specs.Statements.{Database}
 use Rattle.scope.specs.Active.{is_open, is_close, is_essential}
 use Rattle.frame.specs.declared.links.Links.{Links}
 use Rattle.frame.specs.declared.storage.Kind.{Kind}
-use Rattle.frame.specs.declared.storage.Kind.TheVariants.{Open, Close, Const, Var, Disj, Float, Ess, Axiom, Prove}
+use Rattle.frame.specs.declared.storage.Kind.TheVariants.{Open, Close, Var, Disj, Ess}
 use Rattle.frame.specs.Links.{links_of, last_active, is_var, is_disj}
 use Rattle.frame.specs.Stored.{kind_of}
 use Rattle.frame.proofs.LinksLemmas.{last-push, last-close}

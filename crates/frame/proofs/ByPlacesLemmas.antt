@@ -1,7 +1,7 @@
 -- The contract of an assertion kept by places can be met: what the frames have to know of its hypotheses.
-use Rattle.std.specs.Prelude.{◌≡◌, ℕ, zero, suc, ◌+◌, ◌-◌, ◌<◌, ◌≤◌, Bool, true, false, cond, nat_lt, nat_eq, IsTrue, ◌&&◌, ◌||◌, ◌⊎◌, List, [], ◌∷◌, ◌++◌, length, map, drop, get_or, slice_get, slice_range, Option, Some, None, refl}
+use Rattle.std.specs.Prelude.{◌≡◌, ℕ, zero, suc, ◌<◌, Bool, true, false, cond, nat_eq, ◌&&◌, ◌||◌, List, [], ◌∷◌, ◌++◌, length, map, drop, get_or, slice_get, slice_range, Option, Some, None, refl}
 use Rattle.std.specs.List.{list_all}
-use Rattle.std.proofs.Common.{sym, ◌∙◌, ap, subst, arith, inl, inr, append-nil}
+use Rattle.std.proofs.Common.{sym, ◌∙◌, ap, subst, arith, append-nil}
 use Rattle.std.proofs.lemmas.List.{length-map}
 use Rattle.std.proofs.lemmas.Slice.Eq.{bytes_eq-Decides}
 use Rattle.mm_lex.specs.Alphabet.{Name, name_eq}
@@ -14,7 +14,7 @@ use Rattle.scope.specs.Numbering.{name_at}
 use Rattle.frame.specs.Substitution.{Images, image, apply as applied}
 use Rattle.frame.specs.declared.citation.Pattern.{Pattern}
 use Rattle.frame.specs.declared.citation.Pattern.TheVariants.{Typed, Full}
-use Rattle.frame.specs.Templates.{part, filled, expected, DoFit}
+use Rattle.frame.specs.Templates.{filled, expected, DoFit}
 use Rattle.frame.specs.Disjoint.{are_apart, are_groups_apart}
 use Rattle.frame.specs.ByPlaces.{are_places_apart, IsByPlaces}
 use Rattle.frame.proofs.Translate.{image-own, StandsFor, template-fills}

@@ -1,27 +1,25 @@
 -- Reading an assertion that is kept, and what follows of all of them.
-use Rattle.std.specs.Prelude.{◌≡◌, ℕ, zero, suc, ◌+◌, ◌-◌, ◌<◌, ◌≤◌, true, IsTrue, List, [], ◌∷◌, length, map, take, slice_get, Option, Some, None, refl}
+use Rattle.std.specs.Prelude.{◌≡◌, ℕ, zero, suc, ◌+◌, true, List, length, map, take, slice_get, Option, Some, None, refl}
 use Rattle.std.specs.Global.{Box}
 use Rattle.std.proofs.Common.{sym, ◌∙◌, ap, subst, arith}
 use Rattle.mm_lex.specs.Alphabet.{Name}
 use Rattle.mm_read.specs.declared.stmt.Stmt.{Stmt}
 use Rattle.mm_read.specs.Statements.{Database}
-use Rattle.scope.specs.Active.{stmt_at, is_assertion}
+use Rattle.scope.specs.Active.{is_assertion}
 use Rattle.scope.specs.Numbering.{name_at, decode, AreDistinct}
 use Rattle.frame.specs.FrameOf.{HasAssertion}
 use Rattle.frame.specs.declared.citation.Cited.{Cited}
-use Rattle.frame.specs.declared.citation.Pattern.{Pattern}
 use Rattle.frame.specs.declared.storage.Assertion.{Assertion}
 use Rattle.frame.specs.declared.storage.Entry.{Entry}
 use Rattle.frame.specs.declared.storage.Kind.{Kind}
 use Rattle.frame.specs.declared.storage.Kind.TheVariants.{Open, Close, Const, Var, Disj, Float, Ess, Axiom, Prove}
 use Rattle.frame.specs.declared.storage.Stock.{Stock}
 use Rattle.frame.specs.ByPlaces.{IsByPlaces}
-use Rattle.frame.specs.Reading.{IsCited, AreLegal, IsSingle}
+use Rattle.frame.specs.Reading.{IsCited, AreLegal}
 use Rattle.frame.specs.Stored.{stmt_by, stmt_of, statements_of, AreStored, IsKept, IsKeptAs, is_assertion_kind}
 use Rattle.frame.proofs.AssertionLemmas.{get-entry, kept-low}
 use Rattle.frame.proofs.KeptLemmas.{cited-at, by_places-at}
 use Rattle.frame.proofs.LegalLabels.{legal-labels, single-of}
-use Rattle.frame.proofs.WalkLemmas.{some-same}
 
 assertion-kind : (names labels : List Name) (e : Entry) → is_assertion (stmt_of names labels e) ≡ true → is_assertion_kind e.kind ≡ true
 assertion-kind names labels e = by e.kind

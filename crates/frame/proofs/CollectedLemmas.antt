@@ -7,11 +7,10 @@ use Rattle.std.proofs.lemmas.Slice.Eq.{bytes_eq-Decides}
 use Rattle.mm_lex.specs.Alphabet.{Name, name_eq, has_name}
 use Rattle.mm_read.specs.declared.stmt.Stmt.{Stmt}
 use Rattle.mm_read.specs.declared.stmt.Stmt.TheVariants as stmt
-use Rattle.mm_read.specs.Statements.{Expr, Database}
-use Rattle.scope.specs.Active.{stmt_at, stays_open, active, active_from, is_active, expr_of, is_essential, is_variable, is_assertion, has_float, is_float_of}
-use Rattle.scope.specs.Legal.{IsLegal}
+use Rattle.mm_read.specs.Statements.{Database}
+use Rattle.scope.specs.Active.{stays_open, active, active_from, is_active, expr_of, is_essential, is_variable, has_float, is_float_of}
 use Rattle.scope.specs.Numbering.{name_at, decode, AreDistinct}
-use Rattle.frame.specs.FrameOf.{is_used, is_mandatory, is_hypothesis, hypotheses, variable_of}
+use Rattle.frame.specs.FrameOf.{is_used, is_mandatory, is_hypothesis, hypotheses}
 use Rattle.frame.specs.ByPlaces.{AreBelow}
 use Rattle.frame.specs.declared.storage.Kind.{Kind}
 use Rattle.frame.specs.declared.storage.Kind.TheVariants.{Open, Close, Const, Var, Disj, Float, Ess, Axiom, Prove}

@@ -1,11 +1,11 @@
 -- The last declarations of symbols, one statement more.
-use Rattle.std.specs.Prelude.{◌≡◌, ℕ, zero, suc, ◌+◌, ◌-◌, ◌<◌, ◌≤◌, Bool, true, false, cond, ◌&&◌, ◌||◌, ◌==◌, nat_eq, List, [], ◌∷◌, ◌++◌, length, map, take, get_or, slice_get, slice_set, Option, Some, None, refl}
+use Rattle.std.specs.Prelude.{◌≡◌, ℕ, zero, suc, ◌+◌, ◌<◌, Bool, true, false, cond, ◌||◌, nat_eq, List, [], ◌∷◌, ◌++◌, length, take, get_or, slice_get, slice_set, Some, refl}
 use Rattle.std.specs.List.{list_any}
-use Rattle.std.proofs.Common.{sym, ◌∙◌, ap, subst, arith}
+use Rattle.std.proofs.Common.{sym, ◌∙◌, ap, arith}
 use Rattle.frame.specs.ByPlaces.{AreBelow}
 use Rattle.frame.specs.declared.storage.Entry.{Entry}
 use Rattle.frame.specs.declared.storage.Symbol.{Symbol}
-use Rattle.frame.specs.Stored.{floats, declares, last_from, last_where, symbol_of, with_entry}
+use Rattle.frame.specs.Stored.{floats, declares, last_from, symbol_of, with_entry}
 
 pub below-at : (n : ℕ) (codes : List ℕ) (k : ℕ) → AreBelow n codes → k < length codes → get_or codes k 0 < n
 below-at n [] k h l = absurd (omega (arith, l))

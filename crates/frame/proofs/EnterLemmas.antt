@@ -1,5 +1,5 @@
 -- A statement entered with its label stands for itself.
-use Rattle.std.specs.Prelude.{◌≡◌, ℕ, zero, suc, ◌+◌, ◌<◌, ◌≤◌, List, [], ◌∷◌, ◌++◌, length, Result, Ok, Err, IfOk, OnOk, Option, Some, None, true, refl}
+use Rattle.std.specs.Prelude.{◌≡◌, ℕ, ◌+◌, ◌<◌, List, [], ◌∷◌, ◌++◌, length, Result, Ok, Err, IfOk, OnOk, Option, Some, true, refl}
 use Rattle.std.specs.declared.alloc.AllocError.{AllocError}
 use Rattle.std.proofs.Common.{sym, ◌∙◌, ap, subst, arith, length-append}
 use Rattle.mm_lex.specs.Alphabet.{Name}
@@ -14,7 +14,7 @@ use Rattle.frame.specs.declared.storage.Entry.{Entry}
 use Rattle.frame.specs.declared.storage.Assertion.{Assertion}
 use Rattle.std.specs.Global.{Box}
 use Rattle.frame.specs.declared.storage.Stock.{Stock}
-use Rattle.frame.specs.Stored.{stmt_by, stmt_of, Entered, Grown, is_assertion_kind, IsKept, statements_of, IsLabelBelow, HasTwo, option_list, option_position}
+use Rattle.frame.specs.Stored.{stmt_by, Entered, Grown, is_assertion_kind, IsKept, statements_of, IsLabelBelow, HasTwo, option_list, option_position}
 
 label-below : (kind : Kind) (n m : ℕ) → n < m → IsLabelBelow kind n m
 label-below Float n m h = h

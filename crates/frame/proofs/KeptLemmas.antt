@@ -1,5 +1,5 @@
 -- An assertion that is kept by numbers says what the statement says: by the places of its hypotheses.
-use Rattle.std.specs.Prelude.{◌≡◌, ℕ, zero, suc, ◌+◌, ◌-◌, ◌<◌, ◌≤◌, ◌^◌, Bool, true, false, cond, ◌==◌, ◌&&◌, ◌||◌, ◌⊎◌, nat_eq, List, [], ◌∷◌, ◌++◌, length, map, filter, take, drop, get_or, slice_get, slice_range, Option, Some, None, unwrap_or, refl}
+use Rattle.std.specs.Prelude.{◌≡◌, ℕ, zero, suc, ◌+◌, ◌-◌, ◌<◌, ◌≤◌, Bool, true, false, cond, ◌==◌, ◌&&◌, ◌||◌, List, [], ◌∷◌, ◌++◌, length, map, filter, take, get_or, slice_get, Option, Some, None, unwrap_or, refl}
 use Rattle.std.specs.List.{list_any, filter_map}
 use Rattle.std.proofs.Common.{sym, ◌∙◌, ap, subst, arith, inl, inr, append_assoc, length-append}
 use Rattle.std.proofs.lemmas.List.{length-map}
@@ -14,9 +14,9 @@ use Rattle.scope.specs.Numbering.{name_at, decode, AreDistinct}
 use Rattle.frame.specs.FrameOf.{is_used, is_mandatory, is_hypothesis, hypotheses, variable_of, variables_of, is_some_name, has_place, groups, mandatory_groups, separates, HasAssertion}
 use Rattle.frame.specs.FrameOf as frame_of
 use Rattle.frame.specs.Citations.{expr_at, option_expr}
-use Rattle.frame.specs.Templates.{IsIn, AreIn}
+use Rattle.frame.specs.Templates.{AreIn}
 use Rattle.frame.specs.ByPlaces.{AreBelow, AllBelow, AreCoded, IsByPlaces}
-use Rattle.frame.specs.Reading.{IsCited, IsSingle, groups_of}
+use Rattle.frame.specs.Reading.{IsCited, groups_of}
 use Rattle.frame.specs.declared.citation.Cited.{Cited}
 use Rattle.frame.specs.declared.citation.Pattern.{Pattern}
 use Rattle.frame.specs.declared.citation.Pattern.TheVariants.{Typed, Full}
@@ -27,9 +27,9 @@ use Rattle.frame.specs.declared.storage.Assertion.{Assertion}
 use Rattle.frame.specs.Links.{actives, actives_from, is_disj}
 use Rattle.frame.specs.Stored.{stmt_by, stmt_of, AreAllLegal, AreNumbered, HasTwo, variable_by, variable_at, is_code, place_from, place_of, template_number, templated, places_of, symbols_at, option_symbols, has_two, groups_by, IsPatternOf, ArePatterns, IsKeptAs}
 use Rattle.frame.proofs.Translate.{Stands, StandsFor}
-use Rattle.frame.proofs.ByPlacesLemmas.{IsKeptOne, AreKept, AreOnce, GroupStands, GroupsStand, IsStored, stored-by_places}
+use Rattle.frame.proofs.ByPlacesLemmas.{IsKeptOne, AreKept, GroupStands, GroupsStand, IsStored, stored-by_places}
 use Rattle.frame.proofs.LegalLabels.{AllKept}
-use Rattle.frame.proofs.PlacesLemmas.{stands-active, float-kinds, used-has-place, mandatory-place, variables-once, kept-legal}
+use Rattle.frame.proofs.PlacesLemmas.{stands-active, float-kinds, used-has-place, mandatory-place, variables-once}
 
 -- ---- lists
 

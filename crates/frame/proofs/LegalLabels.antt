@@ -1,21 +1,20 @@
 -- What the verifier uses of legal statements.
-use Rattle.std.specs.Prelude.{◌≡◌, ℕ, zero, suc, ◌+◌, ◌-◌, ◌<◌, ◌≤◌, Bool, true, false, not, cond, ◌||◌, List, [], ◌∷◌, length, take, Option, Some, None, slice_get, find, refl}
-use Rattle.std.specs.List.{list_any}
-use Rattle.std.proofs.Common.{sym, ◌∙◌, ap, subst, arith}
+use Rattle.std.specs.Prelude.{◌≡◌, ℕ, zero, suc, ◌-◌, ◌<◌, Bool, true, false, not, cond, ◌||◌, List, [], ◌∷◌, length, take, Option, Some, None, slice_get, refl}
+use Rattle.std.proofs.Common.{sym, ◌∙◌, ap, arith}
 use Rattle.std.proofs.lemmas.Slice.Eq.{bytes_eq-Decides}
-use Rattle.mm_lex.specs.Alphabet.{Name, name_eq}
+use Rattle.mm_lex.specs.Alphabet.{Name}
 use Rattle.mm_read.specs.declared.stmt.Stmt.{Stmt}
 use Rattle.mm_read.specs.declared.stmt.Stmt.TheVariants.{Open, Close, Const, Var, Disj, Float, Ess, Axiom, Prove}
-use Rattle.mm_read.specs.Statements.{Expr, Database}
+use Rattle.mm_read.specs.Statements.{Database}
 use Rattle.scope.specs.declared.rule.Rule.{Rule}
 use Rattle.scope.specs.declared.rule.Rule.TheVariants.{G1, G2, G3, G4}
 use Rattle.scope.specs.Active.{stmt_at, before, label_of, has_label, was_label, was_symbol, expr_of}
 use Rattle.scope.specs.Numbering.{name_at}
-use Rattle.scope.specs.Legal.{IsLegal, keeps, broken_rule}
+use Rattle.scope.specs.Legal.{IsLegal, keeps}
 use Rattle.frame.specs.FrameOf.{HasAssertion}
 use Rattle.frame.specs.Substitution.{Images, apply as applied}
 use Rattle.frame.specs.declared.citation.Pattern.{Pattern}
-use Rattle.frame.specs.Citations.{Carries, OfVariables, IsInstance, premises}
+use Rattle.frame.specs.Citations.{Carries, OfVariables, premises}
 use Rattle.frame.specs.Templates.{filled}
 use Rattle.frame.specs.ByPlaces.{IsByPlaces}
 use Rattle.frame.specs.Reading.{HasLabelsOnce, IsSingle}

@@ -1,14 +1,13 @@
 -- What the last active statement of a kind says of the others.
-use Rattle.std.specs.Prelude.{◌≡◌, ℕ, zero, suc, ◌+◌, ◌-◌, ◌<◌, ◌≤◌, Bool, true, false, cond, ◌==◌, ◌⊎◌, List, [], ◌∷◌, ◌++◌, length, take, drop, filter, slice_get, Option, Some, None, refl}
+use Rattle.std.specs.Prelude.{◌≡◌, ℕ, zero, suc, ◌+◌, ◌-◌, ◌<◌, ◌≤◌, Bool, true, false, cond, ◌==◌, ◌⊎◌, [], ◌∷◌, ◌++◌, length, take, drop, filter, slice_get, Some, refl}
 use Rattle.std.proofs.Common.{sym, ◌∙◌, ap, subst, arith, inl, inr, append_assoc, append-nil, length-append}
-use Rattle.std.proofs.Math.Seq.{drop-append_seam, take-append_seam, drop-append-add}
+use Rattle.std.proofs.Math.Seq.{take-append_seam}
 use Rattle.std.proofs.lemmas.List.{drop-append-le, length-take-le}
 use Rattle.mm_read.specs.declared.stmt.Stmt.{Stmt}
-use Rattle.mm_read.specs.declared.stmt.Stmt.TheVariants.{Open, Close, Var, Disj, Ess}
+use Rattle.mm_read.specs.declared.stmt.Stmt.TheVariants.{Open, Close}
 use Rattle.mm_read.specs.Statements.{Database}
-use Rattle.scope.specs.Active.{stays_open, active_from, is_open, is_close, is_essential, count}
-use Rattle.frame.specs.declared.links.Links.{Links}
-use Rattle.frame.specs.Links.{actives_from, actives, last_position, last_active, links_of, is_var, is_disj}
+use Rattle.scope.specs.Active.{stays_open, active_from, is_open, is_close}
+use Rattle.frame.specs.Links.{actives_from, actives, last_position, last_active}
 use Rattle.frame.proofs.OpenLemmas.{StaysOpen, IsLast, IsNoClose, no_close, split_last, last-actives, last-position, last_position-push, actives-append, stays_open-any, stays_open-append, none-open, closed-rest, close-actives, close-outside}
 
 -- none is active, or the last one ends the list of those that were active before it

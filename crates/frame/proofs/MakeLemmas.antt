@@ -1,8 +1,8 @@
 -- Making the parts of an assertion: the loops' steps.
-use Rattle.std.specs.Prelude.{◌≡◌, ℕ, zero, suc, ◌+◌, ◌-◌, ◌<◌, ◌≤◌, Bool, true, false, cond, ◌==◌, ◌&&◌, ◌⊎◌, List, [], ◌∷◌, ◌++◌, length, map, flat_map, filter, take, drop, reverse, get_or, slice_get, slice_range, Option, Some, None, unwrap_or, refl}
+use Rattle.std.specs.Prelude.{◌≡◌, ℕ, zero, suc, ◌+◌, ◌-◌, ◌<◌, ◌≤◌, Bool, true, false, cond, ◌==◌, List, [], ◌∷◌, ◌++◌, length, map, flat_map, filter, take, drop, reverse, get_or, slice_get, slice_range, Option, Some, None, refl}
 use Rattle.std.specs.Option.{option_to_list}
 use Rattle.std.specs.List.{filter_map}
-use Rattle.std.proofs.Common.{sym, ◌∙◌, ap, subst, arith, inl, inr, append_assoc, append-nil}
+use Rattle.std.proofs.Common.{sym, ◌∙◌, ap, subst, arith, append_assoc, append-nil}
 use Rattle.std.proofs.lemmas.List.Elements.{filter_map-append, filter-append}
 use Rattle.std.proofs.lemmas.List.{drop-append-le, take-append-le, length-drop, length-append, map-append, reverse-append}
 use Rattle.std.proofs.Math.Seq.{drop-append_seam, take-length}
@@ -14,9 +14,8 @@ use Rattle.frame.specs.declared.storage.Stock.{Stock}
 use Rattle.frame.specs.Links.{actives, last_active, is_disj, links_of}
 use Rattle.frame.specs.declared.citation.Pattern.{Pattern}
 use Rattle.frame.specs.declared.citation.Pattern.TheVariants.{Typed, Full}
-use Rattle.frame.specs.declared.storage.Kind.TheVariants.{Float, Ess}
 use Rattle.frame.specs.declared.storage.Entry.{Entry}
-use Rattle.frame.specs.Stored.{is_code, place_from, place_of, template_number, templated, places_of, variable_at, option_variable, variable_by, symbols_at, is_hypothesis_entry, has_two, groups_by, AreHypotheses, IsPatternOf, ArePatterns, Extends, statements_of, own_template, option_template, template_at}
+use Rattle.frame.specs.Stored.{is_code, place_from, place_of, places_of, variable_at, option_variable, variable_by, symbols_at, is_hypothesis_entry, has_two, groups_by, AreHypotheses, IsPatternOf, ArePatterns, Extends, statements_of, own_template, option_template, template_at}
 
 pub drop-any : {A : Type 0} (xs : List A) (i : ℕ) (d : A) → i < length xs → drop i xs ≡ get_or xs i d ∷ drop (i + 1) xs
 drop-any [] i d h = absurd (omega (arith, h))

@@ -1,8 +1,7 @@
 -- Looking through the active statements of a kind, from the last one back.
-use Rattle.std.specs.Prelude.{◌≡◌, ℕ, zero, suc, ◌+◌, ◌-◌, ◌<◌, ◌≤◌, Bool, true, false, cond, ◌&&◌, ◌||◌, ◌==◌, nat_eq, ◌⊎◌, List, [], ◌∷◌, ◌++◌, length, map, take, drop, filter, get_or, slice_get, Option, Some, None, refl}
+use Rattle.std.specs.Prelude.{◌≡◌, ℕ, zero, suc, ◌+◌, ◌-◌, ◌<◌, ◌≤◌, Bool, true, false, cond, ◌&&◌, ◌||◌, ◌==◌, nat_eq, ◌⊎◌, List, [], ◌∷◌, ◌++◌, length, map, take, drop, filter, get_or, slice_get, Some, refl}
 use Rattle.std.specs.List.{list_any}
 use Rattle.std.proofs.Common.{sym, ◌∙◌, ap, subst, arith, inl, inr}
-use Rattle.std.proofs.lemmas.List.{length-take-le, drop-take, take-append-drop}
 use Rattle.std.proofs.lemmas.List.Folds.{list_any-append}
 use Rattle.std.proofs.lemmas.Slice.Eq.{bytes_eq-Decides}
 use Rattle.mm_lex.specs.Alphabet.{Name, name_eq, has_name}
@@ -12,10 +11,9 @@ use Rattle.mm_read.specs.Statements.{Database}
 use Rattle.scope.specs.Active.{stays_open, active, active_from, is_active, separated, variables}
 use Rattle.scope.specs.Numbering.{name_at, decode, AreDistinct}
 use Rattle.frame.specs.ByPlaces.{AreBelow}
-use Rattle.frame.specs.Links.{actives, actives_from, last_active, is_var, is_disj}
+use Rattle.frame.specs.Links.{actives, last_active, is_var, is_disj}
 use Rattle.frame.proofs.OpenLemmas.{IsNoClose}
 use Rattle.frame.proofs.WalkLemmas.{IsBack, walk-back, walk-over, cut-here, get-take, active-stays}
-use Rattle.frame.proofs.NumberLemmas.{has-name}
 use Rattle.frame.proofs.PlacesLemmas.{stands-active}
 use Rattle.std.proofs.lemmas.List.{length-map}
 use Rattle.frame.proofs.WalkLemmas.{some-same}

@@ -11,7 +11,7 @@ use Rattle.mm_read.specs.Statements.{Expr, Database}
 use Rattle.scope.specs.declared.rule.Rule.{Rule}
 use Rattle.scope.specs.declared.rule.Rule.TheVariants.{G1, G2, G3, G4, G5, G6, G7, G8, G9, G10}
 use Rattle.scope.specs.Active.{stmt_at, before, stays_open, active, active_from, is_active, constants, variables, expr_of, is_assertion, is_essential, is_variable, is_constant, is_float_of, has_float, was_symbol}
-use Rattle.scope.specs.Legal.{IsLegal, keeps, all_different, are_typed, starts_with_constant}
+use Rattle.scope.specs.Legal.{IsLegal, keeps, all_different}
 use Rattle.frame.specs.FrameOf.{is_used, is_mandatory, is_hypothesis, hypotheses, variable_of, variable_at, variables_of, is_some_name, has_place}
 use Rattle.frame.proofs.LegalLabels.{AllKept}
 use Rattle.frame.proofs.ByPlacesLemmas.{IsElsewhere, AreOnce}

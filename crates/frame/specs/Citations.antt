@@ -1,7 +1,7 @@
 -- Citing a statement: a hypothesis that is active, or an earlier assertion with images for its variables.
 -- Metamath, 4.2.6: the hypotheses of a cited assertion, with the images put in, are the results that it takes.
 -- The code knows no images: it reads them off the results.
-use Rattle.std.specs.Prelude.{◌≡◌, ℕ, ◌<◌, Bool, true, false, IsTrue, List, [], ◌∷◌, map, Option, Some, None}
+use Rattle.std.specs.Prelude.{◌≡◌, ℕ, ◌<◌, Bool, true, false, IsTrue, List, [], map, Option, Some, None}
 use Rattle.std.specs.List.{list_all}
 use Rattle.mm_lex.specs.Alphabet.{Name}
 use Rattle.mm_read.specs.declared.stmt.Stmt.{Stmt}

@@ -1,16 +1,16 @@
 -- Statements kept as numbers: what each entry stands for, and what the parts of the storage say of the statements.
 -- The code's own form: no public clause cites it.
-use Rattle.std.specs.Prelude.{◌≡◌, ℕ, ◌+◌, ◌-◌, ◌<◌, ◌≤◌, ◌^◌, ◌==◌, nat_lt, Bool, true, false, ◌&&◌, if◌then◌else◌, List, [], ◌∷◌, ◌++◌, length, map, flat_map, filter, take, get_or, slice_get, slice_range, Option, Some, None, unwrap_or}
+use Rattle.std.specs.Prelude.{◌≡◌, ℕ, ◌+◌, ◌-◌, ◌<◌, ◌≤◌, ◌^◌, ◌==◌, nat_lt, Bool, true, false, ◌&&◌, if◌then◌else◌, List, [], ◌∷◌, ◌++◌, length, map, flat_map, filter, take, slice_get, slice_range, Option, Some, None, unwrap_or}
 use Rattle.std.specs.List.{list_any, filter_map}
 use Rattle.std.specs.Global.{Box}
-use Rattle.mm_lex.specs.Alphabet.{Name, name_eq, has_name}
+use Rattle.mm_lex.specs.Alphabet.{Name, has_name}
 use Rattle.mm_read.specs.declared.stmt.Stmt.{Stmt}
 use Rattle.mm_read.specs.declared.stmt.Stmt.TheVariants as stmt
 use Rattle.mm_read.specs.Statements.{Expr, Database}
 use Rattle.scope.specs.Active.{stmt_at, before, label_of, expr_of, is_assertion, is_active, is_essential, is_open, is_close, stays_open}
 use Rattle.scope.specs.Legal.{IsLegal}
-use Rattle.scope.specs.Numbering.{name_at, decode, AreDistinct}
-use Rattle.frame.specs.FrameOf.{hypotheses, separates}
+use Rattle.scope.specs.Numbering.{name_at, decode}
+use Rattle.frame.specs.FrameOf.{hypotheses}
 use Rattle.frame.specs.declared.citation.Pattern.{Pattern}
 use Rattle.frame.specs.declared.citation.Pattern.TheVariants.{Typed, Full}
 use Rattle.frame.specs.declared.links.Links.{Links}

@@ -1,5 +1,5 @@
-use Rattle.std.proofs.Common.{◌≡◌, ◌∙◌, ap, sym, arith, length, refl, take, get_or}
-use Rattle.std.specs.Prelude.{slice_get, Some, nat_eq, if◌then◌else◌, ◌||◌, slice_set}
+use Rattle.std.proofs.Common.{◌∙◌, ap, sym, arith, length, take, get_or}
+use Rattle.std.specs.Prelude.{Some, nat_eq}
 use Rattle.std.specs.List.{list_any}
 use Rattle.std.proofs.lemmas.List.{length-set}
 use Rattle.frame.proofs.DeclareLemmas.{below-at, any-take-more, noted, note-step}

@@ -1,9 +1,8 @@
-use Rattle.std.proofs.Common.{◌≡◌, ◌∙◌, ap, sym, arith, length, refl, false, ◌+◌}
+use Rattle.std.proofs.Common.{◌∙◌, ap, sym, arith, refl, ◌+◌}
 use Rattle.std.proofs.lemmas.List.{length-map}
 use Rattle.frame.specs.Stored.{statements_of, stmt_of}
 use Rattle.frame.proofs.AfterLemmas.{links-next, links-close-none, links-close-some}
 use Rattle.frame.proofs.WalkLemmas.{last-within}
-use Rattle.frame.specs.Links.{last_active}
 use Rattle.scope.specs.Active.{is_open}
 use Rattle.frame.proofs.declare.links_after.Goals as goal
 

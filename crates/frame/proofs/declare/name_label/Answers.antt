@@ -1,5 +1,5 @@
-use Rattle.std.proofs.Common.{◌≡◌, ◌≤◌, ◌+◌, ◌∙◌, ap, sym, arith, length, length-append}
-use Rattle.std.specs.Prelude.{List, [], ◌∷◌, ◌++◌}
+use Rattle.std.proofs.Common.{ap, arith, length, length-append}
+use Rattle.std.specs.Prelude.{[], ◌∷◌}
 use Rattle.frame.proofs.NumberLemmas.{fresh-number}
 use Rattle.frame.proofs.declare.name_label.Goals as goal
 

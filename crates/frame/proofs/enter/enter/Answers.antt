@@ -1,4 +1,4 @@
-use Rattle.std.proofs.Common.{◌≡◌, ◌∙◌, ap, sym, refl}
+use Rattle.std.proofs.Common.{◌≡◌, ◌∙◌, ap, sym}
 use Rattle.std.specs.Prelude.{ℕ, List, [], ◌∷◌, length, None, Some}
 use Rattle.std.proofs.lemmas.List.{length-map}
 use Rattle.mm_lex.specs.Alphabet.{Name}
@@ -10,7 +10,7 @@ use Rattle.frame.specs.declared.storage.Kind.TheVariants.{Axiom, Prove}
 use Rattle.frame.proofs.StoredLemmas.{legal-bare}
 use Rattle.frame.specs.Stored.{is_assertion_kind, stmt_by, statements_of, IsKept, IsKeptAs, IsNext}
 use Rattle.std.proofs.lemmas.Bool.{false≢true}
-use Rattle.frame.proofs.EnterLemmas.{AreFirst, entered-labelled}
+use Rattle.frame.proofs.EnterLemmas.{entered-labelled}
 use Rattle.frame.proofs.enter.enter.Goals as goal
 
 two-codes : (names : List Name) (codes : List ℕ) (x y : Name) → decode names codes ≡ x ∷ y ∷ [] → length codes ≡ 2

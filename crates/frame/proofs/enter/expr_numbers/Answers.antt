@@ -1,5 +1,4 @@
-use Rattle.std.proofs.Common.{◌≡◌, ◌∙◌, ap, sym, append-nil, []}
-use Rattle.frame.specs.Stored.{statements_of}
+use Rattle.std.proofs.Common.{sym, append-nil, []}
 use Rattle.frame.proofs.StoredLemmas.{kept-grown, statements-more}
 use Rattle.frame.proofs.enter.expr_numbers.Goals as goal
 

@@ -1,5 +1,5 @@
-use Rattle.std.proofs.Common.{◌≡◌, ◌∙◌, ap, sym, subst, refl, length}
-use Rattle.frame.specs.Stored.{statements_of, stmt_of, AreHypotheses, IsKeptAs}
+use Rattle.std.proofs.Common.{◌≡◌, sym, subst, refl, length}
+use Rattle.frame.specs.Stored.{statements_of, AreHypotheses, IsKeptAs}
 use Rattle.frame.specs.declared.storage.Assertion.{Assertion}
 use Rattle.frame.specs.declared.storage.Entry.{Entry}
 use Rattle.frame.proofs.CollectedLemmas.{collected-hypotheses}

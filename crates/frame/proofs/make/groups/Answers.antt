@@ -1,8 +1,8 @@
-use Rattle.std.proofs.Common.{◌≡◌, ◌-◌, ◌<◌, ◌∙◌, ap, sym, subst, arith, length, take, refl, ℕ}
-use Rattle.std.specs.Prelude.{Some, Option, slice_get, map, reverse, ◌++◌}
+use Rattle.std.proofs.Common.{◌≡◌, ◌-◌, ◌∙◌, ap, sym, subst, arith, take, refl}
+use Rattle.std.specs.Prelude.{map}
 use Rattle.std.proofs.lemmas.List.{length-map, length-take-le}
-use Rattle.frame.specs.Links.{actives, last_active, is_disj}
-use Rattle.frame.specs.Stored.{statements_of, stmt_of, places_of, symbols_at, option_symbols, groups_by, has_two}
+use Rattle.frame.specs.Links.{actives, is_disj}
+use Rattle.frame.specs.Stored.{statements_of, stmt_of, places_of, symbols_at, option_symbols, has_two}
 use Rattle.frame.proofs.WalkLemmas.{walk-back, walk-over, last-within}
 use Rattle.frame.proofs.StoredLemmas.{get-index}
 use Rattle.frame.proofs.MakeLemmas.{AreGroups, groups-step, groups-start, groups-end}

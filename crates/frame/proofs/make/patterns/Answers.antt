@@ -1,5 +1,5 @@
-use Rattle.std.proofs.Common.{◌≡◌, ◌∙◌, ◌-◌, ◌^◌, ap, sym, subst, arith, get_or, length}
-use Rattle.std.specs.Prelude.{◌++◌, ◌∷◌, [], true}
+use Rattle.std.proofs.Common.{◌∙◌, ◌-◌, ◌^◌, ap, sym, subst, arith, get_or, length}
+use Rattle.std.specs.Prelude.{◌++◌}
 use Rattle.frame.proofs.CollectLemmas.{index-is}
 use Rattle.frame.specs.ByPlaces.{AreBelow}
 use Rattle.frame.specs.Stored.{HasTwo, IsPatternOf, is_hypothesis_entry, own_template}

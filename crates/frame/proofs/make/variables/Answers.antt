@@ -1,4 +1,4 @@
-use Rattle.std.proofs.Common.{◌≡◌, ◌∙◌, ap, sym, subst, arith, get_or, ◌-◌}
+use Rattle.std.proofs.Common.{◌∙◌, ap, arith, get_or, ◌-◌}
 use Rattle.std.specs.Prelude.{◌++◌, ◌∷◌, []}
 use Rattle.frame.proofs.CollectLemmas.{index-is}
 use Rattle.frame.specs.Stored.{variable_by}

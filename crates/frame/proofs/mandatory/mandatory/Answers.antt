@@ -1,9 +1,8 @@
-use Rattle.std.proofs.Common.{◌≡◌, ◌-◌, ◌<◌, ◌∙◌, ap, sym, subst, arith, length, take, refl, ℕ}
-use Rattle.std.specs.Prelude.{Some, Option, slice_get}
+use Rattle.std.proofs.Common.{◌≡◌, ◌-◌, ◌∙◌, ap, sym, subst, arith, length, take, refl}
 use Rattle.std.proofs.lemmas.List.{length-map, length-take-le}
 use Rattle.scope.specs.Active.{is_essential}
 use Rattle.frame.specs.ByPlaces.{AreBelow}
-use Rattle.frame.specs.Links.{actives, last_active}
+use Rattle.frame.specs.Links.{actives}
 use Rattle.frame.specs.Stored.{statements_of, stmt_of, inserted, with_floats, with_essentials, symbols_at, option_symbols}
 use Rattle.frame.proofs.WalkLemmas.{walk-back, walk-over, last-within}
 use Rattle.frame.proofs.StoredLemmas.{get-index, numbered-at}

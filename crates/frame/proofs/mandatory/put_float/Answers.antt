@@ -1,9 +1,9 @@
-use Rattle.std.proofs.Common.{◌≡◌, ◌∙◌, ap, sym, subst, arith, length, ℕ}
-use Rattle.std.specs.Prelude.{Bool, true, false, cond}
+use Rattle.std.proofs.Common.{◌∙◌, ap, sym, arith}
+use Rattle.std.specs.Prelude.{true, false}
 use Rattle.std.proofs.lemmas.List.{length-map}
 use Rattle.scope.specs.Active.{is_active}
-use Rattle.frame.specs.Stored.{statements_of, stmt_of, inserted, with_float}
-use Rattle.frame.proofs.CollectLemmas.{float-stands, float-some, float-none, index-is, on-ok-weaker}
+use Rattle.frame.specs.Stored.{statements_of, stmt_of}
+use Rattle.frame.proofs.CollectLemmas.{float-stands, float-some, index-is, on-ok-weaker}
 use Rattle.frame.proofs.mandatory.put_float.Goals as goal
 
 pub is_active_at-requires-clause-place : goal.is_active_at-requires-clause-place

@@ -1,5 +1,4 @@
-use Rattle.std.proofs.Common.{◌≡◌, ◌∙◌, ap, sym, subst, arith, rules}
-use Rattle.std.proofs.lemmas.Grind.{common_steps}
+use Rattle.std.proofs.Common.{◌∙◌, ap, sym, subst, rules}
 use Rattle.scope.specs.Numbering.{decode}
 use Rattle.std.specs.Prelude.{◌++◌, length}
 use Rattle.frame.specs.ByPlaces.{AreBelow}

@@ -1,16 +1,16 @@
 use Rattle.std.proofs.Common.{◌≡◌, ◌∙◌, ◌-◌, ap, sym, subst, arith, length, take, refl, ℕ}
-use Rattle.std.specs.Prelude.{Bool, true, false, ◌&&◌, ◌==◌, List}
+use Rattle.std.specs.Prelude.{Bool, true, false, ◌==◌, List}
 use Rattle.std.specs.List.{list_any}
 use Rattle.std.proofs.lemmas.List.{length-map, length-take-le}
 use Rattle.mm_lex.specs.Alphabet.{has_name}
 use Rattle.mm_read.specs.declared.stmt.Stmt.{Stmt}
-use Rattle.scope.specs.Active.{active, before, separated, variables}
+use Rattle.scope.specs.Active.{active, before, variables}
 use Rattle.scope.specs.Numbering.{name_at, decode}
-use Rattle.frame.specs.Links.{actives, last_active, is_disj, is_var}
+use Rattle.frame.specs.Links.{is_var}
 use Rattle.frame.specs.Stored.{statements_of, stmt_of}
 use Rattle.frame.proofs.WalkLemmas.{last-within}
 use Rattle.frame.proofs.StoredLemmas.{numbered-at}
-use Rattle.frame.proofs.PairsLemmas.{IsSought, sought-here, sought-found, sought-step, sought-over, read-here, any-kind, has-decode, entry-disj, entry-var, other-disj, other-var}
+use Rattle.frame.proofs.PairsLemmas.{IsSought, sought-here, sought-found, sought-step, sought-over, read-here, any-kind, has-decode, entry-var, other-var}
 use Rattle.frame.proofs.pairs.is_listed_at.Goals as goal
 
 pub index-entry-requires : goal.index-entry-requires

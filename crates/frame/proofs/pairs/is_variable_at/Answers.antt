@@ -1,5 +1,4 @@
-use Rattle.std.proofs.Common.{◌≡◌, ◌∙◌, ap, sym, subst, arith, length, ◌-◌}
-use Rattle.frame.specs.Stored.{statements_of}
+use Rattle.std.proofs.Common.{◌∙◌, ap, sym, length, ◌-◌}
 use Rattle.frame.proofs.CollectLemmas.{index-is}
 use Rattle.frame.proofs.PairsLemmas.{declared-none, declared-active, var-plain}
 use Rattle.frame.proofs.pairs.is_variable_at.Goals as goal

@@ -4,13 +4,13 @@ use Rattle.std.specs.List.{list_any}
 use Rattle.std.proofs.lemmas.List.{length-map, length-take-le}
 use Rattle.mm_lex.specs.Alphabet.{has_name}
 use Rattle.mm_read.specs.declared.stmt.Stmt.{Stmt}
-use Rattle.scope.specs.Active.{active, before, separated, variables}
+use Rattle.scope.specs.Active.{active, before, separated}
 use Rattle.scope.specs.Numbering.{name_at, decode}
-use Rattle.frame.specs.Links.{actives, last_active, is_disj, is_var}
+use Rattle.frame.specs.Links.{is_disj}
 use Rattle.frame.specs.Stored.{statements_of, stmt_of}
 use Rattle.frame.proofs.WalkLemmas.{last-within}
 use Rattle.frame.proofs.StoredLemmas.{numbered-at}
-use Rattle.frame.proofs.PairsLemmas.{IsSought, sought-here, sought-found, sought-step, sought-over, read-here, any-kind, has-decode, entry-disj, entry-var, other-disj, other-var}
+use Rattle.frame.proofs.PairsLemmas.{IsSought, sought-here, sought-found, sought-step, sought-over, read-here, any-kind, has-decode, entry-disj, other-disj}
 use Rattle.frame.proofs.pairs.stand_together.Goals as goal
 
 pub index-entry-requires : goal.index-entry-requires

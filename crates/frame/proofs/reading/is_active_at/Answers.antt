@@ -1,7 +1,7 @@
 use Rattle.std.proofs.Common.{◌≡◌, ◌<◌, ◌-◌, ◌∙◌, ap, sym, subst, arith, take}
 use Rattle.mm_read.specs.declared.stmt.Stmt.{Stmt}
-use Rattle.std.specs.Prelude.{refl, slice_get, Option, Some, None, Bool, ℕ, List, true, false, ◌==◌, nat_eq, ◌≤◌}
-use Rattle.scope.specs.Active.{is_open, is_close, is_active, stays_open}
+use Rattle.std.specs.Prelude.{refl, slice_get, Option, Some, None, ℕ, List, true, ◌==◌, nat_eq, ◌≤◌}
+use Rattle.scope.specs.Active.{is_open, is_active, stays_open}
 use Rattle.frame.specs.Links.{last_active}
 use Rattle.frame.specs.Stored.{statements_of, IsPlain}
 use Rattle.frame.proofs.WalkLemmas.{IsWalk, walk-start, walk-step, walk-end, walk-place, last-within}

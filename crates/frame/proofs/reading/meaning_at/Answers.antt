@@ -1,10 +1,9 @@
 use Rattle.std.proofs.lemmas.Bool.{false≢true}
-use Rattle.std.proofs.Common.{◌≡◌, ◌∙◌, ap, sym, subst, arith, length}
+use Rattle.std.proofs.Common.{◌≡◌, ◌∙◌, ap, sym, subst, arith}
 use Rattle.std.proofs.lemmas.List.{length-map}
-use Rattle.std.specs.Prelude.{refl, slice_get, Some, true, false, IsTrue, Bool, ◌-◌, ◌≤◌}
-use Rattle.mm_read.specs.declared.stmt.Stmt.{Stmt}
+use Rattle.std.specs.Prelude.{Some, true, false, IsTrue, Bool, ◌-◌, ◌≤◌}
 use Rattle.scope.specs.Active.{stmt_at, is_assertion}
-use Rattle.frame.specs.Citations.{is_hypothesis_kind, IsHypothesis}
+use Rattle.frame.specs.Citations.{is_hypothesis_kind}
 use Rattle.frame.specs.Stored.{statements_of, stmt_of}
 use Rattle.frame.proofs.WalkLemmas.{some-same}
 use Rattle.frame.proofs.StoredLemmas.{IsCitable, get-stmt, get-index, stmt-at-suc, entry-none, none-of, entry-assertion}

@@ -1,5 +1,4 @@
-use Rattle.std.proofs.Common.{◌≡◌, ◌∙◌, ap, sym, arith, length, length-append, take, get_or}
-use Rattle.std.specs.Prelude.{◌++◌}
+use Rattle.std.proofs.Common.{ap, arith, length, length-append, take}
 use Rattle.std.proofs.lemmas.List.Folds.{length-flat_map-take}
 use Rattle.frame.specs.Substitution.{code_image, code_apply}
 use Rattle.subst.proofs.substitute.add_all.Goals as goal

@@ -1,5 +1,4 @@
-use Rattle.std.proofs.Common.{◌≡◌, ◌∙◌, ap, sym, subst}
-use Rattle.std.specs.Prelude.{Some}
+use Rattle.std.proofs.Common.{◌∙◌, ap, subst}
 use Rattle.scope.specs.Active.{stmt_at}
 use Rattle.frame.specs.Parts.{Numbered}
 use Rattle.frame.specs.Reading.{IsCited}

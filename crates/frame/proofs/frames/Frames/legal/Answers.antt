@@ -1,4 +1,4 @@
-use Rattle.std.proofs.Common.{ap, subst}
+use Rattle.std.proofs.Common.{subst}
 use Rattle.frame.specs.Parts.{Numbered}
 use Rattle.frame.specs.Reading.{AreLegal}
 use Rattle.frame.proofs.CitedLemmas.{all-legal}

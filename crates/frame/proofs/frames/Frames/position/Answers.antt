@@ -1,10 +1,10 @@
 use Rattle.std.proofs.lemmas.List.{get_or_read}
 use Rattle.std.proofs.Common.{◌≡◌, ◌<◌, ◌+◌, ◌∙◌, ap, sym, subst, arith, length, get_or, ℕ, List}
-use Rattle.std.specs.Prelude.{zero, suc, Option, Some, None, Bool, true, false, refl, slice_get}
+use Rattle.std.specs.Prelude.{zero, suc, Option, Some, None, false, slice_get}
 use Rattle.mm_lex.specs.Alphabet.{Name, has_name}
 use Rattle.mm_read.specs.Statements.{Database}
 use Rattle.mm_read.specs.declared.stmt.Stmt.{Stmt}
-use Rattle.scope.specs.Active.{stmt_at, label_of, was_label}
+use Rattle.scope.specs.Active.{stmt_at, was_label}
 use Rattle.scope.specs.Numbering.{code_of, name_at}
 use Rattle.frame.specs.Citations.{Carries}
 use Rattle.frame.specs.Reading.{IsPosition}

@@ -1,6 +1,6 @@
-use Rattle.std.proofs.Common.{◌≡◌, ◌∙◌, ap, sym, subst, take}
-use Rattle.frame.specs.Stored.{numbered, IsBehind, Extends}
-use Rattle.frame.proofs.StoredLemmas.{IsTakenBack, back-stored, back-numbered, on-err}
+use Rattle.std.proofs.Common.{◌∙◌, ap, sym, take}
+use Rattle.frame.specs.Stored.{IsBehind}
+use Rattle.frame.proofs.StoredLemmas.{back-stored, on-err}
 use Rattle.frame.proofs.frames.Frames.push.Goals as goal
 
 pub invariant_of-self : goal.invariant_of-self

@@ -1,7 +1,7 @@
-use Rattle.std.proofs.Common.{◌≡◌, ◌∙◌, ap, sym, subst, arith, ℕ, List, map, length, ◌<◌}
+use Rattle.std.proofs.Common.{◌≡◌, ◌∙◌, ap, sym, subst, arith, ℕ, map, length, ◌<◌}
 use Rattle.std.specs.Prelude.{not, ◌&&◌, nat_eq, false}
 use Rattle.std.specs.List.{list_any}
-use Rattle.mm_lex.specs.Alphabet.{has_name, name_eq}
+use Rattle.mm_lex.specs.Alphabet.{has_name}
 use Rattle.mm_read.specs.declared.stmt.Stmt.{Stmt}
 use Rattle.scope.specs.Active.{active, before, separated}
 use Rattle.scope.specs.Numbering.{name_at}

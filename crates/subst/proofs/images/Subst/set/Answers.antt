@@ -1,4 +1,4 @@
-use Rattle.std.proofs.Common.{◌≡◌, ◌∙◌, ap, arith}
+use Rattle.std.proofs.Common.{◌∙◌, ap, arith}
 use Rattle.std.specs.Prelude.{nat_eq, cond}
 use Rattle.frame.specs.Substitution.{code_image}
 use Rattle.subst.specs.Slots.{images_from}
