@@ -18,3 +18,4 @@ mod LogsAgree
 mod Offered
 mod KeptPartLemmas
 mod Rows
+mod TakenLemmas

@@ -62,7 +62,7 @@ pub later_events : {V : Type 0} (size : V → ℕ) (ws : List ℕ) (early late :
 later_events size ws early late w r first then = ap (λ r. all_happen size late r) (sym first) ∙ sym (all_happen-append size early late (Ok (start ws))) ∙ then
 
 module _ {V : Type 0} (size : V → ℕ) (ws : List ℕ) (early late : List (Event V)) (w x : World V) (first : IsAfter size ws early w) (then : IsAfter size ws (early ++ late) x) where
-  world_lasts : Lasts w x
+  pub world_lasts : Lasts w x
   world_lasts = if_taken (Lasts w) (all_happen size late (Ok w)) x (later_events size ws early late w (Ok x) first then)
       (all_keep size (Lasts w) (λ e. Unit {0}) (λ y e u h. lasts_happens w y h size e) late (each_event late) (Ok w) record { weights = refl; votes = λ v i. i })
 

@@ -3,3 +3,4 @@ pub mod Chosen
 pub mod Agree
 pub mod KeptPart
 pub mod Laws
+pub mod Taken

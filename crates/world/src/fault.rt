@@ -1,3 +1,7 @@
+ghost use Rattle.std.specs.Prelude.{◌≡◌};
+
+use std::alloc::AllocError;
+use synod::Refusal;
 use thiserror::Error;
 
 /// Why an event was not taken. Of several the first in the order of `EventsSpent`, `NoNode`, `NoPacket`, `TooLong`,
@@ -40,4 +44,30 @@ pub enum StepFault {
     /// Two libraries are apart. In a cluster alone.
     #[error("the libraries are apart")]
     Apart,
+}
+
+impl From<Refusal> for StepFault {
+    ghost use Rattle.world.specs.World.{fault_of};
+
+    ghost from_gives = { λ refusal fault. fault ≡ fault_of refusal };
+
+    fn from(refusal: Refusal) -> StepFault {
+        match refusal {
+            Refusal::Busy => StepFault::Busy,
+            Refusal::LogFull => StepFault::LogFull,
+            Refusal::RoundsSpent => StepFault::RoundsSpent,
+            Refusal::TooLong => StepFault::TooLong,
+            Refusal::Memory => StepFault::Memory,
+        }
+    }
+}
+
+impl From<AllocError> for StepFault {
+    ghost use Rattle.world.specs.declared.fault.StepFault.TheVariants.{Memory};
+
+    ghost from_gives = { λ _ fault. fault ≡ Memory };
+
+    fn from(_error: AllocError) -> StepFault {
+        StepFault::Memory
+    }
 }

@@ -9,7 +9,10 @@
 mod event;
 mod fault;
 mod laws;
+mod world;
+mod writes;
 
 pub use event::{Event, MOST_EVENTS};
 pub use fault::StepFault;
 pub use laws::{agreement, kept_part};
+pub use world::World;
