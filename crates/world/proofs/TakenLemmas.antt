@@ -342,3 +342,18 @@ events_within {V} size old now cores packets h seen =
     let most = if_taken (λ (x : World V). x.taken ≤ MOST_EVENTS) (after size old.weights old.events) h.world h.is_after (within_all size old.events (Ok (start old.weights)) (omega arith)) in
     let count = taken_count size old.weights old.events h.world h.is_after in
     subst (λ (t : Taken V). length t.events ≤ MOST_EVENTS) seen (omega (arith, most, count))
+
+-- What the fields show of the world after the events.
+
+module _ {V : Type 0} (size : V → ℕ) (old now : Taken V) (cores : List (Core V)) (packets : List (Packet V)) (h : AreOfWorld size old cores packets) (seen : old ≡ now) (w : World V) (is : world_of size now ≡ Ok w) where
+  shown_nodes : w.nodes ≡ nodes_of cores
+  shown_nodes =
+      let both : Ok h.world ≡ Ok w = sym h.is_after ∙ ap (λ (t : Taken V). world_of size t) seen ∙ is in
+      let same : h.world ≡ w = cc in
+      ap (λ (x : World V). x.nodes) (sym same) ∙ h.nodes
+
+  pub shown_node : (k : ℕ) (core : Core V) → k < length cores → core ≡ get_or cores k core → slice_get w.nodes k ≡ Some core.node
+  shown_node k core low at = ap (λ (ns : List (Node V)). slice_get ns k) shown_nodes ∙ nodes_at cores k core low at
+
+  pub shown_none : (k : ℕ) → length cores ≤ k → slice_get w.nodes k ≡ None
+  shown_none k past = ap (λ (ns : List (Node V)). slice_get ns k) shown_nodes ∙ nodes_past cores k past

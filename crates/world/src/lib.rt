@@ -16,3 +16,6 @@ pub use event::{Event, MOST_EVENTS};
 pub use fault::StepFault;
 pub use laws::{agreement, kept_part};
 pub use world::World;
+
+#[cfg(test)]
+mod tests;

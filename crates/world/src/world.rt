@@ -35,8 +35,10 @@ impl<V: Value> Model for World<V> {
 impl<V: Value> World<V> {
     ghost use Rattle.std.specs.Prelude.{slice_get};
     ghost use Rattle.world.specs.Taken.{Taken, Takes, Steps, world_of};
-    ghost use Rattle.world.specs.World.{nodes_from};
-    ghost use Rattle.world.specs.declared.fault.StepFault.TheVariants.{NoPacket, Memory};
+    ghost use Rattle.std.specs.Prelude.{IsSome};
+    ghost use Rattle.std.specs.Result.{ForOk};
+    ghost use Rattle.world.specs.World.{nodes_from, log};
+    ghost use Rattle.world.specs.declared.fault.StepFault.TheVariants.{NoNode, NoPacket, Memory};
 
     /// The world of new nodes.
     pub fn new(alloc: Global, weights: Weights) -> Result<Self, StepFault>
@@ -123,6 +125,21 @@ impl<V: Value> World<V> {
         }
         self.take(event)?;
         Ok(self.packets.len() as u64)
+    }
+
+    /// The log of node `k`: what it learned, up to its first gap.
+    ///
+    /// The events that a world took are taken, so what `agreement` says holds of its logs.
+    pub fn log(&self, k: u8) -> Result<Vec<Option<V>>, StepFault>
+        ensures log { ForOk (world_of V.bytes self.now) (λ world. IfOk result (λ entries. entries.items ≡ log world k)) }
+        ensures no_node { ForOk (world_of V.bytes self.now) (λ world. slice_get world.nodes k ≡ None → result ≡ Err NoNode) }
+        ensures only_memory { ForOk (world_of V.bytes self.now) (λ world. IsSome (slice_get world.nodes k) → IsOkUnless result Memory) }
+        ensures taken { IsOk (world_of V.bytes self.now) }
+    {
+        match self.nodes.get(k as usize) {
+            Some(node) => Ok(node.log()?),
+            None => Err(StepFault::NoNode),
+        }
     }
 
     /// The packet of that number, from 0 in the order of posting. It takes no memory.
