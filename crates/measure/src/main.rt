@@ -6,6 +6,7 @@
 
 ghost use Rattle.mm_read.specs.Statements.{AreShaped};
 
+use frame::Frames;
 use mm_read::Stmt;
 use scope::{Scope, Steps};
 use std::alloc::Global;
@@ -44,10 +45,13 @@ fn measure_statements(
     let parsed = start.elapsed(rt)?;
     let legal = count_legal(rt.alloc(), statements);
     let judged = start.elapsed(rt)?;
+    let framed = count_framed(rt.alloc(), statements);
+    let kept = start.elapsed(rt)?;
     let count = statements.len();
-    println!(rt; "statements {count}, legal {legal}")?;
+    println!(rt; "statements {count}, legal {legal}, framed {framed}")?;
     tell(rt, "read", before, parsed)?;
-    tell(rt, "scope", parsed, judged)
+    tell(rt, "scope", parsed, judged)?;
+    tell(rt, "scope and frames", judged, kept)
 }
 
 /// How many statements a scope accepts, up to the first that breaks a rule.
@@ -64,8 +68,28 @@ fn count_legal(alloc: Global, statements: &[Stmt]) -> usize
     statements.len()
 }
 
+/// How many statements a scope accepts and frames keep, up to the first that breaks a rule.
+fn count_framed(alloc: Global, statements: &[Stmt]) -> usize
+    requires { AreShaped statements.now }
+{
+    let mut scope = Scope::new(alloc);
+    let mut frames = Frames::new(alloc);
+    let mut steps = Steps::new();
+    for statement in statements {
+        if scope.broken_rule(statement).is_some()
+            || frames.push(&scope, statement, &mut steps).is_err()
+        {
+            break;
+        }
+        if scope.add(statement, &mut steps).is_err() {
+            break;
+        }
+    }
+    frames.len()
+}
+
 /// Tells how long a phase took.
 fn tell<R: Eprint>(rt: &R, phase: &str, before: Duration, after: Duration) -> io::Result<()> {
     let spent = after.saturating_sub(before).as_millis();
-    eprintln!(rt; "{phase:>8} {spent:>6} ms")
+    eprintln!(rt; "{phase:>16} {spent:>6} ms")
 }
