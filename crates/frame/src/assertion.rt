@@ -5,7 +5,7 @@ use mm_lex::Words;
 use smallvec::SmallVec;
 use std::marker::Model;
 
-/// The frame of an assertion (Metamath, 4.2.5 to 4.2.7).
+/// The frame of an assertion (Metamath, 4.2.7).
 ///
 /// Contracts see its mandatory hypotheses by position, the lists of variables that are to be kept apart, and its
 /// conclusion.

@@ -23,6 +23,8 @@ mod pairs;
 mod reading;
 mod storage;
 mod templates;
+#[cfg(test)]
+mod worked_frames;
 
 pub use assertion::Frame;
 pub use citation::{Cited, Meaning, Pattern};

@@ -16,7 +16,7 @@ use std::alloc::{AllocError, Global};
 
 /// The frame of an assertion behind the statements of the scope.
 ///
-/// Source: Metamath, 4.2.5 to 4.2.7. Cost: the size of the assertion and of the active `$f`, `$e` and `$d`.
+/// Source: Metamath, 4.2.7. Cost: the size of the assertion and of the active `$f`, `$e` and `$d`.
 pub fn frame(alloc: Global, scope: &Scope, stmt: &Stmt) -> Result<Frame, AllocError>
     requires assertion { IsTrue (is_assertion stmt.now) }
     ensures { IfOk result (λ f. f ≡ frame_of scope.now.statements stmt.now) }
