@@ -25,3 +25,6 @@ pub use checker::{Checker, check};
 pub use tree::Tree;
 pub use tree_from_items::derivation;
 pub use tree_size::{MOST_DEPTH, MOST_NODES};
+
+#[cfg(test)]
+mod tests;
