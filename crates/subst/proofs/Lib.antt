@@ -1,3 +1,5 @@
-pub mod DecodedLemmas
-pub mod SlotsLemmas
+mod ImagesLemmas
+mod ApplyLemmas
+mod SubstitutionLemmas
+mod DisjointLemmas
 mod Rows

@@ -1,25 +1,36 @@
--- Substitutions, worked out.
+-- Substitution and the pair clause, worked out.
 use Rattle.std.specs.Prelude.{◌≡◌, [], ◌∷◌, codes, refl, true, false}
-use Rattle.scope.proofs.Databases.{w, row_seven}
 use Rattle.scope.specs.Active.{before}
-use Rattle.frame.specs.Substitution.{apply}
-use Rattle.frame.specs.Disjoint.{are_apart}
+use Rattle.scope.proofs.Databases.{w, row_seven}
+use Rattle.frame.specs.Substitution.{apply, code_apply}
+use Rattle.frame.specs.Disjoint.{are_apart, are_groups_apart}
 
-at_once : apply ((codes "x", w (codes "y")) ∷ (codes "y", w (codes "x")) ∷ []) (w (codes "|- x R y")) ≡ w (codes "|- y R x")
-at_once = refl
+swapped : apply ((codes "x", w (codes "y")) ∷ (codes "y", w (codes "x")) ∷ []) (w (codes "|- x R y")) ≡ w (codes "|- y R x")
+swapped = refl
+
+swapped_numbers : code_apply ((4, 5 ∷ []) ∷ (5, 4 ∷ []) ∷ []) (0 ∷ 4 ∷ 3 ∷ 5 ∷ []) ≡ 0 ∷ 5 ∷ 3 ∷ 4 ∷ []
+swapped_numbers = refl
 
 empty_image : apply ((codes "x", []) ∷ []) (w (codes "|- ( x )")) ≡ w (codes "|- ( )")
 empty_image = refl
 
--- row 6: nothing keeps x and z apart outside of the block, and the second block does
-row_six : are_apart (before row_seven 10) (w (codes "x")) (w (codes "z")) ≡ false
-row_six = refl
+-- nothing keeps x and z apart outside of the block, and the second block does
+outside_the_block : are_apart (before row_seven 10) (w (codes "x")) (w (codes "z")) ≡ false
+outside_the_block = refl
 
-row_six_inside : are_apart row_seven (w (codes "x")) (w (codes "z")) ≡ true
-row_six_inside = refl
+inside_the_block : are_apart row_seven (w (codes "x")) (w (codes "z")) ≡ true
+inside_the_block = refl
 
-shared : are_apart row_seven (w (codes "x")) (w (codes "x")) ≡ false
-shared = refl
+shared_variable : are_apart row_seven (w (codes "x")) (w (codes "x")) ≡ false
+shared_variable = refl
 
 shared_constant : are_apart row_seven (w (codes "R")) (w (codes "R")) ≡ true
 shared_constant = refl
+
+pair_with_itself :
+    are_groups_apart row_seven ((codes "x", w (codes "x")) ∷ (codes "y", w (codes "x")) ∷ []) (w (codes "x y") ∷ []) ≡ false
+pair_with_itself = refl
+
+pair_with_another :
+    are_groups_apart row_seven ((codes "x", w (codes "x")) ∷ (codes "y", w (codes "z")) ∷ []) (w (codes "x y") ∷ []) ≡ true
+pair_with_another = refl

@@ -1,19 +1,36 @@
--- Substitution over numbers is substitution over the names that they stand for.
--- Metamath, 4.2.6: the substitution of variables by expressions.
--- The code knows numbers alone.
-use Rattle.std.specs.Prelude.{◌≡◌, ℕ, ◌<◌, List, [], ◌∷◌, length}
-use Rattle.mm_lex.specs.Alphabet.{Name}
-use Rattle.scope.specs.Numbering.{decode, AreDistinct}
-use Rattle.frame.specs.ByPlaces.{AreBelow}
-use Rattle.frame.specs.Substitution.{CodeImages, code_apply, apply, decode_images}
+-- Laws of substitution and of the images that are kept apart.
+-- Source: Metamath, 4.1 (substitution, and the two conditions on the images of variables that are kept apart).
+-- The code substitutes over numbers, and tests all symbols of two images against each other at once.
+use Rattle.std.specs.Prelude.{◌≡◌, ℕ, ◌↔◌, ◌&&◌, List, map, IsTrue}
+use Rattle.std.specs.List.{list_any}
+use Rattle.mm_lex.specs.Alphabet.{Name, has_name}
+use Rattle.mm_read.specs.Statements.{Expr, Database}
+use Rattle.scope.specs.Active.{is_variable}
+use Rattle.scope.specs.Numbering.{decode, AreCodes, AreDistinct}
+use Rattle.frame.specs.FrameOf.{groups, together}
+use Rattle.frame.specs.Substitution.{CodeImages, Images, image, apply, code_apply, decode_images}
+use Rattle.frame.specs.Disjoint.{are_groups_apart}
 
--- each symbol with an image has a name
-abbrev pub AreNamed : ℕ → CodeImages → Type 0
-AreNamed n [] = Unit {0}
-AreNamed n (p ∷ σ) = (p.0 < n) × AreNamed n σ
+-- the symbols that have images
+abbrev pub keys_of_images : CodeImages → List ℕ
+keys_of_images σ = map (λ p. p.0) σ
 
-abbrev pub IsOverNames : Type 0
-IsOverNames =
-    (names : List Name) (σ : CodeImages) (e : List ℕ)
-    → AreDistinct names → AreNamed (length names) σ → AreBelow (length names) e
+-- where no two numbers stand for one name, to substitute and then to read names is to read names and then to substitute
+abbrev pub SubstitutionOverNames : Type 0
+SubstitutionOverNames =
+    (names : List Name) (σ : CodeImages) (e : List ℕ) → AreDistinct names → AreCodes names (keys_of_images σ) → AreCodes names e
     → decode names (code_apply σ e) ≡ apply (decode_images names σ) (decode names e)
+
+-- the two conditions on two images: no variable stands in both,
+-- and each two variables, one from each, stand together in an active `$d`
+pub record KeepApart (S : Database) (e f : Expr) : Type 0 where
+  pub none_shared : (u : Name) → IsTrue (is_variable S u) → IsTrue (has_name u e) → IsTrue (has_name u f) → ⊥
+  pub each_listed :
+      (u v : Name) → IsTrue (is_variable S u) → IsTrue (is_variable S v) → IsTrue (has_name u e) → IsTrue (has_name v f)
+      → IsTrue (list_any (λ names. has_name u names && has_name v names) (groups S))
+
+-- the test of a citation holds exactly where the images of each two variables that its lists keep apart meet both
+abbrev pub PairClause : Type 0
+PairClause =
+    (S : Database) (σ : Images) (lists : List (List Name)) → IsTrue (are_groups_apart S σ lists)
+    ↔ ((x y : Name) → IsTrue (together lists x y) → KeepApart S (image σ x) (image σ y))

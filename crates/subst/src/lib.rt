@@ -1,19 +1,18 @@
-//! Images put in at once.
+//! Images put into expressions, all at once.
 //!
-//! `Subst` gives images to symbols, `apply` puts them into an expression, and `apply_into` adds the result to a `Buffer`.
-//! Symbols are numbers; the laws say that over the names that they stand for it is substitution too.
-//! Reading order: `images`, `buffer`, `substitute`, `laws`.
+//! `Subst` keeps an image, possibly empty, for each of some symbols, and `apply` puts them all in at once.
+//! Symbols are numbers; that this is substitution over the names that they stand for is a law.
+//! Reading order: `images`, `substitute`, `buffer`, `laws`.
 #![tactic(auto)]
 
 mod buffer;
 mod images;
 mod laws;
 mod substitute;
-
-pub use buffer::{Buffer, SYMBOLS_LIMIT};
-pub use images::Subst;
-pub use laws::substitution_over_names;
-pub use substitute::{apply, apply_into};
-
 #[cfg(test)]
 mod tests;
+
+pub use buffer::{Buffer, SYMBOLS_LIMIT, apply_into, has_room};
+pub use images::Subst;
+pub use laws::{pair_clause, substitution_over_names};
+pub use substitute::apply;

@@ -1,39 +1,56 @@
-//! The worked substitutions.
-use crate::{Buffer, Subst, apply, apply_into};
-use std::test::Fail;
+//! Images put in at once, empty images, and growths refused in turn.
+use crate::{Buffer, Subst, apply, apply_into, has_room};
+use std::alloc::AllocError;
 
-// Symbols: |- 0, x 1, R 2, y 3, ( 4, ) 5.
+const TURNSTILE: u32 = 0;
+
+const OPEN: u32 = 1;
+
+const CLOSE: u32 = 2;
+
+const RELATED: u32 = 3;
+
+const X: u32 = 4;
+
+const Y: u32 = 5;
 
 #[test]
-fn swaps_at_once(rt: HostRuntime) -> Result<(), Fail> {
-    let alloc = rt.alloc();
-    let mut subst = Subst::new(alloc);
-    subst.set(1, &[3])?;
-    subst.set(3, &[1])?;
-    let swapped = apply(alloc, &subst, &[0, 1, 2, 3])?;
-    assert_eq!(rt; swapped.as_slice(), [0, 3, 2, 1].as_slice());
+fn swaps_two_variables(rt: HostRuntime) -> Result<(), AllocError> {
+    let mut subst = Subst::new(rt.alloc());
+    subst.set(X, &[Y])?;
+    subst.set(Y, &[X])?;
+    let applied = apply(rt.alloc(), &subst, &[TURNSTILE, X, RELATED, Y])?;
+    assert!(rt; applied.as_slice() == [TURNSTILE, Y, RELATED, X].as_slice());
     Ok(())
 }
 
 #[test]
-fn image_may_be_empty(rt: HostRuntime) -> Result<(), Fail> {
-    let alloc = rt.alloc();
-    let mut subst = Subst::new(alloc);
-    subst.set(1, &[])?;
-    let shorter = apply(alloc, &subst, &[0, 4, 1, 5])?;
-    assert_eq!(rt; shorter.as_slice(), [0, 4, 5].as_slice());
+fn puts_nothing_in_for_a_variable(rt: HostRuntime) -> Result<(), AllocError> {
+    let mut subst = Subst::new(rt.alloc());
+    subst.set(X, &[Y, Y])?;
+    subst.set(X, &[])?;
+    let applied = apply(rt.alloc(), &subst, &[TURNSTILE, OPEN, X, CLOSE])?;
+    assert!(rt; applied.as_slice() == [TURNSTILE, OPEN, CLOSE].as_slice());
     Ok(())
 }
 
+/// A second try succeeds where memory was refused once.
 #[test]
-fn adds_at_the_end_of_the_buffer(rt: HostRuntime) -> Result<(), Fail> {
-    let alloc = rt.alloc();
-    let subst = Subst::new(alloc);
-    let mut buffer = Buffer::new(alloc);
-    buffer.extend(&[7])?;
-    let place = apply_into(&subst, &[0, 4], &mut buffer)?;
-    assert_eq!(rt; place.start, 1);
-    assert_eq!(rt; place.end, 3);
-    assert_eq!(rt; buffer.as_slice(), [7, 0, 4].as_slice());
+fn adds_after_a_refused_growth(rt: HostRuntime) -> Result<(), AllocError> {
+    let mut subst = Subst::new(rt.alloc());
+    if subst.set(X, &[OPEN, Y, CLOSE]).is_err() {
+        subst.set(X, &[OPEN, Y, CLOSE])?;
+    }
+    let mut buffer = Buffer::new(rt.alloc());
+    for count in 1..20 {
+        assert!(rt; has_room(&subst, &[TURNSTILE, X], &buffer));
+        if apply_into(&subst, &[TURNSTILE, X], &mut buffer).is_err() {
+            assert!(rt; buffer.as_slice().len() == 4 * count - 4);
+            apply_into(&subst, &[TURNSTILE, X], &mut buffer)?;
+        }
+        assert!(rt; buffer.as_slice().len() == 4 * count);
+    }
+    buffer.truncate(4);
+    assert!(rt; buffer.as_slice() == [TURNSTILE, OPEN, Y, CLOSE].as_slice());
     Ok(())
 }

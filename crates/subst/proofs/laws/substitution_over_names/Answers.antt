@@ -1,5 +1,5 @@
-use Rattle.subst.proofs.DecodedLemmas.{over_names}
+use Rattle.subst.proofs.SubstitutionLemmas.{substitution_over_names}
 use Rattle.subst.proofs.laws.substitution_over_names.Goals as goal
 
 pub returns : goal.returns
-returns c = over_names
+returns c = substitution_over_names

@@ -1,0 +1,135 @@
+-- The test of the pair clause holds exactly where its two sentences do.
+use Rattle.std.specs.Prelude.{◌≡◌, Bool, true, false, not, ◌&&◌, ◌||◌, List, [], ◌∷◌, refl}
+use Rattle.std.specs.List.{list_all, list_any}
+use Rattle.std.proofs.Common.{sym, ◌∙◌, ap, true≢false}
+use Rattle.std.proofs.lemmas.Bool.{and_parts, and_from}
+use Rattle.mm_lex.specs.Alphabet.{Name, name_eq, has_name}
+use Rattle.mm_read.specs.Statements.{Expr, Database}
+use Rattle.scope.specs.Active.{is_variable}
+use Rattle.scope.proofs.NumberingLemmas.{name_same, same_name}
+use Rattle.scope.proofs.KeptLemmas.{all-has}
+use Rattle.frame.specs.FrameOf.{groups, is_pair, together}
+use Rattle.frame.specs.Substitution.{Images, image}
+use Rattle.frame.specs.Disjoint.{are_apart, is_group_apart, are_groups_apart}
+use Rattle.subst.specs.Laws.{PairClause, KeepApart}
+
+or_left : (a b : Bool) → a ≡ true → (a || b) ≡ true
+or_left true b h = refl
+or_left false b h = cc
+
+or_right : (a b : Bool) → b ≡ true → (a || b) ≡ true
+or_right true b h = refl
+or_right false b h = h
+
+all-from : (p : Name → Bool) (xs : List Name) → ((x : Name) → has_name x xs ≡ true → p x ≡ true) → list_all p xs ≡ true
+all-from p [] h = refl
+all-from p (y ∷ xs) h =
+    and_from (p y) (list_all p xs) (h y (or_left (name_eq y y) (has_name y xs) (name_same y)))
+    (all-from p xs (λ x k. h x (or_right (name_eq x y) (has_name x xs) k)))
+
+-- ---- two images
+
+module _ (S : Database) where
+  abbrev is_good : Name → Name → Bool
+  is_good u v = not (is_variable S u) || not (is_variable S v) || is_pair S u v
+
+  third : (a b c : Bool) → a ≡ true → b ≡ true → (not a || not b || c) ≡ true → c ≡ true
+  third true true c p q h = h
+  third true false c p q h = cc
+  third false b c p q h = cc
+
+  pair_at : (e f : Expr) → are_apart S e f ≡ true → (u v : Name) → is_variable S u ≡ true → is_variable S v ≡ true
+      → has_name u e ≡ true → has_name v f ≡ true → is_pair S u v ≡ true
+  pair_at e f h u v p q in_e in_f =
+      third (is_variable S u) (is_variable S v) (is_pair S u v) p q
+      (all-has (is_good u) v f (all-has (λ w. list_all (is_good w) f) u e h in_e) in_f)
+
+  pub apart-keeps : (e f : Expr) → are_apart S e f ≡ true → KeepApart S e f
+  apart-keeps e f h = record {
+    none_shared = λ u p in_e in_f. same_clash u (list_any (λ names. has_name u names && has_name u names) (groups S)) (pair_at e f h u u p p in_e in_f);
+    each_listed = λ u v p q in_e in_f.
+        (and_parts (not (name_eq u v)) (list_any (λ names. has_name u names && has_name v names) (groups S)) (pair_at e f h u v p q in_e in_f)).1;
+  }
+    where
+      same_clash : (u : Name) (b : Bool) → (not (name_eq u u) && b) ≡ true → ⊥
+      same_clash u b h = true≢false (sym h ∙ ap (λ t. not t && b) (name_same u))
+
+  pub keeps-apart : (e f : Expr) → KeepApart S e f → are_apart S e f ≡ true
+  keeps-apart e f k =
+      all-from (λ u. list_all (is_good u) f) e
+      (λ u in_e. all-from (is_good u) f (λ v in_f. by u v in_e in_f (is_variable S u) (is_variable S v) refl refl))
+    where
+      differ : (u v : Name) → is_variable S u ≡ true → has_name u e ≡ true → has_name v f ≡ true → (b : Bool) → name_eq u v ≡ b → not b ≡ true
+      differ u v p in_e in_f true same = absurd (k.none_shared u p in_e (ap (λ w. has_name w f) (same_name u v same) ∙ in_f))
+      differ u v p in_e in_f false same = refl
+
+      by : (u v : Name) → has_name u e ≡ true → has_name v f ≡ true → (a b : Bool) → is_variable S u ≡ a → is_variable S v ≡ b
+          → (not a || not b || is_pair S u v) ≡ true
+      by u v in_e in_f false b p q = refl
+      by u v in_e in_f true false p q = refl
+      by u v in_e in_f true true p q =
+          and_from (not (name_eq u v)) (list_any (λ names. has_name u names && has_name v names) (groups S))
+          (differ u v p in_e in_f (name_eq u v) refl) (k.each_listed u v p q in_e in_f)
+
+-- ---- all lists
+
+abbrev both : Name → Name → List Name → Bool
+both x y names = has_name x names && has_name y names
+
+module _ (S : Database) (σ : Images) where
+  abbrev is_clear : Name → Name → Bool
+  is_clear x y = name_eq x y || are_apart S (image σ x) (image σ y)
+
+  group-apart : (lists : List (List Name)) (x y : Name) → are_groups_apart S σ lists ≡ true
+      → list_any (λ names. has_name x names && has_name y names) lists ≡ true → name_eq x y ≡ false → are_apart S (image σ x) (image σ y) ≡ true
+  group-apart [] x y h any ne = cc
+  group-apart (names ∷ lists) x y h any ne =
+      by (has_name x names && has_name y names) refl any (and_parts (is_group_apart S σ names) (list_all (is_group_apart S σ) lists) h)
+      (λ rest more. group-apart lists x y rest more ne)
+    where
+      cell : (has_name x names && has_name y names) ≡ true → is_group_apart S σ names ≡ true → are_apart S (image σ x) (image σ y) ≡ true
+      cell both clear =
+          let k = and_parts (has_name x names) (has_name y names) both in
+          ap (λ b. b || are_apart S (image σ x) (image σ y)) (sym ne)
+          ∙ all-has (is_clear x) y names (all-has (λ w. list_all (is_clear w) names) x names clear k.0) k.1
+
+      by : (b : Bool) → (has_name x names && has_name y names) ≡ b
+          → (b || list_any (λ names. has_name x names && has_name y names) lists) ≡ true
+          → (is_group_apart S σ names ≡ true) × (list_all (is_group_apart S σ) lists ≡ true)
+          → (list_all (is_group_apart S σ) lists ≡ true → list_any (λ names. has_name x names && has_name y names) lists ≡ true
+          → are_apart S (image σ x) (image σ y) ≡ true)
+          → are_apart S (image σ x) (image σ y) ≡ true
+      by true e any h rest = cell e h.0
+      by false e any h rest = rest h.1 any
+
+  groups-from : (lists : List (List Name)) → ((x y : Name) → together lists x y ≡ true → are_apart S (image σ x) (image σ y) ≡ true)
+      → are_groups_apart S σ lists ≡ true
+  groups-from [] k = refl
+  groups-from (names ∷ lists) k =
+      and_from (is_group_apart S σ names) (list_all (is_group_apart S σ) lists)
+      (all-from (λ x. list_all (is_clear x) names) names (λ x in_x. all-from (is_clear x) names (λ y in_y. by x y in_x in_y (name_eq x y) refl)))
+      (groups-from lists (λ x y t. k x y (more x y t)))
+    where
+      by : (x y : Name) → has_name x names ≡ true → has_name y names ≡ true → (b : Bool) → name_eq x y ≡ b
+          → (b || are_apart S (image σ x) (image σ y)) ≡ true
+      by x y in_x in_y true e = refl
+      by x y in_x in_y false e =
+          k x y (and_from (not (name_eq x y)) (both x y names || list_any (both x y) lists) (ap not e)
+          (or_left (both x y names) (list_any (both x y) lists) (and_from (has_name x names) (has_name y names) in_x in_y)))
+
+      more : (x y : Name) → together lists x y ≡ true → together (names ∷ lists) x y ≡ true
+      more x y t =
+          let p = and_parts (not (name_eq x y)) (list_any (both x y) lists) t in
+          and_from (not (name_eq x y)) (both x y names || list_any (both x y) lists) p.0 (or_right (both x y names) (list_any (both x y) lists) p.1)
+
+pub pair_clause : PairClause
+pair_clause S σ lists = (
+  λ h x y t.
+      let p = and_parts (not (name_eq x y)) (list_any (λ names. has_name x names && has_name y names) lists) t in
+      apart-keeps S (image σ x) (image σ y) (group-apart S σ lists x y h p.1 (not_true (name_eq x y) p.0)),
+  λ k. groups-from S σ lists (λ x y t. keeps-apart S (image σ x) (image σ y) (k x y t)),
+)
+  where
+    not_true : (b : Bool) → not b ≡ true → b ≡ false
+    not_true true h = cc
+    not_true false h = refl

@@ -1,0 +1,6 @@
+use Rattle.std.specs.Prelude.{◌≡◌, ◌++◌, take}
+use Rattle.frame.specs.Substitution.{code_apply}
+use Rattle.subst.proofs.substitute.write.Given as goal
+
+abbrev pub invariant-loop-symbol : goal.invariant-loop-symbol
+invariant-loop-symbol l = l.out.items ≡ l.initial.out.items ++ code_apply l.subst (take l.symbol-index l.expr)
