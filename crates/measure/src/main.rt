@@ -4,14 +4,19 @@
 //! answers of the ones before it.
 #![tactic(auto)]
 
+ghost use Rattle.std.specs.Prelude.{◌≡◌, [], ◌∷◌, ◌++◌, IsTrue};
 ghost use Rattle.mm_read.specs.Statements.{AreShaped};
+ghost use Rattle.scope.specs.Active.{bare, is_provable};
 
-use frame::Frames;
+use frame::{Frames, frame};
+use mm_lex::Words;
 use mm_read::Stmt;
+use proof_code::{Items, is_compressed, normal, packed};
 use scope::{Scope, Steps};
-use std::alloc::Global;
+use std::alloc::{AllocError, Global};
 use std::io::{self, Read};
 use std::time::{Duration, Instant};
+use verify::{Answer, Checker};
 
 fn main(rt: HostRuntime) -> io::Result<()> {
     let alloc = rt.alloc();
@@ -47,11 +52,14 @@ fn measure_statements(
     let judged = start.elapsed(rt)?;
     let framed = count_framed(rt.alloc(), statements);
     let kept = start.elapsed(rt)?;
+    let proved = count_proved(rt.alloc(), statements);
+    let verified = start.elapsed(rt)?;
     let count = statements.len();
-    println!(rt; "statements {count}, legal {legal}, framed {framed}")?;
+    println!(rt; "statements {count}, legal {legal}, framed {framed}, proved {proved}")?;
     tell(rt, "read", before, parsed)?;
     tell(rt, "scope", parsed, judged)?;
-    tell(rt, "scope and frames", judged, kept)
+    tell(rt, "scope and frames", judged, kept)?;
+    tell(rt, "all and proofs", kept, verified)
 }
 
 /// How many statements a scope accepts, up to the first that breaks a rule.
@@ -86,6 +94,95 @@ fn count_framed(alloc: Global, statements: &[Stmt]) -> usize
         }
     }
     frames.len()
+}
+
+/// How many provable assertions are proved, up to the first statement that breaks a rule.
+fn count_proved(alloc: Global, statements: &[Stmt]) -> usize
+    requires { AreShaped statements.now }
+{
+    let mut scope = Scope::new(alloc);
+    let mut frames = Frames::new(alloc);
+    let mut checker = Checker::new(alloc);
+    let mut steps = Steps::new();
+    let mut proved = 0usize;
+    for statement in statements {
+        if scope.broken_rule(statement).is_some()
+            || frames.push(&scope, statement, &mut steps).is_err()
+        {
+            break;
+        }
+        if let Stmt::Prove { proof, .. } = statement {
+            let mandatory = mandatory_labels(alloc, &scope, statement, statements);
+            if is_proved(
+                alloc,
+                &mut checker,
+                &scope,
+                &frames,
+                statement,
+                proof,
+                mandatory,
+            ) {
+                proved = proved.saturating_add(1);
+            }
+        }
+        if scope.add(statement, &mut steps).is_err() {
+            break;
+        }
+    }
+    proved
+}
+
+/// The labels of the mandatory hypotheses of an assertion that comes next.
+fn mandatory_labels(
+    alloc: Global,
+    scope: &Scope,
+    statement: &Stmt,
+    statements: &[Stmt],
+) -> Result<Words, AllocError>
+    requires { IsTrue (is_provable statement.now) }
+{
+    let mut labels = Words::new(alloc);
+    let asked = frame(alloc, scope, statement)?;
+    for position in asked.hypotheses() {
+        match statements.get(position.saturating_sub(1)) {
+            Some(Stmt::Float { label, .. }) => labels.push(label.as_bytes())?,
+            Some(Stmt::Ess { label, .. }) => labels.push(label.as_bytes())?,
+            _ => {}
+        }
+    }
+    Ok(labels)
+}
+
+/// Whether the proof of the statement that the frames hold last is right.
+fn is_proved(
+    alloc: Global,
+    checker: &mut Checker,
+    scope: &Scope,
+    frames: &Frames,
+    statement: &Stmt,
+    proof: &Words,
+    mandatory: Result<Words, AllocError>,
+) -> bool
+    requires last { frames.now.statements ≡ scope.now.statements ++ bare statement.now ∷ [] }
+    requires provable { IsTrue (is_provable statement.now) }
+{
+    let Some(items) = items_of(alloc, proof, mandatory) else {
+        return false;
+    };
+    match checker.check(frames, frames.len(), &items) {
+        Ok(answer) => answer == Answer::Proved,
+        Err(_) => false,
+    }
+}
+
+/// The items of a proof.
+fn items_of(alloc: Global, proof: &Words, mandatory: Result<Words, AllocError>) -> Option<Items> {
+    let mandatory = mandatory.ok()?;
+    if is_compressed(proof) {
+        packed(alloc, proof, &mandatory).ok()
+    } else {
+        normal(alloc, proof).ok()
+    }
 }
 
 /// Tells how long a phase took.
