@@ -21,4 +21,5 @@ pub mod PlacesLemmas
 pub mod KeptLemmas
 pub mod CollectedLemmas
 pub mod OneFrameLemmas
+pub mod LabelLemmas
 mod Rows

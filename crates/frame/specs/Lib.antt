@@ -9,4 +9,5 @@ pub mod Reading
 pub mod Links
 pub mod Laws
 pub mod Stored
+pub mod Labels
 pub mod OneFrame

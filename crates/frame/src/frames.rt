@@ -1,16 +1,17 @@
 //! The statements of a database by position.
-ghost use Rattle.std.specs.Prelude.{◌≡◌, ℕ, ◌+◌, ◌≤◌, [], ◌∷◌, ◌++◌, Some, OnOk, OnErr, length};
+ghost use Rattle.std.specs.Prelude.{◌≡◌, ℕ, ◌+◌, ◌≤◌, [], ◌∷◌, ◌++◌, Some, OnOk, OnErr, length, option_map};
 ghost use Rattle.mm_read.specs.declared.stmt.Stmt.{Stmt as Statement};
-ghost use Rattle.scope.specs.Active.{bare, before, stmt_at, expr_of};
+ghost use Rattle.scope.specs.Active.{bare, before, stmt_at, expr_of, label_of};
 ghost use Rattle.scope.specs.Legal.{IsLegal};
 ghost use Rattle.scope.specs.Numbering.{decode};
 ghost use Rattle.frame.specs.ByPlaces.{AreBelow};
-ghost use Rattle.frame.specs.FrameOf.{HasAssertion};
+ghost use Rattle.frame.specs.FrameOf.{HasAssertion, hypotheses};
 ghost use Rattle.frame.specs.Reading.{IsMeaning, IsPosition, IsCited, AreLegal};
 ghost use Rattle.frame.specs.Stored.{Extends};
 
 use crate::citation::{Cited, Meaning};
 use crate::extend::{extend, roll_back};
+use crate::hypotheses::{hypotheses_at, label_at};
 use crate::links::Links;
 use crate::names::Names;
 use crate::pairs::Pairs;
@@ -142,6 +143,22 @@ impl Frames {
     {
         self.stock.names.distinct();
         cited_at(&self.stock, a)
+    }
+
+    /// The mandatory hypotheses of the assertion at a position, by position, in order.
+    pub fn hypotheses(&self, a: usize) -> &[usize]
+        requires { (s : Statement) × HasAssertion self.now.statements a s }
+        ensures { (s : Statement) → stmt_at self.now.statements a ≡ Some s → result.now ≡ hypotheses (before self.now.statements a) s }
+    {
+        hypotheses_at(&self.stock, a)
+    }
+
+    /// The label of the statement at a position; none where it has none.
+    pub fn label(&self, at: usize) -> Option<&[u8]>
+        requires { (1 ≤ at) × (at ≤ length self.now.statements) }
+        ensures { (s : Statement) → stmt_at self.now.statements at ≡ Some s → option_map (λ r. r.now) result ≡ label_of s }
+    {
+        label_at(&self.stock, at)
     }
 
     /// The statements are legal: no two carry one label, what an assertion takes determines what it gives,
