@@ -3,7 +3,7 @@ ghost use Rattle.std.specs.Prelude.{◌≡◌, ◌==◌, ◌&&◌, ◌<◌, ◌�
 ghost use Rattle.std.specs.List.{list_any};
 ghost use Rattle.mm_lex.specs.Alphabet.{has_name};
 ghost use Rattle.scope.specs.Active.{active, before, is_variable, separated};
-ghost use Rattle.scope.specs.Numbering.{name_at, AreDistinct};
+ghost use Rattle.scope.specs.Numbering.{name_at, code_of, AreDistinct};
 ghost use Rattle.frame.specs.FrameOf.{is_pair};
 ghost use Rattle.frame.specs.Stored.{AreStored, statements_of};
 
@@ -44,6 +44,16 @@ impl<'a> Pairs<'a> {
         ensures { result ≡ is_pair self.now.statements (name_at self.now.names x) (name_at self.now.names y) }
     {
         x != y && stand_together(self.stock, self.at, x, y)
+    }
+
+    /// The number of a name, where it has one.
+    pub fn number(&self, name: &[u8]) -> Option<u32>
+        ensures { result ≡ code_of self.now.names name.now }
+    {
+        match self.stock.names.find(name) {
+            Some(number) => Some(number as u32),
+            None => None,
+        }
     }
 
     /// Whether x is a variable there.
