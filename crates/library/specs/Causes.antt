@@ -1,0 +1,58 @@
+-- Why a text is not added: the first cause that holds.
+-- Source: this project's profile.
+-- The code stops at the first cause that it meets; here each cause says what does not stand before it.
+use Rattle.std.specs.Prelude.{◌≡◌, ◌≢◌, ℕ, ◌+◌, ◌<◌, ◌≤◌, IsTrue, IsFalse, List, ◌++◌, length, Option, Some, None}
+use Rattle.mm_lex.specs.Alphabet.{Name}
+use Rattle.mm_lex.specs.declared.fault.LexFault.{LexFault}
+use Rattle.mm_lex.specs.declared.fault.LexFault.TheVariants as lex
+use Rattle.mm_lex.specs.Faults.{IsLexFault}
+use Rattle.mm_read.specs.declared.stmt.Stmt.{Stmt}
+use Rattle.mm_read.specs.Statements.{Database}
+use Rattle.mm_read.specs.Reads.{Reads, HasTokens, IsNoDatabase}
+use Rattle.scope.specs.Active.{proof_of}
+use Rattle.scope.specs.Legal.{first_broken}
+use Rattle.proof_code.specs.Writes.{is_unfinished}
+use Rattle.verify.specs.Right.{IsProvable}
+use Rattle.library.specs.declared.submission.TheConstants.{MOST_BYTES}
+use Rattle.library.specs.declared.submission.Submission.{Submission}
+use Rattle.library.specs.declared.verdict.Cause.{Cause}
+use Rattle.library.specs.declared.verdict.Cause.TheVariants.{TooLong, Text, Shape, NotChartered, Rule, Proof, Unfinished}
+use Rattle.library.specs.Charters.{forbidden}
+use Rattle.library.specs.Good.{IsProved}
+
+-- the text is within the limit, and reads as T
+pub record IsReadable (text : List ℕ) (T : Database) : Type 0 where
+  pub short : length text ≤ MOST_BYTES
+  pub read : Reads text T
+
+-- the text reads as T, and the charter that is there forbids its author nothing in it
+pub record IsAllowed (charter : Option (List ℕ)) (submission : Submission) (T : Database) : Type 0 where
+  pub readable : IsReadable submission.text T
+  pub allowed : forbidden charter submission.author T ≡ None
+
+-- statement n of T, behind L, is the least `$p` that is not proved
+pub record IsFirstUnproved (L T : Database) (n : ℕ) (s : Stmt) : Type 0 where
+  pub here : IsProvable T n s
+  pub unproved : ¬ IsProved (L ++ T) (length L + n)
+  pub earlier : (m : ℕ) (r : Stmt) → m < n → IsProvable T m r → IsProved (L ++ T) (length L + m)
+
+-- the text keeps all rules behind L, and statement n is its least `$p` that is not proved
+pub record FailsAt (L : Database) (charter : Option (List ℕ)) (submission : Submission) (n : ℕ) (s : Stmt) : Type 0 where
+  pub statements : Database
+  pub allowed : IsAllowed charter submission statements
+  pub legal : first_broken 1 L statements ≡ None
+  pub fails : IsFirstUnproved L statements n s
+
+-- why the submission is not added behind L, under the charter that is there
+abbrev pub IsCause : Database → Option (List ℕ) → Submission → Cause → Type 0
+IsCause L charter submission TooLong = MOST_BYTES < length submission.text
+IsCause L charter submission Text =
+    (length submission.text ≤ MOST_BYTES) × ((fault : LexFault) × IsLexFault submission.text fault × (fault ≢ lex.Memory))
+IsCause L charter submission Shape =
+    (length submission.text ≤ MOST_BYTES) × ((tokens : List Name) × HasTokens submission.text tokens × IsNoDatabase tokens)
+IsCause L charter submission (NotChartered n) =
+    (T : Database) × IsReadable submission.text T × (forbidden charter submission.author T ≡ Some n)
+IsCause L charter submission (Rule n rule) =
+    (T : Database) × IsAllowed charter submission T × (first_broken 1 L T ≡ Some (n, rule))
+IsCause L charter submission (Proof n) = (s : Stmt) × FailsAt L charter submission n s × IsFalse (is_unfinished (proof_of s))
+IsCause L charter submission (Unfinished n) = (s : Stmt) × FailsAt L charter submission n s × IsTrue (is_unfinished (proof_of s))

@@ -1,0 +1,45 @@
+-- Charters: which authors may declare constants and axioms.
+-- Source: this project's profile.
+-- The code keeps the numbers of the authors in order; contracts see the list.
+use Rattle.std.specs.Prelude.{ℕ, ◌+◌, ◌≤◌, Bool, true, false, ◌&&◌, nat_lt, ◌==◌, IsTrue, if◌then◌else◌, List, [], ◌∷◌, length, Option, Some, None}
+use Rattle.std.specs.List.{list_any}
+use Rattle.mm_read.specs.declared.stmt.Stmt.{Stmt}
+use Rattle.mm_read.specs.declared.stmt.Stmt.TheVariants.{Const, Axiom}
+use Rattle.mm_read.specs.Statements.{Database}
+use Rattle.library.specs.declared.charter.TheConstants.{MOST_NAMES}
+
+-- each number is below the next
+abbrev pub is_rising : List ℕ → Bool
+is_rising [] = true
+is_rising (x ∷ []) = true
+is_rising (x ∷ y ∷ numbers) = nat_lt x y && is_rising (y ∷ numbers)
+
+-- the names of a charter: 1 to 64 authors, in rising order
+pub record AreNames (numbers : List ℕ) : Type 0 where
+  pub some : 1 ≤ length numbers
+  pub few : length numbers ≤ MOST_NAMES
+  pub rising : IsTrue (is_rising numbers)
+
+-- the author is among the names
+abbrev pub names_author : List ℕ → ℕ → Bool
+names_author names author = list_any (λ n. n == author) names
+
+-- where a charter is there, it names the author
+abbrev pub may_declare : Option (List ℕ) → ℕ → Bool
+may_declare None author = true
+may_declare (Some names) author = names_author names author
+
+-- a `$c` or a `$a`
+abbrev pub is_declaration : Stmt → Bool
+is_declaration (Const symbols) = true
+is_declaration (Axiom label expr) = true
+is_declaration s = false
+
+-- the number of the least `$c` or `$a`, the first statement having this number
+abbrev pub first_declaration : ℕ → Database → Option ℕ
+first_declaration at [] = None
+first_declaration at (s ∷ T) = if is_declaration s then Some at else first_declaration (at + 1) T
+
+-- the least statement of the text that its author may not declare
+abbrev pub forbidden : Option (List ℕ) → ℕ → Database → Option ℕ
+forbidden charter author T = if may_declare charter author then None else first_declaration 1 T

@@ -1,0 +1,4 @@
+pub mod Charters
+pub mod Good
+pub mod Causes
+pub mod LibraryOf

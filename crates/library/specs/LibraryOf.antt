@@ -1,0 +1,90 @@
+-- The library of a log: what its entries validly add, in order.
+-- Source: this project's profile.
+-- The code keeps scopes and frames from text to text; here each text is judged with the whole list before it.
+use Rattle.std.specs.Prelude.{◌≡◌, ℕ, ◌*◌, true, false, ◌&&◌, ◌==◌, if◌then◌else◌, List, [], ◌∷◌, ◌++◌, length, Option, Some, None}
+use Rattle.mm_read.specs.Statements.{Database}
+use Rattle.library.specs.declared.entry.Entry.{Entry}
+use Rattle.library.specs.declared.entry.Entry.TheVariants.{Text, Charter}
+use Rattle.library.specs.declared.verdict.Verdict.{Verdict}
+use Rattle.library.specs.declared.verdict.Verdict.TheVariants.{Added, Nothing, Repeat, Refused}
+use Rattle.library.specs.declared.verdict.Cause.TheVariants.{NotChartered}
+use Rattle.library.specs.Charters.{may_declare}
+use Rattle.library.specs.Good.{Good}
+use Rattle.library.specs.Causes.{IsAllowed, IsCause}
+
+-- who made an entry, his number of it, and its size in bytes
+abbrev pub author_of : Entry → ℕ
+author_of (Text submission) = submission.author
+author_of (Charter author serial names) = author
+
+abbrev pub serial_of : Entry → ℕ
+serial_of (Text submission) = submission.serial
+serial_of (Charter author serial names) = serial
+
+abbrev pub size_of : Entry → ℕ
+size_of (Text submission) = length submission.text
+size_of (Charter author serial names) = 8 * length names
+
+-- the verdict on an author's entry of that number
+pub record Decided : Type 0 where
+  pub author : ℕ
+  pub serial : ℕ
+  pub verdict : Verdict
+
+-- what a replica keeps: the statements added, the verdicts decided, and the charter that is there
+pub record Replica : Type 0 where
+  pub statements : Database
+  pub decided : List Decided
+  pub charter : Option (List ℕ)
+
+abbrev pub empty : Replica
+empty = record { statements = []; decided = []; charter = None }
+
+-- the verdict first decided on an author's entry of that number
+abbrev pub status : List Decided → ℕ → ℕ → Option Verdict
+status [] author serial = None
+status (d ∷ ds) author serial =
+    if (d.author == author) && (d.serial == serial) then Some d.verdict else status ds author serial
+
+abbrev pub status_of : Replica → Entry → Option Verdict
+status_of replica entry = status replica.decided (author_of entry) (serial_of entry)
+
+-- the verdicts, with this one on the entry
+abbrev pub decided_with : Replica → Entry → Verdict → List Decided
+decided_with old entry verdict =
+    old.decided ++ record { author = author_of entry; serial = serial_of entry; verdict = verdict } ∷ []
+
+-- an entry that was not decided before makes the replica new of old, with this verdict
+abbrev pub Decides : Replica → Entry → Verdict → Replica → Type 0
+Decides old (Text submission) Added new =
+    (T : Database) × IsAllowed old.charter submission T × Good (old.statements ++ T)
+    × (new ≡ record old { statements = old.statements ++ T; decided = decided_with old (Text submission) Added })
+Decides old (Text submission) (Refused cause) new =
+    IsCause old.statements old.charter submission cause
+    × (new ≡ record old { decided = decided_with old (Text submission) (Refused cause) })
+Decides old (Charter author serial names) Added new =
+    (may_declare old.charter author ≡ true)
+    × (new ≡ record old { decided = decided_with old (Charter author serial names) Added; charter = Some names })
+Decides old (Charter author serial names) (Refused cause) new =
+    (may_declare old.charter author ≡ false) × (cause ≡ NotChartered 0)
+    × (new ≡ record old { decided = decided_with old (Charter author serial names) (Refused cause) })
+Decides old entry verdict new = ⊥
+
+-- with what was decided on the entry before
+abbrev pub AppliesAt : Option Verdict → Replica → Entry → Verdict → Replica → Type 0
+AppliesAt (Some first) old entry verdict new = (verdict ≡ Repeat) × (new ≡ old)
+AppliesAt None old entry verdict new = Decides old entry verdict new
+
+-- one entry of the log, or a no-operation, makes the replica new of old, with this verdict
+abbrev pub Applies : Replica → Option Entry → Verdict → Replica → Type 0
+Applies old None verdict new = (verdict ≡ Nothing) × (new ≡ old)
+Applies old (Some entry) verdict new = AppliesAt (status_of old entry) old entry verdict new
+
+-- the entries of a log, one after another
+abbrev pub Runs : Replica → List (Option Entry) → Replica → Type 0
+Runs old [] new = new ≡ old
+Runs old (entry ∷ log) new = (mid : Replica) × (verdict : Verdict) × Applies old entry verdict mid × Runs mid log new
+
+-- the library of a log
+abbrev pub IsLibraryOf : List (Option Entry) → Replica → Type 0
+IsLibraryOf log replica = Runs empty log replica

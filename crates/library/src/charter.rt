@@ -1,0 +1,83 @@
+//! The authors that a charter names.
+ghost use Rattle.std.specs.Prelude.{◌≡◌, length, IfOk, MatchOption};
+ghost use Rattle.library.specs.Charters.{AreNames, is_rising, names_author};
+
+use std::alloc::AllocError;
+use std::marker::Model;
+
+/// How many authors a charter may name.
+pub const MOST_NAMES: usize = 64;
+
+/// The authors that a charter names: 1 to 64 numbers, each above the one before. Contracts see the list.
+#[derive(Drop)]
+pub struct Names {
+    numbers: Vec<u64>,
+}
+
+impl Model for Names {
+    ghost use Rattle.std.specs.Prelude.{ℕ, List};
+    ghost use Rattle.library.specs.Charters.{AreNames};
+
+    ghost Value = { List ℕ };
+
+    ghost view = { λ a. a.numbers.items };
+
+    ghost invariant = { λ a. AreNames a.numbers.items };
+}
+
+impl Names {
+    /// The names with these numbers; none where there are no numbers, more than 64, or they do not rise strictly.
+    /// Takes no memory.
+    pub fn new(numbers: Vec<u64>) -> Option<Names>
+        ensures { MatchOption result (AreNames numbers.items → ⊥) (λ names. names ≡ numbers.items) }
+    {
+        let count = numbers.len();
+        if count == 0 || count > MOST_NAMES || !is_rising(&numbers) {
+            return None;
+        }
+        Some(Names { numbers })
+    }
+
+    /// The numbers, in rising order.
+    pub fn as_slice(&self) -> &[u64]
+        ensures numbers { result.now ≡ self.now }
+        ensures names { AreNames self.now }
+    {
+        self.numbers.as_slice()
+    }
+
+    /// The numbers, given back. Takes no memory.
+    pub fn into_vec(self) -> Vec<u64>
+        ensures { result.items ≡ self }
+    {
+        self.numbers
+    }
+
+    /// Whether the author is named.
+    pub fn has(&self, author: u64) -> bool
+        ensures { result ≡ names_author self.now author }
+    {
+        self.numbers.contains(&author)
+    }
+
+    /// The same names.
+    pub fn copy(&self) -> Result<Names, AllocError>
+        ensures { IfOk result (λ names. names ≡ self.now) }
+    {
+        let numbers = self.numbers.clone()?;
+        Ok(Names { numbers })
+    }
+}
+
+/// Whether each number is below the next.
+fn is_rising(numbers: &[u64]) -> bool
+    ensures { result ≡ is_rising numbers.now }
+{
+    match numbers {
+        [first, rest @ ..] => match rest {
+            [second, ..] => first < second && is_rising(rest),
+            [] => true,
+        },
+        [] => true,
+    }
+}

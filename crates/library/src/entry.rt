@@ -1,0 +1,70 @@
+//! What the log of a library holds.
+ghost use Rattle.std.specs.Prelude.{◌≡◌, IfOk};
+ghost use Rattle.library.specs.LibraryOf.{author_of, serial_of, size_of};
+
+use crate::charter::Names;
+use crate::submission::Submission;
+use std::alloc::AllocError;
+
+/// An entry of the log. Texts and charters share one numbering: an author and a serial number name one entry.
+#[derive(Drop)]
+pub enum Entry {
+    /// A text, to be added whole or not at all.
+    Text(Submission),
+    /// From its place on, the named authors alone may declare constants and axioms.
+    Charter {
+        author: u64,
+        serial: u64,
+        names: Names,
+    },
+}
+
+impl Entry {
+    /// Who made the entry.
+    pub fn author(&self) -> u64
+        ensures { result ≡ author_of self.now }
+    {
+        match self {
+            Entry::Text(submission) => submission.author,
+            Entry::Charter { author, .. } => *author,
+        }
+    }
+
+    /// The author's number of the entry.
+    pub fn serial(&self) -> u64
+        ensures { result ≡ serial_of self.now }
+    {
+        match self {
+            Entry::Text(submission) => submission.serial,
+            Entry::Charter { serial, .. } => *serial,
+        }
+    }
+
+    /// The count of the text's bytes, or 8 a name.
+    pub fn size(&self) -> usize
+        ensures { result ≡ size_of self.now }
+    {
+        match self {
+            Entry::Text(submission) => submission.text.len(),
+            Entry::Charter { names, .. } => 8 * names.as_slice().len(),
+        }
+    }
+
+    /// The same entry. A text is shared; the names are copied.
+    pub fn copy(&self) -> Result<Entry, AllocError>
+        ensures { IfOk result (λ entry. entry ≡ self.now) }
+    {
+        match self {
+            Entry::Text(submission) => Ok(Entry::Text(submission.copy()?)),
+            Entry::Charter {
+                author,
+                serial,
+                names,
+            } => Ok(Entry::Charter {
+                author: *author,
+                serial: *serial,
+                names: names.copy()?,
+            }),
+        }
+    }
+}

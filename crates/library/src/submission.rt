@@ -1,0 +1,30 @@
+//! What an author submits.
+ghost use Rattle.std.specs.Prelude.{◌≡◌, IfOk};
+
+use bytes::Bytes;
+use std::alloc::AllocError;
+
+/// How many bytes a text may have.
+pub const MOST_BYTES: usize = 67_108_864;
+
+/// A text under its author's name. An author numbers his texts and charters: the first one of a number is decided.
+#[derive(Drop)]
+pub struct Submission {
+    pub author: u64,
+    pub serial: u64,
+    /// The bytes of a Metamath text, shared between its copies.
+    pub text: Bytes,
+}
+
+impl Submission {
+    /// The same submission, with the same bytes.
+    pub fn copy(&self) -> Result<Submission, AllocError>
+        ensures { IfOk result (λ submission. submission ≡ self.now) }
+    {
+        Ok(Submission {
+            author: self.author,
+            serial: self.serial,
+            text: self.text.clone()?,
+        })
+    }
+}

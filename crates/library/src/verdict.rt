@@ -1,0 +1,38 @@
+//! What becomes of an entry.
+
+use scope::Rule;
+
+/// Why an entry is refused: the first cause that holds, in the order of the list. Statements are numbered from 1
+/// within the text, blocks counted.
+#[derive(Clone, Copy, Debug, Drop, PartialEq, Eq)]
+pub enum Cause {
+    /// C1: the text has too many bytes.
+    TooLong,
+    /// C2: a byte is not allowed, or a comment is refused.
+    Text,
+    /// C3: the tokens are no list of statements.
+    Shape,
+    /// C7: a charter is there that does not name the author, and this is the least `$c` or `$a` of the text. Of a
+    /// refused charter the number is 0.
+    NotChartered { statement: usize },
+    /// C4: the least statement that breaks a rule, and its least rule. A block that is open at the end breaks G10 one
+    /// above the last statement.
+    Rule { statement: usize, rule: Rule },
+    /// C5: the least `$p` whose proof is not right, where no token of the proof has the byte `?`.
+    Proof { statement: usize },
+    /// C6: the least `$p` whose proof is not right, where a token of the proof has it.
+    Unfinished { statement: usize },
+}
+
+/// What became of an entry of the log.
+#[derive(Clone, Copy, Debug, Drop, PartialEq, Eq)]
+pub enum Verdict {
+    /// A text was added whole, or a charter counts from now on.
+    Added,
+    /// It was a no-operation.
+    Nothing,
+    /// The author's entry of that number was decided before; the first verdict stays.
+    Repeat,
+    /// Nothing of it was added.
+    Refused(Cause),
+}
