@@ -3,15 +3,19 @@
 //! The crate above uses one contract: an application makes the step of `specs/LibraryOf` with its verdict, and want of
 //! memory decides nothing.
 //!
-//! Reading order: `submission`, `charter`, `entry` (what a log holds), `verdict`.
+//! Reading order: `submission`, `charter`, `entry` (what a log holds), `verdict`, `laws`.
 #![tactic(auto)]
 
 mod charter;
 mod entry;
+mod laws;
 mod submission;
 mod verdict;
 
 pub use charter::{MOST_NAMES, Names};
 pub use entry::Entry;
+pub use laws::{
+    libraries_are_good, libraries_grow, one_library, one_verdict, plain_without_charters,
+};
 pub use submission::{MOST_BYTES, Submission};
 pub use verdict::{Cause, Verdict};

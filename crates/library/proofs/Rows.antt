@@ -1,0 +1,142 @@
+-- Verdicts, worked out.
+use Rattle.std.specs.Prelude.{◌≡◌, ℕ, zero, suc, ◌+◌, ◌<◌, Bool, true, false, List, [], ◌∷◌, ◌++◌, codes, refl, length, Option, Some, None}
+use Rattle.std.specs.List.{list_all}
+use Rattle.std.proofs.Common.{sym, ◌∙◌, ap, arith, inl, inr, lit≤, append-nil}
+use Rattle.mm_lex.specs.Alphabet.{Name, is_allowed, runs, word}
+use Rattle.mm_lex.specs.Tokens.{is_plain, words}
+use Rattle.mm_read.specs.declared.stmt.Stmt.{Stmt}
+use Rattle.mm_read.specs.declared.stmt.Stmt.TheVariants.{Const, Var, Axiom, Prove}
+use Rattle.mm_read.specs.Statements.{Database, AreShaped, spelled}
+use Rattle.mm_read.specs.Reads.{Reads}
+use Rattle.scope.specs.Active.{proof_of, is_provable}
+use Rattle.scope.specs.declared.rule.Rule.TheVariants.{G4}
+use Rattle.scope.proofs.Databases.{w}
+use Rattle.proof_code.specs.Writes.{Writes, is_unfinished}
+use Rattle.verify.specs.Right.{IsProvable}
+use Rattle.library.specs.declared.submission.Submission.{Submission}
+use Rattle.library.specs.declared.entry.Entry.TheVariants.{Text, Charter}
+use Rattle.library.specs.declared.verdict.Cause.TheVariants.{Rule, Unfinished, NotChartered}
+use Rattle.library.specs.declared.verdict.Verdict.TheVariants.{Added, Nothing, Repeat, Refused}
+use Rattle.library.specs.Charters.{is_rising, forbidden}
+use Rattle.library.specs.Good.{IsProved}
+use Rattle.library.specs.Causes.{IsCause}
+use Rattle.library.specs.LibraryOf.{Replica, empty, Applies}
+use Rattle.library.proofs.LibraryLemmas.{good-empty}
+
+-- a text without comments
+plain_reads : (text : List ℕ) (T : Database) → AreShaped T → list_all is_allowed text ≡ true → list_all (λ s. is_plain (word text s)) (runs text) ≡ true → words text (runs text) ≡ spelled T → Reads text T
+plain_reads text T shaped clean plain same = record {
+  shaped = shaped;
+  tokens = (runs text, (clean, record { first = runs text; parts = []; whole = sym (append-nil (runs text)); plain = plain; comments = tt; outside = sym (append-nil (runs text)) }), same);
+}
+
+abbrev by_author : ℕ → List ℕ → Submission
+by_author author text = record { author = author; serial = 1; text = text }
+
+-- ---- the rows of causes
+
+abbrev taken_twice : Database
+taken_twice = Const (w (codes "|-")) ∷ Axiom (codes "p") (w (codes "|-")) ∷ Axiom (codes "p") (w (codes "|-")) ∷ []
+
+label_taken : IsCause [] None (by_author 7 (codes "$c |- $. p $a |- $. p $a |- $.")) (Rule 3 G4)
+label_taken = (taken_twice, record { readable = record { short = lit≤ tt; read = plain_reads _ taken_twice refl refl refl refl }; allowed = refl }, refl)
+
+-- under a charter the same text of an author that it does not name is refused for its first `$c`
+not_chartered : IsCause [] (Some (7 ∷ [])) (by_author 8 (codes "$c |- $. p $a |- $. p $a |- $.")) (NotChartered 1)
+not_chartered = (taken_twice, record { short = lit≤ tt; read = plain_reads _ taken_twice refl refl refl refl }, refl)
+
+abbrev doubted : Database
+doubted = Const (w (codes "|- o")) ∷ Prove (codes "th") (w (codes "|- o")) (w (codes "?")) ∷ []
+
+abbrev is_doubted : Option Stmt → Bool
+is_doubted None = true
+is_doubted (Some s) = is_unfinished (proof_of s)
+
+abbrev is_none_here : Option Stmt → Bool
+is_none_here None = true
+is_none_here (Some s) = false
+
+abbrev is_provable_here : Option Stmt → Bool
+is_provable_here None = false
+is_provable_here (Some s) = is_provable s
+
+different : true ≡ false → ⊥
+different e = absurd (let f : true ≡ false = e in cc)
+
+writes_finished : (tokens mandatory : List Name) (items : _) → Writes tokens mandatory items → is_unfinished tokens ≡ false
+writes_finished tokens mandatory items h = elim h [ inl p ↦ p.1.0 | inr p ↦ p.1.0 ]
+
+not_proved : IsProved doubted 2 → ⊥
+not_proved p = different (ap is_doubted p.provable.stands ∙ writes_finished _ _ _ p.written)
+
+unfinished : IsCause [] None (by_author 7 (codes "$c |- o $. th $p |- o $= ? $.")) (Unfinished 2)
+unfinished = (
+  Prove (codes "th") (w (codes "|- o")) (w (codes "?")),
+  record {
+    statements = doubted;
+    allowed = record { readable = record { short = lit≤ tt; read = plain_reads _ doubted refl refl refl refl }; allowed = refl };
+    legal = refl;
+    fails = record { here = record { stands = refl; provable = refl }; unproved = not_proved; earlier = earlier };
+  },
+  refl,
+)
+  where
+    earlier : (m : ℕ) (r : Stmt) → m < 2 → IsProvable doubted m r → IsProved ([] ++ doubted) (length {A = Stmt} [] + m)
+    earlier zero r below p = absurd (different (ap is_none_here p.stands))
+    earlier (suc zero) r below p = absurd (different (sym p.provable ∙ sym (ap is_provable_here p.stands)))
+    earlier (suc (suc m)) r below p = absurd (past below)
+      where
+        past : suc (suc m) < 2 → ⊥
+        past h = omega (arith, h)
+
+-- ---- the rows of verdicts
+
+abbrev one_charter : Replica
+one_charter = record { statements = []; decided = record { author = 7; serial = 2; verdict = Added } ∷ []; charter = Some (7 ∷ 9 ∷ []) }
+
+empty_text_added : Applies empty (Some (Text (by_author 7 []))) Added (record { statements = []; decided = record { author = 7; serial = 1; verdict = Added } ∷ []; charter = None })
+empty_text_added = ([], record { readable = record { short = lit≤ tt; read = plain_reads [] [] refl refl refl refl }; allowed = refl }, good-empty, refl)
+
+-- the first charter counts whoever makes it
+first_charter : Applies empty (Some (Charter 7 2 (7 ∷ 9 ∷ []))) Added one_charter
+first_charter = (refl, refl)
+
+-- and then those whom it names alone may put another in its place
+other_charter_refused : Applies one_charter (Some (Charter 8 1 (8 ∷ []))) (Refused (NotChartered 0))
+    (record one_charter { decided = one_charter.decided ++ record { author = 8; serial = 1; verdict = Refused (NotChartered 0) } ∷ [] })
+other_charter_refused = (refl, refl, refl)
+
+named_charter_added : Applies one_charter (Some (Charter 9 1 (8 ∷ []))) Added
+    (record { statements = []; decided = one_charter.decided ++ record { author = 9; serial = 1; verdict = Added } ∷ []; charter = Some (8 ∷ []) })
+named_charter_added = (refl, refl)
+
+-- an author's number is decided once, for texts and charters together
+repeated_number : Applies one_charter (Some (Charter 7 2 (8 ∷ []))) Repeat one_charter
+repeated_number = (refl, refl)
+
+repeated_text : Applies one_charter (Some (Text (record { author = 7; serial = 2; text = codes "$c a $." }))) Repeat one_charter
+repeated_text = (refl, refl)
+
+no_operation : Applies one_charter None Nothing one_charter
+no_operation = (refl, refl)
+
+-- ---- charters
+
+rising : is_rising (1 ∷ 5 ∷ 6 ∷ []) ≡ true
+rising = refl
+
+twice_the_same : is_rising (1 ∷ 5 ∷ 5 ∷ []) ≡ false
+twice_the_same = refl
+
+named_author : forbidden (Some (7 ∷ 9 ∷ [])) 9 taken_twice ≡ None
+named_author = refl
+
+no_charter : forbidden None 8 taken_twice ≡ None
+no_charter = refl
+
+-- variables, hypotheses and proofs are anyone's
+variables_and_proofs : forbidden (Some (7 ∷ [])) 8 (Var (w (codes "x")) ∷ Prove (codes "th") (w (codes "|- o")) (w (codes "?")) ∷ []) ≡ None
+variables_and_proofs = refl
+
+second_statement : forbidden (Some (7 ∷ [])) 8 (Var (w (codes "x")) ∷ Axiom (codes "p") (w (codes "|-")) ∷ []) ≡ Some 2
+second_statement = refl

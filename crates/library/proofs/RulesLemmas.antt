@@ -1,0 +1,85 @@
+-- The rules over two lists, one behind the other.
+use Rattle.std.specs.Prelude.{◌≡◌, ℕ, ◌+◌, [], ◌∷◌, ◌++◌, map, Option, Some, None, refl}
+use Rattle.std.proofs.Common.{sym, ◌∙◌, ap, append_assoc, append-nil}
+use Rattle.std.proofs.lemmas.List.{map-append}
+use Rattle.mm_read.specs.declared.stmt.Stmt.{Stmt}
+use Rattle.mm_read.specs.declared.stmt.Stmt.TheVariants.{Open, Close, Const, Var, Disj, Float, Ess, Axiom, Prove}
+use Rattle.mm_read.specs.Statements.{Database}
+use Rattle.scope.specs.declared.rule.Rule.{Rule}
+use Rattle.scope.specs.Active.{bare, bares}
+use Rattle.scope.specs.Legal.{broken_rule, end_rule, first_broken, or_later, numbered, AllLegal, IsLegal}
+use Rattle.scope.proofs.BareLemmas.{broken_rule-bares, end_rule-bares}
+
+-- each of the statements keeps the rules behind those before it
+abbrev pub AreLegal : Database → Database → Type 0
+AreLegal S [] = Unit {0}
+AreLegal S (s ∷ T) = IsLegal S s × AreLegal (S ++ s ∷ []) T
+
+none-later : (at : ℕ) (rule : Option Rule) (later : Option (ℕ × Rule)) → or_later at rule later ≡ None → (rule ≡ None) × (later ≡ None)
+none-later at None later h = (refl, h)
+none-later at (Some rule) later h = cc
+
+legal-later : (at : ℕ) (rule : Option Rule) (later : Option (ℕ × Rule)) → rule ≡ None → or_later at rule later ≡ later
+legal-later at rule later h = ap (λ r. or_later at r later) h
+
+none-numbered : (m n : ℕ) (rule : Option Rule) → numbered m rule ≡ None → numbered n rule ≡ None
+none-numbered m n None h = refl
+none-numbered m n (Some rule) h = cc
+
+-- that no rule is broken does not hang on the numbers
+pub none-broken : (m n : ℕ) (S T : Database) → first_broken m S T ≡ None → first_broken n S T ≡ None
+none-broken m n S [] h = none-numbered m n (end_rule S) h
+none-broken m n S (s ∷ T) h =
+    let p = none-later m (broken_rule S s) (first_broken (m + 1) (S ++ s ∷ []) T) h in
+    legal-later n (broken_rule S s) (first_broken (n + 1) (S ++ s ∷ []) T) p.0 ∙ none-broken (m + 1) (n + 1) (S ++ s ∷ []) T p.1
+
+pub none-split : (m n : ℕ) (S A T : Database) → first_broken m S (A ++ T) ≡ None → AreLegal S A × (first_broken n (S ++ A) T ≡ None)
+none-split m n S [] T h = (tt, ap (λ U. first_broken n U T) (append-nil S) ∙ none-broken m n S T h)
+none-split m n S (s ∷ A) T h =
+    let p = none-later m (broken_rule S s) (first_broken (m + 1) (S ++ s ∷ []) (A ++ T)) h in
+    let q = none-split (m + 1) n (S ++ s ∷ []) A T p.1 in
+    ((p.0, q.0), ap (λ U. first_broken n U T) (sym (append_assoc S (s ∷ []) A)) ∙ q.1)
+
+pub none-join : (m n : ℕ) (S A T : Database) → AreLegal S A → first_broken n (S ++ A) T ≡ None → first_broken m S (A ++ T) ≡ None
+none-join m n S [] T legal h = none-broken n m S T (ap (λ U. first_broken n U T) (sym (append-nil S)) ∙ h)
+none-join m n S (s ∷ A) T legal h =
+    legal-later m (broken_rule S s) (first_broken (m + 1) (S ++ s ∷ []) (A ++ T)) legal.0
+    ∙ none-join (m + 1) n (S ++ s ∷ []) A T legal.1 (ap (λ U. first_broken n U T) (append_assoc S (s ∷ []) A) ∙ h)
+
+-- a legal list with a text behind it is legal where the text breaks no rule
+pub legal-more : (L T : Database) → AllLegal L → first_broken 1 L T ≡ None → AllLegal (L ++ T)
+legal-more L T legal h = none-join 1 1 [] L T (none-split 1 1 [] L [] (ap (first_broken 1 []) (append-nil L) ∙ legal)).0 h
+
+pub legal-text : (L T : Database) → AllLegal (L ++ T) → first_broken 1 L T ≡ None
+legal-text L T legal = (none-split 1 1 [] L T legal).1
+
+-- what is broken behind statements does not hang on their proofs
+pub broken-bares : (S U : Database) → bares S ≡ bares U → (s : Stmt) → broken_rule S s ≡ broken_rule U s
+broken-bares S U same s = sym (broken_rule-bares S s) ∙ (ap (λ V. broken_rule V s) same ∙ broken_rule-bares U s)
+
+pub first_broken-bares : (at : ℕ) (S U T : Database) → bares S ≡ bares U → first_broken at S T ≡ first_broken at U T
+first_broken-bares at S U [] same = ap (numbered at) (sym (end_rule-bares S) ∙ (ap end_rule same ∙ end_rule-bares U))
+first_broken-bares at S U (s ∷ T) same =
+    ap (λ r. or_later at r (first_broken (at + 1) (S ++ s ∷ []) T)) (broken-bares S U same s)
+    ∙ ap (or_later at (broken_rule U s)) (first_broken-bares (at + 1) (S ++ s ∷ []) (U ++ s ∷ []) T (map-append bare S (s ∷ []) ∙ (ap (λ V. V ++ bare s ∷ []) same ∙ sym (map-append bare U (s ∷ [])))))
+
+-- one legal statement taken, the others decide
+pub first_broken-taken : (at : ℕ) (S : Database) (s : Stmt) (T : Database) → IsLegal S s → first_broken at S (s ∷ T) ≡ first_broken (at + 1) (S ++ bare s ∷ []) T
+first_broken-taken at S s T legal =
+    legal-later at (broken_rule S s) (first_broken (at + 1) (S ++ s ∷ []) T) legal
+    ∙ first_broken-bares (at + 1) (S ++ s ∷ []) (S ++ bare s ∷ []) T (map-append bare S (s ∷ []) ∙ (ap (λ v. map bare S ++ v ∷ []) (sym (bare-bare s)) ∙ sym (map-append bare S (bare s ∷ []))))
+  where
+    bare-bare : (s : Stmt) → bare (bare s) ≡ bare s
+    bare-bare Open = refl
+    bare-bare Close = refl
+    bare-bare (Const names) = refl
+    bare-bare (Var names) = refl
+    bare-bare (Disj names) = refl
+    bare-bare (Float label constant variable) = refl
+    bare-bare (Ess label expr) = refl
+    bare-bare (Axiom label expr) = refl
+    bare-bare (Prove label expr proof) = refl
+
+-- a statement that breaks a rule is the first of those that come
+pub first_broken-here : (at : ℕ) (S : Database) (s : Stmt) (T : Database) (rule : Rule) → broken_rule S s ≡ Some rule → first_broken at S (s ∷ T) ≡ Some (at, rule)
+first_broken-here at S s T rule h = ap (λ r. or_later at r (first_broken (at + 1) (S ++ s ∷ []) T)) h

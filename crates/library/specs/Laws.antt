@@ -1,0 +1,39 @@
+-- Laws of the library of a log.
+-- Source: this project's profile.
+-- The working calls make the steps of these definitions; the laws say what the definitions leave no choice of.
+use Rattle.std.specs.Prelude.{◌≡◌, ◌↔◌, List, ◌++◌, map, option_map, Option, None}
+use Rattle.mm_read.specs.Statements.{Database}
+use Rattle.library.specs.declared.submission.Submission.{Submission}
+use Rattle.library.specs.declared.entry.Entry.{Entry}
+use Rattle.library.specs.declared.entry.Entry.TheVariants.{Text}
+use Rattle.library.specs.declared.verdict.Verdict.{Verdict}
+use Rattle.library.specs.Good.{Good}
+use Rattle.library.specs.LibraryOf.{Replica, Applies, IsLibraryOf}
+use Rattle.library.specs.PlainLibraryOf.{PlainReplica, IsPlainLibraryOf}
+
+-- an entry has one verdict at a replica, and makes one replica of it
+abbrev pub OneVerdict : Type 0
+OneVerdict = (old new other : Replica) (entry : Option Entry) (v w : Verdict)
+    → Applies old entry v new → Applies old entry w other → (v ≡ w) × (new ≡ other)
+
+-- a log has one library
+abbrev pub OneLibrary : Type 0
+OneLibrary = (log : List (Option Entry)) (replica other : Replica) → IsLibraryOf log replica → IsLibraryOf log other → replica ≡ other
+
+-- the statements of a log's library begin those of a longer log's library
+abbrev pub LibrariesGrow : Type 0
+LibrariesGrow = (log later : List (Option Entry)) (replica longer : Replica)
+    → IsLibraryOf log replica → IsLibraryOf (log ++ later) longer → (more : Database) × (longer.statements ≡ replica.statements ++ more)
+
+-- the library of a log is good
+abbrev pub LibrariesAreGood : Type 0
+LibrariesAreGood = (log : List (Option Entry)) (replica : Replica) → IsLibraryOf log replica → Good replica.statements
+
+-- a replica without its charter
+abbrev pub without_charter : Replica → PlainReplica
+without_charter replica = record { statements = replica.statements; decided = replica.decided }
+
+-- a log without charters has the list and the verdicts of the plain library, and no charter
+abbrev pub PlainWithoutCharters : Type 0
+PlainWithoutCharters = (log : List (Option Submission)) (replica : Replica)
+    → IsLibraryOf (map (option_map Text) log) replica ↔ (IsPlainLibraryOf log (without_charter replica) × (replica.charter ≡ None))
