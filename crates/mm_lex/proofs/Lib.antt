@@ -1,6 +1,7 @@
 pub mod WordsLemmas
 pub mod PushLemmas
 pub mod FaultsLemmas
+pub mod LanesLemmas
 pub mod RunsLemmas
 pub mod Cutting
 pub mod CuttingMeans

@@ -2,6 +2,7 @@
 ghost use Rattle.std.specs.Prelude.{◌-◌, ◌<◌, ◌≤◌, length, slice_index, IsTrue};
 ghost use Rattle.mm_lex.specs.Alphabet.{is_white};
 ghost use Rattle.mm_lex.specs.Comments.{PassesPlain, EndsComment};
+ghost use Rattle.mm_lex.specs.Tokens.{IsClean};
 
 use crate::run::{is_closer, is_opener, next_run};
 use memchr::memchr;
@@ -18,7 +19,8 @@ pub(crate) enum CommentEnd {
 
 /// How the comment ends whose inside begins at `from`.
 pub(crate) fn comment_end(text: &[u8], from: usize) -> CommentEnd
-    requires { from ≤ length text.now }
+    requires clean { IsClean text.now }
+    requires place { from ≤ length text.now }
     ensures { EndsComment text.now from result }
 {
     let mut at = from;

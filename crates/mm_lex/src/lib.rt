@@ -1,12 +1,13 @@
 //! The lowest layer: the tokens of a Metamath text, and lists of words.
 //!
 //! `tokens` gives the places of a text's tokens, its comments taken out. `Word` and `Words` keep
-//! words compactly. Reading order: `span`, `fault`, `run`, `comment`, `scan`; `word`, `words`,
+//! words compactly. Reading order: `span`, `fault`, `lanes`, `run`, `comment`, `scan`; `word`, `words`,
 //! `reading`; `laws`.
 #![tactic(auto)]
 
 mod comment;
 mod fault;
+mod lanes;
 mod laws;
 mod reading;
 mod run;

@@ -1,14 +1,16 @@
-//! The runs of visible bytes in a text, one after another.
+//! The runs of visible bytes in a text without a bad byte, one after another.
 ghost use Rattle.std.specs.Prelude.{◌≡◌, ◌-◌, ◌<◌, ◌≤◌, [], ◌∷◌, ℕ, not, length, take, drop, MatchOption, IfSome, IsTrue, slice_index, IsFalse};
 ghost use Rattle.std.specs.List.{position, position_or_len};
 ghost use Rattle.mm_lex.specs.Alphabet.{is_white, runs_from, IsRunAt, name_eq};
-ghost use Rattle.mm_lex.specs.Tokens.{opener, closer};
+ghost use Rattle.mm_lex.specs.Tokens.{opener, closer, IsClean};
 
+use crate::lanes::count_visible;
 use crate::span::Span;
 
 /// The first run that begins at `at` or behind it.
 pub(crate) fn next_run(text: &[u8], at: usize) -> Option<Span>
-    requires { at ≤ length text.now }
+    requires clean { IsClean text.now }
+    requires place { at ≤ length text.now }
     ensures run { MatchOption result (runs_from at (drop at text.now) ≡ [])
         (λ s. runs_from at (drop at text.now) ≡ s ∷ runs_from s.end (drop s.end text.now)) }
     ensures place { IfSome result (λ s. IsRunAt text.now s) }
@@ -39,20 +41,6 @@ fn first_visible(text: &[u8]) -> Option<usize>
     ensures { result ≡ position (λ b. not (is_white b)) text.now }
 {
     text.iter().position(|b| !b.is_ascii_whitespace())
-}
-
-/// How many bytes a text begins with that are not white.
-fn count_visible(text: &[u8]) -> usize
-    ensures count { result ≡ position_or_len is_white text.now }
-    ensures within { result ≤ length text.now }
-{
-    first_white(text).unwrap_or(text.len())
-}
-
-fn first_white(text: &[u8]) -> Option<usize>
-    ensures { result ≡ position is_white text.now }
-{
-    text.iter().position(|b| b.is_ascii_whitespace())
 }
 
 /// Whether the word begins a comment.

@@ -1,0 +1,99 @@
+-- The first white byte, found among the bytes up to the space, many bytes at a time.
+use Rattle.std.specs.Prelude.{◌≡◌, ℕ, ◌+◌, ◌<◌, ◌≤◌, Bool, true, false, not, cond, nat_le, List, [], ◌∷◌, length, take, drop, map, refl}
+use Rattle.std.specs.List.{list_all, position_or_len, prefix_len}
+use Rattle.std.proofs.Common.{sym, ◌∙◌, ap, arith, leb, eqb, replicate, w8, ◌%◌, ◌^◌}
+use Rattle.std.proofs.lemmas.Bool.{eqb-true, eqb-false}
+use Rattle.std.specs.Simd.Lanes.{zip2, mask_l, top}
+use Rattle.std.specs.Int.Count.{count_trailing_zeros}
+use Rattle.std.proofs.lemmas.Simd.{bitmask_splat, trailing_mask_l}
+use Rattle.std.proofs.lemmas.List.{take-append-drop, length-drop, length-take-le, drop-drop}
+use Rattle.std.proofs.lemmas.List.Folds.{prefix_len-append, list_all-append}
+use Rattle.mm_lex.specs.Alphabet.{is_white, is_allowed}
+use Rattle.mm_lex.specs.Tokens.{IsClean}
+use Rattle.mm_lex.proofs.WordsLemmas.{and_left, and_right}
+
+abbrev pub is_low : ℕ → Bool
+is_low b = nat_le b 32
+
+-- an allowed byte is white where it is not above the space
+pub is_low-white : (b : ℕ) → is_allowed b ≡ true → is_low b ≡ is_white b
+is_low-white b h = by (is_low b) (is_white b) refl refl
+  where
+    by : (s t : Bool) → is_low b ≡ s → is_white b ≡ t → s ≡ t
+    by true true e k = refl
+    by true false e k = absurd (grind (arith, h, e, k))
+    by false true e k = absurd (grind (arith, h, e, k))
+    by false false e k = refl
+
+-- ---- a part of a clean text
+
+pub clean-drop : (n : ℕ) (text : List ℕ) → IsClean text → IsClean (drop n text)
+clean-drop n text clean =
+    and_right (list_all is_allowed (take n text)) _ (sym (list_all-append is_allowed (take n text) (drop n text)) ∙ (ap (list_all is_allowed) (take-append-drop n text) ∙ clean))
+
+pub clean-take : (n : ℕ) (text : List ℕ) → IsClean text → IsClean (take n text)
+clean-take n text clean =
+    and_left (list_all is_allowed (take n text)) (list_all is_allowed (drop n text)) (sym (list_all-append is_allowed (take n text) (drop n text)) ∙ (ap (list_all is_allowed) (take-append-drop n text) ∙ clean))
+
+pub low_is_white : (text : List ℕ) → IsClean text → position_or_len is_low text ≡ position_or_len is_white text
+low_is_white [] clean = refl
+low_is_white (b ∷ text) clean =
+    ap (λ t. cond (not t) (1 + position_or_len is_low text) 0) (is_low-white b (and_left (is_allowed b) _ clean))
+    ∙ ap (λ n. cond (not (is_white b)) (1 + n) 0) (low_is_white text (and_right (is_allowed b) _ clean))
+
+-- ---- a mask
+
+-- the mask of the bytes up to the space, and its lowest bit
+pub mask_of_low : (xs : List ℕ) → length xs ≡ 16
+    → mask_l (map (top 7) (zip2 (λ a b. cond (leb a b) 255 0) xs (replicate 16 32))) % 2 ^ 64 ≡ mask_l (map is_low xs)
+mask_of_low xs long = bitmask_splat w8 leb xs 16 32 long (omega arith)
+
+module _ (xs : List ℕ) (long : length xs ≡ 16) (m : ℕ) (of_low : m ≡ mask_l (map is_low xs)) (some : m ≡ 0 → ⊥) where
+  is_some : 0 < mask_l (map is_low xs)
+  is_some = omega (arith, some, of_low)
+
+  pub lowest_low : count_trailing_zeros 64 m ≡ position_or_len is_low xs
+  lowest_low = ap (count_trailing_zeros 64) of_low ∙ trailing_mask_l is_low 64 xs (omega (arith, long)) is_some
+
+-- ---- the bytes behind those seen
+
+module _ (text : List ℕ) (at : ℕ) (clean : IsClean text) (room : at + 16 ≤ length text)
+    (seen : position_or_len is_white text ≡ at + position_or_len is_white (drop at text))
+    (count : ℕ) (counted : count ≡ position_or_len is_low (take 16 (drop at text))) where
+  abbrev next : List ℕ
+  next = take 16 (drop at text)
+
+  next_len : length next ≡ 16
+  next_len = length-take-le 16 (drop at text) (omega (arith, length-drop at text))
+
+  next_white : count ≡ prefix_len (λ b. not (is_white b)) next
+  next_white = counted ∙ low_is_white next (clean-take 16 (drop at text) (clean-drop at text clean))
+
+  parts : prefix_len (λ b. not (is_white b)) (drop at text)
+      ≡ cond (eqb (prefix_len (λ b. not (is_white b)) next) (length next)) (length next + prefix_len (λ b. not (is_white b)) (drop 16 (drop at text))) (prefix_len (λ b. not (is_white b)) next)
+  parts = ap (prefix_len (λ b. not (is_white b))) (sym (take-append-drop 16 (drop at text))) ∙ prefix_len-append (λ b. not (is_white b)) next (drop 16 (drop at text))
+
+  -- where one of them is white, the first white byte is there
+  pub ends_here : count < 16 → position_or_len is_white text ≡ at + count
+  ends_here few = by (eqb (prefix_len (λ b. not (is_white b)) next) (length next)) refl
+    where
+      by : (t : Bool) → eqb (prefix_len (λ b. not (is_white b)) next) (length next) ≡ t → position_or_len is_white text ≡ at + count
+      by true e =
+          let same = eqb-true (prefix_len (λ b. not (is_white b)) next) (length next) e in
+          absurd (omega (arith, same, few, next_white, next_len))
+      by false e = seen ∙ ap (λ n. at + n) (parts ∙ (ap (λ t. cond t (length next + prefix_len (λ b. not (is_white b)) (drop 16 (drop at text))) (prefix_len (λ b. not (is_white b)) next)) e ∙ sym next_white))
+
+  -- where none is, it is behind them
+  pub goes_on : count ≡ 16 → position_or_len is_white text ≡ at + count + position_or_len is_white (drop (at + count) text)
+  goes_on all = by (eqb (prefix_len (λ b. not (is_white b)) next) (length next)) refl
+    where
+      rest : drop 16 (drop at text) ≡ drop (at + count) text
+      rest = drop-drop 16 at text ∙ ap (λ n. drop (at + n) text) (sym all)
+
+      by : (t : Bool) → eqb (prefix_len (λ b. not (is_white b)) next) (length next) ≡ t
+          → position_or_len is_white text ≡ at + count + position_or_len is_white (drop (at + count) text)
+      by true e =
+          let there = parts ∙ ap (λ t. cond t (length next + prefix_len (λ b. not (is_white b)) (drop 16 (drop at text))) (prefix_len (λ b. not (is_white b)) next)) e in
+          let same = ap (prefix_len (λ b. not (is_white b))) rest in
+          omega (arith, seen, there, same, next_len, all)
+      by false e = absurd (eqb-false (prefix_len (λ b. not (is_white b)) next) (length next) e (sym next_white ∙ (all ∙ sym next_len)))

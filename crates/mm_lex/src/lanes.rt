@@ -1,0 +1,55 @@
+//! Where the visible bytes end that a text begins with, found many bytes at a time.
+ghost use Rattle.std.specs.Prelude.{◌≡◌, ◌+◌, ◌-◌, ◌≤◌, length, take, drop, nat_le};
+ghost use Rattle.std.specs.List.{position, position_or_len};
+ghost use Rattle.mm_lex.specs.Alphabet.{is_white};
+ghost use Rattle.mm_lex.specs.Tokens.{IsClean};
+
+use std::simd::prelude::*;
+
+/// How many bytes are looked at together.
+const LANES: usize = 16;
+
+/// How many bytes a text without a bad byte begins with that are not white.
+pub(crate) fn count_visible(text: &[u8]) -> usize
+    requires { IsClean text.now }
+    ensures count { result ≡ position_or_len is_white text.now }
+    ensures within { result ≤ length text.now }
+{
+    let mut at = 0;
+    while text.len() - at >= LANES {
+        let count = count_in_lanes(&text[at..]);
+        at += count;
+        if count < LANES {
+            return at;
+        }
+    }
+    at + count_one_by_one(&text[at..])
+}
+
+/// How many of the first bytes come before one that is white: in a text without a bad byte, one up to the space.
+fn count_in_lanes(text: &[u8]) -> usize
+    requires room { 16 ≤ length text.now }
+    ensures count { result ≡ position_or_len (λ b. nat_le b 32) (take 16 text.now) }
+    ensures within { result ≤ 16 }
+{
+    let bytes = u8x16::from_slice(text);
+    let mask = bytes.simd_le(u8x16::splat(b' ')).to_bitmask();
+    if mask == 0 {
+        LANES
+    } else {
+        mask.trailing_zeros() as usize
+    }
+}
+
+fn count_one_by_one(text: &[u8]) -> usize
+    ensures count { result ≡ position_or_len is_white text.now }
+    ensures within { result ≤ length text.now }
+{
+    first_white(text).unwrap_or(text.len())
+}
+
+fn first_white(text: &[u8]) -> Option<usize>
+    ensures { result ≡ position is_white text.now }
+{
+    text.iter().position(|b| b.is_ascii_whitespace())
+}
