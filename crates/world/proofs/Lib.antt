@@ -1,4 +1,4 @@
-mod Lists
+pub mod Lists
 mod Ledger
 mod LedgerGrows
 mod LedgerSteps
@@ -9,13 +9,14 @@ mod LearnerSteps
 mod QuorumHeard
 mod ProposerSteps
 mod PromiseSteps
-mod EveryEvent
-mod TwoMoments
+pub mod EveryEvent
+pub mod TwoMoments
 mod OneValue
 mod LaterBallots
 mod ChosenAgree
 mod LogsAgree
 mod Offered
-mod KeptPartLemmas
+pub mod KeptPartLemmas
+mod HistoryLemmas
 mod Rows
-mod TakenLemmas
+pub mod TakenLemmas

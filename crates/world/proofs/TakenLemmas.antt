@@ -4,7 +4,7 @@ use Rattle.std.specs.List.{AllByRecursion}
 use Rattle.synod.specs.declared.packet.Packet.{Packet}
 use Rattle.synod.specs.declared.weights.TheConstants.{MOST_NODES}
 use Rattle.synod.specs.Weights.{IsWeights}
-use Rattle.std.specs.Prelude.{IsOk, is_ok}
+use Rattle.std.specs.Prelude.{IsOk, is_ok, IfErr, OnOk, IsOkAnd}
 use Rattle.std.specs.declared.alloc.AllocError.{AllocError}
 use Rattle.synod.specs.declared.packet.Body.{Body}
 use Rattle.synod.specs.Packets.{IsPost, packet, to_others_from}
@@ -18,10 +18,10 @@ use Rattle.world.specs.declared.event.Event.{Event}
 use Rattle.world.specs.declared.event.Event.TheVariants.{Offer, Begin, Deliver, Restart}
 use Rattle.world.specs.declared.event.TheConstants.{MOST_EVENTS}
 use Rattle.world.specs.declared.fault.StepFault.{StepFault}
-use Rattle.world.specs.declared.fault.StepFault.TheVariants.{EventsSpent, NoNode, NoPacket}
+use Rattle.world.specs.declared.fault.StepFault.TheVariants.{Memory, EventsSpent, NoNode, NoPacket}
 use Rattle.world.specs.World.{World, nodes_from, start, stepped, answered, at_node, delivered, happens_at, happens, all_happen, after, offers_of}
 use Rattle.world.specs.Agree.{IsAfter}
-use Rattle.world.specs.Taken.{Taken, nodes_of, AreOfWorld, world_of, with_event, Written, Writes, Answers, Takes, CountsOn, Steps}
+use Rattle.world.specs.Taken.{Taken, nodes_of, AreOfWorld, world_of, with_event, Written, Writes, Answers, Takes}
 use Rattle.world.proofs.EveryEvent.{IfTaken, if_taken, spent_or, node_at, holds_after}
 use Rattle.world.proofs.TwoMoments.{all_happen-append, world_lasts}
 
@@ -65,22 +65,22 @@ start_of_world {V} size weights are cores packets events new no_events no_packet
 
 -- The nodes of the cores.
 
-nodes_of-set : {V : Type 0} (cores : List (Core V)) (k : ℕ) (core : Core V) → nodes_of (set cores k core) ≡ set (nodes_of cores) k core.node
+pub nodes_of-set : {V : Type 0} (cores : List (Core V)) (k : ℕ) (core : Core V) → nodes_of (set cores k core) ≡ set (nodes_of cores) k core.node
 nodes_of-set [] k core = refl
 nodes_of-set (c ∷ cores) zero core = refl
 nodes_of-set (c ∷ cores) (suc k) core = ap (λ ns. c.node ∷ ns) (nodes_of-set cores k core)
 
-nodes_at : {V : Type 0} (cores : List (Core V)) (k : ℕ) (core : Core V) → k < length cores → core ≡ get_or cores k core → slice_get (nodes_of cores) k ≡ Some core.node
+pub nodes_at : {V : Type 0} (cores : List (Core V)) (k : ℕ) (core : Core V) → k < length cores → core ≡ get_or cores k core → slice_get (nodes_of cores) k ≡ Some core.node
 nodes_at [] k core low is = absurd (omega arith)
 nodes_at {V} (c ∷ cores) zero core low is = ap (λ (x : Core V). let o : Option (Node V) = Some x.node in o) (sym is)
 nodes_at (c ∷ cores) (suc k) core low is = nodes_at cores k core (le_of_suc-le-suc low) is
 
-nodes_past : {V : Type 0} (cores : List (Core V)) (k : ℕ) → length cores ≤ k → slice_get (nodes_of cores) k ≡ None
+pub nodes_past : {V : Type 0} (cores : List (Core V)) (k : ℕ) → length cores ≤ k → slice_get (nodes_of cores) k ≡ None
 nodes_past [] k past = refl
 nodes_past (c ∷ cores) zero past = absurd (omega arith)
 nodes_past (c ∷ cores) (suc k) past = nodes_past cores k (le_of_suc-le-suc past)
 
-set_same : {A : Type 0} (xs : List A) (k : ℕ) (x : A) → slice_get xs k ≡ Some x → set xs k x ≡ xs
+pub set_same : {A : Type 0} (xs : List A) (k : ℕ) (x : A) → slice_get xs k ≡ Some x → set xs k x ≡ xs
 set_same [] k x is = refl
 set_same {A} (y ∷ xs) zero x is = let same : y ≡ x = cc in ap (λ (z : A). z ∷ xs) (sym same)
 set_same (y ∷ xs) (suc k) x is = ap (λ zs. y ∷ zs) (set_same xs k x is)
@@ -297,28 +297,40 @@ module _ {V : Type 0} (size : V → ℕ) (old now : Taken V) (cores : List (Core
       (next_is size old cores packets h (subst (λ (t : Taken V). length t.events < MOST_EVENTS) (sym seen) low) (Deliver number))
       (ap (λ (o : Option (Packet V)). delivered h.world o) (ap (λ (ps : List (Packet V)). slice_get ps number) h.posted ∙ none_past packets number past)))
 
--- The answer of a step.
+-- The answer of an event, clause by clause.
 
-counts_of : {V : Type 0} (old new : Taken V) (e : Event V) (w : World V) (r : Result (World V) StepFault) (count : ℕ) → (new ≡ with_event old e → r ≡ Ok w) → Answers old new e r (Ok tt) → count ≡ length w.packets → CountsOn old new e r (Ok count)
-counts_of {V} old new e w (Ok x) count is answers counted = let same : x ≡ w = let d = is answers in cc in (answers, counted ∙ ap (λ (y : World V). length y.packets) (sym same))
-counts_of old new e w (Err fault) count is answers counted = elim answers [ ]
+module _ {V : Type 0} (old new : Taken V) (e : Event V) where
+  pub took : (r : Result (World V) StepFault) (done : Unit {0}) → Answers old new e r (Ok done) → new ≡ with_event old e
+  took (Ok w) done h = h
+  took (Err met) done h = elim h [ ]
 
-pub step_counts : {V : Type 0} (size : V → ℕ) (old new : Taken V) (cores : List (Core V)) (packets : List (Packet V)) (h : AreOfWorld size new cores packets) (e : Event V) (count : ℕ) → Takes size old new e (Ok tt) → count ≡ length packets → Steps size old new e (Ok count)
-step_counts {V} size old new cores packets h e count takes counted =
-    counts_of old new e h.world (world_of size (with_event old e)) count (λ d. ap (λ (t : Taken V). world_of size t) (sym d) ∙ h.is_after) takes (counted ∙ ap (λ (ps : List (Packet V)). length ps) (sym h.posted))
+  pub none_met : (r : Result (World V) StepFault) (done : Unit {0}) (P : StepFault → Type 0) → Answers old new e r (Ok done) → IfErr r P
+  none_met (Ok w) done P h = tt
+  none_met (Err met) done P h = elim h [ ]
 
-counts_fault : {V : Type 0} (old new : Taken V) (e : Event V) (r : Result (World V) StepFault) (fault : StepFault) → Answers old new e r (Err fault) → CountsOn old new e r (Err fault)
-counts_fault old new e (Ok w) fault h = h
-counts_fault old new e (Err met) fault h = h
+  pub fault_is_met : (r : Result (World V) StepFault) (fault : StepFault) → Answers old new e r (Err fault) → IfErr r (λ met. fault ≡ met)
+  fault_is_met (Ok w) fault h = tt
+  fault_is_met (Err met) fault h = h.0
 
-pub step_faults : {V : Type 0} (size : V → ℕ) (old new : Taken V) (e : Event V) (fault : StepFault) → Takes size old new e (Err fault) → Steps size old new e (Err fault)
-step_faults size old new e fault h = counts_fault old new e (world_of size (with_event old e)) fault h
+  pub memory_unmet : (r : Result (World V) StepFault) (fault : StepFault) → Answers old new e r (Err fault) → OnOk r (fault ≡ Memory)
+  memory_unmet (Ok w) fault h = h.0
+  memory_unmet (Err met) fault h = tt
 
-pub step_spent : {V : Type 0} (size : V → ℕ) (old now : Taken V) (cores : List (Core V)) (packets : List (Packet V)) → AreOfWorld size old cores packets → old ≡ now → (e : Event V) → length old.events ≡ MOST_EVENTS → Steps size now now e (Err EventsSpent)
-step_spent {V} size old now cores packets h seen e spent =
+  pub stays_old : (r : Result (World V) StepFault) (fault : StepFault) → Answers old new e r (Err fault) → new ≡ old
+  stays_old (Ok w) fault h = h.1
+  stays_old (Err met) fault h = h.1
+
+-- the packets of the world after the events
+pub packets_counted : {V : Type 0} (size : V → ℕ) (old now : Taken V) (cores : List (Core V)) (packets : List (Packet V)) (h : AreOfWorld size old cores packets) → old ≡ now → (count : ℕ) → count ≡ length packets → IsOkAnd (world_of size now) (λ w. count ≡ length w.packets)
+packets_counted {V} size old now cores packets h seen count counted =
+    subst (λ (t : Taken V). IsOkAnd (world_of size t) (λ w. count ≡ length w.packets)) seen
+    (subst (λ (r : Result (World V) StepFault). IsOkAnd r (λ w. count ≡ length w.packets)) (sym h.is_after) (counted ∙ ap (λ (ps : List (Packet V)). length ps) (sym h.posted)))
+
+-- with no event left, each event meets EventsSpent
+pub spent_met : {V : Type 0} (size : V → ℕ) (old now : Taken V) (cores : List (Core V)) (packets : List (Packet V)) → AreOfWorld size old cores packets → old ≡ now → (e : Event V) → length old.events ≡ MOST_EVENTS → world_of size (with_event now e) ≡ Err EventsSpent
+spent_met {V} size old now cores packets h seen e spent =
     let count = taken_count size old.weights old.events h.world h.is_after in
-    let meets : world_of size (with_event old e) ≡ Err EventsSpent = after-push size old.weights old.events h.world e h.is_after ∙ happens-spent size h.world e (count ∙ spent) in
-    subst (λ (t : Taken V). Steps size t t e (Err EventsSpent)) seen (subst (λ (r : Result (World V) StepFault). CountsOn old old e r (Err EventsSpent)) (sym meets) (refl, refl))
+    subst (λ (t : Taken V). world_of size (with_event t e) ≡ Err EventsSpent) seen (after-push size old.weights old.events h.world e h.is_after ∙ happens-spent size h.world e (count ∙ spent))
 
 -- A run has no more events than it may have.
 

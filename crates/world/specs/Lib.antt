@@ -4,3 +4,4 @@ pub mod Agree
 pub mod KeptPart
 pub mod Laws
 pub mod Taken
+pub mod History

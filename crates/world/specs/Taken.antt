@@ -66,13 +66,3 @@ Answers old new e (Err met) (Ok done) = ⊥
 
 abbrev pub Takes : {V : Type 0} → (V → ℕ) → Taken V → Taken V → Event V → Result (Unit {0}) StepFault → Type 0
 Takes size old new e result = Answers old new e (world_of size (with_event old e)) result
-
--- the event is taken, and the count of packets so far is answered; or its fault, or Memory where it meets none, and all is as before
-abbrev pub CountsOn : {V : Type 0} → Taken V → Taken V → Event V → Result (World V) StepFault → Result ℕ StepFault → Type 0
-CountsOn old new e (Ok w) (Ok count) = (new ≡ with_event old e) × (count ≡ length w.packets)
-CountsOn old new e (Ok w) (Err fault) = (fault ≡ Memory) × (new ≡ old)
-CountsOn old new e (Err met) (Err fault) = (fault ≡ met) × (new ≡ old)
-CountsOn old new e (Err met) (Ok count) = ⊥
-
-abbrev pub Steps : {V : Type 0} → (V → ℕ) → Taken V → Taken V → Event V → Result ℕ StepFault → Type 0
-Steps size old new e result = CountsOn old new e (world_of size (with_event old e)) result

@@ -9,12 +9,14 @@
 mod event;
 mod fault;
 mod laws;
+mod replay;
 mod world;
 mod writes;
 
 pub use event::{Event, MOST_EVENTS};
 pub use fault::StepFault;
 pub use laws::{agreement, kept_part};
+pub use replay::run;
 pub use world::World;
 
 #[cfg(test)]

@@ -22,43 +22,27 @@ impl Value for Number {
 
 #[test]
 fn a_gap_in_the_log_is_asked_for_and_filled(rt: HostRuntime) -> Result<(), Fail> {
-    let mut world = World::new(rt.alloc(), Weights::equal(3))?;
-    assert_eq!(rt; world.step(Event::Begin(0))?, 3);
-    for (number, want) in [(0, 4), (1, 5), (3, 5), (4, 5)] {
-        assert_eq!(rt;
-            world.step(Event::Deliver(number))?,
-            want,
-            "deliver {number}"
-        );
+    let alloc = rt.alloc();
+    let mut events = Vec::new(alloc);
+    events.push(Event::Begin(0))?;
+    for number in [0, 1, 3, 4] {
+        events.push(Event::Deliver(number))?;
     }
-    assert_eq!(rt; world.step(Event::Offer(0, Number(71)))?, 8);
-    assert_eq!(rt; world.step(Event::Offer(0, Number(72)))?, 11);
-    for (number, want) in [
-        (5, 14),
-        (6, 17),
-        (8, 20),
-        (9, 23),
-        (11, 23),
-        (14, 23),
-        (19, 23),
-        (22, 25),
-    ] {
-        assert_eq!(rt;
-            world.step(Event::Deliver(number))?,
-            want,
-            "deliver {number}"
-        );
+    events.push(Event::Offer(0, Number(71)))?;
+    events.push(Event::Offer(0, Number(72)))?;
+    for number in [5, 6, 8, 9, 11, 14, 19, 22] {
+        events.push(Event::Deliver(number))?;
     }
-    assert_eq!(rt; world.log(2)?.len(), 0);
-    for (number, want) in [(23, 26), (25, 27)] {
-        assert_eq!(rt;
-            world.step(Event::Deliver(number))?,
-            want,
-            "deliver {number}"
-        );
+    let ran = run(alloc, Weights::equal(3), events);
+    assert!(rt; ran.is_ok(), "each event is taken");
+    if let Ok(mut world) = ran {
+        assert_eq!(rt; world.history().len(), 15);
+        assert_eq!(rt; world.log(2)?.len(), 0);
+        assert_eq!(rt; world.step(Event::Deliver(23))?, 26);
+        assert_eq!(rt; world.step(Event::Deliver(25))?, 27);
+        assert_eq!(rt; world.log(2)?.len(), 2);
+        assert_eq!(rt; world.packet(26)?.to, 0);
     }
-    assert_eq!(rt; world.log(2)?.len(), 2);
-    assert_eq!(rt; world.packet(26)?.to, 0);
     Ok(())
 }
 

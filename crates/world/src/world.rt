@@ -34,10 +34,11 @@ impl<V: Value> Model for World<V> {
 
 impl<V: Value> World<V> {
     ghost use Rattle.std.specs.Prelude.{slice_get};
-    ghost use Rattle.world.specs.Taken.{Taken, Takes, Steps, world_of};
-    ghost use Rattle.std.specs.Prelude.{IsSome};
+    ghost use Rattle.std.specs.Prelude.{IsSome, IfErr, IsOkAnd};
     ghost use Rattle.std.specs.Result.{ForOk};
-    ghost use Rattle.world.specs.World.{nodes_from, log};
+    ghost use Rattle.world.specs.World.{log};
+    ghost use Rattle.world.specs.Taken.{Taken, Takes, world_of, with_event};
+    ghost use Rattle.world.specs.History.{Agreement};
     ghost use Rattle.world.specs.declared.fault.StepFault.TheVariants.{NoNode, NoPacket, Memory};
 
     /// The world of new nodes.
@@ -116,9 +117,15 @@ impl<V: Value> World<V> {
 
     /// Takes an event, and answers how many packets were posted so far.
     ///
-    /// A refusal is the first that the event meets, or `Memory` where it meets none; the world is then as before.
+    /// Errors: the first fault that the event meets, or `Memory` where it meets none; the world is then as before.
     pub fn step(&mut self, event: Event<V>) -> Result<u64, StepFault>
-        ensures { Steps V.bytes self.old self.new event result }
+        ensures taken { OnOk result (self.new ≡ with_event self.old event) }
+        ensures posted { IfOk result (λ count. IsOkAnd (world_of V.bytes self.new) (λ world. count ≡ length world.packets)) }
+
+        // A fault is answered however little memory there is.
+        ensures refused { IfErr (world_of V.bytes (with_event self.old event)) (λ fault. result ≡ Err fault) }
+        ensures only_memory { OnOk (world_of V.bytes (with_event self.old event)) (IsOkUnless result Memory) }
+        ensures same { OnErr result (self.new ≡ self.old) }
     {
         if self.events.len() as u64 == MOST_EVENTS {
             return Err(StepFault::EventsSpent);
@@ -127,14 +134,20 @@ impl<V: Value> World<V> {
         Ok(self.packets.len() as u64)
     }
 
+    /// The events that it took, first in first. None of them meets a fault, and what agreement says holds at all their moments.
+    pub fn history(&self) -> &[Event<V>]
+        ensures events { result.now ≡ self.now.events }
+        ensures few { length self.now.events ≤ MOST_EVENTS }
+        ensures agreement { Agreement V.bytes self.now }
+    {
+        &self.events
+    }
+
     /// The log of node `k`: what it learned, up to its first gap.
-    ///
-    /// The events that a world took are taken, so what `agreement` says holds of its logs.
     pub fn log(&self, k: u8) -> Result<Vec<Option<V>>, StepFault>
         ensures log { ForOk (world_of V.bytes self.now) (λ world. IfOk result (λ entries. entries.items ≡ log world k)) }
         ensures no_node { ForOk (world_of V.bytes self.now) (λ world. slice_get world.nodes k ≡ None → result ≡ Err NoNode) }
         ensures only_memory { ForOk (world_of V.bytes self.now) (λ world. IsSome (slice_get world.nodes k) → IsOkUnless result Memory) }
-        ensures taken { IsOk (world_of V.bytes self.now) }
     {
         match self.nodes.get(k as usize) {
             Some(node) => Ok(node.log()?),

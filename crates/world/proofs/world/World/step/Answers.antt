@@ -1,6 +1,10 @@
-use Rattle.std.proofs.Common.{length, ap, arith}
+use Rattle.std.proofs.Common.{◌≡◌, ℕ, Err, length, ap, refl, sym, subst, arith}
+use Rattle.std.specs.Prelude.{Result, IfErr, OnOk}
+use Rattle.world.specs.declared.fault.StepFault.{StepFault}
+use Rattle.world.specs.declared.fault.StepFault.TheVariants.{EventsSpent, Memory}
+use Rattle.world.specs.World.{World}
 use Rattle.world.specs.Taken.{Taken}
-use Rattle.world.proofs.TakenLemmas.{events_within, step_spent}
+use Rattle.world.proofs.TakenLemmas.{events_within, spent_met}
 use Rattle.world.proofs.world.World.step.Goals as goal
 
 pub take-requires : goal.take-requires
@@ -9,5 +13,12 @@ take-requires g c =
     let count = ap (λ (t : Taken g.row.V.Denot). length t.events) c.self.view_is in
     omega (arith, low, count, c.len.ensures, c.if-len-eq-MOST_EVENTS.false)
 
-pub returns-then-len-eq-MOST_EVENTS : goal.returns-then-len-eq-MOST_EVENTS
-returns-then-len-eq-MOST_EVENTS g c = step_spent g.V.Value.bytes _ _ _ _ c.self.invariant c.self.view_is c.args.event (omega (arith, c.len.ensures, c.if-len-eq-MOST_EVENTS.true))
+pub returns-then-len-eq-MOST_EVENTS-clause-refused : goal.returns-then-len-eq-MOST_EVENTS-clause-refused
+returns-then-len-eq-MOST_EVENTS-clause-refused g c =
+    let met = spent_met g.V.Value.bytes _ _ _ _ c.self.invariant c.self.view_is c.args.event (omega (arith, c.len.ensures, c.if-len-eq-MOST_EVENTS.true)) in
+    subst (λ (r : Result (World g.row.V.Denot) StepFault). IfErr r (λ fault. let answered : Result ℕ StepFault = Err EventsSpent in answered ≡ Err fault)) (sym met) refl
+
+pub returns-then-len-eq-MOST_EVENTS-clause-only_memory : goal.returns-then-len-eq-MOST_EVENTS-clause-only_memory
+returns-then-len-eq-MOST_EVENTS-clause-only_memory g c =
+    let met = spent_met g.V.Value.bytes _ _ _ _ c.self.invariant c.self.view_is c.args.event (omega (arith, c.len.ensures, c.if-len-eq-MOST_EVENTS.true)) in
+    subst (λ (r : Result (World g.row.V.Denot) StepFault). OnOk r (EventsSpent ≡ Memory)) (sym met) tt
