@@ -15,7 +15,7 @@ use Rattle.frame.specs.declared.storage.Assertion.{Assertion}
 use Rattle.frame.specs.declared.storage.Kind.{Kind}
 use Rattle.frame.specs.declared.storage.Kind.TheVariants.{Open, Close, Const, Var, Disj, Float, Ess, Axiom, Prove}
 use Rattle.frame.specs.declared.storage.Entry.{Entry}
-use Rattle.frame.specs.Stored.{stmt_by, stmt_of, AreHypotheses, ArePatterns, AreParts, IsKeptAs, is_hypothesis_entry, variable_at, option_variable, symbols_at, option_symbols, groups_by, templated, template_number, place_of, place_from, is_code, is_float_kind, own_template, option_template, template_at, AreNumbered, collected}
+use Rattle.frame.specs.Stored.{stmt_by, stmt_of, AreHypotheses, ArePatterns, IsPatternOf, AreParts, IsKeptAs, is_hypothesis_entry, variable_at, option_variable, symbols_at, option_symbols, groups_by, templated, template_number, place_of, place_from, is_code, is_float_kind, own_template, option_template, template_at, AreNumbered, collected}
 
 pub get-entry : (names labels : List Name) (es : List Entry) (i : ℕ) (s : Stmt) → slice_get (map (stmt_of names labels) es) i ≡ Some s → (e : Entry) × (slice_get es i ≡ Some e) × (stmt_of names labels e ≡ s)
 get-entry names labels [] i s h = cc
@@ -210,6 +210,38 @@ kept-more names labels es more S s e d h k =
       few = k.few;
       templates_kept = k.templates_kept ∙ (templates-grow es more vs vs d.templates.items d.hypotheses.items d.patterns.items k.patterns_kept
           ∙ ap (λ v. flat_map (template_at (es ++ more) v) d.hypotheses.items) same);
+    }
+
+-- ---- less behind it
+
+patterns-shrink : (es more : List Entry) (vs : List (Option ℕ)) (t : List ℕ) (ps : List ℕ) (qs : List Pattern) → AreHypotheses es ps → ArePatterns (es ++ more) vs t ps qs → ArePatterns es vs t ps qs
+patterns-shrink es more vs t [] [] there h = tt
+patterns-shrink es more vs t [] (q ∷ qs) there h = absurd h
+patterns-shrink es more vs t (p ∷ ps) [] there h = absurd h
+patterns-shrink es more vs t (p ∷ ps) (q ∷ qs) there h =
+    let e = there.0.0 in
+    let same : Some h.0.0 ≡ Some e = sym h.0.1 ∙ get-more es more (p - 1) e there.0.2 in
+    let is : h.0.0 ≡ e = cc in
+    ((e, there.0.2, subst (λ d. IsPatternOf vs t d q) is h.0.2), patterns-shrink es more vs t ps qs there.1 h.1)
+
+pub kept-less : (names labels : List Name) (es more : List Entry) (s : Stmt) (e : Entry) (d : Assertion) → IsKeptAs (es ++ more) (map (stmt_of names labels) es) s e d → IsKeptAs es (map (stmt_of names labels) es) s e d
+kept-less names labels es more s e d k =
+    let S = map (stmt_of names labels) es in
+    let ps = d.hypotheses.items in
+    let vs = map (variable_at (es ++ more)) ps in
+    let there = subst (AreHypotheses es) (sym k.hypotheses_kept) (hypotheses-are names labels es s) in
+    let found = patterns-shrink es more vs d.templates.items ps d.patterns.items there k.patterns_kept in
+    let same : vs ≡ map (variable_at es) ps = sym (variables-grow es more vs d.templates.items ps d.patterns.items found) in
+    let stand : (k : ℕ) (t : Stmt) → slice_get S k ≡ Some t → (x : Entry) × (slice_get es k ≡ Some x) = λ k t g. let x = get-entry names labels es k t g in (x.0, x.1) in
+    record {
+      hypotheses_kept = k.hypotheses_kept;
+      patterns_kept = subst (λ v. ArePatterns es v d.templates.items ps d.patterns.items) same found;
+      conclusion_kept = k.conclusion_kept ∙ ap (λ v. templated v e.symbols.items) same;
+      groups_kept = k.groups_kept ∙ (ap (λ v. groups_by v (map (λ q. symbols_at (es ++ more) q.0) (actives is_disj S))) same
+          ∙ ap (groups_by (map (variable_at es) ps)) (sym (symbols-grow names labels es more S stand)));
+      few = k.few;
+      templates_kept = k.templates_kept ∙ (ap (λ v. flat_map (template_at (es ++ more) v) ps) same
+          ∙ sym (templates-grow es more vs (map (variable_at es) ps) d.templates.items ps d.patterns.items found));
     }
 
 -- what was made of the symbols of e is what e is kept as

@@ -12,11 +12,11 @@ below-at n [] k h l = absurd (omega (arith, l))
 below-at n (c ∷ codes) zero h l = h.0
 below-at n (c ∷ codes) (suc k) h l = below-at n codes k h.1 (omega (arith, l))
 
-or-true : (a : Bool) → (a || true) ≡ true
+pub or-true : (a : Bool) → (a || true) ≡ true
 or-true true = refl
 or-true false = refl
 
-or-false : (a : Bool) → (a || false) ≡ a
+pub or-false : (a : Bool) → (a || false) ≡ a
 or-false true = refl
 or-false false = refl
 

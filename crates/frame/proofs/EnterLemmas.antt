@@ -42,11 +42,11 @@ pub record AreFirst (old mid : Stock) (words : Expr) (codes : List ℕ) : Type 0
 pub entered-labelled : (old mid new : Stock) (kind : Kind) (label : Name) (words : Expr) (codes : List ℕ) (s : Stmt) (o : Option (Box Assertion)) (r : Result Entry AllocError)
     → AreFirst old mid words codes → HasTwo kind codes → stmt_by kind label words ≡ s → label_of s ≡ Some label
     → new.names ≡ mid.names → OnOk r (new.labels ≡ mid.labels ++ label ∷ []) → OnOk r (new.positions.items ≡ mid.positions.items ++ (length mid.entries.items + 1) ∷ [])
-    → IfOk r (λ e. e.label ≡ length mid.labels) → IfOk r (λ e. e.kind ≡ kind) → IfOk r (λ e. e.links ≡ mid.links) → IfOk r (λ e. e.symbols.items ≡ codes)
+    → IfOk r (λ e. e.label ≡ length mid.labels) → (n : ℕ) → n ≡ length old.names → IfOk r (λ e. e.names ≡ n) → IfOk r (λ e. e.kind ≡ kind) → IfOk r (λ e. e.links ≡ mid.links) → IfOk r (λ e. e.symbols.items ≡ codes)
     → ((e : Entry) → e.kind ≡ kind → e.symbols.items ≡ codes → e.assertion ≡ o → is_assertion_kind e.kind ≡ true → IsKept old.entries.items (statements_of old) s e e.assertion) → IfOk r (λ e. e.assertion ≡ o)
     → IfOk r (Entered old new s)
-entered-labelled old mid new kind label words codes s o (Err x) f two is has names labels positions number k l v kept same = tt
-entered-labelled old mid new kind label words codes s o (Ok e) f two is has names labels positions number k l v kept same =
+entered-labelled old mid new kind label words codes s o (Err x) f two is has names labels positions number n start before k l v kept same = tt
+entered-labelled old mid new kind label words codes s o (Ok e) f two is has names labels positions number n start before k l v kept same =
     let place : name_at new.labels e.label ≡ label = ap (name_at new.labels) number ∙ (ap (λ r. name_at r (length mid.labels)) labels ∙ name_at-last mid.labels label) in
     let stand : decode new.names e.symbols.items ≡ words = ap (λ r. decode r e.symbols.items) names ∙ (ap (decode mid.names) v ∙ f.stand) in
     let more : length new.labels ≡ length mid.labels + 1 = ap length labels ∙ length-append mid.labels (label ∷ []) in
@@ -55,6 +55,8 @@ entered-labelled old mid new kind label words codes s o (Ok e) f two is has name
           ∙ (ap (λ x. stmt_by kind x (decode new.names e.symbols.items)) place ∙ (ap (stmt_by kind label) stand ∙ is));
       symbols = subst (λ q. AreBelow (length q) e.symbols.items) (sym names) (subst (AreBelow (length mid.names)) (sym v) f.below);
       label = subst (λ q. IsLabelBelow q e.label (length new.labels)) (sym k) (label-below kind e.label (length new.labels) (omega (arith, number, more)));
+      names_before = before ∙ start;
+      labels_before = number ∙ ap length f.labels;
       two = subst (λ q. HasTwo q e.symbols.items) (sym k) (subst (HasTwo kind) (sym v) two);
       labels = labels ∙ (ap (λ q. q ++ label ∷ []) f.labels ∙ sym (ap (λ o. old.labels ++ option_list o []) has));
       positions = positions ∙ (ap (λ q. q ++ (length mid.entries.items + 1) ∷ []) f.positions

@@ -4,8 +4,10 @@ pub mod OpenLemmas
 pub mod LinksLemmas
 pub mod AfterLemmas
 pub mod DeclareLemmas
+pub mod UndoLemmas
 pub mod EnterLemmas
 pub mod StoredLemmas
+pub mod CutLemmas
 pub mod CollectLemmas
 pub mod PairsLemmas
 pub mod MakeLemmas

@@ -23,9 +23,10 @@ use Rattle.frame.specs.declared.storage.Entry.{Entry}
 use Rattle.frame.specs.declared.storage.Symbol.{Symbol}
 use Rattle.frame.specs.declared.storage.Stock.{Stock}
 use Rattle.frame.specs.Links.{links_of}
-use Rattle.frame.specs.Stored.{stmt_by, stmt_of, labels_of, positions_from, option_list, option_position, AreAllLegal, IsLabelBelow, HasTwo, AreNumbered, AreKept, Extends, AreZero, AreZeroBehind, zero_symbol, symbol_of, with_entry, floats, declares, second_is, is_float_kind, is_var_kind, last_from, IsFresh, is_assertion_kind, IsKept, AreStored, IsBehind, statements_of, numbered}
+use Rattle.frame.specs.Stored.{stmt_by, stmt_of, labels_of, positions_from, option_list, option_position, AreAllLegal, IsLabelBelow, HasTwo, AreNumbered, AreKept, Extends, AreZero, AreZeroBehind, zero_symbol, symbol_of, ReadsAs, with_entry, floats, declares, second_is, is_float_kind, is_var_kind, last_from, IsFresh, is_assertion_kind, IsKept, KeepsCounts, replaced_by, replaced_of, AreStored, IsBehind, statements_of, numbered}
 use Rattle.frame.proofs.NumberLemmas.{decode-extends, name_at-extends, below-more, extends-length, take-extends}
 use Rattle.frame.proofs.DeclareLemmas.{symbol_of-push}
+use Rattle.frame.proofs.UndoLemmas.{replaced_of-push}
 use Rattle.frame.proofs.OpenLemmas.{stays_open-push, stays_open-close}
 use Rattle.frame.proofs.LegalLabels.{fresh}
 use Rattle.frame.proofs.AssertionLemmas.{get-entry, kept-more}
@@ -209,14 +210,14 @@ get-front [] more c x h = cc
 get-front (y ∷ old) more zero x h = h
 get-front (y ∷ old) more (suc c) x h = get-front old more c x h
 
-get-less : (i : ℕ) (S : Database) (k : ℕ) (s : Stmt) → slice_get (take i S) k ≡ Some s → slice_get S k ≡ Some s
+pub get-less : (i : ℕ) (S : Database) (k : ℕ) (s : Stmt) → slice_get (take i S) k ≡ Some s → slice_get S k ≡ Some s
 get-less zero [] k s g = g
 get-less zero (t ∷ S) k s g = cc
 get-less (suc i) [] k s g = g
 get-less (suc i) (t ∷ S) zero s g = g
 get-less (suc i) (t ∷ S) (suc k) s g = get-less i S k s g
 
-label-at : (n m : ℕ) (es : List Entry) → AreNumbered n m es → (k : ℕ) (e : Entry) → slice_get es k ≡ Some e → IsLabelBelow e.kind e.label m
+pub label-at : (n m : ℕ) (es : List Entry) → AreNumbered n m es → (k : ℕ) (e : Entry) → slice_get es k ≡ Some e → IsLabelBelow e.kind e.label m
 label-at n m [] h k e g = cc
 label-at n m (d ∷ es) h zero e g = let same : d ≡ e = cc in subst (λ x. IsLabelBelow x.kind x.label m) same h.1
 label-at n m (d ∷ es) h (suc k) e g = label-at n m es h.2 k e g
@@ -226,11 +227,25 @@ is-kept-more : (names labels : List Name) (es more : List Entry) (S : Database) 
 is-kept-more names labels es more S s e None h k = absurd k
 is-kept-more names labels es more S s e (Some b) h k = kept-more names labels es more S s e b.value h k
 
+-- the symbols and more that nothing declares read as before
+pub still-reads : (names labels : List Name) (positions : List ℕ) (symbols : List Symbol) (replaced : List ℕ) (entries : List Entry) (links : Links) (between : List Symbol)
+    → AreKept names labels positions symbols replaced entries links → AreZeroBehind symbols between → ReadsAs between (symbol_of entries)
+still-reads names labels positions symbols replaced entries links between k z c lt = by (cases_lt c (length names))
+  where
+    by : (c < length names) ⊎ (length names ≤ c) → slice_get between c ≡ Some (symbol_of entries c)
+    by (inl l) = ap (λ r. slice_get r c) z.1 ∙ get-front symbols z.0 c (symbol_of entries c) (k.symbols_kept c l)
+    by (inr ge) =
+        let size : length between ≡ length (symbols ++ z.0) = ap length z.1 in
+        let a = k.count in
+        ap (λ r. slice_get r c) z.1
+        ∙ (get-zero symbols z.0 c z.2 (omega (arith, a, ge)) (omega (arith, size, lt))
+        ∙ ap Some (sym (symbol_of-above (length names) (length labels) entries c k.coded ge)))
+
 -- ---- one more statement
 
 -- what was done to the parts
-pub record IsPushed (names labels : List Name) (positions : List ℕ) (symbols : List Symbol) (entries : List Entry) (links : Links)
-    (names' labels' : List Name) (positions' : List ℕ) (between symbols' : List Symbol) (entries' : List Entry) (links' : Links) (s : Stmt) (e : Entry) : Type 0 where
+pub record IsPushed (names labels : List Name) (positions : List ℕ) (symbols : List Symbol) (replaced : List ℕ) (entries : List Entry) (links : Links)
+    (names' labels' : List Name) (positions' : List ℕ) (between symbols' : List Symbol) (replaced' : List ℕ) (entries' : List Entry) (links' : Links) (s : Stmt) (e : Entry) : Type 0 where
   pub names_more : Extends names names'
   pub symbols_more : AreZeroBehind symbols between
   pub noted : (c : ℕ) (x : Symbol) → slice_get between c ≡ Some x → slice_get symbols' c ≡ Some (with_entry e (length entries + 1) c x)
@@ -240,6 +255,9 @@ pub record IsPushed (names labels : List Name) (positions : List ℕ) (symbols :
   pub stands : stmt_of names' labels' e ≡ s
   pub below : AreBelow (length names') e.symbols.items
   pub label : IsLabelBelow e.kind e.label (length labels')
+  pub names_before : e.names ≡ length names
+  pub labels_before : e.label ≡ length labels
+  pub replaced_more : replaced' ≡ replaced ++ replaced_by (symbol_of entries) e.kind e.symbols.items
   pub two : HasTwo e.kind e.symbols.items
   pub labels_more : labels' ≡ labels ++ option_list (label_of s) []
   pub positions_more : positions' ≡ positions ++ option_position (label_of s) (length entries + 1) []
@@ -249,10 +267,10 @@ pub record IsPushed (names labels : List Name) (positions : List ℕ) (symbols :
   pub kept : is_assertion_kind e.kind ≡ true → IsKept entries (map (stmt_of names labels) entries) s e e.assertion
   pub links_next : links' ≡ links_of (map (stmt_of names labels) entries ++ s ∷ [])
 
-module _ (names labels : List Name) (positions : List ℕ) (symbols : List Symbol) (entries : List Entry) (links : Links)
-    (names' labels' : List Name) (positions' : List ℕ) (between symbols' : List Symbol) (entries' : List Entry) (links' : Links) (s : Stmt) (e : Entry)
-    (k : AreKept names labels positions symbols entries links)
-    (p : IsPushed names labels positions symbols entries links names' labels' positions' between symbols' entries' links' s e) where
+module _ (names labels : List Name) (positions : List ℕ) (symbols : List Symbol) (replaced : List ℕ) (entries : List Entry) (links : Links)
+    (names' labels' : List Name) (positions' : List ℕ) (between symbols' : List Symbol) (replaced' : List ℕ) (entries' : List Entry) (links' : Links) (s : Stmt) (e : Entry)
+    (k : AreKept names labels positions symbols replaced entries links)
+    (p : IsPushed names labels positions symbols replaced entries links names' labels' positions' between symbols' replaced' entries' links' s e) where
   labels-extend : Extends labels labels'
   labels-extend = (option_list (label_of s) [], p.labels_more)
 
@@ -278,17 +296,9 @@ module _ (names labels : List Name) (positions : List ℕ) (symbols : List Symbo
 
   symbols'' : (c : ℕ) → c < length names' → slice_get symbols' c ≡ Some (symbol_of entries' c)
   symbols'' c lt =
-      p.noted c (symbol_of entries c) (here (cases_lt c (length names)))
+      let n = p.count in
+      p.noted c (symbol_of entries c) (still-reads names labels positions symbols replaced entries links between k p.symbols_more c (omega (arith, lt, n)))
       ∙ ap Some (ap (λ n. with_entry e n c (symbol_of entries c)) (omega arith) ∙ (sym (symbol_of-push entries e c) ∙ ap (λ r. symbol_of r c) (sym p.entries_more)))
-    where
-      here : (c < length names) ⊎ (length names ≤ c) → slice_get between c ≡ Some (symbol_of entries c)
-      here (inl l) = ap (λ r. slice_get r c) p.symbols_more.1 ∙ get-front symbols p.symbols_more.0 c (symbol_of entries c) (k.symbols_kept c l)
-      here (inr ge) =
-          let size : length between ≡ length (symbols ++ p.symbols_more.0) = ap length p.symbols_more.1 in
-          let a = k.count in let b = p.count in
-          ap (λ r. slice_get r c) p.symbols_more.1
-          ∙ (get-zero symbols p.symbols_more.0 c p.symbols_more.2 (omega (arith, a, ge)) (omega (arith, size, b, lt))
-          ∙ ap Some (sym (symbol_of-above (length names) (length labels) entries c k.coded ge)))
 
   assertions' : (i : ℕ) (d : Entry) → slice_get entries' i ≡ Some d → is_assertion_kind d.kind ≡ true → IsKept entries' (take i (map (stmt_of names' labels') entries')) (stmt_of names' labels' d) d d.assertion
   assertions' i d h a = by (get-push entries e d i (ap (λ r. slice_get r i) (sym p.entries_more) ∙ h))
@@ -318,7 +328,52 @@ module _ (names labels : List Name) (positions : List ℕ) (symbols : List Symbo
           (subst (λ t. IsKept (entries ++ e ∷ []) (map (stmt_of names labels) entries) t e e.assertion) (sym p.stands)
           (is-kept-more names labels entries (e ∷ []) (map (stmt_of names labels) entries) s e e.assertion whole (p.kept (ap (λ w. is_assertion_kind w.kind) q.1 ∙ a))))))
 
-  pub kept-pushed : AreKept names' labels' positions' symbols' entries' links'
+  front-before : (i : ℕ) → i < length entries → take i entries' ≡ take i entries
+  front-before i lt = ap (take i) p.entries_more ∙ take-append-le i entries (e ∷ []) (omega (arith, lt))
+
+  whole-before : take (length entries) entries' ≡ entries
+  whole-before = ap (take (length entries)) p.entries_more ∙ take-whole entries e
+
+  counts' : (i : ℕ) (d : Entry) → slice_get entries' i ≡ Some d → KeepsCounts names' labels' entries' i d
+  counts' i d h = by (get-push entries e d i (ap (λ r. slice_get r i) (sym p.entries_more) ∙ h))
+    where
+      more : length names ≤ length names'
+      more = extends-length names names' p.names_more
+
+      -- an entry before the end of the old ones is one of them
+      old : (j : ℕ) (x : Entry) → j < length entries → slice_get entries' j ≡ Some x → slice_get entries j ≡ Some x
+      old j x lt g = stay (get-push entries e x j (ap (λ r. slice_get r j) (sym p.entries_more) ∙ g))
+        where
+          stay : ((j < length entries) × (slice_get entries j ≡ Some x)) ⊎ ((j ≡ length entries) × (e ≡ x)) → slice_get entries j ≡ Some x
+          stay (inl q) = q.1
+          stay (inr q) = absurd (omega (arith, q.0, lt))
+
+      by : ((i < length entries) × (slice_get entries i ≡ Some d)) ⊎ ((i ≡ length entries) × (e ≡ d)) → KeepsCounts names' labels' entries' i d
+      by (inl q) =
+          let c = k.counts_kept i d q.1 in
+          let w = c.within in
+          let here : take i (map (stmt_of names' labels') entries') ≡ take i (map (stmt_of names labels) entries) =
+          ap (take i) pushed-statements ∙ take-append-le i (map (stmt_of names labels) entries) (s ∷ []) (omega (arith, q.0, len)) in
+          record {
+            within = omega (arith, w, more);
+            rising = λ j x lt g. c.rising j x lt (old j x (omega (arith, lt, q.0)) g);
+            numbered = subst (AreNumbered d.names d.label) (sym (front-before i q.0)) c.numbered;
+            label_count = c.label_count ∙ ap (λ S. length (labels_of S)) (sym here);
+          }
+      by (inr q) =
+          let here : take i (map (stmt_of names' labels') entries') ≡ map (stmt_of names labels) entries =
+          ap (take i) pushed-statements ∙ (ap (λ n. take n (map (stmt_of names labels) entries ++ s ∷ [])) (q.0 ∙ sym len) ∙ take-whole (map (stmt_of names labels) entries) s) in
+          let n : d.names ≡ length names = ap (λ w. w.names) (sym q.1) ∙ p.names_before in
+          let m : d.label ≡ length labels = ap (λ w. w.label) (sym q.1) ∙ p.labels_before in
+          record {
+            within = omega (arith, n, more);
+            rising = λ j x lt g. let w = (k.counts_kept j x (old j x (omega (arith, lt, q.0)) g)).within in omega (arith, w, n);
+            numbered = subst (AreNumbered d.names d.label) (sym (ap (λ a. take a entries') q.0 ∙ whole-before))
+                (subst (λ a. AreNumbered a d.label entries) (sym n) (subst (λ a. AreNumbered (length names) a entries) (sym m) k.coded));
+            label_count = m ∙ ap length (k.labels_kept ∙ ap labels_of (sym here));
+          }
+
+  pub kept-pushed : AreKept names' labels' positions' symbols' replaced' entries' links'
   kept-pushed = record {
     last = p.links_next ∙ ap links_of (sym pushed-statements);
     linked = linked';
@@ -331,23 +386,26 @@ module _ (names labels : List Name) (positions : List ℕ) (symbols : List Symbo
     coded = subst (AreNumbered (length names') (length labels')) (sym p.entries_more)
         (numbered-push (length names) (length names') (length labels) (length labels') entries e (extends-length names names' p.names_more) (extends-length labels labels' labels-extend) k.coded p.below p.label p.two);
     symbols_kept = symbols'';
+    replaced_kept = p.replaced_more ∙ (ap (λ r. r ++ replaced_by (symbol_of entries) e.kind e.symbols.items) k.replaced_kept ∙ (sym (replaced_of-push entries e) ∙ ap replaced_of (sym p.entries_more)));
+    counts_kept = counts';
     count = p.noted_count ∙ p.count;
     few = p.few;
     assertions_kept = assertions';
   }
 
 -- the same parts are a storage too
-pub kept-same : (names labels : List Name) (positions : List ℕ) (symbols : List Symbol) (entries : List Entry) (links : Links)
-    (names' labels' : List Name) (positions' : List ℕ) (symbols' : List Symbol) (entries' : List Entry) (links' : Links)
-    → names' ≡ names → labels' ≡ labels → positions' ≡ positions → symbols' ≡ symbols → entries' ≡ entries → links' ≡ links
-    → AreKept names labels positions symbols entries links → AreKept names' labels' positions' symbols' entries' links'
-kept-same names labels positions symbols entries links names' labels' positions' symbols' entries' links' a b c d e f k =
-    subst (λ x. AreKept x labels' positions' symbols' entries' links') (sym a)
-    (subst (λ x. AreKept names x positions' symbols' entries' links') (sym b)
-    (subst (λ x. AreKept names labels x symbols' entries' links') (sym c)
-    (subst (λ x. AreKept names labels positions x entries' links') (sym d)
-    (subst (λ x. AreKept names labels positions symbols x links') (sym e)
-    (subst (λ x. AreKept names labels positions symbols entries x) (sym f) k)))))
+pub kept-same : (names labels : List Name) (positions : List ℕ) (symbols : List Symbol) (replaced : List ℕ) (entries : List Entry) (links : Links)
+    (names' labels' : List Name) (positions' : List ℕ) (symbols' : List Symbol) (replaced' : List ℕ) (entries' : List Entry) (links' : Links)
+    → names' ≡ names → labels' ≡ labels → positions' ≡ positions → symbols' ≡ symbols → replaced' ≡ replaced → entries' ≡ entries → links' ≡ links
+    → AreKept names labels positions symbols replaced entries links → AreKept names' labels' positions' symbols' replaced' entries' links'
+kept-same names labels positions symbols replaced entries links names' labels' positions' symbols' replaced' entries' links' a b c d r e f k =
+    subst (λ x. AreKept x labels' positions' symbols' replaced' entries' links') (sym a)
+    (subst (λ x. AreKept names x positions' symbols' replaced' entries' links') (sym b)
+    (subst (λ x. AreKept names labels x symbols' replaced' entries' links') (sym c)
+    (subst (λ x. AreKept names labels positions x replaced' entries' links') (sym d)
+    (subst (λ x. AreKept names labels positions symbols x entries' links') (sym r)
+    (subst (λ x. AreKept names labels positions symbols replaced x links') (sym e)
+    (subst (λ x. AreKept names labels positions symbols replaced entries x) (sym f) k))))))
 
 -- ---- legality looks at no proof, and a legal label is new
 pub legal-bare : (S : Database) (s : Stmt) → IsLegal S s → IsLegal S (bare s)
@@ -389,6 +447,7 @@ pub record IsTakenBack (old mid new : Stock) : Type 0 where
   pub symbols_cut : new.symbols.items ≡ take (length old.names) mid.symbols.items
   pub labels_cut : new.labels ≡ take (length old.labels) mid.labels
   pub positions_cut : new.positions.items ≡ take (length old.labels) mid.positions.items
+  pub replaced_cut : new.replaced.items ≡ take (length old.replaced.items) mid.replaced.items
   pub entries_cut : new.entries ≡ mid.entries
   pub links_cut : new.links ≡ mid.links
 
@@ -407,11 +466,12 @@ module _ (old mid new : Stock) (k : AreStored old) (t : IsTakenBack old mid new)
       let z = t.behind.symbols in
       let n : length old.labels ≡ length old.positions.items =
       ap length k.labels_kept ∙ (sym (length-positions 1 (statements_of old)) ∙ ap length (sym k.positions_kept)) in
-      kept-same old.names old.labels old.positions.items old.symbols.items old.entries.items old.links
-      new.names new.labels new.positions.items new.symbols.items new.entries.items new.links
+      kept-same old.names old.labels old.positions.items old.symbols.items old.replaced.items old.entries.items old.links
+      new.names new.labels new.positions.items new.symbols.items new.replaced.items new.entries.items new.links
       back-names back-labels
       (t.positions_cut ∙ (ap (λ m. take m mid.positions.items) n ∙ take-extends old.positions.items mid.positions.items t.behind.positions))
       (t.symbols_cut ∙ (ap (λ m. take m mid.symbols.items) (sym k.count) ∙ take-extends old.symbols.items mid.symbols.items (z.0, z.1)))
+      (t.replaced_cut ∙ take-extends old.replaced.items mid.replaced.items t.behind.replaced)
       back-entries
       (t.links_cut ∙ t.behind.links) k
 
@@ -560,10 +620,10 @@ entry-assertion names labels e = by e.kind
     by Ess h = absurd h
 
 -- ---- more names alone
-pub kept-grown : (names labels : List Name) (positions : List ℕ) (symbols : List Symbol) (entries : List Entry) (links : Links) (names' : List Name) (symbols' : List Symbol)
+pub kept-grown : (names labels : List Name) (positions : List ℕ) (symbols : List Symbol) (replaced : List ℕ) (entries : List Entry) (links : Links) (names' : List Name) (symbols' : List Symbol)
     → Extends names names' → AreZeroBehind symbols symbols' → length symbols' ≡ length names' → length names' < 2 ^ 31
-    → AreKept names labels positions symbols entries links → AreKept names' labels positions symbols' entries links
-kept-grown names labels positions symbols entries links names' symbols' p z n few k =
+    → AreKept names labels positions symbols replaced entries links → AreKept names' labels positions symbols' replaced entries links
+kept-grown names labels positions symbols replaced entries links names' symbols' p z n few k =
     let same : map (stmt_of names' labels) entries ≡ map (stmt_of names labels) entries = statements-more names names' labels labels entries p ([], sym (append-nil labels)) k.coded in
     record {
       last = k.last ∙ ap links_of (sym same);
@@ -573,7 +633,13 @@ kept-grown names labels positions symbols entries links names' symbols' p z n fe
       labels_kept = k.labels_kept ∙ ap labels_of (sym same);
       positions_kept = k.positions_kept ∙ ap (positions_from 1) (sym same);
       coded = numbered-more (length names) (length names') (length labels) entries (extends-length names names' p) k.coded;
-      symbols_kept = λ c lt. by c lt (cases_lt c (length names));
+      symbols_kept = λ c lt. still-reads names labels positions symbols replaced entries links symbols' k z c (omega (arith, lt, n));
+      replaced_kept = k.replaced_kept;
+      counts_kept = λ i e h.
+          let c = k.counts_kept i e h in
+          let w = c.within in
+          let more = extends-length names names' p in
+          record { within = omega (arith, w, more); rising = c.rising; numbered = c.numbered; label_count = c.label_count ∙ ap (λ S. length (labels_of (take i S))) (sym same) };
       count = n;
       few = few;
       assertions_kept = λ i e h a.
@@ -586,12 +652,3 @@ kept-grown names labels positions symbols entries links names' symbols' p z n fe
     numbered-more : (a b m : ℕ) (es : List Entry) → a ≤ b → AreNumbered a m es → AreNumbered b m es
     numbered-more a b m [] le h = tt
     numbered-more a b m (e ∷ es) le h = (below-more a b e.symbols.items le h.0, h.1, numbered-more a b m es le h.2, h.3)
-
-    by : (c : ℕ) → c < length names' → (c < length names) ⊎ (length names ≤ c) → slice_get symbols' c ≡ Some (symbol_of entries c)
-    by c lt (inl l) = ap (λ r. slice_get r c) z.1 ∙ get-front symbols z.0 c (symbol_of entries c) (k.symbols_kept c l)
-    by c lt (inr ge) =
-        let size : length symbols' ≡ length (symbols ++ z.0) = ap length z.1 in
-        let a = k.count in
-        ap (λ r. slice_get r c) z.1
-        ∙ (get-zero symbols z.0 c z.2 (omega (arith, a, ge)) (omega (arith, size, n, lt))
-        ∙ ap Some (sym (symbol_of-above (length names) (length labels) entries c k.coded ge)))

@@ -101,6 +101,31 @@ last_where test es = last_from test 0 1 es
 abbrev pub symbol_of : List Entry → ℕ → Symbol
 symbol_of es c = record { float = last_where (floats c) es; variable = last_where (declares c) es }
 
+-- what the list has at the numbers of symbols
+abbrev pub ReadsAs : List Symbol → (ℕ → Symbol) → Type 0
+ReadsAs symbols x = (c : ℕ) → c < length symbols → slice_get symbols c ≡ Some (x c)
+
+-- ---- what a declaration replaces
+
+abbrev pub replaced_float : (ℕ → Symbol) → List ℕ → List ℕ
+replaced_float x [] = []
+replaced_float x (a ∷ []) = []
+replaced_float x (a ∷ c ∷ codes) = (x c).float ∷ []
+
+-- what a statement of this kind with these symbols replaces, where the last declarations before it are x
+abbrev pub replaced_by : (ℕ → Symbol) → Kind → List ℕ → List ℕ
+replaced_by x Float codes = replaced_float x codes
+replaced_by x Var codes = map (λ c. (x c).variable) codes
+replaced_by x kind codes = []
+
+-- the same for each entry of a list, behind others
+abbrev pub replaced_behind : List Entry → List Entry → List ℕ
+replaced_behind before [] = []
+replaced_behind before (e ∷ es) = replaced_by (symbol_of before) e.kind e.symbols.items ++ replaced_behind (before ++ e ∷ []) es
+
+abbrev pub replaced_of : List Entry → List ℕ
+replaced_of es = replaced_behind [] es
+
 -- ---- numbers that stand for names
 
 -- a label's number has a name, where the kind has a label
@@ -119,6 +144,13 @@ HasTwo kind codes = Unit {0}
 abbrev pub AreNumbered : ℕ → ℕ → List Entry → Type 0
 AreNumbered n m [] = Unit {0}
 AreNumbered n m (e ∷ es) = AreBelow n e.symbols.items × IsLabelBelow e.kind e.label m × AreNumbered n m es × HasTwo e.kind e.symbols.items
+
+-- the entry e keeps the counts of the names and of the labels before it: those entries use no others
+pub record KeepsCounts (names labels : List Name) (entries : List Entry) (i : ℕ) (e : Entry) : Type 0 where
+  pub within : e.names ≤ length names
+  pub rising : (j : ℕ) (d : Entry) → j < i → slice_get entries j ≡ Some d → d.names ≤ e.names
+  pub numbered : AreNumbered e.names e.label (take i entries)
+  pub label_count : e.label ≡ length (labels_of (take i (map (stmt_of names labels) entries)))
 
 -- a statement that neither opens nor closes a block
 abbrev pub IsPlain : Option Stmt → Type 0
@@ -167,6 +199,7 @@ pub record Grown (old new : Stock) : Type 0 where
   pub symbols : AreZeroBehind old.symbols.items new.symbols.items
   pub labels : Extends old.labels new.labels
   pub positions : Extends old.positions.items new.positions.items
+  pub replaced : new.replaced ≡ old.replaced
   pub entries : new.entries ≡ old.entries
   pub links : new.links ≡ old.links
 
@@ -176,6 +209,7 @@ pub record IsBehind (old new : Stock) : Type 0 where
   pub symbols : AreZeroBehind old.symbols.items new.symbols.items
   pub labels : Extends old.labels new.labels
   pub positions : Extends old.positions.items new.positions.items
+  pub replaced : Extends old.replaced.items new.replaced.items
   pub entries : new.entries.items ≡ old.entries.items
   pub links : new.links ≡ old.links
 
@@ -338,7 +372,7 @@ IsKept es S s e None = ⊥
 IsKept es S s e (Some b) = IsKeptAs es S s e b.value
 
 -- the storage of a database
-pub record AreKept (names labels : List Name) (positions : List ℕ) (symbols : List Symbol) (entries : List Entry) (links : Links) : Type 0 where
+pub record AreKept (names labels : List Name) (positions : List ℕ) (symbols : List Symbol) (replaced : List ℕ) (entries : List Entry) (links : Links) : Type 0 where
   pub last : links ≡ links_of (map (stmt_of names labels) entries)
   pub linked : (i : ℕ) (e : Entry) → slice_get entries i ≡ Some e → e.links ≡ links_of (take i (map (stmt_of names labels) entries))
   pub stays : stays_open 0 (map (stmt_of names labels) entries) ≡ true
@@ -347,18 +381,22 @@ pub record AreKept (names labels : List Name) (positions : List ℕ) (symbols : 
   pub positions_kept : positions ≡ positions_from 1 (map (stmt_of names labels) entries)
   pub coded : AreNumbered (length names) (length labels) entries
   pub symbols_kept : (c : ℕ) → c < length names → slice_get symbols c ≡ Some (symbol_of entries c)
+  pub replaced_kept : replaced ≡ replaced_of entries
+  pub counts_kept : (i : ℕ) (e : Entry) → slice_get entries i ≡ Some e → KeepsCounts names labels entries i e
   pub count : length symbols ≡ length names
   pub few : length names < 2 ^ 31
   pub assertions_kept : (i : ℕ) (e : Entry) → slice_get entries i ≡ Some e → is_assertion_kind e.kind ≡ true → IsKept entries (take i (map (stmt_of names labels) entries)) (stmt_of names labels e) e e.assertion
 
 abbrev pub AreStored : Stock → Type 0
-AreStored k = AreKept k.names k.labels k.positions.items k.symbols.items k.entries.items k.links
+AreStored k = AreKept k.names k.labels k.positions.items k.symbols.items k.replaced.items k.entries.items k.links
 
 -- the entry is the statement: its numbers are among those of the storage, which has its label and position
 pub record Entered (old new : Stock) (s : Stmt) (e : Entry) : Type 0 where
   pub stands : stmt_of new.names new.labels e ≡ s
   pub symbols : AreBelow (length new.names) e.symbols.items
   pub label : IsLabelBelow e.kind e.label (length new.labels)
+  pub names_before : e.names ≡ length old.names
+  pub labels_before : e.label ≡ length old.labels
   pub two : HasTwo e.kind e.symbols.items
   pub labels : new.labels ≡ old.labels ++ option_list (label_of s) []
   pub positions : new.positions.items ≡ old.positions.items ++ option_position (label_of s) (length old.entries.items + 1) []

@@ -9,7 +9,6 @@ ghost use Rattle.frame.specs.ByPlaces.{AreBelow};
 ghost use Rattle.frame.specs.Stored.{Entered, Grown, IsFresh, IsLabelled, HasRoom, AreStored, IsNext, IsKeptOf, statements_of};
 
 use crate::declare::name_label;
-use crate::links::Links;
 use crate::make::assertion;
 use crate::numbers::{number, numbers};
 use crate::storage::{Assertion, Entry, Kind, Stock};
@@ -18,16 +17,19 @@ use mm_read::Stmt;
 use std::alloc::{AllocError, Global};
 
 /// A statement without words.
-fn plain(alloc: Global, kind: Kind, links: Links) -> Entry
+fn plain(alloc: Global, stock: &Stock, kind: Kind) -> Entry
     ensures kind { result.kind ≡ kind }
-    ensures links { result.links ≡ links }
+    ensures label { result.label ≡ length stock.now.labels }
+    ensures names { result.names ≡ length stock.now.names }
+    ensures links { result.links ≡ stock.now.links }
     ensures symbols { result.symbols.items ≡ [] }
 {
     Entry {
         kind,
-        label: 0,
+        label: stock.labels.len(),
+        names: stock.names.len(),
         symbols: Vec::new(alloc),
-        links,
+        links: stock.links,
         assertion: None,
     }
 }
@@ -45,14 +47,18 @@ fn unlabelled(
     ensures same_labels { stock.new.labels ≡ stock.old.labels }
     ensures same_positions { stock.new.positions.items ≡ stock.old.positions.items }
     ensures kind { IfOk result (λ e. e.kind ≡ kind) }
+    ensures label { IfOk result (λ e. e.label ≡ length stock.old.labels) }
+    ensures names { IfOk result (λ e. e.names ≡ length stock.old.names) }
     ensures links { IfOk result (λ e. e.links ≡ stock.old.links) }
     ensures symbols { IfOk result (λ e. AreBelow (length stock.new.names) e.symbols.items) }
     ensures stand { IfOk result (λ e. decode stock.new.names e.symbols.items ≡ words.now) }
 {
+    let count = stock.names.len();
     let symbols = numbers(alloc, &mut stock.names, &mut stock.symbols, words)?;
     Ok(Entry {
         kind,
-        label: 0,
+        label: stock.labels.len(),
+        names: count,
         symbols,
         links: stock.links,
         assertion: None,
@@ -107,12 +113,13 @@ fn expr_numbers(alloc: Global, stock: &mut Stock, expr: &Words) -> Result<Vec<u3
     numbers(alloc, &mut stock.names, &mut stock.symbols, expr)
 }
 
-/// A statement with a label and these symbols.
+/// A statement with a label and these symbols, before which there were so many names.
 fn labelled(
     alloc: Global,
     stock: &mut Stock,
     kind: Kind,
     label: &Word,
+    names: usize,
     symbols: Vec<u32>,
     assertion: Option<Box<Assertion>>,
 ) -> Result<Entry, AllocError>
@@ -123,6 +130,7 @@ fn labelled(
     ensures labels { OnOk result (stock.new.labels ≡ stock.old.labels ++ label.now ∷ []) }
     ensures positions { OnOk result (stock.new.positions.items ≡ stock.old.positions.items ++ (length stock.old.entries.items + 1) ∷ []) }
     ensures number { IfOk result (λ e. e.label ≡ length stock.old.labels) }
+    ensures count { IfOk result (λ e. e.names ≡ names) }
     ensures kind { IfOk result (λ e. e.kind ≡ kind) }
     ensures links { IfOk result (λ e. e.links ≡ stock.old.links) }
     ensures symbols { IfOk result (λ e. e.symbols.items ≡ symbols.items) }
@@ -139,6 +147,7 @@ fn labelled(
     Ok(Entry {
         kind,
         label: number,
+        names,
         symbols,
         links: stock.links,
         assertion,
@@ -168,9 +177,10 @@ pub fn enter(alloc: Global, stock: &mut Stock, stmt: &Stmt) -> Result<Entry, All
     ensures room { HasRoom stock.new }
     ensures entered { IfOk result (λ e. Entered stock.old stock.new (bare stmt.now) e) }
 {
+    let names = stock.names.len();
     match stmt {
-        Stmt::Open => Ok(plain(alloc, Kind::Open, stock.links)),
-        Stmt::Close => Ok(plain(alloc, Kind::Close, stock.links)),
+        Stmt::Open => Ok(plain(alloc, stock, Kind::Open)),
+        Stmt::Close => Ok(plain(alloc, stock, Kind::Close)),
         Stmt::Const(words) => unlabelled(alloc, stock, Kind::Const, words),
         Stmt::Var(words) => unlabelled(alloc, stock, Kind::Var, words),
         Stmt::Disj(words) => unlabelled(alloc, stock, Kind::Disj, words),
@@ -180,16 +190,16 @@ pub fn enter(alloc: Global, stock: &mut Stock, stmt: &Stmt) -> Result<Entry, All
             variable,
         } => {
             let symbols = pair_numbers(alloc, stock, constant, variable)?;
-            labelled(alloc, stock, Kind::Float, label, symbols, None)
+            labelled(alloc, stock, Kind::Float, label, names, symbols, None)
         }
         Stmt::Ess { label, expr } => {
             let symbols = expr_numbers(alloc, stock, expr)?;
-            labelled(alloc, stock, Kind::Ess, label, symbols, None)
+            labelled(alloc, stock, Kind::Ess, label, names, symbols, None)
         }
         Stmt::Axiom { label, expr } => {
             let symbols = expr_numbers(alloc, stock, expr)?;
             let kept = keep(alloc, stock, &symbols)?;
-            labelled(alloc, stock, Kind::Axiom, label, symbols, Some(kept))
+            labelled(alloc, stock, Kind::Axiom, label, names, symbols, Some(kept))
         }
         Stmt::Prove {
             label,
@@ -198,7 +208,7 @@ pub fn enter(alloc: Global, stock: &mut Stock, stmt: &Stmt) -> Result<Entry, All
         } => {
             let symbols = expr_numbers(alloc, stock, expr)?;
             let kept = keep(alloc, stock, &symbols)?;
-            labelled(alloc, stock, Kind::Prove, label, symbols, Some(kept))
+            labelled(alloc, stock, Kind::Prove, label, names, symbols, Some(kept))
         }
     }
 }

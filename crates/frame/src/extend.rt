@@ -1,4 +1,4 @@
-//! One statement more in the storage, or none.
+//! One statement more in the storage, or none, or only the first ones.
 ghost use Rattle.std.specs.Prelude.{◌≡◌, ◌++◌, ◌∷◌, [], OnOk, OnErr, take, length};
 ghost use Rattle.scope.specs.Active.{bare};
 ghost use Rattle.scope.specs.Legal.{IsLegal};
@@ -7,6 +7,7 @@ ghost use Rattle.frame.specs.Stored.{AreStored, IsBehind, Extends, statements_of
 use crate::declare::{declare, links_after};
 use crate::enter::enter;
 use crate::storage::{Kind, Stock};
+use crate::undo::{note_replaced, take_away};
 use mm_read::Stmt;
 use std::alloc::{AllocError, Global};
 
@@ -47,6 +48,7 @@ pub fn extend(alloc: Global, stock: &mut Stock, stmt: &Stmt) -> Result<(), Alloc
     let links = links_after(stock, kind(stmt));
     stock.entries.reserve(1)?;
     let entry = enter(alloc, stock, stmt)?;
+    note_replaced(&stock.symbols, &entry, &mut stock.replaced)?;
     declare(&mut stock.symbols, &entry, at);
     match stock.entries.push(entry) {
         Ok(()) => {}
@@ -56,12 +58,13 @@ pub fn extend(alloc: Global, stock: &mut Stock, stmt: &Stmt) -> Result<(), Alloc
     Ok(())
 }
 
-/// Takes back what was left behind the first names and labels.
-pub fn roll_back(stock: &mut Stock, names: usize, labels: usize)
+/// Takes back what was left behind the first names, labels and replaced declarations.
+pub fn roll_back(stock: &mut Stock, names: usize, labels: usize, replaced: usize)
     ensures names { stock.new.names ≡ take names stock.old.names }
     ensures symbols { stock.new.symbols.items ≡ take names stock.old.symbols.items }
     ensures labels { stock.new.labels ≡ take labels stock.old.labels }
     ensures positions { stock.new.positions.items ≡ take labels stock.old.positions.items }
+    ensures replaced { stock.new.replaced.items ≡ take replaced stock.old.replaced.items }
     ensures entries { stock.new.entries ≡ stock.old.entries }
     ensures links { stock.new.links ≡ stock.old.links }
 {
@@ -69,4 +72,31 @@ pub fn roll_back(stock: &mut Stock, names: usize, labels: usize)
     stock.symbols.truncate(names);
     stock.labels.truncate(labels);
     stock.positions.truncate(labels);
+    stock.replaced.truncate(replaced);
+}
+
+/// Only the first `len` statements stay.
+///
+/// Cost: the size of the statements that go.
+pub fn cut(stock: &mut Stock, len: usize)
+    requires { AreStored stock.old }
+    ensures stored { AreStored stock.new }
+    ensures statements { statements_of stock.new ≡ take len (statements_of stock.old) }
+    ensures names { Extends stock.new.names stock.old.names }
+{
+    if len < stock.entries.len() {
+        let first = &stock.entries[len];
+        let names = first.names;
+        let labels = first.label;
+        let links = first.links;
+        take_away(
+            &mut stock.symbols,
+            &mut stock.replaced,
+            &mut stock.entries,
+            len,
+        );
+        let replaced = stock.replaced.len();
+        roll_back(stock, names, labels, replaced);
+        stock.links = links;
+    }
 }

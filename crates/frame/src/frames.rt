@@ -1,5 +1,5 @@
 //! The statements of a database by position.
-ghost use Rattle.std.specs.Prelude.{◌≡◌, ℕ, ◌+◌, ◌≤◌, [], ◌∷◌, ◌++◌, Some, OnOk, OnErr, length, option_map};
+ghost use Rattle.std.specs.Prelude.{◌≡◌, ℕ, ◌+◌, ◌≤◌, [], ◌∷◌, ◌++◌, Some, OnOk, OnErr, length, take, option_map};
 ghost use Rattle.mm_read.specs.declared.stmt.Stmt.{Stmt as Statement};
 ghost use Rattle.scope.specs.Active.{bare, before, stmt_at, expr_of, label_of};
 ghost use Rattle.scope.specs.Legal.{IsLegal};
@@ -10,7 +10,7 @@ ghost use Rattle.frame.specs.Reading.{IsMeaning, IsPosition, IsCited, AreLegal};
 ghost use Rattle.frame.specs.Stored.{Extends};
 
 use crate::citation::{Cited, Meaning};
-use crate::extend::{extend, roll_back};
+use crate::extend::{cut, extend, roll_back};
 use crate::hypotheses::{hypotheses_at, label_at};
 use crate::links::Links;
 use crate::names::Names;
@@ -57,6 +57,7 @@ impl Frames {
                 labels: Names::new(alloc),
                 positions: Vec::new(alloc),
                 symbols: Vec::new(alloc),
+                replaced: Vec::new(alloc),
                 entries: Vec::new(alloc),
                 links: Links {
                     block: 0,
@@ -91,11 +92,22 @@ impl Frames {
         steps.tick();
         let names = self.stock.names.len();
         let labels = self.stock.labels.len();
+        let replaced = self.stock.replaced.len();
         let result = extend(self.alloc, &mut self.stock, stmt);
         if result.is_err() {
-            roll_back(&mut self.stock, names, labels);
+            roll_back(&mut self.stock, names, labels, replaced);
         }
         result
+    }
+
+    /// Only the first `len` statements stay.
+    ///
+    /// Takes no memory. Cost: the size of the statements that go.
+    pub fn shorten(&mut self, len: usize)
+        ensures statements { self.new.statements ≡ take len self.old.statements }
+        ensures names { Extends self.new.names self.old.names }
+    {
+        cut(&mut self.stock, len);
     }
 
     /// The position of the statement with this label.

@@ -3,7 +3,7 @@
 //! `Frames` keeps the statements of a database by position, and reads off them what a verifier asks:
 //! what a citation means at a statement, an assertion by the places of its hypotheses, and the variables that are kept apart.
 //! `frame` gathers the `Frame` of one assertion from what is active.
-//! Reading order: `links`, `storage`, `names`, `numbers`, `declare`, `enter`, `extend`, `reading`, `hypotheses`, `frames`; `assertion`, `one_frame`.
+//! Reading order: `links`, `storage`, `names`, `numbers`, `declare`, `undo`, `enter`, `extend`, `reading`, `hypotheses`, `frames`; `assertion`, `one_frame`.
 #![tactic(auto)]
 
 mod assertion;
@@ -24,6 +24,7 @@ mod pairs;
 mod reading;
 mod storage;
 mod templates;
+mod undo;
 #[cfg(test)]
 mod worked_frames;
 

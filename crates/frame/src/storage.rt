@@ -33,11 +33,14 @@ pub struct Assertion {
     pub groups: Vec<Vec<u32>>,
 }
 
-/// A statement: its kind, the numbers of its label and of its symbols, and what was active before it.
+/// A statement: its kind, the numbers of its label and of its symbols, and what stood before it.
 #[derive(Drop)]
 pub struct Entry {
     pub kind: Kind,
+    /// The count of the labels before it: where it has a label, the number of that label.
     pub label: usize,
+    /// The count of the names before it.
+    pub names: usize,
     pub symbols: Vec<u32>,
     pub links: Links,
     pub assertion: Option<Box<Assertion>>,
@@ -53,13 +56,16 @@ pub struct Symbol {
 }
 
 /// The statements, the names of their symbols and of their labels in order of first appearance,
-/// the position of each label, the last declarations of each symbol, and what is active at the end.
+/// the position of each label, the last declarations of each symbol, those that others replaced, and what is active
+/// at the end.
 #[derive(Drop)]
 pub struct Stock {
     pub names: Names,
     pub labels: Names,
     pub positions: Vec<usize>,
     pub symbols: Vec<Symbol>,
+    /// What each `$f`, and each symbol of each `$v`, replaced in `symbols`, in order.
+    pub replaced: Vec<usize>,
     pub entries: Vec<Entry>,
     pub links: Links,
 }

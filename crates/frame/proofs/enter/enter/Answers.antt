@@ -23,7 +23,7 @@ returns-in_ok-symbols-in-Float-clause-entered c =
     entered-labelled c.args.stock.now c.pair_numbers.new.stock c.labelled.new.stock _ c.in-Float.label (c.in-Float.constant ∷ c.in-Float.variable ∷ []) c.in_ok-symbols-in-Float.symbols.items (bare c.args.stmt.now) None c.labelled.result
     (record { grown = first.grown; labels = first.same_labels; positions = first.same_positions; below = first.symbols; stand = first.stand })
     (two-codes c.pair_numbers.new.stock.names c.in_ok-symbols-in-Float.symbols.items c.in-Float.constant c.in-Float.variable first.stand) (sym (ap bare c.in-Float.is)) (ap (λ s. label_of (bare s)) c.in-Float.is)
-    then.names then.labels then.positions then.number then.kind then.links then.symbols
+    then.names then.labels then.positions then.number c.len-names.result c.len-names.ensures then.count then.kind then.links then.symbols
     (λ e kind symbols o a. absurd (false≢true (sym (ap is_assertion_kind kind) ∙ a))) then.assertion
 
 pub returns-in_ok-symbols-in-Ess-clause-entered : goal.returns-in_ok-symbols-in-Ess-clause-entered
@@ -33,7 +33,7 @@ returns-in_ok-symbols-in-Ess-clause-entered c =
     entered-labelled c.args.stock.now c.expr_numbers.new.stock c.labelled-in-Ess.new.stock _ c.in-Ess.label c.in-Ess.expr c.in_ok-symbols-in-Ess.symbols.items (bare c.args.stmt.now) None c.labelled-in-Ess.result
     (record { grown = first.grown; labels = first.same_labels; positions = first.same_positions; below = first.symbols; stand = first.stand })
     tt (sym (ap bare c.in-Ess.is)) (ap (λ s. label_of (bare s)) c.in-Ess.is)
-    then.names then.labels then.positions then.number then.kind then.links then.symbols
+    then.names then.labels then.positions then.number c.len-names.result c.len-names.ensures then.count then.kind then.links then.symbols
     (λ e kind symbols o a. absurd (false≢true (sym (ap is_assertion_kind kind) ∙ a))) then.assertion
 
 pub returns-in_ok-kept-in-Axiom-clause-entered : goal.returns-in_ok-kept-in-Axiom-clause-entered
@@ -55,7 +55,7 @@ returns-in_ok-kept-in-Axiom-clause-entered c =
     entered-labelled old mid c.labelled-in-Axiom.new.stock _ c.in-Axiom.label c.in-Axiom.expr c.in_ok-symbols-in-Axiom.symbols.items s (Some c.in_ok-kept-in-Axiom.kept) c.labelled-in-Axiom.result
     (record { grown = first.grown; labels = first.same_labels; positions = first.same_positions; below = first.symbols; stand = first.stand })
     tt is (ap (λ r. label_of (bare r)) c.in-Axiom.is)
-    then.names then.labels then.positions then.number then.kind then.links then.symbols
+    then.names then.labels then.positions then.number c.len-names.result c.len-names.ensures then.count then.kind then.links then.symbols
     (λ e kind symbols o a.
     subst (λ b. IsKept old.entries.items (statements_of old) s e b) (sym o)
     (subst (λ es. IsKeptAs es.items (statements_of old) s e c.in_ok-kept-in-Axiom.kept.value) first.grown.entries
@@ -80,7 +80,7 @@ returns-in_ok-kept-in-Prove-clause-entered c =
     entered-labelled old mid c.labelled-in-Prove.new.stock _ c.in-Prove.label c.in-Prove.expr c.in_ok-symbols-in-Prove.symbols.items s (Some c.in_ok-kept-in-Prove.kept) c.labelled-in-Prove.result
     (record { grown = first.grown; labels = first.same_labels; positions = first.same_positions; below = first.symbols; stand = first.stand })
     tt is (ap (λ r. label_of (bare r)) c.in-Prove.is)
-    then.names then.labels then.positions then.number then.kind then.links then.symbols
+    then.names then.labels then.positions then.number c.len-names.result c.len-names.ensures then.count then.kind then.links then.symbols
     (λ e kind symbols o a.
     subst (λ b. IsKept old.entries.items (statements_of old) s e b) (sym o)
     (subst (λ es. IsKeptAs es.items (statements_of old) s e c.in_ok-kept-in-Prove.kept.value) first.grown.entries

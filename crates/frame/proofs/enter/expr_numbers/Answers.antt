@@ -6,7 +6,7 @@ pub returns-clause-stored : goal.returns-clause-stored
 returns-clause-stored c = λ k.
     let o = c.args.stock.now in
     let e = c.numbers.ensures in
-    kept-grown o.names o.labels o.positions.items o.symbols.items o.entries.items o.links c.numbers.new.names c.numbers.new.symbols.items e.names e.symbols e.count e.few k
+    kept-grown o.names o.labels o.positions.items o.symbols.items o.replaced.items o.entries.items o.links c.numbers.new.names c.numbers.new.symbols.items e.names e.symbols e.count e.few k
 
 pub returns-clause-statements : goal.returns-clause-statements
 returns-clause-statements c = λ k.

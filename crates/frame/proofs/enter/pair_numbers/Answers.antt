@@ -11,6 +11,7 @@ returns-in_err-second-clause-grown c = record {
   symbols = zero-trans c.args.stock.now.symbols.items c.number.new.symbols.items c.number-2.new.symbols.items c.in_ok-first.ensures.symbols c.in_err-second.ensures.symbols;
   labels = ([], sym (append-nil c.args.stock.now.labels));
   positions = ([], sym (append-nil c.args.stock.now.positions.items));
+  replaced = refl;
   entries = refl;
   links = refl;
 }
@@ -21,6 +22,7 @@ returns-in_err-push-clause-grown c = record {
   symbols = zero-trans c.args.stock.now.symbols.items c.number.new.symbols.items c.number-2.new.symbols.items c.in_ok-first.ensures.symbols c.in_ok-second.ensures.symbols;
   labels = ([], sym (append-nil c.args.stock.now.labels));
   positions = ([], sym (append-nil c.args.stock.now.positions.items));
+  replaced = refl;
   entries = refl;
   links = refl;
 }
@@ -31,6 +33,7 @@ returns-in_err-push-2-clause-grown c = record {
   symbols = zero-trans c.args.stock.now.symbols.items c.number.new.symbols.items c.number-2.new.symbols.items c.in_ok-first.ensures.symbols c.in_ok-second.ensures.symbols;
   labels = ([], sym (append-nil c.args.stock.now.labels));
   positions = ([], sym (append-nil c.args.stock.now.positions.items));
+  replaced = refl;
   entries = refl;
   links = refl;
 }
@@ -41,6 +44,7 @@ returns-clause-grown c = record {
   symbols = zero-trans c.args.stock.now.symbols.items c.number.new.symbols.items c.number-2.new.symbols.items c.in_ok-first.ensures.symbols c.in_ok-second.ensures.symbols;
   labels = ([], sym (append-nil c.args.stock.now.labels));
   positions = ([], sym (append-nil c.args.stock.now.positions.items));
+  replaced = refl;
   entries = refl;
   links = refl;
 }

@@ -2,8 +2,8 @@ use Rattle.std.proofs.Common.{◌≡◌, ◌+◌, ◌∙◌, ap, sym, subst, ari
 use Rattle.std.specs.Prelude.{map, [], ◌∷◌, ◌++◌}
 use Rattle.std.proofs.lemmas.List.{length-map}
 use Rattle.scope.specs.Active.{bare, label_of}
-use Rattle.frame.specs.Stored.{statements_of, stmt_of, kind_of, option_position, with_entry, IsKept}
-use Rattle.frame.proofs.StoredLemmas.{IsPushed, kept-pushed, pushed-statements, legal-bare, legal-fresh}
+use Rattle.frame.specs.Stored.{statements_of, stmt_of, kind_of, option_position, with_entry, IsKept, ReadsAs, replaced_by, symbol_of}
+use Rattle.frame.proofs.StoredLemmas.{IsPushed, still-reads, kept-pushed, pushed-statements, legal-bare, legal-fresh}
 use Rattle.frame.proofs.extend.extend.Goals as goal
 
 pub enter-requires-clause-fresh : goal.enter-requires-clause-fresh
@@ -24,9 +24,11 @@ returns-clause-stored c =
     let n = length-map k.entries.items (stmt_of k.names k.labels) in
     let size = ap length items in
     let at : c.len-at.result + 1 ≡ length k.entries.items + 1 = omega (arith, c.len-at.ensures) in
+    let reads = subst (λ r. ReadsAs r (symbol_of k.entries.items)) (sym c.deref.ensures.value)
+    (still-reads k.names k.labels k.positions.items k.symbols.items k.replaced.items k.entries.items k.links new.symbols.items c.requires.stored g.symbols) in
     let kind-is : kind_of s ≡ c.kind.result = sym c.kind.ensures in
-    let pushed : IsPushed k.names k.labels k.positions.items k.symbols.items k.entries.items k.links
-    new.names new.labels new.positions.items new.symbols.items c.declare.new.symbols.items c.push.new.self.items c.links_after-links.result s e = record {
+    let pushed : IsPushed k.names k.labels k.positions.items k.symbols.items k.replaced.items k.entries.items k.links
+    new.names new.labels new.positions.items new.symbols.items c.declare.new.symbols.items c.note_replaced.new.replaced.items c.push.new.self.items c.links_after-links.result s e = record {
       names_more = g.names;
       symbols_more = g.symbols;
       noted = λ i x h. c.declare.ensures.each i x h ∙ ap (λ m. Some (with_entry e m i x)) at;
@@ -36,6 +38,9 @@ returns-clause-stored c =
       stands = own.stands;
       below = own.symbols;
       label = own.label;
+      names_before = own.names_before;
+      labels_before = own.labels_before;
+      replaced_more = c.in_ok-note_replaced.ensures.noted (symbol_of k.entries.items) reads ∙ ap (λ r. r.items ++ replaced_by (symbol_of k.entries.items) e.kind e.symbols.items) g.replaced;
       two = own.two;
       labels_more = own.labels;
       positions_more = own.positions ∙ ap (λ m. k.positions.items ++ option_position (label_of s) (m + 1) []) size;
@@ -45,8 +50,8 @@ returns-clause-stored c =
       kept = λ a. subst (λ es. IsKept es (map (stmt_of k.names k.labels) es) s e e.assertion) items (own.kept a);
       links_next = c.links_after-links.ensures s kind-is;
     } in
-    kept-pushed k.names k.labels k.positions.items k.symbols.items k.entries.items k.links new.names new.labels new.positions.items new.symbols.items
-    c.declare.new.symbols.items c.push.new.self.items c.links_after-links.result s e c.requires.stored pushed
+    kept-pushed k.names k.labels k.positions.items k.symbols.items k.replaced.items k.entries.items k.links new.names new.labels new.positions.items new.symbols.items
+    c.declare.new.symbols.items c.note_replaced.new.replaced.items c.push.new.self.items c.links_after-links.result s e c.requires.stored pushed
 
 pub returns-clause-added : goal.returns-clause-added
 returns-clause-added c =
@@ -62,9 +67,11 @@ returns-clause-added c =
     let n = length-map k.entries.items (stmt_of k.names k.labels) in
     let size = ap length items in
     let at : c.len-at.result + 1 ≡ length k.entries.items + 1 = omega (arith, c.len-at.ensures) in
+    let reads = subst (λ r. ReadsAs r (symbol_of k.entries.items)) (sym c.deref.ensures.value)
+    (still-reads k.names k.labels k.positions.items k.symbols.items k.replaced.items k.entries.items k.links new.symbols.items c.requires.stored g.symbols) in
     let kind-is : kind_of s ≡ c.kind.result = sym c.kind.ensures in
-    let pushed : IsPushed k.names k.labels k.positions.items k.symbols.items k.entries.items k.links
-    new.names new.labels new.positions.items new.symbols.items c.declare.new.symbols.items c.push.new.self.items c.links_after-links.result s e = record {
+    let pushed : IsPushed k.names k.labels k.positions.items k.symbols.items k.replaced.items k.entries.items k.links
+    new.names new.labels new.positions.items new.symbols.items c.declare.new.symbols.items c.note_replaced.new.replaced.items c.push.new.self.items c.links_after-links.result s e = record {
       names_more = g.names;
       symbols_more = g.symbols;
       noted = λ i x h. c.declare.ensures.each i x h ∙ ap (λ m. Some (with_entry e m i x)) at;
@@ -74,6 +81,9 @@ returns-clause-added c =
       stands = own.stands;
       below = own.symbols;
       label = own.label;
+      names_before = own.names_before;
+      labels_before = own.labels_before;
+      replaced_more = c.in_ok-note_replaced.ensures.noted (symbol_of k.entries.items) reads ∙ ap (λ r. r.items ++ replaced_by (symbol_of k.entries.items) e.kind e.symbols.items) g.replaced;
       two = own.two;
       labels_more = own.labels;
       positions_more = own.positions ∙ ap (λ m. k.positions.items ++ option_position (label_of s) (m + 1) []) size;
@@ -83,5 +93,5 @@ returns-clause-added c =
       kept = λ a. subst (λ es. IsKept es (map (stmt_of k.names k.labels) es) s e e.assertion) items (own.kept a);
       links_next = c.links_after-links.ensures s kind-is;
     } in
-    pushed-statements k.names k.labels k.positions.items k.symbols.items k.entries.items k.links new.names new.labels new.positions.items new.symbols.items
-    c.declare.new.symbols.items c.push.new.self.items c.links_after-links.result s e c.requires.stored pushed
+    pushed-statements k.names k.labels k.positions.items k.symbols.items k.replaced.items k.entries.items k.links new.names new.labels new.positions.items new.symbols.items
+    c.declare.new.symbols.items c.note_replaced.new.replaced.items c.push.new.self.items c.links_after-links.result s e c.requires.stored pushed

@@ -1,4 +1,4 @@
-use Rattle.std.proofs.Common.{◌∙◌, ap, sym, take}
+use Rattle.std.proofs.Common.{◌∙◌, ap, sym, take, arith}
 use Rattle.frame.specs.Stored.{IsBehind}
 use Rattle.frame.proofs.StoredLemmas.{back-stored, on-err}
 use Rattle.frame.proofs.frames.Frames.push.Goals as goal
@@ -14,6 +14,7 @@ invariant_of-self c =
       symbols_cut = cut.symbols ∙ ap (λ n. take n mid.symbols.items) c.len-names.ensures;
       labels_cut = cut.labels ∙ ap (λ n. take n mid.labels) c.len-labels.ensures;
       positions_cut = cut.positions ∙ ap (λ n. take n mid.positions.items) c.len-labels.ensures;
+      replaced_cut = cut.replaced ∙ ap (λ n. take n mid.replaced.items) (omega (arith, c.len-replaced.ensures, c.self.inside.stock.replaced.ok.0));
       entries_cut = cut.entries;
       links_cut = cut.links;
     })

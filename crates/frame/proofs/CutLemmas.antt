@@ -1,0 +1,211 @@
+-- The storage with its first statements alone.
+use Rattle.std.specs.Prelude.{◌≡◌, ℕ, zero, suc, ◌+◌, ◌-◌, ◌<◌, ◌≤◌, true, List, [], ◌∷◌, ◌++◌, length, map, take, drop, slice_get, Option, Some, None, refl}
+use Rattle.std.specs.Global.{Box}
+use Rattle.std.proofs.Common.{sym, ◌∙◌, ap, subst, arith}
+use Rattle.std.proofs.lemmas.List.{length-take-le, take-map, take-append-drop, take_at}
+use Rattle.mm_lex.specs.Alphabet.{Name}
+use Rattle.mm_read.specs.declared.stmt.Stmt.{Stmt}
+use Rattle.mm_read.specs.Statements.{Database}
+use Rattle.scope.specs.Active.{before, label_of, stays_open}
+use Rattle.scope.specs.Legal.{IsLegal}
+use Rattle.frame.specs.declared.links.Links.{Links}
+use Rattle.frame.specs.declared.storage.Assertion.{Assertion}
+use Rattle.frame.specs.declared.storage.Entry.{Entry}
+use Rattle.frame.specs.declared.storage.Symbol.{Symbol}
+use Rattle.frame.specs.Links.{links_of}
+use Rattle.frame.specs.Stored.{stmt_of, labels_of, positions_from, option_list, option_position, AreAllLegal, AreNumbered, AreKept, KeepsCounts, Extends, ReadsAs, replaced_of, symbol_of, is_assertion_kind, IsKept}
+use Rattle.frame.proofs.AssertionLemmas.{get-entry, kept-more, kept-less}
+use Rattle.frame.proofs.OpenLemmas.{stays_open-front}
+use Rattle.frame.proofs.StoredLemmas.{statements-more, stmt-more, numbered-at, label-at, length-positions}
+
+-- ---- the front of a list
+
+pub front-extends : {A : Type 0} (n : ℕ) (xs : List A) → Extends (take n xs) xs
+front-extends n xs = (drop n xs, sym (take-append-drop n xs))
+
+take-take : {A : Type 0} (i n : ℕ) (xs : List A) → i ≤ n → take i (take n xs) ≡ take i xs
+take-take zero n xs le = refl
+take-take (suc i) zero xs le = absurd (omega (arith, le))
+take-take (suc i) (suc n) [] le = refl
+take-take (suc i) (suc n) (x ∷ xs) le = ap (λ r. x ∷ r) (take-take i n xs (omega (arith, le)))
+
+get-take : {A : Type 0} (n : ℕ) (xs : List A) (i : ℕ) (x : A) → slice_get (take n xs) i ≡ Some x → (i < n) × (slice_get xs i ≡ Some x)
+get-take zero [] i x g = cc
+get-take zero (y ∷ xs) i x g = cc
+get-take (suc n) [] i x g = cc
+get-take (suc n) (y ∷ xs) zero x g = (omega arith, g)
+get-take (suc n) (y ∷ xs) (suc i) x g = let r = get-take n xs i x g in let lt = r.0 in (omega (arith, lt), r.1)
+
+get-front : {A : Type 0} (n : ℕ) (xs : List A) (i : ℕ) → i < n → slice_get (take n xs) i ≡ slice_get xs i
+get-front zero xs i lt = absurd (omega (arith, lt))
+get-front (suc n) [] i lt = refl
+get-front (suc n) (x ∷ xs) zero lt = refl
+get-front (suc n) (x ∷ xs) (suc i) lt = get-front n xs i (omega (arith, lt))
+
+-- ---- labels and positions
+
+labels_of-append : (A B : Database) → labels_of (A ++ B) ≡ labels_of A ++ labels_of B
+labels_of-append [] B = refl
+labels_of-append (s ∷ A) B = ap (option_list (label_of s)) (labels_of-append A B) ∙ by (label_of s)
+  where
+    by : (o : Option Name) → option_list o (labels_of A ++ labels_of B) ≡ option_list o (labels_of A) ++ labels_of B
+    by None = refl
+    by (Some x) = refl
+
+positions_from-append : (at : ℕ) (A B : Database) → positions_from at (A ++ B) ≡ positions_from at A ++ positions_from (at + length A) B
+positions_from-append at [] B = ap (λ n. positions_from n B) (place at)
+  where
+    place : (n : ℕ) → n ≡ n + 0
+    place n = omega arith
+positions_from-append at (s ∷ A) B =
+    ap (option_position (label_of s) at) (positions_from-append (at + 1) A B ∙ ap (λ n. positions_from (at + 1) A ++ positions_from n B) (place at (length A))) ∙ by (label_of s)
+  where
+    place : (a n : ℕ) → a + 1 + n ≡ a + suc n
+    place a n = omega arith
+
+    by : (o : Option Name) → option_position o at (positions_from (at + 1) A ++ positions_from (at + suc (length A)) B) ≡ option_position o at (positions_from (at + 1) A) ++ positions_from (at + suc (length A)) B
+    by None = refl
+    by (Some x) = refl
+
+labels-front : (n : ℕ) (S : Database) → take (length (labels_of (take n S))) (labels_of S) ≡ labels_of (take n S)
+labels-front n S =
+    ap (take (length (labels_of (take n S)))) (ap labels_of (sym (take-append-drop n S)) ∙ labels_of-append (take n S) (drop n S))
+    ∙ take_at (labels_of (take n S)) (labels_of (drop n S)) (length (labels_of (take n S))) refl
+
+positions-front : (n : ℕ) (S : Database) → take (length (labels_of (take n S))) (positions_from 1 S) ≡ positions_from 1 (take n S)
+positions-front n S =
+    ap (take (length (labels_of (take n S)))) (ap (positions_from 1) (sym (take-append-drop n S)) ∙ positions_from-append 1 (take n S) (drop n S))
+    ∙ take_at (positions_from 1 (take n S)) (positions_from (1 + length (take n S)) (drop n S)) (length (labels_of (take n S))) (length-positions 1 (take n S))
+
+-- ---- the statements
+
+legal-front : (n : ℕ) (S : Database) → AreAllLegal S → AreAllLegal (take n S)
+legal-front n S all zero s h = cc
+legal-front n S all (suc j) s h =
+    let g = get-take n S j s h in
+    let lt = g.0 in
+    let same : before (take n S) (suc j) ≡ before S (suc j) = take-take (suc j - 1) n S (omega (arith, lt)) in
+    subst (λ B. IsLegal B s) (sym same) (all (suc j) s g.1)
+
+-- an assertion that is kept in the whole list is kept in its front
+kept-front : (names labels : List Name) (entries : List Entry) (i n : ℕ) (s : Stmt) (e : Entry) (o : Option (Box Assertion)) → i ≤ n
+    → IsKept entries (take i (map (stmt_of names labels) entries)) s e o → IsKept (take n entries) (take i (map (stmt_of names labels) entries)) s e o
+kept-front names labels entries i n s e None le k = absurd k
+kept-front names labels entries i n s e (Some b) le k =
+    let few = take i entries in
+    let S = map (stmt_of names labels) few in
+    let is : take i (map (stmt_of names labels) entries) ≡ S = take-map (stmt_of names labels) i entries in
+    let low = kept-less names labels few (drop i entries) s e b.value
+    (subst (λ T. IsKept (few ++ drop i entries) T s e (Some b)) is (subst (λ es. IsKept es (take i (map (stmt_of names labels) entries)) s e (Some b)) (sym (take-append-drop i entries)) k)) in
+    let more = drop i (take n entries) in
+    let up : take n entries ≡ few ++ more = sym (take-append-drop i (take n entries)) ∙ ap (λ r. r ++ more) (take-take i n entries le) in
+    let stand : (j : ℕ) (t : Stmt) → slice_get S j ≡ Some t → (x : Entry) × (slice_get few j ≡ Some x) = λ j t g. let x = get-entry names labels few j t g in (x.0, x.1) in
+    subst (λ es. IsKept es (take i (map (stmt_of names labels) entries)) s e (Some b)) (sym up)
+    (subst (λ T. IsKept (few ++ more) T s e (Some b)) (sym is) (kept-more names labels few more S s e b.value stand low))
+
+-- ---- what was done to the parts: the statement behind the first n is e
+
+pub record IsCut (names labels : List Name) (positions : List ℕ) (symbols : List Symbol) (entries : List Entry)
+    (names' labels' : List Name) (positions' : List ℕ) (between symbols' : List Symbol) (replaced' : List ℕ) (entries' : List Entry) (links' : Links) (n : ℕ) (e : Entry) : Type 0 where
+  pub at : slice_get entries n ≡ Some e
+  pub names_cut : names' ≡ take e.names names
+  pub labels_cut : labels' ≡ take e.label labels
+  pub positions_cut : positions' ≡ take e.label positions
+  pub between_count : length between ≡ length symbols
+  pub symbols_cut : symbols' ≡ take e.names between
+  pub entries_cut : entries' ≡ take n entries
+  pub declared : ReadsAs between (symbol_of entries')
+  pub noted : replaced' ≡ replaced_of entries'
+  pub links_back : links' ≡ e.links
+
+module _ (names labels : List Name) (positions : List ℕ) (symbols : List Symbol) (replaced : List ℕ) (entries : List Entry) (links : Links)
+    (names' labels' : List Name) (positions' : List ℕ) (between symbols' : List Symbol) (replaced' : List ℕ) (entries' : List Entry) (links' : Links) (n : ℕ) (e : Entry)
+    (k : AreKept names labels positions symbols replaced entries links)
+    (p : IsCut names labels positions symbols entries names' labels' positions' between symbols' replaced' entries' links' n e) where
+  abbrev pub S : Database
+  S = map (stmt_of names labels) entries
+
+  counts : KeepsCounts names labels entries n e
+  counts = k.counts_kept n e p.at
+
+  pub names-front : Extends names' names
+  names-front = subst (λ r. Extends r names) (sym p.names_cut) (front-extends e.names names)
+
+  labels-extend : Extends labels' labels
+  labels-extend = subst (λ r. Extends r labels) (sym p.labels_cut) (front-extends e.label labels)
+
+  names-count : length names' ≡ e.names
+  names-count = ap length p.names_cut ∙ length-take-le e.names names counts.within
+
+  labels-are : labels' ≡ labels_of (take n S)
+  labels-are = p.labels_cut ∙ (ap (take e.label) k.labels_kept ∙ (ap (λ m. take m (labels_of S)) counts.label_count ∙ labels-front n S))
+
+  labels-count : length labels' ≡ e.label
+  labels-count = ap length labels-are ∙ sym counts.label_count
+
+  numbered : AreNumbered (length names') (length labels') (take n entries)
+  numbered =
+      subst (λ a. AreNumbered a (length labels') (take n entries)) (sym names-count)
+      (subst (λ a. AreNumbered e.names a (take n entries)) (sym labels-count) counts.numbered)
+
+  pub cut-statements : map (stmt_of names' labels') entries' ≡ take n S
+  cut-statements =
+      ap (map (stmt_of names' labels')) p.entries_cut
+      ∙ (sym (statements-more names' names labels' labels (take n entries) names-front labels-extend numbered) ∙ sym (take-map (stmt_of names labels) n entries))
+
+  front-of : (i : ℕ) → i < n → take i (map (stmt_of names' labels') entries') ≡ take i S
+  front-of i lt = ap (take i) cut-statements ∙ take-take i n S (omega (arith, lt))
+
+  there : (i : ℕ) (d : Entry) → slice_get entries' i ≡ Some d → (i < n) × (slice_get entries i ≡ Some d)
+  there i d h = get-take n entries i d (ap (λ r. slice_get r i) (sym p.entries_cut) ∙ h)
+
+  symbols'' : (c : ℕ) → c < length names' → slice_get symbols' c ≡ Some (symbol_of entries' c)
+  symbols'' c lt =
+      let a = names-count in let b = p.between_count in let d = k.count in let w = counts.within in
+      ap (λ r. slice_get r c) p.symbols_cut ∙ (get-front e.names between c (omega (arith, lt, a)) ∙ p.declared c (omega (arith, lt, a, b, d, w)))
+
+  counts' : (i : ℕ) (d : Entry) → slice_get entries' i ≡ Some d → KeepsCounts names' labels' entries' i d
+  counts' i d h =
+      let q = there i d h in
+      let lt = q.0 in
+      let c = k.counts_kept i d q.1 in
+      let rise = counts.rising i d lt q.1 in
+      let a = names-count in
+      record {
+        within = omega (arith, rise, a);
+        rising = λ j x l g. c.rising j x l (there j x g).1;
+        numbered = subst (AreNumbered d.names d.label) (sym (ap (take i) p.entries_cut ∙ take-take i n entries (omega (arith, lt)))) c.numbered;
+        label_count = c.label_count ∙ ap (λ T. length (labels_of T)) (sym (front-of i lt));
+      }
+
+  assertions' : (i : ℕ) (d : Entry) → slice_get entries' i ≡ Some d → is_assertion_kind d.kind ≡ true → IsKept entries' (take i (map (stmt_of names' labels') entries')) (stmt_of names' labels' d) d d.assertion
+  assertions' i d h a =
+      let q = there i d h in
+      let lt = q.0 in
+      let here = ap (λ r. slice_get r i) (sym p.entries_cut) ∙ h in
+      let same : stmt_of names labels d ≡ stmt_of names' labels' d =
+      stmt-more names' names labels' labels d names-front labels-extend (numbered-at (length names') (length labels') (take n entries) numbered i d here) (label-at (length names') (length labels') (take n entries) numbered i d here) in
+      subst (λ es. IsKept es (take i (map (stmt_of names' labels') entries')) (stmt_of names' labels' d) d d.assertion) (sym p.entries_cut)
+      (subst (λ T. IsKept (take n entries) T (stmt_of names' labels' d) d d.assertion) (sym (front-of i lt))
+      (subst (λ t. IsKept (take n entries) (take i S) t d d.assertion) same
+      (kept-front names labels entries i n (stmt_of names labels d) d d.assertion (omega (arith, lt)) (k.assertions_kept i d q.1 a))))
+
+  pub kept-cut : AreKept names' labels' positions' symbols' replaced' entries' links'
+  kept-cut = record {
+    last = p.links_back ∙ (k.linked n e p.at ∙ ap links_of (sym cut-statements));
+    linked = λ i d h. let q = there i d h in k.linked i d q.1 ∙ ap links_of (sym (front-of i q.0));
+    stays = ap (stays_open 0) cut-statements ∙ stays_open-front 0 (take n S) (drop n S) (ap (stays_open 0) (take-append-drop n S) ∙ k.stays);
+    legal = subst AreAllLegal (sym cut-statements) (legal-front n S k.legal);
+    labels_kept = labels-are ∙ ap labels_of (sym cut-statements);
+    positions_kept = p.positions_cut ∙ (ap (take e.label) k.positions_kept ∙ (ap (λ m. take m (positions_from 1 S)) counts.label_count ∙ (positions-front n S ∙ ap (positions_from 1) (sym cut-statements))));
+    coded = subst (AreNumbered (length names') (length labels')) (sym p.entries_cut) numbered;
+    symbols_kept = symbols'';
+    replaced_kept = p.noted;
+    counts_kept = counts';
+    count =
+        let a = names-count in let b = p.between_count in let d = k.count in let w = counts.within in
+        let c : length symbols' ≡ e.names = ap length p.symbols_cut ∙ length-take-le e.names between (omega (arith, b, d, w)) in
+        c ∙ sym a;
+    few = let a = names-count in let w = counts.within in let f = k.few in omega (arith, a, w, f);
+    assertions_kept = assertions';
+  }

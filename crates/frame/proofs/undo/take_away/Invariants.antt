@@ -1,0 +1,15 @@
+use Rattle.std.proofs.Common.{◌≡◌, ◌≤◌, length}
+use Rattle.frame.specs.Stored.{Extends, ReadsAs, replaced_of, symbol_of}
+use Rattle.frame.proofs.undo.take_away.Given as goal
+
+abbrev pub invariant-loop-entries : goal.invariant-loop-entries
+invariant-loop-entries l = record {
+  front : Extends l.entries.items l.fn.entries.items;
+  enough : l.len ≤ length l.entries.items;
+  declared : ReadsAs l.symbols.items (symbol_of l.entries.items);
+  noted : l.replaced.items ≡ replaced_of l.entries.items;
+  count : length l.symbols.items ≡ length l.fn.symbols.items;
+}
+
+abbrev pub decreases-loop-entries : goal.decreases-loop-entries
+decreases-loop-entries l = length l.entries.items
