@@ -10,6 +10,7 @@ pub mod StoredLemmas
 pub mod CutLemmas
 pub mod CollectLemmas
 pub mod PairsLemmas
+pub mod ApartLemmas
 pub mod MakeLemmas
 pub mod AssertionLemmas
 pub mod CitedLemmas

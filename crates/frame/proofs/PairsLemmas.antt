@@ -213,24 +213,47 @@ any-none g at (s ∷ S) h = by (stays_open 0 S) (any-none g (at + 1) S (λ k t e
     by true r e = ap (λ t. t || list_any g (active_from (at + 1) S)) e ∙ r
     by false r e = r
 
+get-less : (i : ℕ) (S : Database) (k : ℕ) (s : Stmt) → slice_get (take i S) k ≡ Some s → slice_get S k ≡ Some s
+get-less zero [] k s g = g
+get-less zero (t ∷ S) k s g = cc
+get-less (suc i) [] k s g = g
+get-less (suc i) (t ∷ S) zero s g = g
+get-less (suc i) (t ∷ S) (suc k) s g = get-less i S k s g
+
 -- no `$v` has it
 pub declared-none : (names labels : List Name) (m x n : ℕ) (es : List Entry) → AreDistinct names → x < length names → AreNumbered (length names) m es → last_where (declares x) es ≡ 0
     → list_any (λ p. has_name (name_at names x) (variables p.1)) (active (take n (map (stmt_of names labels) es))) ≡ false
 declared-none names labels m x n es d l a z =
     any-none (λ p. has_name (name_at names x) (variables p.1)) 1 (take n (map (stmt_of names labels) es)) (λ k s g q. one k s (get-less n (map (stmt_of names labels) es) k s g))
   where
-    get-less : (i : ℕ) (S : Database) (k : ℕ) (s : Stmt) → slice_get (take i S) k ≡ Some s → slice_get S k ≡ Some s
-    get-less zero [] k s g = g
-    get-less zero (t ∷ S) k s g = cc
-    get-less (suc i) [] k s g = g
-    get-less (suc i) (t ∷ S) zero s g = g
-    get-less (suc i) (t ∷ S) (suc k) s g = get-less i S k s g
-
     one : (k : ℕ) (s : Stmt) → slice_get (map (stmt_of names labels) es) k ≡ Some s → has_name (name_at names x) (variables s) ≡ false
     one k s g =
         let e = get-entry names labels es k s g in
         ap (λ t. has_name (name_at names x) (variables t)) (sym e.2)
         ∙ (sym (declares-has names labels x e.0 d l (numbered-at (length names) m es a k e.0 e.1)) ∙ (none-last (declares x) 0 1 es (omega arith) z).1 k e.0 e.1)
+
+-- a name with no number is none that a `$v` declares
+pub unnamed-none : (names labels : List Name) (m n : ℕ) (x : Name) (es : List Entry) → has_name x names ≡ false → AreNumbered (length names) m es
+    → list_any (λ p. has_name x (variables p.1)) (active (take n (map (stmt_of names labels) es))) ≡ false
+unnamed-none names labels m n x es none a =
+    any-none (λ p. has_name x (variables p.1)) 1 (take n (map (stmt_of names labels) es)) (λ k s g q. one k s (get-less n (map (stmt_of names labels) es) k s g))
+  where
+    both : (a b : Bool) → a ≡ false → b ≡ false → (a || b) ≡ false
+    both true b h e = cc
+    both false b h e = e
+
+    in_none : (codes : List ℕ) → AreBelow (length names) codes → has_name x (decode names codes) ≡ false
+    in_none [] b = refl
+    in_none (c ∷ codes) b = both (name_eq x (name_at names c)) (has_name x (decode names codes)) (not-has names c x none b.0) (in_none codes b.1)
+
+    by : (e : Entry) → AreBelow (length names) e.symbols.items → (t : Bool) → is_var (stmt_of names labels e) ≡ t → has_name x (variables (stmt_of names labels e)) ≡ false
+    by e b true h = ap (has_name x) (entry-var names labels e h) ∙ in_none e.symbols.items b
+    by e b false h = ap (has_name x) (other-var (stmt_of names labels e) h)
+
+    one : (k : ℕ) (s : Stmt) → slice_get (map (stmt_of names labels) es) k ≡ Some s → has_name x (variables s) ≡ false
+    one k s g =
+        let e = get-entry names labels es k s g in
+        ap (λ t. has_name x (variables t)) (sym e.2) ∙ by e.0 (numbered-at (length names) m es a k e.0 e.1) (is_var (stmt_of names labels e.0)) refl
 
 -- the last one has it, and is active
 pub declared-active : (names labels : List Name) (m x p at : ℕ) (es : List Entry) → AreDistinct names → x < length names → AreNumbered (length names) m es

@@ -2,6 +2,7 @@ pub mod Parts
 pub mod FrameOf
 pub mod Substitution
 pub mod Disjoint
+pub mod Covers
 pub mod Citations
 pub mod Templates
 pub mod ByPlaces

@@ -6,6 +6,7 @@
 //! Reading order: `links`, `storage`, `names`, `numbers`, `declare`, `undo`, `enter`, `extend`, `reading`, `hypotheses`, `frames`; `assertion`, `one_frame`.
 #![tactic(auto)]
 
+mod apart;
 mod assertion;
 mod citation;
 mod declare;

@@ -1,5 +1,5 @@
 //! The variables that are kept apart at a position.
-ghost use Rattle.std.specs.Prelude.{◌≡◌, ◌==◌, ◌&&◌, ◌<◌, ◌≤◌, length};
+ghost use Rattle.std.specs.Prelude.{◌≡◌, ◌==◌, ◌&&◌, ◌<◌, ◌≤◌, false, length, IfNone};
 ghost use Rattle.std.specs.List.{list_any};
 ghost use Rattle.mm_lex.specs.Alphabet.{has_name};
 ghost use Rattle.scope.specs.Active.{active, before, is_variable, separated};
@@ -46,9 +46,11 @@ impl<'a> Pairs<'a> {
         x != y && stand_together(self.stock, self.at, x, y)
     }
 
-    /// The number of a name, where it has one.
+    /// The number of a name, where it has one. No two names have one number, and a name with none is no variable there.
     pub fn number(&self, name: &[u8]) -> Option<u32>
-        ensures { result ≡ code_of self.now.names name.now }
+        ensures number { result ≡ code_of self.now.names name.now }
+        ensures distinct { AreDistinct self.now.names }
+        ensures unnamed { IfNone result (is_variable self.now.statements name.now ≡ false) }
     {
         match self.stock.names.find(name) {
             Some(number) => Some(number as u32),
@@ -86,7 +88,7 @@ fn stand_together(stock: &Stock, at: usize, x: u32, y: u32) -> bool
     false
 }
 
-fn contains(codes: &[u32], x: u32) -> bool
+pub fn contains(codes: &[u32], x: u32) -> bool
     ensures { result ≡ list_any (λ y. x == y) codes.now }
 {
     codes.iter().any(|y| x == *y)

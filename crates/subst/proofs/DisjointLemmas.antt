@@ -11,65 +11,51 @@ use Rattle.scope.proofs.KeptLemmas.{all-has}
 use Rattle.frame.specs.FrameOf.{groups, is_pair, together}
 use Rattle.frame.specs.Substitution.{Images, image}
 use Rattle.frame.specs.Disjoint.{are_apart, is_group_apart, are_groups_apart}
+use Rattle.frame.proofs.ApartLemmas.{or_left, or_right, all-from, pair_at, apart-from}
 use Rattle.subst.specs.Laws.{PairClause, KeepApart}
-
-or_left : (a b : Bool) → a ≡ true → (a || b) ≡ true
-or_left true b h = refl
-or_left false b h = cc
-
-or_right : (a b : Bool) → b ≡ true → (a || b) ≡ true
-or_right true b h = refl
-or_right false b h = h
-
-all-from : (p : Name → Bool) (xs : List Name) → ((x : Name) → has_name x xs ≡ true → p x ≡ true) → list_all p xs ≡ true
-all-from p [] h = refl
-all-from p (y ∷ xs) h =
-    and_from (p y) (list_all p xs) (h y (or_left (name_eq y y) (has_name y xs) (name_same y)))
-    (all-from p xs (λ x k. h x (or_right (name_eq x y) (has_name x xs) k)))
+use Rattle.subst.specs.Images.{is_image_apart}
 
 -- ---- two images
 
 module _ (S : Database) where
-  abbrev is_good : Name → Name → Bool
-  is_good u v = not (is_variable S u) || not (is_variable S v) || is_pair S u v
-
-  third : (a b c : Bool) → a ≡ true → b ≡ true → (not a || not b || c) ≡ true → c ≡ true
-  third true true c p q h = h
-  third true false c p q h = cc
-  third false b c p q h = cc
-
-  pair_at : (e f : Expr) → are_apart S e f ≡ true → (u v : Name) → is_variable S u ≡ true → is_variable S v ≡ true
-      → has_name u e ≡ true → has_name v f ≡ true → is_pair S u v ≡ true
-  pair_at e f h u v p q in_e in_f =
-      third (is_variable S u) (is_variable S v) (is_pair S u v) p q
-      (all-has (is_good u) v f (all-has (λ w. list_all (is_good w) f) u e h in_e) in_f)
-
   pub apart-keeps : (e f : Expr) → are_apart S e f ≡ true → KeepApart S e f
   apart-keeps e f h = record {
-    none_shared = λ u p in_e in_f. same_clash u (list_any (λ names. has_name u names && has_name u names) (groups S)) (pair_at e f h u u p p in_e in_f);
+    none_shared = λ u p in_e in_f. same_clash u (list_any (λ names. has_name u names && has_name u names) (groups S)) (pair_at S e f h u u p p in_e in_f);
     each_listed = λ u v p q in_e in_f.
-        (and_parts (not (name_eq u v)) (list_any (λ names. has_name u names && has_name v names) (groups S)) (pair_at e f h u v p q in_e in_f)).1;
+        (and_parts (not (name_eq u v)) (list_any (λ names. has_name u names && has_name v names) (groups S)) (pair_at S e f h u v p q in_e in_f)).1;
   }
     where
       same_clash : (u : Name) (b : Bool) → (not (name_eq u u) && b) ≡ true → ⊥
       same_clash u b h = true≢false (sym h ∙ ap (λ t. not t && b) (name_same u))
 
   pub keeps-apart : (e f : Expr) → KeepApart S e f → are_apart S e f ≡ true
-  keeps-apart e f k =
-      all-from (λ u. list_all (is_good u) f) e
-      (λ u in_e. all-from (is_good u) f (λ v in_f. by u v in_e in_f (is_variable S u) (is_variable S v) refl refl))
+  keeps-apart e f k = apart-from S e f pair
     where
-      differ : (u v : Name) → is_variable S u ≡ true → has_name u e ≡ true → has_name v f ≡ true → (b : Bool) → name_eq u v ≡ b → not b ≡ true
-      differ u v p in_e in_f true same = absurd (k.none_shared u p in_e (ap (λ w. has_name w f) (same_name u v same) ∙ in_f))
-      differ u v p in_e in_f false same = refl
+      pair : (u v : Name) → is_variable S u ≡ true → is_variable S v ≡ true → has_name u e ≡ true → has_name v f ≡ true → is_pair S u v ≡ true
+      pair u v p q in_e in_f =
+          and_from (not (name_eq u v)) (list_any (λ names. has_name u names && has_name v names) (groups S)) (differ (name_eq u v) refl) (k.each_listed u v p q in_e in_f)
+        where
+          differ : (b : Bool) → name_eq u v ≡ b → not b ≡ true
+          differ true same = absurd (k.none_shared u p in_e (ap (λ w. has_name w f) (same_name u v same) ∙ in_f))
+          differ false same = refl
 
-      by : (u v : Name) → has_name u e ≡ true → has_name v f ≡ true → (a b : Bool) → is_variable S u ≡ a → is_variable S v ≡ b
-          → (not a || not b || is_pair S u v) ≡ true
-      by u v in_e in_f false b p q = refl
-      by u v in_e in_f true false p q = refl
-      by u v in_e in_f true true p q =
-          and_from (not (name_eq u v)) (list_any (λ names. has_name u names && has_name v names) (groups S))
-          (differ u v p in_e in_f (name_eq u v) refl) (k.each_listed u v p q in_e in_f)
+  -- a symbol that is no variable is apart from all
+  no_variable : (x u : Name) → is_variable S x ≡ false → is_variable S u ≡ true → has_name u (x ∷ []) ≡ true → ⊥
+  no_variable x u none var in_x = by (name_eq u x) refl in_x
+    where
+      by : (b : Bool) → name_eq u x ≡ b → (b || false) ≡ true → ⊥
+      by true same h = true≢false (sym var ∙ (ap (is_variable S) (same_name u x same) ∙ none))
+      by false same h = cc
+
+  pub constant_left : (x : Name) (f : Expr) → is_variable S x ≡ false → are_apart S (x ∷ []) f ≡ true
+  constant_left x f none = apart-from S (x ∷ []) f (λ u v p q in_e in_f. absurd (no_variable x u none p in_e))
+
+  pub constant_right : (e : Expr) (y : Name) → is_variable S y ≡ false → are_apart S e (y ∷ []) ≡ true
+  constant_right e y none = apart-from S e (y ∷ []) (λ u v p q in_e in_f. absurd (no_variable y v none q in_f))
+
+  -- nor need its image be looked at
+  pub constant_image : (σ : Images) (names : List Name) (x : Name) → is_variable S x ≡ false → is_image_apart S σ names x (x ∷ []) ≡ true
+  constant_image σ names x none = all-from (λ y. name_eq x y || are_apart S (x ∷ []) (image σ y)) names (λ y in_y. or_right (name_eq x y) (are_apart S (x ∷ []) (image σ y)) (constant_left x (image σ y) none))
 
 -- ---- all lists
 

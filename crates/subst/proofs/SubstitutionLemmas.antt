@@ -1,13 +1,16 @@
 -- Substitution over numbers is substitution over the names that they stand for.
-use Rattle.std.specs.Prelude.{◌≡◌, ℕ, zero, suc, Bool, true, false, cond, nat_eq, nat_lt, ◌||◌, List, [], ◌∷◌, ◌++◌, length, refl}
+use Rattle.std.specs.Prelude.{◌≡◌, ℕ, zero, suc, Bool, true, false, cond, nat_eq, nat_lt, ◌||◌, ◌<◌, List, [], ◌∷◌, ◌++◌, length, map, Some, None, refl}
 use Rattle.std.specs.List.{list_all}
 use Rattle.std.proofs.Common.{sym, ◌∙◌, ap, arith}
-use Rattle.std.proofs.lemmas.Bool.{and_parts, ltb-true, lt-ltb, eqb-true, eqb-false, eq-eqb, ne_eqb}
+use Rattle.std.proofs.lemmas.Bool.{and_parts, and_from, ltb-true, lt-ltb, eqb-true, eqb-false, eq-eqb, ne_eqb}
 use Rattle.mm_lex.specs.Alphabet.{Name, name_eq, has_name}
-use Rattle.scope.specs.Numbering.{name_at, decode, AreCodes, AreDistinct}
+use Rattle.scope.specs.Numbering.{name_at, decode, code_of, AreCodes, AreDistinct}
 use Rattle.scope.proofs.NumberingLemmas.{name_same, name_eq-comm}
+use Rattle.frame.specs.ByPlaces.{AreBelow, AllBelow}
 use Rattle.frame.specs.Substitution.{CodeImages, code_image, code_apply, image, decode_images}
+use Rattle.frame.proofs.NameLemmas.{code-name, code-none}
 use Rattle.subst.specs.Laws.{SubstitutionOverNames, keys_of_images}
+use Rattle.subst.specs.Images.{IsOver}
 
 or_false : (a b : Bool) → (a || b) ≡ false → (a ≡ false) × (b ≡ false)
 or_false true b h = cc
@@ -65,3 +68,39 @@ substitution_over_names names σ (x ∷ e) d keys codes =
     decode-append names (code_image σ x) (code_apply σ e)
     ∙ (ap (λ r. r ++ decode names (code_apply σ e)) (image-decode names σ x d k.0 keys)
     ∙ ap (λ r. image (decode_images names σ) (name_at names x) ++ r) (substitution_over_names names σ e d keys k.1))
+
+-- ---- images over names
+
+codes-from : (n : ℕ) (xs : List ℕ) → AreBelow n xs → list_all (λ x. nat_lt x n) xs ≡ true
+codes-from n [] b = refl
+codes-from n (x ∷ xs) b = and_from (nat_lt x n) (list_all (λ x. nat_lt x n) xs) (lt-ltb x n b.0) (codes-from n xs b.1)
+
+-- each number of an image stands for a name
+pub image-below : (names : List Name) (σ : CodeImages) (x : ℕ) → IsOver names σ → x < length names → AreBelow (length names) (code_image σ x)
+image-below names σ x over h = go σ over.images
+  where
+    go : (τ : CodeImages) → AllBelow (length names) (map (λ p. p.1) τ) → AreBelow (length names) (code_image τ x)
+    go [] b = (h, tt)
+    go (p ∷ τ) b = by (nat_eq x p.0) (go τ b.1)
+      where
+        by : (t : Bool) → AreBelow (length names) (code_image τ x) → AreBelow (length names) (cond t p.1 (code_image τ x))
+        by true rest = b.0
+        by false rest = rest
+
+-- the image of a name is that of its number
+pub image-named : (names : List Name) (σ : CodeImages) (x : Name) (n : ℕ) → IsOver names σ → AreDistinct names → code_of names x ≡ Some n
+    → image (decode_images names σ) x ≡ decode names (code_image σ n)
+image-named names σ x n over d h =
+    let p = code-name names x n h in
+    ap (image (decode_images names σ)) (sym p.1)
+    ∙ sym (image-decode names σ n d (lt-ltb n (length names) p.0) (codes-from (length names) (keys_of_images σ) over.keys))
+
+-- and a name with no number has none
+pub image-unnamed : (names : List Name) (σ : CodeImages) (x : Name) → IsOver names σ → code_of names x ≡ None → image (decode_images names σ) x ≡ x ∷ []
+image-unnamed names σ x over h = go σ over.keys
+  where
+    go : (τ : CodeImages) → AreBelow (length names) (keys_of_images τ) → image (decode_images names τ) x ≡ x ∷ []
+    go [] b = refl
+    go (p ∷ τ) b =
+        ap (λ t. cond t (decode names p.1) (image (decode_images names τ) x)) (not_at x names p.0 (code-none names x h) (lt-ltb p.0 (length names) b.0))
+        ∙ go τ b.1

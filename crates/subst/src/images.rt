@@ -58,6 +58,17 @@ impl Subst {
         }
     }
 
+    /// The image of a symbol: its own, which is handed in, where it was given none.
+    pub(crate) fn image_or<'a>(&'a self, symbol: u32, own: &'a [u32]) -> &'a [u32]
+        requires { own.now ≡ symbol ∷ [] }
+        ensures { result.now ≡ code_image self.now symbol }
+    {
+        match self.image(symbol) {
+            Some(image) => image,
+            None => own,
+        }
+    }
+
     /// How many symbols the image of a symbol has.
     pub(crate) fn image_len(&self, symbol: u32) -> usize
         ensures { result ≡ length (code_image self.now symbol) }

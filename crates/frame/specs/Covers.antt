@@ -1,0 +1,41 @@
+-- One active `$d` that lists each variable of two images.
+-- Metamath, 4.2.5: a `$d` of many variables keeps apart each two of them.
+-- The code looks for such a `$d` before it looks at pairs; no public clause cites these words.
+use Rattle.std.specs.Prelude.{ℕ, Bool, false, not, ◌&&◌, ◌||◌, ◌%◌, List, slice_index_or}
+use Rattle.std.specs.List.{list_all, list_any}
+use Rattle.mm_lex.specs.Alphabet.{Name, has_name}
+use Rattle.mm_read.specs.declared.stmt.Stmt.{Stmt}
+use Rattle.mm_read.specs.Statements.{Expr, Database}
+use Rattle.scope.specs.Active.{active, separated, is_variable}
+use Rattle.frame.specs.Links.{is_disj}
+use Rattle.frame.specs.FrameOf.{is_pair}
+
+-- the symbol, where it is a variable, stands in the list
+abbrev pub is_listed : Database → List Name → Name → Bool
+is_listed S names u = not (is_variable S u) || has_name u names
+
+abbrev pub are_listed : Database → List Name → Expr → Bool
+are_listed S names e = list_all (is_listed S names) e
+
+-- a `$d` that lists each variable of both
+abbrev pub does_cover : Database → Expr → Expr → Stmt → Bool
+does_cover S e f s = is_disj s && (are_listed S (separated s) e && are_listed S (separated s) f)
+
+abbrev pub are_covered : Database → Expr → Expr → Bool
+are_covered S e f = list_any (λ p. does_cover S e f p.1) (active S)
+
+-- some variable stands in both
+abbrev pub do_share : Database → Expr → Expr → Bool
+do_share S e f = list_any (λ v. is_variable S v && has_name v e) f
+
+-- the variable u is kept apart from each variable of f
+abbrev pub is_variable_apart : Database → Name → Expr → Bool
+is_variable_apart S u f = list_all (λ v. not (is_variable S v) || is_pair S u v) f
+
+-- the symbol u, where it is a variable, is kept apart from each variable of f
+abbrev pub is_symbol_apart : Database → Expr → Name → Bool
+is_symbol_apart S f u = list_all (λ v. not (is_variable S u) || not (is_variable S v) || is_pair S u v) f
+
+-- the place of each symbol is marked
+abbrev pub are_marked : ℕ → List Bool → List ℕ → Bool
+are_marked places marked codes = list_all (λ x. slice_index_or marked (x % places) false) codes
