@@ -1,5 +1,5 @@
 -- One active `$d` that lists each variable of two images.
--- Metamath, 4.2.5: a `$d` of many variables keeps apart each two of them.
+-- Metamath, 4.2.4: a `$d` of many variables keeps apart each two of them.
 -- The code looks for such a `$d` before it looks at pairs; no public clause cites these words.
 use Rattle.std.specs.Prelude.{ℕ, Bool, false, not, ◌&&◌, ◌||◌, ◌%◌, List, slice_index_or}
 use Rattle.std.specs.List.{list_all, list_any}

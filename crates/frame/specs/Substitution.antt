@@ -1,8 +1,8 @@
 -- Images of symbols put into an expression, all at once. A symbol is a name, or a number that stands for one.
-use Rattle.std.specs.Prelude.{ℕ, Bool, nat_eq, if◌then◌else◌, List, [], ◌∷◌, map, flat_map}
+use Rattle.std.specs.Prelude.{ℕ, suc, Bool, nat_eq, if◌then◌else◌, List, [], ◌∷◌, flat_map}
 use Rattle.mm_lex.specs.Alphabet.{Name, name_eq}
 use Rattle.mm_read.specs.Statements.{Expr}
-use Rattle.scope.specs.Numbering.{name_at, decode}
+use Rattle.scope.specs.Numbering.{decode}
 
 -- the image of a symbol, by the first entry for it; a symbol with none is its own
 abbrev pub image_by : {A : Type 0} → (A → A → Bool) → List (A × List A) → A → List A
@@ -32,5 +32,10 @@ code_image σ x = image_by nat_eq σ x
 abbrev pub code_apply : CodeImages → List ℕ → List ℕ
 code_apply σ e = apply_by nat_eq σ e
 
-abbrev pub decode_images : List Name → CodeImages → Images
-decode_images names σ = map (λ p. (name_at names p.0, decode names p.1)) σ
+-- the images of names: of each the image of its number
+abbrev pub images_from : List Name → CodeImages → ℕ → List Name → Images
+images_from names σ n [] = []
+images_from names σ n (x ∷ xs) = (x, decode names (code_image σ n)) ∷ images_from names σ (suc n) xs
+
+abbrev pub images_of_names : List Name → CodeImages → Images
+images_of_names names σ = images_from names σ 0 names

@@ -46,10 +46,9 @@ impl<'a> Pairs<'a> {
         x != y && stand_together(self.stock, self.at, x, y)
     }
 
-    /// The number of a name, where it has one. No two names have one number, and a name with none is no variable there.
+    /// The number of a name, where it has one. A name with none is no variable there.
     pub fn number(&self, name: &[u8]) -> Option<u32>
         ensures number { result ≡ code_of self.now.names name.now }
-        ensures distinct { AreDistinct self.now.names }
         ensures unnamed { IfNone result (is_variable self.now.statements name.now ≡ false) }
     {
         match self.stock.names.find(name) {

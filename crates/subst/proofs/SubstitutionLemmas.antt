@@ -1,16 +1,14 @@
 -- Substitution over numbers is substitution over the names that they stand for.
-use Rattle.std.specs.Prelude.{◌≡◌, ℕ, zero, suc, Bool, true, false, cond, nat_eq, nat_lt, ◌||◌, ◌<◌, List, [], ◌∷◌, ◌++◌, length, map, Some, None, refl}
-use Rattle.std.specs.List.{list_all}
+use Rattle.std.specs.Prelude.{◌≡◌, ℕ, zero, suc, Bool, true, false, cond, not, nat_lt, ◌||◌, ◌+◌, List, [], ◌∷◌, ◌++◌, length, Some, None, refl}
+use Rattle.std.specs.List.{list_all, position_or_len}
 use Rattle.std.proofs.Common.{sym, ◌∙◌, ap, arith}
-use Rattle.std.proofs.lemmas.Bool.{and_parts, and_from, ltb-true, lt-ltb, eqb-true, eqb-false, eq-eqb, ne_eqb}
+use Rattle.std.proofs.lemmas.Bool.{and_parts, ltb-true, lt-ltb}
 use Rattle.mm_lex.specs.Alphabet.{Name, name_eq, has_name}
-use Rattle.scope.specs.Numbering.{name_at, decode, code_of, AreCodes, AreDistinct}
+use Rattle.scope.specs.Numbering.{name_at, decode, code_of, AreDistinct}
 use Rattle.scope.proofs.NumberingLemmas.{name_same, name_eq-comm}
-use Rattle.frame.specs.ByPlaces.{AreBelow, AllBelow}
-use Rattle.frame.specs.Substitution.{CodeImages, code_image, code_apply, image, decode_images}
-use Rattle.frame.proofs.NameLemmas.{code-name, code-none}
-use Rattle.subst.specs.Laws.{SubstitutionOverNames, keys_of_images}
-use Rattle.subst.specs.Images.{IsOver}
+use Rattle.frame.specs.Substitution.{CodeImages, code_image, code_apply, image, images_from, images_of_names}
+use Rattle.frame.proofs.NameLemmas.{code-none, position-has}
+use Rattle.subst.specs.Laws.{SubstitutionOverNames}
 
 or_false : (a b : Bool) → (a || b) ≡ false → (a ≡ false) × (b ≡ false)
 or_false true b h = cc
@@ -25,82 +23,71 @@ not_at x [] n h k = absurd (omega (arith, ltb-true n 0 k))
 not_at x (y ∷ names) zero h k = (or_false (name_eq x y) (has_name x names) h).0
 not_at x (y ∷ names) (suc n) h k = not_at x names n (or_false (name_eq x y) (has_name x names) h).1 (tail_lt n (length names) k)
 
-eq_suc : (m n : ℕ) → nat_eq m n ≡ nat_eq (suc m) (suc n)
-eq_suc m n = by (nat_eq m n) refl
-  where
-    by : (b : Bool) → nat_eq m n ≡ b → nat_eq m n ≡ nat_eq (suc m) (suc n)
-    by true e = e ∙ sym (eq-eqb (suc m) (suc n) (ap (λ k. suc k) (eqb-true m n e)))
-    by false e = e ∙ sym (ne_eqb (suc m) (suc n) (λ h. eqb-false m n e (omega arith)))
-
--- the test over names says of two numbers what the test over numbers says
-same_test : (names : List Name) (m n : ℕ) → AreDistinct names → nat_lt m (length names) ≡ true → nat_lt n (length names) ≡ true
-    → name_eq (name_at names m) (name_at names n) ≡ nat_eq m n
-same_test [] m n d p q = absurd (omega (arith, ltb-true m 0 p))
-same_test (x ∷ names) zero zero d p q = name_same x
-same_test (x ∷ names) zero (suc n) d p q =
-    not_at x names n d.0 (tail_lt n (length names) q) ∙ sym (ne_eqb zero (suc n) (λ h. omega arith))
-same_test (x ∷ names) (suc m) zero d p q =
-    name_eq-comm (name_at names m) x ∙ (not_at x names m d.0 (tail_lt m (length names) p) ∙ sym (ne_eqb (suc m) zero (λ h. omega arith)))
-same_test (x ∷ names) (suc m) (suc n) d p q =
-    same_test names m n d.1 (tail_lt m (length names) p) (tail_lt n (length names) q) ∙ eq_suc m n
-
 decode-append : (names : List Name) (a b : List ℕ) → decode names (a ++ b) ≡ decode names a ++ decode names b
 decode-append names [] b = refl
 decode-append names (x ∷ a) b = ap (λ r. name_at names x ∷ r) (decode-append names a b)
 
-decode-cond : (names : List Name) (t : Bool) (a b : List ℕ) → decode names (cond t a b) ≡ cond t (decode names a) (decode names b)
-decode-cond names true a b = refl
-decode-cond names false a b = refl
-
-image-decode : (names : List Name) (σ : CodeImages) (x : ℕ) → AreDistinct names → nat_lt x (length names) ≡ true → AreCodes names (keys_of_images σ)
-    → decode names (code_image σ x) ≡ image (decode_images names σ) (name_at names x)
-image-decode names [] x d p keys = refl
-image-decode names (e ∷ σ) x d p keys =
-    let k = and_parts (nat_lt e.0 (length names)) (list_all (λ n. nat_lt n (length names)) (keys_of_images σ)) keys in
-    decode-cond names (nat_eq x e.0) e.1 (code_image σ x)
-    ∙ (ap (λ r. cond (nat_eq x e.0) (decode names e.1) r) (image-decode names σ x d p k.1)
-    ∙ ap (λ t. cond t (decode names e.1) (image (decode_images names σ) (name_at names x))) (sym (same_test names x e.0 d p k.0)))
-
-pub substitution_over_names : SubstitutionOverNames
-substitution_over_names names σ [] d keys codes = refl
-substitution_over_names names σ (x ∷ e) d keys codes =
-    let k = and_parts (nat_lt x (length names)) (list_all (λ n. nat_lt n (length names)) e) codes in
-    decode-append names (code_image σ x) (code_apply σ e)
-    ∙ (ap (λ r. r ++ decode names (code_apply σ e)) (image-decode names σ x d k.0 keys)
-    ∙ ap (λ r. image (decode_images names σ) (name_at names x) ++ r) (substitution_over_names names σ e d keys k.1))
-
--- ---- images over names
-
-codes-from : (n : ℕ) (xs : List ℕ) → AreBelow n xs → list_all (λ x. nat_lt x n) xs ≡ true
-codes-from n [] b = refl
-codes-from n (x ∷ xs) b = and_from (nat_lt x n) (list_all (λ x. nat_lt x n) xs) (lt-ltb x n b.0) (codes-from n xs b.1)
-
--- each number of an image stands for a name
-pub image-below : (names : List Name) (σ : CodeImages) (x : ℕ) → IsOver names σ → x < length names → AreBelow (length names) (code_image σ x)
-image-below names σ x over h = go σ over.images
+-- the image of a name among images of names
+image-at : (names : List Name) (σ : CodeImages) (k : ℕ) (xs : List Name) (x : Name)
+    → image (images_from names σ k xs) x ≡ cond (has_name x xs) (decode names (code_image σ (k + position_or_len (name_eq x) xs))) (x ∷ [])
+image-at names σ k [] x = refl
+image-at names σ k (y ∷ xs) x = by (name_eq x y) (image-at names σ (suc k) xs x)
   where
-    go : (τ : CodeImages) → AllBelow (length names) (map (λ p. p.1) τ) → AreBelow (length names) (code_image τ x)
-    go [] b = (h, tt)
-    go (p ∷ τ) b = by (nat_eq x p.0) (go τ b.1)
-      where
-        by : (t : Bool) → AreBelow (length names) (code_image τ x) → AreBelow (length names) (cond t p.1 (code_image τ x))
-        by true rest = b.0
-        by false rest = rest
+    by : (b : Bool) → image (images_from names σ (suc k) xs) x ≡ cond (has_name x xs) (decode names (code_image σ (suc k + position_or_len (name_eq x) xs))) (x ∷ [])
+        → cond b (decode names (code_image σ k)) (image (images_from names σ (suc k) xs) x)
+        ≡ cond (b || has_name x xs) (decode names (code_image σ (k + cond (not b) (1 + position_or_len (name_eq x) xs) 0))) (x ∷ [])
+    by true rest = let e : k ≡ k + 0 = omega arith in ap (λ n. decode names (code_image σ n)) e
+    by false rest =
+        let e : suc k + position_or_len (name_eq x) xs ≡ k + (1 + position_or_len (name_eq x) xs) = omega arith in
+        rest ∙ ap (λ n. cond (has_name x xs) (decode names (code_image σ n)) (x ∷ [])) e
 
 -- the image of a name is that of its number
-pub image-named : (names : List Name) (σ : CodeImages) (x : Name) (n : ℕ) → IsOver names σ → AreDistinct names → code_of names x ≡ Some n
-    → image (decode_images names σ) x ≡ decode names (code_image σ n)
-image-named names σ x n over d h =
-    let p = code-name names x n h in
-    ap (image (decode_images names σ)) (sym p.1)
-    ∙ sym (image-decode names σ n d (lt-ltb n (length names) p.0) (codes-from (length names) (keys_of_images σ) over.keys))
+pub image-named : (names : List Name) (σ : CodeImages) (x : Name) (n : ℕ) → code_of names x ≡ Some n → image (images_of_names names σ) x ≡ decode names (code_image σ n)
+image-named names σ x n h =
+    let has : has_name x names ≡ true = position-has (name_eq x) names n h in
+    image-at names σ 0 names x
+    ∙ (ap (λ b. cond b (decode names (code_image σ (0 + position_or_len (name_eq x) names))) (x ∷ [])) has
+    ∙ ap (λ m. decode names (code_image σ m)) (place (nat_lt (position_or_len (name_eq x) names) (length names)) h))
+  where
+    place : (b : Bool) → cond b (Some (position_or_len (name_eq x) names)) None ≡ Some n → 0 + position_or_len (name_eq x) names ≡ n
+    place true e = let f : position_or_len (name_eq x) names ≡ n = cc in omega (arith, f)
+    place false e = cc
 
 -- and a name with no number has none
-pub image-unnamed : (names : List Name) (σ : CodeImages) (x : Name) → IsOver names σ → code_of names x ≡ None → image (decode_images names σ) x ≡ x ∷ []
-image-unnamed names σ x over h = go σ over.keys
+pub image-unnamed : (names : List Name) (σ : CodeImages) (x : Name) → code_of names x ≡ None → image (images_of_names names σ) x ≡ x ∷ []
+image-unnamed names σ x h =
+    image-at names σ 0 names x
+    ∙ ap (λ b. cond b (decode names (code_image σ (0 + position_or_len (name_eq x) names))) (x ∷ [])) (code-none names x h)
+
+-- a number's name has that number, where names are told apart
+place-of : (names : List Name) (n : ℕ) → AreDistinct names → nat_lt n (length names) ≡ true
+    → (has_name (name_at names n) names ≡ true) × (position_or_len (name_eq (name_at names n)) names ≡ n)
+place-of [] n d h = absurd (omega (arith, ltb-true n 0 h))
+place-of (x ∷ names) zero d h = (ap (λ b. b || has_name x names) (name_same x), ap (λ b. cond (not b) (1 + position_or_len (name_eq x) names) 0) (name_same x))
+place-of (x ∷ names) (suc n) d h =
+    let low = tail_lt n (length names) h in
+    let rest = place-of names n d.1 low in
+    let other : name_eq (name_at names n) x ≡ false = name_eq-comm (name_at names n) x ∙ not_at x names n d.0 low in (
+      ap (λ b. b || has_name (name_at names n) names) other ∙ rest.0,
+      ap (λ b. cond (not b) (1 + position_or_len (name_eq (name_at names n)) names) 0) other ∙ up (position_or_len (name_eq (name_at names n)) names) n rest.1,
+    )
   where
-    go : (τ : CodeImages) → AreBelow (length names) (keys_of_images τ) → image (decode_images names τ) x ≡ x ∷ []
-    go [] b = refl
-    go (p ∷ τ) b =
-        ap (λ t. cond t (decode names p.1) (image (decode_images names τ) x)) (not_at x names p.0 (code-none names x h) (lt-ltb p.0 (length names) b.0))
-        ∙ go τ b.1
+    up : (m n : ℕ) → m ≡ n → 1 + m ≡ suc n
+    up m n e = omega (arith, e)
+
+image-decode : (names : List Name) (σ : CodeImages) (n : ℕ) → AreDistinct names → nat_lt n (length names) ≡ true
+    → decode names (code_image σ n) ≡ image (images_of_names names σ) (name_at names n)
+image-decode names σ n d h =
+    let p = place-of names n d h in
+    let same : 0 + position_or_len (name_eq (name_at names n)) names ≡ n = omega (arith, p.1) in
+    sym (image-at names σ 0 names (name_at names n)
+    ∙ (ap (λ b. cond b (decode names (code_image σ (0 + position_or_len (name_eq (name_at names n)) names))) (name_at names n ∷ [])) p.0
+    ∙ ap (λ m. decode names (code_image σ m)) same))
+
+pub substitution_over_names : SubstitutionOverNames
+substitution_over_names names σ [] d codes = refl
+substitution_over_names names σ (x ∷ e) d codes =
+    let k = and_parts (nat_lt x (length names)) (list_all (λ n. nat_lt n (length names)) e) codes in
+    decode-append names (code_image σ x) (code_apply σ e)
+    ∙ (ap (λ r. r ++ decode names (code_apply σ e)) (image-decode names σ x d k.0)
+    ∙ ap (λ r. image (images_of_names names σ) (name_at names x) ++ r) (substitution_over_names names σ e d k.1))

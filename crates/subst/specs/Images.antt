@@ -1,19 +1,17 @@
 -- Images by numbers as images of names.
 -- Source: this project's form of keeping names; images of variables are Metamath, 4.2.6.
 -- The code goes through the lists of a frame one variable at a time.
-use Rattle.std.specs.Prelude.{Bool, ◌||◌, List, length, map}
+use Rattle.std.specs.Prelude.{ℕ, ◌<◌, Bool, ◌||◌, List, length}
 use Rattle.std.specs.List.{list_all}
 use Rattle.mm_lex.specs.Alphabet.{Name, name_eq}
 use Rattle.mm_read.specs.Statements.{Expr, Database}
-use Rattle.frame.specs.ByPlaces.{AreBelow, AllBelow}
-use Rattle.frame.specs.Substitution.{CodeImages, Images, image}
+use Rattle.frame.specs.ByPlaces.{AreBelow}
+use Rattle.frame.specs.Substitution.{CodeImages, Images, code_image, image}
 use Rattle.frame.specs.Disjoint.{are_apart}
-use Rattle.subst.specs.Laws.{keys_of_images}
 
--- each number of the images, and each that has one, stands for a name
-pub record IsOver (names : List Name) (σ : CodeImages) : Type 0 where
-  pub keys : AreBelow (length names) (keys_of_images σ)
-  pub images : AllBelow (length names) (map (λ p. p.1) σ)
+-- the image of each number that stands for a name has such numbers alone
+abbrev pub AreOver : List Name → CodeImages → Type 0
+AreOver names σ = (n : ℕ) → n < length names → AreBelow (length names) (code_image σ n)
 
 -- the image e of x is apart from those of the other names
 abbrev pub is_image_apart : Database → Images → List Name → Name → Expr → Bool

@@ -1,25 +1,21 @@
 -- Laws of substitution and of the images that are kept apart.
 -- Source: Metamath, 4.1 (substitution, and the two conditions on the images of variables that are kept apart).
 -- The code substitutes over numbers, and tests all symbols of two images against each other at once.
-use Rattle.std.specs.Prelude.{◌≡◌, ℕ, ◌↔◌, ◌&&◌, List, map, IsTrue}
+use Rattle.std.specs.Prelude.{◌≡◌, ℕ, ◌↔◌, ◌&&◌, List, IsTrue}
 use Rattle.std.specs.List.{list_any}
 use Rattle.mm_lex.specs.Alphabet.{Name, has_name}
 use Rattle.mm_read.specs.Statements.{Expr, Database}
 use Rattle.scope.specs.Active.{is_variable}
 use Rattle.scope.specs.Numbering.{decode, AreCodes, AreDistinct}
 use Rattle.frame.specs.FrameOf.{groups, together}
-use Rattle.frame.specs.Substitution.{CodeImages, Images, image, apply, code_apply, decode_images}
+use Rattle.frame.specs.Substitution.{CodeImages, Images, image, apply, code_apply, images_of_names}
 use Rattle.frame.specs.Disjoint.{are_groups_apart}
-
--- the symbols that have images
-abbrev pub keys_of_images : CodeImages → List ℕ
-keys_of_images σ = map (λ p. p.0) σ
 
 -- where no two numbers stand for one name, to substitute and then to read names is to read names and then to substitute
 abbrev pub SubstitutionOverNames : Type 0
 SubstitutionOverNames =
-    (names : List Name) (σ : CodeImages) (e : List ℕ) → AreDistinct names → AreCodes names (keys_of_images σ) → AreCodes names e
-    → decode names (code_apply σ e) ≡ apply (decode_images names σ) (decode names e)
+    (names : List Name) (σ : CodeImages) (e : List ℕ) → AreDistinct names → AreCodes names e
+    → decode names (code_apply σ e) ≡ apply (images_of_names names σ) (decode names e)
 
 -- the two conditions on two images: no variable stands in both,
 -- and each two variables, one from each, stand together in an active `$d`

@@ -3,7 +3,7 @@ use Rattle.scope.specs.Numbering.{decode}
 use Rattle.frame.specs.ByPlaces.{AreBelow}
 use Rattle.frame.specs.Disjoint.{are_apart}
 use Rattle.frame.proofs.NameLemmas.{code-name}
-use Rattle.subst.proofs.SubstitutionLemmas.{image-below, image-named, image-unnamed}
+use Rattle.subst.proofs.SubstitutionLemmas.{image-named, image-unnamed}
 use Rattle.subst.proofs.DisjointLemmas.{constant_right}
 use Rattle.subst.proofs.apart.apart_from.Goals as goal
 
@@ -13,7 +13,7 @@ images_apart-requires-clause-right c =
     let σ = c.args.subst.now in
     let n = c.in-Some.number in
     subst (AreBelow (length names)) (sym c.image_or.ensures)
-    (image-below names σ n c.requires.named (code-name names c.args.y.now n (sym c.number.ensures.number ∙ c.in-Some.is)).0)
+    (c.requires.named n (code-name names c.args.y.now n (sym c.number.ensures.number ∙ c.in-Some.is)).0)
 
 pub returns-in-Some : goal.returns-in-Some
 returns-in-Some c =
@@ -22,11 +22,11 @@ returns-in-Some c =
     let e = decode v.names c.args.other.now in
     c.images_apart.ensures
     ∙ (ap (λ i. are_apart v.statements e (decode v.names i)) c.image_or.ensures
-    ∙ ap (are_apart v.statements e) (sym (image-named v.names σ c.args.y.now c.in-Some.number c.requires.named c.number.ensures.distinct (sym c.number.ensures.number ∙ c.in-Some.is))))
+    ∙ ap (are_apart v.statements e) (sym (image-named v.names σ c.args.y.now c.in-Some.number (sym c.number.ensures.number ∙ c.in-Some.is))))
 
 pub returns-in-None : goal.returns-in-None
 returns-in-None c =
     let v = c.args.pairs.now in
     let e = decode v.names c.args.other.now in
-    sym (ap (are_apart v.statements e) (image-unnamed v.names c.args.subst.now c.args.y.now c.requires.named (sym c.number.ensures.number ∙ c.in-None.is))
+    sym (ap (are_apart v.statements e) (image-unnamed v.names c.args.subst.now c.args.y.now (sym c.number.ensures.number ∙ c.in-None.is))
     ∙ constant_right v.statements e c.args.y.now c.in-None.ensures.unnamed)
