@@ -1,0 +1,56 @@
+-- Jobs stay jobs where statements are added behind; the last `$p` is the next job.
+use Rattle.std.proofs.Common.{◌≡◌, ℕ, zero, suc, ◌++◌, ◌⊎◌, inl, inr, List, [], ◌∷◌, length, slice_get, Some, IsTrue, arith, sym, subst, refl, ap, ◌∙◌}
+use Rattle.std.proofs.lemmas.List.{length-append}
+use Rattle.std.proofs.lemmas.Option.{same_Some, none-some}
+use Rattle.mm_read.specs.declared.stmt.Stmt.{Stmt}
+use Rattle.mm_read.specs.Statements.{Database}
+use Rattle.scope.specs.Active.{stmt_at, is_provable}
+use Rattle.verify_pool.specs.declared.job.Job.{Job}
+use Rattle.verify_pool.specs.Jobs.{IsJob, AreJobs}
+
+get_stays : {X : Type 0} (xs ys : List X) (k : ℕ) (x : X) → slice_get xs k ≡ Some x → slice_get (xs ++ ys) k ≡ Some x
+get_stays [] ys k x e = absurd (none-some x e)
+get_stays (y ∷ xs) ys zero x e = e
+get_stays (y ∷ xs) ys (suc k) x e = get_stays xs ys k x e
+
+get_last : {X : Type 0} (xs : List X) (x : X) → slice_get (xs ++ x ∷ []) (length xs) ≡ Some x
+get_last [] x = refl
+get_last (y ∷ xs) x = get_last xs x
+
+get_added : {X : Type 0} (xs : List X) (x y : X) (k : ℕ) → slice_get (xs ++ x ∷ []) k ≡ Some y → (slice_get xs k ≡ Some y) ⊎ (x ≡ y)
+get_added [] x y zero e = inr (same_Some x y e)
+get_added [] x y (suc k) e = absurd (none-some y e)
+get_added (z ∷ xs) x y zero e = inl e
+get_added (z ∷ xs) x y (suc k) e = get_added xs x y k e
+
+stmt_stays : (S more : Database) (at : ℕ) (s : Stmt) → stmt_at S at ≡ Some s → stmt_at (S ++ more) at ≡ Some s
+stmt_stays S more zero s e = absurd (none-some s e)
+stmt_stays S more (suc n) s e = get_stays S more n s e
+
+jobs_stay : (S more : Database) (jobs : List Job) → AreJobs S jobs → AreJobs (S ++ more) jobs
+jobs_stay S more jobs are k job stands =
+    let old = are k job stands in
+    (old.0, record { stands = stmt_stays S more job.at old.0 old.1.stands; provable = old.1.provable })
+
+pub last_is_job : (S : Database) (s : Stmt) (job : Job) → IsTrue (is_provable s) → job.at ≡ length (S ++ s ∷ []) → IsJob (S ++ s ∷ []) job
+last_is_job S s job provable last =
+    let at : suc (length S) ≡ job.at = omega (arith, length-append S (s ∷ []), last) in
+    (s, record { stands = subst (λ n. stmt_at (S ++ s ∷ []) n ≡ Some s) at (get_last S s); provable = provable })
+
+job_added : (S : Database) (jobs : List Job) (job : Job) → AreJobs S jobs → IsJob S job → AreJobs S (jobs ++ job ∷ [])
+job_added S jobs job are is k other stands =
+    elim (get_added jobs job other k stands) as (λ _. IsJob S other) [
+      | inl old ↦ are k other old
+      | inr same ↦ subst (IsJob S) same is
+    ]
+
+-- one statement more
+pub same_jobs : (S T : Database) (s : Stmt) (jobs : List Job) → T ≡ S ++ s ∷ [] → AreJobs S jobs → AreJobs T jobs
+same_jobs S T s jobs more are = subst (λ U. AreJobs U jobs) (sym more) (jobs_stay S (s ∷ []) jobs are)
+
+-- one `$p` more, with its job
+pub next_job : (S T : Database) (s : Stmt) (jobs : List Job) (job : Job) → T ≡ S ++ s ∷ [] → AreJobs S jobs
+    → IsTrue (is_provable s) → job.at ≡ length T → AreJobs T (jobs ++ job ∷ [])
+next_job S T s jobs job more are provable last =
+    job_added T jobs job (same_jobs S T s jobs more are)
+    (subst (λ U. IsJob U job) (sym more) (last_is_job S s job provable (last ∙ ap length more)))

@@ -1,0 +1,3 @@
+pub mod StripeLemmas
+pub mod JobsLemmas
+mod LawsHold

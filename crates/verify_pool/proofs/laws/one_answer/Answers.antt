@@ -1,0 +1,5 @@
+use Rattle.verify_pool.proofs.LawsHold.{one_answer}
+use Rattle.verify_pool.proofs.laws.one_answer.Goals as goal
+
+pub returns : goal.returns
+returns c = one_answer

@@ -1,0 +1,39 @@
+-- The least job that is not right.
+-- What is right is `verify`'s, from Metamath, 4.2.6 and appendix B; that the least bad proof decides is this project's.
+-- The code deals the jobs out to workers; here they are one list, judged in order.
+use Rattle.std.specs.Prelude.{◌≡◌, ℕ, ◌<◌, List, slice_get, Option, Some, None, IfSome, MatchOption, ⊤}
+use Rattle.mm_read.specs.declared.stmt.Stmt.{Stmt}
+use Rattle.mm_read.specs.Statements.{Database}
+use Rattle.verify.specs.Right.{IsProvable, IsRight}
+use Rattle.verify_pool.specs.declared.job.Job.{Job}
+
+-- a `$p` stands at the job's position
+abbrev pub IsJob : Database → Job → Type 0
+IsJob S job = (s : Stmt) × IsProvable S job.at s
+
+abbrev pub AreJobs : Database → List Job → Type 0
+AreJobs S jobs = (k : ℕ) (job : Job) → slice_get jobs k ≡ Some job → IsJob S job
+
+-- the job has items, and they are a right proof of its `$p`
+abbrev pub IsRightJob : Database → Job → Type 0
+IsRightJob S job = MatchOption job.code ⊥ (λ items. IsRight S job.at items)
+
+-- index k is before the answer; where the answer is none, each index is
+abbrev pub IsBefore : ℕ → Option ℕ → Type 0
+IsBefore k None = ⊤
+IsBefore k (Some i) = k < i
+
+-- each job before the answer is right
+abbrev pub AreRightBefore : Database → List Job → Option ℕ → Type 0
+AreRightBefore S jobs answer = (k : ℕ) (job : Job) → IsBefore k answer → slice_get jobs k ≡ Some job → IsRightJob S job
+
+-- a job stands at index i, and is not right
+pub record IsBadAt (S : Database) (jobs : List Job) (i : ℕ) : Type 0 where
+  pub job : Job
+  pub stands : slice_get jobs i ≡ Some job
+  pub bad : ¬ IsRightJob S job
+
+-- the answer is the index of the least job that is not right, or none where each is right
+pub record LeastBad (S : Database) (jobs : List Job) (answer : Option ℕ) : Type 0 where
+  pub before : AreRightBefore S jobs answer
+  pub bad : IfSome answer (IsBadAt S jobs)

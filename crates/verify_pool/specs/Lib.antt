@@ -1,0 +1,3 @@
+pub mod Jobs
+pub mod Stripes
+pub mod Laws

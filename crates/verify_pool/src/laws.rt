@@ -1,0 +1,8 @@
+//! What holds of the answers, as contracts of calls that do nothing.
+
+ghost use Rattle.verify_pool.specs.Laws.{OneAnswer};
+
+/// At most one answer is the least bad job of a list of jobs, so no answer depends on the number of workers.
+pub fn one_answer()
+    ensures { OneAnswer }
+{}
