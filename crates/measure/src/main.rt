@@ -4,11 +4,13 @@
 //! answers of the ones before it.
 #![tactic(auto)]
 
-ghost use Rattle.std.specs.Prelude.{◌≡◌, [], ◌∷◌, ◌++◌, IsTrue};
+ghost use Rattle.std.specs.Prelude.{◌≡◌, [], ◌∷◌, ◌++◌, IsTrue, length};
+ghost use Rattle.mm_read.specs.declared.stmt.Stmt.{Stmt as Statement};
 ghost use Rattle.mm_read.specs.Statements.{AreShaped};
 ghost use Rattle.scope.specs.Active.{bare, is_provable};
+ghost use Rattle.frame.specs.FrameOf.{HasAssertion};
 
-use frame::{Frames, frame};
+use frame::Frames;
 use mm_lex::Words;
 use mm_read::Stmt;
 use proof_code::{Items, is_compressed, normal, packed};
@@ -17,6 +19,9 @@ use std::alloc::{AllocError, Global};
 use std::io::{self, Read};
 use std::time::{Duration, Instant};
 use verify::{Answer, Checker};
+
+/// Room for the labels of most frames.
+const LABEL_BYTES: usize = 512;
 
 fn main(rt: HostRuntime) -> io::Result<()> {
     let alloc = rt.alloc();
@@ -112,7 +117,7 @@ fn count_proved(alloc: Global, statements: &[Stmt]) -> usize
             break;
         }
         if let Stmt::Prove { proof, .. } = statement {
-            let mandatory = mandatory_labels(alloc, &scope, statement, statements);
+            let mandatory = mandatory_labels(alloc, &scope, &frames, statement, statements);
             if is_proved(
                 alloc,
                 &mut checker,
@@ -132,18 +137,21 @@ fn count_proved(alloc: Global, statements: &[Stmt]) -> usize
     proved
 }
 
-/// The labels of the mandatory hypotheses of an assertion that comes next.
+/// The labels of the mandatory hypotheses of the assertion that the frames hold last.
 fn mandatory_labels(
     alloc: Global,
     scope: &Scope,
+    frames: &Frames,
     statement: &Stmt,
     statements: &[Stmt],
 ) -> Result<Words, AllocError>
-    requires { IsTrue (is_provable statement.now) }
+    requires last { frames.now.statements ≡ scope.now.statements ++ bare statement.now ∷ [] }
+    requires provable { IsTrue (is_provable statement.now) }
 {
-    let mut labels = Words::new(alloc);
-    let asked = frame(alloc, scope, statement)?;
-    for position in asked.hypotheses() {
+    let _scope = scope;
+    let _statement = statement;
+    let mut labels = Words::with_capacity(alloc, LABEL_BYTES)?;
+    for position in frames.hypotheses(frames.len()) {
         match statements.get(position.saturating_sub(1)) {
             Some(Stmt::Float { label, .. }) => labels.push(label.as_bytes())?,
             Some(Stmt::Ess { label, .. }) => labels.push(label.as_bytes())?,

@@ -4,6 +4,7 @@ pub mod Complete
 pub mod Decide
 pub mod PlaceLemmas
 pub mod PartLemmas
+pub mod CopyLemmas
 pub mod Named
 pub mod ApartLemmas
 pub mod TableLemmas

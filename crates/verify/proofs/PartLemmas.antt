@@ -56,7 +56,7 @@ pub filled-front : {A : Type 0} (symbol : ℕ → A) (r : ℕ) (rs : List (List 
     → filled symbol r rs t ≡ filled symbol r rs (take i t) ++ filled symbol r rs (drop i t)
 filled-front symbol r rs t i = ap (filled symbol r rs) (sym (take-append-drop i t)) ∙ flat_map-append (part symbol r rs) (take i t) (drop i t)
 
-drop-at : {A : Type 0} (xs : List A) (i : ℕ) (d : A) → i < length xs → drop i xs ≡ get_or xs i d ∷ drop (i + 1) xs
+pub drop-at : {A : Type 0} (xs : List A) (i : ℕ) (d : A) → i < length xs → drop i xs ≡ get_or xs i d ∷ drop (i + 1) xs
 drop-at [] i d h = absurd (omega (arith, h))
 drop-at (x ∷ xs) zero d h = refl
 drop-at (x ∷ xs) (suc i) d h = let e : suc (i + 1) ≡ suc i + 1 = omega arith in drop-at xs i d (omega (arith, h)) ∙ ap (λ n. get_or xs i d ∷ drop n (x ∷ xs)) e
@@ -151,7 +151,7 @@ pub fill-part-image : (xs zs : List ℕ) (ps : List Place) (n : ℕ) (p d : Plac
 fill-part-image xs zs ps n p d (Err e) h at low f = tt
 fill-part-image xs zs ps n p d (Ok u) h at low f = f ∙ ap (λ s. xs ++ s) (tail-range xs p low ∙ (ap (λ q. drop 1 (seen_at xs q)) at ∙ sym (part-image xs ps n d h)))
 
-rest-of : {A : Type 0} (k : ℕ) (s : List A) → take (length s - k) (drop k s) ≡ drop k s
+pub rest-of : {A : Type 0} (k : ℕ) (s : List A) → take (length s - k) (drop k s) ≡ drop k s
 rest-of k s = take_all (length s - k) (drop k s) (let e = length-drop k s in omega (arith, e))
 
 -- the places of the last r results

@@ -4,6 +4,7 @@ pub mod Spells
 pub mod Right
 pub mod Machine
 pub mod Places
+pub mod Written
 pub mod Apart
 pub mod Goes
 pub mod Table

@@ -70,7 +70,7 @@ fn two_apart(pairs: &Pairs<'_>, k: u32, l: u32, symbols: &[u32], places: &[Place
     )
 }
 
-/// Whether the image at the place is apart from those at the other places of the group.
+/// Whether the image at the place is apart from those at the other places.
 fn place_apart(pairs: &Pairs<'_>, k: u32, group: &[u32], symbols: &[u32], places: &[Place]) -> bool
     requires named { AllBelow (length pairs.now.names) (map (seen_at symbols.now) places.now) }
     requires within { AreWithin (length symbols.now) places.now }
@@ -86,15 +86,15 @@ fn place_apart(pairs: &Pairs<'_>, k: u32, group: &[u32], symbols: &[u32], places
     true
 }
 
-/// Whether the images at each two places of the group are apart.
+/// Whether the images at each two places of the group are apart. Each two are compared once.
 fn group_apart(pairs: &Pairs<'_>, group: &[u32], symbols: &[u32], places: &[Place]) -> bool
     requires named { AllBelow (length pairs.now.names) (map (seen_at symbols.now) places.now) }
     requires within { AreWithin (length symbols.now) places.now }
     requires below { AreBelow (length places.now) group.now }
     ensures { result ≡ is_group_apart pairs.now.statements (named_at pairs.now.names symbols.now places.now) group.now }
 {
-    for k in group {
-        if !place_apart(pairs, *k, group, symbols, places) {
+    for (index, k) in group.iter().enumerate() {
+        if !place_apart(pairs, *k, &group[index + 1..], symbols, places) {
             return false;
         }
     }

@@ -9,7 +9,8 @@ ghost use Rattle.verify.specs.Machine.{with_result, with_mark, IsSaved};
 ghost use Rattle.verify.specs.Right.{weight_limit};
 
 use crate::apart::groups_apart;
-use crate::templates::{all_fit, fill, filled_len, result_at};
+use crate::symbols::Symbols;
+use crate::templates::{all_fit, result_at};
 use frame::{Pairs, Pattern};
 use std::alloc::{AllocError, Global};
 use std::marker::Model;
@@ -26,7 +27,7 @@ const LIMIT: usize = 67_108_864;
 /// The results of a proof so far, their symbols in one buffer.
 #[derive(Drop)]
 pub struct Results {
-    symbols: Vec<u32>,
+    symbols: Symbols,
     stack: Vec<Place>,
     saved: Vec<Place>,
     weight: usize,
@@ -39,9 +40,9 @@ impl Model for Results {
 
     ghost Value = { Seen ℕ };
 
-    ghost view = { λ a. seen a.symbols.items a.stack.items a.saved.items a.weight };
+    ghost view = { λ a. seen a.symbols a.stack.items a.saved.items a.weight };
 
-    ghost invariant = { λ a. AreKept a.symbols.items a.stack.items a.saved.items a.weight };
+    ghost invariant = { λ a. AreKept a.symbols a.stack.items a.saved.items a.weight };
 }
 
 impl Results {
@@ -50,7 +51,7 @@ impl Results {
         ensures { result ≡ record { stack = []; saved = []; weight = 0 } }
     {
         Results {
-            symbols: Vec::new(alloc),
+            symbols: Symbols::new(alloc),
             stack: Vec::new(alloc),
             saved: Vec::new(alloc),
             weight: 0,
@@ -75,7 +76,7 @@ impl Results {
             return Ok(false);
         }
         let start = self.symbols.len();
-        self.symbols.extend_from_slice(expr)?;
+        self.symbols.push(expr)?;
         let end = self.symbols.len();
         self.stack.push(Place { start, end })?;
         self.weight += expr.len();
@@ -120,16 +121,18 @@ impl Results {
         ensures { IfOk result (λ ok. Adds ok self.old self.new (below r self.old.stack) (filled own r (top r self.old.stack) template.now)) }
     {
         let keep = self.stack.len() - r;
-        let room = LIMIT - self.weight;
         let start = self.symbols.len();
-        let Some(len) = filled_len(&self.symbols, &self.stack[keep..], template, room) else {
+        let room = LIMIT - self.weight;
+        if !self
+            .symbols
+            .push_filled(&self.stack[keep..], template, room)?
+        {
             return Ok(false);
-        };
-        fill(&mut self.symbols, &self.stack[keep..], template)?;
+        }
         let end = self.symbols.len();
         self.stack.truncate(keep);
         self.stack.push(Place { start, end })?;
-        self.weight += len;
+        self.weight += end - start;
         Ok(true)
     }
 
@@ -141,7 +144,12 @@ impl Results {
         ensures { IsTrue result ↔ DoFit own patterns.now templates.now (top (length patterns.now) self.now.stack) }
     {
         let keep = self.stack.len() - patterns.len();
-        all_fit(&self.symbols, &self.stack[keep..], patterns, templates)
+        all_fit(
+            self.symbols.as_slice(),
+            &self.stack[keep..],
+            patterns,
+            templates,
+        )
     }
 
     /// Whether the images of the last `count` results are apart as the groups of places ask.
@@ -153,7 +161,7 @@ impl Results {
             (map (decode pairs.now.names) (top count self.now.stack)) (map (λ group. group.items) groups.now) }
     {
         let keep = self.stack.len() - count;
-        groups_apart(pairs, groups, &self.symbols, &self.stack[keep..])
+        groups_apart(pairs, groups, self.symbols.as_slice(), &self.stack[keep..])
     }
 
     /// How many results wait.
@@ -172,6 +180,6 @@ impl Results {
             return false;
         }
         let place = self.stack[0];
-        result_at(&self.symbols, place) == expr
+        result_at(self.symbols.as_slice(), place) == expr
     }
 }

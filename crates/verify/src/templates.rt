@@ -1,12 +1,13 @@
 //! Templates filled from results, and results matched against them.
 
 ghost use Rattle.std.specs.Prelude.{◌≡◌, ℕ, ◌+◌, ◌-◌, ◌^◌, ◌<◌, ◌≤◌, ◌↔◌, ◌++◌, [], List, length, map, drop, take, get_or, IfSome, IfNone, OnOk, OnErr, IsTrue, slice_range};
+ghost use Rattle.verify.specs.Written.{IsWritten, LacksRoom};
 ghost use Rattle.verify.specs.Places.{seen_at, AreWithin};
 ghost use Rattle.frame.specs.Templates.{part, filled, expected, own, IsIn, AreIn, DoFit};
 
+use crate::copies::{copy_image, put_symbol};
 use crate::results::Place;
 use frame::Pattern;
-use std::alloc::AllocError;
 
 /// The symbols of a result.
 pub fn result_at(symbols: &[u32], place: Place) -> &[u32]
@@ -120,36 +121,38 @@ pub fn filled_len(symbols: &[u32], images: &[Place], template: &[u32], room: usi
     Some(len)
 }
 
-/// Adds the filled template at the end.
-pub fn fill(symbols: &mut Vec<u32>, images: &[Place], template: &[u32]) -> Result<(), AllocError>
-    requires within { AreWithin (length symbols.old.items) images.now }
+/// Writes the filled template at `at`, and tells where it ends; nothing where the room behind `at` is too small.
+pub fn fill(symbols: &mut [u32], at: usize, images: &[Place], template: &[u32]) -> Option<usize>
+    requires within { AreWithin at images.now }
+    requires inside { at ≤ length symbols.old }
     requires count { length images.now < 2 ^ 31 }
-    ensures ok { OnOk result (symbols.new.items ≡ symbols.old.items ++ filled own (length images.now) (map (seen_at symbols.old.items) images.now) template.now) }
-    ensures grows { (more : List ℕ) × (symbols.new.items ≡ symbols.old.items ++ more) }
+    ensures some { IfSome result (IsWritten symbols.old symbols.new at (filled own (length images.now) (map (seen_at (take at symbols.old)) images.now) template.now)) }
+    ensures none { IfNone result (LacksRoom (length symbols.old) at (filled own (length images.now) (map (seen_at (take at symbols.old)) images.now) template.now)) }
+    ensures kept { take at symbols.new ≡ take at symbols.old }
+    ensures count { length symbols.new ≡ length symbols.old }
 {
+    let mut end = at;
     for n in template {
-        fill_part(symbols, images, *n)?;
+        end = fill_part(symbols, end, images, *n)?;
     }
-    Ok(())
+    Some(end)
 }
 
-/// Adds what one number of a template gives.
-fn fill_part(symbols: &mut Vec<u32>, images: &[Place], n: u32) -> Result<(), AllocError>
-    requires within { AreWithin (length symbols.old.items) images.now }
+/// Writes what one number of a template gives.
+fn fill_part(symbols: &mut [u32], at: usize, images: &[Place], n: u32) -> Option<usize>
+    requires within { AreWithin at images.now }
+    requires inside { at ≤ length symbols.old }
     requires count { length images.now < 2 ^ 31 }
-    ensures ok { OnOk result (symbols.new.items ≡ symbols.old.items ++ part own (length images.now) (map (seen_at symbols.old.items) images.now) n) }
-    ensures err { OnErr result (symbols.new.items ≡ symbols.old.items) }
+    ensures some { IfSome result (IsWritten symbols.old symbols.new at (part own (length images.now) (map (seen_at (take at symbols.old)) images.now) n)) }
+    ensures none { IfNone result (LacksRoom (length symbols.old) at (part own (length images.now) (map (seen_at (take at symbols.old)) images.now) n)) }
+    ensures kept { take at symbols.new ≡ take at symbols.old }
+    ensures count { length symbols.new ≡ length symbols.old }
 {
     let r = images.len();
-    let at = n as usize;
-    if at < r {
-        let place = images[at];
-        if place.start == place.end {
-            return Ok(());
-        }
-        symbols.extend_from_within(place.start + 1..place.end)
+    let place = n as usize;
+    if place < r {
+        copy_image(symbols, at, images[place])
     } else {
-        symbols.push(n - r as u32)?;
-        Ok(())
+        put_symbol(symbols, at, n - r as u32)
     }
 }

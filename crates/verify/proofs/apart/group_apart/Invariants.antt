@@ -1,7 +1,9 @@
-use Rattle.std.proofs.Common.{◌≡◌, true, take}
-use Rattle.std.specs.List.{list_all}
-use Rattle.verify.specs.Apart.{named_at, is_place_apart}
+use Rattle.std.proofs.Common.{◌≡◌, drop}
+use Rattle.verify.specs.Apart.{named_at}
+use Rattle.verify.proofs.ApartLemmas.{is_rest_apart}
 use Rattle.verify.proofs.apart.group_apart.Given as goal
 
-abbrev pub invariant-loop-k : goal.invariant-loop-k
-invariant-loop-k l = list_all (is_place_apart l.pairs.statements (named_at l.pairs.names l.symbols l.places) l.group) (take l.k-index l.group) ≡ true
+-- what is left decides
+abbrev pub invariant-loop-index : goal.invariant-loop-index
+invariant-loop-index l =
+    is_rest_apart l.pairs.statements (named_at l.pairs.names l.symbols l.places) (drop l.index l.group) ≡ is_rest_apart l.pairs.statements (named_at l.pairs.names l.symbols l.places) l.group

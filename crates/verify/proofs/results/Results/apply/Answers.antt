@@ -1,15 +1,15 @@
-use Rattle.std.proofs.Common.{◌≡◌, ℕ, ◌+◌, ◌-◌, ◌<◌, ◌≤◌, ◌∷◌, ◌++◌, [], List, length, map, drop, take, arith, refl, sym, ap, ◌∙◌}
+use Rattle.std.proofs.Common.{◌≡◌, Bool, true, false, ℕ, ◌+◌, ◌-◌, ◌<◌, ◌≤◌, ◌∷◌, ◌++◌, [], List, length, map, drop, take, arith, refl, ap, ◌∙◌, length-append}
 use Rattle.verify.specs.Places.{seen_at, top}
 use Rattle.frame.specs.Templates.{filled, own}
 use Rattle.verify.specs.Right.{weight_limit}
-use Rattle.verify.proofs.PlaceLemmas.{kept-more'}
+use Rattle.verify.specs.Written.{Appends}
 use Rattle.verify.proofs.PartLemmas.{last-filled, last-within, apply-kept, apply-seen, apply-cut}
 use Rattle.std.proofs.lemmas.List.{length-map}
 use Rattle.verify.specs.declared.results.Place.{Place}
 use Rattle.verify.proofs.results.Results.apply.Goals as goal
 
-pub filled_len-requires-clause-within : goal.filled_len-requires-clause-within
-filled_len-requires-clause-within c = rw (c.deref.ensures.value, c.deref-2.ensures.value) (last-within _ _ _ c.self.invariant.stack_within)
+pub push_filled-requires-clause-within : goal.push_filled-requires-clause-within
+push_filled-requires-clause-within c = rw (c.deref.ensures.value) (last-within _ _ _ c.self.invariant.stack_within)
 
 few_of : (xs : List ℕ) (s : List Place) (stack : List (List ℕ)) (r : ℕ) → map (seen_at xs) s ≡ stack → r ≤ length stack → r ≤ length s
 few_of xs s stack r e h = let a = ap length e in let b = length-map s (seen_at xs) in omega (arith, a, b, h)
@@ -20,33 +20,42 @@ images_eq xs ds s e k r t p q h l =
     ap (λ v. filled own (length (take (length v - k) (drop k v))) (map (seen_at ds) (take (length v - k) (drop k v))) t) q
     ∙ (ap (λ v. filled own (length (take (length s - k) (drop k s))) (map (seen_at v) (take (length s - k) (drop k s))) t) p ∙ last-filled xs k r s t h l)
 
-heavy : (w room len n : ℕ) → room ≡ weight_limit - w → w ≤ weight_limit → len ≡ n → room < len → weight_limit < w + n
-heavy w room len n a b c d = omega (arith, a, b, c, d)
+heavy : (ok : Bool) (w room : ℕ) (old new e e' : List ℕ) → ok ≡ false → Appends ok room old new e → room ≡ weight_limit - w → w ≤ weight_limit → e ≡ e' → weight_limit < w + length e'
+heavy true w room old new e e' q a r l same = cc
+heavy false w room old new e e' q a r l same = let h = a.1 in omega (arith, h, r, l, ap length same)
 
-pub returns-in_default : goal.returns-in_default
-returns-in_default c = rw (← c.self.view_is) (heavy c.self.inside.weight _ _ _ refl c.self.invariant.light
-    (ap length (images_eq c.self.inside.symbols.items c.deref.result.now c.self.inside.stack.items c.deref-2.result.now (c.len.result - c.args.r) c.args.r c.args.template.now c.deref.ensures.value c.deref-2.ensures.value (few_of c.self.inside.symbols.items c.self.inside.stack.items c.args.self.now.stack c.args.r (ap (λ v. v.stack) c.self.view_is) c.requires.count) (omega (arith, c.len.ensures)))) c.in_default.ensures.none)
+appended : (ok : Bool) (room : ℕ) (old new e : List ℕ) → ok ≡ true → Appends ok room old new e → (new ≡ old ++ e) × (length e ≤ room)
+appended true room old new e q a = a
+appended false room old new e q a = cc
 
-pub fill-requires-clause-within : goal.fill-requires-clause-within
-fill-requires-clause-within c = rw c.deref-3.ensures.value (last-within _ _ _ c.self.invariant.stack_within)
-
-pub invariant_of-self : goal.invariant_of-self
-invariant_of-self c = kept-more' c.self.inside.symbols.items _ _ c.self.inside.stack.items _ _ _ c.self.invariant c.fill.ensures.grows.1 refl
+pub returns-then-not-branch : goal.returns-then-not-branch
+returns-then-not-branch c = rw (← c.self.view_is) (heavy _ c.self.inside.weight _ _ _ _ _ c.if-not-branch.true c.in_ok-push_filled.ensures.ok refl c.self.invariant.light
+    (images_eq c.self.inside.symbols c.self.inside.symbols c.self.inside.stack.items c.deref.result.now (c.len.result - c.args.r) c.args.r c.args.template.now refl c.deref.ensures.value (few_of c.self.inside.symbols c.self.inside.stack.items c.args.self.now.stack c.args.r (ap (λ v. v.stack) c.self.view_is) c.requires.count) (omega (arith, c.len.ensures))))
 
 pub invariant_of-self-in_err-push : goal.invariant_of-self-in_err-push
-invariant_of-self-in_err-push c = apply-cut c.self.inside.symbols.items _ c.fill.ensures.grows.0 c.self.inside.stack.items _ _ _ _ (c.len.result - c.args.r) c.self.invariant c.fill.ensures.grows.1 c.truncate.ensures.items c.in_err-push.ensures.items
+invariant_of-self-in_err-push c =
+    let g = appended _ _ _ _ _ c.if-not-branch.false c.in_ok-push_filled.ensures.ok in
+    apply-cut c.self.inside.symbols _ _ c.self.inside.stack.items _ _ _ _ (c.len.result - c.args.r) c.self.invariant g.0 c.truncate.ensures.items c.in_err-push.ensures.items
+
+-- as much longer as what was added
+grown : (xs ys zs : List ℕ) (start end : ℕ) → zs ≡ xs ++ ys → start ≡ length xs → end ≡ length zs → end - start ≡ length ys
+grown xs ys zs start end e low high = omega (arith, low, high, ap length e, length-append xs ys)
 
 pub invariant_of-self-2 : goal.invariant_of-self-2
 invariant_of-self-2 c =
-    apply-kept c.self.inside.symbols.items (filled own (length (take (length c.deref-3.result.now - (c.len.result - c.args.r)) (drop (c.len.result - c.args.r) c.deref-3.result.now))) (map (seen_at c.self.inside.symbols.items) (take (length c.deref-3.result.now - (c.len.result - c.args.r)) (drop (c.len.result - c.args.r) c.deref-3.result.now))) c.args.template.now)
-    c.fill.new.symbols.items c.self.inside.stack.items c.self.inside.saved.items c.push.new.self.items c.self.inside.weight (c.self.inside.weight + c.in-Some.len) (c.len.result - c.args.r) (record { start = c.len-start.result; end = c.len-end.result }) c.self.invariant
-    c.in_ok-fill.ensures.ok (omega (arith, c.len-start.ensures)) (omega (arith, c.len-end.ensures)) (c.in_ok-push.ensures.items ∙ ap (λ s. s ++ (record { start = c.len-start.result; end = c.len-end.result }) ∷ []) c.truncate.ensures.items)
-    (let h = c.in-Some.ensures.some.1 in let l = c.self.invariant.light in omega (arith, h, l))
+    let g = appended _ _ _ _ _ c.if-not-branch.false c.in_ok-push_filled.ensures.ok in
+    let more = grown c.self.inside.symbols _ _ c.len-start.result c.len-end.result g.0 c.len-start.ensures c.len-end.ensures in
+    apply-kept c.self.inside.symbols _ _ c.self.inside.stack.items c.self.inside.saved.items _ c.self.inside.weight _ (c.len.result - c.args.r) (record { start = c.len-start.result; end = c.len-end.result }) c.self.invariant
+    g.0 c.len-start.ensures c.len-end.ensures (c.in_ok-push.ensures.items ∙ ap (λ s. s ++ (record { start = c.len-start.result; end = c.len-end.result }) ∷ []) c.truncate.ensures.items)
+    (let h = g.1 in let l = c.self.invariant.light in omega (arith, h, l, more))
 
 pub returns : goal.returns
 returns c =
-    rw (← c.self.view_is) (apply-seen c.self.inside.symbols.items _ c.fill.new.symbols.items c.self.inside.stack.items c.self.inside.saved.items c.push.new.self.items c.self.inside.weight (c.self.inside.weight + c.in-Some.len) (c.len.result - c.args.r) c.args.r (record { start = c.len-start.result; end = c.len-end.result }) c.args.template.now c.self.invariant (few_of c.self.inside.symbols.items c.self.inside.stack.items c.args.self.now.stack c.args.r (ap (λ v. v.stack) c.self.view_is) c.requires.count) (omega (arith, c.len.ensures))
-    c.in_ok-fill.ensures.ok (images_eq c.self.inside.symbols.items c.self.inside.symbols.items c.self.inside.stack.items c.deref-3.result.now (c.len.result - c.args.r) c.args.r c.args.template.now refl c.deref-3.ensures.value (few_of c.self.inside.symbols.items c.self.inside.stack.items c.args.self.now.stack c.args.r (ap (λ v. v.stack) c.self.view_is) c.requires.count) (omega (arith, c.len.ensures)))
-    (omega (arith, c.len-start.ensures)) (omega (arith, c.len-end.ensures)) (c.in_ok-push.ensures.items ∙ ap (λ s. s ++ (record { start = c.len-start.result; end = c.len-end.result }) ∷ []) c.truncate.ensures.items)
-    (ap (λ n. c.self.inside.weight + n) (c.in-Some.ensures.some.0 ∙ (ap length (images_eq c.self.inside.symbols.items c.deref.result.now c.self.inside.stack.items c.deref-2.result.now (c.len.result - c.args.r) c.args.r c.args.template.now c.deref.ensures.value c.deref-2.ensures.value (few_of c.self.inside.symbols.items c.self.inside.stack.items c.args.self.now.stack c.args.r (ap (λ v. v.stack) c.self.view_is) c.requires.count) (omega (arith, c.len.ensures)))
-    ∙ sym (ap length (images_eq c.self.inside.symbols.items c.self.inside.symbols.items c.self.inside.stack.items c.deref-3.result.now (c.len.result - c.args.r) c.args.r c.args.template.now refl c.deref-3.ensures.value (few_of c.self.inside.symbols.items c.self.inside.stack.items c.args.self.now.stack c.args.r (ap (λ v. v.stack) c.self.view_is) c.requires.count) (omega (arith, c.len.ensures))))))))
+    let g = appended _ _ _ _ _ c.if-not-branch.false c.in_ok-push_filled.ensures.ok in
+    let more = grown c.self.inside.symbols _ _ c.len-start.result c.len-end.result g.0 c.len-start.ensures c.len-end.ensures in
+    let few = few_of c.self.inside.symbols c.self.inside.stack.items c.args.self.now.stack c.args.r (ap (λ v. v.stack) c.self.view_is) c.requires.count in
+    let at : c.len.result - c.args.r ≡ length c.self.inside.stack.items - c.args.r = omega (arith, c.len.ensures) in
+    rw (← c.self.view_is) (apply-seen c.self.inside.symbols _ _ c.self.inside.stack.items c.self.inside.saved.items _ c.self.inside.weight _ (c.len.result - c.args.r) c.args.r (record { start = c.len-start.result; end = c.len-end.result }) c.args.template.now c.self.invariant few at
+    g.0 (images_eq c.self.inside.symbols c.self.inside.symbols c.self.inside.stack.items c.deref.result.now (c.len.result - c.args.r) c.args.r c.args.template.now refl c.deref.ensures.value few at)
+    c.len-start.ensures c.len-end.ensures (c.in_ok-push.ensures.items ∙ ap (λ s. s ++ (record { start = c.len-start.result; end = c.len-end.result }) ∷ []) c.truncate.ensures.items)
+    (ap (λ n. c.self.inside.weight + n) more))

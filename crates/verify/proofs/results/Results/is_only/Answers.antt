@@ -16,4 +16,4 @@ only_iff xs ds r e (x ∷ []) all p b l at q d v t =
     )
 
 pub returns-clause-only : goal.returns-clause-only
-returns-clause-only c = only_iff c.self.inside.symbols.items c.deref.result.now c.result_at.result.now c.args.expr.now c.self.inside.stack.items c.args.self.now.stack c.index-place.result.now c.eq.result (omega (arith, c.if-len-ne1.false, c.len.ensures)) c.index-place.ensures c.result_at.ensures c.deref.ensures.value (ap (λ v. v.stack) c.self.view_is) c.eq.ensures
+returns-clause-only c = only_iff c.self.inside.symbols c.as_slice.result.now c.result_at.result.now c.args.expr.now c.self.inside.stack.items c.args.self.now.stack c.index-place.result.now c.eq.result (omega (arith, c.if-len-ne1.false, c.len.ensures)) c.index-place.ensures c.result_at.ensures c.as_slice.ensures (ap (λ v. v.stack) c.self.view_is) c.eq.ensures

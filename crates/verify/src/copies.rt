@@ -1,0 +1,56 @@
+//! Symbols copied within one buffer, eight at once.
+ghost use Rattle.std.specs.Prelude.{◌≡◌, ◌+◌, ◌≤◌, ◌++◌, ◌∷◌, [], length, take, drop, IfSome, IfNone};
+ghost use Rattle.verify.specs.Places.{seen_at};
+ghost use Rattle.verify.specs.Written.{IsWritten, LacksRoom};
+
+use crate::results::Place;
+use std::simd::prelude::*;
+
+/// How many symbols are copied at once, and so how many may be written over behind what is written.
+pub const LANES: usize = 8;
+
+/// Copies symbols that lie before `at` to `at`.
+fn copy_run(symbols: &mut [u32], from: usize, len: usize, at: usize)
+    requires before { from + len ≤ at }
+    requires room { at + len + 8 ≤ length symbols.old }
+    ensures copied { take (at + len) symbols.new ≡ take at symbols.old ++ take len (drop from symbols.old) }
+    ensures count { length symbols.new ≡ length symbols.old }
+{
+    let mut done = 0;
+    while done < len {
+        u32x8::from_slice(&symbols[from + done..]).copy_to_slice(&mut symbols[at + done..]);
+        done += LANES;
+    }
+}
+
+/// Copies the symbols of a result behind its first one to `at`, and tells where they end.
+pub fn copy_image(symbols: &mut [u32], at: usize, place: Place) -> Option<usize>
+    requires place { (place.start ≤ place.end) × (place.end ≤ at) }
+    requires inside { at ≤ length symbols.old }
+    ensures some { IfSome result (IsWritten symbols.old symbols.new at (drop 1 (seen_at (take at symbols.old) place))) }
+    ensures none { IfNone result (LacksRoom (length symbols.old) at (drop 1 (seen_at (take at symbols.old) place))) }
+    ensures kept { take at symbols.new ≡ take at symbols.old }
+    ensures count { length symbols.new ≡ length symbols.old }
+{
+    let len = (place.end - place.start).saturating_sub(1);
+    if symbols.len() - at < len + LANES {
+        return None;
+    }
+    copy_run(symbols, place.end - len, len, at);
+    Some(at + len)
+}
+
+/// Writes a symbol at `at`, and tells where it ends.
+pub fn put_symbol(symbols: &mut [u32], at: usize, symbol: u32) -> Option<usize>
+    requires inside { at ≤ length symbols.old }
+    ensures some { IfSome result (IsWritten symbols.old symbols.new at (symbol ∷ [])) }
+    ensures none { IfNone result (LacksRoom (length symbols.old) at (symbol ∷ [])) }
+    ensures kept { take at symbols.new ≡ take at symbols.old }
+    ensures count { length symbols.new ≡ length symbols.old }
+{
+    if symbols.len() - at <= LANES {
+        return None;
+    }
+    symbols[at] = symbol;
+    Some(at + 1)
+}
