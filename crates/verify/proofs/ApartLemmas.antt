@@ -1,19 +1,19 @@
 -- Tests on every element of a list that a loop goes through.
-use Rattle.std.specs.Prelude.{◌≡◌, ℕ, ◌+◌, ◌<◌, Bool, true, false, not, ◌||◌, ◌==◌, List, [], ◌∷◌, zero, suc, ◌&&◌, length, map, take, drop, get_or, refl}
+use Rattle.std.specs.Prelude.{◌≡◌, ℕ, ◌+◌, ◌<◌, Bool, true, false, not, ◌||◌, ◌==◌, List, [], ◌∷◌, zero, suc, ◌&&◌, length, map, drop, get_or, refl}
 use Rattle.std.specs.List.{list_all, list_any}
 use Rattle.std.proofs.Common.{sym, ◌∙◌, ap, subst, arith}
-use Rattle.std.proofs.lemmas.List.Folds.{list_all-map, list_all_more, list_all_at}
+use Rattle.std.proofs.lemmas.List.Folds.{list_all-map, list_all_at}
 use Rattle.std.proofs.lemmas.Slice.Eq.{bytes_eq-Decides}
 use Rattle.mm_lex.specs.Alphabet.{Name, name_eq, has_name}
 use Rattle.mm_read.specs.Statements.{Expr, Database}
 use Rattle.scope.specs.Active.{is_variable}
-use Rattle.scope.specs.Numbering.{name_at, decode}
+use Rattle.scope.specs.Numbering.{decode}
 use Rattle.frame.specs.FrameOf.{is_pair, groups}
 use Rattle.frame.specs.Disjoint.{are_apart}
 use Rattle.frame.specs.ByPlaces.{AreBelow, AllBelow}
 use Rattle.verify.specs.declared.results.Place.{Place}
 use Rattle.verify.specs.Places.{seen_at}
-use Rattle.verify.specs.Apart.{named_at, is_variable_apart, is_symbol_apart, are_two_apart, is_place_apart, is_group_apart}
+use Rattle.verify.specs.Apart.{named_at, are_two_apart, is_place_apart, is_group_apart}
 use Rattle.verify.proofs.PlaceLemmas.{seen-get}
 use Rattle.verify.proofs.PartLemmas.{drop-at}
 
@@ -21,34 +21,9 @@ use Rattle.verify.proofs.PartLemmas.{drop-at}
 pub stops : {A B : Type 0} (p : B → Bool) (f : A → B) (xs : List A) (i : ℕ) (d : A) → i < length xs → p (f (get_or xs i d)) ≡ false → list_all p (map f xs) ≡ false
 stops p f xs i d h e = list_all-map p f xs ∙ list_all_at (λ x. p (f x)) xs i d h e
 
--- one element more
-goes_on : {A B : Type 0} (p : B → Bool) (f : A → B) (xs : List A) (i : ℕ) (d : A) → i < length xs → list_all p (map f (take i xs)) ≡ true → p (f (get_or xs i d)) ≡ true
-    → list_all p (map f (take (i + 1) xs)) ≡ true
-goes_on p f xs i d h before here =
-    let before' : list_all (λ x. p (f x)) (take i xs) ≡ true = sym (list_all-map p f (take i xs)) ∙ before in
-    list_all-map p f (take (i + 1) xs) ∙ (list_all_more (λ x. p (f x)) xs i d h ∙ both _ _ before' here)
-  where
-    both : (a b : Bool) → a ≡ true → b ≡ true → (a && b) ≡ true
-    both true b h e = e
-    both false b h e = cc
-
--- one variable of an image against another image
-pub variable_stops : (D : Database) (names : List Name) (x : ℕ) (image : List ℕ) (i d : ℕ) → i < length image
-    → is_variable D (name_at names (get_or image i d)) ≡ true → is_pair D (name_at names x) (name_at names (get_or image i d)) ≡ false
-    → is_variable_apart D (name_at names x) (decode names image) ≡ false
-variable_stops D names x image i d h var pair =
-    stops (λ v. not (is_variable D v) || is_pair D (name_at names x) v) (name_at names) image i d h
-    (ap (λ b. not b || is_pair D (name_at names x) (name_at names (get_or image i d))) var ∙ pair)
-
 all-true : {A : Type 0} (p : A → Bool) (xs : List A) → ((x : A) → p x ≡ true) → list_all p xs ≡ true
 all-true p [] h = refl
 all-true p (x ∷ xs) h = ap (λ b. b && list_all p xs) (h x) ∙ all-true p xs h
-
-pub symbol_variable : (D : Database) (u : Name) (f : Expr) → is_variable D u ≡ true → is_symbol_apart D f u ≡ is_variable_apart D u f
-symbol_variable D u f e = ap (λ b. list_all (λ v. not b || not (is_variable D v) || is_pair D u v) f) e
-
-pub symbol_constant : (D : Database) (u : Name) (f : Expr) → is_variable D u ≡ false → is_symbol_apart D f u ≡ true
-symbol_constant D u f e = ap (λ b. list_all (λ v. not b || not (is_variable D v) || is_pair D u v) f) e ∙ all-true (λ v. true) f (λ v. refl)
 
 -- the image at one place against the image at another
 pub tail-named : (names : List Name) (symbols : List ℕ) (places : List Place) (k : ℕ) (d : Place) → k < length places

@@ -1,13 +1,11 @@
 -- Results at places that are kept apart.
 -- Metamath, 4.2.6: no variable stands in two images that a `$d` keeps apart, and each pair of one variable from each has its own `$d`.
--- `are_apart` and `are_places_apart`, one variable, one place and one group at a time.
-use Rattle.std.specs.Prelude.{ℕ, Bool, not, ◌||◌, ◌==◌, List, [], map, drop, get_or}
+-- `are_places_apart`, one place and one group at a time.
+use Rattle.std.specs.Prelude.{ℕ, Bool, ◌||◌, ◌==◌, List, [], map, drop, get_or}
 use Rattle.std.specs.List.{list_all}
 use Rattle.mm_lex.specs.Alphabet.{Name}
 use Rattle.mm_read.specs.Statements.{Expr, Database}
-use Rattle.scope.specs.Active.{is_variable}
 use Rattle.scope.specs.Numbering.{decode}
-use Rattle.frame.specs.FrameOf.{is_pair}
 use Rattle.frame.specs.Disjoint.{are_apart}
 use Rattle.verify.specs.declared.results.Place.{Place}
 use Rattle.verify.specs.Places.{seen_at}
@@ -15,14 +13,6 @@ use Rattle.verify.specs.Places.{seen_at}
 -- the results at places, by names
 abbrev pub named_at : List Name → List ℕ → List Place → List Expr
 named_at names symbols places = map (decode names) (map (seen_at symbols) places)
-
--- the variable u is kept apart from each variable of f
-abbrev pub is_variable_apart : Database → Name → Expr → Bool
-is_variable_apart D u f = list_all (λ v. not (is_variable D v) || is_pair D u v) f
-
--- the symbol u, where it is a variable, is kept apart from each variable of f
-abbrev pub is_symbol_apart : Database → Expr → Name → Bool
-is_symbol_apart D f u = list_all (λ v. not (is_variable D u) || not (is_variable D v) || is_pair D u v) f
 
 -- the places are one, or their images are apart
 abbrev pub are_two_apart : Database → List Expr → ℕ → ℕ → Bool

@@ -1,7 +1,0 @@
-use Rattle.std.proofs.Common.{◌≡◌, true, take}
-use Rattle.scope.specs.Numbering.{name_at, decode}
-use Rattle.verify.specs.Apart.{is_variable_apart}
-use Rattle.verify.proofs.apart.variable_apart.Given as goal
-
-abbrev pub invariant-loop-y : goal.invariant-loop-y
-invariant-loop-y l = is_variable_apart l.pairs.statements (name_at l.pairs.names l.x) (decode l.pairs.names (take l.y-index l.image)) ≡ true
