@@ -77,7 +77,7 @@ pub(crate) fn read_letters(
         × IfOk read (λ numbers. numbers_from labels 0 (letters_of text.now) ≡ Some numbers.items)) }
 {
     let mut numbers = Vec::new(alloc);
-    let mut kept = numbers.reserve_exact(count_items(text)).is_ok();
+    let mut kept = numbers.reserve_exact(text.len()).is_ok();
     let mut place = Place {
         limit: labels,
         digits: 0,
@@ -93,15 +93,6 @@ pub(crate) fn read_letters(
         return None;
     }
     Some(if kept { Ok(numbers) } else { Err(AllocError) })
-}
-
-/// How many letters end a word or mark.
-fn count_items(text: &[u8]) -> usize
-    ensures { result ≤ length text.now }
-{
-    text.iter()
-        .filter(|letter| matches!(**letter, b'A'..=b'T' | b'Z'))
-        .count()
 }
 
 /// Whether the letters begin with a mark.

@@ -54,3 +54,17 @@ pub fn put_symbol(symbols: &mut [u32], at: usize, symbol: u32) -> Option<usize>
     symbols[at] = symbol;
     Some(at + 1)
 }
+
+/// Writes an expression at `at`. Most are the two symbols of a `$f`.
+pub fn put_expr(symbols: &mut [u32], at: usize, expr: &[u32])
+    requires { at + length expr.now ≤ length symbols.old }
+    ensures written { take (at + length expr.now) symbols.new ≡ take at symbols.old ++ expr.now }
+    ensures count { length symbols.new ≡ length symbols.old }
+{
+    if let [first, second] = expr {
+        symbols[at] = *first;
+        symbols[at + 1] = *second;
+    } else {
+        symbols[at..at + expr.len()].copy_from_slice(expr);
+    }
+}

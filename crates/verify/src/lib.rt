@@ -3,8 +3,8 @@
 //! The crate above uses one contract: `check` answers `Proved` exactly where some derivation is spelled by the items,
 //! concludes the statement's expression and weighs no more than the limit; else it answers `Wrong`.
 //!
-//! Reading order: `answer`, `tree`, `templates` and `results` (results as ranges of one buffer), `apart`, `table` and
-//! `citation` (one item), `checker` (a whole proof), `laws`.
+//! Reading order: `answer`, `tree`, `copies`, `templates`, `symbols` and `results` (results as ranges of one buffer),
+//! `apart`, `table` and `citation` (one item), `checker` (a whole proof), `laws`.
 #![tactic(auto)]
 
 mod answer;

@@ -4,7 +4,7 @@ ghost use Rattle.frame.specs.Templates.{filled, own};
 ghost use Rattle.verify.specs.Places.{seen_at, AreWithin};
 ghost use Rattle.verify.specs.Written.{Appends, IsWritten};
 
-use crate::copies::LANES;
+use crate::copies::{LANES, put_expr};
 use crate::results::Place;
 use crate::templates::{fill, filled_len};
 use std::alloc::{AllocError, Global};
@@ -67,7 +67,7 @@ impl Symbols {
         ensures err { OnErr result (self.new ≡ self.old) }
     {
         make_room(&mut self.buffer, self.len, expr.len())?;
-        self.buffer[self.len..self.len + expr.len()].copy_from_slice(expr);
+        put_expr(&mut self.buffer, self.len, expr);
         self.len += expr.len();
         Ok(())
     }
