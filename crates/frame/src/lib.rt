@@ -24,6 +24,8 @@ mod one_frame;
 mod pairs;
 mod reading;
 mod storage;
+#[cfg(test)]
+mod stored_frames;
 mod templates;
 mod undo;
 #[cfg(test)]

@@ -7,14 +7,14 @@ use scope::{Rule, Scope, Steps};
 use std::alloc::Global;
 
 /// The first example of the Metamath book, up to modus ponens.
-const ARITHMETIC: &[u8] = b"$c 0 + = -> ( ) term wff |- $. $v t r s P Q $. \
+pub const ARITHMETIC: &[u8] = b"$c 0 + = -> ( ) term wff |- $. $v t r s P Q $. \
     tt $f term t $. tr $f term r $. ts $f term s $. wp $f wff P $. wq $f wff Q $. \
     tze $a term 0 $. tpl $a term ( t + r ) $. weq $a wff t = r $. wim $a wff ( P -> Q ) $. \
     a1 $a |- ( t = r -> ( t = s -> r = s ) ) $. a2 $a |- ( t + 0 ) = t $. \
     ${ min $e |- P $. maj $e |- ( P -> Q ) $. mp $a |- Q $. $}";
 
 /// A `$d` on the variables of `ax`, and one on a dummy of `th`.
-const APART: &[u8] = b"$c wff |- R $. $v x y z $. wx $f wff x $. wy $f wff y $. wz $f wff z $. \
+pub const APART: &[u8] = b"$c wff |- R $. $v x y z $. wx $f wff x $. wy $f wff y $. wz $f wff z $. \
     ${ $d x y $. ax $a |- x R y $. $} ${ h $e |- x R y $. r $a |- R x $. $} \
     ${ $d x z $. th $p |- R x $= wx wz wx wz ax r $. $}";
 
@@ -90,4 +90,26 @@ fn is_only_group(frame: &Frame, text: &[u8]) -> bool {
         Some(group) => frame.groups().len() == 1 && group.as_text() == text,
         None => text.is_empty(),
     }
+}
+
+/// A frame that met no memory is gathered when it is asked for again: run with each allocation refused in turn.
+#[test]
+fn framed_after_a_refused_growth(rt: HostRuntime) {
+    for text in [ARITHMETIC, APART] {
+        let mut scope = Scope::new(rt.alloc());
+        if let Ok(statements) = read(rt.alloc(), text) {
+            for stmt in statements.iter() {
+                if is_assertion(stmt) && frame_of(rt.alloc(), &scope, stmt).is_none() {
+                    assert!(rt; frame_of(rt.alloc(), &scope, stmt).is_some());
+                }
+                if add(&mut scope, stmt).is_err() {
+                    assert!(rt; add(&mut scope, stmt).is_ok());
+                }
+            }
+        }
+    }
+}
+
+fn is_assertion(stmt: &Stmt) -> bool {
+    matches!(stmt, Stmt::Axiom { .. } | Stmt::Prove { .. })
 }

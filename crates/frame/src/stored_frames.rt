@@ -1,0 +1,249 @@
+//! Statements by position: worked frames, pushing again behind a cut, and growths that are refused.
+ghost use Rattle.std.specs.Prelude.{◌≡◌, IfOk, IsTrue};
+ghost use Rattle.mm_read.specs.declared.stmt.Stmt.{Stmt as Statement};
+ghost use Rattle.mm_read.specs.Statements.{AreShaped, IsShaped};
+ghost use Rattle.frame.specs.FrameOf.{HasAssertion};
+ghost use Rattle.frame.specs.Stored.{Extends};
+
+use crate::worked_frames::{APART, ARITHMETIC};
+use crate::{Cited, Frames, Meaning, Pattern};
+use mm_read::{ReadFault, Stmt, read};
+use scope::{Rule, Scope, Steps};
+use std::alloc::Global;
+
+/// A variable with its `$f` in one block, and in the next block the same variable with another `$f`.
+const CLOSED: &[u8] = b"$c wff set |- R $. ${ $v x $. wx $f wff x $. a1 $a |- x $. $} \
+    ${ $v x $. sx $f set x $. a2 $a |- R x $. $}";
+
+#[test]
+fn hypotheses_by_position(rt: HostRuntime) {
+    let book = frames_of(rt.alloc(), ARITHMETIC);
+    assert!(rt; has_hypotheses(&book, b"mp", &[6, 7, 15, 16]));
+    assert!(rt; has_hypotheses(&book, b"a1", &[3, 4, 5]));
+    assert!(rt; has_hypotheses(&book, b"tze", &[]));
+    assert!(rt; !has_hypotheses(&book, b"maj", &[]));
+    let apart = frames_of(rt.alloc(), APART);
+    assert!(rt; has_hypotheses(&apart, b"ax", &[3, 4]));
+    assert!(rt; has_hypotheses(&apart, b"th", &[3]));
+    let closed = frames_of(rt.alloc(), CLOSED);
+    assert!(rt; has_hypotheses(&closed, b"a1", &[4]));
+    assert!(rt; has_hypotheses(&closed, b"a2", &[9]));
+}
+
+/// The names of the book's example have the numbers 0 (`0`) to 13 (`Q`), its constants those below 9.
+#[test]
+fn assertions_by_places(rt: HostRuntime) {
+    let book = frames_of(rt.alloc(), ARITHMETIC);
+    let patterns = [
+        Pattern::Typed(7),
+        Pattern::Typed(7),
+        Pattern::Full(0, 2),
+        Pattern::Full(2, 8),
+    ];
+    match cited_of(&book, b"mp") {
+        Some(mp) => {
+            assert!(rt; mp.patterns == patterns.as_slice());
+            assert!(rt; mp.templates == [12u32, 0, 12, 8, 0, 7, 1, 9].as_slice());
+            assert!(rt; mp.conclusion == [12u32, 1].as_slice());
+            assert!(rt; mp.groups.is_empty());
+        }
+        None => assert!(rt; false),
+    }
+    let apart = frames_of(rt.alloc(), APART);
+    match cited_of(&apart, b"ax") {
+        Some(ax) => {
+            assert!(rt; ax.conclusion == [3u32, 0, 4, 1].as_slice());
+            assert!(rt; ax.groups.len() == 1);
+            assert!(rt; ax.groups[0].as_slice() == [0u32, 1].as_slice());
+        }
+        None => assert!(rt; false),
+    }
+}
+
+#[test]
+fn pairs_that_are_active(rt: HostRuntime) {
+    let apart = frames_of(rt.alloc(), APART);
+    for (at, x, y, want) in [
+        (8usize, b"x", b"y", true),
+        (8, b"y", b"x", true),
+        (8, b"x", b"x", false),
+        (8, b"x", b"z", false),
+        (10, b"x", b"y", false),
+        (16, b"x", b"z", true),
+    ] {
+        assert!(rt; are_apart(&apart, at, x, y) == Some(want));
+    }
+    assert!(rt; is_variable(&apart, 8, b"x") == Some(true));
+    assert!(rt; is_variable(&apart, 8, b"R") == Some(false));
+    let closed = frames_of(rt.alloc(), CLOSED);
+    assert!(rt; is_variable(&closed, 6, b"x") == Some(true));
+    assert!(rt; is_variable(&closed, 7, b"x") == Some(false));
+}
+
+#[test]
+fn statements_by_position(rt: HostRuntime) {
+    let book = frames_of(rt.alloc(), ARITHMETIC);
+    assert!(rt; book.len() == 18);
+    assert!(rt; book.position(b"mp") == Some(17));
+    assert!(rt; book.position(b"nothing") == None);
+    assert!(rt; label_at(&book, 17) == Some(b"mp"));
+    assert!(rt; label_at(&book, 18) == None);
+    assert!(rt; expr_at(&book, 17) == Some(&[8, 13]));
+    assert!(rt; expr_at(&book, 7) == Some(&[7, 13]));
+}
+
+/// A text is pushed behind others, taken away, and pushed again.
+#[test]
+fn pushed_again_behind_a_cut(rt: HostRuntime) -> Result<(), Rule> {
+    let mut scope = Scope::new(rt.alloc());
+    let mut frames = Frames::new(rt.alloc());
+    assert!(rt; push_all(rt.alloc(), &mut scope, &mut frames, CLOSED));
+    scope.close_at_end()?;
+    scope.mark();
+    let len = frames.len();
+    let again = b"$v x $. $c o $. tx $f set x $. ${ h $e |- x $. a3 $a |- R x $. $}";
+    assert!(rt; push_all(rt.alloc(), &mut scope, &mut frames, again));
+    assert!(rt; has_hypotheses(&frames, b"a3", &[14, 16]));
+    scope.back();
+    frames.shorten(len);
+    assert!(rt; frames.len() == 11);
+    assert!(rt; frames.position(b"a3") == None);
+    assert!(rt;
+        push_all(
+            rt.alloc(),
+            &mut scope,
+            &mut frames,
+            b"$v y x $. tx $f wff x $. a3 $a |- x $. ${ $}"
+        )
+    );
+    assert!(rt; has_hypotheses(&frames, b"a3", &[13]));
+    assert!(rt; has_hypotheses(&frames, b"a2", &[9]));
+    Ok(())
+}
+
+/// A statement that met no memory is pushed when it is pushed again: run with each allocation refused in turn.
+#[test]
+fn pushed_after_a_refused_growth(rt: HostRuntime) {
+    let book = frames_of(rt.alloc(), ARITHMETIC);
+    assert!(rt; book.len() == 18);
+    assert!(rt; has_hypotheses(&book, b"mp", &[6, 7, 15, 16]));
+    let apart = frames_of(rt.alloc(), APART);
+    assert!(rt; apart.len() == 17);
+    assert!(rt; has_hypotheses(&apart, b"th", &[3]));
+}
+
+/// The frames of a text; of as much of it as is legal.
+fn frames_of(alloc: Global, text: &[u8]) -> Frames {
+    let mut scope = Scope::new(alloc);
+    let mut frames = Frames::new(alloc);
+    let _all = push_all(alloc, &mut scope, &mut frames, text);
+    frames
+}
+
+/// Adds the statements of a text to both; whether all were added.
+fn push_all(alloc: Global, scope: &mut Scope, frames: &mut Frames, text: &[u8]) -> bool
+    requires same { scope.old.statements ≡ frames.old.statements }
+    ensures same { IsTrue result → scope.new.statements ≡ frames.new.statements }
+    ensures marked { scope.new.marked ≡ scope.old.marked }
+    ensures more { Extends frames.old.statements frames.new.statements }
+{
+    match read_again(alloc, text) {
+        Ok(statements) => {
+            for stmt in statements.iter() {
+                if !push(scope, frames, stmt) {
+                    return false;
+                }
+            }
+            true
+        }
+        Err(_) => false,
+    }
+}
+
+/// Reads a text, once more where there was no memory.
+fn read_again(alloc: Global, text: &[u8]) -> Result<Vec<Stmt>, ReadFault>
+    ensures { IfOk result (λ v. AreShaped v.items) }
+{
+    match read(alloc, text) {
+        Ok(statements) => Ok(statements),
+        Err(_) => read(alloc, text),
+    }
+}
+
+/// Adds a statement to both, once more where there was no memory; whether it was added.
+fn push(scope: &mut Scope, frames: &mut Frames, stmt: &Stmt) -> bool
+    requires same { scope.old.statements ≡ frames.old.statements }
+    requires shaped { IsShaped stmt.now }
+    ensures same { IsTrue result → scope.new.statements ≡ frames.new.statements }
+    ensures marked { scope.new.marked ≡ scope.old.marked }
+    ensures more { Extends frames.old.statements frames.new.statements }
+{
+    let mut steps = Steps::new();
+    if scope.broken_rule(stmt).is_some() {
+        return false;
+    }
+    if frames.push(scope, stmt, &mut steps).is_err()
+        && frames.push(scope, stmt, &mut steps).is_err()
+    {
+        return false;
+    }
+    scope.add(stmt, &mut steps).is_ok() || scope.add(stmt, &mut steps).is_ok()
+}
+
+/// Whether the assertion with this label has these hypotheses, and stands before the last statement.
+fn has_hypotheses(frames: &Frames, label: &[u8], want: &[usize]) -> bool {
+    match frames.position(label) {
+        Some(a) => is_assertion(frames, a) && frames.hypotheses(a) == want,
+        None => false,
+    }
+}
+
+fn cited_of<'a>(frames: &'a Frames, label: &[u8]) -> Option<Cited<'a>> {
+    let a = frames.position(label)?;
+    if is_assertion(frames, a) {
+        Some(frames.cited(a))
+    } else {
+        None
+    }
+}
+
+/// Whether an assertion stands there, before the last statement.
+fn is_assertion(frames: &Frames, a: usize) -> bool
+    ensures { IsTrue result → (s : Statement) × HasAssertion frames.now.statements a s }
+{
+    let at = frames.len();
+    at > 0 && matches!(frames.meaning(at, a), Meaning::Assertion)
+}
+
+fn are_apart(frames: &Frames, at: usize, x: &[u8], y: &[u8]) -> Option<bool> {
+    if at == 0 || at > frames.len() {
+        return None;
+    }
+    let pairs = frames.active_pairs(at);
+    let first = pairs.number(x)?;
+    let second = pairs.number(y)?;
+    Some(pairs.has(first, second))
+}
+
+fn is_variable(frames: &Frames, at: usize, x: &[u8]) -> Option<bool> {
+    if at == 0 || at > frames.len() {
+        return None;
+    }
+    let pairs = frames.active_pairs(at);
+    let number = pairs.number(x)?;
+    Some(pairs.variable(number))
+}
+
+fn label_at(frames: &Frames, at: usize) -> Option<&[u8]> {
+    if at == 0 || at > frames.len() {
+        return None;
+    }
+    frames.label(at)
+}
+
+fn expr_at(frames: &Frames, at: usize) -> Option<&[u32]> {
+    if at == 0 || at > frames.len() {
+        return None;
+    }
+    Some(frames.expr(at))
+}
