@@ -1,5 +1,5 @@
 //! One node: proposer, acceptor and learner at once.
-ghost use Rattle.std.specs.Prelude.{◌≡◌, ◌<◌, ◌≤◌, IfOk, Ok, Err, Some, None, MatchOption, length};
+ghost use Rattle.std.specs.Prelude.{◌≡◌, ◌<◌, ◌≤◌, IfOk, IsSome, Ok, Err, Some, None, MatchOption, length};
 ghost use Rattle.std.specs.List.{AllByRecursion};
 
 mod accepting;
@@ -241,7 +241,8 @@ impl<V: Value> NodeCore<V> {
 
     /// Entry `slot` of the log: what is learned there, where no gap is below.
     pub fn entry(&self, slot: u32) -> Option<&Option<V>>
-        ensures { MatchOption result (slice_get (log_of self.now.node) slot ≡ None) (λ entry. slice_get (log_of self.now.node) slot ≡ Some entry.now) }
+        ensures entry { MatchOption result (slice_get (log_of self.now.node) slot ≡ None) (λ entry. slice_get (log_of self.now.node) slot ≡ Some entry.now) }
+        ensures below { IsSome result → slot < SLOTS }
     {
         if slot < self.learner.front() {
             self.learner.learned(slot)

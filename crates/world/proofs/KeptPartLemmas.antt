@@ -19,12 +19,12 @@ use Rattle.world.specs.Laws.{KeptPartSurvives}
 use Rattle.world.proofs.EveryEvent.{IfTaken, if_taken, spent_or}
 use Rattle.world.proofs.TwoMoments.{all_happen-append, later_events}
 
-slice_get-set : {A : Type 0} (xs : List A) (i : ℕ) (x y : A) → slice_get xs i ≡ Some y → slice_get (set xs i x) i ≡ Some x
+pub slice_get-set : {A : Type 0} (xs : List A) (i : ℕ) (x y : A) → slice_get xs i ≡ Some y → slice_get (set xs i x) i ≡ Some x
 slice_get-set [] i x y e = cc
 slice_get-set (z ∷ xs) zero x y e = refl
 slice_get-set (z ∷ xs) (suc i) x y e = slice_get-set xs i x y e
 
-slice_get-set_other : {A : Type 0} (xs : List A) (i k : ℕ) (x : A) → i ≢ k → slice_get (set xs i x) k ≡ slice_get xs k
+pub slice_get-set_other : {A : Type 0} (xs : List A) (i k : ℕ) (x : A) → i ≢ k → slice_get (set xs i x) k ≡ slice_get xs k
 slice_get-set_other [] i k x other = refl
 slice_get-set_other (z ∷ xs) zero zero x other = absurd (other refl)
 slice_get-set_other (z ∷ xs) zero (suc k) x other = refl
@@ -83,7 +83,7 @@ module _ {V : Type 0} (size : V → ℕ) (w : World V) (k : ℕ) where
   happens_moves (Deliver number) = happens_delivered number (slice_get w.packets number) refl
   happens_moves (Restart j) = as_happens (Restart j) j refl (happens_at size w (Restart j)) (moves_at w j k (λ n. Ok (restarted n)) (λ n. restarted_kept n) (slice_get w.nodes j) refl)
 
-  event_moves : (e : Event V) → IfTaken (happens size w e) (Happens size w k e)
+  pub event_moves : (e : Event V) → IfTaken (happens size w e) (Happens size w k e)
   event_moves e = spent_or (Happens size w k e) (happens_at size w e) (w.taken == MOST_EVENTS) (happens_moves e)
 
 -- Events of others, and then the restart.

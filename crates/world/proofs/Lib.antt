@@ -17,6 +17,9 @@ mod ChosenAgree
 mod LogsAgree
 mod Offered
 pub mod KeptPartLemmas
-mod HistoryLemmas
+pub mod LogsGrow
+pub mod HistoryLemmas
 mod Rows
 pub mod TakenLemmas
+pub mod EntriesLemmas
+pub mod HeadlineLemmas

@@ -4,7 +4,7 @@ use Rattle.std.specs.List.{AllByRecursion}
 use Rattle.synod.specs.declared.packet.Packet.{Packet}
 use Rattle.synod.specs.declared.weights.TheConstants.{MOST_NODES}
 use Rattle.synod.specs.Weights.{IsWeights}
-use Rattle.std.specs.Prelude.{IsOk, is_ok, IfErr, OnOk, IsOkAnd}
+use Rattle.std.specs.Prelude.{IsOk, is_ok, IfErr, OnOk}
 use Rattle.std.specs.declared.alloc.AllocError.{AllocError}
 use Rattle.synod.specs.declared.packet.Body.{Body}
 use Rattle.synod.specs.Packets.{IsPost, packet, to_others_from}
@@ -13,13 +13,14 @@ use Rattle.synod.specs.declared.refusal.Refusal.{Refusal}
 use Rattle.synod.specs.Node.{Node, Stepped, new_node}
 use Rattle.synod.specs.Proposer.{offered, begun}
 use Rattle.synod.specs.Step.{on_packet, restarted}
+use Rattle.synod.specs.Log.{log_of}
 use Rattle.synod.specs.Core.{Core}
 use Rattle.world.specs.declared.event.Event.{Event}
 use Rattle.world.specs.declared.event.Event.TheVariants.{Offer, Begin, Deliver, Restart}
 use Rattle.world.specs.declared.event.TheConstants.{MOST_EVENTS}
 use Rattle.world.specs.declared.fault.StepFault.{StepFault}
 use Rattle.world.specs.declared.fault.StepFault.TheVariants.{Memory, EventsSpent, NoNode, NoPacket}
-use Rattle.world.specs.World.{World, nodes_from, start, stepped, answered, at_node, delivered, happens_at, happens, all_happen, after, offers_of}
+use Rattle.world.specs.World.{World, nodes_from, start, stepped, answered, at_node, delivered, happens_at, happens, all_happen, after, log_at, log_after, packets_after, offers_of}
 use Rattle.world.specs.Agree.{IsAfter}
 use Rattle.world.specs.Taken.{Taken, nodes_of, AreOfWorld, world_of, with_event, Written, Writes, Answers, Takes}
 use Rattle.world.proofs.EveryEvent.{IfTaken, if_taken, spent_or, node_at, holds_after}
@@ -320,12 +321,6 @@ module _ {V : Type 0} (old new : Taken V) (e : Event V) where
   stays_old (Ok w) fault h = h.1
   stays_old (Err met) fault h = h.1
 
--- the packets of the world after the events
-pub packets_counted : {V : Type 0} (size : V → ℕ) (old now : Taken V) (cores : List (Core V)) (packets : List (Packet V)) (h : AreOfWorld size old cores packets) → old ≡ now → (count : ℕ) → count ≡ length packets → IsOkAnd (world_of size now) (λ w. count ≡ length w.packets)
-packets_counted {V} size old now cores packets h seen count counted =
-    subst (λ (t : Taken V). IsOkAnd (world_of size t) (λ w. count ≡ length w.packets)) seen
-    (subst (λ (r : Result (World V) StepFault). IsOkAnd r (λ w. count ≡ length w.packets)) (sym h.is_after) (counted ∙ ap (λ (ps : List (Packet V)). length ps) (sym h.posted)))
-
 -- with no event left, each event meets EventsSpent
 pub spent_met : {V : Type 0} (size : V → ℕ) (old now : Taken V) (cores : List (Core V)) (packets : List (Packet V)) → AreOfWorld size old cores packets → old ≡ now → (e : Event V) → length old.events ≡ MOST_EVENTS → world_of size (with_event now e) ≡ Err EventsSpent
 spent_met {V} size old now cores packets h seen e spent =
@@ -357,15 +352,28 @@ events_within {V} size old now cores packets h seen =
 
 -- What the fields show of the world after the events.
 
-module _ {V : Type 0} (size : V → ℕ) (old now : Taken V) (cores : List (Core V)) (packets : List (Packet V)) (h : AreOfWorld size old cores packets) (seen : old ≡ now) (w : World V) (is : world_of size now ≡ Ok w) where
-  shown_nodes : w.nodes ≡ nodes_of cores
-  shown_nodes =
-      let both : Ok h.world ≡ Ok w = sym h.is_after ∙ ap (λ (t : Taken V). world_of size t) seen ∙ is in
-      let same : h.world ≡ w = cc in
-      ap (λ (x : World V). x.nodes) (sym same) ∙ h.nodes
+length-nodes_from : (V : Type 0) (weights : List ℕ) (k : ℕ) (ws : List ℕ) → length (nodes_from {V = V} weights k ws) ≡ length ws
+length-nodes_from V weights k [] = refl
+length-nodes_from V weights k (w ∷ ws) = ap suc (length-nodes_from V weights (suc k) ws)
 
-  pub shown_node : (k : ℕ) (core : Core V) → k < length cores → core ≡ get_or cores k core → slice_get w.nodes k ≡ Some core.node
-  shown_node k core low at = ap (λ (ns : List (Node V)). slice_get ns k) shown_nodes ∙ nodes_at cores k core low at
+length-nodes_of : {V : Type 0} (cores : List (Core V)) → length (nodes_of cores) ≡ length cores
+length-nodes_of [] = refl
+length-nodes_of (c ∷ cores) = ap suc (length-nodes_of cores)
 
-  pub shown_none : (k : ℕ) → length cores ≤ k → slice_get w.nodes k ≡ None
-  shown_none k past = ap (λ (ns : List (Node V)). slice_get ns k) shown_nodes ∙ nodes_past cores k past
+module _ {V : Type 0} (size : V → ℕ) (old now : Taken V) (cores : List (Core V)) (packets : List (Packet V)) (h : AreOfWorld size old cores packets) (seen : old ≡ now) where
+  world_is : world_of size now ≡ Ok h.world
+  world_is = ap (λ (t : Taken V). world_of size t) (sym seen) ∙ h.is_after
+
+  -- as many as there are weights
+  pub count_shown : length cores ≡ length now.weights
+  count_shown =
+      let lasts = (world_lasts size old.weights [] old.events (start old.weights) h.world refl h.is_after).count in
+      sym (length-nodes_of cores) ∙ ap (λ (ns : List (Node V)). length ns) (sym h.nodes) ∙ lasts ∙ length-nodes_from V old.weights 0 old.weights ∙ ap (λ (t : Taken V). length t.weights) seen
+
+  pub log_shown : (k : ℕ) (core : Core V) → k < length cores → core ≡ get_or cores k core → log_after (world_of size now) k ≡ log_of core.node
+  log_shown k core low at =
+      ap (λ (r : Result (World V) StepFault). log_after r k) world_is
+      ∙ ap (λ (o : Option (Node V)). log_at o) (ap (λ (ns : List (Node V)). slice_get ns k) h.nodes ∙ nodes_at cores k core low at)
+
+  pub packets_shown : packets_after (world_of size now) ≡ packets
+  packets_shown = ap (λ (r : Result (World V) StepFault). packets_after r) world_is ∙ h.posted

@@ -1,5 +1,6 @@
 -- From one moment of a run to a later one the weights stay, and what was voted stays voted; so what is chosen stays chosen.
-use Rattle.std.proofs.Common.{◌≡◌, ℕ, List, [], ◌∷◌, ◌++◌, Option, Some, None, Result, Ok, Err, inr, refl, ap, sym, ◌∙◌, subst, slice_get}
+use Rattle.std.proofs.Common.{◌≡◌, ℕ, List, [], ◌∷◌, ◌++◌, Option, Some, None, Result, Ok, Err, inr, refl, ap, sym, ◌∙◌, subst, length, slice_get}
+use Rattle.std.proofs.lemmas.List.{length-set}
 use Rattle.std.specs.List.{AllByRecursion}
 use Rattle.slots.proofs.Lists.{In}
 use Rattle.synod.specs.declared.change.Change.{Change}
@@ -20,6 +21,7 @@ use Rattle.world.proofs.EveryEvent.{IfTaken, if_taken, all_keep}
 
 pub record Lasts {V : Type 0} (w x : World V) : Type 0 where
   pub weights : x.weights ≡ w.weights
+  pub count : length x.nodes ≡ length w.nodes
   pub votes : (v : Vote V) → In v w.ever → In v x.ever
 
 votes_stay : {V : Type 0} (k : ℕ) (change : Option (Change V)) (votes : List (Vote V)) (v : Vote V) → In v votes → In v (votes_after k change votes)
@@ -30,7 +32,7 @@ votes_stay k (Some (Entry s h)) votes v i = inr i
 
 module _ {V : Type 0} (first w : World V) (h : Lasts first w) where
   lasts_answered : (k : ℕ) (r : Result (Stepped V) Refusal) → IfTaken (answered w k r) (Lasts first)
-  lasts_answered k (Ok step) = record { weights = h.weights; votes = λ v i. votes_stay k step.change w.ever v (h.votes v i) }
+  lasts_answered k (Ok step) = record { weights = h.weights; count = length-set w.nodes k step.node ∙ h.count; votes = λ v i. votes_stay k step.change w.ever v (h.votes v i) }
   lasts_answered k (Err refusal) = tt
 
   lasts_at : (k : ℕ) (make : Node V → Result (Stepped V) Refusal) (o : Option (Node V)) → IfTaken (at_node w k make o) (Lasts first)
@@ -64,7 +66,7 @@ later_events size ws early late w r first then = ap (λ r. all_happen size late 
 module _ {V : Type 0} (size : V → ℕ) (ws : List ℕ) (early late : List (Event V)) (w x : World V) (first : IsAfter size ws early w) (then : IsAfter size ws (early ++ late) x) where
   pub world_lasts : Lasts w x
   world_lasts = if_taken (Lasts w) (all_happen size late (Ok w)) x (later_events size ws early late w (Ok x) first then)
-      (all_keep size (Lasts w) (λ e. Unit {0}) (λ y e u h. lasts_happens w y h size e) late (each_event late) (Ok w) record { weights = refl; votes = λ v i. i })
+      (all_keep size (Lasts w) (λ e. Unit {0}) (λ y e u h. lasts_happens w y h size e) late (each_event late) (Ok w) record { weights = refl; count = refl; votes = λ v i. i })
 
   pub stays_chosen : (s : ℕ) (v : Option V) → IsChosen w.weights w.ever s v → IsChosen x.weights x.ever s v
   stays_chosen s v chosen = subst (λ (ws : List ℕ). IsChosen ws x.ever s v) (sym world_lasts.weights) (chosen_with_more w.ever x.ever world_lasts.votes chosen)

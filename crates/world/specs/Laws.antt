@@ -1,13 +1,13 @@
 -- The laws of the world, each over every list of events that is taken, for any weights and any values.
 -- Source: Lamport, Paxos Made Simple, section 2.2.
 -- No code stands behind a law; the steps of the nodes are the definitions that their own contracts cite.
-use Rattle.std.specs.Prelude.{◌≡◌, ℕ, List, [], ◌∷◌, ◌++◌, Some, Ok}
+use Rattle.std.specs.Prelude.{◌≡◌, ◌≢◌, ℕ, List, [], ◌∷◌, ◌++◌, Some, Ok}
 use Rattle.std.specs.Option.{option_map}
 use Rattle.synod.specs.Record.{changed_by}
 use Rattle.world.specs.declared.event.Event.{Event}
 use Rattle.world.specs.declared.event.Event.TheVariants.{Restart}
-use Rattle.world.specs.World.{World, happens}
-use Rattle.world.specs.Agree.{IsAfter, OneValue, LaterValue, ChosenAgree, LogsChosen, LogsAgree, LogsOffered}
+use Rattle.world.specs.World.{World, happens, log}
+use Rattle.world.specs.Agree.{IsAfter, OneValue, LaterValue, ChosenAgree, LogsChosen, IsBeginningOf, LogsAgree, LogsOffered}
 use Rattle.world.specs.KeptPart.{kept_part, node_of, change_of, AreOfOthers}
 
 -- the fact holds of the world after any events
@@ -53,3 +53,15 @@ KeptPartSurvives V = (size : V → ℕ) (weights : List ℕ) (events others : Li
     → IsAfter size weights events w → happens size w e ≡ Ok x → node_of w e ≡ Some k → AreOfOthers size k (Ok x) others
     → IsAfter size weights (events ++ e ∷ (others ++ Restart k ∷ [])) y
     → kept_part y k ≡ option_map (λ kept. changed_by kept (change_of size w e)) (kept_part w k)
+
+-- Logs.
+
+-- an event that is no restart of node k leaves the log of k a beginning of its new one
+abbrev pub LogsOnlyGrow : Type 0 → Type 0
+LogsOnlyGrow V = (size : V → ℕ) (weights : List ℕ) (events : List (Event V)) (e : Event V) (k : ℕ) (w x : World V)
+    → IsAfter size weights events w → happens size w e ≡ Ok x → e ≢ Restart k → IsBeginningOf (log w k) (log x k)
+
+-- a restart of node k empties it
+abbrev pub RestartEmptiesLog : Type 0 → Type 0
+RestartEmptiesLog V = (size : V → ℕ) (weights : List ℕ) (events : List (Event V)) (k : ℕ) (w x : World V)
+    → IsAfter size weights events w → happens size w (Restart k) ≡ Ok x → log x k ≡ []

@@ -5,3 +5,5 @@ pub mod KeptPart
 pub mod Laws
 pub mod Taken
 pub mod History
+pub mod Carried
+pub mod Headline

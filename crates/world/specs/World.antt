@@ -98,6 +98,15 @@ log_at (Some n) = log_of n
 abbrev pub log : {V : Type 0} → World V → ℕ → List (Option V)
 log w k = log_at (slice_get w.nodes k)
 
+-- the same of the world after some events, and its packets; nothing where they meet a fault
+abbrev pub log_after : {V : Type 0} → Result (World V) StepFault → ℕ → List (Option V)
+log_after (Ok w) k = log w k
+log_after (Err fault) k = []
+
+abbrev pub packets_after : {V : Type 0} → Result (World V) StepFault → List (Packet V)
+packets_after (Ok w) = w.packets
+packets_after (Err fault) = []
+
 -- what was offered
 abbrev pub offers_of : {V : Type 0} → List (Event V) → List V
 offers_of [] = []

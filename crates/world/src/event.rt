@@ -1,3 +1,5 @@
+//! What happens to a world.
+
 /// The most events of one run.
 pub const MOST_EVENTS: u64 = 1_000_000;
 

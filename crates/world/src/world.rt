@@ -1,4 +1,4 @@
-//! All nodes, all packets that they posted, and the events that led there.
+//! The nodes, all packets that they posted, and the events that led there, whatever the values are.
 ghost use Rattle.synod.specs.Weights.{IsWeights};
 ghost use Rattle.world.specs.Taken.{nodes_of};
 ghost use Rattle.world.specs.World.{nodes_from};
@@ -11,7 +11,7 @@ use std::alloc::{AllocError, Global};
 use std::marker::Model;
 use synod::{NodeCore, Packet, Value, Weights};
 
-/// A world of nodes, seen as its weights and the events that it took. Its state is that of the world after them.
+/// The nodes of a world and their packets, seen as the weights and the events taken. Its state is that of the world after them.
 ///
 /// Source: Lamport, Paxos Made Simple, 2 and 3; the world after a list of events is in `specs/World.antt`.
 #[derive(Drop)]
@@ -33,10 +33,9 @@ impl<V: Value> Model for World<V> {
 }
 
 impl<V: Value> World<V> {
-    ghost use Rattle.std.specs.Prelude.{slice_get};
-    ghost use Rattle.std.specs.Prelude.{IsSome, IfErr, IsOkAnd};
-    ghost use Rattle.std.specs.Result.{ForOk};
-    ghost use Rattle.world.specs.World.{log};
+    ghost use Rattle.std.specs.Prelude.{slice_get, IfErr, IsSome, MatchOption};
+    ghost use Rattle.slots.specs.declared.slots.TheConstants.{SLOTS};
+    ghost use Rattle.world.specs.World.{log_after, packets_after};
     ghost use Rattle.world.specs.Taken.{Taken, Takes, world_of, with_event};
     ghost use Rattle.world.specs.History.{Agreement};
     ghost use Rattle.world.specs.declared.fault.StepFault.TheVariants.{NoNode, NoPacket, Memory};
@@ -120,7 +119,7 @@ impl<V: Value> World<V> {
     /// Errors: the first fault that the event meets, or `Memory` where it meets none; the world is then as before.
     pub fn step(&mut self, event: Event<V>) -> Result<u64, StepFault>
         ensures taken { OnOk result (self.new ≡ with_event self.old event) }
-        ensures posted { IfOk result (λ count. IsOkAnd (world_of V.bytes self.new) (λ world. count ≡ length world.packets)) }
+        ensures posted { IfOk result (λ count. count ≡ length (packets_after (world_of V.bytes self.new))) }
 
         // A fault is answered however little memory there is.
         ensures refused { IfErr (world_of V.bytes (with_event self.old event)) (λ fault. result ≡ Err fault) }
@@ -143,11 +142,24 @@ impl<V: Value> World<V> {
         &self.events
     }
 
+    /// Entry `slot` of the log of node `k`. It takes no memory.
+    pub fn entry(&self, k: u8, slot: u32) -> Result<Option<&Option<V>>, StepFault>
+        ensures entry { IfOk result (λ found. MatchOption found (slice_get (log_after (world_of V.bytes self.now) k) slot ≡ None) (λ entry. slice_get (log_after (world_of V.bytes self.now) k) slot ≡ Some entry.now)) }
+        ensures below { IfOk result (λ found. IsSome found → slot < SLOTS) }
+        ensures no_node { length self.now.weights ≤ k → result ≡ Err NoNode }
+        ensures node { k < length self.now.weights → IsOk result }
+    {
+        match self.nodes.get(k as usize) {
+            Some(node) => Ok(node.entry(slot)),
+            None => Err(StepFault::NoNode),
+        }
+    }
+
     /// The log of node `k`: what it learned, up to its first gap.
     pub fn log(&self, k: u8) -> Result<Vec<Option<V>>, StepFault>
-        ensures log { ForOk (world_of V.bytes self.now) (λ world. IfOk result (λ entries. entries.items ≡ log world k)) }
-        ensures no_node { ForOk (world_of V.bytes self.now) (λ world. slice_get world.nodes k ≡ None → result ≡ Err NoNode) }
-        ensures only_memory { ForOk (world_of V.bytes self.now) (λ world. IsSome (slice_get world.nodes k) → IsOkUnless result Memory) }
+        ensures log { IfOk result (λ entries. entries.items ≡ log_after (world_of V.bytes self.now) k) }
+        ensures no_node { length self.now.weights ≤ k → result ≡ Err NoNode }
+        ensures only_memory { k < length self.now.weights → IsOkUnless result Memory }
     {
         match self.nodes.get(k as usize) {
             Some(node) => Ok(node.log()?),
@@ -157,7 +169,9 @@ impl<V: Value> World<V> {
 
     /// The packet of that number, from 0 in the order of posting. It takes no memory.
     pub fn packet(&self, number: u64) -> Result<&Packet<V>, StepFault>
-        ensures found { IfOk (world_of V.bytes self.now) (λ world. MatchResult result (λ packet. slice_get world.packets number ≡ Some packet.now) (λ fault. (slice_get world.packets number ≡ None) × (fault ≡ NoPacket))) }
+        ensures found { IfOk result (λ packet. slice_get (packets_after (world_of V.bytes self.now)) number ≡ Some packet.now) }
+        ensures no_packet { slice_get (packets_after (world_of V.bytes self.now)) number ≡ None → result ≡ Err NoPacket }
+        ensures only_no_packet { IsOkUnless result NoPacket }
     {
         match self.packets.get(number as usize) {
             Some(packet) => Ok(packet),

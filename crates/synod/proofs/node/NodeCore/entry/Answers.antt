@@ -6,14 +6,14 @@ use Rattle.synod.specs.Log.{log_of}
 use Rattle.synod.proofs.LogLemmas.{gap_entry, get_past}
 use Rattle.synod.proofs.node.NodeCore.entry.Goals as goal
 
-pub returns-then-slot-front : goal.returns-then-slot-front
-returns-then-slot-front g c =
+pub returns-then-slot-front-clause-entry : goal.returns-then-slot-front-clause-entry
+returns-then-slot-front-clause-entry g c =
     let same : slice_get (log_of c.args.self.now.node) c.args.slot ≡ entry_at c.self.inside.learner.state.learned c.args.slot =
     ap (λ (core : Core g.row.V.Denot). slice_get (log_of core.node) c.args.slot) (sym c.self.view_is)
     ∙ gap_entry c.self.inside.learner.state.learned c.args.slot (omega (arith, c.front.ensures.front, c.if-slot-front.true)) in
     rw same c.learned.ensures
 
-pub returns-else-slot-front : goal.returns-else-slot-front
-returns-else-slot-front g c =
+pub returns-else-slot-front-clause-entry : goal.returns-else-slot-front-clause-entry
+returns-else-slot-front-clause-entry g c =
     ap (λ (core : Core g.row.V.Denot). slice_get (log_of core.node) c.args.slot) (sym c.self.view_is)
     ∙ get_past (entries_to_gap c.self.inside.learner.state.learned) c.args.slot (omega (arith, c.front.ensures.front, c.if-slot-front.false))

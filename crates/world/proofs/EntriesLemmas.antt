@@ -1,0 +1,32 @@
+-- Events and logs of entries, as those of the values that carry them.
+use Rattle.std.proofs.Common.{◌≡◌, ℕ, zero, suc, List, [], ◌∷◌, ◌++◌, slice_get, Option, Some, None, inl, inr, refl, ap, sym, ◌∙◌}
+use Rattle.library.specs.declared.entry.Entry.{Entry}
+use Rattle.world.specs.declared.carried.Carried.{Carried}
+use Rattle.world.specs.declared.event.Event.{Event}
+use Rattle.world.specs.Agree.{IsBeginningOf, Agree}
+use Rattle.world.specs.Carried.{carried, all_carried, entry_of, entries_of}
+
+pub all_carried-append : (es ds : List (Event Entry)) → all_carried (es ++ ds) ≡ all_carried es ++ all_carried ds
+all_carried-append [] ds = refl
+all_carried-append (e ∷ es) ds = ap (λ fs. carried e ∷ fs) (all_carried-append es ds)
+
+pub entries_of-append : (vs us : List (Option Carried)) → entries_of (vs ++ us) ≡ entries_of vs ++ entries_of us
+entries_of-append [] us = refl
+entries_of-append (v ∷ vs) us = ap (λ es. entry_of v ∷ es) (entries_of-append vs us)
+
+pub entries_begin : (vs us : List (Option Carried)) → IsBeginningOf vs us → IsBeginningOf (entries_of vs) (entries_of us)
+entries_begin vs us h = (entries_of h.0, sym (entries_of-append vs h.0) ∙ ap (λ ws. entries_of ws) h.1)
+
+pub entries_agree : (vs us : List (Option Carried)) → Agree vs us → Agree (entries_of vs) (entries_of us)
+entries_agree vs us (inl h) = inl (entries_begin vs us h)
+entries_agree vs us (inr h) = inr (entries_begin us vs h)
+
+pub entries_of-get : (vs : List (Option Carried)) (s : ℕ) (v : Option Carried) → slice_get vs s ≡ Some v → slice_get (entries_of vs) s ≡ Some (entry_of v)
+entries_of-get [] s v is = cc
+entries_of-get (u ∷ vs) zero v is = let same : u ≡ v = cc in ap (λ (w : Option Carried). let o : Option (Option Entry) = Some (entry_of w) in o) same
+entries_of-get (u ∷ vs) (suc s) v is = entries_of-get vs s v is
+
+pub entries_of-none : (vs : List (Option Carried)) (s : ℕ) → slice_get vs s ≡ None → slice_get (entries_of vs) s ≡ None
+entries_of-none [] s is = refl
+entries_of-none (u ∷ vs) zero is = cc
+entries_of-none (u ∷ vs) (suc s) is = entries_of-none vs s is

@@ -1,0 +1,32 @@
+-- Entries of a library as the values that nodes agree on.
+-- Source: Lamport, Paxos Made Simple, section 3: the values chosen are the commands of a state machine.
+-- The code wraps an entry in a type of its own; its size is the text's count of bytes, or 8 bytes a name of a charter.
+use Rattle.std.specs.Prelude.{ℕ, List, [], ◌∷◌, Option, Some, None}
+use Rattle.library.specs.declared.entry.Entry.{Entry}
+use Rattle.library.specs.LibraryOf.{size_of}
+use Rattle.world.specs.declared.carried.Carried.{Carried}
+use Rattle.world.specs.declared.event.Event.{Event}
+use Rattle.world.specs.declared.event.Event.TheVariants.{Offer, Begin, Deliver, Restart}
+
+abbrev pub carried_size : Carried → ℕ
+carried_size c = size_of c.0
+
+-- an event on entries, as the one on values
+abbrev pub carried : Event Entry → Event Carried
+carried (Offer k entry) = Offer k (record { 0 = entry })
+carried (Begin k) = Begin k
+carried (Deliver number) = Deliver number
+carried (Restart k) = Restart k
+
+abbrev pub all_carried : List (Event Entry) → List (Event Carried)
+all_carried [] = []
+all_carried (e ∷ es) = carried e ∷ all_carried es
+
+-- an entry of a log, and a log, without the wrapping
+abbrev pub entry_of : Option Carried → Option Entry
+entry_of None = None
+entry_of (Some c) = Some c.0
+
+abbrev pub entries_of : List (Option Carried) → List (Option Entry)
+entries_of [] = []
+entries_of (v ∷ vs) = entry_of v ∷ entries_of vs
