@@ -4,5 +4,13 @@ pub mod GoodLemmas
 pub mod RulesLemmas
 pub mod CausesLemmas
 pub mod LibraryLemmas
+pub mod VerdictsLemmas
+pub mod EnteringLemmas
+pub mod ItemsLemmas
+pub mod ProvingLemmas
+pub mod BaseLemmas
+pub mod ReadingLemmas
+pub mod ApplyLemmas
+pub mod ListedLemmas
 mod PlainLibraryLemmas
 mod Rows

@@ -63,22 +63,22 @@ first_broken-bares at S U (s ∷ T) same =
     ap (λ r. or_later at r (first_broken (at + 1) (S ++ s ∷ []) T)) (broken-bares S U same s)
     ∙ ap (or_later at (broken_rule U s)) (first_broken-bares (at + 1) (S ++ s ∷ []) (U ++ s ∷ []) T (map-append bare S (s ∷ []) ∙ (ap (λ V. V ++ bare s ∷ []) same ∙ sym (map-append bare U (s ∷ [])))))
 
+pub bare-bare : (s : Stmt) → bare (bare s) ≡ bare s
+bare-bare Open = refl
+bare-bare Close = refl
+bare-bare (Const names) = refl
+bare-bare (Var names) = refl
+bare-bare (Disj names) = refl
+bare-bare (Float label constant variable) = refl
+bare-bare (Ess label expr) = refl
+bare-bare (Axiom label expr) = refl
+bare-bare (Prove label expr proof) = refl
+
 -- one legal statement taken, the others decide
 pub first_broken-taken : (at : ℕ) (S : Database) (s : Stmt) (T : Database) → IsLegal S s → first_broken at S (s ∷ T) ≡ first_broken (at + 1) (S ++ bare s ∷ []) T
 first_broken-taken at S s T legal =
     legal-later at (broken_rule S s) (first_broken (at + 1) (S ++ s ∷ []) T) legal
     ∙ first_broken-bares (at + 1) (S ++ s ∷ []) (S ++ bare s ∷ []) T (map-append bare S (s ∷ []) ∙ (ap (λ v. map bare S ++ v ∷ []) (sym (bare-bare s)) ∙ sym (map-append bare S (bare s ∷ []))))
-  where
-    bare-bare : (s : Stmt) → bare (bare s) ≡ bare s
-    bare-bare Open = refl
-    bare-bare Close = refl
-    bare-bare (Const names) = refl
-    bare-bare (Var names) = refl
-    bare-bare (Disj names) = refl
-    bare-bare (Float label constant variable) = refl
-    bare-bare (Ess label expr) = refl
-    bare-bare (Axiom label expr) = refl
-    bare-bare (Prove label expr proof) = refl
 
 -- a statement that breaks a rule is the first of those that come
 pub first_broken-here : (at : ℕ) (S : Database) (s : Stmt) (T : Database) (rule : Rule) → broken_rule S s ≡ Some rule → first_broken at S (s ∷ T) ≡ Some (at, rule)

@@ -44,7 +44,7 @@ empty = record { statements = []; decided = []; charter = None }
 abbrev pub status : List Decided → ℕ → ℕ → Option Verdict
 status [] author serial = None
 status (d ∷ ds) author serial =
-    if (d.author == author) && (d.serial == serial) then Some d.verdict else status ds author serial
+    if (author == d.author) && (serial == d.serial) then Some d.verdict else status ds author serial
 
 abbrev pub status_of : Replica → Entry → Option Verdict
 status_of replica entry = status replica.decided (author_of entry) (serial_of entry)

@@ -3,19 +3,29 @@
 //! The crate above uses one contract: an application makes the step of `specs/LibraryOf` with its verdict, and want of
 //! memory decides nothing.
 //!
-//! Reading order: `submission`, `charter`, `entry` (what a log holds), `verdict`, `laws`.
+//! Reading order: `submission`, `charter`, `entry` (what a log holds), `verdict`; `library`; `reading` (a text and its charter),
+//! `base` (all or nothing), `entering` (the rules), `proving` (the proofs), `verdicts`; `laws`.
 #![tactic(auto)]
 
+mod base;
 mod charter;
+mod entering;
 mod entry;
 mod laws;
+mod library;
+mod listed;
+mod proving;
+mod reading;
 mod submission;
 mod verdict;
+mod verdicts;
 
 pub use charter::{MOST_NAMES, Names};
 pub use entry::Entry;
 pub use laws::{
     libraries_are_good, libraries_grow, one_library, one_verdict, plain_without_charters,
 };
+pub use library::Library;
+pub use listed::Listed;
 pub use submission::{MOST_BYTES, Submission};
 pub use verdict::{Cause, Verdict};

@@ -1,0 +1,111 @@
+-- From the verifier's answer to whether a `$p` is proved.
+use Rattle.std.specs.Prelude.{◌≡◌, ℕ, zero, suc, ◌+◌, ◌-◌, ◌<◌, ◌≤◌, ◌⊎◌, ◌↔◌, refl, Bool, true, false, IsTrue, List, Option, Some, None, Result, Ok, Err, IfOk, MatchOption}
+use Rattle.std.proofs.Common.{sym, ◌∙◌, ap, subst, inl, inr, arith}
+use Rattle.mm_lex.specs.Alphabet.{Name}
+use Rattle.mm_read.specs.declared.stmt.Stmt.{Stmt}
+use Rattle.mm_read.specs.Statements.{Database}
+use Rattle.scope.specs.Active.{bares, proof_of, stmt_at, is_provable}
+use Rattle.proof_code.specs.declared.item.Item.{Item}
+use Rattle.proof_code.specs.declared.fault.CodeFault.{CodeFault}
+use Rattle.proof_code.specs.declared.fault.CodeFault.TheVariants.{Unfinished, Malformed}
+use Rattle.proof_code.specs.Writes.{Writes, WritesPacked, WritesPlain, IsMalformed, is_compressed, is_unfinished}
+use Rattle.proof_code.proofs.OneList.{one_list}
+use Rattle.verify.specs.declared.answer.Answer.{Answer}
+use Rattle.verify.specs.declared.answer.Answer.TheVariants.{Proved, Wrong}
+use Rattle.verify.specs.Right.{IsProvable, IsRight, Says}
+use Rattle.library.specs.Good.{mandatory_labels}
+use Rattle.library.specs.Judging.{StandsProved}
+
+-- ---- items
+
+both : {P : Type 0} (b : Bool) → b ≡ true → b ≡ false → P
+both b p q = absurd (let e : true ≡ false = sym p ∙ q in cc)
+
+-- what was found of the items
+abbrev pub Found : List Name → List Name → Option (List Item) → Type 0
+Found tokens mandatory found = MatchOption found ((other : List Item) → ¬ Writes tokens mandatory other) (λ items. Writes tokens mandatory items)
+
+abbrev Written : Result (List Item) CodeFault → Option (List Item) → Type 0
+Written r found = MatchOption found ((r ≡ Err Unfinished) ⊎ (r ≡ Err Malformed)) (λ items. r ≡ Ok items)
+
+not-unfinished : (tokens mandatory : List Name) (other : List Item) → is_unfinished tokens ≡ true → Writes tokens mandatory other → ⊥
+not-unfinished tokens mandatory other h w = elim w [ inl p ↦ both (is_unfinished tokens) h p.1.0 | inr p ↦ both (is_unfinished tokens) h p.1.0 ]
+
+module _ (tokens mandatory : List Name) (r : Result (List Item) CodeFault) (found : Option (List Item)) (w : Written r found)
+    (unfinished : (r ≡ Err Unfinished) ↔ IsTrue (is_unfinished tokens)) where
+  pub packed-found : is_compressed tokens ≡ true → IfOk r (λ items. WritesPacked tokens mandatory items) → (r ≡ Err Malformed) ↔ IsMalformed tokens (WritesPacked tokens mandatory) → Found tokens mandatory found
+  packed-found compressed items malformed = by found w
+    where
+      malformed-none : r ≡ Err Malformed → (other : List Item) → Writes tokens mandatory other → ⊥
+      malformed-none e other q = elim q [ inl p ↦ (malformed.0 e).1 other p.1 | inr p ↦ both (is_compressed tokens) compressed p.0 ]
+
+      by : (found : Option (List Item)) → Written r found → Found tokens mandatory found
+      by (Some items') e = inl (compressed, subst (λ q. IfOk q (λ is. WritesPacked tokens mandatory is)) e items)
+      by None e = elim e [ inl u ↦ (λ other. not-unfinished tokens mandatory other (unfinished.0 u)) | inr m ↦ malformed-none m ]
+
+  pub normal-found : is_compressed tokens ≡ false → IfOk r (λ items. WritesPlain tokens items) → (r ≡ Err Malformed) ↔ IsMalformed tokens (WritesPlain tokens) → Found tokens mandatory found
+  normal-found plain items malformed = by found w
+    where
+      malformed-none : r ≡ Err Malformed → (other : List Item) → Writes tokens mandatory other → ⊥
+      malformed-none e other q = elim q [ inl p ↦ both (is_compressed tokens) p.0 plain | inr p ↦ (malformed.0 e).1 other p.1 ]
+
+      by : (found : Option (List Item)) → Written r found → Found tokens mandatory found
+      by (Some items') e = inr (plain, subst (λ q. IfOk q (λ is. WritesPlain tokens is)) e items)
+      by None e = elim e [ inl u ↦ (λ other. not-unfinished tokens mandatory other (unfinished.0 u)) | inr m ↦ malformed-none m ]
+
+-- ---- proofs
+
+same-statement : (S : Database) (at : ℕ) (s r : Stmt) → IsProvable S at s → IsProvable S at r → s ≡ r
+same-statement S at s r p q = let e : Some s ≡ Some r = sym p.stands ∙ q.stands in cc
+
+module _ (S F : Database) (at : ℕ) (s : Stmt) (same : F ≡ bares S) (provable : IsProvable S at s) where
+  stands-right : (items : List Item) → Writes (proof_of s) (mandatory_labels (bares S) at s) items → IsRight F at items → StandsProved S at
+  stands-right items written right r p =
+      record { stmt = s; items = items; provable = provable; written = written; right = subst (λ U. IsRight U at items) same right }
+
+  written-same : (r : Stmt) (items : List Item) → s ≡ r → Writes (proof_of r) (mandatory_labels (bares S) at r) items → Writes (proof_of s) (mandatory_labels (bares S) at s) items
+  written-same r items e w = subst (λ t. Writes (proof_of t) (mandatory_labels (bares S) at t) items) (sym e) w
+
+  stands-wrong : (items : List Item) → Writes (proof_of s) (mandatory_labels (bares S) at s) items → (IsRight F at items → ⊥) → StandsProved S at → ⊥
+  stands-wrong items written wrong stands =
+      let p = stands s provable in
+      let w = written-same p.stmt p.items (same-statement S at s p.stmt provable p.provable) p.written in
+      wrong (subst (λ is. IsRight F at is) (one_list (proof_of s) (mandatory_labels (bares S) at s) p.items items w written) (subst (λ U. IsRight U at p.items) (sym same) p.right))
+
+  pub stands-none : ((other : List Item) → Writes (proof_of s) (mandatory_labels (bares S) at s) other → ⊥) → StandsProved S at → ⊥
+  stands-none none stands =
+      let p = stands s provable in
+      none p.items (written-same p.stmt p.items (same-statement S at s p.stmt provable p.provable) p.written)
+
+  says-stands : (items : List Item) → Writes (proof_of s) (mandatory_labels (bares S) at s) items → (answer : Answer) → Says answer (IsRight F at items) → Says answer (StandsProved S at)
+  says-stands items written Proved h = stands-right items written h
+  says-stands items written Wrong h = stands-wrong items written h
+
+  pub checked-stands : {E : Type 0} (items : List Item) (tokens : List Name) → proof_of s ≡ tokens → Writes tokens (mandatory_labels (bares S) at s) items → (r : Result Answer E)
+      → IfOk r (λ answer. Says answer (IsRight F at items)) → IfOk r (λ answer. Says answer (StandsProved S at))
+  checked-stands items tokens e written (Ok answer) h = says-stands items (subst (λ t. Writes t (mandatory_labels (bares S) at s) items) (sym e) written) answer h
+  checked-stands items tokens e written (Err x) h = h
+
+-- where no `$p` stands, nothing is to be proved
+pub stands-other : (S : Database) (at : ℕ) (s : Stmt) → stmt_at S at ≡ Some s → (is_provable s ≡ true → ⊥) → StandsProved S at
+stands-other S at s here other r p = absurd (other (ap is_provable (let e : Some s ≡ Some r = sym here ∙ p.stands in let same : s ≡ r = cc in same) ∙ p.provable))
+
+-- ---- the least that is not proved
+
+abbrev pub AreProved : Database → ℕ → ℕ → Type 0
+AreProved S front end = (at : ℕ) → front < at → at ≤ end → StandsProved S at
+
+pub proved-more : (S : Database) (front end : ℕ) → AreProved S front end → StandsProved S (end + 1) → AreProved S front (end + 1)
+proved-more S front end before here at above within = by (end + 1 - at) refl
+  where
+    by : (n : ℕ) → end + 1 - at ≡ n → StandsProved S at
+    by zero e = subst (StandsProved S) (omega (arith, e, within)) here
+    by (suc n) e = before at above (omega (arith, e))
+
+-- ---- results
+
+-- what is said of each thing found is said of the result
+pub if-found : {E : Type 0} (tokens : List Name) (labels : Stmt → List Name) (P : Stmt → Type 0) (r : Result (Option (List Item)) E) {W : Option (List Item) → Type 0}
+    → ((found : Option (List Item)) → W found → (s : Stmt) → P s → Found tokens (labels s) found) → IfOk r W → IfOk r (λ found. (s : Stmt) → P s → Found tokens (labels s) found)
+if-found tokens labels P (Ok found) h w = h found w
+if-found tokens labels P (Err x) h w = w

@@ -1,0 +1,25 @@
+-- The table of verdicts is their list: what is looked up, and what is added.
+use Rattle.std.specs.Prelude.{◌≡◌, ℕ, Bool, true, false, ◌&&◌, ◌==◌, cond, List, [], ◌∷◌, ◌++◌, Option, Some, None, refl}
+use Rattle.std.specs.Map.{lookup}
+use Rattle.std.proofs.Common.{◌∙◌, ap}
+use Rattle.indexmap.specs.IndexMap.{insert_entry}
+use Rattle.library.specs.declared.verdict.Verdict.{Verdict}
+use Rattle.library.specs.LibraryOf.{status}
+use Rattle.library.specs.Ledger.{decided_of}
+
+pub lookup-status : (author serial : ℕ) (es : List ((ℕ × ℕ) × Verdict)) → lookup (λ k. (author == k.0) && (serial == k.1)) es ≡ status (decided_of es) author serial
+lookup-status author serial [] = refl
+lookup-status author serial (e ∷ es) = ap (λ r. cond ((author == e.0.0) && (serial == e.0.1)) (Some e.1) r) (lookup-status author serial es)
+
+none-cond : {A : Type 0} (b : Bool) (x : A) (r : Option A) → cond b (Some x) r ≡ None → (b ≡ false) × (r ≡ None)
+none-cond true x r h = cc
+none-cond false x r h = (refl, h)
+
+-- what was not decided goes last
+pub decided_of-insert : (author serial : ℕ) (v : Verdict) (es : List ((ℕ × ℕ) × Verdict)) → status (decided_of es) author serial ≡ None
+    → decided_of (insert_entry (λ (a b : ℕ × ℕ). (a.0 == b.0) && (a.1 == b.1)) es (author, serial) v) ≡ decided_of es ++ record { author = author; serial = serial; verdict = v } ∷ []
+decided_of-insert author serial v [] h = refl
+decided_of-insert author serial v (e ∷ es) h =
+    let rest = none-cond ((author == e.0.0) && (serial == e.0.1)) e.1 (status (decided_of es) author serial) h in
+    ap (λ b. decided_of (cond b ((e.0, v) ∷ es) (e ∷ insert_entry (λ (a b : ℕ × ℕ). (a.0 == b.0) && (a.1 == b.1)) es (author, serial) v))) rest.0
+    ∙ ap (λ r. record { author = e.0.0; serial = e.0.1; verdict = e.1 } ∷ r) (decided_of-insert author serial v es rest.1)

@@ -1,0 +1,13 @@
+use Rattle.std.proofs.Common.{◌≡◌, ◌+◌, ◌*◌, ◌≤◌, ◌++◌, take, drop}
+use Rattle.scope.specs.Active.{bares}
+use Rattle.scope.specs.Legal.{first_broken}
+use Rattle.library.proofs.entering.enter.Given as goal
+
+abbrev pub invariant-loop-index : goal.invariant-loop-index
+invariant-loop-index l = record {
+  scope_is : l.scope.statements ≡ l.initial.scope.statements ++ bares (take l.index l.statements);
+  frames_are : l.frames.statements ≡ l.initial.frames.statements ++ bares (take l.index l.statements);
+  left : first_broken 1 l.initial.scope.statements l.statements ≡ first_broken (l.index + 1) l.scope.statements (drop l.index l.statements);
+  mark : l.scope.marked ≡ l.initial.scope.marked;
+  counted : l.steps.count ≤ l.initial.steps.count + 2 * l.index;
+}

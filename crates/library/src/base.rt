@@ -1,0 +1,176 @@
+//! Good statements, with what judges those that come behind them.
+ghost use Rattle.std.specs.Prelude.{◌≡◌, ℕ, ◌+◌, ◌*◌, ◌≤◌, ◌++◌, [], length, take, drop, Ok, Some, None, IfOk, OnErr, IsTrue, MatchResult, MatchOption};
+ghost use Rattle.mm_read.specs.Statements.{AreShaped};
+ghost use Rattle.scope.specs.Active.{bares, is_closed};
+ghost use Rattle.library.specs.Good.{Good};
+ghost use Rattle.library.specs.Judging.{Begins, IsPlaced, IsUnproved, Extends};
+
+use crate::entering::enter;
+use crate::proving::{first_unproved, is_unfinished};
+use crate::verdict::Cause;
+use frame::Frames;
+use mm_read::Stmt;
+use scope::{Scope, Steps};
+use std::alloc::{AllocError, Global};
+use std::marker::Model;
+
+/// Good statements as they were read, with the scope and the frames behind them. Contracts see the list of statements.
+#[derive(Drop)]
+pub(crate) struct Base {
+    alloc: Global,
+    statements: Vec<Stmt>,
+    scope: Scope,
+    frames: Frames,
+}
+
+impl Model for Base {
+    ghost use Rattle.mm_read.specs.Statements.{Database};
+    ghost use Rattle.library.specs.Judging.{IsBase};
+
+    ghost Value = { Database };
+
+    ghost view = { λ a. a.statements.items };
+
+    ghost invariant = { λ a. IsBase a.statements.items a.scope a.frames };
+}
+
+impl Base {
+    /// No statements. Takes no memory.
+    pub(crate) fn new(alloc: Global) -> Base
+        ensures { result ≡ [] }
+    {
+        Base {
+            alloc,
+            statements: Vec::new(alloc),
+            scope: Scope::new(alloc),
+            frames: Frames::new(alloc),
+        }
+    }
+
+    /// The statements.
+    pub(crate) fn statements(&self) -> &[Stmt]
+        ensures statements { result.now ≡ self.now }
+        ensures good { Good self.now }
+        ensures shaped { AreShaped self.now }
+    {
+        self.statements.as_slice()
+    }
+
+    /// Adds the statements whole, where they are good behind those that stand; else it answers why they are not.
+    ///
+    /// Errors: a growth was refused; nothing is added then. Cost: that of the statements added, two steps each.
+    pub(crate) fn extend(
+        &mut self,
+        mut more: Vec<Stmt>,
+        steps: &mut Steps,
+    ) -> Result<Option<Cause>, AllocError>
+        requires { AreShaped more.items }
+        ensures judged { IfOk result (λ found. Extends self.old more.items found self.new) }
+        ensures same { OnErr result (self.new ≡ self.old) }
+        ensures counted { steps.new.count ≤ steps.old.count + 3 * length more.items }
+    {
+        let front = self.statements.len();
+        self.statements.append(&mut more)?;
+        let found = judge(
+            self.alloc,
+            &mut self.scope,
+            &mut self.frames,
+            &self.statements,
+            front,
+            steps,
+        );
+        settle(
+            &mut self.statements,
+            &mut self.scope,
+            &mut self.frames,
+            front,
+            found,
+        )
+    }
+}
+
+/// Why the statements behind the first `front` may not stand there; none where they may.
+///
+/// Errors: a growth was refused. Cost: that of these statements, two steps each.
+fn judge(
+    alloc: Global,
+    scope: &mut Scope,
+    frames: &mut Frames,
+    statements: &[Stmt],
+    front: usize,
+    steps: &mut Steps,
+) -> Result<Option<Cause>, AllocError>
+    requires within { front ≤ length statements.now }
+    requires shaped { AreShaped (drop front statements.now) }
+    requires scope { scope.old.statements ≡ bares (take front statements.now) }
+    requires frames { frames.old.statements ≡ bares (take front statements.now) }
+    ensures placed { IfOk result (IsPlaced (take front statements.now) (drop front statements.now) scope.new frames.new) }
+    ensures begins { Begins frames.old.statements frames.new.statements }
+    ensures marked { scope.new.marked ≡ scope.old.marked }
+    ensures counted { steps.new.count ≤ steps.old.count + 2 * length (drop front statements.now) }
+{
+    match enter(scope, frames, &statements[front..], steps)? {
+        None => {}
+        Some((statement, rule)) => return Ok(Some(Cause::Rule { statement, rule })),
+    }
+    match first_unproved(alloc, frames, statements, front)? {
+        None => Ok(None),
+        Some(at) => Ok(Some(unproved(&statements[at - 1], at - front))),
+    }
+}
+
+/// Why the statement of that number, whose proof is not right, may not stand.
+fn unproved(statement: &Stmt, number: usize) -> Cause
+    ensures { IsUnproved statement.now number result }
+{
+    if is_unfinished(statement) {
+        Cause::Unfinished { statement: number }
+    } else {
+        Cause::Proof { statement: number }
+    }
+}
+
+/// Marks the statements, where those behind the first `front` were found good; else goes back to the first ones. Takes no
+/// memory.
+fn settle(
+    statements: &mut Vec<Stmt>,
+    scope: &mut Scope,
+    frames: &mut Frames,
+    front: usize,
+    found: Result<Option<Cause>, AllocError>,
+) -> Result<Option<Cause>, AllocError>
+    requires closed { found ≡ Ok None → IsTrue (is_closed scope.old.statements) }
+    ensures found { result ≡ found }
+    ensures kept { found ≡ Ok None → (statements.new.items ≡ statements.old.items) × (frames.new ≡ frames.old)
+        × (scope.new.statements ≡ scope.old.statements) × (scope.new.marked ≡ scope.old.statements) }
+    ensures back { (found ≡ Ok None → ⊥) → (statements.new.items ≡ take front statements.old.items)
+        × (frames.new.statements ≡ take front frames.old.statements)
+        × (scope.new.statements ≡ scope.old.marked) × (scope.new.marked ≡ scope.old.marked) }
+{
+    match found {
+        Ok(None) => {
+            scope.mark();
+            Ok(None)
+        }
+        Ok(Some(cause)) => {
+            go_back(statements, scope, frames, front);
+            Ok(Some(cause))
+        }
+        Err(AllocError) => {
+            go_back(statements, scope, frames, front);
+            Err(AllocError)
+        }
+    }
+}
+
+/// Goes back to the marked statements, which are the first `front`. Takes no memory.
+fn go_back(statements: &mut Vec<Stmt>, scope: &mut Scope, frames: &mut Frames, front: usize)
+    ensures statements { statements.new.items ≡ take front statements.old.items }
+    ensures frames { frames.new.statements ≡ take front frames.old.statements }
+    ensures scope { scope.new.statements ≡ scope.old.marked }
+    ensures marked { scope.new.marked ≡ scope.old.marked }
+{
+    statements.truncate(front);
+    scope.back();
+    frames.shorten(front);
+}

@@ -1,0 +1,162 @@
+//! One replica: the statements that the entries of a log validly add, and the verdicts on them.
+ghost use Rattle.std.specs.Prelude.{◌≡◌, ℕ, None, Some, IfOk, OnErr, option_map};
+ghost use Rattle.mm_read.specs.Statements.{AreShaped};
+ghost use Rattle.library.specs.Charters.{AreNames};
+ghost use Rattle.library.specs.Good.{Good};
+ghost use Rattle.library.specs.LibraryOf.{Applies, empty, status};
+ghost use Rattle.library.specs.Kept.{IsWithinSteps, IsWithinEntry, IsWithinText};
+ghost use Rattle.library.specs.Judging.{Judges, JudgesText, JudgesCharter};
+
+use crate::base::Base;
+use crate::charter::Names;
+use crate::entry::Entry;
+use crate::reading::{may_declare, read_text};
+use crate::submission::Submission;
+use crate::verdict::{Cause, Verdict};
+use crate::verdicts::Verdicts;
+use mm_read::Stmt;
+use scope::Steps;
+use std::alloc::{AllocError, Global};
+use std::marker::Model;
+
+/// The statements added, the verdicts decided, and the charter that is there. Contracts see them as a replica, and the
+/// count of the steps that the library took.
+#[derive(Drop)]
+pub struct Library {
+    alloc: Global,
+    base: Base,
+    verdicts: Verdicts,
+    charter: Option<Names>,
+    steps: Steps,
+}
+
+impl Model for Library {
+    ghost use Rattle.library.specs.Kept.{Kept};
+
+    ghost Value = { Kept };
+
+    ghost view = { λ a. record { replica = record { statements = a.base; decided = a.verdicts.decided; charter = a.charter }; steps = a.steps.count } };
+}
+
+impl Library {
+    /// No statements, no verdicts, no charter. Takes no memory.
+    pub fn new(alloc: Global) -> Library
+        ensures replica { result.replica ≡ empty }
+        ensures steps { result.steps ≡ 0 }
+    {
+        Library {
+            alloc,
+            base: Base::new(alloc),
+            verdicts: Verdicts::new(alloc),
+            charter: None,
+            steps: Steps::new(),
+        }
+    }
+
+    /// Applies the next entry of the log, or a no-operation.
+    ///
+    /// Errors: a growth was refused; the entry stays undecided, and statements, verdicts and charter are as before.
+    /// Cost: that of the entry's own text; at most three steps for each of its statements.
+    pub fn apply(&mut self, next: Option<&Entry>) -> Result<Verdict, AllocError>
+        ensures step { IfOk result (λ verdict. Applies self.old.replica (option_map (λ e. e.now) next.entry) verdict self.new.replica) }
+        ensures same { OnErr result (self.new.replica ≡ self.old.replica) }
+        ensures counted { IsWithinSteps self.old.replica (option_map (λ e. e.now) next.entry) self.old.steps self.new.steps }
+    {
+        let Some(entry) = next else {
+            return Ok(Verdict::Nothing);
+        };
+        match self.verdicts.status(entry.author(), entry.serial()) {
+            Some(_) => return Ok(Verdict::Repeat),
+            None => {}
+        }
+        self.verdicts.reserve()?;
+        let verdict = judge(
+            self.alloc,
+            &mut self.base,
+            &mut self.charter,
+            entry,
+            &mut self.steps,
+        )?;
+        self.verdicts.push(entry.author(), entry.serial(), verdict);
+        Ok(verdict)
+    }
+
+    /// The verdict first decided on the author's text or charter of that number. Takes no memory.
+    pub fn status(&self, author: u64, serial: u64) -> Option<Verdict>
+        ensures { result ≡ status self.now.replica.decided author serial }
+    {
+        self.verdicts.status(author, serial)
+    }
+
+    /// All statements, in order.
+    pub fn statements(&self) -> &[Stmt]
+        ensures statements { result.now ≡ self.now.replica.statements }
+        ensures good { Good self.now.replica.statements }
+        ensures shaped { AreShaped self.now.replica.statements }
+    {
+        self.base.statements()
+    }
+
+    /// The charter that is there.
+    pub fn charter(&self) -> Option<&Names>
+        ensures { option_map (λ names. names.now) result ≡ self.now.replica.charter }
+    {
+        self.charter.as_ref()
+    }
+}
+
+/// The verdict on an entry that was not decided before, and what it changes.
+fn judge(
+    alloc: Global,
+    base: &mut Base,
+    charter: &mut Option<Names>,
+    entry: &Entry,
+    steps: &mut Steps,
+) -> Result<Verdict, AllocError>
+    ensures judged { IfOk result (λ verdict. Judges base.old charter.old entry.now verdict base.new charter.new) }
+    ensures base { OnErr result (base.new ≡ base.old) }
+    ensures charter { OnErr result (charter.new ≡ charter.old) }
+    ensures counted { IsWithinEntry entry.now steps.old.count steps.new.count }
+{
+    match entry {
+        Entry::Text(submission) => judge_text(alloc, base, charter, submission, steps),
+        Entry::Charter { author, names, .. } => judge_charter(charter, *author, names),
+    }
+}
+
+/// The verdict on a text that was not decided before, whose statements are added where they are good.
+fn judge_text(
+    alloc: Global,
+    base: &mut Base,
+    charter: &Option<Names>,
+    submission: &Submission,
+    steps: &mut Steps,
+) -> Result<Verdict, AllocError>
+    ensures judged { IfOk result (λ verdict. JudgesText base.old charter.now submission.now verdict base.new) }
+    ensures base { OnErr result (base.new ≡ base.old) }
+    ensures counted { IsWithinText submission.now steps.old.count steps.new.count }
+{
+    match read_text(alloc, charter, submission)? {
+        Ok(statements) => match base.extend(statements, steps)? {
+            None => Ok(Verdict::Added),
+            Some(cause) => Ok(Verdict::Refused(cause)),
+        },
+        Err(cause) => Ok(Verdict::Refused(cause)),
+    }
+}
+
+/// The verdict on a charter that was not decided before, which counts from now on where it is added.
+fn judge_charter(
+    charter: &mut Option<Names>,
+    author: u64,
+    names: &Names,
+) -> Result<Verdict, AllocError>
+    ensures judged { IfOk result (λ verdict. JudgesCharter charter.old author names.now verdict charter.new) }
+    ensures charter { OnErr result (charter.new ≡ charter.old) }
+{
+    if !may_declare(charter, author) {
+        return Ok(Verdict::Refused(Cause::NotChartered { statement: 0 }));
+    }
+    *charter = Some(names.copy()?);
+    Ok(Verdict::Added)
+}

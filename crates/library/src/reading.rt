@@ -1,0 +1,76 @@
+//! What a text reads as, and what the charter that is there forbids its author.
+ghost use Rattle.std.specs.Prelude.{◌≡◌, IfOk};
+ghost use Rattle.library.specs.Charters.{first_declaration, forbidden, is_declaration, may_declare};
+ghost use Rattle.library.specs.Judging.{IsReading};
+
+use crate::charter::Names;
+use crate::submission::{MOST_BYTES, Submission};
+use crate::verdict::Cause;
+use mm_read::{ReadFault, Stmt, read};
+use std::alloc::{AllocError, Global};
+
+/// The statements of the text, where it is within the limit, reads, and the charter forbids its author none of them;
+/// else the cause why it is refused, whatever stands before it.
+///
+/// Errors: a growth was refused. Cost: the size of the text.
+pub(crate) fn read_text(
+    alloc: Global,
+    charter: &Option<Names>,
+    submission: &Submission,
+) -> Result<Result<Vec<Stmt>, Cause>, AllocError>
+    ensures { IfOk result (IsReading charter.now submission.now) }
+{
+    let text = submission.text.as_slice();
+    if text.len() > MOST_BYTES {
+        return Ok(Err(Cause::TooLong));
+    }
+    match read(alloc, text) {
+        Ok(statements) => match forbidden(charter, submission.author, &statements) {
+            Some(statement) => Ok(Err(Cause::NotChartered { statement })),
+            None => Ok(Ok(statements)),
+        },
+        Err(ReadFault::Text(_)) => Ok(Err(Cause::Text)),
+        Err(ReadFault::Shape { .. }) => Ok(Err(Cause::Shape)),
+        Err(ReadFault::Memory) => Err(AllocError),
+    }
+}
+
+/// Whether the author may declare constants and axioms: where a charter is there, it names him.
+pub(crate) fn may_declare(charter: &Option<Names>, author: u64) -> bool
+    ensures { result ≡ may_declare charter.now author }
+{
+    match charter {
+        Some(names) => names.has(author),
+        None => true,
+    }
+}
+
+/// The number of the least statement that its author may not declare, counted from 1.
+fn forbidden(charter: &Option<Names>, author: u64, statements: &[Stmt]) -> Option<usize>
+    ensures { result ≡ forbidden charter.now author statements.now }
+{
+    if may_declare(charter, author) {
+        None
+    } else {
+        first_declaration(statements)
+    }
+}
+
+/// The number of the least `$c` or `$a`, counted from 1.
+fn first_declaration(statements: &[Stmt]) -> Option<usize>
+    ensures { result ≡ first_declaration 1 statements.now }
+{
+    for (index, statement) in statements.iter().enumerate() {
+        if is_declaration(statement) {
+            return Some(index + 1);
+        }
+    }
+    None
+}
+
+/// `$c` and `$a`.
+fn is_declaration(statement: &Stmt) -> bool
+    ensures { result ≡ is_declaration statement.now }
+{
+    matches!(statement, Stmt::Const(_) | Stmt::Axiom { .. })
+}
