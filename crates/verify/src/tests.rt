@@ -8,7 +8,7 @@ use frame::Frames;
 use mm_read::{Stmt, read};
 use proof_code::{Items, normal};
 use scope::{Scope, Steps};
-use std::alloc::Global;
+use std::alloc::{AllocError, Global};
 
 const BOOK: &[u8] =
     b"$c 0 + = -> ( ) term wff |- $. $v t r s P Q $. tt $f term t $. tr $f term r $. \
@@ -24,6 +24,9 @@ const WEIGHTS: &[u8] =
 
 const DOUBLING: &[u8] =
     b"$c wff $. $v x y $. wx $f wff x $. wy $f wff y $. we $a wff $. wb $a wff x y $. th $p wff $= we $.";
+
+const CHAIN: &[u8] =
+    b"$c wff $. $v x $. wx $f wff x $. we $a wff $. wn $a wff x $. th $p wff $= we $.";
 
 /// What is answered of the last `$p` of a text.
 #[derive(Clone, Copy, Debug, Drop, PartialEq, Eq)]
@@ -169,6 +172,38 @@ fn measures_trees_before_it_makes_them(rt: HostRuntime) {
     }
 }
 
+/// A tree of the greatest depth is made and dropped again, and a deeper one is not made.
+#[test]
+fn makes_trees_up_to_the_depth(rt: HostRuntime) -> Result<(), AllocError> {
+    let mut letters = Vec::new(rt.alloc());
+    letters.push(b'A')?;
+    for _ in 1..1024 {
+        letters.push(b'B')?;
+    }
+    for want in [Outcome::Right(1024), Outcome::Large] {
+        let table = (b"$c we wn $.".as_slice(), letters.as_slice());
+        assert_eq!(rt; last_outcome(rt.alloc(), CHAIN, Some(table)), Some(want));
+        letters.push(b'B')?;
+    }
+    Ok(())
+}
+
+/// What met no memory is answered when it is asked again: run with each allocation refused in turn.
+#[test]
+fn answers_after_a_refused_growth(rt: HostRuntime) {
+    let table = (
+        b"$c tt tze tpl weq a2 wim a1 mp $.".as_slice(),
+        b"ABCZADZAADZAEZJJKFLIAAGHH".as_slice(),
+    );
+    for proof in [None, Some(table)] {
+        let mut outcome = last_outcome(rt.alloc(), BOOK, proof);
+        if outcome.is_none() {
+            outcome = last_outcome(rt.alloc(), BOOK, proof);
+        }
+        assert_eq!(rt; outcome, Some(Outcome::Right(34)));
+    }
+}
+
 /// What is answered of the last `$p`, by its own normal proof or by these labels and letters;
 /// nothing where the text is no legal database or there is no memory.
 fn last_outcome(alloc: Global, text: &[u8], table: Option<(&[u8], &[u8])>) -> Option<Outcome> {
@@ -221,8 +256,14 @@ fn judge(alloc: Global, frames: &Frames, stmt: &Stmt, items: &Items) -> Option<O
 {
     if let Stmt::Prove { .. } = stmt {
         let at = frames.len();
-        let answer = check(alloc, frames, at, items).ok()?;
-        let tree = derivation(alloc, frames, at, items);
+        let answer = match check(alloc, frames, at, items) {
+            Ok(answer) => answer,
+            Err(_) => check(alloc, frames, at, items).ok()?,
+        };
+        let tree = match derivation(alloc, frames, at, items) {
+            Err(TreeFault::Memory) => derivation(alloc, frames, at, items),
+            tree => tree,
+        };
         Some(match (answer, tree) {
             (Answer::Proved, Ok(tree)) => Outcome::Right(count(&tree)),
             (Answer::Proved, Err(TreeFault::TooLarge)) => Outcome::Large,
