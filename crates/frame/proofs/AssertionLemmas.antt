@@ -11,10 +11,10 @@ use Rattle.frame.specs.FrameOf.{hypotheses, is_hypothesis}
 use Rattle.frame.specs.ByPlaces.{AreBelow}
 use Rattle.frame.specs.Links.{actives, is_disj}
 use Rattle.frame.specs.declared.citation.Pattern.{Pattern}
-use Rattle.frame.specs.declared.storage.Assertion.{Assertion}
-use Rattle.frame.specs.declared.storage.Kind.{Kind}
-use Rattle.frame.specs.declared.storage.Kind.TheVariants.{Open, Close, Const, Var, Disj, Float, Ess, Axiom, Prove}
-use Rattle.frame.specs.declared.storage.Entry.{Entry}
+use Rattle.frame.specs.Entries.{Assertion}
+use Rattle.frame.specs.declared.kind.Kind.{Kind}
+use Rattle.frame.specs.declared.kind.Kind.TheVariants.{Open, Close, Const, Var, Disj, Float, Ess, Axiom, Prove}
+use Rattle.frame.specs.Entries.{Entry}
 use Rattle.frame.specs.Stored.{stmt_by, stmt_of, AreHypotheses, ArePatterns, IsPatternOf, AreParts, IsKeptAs, is_hypothesis_entry, variable_at, option_variable, symbols_at, option_symbols, groups_by, templated, template_number, place_of, place_from, is_code, is_float_kind, own_template, option_template, template_at, AreNumbered, collected}
 
 pub get-entry : (names labels : List Name) (es : List Entry) (i : ℕ) (s : Stmt) → slice_get (map (stmt_of names labels) es) i ≡ Some s → (e : Entry) × (slice_get es i ≡ Some e) × (stmt_of names labels e ≡ s)
@@ -40,7 +40,7 @@ module _ (Q : ℕ → Stmt → Type 0) where
 hypothesis-kind : (names labels : List Name) (S : Database) (s : Stmt) (e : Entry) → is_hypothesis S s (stmt_of names labels e) ≡ true → is_hypothesis_entry e.kind ≡ true
 hypothesis-kind names labels S s e = by e.kind
   where
-    by : (kind : Kind) → is_hypothesis S s (stmt_by kind (name_at labels e.label) (decode names e.symbols.items)) ≡ true → is_hypothesis_entry kind ≡ true
+    by : (kind : Kind) → is_hypothesis S s (stmt_by kind (name_at labels e.label) (decode names e.symbols)) ≡ true → is_hypothesis_entry kind ≡ true
     by Float h = refl
     by Ess h = refl
     by Open h = cc
@@ -138,12 +138,12 @@ templated-below : (vs : List (Option ℕ)) (n : ℕ) (codes : List ℕ) → AreB
 templated-below vs n [] h = tt
 templated-below vs n (c ∷ codes) h = (template-below vs n c h.0, templated-below vs n codes h.1)
 
-own-below : (vs : List (Option ℕ)) (n : ℕ) (e : Entry) → AreBelow n e.symbols.items → AreBelow (length vs + n) (own_template vs e)
+own-below : (vs : List (Option ℕ)) (n : ℕ) (e : Entry) → AreBelow n e.symbols → AreBelow (length vs + n) (own_template vs e)
 own-below vs n e h = by (is_float_kind e.kind)
   where
-    by : (b : Bool) → AreBelow (length vs + n) (cond b [] (templated vs e.symbols.items))
+    by : (b : Bool) → AreBelow (length vs + n) (cond b [] (templated vs e.symbols))
     by true = tt
-    by false = templated-below vs n e.symbols.items h
+    by false = templated-below vs n e.symbols h
 
 flat-below : (names-count m : ℕ) (es : List Entry) (vs ws : List (Option ℕ)) (t ps : List ℕ) (qs : List Pattern) → AreNumbered names-count m es → ArePatterns es vs t ps qs → AreBelow (length ws + names-count) (flat_map (template_at es ws) ps)
 flat-below n m es vs ws t [] [] a h = tt
@@ -154,9 +154,9 @@ flat-below n m es vs ws t (p ∷ ps) (q ∷ qs) a h =
     (subst (λ o. AreBelow (length ws + n) (option_template ws o)) (sym h.0.1) (own-below ws n h.0.0 (numbered-here n m es a (p - 1) h.0.0 h.0.1)))
     (flat-below n m es vs ws t ps qs a h.1)
   where
-    numbered-here : (x y : ℕ) (ds : List Entry) → AreNumbered x y ds → (k : ℕ) (d : Entry) → slice_get ds k ≡ Some d → AreBelow x d.symbols.items
+    numbered-here : (x y : ℕ) (ds : List Entry) → AreNumbered x y ds → (k : ℕ) (d : Entry) → slice_get ds k ≡ Some d → AreBelow x d.symbols
     numbered-here x y [] b k d g = cc
-    numbered-here x y (c ∷ ds) b zero d g = let same : c ≡ d = cc in subst (λ w. AreBelow x w.symbols.items) same b.0
+    numbered-here x y (c ∷ ds) b zero d g = let same : c ≡ d = cc in subst (λ w. AreBelow x w.symbols) same b.0
     numbered-here x y (c ∷ ds) b (suc k) d g = numbered-here x y ds b.2 k d g
 
 patterns-count : (es : List Entry) (vs : List (Option ℕ)) (t ps : List ℕ) (qs : List Pattern) → ArePatterns es vs t ps qs → length qs ≡ length ps
@@ -165,13 +165,13 @@ patterns-count es vs t [] (q ∷ qs) h = absurd h
 patterns-count es vs t (p ∷ ps) [] h = absurd h
 patterns-count es vs t (p ∷ ps) (q ∷ qs) h = ap suc (patterns-count es vs t ps qs h.1)
 
-pub kept-low : (n m : ℕ) (es : List Entry) (S : Database) (s : Stmt) (e : Entry) (d : Assertion) → AreNumbered n m es → IsKeptAs es S s e d → AreBelow (length d.patterns.items + n) d.templates.items
+pub kept-low : (n m : ℕ) (es : List Entry) (S : Database) (s : Stmt) (e : Entry) (d : Assertion) → AreNumbered n m es → IsKeptAs es S s e d → AreBelow (length d.patterns + n) d.templates
 kept-low n m es S s e d a k =
-    let vs = map (variable_at es) d.hypotheses.items in
-    let one : length vs ≡ length d.hypotheses.items = length-map d.hypotheses.items (variable_at es) in
-    let two = patterns-count es vs d.templates.items d.hypotheses.items d.patterns.items k.patterns_kept in
-    let low : AreBelow (length vs + n) d.templates.items = subst (AreBelow (length vs + n)) (sym k.templates_kept) (flat-below n m es vs vs d.templates.items d.hypotheses.items d.patterns.items a k.patterns_kept) in
-    subst (λ r. AreBelow (r + n) d.templates.items) (one ∙ sym two) low
+    let vs = map (variable_at es) d.hypotheses in
+    let one : length vs ≡ length d.hypotheses = length-map d.hypotheses (variable_at es) in
+    let two = patterns-count es vs d.templates d.hypotheses d.patterns k.patterns_kept in
+    let low : AreBelow (length vs + n) d.templates = subst (AreBelow (length vs + n)) (sym k.templates_kept) (flat-below n m es vs vs d.templates d.hypotheses d.patterns a k.patterns_kept) in
+    subst (λ r. AreBelow (r + n) d.templates) (one ∙ sym two) low
 
 -- the symbols at positions within the list
 symbols-grow : (names labels : List Name) (es more : List Entry) (S : Database) → ((k : ℕ) (t : Stmt) → slice_get S k ≡ Some t → (e : Entry) × (slice_get es k ≡ Some e))
@@ -199,17 +199,17 @@ symbols-grow names labels es more S h = all (active S) (active-are Stands 1 S (�
 pub kept-more : (names labels : List Name) (es more : List Entry) (S : Database) (s : Stmt) (e : Entry) (d : Assertion) → ((k : ℕ) (t : Stmt) → slice_get S k ≡ Some t → (x : Entry) × (slice_get es k ≡ Some x))
     → IsKeptAs es S s e d → IsKeptAs (es ++ more) S s e d
 kept-more names labels es more S s e d h k =
-    let vs = map (variable_at es) d.hypotheses.items in
-    let same : vs ≡ map (variable_at (es ++ more)) d.hypotheses.items = variables-grow es more vs d.templates.items d.hypotheses.items d.patterns.items k.patterns_kept in
+    let vs = map (variable_at es) d.hypotheses in
+    let same : vs ≡ map (variable_at (es ++ more)) d.hypotheses = variables-grow es more vs d.templates d.hypotheses d.patterns k.patterns_kept in
     record {
       hypotheses_kept = k.hypotheses_kept;
-      patterns_kept = subst (λ v. ArePatterns (es ++ more) v d.templates.items d.hypotheses.items d.patterns.items) same (patterns-grow es more vs d.templates.items d.hypotheses.items d.patterns.items k.patterns_kept);
-      conclusion_kept = k.conclusion_kept ∙ ap (λ v. templated v e.symbols.items) same;
+      patterns_kept = subst (λ v. ArePatterns (es ++ more) v d.templates d.hypotheses d.patterns) same (patterns-grow es more vs d.templates d.hypotheses d.patterns k.patterns_kept);
+      conclusion_kept = k.conclusion_kept ∙ ap (λ v. templated v e.symbols) same;
       groups_kept = k.groups_kept ∙ (ap (λ v. groups_by v (map (λ q. symbols_at es q.0) (actives is_disj S))) same
-          ∙ ap (groups_by (map (variable_at (es ++ more)) d.hypotheses.items)) (symbols-grow names labels es more S h));
+          ∙ ap (groups_by (map (variable_at (es ++ more)) d.hypotheses)) (symbols-grow names labels es more S h));
       few = k.few;
-      templates_kept = k.templates_kept ∙ (templates-grow es more vs vs d.templates.items d.hypotheses.items d.patterns.items k.patterns_kept
-          ∙ ap (λ v. flat_map (template_at (es ++ more) v) d.hypotheses.items) same);
+      templates_kept = k.templates_kept ∙ (templates-grow es more vs vs d.templates d.hypotheses d.patterns k.patterns_kept
+          ∙ ap (λ v. flat_map (template_at (es ++ more) v) d.hypotheses) same);
     }
 
 -- ---- less behind it
@@ -227,29 +227,29 @@ patterns-shrink es more vs t (p ∷ ps) (q ∷ qs) there h =
 pub kept-less : (names labels : List Name) (es more : List Entry) (s : Stmt) (e : Entry) (d : Assertion) → IsKeptAs (es ++ more) (map (stmt_of names labels) es) s e d → IsKeptAs es (map (stmt_of names labels) es) s e d
 kept-less names labels es more s e d k =
     let S = map (stmt_of names labels) es in
-    let ps = d.hypotheses.items in
+    let ps = d.hypotheses in
     let vs = map (variable_at (es ++ more)) ps in
     let there = subst (AreHypotheses es) (sym k.hypotheses_kept) (hypotheses-are names labels es s) in
-    let found = patterns-shrink es more vs d.templates.items ps d.patterns.items there k.patterns_kept in
-    let same : vs ≡ map (variable_at es) ps = sym (variables-grow es more vs d.templates.items ps d.patterns.items found) in
+    let found = patterns-shrink es more vs d.templates ps d.patterns there k.patterns_kept in
+    let same : vs ≡ map (variable_at es) ps = sym (variables-grow es more vs d.templates ps d.patterns found) in
     let stand : (k : ℕ) (t : Stmt) → slice_get S k ≡ Some t → (x : Entry) × (slice_get es k ≡ Some x) = λ k t g. let x = get-entry names labels es k t g in (x.0, x.1) in
     record {
       hypotheses_kept = k.hypotheses_kept;
-      patterns_kept = subst (λ v. ArePatterns es v d.templates.items ps d.patterns.items) same found;
-      conclusion_kept = k.conclusion_kept ∙ ap (λ v. templated v e.symbols.items) same;
+      patterns_kept = subst (λ v. ArePatterns es v d.templates ps d.patterns) same found;
+      conclusion_kept = k.conclusion_kept ∙ ap (λ v. templated v e.symbols) same;
       groups_kept = k.groups_kept ∙ (ap (λ v. groups_by v (map (λ q. symbols_at (es ++ more) q.0) (actives is_disj S))) same
           ∙ ap (groups_by (map (variable_at es) ps)) (sym (symbols-grow names labels es more S stand)));
       few = k.few;
       templates_kept = k.templates_kept ∙ (ap (λ v. flat_map (template_at (es ++ more) v) ps) same
-          ∙ sym (templates-grow es more vs (map (variable_at es) ps) d.templates.items ps d.patterns.items found));
+          ∙ sym (templates-grow es more vs (map (variable_at es) ps) d.templates ps d.patterns found));
     }
 
 -- what was made of the symbols of e is what e is kept as
-pub parts-kept : (es : List Entry) (S : Database) (s : Stmt) (e : Entry) (codes : List ℕ) (d : Assertion) → e.symbols.items ≡ codes → collected es S codes ≡ hypotheses S s → AreParts es S codes d → IsKeptAs es S s e d
+pub parts-kept : (es : List Entry) (S : Database) (s : Stmt) (e : Entry) (codes : List ℕ) (d : Assertion) → e.symbols ≡ codes → collected es S codes ≡ hypotheses S s → AreParts es S codes d → IsKeptAs es S s e d
 parts-kept es S s e codes d same found p = record {
   hypotheses_kept = p.hypotheses_found ∙ found;
   patterns_kept = p.patterns_made;
-  conclusion_kept = p.conclusion_made ∙ ap (templated (map (variable_at es) d.hypotheses.items)) (sym same);
+  conclusion_kept = p.conclusion_made ∙ ap (templated (map (variable_at es) d.hypotheses)) (sym same);
   groups_kept = p.groups_made;
   few = p.few_places;
   templates_kept = p.templates_made;

@@ -8,9 +8,9 @@ use Rattle.mm_read.specs.Statements.{Database}
 use Rattle.mm_lex.specs.Alphabet.{Name}
 use Rattle.scope.specs.Active.{is_active}
 use Rattle.scope.specs.Numbering.{name_at, decode}
-use Rattle.frame.specs.declared.storage.Kind.{Kind}
-use Rattle.frame.specs.declared.storage.Kind.TheVariants.{Open, Close, Const, Var, Disj, Float, Ess, Axiom, Prove}
-use Rattle.frame.specs.declared.storage.Entry.{Entry}
+use Rattle.frame.specs.declared.kind.Kind.{Kind}
+use Rattle.frame.specs.declared.kind.Kind.TheVariants.{Open, Close, Const, Var, Disj, Float, Ess, Axiom, Prove}
+use Rattle.frame.specs.Entries.{Entry}
 use Rattle.frame.specs.Stored.{inserted, floats, last_from, last_where, with_float, with_floats, with_essentials, symbols_at, stmt_by, stmt_of, is_float_kind, IsPlain}
 
 pub inserted-here : (p q : ℕ) (qs : List ℕ) → p ≡ q → inserted p (q ∷ qs) ≡ q ∷ qs
@@ -93,7 +93,7 @@ last-is test found at (e ∷ es) p one h = by (last-is test (cond (test e) at fo
 float-plain : (names labels : List Name) (e : Entry) → is_float_kind e.kind ≡ true → IsPlain (Some (stmt_of names labels e))
 float-plain names labels e = by e.kind
   where
-    by : (kind : Kind) → is_float_kind kind ≡ true → IsPlain (Some (stmt_by kind (name_at labels e.label) (decode names e.symbols.items)))
+    by : (kind : Kind) → is_float_kind kind ≡ true → IsPlain (Some (stmt_by kind (name_at labels e.label) (decode names e.symbols)))
     by Float h = (refl, refl)
     by Open h = cc
     by Close h = cc

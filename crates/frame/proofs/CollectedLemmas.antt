@@ -12,9 +12,9 @@ use Rattle.scope.specs.Active.{stays_open, active, active_from, is_active, expr_
 use Rattle.scope.specs.Numbering.{name_at, decode, AreDistinct}
 use Rattle.frame.specs.FrameOf.{is_used, is_mandatory, is_hypothesis, hypotheses}
 use Rattle.frame.specs.ByPlaces.{AreBelow}
-use Rattle.frame.specs.declared.storage.Kind.{Kind}
-use Rattle.frame.specs.declared.storage.Kind.TheVariants.{Open, Close, Const, Var, Disj, Float, Ess, Axiom, Prove}
-use Rattle.frame.specs.declared.storage.Entry.{Entry}
+use Rattle.frame.specs.declared.kind.Kind.{Kind}
+use Rattle.frame.specs.declared.kind.Kind.TheVariants.{Open, Close, Const, Var, Disj, Float, Ess, Axiom, Prove}
+use Rattle.frame.specs.Entries.{Entry}
 use Rattle.frame.specs.Links.{actives}
 use Rattle.frame.specs.Stored.{stmt_by, stmt_of, AreNumbered, HasTwo, floats, second_is, is_float_kind, last_from, last_where, inserted, with_float, with_floats, with_essentials, collected, symbols_at, option_symbols}
 use Rattle.frame.proofs.LegalLabels.{AllKept}
@@ -374,12 +374,12 @@ code-low n c (d ∷ codes) b (inl e) = let l = b.0 in omega (arith, l, e)
 code-low n c (d ∷ codes) b (inr i) = code-low n c codes b.1 i
 
 -- a `$f` of a number
-floats-is : (names : List Name) (c : ℕ) (x : Entry) (label : Name) → floats c x ≡ true → (l : Name) × (stmt_by x.kind label (decode names x.symbols.items) ≡ stmt.Float label l (name_at names c))
+floats-is : (names : List Name) (c : ℕ) (x : Entry) (label : Name) → floats c x ≡ true → (l : Name) × (stmt_by x.kind label (decode names x.symbols) ≡ stmt.Float label l (name_at names c))
 floats-is names c x label h =
-    let r = and-both (is_float_kind x.kind) (second_is c x.symbols.items) h in
+    let r = and-both (is_float_kind x.kind) (second_is c x.symbols) h in
     let k = by x.kind r.0 in
-    let w = second x.symbols.items r.1 in
-    (name_at (decode names x.symbols.items) 0, ap (λ q. stmt_by q label (decode names x.symbols.items)) k ∙ ap (stmt.Float label (name_at (decode names x.symbols.items) 0)) w)
+    let w = second x.symbols r.1 in
+    (name_at (decode names x.symbols) 0, ap (λ q. stmt_by q label (decode names x.symbols)) k ∙ ap (stmt.Float label (name_at (decode names x.symbols) 0)) w)
   where
     by : (k : Kind) → is_float_kind k ≡ true → k ≡ Float
     by Float e = refl
@@ -397,9 +397,9 @@ floats-is names c x label h =
     second (y ∷ []) e = cc
     second (y ∷ z ∷ codes) e = let same : c ≡ z = grind (arith, e) in ap (name_at names) (sym same)
 
-is-floats : (names : List Name) (c : ℕ) (x : Entry) (label l m : Name) → AreDistinct names → AreBelow (length names) x.symbols.items → HasTwo x.kind x.symbols.items → c < length names
-    → stmt_by x.kind label (decode names x.symbols.items) ≡ stmt.Float m l (name_at names c) → floats c x ≡ true
-is-floats names c x label l m distinct low two small h = by x.kind x.symbols.items low two h
+is-floats : (names : List Name) (c : ℕ) (x : Entry) (label l m : Name) → AreDistinct names → AreBelow (length names) x.symbols → HasTwo x.kind x.symbols → c < length names
+    → stmt_by x.kind label (decode names x.symbols) ≡ stmt.Float m l (name_at names c) → floats c x ≡ true
+is-floats names c x label l m distinct low two small h = by x.kind x.symbols low two h
   where
     by : (k : Kind) (codes : List ℕ) → AreBelow (length names) codes → HasTwo k codes → stmt_by k label (decode names codes) ≡ stmt.Float m l (name_at names c) → (is_float_kind k && second_is c codes) ≡ true
     by Float [] b t e = absurd (omega (arith, t))
@@ -508,8 +508,8 @@ module _ (es : List Entry) (names labels : List Name) (m : ℕ) (S : Database) (
     pub entry : Entry
     pub found : slice_get es k ≡ Some entry
     pub is : t ≡ stmt_of names labels entry
-    pub below : AreBelow (length names) entry.symbols.items
-    pub two : HasTwo entry.kind entry.symbols.items
+    pub below : AreBelow (length names) entry.symbols
+    pub two : HasTwo entry.kind entry.symbols
 
   entry-of : (A : Database) (t : Stmt) (B : Database) → S ≡ A ++ t ∷ B → EntryOf (length A) t
   entry-of A t B cut =
@@ -543,14 +543,14 @@ module _ (es : List Entry) (names labels : List Name) (m : ℕ) (S : Database) (
   used-own : (c : ℕ) → In c codes → is_used S s (name_at names c) ≡ true
   used-own c i = or-left (has_name (name_at names c) (expr_of s)) _ (ap (has_name (name_at names c)) (sym same) ∙ has-code names codes c i)
 
-  symbols-there : (r : ℕ) (A : Database) (t : Stmt) (x : EntryOf (length A) t) → r ≡ suc (length A) → symbols_at es r ≡ x.entry.symbols.items
+  symbols-there : (r : ℕ) (A : Database) (t : Stmt) (x : EntryOf (length A) t) → r ≡ suc (length A) → symbols_at es r ≡ x.entry.symbols
   symbols-there r A t x at_r = let one : r - 1 ≡ length A = omega (arith, at_r) in ap (λ k. option_symbols (slice_get es k)) one ∙ ap option_symbols x.found
 
   -- the symbols of an active `$e`
   ess-symbols : (r : ℕ) (h : IsActiveAt S is_essential r) → expr_of h.stmt ≡ decode names (symbols_at es r)
   ess-symbols r h =
       let x = entry-of h.front h.stmt h.rest h.whole in
-      ap expr_of x.is ∙ (ess-expr names x.entry.kind (name_at labels x.entry.label) x.entry.symbols.items (sym (ap is_essential x.is) ∙ h.passes)
+      ap expr_of x.is ∙ (ess-expr names x.entry.kind (name_at labels x.entry.label) x.entry.symbols (sym (ap is_essential x.is) ∙ h.passes)
       ∙ ap (decode names) (sym (symbols-there r h.front h.stmt x h.at)))
 
   ess-below : (r : ℕ) (h : IsActiveAt S is_essential r) → AreBelow (length names) (symbols_at es r)

@@ -1,6 +1,5 @@
 -- The storage with its first statements alone.
 use Rattle.std.specs.Prelude.{◌≡◌, ℕ, zero, suc, ◌+◌, ◌-◌, ◌<◌, ◌≤◌, true, List, [], ◌∷◌, ◌++◌, length, map, take, drop, slice_get, Option, Some, None, refl}
-use Rattle.std.specs.Global.{Box}
 use Rattle.std.proofs.Common.{sym, ◌∙◌, ap, subst, arith}
 use Rattle.std.proofs.lemmas.List.{length-take-le, take-map, take-append-drop, take_at}
 use Rattle.mm_lex.specs.Alphabet.{Name}
@@ -9,11 +8,11 @@ use Rattle.mm_read.specs.Statements.{Database}
 use Rattle.scope.specs.Active.{before, label_of, stays_open}
 use Rattle.scope.specs.Legal.{IsLegal}
 use Rattle.frame.specs.declared.links.Links.{Links}
-use Rattle.frame.specs.declared.storage.Assertion.{Assertion}
-use Rattle.frame.specs.declared.storage.Entry.{Entry}
+use Rattle.frame.specs.Entries.{Assertion}
+use Rattle.frame.specs.Entries.{Entry}
 use Rattle.frame.specs.declared.storage.Symbol.{Symbol}
 use Rattle.frame.specs.Links.{links_of}
-use Rattle.frame.specs.Stored.{stmt_of, labels_of, positions_from, option_list, option_position, AreAllLegal, AreNumbered, AreKept, KeepsCounts, Extends, ReadsAs, replaced_of, symbol_of, is_assertion_kind, IsKept}
+use Rattle.frame.specs.Stored.{stmt_of, labels_of, positions_from, option_list, option_position, AreAllLegal, AreNumbered, AreKept, KeepsCounts, Extends, ReadsAs, replaced_of, symbol_of, is_assertion_kind, IsKeptAs}
 use Rattle.frame.proofs.AssertionLemmas.{get-entry, kept-more, kept-less}
 use Rattle.frame.proofs.OpenLemmas.{stays_open-front}
 use Rattle.frame.proofs.StoredLemmas.{statements-more, stmt-more, numbered-at, label-at, length-positions}
@@ -88,20 +87,19 @@ legal-front n S all (suc j) s h =
     subst (λ B. IsLegal B s) (sym same) (all (suc j) s g.1)
 
 -- an assertion that is kept in the whole list is kept in its front
-kept-front : (names labels : List Name) (entries : List Entry) (i n : ℕ) (s : Stmt) (e : Entry) (o : Option (Box Assertion)) → i ≤ n
-    → IsKept entries (take i (map (stmt_of names labels) entries)) s e o → IsKept (take n entries) (take i (map (stmt_of names labels) entries)) s e o
-kept-front names labels entries i n s e None le k = absurd k
-kept-front names labels entries i n s e (Some b) le k =
+kept-front : (names labels : List Name) (entries : List Entry) (i n : ℕ) (s : Stmt) (e : Entry) (d : Assertion) → i ≤ n
+    → IsKeptAs entries (take i (map (stmt_of names labels) entries)) s e d → IsKeptAs (take n entries) (take i (map (stmt_of names labels) entries)) s e d
+kept-front names labels entries i n s e d le k =
     let few = take i entries in
     let S = map (stmt_of names labels) few in
     let is : take i (map (stmt_of names labels) entries) ≡ S = take-map (stmt_of names labels) i entries in
-    let low = kept-less names labels few (drop i entries) s e b.value
-    (subst (λ T. IsKept (few ++ drop i entries) T s e (Some b)) is (subst (λ es. IsKept es (take i (map (stmt_of names labels) entries)) s e (Some b)) (sym (take-append-drop i entries)) k)) in
+    let low = kept-less names labels few (drop i entries) s e d
+    (subst (λ T. IsKeptAs (few ++ drop i entries) T s e d) is (subst (λ es. IsKeptAs es (take i (map (stmt_of names labels) entries)) s e d) (sym (take-append-drop i entries)) k)) in
     let more = drop i (take n entries) in
     let up : take n entries ≡ few ++ more = sym (take-append-drop i (take n entries)) ∙ ap (λ r. r ++ more) (take-take i n entries le) in
     let stand : (j : ℕ) (t : Stmt) → slice_get S j ≡ Some t → (x : Entry) × (slice_get few j ≡ Some x) = λ j t g. let x = get-entry names labels few j t g in (x.0, x.1) in
-    subst (λ es. IsKept es (take i (map (stmt_of names labels) entries)) s e (Some b)) (sym up)
-    (subst (λ T. IsKept (few ++ more) T s e (Some b)) (sym is) (kept-more names labels few more S s e b.value stand low))
+    subst (λ es. IsKeptAs es (take i (map (stmt_of names labels) entries)) s e d) (sym up)
+    (subst (λ T. IsKeptAs (few ++ more) T s e d) (sym is) (kept-more names labels few more S s e d stand low))
 
 -- ---- what was done to the parts: the statement behind the first n is e
 
@@ -178,16 +176,16 @@ module _ (names labels : List Name) (positions : List ℕ) (symbols : List Symbo
         label_count = c.label_count ∙ ap (λ T. length (labels_of T)) (sym (front-of i lt));
       }
 
-  assertions' : (i : ℕ) (d : Entry) → slice_get entries' i ≡ Some d → is_assertion_kind d.kind ≡ true → IsKept entries' (take i (map (stmt_of names' labels') entries')) (stmt_of names' labels' d) d d.assertion
+  assertions' : (i : ℕ) (d : Entry) → slice_get entries' i ≡ Some d → is_assertion_kind d.kind ≡ true → IsKeptAs entries' (take i (map (stmt_of names' labels') entries')) (stmt_of names' labels' d) d d.assertion
   assertions' i d h a =
       let q = there i d h in
       let lt = q.0 in
       let here = ap (λ r. slice_get r i) (sym p.entries_cut) ∙ h in
       let same : stmt_of names labels d ≡ stmt_of names' labels' d =
       stmt-more names' names labels' labels d names-front labels-extend (numbered-at (length names') (length labels') (take n entries) numbered i d here) (label-at (length names') (length labels') (take n entries) numbered i d here) in
-      subst (λ es. IsKept es (take i (map (stmt_of names' labels') entries')) (stmt_of names' labels' d) d d.assertion) (sym p.entries_cut)
-      (subst (λ T. IsKept (take n entries) T (stmt_of names' labels' d) d d.assertion) (sym (front-of i lt))
-      (subst (λ t. IsKept (take n entries) (take i S) t d d.assertion) same
+      subst (λ es. IsKeptAs es (take i (map (stmt_of names' labels') entries')) (stmt_of names' labels' d) d d.assertion) (sym p.entries_cut)
+      (subst (λ T. IsKeptAs (take n entries) T (stmt_of names' labels' d) d d.assertion) (sym (front-of i lt))
+      (subst (λ t. IsKeptAs (take n entries) (take i S) t d d.assertion) same
       (kept-front names labels entries i n (stmt_of names labels d) d d.assertion (omega (arith, lt)) (k.assertions_kept i d q.1 a))))
 
   pub kept-cut : AreKept names' labels' positions' symbols' replaced' entries' links'

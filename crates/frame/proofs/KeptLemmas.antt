@@ -16,14 +16,14 @@ use Rattle.frame.specs.FrameOf as frame_of
 use Rattle.frame.specs.Citations.{expr_at, option_expr}
 use Rattle.frame.specs.Templates.{AreIn}
 use Rattle.frame.specs.ByPlaces.{AreBelow, AllBelow, AreCoded, IsByPlaces}
-use Rattle.frame.specs.Reading.{IsCited, groups_of}
+use Rattle.frame.specs.Reading.{IsCited}
 use Rattle.frame.specs.declared.citation.Cited.{Cited}
 use Rattle.frame.specs.declared.citation.Pattern.{Pattern}
 use Rattle.frame.specs.declared.citation.Pattern.TheVariants.{Typed, Full}
-use Rattle.frame.specs.declared.storage.Kind.{Kind}
-use Rattle.frame.specs.declared.storage.Kind.TheVariants.{Open, Close, Const, Var, Disj, Float, Ess, Axiom, Prove}
-use Rattle.frame.specs.declared.storage.Entry.{Entry}
-use Rattle.frame.specs.declared.storage.Assertion.{Assertion}
+use Rattle.frame.specs.declared.kind.Kind.{Kind}
+use Rattle.frame.specs.declared.kind.Kind.TheVariants.{Open, Close, Const, Var, Disj, Float, Ess, Axiom, Prove}
+use Rattle.frame.specs.Entries.{Entry}
+use Rattle.frame.specs.Entries.{Assertion}
 use Rattle.frame.specs.Links.{actives, actives_from, is_disj}
 use Rattle.frame.specs.Stored.{stmt_by, stmt_of, AreAllLegal, AreNumbered, HasTwo, variable_by, variable_at, is_code, place_from, place_of, template_number, templated, places_of, symbols_at, option_symbols, has_two, groups_by, IsPatternOf, ArePatterns, IsKeptAs}
 use Rattle.frame.proofs.Translate.{Stands, StandsFor}
@@ -191,9 +191,9 @@ variable-below n Float [] b = tt
 variable-below n Float (x ∷ []) b = tt
 variable-below n Float (x ∷ y ∷ codes) b = b.1.0
 
-pub numbered-at : (n m : ℕ) (es : List Entry) (k : ℕ) (e : Entry) → AreNumbered n m es → slice_get es k ≡ Some e → AreBelow n e.symbols.items × HasTwo e.kind e.symbols.items
+pub numbered-at : (n m : ℕ) (es : List Entry) (k : ℕ) (e : Entry) → AreNumbered n m es → slice_get es k ≡ Some e → AreBelow n e.symbols × HasTwo e.kind e.symbols
 numbered-at n m [] k e a h = cc
-numbered-at n m (x ∷ es) zero e a h = let same : x ≡ e = cc in subst (λ v. AreBelow n v.symbols.items × HasTwo v.kind v.symbols.items) same (a.0, a.3)
+numbered-at n m (x ∷ es) zero e a h = let same : x ≡ e = cc in subst (λ v. AreBelow n v.symbols × HasTwo v.kind v.symbols) same (a.0, a.3)
 numbered-at n m (x ∷ es) (suc k) e a h = numbered-at n m es k e a.2 h
 
 own-expr : (names : List Name) (kind : Kind) (label : Name) (codes : List ℕ) → is_assertion (stmt_by kind label (decode names codes)) ≡ true → expr_of (stmt_by kind label (decode names codes)) ≡ decode names codes
@@ -257,7 +257,7 @@ module _ (es : List Entry) (names labels : List Name) (m a : ℕ) (e : Entry) (d
   own = stmt_of names labels e
 
   abbrev places : List (Option ℕ)
-  places = map (variable_at es) d.hypotheses.items
+  places = map (variable_at es) d.hypotheses
 
   front-legal : AllKept front_of
   front-legal = kept-front all (a - 1) legal
@@ -267,7 +267,7 @@ module _ (es : List Entry) (names labels : List Name) (m a : ℕ) (e : Entry) (d
       let back : suc (a - 1) ≡ a = omega (arith, positive) in
       legal a own (ap (stmt_at all) (sym back) ∙ map-at (stmt_of names labels) es (a - 1) e here)
 
-  own-codes : AreBelow (length names) e.symbols.items
+  own-codes : AreBelow (length names) e.symbols
   own-codes = (numbered-at (length names) m es (a - 1) e numbered here).0
 
   -- the entry of a hypothesis
@@ -275,8 +275,8 @@ module _ (es : List Entry) (names labels : List Name) (m a : ℕ) (e : Entry) (d
     pub entry : Entry
     pub found : slice_get es (p - 1) ≡ Some entry
     pub same : h.stmt ≡ stmt_of names labels entry
-    pub codes : AreBelow (length names) entry.symbols.items
-    pub two : HasTwo entry.kind entry.symbols.items
+    pub codes : AreBelow (length names) entry.symbols
+    pub two : HasTwo entry.kind entry.symbols
 
   entry-at : (p : ℕ) (h : IsHyp front_of own p) → IsEntryAt p h
   entry-at p h =
@@ -298,7 +298,7 @@ module _ (es : List Entry) (names labels : List Name) (m a : ℕ) (e : Entry) (d
       let there : slice_get front_of (length h.front) ≡ Some h.stmt = ap (λ w. slice_get w (length h.front)) h.whole ∙ middle h.front h.stmt h.rest in
       let x = entry-at p h in
       ap (frame_of.variable_at front_of) h.at ∙ (ap frame_of.option_variable there ∙ (ap variable_of x.same
-      ∙ (variable-named names x.entry.kind (name_at labels x.entry.label) x.entry.symbols.items x.two
+      ∙ (variable-named names x.entry.kind (name_at labels x.entry.label) x.entry.symbols x.two
       ∙ sym (ap (λ o. option_name names (Rattle.frame.specs.Stored.option_variable o)) x.found))))
 
   variables-there : (ps : List ℕ) → AreHyps front_of own ps → map (frame_of.variable_at front_of) ps ≡ map (option_name names) (map (variable_at es) ps)
@@ -309,16 +309,16 @@ module _ (es : List Entry) (names labels : List Name) (m a : ℕ) (e : Entry) (d
   places-below [] h = tt
   places-below (p ∷ ps) h =
       let x = entry-at p h.0 in
-      (subst (λ o. OptionBelow (length names) (Rattle.frame.specs.Stored.option_variable o)) (sym x.found) (variable-below (length names) x.entry.kind x.entry.symbols.items x.codes), places-below ps h.1)
+      (subst (λ o. OptionBelow (length names) (Rattle.frame.specs.Stored.option_variable o)) (sym x.found) (variable-below (length names) x.entry.kind x.entry.symbols x.codes), places-below ps h.1)
 
-  own-hyps : AreHyps front_of own d.hypotheses.items
+  own-hyps : AreHyps front_of own d.hypotheses
   own-hyps = subst (AreHyps front_of own) (sym kept.hypotheses_kept) (hyps front_of own)
 
   named : variables_of front_of own ≡ map (option_name names) places
-  named = ap (map (frame_of.variable_at front_of)) (sym kept.hypotheses_kept) ∙ variables-there d.hypotheses.items own-hyps
+  named = ap (map (frame_of.variable_at front_of)) (sym kept.hypotheses_kept) ∙ variables-there d.hypotheses own-hyps
 
   below : OptionsBelow (length names) places
-  below = places-below d.hypotheses.items own-hyps
+  below = places-below d.hypotheses own-hyps
 
   -- a symbol that is used and has no place is no variable
   no-variable : (c : ℕ) → c < length names → is_used front_of own (name_at names c) ≡ true → place_of places c ≡ None → is_variable front_of (name_at names c) ≡ false
@@ -379,70 +379,70 @@ module _ (es : List Entry) (names labels : List Name) (m a : ℕ) (e : Entry) (d
   first-name [] c h = cc
   first-name (x ∷ codes) c h = let same : x ≡ c = cc in ap (name_at names) same
 
-  one-kept : (p : ℕ) (h : IsHyp front_of own p) (x : Entry) (q : Pattern) → slice_get es (p - 1) ≡ Some x → IsPatternOf places d.templates.items x q
-      → IsKeptOne all names a (variables_of front_of own) d.templates.items (expr_of h.stmt) q (variable_of h.stmt)
+  one-kept : (p : ℕ) (h : IsHyp front_of own p) (x : Entry) (q : Pattern) → slice_get es (p - 1) ≡ Some x → IsPatternOf places d.templates x q
+      → IsKeptOne all names a (variables_of front_of own) d.templates (expr_of h.stmt) q (variable_of h.stmt)
   one-kept p h x (Typed c) found is =
       let y = entry-at p h in
       let same : y.entry ≡ x = some-same y.found found in
-      let shape : h.stmt ≡ stmt.Float (name_at labels x.label) (name_at (decode names x.symbols.items) 0) (name_at (decode names x.symbols.items) 1)
-      = y.same ∙ (ap (stmt_of names labels) same ∙ ap (λ k. stmt_by k (name_at labels x.label) (decode names x.symbols.items)) is.0) in
-      let f = float-kinds front_of h.front (name_at labels x.label) (name_at (decode names x.symbols.items) 0) (name_at (decode names x.symbols.items) 1) h.rest front-legal (h.whole ∙ ap (λ t. h.front ++ t ∷ h.rest) shape) h.stays in
-      let first = first-name x.symbols.items c is.1 in
-      let P : Stmt → Type 0 = λ t. IsKeptOne all names a (variables_of front_of own) d.templates.items (expr_of t) (Typed c) (variable_of t) in
-      subst P (sym shape) (ap (λ n. n ∷ name_at (decode names x.symbols.items) 1 ∷ []) first, ap (is_variable front_of) (sym first) ∙ f.0, f.1)
+      let shape : h.stmt ≡ stmt.Float (name_at labels x.label) (name_at (decode names x.symbols) 0) (name_at (decode names x.symbols) 1)
+      = y.same ∙ (ap (stmt_of names labels) same ∙ ap (λ k. stmt_by k (name_at labels x.label) (decode names x.symbols)) is.0) in
+      let f = float-kinds front_of h.front (name_at labels x.label) (name_at (decode names x.symbols) 0) (name_at (decode names x.symbols) 1) h.rest front-legal (h.whole ∙ ap (λ t. h.front ++ t ∷ h.rest) shape) h.stays in
+      let first = first-name x.symbols c is.1 in
+      let P : Stmt → Type 0 = λ t. IsKeptOne all names a (variables_of front_of own) d.templates (expr_of t) (Typed c) (variable_of t) in
+      subst P (sym shape) (ap (λ n. n ∷ name_at (decode names x.symbols) 1 ∷ []) first, ap (is_variable front_of) (sym first) ∙ f.0, f.1)
   one-kept p h x (Full from to) found is =
       let y = entry-at p h in
       let same : y.entry ≡ x = some-same y.found found in
-      let shape : h.stmt ≡ stmt.Ess (name_at labels x.label) (decode names x.symbols.items)
-      = y.same ∙ (ap (stmt_of names labels) same ∙ ap (λ k. stmt_by k (name_at labels x.label) (decode names x.symbols.items)) is.0) in
-      let codes : AreBelow (length names) x.symbols.items = subst (λ v. AreBelow (length names) v.symbols.items) same y.codes in
-      let P : Stmt → Type 0 = λ t. IsKeptOne all names a (variables_of front_of own) d.templates.items (expr_of t) (Full from to) (variable_of t) in
-      subst P (sym shape) (subst (λ t. StandsFor all names a (variables_of front_of own) t (decode names x.symbols.items)) (sym is.3)
-      (all-stand x.symbols.items codes (used-ess p h (name_at labels x.label) (decode names x.symbols.items) shape)))
+      let shape : h.stmt ≡ stmt.Ess (name_at labels x.label) (decode names x.symbols)
+      = y.same ∙ (ap (stmt_of names labels) same ∙ ap (λ k. stmt_by k (name_at labels x.label) (decode names x.symbols)) is.0) in
+      let codes : AreBelow (length names) x.symbols = subst (λ v. AreBelow (length names) v.symbols) same y.codes in
+      let P : Stmt → Type 0 = λ t. IsKeptOne all names a (variables_of front_of own) d.templates (expr_of t) (Full from to) (variable_of t) in
+      subst P (sym shape) (subst (λ t. StandsFor all names a (variables_of front_of own) t (decode names x.symbols)) (sym is.3)
+      (all-stand x.symbols codes (used-ess p h (name_at labels x.label) (decode names x.symbols) shape)))
 
-  each-kept : (ps : List ℕ) (qs : List Pattern) → AreHyps front_of own ps → ArePatterns es places d.templates.items ps qs
-      → AreKept all names a (variables_of front_of own) d.templates.items (map (expr_at all) ps) qs (map (frame_of.variable_at front_of) ps)
+  each-kept : (ps : List ℕ) (qs : List Pattern) → AreHyps front_of own ps → ArePatterns es places d.templates ps qs
+      → AreKept all names a (variables_of front_of own) d.templates (map (expr_at all) ps) qs (map (frame_of.variable_at front_of) ps)
   each-kept [] [] h k = tt
   each-kept [] (q ∷ qs) h k = absurd k
   each-kept (p ∷ ps) [] h k = absurd k
   each-kept (p ∷ ps) (q ∷ qs) h k =
       let there : slice_get front_of (length h.0.front) ≡ Some h.0.stmt = ap (λ w. slice_get w (length h.0.front)) h.0.whole ∙ middle h.0.front h.0.stmt h.0.rest in
       let v : frame_of.variable_at front_of p ≡ variable_of h.0.stmt = ap (frame_of.variable_at front_of) h.0.at ∙ ap frame_of.option_variable there in (
-        subst (λ w. IsKeptOne all names a (variables_of front_of own) d.templates.items w q (frame_of.variable_at front_of p)) (sym (expr-there p h.0))
-            (subst (λ o. IsKeptOne all names a (variables_of front_of own) d.templates.items (expr_of h.0.stmt) q o) (sym v) (one-kept p h.0 k.0.0 q k.0.1 k.0.2)),
+        subst (λ w. IsKeptOne all names a (variables_of front_of own) d.templates w q (frame_of.variable_at front_of p)) (sym (expr-there p h.0))
+            (subst (λ o. IsKeptOne all names a (variables_of front_of own) d.templates (expr_of h.0.stmt) q o) (sym v) (one-kept p h.0 k.0.0 q k.0.1 k.0.2)),
         each-kept ps qs h.1 k.1,
       )
 
-  conclusion-stands : StandsFor all names a (variables_of front_of own) d.conclusion.items (expr_of own)
+  conclusion-stands : StandsFor all names a (variables_of front_of own) d.conclusion (expr_of own)
   conclusion-stands =
-      let own-is = own-expr names e.kind (name_at labels e.label) e.symbols.items asserts in
+      let own-is = own-expr names e.kind (name_at labels e.label) e.symbols asserts in
       subst (λ t. StandsFor all names a (variables_of front_of own) t (expr_of own)) (sym kept.conclusion_kept)
-      (subst (λ w. StandsFor all names a (variables_of front_of own) (templated places e.symbols.items) w) (sym own-is)
-      (all-stand e.symbols.items own-codes (λ x h. used-own x (ap (has_name x) own-is ∙ h))))
+      (subst (λ w. StandsFor all names a (variables_of front_of own) (templated places e.symbols) w) (sym own-is)
+      (all-stand e.symbols own-codes (λ x h. used-own x (ap (has_name x) own-is ∙ h))))
 
   -- ---- groups
 
-  group-stands : (codes : List ℕ) → AreBelow (length names) codes → GroupStands all names a (variables_of front_of own) d.templates.items (places_of places codes) (filter (is_mandatory front_of own) (decode names codes))
+  group-stands : (codes : List ℕ) → AreBelow (length names) codes → GroupStands all names a (variables_of front_of own) d.templates (places_of places codes) (filter (is_mandatory front_of own) (decode names codes))
   group-stands [] b = tt
   group-stands (c ∷ codes) b = by (place_of places c) refl (group-stands codes b.1)
     where
       mandatory : (t : Bool) → has_place (map (option_name names) places) (name_at names c) ≡ t → is_mandatory front_of own (name_at names c) ≡ t
       mandatory t h = mandatory-place front_of own (name_at names c) front-legal own-legal asserts ∙ (ap (λ vs. has_place vs (name_at names c)) named ∙ h)
 
-      by : (o : Option ℕ) → place_of places c ≡ o → GroupStands all names a (variables_of front_of own) d.templates.items (places_of places codes) (filter (is_mandatory front_of own) (decode names codes))
-          → GroupStands all names a (variables_of front_of own) d.templates.items (Rattle.std.specs.List.cons_option o (places_of places codes)) (cond (is_mandatory front_of own (name_at names c)) (name_at names c ∷ filter (is_mandatory front_of own) (decode names codes)) (filter (is_mandatory front_of own) (decode names codes)))
+      by : (o : Option ℕ) → place_of places c ≡ o → GroupStands all names a (variables_of front_of own) d.templates (places_of places codes) (filter (is_mandatory front_of own) (decode names codes))
+          → GroupStands all names a (variables_of front_of own) d.templates (Rattle.std.specs.List.cons_option o (places_of places codes)) (cond (is_mandatory front_of own (name_at names c)) (name_at names c ∷ filter (is_mandatory front_of own) (decode names codes)) (filter (is_mandatory front_of own) (decode names codes)))
       by (Some k) is more =
           let f = place-found 0 places c k is in
           let j = f.0 in
           let same : k ≡ j = (let x = f.1 in omega (arith, x)) in
           let t = mandatory true (has-some names places j c f.3) in
-          subst (λ b'. GroupStands all names a (variables_of front_of own) d.templates.items (k ∷ places_of places codes) (cond b' (name_at names c ∷ filter (is_mandatory front_of own) (decode names codes)) (filter (is_mandatory front_of own) (decode names codes)))) (sym t)
+          subst (λ b'. GroupStands all names a (variables_of front_of own) d.templates (k ∷ places_of places codes) (cond b' (name_at names c ∷ filter (is_mandatory front_of own) (decode names codes)) (filter (is_mandatory front_of own) (decode names codes)))) (sym t)
           (ap (λ vs. get_or vs k None) named ∙ (ap (λ n. get_or (map (option_name names) places) n None) same ∙ get-named names places j c f.3), more)
       by None is more =
           let t = mandatory false (place-none names 0 places c distinct below b.0 is) in
-          subst (λ b'. GroupStands all names a (variables_of front_of own) d.templates.items (places_of places codes) (cond b' (name_at names c ∷ filter (is_mandatory front_of own) (decode names codes)) (filter (is_mandatory front_of own) (decode names codes)))) (sym t) more
+          subst (λ b'. GroupStands all names a (variables_of front_of own) d.templates (places_of places codes) (cond b' (name_at names c ∷ filter (is_mandatory front_of own) (decode names codes)) (filter (is_mandatory front_of own) (decode names codes)))) (sym t) more
 
-  same-size : (ks : List ℕ) (xs : List Name) → GroupStands all names a (variables_of front_of own) d.templates.items ks xs → has_two ks ≡ separates xs
+  same-size : (ks : List ℕ) (xs : List Name) → GroupStands all names a (variables_of front_of own) d.templates ks xs → has_two ks ≡ separates xs
   same-size [] [] g = refl
   same-size [] (x ∷ xs) g = absurd g
   same-size (k ∷ ks) [] g = absurd g
@@ -452,7 +452,7 @@ module _ (es : List Entry) (names labels : List Name) (m a : ℕ) (e : Entry) (d
   same-size (k ∷ l ∷ ks) (x ∷ y ∷ xs) g = refl
 
   groups-from : (A T : Database) (n : ℕ) → front_of ≡ A ++ T → n ≡ suc (length A)
-      → GroupsStand all names a (variables_of front_of own) d.templates.items
+      → GroupsStand all names a (variables_of front_of own) d.templates
       (groups_by places (map (λ q. symbols_at es q.0) (actives_from is_disj n T))) (filter separates (map (filter (is_mandatory front_of own)) (map (λ p. separated p.1) (active_from n T))))
   groups-from A [] n whole at_n = tt
   groups-from A (t ∷ T) n whole at_n =
@@ -460,7 +460,7 @@ module _ (es : List Entry) (names labels : List Name) (m a : ℕ) (e : Entry) (d
       by (groups-from (A ++ t ∷ []) T (n + 1) (whole ∙ sym (append_assoc A (t ∷ []) T)) (omega (arith, at_n, l))) (stays_open 0 T)
     where
       Rest : Type 0
-      Rest = GroupsStand all names a (variables_of front_of own) d.templates.items
+      Rest = GroupsStand all names a (variables_of front_of own) d.templates
           (groups_by places (map (λ q. symbols_at es q.0) (actives_from is_disj (n + 1) T))) (filter separates (map (filter (is_mandatory front_of own)) (map (λ p. separated p.1) (active_from (n + 1) T))))
 
       found : (x : Entry) × (slice_get es (n - 1) ≡ Some x) × (t ≡ stmt_of names labels x)
@@ -471,18 +471,18 @@ module _ (es : List Entry) (names labels : List Name) (m a : ℕ) (e : Entry) (d
           let one : n - 1 ≡ length A = omega (arith, at_n) in
           (b.0, ap (slice_get es) one ∙ b.1, b.2)
 
-      with_group : (ks : List ℕ) (xs : List Name) → GroupStands all names a (variables_of front_of own) d.templates.items ks xs → (kss : List (List ℕ)) (xss : List (List Name)) → GroupsStand all names a (variables_of front_of own) d.templates.items kss xss
-          → (b c : Bool) → b ≡ c → GroupsStand all names a (variables_of front_of own) d.templates.items (cond b (ks ∷ kss) kss) (cond c (xs ∷ xss) xss)
+      with_group : (ks : List ℕ) (xs : List Name) → GroupStands all names a (variables_of front_of own) d.templates ks xs → (kss : List (List ℕ)) (xss : List (List Name)) → GroupsStand all names a (variables_of front_of own) d.templates kss xss
+          → (b c : Bool) → b ≡ c → GroupsStand all names a (variables_of front_of own) d.templates (cond b (ks ∷ kss) kss) (cond c (xs ∷ xss) xss)
       with_group ks xs g kss xss gs true true s = (g, gs)
       with_group ks xs g kss xss gs false false s = gs
       with_group ks xs g kss xss gs true false s = cc
       with_group ks xs g kss xss gs false true s = cc
 
       Fits : Stmt → Type 0
-      Fits u = GroupsStand all names a (variables_of front_of own) d.templates.items (groups_by places (map (λ q. symbols_at es q.0) (cond (is_disj u) ((n, u) ∷ actives_from is_disj (n + 1) T) (actives_from is_disj (n + 1) T)))) (cond (separates (filter (is_mandatory front_of own) (separated u))) (filter (is_mandatory front_of own) (separated u) ∷ (filter separates (map (filter (is_mandatory front_of own)) (map (λ p. separated p.1) (active_from (n + 1) T))))) (filter separates (map (filter (is_mandatory front_of own)) (map (λ p. separated p.1) (active_from (n + 1) T)))))
+      Fits u = GroupsStand all names a (variables_of front_of own) d.templates (groups_by places (map (λ q. symbols_at es q.0) (cond (is_disj u) ((n, u) ∷ actives_from is_disj (n + 1) T) (actives_from is_disj (n + 1) T)))) (cond (separates (filter (is_mandatory front_of own) (separated u))) (filter (is_mandatory front_of own) (separated u) ∷ (filter separates (map (filter (is_mandatory front_of own)) (map (λ p. separated p.1) (active_from (n + 1) T))))) (filter separates (map (filter (is_mandatory front_of own)) (map (λ p. separated p.1) (active_from (n + 1) T)))))
 
-      one_group : Rest → (k : Kind) (x : Entry) → slice_get es (n - 1) ≡ Some x → x.kind ≡ k → t ≡ stmt_by k (name_at labels x.label) (decode names x.symbols.items)
-          → GroupsStand all names a (variables_of front_of own) d.templates.items
+      one_group : Rest → (k : Kind) (x : Entry) → slice_get es (n - 1) ≡ Some x → x.kind ≡ k → t ≡ stmt_by k (name_at labels x.label) (decode names x.symbols)
+          → GroupsStand all names a (variables_of front_of own) d.templates
           (groups_by places (map (λ q. symbols_at es q.0) (cond (is_disj t) ((n, t) ∷ actives_from is_disj (n + 1) T) (actives_from is_disj (n + 1) T))))
           (cond (separates (filter (is_mandatory front_of own) (separated t))) (filter (is_mandatory front_of own) (separated t) ∷ filter separates (map (filter (is_mandatory front_of own)) (map (λ p. separated p.1) (active_from (n + 1) T)))) (filter separates (map (filter (is_mandatory front_of own)) (map (λ p. separated p.1) (active_from (n + 1) T)))))
       one_group more Open x f is shape = subst Fits (sym shape) more
@@ -494,15 +494,15 @@ module _ (es : List Entry) (names labels : List Name) (m a : ℕ) (e : Entry) (d
       one_group more Axiom x f is shape = subst Fits (sym shape) more
       one_group more Prove x f is shape = subst Fits (sym shape) more
       one_group more Disj x f is shape =
-          let codes : AreBelow (length names) x.symbols.items = (numbered-at (length names) m es (n - 1) x numbered f).0 in
-          let g = group-stands x.symbols.items codes in
+          let codes : AreBelow (length names) x.symbols = (numbered-at (length names) m es (n - 1) x numbered f).0 in
+          let g = group-stands x.symbols codes in
           subst Fits (sym shape)
-          (subst (λ cs. GroupsStand all names a (variables_of front_of own) d.templates.items (cond (has_two (places_of places cs)) (places_of places cs ∷ (groups_by places (map (λ q. symbols_at es q.0) (actives_from is_disj (n + 1) T)))) (groups_by places (map (λ q. symbols_at es q.0) (actives_from is_disj (n + 1) T)))) (cond (separates (filter (is_mandatory front_of own) (decode names x.symbols.items))) (filter (is_mandatory front_of own) (decode names x.symbols.items) ∷ (filter separates (map (filter (is_mandatory front_of own)) (map (λ p. separated p.1) (active_from (n + 1) T))))) (filter separates (map (filter (is_mandatory front_of own)) (map (λ p. separated p.1) (active_from (n + 1) T)))))) (sym (ap option_symbols f))
-          (with_group (places_of places x.symbols.items) (filter (is_mandatory front_of own) (decode names x.symbols.items)) g (groups_by places (map (λ q. symbols_at es q.0) (actives_from is_disj (n + 1) T))) (filter separates (map (filter (is_mandatory front_of own)) (map (λ p. separated p.1) (active_from (n + 1) T)))) more (has_two (places_of places x.symbols.items)) (separates (filter (is_mandatory front_of own) (decode names x.symbols.items)))
-          (same-size (places_of places x.symbols.items) (filter (is_mandatory front_of own) (decode names x.symbols.items)) g)))
+          (subst (λ cs. GroupsStand all names a (variables_of front_of own) d.templates (cond (has_two (places_of places cs)) (places_of places cs ∷ (groups_by places (map (λ q. symbols_at es q.0) (actives_from is_disj (n + 1) T)))) (groups_by places (map (λ q. symbols_at es q.0) (actives_from is_disj (n + 1) T)))) (cond (separates (filter (is_mandatory front_of own) (decode names x.symbols))) (filter (is_mandatory front_of own) (decode names x.symbols) ∷ (filter separates (map (filter (is_mandatory front_of own)) (map (λ p. separated p.1) (active_from (n + 1) T))))) (filter separates (map (filter (is_mandatory front_of own)) (map (λ p. separated p.1) (active_from (n + 1) T)))))) (sym (ap option_symbols f))
+          (with_group (places_of places x.symbols) (filter (is_mandatory front_of own) (decode names x.symbols)) g (groups_by places (map (λ q. symbols_at es q.0) (actives_from is_disj (n + 1) T))) (filter separates (map (filter (is_mandatory front_of own)) (map (λ p. separated p.1) (active_from (n + 1) T)))) more (has_two (places_of places x.symbols)) (separates (filter (is_mandatory front_of own) (decode names x.symbols)))
+          (same-size (places_of places x.symbols) (filter (is_mandatory front_of own) (decode names x.symbols)) g)))
 
       by : Rest → (b : Bool)
-          → GroupsStand all names a (variables_of front_of own) d.templates.items
+          → GroupsStand all names a (variables_of front_of own) d.templates
           (groups_by places (map (λ q. symbols_at es q.0) (filter (λ p. is_disj p.1) (cond b ((n, t) ∷ active_from (n + 1) T) (active_from (n + 1) T)))))
           (filter separates (map (filter (is_mandatory front_of own)) (map (λ p. separated p.1) (cond b ((n, t) ∷ active_from (n + 1) T) (active_from (n + 1) T)))))
       by more false = more
@@ -513,45 +513,45 @@ module _ (es : List Entry) (names labels : List Name) (m a : ℕ) (e : Entry) (d
   stands-by : before all a ≡ front_of
   stands-by = refl
 
-  all-groups : GroupsStand all names a (variables_of front_of own) d.templates.items (map (λ v. v.items) d.groups.items) (mandatory_groups front_of own)
+  all-groups : GroupsStand all names a (variables_of front_of own) d.templates d.groups (mandatory_groups front_of own)
   all-groups =
-      subst (λ gs. GroupsStand all names a (variables_of front_of own) d.templates.items gs (mandatory_groups front_of own)) (sym kept.groups_kept) (groups-from [] front_of 1 refl refl)
+      subst (λ gs. GroupsStand all names a (variables_of front_of own) d.templates gs (mandatory_groups front_of own)) (sym kept.groups_kept) (groups-from [] front_of 1 refl refl)
 
-  hyps-kept : AreKept all names a (variables_of front_of own) d.templates.items (map (expr_at all) (hypotheses front_of own)) d.patterns.items (variables_of front_of own)
+  hyps-kept : AreKept all names a (variables_of front_of own) d.templates (map (expr_at all) (hypotheses front_of own)) d.patterns (variables_of front_of own)
   hyps-kept =
-      subst (λ ps. AreKept all names a (variables_of front_of own) d.templates.items (map (expr_at all) ps) d.patterns.items (map (frame_of.variable_at front_of) ps)) kept.hypotheses_kept
-      (each-kept d.hypotheses.items d.patterns.items own-hyps kept.patterns_kept)
+      subst (λ ps. AreKept all names a (variables_of front_of own) d.templates (map (expr_at all) ps) d.patterns (map (frame_of.variable_at front_of) ps)) kept.hypotheses_kept
+      (each-kept d.hypotheses d.patterns own-hyps kept.patterns_kept)
 
-  pub kept-stored : IsStored all names a own (variables_of front_of own) d.patterns.items d.templates.items d.conclusion.items (map (λ v. v.items) d.groups.items)
+  pub kept-stored : IsStored all names a own (variables_of front_of own) d.patterns d.templates d.conclusion d.groups
   kept-stored = record { hypotheses_kept = hyps-kept; variables_once = variables-once front_of own front-legal; conclusion_kept = conclusion-stands; groups_kept = all-groups }
 
-  pub kept-by_places : IsByPlaces all names a own d.patterns.items d.templates.items d.conclusion.items (map (λ v. v.items) d.groups.items)
-  kept-by_places = stored-by_places all names a own (variables_of front_of own) d.patterns.items d.templates.items d.conclusion.items (map (λ v. v.items) d.groups.items) kept-stored
+  pub kept-by_places : IsByPlaces all names a own d.patterns d.templates d.conclusion d.groups
+  kept-by_places = stored-by_places all names a own (variables_of front_of own) d.patterns d.templates d.conclusion d.groups kept-stored
 
-  count-patterns : (ps : List ℕ) (qs : List Pattern) → ArePatterns es places d.templates.items ps qs → length qs ≡ length ps
+  count-patterns : (ps : List ℕ) (qs : List Pattern) → ArePatterns es places d.templates ps qs → length qs ≡ length ps
   count-patterns [] [] k = refl
   count-patterns [] (q ∷ qs) k = absurd k
   count-patterns (p ∷ ps) [] k = absurd k
   count-patterns (p ∷ ps) (q ∷ qs) k = ap suc (count-patterns ps qs k.1)
 
-  pub kept-count : length d.patterns.items ≡ length d.hypotheses.items
-  kept-count = count-patterns d.hypotheses.items d.patterns.items kept.patterns_kept
+  pub kept-count : length d.patterns ≡ length d.hypotheses
+  kept-count = count-patterns d.hypotheses d.patterns kept.patterns_kept
 
-  inside-from : (ps : List ℕ) (qs : List Pattern) → ArePatterns es places d.templates.items ps qs → AreIn (length d.templates.items) qs
+  inside-from : (ps : List ℕ) (qs : List Pattern) → ArePatterns es places d.templates ps qs → AreIn (length d.templates) qs
   inside-from [] [] k = tt
   inside-from [] (q ∷ qs) k = absurd k
   inside-from (p ∷ ps) [] k = absurd k
   inside-from (p ∷ ps) (Typed c ∷ qs) k = (tt, inside-from ps qs k.1)
   inside-from (p ∷ ps) (Full from to ∷ qs) k = ((k.0.2.1, k.0.2.2), inside-from ps qs k.1)
 
-  pub kept-inside : AreIn (length d.templates.items) d.patterns.items
-  kept-inside = inside-from d.hypotheses.items d.patterns.items kept.patterns_kept
+  pub kept-inside : AreIn (length d.templates) d.patterns
+  kept-inside = inside-from d.hypotheses d.patterns kept.patterns_kept
 
   first-low : (n : ℕ) (codes : List ℕ) (c : ℕ) → AreBelow n codes → slice_get codes 0 ≡ Some c → c < n
   first-low n [] c b h = cc
   first-low n (x ∷ codes) c b h = let same : x ≡ c = cc in subst (λ v. v < n) same b.0
 
-  constants-from : (ps : List ℕ) (qs : List Pattern) → ArePatterns es places d.templates.items ps qs → (k c : ℕ) → slice_get qs k ≡ Some (Typed c) → c < length names
+  constants-from : (ps : List ℕ) (qs : List Pattern) → ArePatterns es places d.templates ps qs → (k c : ℕ) → slice_get qs k ≡ Some (Typed c) → c < length names
   constants-from [] [] w k c h = cc
   constants-from [] (q ∷ qs) w k c h = absurd w
   constants-from (p ∷ ps) [] w k c h = absurd w
@@ -559,69 +559,69 @@ module _ (es : List Entry) (names labels : List Name) (m a : ℕ) (e : Entry) (d
   constants-from (p ∷ ps) (Typed c' ∷ qs) w zero c h =
       let same : c' ≡ c = cc in
       let n = numbered-at (length names) m es (p - 1) w.0.0 numbered w.0.1 in
-      first-low (length names) w.0.0.symbols.items c n.0 (w.0.2.1 ∙ ap Some same)
+      first-low (length names) w.0.0.symbols c n.0 (w.0.2.1 ∙ ap Some same)
   constants-from (p ∷ ps) (Full from to ∷ qs) w zero c h = cc
 
-  size : length places ≡ length d.patterns.items
-  size = length-map d.hypotheses.items (variable_at es) ∙ sym kept-count
+  size : length places ≡ length d.patterns
+  size = length-map d.hypotheses (variable_at es) ∙ sym kept-count
 
-  number-low : (c : ℕ) → c < length names → template_number places c < length d.patterns.items + length names
+  number-low : (c : ℕ) → c < length names → template_number places c < length d.patterns + length names
   number-low c low = by (place_of places c) refl
     where
-      by : (o : Option ℕ) → place_of places c ≡ o → unwrap_or o (length places + c) < length d.patterns.items + length names
+      by : (o : Option ℕ) → place_of places c ≡ o → unwrap_or o (length places + c) < length d.patterns + length names
       by (Some k) is = let f = place-found 0 places c k is in let x = f.1 in let y = f.2 in omega (arith, x, y, size)
       by None is = omega (arith, low, size)
 
-  templated-low : (codes : List ℕ) → AreBelow (length names) codes → AreBelow (length d.patterns.items + length names) (templated places codes)
+  templated-low : (codes : List ℕ) → AreBelow (length names) codes → AreBelow (length d.patterns + length names) (templated places codes)
   templated-low [] b = tt
   templated-low (c ∷ codes) b = (number-low c b.0, templated-low codes b.1)
 
-  places-low : (codes : List ℕ) → AreBelow (length d.patterns.items) (places_of places codes)
+  places-low : (codes : List ℕ) → AreBelow (length d.patterns) (places_of places codes)
   places-low [] = tt
   places-low (c ∷ codes) = by (place_of places c) refl (places-low codes)
     where
-      by : (o : Option ℕ) → place_of places c ≡ o → AreBelow (length d.patterns.items) (places_of places codes) → AreBelow (length d.patterns.items) (Rattle.std.specs.List.cons_option o (places_of places codes))
+      by : (o : Option ℕ) → place_of places c ≡ o → AreBelow (length d.patterns) (places_of places codes) → AreBelow (length d.patterns) (Rattle.std.specs.List.cons_option o (places_of places codes))
       by (Some k) is more = (let f = place-found 0 places c k is in let x = f.1 in let y = f.2 in omega (arith, x, y, size), more)
       by None is more = more
 
-  groups-low : (lists : List (List ℕ)) → AllBelow (length d.patterns.items) (groups_by places lists)
+  groups-low : (lists : List (List ℕ)) → AllBelow (length d.patterns) (groups_by places lists)
   groups-low [] = tt
   groups-low (codes ∷ lists) = by (has_two (places_of places codes)) (groups-low lists)
     where
-      by : (b : Bool) → AllBelow (length d.patterns.items) (groups_by places lists) → AllBelow (length d.patterns.items) (cond b (places_of places codes ∷ groups_by places lists) (groups_by places lists))
+      by : (b : Bool) → AllBelow (length d.patterns) (groups_by places lists) → AllBelow (length d.patterns) (cond b (places_of places codes ∷ groups_by places lists) (groups_by places lists))
       by true more = (places-low codes, more)
       by false more = more
 
   -- the templates of the essential hypotheses fill the whole list
-  pub kept-coded : AreBelow (length d.patterns.items + length names) d.templates.items → AreCoded (length names) d.patterns.items d.templates.items d.conclusion.items (map (λ v. v.items) d.groups.items)
+  pub kept-coded : AreBelow (length d.patterns + length names) d.templates → AreCoded (length names) d.patterns d.templates d.conclusion d.groups
   kept-coded low =
       record {
-        constants = constants-from d.hypotheses.items d.patterns.items kept.patterns_kept;
+        constants = constants-from d.hypotheses d.patterns kept.patterns_kept;
         templates_below = low;
-        conclusion_below = subst (AreBelow (length d.patterns.items + length names)) (sym kept.conclusion_kept) (templated-low e.symbols.items own-codes);
-        places_below = subst (AllBelow (length d.patterns.items)) (sym kept.groups_kept) (groups-low (map (λ q. symbols_at es q.0) (actives is_disj front_of)));
+        conclusion_below = subst (AreBelow (length d.patterns + length names)) (sym kept.conclusion_kept) (templated-low e.symbols own-codes);
+        places_below = subst (AllBelow (length d.patterns)) (sym kept.groups_kept) (groups-low (map (λ q. symbols_at es q.0) (actives is_disj front_of)));
       }
 
-  pub kept-cited : AreBelow (length d.patterns.items + length names) d.templates.items → (c : Cited) → c.patterns.now ≡ d.patterns.items → c.templates.now ≡ d.templates.items → c.conclusion.now ≡ d.conclusion.items → c.groups.now ≡ d.groups.items
+  pub kept-cited : AreBelow (length d.patterns + length names) d.templates → (c : Cited) → c.patterns.now ≡ d.patterns → c.templates.now ≡ d.templates → c.conclusion.now ≡ d.conclusion → c.groups ≡ d.groups
       → IsCited all names a own c
   kept-cited low c p t k g =
       record {
-        by_places = subst (λ qs. IsByPlaces all names a own qs c.templates.now c.conclusion.now (groups_of c)) (sym p)
-            (subst (λ ts. IsByPlaces all names a own d.patterns.items ts c.conclusion.now (groups_of c)) (sym t)
-            (subst (λ ks. IsByPlaces all names a own d.patterns.items d.templates.items ks (groups_of c)) (sym k)
-            (subst (λ gs. IsByPlaces all names a own d.patterns.items d.templates.items d.conclusion.items (map (λ v. v.items) gs)) (sym g) kept-by_places)));
-        coded = subst (λ qs. AreCoded (length names) qs c.templates.now c.conclusion.now (groups_of c)) (sym p)
-            (subst (λ ts. AreCoded (length names) d.patterns.items ts c.conclusion.now (groups_of c)) (sym t)
-            (subst (λ ks. AreCoded (length names) d.patterns.items d.templates.items ks (groups_of c)) (sym k)
-            (subst (λ gs. AreCoded (length names) d.patterns.items d.templates.items d.conclusion.items (map (λ v. v.items) gs)) (sym g) (kept-coded low))));
-        inside = subst (λ ts. AreIn (length ts) c.patterns.now) (sym t) (subst (AreIn (length d.templates.items)) (sym p) kept-inside);
+        by_places = subst (λ qs. IsByPlaces all names a own qs c.templates.now c.conclusion.now c.groups) (sym p)
+            (subst (λ ts. IsByPlaces all names a own d.patterns ts c.conclusion.now c.groups) (sym t)
+            (subst (λ ks. IsByPlaces all names a own d.patterns d.templates ks c.groups) (sym k)
+            (subst (λ gs. IsByPlaces all names a own d.patterns d.templates d.conclusion gs) (sym g) kept-by_places)));
+        coded = subst (λ qs. AreCoded (length names) qs c.templates.now c.conclusion.now c.groups) (sym p)
+            (subst (λ ts. AreCoded (length names) d.patterns ts c.conclusion.now c.groups) (sym t)
+            (subst (λ ks. AreCoded (length names) d.patterns d.templates ks c.groups) (sym k)
+            (subst (λ gs. AreCoded (length names) d.patterns d.templates d.conclusion gs) (sym g) (kept-coded low))));
+        inside = subst (λ ts. AreIn (length ts) c.patterns.now) (sym t) (subst (AreIn (length d.templates)) (sym p) kept-inside);
         few = let f = kept.few in let n = kept-count in let l = ap length p in omega (arith, f, n, l);
       }
 
 -- the same by the place i of the entry
 pub cited-at : (es : List Entry) (names labels : List Name) (m i : ℕ) (e : Entry) (d : Assertion) → AreDistinct names → AreNumbered (length names) m es → AreAllLegal (map (stmt_of names labels) es)
     → slice_get es i ≡ Some e → is_assertion (stmt_of names labels e) ≡ true → IsKeptAs es (take i (map (stmt_of names labels) es)) (stmt_of names labels e) e d
-    → AreBelow (length d.patterns.items + length names) d.templates.items → (c : Cited) → c.patterns.now ≡ d.patterns.items → c.templates.now ≡ d.templates.items → c.conclusion.now ≡ d.conclusion.items → c.groups.now ≡ d.groups.items
+    → AreBelow (length d.patterns + length names) d.templates → (c : Cited) → c.patterns.now ≡ d.patterns → c.templates.now ≡ d.templates → c.conclusion.now ≡ d.conclusion → c.groups ≡ d.groups
     → IsCited (map (stmt_of names labels) es) names (i + 1) (stmt_of names labels e) c
 cited-at es names labels m i e d distinct numbered legal here asserts kept low c p t k g =
     let one : i ≡ i + 1 - 1 = omega arith in
@@ -630,7 +630,7 @@ cited-at es names labels m i e d distinct numbered legal here asserts kept low c
 
 pub by_places-at : (es : List Entry) (names labels : List Name) (m i : ℕ) (e : Entry) (d : Assertion) → AreDistinct names → AreNumbered (length names) m es → AreAllLegal (map (stmt_of names labels) es)
     → slice_get es i ≡ Some e → is_assertion (stmt_of names labels e) ≡ true → IsKeptAs es (take i (map (stmt_of names labels) es)) (stmt_of names labels e) e d
-    → IsByPlaces (map (stmt_of names labels) es) names (i + 1) (stmt_of names labels e) d.patterns.items d.templates.items d.conclusion.items (map (λ v. v.items) d.groups.items)
+    → IsByPlaces (map (stmt_of names labels) es) names (i + 1) (stmt_of names labels e) d.patterns d.templates d.conclusion d.groups
 by_places-at es names labels m i e d distinct numbered legal here asserts kept =
     let one : i ≡ i + 1 - 1 = omega arith in
     kept-by_places es names labels m (i + 1) e d distinct numbered legal (omega arith) (ap (slice_get es) (sym one) ∙ here) asserts

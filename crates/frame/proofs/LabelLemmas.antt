@@ -4,9 +4,9 @@ use Rattle.std.proofs.Common.{subst}
 use Rattle.mm_lex.specs.Alphabet.{Name}
 use Rattle.scope.specs.Active.{label_of}
 use Rattle.scope.specs.Numbering.{name_at, decode}
-use Rattle.frame.specs.declared.storage.Entry.{Entry}
-use Rattle.frame.specs.declared.storage.Kind.{Kind}
-use Rattle.frame.specs.declared.storage.Kind.TheVariants.{Open, Close, Const, Var, Disj, Float, Ess, Axiom, Prove}
+use Rattle.frame.specs.Entries.{Entry}
+use Rattle.frame.specs.declared.kind.Kind.{Kind}
+use Rattle.frame.specs.declared.kind.Kind.TheVariants.{Open, Close, Const, Var, Disj, Float, Ess, Axiom, Prove}
 use Rattle.frame.specs.Labels.{is_label_kind}
 use Rattle.frame.specs.Stored.{stmt_by, stmt_of, AreNumbered, IsLabelBelow}
 
@@ -29,7 +29,7 @@ label-below Disj label m h b = cc
 pub label-is : (names labels : List Name) (e : Entry) → is_label_kind e.kind ≡ true → label_of (stmt_of names labels e) ≡ Some (name_at labels e.label)
 label-is names labels e = by e.kind
   where
-    by : (kind : Kind) → is_label_kind kind ≡ true → label_of (stmt_by kind (name_at labels e.label) (decode names e.symbols.items)) ≡ Some (name_at labels e.label)
+    by : (kind : Kind) → is_label_kind kind ≡ true → label_of (stmt_by kind (name_at labels e.label) (decode names e.symbols)) ≡ Some (name_at labels e.label)
     by Float h = refl
     by Ess h = refl
     by Axiom h = refl
@@ -43,7 +43,7 @@ label-is names labels e = by e.kind
 pub label-none : (names labels : List Name) (e : Entry) → is_label_kind e.kind ≡ false → label_of (stmt_of names labels e) ≡ None
 label-none names labels e = by e.kind
   where
-    by : (kind : Kind) → is_label_kind kind ≡ false → label_of (stmt_by kind (name_at labels e.label) (decode names e.symbols.items)) ≡ None
+    by : (kind : Kind) → is_label_kind kind ≡ false → label_of (stmt_by kind (name_at labels e.label) (decode names e.symbols)) ≡ None
     by Float h = cc
     by Ess h = cc
     by Axiom h = cc

@@ -1,3 +1,5 @@
+pub mod SpanLemmas
+pub mod RecordLemmas
 pub mod NameLemmas
 pub mod NumberLemmas
 pub mod OpenLemmas

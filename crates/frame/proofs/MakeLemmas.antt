@@ -5,16 +5,17 @@ use Rattle.std.specs.List.{filter_map}
 use Rattle.std.proofs.Common.{sym, ◌∙◌, ap, subst, arith, append_assoc, append-nil}
 use Rattle.std.proofs.lemmas.List.Elements.{filter_map-append, filter-append}
 use Rattle.std.proofs.lemmas.List.{drop-append-le, take-append-le, length-drop, length-append, map-append, reverse-append}
-use Rattle.std.proofs.Math.Seq.{drop-append_seam, take-length}
+use Rattle.std.proofs.Math.Seq.{drop-append_seam, take-append_seam, take-length}
 use Rattle.indexmap.proofs.ReorderLemmas.{map-reverse}
 use Rattle.mm_read.specs.declared.stmt.Stmt.{Stmt}
-use Rattle.std.specs.Prelude.{Vec}
-use Rattle.std.specs.declared.alloc.Global.{Global}
+use Rattle.frame.specs.declared.span.Span.{Span}
+use Rattle.frame.specs.Spans.{cut, AreSpansIn}
+use Rattle.frame.proofs.SpanLemmas.{range-behind, extends-refl, cut-more, cut-push, spans-push}
 use Rattle.frame.specs.declared.storage.Stock.{Stock}
 use Rattle.frame.specs.Links.{actives, last_active, is_disj, links_of}
 use Rattle.frame.specs.declared.citation.Pattern.{Pattern}
 use Rattle.frame.specs.declared.citation.Pattern.TheVariants.{Typed, Full}
-use Rattle.frame.specs.declared.storage.Entry.{Entry}
+use Rattle.frame.specs.Entries.{Entry}
 use Rattle.frame.specs.Stored.{is_code, place_from, place_of, places_of, variable_at, option_variable, variable_by, symbols_at, is_hypothesis_entry, has_two, groups_by, AreHypotheses, IsPatternOf, ArePatterns, Extends, statements_of, own_template, option_template, template_at}
 
 pub drop-any : {A : Type 0} (xs : List A) (i : ℕ) (d : A) → i < length xs → drop i xs ≡ get_or xs i d ∷ drop (i + 1) xs
@@ -79,12 +80,19 @@ filter_map-one f x = by (f x)
     by None = refl
     by (Some y) = refl
 
-pub places-more : (vs : List (Option ℕ)) (codes found new : List ℕ) (i : ℕ) → i < length codes → found ≡ places_of vs (take i codes) → new ≡ found ++ option_to_list (place_of vs (get_or codes i 0))
+places-more : (vs : List (Option ℕ)) (codes found new : List ℕ) (i : ℕ) → i < length codes → found ≡ places_of vs (take i codes) → new ≡ found ++ option_to_list (place_of vs (get_or codes i 0))
     → new ≡ places_of vs (take (i + 1) codes)
 places-more vs codes found new i h e n =
     n ∙ (ap (λ r. r ++ option_to_list (place_of vs (get_or codes i 0))) e
     ∙ (ap (λ r. places_of vs (take i codes) ++ r) (sym (filter_map-one (place_of vs) (get_or codes i 0)))
     ∙ (sym (filter_map-append (place_of vs) (take i codes) (get_or codes i 0 ∷ [])) ∙ ap (places_of vs) (sym (take-more codes i h)))))
+
+pub places-behind : (vs : List (Option ℕ)) (codes base found new : List ℕ) (i : ℕ) → i < length codes → found ≡ base ++ places_of vs (take i codes) → new ≡ found ++ option_to_list (place_of vs (get_or codes i 0))
+    → new ≡ base ++ places_of vs (take (i + 1) codes)
+places-behind vs codes base found new i h e n =
+    let more = option_to_list (place_of vs (get_or codes i 0)) in
+    n ∙ (ap (λ r. r ++ more) e ∙ (append_assoc base (places_of vs (take i codes)) more
+    ∙ ap (λ r. base ++ r) (places-more vs codes (places_of vs (take i codes)) (places_of vs (take i codes) ++ more) i h refl refl)))
 
 -- ---- the hypotheses, one by one
 
@@ -104,9 +112,9 @@ map-snoc f [] x = refl
 map-snoc f (y ∷ xs) x = ap (λ r. f y ∷ r) (map-snoc f xs x)
 
 pub variables-more : (es : List Entry) (ps : List ℕ) (found new : List (Option ℕ)) (i : ℕ) (e : Entry) → i < length ps → slice_get es (get_or ps i 0 - 1) ≡ Some e → found ≡ map (variable_at es) (take i ps)
-    → new ≡ found ++ variable_by e.kind e.symbols.items ∷ [] → new ≡ map (variable_at es) (take (i + 1) ps)
+    → new ≡ found ++ variable_by e.kind e.symbols ∷ [] → new ≡ map (variable_at es) (take (i + 1) ps)
 variables-more es ps found new i e h g f n =
-    n ∙ (ap (λ r. r ++ variable_by e.kind e.symbols.items ∷ []) f ∙ (ap (λ o. map (variable_at es) (take i ps) ++ option_variable o ∷ []) (sym g)
+    n ∙ (ap (λ r. r ++ variable_by e.kind e.symbols ∷ []) f ∙ (ap (λ o. map (variable_at es) (take i ps) ++ option_variable o ∷ []) (sym g)
     ∙ (sym (map-snoc (variable_at es) (take i ps) (get_or ps i 0)) ∙ ap (map (variable_at es)) (sym (take-more ps i h)))))
 
 -- ---- the patterns: what was written stays while the templates grow
@@ -179,24 +187,24 @@ groups-step es vs all rest before p s found group e g k b h =
     last true w = ap (λ x. cond (has_two x) (x ∷ []) [] ++ reverse found) (sym g) ∙ (ap (λ u. cond u (group ∷ []) [] ++ reverse found) w ∙ sym (reverse-append found (group ∷ [])))
     last false w = ap (λ x. cond (has_two x) (x ∷ []) [] ++ reverse found) (sym g) ∙ ap (λ u. cond u (group ∷ []) [] ++ reverse found) w
 
-pub groups-start : (k : Stock) (vs : List (Option ℕ)) (found : List (Vec ℕ Global)) → found ≡ [] → k.links ≡ links_of (statements_of k)
+pub groups-start : (k : Stock) (vs : List (Option ℕ)) (found : List (List ℕ)) → found ≡ [] → k.links ≡ links_of (statements_of k)
     → (m : ℕ) × (m ≤ length (statements_of k)) × (k.links.disjoint ≡ last_active is_disj (take m (statements_of k)))
-    × AreGroups k.entries.items vs (actives is_disj (statements_of k)) (actives is_disj (take m (statements_of k))) (map (λ v. v.items) found)
+    × AreGroups k.entries vs (actives is_disj (statements_of k)) (actives is_disj (take m (statements_of k))) found
 groups-start k vs found e h =
     let S = statements_of k in
     let whole : take (length S) S ≡ S = take-length S in (
       length S,
       omega arith,
       ap (λ l. l.disjoint) h ∙ ap (last_active is_disj) (sym whole),
-      sym (ap (λ r. groups_by vs (map (λ q. symbols_at k.entries.items q.0) (actives is_disj r)) ++ reverse (map (λ v. v.items) found)) whole
-          ∙ (ap (λ f. groups_by vs (map (λ q. symbols_at k.entries.items q.0) (actives is_disj S)) ++ reverse (map (λ v. v.items) f)) e
-          ∙ append-nil (groups_by vs (map (λ q. symbols_at k.entries.items q.0) (actives is_disj S))))),
+      sym (ap (λ r. groups_by vs (map (λ q. symbols_at k.entries q.0) (actives is_disj r)) ++ reverse found) whole
+          ∙ (ap (λ f. groups_by vs (map (λ q. symbols_at k.entries q.0) (actives is_disj S)) ++ reverse f) e
+          ∙ append-nil (groups_by vs (map (λ q. symbols_at k.entries q.0) (actives is_disj S))))),
     )
 
-pub groups-end : (es : List Entry) (vs : List (Option ℕ)) (all rest : List (ℕ × Stmt)) (found new : List (Vec ℕ Global)) → AreGroups es vs all rest (map (λ v. v.items) found) → rest ≡ [] → new ≡ reverse found
-    → map (λ v. v.items) new ≡ groups_by vs (map (λ q. symbols_at es q.0) all)
-groups-end es vs all rest found new k z n =
-    ap (map (λ v. v.items)) n ∙ (map-reverse (λ v. v.items) found ∙ sym (k ∙ ap (λ r. groups_by vs (map (λ q. symbols_at es q.0) r) ++ reverse (map (λ v. v.items) found)) z))
+pub groups-end : (es : List Entry) (vs : List (Option ℕ)) (all rest : List (ℕ × Stmt)) (places : List ℕ) (found new : List Span) → AreGroups es vs all rest (cut places found) → rest ≡ [] → new ≡ reverse found
+    → cut places new ≡ groups_by vs (map (λ q. symbols_at es q.0) all)
+groups-end es vs all rest places found new k z n =
+    ap (cut places) n ∙ (map-reverse (λ (s : Span). slice_range places s.from s.to) found ∙ sym (k ∙ ap (λ r. groups_by vs (map (λ q. symbols_at es q.0) r) ++ reverse (cut places found)) z))
 
 pub templates-step : (es : List Entry) (vs : List (Option ℕ)) (ps t t' : List ℕ) (i : ℕ) (e : Entry) → i < length ps → slice_get es (get_or ps i 0 - 1) ≡ Some e → t ≡ flat_map (template_at es vs) (take i ps) → t' ≡ t ++ own_template vs e
     → t' ≡ flat_map (template_at es vs) (take (i + 1) ps)
@@ -208,3 +216,39 @@ templates-step es vs ps t t' i e h g k n =
     flat-push : (f : ℕ → List ℕ) (xs : List ℕ) (x : ℕ) → flat_map f (xs ++ x ∷ []) ≡ flat_map f xs ++ f x
     flat-push f [] x = append-nil (f x)
     flat-push f (y ∷ xs) x = ap (λ r. f y ++ r) (flat-push f xs x) ∙ sym (append_assoc (f y) (flat_map f xs) (f x))
+
+-- ---- a group more
+
+pub group-added : (places new : List ℕ) (a b : List Span) (s : Span) (group : List ℕ) → new ≡ places ++ group → s.from ≡ length places → s.to ≡ length new → s.from + 1 < s.to → AreSpansIn (length places) a
+    → b ≡ a ++ s ∷ [] → cut new b ≡ cond (has_two group) (cut places a ++ group ∷ []) (cut places a)
+group-added places new a b s group e from to two h k =
+    let l = length-append places group in
+    let m = ap length e in
+    let both : has_two group ≡ true = has_two-len group (omega arith) in
+    let here : slice_range new s.from s.to ≡ group = range-behind places group new new s.from s.to from e to (extends-refl new) in
+    let before : cut new a ≡ cut places a = ap (λ w. cut w a) e ∙ cut-more places group a h in
+    ap (cut new) k ∙ (cut-push new a s ∙ (ap (λ r. r ++ slice_range new s.from s.to ∷ []) before ∙ (ap (λ g. cut places a ++ g ∷ []) here
+    ∙ sym (ap (λ t. cond t (cut places a ++ group ∷ []) (cut places a)) both))))
+
+pub group-within : (places new : List ℕ) (a b : List Span) (s : Span) (group : List ℕ) → new ≡ places ++ group → s.from ≡ length places → s.to ≡ length new → AreSpansIn (length places) a
+    → b ≡ a ++ s ∷ [] → AreSpansIn (length new) b
+group-within places new a b s group e from to h k =
+    let l = length-append places group in
+    let m = ap length e in
+    subst (AreSpansIn (length new)) (sym k) (spans-push (length places) (length new) a s (omega arith) h (omega arith) (omega arith))
+
+-- fewer than two places are taken back
+pub group-dropped : (places new back : List ℕ) (a : List Span) (group : List ℕ) → new ≡ places ++ group → back ≡ take (length places) new → length new ≤ length places + 1
+    → cut back a ≡ cond (has_two group) (cut places a ++ group ∷ []) (cut places a)
+group-dropped places new back a group e k few =
+    let l = length-append places group in
+    let m = ap length e in
+    let one : has_two group ≡ false = few-len group (omega arith) in
+    let same : back ≡ places = k ∙ (ap (take (length places)) e ∙ take-append_seam places group) in
+    ap (λ w. cut w a) same ∙ sym (ap (λ t. cond t (cut places a ++ group ∷ []) (cut places a)) one)
+
+pub patterns-count : (es : List Entry) (vs : List (Option ℕ)) (t ps : List ℕ) (qs : List Pattern) → ArePatterns es vs t ps qs → length qs ≡ length ps
+patterns-count es vs t [] [] h = refl
+patterns-count es vs t [] (q ∷ qs) h = absurd h
+patterns-count es vs t (p ∷ ps) [] h = absurd h
+patterns-count es vs t (p ∷ ps) (q ∷ qs) h = ap suc (patterns-count es vs t ps qs h.1)

@@ -20,9 +20,9 @@ use Rattle.frame.proofs.WalkLemmas.{some-same}
 use Rattle.frame.proofs.CollectLemmas.{last-is}
 use Rattle.frame.proofs.StoredLemmas.{get-index, get-stmt, numbered-at}
 use Rattle.frame.proofs.AssertionLemmas.{get-entry}
-use Rattle.frame.specs.declared.storage.Kind.{Kind}
-use Rattle.frame.specs.declared.storage.Kind.TheVariants.{Open, Close, Const, Var, Disj, Float, Ess, Axiom, Prove}
-use Rattle.frame.specs.declared.storage.Entry.{Entry}
+use Rattle.frame.specs.declared.kind.Kind.{Kind}
+use Rattle.frame.specs.declared.kind.Kind.TheVariants.{Open, Close, Const, Var, Disj, Float, Ess, Axiom, Prove}
+use Rattle.frame.specs.Entries.{Entry}
 use Rattle.frame.specs.Stored.{stmt_by, stmt_of, AreNumbered, declares, is_var_kind, last_from, last_where, IsPlain}
 
 -- ---- numbers are the same where their names are
@@ -112,10 +112,10 @@ module _ (kind : Stmt → Bool) (g : ℕ × Stmt → Bool) (S : Database) (at p 
 
 -- ---- the entries walked over
 
-pub entry-disj : (names labels : List Name) (e : Entry) → is_disj (stmt_of names labels e) ≡ true → separated (stmt_of names labels e) ≡ decode names e.symbols.items
+pub entry-disj : (names labels : List Name) (e : Entry) → is_disj (stmt_of names labels e) ≡ true → separated (stmt_of names labels e) ≡ decode names e.symbols
 entry-disj names labels e = by e.kind
   where
-    by : (kind : Kind) → is_disj (stmt_by kind (name_at labels e.label) (decode names e.symbols.items)) ≡ true → separated (stmt_by kind (name_at labels e.label) (decode names e.symbols.items)) ≡ decode names e.symbols.items
+    by : (kind : Kind) → is_disj (stmt_by kind (name_at labels e.label) (decode names e.symbols)) ≡ true → separated (stmt_by kind (name_at labels e.label) (decode names e.symbols)) ≡ decode names e.symbols
     by Disj h = refl
     by Open h = cc
     by Close h = cc
@@ -126,10 +126,10 @@ entry-disj names labels e = by e.kind
     by Axiom h = cc
     by Prove h = cc
 
-pub entry-var : (names labels : List Name) (e : Entry) → is_var (stmt_of names labels e) ≡ true → variables (stmt_of names labels e) ≡ decode names e.symbols.items
+pub entry-var : (names labels : List Name) (e : Entry) → is_var (stmt_of names labels e) ≡ true → variables (stmt_of names labels e) ≡ decode names e.symbols
 entry-var names labels e = by e.kind
   where
-    by : (kind : Kind) → is_var (stmt_by kind (name_at labels e.label) (decode names e.symbols.items)) ≡ true → variables (stmt_by kind (name_at labels e.label) (decode names e.symbols.items)) ≡ decode names e.symbols.items
+    by : (kind : Kind) → is_var (stmt_by kind (name_at labels e.label) (decode names e.symbols)) ≡ true → variables (stmt_by kind (name_at labels e.label) (decode names e.symbols)) ≡ decode names e.symbols
     by Var h = refl
     by Disj h = cc
     by Open h = cc
@@ -156,12 +156,9 @@ pub record IsRead (kind : Stmt → Bool) (names labels : List Name) (es : List E
   pub back : IsBack kind (map (stmt_of names labels) es) m p s
 
 pub read-here : (kind : Stmt → Bool) (g : ℕ × Stmt → Bool) (names labels : List Name) (es : List Entry) (at p m : ℕ) (e : Entry) → IsNoClose kind → IsSought kind g (map (stmt_of names labels) es) at p m → (p ≡ 0 → ⊥)
-    → e ≡ get_or es (p - 1) e → (s : Stmt) × IsRead kind names labels es p m e s
-read-here kind g names labels es at p m e n w some is =
+    → slice_get es (p - 1) ≡ Some e → (s : Stmt) × IsRead kind names labels es p m e s
+read-here kind g names labels es at p m e n w some got =
     let b = sought-here kind g (map (stmt_of names labels) es) at p m n w some in
-    let le = b.1.within in let one = b.1.above in let high = w.high in
-    let len = length-map es (stmt_of names labels) in
-    let got = get-index es (p - 1) e (omega (arith, le, one, high, len)) is in
     (b.0, record { entry = got; is = some-same (sym (get-stmt names labels es (p - 1) e got) ∙ b.1.stands); back = b.1 })
 
 -- ---- the last `$v` of a symbol
@@ -169,7 +166,7 @@ read-here kind g names labels es at p m e n w some is =
 is-var-kind : (names labels : List Name) (e : Entry) → is_var (stmt_of names labels e) ≡ is_var_kind e.kind
 is-var-kind names labels e = by e.kind
   where
-    by : (kind : Kind) → is_var (stmt_by kind (name_at labels e.label) (decode names e.symbols.items)) ≡ is_var_kind kind
+    by : (kind : Kind) → is_var (stmt_by kind (name_at labels e.label) (decode names e.symbols)) ≡ is_var_kind kind
     by Var = refl
     by Disj = refl
     by Open = refl
@@ -181,16 +178,16 @@ is-var-kind names labels e = by e.kind
     by Prove = refl
 
 -- what an entry declares is what its statement declares
-pub declares-has : (names labels : List Name) (x : ℕ) (e : Entry) → AreDistinct names → x < length names → AreBelow (length names) e.symbols.items
+pub declares-has : (names labels : List Name) (x : ℕ) (e : Entry) → AreDistinct names → x < length names → AreBelow (length names) e.symbols
     → declares x e ≡ has_name (name_at names x) (variables (stmt_of names labels e))
 declares-has names labels x e d l b = by (is_var_kind e.kind) refl
   where
     by : (t : Bool) → is_var_kind e.kind ≡ t → declares x e ≡ has_name (name_at names x) (variables (stmt_of names labels e))
     by true h =
-        ap (λ t. t && list_any (λ y. x == y) e.symbols.items) h
-        ∙ (has-decode names x e.symbols.items d l b ∙ ap (has_name (name_at names x)) (sym (entry-var names labels e (is-var-kind names labels e ∙ h))))
+        ap (λ t. t && list_any (λ y. x == y) e.symbols) h
+        ∙ (has-decode names x e.symbols d l b ∙ ap (has_name (name_at names x)) (sym (entry-var names labels e (is-var-kind names labels e ∙ h))))
     by false h =
-        ap (λ t. t && list_any (λ y. x == y) e.symbols.items) h ∙ sym (ap (has_name (name_at names x)) (other-var (stmt_of names labels e) (is-var-kind names labels e ∙ h)))
+        ap (λ t. t && list_any (λ y. x == y) e.symbols) h ∙ sym (ap (has_name (name_at names x)) (other-var (stmt_of names labels e) (is-var-kind names labels e ∙ h)))
 
 none-last : (test : Entry → Bool) (found at : ℕ) (es : List Entry) → 1 ≤ at → last_from test found at es ≡ 0 → (found ≡ 0) × ((k : ℕ) (e : Entry) → slice_get es k ≡ Some e → test e ≡ false)
 none-last test found at [] one h = (h, λ k e g. cc)
@@ -246,8 +243,8 @@ unnamed-none names labels m n x es none a =
     in_none [] b = refl
     in_none (c ∷ codes) b = both (name_eq x (name_at names c)) (has_name x (decode names codes)) (not-has names c x none b.0) (in_none codes b.1)
 
-    by : (e : Entry) → AreBelow (length names) e.symbols.items → (t : Bool) → is_var (stmt_of names labels e) ≡ t → has_name x (variables (stmt_of names labels e)) ≡ false
-    by e b true h = ap (has_name x) (entry-var names labels e h) ∙ in_none e.symbols.items b
+    by : (e : Entry) → AreBelow (length names) e.symbols → (t : Bool) → is_var (stmt_of names labels e) ≡ t → has_name x (variables (stmt_of names labels e)) ≡ false
+    by e b true h = ap (has_name x) (entry-var names labels e h) ∙ in_none e.symbols b
     by e b false h = ap (has_name x) (other-var (stmt_of names labels e) h)
 
     one : (k : ℕ) (s : Stmt) → slice_get (map (stmt_of names labels) es) k ≡ Some s → has_name x (variables s) ≡ false

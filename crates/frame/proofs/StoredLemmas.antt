@@ -17,39 +17,38 @@ use Rattle.frame.specs.ByPlaces.{AreBelow}
 use Rattle.frame.specs.Citations.{is_hypothesis_kind}
 use Rattle.std.proofs.lemmas.Slice.Eq.{bytes_eq-Decides}
 use Rattle.frame.specs.declared.links.Links.{Links}
-use Rattle.frame.specs.declared.storage.Kind.{Kind}
-use Rattle.frame.specs.declared.storage.Kind.TheVariants.{Open, Close, Const, Var, Disj, Float, Ess, Axiom, Prove}
-use Rattle.frame.specs.declared.storage.Entry.{Entry}
+use Rattle.frame.specs.declared.kind.Kind.{Kind}
+use Rattle.frame.specs.declared.kind.Kind.TheVariants.{Open, Close, Const, Var, Disj, Float, Ess, Axiom, Prove}
+use Rattle.frame.specs.Entries.{Entry}
 use Rattle.frame.specs.declared.storage.Symbol.{Symbol}
 use Rattle.frame.specs.declared.storage.Stock.{Stock}
 use Rattle.frame.specs.Links.{links_of}
-use Rattle.frame.specs.Stored.{stmt_by, stmt_of, labels_of, positions_from, option_list, option_position, AreAllLegal, IsLabelBelow, HasTwo, AreNumbered, AreKept, Extends, AreZero, AreZeroBehind, zero_symbol, symbol_of, ReadsAs, with_entry, floats, declares, second_is, is_float_kind, is_var_kind, last_from, IsFresh, is_assertion_kind, IsKept, KeepsCounts, replaced_by, replaced_of, AreStored, IsBehind, statements_of, numbered}
+use Rattle.frame.specs.Stored.{stmt_by, stmt_of, labels_of, positions_from, option_list, option_position, AreAllLegal, IsLabelBelow, HasTwo, AreNumbered, AreKept, Extends, AreZero, AreZeroBehind, zero_symbol, symbol_of, ReadsAs, with_entry, floats, declares, second_is, is_float_kind, is_var_kind, last_from, IsFresh, is_assertion_kind, IsKeptAs, KeepsCounts, replaced_by, replaced_of, AreStored, IsBehind, statements_of, numbered}
 use Rattle.frame.proofs.NumberLemmas.{decode-extends, name_at-extends, below-more, extends-length, take-extends}
 use Rattle.frame.proofs.DeclareLemmas.{symbol_of-push}
 use Rattle.frame.proofs.UndoLemmas.{replaced_of-push}
 use Rattle.frame.proofs.OpenLemmas.{stays_open-push, stays_open-close}
 use Rattle.frame.proofs.LegalLabels.{fresh}
 use Rattle.frame.proofs.AssertionLemmas.{get-entry, kept-more}
-use Rattle.frame.specs.declared.storage.Assertion.{Assertion}
-use Rattle.std.specs.Global.{Box}
+use Rattle.frame.specs.Entries.{Assertion}
 
 -- ---- what was entered stands for what it stood for
 
-pub stmt-more : (names names' labels labels' : List Name) (e : Entry) → Extends names names' → Extends labels labels' → AreBelow (length names) e.symbols.items → IsLabelBelow e.kind e.label (length labels)
+pub stmt-more : (names names' labels labels' : List Name) (e : Entry) → Extends names names' → Extends labels labels' → AreBelow (length names) e.symbols → IsLabelBelow e.kind e.label (length labels)
     → stmt_of names' labels' e ≡ stmt_of names labels e
 stmt-more names names' labels labels' e p q below label =
-    ap (stmt_by e.kind (name_at labels' e.label)) (decode-extends names names' e.symbols.items p below) ∙ by e.kind label
+    ap (stmt_by e.kind (name_at labels' e.label)) (decode-extends names names' e.symbols p below) ∙ by e.kind label
   where
-    by : (kind : Kind) → IsLabelBelow kind e.label (length labels) → stmt_by kind (name_at labels' e.label) (decode names e.symbols.items) ≡ stmt_by kind (name_at labels e.label) (decode names e.symbols.items)
+    by : (kind : Kind) → IsLabelBelow kind e.label (length labels) → stmt_by kind (name_at labels' e.label) (decode names e.symbols) ≡ stmt_by kind (name_at labels e.label) (decode names e.symbols)
     by Open h = refl
     by Close h = refl
     by Const h = refl
     by Var h = refl
     by Disj h = refl
-    by Float h = ap (λ x. stmt_by Float x (decode names e.symbols.items)) (name_at-extends labels labels' e.label q h)
-    by Ess h = ap (λ x. stmt_by Ess x (decode names e.symbols.items)) (name_at-extends labels labels' e.label q h)
-    by Axiom h = ap (λ x. stmt_by Axiom x (decode names e.symbols.items)) (name_at-extends labels labels' e.label q h)
-    by Prove h = ap (λ x. stmt_by Prove x (decode names e.symbols.items)) (name_at-extends labels labels' e.label q h)
+    by Float h = ap (λ x. stmt_by Float x (decode names e.symbols)) (name_at-extends labels labels' e.label q h)
+    by Ess h = ap (λ x. stmt_by Ess x (decode names e.symbols)) (name_at-extends labels labels' e.label q h)
+    by Axiom h = ap (λ x. stmt_by Axiom x (decode names e.symbols)) (name_at-extends labels labels' e.label q h)
+    by Prove h = ap (λ x. stmt_by Prove x (decode names e.symbols)) (name_at-extends labels labels' e.label q h)
 
 pub statements-more : (names names' labels labels' : List Name) (es : List Entry) → Extends names names' → Extends labels labels' → AreNumbered (length names) (length labels) es
     → map (stmt_of names' labels') es ≡ map (stmt_of names labels) es
@@ -73,10 +72,10 @@ label-more Ess l m n le h = omega (arith, le, h)
 label-more Axiom l m n le h = omega (arith, le, h)
 label-more Prove l m n le h = omega (arith, le, h)
 
-numbered-push : (n n' m m' : ℕ) (es : List Entry) (e : Entry) → n ≤ n' → m ≤ m' → AreNumbered n m es → AreBelow n' e.symbols.items → IsLabelBelow e.kind e.label m' → HasTwo e.kind e.symbols.items → AreNumbered n' m' (es ++ e ∷ [])
+numbered-push : (n n' m m' : ℕ) (es : List Entry) (e : Entry) → n ≤ n' → m ≤ m' → AreNumbered n m es → AreBelow n' e.symbols → IsLabelBelow e.kind e.label m' → HasTwo e.kind e.symbols → AreNumbered n' m' (es ++ e ∷ [])
 numbered-push n n' m m' [] e le le' h b l t = (b, l, tt, t)
 numbered-push n n' m m' (d ∷ es) e le le' h b l t =
-    (below-more n n' d.symbols.items le h.0, label-more d.kind d.label m m' le' h.1, numbered-push n n' m m' es e le le' h.2 b l t, h.3)
+    (below-more n n' d.symbols le h.0, label-more d.kind d.label m m' le' h.1, numbered-push n n' m m' es e le le' h.2 b l t, h.3)
 
 -- ---- labels and positions
 
@@ -184,16 +183,16 @@ none-from test found at [] h = refl
 none-from test found at (e ∷ es) h =
     ap (λ b. last_from test (cond b at found) (at + 1) es) (h e 0 refl) ∙ none-from test found (at + 1) es (λ d k g. h d (suc k) g)
 
-pub numbered-at : (n m : ℕ) (es : List Entry) → AreNumbered n m es → (k : ℕ) (e : Entry) → slice_get es k ≡ Some e → AreBelow n e.symbols.items
+pub numbered-at : (n m : ℕ) (es : List Entry) → AreNumbered n m es → (k : ℕ) (e : Entry) → slice_get es k ≡ Some e → AreBelow n e.symbols
 numbered-at n m [] h k e g = cc
-numbered-at n m (d ∷ es) h zero e g = let same : d ≡ e = cc in subst (λ x. AreBelow n x.symbols.items) same h.0
+numbered-at n m (d ∷ es) h zero e g = let same : d ≡ e = cc in subst (λ x. AreBelow n x.symbols) same h.0
 numbered-at n m (d ∷ es) h (suc k) e g = numbered-at n m es h.2 k e g
 
 pub symbol_of-above : (n m : ℕ) (es : List Entry) (c : ℕ) → AreNumbered n m es → n ≤ c → symbol_of es c ≡ zero_symbol
 symbol_of-above n m es c h le =
     symbol-by
-    (none-from (floats c) 0 1 es (λ e k g. ap (λ b. is_float_kind e.kind && b) (above-second n c e.symbols.items (numbered-at n m es h k e g) le) ∙ and-no (is_float_kind e.kind)))
-    (none-from (declares c) 0 1 es (λ e k g. ap (λ b. is_var_kind e.kind && b) (above-any n c e.symbols.items (numbered-at n m es h k e g) le) ∙ and-no (is_var_kind e.kind)))
+    (none-from (floats c) 0 1 es (λ e k g. ap (λ b. is_float_kind e.kind && b) (above-second n c e.symbols (numbered-at n m es h k e g) le) ∙ and-no (is_float_kind e.kind)))
+    (none-from (declares c) 0 1 es (λ e k g. ap (λ b. is_var_kind e.kind && b) (above-any n c e.symbols (numbered-at n m es h k e g) le) ∙ and-no (is_var_kind e.kind)))
   where
     symbol-by : {a b : ℕ} → a ≡ 0 → b ≡ 0 → ◌≡◌ {A = Symbol} (record { float = a; variable = b }) zero_symbol
     symbol-by p q = cc
@@ -222,11 +221,6 @@ label-at n m [] h k e g = cc
 label-at n m (d ∷ es) h zero e g = let same : d ≡ e = cc in subst (λ x. IsLabelBelow x.kind x.label m) same h.1
 label-at n m (d ∷ es) h (suc k) e g = label-at n m es h.2 k e g
 
-is-kept-more : (names labels : List Name) (es more : List Entry) (S : Database) (s : Stmt) (e : Entry) (o : Option (Box Assertion)) → ((k : ℕ) (t : Stmt) → slice_get S k ≡ Some t → (x : Entry) × (slice_get es k ≡ Some x))
-    → IsKept es S s e o → IsKept (es ++ more) S s e o
-is-kept-more names labels es more S s e None h k = absurd k
-is-kept-more names labels es more S s e (Some b) h k = kept-more names labels es more S s e b.value h k
-
 -- the symbols and more that nothing declares read as before
 pub still-reads : (names labels : List Name) (positions : List ℕ) (symbols : List Symbol) (replaced : List ℕ) (entries : List Entry) (links : Links) (between : List Symbol)
     → AreKept names labels positions symbols replaced entries links → AreZeroBehind symbols between → ReadsAs between (symbol_of entries)
@@ -253,18 +247,18 @@ pub record IsPushed (names labels : List Name) (positions : List ℕ) (symbols :
   pub count : length between ≡ length names'
   pub few : length names' < 2 ^ 31
   pub stands : stmt_of names' labels' e ≡ s
-  pub below : AreBelow (length names') e.symbols.items
+  pub below : AreBelow (length names') e.symbols
   pub label : IsLabelBelow e.kind e.label (length labels')
   pub names_before : e.names ≡ length names
   pub labels_before : e.label ≡ length labels
-  pub replaced_more : replaced' ≡ replaced ++ replaced_by (symbol_of entries) e.kind e.symbols.items
-  pub two : HasTwo e.kind e.symbols.items
+  pub replaced_more : replaced' ≡ replaced ++ replaced_by (symbol_of entries) e.kind e.symbols
+  pub two : HasTwo e.kind e.symbols
   pub labels_more : labels' ≡ labels ++ option_list (label_of s) []
   pub positions_more : positions' ≡ positions ++ option_position (label_of s) (length entries + 1) []
   pub entry_links : e.links ≡ links
   pub entries_more : entries' ≡ entries ++ e ∷ []
   pub legal : IsLegal (map (stmt_of names labels) entries) s
-  pub kept : is_assertion_kind e.kind ≡ true → IsKept entries (map (stmt_of names labels) entries) s e e.assertion
+  pub kept : is_assertion_kind e.kind ≡ true → IsKeptAs entries (map (stmt_of names labels) entries) s e e.assertion
   pub links_next : links' ≡ links_of (map (stmt_of names labels) entries ++ s ∷ [])
 
 module _ (names labels : List Name) (positions : List ℕ) (symbols : List Symbol) (replaced : List ℕ) (entries : List Entry) (links : Links)
@@ -300,7 +294,7 @@ module _ (names labels : List Name) (positions : List ℕ) (symbols : List Symbo
       p.noted c (symbol_of entries c) (still-reads names labels positions symbols replaced entries links between k p.symbols_more c (omega (arith, lt, n)))
       ∙ ap Some (ap (λ n. with_entry e n c (symbol_of entries c)) (omega arith) ∙ (sym (symbol_of-push entries e c) ∙ ap (λ r. symbol_of r c) (sym p.entries_more)))
 
-  assertions' : (i : ℕ) (d : Entry) → slice_get entries' i ≡ Some d → is_assertion_kind d.kind ≡ true → IsKept entries' (take i (map (stmt_of names' labels') entries')) (stmt_of names' labels' d) d d.assertion
+  assertions' : (i : ℕ) (d : Entry) → slice_get entries' i ≡ Some d → is_assertion_kind d.kind ≡ true → IsKeptAs entries' (take i (map (stmt_of names' labels') entries')) (stmt_of names' labels' d) d d.assertion
   assertions' i d h a = by (get-push entries e d i (ap (λ r. slice_get r i) (sym p.entries_more) ∙ h))
     where
       S : Database
@@ -309,24 +303,24 @@ module _ (names labels : List Name) (positions : List ℕ) (symbols : List Symbo
       stands : (j : ℕ) (n : ℕ) (t : Stmt) → slice_get (take n (map (stmt_of names labels) entries)) j ≡ Some t → (x : Entry) × (slice_get entries j ≡ Some x)
       stands j n t g = let x = get-entry names labels entries j t (get-less n (map (stmt_of names labels) entries) j t g) in (x.0, x.1)
 
-      by : ((i < length entries) × (slice_get entries i ≡ Some d)) ⊎ ((i ≡ length entries) × (e ≡ d)) → IsKept entries' (take i (map (stmt_of names' labels') entries')) (stmt_of names' labels' d) d d.assertion
+      by : ((i < length entries) × (slice_get entries i ≡ Some d)) ⊎ ((i ≡ length entries) × (e ≡ d)) → IsKeptAs entries' (take i (map (stmt_of names' labels') entries')) (stmt_of names' labels' d) d d.assertion
       by (inl q) =
           let here : take i (map (stmt_of names' labels') entries') ≡ take i (map (stmt_of names labels) entries) =
           ap (take i) pushed-statements ∙ take-append-le i (map (stmt_of names labels) entries) (s ∷ []) (omega (arith, q.0, len)) in
           let same : stmt_of names' labels' d ≡ stmt_of names labels d = stmt-more names names' labels labels' d p.names_more labels-extend (numbered-at (length names) (length labels) entries k.coded i d q.1) (label-at (length names) (length labels) entries k.coded i d q.1) in
-          subst (λ es. IsKept es (take i (map (stmt_of names' labels') entries')) (stmt_of names' labels' d) d d.assertion) (sym p.entries_more)
-          (subst (λ T. IsKept (entries ++ e ∷ []) T (stmt_of names' labels' d) d d.assertion) (sym here)
-          (subst (λ t. IsKept (entries ++ e ∷ []) (take i (map (stmt_of names labels) entries)) t d d.assertion) (sym same)
-          (is-kept-more names labels entries (e ∷ []) (take i (map (stmt_of names labels) entries)) (stmt_of names labels d) d d.assertion (λ j t g. stands j i t g) (k.assertions_kept i d q.1 a))))
+          subst (λ es. IsKeptAs es (take i (map (stmt_of names' labels') entries')) (stmt_of names' labels' d) d d.assertion) (sym p.entries_more)
+          (subst (λ T. IsKeptAs (entries ++ e ∷ []) T (stmt_of names' labels' d) d d.assertion) (sym here)
+          (subst (λ t. IsKeptAs (entries ++ e ∷ []) (take i (map (stmt_of names labels) entries)) t d d.assertion) (sym same)
+          (kept-more names labels entries (e ∷ []) (take i (map (stmt_of names labels) entries)) (stmt_of names labels d) d d.assertion (λ j t g. stands j i t g) (k.assertions_kept i d q.1 a))))
       by (inr q) =
           let here : take i (map (stmt_of names' labels') entries') ≡ map (stmt_of names labels) entries =
           ap (take i) pushed-statements ∙ (ap (λ n. take n (map (stmt_of names labels) entries ++ s ∷ [])) (q.0 ∙ sym len) ∙ take-whole (map (stmt_of names labels) entries) s) in
           let whole : (j : ℕ) (t : Stmt) → slice_get (map (stmt_of names labels) entries) j ≡ Some t → (x : Entry) × (slice_get entries j ≡ Some x) = λ j t g. let x = get-entry names labels entries j t g in (x.0, x.1) in
-          subst (λ w. IsKept entries' (take i (map (stmt_of names' labels') entries')) (stmt_of names' labels' w) w w.assertion) q.1
-          (subst (λ es. IsKept es (take i (map (stmt_of names' labels') entries')) (stmt_of names' labels' e) e e.assertion) (sym p.entries_more)
-          (subst (λ T. IsKept (entries ++ e ∷ []) T (stmt_of names' labels' e) e e.assertion) (sym here)
-          (subst (λ t. IsKept (entries ++ e ∷ []) (map (stmt_of names labels) entries) t e e.assertion) (sym p.stands)
-          (is-kept-more names labels entries (e ∷ []) (map (stmt_of names labels) entries) s e e.assertion whole (p.kept (ap (λ w. is_assertion_kind w.kind) q.1 ∙ a))))))
+          subst (λ w. IsKeptAs entries' (take i (map (stmt_of names' labels') entries')) (stmt_of names' labels' w) w w.assertion) q.1
+          (subst (λ es. IsKeptAs es (take i (map (stmt_of names' labels') entries')) (stmt_of names' labels' e) e e.assertion) (sym p.entries_more)
+          (subst (λ T. IsKeptAs (entries ++ e ∷ []) T (stmt_of names' labels' e) e e.assertion) (sym here)
+          (subst (λ t. IsKeptAs (entries ++ e ∷ []) (map (stmt_of names labels) entries) t e e.assertion) (sym p.stands)
+          (kept-more names labels entries (e ∷ []) (map (stmt_of names labels) entries) s e e.assertion whole (p.kept (ap (λ w. is_assertion_kind w.kind) q.1 ∙ a))))))
 
   front-before : (i : ℕ) → i < length entries → take i entries' ≡ take i entries
   front-before i lt = ap (take i) p.entries_more ∙ take-append-le i entries (e ∷ []) (omega (arith, lt))
@@ -386,7 +380,7 @@ module _ (names labels : List Name) (positions : List ℕ) (symbols : List Symbo
     coded = subst (AreNumbered (length names') (length labels')) (sym p.entries_more)
         (numbered-push (length names) (length names') (length labels) (length labels') entries e (extends-length names names' p.names_more) (extends-length labels labels' labels-extend) k.coded p.below p.label p.two);
     symbols_kept = symbols'';
-    replaced_kept = p.replaced_more ∙ (ap (λ r. r ++ replaced_by (symbol_of entries) e.kind e.symbols.items) k.replaced_kept ∙ (sym (replaced_of-push entries e) ∙ ap replaced_of (sym p.entries_more)));
+    replaced_kept = p.replaced_more ∙ (ap (λ r. r ++ replaced_by (symbol_of entries) e.kind e.symbols) k.replaced_kept ∙ (sym (replaced_of-push entries e) ∙ ap replaced_of (sym p.entries_more)));
     counts_kept = counts';
     count = p.noted_count ∙ p.count;
     few = p.few;
@@ -458,16 +452,16 @@ module _ (old mid new : Stock) (k : AreStored old) (t : IsTakenBack old mid new)
   back-labels : new.labels ≡ old.labels
   back-labels = t.labels_cut ∙ take-extends old.labels mid.labels t.behind.labels
 
-  back-entries : new.entries.items ≡ old.entries.items
-  back-entries = ap (λ v. v.items) t.entries_cut ∙ t.behind.entries
+  back-entries : new.entries ≡ old.entries
+  back-entries = t.entries_cut ∙ t.behind.entries
 
   pub back-stored : AreStored new
   back-stored =
       let z = t.behind.symbols in
       let n : length old.labels ≡ length old.positions.items =
       ap length k.labels_kept ∙ (sym (length-positions 1 (statements_of old)) ∙ ap length (sym k.positions_kept)) in
-      kept-same old.names old.labels old.positions.items old.symbols.items old.replaced.items old.entries.items old.links
-      new.names new.labels new.positions.items new.symbols.items new.replaced.items new.entries.items new.links
+      kept-same old.names old.labels old.positions.items old.symbols.items old.replaced.items old.entries old.links
+      new.names new.labels new.positions.items new.symbols.items new.replaced.items new.entries new.links
       back-names back-labels
       (t.positions_cut ∙ (ap (λ m. take m mid.positions.items) n ∙ take-extends old.positions.items mid.positions.items t.behind.positions))
       (t.symbols_cut ∙ (ap (λ m. take m mid.symbols.items) (sym k.count) ∙ take-extends old.symbols.items mid.symbols.items (z.0, z.1)))
@@ -478,8 +472,8 @@ module _ (old mid new : Stock) (k : AreStored old) (t : IsTakenBack old mid new)
   pub back-numbered : numbered new ≡ numbered old
   back-numbered =
       ap (λ es. record { statements = map (stmt_of new.names new.labels) es; names = new.names }) back-entries
-      ∙ (ap (λ ls. record { statements = map (stmt_of new.names ls) old.entries.items; names = new.names }) back-labels
-      ∙ ap (λ ns. record { statements = map (stmt_of ns old.labels) old.entries.items; names = ns }) back-names)
+      ∙ (ap (λ ls. record { statements = map (stmt_of new.names ls) old.entries; names = new.names }) back-labels
+      ∙ ap (λ ns. record { statements = map (stmt_of ns old.labels) old.entries; names = ns }) back-names)
 
 -- ---- reading an entry
 
@@ -500,9 +494,9 @@ stmt-at-suc S (suc n) h = ap (slice_get S) (back n)
     back : (k : ℕ) → k ≡ suc k - 1
     back k = omega arith
 
-pub two-of : (n m : ℕ) (es : List Entry) → AreNumbered n m es → (k : ℕ) (e : Entry) → slice_get es k ≡ Some e → HasTwo e.kind e.symbols.items
+pub two-of : (n m : ℕ) (es : List Entry) → AreNumbered n m es → (k : ℕ) (e : Entry) → slice_get es k ≡ Some e → HasTwo e.kind e.symbols
 two-of n m [] h k e g = cc
-two-of n m (d ∷ es) h zero e g = let same : d ≡ e = cc in subst (λ x. HasTwo x.kind x.symbols.items) same h.3
+two-of n m (d ∷ es) h zero e g = let same : d ≡ e = cc in subst (λ x. HasTwo x.kind x.symbols) same h.3
 two-of n m (d ∷ es) h (suc k) e g = two-of n m es h.2 k e g
 
 two-names : (names : List Name) (codes : List ℕ) → length codes ≡ 2 → decode names codes ≡ name_at (decode names codes) 0 ∷ name_at (decode names codes) 1 ∷ []
@@ -519,11 +513,11 @@ HasExpr Axiom = Unit {0}
 HasExpr Prove = Unit {0}
 HasExpr kind = ⊥
 
-pub entry-expr : (names labels : List Name) (e : Entry) → HasExpr e.kind → HasTwo e.kind e.symbols.items → decode names e.symbols.items ≡ expr_of (stmt_of names labels e)
+pub entry-expr : (names labels : List Name) (e : Entry) → HasExpr e.kind → HasTwo e.kind e.symbols → decode names e.symbols ≡ expr_of (stmt_of names labels e)
 entry-expr names labels e = by e.kind
   where
-    by : (kind : Kind) → HasExpr kind → HasTwo kind e.symbols.items → decode names e.symbols.items ≡ expr_of (stmt_by kind (name_at labels e.label) (decode names e.symbols.items))
-    by Float h t = two-names names e.symbols.items t
+    by : (kind : Kind) → HasExpr kind → HasTwo kind e.symbols → decode names e.symbols ≡ expr_of (stmt_by kind (name_at labels e.label) (decode names e.symbols))
+    by Float h t = two-names names e.symbols t
     by Ess h t = refl
     by Axiom h t = refl
     by Prove h t = refl
@@ -544,7 +538,7 @@ HasNone kind = Unit {0}
 pub entry-none : (names labels : List Name) (e : Entry) → HasNone e.kind → (expr_of (stmt_of names labels e) ≡ []) × (is_hypothesis_kind (stmt_of names labels e) ≡ false) × (is_assertion (stmt_of names labels e) ≡ false)
 entry-none names labels e = by e.kind
   where
-    by : (kind : Kind) → HasNone kind → (expr_of (stmt_by kind (name_at labels e.label) (decode names e.symbols.items)) ≡ []) × (is_hypothesis_kind (stmt_by kind (name_at labels e.label) (decode names e.symbols.items)) ≡ false) × (is_assertion (stmt_by kind (name_at labels e.label) (decode names e.symbols.items)) ≡ false)
+    by : (kind : Kind) → HasNone kind → (expr_of (stmt_by kind (name_at labels e.label) (decode names e.symbols)) ≡ []) × (is_hypothesis_kind (stmt_by kind (name_at labels e.label) (decode names e.symbols)) ≡ false) × (is_assertion (stmt_by kind (name_at labels e.label) (decode names e.symbols)) ≡ false)
     by Open h = (refl, refl, refl)
     by Close h = (refl, refl, refl)
     by Const h = (refl, refl, refl)
@@ -608,7 +602,7 @@ IsCitable kind = ⊥
 pub entry-assertion : (names labels : List Name) (e : Entry) → IsCitable e.kind → is_assertion (stmt_of names labels e) ≡ true
 entry-assertion names labels e = by e.kind
   where
-    by : (kind : Kind) → IsCitable kind → is_assertion (stmt_by kind (name_at labels e.label) (decode names e.symbols.items)) ≡ true
+    by : (kind : Kind) → IsCitable kind → is_assertion (stmt_by kind (name_at labels e.label) (decode names e.symbols)) ≡ true
     by Axiom h = refl
     by Prove h = refl
     by Open h = absurd h
@@ -643,12 +637,12 @@ kept-grown names labels positions symbols replaced entries links names' symbols'
       count = n;
       few = few;
       assertions_kept = λ i e h a.
-          subst (λ S. IsKept entries (take i S) (stmt_of names' labels e) e e.assertion) (sym same)
-          (subst (λ t. IsKept entries (take i (map (stmt_of names labels) entries)) t e e.assertion)
+          subst (λ S. IsKeptAs entries (take i S) (stmt_of names' labels e) e e.assertion) (sym same)
+          (subst (λ t. IsKeptAs entries (take i (map (stmt_of names labels) entries)) t e e.assertion)
           (sym (stmt-more names names' labels labels e p ([], sym (append-nil labels)) (numbered-at (length names) (length labels) entries k.coded i e h) (label-at (length names) (length labels) entries k.coded i e h)))
           (k.assertions_kept i e h a));
     }
   where
     numbered-more : (a b m : ℕ) (es : List Entry) → a ≤ b → AreNumbered a m es → AreNumbered b m es
     numbered-more a b m [] le h = tt
-    numbered-more a b m (e ∷ es) le h = (below-more a b e.symbols.items le h.0, h.1, numbered-more a b m es le h.2, h.3)
+    numbered-more a b m (e ∷ es) le h = (below-more a b e.symbols le h.0, h.1, numbered-more a b m es le h.2, h.3)

@@ -5,26 +5,26 @@ use Rattle.std.proofs.Common.{sym, ◌∙◌, ap, arith, append-nil, append_asso
 use Rattle.std.proofs.lemmas.List.{take_all}
 use Rattle.std.proofs.lemmas.Option.{get_or_from_slice_get}
 use Rattle.std.proofs.Math.Seq.{drop-append_seam}
-use Rattle.frame.specs.declared.storage.Entry.{Entry}
-use Rattle.frame.specs.declared.storage.Kind.{Kind}
-use Rattle.frame.specs.declared.storage.Kind.TheVariants.{Open, Close, Const, Var, Disj, Float, Ess, Axiom, Prove}
+use Rattle.frame.specs.Entries.{Entry}
+use Rattle.frame.specs.declared.kind.Kind.{Kind}
+use Rattle.frame.specs.declared.kind.Kind.TheVariants.{Open, Close, Const, Var, Disj, Float, Ess, Axiom, Prove}
 use Rattle.frame.specs.declared.storage.Symbol.{Symbol}
-use Rattle.frame.specs.Stored.{Extends, ReadsAs, replaced_by, replaced_behind, replaced_of, symbol_of, with_entry, is_float_kind, is_var_kind, second_is}
+use Rattle.frame.specs.Stored.{Extends, ReadsAs, replaced_by, replaced_behind, replaced_of, symbol_of, with_declared, is_float_kind, is_var_kind, second_is}
 use Rattle.frame.proofs.DeclareLemmas.{noted, or-true, or-false}
 
 -- ---- one entry more
 
-replaced-push : (before es : List Entry) (e : Entry) → replaced_behind before (es ++ e ∷ []) ≡ replaced_behind before es ++ replaced_by (symbol_of (before ++ es)) e.kind e.symbols.items
+replaced-push : (before es : List Entry) (e : Entry) → replaced_behind before (es ++ e ∷ []) ≡ replaced_behind before es ++ replaced_by (symbol_of (before ++ es)) e.kind e.symbols
 replaced-push before [] e =
-    append-nil (replaced_by (symbol_of before) e.kind e.symbols.items)
-    ∙ ap (λ es. replaced_by (symbol_of es) e.kind e.symbols.items) (sym (append-nil before))
+    append-nil (replaced_by (symbol_of before) e.kind e.symbols)
+    ∙ ap (λ es. replaced_by (symbol_of es) e.kind e.symbols) (sym (append-nil before))
 replaced-push before (d ∷ es) e =
-    ap (λ r. replaced_by (symbol_of before) d.kind d.symbols.items ++ r)
+    ap (λ r. replaced_by (symbol_of before) d.kind d.symbols ++ r)
     (replaced-push (before ++ d ∷ []) es e
-    ∙ ap (λ r. replaced_behind (before ++ d ∷ []) es ++ replaced_by (symbol_of r) e.kind e.symbols.items) (append_assoc before (d ∷ []) es))
-    ∙ sym (append_assoc (replaced_by (symbol_of before) d.kind d.symbols.items) (replaced_behind (before ++ d ∷ []) es) (replaced_by (symbol_of (before ++ d ∷ es)) e.kind e.symbols.items))
+    ∙ ap (λ r. replaced_behind (before ++ d ∷ []) es ++ replaced_by (symbol_of r) e.kind e.symbols) (append_assoc before (d ∷ []) es))
+    ∙ sym (append_assoc (replaced_by (symbol_of before) d.kind d.symbols) (replaced_behind (before ++ d ∷ []) es) (replaced_by (symbol_of (before ++ d ∷ es)) e.kind e.symbols))
 
-pub replaced_of-push : (es : List Entry) (e : Entry) → replaced_of (es ++ e ∷ []) ≡ replaced_of es ++ replaced_by (symbol_of es) e.kind e.symbols.items
+pub replaced_of-push : (es : List Entry) (e : Entry) → replaced_of (es ++ e ∷ []) ≡ replaced_of es ++ replaced_by (symbol_of es) e.kind e.symbols
 replaced_of-push es e = replaced-push [] es e
 
 -- ---- one symbol restored
@@ -57,25 +57,19 @@ restore-step xs k c v r y x any g e h = get-set xs k c (record { float = r.float
         ∙ (ap (λ n. Some (record { float = y.float; variable = n })) (h ∙ ap x (sym c-is)) ∙ ap (λ b. Some (noted y (x c) b)) (sym (or-true any)))
     by false other = ap (λ b. Some (noted y (x c) b)) (sym (or-false any))
 
-pub restored-variables : (old new : List Symbol) (e : Entry) (olds : List ℕ) (x : ℕ → Symbol) (at : ℕ) → e.kind ≡ Var → olds ≡ replaced_by x e.kind e.symbols.items
-    → ((y : ℕ → ℕ) → olds ≡ map y e.symbols.items → (c : ℕ) (s : Symbol) → slice_get old c ≡ Some s → slice_get new c ≡ Some (noted s (y c) (list_any (λ k. nat_eq c k) e.symbols.items)))
-    → length new ≡ length old → ReadsAs old (λ c. with_entry e at c (x c)) → ReadsAs new x
-restored-variables old new e olds x at kind h each n reads c lt = by e.kind kind h (reads c (omega (arith, n, lt)))
+pub restored-variables : (old new : List Symbol) (kind : Kind) (codes olds : List ℕ) (x : ℕ → Symbol) (at : ℕ) → kind ≡ Var → olds ≡ replaced_by x kind codes
+    → ((y : ℕ → ℕ) → olds ≡ map y codes → (c : ℕ) (s : Symbol) → slice_get old c ≡ Some s → slice_get new c ≡ Some (noted s (y c) (list_any (λ k. nat_eq c k) codes)))
+    → length new ≡ length old → ReadsAs old (λ c. with_declared kind codes at c (x c)) → ReadsAs new x
+restored-variables old new own codes olds x at kind h each n reads c lt = by own kind h (reads c (omega (arith, n, lt)))
   where
-    codes : List ℕ
-    codes = e.symbols.items
-
-    any : Bool
-    any = list_any (λ k. nat_eq c k) e.symbols.items
-
     last : (b : Bool) → ◌≡◌ {A = Option Symbol} (Some (noted (record { float = (x c).float; variable = cond b at (x c).variable }) (x c).variable b)) (Some (x c))
     last true = refl
     last false = refl
 
-    by : (kind : Kind) → kind ≡ Var → olds ≡ replaced_by x kind e.symbols.items
-        → slice_get old c ≡ Some (record { float = cond (is_float_kind kind && second_is c e.symbols.items) at (x c).float; variable = cond (is_var_kind kind && list_any (λ y. nat_eq c y) e.symbols.items) at (x c).variable })
+    by : (kind : Kind) → kind ≡ Var → olds ≡ replaced_by x kind codes
+        → slice_get old c ≡ Some (record { float = cond (is_float_kind kind && second_is c codes) at (x c).float; variable = cond (is_var_kind kind && list_any (λ y. nat_eq c y) codes) at (x c).variable })
         → slice_get new c ≡ Some (x c)
-    by Var same is g = each (λ k. (x k).variable) is c _ g ∙ last (list_any (λ k. nat_eq c k) e.symbols.items)
+    by Var same is g = each (λ k. (x k).variable) is c _ g ∙ last (list_any (λ k. nat_eq c k) codes)
     by Float same is g = cc
     by Open same is g = cc
     by Close same is g = cc
@@ -95,6 +89,12 @@ pub front-step : (all xs front : List Entry) (e : Entry) → Extends xs all → 
 front-step all xs front e p h =
     let is : all ≡ front ++ e ∷ p.0 = p.1 ∙ (ap (λ r. r ++ p.0) h ∙ append_assoc front (e ∷ []) p.0) in
     ((e ∷ p.0, is), ap (λ r. slice_get r (length front)) is ∙ get-seam front p.0 e)
+
+pub last-of : {A : Type 0} (xs : List A) (n : ℕ) (x : A) → n + 1 ≡ length xs → slice_get xs n ≡ Some x → xs ≡ take n xs ++ x ∷ []
+last-of [] n x h g = absurd (omega (arith, h))
+last-of (y ∷ []) zero x h g = let e : y ≡ x = cc in ap (λ z. z ∷ []) e
+last-of (y ∷ z ∷ xs) zero x h g = absurd (omega (arith, h))
+last-of (y ∷ xs) (suc n) x h g = ap (λ r. y ∷ r) (last-of xs n x (omega (arith, h)) g)
 
 pub map-at : (x : ℕ → ℕ) (codes : List ℕ) (i : ℕ) → i < length codes → get_or (map x codes) i 0 ≡ x (get_or codes i 0)
 map-at x [] i h = absurd (omega (arith, h))

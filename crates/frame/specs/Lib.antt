@@ -9,6 +9,9 @@ pub mod ByPlaces
 pub mod Reading
 pub mod Links
 pub mod Laws
+pub mod Spans
+pub mod Entries
+pub mod Records
 pub mod Stored
 pub mod Labels
 pub mod OneFrame

@@ -16,13 +16,10 @@ use Rattle.frame.specs.Citations.{Carries, IsHypothesis, IsInstance, premises}
 use Rattle.frame.specs.Templates.{AreIn}
 use Rattle.frame.specs.ByPlaces.{IsByPlaces, AreBelow, AreCoded}
 
-abbrev pub groups_of : Cited → List (List ℕ)
-groups_of c = map (λ v. v.items) c.groups.now
-
 -- the parts of the assertion s at a
 pub record IsCited (S : Database) (names : List Name) (a : ℕ) (s : Stmt) (c : Cited) : Type 0 where
-  pub by_places : IsByPlaces S names a s c.patterns.now c.templates.now c.conclusion.now (groups_of c)
-  pub coded : AreCoded (length names) c.patterns.now c.templates.now c.conclusion.now (groups_of c)
+  pub by_places : IsByPlaces S names a s c.patterns.now c.templates.now c.conclusion.now c.groups
+  pub coded : AreCoded (length names) c.patterns.now c.templates.now c.conclusion.now c.groups
   pub inside : AreIn (length c.templates.now) c.patterns.now
   pub few : length c.patterns.now < 2 ^ 31
 

@@ -2,7 +2,6 @@
 -- The code's own form: no public clause cites it.
 use Rattle.std.specs.Prelude.{◌≡◌, ℕ, ◌+◌, ◌-◌, ◌<◌, ◌≤◌, ◌^◌, ◌==◌, nat_lt, Bool, true, false, ◌&&◌, if◌then◌else◌, List, [], ◌∷◌, ◌++◌, length, map, flat_map, filter, take, slice_get, slice_range, Option, Some, None, unwrap_or}
 use Rattle.std.specs.List.{list_any, filter_map}
-use Rattle.std.specs.Global.{Box}
 use Rattle.mm_lex.specs.Alphabet.{Name, has_name}
 use Rattle.mm_read.specs.declared.stmt.Stmt.{Stmt}
 use Rattle.mm_read.specs.declared.stmt.Stmt.TheVariants as stmt
@@ -14,12 +13,14 @@ use Rattle.frame.specs.FrameOf.{hypotheses}
 use Rattle.frame.specs.declared.citation.Pattern.{Pattern}
 use Rattle.frame.specs.declared.citation.Pattern.TheVariants.{Typed, Full}
 use Rattle.frame.specs.declared.links.Links.{Links}
-use Rattle.frame.specs.declared.storage.Kind.{Kind}
-use Rattle.frame.specs.declared.storage.Kind.TheVariants.{Open, Close, Const, Var, Disj, Float, Ess, Axiom, Prove}
-use Rattle.frame.specs.declared.storage.Entry.{Entry}
-use Rattle.frame.specs.declared.storage.Assertion.{Assertion}
+use Rattle.frame.specs.declared.record.Head.{Head}
+use Rattle.frame.specs.declared.kind.Kind.{Kind}
+use Rattle.frame.specs.declared.kind.Kind.TheVariants.{Open, Close, Const, Var, Disj, Float, Ess, Axiom, Prove}
+use Rattle.frame.specs.Entries.{Entry}
+use Rattle.frame.specs.Entries.{Assertion}
 use Rattle.frame.specs.declared.storage.Symbol.{Symbol}
 use Rattle.frame.specs.declared.storage.Stock.{Stock}
+pub use Rattle.frame.specs.Spans.{Extends}
 use Rattle.frame.specs.Parts.{Numbered}
 use Rattle.frame.specs.Citations.{is_hypothesis_kind}
 use Rattle.frame.specs.ByPlaces.{AreBelow}
@@ -38,10 +39,10 @@ stmt_by Axiom label names = stmt.Axiom label names
 stmt_by Prove label names = stmt.Prove label names []
 
 abbrev pub stmt_of : List Name → List Name → Entry → Stmt
-stmt_of names labels e = stmt_by e.kind (name_at labels e.label) (decode names e.symbols.items)
+stmt_of names labels e = stmt_by e.kind (name_at labels e.label) (decode names e.symbols)
 
 abbrev pub statements_of : Stock → Database
-statements_of k = map (stmt_of k.names k.labels) k.entries.items
+statements_of k = map (stmt_of k.names k.labels) k.entries
 
 abbrev pub numbered : Stock → Numbered
 numbered k = record { statements = statements_of k; names = k.names }
@@ -84,11 +85,11 @@ second_is c (x ∷ []) = false
 second_is c (x ∷ y ∷ codes) = c == y
 
 abbrev pub floats : ℕ → Entry → Bool
-floats c e = is_float_kind e.kind && second_is c e.symbols.items
+floats c e = is_float_kind e.kind && second_is c e.symbols
 
 -- a `$v` that has it
 abbrev pub declares : ℕ → Entry → Bool
-declares c e = is_var_kind e.kind && list_any (λ x. c == x) e.symbols.items
+declares c e = is_var_kind e.kind && list_any (λ x. c == x) e.symbols
 
 -- the position of the last entry that passes the test, or 0
 abbrev pub last_from : (Entry → Bool) → ℕ → ℕ → List Entry → ℕ
@@ -121,7 +122,7 @@ replaced_by x kind codes = []
 -- the same for each entry of a list, behind others
 abbrev pub replaced_behind : List Entry → List Entry → List ℕ
 replaced_behind before [] = []
-replaced_behind before (e ∷ es) = replaced_by (symbol_of before) e.kind e.symbols.items ++ replaced_behind (before ++ e ∷ []) es
+replaced_behind before (e ∷ es) = replaced_by (symbol_of before) e.kind e.symbols ++ replaced_behind (before ++ e ∷ []) es
 
 abbrev pub replaced_of : List Entry → List ℕ
 replaced_of es = replaced_behind [] es
@@ -143,7 +144,7 @@ HasTwo kind codes = Unit {0}
 
 abbrev pub AreNumbered : ℕ → ℕ → List Entry → Type 0
 AreNumbered n m [] = Unit {0}
-AreNumbered n m (e ∷ es) = AreBelow n e.symbols.items × IsLabelBelow e.kind e.label m × AreNumbered n m es × HasTwo e.kind e.symbols.items
+AreNumbered n m (e ∷ es) = AreBelow n e.symbols × IsLabelBelow e.kind e.label m × AreNumbered n m es × HasTwo e.kind e.symbols
 
 -- the entry e keeps the counts of the names and of the labels before it: those entries use no others
 pub record KeepsCounts (names labels : List Name) (entries : List Entry) (i : ℕ) (e : Entry) : Type 0 where
@@ -156,10 +157,6 @@ pub record KeepsCounts (names labels : List Name) (entries : List Entry) (i : �
 abbrev pub IsPlain : Option Stmt → Type 0
 IsPlain None = ⊥
 IsPlain (Some s) = (is_open s ≡ false) × (is_close s ≡ false)
-
--- the list with more behind it
-abbrev pub Extends : {A : Type 0} → List A → List A → Type 0
-Extends {A} old new = (more : List A) × (new ≡ old ++ more)
 
 -- a symbol that nothing declares
 abbrev pub zero_symbol : Symbol
@@ -185,8 +182,12 @@ kind_of (stmt.Axiom label expr) = Axiom
 kind_of (stmt.Prove label expr proof) = Prove
 
 -- what one more entry makes of the last declarations of a symbol
+abbrev pub with_declared : Kind → List ℕ → ℕ → ℕ → Symbol → Symbol
+with_declared kind codes at c x =
+    record { float = if is_float_kind kind && second_is c codes then at else x.float; variable = if is_var_kind kind && list_any (λ y. c == y) codes then at else x.variable }
+
 abbrev pub with_entry : Entry → ℕ → ℕ → Symbol → Symbol
-with_entry e at c x = record { float = if floats c e then at else x.float; variable = if declares c e then at else x.variable }
+with_entry e at c x = with_declared e.kind e.symbols at c x
 
 -- there is room for the numbers of names: fewer than 2^31, and each with its declarations
 pub record HasRoom (k : Stock) : Type 0 where
@@ -210,7 +211,7 @@ pub record IsBehind (old new : Stock) : Type 0 where
   pub labels : Extends old.labels new.labels
   pub positions : Extends old.positions.items new.positions.items
   pub replaced : Extends old.replaced.items new.replaced.items
-  pub entries : new.entries.items ≡ old.entries.items
+  pub entries : new.entries ≡ old.entries
   pub links : new.links ≡ old.links
 
 -- the label, if there is one, is new
@@ -239,7 +240,7 @@ variable_by kind codes = None
 
 abbrev pub option_variable : Option Entry → Option ℕ
 option_variable None = None
-option_variable (Some e) = variable_by e.kind e.symbols.items
+option_variable (Some e) = variable_by e.kind e.symbols
 
 -- the variable of the `$f` at a position
 abbrev pub variable_at : List Entry → ℕ → Option ℕ
@@ -270,7 +271,7 @@ places_of vs codes = filter_map (place_of vs) codes
 
 abbrev pub option_symbols : Option Entry → List ℕ
 option_symbols None = []
-option_symbols (Some e) = e.symbols.items
+option_symbols (Some e) = e.symbols
 
 abbrev pub symbols_at : List Entry → ℕ → List ℕ
 symbols_at es p = option_symbols (slice_get es (p - 1))
@@ -285,10 +286,13 @@ abbrev pub groups_by : List (Option ℕ) → List (List ℕ) → List (List ℕ)
 groups_by vs lists = filter has_two (map (places_of vs) lists)
 
 -- the pattern of the hypothesis e: the first symbol of a `$f`; the place of the template of a `$e`
+abbrev pub IsPatternBy : List (Option ℕ) → List ℕ → Kind → List ℕ → Pattern → Type 0
+IsPatternBy vs templates kind codes (Typed c) = (kind ≡ Float) × (slice_get codes 0 ≡ Some c)
+IsPatternBy vs templates kind codes (Full from to) =
+    (kind ≡ Ess) × (from ≤ to) × (to ≤ length templates) × (slice_range templates from to ≡ templated vs codes)
+
 abbrev pub IsPatternOf : List (Option ℕ) → List ℕ → Entry → Pattern → Type 0
-IsPatternOf vs templates e (Typed c) = (e.kind ≡ Float) × (slice_get e.symbols.items 0 ≡ Some c)
-IsPatternOf vs templates e (Full from to) =
-    (e.kind ≡ Ess) × (from ≤ to) × (to ≤ length templates) × (slice_range templates from to ≡ templated vs e.symbols.items)
+IsPatternOf vs templates e q = IsPatternBy vs templates e.kind e.symbols q
 
 abbrev pub ArePatterns : List Entry → List (Option ℕ) → List ℕ → List ℕ → List Pattern → Type 0
 ArePatterns es vs templates [] [] = Unit {0}
@@ -297,8 +301,11 @@ ArePatterns es vs templates (p ∷ ps) [] = ⊥
 ArePatterns es vs templates (p ∷ ps) (q ∷ qs) = ((e : Entry) × (slice_get es (p - 1) ≡ Some e) × IsPatternOf vs templates e q) × ArePatterns es vs templates ps qs
 
 -- the template of a hypothesis, if it is a `$e`
+abbrev pub template_by : List (Option ℕ) → Kind → List ℕ → List ℕ
+template_by vs kind codes = if is_float_kind kind then [] else templated vs codes
+
 abbrev pub own_template : List (Option ℕ) → Entry → List ℕ
-own_template vs e = if is_float_kind e.kind then [] else templated vs e.symbols.items
+own_template vs e = template_by vs e.kind e.symbols
 
 abbrev pub option_template : List (Option ℕ) → Option Entry → List ℕ
 option_template vs None = []
@@ -309,12 +316,12 @@ template_at es vs p = option_template vs (slice_get es (p - 1))
 
 -- the assertion e, which stands behind the first i statements S, is kept as d
 pub record IsKeptAs (es : List Entry) (S : Database) (s : Stmt) (e : Entry) (d : Assertion) : Type 0 where
-  pub hypotheses_kept : d.hypotheses.items ≡ hypotheses S s
-  pub patterns_kept : ArePatterns es (map (variable_at es) d.hypotheses.items) d.templates.items d.hypotheses.items d.patterns.items
-  pub conclusion_kept : d.conclusion.items ≡ templated (map (variable_at es) d.hypotheses.items) e.symbols.items
-  pub groups_kept : map (λ v. v.items) d.groups.items ≡ groups_by (map (variable_at es) d.hypotheses.items) (map (λ q. symbols_at es q.0) (actives is_disj S))
-  pub few : length d.hypotheses.items < 2 ^ 31
-  pub templates_kept : d.templates.items ≡ flat_map (template_at es (map (variable_at es) d.hypotheses.items)) d.hypotheses.items
+  pub hypotheses_kept : d.hypotheses ≡ hypotheses S s
+  pub patterns_kept : ArePatterns es (map (variable_at es) d.hypotheses) d.templates d.hypotheses d.patterns
+  pub conclusion_kept : d.conclusion ≡ templated (map (variable_at es) d.hypotheses) e.symbols
+  pub groups_kept : d.groups ≡ groups_by (map (variable_at es) d.hypotheses) (map (λ q. symbols_at es q.0) (actives is_disj S))
+  pub few : length d.hypotheses < 2 ^ 31
+  pub templates_kept : d.templates ≡ flat_map (template_at es (map (variable_at es) d.hypotheses)) d.hypotheses
 
 abbrev pub is_assertion_kind : Kind → Bool
 is_assertion_kind Axiom = true
@@ -359,17 +366,12 @@ AreHypotheses es (p ∷ ps) = ((e : Entry) × (1 ≤ p) × (slice_get es (p - 1)
 
 -- the parts of an assertion with these symbols, behind the statements S
 pub record AreParts (es : List Entry) (S : Database) (codes : List ℕ) (d : Assertion) : Type 0 where
-  pub hypotheses_found : d.hypotheses.items ≡ collected es S codes
-  pub patterns_made : ArePatterns es (map (variable_at es) d.hypotheses.items) d.templates.items d.hypotheses.items d.patterns.items
-  pub conclusion_made : d.conclusion.items ≡ templated (map (variable_at es) d.hypotheses.items) codes
-  pub groups_made : map (λ v. v.items) d.groups.items ≡ groups_by (map (variable_at es) d.hypotheses.items) (map (λ q. symbols_at es q.0) (actives is_disj S))
-  pub few_places : length d.hypotheses.items < 2 ^ 31
-  pub templates_made : d.templates.items ≡ flat_map (template_at es (map (variable_at es) d.hypotheses.items)) d.hypotheses.items
-
--- what an entry keeps of an assertion
-abbrev pub IsKept : List Entry → Database → Stmt → Entry → Option (Box Assertion) → Type 0
-IsKept es S s e None = ⊥
-IsKept es S s e (Some b) = IsKeptAs es S s e b.value
+  pub hypotheses_found : d.hypotheses ≡ collected es S codes
+  pub patterns_made : ArePatterns es (map (variable_at es) d.hypotheses) d.templates d.hypotheses d.patterns
+  pub conclusion_made : d.conclusion ≡ templated (map (variable_at es) d.hypotheses) codes
+  pub groups_made : d.groups ≡ groups_by (map (variable_at es) d.hypotheses) (map (λ q. symbols_at es q.0) (actives is_disj S))
+  pub few_places : length d.hypotheses < 2 ^ 31
+  pub templates_made : d.templates ≡ flat_map (template_at es (map (variable_at es) d.hypotheses)) d.hypotheses
 
 -- the storage of a database
 pub record AreKept (names labels : List Name) (positions : List ℕ) (symbols : List Symbol) (replaced : List ℕ) (entries : List Entry) (links : Links) : Type 0 where
@@ -385,23 +387,37 @@ pub record AreKept (names labels : List Name) (positions : List ℕ) (symbols : 
   pub counts_kept : (i : ℕ) (e : Entry) → slice_get entries i ≡ Some e → KeepsCounts names labels entries i e
   pub count : length symbols ≡ length names
   pub few : length names < 2 ^ 31
-  pub assertions_kept : (i : ℕ) (e : Entry) → slice_get entries i ≡ Some e → is_assertion_kind e.kind ≡ true → IsKept entries (take i (map (stmt_of names labels) entries)) (stmt_of names labels e) e e.assertion
+  pub assertions_kept : (i : ℕ) (e : Entry) → slice_get entries i ≡ Some e → is_assertion_kind e.kind ≡ true → IsKeptAs entries (take i (map (stmt_of names labels) entries)) (stmt_of names labels e) e e.assertion
 
 abbrev pub AreStored : Stock → Type 0
-AreStored k = AreKept k.names k.labels k.positions.items k.symbols.items k.replaced.items k.entries.items k.links
+AreStored k = AreKept k.names k.labels k.positions.items k.symbols.items k.replaced.items k.entries k.links
+
+-- what is noted of the statement that comes next
+pub record IsHead (k : Stock) (s : Stmt) (h : Head) : Type 0 where
+  pub kind : h.kind ≡ kind_of s
+  pub label : h.label ≡ length k.labels
+  pub names : h.names ≡ length k.names
+  pub links : h.links ≡ k.links
 
 -- the entry is the statement: its numbers are among those of the storage, which has its label and position
 pub record Entered (old new : Stock) (s : Stmt) (e : Entry) : Type 0 where
   pub stands : stmt_of new.names new.labels e ≡ s
-  pub symbols : AreBelow (length new.names) e.symbols.items
+  pub symbols : AreBelow (length new.names) e.symbols
   pub label : IsLabelBelow e.kind e.label (length new.labels)
   pub names_before : e.names ≡ length old.names
   pub labels_before : e.label ≡ length old.labels
-  pub two : HasTwo e.kind e.symbols.items
+  pub two : HasTwo e.kind e.symbols
   pub labels : new.labels ≡ old.labels ++ option_list (label_of s) []
-  pub positions : new.positions.items ≡ old.positions.items ++ option_position (label_of s) (length old.entries.items + 1) []
+  pub positions : new.positions.items ≡ old.positions.items ++ option_position (label_of s) (length old.entries + 1) []
   pub links : e.links ≡ old.links
-  pub kept : is_assertion_kind e.kind ≡ true → IsKept old.entries.items (statements_of old) s e e.assertion
+  pub kept : is_assertion_kind e.kind ≡ true → IsKeptAs old.entries (statements_of old) s e e.assertion
+
+-- the numbers of the words and the label stand in the storage
+pub record IsEntered (old new : Stock) (label : Name) (words : Expr) (codes : List ℕ) : Type 0 where
+  pub symbols : AreBelow (length new.names) codes
+  pub stand : decode new.names codes ≡ words
+  pub labels : new.labels ≡ old.labels ++ label ∷ []
+  pub positions : new.positions.items ≡ old.positions.items ++ (length old.entries + 1) ∷ []
 
 -- the symbols are those of the assertion s, which may come next
 pub record IsNext (k : Stock) (codes : List ℕ) (s : Stmt) : Type 0 where
@@ -409,5 +425,5 @@ pub record IsNext (k : Stock) (codes : List ℕ) (s : Stmt) : Type 0 where
   pub assertion : is_assertion s ≡ true
   pub stand : decode k.names codes ≡ expr_of s
 
-abbrev pub IsKeptOf : Stock → List ℕ → Stmt → Box Assertion → Type 0
-IsKeptOf k codes s b = (e : Entry) → e.symbols.items ≡ codes → IsKeptAs k.entries.items (statements_of k) s e b.value
+abbrev pub IsKeptOf : Stock → List ℕ → Stmt → Assertion → Type 0
+IsKeptOf k codes s d = (e : Entry) → e.symbols ≡ codes → IsKeptAs k.entries (statements_of k) s e d

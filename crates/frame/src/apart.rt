@@ -51,8 +51,8 @@ fn is_covered(stock: &Stock, at: usize, left: &[u32], right: &[u32]) -> bool
     let mut hints = [0usize; PLACES];
     let mut last = links_at(stock, at).disjoint;
     while last != 0 {
-        let entry = &stock.entries[last - 1];
-        if covers(&pairs, &entry.symbols, &mut hints, left, right) {
+        let entry = stock.entries.entry(last as usize - 1);
+        if covers(&pairs, entry.symbols, &mut hints, left, right) {
             return true;
         }
         last = entry.links.disjoint;

@@ -1,5 +1,7 @@
 //! What a verifier reads of an assertion that is cited.
 
+use crate::groups::Groups;
+
 /// What the result for a hypothesis must be.
 #[derive(Clone, Copy, Debug, Drop, PartialEq, Eq)]
 pub enum Pattern {
@@ -11,7 +13,7 @@ pub enum Pattern {
 
 /// An assertion by the places of its hypotheses. With r hypotheses a number below r is a place,
 /// and a number n from r on is the symbol n - r.
-#[derive(Clone, Copy, Drop)]
+#[derive(Drop)]
 pub struct Cited<'a> {
     /// What the results for its hypotheses must be, in order.
     pub patterns: &'a [Pattern],
@@ -20,7 +22,7 @@ pub struct Cited<'a> {
     /// The template of its conclusion.
     pub conclusion: &'a [u32],
     /// The places whose images are kept apart, each two of a group.
-    pub groups: &'a [Vec<u32>],
+    pub groups: Groups<'a>,
 }
 
 /// What the citation of a statement means at another.

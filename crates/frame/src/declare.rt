@@ -6,12 +6,13 @@ ghost use Rattle.mm_read.specs.declared.stmt.Stmt.{Stmt as Statement};
 ghost use Rattle.frame.specs.ByPlaces.{AreBelow};
 ghost use Rattle.frame.specs.Links.{links_of};
 ghost use Rattle.frame.specs.declared.storage.Symbol.{Symbol as Declared};
-ghost use Rattle.frame.specs.Stored.{AreStored, statements_of, with_entry, kind_of};
+ghost use Rattle.frame.specs.Stored.{AreStored, statements_of, with_declared, kind_of};
 
+use crate::kind::Kind;
 use crate::links::Links;
 use crate::names::Names;
 use crate::reading::links_at;
-use crate::storage::{Entry, Kind, Stock, Symbol};
+use crate::storage::{Stock, Symbol};
 use std::alloc::{AllocError, Global};
 
 /// Gives a label its number and its position.
@@ -21,22 +22,21 @@ pub fn name_label(
     positions: &mut Vec<usize>,
     label: &[u8],
     at: usize,
-) -> Result<usize, AllocError>
+) -> Result<(), AllocError>
     requires { has_name label.now labels.old ≡ false }
-    ensures number { IfOk result (λ n. n ≡ length labels.old) }
     ensures labels { OnOk result (labels.new ≡ labels.old ++ label.now ∷ []) }
     ensures positions { OnOk result (positions.new.items ≡ positions.old.items ++ at ∷ []) }
     ensures labels_err { OnErr result (labels.new ≡ labels.old) }
     ensures positions_err { OnErr result (positions.new.items ≡ positions.old.items) }
 {
     let count = labels.len();
-    let number = labels.code(alloc, label)?;
+    labels.code(alloc, label)?;
     let added = positions.push(at);
     if added.is_err() {
         labels.truncate(count);
         return Err(AllocError);
     }
-    Ok(number)
+    Ok(())
 }
 
 /// What is active behind one more statement of a kind.
@@ -44,7 +44,7 @@ pub fn links_after(stock: &Stock, kind: Kind) -> Links
     requires { AreStored stock.now }
     ensures { (s : Statement) → kind_of s ≡ kind → result ≡ links_of (statements_of stock.now ++ s ∷ []) }
 {
-    let at = stock.entries.len() + 1;
+    let at = stock.entries.len() as u32 + 1;
     let links = stock.links;
     match kind {
         Kind::Open => Links { block: at, ..links },
@@ -57,7 +57,7 @@ pub fn links_after(stock: &Stock, kind: Kind) -> Links
                     disjoint: 0,
                 }
             } else {
-                links_at(stock, links.block)
+                links_at(stock, links.block as usize)
             }
         }
         Kind::Var => Links {
@@ -91,20 +91,20 @@ fn declare_all(symbols: &mut Vec<Symbol>, codes: &[u32], at: usize)
     }
 }
 
-/// Notes what the entry at `at` declares.
-pub fn declare(symbols: &mut Vec<Symbol>, entry: &Entry, at: usize)
-    requires { AreBelow (length symbols.old.items) entry.now.symbols.items }
-    ensures each { (c : ℕ) (x : Declared) → slice_get symbols.old.items c ≡ Some x → slice_get symbols.new.items c ≡ Some (with_entry entry.now at c x) }
+/// Notes what a statement at `at` of this kind and with these symbols declares.
+pub fn declare(symbols: &mut Vec<Symbol>, kind: Kind, codes: &[u32], at: usize)
+    requires { AreBelow (length symbols.old.items) codes.now }
+    ensures each { (c : ℕ) (x : Declared) → slice_get symbols.old.items c ≡ Some x → slice_get symbols.new.items c ≡ Some (with_declared kind codes.now at c x) }
     ensures count { length symbols.new.items ≡ length symbols.old.items }
 {
-    match entry.kind {
+    match kind {
         Kind::Float => {
-            if entry.symbols.len() > 1 {
-                let symbol = &mut symbols[entry.symbols[1] as usize];
+            if codes.len() > 1 {
+                let symbol = &mut symbols[codes[1] as usize];
                 symbol.float = at;
             }
         }
-        Kind::Var => declare_all(symbols, &entry.symbols, at),
+        Kind::Var => declare_all(symbols, codes, at),
         _ => {}
     }
 }

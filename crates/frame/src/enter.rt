@@ -1,86 +1,78 @@
 //! A statement as numbers.
-ghost use Rattle.std.specs.Prelude.{◌≡◌, ℕ, ◌+◌, ◌<◌, ◌^◌, ◌++◌, ◌∷◌, [], Some, length, IfOk, OnOk, OnErr, false};
+ghost use Rattle.std.specs.Prelude.{◌≡◌, ◌+◌, ◌<◌, ◌^◌, ◌++◌, ◌∷◌, [], length, IfOk, OnOk, true, false};
 ghost use Rattle.mm_lex.specs.Alphabet.{has_name};
 ghost use Rattle.mm_read.specs.declared.stmt.Stmt.{Stmt as Statement};
-ghost use Rattle.scope.specs.Active.{bare, label_of};
+ghost use Rattle.scope.specs.Active.{bare, label_of, is_assertion, expr_of};
 ghost use Rattle.scope.specs.Legal.{IsLegal};
-ghost use Rattle.scope.specs.Numbering.{decode, name_at};
+ghost use Rattle.scope.specs.Numbering.{decode};
 ghost use Rattle.frame.specs.ByPlaces.{AreBelow};
-ghost use Rattle.frame.specs.Stored.{Entered, Grown, IsFresh, IsLabelled, HasRoom, AreStored, IsNext, IsKeptOf, statements_of};
+ghost use Rattle.frame.specs.Entries.{IsPartless, IsDraft, drafted, made};
+ghost use Rattle.frame.specs.declared.record.Head.{Head as Before};
+ghost use Rattle.frame.specs.Stored.{Entered, IsEntered, Grown, IsFresh, HasRoom, AreStored, IsHead, IsNext, IsKeptOf, kind_of, statements_of};
 
 use crate::declare::name_label;
+use crate::draft::Draft;
+use crate::kind::Kind;
 use crate::make::assertion;
 use crate::numbers::{number, numbers};
-use crate::storage::{Assertion, Entry, Kind, Stock};
+use crate::record::Head;
+use crate::span::place;
+use crate::storage::Stock;
 use mm_lex::{Word, Words};
 use mm_read::Stmt;
 use std::alloc::{AllocError, Global};
 
-/// A statement without words.
-fn plain(alloc: Global, stock: &Stock, kind: Kind) -> Entry
-    ensures kind { result.kind ≡ kind }
-    ensures label { result.label ≡ length stock.now.labels }
-    ensures names { result.names ≡ length stock.now.names }
-    ensures links { result.links ≡ stock.now.links }
-    ensures symbols { result.symbols.items ≡ [] }
+/// What is noted of a statement of this kind that comes next.
+pub fn head(stock: &Stock, kind: Kind) -> Result<Head, AllocError>
+    requires { HasRoom stock.now }
+    ensures { (s : Statement) → kind ≡ kind_of s → IfOk result (IsHead stock.now s) }
 {
-    Entry {
+    Ok(Head {
         kind,
-        label: stock.labels.len(),
-        names: stock.names.len(),
-        symbols: Vec::new(alloc),
+        label: place(stock.labels.len())?,
+        names: stock.names.len() as u32,
         links: stock.links,
-        assertion: None,
-    }
+    })
 }
 
-/// A statement without a label.
-fn unlabelled(
+/// Adds the numbers of the symbols of a list to codes, of which there are none.
+fn list_numbers(
     alloc: Global,
     stock: &mut Stock,
-    kind: Kind,
     words: &Words,
-) -> Result<Entry, AllocError>
-    requires { HasRoom stock.old }
+    codes: &mut Vec<u32>,
+) -> Result<(), AllocError>
+    requires room { HasRoom stock.old }
+    requires empty { codes.old.items ≡ [] }
     ensures grown { Grown stock.old stock.new }
     ensures room { HasRoom stock.new }
     ensures same_labels { stock.new.labels ≡ stock.old.labels }
     ensures same_positions { stock.new.positions.items ≡ stock.old.positions.items }
-    ensures kind { IfOk result (λ e. e.kind ≡ kind) }
-    ensures label { IfOk result (λ e. e.label ≡ length stock.old.labels) }
-    ensures names { IfOk result (λ e. e.names ≡ length stock.old.names) }
-    ensures links { IfOk result (λ e. e.links ≡ stock.old.links) }
-    ensures symbols { IfOk result (λ e. AreBelow (length stock.new.names) e.symbols.items) }
-    ensures stand { IfOk result (λ e. decode stock.new.names e.symbols.items ≡ words.now) }
+    ensures symbols { OnOk result (AreBelow (length stock.new.names) codes.new.items) }
+    ensures stand { OnOk result (decode stock.new.names codes.new.items ≡ words.now) }
+    ensures stored { AreStored stock.old → AreStored stock.new }
+    ensures statements { AreStored stock.old → statements_of stock.new ≡ statements_of stock.old }
 {
-    let count = stock.names.len();
-    let symbols = numbers(alloc, &mut stock.names, &mut stock.symbols, words)?;
-    Ok(Entry {
-        kind,
-        label: stock.labels.len(),
-        names: count,
-        symbols,
-        links: stock.links,
-        assertion: None,
-    })
+    numbers(alloc, &mut stock.names, &mut stock.symbols, words, codes)
 }
 
-/// The numbers of the two symbols of a `$f`.
+/// Adds the numbers of the two symbols of a `$f` to codes, of which there are none.
 fn pair_numbers(
     alloc: Global,
     stock: &mut Stock,
     constant: &Word,
     variable: &Word,
-) -> Result<Vec<u32>, AllocError>
-    requires { HasRoom stock.old }
+    codes: &mut Vec<u32>,
+) -> Result<(), AllocError>
+    requires room { HasRoom stock.old }
+    requires empty { codes.old.items ≡ [] }
     ensures grown { Grown stock.old stock.new }
     ensures room { HasRoom stock.new }
     ensures same_labels { stock.new.labels ≡ stock.old.labels }
     ensures same_positions { stock.new.positions.items ≡ stock.old.positions.items }
-    ensures symbols { IfOk result (λ v. AreBelow (length stock.new.names) v.items) }
-    ensures stand { IfOk result (λ v. decode stock.new.names v.items ≡ constant.now ∷ variable.now ∷ []) }
+    ensures symbols { OnOk result (AreBelow (length stock.new.names) codes.new.items) }
+    ensures stand { OnOk result (decode stock.new.names codes.new.items ≡ constant.now ∷ variable.now ∷ []) }
 {
-    let mut codes = Vec::new(alloc);
     let first = number(
         alloc,
         &mut stock.names,
@@ -95,120 +87,143 @@ fn pair_numbers(
     )?;
     codes.push(first)?;
     codes.push(second)?;
-    Ok(codes)
+    Ok(())
 }
 
-/// The numbers of the symbols of an expression.
-fn expr_numbers(alloc: Global, stock: &mut Stock, expr: &Words) -> Result<Vec<u32>, AllocError>
-    requires { HasRoom stock.old }
-    ensures grown { Grown stock.old stock.new }
-    ensures room { HasRoom stock.new }
-    ensures same_labels { stock.new.labels ≡ stock.old.labels }
-    ensures same_positions { stock.new.positions.items ≡ stock.old.positions.items }
-    ensures symbols { IfOk result (λ v. AreBelow (length stock.new.names) v.items) }
-    ensures stand { IfOk result (λ v. decode stock.new.names v.items ≡ expr.now) }
-    ensures stored { AreStored stock.old → AreStored stock.new }
-    ensures statements { AreStored stock.old → statements_of stock.new ≡ statements_of stock.old }
-{
-    numbers(alloc, &mut stock.names, &mut stock.symbols, expr)
-}
-
-/// A statement with a label and these symbols, before which there were so many names.
-fn labelled(
-    alloc: Global,
-    stock: &mut Stock,
-    kind: Kind,
-    label: &Word,
-    names: usize,
-    symbols: Vec<u32>,
-    assertion: Option<Box<Assertion>>,
-) -> Result<Entry, AllocError>
+/// Gives the label of the statement that comes next its number and its position.
+fn labelled(alloc: Global, stock: &mut Stock, label: &Word) -> Result<(), AllocError>
     requires fresh { has_name label.now stock.old.labels ≡ false }
     ensures grown { Grown stock.old stock.new }
     ensures names { stock.new.names ≡ stock.old.names }
     ensures same_symbols { stock.new.symbols ≡ stock.old.symbols }
     ensures labels { OnOk result (stock.new.labels ≡ stock.old.labels ++ label.now ∷ []) }
-    ensures positions { OnOk result (stock.new.positions.items ≡ stock.old.positions.items ++ (length stock.old.entries.items + 1) ∷ []) }
-    ensures number { IfOk result (λ e. e.label ≡ length stock.old.labels) }
-    ensures count { IfOk result (λ e. e.names ≡ names) }
-    ensures kind { IfOk result (λ e. e.kind ≡ kind) }
-    ensures links { IfOk result (λ e. e.links ≡ stock.old.links) }
-    ensures symbols { IfOk result (λ e. e.symbols.items ≡ symbols.items) }
-    ensures assertion { IfOk result (λ e. e.assertion ≡ assertion) }
+    ensures positions { OnOk result (stock.new.positions.items ≡ stock.old.positions.items ++ (length stock.old.entries + 1) ∷ []) }
 {
     let at = stock.entries.len() + 1;
-    let number = name_label(
+    name_label(
         alloc,
         &mut stock.labels,
         &mut stock.positions,
         label.as_bytes(),
         at,
-    )?;
-    Ok(Entry {
-        kind,
-        label: number,
-        names,
-        symbols,
-        links: stock.links,
-        assertion,
-    })
+    )
 }
 
-/// What is kept of an assertion with these symbols.
-fn keep(alloc: Global, stock: &Stock, symbols: &[u32]) -> Result<Box<Assertion>, AllocError>
+/// Finds what is kept of an assertion with the symbols of the draft.
+fn keep(stock: &Stock, draft: &mut Draft) -> Result<(), AllocError>
     requires stored { AreStored stock.now }
-    requires codes { AreBelow (length stock.now.names) symbols.now }
-    requires assertion { (s : Statement) × IsNext stock.now symbols.now s }
-    ensures { (s : Statement) → IsNext stock.now symbols.now s → IfOk result (IsKeptOf stock.now symbols.now s) }
+    requires codes { AreBelow (length stock.now.names) draft.old.symbols.items }
+    requires assertion { (s : Statement) × IsNext stock.now draft.old.symbols.items s }
+    requires partless { IsPartless draft.old }
+    ensures kept { (s : Statement) → IsNext stock.now draft.old.symbols.items s → OnOk result (IsKeptOf stock.now draft.old.symbols.items s (drafted draft.new)) }
+    ensures draft { OnOk result (IsDraft draft.new) }
+    ensures symbols { draft.new.symbols.items ≡ draft.old.symbols.items }
 {
     stock.names.distinct();
-    let made = assertion(alloc, stock, symbols)?;
-    let kept = Box::new(alloc, made)?;
-    Ok(kept)
+    assertion(stock, draft)
 }
 
-/// The statement as an entry, with its names and its label in the storage.
-pub fn enter(alloc: Global, stock: &mut Stock, stmt: &Stmt) -> Result<Entry, AllocError>
+/// Finds the numbers of a `$f`, and notes its label.
+fn enter_float(
+    alloc: Global,
+    stock: &mut Stock,
+    codes: &mut Vec<u32>,
+    label: &Word,
+    constant: &Word,
+    variable: &Word,
+) -> Result<(), AllocError>
+    requires room { HasRoom stock.old }
+    requires fresh { has_name label.now stock.old.labels ≡ false }
+    requires empty { codes.old.items ≡ [] }
+    ensures grown { Grown stock.old stock.new }
+    ensures room { HasRoom stock.new }
+    ensures entered { OnOk result (IsEntered stock.old stock.new label.now (constant.now ∷ variable.now ∷ []) codes.new.items) }
+{
+    pair_numbers(alloc, stock, constant, variable, codes)?;
+    labelled(alloc, stock, label)
+}
+
+/// Finds the numbers of an `$e`, and notes its label.
+fn enter_essential(
+    alloc: Global,
+    stock: &mut Stock,
+    codes: &mut Vec<u32>,
+    label: &Word,
+    expr: &Words,
+) -> Result<(), AllocError>
+    requires room { HasRoom stock.old }
+    requires fresh { has_name label.now stock.old.labels ≡ false }
+    requires empty { codes.old.items ≡ [] }
+    ensures grown { Grown stock.old stock.new }
+    ensures room { HasRoom stock.new }
+    ensures entered { OnOk result (IsEntered stock.old stock.new label.now expr.now codes.new.items) }
+{
+    list_numbers(alloc, stock, expr, codes)?;
+    labelled(alloc, stock, label)
+}
+
+/// Finds the numbers and the parts of an assertion, and notes its label.
+fn enter_assertion(
+    alloc: Global,
+    stock: &mut Stock,
+    draft: &mut Draft,
+    label: &Word,
+    expr: &Words,
+) -> Result<(), AllocError>
+    requires room { HasRoom stock.old }
+    requires fresh { has_name label.now stock.old.labels ≡ false }
+    requires stored { AreStored stock.old }
+    requires next { (s : Statement) × IsLegal (statements_of stock.old) s × (is_assertion s ≡ true) × (expr_of s ≡ expr.now) }
+    requires symbols { draft.old.symbols.items ≡ [] }
+    requires partless { IsPartless draft.old }
+    ensures grown { Grown stock.old stock.new }
+    ensures room { HasRoom stock.new }
+    ensures entered { OnOk result (IsEntered stock.old stock.new label.now expr.now draft.new.symbols.items) }
+    ensures kept { (s : Statement) → IsLegal (statements_of stock.old) s → is_assertion s ≡ true → expr_of s ≡ expr.now → OnOk result (IsKeptOf stock.old draft.new.symbols.items s (drafted draft.new)) }
+    ensures draft { OnOk result (IsDraft draft.new) }
+{
+    list_numbers(alloc, stock, expr, &mut draft.symbols)?;
+    keep(stock, draft)?;
+    labelled(alloc, stock, label)
+}
+
+/// Finds the numbers and the parts of the statement, and puts its names and its label in the storage.
+pub fn enter(
+    alloc: Global,
+    stock: &mut Stock,
+    draft: &mut Draft,
+    stmt: &Stmt,
+) -> Result<(), AllocError>
     requires room { HasRoom stock.old }
     requires fresh { IsFresh stock.old.labels (label_of stmt.now) }
     requires stored { AreStored stock.old }
     requires legal { IsLegal (statements_of stock.old) stmt.now }
+    requires symbols { draft.old.symbols.items ≡ [] }
+    requires partless { IsPartless draft.old }
     ensures grown { Grown stock.old stock.new }
     ensures room { HasRoom stock.new }
-    ensures entered { IfOk result (λ e. Entered stock.old stock.new (bare stmt.now) e) }
+    ensures entered { (h : Before) → IsHead stock.old (bare stmt.now) h → OnOk result (Entered stock.old stock.new (bare stmt.now) (made h draft.new)) }
+    ensures draft { OnOk result (IsDraft draft.new) }
 {
-    let names = stock.names.len();
     match stmt {
-        Stmt::Open => Ok(plain(alloc, stock, Kind::Open)),
-        Stmt::Close => Ok(plain(alloc, stock, Kind::Close)),
-        Stmt::Const(words) => unlabelled(alloc, stock, Kind::Const, words),
-        Stmt::Var(words) => unlabelled(alloc, stock, Kind::Var, words),
-        Stmt::Disj(words) => unlabelled(alloc, stock, Kind::Disj, words),
+        Stmt::Open => Ok(()),
+        Stmt::Close => Ok(()),
+        Stmt::Const(words) => list_numbers(alloc, stock, words, &mut draft.symbols),
+        Stmt::Var(words) => list_numbers(alloc, stock, words, &mut draft.symbols),
+        Stmt::Disj(words) => list_numbers(alloc, stock, words, &mut draft.symbols),
         Stmt::Float {
             label,
             constant,
             variable,
-        } => {
-            let symbols = pair_numbers(alloc, stock, constant, variable)?;
-            labelled(alloc, stock, Kind::Float, label, names, symbols, None)
-        }
+        } => enter_float(alloc, stock, &mut draft.symbols, label, constant, variable),
         Stmt::Ess { label, expr } => {
-            let symbols = expr_numbers(alloc, stock, expr)?;
-            labelled(alloc, stock, Kind::Ess, label, names, symbols, None)
+            enter_essential(alloc, stock, &mut draft.symbols, label, expr)
         }
-        Stmt::Axiom { label, expr } => {
-            let symbols = expr_numbers(alloc, stock, expr)?;
-            let kept = keep(alloc, stock, &symbols)?;
-            labelled(alloc, stock, Kind::Axiom, label, names, symbols, Some(kept))
-        }
+        Stmt::Axiom { label, expr } => enter_assertion(alloc, stock, draft, label, expr),
         Stmt::Prove {
             label,
             expr,
             proof: _,
-        } => {
-            let symbols = expr_numbers(alloc, stock, expr)?;
-            let kept = keep(alloc, stock, &symbols)?;
-            labelled(alloc, stock, Kind::Prove, label, names, symbols, Some(kept))
-        }
+        } => enter_assertion(alloc, stock, draft, label, expr),
     }
 }

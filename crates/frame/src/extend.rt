@@ -5,8 +5,10 @@ ghost use Rattle.scope.specs.Legal.{IsLegal};
 ghost use Rattle.frame.specs.Stored.{AreStored, IsBehind, Extends, statements_of, kind_of};
 
 use crate::declare::{declare, links_after};
-use crate::enter::enter;
-use crate::storage::{Kind, Stock};
+use crate::draft::Draft;
+use crate::enter::{enter, head};
+use crate::kind::Kind;
+use crate::storage::Stock;
 use crate::undo::{note_replaced, take_away};
 use mm_read::Stmt;
 use std::alloc::{AllocError, Global};
@@ -36,7 +38,12 @@ fn kind(stmt: &Stmt) -> Kind
 }
 
 /// Adds the statement behind the others. Where a growth is refused, more may be left behind what was there.
-pub fn extend(alloc: Global, stock: &mut Stock, stmt: &Stmt) -> Result<(), AllocError>
+pub fn extend(
+    alloc: Global,
+    stock: &mut Stock,
+    draft: &mut Draft,
+    stmt: &Stmt,
+) -> Result<(), AllocError>
     requires stored { AreStored stock.old }
     requires legal { IsLegal (statements_of stock.old) stmt.now }
     ensures stored { OnOk result (AreStored stock.new) }
@@ -45,15 +52,14 @@ pub fn extend(alloc: Global, stock: &mut Stock, stmt: &Stmt) -> Result<(), Alloc
     ensures behind { OnErr result (IsBehind stock.old stock.new) }
 {
     let at = stock.entries.len() + 1;
-    let links = links_after(stock, kind(stmt));
-    stock.entries.reserve(1)?;
-    let entry = enter(alloc, stock, stmt)?;
-    note_replaced(&stock.symbols, &entry, &mut stock.replaced)?;
-    declare(&mut stock.symbols, &entry, at);
-    match stock.entries.push(entry) {
-        Ok(()) => {}
-        Err(_) => unreachable!(),
-    }
+    let kind = kind(stmt);
+    let links = links_after(stock, kind);
+    let head = head(stock, kind)?;
+    draft.clear();
+    enter(alloc, stock, draft, stmt)?;
+    note_replaced(&stock.symbols, kind, &draft.symbols, &mut stock.replaced)?;
+    stock.entries.push(head, draft)?;
+    declare(&mut stock.symbols, kind, &draft.symbols, at);
     stock.links = links;
     Ok(())
 }
@@ -85,9 +91,9 @@ pub fn cut(stock: &mut Stock, len: usize)
     ensures names { Extends stock.new.names stock.old.names }
 {
     if len < stock.entries.len() {
-        let first = &stock.entries[len];
-        let names = first.names;
-        let labels = first.label;
+        let first = stock.entries.entry(len);
+        let names = first.names as usize;
+        let labels = first.label as usize;
         let links = first.links;
         take_away(
             &mut stock.symbols,

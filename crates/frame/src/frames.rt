@@ -10,6 +10,8 @@ ghost use Rattle.frame.specs.Reading.{IsMeaning, IsPosition, IsCited, AreLegal};
 ghost use Rattle.frame.specs.Stored.{Extends};
 
 use crate::citation::{Cited, Meaning};
+use crate::draft::Draft;
+use crate::entries::Entries;
 use crate::extend::{cut, extend, roll_back};
 use crate::hypotheses::{hypotheses_at, label_at};
 use crate::links::Links;
@@ -30,6 +32,7 @@ use std::marker::Model;
 pub struct Frames {
     alloc: Global,
     stock: Stock,
+    draft: Draft,
 }
 
 impl Model for Frames {
@@ -58,7 +61,7 @@ impl Frames {
                 positions: Vec::new(alloc),
                 symbols: Vec::new(alloc),
                 replaced: Vec::new(alloc),
-                entries: Vec::new(alloc),
+                entries: Entries::new(alloc),
                 links: Links {
                     block: 0,
                     essential: 0,
@@ -66,6 +69,7 @@ impl Frames {
                     disjoint: 0,
                 },
             },
+            draft: Draft::new(alloc),
         }
     }
 
@@ -93,7 +97,7 @@ impl Frames {
         let names = self.stock.names.len();
         let labels = self.stock.labels.len();
         let replaced = self.stock.replaced.len();
-        let result = extend(self.alloc, &mut self.stock, stmt);
+        let result = extend(self.alloc, &mut self.stock, &mut self.draft, stmt);
         if result.is_err() {
             roll_back(&mut self.stock, names, labels, replaced);
         }

@@ -6,7 +6,8 @@ ghost use Rattle.frame.specs.FrameOf.{HasAssertion, hypotheses};
 ghost use Rattle.frame.specs.Labels.{is_label_kind};
 ghost use Rattle.frame.specs.Stored.{AreStored, statements_of};
 
-use crate::storage::{Kind, Stock};
+use crate::kind::Kind;
+use crate::storage::Stock;
 
 /// The mandatory hypotheses of the assertion at a position.
 pub fn hypotheses_at(stock: &Stock, a: usize) -> &[usize]
@@ -14,10 +15,7 @@ pub fn hypotheses_at(stock: &Stock, a: usize) -> &[usize]
     requires assertion { (s : Statement) × HasAssertion (statements_of stock.now) a s }
     ensures { (s : Statement) → stmt_at (statements_of stock.now) a ≡ Some s → result.now ≡ hypotheses (before (statements_of stock.now) a) s }
 {
-    match &stock.entries[a - 1].assertion {
-        Some(kept) => kept.hypotheses.as_slice(),
-        None => unreachable!(),
-    }
+    stock.entries.hypotheses(a - 1)
 }
 
 /// The label of the statement at a position.
@@ -26,9 +24,9 @@ pub fn label_at(stock: &Stock, at: usize) -> Option<&[u8]>
     requires place { (1 ≤ at) × (at ≤ length (statements_of stock.now)) }
     ensures { (s : Statement) → stmt_at (statements_of stock.now) at ≡ Some s → option_map (λ r. r.now) result ≡ label_of s }
 {
-    let entry = &stock.entries[at - 1];
+    let entry = stock.entries.entry(at - 1);
     if is_labelled(entry.kind) {
-        Some(stock.labels.name(entry.label))
+        Some(stock.labels.name(entry.label as usize))
     } else {
         None
     }

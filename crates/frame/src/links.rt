@@ -4,11 +4,11 @@
 #[derive(Clone, Copy, Drop)]
 pub struct Links {
     /// `${`
-    pub block: usize,
+    pub block: u32,
     /// `$e`
-    pub essential: usize,
+    pub essential: u32,
     /// `$v`
-    pub variable: usize,
+    pub variable: u32,
     /// `$d`
-    pub disjoint: usize,
+    pub disjoint: u32,
 }

@@ -1,139 +1,158 @@
 //! The parts of an assertion by the places of its hypotheses.
 ghost use Rattle.std.specs.Prelude.{◌≡◌, ◌+◌, ◌<◌, ◌^◌, ◌++◌, ◌∷◌, [], true, if◌then◌else◌, length, map, flat_map, OnOk, IfOk};
-ghost use Rattle.scope.specs.Active.{bare};
 ghost use Rattle.frame.specs.ByPlaces.{AreBelow};
+ghost use Rattle.frame.specs.Entries.{IsPartless, IsDraft, drafted};
 ghost use Rattle.frame.specs.Links.{actives, is_disj};
-ghost use Rattle.frame.specs.Stored.{AreStored, AreHypotheses, ArePatterns, IsPatternOf, HasTwo, is_hypothesis_entry, own_template, template_at, has_two, AreParts, collected, statements_of, variable_at, symbols_at, groups_by};
+ghost use Rattle.frame.specs.Spans.{cut, AreSpansIn};
+ghost use Rattle.frame.specs.Stored.{AreStored, AreHypotheses, ArePatterns, IsPatternBy, HasTwo, is_hypothesis_entry, template_by, template_at, has_two, AreParts, collected, statements_of, variable_at, symbols_at, groups_by, places_of};
 
 use crate::citation::Pattern;
+use crate::draft::Draft;
+use crate::entry::EntryRef;
+use crate::kind::Kind;
 use crate::mandatory::mandatory;
 use crate::numbers::NAMES_LIMIT;
-use crate::storage::{Assertion, Entry, Kind, Stock};
-use crate::templates::{add_template, places, variable_of};
-use std::alloc::{AllocError, Global};
+use crate::span::{Span, between};
+use crate::storage::Stock;
+use crate::templates::{add_places, add_template, variable_of};
+use std::alloc::AllocError;
 
-/// The variables of the hypotheses, at their places.
+/// Adds the variables of the hypotheses, at their places.
 fn variables(
-    alloc: Global,
     stock: &Stock,
     hypotheses: &[usize],
-) -> Result<Vec<Option<u32>>, AllocError>
-    requires { AreHypotheses stock.now.entries.items hypotheses.now }
-    ensures { IfOk result (λ v. v.items ≡ map (variable_at stock.now.entries.items) hypotheses.now) }
+    found: &mut Vec<Option<u32>>,
+) -> Result<(), AllocError>
+    requires hypotheses { AreHypotheses stock.now.entries hypotheses.now }
+    requires empty { found.old.items ≡ [] }
+    ensures { OnOk result (found.new.items ≡ map (variable_at stock.now.entries) hypotheses.now) }
 {
-    let mut found = Vec::new(alloc);
     for position in hypotheses {
-        found.push(variable_of(&stock.entries[*position - 1]))?;
+        found.push(variable_of(stock.entries.entry(*position - 1)))?;
     }
-    Ok(found)
+    Ok(())
 }
 
 /// The pattern of a hypothesis, and its template behind the others if it is essential.
 fn pattern(
-    entry: &Entry,
+    entry: EntryRef<'_>,
     variables: &[Option<u32>],
     templates: &mut Vec<u32>,
 ) -> Result<Pattern, AllocError>
     requires few { length variables.now < 2 ^ 31 }
-    requires kind { is_hypothesis_entry entry.now.kind ≡ true }
-    requires two { HasTwo entry.now.kind entry.now.symbols.items }
-    requires codes { AreBelow (2 ^ 31) entry.now.symbols.items }
-    ensures pattern { IfOk result (IsPatternOf variables.now templates.new.items entry.now) }
-    ensures template { OnOk result (templates.new.items ≡ templates.old.items ++ own_template variables.now entry.now) }
+    requires kind { is_hypothesis_entry entry.kind ≡ true }
+    requires two { HasTwo entry.kind entry.symbols.now }
+    requires codes { AreBelow (2 ^ 31) entry.symbols.now }
+    ensures pattern { IfOk result (IsPatternBy variables.now templates.new.items entry.entry.kind entry.entry.symbols.now) }
+    ensures template { OnOk result (templates.new.items ≡ templates.old.items ++ template_by variables.now entry.entry.kind entry.entry.symbols.now) }
 {
     match entry.kind {
         Kind::Float => Ok(Pattern::Typed(entry.symbols[0])),
         _ => {
             let from = templates.len();
-            add_template(variables, &entry.symbols, templates)?;
+            add_template(variables, entry.symbols, templates)?;
             Ok(Pattern::Full(from, templates.len()))
         }
     }
 }
 
-/// The patterns of the hypotheses, with the templates of the essential ones.
+/// Adds the patterns of the hypotheses, and the templates of the essential ones.
 fn patterns(
-    alloc: Global,
     stock: &Stock,
     hypotheses: &[usize],
     variables: &[Option<u32>],
     templates: &mut Vec<u32>,
-) -> Result<Vec<Pattern>, AllocError>
+    found: &mut Vec<Pattern>,
+) -> Result<(), AllocError>
     requires stored { AreStored stock.now }
-    requires hypotheses { AreHypotheses stock.now.entries.items hypotheses.now }
+    requires hypotheses { AreHypotheses stock.now.entries hypotheses.now }
     requires few { length variables.now < 2 ^ 31 }
-    requires empty { templates.old.items ≡ [] }
-    ensures patterns { IfOk result (λ v. ArePatterns stock.now.entries.items variables.now templates.new.items hypotheses.now v.items) }
-    ensures templates { OnOk result (templates.new.items ≡ flat_map (template_at stock.now.entries.items variables.now) hypotheses.now) }
+    requires no_templates { templates.old.items ≡ [] }
+    requires no_patterns { found.old.items ≡ [] }
+    ensures patterns { OnOk result (ArePatterns stock.now.entries variables.now templates.new.items hypotheses.now found.new.items) }
+    ensures templates { OnOk result (templates.new.items ≡ flat_map (template_at stock.now.entries variables.now) hypotheses.now) }
 {
-    let mut found = Vec::new(alloc);
     for position in hypotheses {
-        let next = pattern(&stock.entries[*position - 1], variables, templates)?;
+        let next = pattern(stock.entries.entry(*position - 1), variables, templates)?;
         found.push(next)?;
-    }
-    Ok(found)
-}
-
-/// The groups of places that are kept apart, from the active `$d`.
-fn groups(
-    alloc: Global,
-    stock: &Stock,
-    variables: &[Option<u32>],
-) -> Result<Vec<Vec<u32>>, AllocError>
-    requires stored { AreStored stock.now }
-    requires few { length variables.now < 2 ^ 31 }
-    ensures { IfOk result (λ v. map (λ g. g.items) v.items ≡ groups_by variables.now (map (λ q. symbols_at stock.now.entries.items q.0) (actives is_disj (statements_of stock.now)))) }
-{
-    let mut found = Vec::new(alloc);
-    let mut last = stock.links.disjoint;
-    while last != 0 {
-        let entry = &stock.entries[last - 1];
-        let group = places(alloc, variables, &entry.symbols)?;
-        keep(&mut found, group)?;
-        last = entry.links.disjoint;
-    }
-    found.reverse();
-    Ok(found)
-}
-
-/// Keeps a group of two places or more.
-fn keep(found: &mut Vec<Vec<u32>>, group: Vec<u32>) -> Result<(), AllocError>
-    ensures { OnOk result (map (λ g. g.items) found.new.items ≡ (if has_two group.items then map (λ g. g.items) found.old.items ++ group.items ∷ [] else map (λ g. g.items) found.old.items)) }
-{
-    if group.len() > 1 {
-        found.push(group)?;
     }
     Ok(())
 }
 
-/// The parts of an assertion with these symbols and mandatory hypotheses behind all statements.
-pub fn assertion(alloc: Global, stock: &Stock, codes: &[u32]) -> Result<Assertion, AllocError>
+/// Adds the groups of places that are kept apart, from the active `$d`.
+fn groups(
+    stock: &Stock,
+    variables: &[Option<u32>],
+    places: &mut Vec<u32>,
+    groups: &mut Vec<Span>,
+) -> Result<(), AllocError>
     requires stored { AreStored stock.now }
-    requires codes { AreBelow (length stock.now.names) codes.now }
-    requires hypotheses { AreHypotheses stock.now.entries.items (collected stock.now.entries.items (statements_of stock.now) codes.now) }
-    ensures { IfOk result (AreParts stock.now.entries.items (statements_of stock.now) codes.now) }
+    requires few { length variables.now < 2 ^ 31 }
+    requires empty { groups.old.items ≡ [] }
+    ensures groups { OnOk result (cut places.new.items groups.new.items ≡ groups_by variables.now (map (λ q. symbols_at stock.now.entries q.0) (actives is_disj (statements_of stock.now)))) }
+    ensures within { OnOk result (AreSpansIn (length places.new.items) groups.new.items) }
 {
-    let hypotheses = mandatory(alloc, stock, codes)?;
-    if hypotheses.len() >= NAMES_LIMIT {
+    let mut last = stock.links.disjoint;
+    while last != 0 {
+        let entry = stock.entries.entry(last as usize - 1);
+        add_group(variables, entry.symbols, places, groups)?;
+        last = entry.links.disjoint;
+    }
+    groups.reverse();
+    Ok(())
+}
+
+/// Adds the group of those of the symbols that have a place, where they are two or more.
+fn add_group(
+    variables: &[Option<u32>],
+    codes: &[u32],
+    places: &mut Vec<u32>,
+    groups: &mut Vec<Span>,
+) -> Result<(), AllocError>
+    requires few { length variables.now < 2 ^ 31 }
+    requires within { AreSpansIn (length places.old.items) groups.old.items }
+    ensures added { OnOk result (cut places.new.items groups.new.items ≡ (if has_two (places_of variables.now codes.now) then cut places.old.items groups.old.items ++ places_of variables.now codes.now ∷ [] else cut places.old.items groups.old.items)) }
+    ensures within { OnOk result (AreSpansIn (length places.new.items) groups.new.items) }
+{
+    let from = places.len();
+    add_places(variables, codes, places)?;
+    let to = places.len();
+    if to > from + 1 {
+        let span = between(from, to)?;
+        groups.push(span)?;
+    } else {
+        places.truncate(from);
+    }
+    Ok(())
+}
+
+/// Finds the parts of an assertion with the symbols of the draft, which come behind all statements.
+pub fn assertion(stock: &Stock, draft: &mut Draft) -> Result<(), AllocError>
+    requires stored { AreStored stock.now }
+    requires codes { AreBelow (length stock.now.names) draft.old.symbols.items }
+    requires hypotheses { AreHypotheses stock.now.entries (collected stock.now.entries (statements_of stock.now) draft.old.symbols.items) }
+    requires partless { IsPartless draft.old }
+    ensures parts { OnOk result (AreParts stock.now.entries (statements_of stock.now) draft.old.symbols.items (drafted draft.new)) }
+    ensures draft { OnOk result (IsDraft draft.new) }
+    ensures symbols { draft.new.symbols.items ≡ draft.old.symbols.items }
+{
+    mandatory(stock, &draft.symbols, &mut draft.hypotheses)?;
+    if draft.hypotheses.len() >= NAMES_LIMIT {
         return Err(AllocError);
     }
-    let variables = variables(alloc, stock, hypotheses.as_slice())?;
-    let mut templates = Vec::new(alloc);
-    let patterns = patterns(
-        alloc,
+    variables(stock, &draft.hypotheses, &mut draft.variables)?;
+    patterns(
         stock,
-        hypotheses.as_slice(),
-        &variables,
-        &mut templates,
+        &draft.hypotheses,
+        &draft.variables,
+        &mut draft.templates,
+        &mut draft.patterns,
     )?;
-    let mut conclusion = Vec::new(alloc);
-    add_template(&variables, codes, &mut conclusion)?;
-    let groups = groups(alloc, stock, &variables)?;
-    Ok(Assertion {
-        hypotheses,
-        patterns,
-        templates,
-        conclusion,
-        groups,
-    })
+    add_template(&draft.variables, &draft.symbols, &mut draft.conclusion)?;
+    groups(
+        stock,
+        &draft.variables,
+        &mut draft.places,
+        &mut draft.groups,
+    )
 }

@@ -1,13 +1,12 @@
 //! The mandatory hypotheses of an assertion, found by the symbols that it uses.
-ghost use Rattle.std.specs.Prelude.{◌≡◌, ◌+◌, ◌≤◌, ◌<◌, [], length, OnOk, IfOk, MatchOption};
+ghost use Rattle.std.specs.Prelude.{◌≡◌, ◌+◌, ◌≤◌, ◌<◌, [], length, OnOk, MatchOption};
 ghost use Rattle.std.specs.List.{insert};
 ghost use Rattle.frame.specs.ByPlaces.{AreBelow};
 ghost use Rattle.frame.specs.Stored.{AreStored, statements_of, inserted, with_float, with_floats, collected};
 
 use crate::reading::is_active_at;
 use crate::storage::Stock;
-use smallvec::SmallVec;
-use std::alloc::{AllocError, Global};
+use std::alloc::AllocError;
 
 /// Where a position goes in a list of positions in order; none where it is there.
 fn place_in(list: &[usize], position: usize) -> Option<usize>
@@ -25,10 +24,10 @@ fn place_in(list: &[usize], position: usize) -> Option<usize>
 }
 
 /// Puts a position in its place, once.
-fn put(list: &mut SmallVec<usize, 8>, position: usize) -> Result<(), AllocError>
+fn put(list: &mut Vec<usize>, position: usize) -> Result<(), AllocError>
     ensures { OnOk result (list.new.items ≡ inserted position list.old.items) }
 {
-    match place_in(list.as_slice(), position) {
+    match place_in(list, position) {
         None => Ok(()),
         Some(i) => {
             list.insert(i, position)?;
@@ -38,10 +37,10 @@ fn put(list: &mut SmallVec<usize, 8>, position: usize) -> Result<(), AllocError>
 }
 
 /// Puts in the `$f` of a symbol that is active behind all statements, if there is one.
-fn put_float(stock: &Stock, list: &mut SmallVec<usize, 8>, code: u32) -> Result<(), AllocError>
+fn put_float(stock: &Stock, list: &mut Vec<usize>, code: u32) -> Result<(), AllocError>
     requires stored { AreStored stock.now }
     requires code { code < length stock.now.names }
-    ensures { OnOk result (list.new.items ≡ with_float stock.now.entries.items (statements_of stock.now) code list.old.items) }
+    ensures { OnOk result (list.new.items ≡ with_float stock.now.entries (statements_of stock.now) code list.old.items) }
 {
     let float = stock.symbols[code as usize].float;
     if float == 0 {
@@ -55,10 +54,10 @@ fn put_float(stock: &Stock, list: &mut SmallVec<usize, 8>, code: u32) -> Result<
 }
 
 /// Puts in the active `$f` of each of the symbols.
-fn put_floats(stock: &Stock, list: &mut SmallVec<usize, 8>, codes: &[u32]) -> Result<(), AllocError>
+fn put_floats(stock: &Stock, list: &mut Vec<usize>, codes: &[u32]) -> Result<(), AllocError>
     requires stored { AreStored stock.now }
     requires codes { AreBelow (length stock.now.names) codes.now }
-    ensures { OnOk result (list.new.items ≡ with_floats stock.now.entries.items (statements_of stock.now) codes.now list.old.items) }
+    ensures { OnOk result (list.new.items ≡ with_floats stock.now.entries (statements_of stock.now) codes.now list.old.items) }
 {
     for code in codes {
         put_float(stock, list, *code)?;
@@ -66,26 +65,22 @@ fn put_floats(stock: &Stock, list: &mut SmallVec<usize, 8>, codes: &[u32]) -> Re
     Ok(())
 }
 
-/// The positions of the mandatory hypotheses of an assertion with these symbols behind all statements, in order.
+/// Adds the positions of the mandatory hypotheses of an assertion with these symbols behind all statements, in order.
 ///
 /// Cost: the symbols of the assertion and of the active `$e`.
-pub fn mandatory(
-    alloc: Global,
-    stock: &Stock,
-    codes: &[u32],
-) -> Result<SmallVec<usize, 8>, AllocError>
+pub fn mandatory(stock: &Stock, codes: &[u32], list: &mut Vec<usize>) -> Result<(), AllocError>
     requires stored { AreStored stock.now }
     requires codes { AreBelow (length stock.now.names) codes.now }
-    ensures { IfOk result (λ list. list.items ≡ collected stock.now.entries.items (statements_of stock.now) codes.now) }
+    requires empty { list.old.items ≡ [] }
+    ensures { OnOk result (list.new.items ≡ collected stock.now.entries (statements_of stock.now) codes.now) }
 {
-    let mut list = SmallVec::new(alloc);
-    put_floats(stock, &mut list, codes)?;
+    put_floats(stock, list, codes)?;
     let mut essential = stock.links.essential;
     while essential != 0 {
-        put(&mut list, essential)?;
-        let entry = &stock.entries[essential - 1];
-        put_floats(stock, &mut list, &entry.symbols)?;
+        put(list, essential as usize)?;
+        let entry = stock.entries.entry(essential as usize - 1);
+        put_floats(stock, list, entry.symbols)?;
         essential = entry.links.essential;
     }
-    Ok(list)
+    Ok(())
 }

@@ -48,26 +48,27 @@ pub fn number(
     Ok(code as u32)
 }
 
-/// The numbers of the symbols of a list.
+/// Adds the numbers of the symbols of a list to codes, of which there are none.
 pub fn numbers(
     alloc: Global,
     names: &mut Names,
     symbols: &mut Vec<Symbol>,
     words: &Words,
-) -> Result<Vec<u32>, AllocError>
+    codes: &mut Vec<u32>,
+) -> Result<(), AllocError>
     requires count { length symbols.old.items ≡ length names.old }
     requires few { length names.old < 2 ^ 31 }
-    ensures codes { IfOk result (λ v. AreBelow (length names.new) v.items) }
-    ensures stand { IfOk result (λ v. decode names.new v.items ≡ words.now) }
+    requires empty { codes.old.items ≡ [] }
+    ensures codes { OnOk result (AreBelow (length names.new) codes.new.items) }
+    ensures stand { OnOk result (decode names.new codes.new.items ≡ words.now) }
     ensures names { Extends names.old names.new }
     ensures symbols { AreZeroBehind symbols.old.items symbols.new.items }
     ensures count { length symbols.new.items ≡ length names.new }
     ensures few { length names.new < 2 ^ 31 }
 {
-    let mut codes = Vec::new(alloc);
     for word in words.iter() {
         let code = number(alloc, names, symbols, word)?;
         codes.push(code)?;
     }
-    Ok(codes)
+    Ok(())
 }

@@ -78,8 +78,8 @@ fn stand_together(stock: &Stock, at: usize, x: u32, y: u32) -> bool
 {
     let mut last = links_at(stock, at).disjoint;
     while last != 0 {
-        let entry = &stock.entries[last - 1];
-        if contains_both(&entry.symbols, x, y) {
+        let entry = stock.entries.entry(last as usize - 1);
+        if contains_both(entry.symbols, x, y) {
             return true;
         }
         last = entry.links.disjoint;
@@ -125,8 +125,8 @@ fn is_listed_at(stock: &Stock, at: usize, x: u32) -> bool
 {
     let mut last = links_at(stock, at).variable;
     while last != 0 {
-        let entry = &stock.entries[last - 1];
-        if contains(&entry.symbols, x) {
+        let entry = stock.entries.entry(last as usize - 1);
+        if contains(entry.symbols, x) {
             return true;
         }
         last = entry.links.variable;

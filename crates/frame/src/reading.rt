@@ -10,8 +10,9 @@ ghost use Rattle.frame.specs.Links.{last_active, links_of};
 ghost use Rattle.frame.specs.Stored.{AreStored, statements_of, IsPlain, IsHypothesisAt};
 
 use crate::citation::{Cited, Meaning};
+use crate::kind::Kind;
 use crate::links::Links;
-use crate::storage::{Assertion, Kind, Stock};
+use crate::storage::Stock;
 
 /// What is active before the statement at `at`, or at the end.
 pub fn links_at(stock: &Stock, at: usize) -> Links
@@ -20,7 +21,7 @@ pub fn links_at(stock: &Stock, at: usize) -> Links
     ensures { result ≡ links_of (take (at - 1) (statements_of stock.now)) }
 {
     if at <= stock.entries.len() {
-        stock.entries[at - 1].links
+        stock.entries.entry(at - 1).links
     } else {
         stock.links
     }
@@ -36,8 +37,8 @@ pub fn is_active_at(stock: &Stock, i: usize, at: usize) -> bool
     ensures { result ≡ is_active (statements_of stock.now) i at }
 {
     let mut block = links_at(stock, at).block;
-    while block > i {
-        block = links_at(stock, block).block;
+    while block as usize > i {
+        block = links_at(stock, block as usize).block;
     }
     links_at(stock, i).block == block
 }
@@ -49,12 +50,12 @@ pub fn expr_at(stock: &Stock, at: usize) -> &[u32]
     ensures same { (s : Statement) → stmt_at (statements_of stock.now) at ≡ Some s → decode stock.now.names result.now ≡ expr_of s }
     ensures codes { AreBelow (length stock.now.names) result.now }
 {
-    let entry = &stock.entries[at - 1];
+    let entry = stock.entries.entry(at - 1);
     match entry.kind {
-        Kind::Float => entry.symbols.as_slice(),
-        Kind::Ess => entry.symbols.as_slice(),
-        Kind::Axiom => entry.symbols.as_slice(),
-        Kind::Prove => entry.symbols.as_slice(),
+        Kind::Float => entry.symbols,
+        Kind::Ess => entry.symbols,
+        Kind::Axiom => entry.symbols,
+        Kind::Prove => entry.symbols,
         _ => &[],
     }
 }
@@ -68,7 +69,7 @@ pub fn meaning_at(stock: &Stock, at: usize, i: usize) -> Meaning<'_>
     if i == 0 || i >= at {
         return Meaning::Nothing;
     }
-    match stock.entries[i - 1].kind {
+    match stock.entries.entry(i - 1).kind {
         Kind::Float => hypothesis_at(stock, at, i),
         Kind::Ess => hypothesis_at(stock, at, i),
         Kind::Axiom => Meaning::Assertion,
@@ -98,22 +99,5 @@ pub fn cited_at(stock: &Stock, a: usize) -> Cited<'_>
     requires assertion { (s : Statement) × HasAssertion (statements_of stock.now) a s }
     ensures { (s : Statement) → stmt_at (statements_of stock.now) a ≡ Some s → IsCited (statements_of stock.now) stock.now.names a s result }
 {
-    match &stock.entries[a - 1].assertion {
-        Some(kept) => parts(kept),
-        None => unreachable!(),
-    }
-}
-
-fn parts(kept: &Box<Assertion>) -> Cited<'_>
-    ensures patterns { result.patterns.now ≡ kept.now.value.patterns.items }
-    ensures templates { result.templates.now ≡ kept.now.value.templates.items }
-    ensures conclusion { result.conclusion.now ≡ kept.now.value.conclusion.items }
-    ensures groups { result.groups.now ≡ kept.now.value.groups.items }
-{
-    Cited {
-        patterns: &kept.patterns,
-        templates: &kept.templates,
-        conclusion: &kept.conclusion,
-        groups: &kept.groups,
-    }
+    stock.entries.cited(a - 1)
 }

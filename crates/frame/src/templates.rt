@@ -1,15 +1,16 @@
 //! Expressions in which a variable is known by its place among the hypotheses.
-ghost use Rattle.std.specs.Prelude.{◌≡◌, ◌+◌, ◌<◌, ◌^◌, ◌++◌, length, OnOk, IfOk, IfSome};
+ghost use Rattle.std.specs.Prelude.{◌≡◌, ◌+◌, ◌<◌, ◌^◌, ◌++◌, length, OnOk, IfSome};
 ghost use Rattle.std.specs.Option.{option_to_list};
 ghost use Rattle.frame.specs.ByPlaces.{AreBelow};
 ghost use Rattle.frame.specs.Stored.{place_of, template_number, templated, places_of, variable_by};
 
-use crate::storage::{Entry, Kind};
-use std::alloc::{AllocError, Global};
+use crate::entry::EntryRef;
+use crate::kind::Kind;
+use std::alloc::AllocError;
 
 /// The variable of a `$f`.
-pub fn variable_of(entry: &Entry) -> Option<u32>
-    ensures { result ≡ variable_by entry.now.kind entry.now.symbols.items }
+pub fn variable_of(entry: EntryRef<'_>) -> Option<u32>
+    ensures { result ≡ variable_by entry.entry.kind entry.entry.symbols.now }
 {
     match entry.kind {
         Kind::Float => entry.symbols.get(1).copied(),
@@ -60,20 +61,19 @@ pub fn add_template(
     Ok(())
 }
 
-/// The places of those of the variables that have one.
-pub fn places(
-    alloc: Global,
+/// Adds the places of those of the variables that have one.
+pub fn add_places(
     variables: &[Option<u32>],
     codes: &[u32],
-) -> Result<Vec<u32>, AllocError>
+    places: &mut Vec<u32>,
+) -> Result<(), AllocError>
     requires few { length variables.now < 2 ^ 31 }
-    ensures { IfOk result (λ v. v.items ≡ places_of variables.now codes.now) }
+    ensures added { OnOk result (places.new.items ≡ places.old.items ++ places_of variables.now codes.now) }
 {
-    let mut found = Vec::new(alloc);
     for code in codes {
-        add_place(place(variables, *code), &mut found)?;
+        add_place(place(variables, *code), places)?;
     }
-    Ok(found)
+    Ok(())
 }
 
 /// Adds a place, where there is one.

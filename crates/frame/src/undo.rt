@@ -3,28 +3,31 @@ ghost use Rattle.std.specs.Prelude.{◌≡◌, ℕ, ◌<◌, ◌≤◌, ◌==◌
 ghost use Rattle.std.specs.List.{list_any};
 ghost use Rattle.frame.specs.ByPlaces.{AreBelow};
 ghost use Rattle.frame.specs.declared.storage.Symbol.{Symbol as Declared};
-ghost use Rattle.frame.specs.Stored.{AreNumbered, Extends, HasTwo, ReadsAs, replaced_by, replaced_of, symbol_of, with_entry};
+ghost use Rattle.frame.specs.Stored.{AreNumbered, Extends, HasTwo, ReadsAs, replaced_by, replaced_of, symbol_of, with_declared};
 
-use crate::storage::{Entry, Kind, Symbol};
+use crate::entries::Entries;
+use crate::kind::Kind;
+use crate::storage::Symbol;
 use std::alloc::AllocError;
 
-/// Notes what an entry replaces as the last declarations of its symbols.
+/// Notes what a statement of this kind with these symbols replaces as their last declarations.
 pub fn note_replaced(
     symbols: &[Symbol],
-    entry: &Entry,
+    kind: Kind,
+    codes: &[u32],
     replaced: &mut Vec<usize>,
 ) -> Result<(), AllocError>
-    requires below { AreBelow (length symbols.now) entry.now.symbols.items }
-    requires two { HasTwo entry.now.kind entry.now.symbols.items }
-    ensures noted { OnOk result ((x : ℕ → Declared) → ReadsAs symbols.now x → replaced.new.items ≡ replaced.old.items ++ replaced_by x entry.now.kind entry.now.symbols.items) }
+    requires below { AreBelow (length symbols.now) codes.now }
+    requires two { HasTwo kind codes.now }
+    ensures noted { OnOk result ((x : ℕ → Declared) → ReadsAs symbols.now x → replaced.new.items ≡ replaced.old.items ++ replaced_by x kind codes.now) }
     ensures behind { Extends replaced.old.items replaced.new.items }
 {
-    match entry.kind {
+    match kind {
         Kind::Float => {
-            replaced.push(symbols[entry.symbols[1] as usize].float)?;
+            replaced.push(symbols[codes[1] as usize].float)?;
             Ok(())
         }
-        Kind::Var => note_variables(symbols, &entry.symbols, replaced),
+        Kind::Var => note_variables(symbols, codes, replaced),
         _ => Ok(()),
     }
 }
@@ -49,66 +52,66 @@ fn note_variables(
 pub fn take_away(
     symbols: &mut Vec<Symbol>,
     replaced: &mut Vec<usize>,
-    entries: &mut Vec<Entry>,
+    entries: &mut Entries,
     len: usize,
 )
-    requires within { len ≤ length entries.old.items }
-    requires numbered { (m : ℕ) × AreNumbered (length symbols.old.items) m entries.old.items }
-    requires declared { ReadsAs symbols.old.items (symbol_of entries.old.items) }
-    requires noted { replaced.old.items ≡ replaced_of entries.old.items }
-    ensures entries { entries.new.items ≡ take len entries.old.items }
-    ensures declared { ReadsAs symbols.new.items (symbol_of entries.new.items) }
-    ensures noted { replaced.new.items ≡ replaced_of entries.new.items }
+    requires within { len ≤ length entries.old }
+    requires numbered { (m : ℕ) × AreNumbered (length symbols.old.items) m entries.old }
+    requires declared { ReadsAs symbols.old.items (symbol_of entries.old) }
+    requires noted { replaced.old.items ≡ replaced_of entries.old }
+    ensures entries { entries.new ≡ take len entries.old }
+    ensures declared { ReadsAs symbols.new.items (symbol_of entries.new) }
+    ensures noted { replaced.new.items ≡ replaced_of entries.new }
     ensures count { length symbols.new.items ≡ length symbols.old.items }
 {
     while entries.len() > len {
-        match entries.pop() {
-            Some(entry) => take_back(symbols, replaced, entry),
-            None => unreachable!(),
-        }
+        let last = entries.len() - 1;
+        let entry = entries.entry(last);
+        take_back(symbols, replaced, entry.kind, entry.symbols);
+        entries.truncate(last);
     }
 }
 
-/// Takes back what an entry declared: what it replaced was noted last.
-fn take_back(symbols: &mut Vec<Symbol>, replaced: &mut Vec<usize>, entry: Entry)
-    requires below { AreBelow (length symbols.old.items) entry.symbols.items }
-    requires two { HasTwo entry.kind entry.symbols.items }
-    requires noted { (front : List ℕ) × (x : ℕ → Declared) × (replaced.old.items ≡ front ++ replaced_by x entry.kind entry.symbols.items) }
-    ensures replaced { (front : List ℕ) (x : ℕ → Declared) → replaced.old.items ≡ front ++ replaced_by x entry.kind entry.symbols.items → replaced.new.items ≡ front }
-    ensures symbols { (front : List ℕ) (x : ℕ → Declared) (at : ℕ) → replaced.old.items ≡ front ++ replaced_by x entry.kind entry.symbols.items → ReadsAs symbols.old.items (λ c. with_entry entry at c (x c)) → ReadsAs symbols.new.items x }
+/// Takes back what a statement declared: what it replaced was noted last.
+fn take_back(symbols: &mut Vec<Symbol>, replaced: &mut Vec<usize>, kind: Kind, codes: &[u32])
+    requires below { AreBelow (length symbols.old.items) codes.now }
+    requires two { HasTwo kind codes.now }
+    requires noted { (front : List ℕ) × (x : ℕ → Declared) × (replaced.old.items ≡ front ++ replaced_by x kind codes.now) }
+    ensures replaced { (front : List ℕ) (x : ℕ → Declared) → replaced.old.items ≡ front ++ replaced_by x kind codes.now → replaced.new.items ≡ front }
+    ensures symbols { (front : List ℕ) (x : ℕ → Declared) (at : ℕ) → replaced.old.items ≡ front ++ replaced_by x kind codes.now → ReadsAs symbols.old.items (λ c. with_declared kind codes.now at c (x c)) → ReadsAs symbols.new.items x }
     ensures count { length symbols.new.items ≡ length symbols.old.items }
 {
-    let from = replaced.len() - count_replaced(&entry);
-    restore(symbols, &entry, &replaced[from..]);
+    let from = replaced.len() - count_replaced(kind, codes);
+    restore(symbols, kind, codes, &replaced[from..]);
     replaced.truncate(from);
 }
 
-/// How many declarations an entry replaces.
-fn count_replaced(entry: &Entry) -> usize
-    requires { HasTwo entry.now.kind entry.now.symbols.items }
-    ensures { (x : ℕ → Declared) → length (replaced_by x entry.now.kind entry.now.symbols.items) ≡ result }
+/// How many declarations a statement replaces.
+fn count_replaced(kind: Kind, codes: &[u32]) -> usize
+    requires { HasTwo kind codes.now }
+    ensures { (x : ℕ → Declared) → length (replaced_by x kind codes.now) ≡ result }
 {
-    match entry.kind {
+    match kind {
         Kind::Float => 1,
-        Kind::Var => entry.symbols.len(),
+        Kind::Var => codes.len(),
         _ => 0,
     }
 }
 
-/// The declarations that an entry replaced are the last ones again.
-fn restore(symbols: &mut Vec<Symbol>, entry: &Entry, replaced: &[usize])
-    requires below { AreBelow (length symbols.old.items) entry.now.symbols.items }
-    requires two { HasTwo entry.now.kind entry.now.symbols.items }
-    requires noted { (x : ℕ → Declared) × (replaced.now ≡ replaced_by x entry.now.kind entry.now.symbols.items) }
-    ensures symbols { (x : ℕ → Declared) (at : ℕ) → replaced.now ≡ replaced_by x entry.now.kind entry.now.symbols.items → ReadsAs symbols.old.items (λ c. with_entry entry.now at c (x c)) → ReadsAs symbols.new.items x }
+/// The declarations that a statement replaced are the last ones again.
+fn restore(symbols: &mut Vec<Symbol>, kind: Kind, codes: &[u32], replaced: &[usize])
+    requires below { AreBelow (length symbols.old.items) codes.now }
+    requires two { HasTwo kind codes.now }
+    requires noted { (x : ℕ → Declared) × (replaced.now ≡ replaced_by x kind codes.now) }
+    ensures symbols { (x : ℕ → Declared) (at : ℕ) → replaced.now ≡ replaced_by x kind codes.now → ReadsAs symbols.old.items (λ c. with_declared kind codes.now at c (x c)) → ReadsAs symbols.new.items x }
     ensures count { length symbols.new.items ≡ length symbols.old.items }
 {
-    match entry.kind {
+    match kind {
         Kind::Float => {
-            let symbol = &mut symbols[entry.symbols[1] as usize];
+            let symbol = &mut symbols[codes[1] as usize];
             symbol.float = replaced[0];
         }
-        Kind::Var => restore_variables(symbols, &entry.symbols, replaced),
+        Kind::Var => restore_variables(symbols, codes, replaced),
         _ => {}
     }
 }

@@ -1,8 +1,9 @@
 -- Tests on every element of a list that a loop goes through.
-use Rattle.std.specs.Prelude.{◌≡◌, ℕ, ◌+◌, ◌<◌, Bool, true, false, not, ◌||◌, ◌==◌, List, [], ◌∷◌, zero, suc, ◌&&◌, length, map, drop, get_or, refl}
+use Rattle.std.specs.Prelude.{◌≡◌, ℕ, ◌+◌, ◌<◌, Bool, true, false, not, ◌||◌, ◌==◌, List, [], ◌∷◌, zero, suc, ◌&&◌, length, map, drop, get_or, refl, slice_get, Some, take}
 use Rattle.std.specs.List.{list_all, list_any}
 use Rattle.std.proofs.Common.{sym, ◌∙◌, ap, subst, arith}
-use Rattle.std.proofs.lemmas.List.Folds.{list_all-map, list_all_at}
+use Rattle.std.proofs.lemmas.List.Folds.{list_all-map, list_all_at, list_all_more}
+use Rattle.std.proofs.lemmas.Option.{get_or_from_slice_get, slice_get_within}
 use Rattle.std.proofs.lemmas.Slice.Eq.{bytes_eq-Decides}
 use Rattle.mm_lex.specs.Alphabet.{Name, name_eq, has_name}
 use Rattle.mm_read.specs.Statements.{Expr, Database}
@@ -51,10 +52,23 @@ below-at n [] i d b h = absurd (omega (arith, h))
 below-at n (x ∷ xs) zero d b h = b.0
 below-at n (x ∷ xs) (suc i) d b h = below-at n xs i d b.1 (omega (arith, h))
 
-pub below-group : {G : Type 0} (n : ℕ) (f : G → List ℕ) (groups : List G) (i : ℕ) (d : G) → AllBelow n (map f groups) → i < length groups → AreBelow n (f (get_or groups i d))
-below-group n f [] i d b h = absurd (omega (arith, h))
-below-group n f (g ∷ groups) zero d b h = b.0
-below-group n f (g ∷ groups) (suc i) d b h = below-group n f groups i d b.1 (omega (arith, h))
+pub below-group : (n : ℕ) (groups : List (List ℕ)) (i : ℕ) (g : List ℕ) → AllBelow n groups → slice_get groups i ≡ Some g → AreBelow n g
+below-group n [] i g b h = absurd (cc)
+below-group n (f ∷ groups) zero g b h = let e : f ≡ g = cc in subst (AreBelow n) e b.0
+below-group n (f ∷ groups) (suc i) g b h = below-group n groups i g b.1 h
+
+-- a group that is not apart, and one more that is
+pub group-stops : (p : List ℕ → Bool) (groups : List (List ℕ)) (i : ℕ) (g : List ℕ) → slice_get groups i ≡ Some g → p g ≡ false → list_all p groups ≡ false
+group-stops p groups i g h e =
+    list_all_at p groups i [] (slice_get_within groups i g h) (ap p (get_or_from_slice_get groups i g [] h) ∙ e)
+
+pub group-goes_on : (p : List ℕ → Bool) (groups : List (List ℕ)) (i : ℕ) (g : List ℕ) → slice_get groups i ≡ Some g → list_all p (take i groups) ≡ true → p g ≡ true → list_all p (take (i + 1) groups) ≡ true
+group-goes_on p groups i g h before here =
+    list_all_more p groups i [] (slice_get_within groups i g h) ∙ both _ _ before (ap p (get_or_from_slice_get groups i g [] h) ∙ here)
+  where
+    both : (a b : Bool) → a ≡ true → b ≡ true → (a && b) ≡ true
+    both true b h e = e
+    both false b h e = cc
 
 pub differ : (k l : ℕ) → (k ≡ l → ⊥) → (k == l) ≡ false
 differ k l ne = grind (arith, ne)

@@ -17,7 +17,7 @@ use Rattle.frame.specs.Templates.{filled, DoFit, own}
 use Rattle.verify.specs.Places.{below, top, Adds, Marks, Recalls}
 use Rattle.frame.specs.ByPlaces.{are_places_apart, AreBelow, AllBelow}
 use Rattle.verify.specs.Goes.{named, AreNamed, Goes}
-use Rattle.frame.specs.Reading.{AreLegal, IsCited, groups_of}
+use Rattle.frame.specs.Reading.{AreLegal, IsCited}
 use Rattle.proof_code.specs.Numbers.{item_of}
 use Rattle.verify.specs.Spells.{IsCitable}
 use Rattle.verify.specs.Right.{IsRight, weight_limit}
@@ -28,8 +28,8 @@ use Rattle.verify.proofs.Complete.{runs_append}
 module _ (S : Database) (names : List Name) (at : ℕ) (legal : AreLegal S names) where
   module _ (old new : Results ℕ) (an : AreNamed names old) where
     module _ (label : Name) (a : ℕ) (c : Cited) (s : Stmt) (carries : Carries S a s label) (has : HasAssertion S a s) (is : IsCited S names a s c) where
-      not_cited : ((f : Expr) → Rattle.verify.proofs.Named.Meets names (before S at) c.patterns.now c.templates.now c.conclusion.now (groups_of c) old.stack f → ⊥) → Goes false S at names (Cite label) old new
-      not_cited none = goes-not names S at a s c.patterns.now c.templates.now c.conclusion.now (groups_of c) is.by_places legal.once old new label legal.distinct an is.coded carries has none
+      not_cited : ((f : Expr) → Rattle.verify.proofs.Named.Meets names (before S at) c.patterns.now c.templates.now c.conclusion.now c.groups old.stack f → ⊥) → Goes false S at names (Cite label) old new
+      not_cited none = goes-not names S at a s c.patterns.now c.templates.now c.conclusion.now c.groups is.by_places legal.once old new label legal.distinct an is.coded carries has none
 
       pub assertion-few : length old.stack < length c.patterns.now → Goes false S at names (Cite label) old new
       assertion-few h = not_cited (λ f m. absurd (omega (arith, h, m.many)))
@@ -37,18 +37,18 @@ module _ (S : Database) (names : List Name) (at : ℕ) (legal : AreLegal S names
       pub assertion-unfit : (DoFit own c.patterns.now c.templates.now (top (length c.patterns.now) old.stack) → ⊥) → Goes false S at names (Cite label) old new
       assertion-unfit h = not_cited (λ f m. h m.fits)
 
-      pub assertion-clash : are_places_apart (before S at) (map (decode names) (top (length c.patterns.now) old.stack)) (groups_of c) ≡ false → Goes false S at names (Cite label) old new
+      pub assertion-clash : are_places_apart (before S at) (map (decode names) (top (length c.patterns.now) old.stack)) c.groups ≡ false → Goes false S at names (Cite label) old new
       assertion-clash h = not_cited (λ f m. let e : true ≡ false = sym m.apart ∙ h in cc)
 
       assertion-by : (ok : Bool) → a < at → length c.patterns.now ≤ length old.stack → DoFit own c.patterns.now c.templates.now (top (length c.patterns.now) old.stack)
-          → are_places_apart (before S at) (map (decode names) (top (length c.patterns.now) old.stack)) (groups_of c) ≡ true
+          → are_places_apart (before S at) (map (decode names) (top (length c.patterns.now) old.stack)) c.groups ≡ true
           → Adds ok old new (below (length c.patterns.now) old.stack) (filled own (length c.patterns.now) (top (length c.patterns.now) old.stack) c.conclusion.now)
           → Goes ok S at names (Cite label) old new
-      assertion-by true earlier many fits apart adds = goes-assertion names S at a s c.patterns.now c.templates.now c.conclusion.now (groups_of c) is.by_places old new label an is.coded carries has earlier many fits apart adds
-      assertion-by false earlier many fits apart adds = goes-heavy names S at a s c.patterns.now c.templates.now c.conclusion.now (groups_of c) is.by_places legal.once old new label legal.distinct an is.coded carries has adds
+      assertion-by true earlier many fits apart adds = goes-assertion names S at a s c.patterns.now c.templates.now c.conclusion.now c.groups is.by_places old new label an is.coded carries has earlier many fits apart adds
+      assertion-by false earlier many fits apart adds = goes-heavy names S at a s c.patterns.now c.templates.now c.conclusion.now c.groups is.by_places legal.once old new label legal.distinct an is.coded carries has adds
 
       pub assertion-result : (r : Result Bool AllocError) → a < at → length c.patterns.now ≤ length old.stack → DoFit own c.patterns.now c.templates.now (top (length c.patterns.now) old.stack)
-          → are_places_apart (before S at) (map (decode names) (top (length c.patterns.now) old.stack)) (groups_of c) ≡ true
+          → are_places_apart (before S at) (map (decode names) (top (length c.patterns.now) old.stack)) c.groups ≡ true
           → IfOk r (λ ok. Adds ok old new (below (length c.patterns.now) old.stack) (filled own (length c.patterns.now) (top (length c.patterns.now) old.stack) c.conclusion.now))
           → IfOk r (λ ok. Goes ok S at names (Cite label) old new)
       assertion-result (Err e) earlier many fits apart adds = tt

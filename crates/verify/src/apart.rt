@@ -7,7 +7,7 @@ ghost use Rattle.verify.specs.Apart.{named_at, are_two_apart, is_place_apart, is
 
 use crate::results::Place;
 use crate::templates::image;
-use frame::Pairs;
+use frame::{Groups, Pairs};
 
 /// Whether the places are one, or their images are apart.
 fn two_apart(pairs: &Pairs<'_>, k: u32, l: u32, symbols: &[u32], places: &[Place]) -> bool
@@ -59,17 +59,17 @@ fn group_apart(pairs: &Pairs<'_>, group: &[u32], symbols: &[u32], places: &[Plac
 /// Whether the images at each two places of each group are apart.
 pub fn groups_apart(
     pairs: &Pairs<'_>,
-    groups: &[Vec<u32>],
+    groups: &Groups<'_>,
     symbols: &[u32],
     places: &[Place],
 ) -> bool
     requires named { AllBelow (length pairs.now.names) (map (seen_at symbols.now) places.now) }
     requires within { AreWithin (length symbols.now) places.now }
-    requires below { AllBelow (length places.now) (map (λ group. group.items) groups.now) }
-    ensures { result ≡ are_places_apart pairs.now.statements (named_at pairs.now.names symbols.now places.now) (map (λ group. group.items) groups.now) }
+    requires below { AllBelow (length places.now) groups.now }
+    ensures { result ≡ are_places_apart pairs.now.statements (named_at pairs.now.names symbols.now places.now) groups.now }
 {
-    for group in groups {
-        if !group_apart(pairs, group, symbols, places) {
+    for i in 0..groups.len() {
+        if !group_apart(pairs, groups.get(i), symbols, places) {
             return false;
         }
     }

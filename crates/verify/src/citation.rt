@@ -42,7 +42,7 @@ fn cite_assertion(
     if !results.fits(cited.patterns, cited.templates) {
         return Ok(false);
     }
-    if !results.are_apart(pairs, count, cited.groups) {
+    if !results.are_apart(pairs, count, &cited.groups) {
         return Ok(false);
     }
     results.apply(count, cited.conclusion)

@@ -11,7 +11,7 @@ ghost use Rattle.verify.specs.Right.{weight_limit};
 use crate::apart::groups_apart;
 use crate::symbols::Symbols;
 use crate::templates::{all_fit, result_at};
-use frame::{Pairs, Pattern};
+use frame::{Groups, Pairs, Pattern};
 use std::alloc::{AllocError, Global};
 use std::marker::Model;
 
@@ -153,12 +153,12 @@ impl Results {
     }
 
     /// Whether the images of the last `count` results are apart as the groups of places ask.
-    pub fn are_apart(&self, pairs: &Pairs<'_>, count: usize, groups: &[Vec<u32>]) -> bool
+    pub fn are_apart(&self, pairs: &Pairs<'_>, count: usize, groups: &Groups<'_>) -> bool
         requires count { count ≤ length self.now.stack }
         requires named { AllBelow (length pairs.now.names) self.now.stack }
-        requires places { AllBelow count (map (λ group. group.items) groups.now) }
+        requires places { AllBelow count groups.now }
         ensures { result ≡ are_places_apart pairs.now.statements
-            (map (decode pairs.now.names) (top count self.now.stack)) (map (λ group. group.items) groups.now) }
+            (map (decode pairs.now.names) (top count self.now.stack)) groups.now }
     {
         let keep = self.stack.len() - count;
         groups_apart(pairs, groups, self.symbols.as_slice(), &self.stack[keep..])

@@ -12,18 +12,19 @@ use Rattle.frame.proofs.WalkLemmas.{last-within}
 use Rattle.frame.proofs.StoredLemmas.{numbered-at}
 use Rattle.frame.proofs.PairsLemmas.{IsSought, sought-here, sought-found, sought-step, sought-over, read-here, any-kind, entry-disj}
 use Rattle.frame.proofs.ApartLemmas.{covers-told, covers-other}
+use Rattle.frame.specs.Entries.{seen}
 use Rattle.frame.proofs.apart.is_covered.Goals as goal
 
-pub index-entry-requires : goal.index-entry-requires
-index-entry-requires c =
+pub entry-entry-requires : goal.entry-entry-requires
+entry-entry-requires c =
     let k = c.args.stock.now in
     let g = (λ (p : ℕ × Stmt). does_cover (before (statements_of k) c.args.at) (decode k.names c.args.left.now) (decode k.names c.args.right.now) p.1) in
     let i = c.loop-last.invariant.sought in
     let p = c.loop-last.last in
     let b = sought-here is_disj g (statements_of k) c.args.at p i.0 refl i.1 c.loop-last-test.true in
-    let n = length-map k.entries.items (stmt_of k.names k.labels) in
+    let n = length-map k.entries (stmt_of k.names k.labels) in
     let high = i.1.high in let le = b.1.within in let one = b.1.above in
-    omega (arith, n, high, le, one, k.entries.ok.0)
+    omega (arith, n, high, le, one)
 
 pub loop-last-init : goal.loop-last-init
 loop-last-init c =
@@ -39,9 +40,8 @@ covers-requires-clause-list c =
     let g = (λ (p : ℕ × Stmt). does_cover (before (statements_of k) c.args.at) (decode k.names c.args.left.now) (decode k.names c.args.right.now) p.1) in
     let i = c.loop-last.invariant.sought in
     let p = c.loop-last.last in
-    let r = read-here is_disj g k.names k.labels k.entries.items c.args.at p i.0 c.index-entry.result.now refl i.1 c.loop-last-test.true c.index-entry.ensures in
-    subst (AreBelow (length k.names)) (sym c.deref.ensures.value)
-    (numbered-at (length k.names) (length k.labels) k.entries.items c.requires.stored.coded (p - 1) c.index-entry.result.now r.1.entry)
+    let r = read-here is_disj g k.names k.labels k.entries c.args.at p i.0 (seen c.entry-entry.result c.entry-entry.ensures.0) refl i.1 c.loop-last-test.true c.entry-entry.ensures.1 in
+    numbered-at (length k.names) (length k.labels) k.entries c.requires.stored.coded (p - 1) (seen c.entry-entry.result c.entry-entry.ensures.0) r.1.entry
 
 pub returns-then-covers : goal.returns-then-covers
 returns-then-covers c =
@@ -52,11 +52,11 @@ returns-then-covers c =
     let g = (λ (p : ℕ × Stmt). does_cover S left right p.1) in
     let i = c.loop-last.invariant.sought in
     let p = c.loop-last.last in
-    let e = c.index-entry.result.now in
-    let r = read-here is_disj g k.names k.labels k.entries.items c.args.at p i.0 e refl i.1 c.loop-last-test.true c.index-entry.ensures in
+    let e = seen c.entry-entry.result c.entry-entry.ensures.0 in
+    let r = read-here is_disj g k.names k.labels k.entries c.args.at p i.0 e refl i.1 c.loop-last-test.true c.entry-entry.ensures.1 in
     let b = r.1.back in
-    let yes = covers-told S left right (decode k.names c.deref.result.now) r.0 true b.of_kind
-    (ap separated (sym r.1.is) ∙ (entry-disj k.names k.labels e (ap is_disj r.1.is ∙ b.of_kind) ∙ ap (decode k.names) (sym c.deref.ensures.value)))
+    let yes = covers-told S left right (decode k.names c.entry-entry.result.symbols.now) r.0 true b.of_kind
+    (ap separated (sym r.1.is) ∙ entry-disj k.names k.labels e (ap is_disj r.1.is ∙ b.of_kind))
     (sym c.if-covers.true ∙ c.covers.ensures.covers) in
     sym (any-kind is_disj g (λ q h. covers-other S left right q.1 h) (active S) ∙ sought-found is_disj g (statements_of k) c.args.at p i.0 refl i.1 r.0 b yes)
 
@@ -66,10 +66,10 @@ loop-last-smaller c =
     let g = (λ (p : ℕ × Stmt). does_cover (before (statements_of k) c.args.at) (decode k.names c.args.left.now) (decode k.names c.args.right.now) p.1) in
     let i = c.loop-last.invariant.sought in
     let p = c.loop-last.last in
-    let r = read-here is_disj g k.names k.labels k.entries.items c.args.at p i.0 c.index-entry.result.now refl i.1 c.loop-last-test.true c.index-entry.ensures in
+    let r = read-here is_disj g k.names k.labels k.entries c.args.at p i.0 (seen c.entry-entry.result c.entry-entry.ensures.0) refl i.1 c.loop-last-test.true c.entry-entry.ensures.1 in
     let b = r.1.back in
     let high = i.1.high in let le = b.within in let one = b.above in
-    let l = ap (λ q. q.disjoint) (c.requires.stored.linked (p - 1) c.index-entry.result.now r.1.entry) in
+    let l = ap (λ q. q.disjoint) (c.requires.stored.linked (p - 1) (seen c.entry-entry.result c.entry-entry.ensures.0) r.1.entry) in
     let a = last-within is_disj (take (p - 1) (statements_of k)) refl in
     let d = length-take-le (p - 1) (statements_of k) (omega (arith, le, high)) in
     omega (arith, l, a, d, one)
@@ -83,12 +83,12 @@ loop-last-preserved c =
     let g = (λ (p : ℕ × Stmt). does_cover S left right p.1) in
     let i = c.loop-last.invariant.sought in
     let p = c.loop-last.last in
-    let e = c.index-entry.result.now in
-    let r = read-here is_disj g k.names k.labels k.entries.items c.args.at p i.0 e refl i.1 c.loop-last-test.true c.index-entry.ensures in
+    let e = seen c.entry-entry.result c.entry-entry.ensures.0 in
+    let r = read-here is_disj g k.names k.labels k.entries c.args.at p i.0 e refl i.1 c.loop-last-test.true c.entry-entry.ensures.1 in
     let b = r.1.back in
     let l = ap (λ q. q.disjoint) (c.requires.stored.linked (p - 1) e r.1.entry) in
-    let nay = covers-told S left right (decode k.names c.deref.result.now) r.0 false b.of_kind
-    (ap separated (sym r.1.is) ∙ (entry-disj k.names k.labels e (ap is_disj r.1.is ∙ b.of_kind) ∙ ap (decode k.names) (sym c.deref.ensures.value)))
+    let nay = covers-told S left right (decode k.names c.entry-entry.result.symbols.now) r.0 false b.of_kind
+    (ap separated (sym r.1.is) ∙ entry-disj k.names k.labels e (ap is_disj r.1.is ∙ b.of_kind))
     (sym c.if-covers.false ∙ c.covers.ensures.covers) in
     record {
       places = c.covers.ensures.hints;

@@ -26,47 +26,47 @@ returns-else-links-eq0 c = λ s e.
 pub returns-in-Open : goal.returns-in-Open
 returns-in-Open c = λ s e.
     let k = c.args.stock.now in
-    let n = length-map k.entries.items (stmt_of k.names k.labels) in
-    links-next (statements_of k) k.links (c.len-at.result + 1) s _ c.requires.last (omega (arith, c.len-at.ensures, n)) (e ∙ c.in-Open.is) refl
+    let n = length-map k.entries (stmt_of k.names k.labels) in
+    links-next (statements_of k) k.links (c.len.result + 1) s _ c.requires.last (omega (arith, c.len.ensures, n)) (e ∙ c.in-Open.is) refl
 
 pub returns-in-Var : goal.returns-in-Var
 returns-in-Var c = λ s e.
     let k = c.args.stock.now in
-    let n = length-map k.entries.items (stmt_of k.names k.labels) in
-    links-next (statements_of k) k.links (c.len-at.result + 1) s _ c.requires.last (omega (arith, c.len-at.ensures, n)) (e ∙ c.in-Var.is) refl
+    let n = length-map k.entries (stmt_of k.names k.labels) in
+    links-next (statements_of k) k.links (c.len.result + 1) s _ c.requires.last (omega (arith, c.len.ensures, n)) (e ∙ c.in-Var.is) refl
 
 pub returns-in-Disj : goal.returns-in-Disj
 returns-in-Disj c = λ s e.
     let k = c.args.stock.now in
-    let n = length-map k.entries.items (stmt_of k.names k.labels) in
-    links-next (statements_of k) k.links (c.len-at.result + 1) s _ c.requires.last (omega (arith, c.len-at.ensures, n)) (e ∙ c.in-Disj.is) refl
+    let n = length-map k.entries (stmt_of k.names k.labels) in
+    links-next (statements_of k) k.links (c.len.result + 1) s _ c.requires.last (omega (arith, c.len.ensures, n)) (e ∙ c.in-Disj.is) refl
 
 pub returns-in-Ess : goal.returns-in-Ess
 returns-in-Ess c = λ s e.
     let k = c.args.stock.now in
-    let n = length-map k.entries.items (stmt_of k.names k.labels) in
-    links-next (statements_of k) k.links (c.len-at.result + 1) s _ c.requires.last (omega (arith, c.len-at.ensures, n)) (e ∙ c.in-Ess.is) refl
+    let n = length-map k.entries (stmt_of k.names k.labels) in
+    links-next (statements_of k) k.links (c.len.result + 1) s _ c.requires.last (omega (arith, c.len.ensures, n)) (e ∙ c.in-Ess.is) refl
 
 pub returns-in-Const : goal.returns-in-Const
 returns-in-Const c = λ s e.
     let k = c.args.stock.now in
-    let n = length-map k.entries.items (stmt_of k.names k.labels) in
-    links-next (statements_of k) k.links (c.len-at.result + 1) s _ c.requires.last (omega (arith, c.len-at.ensures, n)) (e ∙ c.in-Const.is) refl
+    let n = length-map k.entries (stmt_of k.names k.labels) in
+    links-next (statements_of k) k.links (c.len.result + 1) s _ c.requires.last (omega (arith, c.len.ensures, n)) (e ∙ c.in-Const.is) refl
 
 pub returns-in-Float : goal.returns-in-Float
 returns-in-Float c = λ s e.
     let k = c.args.stock.now in
-    let n = length-map k.entries.items (stmt_of k.names k.labels) in
-    links-next (statements_of k) k.links (c.len-at.result + 1) s _ c.requires.last (omega (arith, c.len-at.ensures, n)) (e ∙ c.in-Float.is) refl
+    let n = length-map k.entries (stmt_of k.names k.labels) in
+    links-next (statements_of k) k.links (c.len.result + 1) s _ c.requires.last (omega (arith, c.len.ensures, n)) (e ∙ c.in-Float.is) refl
 
 pub returns-in-Axiom : goal.returns-in-Axiom
 returns-in-Axiom c = λ s e.
     let k = c.args.stock.now in
-    let n = length-map k.entries.items (stmt_of k.names k.labels) in
-    links-next (statements_of k) k.links (c.len-at.result + 1) s _ c.requires.last (omega (arith, c.len-at.ensures, n)) (e ∙ c.in-Axiom.is) refl
+    let n = length-map k.entries (stmt_of k.names k.labels) in
+    links-next (statements_of k) k.links (c.len.result + 1) s _ c.requires.last (omega (arith, c.len.ensures, n)) (e ∙ c.in-Axiom.is) refl
 
 pub returns-in-Prove : goal.returns-in-Prove
 returns-in-Prove c = λ s e.
     let k = c.args.stock.now in
-    let n = length-map k.entries.items (stmt_of k.names k.labels) in
-    links-next (statements_of k) k.links (c.len-at.result + 1) s _ c.requires.last (omega (arith, c.len-at.ensures, n)) (e ∙ c.in-Prove.is) refl
+    let n = length-map k.entries (stmt_of k.names k.labels) in
+    links-next (statements_of k) k.links (c.len.result + 1) s _ c.requires.last (omega (arith, c.len.ensures, n)) (e ∙ c.in-Prove.is) refl

@@ -54,7 +54,7 @@ two names codes empty x y e p = ap (decode names) (p ∙ ap (λ v. (v ++ x ∷ [
 
 pub returns-clause-stand : goal.returns-clause-stand
 returns-clause-stand c =
-    two c.number-2.new.names c.push-2.new.self.items c.new-codes.result.items c.in_ok-first.first c.in_ok-second.second c.new-codes.ensures.items
+    two c.number-2.new.names c.push-2.new.self.items c.args.codes.now.items c.in_ok-first.first c.in_ok-second.second c.requires.empty
     (c.in_ok-push-2.ensures.items ∙ ap (λ v. v ++ c.in_ok-second.second ∷ []) c.in_ok-push.ensures.items)
     ∙ (ap (λ x. x ∷ name_at c.number-2.new.names c.in_ok-second.second ∷ [])
     (name_at-extends c.number.new.names c.number-2.new.names c.in_ok-first.first c.in_ok-second.ensures.names c.in_ok-first.ensures.name.0 ∙ c.in_ok-first.ensures.name.1 ∙ c.as_bytes.ensures.bytes)

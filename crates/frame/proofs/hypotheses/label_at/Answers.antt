@@ -4,11 +4,12 @@ use Rattle.std.specs.Prelude.{slice_get, Some, ◌≤◌, ◌-◌, List, ℕ, ma
 use Rattle.mm_lex.specs.Alphabet.{Name}
 use Rattle.mm_read.specs.declared.stmt.Stmt.{Stmt}
 use Rattle.scope.specs.Active.{stmt_at, label_of}
-use Rattle.frame.specs.declared.storage.Entry.{Entry}
+use Rattle.frame.specs.Entries.{Entry}
 use Rattle.frame.specs.Stored.{stmt_of}
 use Rattle.frame.proofs.WalkLemmas.{some-same}
 use Rattle.frame.proofs.StoredLemmas.{get-stmt, get-index, stmt-at-suc}
 use Rattle.frame.proofs.LabelLemmas.{label-below-at, label-below, label-is, label-none}
+use Rattle.frame.specs.Entries.{seen}
 use Rattle.frame.proofs.hypotheses.label_at.Goals as goal
 
 -- the entry read is that of the statement
@@ -18,25 +19,25 @@ is-entry names labels es at e s one g h = some-same (sym (get-stmt names labels 
 pub name-requires : goal.name-requires
 name-requires c =
     let k = c.args.stock.now in
-    let e = c.index-entry.result.now in
-    let n = length-map k.entries.items (stmt_of k.names k.labels) in
-    let g = get-index k.entries.items (c.args.at - 1) e (omega (arith, n, c.requires.place.0, c.requires.place.1)) c.index-entry.ensures in
+    let e = seen c.entry-entry.result c.entry-entry.ensures.0 in
+    let n = length-map k.entries (stmt_of k.names k.labels) in
+    let g = c.entry-entry.ensures.1 in
     label-below e.kind e.label (length k.labels) (sym c.is_labelled.ensures ∙ c.if-is_labelled.true)
-    (label-below-at (length k.names) (length k.labels) k.entries.items c.requires.stored.coded (c.args.at - 1) e g)
+    (label-below-at (length k.names) (length k.labels) k.entries c.requires.stored.coded (c.args.at - 1) e g)
 
 pub returns-then-is_labelled : goal.returns-then-is_labelled
 returns-then-is_labelled c = λ s h.
     let k = c.args.stock.now in
-    let e = c.index-entry.result.now in
-    let n = length-map k.entries.items (stmt_of k.names k.labels) in
-    let g = get-index k.entries.items (c.args.at - 1) e (omega (arith, n, c.requires.place.0, c.requires.place.1)) c.index-entry.ensures in
+    let e = seen c.entry-entry.result c.entry-entry.ensures.0 in
+    let n = length-map k.entries (stmt_of k.names k.labels) in
+    let g = c.entry-entry.ensures.1 in
     ap Some c.name.ensures
-    ∙ (sym (label-is k.names k.labels e (sym c.is_labelled.ensures ∙ c.if-is_labelled.true)) ∙ ap label_of (is-entry k.names k.labels k.entries.items c.args.at e s c.requires.place.0 g h))
+    ∙ (sym (label-is k.names k.labels e (sym c.is_labelled.ensures ∙ c.if-is_labelled.true)) ∙ ap label_of (is-entry k.names k.labels k.entries c.args.at e s c.requires.place.0 g h))
 
 pub returns-else-is_labelled : goal.returns-else-is_labelled
 returns-else-is_labelled c = λ s h.
     let k = c.args.stock.now in
-    let e = c.index-entry.result.now in
-    let n = length-map k.entries.items (stmt_of k.names k.labels) in
-    let g = get-index k.entries.items (c.args.at - 1) e (omega (arith, n, c.requires.place.0, c.requires.place.1)) c.index-entry.ensures in
-    sym (label-none k.names k.labels e (sym c.is_labelled.ensures ∙ c.if-is_labelled.false)) ∙ ap label_of (is-entry k.names k.labels k.entries.items c.args.at e s c.requires.place.0 g h)
+    let e = seen c.entry-entry.result c.entry-entry.ensures.0 in
+    let n = length-map k.entries (stmt_of k.names k.labels) in
+    let g = c.entry-entry.ensures.1 in
+    sym (label-none k.names k.labels e (sym c.is_labelled.ensures ∙ c.if-is_labelled.false)) ∙ ap label_of (is-entry k.names k.labels k.entries c.args.at e s c.requires.place.0 g h)

@@ -1,41 +1,44 @@
-use Rattle.std.proofs.Common.{◌≡◌, ◌-◌, ◌∙◌, ap, sym, subst, arith, take, refl}
+use Rattle.std.proofs.Common.{◌≡◌, ◌-◌, ◌∙◌, ap, sym, subst, arith, take, refl, length}
 use Rattle.std.specs.Prelude.{map}
 use Rattle.std.proofs.lemmas.List.{length-map, length-take-le}
 use Rattle.frame.specs.Links.{actives, is_disj}
+use Rattle.frame.specs.Spans.{cut, AreSpansIn}
 use Rattle.frame.specs.Stored.{statements_of, stmt_of, places_of, symbols_at, option_symbols, has_two}
+use Rattle.frame.specs.Entries.{seen}
 use Rattle.frame.proofs.WalkLemmas.{walk-back, walk-over, last-within}
-use Rattle.frame.proofs.StoredLemmas.{get-index}
 use Rattle.frame.proofs.MakeLemmas.{AreGroups, groups-step, groups-start, groups-end}
+use Rattle.frame.proofs.SpanLemmas.{spans-reverse}
 use Rattle.frame.proofs.make.groups.Goals as goal
 
-pub index-entry-requires : goal.index-entry-requires
-index-entry-requires c =
+pub entry-entry-requires : goal.entry-entry-requires
+entry-entry-requires c =
     let k = c.args.stock.now in
     let S = statements_of k in
-    let i = c.loop-last.invariant in
+    let i = c.loop-last.invariant.walk in
     let p = c.loop-last.last in
-    let n = length-map k.entries.items (stmt_of k.names k.labels) in
+    let n = length-map k.entries (stmt_of k.names k.labels) in
     let w = walk-back is_disj S i.0 p refl i.1 i.2 c.loop-last-test.true in
     let b = w.1.within in let one = w.1.above in let high = i.1 in
-    omega (arith, n, b, one, high, k.entries.ok.0)
+    omega (arith, n, b, one, high)
 
 pub loop-last-init : goal.loop-last-init
 loop-last-init c =
     let k = c.args.stock.now in
-    groups-start k c.args.variables.now c.new-found.result.items c.new-found.ensures.items c.requires.stored.last
+    record {
+      walk = groups-start k c.args.variables.now (cut c.args.places.now.items c.args.groups.now.items) (ap (cut c.args.places.now.items) c.requires.empty) c.requires.stored.last;
+      within = subst (AreSpansIn (length c.args.places.now.items)) (sym c.requires.empty) tt;
+    }
 
 pub loop-last-smaller : goal.loop-last-smaller
 loop-last-smaller c =
     let k = c.args.stock.now in
     let S = statements_of k in
-    let i = c.loop-last.invariant in
+    let i = c.loop-last.invariant.walk in
     let p = c.loop-last.last in
-    let n = length-map k.entries.items (stmt_of k.names k.labels) in
     let w = walk-back is_disj S i.0 p refl i.1 i.2 c.loop-last-test.true in
     let b = w.1.within in let one = w.1.above in let high = i.1 in
-    let e = c.index-entry.result.now in
-    let g = get-index k.entries.items (p - 1) e (omega (arith, n, b, one, high)) c.index-entry.ensures in
-    let l = ap (λ q. q.disjoint) (c.requires.stored.linked (p - 1) e g) in
+    let e = seen c.entry-entry.result c.entry-entry.ensures.0 in
+    let l = ap (λ q. q.disjoint) (c.requires.stored.linked (p - 1) e c.entry-entry.ensures.1) in
     let a = last-within is_disj (take (p - 1) S) refl in
     let d = length-take-le (p - 1) S (omega (arith, b, high)) in
     omega (arith, l, a, d, one)
@@ -44,27 +47,34 @@ pub loop-last-preserved : goal.loop-last-preserved
 loop-last-preserved c =
     let k = c.args.stock.now in
     let S = statements_of k in
-    let i = c.loop-last.invariant in
+    let i = c.loop-last.invariant.walk in
     let p = c.loop-last.last in
-    let n = length-map k.entries.items (stmt_of k.names k.labels) in
     let w = walk-back is_disj S i.0 p refl i.1 i.2 c.loop-last-test.true in
     let b = w.1.within in let one = w.1.above in let high = i.1 in
-    let e = c.index-entry.result.now in
-    let g = get-index k.entries.items (p - 1) e (omega (arith, n, b, one, high)) c.index-entry.ensures in
+    let e = seen c.entry-entry.result c.entry-entry.ensures.0 in
+    let g = c.entry-entry.ensures.1 in
     let l = ap (λ q. q.disjoint) (c.requires.stored.linked (p - 1) e g) in
-    let group = c.in_ok-group.group.items in
-    let own : group ≡ places_of c.args.variables.now (symbols_at k.entries.items p) =
-    c.in_ok-group.ensures ∙ ap (places_of c.args.variables.now) (c.deref.ensures.value ∙ ap option_symbols (sym g)) in (
-      p - 1,
-      omega (arith, b, high),
-      l,
-      subst (AreGroups k.entries.items c.args.variables.now (actives is_disj S) (actives is_disj (take (p - 1) S))) (sym c.in_ok-keep.ensures)
-          (groups-step k.entries.items c.args.variables.now (actives is_disj S) (actives is_disj (take i.0 S)) (actives is_disj (take (p - 1) S)) p w.0 (map (λ v. v.items) c.loop-last.found.items) group w.1.list own i.3 (has_two group) refl),
-    )
+    let vs = c.args.variables.now in
+    let group = places_of vs c.entry-entry.result.symbols.now in
+    let own : group ≡ places_of vs (symbols_at k.entries p) = ap (places_of vs) (ap option_symbols (sym g)) in
+    record {
+      walk = (
+        p - 1,
+        omega (arith, b, high),
+        l,
+        subst (AreGroups k.entries vs (actives is_disj S) (actives is_disj (take (p - 1) S))) (sym c.in_ok-add_group.ensures.added)
+            (groups-step k.entries vs (actives is_disj S) (actives is_disj (take i.0 S)) (actives is_disj (take (p - 1) S)) p w.0 (cut c.loop-last.places.items c.loop-last.groups.items) group w.1.list own i.3 (has_two group) refl),
+      );
+      within = c.in_ok-add_group.ensures.within;
+    }
 
-pub returns : goal.returns
-returns c =
+pub returns-clause-groups : goal.returns-clause-groups
+returns-clause-groups c =
     let k = c.args.stock.now in
     let S = statements_of k in
-    let i = c.loop-last.invariant in
-    groups-end k.entries.items c.args.variables.now (actives is_disj S) (actives is_disj (take i.0 S)) c.loop-last.found.items c.reverse.new.self.items i.3 (walk-over is_disj S i.0 c.loop-last.last refl i.2 c.loop-last-test.false) c.reverse.ensures.items
+    let i = c.loop-last.invariant.walk in
+    groups-end k.entries c.args.variables.now (actives is_disj S) (actives is_disj (take i.0 S)) c.loop-last.places.items c.loop-last.groups.items c.reverse.new.self.items i.3 (walk-over is_disj S i.0 c.loop-last.last refl i.2 c.loop-last-test.false) c.reverse.ensures.items
+
+pub returns-clause-within : goal.returns-clause-within
+returns-clause-within c =
+    subst (AreSpansIn (length c.loop-last.places.items)) (sym c.reverse.ensures.items) (spans-reverse (length c.loop-last.places.items) c.loop-last.groups.items c.loop-last.invariant.within)

@@ -5,6 +5,6 @@ use Rattle.frame.proofs.make.patterns.Given as goal
 
 abbrev pub invariant-loop-position : goal.invariant-loop-position
 invariant-loop-position l = record {
-  patterns : ArePatterns l.stock.entries.items l.variables l.templates.items (take l.position-index l.hypotheses) l.found.items;
-  templates : l.templates.items ≡ flat_map (template_at l.stock.entries.items l.variables) (take l.position-index l.hypotheses);
+  patterns : ArePatterns l.stock.entries l.variables l.templates.items (take l.position-index l.hypotheses) l.found.items;
+  templates : l.templates.items ≡ flat_map (template_at l.stock.entries l.variables) (take l.position-index l.hypotheses);
 }

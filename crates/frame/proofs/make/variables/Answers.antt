@@ -1,6 +1,7 @@
-use Rattle.std.proofs.Common.{◌∙◌, ap, arith, get_or, ◌-◌}
+use Rattle.std.proofs.Common.{◌≡◌, ◌∙◌, ap, sym, arith, get_or, ◌-◌}
 use Rattle.std.specs.Prelude.{◌++◌, ◌∷◌, []}
-use Rattle.frame.proofs.CollectLemmas.{index-is}
+use Rattle.frame.proofs.WalkLemmas.{some-same}
+use Rattle.frame.specs.Entries.{Entry, seen}
 use Rattle.frame.specs.Stored.{variable_by}
 use Rattle.frame.proofs.MakeLemmas.{hypothesis-at, get-below, variables-more}
 use Rattle.frame.proofs.make.variables.Goals as goal
@@ -9,22 +10,22 @@ pub overflow_sub-position : goal.overflow_sub-position
 overflow_sub-position c =
     let k = c.args.stock.now in
     let i = c.loop-position.position-index in
-    let h = hypothesis-at k.entries.items c.args.hypotheses.now i c.requires (omega arith) in
+    let h = hypothesis-at k.entries c.args.hypotheses.now i c.requires.hypotheses (omega arith) in
     h.1
 
-pub index-requires : goal.index-requires
-index-requires c =
+pub entry-requires : goal.entry-requires
+entry-requires c =
     let k = c.args.stock.now in
     let i = c.loop-position.position-index in
-    let h = hypothesis-at k.entries.items c.args.hypotheses.now i c.requires (omega arith) in
-    let b = get-below k.entries.items (get_or c.args.hypotheses.now i 0 - 1) h.0 h.2 in
-    omega (arith, b, k.entries.ok.0)
+    let h = hypothesis-at k.entries c.args.hypotheses.now i c.requires.hypotheses (omega arith) in
+    let b = get-below k.entries (get_or c.args.hypotheses.now i 0 - 1) h.0 h.2 in
+    omega (arith, b)
 
 pub loop-position-preserved : goal.loop-position-preserved
 loop-position-preserved c =
     let k = c.args.stock.now in
     let i = c.loop-position.position-index in
-    let h = hypothesis-at k.entries.items c.args.hypotheses.now i c.requires (omega arith) in
-    let e = index-is k.entries.items (get_or c.args.hypotheses.now i 0 - 1) c.index.result.now h.0 h.2 c.index.ensures in
-    variables-more k.entries.items c.args.hypotheses.now c.loop-position.found.items c.push.new.self.items i h.0 (omega arith) h.2 c.loop-position.invariant
-    (c.in_ok-push.ensures.items ∙ ap (λ v. c.loop-position.found.items ++ v ∷ []) (c.variable_of.ensures ∙ ap (λ d. variable_by d.kind d.symbols.items) e))
+    let h = hypothesis-at k.entries c.args.hypotheses.now i c.requires.hypotheses (omega arith) in
+    let e : seen c.entry.result c.entry.ensures.0 ≡ h.0 = some-same (sym c.entry.ensures.1 ∙ h.2) in
+    variables-more k.entries c.args.hypotheses.now c.loop-position.found.items c.push.new.self.items i h.0 (omega arith) h.2 c.loop-position.invariant
+    (c.in_ok-push.ensures.items ∙ ap (λ v. c.loop-position.found.items ++ v ∷ []) (c.variable_of.ensures ∙ ap (λ d. variable_by d.kind d.symbols) e))

@@ -7,18 +7,19 @@ use Rattle.frame.specs.Stored.{statements_of, stmt_of, inserted, with_floats, wi
 use Rattle.frame.proofs.WalkLemmas.{walk-back, walk-over, last-within}
 use Rattle.frame.proofs.StoredLemmas.{get-index, numbered-at}
 use Rattle.frame.proofs.CollectLemmas.{essentials-step}
+use Rattle.frame.specs.Entries.{seen}
 use Rattle.frame.proofs.mandatory.mandatory.Goals as goal
 
-pub index-entry-requires : goal.index-entry-requires
-index-entry-requires c =
+pub entry-entry-requires : goal.entry-entry-requires
+entry-entry-requires c =
     let k = c.args.stock.now in
     let S = statements_of k in
     let i = c.loop-essential.invariant in
     let p = c.loop-essential.essential in
-    let n = length-map k.entries.items (stmt_of k.names k.labels) in
+    let n = length-map k.entries (stmt_of k.names k.labels) in
     let w = walk-back is_essential S i.0 p refl i.1 i.2 c.loop-essential-test.true in
     let b = w.1.within in let one = w.1.above in let high = i.1 in
-    omega (arith, n, b, one, high, k.entries.ok.0)
+    omega (arith, n, b, one, high)
 
 pub put_floats-requires-in-loop-essential-clause-codes : goal.put_floats-requires-in-loop-essential-clause-codes
 put_floats-requires-in-loop-essential-clause-codes c =
@@ -26,12 +27,12 @@ put_floats-requires-in-loop-essential-clause-codes c =
     let S = statements_of k in
     let i = c.loop-essential.invariant in
     let p = c.loop-essential.essential in
-    let n = length-map k.entries.items (stmt_of k.names k.labels) in
+    let n = length-map k.entries (stmt_of k.names k.labels) in
     let w = walk-back is_essential S i.0 p refl i.1 i.2 c.loop-essential-test.true in
     let b = w.1.within in let one = w.1.above in let high = i.1 in
-    let e = c.index-entry.result.now in
-    let g = get-index k.entries.items (p - 1) e (omega (arith, n, b, one, high)) c.index-entry.ensures in
-    subst (AreBelow (length k.names)) (sym c.deref.ensures.value) (numbered-at (length k.names) (length k.labels) k.entries.items c.requires.stored.coded (p - 1) e g)
+    let e = seen c.entry-entry.result c.entry-entry.ensures.0 in
+    let g = c.entry-entry.ensures.1 in
+    numbered-at (length k.names) (length k.labels) k.entries c.requires.stored.coded (p - 1) e g
 
 pub loop-essential-smaller : goal.loop-essential-smaller
 loop-essential-smaller c =
@@ -39,11 +40,11 @@ loop-essential-smaller c =
     let S = statements_of k in
     let i = c.loop-essential.invariant in
     let p = c.loop-essential.essential in
-    let n = length-map k.entries.items (stmt_of k.names k.labels) in
+    let n = length-map k.entries (stmt_of k.names k.labels) in
     let w = walk-back is_essential S i.0 p refl i.1 i.2 c.loop-essential-test.true in
     let b = w.1.within in let one = w.1.above in let high = i.1 in
-    let e = c.index-entry.result.now in
-    let g = get-index k.entries.items (p - 1) e (omega (arith, n, b, one, high)) c.index-entry.ensures in
+    let e = seen c.entry-entry.result c.entry-entry.ensures.0 in
+    let g = c.entry-entry.ensures.1 in
     let l = ap (λ q. q.essential) (c.requires.stored.linked (p - 1) e g) in
     let a = last-within is_essential (take (p - 1) S) refl in
     let d = length-take-le (p - 1) S (omega (arith, b, high)) in
@@ -55,17 +56,17 @@ loop-essential-preserved c =
     let S = statements_of k in
     let i = c.loop-essential.invariant in
     let p = c.loop-essential.essential in
-    let n = length-map k.entries.items (stmt_of k.names k.labels) in
+    let n = length-map k.entries (stmt_of k.names k.labels) in
     let w = walk-back is_essential S i.0 p refl i.1 i.2 c.loop-essential-test.true in
     let b = w.1.within in let one = w.1.above in let high = i.1 in
-    let e = c.index-entry.result.now in
-    let g = get-index k.entries.items (p - 1) e (omega (arith, n, b, one, high)) c.index-entry.ensures in
+    let e = seen c.entry-entry.result c.entry-entry.ensures.0 in
+    let g = c.entry-entry.ensures.1 in
     let l = ap (λ q. q.essential) (c.requires.stored.linked (p - 1) e g) in
-    let es = k.entries.items in
+    let es = k.entries in
     let there = actives is_essential (take (p - 1) S) in
     let list : c.put_floats-in-loop-essential.new.list.items ≡ with_floats es S (symbols_at es p) (inserted p c.loop-essential.list.items) =
     c.in_ok-put_floats-2.ensures
-    ∙ (ap (λ codes. with_floats es S codes c.put.new.list.items) (c.deref.ensures.value ∙ ap option_symbols (sym g)) ∙ ap (with_floats es S (symbols_at es p)) c.in_ok-put.ensures) in (
+    ∙ (ap (λ codes. with_floats es S codes c.put.new.list.items) (ap option_symbols (sym g)) ∙ ap (with_floats es S (symbols_at es p)) c.in_ok-put.ensures) in (
       p - 1,
       omega (arith, b, high),
       l,
@@ -78,4 +79,4 @@ returns c =
     let k = c.args.stock.now in
     let S = statements_of k in
     let i = c.loop-essential.invariant in
-    sym (ap (λ r. with_essentials k.entries.items S r c.loop-essential.list.items) (walk-over is_essential S i.0 c.loop-essential.essential refl i.2 c.loop-essential-test.false)) ∙ i.3
+    sym (ap (λ r. with_essentials k.entries S r c.loop-essential.list.items) (walk-over is_essential S i.0 c.loop-essential.essential refl i.2 c.loop-essential-test.false)) ∙ i.3

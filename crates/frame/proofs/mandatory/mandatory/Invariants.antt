@@ -6,8 +6,8 @@ use Rattle.frame.proofs.mandatory.mandatory.Given as goal
 
 abbrev pub invariant-loop-essential : goal.invariant-loop-essential
 invariant-loop-essential l = (m : ℕ) × (m ≤ length (statements_of l.stock)) × (l.essential ≡ last_active is_essential (take m (statements_of l.stock)))
-    × (with_essentials l.stock.entries.items (statements_of l.stock) (actives is_essential (take m (statements_of l.stock))) l.list.items
-    ≡ collected l.stock.entries.items (statements_of l.stock) l.codes)
+    × (with_essentials l.stock.entries (statements_of l.stock) (actives is_essential (take m (statements_of l.stock))) l.list.items
+    ≡ collected l.stock.entries (statements_of l.stock) l.codes)
 
 abbrev pub decreases-loop-essential : goal.decreases-loop-essential
 decreases-loop-essential l = l.essential

@@ -4,5 +4,5 @@ use Rattle.frame.proofs.mandatory.put_floats.Given as goal
 
 abbrev pub invariant-loop-code : goal.invariant-loop-code
 invariant-loop-code l =
-    with_floats l.stock.entries.items (statements_of l.stock) (drop l.code-index l.codes) l.list.items
-    ≡ with_floats l.stock.entries.items (statements_of l.stock) l.codes l.fn.list.items
+    with_floats l.stock.entries (statements_of l.stock) (drop l.code-index l.codes) l.list.items
+    ≡ with_floats l.stock.entries (statements_of l.stock) l.codes l.fn.list.items

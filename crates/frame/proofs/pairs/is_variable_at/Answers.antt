@@ -7,17 +7,17 @@ pub returns-then-declared-eq0 : goal.returns-then-declared-eq0
 returns-then-declared-eq0 c =
     let k = c.args.stock.now in
     let z = ap (λ s. s.variable) (index-is k.symbols.items c.args.x c.index.result.now _ (c.requires.stored.symbols_kept c.args.x c.requires.names.0) c.index.ensures) in
-    sym (declared-none k.names k.labels (length k.labels) c.args.x (c.args.at - 1) k.entries.items c.requires.names.1 c.requires.names.0 c.requires.stored.coded (sym z ∙ c.if-declared-eq0.true))
+    sym (declared-none k.names k.labels (length k.labels) c.args.x (c.args.at - 1) k.entries c.requires.names.1 c.requires.names.0 c.requires.stored.coded (sym z ∙ c.if-declared-eq0.true))
 
 pub is_active_at-requires-clause-plain : goal.is_active_at-requires-clause-plain
 is_active_at-requires-clause-plain c =
     let k = c.args.stock.now in
     let z = ap (λ s. s.variable) (index-is k.symbols.items c.args.x c.index.result.now _ (c.requires.stored.symbols_kept c.args.x c.requires.names.0) c.index.ensures) in
-    (var-plain k.names k.labels c.args.x c.index.result.now.variable k.entries.items z c.if-declared-eq0.false).1
+    (var-plain k.names k.labels c.args.x c.index.result.now.variable k.entries z c.if-declared-eq0.false).1
 
 pub returns-then-is_active_at : goal.returns-then-is_active_at
 returns-then-is_active_at c =
     let k = c.args.stock.now in
     let z = ap (λ s. s.variable) (index-is k.symbols.items c.args.x c.index.result.now _ (c.requires.stored.symbols_kept c.args.x c.requires.names.0) c.index.ensures) in
-    sym (declared-active k.names k.labels (length k.labels) c.args.x c.index.result.now.variable c.args.at k.entries.items c.requires.names.1 c.requires.names.0 c.requires.stored.coded z c.if-declared-eq0.false c.if-declared-at.true
+    sym (declared-active k.names k.labels (length k.labels) c.args.x c.index.result.now.variable c.args.at k.entries c.requires.names.1 c.requires.names.0 c.requires.stored.coded z c.if-declared-eq0.false c.if-declared-at.true
     (sym c.is_active_at.ensures ∙ c.if-is_active_at.true))

@@ -11,18 +11,19 @@ use Rattle.frame.specs.Stored.{statements_of, stmt_of}
 use Rattle.frame.proofs.WalkLemmas.{last-within}
 use Rattle.frame.proofs.StoredLemmas.{numbered-at}
 use Rattle.frame.proofs.PairsLemmas.{IsSought, sought-here, sought-found, sought-step, sought-over, read-here, any-kind, has-decode, entry-disj, other-disj}
+use Rattle.frame.specs.Entries.{seen}
 use Rattle.frame.proofs.pairs.stand_together.Goals as goal
 
-pub index-entry-requires : goal.index-entry-requires
-index-entry-requires c =
+pub entry-entry-requires : goal.entry-entry-requires
+entry-entry-requires c =
     let k = c.args.stock.now in
     let g = (λ (p : ℕ × Stmt). has_name (name_at k.names c.args.x) (separated p.1) && has_name (name_at k.names c.args.y) (separated p.1)) in
     let i = c.loop-last.invariant in
     let p = c.loop-last.last in
     let b = sought-here is_disj g (statements_of k) c.args.at p i.0 refl i.1 c.loop-last-test.true in
-    let n = length-map k.entries.items (stmt_of k.names k.labels) in
+    let n = length-map k.entries (stmt_of k.names k.labels) in
     let high = i.1.high in let le = b.1.within in let one = b.1.above in
-    omega (arith, n, high, le, one, k.entries.ok.0)
+    omega (arith, n, high, le, one)
 
 pub loop-last-init : goal.loop-last-init
 loop-last-init c =
@@ -39,11 +40,11 @@ returns-then-contains_both c =
     let g = (λ (p : ℕ × Stmt). has_name (name_at k.names c.args.x) (separated p.1) && has_name (name_at k.names c.args.y) (separated p.1)) in
     let i = c.loop-last.invariant in
     let p = c.loop-last.last in
-    let r = read-here is_disj g k.names k.labels k.entries.items c.args.at p i.0 c.index-entry.result.now refl i.1 c.loop-last-test.true c.index-entry.ensures in
+    let r = read-here is_disj g k.names k.labels k.entries c.args.at p i.0 (seen c.entry-entry.result c.entry-entry.ensures.0) refl i.1 c.loop-last-test.true c.entry-entry.ensures.1 in
     let b = r.1.back in
     let high = i.1.high in let le = b.within in let one = b.above in
-    let e = c.index-entry.result.now in
-    let yes = told k.names c.args.x c.args.y e.symbols.items r.0 true (has-decode k.names c.args.x e.symbols.items c.requires.names.2 c.requires.names.0 (numbered-at (length k.names) (length k.labels) k.entries.items c.requires.stored.coded (p - 1) e r.1.entry)) (has-decode k.names c.args.y e.symbols.items c.requires.names.2 c.requires.names.1 (numbered-at (length k.names) (length k.labels) k.entries.items c.requires.stored.coded (p - 1) e r.1.entry)) (ap separated (sym r.1.is) ∙ entry-disj k.names k.labels e (ap is_disj r.1.is ∙ b.of_kind)) (sym c.if-contains_both.true ∙ (c.contains_both.ensures ∙ ap (λ q. list_any (λ z. c.args.x == z) q && list_any (λ z. c.args.y == z) q) c.deref.ensures.value)) in
+    let e = seen c.entry-entry.result c.entry-entry.ensures.0 in
+    let yes = told k.names c.args.x c.args.y e.symbols r.0 true (has-decode k.names c.args.x e.symbols c.requires.names.2 c.requires.names.0 (numbered-at (length k.names) (length k.labels) k.entries c.requires.stored.coded (p - 1) e r.1.entry)) (has-decode k.names c.args.y e.symbols c.requires.names.2 c.requires.names.1 (numbered-at (length k.names) (length k.labels) k.entries c.requires.stored.coded (p - 1) e r.1.entry)) (ap separated (sym r.1.is) ∙ entry-disj k.names k.labels e (ap is_disj r.1.is ∙ b.of_kind)) (sym c.if-contains_both.true ∙ c.contains_both.ensures) in
     sym (any-kind is_disj g (λ q h. ap (λ l. has_name (name_at k.names c.args.x) l && has_name (name_at k.names c.args.y) l) (other-disj q.1 h)) (active (before (statements_of k) c.args.at)) ∙ sought-found is_disj g (statements_of k) c.args.at p i.0 refl i.1 r.0 b yes)
 
 pub loop-last-smaller : goal.loop-last-smaller
@@ -52,10 +53,10 @@ loop-last-smaller c =
     let g = (λ (p : ℕ × Stmt). has_name (name_at k.names c.args.x) (separated p.1) && has_name (name_at k.names c.args.y) (separated p.1)) in
     let i = c.loop-last.invariant in
     let p = c.loop-last.last in
-    let r = read-here is_disj g k.names k.labels k.entries.items c.args.at p i.0 c.index-entry.result.now refl i.1 c.loop-last-test.true c.index-entry.ensures in
+    let r = read-here is_disj g k.names k.labels k.entries c.args.at p i.0 (seen c.entry-entry.result c.entry-entry.ensures.0) refl i.1 c.loop-last-test.true c.entry-entry.ensures.1 in
     let b = r.1.back in
     let high = i.1.high in let le = b.within in let one = b.above in
-    let l = ap (λ q. q.disjoint) (c.requires.stored.linked (p - 1) c.index-entry.result.now r.1.entry) in
+    let l = ap (λ q. q.disjoint) (c.requires.stored.linked (p - 1) (seen c.entry-entry.result c.entry-entry.ensures.0) r.1.entry) in
     let a = last-within is_disj (take (p - 1) (statements_of k)) refl in
     let d = length-take-le (p - 1) (statements_of k) (omega (arith, le, high)) in
     omega (arith, l, a, d, one)
@@ -66,12 +67,12 @@ loop-last-preserved c =
     let g = (λ (p : ℕ × Stmt). has_name (name_at k.names c.args.x) (separated p.1) && has_name (name_at k.names c.args.y) (separated p.1)) in
     let i = c.loop-last.invariant in
     let p = c.loop-last.last in
-    let r = read-here is_disj g k.names k.labels k.entries.items c.args.at p i.0 c.index-entry.result.now refl i.1 c.loop-last-test.true c.index-entry.ensures in
+    let r = read-here is_disj g k.names k.labels k.entries c.args.at p i.0 (seen c.entry-entry.result c.entry-entry.ensures.0) refl i.1 c.loop-last-test.true c.entry-entry.ensures.1 in
     let b = r.1.back in
     let high = i.1.high in let le = b.within in let one = b.above in
-    let e = c.index-entry.result.now in
+    let e = seen c.entry-entry.result c.entry-entry.ensures.0 in
     let l = ap (λ q. q.disjoint) (c.requires.stored.linked (p - 1) e r.1.entry) in
-    let nay = told k.names c.args.x c.args.y e.symbols.items r.0 false (has-decode k.names c.args.x e.symbols.items c.requires.names.2 c.requires.names.0 (numbered-at (length k.names) (length k.labels) k.entries.items c.requires.stored.coded (p - 1) e r.1.entry)) (has-decode k.names c.args.y e.symbols.items c.requires.names.2 c.requires.names.1 (numbered-at (length k.names) (length k.labels) k.entries.items c.requires.stored.coded (p - 1) e r.1.entry)) (ap separated (sym r.1.is) ∙ entry-disj k.names k.labels e (ap is_disj r.1.is ∙ b.of_kind)) (sym c.if-contains_both.false ∙ (c.contains_both.ensures ∙ ap (λ q. list_any (λ z. c.args.x == z) q && list_any (λ z. c.args.y == z) q) c.deref.ensures.value)) in
+    let nay = told k.names c.args.x c.args.y e.symbols r.0 false (has-decode k.names c.args.x e.symbols c.requires.names.2 c.requires.names.0 (numbered-at (length k.names) (length k.labels) k.entries c.requires.stored.coded (p - 1) e r.1.entry)) (has-decode k.names c.args.y e.symbols c.requires.names.2 c.requires.names.1 (numbered-at (length k.names) (length k.labels) k.entries c.requires.stored.coded (p - 1) e r.1.entry)) (ap separated (sym r.1.is) ∙ entry-disj k.names k.labels e (ap is_disj r.1.is ∙ b.of_kind)) (sym c.if-contains_both.false ∙ c.contains_both.ensures) in
     (p - 1, subst (λ q. IsSought is_disj g (statements_of k) c.args.at q (p - 1)) (sym l) (sought-step is_disj g (statements_of k) c.args.at p i.0 refl i.1 r.0 b nay))
 
 pub returns : goal.returns

@@ -6,10 +6,11 @@ use Rattle.mm_read.specs.declared.stmt.Stmt.{Stmt}
 use Rattle.scope.specs.Active.{stmt_at, expr_of}
 use Rattle.scope.specs.Numbering.{decode}
 use Rattle.frame.specs.ByPlaces.{AreBelow}
-use Rattle.frame.specs.declared.storage.Entry.{Entry}
+use Rattle.frame.specs.Entries.{Entry}
 use Rattle.frame.specs.Stored.{stmt_of}
 use Rattle.frame.proofs.WalkLemmas.{some-same}
 use Rattle.frame.proofs.StoredLemmas.{HasExpr, get-stmt, get-index, stmt-at-suc, two-of, numbered-at, entry-expr, entry-none, none-of}
+use Rattle.frame.specs.Entries.{seen}
 use Rattle.frame.proofs.reading.expr_at.Goals as goal
 
 -- the entry read is that of the statement
@@ -19,82 +20,78 @@ is-entry names labels es at e s one g h = some-same (sym (get-stmt names labels 
 pub returns-in-Float-clause-same : goal.returns-in-Float-clause-same
 returns-in-Float-clause-same c = λ s h.
     let k = c.args.stock.now in
-    let e = c.index-entry.result.now in
-    let n = length-map k.entries.items (stmt_of k.names k.labels) in
-    let g = get-index k.entries.items (c.args.at - 1) e (omega (arith, n, c.requires.place.0, c.requires.place.1)) c.index-entry.ensures in
-    ap (decode k.names) c.as_slice.ensures.value
-    ∙ (entry-expr k.names k.labels e (subst HasExpr (sym c.in-Float.is) tt) (two-of (length k.names) (length k.labels) k.entries.items c.requires.stored.coded (c.args.at - 1) e g)
-    ∙ ap expr_of (is-entry k.names k.labels k.entries.items c.args.at e s c.requires.place.0 g h))
+    let e = seen c.entry-entry.result c.entry-entry.ensures.0 in
+    let n = length-map k.entries (stmt_of k.names k.labels) in
+    let g = c.entry-entry.ensures.1 in
+    entry-expr k.names k.labels e (subst HasExpr (sym c.in-Float.is) tt) (two-of (length k.names) (length k.labels) k.entries c.requires.stored.coded (c.args.at - 1) e g)
+    ∙ ap expr_of (is-entry k.names k.labels k.entries c.args.at e s c.requires.place.0 g h)
 
 pub returns-in-Float-clause-codes : goal.returns-in-Float-clause-codes
 returns-in-Float-clause-codes c =
     let k = c.args.stock.now in
-    let e = c.index-entry.result.now in
-    let n = length-map k.entries.items (stmt_of k.names k.labels) in
-    let g = get-index k.entries.items (c.args.at - 1) e (omega (arith, n, c.requires.place.0, c.requires.place.1)) c.index-entry.ensures in
-    subst (AreBelow (length k.names)) (sym c.as_slice.ensures.value) (numbered-at (length k.names) (length k.labels) k.entries.items c.requires.stored.coded (c.args.at - 1) e g)
+    let e = seen c.entry-entry.result c.entry-entry.ensures.0 in
+    let n = length-map k.entries (stmt_of k.names k.labels) in
+    let g = c.entry-entry.ensures.1 in
+    numbered-at (length k.names) (length k.labels) k.entries c.requires.stored.coded (c.args.at - 1) e g
 
 pub returns-in-Ess-clause-same : goal.returns-in-Ess-clause-same
 returns-in-Ess-clause-same c = λ s h.
     let k = c.args.stock.now in
-    let e = c.index-entry.result.now in
-    let n = length-map k.entries.items (stmt_of k.names k.labels) in
-    let g = get-index k.entries.items (c.args.at - 1) e (omega (arith, n, c.requires.place.0, c.requires.place.1)) c.index-entry.ensures in
-    ap (decode k.names) c.as_slice-in-Ess.ensures.value
-    ∙ (entry-expr k.names k.labels e (subst HasExpr (sym c.in-Ess.is) tt) (two-of (length k.names) (length k.labels) k.entries.items c.requires.stored.coded (c.args.at - 1) e g)
-    ∙ ap expr_of (is-entry k.names k.labels k.entries.items c.args.at e s c.requires.place.0 g h))
+    let e = seen c.entry-entry.result c.entry-entry.ensures.0 in
+    let n = length-map k.entries (stmt_of k.names k.labels) in
+    let g = c.entry-entry.ensures.1 in
+    entry-expr k.names k.labels e (subst HasExpr (sym c.in-Ess.is) tt) (two-of (length k.names) (length k.labels) k.entries c.requires.stored.coded (c.args.at - 1) e g)
+    ∙ ap expr_of (is-entry k.names k.labels k.entries c.args.at e s c.requires.place.0 g h)
 
 pub returns-in-Ess-clause-codes : goal.returns-in-Ess-clause-codes
 returns-in-Ess-clause-codes c =
     let k = c.args.stock.now in
-    let e = c.index-entry.result.now in
-    let n = length-map k.entries.items (stmt_of k.names k.labels) in
-    let g = get-index k.entries.items (c.args.at - 1) e (omega (arith, n, c.requires.place.0, c.requires.place.1)) c.index-entry.ensures in
-    subst (AreBelow (length k.names)) (sym c.as_slice-in-Ess.ensures.value) (numbered-at (length k.names) (length k.labels) k.entries.items c.requires.stored.coded (c.args.at - 1) e g)
+    let e = seen c.entry-entry.result c.entry-entry.ensures.0 in
+    let n = length-map k.entries (stmt_of k.names k.labels) in
+    let g = c.entry-entry.ensures.1 in
+    numbered-at (length k.names) (length k.labels) k.entries c.requires.stored.coded (c.args.at - 1) e g
 
 pub returns-in-Axiom-clause-same : goal.returns-in-Axiom-clause-same
 returns-in-Axiom-clause-same c = λ s h.
     let k = c.args.stock.now in
-    let e = c.index-entry.result.now in
-    let n = length-map k.entries.items (stmt_of k.names k.labels) in
-    let g = get-index k.entries.items (c.args.at - 1) e (omega (arith, n, c.requires.place.0, c.requires.place.1)) c.index-entry.ensures in
-    ap (decode k.names) c.as_slice-in-Axiom.ensures.value
-    ∙ (entry-expr k.names k.labels e (subst HasExpr (sym c.in-Axiom.is) tt) (two-of (length k.names) (length k.labels) k.entries.items c.requires.stored.coded (c.args.at - 1) e g)
-    ∙ ap expr_of (is-entry k.names k.labels k.entries.items c.args.at e s c.requires.place.0 g h))
+    let e = seen c.entry-entry.result c.entry-entry.ensures.0 in
+    let n = length-map k.entries (stmt_of k.names k.labels) in
+    let g = c.entry-entry.ensures.1 in
+    entry-expr k.names k.labels e (subst HasExpr (sym c.in-Axiom.is) tt) (two-of (length k.names) (length k.labels) k.entries c.requires.stored.coded (c.args.at - 1) e g)
+    ∙ ap expr_of (is-entry k.names k.labels k.entries c.args.at e s c.requires.place.0 g h)
 
 pub returns-in-Axiom-clause-codes : goal.returns-in-Axiom-clause-codes
 returns-in-Axiom-clause-codes c =
     let k = c.args.stock.now in
-    let e = c.index-entry.result.now in
-    let n = length-map k.entries.items (stmt_of k.names k.labels) in
-    let g = get-index k.entries.items (c.args.at - 1) e (omega (arith, n, c.requires.place.0, c.requires.place.1)) c.index-entry.ensures in
-    subst (AreBelow (length k.names)) (sym c.as_slice-in-Axiom.ensures.value) (numbered-at (length k.names) (length k.labels) k.entries.items c.requires.stored.coded (c.args.at - 1) e g)
+    let e = seen c.entry-entry.result c.entry-entry.ensures.0 in
+    let n = length-map k.entries (stmt_of k.names k.labels) in
+    let g = c.entry-entry.ensures.1 in
+    numbered-at (length k.names) (length k.labels) k.entries c.requires.stored.coded (c.args.at - 1) e g
 
 pub returns-in-Prove-clause-same : goal.returns-in-Prove-clause-same
 returns-in-Prove-clause-same c = λ s h.
     let k = c.args.stock.now in
-    let e = c.index-entry.result.now in
-    let n = length-map k.entries.items (stmt_of k.names k.labels) in
-    let g = get-index k.entries.items (c.args.at - 1) e (omega (arith, n, c.requires.place.0, c.requires.place.1)) c.index-entry.ensures in
-    ap (decode k.names) c.as_slice-in-Prove.ensures.value
-    ∙ (entry-expr k.names k.labels e (subst HasExpr (sym c.in-Prove.is) tt) (two-of (length k.names) (length k.labels) k.entries.items c.requires.stored.coded (c.args.at - 1) e g)
-    ∙ ap expr_of (is-entry k.names k.labels k.entries.items c.args.at e s c.requires.place.0 g h))
+    let e = seen c.entry-entry.result c.entry-entry.ensures.0 in
+    let n = length-map k.entries (stmt_of k.names k.labels) in
+    let g = c.entry-entry.ensures.1 in
+    entry-expr k.names k.labels e (subst HasExpr (sym c.in-Prove.is) tt) (two-of (length k.names) (length k.labels) k.entries c.requires.stored.coded (c.args.at - 1) e g)
+    ∙ ap expr_of (is-entry k.names k.labels k.entries c.args.at e s c.requires.place.0 g h)
 
 pub returns-in-Prove-clause-codes : goal.returns-in-Prove-clause-codes
 returns-in-Prove-clause-codes c =
     let k = c.args.stock.now in
-    let e = c.index-entry.result.now in
-    let n = length-map k.entries.items (stmt_of k.names k.labels) in
-    let g = get-index k.entries.items (c.args.at - 1) e (omega (arith, n, c.requires.place.0, c.requires.place.1)) c.index-entry.ensures in
-    subst (AreBelow (length k.names)) (sym c.as_slice-in-Prove.ensures.value) (numbered-at (length k.names) (length k.labels) k.entries.items c.requires.stored.coded (c.args.at - 1) e g)
+    let e = seen c.entry-entry.result c.entry-entry.ensures.0 in
+    let n = length-map k.entries (stmt_of k.names k.labels) in
+    let g = c.entry-entry.ensures.1 in
+    numbered-at (length k.names) (length k.labels) k.entries c.requires.stored.coded (c.args.at - 1) e g
 
 pub returns-in_default : goal.returns-in_default
 returns-in_default c = record {
   same = λ s h.
       let k = c.args.stock.now in
-      let e = c.index-entry.result.now in
-      let n = length-map k.entries.items (stmt_of k.names k.labels) in
-      let g = get-index k.entries.items (c.args.at - 1) e (omega (arith, n, c.requires.place.0, c.requires.place.1)) c.index-entry.ensures in
-      sym (entry-none k.names k.labels e (none-of e.kind c.in_default.not-Float c.in_default.not-Ess c.in_default.not-Axiom c.in_default.not-Prove)).0 ∙ ap expr_of (is-entry k.names k.labels k.entries.items c.args.at e s c.requires.place.0 g h);
+      let e = seen c.entry-entry.result c.entry-entry.ensures.0 in
+      let n = length-map k.entries (stmt_of k.names k.labels) in
+      let g = c.entry-entry.ensures.1 in
+      sym (entry-none k.names k.labels e (none-of e.kind c.in_default.not-Float c.in_default.not-Ess c.in_default.not-Axiom c.in_default.not-Prove)).0 ∙ ap expr_of (is-entry k.names k.labels k.entries c.args.at e s c.requires.place.0 g h);
   codes = tt;
 }

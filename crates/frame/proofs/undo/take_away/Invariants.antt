@@ -4,12 +4,12 @@ use Rattle.frame.proofs.undo.take_away.Given as goal
 
 abbrev pub invariant-loop-entries : goal.invariant-loop-entries
 invariant-loop-entries l = record {
-  front : Extends l.entries.items l.fn.entries.items;
-  enough : l.len ≤ length l.entries.items;
-  declared : ReadsAs l.symbols.items (symbol_of l.entries.items);
-  noted : l.replaced.items ≡ replaced_of l.entries.items;
+  front : Extends l.entries l.fn.entries;
+  enough : l.len ≤ length l.entries;
+  declared : ReadsAs l.symbols.items (symbol_of l.entries);
+  noted : l.replaced.items ≡ replaced_of l.entries;
   count : length l.symbols.items ≡ length l.fn.symbols.items;
 }
 
 abbrev pub decreases-loop-entries : goal.decreases-loop-entries
-decreases-loop-entries l = length l.entries.items
+decreases-loop-entries l = length l.entries

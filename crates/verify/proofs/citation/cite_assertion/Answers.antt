@@ -1,7 +1,6 @@
 use Rattle.std.proofs.Common.{◌≡◌, ℕ, List, length, map, arith, sym, ap, ◌∙◌, subst}
 use Rattle.scope.specs.Numbering.{decode}
 use Rattle.frame.specs.ByPlaces.{are_places_apart, AllBelow}
-use Rattle.frame.specs.Reading.{groups_of}
 use Rattle.verify.specs.Places.{top}
 use Rattle.verify.proofs.TableLemmas.{has_with}
 use Rattle.verify.proofs.StepLemmas.{assertion-few, assertion-unfit, assertion-clash, assertion-result}
@@ -38,14 +37,14 @@ pub returns-then-not-are_apart : goal.returns-then-not-are_apart
 returns-then-not-are_apart c = λ label s carries.
     assertion-clash _ _ c.args.at c.requires.legal c.args.results.now c.args.results.now c.requires.named label c.args.position c.cited-cited.result s carries
     (has_with _ _ s _ label carries c.requires.assertion.1) (c.cited-cited.ensures s carries.stands)
-    (apart_by _ _ _ _ _ (top (length c.cited-cited.result.patterns.now) c.args.results.now.stack) (groups_of c.cited-cited.result) _ c.requires.active c.requires.names c.are_apart.ensures c.if-not-are_apart.true)
+    (apart_by _ _ _ _ _ (top (length c.cited-cited.result.patterns.now) c.args.results.now.stack) c.cited-cited.result.groups _ c.requires.active c.requires.names c.are_apart.ensures c.if-not-are_apart.true)
 
 pub returns : goal.returns
 returns c = λ label s carries.
     assertion-result _ _ c.args.at c.requires.legal _ _ c.requires.named label c.args.position c.cited-cited.result s carries
     (has_with _ _ s _ label carries c.requires.assertion.1) (c.cited-cited.ensures s carries.stands) c.apply.result c.requires.earlier
     (omega (arith, c.if-count-len.false, c.len.ensures)) (c.fits.ensures.0 c.if-not-fits.false)
-    (apart_by _ _ _ _ _ (top (length c.cited-cited.result.patterns.now) c.args.results.now.stack) (groups_of c.cited-cited.result) _ c.requires.active c.requires.names c.are_apart.ensures c.if-not-are_apart.false) c.apply.ensures
+    (apart_by _ _ _ _ _ (top (length c.cited-cited.result.patterns.now) c.args.results.now.stack) c.cited-cited.result.groups _ c.requires.active c.requires.names c.are_apart.ensures c.if-not-are_apart.false) c.apply.ensures
 
 pub are_apart-requires-clause-named : goal.are_apart-requires-clause-named
 are_apart-requires-clause-named c = subst (λ ns. AllBelow (length ns) c.args.results.now.stack) (sym c.requires.names) c.requires.named.stack_named

@@ -9,5 +9,5 @@ pub returns-in-None-clause-unnamed : goal.returns-in-None-clause-unnamed
 returns-in-None-clause-unnamed c =
     let k = c.self.inside.stock.now in
     ap (λ (v : Numbered). is_variable v.statements c.args.name.now) (sym c.self.view_is)
-    ∙ unnamed-none k.names k.labels (length k.labels) (c.self.inside.at - 1) c.args.name.now k.entries.items
+    ∙ unnamed-none k.names k.labels (length k.labels) (c.self.inside.at - 1) c.args.name.now k.entries
     (code-none k.names c.args.name.now (sym c.in-None.ensures)) c.self.invariant.0.coded

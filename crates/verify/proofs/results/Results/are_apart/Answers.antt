@@ -11,7 +11,7 @@ groups_apart-requires-clause-within c = rw (c.as_slice.ensures, c.deref.ensures.
 pub returns : goal.returns
 returns c =
     c.groups_apart.ensures
-    ∙ ap (λ rs. are_places_apart c.args.pairs.now.statements (map (decode c.args.pairs.now.names) rs) (map (λ v. v.items) c.args.groups.now))
+    ∙ ap (λ rs. are_places_apart c.args.pairs.now.statements (map (decode c.args.pairs.now.names) rs) c.args.groups.now)
     (seen_eq c.self.inside.symbols c.as_slice.result.now c.self.inside.stack.items c.deref.result.now c.args.self.now.stack (c.len.result - c.args.count) c.args.count
     c.as_slice.ensures c.deref.ensures.value (ap (λ v. v.stack) c.self.view_is) (omega (arith, c.len.ensures)))
 

@@ -1,0 +1,1 @@
+use Rattle.frame.proofs.entries.add.Goals as goal

@@ -1,0 +1,1 @@
+use Rattle.frame.proofs.entries.add_numbers.Goals as goal

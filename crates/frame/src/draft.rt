@@ -1,0 +1,62 @@
+//! What is found out about a statement before it is kept.
+ghost use Rattle.std.specs.Prelude.{◌≡◌, []};
+ghost use Rattle.frame.specs.Entries.{IsPartless};
+
+use crate::citation::Pattern;
+use crate::span::Span;
+use std::alloc::Global;
+
+/// The numbers of a statement's symbols, and the parts of an assertion. Its buffers serve one statement after another.
+#[derive(Drop)]
+pub struct Draft {
+    /// The numbers of its symbols.
+    pub symbols: Vec<u32>,
+    /// The positions of its hypotheses, in order.
+    pub hypotheses: Vec<usize>,
+    /// The variables of the hypotheses, at their places.
+    pub variables: Vec<Option<u32>>,
+    /// What the results for the hypotheses must be.
+    pub patterns: Vec<Pattern>,
+    /// The templates of the essential ones, one behind the other.
+    pub templates: Vec<u32>,
+    /// The template of its conclusion.
+    pub conclusion: Vec<u32>,
+    /// The places whose images are kept apart, one group behind the other.
+    pub places: Vec<u32>,
+    /// The groups.
+    pub groups: Vec<Span>,
+}
+
+impl Draft {
+    /// Nothing.
+    pub fn new(alloc: Global) -> Draft
+        ensures symbols { result.symbols.items ≡ [] }
+        ensures partless { IsPartless result }
+    {
+        Draft {
+            symbols: Vec::new(alloc),
+            hypotheses: Vec::new(alloc),
+            variables: Vec::new(alloc),
+            patterns: Vec::new(alloc),
+            templates: Vec::new(alloc),
+            conclusion: Vec::new(alloc),
+            places: Vec::new(alloc),
+            groups: Vec::new(alloc),
+        }
+    }
+
+    /// Nothing again. The buffers stay.
+    pub fn clear(&mut self)
+        ensures symbols { self.new.symbols.items ≡ [] }
+        ensures partless { IsPartless self.new }
+    {
+        self.symbols.clear();
+        self.hypotheses.clear();
+        self.variables.clear();
+        self.patterns.clear();
+        self.templates.clear();
+        self.conclusion.clear();
+        self.places.clear();
+        self.groups.clear();
+    }
+}

@@ -1,0 +1,15 @@
+//! The kinds of statements.
+
+/// What kind of statement an entry is.
+#[derive(Clone, Copy, Debug, Drop, PartialEq, Eq)]
+pub enum Kind {
+    Open,
+    Close,
+    Const,
+    Var,
+    Disj,
+    Float,
+    Ess,
+    Axiom,
+    Prove,
+}

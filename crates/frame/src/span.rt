@@ -1,0 +1,47 @@
+//! A part of a buffer.
+ghost use Rattle.std.specs.Prelude.{◌≡◌, ◌≤◌, ◌<◌, length, slice_range, slice_get, Some, IfOk};
+
+use std::alloc::AllocError;
+
+/// The items of a buffer from the one place up to the other.
+#[derive(Clone, Copy, Drop)]
+pub struct Span {
+    pub from: u32,
+    pub to: u32,
+}
+
+/// A place in a buffer. Buffers have at most 2^32 - 1 items: more are answered as want of memory.
+pub fn place(at: usize) -> Result<u32, AllocError>
+    ensures { IfOk result (λ n. n ≡ at) }
+{
+    if at > u32::MAX as usize {
+        return Err(AllocError);
+    }
+    Ok(at as u32)
+}
+
+/// What stands between two places.
+pub fn between(from: usize, to: usize) -> Result<Span, AllocError>
+    ensures { IfOk result (λ s. (s.from ≡ from) × (s.to ≡ to)) }
+{
+    Ok(Span {
+        from: place(from)?,
+        to: place(to)?,
+    })
+}
+
+/// A part of the items.
+pub fn part<T>(items: &[T], from: u32, to: u32) -> &[T]
+    requires { (from ≤ to) × (to ≤ length items.now) }
+    ensures { result.now ≡ slice_range items.now from to }
+{
+    &items[from as usize..to as usize]
+}
+
+/// The item at an index.
+pub fn item<T: Copy>(items: &[T], index: usize) -> T
+    requires { index < length items.now }
+    ensures { slice_get items.now index ≡ Some result }
+{
+    items[index]
+}
