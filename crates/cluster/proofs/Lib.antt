@@ -1,0 +1,6 @@
+mod SeatLemmas
+mod SwitchLemmas
+mod CallLemmas
+mod CellLemmas
+mod EntriesLemmas
+mod CellsLemmas

@@ -1,0 +1,12 @@
+use Rattle.std.proofs.Common.{List, Option, ap, ◌∙◌, arith}
+use Rattle.slots.specs.FiniteMap.{entry_at}
+use Rattle.synod.specs.declared.change.Held.{Held}
+use Rattle.cluster.specs.Entries.{with_entry}
+use Rattle.cluster.proofs.EntriesLemmas.{with_next}
+use Rattle.cluster.proofs.memory_keep.copy_record.Goals as goal
+
+pub loop-slot-preserved : goal.loop-slot-preserved
+loop-slot-preserved g c =
+    c.in_ok-copy_slot.ensures
+    ∙ ap (λ (xs : List (Option (Held g.row.V.Denot))). with_entry xs c.loop-slot.slot (entry_at c.args.source.now.kept.accepted c.loop-slot.slot)) c.loop-slot.invariant
+    ∙ with_next c.args.source.now.kept.accepted c.loop-slot.slot (omega (arith, c.top-slot-end.ensures.top, c.loop-slot-test.true))

@@ -1,0 +1,6 @@
+pub mod Seat
+pub mod Standing
+pub mod Switch
+pub mod Cell
+pub mod Cells
+pub mod Entries

@@ -1,0 +1,24 @@
+//! The nodes of one agreement, each with a keep that may fail, and what each has taken over of its log.
+//!
+//! The contract that the crates above use is that of the calls that are lent locked values: each of `begin_on`, `offer_on`,
+//! `deliver_on` and `restart_on` is one event of a history that is taken (`Acts`, `Restarts` of `specs/Switch.antt`); what
+//! `Switch::history` tells is true of every switch.
+//!
+//! Read `memory_keep`, `seat` and `switch`, then `cell`; the definitions are specs/Seat, Switch and Cell.
+#![tactic(auto)]
+
+mod cell;
+mod copies;
+mod memory_keep;
+mod parts;
+mod seat;
+mod standing;
+mod switch;
+
+pub use cell::{NodeCell, restart_on, take_on};
+pub use memory_keep::MemoryKeep;
+pub use parts::cells;
+pub use switch::{Switch, begin_on, deliver_on, offer_on};
+
+#[cfg(test)]
+mod tests;

@@ -1,0 +1,122 @@
+//! A keep in memory.
+ghost use Rattle.std.specs.Prelude.{◌≡◌, ◌<◌, Ok, Err, Some, None, OnOk, IfOk};
+ghost use Rattle.slots.specs.FiniteMap.{entry_at, trimmed};
+ghost use Rattle.slots.specs.declared.slots.TheConstants.{SLOTS};
+ghost use Rattle.synod.specs.Record.{new_kept, HasRoomFor};
+ghost use Rattle.cluster.specs.Entries.{with_entry};
+
+use crate::copies::{copy_change, copy_held};
+use scope::Steps;
+use slots::SLOTS;
+use std::alloc::{AllocError, Global};
+use synod::{Change, Failed, Keep, Record, Value};
+
+/// An acceptor's store that lasts as long as the process. Where it finds no memory, it fails.
+#[derive(Drop)]
+pub struct MemoryKeep<V: Value> {
+    alloc: Global,
+    stored: Record<V>,
+    failures: Steps,
+    ghost whole: { trimmed stored.kept.accepted ≡ stored.kept.accepted },
+}
+
+impl<V: Value> MemoryKeep<V> {
+    /// The record of a new node. It takes no memory.
+    pub fn new(alloc: Global) -> Self
+        ensures kept { ⟦<MemoryKeep<V> as Keep<V>>⟧.kept result ≡ new_kept }
+        ensures failures { ⟦<MemoryKeep<V> as Keep<V>>⟧.failures result ≡ 0 }
+    {
+        MemoryKeep {
+            alloc,
+            stored: Record::new(alloc),
+            failures: Steps::new(),
+        }
+    }
+}
+
+impl<V: Value> Keep<V> for MemoryKeep<V> {
+    ghost kept = { λ s. s.stored.kept };
+
+    ghost failures = { λ s. s.failures.count };
+
+    fn store(&mut self, change: &Change<V>) -> Result<(), Failed> {
+        let Ok(change) = copy_change(change) else {
+            self.failures.tick();
+            return Err(Failed);
+        };
+        let Ok(()) = make_room(&mut self.stored, &change) else {
+            self.failures.tick();
+            return Err(Failed);
+        };
+        self.stored.change_by(Some(change));
+        Ok(())
+    }
+
+    fn load(&mut self) -> Result<Record<V>, Failed> {
+        let Ok(record) = copy_record(self.alloc, &self.stored) else {
+            self.failures.tick();
+            return Err(Failed);
+        };
+        Ok(record)
+    }
+}
+
+/// Makes room for a change. No record has a slot past the limit.
+fn make_room<V: Value>(kept: &mut Record<V>, change: &Change<V>) -> Result<(), Failed>
+    ensures room { OnOk result (HasRoomFor kept.new.room (Some change.now)) }
+    ensures kept { kept.new.kept ≡ kept.old.kept }
+{
+    match change {
+        Change::Round(_) => Ok(()),
+        Change::Promise(_) => Ok(()),
+        Change::Entry { slot, .. } => room_at(kept, *slot),
+    }
+}
+
+/// The same for one slot.
+fn room_at<V: Value>(kept: &mut Record<V>, slot: u32) -> Result<(), Failed>
+    ensures room { OnOk result (slot < kept.new.room) }
+    ensures kept { kept.new.kept ≡ kept.old.kept }
+{
+    if slot >= SLOTS {
+        return Err(Failed);
+    }
+    match kept.room(slot) {
+        Ok(()) => Ok(()),
+        Err(_) => Err(Failed),
+    }
+}
+
+/// The same record once more.
+///
+/// Cost: the record, each value copied once.
+fn copy_record<V: Value>(alloc: Global, source: &Record<V>) -> Result<Record<V>, AllocError>
+    requires { trimmed source.now.kept.accepted ≡ source.now.kept.accepted }
+    ensures { IfOk result (λ copy. copy.kept ≡ source.now.kept) }
+{
+    let mut copy = Record::new(alloc);
+    for slot in 0..source.top() {
+        copy_slot(&mut copy, source, slot)?;
+    }
+    copy.change_by(Some(Change::Round(source.round())));
+    copy.change_by(Some(Change::Promise(source.promise())));
+    Ok(copy)
+}
+
+/// What the record has at a slot comes into the copy.
+fn copy_slot<V: Value>(
+    copy: &mut Record<V>,
+    source: &Record<V>,
+    slot: u32,
+) -> Result<(), AllocError>
+    requires { slot < SLOTS }
+    ensures { OnOk result (copy.new.kept.accepted ≡ with_entry copy.old.kept.accepted slot (entry_at source.now.kept.accepted slot)) }
+{
+    let Some(held) = source.get(slot) else {
+        return Ok(());
+    };
+    let held = copy_held(held)?;
+    copy.room(slot)?;
+    copy.change_by(Some(Change::Entry { slot, held }));
+    Ok(())
+}
