@@ -80,19 +80,17 @@ impl Frames {
         self.stock.entries.len()
     }
 
-    /// Adds the statement that the scope accepts next.
+    /// Adds a statement that is legal behind those that are here.
     ///
     /// Where a growth is refused, everything is as before. One step is counted, whatever is answered.
     /// Cost: the statement's own size.
-    pub fn push(&mut self, scope: &Scope, stmt: &Stmt, steps: &mut Steps) -> Result<(), AllocError>
-        requires same { scope.now.statements ≡ self.old.statements }
-        requires legal { IsLegal scope.now.statements stmt.now }
+    pub fn keep(&mut self, stmt: &Stmt, steps: &mut Steps) -> Result<(), AllocError>
+        requires { IsLegal self.old.statements stmt.now }
         ensures added { OnOk result (self.new.statements ≡ self.old.statements ++ bare stmt.now ∷ []) }
         ensures names { Extends self.old.names self.new.names }
         ensures same { OnErr result (self.new ≡ self.old) }
         ensures counted { steps.new.count ≡ steps.old.count + 1 }
     {
-        let _scope = scope;
         steps.tick();
         let names = self.stock.names.len();
         let labels = self.stock.labels.len();
@@ -102,6 +100,19 @@ impl Frames {
             roll_back(&mut self.stock, names, labels, replaced);
         }
         result
+    }
+
+    /// Adds the statement that the scope accepts next, as `keep` does.
+    pub fn push(&mut self, scope: &Scope, stmt: &Stmt, steps: &mut Steps) -> Result<(), AllocError>
+        requires same { scope.now.statements ≡ self.old.statements }
+        requires legal { IsLegal scope.now.statements stmt.now }
+        ensures added { OnOk result (self.new.statements ≡ self.old.statements ++ bare stmt.now ∷ []) }
+        ensures names { Extends self.old.names self.new.names }
+        ensures same { OnErr result (self.new ≡ self.old) }
+        ensures counted { steps.new.count ≡ steps.old.count + 1 }
+    {
+        let _scope = scope;
+        self.keep(stmt, steps)
     }
 
     /// Only the first `len` statements stay.

@@ -6,7 +6,7 @@
 
 ghost use Rattle.std.specs.Prelude.{◌≡◌, [], ◌∷◌, ◌++◌, IsTrue, length};
 ghost use Rattle.mm_read.specs.declared.stmt.Stmt.{Stmt as Statement};
-ghost use Rattle.mm_read.specs.Statements.{AreShaped};
+ghost use Rattle.mm_read.specs.Statements.{AreShaped, IsShaped, Database};
 ghost use Rattle.scope.specs.Active.{bare, is_provable};
 ghost use Rattle.frame.specs.FrameOf.{HasAssertion};
 
@@ -89,12 +89,7 @@ fn count_framed(alloc: Global, statements: &[Stmt]) -> usize
     let mut frames = Frames::new(alloc);
     let mut steps = Steps::new();
     for statement in statements {
-        if scope.broken_rule(statement).is_some()
-            || frames.push(&scope, statement, &mut steps).is_err()
-        {
-            break;
-        }
-        if scope.add(statement, &mut steps).is_err() {
+        if !add(&mut scope, &mut frames, statement, &mut steps) {
             break;
         }
     }
@@ -111,44 +106,42 @@ fn count_proved(alloc: Global, statements: &[Stmt]) -> usize
     let mut steps = Steps::new();
     let mut proved = 0usize;
     for statement in statements {
-        if scope.broken_rule(statement).is_some()
-            || frames.push(&scope, statement, &mut steps).is_err()
-        {
+        if !add(&mut scope, &mut frames, statement, &mut steps) {
             break;
         }
         if let Stmt::Prove { proof, .. } = statement {
-            let mandatory = mandatory_labels(alloc, &scope, &frames, statement, statements);
-            if is_proved(
-                alloc,
-                &mut checker,
-                &scope,
-                &frames,
-                statement,
-                proof,
-                mandatory,
-            ) {
+            let mandatory = mandatory_labels(alloc, &frames, statement, statements);
+            if is_proved(alloc, &mut checker, &frames, statement, proof, mandatory) {
                 proved = proved.saturating_add(1);
             }
-        }
-        if scope.add(statement, &mut steps).is_err() {
-            break;
         }
     }
     proved
 }
 
+/// Whether the statement is legal next, and was added.
+fn add(scope: &mut Scope, frames: &mut Frames, statement: &Stmt, steps: &mut Steps) -> bool
+    requires same { frames.old.statements ≡ scope.old.statements }
+    requires shaped { IsShaped statement.now }
+    ensures same { IsTrue result → frames.new.statements ≡ scope.new.statements }
+    ensures added { IsTrue result → frames.new.statements ≡ frames.old.statements ++ bare statement.now ∷ [] }
+{
+    match scope.add(statement, steps) {
+        Ok(()) => frames.keep(statement, steps).is_ok(),
+        Err(_) => false,
+    }
+}
+
 /// The labels of the mandatory hypotheses of the assertion that the frames hold last.
 fn mandatory_labels(
     alloc: Global,
-    scope: &Scope,
     frames: &Frames,
     statement: &Stmt,
     statements: &[Stmt],
 ) -> Result<Words, AllocError>
-    requires last { frames.now.statements ≡ scope.now.statements ++ bare statement.now ∷ [] }
+    requires last { (S : Database) × (frames.now.statements ≡ S ++ bare statement.now ∷ []) }
     requires provable { IsTrue (is_provable statement.now) }
 {
-    let _scope = scope;
     let _statement = statement;
     let mut labels = Words::with_capacity(alloc, LABEL_BYTES)?;
     for position in frames.hypotheses(frames.len()) {
@@ -165,13 +158,12 @@ fn mandatory_labels(
 fn is_proved(
     alloc: Global,
     checker: &mut Checker,
-    scope: &Scope,
     frames: &Frames,
     statement: &Stmt,
     proof: &Words,
     mandatory: Result<Words, AllocError>,
 ) -> bool
-    requires last { frames.now.statements ≡ scope.now.statements ++ bare statement.now ∷ [] }
+    requires last { (S : Database) × (frames.now.statements ≡ S ++ bare statement.now ∷ []) }
     requires provable { IsTrue (is_provable statement.now) }
 {
     let Some(items) = items_of(alloc, proof, mandatory) else {

@@ -1,7 +1,7 @@
 use Rattle.std.proofs.Common.{◌∙◌, ap, sym, take, arith}
 use Rattle.frame.specs.Stored.{IsBehind}
 use Rattle.frame.proofs.StoredLemmas.{back-stored, on-err}
-use Rattle.frame.proofs.frames.Frames.push.Goals as goal
+use Rattle.frame.proofs.frames.Frames.keep.Goals as goal
 
 pub invariant_of-self : goal.invariant_of-self
 invariant_of-self c =
