@@ -7,6 +7,8 @@ use std::alloc::{AllocError, Global};
 pub enum Request {
     /// `outline`: the outline of a database.
     Outline,
+    /// `check`: whether a database is right.
+    Check,
 }
 
 /// What these words ask for; they come without the program's own name.
@@ -18,6 +20,7 @@ pub fn parse_words(alloc: Global, words: &[&str]) -> Result<Request, Error> {
     all.extend_from_slice(words)?;
     match subcommand(alloc, all.as_slice())? {
         Some("outline") => Ok(Request::Outline),
+        Some("check") => Ok(Request::Check),
         _ => Err(commands(alloc)?.error(ErrorKind::MissingSubcommand, "a command is wanted")?),
     }
 }
@@ -32,8 +35,10 @@ fn commands<'a>(alloc: Global) -> Result<Command<'a>, AllocError> {
     let outline = Command::new(alloc, "outline").about(
         "Print the statements of a database, one a line",
     );
+    let check = Command::new(alloc, "check").about("Check the proofs of a database");
     Command::new(alloc, "mmlib")
         .about("Formal mathematics in the Metamath language")
         .subcommand_required(true)
-        .subcommand(outline)
+        .subcommand(outline)?
+        .subcommand(check)
 }

@@ -1,16 +1,18 @@
 //! `mmlib`: formal mathematics in the Metamath language.
 //!
 //! Reading order: `program` (`run`, what a command line does), `commands` (its words), `streams`
-//! (what is read and written), `outline`, `rules`.
+//! (what is read and written), `outline`, `rules`; `database` (`check`), `verdict_text`.
 #![tactic(auto)]
 
 mod commands;
+mod database;
 mod outline;
 mod program;
 mod rules;
 mod streams;
 #[cfg(test)]
 mod tests;
+mod verdict_text;
 
 use program::run;
 use std::alloc::{AllocError, Global};

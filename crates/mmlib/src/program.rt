@@ -1,5 +1,6 @@
 //! What a command line does.
 use crate::commands::{Request, parse_words};
+use crate::database::check;
 use crate::outline::outline_text;
 use crate::streams::{ReadFailure, TEXT_LIMIT, print, read_text};
 use clap::error::ErrorKind;
@@ -20,6 +21,7 @@ pub fn run<R: AllocGlobal, I: Read, O: Write, F: Write>(
 ) -> u8 {
     match parse_words(rt.alloc(), words) {
         Ok(Request::Outline) => outline(rt.alloc(), input, output),
+        Ok(Request::Check) => check(rt.alloc(), input, output),
         Err(error) if error.kind() == ErrorKind::OutOfMemory => {
             print(output, b"refused Memory\n", 1)
         }

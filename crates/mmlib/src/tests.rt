@@ -1,3 +1,4 @@
 //! What the program prints.
+mod check;
 mod outline;
 mod streams;
