@@ -6,4 +6,5 @@ pub mod Laws
 pub mod Taken
 pub mod History
 pub mod Carried
+pub mod Replicas
 pub mod Headline

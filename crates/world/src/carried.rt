@@ -1,8 +1,9 @@
 //! An entry of the library as a value that nodes agree on.
 ghost use Rattle.std.specs.Prelude.{◌≡◌, IfOk};
+ghost use Rattle.world.specs.Carried.{entry_of, entries_of};
 
 use library::Entry;
-use std::alloc::AllocError;
+use std::alloc::{AllocError, Global};
 use synod::Value;
 
 /// An entry in a packet.
@@ -20,5 +21,29 @@ impl Value for Carried {
 
     fn size(&self) -> u64 {
         self.0.size() as u64
+    }
+}
+
+/// The entries of a log of values.
+pub(crate) fn entries(
+    alloc: Global,
+    values: Vec<Option<Carried>>,
+) -> Result<Vec<Option<Entry>>, AllocError>
+    ensures { IfOk result (λ entries. entries.items ≡ entries_of values.items) }
+{
+    let mut entries = Vec::with_capacity(alloc, values.len())?;
+    for value in values {
+        entries.push(entry(value))?;
+    }
+    Ok(entries)
+}
+
+/// The entry of a value.
+fn entry(value: Option<Carried>) -> Option<Entry>
+    ensures { result ≡ entry_of value }
+{
+    match value {
+        Some(Carried(entry)) => Some(entry),
+        None => None,
     }
 }

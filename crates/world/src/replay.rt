@@ -1,26 +1,29 @@
 //! All events of a list, one after another.
 ghost use Rattle.std.specs.Prelude.{◌≡◌, IfOk, IfErr, OnOk};
-ghost use Rattle.world.specs.Taken.{Taken};
-ghost use Rattle.world.specs.History.{Agreement, StopsAt};
+ghost use Rattle.world.specs.History.{StopsAt};
+ghost use Rattle.world.specs.Carried.{carried_size, all_carried};
+ghost use Rattle.world.specs.Replicas.{new_libraries};
+ghost use Rattle.world.specs.Headline.{Headline};
 
 use crate::event::Event;
 use crate::fault::StepFault;
 use crate::world::World;
+use library::Entry;
 use std::alloc::Global;
-use synod::{Value, Weights};
+use synod::Weights;
 
-/// The world after all the events, from new nodes on.
+/// The world after all the events, from new nodes on. Its libraries are still empty.
 ///
 /// Errors: the index from 0 of the first event that is refused, with its fault, or with `Memory` where it meets none.
 /// A world of new nodes that finds no memory is refused at 0.
-pub fn run<V: Value>(
+pub fn run(
     alloc: Global,
     weights: Weights,
-    events: Vec<Event<V>>,
-) -> Result<World<V>, (u32, StepFault)>
-    ensures taken { IfOk result (λ world. world ≡ record { weights = weights; events = events.items }) }
-    ensures agreement { OnOk result (Agreement V.bytes (record { weights = weights; events = events.items })) }
-    ensures stops { IfErr result (λ stop. StopsAt V.bytes weights events.items stop.0 stop.1) }
+    events: Vec<Event<Entry>>,
+) -> Result<World, (u32, StepFault)>
+    ensures taken { IfOk result (λ world. world ≡ record { taken = record { weights = weights; events = all_carried events.items }; libraries = new_libraries weights }) }
+    ensures headline { OnOk result (Headline (record { weights = weights; events = all_carried events.items })) }
+    ensures stops { IfErr result (λ stop. StopsAt carried_size weights (all_carried events.items) stop.0 stop.1) }
 {
     let mut world = match World::new(alloc, weights) {
         Ok(world) => world,

@@ -1,193 +1,153 @@
-//! The nodes, all packets that they posted, and the events that led there, whatever the values are.
-ghost use Rattle.synod.specs.Weights.{IsWeights};
-ghost use Rattle.world.specs.Taken.{nodes_of};
-ghost use Rattle.world.specs.World.{nodes_from};
-ghost use Rattle.std.specs.Prelude.{◌≡◌, ◌≤◌, ◌<◌, [], Ok, Err, Some, None, length, IfOk, IsOk, OnOk, OnErr, IsOkUnless, MatchResult};
+//! All nodes, all packets and all libraries, driven by a list of events.
+ghost use Rattle.std.specs.Prelude.{◌≡◌, ◌+◌, ◌≤◌, ◌<◌, None, Some, Ok, Err, length, slice_get, IfOk, IfErr, IfSome, IsSomeAnd, OnOk, OnErr, IsOk, IsOkUnless};
+ghost use Rattle.library.specs.LibraryOf.{Applies};
+ghost use Rattle.world.specs.World.{packets_after};
+ghost use Rattle.world.specs.Taken.{world_of, with_event};
+ghost use Rattle.world.specs.Carried.{carried as carried_event, carried_size};
+ghost use Rattle.world.specs.Replicas.{log_entries};
+ghost use Rattle.world.specs.declared.fault.StepFault.TheVariants.{NoNode, NoPacket, Memory};
 
+use crate::carried::{Carried, entries};
+use crate::entry_event::{carried, restarted};
 use crate::event::{Event, MOST_EVENTS};
 use crate::fault::StepFault;
-use crate::writes::{write_begin, write_offer, write_packet, write_restart};
-use std::alloc::{AllocError, Global};
+use crate::net::Net;
+use crate::replica::{Replica, give_up, new_replicas};
+use library::{Entry, Library, Verdict};
+use std::alloc::Global;
 use std::marker::Model;
-use synod::{NodeCore, Packet, Value, Weights};
+use synod::{Packet, Weights};
 
-/// The nodes of a world and their packets, seen as the weights and the events taken. Its state is that of the world after them.
+/// A world of nodes and their libraries, seen as the weights, the events taken, and each node's library with the count of
+/// entries applied.
 ///
-/// Source: Lamport, Paxos Made Simple, 2 and 3; the world after a list of events is in `specs/World.antt`.
+/// Source: Lamport, Paxos Made Simple, 2 and 3; the world after a list of events is in `specs/World.antt`, what is seen in
+/// `specs/Replicas.antt`.
 #[derive(Drop)]
-pub struct World<V: Value> {
-    weights: Weights,
-    nodes: Vec<NodeCore<V>>,
-    packets: Vec<Packet<V>>,
-    events: Vec<Event<V>>,
+pub struct World {
+    alloc: Global,
+    net: Net<Carried>,
+    replicas: Vec<Replica>,
 }
 
-impl<V: Value> Model for World<V> {
-    ghost use Rattle.world.specs.Taken.{Taken, AreOfWorld};
+impl Model for World {
+    ghost use Rattle.world.specs.Replicas.{Replicas, AreReplicas};
 
-    ghost Value = { Taken V };
+    ghost Value = { Replicas };
 
-    ghost view = { λ w. record { weights = w.weights; events = w.events.items } };
+    ghost view = { λ w. record { taken = w.net; libraries = w.replicas.items } };
 
-    ghost invariant = { λ w. AreOfWorld V.bytes (record { weights = w.weights; events = w.events.items }) w.nodes.items w.packets.items };
+    ghost invariant = { λ w. AreReplicas (record { taken = w.net; libraries = w.replicas.items }) };
 }
 
-impl<V: Value> World<V> {
-    ghost use Rattle.std.specs.Prelude.{slice_get, IfErr, IsSome, MatchOption};
-    ghost use Rattle.slots.specs.declared.slots.TheConstants.{SLOTS};
-    ghost use Rattle.world.specs.World.{log_after, packets_after};
-    ghost use Rattle.world.specs.Taken.{Taken, Takes, world_of, with_event};
-    ghost use Rattle.world.specs.History.{Agreement};
-    ghost use Rattle.world.specs.declared.fault.StepFault.TheVariants.{NoNode, NoPacket, Memory};
+impl World {
+    ghost use Rattle.world.specs.Replicas.{new_replicas, then_event, next_entry, AreReplicas, IsApplied};
+    ghost use Rattle.world.specs.Headline.{Headline};
 
-    /// The world of new nodes.
+    /// The world of new nodes, each with an empty library.
     pub fn new(alloc: Global, weights: Weights) -> Result<Self, StepFault>
-        ensures new { IfOk result (λ world. world ≡ record { weights = weights; events = [] }) }
+        ensures new { IfOk result (λ world. world ≡ new_replicas weights) }
         ensures only_memory { IsOkUnless result Memory }
     {
         Ok(World {
-            weights,
-            nodes: new_nodes(alloc, weights)?,
-            packets: Vec::new(alloc),
-            events: Vec::new(alloc),
+            alloc,
+            net: Net::new(alloc, weights)?,
+            replicas: new_replicas(alloc, weights.count())?,
         })
     }
 
-    /// Node `k` begins a ballot.
-    fn begin(&mut self, k: u8) -> Result<(), StepFault>
-        requires { length self.old.events < MOST_EVENTS }
-        ensures { Takes V.bytes self.old self.new (Event.Begin k) result }
-    {
-        match self.nodes.get_mut(k as usize) {
-            Some(node) => write_begin(node, &mut self.packets, &mut self.events, k),
-            None => Err(StepFault::NoNode),
-        }
-    }
-
-    /// A value is offered to node `k`.
-    fn offer(&mut self, k: u8, value: V) -> Result<(), StepFault>
-        requires { length self.old.events < MOST_EVENTS }
-        ensures { Takes V.bytes self.old self.new (Event.Offer k value) result }
-    {
-        match self.nodes.get_mut(k as usize) {
-            Some(node) => write_offer(node, &mut self.packets, &mut self.events, k, value),
-            None => Err(StepFault::NoNode),
-        }
-    }
-
-    /// Node `k` restarts.
-    fn restart(&mut self, k: u8) -> Result<(), StepFault>
-        requires { length self.old.events < MOST_EVENTS }
-        ensures { Takes V.bytes self.old self.new (Event.Restart k) result }
-    {
-        match self.nodes.get_mut(k as usize) {
-            Some(node) => write_restart(node, &mut self.packets, &mut self.events, k),
-            None => Err(StepFault::NoNode),
-        }
-    }
-
-    /// The packet of that number comes to the node that it is addressed to.
-    fn deliver(&mut self, number: u64) -> Result<(), StepFault>
-        requires { length self.old.events < MOST_EVENTS }
-        ensures { Takes V.bytes self.old self.new (Event.Deliver number) result }
-    {
-        let to = match self.packets.get(number as usize) {
-            Some(packet) => packet.to,
-            None => return Err(StepFault::NoPacket),
-        };
-        match self.nodes.get_mut(to as usize) {
-            Some(node) => write_packet(node, &mut self.packets, &mut self.events, number as usize),
-            None => Err(StepFault::NoNode),
-        }
-    }
-
-    /// Takes an event, while a run may have one more.
-    fn take(&mut self, event: Event<V>) -> Result<(), StepFault>
-        requires { length self.old.events < MOST_EVENTS }
-        ensures { Takes V.bytes self.old self.new event result }
-    {
-        match event {
-            Event::Offer(k, value) => self.offer(k, value),
-            Event::Begin(k) => self.begin(k),
-            Event::Deliver(number) => self.deliver(number),
-            Event::Restart(k) => self.restart(k),
-        }
-    }
-
-    /// Takes an event, and answers how many packets were posted so far.
+    /// Takes an event, and answers how many packets were posted so far. A restart gives up the library of its node.
     ///
     /// Errors: the first fault that the event meets, or `Memory` where it meets none; the world is then as before.
-    pub fn step(&mut self, event: Event<V>) -> Result<u64, StepFault>
-        ensures taken { OnOk result (self.new ≡ with_event self.old event) }
-        ensures posted { IfOk result (λ count. count ≡ length (packets_after (world_of V.bytes self.new))) }
+    pub fn step(&mut self, event: Event<Entry>) -> Result<u64, StepFault>
+        ensures taken { OnOk result (self.new ≡ then_event self.old (carried_event event)) }
+        ensures posted { IfOk result (λ count. count ≡ length (packets_after (world_of carried_size self.new.taken))) }
 
         // A fault is answered however little memory there is.
-        ensures refused { IfErr (world_of V.bytes (with_event self.old event)) (λ fault. result ≡ Err fault) }
-        ensures only_memory { OnOk (world_of V.bytes (with_event self.old event)) (IsOkUnless result Memory) }
+        ensures refused { IfErr (world_of carried_size (with_event self.old.taken (carried_event event))) (λ fault. result ≡ Err fault) }
+        ensures only_memory { OnOk (world_of carried_size (with_event self.old.taken (carried_event event))) (IsOkUnless result Memory) }
         ensures same { OnErr result (self.new ≡ self.old) }
     {
-        if self.events.len() as u64 == MOST_EVENTS {
-            return Err(StepFault::EventsSpent);
-        }
-        self.take(event)?;
-        Ok(self.packets.len() as u64)
+        let event = carried(event);
+        let restarted = restarted(&event);
+        let posted = self.net.step(event)?;
+        give_up(self.alloc, &mut self.replicas, restarted);
+        Ok(posted)
     }
 
-    /// The events that it took, first in first. None of them meets a fault, and what agreement says holds at all their moments.
-    pub fn history(&self) -> &[Event<V>]
-        ensures events { result.now ≡ self.now.events }
-        ensures few { length self.now.events ≤ MOST_EVENTS }
-        ensures agreement { Agreement V.bytes self.now }
+    /// Applies the next entry of node `k`'s log to its library; `None` where no entry is next. It never passes a gap.
+    ///
+    /// Errors: `NoNode` where there is no such node, else `Memory`; the library then stays at its slot.
+    /// Cost: that of `Library::apply` on the entry.
+    pub fn apply_next(&mut self, k: u8) -> Result<Option<Verdict>, StepFault>
+        ensures applied { IfSome (next_entry self.old k) (λ entry. IfOk result (λ answer. IsSomeAnd answer (λ verdict. IsApplied self.old k entry verdict self.new))) }
+        ensures none { k < length self.old.taken.weights → next_entry self.old k ≡ None → result ≡ Ok None }
+        ensures no_node { length self.old.taken.weights ≤ k → result ≡ Err NoNode }
+        ensures only_memory { k < length self.old.taken.weights → IsOkUnless result Memory }
+        ensures same { next_entry self.old k ≡ None → self.new ≡ self.old }
+        ensures err { OnErr result (self.new ≡ self.old) }
     {
-        &self.events
+        let Some(replica) = self.replicas.get_mut(k as usize) else {
+            return Err(StepFault::NoNode);
+        };
+        apply_from(replica, &self.net, k)
     }
 
-    /// Entry `slot` of the log of node `k`. It takes no memory.
-    pub fn entry(&self, k: u8, slot: u32) -> Result<Option<&Option<V>>, StepFault>
-        ensures entry { IfOk result (λ found. MatchOption found (slice_get (log_after (world_of V.bytes self.now) k) slot ≡ None) (λ entry. slice_get (log_after (world_of V.bytes self.now) k) slot ≡ Some entry.now)) }
-        ensures below { IfOk result (λ found. IsSome found → slot < SLOTS) }
-        ensures no_node { length self.now.weights ≤ k → result ≡ Err NoNode }
-        ensures node { k < length self.now.weights → IsOk result }
+    /// The library of node `k`: that of the first entries of its log, as many as were applied. It takes no memory.
+    pub fn library(&self, k: u8) -> Result<&Library, StepFault>
+        ensures library { IfOk result (λ library. IsSomeAnd (slice_get self.now.libraries k) (λ node. library.now.replica ≡ node.library)) }
+        ensures no_node { length self.now.taken.weights ≤ k → result ≡ Err NoNode }
+        ensures node { k < length self.now.taken.weights → IsOk result }
+        ensures of_logs { AreReplicas self.now }
     {
-        match self.nodes.get(k as usize) {
-            Some(node) => Ok(node.entry(slot)),
+        match self.replicas.get(k as usize) {
+            Some(replica) => Ok(replica.library()),
             None => Err(StepFault::NoNode),
         }
+    }
+
+    /// The events that it took, first in first. None of them meets a fault, and the headline holds of them.
+    pub fn history(&self) -> &[Event<Carried>]
+        ensures events { result.now ≡ self.now.taken.events }
+        ensures few { length self.now.taken.events ≤ MOST_EVENTS }
+        ensures headline { Headline self.now.taken }
+    {
+        self.net.history()
     }
 
     /// The log of node `k`: what it learned, up to its first gap.
-    pub fn log(&self, k: u8) -> Result<Vec<Option<V>>, StepFault>
-        ensures log { IfOk result (λ entries. entries.items ≡ log_after (world_of V.bytes self.now) k) }
-        ensures no_node { length self.now.weights ≤ k → result ≡ Err NoNode }
-        ensures only_memory { k < length self.now.weights → IsOkUnless result Memory }
+    pub fn log(&self, k: u8) -> Result<Vec<Option<Entry>>, StepFault>
+        ensures log { IfOk result (λ entries. entries.items ≡ log_entries self.now.taken k) }
+        ensures no_node { length self.now.taken.weights ≤ k → result ≡ Err NoNode }
+        ensures only_memory { k < length self.now.taken.weights → IsOkUnless result Memory }
     {
-        match self.nodes.get(k as usize) {
-            Some(node) => Ok(node.log()?),
-            None => Err(StepFault::NoNode),
-        }
+        Ok(entries(self.alloc, self.net.log(k)?)?)
     }
 
     /// The packet of that number, from 0 in the order of posting. It takes no memory.
-    pub fn packet(&self, number: u64) -> Result<&Packet<V>, StepFault>
-        ensures found { IfOk result (λ packet. slice_get (packets_after (world_of V.bytes self.now)) number ≡ Some packet.now) }
-        ensures no_packet { slice_get (packets_after (world_of V.bytes self.now)) number ≡ None → result ≡ Err NoPacket }
+    pub fn packet(&self, number: u64) -> Result<&Packet<Carried>, StepFault>
+        ensures found { IfOk result (λ packet. slice_get (packets_after (world_of carried_size self.now.taken)) number ≡ Some packet.now) }
+        ensures no_packet { slice_get (packets_after (world_of carried_size self.now.taken)) number ≡ None → result ≡ Err NoPacket }
         ensures only_no_packet { IsOkUnless result NoPacket }
     {
-        match self.packets.get(number as usize) {
-            Some(packet) => Ok(packet),
-            None => Err(StepFault::NoPacket),
-        }
+        self.net.packet(number)
     }
 }
 
-/// A new node for each of the weights.
-fn new_nodes<V: Value>(alloc: Global, weights: Weights) -> Result<Vec<NodeCore<V>>, AllocError>
-    ensures nodes { IfOk result (λ nodes. nodes_of nodes.items ≡ nodes_from weights 0 weights) }
-    ensures weights { OnOk result (IsWeights weights) }
+/// Applies the entry of node `k`'s log that is next at its replica.
+fn apply_from(
+    replica: &mut Replica,
+    net: &Net<Carried>,
+    k: u8,
+) -> Result<Option<Verdict>, StepFault>
+    requires { k < length net.now.weights }
+    ensures applied { IfSome (slice_get (log_entries net.now k) replica.old.applied) (λ entry. IfOk result (λ answer. IsSomeAnd answer (λ verdict. Applies replica.old.library entry verdict replica.new.library × (replica.new.applied ≡ replica.old.applied + 1)))) }
+    ensures none { slice_get (log_entries net.now k) replica.old.applied ≡ None → (result ≡ Ok None) × (replica.new ≡ replica.old) }
+    ensures only_memory { IsOkUnless result Memory }
+    ensures same { OnErr result (replica.new ≡ replica.old) }
 {
-    let mut nodes = Vec::new(alloc);
-    for k in 0..weights.count() {
-        nodes.push(NodeCore::new(alloc, k, weights))?;
+    match net.entry(k, replica.applied())? {
+        Some(entry) => Ok(Some(replica.apply(entry)?)),
+        None => Ok(None),
     }
-    Ok(nodes)
 }

@@ -1,14 +1,8 @@
 use Rattle.std.proofs.Common.{subst}
-use Rattle.world.specs.Taken.{Taken}
-use Rattle.world.specs.History.{Agreement}
-use Rattle.world.proofs.TakenLemmas.{events_within}
-use Rattle.world.proofs.HistoryLemmas.{agreement_of}
+use Rattle.world.specs.Replicas.{Replicas}
+use Rattle.world.specs.Headline.{Headline}
+use Rattle.world.proofs.HeadlineLemmas.{headline_of}
 use Rattle.world.proofs.world.World.history.Goals as goal
 
-pub returns-clause-few : goal.returns-clause-few
-returns-clause-few g c = events_within g.V.Value.bytes _ _ _ _ c.self.invariant c.self.view_is
-
-pub returns-clause-agreement : goal.returns-clause-agreement
-returns-clause-agreement g c =
-    subst (λ (taken : Taken g.row.V.Denot). Agreement g.V.Value.bytes taken) c.self.view_is
-    (agreement_of g.V.Value.bytes (record { weights = c.self.inside.weights; events = c.self.inside.events.items }) c.self.invariant.world c.self.invariant.is_after)
+pub returns-clause-headline : goal.returns-clause-headline
+returns-clause-headline c = subst (λ (r : Replicas). Headline r.taken) c.self.view_is (headline_of c.self.inside.net c.history.ensures.agreement)

@@ -1,5 +1,10 @@
-use Rattle.world.proofs.TakenLemmas.{start_of_world}
+use Rattle.std.proofs.Common.{length, ap, sym, ◌∙◌}
+use Rattle.world.specs.Taken.{Taken}
+use Rattle.world.specs.declared.carried.Carried.{Carried}
+use Rattle.world.proofs.ReplicasLemmas.{new_are_replicas}
 use Rattle.world.proofs.world.World.new.Goals as goal
 
 pub invariant_of-result : goal.invariant_of-result
-invariant_of-result g c = start_of_world g.V.Value.bytes c.args.weights c.in_ok-new_nodes.ensures.weights _ _ _ c.in_ok-new_nodes.ensures.nodes c.new-2.ensures.items c.new.ensures.items
+invariant_of-result c =
+    new_are_replicas c.in_ok-new.field-0 c.count.result (c.count.ensures.count ∙ sym (ap (λ (t : Taken Carried). length t.weights) c.in_ok-new.ensures.new))
+    c.in_ok-new_replicas.field-0.items c.in_ok-new_replicas.ensures

@@ -5,7 +5,7 @@ use Rattle.world.specs.declared.event.Event.TheVariants.{Deliver}
 use Rattle.world.specs.declared.fault.StepFault.TheVariants.{NoPacket}
 use Rattle.world.specs.Taken.{Taken, Takes}
 use Rattle.world.proofs.TakenLemmas.{posts_at, call_leaves, call_refuses, packet_is, delivered_is, no_packet}
-use Rattle.world.proofs.world.World.deliver.Goals as goal
+use Rattle.world.proofs.net.Net.deliver.Goals as goal
 
 pub returns-in-None : goal.returns-in-None
 returns-in-None g c =

@@ -2,7 +2,7 @@ use Rattle.std.proofs.Common.{Ok, refl}
 use Rattle.synod.specs.Step.{restarted}
 use Rattle.world.specs.declared.event.Event.TheVariants.{Restart}
 use Rattle.world.proofs.TakenLemmas.{posts_at, nodes_at_most, call_leaves, call_refuses}
-use Rattle.world.proofs.world.World.restart.Goals as goal
+use Rattle.world.proofs.net.Net.restart.Goals as goal
 
 pub write_restart-requires-clause-posts : goal.write_restart-requires-clause-posts
 write_restart-requires-clause-posts g c = posts_at g.V.Value.bytes _ _ _ _ c.self.invariant c.self.view_is c.requires c.args.k c.in-Some.node.now c.in-Some.ensures.item.3.0 c.in-Some.ensures.value

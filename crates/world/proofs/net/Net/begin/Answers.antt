@@ -2,7 +2,7 @@ use Rattle.std.proofs.Common.{refl}
 use Rattle.synod.specs.Proposer.{begun}
 use Rattle.world.specs.declared.event.Event.TheVariants.{Begin}
 use Rattle.world.proofs.TakenLemmas.{posts_at, call_leaves, call_refuses}
-use Rattle.world.proofs.world.World.begin.Goals as goal
+use Rattle.world.proofs.net.Net.begin.Goals as goal
 
 pub write_begin-requires : goal.write_begin-requires
 write_begin-requires g c = posts_at g.V.Value.bytes _ _ _ _ c.self.invariant c.self.view_is c.requires c.args.k c.in-Some.node.now c.in-Some.ensures.item.3.0 c.in-Some.ensures.value

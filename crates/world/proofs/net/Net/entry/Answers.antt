@@ -2,7 +2,7 @@ use Rattle.std.proofs.Common.{◌≡◌, List, Option, Some, None, length, get_o
 use Rattle.std.specs.Borrow.{Bor}
 use Rattle.synod.specs.Core.{Core}
 use Rattle.world.proofs.TakenLemmas.{count_shown, log_shown}
-use Rattle.world.proofs.world.World.entry.Goals as goal
+use Rattle.world.proofs.net.Net.entry.Goals as goal
 
 pub returns-in-Some-clause-entry : goal.returns-in-Some-clause-entry
 returns-in-Some-clause-entry g c =

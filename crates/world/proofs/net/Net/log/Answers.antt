@@ -1,7 +1,7 @@
 use Rattle.std.proofs.Common.{List, length, get_or, ap, sym, ◌∙◌, arith}
 use Rattle.synod.specs.Core.{Core}
 use Rattle.world.proofs.TakenLemmas.{count_shown, log_shown}
-use Rattle.world.proofs.world.World.log.Goals as goal
+use Rattle.world.proofs.net.Net.log.Goals as goal
 
 pub returns-in_ok-log-in-Some-clause-log : goal.returns-in_ok-log-in-Some-clause-log
 returns-in_ok-log-in-Some-clause-log g c =

@@ -2,7 +2,7 @@ use Rattle.std.proofs.Common.{refl}
 use Rattle.synod.specs.Proposer.{offered}
 use Rattle.world.specs.declared.event.Event.TheVariants.{Offer}
 use Rattle.world.proofs.TakenLemmas.{posts_at, call_leaves, call_refuses}
-use Rattle.world.proofs.world.World.offer.Goals as goal
+use Rattle.world.proofs.net.Net.offer.Goals as goal
 
 pub write_offer-requires : goal.write_offer-requires
 write_offer-requires g c = posts_at g.V.Value.bytes _ _ _ _ c.self.invariant c.self.view_is c.requires c.args.k c.in-Some.node.now c.in-Some.ensures.item.3.0 c.in-Some.ensures.value

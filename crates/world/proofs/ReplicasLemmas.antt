@@ -1,0 +1,192 @@
+-- The libraries of a world: each is that of its log, whatever event comes and whichever entry is applied.
+use Rattle.std.proofs.Common.{◌≡◌, ◌≢◌, ℕ, zero, suc, ◌+◌, ◌<◌, ◌≤◌, ◌==◌, Bool, true, false, List, [], ◌∷◌, ◌++◌, length, take, replicate, set, slice_get, Option, Some, None, Result, Ok, Err, refl, ap, sym, ◌∙◌, subst, arith, add-one, length-append, le_of_suc-le-suc}
+use Rattle.std.specs.Prelude.{IsOk, IfErr}
+use Rattle.std.proofs.lemmas.Bool.Decides.{nat_tests}
+use Rattle.std.proofs.lemmas.List.{length-set, length-replicate}
+use Rattle.library.specs.declared.entry.Entry.{Entry}
+use Rattle.library.specs.declared.verdict.Verdict.{Verdict}
+use Rattle.library.specs.LibraryOf.{Applies, IsLibraryOf}
+use Rattle.library.proofs.LibraryLemmas.{library-more}
+use Rattle.world.specs.declared.carried.Carried.{Carried}
+use Rattle.world.specs.declared.event.Event.{Event}
+use Rattle.world.specs.declared.event.Event.TheVariants.{Offer, Begin, Deliver, Restart}
+use Rattle.world.specs.declared.fault.StepFault.{StepFault}
+use Rattle.world.specs.World.{World, start, happens, all_happen, log, log_after}
+use Rattle.world.specs.Agree.{IsBeginningOf}
+use Rattle.world.specs.Taken.{Taken, world_of, with_event}
+use Rattle.world.specs.Carried.{carried_size, carried, all_carried, entries_of}
+use Rattle.world.specs.Replicas.{NodeLibrary, Replicas, new_library, new_libraries, restarts, given_up, then_event, log_entries, IsOfLog, AreReplicas}
+use Rattle.world.proofs.EveryEvent.{if_taken}
+use Rattle.world.proofs.TwoMoments.{all_happen-append}
+use Rattle.world.proofs.TakenLemmas.{after-push}
+use Rattle.world.proofs.KeptPartLemmas.{slice_get-set_other}
+use Rattle.world.proofs.LogsGrow.{log_grows}
+use Rattle.world.proofs.EntriesLemmas.{all_carried-append, entries_begin}
+
+-- A library and its log.
+
+take_within : {A : Type 0} (n : ℕ) (xs more : List A) → n ≤ length xs → take n (xs ++ more) ≡ take n xs
+take_within zero xs more within = refl
+take_within (suc n) [] more within = absurd (omega arith)
+take_within (suc n) (x ∷ xs) more within = ap (λ ys. x ∷ ys) (take_within n xs more (le_of_suc-le-suc within))
+
+take_one_more : {A : Type 0} (n : ℕ) (xs : List A) (x : A) → slice_get xs n ≡ Some x → take (suc n) xs ≡ take n xs ++ x ∷ []
+take_one_more n [] x is = cc
+take_one_more zero (y ∷ xs) x is = let same : y ≡ x = cc in ap (λ z. z ∷ []) same
+take_one_more (suc n) (y ∷ xs) x is = ap (λ ys. y ∷ ys) (take_one_more n xs x is)
+
+get_within : {A : Type 0} (n : ℕ) (xs : List A) (x : A) → slice_get xs n ≡ Some x → n < length xs
+get_within n [] x is = cc
+get_within zero (y ∷ xs) x is = omega arith
+get_within (suc n) (y ∷ xs) x is = let low = get_within n xs x is in omega (arith, low)
+
+pub new_is_of_log : (log : List (Option Entry)) → IsOfLog log new_library
+new_is_of_log log = record { within = omega arith; library = refl }
+
+-- it is that of a longer log too
+of_longer : (log longer : List (Option Entry)) (node : NodeLibrary) → IsBeginningOf log longer → IsOfLog log node → IsOfLog longer node
+of_longer log longer node begins h = record {
+  within = let count : length log + length begins.0 ≡ length longer = sym (length-append log begins.0) ∙ ap (λ (es : List (Option Entry)). length es) begins.1 in
+      let low = h.within in omega (arith, count, low);
+  library = subst (λ (es : List (Option Entry)). IsLibraryOf es node.library) (sym (take_within node.applied log begins.0 h.within) ∙ ap (λ (es : List (Option Entry)). take node.applied es) begins.1) h.library;
+}
+
+-- with the next entry applied
+pub of_log_applied : (log : List (Option Entry)) (node : NodeLibrary) (entry : Option Entry) (verdict : Verdict) (next : NodeLibrary) → IsOfLog log node → slice_get log node.applied ≡ Some entry → Applies node.library entry verdict next.library → next.applied ≡ node.applied + 1
+    → IsOfLog log next
+of_log_applied log node entry verdict next h is applies one_more =
+    let up : next.applied ≡ suc node.applied = one_more ∙ add-one node.applied in
+    record {
+      within = let low = get_within node.applied log entry is in omega (arith, up, low);
+      library = subst (λ (es : List (Option Entry)). IsLibraryOf es next.library) (sym (ap (λ (n : ℕ). take n log) up ∙ take_one_more node.applied log entry is))
+          (library-more (take node.applied log) node.library next.library entry verdict h.library applies);
+    }
+
+-- The libraries of all nodes.
+
+set_new : {A : Type 0} (xs : List A) (i : ℕ) (y z : A) → slice_get (set xs i y) i ≡ Some z → z ≡ y
+set_new [] i y z got = cc
+set_new (v ∷ xs) zero y z got = cc
+set_new (v ∷ xs) (suc i) y z got = set_new xs i y z got
+
+get-replicate : {A : Type 0} (n k : ℕ) (x y : A) → slice_get (replicate n x) k ≡ Some y → y ≡ x
+get-replicate zero k x y is = cc
+get-replicate (suc n) zero x y is = cc
+get-replicate (suc n) (suc k) x y is = get-replicate n k x y is
+
+pub new_are_replicas : (taken : Taken Carried) (nodes : ℕ) → nodes ≡ length taken.weights → (libraries : List NodeLibrary) → libraries ≡ replicate nodes new_library → AreReplicas (record { taken = taken; libraries = libraries })
+new_are_replicas taken nodes count libraries new = subst (λ (ls : List NodeLibrary). AreReplicas (record { taken = taken; libraries = ls })) (sym new) record {
+  one_each = length-replicate nodes new_library ∙ count;
+  of_logs = λ k node is. subst (λ (n : NodeLibrary). IsOfLog (log_entries taken k) n) (sym (get-replicate nodes k new_library node is)) (new_is_of_log (log_entries taken k));
+}
+
+-- One event more.
+
+restart_other : (k : ℕ) (e : Event Carried) (n : ℕ) → restarts e ≡ Some n → n ≢ k → e ≢ Restart k
+restart_other k (Offer j v) n is other = cc
+restart_other k (Begin j) n is other = cc
+restart_other k (Deliver number) n is other = cc
+restart_other k (Restart j) n is other = λ same. other (let a : j ≡ n = cc in let b : j ≡ k = cc in sym a ∙ b)
+
+no_restart : (k : ℕ) (e : Event Carried) → restarts e ≡ None → e ≢ Restart k
+no_restart k (Offer j v) is = λ same. let no = same in cc
+no_restart k (Begin j) is = λ same. let no = same in cc
+no_restart k (Deliver number) is = λ same. let no = same in cc
+no_restart k (Restart j) is = λ same. cc
+
+module _ (taken : Taken Carried) (w x : World Carried) (was : world_of carried_size taken ≡ Ok w) (e : Event Carried) (is : world_of carried_size (with_event taken e) ≡ Ok x) where
+  happened : happens carried_size w e ≡ Ok x
+  happened = sym (after-push carried_size taken.weights taken.events w e was) ∙ is
+
+  log_longer : (k : ℕ) → e ≢ Restart k → IsBeginningOf (log_entries taken k) (log_entries (with_event taken e) k)
+  log_longer k other =
+      let grows = if_taken (λ (y : World Carried). IsBeginningOf (log w k) (log y k)) (happens carried_size w e) x happened (log_grows carried_size w k e other) in
+      let longer = entries_begin (log w k) (log x k) grows in
+      (longer.0, ap (λ (r : Result (World Carried) StepFault). entries_of (log_after r k) ++ longer.0) was ∙ longer.1 ∙ ap (λ (r : Result (World Carried) StepFault). entries_of (log_after r k)) (sym is))
+
+  stays_of_log : (k : ℕ) (node : NodeLibrary) → e ≢ Restart k → IsOfLog (log_entries taken k) node → IsOfLog (log_entries (with_event taken e) k) node
+  stays_of_log k node other h = of_longer (log_entries taken k) (log_entries (with_event taken e) k) node (log_longer k other) h
+
+  -- the library at k, where node n restarts
+  at_restart : (libraries : List NodeLibrary) (n k : ℕ) → restarts e ≡ Some n → (node old : NodeLibrary) → slice_get (set libraries n new_library) k ≡ Some node
+      → ((other : NodeLibrary) → slice_get libraries k ≡ Some other → IsOfLog (log_entries taken k) other) → (t : Bool) → (n == k) ≡ t → IsOfLog (log_entries (with_event taken e) k) node
+  at_restart libraries n k restart node old got each false test =
+      let other : n ≢ k = grind (arith, nat_tests) in
+      stays_of_log k node (restart_other k e n restart other) (each node (sym (slice_get-set_other libraries n k new_library other) ∙ got))
+  at_restart libraries n k restart node old got each true test =
+      let same : n ≡ k = grind (arith, nat_tests) in
+      let new : node ≡ new_library = set_new libraries k new_library node (subst (λ (i : ℕ). slice_get (set libraries i new_library) k ≡ Some node) same got) in
+      subst (λ (l : NodeLibrary). IsOfLog (log_entries (with_event taken e) k) l) (sym new) (new_is_of_log (log_entries (with_event taken e) k))
+
+  keeps_each : (libraries : List NodeLibrary) → ((k : ℕ) (node : NodeLibrary) → slice_get libraries k ≡ Some node → IsOfLog (log_entries taken k) node)
+      → (o : Option ℕ) → restarts e ≡ o → (k : ℕ) (node : NodeLibrary) → slice_get (given_up libraries o) k ≡ Some node → IsOfLog (log_entries (with_event taken e) k) node
+  keeps_each libraries each None none k node got = stays_of_log k node (no_restart k e none) (each k node got)
+  keeps_each libraries each (Some n) restart k node got = at_restart libraries n k restart node node got (each k) (n == k) refl
+
+as_many : (libraries : List NodeLibrary) (o : Option ℕ) → length (given_up libraries o) ≡ length libraries
+as_many libraries None = refl
+as_many libraries (Some k) = length-set libraries k new_library
+
+-- an event that is taken comes after events that are taken
+ok_before : (taken : Taken Carried) (e : Event Carried) → IsOk (world_of carried_size (with_event taken e)) → IsOk (world_of carried_size taken)
+ok_before taken e is = before (world_of carried_size taken) (subst IsOk (all_happen-append carried_size taken.events (e ∷ []) (Ok (start taken.weights))) is) where
+  before : (r : Result (World Carried) StepFault) → IsOk (all_happen carried_size (e ∷ []) r) → IsOk r
+  before (Ok w) h = refl
+  before (Err fault) h = h
+
+then_are_replicas : (old : Replicas) (e : Event Carried) → IsOk (world_of carried_size (with_event old.taken e)) → AreReplicas old → AreReplicas (then_event old e)
+then_are_replicas old e is h = both (world_of carried_size old.taken) refl (world_of carried_size (with_event old.taken e)) refl (ok_before old.taken e is) is where
+  both : (r : Result (World Carried) StepFault) → world_of carried_size old.taken ≡ r → (s : Result (World Carried) StepFault) → world_of carried_size (with_event old.taken e) ≡ s → IsOk r → IsOk s → AreReplicas (then_event old e)
+  both (Ok w) at (Ok x) then ok done = record {
+    one_each = as_many old.libraries (restarts e) ∙ h.one_each;
+    of_logs = keeps_each old.taken w x at e then old.libraries h.of_logs (restarts e) refl;
+  }
+  both (Err fault) at s then ok done = let no : false ≡ true = ok in cc
+  both (Ok w) at (Err fault) then ok done = let no : false ≡ true = done in cc
+
+ok_unless_met : (r : Result (World Carried) StepFault) (count : ℕ) → IfErr r (λ fault. let answer : Result ℕ StepFault = Ok count in answer ≡ Err fault) → IsOk r
+ok_unless_met (Ok w) count h = refl
+ok_unless_met (Err fault) count h = cc
+
+-- what a step leaves
+pub step_keeps : (old : Replicas) (e : Event Carried) (taken : Taken Carried) (libraries : List NodeLibrary) (restarted : Option ℕ) (count : ℕ) → AreReplicas old
+    → taken ≡ with_event old.taken e → restarted ≡ restarts e → libraries ≡ given_up old.libraries restarted
+    → IfErr (world_of carried_size (with_event old.taken e)) (λ fault. let answer : Result ℕ StepFault = Ok count in answer ≡ Err fault) → AreReplicas (record { taken = taken; libraries = libraries })
+step_keeps old e taken libraries restarted count h is restarts_is given refused =
+    subst AreReplicas (sym (record_is taken (with_event old.taken e) libraries (given_up old.libraries (restarts e)) is (given ∙ ap (λ (o : Option ℕ). given_up old.libraries o) restarts_is)))
+    (then_are_replicas old e (ok_unless_met (world_of carried_size (with_event old.taken e)) count refused) h) where
+      record_is : (s t : Taken Carried) (ls ms : List NodeLibrary) → s ≡ t → ls ≡ ms → let r : Replicas = record { taken = s; libraries = ls } in r ≡ record { taken = t; libraries = ms }
+      record_is s t ls ms a b = ap (λ (u : Taken Carried). let r : Replicas = record { taken = u; libraries = ls } in r) a ∙ ap (λ (ns : List NodeLibrary). let r : Replicas = record { taken = t; libraries = ns } in r) b
+
+-- One entry applied at node k.
+
+pub applied_are_replicas : (old : Replicas) (k : ℕ) (next : NodeLibrary) → AreReplicas old → IsOfLog (log_entries old.taken k) next → AreReplicas (record { taken = old.taken; libraries = set old.libraries k next })
+applied_are_replicas old k next h here = record {
+  one_each = length-set old.libraries k next ∙ h.one_each;
+  of_logs = λ j node got. at_node j node got (k == j) refl;
+} where
+  at_node : (j : ℕ) (node : NodeLibrary) → slice_get (set old.libraries k next) j ≡ Some node → (t : Bool) → (k == j) ≡ t → IsOfLog (log_entries old.taken j) node
+  at_node j node got true test =
+      let same : k ≡ j = grind (arith, nat_tests) in
+      let new : node ≡ next = set_new old.libraries j next node (subst (λ (i : ℕ). slice_get (set old.libraries i next) j ≡ Some node) same got) in
+      subst (λ (l : NodeLibrary). IsOfLog (log_entries old.taken j) l) (sym new) (subst (λ (i : ℕ). IsOfLog (log_entries old.taken i) next) same here)
+  at_node j node got false test =
+      let other : k ≢ j = grind (arith, nat_tests) in
+      h.of_logs j node (sym (slice_get-set_other old.libraries k j next other) ∙ got)
+
+-- A run on new libraries leaves them new.
+
+new_given_up : (n : ℕ) (o : Option ℕ) → given_up (replicate n new_library) o ≡ replicate n new_library
+new_given_up n None = refl
+new_given_up n (Some k) = set_again n k where
+  set_again : (m i : ℕ) → set (replicate m new_library) i new_library ≡ replicate m new_library
+  set_again zero i = refl
+  set_again (suc m) zero = refl
+  set_again (suc m) (suc i) = ap (λ ls. new_library ∷ ls) (set_again m i)
+
+pub run_goes_on : (weights : List ℕ) (done : List (Event Entry)) (e : Event Entry) (old new : Replicas) → old ≡ record { taken = record { weights = weights; events = all_carried done }; libraries = new_libraries weights }
+    → new ≡ then_event old (carried e) → new ≡ record { taken = record { weights = weights; events = all_carried (done ++ e ∷ []) }; libraries = new_libraries weights }
+run_goes_on weights done e old new was is =
+    is ∙ (ap (λ (r : Replicas). then_event r (carried e)) was
+    ∙ (ap (λ (es : List (Event Carried)). let r : Replicas = record { taken = record { weights = weights; events = es }; libraries = given_up (new_libraries weights) (restarts (carried e)) } in r) (sym (all_carried-append done (e ∷ [])))
+    ∙ ap (λ (ls : List NodeLibrary). let r : Replicas = record { taken = record { weights = weights; events = all_carried (done ++ e ∷ []) }; libraries = ls } in r) (new_given_up (length weights) (restarts (carried e)))))

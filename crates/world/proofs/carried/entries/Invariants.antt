@@ -1,0 +1,6 @@
+use Rattle.std.proofs.Common.{◌≡◌}
+use Rattle.world.specs.Carried.{entries_of}
+use Rattle.world.proofs.carried.entries.Given as goal
+
+abbrev pub invariant-loop-value : goal.invariant-loop-value
+invariant-loop-value l = l.entries.items ≡ entries_of l.yielded

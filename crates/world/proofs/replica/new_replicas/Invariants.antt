@@ -1,0 +1,6 @@
+use Rattle.std.proofs.Common.{◌≡◌, replicate}
+use Rattle.world.specs.Replicas.{new_library}
+use Rattle.world.proofs.replica.new_replicas.Given as goal
+
+abbrev pub invariant-loop-node : goal.invariant-loop-node
+invariant-loop-node l = l.replicas.items ≡ replicate l._node new_library

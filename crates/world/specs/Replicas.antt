@@ -1,0 +1,80 @@
+-- What contracts see of a world: its weights, the events that it took, and each node's library with the count of entries applied.
+-- Source: Lamport, Paxos Made Simple, section 3: a server executes the commands of its log in order, each once all before it are known.
+-- The code keeps the nodes and packets too; the type keeps that each library is that of the first entries of its node's log.
+use Rattle.std.specs.Prelude.{◌≡◌, ◌+◌, ◌≤◌, ℕ, List, [], Option, Some, None, length, take, replicate, slice_get, slice_set}
+use Rattle.library.specs.declared.entry.Entry.{Entry}
+use Rattle.library.specs.declared.verdict.Verdict.{Verdict}
+use Rattle.library.specs.LibraryOf.{Replica, empty, Applies, IsLibraryOf}
+use Rattle.world.specs.declared.carried.Carried.{Carried}
+use Rattle.world.specs.declared.event.Event.{Event}
+use Rattle.world.specs.declared.event.Event.TheVariants.{Offer, Begin, Deliver, Restart}
+use Rattle.world.specs.World.{log_after}
+use Rattle.world.specs.Taken.{Taken, world_of, with_event}
+use Rattle.world.specs.Carried.{carried_size, entries_of}
+
+-- a node's library, and how many entries of its log made it
+pub record NodeLibrary : Type 0 where
+  pub applied : ℕ
+  pub library : Replica
+
+pub record Replicas : Type 0 where
+  pub taken : Taken Carried
+  pub libraries : List NodeLibrary  -- one for each node
+
+abbrev pub new_library : NodeLibrary
+new_library = record { applied = 0; library = empty }
+
+abbrev pub new_libraries : List ℕ → List NodeLibrary
+new_libraries weights = replicate (length weights) new_library
+
+-- before any event
+abbrev pub new_replicas : List ℕ → Replicas
+new_replicas weights = record { taken = record { weights = weights; events = [] }; libraries = new_libraries weights }
+
+-- the node that restarts by the event
+abbrev pub restarts : {V : Type 0} → Event V → Option ℕ
+restarts (Offer k v) = None
+restarts (Begin k) = None
+restarts (Deliver number) = None
+restarts (Restart k) = Some k
+
+-- that node's library is given up
+abbrev pub given_up : List NodeLibrary → Option ℕ → List NodeLibrary
+given_up libraries None = libraries
+given_up libraries (Some k) = slice_set libraries k new_library
+
+-- with one event more
+abbrev pub then_event : Replicas → Event Carried → Replicas
+then_event r e = record { taken = with_event r.taken e; libraries = given_up r.libraries (restarts e) }
+
+-- the log of node k after the events
+abbrev pub log_entries : Taken Carried → ℕ → List (Option Entry)
+log_entries taken k = entries_of (log_after (world_of carried_size taken) k)
+
+-- the library is that of the first entries of the log, as many as were applied
+pub record IsOfLog (log : List (Option Entry)) (node : NodeLibrary) : Type 0 where
+  pub within : node.applied ≤ length log
+  pub library : IsLibraryOf (take node.applied log) node.library
+
+-- one library a node, each that of its log
+pub record AreReplicas (r : Replicas) : Type 0 where
+  pub one_each : length r.libraries ≡ length r.taken.weights
+  pub of_logs : (k : ℕ) (node : NodeLibrary) → slice_get r.libraries k ≡ Some node → IsOfLog (log_entries r.taken k) node
+
+-- The next entry of a log.
+
+abbrev pub next_of : List (Option Entry) → Option NodeLibrary → Option (Option Entry)
+next_of log None = None
+next_of log (Some node) = slice_get log node.applied
+
+-- the entry of node k's log that is to be applied next, if it is there
+abbrev pub next_entry : Replicas → ℕ → Option (Option Entry)
+next_entry r k = next_of (log_entries r.taken k) (slice_get r.libraries k)
+
+-- the entry is applied to the library of node k, with this verdict, and nothing else changes
+pub record IsApplied (old : Replicas) (k : ℕ) (entry : Option Entry) (verdict : Verdict) (new : Replicas) : Type 0 where
+  pub before : NodeLibrary
+  pub library : Replica
+  pub was : slice_get old.libraries k ≡ Some before
+  pub applies : Applies before.library entry verdict library
+  pub becomes : new ≡ record { taken = old.taken; libraries = slice_set old.libraries k (record { applied = before.applied + 1; library = library }) }
