@@ -55,13 +55,16 @@ below-at n [] i d b h = absurd (omega (arith, h))
 below-at n (x ∷ xs) zero d b h = b.0
 below-at n (x ∷ xs) (suc i) d b h = below-at n xs i d b.1 (omega (arith, h))
 
--- one variable of an image against another image
-pub variable_stops : (S : Database) (names : List Name) (x : ℕ) (image : List ℕ) (i d : ℕ) → i < length image
-    → is_variable S (name_at names (get_or image i d)) ≡ true → is_pair S (name_at names x) (name_at names (get_or image i d)) ≡ false
-    → is_variable_apart S (name_at names x) (decode names image) ≡ false
-variable_stops S names x image i d h var pair =
-    stops (λ v. not (is_variable S v) || is_pair S (name_at names x) v) (name_at names) image i d h
-    (ap (λ b. not b || is_pair S (name_at names x) (name_at names (get_or image i d))) var ∙ pair)
+-- an element that stands among those that pass the test passes it
+pub repeat-passes : {B : Type 0} (p : B → Bool) (f : ℕ → B) (xs : List ℕ) (x : ℕ) → list_all p (map f xs) ≡ true → list_any (λ y. x == y) xs ≡ true → p (f x) ≡ true
+repeat-passes p f [] x h k = cc
+repeat-passes p f (y ∷ xs) x h k =
+    let a = and_parts (p (f y)) (list_all p (map f xs)) h in
+    by (x == y) refl k (repeat-passes p f xs x a.1)
+  where
+    by : (b : Bool) → (x == y) ≡ b → (b || list_any (λ y. x == y) xs) ≡ true → (list_any (λ y. x == y) xs ≡ true → p (f x) ≡ true) → p (f x) ≡ true
+    by true e k rest = let same : x ≡ y = grind (arith, e) in ap (λ n. p (f n)) same ∙ (and_parts (p (f y)) (list_all p (map f xs)) h).0
+    by false e k rest = rest k
 
 all-true : {A : Type 0} (p : A → Bool) (xs : List A) → ((x : A) → p x ≡ true) → list_all p xs ≡ true
 all-true p [] h = refl

@@ -28,9 +28,13 @@ are_covered S e f = list_any (λ p. does_cover S e f p.1) (active S)
 abbrev pub do_share : Database → Expr → Expr → Bool
 do_share S e f = list_any (λ v. is_variable S v && has_name v e) f
 
+-- the variable u is kept apart from v, where this is a variable
+abbrev pub is_pair_apart : Database → Name → Name → Bool
+is_pair_apart S u v = not (is_variable S v) || is_pair S u v
+
 -- the variable u is kept apart from each variable of f
 abbrev pub is_variable_apart : Database → Name → Expr → Bool
-is_variable_apart S u f = list_all (λ v. not (is_variable S v) || is_pair S u v) f
+is_variable_apart S u f = list_all (is_pair_apart S u) f
 
 -- the symbol u, where it is a variable, is kept apart from each variable of f
 abbrev pub is_symbol_apart : Database → Expr → Name → Bool

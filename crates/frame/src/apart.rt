@@ -5,7 +5,7 @@ ghost use Rattle.scope.specs.Active.{before};
 ghost use Rattle.scope.specs.Numbering.{name_at, decode, AreDistinct};
 ghost use Rattle.frame.specs.ByPlaces.{AreBelow};
 ghost use Rattle.frame.specs.Disjoint.{are_apart};
-ghost use Rattle.frame.specs.Covers.{are_listed, are_covered, do_share, are_marked, is_variable_apart, is_symbol_apart};
+ghost use Rattle.frame.specs.Covers.{are_listed, are_covered, do_share, are_marked, is_pair_apart, is_variable_apart, is_symbol_apart};
 ghost use Rattle.frame.specs.Stored.{AreStored, statements_of};
 ghost use Rattle.frame.specs.declared.apart.TheConstants.{PLACES};
 
@@ -148,14 +148,14 @@ fn mark(symbols: &[u32], marked: &mut [bool])
     }
 }
 
-/// Whether each pair of one variable from each list is kept apart.
+/// Whether each pair of one variable from each list is kept apart. A symbol that stands earlier in its list is passed over.
 fn each_apart(pairs: &Pairs<'_>, left: &[u32], right: &[u32]) -> bool
     requires left { AreBelow (length pairs.now.names) left.now }
     requires right { AreBelow (length pairs.now.names) right.now }
     ensures { result ≡ are_apart pairs.now.statements (decode pairs.now.names left.now) (decode pairs.now.names right.now) }
 {
-    for x in left {
-        if !symbol_apart(pairs, *x, right) {
+    for i in 0..left.len() {
+        if !contains(&left[..i], left[i]) && !symbol_apart(pairs, left[i], right) {
             return false;
         }
     }
@@ -181,10 +181,19 @@ fn variable_apart(pairs: &Pairs<'_>, x: u32, image: &[u32]) -> bool
     requires image { AreBelow (length pairs.now.names) image.now }
     ensures { result ≡ is_variable_apart pairs.now.statements (name_at pairs.now.names x) (decode pairs.now.names image.now) }
 {
-    for y in image {
-        if pairs.variable(*y) && !pairs.has(x, *y) {
+    for i in 0..image.len() {
+        if !contains(&image[..i], image[i]) && !pair_apart(pairs, x, image[i]) {
             return false;
         }
     }
     true
+}
+
+/// Whether the variable is kept apart from the symbol, where this is a variable.
+fn pair_apart(pairs: &Pairs<'_>, x: u32, y: u32) -> bool
+    requires x { x < length pairs.now.names }
+    requires y { y < length pairs.now.names }
+    ensures { result ≡ is_pair_apart pairs.now.statements (name_at pairs.now.names x) (name_at pairs.now.names y) }
+{
+    !pairs.variable(y) || pairs.has(x, y)
 }
