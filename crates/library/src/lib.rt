@@ -17,6 +17,8 @@ mod listed;
 mod proving;
 mod reading;
 mod submission;
+#[cfg(test)]
+mod tests;
 mod verdict;
 mod verdicts;
 
