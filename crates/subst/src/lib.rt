@@ -12,6 +12,8 @@ mod laws;
 mod substitute;
 #[cfg(test)]
 mod tests;
+#[cfg(test)]
+mod tests_disjoint;
 
 pub use apart::disjoint;
 pub use buffer::{Buffer, SYMBOLS_LIMIT, apply_into, has_room};
