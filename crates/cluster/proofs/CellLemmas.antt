@@ -1,58 +1,64 @@
--- What a cell takes over: the entry of its node's log that is next.
-use Rattle.std.proofs.Common.{◌≡◌, ℕ, ◌<◌, ◌≤◌, Bool, true, false, List, [], ◌∷◌, length, slice_get, Option, Some, None, Result, Ok, Err, refl, ap, ◌∙◌, subst, arith, length-append}
-use Rattle.std.specs.Prelude.{IsSome, IfOk}
-use Rattle.std.specs.Result.{ForOk}
+-- What a cell keeps: room for its entries, and a library that is that of the first of them.
+use Rattle.std.proofs.Common.{◌≡◌, ℕ, ◌<◌, Bool, true, false, List, [], ◌∷◌, ◌++◌, length, slice_get, Option, Some, None, Result, Ok, Err, refl, ap, sym, subst, arith, length-append}
+use Rattle.std.specs.Prelude.{IsSome, IfOk, option_map}
+use Rattle.std.specs.Borrow.{Bor}
 use Rattle.slots.specs.declared.slots.TheConstants.{SLOTS}
-use Rattle.synod.specs.Node.{Node}
-use Rattle.synod.specs.Log.{log_of}
+use Rattle.library.specs.declared.entry.Entry.{Entry}
+use Rattle.library.specs.declared.verdict.Verdict.{Verdict}
+use Rattle.world.specs.declared.carried.Carried.{Carried}
 use Rattle.world.specs.declared.fault.StepFault.{StepFault}
-use Rattle.world.specs.declared.fault.StepFault.TheVariants.{NoNode}
-use Rattle.world.specs.World.{log, log_at}
-use Rattle.cluster.specs.Switch.{Shared, world_of, ShowsEntry}
-use Rattle.cluster.specs.Cell.{Cell, AddsEntry, TakesOver}
+use Rattle.world.specs.Carried.{entry_of, entries_of}
+use Rattle.world.specs.Replicas.{NodeLibrary}
+use Rattle.world.proofs.EntriesLemmas.{entries_begin, entries_of-get, entries_of-none}
+use Rattle.world.proofs.ReplicasLemmas.{of_longer, of_log_applied}
+use Rattle.cluster.specs.Cell.{Cell, IsCell, AddsEntry, AppliesNext, next_entry}
 
 -- the cell as a call sees it
-abbrev pub cell : {V : Type 0} → ℕ → List (Option V) → Cell V
-cell k entries = record { at = k; entries = entries }
+abbrev pub cell : ℕ → List (Option Carried) → NodeLibrary → Cell
+cell k entries node = record { at = k; entries = entries; node = node }
 
-module _ {V : Type 0} (k : ℕ) (old new : List (Option V)) where
-  none_there : (next : Result (Option (Option V)) StepFault) (result : Result Bool StepFault) → next ≡ Err NoNode → AddsEntry old new next result → (result ≡ Err NoNode) × (cell k new ≡ cell k old)
-  none_there (Ok entry) result is adds = cc
-  none_there (Err met) (Ok done) is adds = elim adds [ ]
-  none_there (Err met) (Err fault) is adds =
-      let same : met ≡ NoNode = cc in
-      (ap (λ (f : StepFault). let r : Result Bool StepFault = Err f in r) (adds.0 ∙ same), ap (λ (es : List (Option V)). cell k es) adds.1)
+-- An entry is taken over.
 
-  takes_next : (n : Node V) (next : Result (Option (Option V)) StepFault) (result : Result Bool StepFault) → ShowsEntry (Some n) (length old) next → AddsEntry old new next result → TakesOver (cell k old) (cell k new) (slice_get (log_of n) (length old)) result
-  takes_next n (Ok (Some entry)) (Ok true) shows adds = subst (λ (o : Option (Option V)). TakesOver (cell k old) (cell k new) o (Ok true)) shows (ap (λ (es : List (Option V)). cell k es) adds)
-  takes_next n (Ok (Some entry)) (Ok false) shows adds = elim adds [ ]
-  takes_next n (Ok (Some entry)) (Err fault) shows adds = subst (λ (o : Option (Option V)). TakesOver (cell k old) (cell k new) o (Err fault)) shows (adds.0, ap (λ (es : List (Option V)). cell k es) adds.1)
-  takes_next n (Ok None) (Ok true) shows adds = elim adds [ ]
-  takes_next n (Ok None) (Ok false) shows adds = subst (λ (o : Option (Option V)). TakesOver (cell k old) (cell k new) o (Ok false)) shows (ap (λ (es : List (Option V)). cell k es) adds)
-  takes_next n (Ok None) (Err fault) shows adds = elim adds [ ]
-  takes_next n (Err met) (Ok done) shows adds = elim adds [ ]
-  takes_next n (Err met) (Err fault) shows adds = no_memory (slice_get (log_of n) (length old)) where
-    no_memory : (o : Option (Option V)) → TakesOver (cell k old) (cell k new) o (Err fault)
-    no_memory None = (adds.0 ∙ shows, ap (λ (es : List (Option V)). cell k es) adds.1)
-    no_memory (Some entry) = (adds.0 ∙ shows, ap (λ (es : List (Option V)). cell k es) adds.1)
+module _ (k : ℕ) (node : NodeLibrary) (old new : List (Option Carried)) (h : IsCell (cell k old node)) where
+  one_more : (entry : Option Carried) → length old < SLOTS → new ≡ old ++ entry ∷ [] → IsCell (cell k new node)
+  one_more entry low is = record {
+    few = let count = ap (λ (es : List (Option Carried)). length es) is in omega (arith, low, count, length-append old (entry ∷ []));
+    of_entries = of_longer (entries_of old) (entries_of new) node (entries_begin old new (entry ∷ [], sym is)) h.of_entries;
+  }
 
-  -- there is room for one more
-  pub adds_within : (next : Result (Option (Option V)) StepFault) (result : Result Bool StepFault) → IfOk next (λ entry. IsSome entry → length old < SLOTS) → length old ≤ SLOTS → AddsEntry old new next result → length new ≤ SLOTS
-  adds_within (Ok (Some entry)) (Ok true) below within adds = let low = below refl in let count = ap (λ (es : List (Option V)). length es) adds in omega (arith, low, count, length-append old (entry ∷ []))
-  adds_within (Ok (Some entry)) (Ok false) below within adds = elim adds [ ]
-  adds_within (Ok (Some entry)) (Err fault) below within adds = let count = ap (λ (es : List (Option V)). length es) adds.1 in omega (arith, within, count)
-  adds_within (Ok None) (Ok true) below within adds = elim adds [ ]
-  adds_within (Ok None) (Ok false) below within adds = let count = ap (λ (es : List (Option V)). length es) adds in omega (arith, within, count)
-  adds_within (Ok None) (Err fault) below within adds = elim adds [ ]
-  adds_within (Err met) (Ok done) below within adds = elim adds [ ]
-  adds_within (Err met) (Err fault) below within adds = let count = ap (λ (es : List (Option V)). length es) adds.1 in omega (arith, within, count)
+  as_before : new ≡ old → IsCell (cell k new node)
+  as_before is = subst (λ (es : List (Option Carried)). IsCell (cell k es node)) (sym is) h
 
-  module _ (size : V → ℕ) (shared : Shared V) (next : Result (Option (Option V)) StepFault) (shows : ForOk (world_of size shared) (λ w. ShowsEntry (slice_get w.nodes k) (length old) next)) (result : Result Bool StepFault) (adds : AddsEntry old new next result) where
-    pub take_nowhere : ForOk (world_of size shared) (λ w. slice_get w.nodes k ≡ None → (result ≡ Err NoNode) × (cell k new ≡ cell k old))
-    take_nowhere = λ w is none. none_there next result (subst (λ (o : Option (Node V)). ShowsEntry o (length old) next) none (shows w is)) adds
+  pub stays_cell : (next : Result (Option (Option Carried)) StepFault) (result : Result Bool StepFault) (slot : ℕ) → slot ≡ length old → IfOk next (λ entry. IsSome entry → slot < SLOTS) → AddsEntry old new next result → IsCell (cell k new node)
+  stays_cell (Ok (Some entry)) (Ok true) slot is below adds = one_more entry (let low = below refl in omega (arith, low, is)) adds
+  stays_cell (Ok (Some entry)) (Ok false) slot is below adds = elim adds [ ]
+  stays_cell (Ok (Some entry)) (Err fault) slot is below adds = as_before adds.1
+  stays_cell (Ok None) (Ok true) slot is below adds = elim adds [ ]
+  stays_cell (Ok None) (Ok false) slot is below adds = as_before adds
+  stays_cell (Ok None) (Err fault) slot is below adds = elim adds [ ]
+  stays_cell (Err met) (Ok done) slot is below adds = elim adds [ ]
+  stays_cell (Err met) (Err fault) slot is below adds = as_before adds.1
 
-    pub take_there : ForOk (world_of size shared) (λ w. IsSome (slice_get w.nodes k) → TakesOver (cell k old) (cell k new) (slice_get (log w k) (length old)) result)
-    take_there = λ w is some. by_node (slice_get w.nodes k) (shows w is) some where
-      by_node : (o : Option (Node V)) → ShowsEntry o (length old) next → IsSome o → TakesOver (cell k old) (cell k new) (slice_get (log_at o) (length old)) result
-      by_node None shown some = let no : false ≡ true = some in cc
-      by_node (Some n) shown some = takes_next n next result shown adds
+-- An entry is applied.
+
+pub entry_is : (vs : List (Option Carried)) (slot : ℕ) (found : Option (Bor (Option Carried))) → option_map (λ (e : Bor (Option Carried)). e.now) found ≡ slice_get vs slot → slice_get (entries_of vs) slot ≡ option_map (λ (e : Bor (Option Carried)). entry_of e.now) found
+entry_is vs slot None is = entries_of-none vs slot (sym is)
+entry_is vs slot (Some e) is = entries_of-get vs slot e.now (sym is)
+
+pub applied_cell : (k : ℕ) (entries : List (Option Carried)) (old new : NodeLibrary) → IsCell (cell k entries old) → (next : Option (Option Entry)) → slice_get (entries_of entries) old.applied ≡ next
+    → (result : Result (Option Verdict) StepFault) → AppliesNext old new next result → IsCell (cell k entries new)
+applied_cell k entries old new h None at (Ok None) applies = subst (λ (n : NodeLibrary). IsCell (cell k entries n)) (sym applies) h
+applied_cell k entries old new h None at (Ok (Some verdict)) applies = elim applies [ ]
+applied_cell k entries old new h None at (Err fault) applies = elim applies [ ]
+applied_cell k entries old new h (Some entry) at (Ok None) applies = elim applies [ ]
+applied_cell k entries old new h (Some entry) at (Ok (Some verdict)) applies = record {
+  few = h.few;
+  of_entries = of_log_applied (entries_of entries) old entry verdict new h.of_entries at applies.0 applies.1;
+}
+applied_cell k entries old new h (Some entry) at (Err fault) applies = subst (λ (n : NodeLibrary). IsCell (cell k entries n)) (sym applies.1) h
+
+-- what is seen of a cell, the fields of which are these
+pub applied_seen : (k : ℕ) (entries : List (Option Carried)) (old new : NodeLibrary) (seen : Cell) → cell k entries old ≡ seen → (next : Option (Option Entry)) → slice_get (entries_of entries) old.applied ≡ next
+    → (result : Result (Option Verdict) StepFault) → AppliesNext old new next result → AppliesNext seen.node new (next_entry seen) result
+applied_seen k entries old new seen is next at result applies =
+    subst (λ (c : Cell). AppliesNext c.node new (next_entry c) result) is (subst (λ (o : Option (Option Entry)). AppliesNext old new o result) (sym at) applies)

@@ -89,15 +89,15 @@ starts {V} size weights are seats packets history nodes new no_events no_packets
 
 -- New cells.
 
-new_cells-take : (V : Type 0) (k i : ℕ) (ws : List ℕ) → i < length ws → new_cells {V = V} k (take (suc i) ws) ≡ new_cells k (take i ws) ++ new_cell (k + i) ∷ []
-new_cells-take V k i [] h = absurd (omega arith)
-new_cells-take V k zero (w ∷ ws) h = let e : k ≡ k + 0 = omega arith in ap (λ (j : ℕ). let cs : List (Cell V) = new_cell j ∷ [] in cs) e
-new_cells-take V k (suc i) (w ∷ ws) h =
+new_cells-take : (k i : ℕ) (ws : List ℕ) → i < length ws → new_cells k (take (suc i) ws) ≡ new_cells k (take i ws) ++ new_cell (k + i) ∷ []
+new_cells-take k i [] h = absurd (omega arith)
+new_cells-take k zero (w ∷ ws) h = let e : k ≡ k + 0 = omega arith in ap (λ (j : ℕ). let cs : List Cell = new_cell j ∷ [] in cs) e
+new_cells-take k (suc i) (w ∷ ws) h =
     let e : suc k + i ≡ k + suc i = omega arith in
-    ap (λ (cs : List (Cell V)). new_cell k ∷ cs) (new_cells-take V (suc k) i ws (le_of_suc-le-suc h) ∙ ap (λ (j : ℕ). new_cells {V = V} (suc k) (take i ws) ++ new_cell j ∷ []) e)
+    ap (λ (cs : List Cell). new_cell k ∷ cs) (new_cells-take (suc k) i ws (le_of_suc-le-suc h) ∙ ap (λ (j : ℕ). new_cells (suc k) (take i ws) ++ new_cell j ∷ []) e)
 
-pub new_cells-push : {V : Type 0} (ws : List ℕ) (k : ℕ) (old new : List (Cell V)) → new ≡ old ++ new_cell k ∷ [] → old ≡ new_cells 0 (take k ws) → k < length ws → new ≡ new_cells 0 (take (k + 1) ws)
-new_cells-push {V} ws k old new pushed before low =
+pub new_cells-push : (ws : List ℕ) (k : ℕ) (old new : List Cell) → new ≡ old ++ new_cell k ∷ [] → old ≡ new_cells 0 (take k ws) → k < length ws → new ≡ new_cells 0 (take (k + 1) ws)
+new_cells-push ws k old new pushed before low =
     let z : k ≡ 0 + k = omega arith in
-    pushed ∙ ap (λ (cs : List (Cell V)). cs ++ new_cell k ∷ []) before ∙ ap (λ (j : ℕ). new_cells {V = V} 0 (take k ws) ++ new_cell j ∷ []) z
-    ∙ sym (new_cells-take V 0 k ws low) ∙ ap (λ (i : ℕ). new_cells {V = V} 0 (take i ws)) (sym (add-one k))
+    pushed ∙ ap (λ (cs : List Cell). cs ++ new_cell k ∷ []) before ∙ ap (λ (j : ℕ). new_cells 0 (take k ws) ++ new_cell j ∷ []) z
+    ∙ sym (new_cells-take 0 k ws low) ∙ ap (λ (i : ℕ). new_cells 0 (take i ws)) (sym (add-one k))

@@ -1,19 +1,32 @@
--- A node's own part: what it has taken over of its log.
+-- A node's own part: what it has taken over of its log, and the library of the entries that it applied.
 -- Source: Lamport, Paxos Made Simple, section 3: a server executes the commands in the order of their numbers.
--- The code keeps the entries under a lock of their own; that they begin the log of their core is tested where both are at hand.
-use Rattle.std.specs.Prelude.{◌≡◌, ℕ, Bool, true, false, List, [], ◌∷◌, ◌++◌, Option, Some, None, Result, Ok, Err}
+-- The code keeps these under a lock of their own; that the entries begin the log of their core is tested where both are at hand.
+use Rattle.std.specs.Prelude.{◌≡◌, ℕ, ◌+◌, ◌≤◌, Bool, true, false, List, [], ◌∷◌, ◌++◌, Option, Some, None, Result, Ok, Err, length, slice_get}
+use Rattle.slots.specs.declared.slots.TheConstants.{SLOTS}
+use Rattle.library.specs.declared.entry.Entry.{Entry}
+use Rattle.library.specs.declared.verdict.Verdict.{Verdict}
+use Rattle.library.specs.LibraryOf.{Applies}
+use Rattle.world.specs.declared.carried.Carried.{Carried}
 use Rattle.world.specs.declared.fault.StepFault.{StepFault}
 use Rattle.world.specs.declared.fault.StepFault.TheVariants.{Memory}
+use Rattle.world.specs.Carried.{entries_of}
+use Rattle.world.specs.Replicas.{NodeLibrary, new_library, IsOfLog}
 
-pub record Cell (V : Type 0) : Type 0 where
+pub record Cell : Type 0 where
   pub at : ℕ
-  pub entries : List (Option V)
+  pub entries : List (Option Carried)  -- taken over, the first in first
+  pub node : NodeLibrary  -- the library, and how many of the entries made it
 
-abbrev pub new_cell : {V : Type 0} → ℕ → Cell V
-new_cell k = record { at = k; entries = [] }
+abbrev pub new_cell : ℕ → Cell
+new_cell k = record { at = k; entries = []; node = new_library }
+
+-- the library is that of the first entries taken over, as many as were applied
+pub record IsCell (c : Cell) : Type 0 where
+  pub few : length c.entries ≤ SLOTS
+  pub of_entries : IsOfLog (entries_of c.entries) c.node
 
 -- the next entry is taken over, or there is none; or there is no memory, and nothing is taken over
-abbrev pub TakesOver : {V : Type 0} → Cell V → Cell V → Option (Option V) → Result Bool StepFault → Type 0
+abbrev pub TakesOver : Cell → Cell → Option (Option Carried) → Result Bool StepFault → Type 0
 TakesOver old new (Some entry) (Ok true) = new ≡ record old { entries = old.entries ++ entry ∷ [] }
 TakesOver old new None (Ok true) = ⊥
 TakesOver old new None (Ok false) = new ≡ old
@@ -22,7 +35,7 @@ TakesOver old new (Some entry) (Err fault) = (fault ≡ Memory) × (new ≡ old)
 TakesOver old new None (Err fault) = (fault ≡ Memory) × (new ≡ old)
 
 -- the entry that was shown is added, or there is none; or what was met is answered, or there is no memory, and nothing is added
-abbrev pub AddsEntry : {V : Type 0} → List (Option V) → List (Option V) → Result (Option (Option V)) StepFault → Result Bool StepFault → Type 0
+abbrev pub AddsEntry : List (Option Carried) → List (Option Carried) → Result (Option (Option Carried)) StepFault → Result Bool StepFault → Type 0
 AddsEntry old new (Ok (Some entry)) (Ok true) = new ≡ old ++ entry ∷ []
 AddsEntry old new (Ok (Some entry)) (Ok false) = ⊥
 AddsEntry old new (Ok (Some entry)) (Err fault) = (fault ≡ Memory) × (new ≡ old)
@@ -31,3 +44,16 @@ AddsEntry old new (Ok None) (Ok false) = new ≡ old
 AddsEntry old new (Ok None) (Err fault) = ⊥
 AddsEntry old new (Err met) (Ok done) = ⊥
 AddsEntry old new (Err met) (Err fault) = (fault ≡ met) × (new ≡ old)
+
+-- the entry that is applied next, if it is taken over
+abbrev pub next_entry : Cell → Option (Option Entry)
+next_entry c = slice_get (entries_of c.entries) c.node.applied
+
+-- the entry is applied with this verdict, or there is none; or there is no memory, and the library stays at its entry
+abbrev pub AppliesNext : NodeLibrary → NodeLibrary → Option (Option Entry) → Result (Option Verdict) StepFault → Type 0
+AppliesNext old new None (Ok None) = new ≡ old
+AppliesNext old new None (Ok (Some verdict)) = ⊥
+AppliesNext old new None (Err fault) = ⊥
+AppliesNext old new (Some entry) (Ok None) = ⊥
+AppliesNext old new (Some entry) (Ok (Some verdict)) = Applies old.library entry verdict new.library × (new.applied ≡ old.applied + 1)
+AppliesNext old new (Some entry) (Err fault) = (fault ≡ Memory) × (new ≡ old)

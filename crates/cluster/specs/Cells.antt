@@ -14,7 +14,7 @@ new_places failures [] = []
 new_places failures (keep ∷ keeps) = record { kept = new_kept; failures = failures keep; standing = up } ∷ new_places failures keeps
 
 -- the cells of the nodes from k on, as many as there are weights
-abbrev pub new_cells : {V : Type 0} → ℕ → List ℕ → List (Cell V)
+abbrev pub new_cells : ℕ → List ℕ → List Cell
 new_cells k [] = []
 new_cells k (w ∷ ws) = new_cell k ∷ new_cells (suc k) ws
 

@@ -1,58 +1,76 @@
-//! A node's own part: the entries that were taken over from its log.
-ghost use Rattle.std.specs.Prelude.{◌≡◌, ◌≤◌, Ok, Err, Some, None, length, slice_get, IsSome, IfOk, OnOk, OnErr};
+//! A node's own part: the entries that were taken over from its log, and the library of those applied.
+ghost use Rattle.std.specs.Prelude.{◌≡◌, ◌≤◌, ◌<◌, ℕ, Ok, Err, Some, None, length, slice_get, option_map, IsSome, IfOk, OnOk, OnErr, IsOkUnless};
 ghost use Rattle.std.specs.Result.{ForOk};
 ghost use Rattle.slots.specs.declared.slots.TheConstants.{SLOTS};
+ghost use Rattle.library.specs.LibraryOf.{Applies};
+ghost use Rattle.library.specs.Listed.{listed};
 ghost use Rattle.world.specs.declared.fault.StepFault.TheVariants.{NoNode};
 ghost use Rattle.world.specs.World.{World, log};
+ghost use Rattle.world.specs.Carried.{carried_size, entry_of};
 ghost use Rattle.cluster.specs.Switch.{world_of, Restarts};
-ghost use Rattle.cluster.specs.Cell.{Cell, new_cell, AddsEntry, TakesOver};
+ghost use Rattle.cluster.specs.Cell.{Cell, new_cell, IsCell, AddsEntry, TakesOver, AppliesNext, next_entry};
 
 use crate::switch::Switch;
-use std::alloc::Global;
+use library::{Library, Listed, Verdict};
+use std::alloc::{AllocError, Global};
 use std::marker::Model;
-use synod::{Keep, Value};
-use world::StepFault;
+use synod::Keep;
+use world::{Carried, StepFault};
 
-/// What node `at` has taken over of its log. It is seen as the node's number and those entries.
+/// What node `at` has taken over of its log, and its library: that of the first entries taken over, as many as were applied.
+///
+/// It is seen as the node's number, those entries, the count applied and what the library holds.
 #[derive(Drop)]
-pub struct NodeCell<V: Value> {
+pub struct NodeCell {
+    alloc: Global,
     at: u8,
-    entries: Vec<Option<V>>,
+    entries: Vec<Option<Carried>>,
+    applied: u32,
+    library: Library,
 }
 
-impl<V: Value> Model for NodeCell<V> {
-    ghost use Rattle.std.specs.Prelude.{◌≤◌, length};
-    ghost use Rattle.slots.specs.declared.slots.TheConstants.{SLOTS};
-    ghost use Rattle.cluster.specs.Cell.{Cell};
+impl Model for NodeCell {
+    ghost use Rattle.cluster.specs.Cell.{Cell, IsCell};
 
-    ghost Value = { Cell V };
+    ghost Value = { Cell };
 
-    ghost view = { λ c. record { at = c.at; entries = c.entries.items } };
+    ghost view = { λ c. record { at = c.at; entries = c.entries.items; node = record { applied = c.applied; library = c.library.replica } } };
 
-    ghost invariant = { λ c. length c.entries.items ≤ SLOTS };
+    ghost invariant = { λ c. IsCell (record { at = c.at; entries = c.entries.items; node = record { applied = c.applied; library = c.library.replica } }) };
 }
 
-impl<V: Value> NodeCell<V> {
+impl NodeCell {
     /// Nothing is taken over. It takes no memory.
     pub(crate) fn new(alloc: Global, at: u8) -> Self
         ensures { result ≡ new_cell at }
     {
         NodeCell {
+            alloc,
             at,
             entries: Vec::new(alloc),
+            applied: 0,
+            library: Library::new(alloc),
         }
+    }
+
+    /// The library: that of the first entries taken over, as many as were applied. It takes no memory.
+    pub fn library(&self) -> &Library
+        ensures library { result.now.replica ≡ self.now.node.library }
+        ensures of_entries { IsCell self.now }
+    {
+        &self.library
     }
 }
 
 /// Takes over the next entry of the node's log, and answers whether there is one.
 ///
 /// Errors: `NoNode` where the switch has no such node; else `Memory`, and nothing is taken over.
-pub fn take_on<V: Value, K: Keep<V>>(
-    cell: &mut NodeCell<V>,
-    switch: &Switch<V, K>,
+pub fn take_on<K: Keep<Carried>>(
+    cell: &mut NodeCell,
+    switch: &Switch<Carried, K>,
 ) -> Result<bool, StepFault>
-    ensures no_node { ForOk (world_of V.bytes switch.now) (λ world. slice_get world.nodes cell.old.at ≡ None → (result ≡ Err NoNode) × (cell.new ≡ cell.old)) }
-    ensures takes { ForOk (world_of V.bytes switch.now) (λ world. IsSome (slice_get world.nodes cell.old.at) → TakesOver cell.old cell.new (slice_get (log world cell.old.at) (length cell.old.entries)) result) }
+    ensures no_node { ForOk (world_of carried_size switch.now) (λ world. slice_get world.nodes cell.old.at ≡ None → (result ≡ Err NoNode) × (cell.new ≡ cell.old)) }
+    ensures takes { ForOk (world_of carried_size switch.now) (λ world. IsSome (slice_get world.nodes cell.old.at) → TakesOver cell.old cell.new (slice_get (log world cell.old.at) (length cell.old.entries)) result) }
 {
     let slot = cell.entries.len() as u32;
     let next = switch.entry(cell.at, slot);
@@ -60,9 +78,9 @@ pub fn take_on<V: Value, K: Keep<V>>(
 }
 
 /// Adds the entry that is next, where there is one.
-fn add_entry<V: Value>(
-    entries: &mut Vec<Option<V>>,
-    next: Result<Option<Option<V>>, StepFault>,
+fn add_entry(
+    entries: &mut Vec<Option<Carried>>,
+    next: Result<Option<Option<Carried>>, StepFault>,
 ) -> Result<bool, StepFault>
     ensures { AddsEntry entries.old.items entries.new.items next result }
 {
@@ -76,20 +94,90 @@ fn add_entry<V: Value>(
     }
 }
 
-/// Restarts the cell's node: it is up with the record that its keep has, and nothing is taken over. It answers the count of
-/// the packets posted so far.
+/// Applies the next of the entries taken over; `None` where each is applied.
+///
+/// Errors: `Memory`; the library then stays at its entry. Cost: that of `Library::apply` on the entry.
+pub fn apply_on(cell: &mut NodeCell) -> Result<Option<Verdict>, StepFault>
+    ensures applies { AppliesNext cell.old.node cell.new.node (next_entry cell.old) result }
+    ensures rest { cell.new ≡ record cell.old { node = cell.new.node } }
+{
+    let next = entry_at(&cell.entries, cell.applied);
+    apply_next(&mut cell.library, &mut cell.applied, next)
+}
+
+/// The entry of that slot, if it is taken over.
+fn entry_at(entries: &[Option<Carried>], slot: u32) -> Option<&Option<Carried>>
+    ensures { option_map (λ e. e.now) result ≡ slice_get entries.now slot }
+{
+    entries.get(slot as usize)
+}
+
+/// Applies the entry that is next, where there is one.
+fn apply_next(
+    library: &mut Library,
+    applied: &mut u32,
+    next: Option<&Option<Carried>>,
+) -> Result<Option<Verdict>, StepFault>
+    requires { IsSome next → applied.old < SLOTS }
+    ensures { AppliesNext (record { applied = applied.old; library = library.old.replica }) (record { applied = applied.new; library = library.new.replica }) (option_map (λ e. entry_of e.now) next.entry) result }
+{
+    let Some(entry) = next else {
+        return Ok(None);
+    };
+    match apply_entry(library, entry) {
+        Ok(verdict) => {
+            *applied += 1;
+            Ok(Some(verdict))
+        }
+        Err(_) => Err(StepFault::Memory),
+    }
+}
+
+/// Applies an entry of a log, or a no-operation.
+fn apply_entry(library: &mut Library, entry: &Option<Carried>) -> Result<Verdict, AllocError>
+    ensures step { IfOk result (λ verdict. Applies library.old.replica (entry_of entry.now) verdict library.new.replica) }
+    ensures same { OnErr result (library.new.replica ≡ library.old.replica) }
+{
+    match entry {
+        Some(carried) => library.apply(Some(&carried.0)),
+        None => library.apply(None),
+    }
+}
+
+/// The assertions of the cell's library, in order.
+///
+/// Errors: a growth was refused. Cost: that of all statements.
+pub fn list_on(cell: &NodeCell) -> Result<Vec<Listed>, AllocError>
+    ensures { IfOk result (λ list. list.items ≡ listed cell.now.node.library.statements) }
+{
+    cell.library.list(cell.alloc)
+}
+
+/// Restarts the cell's node: it is up with the record that its keep has, and the cell is as new: nothing is taken over, and the
+/// library is empty. It answers the count of the packets posted so far.
 ///
 /// Errors: at a node that is up as of `begin_on`. At one that is down `EventsSpent` where fewer than two events are left, else
 /// `Memory` or `Device`, and it stays down. The cell is then as before.
-pub fn restart_on<V: Value, K: Keep<V>>(
-    cell: &mut NodeCell<V>,
-    switch: &mut Switch<V, K>,
+pub fn restart_on<K: Keep<Carried>>(
+    cell: &mut NodeCell,
+    switch: &mut Switch<Carried, K>,
 ) -> Result<u64, StepFault>
-    ensures restarts { ForOk (world_of V.bytes switch.old) (λ world. Restarts V.bytes world switch.old switch.new cell.old.at result) }
+    ensures restarts { ForOk (world_of carried_size switch.old) (λ world. Restarts carried_size world switch.old switch.new cell.old.at result) }
     ensures fresh { OnOk result (cell.new ≡ new_cell cell.old.at) }
     ensures stays { OnErr result (cell.new ≡ cell.old) }
 {
     let count = switch.restart(cell.at)?;
-    cell.entries.clear();
+    cell.give_up();
     Ok(count)
+}
+
+impl NodeCell {
+    /// The cell is as new.
+    fn give_up(&mut self)
+        ensures { self.new ≡ new_cell self.old.at }
+    {
+        self.entries.clear();
+        self.applied = 0;
+        self.library = Library::new(self.alloc);
+    }
 }

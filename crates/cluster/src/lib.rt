@@ -2,7 +2,7 @@
 //!
 //! The contract that the crates above use is that of the calls that are lent locked values: each of `begin_on`, `offer_on`,
 //! `deliver_on` and `restart_on` is one event of a history that is taken (`Acts`, `Restarts` of `specs/Switch.antt`); what
-//! `Switch::history` tells is true of every switch.
+//! `Switch::history` tells is true of every switch, and `NodeCell::library` of every cell.
 //!
 //! Read `memory_keep`, `seat` and `switch`, then `cell`; the definitions are specs/Seat, Switch and Cell.
 #![tactic(auto)]
@@ -15,7 +15,7 @@ mod seat;
 mod standing;
 mod switch;
 
-pub use cell::{NodeCell, restart_on, take_on};
+pub use cell::{NodeCell, apply_on, list_on, restart_on, take_on};
 pub use memory_keep::MemoryKeep;
 pub use parts::cells;
 pub use switch::{Switch, begin_on, deliver_on, offer_on};

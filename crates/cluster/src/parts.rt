@@ -16,14 +16,14 @@ use crate::seat::Seat;
 use crate::switch::Switch;
 use std::alloc::{AllocError, Global};
 use synod::{Keep, NodeCore, Value, Weights};
-use world::StepFault;
+use world::{Carried, StepFault};
 
 /// A switch of new nodes, one for each weight, and their cells. Each keep has the record of a new node.
-pub fn cells<V: Value, K: Keep<V>>(
+pub fn cells<K: Keep<Carried>>(
     alloc: Global,
     weights: Weights,
     keeps: Vec<K>,
-) -> Result<(Switch<V, K>, Vec<NodeCell<V>>), StepFault>
+) -> Result<(Switch<Carried, K>, Vec<NodeCell>), StepFault>
     requires count { length keeps.items ≡ length weights }
     requires new { AllByRecursion (λ keep. K.kept keep ≡ new_kept) keeps.items }
     ensures switch { IfOk result (λ made. made.0 ≡ record { weights = weights; history = []; places = new_places K.failures keeps.items }) }
@@ -57,7 +57,7 @@ fn seats_of<V: Value, K: Keep<V>>(
 }
 
 /// A new cell for each of the weights.
-fn cells_of<V: Value>(alloc: Global, weights: Weights) -> Result<Vec<NodeCell<V>>, AllocError>
+fn cells_of(alloc: Global, weights: Weights) -> Result<Vec<NodeCell>, AllocError>
     ensures { IfOk result (λ cells. cells.items ≡ new_cells 0 weights) }
 {
     let mut cells = Vec::new(alloc);

@@ -1,34 +1,29 @@
-//! A keep that fails, and each generic call at one type.
+//! A keep that fails, the row of a gap in the log, and each generic call at one type.
 ghost use Rattle.std.specs.Prelude.{◌≡◌, ◌+◌, ◌∷◌, []};
 ghost use Rattle.synod.specs.Record.{new_kept};
 
 use super::*;
+use bytes::Bytes;
+use library::{Entry, Submission, Verdict};
 use scope::Steps;
 use std::alloc::{AllocError, Global};
 use std::test::Fail;
-use synod::{Body, Change, Failed, Keep, Record, Value, Weights};
-use world::{Event, StepFault};
+use synod::{Body, Change, Failed, Keep, Record, Weights};
+use world::{Carried, Event, StepFault};
 
-/// A value that is only a number.
-#[derive(Drop)]
-struct Number(u64);
-
-impl Value for Number {
-    ghost bytes = { λ _. 0 };
-
-    fn copy(&self) -> Result<Self, AllocError> {
-        Ok(Number(self.0))
-    }
-
-    fn size(&self) -> u64 {
-        0
-    }
+/// The text of author 7 under that serial number, as a value that nodes agree on.
+fn text(alloc: Global, serial: u64, text: &[u8]) -> Result<Carried, AllocError> {
+    Ok(Carried(Entry::Text(Submission {
+        author: 7,
+        serial,
+        text: Bytes::copy_from_slice(alloc, text)?,
+    })))
 }
 
 /// A keep that fails once, after so many calls, and then goes on. A store that fails leaves the old record or the new one.
 #[derive(Drop)]
 struct Fuse {
-    keep: MemoryKeep<Number>,
+    keep: MemoryKeep<Carried>,
     left: Option<u32>,
     new: bool,
     blown: Steps,
@@ -36,7 +31,7 @@ struct Fuse {
 
 impl Fuse {
     fn new(alloc: Global, left: Option<u32>, new: bool) -> Self
-        ensures { ⟦<MemoryKeep<Number> as Keep<Number>>⟧.kept result.keep ≡ new_kept }
+        ensures { ⟦<MemoryKeep<Carried> as Keep<Carried>>⟧.kept result.keep ≡ new_kept }
     {
         Fuse {
             keep: MemoryKeep::new(alloc),
@@ -47,12 +42,12 @@ impl Fuse {
     }
 }
 
-impl Keep<Number> for Fuse {
-    ghost kept = { λ s. ⟦<MemoryKeep<Number> as Keep<Number>>⟧.kept s.keep };
+impl Keep<Carried> for Fuse {
+    ghost kept = { λ s. ⟦<MemoryKeep<Carried> as Keep<Carried>>⟧.kept s.keep };
 
-    ghost failures = { λ s. s.blown.count + ⟦<MemoryKeep<Number> as Keep<Number>>⟧.failures s.keep };
+    ghost failures = { λ s. s.blown.count + ⟦<MemoryKeep<Carried> as Keep<Carried>>⟧.failures s.keep };
 
-    fn store(&mut self, change: &Change<Number>) -> Result<(), Failed> {
+    fn store(&mut self, change: &Change<Carried>) -> Result<(), Failed> {
         if !blows(&mut self.left) {
             return self.keep.store(change);
         }
@@ -63,7 +58,7 @@ impl Keep<Number> for Fuse {
         Err(Failed)
     }
 
-    fn load(&mut self) -> Result<Record<Number>, Failed> {
+    fn load(&mut self) -> Result<Record<Carried>, Failed> {
         if !blows(&mut self.left) {
             return self.keep.load();
         }
@@ -88,11 +83,8 @@ fn blows(left: &mut Option<u32>) -> bool {
 }
 
 /// Three nodes, the first with this keep.
-fn three(
-    alloc: Global,
-    first: Fuse,
-) -> Result<(Switch<Number, Fuse>, Vec<NodeCell<Number>>), StepFault>
-    requires { ⟦<MemoryKeep<Number> as Keep<Number>>⟧.kept first.keep ≡ new_kept }
+fn three(alloc: Global, first: Fuse) -> Result<(Switch<Carried, Fuse>, Vec<NodeCell>), StepFault>
+    requires { ⟦<MemoryKeep<Carried> as Keep<Carried>>⟧.kept first.keep ≡ new_kept }
 {
     let others = Fuse::new(alloc, None, false);
     let Ok(keeps) = vec![in alloc; first, others, Fuse::new(alloc, None, false)] else {
@@ -103,8 +95,8 @@ fn three(
 
 /// The first node restarts.
 fn restart_first(
-    switch: &mut Switch<Number, Fuse>,
-    cells: &mut Vec<NodeCell<Number>>,
+    switch: &mut Switch<Carried, Fuse>,
+    cells: &mut Vec<NodeCell>,
 ) -> Result<u64, StepFault> {
     match cells.get_mut(0) {
         Some(cell) => restart_on(cell, switch),
@@ -112,19 +104,8 @@ fn restart_first(
     }
 }
 
-/// The first node takes over the next entry of its log.
-fn take_first(
-    switch: &Switch<Number, Fuse>,
-    cells: &mut Vec<NodeCell<Number>>,
-) -> Result<bool, StepFault> {
-    match cells.get_mut(0) {
-        Some(cell) => take_on(cell, switch),
-        None => Err(StepFault::NoNode),
-    }
-}
-
 /// Whether the packet asks for the first entry, from one node to another.
-fn asks(switch: &Switch<Number, Fuse>, number: u64, from: u8, to: u8) -> Result<bool, StepFault> {
+fn asks(switch: &Switch<Carried, Fuse>, number: u64, from: u8, to: u8) -> Result<bool, StepFault> {
     let packet = switch.packet(number)?;
     let asked = match &packet.body {
         Body::Ask { slot } => *slot == 0,
@@ -134,7 +115,7 @@ fn asks(switch: &Switch<Number, Fuse>, number: u64, from: u8, to: u8) -> Result<
 }
 
 /// The round and the node of a ballot that is prepared.
-fn prepared(switch: &Switch<Number, Fuse>, number: u64) -> Result<Option<(u64, u8)>, StepFault> {
+fn prepared(switch: &Switch<Carried, Fuse>, number: u64) -> Result<Option<(u64, u8)>, StepFault> {
     let packet = switch.packet(number)?;
     match &packet.body {
         Body::Prepare { ballot, first } if *first == 0 => Ok(Some((ballot.round, ballot.node))),
@@ -171,29 +152,71 @@ fn a_load_that_fails_takes_the_node_down(rt: HostRuntime) -> Result<(), Fail> {
     Ok(())
 }
 
+/// Each step of the row of a gap in the log: a delivery, or an offer of one of two texts, with the count of packets after it.
+#[derive(Clone, Copy)]
+enum Step {
+    Begin,
+    Offer(u64),
+    Deliver(u64),
+}
+
+const GAP: [(Step, u64); 17] = [
+    (Step::Begin, 3),
+    (Step::Deliver(0), 4),
+    (Step::Deliver(1), 5),
+    (Step::Deliver(3), 5),
+    (Step::Deliver(4), 5),
+    (Step::Offer(1), 8),
+    (Step::Offer(2), 11),
+    (Step::Deliver(5), 14),
+    (Step::Deliver(6), 17),
+    (Step::Deliver(8), 20),
+    (Step::Deliver(9), 23),
+    (Step::Deliver(11), 23),
+    (Step::Deliver(14), 23),
+    (Step::Deliver(19), 23),
+    (Step::Deliver(22), 25),
+    (Step::Deliver(23), 26),
+    (Step::Deliver(25), 27),
+];
+
+/// Makes a step of the row, at node 0 or at the node that the packet is addressed to.
+fn make(alloc: Global, switch: &mut Switch<Carried, Fuse>, step: Step) -> Result<u64, StepFault> {
+    match step {
+        Step::Begin => begin_on(switch, 0),
+        Step::Offer(1) => offer_on(switch, 0, text(alloc, 1, b"$c a $.")?),
+        Step::Offer(serial) => offer_on(switch, 0, text(alloc, serial, b"$c b $.")?),
+        Step::Deliver(number) => deliver_on(switch, number),
+    }
+}
+
+/// Takes over and applies all that the cell's log has.
+fn settle(cell: &mut NodeCell, switch: &Switch<Carried, Fuse>) -> Result<(), StepFault> {
+    for _entry in 0..3 {
+        if !take_on(cell, switch)? {
+            break;
+        }
+        apply_on(cell)?;
+    }
+    Ok(())
+}
+
 #[test]
-fn entries_are_taken_over_in_order(rt: HostRuntime) -> Result<(), Fail> {
-    let (mut switch, mut cells) = three(rt.alloc(), Fuse::new(rt.alloc(), None, false))?;
-    assert_eq!(rt; begin_on(&mut switch, 0), Ok(3));
-    for (number, want) in [(0, 4), (1, 5), (3, 5), (4, 5)] {
-        assert_eq!(rt;
-            deliver_on(&mut switch, number),
-            Ok(want),
-            "deliver {number}"
-        );
+fn a_gap_in_the_log_is_filled_in_each_cell(rt: HostRuntime) -> Result<(), Fail> {
+    let alloc = rt.alloc();
+    let (mut switch, mut cells) = three(alloc, Fuse::new(alloc, None, false))?;
+    for (step, want) in GAP {
+        assert_eq!(rt; make(alloc, &mut switch, step), Ok(want));
     }
-    assert_eq!(rt; offer_on(&mut switch, 0, Number(71)), Ok(8));
-    assert_eq!(rt; take_first(&switch, &mut cells), Ok(false));
-    for (number, want) in [(5, 11), (6, 14), (8, 14), (11, 14)] {
-        assert_eq!(rt;
-            deliver_on(&mut switch, number),
-            Ok(want),
-            "deliver {number}"
-        );
-    }
-    assert_eq!(rt; take_first(&switch, &mut cells), Ok(true));
-    assert_eq!(rt; take_first(&switch, &mut cells), Ok(false));
-    assert_eq!(rt; deliver_on(&mut switch, 14), Err(StepFault::NoPacket));
+    assert_eq!(rt; deliver_on(&mut switch, 27), Err(StepFault::NoPacket));
     assert_eq!(rt; begin_on(&mut switch, 3), Err(StepFault::NoNode));
+    for (cell, added) in cells.iter_mut().zip([1, 0, 2]) {
+        assert_eq!(rt; apply_on(cell), Ok(None));
+        settle(cell, &switch)?;
+        assert_eq!(rt; take_on(cell, &switch), Ok(false));
+        assert_eq!(rt; apply_on(cell), Ok(None));
+        assert_eq!(rt; cell.library().statements().len(), added);
+        assert_eq!(rt; list_on(cell)?.len(), 0);
+    }
     Ok(())
 }

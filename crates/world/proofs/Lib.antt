@@ -23,5 +23,5 @@ mod Rows
 pub mod TakenLemmas
 pub mod EntriesLemmas
 pub mod HeadlineLemmas
-mod ReplicasLemmas
+pub mod ReplicasLemmas
 mod ApplyLemmas

@@ -44,7 +44,7 @@ pub new_is_of_log : (log : List (Option Entry)) → IsOfLog log new_library
 new_is_of_log log = record { within = omega arith; library = refl }
 
 -- it is that of a longer log too
-of_longer : (log longer : List (Option Entry)) (node : NodeLibrary) → IsBeginningOf log longer → IsOfLog log node → IsOfLog longer node
+pub of_longer : (log longer : List (Option Entry)) (node : NodeLibrary) → IsBeginningOf log longer → IsOfLog log node → IsOfLog longer node
 of_longer log longer node begins h = record {
   within = let count : length log + length begins.0 ≡ length longer = sym (length-append log begins.0) ∙ ap (λ (es : List (Option Entry)). length es) begins.1 in
       let low = h.within in omega (arith, count, low);

@@ -3,4 +3,4 @@ use Rattle.cluster.specs.Cells.{new_cells}
 use Rattle.cluster.proofs.parts.cells_of.Given as goal
 
 abbrev pub invariant-loop-k : goal.invariant-loop-k
-invariant-loop-k g l = l.cells.items ≡ new_cells 0 (take l.k l.fn.weights)
+invariant-loop-k l = l.cells.items ≡ new_cells 0 (take l.k l.fn.weights)
