@@ -43,17 +43,30 @@ fn pair_clause_of_a_citation(rt: HostRuntime) {
 fn is_apart(alloc: Global, left: &[u8], right: &[u8], at: usize) -> Option<bool> {
     let mut scope = Scope::new(alloc);
     let mut frames = Frames::new(alloc);
-    let mut cited = None;
-    for stmt in read(alloc, TEXT).ok()?.iter() {
-        if frames.len() == 7 {
-            cited = frame_of(alloc, &scope, stmt);
-        }
-        add(&mut scope, &mut frames, stmt)?;
-    }
+    let cited = add_all(alloc, &mut scope, &mut frames)?;
     if at == 0 || at > frames.len() {
         return None;
     }
-    images_apart(alloc, &frames.active_pairs(at), &cited?, left, right)
+    images_apart(alloc, &frames.active_pairs(at), &cited, left, right)
+}
+
+/// Adds the statements of the text to both, which are empty, and gives the frame of `ax`.
+fn add_all(alloc: Global, scope: &mut Scope, frames: &mut Frames) -> Option<Frame>
+    requires { scope.old.statements ≡ frames.old.statements }
+{
+    let mut cited = None;
+    match read(alloc, TEXT) {
+        Ok(statements) => {
+            for stmt in statements.iter() {
+                if frames.len() == 7 {
+                    cited = frame_of(alloc, scope, stmt);
+                }
+                add(scope, frames, stmt)?;
+            }
+            cited
+        }
+        Err(_) => None,
+    }
 }
 
 fn images_apart(
