@@ -7,13 +7,16 @@ use Rattle.synod.specs.Record.{Kept, new_kept}
 use Rattle.synod.specs.Node.{Node, new_node, kept_of}
 use Rattle.synod.specs.Core.{Core}
 use Rattle.world.specs.declared.event.Event.{Event}
-use Rattle.world.specs.World.{nodes_from}
+use Rattle.world.specs.declared.carried.Carried.{Carried}
+use Rattle.world.specs.Carried.{carried_size}
+use Rattle.world.specs.World.{nodes_from, log_after}
 use Rattle.world.specs.Taken.{nodes_of}
 use Rattle.world.proofs.Lists.{all_append}
 use Rattle.world.proofs.TakenLemmas.{nodes_of-push, nodes_from-take, start_of_world}
 use Rattle.cluster.specs.Seat.{Seated, Standing, Owed, up}
-use Rattle.cluster.specs.Switch.{Place, place_of, places_of, cores_of, IsSeat, IsSwitch}
+use Rattle.cluster.specs.Switch.{Place, Shared, world_of, place_of, places_of, cores_of, IsSeat, IsSwitch}
 use Rattle.cluster.specs.Cell.{Cell, new_cell}
+use Rattle.cluster.specs.Belongs.{Belongs, EachBelongs}
 use Rattle.cluster.specs.Cells.{new_places, new_cells, IsNewSeat}
 
 cores_of-push : {V : Type 0} (seats : List (Seated V)) (seat : Seated V) → cores_of (seats ++ seat ∷ []) ≡ cores_of seats ++ seat.core ∷ []
@@ -101,3 +104,25 @@ new_cells-push ws k old new pushed before low =
     let z : k ≡ 0 + k = omega arith in
     pushed ∙ ap (λ (cs : List Cell). cs ++ new_cell k ∷ []) before ∙ ap (λ (j : ℕ). new_cells 0 (take k ws) ++ new_cell j ∷ []) z
     ∙ sym (new_cells-take 0 k ws low) ∙ ap (λ (i : ℕ). new_cells 0 (take i ws)) (sym (add-one k))
+
+-- Each of them belongs to a switch of as many nodes.
+
+new_cell_at : (j k : ℕ) (ws : List ℕ) (c : Cell) → slice_get (new_cells j ws) k ≡ Some c → (c ≡ new_cell (j + k)) × (k < length ws)
+new_cell_at j k [] c at = cc
+new_cell_at j zero (w ∷ ws) c at = let same : new_cell j ≡ c = cc in let e : j ≡ j + 0 = omega arith in (sym same ∙ ap (λ (i : ℕ). new_cell i) e, omega arith)
+new_cell_at j (suc k) (w ∷ ws) c at =
+    let rest = new_cell_at (suc j) k ws c at in
+    let e : suc j + k ≡ j + suc k = omega arith in
+    (rest.0 ∙ ap (λ (i : ℕ). new_cell i) e, let low = rest.1 in omega (arith, low))
+
+pub count_new_places : (V : Type 0) {K : Type 0} (failures : K → ℕ) (keeps : List K) → length (new_places {V = V} failures keeps) ≡ length keeps
+count_new_places V failures [] = refl
+count_new_places V failures (keep ∷ keeps) = ap suc (count_new_places V failures keeps)
+
+pub new_belong : (ws : List ℕ) (cells : List Cell) (shared : Shared Carried) → cells ≡ new_cells 0 ws → length shared.places ≡ length ws → EachBelongs cells shared
+new_belong ws cells shared are count k c at =
+    let is = new_cell_at 0 k ws c (ap (λ (cs : List Cell). slice_get cs k) (sym are) ∙ at) in
+    subst (λ (x : Cell). Belongs x shared) (sym is.0) record {
+      node = let low = is.1 in omega (arith, low, count);
+      begins = (log_after (world_of carried_size shared) (0 + k), refl);
+    }

@@ -4,3 +4,6 @@ mod CallLemmas
 mod CellLemmas
 mod EntriesLemmas
 mod CellsLemmas
+mod BelongsLemmas
+mod TieLemmas
+mod CompareLemmas

@@ -1,5 +1,5 @@
 //! A node's own part: the entries that were taken over from its log, and the library of those applied.
-ghost use Rattle.std.specs.Prelude.{◌≡◌, ◌≤◌, ◌<◌, ℕ, Ok, Err, Some, None, length, slice_get, option_map, IsSome, IfOk, OnOk, OnErr, IsOkUnless};
+ghost use Rattle.std.specs.Prelude.{◌≡◌, ◌↔◌, IsTrue, ◌≤◌, ◌<◌, ℕ, Ok, Err, Some, None, length, slice_get, option_map, IsSome, IfOk, OnOk, OnErr, IsOkUnless};
 ghost use Rattle.std.specs.Result.{ForOk};
 ghost use Rattle.slots.specs.declared.slots.TheConstants.{SLOTS};
 ghost use Rattle.library.specs.LibraryOf.{Applies};
@@ -8,6 +8,7 @@ ghost use Rattle.world.specs.declared.fault.StepFault.TheVariants.{NoNode};
 ghost use Rattle.world.specs.World.{World, log};
 ghost use Rattle.world.specs.Carried.{carried_size, entry_of};
 ghost use Rattle.cluster.specs.Switch.{world_of, Restarts};
+ghost use Rattle.cluster.specs.Belongs.{Belongs, OthersStay};
 ghost use Rattle.cluster.specs.Cell.{Cell, new_cell, IsCell, AddsEntry, TakesOver, AppliesNext, next_entry};
 
 use crate::switch::Switch;
@@ -62,6 +63,15 @@ impl NodeCell {
     }
 }
 
+/// Whether the cell is of that switch: its node is there, and what it took over begins the node's log.
+///
+/// Cost: the size of the entries taken over.
+pub fn belongs<K: Keep<Carried>>(cell: &NodeCell, switch: &Switch<Carried, K>) -> bool
+    ensures { IsTrue result ↔ Belongs cell.now switch.now }
+{
+    switch.begins_log(cell.at, &cell.entries)
+}
+
 /// Takes over the next entry of the node's log, and answers whether there is one.
 ///
 /// Errors: `NoNode` where the switch has no such node; else `Memory`, and nothing is taken over.
@@ -71,6 +81,7 @@ pub fn take_on<K: Keep<Carried>>(
 ) -> Result<bool, StepFault>
     ensures no_node { ForOk (world_of carried_size switch.now) (λ world. slice_get world.nodes cell.old.at ≡ None → (result ≡ Err NoNode) × (cell.new ≡ cell.old)) }
     ensures takes { ForOk (world_of carried_size switch.now) (λ world. IsSome (slice_get world.nodes cell.old.at) → TakesOver cell.old cell.new (slice_get (log world cell.old.at) (length cell.old.entries)) result) }
+    ensures belongs { Belongs cell.old switch.now → Belongs cell.new switch.now }
 {
     let slot = cell.entries.len() as u32;
     let next = switch.entry(cell.at, slot);
@@ -165,6 +176,8 @@ pub fn restart_on<K: Keep<Carried>>(
     ensures restarts { ForOk (world_of carried_size switch.old) (λ world. Restarts carried_size world switch.old switch.new cell.old.at result) }
     ensures fresh { OnOk result (cell.new ≡ new_cell cell.old.at) }
     ensures stays { OnErr result (cell.new ≡ cell.old) }
+    ensures belongs { Belongs cell.old switch.old → Belongs cell.new switch.new }
+    ensures others { OthersStay carried_size cell.old.at switch.old switch.new }
 {
     let count = switch.restart(cell.at)?;
     cell.give_up();

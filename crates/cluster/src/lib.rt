@@ -2,12 +2,14 @@
 //!
 //! The contract that the crates above use is that of the calls that are lent locked values: each of `begin_on`, `offer_on`,
 //! `deliver_on` and `restart_on` is one event of a history that is taken (`Acts`, `Restarts` of `specs/Switch.antt`); what
-//! `Switch::history` tells is true of every switch, and `NodeCell::library` of every cell.
+//! `Switch::history` tells is true of every switch, and `NodeCell::library` of every cell. Cells and switch of one `cells` call
+//! stay belonging to each other, and of two such cells `compare_on` tells which library begins the other.
 //!
-//! Read `memory_keep`, `seat` and `switch`, then `cell`; the definitions are specs/Seat, Switch and Cell.
+//! Read `memory_keep`, `seat` and `switch`, then `cell` and `compare`; the definitions are specs/Seat, Switch, Cell and Belongs.
 #![tactic(auto)]
 
 mod cell;
+mod compare;
 mod copies;
 mod memory_keep;
 mod parts;
@@ -15,7 +17,8 @@ mod seat;
 mod standing;
 mod switch;
 
-pub use cell::{NodeCell, apply_on, list_on, restart_on, take_on};
+pub use cell::{NodeCell, apply_on, belongs, list_on, restart_on, take_on};
+pub use compare::{Ahead, compare_on};
 pub use memory_keep::MemoryKeep;
 pub use parts::cells;
 pub use switch::{Switch, begin_on, deliver_on, offer_on};

@@ -9,6 +9,7 @@ ghost use Rattle.world.specs.Taken.{nodes_of};
 ghost use Rattle.world.specs.declared.fault.StepFault.TheVariants.{Memory};
 ghost use Rattle.cluster.specs.Seat.{up};
 ghost use Rattle.cluster.specs.Switch.{cores_of, places_of};
+ghost use Rattle.cluster.specs.Belongs.{EachBelongs};
 ghost use Rattle.cluster.specs.Cells.{IsNewSeat, new_places, new_cells};
 
 use crate::cell::NodeCell;
@@ -28,6 +29,7 @@ pub fn cells<K: Keep<Carried>>(
     requires new { AllByRecursion (λ keep. K.kept keep ≡ new_kept) keeps.items }
     ensures switch { IfOk result (λ made. made.0 ≡ record { weights = weights; history = []; places = new_places K.failures keeps.items }) }
     ensures cells { IfOk result (λ made. made.1.items ≡ new_cells 0 weights) }
+    ensures belong { IfOk result (λ made. EachBelongs made.1.items made.0) }
     ensures only_memory { IsOkUnless result Memory }
 {
     let seats = seats_of(alloc, weights, keeps)?;

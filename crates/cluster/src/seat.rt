@@ -61,6 +61,13 @@ impl<V: Value, K: Keep<V>> Seat<V, K> {
         }
     }
 
+    /// The node.
+    pub fn core(&self) -> &NodeCore<V>
+        ensures { result.now ≡ self.now.core }
+    {
+        &self.core
+    }
+
     /// The entry of its log at a slot, once more.
     pub fn entry(&self, slot: u32) -> Result<Option<Option<V>>, AllocError>
         ensures entry { IfOk result (λ entry. entry ≡ slice_get (log_of self.now.core.node) slot) }

@@ -7,12 +7,13 @@ ghost use Rattle.std.specs.Option.{option_map};
 ghost use Rattle.std.specs.Result.{ForOk};
 ghost use Rattle.synod.specs.declared.packet.Packet.{Packet};
 ghost use Rattle.world.specs.declared.fault.StepFault.TheVariants.{NoPacket, Memory};
-ghost use Rattle.world.specs.World.{World, nodes_from};
+ghost use Rattle.world.specs.World.{World, nodes_from, log_after};
 ghost use Rattle.world.specs.Taken.{nodes_of};
 ghost use Rattle.cluster.specs.Switch.{cores_of, places_of, is_down_at, world_of, ArePlaces, ShowsEntry};
 ghost use Rattle.cluster.specs.Cells.{IsNewSeat};
 
 mod events;
+mod log;
 mod restart;
 
 use crate::seat::Seat;
@@ -61,6 +62,7 @@ impl<V: Value, K: Keep<V>> Switch<V, K> {
     /// The entry of node `k`'s log at a slot, once more.
     pub(crate) fn entry(&self, k: u8, slot: u32) -> Result<Option<Option<V>>, StepFault>
         ensures shows { ForOk (world_of V.bytes self.now) (λ world. ShowsEntry (slice_get world.nodes k) slot result) }
+        ensures log { IfOk result (λ entry. entry ≡ slice_get (log_after (world_of V.bytes self.now) k) slot) }
         ensures below { IfOk result (λ entry. IsSome entry → slot < SLOTS) }
     {
         match self.seats.get(k as usize) {

@@ -218,5 +218,80 @@ fn a_gap_in_the_log_is_filled_in_each_cell(rt: HostRuntime) -> Result<(), Fail> 
         assert_eq!(rt; cell.library().statements().len(), added);
         assert_eq!(rt; list_on(cell)?.len(), 0);
     }
+    assert!(rt; all_agree(&switch, &cells));
+    Ok(())
+}
+
+/// Which of two cells is ahead, where both are of the switch.
+fn ahead(one: &NodeCell, other: &NodeCell, switch: &Switch<Carried, Fuse>) -> Option<Ahead> {
+    if belongs(one, switch) && belongs(other, switch) {
+        Some(compare_on(one, other, switch))
+    } else {
+        None
+    }
+}
+
+/// Whose library has more statements, counted.
+fn counted(one: &NodeCell, other: &NodeCell) -> Ahead {
+    let first = one.library().statements().len();
+    let second = other.library().statements().len();
+    if first == second {
+        Ahead::Same
+    } else if first < second {
+        Ahead::Second
+    } else {
+        Ahead::First
+    }
+}
+
+/// Whether each cell is of the switch, and each two compare as their statements do.
+fn all_agree(switch: &Switch<Carried, Fuse>, cells: &[NodeCell]) -> bool {
+    for one in cells {
+        for other in cells {
+            if ahead(one, other, switch) != Some(counted(one, other)) {
+                return false;
+            }
+        }
+    }
+    true
+}
+
+/// The steps of the row, where node 0 has this keep and restarts after one of them; a step that is refused is passed over. Each
+/// cell takes over and applies what it can after each step.
+fn stopped(
+    alloc: Global,
+    keep: Fuse,
+    stop: usize,
+) -> Result<(Switch<Carried, Fuse>, Vec<NodeCell>), StepFault>
+    requires { ⟦<MemoryKeep<Carried> as Keep<Carried>>⟧.kept keep.keep ≡ new_kept }
+{
+    let (mut switch, mut cells) = three(alloc, keep)?;
+    for (i, (step, _)) in GAP.iter().enumerate() {
+        let _ = make(alloc, &mut switch, *step);
+        for cell in cells.iter_mut() {
+            settle(cell, &switch)?;
+        }
+        if i == stop {
+            let _ = restart_first(&mut switch, &mut cells);
+        }
+    }
+    Ok((switch, cells))
+}
+
+#[test]
+fn stop_at_each(rt: HostRuntime) -> Result<(), Fail> {
+    let alloc = rt.alloc();
+    for stop in 0..GAP.len() {
+        for calls in 0..18 {
+            for new in [false, true] {
+                let keep = Fuse::new(alloc, Some(calls), new);
+                let (switch, cells) = stopped(alloc, keep, stop)?;
+                assert!(rt;
+                    all_agree(&switch, &cells),
+                    "stop {stop}, call {calls}, new {new}"
+                );
+            }
+        }
+    }
     Ok(())
 }

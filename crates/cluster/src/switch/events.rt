@@ -5,6 +5,7 @@ ghost use Rattle.world.specs.declared.event.Event.TheVariants.{Offer, Begin, Del
 ghost use Rattle.world.specs.World.{World};
 ghost use Rattle.world.specs.declared.event.Event.{Event};
 ghost use Rattle.cluster.specs.Switch.{world_of, Acts};
+ghost use Rattle.cluster.specs.Belongs.{StaysBelonging};
 
 use crate::switch::{Switch, is_down, is_down_receiver, receiver};
 use synod::{Keep, Value};
@@ -15,7 +16,8 @@ use world::{MOST_EVENTS, StepFault};
 /// Errors: `Down` where the node is down; else the fault that the event meets in the world after the history, the first in
 /// the order of `StepFault`; else `Memory`, with nothing changed, or `Device`, where its keep failed: the node is then down.
 pub fn begin_on<V: Value, K: Keep<V>>(switch: &mut Switch<V, K>, k: u8) -> Result<u64, StepFault>
-    ensures { ForOk (world_of V.bytes switch.old) (λ world. Acts V.bytes world switch.old switch.new (Begin k) result) }
+    ensures acts { ForOk (world_of V.bytes switch.old) (λ world. Acts V.bytes world switch.old switch.new (Begin k) result) }
+    ensures belonging { StaysBelonging V.bytes switch.old switch.new }
 {
     if is_down(&switch.seats, k) {
         return Err(StepFault::Down);
@@ -37,7 +39,8 @@ pub fn offer_on<V: Value, K: Keep<V>>(
     k: u8,
     value: V,
 ) -> Result<u64, StepFault>
-    ensures { ForOk (world_of V.bytes switch.old) (λ world. Acts V.bytes world switch.old switch.new (Offer k value) result) }
+    ensures acts { ForOk (world_of V.bytes switch.old) (λ world. Acts V.bytes world switch.old switch.new (Offer k value) result) }
+    ensures belonging { StaysBelonging V.bytes switch.old switch.new }
 {
     if is_down(&switch.seats, k) {
         return Err(StepFault::Down);
@@ -58,7 +61,8 @@ pub fn deliver_on<V: Value, K: Keep<V>>(
     switch: &mut Switch<V, K>,
     number: u64,
 ) -> Result<u64, StepFault>
-    ensures { ForOk (world_of V.bytes switch.old) (λ world. Acts V.bytes world switch.old switch.new (Deliver number) result) }
+    ensures acts { ForOk (world_of V.bytes switch.old) (λ world. Acts V.bytes world switch.old switch.new (Deliver number) result) }
+    ensures belonging { StaysBelonging V.bytes switch.old switch.new }
 {
     let to = receiver(&switch.packets, number);
     if is_down_receiver(&switch.seats, to) {

@@ -6,6 +6,7 @@ ghost use Rattle.world.specs.World.{World};
 ghost use Rattle.world.specs.declared.event.Event.{Event};
 ghost use Rattle.cluster.specs.Seat.{down};
 ghost use Rattle.cluster.specs.Switch.{Place, is_down_at, world_of, ActsUp, ActsDown, Restarts};
+ghost use Rattle.cluster.specs.Belongs.{StaysAtRestart};
 
 use crate::switch::{Switch, is_down};
 use synod::{Keep, Value};
@@ -14,7 +15,8 @@ use world::{MOST_EVENTS, StepFault};
 impl<V: Value, K: Keep<V>> Switch<V, K> {
     /// Node `k` restarts, with the record that its keep has. It answers the count of the packets posted so far.
     pub(crate) fn restart(&mut self, k: u8) -> Result<u64, StepFault>
-        ensures { ForOk (world_of V.bytes self.old) (λ world. Restarts V.bytes world self.old self.new k result) }
+        ensures restarts { ForOk (world_of V.bytes self.old) (λ world. Restarts V.bytes world self.old self.new k result) }
+        ensures belonging { StaysAtRestart V.bytes k self.old self.new result }
     {
         if is_down(&self.seats, k) {
             self.revive(k)

@@ -4,13 +4,14 @@ use Rattle.world.specs.declared.event.Event.TheVariants.{Begin}
 use Rattle.world.specs.declared.fault.StepFault.TheVariants.{NoNode}
 use Rattle.cluster.proofs.SwitchLemmas.{at_place, none_past, comes_begin, within, posts_are}
 use Rattle.cluster.proofs.CallLemmas.{test_is, answers_down, answers_spent, answers_open, event_call, meets_no_begin}
+use Rattle.cluster.proofs.TieLemmas.{call_stays, begins_no_restart}
 use Rattle.cluster.proofs.switch.events.begin_on.Goals as goal
 
-pub returns-then-is_down : goal.returns-then-is_down
-returns-then-is_down g c = answers_down g.V.Value.bytes c.switch.inside.weights c.switch.inside.history.items c.switch.inside.seats.items c.switch.inside.packets.items c.switch.invariant c.args.switch.now c.switch.view_is (Begin c.args.k) (test_is c.is_down.result true c.deref.result.now c.switch.inside.seats.items (Some c.args.k) c.is_down.ensures c.deref.ensures.value c.if-is_down.true)
+pub returns-then-is_down-clause-acts : goal.returns-then-is_down-clause-acts
+returns-then-is_down-clause-acts g c = answers_down g.V.Value.bytes c.switch.inside.weights c.switch.inside.history.items c.switch.inside.seats.items c.switch.inside.packets.items c.switch.invariant c.args.switch.now c.switch.view_is (Begin c.args.k) (test_is c.is_down.result true c.deref.result.now c.switch.inside.seats.items (Some c.args.k) c.is_down.ensures c.deref.ensures.value c.if-is_down.true)
 
-pub returns-then-len-eq-MOST_EVENTS : goal.returns-then-len-eq-MOST_EVENTS
-returns-then-len-eq-MOST_EVENTS g c =
+pub returns-then-len-eq-MOST_EVENTS-clause-acts : goal.returns-then-len-eq-MOST_EVENTS-clause-acts
+returns-then-len-eq-MOST_EVENTS-clause-acts g c =
     answers_spent g.V.Value.bytes c.switch.inside.weights c.switch.inside.history.items c.switch.inside.seats.items c.switch.inside.packets.items c.switch.invariant c.args.switch.now c.switch.view_is (Begin c.args.k) (test_is c.is_down.result false c.deref.result.now c.switch.inside.seats.items (Some c.args.k) c.is_down.ensures c.deref.ensures.value c.if-is_down.false) (omega (arith, c.len.ensures, c.if-len-eq-MOST_EVENTS.true))
 
 pub begin-requires : goal.begin-requires
@@ -23,15 +24,27 @@ invariant_of-switch g c =
     c.begin.new.self c.begin.new.packets.items c.begin.new.history.items c.begin.ensures.posts c.begin.result (Begin c.args.k) refl refl (test_is c.is_down.result false c.deref.result.now c.switch.inside.seats.items (Some c.args.k) c.is_down.ensures c.deref.ensures.value c.if-is_down.false)
     (begun c.in-Some.seat.now.core.node) (comes_begin g.V.Value.bytes c.switch.inside.packets.items c.args.k c.in-Some.seat.now.core.node) c.begin.ensures.plays).0
 
-pub returns-in-Some : goal.returns-in-Some
-returns-in-Some g c =
+pub returns-in-Some-clause-acts : goal.returns-in-Some-clause-acts
+returns-in-Some-clause-acts g c =
     let most = within g.V.Value.bytes c.switch.inside.weights c.switch.inside.history.items c.switch.inside.seats.items c.switch.inside.packets.items c.switch.invariant in
     (event_call g.V.Value.bytes c.switch.inside.weights c.switch.inside.history.items c.switch.inside.seats.items c.switch.inside.packets.items c.switch.invariant c.args.switch.now c.switch.view_is c.args.k c.in-Some.seat.now (at_place c.switch.inside.seats.items c.args.k c.in-Some.seat.now c.in-Some.ensures.item.3.0 c.in-Some.ensures.value) (omega (arith, most, c.len.ensures, c.if-len-eq-MOST_EVENTS.false))
     c.begin.new.self c.begin.new.packets.items c.begin.new.history.items c.begin.ensures.posts c.begin.result (Begin c.args.k) refl refl (test_is c.is_down.result false c.deref.result.now c.switch.inside.seats.items (Some c.args.k) c.is_down.ensures c.deref.ensures.value c.if-is_down.false)
     (begun c.in-Some.seat.now.core.node) (comes_begin g.V.Value.bytes c.switch.inside.packets.items c.args.k c.in-Some.seat.now.core.node) c.begin.ensures.plays).1
 
-pub returns-in-None : goal.returns-in-None
-returns-in-None g c =
+pub returns-in-None-clause-acts : goal.returns-in-None-clause-acts
+returns-in-None-clause-acts g c =
     let most = within g.V.Value.bytes c.switch.inside.weights c.switch.inside.history.items c.switch.inside.seats.items c.switch.inside.packets.items c.switch.invariant in
     answers_open g.V.Value.bytes c.switch.inside.weights c.switch.inside.history.items c.switch.inside.seats.items c.switch.inside.packets.items c.switch.invariant c.args.switch.now c.switch.view_is (Begin c.args.k) NoNode (test_is c.is_down.result false c.deref.result.now c.switch.inside.seats.items (Some c.args.k) c.is_down.ensures c.deref.ensures.value c.if-is_down.false)
     (meets_no_begin g.V.Value.bytes c.switch.inside.weights c.switch.inside.history.items c.switch.inside.seats.items c.switch.inside.packets.items c.switch.invariant c.args.switch.now c.switch.view_is (omega (arith, most, c.len.ensures, c.if-len-eq-MOST_EVENTS.false)) c.args.k (none_past c.switch.inside.seats.items c.args.k c.in-None.ensures.item.3))
+
+pub returns-then-is_down-clause-belonging : goal.returns-then-is_down-clause-belonging
+returns-then-is_down-clause-belonging g c = call_stays g.V.Value.bytes c.switch.inside.weights c.switch.inside.history.items c.switch.inside.seats.items c.switch.inside.packets.items c.switch.invariant c.args.switch.now c.switch.view_is (Begin c.args.k) (begins_no_restart c.args.k) _ _ (returns-then-is_down-clause-acts g c)
+
+pub returns-then-len-eq-MOST_EVENTS-clause-belonging : goal.returns-then-len-eq-MOST_EVENTS-clause-belonging
+returns-then-len-eq-MOST_EVENTS-clause-belonging g c = call_stays g.V.Value.bytes c.switch.inside.weights c.switch.inside.history.items c.switch.inside.seats.items c.switch.inside.packets.items c.switch.invariant c.args.switch.now c.switch.view_is (Begin c.args.k) (begins_no_restart c.args.k) _ _ (returns-then-len-eq-MOST_EVENTS-clause-acts g c)
+
+pub returns-in-Some-clause-belonging : goal.returns-in-Some-clause-belonging
+returns-in-Some-clause-belonging g c = call_stays g.V.Value.bytes c.switch.inside.weights c.switch.inside.history.items c.switch.inside.seats.items c.switch.inside.packets.items c.switch.invariant c.args.switch.now c.switch.view_is (Begin c.args.k) (begins_no_restart c.args.k) _ _ (returns-in-Some-clause-acts g c)
+
+pub returns-in-None-clause-belonging : goal.returns-in-None-clause-belonging
+returns-in-None-clause-belonging g c = call_stays g.V.Value.bytes c.switch.inside.weights c.switch.inside.history.items c.switch.inside.seats.items c.switch.inside.packets.items c.switch.invariant c.args.switch.now c.switch.view_is (Begin c.args.k) (begins_no_restart c.args.k) _ _ (returns-in-None-clause-acts g c)
