@@ -1,3 +1,4 @@
 mod OutlineLemmas
 mod RulesLemmas
+mod NumberLemmas
 mod Rows

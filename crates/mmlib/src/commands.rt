@@ -1,7 +1,12 @@
 //! The words of a command line.
+ghost use Rattle.std.specs.Prelude.{◌≤◌, IfSome};
+
+use crate::number::parse_number;
+use crate::weights::parse_weights;
 use clap::error::ErrorKind;
-use clap::{Command, Error};
+use clap::{Arg, ArgAction, ArgMatches, Command, Error};
 use std::alloc::{AllocError, Global};
+use synod::{MOST_NODES, Weights};
 
 /// What a command line asks for.
 pub enum Request {
@@ -9,26 +14,51 @@ pub enum Request {
     Outline,
     /// `check`: whether a database is right.
     Check,
+    /// `play`: a script drives a world of nodes.
+    Play {
+        /// `None` where what was given are no weights of so many nodes.
+        weights: Option<Weights>,
+    },
 }
 
-/// What these words ask for; they come without the program's own name.
+/// What these words ask for; the first is the program's own name.
 ///
 /// Errors: the text of a bad command line, or of the help that was asked for.
-pub fn parse_words(alloc: Global, words: &[&str]) -> Result<Request, Error> {
-    let mut all = Vec::new(alloc);
-    all.push("mmlib")?;
-    all.extend_from_slice(words)?;
-    match subcommand(alloc, all.as_slice())? {
-        Some("outline") => Ok(Request::Outline),
-        Some("check") => Ok(Request::Check),
+pub fn parse_words<'a>(alloc: Global, words: &'a [&'a str]) -> Result<Request, Error> {
+    let matches = commands(alloc)?.try_get_matches_from(words)?;
+    match matches.subcommand() {
+        Some(("outline", _)) => Ok(Request::Outline),
+        Some(("check", _)) => Ok(Request::Check),
+        Some(("play", options)) => Ok(Request::Play {
+            weights: weights(alloc, options)?,
+        }),
         _ => Err(commands(alloc)?.error(ErrorKind::MissingSubcommand, "a command is wanted")?),
     }
 }
 
-/// The subcommand that these words name.
-fn subcommand<'a>(alloc: Global, words: &'a [&'a str]) -> Result<Option<&'a str>, Error> {
-    let matches = commands(alloc)?.try_get_matches_from(words)?;
-    Ok(matches.subcommand_name())
+/// The weights that the options give.
+fn weights(alloc: Global, options: &ArgMatches) -> Result<Option<Weights>, Error> {
+    let Some(nodes) = options.get_str("nodes").and_then(node_count) else {
+        return Err(commands(alloc)?.error(
+            ErrorKind::InvalidValue,
+            "--nodes is a number from 1 to 9",
+        )?);
+    };
+    match options.get_str("weights") {
+        Some(text) => Ok(parse_weights(text.as_bytes(), nodes)),
+        None => Ok(Some(Weights::equal(nodes))),
+    }
+}
+
+/// The count of nodes that the text writes.
+fn node_count(text: &str) -> Option<u8>
+    ensures { IfSome result (λ nodes. (1 ≤ nodes) × (nodes ≤ MOST_NODES)) }
+{
+    let nodes = u8::try_from(parse_number(text.as_bytes())?).ok()?;
+    if nodes == 0 || nodes as usize > MOST_NODES {
+        return None;
+    }
+    Some(nodes)
 }
 
 fn commands<'a>(alloc: Global) -> Result<Command<'a>, AllocError> {
@@ -36,9 +66,31 @@ fn commands<'a>(alloc: Global) -> Result<Command<'a>, AllocError> {
         "Print the statements of a database, one a line",
     );
     let check = Command::new(alloc, "check").about("Check the proofs of a database");
+    let play = Command::new(alloc, "play")
+        .about("Drive a world of nodes by a script")
+        .arg(nodes_option(alloc))?
+        .arg(weights_option(alloc))?;
     Command::new(alloc, "mmlib")
-        .about("Formal mathematics in the Metamath language")
+        .about("Formal mathematics in the Metamath language, and replicas of one library")
         .subcommand_required(true)
         .subcommand(outline)?
-        .subcommand(check)
+        .subcommand(check)?
+        .subcommand(play)
+}
+
+fn nodes_option<'a>(alloc: Global) -> Arg<'a> {
+    Arg::new(alloc, "nodes")
+        .long("nodes")
+        .value_name("N")
+        .action(ArgAction::Set)
+        .required(true)
+        .help("How many nodes there are, 1 to 9")
+}
+
+fn weights_option<'a>(alloc: Global) -> Arg<'a> {
+    Arg::new(alloc, "weights")
+        .long("weights")
+        .value_name("W,W,..")
+        .action(ArgAction::Set)
+        .help("The weight of each node, 1 to 100; else each weighs 1")
 }

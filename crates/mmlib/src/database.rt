@@ -1,9 +1,10 @@
 //! The command `check`: a database is a text that is applied to an empty library.
 
+use crate::printed::push_number;
 use crate::streams::{ReadFailure, print, read_text};
-use crate::verdict_text::CauseText;
+use crate::verdict_text::push_verdict;
 use bytes::Bytes;
-use library::{Cause, Entry, Library, Submission, Verdict};
+use library::{Entry, Library, Submission, Verdict};
 use mm_read::Stmt;
 use std::alloc::{AllocError, Global};
 use std::io::{Read, Write};
@@ -15,12 +16,28 @@ pub fn check<I: Read, O: Write>(alloc: Global, input: &mut I, output: &mut O) ->
         Err(ReadFailure::Input) => return print(output, b"refused Input\n", 1),
         Err(ReadFailure::Memory) => return print(output, b"refused Memory\n", 1),
     };
-    let mut library = Library::new(alloc);
-    match judge(&mut library, text) {
-        Ok(Verdict::Refused(cause)) => tell_cause(cause, output),
-        Ok(_) => tell_proved(library.statements(), output),
+    match checked(alloc, text) {
+        Ok(line) => {
+            let status = if line.starts_with(b"refused") { 1 } else { 0 };
+            print(output, line.as_slice(), status)
+        }
         Err(_) => print(output, b"refused Memory\n", 1),
     }
+}
+
+/// The line on a text that is applied to an empty library.
+fn checked(alloc: Global, text: Vec<u8>) -> Result<Vec<u8>, AllocError> {
+    let mut library = Library::new(alloc);
+    let mut line = Vec::new(alloc);
+    match judge(&mut library, text)? {
+        Verdict::Refused(cause) => push_verdict(&mut line, Verdict::Refused(cause))?,
+        _ => {
+            line.extend_from_slice(b"proved ")?;
+            push_number(&mut line, count_proved(library.statements()))?;
+        }
+    }
+    line.push(b'\n')?;
+    Ok(line)
 }
 
 /// The verdict on the text as the first entry of an author.
@@ -34,22 +51,13 @@ fn judge(library: &mut Library, text: Vec<u8>) -> Result<Verdict, AllocError> {
     library.apply(Some(&entry))
 }
 
-fn tell_cause<O: Write>(cause: Cause, output: &mut O) -> u8 {
-    if writeln!(output, "refused {}", CauseText(cause)).is_err() {
-        return 1;
-    }
-    print(output, b"", 1)
-}
-
-fn tell_proved<O: Write>(statements: &[Stmt], output: &mut O) -> u8 {
-    let mut count = 0usize;
+/// How many `$p` there are.
+fn count_proved(statements: &[Stmt]) -> u64 {
+    let mut count = 0u64;
     for statement in statements {
         if let Stmt::Prove { .. } = statement {
             count = count.saturating_add(1);
         }
     }
-    if writeln!(output, "proved {count}").is_err() {
-        return 1;
-    }
-    print(output, b"", 0)
+    count
 }

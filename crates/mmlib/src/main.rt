@@ -1,18 +1,26 @@
 //! `mmlib`: formal mathematics in the Metamath language.
 //!
 //! Reading order: `program` (`run`, what a command line does), `commands` (its words), `streams`
-//! (what is read and written), `outline`, `rules`; `database` (`check`), `verdict_text`.
+//! (what is read and written), `outline`, `rules`; `database` (`check`), `verdict_text`; `play`, with `script`, `words`
+//! and `number` (what a line says), `answers` and `printed` (what it answers).
 #![tactic(auto)]
 
+mod answers;
 mod commands;
 mod database;
+mod number;
 mod outline;
+mod play;
+mod printed;
 mod program;
 mod rules;
+mod script;
 mod streams;
 #[cfg(test)]
 mod tests;
 mod verdict_text;
+mod weights;
+mod words;
 
 use program::run;
 use std::alloc::{AllocError, Global};

@@ -1,9 +1,10 @@
 //! The outline of a database.
 ghost use Rattle.std.specs.Prelude.{◌≡◌, ◌++◌, length, IfOk, OnOk};
 ghost use Rattle.mm_read.specs.Statements.{IsShaped, AreShaped};
-ghost use Rattle.mmlib.specs.Outline.{proof_of, outline_line, lines_from, rule_text, rules_line, outline_of, numbered_line, IsOutline};
+ghost use Rattle.mmlib.specs.Outline.{proof_of, outline_line, lines_from, rules_line, outline_of, numbered_line, IsOutline};
 
 use crate::rules::broken;
+use crate::verdict_text::printed_rule;
 use itoa::Buffer;
 use mm_lex::LexFault;
 use mm_read::{ReadFault, Stmt, push_line_with_proof, read};
@@ -94,24 +95,6 @@ fn push_rules_line(bytes: &mut Vec<u8>, broken: Option<(usize, Rule)>) -> Result
             bytes.extend_from_slice(printed_rule(rule))?;
             bytes.extend_from_slice(b"\n")
         }
-    }
-}
-
-fn printed_rule(rule: Rule) -> &'static [u8]
-    ensures { result.now ≡ rule_text rule }
-{
-    match rule {
-        Rule::G1 => b"G1",
-        Rule::G2 => b"G2",
-        Rule::G3 => b"G3",
-        Rule::G4 => b"G4",
-        Rule::G5 => b"G5",
-        Rule::G6 => b"G6",
-        Rule::G7 => b"G7",
-        Rule::G8 => b"G8",
-        Rule::G9 => b"G9",
-        Rule::G10 => b"G10",
-        Rule::Memory => b"",
     }
 }
 

@@ -2,16 +2,17 @@
 use crate::commands::{Request, parse_words};
 use crate::database::check;
 use crate::outline::outline_text;
+use crate::play::play;
 use crate::streams::{ReadFailure, TEXT_LIMIT, print, read_text};
 use clap::error::ErrorKind;
-use std::alloc::Global;
+use std::alloc::{AllocError, Global};
 use std::io::{Read, Write};
 
 /// Runs the command of these words, which come without the program's own name; the answer is the
 /// exit status.
 ///
-/// 0 is good, 1 a refusal (of the input, of memory, or of a write), 2 a bad command line. The text
-/// of a bad command line goes to `faults`, and all else to `output`.
+/// 0 is good, 1 a refusal (of the input, of a line, of memory, or of a write), 2 a bad command line, bad weights or a bad
+/// script. The text of a bad command line and of bad weights goes to `faults`, and all else to `output`.
 pub fn run<R: AllocGlobal, I: Read, O: Write, F: Write>(
     rt: &R,
     words: &[&str],
@@ -19,9 +20,16 @@ pub fn run<R: AllocGlobal, I: Read, O: Write, F: Write>(
     output: &mut O,
     faults: &mut F,
 ) -> u8 {
-    match parse_words(rt.alloc(), words) {
+    let Ok(line) = command_line(rt.alloc(), words) else {
+        return print(output, b"refused Memory\n", 1);
+    };
+    match parse_words(rt.alloc(), line.as_slice()) {
         Ok(Request::Outline) => outline(rt.alloc(), input, output),
         Ok(Request::Check) => check(rt.alloc(), input, output),
+        Ok(Request::Play { weights }) => match weights {
+            Some(weights) => play(rt.alloc(), weights, input, output),
+            None => print(faults, b"bad weights\n", 2),
+        },
         Err(error) if error.kind() == ErrorKind::OutOfMemory => {
             print(output, b"refused Memory\n", 1)
         }
@@ -32,6 +40,14 @@ pub fn run<R: AllocGlobal, I: Read, O: Write, F: Write>(
             print(faults, b"", 2)
         }
     }
+}
+
+/// The words behind the program's name.
+fn command_line<'a>(alloc: Global, words: &[&'a str]) -> Result<Vec<&'a str>, AllocError> {
+    let mut line = Vec::with_capacity(alloc, words.len() + 1)?;
+    line.push("mmlib")?;
+    line.extend_from_slice(words)?;
+    Ok(line)
 }
 
 /// The command `outline`.

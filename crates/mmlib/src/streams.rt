@@ -19,12 +19,26 @@ pub enum ReadFailure {
 
 /// The whole input, or its first bytes, one more than a text may have.
 pub fn read_text<I: Read>(alloc: Global, input: &mut I) -> Result<Vec<u8>, ReadFailure> {
+    read_at_most(alloc, input, TEXT_LIMIT + 1)
+}
+
+/// The whole input.
+pub fn read_all<I: Read>(alloc: Global, input: &mut I) -> Result<Vec<u8>, ReadFailure> {
+    read_at_most(alloc, input, usize::MAX)
+}
+
+/// The whole input, or as many of its first bytes.
+fn read_at_most<I: Read>(
+    alloc: Global,
+    input: &mut I,
+    most: usize,
+) -> Result<Vec<u8>, ReadFailure> {
     let Ok(mut part) = vec![in alloc; 0u8; PART] else {
         return Err(ReadFailure::Memory);
     };
     let mut text = Vec::new(alloc);
     for _ in 0..u64::MAX {
-        let wanted = (TEXT_LIMIT + 1).saturating_sub(text.len()).min(part.len());
+        let wanted = most.saturating_sub(text.len()).min(part.len());
         if wanted == 0 {
             return Ok(text);
         }

@@ -1,4 +1,5 @@
 //! What the program prints.
 mod check;
 mod outline;
+mod play;
 mod streams;

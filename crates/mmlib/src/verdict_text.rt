@@ -1,54 +1,70 @@
 //! Verdicts and their causes as the program prints them.
+ghost use Rattle.std.specs.Prelude.{◌≡◌, ◌++◌, decimal, OnOk};
+ghost use Rattle.mmlib.specs.Outline.{rule_text};
+ghost use Rattle.mmlib.specs.Printed.{cause_text, verdict_text};
 
+use crate::printed::push_number;
 use library::{Cause, Verdict};
 use scope::Rule;
-use std::fmt;
+use std::alloc::AllocError;
 
-/// A cause as it is printed: its code, then the statement and the rule where it has them.
-#[derive(Drop)]
-pub struct CauseText(pub Cause);
-
-impl fmt::Display for CauseText {
-    fn fmt<W: fmt::Write>(&self, f: &mut fmt::Formatter<W>) -> fmt::Result {
-        match self.0 {
-            Cause::TooLong => f.write_str("C1"),
-            Cause::Text => f.write_str("C2"),
-            Cause::Shape => f.write_str("C3"),
-            Cause::Rule { statement, rule } => write!(f, "C4 {statement} {}", rule_name(rule)),
-            Cause::Proof { statement } => write!(f, "C5 {statement}"),
-            Cause::Unfinished { statement } => write!(f, "C6 {statement}"),
-            Cause::NotChartered { statement } => write!(f, "C7 {statement}"),
+/// Adds the verdict; of a refusal the cause too.
+pub fn push_verdict(text: &mut Vec<u8>, verdict: Verdict) -> Result<(), AllocError>
+    ensures { OnOk result (text.new.items ≡ text.old.items ++ verdict_text verdict) }
+{
+    match verdict {
+        Verdict::Added => text.extend_from_slice(b"added"),
+        Verdict::Nothing => text.extend_from_slice(b"nothing"),
+        Verdict::Repeat => text.extend_from_slice(b"repeat"),
+        Verdict::Refused(cause) => {
+            text.extend_from_slice(b"refused ")?;
+            push_cause(text, cause)
         }
     }
 }
 
-fn rule_name(rule: Rule) -> &'static str {
+/// Adds the cause's code, then the statement and the rule where it has them.
+fn push_cause(text: &mut Vec<u8>, cause: Cause) -> Result<(), AllocError>
+    ensures { OnOk result (text.new.items ≡ text.old.items ++ cause_text cause) }
+{
+    match cause {
+        Cause::TooLong => text.extend_from_slice(b"C1"),
+        Cause::Text => text.extend_from_slice(b"C2"),
+        Cause::Shape => text.extend_from_slice(b"C3"),
+        Cause::NotChartered { statement } => push_statement(text, b"C7 ", statement),
+        Cause::Rule { statement, rule } => {
+            push_statement(text, b"C4 ", statement)?;
+            text.extend_from_slice(b" ")?;
+            text.extend_from_slice(printed_rule(rule))
+        }
+        Cause::Proof { statement } => push_statement(text, b"C5 ", statement),
+        Cause::Unfinished { statement } => push_statement(text, b"C6 ", statement),
+    }
+}
+
+/// Adds the code and the statement's number.
+fn push_statement(text: &mut Vec<u8>, code: &[u8], statement: usize) -> Result<(), AllocError>
+    ensures { OnOk result (text.new.items ≡ text.old.items ++ code.now ++ decimal statement) }
+{
+    text.extend_from_slice(code)?;
+    push_number(text, statement as u64)
+}
+
+/// A rule as it is printed.
+pub fn printed_rule(rule: Rule) -> &'static [u8]
+    ensures { result.now ≡ rule_text rule }
+{
     match rule {
-        Rule::G1 => "G1",
-        Rule::G2 => "G2",
-        Rule::G3 => "G3",
-        Rule::G4 => "G4",
-        Rule::G5 => "G5",
-        Rule::G6 => "G6",
-        Rule::G7 => "G7",
-        Rule::G8 => "G8",
-        Rule::G9 => "G9",
-        Rule::G10 => "G10",
-        Rule::Memory => "Memory",
-    }
-}
-
-/// A verdict as it is printed.
-#[derive(Drop)]
-pub struct VerdictText(pub Verdict);
-
-impl fmt::Display for VerdictText {
-    fn fmt<W: fmt::Write>(&self, f: &mut fmt::Formatter<W>) -> fmt::Result {
-        match self.0 {
-            Verdict::Added => f.write_str("added"),
-            Verdict::Nothing => f.write_str("nothing"),
-            Verdict::Repeat => f.write_str("repeat"),
-            Verdict::Refused(cause) => write!(f, "refused {}", CauseText(cause)),
-        }
+        Rule::G1 => b"G1",
+        Rule::G2 => b"G2",
+        Rule::G3 => b"G3",
+        Rule::G4 => b"G4",
+        Rule::G5 => b"G5",
+        Rule::G6 => b"G6",
+        Rule::G7 => b"G7",
+        Rule::G8 => b"G8",
+        Rule::G9 => b"G9",
+        Rule::G10 => b"G10",
+        Rule::Memory => b"",
     }
 }

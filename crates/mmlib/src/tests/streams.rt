@@ -1,4 +1,5 @@
 use crate::program::run;
+use std::alloc::Global;
 use std::io::{self, ErrorKind, Read, Write};
 use std::test::Fail;
 
@@ -24,9 +25,15 @@ pub fn printed(rt: &HostRuntime, words: &[&str], mut text: &[u8]) -> Result<Run,
 
 /// Gives a byte at each call, and fails at one.
 #[derive(Drop)]
-struct Reader<'a> {
+pub struct Reader<'a> {
     text: &'a [u8],
     calls_left: usize,
+}
+
+impl<'a> Reader<'a> {
+    pub fn new(text: &'a [u8], calls_left: usize) -> Reader<'a> {
+        Reader { text, calls_left }
+    }
 }
 
 impl Read for Reader<'_> {
@@ -51,9 +58,18 @@ impl Read for Reader<'_> {
 
 /// Takes a byte at each call, and fails at one.
 #[derive(Drop)]
-struct Writer {
-    text: Vec<u8>,
+pub struct Writer {
+    pub text: Vec<u8>,
     calls_left: usize,
+}
+
+impl Writer {
+    pub fn new(alloc: Global, calls_left: usize) -> Writer {
+        Writer {
+            text: Vec::new(alloc),
+            calls_left,
+        }
+    }
 }
 
 impl Write for Writer {
@@ -83,10 +99,7 @@ const TEXT: &[u8] = b"$c a $. p $a a $.";
 #[test]
 fn a_reader_that_fails(rt: HostRuntime) -> Result<(), Fail> {
     for calls_left in 0..18 {
-        let mut reader = Reader {
-            text: TEXT,
-            calls_left,
-        };
+        let mut reader = Reader::new(TEXT, calls_left);
         let mut output = Vec::new(rt.alloc());
         let mut faults = Vec::new(rt.alloc());
         let status = run(&rt, &["outline"], &mut reader, &mut output, &mut faults);
@@ -105,10 +118,7 @@ fn a_writer_that_fails(rt: HostRuntime) -> Result<(), Fail> {
     let whole = b"1 $c a $.\n2 p $a a $.\ngood\n".as_slice();
     for calls_left in 0..27 {
         let mut text = TEXT;
-        let mut writer = Writer {
-            text: Vec::new(rt.alloc()),
-            calls_left,
-        };
+        let mut writer = Writer::new(rt.alloc(), calls_left);
         let mut faults = Vec::new(rt.alloc());
         let status = run(&rt, &["outline"], &mut text, &mut writer, &mut faults);
         assert!(rt; whole.starts_with(writer.text.as_slice()));
