@@ -7,4 +7,5 @@ pub mod WritesLemmas
 pub mod AnswersLemmas
 pub mod OneList
 pub mod KindsLemmas
+pub mod ReadingLemmas
 mod Rows

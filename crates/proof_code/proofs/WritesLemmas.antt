@@ -52,7 +52,7 @@ written_behind tokens mandatory before header begins read items row =
 
 -- ---- the text of the letters
 
-starts_with_mark-spaced : (words : List Name) → list_all is_word words ≡ true → starts_with_mark (spaced words) ≡ starts_with_mark (joined words)
+pub starts_with_mark-spaced : (words : List Name) → list_all is_word words ≡ true → starts_with_mark (spaced words) ≡ starts_with_mark (joined words)
 starts_with_mark-spaced [] h = refl
 starts_with_mark-spaced ([] ∷ words) h = absurd (true≢false (sym h))
 starts_with_mark-spaced ((b ∷ word) ∷ []) h = refl

@@ -5,4 +5,5 @@ pub mod Text
 pub mod Places
 pub mod Kinds
 pub mod Answers
+pub mod Reading
 pub mod Laws

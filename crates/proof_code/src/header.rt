@@ -1,8 +1,11 @@
 //! The labels between the parentheses of a compressed proof.
-ghost use Rattle.std.specs.Prelude.{◌≡◌, ◌+◌, ◌^◌, ◌<◌, ◌++◌, length, IsTrue, IfSome, IfNone, IsSomeAnd, IfOk};
+ghost use Rattle.std.specs.Prelude.{◌≡◌, ◌+◌, ◌^◌, ◌<◌, ◌++◌, [], length, IsTrue, IfSome, IfNone, IsSomeAnd, IfOk};
 ghost use Rattle.mm_lex.specs.Words.{spaced, words_of, AreWords};
+ghost use Rattle.mm_lex.specs.Alphabet.{name_eq};
 ghost use Rattle.proof_code.specs.Text.{header_of};
+ghost use Rattle.proof_code.specs.Writes.{finish};
 
+use crate::label::is_label;
 use crate::mandatory::Mandatory;
 use mm_lex::{WordIter, Words};
 use std::alloc::{AllocError, Global};
@@ -34,7 +37,7 @@ pub(crate) fn read_listed<'a>(
     let mut end = 0usize;
     let mut count = 0;
     while let Some(word) = words.next() {
-        if word == b")".as_slice() {
+        if is_finish(word) {
             return Some(Listed {
                 text: &text[..end.saturating_sub(1)],
                 count,
@@ -59,4 +62,32 @@ pub(crate) fn table_of(alloc: Global, mandatory: &[u8], listed: &[u8]) -> Result
     table.push_text(mandatory)?;
     table.push_text(listed)?;
     Ok(table)
+}
+
+/// Whether a token ends the listed labels.
+fn is_finish(token: &[u8]) -> bool
+    ensures { result ≡ name_eq token.now finish }
+{
+    token == b")".as_slice()
+}
+
+/// Counts the labels up to `)`, and goes past it; `None` where `)` is missing or where a token before it is no label.
+pub(crate) fn count_listed(words: &mut WordIter<'_>) -> Option<usize>
+    requires { AreWords words.old }
+    ensures none { IfNone result (header_of [] words.old ≡ None) }
+    ensures some { IfSome result (λ count. IsSomeAnd (header_of [] words.old) (λ header. (header.rest ≡ words.new) × (length header.listed ≡ count))) }
+{
+    let text = words.as_text();
+    let _text = text;
+    let mut count = 0;
+    while let Some(word) = words.next() {
+        if is_finish(word) {
+            return Some(count);
+        }
+        if !is_label(word) {
+            return None;
+        }
+        count += 1;
+    }
+    None
 }

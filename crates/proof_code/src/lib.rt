@@ -18,6 +18,8 @@ mod laws;
 mod letters;
 mod mandatory;
 mod normal_proof;
+mod numbers;
+mod reader;
 #[cfg(test)]
 mod tests;
 
@@ -27,3 +29,4 @@ pub use item::Item;
 pub use items::{Items, Parts};
 pub use laws::{numbers_by_formula, one_answer, one_list_of_items};
 pub use normal_proof::normal;
+pub use reader::{Heading, Reader};

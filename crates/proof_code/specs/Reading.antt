@@ -1,0 +1,34 @@
+-- A compressed proof that is read: what one byte of the letters does, and what the whole proof writes.
+-- Source: Metamath, appendix B.
+-- The code reads with no mandatory label at hand: whether a listed label is one of them is left to the caller.
+use Rattle.std.specs.Prelude.{◌≡◌, ℕ, Bool, IsTrue, IsFalse, List, ◌∷◌, ◌++◌, length, Option}
+use Rattle.std.specs.List.{list_any}
+use Rattle.std.specs.Option.{option_map}
+use Rattle.mm_lex.specs.Alphabet.{Name, has_name}
+use Rattle.proof_code.specs.declared.item.Item.{Item}
+use Rattle.proof_code.specs.Numbers.{items_of}
+use Rattle.proof_code.specs.Text.{letters_of, numbers_from}
+use Rattle.proof_code.specs.Writes.{finish, WritesCompressed}
+
+-- these numbers before those of the rest
+abbrev pub before_rest : List ℕ → Option (List ℕ) → Option (List ℕ)
+before_rest numbers rest = option_map (λ more. numbers ++ more) rest
+
+-- what one byte does between two places with the numbers that stand before them, whatever text follows
+abbrev pub Goes : ℕ → ℕ → ℕ → List ℕ → ℕ → ℕ → List ℕ → Type 0
+Goes limit digits byte before limit' digits' behind =
+    (text : List ℕ) → before_rest before (numbers_from limit digits (letters_of (byte ∷ text))) ≡ before_rest behind (numbers_from limit' digits' (letters_of text))
+
+-- some listed label is a mandatory one
+abbrev pub share_label : List Name → List Name → Bool
+share_label mandatory listed = list_any (λ label. has_name label mandatory) listed
+
+-- the proof lists the first `count` of the words, and under so many mandatory labels it writes the items of the numbers
+-- where none of them is listed, else nothing
+pub record IsHeading (tokens : List Name) (mandatory : ℕ) (words : List Name) (count : ℕ) (numbers : List ℕ) : Type 0 where
+  pub listed : List Name
+  pub rest : List Name
+  pub whole : words ≡ listed ++ finish ∷ rest
+  pub many : length listed ≡ count
+  pub apart : (labels : List Name) → length labels ≡ mandatory → IsFalse (share_label labels listed) → WritesCompressed tokens labels (items_of (labels ++ listed) numbers)
+  pub shared : (labels : List Name) → IsTrue (share_label labels listed) → (items : List Item) → ¬ WritesCompressed tokens labels items
