@@ -13,15 +13,11 @@ ghost use Rattle.frame.specs.FrameOf.{HasAssertion};
 use frame::Frames;
 use mm_lex::Words;
 use mm_read::Stmt;
-use proof_code::{Items, is_compressed, normal, packed};
 use scope::{Scope, Steps};
-use std::alloc::{AllocError, Global};
+use std::alloc::Global;
 use std::io::{self, Read};
 use std::time::{Duration, Instant};
 use verify::{Answer, Checker};
-
-/// Room for the labels of most frames.
-const LABEL_BYTES: usize = 512;
 
 fn main(rt: HostRuntime) -> io::Result<()> {
     let alloc = rt.alloc();
@@ -110,8 +106,7 @@ fn count_proved(alloc: Global, statements: &[Stmt]) -> usize
             break;
         }
         if let Stmt::Prove { proof, .. } = statement {
-            let mandatory = mandatory_labels(alloc, &frames, statement, statements);
-            if is_proved(alloc, &mut checker, &frames, statement, proof, mandatory) {
+            if is_proved(&mut checker, &frames, statement, proof) {
                 proved = proved.saturating_add(1);
             }
         }
@@ -132,56 +127,15 @@ fn add(scope: &mut Scope, frames: &mut Frames, statement: &Stmt, steps: &mut Ste
     }
 }
 
-/// The labels of the mandatory hypotheses of the assertion that the frames hold last.
-fn mandatory_labels(
-    alloc: Global,
-    frames: &Frames,
-    statement: &Stmt,
-    statements: &[Stmt],
-) -> Result<Words, AllocError>
+/// Whether the proof of the statement that the frames hold last is right.
+fn is_proved(checker: &mut Checker, frames: &Frames, statement: &Stmt, proof: &Words) -> bool
     requires last { (S : Database) × (frames.now.statements ≡ S ++ bare statement.now ∷ []) }
     requires provable { IsTrue (is_provable statement.now) }
 {
     let _statement = statement;
-    let mut labels = Words::with_capacity(alloc, LABEL_BYTES)?;
-    for position in frames.hypotheses(frames.len()) {
-        match statements.get(position.saturating_sub(1)) {
-            Some(Stmt::Float { label, .. }) => labels.push(label.as_bytes())?,
-            Some(Stmt::Ess { label, .. }) => labels.push(label.as_bytes())?,
-            _ => {}
-        }
-    }
-    Ok(labels)
-}
-
-/// Whether the proof of the statement that the frames hold last is right.
-fn is_proved(
-    alloc: Global,
-    checker: &mut Checker,
-    frames: &Frames,
-    statement: &Stmt,
-    proof: &Words,
-    mandatory: Result<Words, AllocError>,
-) -> bool
-    requires last { (S : Database) × (frames.now.statements ≡ S ++ bare statement.now ∷ []) }
-    requires provable { IsTrue (is_provable statement.now) }
-{
-    let Some(items) = items_of(alloc, proof, mandatory) else {
-        return false;
-    };
-    match checker.check(frames, frames.len(), &items) {
+    match checker.prove(frames, frames.len(), proof) {
         Ok(answer) => answer == Answer::Proved,
         Err(_) => false,
-    }
-}
-
-/// The items of a proof.
-fn items_of(alloc: Global, proof: &Words, mandatory: Result<Words, AllocError>) -> Option<Items> {
-    let mandatory = mandatory.ok()?;
-    if is_compressed(proof) {
-        packed(alloc, proof, &mandatory).ok()
-    } else {
-        normal(alloc, proof).ok()
     }
 }
 

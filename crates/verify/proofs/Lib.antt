@@ -9,6 +9,8 @@ pub mod Named
 pub mod ApartLemmas
 pub mod TableLemmas
 pub mod StepLemmas
+pub mod MandatoryLemmas
+pub mod ProvesLemmas
 pub mod Unique
 pub mod GrowthLemmas
 pub mod PlanLemmas

@@ -42,30 +42,30 @@ pub has_with : (S : Database) (a : ℕ) (s t : Stmt) (label : Name) → Carries 
 has_with S a s t label carries has = (carries.stands, ap is_assertion (some_same carries.stands has.0) ∙ has.1)
 
 -- one more label
+pub entries-more : (S : Database) (at : ℕ) (ls : List Name) (label : Name) (es : List Entry) (entry : Entry) → AreEntries S at ls es → IsEntry S at label entry → AreEntries S at (ls ++ label ∷ []) (es ++ entry ∷ [])
+entries-more S at ls label es entry a is = record { count = counted; each = λ k h. each k h (nat_lt k (length ls)) refl }
+  where
+    counted : length (es ++ entry ∷ []) ≡ length (ls ++ label ∷ [])
+    counted = let p = length-append es (entry ∷ []) in let q = length-append ls (label ∷ []) in let c = a.count in omega (arith, p, q, c)
+
+    each : (k : ℕ) → k < length (ls ++ label ∷ []) → (b : Bool) → nat_lt k (length ls) ≡ b → IsEntry S at (get_or (ls ++ label ∷ []) k []) (get_or (es ++ entry ∷ []) k Nothing)
+    each k h true q =
+        let lt : k < length ls = grind (arith, q) in
+        let c = a.count in
+        subst (λ l. IsEntry S at l (get_or (es ++ entry ∷ []) k Nothing)) (sym (get-front ls (label ∷ []) k [] lt))
+        (subst (IsEntry S at (get_or ls k [])) (sym (get-front es (entry ∷ []) k Nothing (omega (arith, lt, c)))) (a.each k lt))
+    each k h false q =
+        let p = length-append ls (label ∷ []) in
+        let same : k ≡ length ls = grind (arith, q, h, p) in
+        let c = a.count in
+        subst (λ l. IsEntry S at l (get_or (es ++ entry ∷ []) k Nothing)) (sym (get-last ls label k [] same))
+        (subst (IsEntry S at label) (sym (get-last es entry k Nothing (same ∙ sym c))) is)
+
 pub table-more : (S : Database) (at : ℕ) (labels : List (Bor Name)) (label : Bor Name) (table table' : List Entry) (entry : Entry) → AreEntries S at (map (λ l. l.now) labels) table
     → table' ≡ table ++ entry ∷ [] → IsEntry S at label.now entry → AreEntries S at (map (λ l. l.now) (labels ++ label ∷ [])) table'
 table-more S at labels label table table' entry are grown is =
     subst (λ ls. AreEntries S at ls table') (sym (map-snoc (λ l. l.now) labels label))
-    (subst (AreEntries S at (map (λ l. l.now) labels ++ label.now ∷ [])) (sym grown) (more (map (λ l. l.now) labels) table are))
-  where
-    more : (ls : List Name) (es : List Entry) → AreEntries S at ls es → AreEntries S at (ls ++ label.now ∷ []) (es ++ entry ∷ [])
-    more ls es a = record { count = counted; each = λ k h. each k h (nat_lt k (length ls)) refl }
-      where
-        counted : length (es ++ entry ∷ []) ≡ length (ls ++ label.now ∷ [])
-        counted = let p = length-append es (entry ∷ []) in let q = length-append ls (label.now ∷ []) in let c = a.count in omega (arith, p, q, c)
-
-        each : (k : ℕ) → k < length (ls ++ label.now ∷ []) → (b : Bool) → nat_lt k (length ls) ≡ b → IsEntry S at (get_or (ls ++ label.now ∷ []) k []) (get_or (es ++ entry ∷ []) k Nothing)
-        each k h true q =
-            let lt : k < length ls = grind (arith, q) in
-            let c = a.count in
-            subst (λ l. IsEntry S at l (get_or (es ++ entry ∷ []) k Nothing)) (sym (get-front ls (label.now ∷ []) k [] lt))
-            (subst (IsEntry S at (get_or ls k [])) (sym (get-front es (entry ∷ []) k Nothing (omega (arith, lt, c)))) (a.each k lt))
-        each k h false q =
-            let p = length-append ls (label.now ∷ []) in
-            let same : k ≡ length ls = grind (arith, q, h, p) in
-            let c = a.count in
-            subst (λ l. IsEntry S at l (get_or (es ++ entry ∷ []) k Nothing)) (sym (get-last ls label.now k [] same))
-            (subst (IsEntry S at label.now) (sym (get-last es entry k Nothing (same ∙ sym c))) is)
+    (subst (AreEntries S at (map (λ l. l.now) labels ++ label.now ∷ [])) (sym grown) (entries-more S at (map (λ l. l.now) labels) label.now table entry are is))
 
 -- what a place of the table names
 pub entry_at : (S : Database) (at : ℕ) (labels : List Name) (table : List Entry) (k : ℕ) (d : Entry) → AreEntries S at labels table → k < length table → IsEntry S at (get_or labels k []) (get_or table k d)

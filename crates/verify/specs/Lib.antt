@@ -11,4 +11,5 @@ pub mod Table
 pub mod Growth
 pub mod Plan
 pub mod Extents
+pub mod Proves
 pub mod Laws

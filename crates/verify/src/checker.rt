@@ -1,20 +1,25 @@
 //! A whole proof.
 
-ghost use Rattle.std.specs.Prelude.{◌≡◌, IfOk};
+ghost use Rattle.std.specs.Prelude.{◌≡◌, IfOk, IsTrue};
 ghost use Rattle.mm_read.specs.declared.stmt.Stmt.{Stmt as Statement};
+ghost use Rattle.proof_code.specs.Writes.{is_compressed};
+ghost use Rattle.verify.specs.Proves.{Proves};
 ghost use Rattle.verify.specs.Right.{IsProvable, IsRight, Says};
 
 use crate::answer::Answer;
-use crate::citation::step;
 use crate::results::Results;
-use crate::table::{Entry, fill_table};
+use crate::run::run;
+use crate::table::{Entry, add_listed, fill_mandatory, fill_table};
 use frame::Frames;
-use proof_code::Items;
+use mm_lex::Words;
+use proof_code::{CodeFault, Items, Reader, is_compressed, normal};
 use std::alloc::{AllocError, Global};
 
 /// A verifier that keeps its buffers from proof to proof.
 #[derive(Drop)]
 pub struct Checker {
+    alloc: Global,
+    reader: Reader,
     table: Vec<Entry>,
     results: Results,
 }
@@ -23,6 +28,8 @@ impl Checker {
     /// A verifier with empty buffers. Takes no memory.
     pub fn new(alloc: Global) -> Checker {
         Checker {
+            alloc,
+            reader: Reader::new(alloc),
             table: Vec::new(alloc),
             results: Results::new(alloc),
         }
@@ -39,18 +46,59 @@ impl Checker {
         frames.legal();
         let parts = items.parts();
         fill_table(frames, at, parts.labels, &mut self.table)?;
-        self.results.clear();
-        let pairs = frames.active_pairs(at);
-        for number in parts.numbers {
-            if !step(frames, at, &pairs, &self.table, *number, &mut self.results)? {
-                return Ok(Answer::Wrong);
-            }
+        run(frames, at, &self.table, parts.numbers, &mut self.results)
+    }
+
+    /// Whether the tokens write a right proof of the `$p` at that position.
+    ///
+    /// Cost: that of reading the tokens and checking their items; a mandatory hypothesis is known by its position, so
+    /// its label is neither copied nor looked up. Source: Metamath, 4.2.6 and appendix B.
+    pub fn prove(
+        &mut self,
+        frames: &Frames,
+        at: usize,
+        tokens: &Words,
+    ) -> Result<Answer, AllocError>
+        requires { (s : Statement) × IsProvable frames.now.statements at s }
+        ensures { IfOk result (λ answer. Says answer (Proves frames.now.statements at tokens.now)) }
+    {
+        if is_compressed(tokens) {
+            return self.prove_compressed(frames, at, tokens);
         }
-        if self.results.is_only(frames.expr(at)) {
-            Ok(Answer::Proved)
-        } else {
-            Ok(Answer::Wrong)
+        match normal(self.alloc, tokens) {
+            Ok(items) => self.check(frames, at, &items),
+            Err(CodeFault::Memory) => Err(AllocError),
+            Err(_) => Ok(Answer::Wrong),
         }
+    }
+
+    /// The same for a compressed proof.
+    fn prove_compressed(
+        &mut self,
+        frames: &Frames,
+        at: usize,
+        tokens: &Words,
+    ) -> Result<Answer, AllocError>
+        requires provable { (s : Statement) × IsProvable frames.now.statements at s }
+        requires compressed { IsTrue (is_compressed tokens.now) }
+        ensures { IfOk result (λ answer. Says answer (Proves frames.now.statements at tokens.now)) }
+    {
+        frames.legal();
+        let mandatory = frames.hypotheses(at);
+        let Some(heading) = self.reader.read(tokens, mandatory.len())? else {
+            return Ok(Answer::Wrong);
+        };
+        fill_mandatory(frames, at, &mut self.table)?;
+        if !add_listed(frames, at, heading, &mut self.table)? {
+            return Ok(Answer::Wrong);
+        }
+        run(
+            frames,
+            at,
+            &self.table,
+            self.reader.numbers(),
+            &mut self.results,
+        )
     }
 }
 

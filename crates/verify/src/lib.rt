@@ -4,7 +4,7 @@
 //! concludes the statement's expression and weighs no more than the limit; else it answers `Wrong`.
 //!
 //! Reading order: `answer`, `tree`, `copies`, `templates`, `symbols` and `results` (results as ranges of one buffer),
-//! `apart`, `table` and `citation` (one item), `checker` (a whole proof), `laws`.
+//! `apart`, `table`, `citation` (one item), `run` and `checker` (a whole proof), `laws`.
 #![tactic(auto)]
 
 mod answer;
@@ -15,6 +15,7 @@ mod copies;
 pub mod laws;
 mod plan;
 mod results;
+mod run;
 mod symbols;
 mod table;
 mod templates;

@@ -1,11 +1,18 @@
 //! What the labels of a proof name, looked up once.
 
-ghost use Rattle.std.specs.Prelude.{◌≡◌, ◌≤◌, OnOk, length};
+ghost use Rattle.std.specs.Prelude.{◌≡◌, ◌≤◌, ◌++◌, List, OnOk, IfOk, IsTrue, not, length, take};
+ghost use Rattle.std.specs.List.Sorted.{IsNonDecreasing};
+ghost use Rattle.mm_lex.specs.Alphabet.{Name};
+ghost use Rattle.mm_read.specs.declared.stmt.Stmt.{Stmt as Statement};
+ghost use Rattle.proof_code.specs.Reading.{share_label};
+ghost use Rattle.verify.specs.Proves.{mandatory_labels};
+ghost use Rattle.verify.specs.Right.{IsProvable};
 ghost use Rattle.frame.specs.Reading.{AreLegal};
-ghost use Rattle.verify.specs.Table.{IsEntry, AreEntries};
+ghost use Rattle.verify.specs.Table.{is_hypothesis_among, IsEntry, AreEntries};
 
 use frame::{Frames, Meaning};
 use mm_lex::Words;
+use proof_code::Heading;
 use std::alloc::AllocError;
 
 /// What a label names at a statement.
@@ -51,4 +58,58 @@ pub fn fill_table(
         table.push(look_up(frames, at, label))?;
     }
     Ok(())
+}
+
+/// Fills the table with the mandatory hypotheses of the `$p` at that position.
+pub fn fill_mandatory(frames: &Frames, at: usize, table: &mut Vec<Entry>) -> Result<(), AllocError>
+    requires { (s : Statement) × IsProvable frames.now.statements at s }
+    ensures { OnOk result ((s : Statement) → IsProvable frames.now.statements at s
+        → AreEntries frames.now.statements at (mandatory_labels frames.now.statements at s) table.new.items) }
+{
+    table.clear();
+    for position in frames.hypotheses(at) {
+        table.push(Entry::Hypothesis(*position))?;
+    }
+    Ok(())
+}
+
+/// Whether the entry is one of these hypotheses.
+fn is_among(entry: Entry, hypotheses: &[usize]) -> bool
+    requires { IsNonDecreasing hypotheses.now }
+    ensures { result ≡ is_hypothesis_among hypotheses.now entry }
+{
+    match entry {
+        Entry::Hypothesis(position) => hypotheses.binary_search(&position).is_ok(),
+        _ => false,
+    }
+}
+
+/// Adds what each of the listed labels names at the statement, unless one of them is that of a mandatory hypothesis.
+pub fn add_listed(
+    frames: &Frames,
+    at: usize,
+    heading: Heading<'_>,
+    table: &mut Vec<Entry>,
+) -> Result<bool, AllocError>
+    requires legal { AreLegal frames.now.statements frames.now.names }
+    requires provable { (s : Statement) × IsProvable frames.now.statements at s }
+    requires listed { heading.count ≤ length heading.words }
+    ensures entries { IfOk result (λ ok. IsTrue ok → (front : List Name) → AreEntries frames.now.statements at front table.old.items
+        → AreEntries frames.now.statements at (front ++ take heading.entry.count heading.entry.words) table.new.items) }
+    ensures apart { IfOk result (λ ok. (s : Statement) → IsProvable frames.now.statements at s
+        → ok ≡ not (share_label (mandatory_labels frames.now.statements at s) (take heading.entry.count heading.entry.words))) }
+{
+    let mandatory = frames.hypotheses(at);
+    let mut words = heading.words;
+    for _ in 0..heading.count {
+        let Some(label) = words.next() else {
+            unreachable!();
+        };
+        let entry = look_up(frames, at, label);
+        if is_among(entry, mandatory) {
+            return Ok(false);
+        }
+        table.push(entry)?;
+    }
+    Ok(true)
 }

@@ -1,4 +1,4 @@
-use Rattle.std.proofs.Common.{◌≡◌, ◌+◌, ◌≤◌, [], length, arith, sym, ◌∙◌, ap, refl}
+use Rattle.std.proofs.Common.{◌≡◌, ◌+◌, ◌≤◌, [], length, arith, sym, ap, refl}
 use Rattle.std.specs.Prelude.{Bool, true, false, ◌&&◌, not}
 use Rattle.mm_lex.specs.Alphabet.{is_label}
 use Rattle.mm_lex.specs.Words.{spaced}

@@ -1,0 +1,35 @@
+use Rattle.std.proofs.Common.{◌<◌, ◌∙◌, not, length, arith, sym, ap, subst}
+use Rattle.std.specs.List.Sorted.{IsNonDecreasing}
+use Rattle.scope.specs.Active.{before}
+use Rattle.verify.specs.Table.{is_hypothesis_among}
+use Rattle.verify.proofs.MandatoryLemmas.{place_of, hypotheses-rise, word-left, one-added, one-shared}
+use Rattle.verify.proofs.table.add_listed.Goals as goal
+
+pub unreachable-requires : goal.unreachable-requires
+unreachable-requires c =
+    let within : c.loop.counter < length c.args.heading.words = let a = c.requires.listed in let b = c.loop-test.true in omega (arith, a, b) in
+    word-left _ _ _ _ _ _ _ c.loop.invariant within c.in_default.ensures.steps.0
+
+pub look_up-entry-requires-clause-place : goal.look_up-entry-requires-clause-place
+look_up-entry-requires-clause-place c = place_of c.args.frames.now.statements c.args.at c.requires.provable.0 c.requires.provable.1.stands
+
+pub is_among-requires : goal.is_among-requires
+is_among-requires c =
+    subst IsNonDecreasing (sym (c.hypotheses-mandatory.ensures c.requires.provable.0 c.requires.provable.1.stands))
+    (hypotheses-rise (before c.args.frames.now.statements c.args.at) c.requires.provable.0)
+
+pub returns-then-is_among-clause-apart : goal.returns-then-is_among-clause-apart
+returns-then-is_among-clause-apart c = λ s provable.
+    let within : c.loop.counter < length c.args.heading.words = let a = c.requires.listed in let b = c.loop-test.true in omega (arith, a, b) in
+    ap not (sym (one-shared _ _ _ _ _ _ _ c.loop.invariant within c.in-Some.label.now c.next.new.self c.in-Some.ensures.steps c.look_up-entry.result c.requires.legal.once c.look_up-entry.ensures
+    c.requires.provable.0 c.requires.provable.1
+    (ap (λ hs. is_hypothesis_among hs c.look_up-entry.result) (sym (c.hypotheses-mandatory.ensures c.requires.provable.0 c.requires.provable.1.stands)) ∙ sym c.if-is_among.ensures)
+    c.args.heading.count (let b = c.loop-test.true in omega (arith, b)) s provable))
+
+pub loop-preserved : goal.loop-preserved
+loop-preserved c =
+    let within : c.loop.counter < length c.args.heading.words = let a = c.requires.listed in let b = c.loop-test.true in omega (arith, a, b) in
+    one-added _ _ _ _ _ _ _ c.loop.invariant within c.in-Some.label.now c.next.new.self c.in-Some.ensures.steps c.look_up-entry.result c.requires.legal.once c.look_up-entry.ensures
+    c.requires.provable.0 c.requires.provable.1
+    (ap (λ hs. is_hypothesis_among hs c.look_up-entry.result) (sym (c.hypotheses-mandatory.ensures c.requires.provable.0 c.requires.provable.1.stands)) ∙ sym c.if-is_among.ensures)
+    c.push.new.self.items c.in_ok-push.ensures.items

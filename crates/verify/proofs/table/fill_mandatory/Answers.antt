@@ -1,0 +1,11 @@
+use Rattle.std.proofs.Common.{arith, map, ap, ◌∙◌}
+use Rattle.std.proofs.lemmas.List.{take_all}
+use Rattle.verify.specs.declared.table.Entry.TheVariants.{Hypothesis}
+use Rattle.verify.proofs.MandatoryLemmas.{mandatory-entries}
+use Rattle.verify.proofs.table.fill_mandatory.Goals as goal
+
+pub returns : goal.returns
+returns c = λ s provable.
+    mandatory-entries c.args.frames.now.statements c.args.at s c.hypotheses-position-items.result.now c.loop-position.table.items provable
+    (c.hypotheses-position-items.ensures s provable.stands)
+    (c.loop-position.invariant ∙ ap (map Hypothesis) (take_all c.loop-position.position-index c.hypotheses-position-items.result.now (let over = c.loop-position-test.false in omega (arith, over))))
