@@ -15,7 +15,7 @@ use Rattle.frame.specs.FrameOf.{is_pair, groups}
 use Rattle.frame.specs.Links.{is_disj}
 use Rattle.frame.specs.Disjoint.{are_apart}
 use Rattle.frame.specs.ByPlaces.{AreBelow}
-use Rattle.frame.specs.Covers.{is_listed, are_listed, does_cover, are_covered, do_share, is_variable_apart, is_symbol_apart, are_marked}
+use Rattle.frame.specs.Covers.{is_listed, are_listed, does_cover, are_covered, do_share, is_pair_apart, is_variable_apart, is_symbol_apart, are_marked}
 use Rattle.frame.proofs.PairsLemmas.{has-decode}
 
 pub or_left : (a b : Bool) → a ≡ true → (a || b) ≡ true
@@ -75,6 +75,12 @@ symbol_variable S u f e = ap (λ b. list_all (λ v. not b || not (is_variable S 
 
 pub symbol_constant : (S : Database) (u : Name) (f : Expr) → is_variable S u ≡ false → is_symbol_apart S f u ≡ true
 symbol_constant S u f e = ap (λ b. list_all (λ v. not b || not (is_variable S v) || is_pair S u v) f) e ∙ all-true (λ v. true) f (λ v. refl)
+
+pub pair_constant : (S : Database) (u v : Name) → is_variable S v ≡ false → is_pair_apart S u v ≡ true
+pair_constant S u v e = ap (λ b. not b || is_pair S u v) e
+
+pub pair_variable : (S : Database) (u v : Name) → is_variable S v ≡ true → is_pair_apart S u v ≡ is_pair S u v
+pair_variable S u v e = ap (λ b. not b || is_pair S u v) e
 
 -- ---- all names of a list
 

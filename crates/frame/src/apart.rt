@@ -5,7 +5,7 @@ ghost use Rattle.scope.specs.Active.{before};
 ghost use Rattle.scope.specs.Numbering.{name_at, decode, AreDistinct};
 ghost use Rattle.frame.specs.ByPlaces.{AreBelow};
 ghost use Rattle.frame.specs.Disjoint.{are_apart};
-ghost use Rattle.frame.specs.Covers.{are_listed, are_covered, do_share, are_marked, is_pair_apart, is_variable_apart, is_symbol_apart};
+ghost use Rattle.frame.specs.Covers.{are_listed, are_covered, do_share, are_marked, is_variable_apart};
 ghost use Rattle.frame.specs.Stored.{AreStored, statements_of};
 ghost use Rattle.frame.specs.declared.apart.TheConstants.{PLACES};
 
@@ -148,31 +148,20 @@ fn mark(symbols: &[u32], marked: &mut [bool])
     }
 }
 
-/// Whether each pair of one variable from each list is kept apart. A symbol that stands earlier in its list is passed over.
+/// Whether each pair of one variable from each list is kept apart. A variable that stands earlier in its list is passed
+/// over; that a symbol is a variable is tested first, since most are not.
 fn each_apart(pairs: &Pairs<'_>, left: &[u32], right: &[u32]) -> bool
     requires left { AreBelow (length pairs.now.names) left.now }
     requires right { AreBelow (length pairs.now.names) right.now }
     ensures { result ≡ are_apart pairs.now.statements (decode pairs.now.names left.now) (decode pairs.now.names right.now) }
 {
     for i in 0..left.len() {
-        if !contains(&left[..i], left[i]) && !symbol_apart(pairs, left[i], right) {
+        let x = left[i];
+        if pairs.variable(x) && !contains(&left[..i], x) && !variable_apart(pairs, x, right) {
             return false;
         }
     }
     true
-}
-
-/// Whether the symbol, where it is a variable, is kept apart from each variable of the image.
-fn symbol_apart(pairs: &Pairs<'_>, x: u32, image: &[u32]) -> bool
-    requires x { x < length pairs.now.names }
-    requires image { AreBelow (length pairs.now.names) image.now }
-    ensures { result ≡ is_symbol_apart pairs.now.statements (decode pairs.now.names image.now) (name_at pairs.now.names x) }
-{
-    if pairs.variable(x) {
-        variable_apart(pairs, x, image)
-    } else {
-        true
-    }
 }
 
 /// Whether the variable is kept apart from each variable of the image.
@@ -182,18 +171,10 @@ fn variable_apart(pairs: &Pairs<'_>, x: u32, image: &[u32]) -> bool
     ensures { result ≡ is_variable_apart pairs.now.statements (name_at pairs.now.names x) (decode pairs.now.names image.now) }
 {
     for i in 0..image.len() {
-        if !contains(&image[..i], image[i]) && !pair_apart(pairs, x, image[i]) {
+        let y = image[i];
+        if pairs.variable(y) && !contains(&image[..i], y) && !pairs.has(x, y) {
             return false;
         }
     }
     true
-}
-
-/// Whether the variable is kept apart from the symbol, where this is a variable.
-fn pair_apart(pairs: &Pairs<'_>, x: u32, y: u32) -> bool
-    requires x { x < length pairs.now.names }
-    requires y { y < length pairs.now.names }
-    ensures { result ≡ is_pair_apart pairs.now.statements (name_at pairs.now.names x) (name_at pairs.now.names y) }
-{
-    !pairs.variable(y) || pairs.has(x, y)
 }
