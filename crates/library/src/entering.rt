@@ -59,12 +59,16 @@ fn enter_one(
     ensures marked { scope.new.marked ≡ scope.old.marked }
     ensures counted { steps.new.count ≤ steps.old.count + 2 }
 {
-    if let Some(rule) = scope.broken_rule(statement) {
-        return Ok(Some(rule));
-    }
-    frames.push(scope, statement, steps)?;
     match scope.add(statement, steps) {
-        Ok(()) => Ok(None),
-        Err(_) => Err(AllocError),
+        Ok(()) => {
+            frames.keep(statement, steps)?;
+            Ok(None)
+        }
+        Err(rule) => {
+            if rule == Rule::Memory {
+                return Err(AllocError);
+            }
+            Ok(Some(rule))
+        }
     }
 }
