@@ -54,7 +54,7 @@ below-of true true c h = refl
 below-of true false c h = cc
 below-of false b c h = cc
 
-active-below : (S : Database) (i j : ℕ) → is_active S i j ≡ true → i < j
+pub active-below : (S : Database) (i j : ℕ) → is_active S i j ≡ true → i < j
 active-below S i j h =
     let b = below-of (nat_le 1 i) (nat_lt i j) (stays_open 0 (take (j - 1 - i) (drop i S))) h in
     grind (arith, nat_tests)

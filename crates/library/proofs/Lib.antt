@@ -1,3 +1,7 @@
+pub mod AskedLemmas
+pub mod TraceLemmas
+pub mod WalkLemmas
+pub mod MarksLemmas
 pub mod FrontLemmas
 pub mod LaterLemmas
 pub mod GoodLemmas

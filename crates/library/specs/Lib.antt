@@ -8,3 +8,6 @@ pub mod Laws
 pub mod Judging
 pub mod Kept
 pub mod Listed
+pub mod Uses
+pub mod Asked
+pub mod Marks

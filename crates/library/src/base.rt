@@ -1,18 +1,24 @@
 //! Good statements, with what judges those that come behind them.
-ghost use Rattle.std.specs.Prelude.{◌≡◌, ℕ, ◌+◌, ◌*◌, ◌≤◌, ◌++◌, [], length, take, drop, Ok, Some, None, IfOk, OnErr, IsTrue, MatchResult, MatchOption};
+ghost use Rattle.std.specs.Prelude.{◌≡◌, ℕ, ◌+◌, ◌*◌, ◌≤◌, ◌++◌, ◌≢◌, ◌↔◌, ◌⊎◌, [], length, take, drop, Ok, Err, Some, None, IfOk, OnErr, IsTrue, MatchResult, MatchOption};
 ghost use Rattle.mm_read.specs.Statements.{AreShaped};
 ghost use Rattle.scope.specs.Active.{bares, is_closed};
 ghost use Rattle.library.specs.Good.{Good};
+ghost use Rattle.verify.specs.Derivations.{Derivation, derivation_of};
+ghost use Rattle.verify.specs.Right.{IsSmall};
+ghost use Rattle.library.specs.Asked.{HasNoLabel, NamesNoProof, IsTrace, IsTreeOf};
 ghost use Rattle.library.specs.Judging.{Begins, IsPlaced, IsUnproved, Extends};
 
+use crate::asked::{AskFault, proof_at, trace_at, tree_at};
 use crate::entering::enter;
 use crate::proving::{first_unproved, is_unfinished};
 use crate::verdict::Cause;
 use frame::Frames;
+use mm_lex::Word;
 use mm_read::Stmt;
 use scope::{Scope, Steps};
 use std::alloc::{AllocError, Global};
 use std::marker::Model;
+use verify::Tree;
 
 /// Good statements as they were read, with the scope and the frames behind them. Contracts see the list of statements.
 #[derive(Drop)]
@@ -54,6 +60,37 @@ impl Base {
         ensures shaped { AreShaped self.now }
     {
         self.statements.as_slice()
+    }
+
+    /// The labels of the `$a` that the proof of the label uses.
+    pub(crate) fn trace(&self, alloc: Global, label: &[u8]) -> Result<Vec<Word>, AskFault>
+        ensures labels { IfOk result (λ labels. IsTrace self.now label.now labels.items) }
+        ensures no_label { (result ≡ Err AskFault.NoLabel) ↔ HasNoLabel self.now label.now }
+        ensures not_provable { (result ≡ Err AskFault.NotProvable) ↔ NamesNoProof self.now label.now }
+        ensures small { result ≢ Err AskFault.TooLarge }
+    {
+        self.frames.legal();
+        match proof_at(&self.frames, &self.statements, label) {
+            Ok(at) => trace_at(alloc, &self.frames, &self.statements, at),
+            Err(fault) => Err(fault),
+        }
+    }
+
+    /// The derivation that the proof of the label spells.
+    pub(crate) fn tree(&self, alloc: Global, label: &[u8]) -> Result<Tree, AskFault>
+        ensures tree { IfOk result (λ tree. IsTreeOf self.now label.now (derivation_of tree)) }
+        ensures small { IfOk result (λ tree. IsSmall (derivation_of tree)) }
+        ensures no_label { (result ≡ Err AskFault.NoLabel) ↔ HasNoLabel self.now label.now }
+        ensures not_provable { (result ≡ Err AskFault.NotProvable) ↔ NamesNoProof self.now label.now }
+        ensures large { (t : Derivation) → IsTreeOf self.now label.now t → ¬ IsSmall t
+            → (result ≡ Err AskFault.TooLarge) ⊎ (result ≡ Err AskFault.Memory) }
+        ensures only_large { result ≡ Err AskFault.TooLarge → (t : Derivation) × IsTreeOf self.now label.now t × (¬ IsSmall t) }
+    {
+        self.frames.legal();
+        match proof_at(&self.frames, &self.statements, label) {
+            Ok(at) => tree_at(alloc, &self.frames, &self.statements, at),
+            Err(fault) => Err(fault),
+        }
     }
 
     /// Adds the statements whole, where they are good behind those that stand; else it answers why they are not.

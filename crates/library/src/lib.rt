@@ -7,6 +7,7 @@
 //! `base` (all or nothing), `entering` (the rules), `proving` (the proofs), `verdicts`; `laws`.
 #![tactic(auto)]
 
+mod asked;
 mod base;
 mod charter;
 mod entering;
@@ -19,9 +20,11 @@ mod reading;
 mod submission;
 #[cfg(test)]
 mod tests;
+mod uses;
 mod verdict;
 mod verdicts;
 
+pub use asked::AskFault;
 pub use charter::{MOST_NAMES, Names};
 pub use entry::Entry;
 pub use laws::{

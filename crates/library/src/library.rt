@@ -97,6 +97,13 @@ impl Library {
         self.base.statements()
     }
 
+    /// The statements with what judges them.
+    pub(crate) fn base(&self) -> &Base
+        ensures { result.now ≡ self.now.replica.statements }
+    {
+        &self.base
+    }
+
     /// The charter that is there.
     pub fn charter(&self) -> Option<&Names>
         ensures { option_map (λ names. names.now) result ≡ self.now.replica.charter }

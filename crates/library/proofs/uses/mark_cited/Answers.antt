@@ -1,0 +1,11 @@
+use Rattle.std.proofs.Common.{sym, ◌∙◌, ap, arith, drop}
+use Rattle.std.proofs.lemmas.List.{drop_all}
+use Rattle.library.specs.Marks.{mark_items}
+use Rattle.library.proofs.MarksLemmas.{marks-items}
+use Rattle.library.proofs.uses.mark_cited.Goals as goal
+
+pub returns : goal.returns
+returns c =
+    let over = c.loop-number-test.false in
+    marks-items c.args.frames.now.statements c.parts-parts.result.labels.now c.in_ok-places.places.items c.in_ok-places.ensures c.legal.ensures.once c.parts-parts.result.numbers.now c.args.items.now c.args.marks.now c.loop-number.marks c.parts-parts.ensures
+    (sym (ap (λ ns. mark_items c.in_ok-places.places.items ns c.loop-number.marks) (drop_all c.loop-number.number-index c.parts-parts.result.numbers.now (omega (arith, over)))) ∙ c.loop-number.invariant)

@@ -1,0 +1,8 @@
+use Rattle.library.proofs.WalkLemmas.{IsWalked}
+use Rattle.library.proofs.uses.reached.Given as goal
+
+abbrev pub invariant-loop-position : goal.invariant-loop-position
+invariant-loop-position l = IsWalked l.statements l.at l.position l.marks.items
+
+abbrev pub decreases-loop-position : goal.decreases-loop-position
+decreases-loop-position l = l.position

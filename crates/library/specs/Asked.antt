@@ -1,0 +1,55 @@
+-- Questions on the `$p` of a label: what its proof rests on, and the derivation that it spells.
+-- Source: this project's profile; Metamath, 4.2.6 and appendix B.
+-- The code finds the label in a table.
+use Rattle.std.specs.Prelude.{◌≡◌, ℕ, IsFalse, List}
+use Rattle.mm_lex.specs.Alphabet.{Name}
+use Rattle.mm_read.specs.declared.stmt.Stmt.{Stmt}
+use Rattle.mm_read.specs.Statements.{Database}
+use Rattle.scope.specs.Active.{bares, is_provable}
+use Rattle.frame.specs.Citations.{Carries}
+use Rattle.proof_code.specs.declared.item.Item.{Item}
+use Rattle.verify.specs.Right.{IsProvable, Derives, IsSmall}
+use Rattle.verify.specs.Derivations.{Derivation}
+use Rattle.library.specs.declared.asked.AskFault.{AskFault}
+use Rattle.library.specs.declared.asked.AskFault.TheVariants.{NoLabel, NotProvable, TooLarge, Memory}
+use Rattle.library.specs.Uses.{HasItems, AreUsed}
+
+-- no statement has the label
+abbrev pub HasNoLabel : Database → Name → Type 0
+HasNoLabel S label = (i : ℕ) (s : Stmt) → ¬ Carries S i s label
+
+-- a statement has the label, and is no `$p`
+pub record NamesNoProof (S : Database) (label : Name) : Type 0 where
+  pub position : ℕ
+  pub stmt : Stmt
+  pub carries : Carries S position stmt label
+  pub other : IsFalse (is_provable stmt)
+
+-- the `$p` of the label stands at j
+pub record NamesProof (S : Database) (label : Name) (j : ℕ) : Type 0 where
+  pub stmt : Stmt
+  pub carries : Carries S j stmt label
+  pub provable : IsProvable S j stmt
+
+-- the labels of the `$a` that the proof of the label uses
+abbrev pub IsTrace : Database → Name → List Name → Type 0
+IsTrace S label labels = (j : ℕ) × NamesProof S label j × AreUsed S j labels
+
+-- why the label names no `$p`
+abbrev pub IsNoProof : Database → Name → AskFault → Type 0
+IsNoProof S label NoLabel = HasNoLabel S label
+IsNoProof S label NotProvable = NamesNoProof S label
+IsNoProof S label TooLarge = ⊥
+IsNoProof S label Memory = ⊥
+
+-- the proof of the `$p` at j spells the derivation
+abbrev pub SpellsTree : Database → ℕ → Derivation → Type 0
+SpellsTree S j t = (items : List Item) × HasItems S j items × Derives (bares S) j items t
+
+-- it spells one that is over the limits
+abbrev pub SpellsLargeTree : Database → ℕ → Type 0
+SpellsLargeTree S j = (t : Derivation) × SpellsTree S j t × (¬ IsSmall t)
+
+-- the derivation that the proof of the label spells
+abbrev pub IsTreeOf : Database → Name → Derivation → Type 0
+IsTreeOf S label t = (j : ℕ) × NamesProof S label j × SpellsTree S j t

@@ -1,0 +1,82 @@
+-- Which positions a walk down from a `$p` has marked.
+-- Source: none; for the private functions of `uses`.
+-- The marks are a list with one place for each position, the first for position 1.
+use Rattle.std.specs.Prelude.{◌≡◌, ◌↔◌, ◌⊎◌, ℕ, zero, suc, ◌+◌, ◌<◌, ◌≤◌, Bool, true, false, List, [], ◌∷◌, ◌++◌, length, map, Option, Some, None, slice_get, slice_index_or, slice_set, nat_lt, if◌then◌else◌}
+use Rattle.mm_lex.specs.Alphabet.{Name}
+use Rattle.mm_read.specs.declared.stmt.Stmt.{Stmt}
+use Rattle.mm_read.specs.declared.stmt.Stmt.TheVariants.{Axiom}
+use Rattle.mm_read.specs.Statements.{Database}
+use Rattle.frame.specs.Citations.{Carries}
+use Rattle.frame.specs.Reading.{IsPosition}
+use Rattle.proof_code.specs.declared.item.Item.{Item}
+use Rattle.proof_code.specs.declared.item.Item.TheVariants.{Cite}
+use Rattle.library.specs.Uses.{Cites}
+
+-- the position is marked
+abbrev pub IsMarked : List Bool → ℕ → Type 0
+IsMarked marks zero = ⊥
+IsMarked marks (suc k) = slice_index_or marks k false ≡ true
+
+-- the marks, with that of the position
+abbrev pub mark : Option ℕ → List Bool → List Bool
+mark None marks = marks
+mark (Some zero) marks = marks
+mark (Some (suc k)) marks = slice_set marks k true
+
+-- the position that the item of a number cites, where these are the positions of its labels
+abbrev pub place_of : List (Option ℕ) → ℕ → Option ℕ
+place_of places zero = None
+place_of places (suc n) = slice_index_or places n None
+
+-- the marks, with those of the items of these numbers
+abbrev pub mark_items : List (Option ℕ) → List ℕ → List Bool → List Bool
+mark_items places [] marks = marks
+mark_items places (number ∷ numbers) marks = mark_items places numbers (mark (place_of places number) marks)
+
+-- the position of what each label names
+pub record ArePlaces (S : Database) (labels : List Name) (places : List (Option ℕ)) : Type 0 where
+  pub count : length places ≡ length labels
+  pub each : (k : ℕ) → k < length labels → IsPosition S (slice_index_or labels k []) (slice_index_or places k None)
+
+-- an item cites the statement at a
+pub record ItemsCite (S : Database) (items : List Item) (a : ℕ) : Type 0 where
+  pub place : ℕ
+  pub label : Name
+  pub cited : Stmt
+  pub cites : slice_get items place ≡ Some (Cite label)
+  pub carries : Carries S a cited label
+
+-- what the items cite, as far as there is a place for it, is marked beside what was
+pub record MarksItems (S : Database) (items : List Item) (old new : List Bool) : Type 0 where
+  pub count : length new ≡ length old
+  pub kept : (a : ℕ) → IsMarked old a → IsMarked new a
+  pub sound : (a : ℕ) → IsMarked new a → IsMarked old a ⊎ ItemsCite S items a
+  pub whole : (a : ℕ) → a ≤ length old → ItemsCite S items a → IsMarked new a
+
+-- the same of the proof of the statement at a position
+pub record MarksCited (S : Database) (at : ℕ) (old new : List Bool) : Type 0 where
+  pub count : length new ≡ length old
+  pub kept : (a : ℕ) → IsMarked old a → IsMarked new a
+  pub sound : (a : ℕ) → IsMarked new a → IsMarked old a ⊎ Cites S at a
+  pub whole : (a : ℕ) → a ≤ length old → Cites S at a → IsMarked new a
+
+-- one citation after another leads from the one position to the other
+pub data Reaches (S : Database) : ℕ → ℕ → Type 0 where
+  starts : {j : ℕ} → Reaches S j j
+  leads : {j b a : ℕ} → Reaches S j b → Cites S b a → Reaches S j a
+
+-- just what citations lead to is marked
+abbrev pub AreReached : Database → ℕ → List Bool → Type 0
+AreReached S j marks = (a : ℕ) → IsMarked marks a ↔ Reaches S j a
+
+-- the label of a `$a`
+abbrev pub axiom_label : Stmt → List Name
+axiom_label (Axiom label expr) = label ∷ []
+axiom_label s = []
+
+-- the labels of the `$a` that are marked
+abbrev pub axioms_in : Database → List Bool → List Name
+axioms_in [] marks = []
+axioms_in (s ∷ S) [] = []
+axioms_in (s ∷ S) (true ∷ marks) = axiom_label s ++ axioms_in S marks
+axioms_in (s ∷ S) (false ∷ marks) = axioms_in S marks

@@ -1,0 +1,63 @@
+-- What the proof of a `$p` rests on: the `$a` that it cites, and those that the `$p` it cites rest on.
+-- Source: Metamath, 4.2.6 and appendix B: a proof cites by labels; a label that is listed and not cited does not count.
+-- The code walks the positions once, from the `$p` down; here one citation leads to the next.
+use Rattle.std.specs.Prelude.{◌≡◌, ◌↔◌, ℕ, ◌<◌, Bool, true, false, IsTrue, IsFalse, List, [], ◌∷◌, map, Some, slice_get}
+use Rattle.mm_lex.specs.Alphabet.{Name}
+use Rattle.mm_read.specs.declared.stmt.Stmt.{Stmt}
+use Rattle.mm_read.specs.declared.stmt.Stmt.TheVariants.{Axiom}
+use Rattle.mm_read.specs.Statements.{Database}
+use Rattle.scope.specs.Active.{bares, stmt_at, proof_of, is_provable}
+use Rattle.frame.specs.Citations.{Carries}
+use Rattle.proof_code.specs.declared.item.Item.{Item}
+use Rattle.proof_code.specs.declared.item.Item.TheVariants.{Cite}
+use Rattle.proof_code.specs.Writes.{Writes}
+use Rattle.verify.specs.Right.{IsProvable, Derives}
+use Rattle.verify.specs.Derivations.{Derivation}
+use Rattle.library.specs.Good.{label_or_none, mandatory_labels}
+
+-- the tokens of the `$p` at j write these items
+pub record HasItems (S : Database) (j : ℕ) (items : List Item) : Type 0 where
+  pub stmt : Stmt
+  pub provable : IsProvable S j stmt
+  pub written : Writes (proof_of stmt) (mandatory_labels (bares S) j stmt) items
+
+-- an item of the `$p` at j cites the statement at a
+pub record Cites (S : Database) (j a : ℕ) : Type 0 where
+  pub items : List Item
+  pub has : HasItems S j items
+  pub place : ℕ
+  pub label : Name
+  pub cited : Stmt
+  pub cites : slice_get items place ≡ Some (Cite label)
+  pub carries : Carries S a cited label
+
+abbrev pub is_axiom : Stmt → Bool
+is_axiom (Axiom label expr) = true
+is_axiom s = false
+
+-- a `$a` stands there
+pub record IsAxiomAt (S : Database) (a : ℕ) : Type 0 where
+  pub stmt : Stmt
+  pub stands : stmt_at S a ≡ Some stmt
+  pub kind : IsTrue (is_axiom stmt)
+
+-- the `$p` at j uses the `$a` at a: it cites it, or cites a `$p` that uses it
+pub data Uses (S : Database) : ℕ → ℕ → Type 0 where
+  directly : {j a : ℕ} → Cites S j a → IsAxiomAt S a → Uses S j a
+  through : {j b a : ℕ} → Cites S j b → Uses S b a → Uses S j a
+
+-- each number is above those before it, the first of them above this one
+abbrev pub Rises : ℕ → List ℕ → Type 0
+Rises above [] = Unit {0}
+Rises above (n ∷ ns) = (above < n) × Rises n ns
+
+-- the number is in the list
+abbrev pub IsIn : ℕ → List ℕ → Type 0
+IsIn n ns = (k : ℕ) × (slice_get ns k ≡ Some n)
+
+-- the labels are those of the `$a` that the `$p` at j uses, each once, in order
+pub record AreUsed (S : Database) (j : ℕ) (labels : List Name) : Type 0 where
+  pub positions : List ℕ
+  pub rising : Rises 0 positions
+  pub used : (a : ℕ) → IsIn a positions ↔ Uses S j a
+  pub labelled : labels ≡ map (λ a. label_or_none (stmt_at S a)) positions

@@ -1,0 +1,178 @@
+//! Questions on the `$p` of a label: what its proof rests on, and the derivation that it spells.
+ghost use Rattle.std.specs.Prelude.{◌≡◌, ◌≢◌, ◌≤◌, ◌↔◌, ◌⊎◌, length, Some, Ok, Err, IfOk, IfErr, MatchResult};
+ghost use Rattle.mm_read.specs.declared.stmt.Stmt.{Stmt as Statement};
+ghost use Rattle.scope.specs.Active.{bares, is_provable, stmt_at};
+ghost use Rattle.proof_code.specs.declared.item.Item.{Item};
+ghost use Rattle.verify.specs.Derivations.{Derivation, derivation_of};
+ghost use Rattle.verify.specs.Right.{IsProvable, Derives, IsSmall};
+ghost use Rattle.library.specs.Good.{Good};
+ghost use Rattle.library.specs.Uses.{AreUsed, HasItems};
+ghost use Rattle.library.specs.Asked.{HasNoLabel, NamesProof, NamesNoProof, IsTrace, IsTreeOf, IsNoProof, SpellsTree, SpellsLargeTree};
+
+use crate::library::Library;
+use crate::proving::items_of;
+use crate::uses::axioms_used;
+use frame::Frames;
+use mm_lex::Word;
+use mm_read::Stmt;
+use proof_code::Items;
+use std::alloc::{AllocError, Global};
+use verify::{Tree, TreeFault, derivation};
+
+/// Why a question on a label has no answer.
+#[derive(Clone, Copy, Debug, Drop, PartialEq, Eq)]
+pub enum AskFault {
+    /// No statement has the label.
+    NoLabel,
+    /// The statement that has it is no `$p`.
+    NotProvable,
+    /// The derivation has more nodes or lies deeper than the limits allow.
+    TooLarge,
+    /// A growth was refused.
+    Memory,
+}
+
+impl From<AllocError> for AskFault {
+    ghost use Rattle.library.specs.declared.asked.AskFault.TheVariants.{Memory};
+
+    ghost from_gives = { λ _ fault. fault ≡ Memory };
+
+    fn from(_error: AllocError) -> AskFault {
+        AskFault::Memory
+    }
+}
+
+impl Library {
+    /// The labels of the `$a` that the proof of the label cites, or that the proofs of the `$p` it cites use, each once,
+    /// in the order of the library.
+    ///
+    /// Errors: `NoLabel` where no statement has the label, `NotProvable` where it is no `$p`, both also where every
+    /// growth is refused; `Memory` in place of an answer alone. Cost: that of the proofs that it rests on, each read
+    /// once, and a byte for each statement before it. Source: Metamath, 4.2.6 and appendix B.
+    pub fn trace(&self, alloc: Global, label: &[u8]) -> Result<Vec<Word>, AskFault>
+        ensures labels { IfOk result (λ labels. IsTrace self.now.replica.statements label.now labels.items) }
+        ensures no_label { (result ≡ Err AskFault.NoLabel) ↔ HasNoLabel self.now.replica.statements label.now }
+        ensures not_provable { (result ≡ Err AskFault.NotProvable) ↔ NamesNoProof self.now.replica.statements label.now }
+        ensures small { result ≢ Err AskFault.TooLarge }
+    {
+        self.base().trace(alloc, label)
+    }
+
+    /// The derivation that the proof of the label spells.
+    ///
+    /// Errors: `NoLabel` and `NotProvable` as for `trace`; `TooLarge` where the derivation has more than 65,536 nodes or a
+    /// depth above 1,024; `Memory` in place of an answer or of `TooLarge`. Cost: a check of the proof, and the tree.
+    /// Source: Metamath, 4.2.6 and appendix B.
+    pub fn tree(&self, alloc: Global, label: &[u8]) -> Result<Tree, AskFault>
+        ensures tree { IfOk result (λ tree. IsTreeOf self.now.replica.statements label.now (derivation_of tree)) }
+        ensures small { IfOk result (λ tree. IsSmall (derivation_of tree)) }
+        ensures no_label { (result ≡ Err AskFault.NoLabel) ↔ HasNoLabel self.now.replica.statements label.now }
+        ensures not_provable { (result ≡ Err AskFault.NotProvable) ↔ NamesNoProof self.now.replica.statements label.now }
+        ensures large { (t : Derivation) → IsTreeOf self.now.replica.statements label.now t → ¬ IsSmall t
+            → (result ≡ Err AskFault.TooLarge) ⊎ (result ≡ Err AskFault.Memory) }
+        ensures only_large { result ≡ Err AskFault.TooLarge → (t : Derivation) × IsTreeOf self.now.replica.statements label.now t × (¬ IsSmall t) }
+    {
+        self.base().tree(alloc, label)
+    }
+}
+
+/// The position of the `$p` of the label.
+pub(crate) fn proof_at(
+    frames: &Frames,
+    statements: &[Stmt],
+    label: &[u8],
+) -> Result<usize, AskFault>
+    requires same { frames.now.statements ≡ bares statements.now }
+    ensures { MatchResult result (NamesProof statements.now label.now) (IsNoProof statements.now label.now) }
+{
+    let Some(at) = frames.position(label) else {
+        return Err(AskFault::NoLabel);
+    };
+    if is_proof_at(statements, at) {
+        Ok(at)
+    } else {
+        Err(AskFault::NotProvable)
+    }
+}
+
+/// Whether a `$p` stands at the position.
+fn is_proof_at(statements: &[Stmt], at: usize) -> bool
+    requires { (1 ≤ at) × (at ≤ length statements.now) }
+    ensures { (s : Statement) → stmt_at statements.now at ≡ Some s → result ≡ is_provable s }
+{
+    matches!(&statements[at - 1], Stmt::Prove { .. })
+}
+
+/// The labels of the `$a` that the `$p` at a position uses.
+pub(crate) fn trace_at(
+    alloc: Global,
+    frames: &Frames,
+    statements: &[Stmt],
+    at: usize,
+) -> Result<Vec<Word>, AskFault>
+    requires same { frames.now.statements ≡ bares statements.now }
+    requires good { Good statements.now }
+    requires provable { (s : Statement) × IsProvable statements.now at s }
+    ensures { MatchResult result (λ labels. AreUsed statements.now at labels.items) (λ fault. fault ≡ AskFault.Memory) }
+{
+    Ok(axioms_used(alloc, frames, statements, at)?)
+}
+
+/// The derivation that the `$p` at a position spells.
+pub(crate) fn tree_at(
+    alloc: Global,
+    frames: &Frames,
+    statements: &[Stmt],
+    at: usize,
+) -> Result<Tree, AskFault>
+    requires same { frames.now.statements ≡ bares statements.now }
+    requires good { Good statements.now }
+    requires provable { (s : Statement) × IsProvable statements.now at s }
+    ensures tree { IfOk result (λ tree. SpellsTree statements.now at (derivation_of tree)) }
+    ensures small { IfOk result (λ tree. IsSmall (derivation_of tree)) }
+    ensures fault { IfErr result (λ fault. (fault ≡ AskFault.TooLarge) ⊎ (fault ≡ AskFault.Memory)) }
+    ensures large { SpellsLargeTree statements.now at → (result ≡ Err AskFault.TooLarge) ⊎ (result ≡ Err AskFault.Memory) }
+    ensures only_large { result ≡ Err AskFault.TooLarge → SpellsLargeTree statements.now at }
+{
+    match proof_items(alloc, frames, statements, at) {
+        Ok(items) => ask_tree(derivation(alloc, frames, at, &items)),
+        Err(AllocError) => Err(AskFault::Memory),
+    }
+}
+
+/// The items of the `$p` at a position.
+fn proof_items(
+    alloc: Global,
+    frames: &Frames,
+    statements: &[Stmt],
+    at: usize,
+) -> Result<Items, AllocError>
+    requires same { frames.now.statements ≡ bares statements.now }
+    requires good { Good statements.now }
+    requires provable { (s : Statement) × IsProvable statements.now at s }
+    ensures { IfOk result (λ items. HasItems statements.now at items) }
+{
+    let Stmt::Prove { proof, .. } = &statements[at - 1] else {
+        unreachable!();
+    };
+    match items_of(alloc, frames, statements, at, proof)? {
+        Some(items) => Ok(items),
+        None => unreachable!(),
+    }
+}
+
+/// What is answered of a derivation whose proof is right.
+fn ask_tree(tree: Result<Tree, TreeFault>) -> Result<Tree, AskFault>
+    requires { tree ≢ Err TreeFault.Wrong }
+    ensures ok { IfOk result (λ found. tree ≡ Ok found) }
+    ensures fault { IfErr result (λ fault. (fault ≡ AskFault.TooLarge) ⊎ (fault ≡ AskFault.Memory)) }
+    ensures large { (result ≡ Err AskFault.TooLarge) ↔ (tree ≡ Err TreeFault.TooLarge) }
+    ensures memory { (result ≡ Err AskFault.Memory) ↔ (tree ≡ Err TreeFault.Memory) }
+{
+    match tree {
+        Ok(tree) => Ok(tree),
+        Err(TreeFault::TooLarge) => Err(AskFault::TooLarge),
+        Err(TreeFault::Memory) => Err(AskFault::Memory),
+        Err(TreeFault::Wrong) => unreachable!(),
+    }
+}
