@@ -1,9 +1,10 @@
 //! The verdicts on worked texts and charters; what stays after a refused one; refused growths.
 
-use crate::{Cause, Entry, Library, Names, Submission, Verdict};
+use crate::{AskFault, Cause, Entry, Library, Names, Submission, Verdict};
 use bytes::Bytes;
 use scope::Rule;
 use std::alloc::{AllocError, Global};
+use verify::Tree;
 
 /// A frame's worth of variables, and an axiom that keeps two of them apart.
 const PAIRS: &[u8] =
@@ -20,6 +21,10 @@ const BOOK: &[u8] =
 const WEIGHTS: &[u8] =
     b"$c wff |- o $. $v x $. wx $f wff x $. wo $a wff o $. wi $a wff x $. wd $a wff x x $. \
     ${ h $e wff x $. r $a |- o $. $} ";
+
+/// An assertion over two others, up to the letters of a proof.
+const DOUBLING: &[u8] =
+    b"$c wff $. $v x y $. wx $f wff x $. wy $f wff y $. we $a wff $. wb $a wff x y $. th $p wff $= ( we wb ) ";
 
 /// The verdict of a new library on the two parts of a text; nothing where there is no memory.
 fn first_verdict(alloc: Global, front: &[u8], rest: &[u8]) -> Option<Verdict> {
@@ -54,6 +59,49 @@ fn applied(library: &mut Library, author: u64, serial: u64, text: Bytes) -> Opti
         text,
     });
     library.apply(Some(&entry)).ok()
+}
+
+/// A library of the two parts of a text; nothing where it is refused or there is no memory.
+fn library_of(alloc: Global, front: &[u8], rest: &[u8]) -> Option<Library> {
+    let mut library = Library::new(alloc);
+    let mut text = Vec::new(alloc);
+    text.extend_from_slice(front).ok()?;
+    text.extend_from_slice(rest).ok()?;
+    match verdict_of(alloc, &mut library, 1, 1, &text)? {
+        Verdict::Added => Some(library),
+        _ => None,
+    }
+}
+
+/// Whether the trace of the label is these labels, each with a space behind it.
+fn has_trace(alloc: Global, library: &Library, label: &[u8], want: &[u8]) -> Option<bool> {
+    let labels = library.trace(alloc, label).ok()?;
+    let mut text = Vec::new(alloc);
+    for label in &labels {
+        text.extend_from_slice(label.as_bytes()).ok()?;
+        text.push(b' ').ok()?;
+    }
+    Some(text.as_slice() == want)
+}
+
+/// How many nodes the tree of the label has.
+fn nodes_of(alloc: Global, library: &Library, label: &[u8]) -> Result<usize, AskFault> {
+    let tree = library.tree(alloc, label)?;
+    Ok(count(&tree))
+}
+
+/// How many nodes a tree has.
+fn count(tree: &Tree) -> usize {
+    match tree {
+        Tree::Hyp(_) => 1,
+        Tree::Apply(_, kids) => {
+            let mut nodes = 1usize;
+            for kid in kids {
+                nodes = nodes.saturating_add(count(kid));
+            }
+            nodes
+        }
+    }
 }
 
 /// The verdict on a charter; nothing where the names are none or there is no memory.
@@ -335,5 +383,48 @@ fn decides_after_a_refused_growth(rt: HostRuntime) {
         }
         assert_eq!(rt; verdict, Some(want));
         assert_eq!(rt; library.statements().len(), after);
+    }
+}
+
+#[test]
+fn traces_the_book(rt: HostRuntime) {
+    let alloc = rt.alloc();
+    let proof =
+        b"th1 $p |- t = t $= ( tze tpl weq a2 wim a1 mp ) ABCZADZAADZAEZJJKFLIAAGHH $. th2 $p |- t = t $= ( mp th1 ) AC $.";
+    if let Some(library) = library_of(alloc, BOOK, proof) {
+        for label in [b"th1", b"th2"] {
+            let traced = has_trace(alloc, &library, label, b"tze tpl weq wim a1 a2 mp ");
+            assert_eq!(rt; traced, Some(true));
+        }
+        assert_eq!(rt; nodes_of(alloc, &library, b"th1"), Ok(34));
+        assert_eq!(rt;
+            nodes_of(alloc, &library, b"mp"),
+            Err(AskFault::NotProvable)
+        );
+        assert_eq!(rt; nodes_of(alloc, &library, b"mq"), Err(AskFault::NoLabel));
+    } else {
+        assert!(rt; false, "the text is refused");
+    }
+}
+
+#[test]
+fn measures_trees(rt: HostRuntime) {
+    let alloc = rt.alloc();
+    for (letters, want) in [
+        (
+            b"AZCBZDBZEBZFBZGBZHBZIBZJBZKBZLBZMBZNBZOBZPBZQB $.".as_slice(),
+            Ok(65_535),
+        ),
+        (
+            b"AZCBZDBZEBZFBZGBZHBZIBZJBZKBZLBZMBZNBZOBZPBZQBZRB $.".as_slice(),
+            Err(AskFault::TooLarge),
+        ),
+    ] {
+        if let Some(library) = library_of(alloc, DOUBLING, letters) {
+            assert_eq!(rt; has_trace(alloc, &library, b"th", b"we wb "), Some(true));
+            assert_eq!(rt; nodes_of(alloc, &library, b"th"), want);
+        } else {
+            assert!(rt; false, "the text is refused");
+        }
     }
 }
