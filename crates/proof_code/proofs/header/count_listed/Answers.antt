@@ -22,5 +22,5 @@ pub loop-word-preserved : goal.loop-word-preserved
 loop-word-preserved c = (
   c.loop-word.invariant.0 + (length c.in-Some.word.now + 1),
   listed_more _ _ _ _ _ c.loop-word.invariant.1 c.in-Some.word.now c.next.new.self c.in-Some.ensures.steps
-  (sym c.if-is_finish.ensures) (is_allowed (is_label c.in-Some.word.now) (sym c.if-not-is_label.ensures)),
+      (sym c.if-is_finish.ensures) (is_allowed (is_label c.in-Some.word.now) (sym c.if-not-is_label.ensures)),
 )
