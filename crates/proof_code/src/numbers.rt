@@ -35,18 +35,17 @@ impl Word {
             return self.mark(byte, numbers, count);
         }
         let letter = usize::from(byte - 64);
+        let step = letter.saturating_sub(20);
         let five = 5 * self.digits;
         let ends = letter <= 20;
-        let number = if ends {
-            4 * five + letter
-        } else {
-            five + letter - 20
-        };
+        let more = five + step;
+        let last = 4 * five + letter;
+        let number = if ends { last } else { more };
         if number > self.limit {
             return None;
         }
         numbers[count] = number as u32;
-        self.digits = if ends { 0 } else { number };
+        self.digits = if ends { 0 } else { more };
         Some(count + usize::from(ends))
     }
 
