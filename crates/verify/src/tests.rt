@@ -3,7 +3,7 @@ ghost use Rattle.std.specs.Prelude.{◌≡◌, ◌∷◌, ◌++◌, [], IsTrue};
 ghost use Rattle.mm_read.specs.Statements.{Database, IsShaped};
 ghost use Rattle.scope.specs.Active.{bare};
 
-use crate::{Answer, Tree, TreeFault, check, derivation};
+use crate::{Answer, Checker, Tree, TreeFault, check, derivation};
 use frame::Frames;
 use mm_read::{Stmt, read};
 use proof_code::{Items, normal};
@@ -24,6 +24,9 @@ const WEIGHTS: &[u8] =
 
 const DOUBLING: &[u8] =
     b"$c wff $. $v x y $. wx $f wff x $. wy $f wff y $. we $a wff $. wb $a wff x y $. th $p wff $= we $.";
+
+const TOKENS: &[u8] =
+    b"$c wff $. $v x y $. wx $f wff x $. wy $f wff y $. we $a wff $. wb $a wff x y $. ";
 
 const CHAIN: &[u8] =
     b"$c wff $. $v x $. wx $f wff x $. we $a wff $. wn $a wff x $. th $p wff $= we $.";
@@ -201,6 +204,70 @@ fn answers_after_a_refused_growth(rt: HostRuntime) {
             outcome = last_outcome(rt.alloc(), BOOK, proof);
         }
         assert_eq!(rt; outcome, Some(Outcome::Right(34)));
+    }
+}
+
+/// Tokens are judged as the items that they write are, with the mandatory hypotheses before the listed labels.
+#[test]
+fn judges_tokens(rt: HostRuntime) {
+    for (proof, want) in [
+        (b"we".as_slice(), Answer::Proved),
+        (b"we we".as_slice(), Answer::Wrong),
+        (b"we ?".as_slice(), Answer::Wrong),
+        (b"( we ) A".as_slice(), Answer::Proved),
+        (b"( we ) A ?".as_slice(), Answer::Wrong),
+        (b"( we wb ) AZC B".as_slice(), Answer::Proved),
+        (b"( we wb ) AZD B".as_slice(), Answer::Wrong),
+        (b"( we th ) AB".as_slice(), Answer::Wrong),
+    ] {
+        assert_eq!(rt; token_answer(rt.alloc(), b"", proof), Some(want));
+    }
+    for (proof, want) in [
+        (b"( wb ) A A B".as_slice(), Answer::Proved),
+        (b"( wb wy ) A C B".as_slice(), Answer::Wrong),
+        (b"( wx wb ) A B C".as_slice(), Answer::Wrong),
+    ] {
+        assert_eq!(rt; token_answer(rt.alloc(), b"x x", proof), Some(want));
+    }
+}
+
+/// What is answered of the theorem that these symbols are a `wff`, by the tokens of its proof; nothing where there is
+/// no memory.
+fn token_answer(alloc: Global, symbols: &[u8], proof: &[u8]) -> Option<Answer> {
+    let mut text = Vec::new(alloc);
+    for part in [TOKENS, b"th $p wff ", symbols, b" $= ", proof, b" $."] {
+        text.extend_from_slice(part).ok()?;
+    }
+    last_answer(alloc, &text)
+}
+
+/// What is answered of the last `$p` by its tokens; nothing where there is no memory.
+fn last_answer(alloc: Global, text: &[u8]) -> Option<Answer> {
+    let mut scope = Scope::new(alloc);
+    let mut frames = Frames::new(alloc);
+    let mut answer = None;
+    match read(alloc, text) {
+        Ok(statements) => {
+            for stmt in statements.iter() {
+                if !push(&mut scope, &mut frames, stmt) {
+                    return None;
+                }
+                answer = prove_last(alloc, &frames, stmt);
+            }
+            answer
+        }
+        Err(_) => None,
+    }
+}
+
+/// What is answered of the statement that was pushed last, by its tokens.
+fn prove_last(alloc: Global, frames: &Frames, stmt: &Stmt) -> Option<Answer>
+    requires { (S : Database) × (frames.now.statements ≡ S ++ bare stmt.now ∷ []) }
+{
+    if let Stmt::Prove { proof, .. } = stmt {
+        Checker::new(alloc).prove(frames, frames.len(), proof).ok()
+    } else {
+        None
     }
 }
 
