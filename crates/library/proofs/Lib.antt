@@ -1,3 +1,4 @@
+pub mod JobsLemmas
 pub mod AskedLemmas
 pub mod TraceLemmas
 pub mod WalkLemmas

@@ -59,7 +59,7 @@ same-statement : (S : Database) (at : ℕ) (s r : Stmt) → IsProvable S at s �
 same-statement S at s r p q = let e : Some s ≡ Some r = sym p.stands ∙ q.stands in cc
 
 module _ (S F : Database) (at : ℕ) (s : Stmt) (same : F ≡ bares S) (provable : IsProvable S at s) where
-  stands-right : (items : List Item) → Writes (proof_of s) (mandatory_labels (bares S) at s) items → IsRight F at items → StandsProved S at
+  pub stands-right : (items : List Item) → Writes (proof_of s) (mandatory_labels (bares S) at s) items → IsRight F at items → StandsProved S at
   stands-right items written right r p =
       record { stmt = s; items = items; provable = provable; written = written; right = subst (λ U. IsRight U at items) same right }
 

@@ -10,6 +10,7 @@ ghost use Rattle.library.specs.Judging.{Begins, IsPlaced, IsUnproved, Extends};
 
 use crate::asked::{AskFault, proof_at, trace_at, tree_at};
 use crate::entering::enter;
+use crate::pool::least_unproved_by;
 use crate::proving::{first_unproved, is_unfinished};
 use crate::verdict::Cause;
 use frame::Frames;
@@ -18,7 +19,9 @@ use mm_read::Stmt;
 use scope::{Scope, Steps};
 use std::alloc::{AllocError, Global};
 use std::marker::Model;
+use std::thread::Threads;
 use verify::Tree;
+use verify_pool::Gate;
 
 /// Good statements as they were read, with the scope and the frames behind them. Contracts see the list of statements.
 #[derive(Drop)]
@@ -124,6 +127,43 @@ impl Base {
             found,
         )
     }
+
+    /// Adds the statements as `extend` does, their proofs checked by some workers.
+    pub(crate) fn extend_with<G: Gate + Sync, R: Threads + Sync>(
+        &mut self,
+        rt: &R,
+        mut more: Vec<Stmt>,
+        steps: &mut Steps,
+        workers: usize,
+        gate: &G,
+    ) -> Result<Option<Cause>, AllocError>
+        requires shaped { AreShaped more.items }
+        requires workers { (1 ≤ workers) × (workers ≤ 16) }
+        ensures judged { IfOk result (λ found. Extends self.old more.items found self.new) }
+        ensures same { OnErr result (self.new ≡ self.old) }
+        ensures counted { steps.new.count ≤ steps.old.count + 3 * length more.items }
+    {
+        let front = self.statements.len();
+        Vec::append(&mut self.statements, &mut more)?;
+        let found = judge_with(
+            rt,
+            self.alloc,
+            &mut self.scope,
+            &mut self.frames,
+            &self.statements,
+            front,
+            steps,
+            workers,
+            gate,
+        );
+        settle(
+            &mut self.statements,
+            &mut self.scope,
+            &mut self.frames,
+            front,
+            found,
+        )
+    }
 }
 
 /// Why the statements behind the first `front` may not stand there; none where they may.
@@ -151,6 +191,38 @@ fn judge(
         Some((statement, rule)) => return Ok(Some(Cause::Rule { statement, rule })),
     }
     match first_unproved(alloc, frames, statements, front)? {
+        None => Ok(None),
+        Some(at) => Ok(Some(unproved(&statements[at - 1], at - front))),
+    }
+}
+
+/// The same as `judge`, the proofs checked by some workers.
+fn judge_with<G: Gate + Sync, R: Threads + Sync>(
+    rt: &R,
+    alloc: Global,
+    scope: &mut Scope,
+    frames: &mut Frames,
+    statements: &[Stmt],
+    front: usize,
+    steps: &mut Steps,
+    workers: usize,
+    gate: &G,
+) -> Result<Option<Cause>, AllocError>
+    requires within { front ≤ length statements.now }
+    requires shaped { AreShaped (drop front statements.now) }
+    requires scope { scope.old.statements ≡ bares (take front statements.now) }
+    requires workers { (1 ≤ workers) × (workers ≤ 16) }
+    requires frames { frames.old.statements ≡ bares (take front statements.now) }
+    ensures placed { IfOk result (IsPlaced (take front statements.now) (drop front statements.now) scope.new frames.new) }
+    ensures begins { Begins frames.old.statements frames.new.statements }
+    ensures marked { scope.new.marked ≡ scope.old.marked }
+    ensures counted { steps.new.count ≤ steps.old.count + 2 * length (drop front statements.now) }
+{
+    match enter(scope, frames, &statements[front..], steps)? {
+        None => {}
+        Some((statement, rule)) => return Ok(Some(Cause::Rule { statement, rule })),
+    }
+    match least_unproved_by(rt, alloc, frames, statements, front, workers, gate)? {
         None => Ok(None),
         Some(at) => Ok(Some(unproved(&statements[at - 1], at - front))),
     }

@@ -4,7 +4,7 @@
 //! memory decides nothing.
 //!
 //! Reading order: `submission`, `charter`, `entry` (what a log holds), `verdict`; `library`; `reading` (a text and its charter),
-//! `base` (all or nothing), `entering` (the rules), `proving` (the proofs), `verdicts`; `asked` (traces and trees), `uses`; `laws`.
+//! `base` (all or nothing), `entering` (the rules), `proving` (the proofs), `pool` (the same by workers), `verdicts`; `asked` (traces and trees), `uses`; `laws`.
 #![tactic(auto)]
 
 mod asked;
@@ -15,6 +15,7 @@ mod entry;
 mod laws;
 mod library;
 mod listed;
+mod pool;
 mod proving;
 mod reading;
 mod submission;

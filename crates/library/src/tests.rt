@@ -1,10 +1,14 @@
 //! The verdicts on worked texts and charters; what stays after a refused one; refused growths.
 
+ghost use Rattle.std.specs.Prelude.{◌≤◌};
+
 use crate::{AskFault, Cause, Entry, Library, Names, Submission, Verdict};
 use bytes::Bytes;
 use scope::Rule;
 use std::alloc::{AllocError, Global};
+use std::thread::Threads;
 use verify::Tree;
+use verify_pool::OpenGate;
 
 /// A frame's worth of variables, and an axiom that keeps two of them apart.
 const PAIRS: &[u8] =
@@ -59,6 +63,33 @@ fn applied(library: &mut Library, author: u64, serial: u64, text: Bytes) -> Opti
         text,
     });
     library.apply(Some(&entry)).ok()
+}
+
+/// The same by some workers, asked once more where a growth is refused.
+fn worked_verdict<R: Threads + Sync>(
+    rt: &R,
+    alloc: Global,
+    workers: usize,
+    front: &[u8],
+    rest: &[u8],
+) -> Option<Verdict>
+    requires { (1 ≤ workers) × (workers ≤ 16) }
+{
+    let mut text = Vec::new(alloc);
+    text.extend_from_slice(front).ok()?;
+    text.extend_from_slice(rest).ok()?;
+    let entry = Entry::Text(Submission {
+        author: 1,
+        serial: 1,
+        text: Bytes::copy_from_slice(alloc, &text).ok()?,
+    });
+    let mut library = Library::new(alloc);
+    match library.apply_with(rt, Some(&entry), workers, &OpenGate) {
+        Ok(verdict) => Some(verdict),
+        Err(_) => library
+            .apply_with(rt, Some(&entry), workers, &OpenGate)
+            .ok(),
+    }
 }
 
 /// A library of the two parts of a text; nothing where it is refused or there is no memory.
@@ -425,6 +456,39 @@ fn measures_trees(rt: HostRuntime) {
             assert_eq!(rt; nodes_of(alloc, &library, b"th"), want);
         } else {
             assert!(rt; false, "the text is refused");
+        }
+    }
+}
+
+#[test]
+fn judges_alike_by_workers(rt: HostRuntime) {
+    for (front, rest, want) in [
+        (
+            b"$c |- o $. o1 $a |- o $. p $p |- o $= o1 o1 $. ".as_slice(),
+            b"q $p |- o $= q $.".as_slice(),
+            wrong(3),
+        ),
+        (
+            b"$c |- o $. o1 $a |- o $. p $p |- o $= o1 $. ".as_slice(),
+            b"q $p |- o $= ? $. r $p |- o $= r $.".as_slice(),
+            Verdict::Refused(Cause::Unfinished { statement: 4 }),
+        ),
+        (
+            BOOK,
+            b"th1 $p |- t = t $= ( tze tpl weq a2 wim a1 mp ) ABCZADZAADZAEZJJKFLIAAGHH $.".as_slice(),
+            Verdict::Added,
+        ),
+        (
+            PAIRS,
+            b"th $p |- x R z $= wx wz ax $.".as_slice(),
+            wrong(10),
+        ),
+    ] {
+        for workers in [1usize, 2, 3, 16] {
+            assert_eq!(rt;
+                worked_verdict(&rt, rt.alloc(), workers, front, rest),
+                Some(want)
+            );
         }
     }
 }
