@@ -1,5 +1,5 @@
 -- The `$p` of a label, and what is answered of it.
-use Rattle.std.specs.Prelude.{◌≡◌, ◌⊎◌, ℕ, Bool, true, false, List, Option, Some, None, Result, Ok, Err, IfErr, MatchResult, refl}
+use Rattle.std.specs.Prelude.{◌≡◌, ◌⊎◌, ℕ, true, false, List, Some, Result, Ok, Err, IfErr, MatchResult, refl}
 use Rattle.std.proofs.Common.{sym, ◌∙◌, ap, subst, inl, inr}
 use Rattle.mm_lex.specs.Alphabet.{Name}
 use Rattle.mm_read.specs.declared.stmt.Stmt.{Stmt}
@@ -9,12 +9,12 @@ use Rattle.frame.specs.Citations.{Carries}
 use Rattle.frame.specs.Reading.{HasLabelsOnce}
 use Rattle.proof_code.specs.declared.item.Item.{Item}
 use Rattle.verify.specs.Derivations.{Derivation}
-use Rattle.verify.specs.Right.{IsRight, Derives, IsSmall}
+use Rattle.verify.specs.Right.{IsRight, Derives}
 use Rattle.library.specs.declared.asked.AskFault.{AskFault}
 use Rattle.library.specs.declared.asked.AskFault.TheVariants.{NoLabel, NotProvable, TooLarge, Memory}
 use Rattle.library.specs.Good.{Good}
 use Rattle.library.specs.Uses.{HasItems}
-use Rattle.library.specs.Asked.{HasNoLabel, NamesNoProof, NamesProof, IsNoProof, SpellsTree, SpellsLargeTree, IsTreeOf}
+use Rattle.library.specs.Asked.{HasNoLabel, NamesNoProof, NamesProof, IsNoProof, SpellsTree, IsTreeOf}
 use Rattle.library.proofs.WalkLemmas.{carries-bare, carries-whole, one-items}
 
 module _ (S F : Database) (same : F ≡ bares S) where

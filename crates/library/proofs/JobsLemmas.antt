@@ -1,20 +1,17 @@
 -- The jobs of a text: what their least bad one says of its `$p`.
-use Rattle.std.specs.Prelude.{◌≡◌, ◌⊎◌, ℕ, zero, suc, ◌+◌, ◌-◌, ◌<◌, ◌≤◌, Bool, true, false, nat_lt, List, [], ◌∷◌, ◌++◌, length, get_or, Option, Some, None, MatchOption, slice_get, Result, Ok, Err, OnOk, refl}
+use Rattle.std.specs.Prelude.{◌≡◌, ◌⊎◌, ℕ, zero, suc, ◌+◌, ◌-◌, ◌<◌, ◌≤◌, Bool, true, false, nat_lt, List, [], ◌∷◌, ◌++◌, length, get_or, Option, Some, None, MatchOption, slice_get, refl}
 use Rattle.std.proofs.Common.{sym, ◌∙◌, ap, subst, arith, inl, inr}
 use Rattle.std.proofs.lemmas.Bool.{cases_eq}
-use Rattle.std.proofs.lemmas.Bool.Decides.{nat_tests}
 use Rattle.mm_lex.specs.Alphabet.{Name}
 use Rattle.mm_read.specs.declared.stmt.Stmt.{Stmt}
 use Rattle.mm_read.specs.declared.stmt.Stmt.TheVariants.{Open, Close, Const, Var, Disj, Float, Ess, Axiom, Prove}
 use Rattle.mm_read.specs.Statements.{Database}
 use Rattle.scope.specs.Active.{bare, bares, stmt_at, proof_of, is_provable}
 use Rattle.proof_code.specs.declared.item.Item.{Item}
-use Rattle.proof_code.specs.Writes.{Writes}
 use Rattle.verify.specs.Right.{IsProvable, IsRight}
 use Rattle.verify_pool.specs.declared.job.Job.{Job}
-use Rattle.verify_pool.specs.Jobs.{IsJob, AreJobs, IsRightJob, IsBadAt, LeastBad}
+use Rattle.verify_pool.specs.Jobs.{IsJob, AreJobs, IsRightJob, LeastBad}
 use Rattle.library.specs.Good.{mandatory_labels}
-use Rattle.library.specs.Uses.{HasItems}
 use Rattle.library.specs.Jobs.{IsJobOf, AreJobsBehind}
 use Rattle.library.specs.Judging.{StandsProved, IsLeastUnproved}
 use Rattle.library.proofs.FrontLemmas.{stands-index}

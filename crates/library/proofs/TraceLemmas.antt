@@ -1,6 +1,6 @@
 -- The labels of the `$a` that are marked are those of the `$a` that a proof uses.
-use Rattle.std.specs.Prelude.{◌≡◌, ◌⊎◌, ◌↔◌, ℕ, zero, suc, ◌+◌, ◌-◌, ◌<◌, ◌≤◌, Bool, true, false, cond, IsTrue, List, [], ◌∷◌, ◌++◌, length, map, drop, get_or, Some, slice_get, refl, unwrap_or, Result, Ok, Err, IfOk}
-use Rattle.std.proofs.Common.{sym, ◌∙◌, ap, subst, arith, append_assoc, append-nil, inl, inr}
+use Rattle.std.specs.Prelude.{◌≡◌, ℕ, zero, suc, ◌+◌, ◌<◌, ◌≤◌, Bool, true, false, cond, List, [], ◌∷◌, ◌++◌, length, map, drop, get_or, Some, slice_get, refl, Result, Ok, Err, IfOk}
+use Rattle.std.proofs.Common.{sym, ◌∙◌, ap, subst, arith, append_assoc, append-nil}
 use Rattle.std.proofs.lemmas.List.{drop_more, drop_all}
 use Rattle.mm_lex.specs.Alphabet.{Name}
 use Rattle.mm_read.specs.declared.stmt.Stmt.{Stmt}
@@ -9,9 +9,8 @@ use Rattle.mm_read.specs.Statements.{Database}
 use Rattle.scope.specs.Active.{stmt_at, is_provable}
 use Rattle.verify.specs.Right.{IsProvable}
 use Rattle.library.specs.Good.{label_or_none}
-use Rattle.library.specs.Uses.{Cites, Uses, directly, through, is_axiom, IsAxiomAt, Rises, IsIn, AreUsed}
+use Rattle.library.specs.Uses.{Uses, directly, through, is_axiom, IsAxiomAt, Rises, IsIn, AreUsed}
 use Rattle.library.specs.Marks.{IsMarked, Reaches, starts, leads, AreReached, axiom_label, axioms_in}
-use Rattle.library.proofs.FrontLemmas.{stands-within}
 
 -- ---- one more statement
 

@@ -1,8 +1,8 @@
 -- What a proof cites stands before it, and what citations lead to is what a walk down has marked.
-use Rattle.std.specs.Prelude.{◌≡◌, ◌⊎◌, ◌↔◌, ℕ, zero, suc, ◌+◌, ◌-◌, ◌<◌, ◌≤◌, Bool, true, false, List, [], ◌∷◌, ◌++◌, length, map, get_or, Option, Some, None, option_map, slice_get, slice_set, replicate, take, drop, Result, Ok, Err, OnOk, refl}
+use Rattle.std.specs.Prelude.{◌≡◌, ◌⊎◌, ℕ, zero, suc, ◌-◌, ◌<◌, ◌≤◌, Bool, true, false, List, [], ◌∷◌, ◌++◌, length, get_or, Option, Some, None, option_map, slice_get, slice_set, replicate, take, drop, Result, Ok, Err, OnOk, refl}
 use Rattle.std.proofs.Common.{sym, ◌∙◌, ap, subst, arith, inl, inr, append-nil, take_all}
 use Rattle.std.proofs.lemmas.Bool.{cases_eq}
-use Rattle.std.proofs.lemmas.List.{drop_all, length-set, length-replicate, get_or-replicate, get_or-set_same, get_or-set_other}
+use Rattle.std.proofs.lemmas.List.{drop_all, length-set, length-replicate, get_or-set_same, get_or-set_other}
 use Rattle.mm_lex.specs.Alphabet.{Name}
 use Rattle.mm_read.specs.declared.stmt.Stmt.{Stmt}
 use Rattle.mm_read.specs.Statements.{Database}
@@ -16,10 +16,10 @@ use Rattle.proof_code.proofs.OneList.{one_list}
 use Rattle.verify.specs.Derivations.{Derivation, Derivations}
 use Rattle.verify.specs.Spells.{Spells, SpellsAll, cites_hypothesis, cites_assertion, recalls, marks, spells_none, spells_more}
 use Rattle.verify.specs.Right.{IsProvable, IsRight}
-use Rattle.library.specs.Good.{Good, IsProved, mandatory_labels}
+use Rattle.library.specs.Good.{Good, mandatory_labels}
 use Rattle.library.specs.Uses.{HasItems, Cites}
 use Rattle.library.specs.Marks.{IsMarked, ItemsCite, MarksItems, MarksCited, Reaches, starts, leads, AreReached}
-use Rattle.library.proofs.FrontLemmas.{stands-within, stmt_at-bares, label_of-bare, active-below}
+use Rattle.library.proofs.FrontLemmas.{stmt_at-bares, label_of-bare, active-below}
 use Rattle.library.proofs.MarksLemmas.{marked-within}
 
 -- ---- labels, with proofs and without

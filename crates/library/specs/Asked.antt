@@ -1,7 +1,7 @@
 -- Questions on the `$p` of a label: what its proof rests on, and the derivation that it spells.
 -- Source: this project's profile; Metamath, 4.2.6 and appendix B.
 -- The code finds the label in a table.
-use Rattle.std.specs.Prelude.{◌≡◌, ℕ, IsFalse, List}
+use Rattle.std.specs.Prelude.{ℕ, IsFalse, List}
 use Rattle.mm_lex.specs.Alphabet.{Name}
 use Rattle.mm_read.specs.declared.stmt.Stmt.{Stmt}
 use Rattle.mm_read.specs.Statements.{Database}

@@ -1,18 +1,17 @@
 -- What the proof of a `$p` rests on: the `$a` that it cites, and those that the `$p` it cites rest on.
 -- Source: Metamath, 4.2.6 and appendix B: a proof cites by labels; a label that is listed and not cited does not count.
 -- The code walks the positions once, from the `$p` down; here one citation leads to the next.
-use Rattle.std.specs.Prelude.{◌≡◌, ◌↔◌, ℕ, ◌<◌, Bool, true, false, IsTrue, IsFalse, List, [], ◌∷◌, map, Some, slice_get}
+use Rattle.std.specs.Prelude.{◌≡◌, ◌↔◌, ℕ, ◌<◌, Bool, true, false, IsTrue, List, [], ◌∷◌, map, Some, slice_get}
 use Rattle.mm_lex.specs.Alphabet.{Name}
 use Rattle.mm_read.specs.declared.stmt.Stmt.{Stmt}
 use Rattle.mm_read.specs.declared.stmt.Stmt.TheVariants.{Axiom}
 use Rattle.mm_read.specs.Statements.{Database}
-use Rattle.scope.specs.Active.{bares, stmt_at, proof_of, is_provable}
+use Rattle.scope.specs.Active.{bares, stmt_at, proof_of}
 use Rattle.frame.specs.Citations.{Carries}
 use Rattle.proof_code.specs.declared.item.Item.{Item}
 use Rattle.proof_code.specs.declared.item.Item.TheVariants.{Cite}
 use Rattle.proof_code.specs.Writes.{Writes}
-use Rattle.verify.specs.Right.{IsProvable, Derives}
-use Rattle.verify.specs.Derivations.{Derivation}
+use Rattle.verify.specs.Right.{IsProvable}
 use Rattle.library.specs.Good.{label_or_none, mandatory_labels}
 
 -- the tokens of the `$p` at j write these items

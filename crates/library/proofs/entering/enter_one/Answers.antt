@@ -1,4 +1,4 @@
-use Rattle.std.specs.Prelude.{◌≡◌, Bool, true, false, Option, Some, None, Result, Err, IfSome, refl}
+use Rattle.std.specs.Prelude.{◌≡◌, true, false, Option, Some, None, Result, Err, IfSome, refl}
 use Rattle.std.proofs.Common.{ap, subst}
 use denote.Enum.Bare.{sameb}
 use Rattle.scope.specs.contracts.rule.Rule.{the_type}

@@ -1,4 +1,4 @@
-use Rattle.std.proofs.Common.{sym, ◌∙◌, ap, subst, arith, refl}
+use Rattle.std.proofs.Common.{sym, subst, arith, refl}
 use Rattle.std.proofs.lemmas.Option.{slice_get_read}
 use Rattle.verify_pool.specs.Jobs.{AreJobs, LeastBad}
 use Rattle.library.proofs.JobsLemmas.{jobs-ready, none-bad, one-bad, bad-within}

@@ -1,9 +1,7 @@
-use Rattle.std.proofs.Common.{ap, sym, subst, refl, ◌+◌, ◌++◌, ◌∷◌, []}
-use Rattle.scope.specs.Active.{bares, proof_of, is_provable}
+use Rattle.std.proofs.Common.{ap, sym, subst, refl, ◌+◌}
+use Rattle.scope.specs.Active.{proof_of, is_provable}
 use Rattle.verify.specs.Right.{IsProvable}
-use Rattle.library.specs.Good.{mandatory_labels}
-use Rattle.library.specs.Jobs.{IsJobOf, AreJobsBehind}
-use Rattle.library.proofs.ProvingLemmas.{Found}
+use Rattle.library.specs.Jobs.{AreJobsBehind}
 use Rattle.library.proofs.JobsLemmas.{jobs-pass, jobs-more, pass-other, stands-next, no-prove, job-of}
 use Rattle.library.proofs.pool.push_job.Goals as goal
 
