@@ -30,35 +30,40 @@ fn hypotheses_by_position(rt: HostRuntime) {
     assert!(rt; has_hypotheses(&closed, b"a2", &[9]));
 }
 
-/// The names of the book's example have the numbers 0 (`0`) to 13 (`Q`), its constants those below 9.
 #[test]
 fn assertions_by_places(rt: HostRuntime) {
     let book = frames_of(rt.alloc(), ARITHMETIC);
+    assert!(rt; cited_of(&book, b"mp").is_some_and(is_modus_ponens));
+    let apart = frames_of(rt.alloc(), APART);
+    assert!(rt; cited_of(&apart, b"ax").is_some_and(is_relation));
+}
+
+/// The names of the book's example have the numbers 0 (`0`) to 13 (`Q`), its constants those below 9.
+fn is_modus_ponens(mp: Cited<'_>) -> bool {
     let patterns = [
         Pattern::Typed(7),
         Pattern::Typed(7),
         Pattern::Full(0, 2),
         Pattern::Full(2, 8),
     ];
-    match cited_of(&book, b"mp") {
-        Some(mp) => {
-            assert!(rt; mp.patterns == patterns.as_slice());
-            assert!(rt; mp.templates == [12u32, 0, 12, 8, 0, 7, 1, 9].as_slice());
-            assert!(rt; mp.conclusion == [12u32, 1].as_slice());
-            assert!(rt; mp.groups.len() == 0);
-        }
-        None => assert!(rt; false),
-    }
-    let apart = frames_of(rt.alloc(), APART);
-    match cited_of(&apart, b"ax") {
-        Some(ax) => {
-            assert!(rt; ax.conclusion == [3u32, 0, 4, 1].as_slice());
-            assert!(rt; ax.groups.len() == 1);
-            assert!(rt; first_group(&ax.groups) == [0u32, 1].as_slice());
-        }
-        None => assert!(rt; false),
-    }
+    mp.patterns == patterns.as_slice()
+        && mp.templates == MODUS_PONENS_TEMPLATES
+        && mp.conclusion == MODUS_PONENS
+        && mp.groups.len() == 0
 }
+
+const MODUS_PONENS_TEMPLATES: &[u32] = &[12, 0, 12, 8, 0, 7, 1, 9];
+
+const MODUS_PONENS: &[u32] = &[12, 1];
+
+/// The axiom of a relation of two variables that are kept apart.
+fn is_relation(ax: Cited<'_>) -> bool {
+    ax.conclusion == RELATION && ax.groups.len() == 1 && first_group(&ax.groups) == BOTH
+}
+
+const RELATION: &[u32] = &[3, 0, 4, 1];
+
+const BOTH: &[u32] = &[0, 1];
 
 #[test]
 fn pairs_that_are_active(rt: HostRuntime) {
