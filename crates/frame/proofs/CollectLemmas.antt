@@ -39,38 +39,6 @@ drop-at (x ∷ xs) (suc i) h = drop-at xs i (omega (arith, h)) ∙ ap (λ n. get
     place : (n : ℕ) → suc (n + 1) ≡ suc n + 1
     place n = omega arith
 
-take-at : (xs : List ℕ) (i : ℕ) → i < length xs → take (i + 1) xs ≡ take i xs ++ get_or xs i 0 ∷ []
-take-at [] i h = absurd (omega (arith, h))
-take-at (x ∷ xs) zero h = by xs
-  where
-    by : (ys : List ℕ) → take (0 + 1) (x ∷ ys) ≡ x ∷ []
-    by [] = refl
-    by (y ∷ ys) = refl
-take-at (x ∷ xs) (suc i) h = ap (λ n. take n (x ∷ xs)) (place i) ∙ ap (λ r. x ∷ r) (take-at xs i (omega (arith, h)))
-  where
-    place : (n : ℕ) → suc n + 1 ≡ suc (n + 1)
-    place n = omega arith
-
--- the walk over the list has come to i
-abbrev pub IsPassed : List ℕ → ℕ → ℕ → Type 0
-IsPassed list p i = inserted p list ≡ take i list ++ inserted p (drop i list)
-
-pub passed-step : (list : List ℕ) (p i : ℕ) → i < length list → get_or list i 0 < p → IsPassed list p i → IsPassed list p (i + 1)
-passed-step list p i h l e =
-    e ∙ (ap (λ r. take i list ++ inserted p r) (drop-at list i h)
-    ∙ (ap (λ r. take i list ++ r) (inserted-after p (get_or list i 0) (drop (i + 1) list) l)
-    ∙ (sym (append_assoc (take i list) (get_or list i 0 ∷ []) (inserted p (drop (i + 1) list))) ∙ ap (λ r. r ++ inserted p (drop (i + 1) list)) (sym (take-at list i h)))))
-
-pub passed-here : (list : List ℕ) (p i : ℕ) → i < length list → p ≡ get_or list i 0 → IsPassed list p i → inserted p list ≡ list
-passed-here list p i h same e =
-    e ∙ (ap (λ r. take i list ++ inserted p r) (drop-at list i h)
-    ∙ (ap (λ r. take i list ++ r) (inserted-here p (get_or list i 0) (drop (i + 1) list) same ∙ sym (drop-at list i h)) ∙ take-append-drop i list))
-
-pub passed-before : (list : List ℕ) (p i : ℕ) → i < length list → p < get_or list i 0 → IsPassed list p i → inserted p list ≡ insert list i p
-passed-before list p i h l e =
-    e ∙ (ap (λ r. take i list ++ inserted p r) (drop-at list i h)
-    ∙ (ap (λ r. take i list ++ r) (inserted-before p (get_or list i 0) (drop (i + 1) list) l) ∙ ap (λ r. take i list ++ p ∷ r) (sym (drop-at list i h))))
-
 -- ---- the last `$f` of a symbol
 
 pub last-is : (test : Entry → Bool) (found at : ℕ) (es : List Entry) (p : ℕ) → 1 ≤ at → last_from test found at es ≡ p

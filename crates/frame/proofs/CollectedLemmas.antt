@@ -16,7 +16,7 @@ use Rattle.frame.specs.declared.kind.Kind.{Kind}
 use Rattle.frame.specs.declared.kind.Kind.TheVariants.{Open, Close, Const, Var, Disj, Float, Ess, Axiom, Prove}
 use Rattle.frame.specs.Entries.{Entry}
 use Rattle.frame.specs.Links.{actives}
-use Rattle.frame.specs.Stored.{stmt_by, stmt_of, AreNumbered, HasTwo, floats, second_is, is_float_kind, last_from, last_where, inserted, with_float, with_floats, with_essentials, collected, symbols_at, option_symbols}
+use Rattle.frame.specs.Stored.{stmt_by, stmt_of, AreNumbered, HasTwo, floats, second_is, is_float_kind, last_from, last_where, inserted, AreAbove, Ascends, with_float, with_floats, with_essentials, collected, symbols_at, option_symbols}
 use Rattle.frame.proofs.LegalLabels.{AllKept}
 use Rattle.frame.proofs.PlacesLemmas.{Stands, active-stands, stands-active, float-kinds, kept-legal, legal-keeps, active-rest, open_front, Order, earlier, at_one, later, order}
 use Rattle.frame.proofs.KeptLemmas.{name_at-injective, map-back, map-at, middle, numbered-at}
@@ -26,14 +26,6 @@ use Rattle.frame.proofs.KeptLemmas.{name_at-injective, map-back, map-at, middle,
 abbrev pub In : ℕ → List ℕ → Type 0
 In p [] = ⊥
 In p (q ∷ qs) = (p ≡ q) ⊎ In p qs
-
-abbrev pub AreAbove : ℕ → List ℕ → Type 0
-AreAbove p [] = Unit {0}
-AreAbove p (q ∷ qs) = (p < q) × AreAbove p qs
-
-abbrev pub Ascends : List ℕ → Type 0
-Ascends [] = Unit {0}
-Ascends (p ∷ ps) = AreAbove p ps × Ascends ps
 
 above-in : (q p : ℕ) (xs : List ℕ) → AreAbove q xs → In p xs → q < p
 above-in q p [] a i = absurd i
@@ -108,7 +100,7 @@ above-inserted r q (x ∷ xs) h a = by (q == x) (nat_lt q x) (above-inserted r q
     by false true more = (h, a)
     by false false more = (a.0, more)
 
-ascends-inserted : (q : ℕ) (xs : List ℕ) → Ascends xs → Ascends (inserted q xs)
+pub ascends-inserted : (q : ℕ) (xs : List ℕ) → Ascends xs → Ascends (inserted q xs)
 ascends-inserted q [] a = (tt, tt)
 ascends-inserted q (x ∷ xs) a = by (q == x) refl (nat_lt q x) refl (ascends-inserted q xs a.1)
   where

@@ -1,4 +1,5 @@
 pub mod SpanLemmas
+pub mod MarkLemmas
 pub mod RecordLemmas
 pub mod NameLemmas
 pub mod NumberLemmas
@@ -25,6 +26,7 @@ pub mod LegalLabels
 pub mod PlacesLemmas
 pub mod KeptLemmas
 pub mod CollectedLemmas
+pub mod LookedLemmas
 pub mod OneFrameLemmas
 pub mod LabelLemmas
 mod Rows

@@ -18,47 +18,6 @@ use Rattle.frame.specs.declared.citation.Pattern.TheVariants.{Typed, Full}
 use Rattle.frame.specs.Entries.{Entry}
 use Rattle.frame.specs.Stored.{is_code, place_from, place_of, places_of, variable_at, option_variable, variable_by, symbols_at, is_hypothesis_entry, has_two, groups_by, AreHypotheses, IsPatternOf, ArePatterns, Extends, statements_of, own_template, option_template, template_at}
 
-pub drop-any : {A : Type 0} (xs : List A) (i : ℕ) (d : A) → i < length xs → drop i xs ≡ get_or xs i d ∷ drop (i + 1) xs
-drop-any [] i d h = absurd (omega (arith, h))
-drop-any (x ∷ xs) zero d h = refl
-drop-any (x ∷ xs) (suc i) d h = drop-any xs i d (omega (arith, h)) ∙ ap (λ n. get_or xs i d ∷ drop n (x ∷ xs)) (place i)
-  where
-    place : (n : ℕ) → suc (n + 1) ≡ suc n + 1
-    place n = omega arith
-
-pub get-same : {A : Type 0} (xs : List A) (i : ℕ) (x d : A) → i < length xs → x ≡ get_or xs i x → x ≡ get_or xs i d
-get-same [] i x d h e = absurd (omega (arith, h))
-get-same (y ∷ xs) zero x d h e = e
-get-same (y ∷ xs) (suc i) x d h e = get-same xs i x d (omega (arith, h)) e
-
--- ---- the place of a variable
-
-abbrev pub IsPassed : List (Option ℕ) → ℕ → ℕ → Type 0
-IsPassed vs c i = place_of vs c ≡ place_from i (drop i vs) c
-
-pub place-step : (vs : List (Option ℕ)) (c i : ℕ) (v : Option ℕ) → i < length vs → v ≡ get_or vs i v → is_code c v ≡ false → IsPassed vs c i → IsPassed vs c (i + 1)
-place-step vs c i v h e f p =
-    p ∙ (ap (λ r. place_from i r c) (drop-any vs i v h ∙ ap (λ w. w ∷ drop (i + 1) vs) (sym e)) ∙ ap (λ b. cond b (Some i) (place_from (i + 1) (drop (i + 1) vs) c)) f)
-
-pub place-found : (vs : List (Option ℕ)) (c i : ℕ) (v : Option ℕ) → i < length vs → v ≡ get_or vs i v → is_code c v ≡ true → IsPassed vs c i → place_of vs c ≡ Some i
-place-found vs c i v h e f p =
-    p ∙ (ap (λ r. place_from i r c) (drop-any vs i v h ∙ ap (λ w. w ∷ drop (i + 1) vs) (sym e)) ∙ ap (λ b. cond b (Some i) (place_from (i + 1) (drop (i + 1) vs) c)) f)
-
-pub drop-over : {A : Type 0} (xs : List A) (i : ℕ) → length xs ≤ i → drop i xs ≡ []
-drop-over [] zero h = refl
-drop-over [] (suc i) h = refl
-drop-over (x ∷ xs) zero h = absurd (omega (arith, h))
-drop-over (x ∷ xs) (suc i) h = drop-over xs i (omega (arith, h))
-
-pub place-over : (vs : List (Option ℕ)) (c i : ℕ) → length vs ≤ i → IsPassed vs c i → place_of vs c ≡ None
-place-over vs c i h p = p ∙ ap (λ r. place_from i r c) (drop-over vs i h)
-
-pub option-some : (c : ℕ) (v : Option ℕ) (x : ℕ) → v ≡ Some x → is_code c v ≡ (c == x)
-option-some c v x e = ap (is_code c) e
-
-pub option-none : (c : ℕ) (v : Option ℕ) → v ≡ None → is_code c v ≡ false
-option-none c v e = ap (is_code c) e
-
 -- ---- one symbol more
 
 pub take-more : (xs : List ℕ) (i : ℕ) → i < length xs → take (i + 1) xs ≡ take i xs ++ get_or xs i 0 ∷ []

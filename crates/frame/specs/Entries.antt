@@ -48,8 +48,9 @@ IsEntry es i x = (a : Assertion) × (slice_get es i ≡ Some (seen x a))
 
 -- no part of an assertion was found yet
 pub record IsPartless (d : Draft) : Type 0 where
+  pub looked : d.looked ≡ []
   pub hypotheses : d.hypotheses.items ≡ []
-  pub variables : d.variables.items ≡ []
+  pub variables : d.variables ≡ []
   pub patterns : d.patterns.items ≡ []
   pub templates : d.templates.items ≡ []
   pub conclusion : d.conclusion.items ≡ []

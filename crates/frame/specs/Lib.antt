@@ -10,6 +10,7 @@ pub mod Reading
 pub mod Links
 pub mod Laws
 pub mod Spans
+pub mod Places
 pub mod Entries
 pub mod Records
 pub mod Stored

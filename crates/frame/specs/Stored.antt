@@ -21,6 +21,7 @@ use Rattle.frame.specs.Entries.{Assertion}
 use Rattle.frame.specs.declared.storage.Symbol.{Symbol}
 use Rattle.frame.specs.declared.storage.Stock.{Stock}
 pub use Rattle.frame.specs.Spans.{Extends}
+pub use Rattle.frame.specs.Places.{is_code, place_from, place_of}
 use Rattle.frame.specs.Parts.{Numbered}
 use Rattle.frame.specs.Citations.{is_hypothesis_kind}
 use Rattle.frame.specs.ByPlaces.{AreBelow}
@@ -246,18 +247,6 @@ option_variable (Some e) = variable_by e.kind e.symbols
 abbrev pub variable_at : List Entry → ℕ → Option ℕ
 variable_at es p = option_variable (slice_get es (p - 1))
 
-abbrev pub is_code : ℕ → Option ℕ → Bool
-is_code c None = false
-is_code c (Some x) = c == x
-
--- the first place of a variable
-abbrev pub place_from : ℕ → List (Option ℕ) → ℕ → Option ℕ
-place_from k [] c = None
-place_from k (v ∷ vs) c = if is_code c v then Some k else place_from (k + 1) vs c
-
-abbrev pub place_of : List (Option ℕ) → ℕ → Option ℕ
-place_of vs c = place_from 0 vs c
-
 -- the place of a variable, or the number of a symbol behind the places
 abbrev pub template_number : List (Option ℕ) → ℕ → ℕ
 template_number vs c = unwrap_or (place_of vs c) (length vs + c)
@@ -335,6 +324,15 @@ abbrev pub inserted : ℕ → List ℕ → List ℕ
 inserted p [] = p ∷ []
 inserted p (q ∷ qs) = if p == q then q ∷ qs else (if nat_lt p q then p ∷ q ∷ qs else q ∷ inserted p qs)
 
+-- in ascending order, each once
+abbrev pub AreAbove : ℕ → List ℕ → Type 0
+AreAbove p [] = Unit {0}
+AreAbove p (q ∷ qs) = (p < q) × AreAbove p qs
+
+abbrev pub Ascends : List ℕ → Type 0
+Ascends [] = Unit {0}
+Ascends (p ∷ ps) = AreAbove p ps × Ascends ps
+
 -- with the last `$f` of the symbol c, where it is active behind all entries
 abbrev pub with_float : List Entry → Database → ℕ → List ℕ → List ℕ
 with_float es S c list =
@@ -344,6 +342,11 @@ with_float es S c list =
 abbrev pub with_floats : List Entry → Database → List ℕ → List ℕ → List ℕ
 with_floats es S [] list = list
 with_floats es S (c ∷ codes) list = with_floats es S codes (with_float es S c list)
+
+-- the list has the active `$f` of each symbol that was looked at
+pub record IsLooked (es : List Entry) (S : Database) (looked : List (Option ℕ)) (list : List ℕ) : Type 0 where
+  pub ascends : Ascends list
+  pub has : (c k : ℕ) → place_of looked c ≡ Some k → with_float es S c list ≡ list
 
 -- with the active `$e`, the last one first, and the `$f` of their symbols
 abbrev pub with_essentials : List Entry → Database → List (ℕ × Stmt) → List ℕ → List ℕ

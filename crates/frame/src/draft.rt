@@ -3,6 +3,7 @@ ghost use Rattle.std.specs.Prelude.{◌≡◌, []};
 ghost use Rattle.frame.specs.Entries.{IsPartless};
 
 use crate::citation::Pattern;
+use crate::places::Places;
 use crate::span::Span;
 use std::alloc::Global;
 
@@ -11,10 +12,12 @@ use std::alloc::Global;
 pub struct Draft {
     /// The numbers of its symbols.
     pub symbols: Vec<u32>,
+    /// The symbols whose `$f` was looked for.
+    pub looked: Places,
     /// The positions of its hypotheses, in order.
     pub hypotheses: Vec<usize>,
     /// The variables of the hypotheses, at their places.
-    pub variables: Vec<Option<u32>>,
+    pub variables: Places,
     /// What the results for the hypotheses must be.
     pub patterns: Vec<Pattern>,
     /// The templates of the essential ones, one behind the other.
@@ -35,8 +38,9 @@ impl Draft {
     {
         Draft {
             symbols: Vec::new(alloc),
+            looked: Places::new(alloc),
             hypotheses: Vec::new(alloc),
-            variables: Vec::new(alloc),
+            variables: Places::new(alloc),
             patterns: Vec::new(alloc),
             templates: Vec::new(alloc),
             conclusion: Vec::new(alloc),
@@ -51,6 +55,7 @@ impl Draft {
         ensures partless { IsPartless self.new }
     {
         self.symbols.clear();
+        self.looked.clear();
         self.hypotheses.clear();
         self.variables.clear();
         self.patterns.clear();

@@ -27,6 +27,7 @@ mod names;
 mod numbers;
 mod one_frame;
 mod pairs;
+mod places;
 mod reading;
 mod record;
 mod span;

@@ -12,20 +12,17 @@ use crate::entry::EntryRef;
 use crate::kind::Kind;
 use crate::mandatory::mandatory;
 use crate::numbers::NAMES_LIMIT;
+use crate::places::Places;
 use crate::span::{Span, between};
 use crate::storage::Stock;
 use crate::templates::{add_places, add_template, variable_of};
 use std::alloc::AllocError;
 
 /// Adds the variables of the hypotheses, at their places.
-fn variables(
-    stock: &Stock,
-    hypotheses: &[usize],
-    found: &mut Vec<Option<u32>>,
-) -> Result<(), AllocError>
+fn variables(stock: &Stock, hypotheses: &[usize], found: &mut Places) -> Result<(), AllocError>
     requires hypotheses { AreHypotheses stock.now.entries hypotheses.now }
-    requires empty { found.old.items ≡ [] }
-    ensures { OnOk result (found.new.items ≡ map (variable_at stock.now.entries) hypotheses.now) }
+    requires empty { found.old ≡ [] }
+    ensures { OnOk result (found.new ≡ map (variable_at stock.now.entries) hypotheses.now) }
 {
     for position in hypotheses {
         found.push(variable_of(stock.entries.entry(*position - 1)))?;
@@ -36,7 +33,7 @@ fn variables(
 /// The pattern of a hypothesis, and its template behind the others if it is essential.
 fn pattern(
     entry: EntryRef<'_>,
-    variables: &[Option<u32>],
+    variables: &Places,
     templates: &mut Vec<u32>,
 ) -> Result<Pattern, AllocError>
     requires few { length variables.now < 2 ^ 31 }
@@ -60,7 +57,7 @@ fn pattern(
 fn patterns(
     stock: &Stock,
     hypotheses: &[usize],
-    variables: &[Option<u32>],
+    variables: &Places,
     templates: &mut Vec<u32>,
     found: &mut Vec<Pattern>,
 ) -> Result<(), AllocError>
@@ -82,7 +79,7 @@ fn patterns(
 /// Adds the groups of places that are kept apart, from the active `$d`.
 fn groups(
     stock: &Stock,
-    variables: &[Option<u32>],
+    variables: &Places,
     places: &mut Vec<u32>,
     groups: &mut Vec<Span>,
 ) -> Result<(), AllocError>
@@ -104,7 +101,7 @@ fn groups(
 
 /// Adds the group of those of the symbols that have a place, where they are two or more.
 fn add_group(
-    variables: &[Option<u32>],
+    variables: &Places,
     codes: &[u32],
     places: &mut Vec<u32>,
     groups: &mut Vec<Span>,
@@ -136,7 +133,12 @@ pub fn assertion(stock: &Stock, draft: &mut Draft) -> Result<(), AllocError>
     ensures draft { OnOk result (IsDraft draft.new) }
     ensures symbols { draft.new.symbols.items ≡ draft.old.symbols.items }
 {
-    mandatory(stock, &draft.symbols, &mut draft.hypotheses)?;
+    mandatory(
+        stock,
+        &draft.symbols,
+        &mut draft.looked,
+        &mut draft.hypotheses,
+    )?;
     if draft.hypotheses.len() >= NAMES_LIMIT {
         return Err(AllocError);
     }

@@ -2,10 +2,11 @@
 ghost use Rattle.std.specs.Prelude.{◌≡◌, ◌+◌, ◌<◌, ◌^◌, ◌++◌, length, OnOk, IfSome};
 ghost use Rattle.std.specs.Option.{option_to_list};
 ghost use Rattle.frame.specs.ByPlaces.{AreBelow};
-ghost use Rattle.frame.specs.Stored.{place_of, template_number, templated, places_of, variable_by};
+ghost use Rattle.frame.specs.Stored.{template_number, templated, places_of, variable_by};
 
 use crate::entry::EntryRef;
 use crate::kind::Kind;
+use crate::places::Places;
 use std::alloc::AllocError;
 
 /// The variable of a `$f`.
@@ -18,28 +19,13 @@ pub fn variable_of(entry: EntryRef<'_>) -> Option<u32>
     }
 }
 
-/// The first place of a variable.
-fn place(variables: &[Option<u32>], code: u32) -> Option<usize>
-    ensures place { result ≡ place_of variables.now code }
-    ensures within { IfSome result (λ k. k < length variables.now) }
-{
-    for (k, variable) in variables.iter().enumerate() {
-        if let Some(other) = variable {
-            if code == *other {
-                return Some(k);
-            }
-        }
-    }
-    None
-}
-
 /// One number of a template: the place of a variable, or the number of a symbol behind the places.
-fn number(variables: &[Option<u32>], code: u32) -> u32
+fn number(variables: &Places, code: u32) -> u32
     requires few { length variables.now < 2 ^ 31 }
     requires code { code < 2 ^ 31 }
     ensures { result ≡ template_number variables.now code }
 {
-    match place(variables, code) {
+    match variables.place(code) {
         Some(k) => k as u32,
         None => variables.len() as u32 + code,
     }
@@ -47,7 +33,7 @@ fn number(variables: &[Option<u32>], code: u32) -> u32
 
 /// Adds the template of an expression.
 pub fn add_template(
-    variables: &[Option<u32>],
+    variables: &Places,
     codes: &[u32],
     templates: &mut Vec<u32>,
 ) -> Result<(), AllocError>
@@ -63,7 +49,7 @@ pub fn add_template(
 
 /// Adds the places of those of the variables that have one.
 pub fn add_places(
-    variables: &[Option<u32>],
+    variables: &Places,
     codes: &[u32],
     places: &mut Vec<u32>,
 ) -> Result<(), AllocError>
@@ -71,7 +57,7 @@ pub fn add_places(
     ensures added { OnOk result (places.new.items ≡ places.old.items ++ places_of variables.now codes.now) }
 {
     for code in codes {
-        add_place(place(variables, *code), places)?;
+        add_place(variables.place(*code), places)?;
     }
     Ok(())
 }

@@ -21,7 +21,7 @@ returns-in-Float-clause-entered c = λ h head.
     let new = c.enter_float.new.stock in
     let codes = c.enter_float.new.codes in
     ok-map c.enter_float.result _ _
-    (λ f. entered-labelled c.args.stock.now new (record { symbols = codes; hypotheses = c.args.draft.now.hypotheses; variables = c.args.draft.now.variables; patterns = c.args.draft.now.patterns; templates = c.args.draft.now.templates; conclusion = c.args.draft.now.conclusion; places = c.args.draft.now.places; groups = c.args.draft.now.groups }) h Float c.in-Float.label (c.in-Float.constant ∷ c.in-Float.variable ∷ []) (bare c.args.stmt.now) f
+    (λ f. entered-labelled c.args.stock.now new (record { symbols = codes; looked = c.args.draft.now.looked; hypotheses = c.args.draft.now.hypotheses; variables = c.args.draft.now.variables; patterns = c.args.draft.now.patterns; templates = c.args.draft.now.templates; conclusion = c.args.draft.now.conclusion; places = c.args.draft.now.places; groups = c.args.draft.now.groups }) h Float c.in-Float.label (c.in-Float.constant ∷ c.in-Float.variable ∷ []) (bare c.args.stmt.now) f
     (two-codes new.names codes.items c.in-Float.constant c.in-Float.variable f.stand) (sym (ap bare c.in-Float.is)) (ap (λ s. label_of (bare s)) c.in-Float.is) (ap (λ s. kind_of (bare s)) c.in-Float.is) head
     (λ a. absurd (false≢true a))) c.enter_float.ensures.entered
 
@@ -30,7 +30,7 @@ returns-in-Ess-clause-entered c = λ h head.
     let new = c.enter_essential.new.stock in
     let codes = c.enter_essential.new.codes in
     ok-map c.enter_essential.result _ _
-    (λ f. entered-labelled c.args.stock.now new (record { symbols = codes; hypotheses = c.args.draft.now.hypotheses; variables = c.args.draft.now.variables; patterns = c.args.draft.now.patterns; templates = c.args.draft.now.templates; conclusion = c.args.draft.now.conclusion; places = c.args.draft.now.places; groups = c.args.draft.now.groups }) h Ess c.in-Ess.label c.in-Ess.expr (bare c.args.stmt.now) f
+    (λ f. entered-labelled c.args.stock.now new (record { symbols = codes; looked = c.args.draft.now.looked; hypotheses = c.args.draft.now.hypotheses; variables = c.args.draft.now.variables; patterns = c.args.draft.now.patterns; templates = c.args.draft.now.templates; conclusion = c.args.draft.now.conclusion; places = c.args.draft.now.places; groups = c.args.draft.now.groups }) h Ess c.in-Ess.label c.in-Ess.expr (bare c.args.stmt.now) f
     tt (sym (ap bare c.in-Ess.is)) (ap (λ s. label_of (bare s)) c.in-Ess.is) (ap (λ s. kind_of (bare s)) c.in-Ess.is) head
     (λ a. absurd (false≢true a))) c.enter_essential.ensures.entered
 

@@ -8,12 +8,12 @@ use Rattle.frame.proofs.make.assertion.Goals as goal
 pub add_template-requires-clause-codes : goal.add_template-requires-clause-codes
 add_template-requires-clause-codes c =
     let few = c.requires.stored.few in
-    subst (AreBelow (2 ^ 31)) (sym c.deref-6.ensures.value) (below-more (length c.args.stock.now.names) (2 ^ 31) c.args.draft.now.symbols.items (omega (arith, few)) c.requires.codes)
+    subst (AreBelow (2 ^ 31)) (sym c.deref-4.ensures.value) (below-more (length c.args.stock.now.names) (2 ^ 31) c.args.draft.now.symbols.items (omega (arith, few)) c.requires.codes)
 
 pub returns-clause-draft : goal.returns-clause-draft
 returns-clause-draft c =
     ok-map c.groups.result _ _
     (λ w. record {
-      paired = patterns-count c.args.stock.now.entries c.deref-4.result.now c.patterns.new.templates.items c.deref-3.result.now c.patterns.new.found.items c.in_ok-patterns.ensures.patterns ∙ ap length c.deref-3.ensures.value;
+      paired = patterns-count c.args.stock.now.entries c.variables.new.found c.patterns.new.templates.items c.deref-3.result.now c.patterns.new.found.items c.in_ok-patterns.ensures.patterns ∙ ap length c.deref-3.ensures.value;
       grouped = w;
     }) c.groups.ensures.within

@@ -27,5 +27,5 @@ loop-position-preserved c =
     let i = c.loop-position.position-index in
     let h = hypothesis-at k.entries c.args.hypotheses.now i c.requires.hypotheses (omega arith) in
     let e : seen c.entry.result c.entry.ensures.0 ≡ h.0 = some-same (sym c.entry.ensures.1 ∙ h.2) in
-    variables-more k.entries c.args.hypotheses.now c.loop-position.found.items c.push.new.self.items i h.0 (omega arith) h.2 c.loop-position.invariant
-    (c.in_ok-push.ensures.items ∙ ap (λ v. c.loop-position.found.items ++ v ∷ []) (c.variable_of.ensures ∙ ap (λ d. variable_by d.kind d.symbols) e))
+    variables-more k.entries c.args.hypotheses.now c.loop-position.found c.push.new.self i h.0 (omega arith) h.2 c.loop-position.invariant
+    (c.in_ok-push.ensures ∙ ap (λ v. c.loop-position.found ++ v ∷ []) (c.variable_of.ensures ∙ ap (λ d. variable_by d.kind d.symbols) e))

@@ -3,10 +3,11 @@ use Rattle.std.proofs.lemmas.List.{length-map, length-take-le}
 use Rattle.scope.specs.Active.{is_essential}
 use Rattle.frame.specs.ByPlaces.{AreBelow}
 use Rattle.frame.specs.Links.{actives}
-use Rattle.frame.specs.Stored.{statements_of, stmt_of, inserted, with_floats, with_essentials, symbols_at, option_symbols}
+use Rattle.frame.specs.Stored.{statements_of, stmt_of, inserted, with_floats, with_essentials, symbols_at, option_symbols, IsLooked}
 use Rattle.frame.proofs.WalkLemmas.{walk-back, walk-over, last-within}
 use Rattle.frame.proofs.StoredLemmas.{get-index, numbered-at}
 use Rattle.frame.proofs.CollectLemmas.{essentials-step}
+use Rattle.frame.proofs.LookedLemmas.{looked-inserted}
 use Rattle.frame.specs.Entries.{seen}
 use Rattle.frame.proofs.mandatory.mandatory.Goals as goal
 
@@ -65,13 +66,14 @@ loop-essential-preserved c =
     let es = k.entries in
     let there = actives is_essential (take (p - 1) S) in
     let list : c.put_floats-in-loop-essential.new.list.items ≡ with_floats es S (symbols_at es p) (inserted p c.loop-essential.list.items) =
-    c.in_ok-put_floats-2.ensures
+    c.in_ok-put_floats-2.ensures.list
     ∙ (ap (λ codes. with_floats es S codes c.put.new.list.items) (ap option_symbols (sym g)) ∙ ap (with_floats es S (symbols_at es p)) c.in_ok-put.ensures) in (
       p - 1,
       omega (arith, b, high),
       l,
       ap (with_essentials es S there) list
           ∙ (sym (essentials-step es S there p w.0 c.loop-essential.list.items) ∙ (ap (λ r. with_essentials es S r c.loop-essential.list.items) (sym w.1.list) ∙ i.3)),
+      c.in_ok-put_floats-2.ensures.looked,
     )
 
 pub returns : goal.returns
@@ -80,3 +82,10 @@ returns c =
     let S = statements_of k in
     let i = c.loop-essential.invariant in
     sym (ap (λ r. with_essentials k.entries S r c.loop-essential.list.items) (walk-over is_essential S i.0 c.loop-essential.essential refl i.2 c.loop-essential-test.false)) ∙ i.3
+
+pub put_floats-requires-in-loop-essential-clause-looked : goal.put_floats-requires-in-loop-essential-clause-looked
+put_floats-requires-in-loop-essential-clause-looked c =
+    let k = c.args.stock.now in
+    let S = statements_of k in
+    subst (IsLooked k.entries S c.loop-essential.looked) (sym c.in_ok-put.ensures)
+    (looked-inserted k.entries S c.loop-essential.looked c.loop-essential.essential c.loop-essential.list.items c.loop-essential.invariant.4)
