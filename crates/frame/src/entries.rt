@@ -169,14 +169,28 @@ fn add(
     append(&mut buffers.patterns, &draft.patterns)?;
     let groups_from = place(buffers.groups.len())?;
     let groups = append(&mut buffers.groups, &draft.groups)?;
-    records.push(Record {
-        head,
-        ends,
-        hypotheses_from,
-        hypotheses,
-        groups_from,
-        groups,
-    })?;
+    add_record(
+        records,
+        Record {
+            head,
+            ends,
+            hypotheses_from,
+            hypotheses,
+            groups_from,
+            groups,
+        },
+    )
+}
+
+/// Adds a record.
+fn add_record(records: &mut Vec<Record>, last: Record) -> Result<(), AllocError>
+    ensures ok { OnOk result (records.new.items ≡ records.old.items ++ last ∷ []) }
+    ensures err { OnErr result (records.new.items ≡ records.old.items) }
+{
+    if records.len() == records.capacity() {
+        widen(records);
+    }
+    records.push(last)?;
     Ok(())
 }
 
@@ -200,13 +214,29 @@ fn add_numbers(numbers: &mut Vec<u32>, draft: &Draft) -> Result<Ends, AllocError
 }
 
 /// Adds items, and tells where they end.
+#[inline(always)]
 fn append<T: Copy>(buffer: &mut Vec<T>, items: &[T]) -> Result<u32, AllocError>
     ensures ok { OnOk result (buffer.new.items ≡ buffer.old.items ++ items.now) }
     ensures place { IfOk result (λ n. n ≡ length buffer.new.items) }
     ensures grows { Extends buffer.old.items buffer.new.items }
 {
+    if items.is_empty() {
+        return place(buffer.len());
+    }
+    if buffer.capacity() - buffer.len() < items.len() {
+        widen(buffer);
+    }
     buffer.extend_from_slice(items)?;
     place(buffer.len())
+}
+
+/// Asks for three times the room of what a full buffer has: so little is copied while it grows.
+/// Where there is not so much memory, it grows as it must.
+#[cold]
+fn widen<T>(buffer: &mut Vec<T>)
+    ensures { buffer.new.items ≡ buffer.old.items }
+{
+    let _ = buffer.reserve(buffer.len().saturating_mul(3));
 }
 
 /// Takes back what stands behind these places.
