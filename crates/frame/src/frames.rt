@@ -193,6 +193,7 @@ impl Frames {
     pub fn legal(&self)
         ensures { AreLegal self.now.statements self.now.names }
     {
-        self.stock.names.distinct();
+        let names = &self.stock.names;
+        names.distinct();
     }
 }
