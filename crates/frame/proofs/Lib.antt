@@ -1,7 +1,6 @@
 pub mod SpanLemmas
 pub mod MarkLemmas
 pub mod RecordLemmas
-pub mod NameLemmas
 pub mod NumberLemmas
 pub mod OpenLemmas
 pub mod LinksLemmas

@@ -13,7 +13,7 @@ use Rattle.scope.specs.declared.standing.Standing.{Standing}
 use Rattle.scope.proofs.NamesLemmas.{name_same, same_name, has_name-append}
 use Rattle.frame.specs.Parts.{FrameParts}
 use Rattle.frame.specs.FrameOf.{is_mandatory, is_hypothesis, hypotheses, mandatory_groups, separates}
-use Rattle.frame.proofs.NameLemmas.{lt-list_any}
+use Rattle.scope.proofs.SortsLemmas.{lt-list_any}
 use Rattle.frame.specs.OneFrame.{AreMandatory, is_in_essential, asks, asked, among, groups_among}
 
 has-at : (names : List Name) (n : ℕ) → n < length names → has_name (name_at names n) names ≡ true

@@ -10,9 +10,9 @@ ghost use Rattle.frame.specs.Stored.{AreStored, statements_of, with_declared, ki
 
 use crate::kind::Kind;
 use crate::links::Links;
-use crate::names::Names;
 use crate::reading::links_at;
 use crate::storage::{Stock, Symbol};
+use scope::Names;
 use std::alloc::{AllocError, Global};
 
 /// Gives a label its number and its position.
@@ -30,7 +30,7 @@ pub fn name_label(
     ensures positions_err { OnErr result (positions.new.items ≡ positions.old.items) }
 {
     let count = labels.len();
-    labels.code(alloc, label)?;
+    labels.add(alloc, label)?;
     let added = positions.push(at);
     if added.is_err() {
         labels.truncate(count);

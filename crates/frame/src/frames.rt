@@ -15,12 +15,11 @@ use crate::entries::Entries;
 use crate::extend::{cut, extend, roll_back};
 use crate::hypotheses::{hypotheses_at, label_at};
 use crate::links::Links;
-use crate::names::Names;
 use crate::pairs::Pairs;
 use crate::reading::{cited_at, expr_at, meaning_at};
 use crate::storage::Stock;
 use mm_read::Stmt;
-use scope::{Scope, Steps};
+use scope::{Names, Scope, Steps};
 use std::alloc::{AllocError, Global};
 use std::marker::Model;
 

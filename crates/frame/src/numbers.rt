@@ -5,9 +5,9 @@ ghost use Rattle.scope.specs.Numbering.{name_at, decode, with_name, code_of, Are
 ghost use Rattle.frame.specs.ByPlaces.{AreBelow};
 ghost use Rattle.frame.specs.Stored.{Extends, zero_symbol, AreZeroBehind};
 
-use crate::names::Names;
 use crate::storage::Symbol;
 use mm_lex::Words;
+use scope::Names;
 use std::alloc::{AllocError, Global};
 
 /// There are fewer names than this: with the places of a frame before them, numbers fit in 32 bits.

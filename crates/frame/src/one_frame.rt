@@ -7,10 +7,9 @@ ghost use Rattle.frame.specs.FrameOf.{frame_of, hypotheses, mandatory_groups, se
 ghost use Rattle.frame.specs.OneFrame.{AreNoted, AreMandatory, among, asked, asks, groups_among};
 
 use crate::assertion::Frame;
-use crate::names::Names;
 use mm_lex::Words;
 use mm_read::Stmt;
-use scope::{Scope, Standing};
+use scope::{Names, Scope, Standing};
 use smallvec::SmallVec;
 use std::alloc::{AllocError, Global};
 

@@ -1,5 +1,8 @@
 pub mod Databases
 pub mod NumberingLemmas
+pub mod KindsLemmas
+pub mod TextsLemmas
+pub mod TableLemmas
 pub mod NamesLemmas
 pub mod SortsLemmas
 pub mod KeptLemmas

@@ -1,18 +1,12 @@
--- Names with their kinds: look-ups in the table are look-ups in the list.
-use Rattle.std.specs.Prelude.{◌≡◌, ℕ, zero, suc, ◌+◌, Bool, true, false, not, cond, ◌||◌, List, [], ◌∷◌, ◌++◌, map, position, Option, Some, None, slice_get, bytes_eq, refl, Vec}
-use Rattle.std.specs.List.{list_any, prefix_len}
-use Rattle.std.specs.Map.{keys_of, lookup}
-use Rattle.std.proofs.Common.{sym, ◌∙◌, ap, take, true≢false, add-one}
-use Rattle.std.specs.List.{IsDistinct, AllByRecursion}
-use Rattle.std.proofs.lemmas.Map.Keys.{IsDistinct-head, IsDistinct-tail}
+-- Names and the places where they stand.
+use Rattle.std.specs.Prelude.{◌≡◌, ℕ, zero, suc, ◌+◌, ◌<◌, Bool, true, false, not, cond, ◌||◌, nat_lt, length, List, [], ◌∷◌, ◌++◌, map, position, Option, Some, None, get_or, refl}
+use Rattle.std.specs.List.{list_any, position_or_len, prefix_len}
+use Rattle.std.proofs.Common.{sym, ◌∙◌, ap, true≢false, arith, length-append}
+use Rattle.std.proofs.lemmas.List.Quantifiers.{position-Some}
 use Rattle.std.proofs.lemmas.Slice.Eq.{bytes_eq-Decides}
 use Rattle.std.proofs.lemmas.List.{length-map}
-use Rattle.std.specs.declared.alloc.Global.{Global}
-use Rattle.mm_lex.specs.Alphabet.{Name, name_eq}
-use Rattle.indexmap.specs.IndexMap.{insert_entry}
-use Rattle.scope.specs.Numbering.{name_at, code_of}
-use Rattle.scope.specs.Kinds.{Declared, declared_names, kind_in}
-use Rattle.scope.specs.declared.numbering.Kind.{Kind}
+use Rattle.mm_lex.specs.Alphabet.{Name, name_eq, has_name}
+use Rattle.scope.specs.Numbering.{name_at, code_of, AreDistinct}
 
 pub prefix_len-map : {A B : Type 0} (f : A → B) (p : B → Bool) (xs : List A) → prefix_len (λ a. p (f a)) xs ≡ prefix_len p (map f xs)
 prefix_len-map f p [] = refl
@@ -40,66 +34,69 @@ name_eq-comm x y = by (name_eq x y) (name_eq y x) refl refl
     by true false p q = absurd (true≢false (sym (name_same x) ∙ (ap (λ z. name_eq z x) (same_name x y p) ∙ q)))
     by false true p q = absurd (true≢false (sym (name_same y) ∙ (ap (λ z. name_eq z y) (same_name y x q) ∙ p)))
 
-abbrev pub Bytes : Type 0
-Bytes = Vec ℕ Global
+first_step : (b : Bool) (r : ℕ) → b ≡ true → cond (not b) (1 + r) 0 ≡ 0
+first_step true r h = refl
+first_step false r h = cc
 
--- the entries of the table, as contracts see them
-abbrev pub seen : List (Bytes × Kind) → Declared
-seen es = map (λ p. (p.0.items, p.1)) es
+later_step : (b : Bool) (r n : ℕ) → b ≡ false → r ≡ n → cond (not b) (1 + r) 0 ≡ suc n
+later_step true r n h e = cc
+later_step false r n h e = grind (arith, e)
 
-pub names-seen : (es : List (Bytes × Kind)) → map (λ (v : Bytes). v.items) (keys_of es) ≡ declared_names (seen es)
-names-seen [] = refl
-names-seen (e ∷ es) = ap (λ r. e.0.items ∷ r) (names-seen es)
-
-pub code-seen : (x : Name) (es : List (Bytes × Kind)) → position (λ (v : Bytes). bytes_eq x v.items) (keys_of es) ≡ code_of (declared_names (seen es)) x
-code-seen x es = position-map (λ (v : Bytes). v.items) (name_eq x) (keys_of es) ∙ ap (λ names. position (name_eq x) names) (names-seen es)
-
-pub kind-seen : (x : Name) (es : List (Bytes × Kind)) → lookup (λ (v : Bytes). bytes_eq x v.items) es ≡ kind_in (seen es) x
-kind-seen x [] = refl
-kind-seen x (e ∷ es) = ap (λ r. cond (bytes_eq x e.0.items) (Some e.1) r) (kind-seen x es)
-
-pub name-seen : (es : List (Bytes × Kind)) (n : ℕ) (v : Bytes) (k : Kind) → slice_get es n ≡ Some (v, k) → v.items ≡ name_at (declared_names (seen es)) n
-name-seen [] n v k h = cc
-name-seen (e ∷ es) zero v k h = cc
-name-seen (e ∷ es) (suc n) v k h = name-seen es n v k h
-
-none_cond : {A : Type 0} (b : Bool) (x : A) (r : Option A) → cond b (Some x) r ≡ None → (b ≡ false) × (r ≡ None)
-none_cond true x r h = cc
-none_cond false x r h = (refl, h)
-
-pub insert-seen : (es : List (Bytes × Kind)) (v : Bytes) (k : Kind) → kind_in (seen es) v.items ≡ None
-    → seen (insert_entry (λ (a b : Bytes). bytes_eq a.items b.items) es v k) ≡ seen es ++ (v.items, k) ∷ []
-insert-seen [] v k h = refl
-insert-seen (e ∷ es) v k h =
-    let no = none_cond (bytes_eq v.items e.0.items) e.1 (kind_in (seen es) v.items) h in
-    ap (λ b. seen (cond b ((e.0, k) ∷ es) (e ∷ insert_entry (λ (a b : Bytes). bytes_eq a.items b.items) es v k))) no.0
-    ∙ ap (λ r. (e.0.items, e.1) ∷ r) (insert-seen es v k no.1)
-
--- the name at a place is not among those before it
-pub not_before : (es : List (Bytes × Kind)) (i : ℕ) (v : Bytes) (k : Kind) → IsDistinct (λ (a b : Bytes). bytes_eq a.items b.items) (keys_of es) → slice_get es i ≡ Some (v, k)
-    → kind_in (take i (seen es)) v.items ≡ None
-not_before [] i v k d h = cc
-not_before (e ∷ es) zero v k d h = refl
-not_before (e ∷ es) (suc i) v k d h =
-    ap (λ b. cond b (Some e.1) (kind_in (take i (seen es)) v.items))
-    (name_eq-comm v.items e.0.items ∙ apart_from_head e.0 es i v k (IsDistinct-head (λ (a b : Bytes). bytes_eq a.items b.items) e.0 (keys_of es) d) h)
-    ∙ not_before es i v k (IsDistinct-tail (λ (a b : Bytes). bytes_eq a.items b.items) e.0 (keys_of es) d) h
+pub has-at : (names : List Name) (x : Name) (n : ℕ) → n < length names → name_at names n ≡ x → has_name x names ≡ true
+has-at [] x n h e = absurd (omega (arith, h))
+has-at (y ∷ names) x zero h e = ap (λ b. b || has_name x names) (ap (name_eq x) e ∙ name_same x)
+has-at (y ∷ names) x (suc n) h e = or-right (name_eq x y) (has_name x names) (has-at names x n (omega (arith, h)) e)
   where
-    apart_from_head : (x : Bytes) (es : List (Bytes × Kind)) (i : ℕ) (v : Bytes) (k : Kind) → AllByRecursion (λ (y : Bytes). bytes_eq x.items y.items ≡ false) (keys_of es) → slice_get es i ≡ Some (v, k) → bytes_eq x.items v.items ≡ false
-    apart_from_head x [] i v k a h = cc
-    apart_from_head x (e ∷ es) zero v k a h = ap (λ (y : Bytes). bytes_eq x.items y.items) (sym (first e v k h)) ∙ a.0
-      where
-        first : (e : Bytes × Kind) (v : Bytes) (k : Kind) → Some e ≡ Some (v, k) → e.0 ≡ v
-        first e v k h = cc
-    apart_from_head x (e ∷ es) (suc i) v k a h = apart_from_head x es i v k a.1 h
+    or-right : (a b : Bool) → b ≡ true → (a || b) ≡ true
+    or-right true b h = refl
+    or-right false b h = h
 
-take-suc : (es : List (Bytes × Kind)) (i : ℕ) (v : Bytes) (k : Kind) → slice_get es i ≡ Some (v, k) → take (suc i) (seen es) ≡ take i (seen es) ++ (v.items, k) ∷ []
-take-suc [] i v k h = cc
-take-suc (e ∷ es) zero v k h = ap (λ (p : Bytes × Kind). (p.0.items, p.1) ∷ []) (first e v k h)
+place-at : (names : List Name) (x : Name) (n : ℕ) → AreDistinct names → n < length names → name_at names n ≡ x → position_or_len (name_eq x) names ≡ n
+place-at [] x n d h e = absurd (omega (arith, h))
+place-at (y ∷ names) x zero d h e = first_step (name_eq x y) (prefix_len (λ a. not (name_eq x a)) names) (ap (name_eq x) e ∙ name_same x)
+place-at (y ∷ names) x (suc n) d h e =
+    later_step (name_eq x y) (prefix_len (λ a. not (name_eq x a)) names) n (apart (name_eq x y) refl) (place-at names x n d.1 (omega (arith, h)) e)
   where
-    first : (e : Bytes × Kind) (v : Bytes) (k : Kind) → Some e ≡ Some (v, k) → e ≡ (v, k)
-    first e v k h = cc
-take-suc (e ∷ es) (suc i) v k h = ap (λ r. (e.0.items, e.1) ∷ r) (take-suc es i v k h)
+    apart : (b : Bool) → name_eq x y ≡ b → name_eq x y ≡ false
+    apart false q = q
+    apart true q = absurd (true≢false (sym (has-at names x n (omega (arith, h)) e) ∙ (ap (λ z. has_name z names) (same_name x y q) ∙ d.0)))
 
-pub take-more : (es : List (Bytes × Kind)) (i : ℕ) (v : Bytes) (k : Kind) → slice_get es i ≡ Some (v, k) → take (i + 1) (seen es) ≡ take i (seen es) ++ (v.items, k) ∷ []
-take-more es i v k h = ap (λ n. take n (seen es)) (add-one i) ∙ take-suc es i v k h
+-- the number that a name stands at is its number, where the names are told apart
+pub code-at : (names : List Name) (x : Name) (n : ℕ) → AreDistinct names → n < length names → name_at names n ≡ x → code_of names x ≡ Some n
+code-at names x n d h e =
+    let t : nat_lt n (length names) ≡ true = grind (arith, h) in
+    ap (λ r. cond (nat_lt r (length names)) (Some r) None) (place-at names x n d h e) ∙ ap (λ b. cond b (Some n) None) t
+
+pub name_at-get_or : (names : List Name) (n : ℕ) → name_at names n ≡ get_or names n []
+name_at-get_or [] n = refl
+name_at-get_or (x ∷ names) zero = refl
+name_at-get_or (x ∷ names) (suc n) = name_at-get_or names n
+
+-- a name's number is below their count, and stands for it
+pub code-name : (names : List Name) (x : Name) (n : ℕ) → code_of names x ≡ Some n → (n < length names) × (name_at names n ≡ x)
+code-name names x n h =
+    let p = position-Some (name_eq x) names n [] h in
+    (p.0, name_at-get_or names n ∙ sym (same_name x (get_or names n []) p.1))
+
+-- no earlier place has the name
+pub code-first : (names : List Name) (x : Name) (n : ℕ) → code_of names x ≡ Some n → (m : ℕ) → m < n → name_at names m ≡ x → ⊥
+code-first names x n h m p e =
+    let q = position-Some (name_eq x) names n [] h in
+    true≢false (sym (name_same x) ∙ (ap (name_eq x) (sym e ∙ name_at-get_or names m) ∙ q.2 m p))
+
+pub code-absent : (names : List Name) (x : Name) → ((k : ℕ) → k < length names → name_at names k ≡ x → ⊥) → code_of names x ≡ None
+code-absent names x none = by (code_of names x) refl
+  where
+    by : (r : Option ℕ) → code_of names x ≡ r → code_of names x ≡ None
+    by None e = e
+    by (Some n) e = let p = code-name names x n e in absurd (none n p.0 p.1)
+
+-- the name that was put last has the number behind the others
+pub added-name : (old new : List Name) (x : Name) (n : ℕ) → n ≡ length old → new ≡ old ++ x ∷ [] → (n < length new) × (name_at new n ≡ x)
+added-name old new x n e h =
+    let l = ap length h ∙ length-append old (x ∷ []) in
+    (omega (arith, l, e), ap (λ r. name_at r n) h ∙ (ap (name_at (old ++ x ∷ [])) e ∙ last old x))
+  where
+    last : (names : List Name) (y : Name) → name_at (names ++ y ∷ []) (length names) ≡ y
+    last [] y = refl
+    last (z ∷ names) y = last names y

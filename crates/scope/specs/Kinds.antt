@@ -14,6 +14,12 @@ use Rattle.scope.specs.declared.numbering.Kind.TheVariants.{Label, Constant, Var
 abbrev pub Declared : Type 0
 Declared = List (Name × Kind)
 
+-- each name with the kind that has its place
+abbrev pub with_their : List Name → List Kind → Declared
+with_their [] kinds = []
+with_their (x ∷ names) [] = []
+with_their (x ∷ names) (k ∷ kinds) = (x, k) ∷ with_their names kinds
+
 abbrev pub declared_names : Declared → List Name
 declared_names names = map (λ p. p.0) names
 

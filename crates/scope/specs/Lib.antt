@@ -7,3 +7,4 @@ pub mod Standing
 pub mod Kept
 pub mod Sorts
 pub mod Laws
+pub mod Table

@@ -9,6 +9,7 @@ mod accept;
 mod history;
 mod laws;
 mod legal;
+mod names;
 mod numbering;
 mod reading;
 mod rule;
@@ -17,11 +18,14 @@ mod sizes;
 mod stack;
 mod standing;
 mod steps;
+mod table;
 #[cfg(test)]
 mod tests;
+mod texts;
 
 pub use history::History;
 pub use laws::{active_by_sentence, active_closed, active_later, active_more, rules_ignore_proofs};
+pub use names::Names;
 pub use rule::Rule;
 pub use scope::Scope;
 pub use standing::Standing;

@@ -3,7 +3,8 @@ ghost use Rattle.std.specs.Prelude.{◌≡◌, ◌<◌, ◌≤◌, ◌^◌, [], 
 ghost use Rattle.scope.specs.Numbering.{name_at, code_of};
 ghost use Rattle.scope.specs.Kinds.{declared_names, kind_in};
 
-use indexmap::IndexMap;
+use crate::names::Names;
+use crate::texts::item;
 use std::alloc::{AllocError, Global};
 use std::marker::Model;
 
@@ -18,19 +19,20 @@ pub enum Kind {
 /// Names with their kinds. The number of a name is its place, from 0.
 #[derive(Drop)]
 pub struct Numbering {
-    kinds: IndexMap<Vec<u8>, Kind>,
+    names: Names,
+    kinds: Vec<Kind>,
 }
 
 impl Model for Numbering {
-    ghost use Rattle.std.specs.Prelude.{ℕ, List, map, ◌≤◌, ◌^◌, length, bytes_eq};
-    ghost use Rattle.indexmap.specs.IndexMap.{IsUnique};
+    ghost use Rattle.std.specs.Prelude.{ℕ, List, ◌≡◌, length};
+    ghost use Rattle.scope.specs.Kinds.{with_their};
     ghost use Rattle.scope.specs.declared.numbering.Kind.{Kind};
 
     ghost Value = { List (List ℕ × Kind) };
 
-    ghost view = { λ a. map (λ p. (p.0.items, p.1)) a.kinds.entries };
+    ghost view = { λ a. with_their a.names a.kinds.items };
 
-    ghost invariant = { λ a. length a.kinds.entries ≤ 2 ^ 32 };
+    ghost invariant = { λ a. length a.kinds.items ≡ length a.names };
 }
 
 impl Numbering {
@@ -39,7 +41,8 @@ impl Numbering {
         ensures { result ≡ [] }
     {
         Numbering {
-            kinds: IndexMap::new(alloc),
+            names: Names::new(alloc),
+            kinds: Vec::new(alloc),
         }
     }
 
@@ -47,14 +50,9 @@ impl Numbering {
     pub(crate) fn copy(&self, alloc: Global) -> Result<Numbering, AllocError>
         ensures { IfOk result (λ names. names ≡ self.now) }
     {
-        let mut copied = Numbering::new(alloc);
-        for i in 0..self.kinds.len() {
-            match self.kinds.get_index(i) {
-                Some((name, kind)) => copied.declare(alloc, name.as_slice(), *kind)?,
-                None => unreachable!(),
-            }
-        }
-        Ok(copied)
+        let names = self.names.copy(alloc)?;
+        let kinds = Vec::from_slice(alloc, self.kinds.as_slice())?;
+        Ok(Numbering { names, kinds })
     }
 
     /// How many names there are.
@@ -62,7 +60,8 @@ impl Numbering {
         ensures len { result ≡ length self.now }
         ensures fits { result ≤ 2 ^ 32 }
     {
-        self.kinds.len()
+        self.names.few();
+        self.names.len()
     }
 
     /// The number and the kind of a name that was declared.
@@ -70,8 +69,9 @@ impl Numbering {
         ensures number { option_map (λ p. p.0) result ≡ code_of (declared_names self.now) name.now }
         ensures kind { option_map (λ p. p.1) result ≡ kind_in self.now name.now }
     {
-        match self.kinds.get_full(name) {
-            Some((index, _, kind)) => Some((index as u32, *kind)),
+        self.names.few();
+        match self.names.find(name) {
+            Some(number) => Some((number as u32, item(self.kinds.as_slice(), number))),
             None => None,
         }
     }
@@ -81,10 +81,7 @@ impl Numbering {
         requires { number < length self.now }
         ensures { result.now ≡ name_at (declared_names self.now) number }
     {
-        match self.kinds.get_index(number as usize) {
-            Some((name, _)) => name.as_slice(),
-            None => unreachable!(),
-        }
+        self.names.name(number as usize)
     }
 
     /// Gives the next number to a name that has none.
@@ -98,11 +95,13 @@ impl Numbering {
         ensures ok { OnOk result (self.new ≡ self.old ++ (name.now, kind) ∷ []) }
         ensures err { OnErr result (self.new ≡ self.old) }
     {
-        if self.kinds.len() >= 0xffff_ffff {
+        let number = self.names.len();
+        self.names.add(alloc, name)?;
+        let pushed = self.kinds.push(kind);
+        if pushed.is_err() {
+            self.names.truncate(number);
             return Err(AllocError);
         }
-        let bytes = Vec::from_slice(alloc, name)?;
-        self.kinds.insert(bytes, kind)?;
         Ok(())
     }
 
@@ -110,6 +109,7 @@ impl Numbering {
     pub(crate) fn truncate(&mut self, len: usize)
         ensures { self.new ≡ take len self.old }
     {
+        self.names.truncate(len);
         self.kinds.truncate(len);
     }
 }

@@ -9,7 +9,8 @@ use Rattle.scope.specs.Numbering.{code_of, name_at}
 use Rattle.frame.specs.Citations.{Carries}
 use Rattle.frame.specs.Reading.{IsPosition}
 use Rattle.frame.specs.Stored.{statements_of, labels_of, positions_from}
-use Rattle.frame.proofs.NameLemmas.{code-name, code-none}
+use Rattle.scope.proofs.NumberingLemmas.{code-name}
+use Rattle.scope.proofs.SortsLemmas.{unknown-number}
 use Rattle.frame.proofs.StoredLemmas.{label-place, label-none, length-positions, has-labels_of}
 use Rattle.frame.proofs.frames.Frames.position.Goals as goal
 
@@ -26,7 +27,7 @@ none : (S T : Database) (labels : List Name) (x : Name) → S ≡ T → labels �
 none S T labels x same a h i s c = by i c.stands
   where
     free : was_label S x ≡ false
-    free = sym (has-labels_of S x) ∙ (ap (has_name x) (sym a) ∙ code-none labels x h)
+    free = sym (has-labels_of S x) ∙ (ap (has_name x) (sym a) ∙ unknown-number labels x (sym h))
 
     by : (j : ℕ) → stmt_at T j ≡ Some s → ⊥
     by zero g = cc

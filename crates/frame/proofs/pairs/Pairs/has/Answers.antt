@@ -8,7 +8,7 @@ use Rattle.scope.specs.Numbering.{name_at}
 use Rattle.frame.specs.FrameOf.{is_pair}
 use Rattle.frame.specs.Parts.{Numbered}
 use Rattle.frame.specs.Stored.{statements_of}
-use Rattle.frame.proofs.NameLemmas.{list_any-map}
+use Rattle.scope.proofs.NumberingLemmas.{list_any-map}
 use Rattle.frame.proofs.PairsLemmas.{same-number}
 use Rattle.frame.proofs.pairs.Pairs.has.Goals as goal
 

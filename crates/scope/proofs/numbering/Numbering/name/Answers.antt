@@ -1,8 +1,15 @@
-use Rattle.std.proofs.Common.{◌∙◌, ap, sym}
+use Rattle.std.proofs.Common.{◌∙◌, ap, sym, arith, length}
 use Rattle.scope.specs.Numbering.{name_at}
 use Rattle.scope.specs.Kinds.{declared_names}
-use Rattle.scope.proofs.NumberingLemmas.{name-seen}
+use Rattle.scope.proofs.KindsLemmas.{length-seen, names-seen}
 use Rattle.scope.proofs.numbering.Numbering.name.Goals as goal
 
+pub name-requires : goal.name-requires
+name-requires c =
+    let size = ap length (sym c.self.view_is) ∙ length-seen c.self.inside.names c.self.inside.kinds.items c.self.invariant in
+    omega (arith, c.requires, size)
+
 pub returns : goal.returns
-returns c = c.as_slice.ensures.value ∙ (name-seen c.self.inside.kinds.entries c.args.number _ _ (sym c.in-Some.ensures.entry) ∙ ap (λ names. name_at (declared_names names) c.args.number) c.self.view_is)
+returns c =
+    c.name.ensures
+    ∙ ap (λ names. name_at names c.args.number) (sym (ap declared_names (sym c.self.view_is) ∙ names-seen c.self.inside.names c.self.inside.kinds.items c.self.invariant))

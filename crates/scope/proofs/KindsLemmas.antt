@@ -1,0 +1,76 @@
+-- Names and their kinds, as two lists.
+use Rattle.std.specs.Prelude.{◌≡◌, ℕ, zero, suc, ◌<◌, Bool, true, false, ◌||◌, cond, List, [], ◌∷◌, ◌++◌, length, take, Option, Some, None, slice_get, refl}
+use Rattle.std.proofs.Common.{sym, ◌∙◌, ap, arith}
+use Rattle.mm_lex.specs.Alphabet.{Name, name_eq, has_name}
+use Rattle.scope.specs.Numbering.{name_at}
+use Rattle.scope.specs.Kinds.{declared_names, kind_in, with_their}
+use Rattle.scope.specs.declared.numbering.Kind.{Kind}
+use Rattle.scope.proofs.NumberingLemmas.{name_same, same_name}
+
+pub names-seen : (names : List Name) (kinds : List Kind) → length kinds ≡ length names → declared_names (with_their names kinds) ≡ names
+names-seen [] kinds h = refl
+names-seen (x ∷ names) [] h = absurd (omega (arith, h))
+names-seen (x ∷ names) (k ∷ kinds) h = ap (λ r. x ∷ r) (names-seen names kinds (omega (arith, h)))
+
+pub length-seen : (names : List Name) (kinds : List Kind) → length kinds ≡ length names → length (with_their names kinds) ≡ length names
+length-seen [] kinds h = refl
+length-seen (x ∷ names) [] h = absurd (omega (arith, h))
+length-seen (x ∷ names) (k ∷ kinds) h = ap suc (length-seen names kinds (omega (arith, h)))
+
+some-same : {A : Type 0} {x y : A} → Some x ≡ Some y → x ≡ y
+some-same e = cc
+
+-- the kind at the first place of the name, where no earlier one is the name
+pub kind-at : (names : List Name) (kinds : List Kind) (x : Name) (n : ℕ) (k : Kind) → n < length names → name_at names n ≡ x → ((m : ℕ) → m < n → name_at names m ≡ x → ⊥) → slice_get kinds n ≡ Some k
+    → kind_in (with_their names kinds) x ≡ Some k
+kind-at [] kinds x n k lt e first h = absurd (omega (arith, lt))
+kind-at (y ∷ names) [] x n k lt e first h = cc
+kind-at (y ∷ names) (l ∷ kinds) x zero k lt e first h =
+    ap (λ b. cond b (Some l) (kind_in (with_their names kinds) x)) (own x y e) ∙ h
+  where
+    own : (x y : Name) → y ≡ x → name_eq x y ≡ true
+    own x y e = ap (name_eq x) e ∙ name_same x
+kind-at (y ∷ names) (l ∷ kinds) x (suc n) k lt e first h =
+    ap (λ b. cond b (Some l) (kind_in (with_their names kinds) x)) (other (name_eq x y) refl)
+    ∙ kind-at names kinds x n k (omega (arith, lt)) e (λ m p. first (suc m) (omega (arith, p))) h
+  where
+    other : (b : Bool) → name_eq x y ≡ b → name_eq x y ≡ false
+    other false q = q
+    other true q = absurd (first 0 (omega arith) (sym (same_name x y q)))
+
+pub kind-none : (names : List Name) (kinds : List Kind) (x : Name) → has_name x names ≡ false → kind_in (with_their names kinds) x ≡ None
+kind-none [] kinds x h = refl
+kind-none (y ∷ names) [] x h = refl
+kind-none (y ∷ names) (l ∷ kinds) x h =
+    let p = or_false (name_eq x y) (has_name x names) h in
+    ap (λ b. cond b (Some l) (kind_in (with_their names kinds) x)) p.0 ∙ kind-none names kinds x p.1
+  where
+    or_false : (a b : Bool) → (a || b) ≡ false → (a ≡ false) × (b ≡ false)
+    or_false true b h = cc
+    or_false false b h = (refl, h)
+
+-- a name with no kind is not among them
+pub none-kind : (names : List Name) (kinds : List Kind) (x : Name) → length kinds ≡ length names → kind_in (with_their names kinds) x ≡ None → has_name x names ≡ false
+none-kind [] kinds x l h = refl
+none-kind (y ∷ names) [] x l h = absurd (omega (arith, l))
+none-kind (y ∷ names) (k ∷ kinds) x l h =
+    let p = none_cond (name_eq x y) k (kind_in (with_their names kinds) x) h in
+    ap (λ b. b || has_name x names) p.0 ∙ none-kind names kinds x (omega (arith, l)) p.1
+  where
+    none_cond : (b : Bool) (k : Kind) (r : Option Kind) → cond b (Some k) r ≡ None → (b ≡ false) × (r ≡ None)
+    none_cond true k r h = cc
+    none_cond false k r h = (refl, h)
+
+pub their-push : (names : List Name) (kinds : List Kind) (x : Name) (k : Kind) → length kinds ≡ length names → with_their (names ++ x ∷ []) (kinds ++ k ∷ []) ≡ with_their names kinds ++ (x, k) ∷ []
+their-push [] [] x k h = refl
+their-push [] (l ∷ kinds) x k h = absurd (omega (arith, h))
+their-push (y ∷ names) [] x k h = absurd (omega (arith, h))
+their-push (y ∷ names) (l ∷ kinds) x k h = ap (λ r. (y, l) ∷ r) (their-push names kinds x k (omega (arith, h)))
+
+pub their-take : (n : ℕ) (names : List Name) (kinds : List Kind) → length kinds ≡ length names → with_their (take n names) (take n kinds) ≡ take n (with_their names kinds)
+their-take zero [] [] h = refl
+their-take (suc n) [] [] h = refl
+their-take n [] (l ∷ kinds) h = absurd (omega (arith, h))
+their-take n (y ∷ names) [] h = absurd (omega (arith, h))
+their-take zero (y ∷ names) (l ∷ kinds) h = refl
+their-take (suc n) (y ∷ names) (l ∷ kinds) h = ap (λ r. (y, l) ∷ r) (their-take n names kinds (omega (arith, h)))

@@ -1,0 +1,195 @@
+-- A table by hashes: what is put there is found, and what is not found is not there.
+use Rattle.std.specs.Prelude.{◌≡◌, ◌≢◌, ℕ, zero, suc, ◌+◌, ◌<◌, ◌≤◌, ◌^◌, Bool, true, false, ◌||◌, ◌⊎◌, List, [], ◌∷◌, ◌++◌, length, take, drop, slice_get, Some, None, refl}
+use Rattle.std.proofs.Common.{sym, ◌∙◌, ap, subst, arith, inl, inr, slice_set, length-append, add-one}
+use Rattle.std.proofs.lemmas.Bool.{cases_lt}
+use Rattle.std.proofs.lemmas.List.{length-set, take-append-drop}
+use Rattle.std.proofs.lemmas.Option.{slice_get_within}
+use Rattle.mm_lex.specs.Alphabet.{Name, name_eq, has_name}
+use Rattle.scope.specs.Numbering.{name_at, code_of, AreDistinct}
+use Rattle.scope.specs.declared.table.Slot.{Slot}
+use Rattle.scope.specs.declared.table.TheConstants.{NO_NAME}
+use Rattle.scope.specs.Table.{hash_of, place_of, slot_at, IsTaken, IsHeld, AreHeld, IsFree, IsPassed}
+use Rattle.scope.proofs.NumberingLemmas.{name_eq-comm, code-absent}
+
+some-same : {A : Type 0} {x y : A} → Some x ≡ Some y → x ≡ y
+some-same e = cc
+
+same-slot : (slots : List Slot) (hash step : ℕ) (s t : Slot) → slot_at slots hash step s → slot_at slots hash step t → s ≡ t
+same-slot slots hash step s t a b = some-same (sym a ∙ b)
+
+pub passed-one : (slots : List Slot) (names : List Name) (name : Name) (hash step : ℕ) (t : Slot) → slot_at slots hash step t → t.number ≢ NO_NAME → (t.hash ≡ hash → t.number < length names → name_at names t.number ≢ name)
+    → IsPassed slots names name hash step
+passed-one slots names name hash step t at taken other s g =
+    subst (λ (u : Slot). (u.number ≢ NO_NAME) × (u.hash ≡ hash → u.number < length names → name_at names u.number ≢ name)) (same-slot slots hash step t s at g) (taken, other)
+
+no-name : (k n : ℕ) → k < n → n < 2 ^ 32 → k ≡ NO_NAME → ⊥
+no-name k n p q e = omega (arith, p, q, e)
+
+-- the search met a slot without number, or each slot: then no name is this one
+pub not-found : (slots : List Slot) (names : List Name) (name : Name) (hash step : ℕ) → hash ≡ hash_of name → AreHeld slots names → length names < 2 ^ 32
+    → ((i : ℕ) → i < step → IsPassed slots names name hash i) → (length slots ≤ step) ⊎ ((s : Slot) × slot_at slots hash step s × (s.number ≡ NO_NAME))
+    → code_of names name ≡ None
+not-found slots names name hash step own held few passed end = code-absent names name none
+  where
+    none : (k : ℕ) → k < length names → name_at names k ≡ name → ⊥
+    none k lt e = by end (cases_lt h.step step)
+      where
+        h : IsHeld slots hash k
+        h = subst (λ n. IsHeld slots n k) (ap hash_of e ∙ sym own) (held k lt)
+
+        met : h.step < step → ⊥
+        met p = (passed h.step p (record { hash = hash; number = k }) h.there).1 refl lt e
+
+        by : (length slots ≤ step) ⊎ ((s : Slot) × slot_at slots hash step s × (s.number ≡ NO_NAME)) → (h.step < step) ⊎ (step ≤ h.step) → ⊥
+        by end (inl p) = met p
+        by (inl all) (inr p) = let w = h.within in absurd (omega (arith, w, all, p))
+        by (inr f) (inr p) = later f (cases_lt step h.step)
+          where
+            later : (s : Slot) × slot_at slots hash step s × (s.number ≡ NO_NAME) → (step < h.step) ⊎ (h.step ≤ step) → ⊥
+            later g (inl q) = h.before step q g.0 g.1 g.2
+            later g (inr q) =
+                let same : h.step ≡ step = omega (arith, p, q) in
+                let there : slot_at slots hash step (record { hash = hash; number = k }) = subst (λ i. slot_at slots hash i (record { hash = hash; number = k })) same h.there in
+                no-name k (length names) lt few (ap (λ (u : Slot). u.number) (same-slot slots hash step (record { hash = hash; number = k }) g.0 there g.1) ∙ g.2)
+
+get-set_other : {A : Type 0} (xs : List A) (i n : ℕ) (v : A) → n ≢ i → slice_get (slice_set xs i v) n ≡ slice_get xs n
+get-set_other [] i n v ne = refl
+get-set_other (x ∷ xs) zero zero v ne = absurd (ne refl)
+get-set_other (x ∷ xs) (suc i) zero v ne = refl
+get-set_other (x ∷ xs) zero (suc n) v ne = refl
+get-set_other (x ∷ xs) (suc i) (suc n) v ne = get-set_other xs i n v (λ e. ne (ap suc e))
+
+get-set_same : {A : Type 0} (xs : List A) (i : ℕ) (v : A) → i < length xs → slice_get (slice_set xs i v) i ≡ Some v
+get-set_same [] i v h = absurd (omega arith)
+get-set_same (x ∷ xs) zero v h = refl
+get-set_same (x ∷ xs) (suc i) v h = get-set_same xs i v (omega arith)
+
+taken-set : (slots : List Slot) (at : ℕ) (new : Slot) (hash step : ℕ) → new.number ≢ NO_NAME → IsTaken slots hash step → IsTaken (slice_set slots at new) hash step
+taken-set slots at new hash step ne taken s g = by (cases_lt place at) (cases_lt at place)
+  where
+    place : ℕ
+    place = place_of hash step (length slots)
+
+    g' : slice_get (slice_set slots at new) (place_of hash step (length slots)) ≡ Some s
+    g' = ap (λ n. slice_get (slice_set slots at new) (place_of hash step n)) (sym (length-set slots at new)) ∙ g
+
+    elsewhere : place_of hash step (length slots) ≢ at → s.number ≢ NO_NAME
+    elsewhere q = taken s (sym (get-set_other slots at (place_of hash step (length slots)) new q) ∙ g')
+
+    by : (place_of hash step (length slots) < at) ⊎ (at ≤ place_of hash step (length slots)) → (at < place_of hash step (length slots)) ⊎ (place_of hash step (length slots) ≤ at) → s.number ≢ NO_NAME
+    by (inl p) q = elsewhere (λ e. absurd (omega (arith, p, e)))
+    by (inr p) (inl q) = elsewhere (λ e. absurd (omega (arith, q, e)))
+    by (inr p) (inr q) =
+        let same : place_of hash step (length slots) ≡ at = omega (arith, p, q) in
+        let here : slice_get (slice_set slots at new) at ≡ Some s = ap (slice_get (slice_set slots at new)) (sym same) ∙ g' in
+        let w = slice_get_within (slice_set slots at new) at s here in
+        let l = length-set slots at new in
+        let e : new ≡ s = some-same (sym (get-set_same slots at new (omega (arith, w, l))) ∙ here) in
+        λ z. ne (ap (λ (u : Slot). u.number) e ∙ z)
+
+held-set : (slots : List Slot) (at : ℕ) (new : Slot) (hash k : ℕ) → ((s : Slot) → slice_get slots at ≡ Some s → s.number ≡ NO_NAME) → new.number ≢ NO_NAME → k ≢ NO_NAME
+    → IsHeld slots hash k → IsHeld (slice_set slots at new) hash k
+held-set slots at new hash k free ne known h =
+    let l = length-set slots at new in
+    let w = h.within in
+    record {
+      step = h.step;
+      within = omega (arith, w, l);
+      there = ap (λ n. slice_get (slice_set slots at new) (place_of hash h.step n)) l
+          ∙ (get-set_other slots at (place_of hash h.step (length slots)) new (λ e. known (free (record { hash = hash; number = k }) (ap (slice_get slots) (sym e) ∙ h.there))) ∙ h.there);
+      before = λ i p. taken-set slots at new hash i ne (h.before i p);
+    }
+
+put-new : (slots : List Slot) (at : ℕ) (hash k : ℕ) → IsFree slots hash at → k ≢ NO_NAME → IsHeld (slice_set slots at (record { hash = hash; number = k })) hash k
+put-new slots at hash k f known =
+    let new : Slot = record { hash = hash; number = k } in
+    let l = length-set slots at new in
+    let w = f.within in
+    record {
+      step = f.step;
+      within = omega (arith, w, l);
+      there = ap (λ n. slice_get (slice_set slots at new) (place_of hash f.step n)) l
+          ∙ (ap (slice_get (slice_set slots at new)) f.place ∙ get-set_same slots at new f.inside);
+      before = λ i p. taken-set slots at new hash i known (f.before i p);
+    }
+
+pub name_at-more : (names more : List Name) (n : ℕ) → n < length names → name_at (names ++ more) n ≡ name_at names n
+name_at-more [] more n h = absurd (omega (arith, h))
+name_at-more (x ∷ names) more zero h = refl
+name_at-more (x ∷ names) more (suc n) h = name_at-more names more n (omega (arith, h))
+
+name_at-last : (names : List Name) (x : Name) → name_at (names ++ x ∷ []) (length names) ≡ x
+name_at-last [] x = refl
+name_at-last (y ∷ names) x = name_at-last names x
+
+-- one more name is put where its hash meets the first free slot
+pub put-held : (slots : List Slot) (names : List Name) (name : Name) (hash at n : ℕ) → hash ≡ hash_of name → n ≡ length names → n < NO_NAME → AreHeld slots names → IsFree slots hash at
+    → AreHeld (slice_set slots at (record { hash = hash; number = n })) (names ++ name ∷ [])
+put-held slots names name hash at n own count few held f k lt = by (cases_lt k (length names))
+  where
+    ne : n ≢ NO_NAME
+    ne e = absurd (omega (arith, few, e))
+
+    by : (k < length names) ⊎ (length names ≤ k) → IsHeld (slice_set slots at (record { hash = hash; number = n })) (hash_of (name_at (names ++ name ∷ []) k)) k
+    by (inl p) =
+        subst (λ x. IsHeld (slice_set slots at (record { hash = hash; number = n })) (hash_of x) k) (sym (name_at-more names (name ∷ []) k p))
+        (held-set slots at (record { hash = hash; number = n }) (hash_of (name_at names k)) k f.free ne (λ e. absurd (omega (arith, p, count, few, e))) (held k p))
+    by (inr p) =
+        let l = length-append names (name ∷ []) in
+        let same : n ≡ k = omega (arith, p, lt, l, count) in
+        let e : hash ≡ hash_of (name_at (names ++ name ∷ []) k) = own ∙ ap hash_of (sym (name_at-last names name) ∙ ap (name_at (names ++ name ∷ [])) (sym count ∙ same)) in
+        subst (λ h. IsHeld (slice_set slots at (record { hash = hash; number = n })) h k) e
+        (subst (IsHeld (slice_set slots at (record { hash = hash; number = n })) hash) same (put-new slots at hash n f ne))
+
+name_at-take : (n : ℕ) (names : List Name) (k : ℕ) → k < length (take n names) → name_at (take n names) k ≡ name_at names k
+name_at-take n names k h = sym (name_at-more (take n names) (drop n names) k h) ∙ ap (λ xs. name_at xs k) (take-append-drop n names)
+
+pub length-take-below : (n : ℕ) (names : List Name) → length (take n names) ≤ length names
+length-take-below n names = let l = length-append (take n names) (drop n names) in let e = ap length (take-append-drop n names) in omega (arith, l, e)
+
+pub held-take : (slots : List Slot) (names : List Name) (n : ℕ) → AreHeld slots names → AreHeld slots (take n names)
+held-take slots names n held k lt =
+    let l = length-take-below n names in
+    subst (λ x. IsHeld slots (hash_of x) k) (sym (name_at-take n names k lt)) (held k (omega (arith, lt, l)))
+
+or_false : (a b : Bool) → (a || b) ≡ false → (a ≡ false) × (b ≡ false)
+or_false true b h = cc
+or_false false b h = (refl, h)
+
+false_or : (a b : Bool) → a ≡ false → b ≡ false → (a || b) ≡ false
+false_or true b p q = cc
+false_or false b p q = q
+
+has-take : (n : ℕ) (names : List Name) (x : Name) → has_name x names ≡ false → has_name x (take n names) ≡ false
+has-take zero [] x h = refl
+has-take zero (y ∷ names) x h = refl
+has-take (suc n) [] x h = refl
+has-take (suc n) (y ∷ names) x h =
+    let p = or_false (name_eq x y) (has_name x names) h in
+    false_or (name_eq x y) (has_name x (take n names)) p.0 (has-take n names x p.1)
+
+pub distinct-take : (n : ℕ) (names : List Name) → AreDistinct names → AreDistinct (take n names)
+distinct-take zero [] d = tt
+distinct-take zero (y ∷ names) d = tt
+distinct-take (suc n) [] d = tt
+distinct-take (suc n) (y ∷ names) d = (has-take n names y d.0, distinct-take n names d.1)
+
+has-push : (names : List Name) (x y : Name) → has_name y names ≡ false → name_eq y x ≡ false → has_name y (names ++ x ∷ []) ≡ false
+has-push [] x y p q = false_or (name_eq y x) false q refl
+has-push (z ∷ names) x y p q =
+    let r = or_false (name_eq y z) (has_name y names) p in
+    false_or (name_eq y z) (has_name y (names ++ x ∷ [])) r.0 (has-push names x y r.1 q)
+
+pub distinct-push : (names : List Name) (x : Name) → AreDistinct names → has_name x names ≡ false → AreDistinct (names ++ x ∷ [])
+distinct-push [] x d h = (refl, tt)
+distinct-push (y ∷ names) x d h =
+    let p = or_false (name_eq x y) (has_name x names) h in
+    (has-push names x y d.0 (name_eq-comm y x ∙ p.0), distinct-push names x d.1 p.1)
+
+pub take-name : (names : List Name) (i : ℕ) → i < length names → take (i + 1) names ≡ take i names ++ name_at names i ∷ []
+take-name names i h = ap (λ n. take n names) (add-one i) ∙ by names i h
+  where
+    by : (names : List Name) (i : ℕ) → i < length names → take (suc i) names ≡ take i names ++ name_at names i ∷ []
+    by [] i h = absurd (omega (arith, h))
+    by (x ∷ names) zero h = refl
+    by (x ∷ names) (suc i) h = ap (λ r. x ∷ r) (by names i (omega (arith, h)))
