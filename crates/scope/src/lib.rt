@@ -21,6 +21,8 @@ mod steps;
 mod table;
 #[cfg(test)]
 mod tests;
+#[cfg(test)]
+mod tests_names;
 mod texts;
 
 pub use history::History;

@@ -7,7 +7,7 @@ use Rattle.mm_lex.specs.Alphabet.{Name, name_eq, has_name}
 use Rattle.scope.specs.Numbering.{name_at, decode, code_of, AreDistinct}
 use Rattle.scope.proofs.NumberingLemmas.{name_same, name_eq-comm}
 use Rattle.frame.specs.Substitution.{CodeImages, code_image, code_apply, image, images_from, images_of_names}
-use Rattle.frame.proofs.NameLemmas.{code-none, position-has}
+use Rattle.scope.proofs.SortsLemmas.{found-number, unknown-number}
 use Rattle.subst.specs.Laws.{SubstitutionOverNames}
 
 or_false : (a b : Bool) → (a || b) ≡ false → (a ≡ false) × (b ≡ false)
@@ -44,7 +44,7 @@ image-at names σ k (y ∷ xs) x = by (name_eq x y) (image-at names σ (suc k) x
 -- the image of a name is that of its number
 pub image-named : (names : List Name) (σ : CodeImages) (x : Name) (n : ℕ) → code_of names x ≡ Some n → image (images_of_names names σ) x ≡ decode names (code_image σ n)
 image-named names σ x n h =
-    let has : has_name x names ≡ true = position-has (name_eq x) names n h in
+    let has : has_name x names ≡ true = (found-number names x n (sym h)).0 in
     image-at names σ 0 names x
     ∙ (ap (λ b. cond b (decode names (code_image σ (0 + position_or_len (name_eq x) names))) (x ∷ [])) has
     ∙ ap (λ m. decode names (code_image σ m)) (place (nat_lt (position_or_len (name_eq x) names) (length names)) h))
@@ -57,7 +57,7 @@ image-named names σ x n h =
 pub image-unnamed : (names : List Name) (σ : CodeImages) (x : Name) → code_of names x ≡ None → image (images_of_names names σ) x ≡ x ∷ []
 image-unnamed names σ x h =
     image-at names σ 0 names x
-    ∙ ap (λ b. cond b (decode names (code_image σ (0 + position_or_len (name_eq x) names))) (x ∷ [])) (code-none names x h)
+    ∙ ap (λ b. cond b (decode names (code_image σ (0 + position_or_len (name_eq x) names))) (x ∷ [])) (unknown-number names x (sym h))
 
 -- a number's name has that number, where names are told apart
 place-of : (names : List Name) (n : ℕ) → AreDistinct names → nat_lt n (length names) ≡ true
