@@ -1,4 +1,5 @@
 mod OutlineLemmas
 mod RulesLemmas
+mod TreesLemmas
 mod NumberLemmas
 mod Rows

@@ -1,3 +1,4 @@
 pub mod Numbers
 pub mod Outline
 pub mod Printed
+pub mod Trees

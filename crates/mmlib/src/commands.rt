@@ -1,6 +1,7 @@
 //! The words of a command line.
 ghost use Rattle.std.specs.Prelude.{◌≤◌, IfSome};
 
+use crate::database::Question;
 use crate::number::parse_number;
 use crate::weights::parse_weights;
 use clap::error::ErrorKind;
@@ -9,11 +10,11 @@ use std::alloc::{AllocError, Global};
 use synod::{MOST_NODES, Weights};
 
 /// What a command line asks for.
-pub enum Request {
+pub enum Request<'a> {
     /// `outline`: the outline of a database.
     Outline,
-    /// `check`: whether a database is right.
-    Check,
+    /// `check`, `tree` or `trace`: a question about a database.
+    Ask(Question<'a>),
     /// `play`: a script drives a world of nodes.
     Play {
         /// `None` where what was given are no weights of so many nodes.
@@ -24,15 +25,32 @@ pub enum Request {
 /// What these words ask for; the first is the program's own name.
 ///
 /// Errors: the text of a bad command line, or of the help that was asked for.
-pub fn parse_words<'a>(alloc: Global, words: &'a [&'a str]) -> Result<Request, Error> {
+pub fn parse_words<'a>(alloc: Global, words: &'a [&'a str]) -> Result<Request<'a>, Error> {
     let matches = commands(alloc)?.try_get_matches_from(words)?;
     match matches.subcommand() {
         Some(("outline", _)) => Ok(Request::Outline),
-        Some(("check", _)) => Ok(Request::Check),
+        Some(("check", _)) => Ok(Request::Ask(Question::Check)),
+        Some(("tree", options)) => Ok(Request::Ask(Question::Tree {
+            label: label(alloc, options)?,
+        })),
+        Some(("trace", options)) => Ok(Request::Ask(Question::Trace {
+            label: label(alloc, options)?,
+        })),
         Some(("play", options)) => Ok(Request::Play {
             weights: weights(alloc, options)?,
         }),
         _ => Err(commands(alloc)?.error(ErrorKind::MissingSubcommand, "a command is wanted")?),
+    }
+}
+
+/// The label that is asked about.
+fn label<'a>(alloc: Global, options: &ArgMatches<'a>) -> Result<&'a str, Error> {
+    match options.get_str("label") {
+        Some(label) => Ok(label),
+        None => Err(commands(alloc)?.error(
+            ErrorKind::MissingRequiredArgument,
+            "a label is wanted",
+        )?),
     }
 }
 
@@ -66,6 +84,12 @@ fn commands<'a>(alloc: Global) -> Result<Command<'a>, AllocError> {
         "Print the statements of a database, one a line",
     );
     let check = Command::new(alloc, "check").about("Check the proofs of a database");
+    let tree = Command::new(alloc, "tree")
+        .about("Print the derivation of a provable assertion, a node a line")
+        .arg(label_argument(alloc))?;
+    let trace = Command::new(alloc, "trace")
+        .about("Print the axioms that a proof rests on")
+        .arg(label_argument(alloc))?;
     let play = Command::new(alloc, "play")
         .about("Drive a world of nodes by a script")
         .arg(nodes_option(alloc))?
@@ -75,7 +99,16 @@ fn commands<'a>(alloc: Global) -> Result<Command<'a>, AllocError> {
         .subcommand_required(true)
         .subcommand(outline)?
         .subcommand(check)?
+        .subcommand(tree)?
+        .subcommand(trace)?
         .subcommand(play)
+}
+
+fn label_argument<'a>(alloc: Global) -> Arg<'a> {
+    Arg::new(alloc, "label")
+        .value_name("LABEL")
+        .required(true)
+        .help("The label of a $p of the database; one that begins with - stands after --")
 }
 
 fn nodes_option<'a>(alloc: Global) -> Arg<'a> {

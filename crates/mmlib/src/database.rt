@@ -1,43 +1,81 @@
-//! The command `check`: a database is a text that is applied to an empty library.
-
+//! The commands on a database, a text that is applied to an empty library: `check`, `tree` and `trace`.
 use crate::printed::push_number;
 use crate::streams::{ReadFailure, print, read_text};
+use crate::tree_text::{push_labels, push_tree};
 use crate::verdict_text::push_verdict;
 use bytes::Bytes;
-use library::{Entry, Library, Submission, Verdict};
+use library::{AskFault, Cause, Entry, Library, Submission, Verdict};
 use mm_read::Stmt;
 use std::alloc::{AllocError, Global};
 use std::io::{Read, Write};
 
-/// Prints how many `$p` the database proves, or why it is refused; the answer is the exit status.
-pub fn check<I: Read, O: Write>(alloc: Global, input: &mut I, output: &mut O) -> u8 {
+/// What is asked about a database.
+#[derive(Clone, Copy)]
+pub enum Question<'a> {
+    /// `check`: how many `$p` it proves.
+    Check,
+    /// `tree`: the derivation of the `$p` of this label.
+    Tree { label: &'a str },
+    /// `trace`: the `$a` that the proof of the `$p` of this label uses.
+    Trace { label: &'a str },
+}
+
+/// Prints the answer about the database that is read, or why there is none; the answer is the exit status.
+pub fn ask<I: Read, O: Write>(
+    alloc: Global,
+    question: Question<'_>,
+    input: &mut I,
+    output: &mut O,
+) -> u8 {
     let text = match read_text(alloc, input) {
         Ok(text) => text,
         Err(ReadFailure::Input) => return print(output, b"refused Input\n", 1),
         Err(ReadFailure::Memory) => return print(output, b"refused Memory\n", 1),
     };
-    match checked(alloc, text) {
-        Ok(line) => {
-            let status = if line.starts_with(b"refused") { 1 } else { 0 };
-            print(output, line.as_slice(), status)
-        }
+    let mut library = Library::new(alloc);
+    match judge(&mut library, text) {
+        Ok(Verdict::Refused(cause)) => print_cause(alloc, cause, output),
+        Ok(_) => print_answer(alloc, question, &library, output),
         Err(_) => print(output, b"refused Memory\n", 1),
     }
 }
 
-/// The line on a text that is applied to an empty library.
-fn checked(alloc: Global, text: Vec<u8>) -> Result<Vec<u8>, AllocError> {
-    let mut library = Library::new(alloc);
-    let mut line = Vec::new(alloc);
-    match judge(&mut library, text)? {
-        Verdict::Refused(cause) => push_verdict(&mut line, Verdict::Refused(cause))?,
-        _ => {
-            line.extend_from_slice(b"proved ")?;
-            push_number(&mut line, count_proved(library.statements()))?;
-        }
+/// Prints the answer about a library, or why there is none.
+fn print_answer<O: Write>(
+    alloc: Global,
+    question: Question<'_>,
+    library: &Library,
+    output: &mut O,
+) -> u8 {
+    match answer(alloc, question, library) {
+        Ok(lines) => print(output, lines.as_slice(), 0),
+        Err(fault) => print(output, fault_line(fault), 1),
     }
-    line.push(b'\n')?;
-    Ok(line)
+}
+
+/// The lines of the answer about a library.
+fn answer(alloc: Global, question: Question<'_>, library: &Library) -> Result<Vec<u8>, AskFault> {
+    match question {
+        Question::Check => Ok(proved(alloc, library.statements())?),
+        Question::Tree { label } => tree(alloc, library, label),
+        Question::Trace { label } => trace(alloc, library, label),
+    }
+}
+
+/// The derivation of the `$p` of the label, a line a node.
+fn tree(alloc: Global, library: &Library, label: &str) -> Result<Vec<u8>, AskFault> {
+    let tree = library.tree(alloc, label.as_bytes())?;
+    let mut lines = Vec::new(alloc);
+    push_tree(&mut lines, library.statements(), &tree, 0)?;
+    Ok(lines)
+}
+
+/// The axioms that the `$p` of the label rests on, a line each.
+fn trace(alloc: Global, library: &Library, label: &str) -> Result<Vec<u8>, AskFault> {
+    let labels = library.trace(alloc, label.as_bytes())?;
+    let mut lines = Vec::new(alloc);
+    push_labels(&mut lines, labels.as_slice())?;
+    Ok(lines)
 }
 
 /// The verdict on the text as the first entry of an author.
@@ -51,13 +89,42 @@ fn judge(library: &mut Library, text: Vec<u8>) -> Result<Verdict, AllocError> {
     library.apply(Some(&entry))
 }
 
-/// How many `$p` there are.
-fn count_proved(statements: &[Stmt]) -> u64 {
+/// `proved` and how many `$p` there are.
+fn proved(alloc: Global, statements: &[Stmt]) -> Result<Vec<u8>, AllocError> {
     let mut count = 0u64;
     for statement in statements {
         if let Stmt::Prove { .. } = statement {
             count = count.saturating_add(1);
         }
     }
-    count
+    let mut line = Vec::from_slice(alloc, b"proved ")?;
+    push_number(&mut line, count)?;
+    line.extend_from_slice(b"\n")?;
+    Ok(line)
+}
+
+/// Prints why a database is refused.
+fn print_cause<O: Write>(alloc: Global, cause: Cause, output: &mut O) -> u8 {
+    match cause_line(alloc, cause) {
+        Ok(line) => print(output, line.as_slice(), 1),
+        Err(_) => print(output, b"refused Memory\n", 1),
+    }
+}
+
+/// The line of a database that is refused.
+fn cause_line(alloc: Global, cause: Cause) -> Result<Vec<u8>, AllocError> {
+    let mut line = Vec::new(alloc);
+    push_verdict(&mut line, Verdict::Refused(cause))?;
+    line.extend_from_slice(b"\n")?;
+    Ok(line)
+}
+
+/// The line of a label that has no answer.
+fn fault_line(fault: AskFault) -> &'static [u8] {
+    match fault {
+        AskFault::NoLabel => b"refused NoLabel\n",
+        AskFault::NotProvable => b"refused NotProvable\n",
+        AskFault::TooLarge => b"refused TooLarge\n",
+        AskFault::Memory => b"refused Memory\n",
+    }
 }

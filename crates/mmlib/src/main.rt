@@ -1,7 +1,8 @@
 //! `mmlib`: formal mathematics in the Metamath language.
 //!
 //! Reading order: `program` (`run`, what a command line does), `commands` (its words), `streams`
-//! (what is read and written), `outline`, `rules`; `database` (`check`), `verdict_text`; `play`, with `script`, `words`
+//! (what is read and written), `outline`, `rules`; `database` (`check`, `tree`, `trace`), `tree_text`,
+//! `verdict_text`; `play`, with `script`, `words`
 //! and `number` (what a line says), `answers` and `printed` (what it answers).
 #![tactic(auto)]
 
@@ -18,6 +19,7 @@ mod script;
 mod streams;
 #[cfg(test)]
 mod tests;
+mod tree_text;
 mod verdict_text;
 mod weights;
 mod words;

@@ -1,6 +1,6 @@
 //! What a command line does.
 use crate::commands::{Request, parse_words};
-use crate::database::check;
+use crate::database::ask;
 use crate::outline::outline_text;
 use crate::play::play;
 use crate::streams::{ReadFailure, TEXT_LIMIT, print, read_text};
@@ -25,7 +25,7 @@ pub fn run<R: AllocGlobal, I: Read, O: Write, F: Write>(
     };
     match parse_words(rt.alloc(), line.as_slice()) {
         Ok(Request::Outline) => outline(rt.alloc(), input, output),
-        Ok(Request::Check) => check(rt.alloc(), input, output),
+        Ok(Request::Ask(question)) => ask(rt.alloc(), question, input, output),
         Ok(Request::Play { weights }) => match weights {
             Some(weights) => play(rt.alloc(), weights, input, output),
             None => print(faults, b"bad weights\n", 2),

@@ -3,3 +3,4 @@ mod check;
 mod outline;
 mod play;
 mod streams;
+mod tree;

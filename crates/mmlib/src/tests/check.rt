@@ -87,23 +87,112 @@ fn databases_are_judged(rt: HostRuntime) -> Result<(), Fail> {
     Ok(())
 }
 
-/// Each front of a database: whole statements are proved, and a statement that is cut does not read.
+/// The book's first example, a statement a line.
+const LINES: [&str; 19] = [
+    "$c 0 + = -> ( ) term wff |- $.",
+    "$v t r s P Q $.",
+    "tt $f term t $.",
+    "tr $f term r $.",
+    "ts $f term s $.",
+    "wp $f wff P $.",
+    "wq $f wff Q $.",
+    "tze $a term 0 $.",
+    "tpl $a term ( t + r ) $.",
+    "weq $a wff t = r $.",
+    "wim $a wff ( P -> Q ) $.",
+    "a1 $a |- ( t = r -> ( t = s -> r = s ) ) $.",
+    "a2 $a |- ( t + 0 ) = t $.",
+    "${",
+    "min $e |- P $.",
+    "maj $e |- ( P -> Q ) $.",
+    "mp $a |- Q $.",
+    "$}",
+    "th1 $p |- t = t $= ( tze tpl weq a2 wim a1 mp ) ABCZADZAADZAEZJJKFLIAAGHH $.",
+];
+
+/// The line on the first statements of the example, so many.
+fn whole_statements(count: usize) -> &'static [u8] {
+    match count {
+        14 => b"refused C4 15 G10\n",
+        15 => b"refused C4 16 G10\n",
+        16 => b"refused C4 17 G10\n",
+        17 => b"refused C4 18 G10\n",
+        19 => b"proved 1\n",
+        _ => b"proved 0\n",
+    }
+}
+
+/// Whether `check` prints this line of the text.
+fn is_checked(rt: &HostRuntime, text: &Vec<u8>, line: &[u8]) -> Result<bool, Fail> {
+    let run = printed(rt, &["check"], text.as_slice())?;
+    Ok(run.output.as_slice() == line)
+}
+
+/// A database that is cut at a byte reads where whole statements stand, and nowhere else.
 #[test]
-fn cut_databases_do_not_read(rt: HostRuntime) -> Result<(), Fail> {
-    let text = b"$c |- $. ${ p $a |- $. $} q $p |- $= p $.\n";
-    for (length, line) in [
-        (0usize, b"proved 0\n".as_slice()),
-        (1, b"refused C3\n"),
-        (8, b"proved 0\n"),
-        (11, b"refused C4 3 G10\n"),
-        (22, b"refused C4 4 G10\n"),
-        (25, b"proved 0\n"),
-        (40, b"refused C3\n"),
-        (41, b"proved 1\n"),
-        (42, b"proved 1\n"),
+fn databases_that_are_cut(rt: HostRuntime) -> Result<(), Fail> {
+    let mut text = Vec::new(rt.alloc());
+    for (index, line) in LINES.iter().enumerate() {
+        let mut want = whole_statements(index);
+        for byte in line.as_bytes() {
+            assert!(rt; is_checked(&rt, &text, want)?, "of {} bytes", text.len());
+            text.push(*byte)?;
+            want = b"refused C3\n";
+        }
+        assert!(rt;
+            is_checked(&rt, &text, whole_statements(index + 1))?,
+            "without the LF"
+        );
+        text.push(b'\n')?;
+    }
+    assert!(rt; is_checked(&rt, &text, b"proved 1\n")?);
+    Ok(())
+}
+
+/// Adds the word so many times.
+fn push_times(text: &mut Vec<u8>, word: &[u8], count: usize) -> Result<(), Fail> {
+    for _ in 0..count {
+        text.extend_from_slice(word)?;
+    }
+    Ok(())
+}
+
+/// A text of words, each so many times.
+fn repeated(rt: &HostRuntime, words: &[(&[u8], usize)]) -> Result<Vec<u8>, Fail> {
+    let mut text = Vec::new(rt.alloc());
+    for (word, count) in words {
+        push_times(&mut text, word, *count)?;
+    }
+    Ok(text)
+}
+
+#[test]
+fn hostile_texts(rt: HostRuntime) -> Result<(), Fail> {
+    for (words, line) in [
+        (
+            [
+                (WEIGHTS, 1),
+                (b"A".as_slice(), 1),
+                (b"C", 40),
+                (b"ZED $.", 1),
+            ],
+            b"refused C5 11\n".as_slice(),
+        ),
+        (
+            [(BOOK, 1), (b"( ) ", 1), (b"U", 100_000), (b"A $.", 1)],
+            b"refused C5 19\n",
+        ),
+        (
+            [(b"${ ", 100_000), (b"$} ", 99_999), (b"$}", 1), (b"\n", 1)],
+            b"proved 0\n",
+        ),
+        (
+            [(b"${ ", 100_000), (b"$} ", 99_999), (b"", 1), (b"\n", 1)],
+            b"refused C4 200000 G10\n",
+        ),
     ] {
-        let run = printed(&rt, &["check"], &text[..length])?;
-        assert_eq!(rt; run.output.as_slice(), line, "of {length} bytes");
+        let text = repeated(&rt, &words)?;
+        assert!(rt; is_checked(&rt, &text, line)?, "{line:?}");
     }
     Ok(())
 }

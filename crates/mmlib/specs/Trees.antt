@@ -1,0 +1,27 @@
+-- What the program prints of derivations, and of the labels that a proof rests on.
+-- Source: this project's own forms; a derivation is a tree (Metamath, 4.2.6).
+-- The code walks the tree once, and adds each line to the end of the answer.
+use Rattle.std.specs.Prelude.{ℕ, ◌+◌, List, [], ◌++◌, codes, decimal}
+use Rattle.mm_lex.specs.Alphabet.{Name}
+use Rattle.mm_read.specs.Statements.{Database}
+use Rattle.scope.specs.Active.{stmt_at}
+use Rattle.verify.specs.Derivations.{Derivation, Derivations, hyp, apply, none, more}
+use Rattle.library.specs.Good.{label_or_none}
+
+-- a label, on a line of its own
+abbrev pub label_line : Name → List ℕ
+label_line label = label ++ codes "\n"
+
+-- a node: its depth, a space, and the label of the statement at its position
+abbrev pub node_line : Database → ℕ → ℕ → List ℕ
+node_line S depth at = decimal depth ++ codes " " ++ label_or_none (stmt_at S at) ++ codes "\n"
+
+-- a line a node, parents before children, children in order
+abbrev mutual
+  pub tree_lines : Database → ℕ → Derivation → List ℕ
+  tree_lines S depth (hyp i) = node_line S depth i
+  tree_lines S depth (apply a kids) = node_line S depth a ++ trees_lines S (depth + 1) kids
+
+  pub trees_lines : Database → ℕ → Derivations → List ℕ
+  trees_lines S depth none = []
+  trees_lines S depth (more t kids) = tree_lines S depth t ++ trees_lines S depth kids
