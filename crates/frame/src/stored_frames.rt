@@ -65,24 +65,37 @@ const RELATION: &[u32] = &[3, 0, 4, 1];
 
 const BOTH: &[u32] = &[0, 1];
 
+/// A position, two symbols of one letter, and whether they are kept apart there.
+const PAIRS: [(usize, u8, u8, bool); 6] = [
+    (8, b'x', b'y', true),
+    (8, b'y', b'x', true),
+    (8, b'x', b'x', false),
+    (8, b'x', b'z', false),
+    (10, b'x', b'y', false),
+    (16, b'x', b'z', true),
+];
+
 #[test]
 fn pairs_that_are_active(rt: HostRuntime) {
-    let apart = frames_of(rt.alloc(), APART);
-    for (at, x, y, want) in [
-        (8usize, b"x", b"y", true),
-        (8, b"y", b"x", true),
-        (8, b"x", b"x", false),
-        (8, b"x", b"z", false),
-        (10, b"x", b"y", false),
-        (16, b"x", b"z", true),
-    ] {
-        assert!(rt; are_apart(&apart, at, x, y) == Some(want));
+    for (at, x, y, want) in PAIRS {
+        assert!(rt; pair_at(rt.alloc(), at, x, y) == Some(want));
     }
-    assert!(rt; is_variable(&apart, 8, b"x") == Some(true));
-    assert!(rt; is_variable(&apart, 8, b"R") == Some(false));
-    let closed = frames_of(rt.alloc(), CLOSED);
-    assert!(rt; is_variable(&closed, 6, b"x") == Some(true));
-    assert!(rt; is_variable(&closed, 7, b"x") == Some(false));
+}
+
+#[test]
+fn variables_that_are_active(rt: HostRuntime) {
+    assert!(rt; variable_at(rt.alloc(), APART, 8, b'x') == Some(true));
+    assert!(rt; variable_at(rt.alloc(), APART, 8, b'R') == Some(false));
+    assert!(rt; variable_at(rt.alloc(), CLOSED, 6, b'x') == Some(true));
+    assert!(rt; variable_at(rt.alloc(), CLOSED, 7, b'x') == Some(false));
+}
+
+fn pair_at(alloc: Global, at: usize, x: u8, y: u8) -> Option<bool> {
+    are_apart(&frames_of(alloc, APART), at, &[x], &[y])
+}
+
+fn variable_at(alloc: Global, text: &[u8], at: usize, x: u8) -> Option<bool> {
+    is_variable(&frames_of(alloc, text), at, &[x])
 }
 
 #[test]
