@@ -161,7 +161,7 @@ fn apply_entry(library: &mut Library, entry: &Option<Carried>) -> Result<Verdict
 pub fn list_on(cell: &NodeCell) -> Result<Vec<Listed>, AllocError>
     ensures { IfOk result (λ list. list.items ≡ listed cell.now.node.library.statements) }
 {
-    cell.library.list(cell.alloc)
+    cell.library.list()
 }
 
 /// Restarts the cell's node: it is up with the record that its keep has, and the cell is as new: nothing is taken over, and the

@@ -7,8 +7,9 @@ use Rattle.mm_read.specs.Statements.{Database}
 use Rattle.scope.specs.Active.{bare, bares, before, stmt_at, proof_of}
 use Rattle.frame.specs.FrameOf.{hypotheses}
 use Rattle.proof_code.specs.Writes.{Writes}
+use Rattle.verify.specs.Proves.{mandatory_labels, label_or_none}
 use Rattle.verify.specs.Right.{IsProvable, IsRight}
-use Rattle.library.specs.Good.{IsProved, mandatory_labels, label_or_none}
+use Rattle.library.specs.Good.{IsProved}
 use Rattle.library.proofs.FrontLemmas.{stmt_at-front, stmt_at-behind, stands-within, stands-later, before-front, map-within, hypotheses-within}
 use Rattle.library.proofs.LaterLemmas.{right-later, before-short}
 

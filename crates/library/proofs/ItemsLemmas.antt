@@ -9,8 +9,8 @@ use Rattle.mm_read.specs.Statements.{Database}
 use Rattle.scope.specs.Active.{bare, bares, before, stmt_at, label_of, is_assertion, is_provable}
 use Rattle.frame.specs.FrameOf.{hypotheses}
 use Rattle.frame.specs.Citations.{is_hypothesis_kind}
+use Rattle.verify.specs.Proves.{mandatory_labels, label_or_none}
 use Rattle.verify.specs.Right.{IsProvable}
-use Rattle.library.specs.Good.{mandatory_labels, label_or_none}
 use Rattle.library.proofs.FrontLemmas.{stands-within, stmt_at-bares, hypotheses-bare, label_of-bare, kind-bare, hypotheses-at, one-hypothesis, stands-index}
 
 bare-assertion : (s : Stmt) → is_provable s ≡ true → is_assertion (bare s) ≡ true

@@ -8,10 +8,10 @@ use Rattle.mm_read.specs.declared.stmt.Stmt.TheVariants.{Open, Close, Const, Var
 use Rattle.mm_read.specs.Statements.{Database}
 use Rattle.scope.specs.Active.{bare, bares, stmt_at, proof_of, is_provable}
 use Rattle.proof_code.specs.declared.item.Item.{Item}
+use Rattle.verify.specs.Proves.{mandatory_labels}
 use Rattle.verify.specs.Right.{IsProvable, IsRight}
 use Rattle.verify_pool.specs.declared.job.Job.{Job}
 use Rattle.verify_pool.specs.Jobs.{IsJob, AreJobs, IsRightJob, LeastBad}
-use Rattle.library.specs.Good.{mandatory_labels}
 use Rattle.library.specs.Jobs.{IsJobOf, AreJobsBehind}
 use Rattle.library.specs.Judging.{StandsProved, IsLeastUnproved}
 use Rattle.library.proofs.FrontLemmas.{stands-index}

@@ -1,20 +1,21 @@
 -- From the verifier's answer to whether a `$p` is proved.
-use Rattle.std.specs.Prelude.{◌≡◌, ℕ, zero, suc, ◌+◌, ◌-◌, ◌<◌, ◌≤◌, ◌⊎◌, ◌↔◌, refl, Bool, true, false, IsTrue, List, Option, Some, None, Result, Ok, Err, IfOk, MatchOption}
+use Rattle.std.specs.Prelude.{◌≡◌, ℕ, zero, suc, ◌+◌, ◌-◌, ◌<◌, ◌≤◌, ◌⊎◌, ◌↔◌, refl, Bool, true, false, IsTrue, List, map, Option, Some, None, Result, Ok, Err, IfOk, MatchOption}
 use Rattle.std.proofs.Common.{sym, ◌∙◌, ap, subst, inl, inr, arith}
 use Rattle.mm_lex.specs.Alphabet.{Name}
 use Rattle.mm_read.specs.declared.stmt.Stmt.{Stmt}
 use Rattle.mm_read.specs.Statements.{Database}
-use Rattle.scope.specs.Active.{bares, proof_of, stmt_at, is_provable}
+use Rattle.scope.specs.Active.{bare, bares, before, proof_of, stmt_at, is_provable}
 use Rattle.proof_code.specs.declared.item.Item.{Item}
 use Rattle.proof_code.specs.declared.fault.CodeFault.{CodeFault}
 use Rattle.proof_code.specs.declared.fault.CodeFault.TheVariants.{Unfinished, Malformed}
 use Rattle.proof_code.specs.Writes.{Writes, WritesPacked, WritesPlain, IsMalformed, is_compressed, is_unfinished}
-use Rattle.proof_code.proofs.OneList.{one_list}
 use Rattle.verify.specs.declared.answer.Answer.{Answer}
 use Rattle.verify.specs.declared.answer.Answer.TheVariants.{Proved, Wrong}
+use Rattle.verify.specs.Proves.{label_or_none, mandatory_labels, Proves}
 use Rattle.verify.specs.Right.{IsProvable, IsRight, Says}
-use Rattle.library.specs.Good.{mandatory_labels}
 use Rattle.library.specs.Judging.{StandsProved}
+use Rattle.library.proofs.FrontLemmas.{hypotheses-bare}
+use Rattle.library.proofs.ItemsLemmas.{provable-bare}
 
 -- ---- items
 
@@ -66,25 +67,43 @@ module _ (S F : Database) (at : ℕ) (s : Stmt) (same : F ≡ bares S) (provable
   written-same : (r : Stmt) (items : List Item) → s ≡ r → Writes (proof_of r) (mandatory_labels (bares S) at r) items → Writes (proof_of s) (mandatory_labels (bares S) at s) items
   written-same r items e w = subst (λ t. Writes (proof_of t) (mandatory_labels (bares S) at t) items) (sym e) w
 
-  stands-wrong : (items : List Item) → Writes (proof_of s) (mandatory_labels (bares S) at s) items → (IsRight F at items → ⊥) → StandsProved S at → ⊥
-  stands-wrong items written wrong stands =
-      let p = stands s provable in
-      let w = written-same p.stmt p.items (same-statement S at s p.stmt provable p.provable) p.written in
-      wrong (subst (λ is. IsRight F at is) (one_list (proof_of s) (mandatory_labels (bares S) at s) p.items items w written) (subst (λ U. IsRight U at p.items) (sym same) p.right))
-
   pub stands-none : ((other : List Item) → Writes (proof_of s) (mandatory_labels (bares S) at s) other → ⊥) → StandsProved S at → ⊥
   stands-none none stands =
       let p = stands s provable in
       none p.items (written-same p.stmt p.items (same-statement S at s p.stmt provable p.provable) p.written)
 
-  says-stands : (items : List Item) → Writes (proof_of s) (mandatory_labels (bares S) at s) items → (answer : Answer) → Says answer (IsRight F at items) → Says answer (StandsProved S at)
-  says-stands items written Proved h = stands-right items written h
-  says-stands items written Wrong h = stands-wrong items written h
+  -- a frame looks at no proof
+  labels-bare : (t : Stmt) → t ≡ bare s → mandatory_labels F at t ≡ mandatory_labels (bares S) at s
+  labels-bare t e =
+      ap (mandatory_labels F at) e
+      ∙ (ap (map (λ i. label_or_none (stmt_at F i))) (hypotheses-bare (before F at) s)
+      ∙ ap (λ U. mandatory_labels U at s) same)
 
-  pub checked-stands : {E : Type 0} (items : List Item) (tokens : List Name) → proof_of s ≡ tokens → Writes tokens (mandatory_labels (bares S) at s) items → (r : Result Answer E)
-      → IfOk r (λ answer. Says answer (IsRight F at items)) → IfOk r (λ answer. Says answer (StandsProved S at))
-  checked-stands items tokens e written (Ok answer) h = says-stands items (subst (λ t. Writes t (mandatory_labels (bares S) at s) items) (sym e) written) answer h
-  checked-stands items tokens e written (Err x) h = h
+  proves-stands : (tokens : List Name) → proof_of s ≡ tokens → Proves F at tokens → StandsProved S at
+  proves-stands tokens e p =
+      let q = provable-bare S F at s same provable in
+      let written = subst (λ t. Writes t (mandatory_labels F at p.stmt) p.items) (sym e) p.written in
+      stands-right p.items (subst (λ labels. Writes (proof_of s) labels p.items) (labels-bare p.stmt (same-statement F at p.stmt (bare s) p.provable q)) written) p.right
+
+  stands-proves : (tokens : List Name) → proof_of s ≡ tokens → StandsProved S at → Proves F at tokens
+  stands-proves tokens e stands =
+      let p = stands s provable in
+      let written = written-same p.stmt p.items (same-statement S at s p.stmt provable p.provable) p.written in
+      let labelled = subst (λ labels. Writes (proof_of s) labels p.items) (sym (labels-bare (bare s) refl)) written in
+      record {
+        stmt = bare s;
+        items = p.items;
+        provable = provable-bare S F at s same provable;
+        written = subst (λ t. Writes t (mandatory_labels F at (bare s)) p.items) e labelled;
+        right = subst (λ U. IsRight U at p.items) (sym same) p.right;
+      }
+
+  -- what is said of the tokens is said of the `$p`
+  pub judged-stands : {E : Type 0} (tokens : List Name) → proof_of s ≡ tokens → (r : Result Answer E)
+      → IfOk r (λ answer. Says answer (Proves F at tokens)) → IfOk r (λ answer. Says answer (StandsProved S at))
+  judged-stands tokens e (Ok Proved) h = proves-stands tokens e h
+  judged-stands tokens e (Ok Wrong) h = λ stands. h (stands-proves tokens e stands)
+  judged-stands tokens e (Err x) h = h
 
 -- where no `$p` stands, nothing is to be proved
 pub stands-other : (S : Database) (at : ℕ) (s : Stmt) → stmt_at S at ≡ Some s → (is_provable s ≡ true → ⊥) → StandsProved S at

@@ -7,8 +7,8 @@ use Rattle.mm_read.specs.declared.stmt.Stmt.{Stmt}
 use Rattle.mm_read.specs.declared.stmt.Stmt.TheVariants.{Open, Close, Const, Var, Disj, Float, Ess, Axiom, Prove}
 use Rattle.mm_read.specs.Statements.{Database}
 use Rattle.scope.specs.Active.{stmt_at, is_provable}
+use Rattle.verify.specs.Proves.{label_or_none}
 use Rattle.verify.specs.Right.{IsProvable}
-use Rattle.library.specs.Good.{label_or_none}
 use Rattle.library.specs.Uses.{Uses, directly, through, is_axiom, IsAxiomAt, Rises, IsIn, AreUsed}
 use Rattle.library.specs.Marks.{IsMarked, Reaches, starts, leads, AreReached, axiom_label, axioms_in}
 

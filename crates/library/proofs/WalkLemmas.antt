@@ -15,8 +15,9 @@ use Rattle.proof_code.specs.Writes.{Writes}
 use Rattle.proof_code.proofs.OneList.{one_list}
 use Rattle.verify.specs.Derivations.{Derivation, Derivations}
 use Rattle.verify.specs.Spells.{Spells, SpellsAll, cites_hypothesis, cites_assertion, recalls, marks, spells_none, spells_more}
+use Rattle.verify.specs.Proves.{mandatory_labels}
 use Rattle.verify.specs.Right.{IsProvable, IsRight}
-use Rattle.library.specs.Good.{Good, mandatory_labels}
+use Rattle.library.specs.Good.{Good}
 use Rattle.library.specs.Uses.{HasItems, Cites}
 use Rattle.library.specs.Marks.{IsMarked, ItemsCite, MarksItems, MarksCited, Reaches, starts, leads, AreReached}
 use Rattle.library.proofs.FrontLemmas.{stmt_at-bares, label_of-bare, active-below}

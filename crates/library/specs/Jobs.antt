@@ -7,9 +7,9 @@ use Rattle.mm_read.specs.Statements.{Database}
 use Rattle.scope.specs.Active.{bares, proof_of}
 use Rattle.proof_code.specs.declared.item.Item.{Item}
 use Rattle.proof_code.specs.Writes.{Writes}
+use Rattle.verify.specs.Proves.{mandatory_labels}
 use Rattle.verify.specs.Right.{IsProvable}
 use Rattle.verify_pool.specs.declared.job.Job.{Job}
-use Rattle.library.specs.Good.{mandatory_labels}
 
 -- the job of the `$p` that stands at its position, with the items that its tokens write
 pub record IsJobOf (S : Database) (job : Job) : Type 0 where

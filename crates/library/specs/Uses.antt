@@ -11,8 +11,8 @@ use Rattle.frame.specs.Citations.{Carries}
 use Rattle.proof_code.specs.declared.item.Item.{Item}
 use Rattle.proof_code.specs.declared.item.Item.TheVariants.{Cite}
 use Rattle.proof_code.specs.Writes.{Writes}
+use Rattle.verify.specs.Proves.{label_or_none, mandatory_labels}
 use Rattle.verify.specs.Right.{IsProvable}
-use Rattle.library.specs.Good.{label_or_none, mandatory_labels}
 
 -- the tokens of the `$p` at j write these items
 pub record HasItems (S : Database) (j : ℕ) (items : List Item) : Type 0 where

@@ -49,13 +49,13 @@ impl Library {
     /// Errors: `NoLabel` where no statement has the label, `NotProvable` where it is no `$p`, both also where every
     /// growth is refused; `Memory` in place of an answer alone. Cost: that of the proofs that it rests on, each read
     /// once, and a byte for each statement before it. Source: Metamath, 4.2.6 and appendix B.
-    pub fn trace(&self, alloc: Global, label: &[u8]) -> Result<Vec<Word>, AskFault>
+    pub fn trace(&self, label: &[u8]) -> Result<Vec<Word>, AskFault>
         ensures labels { IfOk result (λ labels. IsTrace self.now.replica.statements label.now labels.items) }
         ensures no_label { (result ≡ Err AskFault.NoLabel) ↔ HasNoLabel self.now.replica.statements label.now }
         ensures not_provable { (result ≡ Err AskFault.NotProvable) ↔ NamesNoProof self.now.replica.statements label.now }
         ensures small { result ≢ Err AskFault.TooLarge }
     {
-        self.base().trace(alloc, label)
+        self.base().trace(label)
     }
 
     /// The derivation that the proof of the label spells.
@@ -63,7 +63,7 @@ impl Library {
     /// Errors: `NoLabel` and `NotProvable` as for `trace`; `TooLarge` where the derivation has more than 65,536 nodes or a
     /// depth above 1,024; `Memory` in place of an answer or of `TooLarge`. Cost: a check of the proof, and the tree.
     /// Source: Metamath, 4.2.6 and appendix B.
-    pub fn tree(&self, alloc: Global, label: &[u8]) -> Result<Tree, AskFault>
+    pub fn tree(&self, label: &[u8]) -> Result<Tree, AskFault>
         ensures tree { IfOk result (λ tree. IsTreeOf self.now.replica.statements label.now (derivation_of tree)) }
         ensures small { IfOk result (λ tree. IsSmall (derivation_of tree)) }
         ensures no_label { (result ≡ Err AskFault.NoLabel) ↔ HasNoLabel self.now.replica.statements label.now }
@@ -72,7 +72,7 @@ impl Library {
             → (result ≡ Err AskFault.TooLarge) ⊎ (result ≡ Err AskFault.Memory) }
         ensures only_large { result ≡ Err AskFault.TooLarge → (t : Derivation) × IsTreeOf self.now.replica.statements label.now t × (¬ IsSmall t) }
     {
-        self.base().tree(alloc, label)
+        self.base().tree(label)
     }
 }
 

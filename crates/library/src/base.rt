@@ -66,7 +66,7 @@ impl Base {
     }
 
     /// The labels of the `$a` that the proof of the label uses.
-    pub(crate) fn trace(&self, alloc: Global, label: &[u8]) -> Result<Vec<Word>, AskFault>
+    pub(crate) fn trace(&self, label: &[u8]) -> Result<Vec<Word>, AskFault>
         ensures labels { IfOk result (λ labels. IsTrace self.now label.now labels.items) }
         ensures no_label { (result ≡ Err AskFault.NoLabel) ↔ HasNoLabel self.now label.now }
         ensures not_provable { (result ≡ Err AskFault.NotProvable) ↔ NamesNoProof self.now label.now }
@@ -74,13 +74,13 @@ impl Base {
     {
         self.frames.legal();
         match proof_at(&self.frames, &self.statements, label) {
-            Ok(at) => trace_at(alloc, &self.frames, &self.statements, at),
+            Ok(at) => trace_at(self.alloc, &self.frames, &self.statements, at),
             Err(fault) => Err(fault),
         }
     }
 
     /// The derivation that the proof of the label spells.
-    pub(crate) fn tree(&self, alloc: Global, label: &[u8]) -> Result<Tree, AskFault>
+    pub(crate) fn tree(&self, label: &[u8]) -> Result<Tree, AskFault>
         ensures tree { IfOk result (λ tree. IsTreeOf self.now label.now (derivation_of tree)) }
         ensures small { IfOk result (λ tree. IsSmall (derivation_of tree)) }
         ensures no_label { (result ≡ Err AskFault.NoLabel) ↔ HasNoLabel self.now label.now }
@@ -91,7 +91,7 @@ impl Base {
     {
         self.frames.legal();
         match proof_at(&self.frames, &self.statements, label) {
-            Ok(at) => tree_at(alloc, &self.frames, &self.statements, at),
+            Ok(at) => tree_at(self.alloc, &self.frames, &self.statements, at),
             Err(fault) => Err(fault),
         }
     }

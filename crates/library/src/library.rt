@@ -137,6 +137,11 @@ impl Library {
         self.base.statements()
     }
 
+    /// The allocator of all that the library keeps and answers.
+    pub(crate) fn alloc(&self) -> Global {
+        self.alloc
+    }
+
     /// The statements with what judges them.
     pub(crate) fn base(&self) -> &Base
         ensures { result.now ≡ self.now.replica.statements }

@@ -21,20 +21,20 @@ impl Library {
     /// The assertions, in order.
     ///
     /// Errors: a growth was refused. Cost: that of all statements.
-    pub fn list(&self, alloc: Global) -> Result<Vec<Listed>, AllocError>
+    pub fn list(&self) -> Result<Vec<Listed>, AllocError>
         ensures { IfOk result (λ list. list.items ≡ listed self.now.replica.statements) }
     {
-        assertions(alloc, self.statements())
+        assertions(self.alloc(), self.statements())
     }
 
     /// The statements as a text in the export form, which reads as exactly the statements.
     ///
     /// Errors: a growth was refused. Cost: the size of the text.
-    pub fn export(&self, alloc: Global) -> Result<Vec<u8>, AllocError>
+    pub fn export(&self) -> Result<Vec<u8>, AllocError>
         ensures text { IfOk result (λ text. text.items ≡ export_of self.now.replica.statements) }
         ensures reads { IfOk result (λ text. Reads text.items self.now.replica.statements) }
     {
-        spell(alloc, self.statements())
+        spell(self.alloc(), self.statements())
     }
 }
 

@@ -7,8 +7,8 @@ ghost use Rattle.scope.specs.Active.{bares, proof_of, stmt_at};
 ghost use Rattle.frame.specs.Citations.{is_hypothesis_kind};
 ghost use Rattle.proof_code.specs.declared.item.Item.{Item};
 ghost use Rattle.proof_code.specs.Writes.{Writes, is_unfinished};
+ghost use Rattle.verify.specs.Proves.{label_or_none, mandatory_labels};
 ghost use Rattle.verify.specs.Right.{IsProvable, Says};
-ghost use Rattle.library.specs.Good.{label_or_none, mandatory_labels};
 ghost use Rattle.library.specs.Judging.{StandsProved, IsLeastUnproved};
 
 use frame::Frames;
@@ -33,7 +33,7 @@ pub(crate) fn first_unproved(
 {
     let mut checker = Checker::new(alloc);
     for index in front..statements.len() {
-        match judge_at(alloc, frames, statements, index + 1, &mut checker)? {
+        match judge_at(frames, statements, index + 1, &mut checker)? {
             Answer::Proved => {}
             Answer::Wrong => return Ok(Some(index + 1)),
         }
@@ -43,7 +43,6 @@ pub(crate) fn first_unproved(
 
 /// Whether the statement at a position is proved, where it is a `$p`.
 fn judge_at(
-    alloc: Global,
     frames: &Frames,
     statements: &[Stmt],
     at: usize,
@@ -56,10 +55,7 @@ fn judge_at(
     let Stmt::Prove { proof, .. } = &statements[at - 1] else {
         return Ok(Answer::Proved);
     };
-    match items_of(alloc, frames, statements, at, proof)? {
-        Some(items) => checker.check(frames, at, &items),
-        None => Ok(Answer::Wrong),
-    }
+    checker.prove(frames, at, proof)
 }
 
 /// The items that the tokens of the `$p` at a position write; none where they write none.

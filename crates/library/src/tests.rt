@@ -106,7 +106,7 @@ fn library_of(alloc: Global, front: &[u8], rest: &[u8]) -> Option<Library> {
 
 /// Whether the trace of the label is these labels, each with a space behind it.
 fn has_trace(alloc: Global, library: &Library, label: &[u8], want: &[u8]) -> Option<bool> {
-    let labels = library.trace(alloc, label).ok()?;
+    let labels = library.trace(label).ok()?;
     let mut text = Vec::new(alloc);
     for label in &labels {
         text.extend_from_slice(label.as_bytes()).ok()?;
@@ -116,8 +116,8 @@ fn has_trace(alloc: Global, library: &Library, label: &[u8], want: &[u8]) -> Opt
 }
 
 /// How many nodes the tree of the label has.
-fn nodes_of(alloc: Global, library: &Library, label: &[u8]) -> Result<usize, AskFault> {
-    let tree = library.tree(alloc, label)?;
+fn nodes_of(library: &Library, label: &[u8]) -> Result<usize, AskFault> {
+    let tree = library.tree(label)?;
     Ok(count(&tree))
 }
 
@@ -310,12 +310,12 @@ fn leaves_blocks_closed(rt: HostRuntime) {
             Some(want)
         );
     }
-    assert_eq!(rt; has_export(rt.alloc(), &library, b"$v x $.\n"), Some(true));
+    assert_eq!(rt; has_export(&library, b"$v x $.\n"), Some(true));
 }
 
 /// Whether the text is what the library exports; nothing where there is no memory.
-fn has_export(alloc: Global, library: &Library, text: &[u8]) -> Option<bool> {
-    let export = library.export(alloc).ok()?;
+fn has_export(library: &Library, text: &[u8]) -> Option<bool> {
+    let export = library.export().ok()?;
     Some(export.as_slice() == text)
 }
 
@@ -338,10 +338,7 @@ fn adds_texts_whole_and_once(rt: HostRuntime) {
         );
     }
     assert_eq!(rt; library.status(1, 2), Some(Verdict::Added));
-    assert_eq!(rt;
-        has_export(rt.alloc(), &library, b"$c |- $.\np $a |- $.\n"),
-        Some(true)
-    );
+    assert_eq!(rt; has_export(&library, b"$c |- $.\np $a |- $.\n"), Some(true));
 }
 
 #[test]
@@ -367,7 +364,7 @@ fn asks_the_charter_of_its_place(rt: HostRuntime) {
     }
     assert_eq!(rt; library.status(8, 1), Some(first));
     assert_eq!(rt;
-        has_export(alloc, &library, b"$c a $.\n$v x $.\n$c b $.\n"),
+        has_export(&library, b"$c a $.\n$v x $.\n$c b $.\n"),
         Some(true)
     );
 }
@@ -427,12 +424,9 @@ fn traces_the_book(rt: HostRuntime) {
             let traced = has_trace(alloc, &library, label, b"tze tpl weq wim a1 a2 mp ");
             assert_eq!(rt; traced, Some(true));
         }
-        assert_eq!(rt; nodes_of(alloc, &library, b"th1"), Ok(34));
-        assert_eq!(rt;
-            nodes_of(alloc, &library, b"mp"),
-            Err(AskFault::NotProvable)
-        );
-        assert_eq!(rt; nodes_of(alloc, &library, b"mq"), Err(AskFault::NoLabel));
+        assert_eq!(rt; nodes_of(&library, b"th1"), Ok(34));
+        assert_eq!(rt; nodes_of(&library, b"mp"), Err(AskFault::NotProvable));
+        assert_eq!(rt; nodes_of(&library, b"mq"), Err(AskFault::NoLabel));
     } else {
         assert!(rt; false, "the text is refused");
     }
@@ -453,7 +447,7 @@ fn measures_trees(rt: HostRuntime) {
     ] {
         if let Some(library) = library_of(alloc, DOUBLING, letters) {
             assert_eq!(rt; has_trace(alloc, &library, b"th", b"we wb "), Some(true));
-            assert_eq!(rt; nodes_of(alloc, &library, b"th"), want);
+            assert_eq!(rt; nodes_of(&library, b"th"), want);
         } else {
             assert!(rt; false, "the text is refused");
         }

@@ -6,7 +6,7 @@ use Rattle.mm_lex.specs.Alphabet.{Name}
 use Rattle.mm_read.specs.Statements.{Database}
 use Rattle.scope.specs.Active.{stmt_at}
 use Rattle.verify.specs.Derivations.{Derivation, Derivations, hyp, apply, none, more}
-use Rattle.library.specs.Good.{label_or_none}
+use Rattle.verify.specs.Proves.{label_or_none}
 
 -- a label, on a line of its own
 abbrev pub label_line : Name → List ℕ

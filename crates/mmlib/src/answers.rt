@@ -9,7 +9,7 @@ use crate::printed::{push_entry, push_number};
 use crate::verdict_text::push_verdict;
 use library::{Entry, Library, Listed, Verdict};
 use mm_read::{Stmt, push_line};
-use std::alloc::{AllocError, Global};
+use std::alloc::AllocError;
 use world::StepFault;
 
 /// Adds `ok` and how many packets were posted so far.
@@ -46,10 +46,10 @@ pub fn push_log(text: &mut Vec<u8>, log: &[Option<Entry>]) -> Result<(), AllocEr
 }
 
 /// Adds the assertions of a library: their count, and a line for each.
-pub fn push_list(alloc: Global, text: &mut Vec<u8>, library: &Library) -> Result<(), AllocError>
+pub fn push_list(text: &mut Vec<u8>, library: &Library) -> Result<(), AllocError>
     ensures { OnOk result (text.new.items ≡ text.old.items ++ list_text (listed library.now.replica.statements)) }
 {
-    let list = library.list(alloc)?;
+    let list = library.list()?;
     text.extend_from_slice(b"list ")?;
     push_number(text, list.len() as u64)?;
     text.extend_from_slice(b"\n")?;

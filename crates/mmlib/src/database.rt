@@ -64,7 +64,7 @@ fn answer(alloc: Global, question: Question<'_>, library: &Library) -> Result<Ve
 
 /// The derivation of the `$p` of the label, a line a node.
 fn tree(alloc: Global, library: &Library, label: &str) -> Result<Vec<u8>, AskFault> {
-    let tree = library.tree(alloc, label.as_bytes())?;
+    let tree = library.tree(label.as_bytes())?;
     let mut lines = Vec::new(alloc);
     push_tree(&mut lines, library.statements(), &tree, 0)?;
     Ok(lines)
@@ -72,7 +72,7 @@ fn tree(alloc: Global, library: &Library, label: &str) -> Result<Vec<u8>, AskFau
 
 /// The axioms that the `$p` of the label rests on, a line each.
 fn trace(alloc: Global, library: &Library, label: &str) -> Result<Vec<u8>, AskFault> {
-    let labels = library.trace(alloc, label.as_bytes())?;
+    let labels = library.trace(label.as_bytes())?;
     let mut lines = Vec::new(alloc);
     push_labels(&mut lines, labels.as_slice())?;
     Ok(lines)

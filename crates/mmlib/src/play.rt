@@ -107,7 +107,7 @@ fn answer(
             text.extend_from_slice(b"\n")?;
         }
         Line::Log { node } => push_log(text, world.log(node)?.as_slice())?,
-        Line::List { node } => push_list(alloc, text, world.library(node)?)?,
+        Line::List { node } => push_list(text, world.library(node)?)?,
         Line::Status {
             node,
             author,

@@ -2,7 +2,7 @@
 ghost use Rattle.std.specs.Prelude.{◌≡◌, ◌+◌, ◌++◌, flat_map, option_map, IfOk, OnOk};
 ghost use Rattle.scope.specs.Active.{stmt_at, label_of};
 ghost use Rattle.verify.specs.Derivations.{derivation_of};
-ghost use Rattle.library.specs.Good.{label_or_none};
+ghost use Rattle.verify.specs.Proves.{label_or_none};
 ghost use Rattle.mmlib.specs.Trees.{label_line, node_line, tree_lines};
 
 use crate::printed::push_number;

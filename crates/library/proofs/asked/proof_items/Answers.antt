@@ -1,8 +1,8 @@
 use Rattle.std.proofs.Common.{ap, subst}
 use Rattle.scope.specs.Active.{bares, proof_of, is_provable}
 use Rattle.proof_code.specs.Writes.{Writes}
+use Rattle.verify.specs.Proves.{mandatory_labels}
 use Rattle.verify.specs.Right.{IsProvable}
-use Rattle.library.specs.Good.{mandatory_labels}
 use Rattle.library.proofs.FrontLemmas.{stands-within, stands-index}
 use Rattle.library.proofs.ProvingLemmas.{Found, stands-none}
 use Rattle.library.proofs.WalkLemmas.{has-items}

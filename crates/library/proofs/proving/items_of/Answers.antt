@@ -1,5 +1,5 @@
 use Rattle.std.proofs.Common.{sym, ◌∙◌, subst}
-use Rattle.library.specs.Good.{mandatory_labels}
+use Rattle.verify.specs.Proves.{mandatory_labels}
 use Rattle.library.proofs.ProvingLemmas.{if-found, packed-found, Found}
 use Rattle.scope.specs.Active.{bares}
 use Rattle.library.proofs.proving.items_of.Goals as goal

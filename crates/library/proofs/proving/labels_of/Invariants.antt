@@ -1,6 +1,6 @@
 use Rattle.std.proofs.Common.{◌≡◌, map, take}
 use Rattle.scope.specs.Active.{bares, stmt_at}
-use Rattle.library.specs.Good.{label_or_none}
+use Rattle.verify.specs.Proves.{label_or_none}
 use Rattle.library.proofs.proving.labels_of.Given as goal
 
 abbrev pub invariant-loop-position : goal.invariant-loop-position

@@ -1,7 +1,7 @@
 use Rattle.std.proofs.Common.{ap, subst}
 use Rattle.scope.specs.Active.{bares, proof_of, is_provable}
+use Rattle.verify.specs.Proves.{mandatory_labels}
 use Rattle.verify.specs.Right.{IsProvable}
-use Rattle.library.specs.Good.{mandatory_labels}
 use Rattle.library.proofs.FrontLemmas.{stands-index}
 use Rattle.library.proofs.ProvingLemmas.{Found}
 use Rattle.library.proofs.WalkLemmas.{marks-proof, marks-nothing, on-map, has-items, cites-nothing}
