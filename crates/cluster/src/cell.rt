@@ -61,6 +61,13 @@ impl NodeCell {
     {
         &self.library
     }
+
+    /// Whether an entry that was taken over is still to be applied.
+    pub fn is_behind(&self) -> bool
+        ensures { IsTrue result ↔ self.now.node.applied < length self.now.entries }
+    {
+        (self.applied as usize) < self.entries.len()
+    }
 }
 
 /// Whether the cell is of that switch: its node is there, and what it took over begins the node's log.

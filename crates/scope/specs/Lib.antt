@@ -8,3 +8,4 @@ pub mod Kept
 pub mod Sorts
 pub mod Laws
 pub mod Table
+pub mod Symbols

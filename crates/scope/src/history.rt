@@ -17,6 +17,9 @@ impl Model for History {
     ghost also_owns = { λ _. ftrue };
 }
 
+// It owns nothing.
+unsafe impl Send for History {}
+
 impl History {
     /// No statement.
     pub fn new() -> History

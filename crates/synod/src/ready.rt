@@ -1,13 +1,13 @@
 //! A step that is made ready: all its growths are made, and nothing is changed yet.
 ghost use Rattle.std.specs.Prelude.{◌≡◌, MatchOption, Some, None};
+ghost use Rattle.std.specs.Borrow.{ftrue};
 
 use crate::change::Change;
 use crate::learner::Lesson;
 use crate::node::NodeCore;
 use crate::packet::Packet;
 use crate::proposer::Proposal;
-use std::marker::Model;
-use std::snapshot::Snapshot;
+use std::marker::{Model, PhantomData};
 
 /// What a step does to the three parts of a node.
 #[derive(Drop)]
@@ -17,11 +17,36 @@ pub struct Plan<V> {
     pub lesson: Option<Lesson<V>>,
 }
 
+/// A value as contracts alone see it. It has no bytes.
+#[derive(Drop)]
+struct Past<T> {
+    marker: PhantomData<T>,
+    pub ghost value: { T },
+}
+
+impl<T> Model for Past<T> {
+    ghost also_owns = { λ _. ftrue };
+}
+
+// It owns nothing.
+unsafe impl<T> Send for Past<T> {}
+
+impl<T> Past<T> {
+    fn of(present: &T) -> Past<T>
+        ensures { result.value ≡ present.now }
+    {
+        let _ = present;
+        Past {
+            marker: PhantomData,
+        }
+    }
+}
+
 /// A step of a node, ready to be made. It is seen as the node that it was made by, in its state then,
 /// and as the step.
 #[derive(Drop)]
 pub struct Ready<V> {
-    before: Snapshot<NodeCore<V>>,
+    before: Past<NodeCore<V>>,
     plan: Plan<V>,
     posts: Vec<Packet<V>>,
 }
@@ -49,7 +74,7 @@ impl<V: Drop> Ready<V> {
         ensures step { result.step ≡ record { node = planned node.now.node plan; change = plan.change; posts = posts.items } }
     {
         Ready {
-            before: Snapshot::of(node),
+            before: Past::of(node),
             plan,
             posts,
         }

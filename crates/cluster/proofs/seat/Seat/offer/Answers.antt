@@ -13,4 +13,4 @@ returns-clause-plays g c =
     plays_ready c.ready_offer.new.self (offered g.V.Value.bytes c.args.self.now.core.node c.args.value) c.in_ok-ready.ready
     (rw (← c.self.view_is) c.in_ok-ready.ensures.ready) _ _ _
     (still _ _ c.args.packets.now.items c.args.history.now.items c.ready_offer.new.self c.self.view_is c.ready_offer.ensures.node) _ _
-    (ap (λ (v : g.row.V.Denot). let e : Event g.row.V.Denot = Offer c.args.k v in e) c.in_ok-copy.ensures) c.play.result c.play.ensures.plays
+    (ap (λ (v : g.row.V.Denot). let e : Event g.row.V.Denot = Offer c.args.k v in e) c.in_ok-copy.ensures) c.play-2.result c.play-2.ensures.plays

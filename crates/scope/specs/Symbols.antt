@@ -1,0 +1,38 @@
+-- Symbols as numbers: each declared symbol has the place of its first declaration among all symbols, from 0.
+-- Source: this project's form of keeping symbols; what declares a symbol is Metamath, 4.2.1.
+use Rattle.std.specs.Prelude.{◌≡◌, ℕ, List, [], ◌∷◌, ◌++◌}
+use Rattle.mm_lex.specs.Alphabet.{Name}
+use Rattle.mm_read.specs.declared.stmt.Stmt.{Stmt}
+use Rattle.mm_read.specs.declared.stmt.Stmt.TheVariants.{Const, Var, Disj, Float, Ess, Axiom, Prove}
+use Rattle.mm_read.specs.Statements.{Expr, Database}
+use Rattle.scope.specs.Numbering.{decode, with_names, AreCodes}
+
+-- the symbols that a statement declares
+abbrev pub symbols_by : Stmt → List Name
+symbols_by (Const symbols) = symbols
+symbols_by (Var symbols) = symbols
+symbols_by s = []
+
+abbrev pub symbols_from : List Name → Database → List Name
+symbols_from symbols [] = symbols
+symbols_from symbols (s ∷ S) = symbols_from (with_names symbols (symbols_by s)) S
+
+-- the declared symbols, in the order of their first declaration
+abbrev pub symbols_of : Database → List Name
+symbols_of S = symbols_from [] S
+
+-- the symbols that stand in a statement
+abbrev pub symbols_in : Stmt → Expr
+symbols_in (Const symbols) = symbols
+symbols_in (Var symbols) = symbols
+symbols_in (Disj symbols) = symbols
+symbols_in (Float label constant variable) = constant ∷ variable ∷ []
+symbols_in (Ess label expr) = expr
+symbols_in (Axiom label expr) = expr
+symbols_in (Prove label expr proof) = expr
+symbols_in s = []
+
+-- the numbers stand for the symbols of the last statement
+abbrev pub AreOfLast : Database → List ℕ → Type 0
+AreOfLast S numbers =
+    (T : Database) (s : Stmt) → S ≡ T ++ s ∷ [] → AreCodes (symbols_of S) numbers × (decode (symbols_of S) numbers ≡ symbols_in s)
