@@ -1,11 +1,13 @@
 -- Names by number, and the table in which their numbers are found.
 -- The code's own form: no clause of a scope cites it.
-use Rattle.std.specs.Prelude.{◌≡◌, ◌≢◌, ℕ, ◌+◌, ◌-◌, ◌*◌, ◌/◌, ◌%◌, ◌^◌, ◌<◌, ◌≤◌, List, [], ◌∷◌, length, map, Some, slice_get, slice_range, bit_and, fold}
+use Rattle.std.specs.Prelude.{◌≡◌, ◌≢◌, ℕ, ◌+◌, ◌-◌, ◌*◌, ◌/◌, ◌%◌, ◌^◌, ◌<◌, ◌≤◌, List, [], ◌∷◌, length, map, Some, slice_get, slice_range, bit_and}
+use Rattle.std.specs.Int.{w64, rotate_left}
 use Rattle.mm_lex.specs.Alphabet.{Name}
 use Rattle.scope.specs.Numbering.{name_at}
 use Rattle.scope.specs.declared.table.Slot.{Slot}
 use Rattle.scope.specs.declared.table.TheConstants.{NO_NAME, FACTOR}
 use Rattle.scope.specs.declared.texts.Span.{Span}
+use Rattle.scope.specs.Keys.{AreBytes, key_of}
 
 -- the parts of a buffer
 abbrev pub cut : List ℕ → List Span → List Name
@@ -21,42 +23,51 @@ abbrev pub AreLaid : ℕ → List Span → Type 0
 AreLaid n [] = Unit {0}
 AreLaid n (s ∷ spans) = (s.from ≤ s.to) × (s.to ≤ n) × AreBehind s.to spans × AreLaid n spans
 
-abbrev pub mixed : ℕ → ℕ → ℕ
-mixed hash byte = (hash * FACTOR % 2 ^ 64 + byte) % 2 ^ 64
+-- where the table is looked at first, before that is brought below the table's length
+abbrev pub spread : ℕ → ℕ
+spread key = rotate_left w64 (key * FACTOR % 2 ^ 64) 28
 
-abbrev pub hash_of : Name → ℕ
-hash_of name = mixed (fold mixed 0 name) 0 / 2 ^ 32
-
--- where the table is looked at in a step, by the hash and the table's length
+-- where the table is looked at in a step, by the key and the table's length
 abbrev pub place_of : ℕ → ℕ → ℕ → ℕ
-place_of hash step len = bit_and ((hash + step) % 2 ^ 64) (len - 1)
+place_of key step len = bit_and ((spread key + step) % 2 ^ 64) (len - 1)
 
 abbrev pub slot_at : List Slot → ℕ → ℕ → Slot → Type 0
-slot_at slots hash step s = slice_get slots (place_of hash step (length slots)) ≡ Some s
+slot_at slots key step s = slice_get slots (place_of key step (length slots)) ≡ Some s
 
 -- the slot of a step has a number
 abbrev pub IsTaken : List Slot → ℕ → ℕ → Type 0
-IsTaken slots hash step = (s : Slot) → slot_at slots hash step s → s.number ≢ NO_NAME
+IsTaken slots key step = (s : Slot) → slot_at slots key step s → s.number ≢ NO_NAME
 
--- a number is found by its hash before a slot without number is met
-pub record IsHeld (slots : List Slot) (hash number : ℕ) : Type 0 where
+-- a number is found by its key before a slot without number is met
+pub record IsHeld (slots : List Slot) (key number : ℕ) : Type 0 where
   pub step : ℕ
   pub within : step < length slots
-  pub there : slot_at slots hash step (record { hash = hash; number = number })
-  pub before : (i : ℕ) → i < step → IsTaken slots hash i
+  pub there : slot_at slots key step (record { key = key; number = number })
+  pub before : (i : ℕ) → i < step → IsTaken slots key i
 
 abbrev pub AreHeld : List Slot → List Name → Type 0
-AreHeld slots names = (k : ℕ) → k < length names → IsHeld slots (hash_of (name_at names k)) k
+AreHeld slots names = (k : ℕ) → k < length names → IsHeld slots (key_of (name_at names k)) k
 
--- the first slot without number that is met by a hash
-pub record IsFree (slots : List Slot) (hash at : ℕ) : Type 0 where
+-- a slot with the key of the name that has its number now
+pub record HasKey (names : List Name) (s : Slot) : Type 0 where
+  pub within : s.number < length names
+  pub bytes : AreBytes (name_at names s.number)
+  pub key : s.key ≡ key_of (name_at names s.number)
+
+-- the table of these names. Slots with lower numbers have the keys of the names that have these numbers now
+pub record IsTable (slots : List Slot) (names : List Name) (sound : ℕ) : Type 0 where
+  pub held : AreHeld slots names
+  pub keys : (i : ℕ) (s : Slot) → slice_get slots i ≡ Some s → s.number < sound → HasKey names s
+
+-- the first slot without number that is met by a key
+pub record IsFree (slots : List Slot) (key at : ℕ) : Type 0 where
   pub step : ℕ
   pub within : step < length slots
-  pub place : place_of hash step (length slots) ≡ at
+  pub place : place_of key step (length slots) ≡ at
   pub inside : at < length slots
   pub free : (s : Slot) → slice_get slots at ≡ Some s → s.number ≡ NO_NAME
-  pub before : (i : ℕ) → i < step → IsTaken slots hash i
+  pub before : (i : ℕ) → i < step → IsTaken slots key i
 
 -- the slot of a step has a number, and not that of the name
 abbrev pub IsPassed : List Slot → List Name → Name → ℕ → ℕ → Type 0
-IsPassed slots names name hash step = (s : Slot) → slot_at slots hash step s → (s.number ≢ NO_NAME) × (s.hash ≡ hash → s.number < length names → name_at names s.number ≢ name)
+IsPassed slots names name key step = (s : Slot) → slot_at slots key step s → (s.number ≢ NO_NAME) × (s.key ≡ key → s.number < length names → name_at names s.number ≢ name)

@@ -7,6 +7,7 @@
 
 mod accept;
 mod history;
+mod keys;
 mod laws;
 mod legal;
 mod names;

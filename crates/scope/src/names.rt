@@ -3,32 +3,37 @@ ghost use Rattle.std.specs.Prelude.{◌≡◌, ◌<◌, ◌≤◌, ◌^◌, [], 
 ghost use Rattle.mm_lex.specs.Alphabet.{has_name};
 ghost use Rattle.scope.specs.Numbering.{name_at, code_of, AreDistinct};
 
-use crate::table::{NO_NAME, Slot, free_place, hash, search, table};
+use crate::keys::key;
+use crate::table::{NO_NAME, Slot, free_place, search, table};
 use crate::texts::Texts;
 use std::alloc::{AllocError, Global};
 use std::marker::Model;
 
 /// Names, none of them twice. The code of a name is its place, from 0. Contracts see the list.
 ///
-/// The bytes of all names stand in one buffer. A table tells a name's code by its hash.
+/// The bytes of all names stand in one buffer. A table tells a name's code by its key, which for a name
+/// of at most seven bytes no other name has.
 #[derive(Drop)]
 pub struct Names {
     texts: Texts,
     slots: Vec<Slot>,
     /// How many slots are taken, those of names that are gone with them.
     taken: usize,
+    /// A slot with a code below this one has the key of that code's name. Another may stand there since
+    /// a name was taken away, and its code given to a later one.
+    sound: u32,
 }
 
 impl Model for Names {
     ghost use Rattle.std.specs.Prelude.{ℕ, List, length, ◌<◌, ◌^◌};
     ghost use Rattle.scope.specs.Numbering.{AreDistinct};
-    ghost use Rattle.scope.specs.Table.{AreHeld};
+    ghost use Rattle.scope.specs.Table.{IsTable};
 
     ghost Value = { List (List ℕ) };
 
     ghost view = { λ a. a.texts };
 
-    ghost invariant = { λ a. (length a.texts < 2 ^ 32) × (AreDistinct a.texts × AreHeld a.slots.items a.texts) };
+    ghost invariant = { λ a. (length a.texts < 2 ^ 32) × (AreDistinct a.texts × IsTable a.slots.items a.texts a.sound) };
 }
 
 impl Names {
@@ -40,6 +45,7 @@ impl Names {
             texts: Texts::new(alloc),
             slots: Vec::new(alloc),
             taken: 0,
+            sound: NO_NAME,
         }
     }
 
@@ -53,6 +59,7 @@ impl Names {
             texts,
             slots,
             taken: self.taken,
+            sound: self.sound,
         })
     }
 
@@ -67,7 +74,7 @@ impl Names {
     pub fn find(&self, name: &[u8]) -> Option<usize>
         ensures { result ≡ code_of self.now name.now }
     {
-        match search(self.slots.as_slice(), &self.texts, name) {
+        match search(self.slots.as_slice(), &self.texts, self.sound, name) {
             Some(code) => Some(code as usize),
             None => None,
         }
@@ -109,13 +116,13 @@ impl Names {
         if code >= NO_NAME as usize {
             return Err(AllocError);
         }
-        let hash = hash(name);
-        let Some(at) = free_place(self.slots.as_slice(), hash) else {
+        let key = key(name);
+        let Some(at) = free_place(self.slots.as_slice(), key) else {
             return Err(AllocError);
         };
         self.texts.push(name)?;
         self.slots[at] = Slot {
-            hash,
+            key,
             number: code as u32,
         };
         self.taken = self.taken.saturating_add(1);
@@ -129,6 +136,7 @@ impl Names {
         if self.taken >= self.slots.len() / 4 * 3 {
             self.slots = table(alloc, &self.texts)?;
             self.taken = self.texts.len();
+            self.sound = NO_NAME;
         }
         Ok(())
     }
@@ -137,6 +145,7 @@ impl Names {
     pub fn truncate(&mut self, len: usize)
         ensures { self.new ≡ take len self.old }
     {
+        self.sound = len.min(self.sound as usize) as u32;
         self.texts.truncate(len);
     }
 

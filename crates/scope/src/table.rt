@@ -1,8 +1,11 @@
 //! The table in which the numbers of names are found.
-ghost use Rattle.std.specs.Prelude.{◌≡◌, ℕ, ◌<◌, ◌^◌, length, IfOk, IfSome, true, false};
+ghost use Rattle.std.specs.Prelude.{◌≡◌, ℕ, ◌<◌, ◌^◌, [], length, IfOk, IfSome, true, false};
 ghost use Rattle.scope.specs.Numbering.{name_at, code_of, AreDistinct};
-ghost use Rattle.scope.specs.Table.{hash_of, mixed, place_of, slot_at, AreHeld, IsFree};
+ghost use Rattle.scope.specs.Keys.{key_of};
+ghost use Rattle.scope.specs.Table.{place_of, slot_at, HasKey, IsTable, IsFree};
+ghost use Rattle.scope.specs.declared.table.TheConstants.{NO_NAME};
 
+use crate::keys::{HINTS, key};
 use crate::texts::{Texts, item};
 use std::alloc::{AllocError, Global};
 
@@ -15,34 +18,34 @@ const FIRST_SLOTS: usize = 16;
 /// An odd number whose bits are spread evenly: 2^64 by the golden ratio.
 const FACTOR: u64 = 0x9e37_79b9_7f4a_7c15;
 
-/// The hash and the number of a name, or `NO_NAME`.
+/// The key and the number of a name, or `NO_NAME`.
 #[derive(Clone, Copy, Drop)]
 pub struct Slot {
-    pub hash: u32,
+    pub key: u64,
     pub number: u32,
 }
 
-/// The hash of a name: one pass over its bytes.
-pub(crate) fn hash(name: &[u8]) -> u32
-    ensures { result ≡ hash_of name.now }
-{
-    let mixed = name.iter().fold(0, |hash: u64, byte| mix(hash, *byte));
-    (mix(mixed, 0) >> 32) as u32
-}
-
-fn mix(hash: u64, byte: u8) -> u64
-    ensures { result ≡ mixed hash byte }
-{
-    hash.wrapping_mul(FACTOR).wrapping_add(byte as u64)
-}
-
 /// Where to look in a step. The length of a table is a power of two.
-fn place(hash: u32, step: usize, len: usize) -> usize
+fn place(key: u64, step: usize, len: usize) -> usize
     requires { 0 < len }
-    ensures place { result ≡ place_of hash step len }
+    ensures place { result ≡ place_of key step len }
     ensures inside { result < len }
 {
-    (hash as usize).wrapping_add(step) & (len - 1)
+    let first = key.wrapping_mul(FACTOR).rotate_left(28);
+    (first as usize).wrapping_add(step) & (len - 1)
+}
+
+/// Whether a slot with the name's key has its number. A key below the hints tells, where the slot is sound.
+fn is_name(texts: &Texts, sound: u32, slot: Slot, name: &[u8]) -> bool
+    requires sound { slot.number < sound → HasKey texts.now slot }
+    requires key { slot.key ≡ key_of name.now }
+    ensures yes { result ≡ true → (slot.number < length texts.now) × (name_at texts.now slot.number ≡ name.now) }
+    ensures no { result ≡ false → slot.number < length texts.now → name_at texts.now slot.number ≡ name.now → ⊥ }
+{
+    if slot.key < HINTS && slot.number < sound {
+        return true;
+    }
+    is_text(texts, slot.number, name)
 }
 
 /// Whether the text of a number is the name.
@@ -54,40 +57,40 @@ fn is_text(texts: &Texts, number: u32, name: &[u8]) -> bool
 }
 
 /// The slot of a step.
-fn look(slots: &[Slot], hash: u32, step: usize) -> Slot
+fn look(slots: &[Slot], key: u64, step: usize) -> Slot
     requires { step < length slots.now }
-    ensures { slot_at slots.now hash step result }
+    ensures { slot_at slots.now key step result }
 {
-    item(slots, place(hash, step, slots.len()))
+    item(slots, place(key, step, slots.len()))
 }
 
 /// The number of a name that has one.
-pub(crate) fn search(slots: &[Slot], texts: &Texts, name: &[u8]) -> Option<u32>
-    requires held { AreHeld slots.now texts.now }
+pub(crate) fn search(slots: &[Slot], texts: &Texts, sound: u32, name: &[u8]) -> Option<u32>
+    requires table { IsTable slots.now texts.now sound }
     requires distinct { AreDistinct texts.now }
     requires few { length texts.now < 2 ^ 32 }
     ensures { result ≡ code_of texts.now name.now }
 {
-    let hash = hash(name);
+    let key = key(name);
     for step in 0..slots.len() {
-        let slot = look(slots, hash, step);
+        let slot = look(slots, key, step);
         if slot.number == NO_NAME {
             return None;
         }
-        if slot.hash == hash && is_text(texts, slot.number, name) {
+        if slot.key == key && is_name(texts, sound, slot, name) {
             return Some(slot.number);
         }
     }
     None
 }
 
-/// The first slot for this hash that no name has.
-pub(crate) fn free_place(slots: &[Slot], hash: u32) -> Option<usize>
-    ensures { IfSome result (IsFree slots.now hash) }
+/// The first slot for this key that no name has.
+pub(crate) fn free_place(slots: &[Slot], key: u64) -> Option<usize>
+    ensures { IfSome result (IsFree slots.now key) }
 {
     for step in 0..slots.len() {
-        if look(slots, hash, step).number == NO_NAME {
-            return Some(place(hash, step, slots.len()));
+        if look(slots, key, step).number == NO_NAME {
+            return Some(place(key, step, slots.len()));
         }
     }
     None
@@ -96,24 +99,32 @@ pub(crate) fn free_place(slots: &[Slot], hash: u32) -> Option<usize>
 /// A table for the texts, with room for as many again.
 pub(crate) fn table(alloc: Global, texts: &Texts) -> Result<Vec<Slot>, AllocError>
     requires { length texts.now < 2 ^ 32 }
-    ensures { IfOk result (λ slots. AreHeld slots.items texts.now) }
+    ensures { IfOk result (λ slots. IsTable slots.items texts.now NO_NAME) }
 {
-    let mut slots = Vec::new(alloc);
-    let free = Slot {
-        hash: 0,
-        number: NO_NAME,
-    };
-    slots.resize(slots_for(texts.len()), free)?;
+    let mut slots = free_slots(alloc, slots_for(texts.len()))?;
     for number in 0..texts.len() {
-        let hash = hash(texts.get(number));
-        let Some(at) = free_place(slots.as_slice(), hash) else {
+        let key = key(texts.get(number));
+        let Some(at) = free_place(slots.as_slice(), key) else {
             return Err(AllocError);
         };
         slots[at] = Slot {
-            hash,
+            key,
             number: number as u32,
         };
     }
+    Ok(slots)
+}
+
+/// So many slots that no name has.
+fn free_slots(alloc: Global, count: usize) -> Result<Vec<Slot>, AllocError>
+    ensures { IfOk result (λ slots. IsTable slots.items [] NO_NAME) }
+{
+    let free = Slot {
+        key: 0,
+        number: NO_NAME,
+    };
+    let mut slots = Vec::new(alloc);
+    slots.resize(count, free)?;
     Ok(slots)
 }
 

@@ -3,4 +3,4 @@ use Rattle.scope.specs.Table.{IsTaken}
 use Rattle.scope.proofs.table.free_place.Given as goal
 
 abbrev pub invariant-loop-step : goal.invariant-loop-step
-invariant-loop-step l = (i : ℕ) → i < l.step → IsTaken l.slots l.hash i
+invariant-loop-step l = (i : ℕ) → i < l.step → IsTaken l.slots l.key i

@@ -1,19 +1,25 @@
-use Rattle.std.proofs.Common.{◌∙◌, ap, sym, subst, arith, length, take, slice_set, rules, ◌<◌}
+use Rattle.std.proofs.Common.{◌≡◌, ◌∙◌, ap, sym, subst, arith, length, take, slice_set, rules, ◌<◌, ℕ, Some}
+use Rattle.std.specs.Prelude.{slice_get}
 use Rattle.std.proofs.lemmas.List.{length-take-le}
 use Rattle.scope.specs.declared.table.TheConstants.{NO_NAME}
+use Rattle.scope.specs.declared.table.Slot.{Slot}
 use Rattle.scope.specs.Numbering.{name_at}
-use Rattle.scope.specs.Table.{hash_of, AreHeld, IsFree}
-use Rattle.scope.proofs.TableLemmas.{put-held, take-name}
+use Rattle.scope.specs.Keys.{AreBytes, key_of}
+use Rattle.scope.specs.Table.{HasKey, IsTable, IsFree}
+use Rattle.scope.proofs.TableLemmas.{put, take-name}
 use Rattle.scope.proofs.table.table.Goals as goal
 
 pub loop-number-preserved : goal.loop-number-preserved
 loop-number-preserved c =
     let names = c.args.texts.now in
     let i = c.loop-number.number in
+    let slots = c.loop-number.slots.items in
+    let key = c.key-key.result in
     let lt : i < length names = search rules in
     let r = c.requires in
     let t = length-take-le i names (omega (arith, lt)) in
     let few : i < NO_NAME = omega (arith, lt, r) in
-    let free : IsFree c.loop-number.slots.items c.hash-hash.result c.in-Some.at = subst (λ s. IsFree s c.hash-hash.result c.in-Some.at) c.as_slice.ensures.value c.in-Some.ensures in
-    subst (AreHeld (slice_set c.loop-number.slots.items c.in-Some.at (record { hash = c.hash-hash.result; number = i }))) (sym (take-name names i lt))
-    (put-held c.loop-number.slots.items (take i names) (name_at names i) c.hash-hash.result c.in-Some.at i (c.hash-hash.ensures ∙ ap hash_of c.get.ensures) (sym t) few c.loop-number.invariant free)
+    let bytes : AreBytes (name_at names i) = subst AreBytes c.get.ensures c.key-key.ensures.bytes in
+    let free : IsFree slots key c.in-Some.at = subst (λ s. IsFree s key c.in-Some.at) c.as_slice.ensures.value c.in-Some.ensures in
+    subst (λ xs. IsTable (slice_set slots c.in-Some.at (record { key = key; number = i })) xs NO_NAME) (sym (take-name names i lt))
+    (put slots (take i names) (name_at names i) key c.in-Some.at i NO_NAME (c.key-key.ensures.key ∙ ap key_of c.get.ensures) bytes (sym t) few free c.loop-number.invariant)

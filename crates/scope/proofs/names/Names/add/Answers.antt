@@ -3,8 +3,9 @@ use Rattle.std.specs.Prelude.{◌++◌, ◌∷◌, [], ◌^◌, false}
 use Rattle.mm_lex.specs.Alphabet.{has_name}
 use Rattle.scope.specs.declared.table.TheConstants.{NO_NAME}
 use Rattle.scope.specs.Numbering.{AreDistinct}
-use Rattle.scope.specs.Table.{AreHeld, IsFree}
-use Rattle.scope.proofs.TableLemmas.{put-held, distinct-push}
+use Rattle.scope.specs.Keys.{AreBytes}
+use Rattle.scope.specs.Table.{IsTable, IsFree}
+use Rattle.scope.proofs.TableLemmas.{put, distinct-push}
 use Rattle.scope.proofs.names.Names.add.Goals as goal
 
 pub invariant_of-self-2 : goal.invariant_of-self-2
@@ -13,6 +14,7 @@ invariant_of-self-2 c =
     let new = c.push.new.self in
     let slots = c.self.inside.slots.items in
     let name = c.args.name.now in
+    let key = c.key-key.result in
     let n = c.len-code.result in
     let is : new ≡ old ++ name ∷ [] = c.in_ok-push.ensures.ok in
     let count : n ≡ length old = c.len-code.ensures in
@@ -20,11 +22,11 @@ invariant_of-self-2 c =
     let l = length-append old (name ∷ []) in
     let lt : length (old ++ name ∷ []) < 2 ^ 32 = omega (arith, l, count, few) in
     let fresh : has_name name old ≡ false = ap (has_name name) (c.self.view_is ∙ c.in_ok-make_room.ensures) ∙ c.requires in
-    let free : IsFree slots c.hash-hash.result c.in-Some.at = subst (λ s. IsFree s c.hash-hash.result c.in-Some.at) c.as_slice.ensures.value c.in-Some.ensures in (
+    let free : IsFree slots key c.in-Some.at = subst (λ s. IsFree s key c.in-Some.at) c.as_slice.ensures.value c.in-Some.ensures in (
       subst (λ xs. length xs < 2 ^ 32) (sym is) lt,
       (
         subst AreDistinct (sym is) (distinct-push old name c.self.invariant.1.0 fresh),
-        subst (AreHeld (slice_set slots c.in-Some.at (record { hash = c.hash-hash.result; number = n }))) (sym is)
-            (put-held slots old name c.hash-hash.result c.in-Some.at n c.hash-hash.ensures count few c.self.invariant.1.1 free),
+        subst (λ xs. IsTable (slice_set slots c.in-Some.at (record { key = key; number = n })) xs c.self.inside.sound) (sym is)
+            (put slots old name key c.in-Some.at n c.self.inside.sound c.key-key.ensures.key c.key-key.ensures.bytes count few free c.self.invariant.1.1),
       ),
     )

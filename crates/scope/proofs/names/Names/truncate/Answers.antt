@@ -1,8 +1,9 @@
 use Rattle.std.proofs.Common.{sym, subst, arith, length, take, ◌<◌}
-use Rattle.std.specs.Prelude.{◌^◌}
+use Rattle.std.specs.Prelude.{◌^◌, ◌≤◌}
+use Rattle.std.proofs.Math.Nat.{min-le_left, min-le_right}
 use Rattle.scope.specs.Numbering.{AreDistinct}
-use Rattle.scope.specs.Table.{AreHeld}
-use Rattle.scope.proofs.TableLemmas.{held-take, distinct-take, length-take-below}
+use Rattle.scope.specs.Table.{IsTable}
+use Rattle.scope.proofs.TableLemmas.{table-take, distinct-take, length-take-below}
 use Rattle.scope.proofs.names.Names.truncate.Goals as goal
 
 pub invariant_of-self : goal.invariant_of-self
@@ -15,6 +16,7 @@ invariant_of-self c =
       subst (λ xs. length xs < 2 ^ 32) (sym c.truncate.ensures) lt,
       (
         subst AreDistinct (sym c.truncate.ensures) (distinct-take n old c.self.invariant.1.0),
-        subst (AreHeld c.self.inside.slots.items) (sym c.truncate.ensures) (held-take c.self.inside.slots.items old n c.self.invariant.1.1),
+        subst (λ xs. IsTable c.self.inside.slots.items xs c.min.result) (sym c.truncate.ensures)
+            (table-take c.self.inside.slots.items old n c.self.inside.sound c.min.result (subst (λ m. m ≤ c.self.inside.sound) (sym c.min.ensures) (min-le_right n c.self.inside.sound)) (subst (λ m. m ≤ n) (sym c.min.ensures) (min-le_left n c.self.inside.sound)) c.self.invariant.1.1),
       ),
     )
