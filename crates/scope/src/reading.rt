@@ -1,8 +1,9 @@
 //! What a scope tells the crates above: numbers of names, and what is active.
-ghost use Rattle.std.specs.Prelude.{◌≡◌, ◌==◌, ◌<◌, length};
+ghost use Rattle.std.specs.Prelude.{◌≡◌, ◌==◌, ◌<◌, length, IfSome};
 ghost use Rattle.scope.specs.Active.{is_constant, is_variable};
 ghost use Rattle.scope.specs.Numbering.{names_of, name_at, code_of};
 ghost use Rattle.scope.specs.Standing.{standing_of};
+ghost use Rattle.scope.specs.Symbols.{AreOfLast};
 
 use crate::legal::Sort;
 use crate::scope::Scope;
@@ -60,5 +61,16 @@ impl Scope {
         ensures { result.now ≡ standing_of self.now.statements }
     {
         self.standing.as_slice()
+    }
+
+    /// The numbers of the symbols of the statement that was accepted last, where they were noted.
+    ///
+    /// A symbol's number is the place of its first declaration among all symbols, from 0. They are
+    /// not noted for `${`, `$}`, `$c` and `$v`, behind `back` and in a copy, and where a growth was
+    /// refused.
+    pub fn symbols(&self) -> Option<&[u32]>
+        ensures { IfSome result (λ numbers. AreOfLast self.now.statements numbers.now) }
+    {
+        None
     }
 }
