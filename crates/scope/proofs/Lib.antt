@@ -5,6 +5,8 @@ pub mod TextsLemmas
 pub mod TableLemmas
 pub mod NamesLemmas
 pub mod SortsLemmas
+pub mod EntriesLemmas
+pub mod SymbolsLemmas
 pub mod KeptLemmas
 pub mod StandingLemmas
 pub mod LegalLemmas

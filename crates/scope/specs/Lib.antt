@@ -9,3 +9,5 @@ pub mod Sorts
 pub mod Laws
 pub mod Table
 pub mod Symbols
+pub mod Entries
+pub mod Noted

@@ -7,9 +7,11 @@
 
 mod accept;
 mod history;
+mod judge;
 mod laws;
 mod legal;
 mod names;
+mod noted;
 mod numbering;
 mod reading;
 mod rule;
