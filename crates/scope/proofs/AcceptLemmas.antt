@@ -12,13 +12,15 @@ use Rattle.mm_read.specs.Statements.{Database}
 use Rattle.scope.specs.Active.{bare, has_float, active_variables, typed_variables}
 use Rattle.scope.specs.Legal.{broken_rule}
 use Rattle.scope.specs.Numbering.{names_of, with_names, numbers_in, number_in, AreNamed, can_push}
-use Rattle.scope.specs.Kinds.{Declared, declared_names, kind_in, with_kind, with_kinds, IsLabelled}
+use Rattle.scope.specs.Kinds.{Declared, declared_names, kind_in, with_kind, with_kinds, is_label_kind, IsLabelled}
 use Rattle.scope.specs.Kept.{IsKept}
+use Rattle.scope.specs.Symbols.{symbols_of, symbols_by}
 use Rattle.scope.specs.declared.sizes.Sizes.{Sizes}
 use Rattle.scope.specs.declared.numbering.Kind.{Kind}
 use Rattle.scope.specs.declared.numbering.Kind.TheVariants.{Label, Constant, Variable}
 use Rattle.scope.proofs.NamesLemmas.{declared_names-with_kinds, with_names-more, numbers_in-more, active-named, has-more, has-with_names, number_in-more, same_name}
 use Rattle.scope.proofs.SortsLemmas.{numbers-has, is_variable-active, has_float-typed}
+use Rattle.scope.proofs.SymbolsLemmas.{declared_symbols-label, declared_symbols-with_kinds}
 use Rattle.scope.proofs.KeptLemmas.{kept-more, tells-nothing, tells-constants, tells-variables, tells-label, all-has, fresh-none, inactive-free, inactive-not, can_push-names}
 use Rattle.scope.proofs.LegalLemmas.{legal-constants, legal-variables, legal-label, legal-float}
 
@@ -42,6 +44,17 @@ with_kinds-more names kind (x ∷ xs) =
     let rest = with_kinds-more (with_kind names kind x) kind xs in
     (one.0 ++ rest.0, rest.1 ∙ (ap (λ ns. ns ++ rest.0) one.1 ∙ append_assoc names one.0 rest.0))
 
+symbols-labelled : (s : Stmt) (l : Name) → IsLabelled s l → symbols_by s ≡ []
+symbols-labelled Open l is = refl
+symbols-labelled Close l is = refl
+symbols-labelled (Const xs) l is = is.no_constants
+symbols-labelled (Var xs) l is = is.no_variables
+symbols-labelled (Disj xs) l is = refl
+symbols-labelled (Float label constant variable) l is = refl
+symbols-labelled (Ess label expr) l is = refl
+symbols-labelled (Axiom label expr) l is = refl
+symbols-labelled (Prove label expr proof) l is = refl
+
 no_names : (names : List Name) → AreNamed names []
 no_names names x h = absurd (true≢false (sym h))
 
@@ -53,6 +66,7 @@ module _ (S M : Database) (names : Declared) (vs ts : List ℕ) (blocks : List S
       (kept-more S M (Const xs) names (with_kinds names Constant xs) vs ts blocks mark m refl refl (with_kinds-more names Constant xs)
       (declared_names-with_kinds names Constant xs ∙ ap (λ ns. with_names ns xs) k.named)
       (tells-constants S names xs (λ x h. fresh-none S names x k.told (all-has _ x xs l.0 h)) k.told)
+      (declared_symbols-with_kinds names Constant xs refl (λ x h. ap is_label_kind (fresh-none S names x k.told (all-has _ x xs l.0 h))) ∙ ap (λ ns. with_names ns xs) k.symbols)
       (no_names (declared_names (with_kinds names Constant xs))) k)
 
   pub accept-variables : (xs : List Name) → broken_rule S (Var xs) ≡ None
@@ -63,6 +77,7 @@ module _ (S M : Database) (names : Declared) (vs ts : List ℕ) (blocks : List S
       (kept-more S M (Var xs) names (with_kinds names Variable xs) vs ts blocks mark m refl refl (with_kinds-more names Variable xs)
       (declared_names-with_kinds names Variable xs ∙ ap (λ ns. with_names ns xs) k.named)
       (tells-variables S names xs (λ x h. inactive-free S names x k.told (all-has _ x xs l.0 h)) k.told)
+      (declared_symbols-with_kinds names Variable xs refl (λ x h. (inactive-free S names x k.told (all-has _ x xs l.0 h)).0) ∙ ap (λ ns. with_names ns xs) k.symbols)
       (no_names (declared_names (with_kinds names Variable xs))) k)
 
   pub can_push-variables : (xs : List Name) → broken_rule S (Var xs) ≡ None → can_push vs (numbers_in (with_names (declared_names names) xs) xs) ≡ true
@@ -83,6 +98,7 @@ module _ (S M : Database) (names : Declared) (vs ts : List ℕ) (blocks : List S
       (kept-more S M s names N vs ts blocks mark m is.no_close is.no_open (with_kinds-more names Label (l ∷ []))
       (declared_names-with_kinds names Label (l ∷ []) ∙ (ap (λ ns. with_names ns (l ∷ [])) k.named ∙ ap (with_names (names_of S)) (sym is.declared)))
       (tells-label S s names l is.labelled is.no_constants is.no_variables (fresh-none S names l k.told (legal-label S s l is.labelled legal)) k.told)
+      (declared_symbols-label names l ∙ (k.symbols ∙ ap (with_names (symbols_of S)) (sym (symbols-labelled s l is))))
       (subst (λ (xs : List Name). AreNamed (declared_names N) xs) (sym is.untyped) (no_names (declared_names N))) k)
 
   -- the variable of a `$f` has a number
@@ -110,6 +126,7 @@ module _ (S M : Database) (names : Declared) (vs ts : List ℕ) (blocks : List S
       (kept-more S M (Float l c v) names N vs ts blocks mark m refl refl more
       (declared_names-with_kinds names Label (l ∷ []) ∙ ap (λ ns. with_names ns (l ∷ [])) k.named)
       (tells-label S (Float l c v) names l refl refl refl (fresh-none S names l k.told (legal-label S (Float l c v) l refl legal)) k.told)
+      (declared_symbols-label names l ∙ k.symbols)
       (λ x h. ap (λ z. has_name z (declared_names N)) (only x v h) ∙ (ap (has_name v) longer ∙ has-more v (declared_names names) (declared_names more.0) known)) k)
     where
       only : (x v : Name) → (name_eq x v || false) ≡ true → x ≡ v
@@ -123,7 +140,7 @@ module _ (S M : Database) (names : Declared) (vs ts : List ℕ) (blocks : List S
   accept-disjoint xs =
       same-kept refl refl (append-nil vs) (append-nil ts) refl
       (kept-more S M (Disj xs) names names vs ts blocks mark m refl refl ([], sym (append-nil names)) k.named
-      (tells-nothing S (Disj xs) names (λ x. refl) refl refl k.told) (no_names (declared_names names)) k)
+      (tells-nothing S (Disj xs) names (λ x. refl) refl refl k.told) k.symbols (no_names (declared_names names)) k)
 
 pub bare-labelled : (s : Stmt) (l : Name) → IsLabelled s l → IsLabelled (bare s) l
 bare-labelled (Prove label expr proof) l is = record { labelled = is.labelled; no_constants = refl; no_variables = refl; untyped = refl; declared = is.declared; no_open = refl; no_close = refl }

@@ -12,7 +12,8 @@ use Rattle.mm_read.specs.Statements.{Database}
 use Rattle.scope.specs.Active.{stays_open, active_from, active, is_open, is_close, is_closed, count, constants, variables, typed_by, label_of, has_label, was_label, was_symbol, is_constant, is_variable}
 use Rattle.scope.specs.Legal.{all_different}
 use Rattle.scope.specs.Numbering.{names_of, with_names, declared_by, numbers_in, number_in, AreNamed, can_push}
-use Rattle.scope.specs.Kinds.{Declared, declared_names, kind_in, Tells, TellsAll, with_kinds, is_label_kind, is_constant_kind, is_variable_kind}
+use Rattle.scope.specs.Kinds.{Declared, declared_names, declared_symbols, kind_in, Tells, TellsAll, with_kinds, is_label_kind, is_constant_kind, is_variable_kind}
+use Rattle.scope.specs.Symbols.{symbols_of, symbols_by}
 use Rattle.scope.specs.Kept.{sizes_of, blocks_from, blocks_of, IsKept, IsMarked}
 use Rattle.scope.specs.declared.sizes.Sizes.{Sizes}
 use Rattle.scope.specs.declared.numbering.Kind.{Kind}
@@ -22,6 +23,7 @@ use Rattle.scope.proofs.ActiveLemmas.{active_from-append, active_from-close, act
 use Rattle.scope.proofs.BlocksLemmas.{blocks_from-append, blocks-close, length-blocks, closed-left}
 use Rattle.scope.proofs.NamesLemmas.{names_from-append, names_of-later, numbers_in-more, active-named, has-more, has_name-append, or_kind, name_same, same_name, kind_in-with_kinds}
 use Rattle.scope.proofs.SortsLemmas.{numbers-has, fresh-kind}
+use Rattle.scope.proofs.SymbolsLemmas.{symbols_of-append}
 
 -- ---- what a statement more declares
 
@@ -153,19 +155,22 @@ marked-more S M s names names' mark m h named prefix k = record {
   sizes = k.sizes;
   count = k.count;
   told = subst (λ (ns : Declared). TellsAll M ns) (sym (ap (take m) prefix.1 ∙ take-append-le m names prefix.0 (marked-within S M names mark m named k))) k.told;
+  symbols = ap declared_symbols (ap (take m) prefix.1 ∙ take-append-le m names prefix.0 (marked-within S M names mark m named k)) ∙ k.symbols;
   typed_known = k.typed_known;
 }
 
 pub kept-more : (S M : Database) (s : Stmt) (names names' : Declared) (vs ts : List ℕ) (blocks : List Sizes) (mark : Sizes) (m : ℕ) → is_close s ≡ false → is_open s ≡ false
     → ((more : Declared) × (names' ≡ names ++ more)) → declared_names names' ≡ with_names (names_of S) (declared_by s) → TellsAll (S ++ s ∷ []) names'
+    → declared_symbols names' ≡ with_names (symbols_of S) (symbols_by s)
     → AreNamed (declared_names names') (typed_by s)
     → IsKept S M names vs ts blocks mark m
     → IsKept (S ++ s ∷ []) M names' (vs ++ numbers_in (declared_names names') (variables s)) (ts ++ numbers_in (declared_names names') (typed_by s)) blocks mark m
-kept-more S M s names names' vs ts blocks mark m shut plain prefix named told known k =
+kept-more S M s names names' vs ts blocks mark m shut plain prefix named told symbols known k =
     let is : declared_names names' ≡ names_of (S ++ s ∷ []) = named ∙ sym (names_of-append S s) in
     record {
       named = is;
       told = told;
+      symbols = symbols ∙ sym (symbols_of-append S s);
       variables_are = ap (λ ns. vs ++ numbers_in ns (variables s)) is ∙ stack-more (λ p. variables p.1) S s vs shut (active-named S) k.variables_are;
       typed_are = ap (λ ns. ts ++ numbers_in ns (typed_by s)) is ∙ stack-more (λ p. typed_by p.1) S s ts shut k.typed_known k.typed_are;
       typed_known = known-more (λ p. typed_by p.1) S s shut k.typed_known (subst (λ (ns : List Name). AreNamed ns (typed_by s)) is known);
@@ -182,6 +187,7 @@ pub kept-open : (S M : Database) (names : Declared) (vs ts : List ℕ) (blocks :
 kept-open S M names vs ts blocks mark sizes m height k = record {
   named = k.named ∙ sym (names_of-append S Open);
   told = tells-nothing S Open names (λ x. refl) refl refl k.told;
+  symbols = k.symbols ∙ sym (symbols_of-append S Open);
   variables_are = sym (append-nil vs) ∙ stack-more (λ p. variables p.1) S Open vs refl (active-named S) k.variables_are;
   typed_are = sym (append-nil ts) ∙ stack-more (λ p. typed_by p.1) S Open ts refl k.typed_known k.typed_are;
   typed_known = known-more (λ p. typed_by p.1) S Open refl k.typed_known (λ x h. absurd (true≢false (sym h)));
@@ -259,6 +265,7 @@ kept-close S M names vs ts blocks front mark last m legal split k =
     record {
       named = k.named ∙ sym (names_of-append S Close);
       told = tells-nothing S Close names (λ x. refl) refl refl k.told;
+      symbols = k.symbols ∙ sym (symbols_of-append S Close);
       variables_are = ap (λ z. take z.variables vs) both.1 ∙ stack-close (λ p. variables p.1) S vs refl k.variables_are;
       typed_are = ap (λ z. take z.typed ts) both.1 ∙ stack-close (λ p. typed_by p.1) S ts refl k.typed_are;
       typed_known = known-close (λ p. typed_by p.1) S refl k.typed_known;
@@ -270,6 +277,7 @@ kept-close S M names vs ts blocks front mark last m legal split k =
         sizes = km.sizes;
         count = km.count;
         told = km.told;
+        symbols = km.symbols;
         typed_known = km.typed_known;
       };
     }
@@ -281,6 +289,7 @@ pub kept-mark : (S M : Database) (names : Declared) (vs ts : List ℕ) (blocks :
 kept-mark S M names vs ts blocks mark sizes m n closed height count k = record {
   named = k.named;
   told = k.told;
+  symbols = k.symbols;
   variables_are = k.variables_are;
   typed_are = k.typed_are;
   typed_known = k.typed_known;
@@ -292,6 +301,7 @@ kept-mark S M names vs ts blocks mark sizes m n closed height count k = record {
     sizes = height;
     count = count ∙ (sym (length-map names (λ p. p.0)) ∙ ap length k.named);
     told = subst (λ (ns : Declared). TellsAll S ns) (sym (ap (λ i. take i names) count ∙ take_all (length names) names (omega arith))) k.told;
+    symbols = ap declared_symbols (ap (λ i. take i names) count ∙ take_all (length names) names (omega arith)) ∙ k.symbols;
     typed_known = k.typed_known;
   };
 }
@@ -322,6 +332,7 @@ kept-back S M names vs ts blocks mark m k =
     record {
       named = sym (take-map (λ (p : Name × Kind). p.0) m names) ∙ (ap (take m) (k.named ∙ (ap names_of e ∙ more.1)) ∙ (ap (λ i. take i (names_of M ++ more.0)) km.count ∙ take_at (names_of M) more.0 (length (names_of M)) refl));
       told = km.told;
+      symbols = km.symbols;
       variables_are = ap (λ z. take z.variables vs) km.sizes ∙ stack-back (λ p. variables p.1) S M T vs e below (active-named M) k.variables_are;
       typed_are = ap (λ z. take z.typed ts) km.sizes ∙ stack-back (λ p. typed_by p.1) S M T ts e below km.typed_known k.typed_are;
       typed_known = km.typed_known;
@@ -333,6 +344,7 @@ kept-back S M names vs ts blocks mark m k =
         sizes = km.sizes;
         count = km.count;
         told = subst (λ (ns : Declared). TellsAll M ns) (sym (take-take m m names (omega arith))) km.told;
+        symbols = ap declared_symbols (take-take m m names (omega arith)) ∙ km.symbols;
         typed_known = km.typed_known;
       };
     }

@@ -8,6 +8,8 @@ use Rattle.mm_read.specs.declared.stmt.Stmt.TheVariants.{Open, Close, Const, Var
 use Rattle.mm_read.specs.Statements.{Database}
 use Rattle.scope.specs.Active.{is_variable, is_constant, was_symbol, was_label, has_float, label_of, count, is_open, is_close}
 use Rattle.scope.specs.Legal.{all_different, broken_rule}
+use Rattle.scope.specs.Sorts.{IsSort, is_symbol_sort, is_constant_sort, is_untyped_sort, sorts_rule}
+use Rattle.scope.specs.declared.legal.Sort.{Sort}
 use Rattle.scope.specs.declared.rule.Rule.{Rule}
 use Rattle.scope.specs.declared.rule.Rule.TheVariants.{G4, G5, G6, G7}
 
@@ -74,3 +76,29 @@ legal-float S label constant variable h =
     by true true false false h = cc
     by true false c false h = cc
     by false b c false h = cc
+
+-- a `$f` with a fresh label breaks what its symbols break, by what they are
+pub float-sorts : (S : Database) (l c v : Name) (p q : Sort) → not (was_symbol S l || was_label S l) ≡ true → IsSort S c p → IsSort S v q → broken_rule S (Float l c v) ≡ sorts_rule p q
+float-sorts S l c v p q new first second =
+    (λ j. cond (not (unused j)) (Some G4)
+    (cond (not ((first.constant j || first.variable j) && ((second.constant j || second.variable j) && true))) (Some G5)
+    (cond (not (first.constant j)) (Some G6) (cond (not (untyped j)) (Some G7) None))))
+    ∙ ap (λ b. cond (not (is_symbol_sort p && b)) (Some G5) (cond (not (is_constant_sort p)) (Some G6) (cond (not (is_untyped_sort q)) (Some G7) None))) (and_true (is_symbol_sort q))
+  where
+    and_true : (b : Bool) → (b && true) ≡ b
+    and_true true = refl
+    and_true false = refl
+
+    unused : not (was_label S l || was_symbol S l) ≡ true
+    unused = ap not (or_comm (was_label S l) (was_symbol S l)) ∙ new
+
+    turned : (a b : Bool) → (a && not b) ≡ not (not a || b)
+    turned true b = refl
+    turned false b = refl
+
+    twice : (b : Bool) → not (not b) ≡ b
+    twice true = refl
+    twice false = refl
+
+    untyped : (is_variable S v && not (has_float S v)) ≡ is_untyped_sort q
+    untyped = turned (is_variable S v) (has_float S v) ∙ (ap not second.untyped ∙ twice (is_untyped_sort q))

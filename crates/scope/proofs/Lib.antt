@@ -6,6 +6,8 @@ pub mod KeysLemmas
 pub mod TableLemmas
 pub mod NamesLemmas
 pub mod SortsLemmas
+pub mod EntriesLemmas
+pub mod SymbolsLemmas
 pub mod KeptLemmas
 pub mod StandingLemmas
 pub mod LegalLemmas

@@ -7,8 +7,9 @@ use Rattle.mm_read.specs.declared.stmt.Stmt.{Stmt}
 use Rattle.mm_read.specs.Statements.{Database}
 use Rattle.scope.specs.Active.{active, stays_open, is_open, is_closed, variables, typed_by, active_variables, typed_variables}
 use Rattle.scope.specs.Numbering.{names_of, numbers_in, AreNamed}
-use Rattle.scope.specs.Kinds.{Declared, declared_names, TellsAll}
+use Rattle.scope.specs.Kinds.{Declared, declared_names, declared_symbols, TellsAll}
 use Rattle.scope.specs.Standing.{stands_at, IsStanding}
+use Rattle.scope.specs.Symbols.{symbols_of}
 use Rattle.scope.specs.declared.sizes.Sizes.{Sizes}
 use Rattle.scope.specs.declared.standing.Standing.{Standing}
 
@@ -32,11 +33,13 @@ pub record IsMarked (S M : Database) (names : Declared) (mark : Sizes) (marked_n
   pub sizes : mark ≡ sizes_of (active M)
   pub count : marked_names ≡ length (names_of M)
   pub told : TellsAll M (take marked_names names)
+  pub symbols : declared_symbols (take marked_names names) ≡ symbols_of M
   pub typed_known : AreNamed (names_of M) (typed_variables M)
 
 pub record IsKept (S M : Database) (names : Declared) (variable_stack typed_stack : List ℕ) (blocks : List Sizes) (mark : Sizes) (marked_names : ℕ) : Type 0 where
   pub named : declared_names names ≡ names_of S
   pub told : TellsAll S names
+  pub symbols : declared_symbols names ≡ symbols_of S
   pub variables_are : variable_stack ≡ numbers_in (names_of S) (active_variables S)
   pub typed_are : typed_stack ≡ numbers_in (names_of S) (typed_variables S)
   pub typed_known : AreNamed (names_of S) (typed_variables S)

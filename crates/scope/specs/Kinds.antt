@@ -1,7 +1,7 @@
 -- What a name was declared as.
 -- Source: Metamath, 4.2.
 -- The code keeps a name's kind beside its number; the model looks through the statements.
-use Rattle.std.specs.Prelude.{◌≡◌, Bool, true, false, List, [], ◌∷◌, ◌++◌, map, Option, Some, None, is_some, if◌then◌else◌}
+use Rattle.std.specs.Prelude.{◌≡◌, Bool, true, false, List, [], ◌∷◌, ◌++◌, map, length, take, ℕ, Option, Some, None, is_some, if◌then◌else◌}
 use Rattle.mm_lex.specs.Alphabet.{Name, name_eq}
 use Rattle.mm_read.specs.declared.stmt.Stmt.{Stmt}
 use Rattle.mm_read.specs.Statements.{Database}
@@ -39,6 +39,20 @@ is_constant_kind kind = false
 abbrev pub is_variable_kind : Option Kind → Bool
 is_variable_kind (Some Variable) = true
 is_variable_kind kind = false
+
+abbrev pub is_symbol_kind : Kind → Bool
+is_symbol_kind Label = false
+is_symbol_kind kind = true
+
+-- the names that are no labels, in order
+abbrev pub declared_symbols : Declared → List Name
+declared_symbols [] = []
+declared_symbols (p ∷ names) =
+    if is_symbol_kind p.1 then p.0 ∷ declared_symbols names else declared_symbols names
+
+-- how many of them stand before a place
+abbrev pub symbols_before : Declared → ℕ → ℕ
+symbols_before names n = length (declared_symbols (take n names))
 
 -- the kind tells what the statements say of the name
 pub record Tells (S : Database) (x : Name) (kind : Option Kind) : Type 0 where

@@ -10,3 +10,5 @@ pub mod Laws
 pub mod Keys
 pub mod Table
 pub mod Symbols
+pub mod Entries
+pub mod Noted

@@ -11,8 +11,8 @@ ghost use Rattle.scope.specs.declared.numbering.Kind.TheVariants as shape_kind;
 ghost use Rattle.scope.specs.Numbering.{number_in, numbers_in, with_names, can_push};
 
 use crate::history::History;
+use crate::judge::Judge;
 use crate::numbering::{Kind, Numbering};
-use crate::scope::Scope;
 use crate::sizes::Sizes;
 use crate::stack::Stack;
 use crate::standing::push_standing;
@@ -20,7 +20,7 @@ use mm_lex::{Word, Words};
 use mm_read::Stmt;
 use std::alloc::{AllocError, Global};
 
-impl Scope {
+impl Judge {
     /// Accepts a legal statement.
     pub(crate) fn accept(&mut self, stmt: &Stmt) -> Result<(), AllocError>
         requires legal { IsLegal self.old.statements stmt.now }

@@ -1,16 +1,20 @@
 //! The rules of a statement, each as a test.
-ghost use Rattle.std.specs.Prelude.{◌≡◌, ◌==◌, Bool, true, false, not, ◌&&◌, ◌||◌, nat_lt, take, Some, None, IfOk, if◌then◌else◌};
+ghost use Rattle.std.specs.Prelude.{◌≡◌, ◌==◌, Bool, true, false, not, ◌&&◌, ◌||◌, nat_lt, take, Some, None, IfOk, ◌++◌, ◌∷◌, [], is_some, if◌then◌else◌};
 ghost use Rattle.std.specs.List.{list_all, list_any};
 ghost use Rattle.mm_lex.specs.Alphabet.{has_name};
+ghost use Rattle.mm_read.specs.Statements.{Expr};
 ghost use Rattle.mm_read.specs.declared.stmt.Stmt.TheVariants as stmt;
-ghost use Rattle.scope.specs.Active.{active_variables, typed_variables, is_constant, is_variable, was_label, was_symbol, is_closed, count, is_open, is_close};
+ghost use Rattle.scope.specs.Active.{bare, active_variables, typed_variables, is_constant, is_variable, was_label, was_symbol, is_closed, count, is_open, is_close};
 ghost use Rattle.scope.specs.Legal.{all_different, are_typed, starts_with_constant, broken_rule};
-ghost use Rattle.scope.specs.Sorts.{IsSort, sort_by, sorts_rule};
+ghost use Rattle.scope.specs.Noted.{IsNumberOf, AreNoted, IsOfLast};
+ghost use Rattle.scope.specs.Sorts.{IsSort, is_symbol_sort, sort_by, sorts_rule};
 ghost use Rattle.scope.specs.Numbering.{names_of, numbers_in};
+ghost use Rattle.scope.specs.Symbols.{symbols_of};
 
+use crate::judge::Judge;
+use crate::noted::Noted;
 use crate::numbering::{Kind, Numbering};
 use crate::rule::Rule;
-use crate::scope::Scope;
 use mm_lex::{Word, Words};
 use mm_read::Stmt;
 use std::alloc::{AllocError, Global};
@@ -29,28 +33,42 @@ pub(crate) enum Sort {
     Inactive,
 }
 
-impl Scope {
-    /// The least rule that the statement would break as the next one. It takes no memory.
+impl Judge {
+    /// The least rule that the statement would break as the next one.
     ///
-    /// Cost: the statement's own size. Source: Metamath, chapter 4; the rules are
-    /// `specs/Legal.antt`.
-    pub fn broken_rule(&self, stmt: &Stmt) -> Option<Rule>
-        ensures { result ≡ broken_rule self.now.statements stmt.now }
+    /// Where it breaks none and the notes have begun, they are the numbers of its symbols, but for
+    /// `${`, `$}`, `$c` and `$v`. Memory is taken for notes that have begun alone.
+    pub(crate) fn broken_rule(&self, stmt: &Stmt, noted: &mut Noted) -> Option<Rule>
+        requires { AreNoted (symbols_of self.now.statements) [] noted.old }
+        ensures rule { result ≡ broken_rule self.now.statements stmt.now }
+        ensures noted { result ≡ None → IsOfLast (self.now.statements ++ bare stmt.now ∷ []) noted.new }
     {
         match stmt {
-            Stmt::Open => None,
-            Stmt::Close => self.broken_by_close(),
-            Stmt::Const(symbols) => self.broken_by_constants(symbols),
-            Stmt::Var(symbols) => self.broken_by_variables(symbols),
-            Stmt::Disj(symbols) => self.broken_by_disjoint(symbols),
+            Stmt::Disj(symbols) => self.broken_by_disjoint(symbols, noted),
             Stmt::Float {
                 label,
                 constant,
                 variable,
-            } => self.broken_by_float(label, constant, variable),
-            Stmt::Ess { label, expr } => self.broken_by_labelled(label, expr),
-            Stmt::Axiom { label, expr } => self.broken_by_labelled(label, expr),
-            Stmt::Prove { label, expr, .. } => self.broken_by_labelled(label, expr),
+            } => self.broken_by_float(label, constant, variable, noted),
+            Stmt::Ess { label, expr } => self.broken_by_labelled(label, expr, noted),
+            Stmt::Axiom { label, expr } => self.broken_by_labelled(label, expr, noted),
+            Stmt::Prove { label, expr, .. } => self.broken_by_labelled(label, expr, noted),
+            Stmt::Open => {
+                noted.forget();
+                None
+            }
+            Stmt::Close => {
+                noted.forget();
+                self.broken_by_close()
+            }
+            Stmt::Const(symbols) => {
+                noted.forget();
+                self.broken_by_constants(symbols)
+            }
+            Stmt::Var(symbols) => {
+                noted.forget();
+                self.broken_by_variables(symbols)
+            }
         }
     }
 
@@ -90,39 +108,51 @@ impl Scope {
         None
     }
 
-    fn broken_by_disjoint(&self, symbols: &Words) -> Option<Rule>
-        ensures { result ≡ broken_rule self.now.statements (stmt.Disj symbols.now) }
+    fn broken_by_disjoint(&self, symbols: &Words, noted: &mut Noted) -> Option<Rule>
+        requires { AreNoted (symbols_of self.now.statements) [] noted.old }
+        ensures rule { result ≡ broken_rule self.now.statements (stmt.Disj symbols.now) }
+        ensures noted { result ≡ None → AreNoted (symbols_of self.now.statements) symbols.now noted.new }
     {
         if !are_different(self.alloc, symbols) {
             return Some(Rule::G8);
         }
-        if !self.are_active(symbols) {
+        if !self.are_active(symbols, noted) {
             return Some(Rule::G8);
         }
         None
     }
 
-    fn broken_by_float(&self, label: &Word, constant: &Word, variable: &Word) -> Option<Rule>
-        ensures { result ≡ broken_rule self.now.statements (stmt.Float label.now constant.now variable.now) }
+    fn broken_by_float(
+        &self,
+        label: &Word,
+        constant: &Word,
+        variable: &Word,
+        noted: &mut Noted,
+    ) -> Option<Rule>
+        requires { AreNoted (symbols_of self.now.statements) [] noted.old }
+        ensures rule { result ≡ broken_rule self.now.statements (stmt.Float label.now constant.now variable.now) }
+        ensures noted { result ≡ None → AreNoted (symbols_of self.now.statements) (constant.now ∷ variable.now ∷ []) noted.new }
     {
         if !self.is_fresh(label.as_bytes()) {
             return Some(Rule::G4);
         }
-        let first = self.sort(constant.as_bytes());
-        let second = self.sort(variable.as_bytes());
+        let first = self.sort_and_note(constant.as_bytes(), noted);
+        let second = self.sort_and_note(variable.as_bytes(), noted);
         broken_by_sorts(first, second)
     }
 
-    fn broken_by_labelled(&self, label: &Word, expr: &Words) -> Option<Rule>
-        ensures { result ≡ broken_rule self.now.statements (stmt.Axiom label.now expr.now) }
+    fn broken_by_labelled(&self, label: &Word, expr: &Words, noted: &mut Noted) -> Option<Rule>
+        requires { AreNoted (symbols_of self.now.statements) [] noted.old }
+        ensures rule { result ≡ broken_rule self.now.statements (stmt.Axiom label.now expr.now) }
+        ensures noted { result ≡ None → AreNoted (symbols_of self.now.statements) expr.now noted.new }
     {
         if !self.is_fresh(label.as_bytes()) {
             return Some(Rule::G4);
         }
-        let Some(typed) = self.are_symbols(expr) else {
+        let Some((leads, typed)) = self.are_symbols(expr, noted) else {
             return Some(Rule::G5);
         };
-        if !self.starts_with_constant(expr) {
+        if !leads {
             return Some(Rule::G6);
         }
         if !typed {
@@ -131,14 +161,23 @@ impl Scope {
         None
     }
 
-    /// Whether each symbol is a constant or an active variable, and then whether each variable
-    /// has an active `$f`.
-    fn are_symbols(&self, expr: &Words) -> Option<bool>
-        ensures { result ≡ (if list_all (λ x. is_constant self.now.statements x || is_variable self.now.statements x) expr.now then Some (are_typed self.now.statements expr.now) else None) }
+    /// Whether each symbol is a constant or an active variable, and then whether the first is a
+    /// constant, and each variable has an active `$f`.
+    fn are_symbols(&self, expr: &Words, noted: &mut Noted) -> Option<(bool, bool)>
+        requires { AreNoted (symbols_of self.now.statements) [] noted.old }
+        ensures symbols { result ≡ (if list_all (λ x. is_constant self.now.statements x || is_variable self.now.statements x) expr.now then Some (starts_with_constant self.now.statements expr.now, are_typed self.now.statements expr.now) else None) }
+        ensures noted { is_some result ≡ true → AreNoted (symbols_of self.now.statements) expr.now noted.new }
     {
+        let mut first = true;
+        let mut leads = true;
         let mut typed = true;
         for symbol in expr.iter() {
-            match self.sort(symbol) {
+            let sort = self.sort_and_note(symbol, noted);
+            if first {
+                leads = matches!(sort, Sort::Constant);
+                first = false;
+            }
+            match sort {
                 Sort::Constant => {}
                 Sort::Typed => {}
                 Sort::Untyped => typed = false,
@@ -146,16 +185,7 @@ impl Scope {
                 Sort::Inactive => return None,
             }
         }
-        Some(typed)
-    }
-
-    fn starts_with_constant(&self, expr: &Words) -> bool
-        ensures { result ≡ starts_with_constant self.now.statements expr.now }
-    {
-        match expr.iter().next() {
-            Some(symbol) => matches!(self.sort(symbol), Sort::Constant),
-            None => true,
-        }
+        Some((leads, typed))
     }
 
     fn are_fresh(&self, symbols: &Words) -> bool
@@ -170,10 +200,18 @@ impl Scope {
         symbols.iter().all(|symbol| self.is_inactive(symbol))
     }
 
-    fn are_active(&self, symbols: &Words) -> bool
-        ensures { result ≡ list_all (λ x. is_variable self.now.statements x) symbols.now }
+    fn are_active(&self, symbols: &Words, noted: &mut Noted) -> bool
+        requires { AreNoted (symbols_of self.now.statements) [] noted.old }
+        ensures active { result ≡ list_all (λ x. is_variable self.now.statements x) symbols.now }
+        ensures noted { result ≡ true → AreNoted (symbols_of self.now.statements) symbols.now noted.new }
     {
-        symbols.iter().all(|symbol| self.is_variable(symbol))
+        for symbol in symbols.iter() {
+            let sort = self.sort_and_note(symbol, noted);
+            if !matches!(sort, Sort::Typed | Sort::Untyped) {
+                return false;
+            }
+        }
+        true
     }
 
     /// Whether no block is open.
@@ -188,11 +226,33 @@ impl Scope {
     pub(crate) fn sort(&self, name: &[u8]) -> Sort
         ensures { IsSort self.now.statements name.now result }
     {
+        self.look_up(name).0
+    }
+
+    /// What a name is. The number of a symbol is noted.
+    #[inline]
+    fn sort_and_note(&self, name: &[u8], noted: &mut Noted) -> Sort
+        ensures sort { IsSort self.now.statements name.now result }
+        ensures noted { (xs : Expr) → is_symbol_sort result ≡ true → AreNoted (symbols_of self.now.statements) xs noted.old → AreNoted (symbols_of self.now.statements) (xs ++ name.now ∷ []) noted.new }
+    {
+        let (sort, number) = self.look_up(name);
+        noted.note(number);
+        sort
+    }
+
+    /// What a name is, with its number among the symbols where it is one.
+    #[inline]
+    fn look_up(&self, name: &[u8]) -> (Sort, u32)
+        ensures sort { IsSort self.now.statements name.now result.0 }
+        ensures number { is_symbol_sort result.0 ≡ true → IsNumberOf (symbols_of self.now.statements) name.now result.1 }
+    {
         match self.names.find(name) {
-            Some((_, Kind::Constant)) => Sort::Constant,
-            Some((number, Kind::Variable)) => self.sort_of_number(number),
-            Some((_, Kind::Label)) => Sort::Label,
-            None => Sort::Inactive,
+            Some((number, Kind::Constant)) => (Sort::Constant, self.names.symbol(number)),
+            Some((number, Kind::Variable)) => {
+                (self.sort_of_number(number), self.names.symbol(number))
+            }
+            Some((_, Kind::Label)) => (Sort::Label, 0),
+            None => (Sort::Inactive, 0),
         }
     }
 

@@ -7,10 +7,12 @@
 
 mod accept;
 mod history;
+mod judge;
 mod keys;
 mod laws;
 mod legal;
 mod names;
+mod noted;
 mod numbering;
 mod reading;
 mod rule;

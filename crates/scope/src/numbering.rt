@@ -1,7 +1,8 @@
 //! Labels and symbols as numbers, in the order of their first declaration.
 ghost use Rattle.std.specs.Prelude.{◌≡◌, ◌<◌, ◌≤◌, ◌^◌, [], ◌∷◌, ◌++◌, take, length, option_map, IfOk, IfSome, IfNone, OnOk, OnErr, None};
 ghost use Rattle.scope.specs.Numbering.{name_at, code_of};
-ghost use Rattle.scope.specs.Kinds.{declared_names, kind_in};
+ghost use Rattle.scope.specs.Entries.{AreCounted, count_behind};
+ghost use Rattle.scope.specs.Kinds.{declared_names, kind_in, symbols_before};
 
 use crate::names::Names;
 use crate::texts::item;
@@ -16,23 +17,31 @@ pub enum Kind {
     Variable,
 }
 
+/// A kind, and how many of the names before are symbols.
+#[derive(Clone, Copy, Debug, Drop, PartialEq, Eq)]
+pub struct Entry {
+    pub kind: Kind,
+    pub before: u32,
+}
+
 /// Names with their kinds. The number of a name is its place, from 0.
 #[derive(Drop)]
 pub struct Numbering {
     names: Names,
-    kinds: Vec<Kind>,
+    entries: Vec<Entry>,
 }
 
 impl Model for Numbering {
     ghost use Rattle.std.specs.Prelude.{ℕ, List, ◌≡◌, length};
+    ghost use Rattle.scope.specs.Entries.{kinds_of, AreCounted};
     ghost use Rattle.scope.specs.Kinds.{with_their};
     ghost use Rattle.scope.specs.declared.numbering.Kind.{Kind};
 
     ghost Value = { List (List ℕ × Kind) };
 
-    ghost view = { λ a. with_their a.names a.kinds.items };
+    ghost view = { λ a. with_their a.names (kinds_of a.entries.items) };
 
-    ghost invariant = { λ a. length a.kinds.items ≡ length a.names };
+    ghost invariant = { λ a. (length a.entries.items ≡ length a.names) × AreCounted 0 a.entries.items };
 }
 
 impl Numbering {
@@ -42,7 +51,7 @@ impl Numbering {
     {
         Numbering {
             names: Names::new(alloc),
-            kinds: Vec::new(alloc),
+            entries: Vec::new(alloc),
         }
     }
 
@@ -51,8 +60,8 @@ impl Numbering {
         ensures { IfOk result (λ names. names ≡ self.now) }
     {
         let names = self.names.copy(alloc)?;
-        let kinds = Vec::from_slice(alloc, self.kinds.as_slice())?;
-        Ok(Numbering { names, kinds })
+        let entries = Vec::from_slice(alloc, self.entries.as_slice())?;
+        Ok(Numbering { names, entries })
     }
 
     /// How many names there are.
@@ -71,9 +80,18 @@ impl Numbering {
     {
         self.names.few();
         match self.names.find(name) {
-            Some(number) => Some((number as u32, item(self.kinds.as_slice(), number))),
+            Some(number) => Some((number as u32, item(self.entries.as_slice(), number).kind)),
             None => None,
         }
+    }
+
+    /// How many symbols stand before a number: of a symbol, its number among the symbols.
+    #[inline]
+    pub(crate) fn symbol(&self, number: u32) -> u32
+        requires { number < length self.now }
+        ensures { result ≡ symbols_before self.now number }
+    {
+        item(self.entries.as_slice(), number as usize).before
     }
 
     /// The name of a number.
@@ -95,9 +113,11 @@ impl Numbering {
         ensures ok { OnOk result (self.new ≡ self.old ++ (name.now, kind) ∷ []) }
         ensures err { OnErr result (self.new ≡ self.old) }
     {
+        self.names.few();
         let number = self.names.len();
+        let before = symbol_count(self.entries.as_slice());
         self.names.add(alloc, name)?;
-        let pushed = self.kinds.push(kind);
+        let pushed = self.entries.push(Entry { kind, before });
         if pushed.is_err() {
             self.names.truncate(number);
             return Err(AllocError);
@@ -110,6 +130,22 @@ impl Numbering {
         ensures { self.new ≡ take len self.old }
     {
         self.names.truncate(len);
-        self.kinds.truncate(len);
+        self.entries.truncate(len);
+    }
+}
+
+/// How many of the names are symbols.
+fn symbol_count(entries: &[Entry]) -> u32
+    requires few { length entries.now < 2 ^ 32 }
+    requires counted { AreCounted 0 entries.now }
+    ensures { result ≡ count_behind 0 entries.now }
+{
+    match entries.last() {
+        Some(last) => match last.kind {
+            Kind::Label => last.before,
+            Kind::Constant => last.before + 1,
+            Kind::Variable => last.before + 1,
+        },
+        None => 0,
     }
 }

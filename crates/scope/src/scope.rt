@@ -4,12 +4,9 @@ ghost use Rattle.mm_read.specs.Statements.{IsShaped};
 ghost use Rattle.scope.specs.Active.{bare, is_closed};
 ghost use Rattle.scope.specs.Legal.{IsLegal, broken_rule, end_rule};
 
-use crate::history::History;
-use crate::numbering::Numbering;
+use crate::judge::Judge;
+use crate::noted::Noted;
 use crate::rule::Rule;
-use crate::sizes::Sizes;
-use crate::stack::Stack;
-use crate::standing::{Standing, copy_standing};
 use crate::steps::Steps;
 use mm_read::Stmt;
 use std::alloc::{AllocError, Global};
@@ -18,29 +15,19 @@ use std::marker::Model;
 /// The statements accepted so far, and those of them that are marked.
 #[derive(Drop)]
 pub struct Scope {
-    pub(crate) accepted: History,
-    pub(crate) marked: History,
-    pub(crate) names: Numbering,
-    pub(crate) variables: Stack,
-    pub(crate) typed: Stack,
-    pub(crate) standing: Vec<Standing>,
-    pub(crate) count: usize,
-    pub(crate) blocks: Vec<Sizes>,
-    pub(crate) mark: Sizes,
-    pub(crate) marked_names: usize,
-    pub(crate) marked_count: usize,
-    pub(crate) alloc: Global,
+    pub(crate) judge: Judge,
+    pub(crate) noted: Noted,
 }
 
 impl Model for Scope {
     ghost use Rattle.scope.specs.Accepted.{Accepted};
-    ghost use Rattle.scope.specs.Kept.{IsScope};
+    ghost use Rattle.scope.specs.Noted.{IsOfLast};
 
     ghost Value = { Accepted };
 
-    ghost view = { λ a. record { statements = a.accepted.statements; marked = a.marked.statements } };
+    ghost view = { λ a. a.judge };
 
-    ghost invariant = { λ a. IsScope a.accepted.statements a.marked.statements a.names a.variables a.typed a.standing.items a.blocks.items a.mark a.marked_names a.count a.marked_count };
+    ghost invariant = { λ a. IsOfLast a.judge.statements a.noted };
 }
 
 impl Scope {
@@ -50,22 +37,8 @@ impl Scope {
         ensures marked { result.marked ≡ [] }
     {
         Scope {
-            accepted: History::new(),
-            marked: History::new(),
-            names: Numbering::new(alloc),
-            variables: Stack::new(alloc),
-            typed: Stack::new(alloc),
-            standing: Vec::new(alloc),
-            count: 0,
-            blocks: Vec::new(alloc),
-            mark: Sizes {
-                variables: 0,
-                typed: 0,
-                standing: 0,
-            },
-            marked_names: 0,
-            marked_count: 0,
-            alloc,
+            judge: Judge::new(alloc),
+            noted: Noted::new(alloc),
         }
     }
 
@@ -87,16 +60,33 @@ impl Scope {
         ensures counted { steps.new.count ≡ steps.old.count + 1 }
     {
         steps.tick();
-        if let Some(rule) = self.broken_rule(stmt) {
+        self.noted.begin();
+        if let Some(rule) = self.judge.broken_rule(stmt, &mut self.noted) {
+            self.noted.forget();
             return Err(rule);
         }
-        if self.count == usize::MAX {
+        if self.judge.len() == usize::MAX {
+            self.noted.forget();
             return Err(Rule::Memory);
         }
-        match self.accept(stmt) {
+        match self.judge.accept(stmt) {
             Ok(()) => Ok(()),
-            Err(AllocError) => Err(Rule::Memory),
+            Err(AllocError) => {
+                self.noted.forget();
+                Err(Rule::Memory)
+            }
         }
+    }
+
+    /// The least rule that the statement would break as the next one. It takes no memory.
+    ///
+    /// Cost: the statement's own size. Source: Metamath, chapter 4; the rules are
+    /// `specs/Legal.antt`.
+    pub fn broken_rule(&self, stmt: &Stmt) -> Option<Rule>
+        ensures { result ≡ broken_rule self.now.statements stmt.now }
+    {
+        let mut unnoted = Noted::new(self.judge.alloc);
+        self.judge.broken_rule(stmt, &mut unnoted)
     }
 
     /// What the end of the text breaks: G10 where a block is open. It takes no memory.
@@ -105,7 +95,7 @@ impl Scope {
         ensures open { IfSome (end_rule self.now.statements) (λ rule. result ≡ Err rule) }
         ensures closed { end_rule self.now.statements ≡ None → result ≡ Ok tt }
     {
-        if self.is_closed() {
+        if self.judge.is_closed() {
             Ok(())
         } else {
             Err(Rule::G10)
@@ -118,10 +108,7 @@ impl Scope {
         ensures statements { self.new.statements ≡ self.old.statements }
         ensures marked { self.new.marked ≡ self.old.statements }
     {
-        self.mark = self.sizes();
-        self.marked_names = self.names.len();
-        self.marked_count = self.count;
-        self.marked = History::same(&self.accepted);
+        self.judge.mark();
     }
 
     /// Goes back to the marked statements. It takes no memory.
@@ -129,13 +116,8 @@ impl Scope {
         ensures statements { self.new.statements ≡ self.old.marked }
         ensures marked { self.new.marked ≡ self.old.marked }
     {
-        self.names.truncate(self.marked_names);
-        self.variables.truncate(self.mark.variables);
-        self.typed.truncate(self.mark.typed);
-        self.standing.truncate(self.mark.standing);
-        self.count = self.marked_count;
-        self.blocks.clear();
-        self.accepted = History::same(&self.marked);
+        self.judge.back();
+        self.noted.forget();
     }
 
     /// The same scope.
@@ -143,18 +125,8 @@ impl Scope {
         ensures { IfOk result (λ scope. scope ≡ self.now) }
     {
         Ok(Scope {
-            accepted: History::same(&self.accepted),
-            marked: History::same(&self.marked),
-            names: self.names.copy(self.alloc)?,
-            variables: self.variables.copy(self.alloc)?,
-            typed: self.typed.copy(self.alloc)?,
-            standing: copy_standing(self.alloc, self.standing.as_slice())?,
-            count: self.count,
-            blocks: Vec::from_slice(self.alloc, self.blocks.as_slice())?,
-            mark: self.mark,
-            marked_names: self.marked_names,
-            marked_count: self.marked_count,
-            alloc: self.alloc,
+            judge: self.judge.copy()?,
+            noted: Noted::new(self.judge.alloc),
         })
     }
 }

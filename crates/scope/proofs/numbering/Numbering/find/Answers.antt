@@ -1,5 +1,6 @@
 use Rattle.std.proofs.Common.{◌≡◌, ◌∙◌, ap, sym, arith, length}
-use Rattle.std.specs.Prelude.{slice_get, List}
+use Rattle.std.specs.Prelude.{slice_get, List, option_map}
+use Rattle.std.proofs.lemmas.Option.{slice_get-map}
 use Rattle.scope.specs.Numbering.{code_of}
 use Rattle.mm_lex.specs.Alphabet.{Name}
 use Rattle.scope.specs.Kinds.{Declared, declared_names, kind_in, with_their}
@@ -7,6 +8,8 @@ use Rattle.scope.specs.declared.numbering.Kind.{Kind}
 use Rattle.scope.proofs.NumberingLemmas.{code-name, code-first}
 use Rattle.scope.proofs.SortsLemmas.{unknown-number}
 use Rattle.scope.proofs.KindsLemmas.{names-seen, kind-at, kind-none}
+use Rattle.scope.specs.Entries.{kinds_of}
+use Rattle.scope.proofs.EntriesLemmas.{kinds-length}
 use Rattle.scope.proofs.numbering.Numbering.find.Goals as goal
 
 declared : (names : List Name) (kinds : List Kind) (seen : Declared) → length kinds ≡ length names → with_their names kinds ≡ seen → declared_names seen ≡ names
@@ -18,20 +21,20 @@ overflow_cast-result c =
     omega (arith, p.0, c.few.ensures)
 
 pub returns-in-Some-clause-number : goal.returns-in-Some-clause-number
-returns-in-Some-clause-number c = c.in-Some.ensures ∙ ap (λ names. code_of names c.args.name.now) (sym (declared c.self.inside.names c.self.inside.kinds.items c.args.self.now c.self.invariant c.self.view_is))
+returns-in-Some-clause-number c = c.in-Some.ensures ∙ ap (λ names. code_of names c.args.name.now) (sym (declared c.self.inside.names (kinds_of c.self.inside.entries.items) c.args.self.now (kinds-length c.self.inside.names c.self.inside.entries.items c.self.invariant.0) c.self.view_is))
 
 pub returns-in-None-clause-number : goal.returns-in-None-clause-number
-returns-in-None-clause-number c = c.in-None.ensures ∙ ap (λ names. code_of names c.args.name.now) (sym (declared c.self.inside.names c.self.inside.kinds.items c.args.self.now c.self.invariant c.self.view_is))
+returns-in-None-clause-number c = c.in-None.ensures ∙ ap (λ names. code_of names c.args.name.now) (sym (declared c.self.inside.names (kinds_of c.self.inside.entries.items) c.args.self.now (kinds-length c.self.inside.names c.self.inside.entries.items c.self.invariant.0) c.self.view_is))
 
 pub returns-in-Some-clause-kind : goal.returns-in-Some-clause-kind
 returns-in-Some-clause-kind c =
     let h = sym c.in-Some.ensures in
     let p = code-name c.self.inside.names c.args.name.now c.in-Some.number h in
     sym (ap (λ names. kind_in names c.args.name.now) (sym c.self.view_is)
-    ∙ kind-at c.self.inside.names c.self.inside.kinds.items c.args.name.now c.in-Some.number c.item.result p.0 p.1 (code-first c.self.inside.names c.args.name.now c.in-Some.number h)
-    (ap (λ ks. slice_get ks c.in-Some.number) (sym c.as_slice.ensures.value) ∙ c.item.ensures))
+    ∙ kind-at c.self.inside.names (kinds_of c.self.inside.entries.items) c.args.name.now c.in-Some.number c.item.result.kind p.0 p.1 (code-first c.self.inside.names c.args.name.now c.in-Some.number h)
+    (slice_get-map (λ e. e.kind) c.self.inside.entries.items c.in-Some.number ∙ ap (option_map (λ e. e.kind)) (ap (λ es. slice_get es c.in-Some.number) (sym c.as_slice.ensures.value) ∙ c.item.ensures)))
 
 pub returns-in-None-clause-kind : goal.returns-in-None-clause-kind
 returns-in-None-clause-kind c =
     sym (ap (λ names. kind_in names c.args.name.now) (sym c.self.view_is)
-    ∙ kind-none c.self.inside.names c.self.inside.kinds.items c.args.name.now (unknown-number c.self.inside.names c.args.name.now c.in-None.ensures))
+    ∙ kind-none c.self.inside.names (kinds_of c.self.inside.entries.items) c.args.name.now (unknown-number c.self.inside.names c.args.name.now c.in-None.ensures))

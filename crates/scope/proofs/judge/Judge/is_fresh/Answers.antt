@@ -1,0 +1,21 @@
+use Rattle.std.proofs.Common.{◌≡◌, ◌∙◌, ap, sym, not, is_some, Option, None, Some, option_map, ℕ, refl, Bool, true, false, ◌||◌}
+use Rattle.scope.specs.Active.{was_label, was_symbol}
+use Rattle.scope.specs.Kinds.{kind_in}
+use Rattle.scope.specs.declared.numbering.Kind.{Kind}
+use Rattle.scope.proofs.SortsLemmas.{fresh-kind}
+use Rattle.scope.proofs.judge.Judge.is_fresh.Goals as goal
+
+some_second : (r : Option (ℕ × Kind)) → is_some r ≡ is_some (option_map (λ p. p.1) r)
+some_second None = refl
+some_second (Some p) = refl
+
+flip : (a b : Bool) → a ≡ not b → b ≡ not a
+flip a true h = ap not (sym h)
+flip a false h = ap not (sym h)
+
+pub returns : goal.returns
+returns c =
+    flip _ _ c.is_none.ensures
+    ∙ (ap not (some_second c.find.result ∙ ap is_some c.find.ensures.kind)
+    ∙ (fresh-kind c.self.inside.accepted.statements c.args.name.now (kind_in c.self.inside.names c.args.name.now) (c.self.invariant.kept.told c.args.name.now)
+    ∙ ap (λ v. not (was_symbol v.statements c.args.name.now || was_label v.statements c.args.name.now)) c.self.view_is))

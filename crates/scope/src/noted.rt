@@ -1,0 +1,72 @@
+//! The numbers of a statement's symbols, noted while it is judged.
+ghost use Rattle.std.specs.Prelude.{◌≡◌, None, Some, [], IfSome, is_some};
+ghost use Rattle.scope.specs.Noted.{IsAppended};
+
+use std::alloc::Global;
+use std::marker::Model;
+
+/// Numbers of symbols, or none where they are not noted. Contracts see an option.
+///
+/// The buffer is kept from statement to statement.
+#[derive(Drop)]
+pub(crate) struct Noted {
+    numbers: Vec<u32>,
+    whole: bool,
+}
+
+impl Model for Noted {
+    ghost use Rattle.std.specs.Prelude.{ℕ, List, Option, Some, None, if◌then◌else◌};
+
+    ghost Value = { Option (List ℕ) };
+
+    ghost view = { λ a. if a.whole then Some a.numbers.items else None };
+}
+
+impl Noted {
+    /// Nothing is noted, until it begins.
+    pub(crate) fn new(alloc: Global) -> Noted
+        ensures { result ≡ None }
+    {
+        Noted {
+            numbers: Vec::new(alloc),
+            whole: false,
+        }
+    }
+
+    /// Begins with no numbers.
+    pub(crate) fn begin(&mut self)
+        ensures { self.new ≡ Some [] }
+    {
+        self.numbers.clear();
+        self.whole = true;
+    }
+
+    /// Takes the notes away.
+    pub(crate) fn forget(&mut self)
+        ensures { self.new ≡ None }
+    {
+        self.whole = false;
+    }
+
+    /// Notes one number more. Where a growth is refused the notes are taken away.
+    #[inline]
+    pub(crate) fn note(&mut self, number: u32)
+        ensures { IsAppended number self.old self.new }
+    {
+        if self.whole {
+            self.whole = self.numbers.push(number).is_ok();
+        }
+    }
+
+    /// The numbers, where they were noted.
+    pub(crate) fn numbers(&self) -> Option<&[u32]>
+        ensures some { is_some result ≡ is_some self.now }
+        ensures numbers { IfSome result (λ numbers. self.now ≡ Some numbers.now) }
+    {
+        if self.whole {
+            Some(self.numbers.as_slice())
+        } else {
+            None
+        }
+    }
+}
