@@ -1,5 +1,5 @@
 -- Each kind of legal statement keeps what a scope keeps.
-use Rattle.std.specs.Prelude.{◌≡◌, ℕ, ◌==◌, Bool, true, false, not, ◌||◌, List, [], ◌∷◌, ◌++◌, cond, None, is_some, refl}
+use Rattle.std.specs.Prelude.{◌≡◌, ℕ, ◌==◌, Bool, true, false, not, ◌||◌, List, [], ◌∷◌, ◌++◌, cond, Some, None, is_some, refl}
 use Rattle.std.proofs.Common.{Result, Ok, Err, OnOk}
 use Rattle.std.specs.Result.{is_err}
 use Rattle.std.specs.List.{list_any}
@@ -9,7 +9,7 @@ use Rattle.mm_lex.specs.Alphabet.{Name, name_eq, has_name}
 use Rattle.mm_read.specs.declared.stmt.Stmt.{Stmt}
 use Rattle.mm_read.specs.declared.stmt.Stmt.TheVariants.{Open, Close, Const, Var, Disj, Float, Ess, Axiom, Prove}
 use Rattle.mm_read.specs.Statements.{Database}
-use Rattle.scope.specs.Active.{bare, has_float, active_variables, typed_variables}
+use Rattle.scope.specs.Active.{bare, label_of, has_float, active_variables, typed_variables}
 use Rattle.scope.specs.Legal.{broken_rule}
 use Rattle.scope.specs.Numbering.{names_of, with_names, numbers_in, number_in, AreNamed, can_push}
 use Rattle.scope.specs.Kinds.{Declared, declared_names, kind_in, with_kind, with_kinds, is_label_kind, IsLabelled}
@@ -101,6 +101,10 @@ module _ (S M : Database) (names : Declared) (vs ts : List ℕ) (blocks : List S
       (declared_symbols-label names l ∙ (k.symbols ∙ ap (with_names (symbols_of S)) (sym (symbols-labelled s l is))))
       (subst (λ (xs : List Name). AreNamed (declared_names N) xs) (sym is.untyped) (no_names (declared_names N))) k)
 
+  -- the label of a statement has no kind
+  pub label-none : (s : Stmt) (l : Name) → label_of s ≡ Some l → broken_rule S s ≡ None → kind_in names l ≡ None
+  label-none s l is legal = fresh-none S names l k.told (legal-label S s l is legal)
+
   -- the variable of a `$f` has a number
   pub float-known : (l c v : Name) → broken_rule S (Float l c v) ≡ None → has_name v (declared_names names) ≡ true
   float-known l c v legal = ap (has_name v) k.named ∙ active-named S v (sym (is_variable-active S v) ∙ (legal-float S l c v legal).0)
@@ -167,3 +171,6 @@ bare-rule S (Axiom label expr) = refl
 pub ok_of : {A B : Type 0} {P : Type 0} (r : Result A B) → is_err r ≡ false → OnOk r P → P
 ok_of (Ok x) h p = p
 ok_of (Err e) h p = cc
+
+pub with_kind-new : (names : Declared) (kind : Kind) (x : Name) → kind_in names x ≡ None → with_kind names kind x ≡ names ++ (x, kind) ∷ []
+with_kind-new names kind x h = ap (λ k. cond (is_some k) names (names ++ (x, kind) ∷ [])) h

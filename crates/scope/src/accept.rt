@@ -1,11 +1,11 @@
 //! What a legal statement does to the stacks.
-ghost use Rattle.std.specs.Prelude.{◌≡◌, ◌+◌, ◌<◌, ◌^◌, length, ℕ, List, ◌++◌, ◌∷◌, [], ◌==◌, true, false, OnOk, OnErr};
+ghost use Rattle.std.specs.Prelude.{◌≡◌, ◌+◌, ◌<◌, ◌^◌, length, ℕ, List, ◌++◌, ◌∷◌, [], ◌==◌, true, false, None, OnOk, OnErr};
 ghost use Rattle.std.specs.List.{list_all, list_any};
 ghost use Rattle.mm_lex.specs.Alphabet.{has_name};
 ghost use Rattle.mm_read.specs.declared.stmt.Stmt.TheVariants as shape;
 ghost use Rattle.scope.specs.Active.{bare, active};
 ghost use Rattle.scope.specs.Kept.{sizes_of};
-ghost use Rattle.scope.specs.Kinds.{Declared, declared_names, with_kind, with_kinds, IsLabelled};
+ghost use Rattle.scope.specs.Kinds.{Declared, declared_names, kind_in, with_kind, with_kinds, IsLabelled};
 ghost use Rattle.scope.specs.Legal.{IsLegal};
 ghost use Rattle.scope.specs.declared.numbering.Kind.TheVariants as shape_kind;
 ghost use Rattle.scope.specs.Numbering.{number_in, numbers_in, with_names, can_push};
@@ -159,7 +159,7 @@ impl Judge {
     {
         let standing = self.standing.len();
         push_standing(&mut self.standing, self.alloc, self.count + 1, stmt)?;
-        let labelled = declare_one(&mut self.names, self.alloc, label.as_bytes(), Kind::Label);
+        let labelled = declare_label(&mut self.names, self.alloc, label.as_bytes());
         if labelled.is_err() {
             self.standing.truncate(standing);
             return labelled;
@@ -211,6 +211,7 @@ fn label_and_push(
     label: &[u8],
     variable: &[u8],
 ) -> Result<(), AllocError>
+    requires fresh { kind_in names.old label.now ≡ None }
     requires known { has_name variable.now (declared_names names.old) ≡ true }
     requires apart { list_any (λ n. n == number_in (declared_names names.old) variable.now) stack.old ≡ false }
     ensures names { OnOk result (names.new ≡ with_kind names.old shape_kind.Label label.now) }
@@ -220,7 +221,7 @@ fn label_and_push(
 {
     let number = number_of(names, variable);
     let len = names.len();
-    declare_one(names, alloc, label, Kind::Label)?;
+    declare_label(names, alloc, label)?;
     let pushed = stack.push(number);
     if pushed.is_err() {
         names.truncate(len);
@@ -237,6 +238,15 @@ fn number_of(names: &Numbering, name: &[u8]) -> u32
         Some((number, _)) => number,
         None => unreachable!(),
     }
+}
+
+/// Declares a label that no name is yet.
+fn declare_label(names: &mut Numbering, alloc: Global, label: &[u8]) -> Result<(), AllocError>
+    requires { kind_in names.old label.now ≡ None }
+    ensures ok { OnOk result (names.new ≡ with_kind names.old shape_kind.Label label.now) }
+    ensures err { OnErr result (names.new ≡ names.old) }
+{
+    names.declare(alloc, label, Kind::Label)
 }
 
 /// Gives a kind to a name that has none.

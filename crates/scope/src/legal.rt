@@ -230,7 +230,7 @@ impl Judge {
     }
 
     /// What a name is. The number of a symbol is noted.
-    #[inline]
+    #[inline(always)]
     fn sort_and_note(&self, name: &[u8], noted: &mut Noted) -> Sort
         ensures sort { IsSort self.now.statements name.now result }
         ensures noted { (xs : Expr) → is_symbol_sort result ≡ true → AreNoted (symbols_of self.now.statements) xs noted.old → AreNoted (symbols_of self.now.statements) (xs ++ name.now ∷ []) noted.new }
@@ -241,7 +241,7 @@ impl Judge {
     }
 
     /// What a name is, with its number among the symbols where it is one.
-    #[inline]
+    #[inline(always)]
     fn look_up(&self, name: &[u8]) -> (Sort, u32)
         ensures sort { IsSort self.now.statements name.now result.0 }
         ensures number { is_symbol_sort result.0 ≡ true → IsNumberOf (symbols_of self.now.statements) name.now result.1 }
@@ -257,6 +257,7 @@ impl Judge {
     }
 
     /// What a variable is that was declared.
+    #[inline(always)]
     fn sort_of_number(&self, number: u32) -> Sort
         ensures { result ≡ sort_by (list_any (λ n. n == number) (numbers_in (names_of self.now.statements) (active_variables self.now.statements))) (list_any (λ n. n == number) (numbers_in (names_of self.now.statements) (typed_variables self.now.statements))) }
     {

@@ -49,12 +49,12 @@ impl Noted {
     }
 
     /// Notes one number more. Where a growth is refused the notes are taken away.
-    #[inline]
+    #[inline(always)]
     pub(crate) fn note(&mut self, number: u32)
         ensures { IsAppended number self.old self.new }
     {
-        if self.whole {
-            self.whole = self.numbers.push(number).is_ok();
+        if self.whole && self.numbers.push(number).is_err() {
+            self.whole = false;
         }
     }
 

@@ -86,7 +86,7 @@ impl Numbering {
     }
 
     /// How many symbols stand before a number: of a symbol, its number among the symbols.
-    #[inline]
+    #[inline(always)]
     pub(crate) fn symbol(&self, number: u32) -> u32
         requires { number < length self.now }
         ensures { result ≡ symbols_before self.now number }

@@ -11,6 +11,16 @@ const BLOCKS: &[u8] =
     b"$c wff |- R $. $v z $. ${ $v x y $. wx $f wff x $. $d x y $. h $e |- R x $. a1 $a |- x $. $} \
     ${ $v x $. sx $f wff x $. a2 $p |- R x $= sx $. $}";
 
+/// Statements one after another, and the numbers of the symbols of the last.
+const NUMBERED: [(&[u8], &[u32]); 6] = [
+    (b"$c wff |- $. $v x $. wx $f wff x $.", &[0, 2]),
+    (b"$v y $. $c R $. wy $f wff y $.", &[0, 3]),
+    (b"${ $d y x $.", &[3, 2]),
+    (b"h $e |- x $.", &[1, 2]),
+    (b"a $a |- y R x $.", &[1, 3, 4, 2]),
+    (b"p $p |- y $= h $.", &[1, 3]),
+];
+
 #[test]
 fn copies_after_each_statement(rt: HostRuntime) {
     for text in [SMALLEST, BLOCKS] {
@@ -105,6 +115,26 @@ fn tells_what_stands(rt: HostRuntime) {
     assert!(rt; scope.is_variable(b"x") && !scope.is_variable(b"wff"));
     assert!(rt; add_all(&mut scope, rt.alloc(), b"$}") == None);
     assert!(rt; scope.standing().len() == 1);
+}
+
+/// Labels have no number among the symbols.
+#[test]
+fn numbers_the_symbols_of_the_last_statement(rt: HostRuntime) {
+    let mut scope = Scope::new(rt.alloc());
+    assert!(rt; scope.symbols().is_none());
+    for (text, want) in NUMBERED {
+        assert!(rt; add_all(&mut scope, rt.alloc(), text) == None);
+        assert!(rt; are_noted(&scope, want));
+    }
+    scope.back();
+    assert!(rt; scope.symbols().is_none());
+}
+
+fn are_noted(scope: &Scope, want: &[u32]) -> bool {
+    match scope.symbols() {
+        Some(numbers) => numbers == want,
+        None => false,
+    }
 }
 
 fn add_all(scope: &mut Scope, alloc: Global, text: &[u8]) -> Option<Rule> {

@@ -4,13 +4,20 @@ use Rattle.scope.specs.Active.{bare}
 use Rattle.scope.specs.Legal.{broken_rule}
 use Rattle.std.specs.List.{list_any}
 use Rattle.mm_lex.specs.Alphabet.{has_name}
-use Rattle.scope.specs.Kinds.{with_kind, declared_names}
+use Rattle.scope.specs.Kinds.{kind_in, with_kind, declared_names}
 use Rattle.scope.specs.Numbering.{number_in}
 use Rattle.scope.specs.declared.numbering.Kind.TheVariants.{Label}
 use Rattle.scope.specs.Standing.{stands_at}
 use Rattle.scope.proofs.StandingLemmas.{same-standing, standing-more}
-use Rattle.scope.proofs.AcceptLemmas.{same-kept, ok_of, accept-float, float-known, float-apart}
+use Rattle.scope.proofs.AcceptLemmas.{same-kept, ok_of, accept-float, label-none, float-known, float-apart}
 use Rattle.scope.proofs.judge.Judge.accept_float.Goals as goal
+
+pub label_and_push-labelled-requires-clause-fresh : goal.label_and_push-labelled-requires-clause-fresh
+label_and_push-labelled-requires-clause-fresh c =
+    let a = c.self.inside in let S = a.accepted.statements in let l = c.args.label.now in let v = c.args.variable.now in let k = c.requires.float.0 in
+    let legal : broken_rule S (shape.Float l k v) ≡ None = ap (λ w. broken_rule w.statements (shape.Float l k v)) c.self.view_is ∙ (ap (broken_rule c.args.self.now.statements) (sym c.requires.float.1) ∙ c.requires.legal) in
+    ap (kind_in a.names) c.as_bytes.ensures.bytes
+    ∙ label-none S a.marked.statements a.names a.variables a.typed a.blocks.items a.mark a.marked_names c.self.invariant.kept (shape.Float l k v) l refl legal
 
 pub label_and_push-labelled-requires-clause-known : goal.label_and_push-labelled-requires-clause-known
 label_and_push-labelled-requires-clause-known c =
