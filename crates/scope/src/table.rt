@@ -2,10 +2,10 @@
 ghost use Rattle.std.specs.Prelude.{◌≡◌, ℕ, ◌<◌, ◌^◌, [], length, IfOk, IfSome, true, false};
 ghost use Rattle.scope.specs.Numbering.{name_at, code_of, AreDistinct};
 ghost use Rattle.scope.specs.Keys.{key_of};
-ghost use Rattle.scope.specs.Table.{place_of, slot_at, HasKey, IsTable, IsFree};
+ghost use Rattle.scope.specs.Table.{place_of, slot_at, AreHeld, IsTable, IsFree};
 ghost use Rattle.scope.specs.declared.table.TheConstants.{NO_NAME};
 
-use crate::keys::{HINTS, key};
+use crate::keys::{LONG, key};
 use crate::texts::{Texts, item};
 use std::alloc::{AllocError, Global};
 
@@ -31,21 +31,10 @@ fn place(key: u64, step: usize, len: usize) -> usize
     ensures place { result ≡ place_of key step len }
     ensures inside { result < len }
 {
-    let first = key.wrapping_mul(FACTOR).rotate_left(28);
-    (first as usize).wrapping_add(step) & (len - 1)
-}
-
-/// Whether a slot with the name's key has its number. A key below the hints tells, where the slot is sound.
-fn is_name(texts: &Texts, sound: u32, slot: Slot, name: &[u8]) -> bool
-    requires sound { slot.number < sound → HasKey texts.now slot }
-    requires key { slot.key ≡ key_of name.now }
-    ensures yes { result ≡ true → (slot.number < length texts.now) × (name_at texts.now slot.number ≡ name.now) }
-    ensures no { result ≡ false → slot.number < length texts.now → name_at texts.now slot.number ≡ name.now → ⊥ }
-{
-    if slot.key < HINTS && slot.number < sound {
-        return true;
-    }
-    is_text(texts, slot.number, name)
+    let product = key as u128 * FACTOR as u128;
+    let high = (product >> 64) as usize;
+    let low = key.wrapping_mul(FACTOR) as usize;
+    high.wrapping_add(low).wrapping_add(step) & (len - 1)
 }
 
 /// Whether the text of a number is the name.
@@ -64,9 +53,36 @@ fn look(slots: &[Slot], key: u64, step: usize) -> Slot
     item(slots, place(key, step, slots.len()))
 }
 
-/// The number of a name that has one.
+/// The number of a name that has one. A key tells a name of few bytes without its text, in a sound slot.
 pub(crate) fn search(slots: &[Slot], texts: &Texts, sound: u32, name: &[u8]) -> Option<u32>
     requires table { IsTable slots.now texts.now sound }
+    requires distinct { AreDistinct texts.now }
+    requires few { length texts.now < 2 ^ 32 }
+    ensures { result ≡ code_of texts.now name.now }
+{
+    if name.len() >= LONG {
+        return search_texts(slots, texts, name);
+    }
+    let key = key(name);
+    for step in 0..slots.len() {
+        let slot = look(slots, key, step);
+        if slot.key == key {
+            if slot.number < sound {
+                return Some(slot.number);
+            }
+            return search_texts(slots, texts, name);
+        }
+        if slot.number == NO_NAME {
+            return None;
+        }
+    }
+    None
+}
+
+/// The number of a name that has one, by its text.
+#[inline(never)]
+fn search_texts(slots: &[Slot], texts: &Texts, name: &[u8]) -> Option<u32>
+    requires held { AreHeld slots.now texts.now }
     requires distinct { AreDistinct texts.now }
     requires few { length texts.now < 2 ^ 32 }
     ensures { result ≡ code_of texts.now name.now }
@@ -77,7 +93,7 @@ pub(crate) fn search(slots: &[Slot], texts: &Texts, sound: u32, name: &[u8]) -> 
         if slot.number == NO_NAME {
             return None;
         }
-        if slot.key == key && is_name(texts, sound, slot, name) {
+        if slot.key == key && is_text(texts, slot.number, name) {
             return Some(slot.number);
         }
     }
