@@ -1,8 +1,8 @@
 -- Below the hints a key is the key of one name alone.
-use Rattle.std.specs.Prelude.{◌≡◌, ℕ, zero, suc, ◌+◌, ◌-◌, ◌*◌, ◌/◌, ◌<◌, ◌≤◌, ◌^◌, Bool, true, false, cond, ◌⊎◌, List, [], ◌∷◌, length, get_or, nat_lt, refl}
-use Rattle.std.proofs.Common.{sym, ◌∙◌, ap, subst, arith, inl, inr}
+use Rattle.std.specs.Prelude.{◌≡◌, ℕ, zero, suc, ◌+◌, ◌-◌, ◌*◌, ◌/◌, ◌<◌, ◌≤◌, ◌^◌, Bool, true, false, cond, List, [], ◌∷◌, length, nat_lt, refl}
+use Rattle.std.proofs.Common.{sym, ◌∙◌, ap, subst, arith}
 use Rattle.mm_lex.specs.Alphabet.{Name}
-use Rattle.scope.specs.declared.keys.TheConstants.{HINTS}
+use Rattle.scope.specs.declared.keys.TheConstants.{LONG}
 use Rattle.scope.specs.Keys.{AreBytes, digits, ends, front_and_back, picked, hint_of, key_of}
 
 -- the first digit and the others
@@ -53,6 +53,25 @@ picked-digits x h = by (nat_lt (length x) 4)
     by true = (h 0, (h (length x / 2), (h (length x - 1), tt)))
     by false = (h 0, (h 1, (h 2, (h 3, (h (length x - 3), (h (length x - 2), (h (length x - 1), tt)))))))
 
+picked-below : (x : Name) → AreBytes x → digits (picked x) < 2 ^ 56
+picked-below x h = by (nat_lt (length x) 4)
+  where
+    by : (b : Bool) → digits (cond b (ends x) (front_and_back x)) < 2 ^ 56
+    by true =
+        let p = h 0 in
+        let q = h (length x / 2) in
+        let r = h (length x - 1) in
+        omega (arith, p, q, r)
+    by false =
+        let a = h 0 in
+        let b = h 1 in
+        let d = h 2 in
+        let e = h 3 in
+        let p = h (length x - 3) in
+        let q = h (length x - 2) in
+        let r = h (length x - 1) in
+        omega (arith, a, b, d, e, p, q, r)
+
 picked-same : (x y : Name) → AreBytes x → AreBytes y → length x ≡ length y → length x < 8 → digits (picked x) ≡ digits (picked y) → x ≡ y
 picked-same x y p q l h e =
     let same = digits-same (picked x) (picked y) (picked-digits x p) (picked-digits y q) (sizes (length x) (length y) l) e in
@@ -68,19 +87,24 @@ picked-same x y p q l h e =
     sizes : (m n : ℕ) → m ≡ n → length (picked x) ≡ length (picked y)
     sizes m n s = size x ∙ (ap (λ k. cond (nat_lt k 4) 3 7) l ∙ sym (size y))
 
--- names of one key below the hints are one
-pub key-same : (x y : Name) → AreBytes x → AreBytes y → key_of x < HINTS → key_of x ≡ key_of y → x ≡ y
-key-same x y p q h e = by (nat_lt (length x) 8) (nat_lt (length y) 8) refl refl h e
+-- a short name shares its key with no other
+pub key-same : (x y : Name) → AreBytes x → AreBytes y → length x < LONG → key_of x ≡ key_of y → x ≡ y
+key-same x y p q short e = by (nat_lt (length x) LONG) (nat_lt (length y) LONG) refl refl e
   where
-    below : (n : ℕ) → nat_lt n 8 ≡ true → n < 8
+    below : (n : ℕ) → nat_lt n LONG ≡ true → n < LONG
     below n t = grind (arith, t)
 
-    by : (a b : Bool) → nat_lt (length x) 8 ≡ a → nat_lt (length y) 8 ≡ b
-        → cond a (digits (picked x) * 8 + length x) (hint_of x) < HINTS
+    above : (n : ℕ) → nat_lt n LONG ≡ false → LONG ≤ n
+    above n t = grind (arith, t)
+
+    by : (a b : Bool) → nat_lt (length x) LONG ≡ a → nat_lt (length y) LONG ≡ b
         → cond a (digits (picked x) * 8 + length x) (hint_of x) ≡ cond b (digits (picked y) * 8 + length y) (hint_of y) → x ≡ y
-    by true true s t h e =
+    by true true s t e =
         let m = below (length x) s in
         let n = below (length y) t in
         picked-same x y p q (omega (arith, m, n, e)) m (omega (arith, m, n, e))
-    by true false s t h e = absurd (omega (arith, h, e))
-    by false b s t h e = absurd (omega (arith, h))
+    by true false s t e =
+        let d = picked-below x p in
+        let m = below (length x) s in
+        absurd (omega (arith, d, m, e))
+    by false b s t e = let m = above (length x) s in absurd (omega (arith, short, m))

@@ -2,7 +2,7 @@
 -- The code's own form: no clause of a scope cites it.
 use Rattle.std.specs.Prelude.{ℕ, ◌+◌, ◌-◌, ◌*◌, ◌/◌, ◌%◌, ◌^◌, ◌<◌, List, [], ◌∷◌, length, get_or, fold, nat_lt, if◌then◌else◌}
 use Rattle.mm_lex.specs.Alphabet.{Name}
-use Rattle.scope.specs.declared.keys.TheConstants.{HINTS}
+use Rattle.scope.specs.declared.keys.TheConstants.{LONG, HINTS}
 
 abbrev pub AreBytes : List ℕ → Type 0
 AreBytes bytes = (i : ℕ) → get_or bytes i 0 < 256
@@ -32,4 +32,4 @@ abbrev pub hint_of : Name → ℕ
 hint_of x = fold mixed 0 x % HINTS + HINTS
 
 abbrev pub key_of : Name → ℕ
-key_of x = if nat_lt (length x) 8 then digits (picked x) * 8 + length x else hint_of x
+key_of x = if nat_lt (length x) LONG then digits (picked x) * 8 + length x else hint_of x

@@ -1,7 +1,7 @@
 -- Names by number, and the table in which their numbers are found.
 -- The code's own form: no clause of a scope cites it.
-use Rattle.std.specs.Prelude.{◌≡◌, ◌≢◌, ℕ, ◌+◌, ◌-◌, ◌*◌, ◌/◌, ◌%◌, ◌^◌, ◌<◌, ◌≤◌, List, [], ◌∷◌, length, map, Some, slice_get, slice_range, bit_and}
-use Rattle.std.specs.Int.{w64, rotate_left}
+use Rattle.std.specs.Prelude.{◌≡◌, ◌≢◌, ℕ, ◌+◌, ◌-◌, ◌*◌, ◌%◌, ◌^◌, ◌<◌, ◌≤◌, List, [], ◌∷◌, length, map, Some, slice_get, slice_range, bit_and}
+use Rattle.std.specs.Int.{w64, swap_bytes}
 use Rattle.mm_lex.specs.Alphabet.{Name}
 use Rattle.scope.specs.Numbering.{name_at}
 use Rattle.scope.specs.declared.table.Slot.{Slot}
@@ -25,7 +25,7 @@ AreLaid n (s ∷ spans) = (s.from ≤ s.to) × (s.to ≤ n) × AreBehind s.to sp
 
 -- where the table is looked at first, before that is brought below the table's length
 abbrev pub spread : ℕ → ℕ
-spread key = rotate_left w64 (key * FACTOR % 2 ^ 64) 28
+spread key = swap_bytes w64 (key * FACTOR % 2 ^ 64)
 
 -- where the table is looked at in a step, by the key and the table's length
 abbrev pub place_of : ℕ → ℕ → ℕ → ℕ

@@ -2,10 +2,13 @@
 ghost use Rattle.std.specs.Prelude.{◌≡◌, ◌+◌, ◌*◌, ◌^◌, ◌<◌, ◌≤◌, length};
 ghost use Rattle.scope.specs.Keys.{AreBytes, digits, picked, mixed, hint_of, key_of};
 
-/// A key below this number is the key of one name alone. From it on, a key is a hint.
-pub(crate) const HINTS: u64 = 0x8000_0000_0000_0000;
+/// From this length on the key of a name is a hint. A shorter name shares its key with no other.
+pub(crate) const LONG: usize = 8;
 
-/// The key of a name. One of at most seven bytes shares it with no other name.
+/// The hints are the numbers from this one on.
+const HINTS: u64 = 0x8000_0000_0000_0000;
+
+/// The key of a name.
 pub(crate) fn key(name: &[u8]) -> u64
     ensures key { result ≡ key_of name.now }
     ensures bytes { AreBytes name.now }

@@ -74,10 +74,7 @@ impl Names {
     pub fn find(&self, name: &[u8]) -> Option<usize>
         ensures { result ≡ code_of self.now name.now }
     {
-        match search(self.slots.as_slice(), &self.texts, self.sound, name) {
-            Some(code) => Some(code as usize),
-            None => None,
-        }
+        search(self.slots.as_slice(), &self.texts, self.sound, name)
     }
 
     /// The name of a code.

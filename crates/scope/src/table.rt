@@ -5,7 +5,7 @@ ghost use Rattle.scope.specs.Keys.{key_of};
 ghost use Rattle.scope.specs.Table.{place_of, slot_at, HasKey, IsTable, IsFree};
 ghost use Rattle.scope.specs.declared.table.TheConstants.{NO_NAME};
 
-use crate::keys::{HINTS, key};
+use crate::keys::{LONG, key};
 use crate::texts::{Texts, item};
 use std::alloc::{AllocError, Global};
 
@@ -31,29 +31,8 @@ fn place(key: u64, step: usize, len: usize) -> usize
     ensures place { result ≡ place_of key step len }
     ensures inside { result < len }
 {
-    let first = key.wrapping_mul(FACTOR).rotate_left(28);
+    let first = key.wrapping_mul(FACTOR).swap_bytes();
     (first as usize).wrapping_add(step) & (len - 1)
-}
-
-/// Whether a slot with the name's key has its number. A key below the hints tells, where the slot is sound.
-fn is_name(texts: &Texts, sound: u32, slot: Slot, name: &[u8]) -> bool
-    requires sound { slot.number < sound → HasKey texts.now slot }
-    requires key { slot.key ≡ key_of name.now }
-    ensures yes { result ≡ true → (slot.number < length texts.now) × (name_at texts.now slot.number ≡ name.now) }
-    ensures no { result ≡ false → slot.number < length texts.now → name_at texts.now slot.number ≡ name.now → ⊥ }
-{
-    if slot.key < HINTS && slot.number < sound {
-        return true;
-    }
-    is_text(texts, slot.number, name)
-}
-
-/// Whether the text of a number is the name.
-fn is_text(texts: &Texts, number: u32, name: &[u8]) -> bool
-    ensures yes { result ≡ true → (number < length texts.now) × (name_at texts.now number ≡ name.now) }
-    ensures no { result ≡ false → number < length texts.now → name_at texts.now number ≡ name.now → ⊥ }
-{
-    (number as usize) < texts.len() && texts.get(number as usize) == name
 }
 
 /// The slot of a step.
@@ -64,8 +43,27 @@ fn look(slots: &[Slot], key: u64, step: usize) -> Slot
     item(slots, place(key, step, slots.len()))
 }
 
-/// The number of a name that has one.
-pub(crate) fn search(slots: &[Slot], texts: &Texts, sound: u32, name: &[u8]) -> Option<u32>
+/// The number of a name that has one. Most short names stand in the first slot, and no text is read.
+pub(crate) fn search(slots: &[Slot], texts: &Texts, sound: u32, name: &[u8]) -> Option<usize>
+    requires table { IsTable slots.now texts.now sound }
+    requires distinct { AreDistinct texts.now }
+    requires few { length texts.now < 2 ^ 32 }
+    ensures { result ≡ code_of texts.now name.now }
+{
+    if slots.is_empty() || name.is_empty() || name.len() >= LONG {
+        return search_on(slots, texts, sound, name);
+    }
+    let key = key(name);
+    let slot = look(slots, key, 0);
+    if slot.key == key && slot.number < sound {
+        return Some(slot.number as usize);
+    }
+    search_on(slots, texts, sound, name)
+}
+
+/// The same for all names, slot by slot.
+#[inline(never)]
+fn search_on(slots: &[Slot], texts: &Texts, sound: u32, name: &[u8]) -> Option<usize>
     requires table { IsTable slots.now texts.now sound }
     requires distinct { AreDistinct texts.now }
     requires few { length texts.now < 2 ^ 32 }
@@ -78,10 +76,31 @@ pub(crate) fn search(slots: &[Slot], texts: &Texts, sound: u32, name: &[u8]) -> 
             return None;
         }
         if slot.key == key && is_name(texts, sound, slot, name) {
-            return Some(slot.number);
+            return Some(slot.number as usize);
         }
     }
     None
+}
+
+/// Whether a slot with the name's key has its number. A short name's key tells, where the slot is sound.
+fn is_name(texts: &Texts, sound: u32, slot: Slot, name: &[u8]) -> bool
+    requires sound { slot.number < sound → HasKey texts.now slot }
+    requires key { slot.key ≡ key_of name.now }
+    ensures yes { result ≡ true → (slot.number < length texts.now) × (name_at texts.now slot.number ≡ name.now) }
+    ensures no { result ≡ false → slot.number < length texts.now → name_at texts.now slot.number ≡ name.now → ⊥ }
+{
+    if name.len() < LONG && slot.number < sound {
+        return true;
+    }
+    is_text(texts, slot.number, name)
+}
+
+/// Whether the text of a number is the name.
+fn is_text(texts: &Texts, number: u32, name: &[u8]) -> bool
+    ensures yes { result ≡ true → (number < length texts.now) × (name_at texts.now number ≡ name.now) }
+    ensures no { result ≡ false → number < length texts.now → name_at texts.now number ≡ name.now → ⊥ }
+{
+    (number as usize) < texts.len() && texts.get(number as usize) == name
 }
 
 /// The first slot for this key that no name has.

@@ -1,11 +1,9 @@
-use Rattle.std.proofs.Common.{◌≡◌, ◌∙◌, ap, sym, subst, arith, length, take, slice_set, rules, ◌<◌, ℕ, Some}
-use Rattle.std.specs.Prelude.{slice_get}
+use Rattle.std.proofs.Common.{◌∙◌, ap, sym, subst, arith, length, take, slice_set, rules, ◌<◌}
 use Rattle.std.proofs.lemmas.List.{length-take-le}
 use Rattle.scope.specs.declared.table.TheConstants.{NO_NAME}
-use Rattle.scope.specs.declared.table.Slot.{Slot}
 use Rattle.scope.specs.Numbering.{name_at}
 use Rattle.scope.specs.Keys.{AreBytes, key_of}
-use Rattle.scope.specs.Table.{HasKey, IsTable, IsFree}
+use Rattle.scope.specs.Table.{IsTable, IsFree}
 use Rattle.scope.proofs.TableLemmas.{put, take-name}
 use Rattle.scope.proofs.table.table.Goals as goal
 

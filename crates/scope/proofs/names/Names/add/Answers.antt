@@ -3,7 +3,6 @@ use Rattle.std.specs.Prelude.{◌++◌, ◌∷◌, [], ◌^◌, false}
 use Rattle.mm_lex.specs.Alphabet.{has_name}
 use Rattle.scope.specs.declared.table.TheConstants.{NO_NAME}
 use Rattle.scope.specs.Numbering.{AreDistinct}
-use Rattle.scope.specs.Keys.{AreBytes}
 use Rattle.scope.specs.Table.{IsTable, IsFree}
 use Rattle.scope.proofs.TableLemmas.{put, distinct-push}
 use Rattle.scope.proofs.names.Names.add.Goals as goal
