@@ -39,6 +39,8 @@ impl<'a> Pairs<'a> {
 }
 
 /// Whether one `$d` that is active at `at` has each variable of both lists.
+#[cold]
+#[inline(never)]
 fn is_covered(stock: &Stock, at: usize, left: &[u32], right: &[u32]) -> bool
     requires stored { AreStored stock.now }
     requires distinct { AreDistinct stock.now.names }
@@ -121,6 +123,8 @@ fn place(symbol: u32) -> usize
 }
 
 /// Whether some variable stands in both lists.
+#[cold]
+#[inline(never)]
 fn share(pairs: &Pairs<'_>, left: &[u32], right: &[u32]) -> bool
     requires distinct { AreDistinct pairs.now.names }
     requires left { AreBelow (length pairs.now.names) left.now }

@@ -93,10 +93,16 @@ pub fn contains(codes: &[u32], x: u32) -> bool
     codes.iter().any(|y| x == *y)
 }
 
+/// Whether both stand in the list. Most `$d` have two variables.
 fn contains_both(codes: &[u32], x: u32, y: u32) -> bool
     ensures { result ≡ (list_any (λ c. x == c) codes.now && list_any (λ c. y == c) codes.now) }
 {
-    contains(codes, x) && contains(codes, y)
+    if let [first, second] = codes {
+        let (first, second) = (*first, *second);
+        (x == first || x == second) && (y == first || y == second)
+    } else {
+        contains(codes, x) && contains(codes, y)
+    }
 }
 
 /// Whether an active `$v` has it: the last one that has it, or another.

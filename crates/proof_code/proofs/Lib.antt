@@ -7,5 +7,7 @@ pub mod WritesLemmas
 pub mod AnswersLemmas
 pub mod OneList
 pub mod KindsLemmas
+mod ClassesLemmas
+pub mod ListingLemmas
 pub mod ReadingLemmas
 mod Rows

@@ -92,13 +92,13 @@ some_and : {A : Type 0} (o : Option A) (P : A → Type 0) → IsSomeAnd o P → 
 some_and None P h = absurd h
 some_and (Some x) P h = (x, refl, h)
 
--- what reading the header tells: what is left, and how many labels there are
-abbrev pub Counted : List Name → List Name → ℕ → Type 0
-Counted before words count = IsSomeAnd (header_of [] before) (λ header. (header.rest ≡ words) × (length header.listed ≡ count))
+-- what reading the header tells: the text of what is left, and how many labels there are
+abbrev pub Counted : List Name → List ℕ → ℕ → Type 0
+Counted before letters count = IsSomeAnd (header_of [] before) (λ header. (spaced header.rest ≡ letters) × (length header.listed ≡ count))
 
-module _ (tokens before words : List Name) (count : ℕ) (starts : tokens ≡ begin ∷ before) (visible : list_all is_word tokens ≡ true) (found : Counted before words count) where
-  got : (header : Header) × (header_of [] before ≡ Some header) × ((header.rest ≡ words) × (length header.listed ≡ count))
-  got = some_and (header_of [] before) (λ header. (header.rest ≡ words) × (length header.listed ≡ count)) found
+module _ (tokens before : List Name) (letters : List ℕ) (count : ℕ) (starts : tokens ≡ begin ∷ before) (visible : list_all is_word tokens ≡ true) (found : Counted before letters count) where
+  got : (header : Header) × (header_of [] before ≡ Some header) × ((spaced header.rest ≡ letters) × (length header.listed ≡ count))
+  got = some_and (header_of [] before) (λ header. (spaced header.rest ≡ letters) × (length header.listed ≡ count)) found
 
   abbrev header : Header
   header = got.0
@@ -117,12 +117,12 @@ module _ (tokens before words : List Name) (count : ℕ) (starts : tokens ≡ be
       let same : before ≡ w.listed ++ finish ∷ w.rest = cc (starts, w.whole) in
       same_Some (record { listed = w.listed; rest = w.rest }) header (sym (read-header [] w.listed w.rest w.labels (none_shared w.listed)) ∙ (sym (ap (header_of []) same) ∙ got.1))
 
-  module _ (letters : List ℕ) (mandatory limit : ℕ) (are : letters ≡ spaced words) (limit_is : limit ≡ mandatory + count) where
+  module _ (mandatory limit : ℕ) (limit_is : limit ≡ mandatory + count) where
     letters_are : letters_of letters ≡ joined header.rest
-    letters_are = ap letters_of (are ∙ ap spaced (sym got.2.0)) ∙ letters_of-spaced header.rest rest_visible
+    letters_are = ap letters_of (sym got.2.0) ∙ letters_of-spaced header.rest rest_visible
 
     first_is : starts_with_mark letters ≡ starts_with_mark (joined header.rest)
-    first_is = ap starts_with_mark (are ∙ ap spaced (sym got.2.0)) ∙ starts_with_mark-spaced header.rest rest_visible
+    first_is = ap starts_with_mark (sym got.2.0) ∙ starts_with_mark-spaced header.rest rest_visible
 
     numbered : (labels : List Name) → length labels ≡ mandatory → length (labels ++ header.listed) ≡ limit
     numbered labels long = omega (arith, length-append labels header.listed, got.2.1, limit_is, long)

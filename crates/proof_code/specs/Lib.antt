@@ -2,6 +2,7 @@ pub mod Letters
 pub mod Writes
 pub mod Numbers
 pub mod Text
+pub mod Listing
 pub mod Places
 pub mod Kinds
 pub mod Answers

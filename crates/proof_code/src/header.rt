@@ -1,11 +1,10 @@
 //! The labels between the parentheses of a compressed proof.
-ghost use Rattle.std.specs.Prelude.{◌≡◌, ◌+◌, ◌^◌, ◌<◌, ◌++◌, [], length, IsTrue, IfSome, IfNone, IsSomeAnd, IfOk};
+ghost use Rattle.std.specs.Prelude.{◌≡◌, ◌+◌, ◌^◌, ◌<◌, ◌++◌, length, IfSome, IfNone, IsSomeAnd, IfOk};
 ghost use Rattle.mm_lex.specs.Words.{spaced, words_of, AreWords};
 ghost use Rattle.mm_lex.specs.Alphabet.{name_eq};
 ghost use Rattle.proof_code.specs.Text.{header_of};
 ghost use Rattle.proof_code.specs.Writes.{finish};
 
-use crate::label::is_label;
 use crate::mandatory::Mandatory;
 use mm_lex::{WordIter, Words};
 use std::alloc::{AllocError, Global};
@@ -69,25 +68,4 @@ fn is_finish(token: &[u8]) -> bool
     ensures { result ≡ name_eq token.now finish }
 {
     token == b")".as_slice()
-}
-
-/// Counts the labels up to `)`, and goes past it; `None` where `)` is missing or where a token before it is no label.
-pub(crate) fn count_listed(words: &mut WordIter<'_>) -> Option<usize>
-    requires { AreWords words.old }
-    ensures none { IfNone result (header_of [] words.old ≡ None) }
-    ensures some { IfSome result (λ count. IsSomeAnd (header_of [] words.old) (λ header. (header.rest ≡ words.new) × (length header.listed ≡ count))) }
-{
-    let text = words.as_text();
-    let _text = text;
-    let mut count = 0;
-    while let Some(word) = words.next() {
-        if is_finish(word) {
-            return Some(count);
-        }
-        if !is_label(word) {
-            return None;
-        }
-        count += 1;
-    }
-    None
 }

@@ -16,6 +16,7 @@ mod items;
 mod label;
 mod laws;
 mod letters;
+mod listing;
 mod mandatory;
 mod normal_proof;
 mod numbers;

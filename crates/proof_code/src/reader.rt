@@ -6,8 +6,8 @@ ghost use Rattle.proof_code.specs.Text.{letters_of, numbers_from};
 ghost use Rattle.proof_code.specs.Writes.{is_compressed, WritesCompressed};
 ghost use Rattle.proof_code.specs.Reading.{IsHeading};
 
-use crate::header::count_listed;
 use crate::letters::starts_with_mark;
+use crate::listing::{Listing, count_listed};
 use crate::numbers::write_numbers;
 use mm_lex::{WordIter, Words};
 use std::alloc::{AllocError, Global};
@@ -79,12 +79,9 @@ impl Reader {
     {
         let mut words = tokens.iter();
         let _ = words.next();
-        let mut listed = tokens.iter();
-        let _ = listed.next();
-        let Some(count) = count_listed(&mut words) else {
+        let Some(Listing { count, letters }) = count_listed(words.as_text()) else {
             return Ok(None);
         };
-        let letters = words.as_text();
         if starts_with_mark(letters) {
             return Ok(None);
         }
@@ -92,10 +89,7 @@ impl Reader {
             return Err(AllocError);
         }
         match self.read_letters(letters, mandatory + count)? {
-            Some(()) => Ok(Some(Heading {
-                words: listed,
-                count,
-            })),
+            Some(()) => Ok(Some(Heading { words, count })),
             None => Ok(None),
         }
     }

@@ -9,6 +9,7 @@ pub mod Named
 pub mod ApartLemmas
 pub mod TableLemmas
 pub mod StepLemmas
+pub mod KnownLemmas
 pub mod MandatoryLemmas
 pub mod ProvesLemmas
 pub mod Unique

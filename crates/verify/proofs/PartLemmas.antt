@@ -175,9 +175,9 @@ pub last-within : (n k : ℕ) (s : List Place) → AreWithin n s → AreWithin n
 last-within n k s w = within-take n (length s - k) (drop k s) (within-drop n k s w)
 
 pub apply-kept : (xs ys zs : List ℕ) (stack saved stack' : List Place) (w v k : ℕ) (p : Place) → AreKept xs stack saved w
-    → zs ≡ xs ++ ys → p.start ≡ length xs → p.end ≡ length zs → stack' ≡ take k stack ++ p ∷ [] → v ≤ weight_limit → AreKept zs stack' saved v
-apply-kept xs ys zs stack saved stack' w v k p a e low high whole light =
-    added-kept xs ys zs stack (take k stack) saved stack' w v p a (within-take (length xs) k stack a.stack_within) e low high whole light
+    → zs ≡ xs ++ ys → p.start ≡ length xs → p.end ≡ length zs → stack' ≡ take k stack ++ p ∷ [] → v ≡ w + length ys → v ≤ weight_limit → AreKept zs stack' saved v
+apply-kept xs ys zs stack saved stack' w v k p a e low high whole weighs light =
+    added-kept xs ys zs stack (take k stack) saved stack' w v p a (within-take (length xs) k stack a.stack_within) e low high whole weighs light
 
 pub apply-seen : (xs ys zs : List ℕ) (stack saved stack' : List Place) (w v k r : ℕ) (p : Place) (t : List ℕ) → AreKept xs stack saved w → r ≤ length stack → k ≡ length stack - r
     → zs ≡ xs ++ ys → ys ≡ filled own r (top r (map (seen_at xs) stack)) t → p.start ≡ length xs → p.end ≡ length zs → stack' ≡ take k stack ++ p ∷ [] → v ≡ w + length ys
@@ -187,10 +187,16 @@ apply-seen xs ys zs stack saved stack' w v k r p t a few at e same low high whol
     ∙ (ap (λ b. with_result (seen xs stack saved w) b ys) (map-take (seen_at xs) k stack ∙ ap (λ n. take n (map (seen_at xs) stack)) (at ∙ ap (λ n. n - r) (sym (length-map stack (seen_at xs)))))
     ∙ ap (λ s. with_result (seen xs stack saved w) (below r (map (seen_at xs) stack)) s) same)
 
-pub apply-cut : (xs zs ys : List ℕ) (stack saved cut stack' : List Place) (w k : ℕ) → AreKept xs stack saved w → zs ≡ xs ++ ys → cut ≡ take k stack → stack' ≡ cut → AreKept zs stack' saved w
-apply-cut xs zs ys stack saved cut stack' w k a e p q =
+pub apply-cut : (xs zs ys : List ℕ) (stack saved cut stack' : List Place) (w v k : ℕ) → AreKept xs stack saved w → zs ≡ xs ++ ys → cut ≡ take k stack → stack' ≡ cut → v ≡ w + length ys → v ≤ weight_limit → AreKept zs stack' saved v
+apply-cut xs zs ys stack saved cut stack' w v k a e p q weighs light =
     let longer : length xs ≤ length zs = omega (arith, ap length e, length-append xs ys) in
-    record { stack_within = subst (AreWithin (length zs)) (sym (q ∙ p)) (within-take (length zs) k stack (within-weaken (length xs) (length zs) stack longer a.stack_within)); saved_within = within-weaken (length xs) (length zs) saved longer a.saved_within; light = a.light }
+    let few = a.few in
+    record {
+      stack_within = subst (AreWithin (length zs)) (sym (q ∙ p)) (within-take (length zs) k stack (within-weaken (length xs) (length zs) stack longer a.stack_within));
+      saved_within = within-weaken (length xs) (length zs) saved longer a.saved_within;
+      few = omega (arith, ap length e, length-append xs ys, few, weighs);
+      light = light;
+    }
 
 -- ---- patterns
 

@@ -1,12 +1,16 @@
 -- What one item does to results of numbers, said over the names that they stand for.
 -- Metamath, 4.2.6 and appendix B; `Machine` over names.
 -- The code knows numbers alone; each has a name.
-use Rattle.std.specs.Prelude.{ℕ, ◌<◌, Bool, true, false, List, length, map}
+use Rattle.std.specs.Prelude.{◌≡◌, ℕ, ◌<◌, ◌≤◌, Bool, true, false, IsTrue, List, [], length, map, drop, get_or, Some}
 use Rattle.mm_lex.specs.Alphabet.{Name}
+use Rattle.mm_read.specs.declared.stmt.Stmt.{Stmt}
 use Rattle.mm_read.specs.Statements.{Database}
+use Rattle.scope.specs.Active.{stmt_at, expr_of}
 use Rattle.scope.specs.Numbering.{decode}
 use Rattle.frame.specs.ByPlaces.{AllBelow}
 use Rattle.proof_code.specs.declared.item.Item.{Item}
+use Rattle.verify.specs.declared.table.Entry.{Entry}
+use Rattle.verify.specs.declared.table.Entry.TheVariants.{Hypothesis, Assertion, Nothing}
 use Rattle.verify.specs.Machine.{Results, State, Steps}
 use Rattle.verify.specs.Right.{weight_limit}
 
@@ -23,3 +27,27 @@ pub record AreNamed (names : List Name) (st : Results ℕ) : Type 0 where
 abbrev pub Goes : Bool → Database → ℕ → List Name → Item → Results ℕ → Results ℕ → Type 0
 Goes true S at names item old new = Steps S at (named names old) item (named names new) × AreNamed names new
 Goes false S at names item old new = (next : State) → Steps S at (named names old) item next → weight_limit < next.weight
+
+-- ---- results that are kept for the labels of the table, before those that were marked
+
+-- the results without them
+abbrev pub behind : ℕ → Results ℕ → Results ℕ
+behind n st = record { stack = st.stack; saved = drop n st.saved; weight = st.weight }
+
+-- what is kept for a label is nothing, or the expression of the hypothesis that it names
+abbrev pub IsGiven : Database → List Name → Entry → List ℕ → Type 0
+IsGiven S names (Hypothesis i) e = 0 < length e → (s : Stmt) → stmt_at S i ≡ Some s → decode names e ≡ expr_of s
+IsGiven S names (Assertion a) e = e ≡ []
+IsGiven S names Nothing e = e ≡ []
+
+pub record AreGiven (S : Database) (names : List Name) (table : List Entry) (saved : List (List ℕ)) : Type 0 where
+  pub enough : length table ≤ length saved
+  pub each : (k : ℕ) → k < length table → IsGiven S names (get_or table k Nothing) (get_or saved k [])
+
+pub record AreKnown (S : Database) (names : List Name) (table : List Entry) (st : Results ℕ) : Type 0 where
+  pub are_named : AreNamed names st
+  pub given : AreGiven S names table st.saved
+
+-- the same of an item where the first results are kept for labels
+abbrev pub GoesOn : Bool → Database → ℕ → List Name → List Entry → Item → Results ℕ → Results ℕ → Type 0
+GoesOn ok S at names table item old new = Goes ok S at names item (behind (length table) old) (behind (length table) new) × (IsTrue ok → AreKnown S names table new)

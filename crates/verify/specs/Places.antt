@@ -1,7 +1,7 @@
 -- Results that lie in one buffer.
 -- Metamath, 4.2.6: the stack of a proof.
 -- The code keeps where each result lies; here they are lists of symbols.
-use Rattle.std.specs.Prelude.{◌≡◌, ℕ, ◌+◌, ◌-◌, ◌<◌, ◌≤◌, Bool, true, false, List, [], ◌∷◌, ◌++◌, length, map, drop, take, slice_range}
+use Rattle.std.specs.Prelude.{◌≡◌, ℕ, ◌+◌, ◌-◌, ◌<◌, ◌≤◌, Bool, true, false, List, [], ◌∷◌, ◌++◌, length, map, drop, take, slice_range, slice_set}
 use Rattle.verify.specs.declared.results.Place.{Place}
 use Rattle.verify.specs.Machine.{Results, with_result, with_mark, IsSaved}
 use Rattle.verify.specs.Right.{weight_limit}
@@ -20,6 +20,7 @@ AreWithin n (p ∷ places) = (p.start ≤ p.end) × (p.end ≤ n) × AreWithin n
 pub record AreKept (symbols : List ℕ) (stack saved : List Place) (weight : ℕ) : Type 0 where
   pub stack_within : AreWithin (length symbols) stack
   pub saved_within : AreWithin (length symbols) saved
+  pub few : length symbols ≤ weight
   pub light : weight ≤ weight_limit
 
 abbrev pub below : {A : Type 0} → ℕ → List A → List A
@@ -32,6 +33,11 @@ top r stack = drop (length stack - r) stack
 abbrev pub Adds : {A : Type 0} → Bool → Results A → Results A → List (List A) → List A → Type 0
 Adds true old new stack e = new ≡ with_result old stack e
 Adds false old new stack e = weight_limit < old.weight + length e
+
+-- the result is added and kept as number k from 0, or it is too heavy
+abbrev pub Gives : {A : Type 0} → Bool → Results A → Results A → ℕ → List A → Type 0
+Gives true old new k e = new ≡ record { stack = old.stack ++ e ∷ []; saved = slice_set old.saved k e; weight = old.weight + length e }
+Gives false old new k e = weight_limit < old.weight + length e
 
 -- the last result was marked, or there is none
 abbrev pub Marks : {A : Type 0} → Bool → Results A → Results A → Type 0

@@ -1,6 +1,6 @@
 //! One item of a proof.
 
-ghost use Rattle.std.specs.Prelude.{◌≡◌, ℕ, ◌<◌, List, IfOk};
+ghost use Rattle.std.specs.Prelude.{◌≡◌, ◌<◌, List, length, get_or, IfOk, IsTrue};
 ghost use Rattle.mm_lex.specs.Alphabet.{Name};
 ghost use Rattle.mm_read.specs.declared.stmt.Stmt.{Stmt as Statement};
 ghost use Rattle.scope.specs.Active.{before};
@@ -9,7 +9,8 @@ ghost use Rattle.frame.specs.Citations.{Carries};
 ghost use Rattle.frame.specs.Reading.{AreLegal};
 ghost use Rattle.proof_code.specs.declared.item.Item.TheVariants.{Cite};
 ghost use Rattle.proof_code.specs.Numbers.{item_of};
-ghost use Rattle.verify.specs.Goes.{Goes, AreNamed};
+ghost use Rattle.verify.specs.Goes.{Goes, AreNamed, AreKnown, GoesOn};
+ghost use Rattle.verify.specs.declared.table.Entry.TheVariants.{Nothing};
 ghost use Rattle.verify.specs.Table.{IsEntry, AreEntries};
 
 use crate::results::Results;
@@ -31,8 +32,9 @@ fn cite_assertion(
     requires named { AreNamed frames.now.names results.old }
     requires assertion { (s : Statement) × HasAssertion frames.now.statements position s }
     requires earlier { position < at }
-    ensures { (label : Name) → (s : Statement) → Carries frames.now.statements position s label
+    ensures goes { (label : Name) → (s : Statement) → Carries frames.now.statements position s label
         → IfOk result (λ ok. Goes ok frames.now.statements at frames.now.names (Cite label) results.old results.new) }
+    ensures saved { IfOk result (λ ok. IsTrue ok → results.new.saved ≡ results.old.saved) }
 {
     let cited = frames.cited(position);
     let count = cited.patterns.len();
@@ -48,24 +50,26 @@ fn cite_assertion(
     results.apply(count, cited.conclusion)
 }
 
-/// Cites what a label names.
+/// Cites what the label of that number names.
 fn cite(
     frames: &Frames,
     at: usize,
     pairs: &Pairs<'_>,
-    entry: Entry,
+    table: &[Entry],
+    label: usize,
     results: &mut Results,
 ) -> Result<bool, AllocError>
     requires legal { AreLegal frames.now.statements frames.now.names }
     requires active { pairs.now.statements ≡ before frames.now.statements at }
     requires names { pairs.now.names ≡ frames.now.names }
-    requires named { AreNamed frames.now.names results.old }
-    requires entry { (label : Name) × IsEntry frames.now.statements at label entry }
-    ensures { (label : Name) → IsEntry frames.now.statements at label entry
-        → IfOk result (λ ok. Goes ok frames.now.statements at frames.now.names (Cite label) results.old results.new) }
+    requires known { AreKnown frames.now.statements frames.now.names table.now results.old }
+    requires within { label < length table.now }
+    requires entry { (name : Name) × IsEntry frames.now.statements at name (get_or table.now label Nothing) }
+    ensures { (name : Name) → IsEntry frames.now.statements at name (get_or table.now label Nothing)
+        → IfOk result (λ ok. GoesOn ok frames.now.statements at frames.now.names table.now (Cite name) results.old results.new) }
 {
-    match entry {
-        Entry::Hypothesis(position) => results.push(frames.expr(position)),
+    match table[label] {
+        Entry::Hypothesis(position) => results.give(label, frames.expr(position)),
         Entry::Assertion(position) => cite_assertion(frames, at, pairs, position, results),
         Entry::Nothing => Ok(false),
     }
@@ -83,18 +87,21 @@ pub fn step(
     requires legal { AreLegal frames.now.statements frames.now.names }
     requires active { pairs.now.statements ≡ before frames.now.statements at }
     requires names { pairs.now.names ≡ frames.now.names }
-    requires named { AreNamed frames.now.names results.old }
+    requires known { AreKnown frames.now.statements frames.now.names table.now results.old }
     requires entries { (labels : List Name) × AreEntries frames.now.statements at labels table.now }
     ensures { (labels : List Name) → AreEntries frames.now.statements at labels table.now
-        → IfOk result (λ ok. Goes ok frames.now.statements at frames.now.names (item_of labels number) results.old results.new) }
+        → IfOk result (λ ok. GoesOn ok frames.now.statements at frames.now.names table.now (item_of labels number) results.old results.new) }
 {
     if number == 0 {
         return results.mark();
     }
-    let place = number as usize - 1;
-    if place < table.len() {
-        cite(frames, at, pairs, table[place], results)
+    let index = number as usize - 1;
+    if results.has(index) {
+        return results.recall(index);
+    }
+    if index < table.len() {
+        cite(frames, at, pairs, table, index, results)
     } else {
-        results.recall(place - table.len() + 1)
+        results.recall(index)
     }
 }

@@ -32,11 +32,11 @@ pub fn copy_image(symbols: &mut [u32], at: usize, place: Place) -> Option<usize>
     ensures kept { take at symbols.new ≡ take at symbols.old }
     ensures count { length symbols.new ≡ length symbols.old }
 {
-    let len = (place.end - place.start).saturating_sub(1);
+    let len = ((place.end - place.start) as usize).saturating_sub(1);
     if symbols.len() - at < len + LANES {
         return None;
     }
-    copy_run(symbols, place.end - len, len, at);
+    copy_run(symbols, place.end as usize - len, len, at);
     Some(at + len)
 }
 

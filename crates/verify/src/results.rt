@@ -1,7 +1,7 @@
 //! The results of a proof so far, as ranges of one buffer.
 
-ghost use Rattle.std.specs.Prelude.{◌≡◌, ℕ, ◌+◌, ◌-◌, ◌<◌, ◌≤◌, ◌^◌, ◌↔◌, ◌∷◌, ◌++◌, [], List, length, map, drop, take, get_or, IfOk, IfSome, OnOk, IsTrue, slice_get, Some};
-ghost use Rattle.verify.specs.Places.{seen, seen_at, AreWithin, below, top, Adds, Marks, Recalls};
+ghost use Rattle.std.specs.Prelude.{◌≡◌, suc, ◌<◌, ◌≤◌, ◌^◌, ◌↔◌, ◌∷◌, [], length, map, get_or, replicate, IfOk, OnOk, IsTrue};
+ghost use Rattle.verify.specs.Places.{below, top, Adds, Gives, Marks, Recalls};
 ghost use Rattle.frame.specs.Templates.{filled, own, DoFit, AreIn};
 ghost use Rattle.scope.specs.Numbering.{decode};
 ghost use Rattle.frame.specs.ByPlaces.{are_places_apart, AllBelow};
@@ -18,13 +18,19 @@ use std::marker::Model;
 /// Where a result lies.
 #[derive(Clone, Copy, Drop)]
 pub struct Place {
-    pub start: usize,
-    pub end: usize,
+    pub start: u32,
+    pub end: u32,
 }
+
+/// The place of no symbols.
+const EMPTY: Place = Place { start: 0, end: 0 };
 
 const LIMIT: usize = 67_108_864;
 
 /// The results of a proof so far, their symbols in one buffer.
+///
+/// A hypothesis is written out once, where it is cited first: what is saved begins with a place for each label, which
+/// is empty until then, and goes on with the results that were marked.
 #[derive(Drop)]
 pub struct Results {
     symbols: Symbols,
@@ -58,28 +64,32 @@ impl Results {
         }
     }
 
-    /// Takes all results away; the buffers stay.
-    pub fn clear(&mut self)
-        ensures { self.new ≡ record { stack = []; saved = []; weight = 0 } }
+    /// Takes all results away, and makes places for so many labels; the buffers stay.
+    pub fn start(&mut self, labels: usize) -> Result<(), AllocError>
+        ensures { OnOk result (self.new ≡ record { stack = []; saved = replicate labels []; weight = 0 }) }
     {
         self.symbols.clear();
         self.stack.clear();
         self.saved.clear();
         self.weight = 0;
+        self.saved.resize(labels, EMPTY)?;
+        Ok(())
     }
 
-    /// Adds a result that is written out.
-    pub fn push(&mut self, expr: &[u32]) -> Result<bool, AllocError>
-        ensures { IfOk result (λ ok. Adds ok self.old self.new self.old.stack expr.now) }
+    /// Adds a result that is written out, and keeps it for the label of that number.
+    pub fn give(&mut self, label: usize, expr: &[u32]) -> Result<bool, AllocError>
+        requires { label < length self.old.saved }
+        ensures { IfOk result (λ ok. Gives ok self.old self.new label expr.now) }
     {
         if expr.len() > LIMIT - self.weight {
             return Ok(false);
         }
         let start = self.symbols.len();
         self.symbols.push(expr)?;
-        let end = self.symbols.len();
-        self.stack.push(Place { start, end })?;
         self.weight += expr.len();
+        let place = between(start, self.symbols.len());
+        self.saved[label] = place;
+        self.stack.push(place)?;
         Ok(true)
     }
 
@@ -97,15 +107,27 @@ impl Results {
         }
     }
 
-    /// Puts the saved result of that number on top, if there is one and it is light enough.
-    pub fn recall(&mut self, k: usize) -> Result<bool, AllocError>
-        ensures { IfOk result (λ ok. Recalls ok self.old self.new k) }
+    /// Whether a result with symbols is saved at that index.
+    pub fn has(&self, index: usize) -> bool
+        ensures within { IsTrue result → index < length self.now.saved }
+        ensures some { IsTrue result → 0 < length (get_or self.now.saved index []) }
     {
-        if k == 0 || k > self.saved.len() {
+        if index >= self.saved.len() {
+            return false;
+        }
+        let place = self.saved[index];
+        place.start < place.end
+    }
+
+    /// Puts the result that is saved at that index on top, if there is one and it is light enough.
+    pub fn recall(&mut self, index: usize) -> Result<bool, AllocError>
+        ensures { IfOk result (λ ok. Recalls ok self.old self.new (suc index)) }
+    {
+        if index >= self.saved.len() {
             return Ok(false);
         }
-        let place = self.saved[k - 1];
-        let len = place.end - place.start;
+        let place = self.saved[index];
+        let len = (place.end - place.start) as usize;
         if len > LIMIT - self.weight {
             return Ok(false);
         }
@@ -130,9 +152,9 @@ impl Results {
             return Ok(false);
         }
         let end = self.symbols.len();
-        self.stack.truncate(keep);
-        self.stack.push(Place { start, end })?;
         self.weight += end - start;
+        self.stack.truncate(keep);
+        self.stack.push(between(start, end))?;
         Ok(true)
     }
 
@@ -181,5 +203,16 @@ impl Results {
         }
         let place = self.stack[0];
         result_at(self.symbols.as_slice(), place) == expr
+    }
+}
+
+/// The place between two that are within the limit.
+fn between(start: usize, end: usize) -> Place
+    requires { (start ≤ weight_limit) × (end ≤ weight_limit) }
+    ensures { (result.start ≡ start) × (result.end ≡ end) }
+{
+    Place {
+        start: start as u32,
+        end: end as u32,
     }
 }

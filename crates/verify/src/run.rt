@@ -30,7 +30,7 @@ pub fn run(
     ensures { (labels : List Name) → AreEntries frames.now.statements at labels table.now
         → IfOk result (λ answer. Says answer (IsRight frames.now.statements at (items_of labels numbers.now))) }
 {
-    results.clear();
+    results.start(table.len())?;
     let pairs = frames.active_pairs(at);
     for number in numbers {
         if !step(frames, at, &pairs, table, *number, results)? {

@@ -14,7 +14,7 @@ pub fn result_at(symbols: &[u32], place: Place) -> &[u32]
     requires { (place.start ≤ place.end) × (place.end ≤ length symbols.now) }
     ensures { result.now ≡ seen_at symbols.now place }
 {
-    &symbols[place.start..place.end]
+    &symbols[place.start as usize..place.end as usize]
 }
 
 /// The symbols of a result behind its first one.
@@ -22,7 +22,7 @@ pub fn image(symbols: &[u32], place: Place) -> &[u32]
     requires { (place.start ≤ place.end) × (place.end ≤ length symbols.now) }
     ensures { result.now ≡ drop 1 (seen_at symbols.now place) }
 {
-    let whole = &symbols[place.start..place.end];
+    let whole = &symbols[place.start as usize..place.end as usize];
     if whole.is_empty() { whole } else { &whole[1..] }
 }
 

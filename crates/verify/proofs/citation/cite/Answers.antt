@@ -1,20 +1,22 @@
-use Rattle.std.proofs.Common.{subst}
+use Rattle.std.proofs.Common.{sym, ◌∙◌, subst}
 use Rattle.verify.specs.Table.{IsEntry}
-use Rattle.verify.proofs.StepLemmas.{hypothesis-result, nothing-goes}
+use Rattle.verify.proofs.KnownLemmas.{nothing-on, assertion-on, give-on}
+use Rattle.verify.proofs.StepLemmas.{get-default}
 use Rattle.verify.proofs.citation.cite.Goals as goal
 
 pub returns-in-Hypothesis : goal.returns-in-Hypothesis
-returns-in-Hypothesis c = λ label is.
-    let h = subst (IsEntry c.args.frames.now.statements c.args.at label) c.in-Hypothesis.is is in
-    hypothesis-result _ _ _ c.requires.legal _ _ c.requires.named label c.in-Hypothesis.position h.0 h.1 c.push.result _ h.0 h.2
-    (c.expr.ensures.same h.0 h.1.stands) c.expr.ensures.codes c.push.ensures
+returns-in-Hypothesis c = λ name is.
+    let entry = get-default c.args.table.now c.args.label _ _ c.requires.within ∙ c.in-Hypothesis.is in
+    let h = subst (IsEntry c.args.frames.now.statements c.args.at name) entry is in
+    give-on _ _ _ c.requires.legal c.args.table.now _ _ c.requires.known name c.args.label c.in-Hypothesis.position h.0 c.expr.result.now entry c.requires.within
+    h.1 h.2 (c.expr.ensures.same h.0 h.1.stands) c.expr.ensures.codes c.give.result c.give.ensures
 
 pub returns-in-Assertion : goal.returns-in-Assertion
-returns-in-Assertion c = λ label is.
-    let h = subst (IsEntry c.args.frames.now.statements c.args.at label) c.in-Assertion.is is in
-    c.cite_assertion.ensures label h.0 h.1
+returns-in-Assertion c = λ name is.
+    let h = subst (IsEntry c.args.frames.now.statements c.args.at name) (get-default c.args.table.now c.args.label _ _ c.requires.within ∙ c.in-Assertion.is) is in
+    assertion-on _ _ _ c.args.table.now name _ _ c.cite_assertion.result c.requires.known (c.cite_assertion.ensures.goes name h.0 h.1) c.cite_assertion.ensures.saved
 
 pub returns-in-Nothing : goal.returns-in-Nothing
-returns-in-Nothing c = λ label is.
-    nothing-goes _ _ _ c.requires.legal c.args.results.now c.args.results.now c.requires.named label
-    (subst (IsEntry c.args.frames.now.statements c.args.at label) c.in-Nothing.is is)
+returns-in-Nothing c = λ name is.
+    nothing-on _ _ _ c.requires.legal c.args.table.now _ _ c.requires.known name
+    (subst (IsEntry c.args.frames.now.statements c.args.at name) (get-default c.args.table.now c.args.label _ _ c.requires.within ∙ c.in-Nothing.is) is)

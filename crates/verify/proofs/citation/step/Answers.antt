@@ -1,6 +1,6 @@
-use Rattle.std.proofs.Common.{◌≡◌, ℕ, ◌-◌, [], get_or, arith, refl}
+use Rattle.std.proofs.Common.{◌≡◌, ℕ, ◌-◌, ◌<◌, ◌≤◌, [], length, get_or, arith, refl}
 use Rattle.std.specs.Prelude.{suc}
-use Rattle.verify.proofs.StepLemmas.{mark-result, cite-number, recall-number}
+use Rattle.verify.proofs.KnownLemmas.{mark-on, has-on, recall-on, cite-on}
 use Rattle.verify.proofs.TableLemmas.{entry_at}
 use Rattle.verify.proofs.citation.step.Goals as goal
 
@@ -10,20 +10,25 @@ suc_back n h = omega (arith, h)
 pub cite-requires-clause-entry : goal.cite-requires-clause-entry
 cite-requires-clause-entry c = (
   get_or c.requires.entries.0 (c.args.number - 1) [],
-  entry_at c.args.frames.now.statements c.args.at c.requires.entries.0 c.args.table.now (c.args.number - 1) _ c.requires.entries.1 c.if-place-table.true,
+  entry_at c.args.frames.now.statements c.args.at c.requires.entries.0 c.args.table.now (c.args.number - 1) _ c.requires.entries.1 c.if-index-table.true,
 )
 
 pub returns-then-number-eq0 : goal.returns-then-number-eq0
 returns-then-number-eq0 c = λ labels are.
-    mark-result _ _ _ c.requires.legal _ _ c.requires.named c.mark.result labels c.args.number c.if-number-eq0.true c.mark.ensures
+    mark-on _ _ _ c.requires.legal c.args.table.now _ _ c.requires.known labels c.args.number c.mark.result c.if-number-eq0.true c.mark.ensures
 
-pub returns-then-place-table : goal.returns-then-place-table
-returns-then-place-table c = λ labels are.
-    cite-number _ _ _ c.requires.legal _ _ c.cite.result labels (get_or labels (c.args.number - 1) []) c.args.number (c.args.number - 1)
-    (suc_back c.args.number c.if-number-eq0.false) (let n = are.count in let h = c.if-place-table.true in omega (arith, n, h)) refl
-    (c.cite.ensures (get_or labels (c.args.number - 1) []) (entry_at c.args.frames.now.statements c.args.at labels c.args.table.now (c.args.number - 1) _ are c.if-place-table.true))
+pub returns-then-has : goal.returns-then-has
+returns-then-has c = λ labels are.
+    has-on _ _ _ c.requires.legal c.args.table.now _ _ c.requires.known labels (c.args.number - 1) c.args.number c.recall.result (suc_back c.args.number c.if-number-eq0.false) are
+    (c.has.ensures.some c.if-has.true) c.recall.ensures
 
-pub returns-else-place-table : goal.returns-else-place-table
-returns-else-place-table c = λ labels are.
-    recall-number _ _ _ c.requires.legal _ _ c.requires.named c.recall.result labels c.args.number (c.args.number - 1) _
-    (suc_back c.args.number c.if-number-eq0.false) (let n = are.count in let h = c.if-place-table.false in omega (arith, n, h)) (let n = are.count in omega (arith, n)) c.recall.ensures
+pub returns-then-index-table : goal.returns-then-index-table
+returns-then-index-table c = λ labels are.
+    cite-on _ _ _ c.requires.legal c.args.table.now _ _ c.requires.known labels (get_or labels (c.args.number - 1) []) c.args.number (c.args.number - 1) c.cite.result
+    (suc_back c.args.number c.if-number-eq0.false) (let n = are.count in let h = c.if-index-table.true in omega (arith, n, h)) refl
+    (c.cite.ensures (get_or labels (c.args.number - 1) []) (entry_at c.args.frames.now.statements c.args.at labels c.args.table.now (c.args.number - 1) _ are c.if-index-table.true))
+
+pub returns-else-index-table : goal.returns-else-index-table
+returns-else-index-table c = λ labels are.
+    recall-on _ _ _ c.requires.legal c.args.table.now _ _ c.requires.known labels (c.args.number - 1) c.args.number c.recall-else-index-table.result
+    (suc_back c.args.number c.if-number-eq0.false) are.count (let h = c.if-index-table.false in omega (arith, h)) c.recall-else-index-table.ensures

@@ -1,7 +1,8 @@
-use Rattle.std.proofs.Common.{List, map, take}
+use Rattle.std.proofs.Common.{List, length, map, take}
 use Rattle.mm_lex.specs.Alphabet.{Name}
 use Rattle.frame.specs.Reading.{AreLegal}
 use Rattle.proof_code.specs.Numbers.{item_of}
+use Rattle.verify.specs.Goes.{behind, AreKnown}
 use Rattle.verify.specs.Table.{AreEntries}
 use Rattle.verify.proofs.StepLemmas.{Reached}
 use Rattle.verify.proofs.run.run.Given as goal
@@ -10,5 +11,6 @@ use Rattle.verify.proofs.run.run.Given as goal
 abbrev pub invariant-loop-number : goal.invariant-loop-number
 invariant-loop-number l =
     (legal : AreLegal l.frames.statements l.frames.names)
+    × AreKnown l.frames.statements l.frames.names l.table l.results
     × ((labels : List Name) → AreEntries l.frames.statements l.at labels l.table
-    → Reached l.frames.statements l.frames.names l.at legal (map (item_of labels) (take l.number-index l.numbers)) l.results)
+    → Reached l.frames.statements l.frames.names l.at legal (map (item_of labels) (take l.number-index l.numbers)) (behind (length l.table) l.results))

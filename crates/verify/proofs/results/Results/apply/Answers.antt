@@ -32,22 +32,36 @@ pub returns-then-not-branch : goal.returns-then-not-branch
 returns-then-not-branch c = rw (← c.self.view_is) (heavy _ c.self.inside.weight _ _ _ _ _ c.if-not-branch.true c.in_ok-push_filled.ensures.ok refl c.self.invariant.light
     (images_eq c.self.inside.symbols c.self.inside.symbols c.self.inside.stack.items c.deref.result.now (c.len.result - c.args.r) c.args.r c.args.template.now refl c.deref.ensures.value (few_of c.self.inside.symbols c.self.inside.stack.items c.args.self.now.stack c.args.r (ap (λ v. v.stack) c.self.view_is) c.requires.count) (omega (arith, c.len.ensures))))
 
-pub invariant_of-self-in_err-push : goal.invariant_of-self-in_err-push
-invariant_of-self-in_err-push c =
-    let g = appended _ _ _ _ _ c.if-not-branch.false c.in_ok-push_filled.ensures.ok in
-    apply-cut c.self.inside.symbols _ _ c.self.inside.stack.items _ _ _ _ (c.len.result - c.args.r) c.self.invariant g.0 c.truncate.ensures.items c.in_err-push.ensures.items
-
 -- as much longer as what was added
 grown : (xs ys zs : List ℕ) (start end : ℕ) → zs ≡ xs ++ ys → start ≡ length xs → end ≡ length zs → end - start ≡ length ys
 grown xs ys zs start end e low high = omega (arith, low, high, ap length e, length-append xs ys)
+
+-- within the limit, behind what was added
+end_light : (w room start end n : ℕ) → room ≡ weight_limit - w → w ≤ weight_limit → end - start ≡ n → n ≤ room → w + (end - start) ≤ weight_limit
+end_light w room start end n a b e h = omega (arith, a, b, e, h)
+
+pub between-requires : goal.between-requires
+between-requires c =
+    let g = appended _ _ _ _ _ c.if-not-branch.false c.in_ok-push_filled.ensures.ok in
+    let h = g.1 in let l = c.self.invariant.light in let f = c.self.invariant.few in
+    let more = grown c.self.inside.symbols _ _ c.len-start.result c.len-end.result g.0 c.len-start.ensures c.len-end.ensures in
+    let start = c.len-start.ensures in
+    (omega (arith, f, l, start), omega (arith, f, l, h, start, more))
+
+pub invariant_of-self-in_err-push : goal.invariant_of-self-in_err-push
+invariant_of-self-in_err-push c =
+    let g = appended _ _ _ _ _ c.if-not-branch.false c.in_ok-push_filled.ensures.ok in
+    let more = grown c.self.inside.symbols _ _ c.len-start.result c.len-end.result g.0 c.len-start.ensures c.len-end.ensures in
+    apply-cut c.self.inside.symbols _ _ c.self.inside.stack.items _ _ _ c.self.inside.weight _ (c.len.result - c.args.r) c.self.invariant g.0 c.truncate.ensures.items c.in_err-push.ensures.items
+    (ap (λ n. c.self.inside.weight + n) more) (end_light c.self.inside.weight _ c.len-start.result c.len-end.result _ refl c.self.invariant.light more g.1)
 
 pub invariant_of-self-2 : goal.invariant_of-self-2
 invariant_of-self-2 c =
     let g = appended _ _ _ _ _ c.if-not-branch.false c.in_ok-push_filled.ensures.ok in
     let more = grown c.self.inside.symbols _ _ c.len-start.result c.len-end.result g.0 c.len-start.ensures c.len-end.ensures in
-    apply-kept c.self.inside.symbols _ _ c.self.inside.stack.items c.self.inside.saved.items _ c.self.inside.weight _ (c.len.result - c.args.r) (record { start = c.len-start.result; end = c.len-end.result }) c.self.invariant
-    g.0 c.len-start.ensures c.len-end.ensures (c.in_ok-push.ensures.items ∙ ap (λ s. s ++ (record { start = c.len-start.result; end = c.len-end.result }) ∷ []) c.truncate.ensures.items)
-    (let h = g.1 in let l = c.self.invariant.light in omega (arith, h, l, more))
+    apply-kept c.self.inside.symbols _ _ c.self.inside.stack.items c.self.inside.saved.items _ c.self.inside.weight _ (c.len.result - c.args.r) c.between.result c.self.invariant
+    g.0 (c.between.ensures.0 ∙ c.len-start.ensures) (c.between.ensures.1 ∙ c.len-end.ensures) (c.in_ok-push.ensures.items ∙ ap (λ s. s ++ c.between.result ∷ []) c.truncate.ensures.items)
+    (ap (λ n. c.self.inside.weight + n) more) (end_light c.self.inside.weight _ c.len-start.result c.len-end.result _ refl c.self.invariant.light more g.1)
 
 pub returns : goal.returns
 returns c =
@@ -55,7 +69,7 @@ returns c =
     let more = grown c.self.inside.symbols _ _ c.len-start.result c.len-end.result g.0 c.len-start.ensures c.len-end.ensures in
     let few = few_of c.self.inside.symbols c.self.inside.stack.items c.args.self.now.stack c.args.r (ap (λ v. v.stack) c.self.view_is) c.requires.count in
     let at : c.len.result - c.args.r ≡ length c.self.inside.stack.items - c.args.r = omega (arith, c.len.ensures) in
-    rw (← c.self.view_is) (apply-seen c.self.inside.symbols _ _ c.self.inside.stack.items c.self.inside.saved.items _ c.self.inside.weight _ (c.len.result - c.args.r) c.args.r (record { start = c.len-start.result; end = c.len-end.result }) c.args.template.now c.self.invariant few at
+    rw (← c.self.view_is) (apply-seen c.self.inside.symbols _ _ c.self.inside.stack.items c.self.inside.saved.items _ c.self.inside.weight _ (c.len.result - c.args.r) c.args.r c.between.result c.args.template.now c.self.invariant few at
     g.0 (images_eq c.self.inside.symbols c.self.inside.symbols c.self.inside.stack.items c.deref.result.now (c.len.result - c.args.r) c.args.r c.args.template.now refl c.deref.ensures.value few at)
-    c.len-start.ensures c.len-end.ensures (c.in_ok-push.ensures.items ∙ ap (λ s. s ++ (record { start = c.len-start.result; end = c.len-end.result }) ∷ []) c.truncate.ensures.items)
+    (c.between.ensures.0 ∙ c.len-start.ensures) (c.between.ensures.1 ∙ c.len-end.ensures) (c.in_ok-push.ensures.items ∙ ap (λ s. s ++ c.between.result ∷ []) c.truncate.ensures.items)
     (ap (λ n. c.self.inside.weight + n) more))

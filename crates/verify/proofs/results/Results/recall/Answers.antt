@@ -1,24 +1,22 @@
-use Rattle.std.proofs.Common.{◌≡◌, ℕ, ◌-◌, ◌<◌, ◌≤◌, List, length, get_or, arith, refl, sym, subst}
+use Rattle.std.proofs.Common.{◌≡◌, ℕ, ◌<◌, ◌≤◌, List, length, get_or, arith, refl, sym, subst}
 use Rattle.verify.specs.Places.{AreWithin}
 use Rattle.verify.proofs.PlaceLemmas.{kept-recall, recall-seen, recall-heavy, within-at}
 use Rattle.verify.specs.declared.results.Place.{Place}
 use Rattle.verify.proofs.results.Results.recall.Goals as goal
 
-saved_at : (n k : ℕ) (ps : List Place) (p : Place) → AreWithin n ps → (k ≡ 0 → ⊥) → k ≤ length ps → p ≡ get_or ps (k - 1) p → (p.start ≤ p.end) × (p.end ≤ n)
-saved_at n k ps p w nz le at =
-    let nz' : 0 < k = omega (arith, nz) in
-    subst (λ q. (q.start ≤ q.end) × (q.end ≤ n)) (sym at) (within-at n (k - 1) ps p w (omega (arith, nz', le)))
+saved_at : (n k : ℕ) (ps : List Place) (p : Place) → AreWithin n ps → k < length ps → p ≡ get_or ps k p → (p.start ≤ p.end) × (p.end ≤ n)
+saved_at n k ps p w less at = subst (λ q. (q.start ≤ q.end) × (q.end ≤ n)) (sym at) (within-at n k ps p w less)
 
 pub overflow_sub-len : goal.overflow_sub-len
-overflow_sub-len c = (saved_at (length c.self.inside.symbols) c.args.k c.self.inside.saved.items c.index-place.result.now c.self.invariant.saved_within c.if-k-eq0.false (omega (arith, c.if-k-len.false, c.len.ensures)) c.index-place.ensures).0
+overflow_sub-len c = (saved_at (length c.self.inside.symbols) c.args.index c.self.inside.saved.items c.index-place.result.now c.self.invariant.saved_within (omega (arith, c.if-index-len.false, c.len.ensures)) c.index-place.ensures).0
 
 pub returns-then-len-self : goal.returns-then-len-self
-returns-then-len-self c = rw (← c.self.view_is) (recall-heavy c.self.inside.symbols c.self.inside.saved.items c.self.inside.weight c.args.k c.index-place.result.now c.index-place.result.now c.self.invariant.saved_within c.self.invariant.light c.if-k-eq0.false (omega (arith, c.if-k-len.false, c.len.ensures)) c.index-place.ensures c.if-len-self.true)
+returns-then-len-self c = rw (← c.self.view_is) (recall-heavy c.self.inside.symbols c.self.inside.saved.items c.self.inside.weight c.args.index c.index-place.result.now c.index-place.result.now c.self.invariant.saved_within c.self.invariant.light (omega (arith, c.if-index-len.false, c.len.ensures)) c.index-place.ensures c.if-len-self.true)
 
 pub invariant_of-self-2 : goal.invariant_of-self-2
 invariant_of-self-2 c = kept-recall c.self.inside.symbols c.self.inside.stack.items _ _ c.self.inside.weight _ c.index-place.result.now c.self.invariant
-    (saved_at (length c.self.inside.symbols) c.args.k c.self.inside.saved.items c.index-place.result.now c.self.invariant.saved_within c.if-k-eq0.false (omega (arith, c.if-k-len.false, c.len.ensures)) c.index-place.ensures)
-    c.in_ok-push.ensures.items (let h = c.if-len-self.false in let l = c.self.invariant.light in omega (arith, h, l))
+    (saved_at (length c.self.inside.symbols) c.args.index c.self.inside.saved.items c.index-place.result.now c.self.invariant.saved_within (omega (arith, c.if-index-len.false, c.len.ensures)) c.index-place.ensures)
+    c.in_ok-push.ensures.items (omega arith) (let h = c.if-len-self.false in let l = c.self.invariant.light in omega (arith, h, l))
 
 pub returns : goal.returns
-returns c = rw (← c.self.view_is) (recall-seen c.self.inside.symbols c.self.inside.stack.items _ _ c.self.inside.weight _ c.args.k c.index-place.result.now c.index-place.result.now c.self.invariant c.if-k-eq0.false (omega (arith, c.if-k-len.false, c.len.ensures)) c.index-place.ensures c.in_ok-push.ensures.items refl)
+returns c = rw (← c.self.view_is) (recall-seen c.self.inside.symbols c.self.inside.stack.items _ _ c.self.inside.weight _ c.args.index c.index-place.result.now c.index-place.result.now c.self.invariant (omega (arith, c.if-index-len.false, c.len.ensures)) c.index-place.ensures c.in_ok-push.ensures.items refl)

@@ -1,0 +1,10 @@
+use Rattle.std.proofs.Common.{◌≡◌, ◌≤◌, true, drop}
+use Rattle.std.specs.Prelude.{◌==◌}
+use Rattle.proof_code.specs.Listing.{more_labels, counted}
+use Rattle.proof_code.proofs.listing.count_listed.Given as goal
+
+abbrev pub invariant-loop-index : goal.invariant-loop-index
+invariant-loop-index l = record {
+  same : counted true l.text ≡ more_labels l.count (counted (l.last == 1) (drop l.index l.text));
+  few : l.count ≤ l.index;
+}

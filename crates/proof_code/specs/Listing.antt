@@ -1,0 +1,30 @@
+-- The listed labels of a compressed proof, byte by byte, for the private functions.
+-- Source: Metamath, appendix B.
+-- This is the code's way to count; that it counts what `header_of` reads is proved in ListingLemmas.
+use Rattle.std.specs.Prelude.{ℕ, ◌+◌, Bool, true, false, ◌&&◌, ◌==◌, if◌then◌else◌, List, [], ◌∷◌, Option, Some, None}
+use Rattle.std.specs.Option.{option_map}
+use Rattle.mm_lex.specs.Alphabet.{is_label_byte}
+
+-- a byte of a label, a space, or another
+abbrev pub class_of : ℕ → ℕ
+class_of b = if is_label_byte b then 0 else (if b == 32 then 1 else 2)
+
+-- the letters behind the word `)`
+abbrev pub letters_from : List ℕ → Option (List ℕ)
+letters_from [] = None
+letters_from (b ∷ []) = if b == 41 then Some [] else None
+letters_from (b ∷ c ∷ letters) = if (b == 41) && (c == 32) then Some letters else None
+
+abbrev pub more_labels : ℕ → Option (ℕ × List ℕ) → Option (ℕ × List ℕ)
+more_labels n found = option_map (λ f. (n + f.0, f.1)) found
+
+-- no labels before the letters
+abbrev pub behind_none : Bool → Option (List ℕ) → Option (ℕ × List ℕ)
+behind_none fresh letters = if fresh then option_map (λ l. (0, l)) letters else None
+
+-- how many labels there are, and the letters behind them; `fresh` tells whether a word begins here
+abbrev pub counted : Bool → List ℕ → Option (ℕ × List ℕ)
+counted fresh [] = None
+counted fresh (b ∷ text) =
+    if class_of b == 0 then counted false text
+    else (if class_of b == 1 then more_labels 1 (counted true text) else behind_none fresh (letters_from (b ∷ text)))
