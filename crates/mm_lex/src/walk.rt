@@ -1,7 +1,6 @@
 //! From token to token through a text, without a list of their places.
-ghost use Rattle.std.specs.Prelude.{◌≡◌, ◌≤◌, [], ◌∷◌, length, IsTrue, IfSome, ℕ};
-ghost use Rattle.std.specs.List.{list_all};
-ghost use Rattle.mm_lex.specs.Alphabet.{is_allowed, word};
+ghost use Rattle.std.specs.Prelude.{◌≡◌, ◌<◌, ◌≤◌, [], ◌∷◌, length, IfSome};
+ghost use Rattle.mm_lex.specs.Alphabet.{word};
 ghost use Rattle.mm_lex.specs.Tokens.{IsClean, IsWordAt};
 ghost use Rattle.mm_lex.specs.Between.{HasBetween};
 
@@ -36,6 +35,7 @@ pub fn next_token(text: &[u8], at: usize) -> Option<Span>
     requires place { at ≤ length text.now }
     ensures between { IfSome result (λ s. HasBetween text.now at s.end (word text.now s ∷ [])) }
     ensures word { IfSome result (IsWordAt text.now) }
+    ensures later { IfSome result (λ s. at < s.end) }
 {
     let mut from = at;
     while let Some(run) = next_run(text, from) {
