@@ -24,11 +24,11 @@ module _ (text : List ℕ) where
 
   -- ---- cuts
 
-  no_runs : Cuts text [] []
+  pub no_runs : Cuts text [] []
   no_runs = record { first = []; parts = []; whole = refl; plain = refl; comments = tt; outside = refl }
 
   -- a plain run before a cut
-  with_plain : (s : Span) (spans tokens : List Span) → is_plain (word text s) ≡ true → Cuts text spans tokens → Cuts text (s ∷ spans) (s ∷ tokens)
+  pub with_plain : (s : Span) (spans tokens : List Span) → is_plain (word text s) ≡ true → Cuts text spans tokens → Cuts text (s ∷ spans) (s ∷ tokens)
   with_plain s spans tokens is cut = record {
     first = s ∷ cut.first;
     parts = cut.parts;
@@ -39,7 +39,7 @@ module _ (text : List ℕ) where
   }
 
   -- a comment before a cut
-  with_comment : (begin end : Span) (inner spans tokens : List Span) → word text begin ≡ opener → AllPlain text inner → word text end ≡ closer
+  pub with_comment : (begin end : Span) (inner spans tokens : List Span) → word text begin ≡ opener → AllPlain text inner → word text end ≡ closer
       → Cuts text spans tokens → Cuts text (begin ∷ (inner ++ end ∷ spans)) tokens
   with_comment begin end inner spans tokens is_begin are is_end cut =
       let p : Part = record { begin = begin; inside = inner; end = end; after = cut.first } in
@@ -52,7 +52,7 @@ module _ (text : List ℕ) where
         outside = cut.outside;
       }
 
-  cuts_as : (spans same tokens : List Span) → spans ≡ same → Cuts text same tokens → Cuts text spans tokens
+  pub cuts_as : (spans same tokens : List Span) → spans ≡ same → Cuts text same tokens → Cuts text spans tokens
   cuts_as spans same tokens e cut = record {
     first = cut.first;
     parts = cut.parts;

@@ -8,5 +8,8 @@ pub mod CuttingMeans
 pub mod PlainLemmas
 pub mod Progress
 pub mod TokensLemmas
+pub mod StretchLemmas
+pub mod SymbolsLemmas
+pub mod BetweenLemmas
 pub mod OneCut
 mod Rows

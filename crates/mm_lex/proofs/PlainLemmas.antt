@@ -102,7 +102,7 @@ with_append at true spans more some = refl
 with_append at false [] more some = absurd (some refl)
 with_append at false (s ∷ spans) more some = refl
 
-append_step : (at b c : ℕ) (bytes more : List ℕ) (t : Bool) → is_white b ≡ t
+pub append_step : (at b c : ℕ) (bytes more : List ℕ) (t : Bool) → is_white b ≡ t
     → runs_from (at + 1) ((c ∷ bytes) ++ more) ≡ runs_from (at + 1) (c ∷ bytes) ++ runs_from (at + 1 + length (c ∷ bytes)) more
     → runs_from at ((b ∷ c ∷ bytes) ++ more) ≡ runs_from at (b ∷ c ∷ bytes) ++ runs_from (at + length (b ∷ c ∷ bytes)) more
 append_step at b c bytes more true e k =

@@ -7,7 +7,7 @@ use Rattle.std.proofs.lemmas.List.{length-drop, drop-drop}
 use Rattle.std.proofs.Math.Seq.{drop-length}
 use Rattle.std.proofs.lemmas.List.Sums.{prefix_len-le-length}
 use Rattle.mm_lex.specs.declared.span.Span.{Span}
-use Rattle.mm_lex.specs.Alphabet.{is_white, with_byte, runs_from, IsRunAt}
+use Rattle.mm_lex.specs.Alphabet.{is_white, starts_white, with_byte, runs_from, IsRunAt}
 
 -- ---- the first place that passes a test
 
@@ -154,3 +154,17 @@ module _ (text : List ℕ) (at white visible : ℕ) (within : at ≤ length text
           within = omega (arith, few, length-drop white (drop at text), rest_len, shown);
           visible = rw (width, from, shown) (all_before is_white is_shown (λ b. refl) (drop white (drop at text)));
         }
+
+-- ---- to the next byte that is not white
+
+module _ (text : List ℕ) (at white : ℕ) (within : at ≤ length text) (blanks : white ≡ position_or_len is_shown (drop at text)) where
+  pub pass_white : runs_from at (drop at text) ≡ runs_from (at + white) (drop (at + white) text)
+  pass_white =
+      runs_from-white at (drop at text)
+      ∙ (ap (λ n. runs_from (at + n) (drop n (drop at text))) (sym blanks) ∙ ap (runs_from (at + white)) (drop-drop white at text))
+
+  pub shown_behind : at + white < length text → starts_white (drop (at + white) text) ≡ false
+  shown_behind inside =
+      let k : position_or_len is_shown (drop at text) < length (drop at text) = omega (arith, blanks, inside, length-drop at text) in
+      let begins = begins_shown (drop at text) k in
+      ap starts_white (sym (drop-drop white at text) ∙ (ap (λ n. drop n (drop at text)) blanks ∙ begins.whole)) ∙ begins.shown

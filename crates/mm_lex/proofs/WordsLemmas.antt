@@ -25,7 +25,7 @@ first_step : (t : Bool) (b : ℕ) (parts : List Name) → (x : List ℕ) × (xs 
 first_step true b parts p = ([], parts, refl)
 first_step false b parts p = (b ∷ p.0, p.1, ap (onto_first b) p.2)
 
-first_part : (text : List ℕ) → (x : List ℕ) × (xs : List Name) × (slice_split is_space text ≡ x ∷ xs)
+pub first_part : (text : List ℕ) → (x : List ℕ) × (xs : List Name) × (slice_split is_space text ≡ x ∷ xs)
 first_part [] = ([], [], refl)
 first_part (b ∷ text) = first_step (is_space b) b (slice_split is_space text) (first_part text)
 

@@ -8,6 +8,7 @@ use crate::run::{is_closer, is_opener, next_run};
 use memchr::memchr;
 
 /// How a comment ends.
+#[derive(Drop)]
 pub(crate) enum CommentEnd {
     /// At a `$)`: the offset of the byte behind it.
     Closed(usize),

@@ -13,15 +13,20 @@ mod reading;
 mod run;
 mod scan;
 mod span;
+mod stretch;
+mod symbol_list;
 #[cfg(test)]
 mod tests;
+mod walk;
 mod word;
 mod words;
 
 pub use fault::LexFault;
 pub use laws::{one_answer, one_cut};
 pub use reading::WordIter;
-pub use scan::tokens;
+pub use scan::{are_allowed, tokens};
 pub use span::Span;
+pub use symbol_list::symbols;
+pub use walk::{next_token, skip};
 pub use word::Word;
 pub use words::Words;

@@ -1,7 +1,7 @@
 //! The runs of visible bytes in a text without a bad byte, one after another.
 ghost use Rattle.std.specs.Prelude.{◌≡◌, ◌-◌, ◌<◌, ◌≤◌, [], ◌∷◌, ℕ, not, length, take, drop, MatchOption, IfSome, IsTrue, slice_index, IsFalse};
 ghost use Rattle.std.specs.List.{position, position_or_len};
-ghost use Rattle.mm_lex.specs.Alphabet.{is_white, runs_from, IsRunAt, name_eq};
+ghost use Rattle.mm_lex.specs.Alphabet.{is_white, starts_white, runs_from, IsRunAt, name_eq};
 ghost use Rattle.mm_lex.specs.Tokens.{opener, closer, IsClean};
 
 use crate::lanes::count_visible;
@@ -27,6 +27,17 @@ pub(crate) fn next_run(text: &[u8], at: usize) -> Option<Span>
         start,
         end: start + visible,
     })
+}
+
+/// Where the first byte stands, at `at` or behind it, that is not white, or the end of the text.
+pub(crate) fn pass_white(text: &[u8], at: usize) -> usize
+    requires { at ≤ length text.now }
+    ensures later { at ≤ result }
+    ensures within { result ≤ length text.now }
+    ensures runs { runs_from at (drop at text.now) ≡ runs_from result (drop result text.now) }
+    ensures shown { result < length text.now → IsFalse (starts_white (drop result text.now)) }
+{
+    at + count_white(&text[at..])
 }
 
 /// How many white bytes a text begins with.

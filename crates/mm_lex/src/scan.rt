@@ -91,7 +91,7 @@ fn find_bad_byte(text: &[u8]) -> Option<usize>
 }
 
 /// Whether a text may have all of these bytes.
-fn are_allowed(text: &[u8]) -> bool
+pub fn are_allowed(text: &[u8]) -> bool
     ensures { result ≡ list_all is_allowed text.now }
 {
     let mut all = true;

@@ -11,3 +11,4 @@ pub mod StatementByStatement
 pub mod OneReading
 pub mod ExportReads
 mod Rows
+pub mod DirectLemmas

@@ -16,11 +16,11 @@ use Rattle.mm_read.specs.Front.{IsFront}
 use Rattle.mm_read.proofs.OneSpelling.{same_front}
 use Rattle.mm_read.proofs.ShapeFaults.{append-nil}
 
-spelled-append : (S T : Database) → spelled (S ++ T) ≡ spelled S ++ spelled T
+pub spelled-append : (S T : Database) → spelled (S ++ T) ≡ spelled S ++ spelled T
 spelled-append [] T = refl
 spelled-append (s ∷ S) T = ap (λ r. stmt_tokens s ++ r) (spelled-append S T) ∙ sym (append_assoc (stmt_tokens s) (spelled S) (spelled T))
 
-shaped-append : (S T : Database) → list_all is_shaped S ≡ true → list_all is_shaped T ≡ true → list_all is_shaped (S ++ T) ≡ true
+pub shaped-append : (S T : Database) → list_all is_shaped S ≡ true → list_all is_shaped T ≡ true → list_all is_shaped (S ++ T) ≡ true
 shaped-append [] T hS hT = hT
 shaped-append (s ∷ S) T hS hT =
     let parts : (is_shaped s ≡ true) × (list_all is_shaped S ≡ true) = and_parts (is_shaped s) (list_all is_shaped S) hS in

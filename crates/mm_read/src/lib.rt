@@ -5,6 +5,7 @@
 //! crates above rest on the clauses of `read`. Read `stmt`, `parse`, `statement`, `front`, `keyword`, then `export`.
 #![tactic(auto)]
 
+mod direct;
 mod export;
 mod fault;
 mod front;

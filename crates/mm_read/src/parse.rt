@@ -6,6 +6,7 @@ ghost use Rattle.mm_read.specs.Statements.{Database};
 ghost use Rattle.mm_read.specs.Reads.{Reads, HasShapeFault, IsReadFault};
 ghost use Rattle.mm_read.specs.Front.{AreStatements, IsFrontFault};
 
+use crate::direct::read_directly;
 use crate::fault::ReadFault;
 use crate::statement::statement;
 use crate::stmt::Stmt;
@@ -33,6 +34,9 @@ pub fn read(alloc: Global, text: &[u8]) -> Result<Vec<Stmt>, ReadFault>
     ensures shape { (token : ℕ) → HasShapeFault text.now token
         → IsErrAnd result (λ fault. (fault ≡ ReadFault.Shape token) ⊎ (fault ≡ ReadFault.Memory)) }
 {
+    if let Some(statements) = read_directly(alloc, text) {
+        return Ok(statements);
+    }
     let spans = tokens(alloc, text)?;
     statements(alloc, text, spans.as_slice())
 }

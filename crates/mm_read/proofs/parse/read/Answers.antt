@@ -3,7 +3,17 @@ use Rattle.std.proofs.lemmas.Result.{err_from_is_err_and}
 use Rattle.mm_lex.specs.Tokens.{AreTokens}
 use Rattle.mm_read.specs.Reads.{read_fault}
 use Rattle.mm_read.proofs.OneReading.{only_memory, no_comment_fault, the_statements, the_shape_fault, same_fault}
+use Rattle.mm_read.proofs.DirectLemmas.{same_reading, no_broken_comment, no_stop}
 use Rattle.mm_read.proofs.parse.read.Goals as goal
+
+pub returns-in-Some-clause-statements : goal.returns-in-Some-clause-statements
+returns-in-Some-clause-statements c = λ S reads. same_reading c.args.text.now c.in-Some.statements.items c.in-Some.ensures S reads
+
+pub returns-in-Some-clause-comment_fault : goal.returns-in-Some-clause-comment_fault
+returns-in-Some-clause-comment_fault c = λ offset is. absurd (no_broken_comment c.args.text.now c.in-Some.statements.items c.in-Some.ensures offset is)
+
+pub returns-in-Some-clause-shape : goal.returns-in-Some-clause-shape
+returns-in-Some-clause-shape c = λ token has. no_stop c.args.text.now c.in-Some.statements.items c.in-Some.ensures token has
 
 pub returns-in_err-spans-clause-statements : goal.returns-in_err-spans-clause-statements
 returns-in_err-spans-clause-statements c =

@@ -1,0 +1,139 @@
+-- How far symbols with one space between two go on, found in lanes of bytes.
+use Rattle.std.specs.Prelude.{◌≡◌, ℕ, ◌+◌, ◌<◌, ◌≤◌, zero, suc, Bool, true, false, not, cond, ◌&&◌, ◌||◌, nat_lt, nat_le, ◌==◌, List, [], ◌∷◌, length, take, drop, map, refl}
+use Rattle.std.specs.List.{prefix_len}
+use Rattle.std.proofs.Common.{sym, ◌∙◌, ap, arith, leb, ltb, eqb, replicate, w8, ◌%◌, ◌^◌, bit_or, bit_and}
+use Rattle.std.specs.Simd.Lanes.{zip2, mask_l, top}
+use Rattle.std.specs.Int.Count.{count_trailing_zeros}
+use Rattle.std.proofs.lemmas.Simd.{trailing_mask_l, leading_from_mask_l, mask_l-mod, length-zip2}
+use Rattle.std.proofs.lemmas.List.{length-drop, drop-drop}
+use Rattle.std.proofs.lemmas.List.Sums.{prefix_len-le-length}
+use Rattle.mm_lex.specs.Stretch.{stretch, ends_here, ends_between, lanes_end}
+
+-- ---- one lane
+
+abbrev set : Bool → ℕ
+set t = cond t 255 0
+
+lane : (low dollar space next : Bool) → top 7 (bit_or (bit_or (set low) (set dollar)) (bit_and (set space) (set next))) ≡ (low || dollar || (space && next))
+lane true true true true = refl
+lane true true true false = refl
+lane true true false true = refl
+lane true true false false = refl
+lane true false true true = refl
+lane true false true false = refl
+lane true false false true = refl
+lane true false false false = refl
+lane false true true true = refl
+lane false true true false = refl
+lane false true false true = refl
+lane false true false false = refl
+lane false false true true = refl
+lane false false true false = refl
+lane false false false true = refl
+lane false false false false = refl
+
+-- ---- the mask of the bytes and those that follow them
+
+abbrev below : ℕ → ℕ → ℕ
+below a b = cond (ltb a b) 255 0
+
+abbrev same : ℕ → ℕ → ℕ
+same a b = cond (eqb a b) 255 0
+
+abbrev up_to : ℕ → ℕ → ℕ
+up_to a b = cond (leb a b) 255 0
+
+abbrev compared : ℕ → List ℕ → List ℕ → List ℕ
+compared n xs ys =
+    zip2 bit_or (zip2 bit_or (zip2 below xs (replicate n 32)) (zip2 same xs (replicate n 36)))
+    (zip2 bit_and (zip2 up_to xs (replicate n 32)) (zip2 up_to ys (replicate n 36)))
+
+compared_is : (n : ℕ) (xs ys : List ℕ) → length xs ≡ n → length ys ≡ n → map (top 7) (compared n xs ys) ≡ lanes_end xs ys
+compared_is zero [] ys e f = refl
+compared_is zero (x ∷ xs) ys e f = absurd (omega (arith, e))
+compared_is (suc n) [] ys e f = absurd (omega (arith, e))
+compared_is (suc n) (x ∷ xs) [] e f = absurd (omega (arith, f))
+compared_is (suc n) (x ∷ xs) (y ∷ ys) e f =
+    ap (λ t. t ∷ map (top 7) (compared n xs ys)) (lane (ltb x 32) (eqb x 36) (leb x 32) (leb y 36))
+    ∙ ap (λ ts. ends_between x y ∷ ts) (compared_is n xs ys (omega (arith, e)) (omega (arith, f)))
+
+map-same : (ms : List Bool) → map (λ b. b) ms ≡ ms
+map-same [] = refl
+map-same (m ∷ ms) = ap (λ r. m ∷ r) (map-same ms)
+
+module _ (xs ys : List ℕ) (long : length xs ≡ 16) (other : length ys ≡ 16) where
+  ends_len : length (lanes_end xs ys) ≡ 16
+  ends_len = length-zip2 ends_between xs ys (omega (arith, long, other)) ∙ long
+
+  mask_is : mask_l (map (top 7) (compared 16 xs ys)) % 2 ^ 64 ≡ mask_l (map (λ b. b) (lanes_end xs ys))
+  mask_is =
+      ap (λ ms. mask_l ms % 2 ^ 64) (compared_is 16 xs ys long other)
+      ∙ (mask_l-mod (lanes_end xs ys) 64 (omega (arith, ends_len)) ∙ ap mask_l (sym (map-same (lanes_end xs ys))))
+
+  pub none_set : mask_l (map (top 7) (compared 16 xs ys)) % 2 ^ 64 ≡ 0 → 16 ≡ prefix_len not (lanes_end xs ys)
+  none_set e = sym (leading_from_mask_l (λ b. b) (lanes_end xs ys) (sym mask_is ∙ e) ∙ ends_len)
+
+  pub first_set : (mask_l (map (top 7) (compared 16 xs ys)) % 2 ^ 64 ≡ 0 → ⊥)
+      → count_trailing_zeros 64 (mask_l (map (top 7) (compared 16 xs ys)) % 2 ^ 64) ≡ prefix_len not (lanes_end xs ys)
+  first_set some =
+      ap (count_trailing_zeros 64) mask_is
+      ∙ trailing_mask_l (λ b. b) 64 (lanes_end xs ys) (omega (arith, ends_len)) (omega (arith, some, mask_is))
+
+  pub few_set : prefix_len not (lanes_end xs ys) ≤ 16
+  few_set = omega (arith, prefix_len-le-length not (lanes_end xs ys), ends_len)
+
+-- ---- from the lanes to the bytes
+
+abbrev pub lanes_count : ℕ → List ℕ → ℕ
+lanes_count k xs = prefix_len not (lanes_end (take k xs) (take k (drop 1 xs)))
+
+abbrev Counts : ℕ → List ℕ → ℕ → Type 0
+Counts k xs n = (n < k → stretch xs ≡ n) × (k ≤ n → stretch xs ≡ k + stretch (drop k xs))
+
+counts_step : (t : Bool) (k s n r : ℕ) → (n < k → s ≡ n) × (k ≤ n → s ≡ k + r)
+    → (cond (not t) (1 + n) 0 < suc k → cond t zero (suc s) ≡ cond (not t) (1 + n) 0) × (suc k ≤ cond (not t) (1 + n) 0 → cond t zero (suc s) ≡ suc k + r)
+counts_step true k s n r h = (λ lt. refl, λ le. absurd (omega (arith, le)))
+counts_step false k s n r h = (λ lt. omega (arith, h.0 (omega (arith, lt))), λ le. omega (arith, h.1 (omega (arith, le))))
+
+counts : (k : ℕ) (xs : List ℕ) → k < length xs → Counts k xs (lanes_count k xs)
+counts zero xs room = (λ lt. absurd (omega (arith, lt)), λ le. omega arith)
+counts (suc k) [] room = absurd (omega (arith, room))
+counts (suc k) (b ∷ []) room = absurd (omega (arith, room))
+counts (suc k) (b ∷ c ∷ xs) room =
+    counts_step (ends_between b c) k (stretch (c ∷ xs)) (lanes_count k (c ∷ xs)) (stretch (drop k (c ∷ xs))) (counts k (c ∷ xs) (omega (arith, room)))
+
+-- ---- the bytes behind those seen
+
+module _ (text : List ℕ) (at : ℕ) (room : at + 16 < length text) (seen : stretch text ≡ at + stretch (drop at text)) (count : ℕ) (counted : count ≡ lanes_count 16 (drop at text)) where
+  both : Counts 16 (drop at text) count
+  both = rw counted (counts 16 (drop at text) (omega (arith, room, length-drop at text)))
+
+  pub stretch_ends : count < 16 → stretch text ≡ at + count
+  stretch_ends few = omega (arith, seen, both.0 few)
+
+  pub stretch_goes_on : count ≡ 16 → stretch text ≡ at + count + stretch (drop (at + count) text)
+  stretch_goes_on all =
+      let rest : drop 16 (drop at text) ≡ drop (at + count) text = drop-drop 16 at text ∙ ap (λ n. drop (at + n) text) (sym all) in
+      let there = both.1 (omega (arith, all)) in
+      omega (arith, seen, there, ap stretch rest, all)
+
+-- ---- one byte more
+
+one_step : (t : Bool) (s : ℕ) → t ≡ false → cond t zero (suc s) ≡ suc s
+one_step true s e = cc
+one_step false s e = refl
+
+stretch_byte : (xs : List ℕ) → 0 < length xs → ends_here xs ≡ false → stretch xs ≡ suc (stretch (drop 1 xs))
+stretch_byte [] some e = absurd (omega (arith, some))
+stretch_byte (b ∷ xs) some e = one_step (ends_here (b ∷ xs)) (stretch xs) e
+
+pub stretch_none : (xs : List ℕ) → ends_here xs ≡ true → stretch xs ≡ 0
+stretch_none [] e = refl
+stretch_none (b ∷ xs) e = rw e refl
+
+pub stretch_one : (text : List ℕ) (at : ℕ) → at < length text → stretch text ≡ at + stretch (drop at text) → ends_here (drop at text) ≡ false
+    → stretch text ≡ at + 1 + stretch (drop (at + 1) text)
+stretch_one text at inside seen e =
+    let next = stretch_byte (drop at text) (omega (arith, length-drop at text, inside)) e in
+    let rest : drop 1 (drop at text) ≡ drop (at + 1) text = drop-drop 1 at text in
+    omega (arith, seen, next, ap stretch rest)

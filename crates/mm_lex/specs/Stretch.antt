@@ -1,0 +1,24 @@
+-- How far a text goes on as symbols with one space between two.
+-- Source: this project's choice; such symbols are copied in one piece.
+-- The code looks at many bytes at a time; here at one byte and the next.
+use Rattle.std.specs.Prelude.{ℕ, zero, suc, Bool, true, ◌||◌, ◌&&◌, ◌==◌, if◌then◌else◌, List, [], ◌∷◌, nat_lt, nat_le}
+use Rattle.std.specs.Simd.Lanes.{zip2}
+
+-- at a byte below the space, at a `$`, or at a space behind which a byte up to `$` stands
+abbrev pub ends_between : ℕ → ℕ → Bool
+ends_between b next = nat_lt b 32 || (b == 36) || (nat_le b 32 && nat_le next 36)
+
+-- the symbols end here; behind a text stands a space
+abbrev pub ends_here : List ℕ → Bool
+ends_here [] = true
+ends_here (b ∷ []) = ends_between b 32
+ends_here (b ∷ c ∷ bytes) = ends_between b c
+
+-- how many bytes come before the end of the symbols
+abbrev pub stretch : List ℕ → ℕ
+stretch [] = zero
+stretch (b ∷ bytes) = if ends_here (b ∷ bytes) then zero else suc (stretch bytes)
+
+-- whether they end between each of these bytes and the one that follows it
+abbrev pub lanes_end : List ℕ → List ℕ → List Bool
+lanes_end bytes next = zip2 ends_between bytes next
