@@ -14,7 +14,7 @@ use std::marker::Model;
 
 /// The statements accepted so far, and those of them that are marked.
 ///
-/// Beside them stand the numbers of the symbols of the last one, which contracts do not see.
+/// Beside them stand the numbers of the symbols of the last one, where they were noted.
 #[derive(Drop)]
 pub struct Scope {
     pub(crate) judge: Judge,
