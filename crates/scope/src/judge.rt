@@ -1,4 +1,4 @@
-//! The names and stacks that tell which statement may come next.
+//! What tells which statement may come next.
 ghost use Rattle.std.specs.Prelude.{◌≡◌, ◌+◌, ◌++◌, ◌∷◌, [], length, IfOk, IsTrue};
 ghost use Rattle.scope.specs.Active.{is_closed};
 
@@ -10,7 +10,8 @@ use crate::standing::{Standing, copy_standing};
 use std::alloc::{AllocError, Global};
 use std::marker::Model;
 
-/// The statements accepted so far, and those of them that are marked.
+/// The names, stacks and counts of the statements accepted so far, and of those that are marked.
+/// Contracts see the statements.
 #[derive(Drop)]
 pub(crate) struct Judge {
     pub(crate) accepted: History,
@@ -90,7 +91,7 @@ impl Judge {
         self.accepted = History::same(&self.marked);
     }
 
-    /// The same scope.
+    /// The same statements, marked there.
     pub(crate) fn copy(&self) -> Result<Judge, AllocError>
         ensures { IfOk result (λ judge. judge ≡ self.now) }
     {

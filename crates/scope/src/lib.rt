@@ -1,8 +1,9 @@
 //! May this statement come next, and what is active behind it: the rules G1 to G10.
 //!
 //! The crate above uses one contract: `Scope::add` accepts exactly the legal next statement, and
-//! else answers the least rule that it breaks. Read `rule`, then `scope`; `legal` has the tests,
-//! `accept` what a statement changes; `numbering` and `stack` are the parts, `laws` what is active.
+//! else answers the least rule that it breaks. Read `rule`, then `scope`; `judge` is what stands
+//! behind it, `legal` has the tests, `accept` what a statement changes; `numbering`, `stack` and
+//! `noted` are the parts, `laws` what is active.
 #![tactic(auto)]
 
 mod accept;

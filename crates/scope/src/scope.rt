@@ -13,6 +13,8 @@ use std::alloc::{AllocError, Global};
 use std::marker::Model;
 
 /// The statements accepted so far, and those of them that are marked.
+///
+/// Beside them stand the numbers of the symbols of the last one, where they were noted.
 #[derive(Drop)]
 pub struct Scope {
     pub(crate) judge: Judge,
