@@ -142,6 +142,9 @@ impl Names {
     pub fn truncate(&mut self, len: usize)
         ensures { self.new ≡ take len self.old }
     {
+        if len >= self.texts.len() {
+            return;
+        }
         self.sound = len.min(self.sound as usize) as u32;
         self.texts.truncate(len);
     }

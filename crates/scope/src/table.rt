@@ -25,7 +25,8 @@ pub struct Slot {
     pub number: u32,
 }
 
-/// Where to look in a step. The length of a table is a power of two.
+/// Where to look in a step: first by the highest bytes of the product, which all bits of the key reach.
+/// The length of a table is a power of two.
 fn place(key: u64, step: usize, len: usize) -> usize
     requires { 0 < len }
     ensures place { result ≡ place_of key step len }
