@@ -1,0 +1,83 @@
+use Rattle.std.proofs.Common.{◌≡◌, ◌+◌, ◌∙◌, sym, subst, arith, length}
+use Rattle.scope.specs.Active.{bare}
+use Rattle.frame.specs.ByPlaces.{AreBelow}
+use Rattle.frame.specs.Entries.{made}
+use Rattle.frame.specs.Stored.{statements_of, kind_of, HasTwo}
+use Rattle.frame.proofs.ExtendLemmas.{is-pushed}
+use Rattle.frame.proofs.StoredLemmas.{kept-pushed, pushed-statements, legal-bare, legal-fresh}
+use Rattle.frame.proofs.extend.extend_drafted.Goals as goal
+
+pub enter-requires-clause-fresh : goal.enter-requires-clause-fresh
+enter-requires-clause-fresh c =
+    legal-fresh c.args.stock.now.labels (statements_of c.args.stock.now) c.args.stmt.now c.requires.stored.labels_kept c.requires.legal
+
+pub note_replaced-requires-clause-below : goal.note_replaced-requires-clause-below
+note_replaced-requires-clause-below c =
+    let k = c.args.stock.now in
+    let h = c.in_ok-head.head in
+    let new = c.enter.new.stock in
+    let s = bare c.args.stmt.now in
+    let kind-is : c.kind-kind.result ≡ kind_of s = c.kind-kind.ensures in
+    let ishead = c.in_ok-head.ensures s kind-is in
+    let own = c.in_ok-enter.ensures.entered h ishead in
+    let room = c.in_ok-enter.ensures.room in
+    subst (λ xs. AreBelow (length xs) c.deref-2.result.now) (sym c.deref.ensures.value)
+    (subst (λ n. AreBelow n c.deref-2.result.now) (sym room.count) (subst (AreBelow (length new.names)) (sym c.deref-2.ensures.value) own.symbols))
+
+pub note_replaced-requires-clause-two : goal.note_replaced-requires-clause-two
+note_replaced-requires-clause-two c =
+    let k = c.args.stock.now in
+    let h = c.in_ok-head.head in
+    let new = c.enter.new.stock in
+    let s = bare c.args.stmt.now in
+    let kind-is : c.kind-kind.result ≡ kind_of s = c.kind-kind.ensures in
+    let ishead = c.in_ok-head.ensures s kind-is in
+    let own = c.in_ok-enter.ensures.entered h ishead in
+    let room = c.in_ok-enter.ensures.room in
+    subst (λ q. HasTwo q c.deref-2.result.now) (ishead.kind ∙ sym kind-is) (subst (HasTwo h.kind) (sym c.deref-2.ensures.value) own.two)
+
+pub declare-requires : goal.declare-requires
+declare-requires c =
+    let k = c.args.stock.now in
+    let h = c.in_ok-head.head in
+    let new = c.enter.new.stock in
+    let s = bare c.args.stmt.now in
+    let kind-is : c.kind-kind.result ≡ kind_of s = c.kind-kind.ensures in
+    let ishead = c.in_ok-head.ensures s kind-is in
+    let own = c.in_ok-enter.ensures.entered h ishead in
+    let room = c.in_ok-enter.ensures.room in
+    subst (λ n. AreBelow n c.deref-3.result.now) (sym room.count) (subst (AreBelow (length new.names)) (sym c.deref-3.ensures.value) own.symbols)
+
+pub returns-clause-stored : goal.returns-clause-stored
+returns-clause-stored c =
+    let k = c.args.stock.now in
+    let h = c.in_ok-head.head in
+    let new = c.enter.new.stock in
+    let d = c.enter.new.draft in
+    let s = bare c.args.stmt.now in
+    let e = made h d in
+    let is_kind : c.kind-kind.result ≡ kind_of s = c.kind-kind.ensures in
+    let head = c.in_ok-head.ensures s is_kind in
+    let entered = c.in_ok-enter.ensures in
+    let pushed = is-pushed k new s e c.kind-kind.result c.deref-2.result.now c.deref-3.result.now (c.len-at.result + 1) c.deref.result.now c.declare.new.symbols.items c.note_replaced.new.replaced.items c.push.new.self c.links_after-links.result
+    c.requires.stored (entered.entered h head) entered.grown entered.room (legal-bare (statements_of k) c.args.stmt.now c.requires.legal) (is_kind ∙ sym head.kind) c.deref-2.ensures.value c.deref-3.ensures.value (omega (arith, c.len-at.ensures.len)) c.deref.ensures.value
+    c.in_ok-note_replaced.ensures.noted c.declare.ensures.each c.declare.ensures.count c.in_ok-push.ensures.added (c.links_after-links.ensures s (sym is_kind)) in
+    kept-pushed k.names k.labels k.positions.items k.symbols.items k.replaced.items k.entries k.links new.names new.labels new.positions.items new.symbols.items
+    c.declare.new.symbols.items c.note_replaced.new.replaced.items c.push.new.self c.links_after-links.result s e c.requires.stored pushed
+
+pub returns-clause-added : goal.returns-clause-added
+returns-clause-added c =
+    let k = c.args.stock.now in
+    let h = c.in_ok-head.head in
+    let new = c.enter.new.stock in
+    let d = c.enter.new.draft in
+    let s = bare c.args.stmt.now in
+    let e = made h d in
+    let is_kind : c.kind-kind.result ≡ kind_of s = c.kind-kind.ensures in
+    let head = c.in_ok-head.ensures s is_kind in
+    let entered = c.in_ok-enter.ensures in
+    let pushed = is-pushed k new s e c.kind-kind.result c.deref-2.result.now c.deref-3.result.now (c.len-at.result + 1) c.deref.result.now c.declare.new.symbols.items c.note_replaced.new.replaced.items c.push.new.self c.links_after-links.result
+    c.requires.stored (entered.entered h head) entered.grown entered.room (legal-bare (statements_of k) c.args.stmt.now c.requires.legal) (is_kind ∙ sym head.kind) c.deref-2.ensures.value c.deref-3.ensures.value (omega (arith, c.len-at.ensures.len)) c.deref.ensures.value
+    c.in_ok-note_replaced.ensures.noted c.declare.ensures.each c.declare.ensures.count c.in_ok-push.ensures.added (c.links_after-links.ensures s (sym is_kind)) in
+    pushed-statements k.names k.labels k.positions.items k.symbols.items k.replaced.items k.entries k.links new.names new.labels new.positions.items new.symbols.items
+    c.declare.new.symbols.items c.note_replaced.new.replaced.items c.push.new.self c.links_after-links.result s e c.requires.stored pushed
