@@ -33,7 +33,7 @@ pub fn copy_image(symbols: &mut [u32], at: usize, place: Place) -> Option<usize>
     ensures count { length symbols.new ≡ length symbols.old }
 {
     let len = ((place.end - place.start) as usize).saturating_sub(1);
-    if symbols.len() - at < len + LANES {
+    if at + len + LANES > symbols.len() {
         return None;
     }
     copy_run(symbols, place.end as usize - len, len, at);
@@ -48,7 +48,7 @@ pub fn put_symbol(symbols: &mut [u32], at: usize, symbol: u32) -> Option<usize>
     ensures kept { take at symbols.new ≡ take at symbols.old }
     ensures count { length symbols.new ≡ length symbols.old }
 {
-    if symbols.len() - at <= LANES {
+    if at + LANES >= symbols.len() {
         return None;
     }
     symbols[at] = symbol;
