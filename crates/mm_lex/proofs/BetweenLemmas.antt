@@ -13,7 +13,8 @@ use Rattle.mm_lex.specs.Comments.{runs_behind, IsClosedAt}
 use Rattle.mm_lex.specs.Stretch.{stretch}
 use Rattle.mm_lex.specs.declared.symbol_list.Step.{Step}
 use Rattle.mm_lex.specs.declared.symbol_list.Step.TheVariants.{On, End, Stop}
-use Rattle.mm_lex.specs.Between.{StandBefore, HasBetween, HasSymbols, GoesOn, IsStep}
+use Rattle.mm_lex.specs.Between.{StandBefore, HasBetween}
+use Rattle.mm_lex.specs.SymbolList.{HasSymbols, GoesOn, IsStep}
 use Rattle.mm_lex.proofs.CuttingMeans.{and_both, with_plain, with_comment, cuts_as, no_runs}
 use Rattle.mm_lex.proofs.WordsLemmas.{and_left, and_right}
 use Rattle.mm_lex.proofs.LanesLemmas.{clean-drop}

@@ -1,5 +1,6 @@
 //! What no clause says: with ample memory each call succeeds.
-use crate::{LexFault, Span, Word, Words, tokens};
+use crate::{LexFault, Span, Word, Words, are_allowed, symbols, tokens};
+use std::alloc::Global;
 use std::test::Fail;
 
 #[test]
@@ -52,4 +53,25 @@ fn long_words_come_back(rt: HostRuntime) -> Result<(), Fail> {
         b"a-label-longer-than-the-inline-bytes".as_slice()
     );
     Ok(())
+}
+
+#[test]
+fn symbols_are_copied_in_pieces(rt: HostRuntime) {
+    let alloc = rt.alloc();
+    let text = b" |- ( a\n\t b \"c ! )  $( x $) d $= $. e";
+    assert!(rt; has_list(alloc, text, b"|- ( a b \"c ! ) d", 32));
+    assert!(rt; has_list(alloc, b"$=", b"", 2));
+    assert!(rt; !has_list(alloc, b"a b$= $=", b"a b$=", 8));
+    assert!(rt; !has_list(alloc, b"a $. $=", b"a", 7));
+}
+
+/// Whether these are the symbols up to the first `$=`, and the place behind it.
+fn has_list(alloc: Global, text: &[u8], want: &[u8], end: usize) -> bool {
+    if !are_allowed(text) {
+        return false;
+    }
+    match symbols(alloc, text, 0, b"$=") {
+        Some((words, next)) => words.as_text() == want && next == end,
+        None => false,
+    }
 }
