@@ -1,6 +1,6 @@
 //! What no clause says: with ample memory each call succeeds.
 use crate::{LexFault, Span, Word, Words, are_allowed, symbols, tokens};
-use std::alloc::Global;
+use std::alloc::{AllocError, Global};
 use std::test::Fail;
 
 #[test]
@@ -56,22 +56,21 @@ fn long_words_come_back(rt: HostRuntime) -> Result<(), Fail> {
 }
 
 #[test]
-fn symbols_are_copied_in_pieces(rt: HostRuntime) {
+fn symbols_are_copied_in_pieces(rt: HostRuntime) -> Result<(), AllocError> {
     let alloc = rt.alloc();
-    let text = b" |- ( a\n\t b \"c ! )  $( x $) d $= $. e";
-    assert!(rt; has_list(alloc, text, b"|- ( a b \"c ! ) d", 32));
-    assert!(rt; has_list(alloc, b"$=", b"", 2));
-    assert!(rt; !has_list(alloc, b"a b$= $=", b"a b$=", 8));
-    assert!(rt; !has_list(alloc, b"a $. $=", b"a", 7));
+    let (words, next) = list(alloc, b" |- ( a\n\t b \"c ! )  $( x $) d $= $. e")?;
+    assert!(rt; words.as_text() == b"|- ( a b \"c ! ) d".as_slice());
+    assert!(rt; next == 32);
+    assert!(rt; list(alloc, b"$=")?.1 == 2);
+    assert!(rt; list(alloc, b"a b$= $=").is_err());
+    assert!(rt; list(alloc, b"a $. $=").is_err());
+    Ok(())
 }
 
-/// Whether these are the symbols up to the first `$=`, and the place behind it.
-fn has_list(alloc: Global, text: &[u8], want: &[u8], end: usize) -> bool {
+/// The symbols up to the first `$=`, and the place behind it.
+fn list(alloc: Global, text: &[u8]) -> Result<(Words, usize), AllocError> {
     if !are_allowed(text) {
-        return false;
+        return Err(AllocError);
     }
-    match symbols(alloc, text, 0, b"$=") {
-        Some((words, next)) => words.as_text() == want && next == end,
-        None => false,
-    }
+    symbols(alloc, text, 0, b"$=").ok_or(AllocError)
 }

@@ -20,7 +20,8 @@ fn reads_and_spells(rt: HostRuntime) -> Result<(), ReadFault> {
 
 #[test]
 fn reads_across_lines_and_comments(rt: HostRuntime) -> Result<(), ReadFault> {
-    let text = b"$c wff\t|-  ( $( a $) -> ) $.\r\n$v p\n q $.\nwp $f wff $( b $) p $. ${ wq\n$f wff q $.\n \
+    let text =
+        b"$c wff\t|-  ( $( a $) -> ) $.\r\n$v p\n q $.\nwp $f wff $( b $) p $. ${ wq\n$f wff q $.\n \
         m $e |- p $. $d p  q $. t $p |-\n ( p  -> q ) $= ( $( c $) a )\n ABC\n DE $. $} $( d $)";
     let want = b"$c wff |- ( -> ) $.\n$v p q $.\nwp $f wff p $.\n${\nwq $f wff q $.\n\
         m $e |- p $.\n$d p q $.\nt $p |- ( p -> q ) $= ( a ) ABC DE $.\n$}\n";

@@ -1,4 +1,4 @@
-use Rattle.std.proofs.Common.{◌∙◌, ap, arith, length, drop, ◌<◌, ◌-◌}
+use Rattle.std.proofs.Common.{◌∙◌, ap, length, drop, ◌-◌}
 use Rattle.std.specs.List.{position_or_len}
 use Rattle.mm_lex.proofs.RunsLemmas.{is_shown, pass_white, shown_behind}
 use Rattle.mm_lex.proofs.WordsLemmas.{take-rest}
