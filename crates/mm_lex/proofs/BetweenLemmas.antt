@@ -1,5 +1,5 @@
 -- From place to place in a text: what stands between two places, and between a third one.
-use Rattle.std.specs.Prelude.{Result, Ok, Err, is_ok, OnOk, ◌≡◌, ℕ, ◌+◌, ◌-◌, ◌<◌, ◌≤◌, Bool, true, false, List, [], ◌∷◌, ◌++◌, length, take, drop, refl}
+use Rattle.std.specs.Prelude.{Result, Ok, Err, is_ok, OnOk, ◌≡◌, ℕ, ◌+◌, ◌-◌, ◌<◌, ◌≤◌, true, false, List, [], ◌∷◌, ◌++◌, length, take, drop, refl}
 use Rattle.std.specs.List.{list_all}
 use Rattle.std.proofs.Common.{sym, ◌∙◌, ap, arith, subst, append_assoc}
 use Rattle.std.proofs.lemmas.List.{append-nil, map-append}
@@ -7,13 +7,14 @@ use Rattle.std.proofs.lemmas.List.Folds.{list_all-append}
 use Rattle.std.proofs.Math.Seq.{drop-length}
 use Rattle.mm_lex.specs.declared.span.Span.{Span}
 use Rattle.mm_lex.specs.Alphabet.{Name, starts_white, word, is_symbol, runs_from, IsRunAt}
-use Rattle.mm_lex.specs.Words.{words_of, is_word, AreWords}
+use Rattle.mm_lex.specs.Words.{words_of, AreWords}
 use Rattle.mm_lex.specs.Tokens.{opener, is_plain, AllPlain, IsClean, Cuts, words, AreTokens}
 use Rattle.mm_lex.specs.Comments.{runs_behind, IsClosedAt}
 use Rattle.mm_lex.specs.Stretch.{stretch}
 use Rattle.mm_lex.specs.declared.symbol_list.Step.{Step}
 use Rattle.mm_lex.specs.declared.symbol_list.Step.TheVariants.{On, End, Stop}
-use Rattle.mm_lex.specs.Between.{StandBefore, HasBetween, HasSymbols, GoesOn, IsStep}
+use Rattle.mm_lex.specs.Between.{HasBetween}
+use Rattle.mm_lex.specs.SymbolList.{HasSymbols, GoesOn, IsStep}
 use Rattle.mm_lex.proofs.CuttingMeans.{and_both, with_plain, with_comment, cuts_as, no_runs}
 use Rattle.mm_lex.proofs.WordsLemmas.{and_left, and_right}
 use Rattle.mm_lex.proofs.LanesLemmas.{clean-drop}

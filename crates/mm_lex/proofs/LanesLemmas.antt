@@ -1,12 +1,12 @@
 -- The first white byte, found among the bytes up to the space, many bytes at a time.
-use Rattle.std.specs.Prelude.{◌≡◌, ℕ, ◌+◌, ◌<◌, ◌≤◌, Bool, true, false, not, cond, nat_le, List, [], ◌∷◌, length, take, drop, map, refl}
+use Rattle.std.specs.Prelude.{◌≡◌, ℕ, ◌+◌, ◌<◌, ◌≤◌, Bool, true, false, not, cond, nat_le, nat_lt, List, [], ◌∷◌, length, take, drop, map, refl}
 use Rattle.std.specs.List.{list_all, position_or_len, prefix_len}
-use Rattle.std.proofs.Common.{sym, ◌∙◌, ap, arith, leb, eqb, replicate, w8, ◌%◌, ◌^◌}
+use Rattle.std.proofs.Common.{sym, ◌∙◌, ap, arith, leb, ltb, eqb, replicate, w8, ◌%◌, ◌^◌}
 use Rattle.std.proofs.lemmas.Bool.{eqb-true, eqb-false}
 use Rattle.std.specs.Simd.Lanes.{zip2, mask_l, top}
 use Rattle.std.specs.Int.Count.{count_trailing_zeros}
-use Rattle.std.proofs.lemmas.Simd.{bitmask_splat, trailing_mask_l}
-use Rattle.std.proofs.lemmas.List.{take-append-drop, length-drop, length-take-le, drop-drop}
+use Rattle.std.proofs.lemmas.Simd.{bitmask_splat, tops_compared, zip2_splat_left, mask_l-mod, trailing_mask_l, leading_from_mask_l}
+use Rattle.std.proofs.lemmas.List.{length-map, take-append-drop, length-drop, length-take-le, drop-drop}
 use Rattle.std.proofs.lemmas.List.Folds.{prefix_len-append, list_all-append}
 use Rattle.mm_lex.specs.Alphabet.{is_white, is_allowed}
 use Rattle.mm_lex.specs.Tokens.{IsClean}
@@ -41,6 +41,24 @@ low_is_white (b ∷ text) clean =
     ap (λ t. cond (not t) (1 + position_or_len is_low text) 0) (is_low-white b (and_left (is_allowed b) _ clean))
     ∙ ap (λ n. cond (not (is_white b)) (1 + n) 0) (low_is_white text (and_right (is_allowed b) _ clean))
 
+abbrev pub is_high : ℕ → Bool
+is_high b = nat_lt 32 b
+
+is_high-shown : (b : ℕ) → is_allowed b ≡ true → is_high b ≡ not (is_white b)
+is_high-shown b h = by (is_high b) (is_white b) refl refl
+  where
+    by : (s t : Bool) → is_high b ≡ s → is_white b ≡ t → s ≡ not t
+    by true false e k = refl
+    by true true e k = absurd (grind (arith, h, e, k))
+    by false true e k = refl
+    by false false e k = absurd (grind (arith, h, e, k))
+
+pub high_is_shown : (text : List ℕ) → IsClean text → position_or_len is_high text ≡ position_or_len (λ b. not (is_white b)) text
+high_is_shown [] clean = refl
+high_is_shown (b ∷ text) clean =
+    ap (λ t. cond (not t) (1 + position_or_len is_high text) 0) (is_high-shown b (and_left (is_allowed b) _ clean))
+    ∙ ap (λ n. cond (not (not (is_white b))) (1 + n) 0) (high_is_shown text (and_right (is_allowed b) _ clean))
+
 -- ---- a mask
 
 -- the mask of the bytes up to the space, and its lowest bit
@@ -54,6 +72,31 @@ module _ (xs : List ℕ) (long : length xs ≡ 16) (m : ℕ) (of_low : m ≡ mas
 
   pub lowest_low : count_trailing_zeros 64 m ≡ position_or_len is_low xs
   lowest_low = ap (count_trailing_zeros 64) of_low ∙ trailing_mask_l is_low 64 xs (omega (arith, long)) is_some
+
+-- the mask of the bytes above the space, and its lowest bit
+pub mask_of_high : (xs : List ℕ) → length xs ≡ 16
+    → mask_l (map (top 7) (zip2 (λ a b. cond (ltb a b) 255 0) (replicate 16 32) xs)) % 2 ^ 64 ≡ mask_l (map is_high xs)
+mask_of_high xs long =
+    ap (λ ms. mask_l ms % 2 ^ 64) (tops_compared w8 ltb (replicate 16 32) xs ∙ zip2_splat_left ltb 32 16 xs long)
+    ∙ mask_l-mod (map is_high xs) 64 (omega (arith, length-map xs is_high, long))
+
+module _ (xs : List ℕ) (long : length xs ≡ 16) (m : ℕ) (of_high : m ≡ mask_l (map is_high xs)) where
+  pub lowest_high : (m ≡ 0 → ⊥) → count_trailing_zeros 64 m ≡ position_or_len is_high xs
+  lowest_high some = ap (count_trailing_zeros 64) of_high ∙ trailing_mask_l is_high 64 xs (omega (arith, long)) (omega (arith, some, of_high))
+
+  pub none_high : m ≡ 0 → 16 ≡ position_or_len is_high xs
+  none_high none = sym (leading_from_mask_l is_high xs (sym of_high ∙ none) ∙ long)
+
+-- what passes among the first bytes passes in the text
+pub first_among : (p : ℕ → Bool) (n : ℕ) (text : List ℕ) → position_or_len p (take n text) < length (take n text) → position_or_len p text ≡ position_or_len p (take n text)
+first_among p n text few =
+    ap (position_or_len p) (sym (take-append-drop n text))
+    ∙ (prefix_len-append (λ b. not (p b)) (take n text) (drop n text) ∙ by (eqb (position_or_len p (take n text)) (length (take n text))) refl)
+  where
+    by : (t : Bool) → eqb (position_or_len p (take n text)) (length (take n text)) ≡ t
+        → cond t (length (take n text) + position_or_len p (drop n text)) (position_or_len p (take n text)) ≡ position_or_len p (take n text)
+    by true e = absurd (omega (arith, eqb-true _ _ e, few))
+    by false e = refl
 
 -- ---- the bytes behind those seen
 

@@ -5,6 +5,7 @@ use Rattle.mm_lex.specs.Alphabet.{is_label, is_symbol}
 use Rattle.mm_lex.specs.Words.{spaced, words_of}
 use Rattle.mm_lex.specs.Tokens.{AreTokens}
 use Rattle.mm_lex.specs.Faults.{IsFirstBadByte, IsCommentFault}
+use Rattle.mm_lex.specs.Stretch.{stretch}
 
 -- `$. $( hi $) p`: a comment goes
 comment_goes : AreTokens (codes "$. $( hi $) p") (record { start = 0; end = 2 } ∷ record { start = 12; end = 13 } ∷ [])
@@ -113,3 +114,16 @@ words_in_a_buffer = (refl, refl)
 
 words_with_a_space : spaced (codes "wff" ∷ codes "P" ∷ []) ≡ codes "wff P"
 words_with_a_space = refl
+
+-- symbols with one space between two, up to a keyword, to two spaces, to a `$` in a token, and to the end
+up_to_keyword : stretch (codes "ab c $.") ≡ 4
+up_to_keyword = refl
+
+up_to_spaces : stretch (codes "a  b") ≡ 1
+up_to_spaces = refl
+
+up_to_dollar : stretch (codes "a b$c") ≡ 3
+up_to_dollar = refl
+
+up_to_end : stretch (codes "a b") ≡ 3
+up_to_end = refl

@@ -1,12 +1,12 @@
 -- Symbols with one space between two: the bytes of a stretch, the words of its runs, and the words of its bytes as they stand.
-use Rattle.std.specs.Prelude.{◌≡◌, ℕ, ◌+◌, ◌-◌, ◌<◌, ◌≤◌, zero, suc, Bool, true, false, not, cond, ◌&&◌, ◌||◌, nat_lt, nat_le, ◌==◌, List, [], ◌∷◌, ◌++◌, length, take, drop, map, refl}
+use Rattle.std.specs.Prelude.{◌≡◌, ℕ, ◌+◌, ◌-◌, ◌<◌, ◌≤◌, zero, suc, Bool, true, false, not, cond, ◌&&◌, ◌||◌, ◌==◌, List, [], ◌∷◌, ◌++◌, length, take, drop, refl}
 use Rattle.std.specs.List.{list_all, slice_split, onto_first}
-use Rattle.std.proofs.Common.{sym, ◌∙◌, ap, arith, true≢false, append_assoc}
+use Rattle.std.proofs.Common.{sym, ◌∙◌, ap, arith}
 use Rattle.std.proofs.lemmas.List.{take-append-drop, drop-drop, length-take-le, length-drop}
 use Rattle.mm_lex.specs.declared.span.Span.{Span}
 use Rattle.mm_lex.specs.Alphabet.{Name, is_white, is_visible, is_allowed, starts_white, with_byte, runs_from, word, is_symbol, has_byte, is_empty}
 use Rattle.mm_lex.specs.Words.{words_of, is_word}
-use Rattle.mm_lex.specs.Tokens.{is_plain, AllPlain, IsClean, Cuts, words}
+use Rattle.mm_lex.specs.Tokens.{is_plain, AllPlain, IsClean, words}
 use Rattle.mm_lex.specs.Stretch.{stretch, ends_here, ends_between}
 use Rattle.mm_lex.proofs.WordsLemmas.{and_left, and_right, first_part}
 use Rattle.mm_lex.proofs.CuttingMeans.{and_both}

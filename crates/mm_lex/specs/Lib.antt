@@ -5,4 +5,5 @@ pub mod Faults
 pub mod Comments
 pub mod Between
 pub mod Stretch
+pub mod SymbolList
 pub mod Laws

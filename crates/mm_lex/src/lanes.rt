@@ -1,5 +1,5 @@
-//! Where the visible bytes end that a text begins with, found many bytes at a time.
-ghost use Rattle.std.specs.Prelude.{◌≡◌, ◌+◌, ◌-◌, ◌≤◌, length, take, drop, nat_le};
+//! Where the visible or the white bytes end that a text begins with, found many bytes at a time.
+ghost use Rattle.std.specs.Prelude.{◌≡◌, ◌+◌, ◌-◌, ◌≤◌, not, length, take, drop, nat_le, nat_lt};
 ghost use Rattle.std.specs.List.{position, position_or_len};
 ghost use Rattle.mm_lex.specs.Alphabet.{is_white};
 ghost use Rattle.mm_lex.specs.Tokens.{IsClean};
@@ -39,6 +39,42 @@ fn count_in_lanes(text: &[u8]) -> usize
     } else {
         mask.trailing_zeros() as usize
     }
+}
+
+/// How many bytes a text without a bad byte begins with that are white.
+pub(crate) fn count_white(text: &[u8]) -> usize
+    requires { IsClean text.now }
+    ensures count { result ≡ position_or_len (λ b. not (is_white b)) text.now }
+    ensures within { result ≤ length text.now }
+{
+    if text.len() >= LANES {
+        let count = count_low_in_lanes(text);
+        if count < LANES {
+            return count;
+        }
+    }
+    first_visible(text).unwrap_or(text.len())
+}
+
+/// How many of the first bytes come before one above the space.
+fn count_low_in_lanes(text: &[u8]) -> usize
+    requires room { 16 ≤ length text.now }
+    ensures count { result ≡ position_or_len (λ b. nat_lt 32 b) (take 16 text.now) }
+    ensures within { result ≤ 16 }
+{
+    let bytes = u8x16::from_slice(text);
+    let mask = bytes.simd_gt(u8x16::splat(b' ')).to_bitmask();
+    if mask == 0 {
+        LANES
+    } else {
+        mask.trailing_zeros() as usize
+    }
+}
+
+fn first_visible(text: &[u8]) -> Option<usize>
+    ensures { result ≡ position (λ b. not (is_white b)) text.now }
+{
+    text.iter().position(|b| !b.is_ascii_whitespace())
 }
 
 fn count_one_by_one(text: &[u8]) -> usize

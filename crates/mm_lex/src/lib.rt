@@ -1,8 +1,9 @@
 //! The lowest layer: the tokens of a Metamath text, and lists of words.
 //!
-//! `tokens` gives the places of a text's tokens, its comments taken out. `Word` and `Words` keep
-//! words compactly. Reading order: `span`, `fault`, `lanes`, `run`, `comment`, `scan`; `word`, `words`,
-//! `reading`; `laws`.
+//! `tokens` gives the places of a text's tokens, its comments taken out. `next_token` and `symbols` go
+//! from place to place without a list of them. `Word` and `Words` keep words compactly. Reading order:
+//! `span`, `fault`, `lanes`, `run`, `comment`, `scan`; `word`, `words`, `reading`; `walk`, `stretch`,
+//! `symbol_list`; `laws`.
 #![tactic(auto)]
 
 mod comment;
@@ -27,6 +28,6 @@ pub use reading::WordIter;
 pub use scan::{are_allowed, tokens};
 pub use span::Span;
 pub use symbol_list::symbols;
-pub use walk::{next_token, skip};
+pub use walk::{next_token, token_start};
 pub use word::Word;
 pub use words::Words;

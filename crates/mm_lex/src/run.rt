@@ -4,7 +4,7 @@ ghost use Rattle.std.specs.List.{position, position_or_len};
 ghost use Rattle.mm_lex.specs.Alphabet.{is_white, starts_white, runs_from, IsRunAt, name_eq};
 ghost use Rattle.mm_lex.specs.Tokens.{opener, closer, IsClean};
 
-use crate::lanes::count_visible;
+use crate::lanes::{count_visible, count_white};
 use crate::span::Span;
 
 /// The first run that begins at `at` or behind it.
@@ -31,27 +31,14 @@ pub(crate) fn next_run(text: &[u8], at: usize) -> Option<Span>
 
 /// Where the first byte stands, at `at` or behind it, that is not white, or the end of the text.
 pub(crate) fn pass_white(text: &[u8], at: usize) -> usize
-    requires { at ≤ length text.now }
+    requires clean { IsClean text.now }
+    requires place { at ≤ length text.now }
     ensures later { at ≤ result }
     ensures within { result ≤ length text.now }
     ensures runs { runs_from at (drop at text.now) ≡ runs_from result (drop result text.now) }
     ensures shown { result < length text.now → IsFalse (starts_white (drop result text.now)) }
 {
     at + count_white(&text[at..])
-}
-
-/// How many white bytes a text begins with.
-fn count_white(text: &[u8]) -> usize
-    ensures count { result ≡ position_or_len (λ b. not (is_white b)) text.now }
-    ensures within { result ≤ length text.now }
-{
-    first_visible(text).unwrap_or(text.len())
-}
-
-fn first_visible(text: &[u8]) -> Option<usize>
-    ensures { result ≡ position (λ b. not (is_white b)) text.now }
-{
-    text.iter().position(|b| !b.is_ascii_whitespace())
 }
 
 /// Whether the word begins a comment.

@@ -4,7 +4,8 @@ ghost use Rattle.std.specs.List.{list_all};
 ghost use Rattle.mm_lex.specs.Alphabet.{Name, starts_white, is_symbol};
 ghost use Rattle.mm_lex.specs.Stretch.{stretch};
 ghost use Rattle.mm_lex.specs.Tokens.{IsClean, is_plain};
-ghost use Rattle.mm_lex.specs.Between.{HasBetween, GoesOn, IsStep};
+ghost use Rattle.mm_lex.specs.Between.{HasBetween};
+ghost use Rattle.mm_lex.specs.SymbolList.{GoesOn, IsStep};
 
 use crate::comment::{CommentEnd, comment_end};
 use crate::run::{is_opener, next_run, pass_white};

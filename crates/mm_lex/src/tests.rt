@@ -1,5 +1,6 @@
 //! What no clause says: with ample memory each call succeeds.
-use crate::{LexFault, Span, Word, Words, tokens};
+use crate::{LexFault, Span, Word, Words, are_allowed, symbols, tokens};
+use std::alloc::{AllocError, Global};
 use std::test::Fail;
 
 #[test]
@@ -52,4 +53,24 @@ fn long_words_come_back(rt: HostRuntime) -> Result<(), Fail> {
         b"a-label-longer-than-the-inline-bytes".as_slice()
     );
     Ok(())
+}
+
+#[test]
+fn symbols_are_copied_in_pieces(rt: HostRuntime) -> Result<(), AllocError> {
+    let alloc = rt.alloc();
+    let (words, next) = list(alloc, b" |- ( a\n\t b \"c ! )  $( x $) d $= $. e")?;
+    assert!(rt; words.as_text() == b"|- ( a b \"c ! ) d".as_slice());
+    assert!(rt; next == 32);
+    assert!(rt; list(alloc, b"$=")?.1 == 2);
+    assert!(rt; list(alloc, b"a b$= $=").is_err());
+    assert!(rt; list(alloc, b"a $. $=").is_err());
+    Ok(())
+}
+
+/// The symbols up to the first `$=`, and the place behind it.
+fn list(alloc: Global, text: &[u8]) -> Result<(Words, usize), AllocError> {
+    if !are_allowed(text) {
+        return Err(AllocError);
+    }
+    symbols(alloc, text, 0, b"$=").ok_or(AllocError)
 }

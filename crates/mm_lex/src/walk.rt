@@ -11,7 +11,7 @@ use crate::span::Span;
 /// Where the next token begins that stands at `at` or behind it, or the end of the text.
 ///
 /// Nothing where a comment behind `at` is never closed or has another in it.
-pub fn skip(text: &[u8], at: usize) -> Option<usize>
+pub fn token_start(text: &[u8], at: usize) -> Option<usize>
     requires clean { IsClean text.now }
     requires place { at ≤ length text.now }
     ensures { IfSome result (λ end. HasBetween text.now at end []) }

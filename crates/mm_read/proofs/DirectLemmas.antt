@@ -1,20 +1,20 @@
 -- Statement by statement from place to place: what stands between two places writes a statement, and the statements so far.
-use Rattle.std.specs.Prelude.{◌≡◌, ℕ, ◌+◌, ◌<◌, ◌≤◌, true, List, [], ◌∷◌, ◌++◌, length, codes, Option, Some, None, Result, IfSome, MatchResult, refl}
+use Rattle.std.specs.Prelude.{◌≡◌, ℕ, ◌<◌, true, List, [], ◌∷◌, ◌++◌, length, codes, Option, Some, None, IfSome, refl}
 use Rattle.std.specs.List.{list_all}
 use Rattle.std.proofs.Common.{sym, ◌∙◌, ap, arith, subst}
 use Rattle.mm_lex.specs.Alphabet.{Name, is_symbol, is_label}
 use Rattle.mm_lex.specs.Tokens.{IsClean, words}
 use Rattle.mm_lex.specs.Faults.{IsFirstBadByte, IsCommentFault}
 use Rattle.mm_lex.specs.Between.{HasBetween}
-use Rattle.mm_lex.proofs.BetweenLemmas.{between_none, between_on, between_as, all_tokens}
+use Rattle.mm_lex.proofs.BetweenLemmas.{between_on, between_as, all_tokens}
 use Rattle.mm_lex.proofs.CuttingMeans.{and_both}
 use Rattle.mm_lex.proofs.FaultsLemmas.{IsClean-no_fault}
 use Rattle.mm_lex.proofs.TokensLemmas.{AreTokens-unique, AreTokens-no_comment_fault}
 use Rattle.mm_read.specs.declared.stmt.Stmt.{Stmt}
 use Rattle.mm_read.specs.declared.stmt.Stmt.TheVariants.{Float, Ess, Axiom, Prove}
-use Rattle.mm_read.specs.Statements.{Database, are_symbols, is_shaped, AreShaped, stmt_tokens, spelled}
+use Rattle.mm_read.specs.Statements.{Database, are_symbols, is_shaped, stmt_tokens, spelled}
 use Rattle.mm_read.specs.Reads.{Reads, HasShapeFault}
-use Rattle.mm_read.specs.Direct.{IsNext, IsNextAfter, IsOneMore, AreBefore}
+use Rattle.mm_read.specs.Direct.{IsNext, IsOneMore, AreBefore}
 use Rattle.mm_read.proofs.StatementsLemmas.{append_middle}
 use Rattle.mm_read.proofs.OneSpelling.{one_spelling}
 use Rattle.mm_read.proofs.StatementByStatement.{spelled-append, shaped-append}

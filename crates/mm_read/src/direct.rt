@@ -10,7 +10,7 @@ ghost use Rattle.mm_read.specs.Direct.{IsNext, IsNextAfter, IsOneMore};
 
 use crate::keyword::{Keyword, is_label, is_symbol, keyword_of, token};
 use crate::stmt::Stmt;
-use mm_lex::{Word, Words, are_allowed, next_token, skip, symbols};
+use mm_lex::{Word, Words, are_allowed, next_token, symbols, token_start};
 use std::alloc::Global;
 
 /// The statements that the text writes; nothing where it writes none, or a growth was refused.
@@ -21,7 +21,7 @@ pub fn read_directly(alloc: Global, text: &[u8]) -> Option<Vec<Stmt>>
         return None;
     }
     let mut statements = Vec::new(alloc);
-    let mut at = skip(text, 0)?;
+    let mut at = token_start(text, 0)?;
     while at < text.len() {
         match add_next(alloc, &mut statements, text, at) {
             Some(next) => at = next,
@@ -32,18 +32,13 @@ pub fn read_directly(alloc: Global, text: &[u8]) -> Option<Vec<Stmt>>
 }
 
 /// Adds the next statement; answers where the token behind it begins, or the end of the text.
-fn add_next(
-    alloc: Global,
-    statements: &mut Vec<Stmt>,
-    text: &[u8],
-    at: usize,
-) -> Option<usize>
+fn add_next(alloc: Global, statements: &mut Vec<Stmt>, text: &[u8], at: usize) -> Option<usize>
     requires clean { IsClean text.now }
     requires place { at ≤ length text.now }
     ensures { IfSome result (λ next. IsOneMore text.now at next statements.old.items statements.new.items) }
 {
     let (statement, behind) = next_statement(alloc, text, at)?;
-    let next = skip(text, behind)?;
+    let next = token_start(text, behind)?;
     if add(statements, statement) {
         Some(next)
     } else {

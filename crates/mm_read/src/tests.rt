@@ -19,6 +19,19 @@ fn reads_and_spells(rt: HostRuntime) -> Result<(), ReadFault> {
 }
 
 #[test]
+fn reads_across_lines_and_comments(rt: HostRuntime) -> Result<(), ReadFault> {
+    let text =
+        b"$c wff\t|-  ( $( a $) -> ) $.\r\n$v p\n q $.\nwp $f wff $( b $) p $. ${ wq\n$f wff q $.\n \
+        m $e |- p $. $d p  q $. t $p |-\n ( p  -> q ) $= ( $( c $) a )\n ABC\n DE $. $} $( d $)";
+    let want = b"$c wff |- ( -> ) $.\n$v p q $.\nwp $f wff p $.\n${\nwq $f wff q $.\n\
+        m $e |- p $.\n$d p q $.\nt $p |- ( p -> q ) $= ( a ) ABC DE $.\n$}\n";
+    let statements = read(rt.alloc(), text)?;
+    let spelled = spell(rt.alloc(), statements.as_slice())?;
+    assert!(rt; spelled.as_slice() == want.as_slice());
+    Ok(())
+}
+
+#[test]
 fn names_each_fault(rt: HostRuntime) -> Result<(), AllocError> {
     let alloc = rt.alloc();
     assert!(rt; fault_of(alloc, b"$c a")? == Some(ReadFault::Shape { token: 3 }));

@@ -6,6 +6,9 @@ use Rattle.mm_lex.proofs.WordsLemmas.{take-rest}
 use Rattle.mm_lex.proofs.LanesLemmas.{clean-drop, clean-take}
 use Rattle.mm_lex.proofs.run.next_run.Goals as goal
 
+pub count_white-white-requires : goal.count_white-white-requires
+count_white-white-requires c = clean-take (length c.args.text.now - c.args.at) (drop c.args.at c.args.text.now) (clean-drop c.args.at c.args.text.now c.requires.clean)
+
 pub count_visible-visible-requires : goal.count_visible-visible-requires
 count_visible-visible-requires c =
     let text = c.args.text.now in

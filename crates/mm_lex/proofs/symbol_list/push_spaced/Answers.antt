@@ -1,4 +1,4 @@
-use Rattle.std.proofs.Common.{◌∙◌, sym, refl, arith, ◌-◌, ◌≡◌, ◌+◌, ◌<◌, drop}
+use Rattle.std.proofs.Common.{◌∙◌, sym, refl, arith, drop}
 use Rattle.mm_lex.specs.Stretch.{stretch}
 use Rattle.mm_lex.proofs.BetweenLemmas.{stretch_words, stretch_goes, on_ok}
 use Rattle.mm_lex.proofs.symbol_list.push_spaced.Goals as goal

@@ -1,5 +1,5 @@
 use Rattle.std.proofs.Common.{◌-◌, length}
-use Rattle.mm_lex.specs.Between.{HasSymbols}
+use Rattle.mm_lex.specs.SymbolList.{HasSymbols}
 use Rattle.mm_lex.proofs.symbol_list.symbols.Given as goal
 
 abbrev pub invariant-loop-at : goal.invariant-loop-at

@@ -1,6 +1,6 @@
 use Rattle.std.proofs.Common.{[], ◌-◌, length}
 use Rattle.mm_lex.specs.Between.{HasBetween}
-use Rattle.mm_lex.proofs.walk.skip.Given as goal
+use Rattle.mm_lex.proofs.walk.token_start.Given as goal
 
 abbrev pub invariant-loop-run : goal.invariant-loop-run
 invariant-loop-run l = HasBetween l.text l.at l.from []

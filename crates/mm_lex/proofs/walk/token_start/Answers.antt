@@ -1,7 +1,7 @@
 use Rattle.std.proofs.Common.{sym}
 use Rattle.std.proofs.lemmas.Slice.Eq.{bytes_eq-Decides}
 use Rattle.mm_lex.proofs.BetweenLemmas.{between_on, between_runs, between_comment}
-use Rattle.mm_lex.proofs.walk.skip.Goals as goal
+use Rattle.mm_lex.proofs.walk.token_start.Goals as goal
 
 pub loop-run-preserved : goal.loop-run-preserved
 loop-run-preserved c =
