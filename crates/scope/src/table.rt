@@ -59,6 +59,9 @@ pub(crate) fn search(slots: &[Slot], texts: &Texts, sound: u32, name: &[u8]) -> 
     if slot.key == key && slot.number < sound {
         return Some(slot.number as usize);
     }
+    if slot.number == NO_NAME {
+        return None;
+    }
     search_on(slots, texts, sound, name)
 }
 

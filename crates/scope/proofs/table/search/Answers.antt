@@ -1,8 +1,9 @@
-use Rattle.std.proofs.Common.{◌≡◌, ◌∙◌, sym, length, rules}
+use Rattle.std.proofs.Common.{◌≡◌, ◌∙◌, sym, length, rules, arith, inr}
 use Rattle.scope.specs.Numbering.{name_at}
 use Rattle.scope.specs.Table.{place_of, HasKey}
 use Rattle.scope.proofs.KeysLemmas.{key-same}
 use Rattle.scope.proofs.NumberingLemmas.{code-at}
+use Rattle.scope.proofs.TableLemmas.{not-found}
 use Rattle.scope.proofs.table.search.Goals as goal
 
 pub returns-then-slot-sound : goal.returns-then-slot-sound
@@ -12,3 +13,8 @@ returns-then-slot-sound c =
     let same : c.args.name.now ≡ name_at c.args.texts.now slot.number =
     key-same c.args.name.now (name_at c.args.texts.now slot.number) c.key-key.ensures.bytes h.bytes (search rules) (sym c.key-key.ensures.key ∙ (sym c.if-slot-key.true ∙ h.key)) in
     sym (code-at c.args.texts.now c.args.name.now slot.number c.requires.distinct h.within (sym same))
+
+pub returns-then-slot : goal.returns-then-slot
+returns-then-slot c =
+    sym (not-found c.args.slots.now c.args.texts.now c.args.name.now c.key-key.result 0 c.key-key.ensures.key c.requires.table.held c.requires.few (λ i below. absurd (omega (arith, below)))
+    (inr (c.look-slot.result, c.look-slot.ensures, c.if-slot.true)))
