@@ -56,8 +56,7 @@ fn group_apart(pairs: &Pairs<'_>, group: &[u32], symbols: &[u32], places: &[Plac
     true
 }
 
-/// Whether the images at each two places of each group are apart. Few assertions have groups.
-#[inline(never)]
+/// Whether the images at each two places of each group are apart.
 pub fn groups_apart(
     pairs: &Pairs<'_>,
     groups: &Groups<'_>,

@@ -182,9 +182,6 @@ impl Results {
         ensures { result ≡ are_places_apart pairs.now.statements
             (map (decode pairs.now.names) (top count self.now.stack)) groups.now }
     {
-        if groups.len() == 0 {
-            return true;
-        }
         let keep = self.stack.len() - count;
         groups_apart(pairs, groups, self.symbols.as_slice(), &self.stack[keep..])
     }

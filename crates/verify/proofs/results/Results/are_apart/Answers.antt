@@ -12,12 +12,12 @@ pub returns : goal.returns
 returns c =
     c.groups_apart.ensures
     ∙ ap (λ rs. are_places_apart c.args.pairs.now.statements (map (decode c.args.pairs.now.names) rs) c.args.groups.now)
-    (seen_eq c.self.inside.symbols c.as_slice.result.now c.self.inside.stack.items c.deref.result.now c.args.self.now.stack (c.len-2.result - c.args.count) c.args.count
-    c.as_slice.ensures c.deref.ensures.value (ap (λ v. v.stack) c.self.view_is) (omega (arith, c.len-2.ensures)))
+    (seen_eq c.self.inside.symbols c.as_slice.result.now c.self.inside.stack.items c.deref.result.now c.args.self.now.stack (c.len.result - c.args.count) c.args.count
+    c.as_slice.ensures c.deref.ensures.value (ap (λ v. v.stack) c.self.view_is) (omega (arith, c.len.ensures)))
 
 pub groups_apart-requires-clause-named : goal.groups_apart-requires-clause-named
 groups_apart-requires-clause-named c =
     subst (AllBelow (length c.args.pairs.now.names))
-    (sym (seen_eq c.self.inside.symbols c.as_slice.result.now c.self.inside.stack.items c.deref.result.now c.args.self.now.stack (c.len-2.result - c.args.count) c.args.count
-    c.as_slice.ensures c.deref.ensures.value (ap (λ v. v.stack) c.self.view_is) (omega (arith, c.len-2.ensures))))
+    (sym (seen_eq c.self.inside.symbols c.as_slice.result.now c.self.inside.stack.items c.deref.result.now c.args.self.now.stack (c.len.result - c.args.count) c.args.count
+    c.as_slice.ensures c.deref.ensures.value (ap (λ v. v.stack) c.self.view_is) (omega (arith, c.len.ensures))))
     (all-drop (length c.args.pairs.now.names) (length c.args.self.now.stack - c.args.count) c.args.self.now.stack c.requires.named)
