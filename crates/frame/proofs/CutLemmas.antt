@@ -7,12 +7,14 @@ use Rattle.mm_read.specs.declared.stmt.Stmt.{Stmt}
 use Rattle.mm_read.specs.Statements.{Database}
 use Rattle.scope.specs.Active.{before, label_of, stays_open}
 use Rattle.scope.specs.Legal.{IsLegal}
+use Rattle.scope.specs.Symbols.{symbols_of}
 use Rattle.frame.specs.declared.links.Links.{Links}
 use Rattle.frame.specs.Entries.{Assertion}
 use Rattle.frame.specs.Entries.{Entry}
 use Rattle.frame.specs.declared.storage.Symbol.{Symbol}
 use Rattle.frame.specs.Links.{links_of}
 use Rattle.frame.specs.Stored.{stmt_of, labels_of, positions_from, option_list, option_position, AreAllLegal, AreNumbered, AreKept, KeepsCounts, Extends, ReadsAs, replaced_of, symbol_of, is_assertion_kind, IsKeptAs}
+use Rattle.frame.proofs.SymbolsLemmas.{symbols_of-front}
 use Rattle.frame.proofs.AssertionLemmas.{get-entry, kept-more, kept-less}
 use Rattle.frame.proofs.OpenLemmas.{stays_open-front}
 use Rattle.frame.proofs.StoredLemmas.{statements-more, stmt-more, numbered-at, label-at, length-positions}
@@ -135,6 +137,9 @@ module _ (names labels : List Name) (positions : List ℕ) (symbols : List Symbo
   names-count : length names' ≡ e.names
   names-count = ap length p.names_cut ∙ length-take-le e.names names counts.within
 
+  names-are : names' ≡ symbols_of (take n S)
+  names-are = p.names_cut ∙ (ap (take e.names) k.names_kept ∙ (ap (λ m. take m (symbols_of S)) counts.name_count ∙ symbols_of-front n S))
+
   labels-are : labels' ≡ labels_of (take n S)
   labels-are = p.labels_cut ∙ (ap (take e.label) k.labels_kept ∙ (ap (λ m. take m (labels_of S)) counts.label_count ∙ labels-front n S))
 
@@ -174,6 +179,7 @@ module _ (names labels : List Name) (positions : List ℕ) (symbols : List Symbo
         rising = λ j x l g. c.rising j x l (there j x g).1;
         numbered = subst (AreNumbered d.names d.label) (sym (ap (take i) p.entries_cut ∙ take-take i n entries (omega (arith, lt)))) c.numbered;
         label_count = c.label_count ∙ ap (λ T. length (labels_of T)) (sym (front-of i lt));
+        name_count = c.name_count ∙ ap (λ T. length (symbols_of T)) (sym (front-of i lt));
       }
 
   assertions' : (i : ℕ) (d : Entry) → slice_get entries' i ≡ Some d → is_assertion_kind d.kind ≡ true → IsKeptAs entries' (take i (map (stmt_of names' labels') entries')) (stmt_of names' labels' d) d d.assertion
@@ -194,6 +200,7 @@ module _ (names labels : List Name) (positions : List ℕ) (symbols : List Symbo
     linked = λ i d h. let q = there i d h in k.linked i d q.1 ∙ ap links_of (sym (front-of i q.0));
     stays = ap (stays_open 0) cut-statements ∙ stays_open-front 0 (take n S) (drop n S) (ap (stays_open 0) (take-append-drop n S) ∙ k.stays);
     legal = subst AreAllLegal (sym cut-statements) (legal-front n S k.legal);
+    names_kept = names-are ∙ ap symbols_of (sym cut-statements);
     labels_kept = labels-are ∙ ap labels_of (sym cut-statements);
     positions_kept = p.positions_cut ∙ (ap (take e.label) k.positions_kept ∙ (ap (λ m. take m (positions_from 1 S)) counts.label_count ∙ (positions-front n S ∙ ap (positions_from 1) (sym cut-statements))));
     coded = subst (AreNumbered (length names') (length labels')) (sym p.entries_cut) numbered;

@@ -1,32 +1,22 @@
 -- A statement entered with its label stands for itself.
-use Rattle.std.specs.Prelude.{◌≡◌, ℕ, ◌+◌, ◌<◌, List, [], ◌∷◌, ◌++◌, length, Result, Ok, Err, IfOk, OnOk, Option, Some, None, true, refl}
-use Rattle.std.specs.declared.alloc.AllocError.{AllocError}
-use Rattle.std.proofs.Common.{sym, ◌∙◌, ap, subst, arith, length-append, append-nil}
+use Rattle.std.specs.Prelude.{◌≡◌, ℕ, ◌+◌, List, [], ◌∷◌, ◌++◌, length, Result, Ok, Err, OnOk, true, refl}
+use Rattle.std.proofs.Common.{sym, ◌∙◌, ap, subst, arith, length-append}
+use Rattle.std.proofs.lemmas.List.{length-map}
 use Rattle.mm_lex.specs.Alphabet.{Name}
 use Rattle.mm_read.specs.declared.stmt.Stmt.{Stmt}
-use Rattle.mm_read.specs.Statements.{Expr}
-use Rattle.scope.specs.Active.{label_of}
-use Rattle.scope.specs.Numbering.{name_at, decode}
+use Rattle.mm_read.specs.declared.stmt.Stmt.TheVariants as stmt
+use Rattle.scope.specs.Active.{bare, label_of, is_assertion}
+use Rattle.scope.specs.Legal.{IsLegal}
+use Rattle.scope.specs.Numbering.{name_at, decode, with_names}
+use Rattle.scope.specs.Symbols.{symbols_by, symbols_in}
 use Rattle.frame.specs.ByPlaces.{AreBelow}
-use Rattle.frame.specs.declared.kind.Kind.{Kind}
-use Rattle.frame.specs.declared.kind.Kind.TheVariants.{Open, Close, Const, Var, Disj, Float, Ess, Axiom, Prove}
 use Rattle.frame.specs.declared.record.Head.{Head}
 use Rattle.frame.specs.declared.draft.Draft.{Draft}
 use Rattle.frame.specs.Spans.{AreSpansIn}
 use Rattle.frame.specs.Entries.{made, drafted, IsDraft, IsPartless}
 use Rattle.frame.specs.declared.storage.Stock.{Stock}
-use Rattle.frame.specs.Stored.{stmt_by, Entered, Grown, IsEntered, IsHead, kind_of, IsKeptAs, is_assertion_kind, statements_of, IsLabelBelow, HasTwo, option_list, option_position}
-
-label-below : (kind : Kind) (n m : ℕ) → n < m → IsLabelBelow kind n m
-label-below Float n m h = h
-label-below Ess n m h = h
-label-below Axiom n m h = h
-label-below Prove n m h = h
-label-below Open n m h = tt
-label-below Close n m h = tt
-label-below Const n m h = tt
-label-below Var n m h = tt
-label-below Disj n m h = tt
+use Rattle.frame.specs.Stored.{stmt_by, AreNumbersOf, Entered, IsHead, IsKeptOf, IsNext, statements_of, kind_of, is_assertion_kind, IsLabelBelow, HasTwo, option_list, option_position}
+use Rattle.frame.proofs.SymbolsLemmas.{symbols_by-bare}
 
 name_at-last : (names : List Name) (x : Name) → name_at (names ++ x ∷ []) (length names) ≡ x
 name_at-last [] x = refl
@@ -44,98 +34,114 @@ pub ok-same : {T E : Type 0} (r : Result T E) (P : Type 0) → P → OnOk r P
 ok-same (Ok x) P p = p
 ok-same (Err e) P p = tt
 
--- the label behind what was numbered
-pub is-entered : (old mid new : Stock) (label : Name) (words : Expr) (codes : List ℕ) → Grown old mid → mid.labels ≡ old.labels → mid.positions.items ≡ old.positions.items
-    → AreBelow (length mid.names) codes → decode mid.names codes ≡ words → new.names ≡ mid.names
-    → new.labels ≡ mid.labels ++ label ∷ [] → new.positions.items ≡ mid.positions.items ++ (length mid.entries + 1) ∷ [] → IsEntered old new label words codes
-is-entered old mid new label words codes grown same_labels same_positions below stand names labels positions = record {
-  symbols = subst (λ ns. AreBelow (length ns) codes) (sym names) below;
-  stand = ap (λ ns. decode ns codes) names ∙ stand;
-  labels = labels ∙ ap (λ ls. ls ++ label ∷ []) same_labels;
-  positions = positions ∙ (ap (λ ps. ps ++ (length mid.entries + 1) ∷ []) same_positions ∙ ap (λ es. old.positions.items ++ (length es + 1) ∷ []) grown.entries);
-}
+-- ---- a statement by its kind, its label and its symbols
 
-pub entered-labelled : (old new : Stock) (d : Draft) (h : Head) (kind : Kind) (label : Name) (words : Expr) (s : Stmt)
-    → IsEntered old new label words d.symbols.items → HasTwo kind d.symbols.items → stmt_by kind label words ≡ s → label_of s ≡ Some label → kind_of s ≡ kind → IsHead old s h
-    → (is_assertion_kind kind ≡ true → IsKeptAs old.entries (statements_of old) s (made h d) (drafted d))
-    → Entered old new s (made h d)
-entered-labelled old new d h kind label words s f two is has of_kind head kept =
-    let k : h.kind ≡ kind = head.kind ∙ of_kind in
-    let place : name_at new.labels h.label ≡ label = ap (name_at new.labels) head.label ∙ (ap (λ r. name_at r (length old.labels)) f.labels ∙ name_at-last old.labels label) in
-    let more : length new.labels ≡ length old.labels + 1 = ap length f.labels ∙ length-append old.labels (label ∷ []) in
+stands-for : (s : Stmt) (labels : List Name) → stmt_by (kind_of s) (name_at (labels ++ option_list (label_of s) []) (length labels)) (symbols_in s) ≡ bare s
+stands-for stmt.Open labels = refl
+stands-for stmt.Close labels = refl
+stands-for (stmt.Const names) labels = refl
+stands-for (stmt.Var names) labels = refl
+stands-for (stmt.Disj names) labels = refl
+stands-for (stmt.Float label constant variable) labels = ap (λ x. stmt.Float x constant variable) (name_at-last labels label)
+stands-for (stmt.Ess label expr) labels = ap (λ x. stmt.Ess x expr) (name_at-last labels label)
+stands-for (stmt.Axiom label expr) labels = ap (λ x. stmt.Axiom x expr) (name_at-last labels label)
+stands-for (stmt.Prove label expr proof) labels = ap (λ x. stmt.Prove x expr []) (name_at-last labels label)
+
+label-below : (s : Stmt) (labels : List Name) → IsLabelBelow (kind_of s) (length labels) (length (labels ++ option_list (label_of s) []))
+label-below stmt.Open labels = tt
+label-below stmt.Close labels = tt
+label-below (stmt.Const names) labels = tt
+label-below (stmt.Var names) labels = tt
+label-below (stmt.Disj names) labels = tt
+label-below (stmt.Float label constant variable) labels = let n = length-append labels (label ∷ []) in omega (arith, n)
+label-below (stmt.Ess label expr) labels = let n = length-append labels (label ∷ []) in omega (arith, n)
+label-below (stmt.Axiom label expr) labels = let n = length-append labels (label ∷ []) in omega (arith, n)
+label-below (stmt.Prove label expr proof) labels = let n = length-append labels (label ∷ []) in omega (arith, n)
+
+has-two : (s : Stmt) (names : List Name) (codes : List ℕ) → decode names codes ≡ symbols_in s → HasTwo (kind_of s) codes
+has-two (stmt.Float label constant variable) names codes stand = sym (length-map codes (name_at names)) ∙ ap length stand
+has-two stmt.Open names codes stand = tt
+has-two stmt.Close names codes stand = tt
+has-two (stmt.Const xs) names codes stand = tt
+has-two (stmt.Var xs) names codes stand = tt
+has-two (stmt.Disj xs) names codes stand = tt
+has-two (stmt.Ess label expr) names codes stand = tt
+has-two (stmt.Axiom label expr) names codes stand = tt
+has-two (stmt.Prove label expr proof) names codes stand = tt
+
+kind_of-bare : (s : Stmt) → kind_of (bare s) ≡ kind_of s
+kind_of-bare stmt.Open = refl
+kind_of-bare stmt.Close = refl
+kind_of-bare (stmt.Const names) = refl
+kind_of-bare (stmt.Var names) = refl
+kind_of-bare (stmt.Disj names) = refl
+kind_of-bare (stmt.Float label constant variable) = refl
+kind_of-bare (stmt.Ess label expr) = refl
+kind_of-bare (stmt.Axiom label expr) = refl
+kind_of-bare (stmt.Prove label expr proof) = refl
+
+label_of-bare : (s : Stmt) → label_of (bare s) ≡ label_of s
+label_of-bare stmt.Open = refl
+label_of-bare stmt.Close = refl
+label_of-bare (stmt.Const names) = refl
+label_of-bare (stmt.Var names) = refl
+label_of-bare (stmt.Disj names) = refl
+label_of-bare (stmt.Float label constant variable) = refl
+label_of-bare (stmt.Ess label expr) = refl
+label_of-bare (stmt.Axiom label expr) = refl
+label_of-bare (stmt.Prove label expr proof) = refl
+
+assertion-kind : (s : Stmt) → is_assertion_kind (kind_of s) ≡ is_assertion s
+assertion-kind stmt.Open = refl
+assertion-kind stmt.Close = refl
+assertion-kind (stmt.Const names) = refl
+assertion-kind (stmt.Var names) = refl
+assertion-kind (stmt.Disj names) = refl
+assertion-kind (stmt.Float label constant variable) = refl
+assertion-kind (stmt.Ess label expr) = refl
+assertion-kind (stmt.Axiom label expr) = refl
+assertion-kind (stmt.Prove label expr proof) = refl
+
+-- the numbers are those of the expression, where the statement is an assertion
+pub next-bare : (k : Stock) (codes : List ℕ) (s : Stmt) → IsLegal (statements_of k) s → is_assertion s ≡ true → decode k.names codes ≡ symbols_in s → IsNext k codes (bare s)
+next-bare k codes (stmt.Axiom label expr) l a e = record { legal = l; assertion = a; stand = e }
+next-bare k codes (stmt.Prove label expr proof) l a e = record { legal = l; assertion = a; stand = e }
+next-bare k codes stmt.Open l a e = cc
+next-bare k codes stmt.Close l a e = cc
+next-bare k codes (stmt.Const names) l a e = cc
+next-bare k codes (stmt.Var names) l a e = cc
+next-bare k codes (stmt.Disj names) l a e = cc
+next-bare k codes (stmt.Float label constant variable) l a e = cc
+next-bare k codes (stmt.Ess label expr) l a e = cc
+
+-- the numbers of the symbols, then the parts, then the label: what is kept of the draft is the statement
+pub entered-statement : (old mid new : Stock) (d : Draft) (h : Head) (s : Stmt) → IsHead old (bare s) h
+    → mid.names ≡ with_names old.names (symbols_by s) → AreNumbersOf mid.names s d.symbols.items → new.names ≡ mid.names
+    → new.labels ≡ old.labels ++ option_list (label_of s) [] → new.positions.items ≡ old.positions.items ++ option_position (label_of s) (length old.entries + 1) []
+    → (is_assertion s ≡ true → IsKeptOf old d.symbols.items (bare s) (drafted d))
+    → Entered old new (bare s) (made h d)
+entered-statement old mid new d h s head made_names numbers same_names labels positions kept =
+    let kind : h.kind ≡ kind_of s = head.kind ∙ kind_of-bare s in
+    let same_label = label_of-bare s in
+    let stand : decode new.names d.symbols.items ≡ symbols_in s = ap (λ ns. decode ns d.symbols.items) same_names ∙ numbers.stand in
     record {
-      stands = ap (λ q. stmt_by q (name_at new.labels h.label) (decode new.names d.symbols.items)) k
-          ∙ (ap (λ x. stmt_by kind x (decode new.names d.symbols.items)) place ∙ (ap (stmt_by kind label) f.stand ∙ is));
-      symbols = f.symbols;
-      label = subst (λ q. IsLabelBelow q h.label (length new.labels)) (sym k) (label-below kind h.label (length new.labels) (omega (arith, head.label, more)));
-      two = subst (λ q. HasTwo q d.symbols.items) (sym k) two;
+      stands = ap (λ q. stmt_by q (name_at new.labels h.label) (decode new.names d.symbols.items)) kind
+          ∙ (ap (λ n. stmt_by (kind_of s) (name_at new.labels n) (decode new.names d.symbols.items)) head.label
+          ∙ (ap (λ ls. stmt_by (kind_of s) (name_at ls (length old.labels)) (decode new.names d.symbols.items)) labels
+          ∙ (ap (stmt_by (kind_of s) (name_at (old.labels ++ option_list (label_of s) []) (length old.labels))) stand ∙ stands-for s old.labels)));
+      symbols = subst (λ ns. AreBelow (length ns) d.symbols.items) (sym same_names) numbers.below;
+      label = subst (λ q. IsLabelBelow q h.label (length new.labels)) (sym kind)
+          (subst (λ n. IsLabelBelow (kind_of s) n (length new.labels)) (sym head.label)
+          (subst (λ ls. IsLabelBelow (kind_of s) (length old.labels) (length ls)) (sym labels) (label-below s old.labels)));
       names_before = head.names;
       labels_before = head.label;
-      labels = f.labels ∙ sym (ap (λ o. old.labels ++ option_list o []) has);
-      positions = f.positions ∙ sym (ap (λ o. old.positions.items ++ option_position o (length old.entries + 1) []) has);
+      two = subst (λ q. HasTwo q d.symbols.items) (sym kind) (has-two s new.names d.symbols.items stand);
+      names = same_names ∙ (made_names ∙ ap (with_names old.names) (sym (symbols_by-bare s)));
+      labels = labels ∙ ap (λ o. old.labels ++ option_list o []) (sym same_label);
+      positions = positions ∙ ap (λ o. old.positions.items ++ option_position o (length old.entries + 1) []) (sym same_label);
       links = head.links;
-      kept = λ a. kept (sym (ap is_assertion_kind k) ∙ a);
+      kept = λ a. kept (sym (ap is_assertion_kind kind ∙ assertion-kind s) ∙ a) (made h d) refl;
     }
-
--- a statement without a label
-abbrev pub HasNoLabel : Kind → Type 0
-HasNoLabel Float = ⊥
-HasNoLabel Ess = ⊥
-HasNoLabel Axiom = ⊥
-HasNoLabel Prove = ⊥
-HasNoLabel kind = Unit {0}
-
-pub entered-plain : (old new : Stock) (d : Draft) (h : Head) (kind : Kind) (words : Expr) (s : Stmt) → HasNoLabel kind
-    → AreBelow (length new.names) d.symbols.items → decode new.names d.symbols.items ≡ words → new.labels ≡ old.labels → new.positions.items ≡ old.positions.items
-    → ((label : Name) → stmt_by kind label words ≡ s) → label_of s ≡ None → kind_of s ≡ kind → IsHead old s h → Entered old new s (made h d)
-entered-plain old new d h kind words s plain below stand labels positions is has of_kind head =
-    let k : h.kind ≡ kind = head.kind ∙ of_kind in
-    record {
-      stands = ap (λ q. stmt_by q (name_at new.labels h.label) (decode new.names d.symbols.items)) k
-          ∙ (ap (stmt_by kind (name_at new.labels h.label)) stand ∙ is (name_at new.labels h.label));
-      symbols = below;
-      label = subst (λ q. IsLabelBelow q h.label (length new.labels)) (sym k) (no-label kind plain);
-      two = subst (λ q. HasTwo q d.symbols.items) (sym k) (no-two kind plain);
-      names_before = head.names;
-      labels_before = head.label;
-      labels = labels ∙ (sym (append-nil old.labels) ∙ sym (ap (λ o. old.labels ++ option_list o []) has));
-      positions = positions ∙ (sym (append-nil old.positions.items) ∙ sym (ap (λ o. old.positions.items ++ option_position o (length old.entries + 1) []) has));
-      links = head.links;
-      kept = λ a. absurd (no-assertion kind plain (sym (ap is_assertion_kind k) ∙ a));
-    }
-  where
-    no-label : (q : Kind) → HasNoLabel q → IsLabelBelow q h.label (length new.labels)
-    no-label Open p = tt
-    no-label Close p = tt
-    no-label Const p = tt
-    no-label Var p = tt
-    no-label Disj p = tt
-    no-label Float p = absurd p
-    no-label Ess p = absurd p
-    no-label Axiom p = absurd p
-    no-label Prove p = absurd p
-
-    no-two : (q : Kind) → HasNoLabel q → HasTwo q d.symbols.items
-    no-two Open p = tt
-    no-two Close p = tt
-    no-two Const p = tt
-    no-two Var p = tt
-    no-two Disj p = tt
-    no-two Float p = absurd p
-    no-two Ess p = tt
-    no-two Axiom p = tt
-    no-two Prove p = tt
-
-    no-assertion : (q : Kind) → HasNoLabel q → is_assertion_kind q ≡ true → ⊥
-    no-assertion Axiom p a = p
-    no-assertion Prove p a = p
-    no-assertion Open p a = cc
-    no-assertion Close p a = cc
-    no-assertion Const p a = cc
-    no-assertion Var p a = cc
-    no-assertion Disj p a = cc
-    no-assertion Float p a = p
-    no-assertion Ess p a = p
 
 pub partless-draft : (d : Draft) → IsPartless d → IsDraft d
 partless-draft d p = record {

@@ -7,6 +7,7 @@ pub mod LinksLemmas
 pub mod AfterLemmas
 pub mod DeclareLemmas
 pub mod UndoLemmas
+pub mod SymbolsLemmas
 pub mod EnterLemmas
 pub mod StoredLemmas
 pub mod CutLemmas

@@ -1,12 +1,12 @@
 -- Positions in ascending order, and the symbols whose `$f` was looked for.
-use Rattle.std.specs.Prelude.{◌≡◌, ℕ, zero, suc, ◌+◌, ◌<◌, ◌≤◌, Bool, true, false, cond, ◌==◌, nat_lt, ◌⊎◌, List, [], ◌∷◌, ◌++◌, length, take, drop, get_or, Option, Some, None, Result, Ok, Err, OnOk, is_some, refl}
+use Rattle.std.specs.Prelude.{◌≡◌, ℕ, zero, suc, ◌+◌, ◌<◌, ◌≤◌, Bool, true, false, cond, ◌==◌, nat_lt, List, [], ◌∷◌, ◌++◌, length, get_or, Option, Some, None, is_some, refl}
 use Rattle.std.specs.List.{insert}
 use Rattle.std.proofs.Common.{sym, ◌∙◌, ap, subst, arith, inl, inr}
 use Rattle.mm_read.specs.Statements.{Database}
 use Rattle.scope.specs.Active.{is_active}
 use Rattle.frame.specs.Entries.{Entry}
 use Rattle.frame.specs.Places.{place_of}
-use Rattle.frame.specs.Stored.{inserted, AreAbove, Ascends, IsLooked, floats, last_where, with_float, with_floats}
+use Rattle.frame.specs.Stored.{inserted, AreAbove, Ascends, IsLooked, floats, last_where, with_float}
 use Rattle.frame.proofs.WalkLemmas.{some-same}
 use Rattle.frame.proofs.MarkLemmas.{IsNewPlace, place-push}
 use Rattle.frame.proofs.CollectLemmas.{inserted-here, inserted-before, inserted-after}

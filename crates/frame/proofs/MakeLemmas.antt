@@ -1,5 +1,5 @@
 -- Making the parts of an assertion: the loops' steps.
-use Rattle.std.specs.Prelude.{◌≡◌, ℕ, zero, suc, ◌+◌, ◌-◌, ◌<◌, ◌≤◌, Bool, true, false, cond, ◌==◌, List, [], ◌∷◌, ◌++◌, length, map, flat_map, filter, take, drop, reverse, get_or, slice_get, slice_range, Option, Some, None, refl}
+use Rattle.std.specs.Prelude.{◌≡◌, ℕ, zero, suc, ◌+◌, ◌-◌, ◌<◌, ◌≤◌, Bool, true, false, cond, List, [], ◌∷◌, ◌++◌, length, map, flat_map, filter, take, drop, reverse, get_or, slice_get, slice_range, Option, Some, None, refl}
 use Rattle.std.specs.Option.{option_to_list}
 use Rattle.std.specs.List.{filter_map}
 use Rattle.std.proofs.Common.{sym, ◌∙◌, ap, subst, arith, append_assoc, append-nil}
@@ -16,7 +16,7 @@ use Rattle.frame.specs.Links.{actives, last_active, is_disj, links_of}
 use Rattle.frame.specs.declared.citation.Pattern.{Pattern}
 use Rattle.frame.specs.declared.citation.Pattern.TheVariants.{Typed, Full}
 use Rattle.frame.specs.Entries.{Entry}
-use Rattle.frame.specs.Stored.{is_code, place_from, place_of, places_of, variable_at, option_variable, variable_by, symbols_at, is_hypothesis_entry, has_two, groups_by, AreHypotheses, IsPatternOf, ArePatterns, Extends, statements_of, own_template, option_template, template_at}
+use Rattle.frame.specs.Stored.{place_of, places_of, variable_at, option_variable, variable_by, symbols_at, is_hypothesis_entry, has_two, groups_by, AreHypotheses, IsPatternOf, ArePatterns, Extends, statements_of, own_template, option_template, template_at}
 
 -- ---- one symbol more
 

@@ -1,11 +1,11 @@
 -- Numbers and the names that they stand for, as both grow.
 use Rattle.std.specs.Prelude.{◌≡◌, ℕ, zero, suc, ◌<◌, ◌≤◌, Bool, true, false, ◌||◌, ◌⊎◌, List, [], ◌∷◌, ◌++◌, length, take, refl}
-use Rattle.std.proofs.Common.{sym, ◌∙◌, ap, arith, inl, inr, append_assoc, length-append}
+use Rattle.std.proofs.Common.{sym, ◌∙◌, ap, arith, inl, inr, append-nil, append_assoc, length-append}
 use Rattle.std.proofs.Math.Seq.{take-append_seam}
 use Rattle.std.proofs.lemmas.Slice.Eq.{bytes_eq-Decides}
 use Rattle.std.proofs.lemmas.Bool.{cases_lt}
 use Rattle.mm_lex.specs.Alphabet.{Name, name_eq, has_name}
-use Rattle.scope.specs.Numbering.{name_at, decode}
+use Rattle.scope.specs.Numbering.{name_at, decode, with_name, with_names, AreNamed}
 use Rattle.frame.specs.ByPlaces.{AreBelow}
 use Rattle.frame.specs.declared.storage.Symbol.{Symbol}
 use Rattle.frame.specs.Stored.{Extends, AreZero, AreZeroBehind}
@@ -81,3 +81,20 @@ fresh-number old new x n f p k = by (cases_lt n (length old))
 
 pub name_at-extends : (names new : List Name) (n : ℕ) → Extends names new → n < length names → name_at new n ≡ name_at names n
 name_at-extends names new n p h = ap (λ r. name_at r n) p.1 ∙ name_at-more names p.0 n h
+
+pub made-step : (names rest words done : List Name) (x : Name) → with_names names words ≡ done → words ≡ x ∷ rest → with_names (with_name names x) rest ≡ done
+made-step names rest words done x h is = ap (with_names names) (sym is) ∙ h
+
+pub extends-same : {A : Type 0} (xs : List A) → Extends xs xs
+extends-same xs = ([], sym (append-nil xs))
+
+-- a loop's step over names that have numbers
+pub first-named : (names words rest : List Name) (x : Name) → AreNamed names words → words ≡ x ∷ rest → has_name x names ≡ true
+first-named names words rest x h is = h x (ap (has_name x) is ∙ ap (λ b. b || has_name x rest) ((bytes_eq-Decides x x).1 refl))
+
+pub rest-named : (names words rest : List Name) (x : Name) → AreNamed names words → words ≡ x ∷ rest → AreNamed names rest
+rest-named names words rest x h is y k = h y (ap (has_name y) is ∙ or-right (name_eq y x) (has_name y rest) k)
+  where
+    or-right : (a b : Bool) → b ≡ true → (a || b) ≡ true
+    or-right true b e = refl
+    or-right false b e = e

@@ -1,5 +1,5 @@
 -- Looking through the active statements of a kind, from the last one back.
-use Rattle.std.specs.Prelude.{◌≡◌, ℕ, zero, suc, ◌+◌, ◌-◌, ◌<◌, ◌≤◌, Bool, true, false, cond, ◌&&◌, ◌||◌, ◌==◌, nat_eq, ◌⊎◌, List, [], ◌∷◌, ◌++◌, length, map, take, drop, filter, get_or, slice_get, Some, refl}
+use Rattle.std.specs.Prelude.{◌≡◌, ℕ, zero, suc, ◌+◌, ◌-◌, ◌<◌, ◌≤◌, Bool, true, false, cond, ◌&&◌, ◌||◌, ◌==◌, nat_eq, ◌⊎◌, List, [], ◌∷◌, ◌++◌, length, map, take, drop, filter, slice_get, Some, refl}
 use Rattle.std.specs.List.{list_any}
 use Rattle.std.proofs.Common.{sym, ◌∙◌, ap, subst, arith, inl, inr}
 use Rattle.std.proofs.lemmas.List.Folds.{list_any-append}
@@ -15,10 +15,9 @@ use Rattle.frame.specs.Links.{actives, last_active, is_var, is_disj}
 use Rattle.frame.proofs.OpenLemmas.{IsNoClose}
 use Rattle.frame.proofs.WalkLemmas.{IsBack, walk-back, walk-over, cut-here, get-take, active-stays}
 use Rattle.frame.proofs.PlacesLemmas.{stands-active}
-use Rattle.std.proofs.lemmas.List.{length-map}
 use Rattle.frame.proofs.WalkLemmas.{some-same}
 use Rattle.frame.proofs.CollectLemmas.{last-is}
-use Rattle.frame.proofs.StoredLemmas.{get-index, get-stmt, numbered-at}
+use Rattle.frame.proofs.StoredLemmas.{get-stmt, numbered-at}
 use Rattle.frame.proofs.AssertionLemmas.{get-entry}
 use Rattle.frame.specs.declared.kind.Kind.{Kind}
 use Rattle.frame.specs.declared.kind.Kind.TheVariants.{Open, Close, Const, Var, Disj, Float, Ess, Axiom, Prove}

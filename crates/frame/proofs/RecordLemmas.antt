@@ -1,16 +1,15 @@
 -- Statements in shared buffers: more behind them changes no statement, and they can be cut where a statement begins.
-use Rattle.std.specs.Prelude.{◌≡◌, ℕ, zero, suc, ◌+◌, ◌-◌, ◌<◌, ◌≤◌, ◌^◌, List, [], ◌∷◌, ◌++◌, length, map, take, drop, slice_get, slice_range, get_or, Some, None, Option, option_map, refl, ◌⊎◌, Result, Ok, Err, OnOk, OnErr, is_err, true, false}
+use Rattle.std.specs.Prelude.{◌≡◌, ℕ, zero, suc, ◌+◌, ◌-◌, ◌<◌, ◌≤◌, ◌^◌, List, [], ◌∷◌, ◌++◌, length, map, take, slice_get, Some, option_map, refl, ◌⊎◌, Result, Ok, Err, OnOk, OnErr, is_err, true, false}
 use Rattle.std.proofs.Common.{◌∙◌, ap, sym, subst, arith, inl, inr, append-nil}
 use Rattle.std.proofs.lemmas.List.{length-map, length-append, length-take-le, map-append, take-append-le}
-use Rattle.std.proofs.lemmas.Option.{slice_get-get_or, slice_get_within, slice_get-map}
-use Rattle.std.proofs.Math.Seq.{take-append_seam, take-length}
-use Rattle.frame.specs.declared.span.Span.{Span}
+use Rattle.std.proofs.lemmas.Option.{slice_get_within, slice_get-map}
+use Rattle.std.proofs.Math.Seq.{take-append_seam}
 use Rattle.frame.specs.declared.record.Record.{Record}
 use Rattle.frame.specs.declared.record.Buffers.{Buffers}
 use Rattle.frame.specs.declared.record.Head.{Head}
 use Rattle.frame.specs.declared.draft.Draft.{Draft}
 use Rattle.frame.specs.Entries.{Entry, made}
-use Rattle.frame.specs.Spans.{cut, AreSpansIn, Extends}
+use Rattle.frame.specs.Spans.{AreSpansIn, Extends}
 use Rattle.frame.specs.Records.{entry_of, Sizes, sizes_of, start_of, IsWithin, AreWithin, HasGroups, HaveGroups, ArePacked, Grows, IsAdded}
 use Rattle.frame.proofs.SpanLemmas.{range-extends, extends-length, extends-take, take-extends}
 

@@ -1,8 +1,8 @@
 -- Parts of a buffer.
-use Rattle.std.specs.Prelude.{◌≡◌, ℕ, zero, suc, ◌+◌, ◌-◌, ◌<◌, ◌≤◌, List, [], ◌∷◌, ◌++◌, length, map, take, drop, reverse, slice_get, slice_range, get_or, Some, None, Option, refl}
+use Rattle.std.specs.Prelude.{◌≡◌, ℕ, zero, suc, ◌+◌, ◌-◌, ◌≤◌, List, [], ◌∷◌, ◌++◌, length, take, drop, reverse, slice_get, slice_range, Some, refl}
 use Rattle.std.proofs.Common.{◌∙◌, ap, sym, subst, arith, append-nil, append_assoc}
-use Rattle.std.proofs.lemmas.List.{length-map, length-append, length-drop, length-take-le, take-append-le, drop-append-le, take-append-drop, reverse-append}
-use Rattle.std.proofs.Math.Seq.{take-append_seam, drop-append_seam, take-length}
+use Rattle.std.proofs.lemmas.List.{length-append, length-drop, length-take-le, take-append-le, drop-append-le, take-append-drop, reverse-append}
+use Rattle.std.proofs.Math.Seq.{take-append_seam, drop-append_seam}
 use Rattle.frame.specs.declared.span.Span.{Span}
 use Rattle.frame.specs.Spans.{cut, AreSpansIn, Extends}
 

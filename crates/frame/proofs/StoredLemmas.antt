@@ -1,7 +1,7 @@
 -- The storage with one more statement.
 use Rattle.std.specs.Prelude.{◌≡◌, ℕ, zero, suc, ◌+◌, ◌-◌, ◌<◌, ◌≤◌, ◌^◌, Bool, true, false, cond, not, ◌&&◌, ◌||◌, ◌==◌, nat_lt, ◌⊎◌, List, [], ◌∷◌, ◌++◌, length, map, take, get_or, slice_get, Option, Some, None, Result, Ok, Err, OnErr, is_err, refl}
 use Rattle.std.specs.List.{list_any}
-use Rattle.std.proofs.Common.{sym, ◌∙◌, ap, subst, arith, inl, inr, append-nil}
+use Rattle.std.proofs.Common.{sym, ◌∙◌, ap, subst, arith, inl, inr}
 use Rattle.std.proofs.lemmas.List.{length-map, take-append-le}
 use Rattle.std.proofs.lemmas.Bool.{cases_lt}
 use Rattle.std.proofs.Math.Seq.{take-length}
@@ -12,7 +12,8 @@ use Rattle.mm_read.specs.Statements.{Database}
 use Rattle.scope.specs.Active.{stmt_at, before, bare, label_of, expr_of, is_assertion, was_label, has_label, stays_open, is_close, is_open, count}
 use Rattle.scope.specs.Legal.{IsLegal}
 use Rattle.scope.specs.declared.rule.Rule.TheVariants.{G10}
-use Rattle.scope.specs.Numbering.{name_at, decode}
+use Rattle.scope.specs.Numbering.{name_at, decode, with_names}
+use Rattle.scope.specs.Symbols.{symbols_by, symbols_of}
 use Rattle.frame.specs.ByPlaces.{AreBelow}
 use Rattle.frame.specs.Citations.{is_hypothesis_kind}
 use Rattle.std.proofs.lemmas.Slice.Eq.{bytes_eq-Decides}
@@ -24,13 +25,13 @@ use Rattle.frame.specs.declared.storage.Symbol.{Symbol}
 use Rattle.frame.specs.declared.storage.Stock.{Stock}
 use Rattle.frame.specs.Links.{links_of}
 use Rattle.frame.specs.Stored.{stmt_by, stmt_of, labels_of, positions_from, option_list, option_position, AreAllLegal, IsLabelBelow, HasTwo, AreNumbered, AreKept, Extends, AreZero, AreZeroBehind, zero_symbol, symbol_of, ReadsAs, with_entry, floats, declares, second_is, is_float_kind, is_var_kind, last_from, IsFresh, is_assertion_kind, IsKeptAs, KeepsCounts, replaced_by, replaced_of, AreStored, IsBehind, statements_of, numbered}
+use Rattle.frame.proofs.SymbolsLemmas.{symbols_of-push}
 use Rattle.frame.proofs.NumberLemmas.{decode-extends, name_at-extends, below-more, extends-length, take-extends}
 use Rattle.frame.proofs.DeclareLemmas.{symbol_of-push}
 use Rattle.frame.proofs.UndoLemmas.{replaced_of-push}
 use Rattle.frame.proofs.OpenLemmas.{stays_open-push, stays_open-close}
 use Rattle.frame.proofs.LegalLabels.{fresh}
 use Rattle.frame.proofs.AssertionLemmas.{get-entry, kept-more}
-use Rattle.frame.specs.Entries.{Assertion}
 
 -- ---- what was entered stands for what it stood for
 
@@ -241,6 +242,7 @@ still-reads names labels positions symbols replaced entries links between k z c 
 pub record IsPushed (names labels : List Name) (positions : List ℕ) (symbols : List Symbol) (replaced : List ℕ) (entries : List Entry) (links : Links)
     (names' labels' : List Name) (positions' : List ℕ) (between symbols' : List Symbol) (replaced' : List ℕ) (entries' : List Entry) (links' : Links) (s : Stmt) (e : Entry) : Type 0 where
   pub names_more : Extends names names'
+  pub names_made : names' ≡ with_names names (symbols_by s)
   pub symbols_more : AreZeroBehind symbols between
   pub noted : (c : ℕ) (x : Symbol) → slice_get between c ≡ Some x → slice_get symbols' c ≡ Some (with_entry e (length entries + 1) c x)
   pub noted_count : length symbols' ≡ length between
@@ -353,6 +355,7 @@ module _ (names labels : List Name) (positions : List ℕ) (symbols : List Symbo
             rising = λ j x lt g. c.rising j x lt (old j x (omega (arith, lt, q.0)) g);
             numbered = subst (AreNumbered d.names d.label) (sym (front-before i q.0)) c.numbered;
             label_count = c.label_count ∙ ap (λ S. length (labels_of S)) (sym here);
+            name_count = c.name_count ∙ ap (λ S. length (symbols_of S)) (sym here);
           }
       by (inr q) =
           let here : take i (map (stmt_of names' labels') entries') ≡ map (stmt_of names labels) entries =
@@ -365,6 +368,7 @@ module _ (names labels : List Name) (positions : List ℕ) (symbols : List Symbo
             numbered = subst (AreNumbered d.names d.label) (sym (ap (λ a. take a entries') q.0 ∙ whole-before))
                 (subst (λ a. AreNumbered a d.label entries) (sym n) (subst (λ a. AreNumbered (length names) a entries) (sym m) k.coded));
             label_count = m ∙ ap length (k.labels_kept ∙ ap labels_of (sym here));
+            name_count = n ∙ ap length (k.names_kept ∙ ap symbols_of (sym here));
           }
 
   pub kept-pushed : AreKept names' labels' positions' symbols' replaced' entries' links'
@@ -373,6 +377,7 @@ module _ (names labels : List Name) (positions : List ℕ) (symbols : List Symbo
     linked = linked';
     stays = ap (stays_open 0) pushed-statements ∙ stays-push (map (stmt_of names labels) entries) s k.stays p.legal;
     legal = subst AreAllLegal (sym pushed-statements) (legal-push (map (stmt_of names labels) entries) s k.legal p.legal);
+    names_kept = p.names_made ∙ (ap (λ r. with_names r (symbols_by s)) k.names_kept ∙ (sym (symbols_of-push (map (stmt_of names labels) entries) s) ∙ ap symbols_of (sym pushed-statements)));
     labels_kept = p.labels_more ∙ (ap (λ r. r ++ option_list (label_of s) []) k.labels_kept ∙ (sym (labels_of-push (map (stmt_of names labels) entries) s) ∙ ap labels_of (sym pushed-statements)));
     positions_kept = p.positions_more ∙ (ap (λ r. r ++ option_position (label_of s) (length entries + 1) []) k.positions_kept
         ∙ (ap (λ n. positions_from 1 (map (stmt_of names labels) entries) ++ option_position (label_of s) n []) (omega (arith, len))
@@ -612,37 +617,3 @@ entry-assertion names labels e = by e.kind
     by Disj h = absurd h
     by Float h = absurd h
     by Ess h = absurd h
-
--- ---- more names alone
-pub kept-grown : (names labels : List Name) (positions : List ℕ) (symbols : List Symbol) (replaced : List ℕ) (entries : List Entry) (links : Links) (names' : List Name) (symbols' : List Symbol)
-    → Extends names names' → AreZeroBehind symbols symbols' → length symbols' ≡ length names' → length names' < 2 ^ 31
-    → AreKept names labels positions symbols replaced entries links → AreKept names' labels positions symbols' replaced entries links
-kept-grown names labels positions symbols replaced entries links names' symbols' p z n few k =
-    let same : map (stmt_of names' labels) entries ≡ map (stmt_of names labels) entries = statements-more names names' labels labels entries p ([], sym (append-nil labels)) k.coded in
-    record {
-      last = k.last ∙ ap links_of (sym same);
-      linked = λ i e h. k.linked i e h ∙ ap (λ S. links_of (take i S)) (sym same);
-      stays = ap (stays_open 0) same ∙ k.stays;
-      legal = subst AreAllLegal (sym same) k.legal;
-      labels_kept = k.labels_kept ∙ ap labels_of (sym same);
-      positions_kept = k.positions_kept ∙ ap (positions_from 1) (sym same);
-      coded = numbered-more (length names) (length names') (length labels) entries (extends-length names names' p) k.coded;
-      symbols_kept = λ c lt. still-reads names labels positions symbols replaced entries links symbols' k z c (omega (arith, lt, n));
-      replaced_kept = k.replaced_kept;
-      counts_kept = λ i e h.
-          let c = k.counts_kept i e h in
-          let w = c.within in
-          let more = extends-length names names' p in
-          record { within = omega (arith, w, more); rising = c.rising; numbered = c.numbered; label_count = c.label_count ∙ ap (λ S. length (labels_of (take i S))) (sym same) };
-      count = n;
-      few = few;
-      assertions_kept = λ i e h a.
-          subst (λ S. IsKeptAs entries (take i S) (stmt_of names' labels e) e e.assertion) (sym same)
-          (subst (λ t. IsKeptAs entries (take i (map (stmt_of names labels) entries)) t e e.assertion)
-          (sym (stmt-more names names' labels labels e p ([], sym (append-nil labels)) (numbered-at (length names) (length labels) entries k.coded i e h) (label-at (length names) (length labels) entries k.coded i e h)))
-          (k.assertions_kept i e h a));
-    }
-  where
-    numbered-more : (a b m : ℕ) (es : List Entry) → a ≤ b → AreNumbered a m es → AreNumbered b m es
-    numbered-more a b m [] le h = tt
-    numbered-more a b m (e ∷ es) le h = (below-more a b e.symbols le h.0, h.1, numbered-more a b m es le h.2, h.3)

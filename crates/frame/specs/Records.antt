@@ -1,7 +1,7 @@
 -- Statements in shared buffers: which part of them a record names, and that parts stand in the order of the statements.
 -- The code's own form: no public clause cites it.
 -- So more behind the buffers changes no statement, and the buffers can be cut where a statement begins.
-use Rattle.std.specs.Prelude.{◌≡◌, ℕ, ◌+◌, ◌-◌, ◌<◌, ◌≤◌, ◌^◌, List, [], ◌∷◌, length, map, take, slice_get, slice_range, Some, ◌++◌}
+use Rattle.std.specs.Prelude.{◌≡◌, ℕ, ◌+◌, ◌-◌, ◌<◌, ◌≤◌, ◌^◌, List, [], ◌∷◌, length, take, slice_get, slice_range, Some, ◌++◌}
 use Rattle.frame.specs.declared.record.Record.{Record}
 use Rattle.frame.specs.declared.record.Buffers.{Buffers}
 use Rattle.frame.specs.declared.record.Ends.{Ends}

@@ -8,7 +8,8 @@ use Rattle.mm_read.specs.declared.stmt.Stmt.TheVariants as stmt
 use Rattle.mm_read.specs.Statements.{Expr, Database}
 use Rattle.scope.specs.Active.{stmt_at, before, label_of, expr_of, is_assertion, is_active, is_essential, is_open, is_close, stays_open}
 use Rattle.scope.specs.Legal.{IsLegal}
-use Rattle.scope.specs.Numbering.{name_at, decode}
+use Rattle.scope.specs.Numbering.{name_at, decode, with_names}
+use Rattle.scope.specs.Symbols.{symbols_by, symbols_in, symbols_of}
 use Rattle.frame.specs.FrameOf.{hypotheses}
 use Rattle.frame.specs.declared.citation.Pattern.{Pattern}
 use Rattle.frame.specs.declared.citation.Pattern.TheVariants.{Typed, Full}
@@ -153,6 +154,7 @@ pub record KeepsCounts (names labels : List Name) (entries : List Entry) (i : �
   pub rising : (j : ℕ) (d : Entry) → j < i → slice_get entries j ≡ Some d → d.names ≤ e.names
   pub numbered : AreNumbered e.names e.label (take i entries)
   pub label_count : e.label ≡ length (labels_of (take i (map (stmt_of names labels) entries)))
+  pub name_count : e.names ≡ length (symbols_of (take i (map (stmt_of names labels) entries)))
 
 -- a statement that neither opens nor closes a block
 abbrev pub IsPlain : Option Stmt → Type 0
@@ -382,6 +384,7 @@ pub record AreKept (names labels : List Name) (positions : List ℕ) (symbols : 
   pub linked : (i : ℕ) (e : Entry) → slice_get entries i ≡ Some e → e.links ≡ links_of (take i (map (stmt_of names labels) entries))
   pub stays : stays_open 0 (map (stmt_of names labels) entries) ≡ true
   pub legal : AreAllLegal (map (stmt_of names labels) entries)
+  pub names_kept : names ≡ symbols_of (map (stmt_of names labels) entries)
   pub labels_kept : labels ≡ labels_of (map (stmt_of names labels) entries)
   pub positions_kept : positions ≡ positions_from 1 (map (stmt_of names labels) entries)
   pub coded : AreNumbered (length names) (length labels) entries
@@ -410,17 +413,16 @@ pub record Entered (old new : Stock) (s : Stmt) (e : Entry) : Type 0 where
   pub names_before : e.names ≡ length old.names
   pub labels_before : e.label ≡ length old.labels
   pub two : HasTwo e.kind e.symbols
+  pub names : new.names ≡ with_names old.names (symbols_by s)
   pub labels : new.labels ≡ old.labels ++ option_list (label_of s) []
   pub positions : new.positions.items ≡ old.positions.items ++ option_position (label_of s) (length old.entries + 1) []
   pub links : e.links ≡ old.links
   pub kept : is_assertion_kind e.kind ≡ true → IsKeptAs old.entries (statements_of old) s e e.assertion
 
--- the numbers of the words and the label stand in the storage
-pub record IsEntered (old new : Stock) (label : Name) (words : Expr) (codes : List ℕ) : Type 0 where
-  pub symbols : AreBelow (length new.names) codes
-  pub stand : decode new.names codes ≡ words
-  pub labels : new.labels ≡ old.labels ++ label ∷ []
-  pub positions : new.positions.items ≡ old.positions.items ++ (length old.entries + 1) ∷ []
+-- the numbers stand for the symbols of the statement
+pub record AreNumbersOf (names : List Name) (s : Stmt) (codes : List ℕ) : Type 0 where
+  pub below : AreBelow (length names) codes
+  pub stand : decode names codes ≡ symbols_in s
 
 -- the symbols are those of the assertion s, which may come next
 pub record IsNext (k : Stock) (codes : List ℕ) (s : Stmt) : Type 0 where

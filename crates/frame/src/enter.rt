@@ -1,25 +1,26 @@
 //! A statement as numbers.
-ghost use Rattle.std.specs.Prelude.{◌≡◌, ◌+◌, ◌<◌, ◌^◌, ◌++◌, ◌∷◌, [], length, IfOk, OnOk, true, false};
-ghost use Rattle.mm_lex.specs.Alphabet.{has_name};
+ghost use Rattle.std.specs.Prelude.{◌≡◌, ◌+◌, ◌<◌, ◌^◌, ◌++◌, ◌∷◌, [], length, IfOk, OnOk, IfSome, option_map, true, false};
 ghost use Rattle.mm_read.specs.declared.stmt.Stmt.{Stmt as Statement};
-ghost use Rattle.scope.specs.Active.{bare, label_of, is_assertion, expr_of};
+ghost use Rattle.scope.specs.Active.{bare, label_of, is_assertion};
 ghost use Rattle.scope.specs.Legal.{IsLegal};
-ghost use Rattle.scope.specs.Numbering.{decode};
+ghost use Rattle.scope.specs.Numbering.{with_names, AreNamed};
+ghost use Rattle.scope.specs.Symbols.{symbols_by, symbols_in};
 ghost use Rattle.frame.specs.ByPlaces.{AreBelow};
 ghost use Rattle.frame.specs.Entries.{IsPartless, IsDraft, drafted, made};
 ghost use Rattle.frame.specs.declared.record.Head.{Head as Before};
-ghost use Rattle.frame.specs.Stored.{Entered, IsEntered, Grown, IsFresh, HasRoom, AreStored, IsHead, IsNext, IsKeptOf, kind_of, statements_of};
+ghost use Rattle.frame.specs.Stored.{AreNumbersOf, Entered, Grown, option_list, option_position, IsFresh, HasRoom, AreStored, IsHead, IsNext, IsKeptOf, kind_of, statements_of};
 
 use crate::declare::name_label;
 use crate::draft::Draft;
 use crate::kind::Kind;
 use crate::make::assertion;
-use crate::numbers::{number, numbers};
+use crate::numbers::{declared_numbers, numbers};
 use crate::record::Head;
 use crate::span::place;
 use crate::storage::Stock;
-use mm_lex::{Word, Words};
+use mm_lex::Word;
 use mm_read::Stmt;
+use scope::Names;
 use std::alloc::{AllocError, Global};
 
 /// What is noted of a statement of this kind that comes next.
@@ -35,70 +36,94 @@ pub fn head(stock: &Stock, kind: Kind) -> Result<Head, AllocError>
     })
 }
 
-/// Adds the numbers of the symbols of a list to codes, of which there are none.
-fn list_numbers(
+/// Adds the numbers of the symbols of a statement to codes, of which there are none: those that were noted, where they
+/// were. A declaration gives its symbols numbers.
+fn enter_symbols(
     alloc: Global,
     stock: &mut Stock,
-    words: &Words,
     codes: &mut Vec<u32>,
+    stmt: &Stmt,
+    noted: Option<&[u32]>,
 ) -> Result<(), AllocError>
     requires room { HasRoom stock.old }
+    requires named { AreNamed (with_names stock.old.names (symbols_by stmt.now)) (symbols_in stmt.now) }
+    requires noted { IfSome noted (λ numbers. AreNumbersOf (with_names stock.old.names (symbols_by stmt.now)) stmt.now numbers.now) }
     requires empty { codes.old.items ≡ [] }
     ensures grown { Grown stock.old stock.new }
     ensures room { HasRoom stock.new }
     ensures same_labels { stock.new.labels ≡ stock.old.labels }
     ensures same_positions { stock.new.positions.items ≡ stock.old.positions.items }
-    ensures symbols { OnOk result (AreBelow (length stock.new.names) codes.new.items) }
-    ensures stand { OnOk result (decode stock.new.names codes.new.items ≡ words.now) }
-    ensures stored { AreStored stock.old → AreStored stock.new }
-    ensures statements { AreStored stock.old → statements_of stock.new ≡ statements_of stock.old }
+    ensures names { OnOk result (stock.new.names ≡ with_names stock.old.names (symbols_by stmt.now)) }
+    ensures numbers { OnOk result (AreNumbersOf stock.new.names stmt.now codes.new.items) }
+    ensures same { is_assertion stmt.now ≡ true → stock.new ≡ stock.old }
 {
-    numbers(alloc, &mut stock.names, &mut stock.symbols, words, codes)
+    match stmt {
+        Stmt::Const(words) => {
+            declared_numbers(alloc, &mut stock.names, &mut stock.symbols, words, codes)
+        }
+        Stmt::Var(words) => {
+            declared_numbers(alloc, &mut stock.names, &mut stock.symbols, words, codes)
+        }
+        _ => known_numbers(&stock.names, codes, stmt, noted),
+    }
 }
 
-/// Adds the numbers of the two symbols of a `$f` to codes, of which there are none.
-fn pair_numbers(
-    alloc: Global,
-    stock: &mut Stock,
-    constant: &Word,
-    variable: &Word,
+/// Adds the numbers of the symbols of a statement, which all have one, to codes, of which there are none: those that
+/// were noted, where they were.
+fn known_numbers(
+    names: &Names,
     codes: &mut Vec<u32>,
+    stmt: &Stmt,
+    noted: Option<&[u32]>,
 ) -> Result<(), AllocError>
-    requires room { HasRoom stock.old }
+    requires few { length names.now < 2 ^ 31 }
+    requires named { AreNamed names.now (symbols_in stmt.now) }
+    requires noted { IfSome noted (λ numbers. AreNumbersOf names.now stmt.now numbers.now) }
     requires empty { codes.old.items ≡ [] }
-    ensures grown { Grown stock.old stock.new }
-    ensures room { HasRoom stock.new }
-    ensures same_labels { stock.new.labels ≡ stock.old.labels }
-    ensures same_positions { stock.new.positions.items ≡ stock.old.positions.items }
-    ensures symbols { OnOk result (AreBelow (length stock.new.names) codes.new.items) }
-    ensures stand { OnOk result (decode stock.new.names codes.new.items ≡ constant.now ∷ variable.now ∷ []) }
+    ensures { OnOk result (AreNumbersOf names.now stmt.now codes.new.items) }
 {
-    let first = number(
-        alloc,
-        &mut stock.names,
-        &mut stock.symbols,
-        constant.as_bytes(),
-    )?;
-    let second = number(
-        alloc,
-        &mut stock.names,
-        &mut stock.symbols,
-        variable.as_bytes(),
-    )?;
-    codes.push(first)?;
-    codes.push(second)?;
-    Ok(())
+    match noted {
+        Some(found) => {
+            codes.extend_from_slice(found)?;
+            Ok(())
+        }
+        None => numbers(names, stmt, codes),
+    }
 }
 
-/// Gives the label of the statement that comes next its number and its position.
-fn labelled(alloc: Global, stock: &mut Stock, label: &Word) -> Result<(), AllocError>
-    requires fresh { has_name label.now stock.old.labels ≡ false }
+/// The label of a statement.
+fn label(stmt: &Stmt) -> Option<&Word>
+    ensures { option_map (λ word. word.now) result ≡ label_of stmt.now }
+{
+    match stmt {
+        Stmt::Float {
+            label,
+            constant: _,
+            variable: _,
+        } => Some(label),
+        Stmt::Ess { label, expr: _ } => Some(label),
+        Stmt::Axiom { label, expr: _ } => Some(label),
+        Stmt::Prove {
+            label,
+            expr: _,
+            proof: _,
+        } => Some(label),
+        _ => None,
+    }
+}
+
+/// Gives the label of the statement that comes next, where it has one, its number and its position.
+fn enter_label(alloc: Global, stock: &mut Stock, stmt: &Stmt) -> Result<(), AllocError>
+    requires fresh { IsFresh stock.old.labels (label_of stmt.now) }
     ensures grown { Grown stock.old stock.new }
     ensures names { stock.new.names ≡ stock.old.names }
     ensures same_symbols { stock.new.symbols ≡ stock.old.symbols }
-    ensures labels { OnOk result (stock.new.labels ≡ stock.old.labels ++ label.now ∷ []) }
-    ensures positions { OnOk result (stock.new.positions.items ≡ stock.old.positions.items ++ (length stock.old.entries + 1) ∷ []) }
+    ensures labels { OnOk result (stock.new.labels ≡ stock.old.labels ++ option_list (label_of stmt.now) []) }
+    ensures positions { OnOk result (stock.new.positions.items ≡ stock.old.positions.items ++ option_position (label_of stmt.now) (length stock.old.entries + 1) []) }
 {
+    let Some(label) = label(stmt) else {
+        return Ok(());
+    };
     let at = stock.entries.len() + 1;
     name_label(
         alloc,
@@ -123,68 +148,28 @@ fn keep(stock: &Stock, draft: &mut Draft) -> Result<(), AllocError>
     assertion(stock, draft)
 }
 
-/// Finds the numbers of a `$f`, and notes its label.
-fn enter_float(
-    alloc: Global,
-    stock: &mut Stock,
-    codes: &mut Vec<u32>,
-    label: &Word,
-    constant: &Word,
-    variable: &Word,
-) -> Result<(), AllocError>
-    requires room { HasRoom stock.old }
-    requires fresh { has_name label.now stock.old.labels ≡ false }
-    requires empty { codes.old.items ≡ [] }
-    ensures grown { Grown stock.old stock.new }
-    ensures room { HasRoom stock.new }
-    ensures entered { OnOk result (IsEntered stock.old stock.new label.now (constant.now ∷ variable.now ∷ []) codes.new.items) }
+/// Whether a statement is an assertion.
+fn is_assertion(stmt: &Stmt) -> bool
+    ensures { result ≡ is_assertion stmt.now }
 {
-    pair_numbers(alloc, stock, constant, variable, codes)?;
-    labelled(alloc, stock, label)
+    matches!(stmt, Stmt::Axiom { .. } | Stmt::Prove { .. })
 }
 
-/// Finds the numbers of an `$e`, and notes its label.
-fn enter_essential(
-    alloc: Global,
-    stock: &mut Stock,
-    codes: &mut Vec<u32>,
-    label: &Word,
-    expr: &Words,
-) -> Result<(), AllocError>
-    requires room { HasRoom stock.old }
-    requires fresh { has_name label.now stock.old.labels ≡ false }
-    requires empty { codes.old.items ≡ [] }
-    ensures grown { Grown stock.old stock.new }
-    ensures room { HasRoom stock.new }
-    ensures entered { OnOk result (IsEntered stock.old stock.new label.now expr.now codes.new.items) }
-{
-    list_numbers(alloc, stock, expr, codes)?;
-    labelled(alloc, stock, label)
-}
-
-/// Finds the numbers and the parts of an assertion, and notes its label.
-fn enter_assertion(
-    alloc: Global,
-    stock: &mut Stock,
-    draft: &mut Draft,
-    label: &Word,
-    expr: &Words,
-) -> Result<(), AllocError>
-    requires room { HasRoom stock.old }
-    requires fresh { has_name label.now stock.old.labels ≡ false }
-    requires stored { AreStored stock.old }
-    requires next { (s : Statement) × IsLegal (statements_of stock.old) s × (is_assertion s ≡ true) × (expr_of s ≡ expr.now) }
-    requires symbols { draft.old.symbols.items ≡ [] }
+/// Finds the parts of an assertion with the symbols of the draft. Another statement has none.
+fn enter_parts(stock: &Stock, draft: &mut Draft, stmt: &Stmt) -> Result<(), AllocError>
+    requires stored { is_assertion stmt.now ≡ true → AreStored stock.now }
+    requires legal { is_assertion stmt.now ≡ true → IsLegal (statements_of stock.now) stmt.now }
+    requires numbers { AreNumbersOf stock.now.names stmt.now draft.old.symbols.items }
     requires partless { IsPartless draft.old }
-    ensures grown { Grown stock.old stock.new }
-    ensures room { HasRoom stock.new }
-    ensures entered { OnOk result (IsEntered stock.old stock.new label.now expr.now draft.new.symbols.items) }
-    ensures kept { (s : Statement) → IsLegal (statements_of stock.old) s → is_assertion s ≡ true → expr_of s ≡ expr.now → OnOk result (IsKeptOf stock.old draft.new.symbols.items s (drafted draft.new)) }
+    ensures kept { is_assertion stmt.now ≡ true → OnOk result (IsKeptOf stock.now draft.old.symbols.items (bare stmt.now) (drafted draft.new)) }
     ensures draft { OnOk result (IsDraft draft.new) }
+    ensures symbols { draft.new.symbols.items ≡ draft.old.symbols.items }
 {
-    list_numbers(alloc, stock, expr, &mut draft.symbols)?;
-    keep(stock, draft)?;
-    labelled(alloc, stock, label)
+    if is_assertion(stmt) {
+        keep(stock, draft)
+    } else {
+        Ok(())
+    }
 }
 
 /// Finds the numbers and the parts of the statement, and puts its names and its label in the storage.
@@ -193,11 +178,13 @@ pub fn enter(
     stock: &mut Stock,
     draft: &mut Draft,
     stmt: &Stmt,
+    noted: Option<&[u32]>,
 ) -> Result<(), AllocError>
     requires room { HasRoom stock.old }
     requires fresh { IsFresh stock.old.labels (label_of stmt.now) }
     requires stored { AreStored stock.old }
     requires legal { IsLegal (statements_of stock.old) stmt.now }
+    requires noted { IfSome noted (λ numbers. AreNumbersOf (with_names stock.old.names (symbols_by stmt.now)) stmt.now numbers.now) }
     requires symbols { draft.old.symbols.items ≡ [] }
     requires partless { IsPartless draft.old }
     ensures grown { Grown stock.old stock.new }
@@ -205,25 +192,7 @@ pub fn enter(
     ensures entered { (h : Before) → IsHead stock.old (bare stmt.now) h → OnOk result (Entered stock.old stock.new (bare stmt.now) (made h draft.new)) }
     ensures draft { OnOk result (IsDraft draft.new) }
 {
-    match stmt {
-        Stmt::Open => Ok(()),
-        Stmt::Close => Ok(()),
-        Stmt::Const(words) => list_numbers(alloc, stock, words, &mut draft.symbols),
-        Stmt::Var(words) => list_numbers(alloc, stock, words, &mut draft.symbols),
-        Stmt::Disj(words) => list_numbers(alloc, stock, words, &mut draft.symbols),
-        Stmt::Float {
-            label,
-            constant,
-            variable,
-        } => enter_float(alloc, stock, &mut draft.symbols, label, constant, variable),
-        Stmt::Ess { label, expr } => {
-            enter_essential(alloc, stock, &mut draft.symbols, label, expr)
-        }
-        Stmt::Axiom { label, expr } => enter_assertion(alloc, stock, draft, label, expr),
-        Stmt::Prove {
-            label,
-            expr,
-            proof: _,
-        } => enter_assertion(alloc, stock, draft, label, expr),
-    }
+    enter_symbols(alloc, stock, &mut draft.symbols, stmt, noted)?;
+    enter_parts(stock, draft, stmt)?;
+    enter_label(alloc, stock, stmt)
 }

@@ -1,8 +1,10 @@
 //! One statement more in the storage, or none, or only the first ones.
-ghost use Rattle.std.specs.Prelude.{◌≡◌, ◌++◌, ◌∷◌, [], OnOk, OnErr, take, length};
+ghost use Rattle.std.specs.Prelude.{◌≡◌, ◌++◌, ◌∷◌, [], OnOk, OnErr, IfSome, take, length};
 ghost use Rattle.scope.specs.Active.{bare};
 ghost use Rattle.scope.specs.Legal.{IsLegal};
-ghost use Rattle.frame.specs.Stored.{AreStored, IsBehind, Extends, statements_of, kind_of};
+ghost use Rattle.scope.specs.Numbering.{with_names};
+ghost use Rattle.scope.specs.Symbols.{symbols_by};
+ghost use Rattle.frame.specs.Stored.{AreNumbersOf, AreStored, IsBehind, Extends, statements_of, kind_of};
 
 use crate::declare::{declare, links_after};
 use crate::draft::Draft;
@@ -37,15 +39,17 @@ fn kind(stmt: &Stmt) -> Kind
     }
 }
 
-/// Adds the statement behind the others. Where a growth is refused, more may be left behind what was there.
+/// Adds the statement behind the others, with the numbers of its symbols where they were noted. Where a growth is refused, more may be left behind what was there.
 pub fn extend(
     alloc: Global,
     stock: &mut Stock,
     draft: &mut Draft,
     stmt: &Stmt,
+    noted: Option<&[u32]>,
 ) -> Result<(), AllocError>
     requires stored { AreStored stock.old }
     requires legal { IsLegal (statements_of stock.old) stmt.now }
+    requires noted { IfSome noted (λ numbers. AreNumbersOf (with_names stock.old.names (symbols_by stmt.now)) stmt.now numbers.now) }
     ensures stored { OnOk result (AreStored stock.new) }
     ensures added { OnOk result (statements_of stock.new ≡ statements_of stock.old ++ bare stmt.now ∷ []) }
     ensures names { Extends stock.old.names stock.new.names }
@@ -56,7 +60,7 @@ pub fn extend(
     let links = links_after(stock, kind);
     let head = head(stock, kind)?;
     draft.clear();
-    enter(alloc, stock, draft, stmt)?;
+    enter(alloc, stock, draft, stmt, noted)?;
     note_replaced(&stock.symbols, kind, &draft.symbols, &mut stock.replaced)?;
     stock.entries.push(head, draft)?;
     declare(&mut stock.symbols, kind, &draft.symbols, at);

@@ -1,9 +1,10 @@
 //! The statements of a database by position.
-ghost use Rattle.std.specs.Prelude.{◌≡◌, ℕ, ◌+◌, ◌≤◌, [], ◌∷◌, ◌++◌, Some, OnOk, OnErr, length, take, option_map};
+ghost use Rattle.std.specs.Prelude.{◌≡◌, ℕ, ◌+◌, ◌≤◌, [], ◌∷◌, ◌++◌, Some, OnOk, OnErr, IfSome, length, take, option_map};
 ghost use Rattle.mm_read.specs.declared.stmt.Stmt.{Stmt as Statement};
 ghost use Rattle.scope.specs.Active.{bare, before, stmt_at, expr_of, label_of};
 ghost use Rattle.scope.specs.Legal.{IsLegal};
 ghost use Rattle.scope.specs.Numbering.{decode};
+ghost use Rattle.scope.specs.Symbols.{symbols_of, AreOfLast};
 ghost use Rattle.frame.specs.ByPlaces.{AreBelow};
 ghost use Rattle.frame.specs.FrameOf.{HasAssertion, hypotheses};
 ghost use Rattle.frame.specs.Reading.{IsMeaning, IsPosition, IsCited, AreLegal};
@@ -87,18 +88,31 @@ impl Frames {
         requires { IsLegal self.old.statements stmt.now }
         ensures added { OnOk result (self.new.statements ≡ self.old.statements ++ bare stmt.now ∷ []) }
         ensures names { Extends self.old.names self.new.names }
+        ensures symbols { self.new.names ≡ symbols_of self.new.statements }
         ensures same { OnErr result (self.new ≡ self.old) }
         ensures counted { steps.new.count ≡ steps.old.count + 1 }
     {
-        steps.tick();
-        let names = self.stock.names.len();
-        let labels = self.stock.labels.len();
-        let replaced = self.stock.replaced.len();
-        let result = extend(self.alloc, &mut self.stock, &mut self.draft, stmt);
-        if result.is_err() {
-            roll_back(&mut self.stock, names, labels, replaced);
-        }
-        result
+        self.keep_noted(stmt, None, steps)
+    }
+
+    /// Adds the statement that the scope accepted last, as `keep` does, by the numbers that the scope noted of its
+    /// symbols.
+    pub fn keep_accepted(
+        &mut self,
+        scope: &Scope,
+        stmt: &Stmt,
+        steps: &mut Steps,
+    ) -> Result<(), AllocError>
+        requires last { scope.now.statements ≡ self.old.statements ++ bare stmt.now ∷ [] }
+        requires legal { IsLegal self.old.statements stmt.now }
+        ensures added { OnOk result (self.new.statements ≡ self.old.statements ++ bare stmt.now ∷ []) }
+        ensures names { Extends self.old.names self.new.names }
+        ensures symbols { self.new.names ≡ symbols_of self.new.statements }
+        ensures same { OnErr result (self.new ≡ self.old) }
+        ensures counted { steps.new.count ≡ steps.old.count + 1 }
+    {
+        let noted = scope.symbols();
+        self.keep_noted(stmt, noted, steps)
     }
 
     /// Adds the statement that the scope accepts next, as `keep` does.
@@ -107,11 +121,38 @@ impl Frames {
         requires legal { IsLegal scope.now.statements stmt.now }
         ensures added { OnOk result (self.new.statements ≡ self.old.statements ++ bare stmt.now ∷ []) }
         ensures names { Extends self.old.names self.new.names }
+        ensures symbols { self.new.names ≡ symbols_of self.new.statements }
         ensures same { OnErr result (self.new ≡ self.old) }
         ensures counted { steps.new.count ≡ steps.old.count + 1 }
     {
         let _scope = scope;
         self.keep(stmt, steps)
+    }
+
+    /// Adds a statement, by the numbers of its symbols where they were noted.
+    fn keep_noted(
+        &mut self,
+        stmt: &Stmt,
+        noted: Option<&[u32]>,
+        steps: &mut Steps,
+    ) -> Result<(), AllocError>
+        requires legal { IsLegal self.old.statements stmt.now }
+        requires noted { IfSome noted (λ numbers. AreOfLast (self.old.statements ++ bare stmt.now ∷ []) numbers.now) }
+        ensures added { OnOk result (self.new.statements ≡ self.old.statements ++ bare stmt.now ∷ []) }
+        ensures names { Extends self.old.names self.new.names }
+        ensures symbols { self.new.names ≡ symbols_of self.new.statements }
+        ensures same { OnErr result (self.new ≡ self.old) }
+        ensures counted { steps.new.count ≡ steps.old.count + 1 }
+    {
+        steps.tick();
+        let names = self.stock.names.len();
+        let labels = self.stock.labels.len();
+        let replaced = self.stock.replaced.len();
+        let result = extend(self.alloc, &mut self.stock, &mut self.draft, stmt, noted);
+        if result.is_err() {
+            roll_back(&mut self.stock, names, labels, replaced);
+        }
+        result
     }
 
     /// Only the first `len` statements stay.
@@ -120,6 +161,7 @@ impl Frames {
     pub fn shorten(&mut self, len: usize)
         ensures statements { self.new.statements ≡ take len self.old.statements }
         ensures names { Extends self.new.names self.old.names }
+        ensures symbols { self.new.names ≡ symbols_of self.new.statements }
     {
         cut(&mut self.stock, len);
     }

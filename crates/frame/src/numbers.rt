@@ -1,20 +1,22 @@
 //! Numbers of the symbols of a statement.
-ghost use Rattle.std.specs.Prelude.{◌≡◌, ◌+◌, ◌<◌, ◌^◌, [], ◌∷◌, ◌++◌, length, Some, IfOk, OnOk, OnErr, ℕ, slice_get};
-ghost use Rattle.mm_lex.specs.Alphabet.{Name};
-ghost use Rattle.scope.specs.Numbering.{name_at, decode, with_name, code_of, AreDistinct};
+ghost use Rattle.std.specs.Prelude.{◌≡◌, ◌+◌, ◌<◌, ◌^◌, [], ◌∷◌, ◌++◌, length, Some, IfOk, OnOk, OnErr, IfSome, true, ℕ, slice_get};
+ghost use Rattle.mm_lex.specs.Alphabet.{Name, has_name};
+ghost use Rattle.scope.specs.Numbering.{name_at, decode, with_name, with_names, code_of, AreDistinct, AreNamed};
+ghost use Rattle.scope.specs.Symbols.{symbols_in};
 ghost use Rattle.frame.specs.ByPlaces.{AreBelow};
-ghost use Rattle.frame.specs.Stored.{Extends, zero_symbol, AreZeroBehind};
+ghost use Rattle.frame.specs.Stored.{AreNumbersOf, Extends, zero_symbol, AreZeroBehind};
 
 use crate::storage::Symbol;
 use mm_lex::Words;
+use mm_read::Stmt;
 use scope::Names;
 use std::alloc::{AllocError, Global};
 
 /// There are fewer names than this: with the places of a frame before them, numbers fit in 32 bits.
 pub const NAMES_LIMIT: usize = 2147483648;
 
-/// The number of a symbol, which is given one where it has none.
-pub fn number(
+/// The number of a symbol that is declared, which is given one where it has none.
+fn declared_number(
     alloc: Global,
     names: &mut Names,
     symbols: &mut Vec<Symbol>,
@@ -23,6 +25,7 @@ pub fn number(
     requires count { length symbols.old.items ≡ length names.old }
     requires few { length names.old < 2 ^ 31 }
     ensures name { IfOk result (λ n. (n < length names.new) × (name_at names.new n ≡ word.now)) }
+    ensures made { OnOk result (names.new ≡ with_name names.old word.now) }
     ensures names { Extends names.old names.new }
     ensures symbols { AreZeroBehind symbols.old.items symbols.new.items }
     ensures count { length symbols.new.items ≡ length names.new }
@@ -30,6 +33,7 @@ pub fn number(
 {
     let count = names.len();
     let code = names.code(alloc, word)?;
+    names.distinct();
     if code < count {
         return Ok(code as u32);
     }
@@ -48,8 +52,8 @@ pub fn number(
     Ok(code as u32)
 }
 
-/// Adds the numbers of the symbols of a list to codes, of which there are none.
-pub fn numbers(
+/// Adds the numbers of the symbols of a declaration to codes, of which there are none.
+pub fn declared_numbers(
     alloc: Global,
     names: &mut Names,
     symbols: &mut Vec<Symbol>,
@@ -61,14 +65,74 @@ pub fn numbers(
     requires empty { codes.old.items ≡ [] }
     ensures codes { OnOk result (AreBelow (length names.new) codes.new.items) }
     ensures stand { OnOk result (decode names.new codes.new.items ≡ words.now) }
+    ensures made { OnOk result (names.new ≡ with_names names.old words.now) }
     ensures names { Extends names.old names.new }
     ensures symbols { AreZeroBehind symbols.old.items symbols.new.items }
     ensures count { length symbols.new.items ≡ length names.new }
     ensures few { length names.new < 2 ^ 31 }
 {
     for word in words.iter() {
-        let code = number(alloc, names, symbols, word)?;
+        let code = declared_number(alloc, names, symbols, word)?;
         codes.push(code)?;
     }
     Ok(())
+}
+
+/// The number of a symbol that has one.
+fn number(names: &Names, word: &[u8]) -> u32
+    requires few { length names.now < 2 ^ 31 }
+    requires named { has_name word.now names.now ≡ true }
+    ensures below { result < length names.now }
+    ensures name { name_at names.now result ≡ word.now }
+{
+    match names.find(word) {
+        Some(code) => code as u32,
+        None => 0,
+    }
+}
+
+/// Adds the numbers of the symbols of a list to codes, of which there are none.
+fn list_numbers(names: &Names, words: &Words, codes: &mut Vec<u32>) -> Result<(), AllocError>
+    requires few { length names.now < 2 ^ 31 }
+    requires named { AreNamed names.now words.now }
+    requires empty { codes.old.items ≡ [] }
+    ensures codes { OnOk result (AreBelow (length names.now) codes.new.items) }
+    ensures stand { OnOk result (decode names.now codes.new.items ≡ words.now) }
+{
+    for word in words.iter() {
+        codes.push(number(names, word))?;
+    }
+    Ok(())
+}
+
+/// Adds the numbers of the symbols of a statement, which all have one, to codes, of which there are none.
+pub fn numbers(names: &Names, stmt: &Stmt, codes: &mut Vec<u32>) -> Result<(), AllocError>
+    requires few { length names.now < 2 ^ 31 }
+    requires named { AreNamed names.now (symbols_in stmt.now) }
+    requires empty { codes.old.items ≡ [] }
+    ensures { OnOk result (AreNumbersOf names.now stmt.now codes.new.items) }
+{
+    match stmt {
+        Stmt::Open => Ok(()),
+        Stmt::Close => Ok(()),
+        Stmt::Const(words) => list_numbers(names, words, codes),
+        Stmt::Var(words) => list_numbers(names, words, codes),
+        Stmt::Disj(words) => list_numbers(names, words, codes),
+        Stmt::Float {
+            label: _,
+            constant,
+            variable,
+        } => {
+            codes.push(number(names, constant.as_bytes()))?;
+            codes.push(number(names, variable.as_bytes()))?;
+            Ok(())
+        }
+        Stmt::Ess { label: _, expr } => list_numbers(names, expr, codes),
+        Stmt::Axiom { label: _, expr } => list_numbers(names, expr, codes),
+        Stmt::Prove {
+            label: _,
+            expr,
+            proof: _,
+        } => list_numbers(names, expr, codes),
+    }
 }

@@ -61,7 +61,7 @@ fn enter_one(
 {
     match scope.add(statement, steps) {
         Ok(()) => {
-            frames.keep(statement, steps)?;
+            frames.keep_accepted(scope, statement, steps)?;
             Ok(None)
         }
         Err(rule) => {

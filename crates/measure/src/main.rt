@@ -122,7 +122,7 @@ fn add(scope: &mut Scope, frames: &mut Frames, statement: &Stmt, steps: &mut Ste
     ensures added { IsTrue result → frames.new.statements ≡ frames.old.statements ++ bare statement.now ∷ [] }
 {
     match scope.add(statement, steps) {
-        Ok(()) => frames.keep(statement, steps).is_ok(),
+        Ok(()) => frames.keep_accepted(scope, statement, steps).is_ok(),
         Err(_) => false,
     }
 }

@@ -122,11 +122,8 @@ fn push(scope: &mut Scope, frames: &mut Frames, statement: &Stmt) -> Option<()>
     ensures added { OnSome result (frames.new.statements ≡ frames.old.statements ++ bare statement.now ∷ []) }
 {
     let mut steps = Steps::new();
-    if scope.broken_rule(statement).is_some() {
-        return None;
-    }
-    frames.push(scope, statement, &mut steps).ok()?;
-    scope.add(statement, &mut steps).ok()
+    scope.add(statement, &mut steps).ok()?;
+    frames.keep_accepted(scope, statement, &mut steps).ok()
 }
 
 /// Adds the job of the statement that was pushed last, where it is a `$p`.

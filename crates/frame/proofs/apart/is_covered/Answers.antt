@@ -4,7 +4,6 @@ use Rattle.std.proofs.lemmas.List.{length-map, length-take-le}
 use Rattle.mm_read.specs.declared.stmt.Stmt.{Stmt}
 use Rattle.scope.specs.Active.{active, before, separated}
 use Rattle.scope.specs.Numbering.{decode}
-use Rattle.frame.specs.ByPlaces.{AreBelow}
 use Rattle.frame.specs.Links.{is_disj}
 use Rattle.frame.specs.Stored.{statements_of, stmt_of}
 use Rattle.frame.specs.Covers.{does_cover}

@@ -1,1 +1,0 @@
-use Rattle.frame.proofs.entries.add_numbers.Goals as goal

@@ -1,5 +1,5 @@
 use Rattle.std.proofs.Common.{◌≡◌, ◌+◌, ◌∙◌, ap, sym, subst, arith, length, Some}
-use Rattle.std.specs.Prelude.{map, [], ◌∷◌, ◌++◌}
+use Rattle.std.specs.Prelude.{[], ◌∷◌, ◌++◌}
 use Rattle.scope.specs.Active.{bare}
 use Rattle.frame.specs.ByPlaces.{AreBelow}
 use Rattle.frame.specs.Entries.{made}
@@ -80,6 +80,7 @@ returns-clause-stored c =
     let pushed : IsPushed k.names k.labels k.positions.items k.symbols.items k.replaced.items k.entries k.links
     new.names new.labels new.positions.items new.symbols.items c.declare.new.symbols.items c.note_replaced.new.replaced.items c.push.new.self c.links_after-links.result s e = record {
       names_more = g.names;
+      names_made = own.names;
       symbols_more = g.symbols;
       noted = λ i x q. declared i x q ∙ (ap (λ m. Some (with_declared c.kind-kind.result c.deref-3.result.now m i x)) at
           ∙ (ap (λ r. Some (with_declared c.kind-kind.result r (length k.entries + 1) i x)) c.deref-3.ensures.value
@@ -131,6 +132,7 @@ returns-clause-added c =
     let pushed : IsPushed k.names k.labels k.positions.items k.symbols.items k.replaced.items k.entries k.links
     new.names new.labels new.positions.items new.symbols.items c.declare.new.symbols.items c.note_replaced.new.replaced.items c.push.new.self c.links_after-links.result s e = record {
       names_more = g.names;
+      names_made = own.names;
       symbols_more = g.symbols;
       noted = λ i x q. declared i x q ∙ (ap (λ m. Some (with_declared c.kind-kind.result c.deref-3.result.now m i x)) at
           ∙ (ap (λ r. Some (with_declared c.kind-kind.result r (length k.entries + 1) i x)) c.deref-3.ensures.value

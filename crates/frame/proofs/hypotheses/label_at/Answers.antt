@@ -1,4 +1,4 @@
-use Rattle.std.proofs.Common.{◌≡◌, ◌∙◌, ap, sym, arith, length}
+use Rattle.std.proofs.Common.{◌≡◌, ◌∙◌, ap, sym, length}
 use Rattle.std.proofs.lemmas.List.{length-map}
 use Rattle.std.specs.Prelude.{slice_get, Some, ◌≤◌, ◌-◌, List, ℕ, map}
 use Rattle.mm_lex.specs.Alphabet.{Name}
@@ -7,7 +7,7 @@ use Rattle.scope.specs.Active.{stmt_at, label_of}
 use Rattle.frame.specs.Entries.{Entry}
 use Rattle.frame.specs.Stored.{stmt_of}
 use Rattle.frame.proofs.WalkLemmas.{some-same}
-use Rattle.frame.proofs.StoredLemmas.{get-stmt, get-index, stmt-at-suc}
+use Rattle.frame.proofs.StoredLemmas.{get-stmt, stmt-at-suc}
 use Rattle.frame.proofs.LabelLemmas.{label-below-at, label-below, label-is, label-none}
 use Rattle.frame.specs.Entries.{seen}
 use Rattle.frame.proofs.hypotheses.label_at.Goals as goal

@@ -1,4 +1,4 @@
-use Rattle.std.proofs.Common.{◌≡◌, ◌+◌, ◌<◌, ap, arith, length, sym, ◌∙◌}
+use Rattle.std.proofs.Common.{arith}
 use Rattle.frame.specs.Stored.{places_of}
 use Rattle.frame.proofs.MakeLemmas.{group-added, group-within}
 use Rattle.frame.proofs.make.add_group.Goals as goal

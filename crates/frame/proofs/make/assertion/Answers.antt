@@ -1,4 +1,4 @@
-use Rattle.std.proofs.Common.{◌≡◌, ◌∙◌, ap, sym, subst, arith, length, ◌^◌}
+use Rattle.std.proofs.Common.{◌∙◌, ap, sym, subst, arith, length, ◌^◌}
 use Rattle.frame.specs.ByPlaces.{AreBelow}
 use Rattle.frame.proofs.EnterLemmas.{ok-map}
 use Rattle.frame.proofs.NumberLemmas.{below-more}

@@ -1,5 +1,4 @@
-use Rattle.std.proofs.Common.{◌≡◌, ◌-◌, ◌∙◌, ap, sym, subst, arith, take, refl, length}
-use Rattle.std.specs.Prelude.{map}
+use Rattle.std.proofs.Common.{◌≡◌, ◌-◌, ap, sym, subst, arith, take, refl, length}
 use Rattle.std.proofs.lemmas.List.{length-map, length-take-le}
 use Rattle.frame.specs.Links.{actives, is_disj}
 use Rattle.frame.specs.Spans.{cut, AreSpansIn}

@@ -1,11 +1,10 @@
 use Rattle.std.proofs.Common.{◌≡◌, ◌-◌, ◌∙◌, ap, sym, subst, arith, length, take, refl}
 use Rattle.std.proofs.lemmas.List.{length-map, length-take-le}
 use Rattle.scope.specs.Active.{is_essential}
-use Rattle.frame.specs.ByPlaces.{AreBelow}
 use Rattle.frame.specs.Links.{actives}
 use Rattle.frame.specs.Stored.{statements_of, stmt_of, inserted, with_floats, with_essentials, symbols_at, option_symbols, IsLooked}
 use Rattle.frame.proofs.WalkLemmas.{walk-back, walk-over, last-within}
-use Rattle.frame.proofs.StoredLemmas.{get-index, numbered-at}
+use Rattle.frame.proofs.StoredLemmas.{numbered-at}
 use Rattle.frame.proofs.CollectLemmas.{essentials-step}
 use Rattle.frame.proofs.LookedLemmas.{looked-inserted}
 use Rattle.frame.specs.Entries.{seen}

@@ -1,15 +1,13 @@
-use Rattle.std.proofs.Common.{◌≡◌, ◌∙◌, ap, sym, subst, arith, length}
+use Rattle.std.proofs.Common.{◌≡◌, ◌∙◌, ap, sym, subst, length}
 use Rattle.std.proofs.lemmas.List.{length-map}
 use Rattle.std.specs.Prelude.{slice_get, Some, ◌≤◌, ◌-◌, List, ℕ, map}
 use Rattle.mm_lex.specs.Alphabet.{Name}
 use Rattle.mm_read.specs.declared.stmt.Stmt.{Stmt}
 use Rattle.scope.specs.Active.{stmt_at, expr_of}
-use Rattle.scope.specs.Numbering.{decode}
-use Rattle.frame.specs.ByPlaces.{AreBelow}
 use Rattle.frame.specs.Entries.{Entry}
 use Rattle.frame.specs.Stored.{stmt_of}
 use Rattle.frame.proofs.WalkLemmas.{some-same}
-use Rattle.frame.proofs.StoredLemmas.{HasExpr, get-stmt, get-index, stmt-at-suc, two-of, numbered-at, entry-expr, entry-none, none-of}
+use Rattle.frame.proofs.StoredLemmas.{HasExpr, get-stmt, stmt-at-suc, two-of, numbered-at, entry-expr, entry-none, none-of}
 use Rattle.frame.specs.Entries.{seen}
 use Rattle.frame.proofs.reading.expr_at.Goals as goal
 

@@ -6,7 +6,7 @@ use Rattle.scope.specs.Active.{stmt_at, is_assertion}
 use Rattle.frame.specs.Citations.{is_hypothesis_kind}
 use Rattle.frame.specs.Stored.{statements_of, stmt_of}
 use Rattle.frame.proofs.WalkLemmas.{some-same}
-use Rattle.frame.proofs.StoredLemmas.{IsCitable, get-stmt, get-index, stmt-at-suc, entry-none, none-of, entry-assertion}
+use Rattle.frame.proofs.StoredLemmas.{IsCitable, get-stmt, stmt-at-suc, entry-none, none-of, entry-assertion}
 use Rattle.frame.specs.Entries.{seen}
 use Rattle.frame.proofs.reading.meaning_at.Goals as goal
 

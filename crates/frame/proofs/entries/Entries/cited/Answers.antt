@@ -1,10 +1,9 @@
-use Rattle.std.proofs.Common.{◌≡◌, ◌<◌, ◌≤◌, ◌-◌, length, slice_get, Some, sym, ap, ◌∙◌, arith, subst}
+use Rattle.std.proofs.Common.{◌≡◌, ◌<◌, ◌-◌, length, slice_get, sym, ap, ◌∙◌, arith, subst}
 use Rattle.std.specs.Prelude.{slice_range}
-use Rattle.frame.specs.Records.{entry_of, sizes_of}
-use Rattle.frame.specs.Entries.{Entry}
+use Rattle.frame.specs.Records.{sizes_of}
 use Rattle.frame.specs.Spans.{cut, AreSpansIn}
 use Rattle.frame.proofs.SpanLemmas.{part-of, length-range}
-use Rattle.frame.proofs.RecordLemmas.{within-at, groups-at, is-entry, the-entry, index-in}
+use Rattle.frame.proofs.RecordLemmas.{within-at, groups-at, the-entry, index-in}
 use Rattle.frame.proofs.entries.Entries.cited.Goals as goal
 
 pub item-record-requires : goal.item-record-requires

@@ -1,10 +1,7 @@
-use Rattle.std.proofs.Common.{◌≡◌, ◌<◌, ◌≤◌, ◌-◌, length, slice_get, Some, sym, ap, ◌∙◌, arith, subst}
-use Rattle.std.specs.Prelude.{slice_range}
-use Rattle.frame.specs.Records.{entry_of, sizes_of}
-use Rattle.frame.specs.Entries.{Entry}
-use Rattle.frame.specs.Spans.{cut, AreSpansIn}
+use Rattle.std.proofs.Common.{◌<◌, length, slice_get, sym, ap, ◌∙◌, arith, subst}
+use Rattle.frame.specs.Records.{sizes_of}
 use Rattle.frame.proofs.SpanLemmas.{part-of}
-use Rattle.frame.proofs.RecordLemmas.{within-at, groups-at, is-entry, the-entry, index-in}
+use Rattle.frame.proofs.RecordLemmas.{within-at, the-entry, index-in}
 use Rattle.frame.proofs.entries.Entries.hypotheses.Goals as goal
 
 pub item-record-requires : goal.item-record-requires

@@ -1,7 +1,7 @@
-use Rattle.std.proofs.Common.{◌≡◌, ◌<◌, ◌+◌, ◌^◌, ◌∙◌, ap, sym, arith, length}
-use Rattle.std.specs.Prelude.{true, false, ◌++◌, ◌∷◌, []}
+use Rattle.std.proofs.Common.{◌∙◌, ap, sym, arith}
+use Rattle.std.specs.Prelude.{◌++◌, ◌∷◌, []}
 use Rattle.frame.specs.Entries.{made}
-use Rattle.frame.proofs.RecordLemmas.{packed-push, items-push, packed-back, items-back, on-ok, on-err, ok-weaker}
+use Rattle.frame.proofs.RecordLemmas.{packed-push, items-push, packed-back, on-ok, on-err, ok-weaker}
 use Rattle.frame.proofs.entries.Entries.push.Goals as goal
 
 pub invariant_of-self : goal.invariant_of-self

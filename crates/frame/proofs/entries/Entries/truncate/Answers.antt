@@ -1,5 +1,5 @@
-use Rattle.std.proofs.Common.{◌≡◌, ◌∙◌, ap, sym, subst, take}
-use Rattle.std.specs.Prelude.{slice_get, Some, map}
+use Rattle.std.proofs.Common.{◌∙◌, ap, sym, subst, take}
+use Rattle.std.specs.Prelude.{slice_get, map}
 use Rattle.frame.specs.Records.{ArePacked, entry_of}
 use Rattle.frame.proofs.RecordLemmas.{packed-cut, items-cut}
 use Rattle.frame.proofs.entries.Entries.truncate.Goals as goal

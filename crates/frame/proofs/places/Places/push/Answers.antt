@@ -1,5 +1,5 @@
 use Rattle.std.proofs.Common.{◌≡◌, sym, ap, subst, ◌∙◌, arith}
-use Rattle.std.specs.Prelude.{◌++◌, ◌∷◌, [], Some, None, slice_get, length}
+use Rattle.std.specs.Prelude.{◌++◌, ◌∷◌, [], Some, None, length}
 use Rattle.frame.specs.Places.{place_of, AreMarked}
 use Rattle.frame.proofs.MarkLemmas.{marked-same, marked-new, none-is, some-is}
 use Rattle.frame.proofs.WalkLemmas.{some-same}

@@ -1,13 +1,14 @@
 use Rattle.std.proofs.Common.{◌≡◌, ◌<◌, ◌^◌, ◌++◌, length}
-use Rattle.scope.specs.Numbering.{decode}
+use Rattle.scope.specs.Numbering.{decode, with_names}
 use Rattle.frame.specs.ByPlaces.{AreBelow}
 use Rattle.frame.specs.Stored.{Extends, AreZeroBehind}
-use Rattle.frame.proofs.numbers.numbers.Given as goal
+use Rattle.frame.proofs.numbers.declared_numbers.Given as goal
 
 abbrev pub invariant-loop-word : goal.invariant-loop-word
 invariant-loop-word l = record {
   codes : AreBelow (length l.names) l.codes.items;
   stand : decode l.names l.codes.items ++ l.word-iterator ≡ l.words;
+  made : with_names l.names l.word-iterator ≡ with_names l.fn.names l.words;
   names : Extends l.fn.names l.names;
   symbols : AreZeroBehind l.fn.symbols.items l.symbols.items;
   count : length l.symbols.items ≡ length l.names;

@@ -1,7 +1,11 @@
-use Rattle.std.proofs.Common.{◌∙◌, ap, sym, take, arith}
-use Rattle.frame.specs.Stored.{IsBehind}
+use Rattle.std.proofs.Common.{◌∙◌, ◌++◌, ◌∷◌, [], ap, sym, subst, take, arith}
+use Rattle.std.proofs.lemmas.Option.{IfSome_then}
+use Rattle.scope.specs.Active.{bare}
+use Rattle.scope.specs.Symbols.{AreOfLast}
+use Rattle.frame.specs.Stored.{IsBehind, statements_of}
+use Rattle.frame.proofs.SymbolsLemmas.{noted-numbers}
 use Rattle.frame.proofs.StoredLemmas.{back-stored, on-err}
-use Rattle.frame.proofs.frames.Frames.keep.Goals as goal
+use Rattle.frame.proofs.frames.Frames.keep_noted.Goals as goal
 
 pub invariant_of-self : goal.invariant_of-self
 invariant_of-self c =
@@ -18,3 +22,9 @@ invariant_of-self c =
       entries_cut = cut.entries;
       links_cut = cut.links;
     })
+
+pub extend-result-requires-clause-noted : goal.extend-result-requires-clause-noted
+extend-result-requires-clause-noted c =
+    let k = c.self.inside.stock in
+    IfSome_then c.args.noted c.requires.noted (λ numbers noted. noted-numbers (statements_of k) k.names c.args.stmt.now numbers.now c.self.invariant.names_kept
+    (subst (λ S. AreOfLast (S ++ bare c.args.stmt.now ∷ []) numbers.now) (sym (ap (λ v. v.statements) c.self.view_is)) noted))
