@@ -8,7 +8,7 @@ pub enum Pattern {
     /// This constant, and then anything: the hypothesis is a `$f`.
     Typed(u32),
     /// The template from the one place to the other, filled: the hypothesis is a `$e`.
-    Full(usize, usize),
+    Full(u32, u32),
 }
 
 /// An assertion by the places of its hypotheses. With r hypotheses a number below r is a place,

@@ -13,7 +13,7 @@ use crate::kind::Kind;
 use crate::mandatory::mandatory;
 use crate::numbers::NAMES_LIMIT;
 use crate::places::Places;
-use crate::span::{Span, between};
+use crate::span::{Span, between, place};
 use crate::storage::Stock;
 use crate::templates::{add_places, add_template, variable_of};
 use std::alloc::AllocError;
@@ -46,9 +46,9 @@ fn pattern(
     match entry.kind {
         Kind::Float => Ok(Pattern::Typed(entry.symbols[0])),
         _ => {
-            let from = templates.len();
+            let from = place(templates.len())?;
             add_template(variables, entry.symbols, templates)?;
-            Ok(Pattern::Full(from, templates.len()))
+            Ok(Pattern::Full(from, place(templates.len())?))
         }
     }
 }

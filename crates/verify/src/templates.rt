@@ -77,7 +77,10 @@ pub fn fits_one(
     let whole = result_at(symbols, places[k]);
     match pattern {
         Pattern::Typed(constant) => !whole.is_empty() && whole[0] == constant,
-        Pattern::Full(from, to) => matches(symbols, places, &templates[from..to], whole),
+        Pattern::Full(from, to) => {
+            let template = &templates[from as usize..to as usize];
+            matches(symbols, places, template, whole)
+        }
     }
 }
 
