@@ -13,7 +13,7 @@ use Rattle.frame.specs.ByPlaces.{AreBelow}
 use Rattle.frame.specs.declared.record.Head.{Head}
 use Rattle.frame.specs.declared.draft.Draft.{Draft}
 use Rattle.frame.specs.Spans.{AreSpansIn}
-use Rattle.frame.specs.Entries.{made, drafted, IsDraft, IsPartless}
+use Rattle.frame.specs.Entries.{Assertion, IsDraft, IsPartless}
 use Rattle.frame.specs.declared.storage.Stock.{Stock}
 use Rattle.frame.specs.Stored.{stmt_by, AreNumbersOf, Entered, IsHead, IsKeptOf, IsNext, statements_of, kind_of, is_assertion_kind, IsLabelBelow, HasTwo, option_list, option_position}
 use Rattle.frame.proofs.SymbolsLemmas.{symbols_by-bare}
@@ -114,33 +114,33 @@ next-bare k codes (stmt.Disj names) l a e = cc
 next-bare k codes (stmt.Float label constant variable) l a e = cc
 next-bare k codes (stmt.Ess label expr) l a e = cc
 
--- the numbers of the symbols, then the parts, then the label: what is kept of the draft is the statement
-pub entered-statement : (old mid new : Stock) (d : Draft) (h : Head) (s : Stmt) → IsHead old (bare s) h
-    → mid.names ≡ with_names old.names (symbols_by s) → AreNumbersOf mid.names s d.symbols.items → new.names ≡ mid.names
+-- the numbers of the symbols, then the parts, then the label: what is kept is the statement
+pub entered-statement : (old mid new : Stock) (codes : List ℕ) (d : Assertion) (h : Head) (s : Stmt) → IsHead old (bare s) h
+    → mid.names ≡ with_names old.names (symbols_by s) → AreNumbersOf mid.names s codes → new.names ≡ mid.names
     → new.labels ≡ old.labels ++ option_list (label_of s) [] → new.positions.items ≡ old.positions.items ++ option_position (label_of s) (length old.entries + 1) []
-    → (is_assertion s ≡ true → IsKeptOf old d.symbols.items (bare s) (drafted d))
-    → Entered old new (bare s) (made h d)
-entered-statement old mid new d h s head made_names numbers same_names labels positions kept =
+    → (is_assertion s ≡ true → IsKeptOf old codes (bare s) d)
+    → Entered old new (bare s) (record { kind = h.kind; label = h.label; names = h.names; links = h.links; symbols = codes; assertion = d })
+entered-statement old mid new codes d h s head made_names numbers same_names labels positions kept =
     let kind : h.kind ≡ kind_of s = head.kind ∙ kind_of-bare s in
     let same_label = label_of-bare s in
-    let stand : decode new.names d.symbols.items ≡ symbols_in s = ap (λ ns. decode ns d.symbols.items) same_names ∙ numbers.stand in
+    let stand : decode new.names codes ≡ symbols_in s = ap (λ ns. decode ns codes) same_names ∙ numbers.stand in
     record {
-      stands = ap (λ q. stmt_by q (name_at new.labels h.label) (decode new.names d.symbols.items)) kind
-          ∙ (ap (λ n. stmt_by (kind_of s) (name_at new.labels n) (decode new.names d.symbols.items)) head.label
-          ∙ (ap (λ ls. stmt_by (kind_of s) (name_at ls (length old.labels)) (decode new.names d.symbols.items)) labels
+      stands = ap (λ q. stmt_by q (name_at new.labels h.label) (decode new.names codes)) kind
+          ∙ (ap (λ n. stmt_by (kind_of s) (name_at new.labels n) (decode new.names codes)) head.label
+          ∙ (ap (λ ls. stmt_by (kind_of s) (name_at ls (length old.labels)) (decode new.names codes)) labels
           ∙ (ap (stmt_by (kind_of s) (name_at (old.labels ++ option_list (label_of s) []) (length old.labels))) stand ∙ stands-for s old.labels)));
-      symbols = subst (λ ns. AreBelow (length ns) d.symbols.items) (sym same_names) numbers.below;
+      symbols = subst (λ ns. AreBelow (length ns) codes) (sym same_names) numbers.below;
       label = subst (λ q. IsLabelBelow q h.label (length new.labels)) (sym kind)
           (subst (λ n. IsLabelBelow (kind_of s) n (length new.labels)) (sym head.label)
           (subst (λ ls. IsLabelBelow (kind_of s) (length old.labels) (length ls)) (sym labels) (label-below s old.labels)));
       names_before = head.names;
       labels_before = head.label;
-      two = subst (λ q. HasTwo q d.symbols.items) (sym kind) (has-two s new.names d.symbols.items stand);
+      two = subst (λ q. HasTwo q codes) (sym kind) (has-two s new.names codes stand);
       names = same_names ∙ (made_names ∙ ap (with_names old.names) (sym (symbols_by-bare s)));
       labels = labels ∙ ap (λ o. old.labels ++ option_list o []) (sym same_label);
       positions = positions ∙ ap (λ o. old.positions.items ++ option_position o (length old.entries + 1) []) (sym same_label);
       links = head.links;
-      kept = λ a. kept (sym (ap is_assertion_kind kind ∙ assertion-kind s) ∙ a) (made h d) refl;
+      kept = λ a. kept (sym (ap is_assertion_kind kind ∙ assertion-kind s) ∙ a) (record { kind = h.kind; label = h.label; names = h.names; links = h.links; symbols = codes; assertion = d }) refl;
     }
 
 pub partless-draft : (d : Draft) → IsPartless d → IsDraft d

@@ -10,6 +10,7 @@ pub mod UndoLemmas
 pub mod SymbolsLemmas
 pub mod EnterLemmas
 pub mod StoredLemmas
+pub mod ExtendLemmas
 pub mod CutLemmas
 pub mod CollectLemmas
 pub mod PairsLemmas

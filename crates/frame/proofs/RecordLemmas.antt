@@ -6,9 +6,7 @@ use Rattle.std.proofs.lemmas.Option.{slice_get_within, slice_get-map}
 use Rattle.std.proofs.Math.Seq.{take-append_seam}
 use Rattle.frame.specs.declared.record.Record.{Record}
 use Rattle.frame.specs.declared.record.Buffers.{Buffers}
-use Rattle.frame.specs.declared.record.Head.{Head}
-use Rattle.frame.specs.declared.draft.Draft.{Draft}
-use Rattle.frame.specs.Entries.{Entry, made}
+use Rattle.frame.specs.Entries.{Entry}
 use Rattle.frame.specs.Spans.{AreSpansIn, Extends}
 use Rattle.frame.specs.Records.{entry_of, Sizes, sizes_of, start_of, IsWithin, AreWithin, HasGroups, HaveGroups, ArePacked, Grows, IsAdded}
 use Rattle.frame.proofs.SpanLemmas.{range-extends, extends-length, extends-take, take-extends}
@@ -121,8 +119,8 @@ ordered-push rs r old here i q e = by (get-push rs r q i e)
     by (inr p) = subst (λ (x : Record). AreWithin (start_of x) (take i (rs ++ r ∷ []))) p.1
         (subst (AreWithin (start_of r)) (sym (ap (λ n. take n (rs ++ r ∷ [])) p.0 ∙ take-append_seam rs (r ∷ []))) here)
 
-pub packed-push : (b c : Buffers) (rs qs : List Record) (h : Head) (d : Draft) → ArePacked b rs → Grows b c → IsAdded b c rs qs h d → length rs + 2 < 2 ^ 32 → ArePacked c qs
-packed-push b c rs qs h d p g a few =
+pub packed-push : (b c : Buffers) (rs qs : List Record) (e : Entry) → ArePacked b rs → Grows b c → IsAdded b c rs qs e → length rs + 2 < 2 ^ 32 → ArePacked c qs
+packed-push b c rs qs e p g a few =
     let r = a.last in
     let more = within-more (sizes_of b) (sizes_of c) rs (more-grown b c g) p.within in
     let l = length-append rs (r ∷ []) in
@@ -134,10 +132,10 @@ packed-push b c rs qs h d p g a few =
       few = omega arith;
     })
 
-pub items-push : (b c : Buffers) (rs qs : List Record) (h : Head) (d : Draft) → ArePacked b rs → Grows b c → IsAdded b c rs qs h d → map (entry_of c) qs ≡ map (entry_of b) rs ++ made h d ∷ []
-items-push b c rs qs h d p g a =
+pub items-push : (b c : Buffers) (rs qs : List Record) (e : Entry) → ArePacked b rs → Grows b c → IsAdded b c rs qs e → map (entry_of c) qs ≡ map (entry_of b) rs ++ e ∷ []
+items-push b c rs qs e p g a =
     let same = entries-same b c rs g p.within p.paired in
-    ap (map (entry_of c)) a.behind ∙ (map-append (entry_of c) rs (a.last ∷ []) ∙ (ap (λ es. es ++ entry_of c a.last ∷ []) same ∙ ap (λ e. map (entry_of b) rs ++ e ∷ []) a.entry))
+    ap (map (entry_of c)) a.behind ∙ (map-append (entry_of c) rs (a.last ∷ []) ∙ (ap (λ es. es ++ entry_of c a.last ∷ []) same ∙ ap (λ x. map (entry_of b) rs ++ x ∷ []) a.entry))
 
 -- ---- fewer statements
 

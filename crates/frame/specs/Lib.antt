@@ -16,3 +16,4 @@ pub mod Records
 pub mod Stored
 pub mod Labels
 pub mod OneFrame
+pub mod Plain

@@ -7,7 +7,7 @@ use Rattle.frame.specs.declared.record.Buffers.{Buffers}
 use Rattle.frame.specs.declared.record.Ends.{Ends}
 use Rattle.frame.specs.declared.record.Head.{Head}
 use Rattle.frame.specs.declared.draft.Draft.{Draft}
-use Rattle.frame.specs.Entries.{Entry, made}
+use Rattle.frame.specs.Entries.{Entry}
 use Rattle.frame.specs.Spans.{cut, AreSpansIn, Extends}
 
 abbrev pub entry_of : Buffers → Record → Entry
@@ -91,11 +91,22 @@ pub record AreEnds (old new : List ℕ) (d : Draft) (e : Ends) : Type 0 where
   pub conclusion : slice_range new e.templates e.conclusion ≡ d.conclusion.items
   pub places : slice_range new e.conclusion e.places ≡ d.places.items
 
--- behind the records stands one more, of the draft, with its parts behind the others
-pub record IsAdded (old new : Buffers) (rs qs : List Record) (h : Head) (d : Draft) : Type 0 where
+-- a statement that has no parts of an assertion
+abbrev pub plain : Head → List ℕ → Entry
+plain h codes = record {
+  kind = h.kind;
+  label = h.label;
+  names = h.names;
+  links = h.links;
+  symbols = codes;
+  assertion = record { hypotheses = []; patterns = []; templates = []; conclusion = []; groups = [] };
+}
+
+-- behind the records stands one more, of the statement e, with its parts behind the others
+pub record IsAdded (old new : Buffers) (rs qs : List Record) (e : Entry) : Type 0 where
   pub last : Record
   pub behind : qs ≡ rs ++ last ∷ []
-  pub entry : entry_of new last ≡ made h d
+  pub entry : entry_of new last ≡ e
   pub within : IsWithin (sizes_of new) last
   pub grouped : HasGroups new last
   pub start : start_of last ≡ sizes_of old

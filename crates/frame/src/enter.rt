@@ -1,5 +1,5 @@
 //! A statement as numbers.
-ghost use Rattle.std.specs.Prelude.{◌≡◌, ◌+◌, ◌<◌, ◌^◌, ◌++◌, ◌∷◌, [], length, IfOk, OnOk, IfSome, option_map, true, false};
+ghost use Rattle.std.specs.Prelude.{◌≡◌, ◌+◌, ◌<◌, ◌^◌, ◌++◌, ◌∷◌, [], length, IfOk, OnOk, IfSome, true, false};
 ghost use Rattle.mm_read.specs.declared.stmt.Stmt.{Stmt as Statement};
 ghost use Rattle.scope.specs.Active.{bare, label_of, is_assertion};
 ghost use Rattle.scope.specs.Legal.{IsLegal};
@@ -16,9 +16,9 @@ use crate::kind::Kind;
 use crate::make::assertion;
 use crate::numbers::{declared_numbers, numbers};
 use crate::record::Head;
+use crate::shape::{is_assertion, label};
 use crate::span::place;
 use crate::storage::Stock;
-use mm_lex::Word;
 use mm_read::Stmt;
 use scope::Names;
 use std::alloc::{AllocError, Global};
@@ -91,29 +91,8 @@ fn known_numbers(
     }
 }
 
-/// The label of a statement.
-fn label(stmt: &Stmt) -> Option<&Word>
-    ensures { option_map (λ word. word.now) result ≡ label_of stmt.now }
-{
-    match stmt {
-        Stmt::Float {
-            label,
-            constant: _,
-            variable: _,
-        } => Some(label),
-        Stmt::Ess { label, expr: _ } => Some(label),
-        Stmt::Axiom { label, expr: _ } => Some(label),
-        Stmt::Prove {
-            label,
-            expr: _,
-            proof: _,
-        } => Some(label),
-        _ => None,
-    }
-}
-
 /// Gives the label of the statement that comes next, where it has one, its number and its position.
-fn enter_label(alloc: Global, stock: &mut Stock, stmt: &Stmt) -> Result<(), AllocError>
+pub fn enter_label(alloc: Global, stock: &mut Stock, stmt: &Stmt) -> Result<(), AllocError>
     requires fresh { IsFresh stock.old.labels (label_of stmt.now) }
     ensures grown { Grown stock.old stock.new }
     ensures names { stock.new.names ≡ stock.old.names }
@@ -146,13 +125,6 @@ fn keep(stock: &Stock, draft: &mut Draft) -> Result<(), AllocError>
 {
     stock.names.distinct();
     assertion(stock, draft)
-}
-
-/// Whether a statement is an assertion.
-fn is_assertion(stmt: &Stmt) -> bool
-    ensures { result ≡ is_assertion stmt.now }
-{
-    matches!(stmt, Stmt::Axiom { .. } | Stmt::Prove { .. })
 }
 
 /// Finds the parts of an assertion with the symbols of the draft. Another statement has none.

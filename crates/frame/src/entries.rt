@@ -1,7 +1,7 @@
 //! The statements of a database as numbers, by position.
 ghost use Rattle.std.specs.Prelude.{◌≡◌, ◌≤◌, ◌<◌, ◌+◌, ◌^◌, ◌++◌, ◌∷◌, [], length, take, slice_get, Some, OnOk, OnErr, IfOk};
 ghost use Rattle.frame.specs.Entries.{Entry, IsEntry, IsDraft, made};
-ghost use Rattle.frame.specs.Records.{IsAdded, Grows, AreEnds};
+ghost use Rattle.frame.specs.Records.{IsAdded, Grows, AreEnds, plain};
 ghost use Rattle.frame.specs.Spans.{Extends};
 
 use crate::citation::Cited;
@@ -133,6 +133,26 @@ impl Entries {
         added
     }
 
+    /// Adds a statement that has no parts of an assertion, with these symbols. Where a growth is refused, everything is
+    /// as before.
+    pub fn push_plain(&mut self, head: Head, codes: &[u32]) -> Result<(), AllocError>
+        ensures added { OnOk result (self.new ≡ self.old ++ plain head codes.now ∷ []) }
+        ensures same { OnErr result (self.new ≡ self.old) }
+    {
+        let count = self.records.len();
+        if count + 2 >= u32::MAX as usize {
+            return Err(AllocError);
+        }
+        let numbers = self.buffers.numbers.len();
+        let hypotheses = self.buffers.hypotheses.len();
+        let groups = self.buffers.groups.len();
+        let added = add_plain(&mut self.records, &mut self.buffers, head, codes);
+        if added.is_err() {
+            cut(&mut self.buffers, numbers, hypotheses, groups);
+        }
+        added
+    }
+
     /// Keeps the first `len` statements. It takes no memory.
     pub fn truncate(&mut self, len: usize)
         ensures { self.new ≡ take len self.old }
@@ -159,7 +179,7 @@ fn add(
 ) -> Result<(), AllocError>
     requires draft { IsDraft draft.now }
     requires paired { length buffers.old.patterns.items ≡ length buffers.old.hypotheses.items }
-    ensures added { OnOk result (IsAdded buffers.old buffers.new records.old.items records.new.items head draft.now) }
+    ensures added { OnOk result (IsAdded buffers.old buffers.new records.old.items records.new.items (made head draft.now)) }
     ensures grows { Grows buffers.old buffers.new }
     ensures same { OnErr result (records.new.items ≡ records.old.items) }
 {
@@ -177,6 +197,41 @@ fn add(
             hypotheses_from,
             hypotheses,
             groups_from,
+            groups,
+        },
+    )
+}
+
+/// Adds a statement that has no parts of an assertion, and its record.
+fn add_plain(
+    records: &mut Vec<Record>,
+    buffers: &mut Buffers,
+    head: Head,
+    codes: &[u32],
+) -> Result<(), AllocError>
+    requires paired { length buffers.old.patterns.items ≡ length buffers.old.hypotheses.items }
+    ensures added { OnOk result (IsAdded buffers.old buffers.new records.old.items records.new.items (plain head codes.now)) }
+    ensures grows { Grows buffers.old buffers.new }
+    ensures same { OnErr result (records.new.items ≡ records.old.items) }
+{
+    let from = place(buffers.numbers.len())?;
+    let hypotheses = place(buffers.hypotheses.len())?;
+    let groups = place(buffers.groups.len())?;
+    let to = append(&mut buffers.numbers, codes)?;
+    add_record(
+        records,
+        Record {
+            head,
+            ends: Ends {
+                from,
+                symbols: to,
+                templates: to,
+                conclusion: to,
+                places: to,
+            },
+            hypotheses_from: hypotheses,
+            hypotheses,
+            groups_from: groups,
             groups,
         },
     )

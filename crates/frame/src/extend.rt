@@ -4,43 +4,43 @@ ghost use Rattle.scope.specs.Active.{bare};
 ghost use Rattle.scope.specs.Legal.{IsLegal};
 ghost use Rattle.scope.specs.Numbering.{with_names};
 ghost use Rattle.scope.specs.Symbols.{symbols_by};
-ghost use Rattle.frame.specs.Stored.{AreNumbersOf, AreStored, IsBehind, Extends, statements_of, kind_of};
+ghost use Rattle.frame.specs.Stored.{AreNumbersOf, AreStored, IsBehind, Extends, statements_of};
 
 use crate::declare::{declare, links_after};
 use crate::draft::Draft;
 use crate::enter::{enter, head};
-use crate::kind::Kind;
+use crate::plain::{extend_plain, plain_numbers};
+use crate::shape::kind;
 use crate::storage::Stock;
 use crate::undo::{note_replaced, take_away};
 use mm_read::Stmt;
 use std::alloc::{AllocError, Global};
 
-fn kind(stmt: &Stmt) -> Kind
-    ensures { result ≡ kind_of (bare stmt.now) }
+/// Adds the statement behind the others, with the numbers of its symbols where they were noted. Where a growth is refused,
+/// more may be left behind what was there.
+pub fn extend(
+    alloc: Global,
+    stock: &mut Stock,
+    draft: &mut Draft,
+    stmt: &Stmt,
+    noted: Option<&[u32]>,
+) -> Result<(), AllocError>
+    requires stored { AreStored stock.old }
+    requires legal { IsLegal (statements_of stock.old) stmt.now }
+    requires noted { IfSome noted (λ numbers. AreNumbersOf (with_names stock.old.names (symbols_by stmt.now)) stmt.now numbers.now) }
+    ensures stored { OnOk result (AreStored stock.new) }
+    ensures added { OnOk result (statements_of stock.new ≡ statements_of stock.old ++ bare stmt.now ∷ []) }
+    ensures names { Extends stock.old.names stock.new.names }
+    ensures behind { OnErr result (IsBehind stock.old stock.new) }
 {
-    match stmt {
-        Stmt::Open => Kind::Open,
-        Stmt::Close => Kind::Close,
-        Stmt::Const(_) => Kind::Const,
-        Stmt::Var(_) => Kind::Var,
-        Stmt::Disj(_) => Kind::Disj,
-        Stmt::Float {
-            label: _,
-            constant: _,
-            variable: _,
-        } => Kind::Float,
-        Stmt::Ess { label: _, expr: _ } => Kind::Ess,
-        Stmt::Axiom { label: _, expr: _ } => Kind::Axiom,
-        Stmt::Prove {
-            label: _,
-            expr: _,
-            proof: _,
-        } => Kind::Prove,
+    match plain_numbers(&stock.names, stmt, noted) {
+        Some(codes) => extend_plain(alloc, stock, stmt, codes),
+        None => extend_drafted(alloc, stock, draft, stmt, noted),
     }
 }
 
-/// Adds the statement behind the others, with the numbers of its symbols where they were noted. Where a growth is refused, more may be left behind what was there.
-pub fn extend(
+/// The same by way of the draft.
+fn extend_drafted(
     alloc: Global,
     stock: &mut Stock,
     draft: &mut Draft,

@@ -3,7 +3,7 @@
 //! `Frames` keeps the statements of a database by position, and reads off them what a verifier asks:
 //! what a citation means at a statement, an assertion by the places of its hypotheses, and the variables that are kept apart.
 //! `frame` gathers the `Frame` of one assertion from what is active.
-//! Reading order: `links`, `entries`, `storage`, `numbers`, `declare`, `undo`, `enter`, `extend`, `reading`, `hypotheses`, `frames`; `assertion`, `one_frame`.
+//! Reading order: `links`, `entries`, `storage`, `numbers`, `declare`, `undo`, `enter`, `plain`, `extend`, `reading`, `hypotheses`, `frames`; `assertion`, `one_frame`.
 #![tactic(auto)]
 
 mod apart;
@@ -27,8 +27,10 @@ mod numbers;
 mod one_frame;
 mod pairs;
 mod places;
+mod plain;
 mod reading;
 mod record;
+mod shape;
 mod span;
 mod storage;
 #[cfg(test)]

@@ -25,7 +25,7 @@ returns-clause-entered c = λ h head.
     let first = c.in_ok-enter_symbols.ensures in
     let parts = c.in_ok-enter_parts.ensures in
     ok-both c.enter_label.result _ _ _
-    (λ labels positions. entered-statement old mid new d h s head first.names (subst (AreNumbersOf mid.names s) (sym parts.symbols) first.numbers) c.enter_label.ensures.names
+    (λ labels positions. entered-statement old mid new d.symbols.items (drafted d) h s head first.names (subst (AreNumbersOf mid.names s) (sym parts.symbols) first.numbers) c.enter_label.ensures.names
     (labels ∙ ap (λ ls. ls ++ option_list (label_of s) []) first.same_labels)
     (positions ∙ (ap (λ ps. ps ++ option_position (label_of s) (length mid.entries + 1) []) first.same_positions
     ∙ ap (λ es. old.positions.items ++ option_position (label_of s) (length es + 1) []) first.grown.entries))

@@ -18,12 +18,12 @@ pub invariant_of-self-else-is_err : goal.invariant_of-self-else-is_err
 invariant_of-self-else-is_err c =
     let b = c.self.inside.buffers in
     let done = sym c.is_err.ensures.value ∙ c.if-is_err.false in
-    packed-push b c.add-added.new.buffers c.self.inside.records.items c.add-added.new.records.items c.args.head c.args.draft.now
+    packed-push b c.add-added.new.buffers c.self.inside.records.items c.add-added.new.records.items (made c.args.head c.args.draft.now)
     c.self.invariant c.add-added.ensures.grows (on-ok c.add-added.result _ done c.add-added.ensures.added) (omega (arith, c.len-count.ensures))
 
 pub returns-else-is_err-clause-added : goal.returns-else-is_err-clause-added
 returns-else-is_err-clause-added c =
     let b = c.self.inside.buffers in
     ok-weaker c.add-added.result _ _
-    (λ a. items-push b c.add-added.new.buffers c.self.inside.records.items c.add-added.new.records.items c.args.head c.args.draft.now c.self.invariant c.add-added.ensures.grows a
+    (λ a. items-push b c.add-added.new.buffers c.self.inside.records.items c.add-added.new.records.items (made c.args.head c.args.draft.now) c.self.invariant c.add-added.ensures.grows a
     ∙ ap (λ es. es ++ made c.args.head c.args.draft.now ∷ []) c.self.view_is) c.add-added.ensures.added

@@ -5,7 +5,7 @@ use Rattle.frame.specs.ByPlaces.{AreBelow}
 use Rattle.frame.specs.Entries.{made}
 use Rattle.frame.specs.Stored.{statements_of, kind_of, HasTwo, ReadsAs, replaced_by, symbol_of, with_declared}
 use Rattle.frame.proofs.StoredLemmas.{IsPushed, kept-pushed, pushed-statements, legal-bare, legal-fresh, still-reads}
-use Rattle.frame.proofs.extend.extend.Goals as goal
+use Rattle.frame.proofs.extend.extend_drafted.Goals as goal
 
 pub enter-requires-clause-fresh : goal.enter-requires-clause-fresh
 enter-requires-clause-fresh c =

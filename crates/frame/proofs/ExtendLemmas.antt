@@ -1,0 +1,68 @@
+-- What was done to the parts of the storage for one more statement.
+use Rattle.std.specs.Prelude.{◌≡◌, ℕ, ◌+◌, List, [], ◌∷◌, ◌++◌, length, slice_get, Some, Result, Ok, Err, OnErr}
+use Rattle.std.proofs.Common.{◌∙◌, ap, sym, subst, append-nil}
+use Rattle.mm_read.specs.declared.stmt.Stmt.{Stmt}
+use Rattle.scope.specs.Legal.{IsLegal}
+use Rattle.frame.specs.declared.kind.Kind.{Kind}
+use Rattle.frame.specs.declared.links.Links.{Links}
+use Rattle.frame.specs.declared.storage.Stock.{Stock}
+use Rattle.frame.specs.declared.storage.Symbol.{Symbol}
+use Rattle.frame.specs.Entries.{Entry}
+use Rattle.frame.specs.Links.{links_of}
+use Rattle.frame.specs.Stored.{AreStored, Entered, Grown, HasRoom, IsBehind, ReadsAs, replaced_by, statements_of, symbol_of, with_declared}
+use Rattle.frame.proofs.StoredLemmas.{IsPushed, still-reads}
+
+pub on-err-same : {T E : Type 0} (r : Result T E) (P : Type 0) → P → OnErr r P
+on-err-same (Ok x) P p = tt
+on-err-same (Err e) P p = p
+
+pub grown-behind : (old new : Stock) → Grown old new → IsBehind old new
+grown-behind old new g = record {
+  names = g.names;
+  symbols = g.symbols;
+  labels = g.labels;
+  positions = g.positions;
+  replaced = ([], ap (λ v. v.items) g.replaced ∙ sym (append-nil old.replaced.items));
+  entries = g.entries;
+  links = g.links;
+}
+
+pub is-pushed : (old new : Stock) (s : Stmt) (e : Entry) (kind : Kind) (codes codes' : List ℕ) (at : ℕ) (read declared : List Symbol) (replaced' : List ℕ) (entries' : List Entry) (links' : Links)
+    → AreStored old → Entered old new s e → Grown old new → HasRoom new → IsLegal (statements_of old) s
+    → kind ≡ e.kind → codes ≡ e.symbols → codes' ≡ e.symbols → at ≡ length old.entries + 1 → read ≡ new.symbols.items
+    → ((x : ℕ → Symbol) → ReadsAs read x → replaced' ≡ new.replaced.items ++ replaced_by x kind codes)
+    → ((c : ℕ) (x : Symbol) → slice_get new.symbols.items c ≡ Some x → slice_get declared c ≡ Some (with_declared kind codes' at c x)) → length declared ≡ length new.symbols.items
+    → entries' ≡ new.entries ++ e ∷ [] → links' ≡ links_of (statements_of old ++ s ∷ [])
+    → IsPushed old.names old.labels old.positions.items old.symbols.items old.replaced.items old.entries old.links
+    new.names new.labels new.positions.items new.symbols.items declared replaced' entries' links' s e
+is-pushed old new s e kind codes codes' at read declared replaced' entries' links' stored own g room legal of_kind same same' place reads noted each count pushed links =
+    let before = subst (λ r. ReadsAs r (symbol_of old.entries)) (sym reads)
+    (still-reads old.names old.labels old.positions.items old.symbols.items old.replaced.items old.entries old.links new.symbols.items stored g.symbols) in
+    record {
+      names_more = g.names;
+      names_made = own.names;
+      symbols_more = g.symbols;
+      noted = λ c x q. each c x q ∙ (ap (λ m. Some (with_declared kind codes' m c x)) place
+          ∙ (ap (λ r. Some (with_declared kind r (length old.entries + 1) c x)) same'
+          ∙ ap (λ r. Some (with_declared r e.symbols (length old.entries + 1) c x)) of_kind));
+      noted_count = count;
+      count = room.count;
+      few = room.few;
+      stands = own.stands;
+      below = own.symbols;
+      label = own.label;
+      names_before = own.names_before;
+      labels_before = own.labels_before;
+      replaced_more = noted (symbol_of old.entries) before
+          ∙ (ap (λ r. r.items ++ replaced_by (symbol_of old.entries) kind codes) g.replaced
+          ∙ (ap (λ r. old.replaced.items ++ replaced_by (symbol_of old.entries) kind r) same
+          ∙ ap (λ r. old.replaced.items ++ replaced_by (symbol_of old.entries) r e.symbols) of_kind));
+      two = own.two;
+      labels_more = own.labels;
+      positions_more = own.positions;
+      entry_links = own.links;
+      entries_more = pushed ∙ ap (λ q. q ++ e ∷ []) g.entries;
+      legal = legal;
+      kept = own.kept;
+      links_next = links;
+    }

@@ -1,0 +1,57 @@
+use Rattle.std.proofs.Common.{◌≡◌, ◌+◌, ◌∙◌, ap, sym, arith, refl, length, []}
+use Rattle.std.proofs.lemmas.Bool.{false≢true}
+use Rattle.scope.specs.Active.{bare}
+use Rattle.scope.specs.Numbering.{with_names}
+use Rattle.frame.specs.Records.{plain}
+use Rattle.frame.specs.Stored.{HasRoom, statements_of, kind_of}
+use Rattle.frame.proofs.EnterLemmas.{entered-statement}
+use Rattle.frame.proofs.ExtendLemmas.{on-err-same, grown-behind, is-pushed}
+use Rattle.frame.proofs.StoredLemmas.{kept-pushed, pushed-statements, legal-bare, legal-fresh}
+use Rattle.frame.proofs.plain.extend_plain.Goals as goal
+
+pub enter_label-requires : goal.enter_label-requires
+enter_label-requires c = record { fresh = legal-fresh c.args.stock.now.labels (statements_of c.args.stock.now) c.args.stmt.now c.requires.stored.labels_kept c.requires.legal }
+
+pub returns-in_err-enter_label-clause-behind : goal.returns-in_err-enter_label-clause-behind
+returns-in_err-enter_label-clause-behind c =
+    on-err-same c.from_residual-in_err-enter_label.result _ (grown-behind c.args.stock.now c.enter_label.new.stock c.in_err-enter_label.ensures.grown)
+
+pub returns-clause-stored : goal.returns-clause-stored
+returns-clause-stored c =
+    let k = c.args.stock.now in
+    let s = c.args.stmt.now in
+    let h = c.in_ok-head.head in
+    let new = c.enter_label.new.stock in
+    let codes = c.args.codes.now in
+    let e = plain h codes in
+    let told = c.in_ok-enter_label.ensures in
+    let is_kind : c.kind-kind.result ≡ kind_of (bare s) = c.kind-kind.ensures in
+    let head = c.in_ok-head.ensures (bare s) is_kind in
+    let own = entered-statement k k new codes e.assertion h s head (ap (with_names k.names) (sym c.requires.plain.declares_none)) c.requires.plain.numbers told.names told.labels told.positions
+    (λ a. absurd (false≢true (sym c.requires.plain.asserts_none ∙ a))) in
+    let room : HasRoom new = record { count = ap (λ v. length v.items) told.same_symbols ∙ (c.requires.stored.count ∙ ap length (sym told.names)); few = let n = ap length told.names in let f = c.requires.stored.few in omega (arith, n, f) } in
+    let pushed = is-pushed k new (bare s) e c.kind-kind.result codes codes (c.len-at.result + 1) c.deref.result.now c.declare.new.symbols.items c.note_replaced.new.replaced.items c.push_plain.new.self c.links_after-links.result
+    c.requires.stored own told.grown room (legal-bare (statements_of k) s c.requires.legal) (is_kind ∙ sym head.kind) refl refl (omega (arith, c.len-at.ensures.len)) c.deref.ensures.value
+    c.in_ok-note_replaced.ensures.noted c.declare.ensures.each c.declare.ensures.count c.in_ok-push_plain.ensures.added (c.links_after-links.ensures (bare s) (sym is_kind)) in
+    kept-pushed k.names k.labels k.positions.items k.symbols.items k.replaced.items k.entries k.links new.names new.labels new.positions.items new.symbols.items
+    c.declare.new.symbols.items c.note_replaced.new.replaced.items c.push_plain.new.self c.links_after-links.result (bare s) e c.requires.stored pushed
+
+pub returns-clause-added : goal.returns-clause-added
+returns-clause-added c =
+    let k = c.args.stock.now in
+    let s = c.args.stmt.now in
+    let h = c.in_ok-head.head in
+    let new = c.enter_label.new.stock in
+    let codes = c.args.codes.now in
+    let e = plain h codes in
+    let told = c.in_ok-enter_label.ensures in
+    let is_kind : c.kind-kind.result ≡ kind_of (bare s) = c.kind-kind.ensures in
+    let head = c.in_ok-head.ensures (bare s) is_kind in
+    let own = entered-statement k k new codes e.assertion h s head (ap (with_names k.names) (sym c.requires.plain.declares_none)) c.requires.plain.numbers told.names told.labels told.positions
+    (λ a. absurd (false≢true (sym c.requires.plain.asserts_none ∙ a))) in
+    let room : HasRoom new = record { count = ap (λ v. length v.items) told.same_symbols ∙ (c.requires.stored.count ∙ ap length (sym told.names)); few = let n = ap length told.names in let f = c.requires.stored.few in omega (arith, n, f) } in
+    let pushed = is-pushed k new (bare s) e c.kind-kind.result codes codes (c.len-at.result + 1) c.deref.result.now c.declare.new.symbols.items c.note_replaced.new.replaced.items c.push_plain.new.self c.links_after-links.result
+    c.requires.stored own told.grown room (legal-bare (statements_of k) s c.requires.legal) (is_kind ∙ sym head.kind) refl refl (omega (arith, c.len-at.ensures.len)) c.deref.ensures.value
+    c.in_ok-note_replaced.ensures.noted c.declare.ensures.each c.declare.ensures.count c.in_ok-push_plain.ensures.added (c.links_after-links.ensures (bare s) (sym is_kind)) in
+    pushed-statements k.names k.labels k.positions.items k.symbols.items k.replaced.items k.entries k.links new.names new.labels new.positions.items new.symbols.items
+    c.declare.new.symbols.items c.note_replaced.new.replaced.items c.push_plain.new.self c.links_after-links.result (bare s) e c.requires.stored pushed

@@ -1,0 +1,61 @@
+//! What is read off a statement.
+ghost use Rattle.std.specs.Prelude.{◌≡◌, option_map};
+ghost use Rattle.scope.specs.Active.{bare, label_of, is_assertion};
+ghost use Rattle.frame.specs.Stored.{kind_of};
+
+use crate::kind::Kind;
+use mm_lex::Word;
+use mm_read::Stmt;
+
+/// The kind of a statement.
+pub fn kind(stmt: &Stmt) -> Kind
+    ensures { result ≡ kind_of (bare stmt.now) }
+{
+    match stmt {
+        Stmt::Open => Kind::Open,
+        Stmt::Close => Kind::Close,
+        Stmt::Const(_) => Kind::Const,
+        Stmt::Var(_) => Kind::Var,
+        Stmt::Disj(_) => Kind::Disj,
+        Stmt::Float {
+            label: _,
+            constant: _,
+            variable: _,
+        } => Kind::Float,
+        Stmt::Ess { label: _, expr: _ } => Kind::Ess,
+        Stmt::Axiom { label: _, expr: _ } => Kind::Axiom,
+        Stmt::Prove {
+            label: _,
+            expr: _,
+            proof: _,
+        } => Kind::Prove,
+    }
+}
+
+/// The label of a statement.
+pub fn label(stmt: &Stmt) -> Option<&Word>
+    ensures { option_map (λ word. word.now) result ≡ label_of stmt.now }
+{
+    match stmt {
+        Stmt::Float {
+            label,
+            constant: _,
+            variable: _,
+        } => Some(label),
+        Stmt::Ess { label, expr: _ } => Some(label),
+        Stmt::Axiom { label, expr: _ } => Some(label),
+        Stmt::Prove {
+            label,
+            expr: _,
+            proof: _,
+        } => Some(label),
+        _ => None,
+    }
+}
+
+/// Whether a statement is an assertion.
+pub fn is_assertion(stmt: &Stmt) -> bool
+    ensures { result ≡ is_assertion stmt.now }
+{
+    matches!(stmt, Stmt::Axiom { .. } | Stmt::Prove { .. })
+}
