@@ -1,4 +1,4 @@
-use Rattle.std.proofs.Common.{◌≡◌, ◌+◌, ◌∙◌, ap, sym, arith, refl, length, []}
+use Rattle.std.proofs.Common.{◌≡◌, ◌+◌, ◌∙◌, ap, sym, arith, refl, length}
 use Rattle.std.proofs.lemmas.Bool.{false≢true}
 use Rattle.scope.specs.Active.{bare}
 use Rattle.scope.specs.Numbering.{with_names}
