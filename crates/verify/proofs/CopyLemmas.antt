@@ -1,7 +1,7 @@
 -- Symbols copied within one buffer.
-use Rattle.std.specs.Prelude.{◌≡◌, ℕ, ◌+◌, ◌-◌, ◌<◌, ◌≤◌, min, Bool, true, false, nat_lt, List, ◌++◌, length, map, take, drop, get_or, Option, Some, None, Result, Ok, Err, IfOk, IfSome, refl}
-use Rattle.std.proofs.Common.{sym, ◌∙◌, ap, subst, arith, length-append, length-drop, append_assoc, append-nil, take-add}
-use Rattle.std.proofs.lemmas.List.{length-take-le, take-take, drop-drop, drop-take, take_all, drop_all}
+use Rattle.std.specs.Prelude.{◌≡◌, ℕ, ◌+◌, ◌-◌, ◌<◌, ◌≤◌, min, Bool, true, false, nat_lt, List, ◌++◌, length, map, take, drop, get_or, refl}
+use Rattle.std.proofs.Common.{sym, ◌∙◌, ap, subst, arith, length-append, length-drop, append_assoc, take-add}
+use Rattle.std.proofs.lemmas.List.{length-take-le, take-take, drop-drop, drop-take}
 use Rattle.std.proofs.Math.Seq.{take-append-add, take-append_seam}
 use Rattle.std.proofs.lemmas.Simd.{take_more_put_chunk, length-chunk}
 use lib.Lanes.{chunk, put_chunk}
@@ -98,17 +98,6 @@ image-written x y at len p low high long e room copied =
 pub written-from : (x x0 y e e' : List ℕ) (at end : ℕ) → take at x ≡ take at x0 → e ≡ e' → IsWritten x y at e end → IsWritten x0 y at e' end
 written-from x x0 y e e' at end same q w =
     record { written = w.written ∙ (ap (λ s. s ++ e) same ∙ ap (λ s. take at x0 ++ s) q); moved = w.moved ∙ ap (λ s. at + length s) q; inside = w.inside }
-
-pub written-by : {E : Type 0} (r : Result (Option ℕ) E) (x x0 y e e' : List ℕ) (at : ℕ) → take at x ≡ take at x0 → e ≡ e'
-    → IfOk r (λ end. IfSome end (IsWritten x y at e)) → IfOk r (λ end. IfSome end (IsWritten x0 y at e'))
-written-by (Err f) x x0 y e e' at same q w = tt
-written-by (Ok None) x x0 y e e' at same q w = tt
-written-by (Ok (Some end)) x x0 y e e' at same q w = written-from x x0 y e e' at end same q w
-
--- a vector whose slice was written whole
-pub whole-written : (n : ℕ) (s items : List ℕ) → length s ≡ length items → length items ≡ n → take n (s ++ drop (length s) items) ≡ s
-whole-written n s items same long =
-    ap (λ d. take n (s ++ d)) (drop_all (length s) items (omega (arith, same))) ∙ (ap (take n) (append-nil s) ∙ take_all n s (omega (arith, same, long)))
 
 pub kept-on : (x0 x y : List ℕ) (at end : ℕ) → at ≤ end → take end y ≡ take end x → take at x ≡ take at x0 → take at y ≡ take at x0
 kept-on x0 x y at end h e f = sym (take-take at end y h) ∙ (ap (take at) e ∙ (take-take at end x h ∙ f))

@@ -18,10 +18,8 @@ use crate::table::Entry;
 use frame::{Frames, Pairs};
 use std::alloc::AllocError;
 
-/// Takes the results that the assertion asks for, and adds what it gives. Few assertions keep variables apart: this
-/// stands behind a call, for the others.
-#[inline(never)]
-fn cite_apart(
+/// Takes the results that the assertion asks for, and adds what it gives.
+fn cite_assertion(
     frames: &Frames,
     at: usize,
     pairs: &Pairs<'_>,
@@ -47,38 +45,6 @@ fn cite_apart(
         return Ok(false);
     }
     if !results.are_apart(pairs, count, &cited.groups) {
-        return Ok(false);
-    }
-    results.apply(count, cited.conclusion)
-}
-
-/// The same, where the assertion may keep no variables apart.
-fn cite_assertion(
-    frames: &Frames,
-    at: usize,
-    pairs: &Pairs<'_>,
-    position: usize,
-    results: &mut Results,
-) -> Result<bool, AllocError>
-    requires legal { AreLegal frames.now.statements frames.now.names }
-    requires active { pairs.now.statements ≡ before frames.now.statements at }
-    requires names { pairs.now.names ≡ frames.now.names }
-    requires named { AreNamed frames.now.names results.old }
-    requires assertion { (s : Statement) × HasAssertion frames.now.statements position s }
-    requires earlier { position < at }
-    ensures goes { (label : Name) → (s : Statement) → Carries frames.now.statements position s label
-        → IfOk result (λ ok. Goes ok frames.now.statements at frames.now.names (Cite label) results.old results.new) }
-    ensures saved { IfOk result (λ ok. IsTrue ok → results.new.saved ≡ results.old.saved) }
-{
-    let cited = frames.cited(position);
-    if cited.groups.len() != 0 {
-        return cite_apart(frames, at, pairs, position, results);
-    }
-    let count = cited.patterns.len();
-    if count > results.len() {
-        return Ok(false);
-    }
-    if !results.fits(cited.patterns, cited.templates) {
         return Ok(false);
     }
     results.apply(count, cited.conclusion)

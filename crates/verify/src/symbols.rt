@@ -115,27 +115,6 @@ fn fill_growing(
     if let Some(end) = fill(buffer, at, images, template) {
         return Ok(Some(end));
     }
-    grow_and_fill(buffer, at, images, template, limit)
-}
-
-/// The same, where there may be no room.
-#[cold]
-#[inline(never)]
-fn grow_and_fill(
-    buffer: &mut Vec<u32>,
-    at: usize,
-    images: &[Place],
-    template: &[u32],
-    limit: usize,
-) -> Result<Option<usize>, AllocError>
-    requires within { AreWithin at images.now }
-    requires inside { at ≤ length buffer.old.items }
-    requires count { length images.now < 2 ^ 31 }
-    ensures some { IfOk result (λ end. IfSome end (IsWritten buffer.old.items buffer.new.items at (filled own (length images.now) (map (seen_at (take at buffer.old.items)) images.now) template.now))) }
-    ensures none { IfOk result (λ end. IfNone end (limit < length (filled own (length images.now) (map (seen_at (take at buffer.old.items)) images.now) template.now))) }
-    ensures kept { take at buffer.new.items ≡ take at buffer.old.items }
-    ensures inside { at ≤ length buffer.new.items }
-{
     let Some(len) = filled_len(&buffer[..at], images, template, limit) else {
         return Ok(None);
     };
@@ -158,18 +137,7 @@ fn make_room(buffer: &mut Vec<u32>, len: usize, more: usize) -> Result<(), Alloc
     }
     let wanted = len + more + LANES;
     if wanted > buffer.len() {
-        lengthen(buffer, wanted + len)?;
+        buffer.resize(wanted + len, 0)?;
     }
     Ok(())
-}
-
-/// Makes the buffer as long as that, where it is shorter.
-#[cold]
-#[inline(never)]
-fn lengthen(buffer: &mut Vec<u32>, len: usize) -> Result<(), AllocError>
-    requires { length buffer.old.items ≤ len }
-    ensures ok { OnOk result (length buffer.new.items ≡ len) }
-    ensures same { take (length buffer.old.items) buffer.new.items ≡ buffer.old.items }
-{
-    buffer.resize(len, 0)
 }

@@ -1,18 +1,22 @@
-use Rattle.std.proofs.Common.{◌<◌, length, map, take, ap, sym, subst, ◌∙◌, IfOk, IfNone}
+use Rattle.std.proofs.Common.{◌≡◌, ℕ, ◌++◌, List, length, map, take, drop, arith, ap, sym, subst, ◌∙◌, append-nil}
+use Rattle.std.proofs.lemmas.List.{take_all, drop_all}
 use Rattle.frame.specs.Templates.{filled, own}
 use Rattle.verify.specs.Places.{seen_at}
-use Rattle.verify.proofs.CopyLemmas.{written-by, whole-written}
+use Rattle.verify.specs.Written.{IsWritten}
+use Rattle.verify.proofs.CopyLemmas.{written-from}
 use Rattle.verify.proofs.symbols.fill_growing.Goals as goal
+
+-- a vector whose slice was written whole
+whole : (n : ℕ) (s items : List ℕ) → length s ≡ length items → length items ≡ n → take n (s ++ drop (length s) items) ≡ s
+whole n s items same long =
+    ap (λ d. take n (s ++ d)) (drop_all (length s) items (omega (arith, same))) ∙ (ap (take n) (append-nil s) ∙ take_all n s (omega (arith, same, long)))
 
 pub returns-clause-some : goal.returns-clause-some
 returns-clause-some c =
-    let first = whole-written c.args.buffer.now.len c.fill.new.symbols c.args.buffer.now.items (c.fill.ensures.count ∙ ap length c.deref_mut.ensures.value) (sym (ap length c.deref_mut.ensures.value) ∙ c.deref_mut.ensures.len) in
-    let kept = ap (take c.args.at) first ∙ (c.fill.ensures.kept ∙ ap (take c.args.at) c.deref_mut.ensures.value) in
-    written-by c.grow_and_fill.result _ c.args.buffer.now.items _ _ _ c.args.at kept
-    (ap (λ s. filled own (length c.args.images.now) (map (seen_at s) c.args.images.now) c.args.template.now) kept) c.grow_and_fill.ensures.some
-
-pub returns-clause-none : goal.returns-clause-none
-returns-clause-none c =
-    let first = whole-written c.args.buffer.now.len c.fill.new.symbols c.args.buffer.now.items (c.fill.ensures.count ∙ ap length c.deref_mut.ensures.value) (sym (ap length c.deref_mut.ensures.value) ∙ c.deref_mut.ensures.len) in
-    let kept = ap (take c.args.at) first ∙ (c.fill.ensures.kept ∙ ap (take c.args.at) c.deref_mut.ensures.value) in
-    subst (λ t. IfOk c.grow_and_fill.result (λ end. IfNone end (c.args.limit < length (filled own (length c.args.images.now) (map (seen_at t) c.args.images.now) c.args.template.now)))) kept c.grow_and_fill.ensures.none
+    let first = whole c.args.buffer.now.len c.fill.new.symbols c.args.buffer.now.items (c.fill.ensures.count ∙ ap length c.deref_mut.ensures.value) (sym (ap length c.deref_mut.ensures.value) ∙ c.deref_mut.ensures.len) in
+    let second = whole c.make_room.new.buffer.len c.fill-2.new.symbols c.make_room.new.buffer.items (c.fill-2.ensures.count ∙ ap length c.deref_mut-2.ensures.value) (sym (ap length c.deref_mut-2.ensures.value) ∙ c.deref_mut-2.ensures.len) in
+    let kept : take c.args.at c.deref_mut-2.result.now ≡ take c.args.at c.args.buffer.now.items =
+    ap (take c.args.at) c.deref_mut-2.ensures.value ∙ (c.make_room.ensures.same ∙ (ap (take c.args.at) first ∙ (c.fill.ensures.kept ∙ ap (take c.args.at) c.deref_mut.ensures.value))) in
+    subst (λ s. IsWritten c.args.buffer.now.items s c.args.at (filled own (length c.args.images.now) (map (seen_at (take c.args.at c.args.buffer.now.items)) c.args.images.now) c.args.template.now) c.in-Some-fill.end) (sym second)
+    (written-from c.deref_mut-2.result.now c.args.buffer.now.items c.fill-2.new.symbols _ _ c.args.at c.in-Some-fill.end kept
+    (ap (λ s. filled own (length c.args.images.now) (map (seen_at s) c.args.images.now) c.args.template.now) kept) c.in-Some-fill.ensures.some)
