@@ -5,7 +5,7 @@
 //! list of items, and gives its labels once each and a number for each item.
 //!
 //! To read: `item`, `items`, `fault`, then `normal_proof` and `compressed_proof` with its parts `header` (the labels
-//! in parentheses) and `letters` (the numbers), and `laws`.
+//! in parentheses) and `letters` (the numbers); `reader` with `listing` (the labels counted) and `numbers`; and `laws`.
 #![tactic(auto)]
 
 mod compressed_proof;
