@@ -15,7 +15,9 @@ use crate::switch::Switch;
 use library::{Library, Listed, Verdict};
 use std::alloc::{AllocError, Global};
 use std::marker::Model;
+use std::thread::Threads;
 use synod::Keep;
+use verify_pool::Gate;
 use world::{Carried, StepFault};
 
 /// What node `at` has taken over of its log, and its library: that of the first entries taken over, as many as were applied.
@@ -52,6 +54,13 @@ impl NodeCell {
             applied: 0,
             library: Library::new(alloc),
         }
+    }
+
+    /// The number of its node.
+    pub fn at(&self) -> u8
+        ensures { result ≡ self.now.at }
+    {
+        self.at
     }
 
     /// The library: that of the first entries taken over, as many as were applied. It takes no memory.
@@ -123,6 +132,31 @@ pub fn apply_on(cell: &mut NodeCell) -> Result<Option<Verdict>, StepFault>
     apply_next(&mut cell.library, &mut cell.applied, next)
 }
 
+/// Applies the next of the entries taken over as `apply_on` does, its proofs checked by some workers side by side. Each passes the
+/// gate before each proof. No answer depends on the number of workers.
+///
+/// Errors: those of `apply_on`. Cost: that of `Library::apply_with` on the entry.
+pub fn apply_on_with<G: Gate + Sync, R: Threads + Sync>(
+    rt: &R,
+    cell: &mut NodeCell,
+    workers: usize,
+    gate: &G,
+) -> Result<Option<Verdict>, StepFault>
+    requires { (1 ≤ workers) × (workers ≤ 16) }
+    ensures applies { AppliesNext cell.old.node cell.new.node (next_entry cell.old) result }
+    ensures rest { cell.new ≡ record cell.old { node = cell.new.node } }
+{
+    let next = entry_at(&cell.entries, cell.applied);
+    apply_next_with(
+        rt,
+        &mut cell.library,
+        &mut cell.applied,
+        next,
+        workers,
+        gate,
+    )
+}
+
 /// The entry of that slot, if it is taken over.
 fn entry_at(entries: &[Option<Carried>], slot: u32) -> Option<&Option<Carried>>
     ensures { option_map (λ e. e.now) result ≡ slice_get entries.now slot }
@@ -151,6 +185,29 @@ fn apply_next(
     }
 }
 
+/// Applies the entry that is next, where there is one, by some workers.
+fn apply_next_with<G: Gate + Sync, R: Threads + Sync>(
+    rt: &R,
+    library: &mut Library,
+    applied: &mut u32,
+    next: Option<&Option<Carried>>,
+    workers: usize,
+    gate: &G,
+) -> Result<Option<Verdict>, StepFault>
+    requires place { IsSome next → applied.old < SLOTS }
+    requires workers { (1 ≤ workers) × (workers ≤ 16) }
+    ensures { AppliesNext (record { applied = applied.old; library = library.old.replica }) (record { applied = applied.new; library = library.new.replica }) (option_map (λ e. entry_of e.now) next.entry) result }
+{
+    let Some(entry) = next else {
+        return Ok(None);
+    };
+    let Ok(verdict) = apply_entry_with(rt, library, entry, workers, gate) else {
+        return Err(StepFault::Memory);
+    };
+    *applied += 1;
+    Ok(Some(verdict))
+}
+
 /// Applies an entry of a log, or a no-operation.
 fn apply_entry(library: &mut Library, entry: &Option<Carried>) -> Result<Verdict, AllocError>
     ensures step { IfOk result (λ verdict. Applies library.old.replica (entry_of entry.now) verdict library.new.replica) }
@@ -162,11 +219,30 @@ fn apply_entry(library: &mut Library, entry: &Option<Carried>) -> Result<Verdict
     }
 }
 
+/// Applies an entry of a log, or a no-operation, by some workers.
+fn apply_entry_with<G: Gate + Sync, R: Threads + Sync>(
+    rt: &R,
+    library: &mut Library,
+    entry: &Option<Carried>,
+    workers: usize,
+    gate: &G,
+) -> Result<Verdict, AllocError>
+    requires { (1 ≤ workers) × (workers ≤ 16) }
+    ensures step { IfOk result (λ verdict. Applies library.old.replica (entry_of entry.now) verdict library.new.replica) }
+    ensures same { OnErr result (library.new.replica ≡ library.old.replica) }
+{
+    match entry {
+        Some(carried) => library.apply_with(rt, Some(&carried.0), workers, gate),
+        None => library.apply_with(rt, None, workers, gate),
+    }
+}
+
 /// The assertions of the cell's library, in order.
 ///
 /// Errors: a growth was refused. Cost: that of all statements.
 pub fn list_on(cell: &NodeCell) -> Result<Vec<Listed>, AllocError>
-    ensures { IfOk result (λ list. list.items ≡ listed cell.now.node.library.statements) }
+    ensures lists { IfOk result (λ list. list.items ≡ listed cell.now.node.library.statements) }
+    ensures of_entries { IsCell cell.now }
 {
     cell.library.list()
 }

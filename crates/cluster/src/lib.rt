@@ -17,7 +17,7 @@ mod seat;
 mod standing;
 mod switch;
 
-pub use cell::{NodeCell, apply_on, belongs, list_on, restart_on, take_on};
+pub use cell::{NodeCell, apply_on, apply_on_with, belongs, list_on, restart_on, take_on};
 pub use compare::{Ahead, compare_on};
 pub use memory_keep::MemoryKeep;
 pub use parts::cells;

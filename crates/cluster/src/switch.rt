@@ -1,11 +1,12 @@
 //! What the nodes share: the history, the packets, and the nodes with their keeps.
-ghost use Rattle.std.specs.Prelude.{◌≡◌, ◌<◌, ℕ, Ok, Err, Some, None, Option, Result, [], length, slice_get, IsOk, IsSome, IfOk, MatchResult, true, false};
+ghost use Rattle.std.specs.Prelude.{◌≡◌, ◌<◌, ◌≤◌, ℕ, Ok, Err, Some, None, Option, Result, [], length, slice_get, IsOk, IsSome, IfOk, MatchResult, true, false};
 ghost use Rattle.std.specs.List.{AllByRecursion};
 ghost use Rattle.slots.specs.declared.slots.TheConstants.{SLOTS};
 ghost use Rattle.synod.specs.Weights.{IsWeights};
 ghost use Rattle.std.specs.Option.{option_map};
 ghost use Rattle.std.specs.Result.{ForOk};
 ghost use Rattle.synod.specs.declared.packet.Packet.{Packet};
+ghost use Rattle.world.specs.declared.event.TheConstants.{MOST_EVENTS};
 ghost use Rattle.world.specs.declared.fault.StepFault.TheVariants.{NoPacket, Memory};
 ghost use Rattle.world.specs.World.{World, nodes_from, log_after};
 ghost use Rattle.world.specs.Taken.{nodes_of};
@@ -77,6 +78,7 @@ impl<V: Value, K: Keep<V>> Switch<V, K> {
     /// node: while the node is down, with or without the change whose store failed.
     pub fn history(&self) -> &[Event<V>]
         ensures history { result.now ≡ self.now.history }
+        ensures few { length result.now ≤ MOST_EVENTS }
         ensures taken { IsOk (world_of V.bytes self.now) }
         ensures places { ForOk (world_of V.bytes self.now) (λ world. ArePlaces V.bytes world self.now.places) }
     {

@@ -1,0 +1,148 @@
+//! What any thread may call.
+ghost use Rattle.std.specs.Prelude.{◌≡◌, ◌≤◌, ◌<◌, ◌⊎◌, ℕ, Ok, Err, IsOk, IfOk, IsOkUnless};
+ghost use Rattle.world.specs.declared.fault.StepFault.TheVariants.{NoNode, Memory, Apart};
+ghost use Rattle.cluster.specs.declared.compare.Ahead.TheVariants.{Same};
+ghost use Rattle.nodes.specs.Desk.{IsListed, IsStatus, IsCompared};
+
+use crate::shared::Shared;
+use cluster::{Ahead, begin_on, list_on, offer_on, restart_on};
+use library::{Entry, Listed, Verdict};
+use std::marker::Model;
+use std::sync::{Arc, Wait};
+use synod::Keep;
+use verify_pool::Gate;
+use world::{Carried, StepFault};
+
+/// A desk of a cluster: its calls take the locks themselves, and may wait for them. It is seen as the count of the nodes.
+#[derive(Drop)]
+pub struct Desk<G: Gate, K: Keep<Carried>> {
+    pub(crate) shared: Arc<Shared<G, K>>,
+}
+
+impl<G: Gate, K: Keep<Carried>> Model for Desk<G, K> {
+    ghost use Rattle.std.specs.Prelude.{ℕ, vec_len};
+    ghost use Rattle.std.specs.Arc.{arc_value};
+
+    ghost Value = { ℕ };
+
+    ghost view = { λ d. vec_len (arc_value d.shared).cells };
+}
+
+impl<G: Gate, K: Keep<Carried>> Desk<G, K> {
+    /// Offers an entry at node `k`.
+    ///
+    /// Errors: `Stopped` once the cluster is stopped; else as of `cluster::offer_on`.
+    pub fn submit<R: Wait>(&self, rt: &R, k: u8, entry: Entry) -> Result<(), StepFault> {
+        if self.shared.is_stopped(rt) {
+            return Err(StepFault::Stopped);
+        }
+        let hints = {
+            let mut board = self.shared.board.lock(rt);
+            let answer = offer_on(&mut board.switch, k, Carried(entry));
+            board.posts(self.shared.alloc, answer)?
+        };
+        self.shared.send(rt, &hints);
+        Ok(())
+    }
+
+    /// Node `k` begins a ballot.
+    ///
+    /// Errors: `Stopped` once the cluster is stopped; else as of `cluster::begin_on`.
+    pub fn begin<R: Wait>(&self, rt: &R, k: u8) -> Result<(), StepFault> {
+        if self.shared.is_stopped(rt) {
+            return Err(StepFault::Stopped);
+        }
+        let hints = {
+            let mut board = self.shared.board.lock(rt);
+            let answer = begin_on(&mut board.switch, k);
+            board.posts(self.shared.alloc, answer)?
+        };
+        self.shared.send(rt, &hints);
+        Ok(())
+    }
+
+    /// Node `k` restarts with what its keep has.
+    ///
+    /// Errors: `Stopped` once the cluster is stopped; `EventsSpent` and then `NoNode` where there is no such node; else as of
+    /// `cluster::restart_on`.
+    pub fn restart<R: Wait>(&self, rt: &R, k: u8) -> Result<(), StepFault> {
+        if self.shared.is_stopped(rt) {
+            return Err(StepFault::Stopped);
+        }
+        let others = self.shared.cells.len().saturating_sub(1) as u64;
+        let hints = {
+            let Ok(lock) = self.shared.cell(k) else {
+                return Err(self.shared.board.lock(rt).without_node());
+            };
+            let mut cell = lock.lock(rt);
+            let mut board = self.shared.board.lock(rt);
+            let answer = restart_on(&mut cell, &mut board.switch);
+            board.asked(self.shared.alloc, others, answer)?
+        };
+        self.shared.send(rt, &hints);
+        Ok(())
+    }
+
+    /// The assertions of node `k`'s library, in order.
+    ///
+    /// Errors: `NoNode`; else `Memory`.
+    pub fn list<R: Wait>(&self, rt: &R, k: u8) -> Result<Vec<Listed>, StepFault>
+        ensures listed { IfOk result (λ list. IsListed list.items) }
+        ensures no_node { self.now ≤ k → result ≡ Err NoNode }
+        ensures only_memory { k < self.now → IsOkUnless result Memory }
+    {
+        let cell = self.shared.cell(k)?.lock(rt);
+        Ok(list_on(&cell)?)
+    }
+
+    /// The verdict of node `k`'s library on the author's entry of that number, if it is decided there.
+    ///
+    /// Errors: `NoNode`.
+    pub fn status<R: Wait>(
+        &self,
+        rt: &R,
+        k: u8,
+        author: u64,
+        serial: u64,
+    ) -> Result<Option<Verdict>, StepFault>
+        ensures status { IfOk result (IsStatus author serial) }
+        ensures no_node { self.now ≤ k → result ≡ Err NoNode }
+        ensures found { k < self.now → IsOk result }
+    {
+        let cell = self.shared.cell(k)?.lock(rt);
+        Ok(cell.library().status(author, serial))
+    }
+
+    /// Which of two nodes has the library with more statements.
+    ///
+    /// Errors: `NoNode`; else `Apart` where one of the two cells is not of the switch, or not of its node.
+    pub fn compare<R: Wait>(&self, rt: &R, j: u8, k: u8) -> Result<Ahead, StepFault>
+        ensures compared { IfOk result (λ ahead. (j ≡ k) ⊎ IsCompared j k ahead) }
+        ensures no_node { (self.now ≤ j) ⊎ (self.now ≤ k) → result ≡ Err NoNode }
+        ensures same { j ≡ k → k < self.now → result ≡ Ok Same }
+        ensures only_apart { j < self.now → k < self.now → IsOkUnless result Apart }
+    {
+        let nodes = self.shared.cells.len();
+        if usize::from(j) >= nodes || usize::from(k) >= nodes {
+            return Err(StepFault::NoNode);
+        }
+        if j == k {
+            Ok(Ahead::Same)
+        } else if j < k {
+            self.shared.compare(rt, j, k)
+        } else {
+            Ok(turned(self.shared.compare(rt, k, j)?))
+        }
+    }
+}
+
+/// The answer for the two nodes in the other order.
+fn turned(ahead: Ahead) -> Ahead
+    ensures { (j k : ℕ) → IsCompared j k ahead → IsCompared k j result }
+{
+    match ahead {
+        Ahead::First => Ahead::Second,
+        Ahead::Same => Ahead::Same,
+        Ahead::Second => Ahead::First,
+    }
+}

@@ -1,0 +1,25 @@
+//! The nodes of a cluster as threads of one process.
+//!
+//! The contract that the crate above uses is that of `crates/cluster`: under its locks each thread makes one event of the shared
+//! history, or applies one entry to its own library. What waits for a lock promises nothing but if it returns; the type of a
+//! `Report` keeps that its counts add up.
+//!
+//! Read `weather`, `board` (what stands under the switch's lock), `shared` (the locks), `run` (a node's thread), then
+//! `node_threads`, `desk` and `report`.
+#![tactic(auto)]
+
+mod board;
+mod desk;
+mod node_threads;
+mod report;
+mod run;
+mod shared;
+mod weather;
+
+pub use desk::Desk;
+pub use node_threads::{Cluster, start};
+pub use report::Report;
+pub use weather::{Clear, Fate, Weather};
+
+#[cfg(test)]
+mod tests;

@@ -1,0 +1,219 @@
+//! The node threads, from start to stop.
+ghost use Rattle.std.specs.Prelude.{◌≡◌, ◌≤◌, length, vec_len, IfOk, IsOkUnless};
+ghost use Rattle.std.specs.Arc.{arc_value};
+ghost use Rattle.std.specs.List.{AllByRecursion};
+ghost use Rattle.synod.specs.Record.{new_kept};
+ghost use Rattle.world.specs.declared.fault.StepFault.TheVariants.{Memory};
+ghost use Rattle.nodes.specs.Report.{IsReport};
+
+use crate::board::Board;
+use crate::desk::Desk;
+use crate::report::{Report, count_events};
+use crate::run::run_node;
+use crate::shared::Shared;
+use crate::weather::Weather;
+use cluster::{NodeCell, cells};
+use crossbeam_channel::{Receiver, Sender};
+use std::alloc::{AllocError, Global};
+use std::marker::Model;
+use std::sync::{Arc, Mutex, Wait};
+use std::thread::{JoinHandle, Threads};
+use std::{mem, thread};
+use synod::{Keep, Weights};
+use verify_pool::Gate;
+use world::{Carried, StepFault};
+
+/// The node threads. It stays in its thread; where it is dropped and was not stopped, its threads wait on. It is seen as the count
+/// of the nodes.
+#[derive(Drop)]
+pub struct Cluster<G: Gate, K: Keep<Carried>> {
+    alloc: Global,
+    nodes: u8,
+    shared: Arc<Shared<G, K>>,
+    threads: Vec<JoinHandle<()>>,
+}
+
+impl<G: Gate, K: Keep<Carried>> Model for Cluster<G, K> {
+    ghost use Rattle.std.specs.Prelude.{◌≡◌, ℕ, vec_len};
+    ghost use Rattle.std.specs.Arc.{arc_value};
+
+    ghost Value = { ℕ };
+
+    ghost view = { λ c. c.nodes };
+
+    ghost invariant = { λ c. vec_len (arc_value c.shared).cells ≡ c.nodes };
+}
+
+/// Makes the nodes' threads: for each weight a node with its keep, whose record is that of a new node, and its weather. The proofs
+/// of each entry that a node applies are checked by `workers` threads.
+///
+/// Errors: `Memory`, where a growth was refused or a thread cannot be started; those that were started have ended.
+pub fn start<
+    G: Gate + Send + Sync + Drop + 'static,
+    W: Weather + Send + Drop + 'static,
+    K: Keep<Carried> + Send + Drop + 'static,
+    R: Threads + Wait + Copy + Send + Sync + Drop + 'static,
+>(
+    rt: &R,
+    alloc: Global,
+    weights: Weights,
+    workers: usize,
+    gate: Arc<G>,
+    weathers: Vec<W>,
+    keeps: Vec<K>,
+) -> Result<Cluster<G, K>, StepFault>
+    requires workers { (1 ≤ workers) × (workers ≤ 16) }
+    requires weathers { length weathers.items ≡ length weights }
+    requires keeps { length keeps.items ≡ length weights }
+    requires new { AllByRecursion (λ keep. K.kept keep ≡ new_kept) keeps.items }
+    ensures nodes { IfOk result (λ cluster. cluster ≡ length weights) }
+    ensures only_memory { IsOkUnless result Memory }
+{
+    let (shared, receivers) = share(alloc, weights, workers, gate, keeps)?;
+    let mut cluster = Cluster {
+        alloc,
+        nodes: weights.count(),
+        shared,
+        threads: Vec::new(alloc),
+    };
+    match cluster.add_all(rt, weathers, receivers) {
+        Ok(()) => Ok(cluster),
+        Err(_) => {
+            cluster.end(rt);
+            Err(StepFault::Memory)
+        }
+    }
+}
+
+/// The locks, with the ends at which the nodes take their hints.
+fn share<G: Gate + Drop, K: Keep<Carried>>(
+    alloc: Global,
+    weights: Weights,
+    workers: usize,
+    gate: Arc<G>,
+    keeps: Vec<K>,
+) -> Result<(Arc<Shared<G, K>>, Vec<Receiver<u64>>), StepFault>
+    requires workers { (1 ≤ workers) × (workers ≤ 16) }
+    requires keeps { length keeps.items ≡ length weights }
+    requires new { AllByRecursion (λ keep. K.kept keep ≡ new_kept) keeps.items }
+    ensures cells { IfOk result (λ parts. vec_len (arc_value parts.0).cells ≡ length weights) }
+    ensures only_memory { IsOkUnless result Memory }
+{
+    let (switch, cells) = cells(alloc, weights, keeps)?;
+    let cells = locks(alloc, cells)?;
+    let (senders, receivers) = channels(alloc, weights.count())?;
+    let parts = Shared {
+        alloc,
+        workers,
+        gate,
+        board: Mutex::new(Board::new(switch)),
+        cells,
+        senders: Mutex::new(senders),
+    };
+    match Arc::new(alloc, parts) {
+        Ok(shared) => Ok((shared, receivers)),
+        Err(_) => Err(StepFault::Memory),
+    }
+}
+
+/// A lock for each cell.
+fn locks(alloc: Global, cells: Vec<NodeCell>) -> Result<Vec<Mutex<NodeCell>>, AllocError>
+    ensures { IfOk result (λ locks. vec_len locks ≡ vec_len cells) }
+{
+    let mut locks = Vec::new(alloc);
+    for cell in cells {
+        locks.push(Mutex::new(cell))?;
+    }
+    Ok(locks)
+}
+
+/// A channel for each of so many nodes.
+fn channels(
+    alloc: Global,
+    nodes: u8,
+) -> Result<(Vec<Sender<u64>>, Vec<Receiver<u64>>), AllocError> {
+    let mut senders = Vec::new(alloc);
+    let mut receivers = Vec::new(alloc);
+    for _node in 0..nodes {
+        let (sender, receiver) = crossbeam_channel::unbounded(alloc)?;
+        senders.push(sender)?;
+        receivers.push(receiver)?;
+    }
+    Ok((senders, receivers))
+}
+
+impl<G: Gate, K: Keep<Carried>> Cluster<G, K> {
+    /// Starts the thread of node `k`. Where none can be made, nothing has changed.
+    fn add<
+        W: Weather + Send + Drop + 'static,
+        R: Threads + Wait + Copy + Send + Sync + Drop + 'static,
+    >(&mut self, rt: &R, k: u8, weather: W, receiver: Receiver<u64>) -> Result<(), AllocError>
+    where
+        G: Send + Sync + Drop + 'static,
+        K: Send + Drop + 'static,
+        ensures { self.new ≡ self.old }
+    {
+        self.threads.reserve(1)?;
+        let theirs = Arc::try_clone(&self.shared)?;
+        let mine = *rt;
+        let child = thread::spawn(rt, move || run_node(mine, theirs, k, weather, receiver))?;
+        self.threads.push_reserved(child);
+        Ok(())
+    }
+
+    /// Starts each node's thread.
+    fn add_all<
+        W: Weather + Send + Drop + 'static,
+        R: Threads + Wait + Copy + Send + Sync + Drop + 'static,
+    >(&mut self, rt: &R, weathers: Vec<W>, receivers: Vec<Receiver<u64>>) -> Result<(), AllocError>
+    where
+        G: Send + Sync + Drop + 'static,
+        K: Send + Drop + 'static,
+        ensures { self.new ≡ self.old }
+    {
+        for (k, (weather, receiver)) in (0..self.nodes).zip(weathers.into_iter().zip(receivers)) {
+            self.add(rt, k, weather, receiver)?;
+        }
+        Ok(())
+    }
+
+    /// A desk of the cluster, for any thread.
+    ///
+    /// Errors: too many desks are there.
+    pub fn desk(&self) -> Result<Desk<G, K>, AllocError>
+        ensures { IfOk result (λ desk. desk ≡ self.now) }
+    {
+        let shared = Arc::try_clone(&self.shared)?;
+        Ok(Desk { shared })
+    }
+
+    /// Ends the channels, and joins the threads. It takes no memory.
+    fn end<R: Threads + Wait>(&mut self, rt: &R)
+        ensures { self.new ≡ self.old }
+    {
+        {
+            let mut senders = self.shared.senders.lock(rt);
+            senders.clear();
+        }
+        let threads = mem::replace(&mut self.threads, Vec::new(self.alloc));
+        for thread in threads {
+            thread.join(rt);
+        }
+    }
+
+    /// Ends the channels, joins the threads, and counts what the nodes did.
+    ///
+    /// Errors: `Stopped` where it was stopped before; else `Memory`, and the cluster goes on.
+    pub fn stop<R: Threads + Wait>(&mut self, rt: &R) -> Result<Report, StepFault>
+        ensures report { IfOk result (λ report. IsReport self.old report.handled.items) }
+        ensures nodes { self.new ≡ self.old }
+    {
+        if self.shared.is_stopped(rt) {
+            return Err(StepFault::Stopped);
+        }
+        let handled = Vec::with_capacity(self.alloc, usize::from(self.nodes))?;
+        self.end(rt);
+        let board = self.shared.board.lock(rt);
+        Ok(count_events(&board, self.nodes, handled))
+    }
+}

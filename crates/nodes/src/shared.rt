@@ -1,0 +1,129 @@
+//! The locks that the threads share.
+ghost use Rattle.std.specs.Prelude.{◌≡◌, ◌≤◌, ◌<◌, ℕ, Err, IsOk, IfOk, IsOkUnless, IsTrue, vec_len};
+ghost use Rattle.cluster.specs.Belongs.{Belongs};
+ghost use Rattle.world.specs.declared.fault.StepFault.TheVariants.{NoNode, Apart};
+ghost use Rattle.nodes.specs.Desk.{IsCompared};
+
+use crate::board::{Board, Hint};
+use cluster::{Ahead, NodeCell, Switch, apply_on_with, belongs, compare_on, deliver_on, take_on};
+use crossbeam_channel::Sender;
+use slots::SLOTS;
+use std::alloc::Global;
+use std::sync::{Arc, Mutex, Wait};
+use std::thread::Threads;
+use synod::Keep;
+use verify_pool::{Gate, Place};
+use world::{Carried, StepFault};
+
+/// What the node threads and the desks share. A node's lock is taken before the switch's, and of two nodes' locks the lower one
+/// first; the senders' lock is never taken while the switch's is held.
+#[derive(Drop)]
+pub(crate) struct Shared<G: Gate, K: Keep<Carried>> {
+    pub alloc: Global,
+    pub workers: usize,
+    pub gate: Arc<G>,
+    pub board: Mutex<Board<K>>,
+    pub cells: Vec<Mutex<NodeCell>>,
+    /// The ends at which the nodes' hints are put; none once the cluster is stopped.
+    pub senders: Mutex<Vec<Sender<u64>>>,
+    pub ghost some: { (1 ≤ workers) × (workers ≤ 16) },
+}
+
+impl<G: Gate, K: Keep<Carried>> Shared<G, K> {
+    /// Whether the cluster was stopped.
+    pub fn is_stopped<R: Wait>(&self, rt: &R) -> bool {
+        self.senders.lock(rt).is_empty()
+    }
+
+    /// The lock of node `k`.
+    pub fn cell(&self, k: u8) -> Result<&Mutex<NodeCell>, StepFault>
+        ensures found { k < vec_len self.now.cells → IsOk result }
+        ensures no_node { vec_len self.now.cells ≤ k → result ≡ Err NoNode }
+    {
+        match self.cells.get(usize::from(k)) {
+            Some(cell) => Ok(cell),
+            None => Err(StepFault::NoNode),
+        }
+    }
+
+    /// Puts each hint into the channel of its node. One that the channel refuses is a lost packet.
+    pub fn send<R: Wait>(&self, rt: &R, hints: &[Hint]) {
+        let senders = self.senders.lock(rt);
+        for hint in hints {
+            if let Some(sender) = senders.get(usize::from(hint.node)) {
+                let _ = sender.send(rt, hint.number);
+            }
+        }
+    }
+
+    /// Delivers a packet at node `k`, takes over what its log has, sends the hints of the posts, and applies. What meets want of
+    /// memory is taken over or applied at a later hint.
+    pub fn handle<R: Threads + Wait + Sync>(&self, rt: &R, k: u8, number: u64)
+    where
+        G: Sync,
+    {
+        let Ok(lock) = self.cell(k) else {
+            return;
+        };
+        let mut cell = lock.lock(rt);
+        let posts = {
+            let mut board = self.board.lock(rt);
+            let answer = deliver_on(&mut board.switch, number);
+            take_all(&mut cell, &board);
+            board.posts(self.alloc, answer)
+        };
+        if let Ok(hints) = posts {
+            self.send(rt, &hints);
+        }
+        self.apply_all(rt, &mut cell, k);
+    }
+
+    /// Applies entry by entry what was taken over, and passes the gate before each.
+    fn apply_all<R: Threads + Sync>(&self, rt: &R, cell: &mut NodeCell, k: u8)
+    where
+        G: Sync,
+    {
+        let gate: &G = &self.gate;
+        for _entry in 0..SLOTS {
+            if !cell.is_behind() {
+                break;
+            }
+            gate.pass(Place::Apply(k));
+            if apply_on_with(rt, cell, self.workers, gate).is_err() {
+                break;
+            }
+        }
+    }
+
+    /// Which of two nodes is ahead, `low` being the lower number.
+    pub fn compare<R: Wait>(&self, rt: &R, low: u8, high: u8) -> Result<Ahead, StepFault>
+        ensures compared { IfOk result (IsCompared low high) }
+        ensures only_apart { low < vec_len self.now.cells → high < vec_len self.now.cells → IsOkUnless result Apart }
+    {
+        let one = self.cell(low)?.lock(rt);
+        let other = self.cell(high)?.lock(rt);
+        let board = self.board.lock(rt);
+        if is_at(&one, low, &board.switch) && is_at(&other, high, &board.switch) {
+            Ok(compare_on(&one, &other, &board.switch))
+        } else {
+            Err(StepFault::Apart)
+        }
+    }
+}
+
+/// Whether the cell is node `k`'s, and of that switch: two locks share no fact, so it is tested where both are taken.
+fn is_at<K: Keep<Carried>>(cell: &NodeCell, k: u8, switch: &Switch<Carried, K>) -> bool
+    ensures { IsTrue result → (cell.now.at ≡ k) × Belongs cell.now switch.now }
+{
+    cell.at() == k && belongs(cell, switch)
+}
+
+/// Takes over all that the node's log has.
+fn take_all<K: Keep<Carried>>(cell: &mut NodeCell, board: &Board<K>) {
+    for _entry in 0..SLOTS {
+        match take_on(cell, &board.switch) {
+            Ok(true) => {}
+            _ => break,
+        }
+    }
+}
