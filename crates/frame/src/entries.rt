@@ -285,13 +285,14 @@ fn append<T: Copy>(buffer: &mut Vec<T>, items: &[T]) -> Result<u32, AllocError>
     place(buffer.len())
 }
 
-/// Asks for three times the room of what a full buffer has: so little is copied while it grows.
+/// Asks for fifteen times the room of what a full buffer has: so little is copied while it grows, and little
+/// memory is touched twice. Room that is not used yet is not touched.
 /// Where there is not so much memory, it grows as it must.
 #[cold]
 fn widen<T>(buffer: &mut Vec<T>)
     ensures { buffer.new.items ≡ buffer.old.items }
 {
-    let _ = buffer.reserve(buffer.len().saturating_mul(3));
+    let _ = buffer.reserve(buffer.len().saturating_mul(15));
 }
 
 /// Takes back what stands behind these places.
