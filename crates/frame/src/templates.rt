@@ -41,8 +41,9 @@ pub fn add_template(
     requires codes { AreBelow (2 ^ 31) codes.now }
     ensures { OnOk result (templates.new.items ≡ templates.old.items ++ templated variables.now codes.now) }
 {
+    templates.reserve(codes.len())?;
     for code in codes {
-        templates.push(number(variables, *code))?;
+        templates.push_reserved(number(variables, *code));
     }
     Ok(())
 }
