@@ -8,8 +8,8 @@ use Rattle.mm_lex.specs.Alphabet.{Name, name_eq, has_name}
 use Rattle.mm_read.specs.declared.stmt.Stmt.{Stmt}
 use Rattle.mm_read.specs.Statements.{Expr, Database}
 use Rattle.scope.specs.Active.{is_variable, active, separated}
-use Rattle.scope.specs.Numbering.{name_at, decode, AreDistinct}
-use Rattle.scope.proofs.NumberingLemmas.{name_same, same_name, list_any-map}
+use Rattle.names.specs.Codes.{name_at, decode, AreDistinct}
+use Rattle.names.proofs.CodesLemmas.{name_same, same_name, list_any-map}
 use Rattle.scope.proofs.KeptLemmas.{all-has}
 use Rattle.frame.specs.FrameOf.{is_pair, groups}
 use Rattle.frame.specs.Links.{is_disj}

@@ -6,7 +6,7 @@ use Rattle.mm_lex.specs.Alphabet.{Name}
 use Rattle.mm_read.specs.declared.stmt.Stmt.{Stmt}
 use Rattle.mm_read.specs.Statements.{Database}
 use Rattle.scope.specs.Active.{active, active_from, stays_open}
-use Rattle.scope.specs.Numbering.{name_at, decode}
+use Rattle.names.specs.Codes.{name_at, decode}
 use Rattle.frame.specs.FrameOf.{hypotheses, is_hypothesis}
 use Rattle.frame.specs.ByPlaces.{AreBelow}
 use Rattle.frame.specs.Links.{actives, is_disj}

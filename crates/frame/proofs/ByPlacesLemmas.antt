@@ -10,7 +10,7 @@ use Rattle.scope.specs.Active.{before, is_variable, expr_of}
 use Rattle.mm_read.specs.declared.stmt.Stmt.{Stmt}
 use Rattle.frame.specs.FrameOf.{hypotheses, mandatory_groups}
 use Rattle.frame.specs.Citations.{OfVariables, premises, expr_at}
-use Rattle.scope.specs.Numbering.{name_at}
+use Rattle.names.specs.Codes.{name_at}
 use Rattle.frame.specs.Substitution.{Images, image, apply as applied}
 use Rattle.frame.specs.declared.citation.Pattern.{Pattern}
 use Rattle.frame.specs.declared.citation.Pattern.TheVariants.{Typed, Full}

@@ -4,7 +4,7 @@ use Rattle.std.proofs.Common.{sym, ◌∙◌, ap, subst, arith}
 use Rattle.mm_lex.specs.Alphabet.{Name}
 use Rattle.mm_read.specs.declared.stmt.Stmt.{Stmt}
 use Rattle.scope.specs.Active.{is_assertion}
-use Rattle.scope.specs.Numbering.{name_at, decode, AreDistinct}
+use Rattle.names.specs.Codes.{name_at, decode, AreDistinct}
 use Rattle.frame.specs.FrameOf.{HasAssertion}
 use Rattle.frame.specs.declared.citation.Cited.{Cited}
 use Rattle.frame.specs.Entries.{Entry}

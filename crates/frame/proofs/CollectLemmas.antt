@@ -5,7 +5,7 @@ use Rattle.mm_read.specs.declared.stmt.Stmt.{Stmt}
 use Rattle.mm_read.specs.Statements.{Database}
 use Rattle.mm_lex.specs.Alphabet.{Name}
 use Rattle.scope.specs.Active.{is_active}
-use Rattle.scope.specs.Numbering.{name_at, decode}
+use Rattle.names.specs.Codes.{name_at, decode}
 use Rattle.frame.specs.declared.kind.Kind.{Kind}
 use Rattle.frame.specs.declared.kind.Kind.TheVariants.{Open, Close, Const, Var, Disj, Float, Ess, Axiom, Prove}
 use Rattle.frame.specs.Entries.{Entry}

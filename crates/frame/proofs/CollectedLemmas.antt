@@ -9,7 +9,7 @@ use Rattle.mm_read.specs.declared.stmt.Stmt.{Stmt}
 use Rattle.mm_read.specs.declared.stmt.Stmt.TheVariants as stmt
 use Rattle.mm_read.specs.Statements.{Database}
 use Rattle.scope.specs.Active.{stays_open, active, active_from, is_active, expr_of, is_essential, is_variable, has_float, is_float_of}
-use Rattle.scope.specs.Numbering.{name_at, decode, AreDistinct}
+use Rattle.names.specs.Codes.{name_at, decode, AreDistinct}
 use Rattle.frame.specs.FrameOf.{is_used, is_mandatory, is_hypothesis, hypotheses}
 use Rattle.frame.specs.ByPlaces.{AreBelow}
 use Rattle.frame.specs.declared.kind.Kind.{Kind}

@@ -7,7 +7,7 @@ use Rattle.mm_read.specs.declared.stmt.Stmt.{Stmt}
 use Rattle.mm_read.specs.declared.stmt.Stmt.TheVariants as stmt
 use Rattle.scope.specs.Active.{bare, label_of, is_assertion}
 use Rattle.scope.specs.Legal.{IsLegal}
-use Rattle.scope.specs.Numbering.{name_at, decode, with_names}
+use Rattle.names.specs.Codes.{name_at, decode, with_names}
 use Rattle.scope.specs.Symbols.{symbols_by, symbols_in}
 use Rattle.frame.specs.ByPlaces.{AreBelow}
 use Rattle.frame.specs.declared.record.Head.{Head}

@@ -10,7 +10,7 @@ use Rattle.mm_read.specs.declared.stmt.Stmt.TheVariants as stmt
 use Rattle.mm_read.specs.Statements.{Expr, Database}
 use Rattle.scope.specs.Active.{stmt_at, before, stays_open, active, active_from, expr_of, separated, is_essential, is_variable, is_assertion}
 use Rattle.scope.specs.Legal.{IsLegal}
-use Rattle.scope.specs.Numbering.{name_at, decode, AreDistinct}
+use Rattle.names.specs.Codes.{name_at, decode, AreDistinct}
 use Rattle.frame.specs.FrameOf.{is_used, is_mandatory, is_hypothesis, hypotheses, variable_of, variables_of, is_some_name, has_place, groups, mandatory_groups, separates, HasAssertion}
 use Rattle.frame.specs.FrameOf as frame_of
 use Rattle.frame.specs.Citations.{expr_at, option_expr}

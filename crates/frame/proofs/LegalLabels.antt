@@ -9,7 +9,7 @@ use Rattle.mm_read.specs.Statements.{Database}
 use Rattle.scope.specs.declared.rule.Rule.{Rule}
 use Rattle.scope.specs.declared.rule.Rule.TheVariants.{G1, G2, G3, G4}
 use Rattle.scope.specs.Active.{stmt_at, before, label_of, has_label, was_label, was_symbol, expr_of}
-use Rattle.scope.specs.Numbering.{name_at}
+use Rattle.names.specs.Codes.{name_at}
 use Rattle.scope.specs.Legal.{IsLegal, keeps}
 use Rattle.frame.specs.FrameOf.{HasAssertion}
 use Rattle.frame.specs.Substitution.{Images, apply as applied}

@@ -7,13 +7,14 @@ use Rattle.mm_read.specs.declared.stmt.Stmt.{Stmt}
 use Rattle.mm_read.specs.declared.stmt.Stmt.TheVariants.{Open, Close, Const, Var, Disj, Float, Ess, Axiom, Prove}
 use Rattle.mm_read.specs.Statements.{Database, Expr}
 use Rattle.scope.specs.Active.{active, separated, expr_of, is_essential, is_variable}
-use Rattle.scope.specs.Numbering.{name_at, code_of}
+use Rattle.names.specs.Codes.{name_at, code_of}
 use Rattle.scope.specs.Standing.{stands_at, standing_of}
 use Rattle.scope.specs.declared.standing.Standing.{Standing}
-use Rattle.scope.proofs.NamesLemmas.{name_same, same_name, has_name-append}
+use Rattle.names.proofs.CodesLemmas.{name_same, same_name}
+use Rattle.names.proofs.AddedLemmas.{has_name-append}
 use Rattle.frame.specs.Parts.{FrameParts}
 use Rattle.frame.specs.FrameOf.{is_mandatory, is_hypothesis, hypotheses, mandatory_groups, separates}
-use Rattle.scope.proofs.SortsLemmas.{lt-list_any}
+use Rattle.names.proofs.CodesLemmas.{lt-list_any}
 use Rattle.frame.specs.OneFrame.{AreMandatory, is_in_essential, asks, asked, among, groups_among}
 
 has-at : (names : List Name) (n : ℕ) → n < length names → has_name (name_at names n) names ≡ true

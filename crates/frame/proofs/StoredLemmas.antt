@@ -12,7 +12,7 @@ use Rattle.mm_read.specs.Statements.{Database}
 use Rattle.scope.specs.Active.{stmt_at, before, bare, label_of, expr_of, is_assertion, was_label, has_label, stays_open, is_close, is_open, count}
 use Rattle.scope.specs.Legal.{IsLegal}
 use Rattle.scope.specs.declared.rule.Rule.TheVariants.{G10}
-use Rattle.scope.specs.Numbering.{name_at, decode, with_names}
+use Rattle.names.specs.Codes.{name_at, decode, with_names}
 use Rattle.scope.specs.Symbols.{symbols_by, symbols_of}
 use Rattle.frame.specs.ByPlaces.{AreBelow}
 use Rattle.frame.specs.Citations.{is_hypothesis_kind}

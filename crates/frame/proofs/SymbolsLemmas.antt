@@ -12,10 +12,11 @@ use Rattle.scope.specs.Active.{bare, constants, variables, is_constant, is_varia
 use Rattle.scope.specs.Legal.{IsLegal, keeps, all_different}
 use Rattle.scope.specs.declared.rule.Rule.{Rule}
 use Rattle.scope.specs.declared.rule.Rule.TheVariants.{G1, G2, G3, G4, G5, G8}
-use Rattle.scope.specs.Numbering.{name_at, decode, with_name, with_names, AreNamed, AreDistinct}
+use Rattle.names.specs.Codes.{name_at, decode, with_name, with_names, AreNamed, AreDistinct}
 use Rattle.scope.specs.Symbols.{symbols_by, symbols_in, symbols_from, symbols_of, AreOfLast}
-use Rattle.scope.proofs.NamesLemmas.{with_names-more, has-more, has-with_names, has_name-append, active-was}
-use Rattle.scope.proofs.NumberingLemmas.{has-at, name_eq-comm}
+use Rattle.names.proofs.AddedLemmas.{with_names-more, has-more, has-with_names, has_name-append}
+use Rattle.scope.proofs.NamesLemmas.{active-was}
+use Rattle.names.proofs.CodesLemmas.{has-at, name_eq-comm}
 use Rattle.scope.proofs.SortsLemmas.{is_variable-active, was_symbol-either}
 use Rattle.scope.proofs.KeptLemmas.{all-has}
 use Rattle.frame.specs.ByPlaces.{AreBelow}

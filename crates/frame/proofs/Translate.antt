@@ -6,7 +6,7 @@ use Rattle.std.proofs.lemmas.Slice.Eq.{bytes_eq-Decides}
 use Rattle.mm_lex.specs.Alphabet.{Name, name_eq}
 use Rattle.mm_read.specs.Statements.{Expr, Database}
 use Rattle.scope.specs.Active.{before, is_variable}
-use Rattle.scope.specs.Numbering.{name_at}
+use Rattle.names.specs.Codes.{name_at}
 use Rattle.frame.specs.Substitution.{Images, image, apply as applied}
 use Rattle.frame.specs.Templates.{part, filled}
 use Rattle.frame.specs.Citations.{OfVariables}

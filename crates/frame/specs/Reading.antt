@@ -6,7 +6,7 @@ use Rattle.mm_lex.specs.Alphabet.{Name}
 use Rattle.mm_read.specs.declared.stmt.Stmt.{Stmt}
 use Rattle.mm_read.specs.Statements.{Database}
 use Rattle.scope.specs.Active.{stmt_at, expr_of, is_assertion}
-use Rattle.scope.specs.Numbering.{decode, AreDistinct}
+use Rattle.names.specs.Codes.{decode, AreDistinct}
 use Rattle.frame.specs.FrameOf.{HasAssertion}
 use Rattle.frame.specs.Substitution.{Images, apply as applied}
 use Rattle.frame.specs.declared.citation.Cited.{Cited}

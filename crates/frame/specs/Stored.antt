@@ -8,7 +8,7 @@ use Rattle.mm_read.specs.declared.stmt.Stmt.TheVariants as stmt
 use Rattle.mm_read.specs.Statements.{Expr, Database}
 use Rattle.scope.specs.Active.{stmt_at, before, label_of, expr_of, is_assertion, is_active, is_essential, is_open, is_close, stays_open}
 use Rattle.scope.specs.Legal.{IsLegal}
-use Rattle.scope.specs.Numbering.{name_at, decode, with_names}
+use Rattle.names.specs.Codes.{name_at, decode, with_names}
 use Rattle.scope.specs.Symbols.{symbols_by, symbols_in, symbols_of}
 use Rattle.frame.specs.FrameOf.{hypotheses}
 use Rattle.frame.specs.declared.citation.Pattern.{Pattern}

@@ -12,7 +12,7 @@ use crate::kind::Kind;
 use crate::links::Links;
 use crate::reading::links_at;
 use crate::storage::{Stock, Symbol};
-use scope::Names;
+use names::Names;
 use std::alloc::{AllocError, Global};
 
 /// Gives a label its number and its position.

@@ -3,7 +3,7 @@ ghost use Rattle.std.specs.Prelude.{◌≡◌, ◌+◌, ◌<◌, ◌^◌, ◌++�
 ghost use Rattle.mm_read.specs.declared.stmt.Stmt.{Stmt as Statement};
 ghost use Rattle.scope.specs.Active.{bare, label_of, is_assertion};
 ghost use Rattle.scope.specs.Legal.{IsLegal};
-ghost use Rattle.scope.specs.Numbering.{with_names, AreNamed};
+ghost use Rattle.names.specs.Codes.{with_names, AreNamed};
 ghost use Rattle.scope.specs.Symbols.{symbols_by, symbols_in};
 ghost use Rattle.frame.specs.ByPlaces.{AreBelow};
 ghost use Rattle.frame.specs.Entries.{IsPartless, IsDraft, drafted, made};
@@ -20,7 +20,7 @@ use crate::shape::{is_assertion, label};
 use crate::span::place;
 use crate::storage::Stock;
 use mm_read::Stmt;
-use scope::Names;
+use names::Names;
 use std::alloc::{AllocError, Global};
 
 /// What is noted of a statement of this kind that comes next.

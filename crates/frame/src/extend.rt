@@ -2,7 +2,7 @@
 ghost use Rattle.std.specs.Prelude.{◌≡◌, ◌++◌, ◌∷◌, [], OnOk, OnErr, IfSome, take, length};
 ghost use Rattle.scope.specs.Active.{bare};
 ghost use Rattle.scope.specs.Legal.{IsLegal};
-ghost use Rattle.scope.specs.Numbering.{with_names};
+ghost use Rattle.names.specs.Codes.{with_names};
 ghost use Rattle.scope.specs.Symbols.{symbols_by};
 ghost use Rattle.frame.specs.Stored.{AreNumbersOf, AreStored, IsBehind, Extends, statements_of};
 

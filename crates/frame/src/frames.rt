@@ -3,7 +3,7 @@ ghost use Rattle.std.specs.Prelude.{◌≡◌, ℕ, ◌+◌, ◌≤◌, [], ◌�
 ghost use Rattle.mm_read.specs.declared.stmt.Stmt.{Stmt as Statement};
 ghost use Rattle.scope.specs.Active.{bare, before, stmt_at, expr_of, label_of};
 ghost use Rattle.scope.specs.Legal.{IsLegal};
-ghost use Rattle.scope.specs.Numbering.{decode};
+ghost use Rattle.names.specs.Codes.{decode};
 ghost use Rattle.scope.specs.Symbols.{symbols_of, AreOfLast};
 ghost use Rattle.frame.specs.ByPlaces.{AreBelow};
 ghost use Rattle.frame.specs.FrameOf.{HasAssertion, hypotheses};
@@ -20,7 +20,8 @@ use crate::pairs::Pairs;
 use crate::reading::{cited_at, expr_at, meaning_at};
 use crate::storage::Stock;
 use mm_read::Stmt;
-use scope::{Names, Scope, Steps};
+use names::Names;
+use scope::{Scope, Steps};
 use std::alloc::{AllocError, Global};
 use std::marker::Model;
 

@@ -1,7 +1,7 @@
 //! Numbers of the symbols of a statement.
 ghost use Rattle.std.specs.Prelude.{◌≡◌, ◌+◌, ◌<◌, ◌^◌, [], ◌∷◌, ◌++◌, length, Some, IfOk, OnOk, OnErr, IfSome, true, ℕ, slice_get};
 ghost use Rattle.mm_lex.specs.Alphabet.{Name, has_name};
-ghost use Rattle.scope.specs.Numbering.{name_at, decode, with_name, with_names, code_of, AreDistinct, AreNamed};
+ghost use Rattle.names.specs.Codes.{name_at, decode, with_name, with_names, code_of, AreDistinct, AreNamed};
 ghost use Rattle.scope.specs.Symbols.{symbols_in};
 ghost use Rattle.frame.specs.ByPlaces.{AreBelow};
 ghost use Rattle.frame.specs.Stored.{AreNumbersOf, Extends, zero_symbol, AreZeroBehind};
@@ -9,7 +9,7 @@ ghost use Rattle.frame.specs.Stored.{AreNumbersOf, Extends, zero_symbol, AreZero
 use crate::storage::Symbol;
 use mm_lex::Words;
 use mm_read::Stmt;
-use scope::Names;
+use names::Names;
 use std::alloc::{AllocError, Global};
 
 /// There are fewer names than this: with the places of a frame before them, numbers fit in 32 bits.
@@ -87,7 +87,7 @@ fn number(names: &Names, word: &[u8]) -> u32
 {
     match names.find(word) {
         Some(code) => code as u32,
-        None => 0,
+        None => unreachable!(),
     }
 }
 

@@ -9,7 +9,8 @@ ghost use Rattle.frame.specs.OneFrame.{AreNoted, AreMandatory, among, asked, ask
 use crate::assertion::Frame;
 use mm_lex::Words;
 use mm_read::Stmt;
-use scope::{Names, Scope, Standing};
+use names::Names;
+use scope::{Scope, Standing};
 use smallvec::SmallVec;
 use std::alloc::{AllocError, Global};
 

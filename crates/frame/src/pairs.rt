@@ -3,7 +3,7 @@ ghost use Rattle.std.specs.Prelude.{◌≡◌, ◌==◌, ◌&&◌, ◌<◌, ◌�
 ghost use Rattle.std.specs.List.{list_any};
 ghost use Rattle.mm_lex.specs.Alphabet.{has_name};
 ghost use Rattle.scope.specs.Active.{active, before, is_variable, separated};
-ghost use Rattle.scope.specs.Numbering.{name_at, code_of, AreDistinct};
+ghost use Rattle.names.specs.Codes.{name_at, code_of, AreDistinct};
 ghost use Rattle.frame.specs.FrameOf.{is_pair};
 ghost use Rattle.frame.specs.Stored.{AreStored, statements_of};
 
@@ -27,7 +27,7 @@ impl<'a> Model for Pairs<'a> {
 
     ghost use Rattle.std.specs.Prelude.{◌≤◌, length};
     ghost use Rattle.scope.specs.Active.{before};
-    ghost use Rattle.scope.specs.Numbering.{AreDistinct};
+    ghost use Rattle.names.specs.Codes.{AreDistinct};
     ghost use Rattle.frame.specs.Stored.{statements_of, AreStored};
 
     ghost view = { λ a. record { statements = before (statements_of a.stock.now) a.at; names = a.stock.now.names } };

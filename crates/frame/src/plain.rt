@@ -2,7 +2,7 @@
 ghost use Rattle.std.specs.Prelude.{◌≡◌, ◌++◌, ◌∷◌, [], OnOk, OnErr, IfSome};
 ghost use Rattle.scope.specs.Active.{bare};
 ghost use Rattle.scope.specs.Legal.{IsLegal};
-ghost use Rattle.scope.specs.Numbering.{with_names};
+ghost use Rattle.names.specs.Codes.{with_names};
 ghost use Rattle.scope.specs.Symbols.{symbols_by};
 ghost use Rattle.frame.specs.Plain.{ArePlainNumbers};
 ghost use Rattle.frame.specs.Stored.{AreNumbersOf, AreStored, IsBehind, Extends, statements_of};
@@ -13,7 +13,7 @@ use crate::shape::kind;
 use crate::storage::Stock;
 use crate::undo::note_replaced;
 use mm_read::Stmt;
-use scope::Names;
+use names::Names;
 use std::alloc::{AllocError, Global};
 
 const NOTHING: &[u32] = &[];

@@ -2,7 +2,7 @@
 ghost use Rattle.std.specs.Prelude.{◌≡◌, ◌+◌, ◌-◌, ◌<◌, ◌≤◌, Some, false, length, take, slice_get};
 ghost use Rattle.mm_read.specs.declared.stmt.Stmt.{Stmt as Statement};
 ghost use Rattle.scope.specs.Active.{is_active, is_open, is_close, stmt_at, expr_of};
-ghost use Rattle.scope.specs.Numbering.{decode, AreDistinct};
+ghost use Rattle.names.specs.Codes.{decode, AreDistinct};
 ghost use Rattle.frame.specs.ByPlaces.{AreBelow};
 ghost use Rattle.frame.specs.FrameOf.{HasAssertion};
 ghost use Rattle.frame.specs.Reading.{IsMeaning, IsCited};

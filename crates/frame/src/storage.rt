@@ -1,7 +1,7 @@
 //! The statements of a database as numbers.
 use crate::entries::Entries;
 use crate::links::Links;
-use scope::Names;
+use names::Names;
 
 /// The last statements that declare a symbol, by position, or 0.
 #[derive(Clone, Copy, Drop)]

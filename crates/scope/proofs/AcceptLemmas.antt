@@ -11,14 +11,17 @@ use Rattle.mm_read.specs.declared.stmt.Stmt.TheVariants.{Open, Close, Const, Var
 use Rattle.mm_read.specs.Statements.{Database}
 use Rattle.scope.specs.Active.{bare, label_of, has_float, active_variables, typed_variables}
 use Rattle.scope.specs.Legal.{broken_rule}
-use Rattle.scope.specs.Numbering.{names_of, with_names, numbers_in, number_in, AreNamed, can_push}
+use Rattle.names.specs.Codes.{with_names, numbers_in, number_in, AreNamed}
+use Rattle.scope.specs.Numbering.{names_of, can_push}
 use Rattle.scope.specs.Kinds.{Declared, declared_names, kind_in, with_kind, with_kinds, is_label_kind, IsLabelled}
 use Rattle.scope.specs.Kept.{IsKept}
 use Rattle.scope.specs.Symbols.{symbols_of, symbols_by}
 use Rattle.scope.specs.declared.sizes.Sizes.{Sizes}
 use Rattle.scope.specs.declared.numbering.Kind.{Kind}
 use Rattle.scope.specs.declared.numbering.Kind.TheVariants.{Label, Constant, Variable}
-use Rattle.scope.proofs.NamesLemmas.{declared_names-with_kinds, with_names-more, numbers_in-more, active-named, has-more, has-with_names, number_in-more, same_name}
+use Rattle.names.proofs.AddedLemmas.{with_names-more, numbers_in-more, has-more, has-with_names, number_in-more}
+use Rattle.names.proofs.CodesLemmas.{same_name}
+use Rattle.scope.proofs.NamesLemmas.{declared_names-with_kinds, active-named}
 use Rattle.scope.proofs.SortsLemmas.{numbers-has, is_variable-active, has_float-typed}
 use Rattle.scope.proofs.SymbolsLemmas.{declared_symbols-label, declared_symbols-with_kinds}
 use Rattle.scope.proofs.KeptLemmas.{kept-more, tells-nothing, tells-constants, tells-variables, tells-label, all-has, fresh-none, inactive-free, inactive-not, can_push-names}

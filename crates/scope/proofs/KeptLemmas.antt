@@ -11,7 +11,8 @@ use Rattle.mm_read.specs.declared.stmt.Stmt.TheVariants.{Open, Close, Const, Var
 use Rattle.mm_read.specs.Statements.{Database}
 use Rattle.scope.specs.Active.{stays_open, active_from, active, is_open, is_close, is_closed, count, constants, variables, typed_by, label_of, has_label, was_label, was_symbol, is_constant, is_variable}
 use Rattle.scope.specs.Legal.{all_different}
-use Rattle.scope.specs.Numbering.{names_of, with_names, declared_by, numbers_in, number_in, AreNamed, can_push}
+use Rattle.names.specs.Codes.{with_names, numbers_in, number_in, AreNamed}
+use Rattle.scope.specs.Numbering.{names_of, declared_by, can_push}
 use Rattle.scope.specs.Kinds.{Declared, declared_names, declared_symbols, kind_in, Tells, TellsAll, with_kinds, is_label_kind, is_constant_kind, is_variable_kind}
 use Rattle.scope.specs.Symbols.{symbols_of, symbols_by}
 use Rattle.scope.specs.Kept.{sizes_of, blocks_from, blocks_of, IsKept, IsMarked}
@@ -21,7 +22,9 @@ use Rattle.scope.specs.declared.numbering.Kind.TheVariants.{Label, Constant, Var
 use Rattle.scope.specs.Laws.{has_open, before_open}
 use Rattle.scope.proofs.ActiveLemmas.{active_from-append, active_from-close, active_from-later, stays_open-append, flat_map-taken, from_open, split_open, below-deficit, no_deficit, deficit, deficit-close, deficit-append, left_open, count-left_open, count-append, none-left}
 use Rattle.scope.proofs.BlocksLemmas.{blocks_from-append, blocks-close, length-blocks, closed-left}
-use Rattle.scope.proofs.NamesLemmas.{names_from-append, names_of-later, numbers_in-more, active-named, has-more, has_name-append, or_kind, name_same, same_name, kind_in-with_kinds}
+use Rattle.names.proofs.AddedLemmas.{numbers_in-more, has-more, has_name-append}
+use Rattle.names.proofs.CodesLemmas.{name_same, same_name}
+use Rattle.scope.proofs.NamesLemmas.{names_from-append, names_of-later, active-named, or_kind, kind_in-with_kinds}
 use Rattle.scope.proofs.SortsLemmas.{numbers-has, fresh-kind}
 use Rattle.scope.proofs.SymbolsLemmas.{symbols_of-append}
 

@@ -2,10 +2,10 @@
 use Rattle.std.specs.Prelude.{◌≡◌, ℕ, zero, suc, ◌<◌, Bool, true, false, ◌||◌, cond, List, [], ◌∷◌, ◌++◌, length, take, Option, Some, None, slice_get, refl}
 use Rattle.std.proofs.Common.{sym, ◌∙◌, ap, arith}
 use Rattle.mm_lex.specs.Alphabet.{Name, name_eq, has_name}
-use Rattle.scope.specs.Numbering.{name_at}
+use Rattle.names.specs.Codes.{name_at}
 use Rattle.scope.specs.Kinds.{declared_names, kind_in, with_their}
 use Rattle.scope.specs.declared.numbering.Kind.{Kind}
-use Rattle.scope.proofs.NumberingLemmas.{name_same, same_name}
+use Rattle.names.proofs.CodesLemmas.{name_same, same_name}
 
 pub names-seen : (names : List Name) (kinds : List Kind) → length kinds ≡ length names → declared_names (with_their names kinds) ≡ names
 names-seen [] kinds h = refl

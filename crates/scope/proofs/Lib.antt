@@ -1,9 +1,5 @@
 pub mod Databases
-pub mod NumberingLemmas
 pub mod KindsLemmas
-pub mod TextsLemmas
-pub mod KeysLemmas
-pub mod TableLemmas
 pub mod NamesLemmas
 pub mod SortsLemmas
 pub mod EntriesLemmas

@@ -8,46 +8,14 @@ use Rattle.mm_read.specs.declared.stmt.Stmt.{Stmt}
 use Rattle.mm_read.specs.declared.stmt.Stmt.TheVariants.{Open, Close, Const, Var, Disj, Float, Ess, Axiom, Prove}
 use Rattle.mm_read.specs.Statements.{Database}
 use Rattle.scope.specs.Active.{variables, was_variable, active_from, active_variables, stays_open}
-use Rattle.scope.specs.Numbering.{with_name, with_names, names_from, names_of, declared_by, number_in, numbers_in, AreNamed}
+use Rattle.names.specs.Codes.{with_name, with_names, number_in, numbers_in, AreNamed}
+use Rattle.scope.specs.Numbering.{names_from, names_of, declared_by}
 use Rattle.scope.specs.Kinds.{Declared, declared_names, kind_in, with_kind, with_kinds}
 use Rattle.scope.specs.declared.numbering.Kind.{Kind}
-pub use Rattle.scope.proofs.NumberingLemmas.{name_same, same_name, name_eq-comm}
-
-or_left : (a b : Bool) → a ≡ true → (a || b) ≡ true
-or_left true b h = refl
-or_left false b h = cc
-
-or_right : (a b : Bool) → b ≡ true → (a || b) ≡ true
-or_right true b h = refl
-or_right false b h = h
-
-or_cases : (a b : Bool) → (a || b) ≡ true → (a ≡ true) ⊎ (b ≡ true)
-or_cases true b h = inl refl
-or_cases false b h = inr h
-
-pub has_name-append : (x : Name) (xs ys : List Name) → has_name x (xs ++ ys) ≡ (has_name x xs || has_name x ys)
-has_name-append x [] ys = refl
-has_name-append x (y ∷ xs) ys = ap (λ b. name_eq x y || b) (has_name-append x xs ys) ∙ or_assoc (name_eq x y) (has_name x xs) (has_name x ys)
-  where
-    or_assoc : (a b c : Bool) → (a || (b || c)) ≡ ((a || b) || c)
-    or_assoc true b c = refl
-    or_assoc false b c = refl
+use Rattle.names.proofs.CodesLemmas.{name_same, same_name}
+use Rattle.names.proofs.AddedLemmas.{or_left, or_right, or_cases, has_name-append, with_names-more, has-more, has-with_names}
 
 -- ---- names are only added at the end
-
-pub with_name-more : (names : List Name) (x : Name) → (more : List Name) × (with_name names x ≡ names ++ more)
-with_name-more names x = by (has_name x names)
-  where
-    by : (b : Bool) → (more : List Name) × (cond b names (names ++ x ∷ []) ≡ names ++ more)
-    by true = ([], sym (append-nil names))
-    by false = (x ∷ [], refl)
-
-pub with_names-more : (names xs : List Name) → (more : List Name) × (with_names names xs ≡ names ++ more)
-with_names-more names [] = ([], sym (append-nil names))
-with_names-more names (x ∷ xs) =
-    let one = with_name-more names x in
-    let rest = with_names-more (with_name names x) xs in
-    (one.0 ++ rest.0, rest.1 ∙ (ap (λ ns. ns ++ rest.0) one.1 ∙ append_assoc names one.0 rest.0))
 
 pub names_from-append : (names : List Name) (S T : Database) → names_from names (S ++ T) ≡ names_from (names_from names S) T
 names_from-append names [] T = refl
@@ -63,57 +31,6 @@ names_from-more names (s ∷ S) =
 -- the later names
 pub names_of-later : (S T : Database) → (more : List Name) × (names_of (S ++ T) ≡ names_of S ++ more)
 names_of-later S T = let rest = names_from-more (names_of S) T in (rest.0, names_from-append [] S T ∙ rest.1)
-
-pub has-more : (x : Name) (names more : List Name) → has_name x names ≡ true → has_name x (names ++ more) ≡ true
-has-more x names more h = has_name-append x names more ∙ or_left (has_name x names) (has_name x more) h
-
-pub has-with_name : (x : Name) (names : List Name) → has_name x (with_name names x) ≡ true
-has-with_name x names = by (has_name x names) refl
-  where
-    by : (b : Bool) → has_name x names ≡ b → has_name x (cond b names (names ++ x ∷ [])) ≡ true
-    by true h = h
-    by false h = has_name-append x names (x ∷ []) ∙ or_right (has_name x names) (name_eq x x || false) (or_left (name_eq x x) false (name_same x))
-
-pub has-with_names : (x : Name) (names xs : List Name) → has_name x xs ≡ true → has_name x (with_names names xs) ≡ true
-has-with_names x names [] h = cc
-has-with_names x names (y ∷ xs) h = elim (or_cases (name_eq x y) (has_name x xs) h) [
-  | inl e ↦ let rest = with_names-more (with_name names y) xs in
-      ap (has_name x) rest.1 ∙ has-more x (with_name names y) rest.0 (ap (λ z. has_name x (with_name names z)) (sym (same_name x y e)) ∙ has-with_name x names)
-  | inr k ↦ has-with_names x (with_name names y) xs k
-]
-
--- ---- a name keeps its number
-
-pub number_in-more : (x : Name) (names more : List Name) → has_name x names ≡ true → number_in (names ++ more) x ≡ number_in names x
-number_in-more x [] more h = cc
-number_in-more x (y ∷ names) more h = by (name_eq x y) h (number_in-more x names more)
-  where
-    by : (b : Bool) → (b || has_name x names) ≡ true → (has_name x names ≡ true → number_in (names ++ more) x ≡ number_in names x)
-        → cond (not b) (1 + number_in (names ++ more) x) 0 ≡ cond (not b) (1 + number_in names x) 0
-    by true h rest = refl
-    by false h rest = ap (λ n. 1 + n) (rest h)
-
-pub numbers_in-more : (names more xs : List Name) → AreNamed names xs → numbers_in (names ++ more) xs ≡ numbers_in names xs
-numbers_in-more names more [] named = refl
-numbers_in-more names more (x ∷ xs) named =
-    ap (λ n. n ∷ numbers_in (names ++ more) xs) (number_in-more x names more (named x (or_left (name_eq x x) (has_name x xs) (name_same x))))
-    ∙ ap (λ ns. number_in names x ∷ ns) (numbers_in-more names more xs (λ y h. named y (or_right (name_eq y x) (has_name y xs) h)))
-
--- two names of one number are one
-pub number_in-same : (x y : Name) (names : List Name) → has_name x names ≡ true → number_in names x ≡ number_in names y → name_eq y x ≡ true
-number_in-same x y [] h e = cc
-number_in-same x y (z ∷ names) h e = by (name_eq x z) (name_eq y z) refl refl h e (number_in-same x y names)
-  where
-    suc_same : (m n : ℕ) → 1 + m ≡ 1 + n → m ≡ n
-    suc_same m n e = omega arith
-
-    by : (a b : Bool) → name_eq x z ≡ a → name_eq y z ≡ b → (a || has_name x names) ≡ true
-        → cond (not a) (1 + number_in names x) 0 ≡ cond (not b) (1 + number_in names y) 0
-        → (has_name x names ≡ true → number_in names x ≡ number_in names y → name_eq y x ≡ true) → name_eq y x ≡ true
-    by true true p q h e rest = subst (λ w. name_eq y w ≡ true) (sym (same_name x z p)) q
-    by true false p q h e rest = absurd (omega arith)
-    by false true p q h e rest = absurd (omega arith)
-    by false false p q h e rest = rest h (suc_same (number_in names x) (number_in names y) e)
 
 -- ---- what is active was declared
 

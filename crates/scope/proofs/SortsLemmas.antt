@@ -10,14 +10,16 @@ use Rattle.mm_read.specs.declared.stmt.Stmt.TheVariants.{Open, Close, Const, Var
 use Rattle.mm_read.specs.Statements.{Database}
 use Rattle.scope.specs.Active.{variables, constants, active, is_float_of, typed_by, is_variable, is_constant, has_float, was_symbol, was_label, was_variable, active_variables, typed_variables}
 use Rattle.scope.specs.Legal.{all_different}
-use Rattle.scope.specs.Numbering.{number_in, numbers_in, code_of}
+use Rattle.names.specs.Codes.{number_in, numbers_in, code_of}
 use Rattle.scope.specs.Kinds.{Tells, Declared, declared_names, kind_in}
 use Rattle.scope.specs.Sorts.{IsSort, sort_by, is_constant_sort, is_variable_sort, is_label_sort, is_inactive_sort}
 use Rattle.scope.specs.declared.numbering.Kind.{Kind}
 use Rattle.scope.specs.declared.numbering.Kind.TheVariants.{Label, Constant, Variable}
 use Rattle.scope.specs.declared.legal.Sort.{Sort}
 use Rattle.scope.specs.declared.legal.Sort.TheVariants as sort
-use Rattle.scope.proofs.NamesLemmas.{has_name-append, same_name, name_eq-comm, number_in-same, active-was, kind-has}
+use Rattle.names.proofs.AddedLemmas.{has_name-append, number_in-same}
+use Rattle.names.proofs.CodesLemmas.{same_name, name_eq-comm}
+use Rattle.scope.proofs.NamesLemmas.{active-was, kind-has}
 
 -- ---- what is active, as lists of names
 
@@ -65,28 +67,6 @@ was_symbol-either (s ∷ S) x =
     swap false false c d = refl
 
 -- ---- numbers found
-
-pub lt_step : (b : Bool) (r l : ℕ) (q : Bool) → nat_lt r l ≡ q → nat_lt (cond (not b) (1 + r) 0) (suc l) ≡ (b || q)
-lt_step true r l q h = grind (arith)
-lt_step false r l true h = grind (arith, h)
-lt_step false r l false h = grind (arith, h)
-
-pub lt-list_any : {A : Type 0} (p : A → Bool) (xs : List A) → nat_lt (position_or_len p xs) (length xs) ≡ list_any p xs
-lt-list_any p [] = refl
-lt-list_any p (x ∷ xs) = lt_step (p x) (prefix_len (λ a. not (p a)) xs) (length xs) (list_any p xs) (lt-list_any p xs)
-
-some_cond : {A : Type 0} (b : Bool) (x y : A) → cond b (Some x) None ≡ Some y → (b ≡ true) × (x ≡ y)
-some_cond true x y h = (refl, cc)
-some_cond false x y h = cc
-
-none_cond : {A : Type 0} (b : Bool) (x : A) → cond b (Some x) None ≡ None → b ≡ false
-none_cond true x h = cc
-none_cond false x h = refl
-
-pub found-number : (names : List Name) (x : Name) (n : ℕ) → Some n ≡ code_of names x → (has_name x names ≡ true) × (number_in names x ≡ n)
-found-number names x n h =
-    let s = some_cond (nat_lt (number_in names x) (length names)) (number_in names x) n (sym h) in
-    (sym (lt-list_any (name_eq x) names) ∙ s.0, s.1)
 
 equal_numbers : (m n : ℕ) → (m == n) ≡ true → m ≡ n
 equal_numbers m n e = grind (arith, nat_tests)
@@ -199,9 +179,6 @@ inactive-sort S x k t =
     by sort.Untyped = refl
     by sort.Label = refl
     by sort.Inactive = refl
-
-pub unknown-number : (names : List Name) (x : Name) → None ≡ code_of names x → has_name x names ≡ false
-unknown-number names x h = sym (lt-list_any (name_eq x) names) ∙ none_cond (nat_lt (number_in names x) (length names)) (number_in names x) (sym h)
 
 -- a name that is found has a kind, and so it is among the names
 pub some_second : {A B : Type 0} (r : Option (A × B)) → is_some r ≡ is_some (option_map (λ (p : A × B). p.1) r)

@@ -6,7 +6,8 @@ use Rattle.std.specs.List.{flat_map}
 use Rattle.mm_read.specs.declared.stmt.Stmt.{Stmt}
 use Rattle.mm_read.specs.Statements.{Database}
 use Rattle.scope.specs.Active.{active, stays_open, is_open, is_closed, variables, typed_by, active_variables, typed_variables}
-use Rattle.scope.specs.Numbering.{names_of, numbers_in, AreNamed}
+use Rattle.names.specs.Codes.{numbers_in, AreNamed}
+use Rattle.scope.specs.Numbering.{names_of}
 use Rattle.scope.specs.Kinds.{Declared, declared_names, declared_symbols, TellsAll}
 use Rattle.scope.specs.Standing.{stands_at, IsStanding}
 use Rattle.scope.specs.Symbols.{symbols_of}

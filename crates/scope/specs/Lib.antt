@@ -7,8 +7,6 @@ pub mod Standing
 pub mod Kept
 pub mod Sorts
 pub mod Laws
-pub mod Keys
-pub mod Table
 pub mod Symbols
 pub mod Entries
 pub mod Noted

@@ -4,7 +4,7 @@
 use Rattle.std.specs.Prelude.{◌≡◌, ℕ, ◌<◌, List, [], ◌∷◌, ◌++◌, length, Option, Some, option_map, IfSome}
 use Rattle.mm_lex.specs.Alphabet.{Name}
 use Rattle.mm_read.specs.Statements.{Expr, Database}
-use Rattle.scope.specs.Numbering.{name_at, decode, AreCodes}
+use Rattle.names.specs.Codes.{name_at, decode, AreCodes}
 use Rattle.scope.specs.Symbols.{AreOfLast}
 
 -- the number stands for the symbol

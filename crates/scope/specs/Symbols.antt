@@ -5,7 +5,7 @@ use Rattle.mm_lex.specs.Alphabet.{Name}
 use Rattle.mm_read.specs.declared.stmt.Stmt.{Stmt}
 use Rattle.mm_read.specs.declared.stmt.Stmt.TheVariants.{Const, Var, Disj, Float, Ess, Axiom, Prove}
 use Rattle.mm_read.specs.Statements.{Expr, Database}
-use Rattle.scope.specs.Numbering.{decode, with_names, AreCodes}
+use Rattle.names.specs.Codes.{decode, with_names, AreCodes}
 
 -- the symbols that a statement declares
 abbrev pub symbols_by : Stmt → List Name

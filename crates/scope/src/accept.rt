@@ -8,7 +8,8 @@ ghost use Rattle.scope.specs.Kept.{sizes_of};
 ghost use Rattle.scope.specs.Kinds.{Declared, declared_names, kind_in, with_kind, with_kinds, IsLabelled};
 ghost use Rattle.scope.specs.Legal.{IsLegal};
 ghost use Rattle.scope.specs.declared.numbering.Kind.TheVariants as shape_kind;
-ghost use Rattle.scope.specs.Numbering.{number_in, numbers_in, with_names, can_push};
+ghost use Rattle.names.specs.Codes.{number_in, numbers_in, with_names};
+ghost use Rattle.scope.specs.Numbering.{can_push};
 
 use crate::history::History;
 use crate::judge::Judge;

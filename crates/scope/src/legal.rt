@@ -8,7 +8,8 @@ ghost use Rattle.scope.specs.Active.{bare, active_variables, typed_variables, is
 ghost use Rattle.scope.specs.Legal.{all_different, are_typed, starts_with_constant, broken_rule};
 ghost use Rattle.scope.specs.Noted.{IsNumberOf, AreNoted, IsOfLast};
 ghost use Rattle.scope.specs.Sorts.{IsSort, is_symbol_sort, sort_by, sorts_rule};
-ghost use Rattle.scope.specs.Numbering.{names_of, numbers_in};
+ghost use Rattle.names.specs.Codes.{numbers_in};
+ghost use Rattle.scope.specs.Numbering.{names_of};
 ghost use Rattle.scope.specs.Symbols.{symbols_of};
 
 use crate::judge::Judge;

@@ -9,10 +9,8 @@
 mod accept;
 mod history;
 mod judge;
-mod keys;
 mod laws;
 mod legal;
-mod names;
 mod noted;
 mod numbering;
 mod reading;
@@ -22,16 +20,11 @@ mod sizes;
 mod stack;
 mod standing;
 mod steps;
-mod table;
 #[cfg(test)]
 mod tests;
-#[cfg(test)]
-mod tests_names;
-mod texts;
 
 pub use history::History;
 pub use laws::{active_by_sentence, active_closed, active_later, active_more, rules_ignore_proofs};
-pub use names::Names;
 pub use rule::Rule;
 pub use scope::Scope;
 pub use standing::Standing;

@@ -1,11 +1,10 @@
 //! Labels and symbols as numbers, in the order of their first declaration.
-ghost use Rattle.std.specs.Prelude.{◌≡◌, ◌<◌, ◌≤◌, ◌^◌, [], ◌∷◌, ◌++◌, take, length, option_map, IfOk, IfSome, IfNone, OnOk, OnErr, None};
-ghost use Rattle.scope.specs.Numbering.{name_at, code_of};
+ghost use Rattle.std.specs.Prelude.{◌≡◌, ◌<◌, ◌≤◌, ◌^◌, [], ◌∷◌, ◌++◌, take, length, option_map, slice_get, IfOk, IfSome, IfNone, OnOk, OnErr, None, Some};
+ghost use Rattle.names.specs.Codes.{name_at, code_of};
 ghost use Rattle.scope.specs.Entries.{AreCounted, count_behind};
 ghost use Rattle.scope.specs.Kinds.{declared_names, kind_in, symbols_before};
 
-use crate::names::Names;
-use crate::texts::item;
+use names::Names;
 use std::alloc::{AllocError, Global};
 use std::marker::Model;
 
@@ -80,7 +79,7 @@ impl Numbering {
     {
         self.names.few();
         match self.names.find(name) {
-            Some(number) => Some((number as u32, item(self.entries.as_slice(), number).kind)),
+            Some(number) => Some((number as u32, entry_at(self.entries.as_slice(), number).kind)),
             None => None,
         }
     }
@@ -91,7 +90,7 @@ impl Numbering {
         requires { number < length self.now }
         ensures { result ≡ symbols_before self.now number }
     {
-        item(self.entries.as_slice(), number as usize).before
+        entry_at(self.entries.as_slice(), number as usize).before
     }
 
     /// The name of a number.
@@ -132,6 +131,14 @@ impl Numbering {
         self.names.truncate(len);
         self.entries.truncate(len);
     }
+}
+
+/// The entry at an index.
+fn entry_at(entries: &[Entry], index: usize) -> Entry
+    requires { index < length entries.now }
+    ensures { slice_get entries.now index ≡ Some result }
+{
+    entries[index]
 }
 
 /// How many of the names are symbols.

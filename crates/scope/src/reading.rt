@@ -1,7 +1,8 @@
 //! What a scope tells the crates above: numbers of names, and what is active.
 ghost use Rattle.std.specs.Prelude.{◌≡◌, ◌==◌, ◌<◌, length, IfSome};
 ghost use Rattle.scope.specs.Active.{is_constant, is_variable};
-ghost use Rattle.scope.specs.Numbering.{names_of, name_at, code_of};
+ghost use Rattle.names.specs.Codes.{name_at, code_of};
+ghost use Rattle.scope.specs.Numbering.{names_of};
 ghost use Rattle.scope.specs.Standing.{standing_of};
 ghost use Rattle.scope.specs.Symbols.{AreOfLast};
 

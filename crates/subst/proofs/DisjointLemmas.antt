@@ -6,7 +6,7 @@ use Rattle.std.proofs.lemmas.Bool.{and_parts, and_from}
 use Rattle.mm_lex.specs.Alphabet.{Name, name_eq, has_name}
 use Rattle.mm_read.specs.Statements.{Expr, Database}
 use Rattle.scope.specs.Active.{is_variable}
-use Rattle.scope.proofs.NumberingLemmas.{name_same, same_name}
+use Rattle.names.proofs.CodesLemmas.{name_same, same_name}
 use Rattle.scope.proofs.KeptLemmas.{all-has}
 use Rattle.frame.specs.FrameOf.{groups, is_pair, together}
 use Rattle.frame.specs.Substitution.{Images, image}

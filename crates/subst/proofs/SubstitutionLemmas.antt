@@ -4,10 +4,10 @@ use Rattle.std.specs.List.{list_all, position_or_len}
 use Rattle.std.proofs.Common.{sym, ◌∙◌, ap, arith}
 use Rattle.std.proofs.lemmas.Bool.{and_parts, ltb-true, lt-ltb}
 use Rattle.mm_lex.specs.Alphabet.{Name, name_eq, has_name}
-use Rattle.scope.specs.Numbering.{name_at, decode, code_of, AreDistinct}
-use Rattle.scope.proofs.NumberingLemmas.{name_same, name_eq-comm}
+use Rattle.names.specs.Codes.{name_at, decode, code_of, AreDistinct}
+use Rattle.names.proofs.CodesLemmas.{name_same, name_eq-comm}
 use Rattle.frame.specs.Substitution.{CodeImages, code_image, code_apply, image, images_from, images_of_names}
-use Rattle.scope.proofs.SortsLemmas.{found-number, unknown-number}
+use Rattle.names.proofs.CodesLemmas.{found-number, unknown-number}
 use Rattle.subst.specs.Laws.{SubstitutionOverNames}
 
 or_false : (a b : Bool) → (a || b) ≡ false → (a ≡ false) × (b ≡ false)

@@ -6,7 +6,7 @@ use Rattle.std.specs.List.{list_any}
 use Rattle.mm_lex.specs.Alphabet.{Name, has_name}
 use Rattle.mm_read.specs.Statements.{Expr, Database}
 use Rattle.scope.specs.Active.{is_variable}
-use Rattle.scope.specs.Numbering.{decode, AreCodes, AreDistinct}
+use Rattle.names.specs.Codes.{decode, AreCodes, AreDistinct}
 use Rattle.frame.specs.FrameOf.{groups, together}
 use Rattle.frame.specs.Substitution.{CodeImages, Images, image, apply, code_apply, images_of_names}
 use Rattle.frame.specs.Disjoint.{are_groups_apart}

@@ -9,7 +9,7 @@ use Rattle.mm_lex.specs.Alphabet.{has_name}
 use Rattle.mm_read.specs.declared.stmt.Stmt.{Stmt}
 use Rattle.mm_read.specs.Statements.{Expr, Database}
 use Rattle.scope.specs.Active.{stmt_at, expr_of, before, is_assertion}
-use Rattle.scope.specs.Numbering.{name_at, decode, AreDistinct}
+use Rattle.names.specs.Codes.{name_at, decode, AreDistinct}
 use Rattle.frame.specs.FrameOf.{HasAssertion, mandatory_groups}
 use Rattle.frame.specs.Substitution.{Images, apply as applied}
 use Rattle.frame.specs.Disjoint.{are_groups_apart}

@@ -3,7 +3,7 @@
 ghost use Rattle.std.specs.Prelude.{◌≡◌, suc, ◌<◌, ◌≤◌, ◌^◌, ◌↔◌, ◌∷◌, [], length, map, get_or, replicate, IfOk, OnOk, IsTrue};
 ghost use Rattle.verify.specs.Places.{below, top, Adds, Gives, Marks, Recalls};
 ghost use Rattle.frame.specs.Templates.{filled, own, DoFit, AreIn};
-ghost use Rattle.scope.specs.Numbering.{decode};
+ghost use Rattle.names.specs.Codes.{decode};
 ghost use Rattle.frame.specs.ByPlaces.{are_places_apart, AllBelow};
 ghost use Rattle.verify.specs.Machine.{with_result, with_mark, IsSaved};
 ghost use Rattle.verify.specs.Right.{weight_limit};

@@ -1,5 +1,5 @@
 use Rattle.std.proofs.Common.{◌≡◌, ◌∙◌, sym, length, get_or, true}
-use Rattle.scope.specs.Numbering.{name_at, decode}
+use Rattle.names.specs.Codes.{name_at, decode}
 use Rattle.frame.specs.Covers.{is_symbol_apart}
 use Rattle.frame.proofs.ApartLemmas.{stops, goes_on, below-at, repeat-passes, symbol_constant, symbol_variable}
 use Rattle.frame.proofs.apart.each_apart.Goals as goal

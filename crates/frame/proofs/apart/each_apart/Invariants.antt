@@ -1,5 +1,5 @@
 use Rattle.std.proofs.Common.{◌≡◌, true, take}
-use Rattle.scope.specs.Numbering.{decode}
+use Rattle.names.specs.Codes.{decode}
 use Rattle.frame.specs.Disjoint.{are_apart}
 use Rattle.frame.proofs.apart.each_apart.Given as goal
 

@@ -3,7 +3,7 @@ use Rattle.std.specs.Prelude.{true, false}
 use Rattle.std.proofs.lemmas.List.{length-map, length-take-le}
 use Rattle.mm_read.specs.declared.stmt.Stmt.{Stmt}
 use Rattle.scope.specs.Active.{active, before, separated}
-use Rattle.scope.specs.Numbering.{decode}
+use Rattle.names.specs.Codes.{decode}
 use Rattle.frame.specs.Links.{is_disj}
 use Rattle.frame.specs.Stored.{statements_of, stmt_of}
 use Rattle.frame.specs.Covers.{does_cover}

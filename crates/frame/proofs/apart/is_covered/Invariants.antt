@@ -1,6 +1,6 @@
 use Rattle.std.specs.Prelude.{◌≡◌, ℕ, length}
 use Rattle.scope.specs.Active.{before}
-use Rattle.scope.specs.Numbering.{decode}
+use Rattle.names.specs.Codes.{decode}
 use Rattle.frame.specs.Links.{is_disj}
 use Rattle.frame.specs.Stored.{statements_of}
 use Rattle.frame.specs.Covers.{does_cover}

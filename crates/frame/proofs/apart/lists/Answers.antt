@@ -1,5 +1,5 @@
 use Rattle.std.proofs.Common.{◌≡◌, ◌∙◌, sym, length, get_or, true}
-use Rattle.scope.specs.Numbering.{name_at, decode}
+use Rattle.names.specs.Codes.{name_at, decode}
 use Rattle.frame.specs.Covers.{is_listed}
 use Rattle.frame.proofs.ApartLemmas.{stops, goes_on, below-at, listed_there, listed_constant, unlisted}
 use Rattle.frame.proofs.apart.lists.Goals as goal

@@ -1,5 +1,5 @@
 use Rattle.std.specs.Prelude.{◌≡◌, true, take}
-use Rattle.scope.specs.Numbering.{decode}
+use Rattle.names.specs.Codes.{decode}
 use Rattle.frame.specs.Covers.{are_listed}
 use Rattle.frame.proofs.apart.lists.Given as goal
 

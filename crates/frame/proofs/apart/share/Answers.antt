@@ -4,8 +4,8 @@ use Rattle.std.specs.List.{list_any}
 use Rattle.std.proofs.lemmas.List.Folds.{list_any_at}
 use Rattle.mm_lex.specs.Alphabet.{has_name}
 use Rattle.scope.specs.Active.{is_variable}
-use Rattle.scope.specs.Numbering.{name_at, decode}
-use Rattle.scope.proofs.NumberingLemmas.{list_any-map}
+use Rattle.names.specs.Codes.{name_at, decode}
+use Rattle.names.proofs.CodesLemmas.{list_any-map}
 use Rattle.frame.specs.declared.apart.TheConstants.{PLACES}
 use Rattle.frame.proofs.ApartLemmas.{below-at, stays_none, shared, unmarked-none}
 use Rattle.frame.proofs.apart.share.Goals as goal

@@ -1,5 +1,5 @@
 use Rattle.std.specs.Prelude.{◌≡◌, false, take}
-use Rattle.scope.specs.Numbering.{decode}
+use Rattle.names.specs.Codes.{decode}
 use Rattle.frame.specs.Covers.{do_share}
 use Rattle.frame.proofs.apart.share.Given as goal
 

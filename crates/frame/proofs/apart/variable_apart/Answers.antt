@@ -1,5 +1,5 @@
 use Rattle.std.proofs.Common.{◌≡◌, ◌∙◌, sym, length, get_or, true}
-use Rattle.scope.specs.Numbering.{name_at}
+use Rattle.names.specs.Codes.{name_at}
 use Rattle.frame.specs.Covers.{is_pair_apart}
 use Rattle.frame.proofs.ApartLemmas.{stops, goes_on, below-at, repeat-passes, pair_constant, pair_variable}
 use Rattle.frame.proofs.apart.variable_apart.Goals as goal

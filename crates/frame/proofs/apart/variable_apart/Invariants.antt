@@ -1,5 +1,5 @@
 use Rattle.std.proofs.Common.{◌≡◌, true, take}
-use Rattle.scope.specs.Numbering.{name_at, decode}
+use Rattle.names.specs.Codes.{name_at, decode}
 use Rattle.frame.specs.Covers.{is_variable_apart}
 use Rattle.frame.proofs.apart.variable_apart.Given as goal
 

@@ -1,6 +1,6 @@
 use Rattle.std.proofs.Common.{◌+◌, ◌∙◌, ◌++◌, ap, sym, subst, length, []}
 use Rattle.scope.specs.Active.{bare, label_of}
-use Rattle.scope.specs.Numbering.{with_names, AreNamed}
+use Rattle.names.specs.Codes.{with_names, AreNamed}
 use Rattle.scope.specs.Symbols.{symbols_by, symbols_in}
 use Rattle.frame.specs.Entries.{drafted}
 use Rattle.frame.specs.Stored.{AreNumbersOf, IsKeptOf, option_list, option_position, statements_of}

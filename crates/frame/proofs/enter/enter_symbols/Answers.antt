@@ -1,5 +1,5 @@
 use Rattle.std.proofs.Common.{◌≡◌, ap, subst, IfSome}
-use Rattle.scope.specs.Numbering.{with_names, AreNamed}
+use Rattle.names.specs.Codes.{with_names, AreNamed}
 use Rattle.scope.specs.Symbols.{symbols_by, symbols_in}
 use Rattle.frame.specs.Stored.{AreNumbersOf}
 use Rattle.frame.proofs.SymbolsLemmas.{no-declaration}

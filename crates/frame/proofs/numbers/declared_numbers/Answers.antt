@@ -1,5 +1,5 @@
 use Rattle.std.proofs.Common.{◌∙◌, ap, sym, subst, rules}
-use Rattle.scope.specs.Numbering.{decode, with_names}
+use Rattle.names.specs.Codes.{decode, with_names}
 use Rattle.std.specs.Prelude.{◌++◌, length}
 use Rattle.frame.specs.ByPlaces.{AreBelow}
 use Rattle.frame.proofs.NumberLemmas.{extends-trans, zero-trans, below-extends, below-push, stand-step, made-step}

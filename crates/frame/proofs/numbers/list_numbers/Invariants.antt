@@ -1,5 +1,5 @@
 use Rattle.std.proofs.Common.{◌≡◌, ◌++◌, length}
-use Rattle.scope.specs.Numbering.{decode, AreNamed}
+use Rattle.names.specs.Codes.{decode, AreNamed}
 use Rattle.frame.specs.ByPlaces.{AreBelow}
 use Rattle.frame.proofs.numbers.list_numbers.Given as goal
 

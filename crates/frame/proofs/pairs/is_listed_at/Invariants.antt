@@ -1,7 +1,7 @@
 use Rattle.std.proofs.Common.{ℕ}
 use Rattle.mm_lex.specs.Alphabet.{has_name}
 use Rattle.scope.specs.Active.{variables}
-use Rattle.scope.specs.Numbering.{name_at}
+use Rattle.names.specs.Codes.{name_at}
 use Rattle.frame.specs.Links.{is_var}
 use Rattle.frame.specs.Stored.{statements_of}
 use Rattle.frame.proofs.PairsLemmas.{IsSought}

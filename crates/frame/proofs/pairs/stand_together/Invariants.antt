@@ -2,7 +2,7 @@ use Rattle.std.proofs.Common.{ℕ}
 use Rattle.std.specs.Prelude.{◌&&◌}
 use Rattle.mm_lex.specs.Alphabet.{has_name}
 use Rattle.scope.specs.Active.{separated}
-use Rattle.scope.specs.Numbering.{name_at}
+use Rattle.names.specs.Codes.{name_at}
 use Rattle.frame.specs.Links.{is_disj}
 use Rattle.frame.specs.Stored.{statements_of}
 use Rattle.frame.proofs.PairsLemmas.{IsSought}

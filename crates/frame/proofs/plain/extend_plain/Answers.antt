@@ -1,7 +1,7 @@
 use Rattle.std.proofs.Common.{◌≡◌, ◌+◌, ◌∙◌, ap, sym, arith, refl, length}
 use Rattle.std.proofs.lemmas.Bool.{false≢true}
 use Rattle.scope.specs.Active.{bare}
-use Rattle.scope.specs.Numbering.{with_names}
+use Rattle.names.specs.Codes.{with_names}
 use Rattle.frame.specs.Records.{plain}
 use Rattle.frame.specs.Stored.{HasRoom, statements_of, kind_of}
 use Rattle.frame.proofs.EnterLemmas.{entered-statement}

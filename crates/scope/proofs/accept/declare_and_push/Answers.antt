@@ -3,7 +3,8 @@ use Rattle.std.specs.List.{list_all}
 use Rattle.std.proofs.lemmas.List.{take_at}
 use Rattle.mm_lex.specs.Alphabet.{has_name}
 use Rattle.scope.specs.Kinds.{declared_names}
-use Rattle.scope.specs.Numbering.{numbers_in, can_push}
+use Rattle.names.specs.Codes.{numbers_in}
+use Rattle.scope.specs.Numbering.{can_push}
 use Rattle.scope.specs.declared.numbering.Kind.TheVariants.{Variable}
 use Rattle.scope.proofs.NamesLemmas.{declared_names-with_kinds, all-with_names}
 use Rattle.scope.proofs.AcceptLemmas.{with_kinds-more}

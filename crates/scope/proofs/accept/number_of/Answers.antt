@@ -1,6 +1,6 @@
 use Rattle.std.proofs.Common.{◌∙◌, sym, true≢false}
 use Rattle.scope.specs.Kinds.{declared_names}
-use Rattle.scope.proofs.SortsLemmas.{unknown-number}
+use Rattle.names.proofs.CodesLemmas.{unknown-number}
 use Rattle.scope.proofs.accept.number_of.Goals as goal
 
 pub unreachable-requires : goal.unreachable-requires

@@ -2,7 +2,8 @@ use Rattle.std.proofs.Common.{◌≡◌, ◌++◌, ℕ, List, true}
 use Rattle.std.specs.List.{list_all}
 use Rattle.mm_lex.specs.Alphabet.{has_name}
 use Rattle.scope.specs.Kinds.{declared_names}
-use Rattle.scope.specs.Numbering.{numbers_in, can_push}
+use Rattle.names.specs.Codes.{numbers_in}
+use Rattle.scope.specs.Numbering.{can_push}
 use Rattle.scope.proofs.accept.push_each.Given as goal
 
 abbrev pub invariant-loop-symbol : goal.invariant-loop-symbol

@@ -1,5 +1,5 @@
 use Rattle.std.specs.Prelude.{◌≡◌}
-use Rattle.scope.specs.Numbering.{decode}
+use Rattle.names.specs.Codes.{decode}
 use Rattle.frame.specs.Substitution.{images_of_names}
 use Rattle.subst.specs.Images.{is_image_apart}
 use Rattle.subst.proofs.apart.image_apart.Given as goal

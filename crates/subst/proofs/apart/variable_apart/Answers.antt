@@ -1,8 +1,8 @@
 use Rattle.std.proofs.Common.{◌∙◌, sym, ap, subst, length}
-use Rattle.scope.specs.Numbering.{decode}
+use Rattle.names.specs.Codes.{decode}
 use Rattle.frame.specs.ByPlaces.{AreBelow}
 use Rattle.frame.specs.Substitution.{images_of_names}
-use Rattle.scope.proofs.NumberingLemmas.{code-name}
+use Rattle.names.proofs.CodesLemmas.{code-name}
 use Rattle.subst.specs.Images.{is_image_apart}
 use Rattle.subst.proofs.SubstitutionLemmas.{image-named, image-unnamed}
 use Rattle.subst.proofs.DisjointLemmas.{constant_image}

@@ -1,7 +1,7 @@
 use Rattle.std.proofs.Common.{sym, ◌∙◌, ap, length, get_or, drop, subst}
 use Rattle.frame.specs.Disjoint.{are_apart}
 use Rattle.frame.specs.ByPlaces.{AreBelow}
-use Rattle.scope.specs.Numbering.{decode}
+use Rattle.names.specs.Codes.{decode}
 use Rattle.verify.specs.Places.{seen_at}
 use Rattle.verify.specs.declared.results.Place.{Place}
 use Rattle.verify.proofs.PlaceLemmas.{within-at}

@@ -1,5 +1,5 @@
 use Rattle.std.proofs.Common.{◌≡◌, ℕ, List, length, map, arith, sym, ap, ◌∙◌, subst}
-use Rattle.scope.specs.Numbering.{decode}
+use Rattle.names.specs.Codes.{decode}
 use Rattle.frame.specs.ByPlaces.{are_places_apart, AllBelow}
 use Rattle.verify.specs.Places.{top}
 use Rattle.verify.proofs.TableLemmas.{has_with}

@@ -5,12 +5,12 @@ use Rattle.mm_lex.specs.Alphabet.{Name, has_name}
 use Rattle.mm_read.specs.Statements.{Database}
 use Rattle.mm_read.specs.declared.stmt.Stmt.{Stmt}
 use Rattle.scope.specs.Active.{stmt_at, was_label}
-use Rattle.scope.specs.Numbering.{code_of, name_at}
+use Rattle.names.specs.Codes.{code_of, name_at}
 use Rattle.frame.specs.Citations.{Carries}
 use Rattle.frame.specs.Reading.{IsPosition}
 use Rattle.frame.specs.Stored.{statements_of, labels_of, positions_from}
-use Rattle.scope.proofs.NumberingLemmas.{code-name}
-use Rattle.scope.proofs.SortsLemmas.{unknown-number}
+use Rattle.names.proofs.CodesLemmas.{code-name}
+use Rattle.names.proofs.CodesLemmas.{unknown-number}
 use Rattle.frame.proofs.StoredLemmas.{label-place, label-none, length-positions, has-labels_of}
 use Rattle.frame.proofs.frames.Frames.position.Goals as goal
 

@@ -1,6 +1,6 @@
 use Rattle.std.proofs.Common.{◌≡◌, ◌∙◌, sym, ap, true}
 use Rattle.std.specs.Prelude.{not}
-use Rattle.scope.specs.Numbering.{decode}
+use Rattle.names.specs.Codes.{decode}
 use Rattle.frame.specs.Parts.{Numbered}
 use Rattle.frame.specs.Covers.{are_covered}
 use Rattle.frame.proofs.ApartLemmas.{covered-apart}

@@ -4,11 +4,11 @@ use Rattle.std.specs.List.{list_any}
 use Rattle.mm_lex.specs.Alphabet.{has_name}
 use Rattle.mm_read.specs.declared.stmt.Stmt.{Stmt}
 use Rattle.scope.specs.Active.{active, before, separated}
-use Rattle.scope.specs.Numbering.{name_at}
+use Rattle.names.specs.Codes.{name_at}
 use Rattle.frame.specs.FrameOf.{is_pair}
 use Rattle.frame.specs.Parts.{Numbered}
 use Rattle.frame.specs.Stored.{statements_of}
-use Rattle.scope.proofs.NumberingLemmas.{list_any-map}
+use Rattle.names.proofs.CodesLemmas.{list_any-map}
 use Rattle.frame.proofs.PairsLemmas.{same-number}
 use Rattle.frame.proofs.pairs.Pairs.has.Goals as goal
 

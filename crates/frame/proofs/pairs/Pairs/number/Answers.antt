@@ -1,7 +1,7 @@
 use Rattle.std.proofs.Common.{◌∙◌, ◌-◌, sym, ap, length}
 use Rattle.scope.specs.Active.{is_variable}
 use Rattle.frame.specs.Parts.{Numbered}
-use Rattle.scope.proofs.SortsLemmas.{unknown-number}
+use Rattle.names.proofs.CodesLemmas.{unknown-number}
 use Rattle.frame.proofs.PairsLemmas.{unnamed-none}
 use Rattle.frame.proofs.pairs.Pairs.number.Goals as goal
 

@@ -5,7 +5,7 @@ use Rattle.scope.specs.Legal.{broken_rule}
 use Rattle.std.specs.List.{list_any}
 use Rattle.mm_lex.specs.Alphabet.{has_name}
 use Rattle.scope.specs.Kinds.{kind_in, with_kind, declared_names}
-use Rattle.scope.specs.Numbering.{number_in}
+use Rattle.names.specs.Codes.{number_in}
 use Rattle.scope.specs.declared.numbering.Kind.TheVariants.{Label}
 use Rattle.scope.specs.Standing.{stands_at}
 use Rattle.scope.proofs.StandingLemmas.{same-standing, standing-more}

@@ -3,7 +3,7 @@ use Rattle.mm_read.specs.declared.stmt.Stmt.TheVariants as shape
 use Rattle.scope.specs.Active.{bare}
 use Rattle.scope.specs.Legal.{broken_rule}
 use Rattle.scope.specs.Kinds.{declared_names}
-use Rattle.scope.specs.Numbering.{numbers_in}
+use Rattle.names.specs.Codes.{numbers_in}
 use Rattle.scope.proofs.AcceptLemmas.{same-kept, accept-variables, can_push-variables}
 use Rattle.std.proofs.lemmas.List.{append-nil}
 use Rattle.scope.proofs.StandingLemmas.{same-standing, standing-more}

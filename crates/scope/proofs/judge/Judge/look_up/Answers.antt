@@ -2,20 +2,22 @@ use Rattle.std.proofs.Common.{◌≡◌, ◌∙◌, ap, sym, subst, Some, None, 
 use Rattle.std.specs.List.{list_any}
 use Rattle.scope.specs.Accepted.{Accepted}
 use Rattle.scope.specs.Active.{active_variables, typed_variables, is_variable, has_float}
-use Rattle.scope.specs.Numbering.{names_of, numbers_in, code_of}
+use Rattle.names.specs.Codes.{numbers_in, code_of}
+use Rattle.scope.specs.Numbering.{names_of}
 use Rattle.mm_lex.specs.Alphabet.{Name}
 use Rattle.mm_read.specs.Statements.{Database}
 use Rattle.scope.specs.Kinds.{Declared, declared_names, declared_symbols, symbols_before, is_symbol_kind, kind_in, Tells}
 use Rattle.scope.specs.Noted.{IsNumberOf}
 use Rattle.scope.specs.Symbols.{symbols_of}
-use Rattle.scope.proofs.NumberingLemmas.{code-name, code-first}
+use Rattle.names.proofs.CodesLemmas.{code-name, code-first}
 use Rattle.scope.proofs.SymbolsLemmas.{symbol-at}
 use Rattle.scope.specs.Sorts.{IsSort, sort_by}
 use Rattle.scope.specs.declared.numbering.Kind.{Kind}
 use Rattle.scope.specs.declared.legal.Sort.{Sort}
 use Rattle.scope.specs.declared.numbering.Kind.TheVariants.{Constant, Variable, Label}
 use Rattle.scope.specs.declared.legal.Sort.TheVariants as sort
-use Rattle.scope.proofs.SortsLemmas.{constant-sort, label-sort, no-sort, variable-sort, found-number, numbers-has, is_variable-active, has_float-typed}
+use Rattle.names.proofs.CodesLemmas.{found-number}
+use Rattle.scope.proofs.SortsLemmas.{constant-sort, label-sort, no-sort, variable-sort, numbers-has, is_variable-active, has_float-typed}
 use Rattle.scope.proofs.judge.Judge.look_up.Goals as goal
 
 -- the number of a name that was declared as a symbol

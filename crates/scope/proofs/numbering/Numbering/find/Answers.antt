@@ -1,12 +1,12 @@
 use Rattle.std.proofs.Common.{◌≡◌, ◌∙◌, ap, sym, arith, length}
 use Rattle.std.specs.Prelude.{slice_get, List, option_map}
 use Rattle.std.proofs.lemmas.Option.{slice_get-map}
-use Rattle.scope.specs.Numbering.{code_of}
+use Rattle.names.specs.Codes.{code_of}
 use Rattle.mm_lex.specs.Alphabet.{Name}
 use Rattle.scope.specs.Kinds.{Declared, declared_names, kind_in, with_their}
 use Rattle.scope.specs.declared.numbering.Kind.{Kind}
-use Rattle.scope.proofs.NumberingLemmas.{code-name, code-first}
-use Rattle.scope.proofs.SortsLemmas.{unknown-number}
+use Rattle.names.proofs.CodesLemmas.{code-name, code-first}
+use Rattle.names.proofs.CodesLemmas.{unknown-number}
 use Rattle.scope.proofs.KindsLemmas.{names-seen, kind-at, kind-none}
 use Rattle.scope.specs.Entries.{kinds_of}
 use Rattle.scope.proofs.EntriesLemmas.{kinds-length}
@@ -31,8 +31,8 @@ returns-in-Some-clause-kind c =
     let h = sym c.in-Some.ensures in
     let p = code-name c.self.inside.names c.args.name.now c.in-Some.number h in
     sym (ap (λ names. kind_in names c.args.name.now) (sym c.self.view_is)
-    ∙ kind-at c.self.inside.names (kinds_of c.self.inside.entries.items) c.args.name.now c.in-Some.number c.item.result.kind p.0 p.1 (code-first c.self.inside.names c.args.name.now c.in-Some.number h)
-    (slice_get-map (λ e. e.kind) c.self.inside.entries.items c.in-Some.number ∙ ap (option_map (λ e. e.kind)) (ap (λ es. slice_get es c.in-Some.number) (sym c.as_slice.ensures.value) ∙ c.item.ensures)))
+    ∙ kind-at c.self.inside.names (kinds_of c.self.inside.entries.items) c.args.name.now c.in-Some.number c.entry_at.result.kind p.0 p.1 (code-first c.self.inside.names c.args.name.now c.in-Some.number h)
+    (slice_get-map (λ e. e.kind) c.self.inside.entries.items c.in-Some.number ∙ ap (option_map (λ e. e.kind)) (ap (λ es. slice_get es c.in-Some.number) (sym c.as_slice.ensures.value) ∙ c.entry_at.ensures)))
 
 pub returns-in-None-clause-kind : goal.returns-in-None-clause-kind
 returns-in-None-clause-kind c =

@@ -1,5 +1,5 @@
 use Rattle.std.proofs.Common.{◌∙◌, ap, sym, arith, length}
-use Rattle.scope.specs.Numbering.{name_at}
+use Rattle.names.specs.Codes.{name_at}
 use Rattle.scope.specs.Kinds.{declared_names}
 use Rattle.scope.proofs.KindsLemmas.{length-seen, names-seen}
 use Rattle.scope.specs.Entries.{kinds_of}

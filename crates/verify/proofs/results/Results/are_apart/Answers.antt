@@ -1,5 +1,5 @@
 use Rattle.std.proofs.Common.{◌∙◌, ap, arith, ◌-◌, map, subst, length, sym}
-use Rattle.scope.specs.Numbering.{decode}
+use Rattle.names.specs.Codes.{decode}
 use Rattle.frame.specs.ByPlaces.{are_places_apart, AllBelow}
 use Rattle.verify.proofs.Named.{all-drop}
 use Rattle.verify.proofs.PartLemmas.{last-within, seen_eq}

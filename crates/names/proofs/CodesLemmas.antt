@@ -1,0 +1,120 @@
+-- Names and the places where they stand.
+use Rattle.std.specs.Prelude.{◌≡◌, ℕ, zero, suc, ◌+◌, ◌<◌, Bool, true, false, not, cond, ◌||◌, nat_lt, length, List, [], ◌∷◌, ◌++◌, map, position, Option, Some, None, get_or, refl}
+use Rattle.std.specs.List.{list_any, position_or_len, prefix_len}
+use Rattle.std.proofs.Common.{sym, ◌∙◌, ap, true≢false, arith, length-append}
+use Rattle.std.proofs.lemmas.List.Quantifiers.{position-Some}
+use Rattle.std.proofs.lemmas.Slice.Eq.{bytes_eq-Decides}
+use Rattle.std.proofs.lemmas.List.{length-map}
+use Rattle.mm_lex.specs.Alphabet.{Name, name_eq, has_name}
+use Rattle.names.specs.Codes.{name_at, code_of, AreDistinct, number_in}
+
+pub list_any-map : {A B : Type 0} (f : A → B) (p : B → Bool) (xs : List A) → list_any (λ a. p (f a)) xs ≡ list_any p (map f xs)
+list_any-map f p [] = refl
+list_any-map f p (x ∷ xs) = ap (λ r. p (f x) || r) (list_any-map f p xs)
+
+pub name_same : (x : Name) → name_eq x x ≡ true
+name_same x = (bytes_eq-Decides x x).1 refl
+
+pub same_name : (x y : Name) → name_eq x y ≡ true → x ≡ y
+same_name x y h = (bytes_eq-Decides x y).0 h
+
+pub name_eq-comm : (x y : Name) → name_eq x y ≡ name_eq y x
+name_eq-comm x y = by (name_eq x y) (name_eq y x) refl refl
+  where
+    by : (a b : Bool) → name_eq x y ≡ a → name_eq y x ≡ b → a ≡ b
+    by true true p q = refl
+    by false false p q = refl
+    by true false p q = absurd (true≢false (sym (name_same x) ∙ (ap (λ z. name_eq z x) (same_name x y p) ∙ q)))
+    by false true p q = absurd (true≢false (sym (name_same y) ∙ (ap (λ z. name_eq z y) (same_name y x q) ∙ p)))
+
+first_step : (b : Bool) (r : ℕ) → b ≡ true → cond (not b) (1 + r) 0 ≡ 0
+first_step true r h = refl
+first_step false r h = cc
+
+later_step : (b : Bool) (r n : ℕ) → b ≡ false → r ≡ n → cond (not b) (1 + r) 0 ≡ suc n
+later_step true r n h e = cc
+later_step false r n h e = grind (arith, e)
+
+pub has-at : (names : List Name) (x : Name) (n : ℕ) → n < length names → name_at names n ≡ x → has_name x names ≡ true
+has-at [] x n h e = absurd (omega (arith, h))
+has-at (y ∷ names) x zero h e = ap (λ b. b || has_name x names) (ap (name_eq x) e ∙ name_same x)
+has-at (y ∷ names) x (suc n) h e = or-right (name_eq x y) (has_name x names) (has-at names x n (omega (arith, h)) e)
+  where
+    or-right : (a b : Bool) → b ≡ true → (a || b) ≡ true
+    or-right true b h = refl
+    or-right false b h = h
+
+place-at : (names : List Name) (x : Name) (n : ℕ) → AreDistinct names → n < length names → name_at names n ≡ x → position_or_len (name_eq x) names ≡ n
+place-at [] x n d h e = absurd (omega (arith, h))
+place-at (y ∷ names) x zero d h e = first_step (name_eq x y) (prefix_len (λ a. not (name_eq x a)) names) (ap (name_eq x) e ∙ name_same x)
+place-at (y ∷ names) x (suc n) d h e =
+    later_step (name_eq x y) (prefix_len (λ a. not (name_eq x a)) names) n (apart (name_eq x y) refl) (place-at names x n d.1 (omega (arith, h)) e)
+  where
+    apart : (b : Bool) → name_eq x y ≡ b → name_eq x y ≡ false
+    apart false q = q
+    apart true q = absurd (true≢false (sym (has-at names x n (omega (arith, h)) e) ∙ (ap (λ z. has_name z names) (same_name x y q) ∙ d.0)))
+
+-- the number that a name stands at is its number, where the names are told apart
+pub code-at : (names : List Name) (x : Name) (n : ℕ) → AreDistinct names → n < length names → name_at names n ≡ x → code_of names x ≡ Some n
+code-at names x n d h e =
+    let t : nat_lt n (length names) ≡ true = grind (arith, h) in
+    ap (λ r. cond (nat_lt r (length names)) (Some r) None) (place-at names x n d h e) ∙ ap (λ b. cond b (Some n) None) t
+
+pub name_at-get_or : (names : List Name) (n : ℕ) → name_at names n ≡ get_or names n []
+name_at-get_or [] n = refl
+name_at-get_or (x ∷ names) zero = refl
+name_at-get_or (x ∷ names) (suc n) = name_at-get_or names n
+
+-- a name's number is below their count, and stands for it
+pub code-name : (names : List Name) (x : Name) (n : ℕ) → code_of names x ≡ Some n → (n < length names) × (name_at names n ≡ x)
+code-name names x n h =
+    let p = position-Some (name_eq x) names n [] h in
+    (p.0, name_at-get_or names n ∙ sym (same_name x (get_or names n []) p.1))
+
+-- no earlier place has the name
+pub code-first : (names : List Name) (x : Name) (n : ℕ) → code_of names x ≡ Some n → (m : ℕ) → m < n → name_at names m ≡ x → ⊥
+code-first names x n h m p e =
+    let q = position-Some (name_eq x) names n [] h in
+    true≢false (sym (name_same x) ∙ (ap (name_eq x) (sym e ∙ name_at-get_or names m) ∙ q.2 m p))
+
+pub code-absent : (names : List Name) (x : Name) → ((k : ℕ) → k < length names → name_at names k ≡ x → ⊥) → code_of names x ≡ None
+code-absent names x none = by (code_of names x) refl
+  where
+    by : (r : Option ℕ) → code_of names x ≡ r → code_of names x ≡ None
+    by None e = e
+    by (Some n) e = let p = code-name names x n e in absurd (none n p.0 p.1)
+
+-- the name that was put last has the number behind the others
+pub added-name : (old new : List Name) (x : Name) (n : ℕ) → n ≡ length old → new ≡ old ++ x ∷ [] → (n < length new) × (name_at new n ≡ x)
+added-name old new x n e h =
+    let l = ap length h ∙ length-append old (x ∷ []) in
+    (omega (arith, l, e), ap (λ r. name_at r n) h ∙ (ap (name_at (old ++ x ∷ [])) e ∙ last old x))
+  where
+    last : (names : List Name) (y : Name) → name_at (names ++ y ∷ []) (length names) ≡ y
+    last [] y = refl
+    last (z ∷ names) y = last names y
+
+pub lt_step : (b : Bool) (r l : ℕ) (q : Bool) → nat_lt r l ≡ q → nat_lt (cond (not b) (1 + r) 0) (suc l) ≡ (b || q)
+lt_step true r l q h = grind (arith)
+lt_step false r l true h = grind (arith, h)
+lt_step false r l false h = grind (arith, h)
+
+pub lt-list_any : {A : Type 0} (p : A → Bool) (xs : List A) → nat_lt (position_or_len p xs) (length xs) ≡ list_any p xs
+lt-list_any p [] = refl
+lt-list_any p (x ∷ xs) = lt_step (p x) (prefix_len (λ a. not (p a)) xs) (length xs) (list_any p xs) (lt-list_any p xs)
+
+some_cond : {A : Type 0} (b : Bool) (x y : A) → cond b (Some x) None ≡ Some y → (b ≡ true) × (x ≡ y)
+some_cond true x y h = (refl, cc)
+some_cond false x y h = cc
+
+none_cond : {A : Type 0} (b : Bool) (x : A) → cond b (Some x) None ≡ None → b ≡ false
+none_cond true x h = cc
+none_cond false x h = refl
+
+pub found-number : (names : List Name) (x : Name) (n : ℕ) → Some n ≡ code_of names x → (has_name x names ≡ true) × (number_in names x ≡ n)
+found-number names x n h =
+    let s = some_cond (nat_lt (number_in names x) (length names)) (number_in names x) n (sym h) in
+    (sym (lt-list_any (name_eq x) names) ∙ s.0, s.1)
+
+pub unknown-number : (names : List Name) (x : Name) → None ≡ code_of names x → has_name x names ≡ false
+unknown-number names x h = sym (lt-list_any (name_eq x) names) ∙ none_cond (nat_lt (number_in names x) (length names)) (number_in names x) (sym h)

@@ -1,0 +1,110 @@
+-- Below the hints a key is the key of one name alone.
+use Rattle.std.specs.Prelude.{◌≡◌, ℕ, zero, suc, ◌+◌, ◌-◌, ◌*◌, ◌/◌, ◌<◌, ◌≤◌, ◌^◌, Bool, true, false, cond, List, [], ◌∷◌, length, nat_lt, refl}
+use Rattle.std.proofs.Common.{sym, ◌∙◌, ap, subst, arith}
+use Rattle.mm_lex.specs.Alphabet.{Name}
+use Rattle.names.specs.declared.keys.TheConstants.{LONG}
+use Rattle.names.specs.Keys.{AreBytes, digits, ends, front_and_back, picked, hint_of, key_of}
+
+-- the first digit and the others
+digit-same : (a b m n : ℕ) → a < 256 → b < 256 → a + 256 * m ≡ b + 256 * n → (a ≡ b) × (m ≡ n)
+digit-same a b m n p q e = (omega (arith, p, q, e), omega (arith, p, q, e))
+
+-- a name from its length and what is picked of it
+abbrev unpicked : ℕ → List ℕ → Name
+unpicked (suc zero) (a ∷ bs) = a ∷ []
+unpicked (suc (suc zero)) (a ∷ b ∷ bs) = a ∷ b ∷ []
+unpicked (suc (suc (suc zero))) (a ∷ b ∷ c ∷ bs) = a ∷ b ∷ c ∷ []
+unpicked (suc (suc (suc (suc zero)))) (a ∷ b ∷ c ∷ d ∷ bs) = a ∷ b ∷ c ∷ d ∷ []
+unpicked (suc (suc (suc (suc (suc zero))))) (a ∷ b ∷ c ∷ d ∷ x ∷ y ∷ z ∷ bs) = a ∷ b ∷ c ∷ d ∷ z ∷ []
+unpicked (suc (suc (suc (suc (suc (suc zero)))))) (a ∷ b ∷ c ∷ d ∷ x ∷ y ∷ z ∷ bs) = a ∷ b ∷ c ∷ d ∷ y ∷ z ∷ []
+unpicked (suc (suc (suc (suc (suc (suc (suc zero))))))) (a ∷ b ∷ c ∷ d ∷ x ∷ y ∷ z ∷ bs) = a ∷ b ∷ c ∷ d ∷ x ∷ y ∷ z ∷ []
+unpicked n bs = []
+
+unpicked-picked : (x : Name) → length x < 8 → unpicked (length x) (picked x) ≡ x
+unpicked-picked [] h = refl
+unpicked-picked (a ∷ []) h = refl
+unpicked-picked (a ∷ b ∷ []) h = refl
+unpicked-picked (a ∷ b ∷ c ∷ []) h = refl
+unpicked-picked (a ∷ b ∷ c ∷ d ∷ []) h = refl
+unpicked-picked (a ∷ b ∷ c ∷ d ∷ e ∷ []) h = refl
+unpicked-picked (a ∷ b ∷ c ∷ d ∷ e ∷ f ∷ []) h = refl
+unpicked-picked (a ∷ b ∷ c ∷ d ∷ e ∷ f ∷ g ∷ []) h = refl
+unpicked-picked (a ∷ b ∷ c ∷ d ∷ e ∷ f ∷ g ∷ i ∷ x) h = absurd (omega (arith, h))
+
+-- the digits of two numbers of as many digits
+abbrev AreDigits : List ℕ → Type 0
+AreDigits [] = Unit {0}
+AreDigits (a ∷ xs) = (a < 256) × AreDigits xs
+
+digits-same : (xs ys : List ℕ) → AreDigits xs → AreDigits ys → length xs ≡ length ys → digits xs ≡ digits ys → xs ≡ ys
+digits-same [] [] p q l e = refl
+digits-same [] (b ∷ ys) p q l e = absurd (omega (arith, l))
+digits-same (a ∷ xs) [] p q l e = absurd (omega (arith, l))
+digits-same (a ∷ xs) (b ∷ ys) p q l e =
+    let d = digit-same a b (digits xs) (digits ys) p.0 q.0 e in
+    let r = digits-same xs ys p.1 q.1 (omega (arith, l)) d.1 in
+    let first = d.0 in
+    cc
+
+picked-digits : (x : Name) → AreBytes x → AreDigits (picked x)
+picked-digits x h = by (nat_lt (length x) 4)
+  where
+    by : (b : Bool) → AreDigits (cond b (ends x) (front_and_back x))
+    by true = (h 0, (h (length x / 2), (h (length x - 1), tt)))
+    by false = (h 0, (h 1, (h 2, (h 3, (h (length x - 3), (h (length x - 2), (h (length x - 1), tt)))))))
+
+picked-below : (x : Name) → AreBytes x → digits (picked x) < 2 ^ 56
+picked-below x h = by (nat_lt (length x) 4)
+  where
+    by : (b : Bool) → digits (cond b (ends x) (front_and_back x)) < 2 ^ 56
+    by true =
+        let p = h 0 in
+        let q = h (length x / 2) in
+        let r = h (length x - 1) in
+        omega (arith, p, q, r)
+    by false =
+        let a = h 0 in
+        let b = h 1 in
+        let d = h 2 in
+        let e = h 3 in
+        let p = h (length x - 3) in
+        let q = h (length x - 2) in
+        let r = h (length x - 1) in
+        omega (arith, a, b, d, e, p, q, r)
+
+picked-same : (x y : Name) → AreBytes x → AreBytes y → length x ≡ length y → length x < 8 → digits (picked x) ≡ digits (picked y) → x ≡ y
+picked-same x y p q l h e =
+    let same = digits-same (picked x) (picked y) (picked-digits x p) (picked-digits y q) (sizes (length x) (length y) l) e in
+    sym (unpicked-picked x h) ∙ (ap (unpicked (length x)) same ∙ (ap (λ n. unpicked n (picked y)) l ∙ unpicked-picked y (subst (λ n. n < 8) l h)))
+  where
+    size : (z : Name) → length (picked z) ≡ cond (nat_lt (length z) 4) 3 7
+    size z = by (nat_lt (length z) 4)
+      where
+        by : (b : Bool) → length (cond b (ends z) (front_and_back z)) ≡ cond b 3 7
+        by true = refl
+        by false = refl
+
+    sizes : (m n : ℕ) → m ≡ n → length (picked x) ≡ length (picked y)
+    sizes m n s = size x ∙ (ap (λ k. cond (nat_lt k 4) 3 7) l ∙ sym (size y))
+
+-- a short name shares its key with no other
+pub key-same : (x y : Name) → AreBytes x → AreBytes y → length x < LONG → key_of x ≡ key_of y → x ≡ y
+key-same x y p q short e = by (nat_lt (length x) LONG) (nat_lt (length y) LONG) refl refl e
+  where
+    below : (n : ℕ) → nat_lt n LONG ≡ true → n < LONG
+    below n t = grind (arith, t)
+
+    above : (n : ℕ) → nat_lt n LONG ≡ false → LONG ≤ n
+    above n t = grind (arith, t)
+
+    by : (a b : Bool) → nat_lt (length x) LONG ≡ a → nat_lt (length y) LONG ≡ b
+        → cond a (digits (picked x) * 8 + length x) (hint_of x) ≡ cond b (digits (picked y) * 8 + length y) (hint_of y) → x ≡ y
+    by true true s t e =
+        let m = below (length x) s in
+        let n = below (length y) t in
+        picked-same x y p q (omega (arith, m, n, e)) m (omega (arith, m, n, e))
+    by true false s t e =
+        let d = picked-below x p in
+        let m = below (length x) s in
+        absurd (omega (arith, d, m, e))
+    by false b s t e = let m = above (length x) s in absurd (omega (arith, short, m))

@@ -1,0 +1,229 @@
+-- A table by keys: what is put there is found, and what is not found is not there.
+use Rattle.std.specs.Prelude.{◌≡◌, ◌≢◌, ℕ, zero, suc, ◌+◌, ◌<◌, ◌≤◌, ◌^◌, Bool, true, false, ◌||◌, ◌⊎◌, List, [], ◌∷◌, ◌++◌, length, take, drop, slice_get, Some, None, refl}
+use Rattle.std.proofs.Common.{sym, ◌∙◌, ap, subst, arith, inl, inr, slice_set, length-append, add-one}
+use Rattle.std.proofs.lemmas.Bool.{cases_lt}
+use Rattle.std.specs.Prelude.{unwrap_or, replicate}
+use Rattle.std.proofs.lemmas.List.{length-set, length-replicate, get_or-replicate, take-append-drop}
+use Rattle.std.proofs.lemmas.Option.{slice_get_within, unwrap_or-slice_get}
+use Rattle.mm_lex.specs.Alphabet.{Name, name_eq, has_name}
+use Rattle.names.specs.Codes.{name_at, code_of, AreDistinct}
+use Rattle.names.specs.declared.table.Slot.{Slot}
+use Rattle.names.specs.declared.table.TheConstants.{NO_NAME}
+use Rattle.names.specs.Keys.{AreBytes, key_of}
+use Rattle.names.specs.Table.{place_of, slot_at, IsTaken, IsHeld, AreHeld, HasKey, IsTable, IsFree, IsPassed}
+use Rattle.names.proofs.CodesLemmas.{code-absent}
+use Rattle.names.proofs.DistinctLemmas.{name_at-more, name_at-last, name_at-take, length-take-below}
+
+some-same : {A : Type 0} {x y : A} → Some x ≡ Some y → x ≡ y
+some-same e = cc
+
+same-slot : (slots : List Slot) (key step : ℕ) (s t : Slot) → slot_at slots key step s → slot_at slots key step t → s ≡ t
+same-slot slots key step s t a b = some-same (sym a ∙ b)
+
+pub passed-one : (slots : List Slot) (names : List Name) (name : Name) (key step : ℕ) (t : Slot) → slot_at slots key step t → t.number ≢ NO_NAME → (t.key ≡ key → t.number < length names → name_at names t.number ≢ name)
+    → IsPassed slots names name key step
+passed-one slots names name key step t at taken other s g =
+    subst (λ (u : Slot). (u.number ≢ NO_NAME) × (u.key ≡ key → u.number < length names → name_at names u.number ≢ name)) (same-slot slots key step t s at g) (taken, other)
+
+no-name : (k n : ℕ) → k < n → n < 2 ^ 32 → k ≡ NO_NAME → ⊥
+no-name k n p q e = omega (arith, p, q, e)
+
+-- the search met a slot without number, or each slot: then no name is this one
+pub not-found : (slots : List Slot) (names : List Name) (name : Name) (key step : ℕ) → key ≡ key_of name → AreHeld slots names → length names < 2 ^ 32
+    → ((i : ℕ) → i < step → IsPassed slots names name key i) → (length slots ≤ step) ⊎ ((s : Slot) × slot_at slots key step s × (s.number ≡ NO_NAME))
+    → code_of names name ≡ None
+not-found slots names name key step own held few passed end = code-absent names name none
+  where
+    none : (k : ℕ) → k < length names → name_at names k ≡ name → ⊥
+    none k lt e = by end (cases_lt h.step step)
+      where
+        h : IsHeld slots key k
+        h = subst (λ n. IsHeld slots n k) (ap key_of e ∙ sym own) (held k lt)
+
+        met : h.step < step → ⊥
+        met p = (passed h.step p (record { key = key; number = k }) h.there).1 refl lt e
+
+        by : (length slots ≤ step) ⊎ ((s : Slot) × slot_at slots key step s × (s.number ≡ NO_NAME)) → (h.step < step) ⊎ (step ≤ h.step) → ⊥
+        by end (inl p) = met p
+        by (inl all) (inr p) = let w = h.within in absurd (omega (arith, w, all, p))
+        by (inr f) (inr p) = later f (cases_lt step h.step)
+          where
+            later : (s : Slot) × slot_at slots key step s × (s.number ≡ NO_NAME) → (step < h.step) ⊎ (h.step ≤ step) → ⊥
+            later g (inl q) = h.before step q g.0 g.1 g.2
+            later g (inr q) =
+                let same : h.step ≡ step = omega (arith, p, q) in
+                let there : slot_at slots key step (record { key = key; number = k }) = subst (λ i. slot_at slots key i (record { key = key; number = k })) same h.there in
+                no-name k (length names) lt few (ap (λ (u : Slot). u.number) (same-slot slots key step (record { key = key; number = k }) g.0 there g.1) ∙ g.2)
+
+get-set_other : {A : Type 0} (xs : List A) (i n : ℕ) (v : A) → n ≢ i → slice_get (slice_set xs i v) n ≡ slice_get xs n
+get-set_other [] i n v ne = refl
+get-set_other (x ∷ xs) zero zero v ne = absurd (ne refl)
+get-set_other (x ∷ xs) (suc i) zero v ne = refl
+get-set_other (x ∷ xs) zero (suc n) v ne = refl
+get-set_other (x ∷ xs) (suc i) (suc n) v ne = get-set_other xs i n v (λ e. ne (ap suc e))
+
+get-set_same : {A : Type 0} (xs : List A) (i : ℕ) (v : A) → i < length xs → slice_get (slice_set xs i v) i ≡ Some v
+get-set_same [] i v h = absurd (omega arith)
+get-set_same (x ∷ xs) zero v h = refl
+get-set_same (x ∷ xs) (suc i) v h = get-set_same xs i v (omega arith)
+
+taken-set : (slots : List Slot) (at : ℕ) (new : Slot) (key step : ℕ) → new.number ≢ NO_NAME → IsTaken slots key step → IsTaken (slice_set slots at new) key step
+taken-set slots at new key step ne taken s g = by (cases_lt place at) (cases_lt at place)
+  where
+    place : ℕ
+    place = place_of key step (length slots)
+
+    g' : slice_get (slice_set slots at new) (place_of key step (length slots)) ≡ Some s
+    g' = ap (λ n. slice_get (slice_set slots at new) (place_of key step n)) (sym (length-set slots at new)) ∙ g
+
+    elsewhere : place_of key step (length slots) ≢ at → s.number ≢ NO_NAME
+    elsewhere q = taken s (sym (get-set_other slots at (place_of key step (length slots)) new q) ∙ g')
+
+    by : (place_of key step (length slots) < at) ⊎ (at ≤ place_of key step (length slots)) → (at < place_of key step (length slots)) ⊎ (place_of key step (length slots) ≤ at) → s.number ≢ NO_NAME
+    by (inl p) q = elsewhere (λ e. absurd (omega (arith, p, e)))
+    by (inr p) (inl q) = elsewhere (λ e. absurd (omega (arith, q, e)))
+    by (inr p) (inr q) =
+        let same : place_of key step (length slots) ≡ at = omega (arith, p, q) in
+        let here : slice_get (slice_set slots at new) at ≡ Some s = ap (slice_get (slice_set slots at new)) (sym same) ∙ g' in
+        let w = slice_get_within (slice_set slots at new) at s here in
+        let l = length-set slots at new in
+        let e : new ≡ s = some-same (sym (get-set_same slots at new (omega (arith, w, l))) ∙ here) in
+        λ z. ne (ap (λ (u : Slot). u.number) e ∙ z)
+
+held-set : (slots : List Slot) (at : ℕ) (new : Slot) (key k : ℕ) → ((s : Slot) → slice_get slots at ≡ Some s → s.number ≡ NO_NAME) → new.number ≢ NO_NAME → k ≢ NO_NAME
+    → IsHeld slots key k → IsHeld (slice_set slots at new) key k
+held-set slots at new key k free ne known h =
+    let l = length-set slots at new in
+    let w = h.within in
+    record {
+      step = h.step;
+      within = omega (arith, w, l);
+      there = ap (λ n. slice_get (slice_set slots at new) (place_of key h.step n)) l
+          ∙ (get-set_other slots at (place_of key h.step (length slots)) new (λ e. known (free (record { key = key; number = k }) (ap (slice_get slots) (sym e) ∙ h.there))) ∙ h.there);
+      before = λ i p. taken-set slots at new key i ne (h.before i p);
+    }
+
+put-new : (slots : List Slot) (at : ℕ) (key k : ℕ) → IsFree slots key at → k ≢ NO_NAME → IsHeld (slice_set slots at (record { key = key; number = k })) key k
+put-new slots at key k f known =
+    let new : Slot = record { key = key; number = k } in
+    let l = length-set slots at new in
+    let w = f.within in
+    record {
+      step = f.step;
+      within = omega (arith, w, l);
+      there = ap (λ n. slice_get (slice_set slots at new) (place_of key f.step n)) l
+          ∙ (ap (slice_get (slice_set slots at new)) f.place ∙ get-set_same slots at new f.inside);
+      before = λ i p. taken-set slots at new key i known (f.before i p);
+    }
+
+-- slots without number are the table of no names
+pub no-names : (slots old : List Slot) (m n : ℕ) (free : Slot) → old ≡ [] → slots ≡ take m old ++ replicate n free → free.number ≡ NO_NAME → IsTable slots [] NO_NAME
+no-names slots old m n free nothing e none = record {
+  held = λ k h. absurd (omega (arith, h));
+  keys = λ i s g h. absurd (taken i s (sym (ap (λ xs. slice_get xs i) (e ∙ (ap (λ xs. take m xs ++ replicate n free) nothing ∙ front m))) ∙ g) h);
+}
+  where
+    front : (m : ℕ) → take m [] ++ replicate n free ≡ replicate n free
+    front zero = refl
+    front (suc m) = refl
+
+    taken : (i : ℕ) (s : Slot) → slice_get (replicate n free) i ≡ Some s → s.number < NO_NAME → ⊥
+    taken i s g h =
+        let w = slice_get_within (replicate n free) i s g in
+        let l = length-replicate n free in
+        let same : s ≡ free =
+        sym (ap (λ r. unwrap_or r free) g) ∙ (unwrap_or-slice_get (replicate n free) i free ∙ get_or-replicate n i free free (omega (arith, w, l))) in
+        let number = ap (λ (u : Slot). u.number) same in
+        omega (arith, h, number, none)
+
+put-held : (slots : List Slot) (names : List Name) (name : Name) (key at n : ℕ) → key ≡ key_of name → n ≡ length names → n < NO_NAME → AreHeld slots names → IsFree slots key at
+    → AreHeld (slice_set slots at (record { key = key; number = n })) (names ++ name ∷ [])
+put-held slots names name key at n own count few held f k lt = by (cases_lt k (length names))
+  where
+    ne : n ≢ NO_NAME
+    ne e = absurd (omega (arith, few, e))
+
+    by : (k < length names) ⊎ (length names ≤ k) → IsHeld (slice_set slots at (record { key = key; number = n })) (key_of (name_at (names ++ name ∷ []) k)) k
+    by (inl p) =
+        subst (λ x. IsHeld (slice_set slots at (record { key = key; number = n })) (key_of x) k) (sym (name_at-more names (name ∷ []) k p))
+        (held-set slots at (record { key = key; number = n }) (key_of (name_at names k)) k f.free ne (λ e. absurd (omega (arith, p, count, few, e))) (held k p))
+    by (inr p) =
+        let l = length-append names (name ∷ []) in
+        let same : n ≡ k = omega (arith, p, lt, l, count) in
+        let e : key ≡ key_of (name_at (names ++ name ∷ []) k) = own ∙ ap key_of (sym (name_at-last names name) ∙ ap (name_at (names ++ name ∷ [])) (sym count ∙ same)) in
+        subst (λ h. IsHeld (slice_set slots at (record { key = key; number = n })) h k) e
+        (subst (IsHeld (slice_set slots at (record { key = key; number = n })) key) same (put-new slots at key n f ne))
+
+-- a slot keeps the key of its name when others come
+key-more : (names more : List Name) (s : Slot) → HasKey names s → HasKey (names ++ more) s
+key-more names more s h =
+    let l = length-append names more in
+    let w = h.within in
+    let same = sym (name_at-more names more s.number w) in
+    record {
+      within = omega (arith, l, w);
+      bytes = subst AreBytes same h.bytes;
+      key = h.key ∙ ap key_of same;
+    }
+
+-- the slot that is written, or one that stood there
+set-cases : (slots : List Slot) (at : ℕ) (new : Slot) (i : ℕ) (s : Slot) → at < length slots → slice_get (slice_set slots at new) i ≡ Some s → (s ≡ new) ⊎ ((i : ℕ) × (slice_get slots i ≡ Some s))
+set-cases slots at new i s inside g = by (cases_lt i at) (cases_lt at i)
+  where
+    by : (i < at) ⊎ (at ≤ i) → (at < i) ⊎ (i ≤ at) → (s ≡ new) ⊎ ((i : ℕ) × (slice_get slots i ≡ Some s))
+    by (inl p) q = inr (i, sym (get-set_other slots at i new (λ e. absurd (omega (arith, p, e)))) ∙ g)
+    by (inr p) (inl q) = inr (i, sym (get-set_other slots at i new (λ e. absurd (omega (arith, q, e)))) ∙ g)
+    by (inr p) (inr q) =
+        let same : i ≡ at = omega (arith, p, q) in
+        inl (some-same (sym g ∙ (ap (slice_get (slice_set slots at new)) same ∙ get-set_same slots at new inside)))
+
+-- one more name is put where its key meets the first free slot
+pub put : (slots : List Slot) (names : List Name) (name : Name) (key at n sound : ℕ) → key ≡ key_of name → AreBytes name → n ≡ length names → n < NO_NAME → IsFree slots key at → IsTable slots names sound
+    → IsTable (slice_set slots at (record { key = key; number = n })) (names ++ name ∷ []) sound
+put slots names name key at n sound own bytes count few free old = record {
+  held = put-held slots names name key at n own count few old.held free;
+  keys = λ i s g below. by s below (set-cases slots at (record { key = key; number = n }) i s free.inside g);
+}
+  where
+    here : HasKey (names ++ name ∷ []) (record { key = key; number = n })
+    here =
+        let l = length-append names (name ∷ []) in
+        let last : name_at (names ++ name ∷ []) n ≡ name = ap (name_at (names ++ name ∷ [])) count ∙ name_at-last names name in
+        record {
+          within = omega (arith, l, count);
+          bytes = subst AreBytes (sym last) bytes;
+          key = own ∙ ap key_of (sym last);
+        }
+
+    by : (s : Slot) → s.number < sound → (s ≡ record { key = key; number = n }) ⊎ ((i : ℕ) × (slice_get slots i ≡ Some s)) → HasKey (names ++ name ∷ []) s
+    by s below (inl e) = subst (HasKey (names ++ name ∷ [])) (sym e) here
+    by s below (inr f) = key-more names (name ∷ []) s (old.keys f.0 s f.1 below)
+
+held-take : (slots : List Slot) (names : List Name) (n : ℕ) → AreHeld slots names → AreHeld slots (take n names)
+held-take slots names n held k lt =
+    let l = length-take-below n names in
+    subst (λ x. IsHeld slots (key_of x) k) (sym (name_at-take n names k lt)) (held k (omega (arith, lt, l)))
+
+-- where names are taken away, the slots below those are sound
+pub table-take : (slots : List Slot) (names : List Name) (n sound less : ℕ) → less ≤ sound → less ≤ n → IsTable slots names sound → IsTable slots (take n names) less
+table-take slots names n sound less p q old = record {
+  held = held-take slots names n old.held;
+  keys = λ i s g below. kept s below (old.keys i s g (omega (arith, p, below)));
+}
+  where
+    inside : (n : ℕ) (names : List Name) (k : ℕ) → k < length names → k < n → k < length (take n names)
+    inside zero names k p q = absurd (omega (arith, q))
+    inside (suc n) [] k p q = absurd (omega (arith, p))
+    inside (suc n) (x ∷ names) zero p q = omega arith
+    inside (suc n) (x ∷ names) (suc k) p q = let r = inside n names k (omega (arith, p)) (omega (arith, q)) in omega (arith, r)
+
+    kept : (s : Slot) → s.number < less → HasKey names s → HasKey (take n names) s
+    kept s below h =
+        let w = h.within in
+        let within : s.number < length (take n names) = inside n names s.number w (omega (arith, q, below)) in
+        let same = sym (name_at-take n names s.number within) in
+        record {
+          within = within;
+          bytes = subst AreBytes same h.bytes;
+          key = h.key ∙ ap key_of same;
+        }

@@ -1,0 +1,6 @@
+use Rattle.std.proofs.Common.{ℕ, ◌<◌}
+use Rattle.names.specs.Table.{IsTaken}
+use Rattle.names.proofs.table.free_place.Given as goal
+
+abbrev pub invariant-loop-step : goal.invariant-loop-step
+invariant-loop-step l = (i : ℕ) → i < l.step → IsTaken l.slots l.key i

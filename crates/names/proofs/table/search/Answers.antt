@@ -1,0 +1,20 @@
+use Rattle.std.proofs.Common.{◌≡◌, ◌∙◌, sym, length, rules, arith, inr}
+use Rattle.names.specs.Codes.{name_at}
+use Rattle.names.specs.Table.{place_of, HasKey}
+use Rattle.names.proofs.KeysLemmas.{key-same}
+use Rattle.names.proofs.CodesLemmas.{code-at}
+use Rattle.names.proofs.TableLemmas.{not-found}
+use Rattle.names.proofs.table.search.Goals as goal
+
+pub returns-then-slot-sound : goal.returns-then-slot-sound
+returns-then-slot-sound c =
+    let slot = c.look-slot.result in
+    let h : HasKey c.args.texts.now slot = c.requires.table.keys (place_of c.key-key.result 0 (length c.args.slots.now)) slot c.look-slot.ensures c.if-slot-sound.true in
+    let same : c.args.name.now ≡ name_at c.args.texts.now slot.number =
+    key-same c.args.name.now (name_at c.args.texts.now slot.number) c.key-key.ensures.bytes h.bytes (search rules) (sym c.key-key.ensures.key ∙ (sym c.if-slot-key.true ∙ h.key)) in
+    sym (code-at c.args.texts.now c.args.name.now slot.number c.requires.distinct h.within (sym same))
+
+pub returns-then-slot : goal.returns-then-slot
+returns-then-slot c =
+    sym (not-found c.args.slots.now c.args.texts.now c.args.name.now c.key-key.result 0 c.key-key.ensures.key c.requires.table.held c.requires.few (λ i below. absurd (omega (arith, below)))
+    (inr (c.look-slot.result, c.look-slot.ensures, c.if-slot.true)))

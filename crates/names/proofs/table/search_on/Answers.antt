@@ -1,0 +1,32 @@
+use Rattle.std.proofs.Common.{sym, inl, inr, below_more, rules, length}
+use Rattle.names.specs.Table.{place_of}
+use Rattle.names.proofs.CodesLemmas.{code-at}
+use Rattle.names.proofs.TableLemmas.{passed-one, not-found}
+use Rattle.names.proofs.table.search_on.Goals as goal
+use Rattle.names.proofs.table.search_on.Goals.{else-slot-key-via-then-slot-key+else-is_name, else-slot-key-via-else-slot-key}
+
+pub returns-then-slot : goal.returns-then-slot
+returns-then-slot c =
+    sym (not-found c.args.slots.now c.args.texts.now c.args.name.now c.key-key.result c.loop-step.step c.key-key.ensures.key c.requires.table.held c.requires.few c.loop-step.invariant
+    (inr (c.look-slot.result, c.look-slot.ensures, c.if-slot.true)))
+
+pub returns-then-is_name : goal.returns-then-is_name
+returns-then-is_name c =
+    let p = c.is_name.ensures.yes c.if-is_name.true in
+    sym (code-at c.args.texts.now c.args.name.now c.look-slot.result.number c.requires.distinct p.0 p.1)
+
+pub loop-step-preserved : goal.loop-step-preserved
+loop-step-preserved c =
+    below_more _ _ c.loop-step.invariant
+    (passed-one c.args.slots.now c.args.texts.now c.args.name.now c.key-key.result c.loop-step.step c.look-slot.result c.look-slot.ensures c.if-slot.false
+    (λ own. elim c.else-slot-key.branch [
+      | else-slot-key-via-then-slot-key+else-is_name w ↦ w.is_name.ensures.no w.if-is_name.false
+      | else-slot-key-via-else-slot-key w ↦ absurd (w.if-slot-key.false own)
+    ]))
+
+pub returns : goal.returns
+returns c =
+    sym (not-found c.args.slots.now c.args.texts.now c.args.name.now c.key-key.result c.loop-step.step c.key-key.ensures.key c.requires.table.held c.requires.few c.loop-step.invariant (inl (search rules)))
+
+pub is_name-requires-clause-sound : goal.is_name-requires-clause-sound
+is_name-requires-clause-sound c = c.requires.table.keys (place_of c.key-key.result c.loop-step.step (length c.args.slots.now)) c.look-slot.result c.look-slot.ensures

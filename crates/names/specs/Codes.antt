@@ -1,0 +1,46 @@
+-- Names by number: the code of a name is the place where it stands first in a list of names, from 0.
+-- Source: this project's form of keeping names.
+-- The code looks a name up in a table of keys; the model has the list of names.
+use Rattle.std.specs.Prelude.{◌≡◌, ℕ, zero, suc, true, false, IsTrue, nat_lt, List, [], ◌∷◌, ◌++◌, length, map, position, Option, if◌then◌else◌}
+use Rattle.std.specs.List.{list_all, position_or_len}
+use Rattle.mm_lex.specs.Alphabet.{Name, name_eq, has_name}
+
+-- the name of a code, and no name past the end
+abbrev pub name_at : List Name → ℕ → Name
+name_at [] n = []
+name_at (x ∷ names) zero = x
+name_at (x ∷ names) (suc n) = name_at names n
+
+abbrev pub decode : List Name → List ℕ → List Name
+decode names codes = map (name_at names) codes
+
+abbrev pub AreCodes : List Name → List ℕ → Type 0
+AreCodes names codes = IsTrue (list_all (λ n. nat_lt n (length names)) codes)
+
+-- the code of a name
+abbrev pub code_of : List Name → Name → Option ℕ
+code_of names x = position (name_eq x) names
+
+-- the names after one is given a code: it keeps the one it has, or goes last
+abbrev pub with_name : List Name → Name → List Name
+with_name names x = if has_name x names then names else names ++ x ∷ []
+
+abbrev pub with_names : List Name → List Name → List Name
+with_names names [] = names
+with_names names (x ∷ xs) = with_names (with_name names x) xs
+
+-- no two codes stand for one name
+abbrev pub AreDistinct : List Name → Type 0
+AreDistinct [] = Unit {0}
+AreDistinct (x ∷ names) = (has_name x names ≡ false) × AreDistinct names
+
+-- the code of a name, and one above the last where it has none
+abbrev pub number_in : List Name → Name → ℕ
+number_in names x = position_or_len (name_eq x) names
+
+abbrev pub numbers_in : List Name → List Name → List ℕ
+numbers_in names xs = map (number_in names) xs
+
+-- each of the names has a code
+abbrev pub AreNamed : List Name → List Name → Type 0
+AreNamed names xs = (x : Name) → has_name x xs ≡ true → has_name x names ≡ true

@@ -1,0 +1,15 @@
+//! Names by number: `Names` is a list of distinct names that gives each of them a code.
+//!
+//! The crates above use `Names::find`, `Names::add` and `Names::name`: a name's code is its place in the list, and the
+//! name of a code is the one that stands there. Read `names`; `texts` keeps the bytes, `table` finds a code by the key
+//! of its name, `keys` makes keys.
+#![tactic(auto)]
+
+mod keys;
+mod names;
+mod table;
+#[cfg(test)]
+mod tests;
+mod texts;
+
+pub use names::Names;

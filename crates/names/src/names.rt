@@ -1,0 +1,165 @@
+//! Names by number, and the number of each name.
+ghost use Rattle.std.specs.Prelude.{◌≡◌, ◌<◌, ◌≤◌, ◌^◌, [], ◌∷◌, ◌++◌, length, take, IfOk, OnOk, OnErr, false};
+ghost use Rattle.mm_lex.specs.Alphabet.{has_name};
+ghost use Rattle.names.specs.Codes.{name_at, code_of, AreDistinct};
+
+use crate::keys::key;
+use crate::table::{NO_NAME, Slot, free_place, search, table};
+use crate::texts::Texts;
+use std::alloc::{AllocError, Global};
+use std::marker::Model;
+
+/// Names, none of them twice. The code of a name is its place, from 0. Contracts see the list.
+///
+/// The bytes of all names stand in one buffer. A table tells a name's code by its key, which for a name
+/// of at most seven bytes no other name has.
+#[derive(Drop)]
+pub struct Names {
+    texts: Texts,
+    slots: Vec<Slot>,
+    /// How many slots are taken, those of names that are gone with them.
+    taken: usize,
+    /// A slot with a code below this one has the key of that code's name. Another may stand there since
+    /// a name was taken away, and its code given to a later one.
+    sound: u32,
+}
+
+impl Model for Names {
+    ghost use Rattle.std.specs.Prelude.{ℕ, List, length, ◌<◌, ◌^◌};
+    ghost use Rattle.names.specs.Codes.{AreDistinct};
+    ghost use Rattle.names.specs.Table.{IsTable};
+
+    ghost Value = { List (List ℕ) };
+
+    ghost view = { λ a. a.texts };
+
+    ghost invariant = { λ a. (length a.texts < 2 ^ 32) × (AreDistinct a.texts × IsTable a.slots.items a.texts a.sound) };
+}
+
+impl Names {
+    /// No names.
+    pub fn new(alloc: Global) -> Names
+        ensures { result ≡ [] }
+    {
+        Names {
+            texts: Texts::new(alloc),
+            slots: Vec::new(alloc),
+            taken: 0,
+            sound: NO_NAME,
+        }
+    }
+
+    /// The same names.
+    pub fn copy(&self, alloc: Global) -> Result<Names, AllocError>
+        ensures { IfOk result (λ names. names ≡ self.now) }
+    {
+        let texts = self.texts.copy(alloc)?;
+        let slots = Vec::from_slice(alloc, self.slots.as_slice())?;
+        Ok(Names {
+            texts,
+            slots,
+            taken: self.taken,
+            sound: self.sound,
+        })
+    }
+
+    /// How many names there are.
+    pub fn len(&self) -> usize
+        ensures { result ≡ length self.now }
+    {
+        self.texts.len()
+    }
+
+    /// The code of a name that has one. Cost: one pass over the name, and few looks at the table.
+    pub fn find(&self, name: &[u8]) -> Option<usize>
+        ensures { result ≡ code_of self.now name.now }
+    {
+        search(self.slots.as_slice(), &self.texts, self.sound, name)
+    }
+
+    /// The name of a code.
+    pub fn name(&self, code: usize) -> &[u8]
+        requires { code < length self.now }
+        ensures { result.now ≡ name_at self.now code }
+    {
+        self.texts.get(code)
+    }
+
+    /// The code of a name, which is given one where it has none.
+    pub fn code(&mut self, alloc: Global, name: &[u8]) -> Result<usize, AllocError>
+        ensures name { IfOk result (λ n. (n < length self.new) × (name_at self.new n ≡ name.now)) }
+        ensures known { IfOk result (λ n. n < length self.old → self.new ≡ self.old) }
+        ensures fresh { IfOk result (λ n. length self.old ≤ n → self.new ≡ self.old ++ name.now ∷ []) }
+        ensures err { OnErr result (self.new ≡ self.old) }
+    {
+        match self.find(name) {
+            Some(found) => Ok(found),
+            None => {
+                let added = self.add(alloc, name)?;
+                Ok(added)
+            }
+        }
+    }
+
+    /// Gives the next code to a name that has none.
+    pub fn add(&mut self, alloc: Global, name: &[u8]) -> Result<usize, AllocError>
+        requires { has_name name.now self.old ≡ false }
+        ensures code { IfOk result (λ n. n ≡ length self.old) }
+        ensures ok { OnOk result (self.new ≡ self.old ++ name.now ∷ []) }
+        ensures err { OnErr result (self.new ≡ self.old) }
+    {
+        self.make_room(alloc)?;
+        let code = self.texts.len();
+        if code >= NO_NAME as usize {
+            return Err(AllocError);
+        }
+        let key = key(name);
+        let Some(at) = free_place(self.slots.as_slice(), key) else {
+            return Err(AllocError);
+        };
+        self.texts.push(name)?;
+        self.slots[at] = Slot {
+            key,
+            number: code as u32,
+        };
+        self.taken = self.taken.saturating_add(1);
+        Ok(code)
+    }
+
+    /// Makes a new table where three quarters of this one are taken.
+    fn make_room(&mut self, alloc: Global) -> Result<(), AllocError>
+        ensures { self.new ≡ self.old }
+    {
+        if self.taken >= self.slots.len() / 4 * 3 {
+            self.slots = table(alloc, &self.texts)?;
+            self.taken = self.texts.len();
+            self.sound = NO_NAME;
+        }
+        Ok(())
+    }
+
+    /// Only the first `len` names stay.
+    pub fn truncate(&mut self, len: usize)
+        ensures { self.new ≡ take len self.old }
+    {
+        if len >= self.texts.len() {
+            return;
+        }
+        self.sound = len.min(self.sound as usize) as u32;
+        self.texts.truncate(len);
+    }
+
+    /// There are fewer than 2^32 names.
+    pub fn few(&self)
+        ensures { length self.now < 2 ^ 32 }
+    {
+        let _texts = &self.texts;
+    }
+
+    /// The names are told apart.
+    pub fn distinct(&self)
+        ensures { AreDistinct self.now }
+    {
+        let _texts = &self.texts;
+    }
+}

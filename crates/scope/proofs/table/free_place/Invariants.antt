@@ -1,6 +1,0 @@
-use Rattle.std.proofs.Common.{ℕ, ◌<◌}
-use Rattle.scope.specs.Table.{IsTaken}
-use Rattle.scope.proofs.table.free_place.Given as goal
-
-abbrev pub invariant-loop-step : goal.invariant-loop-step
-invariant-loop-step l = (i : ℕ) → i < l.step → IsTaken l.slots l.key i
