@@ -55,14 +55,14 @@ not-found slots names name key step own held few passed end = code-absent names 
                 let there : slot_at slots key step (record { key = key; number = k }) = subst (λ i. slot_at slots key i (record { key = key; number = k })) same h.there in
                 no-name k (length names) lt few (ap (λ (u : Slot). u.number) (same-slot slots key step (record { key = key; number = k }) g.0 there g.1) ∙ g.2)
 
-get-set_other : {A : Type 0} (xs : List A) (i n : ℕ) (v : A) → n ≢ i → slice_get (slice_set xs i v) n ≡ slice_get xs n
+pub get-set_other : {A : Type 0} (xs : List A) (i n : ℕ) (v : A) → n ≢ i → slice_get (slice_set xs i v) n ≡ slice_get xs n
 get-set_other [] i n v ne = refl
 get-set_other (x ∷ xs) zero zero v ne = absurd (ne refl)
 get-set_other (x ∷ xs) (suc i) zero v ne = refl
 get-set_other (x ∷ xs) zero (suc n) v ne = refl
 get-set_other (x ∷ xs) (suc i) (suc n) v ne = get-set_other xs i n v (λ e. ne (ap suc e))
 
-get-set_same : {A : Type 0} (xs : List A) (i : ℕ) (v : A) → i < length xs → slice_get (slice_set xs i v) i ≡ Some v
+pub get-set_same : {A : Type 0} (xs : List A) (i : ℕ) (v : A) → i < length xs → slice_get (slice_set xs i v) i ≡ Some v
 get-set_same [] i v h = absurd (omega arith)
 get-set_same (x ∷ xs) zero v h = refl
 get-set_same (x ∷ xs) (suc i) v h = get-set_same xs i v (omega arith)
