@@ -5,9 +5,9 @@ use Rattle.mm_read.specs.declared.stmt.Stmt.{Stmt}
 use Rattle.mm_read.specs.declared.stmt.Stmt.TheVariants as stmt
 use Rattle.mm_read.specs.Statements.{Database}
 use Rattle.scope.specs.Active.{is_open, is_close, is_essential}
-use Rattle.frame.specs.declared.links.Links.{Links}
-use Rattle.frame.specs.declared.kind.Kind.{Kind}
-use Rattle.frame.specs.declared.kind.Kind.TheVariants.{Open, Close, Var, Disj, Ess}
+use Rattle.entries.specs.declared.links.Links.{Links}
+use Rattle.entries.specs.declared.kind.Kind.{Kind}
+use Rattle.entries.specs.declared.kind.Kind.TheVariants.{Open, Close, Var, Disj, Ess}
 use Rattle.frame.specs.Links.{links_of, last_active, is_var, is_disj}
 use Rattle.frame.specs.Stored.{kind_of}
 use Rattle.frame.proofs.LinksLemmas.{last-push, last-close}

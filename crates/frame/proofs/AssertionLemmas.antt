@@ -10,11 +10,11 @@ use Rattle.names.specs.Codes.{name_at, decode}
 use Rattle.frame.specs.FrameOf.{hypotheses, is_hypothesis}
 use Rattle.frame.specs.ByPlaces.{AreBelow}
 use Rattle.frame.specs.Links.{actives, is_disj}
-use Rattle.frame.specs.declared.citation.Pattern.{Pattern}
-use Rattle.frame.specs.Entries.{Assertion}
-use Rattle.frame.specs.declared.kind.Kind.{Kind}
-use Rattle.frame.specs.declared.kind.Kind.TheVariants.{Open, Close, Const, Var, Disj, Float, Ess, Axiom, Prove}
-use Rattle.frame.specs.Entries.{Entry}
+use Rattle.entries.specs.declared.citation.Pattern.{Pattern}
+use Rattle.entries.specs.Entries.{Assertion}
+use Rattle.entries.specs.declared.kind.Kind.{Kind}
+use Rattle.entries.specs.declared.kind.Kind.TheVariants.{Open, Close, Const, Var, Disj, Float, Ess, Axiom, Prove}
+use Rattle.entries.specs.Entries.{Entry}
 use Rattle.frame.specs.Stored.{stmt_by, stmt_of, AreHypotheses, ArePatterns, IsPatternOf, AreParts, IsKeptAs, is_hypothesis_entry, variable_at, option_variable, symbols_at, option_symbols, groups_by, templated, template_number, place_of, place_from, is_code, is_float_kind, own_template, option_template, template_at, AreNumbered, collected}
 
 pub get-entry : (names labels : List Name) (es : List Entry) (i : ℕ) (s : Stmt) → slice_get (map (stmt_of names labels) es) i ≡ Some s → (e : Entry) × (slice_get es i ≡ Some e) × (stmt_of names labels e ≡ s)

@@ -12,8 +12,8 @@ use Rattle.frame.specs.FrameOf.{hypotheses, mandatory_groups}
 use Rattle.frame.specs.Citations.{OfVariables, premises, expr_at}
 use Rattle.names.specs.Codes.{name_at}
 use Rattle.frame.specs.Substitution.{Images, image, apply as applied}
-use Rattle.frame.specs.declared.citation.Pattern.{Pattern}
-use Rattle.frame.specs.declared.citation.Pattern.TheVariants.{Typed, Full}
+use Rattle.entries.specs.declared.citation.Pattern.{Pattern}
+use Rattle.entries.specs.declared.citation.Pattern.TheVariants.{Typed, Full}
 use Rattle.frame.specs.Templates.{filled, expected, DoFit}
 use Rattle.frame.specs.Disjoint.{are_apart, are_groups_apart}
 use Rattle.frame.specs.ByPlaces.{are_places_apart, IsByPlaces}

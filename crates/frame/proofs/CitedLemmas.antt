@@ -6,10 +6,10 @@ use Rattle.mm_read.specs.declared.stmt.Stmt.{Stmt}
 use Rattle.scope.specs.Active.{is_assertion}
 use Rattle.names.specs.Codes.{name_at, decode, AreDistinct}
 use Rattle.frame.specs.FrameOf.{HasAssertion}
-use Rattle.frame.specs.declared.citation.Cited.{Cited}
-use Rattle.frame.specs.Entries.{Entry}
-use Rattle.frame.specs.declared.kind.Kind.{Kind}
-use Rattle.frame.specs.declared.kind.Kind.TheVariants.{Open, Close, Const, Var, Disj, Float, Ess, Axiom, Prove}
+use Rattle.entries.specs.declared.citation.Cited.{Cited}
+use Rattle.entries.specs.Entries.{Entry}
+use Rattle.entries.specs.declared.kind.Kind.{Kind}
+use Rattle.entries.specs.declared.kind.Kind.TheVariants.{Open, Close, Const, Var, Disj, Float, Ess, Axiom, Prove}
 use Rattle.frame.specs.declared.storage.Stock.{Stock}
 use Rattle.frame.specs.ByPlaces.{IsByPlaces}
 use Rattle.frame.specs.Reading.{IsCited, AreLegal}

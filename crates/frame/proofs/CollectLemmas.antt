@@ -6,9 +6,9 @@ use Rattle.mm_read.specs.Statements.{Database}
 use Rattle.mm_lex.specs.Alphabet.{Name}
 use Rattle.scope.specs.Active.{is_active}
 use Rattle.names.specs.Codes.{name_at, decode}
-use Rattle.frame.specs.declared.kind.Kind.{Kind}
-use Rattle.frame.specs.declared.kind.Kind.TheVariants.{Open, Close, Const, Var, Disj, Float, Ess, Axiom, Prove}
-use Rattle.frame.specs.Entries.{Entry}
+use Rattle.entries.specs.declared.kind.Kind.{Kind}
+use Rattle.entries.specs.declared.kind.Kind.TheVariants.{Open, Close, Const, Var, Disj, Float, Ess, Axiom, Prove}
+use Rattle.entries.specs.Entries.{Entry}
 use Rattle.frame.specs.Stored.{inserted, floats, last_from, last_where, with_float, with_floats, with_essentials, symbols_at, stmt_by, stmt_of, is_float_kind, IsPlain}
 
 pub inserted-here : (p q : ℕ) (qs : List ℕ) → p ≡ q → inserted p (q ∷ qs) ≡ q ∷ qs

@@ -12,9 +12,9 @@ use Rattle.scope.specs.Active.{stays_open, active, active_from, is_active, expr_
 use Rattle.names.specs.Codes.{name_at, decode, AreDistinct}
 use Rattle.frame.specs.FrameOf.{is_used, is_mandatory, is_hypothesis, hypotheses}
 use Rattle.frame.specs.ByPlaces.{AreBelow}
-use Rattle.frame.specs.declared.kind.Kind.{Kind}
-use Rattle.frame.specs.declared.kind.Kind.TheVariants.{Open, Close, Const, Var, Disj, Float, Ess, Axiom, Prove}
-use Rattle.frame.specs.Entries.{Entry}
+use Rattle.entries.specs.declared.kind.Kind.{Kind}
+use Rattle.entries.specs.declared.kind.Kind.TheVariants.{Open, Close, Const, Var, Disj, Float, Ess, Axiom, Prove}
+use Rattle.entries.specs.Entries.{Entry}
 use Rattle.frame.specs.Links.{actives}
 use Rattle.frame.specs.Stored.{stmt_by, stmt_of, AreNumbered, HasTwo, floats, second_is, is_float_kind, last_from, last_where, inserted, AreAbove, Ascends, with_float, with_floats, with_essentials, collected, symbols_at, option_symbols}
 use Rattle.frame.proofs.LegalLabels.{AllKept}

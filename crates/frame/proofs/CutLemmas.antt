@@ -8,9 +8,9 @@ use Rattle.mm_read.specs.Statements.{Database}
 use Rattle.scope.specs.Active.{before, label_of, stays_open}
 use Rattle.scope.specs.Legal.{IsLegal}
 use Rattle.scope.specs.Symbols.{symbols_of}
-use Rattle.frame.specs.declared.links.Links.{Links}
-use Rattle.frame.specs.Entries.{Assertion}
-use Rattle.frame.specs.Entries.{Entry}
+use Rattle.entries.specs.declared.links.Links.{Links}
+use Rattle.entries.specs.Entries.{Assertion}
+use Rattle.entries.specs.Entries.{Entry}
 use Rattle.frame.specs.declared.storage.Symbol.{Symbol}
 use Rattle.frame.specs.Links.{links_of}
 use Rattle.frame.specs.Stored.{stmt_of, labels_of, positions_from, option_list, option_position, AreAllLegal, AreNumbered, AreKept, KeepsCounts, Extends, ReadsAs, replaced_of, symbol_of, is_assertion_kind, IsKeptAs}

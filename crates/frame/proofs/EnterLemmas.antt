@@ -10,10 +10,11 @@ use Rattle.scope.specs.Legal.{IsLegal}
 use Rattle.names.specs.Codes.{name_at, decode, with_names}
 use Rattle.scope.specs.Symbols.{symbols_by, symbols_in}
 use Rattle.frame.specs.ByPlaces.{AreBelow}
-use Rattle.frame.specs.declared.record.Head.{Head}
+use Rattle.entries.specs.declared.head.Head.{Head}
 use Rattle.frame.specs.declared.draft.Draft.{Draft}
-use Rattle.frame.specs.Spans.{AreSpansIn}
-use Rattle.frame.specs.Entries.{Assertion, IsDraft, IsPartless}
+use Rattle.entries.specs.Spans.{AreSpansIn}
+use Rattle.entries.specs.Entries.{Assertion}
+use Rattle.frame.specs.Drafts.{IsDraft, IsPartless}
 use Rattle.frame.specs.declared.storage.Stock.{Stock}
 use Rattle.frame.specs.Stored.{stmt_by, AreNumbersOf, Entered, IsHead, IsKeptOf, IsNext, statements_of, kind_of, is_assertion_kind, IsLabelBelow, HasTwo, option_list, option_position}
 use Rattle.frame.proofs.SymbolsLemmas.{symbols_by-bare}

@@ -3,11 +3,11 @@ use Rattle.std.specs.Prelude.{◌≡◌, ℕ, ◌+◌, List, [], ◌∷◌, ◌+
 use Rattle.std.proofs.Common.{◌∙◌, ap, sym, subst, append-nil}
 use Rattle.mm_read.specs.declared.stmt.Stmt.{Stmt}
 use Rattle.scope.specs.Legal.{IsLegal}
-use Rattle.frame.specs.declared.kind.Kind.{Kind}
-use Rattle.frame.specs.declared.links.Links.{Links}
+use Rattle.entries.specs.declared.kind.Kind.{Kind}
+use Rattle.entries.specs.declared.links.Links.{Links}
 use Rattle.frame.specs.declared.storage.Stock.{Stock}
 use Rattle.frame.specs.declared.storage.Symbol.{Symbol}
-use Rattle.frame.specs.Entries.{Entry}
+use Rattle.entries.specs.Entries.{Entry}
 use Rattle.frame.specs.Links.{links_of}
 use Rattle.frame.specs.Stored.{AreStored, Entered, Grown, HasRoom, IsBehind, ReadsAs, replaced_by, statements_of, symbol_of, with_declared}
 use Rattle.frame.proofs.StoredLemmas.{IsPushed, still-reads}

@@ -17,13 +17,13 @@ use Rattle.frame.specs.Citations.{expr_at, option_expr}
 use Rattle.frame.specs.Templates.{AreIn}
 use Rattle.frame.specs.ByPlaces.{AreBelow, AllBelow, AreCoded, IsByPlaces}
 use Rattle.frame.specs.Reading.{IsCited}
-use Rattle.frame.specs.declared.citation.Cited.{Cited}
-use Rattle.frame.specs.declared.citation.Pattern.{Pattern}
-use Rattle.frame.specs.declared.citation.Pattern.TheVariants.{Typed, Full}
-use Rattle.frame.specs.declared.kind.Kind.{Kind}
-use Rattle.frame.specs.declared.kind.Kind.TheVariants.{Open, Close, Const, Var, Disj, Float, Ess, Axiom, Prove}
-use Rattle.frame.specs.Entries.{Entry}
-use Rattle.frame.specs.Entries.{Assertion}
+use Rattle.entries.specs.declared.citation.Cited.{Cited}
+use Rattle.entries.specs.declared.citation.Pattern.{Pattern}
+use Rattle.entries.specs.declared.citation.Pattern.TheVariants.{Typed, Full}
+use Rattle.entries.specs.declared.kind.Kind.{Kind}
+use Rattle.entries.specs.declared.kind.Kind.TheVariants.{Open, Close, Const, Var, Disj, Float, Ess, Axiom, Prove}
+use Rattle.entries.specs.Entries.{Entry}
+use Rattle.entries.specs.Entries.{Assertion}
 use Rattle.frame.specs.Links.{actives, actives_from, is_disj}
 use Rattle.frame.specs.Stored.{stmt_by, stmt_of, AreAllLegal, AreNumbered, HasTwo, variable_by, variable_at, is_code, place_from, place_of, template_number, templated, places_of, symbols_at, option_symbols, has_two, groups_by, IsPatternOf, ArePatterns, IsKeptAs}
 use Rattle.frame.proofs.Translate.{Stands, StandsFor}

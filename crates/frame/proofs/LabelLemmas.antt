@@ -4,9 +4,9 @@ use Rattle.std.proofs.Common.{subst}
 use Rattle.mm_lex.specs.Alphabet.{Name}
 use Rattle.scope.specs.Active.{label_of}
 use Rattle.names.specs.Codes.{name_at, decode}
-use Rattle.frame.specs.Entries.{Entry}
-use Rattle.frame.specs.declared.kind.Kind.{Kind}
-use Rattle.frame.specs.declared.kind.Kind.TheVariants.{Open, Close, Const, Var, Disj, Float, Ess, Axiom, Prove}
+use Rattle.entries.specs.Entries.{Entry}
+use Rattle.entries.specs.declared.kind.Kind.{Kind}
+use Rattle.entries.specs.declared.kind.Kind.TheVariants.{Open, Close, Const, Var, Disj, Float, Ess, Axiom, Prove}
 use Rattle.frame.specs.Labels.{is_label_kind}
 use Rattle.frame.specs.Stored.{stmt_by, stmt_of, AreNumbered, IsLabelBelow}
 

@@ -13,7 +13,7 @@ use Rattle.names.specs.Codes.{name_at}
 use Rattle.scope.specs.Legal.{IsLegal, keeps}
 use Rattle.frame.specs.FrameOf.{HasAssertion}
 use Rattle.frame.specs.Substitution.{Images, apply as applied}
-use Rattle.frame.specs.declared.citation.Pattern.{Pattern}
+use Rattle.entries.specs.declared.citation.Pattern.{Pattern}
 use Rattle.frame.specs.Citations.{Carries, OfVariables, premises}
 use Rattle.frame.specs.Templates.{filled}
 use Rattle.frame.specs.ByPlaces.{IsByPlaces}

@@ -1,6 +1,4 @@
-pub mod SpanLemmas
 pub mod MarkLemmas
-pub mod RecordLemmas
 pub mod NumberLemmas
 pub mod OpenLemmas
 pub mod LinksLemmas

@@ -4,7 +4,7 @@ use Rattle.std.specs.List.{insert}
 use Rattle.std.proofs.Common.{sym, ◌∙◌, ap, subst, arith, inl, inr}
 use Rattle.mm_read.specs.Statements.{Database}
 use Rattle.scope.specs.Active.{is_active}
-use Rattle.frame.specs.Entries.{Entry}
+use Rattle.entries.specs.Entries.{Entry}
 use Rattle.frame.specs.Places.{place_of}
 use Rattle.frame.specs.Stored.{inserted, AreAbove, Ascends, IsLooked, floats, last_where, with_float}
 use Rattle.frame.proofs.WalkLemmas.{some-same}

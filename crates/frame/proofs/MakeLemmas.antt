@@ -8,14 +8,14 @@ use Rattle.std.proofs.lemmas.List.{drop-append-le, take-append-le, length-drop, 
 use Rattle.std.proofs.Math.Seq.{drop-append_seam, take-append_seam, take-length}
 use Rattle.indexmap.proofs.ReorderLemmas.{map-reverse}
 use Rattle.mm_read.specs.declared.stmt.Stmt.{Stmt}
-use Rattle.frame.specs.declared.span.Span.{Span}
-use Rattle.frame.specs.Spans.{cut, AreSpansIn}
-use Rattle.frame.proofs.SpanLemmas.{range-behind, extends-refl, cut-more, cut-push, spans-push}
+use Rattle.entries.specs.declared.span.Span.{Span}
+use Rattle.entries.specs.Spans.{cut, AreSpansIn}
+use Rattle.entries.proofs.SpanLemmas.{range-behind, extends-refl, cut-more, cut-push, spans-push}
 use Rattle.frame.specs.declared.storage.Stock.{Stock}
 use Rattle.frame.specs.Links.{actives, last_active, is_disj, links_of}
-use Rattle.frame.specs.declared.citation.Pattern.{Pattern}
-use Rattle.frame.specs.declared.citation.Pattern.TheVariants.{Typed, Full}
-use Rattle.frame.specs.Entries.{Entry}
+use Rattle.entries.specs.declared.citation.Pattern.{Pattern}
+use Rattle.entries.specs.declared.citation.Pattern.TheVariants.{Typed, Full}
+use Rattle.entries.specs.Entries.{Entry}
 use Rattle.frame.specs.Stored.{place_of, places_of, variable_at, option_variable, variable_by, symbols_at, is_hypothesis_entry, has_two, groups_by, AreHypotheses, IsPatternOf, ArePatterns, Extends, statements_of, own_template, option_template, template_at}
 
 -- ---- one symbol more

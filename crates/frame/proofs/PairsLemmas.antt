@@ -19,9 +19,9 @@ use Rattle.frame.proofs.WalkLemmas.{some-same}
 use Rattle.frame.proofs.CollectLemmas.{last-is}
 use Rattle.frame.proofs.StoredLemmas.{get-stmt, numbered-at}
 use Rattle.frame.proofs.AssertionLemmas.{get-entry}
-use Rattle.frame.specs.declared.kind.Kind.{Kind}
-use Rattle.frame.specs.declared.kind.Kind.TheVariants.{Open, Close, Const, Var, Disj, Float, Ess, Axiom, Prove}
-use Rattle.frame.specs.Entries.{Entry}
+use Rattle.entries.specs.declared.kind.Kind.{Kind}
+use Rattle.entries.specs.declared.kind.Kind.TheVariants.{Open, Close, Const, Var, Disj, Float, Ess, Axiom, Prove}
+use Rattle.entries.specs.Entries.{Entry}
 use Rattle.frame.specs.Stored.{stmt_by, stmt_of, AreNumbered, declares, is_var_kind, last_from, last_where, IsPlain}
 
 -- ---- numbers are the same where their names are

@@ -11,8 +11,8 @@ use Rattle.names.specs.Codes.{name_at}
 use Rattle.frame.specs.FrameOf.{hypotheses, mandatory_groups}
 use Rattle.frame.specs.Substitution.{Images, apply as applied}
 use Rattle.frame.specs.Disjoint.{are_apart, are_groups_apart}
-use Rattle.frame.specs.declared.citation.Pattern.{Pattern}
-use Rattle.frame.specs.declared.citation.Pattern.TheVariants.{Typed}
+use Rattle.entries.specs.declared.citation.Pattern.{Pattern}
+use Rattle.entries.specs.declared.citation.Pattern.TheVariants.{Typed}
 use Rattle.frame.specs.Citations.{OfVariables, premises}
 use Rattle.frame.specs.Templates.{DoFit, filled}
 

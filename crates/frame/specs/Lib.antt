@@ -9,10 +9,8 @@ pub mod ByPlaces
 pub mod Reading
 pub mod Links
 pub mod Laws
-pub mod Spans
 pub mod Places
-pub mod Entries
-pub mod Records
+pub mod Drafts
 pub mod Stored
 pub mod Labels
 pub mod OneFrame

@@ -6,7 +6,7 @@ use Rattle.mm_read.specs.declared.stmt.Stmt.{Stmt}
 use Rattle.mm_read.specs.declared.stmt.Stmt.TheVariants.{Var, Disj}
 use Rattle.mm_read.specs.Statements.{Database}
 use Rattle.scope.specs.Active.{active_from, is_open, is_essential}
-use Rattle.frame.specs.declared.links.Links.{Links}
+use Rattle.entries.specs.declared.links.Links.{Links}
 
 abbrev pub is_var : Stmt → Bool
 is_var (Var names) = true

@@ -9,9 +9,9 @@ use Rattle.scope.specs.Active.{stmt_at, expr_of, is_assertion}
 use Rattle.names.specs.Codes.{decode, AreDistinct}
 use Rattle.frame.specs.FrameOf.{HasAssertion}
 use Rattle.frame.specs.Substitution.{Images, apply as applied}
-use Rattle.frame.specs.declared.citation.Cited.{Cited}
-use Rattle.frame.specs.declared.citation.Meaning.{Meaning}
-use Rattle.frame.specs.declared.citation.Meaning.TheVariants.{Hypothesis, Assertion, Nothing}
+use Rattle.entries.specs.declared.citation.Cited.{Cited}
+use Rattle.frame.specs.declared.meaning.Meaning.{Meaning}
+use Rattle.frame.specs.declared.meaning.Meaning.TheVariants.{Hypothesis, Assertion, Nothing}
 use Rattle.frame.specs.Citations.{Carries, IsHypothesis, IsInstance, premises}
 use Rattle.frame.specs.Templates.{AreIn}
 use Rattle.frame.specs.ByPlaces.{IsByPlaces, AreBelow, AreCoded}

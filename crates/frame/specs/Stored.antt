@@ -11,17 +11,17 @@ use Rattle.scope.specs.Legal.{IsLegal}
 use Rattle.names.specs.Codes.{name_at, decode, with_names}
 use Rattle.scope.specs.Symbols.{symbols_by, symbols_in, symbols_of}
 use Rattle.frame.specs.FrameOf.{hypotheses}
-use Rattle.frame.specs.declared.citation.Pattern.{Pattern}
-use Rattle.frame.specs.declared.citation.Pattern.TheVariants.{Typed, Full}
-use Rattle.frame.specs.declared.links.Links.{Links}
-use Rattle.frame.specs.declared.record.Head.{Head}
-use Rattle.frame.specs.declared.kind.Kind.{Kind}
-use Rattle.frame.specs.declared.kind.Kind.TheVariants.{Open, Close, Const, Var, Disj, Float, Ess, Axiom, Prove}
-use Rattle.frame.specs.Entries.{Entry}
-use Rattle.frame.specs.Entries.{Assertion}
+use Rattle.entries.specs.declared.citation.Pattern.{Pattern}
+use Rattle.entries.specs.declared.citation.Pattern.TheVariants.{Typed, Full}
+use Rattle.entries.specs.declared.links.Links.{Links}
+use Rattle.entries.specs.declared.head.Head.{Head}
+use Rattle.entries.specs.declared.kind.Kind.{Kind}
+use Rattle.entries.specs.declared.kind.Kind.TheVariants.{Open, Close, Const, Var, Disj, Float, Ess, Axiom, Prove}
+use Rattle.entries.specs.Entries.{Entry}
+use Rattle.entries.specs.Entries.{Assertion}
 use Rattle.frame.specs.declared.storage.Symbol.{Symbol}
 use Rattle.frame.specs.declared.storage.Stock.{Stock}
-pub use Rattle.frame.specs.Spans.{Extends}
+pub use Rattle.entries.specs.Spans.{Extends}
 pub use Rattle.frame.specs.Places.{is_code, place_from, place_of}
 use Rattle.frame.specs.Parts.{Numbered}
 use Rattle.frame.specs.Citations.{is_hypothesis_kind}

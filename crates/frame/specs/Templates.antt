@@ -2,8 +2,8 @@
 -- Metamath, 4.2.6: what stands behind the first symbol of the result for a `$f` is the image of its variable.
 -- With r hypotheses, a number below r is a place and any other number n is the symbol n - r.
 use Rattle.std.specs.Prelude.{◌≡◌, ℕ, ◌-◌, ◌≤◌, nat_lt, if◌then◌else◌, List, [], ◌∷◌, length, flat_map, drop, get_or, slice_get, slice_range, Some}
-use Rattle.frame.specs.declared.citation.Pattern.{Pattern}
-use Rattle.frame.specs.declared.citation.Pattern.TheVariants.{Typed, Full}
+use Rattle.entries.specs.declared.citation.Pattern.{Pattern}
+use Rattle.entries.specs.declared.citation.Pattern.TheVariants.{Typed, Full}
 
 -- a symbol that is its own number
 abbrev pub own : ℕ → ℕ

@@ -8,10 +8,9 @@ ghost use Rattle.frame.specs.Links.{links_of};
 ghost use Rattle.frame.specs.declared.storage.Symbol.{Symbol as Declared};
 ghost use Rattle.frame.specs.Stored.{AreStored, statements_of, with_declared, kind_of};
 
-use crate::kind::Kind;
-use crate::links::Links;
 use crate::reading::links_at;
 use crate::storage::{Stock, Symbol};
+use entries::{Kind, Links};
 use names::Names;
 use std::alloc::{AllocError, Global};
 

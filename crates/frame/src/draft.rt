@@ -1,10 +1,10 @@
 //! What is found out about a statement before it is kept.
 ghost use Rattle.std.specs.Prelude.{◌≡◌, []};
-ghost use Rattle.frame.specs.Entries.{IsPartless};
+ghost use Rattle.entries.specs.Entries.{AreShapedParts, assertion_of};
+ghost use Rattle.frame.specs.Drafts.{IsDraft, IsPartless, drafted};
 
-use crate::citation::Pattern;
 use crate::places::Places;
-use crate::span::Span;
+use entries::{Parts, Pattern, Span};
 use std::alloc::Global;
 
 /// The numbers of a statement's symbols, and the parts of an assertion. Its buffers serve one statement after another.
@@ -46,6 +46,24 @@ impl Draft {
             conclusion: Vec::new(alloc),
             places: Vec::new(alloc),
             groups: Vec::new(alloc),
+        }
+    }
+
+    /// What is kept of it.
+    pub fn parts(&self) -> Parts<'_>
+        requires { IsDraft self.now }
+        ensures shaped { AreShapedParts result }
+        ensures symbols { result.symbols.now ≡ self.now.symbols.items }
+        ensures assertion { assertion_of result ≡ drafted self.now }
+    {
+        Parts {
+            symbols: &self.symbols,
+            hypotheses: &self.hypotheses,
+            patterns: &self.patterns,
+            templates: &self.templates,
+            conclusion: &self.conclusion,
+            places: &self.places,
+            groups: &self.groups,
         }
     }
 

@@ -62,7 +62,7 @@ fn extend_drafted(
     draft.clear();
     enter(alloc, stock, draft, stmt, noted)?;
     note_replaced(&stock.symbols, kind, &draft.symbols, &mut stock.replaced)?;
-    stock.entries.push(head, draft)?;
+    stock.entries.push(head, &draft.parts())?;
     declare(&mut stock.symbols, kind, &draft.symbols, at);
     stock.links = links;
     Ok(())

@@ -10,15 +10,14 @@ ghost use Rattle.frame.specs.FrameOf.{HasAssertion, hypotheses};
 ghost use Rattle.frame.specs.Reading.{IsMeaning, IsPosition, IsCited, AreLegal};
 ghost use Rattle.frame.specs.Stored.{Extends};
 
-use crate::citation::{Cited, Meaning};
 use crate::draft::Draft;
-use crate::entries::Entries;
 use crate::extend::{cut, extend, roll_back};
 use crate::hypotheses::{hypotheses_at, label_at};
-use crate::links::Links;
+use crate::meaning::Meaning;
 use crate::pairs::Pairs;
 use crate::reading::{cited_at, expr_at, meaning_at};
 use crate::storage::Stock;
+use entries::{Cited, Entries, Links};
 use mm_read::Stmt;
 use names::Names;
 use scope::{Scope, Steps};

@@ -6,8 +6,8 @@ ghost use Rattle.frame.specs.FrameOf.{HasAssertion, hypotheses};
 ghost use Rattle.frame.specs.Labels.{is_label_kind};
 ghost use Rattle.frame.specs.Stored.{AreStored, statements_of};
 
-use crate::kind::Kind;
 use crate::storage::Stock;
+use entries::Kind;
 
 /// The mandatory hypotheses of the assertion at a position.
 pub fn hypotheses_at(stock: &Stock, a: usize) -> &[usize]

@@ -3,35 +3,28 @@
 //! `Frames` keeps the statements of a database by position, and reads off them what a verifier asks:
 //! what a citation means at a statement, an assertion by the places of its hypotheses, and the variables that are kept apart.
 //! `frame` gathers the `Frame` of one assertion from what is active.
-//! Reading order: `links`, `entries`, `storage`, `numbers`, `declare`, `undo`, `enter`, `plain`, `extend`, `reading`, `hypotheses`, `frames`; `assertion`, `one_frame`.
+//! Reading order: `storage`, `numbers`, `declare`, `undo`, `enter`, `plain`, `extend`, `reading`, `hypotheses`, `frames`; `assertion`, `one_frame`.
 #![tactic(auto)]
 
 mod apart;
 mod assertion;
-mod citation;
 mod declare;
 mod draft;
 mod enter;
-mod entries;
-mod entry;
 mod extend;
 mod frames;
-mod groups;
 mod hypotheses;
-mod kind;
 mod laws;
-mod links;
 mod make;
 mod mandatory;
+mod meaning;
 mod numbers;
 mod one_frame;
 mod pairs;
 mod places;
 mod plain;
 mod reading;
-mod record;
 mod shape;
-mod span;
 mod storage;
 #[cfg(test)]
 mod stored_frames;
@@ -41,9 +34,8 @@ mod undo;
 mod worked_frames;
 
 pub use assertion::Frame;
-pub use citation::{Cited, Meaning, Pattern};
 pub use frames::Frames;
-pub use groups::Groups;
 pub use laws::groups_are_pairs;
+pub use meaning::Meaning;
 pub use one_frame::frame;
 pub use pairs::Pairs;

@@ -1,21 +1,19 @@
 //! The parts of an assertion by the places of its hypotheses.
 ghost use Rattle.std.specs.Prelude.{◌≡◌, ◌+◌, ◌<◌, ◌^◌, ◌++◌, ◌∷◌, [], true, if◌then◌else◌, length, map, flat_map, OnOk, IfOk};
+ghost use Rattle.entries.specs.Spans.{cut, AreSpansIn};
 ghost use Rattle.frame.specs.ByPlaces.{AreBelow};
-ghost use Rattle.frame.specs.Entries.{IsPartless, IsDraft, drafted};
+ghost use Rattle.frame.specs.Drafts.{IsPartless, IsDraft, drafted};
 ghost use Rattle.frame.specs.Links.{actives, is_disj};
-ghost use Rattle.frame.specs.Spans.{cut, AreSpansIn};
 ghost use Rattle.frame.specs.Stored.{AreStored, AreHypotheses, ArePatterns, IsPatternBy, HasTwo, is_hypothesis_entry, template_by, template_at, has_two, AreParts, collected, statements_of, variable_at, symbols_at, groups_by, places_of};
 
-use crate::citation::Pattern;
 use crate::draft::Draft;
-use crate::entry::EntryRef;
-use crate::kind::Kind;
 use crate::mandatory::mandatory;
 use crate::numbers::NAMES_LIMIT;
 use crate::places::Places;
-use crate::span::{Span, between, place};
 use crate::storage::Stock;
 use crate::templates::{add_places, add_template, variable_of};
+use entries::span::{between, place};
+use entries::{EntryRef, Kind, Pattern, Span};
 use std::alloc::AllocError;
 
 /// Adds the variables of the hypotheses, at their places.

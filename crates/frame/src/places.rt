@@ -2,7 +2,7 @@
 ghost use Rattle.std.specs.Prelude.{◌≡◌, ℕ, ◌<◌, ◌++◌, ◌∷◌, [], length, slice_get, Some, OnOk, IfSome};
 ghost use Rattle.frame.specs.Places.{is_code, place_of};
 
-use crate::span::{item, place};
+use entries::span::{item, place};
 use std::alloc::{AllocError, Global};
 use std::marker::Model;
 

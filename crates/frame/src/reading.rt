@@ -9,10 +9,9 @@ ghost use Rattle.frame.specs.Reading.{IsMeaning, IsCited};
 ghost use Rattle.frame.specs.Links.{last_active, links_of};
 ghost use Rattle.frame.specs.Stored.{AreStored, statements_of, IsPlain, IsHypothesisAt};
 
-use crate::citation::{Cited, Meaning};
-use crate::kind::Kind;
-use crate::links::Links;
+use crate::meaning::Meaning;
 use crate::storage::Stock;
+use entries::{Cited, Kind, Links};
 
 /// What is active before the statement at `at`, or at the end.
 pub fn links_at(stock: &Stock, at: usize) -> Links

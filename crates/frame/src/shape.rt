@@ -3,7 +3,7 @@ ghost use Rattle.std.specs.Prelude.{◌≡◌, option_map};
 ghost use Rattle.scope.specs.Active.{bare, label_of, is_assertion};
 ghost use Rattle.frame.specs.Stored.{kind_of};
 
-use crate::kind::Kind;
+use entries::Kind;
 use mm_lex::Word;
 use mm_read::Stmt;
 

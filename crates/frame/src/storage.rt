@@ -1,6 +1,5 @@
 //! The statements of a database as numbers.
-use crate::entries::Entries;
-use crate::links::Links;
+use entries::{Entries, Links};
 use names::Names;
 
 /// The last statements that declare a symbol, by position, or 0.

@@ -6,7 +6,8 @@ ghost use Rattle.frame.specs.FrameOf.{HasAssertion};
 ghost use Rattle.frame.specs.Stored.{Extends};
 
 use crate::worked_frames::{APART, ARITHMETIC};
-use crate::{Cited, Frames, Groups, Meaning, Pattern};
+use crate::{Frames, Meaning};
+use entries::{Cited, Groups, Pattern};
 use mm_read::{ReadFault, Stmt, read};
 use scope::{Rule, Scope, Steps};
 use std::alloc::Global;

@@ -4,9 +4,8 @@ ghost use Rattle.std.specs.Option.{option_to_list};
 ghost use Rattle.frame.specs.ByPlaces.{AreBelow};
 ghost use Rattle.frame.specs.Stored.{template_number, templated, places_of, variable_by};
 
-use crate::entry::EntryRef;
-use crate::kind::Kind;
 use crate::places::Places;
+use entries::{EntryRef, Kind};
 use std::alloc::AllocError;
 
 /// The variable of a `$f`.

@@ -5,9 +5,8 @@ ghost use Rattle.frame.specs.ByPlaces.{AreBelow};
 ghost use Rattle.frame.specs.declared.storage.Symbol.{Symbol as Declared};
 ghost use Rattle.frame.specs.Stored.{AreNumbered, Extends, HasTwo, ReadsAs, replaced_by, replaced_of, symbol_of, with_declared};
 
-use crate::entries::Entries;
-use crate::kind::Kind;
 use crate::storage::Symbol;
+use entries::{Entries, Kind};
 use std::alloc::AllocError;
 
 /// Notes what a statement of this kind with these symbols replaces as their last declarations.

@@ -14,8 +14,8 @@ use Rattle.frame.specs.FrameOf.{HasAssertion, mandatory_groups}
 use Rattle.frame.specs.Substitution.{Images, apply as applied}
 use Rattle.frame.specs.Disjoint.{are_groups_apart}
 use Rattle.proof_code.specs.declared.item.Item.TheVariants.{Cite, Recall, Mark}
-use Rattle.frame.specs.declared.citation.Pattern.{Pattern}
-use Rattle.frame.specs.declared.citation.Pattern.TheVariants.{Typed, Full}
+use Rattle.entries.specs.declared.citation.Pattern.{Pattern}
+use Rattle.entries.specs.declared.citation.Pattern.TheVariants.{Typed, Full}
 use Rattle.frame.specs.Citations.{IsHypothesis, IsInstance, premises, Carries}
 use Rattle.verify.specs.Machine.{Results, Cites, of_hypothesis, of_assertion, IsSaved, with_result, with_mark}
 use Rattle.frame.specs.Templates.{part, filled, expected, DoFit, own}

@@ -7,7 +7,7 @@ use Rattle.std.proofs.lemmas.Slice.Eq.{bytes_eq-Decides}
 use Rattle.verify.specs.declared.results.Place.{Place}
 use Rattle.verify.specs.Places.{seen, seen_at, AreWithin, AreKept, top, below}
 use Rattle.frame.specs.Templates.{part, filled, own, IsIn, AreIn}
-use Rattle.frame.specs.declared.citation.Pattern.{Pattern}
+use Rattle.entries.specs.declared.citation.Pattern.{Pattern}
 use Rattle.verify.specs.Machine.{with_result}
 use Rattle.verify.specs.Right.{weight_limit}
 use Rattle.frame.proofs.TemplatesLemmas.{part-low}

@@ -10,7 +10,7 @@ use Rattle.names.specs.Codes.{decode}
 use Rattle.frame.specs.FrameOf.{HasAssertion}
 use Rattle.proof_code.specs.declared.item.Item.{Item}
 use Rattle.proof_code.specs.declared.item.Item.TheVariants.{Cite, Recall}
-use Rattle.frame.specs.declared.citation.Cited.{Cited}
+use Rattle.entries.specs.declared.citation.Cited.{Cited}
 use Rattle.frame.specs.Citations.{IsHypothesis, Carries}
 use Rattle.verify.specs.Machine.{Results, State, start, Cites, of_hypothesis, of_assertion, Runs}
 use Rattle.frame.specs.Templates.{filled, DoFit, own}

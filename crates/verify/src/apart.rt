@@ -7,7 +7,8 @@ ghost use Rattle.verify.specs.Apart.{named_at, are_two_apart, is_place_apart, is
 
 use crate::results::Place;
 use crate::templates::image;
-use frame::{Groups, Pairs};
+use entries::Groups;
+use frame::Pairs;
 
 /// Whether the places are one, or their images are apart.
 fn two_apart(pairs: &Pairs<'_>, k: u32, l: u32, symbols: &[u32], places: &[Place]) -> bool

@@ -11,7 +11,8 @@ ghost use Rattle.verify.specs.Right.{weight_limit};
 use crate::apart::groups_apart;
 use crate::symbols::Symbols;
 use crate::templates::{all_fit, result_at};
-use frame::{Groups, Pairs, Pattern};
+use entries::{Groups, Pattern};
+use frame::Pairs;
 use std::alloc::{AllocError, Global};
 use std::marker::Model;
 

@@ -7,7 +7,7 @@ ghost use Rattle.frame.specs.Templates.{part, filled, expected, own, IsIn, AreIn
 
 use crate::copies::{copy_image, put_symbol};
 use crate::results::Place;
-use frame::Pattern;
+use entries::Pattern;
 
 /// The symbols of a result.
 pub fn result_at(symbols: &[u32], place: Place) -> &[u32]

@@ -11,7 +11,7 @@ use Rattle.frame.proofs.WalkLemmas.{last-within}
 use Rattle.frame.proofs.StoredLemmas.{numbered-at}
 use Rattle.frame.proofs.PairsLemmas.{IsSought, sought-here, sought-found, sought-step, sought-over, read-here, any-kind, entry-disj}
 use Rattle.frame.proofs.ApartLemmas.{covers-told, covers-other}
-use Rattle.frame.specs.Entries.{seen}
+use Rattle.entries.specs.Entries.{seen}
 use Rattle.frame.proofs.apart.is_covered.Goals as goal
 
 pub entry-entry-requires : goal.entry-entry-requires

@@ -1,6 +1,6 @@
 use Rattle.std.proofs.Common.{sym, subst, refl, length}
 use Rattle.frame.specs.Stored.{statements_of, AreHypotheses}
-use Rattle.frame.specs.Entries.{drafted}
+use Rattle.frame.specs.Drafts.{drafted}
 use Rattle.frame.proofs.CollectedLemmas.{collected-hypotheses}
 use Rattle.frame.proofs.AssertionLemmas.{hypotheses-are, parts-kept}
 use Rattle.frame.proofs.EnterLemmas.{ok-map}

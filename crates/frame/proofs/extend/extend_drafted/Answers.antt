@@ -1,7 +1,9 @@
-use Rattle.std.proofs.Common.{◌≡◌, ◌+◌, ◌∙◌, sym, subst, arith, length}
+use Rattle.std.proofs.Common.{◌≡◌, ◌+◌, ◌∙◌, ap, sym, subst, arith, length}
+use Rattle.std.specs.Prelude.{◌++◌, ◌∷◌, []}
 use Rattle.scope.specs.Active.{bare}
+use Rattle.entries.specs.Entries.{assertion_of, made as made_of}
 use Rattle.frame.specs.ByPlaces.{AreBelow}
-use Rattle.frame.specs.Entries.{made}
+use Rattle.frame.specs.Drafts.{made}
 use Rattle.frame.specs.Stored.{statements_of, kind_of, HasTwo}
 use Rattle.frame.proofs.ExtendLemmas.{is-pushed}
 use Rattle.frame.proofs.StoredLemmas.{kept-pushed, pushed-statements, legal-bare, legal-fresh}
@@ -59,9 +61,11 @@ returns-clause-stored c =
     let is_kind : c.kind-kind.result ≡ kind_of s = c.kind-kind.ensures in
     let head = c.in_ok-head.ensures s is_kind in
     let entered = c.in_ok-enter.ensures in
+    let p = c.parts in
+    let added = c.in_ok-push.ensures.added ∙ (ap (λ codes. new.entries ++ made_of h codes (assertion_of p.result) ∷ []) p.ensures.symbols ∙ ap (λ a. new.entries ++ made_of h d.symbols.items a ∷ []) p.ensures.assertion) in
     let pushed = is-pushed k new s e c.kind-kind.result c.deref-2.result.now c.deref-3.result.now (c.len-at.result + 1) c.deref.result.now c.declare.new.symbols.items c.note_replaced.new.replaced.items c.push.new.self c.links_after-links.result
     c.requires.stored (entered.entered h head) entered.grown entered.room (legal-bare (statements_of k) c.args.stmt.now c.requires.legal) (is_kind ∙ sym head.kind) c.deref-2.ensures.value c.deref-3.ensures.value (omega (arith, c.len-at.ensures.len)) c.deref.ensures.value
-    c.in_ok-note_replaced.ensures.noted c.declare.ensures.each c.declare.ensures.count c.in_ok-push.ensures.added (c.links_after-links.ensures s (sym is_kind)) in
+    c.in_ok-note_replaced.ensures.noted c.declare.ensures.each c.declare.ensures.count added (c.links_after-links.ensures s (sym is_kind)) in
     kept-pushed k.names k.labels k.positions.items k.symbols.items k.replaced.items k.entries k.links new.names new.labels new.positions.items new.symbols.items
     c.declare.new.symbols.items c.note_replaced.new.replaced.items c.push.new.self c.links_after-links.result s e c.requires.stored pushed
 
@@ -76,8 +80,10 @@ returns-clause-added c =
     let is_kind : c.kind-kind.result ≡ kind_of s = c.kind-kind.ensures in
     let head = c.in_ok-head.ensures s is_kind in
     let entered = c.in_ok-enter.ensures in
+    let p = c.parts in
+    let added = c.in_ok-push.ensures.added ∙ (ap (λ codes. new.entries ++ made_of h codes (assertion_of p.result) ∷ []) p.ensures.symbols ∙ ap (λ a. new.entries ++ made_of h d.symbols.items a ∷ []) p.ensures.assertion) in
     let pushed = is-pushed k new s e c.kind-kind.result c.deref-2.result.now c.deref-3.result.now (c.len-at.result + 1) c.deref.result.now c.declare.new.symbols.items c.note_replaced.new.replaced.items c.push.new.self c.links_after-links.result
     c.requires.stored (entered.entered h head) entered.grown entered.room (legal-bare (statements_of k) c.args.stmt.now c.requires.legal) (is_kind ∙ sym head.kind) c.deref-2.ensures.value c.deref-3.ensures.value (omega (arith, c.len-at.ensures.len)) c.deref.ensures.value
-    c.in_ok-note_replaced.ensures.noted c.declare.ensures.each c.declare.ensures.count c.in_ok-push.ensures.added (c.links_after-links.ensures s (sym is_kind)) in
+    c.in_ok-note_replaced.ensures.noted c.declare.ensures.each c.declare.ensures.count added (c.links_after-links.ensures s (sym is_kind)) in
     pushed-statements k.names k.labels k.positions.items k.symbols.items k.replaced.items k.entries k.links new.names new.labels new.positions.items new.symbols.items
     c.declare.new.symbols.items c.note_replaced.new.replaced.items c.push.new.self c.links_after-links.result s e c.requires.stored pushed

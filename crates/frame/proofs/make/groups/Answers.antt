@@ -1,12 +1,12 @@
 use Rattle.std.proofs.Common.{◌≡◌, ◌-◌, ap, sym, subst, arith, take, refl, length}
 use Rattle.std.proofs.lemmas.List.{length-map, length-take-le}
 use Rattle.frame.specs.Links.{actives, is_disj}
-use Rattle.frame.specs.Spans.{cut, AreSpansIn}
+use Rattle.entries.specs.Spans.{cut, AreSpansIn}
 use Rattle.frame.specs.Stored.{statements_of, stmt_of, places_of, symbols_at, option_symbols, has_two}
-use Rattle.frame.specs.Entries.{seen}
+use Rattle.entries.specs.Entries.{seen}
 use Rattle.frame.proofs.WalkLemmas.{walk-back, walk-over, last-within}
 use Rattle.frame.proofs.MakeLemmas.{AreGroups, groups-step, groups-start, groups-end}
-use Rattle.frame.proofs.SpanLemmas.{spans-reverse}
+use Rattle.entries.proofs.SpanLemmas.{spans-reverse}
 use Rattle.frame.proofs.make.groups.Goals as goal
 
 pub entry-entry-requires : goal.entry-entry-requires

@@ -1,6 +1,6 @@
 use Rattle.std.proofs.Common.{◌≡◌, ◌≤◌, ℕ, length, take}
 use Rattle.frame.specs.Links.{actives, last_active, is_disj}
-use Rattle.frame.specs.Spans.{cut, AreSpansIn}
+use Rattle.entries.specs.Spans.{cut, AreSpansIn}
 use Rattle.frame.specs.Stored.{statements_of}
 use Rattle.frame.proofs.MakeLemmas.{AreGroups}
 use Rattle.frame.proofs.make.groups.Given as goal

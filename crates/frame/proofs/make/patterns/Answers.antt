@@ -1,7 +1,7 @@
 use Rattle.std.proofs.Common.{◌≡◌, ◌∙◌, ◌-◌, ◌^◌, ap, sym, subst, arith, get_or, length}
 use Rattle.std.specs.Prelude.{◌++◌}
 use Rattle.frame.proofs.WalkLemmas.{some-same}
-use Rattle.frame.specs.Entries.{seen}
+use Rattle.entries.specs.Entries.{seen}
 use Rattle.frame.specs.ByPlaces.{AreBelow}
 use Rattle.frame.specs.Stored.{HasTwo, IsPatternOf, is_hypothesis_entry, own_template}
 use Rattle.frame.proofs.NumberLemmas.{below-more}

@@ -7,7 +7,7 @@ use Rattle.frame.proofs.WalkLemmas.{walk-back, walk-over, last-within}
 use Rattle.frame.proofs.StoredLemmas.{numbered-at}
 use Rattle.frame.proofs.CollectLemmas.{essentials-step}
 use Rattle.frame.proofs.LookedLemmas.{looked-inserted}
-use Rattle.frame.specs.Entries.{seen}
+use Rattle.entries.specs.Entries.{seen}
 use Rattle.frame.proofs.mandatory.mandatory.Goals as goal
 
 pub entry-entry-requires : goal.entry-entry-requires

@@ -11,7 +11,7 @@ use Rattle.frame.specs.Stored.{statements_of, stmt_of}
 use Rattle.frame.proofs.WalkLemmas.{last-within}
 use Rattle.frame.proofs.StoredLemmas.{numbered-at}
 use Rattle.frame.proofs.PairsLemmas.{IsSought, sought-here, sought-found, sought-step, sought-over, read-here, any-kind, has-decode, entry-var, other-var}
-use Rattle.frame.specs.Entries.{seen}
+use Rattle.entries.specs.Entries.{seen}
 use Rattle.frame.proofs.pairs.is_listed_at.Goals as goal
 
 pub entry-entry-requires : goal.entry-entry-requires

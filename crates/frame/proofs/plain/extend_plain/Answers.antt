@@ -2,7 +2,7 @@ use Rattle.std.proofs.Common.{◌≡◌, ◌+◌, ◌∙◌, ap, sym, arith, ref
 use Rattle.std.proofs.lemmas.Bool.{false≢true}
 use Rattle.scope.specs.Active.{bare}
 use Rattle.names.specs.Codes.{with_names}
-use Rattle.frame.specs.Records.{plain}
+use Rattle.entries.specs.Entries.{plain}
 use Rattle.frame.specs.Stored.{HasRoom, statements_of, kind_of}
 use Rattle.frame.proofs.EnterLemmas.{entered-statement}
 use Rattle.frame.proofs.ExtendLemmas.{on-err-same, grown-behind, is-pushed}

@@ -4,11 +4,11 @@ use Rattle.std.specs.Prelude.{slice_get, Some, ◌≤◌, ◌-◌, List, ℕ, ma
 use Rattle.mm_lex.specs.Alphabet.{Name}
 use Rattle.mm_read.specs.declared.stmt.Stmt.{Stmt}
 use Rattle.scope.specs.Active.{stmt_at, expr_of}
-use Rattle.frame.specs.Entries.{Entry}
+use Rattle.entries.specs.Entries.{Entry}
 use Rattle.frame.specs.Stored.{stmt_of}
 use Rattle.frame.proofs.WalkLemmas.{some-same}
 use Rattle.frame.proofs.StoredLemmas.{HasExpr, get-stmt, stmt-at-suc, two-of, numbered-at, entry-expr, entry-none, none-of}
-use Rattle.frame.specs.Entries.{seen}
+use Rattle.entries.specs.Entries.{seen}
 use Rattle.frame.proofs.reading.expr_at.Goals as goal
 
 -- the entry read is that of the statement

@@ -7,7 +7,7 @@ use Rattle.frame.specs.Citations.{is_hypothesis_kind}
 use Rattle.frame.specs.Stored.{statements_of, stmt_of}
 use Rattle.frame.proofs.WalkLemmas.{some-same}
 use Rattle.frame.proofs.StoredLemmas.{IsCitable, get-stmt, stmt-at-suc, entry-none, none-of, entry-assertion}
-use Rattle.frame.specs.Entries.{seen}
+use Rattle.entries.specs.Entries.{seen}
 use Rattle.frame.proofs.reading.meaning_at.Goals as goal
 
 clash : (b : Bool) → b ≡ false → IsTrue b → ⊥

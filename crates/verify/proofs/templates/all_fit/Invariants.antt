@@ -1,5 +1,5 @@
 use Rattle.std.proofs.Common.{◌≡◌, ℕ, ◌<◌, [], length, map, get_or, slice_get, Some}
-use Rattle.frame.specs.declared.citation.Pattern.{Pattern}
+use Rattle.entries.specs.declared.citation.Pattern.{Pattern}
 use Rattle.verify.specs.Places.{seen_at}
 use Rattle.frame.specs.Templates.{expected, own}
 use Rattle.verify.proofs.templates.all_fit.Given as goal

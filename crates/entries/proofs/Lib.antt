@@ -1,0 +1,2 @@
+pub mod SpanLemmas
+mod RecordLemmas

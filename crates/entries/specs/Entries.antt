@@ -1,0 +1,52 @@
+-- A statement as numbers, as plain lists.
+-- Metamath, 4.2.6 and 4.2.7: an assertion is cited by what it asks of its hypotheses. What the numbers mean is said above.
+-- The code keeps the lists of all statements in a few buffers.
+use Rattle.std.specs.Prelude.{◌≡◌, ℕ, List, [], length, slice_get, Some}
+use Rattle.entries.specs.declared.citation.Pattern.{Pattern}
+use Rattle.entries.specs.declared.links.Links.{Links}
+use Rattle.entries.specs.declared.kind.Kind.{Kind}
+use Rattle.entries.specs.declared.head.Head.{Head}
+use Rattle.entries.specs.declared.parts.Parts.{Parts}
+use Rattle.entries.specs.declared.entry.EntryRef.{EntryRef}
+use Rattle.entries.specs.Spans.{cut, AreSpansIn}
+
+-- an assertion by the places of its hypotheses; of another statement all lists are empty
+pub record Assertion : Type 0 where
+  pub hypotheses : List ℕ
+  pub patterns : List Pattern
+  pub templates : List ℕ
+  pub conclusion : List ℕ
+  pub groups : List (List ℕ)
+
+-- its kind, the counts of labels and names before it, what was active before it, and the numbers of its symbols
+pub record Entry : Type 0 where
+  pub kind : Kind
+  pub label : ℕ
+  pub names : ℕ
+  pub links : Links
+  pub symbols : List ℕ
+  pub assertion : Assertion
+
+-- the parts of an assertion that is added
+abbrev pub assertion_of : Parts → Assertion
+assertion_of p = record { hypotheses = p.hypotheses.now; patterns = p.patterns.now; templates = p.templates.now; conclusion = p.conclusion.now; groups = cut p.places.now p.groups.now }
+
+-- there is a pattern for each hypothesis, and the groups are parts of the places
+pub record AreShapedParts (p : Parts) : Type 0 where
+  pub paired : length p.patterns.now ≡ length p.hypotheses.now
+  pub grouped : AreSpansIn (length p.places.now) p.groups.now
+
+-- the statement with this head, these symbols and these parts
+abbrev pub made : Head → List ℕ → Assertion → Entry
+made h codes a = record { kind = h.kind; label = h.label; names = h.names; links = h.links; symbols = codes; assertion = a }
+
+-- a statement that has no parts of an assertion
+abbrev pub plain : Head → List ℕ → Entry
+plain h codes = made h codes (record { hypotheses = []; patterns = []; templates = []; conclusion = []; groups = [] })
+
+-- the statement that was read
+abbrev pub seen : EntryRef → Assertion → Entry
+seen x a = record { kind = x.kind; label = x.label; names = x.names; links = x.links; symbols = x.symbols.now; assertion = a }
+
+abbrev pub IsEntry : List Entry → ℕ → EntryRef → Type 0
+IsEntry es i x = (a : Assertion) × (slice_get es i ≡ Some (seen x a))

@@ -1,0 +1,42 @@
+//! Lists of places, one behind the other.
+ghost use Rattle.std.specs.Prelude.{◌≡◌, ◌<◌, length, slice_get, Some};
+
+use crate::span::{Span, item, part};
+use std::marker::Model;
+
+/// Lists of places in one buffer. Contracts see the list of the lists.
+#[derive(Drop)]
+pub struct Groups<'a> {
+    pub(crate) spans: &'a [Span],
+    pub(crate) places: &'a [u32],
+}
+
+impl<'a> Model for Groups<'a> {
+    ghost use Rattle.std.specs.Prelude.{ℕ, List, length};
+
+    ghost Value = { List (List ℕ) };
+
+    ghost use Rattle.entries.specs.Spans.{cut, AreSpansIn};
+
+    ghost view = { λ a. cut a.places.now a.spans.now };
+
+    ghost invariant = { λ a. AreSpansIn (length a.places.now) a.spans.now };
+}
+
+impl<'a> Groups<'a> {
+    /// How many lists there are.
+    pub fn len(&self) -> usize
+        ensures { result ≡ length self.now }
+    {
+        self.spans.len()
+    }
+
+    /// The list at an index, from 0.
+    pub fn get(&self, index: usize) -> &'a [u32]
+        requires { index < length self.now }
+        ensures { slice_get self.now index ≡ Some result.now }
+    {
+        let span = item(self.spans, index);
+        part(self.places, span.from, span.to)
+    }
+}

@@ -1,0 +1,30 @@
+-- What is found out about a statement before it is kept.
+-- The code's own form: no public clause cites it.
+use Rattle.std.specs.Prelude.{◌≡◌, [], length}
+use Rattle.entries.specs.Entries.{Assertion, Entry, made as made_of}
+use Rattle.entries.specs.Spans.{cut, AreSpansIn}
+use Rattle.entries.specs.declared.head.Head.{Head}
+use Rattle.frame.specs.declared.draft.Draft.{Draft}
+
+abbrev pub drafted : Draft → Assertion
+drafted d = record { hypotheses = d.hypotheses.items; patterns = d.patterns.items; templates = d.templates.items; conclusion = d.conclusion.items; groups = cut d.places.items d.groups.items }
+
+-- there is a pattern for each hypothesis, and the groups are parts of the places
+pub record IsDraft (d : Draft) : Type 0 where
+  pub paired : length d.patterns.items ≡ length d.hypotheses.items
+  pub grouped : AreSpansIn (length d.places.items) d.groups.items
+
+-- the statement that is kept of a draft
+abbrev pub made : Head → Draft → Entry
+made h d = made_of h d.symbols.items (drafted d)
+
+-- no part of an assertion was found yet
+pub record IsPartless (d : Draft) : Type 0 where
+  pub looked : d.looked ≡ []
+  pub hypotheses : d.hypotheses.items ≡ []
+  pub variables : d.variables ≡ []
+  pub patterns : d.patterns.items ≡ []
+  pub templates : d.templates.items ≡ []
+  pub conclusion : d.conclusion.items ≡ []
+  pub places : d.places.items ≡ []
+  pub groups : d.groups.items ≡ []
