@@ -1,0 +1,47 @@
+// Loaded before the C library: refuses the growth (malloc or realloc) whose number the variable GROWTH names, counted from 1 in each
+// process, and all after it where the variable ALL_LATER is set. Writes at the end how many there were into the file that GROWTHS_TO names.
+#define _GNU_SOURCE
+#include <dlfcn.h>
+#include <stdatomic.h>
+#include <stddef.h>
+#include <stdio.h>
+#include <stdlib.h>
+
+static atomic_long count;
+static long refused;
+static int all_later;
+static void *(*next_malloc)(size_t);
+static void *(*next_realloc)(void *, size_t);
+
+__attribute__((constructor)) static void begin(void) {
+  const char *number = getenv("GROWTH");
+  next_malloc = (void *(*)(size_t))dlsym(RTLD_NEXT, "malloc");
+  next_realloc = (void *(*)(void *, size_t))dlsym(RTLD_NEXT, "realloc");
+  refused = number ? atol(number) : 0;
+  all_later = getenv("ALL_LATER") != NULL;
+  atomic_store(&count, 0);
+}
+
+__attribute__((destructor)) static void end(void) {
+  const char *path = getenv("GROWTHS_TO");
+  FILE *file = path ? fopen(path, "w") : NULL;
+  if (file) {
+    fprintf(file, "%ld\n", atomic_load(&count));
+    fclose(file);
+  }
+}
+
+static int is_refused(void) {
+  long number = atomic_fetch_add(&count, 1) + 1;
+  return refused > 0 && (number == refused || (all_later && number > refused));
+}
+
+void *malloc(size_t size) {
+  if (!next_malloc) next_malloc = (void *(*)(size_t))dlsym(RTLD_NEXT, "malloc");
+  return is_refused() ? NULL : next_malloc(size);
+}
+
+void *realloc(void *old, size_t size) {
+  if (!next_realloc) next_realloc = (void *(*)(void *, size_t))dlsym(RTLD_NEXT, "realloc");
+  return is_refused() ? NULL : next_realloc(old, size);
+}
