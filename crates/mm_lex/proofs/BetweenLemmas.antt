@@ -1,46 +1,67 @@
--- From place to place in a text: what stands between two places, and between a third one.
-use Rattle.std.specs.Prelude.{Result, Ok, Err, is_ok, OnOk, ◌≡◌, ℕ, ◌+◌, ◌-◌, ◌<◌, ◌≤◌, true, false, List, [], ◌∷◌, ◌++◌, length, take, drop, refl}
-use Rattle.std.specs.List.{list_all}
+-- From place to place in a text: what stands between two places, and between a third one; and what then stands behind them.
+use Rattle.std.specs.Prelude.{◌≡◌, ℕ, ◌≤◌, true, List, [], ◌∷◌, ◌++◌, length, flat_map, None, Ok, Err, refl}
 use Rattle.std.proofs.Common.{sym, ◌∙◌, ap, arith, subst, append_assoc}
 use Rattle.std.proofs.lemmas.List.{append-nil, map-append}
-use Rattle.std.proofs.lemmas.List.Folds.{list_all-append}
 use Rattle.std.proofs.Math.Seq.{drop-length}
 use Rattle.mm_lex.specs.declared.span.Span.{Span}
-use Rattle.mm_lex.specs.Alphabet.{Name, starts_white, word, is_symbol, runs_from, IsRunAt}
-use Rattle.mm_lex.specs.Words.{words_of, AreWords}
-use Rattle.mm_lex.specs.Tokens.{opener, is_plain, AllPlain, IsClean, Cuts, words, AreTokens}
+use Rattle.mm_lex.specs.declared.fault.LexFault.{LexFault}
+use Rattle.mm_lex.specs.declared.fault.LexFault.TheVariants.{Text, Comment, Memory}
+use Rattle.mm_lex.specs.Alphabet.{Name, word, runs_from, IsRunAt}
+use Rattle.mm_lex.specs.Tokens.{opener, is_plain, AllPlain, Part, part_spans, AreParts, Cuts, words}
+use Rattle.mm_lex.specs.Faults.{StopsAt}
 use Rattle.mm_lex.specs.Comments.{runs_behind, IsClosedAt}
-use Rattle.mm_lex.specs.Stretch.{stretch}
-use Rattle.mm_lex.specs.declared.symbol_list.Step.{Step}
-use Rattle.mm_lex.specs.declared.symbol_list.Step.TheVariants.{On, End, Stop}
-use Rattle.mm_lex.specs.Between.{HasBetween}
-use Rattle.mm_lex.specs.SymbolList.{HasSymbols, GoesOn, IsStep}
-use Rattle.mm_lex.proofs.CuttingMeans.{and_both, with_plain, with_comment, cuts_as, no_runs}
+use Rattle.mm_lex.specs.Between.{HasBetween, AreBehind, StopsBehind, FailsBehind}
+use Rattle.mm_lex.proofs.Cutting.{Outcome, prepend, scan, scan_cut, scan-cut, scan-stops}
+use Rattle.mm_lex.proofs.CuttingMeans.{and_both, with_plain, with_comment, cuts_as, no_runs, cut-scan, stops-scan}
 use Rattle.mm_lex.proofs.WordsLemmas.{and_left, and_right}
-use Rattle.mm_lex.proofs.LanesLemmas.{clean-drop}
-use Rattle.mm_lex.proofs.SymbolsLemmas.{IsFrontOf, stretch_front, symbols_words}
+
+-- the runs behind comments
+abbrev outer : List Part → List Span
+outer ps = flat_map (λ (p : Part). p.after) ps
 
 module _ {text : List ℕ} where
+  -- ---- a cut behind another
+
+  plain_cut : (front spans tokens : List Span) → AllPlain text front → Cuts text spans tokens → Cuts text (front ++ spans) (front ++ tokens)
+  plain_cut [] spans tokens are cut = cut
+  plain_cut (s ∷ front) spans tokens are cut =
+      with_plain text s (front ++ spans) (front ++ tokens) (and_left (is_plain (word text s)) _ are) (plain_cut front spans tokens (and_right (is_plain (word text s)) _ are) cut)
+
+  parts_cut : (first : List Span) (ps : List Part) (spans tokens : List Span) → AllPlain text first → AreParts text ps → Cuts text spans tokens
+      → Cuts text (first ++ (flat_map part_spans ps ++ spans)) (first ++ (outer ps ++ tokens))
+  parts_cut first [] spans tokens plain are cut = plain_cut first spans tokens plain cut
+  parts_cut first (p ∷ ps) spans tokens plain are cut =
+      let rest = flat_map part_spans ps in
+      let inner : Cuts text (p.after ++ (rest ++ spans)) (p.after ++ (outer ps ++ tokens)) = parts_cut p.after ps spans tokens are.0.after are.1 cut in
+      let whole : flat_map part_spans (p ∷ ps) ++ spans ≡ p.begin ∷ (p.inside ++ p.end ∷ (p.after ++ (rest ++ spans)))
+      = append_assoc (part_spans p) rest spans ∙ ap (λ r. p.begin ∷ r) (append_assoc p.inside (p.end ∷ p.after) (rest ++ spans)) in
+      let these : Cuts text (flat_map part_spans (p ∷ ps) ++ spans) (p.after ++ (outer ps ++ tokens))
+      = cuts_as text _ _ _ whole (with_comment text p.begin p.end p.inside _ _ are.0.begins are.0.inside are.0.ends inner) in
+      plain_cut first _ _ plain (subst (λ ts. Cuts text (flat_map part_spans (p ∷ ps) ++ spans) ts) (sym (append_assoc p.after (outer ps) tokens)) these)
+
+  pub cuts_join : (a t b u : List Span) → Cuts text a t → Cuts text b u → Cuts text (a ++ b) (t ++ u)
+  cuts_join a t b u cut more =
+      let rest = flat_map part_spans cut.parts in
+      let whole : a ++ b ≡ cut.first ++ (rest ++ b) = ap (λ r. r ++ b) cut.whole ∙ append_assoc cut.first rest b in
+      let outside : t ++ u ≡ cut.first ++ (outer cut.parts ++ u) = ap (λ r. r ++ u) cut.outside ∙ append_assoc cut.first (outer cut.parts) u in
+      subst (λ ts. Cuts text (a ++ b) ts) (sym outside) (cuts_as text _ _ _ whole (parts_cut cut.first cut.parts b u cut.plain cut.comments more))
+
+  -- ---- between two places
+
   -- nothing between a place and itself
   pub between_none : (at : ℕ) → at ≤ length text → HasBetween text at at []
-  between_none at within = record {
-    later = omega arith;
-    within = within;
-    before = λ behind cut. record { tokens = []; are = refl; cut = cut };
-  }
+  between_none at within = record { later = omega arith; within = within; passed = []; tokens = []; whole = refl; cut = no_runs text; are = refl }
 
   -- and on from there
   pub between_on : {from at end : ℕ} {ws vs : List Name} → HasBetween text from at ws → HasBetween text at end vs → HasBetween text from end (ws ++ vs)
   between_on {from} {at} {end} {ws} {vs} has more = record {
     later = omega (arith, has.later, more.later);
     within = more.within;
-    before = λ behind cut.
-        let last = more.before behind cut in
-        let first = has.before (last.tokens ++ behind) last.cut in record {
-          tokens = first.tokens ++ last.tokens;
-          are = map-append (word text) first.tokens last.tokens ∙ (ap (λ r. r ++ words text last.tokens) first.are ∙ ap (λ r. ws ++ r) last.are);
-          cut = subst (λ ts. Cuts text (runs_behind text from) ts) (sym (append_assoc first.tokens last.tokens behind)) first.cut;
-        };
+    passed = has.passed ++ more.passed;
+    tokens = has.tokens ++ more.tokens;
+    whole = has.whole ∙ (ap (λ r. has.passed ++ r) more.whole ∙ sym (append_assoc has.passed more.passed (runs_behind text end)));
+    cut = cuts_join has.passed has.tokens more.passed more.tokens has.cut more.cut;
+    are = map-append (word text) has.tokens more.tokens ∙ (ap (λ r. r ++ words text more.tokens) has.are ∙ ap (λ r. ws ++ r) more.are);
   }
 
   -- the same words by another list
@@ -49,130 +70,109 @@ module _ {text : List ℕ} where
 
   -- runs that are the same behind two places
   pub between_runs : (from at : ℕ) → from ≤ at → at ≤ length text → runs_behind text from ≡ runs_behind text at → HasBetween text from at []
-  between_runs from at later within same = record {
-    later = later;
-    within = within;
-    before = λ behind cut. record { tokens = []; are = refl; cut = cuts_as text (runs_behind text from) (runs_behind text at) behind same cut };
-  }
+  between_runs from at later within same = record { later = later; within = within; passed = []; tokens = []; whole = same; cut = no_runs text; are = refl }
 
   -- plain runs
-  plain_cut : (front spans tokens : List Span) → AllPlain text front → Cuts text spans tokens → Cuts text (front ++ spans) (front ++ tokens)
-  plain_cut [] spans tokens are cut = cut
-  plain_cut (s ∷ front) spans tokens are cut =
-      with_plain text s (front ++ spans) (front ++ tokens) (and_left (is_plain (word text s)) _ are) (plain_cut front spans tokens (and_right (is_plain (word text s)) _ are) cut)
-
   pub between_plain : (from at : ℕ) (front : List Span) → from ≤ at → at ≤ length text → runs_behind text from ≡ front ++ runs_behind text at → AllPlain text front
       → HasBetween text from at (words text front)
   between_plain from at front later within whole are = record {
     later = later;
     within = within;
-    before = λ behind cut. record {
-      tokens = front;
-      are = refl;
-      cut = cuts_as text (runs_behind text from) (front ++ runs_behind text at) (front ++ behind) whole (plain_cut front (runs_behind text at) behind are cut);
-    };
+    passed = front;
+    tokens = front;
+    whole = whole;
+    cut = record { first = front; parts = []; whole = sym (append-nil front); plain = are; comments = tt; outside = sym (append-nil front) };
+    are = refl;
   }
 
-  -- one token
   module _ (from : ℕ) (s : Span) (run : runs_behind text from ≡ s ∷ runs_behind text s.end) (is : IsRunAt text s) (later : from ≤ s.start) where
+    -- one token
     pub between_token : is_plain (word text s) ≡ true → HasBetween text from s.end (word text s ∷ [])
     between_token plain = between_plain from s.end (s ∷ []) (omega (arith, later, is.some)) is.within run (and_both _ _ plain refl)
-
-    pub between_end : (end : Name) → word text s ≡ end → is_plain end ≡ true → HasBetween text from s.end (end ∷ [])
-    between_end end e plain = between_as (ap (λ w. w ∷ []) e) (between_token (ap is_plain e ∙ plain))
 
     -- a comment
     pub between_comment : word text s ≡ opener → (end : ℕ) → IsClosedAt text s.end end → HasBetween text from end []
     between_comment opens end closed = record {
       later = omega (arith, later, is.some, closed.later);
       within = closed.within;
-      before = λ behind cut. record {
-        tokens = [];
-        are = refl;
-        cut = cuts_as text (runs_behind text from) (s ∷ (closed.inside ++ closed.at ∷ runs_behind text end)) behind (run ∙ ap (λ r. s ∷ r) closed.whole)
-            (with_comment text s closed.at closed.inside (runs_behind text end) behind opens closed.plain closed.closes cut);
-      };
+      passed = s ∷ (closed.inside ++ closed.at ∷ []);
+      tokens = [];
+      whole = run ∙ (ap (λ r. s ∷ r) closed.whole ∙ ap (λ r. s ∷ r) (sym (append_assoc closed.inside (closed.at ∷ []) (runs_behind text end))));
+      cut = with_comment text s closed.at closed.inside [] [] opens closed.plain closed.closes (no_runs text);
+      are = refl;
     }
 
-  -- ---- symbols
+  -- ---- behind a place
 
-  pub symbols_none : (at : ℕ) → at ≤ length text → HasSymbols text at at []
-  symbols_none at within = record { between = between_none at within; symbols = refl }
+  pub none_behind : (at : ℕ) → runs_behind text at ≡ [] → AreBehind text at []
+  none_behind at none = ([], cuts_as text (runs_behind text at) [] [] none (no_runs text), refl)
 
-  pub symbols_on : {from at end : ℕ} {old new : List Name} → HasSymbols text from at old → GoesOn text at end old new → HasSymbols text from end new
-  symbols_on {from} {at} {end} {old} {new} has on = record {
-    between = between_as (sym on.whole) (between_on has.between on.has.between);
-    symbols = ap (list_all is_symbol) on.whole ∙ (list_all-append is_symbol old on.more ∙ and_both _ _ has.symbols on.has.symbols);
-  }
-
-  pub goes_over : (from end : ℕ) (words : List Name) → from < end → HasBetween text from end [] → GoesOn text from end words words
-  goes_over from end words later has = record {
-    more = [];
-    later = later;
-    whole = sym (append-nil words);
-    has = record { between = has; symbols = refl };
-  }
-
-  pub goes_behind : (from at end : ℕ) (old new : List Name) → HasBetween text from at [] → GoesOn text at end old new → GoesOn text from end old new
-  goes_behind from at end old new has on = record {
-    more = on.more;
-    later = omega (arith, has.later, on.later);
-    whole = on.whole;
-    has = record { between = between_on has on.has.between; symbols = on.has.symbols };
-  }
-
-  -- a step that begins at a later place
-  pub step_behind : (from at : ℕ) (end : Name) (words : List Name) (step : Step) → HasBetween text from at [] → IsStep text at end words words step → IsStep text from end words words step
-  step_behind from at end words (On next) has is = goes_behind from at next words words has is
-  step_behind from at end words (End next) has is = (refl, between_on has is.1)
-  step_behind from at end words Stop has is = tt
-
-  -- the end of a list
-  pub symbols_end : {from at next : ℕ} {old new : List Name} {end : Name} → HasSymbols text from at old → (new ≡ old) × HasBetween text at next (end ∷ []) → HasBetween text from next (new ++ end ∷ [])
-  symbols_end {from} {at} {next} {old} {new} {end} has is = between_as (ap (λ ws. ws ++ end ∷ []) (sym is.0)) (between_on has.between is.1)
-
-module _ (text : List ℕ) where
   -- no token behind the end of the text
-  pub no_more : runs_behind text (length text) ≡ []
-  no_more = ap (λ r. runs_from (length text) r) (drop-length text)
+  pub none_behind_end : (at : ℕ) → length text ≤ at → at ≤ length text → AreBehind text at []
+  none_behind_end at end within =
+      let all : at ≡ length text = omega (arith, end, within) in
+      none_behind at (ap (runs_behind text) all ∙ ap (λ r. runs_from (length text) r) (drop-length text))
 
-  -- what stands between the ends of a clean text
-  pub all_tokens : (ws : List Name) → IsClean text → HasBetween text 0 (length text) ws → (spans : List Span) × AreTokens text spans × (words text spans ≡ ws)
-  all_tokens ws clean has =
-      let last : Cuts text (runs_behind text (length text)) [] = cuts_as text (runs_behind text (length text)) [] [] no_more (no_runs text) in
-      let front = has.before [] last in
-      (front.tokens, (clean, subst (λ (ts : List Span). Cuts text (runs_behind text 0) ts) (append-nil front.tokens) front.cut), front.are)
+  pub behind_as : (at : ℕ) {ws vs : List Name} → ws ≡ vs → AreBehind text at ws → AreBehind text at vs
+  behind_as at e are = subst (λ ws. AreBehind text at ws) e are
 
-  -- a stretch
-  module _ (start end n : ℕ) (clean : IsClean text) (shown : starts_white (drop start text) ≡ false) (is : n ≡ stretch (drop start text)) (some : 0 < n)
-      (same : end ≡ start + n) (within : end ≤ length text) (white : starts_white (drop end text) ≡ true) where
-    front : IsFrontOf text start n (take n (drop start text))
-    front = stretch_front text start n (clean-drop start text clean) shown is some (omega (arith, same, within)) (ap (λ k. starts_white (drop k text)) (sym same) ∙ white)
+  module _ {from at : ℕ} {ws : List Name} (has : HasBetween text from at ws) where
+    -- the scan goes on
+    pub between_scan : scan text (runs_behind text from) None ≡ prepend has.tokens (scan text (runs_behind text at) None)
+    between_scan = ap (λ r. scan text r None) has.whole ∙ scan_cut text has.passed has.tokens (runs_behind text at) has.cut
 
-    width : end - start ≡ n
-    width = omega (arith, same)
+    -- what is behind the later place
+    pub behind_on : {vs : List Name} → AreBehind text at vs → AreBehind text from (ws ++ vs)
+    behind_on {vs} are = (
+      has.tokens ++ are.0,
+      cuts_as text _ _ _ has.whole (cuts_join has.passed has.tokens (runs_behind text at) are.0 has.cut are.1),
+      map-append (word text) has.tokens are.0 ∙ (ap (λ r. r ++ words text are.0) has.are ∙ ap (λ r. ws ++ r) are.2),
+    )
 
-    abbrev piece : List ℕ
-    piece = take (end - start) (drop start text)
+    pub stops_on : (offset : ℕ) → StopsAt text (runs_behind text at) offset → StopsAt text (runs_behind text from) offset
+    stops_on offset is = stops-scan text (runs_behind text from) offset (between_scan ∙ ap (prepend has.tokens) (scan-stops text (runs_behind text at) offset is))
 
-    piece_is : words_of (take n (drop start text)) ≡ words_of piece
-    piece_is = ap (λ k. words_of (take k (drop start text))) (sym width)
+    pub stops_behind : (fault : LexFault) → StopsBehind text at fault → StopsBehind text from fault
+    stops_behind (Text offset) is = is
+    stops_behind (Comment offset) is = stops_on offset is
+    stops_behind Memory is = is
 
-    pub stretch_words : AreWords (words_of piece)
-    stretch_words = symbols_words (words_of piece) (ap (list_all is_symbol) (sym piece_is) ∙ front.symbols)
+    pub fails_behind : (fault : LexFault) → FailsBehind text at fault → FailsBehind text from fault
+    fails_behind (Text offset) is = is
+    fails_behind (Comment offset) is = stops_on offset is
+    fails_behind Memory is = tt
 
-    pub stretch_goes : (old new : List Name) → new ≡ old ++ words_of piece → GoesOn text start end old new
-    stretch_goes old new e = record {
-      more = words_of piece;
-      later = omega (arith, same, some);
-      whole = e;
-      has = record {
-        between = between_as (front.are ∙ piece_is) (between_plain start end front.spans (omega (arith, same)) within
-            (front.whole ∙ ap (λ k. front.spans ++ runs_behind text k) (sym same)) front.plain);
-        symbols = ap (list_all is_symbol) (sym piece_is) ∙ front.symbols;
-      };
-    }
+    -- what is behind the earlier place
+    pub behind_rest : {vs : List Name} → AreBehind text from vs → (us : List Name) × AreBehind text at us × (vs ≡ ws ++ us)
+    behind_rest {vs} are = by (scan text (runs_behind text at) None) refl
+      where
+        all : scan text (runs_behind text from) None ≡ Ok are.0
+        all = scan-cut text (runs_behind text from) are.0 are.1
 
-pub on_ok : {A E P : Type 0} (r : Result A E) → is_ok r ≡ true → OnOk r P → P
-on_ok (Ok x) e h = h
-on_ok (Err x) e h = cc
+        by : (r : Outcome) → scan text (runs_behind text at) None ≡ r → (us : List Name) × AreBehind text at us × (vs ≡ ws ++ us)
+        by (Ok rest) e =
+            let same : ◌≡◌ {A = Outcome} (Ok are.0) (Ok (has.tokens ++ rest)) = sym all ∙ (between_scan ∙ ap (prepend has.tokens) e) in
+            let these : are.0 ≡ has.tokens ++ rest = cc in (
+              words text rest,
+              (rest, cut-scan text (runs_behind text at) rest e, refl),
+              sym are.2 ∙ (ap (words text) these ∙ (map-append (word text) has.tokens rest ∙ ap (λ r. r ++ words text rest) has.are)),
+            )
+        by (Err offset) e =
+            let other : ◌≡◌ {A = Outcome} (Ok are.0) (Err offset) = sym all ∙ (between_scan ∙ ap (prepend has.tokens) e) in cc
+
+  pub behind_unique : (at : ℕ) {ws vs : List Name} → AreBehind text at ws → AreBehind text at vs → ws ≡ vs
+  behind_unique at are also =
+      let a = scan-cut text (runs_behind text at) are.0 are.1 in
+      let b = scan-cut text (runs_behind text at) also.0 also.1 in
+      let same : are.0 ≡ also.0 = cc in
+      sym are.2 ∙ (ap (words text) same ∙ also.2)
+
+  pub behind_no_stop : (at offset : ℕ) {ws : List Name} → AreBehind text at ws → StopsAt text (runs_behind text at) offset → ⊥
+  behind_no_stop at offset are is =
+      let a = scan-cut text (runs_behind text at) are.0 are.1 in
+      let b = scan-stops text (runs_behind text at) offset is in cc
+
+pub stops_fail : (text : List ℕ) (at : ℕ) (fault : LexFault) → StopsBehind text at fault → FailsBehind text at fault
+stops_fail text at (Text offset) is = is
+stops_fail text at (Comment offset) is = is
+stops_fail text at Memory is = tt

@@ -11,5 +11,8 @@ pub mod TokensLemmas
 pub mod StretchLemmas
 pub mod SymbolsLemmas
 pub mod BetweenLemmas
+pub mod WalkLemmas
+pub mod FewLemmas
+pub mod ListLemmas
 pub mod OneCut
 mod Rows

@@ -1,27 +1,28 @@
--- A list of symbols in a text, piece by piece.
+-- A list of symbols in a text, and what ends it.
 -- Source: Metamath, 4.1.2 and 4.1.3 (a list of symbols ends with a keyword; comments may stand in it).
--- The code copies many symbols in one piece; here each piece is what stands between two places.
-use Rattle.std.specs.Prelude.{◌≡◌, ℕ, ◌<◌, IsTrue, List, [], ◌∷◌, ◌++◌}
+-- The code copies many symbols in one piece; here the list is what stands between two places.
+use Rattle.std.specs.Prelude.{◌≡◌, ℕ, ◌<◌, IsTrue, IsFalse, List, [], ◌∷◌, ◌++◌, Option, Some, None}
 use Rattle.std.specs.List.{list_all}
-use Rattle.mm_lex.specs.declared.symbol_list.Step.{Step}
-use Rattle.mm_lex.specs.declared.symbol_list.Step.TheVariants.{On, End, Stop}
-use Rattle.mm_lex.specs.Alphabet.{Name, is_symbol}
-use Rattle.mm_lex.specs.Between.{HasBetween}
+use Rattle.mm_lex.specs.declared.span.Span.{Span}
+use Rattle.mm_lex.specs.Alphabet.{Name, is_symbol, word}
+use Rattle.mm_lex.specs.Tokens.{IsWordAt}
+use Rattle.mm_lex.specs.Between.{HasBetween, AreBehind}
 
--- between the two places stand these symbols, or tokens of a proof
-pub record HasSymbols (text : List ℕ) (from at : ℕ) (ws : List Name) : Type 0 where
-  pub between : HasBetween text from at ws
-  pub symbols : IsTrue (list_all is_symbol ws)
-
--- symbols more, up to a later place
-pub record GoesOn (text : List ℕ) (from at : ℕ) (old new : List Name) : Type 0 where
+-- symbols more, that stand between two places
+pub record AddsSymbols (text : List ℕ) (from at : ℕ) (old new : List Name) : Type 0 where
   pub more : List Name
-  pub later : from < at
   pub whole : new ≡ old ++ more
-  pub has : HasSymbols text from at more
+  pub between : HasBetween text from at more
+  pub symbols : IsTrue (list_all is_symbol more)
 
--- one step through a list of symbols up to the token `end`
-abbrev pub IsStep : List ℕ → ℕ → Name → List Name → List Name → Step → Type 0
-IsStep text from end old new (On at) = GoesOn text from at old new
-IsStep text from end old new (End at) = (new ≡ old) × HasBetween text from at (end ∷ [])
-IsStep text from end old new Stop = Unit {0}
+-- behind these symbols stands a token that is none
+pub record EndsSymbols (text : List ℕ) (from : ℕ) (ws : List Name) (s : Span) : Type 0 where
+  pub token : IsWordAt text s
+  pub later : from < s.end
+  pub between : HasBetween text from s.end (ws ++ word text s ∷ [])
+  pub other : IsFalse (is_symbol (word text s))
+
+-- what ends the list: such a token, or the end of the text
+abbrev pub IsListEnd : List ℕ → ℕ → List Name → Option Span → Type 0
+IsListEnd text from ws (Some s) = EndsSymbols text from ws s
+IsListEnd text from ws None = AreBehind text from ws

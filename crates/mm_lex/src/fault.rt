@@ -1,4 +1,7 @@
 //! Why a text has no tokens.
+ghost use Rattle.std.specs.Prelude.{◌≡◌};
+
+use std::alloc::AllocError;
 
 /// Why a text has no tokens. Offsets count bytes from 0.
 #[derive(Clone, Copy, Debug, Drop, PartialEq, Eq)]
@@ -9,4 +12,14 @@ pub enum LexFault {
     Comment { offset: usize },
     /// A growth was refused.
     Memory,
+}
+
+impl From<AllocError> for LexFault {
+    ghost use Rattle.mm_lex.specs.declared.fault.LexFault.TheVariants.{Memory};
+
+    ghost from_gives = { λ _ fault. fault ≡ Memory };
+
+    fn from(_: AllocError) -> LexFault {
+        LexFault::Memory
+    }
 }

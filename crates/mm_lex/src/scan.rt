@@ -74,7 +74,7 @@ fn add_token(spans: &mut Vec<Span>, refused: bool, span: Span) -> bool
 }
 
 /// The first byte that no text may have. A text without one is read once, many bytes at a time.
-fn first_bad_byte(text: &[u8]) -> Option<usize>
+pub fn first_bad_byte(text: &[u8]) -> Option<usize>
     ensures { result ≡ position (λ b. not (is_allowed b)) text.now }
 {
     if are_allowed(text) {
@@ -91,7 +91,7 @@ fn find_bad_byte(text: &[u8]) -> Option<usize>
 }
 
 /// Whether a text may have all of these bytes.
-pub fn are_allowed(text: &[u8]) -> bool
+fn are_allowed(text: &[u8]) -> bool
     ensures { result ≡ list_all is_allowed text.now }
 {
     let mut all = true;

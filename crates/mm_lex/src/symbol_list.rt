@@ -1,50 +1,50 @@
 //! A list of symbols up to its end, copied in pieces of many words.
-ghost use Rattle.std.specs.Prelude.{◌≡◌, ◌<◌, ◌≤◌, ◌+◌, ℕ, List, [], ◌∷◌, ◌++◌, length, drop, IsTrue, IsFalse, IfSome, IfOk};
+ghost use Rattle.std.specs.Prelude.{◌≡◌, ◌≤◌, [], length, drop, IsTrue, IfOk, IfErr};
 ghost use Rattle.std.specs.List.{list_all};
-ghost use Rattle.mm_lex.specs.Alphabet.{Name, starts_white, is_symbol};
-ghost use Rattle.mm_lex.specs.Stretch.{stretch};
-ghost use Rattle.mm_lex.specs.Tokens.{IsClean, is_plain};
-ghost use Rattle.mm_lex.specs.Between.{HasBetween};
-ghost use Rattle.mm_lex.specs.SymbolList.{GoesOn, IsStep};
+ghost use Rattle.mm_lex.specs.Alphabet.{starts_white, is_symbol};
+ghost use Rattle.mm_lex.specs.Words.{is_word};
+ghost use Rattle.mm_lex.specs.Tokens.{IsClean};
+ghost use Rattle.mm_lex.specs.Between.{FailsBehind};
+ghost use Rattle.mm_lex.specs.SymbolList.{AddsSymbols, IsListEnd};
 
-use crate::comment::{CommentEnd, comment_end};
-use crate::run::{is_opener, next_run, pass_white};
+use crate::fault::LexFault;
+use crate::run::pass_white;
+use crate::span::Span;
 use crate::stretch::count_spaced;
+use crate::walk::next_token;
 use crate::words::Words;
 use memchr::memchr;
 use std::alloc::{AllocError, Global};
 
-/// What stands at a place of a list.
-#[derive(Drop)]
-pub(crate) enum Step {
-    /// Symbols or a comment, up to a later place.
-    On(usize),
-    /// The token that ends the list, up to the byte behind it.
-    End(usize),
-    /// Another token, the end of the text, or a growth was refused.
-    Stop,
-}
-
-/// The symbols behind `from` up to the token `end`, and the place of the byte behind that.
+/// The symbols behind `from`, and the token behind them that is no symbol, or none at the end of the text.
 ///
-/// Nothing where another token stands in its place, or a growth was refused. Cost: their own size.
-pub fn symbols(alloc: Global, text: &[u8], from: usize, end: &[u8]) -> Option<(Words, usize)>
+/// Errors: `Comment`, where the comments behind `from` are at fault before that token; `Memory`. Cost: their own size.
+pub fn symbols(alloc: Global, text: &[u8], from: usize) -> Result<(Words, Option<Span>), LexFault>
     requires clean { IsClean text.now }
     requires place { from ≤ length text.now }
-    requires plain { IsTrue (is_plain end.now) }
-    ensures symbols { IfSome result (λ r. IsTrue (list_all is_symbol r.0)) }
-    ensures between { IfSome result (λ r. HasBetween text.now from r.1 (r.0 ++ end.now ∷ [])) }
+    ensures symbols { IfOk result (λ r. IsTrue (list_all is_symbol r.0)) }
+    ensures end { IfOk result (λ r. IsListEnd text.now from r.0 r.1) }
+    ensures fault { IfErr result (FailsBehind text.now from) }
 {
-    let mut words = with_room(alloc, &text[from..]).ok()?;
-    let mut at = from;
-    while at < text.len() {
-        match go_on(&mut words, text, at, end) {
-            Step::On(next) => at = next,
-            Step::End(next) => return Some((words, next)),
-            Step::Stop => return None,
+    let mut words = with_room(alloc, &text[from..])?;
+    let mut at = push_pieces(&mut words, text, from)?;
+    while let Some(span) = next_token(text, at)? {
+        let word = &text[span.start..span.end];
+        if !is_symbol(word) {
+            return Ok((words, Some(span)));
         }
+        words.push(word)?;
+        at = span.end;
     }
-    None
+    Ok((words, None))
+}
+
+/// Whether the word is a symbol, or a token of a proof.
+pub fn is_symbol(word: &[u8]) -> bool
+    requires { IsTrue (is_word word.now) }
+    ensures { result ≡ is_symbol word.now }
+{
+    !word.contains(&b'$')
 }
 
 /// No words, with room for those up to the next `$`.
@@ -55,58 +55,23 @@ fn with_room(alloc: Global, text: &[u8]) -> Result<Words, AllocError>
     Words::with_capacity(alloc, room)
 }
 
-/// Adds the symbols that stand at a place or behind it, up to what is no symbol or no single space.
-fn go_on(words: &mut Words, text: &[u8], at: usize, end: &[u8]) -> Step
+/// Adds symbols as long as they stand in pieces with one space between two; answers the place behind them.
+fn push_pieces(words: &mut Words, text: &[u8], from: usize) -> Result<usize, AllocError>
     requires clean { IsClean text.now }
-    requires place { at ≤ length text.now }
-    requires plain { IsTrue (is_plain end.now) }
-    ensures { IsStep text.now at end.now words.old words.new result }
+    requires place { from ≤ length text.now }
+    ensures { IfOk result (λ at. AddsSymbols text.now from at words.old words.new) }
 {
-    let start = pass_white(text, at);
-    let count = count_spaced(&text[start..]);
-    if count == 0 {
-        return go_over(text, start, end);
+    let mut at = from;
+    while at < text.len() {
+        let start = pass_white(text, at);
+        let end = start + count_spaced(&text[start..]);
+        if start == end || !is_behind_word(text, end) {
+            return Ok(start);
+        }
+        words.push_text(&text[start..end])?;
+        at = end;
     }
-    if push_spaced(words, text, start, start + count) {
-        Step::On(start + count)
-    } else {
-        Step::Stop
-    }
-}
-
-/// Passes over the end of the list, or over a comment.
-fn go_over(text: &[u8], at: usize, end: &[u8]) -> Step
-    requires clean { IsClean text.now }
-    requires place { at ≤ length text.now }
-    requires plain { IsTrue (is_plain end.now) }
-    ensures { (words : List Name) → IsStep text.now at end.now words words result }
-{
-    let Some(run) = next_run(text, at) else {
-        return Step::Stop;
-    };
-    let word = &text[run.start..run.end];
-    if word == end {
-        return Step::End(run.end);
-    }
-    if !is_opener(word) {
-        return Step::Stop;
-    }
-    match comment_end(text, run.end) {
-        CommentEnd::Closed(close) => Step::On(close),
-        _ => Step::Stop,
-    }
-}
-
-/// Adds symbols with one space between two, unless a byte of a word follows them or a growth is refused; answers whether it did.
-fn push_spaced(words: &mut Words, text: &[u8], start: usize, end: usize) -> bool
-    requires clean { IsClean text.now }
-    requires shown { IsFalse (starts_white (drop start text.now)) }
-    requires some { start < end }
-    requires within { end ≤ length text.now }
-    requires stretch { end ≡ start + stretch (drop start text.now) }
-    ensures { IsTrue result → GoesOn text.now start end words.old words.new }
-{
-    is_behind_word(text, end) && words.push_text(&text[start..end]).is_ok()
+    Ok(at)
 }
 
 /// Whether no word goes on at a place.

@@ -1,6 +1,7 @@
 //! What no clause says: with ample memory each call succeeds.
-use crate::{LexFault, Span, Word, Words, are_allowed, symbols, tokens};
-use std::alloc::{AllocError, Global};
+use crate::{
+    LexFault, Span, Word, Words, count_tokens, first_bad_byte, next_token, symbols, tokens,
+};
 use std::test::Fail;
 
 #[test]
@@ -56,21 +57,44 @@ fn long_words_come_back(rt: HostRuntime) -> Result<(), Fail> {
 }
 
 #[test]
-fn symbols_are_copied_in_pieces(rt: HostRuntime) -> Result<(), AllocError> {
+fn symbols_are_copied_in_pieces(rt: HostRuntime) -> Result<(), LexFault> {
     let alloc = rt.alloc();
-    let (words, next) = list(alloc, b" |- ( a\n\t b \"c ! )  $( x $) d $= $. e")?;
-    assert!(rt; words.as_text() == b"|- ( a b \"c ! ) d".as_slice());
-    assert!(rt; next == 32);
-    assert!(rt; list(alloc, b"$=")?.1 == 2);
-    assert!(rt; list(alloc, b"a b$= $=").is_err());
-    assert!(rt; list(alloc, b"a $. $=").is_err());
+    for (text, want, end) in [
+        (
+            b" |- ( a\n\t b \"c ! )  $( x $) d $= $. e".as_slice(),
+            b"|- ( a b \"c ! ) d".as_slice(),
+            Some(30),
+        ),
+        (b"$=", b"", Some(0)),
+        (b"a b$= $=", b"a", Some(2)),
+        (b"a\nb c $.", b"a b c", Some(6)),
+        (b"a $( $. $) b ", b"a b", None),
+        (b" ", b"", None),
+    ] {
+        let (words, span) = symbols(alloc, text, 0)?;
+        assert!(rt; words.as_text() == want);
+        assert!(rt; span.map(|span| span.start) == end);
+    }
+    for (text, offset) in [
+        (b"a $) b".as_slice(), 2),
+        (b"a $( b", 2),
+        (b"$( $( $) $) $.", 3),
+    ] {
+        let fault = symbols(alloc, text, 0).map(|_| ());
+        assert_eq!(rt; fault, Err(LexFault::Comment { offset }));
+    }
     Ok(())
 }
 
-/// The symbols up to the first `$=`, and the place behind it.
-fn list(alloc: Global, text: &[u8]) -> Result<(Words, usize), AllocError> {
-    if !are_allowed(text) {
-        return Err(AllocError);
+#[test]
+fn tokens_are_counted(rt: HostRuntime) {
+    for (text, at, want) in [
+        (b"a $( b $) c".as_slice(), 0, Ok(2)),
+        (b"a $( b $) c", 1, Ok(1)),
+        (b"a $( b", 1, Err(LexFault::Comment { offset: 2 })),
+    ] {
+        assert_eq!(rt; count_tokens(text, at), want);
     }
-    symbols(alloc, text, 0, b"$=").ok_or(AllocError)
+    assert_eq!(rt; next_token(b"a b ", 3), Ok(None));
+    assert_eq!(rt; first_bad_byte(b"a\x80 \x80"), Some(1));
 }

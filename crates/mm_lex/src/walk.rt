@@ -1,55 +1,55 @@
 //! From token to token through a text, without a list of their places.
-ghost use Rattle.std.specs.Prelude.{◌≡◌, ◌<◌, ◌≤◌, [], ◌∷◌, length, IfSome};
-ghost use Rattle.mm_lex.specs.Alphabet.{word};
-ghost use Rattle.mm_lex.specs.Tokens.{IsClean, IsWordAt};
-ghost use Rattle.mm_lex.specs.Between.{HasBetween};
+ghost use Rattle.std.specs.Prelude.{◌≤◌, length, IfOk, IfErr};
+ghost use Rattle.mm_lex.specs.Tokens.{IsClean};
+ghost use Rattle.mm_lex.specs.Between.{IsNextToken, CountBehind, StopsBehind};
 
 use crate::comment::{CommentEnd, comment_end};
-use crate::run::{is_closer, is_opener, next_run, pass_white};
+use crate::fault::LexFault;
+use crate::run::{is_closer, is_opener, next_run};
 use crate::span::Span;
 
-/// Where the next token begins that stands at `at` or behind it, or the end of the text.
+/// The next token at `at` or behind it, or none.
 ///
-/// Nothing where a comment behind `at` is never closed or has another in it.
-pub fn token_start(text: &[u8], at: usize) -> Option<usize>
+/// Errors: `Comment`, where the comments behind `at` are at fault before another token.
+pub fn next_token(text: &[u8], at: usize) -> Result<Option<Span>, LexFault>
     requires clean { IsClean text.now }
     requires place { at ≤ length text.now }
-    ensures { IfSome result (λ end. HasBetween text.now at end []) }
-{
-    let mut from = pass_white(text, at);
-    while let Some(run) = next_run(text, from) {
-        if !is_opener(&text[run.start..run.end]) {
-            break;
-        }
-        match comment_end(text, run.end) {
-            CommentEnd::Closed(end) => from = pass_white(text, end),
-            _ => return None,
-        }
-    }
-    Some(from)
-}
-
-/// The next token at `at` or behind it; nothing where there is none, or a fault before it.
-pub fn next_token(text: &[u8], at: usize) -> Option<Span>
-    requires clean { IsClean text.now }
-    requires place { at ≤ length text.now }
-    ensures between { IfSome result (λ s. HasBetween text.now at s.end (word text.now s ∷ [])) }
-    ensures word { IfSome result (IsWordAt text.now) }
-    ensures later { IfSome result (λ s. at < s.end) }
+    ensures next { IfOk result (IsNextToken text.now at) }
+    ensures fault { IfErr result (StopsBehind text.now at) }
 {
     let mut from = at;
     while let Some(run) = next_run(text, from) {
         let word = &text[run.start..run.end];
         if is_closer(word) {
-            return None;
+            return Err(LexFault::Comment { offset: run.start });
         }
         if !is_opener(word) {
-            return Some(run);
+            return Ok(Some(run));
         }
         match comment_end(text, run.end) {
             CommentEnd::Closed(end) => from = end,
-            _ => return None,
+            CommentEnd::Nested(offset) => return Err(LexFault::Comment { offset }),
+            CommentEnd::Unclosed => return Err(LexFault::Comment { offset: run.start }),
         }
     }
-    None
+    Ok(None)
+}
+
+/// How many tokens stand at `at` or behind it.
+///
+/// Errors: `Comment`, where the comments behind `at` are at fault. Cost: the size of the rest of the text.
+pub fn count_tokens(text: &[u8], at: usize) -> Result<usize, LexFault>
+    requires clean { IsClean text.now }
+    requires place { at ≤ length text.now }
+    ensures count { IfOk result (CountBehind text.now at) }
+    ensures within { IfOk result (λ count. count ≤ length text.now) }
+    ensures fault { IfErr result (StopsBehind text.now at) }
+{
+    let mut count = 0;
+    let mut from = at;
+    while let Some(span) = next_token(text, from)? {
+        count += 1;
+        from = span.end;
+    }
+    Ok(count)
 }

@@ -2,56 +2,80 @@
 -- statements or have one token that fits nowhere.
 use Rattle.std.specs.Prelude.{◌≡◌, ℕ, ◌⊎◌, List, Result, Ok, Err, MatchResult, IfOk, IfErr, IsErrAnd}
 use Rattle.std.proofs.Common.{sym, ◌∙◌, ap, refl, subst, inl, inr}
-use Rattle.mm_lex.specs.declared.span.Span.{Span}
-use Rattle.mm_lex.specs.declared.fault.LexFault.{LexFault}
 use Rattle.mm_lex.specs.declared.fault.LexFault.TheVariants as lex
 use Rattle.mm_lex.specs.Alphabet.{Name}
-use Rattle.mm_lex.specs.Tokens.{AreTokens, words}
-use Rattle.mm_lex.specs.Faults.{IsCommentFault, IsLexFault}
+use Rattle.mm_lex.specs.Tokens.{IsClean, words}
+use Rattle.mm_lex.specs.Faults.{IsFirstBadByte, IsCommentFault}
+use Rattle.mm_lex.specs.Between.{AreBehind}
 use Rattle.mm_lex.proofs.FaultsLemmas.{IsClean-no_fault}
-use Rattle.mm_lex.proofs.TokensLemmas.{AreTokens-unique, AreTokens-no_comment_fault}
+use Rattle.mm_lex.proofs.TokensLemmas.{AreTokens-unique, AreTokens-no_comment_fault, IsCommentFault-unique}
 use Rattle.mm_read.specs.declared.fault.ReadFault.{ReadFault}
 use Rattle.mm_read.specs.declared.fault.ReadFault.TheVariants.{Text, Shape, Memory}
 use Rattle.mm_read.specs.Statements.{Database, spelled}
-use Rattle.mm_read.specs.Reads.{HasTokens, Reads, IsShapeFault, HasShapeFault, read_fault}
-use Rattle.mm_read.specs.Front.{AreStatements, IsFrontFault}
+use Rattle.mm_read.specs.Reads.{HasTokens, Reads, IsShapeFault, HasShapeFault, IsReadFault}
+use Rattle.mm_read.specs.Next.{IsFaultOf}
 use Rattle.mm_read.proofs.OneSpelling.{one_spelling}
 use Rattle.mm_read.proofs.ShapeFaults.{one_shape_fault}
 
--- a text with tokens has no fault of the tokens
-pub only_memory : (text : List ℕ) (tokens : List Name) (fault : LexFault) → HasTokens text tokens → IsLexFault text fault → read_fault fault ≡ Memory
-only_memory text tokens (lex.Text offset) has is = absurd (IsClean-no_fault text offset has.1.0 is)
-only_memory text tokens (lex.Comment offset) has is = absurd (AreTokens-no_comment_fault text has.0 offset has.1 is)
-only_memory text tokens lex.Memory has is = refl
-
 -- the tokens of a text are one list
-module _ (text : List ℕ) (spans : List Span) (are : AreTokens text spans) where
-  same_tokens : (tokens : List Name) → HasTokens text tokens → words text spans ≡ tokens
-  same_tokens tokens has = ap (words text) (AreTokens-unique text spans has.0 are has.1) ∙ has.2
+same_tokens : (text : List ℕ) (ts us : List Name) → HasTokens text ts → HasTokens text us → ts ≡ us
+same_tokens text ts us has also = sym has.2 ∙ (ap (words text) (AreTokens-unique text has.0 also.0 has.1 also.1) ∙ also.2)
 
-  pub no_comment_fault : {P : Type 0} (offset : ℕ) → IsCommentFault text offset → P
-  no_comment_fault offset is = absurd (AreTokens-no_comment_fault text spans offset are is)
+module _ (text : List ℕ) (clean : IsClean text) where
+  all_tokens : (ts : List Name) → AreBehind text 0 ts → HasTokens text ts
+  all_tokens ts are = (are.0, (clean, are.1), are.2)
 
-  pub has_shape_fault : (token : ℕ) → IsShapeFault (words text spans) token → HasShapeFault text token
-  has_shape_fault token fault = (words text spans, (spans, are, refl), fault)
+  no_comment_fault : (ts : List Name) (offset : ℕ) → HasTokens text ts → IsCommentFault text offset → ⊥
+  no_comment_fault ts offset has is = AreTokens-no_comment_fault text has.0 offset has.1 is
+
+  pub fault_is : (fault : ReadFault) → IsFaultOf text fault → IsReadFault text fault
+  fault_is (Text (lex.Text offset)) is = absurd is
+  fault_is (Text (lex.Comment offset)) is = ((clean, is), λ e. cc)
+  fault_is (Text lex.Memory) is = absurd is
+  fault_is (Shape token) is = (is.0, all_tokens is.0 is.1, is.2)
+  fault_is Memory is = tt
+
+  pub no_bad_byte : {P : Type 0} (offset : ℕ) → IsFirstBadByte text offset → P
+  no_bad_byte offset is = absurd (IsClean-no_fault text offset clean is)
 
   module _ {V : Type 0} (items : V → Database) where
     -- the statements are those that the text writes
-    pub the_statements : (r : Result V ReadFault) → IfOk r (λ v. AreStatements (words text spans) (items v)) → IfErr r (IsFrontFault (words text spans))
+    pub the_statements : (r : Result V ReadFault) → IfOk r (λ v. Reads text (items v)) → IfErr r (IsFaultOf text)
         → (S : Database) → Reads text S → MatchResult r (λ v. items v ≡ S) (λ fault. fault ≡ Memory)
-    the_statements (Ok v) found fault S reads = one_spelling (items v) S found.shaped reads.shaped (found.written ∙ same_tokens (spelled S) reads.tokens)
-    the_statements (Err (Text f)) found fault S reads = absurd fault
-    the_statements (Err (Shape t)) found fault S reads = absurd (fault.none S reads.shaped (sym (same_tokens (spelled S) reads.tokens)))
+    the_statements (Ok v) found fault S reads = one_spelling (items v) S found.shaped reads.shaped (same_tokens text (spelled (items v)) (spelled S) found.tokens reads.tokens)
+    the_statements (Err (Text (lex.Text offset))) found fault S reads = absurd fault
+    the_statements (Err (Text (lex.Comment offset))) found fault S reads = absurd (no_comment_fault (spelled S) offset reads.tokens (clean, fault))
+    the_statements (Err (Text lex.Memory)) found fault S reads = absurd fault
+    the_statements (Err (Shape t)) found fault S reads =
+        absurd (fault.2.none S reads.shaped (same_tokens text (spelled S) fault.0 reads.tokens (all_tokens fault.0 fault.1)))
     the_statements (Err Memory) found fault S reads = refl
 
+    -- the fault of the comments is the one that the text has
+    pub the_comment_fault : (r : Result V ReadFault) → IfOk r (λ v. Reads text (items v)) → IfErr r (IsFaultOf text)
+        → (offset : ℕ) → IsCommentFault text offset → r ≡ Err (Text (lex.Comment offset))
+    the_comment_fault (Ok v) found fault offset is = absurd (no_comment_fault (spelled (items v)) offset found.tokens is)
+    the_comment_fault (Err (Text (lex.Text o))) found fault offset is = absurd fault
+    the_comment_fault (Err (Text (lex.Comment o))) found fault offset is = ap (λ o. Err (Text (lex.Comment o))) (IsCommentFault-unique text o offset (clean, fault) is)
+    the_comment_fault (Err (Text lex.Memory)) found fault offset is = absurd fault
+    the_comment_fault (Err (Shape t)) found fault offset is = absurd (no_comment_fault fault.0 offset (all_tokens fault.0 fault.1) is)
+    the_comment_fault (Err Memory) found fault offset is = absurd (no_comment_fault fault.0 offset (all_tokens fault.0 fault.1) is)
+
     -- the token that fits nowhere is the one that the text has
-    pub the_shape_fault : (r : Result V ReadFault) → IfOk r (λ v. AreStatements (words text spans) (items v)) → IfErr r (IsFrontFault (words text spans))
+    pub the_shape_fault : (r : Result V ReadFault) → IfOk r (λ v. Reads text (items v)) → IfErr r (IsFaultOf text)
         → (token : ℕ) → HasShapeFault text token → IsErrAnd r (λ fault. (fault ≡ Shape token) ⊎ (fault ≡ Memory))
-    the_shape_fault (Ok v) found fault token has = absurd (has.2.none (items v) found.shaped (found.written ∙ same_tokens has.0 has.1))
-    the_shape_fault (Err (Text f)) found fault token has = absurd fault
+    the_shape_fault (Ok v) found fault token has = absurd (has.2.none (items v) found.shaped (same_tokens text (spelled (items v)) has.0 found.tokens has.1))
+    the_shape_fault (Err (Text (lex.Text o))) found fault token has = absurd fault
+    the_shape_fault (Err (Text (lex.Comment o))) found fault token has = absurd (no_comment_fault has.0 o has.1 (clean, fault))
+    the_shape_fault (Err (Text lex.Memory)) found fault token has = absurd fault
     the_shape_fault (Err (Shape t)) found fault token has =
-        inl (ap Shape (one_shape_fault has.0 t token (subst (λ ts. IsShapeFault ts t) (same_tokens has.0 has.1) fault) has.2))
+        let same : fault.0 ≡ has.0 = same_tokens text fault.0 has.0 (all_tokens fault.0 fault.1) has.1 in
+        inl (ap Shape (one_shape_fault has.0 t token (subst (λ ts. IsShapeFault ts t) same fault.2) has.2))
     the_shape_fault (Err Memory) found fault token has = inr refl
 
-pub same_fault : {T : Type 0} (f g : LexFault) → ◌≡◌ {A = Result T LexFault} (Err f) (Err g) → f ≡ g
-same_fault f g e = cc
+-- a text with a bad byte has no tokens
+module _ (text : List ℕ) (offset : ℕ) (bad : IsFirstBadByte text offset) where
+  pub bad_no_tokens : {P : Type 0} (ts : List Name) → HasTokens text ts → P
+  bad_no_tokens ts has = absurd (IsClean-no_fault text offset has.1.0 bad)
+
+  pub bad_no_comment : {P : Type 0} (at : ℕ) → IsCommentFault text at → P
+  bad_no_comment at is = absurd (IsClean-no_fault text offset is.0 bad)

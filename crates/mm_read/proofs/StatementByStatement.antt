@@ -1,20 +1,16 @@
 -- A list of statements and what stands behind it: what fits there fits the whole, and what does not fit there does not fit the whole.
-use Rattle.std.specs.Prelude.{◌≡◌, ℕ, ◌+◌, ◌-◌, ◌<◌, ◌≤◌, ◌⊎◌, suc, zero, true, List, [], ◌∷◌, ◌++◌, length, take, drop}
+use Rattle.std.specs.Prelude.{◌≡◌, ℕ, ◌+◌, ◌-◌, ◌<◌, ◌≤◌, ◌⊎◌, suc, zero, true, List, [], ◌∷◌, ◌++◌, length, take}
 use Rattle.std.specs.List.{list_all}
-use Rattle.std.proofs.Common.{sym, ◌∙◌, ap, arith, refl, subst, inl, inr, append_assoc, length-append, drop-drop}
+use Rattle.std.proofs.Common.{sym, ◌∙◌, ap, arith, refl, subst, inl, inr, append_assoc, length-append}
 use Rattle.std.proofs.Math.Seq.{take-append-add}
 use Rattle.std.proofs.lemmas.Bool.{and_parts}
-use Rattle.std.proofs.lemmas.List.{drop-map, length-map, length-drop, take_all}
-use Rattle.mm_lex.specs.declared.span.Span.{Span}
-use Rattle.mm_lex.specs.Alphabet.{Name, word}
-use Rattle.mm_lex.specs.Tokens.{words}
+use Rattle.std.proofs.lemmas.List.{take_all}
+use Rattle.mm_lex.specs.Alphabet.{Name}
 use Rattle.mm_read.specs.declared.stmt.Stmt.{Stmt}
 use Rattle.mm_read.specs.declared.stmt.Stmt.TheVariants.{Open, Close, Const, Var, Disj, Float, Ess, Axiom, Prove}
 use Rattle.mm_read.specs.Statements.{Database, is_shaped, stmt_tokens, spelled}
 use Rattle.mm_read.specs.Reads.{CanGoOn, IsShapeFault}
-use Rattle.mm_read.specs.Front.{IsFront}
 use Rattle.mm_read.proofs.OneSpelling.{same_front}
-use Rattle.mm_read.proofs.ShapeFaults.{append-nil}
 
 pub spelled-append : (S T : Database) → spelled (S ++ T) ≡ spelled S ++ spelled T
 spelled-append [] T = refl
@@ -97,27 +93,3 @@ module _ (S : Database) (shaped : list_all is_shaped S ≡ true) (rest : List Na
       by : (CanGoOn (take token rest) → ⊥) ⊎ (token ≡ length rest + 1) → (CanGoOn (take (length (spelled S) + token) (spelled S ++ rest)) → ⊥) ⊎ (length (spelled S) + token ≡ length (spelled S ++ rest) + 1)
       by (inl stop) = inl (λ on. stop (back (take token rest) (subst CanGoOn (take-append-add (spelled S) rest token) on)))
       by (inr end) = inr (omega (arith, end, length-append (spelled S) rest))
-
--- ---- along the spans of a text
-
-module _ (text : List ℕ) (spans : List Span) (S : Database) (at : ℕ) (within : at ≤ length spans) (shaped : list_all is_shaped S ≡ true)
-    (written : words text spans ≡ spelled S ++ words text (drop at spans)) where
-  -- one more statement
-  pub one_more : (s : Stmt) (taken : ℕ) → IsFront (words text (drop at spans)) s taken
-      → (at + taken ≤ length spans) × (list_all is_shaped (S ++ s ∷ []) ≡ true) × (words text spans ≡ spelled (S ++ s ∷ []) ++ words text (drop (at + taken) spans))
-  one_more s taken front = (
-    omega (arith, within, front.within, length-map (drop at spans) (word text), length-drop at spans),
-    shaped-append S (s ∷ []) shaped (rw (front.shaped) refl),
-    written ∙ (ap (λ r. spelled S ++ r) (front.written ∙ ap (λ r. stmt_tokens s ++ r) (drop-map (word text) taken (drop at spans) ∙ ap (words text) (drop-drop taken at spans)))
-        ∙ (sym (append_assoc (spelled S) (stmt_tokens s) (words text (drop (at + taken) spans)))
-        ∙ ap (λ r. r ++ words text (drop (at + taken) spans)) (ap (λ r. spelled S ++ r) (sym (append-nil (stmt_tokens s))) ∙ sym (spelled-append S (s ∷ []))))),
-  )
-
-  at_is : length (spelled S) ≡ at
-  at_is = omega (arith, within, ap length written, length-append (spelled S) (words text (drop at spans)), length-map spans (word text), length-map (drop at spans) (word text), length-drop at spans)
-
-  -- a fault behind them
-  pub fault_at : (token : ℕ) → IsShapeFault (words text (drop at spans)) token → IsShapeFault (words text spans) (at + token)
-  fault_at token fault =
-      subst (λ ts. IsShapeFault ts (at + token)) (sym written)
-      (subst (λ n. IsShapeFault (spelled S ++ words text (drop at spans)) (n + token)) at_is (fault_behind S shaped (words text (drop at spans)) token fault))

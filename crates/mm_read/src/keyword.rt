@@ -1,7 +1,7 @@
-//! Tokens as words, symbols, labels and keywords.
+//! Tokens as words, labels and keywords.
 ghost use Rattle.std.specs.Prelude.{◌≡◌, ◌≤◌, [], ◌∷◌, IsTrue, length};
 ghost use Rattle.std.specs.List.{list_all};
-ghost use Rattle.mm_lex.specs.Alphabet.{word, is_symbol, is_label, is_label_byte};
+ghost use Rattle.mm_lex.specs.Alphabet.{word, is_label, is_label_byte};
 ghost use Rattle.mm_lex.specs.Words.{is_word};
 ghost use Rattle.mm_read.specs.Front.{IsKeyword};
 
@@ -57,14 +57,6 @@ pub fn token(text: &[u8], span: Span) -> &[u8]
     ensures { result.now ≡ word text.now span }
 {
     &text[span.start..span.end]
-}
-
-/// Whether the word is a symbol, or a token of a proof.
-pub fn is_symbol(word: &[u8]) -> bool
-    requires { IsTrue (is_word word.now) }
-    ensures { result ≡ is_symbol word.now }
-{
-    !word.contains(&b'$')
 }
 
 /// Whether the word is a label.

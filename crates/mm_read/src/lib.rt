@@ -2,16 +2,15 @@
 //!
 //! `Stmt` is one of the eight shapes of a statement. `read` gives the one list of statements that a text writes, or says where
 //! the text stops being statements; `spell` writes statements in the export form. What a text writes is `specs/Reads`: the
-//! crates above rest on the clauses of `read`. Read `stmt`, `parse`, `direct`, `statement`, `front`, `keyword`, then `export`.
+//! crates above rest on the clauses of `read`. Read `stmt`, `parse`, `statement`, `part`, `keyword`, then `export`.
 #![tactic(auto)]
 
-mod direct;
 mod export;
 mod fault;
-mod front;
 mod keyword;
 mod laws;
 mod parse;
+mod part;
 mod statement;
 mod stmt;
 #[cfg(test)]

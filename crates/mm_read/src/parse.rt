@@ -1,16 +1,16 @@
 //! The statements of a text.
-ghost use Rattle.std.specs.Prelude.{◌≡◌, ℕ, ◌⊎◌, IfOk, IfErr, IsErrAnd, MatchResult, All};
+ghost use Rattle.std.specs.Prelude.{◌≡◌, ℕ, ◌≤◌, ◌⊎◌, [], IfOk, IfErr, IsErrAnd, MatchResult, length};
+ghost use Rattle.mm_lex.specs.Tokens.{IsClean};
 ghost use Rattle.mm_lex.specs.Faults.{IsFirstBadByte, IsCommentFault};
-ghost use Rattle.mm_lex.specs.Tokens.{IsWordAt, words};
+ghost use Rattle.mm_lex.specs.Between.{StopsBehind};
 ghost use Rattle.mm_read.specs.Statements.{Database};
 ghost use Rattle.mm_read.specs.Reads.{Reads, HasShapeFault, IsReadFault};
-ghost use Rattle.mm_read.specs.Front.{AreStatements, IsFrontFault};
+ghost use Rattle.mm_read.specs.Next.{IsNextStep, IsFaultAfter, AreBefore, IsFaultOf};
 
-use crate::direct::read_directly;
 use crate::fault::ReadFault;
 use crate::statement::statement;
 use crate::stmt::Stmt;
-use mm_lex::{LexFault, Span, tokens};
+use mm_lex::{LexFault, count_tokens, first_bad_byte, next_token};
 use std::alloc::Global;
 
 /// The statements that the text writes.
@@ -34,32 +34,72 @@ pub fn read(alloc: Global, text: &[u8]) -> Result<Vec<Stmt>, ReadFault>
     ensures shape { (token : ℕ) → HasShapeFault text.now token
         → IsErrAnd result (λ fault. (fault ≡ ReadFault.Shape token) ⊎ (fault ≡ ReadFault.Memory)) }
 {
-    if let Some(statements) = read_directly(alloc, text) {
-        return Ok(statements);
+    if let Some(offset) = first_bad_byte(text) {
+        return Err(ReadFault::Text(LexFault::Text { offset }));
     }
-    let spans = tokens(alloc, text)?;
-    statements(alloc, text, spans.as_slice())
+    statements(alloc, text)
 }
 
-/// The statements that the tokens write.
-fn statements(alloc: Global, text: &[u8], spans: &[Span]) -> Result<Vec<Stmt>, ReadFault>
-    requires { All (IsWordAt text.now) spans.now }
-    ensures found { IfOk result (λ statements. AreStatements (words text.now spans.now) statements.items) }
-    ensures fault { IfErr result (IsFrontFault (words text.now spans.now)) }
+/// The statements that a text without a bad byte writes.
+fn statements(alloc: Global, text: &[u8]) -> Result<Vec<Stmt>, ReadFault>
+    requires { IsClean text.now }
+    ensures found { IfOk result (λ statements. Reads text.now statements.items) }
+    ensures fault { IfErr result (IsFaultOf text.now) }
 {
     let mut statements = Vec::new(alloc);
     let mut at = 0;
-    while at < spans.len() {
-        match statement(alloc, text, &spans[at..]) {
-            Ok((next, taken)) => {
-                statements.push(next)?;
-                at += taken;
-            }
-            Err(ReadFault::Shape { token }) => {
-                return Err(ReadFault::Shape { token: at + token });
-            }
-            Err(fault) => return Err(fault),
+    loop {
+        match add_next(alloc, &mut statements, text, at) {
+            Ok(Some(next)) => at = next,
+            Ok(None) => return Ok(statements),
+            Err(fault) => return Err(first_fault(text, at, fault)?),
         }
     }
-    Ok(statements)
+}
+
+/// Adds the next statement; answers the place behind it, or none where no token is left.
+fn add_next(
+    alloc: Global,
+    statements: &mut Vec<Stmt>,
+    text: &[u8],
+    at: usize,
+) -> Result<Option<usize>, ReadFault>
+    requires clean { IsClean text.now }
+    requires place { at ≤ length text.now }
+    ensures next { IfOk result (IsNextStep text.now at statements.old.items statements.new.items) }
+    ensures fault { IfErr result (IsFaultAfter text.now [] at) }
+{
+    let Some(first) = next_token(text, at)? else {
+        return Ok(None);
+    };
+    let (statement, next) = statement(alloc, text, first)?;
+    statements.push(statement)?;
+    Ok(Some(next))
+}
+
+/// What the whole text is refused for, where statements end at `at` and this hinders the next one.
+///
+/// Errors: the fault of the comments behind `at`, which comes first.
+fn first_fault(text: &[u8], at: usize, fault: ReadFault) -> Result<ReadFault, LexFault>
+    requires clean { IsClean text.now }
+    requires place { at ≤ length text.now }
+    requires before { (S : Database) × AreBefore text.now at S }
+    requires fault { IsFaultAfter text.now [] at fault }
+    ensures fault { IfOk result (IsFaultOf text.now) }
+    ensures comment { IfErr result (StopsBehind text.now 0) }
+{
+    match fault {
+        ReadFault::Text(lex) => Err(lex),
+        ReadFault::Memory => {
+            count_tokens(text, at)?;
+            Ok(ReadFault::Memory)
+        }
+        ReadFault::Shape { token } => {
+            let behind = count_tokens(text, at)?;
+            let all = count_tokens(text, 0)?;
+            Ok(ReadFault::Shape {
+                token: all - behind + token,
+            })
+        }
+    }
 }

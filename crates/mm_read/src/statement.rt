@@ -1,112 +1,118 @@
-//! The statement at the front of the tokens.
-ghost use Rattle.std.specs.Prelude.{◌≡◌, ◌<◌, IsTrue, IfOk, IfErr, All, length, codes};
-ghost use Rattle.mm_lex.specs.Alphabet.{is_label};
-ghost use Rattle.mm_lex.specs.Tokens.{IsWordAt, words};
-ghost use Rattle.mm_read.specs.Front.{IsFront, IsFrontFault, first, second};
+//! One statement of the text, from its first token on.
+ghost use Rattle.std.specs.Prelude.{◌∷◌, ◌≤◌, [], length, IsTrue, IfOk, IfErr, codes};
+ghost use Rattle.mm_lex.specs.Alphabet.{word, is_label};
+ghost use Rattle.mm_lex.specs.Words.{is_word};
+ghost use Rattle.mm_lex.specs.Tokens.{IsClean, IsWordAt};
+ghost use Rattle.mm_read.specs.Next.{IsNextAfter, IsFaultAfter};
 
 use crate::fault::ReadFault;
-use crate::front::{count_symbols, symbols};
 use crate::keyword::{Keyword, is_label, keyword_of, token};
+use crate::part::{next_symbol, pass_token, symbols_until};
 use crate::stmt::Stmt;
-use mm_lex::{Span, Word};
+use mm_lex::{Span, Word, next_token};
 use std::alloc::Global;
 
-/// The statement at the front of the tokens, and how many of them write it.
+/// The statement whose first token stands at `first`, and the place of the byte behind it.
 ///
-/// Errors: the number from 1 of the token that fits nowhere, or `Memory` in place of it or of the statement.
-/// Cost: the statement's own size.
-pub fn statement(alloc: Global, text: &[u8], spans: &[Span]) -> Result<(Stmt, usize), ReadFault>
-    requires tokens { All (IsWordAt text.now) spans.now }
-    requires some { 0 < length spans.now }
-    ensures found { IfOk result (λ r. IsFront (words text.now spans.now) r.0 r.1) }
-    ensures fault { IfErr result (IsFrontFault (words text.now spans.now)) }
+/// Errors: `Text`, where the comments are at fault before its end; the number from 1 of its token that fits nowhere;
+/// `Memory`. Cost: the statement's own size.
+pub fn statement(alloc: Global, text: &[u8], first: Span) -> Result<(Stmt, usize), ReadFault>
+    requires clean { IsClean text.now }
+    requires token { IsWordAt text.now first }
+    ensures found { IfOk result (λ r. IsNextAfter text.now (word text.now first ∷ []) first.end r.0 r.1) }
+    ensures fault { IfErr result (IsFaultAfter text.now (word text.now first ∷ []) first.end) }
 {
-    let word = token(text, spans[0]);
+    let word = token(text, first);
+    let at = first.end;
     match keyword_of(word) {
-        Keyword::Open => Ok((Stmt::Open, 1)),
-        Keyword::Close => Ok((Stmt::Close, 1)),
+        Keyword::Open => Ok((Stmt::Open, at)),
+        Keyword::Close => Ok((Stmt::Close, at)),
         Keyword::Const => {
-            let (constants, next) = symbols(alloc, text, spans, 1, 1, b"$.")?;
+            let (constants, next) = symbols_until(alloc, text, at, 2, 1, b"$.")?;
             Ok((Stmt::Const(constants), next))
         }
         Keyword::Var => {
-            let (variables, next) = symbols(alloc, text, spans, 1, 1, b"$.")?;
+            let (variables, next) = symbols_until(alloc, text, at, 2, 1, b"$.")?;
             Ok((Stmt::Var(variables), next))
         }
         Keyword::Disj => {
-            let (variables, next) = symbols(alloc, text, spans, 1, 2, b"$.")?;
+            let (variables, next) = symbols_until(alloc, text, at, 2, 2, b"$.")?;
             Ok((Stmt::Disj(variables), next))
         }
-        Keyword::Other if is_label(word) => labelled(alloc, text, spans),
+        Keyword::Other if is_label(word) => labelled(alloc, text, word, at),
         _ => Err(ReadFault::Shape { token: 1 }),
     }
 }
 
-/// The statement whose label stands first.
-fn labelled(alloc: Global, text: &[u8], spans: &[Span]) -> Result<(Stmt, usize), ReadFault>
-    requires tokens { All (IsWordAt text.now) spans.now }
-    requires some { 0 < length spans.now }
-    requires label { IsTrue (is_label (first (words text.now spans.now))) }
-    ensures found { IfOk result (λ r. IsFront (words text.now spans.now) r.0 r.1) }
-    ensures fault { IfErr result (IsFrontFault (words text.now spans.now)) }
+/// The statement whose label ends before `at`.
+fn labelled(alloc: Global, text: &[u8], label: &[u8], at: usize) -> Result<(Stmt, usize), ReadFault>
+    requires clean { IsClean text.now }
+    requires place { at ≤ length text.now }
+    requires word { IsTrue (is_word label.now) }
+    requires label { IsTrue (is_label label.now) }
+    ensures found { IfOk result (λ r. IsNextAfter text.now (label.now ∷ []) at r.0 r.1) }
+    ensures fault { IfErr result (IsFaultAfter text.now (label.now ∷ []) at) }
 {
-    if spans.len() == 1 {
+    let Some(key) = next_token(text, at)? else {
         return Err(ReadFault::Shape { token: 2 });
-    }
-    match keyword_of(token(text, spans[1])) {
-        Keyword::Float => floating(alloc, text, spans),
+    };
+    match keyword_of(token(text, key)) {
+        Keyword::Float => floating(alloc, text, label, key.end),
         Keyword::Ess => {
-            let (expr, next) = symbols(alloc, text, spans, 2, 1, b"$.")?;
-            let label = Word::new(alloc, token(text, spans[0]))?;
+            let (expr, next) = symbols_until(alloc, text, key.end, 3, 1, b"$.")?;
+            let label = Word::new(alloc, label)?;
             Ok((Stmt::Ess { label, expr }, next))
         }
         Keyword::Axiom => {
-            let (expr, next) = symbols(alloc, text, spans, 2, 1, b"$.")?;
-            let label = Word::new(alloc, token(text, spans[0]))?;
+            let (expr, next) = symbols_until(alloc, text, key.end, 3, 1, b"$.")?;
+            let label = Word::new(alloc, label)?;
             Ok((Stmt::Axiom { label, expr }, next))
         }
-        Keyword::Prove => provable(alloc, text, spans),
+        Keyword::Prove => provable(alloc, text, label, key.end),
         _ => Err(ReadFault::Shape { token: 2 }),
     }
 }
 
-/// The `$f` whose label stands first.
-fn floating(alloc: Global, text: &[u8], spans: &[Span]) -> Result<(Stmt, usize), ReadFault>
-    requires tokens { All (IsWordAt text.now) spans.now }
-    requires some { 1 < length spans.now }
-    requires label { IsTrue (is_label (first (words text.now spans.now))) }
-    requires keyword { second (words text.now spans.now) ≡ codes "$f" }
-    ensures found { IfOk result (λ r. IsFront (words text.now spans.now) r.0 r.1) }
-    ensures fault { IfErr result (IsFrontFault (words text.now spans.now)) }
+/// The `$f` whose keyword ends before `at`.
+fn floating(alloc: Global, text: &[u8], label: &[u8], at: usize) -> Result<(Stmt, usize), ReadFault>
+    requires clean { IsClean text.now }
+    requires place { at ≤ length text.now }
+    requires word { IsTrue (is_word label.now) }
+    requires label { IsTrue (is_label label.now) }
+    ensures found { IfOk result (λ r. IsNextAfter text.now (label.now ∷ codes "$f" ∷ []) at r.0 r.1) }
+    ensures fault { IfErr result (IsFaultAfter text.now (label.now ∷ codes "$f" ∷ []) at) }
 {
-    let count = count_symbols(text, &spans[2..]).min(2);
-    let next = 2 + count;
-    if count < 2 || next == spans.len() || token(text, spans[next]) != b"$.".as_slice() {
-        return Err(ReadFault::Shape { token: next + 1 });
-    }
-    let label = Word::new(alloc, token(text, spans[0]))?;
-    let constant = Word::new(alloc, token(text, spans[2]))?;
-    let variable = Word::new(alloc, token(text, spans[3]))?;
+    let (constant, after) = next_symbol(alloc, text, at, 3)?;
+    let (variable, behind) = next_symbol(alloc, text, after, 4)?;
+    let next = pass_token(text, behind, 5, b"$.")?;
+    let label = Word::new(alloc, label)?;
     let statement = Stmt::Float {
         label,
         constant,
         variable,
     };
-    Ok((statement, 5))
+    Ok((statement, next))
 }
 
-/// The `$p` whose label stands first.
-fn provable(alloc: Global, text: &[u8], spans: &[Span]) -> Result<(Stmt, usize), ReadFault>
-    requires tokens { All (IsWordAt text.now) spans.now }
-    requires some { 1 < length spans.now }
-    requires label { IsTrue (is_label (first (words text.now spans.now))) }
-    requires keyword { second (words text.now spans.now) ≡ codes "$p" }
-    ensures found { IfOk result (λ r. IsFront (words text.now spans.now) r.0 r.1) }
-    ensures fault { IfErr result (IsFrontFault (words text.now spans.now)) }
+/// The `$p` whose keyword ends before `at`.
+fn provable(alloc: Global, text: &[u8], label: &[u8], at: usize) -> Result<(Stmt, usize), ReadFault>
+    requires clean { IsClean text.now }
+    requires place { at ≤ length text.now }
+    requires word { IsTrue (is_word label.now) }
+    requires label { IsTrue (is_label label.now) }
+    ensures found { IfOk result (λ r. IsNextAfter text.now (label.now ∷ codes "$p" ∷ []) at r.0 r.1) }
+    ensures fault { IfErr result (IsFaultAfter text.now (label.now ∷ codes "$p" ∷ []) at) }
 {
-    let (expr, after) = symbols(alloc, text, spans, 2, 1, b"$=")?;
-    let (proof, next) = symbols(alloc, text, spans, after, 0, b"$.")?;
-    let label = Word::new(alloc, token(text, spans[0]))?;
-    let statement = Stmt::Prove { label, expr, proof };
-    Ok((statement, next))
+    let (expr, after) = symbols_until(alloc, text, at, 3, 1, b"$=")?;
+    match symbols_until(alloc, text, after, 1, 0, b"$.") {
+        Ok((proof, next)) => {
+            let label = Word::new(alloc, label)?;
+            Ok((Stmt::Prove { label, expr, proof }, next))
+        }
+        Err(ReadFault::Shape { token }) => Err(ReadFault::Shape {
+            token: 3 + expr.len() + token,
+        }),
+        Err(ReadFault::Text(fault)) => Err(ReadFault::Text(fault)),
+        Err(ReadFault::Memory) => Err(ReadFault::Memory),
+    }
 }

@@ -47,6 +47,42 @@ fn names_each_fault(rt: HostRuntime) -> Result<(), AllocError> {
     Ok(())
 }
 
+#[test]
+fn numbers_each_token_that_fits_nowhere(rt: HostRuntime) -> Result<(), AllocError> {
+    let front = b"$c a $. $( b $) t $a a $.\n";
+    for (rest, token) in [
+        (b"a".as_slice(), 9),
+        (b"a b", 9),
+        (b"$x a", 8),
+        (b"$v", 9),
+        (b"$v $.", 9),
+        (b"$d x $( y $) $.", 10),
+        (b"$d x y", 11),
+        (b"f $f a", 11),
+        (b"f $f a b c $.", 12),
+        (b"f $f a $.", 11),
+        (b"p $p a b $.", 12),
+        (b"p $p $= $.", 10),
+        (b"p $p a $= p q$ $.", 13),
+        (b"p $p a $= p q", 14),
+        (b"p $p a $= p $= $.", 13),
+    ] {
+        let mut text = Vec::from_slice(rt.alloc(), front)?;
+        text.extend_from_slice(rest)?;
+        assert!(rt; fault_of(rt.alloc(), &text)? == Some(ReadFault::Shape { token }));
+        text.extend_from_slice(b" $( $. $) $( $( ")?;
+        let offset = text.len() - 3;
+        let comment = ReadFault::Text(LexFault::Comment { offset });
+        assert!(rt; fault_of(rt.alloc(), &text)? == Some(comment));
+        text.extend_from_slice(b"\x7f")?;
+        let byte = ReadFault::Text(LexFault::Text {
+            offset: text.len() - 1,
+        });
+        assert!(rt; fault_of(rt.alloc(), &text)? == Some(byte));
+    }
+    Ok(())
+}
+
 fn fault_of(alloc: Global, text: &[u8]) -> Result<Option<ReadFault>, AllocError> {
     match read(alloc, text) {
         Ok(_) => Ok(None),

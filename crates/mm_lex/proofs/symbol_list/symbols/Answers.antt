@@ -1,8 +1,29 @@
-use Rattle.mm_lex.proofs.BetweenLemmas.{symbols_on, symbols_end}
+use Rattle.std.proofs.Common.{sym, refl, subst, []}
+use Rattle.std.proofs.lemmas.Result.{err_from_is_err_and}
+use Rattle.mm_lex.specs.Between.{AreBehind, IsTokenBehind, IsNextToken}
+use Rattle.mm_lex.proofs.BetweenLemmas.{fails_behind, stops_fail}
+use Rattle.mm_lex.proofs.ListLemmas.{adds_on, adds_word, ends_with, ends_text}
 use Rattle.mm_lex.proofs.symbol_list.symbols.Goals as goal
 
-pub loop-at-preserved : goal.loop-at-preserved
-loop-at-preserved c = symbols_on c.loop-at.invariant c.in-On.ensures
+pub returns-in_err-span-clause-fault : goal.returns-in_err-span-clause-fault
+returns-in_err-span-clause-fault c =
+    let p = err_from_is_err_and c.from_residual-in_err-span.result c.from_residual-in_err-span.ensures.1 in
+    rw (p.1, p.2) (fails_behind c.loop-words.invariant.between _ (stops_fail c.args.text.now c.loop-words.at _ c.in_err-span.ensures.fault))
 
-pub returns-in-End-clause-between : goal.returns-in-End-clause-between
-returns-in-End-clause-between c = symbols_end c.loop-at.invariant c.in-End.ensures
+pub returns-then-not-is_symbol-clause-end : goal.returns-then-not-is_symbol-clause-end
+returns-then-not-is_symbol-clause-end c =
+    let text = c.args.text.now in
+    let next : IsTokenBehind text c.loop-words.at c.in-Some.span = subst (IsNextToken text c.loop-words.at) c.in-Some.is c.in_ok-span.ensures.next in
+    ends_with c.loop-words.invariant c.in-Some.span next (sym c.if-not-is_symbol.ensures)
+
+pub loop-words-preserved : goal.loop-words-preserved
+loop-words-preserved c =
+    let text = c.args.text.now in
+    let next : IsTokenBehind text c.loop-words.at c.in-Some.span = subst (IsNextToken text c.loop-words.at) c.in-Some.is c.in_ok-span.ensures.next in
+    adds_on c.loop-words.invariant (adds_word c.loop-words.at c.in-Some.span _ _ _ next refl (sym c.if-not-is_symbol.ensures) c.in_ok-push.ensures.ok)
+
+pub returns-clause-end : goal.returns-clause-end
+returns-clause-end c =
+    let text = c.args.text.now in
+    let none : AreBehind text c.loop-words.at [] = subst (IsNextToken text c.loop-words.at) c.in_default.is c.in_ok-span.ensures.next in
+    ends_text c.loop-words.invariant none

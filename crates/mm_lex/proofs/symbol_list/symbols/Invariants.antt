@@ -1,9 +1,9 @@
-use Rattle.std.proofs.Common.{◌-◌, length}
-use Rattle.mm_lex.specs.SymbolList.{HasSymbols}
+use Rattle.std.proofs.Common.{[], ◌-◌, length}
+use Rattle.mm_lex.specs.SymbolList.{AddsSymbols}
 use Rattle.mm_lex.proofs.symbol_list.symbols.Given as goal
 
-abbrev pub invariant-loop-at : goal.invariant-loop-at
-invariant-loop-at l = HasSymbols l.text l.from l.at l.words
+abbrev pub invariant-loop-words : goal.invariant-loop-words
+invariant-loop-words l = AddsSymbols l.text l.from l.at [] l.words
 
-abbrev pub decreases-loop-at : goal.decreases-loop-at
-decreases-loop-at l = length l.text - l.at
+abbrev pub decreases-loop-words : goal.decreases-loop-words
+decreases-loop-words l = length l.text - l.at

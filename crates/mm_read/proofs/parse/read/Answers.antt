@@ -1,44 +1,53 @@
-use Rattle.std.proofs.Common.{Err, ap, inr, subst, sym}
-use Rattle.std.proofs.lemmas.Result.{err_from_is_err_and}
-use Rattle.mm_lex.specs.Tokens.{AreTokens}
-use Rattle.mm_read.specs.Reads.{read_fault}
-use Rattle.mm_read.proofs.OneReading.{only_memory, no_comment_fault, the_statements, the_shape_fault, same_fault}
-use Rattle.mm_read.proofs.DirectLemmas.{same_reading, no_broken_comment, no_stop}
+use Rattle.std.proofs.Common.{ap, Err}
+use Rattle.mm_lex.specs.declared.fault.LexFault.TheVariants as lex
+use Rattle.mm_lex.proofs.FaultsLemmas.{IsFirstBadByte-found, IsFirstBadByte-unique, IsClean-none}
+use Rattle.mm_read.specs.declared.fault.ReadFault.TheVariants.{Text}
+use Rattle.mm_read.specs.Statements.{spelled}
+use Rattle.mm_read.proofs.OneReading.{bad_no_tokens, bad_no_comment, fault_is, no_bad_byte, the_statements, the_comment_fault, the_shape_fault}
+use Rattle.mm_read.proofs.NextLemmas.{on_err}
 use Rattle.mm_read.proofs.parse.read.Goals as goal
 
+pub returns-in-Some-clause-fault : goal.returns-in-Some-clause-fault
+returns-in-Some-clause-fault c = (IsFirstBadByte-found c.args.text.now c.in-Some.offset c.in-Some.ensures, λ e. cc)
+
 pub returns-in-Some-clause-statements : goal.returns-in-Some-clause-statements
-returns-in-Some-clause-statements c = λ S reads. same_reading c.args.text.now c.in-Some.statements.items c.in-Some.ensures S reads
+returns-in-Some-clause-statements c = λ S reads.
+    let bad = IsFirstBadByte-found c.args.text.now c.in-Some.offset c.in-Some.ensures in
+    bad_no_tokens c.args.text.now c.in-Some.offset bad (spelled S) reads.tokens
+
+pub returns-in-Some-clause-text_fault : goal.returns-in-Some-clause-text_fault
+returns-in-Some-clause-text_fault c = λ offset is.
+    let bad = IsFirstBadByte-found c.args.text.now c.in-Some.offset c.in-Some.ensures in
+    ap (λ at. Err (Text (lex.Text at))) (IsFirstBadByte-unique c.args.text.now c.in-Some.offset offset bad is)
 
 pub returns-in-Some-clause-comment_fault : goal.returns-in-Some-clause-comment_fault
-returns-in-Some-clause-comment_fault c = λ offset is. absurd (no_broken_comment c.args.text.now c.in-Some.statements.items c.in-Some.ensures offset is)
+returns-in-Some-clause-comment_fault c = λ offset is.
+    let bad = IsFirstBadByte-found c.args.text.now c.in-Some.offset c.in-Some.ensures in
+    bad_no_comment c.args.text.now c.in-Some.offset bad offset is
 
 pub returns-in-Some-clause-shape : goal.returns-in-Some-clause-shape
-returns-in-Some-clause-shape c = λ token has. no_stop c.args.text.now c.in-Some.statements.items c.in-Some.ensures token has
+returns-in-Some-clause-shape c = λ token has.
+    let bad = IsFirstBadByte-found c.args.text.now c.in-Some.offset c.in-Some.ensures in
+    bad_no_tokens c.args.text.now c.in-Some.offset bad has.0 has.1
 
-pub returns-in_err-spans-clause-statements : goal.returns-in_err-spans-clause-statements
-returns-in_err-spans-clause-statements c =
-    let p = err_from_is_err_and c.from_residual.result c.from_residual.ensures.1 in
-    rw (p.1, p.2) (λ S reads. only_memory c.args.text.now _ _ reads.tokens c.in_err-spans.ensures.fault)
+pub statements-requires : goal.statements-requires
+statements-requires c = IsClean-none c.args.text.now c.in_default.ensures
 
-pub returns-in_err-spans-clause-comment_fault : goal.returns-in_err-spans-clause-comment_fault
-returns-in_err-spans-clause-comment_fault c =
-    let p = err_from_is_err_and c.from_residual.result c.from_residual.ensures.1 in
-    rw (p.1, p.2) (λ offset is. ap (λ fault. Err (read_fault fault)) (same_fault _ _ (c.in_err-spans.ensures.comment_fault offset is)))
-
-pub returns-in_err-spans-clause-shape : goal.returns-in_err-spans-clause-shape
-returns-in_err-spans-clause-shape c =
-    let p = err_from_is_err_and c.from_residual.result c.from_residual.ensures.1 in
-    rw (p.1, p.2) (λ token has. inr (only_memory c.args.text.now _ _ has.1 c.in_err-spans.ensures.fault))
+pub returns-clause-fault : goal.returns-clause-fault
+returns-clause-fault c =
+    on_err c.statements.result (λ fault is. fault_is c.args.text.now (IsClean-none c.args.text.now c.in_default.ensures) fault is) c.statements.ensures.fault
 
 pub returns-clause-statements : goal.returns-clause-statements
 returns-clause-statements c =
-    the_statements c.args.text.now c.as_slice.result.now (subst (AreTokens c.args.text.now) (sym c.as_slice.ensures.value) c.in_ok-spans.ensures.tokens)
-    (λ v. v.items) c.statements.result c.statements.ensures.found c.statements.ensures.fault
+    the_statements c.args.text.now (IsClean-none c.args.text.now c.in_default.ensures) (λ v. v.items) c.statements.result c.statements.ensures.found c.statements.ensures.fault
+
+pub returns-clause-text_fault : goal.returns-clause-text_fault
+returns-clause-text_fault c = λ offset is. no_bad_byte c.args.text.now (IsClean-none c.args.text.now c.in_default.ensures) offset is
 
 pub returns-clause-comment_fault : goal.returns-clause-comment_fault
-returns-clause-comment_fault c = λ offset is. no_comment_fault c.args.text.now _ c.in_ok-spans.ensures.tokens offset is
+returns-clause-comment_fault c =
+    the_comment_fault c.args.text.now (IsClean-none c.args.text.now c.in_default.ensures) (λ v. v.items) c.statements.result c.statements.ensures.found c.statements.ensures.fault
 
 pub returns-clause-shape : goal.returns-clause-shape
 returns-clause-shape c =
-    the_shape_fault c.args.text.now c.as_slice.result.now (subst (AreTokens c.args.text.now) (sym c.as_slice.ensures.value) c.in_ok-spans.ensures.tokens)
-    (λ v. v.items) c.statements.result c.statements.ensures.found c.statements.ensures.fault
+    the_shape_fault c.args.text.now (IsClean-none c.args.text.now c.in_default.ensures) (λ v. v.items) c.statements.result c.statements.ensures.found c.statements.ensures.fault

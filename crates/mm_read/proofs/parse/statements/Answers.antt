@@ -1,25 +1,19 @@
-use Rattle.std.proofs.Common.{◌≡◌, ◌-◌, length, take, drop, subst, arith}
-use Rattle.std.proofs.lemmas.List.{take_all, length-drop}
-use Rattle.mm_lex.specs.Tokens.{words}
-use Rattle.mm_read.specs.Front.{IsFront, IsFrontFault}
-use Rattle.mm_read.proofs.StatementByStatement.{one_more, fault_at}
+use Rattle.std.proofs.Common.{refl, arith, subst, sym}
+use Rattle.mm_lex.proofs.BetweenLemmas.{between_none}
+use Rattle.mm_read.specs.Next.{AreBefore, IsNextStep}
+use Rattle.mm_read.proofs.NextLemmas.{before_more, reads_all}
 use Rattle.mm_read.proofs.parse.statements.Goals as goal
 
-pub loop-at-preserved : goal.loop-at-preserved
-loop-at-preserved c =
-    let text = c.args.text.now in
-    let spans = c.args.spans.now in
-    let at = c.loop-at.at in
-    let tail : take (length spans - at) (drop at spans) ≡ drop at spans = take_all (length spans - at) (drop at spans) (omega (arith, length-drop at spans)) in
-    let front : IsFront (words text (drop at spans)) c.in-Ok.next c.in-Ok.taken = subst (λ rest. IsFront (words text rest) c.in-Ok.next c.in-Ok.taken) tail c.in-Ok.ensures.found in
-    let more = one_more text spans c.loop-at.statements.items at c.loop-at.invariant.within c.loop-at.invariant.shaped c.loop-at.invariant.written c.in-Ok.next c.in-Ok.taken front in
-    rw c.in_ok-push-in-Ok.ensures.items (record { within = more.0; shaped = more.1; written = more.2 })
+pub loop-next-init : goal.loop-next-init
+loop-next-init c = rw c.new-statements.ensures.items (record { shaped = refl; between = between_none 0 (omega arith) })
 
-pub returns-in-Err-Shape-clause-fault : goal.returns-in-Err-Shape-clause-fault
-returns-in-Err-Shape-clause-fault c =
+pub loop-next-preserved : goal.loop-next-preserved
+loop-next-preserved c =
+    before_more c.loop-next.invariant
+    (subst (IsNextStep c.args.text.now c.loop-next.at c.loop-next.statements.items c.add_next.new.statements.items) c.in-Ok-Some.field-0-is c.in-Ok-Some.ensures.next)
+
+pub returns-in-Ok-None-clause-found : goal.returns-in-Ok-None-clause-found
+returns-in-Ok-None-clause-found c =
     let text = c.args.text.now in
-    let spans = c.args.spans.now in
-    let at = c.loop-at.at in
-    let tail : take (length spans - at) (drop at spans) ≡ drop at spans = take_all (length spans - at) (drop at spans) (omega (arith, length-drop at spans)) in
-    let fault = subst (λ f. IsFrontFault (words text (drop at spans)) f) c.in-Err-Shape.field-0-is (subst (λ rest. IsFrontFault (words text rest) c.in-Err-Shape.field-0) tail c.in-Err-Shape.ensures.fault) in
-    rw c.in-Err-Shape.field-0-is (fault_at text spans c.loop-at.statements.items at c.loop-at.invariant.within c.loop-at.invariant.shaped c.loop-at.invariant.written c.in-Err-Shape.token fault)
+    let none = subst (IsNextStep text c.loop-next.at c.loop-next.statements.items c.add_next.new.statements.items) c.in-Ok-None.field-0-is c.in-Ok-None.ensures.next in
+    reads_all c.loop-next.at _ c.requires (subst (AreBefore text c.loop-next.at) (sym none.1) c.loop-next.invariant) none.0

@@ -1,30 +1,90 @@
-use Rattle.std.proofs.Common.{refl, codes, ◌∙◌, arith}
+use Rattle.std.proofs.Common.{◌∙◌, ap, sym, refl, subst, arith, codes, ◌∷◌, []}
 use Rattle.std.proofs.lemmas.Result.{err_from_is_err_and}
-use Rattle.std.proofs.lemmas.List.{length-map}
-use Rattle.mm_lex.specs.Alphabet.{word}
-use Rattle.mm_lex.specs.Tokens.{words}
-use Rattle.mm_read.proofs.FrontFaults.{labelled_fault_at, second_fault_at, label_alone, key_after_label}
+use Rattle.mm_lex.specs.Between.{HasBetween, AreBehind, IsTokenBehind, IsNextToken}
+use Rattle.mm_lex.proofs.BetweenLemmas.{between_on, between_as}
+use Rattle.mm_read.proofs.StatementsLemmas.{are_symbols_of}
+use Rattle.mm_read.proofs.Places.{labelled, step}
+use Rattle.mm_read.proofs.FrontFaults.{key_after_label}
+use Rattle.mm_read.proofs.AfterFaults.{fault_back, labelled_list, label_alone, label_before}
+use Rattle.mm_read.proofs.NextLemmas.{essential_next, axiom_next, on_ok, on_err}
 use Rattle.mm_read.proofs.statement.labelled.Goals as goal
 
-pub returns-then-spans-eq1-clause-fault : goal.returns-then-spans-eq1-clause-fault
-returns-then-spans-eq1-clause-fault c =
-    label_alone (words c.args.text.now c.args.spans.now) (length-map c.args.spans.now (word c.args.text.now) ∙ c.if-spans-eq1.true) c.requires.label
+pub returns-in_default-clause-fault : goal.returns-in_default-clause-fault
+returns-in_default-clause-fault c =
+    let text = c.args.text.now in
+    let none : AreBehind text c.args.at [] = subst (IsNextToken text c.args.at) c.in_default.is c.in_ok-key.ensures.next in
+    label_alone text c.args.at c.args.label.now c.requires.label none
 
 pub returns-in_err-expr-in-Ess-clause-fault : goal.returns-in_err-expr-in-Ess-clause-fault
 returns-in_err-expr-in-Ess-clause-fault c =
-    let p = err_from_is_err_and c.from_residual.result c.from_residual.ensures.1 in
-    rw (p.1, p.2)
-    (labelled_fault_at c.args.text.now c.args.spans.now _ _ (omega arith) c.requires.label c.token.ensures (codes "$e") _ c.in-Ess.ensures refl c.in_err-expr-in-Ess.ensures.fault)
+    let text = c.args.text.now in
+    let label = c.args.label.now in
+    let next : IsTokenBehind text c.args.at c.in-Some.key = subst (IsNextToken text c.args.at) c.in-Some.is c.in_ok-key.ensures.next in
+    let has : HasBetween text c.args.at c.in-Some.key.end (codes "$e" ∷ []) = between_as (ap (λ w. w ∷ []) (sym c.token.ensures ∙ c.in-Ess.ensures)) next.between in
+    let p = err_from_is_err_and c.from_residual-in_err-expr-in-Ess.result c.from_residual-in_err-expr-in-Ess.ensures.1 in
+    rw (p.1, p.2) (fault_back text (label ∷ []) has _ (labelled_list text c.in-Some.key.end label c.requires.label (codes "$e") refl _ c.in_err-expr-in-Ess.ensures.fault))
 
 pub returns-in_err-expr-in-Axiom-clause-fault : goal.returns-in_err-expr-in-Axiom-clause-fault
 returns-in_err-expr-in-Axiom-clause-fault c =
+    let text = c.args.text.now in
+    let label = c.args.label.now in
+    let next : IsTokenBehind text c.args.at c.in-Some.key = subst (IsNextToken text c.args.at) c.in-Some.is c.in_ok-key.ensures.next in
+    let has : HasBetween text c.args.at c.in-Some.key.end (codes "$a" ∷ []) = between_as (ap (λ w. w ∷ []) (sym c.token.ensures ∙ c.in-Axiom.ensures)) next.between in
     let p = err_from_is_err_and c.from_residual-in_err-expr-in-Axiom.result c.from_residual-in_err-expr-in-Axiom.ensures.1 in
-    rw (p.1, p.2)
-    (labelled_fault_at c.args.text.now c.args.spans.now _ _ (omega arith) c.requires.label c.token.ensures (codes "$a") _ c.in-Axiom.ensures refl c.in_err-expr-in-Axiom.ensures.fault)
+    rw (p.1, p.2) (fault_back text (label ∷ []) has _ (labelled_list text c.in-Some.key.end label c.requires.label (codes "$a") refl _ c.in_err-expr-in-Axiom.ensures.fault))
 
-pub returns-in_default : goal.returns-in_default
-returns-in_default c = record {
-  found = tt;
-  fault = second_fault_at c.args.text.now c.args.spans.now _ _ (omega arith) c.requires.label c.token.ensures
-      (key_after_label c.keyword_of.result c.token.result.now c.keyword_of.ensures c.in_default.not-Float c.in_default.not-Ess c.in_default.not-Axiom c.in_default.not-Prove);
-}
+pub returns-in-Float-clause-found : goal.returns-in-Float-clause-found
+returns-in-Float-clause-found c =
+    let text = c.args.text.now in
+    let next : IsTokenBehind text c.args.at c.in-Some.key = subst (IsNextToken text c.args.at) c.in-Some.is c.in_ok-key.ensures.next in
+    let key : HasBetween text c.args.at c.in-Some.key.end (codes "$f" ∷ []) = between_as (ap (λ w. w ∷ []) (sym c.token.ensures ∙ c.in-Float.ensures)) next.between in
+    on_ok c.floating.result (λ r found from later has. found from (omega (arith, later, next.later)) (between_on has key)) c.floating.ensures.found
+
+pub returns-in-Float-clause-fault : goal.returns-in-Float-clause-fault
+returns-in-Float-clause-fault c =
+    let text = c.args.text.now in
+    let next : IsTokenBehind text c.args.at c.in-Some.key = subst (IsNextToken text c.args.at) c.in-Some.is c.in_ok-key.ensures.next in
+    let key : HasBetween text c.args.at c.in-Some.key.end (codes "$f" ∷ []) = between_as (ap (λ w. w ∷ []) (sym c.token.ensures ∙ c.in-Float.ensures)) next.between in
+    on_err c.floating.result (λ fault is. fault_back text (c.args.label.now ∷ []) key fault is) c.floating.ensures.fault
+
+pub returns-in_ok-label-in-Ess-clause-found : goal.returns-in_ok-label-in-Ess-clause-found
+returns-in_ok-label-in-Ess-clause-found c = λ from later has.
+    let text = c.args.text.now in
+    let next : IsTokenBehind text c.args.at c.in-Some.key = subst (IsNextToken text c.args.at) c.in-Some.is c.in_ok-key.ensures.next in
+    let key : HasBetween text c.args.at c.in-Some.key.end (codes "$e" ∷ []) = between_as (ap (λ w. w ∷ []) (sym c.token.ensures ∙ c.in-Ess.ensures)) next.between in
+    let list = c.in_ok-expr-in-Ess.ensures in
+    essential_next c.in_ok-label-in-Ess.label c.args.label.now c.in_ok-label-in-Ess.ensures c.requires.label (omega (arith, later, next.later)) (between_on has key) list.between
+    (are_symbols_of c.in_ok-expr-in-Ess.expr list.symbols list.many)
+
+pub returns-in_ok-label-in-Axiom-clause-found : goal.returns-in_ok-label-in-Axiom-clause-found
+returns-in_ok-label-in-Axiom-clause-found c = λ from later has.
+    let text = c.args.text.now in
+    let next : IsTokenBehind text c.args.at c.in-Some.key = subst (IsNextToken text c.args.at) c.in-Some.is c.in_ok-key.ensures.next in
+    let key : HasBetween text c.args.at c.in-Some.key.end (codes "$a" ∷ []) = between_as (ap (λ w. w ∷ []) (sym c.token.ensures ∙ c.in-Axiom.ensures)) next.between in
+    let list = c.in_ok-expr-in-Axiom.ensures in
+    axiom_next c.in_ok-label-in-Axiom.label c.args.label.now c.in_ok-label-in-Axiom.ensures c.requires.label (omega (arith, later, next.later)) (between_on has key) list.between
+    (are_symbols_of c.in_ok-expr-in-Axiom.expr list.symbols list.many)
+
+pub returns-in-Prove-clause-found : goal.returns-in-Prove-clause-found
+returns-in-Prove-clause-found c =
+    let text = c.args.text.now in
+    let next : IsTokenBehind text c.args.at c.in-Some.key = subst (IsNextToken text c.args.at) c.in-Some.is c.in_ok-key.ensures.next in
+    let key : HasBetween text c.args.at c.in-Some.key.end (codes "$p" ∷ []) = between_as (ap (λ w. w ∷ []) (sym c.token.ensures ∙ c.in-Prove.ensures)) next.between in
+    on_ok c.provable.result (λ r found from later has. found from (omega (arith, later, next.later)) (between_on has key)) c.provable.ensures.found
+
+pub returns-in-Prove-clause-fault : goal.returns-in-Prove-clause-fault
+returns-in-Prove-clause-fault c =
+    let text = c.args.text.now in
+    let next : IsTokenBehind text c.args.at c.in-Some.key = subst (IsNextToken text c.args.at) c.in-Some.is c.in_ok-key.ensures.next in
+    let key : HasBetween text c.args.at c.in-Some.key.end (codes "$p" ∷ []) = between_as (ap (λ w. w ∷ []) (sym c.token.ensures ∙ c.in-Prove.ensures)) next.between in
+    on_err c.provable.result (λ fault is. fault_back text (c.args.label.now ∷ []) key fault is) c.provable.ensures.fault
+
+pub returns-in_default-keyword_of : goal.returns-in_default-keyword_of
+returns-in_default-keyword_of c =
+    let text = c.args.text.now in
+    let next : IsTokenBehind text c.args.at c.in-Some.key = subst (IsNextToken text c.args.at) c.in-Some.is c.in_ok-key.ensures.next in
+    let stop = key_after_label c.keyword_of.result c.token.result.now c.keyword_of.ensures c.in_default-keyword_of.not-Float c.in_default-keyword_of.not-Ess c.in_default-keyword_of.not-Axiom
+    c.in_default-keyword_of.not-Prove in record {
+      found = tt;
+      fault = label_before text c.args.at c.args.label.now c.requires.label _ next.between (ap (step labelled) (sym c.token.ensures) ∙ stop);
+    }

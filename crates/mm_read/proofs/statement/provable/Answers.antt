@@ -1,27 +1,56 @@
-use Rattle.std.proofs.Common.{sym, ◌∙◌, arith}
+use Rattle.std.proofs.Common.{◌≤◌, ◌+◌, ◌∷◌, ◌++◌, [], length, codes, subst, arith, length-append}
 use Rattle.std.proofs.lemmas.Result.{err_from_is_err_and}
-use Rattle.std.proofs.lemmas.List.{length-map}
-use Rattle.mm_lex.specs.Alphabet.{word}
-use Rattle.mm_lex.specs.Tokens.{words}
-use Rattle.mm_read.proofs.FrontLemmas.{provable_front, first_word}
-use Rattle.mm_read.proofs.FrontFaults.{expr_fault, proof_fault}
+use Rattle.mm_lex.proofs.FewLemmas.{between_few}
+use Rattle.mm_read.proofs.StatementsLemmas.{are_symbols_of}
+use Rattle.mm_lex.specs.Between.{StopsBehind}
+use Rattle.mm_lex.proofs.BetweenLemmas.{stops_behind}
+use Rattle.mm_read.specs.Front.{IsListFault, IsListStop}
+use Rattle.mm_read.proofs.AfterFaults.{expr_fault, proof_fault}
+use Rattle.mm_read.proofs.NextLemmas.{provable_next}
 use Rattle.mm_read.proofs.statement.provable.Goals as goal
 
 pub returns-in_err-expr-clause-fault : goal.returns-in_err-expr-clause-fault
 returns-in_err-expr-clause-fault c =
     let p = err_from_is_err_and c.from_residual.result c.from_residual.ensures.1 in
-    rw (p.1, p.2)
-    (expr_fault (words c.args.text.now c.args.spans.now) (omega (arith, length-map c.args.spans.now (word c.args.text.now), c.requires.some)) c.requires.label _ c.requires.keyword c.in_err-expr.ensures.fault)
+    rw (p.1, p.2) (expr_fault c.args.text.now c.args.at c.args.label.now c.requires.label _ c.in_err-expr.ensures.fault)
 
-pub returns-in_err-proof-clause-fault : goal.returns-in_err-proof-clause-fault
-returns-in_err-proof-clause-fault c =
-    let p = err_from_is_err_and c.from_residual-in_err-proof.result c.from_residual-in_err-proof.ensures.1 in
-    rw (p.1, p.2)
-    (proof_fault (words c.args.text.now c.args.spans.now) (omega (arith, length-map c.args.spans.now (word c.args.text.now), c.requires.some)) c.requires.label _ _ _ c.requires.keyword
-    c.in_ok-expr.ensures.found c.in_err-proof.ensures.fault)
+pub returns-in-Ok-clause-found : goal.returns-in-Ok-clause-found
+returns-in-Ok-clause-found c = λ from later has.
+    let expr = c.in_ok-expr.ensures in
+    let proof = c.in-Ok.ensures in
+    provable_next c.in_ok-label-in-Ok.label c.args.label.now c.in_ok-label-in-Ok.ensures c.requires.label later has expr.between proof.between
+    (are_symbols_of c.in_ok-expr.expr expr.symbols expr.many) proof.symbols
 
-pub returns-clause-found : goal.returns-clause-found
-returns-clause-found c =
-    provable_front (words c.args.text.now c.args.spans.now) c.in_ok-label.label (omega (arith, length-map c.args.spans.now (word c.args.text.now), c.requires.some))
-    (c.in_ok-label.ensures ∙ (c.token.ensures ∙ sym (first_word c.args.text.now c.args.spans.now _ (omega (arith, c.requires.some))))) c.requires.label
-    _ _ _ _ c.requires.keyword c.in_ok-expr.ensures.found c.in_ok-proof.ensures.found
+pub overflow_add-result : goal.overflow_add-result
+overflow_add-result c =
+    let expr = c.in_ok-expr.expr in
+    let has = c.in_ok-expr.ensures.between in
+    let few = between_few c.args.text.now c.args.at c.in_ok-expr.after (expr ++ codes "$=" ∷ []) has in
+    omega (arith, few, length-append expr (codes "$=" ∷ []), has.within, c.len.ensures)
+
+pub overflow_add-result-in-Err-Shape : goal.overflow_add-result-in-Err-Shape
+overflow_add-result-in-Err-Shape c =
+    let text = c.args.text.now in
+    let expr = c.in_ok-expr.expr in
+    let has = c.in_ok-expr.ensures.between in
+    let few : length (expr ++ codes "$=" ∷ []) + c.args.at ≤ c.in_ok-expr.after = between_few text c.args.at c.in_ok-expr.after (expr ++ codes "$=" ∷ []) has in
+    let is : IsListStop text c.in_ok-expr.after 1 0 (codes "$.") c.in-Err-Shape.token =
+    subst (λ f. IsListFault text c.in_ok-expr.after 1 0 (codes "$.") f) c.in-Err-Shape.field-0-is c.in-Err-Shape.ensures.fault in
+    rw c.in-Err-Shape.field-0-is (omega (arith, few, is.few, length-append expr (codes "$=" ∷ []), has.within, c.len.ensures))
+
+pub returns-in-Err-Shape-clause-fault : goal.returns-in-Err-Shape-clause-fault
+returns-in-Err-Shape-clause-fault c =
+    let text = c.args.text.now in
+    let expr = c.in_ok-expr.ensures in
+    let is : IsListStop text c.in_ok-expr.after 1 0 (codes "$.") c.in-Err-Shape.token =
+    subst (λ f. IsListFault text c.in_ok-expr.after 1 0 (codes "$.") f) c.in-Err-Shape.field-0-is c.in-Err-Shape.ensures.fault in
+    rw (c.in-Err-Shape.field-0-is, c.len.ensures)
+    (proof_fault text c.args.at c.args.label.now c.requires.label c.in_ok-expr.expr expr.symbols expr.many expr.between c.in-Err-Shape.token is)
+
+pub returns-in-Err-Text-clause-fault : goal.returns-in-Err-Text-clause-fault
+returns-in-Err-Text-clause-fault c =
+    let text = c.args.text.now in
+    let expr = c.in_ok-expr.ensures in
+    let is : StopsBehind text c.in_ok-expr.after c.in-Err-Text.fault =
+    subst (λ f. IsListFault text c.in_ok-expr.after 1 0 (codes "$.") f) c.in-Err-Text.field-0-is c.in-Err-Text.ensures.fault in
+    rw c.in-Err-Text.field-0-is (stops_behind expr.between c.in-Err-Text.fault is)

@@ -1,0 +1,89 @@
+-- A list of symbols, piece by piece and word by word.
+use Rattle.std.specs.Prelude.{◌≡◌, ℕ, ◌+◌, ◌-◌, ◌<◌, ◌≤◌, true, false, List, [], ◌∷◌, ◌++◌, length, take, drop, refl}
+use Rattle.std.specs.List.{list_all}
+use Rattle.std.proofs.Common.{sym, ◌∙◌, ap, arith, append_assoc}
+use Rattle.std.proofs.lemmas.List.{append-nil}
+use Rattle.std.proofs.lemmas.List.Folds.{list_all-append}
+use Rattle.mm_lex.specs.declared.span.Span.{Span}
+use Rattle.mm_lex.specs.Alphabet.{Name, starts_white, word, is_symbol}
+use Rattle.mm_lex.specs.Words.{words_of, AreWords}
+use Rattle.mm_lex.specs.Tokens.{IsClean, words}
+use Rattle.mm_lex.specs.Comments.{runs_behind}
+use Rattle.mm_lex.specs.Stretch.{stretch}
+use Rattle.mm_lex.specs.Between.{AreBehind, IsTokenBehind}
+use Rattle.mm_lex.specs.SymbolList.{AddsSymbols, EndsSymbols}
+use Rattle.mm_lex.proofs.CuttingMeans.{and_both}
+use Rattle.mm_lex.proofs.LanesLemmas.{clean-drop}
+use Rattle.mm_lex.proofs.SymbolsLemmas.{IsFrontOf, stretch_front, symbols_words}
+use Rattle.mm_lex.proofs.BetweenLemmas.{between_none, between_on, between_as, between_plain, between_runs, behind_on, behind_as}
+
+module _ {text : List ℕ} where
+  pub adds_none : (at : ℕ) (words : List Name) → at ≤ length text → AddsSymbols text at at words words
+  adds_none at words within = record { more = []; whole = sym (append-nil words); between = between_none at within; symbols = refl }
+
+  -- and on from there
+  pub adds_on : {from at end : ℕ} {old new last : List Name} → AddsSymbols text from at old new → AddsSymbols text at end new last → AddsSymbols text from end old last
+  adds_on {old = old} adds on = record {
+    more = adds.more ++ on.more;
+    whole = on.whole ∙ (ap (λ r. r ++ on.more) adds.whole ∙ append_assoc old adds.more on.more);
+    between = between_on adds.between on.between;
+    symbols = list_all-append is_symbol adds.more on.more ∙ and_both _ _ adds.symbols on.symbols;
+  }
+
+  -- white bytes
+  pub adds_white : (at start : ℕ) (words : List Name) → at ≤ start → start ≤ length text → runs_behind text at ≡ runs_behind text start → AddsSymbols text at start words words
+  adds_white at start words later within same = record { more = []; whole = sym (append-nil words); between = between_runs at start later within same; symbols = refl }
+
+  -- one symbol more
+  pub adds_word : (at : ℕ) (s : Span) (w : Name) (old new : List Name) → IsTokenBehind text at s → w ≡ word text s → is_symbol w ≡ true → new ≡ old ++ w ∷ []
+      → AddsSymbols text at s.end old new
+  adds_word at s w old new is same symbol e = record {
+    more = w ∷ [];
+    whole = e;
+    between = between_as (ap (λ v. v ∷ []) (sym same)) is.between;
+    symbols = and_both _ _ symbol refl;
+  }
+
+  -- the symbols of a list that was empty
+  module _ {from at : ℕ} {words : List Name} (adds : AddsSymbols text from at [] words) where
+    pub all_symbols : list_all is_symbol words ≡ true
+    all_symbols = ap (list_all is_symbol) adds.whole ∙ adds.symbols
+
+    pub ends_with : (s : Span) → IsTokenBehind text at s → is_symbol (word text s) ≡ false → EndsSymbols text from words s
+    ends_with s is other = record {
+      token = is.token;
+      later = omega (arith, adds.between.later, is.later);
+      between = between_as (ap (λ r. r ++ word text s ∷ []) (sym adds.whole)) (between_on adds.between is.between);
+      other = other;
+    }
+
+    pub ends_text : AreBehind text at [] → AreBehind text from words
+    ends_text none = behind_as from (append-nil adds.more ∙ sym adds.whole) (behind_on adds.between none)
+
+module _ (text : List ℕ) where
+  -- a stretch
+  module _ (start end n : ℕ) (clean : IsClean text) (shown : starts_white (drop start text) ≡ false) (is : n ≡ stretch (drop start text)) (some : 0 < n)
+      (same : end ≡ start + n) (within : end ≤ length text) (white : starts_white (drop end text) ≡ true) where
+    front : IsFrontOf text start n (take n (drop start text))
+    front = stretch_front text start n (clean-drop start text clean) shown is some (omega (arith, same, within)) (ap (λ k. starts_white (drop k text)) (sym same) ∙ white)
+
+    width : end - start ≡ n
+    width = omega (arith, same)
+
+    abbrev piece : List ℕ
+    piece = take (end - start) (drop start text)
+
+    piece_is : words_of (take n (drop start text)) ≡ words_of piece
+    piece_is = ap (λ k. words_of (take k (drop start text))) (sym width)
+
+    pub stretch_words : AreWords (words_of piece)
+    stretch_words = symbols_words (words_of piece) (ap (list_all is_symbol) (sym piece_is) ∙ front.symbols)
+
+    pub stretch_adds : (old new : List Name) → new ≡ old ++ words_of piece → AddsSymbols text start end old new
+    stretch_adds old new e = record {
+      more = words_of piece;
+      whole = e;
+      between = between_as (front.are ∙ piece_is) (between_plain start end front.spans (omega (arith, same)) within
+          (front.whole ∙ ap (λ k. front.spans ++ runs_behind text k) (sym same)) front.plain);
+      symbols = ap (list_all is_symbol) (sym piece_is) ∙ front.symbols;
+    }

@@ -1,0 +1,10 @@
+use Rattle.std.proofs.Common.{◌≡◌, ◌-◌, ◌≤◌, length, List}
+use Rattle.mm_lex.specs.Alphabet.{Name}
+use Rattle.mm_lex.specs.Between.{HasBetween}
+use Rattle.mm_lex.proofs.walk.count_tokens.Given as goal
+
+abbrev pub invariant-loop-span : goal.invariant-loop-span
+invariant-loop-span l = (ws : List Name) × HasBetween l.text l.at l.from ws × (length ws ≡ l.count) × (l.count ≤ l.from)
+
+abbrev pub decreases-loop-span : goal.decreases-loop-span
+decreases-loop-span l = length l.text - l.from

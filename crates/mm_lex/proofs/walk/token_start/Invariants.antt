@@ -1,9 +1,0 @@
-use Rattle.std.proofs.Common.{[], ◌-◌, length}
-use Rattle.mm_lex.specs.Between.{HasBetween}
-use Rattle.mm_lex.proofs.walk.token_start.Given as goal
-
-abbrev pub invariant-loop-run : goal.invariant-loop-run
-invariant-loop-run l = HasBetween l.text l.at l.from []
-
-abbrev pub decreases-loop-run : goal.decreases-loop-run
-decreases-loop-run l = length l.text - l.from

@@ -1,0 +1,140 @@
+-- Why no statement stands behind a place: by the tokens that stand before it, and what the parts of the statement tell.
+use Rattle.std.specs.Prelude.{◌≡◌, ℕ, Bool, ◌+◌, ◌≤◌, true, false, List, [], ◌∷◌, ◌++◌, length, Some, None, codes}
+use Rattle.std.specs.List.{list_all}
+use Rattle.std.specs.Option.{option_and_then}
+use Rattle.std.proofs.Common.{sym, ◌∙◌, ap, arith, refl, subst, append_assoc, length-append}
+use Rattle.mm_lex.specs.declared.fault.LexFault.{LexFault}
+use Rattle.mm_lex.specs.declared.fault.LexFault.TheVariants as lex
+use Rattle.mm_lex.specs.Alphabet.{Name, name_eq, is_symbol, is_label}
+use Rattle.mm_lex.specs.Between.{HasBetween, AreBehind, StopsBehind}
+use Rattle.mm_lex.proofs.BetweenLemmas.{behind_rest, behind_unique, stops_behind, between_on}
+use Rattle.mm_read.specs.declared.fault.ReadFault.{ReadFault}
+use Rattle.mm_read.specs.declared.fault.ReadFault.TheVariants.{Text, Shape, Memory}
+use Rattle.mm_read.specs.Reads.{IsShapeFault, read_fault}
+use Rattle.mm_read.specs.Front.{StopsList, IsListStop, IsListFault, StartsOtherwise, IsTokenFault}
+use Rattle.mm_read.specs.Next.{IsFaultAfter}
+use Rattle.mm_read.proofs.Places.{Place, between, labelled, listing, floating, proving, step, go}
+use Rattle.mm_read.proofs.PlacesOver.{go-label, go-proving}
+use Rattle.mm_read.proofs.ShapeFaults.{stops_at}
+use Rattle.mm_read.proofs.FrontFaults.{Stuck, stuck, list_stops, expr_stops, step-floating_symbol, step-floating_end, go-floating_one, go-floating_two}
+
+goes_on : (label : Name) → is_label label ≡ true → (k : Name) (p : Place) (ws : List Name) → step labelled k ≡ Some p → go between (label ∷ k ∷ ws) ≡ go p ws
+goes_on label is_one k p ws e = go-label label (k ∷ ws) is_one ∙ ap (option_and_then (λ q. go q ws)) e
+
+module _ (text : List ℕ) where
+  -- ---- from a place back to an earlier one
+
+  pub fault_back : {from at : ℕ} {ws : List Name} (before : List Name) → HasBetween text from at ws → (fault : ReadFault) → IsFaultAfter text (before ++ ws) at fault
+      → IsFaultAfter text before from fault
+  fault_back before has (Text fault) is = stops_behind has fault is
+  fault_back {from} {at} {ws} before has (Shape token) is = λ tokens are.
+      let r : (us : List Name) × AreBehind text at us × (tokens ≡ ws ++ us) = behind_rest has are in
+      subst (λ ts. IsShapeFault ts token) (append_assoc before ws r.0 ∙ ap (λ ts. before ++ ts) (sym r.2)) (is r.0 r.1)
+  fault_back before has Memory is = tt
+
+  -- a fault of the comments
+  pub comments_after : (at : ℕ) (before : List Name) (fault : LexFault) → StopsBehind text at fault → IsFaultAfter text before at (read_fault fault)
+  comments_after at before (lex.Text offset) is = is
+  comments_after at before (lex.Comment offset) is = is
+  comments_after at before lex.Memory is = tt
+
+  -- ---- at one token
+
+  module _ (at : ℕ) (done : List Name) (p : Place) (goes : go between done ≡ Some p) (inside : p ≡ between → ⊥) where
+    -- none is left
+    pub none_after : AreBehind text at [] → IsFaultAfter text done at (Shape (length done + 1))
+    none_after none = λ tokens are. stuck (done ++ tokens) done tokens p refl goes inside (subst (Stuck p) (behind_unique at none are) tt)
+
+    -- another stands there
+    pub other_after : {end : ℕ} (t : Name) → HasBetween text at end (t ∷ []) → step p t ≡ None → IsFaultAfter text done at (Shape (length done + 1))
+    other_after {end} t has stop = λ tokens are.
+        let r : (us : List Name) × AreBehind text end us × (tokens ≡ t ∷ us) = behind_rest has are in
+        stuck (done ++ tokens) done tokens p refl goes inside (subst (Stuck p) (sym r.2) stop)
+
+    pub token_after : (number : ℕ) (fits : Name → Bool) (fault : ReadFault) → number ≡ length done + 1 → ((t : Name) → fits t ≡ false → step p t ≡ None)
+        → IsTokenFault text at number fits fault → IsFaultAfter text done at fault
+    token_after number fits (Text fault) long stop is = is
+    token_after number fits (Shape token) long stop is = λ tokens are.
+        subst (IsShapeFault (done ++ tokens)) (sym long ∙ sym is.0) (stuck (done ++ tokens) done tokens p refl goes inside (by tokens (is.1 tokens are)))
+      where
+        by : (tokens : List Name) → StartsOtherwise fits tokens → Stuck p tokens
+        by [] starts = tt
+        by (t ∷ rest) starts = stop t starts
+    token_after number fits Memory long stop is = tt
+
+  -- ---- in a list
+
+  module _ (at : ℕ) (done : List Name) (number least : ℕ) (long : number ≡ length done + 1) where
+    pub list_after : go between done ≡ Some (listing least) → (fault : ReadFault) → IsListFault text at number least (codes "$.") fault → IsFaultAfter text done at fault
+    list_after goes (Text fault) is = is
+    list_after goes (Shape token) is = λ tokens are. list_stops done tokens number least long token goes (is.stops tokens are)
+    list_after goes Memory is = tt
+
+    pub expr_after : go between done ≡ Some (proving least) → (fault : ReadFault) → IsListFault text at number least (codes "$=") fault → IsFaultAfter text done at fault
+    expr_after goes (Text fault) is = is
+    expr_after goes (Shape token) is = λ tokens are. expr_stops done tokens number least long token goes (is.stops tokens are)
+    expr_after goes Memory is = tt
+
+  -- ---- behind a label
+
+  module _ (at : ℕ) (label : Name) (is_one : is_label label ≡ true) where
+    pub label_alone : AreBehind text at [] → IsFaultAfter text (label ∷ []) at (Shape 2)
+    label_alone none = none_after at (label ∷ []) labelled (go-label label [] is_one) (λ bad. cc) none
+
+    pub label_before : {end : ℕ} (t : Name) → HasBetween text at end (t ∷ []) → step labelled t ≡ None → IsFaultAfter text (label ∷ []) at (Shape 2)
+    label_before t has stop = other_after at (label ∷ []) labelled (go-label label [] is_one) (λ bad. cc) t has stop
+
+    -- `$e` and `$a`
+    pub labelled_list : (k : Name) → step labelled k ≡ Some (listing 1) → (fault : ReadFault) → IsListFault text at 3 1 (codes "$.") fault → IsFaultAfter text (label ∷ k ∷ []) at fault
+    labelled_list k e fault is = list_after at (label ∷ k ∷ []) 3 1 refl (goes_on label is_one k (listing 1) [] e) fault is
+
+    -- `$f`
+    pub constant_fault : (fault : ReadFault) → IsTokenFault text at 3 is_symbol fault → IsFaultAfter text (label ∷ codes "$f" ∷ []) at fault
+    constant_fault fault is =
+        token_after at (label ∷ codes "$f" ∷ []) (floating 2) (goes_on label is_one (codes "$f") (floating 2) [] refl) (λ bad. cc) 3 is_symbol fault refl (λ t e. step-floating_symbol 1 t e) is
+
+    pub variable_fault : {after : ℕ} (c : Name) → is_symbol c ≡ true → HasBetween text at after (c ∷ []) → (fault : ReadFault) → IsTokenFault text after 4 is_symbol fault
+        → IsFaultAfter text (label ∷ codes "$f" ∷ []) at fault
+    variable_fault {after} c symbol has fault is =
+        fault_back (label ∷ codes "$f" ∷ []) has fault
+        (token_after after (label ∷ codes "$f" ∷ c ∷ []) (floating 1) (goes_on label is_one (codes "$f") (floating 2) (c ∷ []) refl ∙ go-floating_one c symbol) (λ bad. cc) 4 is_symbol fault refl
+        (λ t e. step-floating_symbol 0 t e) is)
+
+    pub end_fault : {after behind : ℕ} (c v : Name) → is_symbol c ≡ true → is_symbol v ≡ true → HasBetween text at after (c ∷ []) → HasBetween text after behind (v ∷ [])
+        → (fault : ReadFault) → IsTokenFault text behind 5 (λ w. name_eq w (codes "$.")) fault → IsFaultAfter text (label ∷ codes "$f" ∷ []) at fault
+    end_fault {after} {behind} c v symbol other has next fault is =
+        fault_back (label ∷ codes "$f" ∷ []) (between_on has next) fault
+        (token_after behind (label ∷ codes "$f" ∷ c ∷ v ∷ []) (floating 0) (goes_on label is_one (codes "$f") (floating 2) (c ∷ v ∷ []) refl ∙ go-floating_two c v symbol other) (λ bad. cc) 5
+        (λ w. name_eq w (codes "$.")) fault refl (λ t e. step-floating_end t e) is)
+
+    -- `$p`
+    pub expr_fault : (fault : ReadFault) → IsListFault text at 3 1 (codes "$=") fault → IsFaultAfter text (label ∷ codes "$p" ∷ []) at fault
+    expr_fault fault is = expr_after at (label ∷ codes "$p" ∷ []) 3 1 refl (goes_on label is_one (codes "$p") (proving 1) [] refl) fault is
+
+    module _ {after : ℕ} (expr : List Name) (symbols : list_all is_symbol expr ≡ true) (many : 1 ≤ length expr) (has : HasBetween text at after (expr ++ codes "$=" ∷ [])) where
+      pub proof_fault : (token : ℕ) → IsListStop text after 1 0 (codes "$.") token → IsFaultAfter text (label ∷ codes "$p" ∷ []) at (Shape (3 + length expr + token))
+      proof_fault token is =
+          let done = label ∷ codes "$p" ∷ (expr ++ codes "$=" ∷ []) in
+          let goes : go between done ≡ Some (listing 0) = goes_on label is_one (codes "$p") (proving 1) (expr ++ codes "$=" ∷ []) refl ∙ go-proving 1 expr (codes "$=" ∷ []) symbols many in
+          fault_back (label ∷ codes "$p" ∷ []) has (Shape (3 + length expr + token))
+          (λ tokens are.
+          let s = is.stops tokens are in
+          let moved : StopsList tokens (length done + 1) 0 (codes "$.") (3 + length expr + token) = record {
+            ws = s.ws;
+            rest = s.rest;
+            symbols = s.symbols;
+            whole = s.whole;
+            place = omega (arith, s.place, length-append expr (codes "$=" ∷ []));
+            stop = s.stop;
+          } in
+          list_stops done tokens (length done + 1) 0 refl (3 + length expr + token) goes moved)
+
+-- ---- at the first token
+
+pub first_misfit : (text : List ℕ) (at : ℕ) (t : Name) → step between t ≡ None → IsFaultAfter text (t ∷ []) at (Shape 1)
+first_misfit text at t stop = λ tokens are. stops_at [] tokens t between refl stop
+
+pub keyed_list : (text : List ℕ) (at : ℕ) (t k : Name) (least : ℕ) → t ≡ k → step between k ≡ Some (listing least) → (fault : ReadFault)
+    → IsListFault text at 2 least (codes "$.") fault → IsFaultAfter text (t ∷ []) at fault
+keyed_list text at t k least same e fault is =
+    list_after text at (t ∷ []) 2 least refl (ap (λ w. option_and_then (λ q. go q []) (step between w)) same ∙ ap (option_and_then (λ q. go q [])) e) fault is

@@ -1,0 +1,100 @@
+-- Statement by statement from place to place: what stands between two places writes a statement, and the statements so far.
+use Rattle.std.specs.Prelude.{◌≡◌, ℕ, ◌+◌, ◌<◌, true, List, [], ◌∷◌, ◌++◌, length, codes, Result, Ok, Err, IfOk, IfErr, refl}
+use Rattle.std.specs.List.{list_all}
+use Rattle.std.proofs.Common.{sym, ◌∙◌, ap, arith, length-append}
+use Rattle.mm_lex.specs.Alphabet.{Name, is_symbol, is_label}
+use Rattle.mm_lex.specs.Tokens.{IsClean}
+use Rattle.mm_lex.specs.Between.{HasBetween, AreBehind, CountBehind}
+use Rattle.mm_lex.proofs.BetweenLemmas.{between_on, between_as, behind_on, behind_as, behind_unique}
+use Rattle.mm_lex.proofs.CuttingMeans.{and_both}
+use Rattle.mm_read.specs.declared.stmt.Stmt.{Stmt}
+use Rattle.mm_read.specs.declared.stmt.Stmt.TheVariants.{Float, Ess, Axiom, Prove}
+use Rattle.mm_read.specs.Statements.{Database, are_symbols, is_shaped, stmt_tokens, spelled}
+use Rattle.mm_read.specs.Reads.{Reads}
+use Rattle.mm_read.specs.Next.{IsNext, IsOneMore, AreBefore}
+use Rattle.mm_read.proofs.StatementsLemmas.{append_middle}
+use Rattle.mm_read.proofs.StatementByStatement.{spelled-append, shaped-append}
+use Rattle.mm_read.proofs.ShapeFaults.{append-nil}
+
+module _ {text : List ℕ} where
+  -- tokens before a keyword that is this word
+  pub behind_word : {from at end : ℕ} {before : List Name} {word key : Name} → HasBetween text from at before → word ≡ key → HasBetween text at end (word ∷ []) → HasBetween text from end (before ++ key ∷ [])
+  behind_word {before = before} has e next = between_as (ap (λ w. before ++ w ∷ []) e) (between_on has next)
+
+  -- a statement that ends with a list
+  pub listed_next : {from at next : ℕ} {before ws : List Name} (s : Stmt) → from < at → HasBetween text from at before → HasBetween text at next ws → stmt_tokens s ≡ before ++ ws → is_shaped s ≡ true → IsNext text from s next
+  listed_next s later has list e shaped = record {
+    shaped = shaped;
+    later = omega (arith, later, list.later);
+    between = between_as (sym e) (between_on has list);
+  }
+
+  -- the first token, and then a list
+  pub keyed_next : {from at next : ℕ} {word : Name} {list : List Name} (key : Name) → word ≡ key → from < at → HasBetween text from at (word ∷ []) → HasBetween text at next list
+      → (s : Stmt) → stmt_tokens s ≡ key ∷ list → is_shaped s ≡ true → IsNext text from s next
+  keyed_next key e later has list s is shaped = listed_next s later (between_as (ap (λ w. w ∷ []) e) has) list is shaped
+
+  module _ {from at : ℕ} (label old : Name) (same : label ≡ old) (is : is_label old ≡ true) (later : from < at) where
+    -- `$e` and `$a`
+    pub essential_next : {next : ℕ} {expr : List Name} → HasBetween text from at (old ∷ codes "$e" ∷ []) → HasBetween text at next (expr ++ codes "$." ∷ []) → are_symbols expr ≡ true
+        → IsNext text from (Ess label expr) next
+    essential_next {expr = expr} has list symbols =
+        listed_next (Ess label expr) later has list (ap (λ l. l ∷ codes "$e" ∷ (expr ++ codes "$." ∷ [])) same) (and_both _ _ (ap is_label same ∙ is) symbols)
+
+    pub axiom_next : {next : ℕ} {expr : List Name} → HasBetween text from at (old ∷ codes "$a" ∷ []) → HasBetween text at next (expr ++ codes "$." ∷ []) → are_symbols expr ≡ true
+        → IsNext text from (Axiom label expr) next
+    axiom_next {expr = expr} has list symbols =
+        listed_next (Axiom label expr) later has list (ap (λ l. l ∷ codes "$a" ∷ (expr ++ codes "$." ∷ [])) same) (and_both _ _ (ap is_label same ∙ is) symbols)
+
+    -- `$f`
+    pub floating_next : {after behind next : ℕ} {constant variable : Name} → HasBetween text from at (old ∷ codes "$f" ∷ []) → HasBetween text at after (constant ∷ [])
+        → HasBetween text after behind (variable ∷ []) → HasBetween text behind next (codes "$." ∷ []) → is_symbol constant ≡ true → is_symbol variable ≡ true
+        → IsNext text from (Float label constant variable) next
+    floating_next {constant = constant} {variable = variable} has first second last c v =
+        listed_next (Float label constant variable) later has (between_on first (between_on second last))
+        (ap (λ l. l ∷ codes "$f" ∷ constant ∷ variable ∷ codes "$." ∷ []) same)
+        (and_both _ _ (and_both _ _ (ap is_label same ∙ is) c) v)
+
+    -- `$p`
+    pub provable_next : {after next : ℕ} {expr proof : List Name} → HasBetween text from at (old ∷ codes "$p" ∷ []) → HasBetween text at after (expr ++ codes "$=" ∷ [])
+        → HasBetween text after next (proof ++ codes "$." ∷ []) → are_symbols expr ≡ true → list_all is_symbol proof ≡ true → IsNext text from (Prove label expr proof) next
+    provable_next {expr = expr} {proof = proof} has first list symbols steps =
+        listed_next (Prove label expr proof) later has (between_on first list)
+        (ap (λ l. l ∷ codes "$p" ∷ (expr ++ codes "$=" ∷ (proof ++ codes "$." ∷ []))) same
+        ∙ ap (λ r. old ∷ codes "$p" ∷ r) (sym (append_middle expr (codes "$=") [] (proof ++ codes "$." ∷ []))))
+        (and_both _ _ (and_both _ _ (ap is_label same ∙ is) symbols) steps)
+
+  -- `${` and `$}`
+  pub bare_next : {from at : ℕ} {word : Name} (s : Stmt) (key : Name) → word ≡ key → from < at → HasBetween text from at (word ∷ []) → stmt_tokens s ≡ key ∷ [] → is_shaped s ≡ true
+      → IsNext text from s at
+  bare_next s key e later has is shaped = record { shaped = shaped; later = later; between = between_as (ap (λ w. w ∷ []) e ∙ sym is) has }
+
+  -- ---- the statements so far
+
+  pub before_more : {at next : ℕ} {old new : Database} → AreBefore text at old → IsOneMore text at next old new → AreBefore text next new
+  before_more {old = old} are more = record {
+    shaped = ap (list_all is_shaped) more.whole ∙ shaped-append old (more.statement ∷ []) are.shaped (and_both _ _ more.next_is.shaped refl);
+    between = between_as (ap (λ r. spelled old ++ r) (sym (append-nil (stmt_tokens more.statement))) ∙ (sym (spelled-append old (more.statement ∷ [])) ∙ ap spelled (sym more.whole)))
+        (between_on are.between more.next_is.between);
+  }
+
+  -- all of them
+  pub reads_all : (at : ℕ) (S : Database) → IsClean text → AreBefore text at S → AreBehind text at [] → Reads text S
+  reads_all at S clean are none =
+      let all : AreBehind text 0 (spelled S) = behind_as 0 (append-nil (spelled S)) (behind_on are.between none) in
+      record { shaped = are.shaped; tokens = (all.0, (clean, all.1), all.2) }
+
+-- the tokens of the text are those of the statements and those behind them
+pub count_before : (text : List ℕ) (at : ℕ) (S : Database) → AreBefore text at S → (n m : ℕ) → CountBehind text at n → CountBehind text 0 m → m ≡ length (spelled S) + n
+count_before text at S are n m rest all =
+    let whole : AreBehind text 0 (spelled S ++ rest.0) = behind_on are.between rest.1 in
+    let same : spelled S ++ rest.0 ≡ all.0 = behind_unique 0 whole all.1 in
+    omega (arith, ap length same, length-append (spelled S) rest.0, rest.2, all.2)
+
+pub on_ok : {A E : Type 0} {P Q : A → Type 0} (r : Result A E) → ((x : A) → P x → Q x) → IfOk r P → IfOk r Q
+on_ok (Ok x) f h = f x h
+on_ok (Err x) f h = tt
+
+pub on_err : {A E : Type 0} {P Q : E → Type 0} (r : Result A E) → ((x : E) → P x → Q x) → IfErr r P → IfErr r Q
+on_err (Ok x) f h = tt
+on_err (Err x) f h = f x h

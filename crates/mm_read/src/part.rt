@@ -1,0 +1,97 @@
+//! The parts of a statement, each behind a place of the text.
+ghost use Rattle.std.specs.Prelude.{◌≡◌, ◌<◌, ◌≤◌, ◌∷◌, ◌++◌, [], length, nat_le, IsTrue, IfOk, IfErr};
+ghost use Rattle.std.specs.List.{list_all};
+ghost use Rattle.mm_lex.specs.Alphabet.{name_eq, is_symbol};
+ghost use Rattle.mm_lex.specs.Tokens.{IsClean};
+ghost use Rattle.mm_lex.specs.Between.{HasBetween};
+ghost use Rattle.mm_read.specs.Front.{IsListFault, IsTokenFault};
+
+use crate::fault::ReadFault;
+use crate::keyword::token;
+use mm_lex::{Word, Words, is_symbol, next_token, symbols};
+use std::alloc::Global;
+
+/// The symbols behind `at`, at least `least`, up to the token `end`, and the place of the byte behind that.
+///
+/// `number` is that of the first token behind `at` in its statement. Errors: `Text`, where the comments are at fault
+/// before the end of the list; the number of the token that does not fit; `Memory`.
+pub fn symbols_until(
+    alloc: Global,
+    text: &[u8],
+    at: usize,
+    number: usize,
+    least: usize,
+    end: &[u8],
+) -> Result<(Words, usize), ReadFault>
+    requires clean { IsClean text.now }
+    requires place { at ≤ length text.now }
+    requires number { number ≤ 3 }
+    ensures symbols { IfOk result (λ r. IsTrue (list_all is_symbol r.0)) }
+    ensures many { IfOk result (λ r. least ≤ length r.0) }
+    ensures between { IfOk result (λ r. HasBetween text.now at r.1 (r.0 ++ end.now ∷ [])) }
+    ensures later { IfOk result (λ r. at < r.1) }
+    ensures fault { IfErr result (IsListFault text.now at number least end.now) }
+{
+    let (words, stop) = symbols(alloc, text, at)?;
+    if let Some(span) = stop {
+        if token(text, span) == end && has_least(&words, least) {
+            return Ok((words, span.end));
+        }
+    }
+    Err(ReadFault::Shape {
+        token: number + words.len(),
+    })
+}
+
+/// Whether there are so many words. Cost: none where up to one is asked for, and else the size of their text.
+fn has_least(words: &Words, least: usize) -> bool
+    ensures { result ≡ nat_le least (length words.now) }
+{
+    match least {
+        0 => true,
+        1 => !words.is_empty(),
+        _ => words.len() >= least,
+    }
+}
+
+/// The next token as a word, if it is a symbol, and the place of the byte behind it.
+///
+/// `number` is that of the token in its statement.
+pub fn next_symbol(
+    alloc: Global,
+    text: &[u8],
+    at: usize,
+    number: usize,
+) -> Result<(Word, usize), ReadFault>
+    requires clean { IsClean text.now }
+    requires place { at ≤ length text.now }
+    ensures symbol { IfOk result (λ r. IsTrue (is_symbol r.0)) }
+    ensures between { IfOk result (λ r. HasBetween text.now at r.1 (r.0 ∷ [])) }
+    ensures fault { IfErr result (IsTokenFault text.now at number is_symbol) }
+{
+    if let Some(span) = next_token(text, at)? {
+        let word = token(text, span);
+        if is_symbol(word) {
+            let symbol = Word::new(alloc, word)?;
+            return Ok((symbol, span.end));
+        }
+    }
+    Err(ReadFault::Shape { token: number })
+}
+
+/// The place behind the next token, if it is `end`.
+///
+/// `number` is that of the token in its statement.
+pub fn pass_token(text: &[u8], at: usize, number: usize, end: &[u8]) -> Result<usize, ReadFault>
+    requires clean { IsClean text.now }
+    requires place { at ≤ length text.now }
+    ensures between { IfOk result (λ next. HasBetween text.now at next (end.now ∷ [])) }
+    ensures fault { IfErr result (IsTokenFault text.now at number (λ w. name_eq w end.now)) }
+{
+    if let Some(span) = next_token(text, at)? {
+        if token(text, span) == end {
+            return Ok(span.end);
+        }
+    }
+    Err(ReadFault::Shape { token: number })
+}
