@@ -1,13 +1,13 @@
 -- From place to place in a text: what stands between two places, and between a third one; and what then stands behind them.
-use Rattle.std.specs.Prelude.{◌≡◌, ℕ, ◌<◌, ◌≤◌, true, List, [], ◌∷◌, ◌++◌, length, flat_map, None, Ok, Err, refl}
-use Rattle.std.proofs.Common.{sym, ◌∙◌, ap, arith, subst, append_assoc, length-append, drop-cons}
-use Rattle.std.proofs.lemmas.List.{append-nil, map-append, length-map}
+use Rattle.std.specs.Prelude.{◌≡◌, ℕ, ◌≤◌, true, List, [], ◌∷◌, ◌++◌, length, flat_map, None, Ok, Err, refl}
+use Rattle.std.proofs.Common.{sym, ◌∙◌, ap, arith, subst, append_assoc}
+use Rattle.std.proofs.lemmas.List.{append-nil, map-append}
 use Rattle.std.proofs.Math.Seq.{drop-length}
 use Rattle.mm_lex.specs.declared.span.Span.{Span}
 use Rattle.mm_lex.specs.declared.fault.LexFault.{LexFault}
 use Rattle.mm_lex.specs.declared.fault.LexFault.TheVariants.{Text, Comment, Memory}
-use Rattle.mm_lex.specs.Alphabet.{Name, is_white, starts_white, with_byte, word, runs_from, IsRunAt}
-use Rattle.mm_lex.specs.Tokens.{opener, closer, is_plain, AllPlain, Part, part_spans, AreParts, Cuts, words}
+use Rattle.mm_lex.specs.Alphabet.{Name, word, runs_from, IsRunAt}
+use Rattle.mm_lex.specs.Tokens.{opener, is_plain, AllPlain, Part, part_spans, AreParts, Cuts, words}
 use Rattle.mm_lex.specs.Faults.{StopsAt}
 use Rattle.mm_lex.specs.Comments.{runs_behind, IsClosedAt}
 use Rattle.mm_lex.specs.Between.{HasBetween, AreBehind, StopsBehind, FailsBehind}
@@ -152,9 +152,11 @@ module _ {text : List ℕ} where
         by : (r : Outcome) → scan text (runs_behind text at) None ≡ r → (us : List Name) × AreBehind text at us × (vs ≡ ws ++ us)
         by (Ok rest) e =
             let same : ◌≡◌ {A = Outcome} (Ok are.0) (Ok (has.tokens ++ rest)) = sym all ∙ (between_scan ∙ ap (prepend has.tokens) e) in
-            let these : are.0 ≡ has.tokens ++ rest = cc in
-            (words text rest, (rest, cut-scan text (runs_behind text at) rest e, refl),
-            sym are.2 ∙ (ap (words text) these ∙ (map-append (word text) has.tokens rest ∙ ap (λ r. r ++ words text rest) has.are)))
+            let these : are.0 ≡ has.tokens ++ rest = cc in (
+              words text rest,
+              (rest, cut-scan text (runs_behind text at) rest e, refl),
+              sym are.2 ∙ (ap (words text) these ∙ (map-append (word text) has.tokens rest ∙ ap (λ r. r ++ words text rest) has.are)),
+            )
         by (Err offset) e =
             let other : ◌≡◌ {A = Outcome} (Ok are.0) (Err offset) = sym all ∙ (between_scan ∙ ap (prepend has.tokens) e) in cc
 

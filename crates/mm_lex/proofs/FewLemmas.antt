@@ -1,11 +1,11 @@
 -- No more tokens stand between two places than bytes.
-use Rattle.std.specs.Prelude.{◌≡◌, ℕ, ◌+◌, ◌-◌, ◌<◌, ◌≤◌, zero, suc, Bool, true, false, List, [], ◌∷◌, ◌++◌, length, drop, flat_map, refl}
+use Rattle.std.specs.Prelude.{◌≡◌, ℕ, ◌+◌, ◌-◌, ◌<◌, ◌≤◌, zero, suc, Bool, true, false, List, [], ◌∷◌, length, drop, flat_map, refl}
 use Rattle.std.proofs.Common.{sym, ◌∙◌, ap, arith, length-append, drop-cons, get_or, subst}
 use Rattle.std.proofs.lemmas.List.{length-map}
 use Rattle.std.proofs.Math.Seq.{drop-length}
 use Rattle.mm_lex.specs.declared.span.Span.{Span}
 use Rattle.mm_lex.specs.Alphabet.{Name, is_white, starts_white, with_byte, word, runs_from}
-use Rattle.mm_lex.specs.Tokens.{Part, part_spans, Cuts, words}
+use Rattle.mm_lex.specs.Tokens.{Part, part_spans, Cuts}
 use Rattle.mm_lex.specs.Comments.{runs_behind}
 use Rattle.mm_lex.specs.Between.{HasBetween, AreBehind}
 
@@ -38,21 +38,40 @@ module _ (text : List ℕ) where
   parts_few : (ps : List Part) → length (flat_map (λ (p : Part). p.after) ps) ≤ length (flat_map part_spans ps)
   parts_few [] = omega arith
   parts_few (p ∷ ps) =
-      omega (arith, parts_few ps, length-append p.after (flat_map (λ (p : Part). p.after) ps), length-append (part_spans p) (flat_map part_spans ps),
-      length-append p.inside (p.end ∷ p.after))
+      omega (
+        arith,
+        parts_few ps,
+        length-append p.after (flat_map (λ (p : Part). p.after) ps),
+        length-append (part_spans p) (flat_map part_spans ps),
+        length-append p.inside (p.end ∷ p.after),
+      )
 
   cuts_few : (spans tokens : List Span) → Cuts text spans tokens → length tokens ≤ length spans
   cuts_few spans tokens cut =
-      omega (arith, parts_few cut.parts, ap length cut.whole, ap length cut.outside, length-append cut.first (flat_map part_spans cut.parts),
-      length-append cut.first (flat_map (λ (p : Part). p.after) cut.parts))
+      omega (
+        arith,
+        parts_few cut.parts,
+        ap length cut.whole,
+        ap length cut.outside,
+        length-append cut.first (flat_map part_spans cut.parts),
+        length-append cut.first (flat_map (λ (p : Part). p.after) cut.parts),
+      )
 
   pub between_few : (from at : ℕ) (ws : List Name) → HasBetween text from at ws → length ws + from ≤ at
   between_few from at ws has =
       let same : from + (at - from) ≡ at = omega (arith, has.later) in
       let runs : length (runs_behind text from) ≤ (at - from) + length (runs_behind text at) =
       subst (λ k. length (runs_behind text from) ≤ (at - from) + length (runs_behind text k)) same (runs_few (at - from) from (omega (arith, same, has.within))) in
-      omega (arith, runs, ap length has.whole, length-append has.passed (runs_behind text at), cuts_few has.passed has.tokens has.cut, ap length has.are,
-      length-map has.tokens (word text), has.later)
+      omega (
+        arith,
+        runs,
+        ap length has.whole,
+        length-append has.passed (runs_behind text at),
+        cuts_few has.passed has.tokens has.cut,
+        ap length has.are,
+        length-map has.tokens (word text),
+        has.later,
+      )
 
   pub behind_few : (at : ℕ) (ws : List Name) → at ≤ length text → AreBehind text at ws → length ws + at ≤ length text
   behind_few at ws within are =

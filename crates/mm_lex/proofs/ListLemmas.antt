@@ -1,5 +1,5 @@
 -- A list of symbols, piece by piece and word by word.
-use Rattle.std.specs.Prelude.{◌≡◌, ℕ, ◌+◌, ◌-◌, ◌<◌, ◌≤◌, Bool, true, false, List, [], ◌∷◌, ◌++◌, length, take, drop, refl}
+use Rattle.std.specs.Prelude.{◌≡◌, ℕ, ◌+◌, ◌-◌, ◌<◌, ◌≤◌, true, false, List, [], ◌∷◌, ◌++◌, length, take, drop, refl}
 use Rattle.std.specs.List.{list_all}
 use Rattle.std.proofs.Common.{sym, ◌∙◌, ap, arith, append_assoc}
 use Rattle.std.proofs.lemmas.List.{append-nil}
@@ -10,7 +10,7 @@ use Rattle.mm_lex.specs.Words.{words_of, AreWords}
 use Rattle.mm_lex.specs.Tokens.{IsClean, words}
 use Rattle.mm_lex.specs.Comments.{runs_behind}
 use Rattle.mm_lex.specs.Stretch.{stretch}
-use Rattle.mm_lex.specs.Between.{HasBetween, AreBehind, IsTokenBehind}
+use Rattle.mm_lex.specs.Between.{AreBehind, IsTokenBehind}
 use Rattle.mm_lex.specs.SymbolList.{AddsSymbols, EndsSymbols}
 use Rattle.mm_lex.proofs.CuttingMeans.{and_both}
 use Rattle.mm_lex.proofs.LanesLemmas.{clean-drop}

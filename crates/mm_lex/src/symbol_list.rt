@@ -19,11 +19,7 @@ use std::alloc::{AllocError, Global};
 /// The symbols behind `from`, and the token behind them that is no symbol, or none at the end of the text.
 ///
 /// Errors: `Comment`, where the comments behind `from` are at fault before that token; `Memory`. Cost: their own size.
-pub fn symbols(
-    alloc: Global,
-    text: &[u8],
-    from: usize,
-) -> Result<(Words, Option<Span>), LexFault>
+pub fn symbols(alloc: Global, text: &[u8], from: usize) -> Result<(Words, Option<Span>), LexFault>
     requires clean { IsClean text.now }
     requires place { from ≤ length text.now }
     ensures symbols { IfOk result (λ r. IsTrue (list_all is_symbol r.0)) }

@@ -1,5 +1,7 @@
 //! What no clause says: with ample memory each call succeeds.
-use crate::{LexFault, Span, Word, Words, count_tokens, first_bad_byte, next_token, symbols, tokens};
+use crate::{
+    LexFault, Span, Word, Words, count_tokens, first_bad_byte, next_token, symbols, tokens,
+};
 use std::test::Fail;
 
 #[test]
@@ -58,7 +60,11 @@ fn long_words_come_back(rt: HostRuntime) -> Result<(), Fail> {
 fn symbols_are_copied_in_pieces(rt: HostRuntime) -> Result<(), LexFault> {
     let alloc = rt.alloc();
     for (text, want, end) in [
-        (b" |- ( a\n\t b \"c ! )  $( x $) d $= $. e".as_slice(), b"|- ( a b \"c ! ) d".as_slice(), Some(30)),
+        (
+            b" |- ( a\n\t b \"c ! )  $( x $) d $= $. e".as_slice(),
+            b"|- ( a b \"c ! ) d".as_slice(),
+            Some(30),
+        ),
         (b"$=", b"", Some(0)),
         (b"a b$= $=", b"a", Some(2)),
         (b"a\nb c $.", b"a b c", Some(6)),
@@ -69,7 +75,11 @@ fn symbols_are_copied_in_pieces(rt: HostRuntime) -> Result<(), LexFault> {
         assert!(rt; words.as_text() == want);
         assert!(rt; span.map(|span| span.start) == end);
     }
-    for (text, offset) in [(b"a $) b".as_slice(), 2), (b"a $( b", 2), (b"$( $( $) $) $.", 3)] {
+    for (text, offset) in [
+        (b"a $) b".as_slice(), 2),
+        (b"a $( b", 2),
+        (b"$( $( $) $) $.", 3),
+    ] {
         let fault = symbols(alloc, text, 0).map(|_| ());
         assert_eq!(rt; fault, Err(LexFault::Comment { offset }));
     }

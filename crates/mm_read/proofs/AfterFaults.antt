@@ -1,12 +1,12 @@
 -- Why no statement stands behind a place: by the tokens that stand before it, and what the parts of the statement tell.
-use Rattle.std.specs.Prelude.{◌≡◌, ℕ, Bool, ◌+◌, ◌<◌, ◌≤◌, true, false, List, [], ◌∷◌, ◌++◌, length, Some, None, codes}
+use Rattle.std.specs.Prelude.{◌≡◌, ℕ, Bool, ◌+◌, ◌≤◌, true, false, List, [], ◌∷◌, ◌++◌, length, Some, None, codes}
 use Rattle.std.specs.List.{list_all}
 use Rattle.std.specs.Option.{option_and_then}
 use Rattle.std.proofs.Common.{sym, ◌∙◌, ap, arith, refl, subst, append_assoc, length-append}
 use Rattle.mm_lex.specs.declared.fault.LexFault.{LexFault}
 use Rattle.mm_lex.specs.declared.fault.LexFault.TheVariants as lex
 use Rattle.mm_lex.specs.Alphabet.{Name, name_eq, is_symbol, is_label}
-use Rattle.mm_lex.specs.Between.{HasBetween, AreBehind, StopsBehind, FailsBehind}
+use Rattle.mm_lex.specs.Between.{HasBetween, AreBehind, StopsBehind}
 use Rattle.mm_lex.proofs.BetweenLemmas.{behind_rest, behind_unique, stops_behind, between_on}
 use Rattle.mm_read.specs.declared.fault.ReadFault.{ReadFault}
 use Rattle.mm_read.specs.declared.fault.ReadFault.TheVariants.{Text, Shape, Memory}
@@ -118,16 +118,16 @@ module _ (text : List ℕ) where
           let goes : go between done ≡ Some (listing 0) = goes_on label is_one (codes "$p") (proving 1) (expr ++ codes "$=" ∷ []) refl ∙ go-proving 1 expr (codes "$=" ∷ []) symbols many in
           fault_back (label ∷ codes "$p" ∷ []) has (Shape (3 + length expr + token))
           (λ tokens are.
-              let s = is.stops tokens are in
-              let moved : StopsList tokens (length done + 1) 0 (codes "$.") (3 + length expr + token) = record {
-                ws = s.ws;
-                rest = s.rest;
-                symbols = s.symbols;
-                whole = s.whole;
-                place = omega (arith, s.place, length-append expr (codes "$=" ∷ []));
-                stop = s.stop;
-              } in
-              list_stops done tokens (length done + 1) 0 refl (3 + length expr + token) goes moved)
+          let s = is.stops tokens are in
+          let moved : StopsList tokens (length done + 1) 0 (codes "$.") (3 + length expr + token) = record {
+            ws = s.ws;
+            rest = s.rest;
+            symbols = s.symbols;
+            whole = s.whole;
+            place = omega (arith, s.place, length-append expr (codes "$=" ∷ []));
+            stop = s.stop;
+          } in
+          list_stops done tokens (length done + 1) 0 refl (3 + length expr + token) goes moved)
 
 -- ---- at the first token
 

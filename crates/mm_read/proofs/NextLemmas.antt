@@ -3,20 +3,16 @@ use Rattle.std.specs.Prelude.{◌≡◌, ℕ, ◌+◌, ◌<◌, true, List, [], 
 use Rattle.std.specs.List.{list_all}
 use Rattle.std.proofs.Common.{sym, ◌∙◌, ap, arith, length-append}
 use Rattle.mm_lex.specs.Alphabet.{Name, is_symbol, is_label}
-use Rattle.mm_lex.specs.Tokens.{IsClean, words}
-use Rattle.mm_lex.specs.Faults.{IsFirstBadByte, IsCommentFault}
+use Rattle.mm_lex.specs.Tokens.{IsClean}
 use Rattle.mm_lex.specs.Between.{HasBetween, AreBehind, CountBehind}
 use Rattle.mm_lex.proofs.BetweenLemmas.{between_on, between_as, behind_on, behind_as, behind_unique}
 use Rattle.mm_lex.proofs.CuttingMeans.{and_both}
-use Rattle.mm_lex.proofs.FaultsLemmas.{IsClean-no_fault}
-use Rattle.mm_lex.proofs.TokensLemmas.{AreTokens-unique, AreTokens-no_comment_fault}
 use Rattle.mm_read.specs.declared.stmt.Stmt.{Stmt}
 use Rattle.mm_read.specs.declared.stmt.Stmt.TheVariants.{Float, Ess, Axiom, Prove}
 use Rattle.mm_read.specs.Statements.{Database, are_symbols, is_shaped, stmt_tokens, spelled}
-use Rattle.mm_read.specs.Reads.{Reads, HasShapeFault}
+use Rattle.mm_read.specs.Reads.{Reads}
 use Rattle.mm_read.specs.Next.{IsNext, IsOneMore, AreBefore}
 use Rattle.mm_read.proofs.StatementsLemmas.{append_middle}
-use Rattle.mm_read.proofs.OneSpelling.{one_spelling}
 use Rattle.mm_read.proofs.StatementByStatement.{spelled-append, shaped-append}
 use Rattle.mm_read.proofs.ShapeFaults.{append-nil}
 

@@ -1,13 +1,12 @@
 -- What reading answers is the one true answer: a text has tokens or one fault of the tokens, and its tokens write one list of
 -- statements or have one token that fits nowhere.
-use Rattle.std.specs.Prelude.{◌≡◌, ◌≢◌, ℕ, ◌⊎◌, List, Result, Ok, Err, MatchResult, IfOk, IfErr, IsErrAnd}
+use Rattle.std.specs.Prelude.{◌≡◌, ℕ, ◌⊎◌, List, Result, Ok, Err, MatchResult, IfOk, IfErr, IsErrAnd}
 use Rattle.std.proofs.Common.{sym, ◌∙◌, ap, refl, subst, inl, inr}
-use Rattle.mm_lex.specs.declared.fault.LexFault.{LexFault}
 use Rattle.mm_lex.specs.declared.fault.LexFault.TheVariants as lex
 use Rattle.mm_lex.specs.Alphabet.{Name}
 use Rattle.mm_lex.specs.Tokens.{IsClean, words}
 use Rattle.mm_lex.specs.Faults.{IsFirstBadByte, IsCommentFault}
-use Rattle.mm_lex.specs.Between.{AreBehind, StopsBehind}
+use Rattle.mm_lex.specs.Between.{AreBehind}
 use Rattle.mm_lex.proofs.FaultsLemmas.{IsClean-no_fault}
 use Rattle.mm_lex.proofs.TokensLemmas.{AreTokens-unique, AreTokens-no_comment_fault, IsCommentFault-unique}
 use Rattle.mm_read.specs.declared.fault.ReadFault.{ReadFault}

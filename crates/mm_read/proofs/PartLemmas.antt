@@ -9,7 +9,7 @@ use Rattle.mm_lex.specs.Between.{AreBehind, IsTokenBehind}
 use Rattle.mm_lex.specs.SymbolList.{EndsSymbols, IsListEnd}
 use Rattle.mm_lex.proofs.BetweenLemmas.{behind_rest, behind_unique}
 use Rattle.mm_lex.proofs.FewLemmas.{between_few, behind_few}
-use Rattle.mm_read.specs.Front.{StopsList, IsListStop, StartsOtherwise}
+use Rattle.mm_read.specs.Front.{IsListStop, StartsOtherwise}
 
 pub short_list : (least n : ℕ) → nat_le least n ≡ false → n < least
 short_list least n e = leb-false least n e

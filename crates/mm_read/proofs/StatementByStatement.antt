@@ -1,7 +1,7 @@
 -- A list of statements and what stands behind it: what fits there fits the whole, and what does not fit there does not fit the whole.
-use Rattle.std.specs.Prelude.{◌≡◌, ℕ, ◌+◌, ◌-◌, ◌<◌, ◌≤◌, ◌⊎◌, suc, zero, true, List, [], ◌∷◌, ◌++◌, length, take, drop}
+use Rattle.std.specs.Prelude.{◌≡◌, ℕ, ◌+◌, ◌-◌, ◌<◌, ◌≤◌, ◌⊎◌, suc, zero, true, List, [], ◌∷◌, ◌++◌, length, take}
 use Rattle.std.specs.List.{list_all}
-use Rattle.std.proofs.Common.{sym, ◌∙◌, ap, arith, refl, subst, inl, inr, append_assoc, length-append, drop-drop}
+use Rattle.std.proofs.Common.{sym, ◌∙◌, ap, arith, refl, subst, inl, inr, append_assoc, length-append}
 use Rattle.std.proofs.Math.Seq.{take-append-add}
 use Rattle.std.proofs.lemmas.Bool.{and_parts}
 use Rattle.std.proofs.lemmas.List.{take_all}
@@ -11,7 +11,6 @@ use Rattle.mm_read.specs.declared.stmt.Stmt.TheVariants.{Open, Close, Const, Var
 use Rattle.mm_read.specs.Statements.{Database, is_shaped, stmt_tokens, spelled}
 use Rattle.mm_read.specs.Reads.{CanGoOn, IsShapeFault}
 use Rattle.mm_read.proofs.OneSpelling.{same_front}
-use Rattle.mm_read.proofs.ShapeFaults.{append-nil}
 
 pub spelled-append : (S T : Database) → spelled (S ++ T) ≡ spelled S ++ spelled T
 spelled-append [] T = refl

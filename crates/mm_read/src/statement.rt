@@ -45,12 +45,7 @@ pub fn statement(alloc: Global, text: &[u8], first: Span) -> Result<(Stmt, usize
 }
 
 /// The statement whose label ends before `at`.
-fn labelled(
-    alloc: Global,
-    text: &[u8],
-    label: &[u8],
-    at: usize,
-) -> Result<(Stmt, usize), ReadFault>
+fn labelled(alloc: Global, text: &[u8], label: &[u8], at: usize) -> Result<(Stmt, usize), ReadFault>
     requires clean { IsClean text.now }
     requires place { at ≤ length text.now }
     requires word { IsTrue (is_word label.now) }
@@ -79,12 +74,7 @@ fn labelled(
 }
 
 /// The `$f` whose keyword ends before `at`.
-fn floating(
-    alloc: Global,
-    text: &[u8],
-    label: &[u8],
-    at: usize,
-) -> Result<(Stmt, usize), ReadFault>
+fn floating(alloc: Global, text: &[u8], label: &[u8], at: usize) -> Result<(Stmt, usize), ReadFault>
     requires clean { IsClean text.now }
     requires place { at ≤ length text.now }
     requires word { IsTrue (is_word label.now) }
@@ -105,12 +95,7 @@ fn floating(
 }
 
 /// The `$p` whose keyword ends before `at`.
-fn provable(
-    alloc: Global,
-    text: &[u8],
-    label: &[u8],
-    at: usize,
-) -> Result<(Stmt, usize), ReadFault>
+fn provable(alloc: Global, text: &[u8], label: &[u8], at: usize) -> Result<(Stmt, usize), ReadFault>
     requires clean { IsClean text.now }
     requires place { at ≤ length text.now }
     requires word { IsTrue (is_word label.now) }

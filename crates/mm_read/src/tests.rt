@@ -75,7 +75,9 @@ fn numbers_each_token_that_fits_nowhere(rt: HostRuntime) -> Result<(), AllocErro
         let comment = ReadFault::Text(LexFault::Comment { offset });
         assert!(rt; fault_of(rt.alloc(), &text)? == Some(comment));
         text.extend_from_slice(b"\x7f")?;
-        let byte = ReadFault::Text(LexFault::Text { offset: text.len() - 1 });
+        let byte = ReadFault::Text(LexFault::Text {
+            offset: text.len() - 1,
+        });
         assert!(rt; fault_of(rt.alloc(), &text)? == Some(byte));
     }
     Ok(())

@@ -1,4 +1,4 @@
-use Rattle.std.proofs.Common.{sym, [], ◌++◌}
+use Rattle.std.proofs.Common.{sym}
 use Rattle.std.proofs.lemmas.Slice.Eq.{bytes_eq-Decides}
 use Rattle.mm_lex.proofs.CuttingMeans.{plain}
 use Rattle.mm_lex.proofs.BetweenLemmas.{between_none, between_on, between_comment, behind_on, none_behind}

@@ -39,6 +39,8 @@ returns-in_ok-all-in-Shape-clause-fault c =
     let rest = c.in_ok-behind-in-Shape.ensures.count in
     let counts = count_before text c.args.at before.0 before.1 _ _ rest c.in_ok-all-in-Shape.ensures.count in
     let stop : IsShapeFault rest.0 c.in-Shape.token = subst (IsFaultAfter text [] c.args.at) c.in-Shape.is c.requires.fault rest.0 rest.1 in
-    let number : length (spelled before.0) + c.in-Shape.token ≡ c.in_ok-all-in-Shape.all - c.in_ok-behind-in-Shape.behind + c.in-Shape.token = omega (arith, counts) in
-    (spelled before.0 ++ rest.0, behind_on before.1.between rest.1,
-    subst (IsShapeFault (spelled before.0 ++ rest.0)) number (fault_behind before.0 before.1.shaped rest.0 c.in-Shape.token stop))
+    let number : length (spelled before.0) + c.in-Shape.token ≡ c.in_ok-all-in-Shape.all - c.in_ok-behind-in-Shape.behind + c.in-Shape.token = omega (arith, counts) in (
+      spelled before.0 ++ rest.0,
+      behind_on before.1.between rest.1,
+      subst (IsShapeFault (spelled before.0 ++ rest.0)) number (fault_behind before.0 before.1.shaped rest.0 c.in-Shape.token stop),
+    )

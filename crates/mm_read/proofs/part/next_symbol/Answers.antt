@@ -13,11 +13,11 @@ returns-clause-fault c =
       | in-Some+else-is_symbol w ↦ (
         refl,
         let next : IsTokenBehind text at w.in-Some.span = subst (IsNextToken text at) w.in-Some.is c.in_ok-span.ensures.next in
-        starts_other at is_symbol w.in-Some.span next (ap is_symbol (sym w.token-word.ensures) ∙ sym w.if-is_symbol.ensures),
+            starts_other at is_symbol w.in-Some.span next (ap is_symbol (sym w.token-word.ensures) ∙ sym w.if-is_symbol.ensures),
       )
       | in_default w ↦ (
         refl,
         let none : AreBehind text at [] = subst (IsNextToken text at) w.in_default.is c.in_ok-span.ensures.next in
-        starts_none at is_symbol none,
+            starts_none at is_symbol none,
       )
     ]

@@ -1,5 +1,5 @@
 use Rattle.std.proofs.Common.{◌≡◌, ◌∙◌, ap, sym, arith, subst, inl, inr, ◌+◌, ◌≤◌, length}
-use Rattle.mm_lex.specs.Alphabet.{name_eq, word}
+use Rattle.mm_lex.specs.Alphabet.{name_eq}
 use Rattle.mm_lex.specs.Between.{AreBehind}
 use Rattle.mm_lex.specs.SymbolList.{EndsSymbols, IsListEnd}
 use Rattle.mm_read.specs.Front.{IsListStop}

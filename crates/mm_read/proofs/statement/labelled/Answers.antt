@@ -1,4 +1,4 @@
-use Rattle.std.proofs.Common.{◌∙◌, ap, sym, refl, subst, arith, codes, ◌∷◌, [], ◌≡◌}
+use Rattle.std.proofs.Common.{◌∙◌, ap, sym, refl, subst, arith, codes, ◌∷◌, []}
 use Rattle.std.proofs.lemmas.Result.{err_from_is_err_and}
 use Rattle.mm_lex.specs.Between.{HasBetween, AreBehind, IsTokenBehind, IsNextToken}
 use Rattle.mm_lex.proofs.BetweenLemmas.{between_on, between_as}

@@ -1,6 +1,5 @@
 use Rattle.std.proofs.Common.{◌∙◌, ap, sym, refl, arith, codes, ◌∷◌, []}
 use Rattle.std.proofs.lemmas.Result.{err_from_is_err_and}
-use Rattle.mm_lex.specs.Alphabet.{word}
 use Rattle.mm_lex.proofs.BetweenLemmas.{between_as}
 use Rattle.mm_lex.proofs.CuttingMeans.{and_both}
 use Rattle.mm_read.specs.declared.stmt.Stmt.TheVariants.{Const, Var, Disj}
