@@ -1,4 +1,4 @@
-use Rattle.std.proofs.Common.{◌≡◌, ◌<◌, ◌+◌, ap, sym, subst, arith, length, rules, slice_set}
+use Rattle.std.proofs.Common.{◌≡◌, ◌+◌, ap, sym, subst, arith, length, rules}
 use Rattle.names.specs.Table.{AreGathered}
 use Rattle.names.proofs.GatheredLemmas.{gathered-one, gathered-free, gathered-all}
 use Rattle.names.proofs.table.keys_of_slots.Goals as goal
