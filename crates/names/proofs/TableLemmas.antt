@@ -1,12 +1,12 @@
 -- A table by keys: what is put there is found, and what is not found is not there.
-use Rattle.std.specs.Prelude.{◌≡◌, ◌≢◌, ℕ, zero, suc, ◌+◌, ◌<◌, ◌≤◌, ◌^◌, Bool, true, false, ◌||◌, ◌⊎◌, List, [], ◌∷◌, ◌++◌, length, take, drop, slice_get, Some, None, refl}
-use Rattle.std.proofs.Common.{sym, ◌∙◌, ap, subst, arith, inl, inr, slice_set, length-append, add-one}
+use Rattle.std.specs.Prelude.{◌≡◌, ◌≢◌, ℕ, zero, suc, ◌<◌, ◌≤◌, ◌^◌, ◌⊎◌, List, [], ◌∷◌, ◌++◌, length, take, slice_get, Some, None, refl}
+use Rattle.std.proofs.Common.{sym, ◌∙◌, ap, subst, arith, inl, inr, slice_set, length-append}
 use Rattle.std.proofs.lemmas.Bool.{cases_lt}
 use Rattle.std.specs.Prelude.{unwrap_or, replicate}
-use Rattle.std.proofs.lemmas.List.{length-set, length-replicate, get_or-replicate, take-append-drop}
+use Rattle.std.proofs.lemmas.List.{length-set, length-replicate, get_or-replicate}
 use Rattle.std.proofs.lemmas.Option.{slice_get_within, unwrap_or-slice_get}
-use Rattle.mm_lex.specs.Alphabet.{Name, name_eq, has_name}
-use Rattle.names.specs.Codes.{name_at, code_of, AreDistinct}
+use Rattle.mm_lex.specs.Alphabet.{Name}
+use Rattle.names.specs.Codes.{name_at, code_of}
 use Rattle.names.specs.declared.table.Slot.{Slot}
 use Rattle.names.specs.declared.table.TheConstants.{NO_NAME}
 use Rattle.names.specs.Keys.{AreBytes, key_of}

@@ -79,7 +79,10 @@ impl Numbering {
     {
         self.names.few();
         match self.names.find(name) {
-            Some(number) => Some((number as u32, entry_at(self.entries.as_slice(), number).kind)),
+            Some(number) => Some((
+                number as u32,
+                entry_at(self.entries.as_slice(), number).kind,
+            )),
             None => None,
         }
     }

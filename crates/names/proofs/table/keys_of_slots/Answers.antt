@@ -1,4 +1,4 @@
-use Rattle.std.proofs.Common.{◌≡◌, ◌<◌, ◌+◌, ap, sym, subst, arith, length, rules, slice_set}
+use Rattle.std.proofs.Common.{◌≡◌, ◌+◌, ap, sym, subst, arith, length, rules}
 use Rattle.names.specs.Table.{AreGathered}
 use Rattle.names.proofs.GatheredLemmas.{gathered-one, gathered-free, gathered-all}
 use Rattle.names.proofs.table.keys_of_slots.Goals as goal
@@ -14,13 +14,13 @@ loop-index-preserved c =
     let count = c.len-count.ensures in
     elim c.if-slot-count.branch [
       | then-slot-count w ↦
-        let inside = w.if-slot-count.true in
-        subst (λ ks. AreGathered slots ks names (i + 1)) (sym (ap (λ v. v.items) w.keys-is))
-        (gathered-one slots keys names i slot c.requires.few c.requires.table c.item-slot.ensures (omega (arith, inside, count)) c.loop-index.invariant)
+          let inside = w.if-slot-count.true in
+          subst (λ ks. AreGathered slots ks names (i + 1)) (sym (ap (λ v. v.items) w.keys-is))
+          (gathered-one slots keys names i slot c.requires.few c.requires.table c.item-slot.ensures (omega (arith, inside, count)) c.loop-index.invariant)
       | else-slot-count w ↦
-        let outside = w.if-slot-count.false in
-        subst (λ ks. AreGathered slots ks names (i + 1)) (sym (ap (λ v. v.items) w.keys-is))
-        (gathered-free slots keys names i slot c.item-slot.ensures (omega (arith, outside, count)) c.loop-index.invariant)
+          let outside = w.if-slot-count.false in
+          subst (λ ks. AreGathered slots ks names (i + 1)) (sym (ap (λ v. v.items) w.keys-is))
+          (gathered-free slots keys names i slot c.item-slot.ensures (omega (arith, outside, count)) c.loop-index.invariant)
     ]
 
 pub returns : goal.returns

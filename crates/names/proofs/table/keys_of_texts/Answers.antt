@@ -1,5 +1,4 @@
-use Rattle.std.proofs.Common.{◌≡◌, ◌<◌, ◌∙◌, ap, subst, arith, length}
-use Rattle.names.specs.Codes.{name_at}
+use Rattle.std.proofs.Common.{◌<◌, ◌∙◌, ap, subst, arith, length}
 use Rattle.names.specs.Keys.{AreBytes, key_of}
 use Rattle.names.proofs.GatheredLemmas.{made-one}
 use Rattle.names.proofs.table.keys_of_texts.Goals as goal

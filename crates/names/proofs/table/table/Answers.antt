@@ -1,8 +1,8 @@
-use Rattle.std.proofs.Common.{◌≡◌, ◌∙◌, ap, sym, subst, arith, length, take, slice_set, rules, ◌<◌, Some}
+use Rattle.std.proofs.Common.{◌≡◌, ◌∙◌, sym, subst, arith, length, take, slice_set, rules, ◌<◌, Some}
 use Rattle.std.proofs.lemmas.List.{length-take-le}
 use Rattle.names.specs.declared.table.TheConstants.{NO_NAME}
 use Rattle.names.specs.Codes.{name_at}
-use Rattle.names.specs.Keys.{AreBytes, key_of}
+use Rattle.names.specs.Keys.{key_of}
 use Rattle.names.specs.Table.{IsTable, IsFree}
 use Rattle.names.proofs.DistinctLemmas.{take-name}
 use Rattle.names.proofs.TableLemmas.{put}
