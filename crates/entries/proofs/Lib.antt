@@ -1,2 +1,6 @@
 pub mod SpanLemmas
-mod RecordLemmas
+pub mod PlaceLemmas
+pub mod RecordLemmas
+pub mod AddedLemmas
+pub mod CutLemmas
+pub mod ReadLemmas

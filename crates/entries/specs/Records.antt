@@ -1,73 +1,180 @@
--- Statements in shared buffers: which part of them a record names, and that parts stand in the order of the statements.
+-- Statements in shared buffers: which part of them a statement has, and that parts stand in the order of the statements.
 -- The code's own form: no public clause cites it.
 -- So more behind the buffers changes no statement, and the buffers can be cut where a statement begins.
-use Rattle.std.specs.Prelude.{◌≡◌, ℕ, ◌+◌, ◌-◌, ◌<◌, ◌≤◌, ◌^◌, List, [], ◌∷◌, length, take, slice_get, slice_range, Some, ◌++◌}
+use Rattle.std.specs.Prelude.{◌≡◌, ℕ, ◌+◌, ◌-◌, ◌<◌, ◌≤◌, ◌^◌, Bool, true, false, List, [], ◌∷◌, length, take, slice_get, slice_range, get_or, Option, Some, None, ◌++◌}
 use Rattle.entries.specs.declared.record.Record.{Record}
+use Rattle.entries.specs.declared.record.Row.{Row}
 use Rattle.entries.specs.declared.record.Buffers.{Buffers}
-use Rattle.entries.specs.declared.record.Ends.{Ends}
+use Rattle.entries.specs.declared.entries.Ends.{Ends}
+use Rattle.entries.specs.declared.sizes.Sizes.{Sizes}
+use Rattle.entries.specs.declared.head.Head.{Head}
 use Rattle.entries.specs.declared.parts.Parts.{Parts}
 use Rattle.entries.specs.Entries.{Entry}
 use Rattle.entries.specs.Spans.{cut, AreSpansIn, Extends}
 
-abbrev pub entry_of : Buffers → Record → Entry
-entry_of b r = record {
-  kind = r.head.kind;
-  label = r.head.label;
-  names = r.head.names;
-  links = r.head.links;
-  symbols = slice_range b.numbers.items r.ends.from r.ends.symbols;
+-- a statement's head, and where its parts stand: numbers one part behind the other, each up to its end
+pub record Place : Type 0 where
+  pub head : Head
+  pub from : ℕ
+  pub symbols : ℕ
+  pub templates : ℕ
+  pub conclusion : ℕ
+  pub places : ℕ
+  pub hypotheses_from : ℕ
+  pub hypotheses : ℕ
+  pub groups_from : ℕ
+  pub groups : ℕ
+  pub rows_from : ℕ
+  pub rows : ℕ
+
+abbrev pub entry_of : Buffers → Place → Entry
+entry_of b p = record {
+  kind = p.head.kind;
+  label = p.head.label;
+  names = p.head.names;
+  links = p.head.links;
+  symbols = slice_range b.numbers.items p.from p.symbols;
   assertion = record {
-    hypotheses = slice_range b.hypotheses.items r.hypotheses_from r.hypotheses;
-    patterns = slice_range b.patterns.items r.hypotheses_from r.hypotheses;
-    templates = slice_range b.numbers.items r.ends.symbols r.ends.templates;
-    conclusion = slice_range b.numbers.items r.ends.templates r.ends.conclusion;
-    groups = cut (slice_range b.numbers.items r.ends.conclusion r.ends.places) (slice_range b.groups.items r.groups_from r.groups);
+    hypotheses = slice_range b.hypotheses.items p.hypotheses_from p.hypotheses;
+    patterns = slice_range b.patterns.items p.hypotheses_from p.hypotheses;
+    templates = slice_range b.numbers.items p.symbols p.templates;
+    conclusion = slice_range b.numbers.items p.templates p.conclusion;
+    groups = cut (slice_range b.numbers.items p.conclusion p.places) (slice_range b.groups.items p.groups_from p.groups);
   };
 }
 
--- how long the buffers are
-pub record Sizes : Type 0 where
-  pub numbers : ℕ
-  pub hypotheses : ℕ
-  pub groups : ℕ
+-- ---- from the records to the places
 
+abbrev pub head_of : Record → Head
+head_of r = record { kind = r.kind; label = r.label; names = r.names; links = r.links }
+
+abbrev pub no_row : Row
+no_row = record { symbols = 0; templates = 0; conclusion = 0; places = 0; hypotheses_from = 0; hypotheses = 0; groups_from = 0; groups = 0 }
+
+abbrev pub row_by : Bool → List Row → ℕ → Row
+row_by true rows k = get_or rows k no_row
+row_by false rows k = no_row
+
+abbrev pub own_row : List Row → Record → Row
+own_row rows r = row_by r.has_row rows r.row
+
+-- how many hypotheses and groups there were before the row at k
+abbrev pub hypotheses_by : ℕ → Option Row → ℕ
+hypotheses_by n None = n
+hypotheses_by n (Some w) = w.hypotheses_from
+
+abbrev pub groups_by : ℕ → Option Row → ℕ
+groups_by n None = n
+groups_by n (Some w) = w.groups_from
+
+abbrev pub hypotheses_at : Buffers → ℕ → ℕ
+hypotheses_at b k = hypotheses_by (length b.hypotheses.items) (slice_get b.rows.items k)
+
+abbrev pub groups_at : Buffers → ℕ → ℕ
+groups_at b k = groups_by (length b.groups.items) (slice_get b.rows.items k)
+
+-- the place of a statement with the row w
+abbrev pub row_place : Record → Row → Place
+row_place r w = record {
+  head = head_of r;
+  from = r.from;
+  symbols = w.symbols;
+  templates = w.templates;
+  conclusion = w.conclusion;
+  places = w.places;
+  hypotheses_from = w.hypotheses_from;
+  hypotheses = w.hypotheses;
+  groups_from = w.groups_from;
+  groups = w.groups;
+  rows_from = r.row;
+  rows = r.row + 1;
+}
+
+-- the place of a statement that has none, whose numbers end there, behind so many hypotheses and groups
+abbrev pub plain_place : Record → ℕ → ℕ → ℕ → Place
+plain_place r end hypotheses groups = record {
+  head = head_of r;
+  from = r.from;
+  symbols = end;
+  templates = end;
+  conclusion = end;
+  places = end;
+  hypotheses_from = hypotheses;
+  hypotheses = hypotheses;
+  groups_from = groups;
+  groups = groups;
+  rows_from = r.row;
+  rows = r.row;
+}
+
+abbrev pub place_by : Bool → Buffers → Record → ℕ → Place
+place_by true b r end = row_place r (get_or b.rows.items r.row no_row)
+place_by false b r end = plain_place r end (hypotheses_at b r.row) (groups_at b r.row)
+
+abbrev pub place_of : Buffers → Record → ℕ → Place
+place_of b r end = place_by r.has_row b r end
+
+-- where the numbers end of a statement that stands before these
+abbrev pub end_of : Buffers → List Record → ℕ
+end_of b [] = length b.numbers.items
+end_of b (r ∷ rs) = r.from
+
+-- the same by the next record
+abbrev pub from_by : ℕ → Option Record → ℕ
+from_by n None = n
+from_by n (Some r) = r.from
+
+-- where its symbols end
+abbrev pub symbols_by : Bool → Row → ℕ → ℕ
+symbols_by true w end = w.symbols
+symbols_by false w end = end
+
+abbrev pub places_of : Buffers → List Record → List Place
+places_of b [] = []
+places_of b (r ∷ rs) = place_of b r (end_of b rs) ∷ places_of b rs
+
+-- ---- parts in order
+
+-- how long the buffers are
 abbrev pub sizes_of : Buffers → Sizes
-sizes_of b = record { numbers = length b.numbers.items; hypotheses = length b.hypotheses.items; groups = length b.groups.items }
+sizes_of b = record { numbers = length b.numbers.items; hypotheses = length b.hypotheses.items; groups = length b.groups.items; rows = length b.rows.items }
 
 -- how long they were before a statement came
-abbrev pub start_of : Record → Sizes
-start_of r = record { numbers = r.ends.from; hypotheses = r.hypotheses_from; groups = r.groups_from }
+abbrev pub start_of : Place → Sizes
+start_of p = record { numbers = p.from; hypotheses = p.hypotheses_from; groups = p.groups_from; rows = p.rows_from }
 
 -- the parts stand in order within buffers of these sizes
-pub record IsWithin (n : Sizes) (r : Record) : Type 0 where
-  pub symbols : r.ends.from ≤ r.ends.symbols
-  pub templates : r.ends.symbols ≤ r.ends.templates
-  pub conclusion : r.ends.templates ≤ r.ends.conclusion
-  pub places : r.ends.conclusion ≤ r.ends.places
-  pub numbers : r.ends.places ≤ n.numbers
-  pub hypotheses : r.hypotheses_from ≤ r.hypotheses
-  pub hypotheses_end : r.hypotheses ≤ n.hypotheses
-  pub groups : r.groups_from ≤ r.groups
-  pub groups_end : r.groups ≤ n.groups
+pub record IsWithin (n : Sizes) (p : Place) : Type 0 where
+  pub symbols : p.from ≤ p.symbols
+  pub templates : p.symbols ≤ p.templates
+  pub conclusion : p.templates ≤ p.conclusion
+  pub places : p.conclusion ≤ p.places
+  pub numbers : p.places ≤ n.numbers
+  pub hypotheses : p.hypotheses_from ≤ p.hypotheses
+  pub hypotheses_end : p.hypotheses ≤ n.hypotheses
+  pub groups : p.groups_from ≤ p.groups
+  pub groups_end : p.groups ≤ n.groups
+  pub rows : p.rows_from ≤ p.rows
+  pub rows_end : p.rows ≤ n.rows
 
-abbrev pub AreWithin : Sizes → List Record → Type 0
+abbrev pub AreWithin : Sizes → List Place → Type 0
 AreWithin n [] = Unit {0}
-AreWithin n (r ∷ rs) = IsWithin n r × AreWithin n rs
+AreWithin n (p ∷ ps) = IsWithin n p × AreWithin n ps
 
--- the groups of a record are parts of its places
-abbrev pub HasGroups : Buffers → Record → Type 0
-HasGroups b r = AreSpansIn (r.ends.places - r.ends.conclusion) (slice_range b.groups.items r.groups_from r.groups)
+-- the groups of a statement are parts of its places
+abbrev pub HasGroups : Buffers → Place → Type 0
+HasGroups b p = AreSpansIn (p.places - p.conclusion) (slice_range b.groups.items p.groups_from p.groups)
 
-abbrev pub HaveGroups : Buffers → List Record → Type 0
+abbrev pub HaveGroups : Buffers → List Place → Type 0
 HaveGroups b [] = Unit {0}
-HaveGroups b (r ∷ rs) = HasGroups b r × HaveGroups b rs
+HaveGroups b (p ∷ ps) = HasGroups b p × HaveGroups b ps
 
-pub record ArePacked (b : Buffers) (rs : List Record) : Type 0 where
-  pub within : AreWithin (sizes_of b) rs
-  pub grouped : HaveGroups b rs
-  pub ordered : (i : ℕ) (r : Record) → slice_get rs i ≡ Some r → AreWithin (start_of r) (take i rs)
+pub record ArePacked (b : Buffers) (ps : List Place) : Type 0 where
+  pub within : AreWithin (sizes_of b) ps
+  pub grouped : HaveGroups b ps
+  pub ordered : (i : ℕ) (p : Place) → slice_get ps i ≡ Some p → AreWithin (start_of p) (take i ps)
   pub paired : length b.patterns.items ≡ length b.hypotheses.items
-  pub few : length rs + 1 < 2 ^ 32
+  pub few : length ps + 1 < 2 ^ 32
 
 -- more stands behind each buffer
 pub record Grows (old new : Buffers) : Type 0 where
@@ -75,6 +182,12 @@ pub record Grows (old new : Buffers) : Type 0 where
   pub hypotheses : Extends old.hypotheses.items new.hypotheses.items
   pub patterns : Extends old.patterns.items new.patterns.items
   pub groups : Extends old.groups.items new.groups.items
+  pub rows : Extends old.rows.items new.rows.items
+
+-- the rows behind the old ones begin where the old hypotheses and groups end
+pub record Begins (old new : Buffers) : Type 0 where
+  pub hypotheses : hypotheses_at new (length old.rows.items) ≡ length old.hypotheses.items
+  pub groups : groups_at new (length old.rows.items) ≡ length old.groups.items
 
 -- the numbers of the parts stand between these ends
 pub record AreEnds (old new : List ℕ) (p : Parts) (e : Ends) : Type 0 where
@@ -90,10 +203,31 @@ pub record AreEnds (old new : List ℕ) (p : Parts) (e : Ends) : Type 0 where
   pub conclusion : slice_range new e.templates e.conclusion ≡ p.conclusion.now
   pub places : slice_range new e.conclusion e.places ≡ p.places.now
 
--- behind the records stands one more, of the statement e, with its parts behind the others
-pub record IsAdded (old new : Buffers) (rs qs : List Record) (e : Entry) : Type 0 where
-  pub last : Record
-  pub behind : qs ≡ rs ++ last ∷ []
+-- the parts of an assertion stand in these buffers, from there on, where the row tells
+pub record IsRowOf (old new : Buffers) (p : Parts) (w : Row) : Type 0 where
+  pub from_symbols : length old.numbers.items ≤ w.symbols
+  pub symbols_templates : w.symbols ≤ w.templates
+  pub templates_conclusion : w.templates ≤ w.conclusion
+  pub conclusion_places : w.conclusion ≤ w.places
+  pub whole : w.places ≤ length new.numbers.items
+  pub count : w.places - w.conclusion ≡ length p.places.now
+  pub symbols : slice_range new.numbers.items (length old.numbers.items) w.symbols ≡ p.symbols.now
+  pub templates : slice_range new.numbers.items w.symbols w.templates ≡ p.templates.now
+  pub conclusion : slice_range new.numbers.items w.templates w.conclusion ≡ p.conclusion.now
+  pub places : slice_range new.numbers.items w.conclusion w.places ≡ p.places.now
+  pub hypotheses_from : w.hypotheses_from ≡ length old.hypotheses.items
+  pub hypotheses_end : w.hypotheses ≡ length new.hypotheses.items
+  pub hypotheses : slice_range new.hypotheses.items w.hypotheses_from w.hypotheses ≡ p.hypotheses.now
+  pub patterns : slice_range new.patterns.items w.hypotheses_from w.hypotheses ≡ p.patterns.now
+  pub groups_from : w.groups_from ≡ length old.groups.items
+  pub groups_end : w.groups ≡ length new.groups.items
+  pub groups : slice_range new.groups.items w.groups_from w.groups ≡ p.groups.now
+  pub paired : length new.patterns.items ≡ length new.hypotheses.items
+
+-- behind the places stands one more, of the statement e, with its parts behind the others
+pub record IsAdded (old new : Buffers) (ps qs : List Place) (e : Entry) : Type 0 where
+  pub last : Place
+  pub behind : qs ≡ ps ++ last ∷ []
   pub entry : entry_of new last ≡ e
   pub within : IsWithin (sizes_of new) last
   pub grouped : HasGroups new last

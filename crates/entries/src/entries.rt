@@ -1,7 +1,7 @@
 //! The statements of a database as numbers, by position.
 ghost use Rattle.std.specs.Prelude.{◌≡◌, ◌≤◌, ◌<◌, ◌+◌, ◌^◌, ◌++◌, ◌∷◌, [], length, take, slice_get, Some, OnOk, OnErr, IfOk};
 ghost use Rattle.entries.specs.Entries.{Entry, IsEntry, AreShapedParts, assertion_of, made, plain};
-ghost use Rattle.entries.specs.Records.{IsAdded, Grows, AreEnds};
+ghost use Rattle.entries.specs.Records.{IsAdded, IsRowOf, ArePacked, Grows, AreEnds, places_of};
 ghost use Rattle.entries.specs.Spans.{Extends};
 
 use crate::citation::Cited;
@@ -9,14 +9,16 @@ use crate::entry::EntryRef;
 use crate::groups::Groups;
 use crate::head::Head;
 use crate::parts::Parts;
-use crate::record::{Buffers, Ends, Record};
+use crate::record::{Buffers, Record, Row, record_of, row_of, symbols_end};
+use crate::sizes::{cut, sizes_before, sizes_now};
 use crate::span::{item, part, place};
 use std::alloc::{AllocError, Global};
 use std::marker::Model;
 
 /// Statements as numbers. Contracts see the list of them, with plain lists for their parts.
 ///
-/// Inside the parts of all statements stand in a few buffers, and a statement is one record of fixed size.
+/// Inside the parts of all statements stand in a few buffers; a statement is one record of fixed size, and an
+/// assertion has a row beside.
 #[derive(Drop)]
 pub struct Entries {
     records: Vec<Record>,
@@ -29,11 +31,11 @@ impl Model for Entries {
 
     ghost Value = { List Entry };
 
-    ghost use Rattle.entries.specs.Records.{entry_of, ArePacked};
+    ghost use Rattle.entries.specs.Records.{entry_of, places_of, ArePacked};
 
-    ghost view = { λ a. map (entry_of a.buffers) a.records.items };
+    ghost view = { λ a. map (entry_of a.buffers) (places_of a.buffers a.records.items) };
 
-    ghost invariant = { λ a. ArePacked a.buffers a.records.items };
+    ghost invariant = { λ a. ArePacked a.buffers (places_of a.buffers a.records.items) };
 }
 
 impl Entries {
@@ -48,6 +50,7 @@ impl Entries {
                 hypotheses: Vec::new(alloc),
                 patterns: Vec::new(alloc),
                 groups: Vec::new(alloc),
+                rows: Vec::new(alloc),
             },
         }
     }
@@ -65,14 +68,21 @@ impl Entries {
         requires { index < length self.now }
         ensures { IsEntry self.now index result }
     {
-        let record = item(&self.records, index);
-        let head = record.head;
+        let kept = item(&self.records, index);
+        let numbers = self.buffers.numbers.as_slice();
+        let to = symbols_end(
+            &self.buffers.rows,
+            &self.records,
+            index,
+            kept,
+            numbers.len(),
+        );
         EntryRef {
-            kind: head.kind,
-            label: head.label,
-            names: head.names,
-            links: head.links,
-            symbols: part(&self.buffers.numbers, record.ends.from, record.ends.symbols),
+            kind: kept.kind,
+            label: kept.label,
+            names: kept.names,
+            links: kept.links,
+            symbols: &numbers[kept.from as usize..to],
         }
     }
 
@@ -81,12 +91,9 @@ impl Entries {
         requires { index < length self.now }
         ensures { (e : Entry) → slice_get self.now index ≡ Some e → result.now ≡ e.assertion.hypotheses }
     {
-        let record = item(&self.records, index);
-        part(
-            &self.buffers.hypotheses,
-            record.hypotheses_from,
-            record.hypotheses,
-        )
+        let row = row_of(&self.buffers.rows, item(&self.records, index));
+        let hypotheses = self.buffers.hypotheses.as_slice();
+        part(hypotheses, row.hypotheses_from, row.hypotheses)
     }
 
     /// The parts of the assertion at an index.
@@ -97,19 +104,15 @@ impl Entries {
         ensures conclusion { (e : Entry) → slice_get self.now index ≡ Some e → result.conclusion.now ≡ e.assertion.conclusion }
         ensures groups { (e : Entry) → slice_get self.now index ≡ Some e → result.groups ≡ e.assertion.groups }
     {
-        let record = item(&self.records, index);
+        let row = row_of(&self.buffers.rows, item(&self.records, index));
         let numbers = self.buffers.numbers.as_slice();
         Cited {
-            patterns: part(
-                &self.buffers.patterns,
-                record.hypotheses_from,
-                record.hypotheses,
-            ),
-            templates: part(numbers, record.ends.symbols, record.ends.templates),
-            conclusion: part(numbers, record.ends.templates, record.ends.conclusion),
+            patterns: part(&self.buffers.patterns, row.hypotheses_from, row.hypotheses),
+            templates: part(numbers, row.symbols, row.templates),
+            conclusion: part(numbers, row.templates, row.conclusion),
             groups: Groups {
-                spans: part(&self.buffers.groups, record.groups_from, record.groups),
-                places: part(numbers, record.ends.conclusion, record.ends.places),
+                spans: part(&self.buffers.groups, row.groups_from, row.groups),
+                places: part(numbers, row.conclusion, row.places),
             },
         }
     }
@@ -124,12 +127,10 @@ impl Entries {
         if count + 2 >= u32::MAX as usize {
             return Err(AllocError);
         }
-        let numbers = self.buffers.numbers.len();
-        let hypotheses = self.buffers.hypotheses.len();
-        let groups = self.buffers.groups.len();
+        let before = sizes_now(&self.buffers);
         let added = add(&mut self.records, &mut self.buffers, head, parts);
         if added.is_err() {
-            cut(&mut self.buffers, numbers, hypotheses, groups);
+            cut(&mut self.buffers, before);
         }
         added
     }
@@ -144,12 +145,10 @@ impl Entries {
         if count + 2 >= u32::MAX as usize {
             return Err(AllocError);
         }
-        let numbers = self.buffers.numbers.len();
-        let hypotheses = self.buffers.hypotheses.len();
-        let groups = self.buffers.groups.len();
+        let before = sizes_now(&self.buffers);
         let added = add_plain(&mut self.records, &mut self.buffers, head, codes);
         if added.is_err() {
-            cut(&mut self.buffers, numbers, hypotheses, groups);
+            cut(&mut self.buffers, before);
         }
         added
     }
@@ -159,19 +158,14 @@ impl Entries {
         ensures { self.new ≡ take len self.old }
     {
         if len < self.records.len() {
-            let record = item(&self.records, len);
-            cut(
-                &mut self.buffers,
-                record.ends.from as usize,
-                record.hypotheses_from as usize,
-                record.groups_from as usize,
-            );
+            let before = sizes_before(&self.buffers, item(&self.records, len));
+            cut(&mut self.buffers, before);
             self.records.truncate(len);
         }
     }
 }
 
-/// Adds a statement's parts behind the others, and its record.
+/// Adds a statement's parts behind the others, with their row, and its record.
 fn add(
     records: &mut Vec<Record>,
     buffers: &mut Buffers,
@@ -179,28 +173,16 @@ fn add(
     parts: &Parts<'_>,
 ) -> Result<(), AllocError>
     requires shaped { AreShapedParts parts.now }
-    requires paired { length buffers.old.patterns.items ≡ length buffers.old.hypotheses.items }
-    ensures added { OnOk result (IsAdded buffers.old buffers.new records.old.items records.new.items (made head parts.now.symbols.now (assertion_of parts.now))) }
+    requires packed { ArePacked buffers.old (places_of buffers.old records.old.items) }
+    ensures added { OnOk result (IsAdded buffers.old buffers.new (places_of buffers.old records.old.items) (places_of buffers.new records.new.items) (made head parts.now.symbols.now (assertion_of parts.now))) }
     ensures grows { Grows buffers.old buffers.new }
     ensures same { OnErr result (records.new.items ≡ records.old.items) }
 {
-    let ends = add_numbers(&mut buffers.numbers, parts)?;
-    let hypotheses_from = place(buffers.hypotheses.len())?;
-    let hypotheses = append(&mut buffers.hypotheses, parts.hypotheses)?;
-    append(&mut buffers.patterns, parts.patterns)?;
-    let groups_from = place(buffers.groups.len())?;
-    let groups = append(&mut buffers.groups, parts.groups)?;
-    add_record(
-        records,
-        Record {
-            head,
-            ends,
-            hypotheses_from,
-            hypotheses,
-            groups_from,
-            groups,
-        },
-    )
+    let from = place(buffers.numbers.len())?;
+    let row = place(buffers.rows.len())?;
+    let last = add_parts(buffers, parts)?;
+    add_last(&mut buffers.rows, last)?;
+    add_last(records, record_of(head, true, from, row))
 }
 
 /// Adds a statement that has no parts of an assertion, and its record.
@@ -210,44 +192,63 @@ fn add_plain(
     head: Head,
     codes: &[u32],
 ) -> Result<(), AllocError>
-    requires paired { length buffers.old.patterns.items ≡ length buffers.old.hypotheses.items }
-    ensures added { OnOk result (IsAdded buffers.old buffers.new records.old.items records.new.items (plain head codes.now)) }
+    requires packed { ArePacked buffers.old (places_of buffers.old records.old.items) }
+    ensures added { OnOk result (IsAdded buffers.old buffers.new (places_of buffers.old records.old.items) (places_of buffers.new records.new.items) (plain head codes.now)) }
     ensures grows { Grows buffers.old buffers.new }
     ensures same { OnErr result (records.new.items ≡ records.old.items) }
 {
     let from = place(buffers.numbers.len())?;
-    let hypotheses = place(buffers.hypotheses.len())?;
-    let groups = place(buffers.groups.len())?;
-    let to = append(&mut buffers.numbers, codes)?;
-    add_record(
-        records,
-        Record {
-            head,
-            ends: Ends {
-                from,
-                symbols: to,
-                templates: to,
-                conclusion: to,
-                places: to,
-            },
-            hypotheses_from: hypotheses,
-            hypotheses,
-            groups_from: groups,
-            groups,
-        },
-    )
+    let row = place(buffers.rows.len())?;
+    append(&mut buffers.numbers, codes)?;
+    add_last(records, record_of(head, false, from, row))
 }
 
-/// Adds a record.
-fn add_record(records: &mut Vec<Record>, last: Record) -> Result<(), AllocError>
-    ensures ok { OnOk result (records.new.items ≡ records.old.items ++ last ∷ []) }
-    ensures err { OnErr result (records.new.items ≡ records.old.items) }
+/// Adds a record or a row.
+fn add_last<T: Copy>(items: &mut Vec<T>, last: T) -> Result<(), AllocError>
+    ensures ok { OnOk result (items.new.items ≡ items.old.items ++ last ∷ []) }
+    ensures err { OnErr result (items.new.items ≡ items.old.items) }
 {
-    if records.len() == records.capacity() {
-        widen(records);
+    if items.len() == items.capacity() {
+        widen(items);
     }
-    records.push(last)?;
+    items.push(last)?;
     Ok(())
+}
+
+/// Adds the parts of an assertion behind the others, and tells where they stand.
+fn add_parts(buffers: &mut Buffers, parts: &Parts<'_>) -> Result<Row, AllocError>
+    requires shaped { AreShapedParts parts.now }
+    requires paired { length buffers.old.patterns.items ≡ length buffers.old.hypotheses.items }
+    ensures added { IfOk result (λ w. IsRowOf buffers.old buffers.new parts.now w) }
+    ensures grows { Grows buffers.old buffers.new }
+    ensures same { buffers.new.rows.items ≡ buffers.old.rows.items }
+{
+    let ends = add_numbers(&mut buffers.numbers, parts)?;
+    let hypotheses_from = place(buffers.hypotheses.len())?;
+    let hypotheses = append(&mut buffers.hypotheses, parts.hypotheses)?;
+    append(&mut buffers.patterns, parts.patterns)?;
+    let groups_from = place(buffers.groups.len())?;
+    let groups = append(&mut buffers.groups, parts.groups)?;
+    Ok(Row {
+        symbols: ends.symbols,
+        templates: ends.templates,
+        conclusion: ends.conclusion,
+        places: ends.places,
+        hypotheses_from,
+        hypotheses,
+        groups_from,
+        groups,
+    })
+}
+
+/// Where the numbers of a statement end, one part behind the other.
+#[derive(Clone, Copy, Drop)]
+pub struct Ends {
+    pub from: u32,
+    pub symbols: u32,
+    pub templates: u32,
+    pub conclusion: u32,
+    pub places: u32,
 }
 
 /// Adds a statement's numbers behind the others.
@@ -294,17 +295,4 @@ fn widen<T>(buffer: &mut Vec<T>)
     ensures { buffer.new.items ≡ buffer.old.items }
 {
     let _ = buffer.reserve(buffer.len().saturating_mul(15));
-}
-
-/// Takes back what stands behind these places.
-fn cut(buffers: &mut Buffers, numbers: usize, hypotheses: usize, groups: usize)
-    ensures numbers { buffers.new.numbers.items ≡ take numbers buffers.old.numbers.items }
-    ensures hypotheses { buffers.new.hypotheses.items ≡ take hypotheses buffers.old.hypotheses.items }
-    ensures patterns { buffers.new.patterns.items ≡ take hypotheses buffers.old.patterns.items }
-    ensures groups { buffers.new.groups.items ≡ take groups buffers.old.groups.items }
-{
-    buffers.numbers.truncate(numbers);
-    buffers.hypotheses.truncate(hypotheses);
-    buffers.patterns.truncate(hypotheses);
-    buffers.groups.truncate(groups);
 }

@@ -2,7 +2,7 @@
 //!
 //! `Entries` is seen as a list of statements, each with plain lists for its parts; inside, the parts of all stand in a
 //! few buffers. The crate above says which names the numbers stand for.
-//! Reading order: `kind`, `links`, `head`, `span`, `groups`, `citation`, `parts`, `entry`; `record`, `entries`.
+//! Reading order: `kind`, `links`, `head`, `span`, `groups`, `citation`, `parts`, `entry`; `record`, `sizes`, `entries`.
 #![tactic(auto)]
 
 mod citation;
@@ -14,6 +14,7 @@ mod kind;
 mod links;
 mod parts;
 mod record;
+mod sizes;
 pub mod span;
 
 pub use citation::{Cited, Pattern};

@@ -1,30 +1,53 @@
 //! How a statement is kept: where its parts stand in buffers that all share.
+ghost use Rattle.std.specs.Prelude.{◌≡◌, ◌<◌, ◌+◌, true, length, slice_get};
+ghost use Rattle.entries.specs.Records.{head_of, own_row, from_by, symbols_by};
+
 use crate::citation::Pattern;
 use crate::head::Head;
-use crate::span::Span;
+use crate::kind::Kind;
+use crate::links::Links;
+use crate::span::{Span, item};
 
-/// Where the numbers of a statement stand: its symbols, its templates, its conclusion and its places, each part up to
-/// its end and from the end of the one before it.
+/// A statement: what is in its head, and where its numbers begin. They end where those of the next statement begin.
+/// An assertion has a row beside.
 #[derive(Clone, Copy, Drop)]
-pub struct Ends {
+pub struct Record {
+    pub kind: Kind,
+    pub has_row: bool,
+    pub label: u32,
+    pub names: u32,
+    pub links: Links,
     pub from: u32,
+    /// How many rows there were: the number of its own, where it has one.
+    pub row: u32,
+}
+
+/// Where the parts of an assertion stand. Its symbols, its templates, its conclusion and its places stand one behind
+/// the other, each part up to its end.
+#[derive(Clone, Copy, Drop)]
+pub struct Row {
     pub symbols: u32,
     pub templates: u32,
     pub conclusion: u32,
     pub places: u32,
-}
-
-/// A statement, and where its parts stand.
-#[derive(Clone, Copy, Drop)]
-pub struct Record {
-    pub head: Head,
-    pub ends: Ends,
     /// Its hypotheses, and their patterns.
     pub hypotheses_from: u32,
     pub hypotheses: u32,
     pub groups_from: u32,
     pub groups: u32,
 }
+
+/// The row of a statement that has no parts of an assertion.
+const NO_ROW: Row = Row {
+    symbols: 0,
+    templates: 0,
+    conclusion: 0,
+    places: 0,
+    hypotheses_from: 0,
+    hypotheses: 0,
+    groups_from: 0,
+    groups: 0,
+};
 
 /// The parts of all statements.
 #[derive(Drop)]
@@ -33,4 +56,57 @@ pub struct Buffers {
     pub hypotheses: Vec<usize>,
     pub patterns: Vec<Pattern>,
     pub groups: Vec<Span>,
+    /// Where they stand, of each assertion.
+    pub rows: Vec<Row>,
+}
+
+/// The row of a statement.
+pub fn row_of(rows: &[Row], kept: Record) -> Row
+    requires { kept.has_row ≡ true → kept.row < length rows.now }
+    ensures { result ≡ own_row rows.now kept }
+{
+    if kept.has_row {
+        item(rows, kept.row as usize)
+    } else {
+        NO_ROW
+    }
+}
+
+/// The record of a statement with this head.
+pub fn record_of(head: Head, has_row: bool, from: u32, row: u32) -> Record
+    ensures head { head_of result ≡ head }
+    ensures has_row { result.has_row ≡ has_row }
+    ensures from { result.from ≡ from }
+    ensures row { result.row ≡ row }
+{
+    Record {
+        kind: head.kind,
+        has_row,
+        label: head.label,
+        names: head.names,
+        links: head.links,
+        from,
+        row,
+    }
+}
+
+/// Where the symbols of a statement end: as its row says, or else where the numbers of the next one begin, or all end.
+pub fn symbols_end(
+    rows: &[Row],
+    records: &[Record],
+    index: usize,
+    kept: Record,
+    end: usize,
+) -> usize
+    requires place { index < length records.now }
+    requires row { kept.has_row ≡ true → kept.row < length rows.now }
+    ensures { result ≡ symbols_by kept.has_row (own_row rows.now kept) (from_by end (slice_get records.now (index + 1))) }
+{
+    if kept.has_row {
+        return row_of(rows, kept).symbols as usize;
+    }
+    match records.get(index + 1) {
+        Some(next) => next.from as usize,
+        None => end,
+    }
 }

@@ -1,95 +1,137 @@
 use Rattle.std.proofs.Common.{◌≡◌, ◌<◌, ◌-◌, length, slice_get, sym, ap, ◌∙◌, arith, subst}
 use Rattle.std.specs.Prelude.{slice_range}
-use Rattle.entries.specs.Records.{sizes_of}
+use Rattle.entries.specs.Records.{own_row}
 use Rattle.entries.specs.Spans.{cut, AreSpansIn}
 use Rattle.entries.proofs.SpanLemmas.{part-of, length-range}
-use Rattle.entries.proofs.RecordLemmas.{within-at, groups-at, the-entry, index-in}
+use Rattle.entries.proofs.ReadLemmas.{IsReading, index-in, has-row, reads, reads-some}
 use Rattle.entries.proofs.entries.Entries.cited.Goals as goal
 
-pub item-record-requires : goal.item-record-requires
-item-record-requires c = subst (λ xs. c.args.index < length xs) (sym c.deref.ensures.value) (index-in c.self.inside.buffers c.self.inside.records.items c.args.self.now c.args.index c.self.view_is c.requires)
+pub item-requires : goal.item-requires
+item-requires c = subst (λ xs. c.args.index < length xs) (sym c.deref-2.ensures.value) (index-in c.self.inside.buffers c.self.inside.records.items c.args.self.now c.args.index c.self.view_is c.requires)
+
+pub row_of-row-requires : goal.row_of-row-requires
+row_of-row-requires c = λ t.
+    let b = c.self.inside.buffers in
+    let got = ap (λ xs. slice_get xs c.args.index) (sym c.deref-2.ensures.value) ∙ c.item.ensures in
+    subst (λ xs. c.item.result.row < length xs) (sym c.deref.ensures.value) (has-row b c.self.inside.records.items c.args.self.now c.args.index c.item.result c.self.invariant c.self.view_is got t)
 
 pub part-requires : goal.part-requires
 part-requires c =
     let b = c.self.inside.buffers in
-    let r = c.item-record.result in
-    let got = ap (λ xs. slice_get xs c.args.index) (sym c.deref.ensures.value) ∙ c.item-record.ensures in
-    let w = within-at (sizes_of b) c.self.inside.records.items c.args.index r c.self.invariant.within got in
-    (w.hypotheses, omega (arith, ap length c.deref-2.ensures.value, w.hypotheses_end, c.self.invariant.paired))
+    let rs = c.self.inside.records.items in
+    let r = c.item.result in
+    let w = c.row_of-row.result in
+    let got = ap (λ xs. slice_get xs c.args.index) (sym c.deref-2.ensures.value) ∙ c.item.ensures in
+    let row : w ≡ own_row b.rows.items r = c.row_of-row.ensures ∙ ap (λ ws. own_row ws r) c.deref.ensures.value in
+    let is = reads-some b rs c.args.self.now c.args.index r c.self.invariant c.self.view_is got in
+    let s : IsReading b w is.0 = subst (λ v. IsReading b v is.0) (sym row) is.1 in
+    (s.hypotheses_in, omega (arith, ap length c.deref-3.ensures.value, s.hypotheses_end, c.self.invariant.paired))
 
 pub part-requires-2 : goal.part-requires-2
 part-requires-2 c =
     let b = c.self.inside.buffers in
-    let r = c.item-record.result in
-    let got = ap (λ xs. slice_get xs c.args.index) (sym c.deref.ensures.value) ∙ c.item-record.ensures in
-    let w = within-at (sizes_of b) c.self.inside.records.items c.args.index r c.self.invariant.within got in
-    (w.templates, omega (arith, ap length c.as_slice-numbers.ensures.value, w.conclusion, w.places, w.numbers))
+    let rs = c.self.inside.records.items in
+    let r = c.item.result in
+    let w = c.row_of-row.result in
+    let got = ap (λ xs. slice_get xs c.args.index) (sym c.deref-2.ensures.value) ∙ c.item.ensures in
+    let row : w ≡ own_row b.rows.items r = c.row_of-row.ensures ∙ ap (λ ws. own_row ws r) c.deref.ensures.value in
+    let is = reads-some b rs c.args.self.now c.args.index r c.self.invariant c.self.view_is got in
+    let s : IsReading b w is.0 = subst (λ v. IsReading b v is.0) (sym row) is.1 in
+    (s.templates_in, omega (arith, ap length c.as_slice-numbers.ensures.value, s.conclusion_in, s.places_in, s.numbers_in))
 
 pub part-requires-3 : goal.part-requires-3
 part-requires-3 c =
     let b = c.self.inside.buffers in
-    let r = c.item-record.result in
-    let got = ap (λ xs. slice_get xs c.args.index) (sym c.deref.ensures.value) ∙ c.item-record.ensures in
-    let w = within-at (sizes_of b) c.self.inside.records.items c.args.index r c.self.invariant.within got in
-    (w.conclusion, omega (arith, ap length c.as_slice-numbers.ensures.value, w.places, w.numbers))
+    let rs = c.self.inside.records.items in
+    let r = c.item.result in
+    let w = c.row_of-row.result in
+    let got = ap (λ xs. slice_get xs c.args.index) (sym c.deref-2.ensures.value) ∙ c.item.ensures in
+    let row : w ≡ own_row b.rows.items r = c.row_of-row.ensures ∙ ap (λ ws. own_row ws r) c.deref.ensures.value in
+    let is = reads-some b rs c.args.self.now c.args.index r c.self.invariant c.self.view_is got in
+    let s : IsReading b w is.0 = subst (λ v. IsReading b v is.0) (sym row) is.1 in
+    (s.conclusion_in, omega (arith, ap length c.as_slice-numbers.ensures.value, s.places_in, s.numbers_in))
 
 pub part-requires-4 : goal.part-requires-4
 part-requires-4 c =
     let b = c.self.inside.buffers in
-    let r = c.item-record.result in
-    let got = ap (λ xs. slice_get xs c.args.index) (sym c.deref.ensures.value) ∙ c.item-record.ensures in
-    let w = within-at (sizes_of b) c.self.inside.records.items c.args.index r c.self.invariant.within got in
-    (w.groups, omega (arith, ap length c.deref-3.ensures.value, w.groups_end))
+    let rs = c.self.inside.records.items in
+    let r = c.item.result in
+    let w = c.row_of-row.result in
+    let got = ap (λ xs. slice_get xs c.args.index) (sym c.deref-2.ensures.value) ∙ c.item.ensures in
+    let row : w ≡ own_row b.rows.items r = c.row_of-row.ensures ∙ ap (λ ws. own_row ws r) c.deref.ensures.value in
+    let is = reads-some b rs c.args.self.now c.args.index r c.self.invariant c.self.view_is got in
+    let s : IsReading b w is.0 = subst (λ v. IsReading b v is.0) (sym row) is.1 in
+    (s.groups_in, omega (arith, ap length c.deref-4.ensures.value, s.groups_end))
 
 pub part-requires-5 : goal.part-requires-5
 part-requires-5 c =
     let b = c.self.inside.buffers in
-    let r = c.item-record.result in
-    let got = ap (λ xs. slice_get xs c.args.index) (sym c.deref.ensures.value) ∙ c.item-record.ensures in
-    let w = within-at (sizes_of b) c.self.inside.records.items c.args.index r c.self.invariant.within got in
-    (w.places, omega (arith, ap length c.as_slice-numbers.ensures.value, w.numbers))
+    let rs = c.self.inside.records.items in
+    let r = c.item.result in
+    let w = c.row_of-row.result in
+    let got = ap (λ xs. slice_get xs c.args.index) (sym c.deref-2.ensures.value) ∙ c.item.ensures in
+    let row : w ≡ own_row b.rows.items r = c.row_of-row.ensures ∙ ap (λ ws. own_row ws r) c.deref.ensures.value in
+    let is = reads-some b rs c.args.self.now c.args.index r c.self.invariant c.self.view_is got in
+    let s : IsReading b w is.0 = subst (λ v. IsReading b v is.0) (sym row) is.1 in
+    (s.places_in, omega (arith, ap length c.as_slice-numbers.ensures.value, s.numbers_in))
 
 pub invariant_of-result : goal.invariant_of-result
 invariant_of-result c =
     let b = c.self.inside.buffers in
-    let r = c.item-record.result in
-    let got = ap (λ xs. slice_get xs c.args.index) (sym c.deref.ensures.value) ∙ c.item-record.ensures in
-    let w = within-at (sizes_of b) c.self.inside.records.items c.args.index r c.self.invariant.within got in
-    let spans = part-of b.groups.items c.deref-3.result.now c.part-4.result.now r.groups_from r.groups c.deref-3.ensures.value c.part-4.ensures in
-    let places = part-of b.numbers.items c.as_slice-numbers.result.now c.part-5.result.now r.ends.conclusion r.ends.places c.as_slice-numbers.ensures.value c.part-5.ensures in
-    let count : r.ends.places - r.ends.conclusion ≡ length c.part-5.result.now = omega (arith, ap length places, length-range b.numbers.items r.ends.conclusion r.ends.places w.numbers) in
-    subst (λ n. AreSpansIn n c.part-4.result.now) count (subst (AreSpansIn (r.ends.places - r.ends.conclusion)) (sym spans) (groups-at b c.self.inside.records.items c.args.index r c.self.invariant.grouped got))
+    let rs = c.self.inside.records.items in
+    let r = c.item.result in
+    let w = c.row_of-row.result in
+    let got = ap (λ xs. slice_get xs c.args.index) (sym c.deref-2.ensures.value) ∙ c.item.ensures in
+    let row : w ≡ own_row b.rows.items r = c.row_of-row.ensures ∙ ap (λ ws. own_row ws r) c.deref.ensures.value in
+    let is = reads-some b rs c.args.self.now c.args.index r c.self.invariant c.self.view_is got in
+    let s : IsReading b w is.0 = subst (λ v. IsReading b v is.0) (sym row) is.1 in
+    let spans = part-of b.groups.items c.deref-4.result.now c.part-4.result.now w.groups_from w.groups c.deref-4.ensures.value c.part-4.ensures in
+    let places = part-of b.numbers.items c.as_slice-numbers.result.now c.part-5.result.now w.conclusion w.places c.as_slice-numbers.ensures.value c.part-5.ensures in
+    let count : w.places - w.conclusion ≡ length c.part-5.result.now = omega (arith, ap length places, length-range b.numbers.items w.conclusion w.places s.numbers_in) in
+    subst (λ n. AreSpansIn n c.part-4.result.now) count (subst (AreSpansIn (w.places - w.conclusion)) (sym spans) s.grouped)
 
 pub returns-clause-patterns : goal.returns-clause-patterns
 returns-clause-patterns c = λ e h.
     let b = c.self.inside.buffers in
-    let r = c.item-record.result in
-    let got = ap (λ xs. slice_get xs c.args.index) (sym c.deref.ensures.value) ∙ c.item-record.ensures in
-    let is = the-entry b c.self.inside.records.items c.args.self.now c.args.index r e c.self.view_is got h in
-    part-of b.patterns.items c.deref-2.result.now c.part.result.now r.hypotheses_from r.hypotheses c.deref-2.ensures.value c.part.ensures ∙ ap (λ x. x.assertion.patterns) is
+    let rs = c.self.inside.records.items in
+    let r = c.item.result in
+    let w = c.row_of-row.result in
+    let got = ap (λ xs. slice_get xs c.args.index) (sym c.deref-2.ensures.value) ∙ c.item.ensures in
+    let row : w ≡ own_row b.rows.items r = c.row_of-row.ensures ∙ ap (λ ws. own_row ws r) c.deref.ensures.value in
+    let s : IsReading b w e.assertion = subst (λ v. IsReading b v e.assertion) (sym row) (reads b rs c.args.self.now c.args.index r c.self.invariant c.self.view_is got e h) in
+    part-of b.patterns.items c.deref-3.result.now c.part.result.now w.hypotheses_from w.hypotheses c.deref-3.ensures.value c.part.ensures ∙ s.patterns
 
 pub returns-clause-templates : goal.returns-clause-templates
 returns-clause-templates c = λ e h.
     let b = c.self.inside.buffers in
-    let r = c.item-record.result in
-    let got = ap (λ xs. slice_get xs c.args.index) (sym c.deref.ensures.value) ∙ c.item-record.ensures in
-    let is = the-entry b c.self.inside.records.items c.args.self.now c.args.index r e c.self.view_is got h in
-    part-of b.numbers.items c.as_slice-numbers.result.now c.part-2.result.now r.ends.symbols r.ends.templates c.as_slice-numbers.ensures.value c.part-2.ensures ∙ ap (λ x. x.assertion.templates) is
+    let rs = c.self.inside.records.items in
+    let r = c.item.result in
+    let w = c.row_of-row.result in
+    let got = ap (λ xs. slice_get xs c.args.index) (sym c.deref-2.ensures.value) ∙ c.item.ensures in
+    let row : w ≡ own_row b.rows.items r = c.row_of-row.ensures ∙ ap (λ ws. own_row ws r) c.deref.ensures.value in
+    let s : IsReading b w e.assertion = subst (λ v. IsReading b v e.assertion) (sym row) (reads b rs c.args.self.now c.args.index r c.self.invariant c.self.view_is got e h) in
+    part-of b.numbers.items c.as_slice-numbers.result.now c.part-2.result.now w.symbols w.templates c.as_slice-numbers.ensures.value c.part-2.ensures ∙ s.templates
 
 pub returns-clause-conclusion : goal.returns-clause-conclusion
 returns-clause-conclusion c = λ e h.
     let b = c.self.inside.buffers in
-    let r = c.item-record.result in
-    let got = ap (λ xs. slice_get xs c.args.index) (sym c.deref.ensures.value) ∙ c.item-record.ensures in
-    let is = the-entry b c.self.inside.records.items c.args.self.now c.args.index r e c.self.view_is got h in
-    part-of b.numbers.items c.as_slice-numbers.result.now c.part-3.result.now r.ends.templates r.ends.conclusion c.as_slice-numbers.ensures.value c.part-3.ensures ∙ ap (λ x. x.assertion.conclusion) is
+    let rs = c.self.inside.records.items in
+    let r = c.item.result in
+    let w = c.row_of-row.result in
+    let got = ap (λ xs. slice_get xs c.args.index) (sym c.deref-2.ensures.value) ∙ c.item.ensures in
+    let row : w ≡ own_row b.rows.items r = c.row_of-row.ensures ∙ ap (λ ws. own_row ws r) c.deref.ensures.value in
+    let s : IsReading b w e.assertion = subst (λ v. IsReading b v e.assertion) (sym row) (reads b rs c.args.self.now c.args.index r c.self.invariant c.self.view_is got e h) in
+    part-of b.numbers.items c.as_slice-numbers.result.now c.part-3.result.now w.templates w.conclusion c.as_slice-numbers.ensures.value c.part-3.ensures ∙ s.conclusion
 
 pub returns-clause-groups : goal.returns-clause-groups
 returns-clause-groups c = λ e h.
     let b = c.self.inside.buffers in
-    let r = c.item-record.result in
-    let got = ap (λ xs. slice_get xs c.args.index) (sym c.deref.ensures.value) ∙ c.item-record.ensures in
-    let is = the-entry b c.self.inside.records.items c.args.self.now c.args.index r e c.self.view_is got h in
-    let spans = part-of b.groups.items c.deref-3.result.now c.part-4.result.now r.groups_from r.groups c.deref-3.ensures.value c.part-4.ensures in
-    let places = part-of b.numbers.items c.as_slice-numbers.result.now c.part-5.result.now r.ends.conclusion r.ends.places c.as_slice-numbers.ensures.value c.part-5.ensures in
-    ap (cut c.part-5.result.now) spans ∙ (ap (λ xs. cut xs (slice_range b.groups.items r.groups_from r.groups)) places ∙ ap (λ x. x.assertion.groups) is)
+    let rs = c.self.inside.records.items in
+    let r = c.item.result in
+    let w = c.row_of-row.result in
+    let got = ap (λ xs. slice_get xs c.args.index) (sym c.deref-2.ensures.value) ∙ c.item.ensures in
+    let row : w ≡ own_row b.rows.items r = c.row_of-row.ensures ∙ ap (λ ws. own_row ws r) c.deref.ensures.value in
+    let s : IsReading b w e.assertion = subst (λ v. IsReading b v e.assertion) (sym row) (reads b rs c.args.self.now c.args.index r c.self.invariant c.self.view_is got e h) in
+    let spans = part-of b.groups.items c.deref-4.result.now c.part-4.result.now w.groups_from w.groups c.deref-4.ensures.value c.part-4.ensures in
+    let places = part-of b.numbers.items c.as_slice-numbers.result.now c.part-5.result.now w.conclusion w.places c.as_slice-numbers.ensures.value c.part-5.ensures in
+    ap (cut c.part-5.result.now) spans ∙ (ap (λ xs. cut xs (slice_range b.groups.items w.groups_from w.groups)) places ∙ s.groups)
