@@ -1,5 +1,5 @@
 -- One more statement: its place is the last one, and its parts are what was added.
-use Rattle.std.specs.Prelude.{◌≡◌, ℕ, ◌+◌, ◌-◌, ◌<◌, ◌≤◌, ◌^◌, Bool, true, false, List, [], ◌∷◌, ◌++◌, length, map, slice_get, slice_range, get_or, take, drop, Some, None, refl, Result, Ok, Err, OnOk, OnErr, is_err}
+use Rattle.std.specs.Prelude.{◌≡◌, ℕ, ◌-◌, true, false, List, [], ◌∷◌, ◌++◌, length, slice_get, slice_range, get_or, take, drop, Some, None, refl, Result, Ok, Err, OnOk, OnErr, is_err}
 use Rattle.std.proofs.Common.{◌∙◌, ap, sym, subst, arith, append-nil}
 use Rattle.std.proofs.lemmas.List.{length-append}
 use Rattle.std.proofs.lemmas.Option.{slice_get_past, slice_get-get_or, get_or_from_slice_get}
@@ -12,9 +12,9 @@ use Rattle.entries.specs.declared.record.Record.{Record}
 use Rattle.entries.specs.declared.record.Row.{Row}
 use Rattle.entries.specs.declared.record.Buffers.{Buffers}
 use Rattle.entries.specs.declared.sizes.Sizes.{Sizes}
-use Rattle.entries.specs.Entries.{Entry, AreShapedParts, assertion_of, made, plain}
+use Rattle.entries.specs.Entries.{AreShapedParts, assertion_of, made, plain}
 use Rattle.entries.specs.Spans.{AreSpansIn, Extends, cut}
-use Rattle.entries.specs.Records.{Place, head_of, no_row, hypotheses_by, groups_by, hypotheses_at, groups_at, row_place, plain_place, place_by, place_of, places_of, entry_of, sizes_of, start_of, ArePacked, Grows, Begins, IsRowOf, IsAdded}
+use Rattle.entries.specs.Records.{head_of, no_row, hypotheses_by, groups_by, groups_at, row_place, plain_place, place_by, place_of, places_of, entry_of, ArePacked, Grows, Begins, IsRowOf, IsAdded}
 use Rattle.entries.proofs.SpanLemmas.{range-behind, extends-length, extends-refl}
 use Rattle.entries.proofs.RecordLemmas.{places-push}
 

@@ -1,14 +1,13 @@
 -- Fewer statements: the buffers are cut where a statement begins, or back to what they were.
-use Rattle.std.specs.Prelude.{◌≡◌, ℕ, suc, ◌<◌, ◌≤◌, Bool, true, false, List, [], length, map, take, drop, slice_get, get_or, Some, refl}
+use Rattle.std.specs.Prelude.{◌≡◌, ℕ, suc, ◌≤◌, Bool, true, false, List, [], length, map, take, drop, slice_get, Some, refl}
 use Rattle.std.proofs.Common.{◌∙◌, ap, sym, subst, arith, append-nil}
 use Rattle.std.proofs.lemmas.List.{length-take-le}
 use Rattle.std.proofs.lemmas.Option.{slice_get-get_or}
 use Rattle.entries.specs.declared.record.Record.{Record}
 use Rattle.entries.specs.declared.record.Buffers.{Buffers}
 use Rattle.entries.specs.declared.sizes.Sizes.{Sizes}
-use Rattle.entries.specs.Spans.{Extends}
-use Rattle.entries.specs.Records.{Place, no_row, hypotheses_by, groups_by, hypotheses_at, groups_at, place_by, place_of, places_of, end_of, entry_of, sizes_of, start_of, IsWithin, AreWithin, ArePacked, Grows, Begins}
-use Rattle.entries.proofs.SpanLemmas.{take-extends, extends-take}
+use Rattle.entries.specs.Records.{Place, no_row, hypotheses_by, groups_by, hypotheses_at, groups_at, place_by, place_of, places_of, end_of, entry_of, sizes_of, start_of, IsWithin, ArePacked, Grows, Begins}
+use Rattle.entries.proofs.SpanLemmas.{take-extends}
 use Rattle.entries.proofs.PlaceLemmas.{IsCut, within-at, within-more, more-grown, groups-same, entries-same, packed-cut, items-cut, cut-grows}
 use Rattle.entries.proofs.RecordLemmas.{rows-of, rows_after, rows_from-of, from-of, places-get, places-take, places-equal}
 

@@ -1,16 +1,16 @@
 -- Statements in shared buffers, by their places: more behind them changes no statement, and they can be cut where a
 -- statement begins.
-use Rattle.std.specs.Prelude.{◌≡◌, ℕ, zero, suc, ◌+◌, ◌-◌, ◌<◌, ◌≤◌, ◌^◌, List, [], ◌∷◌, ◌++◌, length, map, take, slice_get, Some, option_map, refl, ◌⊎◌, Result, Ok, Err, OnOk, OnErr, is_err, true, false}
-use Rattle.std.proofs.Common.{◌∙◌, ap, sym, subst, arith, inl, inr, append-nil}
-use Rattle.std.proofs.lemmas.List.{length-map, length-append, length-take-le, map-append, take-append-le}
-use Rattle.std.proofs.lemmas.Option.{slice_get_within, slice_get-map}
+use Rattle.std.specs.Prelude.{◌≡◌, ℕ, zero, suc, ◌+◌, ◌-◌, ◌<◌, ◌≤◌, ◌^◌, List, [], ◌∷◌, ◌++◌, length, map, take, slice_get, Some, refl, ◌⊎◌}
+use Rattle.std.proofs.Common.{◌∙◌, ap, sym, subst, arith, inl, inr}
+use Rattle.std.proofs.lemmas.List.{length-append, length-take-le, map-append, take-append-le}
+use Rattle.std.proofs.lemmas.Option.{slice_get_within}
 use Rattle.std.proofs.Math.Seq.{take-append_seam}
 use Rattle.entries.specs.declared.sizes.Sizes.{Sizes}
 use Rattle.entries.specs.declared.record.Buffers.{Buffers}
 use Rattle.entries.specs.Entries.{Entry}
 use Rattle.entries.specs.Spans.{AreSpansIn, Extends}
 use Rattle.entries.specs.Records.{Place, entry_of, sizes_of, start_of, IsWithin, AreWithin, HasGroups, HaveGroups, ArePacked, Grows, IsAdded}
-use Rattle.entries.proofs.SpanLemmas.{range-extends, extends-length, extends-take, take-extends}
+use Rattle.entries.proofs.SpanLemmas.{range-extends, extends-length, extends-take}
 
 -- ---- within
 

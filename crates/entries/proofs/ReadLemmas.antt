@@ -1,5 +1,5 @@
 -- What is read of a statement: its record, and the row of an assertion.
-use Rattle.std.specs.Prelude.{◌≡◌, ℕ, suc, ◌+◌, ◌-◌, ◌<◌, ◌≤◌, Bool, true, false, List, [], ◌∷◌, length, map, drop, slice_get, slice_range, get_or, Some, option_map, refl}
+use Rattle.std.specs.Prelude.{◌≡◌, ℕ, suc, ◌+◌, ◌-◌, ◌<◌, ◌≤◌, Bool, true, false, List, length, map, drop, slice_get, slice_range, Some, option_map, refl}
 use Rattle.std.proofs.Common.{◌∙◌, ap, sym, subst, arith}
 use Rattle.std.proofs.lemmas.List.{length-map}
 use Rattle.std.proofs.lemmas.Option.{slice_get-map}
@@ -8,7 +8,7 @@ use Rattle.entries.specs.declared.record.Row.{Row}
 use Rattle.entries.specs.declared.record.Buffers.{Buffers}
 use Rattle.entries.specs.Entries.{Entry, Assertion}
 use Rattle.entries.specs.Spans.{AreSpansIn, cut}
-use Rattle.entries.specs.Records.{Place, no_row, row_by, own_row, place_by, place_of, places_of, end_of, from_by, symbols_by, entry_of, sizes_of, IsWithin, HasGroups, ArePacked}
+use Rattle.entries.specs.Records.{Place, row_by, own_row, place_by, place_of, places_of, end_of, from_by, symbols_by, entry_of, sizes_of, IsWithin, HasGroups, ArePacked}
 use Rattle.entries.proofs.PlaceLemmas.{within-at, groups-at}
 use Rattle.entries.proofs.RecordLemmas.{rows-of, rows_after, places-get, places-length, end-by}
 use Rattle.entries.proofs.AddedLemmas.{range-none}

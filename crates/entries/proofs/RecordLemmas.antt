@@ -1,16 +1,12 @@
 -- Records and rows: the places that they tell stay when more is added behind them, and go where they are cut.
-use Rattle.std.specs.Prelude.{◌≡◌, ℕ, zero, suc, ◌+◌, ◌-◌, ◌<◌, ◌≤◌, Bool, true, false, List, [], ◌∷◌, ◌++◌, length, take, drop, slice_get, slice_range, get_or, Option, Some, None, refl, ◌⊎◌}
-use Rattle.std.proofs.Common.{◌∙◌, ap, sym, subst, arith, inl, inr}
-use Rattle.std.proofs.lemmas.List.{length-take-le}
-use Rattle.std.proofs.lemmas.Option.{slice_get_past, slice_get-get_or, get_or_from_slice_get, slice_get_cases}
-use Rattle.std.proofs.Math.Seq.{get_or-append_seam}
-use Rattle.std.proofs.Math.ListN.{get_or-append}
+use Rattle.std.specs.Prelude.{◌≡◌, ℕ, zero, suc, ◌+◌, ◌<◌, ◌≤◌, Bool, true, false, List, [], ◌∷◌, ◌++◌, length, take, drop, slice_get, get_or, Some, None, refl, ◌⊎◌}
+use Rattle.std.proofs.Common.{◌∙◌, ap, sym, arith, inl, inr}
+use Rattle.std.proofs.lemmas.Option.{slice_get-get_or, get_or_from_slice_get, slice_get_cases}
 use Rattle.entries.specs.declared.record.Record.{Record}
 use Rattle.entries.specs.declared.record.Row.{Row}
 use Rattle.entries.specs.declared.record.Buffers.{Buffers}
 use Rattle.entries.specs.Spans.{Extends}
-use Rattle.entries.specs.Records.{Place, head_of, row_by, no_row, hypotheses_by, groups_by, hypotheses_at, groups_at, row_place, plain_place, place_by, place_of, end_of, from_by, places_of, sizes_of, AreWithin, Begins}
-use Rattle.entries.proofs.SpanLemmas.{extends-length}
+use Rattle.entries.specs.Records.{head_of, no_row, hypotheses_by, groups_by, hypotheses_at, groups_at, row_place, plain_place, place_by, place_of, end_of, from_by, places_of, sizes_of, AreWithin, Begins}
 
 some-same : {A : Type 0} {x y : A} → Some x ≡ Some y → x ≡ y
 some-same e = cc

@@ -1,11 +1,8 @@
-use Rattle.std.proofs.Common.{◌∙◌, ap, sym, arith}
+use Rattle.std.proofs.Common.{ap, arith}
 use Rattle.std.specs.Prelude.{length}
 use Rattle.std.proofs.lemmas.List.{length-map}
 use Rattle.entries.specs.Records.{entry_of, places_of}
 use Rattle.entries.proofs.RecordLemmas.{places-length}
-use Rattle.entries.proofs.AddedLemmas.{on-ok}
-use Rattle.entries.proofs.CutLemmas.{packed-back}
-use Rattle.entries.proofs.ReadLemmas.{index-in}
 use Rattle.entries.proofs.entries.Entries.len.Goals as goal
 
 pub returns-clause-len : goal.returns-clause-len

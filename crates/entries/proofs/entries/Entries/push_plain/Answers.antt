@@ -5,7 +5,7 @@ use Rattle.entries.specs.Records.{places_of}
 use Rattle.entries.proofs.PlaceLemmas.{packed-push, items-push}
 use Rattle.entries.proofs.RecordLemmas.{places-length}
 use Rattle.entries.proofs.AddedLemmas.{on-ok, on-err, ok-weaker}
-use Rattle.entries.proofs.CutLemmas.{packed-back, items-back}
+use Rattle.entries.proofs.CutLemmas.{packed-back}
 use Rattle.entries.proofs.entries.Entries.push_plain.Goals as goal
 
 pub invariant_of-self : goal.invariant_of-self
