@@ -14,8 +14,6 @@ mod laws;
 mod parse;
 mod statement;
 mod stmt;
-#[cfg(test)]
-mod tests;
 
 pub use export::{push_line, push_line_with_proof, spell};
 pub use fault::ReadFault;

@@ -1,5 +1,5 @@
 //! What no clause says: with ample memory each call succeeds.
-use crate::{LexFault, Span, Word, Words, are_allowed, symbols, tokens};
+use mm_lex::{LexFault, Span, Word, Words, are_allowed, symbols, tokens};
 use std::alloc::{AllocError, Global};
 use std::test::Fail;
 
