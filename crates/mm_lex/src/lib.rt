@@ -17,8 +17,6 @@ mod scan;
 mod span;
 mod stretch;
 mod symbol_list;
-#[cfg(test)]
-mod tests;
 mod walk;
 mod word;
 mod words;

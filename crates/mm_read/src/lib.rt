@@ -13,8 +13,6 @@ mod parse;
 mod part;
 mod statement;
 mod stmt;
-#[cfg(test)]
-mod tests;
 
 pub use export::{push_line, push_line_with_proof, spell};
 pub use fault::ReadFault;

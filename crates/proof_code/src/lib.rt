@@ -21,8 +21,6 @@ mod mandatory;
 mod normal_proof;
 mod numbers;
 mod reader;
-#[cfg(test)]
-mod tests;
 
 pub use compressed_proof::{is_compressed, packed};
 pub use fault::CodeFault;

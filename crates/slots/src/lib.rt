@@ -12,6 +12,3 @@ mod slots;
 
 pub use page::PAGE_SLOTS;
 pub use slots::{SLOTS, Slots};
-
-#[cfg(test)]
-mod tests;

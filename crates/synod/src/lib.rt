@@ -36,6 +36,3 @@ pub use record::Record;
 pub use refusal::Refusal;
 pub use value::{MOST_BYTES, Value};
 pub use weights::{MOST_NODES, MOST_WEIGHT, Weights};
-
-#[cfg(test)]
-mod tests;

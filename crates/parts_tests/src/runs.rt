@@ -3,10 +3,10 @@ ghost use Rattle.std.specs.Prelude.{◌≡◌, IsTrue};
 ghost use Rattle.std.specs.List.{AllByRecursion};
 ghost use Rattle.synod.specs.Packets.{IsReport, IsBody, IsPacket};
 
-use super::*;
 use slots::SLOTS;
 use std::alloc::{AllocError, Global};
 use std::test::Fail;
+use synod::{Ballot, Body, MOST_PAGES, NodeCore, Packet, Refusal, Report, Reports, Value, Weights};
 
 /// A value for the tests.
 #[derive(Debug, Clone, Copy, PartialEq, Eq)]

@@ -1,5 +1,5 @@
 //! The happy path, and each growth refused in turn by the run that refuses allocations.
-use super::*;
+use slots::{SLOTS, Slots};
 use std::test::Fail;
 
 #[test]

@@ -1,5 +1,5 @@
 //! What no clause says: with ample memory each call succeeds.
-use crate::{
+use mm_lex::{
     LexFault, Span, Word, Words, count_tokens, first_bad_byte, next_token, symbols, tokens,
 };
 use std::test::Fail;

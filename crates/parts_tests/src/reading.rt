@@ -1,7 +1,7 @@
 //! Reading and writing with ample memory. Want of memory ends a test with an `Err`; a run that refuses a growth must meet no
 //! failed assertion.
-use crate::{ReadFault, push_line_with_proof, read, spell};
 use mm_lex::LexFault;
+use mm_read::{ReadFault, push_line_with_proof, read, spell};
 use std::alloc::{AllocError, Global};
 
 #[test]

@@ -4,8 +4,8 @@ ghost use Rattle.std.specs.List.{list_all};
 ghost use Rattle.mm_lex.specs.Alphabet.{is_visible};
 ghost use Rattle.mm_lex.specs.Words.{is_word};
 
-use crate::{CodeFault, Items, is_compressed, normal, packed};
 use mm_lex::Words;
+use proof_code::{CodeFault, Items, is_compressed, normal, packed};
 use std::alloc::{AllocError, Global};
 use std::test::Fail;
 
