@@ -50,7 +50,8 @@ impl Names {
     pub fn into_vec(self) -> Vec<u64>
         ensures { result.items ≡ self }
     {
-        self.numbers
+        let Names { numbers } = self;
+        numbers
     }
 
     /// Whether the author is named.

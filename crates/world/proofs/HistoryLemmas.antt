@@ -1,5 +1,5 @@
 -- What agreement says of a history that is taken, and where a run of events stops.
-use Rattle.std.proofs.Common.{◌≡◌, ℕ, suc, List, [], ◌∷◌, ◌++◌, length, take, Result, Ok, Err, inl, inr, refl, ap, sym, ◌∙◌, subst, arith, append_assoc, length-append}
+use Rattle.std.proofs.Common.{◌≡◌, ℕ, suc, List, [], ◌∷◌, ◌++◌, ◌<◌, length, take, Result, Ok, Err, inl, inr, refl, ap, sym, ◌∙◌, subst, arith, append_assoc, length-append}
 use Rattle.std.proofs.Math.Seq.{take-append_seam}
 use Rattle.std.specs.Iterator.{Yields}
 use Rattle.std.specs.Vec.Iter.{into_iter_items, into_iter_steps}
@@ -80,6 +80,11 @@ taken_with {A} xs ys zs x is =
     let whole : zs ≡ (xs ++ x ∷ []) ++ ys = is ∙ sym (append_assoc xs (x ∷ []) ys) in
     ap (λ n. take n zs) (sym count) ∙ taken_before (xs ++ x ∷ []) ys zs whole
 
+stands_within : {A : Type 0} (xs ys zs : List A) (x : A) → zs ≡ xs ++ x ∷ ys → length xs < length zs
+stands_within {A} xs ys zs x is =
+    let count : length zs ≡ length (xs ++ x ∷ ys) = ap (λ (ws : List A). length ws) is in
+    omega (arith, count, length-append xs (x ∷ ys))
+
 met_or_memory : {V : Type 0} (r : Result (World V) StepFault) (fault : StepFault) → IfErr r (λ met. fault ≡ met) → OnOk r (fault ≡ Memory) → IsMetOrMemory r fault
 met_or_memory (Ok w) fault met memory = memory
 met_or_memory (Err met) fault is memory = is
@@ -101,6 +106,7 @@ stops_there {V} size weights events done rest e old now shown fault split is sam
     let count : length shown ≡ length done = ap (λ (es : List (Event V)). length es) (shows ∙ ap (λ (t : Taken V). t.events) (same ∙ is)) in
     subst (λ (i : ℕ). StopsAt size weights events i fault) (sym count) record {
       before = subst (λ (es : List (Event V)). IsOk (after size weights es)) (sym (taken_before done (e ∷ rest) events split)) (subst (λ (t : Taken V). IsOk (world_of size t)) (same ∙ is) before);
-      fault_is = inl (subst (λ (es : List (Event V)). IsMetOrMemory (after size weights es) fault) (sym (taken_with done rest events e split))
+      fault_is = inl (stands_within done rest events e split,
+          subst (λ (es : List (Event V)). IsMetOrMemory (after size weights es) fault) (sym (taken_with done rest events e split))
           (subst (λ (t : Taken V). IsMetOrMemory (world_of size (with_event t e)) fault) is (met_or_memory (world_of size (with_event old e)) fault (answered_met (world_of size (with_event old e)) fault refused) only_memory)));
     }

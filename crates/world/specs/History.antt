@@ -1,7 +1,7 @@
 -- What agreement says of one history that is taken, at any of its moments.
 -- Source: Lamport, Paxos Made Simple, section 2.2.
 -- The code tells none of this; it is what the laws come to for the events that one world took.
-use Rattle.std.specs.Prelude.{◌≡◌, ◌⊎◌, ℕ, List, take, suc, Result, Ok, Err, IsOk}
+use Rattle.std.specs.Prelude.{◌≡◌, ◌⊎◌, ◌<◌, ℕ, List, length, take, suc, Result, Ok, Err, IsOk}
 use Rattle.world.specs.declared.event.Event.{Event}
 use Rattle.world.specs.declared.fault.StepFault.{StepFault}
 use Rattle.world.specs.declared.fault.StepFault.TheVariants.{Memory}
@@ -37,8 +37,8 @@ abbrev pub IsMetOrMemory : {V : Type 0} → Result (World V) StepFault → StepF
 IsMetOrMemory (Ok w) fault = fault ≡ Memory
 IsMetOrMemory (Err met) fault = fault ≡ met
 
--- the first i events are taken, and the fault is the one that event i meets, or Memory where it meets none;
+-- the first i events are taken, event i is there, and the fault is the one that it meets, or Memory where it meets none;
 -- or a world of new nodes found no memory before the first event
 pub record StopsAt {V : Type 0} (size : V → ℕ) (weights : List ℕ) (events : List (Event V)) (i : ℕ) (fault : StepFault) : Type 0 where
   pub before : IsOk (after size weights (take i events))
-  pub fault_is : IsMetOrMemory (after size weights (take (suc i) events)) fault ⊎ ((i ≡ 0) × (fault ≡ Memory))
+  pub fault_is : ((i < length events) × IsMetOrMemory (after size weights (take (suc i) events)) fault) ⊎ ((i ≡ 0) × (fault ≡ Memory))

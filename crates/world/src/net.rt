@@ -2,7 +2,7 @@
 ghost use Rattle.synod.specs.Weights.{IsWeights};
 ghost use Rattle.world.specs.Taken.{nodes_of};
 ghost use Rattle.world.specs.World.{nodes_from};
-ghost use Rattle.std.specs.Prelude.{◌≡◌, ◌≤◌, ◌<◌, [], Ok, Err, Some, None, length, IfOk, IsOk, OnOk, OnErr, IsOkUnless, MatchResult};
+ghost use Rattle.std.specs.Prelude.{◌≡◌, ◌↔◌, ◌≤◌, ◌<◌, [], Ok, Err, Some, None, length, IfOk, IsOk, OnOk, OnErr, IsOkUnless, MatchResult};
 
 use crate::event::{Event, MOST_EVENTS};
 use crate::fault::StepFault;
@@ -170,7 +170,7 @@ impl<V: Value> Net<V> {
     /// The packet of that number, from 0 in the order of posting. It takes no memory.
     pub fn packet(&self, number: u64) -> Result<&Packet<V>, StepFault>
         ensures found { IfOk result (λ packet. slice_get (packets_after (world_of V.bytes self.now)) number ≡ Some packet.now) }
-        ensures no_packet { slice_get (packets_after (world_of V.bytes self.now)) number ≡ None → result ≡ Err NoPacket }
+        ensures no_packet { (result ≡ Err NoPacket) ↔ (slice_get (packets_after (world_of V.bytes self.now)) number ≡ None) }
         ensures only_no_packet { IsOkUnless result NoPacket }
     {
         match self.packets.get(number as usize) {

@@ -1,5 +1,5 @@
 //! All nodes, all packets and all libraries, driven by a list of events.
-ghost use Rattle.std.specs.Prelude.{◌≡◌, ◌+◌, ◌≤◌, ◌<◌, None, Some, Ok, Err, length, slice_get, IfOk, IfErr, IfSome, IsSomeAnd, OnOk, OnErr, IsOk, IsOkUnless};
+ghost use Rattle.std.specs.Prelude.{◌≡◌, ◌↔◌, ◌+◌, ◌≤◌, ◌<◌, None, Some, Ok, Err, length, slice_get, IfOk, IfErr, IfSome, IsSomeAnd, OnOk, OnErr, IsOk, IsOkUnless};
 ghost use Rattle.library.specs.LibraryOf.{Applies};
 ghost use Rattle.world.specs.World.{packets_after};
 ghost use Rattle.world.specs.Taken.{world_of, with_event};
@@ -127,7 +127,7 @@ impl World {
     /// The packet of that number, from 0 in the order of posting. It takes no memory.
     pub fn packet(&self, number: u64) -> Result<&Packet<Carried>, StepFault>
         ensures found { IfOk result (λ packet. slice_get (packets_after (world_of carried_size self.now.taken)) number ≡ Some packet.now) }
-        ensures no_packet { slice_get (packets_after (world_of carried_size self.now.taken)) number ≡ None → result ≡ Err NoPacket }
+        ensures no_packet { (result ≡ Err NoPacket) ↔ (slice_get (packets_after (world_of carried_size self.now.taken)) number ≡ None) }
         ensures only_no_packet { IsOkUnless result NoPacket }
     {
         self.net.packet(number)
