@@ -33,12 +33,8 @@ mod record;
 mod shape;
 mod span;
 mod storage;
-#[cfg(test)]
-mod stored_frames;
 mod templates;
 mod undo;
-#[cfg(test)]
-mod worked_frames;
 
 pub use assertion::Frame;
 pub use citation::{Cited, Meaning, Pattern};

@@ -23,10 +23,6 @@ mod stack;
 mod standing;
 mod steps;
 mod table;
-#[cfg(test)]
-mod tests;
-#[cfg(test)]
-mod tests_names;
 mod texts;
 
 pub use history::History;

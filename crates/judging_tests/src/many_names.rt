@@ -1,5 +1,5 @@
 //! Names with ample memory: many are added, found, taken away and added again.
-use crate::Names;
+use scope::Names;
 use std::alloc::{AllocError, Global};
 use std::test::Fail;
 
