@@ -26,12 +26,8 @@ mod plain;
 mod reading;
 mod shape;
 mod storage;
-#[cfg(test)]
-mod stored_frames;
 mod templates;
 mod undo;
-#[cfg(test)]
-mod worked_frames;
 
 pub use assertion::Frame;
 pub use frames::Frames;

@@ -20,8 +20,6 @@ mod sizes;
 mod stack;
 mod standing;
 mod steps;
-#[cfg(test)]
-mod tests;
 
 pub use history::History;
 pub use laws::{active_by_sentence, active_closed, active_later, active_more, rules_ignore_proofs};

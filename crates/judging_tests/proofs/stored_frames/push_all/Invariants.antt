@@ -1,6 +1,6 @@
 use Rattle.std.proofs.Common.{◌≡◌}
 use Rattle.frame.specs.Stored.{Extends}
-use Rattle.frame.proofs.stored_frames.push_all.Given as goal
+use Rattle.judging_tests.proofs.stored_frames.push_all.Given as goal
 
 abbrev pub invariant-loop-stmt : goal.invariant-loop-stmt
 invariant-loop-stmt l = record {

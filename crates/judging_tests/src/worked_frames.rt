@@ -1,9 +1,10 @@
 //! The frames of worked assertions.
-ghost use Rattle.mm_read.specs.Statements.{AreShaped, IsShaped};
+ghost use Rattle.mm_read.specs.Statements.{AreShaped};
 
-use crate::{Frame, frame};
+use crate::rules::add;
+use frame::{Frame, frame};
 use mm_read::{Stmt, read};
-use scope::{Rule, Scope, Steps};
+use scope::Scope;
 use std::alloc::Global;
 
 /// The first example of the Metamath book, up to modus ponens.
@@ -59,13 +60,7 @@ fn frame_behind(alloc: Global, text: &[u8], count: usize) -> Option<Frame> {
     }
 }
 
-fn add(scope: &mut Scope, stmt: &Stmt) -> Result<(), Rule>
-    requires { IsShaped stmt.now }
-{
-    scope.add(stmt, &mut Steps::new())
-}
-
-fn frame_of(alloc: Global, scope: &Scope, stmt: &Stmt) -> Option<Frame> {
+pub fn frame_of(alloc: Global, scope: &Scope, stmt: &Stmt) -> Option<Frame> {
     match stmt {
         Stmt::Axiom { .. } => frame(alloc, scope, stmt).ok(),
         Stmt::Prove { .. } => frame(alloc, scope, stmt).ok(),
@@ -92,24 +87,6 @@ fn is_only_group(frame: &Frame, text: &[u8]) -> bool {
     }
 }
 
-/// A frame that met no memory is gathered when it is asked for again: run with each allocation refused in turn.
-#[test]
-fn framed_after_a_refused_growth(rt: HostRuntime) {
-    for text in [ARITHMETIC, APART] {
-        let mut scope = Scope::new(rt.alloc());
-        if let Ok(statements) = read(rt.alloc(), text) {
-            for stmt in statements.iter() {
-                if is_assertion(stmt) && frame_of(rt.alloc(), &scope, stmt).is_none() {
-                    assert!(rt; frame_of(rt.alloc(), &scope, stmt).is_some());
-                }
-                if add(&mut scope, stmt).is_err() {
-                    assert!(rt; add(&mut scope, stmt).is_ok());
-                }
-            }
-        }
-    }
-}
-
-fn is_assertion(stmt: &Stmt) -> bool {
+pub fn is_assertion(stmt: &Stmt) -> bool {
     matches!(stmt, Stmt::Axiom { .. } | Stmt::Prove { .. })
 }

@@ -1,13 +1,13 @@
-//! Adding, copying, marking and going back with ample memory, and after a growth that is refused.
+//! Adding, copying, marking and going back with ample memory.
 ghost use Rattle.mm_read.specs.Statements.{AreShaped, IsShaped};
 
-use crate::{Rule, Scope, Steps};
 use mm_read::{ReadFault, Stmt, read};
+use scope::{Rule, Scope, Steps};
 use std::alloc::Global;
 
 const SMALLEST: &[u8] = b"$c |- $. $( hi $) p $a |- $. q $p |- $= p $.";
 
-const BLOCKS: &[u8] =
+pub const BLOCKS: &[u8] =
     b"$c wff |- R $. $v z $. ${ $v x y $. wx $f wff x $. $d x y $. h $e |- R x $. a1 $a |- x $. $} \
     ${ $v x $. sx $f wff x $. a2 $p |- R x $= sx $. $}";
 
@@ -56,23 +56,6 @@ fn goes_back_to_its_mark(rt: HostRuntime) -> Result<(), Rule> {
     }
     assert!(rt; add_all(&mut scope, rt.alloc(), b"$v x $. $c wff $. wx $f wff x $.") == None);
     Ok(())
-}
-
-/// A statement that met no memory is accepted when it is added again: run with each allocation
-/// refused in turn.
-#[test]
-fn adds_after_a_refused_growth(rt: HostRuntime) {
-    let mut scope = Scope::new(rt.alloc());
-    for _ in 0..2 {
-        if let Ok(statements) = read(rt.alloc(), BLOCKS) {
-            for stmt in statements.iter() {
-                if add(&mut scope, stmt) == Err(Rule::Memory) {
-                    assert!(rt; add(&mut scope, stmt).is_ok());
-                }
-            }
-        }
-        scope.back();
-    }
 }
 
 #[test]
@@ -151,7 +134,7 @@ fn add_all(scope: &mut Scope, alloc: Global, text: &[u8]) -> Option<Rule> {
     }
 }
 
-fn add(scope: &mut Scope, stmt: &Stmt) -> Result<(), Rule>
+pub fn add(scope: &mut Scope, stmt: &Stmt) -> Result<(), Rule>
     requires { IsShaped stmt.now }
 {
     scope.add(stmt, &mut Steps::new())

@@ -1,4 +1,4 @@
-//! Statements by position: worked frames, pushing again behind a cut, and growths that are refused.
+//! Statements by position: worked frames, and pushing again behind a cut.
 ghost use Rattle.std.specs.Prelude.{◌≡◌, IfOk, IsTrue};
 ghost use Rattle.mm_read.specs.declared.stmt.Stmt.{Stmt as Statement};
 ghost use Rattle.mm_read.specs.Statements.{AreShaped, IsShaped};
@@ -6,29 +6,37 @@ ghost use Rattle.frame.specs.FrameOf.{HasAssertion};
 ghost use Rattle.frame.specs.Stored.{Extends};
 
 use crate::worked_frames::{APART, ARITHMETIC};
-use crate::{Frames, Meaning};
 use entries::{Cited, Groups, Pattern};
+use frame::{Frames, Meaning};
 use mm_read::{ReadFault, Stmt, read};
-use scope::{Rule, Scope, Steps};
+use scope::{Scope, Steps};
 use std::alloc::Global;
 
 /// A variable with its `$f` in one block, and in the next block the same variable with another `$f`.
 const CLOSED: &[u8] = b"$c wff set |- R $. ${ $v x $. wx $f wff x $. a1 $a |- x $. $} \
     ${ $v x $. sx $f set x $. a2 $a |- R x $. $}";
 
+/// A text, a label, positions, and whether they are the hypotheses of an assertion with that label.
+const HYPOTHESES: [(&[u8], &[u8], &[usize], bool); 8] = [
+    (ARITHMETIC, b"mp", &[6, 7, 15, 16], true),
+    (ARITHMETIC, b"a1", &[3, 4, 5], true),
+    (ARITHMETIC, b"tze", &[], true),
+    (ARITHMETIC, b"maj", &[], false),
+    (APART, b"ax", &[3, 4], true),
+    (APART, b"th", &[3], true),
+    (CLOSED, b"a1", &[4], true),
+    (CLOSED, b"a2", &[9], true),
+];
+
 #[test]
 fn hypotheses_by_position(rt: HostRuntime) {
-    let book = frames_of(rt.alloc(), ARITHMETIC);
-    assert!(rt; has_hypotheses(&book, b"mp", &[6, 7, 15, 16]));
-    assert!(rt; has_hypotheses(&book, b"a1", &[3, 4, 5]));
-    assert!(rt; has_hypotheses(&book, b"tze", &[]));
-    assert!(rt; !has_hypotheses(&book, b"maj", &[]));
-    let apart = frames_of(rt.alloc(), APART);
-    assert!(rt; has_hypotheses(&apart, b"ax", &[3, 4]));
-    assert!(rt; has_hypotheses(&apart, b"th", &[3]));
-    let closed = frames_of(rt.alloc(), CLOSED);
-    assert!(rt; has_hypotheses(&closed, b"a1", &[4]));
-    assert!(rt; has_hypotheses(&closed, b"a2", &[9]));
+    for (text, label, positions, want) in HYPOTHESES {
+        assert!(rt; asks_for(rt.alloc(), text, label, positions) == want);
+    }
+}
+
+fn asks_for(alloc: Global, text: &[u8], label: &[u8], positions: &[usize]) -> bool {
+    has_hypotheses(&frames_of(alloc, text), label, positions)
 }
 
 #[test]
@@ -101,58 +109,74 @@ fn variable_at(alloc: Global, text: &[u8], at: usize, x: u8) -> Option<bool> {
 
 #[test]
 fn statements_by_position(rt: HostRuntime) {
-    let book = frames_of(rt.alloc(), ARITHMETIC);
-    assert!(rt; book.len() == 18);
-    assert!(rt; book.position(b"mp") == Some(17));
-    assert!(rt; book.position(b"nothing") == None);
-    assert!(rt; label_at(&book, 17) == Some(b"mp"));
-    assert!(rt; label_at(&book, 18) == None);
-    assert!(rt; expr_at(&book, 17) == Some(&[8, 13]));
-    assert!(rt; expr_at(&book, 7) == Some(&[7, 13]));
+    assert!(rt; is_book(&frames_of(rt.alloc(), ARITHMETIC)));
 }
 
-/// A text is pushed behind others, taken away, and pushed again.
+/// Whether these are the frames of the book's example.
+fn is_book(book: &Frames) -> bool {
+    book.len() == 18 && has_labels(book) && has_expressions(book)
+}
+
+fn has_labels(book: &Frames) -> bool {
+    book.position(b"mp") == Some(17)
+        && book.position(b"nothing") == None
+        && label_at(book, 17) == Some(b"mp")
+        && label_at(book, 18) == None
+}
+
+fn has_expressions(book: &Frames) -> bool {
+    expr_at(book, 17) == Some(&[8, 13]) && expr_at(book, 7) == Some(&[7, 13])
+}
+
+const BEHIND: &[u8] = b"$v x $. $c o $. tx $f set x $. ${ h $e |- x $. a3 $a |- R x $. $}";
+
+const BEHIND_AGAIN: &[u8] = b"$v y x $. tx $f wff x $. a3 $a |- x $. ${ $}";
+
+/// A text is pushed behind others, taken away, and another one pushed there.
 #[test]
-fn pushed_again_behind_a_cut(rt: HostRuntime) -> Result<(), Rule> {
+fn pushed_again_behind_a_cut(rt: HostRuntime) {
     let mut scope = Scope::new(rt.alloc());
     let mut frames = Frames::new(rt.alloc());
-    assert!(rt; push_all(rt.alloc(), &mut scope, &mut frames, CLOSED));
-    scope.close_at_end()?;
-    scope.mark();
-    let len = frames.len();
-    let again = b"$v x $. $c o $. tx $f set x $. ${ h $e |- x $. a3 $a |- R x $. $}";
-    assert!(rt; push_all(rt.alloc(), &mut scope, &mut frames, again));
-    assert!(rt; has_hypotheses(&frames, b"a3", &[14, 16]));
-    scope.back();
-    frames.shorten(len);
-    assert!(rt; frames.len() == 11);
-    assert!(rt; frames.position(b"a3") == None);
-    assert!(rt;
-        push_all(
-            rt.alloc(),
-            &mut scope,
-            &mut frames,
-            b"$v y x $. tx $f wff x $. a3 $a |- x $. ${ $}"
-        )
-    );
-    assert!(rt; has_hypotheses(&frames, b"a3", &[13]));
-    assert!(rt; has_hypotheses(&frames, b"a2", &[9]));
-    Ok(())
+    assert!(rt; push_again(rt.alloc(), &mut scope, &mut frames));
 }
 
-/// A statement that met no memory is pushed when it is pushed again: run with each allocation refused in turn.
-#[test]
-fn pushed_after_a_refused_growth(rt: HostRuntime) {
-    let book = frames_of(rt.alloc(), ARITHMETIC);
-    assert!(rt; book.len() == 18);
-    assert!(rt; has_hypotheses(&book, b"mp", &[6, 7, 15, 16]));
-    let apart = frames_of(rt.alloc(), APART);
-    assert!(rt; apart.len() == 17);
-    assert!(rt; has_hypotheses(&apart, b"th", &[3]));
+fn push_again(alloc: Global, scope: &mut Scope, frames: &mut Frames) -> bool
+    requires same { scope.old.statements ≡ frames.old.statements }
+{
+    push_all(alloc, scope, frames, CLOSED)
+        && push_and_cut(alloc, scope, frames)
+        && is_cut(frames)
+        && push_all(alloc, scope, frames, BEHIND_AGAIN)
+        && is_behind_the_cut(frames)
+}
+
+/// Pushes a text behind what stands, where no block is open, and goes back; whether its last assertion was found.
+fn push_and_cut(alloc: Global, scope: &mut Scope, frames: &mut Frames) -> bool
+    requires same { scope.old.statements ≡ frames.old.statements }
+    ensures same { scope.new.statements ≡ frames.new.statements }
+{
+    if scope.close_at_end().is_err() {
+        return false;
+    }
+    scope.mark();
+    let len = frames.len();
+    let is_pushed = push_all(alloc, scope, frames, BEHIND);
+    let is_found = is_pushed && has_hypotheses(frames, b"a3", &[14, 16]);
+    scope.back();
+    frames.shorten(len);
+    is_found
+}
+
+fn is_cut(frames: &Frames) -> bool {
+    frames.len() == 11 && frames.position(b"a3").is_none()
+}
+
+fn is_behind_the_cut(frames: &Frames) -> bool {
+    has_hypotheses(frames, b"a3", &[13]) && has_hypotheses(frames, b"a2", &[9])
 }
 
 /// The frames of a text; of as much of it as is legal.
-fn frames_of(alloc: Global, text: &[u8]) -> Frames {
+pub fn frames_of(alloc: Global, text: &[u8]) -> Frames {
     let mut scope = Scope::new(alloc);
     let mut frames = Frames::new(alloc);
     let _all = push_all(alloc, &mut scope, &mut frames, text);
@@ -180,7 +204,7 @@ fn push_all(alloc: Global, scope: &mut Scope, frames: &mut Frames, text: &[u8]) 
 }
 
 /// Reads a text, once more where there was no memory.
-fn read_again(alloc: Global, text: &[u8]) -> Result<Vec<Stmt>, ReadFault>
+pub fn read_again(alloc: Global, text: &[u8]) -> Result<Vec<Stmt>, ReadFault>
     ensures { IfOk result (λ v. AreShaped v.items) }
 {
     match read(alloc, text) {
@@ -190,7 +214,7 @@ fn read_again(alloc: Global, text: &[u8]) -> Result<Vec<Stmt>, ReadFault>
 }
 
 /// Adds a statement to both, once more where there was no memory; whether it was added.
-fn push(scope: &mut Scope, frames: &mut Frames, stmt: &Stmt) -> bool
+pub fn push(scope: &mut Scope, frames: &mut Frames, stmt: &Stmt) -> bool
     requires same { scope.old.statements ≡ frames.old.statements }
     requires shaped { IsShaped stmt.now }
     ensures same { IsTrue result → scope.new.statements ≡ frames.new.statements }
@@ -210,7 +234,7 @@ fn push(scope: &mut Scope, frames: &mut Frames, stmt: &Stmt) -> bool
 }
 
 /// Whether the assertion with this label has these hypotheses, and stands before the last statement.
-fn has_hypotheses(frames: &Frames, label: &[u8], want: &[usize]) -> bool {
+pub fn has_hypotheses(frames: &Frames, label: &[u8], want: &[usize]) -> bool {
     match frames.position(label) {
         Some(a) => is_assertion(frames, a) && frames.hypotheses(a) == want,
         None => false,
