@@ -1,5 +1,4 @@
 mod OutlineLemmas
 mod RulesLemmas
 mod TreesLemmas
-mod NumberLemmas
 mod Rows

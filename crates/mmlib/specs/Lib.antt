@@ -1,4 +1,3 @@
-pub mod Numbers
 pub mod Outline
 pub mod Printed
 pub mod Trees

@@ -1,4 +1,4 @@
-//! What the lines of a script answer about a world: each call adds an answer to a text, with its line feeds.
+//! What the lines of a script answer: each call adds an answer to a text, with its line feeds.
 ghost use Rattle.std.specs.Prelude.{◌≡◌, ◌++◌, codes, decimal, length, flat_map, option_map, OnOk};
 ghost use Rattle.mm_read.specs.Statements.{AreShaped};
 ghost use Rattle.mm_read.specs.Export.{export_of};
@@ -11,6 +11,9 @@ use library::{Entry, Library, Listed, Verdict};
 use mm_read::{Stmt, push_line};
 use std::alloc::AllocError;
 use world::StepFault;
+
+/// The bytes that the answer of an event or a verdict needs at most.
+pub const ANSWER_ROOM: usize = 128;
 
 /// Adds `ok` and how many packets were posted so far.
 pub fn push_posted(text: &mut Vec<u8>, posted: u64) -> Result<(), AllocError>
@@ -45,15 +48,22 @@ pub fn push_log(text: &mut Vec<u8>, log: &[Option<Entry>]) -> Result<(), AllocEr
     text.extend_from_slice(b"\n")
 }
 
-/// Adds the assertions of a library: their count, and a line for each.
-pub fn push_list(text: &mut Vec<u8>, library: &Library) -> Result<(), AllocError>
+/// Adds the assertions of a library.
+pub fn push_library(text: &mut Vec<u8>, library: &Library) -> Result<(), AllocError>
     ensures { OnOk result (text.new.items ≡ text.old.items ++ list_text (listed library.now.replica.statements)) }
 {
     let list = library.list()?;
+    push_list(text, list.as_slice())
+}
+
+/// Adds these assertions: their count, and a line for each.
+pub fn push_list(text: &mut Vec<u8>, list: &[Listed]) -> Result<(), AllocError>
+    ensures { OnOk result (text.new.items ≡ text.old.items ++ list_text list.now) }
+{
     text.extend_from_slice(b"list ")?;
     push_number(text, list.len() as u64)?;
     text.extend_from_slice(b"\n")?;
-    push_listed_lines(text, list.as_slice())
+    push_listed_lines(text, list)
 }
 
 fn push_listed_lines(text: &mut Vec<u8>, list: &[Listed]) -> Result<(), AllocError>
@@ -99,8 +109,16 @@ fn push_lines(text: &mut Vec<u8>, statements: &[Stmt]) -> Result<(), AllocError>
     Ok(())
 }
 
+/// What a line prints that was answered so: the text, or the line of the refusal.
+pub fn answer_bytes(answered: Result<(), StepFault>, text: &[u8]) -> &[u8] {
+    match answered {
+        Ok(()) => text,
+        Err(fault) => refusal(fault),
+    }
+}
+
 /// The line of a refusal.
-pub fn refusal(fault: StepFault) -> &'static [u8] {
+fn refusal(fault: StepFault) -> &'static [u8] {
     match fault {
         StepFault::Busy => b"refused Busy\n",
         StepFault::LogFull => b"refused LogFull\n",

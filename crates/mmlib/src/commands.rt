@@ -2,10 +2,11 @@
 ghost use Rattle.std.specs.Prelude.{◌≤◌, IfSome};
 
 use crate::database::Question;
-use crate::number::parse_number;
 use crate::weights::parse_weights;
+use crate::workers::Workers;
 use clap::error::ErrorKind;
 use clap::{Arg, ArgAction, ArgMatches, Command, Error};
+use scripts::parse_number;
 use std::alloc::{AllocError, Global};
 use synod::{MOST_NODES, Weights};
 
@@ -19,6 +20,13 @@ pub enum Request<'a> {
     Play {
         /// `None` where what was given are no weights of so many nodes.
         weights: Option<Weights>,
+    },
+    /// `serve`: a script at the desk of a cluster.
+    Serve {
+        /// As of `play`.
+        weights: Option<Weights>,
+        /// How many threads check the proofs of one entry.
+        workers: Workers,
     },
 }
 
@@ -38,6 +46,10 @@ pub fn parse_words<'a>(alloc: Global, words: &'a [&'a str]) -> Result<Request<'a
         })),
         Some(("play", options)) => Ok(Request::Play {
             weights: weights(alloc, options)?,
+        }),
+        Some(("serve", options)) => Ok(Request::Serve {
+            weights: weights(alloc, options)?,
+            workers: workers(alloc, options)?,
         }),
         _ => Err(commands(alloc)?.error(ErrorKind::MissingSubcommand, "a command is wanted")?),
     }
@@ -79,6 +91,22 @@ fn node_count(text: &str) -> Option<u8>
     Some(nodes)
 }
 
+/// The workers that the options give.
+fn workers(alloc: Global, options: &ArgMatches) -> Result<Workers, Error> {
+    match options.get_str("workers").and_then(worker_count) {
+        Some(workers) => Ok(workers),
+        None => Err(commands(alloc)?.error(
+            ErrorKind::InvalidValue,
+            "--workers is a number from 1 to 16",
+        )?),
+    }
+}
+
+/// The count of workers that the text writes.
+fn worker_count(text: &str) -> Option<Workers> {
+    Workers::new(parse_number(text.as_bytes())?)
+}
+
 fn commands<'a>(alloc: Global) -> Result<Command<'a>, AllocError> {
     let outline = Command::new(alloc, "outline").about(
         "Print the statements of a database, one a line",
@@ -94,6 +122,11 @@ fn commands<'a>(alloc: Global) -> Result<Command<'a>, AllocError> {
         .about("Drive a world of nodes by a script")
         .arg(nodes_option(alloc))?
         .arg(weights_option(alloc))?;
+    let serve = Command::new(alloc, "serve")
+        .about("Serve a script by nodes that are threads")
+        .arg(nodes_option(alloc))?
+        .arg(workers_option(alloc))?
+        .arg(weights_option(alloc))?;
     Command::new(alloc, "mmlib")
         .about("Formal mathematics in the Metamath language, and replicas of one library")
         .subcommand_required(true)
@@ -101,7 +134,8 @@ fn commands<'a>(alloc: Global) -> Result<Command<'a>, AllocError> {
         .subcommand(check)?
         .subcommand(tree)?
         .subcommand(trace)?
-        .subcommand(play)
+        .subcommand(play)?
+        .subcommand(serve)
 }
 
 fn label_argument<'a>(alloc: Global) -> Arg<'a> {
@@ -118,6 +152,15 @@ fn nodes_option<'a>(alloc: Global) -> Arg<'a> {
         .action(ArgAction::Set)
         .required(true)
         .help("How many nodes there are, 1 to 9")
+}
+
+fn workers_option<'a>(alloc: Global) -> Arg<'a> {
+    Arg::new(alloc, "workers")
+        .long("workers")
+        .value_name("W")
+        .action(ArgAction::Set)
+        .required(true)
+        .help("How many threads check the proofs of one entry, 1 to 16")
 }
 
 fn weights_option<'a>(alloc: Global) -> Arg<'a> {

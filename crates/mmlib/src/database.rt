@@ -3,11 +3,14 @@ use crate::printed::push_number;
 use crate::streams::{ReadFailure, print, read_text};
 use crate::tree_text::{push_labels, push_tree};
 use crate::verdict_text::push_verdict;
+use crate::workers::Workers;
 use bytes::Bytes;
 use library::{AskFault, Cause, Entry, Library, Submission, Verdict};
 use mm_read::Stmt;
 use std::alloc::{AllocError, Global};
 use std::io::{Read, Write};
+use std::thread::Threads;
+use verify_pool::OpenGate;
 
 /// What is asked about a database.
 #[derive(Clone, Copy)]
@@ -20,8 +23,10 @@ pub enum Question<'a> {
     Trace { label: &'a str },
 }
 
-/// Prints the answer about the database that is read, or why there is none; the answer is the exit status.
-pub fn ask<I: Read, O: Write>(
+/// Prints the answer about the database that is read, or why there is none; the answer is the exit status. Its proofs are checked
+/// by as many threads as the machine offers, and no answer depends on how many.
+pub fn ask<R: Threads + Sync, I: Read, O: Write>(
+    rt: &R,
     alloc: Global,
     question: Question<'_>,
     input: &mut I,
@@ -33,7 +38,7 @@ pub fn ask<I: Read, O: Write>(
         Err(ReadFailure::Memory) => return print(output, b"refused Memory\n", 1),
     };
     let mut library = Library::new(alloc);
-    match judge(&mut library, text) {
+    match judge(rt, &mut library, text) {
         Ok(Verdict::Refused(cause)) => print_cause(alloc, cause, output),
         Ok(_) => print_answer(alloc, question, &library, output),
         Err(_) => print(output, b"refused Memory\n", 1),
@@ -79,14 +84,18 @@ fn trace(alloc: Global, library: &Library, label: &str) -> Result<Vec<u8>, AskFa
 }
 
 /// The verdict on the text as the first entry of an author.
-fn judge(library: &mut Library, text: Vec<u8>) -> Result<Verdict, AllocError> {
+fn judge<R: Threads + Sync>(
+    rt: &R,
+    library: &mut Library,
+    text: Vec<u8>,
+) -> Result<Verdict, AllocError> {
     let text = Bytes::from_vec(text).map_err(AllocError::from)?;
     let entry = Entry::Text(Submission {
         author: 0,
         serial: 0,
         text,
     });
-    library.apply(Some(&entry))
+    library.apply_with(rt, Some(&entry), Workers::offered(rt).count(), &OpenGate)
 }
 
 /// `proved` and how many `$p` there are.

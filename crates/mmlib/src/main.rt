@@ -2,27 +2,28 @@
 //!
 //! Reading order: `program` (`run`, what a command line does), `commands` (its words), `streams`
 //! (what is read and written), `outline`, `rules`; `database` (`check`, `tree`, `trace`), `tree_text`,
-//! `verdict_text`; `play`, with `script`, `words`
-//! and `number` (what a line says), `answers` and `printed` (what it answers).
+//! `verdict_text`; `play`, with `script_input` (its lines, which crate `scripts` reads), `answers` and `printed` (what they
+//! answer); `serve`, with `workers` and `node_threads`.
 #![tactic(auto)]
 
 mod answers;
 mod commands;
 mod database;
-mod number;
+mod node_threads;
 mod outline;
 mod play;
 mod printed;
 mod program;
 mod rules;
-mod script;
+mod script_input;
+mod serve;
 mod streams;
 #[cfg(test)]
 mod tests;
 mod tree_text;
 mod verdict_text;
 mod weights;
-mod words;
+mod workers;
 
 use program::run;
 use std::alloc::{AllocError, Global};

@@ -3,31 +3,37 @@ use crate::commands::{Request, parse_words};
 use crate::database::ask;
 use crate::outline::outline_text;
 use crate::play::play;
+use crate::serve::serve;
 use crate::streams::{ReadFailure, TEXT_LIMIT, print, read_text};
 use clap::error::ErrorKind;
 use std::alloc::{AllocError, Global};
 use std::io::{Read, Write};
+use std::sync::Wait;
+use std::thread::Threads;
 
 /// Runs the command of these words, which come without the program's own name; the answer is the
 /// exit status.
 ///
 /// 0 is good, 1 a refusal (of the input, of a line, of memory, or of a write), 2 a bad command line, bad weights or a bad
 /// script. The text of a bad command line and of bad weights goes to `faults`, and all else to `output`.
-pub fn run<R: AllocGlobal, I: Read, O: Write, F: Write>(
-    rt: &R,
-    words: &[&str],
-    input: &mut I,
-    output: &mut O,
-    faults: &mut F,
-) -> u8 {
+pub fn run<
+    R: AllocGlobal + Threads + Wait + Copy + Send + Sync + Drop + 'static,
+    I: Read,
+    O: Write,
+    F: Write,
+>(rt: &R, words: &[&str], input: &mut I, output: &mut O, faults: &mut F) -> u8 {
     let Ok(line) = command_line(rt.alloc(), words) else {
         return print(output, b"refused Memory\n", 1);
     };
     match parse_words(rt.alloc(), line.as_slice()) {
         Ok(Request::Outline) => outline(rt.alloc(), input, output),
-        Ok(Request::Ask(question)) => ask(rt.alloc(), question, input, output),
+        Ok(Request::Ask(question)) => ask(rt, rt.alloc(), question, input, output),
         Ok(Request::Play { weights }) => match weights {
             Some(weights) => play(rt.alloc(), weights, input, output),
+            None => print(faults, b"bad weights\n", 2),
+        },
+        Ok(Request::Serve { weights, workers }) => match weights {
+            Some(weights) => serve(rt, rt.alloc(), weights, workers, input, output),
             None => print(faults, b"bad weights\n", 2),
         },
         Err(error) if error.kind() == ErrorKind::OutOfMemory => {

@@ -2,5 +2,7 @@
 mod check;
 mod outline;
 mod play;
+mod scenes;
+mod serve;
 mod streams;
 mod tree;

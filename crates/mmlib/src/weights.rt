@@ -1,5 +1,5 @@
 //! The weights of a command line.
-use crate::number::parse_number;
+use scripts::parse_number;
 use synod::{MOST_NODES, Weights};
 
 /// The weights that the text writes, decimal numbers joined by commas, where they are weights of so many nodes.

@@ -1,6 +1,8 @@
 //! Verdicts on databases, as `check` prints them.
 use super::streams::printed;
+use std::sync::Wait;
 use std::test::Fail;
+use std::thread::Threads;
 
 /// The book's first example, up to its proof.
 const BOOK: &[u8] =
@@ -123,7 +125,11 @@ fn whole_statements(count: usize) -> &'static [u8] {
 }
 
 /// Whether `check` prints this line of the text.
-fn is_checked(rt: &HostRuntime, text: &Vec<u8>, line: &[u8]) -> Result<bool, Fail> {
+fn is_checked<R: AllocGlobal + Threads + Wait + Copy + Send + Sync + Drop + 'static>(
+    rt: &R,
+    text: &Vec<u8>,
+    line: &[u8],
+) -> Result<bool, Fail> {
     let run = printed(rt, &["check"], text.as_slice())?;
     Ok(run.output.as_slice() == line)
 }

@@ -1,5 +1,7 @@
 use super::streams::printed;
+use std::sync::Wait;
 use std::test::Fail;
+use std::thread::Threads;
 
 #[test]
 fn statements_are_numbered(rt: HostRuntime) -> Result<(), Fail> {
@@ -74,7 +76,10 @@ fn bad_command_lines(rt: HostRuntime) -> Result<(), Fail> {
     Ok(())
 }
 
-fn is_bad(rt: &HostRuntime, words: &[&str]) -> Result<bool, Fail> {
+fn is_bad<R: AllocGlobal + Threads + Wait + Copy + Send + Sync + Drop + 'static>(
+    rt: &R,
+    words: &[&str],
+) -> Result<bool, Fail> {
     let run = printed(rt, words, b"")?;
     Ok(run.output.is_empty() && !run.faults.is_empty() && run.status == 2)
 }

@@ -1,10 +1,10 @@
 //! Scripts and their answers, as `play` prints them.
+use super::scenes::{Row, answers};
 use super::streams::{Reader, Writer, printed};
 use crate::program::run;
+use std::sync::Wait;
 use std::test::Fail;
-
-/// A line of a script, ` => `, and its answer; a line without an arrow is the next line of the answer above.
-type Row = &'static str;
+use std::thread::Threads;
 
 const TWO_BALLOTS: Row = "\
 offer 0 7 1 $c a $. => ok 0
@@ -231,45 +231,6 @@ p $a |- $.
 q $p |- $= p $.
 ";
 
-/// A script and what it prints.
-#[derive(Drop)]
-struct Scene {
-    script: String,
-    answers: String,
-}
-
-/// What these rows say, one after another.
-fn scene_of(rt: &HostRuntime, rows: &[&str]) -> Result<Scene, Fail> {
-    let mut script = String::new(rt.alloc());
-    let mut answers = String::new(rt.alloc());
-    for row in rows {
-        for line in row.split('\n') {
-            let answer = match line.split_once(" => ") {
-                Some((words, answer)) => {
-                    script.push_str(words)?;
-                    script.push_str("\n")?;
-                    answer
-                }
-                None => line,
-            };
-            if !answer.is_empty() {
-                answers.push_str(answer)?;
-                answers.push_str("\n")?;
-            }
-        }
-    }
-    Ok(Scene { script, answers })
-}
-
-/// Whether the script of the rows prints their answers, and has status 1 exactly where one is a refusal.
-fn plays(rt: &HostRuntime, words: &[&str], rows: &[&str]) -> Result<bool, Fail> {
-    let scene = scene_of(rt, rows)?;
-    let answers = scene.answers.as_str();
-    let status = if answers.contains("refused") { 1 } else { 0 };
-    let run = printed(rt, words, scene.script.as_bytes())?;
-    Ok(run.output.as_slice() == answers.as_bytes() && run.status == status && run.faults.is_empty())
-}
-
 const ONE: &[&str] = &["play", "--nodes", "1"];
 
 const THREE: &[&str] = &["play", "--nodes", "3"];
@@ -294,7 +255,7 @@ fn rows_are_played(rt: HostRuntime) -> Result<(), Fail> {
         (ONE, [NO_SUCH, FORMS]),
         (ONE, ["", ""]),
     ] {
-        assert!(rt; plays(&rt, words, &rows)?, "{rows:?}");
+        assert!(rt; answers(&rt, words, &rows)?, "{rows:?}");
     }
     Ok(())
 }
@@ -339,7 +300,7 @@ fn promises_have_pages(rt: HostRuntime) -> Result<(), Fail> {
     add_lines(&mut votes, "deliver ", 2, "", 260)?;
     let full_page = full_page(&rt)?;
     let pages = PAGES.replace(rt.alloc(), "page 1 of 2", full_page.as_str())?;
-    assert!(rt; plays(&rt, ONE, &[BEGUN, votes.as_str(), pages.as_str()])?);
+    assert!(rt; answers(&rt, ONE, &[BEGUN, votes.as_str(), pages.as_str()])?);
     Ok(())
 }
 
@@ -360,7 +321,7 @@ fn a_node_has_room_for_64(rt: HostRuntime) -> Result<(), Fail> {
         write!(row, "offer 1 7 {serial} $c a $. => ok 0\n")?;
     }
     row.push_str("offer 1 7 64 $c a $. => refused Busy\n")?;
-    assert!(rt; plays(&rt, THREE, &[row.as_str()])?);
+    assert!(rt; answers(&rt, THREE, &[row.as_str()])?);
     Ok(())
 }
 
@@ -386,6 +347,8 @@ fn bad_lines(rt: HostRuntime) -> Result<(), Fail> {
         (b"charter 0 7 1 2 2", b"bad line 1\n"),
         (b"status 0 7", b"bad line 1\n"),
         (b"submit 0 7 1 x", b"bad line 1\n"),
+        (b"settle 0 7 1", b"bad line 1\n"),
+        (b"log 0\nsettle 0 7 1\nsubmit 0 7 1", b"bad line 2\n"),
         (b" ", b"bad line 1\n"),
     ] {
         let run = printed(&rt, ONE, script)?;
@@ -396,7 +359,11 @@ fn bad_lines(rt: HostRuntime) -> Result<(), Fail> {
 }
 
 /// Whether these words print something on the standard error alone, and end with status 2.
-fn is_bad(rt: &HostRuntime, words: &[&str], faults: &[u8]) -> Result<bool, Fail> {
+fn is_bad<R: AllocGlobal + Threads + Wait + Copy + Send + Sync + Drop + 'static>(
+    rt: &R,
+    words: &[&str],
+    faults: &[u8],
+) -> Result<bool, Fail> {
     let run = printed(rt, words, b"begin 0")?;
     let told = run.faults.starts_with(faults) && !run.faults.is_empty();
     Ok(run.output.is_empty() && told && run.status == 2)

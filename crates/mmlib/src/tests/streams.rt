@@ -1,7 +1,9 @@
 use crate::program::run;
 use std::alloc::Global;
 use std::io::{self, ErrorKind, Read, Write};
+use std::sync::Wait;
 use std::test::Fail;
+use std::thread::Threads;
 
 /// What a run printed.
 #[derive(Drop)]
@@ -12,7 +14,11 @@ pub struct Run {
 }
 
 /// A run over memory.
-pub fn printed(rt: &HostRuntime, words: &[&str], mut text: &[u8]) -> Result<Run, Fail> {
+pub fn printed<R: AllocGlobal + Threads + Wait + Copy + Send + Sync + Drop + 'static>(
+    rt: &R,
+    words: &[&str],
+    mut text: &[u8],
+) -> Result<Run, Fail> {
     let mut output = Vec::new(rt.alloc());
     let mut faults = Vec::new(rt.alloc());
     let status = run(rt, words, &mut text, &mut output, &mut faults);

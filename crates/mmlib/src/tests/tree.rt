@@ -1,6 +1,8 @@
 //! Derivations and the axioms that they rest on, as `tree` and `trace` print them.
 use super::streams::printed;
+use std::sync::Wait;
 use std::test::Fail;
+use std::thread::Threads;
 
 const SMALL: &str = "$c |- $. $( hi $) p $a |- $. q $p |- $= p $.";
 
@@ -32,8 +34,8 @@ const LABELS: &str =
     "$c |- $. -x $a |- $. refused $a |- $. -y $p |- $= -x $. z $p |- $= refused $.";
 
 /// Whether these words print these lines of the text, with this status.
-fn is_answered(
-    rt: &HostRuntime,
+fn is_answered<R: AllocGlobal + Threads + Wait + Copy + Send + Sync + Drop + 'static>(
+    rt: &R,
     words: &[&str],
     front: &str,
     rest: &str,

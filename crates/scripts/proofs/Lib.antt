@@ -1,0 +1,4 @@
+mod NumberLemmas
+mod PiecesLemmas
+mod ScriptsLemmas
+mod NamesLemmas
