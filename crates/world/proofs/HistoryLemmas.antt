@@ -106,7 +106,9 @@ stops_there {V} size weights events done rest e old now shown fault split is sam
     let count : length shown ≡ length done = ap (λ (es : List (Event V)). length es) (shows ∙ ap (λ (t : Taken V). t.events) (same ∙ is)) in
     subst (λ (i : ℕ). StopsAt size weights events i fault) (sym count) record {
       before = subst (λ (es : List (Event V)). IsOk (after size weights es)) (sym (taken_before done (e ∷ rest) events split)) (subst (λ (t : Taken V). IsOk (world_of size t)) (same ∙ is) before);
-      fault_is = inl (stands_within done rest events e split,
-          subst (λ (es : List (Event V)). IsMetOrMemory (after size weights es) fault) (sym (taken_with done rest events e split))
-          (subst (λ (t : Taken V). IsMetOrMemory (world_of size (with_event t e)) fault) is (met_or_memory (world_of size (with_event old e)) fault (answered_met (world_of size (with_event old e)) fault refused) only_memory)));
+      fault_is = inl (
+        stands_within done rest events e split,
+        subst (λ (es : List (Event V)). IsMetOrMemory (after size weights es) fault) (sym (taken_with done rest events e split))
+            (subst (λ (t : Taken V). IsMetOrMemory (world_of size (with_event t e)) fault) is (met_or_memory (world_of size (with_event old e)) fault (answered_met (world_of size (with_event old e)) fault refused) only_memory)),
+      );
     }
