@@ -4,4 +4,3 @@ pub mod DistinctLemmas
 pub mod KeysLemmas
 pub mod TextsLemmas
 pub mod TableLemmas
-pub mod GatheredLemmas

@@ -1,12 +1,12 @@
 -- A table by keys: what is put there is found, and what is not found is not there.
-use Rattle.std.specs.Prelude.{◌≡◌, ◌≢◌, ℕ, zero, suc, ◌<◌, ◌≤◌, ◌^◌, ◌⊎◌, List, [], ◌∷◌, ◌++◌, length, take, slice_get, Some, None, refl}
-use Rattle.std.proofs.Common.{sym, ◌∙◌, ap, subst, arith, inl, inr, slice_set, length-append}
+use Rattle.std.specs.Prelude.{◌≡◌, ◌≢◌, ℕ, zero, suc, ◌+◌, ◌<◌, ◌≤◌, ◌^◌, Bool, true, false, ◌||◌, ◌⊎◌, List, [], ◌∷◌, ◌++◌, length, take, drop, slice_get, Some, None, refl}
+use Rattle.std.proofs.Common.{sym, ◌∙◌, ap, subst, arith, inl, inr, slice_set, length-append, add-one}
 use Rattle.std.proofs.lemmas.Bool.{cases_lt}
 use Rattle.std.specs.Prelude.{unwrap_or, replicate}
-use Rattle.std.proofs.lemmas.List.{length-set, length-replicate, get_or-replicate}
+use Rattle.std.proofs.lemmas.List.{length-set, length-replicate, get_or-replicate, take-append-drop}
 use Rattle.std.proofs.lemmas.Option.{slice_get_within, unwrap_or-slice_get}
-use Rattle.mm_lex.specs.Alphabet.{Name}
-use Rattle.names.specs.Codes.{name_at, code_of}
+use Rattle.mm_lex.specs.Alphabet.{Name, name_eq, has_name}
+use Rattle.names.specs.Codes.{name_at, code_of, AreDistinct}
 use Rattle.names.specs.declared.table.Slot.{Slot}
 use Rattle.names.specs.declared.table.TheConstants.{NO_NAME}
 use Rattle.names.specs.Keys.{AreBytes, key_of}
@@ -55,14 +55,14 @@ not-found slots names name key step own held few passed end = code-absent names 
                 let there : slot_at slots key step (record { key = key; number = k }) = subst (λ i. slot_at slots key i (record { key = key; number = k })) same h.there in
                 no-name k (length names) lt few (ap (λ (u : Slot). u.number) (same-slot slots key step (record { key = key; number = k }) g.0 there g.1) ∙ g.2)
 
-pub get-set_other : {A : Type 0} (xs : List A) (i n : ℕ) (v : A) → n ≢ i → slice_get (slice_set xs i v) n ≡ slice_get xs n
+get-set_other : {A : Type 0} (xs : List A) (i n : ℕ) (v : A) → n ≢ i → slice_get (slice_set xs i v) n ≡ slice_get xs n
 get-set_other [] i n v ne = refl
 get-set_other (x ∷ xs) zero zero v ne = absurd (ne refl)
 get-set_other (x ∷ xs) (suc i) zero v ne = refl
 get-set_other (x ∷ xs) zero (suc n) v ne = refl
 get-set_other (x ∷ xs) (suc i) (suc n) v ne = get-set_other xs i n v (λ e. ne (ap suc e))
 
-pub get-set_same : {A : Type 0} (xs : List A) (i : ℕ) (v : A) → i < length xs → slice_get (slice_set xs i v) i ≡ Some v
+get-set_same : {A : Type 0} (xs : List A) (i : ℕ) (v : A) → i < length xs → slice_get (slice_set xs i v) i ≡ Some v
 get-set_same [] i v h = absurd (omega arith)
 get-set_same (x ∷ xs) zero v h = refl
 get-set_same (x ∷ xs) (suc i) v h = get-set_same xs i v (omega arith)

@@ -1,9 +1,8 @@
 -- Names as numbers of 64 bits. Names of at most seven bytes are told apart by them.
 -- The code's own form: no clause of a scope cites it.
 use Rattle.std.specs.Prelude.{ℕ, ◌+◌, ◌-◌, ◌*◌, ◌/◌, ◌%◌, ◌^◌, ◌<◌, List, [], ◌∷◌, length, get_or, fold, nat_lt, if◌then◌else◌}
-use Rattle.std.specs.Int.{w64, from_le_bytes}
 use Rattle.mm_lex.specs.Alphabet.{Name}
-use Rattle.names.specs.declared.keys.TheConstants.{LONG, HINTS, FACTOR}
+use Rattle.names.specs.declared.keys.TheConstants.{LONG, HINTS}
 
 abbrev pub AreBytes : List ℕ → Type 0
 AreBytes bytes = (i : ℕ) → get_or bytes i 0 < 256
@@ -26,23 +25,11 @@ front_and_back x =
 abbrev pub picked : Name → List ℕ
 picked x = if nat_lt (length x) 4 then ends x else front_and_back x
 
--- the number of the eight bytes from a place on
-abbrev pub eight_at : Name → ℕ → ℕ
-eight_at x i =
-    from_le_bytes w64
-    (get_or x i 0 ∷ get_or x (i + 1) 0 ∷ get_or x (i + 2) 0 ∷ get_or x (i + 3) 0
-    ∷ get_or x (i + 4) 0 ∷ get_or x (i + 5) 0 ∷ get_or x (i + 6) 0 ∷ get_or x (i + 7) 0 ∷ [])
-
--- by the first eight bytes and the last eight
-abbrev pub ends_hint : Name → ℕ
-ends_hint x = (eight_at x 0 * FACTOR % 2 ^ 64 + eight_at x (length x - LONG)) % 2 ^ 64
-
 abbrev pub mixed : ℕ → ℕ → ℕ
 mixed hint byte = (hint * 257 % 2 ^ 64 + byte) % 2 ^ 64
 
--- where bytes stand between those, by all
 abbrev pub hint_of : Name → ℕ
-hint_of x = (if nat_lt (2 * LONG) (length x) then fold mixed (ends_hint x) x else ends_hint x) % HINTS + HINTS
+hint_of x = fold mixed 0 x % HINTS + HINTS
 
 abbrev pub key_of : Name → ℕ
 key_of x = if nat_lt (length x) LONG then digits (picked x) * 8 + length x else hint_of x

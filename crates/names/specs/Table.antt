@@ -5,9 +5,8 @@ use Rattle.std.specs.Int.{w64, swap_bytes}
 use Rattle.mm_lex.specs.Alphabet.{Name}
 use Rattle.names.specs.Codes.{name_at}
 use Rattle.names.specs.declared.table.Slot.{Slot}
-use Rattle.names.specs.declared.table.TheConstants.{NO_NAME}
+use Rattle.names.specs.declared.table.TheConstants.{NO_NAME, FACTOR}
 use Rattle.names.specs.declared.texts.Span.{Span}
-use Rattle.names.specs.declared.keys.TheConstants.{FACTOR}
 use Rattle.names.specs.Keys.{AreBytes, key_of}
 
 -- the parts of a buffer
@@ -59,17 +58,6 @@ pub record HasKey (names : List Name) (s : Slot) : Type 0 where
 pub record IsTable (slots : List Slot) (names : List Name) (sound : ℕ) : Type 0 where
   pub held : AreHeld slots names
   pub keys : (i : ℕ) (s : Slot) → slice_get slots i ≡ Some s → s.number < sound → HasKey names s
-
--- keys by number, of which the first n are those of the names
-pub record AreKeys (keys : List ℕ) (names : List Name) (n : ℕ) : Type 0 where
-  pub count : length keys ≡ length names
-  pub bytes : (k : ℕ) → k < n → k < length names → AreBytes (name_at names k)
-  pub each : (k : ℕ) → k < n → k < length names → slice_get keys k ≡ Some (key_of (name_at names k))
-
--- the keys in the first n slots stand by number
-pub record AreGathered (slots : List Slot) (keys : List ℕ) (names : List Name) (n : ℕ) : Type 0 where
-  pub count : length keys ≡ length names
-  pub each : (i : ℕ) (s : Slot) → i < n → slice_get slots i ≡ Some s → s.number < length names → slice_get keys s.number ≡ Some s.key
 
 -- the first slot without number that is met by a key
 pub record IsFree (slots : List Slot) (key at : ℕ) : Type 0 where

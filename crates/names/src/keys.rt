@@ -1,16 +1,12 @@
 //! A name as a number of 64 bits, by which most names are told apart.
 ghost use Rattle.std.specs.Prelude.{◌≡◌, ◌+◌, ◌*◌, ◌^◌, ◌<◌, ◌≤◌, length};
-ghost use Rattle.names.specs.Keys.{AreBytes, digits, picked, mixed, hint_of, eight_at, key_of};
-ghost use Rattle.names.specs.declared.keys.TheConstants.{LONG};
+ghost use Rattle.names.specs.Keys.{AreBytes, digits, picked, mixed, hint_of, key_of};
 
 /// From this length on the key of a name is a hint. A shorter name shares its key with no other.
 pub(crate) const LONG: usize = 8;
 
 /// The hints are the numbers from this one on.
 const HINTS: u64 = 0x8000_0000_0000_0000;
-
-/// An odd number whose bits are spread evenly: 2^64 by the golden ratio.
-pub(crate) const FACTOR: u64 = 0x9e37_79b9_7f4a_7c15;
 
 /// The key of a name.
 pub(crate) fn key(name: &[u8]) -> u64
@@ -57,36 +53,12 @@ fn digit(byte: u8, above: u64) -> u64
     byte as u64 + 256 * above
 }
 
-/// The hint at a longer name: by its first eight bytes and its last eight, and by all where some stand between.
+/// The hint at a longer name.
 fn hint(name: &[u8]) -> u64
-    requires { LONG ≤ length name.now }
     ensures { result ≡ hint_of name.now }
 {
-    let len = name.len();
-    let ends = eight(name, 0)
-        .wrapping_mul(FACTOR)
-        .wrapping_add(eight(name, len - LONG));
-    if len > 2 * LONG {
-        return name.iter().fold(ends, |mixed, byte| mix(mixed, *byte)) % HINTS + HINTS;
-    }
-    ends % HINTS + HINTS
-}
-
-/// The eight bytes from a place on, as a number.
-fn eight(name: &[u8], at: usize) -> u64
-    requires { at + 8 ≤ length name.now }
-    ensures { result ≡ eight_at name.now at }
-{
-    u64::from_le_bytes([
-        name[at],
-        name[at + 1],
-        name[at + 2],
-        name[at + 3],
-        name[at + 4],
-        name[at + 5],
-        name[at + 6],
-        name[at + 7],
-    ])
+    let mixed = name.iter().fold(0, |mixed, byte| mix(mixed, *byte));
+    mixed % HINTS + HINTS
 }
 
 fn mix(hint: u64, byte: u8) -> u64

@@ -4,7 +4,7 @@ ghost use Rattle.mm_lex.specs.Alphabet.{has_name};
 ghost use Rattle.names.specs.Codes.{name_at, code_of, AreDistinct};
 
 use crate::keys::key;
-use crate::table::{NO_NAME, Slot, free_place, renewed, search};
+use crate::table::{NO_NAME, Slot, free_place, search, table};
 use crate::texts::Texts;
 use std::alloc::{AllocError, Global};
 use std::marker::Model;
@@ -131,7 +131,7 @@ impl Names {
         ensures { self.new ≡ self.old }
     {
         if self.taken >= self.slots.len() / 4 * 3 {
-            self.slots = renewed(alloc, self.slots.as_slice(), &self.texts, self.sound)?;
+            self.slots = table(alloc, &self.texts)?;
             self.taken = self.texts.len();
             self.sound = NO_NAME;
         }

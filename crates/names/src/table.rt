@@ -2,10 +2,10 @@
 ghost use Rattle.std.specs.Prelude.{◌≡◌, ℕ, ◌<◌, ◌^◌, [], length, IfOk, IfSome, true, false};
 ghost use Rattle.names.specs.Codes.{name_at, code_of, AreDistinct};
 ghost use Rattle.names.specs.Keys.{key_of};
-ghost use Rattle.names.specs.Table.{place_of, slot_at, HasKey, IsTable, IsFree, AreKeys};
+ghost use Rattle.names.specs.Table.{place_of, slot_at, HasKey, IsTable, IsFree};
 ghost use Rattle.names.specs.declared.table.TheConstants.{NO_NAME};
 
-use crate::keys::{FACTOR, LONG, key};
+use crate::keys::{LONG, key};
 use crate::texts::{Texts, item};
 use std::alloc::{AllocError, Global};
 
@@ -14,6 +14,9 @@ pub(crate) const NO_NAME: u32 = 4294967295;
 
 /// How many slots the first table has.
 const FIRST_SLOTS: usize = 16;
+
+/// An odd number whose bits are spread evenly: 2^64 by the golden ratio.
+const FACTOR: u64 = 0x9e37_79b9_7f4a_7c15;
 
 /// The key and the number of a name, or `NO_NAME`.
 #[derive(Clone, Copy, Drop)]
@@ -116,66 +119,14 @@ pub(crate) fn free_place(slots: &[Slot], key: u64) -> Option<usize>
     None
 }
 
-/// A table with room for as many texts again, whose slots are all sound. Where those of the old one are, it takes the
-/// keys from there. Earlier texts stand nearer to where their keys are looked for first.
-pub(crate) fn renewed(
-    alloc: Global,
-    slots: &[Slot],
-    texts: &Texts,
-    sound: u32,
-) -> Result<Vec<Slot>, AllocError>
-    requires few { length texts.now < 2 ^ 32 }
-    requires table { IsTable slots.now texts.now sound }
+/// A table for the texts, with room for as many again.
+pub(crate) fn table(alloc: Global, texts: &Texts) -> Result<Vec<Slot>, AllocError>
+    requires { length texts.now < 2 ^ 32 }
     ensures { IfOk result (λ slots. IsTable slots.items texts.now NO_NAME) }
 {
-    let keys = if sound == NO_NAME {
-        keys_of_slots(alloc, slots, texts)?
-    } else {
-        keys_of_texts(alloc, texts)?
-    };
-    table(alloc, keys.as_slice(), texts)
-}
-
-/// The keys of the texts by number, from a table whose slots are sound.
-fn keys_of_slots(alloc: Global, slots: &[Slot], texts: &Texts) -> Result<Vec<u64>, AllocError>
-    requires few { length texts.now < 2 ^ 32 }
-    requires table { IsTable slots.now texts.now NO_NAME }
-    ensures { IfOk result (λ keys. AreKeys keys.items texts.now (length texts.now)) }
-{
-    let count = texts.len();
-    let mut keys = Vec::new(alloc);
-    keys.resize(count, 0)?;
-    for index in 0..slots.len() {
-        let slot = item(slots, index);
-        if (slot.number as usize) < count {
-            keys[slot.number as usize] = slot.key;
-        }
-    }
-    Ok(keys)
-}
-
-/// The same from the texts.
-fn keys_of_texts(alloc: Global, texts: &Texts) -> Result<Vec<u64>, AllocError>
-    ensures { IfOk result (λ keys. AreKeys keys.items texts.now (length texts.now)) }
-{
-    let count = texts.len();
-    let mut keys = Vec::new(alloc);
-    keys.resize(count, 0)?;
-    for number in 0..count {
-        keys[number] = key(texts.get(number));
-    }
-    Ok(keys)
-}
-
-/// The table of the texts with these keys.
-fn table(alloc: Global, keys: &[u64], texts: &Texts) -> Result<Vec<Slot>, AllocError>
-    requires few { length texts.now < 2 ^ 32 }
-    requires keys { AreKeys keys.now texts.now (length texts.now) }
-    ensures { IfOk result (λ slots. IsTable slots.items texts.now NO_NAME) }
-{
-    let mut slots = free_slots(alloc, slots_for(keys.len()))?;
-    for number in 0..keys.len() {
-        let key = item(keys, number);
+    let mut slots = free_slots(alloc, slots_for(texts.len()))?;
+    for number in 0..texts.len() {
+        let key = key(texts.get(number));
         let Some(at) = free_place(slots.as_slice(), key) else {
             return Err(AllocError);
         };
