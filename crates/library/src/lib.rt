@@ -19,8 +19,6 @@ mod pool;
 mod proving;
 mod reading;
 mod submission;
-#[cfg(test)]
-mod tests;
 mod uses;
 mod verdict;
 mod verdicts;

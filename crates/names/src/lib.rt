@@ -8,8 +8,6 @@
 mod keys;
 mod names;
 mod table;
-#[cfg(test)]
-mod tests;
 mod texts;
 
 pub use names::Names;
