@@ -8,7 +8,7 @@ use scope::Rule;
 use std::alloc::{AllocError, Global};
 use std::thread::Threads;
 use verify::Tree;
-use verify_pool::OpenGate;
+use verify_pool::{OpenGate, Workers};
 
 /// A frame's worth of variables, and an axiom that keeps two of them apart.
 const PAIRS: &[u8] =
@@ -84,10 +84,10 @@ fn worked_verdict<R: Threads + Sync>(
         text: Bytes::copy_from_slice(alloc, &text).ok()?,
     });
     let mut library = Library::new(alloc);
-    match library.apply_with(rt, Some(&entry), workers, &OpenGate) {
+    match library.apply_with(rt, Some(&entry), Workers::of(workers), &OpenGate) {
         Ok(verdict) => Some(verdict),
         Err(_) => library
-            .apply_with(rt, Some(&entry), workers, &OpenGate)
+            .apply_with(rt, Some(&entry), Workers::of(workers), &OpenGate)
             .ok(),
     }
 }

@@ -1,4 +1,3 @@
-use Rattle.std.specs.Prelude.{IfOk}
 use Rattle.verify_pool.proofs.StripeLemmas.{one_stripe_is_all}
 use Rattle.verify_pool.proofs.pool.judge_here.Goals as goal
 

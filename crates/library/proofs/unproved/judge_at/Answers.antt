@@ -4,7 +4,7 @@ use Rattle.verify.specs.Right.{IsProvable}
 use Rattle.library.proofs.FrontLemmas.{stands-index}
 use Rattle.library.proofs.ItemsLemmas.{provable-bare}
 use Rattle.library.proofs.ProvingLemmas.{judged-stands}
-use Rattle.library.proofs.proving.judge_at.Goals as goal
+use Rattle.library.proofs.unproved.judge_at.Goals as goal
 
 pub prove-requires : goal.prove-requires
 prove-requires c = (

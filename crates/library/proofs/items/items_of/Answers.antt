@@ -2,7 +2,7 @@ use Rattle.std.proofs.Common.{sym, ◌∙◌, subst}
 use Rattle.verify.specs.Proves.{mandatory_labels}
 use Rattle.library.proofs.ProvingLemmas.{if-found, packed-found, Found}
 use Rattle.scope.specs.Active.{bares}
-use Rattle.library.proofs.proving.items_of.Goals as goal
+use Rattle.library.proofs.items.items_of.Goals as goal
 
 pub returns-in_ok-labels : goal.returns-in_ok-labels
 returns-in_ok-labels c =

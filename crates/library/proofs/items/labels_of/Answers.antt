@@ -1,7 +1,7 @@
 use Rattle.std.proofs.Common.{arith, refl}
 use Rattle.std.proofs.Common.{take_all}
 use Rattle.library.proofs.ItemsLemmas.{has-assertion, hypothesis-of, kind-of, labels-more, labels-all}
-use Rattle.library.proofs.proving.labels_of.Goals as goal
+use Rattle.library.proofs.items.labels_of.Goals as goal
 
 pub hypotheses-position-items-requires : goal.hypotheses-position-items-requires
 hypotheses-position-items-requires c = has-assertion _ _ _ c.requires.provable.0 c.requires.same c.requires.provable.1

@@ -2,7 +2,7 @@ use Rattle.std.proofs.Common.{◌∙◌, ap}
 use Rattle.scope.specs.Active.{label_of}
 use Rattle.library.proofs.FrontLemmas.{stands-index}
 use Rattle.library.proofs.ItemsLemmas.{label-at, other-kind}
-use Rattle.library.proofs.proving.hypothesis_label.Goals as goal
+use Rattle.library.proofs.items.hypothesis_label.Goals as goal
 
 pub unreachable-requires : goal.unreachable-requires
 unreachable-requires c =

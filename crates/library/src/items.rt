@@ -1,4 +1,4 @@
-//! The proofs of statements that keep the rules: the least `$p` that is not proved.
+//! The items that the tokens of a proof write.
 ghost use Rattle.std.specs.Prelude.{◌≡◌, ℕ, ◌<◌, ◌≤◌, ◌⊎◌, Some, None, Ok, Err, map, length, IfOk, MatchOption, IsTrue};
 ghost use Rattle.std.specs.List.{list_any};
 ghost use Rattle.mm_lex.specs.Words.{is_word};
@@ -8,55 +8,13 @@ ghost use Rattle.frame.specs.Citations.{is_hypothesis_kind};
 ghost use Rattle.proof_code.specs.declared.item.Item.{Item};
 ghost use Rattle.proof_code.specs.Writes.{Writes, is_unfinished};
 ghost use Rattle.verify.specs.Proves.{label_or_none, mandatory_labels};
-ghost use Rattle.verify.specs.Right.{IsProvable, Says};
-ghost use Rattle.library.specs.Judging.{StandsProved, IsLeastUnproved};
+ghost use Rattle.verify.specs.Right.{IsProvable};
 
 use frame::Frames;
 use mm_lex::Words;
 use mm_read::Stmt;
 use proof_code::{CodeFault, Items, is_compressed, normal, packed};
 use std::alloc::{AllocError, Global};
-use verify::{Answer, Checker};
-
-/// The position of the least `$p` behind the first `front` statements that is not proved.
-///
-/// Errors: a growth was refused. Cost: that of the proofs behind them, up to that one.
-pub(crate) fn first_unproved(
-    alloc: Global,
-    frames: &Frames,
-    statements: &[Stmt],
-    front: usize,
-) -> Result<Option<usize>, AllocError>
-    requires same { frames.now.statements ≡ bares statements.now }
-    requires within { front ≤ length statements.now }
-    ensures { IfOk result (IsLeastUnproved statements.now front) }
-{
-    let mut checker = Checker::new(alloc);
-    for index in front..statements.len() {
-        match judge_at(frames, statements, index + 1, &mut checker)? {
-            Answer::Proved => {}
-            Answer::Wrong => return Ok(Some(index + 1)),
-        }
-    }
-    Ok(None)
-}
-
-/// Whether the statement at a position is proved, where it is a `$p`.
-fn judge_at(
-    frames: &Frames,
-    statements: &[Stmt],
-    at: usize,
-    checker: &mut Checker,
-) -> Result<Answer, AllocError>
-    requires same { frames.now.statements ≡ bares statements.now }
-    requires place { (1 ≤ at) × (at ≤ length statements.now) }
-    ensures { IfOk result (λ answer. Says answer (StandsProved statements.now at)) }
-{
-    let Stmt::Prove { proof, .. } = &statements[at - 1] else {
-        return Ok(Answer::Proved);
-    };
-    checker.prove(frames, at, proof)
-}
 
 /// The items that the tokens of the `$p` at a position write; none where they write none.
 pub(crate) fn items_of(
