@@ -1,10 +1,11 @@
 //! One replica: the statements that the entries of a log validly add, and the verdicts on them.
-ghost use Rattle.std.specs.Prelude.{◌≡◌, ◌≤◌, ℕ, None, Some, IfOk, OnErr, option_map};
+ghost use Rattle.std.specs.Prelude.{◌≡◌, ◌≤◌, ℕ, None, Some, IfOk, IfSome, OnErr, option_map};
 ghost use Rattle.std.specs.Fn.{FnReturnsAt};
 ghost use Rattle.mm_read.specs.Statements.{AreShaped};
 ghost use Rattle.library.specs.Charters.{AreNames};
 ghost use Rattle.library.specs.Good.{Good};
 ghost use Rattle.library.specs.LibraryOf.{Applies, empty, status};
+ghost use Rattle.library.specs.Ledger.{IsDecision};
 ghost use Rattle.library.specs.Kept.{IsWithinSteps, IsWithinEntry, IsWithinText};
 ghost use Rattle.library.specs.Judging.{Judges, JudgesText, JudgesCharter};
 ghost use Rattle.library.specs.Unproved.{FindsLeast};
@@ -36,7 +37,8 @@ pub struct Library {
 }
 
 impl Model for Library {
-    ghost use Rattle.library.specs.Kept.{Kept};
+    ghost use Rattle.library.specs.Ledger.{IsDecision};
+ghost use Rattle.library.specs.Kept.{Kept};
 
     ghost Value = { Kept };
 
@@ -125,9 +127,10 @@ impl Library {
         Ok(verdict)
     }
 
-    /// The verdict first decided on the author's text or charter of that number. Takes no memory.
+    /// The verdict first decided on the author's text or charter of that number: Added or Refused. Takes no memory.
     pub fn status(&self, author: u64, serial: u64) -> Option<Verdict>
-        ensures { result ≡ status self.now.replica.decided author serial }
+        ensures first { result ≡ status self.now.replica.decided author serial }
+        ensures decided { IfSome result IsDecision }
     {
         self.verdicts.status(author, serial)
     }
