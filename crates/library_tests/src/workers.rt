@@ -7,7 +7,7 @@ use library::{Cause, Library, Verdict};
 use std::alloc::Global;
 use std::sync::atomic::{AtomicBool, Ordering};
 use std::thread::Threads;
-use verify_pool::{Gate, OpenGate, Place};
+use verify_pool::{Gate, OpenGate, Place, Workers};
 
 /// Texts whose proofs several workers share, and the verdict on each.
 const ROWS: [(&[u8], Verdict); 4] = [
@@ -63,9 +63,9 @@ pub fn by_workers<G: Gate + Sync, R: Threads + Sync>(
 {
     let entry = entry(1, Bytes::copy_from_slice(alloc, text).ok()?);
     let mut library = Library::new(alloc);
-    match library.apply_with(rt, Some(&entry), workers, gate) {
+    match library.apply_with(rt, Some(&entry), Workers::of(workers), gate) {
         Ok(verdict) => Some(verdict),
-        Err(_) => library.apply_with(rt, Some(&entry), workers, gate).ok(),
+        Err(_) => library.apply_with(rt, Some(&entry), Workers::of(workers), gate).ok(),
     }
 }
 

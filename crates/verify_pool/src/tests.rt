@@ -4,7 +4,7 @@ ghost use Rattle.mm_read.specs.Statements.{Database as Statements, IsShaped, Are
 ghost use Rattle.scope.specs.Active.{bare};
 ghost use Rattle.verify_pool.specs.Jobs.{AreJobs};
 
-use crate::{Gate, Job, OpenGate, Place, check_all};
+use crate::{Gate, Job, OpenGate, Place, Workers, check_all};
 use frame::Frames;
 use mm_read::{Stmt, read};
 use proof_code::normal;
@@ -145,9 +145,9 @@ fn judge<G: Gate + Sync, R: Threads + Sync>(
         push(&mut scope, &mut frames, stmt)?;
         push_job(alloc, &frames, stmt, &mut jobs)?;
     }
-    match check_all(rt, alloc, &frames, &jobs, workers, gate) {
+    match check_all(rt, alloc, &frames, &jobs, Workers::of(workers), gate) {
         Ok(answer) => Some(answer),
-        Err(_) => check_all(rt, alloc, &frames, &jobs, workers, gate).ok(),
+        Err(_) => check_all(rt, alloc, &frames, &jobs, Workers::of(workers), gate).ok(),
     }
 }
 
