@@ -16,6 +16,3 @@ mod stripe;
 pub use gate::{Gate, OpenGate, Place};
 pub use job::Job;
 pub use pool::check_all;
-
-#[cfg(test)]
-mod tests;
