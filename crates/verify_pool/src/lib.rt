@@ -21,6 +21,3 @@ pub use job::{Job, check_all};
 pub use pool::{judge_all, judge_here};
 pub use work::Work;
 pub use workers::{MOST_WORKERS, Workers};
-
-#[cfg(test)]
-mod tests;

@@ -3,7 +3,7 @@ use Rattle.scope.specs.Active.{bare}
 use Rattle.verify_pool.specs.declared.job.Job.{Job}
 use Rattle.verify_pool.specs.Jobs.{AreJobs}
 use Rattle.verify_pool.proofs.JobsLemmas.{same_jobs, next_job}
-use Rattle.verify_pool.proofs.tests.push_job.Goals as goal
+use Rattle.proof_tests.proofs.workers.push_job.Goals as goal
 
 pub returns-in_err-ok : goal.returns-in_err-ok
 returns-in_err-ok c =

@@ -1,6 +1,6 @@
 use Rattle.std.proofs.Common.{◌≡◌}
 use Rattle.verify_pool.specs.Jobs.{AreJobs}
-use Rattle.verify_pool.proofs.tests.judge.Given as goal
+use Rattle.proof_tests.proofs.workers.judge.Given as goal
 
 abbrev pub invariant-loop-stmt : goal.invariant-loop-stmt
 invariant-loop-stmt g l = record {

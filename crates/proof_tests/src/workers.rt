@@ -1,58 +1,66 @@
-//! The least bad job by one, two and sixteen workers; workers side by side; growths refused in turn.
-ghost use Rattle.std.specs.Prelude.{◌≡◌, ◌≤◌, ◌∷◌, ◌++◌, [], OnSome};
-ghost use Rattle.mm_read.specs.Statements.{Database as Statements, IsShaped, AreShaped};
+//! The least bad job by one, two and sixteen workers, and two workers side by side.
+ghost use Rattle.std.specs.Prelude.{◌≡◌, ◌≤◌, ◌∷◌, ◌++◌, []};
+ghost use Rattle.mm_read.specs.Statements.{Database, AreShaped};
 ghost use Rattle.scope.specs.Active.{bare};
 ghost use Rattle.verify_pool.specs.Jobs.{AreJobs};
 
-use crate::{Gate, Job, OpenGate, Place, Workers, check_all};
+use crate::database::push;
 use frame::Frames;
 use mm_read::{Stmt, read};
 use proof_code::normal;
-use scope::{Scope, Steps};
+use scope::Scope;
 use std::alloc::Global;
 use std::sync::atomic::{AtomicBool, Ordering};
 use std::thread::Threads;
+use verify_pool::{Gate, Job, OpenGate, Place, Workers, check_all};
 
-/// The book's first example.
-const BOOK: &[u8] =
-    b"$c 0 + = -> ( ) term wff |- $. $v t r s P Q $. tt $f term t $. tr $f term r $. \
-    ts $f term s $. wp $f wff P $. wq $f wff Q $. tze $a term 0 $. tpl $a term ( t + r ) $. \
-    weq $a wff t = r $. wim $a wff ( P -> Q ) $. a1 $a |- ( t = r -> ( t = s -> r = s ) ) $. \
-    a2 $a |- ( t + 0 ) = t $. ${ min $e |- P $. maj $e |- ( P -> Q ) $. mp $a |- Q $. $} \
-    th1 $p |- t = t $= tt tze tpl tt weq tt tt weq tt a2 tt tze tpl tt weq tt tze tpl tt weq tt tt weq \
-    wim tt a2 tt tze tpl tt tt a1 mp mp $.";
+/// Texts of normal proofs, and the index of the least that is not right.
+const ROWS: [(&[u8], Option<usize>); 5] = [
+    (TWO, None),
+    (
+        b"$c |- o $. o1 $a |- o $. p $p |- o $= o1 o1 $. q $p |- o $= q $.",
+        Some(0),
+    ),
+    (
+        b"$c |- o $. a $a |- o $. p $p |- o $= a $. q $p |- o $= ? $. r $p |- o $= r $.",
+        Some(1),
+    ),
+    (
+        b"$c |- o $. a $a |- o $. p $p |- o $= a $. q $p |- o $= p $. r $p |- o $= a a $.",
+        Some(2),
+    ),
+    (b"$c |- o $. a $a |- o $.", None),
+];
 
 /// Two right proofs.
 const TWO: &[u8] = b"$c |- o $. a $a |- o $. p $p |- o $= a $. q $p |- o $= p $.";
 
-/// How often a thread looks whether the other has come.
-const TURNS: u64 = 1_000_000_000;
-
 #[test]
-fn answers_the_least_bad_job(rt: HostRuntime) {
-    for (text, want) in [
-        (BOOK, None),
-        (
-            b"$c |- o $. o1 $a |- o $. p $p |- o $= o1 o1 $. q $p |- o $= q $.".as_slice(),
-            Some(0),
-        ),
-        (
-            b"$c |- o $. a $a |- o $. p $p |- o $= a $. q $p |- o $= ? $. r $p |- o $= r $.".as_slice(),
-            Some(1),
-        ),
-        (
-            b"$c |- o $. a $a |- o $. p $p |- o $= a $. q $p |- o $= p $. r $p |- o $= a a $.".as_slice(),
-            Some(2),
-        ),
-        (b"$c |- o $. a $a |- o $.".as_slice(), None),
-    ] {
-        for workers in [1usize, 2, 16] {
-            assert_eq!(rt;
-                answer_of(&rt, rt.alloc(), text, workers, &OpenGate),
-                Some(want)
-            );
-        }
+fn least_bad_job(rt: HostRuntime) {
+    for (text, least) in ROWS {
+        assert!(rt; is_least_by_each(&rt, rt.alloc(), text, least), "{text:?}");
     }
+}
+
+fn is_least_by_each<R: Threads + Sync>(
+    rt: &R,
+    alloc: Global,
+    text: &[u8],
+    least: Option<usize>,
+) -> bool {
+    answer_of(rt, alloc, text, 1, &OpenGate) == Some(least)
+        && answer_of(rt, alloc, text, 2, &OpenGate) == Some(least)
+        && answer_of(rt, alloc, text, 16, &OpenGate) == Some(least)
+}
+
+/// A second call answers where memory was refused once.
+#[test]
+fn answered_after_a_refused_growth(rt: HostRuntime) {
+    let mut answer = answer_of(&rt, rt.alloc(), TWO, 2, &OpenGate);
+    if answer.is_none() {
+        answer = answer_of(&rt, rt.alloc(), TWO, 2, &OpenGate);
+    }
+    assert_eq!(rt; answer, Some(None));
 }
 
 /// Each of the first two jobs waits at the gate for the other, so two workers run side by side.
@@ -68,15 +76,8 @@ fn gate_two_jobs(rt: HostRuntime) {
     assert!(rt; !meeting.missed.load(Ordering::SeqCst));
 }
 
-/// A second call answers where memory was refused once.
-#[test]
-fn answers_after_a_refused_growth(rt: HostRuntime) {
-    let mut answer = answer_of(&rt, rt.alloc(), BOOK, 2, &OpenGate);
-    if answer.is_none() {
-        answer = answer_of(&rt, rt.alloc(), BOOK, 2, &OpenGate);
-    }
-    assert_eq!(rt; answer, Some(None));
-}
+/// How often a thread looks whether the other has come.
+const TURNS: u64 = 1_000_000_000;
 
 /// A gate at which the first two jobs meet.
 #[derive(Drop)]
@@ -110,8 +111,7 @@ impl Gate for Meeting {
     }
 }
 
-/// What is answered of the proofs of a text, all normal ones; nothing where the text is no legal database or there is
-/// no memory.
+/// What is answered of the proofs of a text; nothing where the text is no legal database or there is no memory.
 fn answer_of<G: Gate + Sync, R: Threads + Sync>(
     rt: &R,
     alloc: Global,
@@ -151,24 +151,9 @@ fn judge<G: Gate + Sync, R: Threads + Sync>(
     }
 }
 
-/// Adds the statement, where it is legal next.
-fn push(scope: &mut Scope, frames: &mut Frames, stmt: &Stmt) -> Option<()>
-    requires same { scope.old.statements ≡ frames.old.statements }
-    requires shaped { IsShaped stmt.now }
-    ensures same { OnSome result (scope.new.statements ≡ frames.new.statements) }
-    ensures added { OnSome result (frames.new.statements ≡ frames.old.statements ++ bare stmt.now ∷ []) }
-{
-    let mut steps = Steps::new();
-    if scope.broken_rule(stmt).is_some() {
-        return None;
-    }
-    frames.push(scope, stmt, &mut steps).ok()?;
-    scope.add(stmt, &mut steps).ok()
-}
-
 /// Adds the job of the statement that was pushed last, where it is a `$p`.
 fn push_job(alloc: Global, frames: &Frames, stmt: &Stmt, jobs: &mut Vec<Job>) -> Option<()>
-    requires { (S : Statements) × (frames.now.statements ≡ S ++ bare stmt.now ∷ []) × AreJobs S jobs.old.items }
+    requires { (S : Database) × (frames.now.statements ≡ S ++ bare stmt.now ∷ []) × AreJobs S jobs.old.items }
     ensures { AreJobs frames.now.statements jobs.new.items }
 {
     if let Stmt::Prove { proof, .. } = stmt {
