@@ -3,12 +3,12 @@ ghost use Rattle.std.specs.Prelude.{◌≤◌, IfSome};
 
 use crate::database::Question;
 use crate::weights::parse_weights;
-use crate::workers::Workers;
 use clap::error::ErrorKind;
 use clap::{Arg, ArgAction, ArgMatches, Command, Error};
 use scripts::parse_number;
 use std::alloc::{AllocError, Global};
 use synod::{MOST_NODES, Weights};
+use verify_pool::Workers;
 
 /// What a command line asks for.
 pub enum Request<'a> {

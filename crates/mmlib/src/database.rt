@@ -3,14 +3,13 @@ use crate::printed::push_number;
 use crate::streams::{ReadFailure, print, read_text};
 use crate::tree_text::{push_labels, push_tree};
 use crate::verdict_text::push_verdict;
-use crate::workers::Workers;
 use bytes::Bytes;
 use library::{AskFault, Cause, Entry, Library, Submission, Verdict};
 use mm_read::Stmt;
 use std::alloc::{AllocError, Global};
 use std::io::{Read, Write};
 use std::thread::Threads;
-use verify_pool::OpenGate;
+use verify_pool::{OpenGate, Workers};
 
 /// What is asked about a database.
 #[derive(Clone, Copy)]
@@ -95,7 +94,7 @@ fn judge<R: Threads + Sync>(
         serial: 0,
         text,
     });
-    library.apply_with(rt, Some(&entry), Workers::offered(rt).count(), &OpenGate)
+    library.apply_with(rt, Some(&entry), Workers::offered(rt), &OpenGate)
 }
 
 /// `proved` and how many `$p` there are.

@@ -3,7 +3,7 @@
 //! Reading order: `program` (`run`, what a command line does), `commands` (its words), `streams`
 //! (what is read and written), `outline`, `rules`; `database` (`check`, `tree`, `trace`), `tree_text`,
 //! `verdict_text`; `play`, with `script_input` (its lines, which crate `scripts` reads), `answers` and `printed` (what they
-//! answer); `serve`, with `workers` and `node_threads`.
+//! answer); `serve`, with `node_threads`.
 #![tactic(auto)]
 
 mod answers;
@@ -23,7 +23,6 @@ mod tests;
 mod tree_text;
 mod verdict_text;
 mod weights;
-mod workers;
 
 use program::run;
 use std::alloc::{AllocError, Global};

@@ -4,14 +4,13 @@ ghost use Rattle.std.specs.List.{AllByRecursion};
 ghost use Rattle.synod.specs.Record.{new_kept};
 ghost use Rattle.world.specs.declared.fault.StepFault.TheVariants.{Memory};
 
-use crate::workers::Workers;
 use cluster::MemoryKeep;
 use nodes::{Clear, Cluster, Desk, start};
 use std::alloc::{AllocError, Global};
 use std::sync::{Arc, Wait};
 use std::thread::Threads;
 use synod::{Keep, Weights};
-use verify_pool::OpenGate;
+use verify_pool::{OpenGate, Workers};
 use world::{Carried, StepFault};
 
 /// How often a cluster that finds no memory to stop is asked again.

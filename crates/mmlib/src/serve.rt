@@ -9,7 +9,6 @@ use crate::answers::{ANSWER_ROOM, answer_bytes, push_decided, push_list};
 use crate::node_threads::{NodesDesk, start_nodes, stop_nodes};
 use crate::script_input::{print_unread, read_script};
 use crate::streams::print;
-use crate::workers::Workers;
 use library::Verdict;
 use scripts::{EntryAt, ServeLine};
 use std::alloc::Global;
@@ -18,6 +17,7 @@ use std::sync::Wait;
 use std::thread;
 use std::thread::Threads;
 use synod::Weights;
+use verify_pool::Workers;
 use world::StepFault;
 
 /// How often `settle` asks.
