@@ -1,5 +1,7 @@
 //! What a scope gives with ample memory: its copies, and the numbers of its last statement's symbols.
-use mm_read::read;
+ghost use Rattle.mm_read.specs.Statements.{AreShaped};
+
+use mm_read::{Stmt, read};
 use scope::{Scope, Steps};
 use std::alloc::Global;
 
@@ -13,17 +15,7 @@ fn copies_after_each_statement(rt: HostRuntime) {
 /// Whether the scope of each front of the text has a copy.
 fn copies_each(alloc: Global, text: &[u8]) -> bool {
     let mut scope = Scope::new(alloc);
-    match read(alloc, text) {
-        Ok(statements) => {
-            for stmt in statements.iter() {
-                if scope.add(stmt, &mut Steps::new()).is_err() || scope.copy().is_err() {
-                    return false;
-                }
-            }
-            true
-        }
-        Err(_) => false,
-    }
+    adds_each(alloc, &mut scope, text)
 }
 
 /// Texts, and the numbers of the symbols of the last statement, counted in order of declaration: labels have none.
@@ -47,25 +39,35 @@ fn symbols_have_their_numbers(rt: HostRuntime) {
 /// Whether a scope notes these numbers behind the text, and none once it goes back.
 fn notes(alloc: Global, text: &[u8], want: &[u32]) -> bool {
     let mut scope = Scope::new(alloc);
-    if !adds_each(alloc, &mut scope, text) || !are_noted(&scope, want) {
-        return false;
-    }
+    adds_each(alloc, &mut scope, text) && are_noted(&scope, want) && forgets(&mut scope)
+}
+
+fn forgets(scope: &mut Scope) -> bool {
     scope.back();
     scope.symbols().is_none()
 }
 
+/// Whether each statement is added, and the scope has a copy then.
 fn adds_each(alloc: Global, scope: &mut Scope, text: &[u8]) -> bool {
     match read(alloc, text) {
-        Ok(statements) => {
-            for stmt in statements.iter() {
-                if scope.add(stmt, &mut Steps::new()).is_err() {
-                    return false;
-                }
-            }
-            true
-        }
+        Ok(statements) => adds_all(scope, statements.as_slice()),
         Err(_) => false,
     }
+}
+
+fn adds_all(scope: &mut Scope, statements: &[Stmt]) -> bool
+    requires { AreShaped statements.now }
+{
+    for stmt in statements {
+        if scope.add(stmt, &mut Steps::new()).is_err() || !has_copy(scope) {
+            return false;
+        }
+    }
+    true
+}
+
+fn has_copy(scope: &Scope) -> bool {
+    scope.copy().is_ok()
 }
 
 fn are_noted(scope: &Scope, want: &[u32]) -> bool {

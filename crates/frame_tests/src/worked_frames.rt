@@ -1,4 +1,6 @@
 //! The frames of worked assertions.
+ghost use Rattle.mm_read.specs.Statements.{AreShaped};
+
 use frame::{Frame, frame};
 use mm_read::{Stmt, read};
 use scope::{Scope, Steps};
@@ -45,19 +47,29 @@ fn assertions_have_their_frames(rt: HostRuntime) {
 
 /// The frame of the assertion that stands behind so many statements.
 fn frame_behind(alloc: Global, text: &[u8], count: usize) -> Option<Frame> {
-    let mut scope = Scope::new(alloc);
     match read(alloc, text) {
-        Ok(statements) => {
-            for stmt in statements.iter() {
-                if scope.len() == count {
-                    return frame_of(alloc, &scope, stmt);
-                }
-                scope.add(stmt, &mut Steps::new()).ok()?;
-            }
-            None
-        }
+        Ok(statements) => frame_at(alloc, statements.as_slice(), count),
         Err(_) => None,
     }
+}
+
+fn frame_at(alloc: Global, statements: &[Stmt], count: usize) -> Option<Frame>
+    requires { AreShaped statements.now }
+{
+    let mut scope = Scope::new(alloc);
+    frame_in(alloc, &mut scope, statements, count)
+}
+
+fn frame_in(alloc: Global, scope: &mut Scope, statements: &[Stmt], count: usize) -> Option<Frame>
+    requires { AreShaped statements.now }
+{
+    for stmt in statements {
+        if scope.len() == count {
+            return frame_of(alloc, scope, stmt);
+        }
+        scope.add(stmt, &mut Steps::new()).ok()?;
+    }
+    None
 }
 
 fn frame_of(alloc: Global, scope: &Scope, stmt: &Stmt) -> Option<Frame> {
