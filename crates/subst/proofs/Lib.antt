@@ -6,5 +6,5 @@ mod MatchLemmas
 mod CopyLemmas
 pub mod SubstitutionLemmas
 pub mod DisjointLemmas
-mod NumbersApartLemmas
+pub mod NumbersApartLemmas
 mod Rows
