@@ -86,6 +86,6 @@ fn pushed_after_a_refused_growth(rt: HostRuntime) {
     assert!(rt; is_pushed(&frames_of(rt.alloc(), APART), 17, b"th", &[3]));
 }
 
-fn is_pushed(frames: &Frames, len: usize, label: &[u8], hypotheses: &[usize]) -> bool {
+fn is_pushed(frames: &Frames, len: usize, label: &[u8], hypotheses: &[u32]) -> bool {
     frames.len() == len && has_hypotheses(frames, label, hypotheses)
 }

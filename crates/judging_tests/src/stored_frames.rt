@@ -6,7 +6,7 @@ ghost use Rattle.frame.specs.FrameOf.{HasAssertion};
 ghost use Rattle.frame.specs.Stored.{Extends};
 
 use crate::worked_frames::{APART, ARITHMETIC};
-use entries::{Cited, Groups, Pattern};
+use entries::{Cited, Groups, Hypothesis};
 use frame::{Frames, Meaning};
 use mm_read::{ReadFault, Stmt, read};
 use scope::{Scope, Steps};
@@ -16,8 +16,12 @@ use std::alloc::Global;
 const CLOSED: &[u8] = b"$c wff set |- R $. ${ $v x $. wx $f wff x $. a1 $a |- x $. $} \
     ${ $v x $. sx $f set x $. a2 $a |- R x $. $}";
 
+/// Essential hypotheses of which one closes, and then both.
+const NESTED: &[u8] = b"$c wff |- $. $v x y z $. wx $f wff x $. wy $f wff y $. wz $f wff z $. \
+    ${ ${ e1 $e |- x $. ${ e2 $e |- y x $. n1 $a |- z $. $} n2 $a |- y $. $} n3 $a |- z $. $}";
+
 /// A text, a label, positions, and whether they are the hypotheses of an assertion with that label.
-const HYPOTHESES: [(&[u8], &[u8], &[usize], bool); 8] = [
+const HYPOTHESES: [(&[u8], &[u8], &[u32], bool); 11] = [
     (ARITHMETIC, b"mp", &[6, 7, 15, 16], true),
     (ARITHMETIC, b"a1", &[3, 4, 5], true),
     (ARITHMETIC, b"tze", &[], true),
@@ -26,6 +30,9 @@ const HYPOTHESES: [(&[u8], &[u8], &[usize], bool); 8] = [
     (APART, b"th", &[3], true),
     (CLOSED, b"a1", &[4], true),
     (CLOSED, b"a2", &[9], true),
+    (NESTED, b"n1", &[3, 4, 5, 8, 10], true),
+    (NESTED, b"n2", &[3, 4, 8], true),
+    (NESTED, b"n3", &[5], true),
 ];
 
 #[test]
@@ -35,12 +42,12 @@ fn hypotheses_by_position(rt: HostRuntime) {
     }
 }
 
-fn asks_for(alloc: Global, text: &[u8], label: &[u8], positions: &[usize]) -> bool {
+fn asks_for(alloc: Global, text: &[u8], label: &[u8], positions: &[u32]) -> bool {
     has_hypotheses(&frames_of(alloc, text), label, positions)
 }
 
 #[test]
-fn assertions_by_places(rt: HostRuntime) {
+fn assertions_by_numbers(rt: HostRuntime) {
     let book = frames_of(rt.alloc(), ARITHMETIC);
     assert!(rt; cited_of(&book, b"mp").is_some_and(is_modus_ponens));
     let apart = frames_of(rt.alloc(), APART);
@@ -49,30 +56,30 @@ fn assertions_by_places(rt: HostRuntime) {
 
 /// The names of the book's example have the numbers 0 (`0`) to 13 (`Q`), its constants those below 9.
 fn is_modus_ponens(mp: Cited<'_>) -> bool {
-    let patterns = [
-        Pattern::Typed(7),
-        Pattern::Typed(7),
-        Pattern::Full(0, 2),
-        Pattern::Full(2, 8),
+    let hypotheses = [
+        Hypothesis::Float(12),
+        Hypothesis::Float(13),
+        Hypothesis::Essential(15),
+        Hypothesis::Essential(16),
     ];
-    mp.patterns == patterns.as_slice()
-        && mp.templates == MODUS_PONENS_TEMPLATES
+    mp.hypotheses == hypotheses.as_slice()
+        && mp.heads == MODUS_PONENS_HEADS
         && mp.conclusion == MODUS_PONENS
         && mp.groups.len() == 0
 }
 
-const MODUS_PONENS_TEMPLATES: &[u32] = &[12, 0, 12, 8, 0, 7, 1, 9];
+const MODUS_PONENS_HEADS: &[u32] = &[7, 7, 8, 8];
 
-const MODUS_PONENS: &[u32] = &[12, 1];
+const MODUS_PONENS: &[u32] = &[8, 13];
 
 /// The axiom of a relation of two variables that are kept apart.
 fn is_relation(ax: Cited<'_>) -> bool {
     ax.conclusion == RELATION && ax.groups.len() == 1 && first_group(&ax.groups) == BOTH
 }
 
-const RELATION: &[u32] = &[3, 0, 4, 1];
+const RELATION: &[u32] = &[1, 3, 2, 4];
 
-const BOTH: &[u32] = &[0, 1];
+const BOTH: &[u32] = &[3, 4];
 
 /// A position, two symbols of one letter, and whether they are kept apart there.
 const PAIRS: [(usize, u8, u8, bool); 6] = [
@@ -234,14 +241,14 @@ pub fn push(scope: &mut Scope, frames: &mut Frames, stmt: &Stmt) -> bool
 }
 
 /// Whether the assertion with this label has these hypotheses, and stands before the last statement.
-pub fn has_hypotheses(frames: &Frames, label: &[u8], want: &[usize]) -> bool {
+pub fn has_hypotheses(frames: &Frames, label: &[u8], want: &[u32]) -> bool {
     match frames.position(label) {
         Some(a) => is_assertion(frames, a) && frames.hypotheses(a) == want,
         None => false,
     }
 }
 
-/// The first of the lists of places; no places where there is none.
+/// The first of the lists of variables; nothing where there is none.
 fn first_group<'a>(groups: &Groups<'a>) -> &'a [u32] {
     if groups.len() > 0 { groups.get(0) } else { &[] }
 }

@@ -204,7 +204,7 @@ fn items_of(
     }
     let mut mandatory = Words::new(alloc);
     for position in frames.hypotheses(at) {
-        match statements.get(position.saturating_sub(1)) {
+        match statements.get((*position as usize).saturating_sub(1)) {
             Some(Stmt::Float { label, .. }) => mandatory.push(label.as_bytes()).ok()?,
             Some(Stmt::Ess { label, .. }) => mandatory.push(label.as_bytes()).ok()?,
             _ => {}
