@@ -14,7 +14,7 @@ use Rattle.names.proofs.CodesLemmas.{name_same, same_name}
 use Rattle.frame.specs.FrameOf.{is_pair, groups}
 use Rattle.frame.specs.Substitution.{CodeImages, image, images_of_names}
 use Rattle.frame.specs.Disjoint.{are_apart, is_group_apart, are_groups_apart}
-use Rattle.frame.specs.ByPlaces.{AreBelow, AllBelow}
+use Rattle.frame.specs.Below.{AreBelow, AllBelow}
 use Rattle.subst.specs.Apart.{image_named, are_two_apart, is_number_apart, are_numbers_apart}
 use Rattle.subst.proofs.SubstitutionLemmas.{place-of, image-decode}
 

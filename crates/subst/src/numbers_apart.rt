@@ -2,7 +2,7 @@
 
 ghost use Rattle.std.specs.Prelude.{◌≡◌, ◌<◌, ◌∷◌, [], length, map};
 ghost use Rattle.names.specs.Codes.{decode, AreDistinct};
-ghost use Rattle.frame.specs.ByPlaces.{AllBelow, AreBelow};
+ghost use Rattle.frame.specs.Below.{AllBelow, AreBelow};
 ghost use Rattle.frame.specs.Disjoint.{are_groups_apart};
 ghost use Rattle.frame.specs.Substitution.{code_image, images_of_names};
 ghost use Rattle.subst.specs.Images.{AreOver};

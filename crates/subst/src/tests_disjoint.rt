@@ -1,7 +1,7 @@
 //! The pair clause on a worked database.
 ghost use Rattle.std.specs.Prelude.{◌≡◌, ◌<◌, length, IfOk, IfSome};
 ghost use Rattle.mm_read.specs.Statements.{IsShaped};
-ghost use Rattle.frame.specs.ByPlaces.{AreBelow};
+ghost use Rattle.frame.specs.Below.{AreBelow};
 ghost use Rattle.subst.specs.Images.{AreOver};
 
 use crate::{Subst, disjoint};

@@ -9,10 +9,10 @@ use Rattle.mm_read.specs.Statements.{Expr, Database}
 use Rattle.scope.specs.Active.{stmt_at, before, expr_of}
 use Rattle.names.specs.Codes.{name_at}
 use Rattle.frame.specs.FrameOf.{hypotheses}
-use Rattle.verify.specs.declared.seam.Hypothesis.{Hypothesis}
-use Rattle.verify.specs.declared.seam.Hypothesis.TheVariants.{Float, Essential}
-use Rattle.verify.specs.Bound.{IsBound}
-use Rattle.verify.specs.Cited.{IsHead, IsOf, IsAsked, AreAsked}
+use Rattle.entries.specs.declared.citation.Hypothesis.{Hypothesis}
+use Rattle.entries.specs.declared.citation.Hypothesis.TheVariants.{Float, Essential}
+use Rattle.frame.specs.Bound.{IsBound}
+use Rattle.frame.specs.Cited.{IsHead, IsOf, IsAsked, AreAsked}
 use Rattle.verify.specs.Fits.{AreDifferent, IsStanding, AreStanding}
 use Rattle.verify.proofs.Decide.{some_same}
 

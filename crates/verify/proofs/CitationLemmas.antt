@@ -11,16 +11,16 @@ use Rattle.names.specs.Codes.{name_at, decode}
 use Rattle.frame.specs.FrameOf.{HasAssertion, mandatory_groups}
 use Rattle.frame.specs.Substitution.{Images, apply as applied, CodeImages, code_apply, images_of_names}
 use Rattle.frame.specs.Disjoint.{are_groups_apart}
-use Rattle.frame.specs.ByPlaces.{AreBelow, AllBelow}
+use Rattle.frame.specs.Below.{AreBelow, AllBelow}
 use Rattle.frame.specs.Citations.{Carries, IsInstance, premises}
 use Rattle.frame.specs.Reading.{AreLegal}
 use Rattle.proof_code.specs.declared.item.Item.TheVariants.{Cite}
 use Rattle.subst.specs.Images.{AreOver}
 use Rattle.subst.proofs.SubstitutionLemmas.{substitution_over_names}
-use Rattle.verify.specs.declared.seam.Hypothesis.TheVariants.{Float}
-use Rattle.verify.specs.declared.seam.Cited.{Cited}
-use Rattle.verify.specs.Bound.{IsBound}
-use Rattle.verify.specs.Cited.{head_of, IsCited}
+use Rattle.entries.specs.declared.citation.Hypothesis.TheVariants.{Float}
+use Rattle.entries.specs.declared.citation.Cited.{Cited}
+use Rattle.frame.specs.Bound.{IsBound}
+use Rattle.frame.specs.Cited.{head_of, IsCited}
 use Rattle.verify.specs.Fits.{AreRead, DoFit}
 use Rattle.verify.specs.Goes.{named, AreNamed, Goes}
 use Rattle.verify.specs.Machine.{Results, Cites, of_hypothesis, of_assertion}

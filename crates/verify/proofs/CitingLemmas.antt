@@ -16,13 +16,13 @@ use Rattle.frame.specs.FrameOf.{hypotheses, mandatory_groups}
 use Rattle.frame.specs.Substitution.{Images, image, apply as applied, CodeImages, code_image, code_apply, images_of_names}
 use Rattle.frame.specs.Citations.{OfVariables, premises, expr_at, option_expr}
 use Rattle.frame.specs.Disjoint.{are_groups_apart}
-use Rattle.frame.specs.ByPlaces.{AreBelow, AllBelow}
+use Rattle.frame.specs.Below.{AreBelow, AllBelow}
 use Rattle.subst.specs.Images.{AreOver}
 use Rattle.subst.proofs.SubstitutionLemmas.{image-named, image-unnamed, image-decode, substitution_over_names}
-use Rattle.verify.specs.declared.seam.Hypothesis.{Hypothesis}
-use Rattle.verify.specs.declared.seam.Hypothesis.TheVariants.{Float, Essential}
-use Rattle.verify.specs.Bound.{IsBound, HasFloat, IsFirstFixed}
-use Rattle.verify.specs.Cited.{head_of, IsHead, IsAsked, AreAsked}
+use Rattle.entries.specs.declared.citation.Hypothesis.{Hypothesis}
+use Rattle.entries.specs.declared.citation.Hypothesis.TheVariants.{Float, Essential}
+use Rattle.frame.specs.Bound.{IsBound, HasFloat, IsFirstFixed}
+use Rattle.frame.specs.Cited.{head_of, IsHead, IsAsked, AreAsked}
 use Rattle.verify.specs.Fits.{AreRead, FitsOne, DoFit}
 use Rattle.verify.proofs.Decide.{some_same}
 use Rattle.verify.proofs.Named.{name_at-injective, all-at}

@@ -6,12 +6,12 @@ use Rattle.mm_read.specs.declared.stmt.Stmt.{Stmt}
 use Rattle.mm_read.specs.Statements.{Database}
 use Rattle.scope.specs.Active.{stmt_at, expr_of}
 use Rattle.names.specs.Codes.{decode, AreDistinct}
-use Rattle.frame.specs.ByPlaces.{AreBelow}
+use Rattle.frame.specs.Below.{AreBelow}
 use Rattle.frame.specs.Citations.{expr_at, option_expr}
 use Rattle.frame.specs.Substitution.{apply as applied, CodeImages, code_apply, images_of_names}
 use Rattle.subst.specs.Images.{AreOver}
 use Rattle.subst.proofs.SubstitutionLemmas.{substitution_over_names}
-use Rattle.verify.specs.declared.seam.Hypothesis.{Hypothesis}
+use Rattle.entries.specs.declared.citation.Hypothesis.{Hypothesis}
 use Rattle.verify.specs.Fits.{IsStanding, AreStanding}
 use Rattle.verify.proofs.ImageLemmas.{apply-below, are-codes}
 use Rattle.verify.proofs.Named.{decode-injective}

@@ -9,7 +9,7 @@ use Rattle.names.specs.Codes.{AreCodes}
 use Rattle.names.proofs.CodesLemmas.{name_same, same_name}
 use Rattle.frame.specs.Substitution.{Images, image, apply as applied, CodeImages, code_image, code_apply}
 use Rattle.frame.specs.Disjoint.{are_apart, is_group_apart, are_groups_apart}
-use Rattle.frame.specs.ByPlaces.{AreBelow}
+use Rattle.frame.specs.Below.{AreBelow}
 use Rattle.frame.proofs.ApartLemmas.{or_left, or_right}
 use Rattle.subst.specs.Images.{AreOver}
 

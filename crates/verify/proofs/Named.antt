@@ -14,7 +14,7 @@ use Rattle.proof_code.specs.declared.item.Item.TheVariants.{Cite, Recall, Mark}
 use Rattle.frame.specs.Citations.{IsHypothesis, Carries}
 use Rattle.verify.specs.Machine.{Results, Cites, of_hypothesis, IsSaved, with_result, with_mark}
 use Rattle.verify.specs.Places.{below, top, Adds, Marks, Recalls}
-use Rattle.frame.specs.ByPlaces.{AreBelow, AllBelow}
+use Rattle.frame.specs.Below.{AreBelow, AllBelow}
 use Rattle.verify.specs.Goes.{named, AreNamed, Goes}
 use Rattle.verify.proofs.PlaceLemmas.{results-same, map-snoc}
 

@@ -7,7 +7,7 @@ use Rattle.subst.specs.declared.place.Place.{Place}
 use Rattle.subst.specs.Places.{seen_at, images_at, AreWithin, AreInside}
 use Rattle.subst.proofs.PlaceLemmas.{map-seen-more, within-weaken, within-snoc, within-take, within-drop, within-get, within-at, seen-get, length-seen, seen-last}
 use Rattle.subst.proofs.ImagePlacesLemmas.{inside-more, inside-none}
-use Rattle.verify.specs.Cited.{head_of}
+use Rattle.frame.specs.Cited.{head_of}
 use Rattle.verify.specs.Machine.{Results, with_result, IsSaved}
 use Rattle.verify.specs.Places.{seen, heads_at, AreKept, below, top}
 use Rattle.verify.specs.Right.{weight_limit}

@@ -9,8 +9,8 @@ use Rattle.subst.specs.declared.place.Place.{Place}
 use Rattle.subst.specs.Places.{seen_at, images_at, AreWithin, AreInside}
 use Rattle.subst.proofs.ImagePlacesLemmas.{image-some, image-none, inside-set}
 use Rattle.subst.proofs.PlaceLemmas.{within-get, length-seen}
-use Rattle.verify.specs.declared.seam.Hypothesis.{Hypothesis}
-use Rattle.verify.specs.declared.seam.Hypothesis.TheVariants.{Float, Essential}
+use Rattle.entries.specs.declared.citation.Hypothesis.{Hypothesis}
+use Rattle.entries.specs.declared.citation.Hypothesis.TheVariants.{Float, Essential}
 use Rattle.verify.specs.Fits.{AreDifferent, AreRead, Reads}
 use Rattle.verify.specs.ReadPlaces.{tail_of, ReadsOne, ReadTo, ReadsAll}
 use Rattle.verify.proofs.Decide.{some_same}

@@ -4,8 +4,6 @@ pub mod Spells
 pub mod Right
 pub mod Machine
 pub mod Places
-pub mod Cited
-pub mod Bound
 pub mod Fits
 pub mod ReadPlaces
 pub mod Goes

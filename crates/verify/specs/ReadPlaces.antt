@@ -4,8 +4,8 @@
 use Rattle.std.specs.Prelude.{◌≡◌, ℕ, ◌+◌, ◌<◌, ◌≤◌, ◌==◌, nat_eq, Bool, true, false, if◌then◌else◌, List, slice_get, Some, None}
 use Rattle.std.specs.Map.{lookup}
 use Rattle.subst.specs.declared.place.Place.{Place}
-use Rattle.verify.specs.declared.seam.Hypothesis.{Hypothesis}
-use Rattle.verify.specs.declared.seam.Hypothesis.TheVariants.{Float, Essential}
+use Rattle.entries.specs.declared.citation.Hypothesis.{Hypothesis}
+use Rattle.entries.specs.declared.citation.Hypothesis.TheVariants.{Float, Essential}
 
 -- what stands behind the first symbol
 abbrev pub tail_of : Place → Place

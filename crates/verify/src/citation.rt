@@ -14,7 +14,6 @@ ghost use Rattle.verify.specs.declared.table.Entry.TheVariants.{Nothing};
 ghost use Rattle.verify.specs.Table.{IsEntry, AreEntries};
 
 use crate::results::Results;
-use crate::seam::cited_of;
 use crate::table::Entry;
 use frame::{Frames, Pairs};
 use std::alloc::AllocError;
@@ -37,7 +36,7 @@ fn cite_assertion(
         → IfOk result (λ ok. Goes ok frames.now.statements at frames.now.names (Cite label) results.old.results results.new.results) }
     ensures saved { IfOk result (λ ok. IsTrue ok → results.new.results.saved ≡ results.old.results.saved) }
 {
-    let cited = cited_of(frames, position);
+    let cited = frames.cited(position);
     let count = cited.hypotheses.len();
     if count > results.len() {
         return Ok(false);

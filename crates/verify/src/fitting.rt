@@ -2,14 +2,14 @@
 
 ghost use Rattle.std.specs.Prelude.{◌≡◌, ◌≤◌, ◌↔◌, IsTrue, length, map};
 ghost use Rattle.names.specs.Codes.{decode};
-ghost use Rattle.frame.specs.ByPlaces.{AllBelow, AreBelow};
+ghost use Rattle.frame.specs.Below.{AllBelow, AreBelow};
 ghost use Rattle.frame.specs.Reading.{AreLegal};
 ghost use Rattle.frame.specs.Substitution.{images_of_names};
 ghost use Rattle.subst.specs.Images.{AreOver};
 ghost use Rattle.subst.specs.Places.{seen_at, images_at, AreWithin, AreInside};
 ghost use Rattle.verify.specs.Fits.{IsStanding, AreStanding, FitsOne, DoFit};
 
-use crate::seam::Hypothesis;
+use entries::Hypothesis;
 use frame::Frames;
 use subst::{ImagePlaces, Place, matches, symbols_at};
 

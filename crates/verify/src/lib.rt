@@ -15,7 +15,6 @@ mod plan;
 mod reading_off;
 mod results;
 mod run;
-mod seam;
 mod table;
 mod tree;
 mod tree_from_items;

@@ -13,7 +13,6 @@ ghost use Rattle.verify.specs.Growth.{trees, with_tree, GrowsMark, GrowsRecall, 
 ghost use Rattle.verify.specs.Plan.{trees_of, IsPlan};
 ghost use Rattle.verify.specs.Table.{IsEntry, AreEntries};
 
-use crate::seam::cited_of;
 use crate::table::Entry;
 use frame::Frames;
 use std::alloc::{AllocError, Global};
@@ -119,7 +118,7 @@ fn cite(frames: &Frames, entry: Entry, plan: &mut Plan) -> Result<bool, AllocErr
             Ok(true)
         }
         Entry::Assertion(position) => {
-            let count = cited_of(frames, position).hypotheses.len();
+            let count = frames.cited(position).hypotheses.len();
             if count > plan.stack.len() {
                 return Ok(false);
             }

@@ -5,7 +5,7 @@ ghost use Rattle.subst.specs.Places.{AreWithin, AreInside};
 ghost use Rattle.verify.specs.Fits.{AreDifferent};
 ghost use Rattle.verify.specs.ReadPlaces.{ReadsOne, ReadsAll};
 
-use crate::seam::Hypothesis;
+use entries::Hypothesis;
 use std::alloc::AllocError;
 use subst::{ImagePlaces, Place};
 

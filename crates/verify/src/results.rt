@@ -2,12 +2,12 @@
 
 ghost use Rattle.std.specs.Prelude.{◌≡◌, suc, ◌<◌, ◌≤◌, ◌↔◌, ◌∷◌, ◌++◌, [], length, map, get_or, replicate, IfOk, OnOk, OnErr, IsTrue};
 ghost use Rattle.names.specs.Codes.{decode, AreDistinct};
-ghost use Rattle.frame.specs.ByPlaces.{AllBelow};
+ghost use Rattle.frame.specs.Below.{AllBelow};
 ghost use Rattle.frame.specs.Disjoint.{are_groups_apart};
 ghost use Rattle.frame.specs.Reading.{AreLegal};
 ghost use Rattle.frame.specs.Substitution.{code_apply, images_of_names};
 ghost use Rattle.subst.specs.Images.{AreOver};
-ghost use Rattle.verify.specs.Cited.{head_of};
+ghost use Rattle.frame.specs.Cited.{head_of};
 ghost use Rattle.verify.specs.Fits.{AreDifferent, AreStanding, Reads, DoFit};
 ghost use Rattle.verify.specs.Machine.{with_result, with_mark, IsSaved};
 ghost use Rattle.verify.specs.Places.{below, top, Adds, Gives, Marks, Recalls};
@@ -15,8 +15,7 @@ ghost use Rattle.verify.specs.Right.{weight_limit};
 
 use crate::fitting::all_fit;
 use crate::reading_off::read_off;
-use crate::seam::{Hypothesis, NO_HEAD};
-use entries::Groups;
+use entries::{Groups, Hypothesis, NO_HEAD};
 use frame::{Frames, Pairs};
 use std::alloc::{AllocError, Global};
 use std::marker::Model;

@@ -1,6 +1,6 @@
 use Rattle.std.proofs.Common.{◌≡◌, ◌+◌, ◌&&◌, ◌-◌, true, false, Bool, ℕ, List, length, take, drop, get_or, arith, refl, sym, ap, subst, ◌∙◌, length-drop}
 use Rattle.std.proofs.lemmas.List.{drop_all, take_all}
-use Rattle.frame.specs.ByPlaces.{AreBelow}
+use Rattle.frame.specs.Below.{AreBelow}
 use Rattle.subst.specs.Places.{images_at}
 use Rattle.subst.specs.Apart.{image_named, is_number_apart}
 use Rattle.subst.proofs.NumbersApartLemmas.{below-at, below-drop, is_rest_apart, group-by_rest, rest-at}

@@ -1,6 +1,6 @@
 use Rattle.std.specs.Prelude.{◌||◌}
 use Rattle.std.proofs.Common.{sym, ◌∙◌, ap, length, subst}
-use Rattle.frame.specs.ByPlaces.{AreBelow}
+use Rattle.frame.specs.Below.{AreBelow}
 use Rattle.frame.specs.Disjoint.{are_apart}
 use Rattle.names.specs.Codes.{decode}
 use Rattle.subst.specs.Places.{images_at}

@@ -1,6 +1,6 @@
 use Rattle.std.proofs.Common.{subst, sym, rules}
 use Rattle.std.specs.Prelude.{length}
-use Rattle.frame.specs.ByPlaces.{AreBelow}
+use Rattle.frame.specs.Below.{AreBelow}
 use Rattle.frame.proofs.NumberLemmas.{below-push}
 use Rattle.subst.proofs.tests_disjoint.push.Goals as goal
 

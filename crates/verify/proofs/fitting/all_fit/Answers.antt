@@ -1,11 +1,11 @@
 use Rattle.std.specs.Prelude.{◌≡◌, ℕ, ◌+◌, ◌<◌, ◌↔◌, nat_lt, Bool, true, false, IsTrue, List, [], length, map, get_or, slice_get, Some, refl}
 use Rattle.std.proofs.Common.{sym, ◌∙◌, ap, subst, arith}
 use Rattle.names.specs.Codes.{decode}
-use Rattle.frame.specs.ByPlaces.{AreBelow}
+use Rattle.frame.specs.Below.{AreBelow}
 use Rattle.frame.specs.Substitution.{images_of_names}
 use Rattle.subst.specs.Places.{seen_at, images_at}
 use Rattle.subst.proofs.PlaceLemmas.{within-at, seen-get}
-use Rattle.verify.specs.declared.seam.Hypothesis.{Hypothesis}
+use Rattle.entries.specs.declared.citation.Hypothesis.{Hypothesis}
 use Rattle.verify.specs.Fits.{FitsOne}
 use Rattle.verify.proofs.AskedLemmas.{get-some, some-get, some-within}
 use Rattle.verify.proofs.CitingLemmas.{get-decode}

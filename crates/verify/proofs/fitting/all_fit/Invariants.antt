@@ -2,7 +2,7 @@ use Rattle.std.proofs.Common.{◌≡◌, ℕ, ◌<◌, [], map, get_or, slice_ge
 use Rattle.names.specs.Codes.{decode}
 use Rattle.frame.specs.Substitution.{images_of_names}
 use Rattle.subst.specs.Places.{seen_at, images_at}
-use Rattle.verify.specs.declared.seam.Hypothesis.{Hypothesis}
+use Rattle.entries.specs.declared.citation.Hypothesis.{Hypothesis}
 use Rattle.verify.specs.Fits.{FitsOne}
 use Rattle.verify.proofs.fitting.all_fit.Given as goal
 

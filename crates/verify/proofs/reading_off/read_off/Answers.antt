@@ -1,7 +1,7 @@
 use Rattle.std.proofs.Common.{◌<◌, length, arith, subst, get_or}
 use Rattle.subst.proofs.PlaceLemmas.{within-at}
 use Rattle.subst.specs.declared.place.Place.{Place}
-use Rattle.verify.specs.declared.seam.Hypothesis.TheVariants.{Float}
+use Rattle.entries.specs.declared.citation.Hypothesis.TheVariants.{Float}
 use Rattle.verify.specs.ReadPlaces.{ReadsOne}
 use Rattle.verify.proofs.AskedLemmas.{get-some}
 use Rattle.verify.proofs.ReadingLemmas.{read-next, read-inside}

@@ -3,7 +3,7 @@ use Rattle.std.proofs.Common.{arith, ap, ◌∙◌, length-append}
 use Rattle.subst.specs.Places.{seen_at}
 use Rattle.subst.specs.Written.{Appends}
 use Rattle.subst.proofs.PlaceLemmas.{seen-last}
-use Rattle.verify.specs.Cited.{head_of}
+use Rattle.frame.specs.Cited.{head_of}
 use Rattle.verify.specs.Right.{weight_limit}
 use Rattle.verify.proofs.PlaceLemmas.{apply-kept, apply-seen, apply-cut}
 use Rattle.verify.proofs.results.Results.apply.Goals as goal

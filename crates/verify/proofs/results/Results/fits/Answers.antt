@@ -1,6 +1,6 @@
 use Rattle.std.proofs.Common.{◌≡◌, ◌-◌, ◌↔◌, IsTrue, List, ℕ, length, map, take, drop, arith, sym, ap, subst, ◌∙◌}
 use Rattle.names.specs.Codes.{decode}
-use Rattle.frame.specs.ByPlaces.{AllBelow}
+use Rattle.frame.specs.Below.{AllBelow}
 use Rattle.frame.specs.Substitution.{images_of_names}
 use Rattle.subst.specs.Images.{AreOver}
 use Rattle.subst.specs.Places.{seen_at, images_at, AreInside}

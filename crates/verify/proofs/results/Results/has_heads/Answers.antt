@@ -4,7 +4,7 @@ use Rattle.std.proofs.lemmas.List.{length-map}
 use Rattle.std.proofs.lemmas.Slice.Eq.{bytes_eq-Decides}
 use Rattle.subst.specs.declared.place.Place.{Place}
 use Rattle.subst.specs.Places.{seen_at}
-use Rattle.verify.specs.Cited.{head_of}
+use Rattle.frame.specs.Cited.{head_of}
 use Rattle.verify.specs.Places.{top, heads_at}
 use Rattle.verify.proofs.PlaceLemmas.{rest-of, map-drop}
 use Rattle.verify.proofs.results.Results.has_heads.Goals as goal

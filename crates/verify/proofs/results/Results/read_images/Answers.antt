@@ -5,7 +5,7 @@ use Rattle.std.proofs.lemmas.List.{length-map}
 use Rattle.frame.specs.Substitution.{CodeImages}
 use Rattle.subst.specs.declared.place.Place.{Place}
 use Rattle.subst.specs.Places.{seen_at, images_at, AreWithin}
-use Rattle.verify.specs.declared.seam.Hypothesis.{Hypothesis}
+use Rattle.entries.specs.declared.citation.Hypothesis.{Hypothesis}
 use Rattle.verify.specs.Fits.{Reads}
 use Rattle.verify.specs.Places.{top}
 use Rattle.verify.specs.ReadPlaces.{ReadsAll}

@@ -2,7 +2,7 @@ use Rattle.std.proofs.Common.{◌≡◌, ℕ, ◌<◌, ◌≤◌, ◌++◌, ◌�
 use Rattle.subst.specs.declared.place.Place.{Place}
 use Rattle.subst.specs.Places.{seen_at, AreWithin}
 use Rattle.subst.proofs.PlaceLemmas.{within-at}
-use Rattle.verify.specs.Cited.{head_of}
+use Rattle.frame.specs.Cited.{head_of}
 use Rattle.verify.proofs.PlaceLemmas.{kept-recall, recall-seen, recall-heavy}
 use Rattle.verify.proofs.results.Results.recall.Goals as goal
 
