@@ -1,6 +1,5 @@
 -- The citation of an assertion, by results of numbers.
-use Rattle.std.specs.Prelude.{◌≡◌, ℕ, ◌+◌, ◌-◌, ◌<◌, ◌≤◌, true, false, List, [], ◌∷◌, ◌++◌, length, map, get_or, slice_get, Some, refl}
-use Rattle.std.specs.List.{list_all}
+use Rattle.std.specs.Prelude.{◌≡◌, ℕ, ◌-◌, ◌<◌, ◌≤◌, true, false, List, [], ◌++◌, length, map, get_or, slice_get, Some}
 use Rattle.std.proofs.Common.{sym, ◌∙◌, ap, subst, arith, length-append}
 use Rattle.std.proofs.lemmas.List.{length-map}
 use Rattle.mm_lex.specs.Alphabet.{Name}
@@ -11,11 +10,9 @@ use Rattle.names.specs.Codes.{name_at, decode}
 use Rattle.frame.specs.FrameOf.{HasAssertion, mandatory_groups}
 use Rattle.frame.specs.Substitution.{Images, apply as applied, CodeImages, code_apply, images_of_names}
 use Rattle.frame.specs.Disjoint.{are_groups_apart}
-use Rattle.frame.specs.Below.{AreBelow, AllBelow}
 use Rattle.frame.specs.Citations.{Carries, IsInstance, premises}
 use Rattle.frame.specs.Reading.{AreLegal}
 use Rattle.proof_code.specs.declared.item.Item.TheVariants.{Cite}
-use Rattle.subst.specs.Images.{AreOver}
 use Rattle.subst.proofs.SubstitutionLemmas.{substitution_over_names}
 use Rattle.entries.specs.declared.citation.Hypothesis.TheVariants.{Float}
 use Rattle.entries.specs.declared.citation.Cited.{Cited}

@@ -1,24 +1,23 @@
 -- The results that an assertion takes are what some images make of its hypotheses, exactly where the first symbols agree
 -- and each `$e` is its result under the images that are read off the others.
-use Rattle.std.specs.Prelude.{◌≡◌, ℕ, zero, suc, ◌+◌, ◌<◌, Bool, true, false, cond, List, [], ◌∷◌, ◌++◌, length, map, drop, get_or, slice_get, Option, Some, None, ◌⊎◌, refl}
-use Rattle.std.specs.List.{list_all}
+use Rattle.std.specs.Prelude.{◌≡◌, ℕ, zero, suc, ◌<◌, Bool, true, false, cond, List, [], ◌∷◌, ◌++◌, length, map, drop, get_or, slice_get, Option, Some, None, ◌⊎◌, refl}
 use Rattle.std.proofs.Common.{sym, ◌∙◌, ap, subst, arith, inl, inr, true≢false, append-nil}
 use Rattle.std.proofs.lemmas.Bool.{lt-ltb}
 use Rattle.std.proofs.lemmas.List.{length-map}
-use Rattle.mm_lex.specs.Alphabet.{Name, has_name}
+use Rattle.mm_lex.specs.Alphabet.{Name}
 use Rattle.mm_read.specs.declared.stmt.Stmt.{Stmt}
 use Rattle.mm_read.specs.declared.stmt.Stmt.TheVariants as stmt
 use Rattle.mm_read.specs.Statements.{Expr, Database}
 use Rattle.scope.specs.Active.{stmt_at, before, expr_of, is_variable}
-use Rattle.names.specs.Codes.{name_at, decode, code_of, AreDistinct, AreCodes}
+use Rattle.names.specs.Codes.{name_at, decode, code_of, AreDistinct}
 use Rattle.names.proofs.CodesLemmas.{code-name}
 use Rattle.frame.specs.FrameOf.{hypotheses, mandatory_groups}
-use Rattle.frame.specs.Substitution.{Images, image, apply as applied, CodeImages, code_image, code_apply, images_of_names}
+use Rattle.frame.specs.Substitution.{Images, image, apply as applied, CodeImages, code_image, images_of_names}
 use Rattle.frame.specs.Citations.{OfVariables, premises, expr_at, option_expr}
 use Rattle.frame.specs.Disjoint.{are_groups_apart}
 use Rattle.frame.specs.Below.{AreBelow, AllBelow}
 use Rattle.subst.specs.Images.{AreOver}
-use Rattle.subst.proofs.SubstitutionLemmas.{image-named, image-unnamed, image-decode, substitution_over_names}
+use Rattle.subst.proofs.SubstitutionLemmas.{image-named, image-unnamed, image-decode}
 use Rattle.entries.specs.declared.citation.Hypothesis.{Hypothesis}
 use Rattle.entries.specs.declared.citation.Hypothesis.TheVariants.{Float, Essential}
 use Rattle.frame.specs.Bound.{IsBound, HasFloat, IsFirstFixed}
@@ -26,7 +25,7 @@ use Rattle.frame.specs.Cited.{head_of, IsHead, IsAsked, AreAsked}
 use Rattle.verify.specs.Fits.{AreRead, FitsOne, DoFit}
 use Rattle.verify.proofs.Decide.{some_same}
 use Rattle.verify.proofs.Named.{name_at-injective, all-at}
-use Rattle.verify.proofs.AskedLemmas.{At, asked-lengths, asked-at, float-at, essential-at, float-number, float-find, get-some, some-get, some-within, lists-same}
+use Rattle.verify.proofs.AskedLemmas.{At, asked-lengths, asked-at, float-at, essential-at, float-number, float-find, some-get, some-within, lists-same}
 use Rattle.verify.proofs.ImageLemmas.{apply-members, groups-members, only, only-all, image-only, image-fixed}
 
 -- ---- lists of numbers and of names

@@ -2,9 +2,8 @@
 use Rattle.std.specs.Prelude.{◌≡◌, ℕ, zero, suc, ◌+◌, ◌-◌, ◌<◌, ◌≤◌, List, [], ◌∷◌, ◌++◌, length, map, take, drop, get_or, replicate, slice_get, slice_set, Some, refl}
 use Rattle.std.proofs.Common.{sym, ◌∙◌, ap, subst, arith, length-append, length-drop}
 use Rattle.std.proofs.lemmas.List.{length-map, take_all}
-use Rattle.frame.specs.Substitution.{code_apply}
 use Rattle.subst.specs.declared.place.Place.{Place}
-use Rattle.subst.specs.Places.{seen_at, images_at, AreWithin, AreInside}
+use Rattle.subst.specs.Places.{seen_at, AreWithin, AreInside}
 use Rattle.subst.proofs.PlaceLemmas.{map-seen-more, within-weaken, within-snoc, within-take, within-drop, within-get, within-at, seen-get, length-seen, seen-last}
 use Rattle.subst.proofs.ImagePlacesLemmas.{inside-more, inside-none}
 use Rattle.frame.specs.Cited.{head_of}

@@ -1,9 +1,8 @@
 -- Images read off results, one hypothesis after another.
-use Rattle.std.specs.Prelude.{◌≡◌, ℕ, zero, suc, ◌+◌, ◌-◌, ◌<◌, ◌≤◌, nat_eq, nat_lt, Bool, true, false, cond, List, [], ◌∷◌, length, map, take, drop, get_or, slice_get, Option, Some, None, refl}
+use Rattle.std.specs.Prelude.{◌≡◌, ℕ, zero, suc, ◌+◌, ◌-◌, ◌<◌, ◌≤◌, nat_eq, nat_lt, Bool, true, false, cond, List, [], ◌∷◌, length, map, take, drop, get_or, slice_get, Some, None, refl}
 use Rattle.std.specs.Map.{lookup}
 use Rattle.std.proofs.Common.{sym, ◌∙◌, ap, subst, arith}
 use Rattle.std.proofs.lemmas.Bool.Decides.{nat_tests}
-use Rattle.std.proofs.lemmas.List.{length-map}
 use Rattle.frame.specs.Substitution.{code_image}
 use Rattle.subst.specs.declared.place.Place.{Place}
 use Rattle.subst.specs.Places.{seen_at, images_at, AreWithin, AreInside}
@@ -11,10 +10,10 @@ use Rattle.subst.proofs.ImagePlacesLemmas.{image-some, image-none, inside-set}
 use Rattle.subst.proofs.PlaceLemmas.{within-get, length-seen}
 use Rattle.entries.specs.declared.citation.Hypothesis.{Hypothesis}
 use Rattle.entries.specs.declared.citation.Hypothesis.TheVariants.{Float, Essential}
-use Rattle.verify.specs.Fits.{AreDifferent, AreRead, Reads}
+use Rattle.verify.specs.Fits.{AreDifferent, Reads}
 use Rattle.verify.specs.ReadPlaces.{tail_of, ReadsOne, ReadTo, ReadsAll}
 use Rattle.verify.proofs.Decide.{some_same}
-use Rattle.verify.proofs.AskedLemmas.{get-some, some-get, some-within}
+use Rattle.verify.proofs.AskedLemmas.{some-within}
 
 pub read-none : (hs : List Hypothesis) (places : List Place) (images : List (ℕ × Place)) → images ≡ [] → ReadTo 0 hs places images
 read-none hs places images e = record {

@@ -8,7 +8,6 @@ use Rattle.verify.specs.Derivations.{Derivation, from_list, node_count, nodes_in
 use Rattle.verify.specs.Plan.{pick, derive, built, IsAfter, AreOrdered}
 use Rattle.verify.specs.Extents.{extent_of}
 use Rattle.verify.proofs.PlaceLemmas.{map-snoc}
-
 use Rattle.verify.proofs.PlanLemmas.{built-snoc, length-built'}
 
 take-more : {A : Type 0} (xs : List A) (i : ℕ) (d : A) → i < length xs → take (i + 1) xs ≡ take i xs ++ get_or xs i d ∷ []

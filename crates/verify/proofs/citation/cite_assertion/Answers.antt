@@ -1,4 +1,4 @@
-use Rattle.std.specs.Prelude.{◌≡◌, ℕ, ◌-◌, ◌≤◌, ◌<◌, ◌↔◌, Bool, true, false, IsTrue, List, Result, IfOk, length, map, refl}
+use Rattle.std.specs.Prelude.{◌≡◌, ℕ, ◌-◌, ◌↔◌, Bool, true, false, IsTrue, List, Result, IfOk, length, map}
 use Rattle.std.specs.declared.alloc.AllocError.{AllocError}
 use Rattle.std.proofs.Common.{arith, sym, ap, ◌∙◌, subst}
 use Rattle.mm_lex.specs.Alphabet.{Name}
@@ -6,7 +6,7 @@ use Rattle.mm_read.specs.Statements.{Database}
 use Rattle.names.specs.Codes.{decode}
 use Rattle.frame.specs.Below.{AllBelow}
 use Rattle.frame.specs.Disjoint.{are_groups_apart}
-use Rattle.frame.specs.Substitution.{CodeImages, code_apply, images_of_names}
+use Rattle.frame.specs.Substitution.{CodeImages, images_of_names}
 use Rattle.subst.specs.Images.{AreOver}
 use Rattle.entries.specs.declared.citation.Hypothesis.{Hypothesis}
 use Rattle.frame.specs.Cited.{head_of}
@@ -130,3 +130,8 @@ returns-clause-goes c = λ label s carries.
 
 pub returns-clause-saved : goal.returns-clause-saved
 returns-clause-saved c = saved-same c.args.results.now.results _ _ _ c.apply.result (adds-as _ c.read_images.new.self.results _ _ _ _ c.in_ok-read_images.ensures.same c.apply.ensures)
+
+pub are_apart-requires-clause-below : goal.are_apart-requires-clause-below
+are_apart-requires-clause-below c =
+    let cited = c.cited-cited.ensures c.requires.assertion.0 c.requires.assertion.1.0 in
+    subst (λ ns. AllBelow (length ns) c.cited-cited.result.groups) (sym c.requires.names) cited.groups_below

@@ -1,4 +1,4 @@
-use Rattle.std.proofs.Common.{◌≡◌, ◌∙◌, ap, map, length, sym, subst}
+use Rattle.std.proofs.Common.{◌∙◌, ap, map, length, sym, subst}
 use Rattle.names.specs.Codes.{decode}
 use Rattle.frame.specs.Disjoint.{are_groups_apart}
 use Rattle.frame.specs.Substitution.{images_of_names}

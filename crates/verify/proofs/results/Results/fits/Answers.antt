@@ -1,4 +1,4 @@
-use Rattle.std.proofs.Common.{◌≡◌, ◌-◌, ◌↔◌, IsTrue, List, ℕ, length, map, take, drop, arith, sym, ap, subst, ◌∙◌}
+use Rattle.std.proofs.Common.{◌-◌, ◌↔◌, IsTrue, length, map, take, drop, arith, sym, ap, subst, ◌∙◌}
 use Rattle.names.specs.Codes.{decode}
 use Rattle.frame.specs.Below.{AllBelow}
 use Rattle.frame.specs.Substitution.{images_of_names}

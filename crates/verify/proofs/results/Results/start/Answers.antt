@@ -1,4 +1,4 @@
-use Rattle.std.proofs.Common.{◌∙◌, sym, subst}
+use Rattle.std.proofs.Common.{sym, subst}
 use Rattle.subst.specs.Places.{AreWithin}
 use Rattle.verify.proofs.PlaceLemmas.{within-none, cleared-kept, resized-none, started-seen}
 use Rattle.verify.proofs.results.Results.start.Goals as goal
