@@ -65,7 +65,7 @@ fn labels_of(
 {
     let mut labels = Words::new(alloc);
     for position in frames.hypotheses(at) {
-        labels.push(hypothesis_label(statements, *position))?;
+        labels.push(hypothesis_label(statements, *position as usize))?;
     }
     Ok(labels)
 }
