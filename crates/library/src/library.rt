@@ -37,7 +37,6 @@ pub struct Library {
 }
 
 impl Model for Library {
-    ghost use Rattle.library.specs.Ledger.{IsDecision};
     ghost use Rattle.library.specs.Kept.{Kept};
 
     ghost Value = { Kept };
