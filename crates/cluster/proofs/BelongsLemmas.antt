@@ -10,17 +10,17 @@ use Rattle.synod.specs.declared.refusal.Refusal.{Refusal}
 use Rattle.synod.specs.Node.{Node, Stepped}
 use Rattle.synod.specs.Proposer.{offered, begun}
 use Rattle.synod.specs.Step.{on_packet, restarted}
-use Rattle.world.specs.declared.event.TheConstants.{MOST_EVENTS}
-use Rattle.world.specs.declared.event.Event.{Event}
-use Rattle.world.specs.declared.event.Event.TheVariants.{Offer, Begin, Deliver, Restart}
-use Rattle.world.specs.declared.fault.StepFault.{StepFault}
-use Rattle.world.specs.World.{World, at_node, delivered, happens_at, happens, log, log_after, all_happen, start}
-use Rattle.world.specs.Agree.{IsAfter, IsBeginningOf}
-use Rattle.world.specs.KeptPart.{node_of, change_of}
-use Rattle.world.proofs.EveryEvent.{IfTaken, if_taken, spent_or}
-use Rattle.world.proofs.TwoMoments.{all_happen-append}
-use Rattle.world.proofs.TakenLemmas.{after-push}
-use Rattle.world.proofs.LogsGrow.{log_grows}
+use Rattle.net.specs.declared.event.TheConstants.{MOST_EVENTS}
+use Rattle.net.specs.declared.event.Event.{Event}
+use Rattle.net.specs.declared.event.Event.TheVariants.{Offer, Begin, Deliver, Restart}
+use Rattle.net.specs.declared.fault.StepFault.{StepFault}
+use Rattle.net.specs.World.{World, at_node, delivered, happens_at, happens, log, log_after, all_happen, start}
+use Rattle.net.specs.Agree.{IsAfter, IsBeginningOf}
+use Rattle.net.specs.KeptPart.{node_of, change_of}
+use Rattle.net.proofs.EveryEvent.{IfTaken, if_taken, spent_or}
+use Rattle.net.proofs.TwoMoments.{all_happen-append}
+use Rattle.net.proofs.TakenLemmas.{after-push}
+use Rattle.net.proofs.LogsGrow.{log_grows}
 use Rattle.cluster.specs.Seat.{Standing, up, down}
 use Rattle.cluster.specs.Switch.{Place, Shared, world_of, with_place, with_event, IsPlaceOf, ArePlaces, is_down, is_down_at, is_down_place, due, change_due, events_due, FailsAt, TakesAt, ActsUp, Acts, RevivesAt, ActsDown, Restarts}
 use Rattle.cluster.specs.Belongs.{BeginsLog, StaysBelonging, StaysAtRestart}

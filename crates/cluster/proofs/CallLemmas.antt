@@ -13,13 +13,13 @@ use Rattle.synod.specs.Record.{Kept}
 use Rattle.synod.specs.Proposer.{offered, begun}
 use Rattle.synod.specs.Step.{on_packet, restarted}
 use Rattle.synod.specs.Node.{Node, Stepped, kept_of}
-use Rattle.world.specs.declared.event.TheConstants.{MOST_EVENTS}
-use Rattle.world.specs.declared.event.Event.{Event}
-use Rattle.world.specs.declared.event.Event.TheVariants.{Offer, Begin, Deliver, Restart}
-use Rattle.world.specs.declared.fault.StepFault.{StepFault}
-use Rattle.world.specs.declared.fault.StepFault.TheVariants.{Memory, Down, EventsSpent, NoNode, NoPacket}
-use Rattle.world.specs.World.{World, at_node, delivered, happens}
-use Rattle.world.specs.KeptPart.{node_of}
+use Rattle.net.specs.declared.event.TheConstants.{MOST_EVENTS}
+use Rattle.net.specs.declared.event.Event.{Event}
+use Rattle.net.specs.declared.event.Event.TheVariants.{Offer, Begin, Deliver, Restart}
+use Rattle.net.specs.declared.fault.StepFault.{StepFault}
+use Rattle.net.specs.declared.fault.StepFault.TheVariants.{Memory, Down, EventsSpent, NoNode, NoPacket}
+use Rattle.net.specs.World.{World, at_node, delivered, happens}
+use Rattle.net.specs.KeptPart.{node_of}
 use Rattle.synod.specs.declared.refusal.Refusal.{Refusal}
 use Rattle.cluster.specs.Seat.{Owed, Standing, up, down, Seated, moment, ArePosts, IsRecordOf, IsWithOrWithout, PlaysOr, Plays, Revives}
 use Rattle.cluster.specs.Switch.{Place, Shared, event_owed, standing_seen, place_of, places_of, ComesTo, IsOwing, IsSwitch, world_of, IsRecordIn, IsPlaceOf, ArePlaces, is_down, is_down_place, is_down_at, due, ActsUp, Acts, ActsDown, Restarts, RevivesAt, ShowsEntry}

@@ -6,7 +6,7 @@ use Rattle.slots.specs.declared.slots.TheConstants.{SLOTS}
 use Rattle.library.specs.declared.entry.Entry.{Entry}
 use Rattle.library.specs.declared.verdict.Verdict.{Verdict}
 use Rattle.world.specs.declared.carried.Carried.{Carried}
-use Rattle.world.specs.declared.fault.StepFault.{StepFault}
+use Rattle.net.specs.declared.fault.StepFault.{StepFault}
 use Rattle.world.specs.Carried.{entry_of, entries_of}
 use Rattle.world.specs.Replicas.{NodeLibrary}
 use Rattle.world.proofs.EntriesLemmas.{entries_begin, entries_of-get, entries_of-none}

@@ -6,13 +6,13 @@ use Rattle.synod.specs.Weights.{IsWeights}
 use Rattle.synod.specs.Record.{Kept, new_kept}
 use Rattle.synod.specs.Node.{Node, new_node, kept_of}
 use Rattle.synod.specs.Core.{Core}
-use Rattle.world.specs.declared.event.Event.{Event}
+use Rattle.net.specs.declared.event.Event.{Event}
 use Rattle.world.specs.declared.carried.Carried.{Carried}
 use Rattle.world.specs.Carried.{carried_size}
-use Rattle.world.specs.World.{nodes_from, log_after}
-use Rattle.world.specs.Taken.{nodes_of}
-use Rattle.world.proofs.Lists.{all_append}
-use Rattle.world.proofs.TakenLemmas.{nodes_of-push, nodes_from-take, start_of_world}
+use Rattle.net.specs.World.{nodes_from, log_after}
+use Rattle.net.specs.Taken.{nodes_of}
+use Rattle.net.proofs.Lists.{all_append}
+use Rattle.net.proofs.TakenLemmas.{nodes_of-push, nodes_from-take, start_of_world}
 use Rattle.cluster.specs.Seat.{Seated, Standing, Owed, up}
 use Rattle.cluster.specs.Switch.{Place, Shared, world_of, place_of, places_of, cores_of, IsSeat, IsSwitch}
 use Rattle.cluster.specs.Cell.{Cell, new_cell}

@@ -8,15 +8,15 @@ use Rattle.slots.specs.FiniteMap.{put_at}
 use Rattle.synod.specs.declared.refusal.Refusal.{Refusal}
 use Rattle.std.specs.List.{AllByRecursion}
 use Rattle.synod.specs.Packets.{IsPost}
-use Rattle.world.proofs.Lists.{all_append}
+use Rattle.net.proofs.Lists.{all_append}
 use Rattle.synod.specs.Record.{Kept, changed_by}
 use Rattle.synod.specs.Node.{Node, Stepped, kept_of}
 use Rattle.synod.specs.Core.{Core}
 use Rattle.synod.specs.Step.{reloaded, restarted}
 use Rattle.synod.specs.Ready.{Made, Readies}
-use Rattle.world.specs.declared.event.Event.{Event}
-use Rattle.world.specs.declared.event.Event.TheVariants.{Restart}
-use Rattle.world.specs.declared.fault.StepFault.{StepFault}
+use Rattle.net.specs.declared.event.Event.{Event}
+use Rattle.net.specs.declared.event.Event.TheVariants.{Restart}
+use Rattle.net.specs.declared.fault.StepFault.{StepFault}
 use Rattle.cluster.specs.declared.standing.Standing.{Standing as Stands}
 use Rattle.cluster.specs.declared.standing.Standing.TheVariants.{Up, Down}
 use Rattle.cluster.specs.Standing.{standing_of, owed_in}

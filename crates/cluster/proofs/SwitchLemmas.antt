@@ -15,20 +15,20 @@ use Rattle.synod.specs.Node.{Node, Stepped, kept_of, rest_of}
 use Rattle.synod.specs.Core.{Core}
 use Rattle.synod.specs.Proposer.{offered, begun}
 use Rattle.synod.specs.Step.{on_packet, reloaded, restarted}
-use Rattle.world.specs.declared.event.TheConstants.{MOST_EVENTS}
-use Rattle.world.specs.declared.event.Event.{Event}
-use Rattle.world.specs.declared.event.Event.TheVariants.{Offer, Begin, Deliver, Restart}
-use Rattle.world.specs.declared.fault.StepFault.{StepFault}
-use Rattle.world.specs.declared.fault.StepFault.TheVariants.{Memory, Device, EventsSpent}
-use Rattle.world.specs.World.{World, start, stepped, answered, at_node, delivered, happens_at, happens, offers_of}
-use Rattle.world.specs.Agree.{IsAfter}
-use Rattle.world.specs.Taken.{Taken, AreOfWorld}
-use Rattle.world.specs.KeptPart.{change_at, change_delivered, change_of, kept_part}
-use Rattle.world.proofs.Lists.{all_append}
-use Rattle.world.proofs.EveryEvent.{if_taken, node_at, holds_after}
-use Rattle.world.proofs.TwoMoments.{world_lasts}
-use Rattle.world.proofs.KeptPartLemmas.{Happens, event_moves}
-use Rattle.world.proofs.TakenLemmas.{nodes_at, nodes_past, set_same, taken_count, happens-not_spent, happens-spent, events_within, leaves, written_is}
+use Rattle.net.specs.declared.event.TheConstants.{MOST_EVENTS}
+use Rattle.net.specs.declared.event.Event.{Event}
+use Rattle.net.specs.declared.event.Event.TheVariants.{Offer, Begin, Deliver, Restart}
+use Rattle.net.specs.declared.fault.StepFault.{StepFault}
+use Rattle.net.specs.declared.fault.StepFault.TheVariants.{Memory, Device, EventsSpent}
+use Rattle.net.specs.World.{World, start, stepped, answered, at_node, delivered, happens_at, happens, offers_of}
+use Rattle.net.specs.Agree.{IsAfter}
+use Rattle.net.specs.Taken.{Taken, AreOfWorld}
+use Rattle.net.specs.KeptPart.{change_at, change_delivered, change_of, kept_part}
+use Rattle.net.proofs.Lists.{all_append}
+use Rattle.net.proofs.EveryEvent.{if_taken, node_at, holds_after}
+use Rattle.net.proofs.TwoMoments.{world_lasts}
+use Rattle.net.proofs.KeptPartLemmas.{Happens, event_moves}
+use Rattle.net.proofs.TakenLemmas.{nodes_at, nodes_past, set_same, taken_count, happens-not_spent, happens-spent, events_within, leaves, written_is}
 use Rattle.cluster.specs.Seat.{Owed, owed, Standing, up, down, Seated, Moment, moment, change_owed, posts_owed, events_owed, posts_owed_in, IsRecordOf, IsWithOrWithout, ArePosts, played, Fails, Plays, PlaysOr, revived, Revives}
 use Rattle.cluster.specs.Switch.{Place, Shared, event_owed, standing_seen, place_of, places_of, cores_of, IsEventAt, ComesTo, IsOwing, IsSeat, IsSwitch, change_due, with_place, due, TakesAt, ActsUp, events_due, RevivesAt}
 use Rattle.cluster.proofs.SeatLemmas.{changed_twice}

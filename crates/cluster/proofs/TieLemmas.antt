@@ -5,12 +5,12 @@ use Rattle.std.specs.Result.{ForOk}
 use Rattle.synod.specs.declared.packet.Packet.{Packet}
 use Rattle.synod.specs.Log.{log_of}
 use Rattle.synod.specs.Node.{Node}
-use Rattle.world.specs.declared.event.Event.{Event}
-use Rattle.world.specs.declared.event.Event.TheVariants.{Offer, Begin, Deliver, Restart}
-use Rattle.world.specs.declared.fault.StepFault.{StepFault}
-use Rattle.world.specs.World.{World, log_at, log_after}
-use Rattle.world.specs.Agree.{IsBeginningOf}
-use Rattle.world.specs.KeptPart.{node_of}
+use Rattle.net.specs.declared.event.Event.{Event}
+use Rattle.net.specs.declared.event.Event.TheVariants.{Offer, Begin, Deliver, Restart}
+use Rattle.net.specs.declared.fault.StepFault.{StepFault}
+use Rattle.net.specs.World.{World, log_at, log_after}
+use Rattle.net.specs.Agree.{IsBeginningOf}
+use Rattle.net.specs.KeptPart.{node_of}
 use Rattle.cluster.specs.Seat.{Owed, Standing, up, down, Seated}
 use Rattle.cluster.specs.Switch.{Place, Shared, standing_seen, place_of, places_of, IsOwing, IsSwitch, world_of, Acts, Restarts, ShowsEntry}
 use Rattle.world.specs.declared.carried.Carried.{Carried}

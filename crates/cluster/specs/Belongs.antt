@@ -4,9 +4,9 @@
 use Rattle.std.specs.Prelude.{◌≡◌, ◌≢◌, ◌<◌, ℕ, List, Option, Some, Result, OnErr, length, slice_get}
 use Rattle.mm_read.specs.Statements.{Database}
 use Rattle.world.specs.declared.carried.Carried.{Carried}
-use Rattle.world.specs.declared.fault.StepFault.{StepFault}
-use Rattle.world.specs.World.{log_after}
-use Rattle.world.specs.Agree.{IsBeginningOf}
+use Rattle.net.specs.declared.fault.StepFault.{StepFault}
+use Rattle.net.specs.World.{log_after}
+use Rattle.net.specs.Agree.{IsBeginningOf}
 use Rattle.world.specs.Carried.{carried_size}
 use Rattle.cluster.specs.declared.compare.Ahead.{Ahead}
 use Rattle.cluster.specs.declared.compare.Ahead.TheVariants.{First, Same, Second}

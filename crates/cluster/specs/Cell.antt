@@ -7,8 +7,8 @@ use Rattle.library.specs.declared.entry.Entry.{Entry}
 use Rattle.library.specs.declared.verdict.Verdict.{Verdict}
 use Rattle.library.specs.LibraryOf.{Applies}
 use Rattle.world.specs.declared.carried.Carried.{Carried}
-use Rattle.world.specs.declared.fault.StepFault.{StepFault}
-use Rattle.world.specs.declared.fault.StepFault.TheVariants.{Memory}
+use Rattle.net.specs.declared.fault.StepFault.{StepFault}
+use Rattle.net.specs.declared.fault.StepFault.TheVariants.{Memory}
 use Rattle.world.specs.Carried.{entries_of}
 use Rattle.world.specs.Replicas.{NodeLibrary, new_library, IsOfLog}
 

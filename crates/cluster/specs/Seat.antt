@@ -11,11 +11,11 @@ use Rattle.synod.specs.Record.{Kept, changed_by}
 use Rattle.synod.specs.Node.{Node, Stepped, kept_of}
 use Rattle.synod.specs.Core.{Core}
 use Rattle.synod.specs.Step.{reloaded}
-use Rattle.world.specs.declared.event.Event.{Event}
-use Rattle.world.specs.declared.event.Event.TheVariants.{Restart}
-use Rattle.world.specs.declared.fault.StepFault.{StepFault}
-use Rattle.world.specs.declared.fault.StepFault.TheVariants.{Memory, Device}
-use Rattle.world.specs.World.{fault_of}
+use Rattle.net.specs.declared.event.Event.{Event}
+use Rattle.net.specs.declared.event.Event.TheVariants.{Restart}
+use Rattle.net.specs.declared.fault.StepFault.{StepFault}
+use Rattle.net.specs.declared.fault.StepFault.TheVariants.{Memory, Device}
+use Rattle.net.specs.World.{fault_of}
 
 -- an event whose store failed, and its step, which the node has not made
 pub record Owed (V : Type 0) : Type 0 where

@@ -11,15 +11,15 @@ use Rattle.synod.specs.Record.{Kept, changed_by}
 use Rattle.synod.specs.Node.{Node, Stepped, kept_of}
 use Rattle.synod.specs.Log.{log_of}
 use Rattle.synod.specs.Core.{Core}
-use Rattle.world.specs.declared.event.TheConstants.{MOST_EVENTS}
-use Rattle.world.specs.declared.event.Event.{Event}
-use Rattle.world.specs.declared.event.Event.TheVariants.{Offer, Begin, Deliver, Restart}
-use Rattle.world.specs.declared.fault.StepFault.{StepFault}
-use Rattle.world.specs.declared.fault.StepFault.TheVariants.{Memory, Device, Down, NoNode, EventsSpent}
-use Rattle.world.specs.World.{World, answered, happens, happens_at, after}
-use Rattle.world.specs.Agree.{IsAfter}
-use Rattle.world.specs.Taken.{AreOfWorld}
-use Rattle.world.specs.KeptPart.{node_of, change_of, change_answered, kept_part}
+use Rattle.net.specs.declared.event.TheConstants.{MOST_EVENTS}
+use Rattle.net.specs.declared.event.Event.{Event}
+use Rattle.net.specs.declared.event.Event.TheVariants.{Offer, Begin, Deliver, Restart}
+use Rattle.net.specs.declared.fault.StepFault.{StepFault}
+use Rattle.net.specs.declared.fault.StepFault.TheVariants.{Memory, Device, Down, NoNode, EventsSpent}
+use Rattle.net.specs.World.{World, answered, happens, happens_at, after}
+use Rattle.net.specs.Agree.{IsAfter}
+use Rattle.net.specs.Taken.{AreOfWorld}
+use Rattle.net.specs.KeptPart.{node_of, change_of, change_answered, kept_part}
 use Rattle.cluster.specs.Seat.{Owed, Standing, up, down, Seated, IsRecordOf, IsWithOrWithout, posts_owed_in}
 
 -- What contracts see.

@@ -10,7 +10,7 @@ ghost use Rattle.synod.specs.Record.{changed_by};
 ghost use Rattle.synod.specs.Proposer.{begun, offered};
 ghost use Rattle.synod.specs.Step.{on_packet, restarted};
 ghost use Rattle.synod.specs.Node.{kept_of};
-ghost use Rattle.world.specs.declared.event.Event.TheVariants.{Offer, Begin, Deliver, Restart};
+ghost use Rattle.net.specs.declared.event.Event.TheVariants.{Offer, Begin, Deliver, Restart};
 ghost use Rattle.cluster.specs.Seat.{Seated, Owed, up, down, owed, moment, change_owed, posts_owed, events_owed, ArePosts, IsRecordOf, IsWithOrWithout, Plays, PlaysOr, Revives};
 ghost use Rattle.cluster.specs.Standing.{owed_in};
 ghost use Rattle.cluster.specs.Switch.{standing_seen, is_down};

@@ -6,10 +6,10 @@ ghost use Rattle.synod.specs.Weights.{IsWeights};
 ghost use Rattle.std.specs.Option.{option_map};
 ghost use Rattle.std.specs.Result.{ForOk};
 ghost use Rattle.synod.specs.declared.packet.Packet.{Packet};
-ghost use Rattle.world.specs.declared.event.TheConstants.{MOST_EVENTS};
-ghost use Rattle.world.specs.declared.fault.StepFault.TheVariants.{NoPacket, Memory};
-ghost use Rattle.world.specs.World.{World, nodes_from, log_after};
-ghost use Rattle.world.specs.Taken.{nodes_of};
+ghost use Rattle.net.specs.declared.event.TheConstants.{MOST_EVENTS};
+ghost use Rattle.net.specs.declared.fault.StepFault.TheVariants.{NoPacket, Memory};
+ghost use Rattle.net.specs.World.{World, nodes_from, log_after};
+ghost use Rattle.net.specs.Taken.{nodes_of};
 ghost use Rattle.cluster.specs.Switch.{cores_of, places_of, is_down_at, world_of, ArePlaces, ShowsEntry};
 ghost use Rattle.cluster.specs.Cells.{IsNewSeat};
 

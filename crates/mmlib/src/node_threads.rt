@@ -2,7 +2,7 @@
 ghost use Rattle.std.specs.Prelude.{◌≡◌, length, vec_len, IfOk, IsOkUnless};
 ghost use Rattle.std.specs.List.{AllByRecursion};
 ghost use Rattle.synod.specs.Record.{new_kept};
-ghost use Rattle.world.specs.declared.fault.StepFault.TheVariants.{Memory};
+ghost use Rattle.net.specs.declared.fault.StepFault.TheVariants.{Memory};
 
 use crate::workers::Workers;
 use cluster::MemoryKeep;

@@ -1,6 +1,6 @@
 //! The command `serve`: a script at the desk of a cluster, whose nodes are threads.
 ghost use Rattle.std.specs.Prelude.{◌≡◌, ◌++◌, ◌≤◌, ◌<◌, List, Err, OnOk, IfOk, IsOk};
-ghost use Rattle.world.specs.declared.fault.StepFault.TheVariants.{NoNode};
+ghost use Rattle.net.specs.declared.fault.StepFault.TheVariants.{NoNode};
 ghost use Rattle.library.specs.declared.listed.Listed.{Listed};
 ghost use Rattle.nodes.specs.Desk.{IsListed, IsStatus};
 ghost use Rattle.mmlib.specs.Printed.{list_text};

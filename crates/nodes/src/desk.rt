@@ -1,6 +1,6 @@
 //! What any thread may call.
 ghost use Rattle.std.specs.Prelude.{◌≡◌, ◌≤◌, ◌<◌, ◌⊎◌, ℕ, Ok, Err, IsOk, IfOk, IsOkUnless};
-ghost use Rattle.world.specs.declared.fault.StepFault.TheVariants.{NoNode, Memory, Apart};
+ghost use Rattle.net.specs.declared.fault.StepFault.TheVariants.{NoNode, Memory, Apart};
 ghost use Rattle.cluster.specs.declared.compare.Ahead.TheVariants.{Same};
 ghost use Rattle.nodes.specs.Desk.{IsListed, IsStatus, IsCompared};
 

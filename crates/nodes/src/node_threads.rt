@@ -3,7 +3,7 @@ ghost use Rattle.std.specs.Prelude.{◌≡◌, ◌≤◌, length, vec_len, IfOk,
 ghost use Rattle.std.specs.Arc.{arc_value};
 ghost use Rattle.std.specs.List.{AllByRecursion};
 ghost use Rattle.synod.specs.Record.{new_kept};
-ghost use Rattle.world.specs.declared.fault.StepFault.TheVariants.{Memory};
+ghost use Rattle.net.specs.declared.fault.StepFault.TheVariants.{Memory};
 ghost use Rattle.nodes.specs.Report.{IsReport};
 
 use crate::board::Board;

@@ -1,7 +1,7 @@
 //! The locks that the threads share.
 ghost use Rattle.std.specs.Prelude.{◌≡◌, ◌≤◌, ◌<◌, ℕ, Err, IsOk, IfOk, IsOkUnless, IsTrue, vec_len};
 ghost use Rattle.cluster.specs.Belongs.{Belongs};
-ghost use Rattle.world.specs.declared.fault.StepFault.TheVariants.{NoNode, Apart};
+ghost use Rattle.net.specs.declared.fault.StepFault.TheVariants.{NoNode, Apart};
 ghost use Rattle.nodes.specs.Desk.{IsCompared};
 
 use crate::board::{Board, Hint};

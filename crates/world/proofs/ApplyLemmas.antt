@@ -7,11 +7,11 @@ use Rattle.library.specs.declared.entry.Entry.{Entry}
 use Rattle.library.specs.declared.verdict.Verdict.{Verdict}
 use Rattle.library.specs.LibraryOf.{Applies}
 use Rattle.world.specs.declared.carried.Carried.{Carried}
-use Rattle.world.specs.declared.fault.StepFault.{StepFault}
-use Rattle.world.specs.World.{log}
+use Rattle.net.specs.declared.fault.StepFault.{StepFault}
+use Rattle.net.specs.World.{log}
 use Rattle.world.specs.Carried.{entry_of, entries_of}
 use Rattle.world.specs.Replicas.{NodeLibrary, Replicas, log_entries, IsOfLog, AreReplicas, next_of, next_entry, IsApplied}
-use Rattle.world.proofs.TakenLemmas.{set_same}
+use Rattle.net.proofs.TakenLemmas.{set_same}
 use Rattle.world.proofs.EntriesLemmas.{entries_of-get, entries_of-none}
 use Rattle.world.proofs.ReplicasLemmas.{of_log_applied, applied_are_replicas}
 

@@ -6,10 +6,10 @@ use Rattle.library.specs.declared.entry.Entry.{Entry}
 use Rattle.library.specs.declared.verdict.Verdict.{Verdict}
 use Rattle.library.specs.LibraryOf.{Replica, empty, Applies, IsLibraryOf}
 use Rattle.world.specs.declared.carried.Carried.{Carried}
-use Rattle.world.specs.declared.event.Event.{Event}
-use Rattle.world.specs.declared.event.Event.TheVariants.{Offer, Begin, Deliver, Restart}
-use Rattle.world.specs.World.{log_after}
-use Rattle.world.specs.Taken.{Taken, world_of, with_event}
+use Rattle.net.specs.declared.event.Event.{Event}
+use Rattle.net.specs.declared.event.Event.TheVariants.{Offer, Begin, Deliver, Restart}
+use Rattle.net.specs.World.{log_after}
+use Rattle.net.specs.Taken.{Taken, world_of, with_event}
 use Rattle.world.specs.Carried.{carried_size, entries_of}
 
 -- a node's library, and how many entries of its log made it

@@ -2,6 +2,7 @@
 use super::*;
 use bytes::Bytes;
 use library::{Entry, Submission, Verdict};
+use net::{Event, StepFault};
 use std::alloc::{AllocError, Global};
 use std::test::Fail;
 use synod::Weights;

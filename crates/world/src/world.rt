@@ -1,19 +1,17 @@
 //! All nodes, all packets and all libraries, driven by a list of events.
 ghost use Rattle.std.specs.Prelude.{◌≡◌, ◌↔◌, ◌+◌, ◌≤◌, ◌<◌, None, Some, Ok, Err, length, slice_get, IfOk, IfErr, IfSome, IsSomeAnd, OnOk, OnErr, IsOk, IsOkUnless};
 ghost use Rattle.library.specs.LibraryOf.{Applies};
-ghost use Rattle.world.specs.World.{packets_after};
-ghost use Rattle.world.specs.Taken.{world_of, with_event};
+ghost use Rattle.net.specs.World.{packets_after};
+ghost use Rattle.net.specs.Taken.{world_of, with_event};
 ghost use Rattle.world.specs.Carried.{carried as carried_event, carried_size};
 ghost use Rattle.world.specs.Replicas.{log_entries};
-ghost use Rattle.world.specs.declared.fault.StepFault.TheVariants.{NoNode, NoPacket, Memory};
+ghost use Rattle.net.specs.declared.fault.StepFault.TheVariants.{NoNode, NoPacket, Memory};
 
 use crate::carried::{Carried, entries};
 use crate::entry_event::{carried, restarted};
-use crate::event::{Event, MOST_EVENTS};
-use crate::fault::StepFault;
-use crate::net::Net;
 use crate::replica::{Replica, give_up, new_replicas};
 use library::{Entry, Library, Verdict};
+use net::{Event, MOST_EVENTS, Net, StepFault};
 use std::alloc::Global;
 use std::marker::Model;
 use synod::{Packet, Weights};

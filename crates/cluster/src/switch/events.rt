@@ -1,9 +1,9 @@
 //! What happens to one node of a switch.
 ghost use Rattle.std.specs.Prelude.{◌≡◌, ℕ, Some, None, Option, Result, true, false, slice_get};
 ghost use Rattle.std.specs.Result.{ForOk};
-ghost use Rattle.world.specs.declared.event.Event.TheVariants.{Offer, Begin, Deliver, Restart};
-ghost use Rattle.world.specs.World.{World};
-ghost use Rattle.world.specs.declared.event.Event.{Event};
+ghost use Rattle.net.specs.declared.event.Event.TheVariants.{Offer, Begin, Deliver, Restart};
+ghost use Rattle.net.specs.World.{World};
+ghost use Rattle.net.specs.declared.event.Event.{Event};
 ghost use Rattle.cluster.specs.Switch.{world_of, Acts};
 ghost use Rattle.cluster.specs.Belongs.{StaysBelonging};
 

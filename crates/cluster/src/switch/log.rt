@@ -2,7 +2,7 @@
 ghost use Rattle.std.specs.Prelude.{◌≡◌, ◌↔◌, ◌≤◌, ◌<◌, Some, length, option_map, IsTrue};
 ghost use Rattle.slots.specs.declared.slots.TheConstants.{SLOTS};
 ghost use Rattle.synod.specs.Log.{log_of};
-ghost use Rattle.world.specs.Agree.{IsBeginningOf};
+ghost use Rattle.net.specs.Agree.{IsBeginningOf};
 ghost use Rattle.world.specs.Carried.{carried_size};
 ghost use Rattle.cluster.specs.Belongs.{BeginsLog};
 

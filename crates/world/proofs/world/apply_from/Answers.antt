@@ -1,6 +1,6 @@
 use Rattle.std.proofs.Common.{◌≡◌, Some, None, slice_get}
-use Rattle.world.specs.World.{log_after}
-use Rattle.world.specs.Taken.{world_of}
+use Rattle.net.specs.World.{log_after}
+use Rattle.net.specs.Taken.{world_of}
 use Rattle.world.specs.Carried.{carried_size, entry_of}
 use Rattle.world.specs.Replicas.{log_entries}
 use Rattle.world.proofs.ApplyLemmas.{entry_found, entry_missing}

@@ -1,7 +1,7 @@
 use Rattle.std.proofs.Common.{ap}
 use Rattle.synod.specs.Proposer.{offered}
-use Rattle.world.specs.declared.event.Event.{Event}
-use Rattle.world.specs.declared.event.Event.TheVariants.{Offer}
+use Rattle.net.specs.declared.event.Event.{Event}
+use Rattle.net.specs.declared.event.Event.TheVariants.{Offer}
 use Rattle.cluster.proofs.SeatLemmas.{readies_before, plays_ready, still}
 use Rattle.cluster.proofs.seat.Seat.offer.Goals as goal
 

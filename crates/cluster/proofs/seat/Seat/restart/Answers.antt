@@ -1,9 +1,9 @@
 use Rattle.std.proofs.Common.{◌++◌, List, [], ◌∷◌, length, ap, ◌∙◌, refl, arith}
 use Rattle.synod.specs.declared.packet.Body.TheVariants.{Ask}
 use Rattle.synod.specs.declared.packet.Packet.{Packet}
-use Rattle.world.specs.declared.event.Event.{Event}
-use Rattle.world.specs.declared.event.Event.TheVariants.{Restart}
-use Rattle.world.proofs.TakenLemmas.{others_few}
+use Rattle.net.specs.declared.event.Event.{Event}
+use Rattle.net.specs.declared.event.Event.TheVariants.{Restart}
+use Rattle.net.proofs.TakenLemmas.{others_few}
 use Rattle.cluster.specs.Seat.{Seated}
 use Rattle.cluster.specs.Standing.{standing_of}
 use Rattle.cluster.proofs.SeatLemmas.{restarted_is}

@@ -3,9 +3,9 @@ use Rattle.synod.specs.declared.packet.Body.TheVariants.{Ask}
 use Rattle.std.specs.List.{AllByRecursion}
 use Rattle.synod.specs.declared.packet.Packet.{Packet}
 use Rattle.synod.specs.Packets.{IsPost}
-use Rattle.world.specs.declared.event.Event.{Event}
-use Rattle.world.specs.declared.event.Event.TheVariants.{Restart}
-use Rattle.world.proofs.TakenLemmas.{others_few}
+use Rattle.net.specs.declared.event.Event.{Event}
+use Rattle.net.specs.declared.event.Event.TheVariants.{Restart}
+use Rattle.net.proofs.TakenLemmas.{others_few}
 use Rattle.cluster.specs.declared.standing.Standing.{Standing}
 use Rattle.cluster.specs.Seat.{Seated, posts_owed, events_owed}
 use Rattle.cluster.specs.Standing.{standing_of, owed_in}

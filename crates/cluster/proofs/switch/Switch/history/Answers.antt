@@ -1,6 +1,6 @@
 use Rattle.std.proofs.Common.{◌≤◌, List, length, sym, subst}
-use Rattle.world.specs.declared.event.TheConstants.{MOST_EVENTS}
-use Rattle.world.specs.declared.event.Event.{Event}
+use Rattle.net.specs.declared.event.TheConstants.{MOST_EVENTS}
+use Rattle.net.specs.declared.event.Event.{Event}
 use Rattle.cluster.proofs.CallLemmas.{places_are}
 use Rattle.cluster.proofs.SwitchLemmas.{within}
 use Rattle.cluster.proofs.switch.Switch.history.Goals as goal

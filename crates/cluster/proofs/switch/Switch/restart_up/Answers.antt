@@ -1,6 +1,6 @@
 use Rattle.std.proofs.Common.{Some, ap, ◌∙◌, arith}
-use Rattle.world.specs.declared.event.Event.TheVariants.{Restart}
-use Rattle.world.specs.declared.fault.StepFault.TheVariants.{EventsSpent}
+use Rattle.net.specs.declared.event.Event.TheVariants.{Restart}
+use Rattle.net.specs.declared.fault.StepFault.TheVariants.{EventsSpent}
 use Rattle.cluster.specs.Switch.{Shared, is_down_at}
 use Rattle.cluster.proofs.SwitchLemmas.{at_place, none_past, within, is_spent, posts_are, nodes_few, kept_up}
 use Rattle.cluster.proofs.CallLemmas.{up_at, restart_fault, restart_none, restart_call}

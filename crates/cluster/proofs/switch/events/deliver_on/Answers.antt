@@ -1,5 +1,5 @@
 use Rattle.std.proofs.Common.{true, false, arith}
-use Rattle.world.specs.declared.event.Event.TheVariants.{Deliver}
+use Rattle.net.specs.declared.event.Event.TheVariants.{Deliver}
 use Rattle.cluster.proofs.SwitchLemmas.{at_place, none_past, within, posts_are}
 use Rattle.cluster.proofs.CallLemmas.{test_is, answers_down, answers_spent, receiver_test, number_in, deliver_none, deliver_nowhere, deliver_call}
 use Rattle.cluster.proofs.TieLemmas.{call_stays, delivers_no_restart}

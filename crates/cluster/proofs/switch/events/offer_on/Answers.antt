@@ -1,7 +1,7 @@
 use Rattle.std.proofs.Common.{true, false, Some, refl, arith}
 use Rattle.synod.specs.Proposer.{offered}
-use Rattle.world.specs.declared.event.Event.TheVariants.{Offer}
-use Rattle.world.specs.declared.fault.StepFault.TheVariants.{NoNode}
+use Rattle.net.specs.declared.event.Event.TheVariants.{Offer}
+use Rattle.net.specs.declared.fault.StepFault.TheVariants.{NoNode}
 use Rattle.cluster.proofs.SwitchLemmas.{at_place, none_past, comes_offer, within, posts_are}
 use Rattle.cluster.proofs.CallLemmas.{test_is, answers_down, answers_spent, answers_open, event_call, meets_no_offer}
 use Rattle.cluster.proofs.TieLemmas.{call_stays, offers_no_restart}

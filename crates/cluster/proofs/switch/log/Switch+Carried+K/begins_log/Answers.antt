@@ -3,7 +3,7 @@ use Rattle.std.specs.Prelude.{◌↔◌, IsTrue}
 use Rattle.synod.specs.Core.{Core}
 use Rattle.synod.specs.Log.{log_of}
 use Rattle.world.specs.declared.carried.Carried.{Carried}
-use Rattle.world.specs.Agree.{IsBeginningOf}
+use Rattle.net.specs.Agree.{IsBeginningOf}
 use Rattle.world.specs.Carried.{carried_size}
 use Rattle.cluster.specs.Seat.{Seated}
 use Rattle.cluster.proofs.SwitchLemmas.{at_place}

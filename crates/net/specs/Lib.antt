@@ -1,0 +1,7 @@
+pub mod World
+pub mod Chosen
+pub mod Agree
+pub mod KeptPart
+pub mod Laws
+pub mod Taken
+pub mod History
