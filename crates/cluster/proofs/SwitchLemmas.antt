@@ -33,40 +33,6 @@ use Rattle.cluster.specs.Seat.{Owed, owed, Standing, up, down, Seated, Moment, m
 use Rattle.cluster.specs.Switch.{Place, Shared, event_owed, standing_seen, place_of, places_of, cores_of, IsEventAt, ComesTo, IsOwing, IsSeat, IsSwitch, change_due, with_place, due, TakesAt, ActsUp, events_due, RevivesAt}
 use Rattle.cluster.proofs.SeatLemmas.{changed_twice}
 
--- Lists by index.
-
-pub at_place : {A : Type 0} (xs : List A) (k : ℕ) (x : A) → k < length xs → x ≡ get_or xs k x → slice_get xs k ≡ Some x
-at_place [] k x low is = absurd (omega arith)
-at_place {A} (y ∷ xs) zero x low is = ap (λ (z : A). let o : Option A = Some z in o) (sym is)
-at_place (y ∷ xs) (suc k) x low is = at_place xs k x (le_of_suc-le-suc low) is
-
-pub none_past : {A : Type 0} (xs : List A) (k : ℕ) → length xs ≤ k → slice_get xs k ≡ None
-none_past [] k past = refl
-none_past (x ∷ xs) zero past = absurd (omega arith)
-none_past (x ∷ xs) (suc k) past = none_past xs k (le_of_suc-le-suc past)
-
-at_set : {A : Type 0} (xs : List A) (k : ℕ) (x y : A) → slice_get xs k ≡ Some y → slice_get (set xs k x) k ≡ Some x
-at_set [] k x y e = cc
-at_set (z ∷ xs) zero x y e = refl
-at_set (z ∷ xs) (suc k) x y e = at_set xs k x y e
-
-at_set_other : {A : Type 0} (xs : List A) (k j : ℕ) (x : A) → k ≢ j → slice_get (set xs k x) j ≡ slice_get xs j
-at_set_other [] k j x other = refl
-at_set_other (z ∷ xs) zero zero x other = absurd (other refl)
-at_set_other (z ∷ xs) zero (suc j) x other = refl
-at_set_other (z ∷ xs) (suc k) zero x other = refl
-at_set_other (z ∷ xs) (suc k) (suc j) x other = at_set_other xs k j x (λ e. other (ap suc e))
-
-set_twice : {A : Type 0} (xs : List A) (k : ℕ) (x y : A) → set (set xs k x) k y ≡ set xs k y
-set_twice [] k x y = refl
-set_twice (z ∷ xs) zero x y = refl
-set_twice (z ∷ xs) (suc k) x y = ap (λ zs. z ∷ zs) (set_twice xs k x y)
-
-at_front : {A : Type 0} (xs more : List A) (k : ℕ) (x : A) → slice_get xs k ≡ Some x → slice_get (xs ++ more) k ≡ Some x
-at_front [] more k x e = cc
-at_front (y ∷ xs) more zero x e = e
-at_front (y ∷ xs) more (suc k) x e = at_front xs more k x e
-
 -- Seats, their cores and their places.
 
 places_of-set : {V : Type 0} (seats : List (Seated V)) (k : ℕ) (seat : Seated V) → places_of (set seats k seat) ≡ set (places_of seats) k (place_of seat)
@@ -103,41 +69,6 @@ core_past : {V : Type 0} (seats : List (Seated V)) (k : ℕ) → slice_get seats
 core_past [] k e = omega arith
 core_past (s ∷ seats) zero e = cc
 core_past (s ∷ seats) (suc k) e = let past = core_past seats k e in omega (arith, past)
-
--- What an event comes to at its node.
-
-module _ {V : Type 0} (size : V → ℕ) (ps : List (Packet V)) (k : ℕ) (n : Node V) where
-  pub comes_offer : (v : V) → ComesTo size ps k n (Offer k v) (offered size n v)
-  comes_offer v = λ w more e is. record {
-    happens = ap (λ (o : Option (Node V)). at_node w k (λ n. offered size n v) o) is;
-    change = ap (λ (o : Option (Node V)). change_at (λ n. offered size n v) o) is;
-    node = refl;
-  }
-
-  pub comes_begin : ComesTo size ps k n (Begin k) (begun n)
-  comes_begin = λ w more e is. record {
-    happens = ap (λ (o : Option (Node V)). at_node w k begun o) is;
-    change = ap (λ (o : Option (Node V)). change_at begun o) is;
-    node = refl;
-  }
-
-  pub comes_restart : ComesTo size ps k n (Restart k) (Ok (restarted n))
-  comes_restart = λ w more e is. record {
-    happens = ap (λ (o : Option (Node V)). at_node w k (λ n. Ok (restarted n)) o) is;
-    change = ap (λ (o : Option (Node V)). change_at (λ n. Ok (restarted n)) o) is;
-    node = refl;
-  }
-
-  pub comes_packet : (number : ℕ) (p : Packet V) → slice_get ps number ≡ Some p → p.to ≡ k → ComesTo size ps k n (Deliver number) (Ok (on_packet n p))
-  comes_packet number p at to = λ w more e is.
-      let got : slice_get w.packets number ≡ Some p = ap (λ (qs : List (Packet V)). slice_get qs number) e ∙ at_front ps more number p at in
-      let node : slice_get w.nodes p.to ≡ Some n = ap (λ (j : ℕ). slice_get w.nodes j) to ∙ is in
-      record {
-        happens = ap (λ (o : Option (Packet V)). delivered w o) got ∙ ap (λ (o : Option (Node V)). at_node w p.to (λ n. Ok (on_packet n p)) o) node
-            ∙ ap (λ (j : ℕ). answered w j (Ok (on_packet n p))) to;
-        change = ap (λ (o : Option (Packet V)). change_delivered w o) got ∙ ap (λ (o : Option (Node V)). change_at (λ n. Ok (on_packet n p)) o) node;
-        node = ap (λ (o : Option (Packet V)). option_map (λ p. p.to) o) got ∙ ap (λ (j : ℕ). let o : Option ℕ = Some j in o) to;
-      }
 
 -- A change with or without which a record is.
 pub either_twice : {V : Type 0} (a b c : Kept V) (change : Option (Change V)) → IsWithOrWithout a change b → IsWithOrWithout b change c → IsWithOrWithout a change c

@@ -21,3 +21,4 @@ pub mod LogsGrow
 pub mod HistoryLemmas
 mod Rows
 pub mod TakenLemmas
+pub mod DueLemmas

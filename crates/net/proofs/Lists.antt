@@ -1,5 +1,5 @@
 -- Lists: facts of each element, like elements with one answer, and lists that grow.
-use Rattle.std.proofs.Common.{◌≡◌, ℕ, zero, suc, List, [], ◌∷◌, ◌++◌, Some, slice_get, ◌⊎◌, inl, inr, ap, sym, ◌∙◌, subst}
+use Rattle.std.proofs.Common.{◌≡◌, ◌≢◌, ℕ, zero, suc, ◌<◌, ◌≤◌, List, [], ◌∷◌, ◌++◌, length, get_or, set, Option, Some, None, slice_get, ◌⊎◌, inl, inr, refl, ap, sym, ◌∙◌, subst, arith, le_of_suc-le-suc}
 use Rattle.std.specs.List.{AllByRecursion}
 use Rattle.slots.proofs.Lists.{In}
 
@@ -63,3 +63,37 @@ adds_both f g a b = record {
   old = λ x i. b.old x (a.old x i);
   new = λ x i. first_new (b.new x i) (λ j. first_new (a.new x j) (λ k. inl k) (f x)) (g x);
 }
+
+-- Lists by index.
+
+pub at_place : {A : Type 0} (xs : List A) (k : ℕ) (x : A) → k < length xs → x ≡ get_or xs k x → slice_get xs k ≡ Some x
+at_place [] k x low is = absurd (omega arith)
+at_place {A} (y ∷ xs) zero x low is = ap (λ (z : A). let o : Option A = Some z in o) (sym is)
+at_place (y ∷ xs) (suc k) x low is = at_place xs k x (le_of_suc-le-suc low) is
+
+pub none_past : {A : Type 0} (xs : List A) (k : ℕ) → length xs ≤ k → slice_get xs k ≡ None
+none_past [] k past = refl
+none_past (x ∷ xs) zero past = absurd (omega arith)
+none_past (x ∷ xs) (suc k) past = none_past xs k (le_of_suc-le-suc past)
+
+pub at_set : {A : Type 0} (xs : List A) (k : ℕ) (x y : A) → slice_get xs k ≡ Some y → slice_get (set xs k x) k ≡ Some x
+at_set [] k x y e = cc
+at_set (z ∷ xs) zero x y e = refl
+at_set (z ∷ xs) (suc k) x y e = at_set xs k x y e
+
+pub at_set_other : {A : Type 0} (xs : List A) (k j : ℕ) (x : A) → k ≢ j → slice_get (set xs k x) j ≡ slice_get xs j
+at_set_other [] k j x other = refl
+at_set_other (z ∷ xs) zero zero x other = absurd (other refl)
+at_set_other (z ∷ xs) zero (suc j) x other = refl
+at_set_other (z ∷ xs) (suc k) zero x other = refl
+at_set_other (z ∷ xs) (suc k) (suc j) x other = at_set_other xs k j x (λ e. other (ap suc e))
+
+pub set_twice : {A : Type 0} (xs : List A) (k : ℕ) (x y : A) → set (set xs k x) k y ≡ set xs k y
+set_twice [] k x y = refl
+set_twice (z ∷ xs) zero x y = refl
+set_twice (z ∷ xs) (suc k) x y = ap (λ zs. z ∷ zs) (set_twice xs k x y)
+
+pub at_front : {A : Type 0} (xs more : List A) (k : ℕ) (x : A) → slice_get xs k ≡ Some x → slice_get (xs ++ more) k ≡ Some x
+at_front [] more k x e = cc
+at_front (y ∷ xs) more zero x e = e
+at_front (y ∷ xs) more (suc k) x e = at_front xs more k x e

@@ -5,3 +5,4 @@ pub mod KeptPart
 pub mod Laws
 pub mod Taken
 pub mod History
+pub mod Due

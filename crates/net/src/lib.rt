@@ -8,12 +8,13 @@
 //! `net`.
 #![tactic(auto)]
 
+mod due;
 mod event;
 mod fault;
 mod laws;
 mod net;
-mod writes;
 
+pub use due::Due;
 pub use event::{Event, MOST_EVENTS};
 pub use fault::StepFault;
 pub use laws::{agreement, kept_part, logs_grow};

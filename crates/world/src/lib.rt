@@ -16,6 +16,7 @@ mod world;
 pub use carried::Carried;
 pub use laws::headline;
 pub use replay::run;
+pub use replica::Replica;
 pub use world::World;
 
 #[cfg(test)]
