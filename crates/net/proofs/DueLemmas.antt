@@ -167,7 +167,7 @@ module _ {V : Type 0} (size : V → ℕ) (view now : NetView V) (seen : view ≡
 
     by_answer : (e : Event V) (r : Result (Stepped V) Refusal) → ComesTo size view.packets k core.node e r → (result : Result (Due V) StepFault) → Readies core new k e r result
         → (met : Result (World V) StepFault) → met ≡ answered h.world k r → Gives size left e met result
-    by_answer e (Ok step) comes (Ok due) d met is = subst (λ (x : Result (World V) StepFault). Gives size left e x (Ok due)) (sym is) (due_here e step comes due d, d.event)
+    by_answer e (Ok step) comes (Ok due) d met is = subst (λ (x : Result (World V) StepFault). Gives size left e x (Ok due)) (sym is) (due_here e step comes due d, d.event, d.kind)
     by_answer e (Ok step) comes (Err fault) d met is = subst (λ (x : Result (World V) StepFault). Gives size left e x (Err fault)) (sym is) d
     by_answer e (Err refusal) comes (Ok due) d met is = elim d [ ]
     by_answer e (Err refusal) comes (Err fault) d met is = subst (λ (x : Result (World V) StepFault). Gives size left e x (Err fault)) (sym is) d

@@ -15,10 +15,11 @@ use Rattle.synod.specs.Rooms.{HasAtLeast}
 use Rattle.synod.specs.Ready.{Made}
 use Rattle.synod.specs.Step.{reloaded, restarted}
 use Rattle.net.specs.declared.event.Event.{Event}
+use Rattle.net.specs.declared.event.Event.TheVariants.{Offer, Begin, Deliver, Restart}
 use Rattle.net.specs.declared.fault.StepFault.{StepFault}
 use Rattle.net.specs.declared.fault.StepFault.TheVariants.{Memory}
 use Rattle.net.specs.declared.due.Work.{Work as Kept_work}
-use Rattle.net.specs.declared.due.Work.TheVariants.{Step, Restart}
+use Rattle.net.specs.declared.due.Work.TheVariants.{Step, Restart as RestartWork}
 use Rattle.net.specs.World.{World, fault_of, answered, happens_at}
 use Rattle.net.specs.KeptPart.{node_of, change_of, change_answered}
 use Rattle.net.specs.Taken.{Taken, with_event}
@@ -39,7 +40,7 @@ loaded_of (Some r) = Some r.kept
 
 abbrev pub work_of : {V : Type 0} → Kept_work V → Work V
 work_of (Step ready) = steps ready
-work_of (Restart posts loaded) = restarts posts.items (loaded_of loaded)
+work_of (RestartWork posts loaded) = restarts posts.items (loaded_of loaded)
 
 abbrev pub posts_of : {V : Type 0} → Work V → List (Packet V)
 posts_of (steps made) = made.step.posts
@@ -69,6 +70,17 @@ IsReadyAt c (steps made) = (c.node ≡ made.before.node) × HasAtLeast made.befo
 IsReadyAt c (restarts posts None) = posts ≡ to_others c.node.me c.node.weights (Ask 0)
 IsReadyAt c (restarts posts (Some kept)) = (posts ≡ to_others c.node.me c.node.weights (Ask 0)) × (kept ≡ kept_of c.node)
 
+-- a restart is made ready as one, with no record yet, and each other event as a step
+abbrev pub IsOfEvent : {V : Type 0} → Event V → Work V → Type 0
+IsOfEvent (Offer k v) (steps made) = Unit {0}
+IsOfEvent (Begin k) (steps made) = Unit {0}
+IsOfEvent (Deliver number) (steps made) = Unit {0}
+IsOfEvent (Restart k) (steps made) = ⊥
+IsOfEvent (Offer k v) (restarts posts loaded) = ⊥
+IsOfEvent (Begin k) (restarts posts loaded) = ⊥
+IsOfEvent (Deliver number) (restarts posts loaded) = ⊥
+IsOfEvent (Restart k) (restarts posts loaded) = loaded ≡ None
+
 -- What an event comes to at its node.
 
 -- in the world w the event comes to r at node k
@@ -88,6 +100,7 @@ pub record IsDueAt {V : Type 0} (old new : Core V) (k : ℕ) (e : Event V) (step
   pub event : due.event ≡ e
   pub ready : IsReadyAt new due.work
   pub is_step : step_of due.work old.node ≡ step
+  pub kind : IsOfEvent e due.work
   pub posts : AllByRecursion (IsPost (length old.node.weights)) (posts_of due.work)
 
 -- it is ready; or its refusal is answered, or Memory where it meets none
@@ -132,7 +145,7 @@ pub record IsDue {V : Type 0} (size : V → ℕ) (net : NetView V) (due : Due V)
 
 -- the event is due; or its fault is answered, or Memory where it meets none
 abbrev pub Gives : {V : Type 0} → (V → ℕ) → NetView V → Event V → Result (World V) StepFault → Result (Due V) StepFault → Type 0
-Gives size net e (Ok w) (Ok due) = IsDue size net due × (due.event ≡ e)
+Gives size net e (Ok w) (Ok due) = IsDue size net due × (due.event ≡ e) × IsOfEvent e due.work
 Gives size net e (Ok w) (Err fault) = fault ≡ Memory
 Gives size net e (Err met) (Ok due) = ⊥
 Gives size net e (Err met) (Err fault) = fault ≡ met

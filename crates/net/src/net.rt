@@ -46,7 +46,7 @@ impl<V: Value> Net<V> {
     ghost use Rattle.slots.specs.declared.slots.TheConstants.{SLOTS};
     ghost use Rattle.net.specs.World.{log_after, packets_after};
     ghost use Rattle.net.specs.Taken.{AreOfWorld, world_of, with_event};
-    ghost use Rattle.net.specs.Due.{Gives, HasRoom, IsDue, IsStill, IsTaken, posts_of};
+    ghost use Rattle.net.specs.Due.{Gives, HasRoom, IsDue, IsOfEvent, IsStill, IsTaken, posts_of};
     ghost use Rattle.net.specs.History.{Agreement};
     ghost use Rattle.net.specs.declared.fault.StepFault.TheVariants.{NoNode, NoPacket, Memory};
 
@@ -68,6 +68,7 @@ impl<V: Value> Net<V> {
     pub fn ready(&mut self, event: Event<V>) -> Result<Due<V>, StepFault>
         ensures due { IfOk result (IsDue V.bytes self.new) }
         ensures event { IfOk result (λ due. due.event ≡ event) }
+        ensures kind { IfOk result (λ due. IsOfEvent event due.work) }
         ensures room { IfOk result (λ due. HasRoom self.new (length (posts_of due.work)) 1) }
 
         // A fault is answered however little memory there is.

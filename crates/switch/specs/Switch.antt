@@ -1,26 +1,21 @@
 -- What the nodes of a cluster share: the history, and of each node the record of its keep and whether it is up.
 -- Source: Lamport, Paxos Made Simple, section 3; that a node with a failed store is down is this project's profile.
--- The code has the nodes and the packets beside the history; the type keeps that they are those of the world after it.
+-- The code has a net beside the keeps; the type keeps that its state is that of the world after the history.
 use Rattle.std.specs.Prelude.{◌≡◌, ◌⊎◌, ◌+◌, ◌≤◌, ◌<◌, ℕ, Bool, true, false, List, [], ◌∷◌, ◌++◌, Option, Some, None, Result, Ok, Err, length, slice_get, slice_set}
-use Rattle.std.specs.List.{AllByRecursion}
-use Rattle.synod.specs.declared.packet.Packet.{Packet}
 use Rattle.synod.specs.declared.change.Change.{Change}
-use Rattle.synod.specs.declared.refusal.Refusal.{Refusal}
-use Rattle.synod.specs.Packets.{IsPost}
-use Rattle.synod.specs.Record.{Kept, changed_by}
-use Rattle.synod.specs.Node.{Node, Stepped, kept_of}
-use Rattle.synod.specs.Log.{log_of}
-use Rattle.synod.specs.Core.{Core}
+use Rattle.synod.specs.Record.{Kept, changed_by, new_kept}
+use Rattle.synod.specs.Node.{Node, kept_of}
 use Rattle.net.specs.declared.event.TheConstants.{MOST_EVENTS}
 use Rattle.net.specs.declared.event.Event.{Event}
 use Rattle.net.specs.declared.event.Event.TheVariants.{Offer, Begin, Deliver, Restart}
 use Rattle.net.specs.declared.fault.StepFault.{StepFault}
-use Rattle.net.specs.declared.fault.StepFault.TheVariants.{Memory, Device, Down, NoNode, EventsSpent}
-use Rattle.net.specs.World.{World, answered, happens, happens_at, after}
+use Rattle.net.specs.declared.fault.StepFault.TheVariants.{Memory, Device, Down, EventsSpent}
+use Rattle.net.specs.World.{World, happens, after}
 use Rattle.net.specs.Agree.{IsAfter}
 use Rattle.net.specs.Taken.{AreOfWorld}
-use Rattle.net.specs.KeptPart.{node_of, change_of, change_answered, kept_part}
-use Rattle.cluster.specs.Seat.{Owed, Standing, up, down, Seated, IsRecordOf, IsWithOrWithout, posts_owed_in}
+use Rattle.net.specs.KeptPart.{node_of, change_of, kept_part}
+use Rattle.net.specs.Due.{Due, NetView, IsDue, HasRoom, IsTaken, posts_of}
+use Rattle.switch.specs.Seat.{Standing, up, down, Seated, IsRecordOf, IsWithOrWithout}
 
 -- What contracts see.
 
@@ -35,11 +30,11 @@ pub record Shared (V : Type 0) : Type 0 where
   pub history : List (Event V)
   pub places : List (Place V)
 
-abbrev pub event_owed : {V : Type 0} → Option (Owed V) → Option (Event V)
+abbrev pub event_owed : {V : Type 0} → Option (Due V) → Option (Event V)
 event_owed None = None
-event_owed (Some o) = Some o.event
+event_owed (Some due) = Some due.event
 
-abbrev pub standing_seen : {V : Type 0} → Standing (Owed V) → Standing (Event V)
+abbrev pub standing_seen : {V : Type 0} → Standing (Due V) → Standing (Event V)
 standing_seen up = up
 standing_seen (down o) = down (event_owed o)
 
@@ -50,37 +45,34 @@ abbrev pub places_of : {V : Type 0} → List (Seated V) → List (Place V)
 places_of [] = []
 places_of (seat ∷ seats) = place_of seat ∷ places_of seats
 
-abbrev pub cores_of : {V : Type 0} → List (Seated V) → List (Core V)
-cores_of [] = []
-cores_of (seat ∷ seats) = seat.core ∷ cores_of seats
+-- the places of new nodes with these keeps, whose calls failed so often
+abbrev pub new_places : {V K : Type 0} → (K → ℕ) → List K → List (Place V)
+new_places failures [] = []
+new_places failures (keep ∷ keeps) = record { kept = new_kept; failures = failures keep; standing = up } ∷ new_places failures keeps
+
+-- the seats of new nodes
+abbrev pub new_seats : {V K : Type 0} → (K → Kept V) → (K → ℕ) → List K → List (Seated V)
+new_seats kept failures [] = []
+new_seats kept failures (keep ∷ keeps) = record { kept = kept keep; failures = failures keep; standing = up } ∷ new_seats kept failures keeps
 
 -- What the type keeps.
 
--- at a node of number k in that state, in every world of these packets or more, the event comes to r
-pub record IsEventAt {V : Type 0} (size : V → ℕ) (w : World V) (k : ℕ) (e : Event V) (r : Result (Stepped V) Refusal) : Type 0 where
-  pub happens : happens_at size w e ≡ answered w k r
-  pub change : change_of size w e ≡ change_answered r
-  pub node : node_of w e ≡ Some k
-
-abbrev pub ComesTo : {V : Type 0} → (V → ℕ) → List (Packet V) → ℕ → Node V → Event V → Result (Stepped V) Refusal → Type 0
-ComesTo {V} size packets k n e r = (w : World V) (more : List (Packet V)) → w.packets ≡ packets ++ more → slice_get w.nodes k ≡ Some n → IsEventAt size w k e r
-
--- the step that is owed is that of the event
-abbrev pub IsOwing : {V : Type 0} → (V → ℕ) → List (Packet V) → ℕ → Node V → Standing (Owed V) → Type 0
-IsOwing size packets k n up = Unit {0}
-IsOwing size packets k n (down None) = Unit {0}
-IsOwing size packets k n (down (Some o)) = ComesTo size packets k n o.event (Ok o.step)
+-- what is owed is due at the node
+abbrev pub IsOwing : {V : Type 0} → (V → ℕ) → NetView V → ℕ → Standing (Due V) → Type 0
+IsOwing size net k up = Unit {0}
+IsOwing size net k (down None) = Unit {0}
+IsOwing size net k (down (Some due)) = (due.at ≡ k) × IsDue size net due
 
 -- the keep fits its node, and so does what is owed
-pub record IsSeat {V : Type 0} (size : V → ℕ) (packets : List (Packet V)) (nodes k : ℕ) (n : Node V) (standing : Standing (Owed V)) (kept : Kept V) : Type 0 where
-  pub fits : IsRecordOf n standing kept
-  pub owing : IsOwing size packets k n standing
-  pub posts : AllByRecursion (IsPost nodes) (posts_owed_in standing)
+pub record IsSeat {V : Type 0} (size : V → ℕ) (net : NetView V) (k : ℕ) (n : Node V) (seat : Seated V) : Type 0 where
+  pub fits : IsRecordOf n seat.standing seat.kept
+  pub owing : IsOwing size net k seat.standing
 
--- the history is taken, cores and packets are those of the world after it, and each keep fits its core
-pub record IsSwitch {V : Type 0} (size : V → ℕ) (weights : List ℕ) (history : List (Event V)) (seats : List (Seated V)) (packets : List (Packet V)) : Type 0 where
-  pub world : AreOfWorld size (record { weights = weights; events = history }) (cores_of seats) packets
-  pub each : (k : ℕ) (seat : Seated V) → slice_get seats k ≡ Some seat → IsSeat size packets (length weights) k seat.core.node seat.standing seat.kept
+-- the net is that of a world, and each node has a keep that fits it
+pub record IsSwitch {V : Type 0} (size : V → ℕ) (net : NetView V) (seats : List (Seated V)) : Type 0 where
+  pub world : AreOfWorld size net.taken net.cores net.packets
+  pub count : length seats ≡ length net.cores
+  pub each : (k : ℕ) (n : Node V) (seat : Seated V) → slice_get world.world.nodes k ≡ Some n → slice_get seats k ≡ Some seat → IsSeat size net k n seat
 
 -- What the calls tell of it.
 
@@ -198,8 +190,12 @@ pub record Restarts {V : Type 0} (size : V → ℕ) (w : World V) (old new : Sha
   pub is_down : (place : Place V) → slice_get old.places k ≡ Some place → (e : Option (Event V)) → place.standing ≡ down e → ActsDown size w old new k place e result
   pub is_up : is_down_at old.places (Some k) ≡ false → ActsUp size w old new (Restart k) result
 
--- The entry of a node's log at a slot, where there is such a node, or no memory.
-abbrev pub ShowsEntry : {V : Type 0} → Option (Node V) → ℕ → Result (Option (Option V)) StepFault → Type 0
-ShowsEntry None slot result = result ≡ Err NoNode
-ShowsEntry (Some n) slot (Ok entry) = entry ≡ slice_get (log_of n) slot
-ShowsEntry (Some n) slot (Err fault) = fault ≡ Memory
+-- What is owed at the node comes first.
+
+abbrev pub CanTakeOwed : {V : Type 0} → (V → ℕ) → NetView V → Option (Due V) → Type 0
+CanTakeOwed size net None = Unit {0}
+CanTakeOwed size net (Some due) = IsDue size net due × HasRoom net (length (posts_of due.work)) 1 × (length net.taken.events < MOST_EVENTS)
+
+abbrev pub TakesOwed : {V : Type 0} → NetView V → NetView V → Option (Due V) → Type 0
+TakesOwed old new None = new ≡ old
+TakesOwed old new (Some due) = IsTaken old new due
