@@ -217,7 +217,7 @@ length-nodes_from : (V : Type 0) (weights : List ℕ) (k : ℕ) (ws : List ℕ) 
 length-nodes_from V weights k [] = refl
 length-nodes_from V weights k (w ∷ ws) = ap suc (length-nodes_from V weights (suc k) ws)
 
-length-nodes_of : {V : Type 0} (cores : List (Core V)) → length (nodes_of cores) ≡ length cores
+pub length-nodes_of : {V : Type 0} (cores : List (Core V)) → length (nodes_of cores) ≡ length cores
 length-nodes_of [] = refl
 length-nodes_of (c ∷ cores) = ap suc (length-nodes_of cores)
 

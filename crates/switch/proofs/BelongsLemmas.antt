@@ -110,7 +110,7 @@ module _ {V : Type 0} (size : V → ℕ) (old : Shared V) where
         takes_stay x happened k place (Err fault) (inl h) j entries other b = same_stays new h.1 j entries b
         takes_stay x happened k place (Err fault) (inr h) j entries other b = fails_stay new k place (change_of size w e) (down (due e)) h.1 j entries b
 
-        up_stays : (j : ℕ) (entries : List (Option V)) → e ≢ Restart j → BeginsLog size old j entries → BeginsLog size new j entries
+        pub up_stays : (j : ℕ) (entries : List (Option V)) → e ≢ Restart j → BeginsLog size old j entries → BeginsLog size new j entries
         up_stays j entries other b = by_world (happens size w e) refl where
           by_world : (r : Result (World V) StepFault) → happens size w e ≡ r → BeginsLog size new j entries
           by_world (Err fault) meets = same_stays new (acts.refused fault meets).1 j entries b
@@ -118,12 +118,6 @@ module _ {V : Type 0} (size : V → ℕ) (old : Shared V) where
               let of = node_there size w e x happened in
               let place = place_there of.k of.there in
               takes_stay x happened of.k place.0 result (acts.taken x happened of.k of.node place.0 place.1) j entries other b
-
-      pub acts_stay : (new : Shared V) (e : Event V) (result : Result ℕ StepFault) → ((j : ℕ) → e ≢ Restart j) → Acts size w old new e result → StaysBelonging size old new
-      acts_stay new e result other acts = λ j entries b. by_test (is_down_at old.places (node_of w e)) refl j entries b where
-        by_test : (t : Bool) → is_down_at old.places (node_of w e) ≡ t → StaysBelonging size old new
-        by_test true test j entries b = same_stays new (acts.is_down test).1 j entries b
-        by_test false test j entries b = up_stays new e result (acts.is_up test) j entries (other j) b
 
 -- A restart.
 

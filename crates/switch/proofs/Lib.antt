@@ -2,6 +2,5 @@ mod KeepLemmas
 pub mod SeatsLemmas
 mod SwitchLemmas
 mod EventLemmas
-mod ReviveLemmas
 mod BelongsLemmas
 mod TieLemmas

@@ -16,12 +16,17 @@ impl<V: Value, K: Keep<V>> Switch<V, K> {
     fn play(&mut self, event: Event<V>) -> Result<u64, StepFault>
         requires event { due event ≡ Some event }
         requires up { ForOk (world_of V.bytes self.old) (λ world. is_down_at self.old.places (node_of world event) ≡ false) }
-        ensures { ForOk (world_of V.bytes self.old) (λ world. ActsUp V.bytes world self.old self.new event result) }
+        ensures acts { ForOk (world_of V.bytes self.old) (λ world. ActsUp V.bytes world self.old self.new event result) }
+        ensures belonging { StaysBelonging V.bytes self.old self.new }
     {
-        let due = self.net.ready(event)?;
+        let due = match self.net.ready(event) {
+            Ok(due) => due,
+            Err(fault) => return Err(fault),
+        };
         let at = due.at() as usize;
-        let Ok(due) = self.seats[at].store(due) else {
-            return Err(StepFault::Device);
+        let due = match self.seats[at].store(due) {
+            Ok(due) => due,
+            Err(_) => return Err(StepFault::Device),
         };
         Ok(self.net.commit(due))
     }

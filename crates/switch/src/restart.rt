@@ -27,12 +27,17 @@ impl<V: Value, K: Keep<V>> Switch<V, K> {
     /// The same at a node that is up, or where there is none.
     fn restart_up(&mut self, k: u8) -> Result<u64, StepFault>
         requires { is_down_at self.old.places (Some k) ≡ false }
-        ensures { ForOk (world_of V.bytes self.old) (λ world. ActsUp V.bytes world self.old self.new (Restart k) result) }
+        ensures acts { ForOk (world_of V.bytes self.old) (λ world. ActsUp V.bytes world self.old self.new (Restart k) result) }
+        ensures belonging { StaysAtRestart V.bytes k self.old self.new result }
     {
-        let mut due = self.net.ready(Event::Restart(k))?;
+        let mut due = match self.net.ready(Event::Restart(k)) {
+            Ok(due) => due,
+            Err(fault) => return Err(fault),
+        };
         let at = due.at() as usize;
-        let Ok(record) = self.seats[at].load() else {
-            return Err(StepFault::Device);
+        let record = match self.seats[at].load() {
+            Ok(record) => record,
+            Err(_) => return Err(StepFault::Device),
         };
         due.load(record);
         Ok(self.net.commit(due))
@@ -41,20 +46,29 @@ impl<V: Value, K: Keep<V>> Switch<V, K> {
     /// The same at a node that is down: what it failed to store is stored, and the event comes before the restart.
     fn revive(&mut self, k: u8) -> Result<u64, StepFault>
         requires { is_down_at self.old.places (Some k) ≡ true }
-        ensures { ForOk (world_of V.bytes self.old) (λ world. (place : Place V) → slice_get self.old.places k ≡ Some place → (e : Option (Event V)) → place.standing ≡ down e → ActsDown V.bytes world self.old self.new k place e result) }
+        ensures belonging { StaysAtRestart V.bytes k self.old self.new result }
+        ensures acts { ForOk (world_of V.bytes self.old) (λ world. (place : Place V) → slice_get self.old.places k ≡ Some place → (e : Option (Event V)) → place.standing ≡ down e → ActsDown V.bytes world self.old self.new k place e result) }
     {
         if self.net.history().len() as u64 + 2 > MOST_EVENTS {
             return Err(StepFault::EventsSpent);
         }
-        let mut due = self.net.ready(Event::Restart(k))?;
+        let mut due = match self.net.ready(Event::Restart(k)) {
+            Ok(due) => due,
+            Err(fault) => return Err(fault),
+        };
         let at = due.at() as usize;
         // So much room no memory has.
-        let Some(room) = self.seats[at].count_owed().checked_add(due.posts().len()) else {
-            return Err(StepFault::Memory);
+        let room = match self.seats[at].count_owed().checked_add(due.posts().len()) {
+            Some(room) => room,
+            None => return Err(StepFault::Memory),
         };
-        self.net.room(room, 2)?;
-        let Ok((owed, record)) = self.seats[at].repair() else {
-            return Err(StepFault::Device);
+        match self.net.room(room, 2) {
+            Ok(()) => {}
+            Err(fault) => return Err(fault),
+        }
+        let (owed, record) = match self.seats[at].repair() {
+            Ok(made) => made,
+            Err(_) => return Err(StepFault::Device),
         };
         take_owed(&mut self.net, owed);
         due.load(record);

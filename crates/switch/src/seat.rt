@@ -72,7 +72,7 @@ impl<V: Value, K: Keep<V>> Seat<V, K> {
 
     /// The record that is kept. Where the load fails, the node is down, and owes nothing.
     pub fn load(&mut self) -> Result<Record<V>, Failed>
-        ensures loaded { IfOk result (λ record. record.kept ≡ self.old.kept) }
+        ensures loaded { IfOk result (λ loaded. loaded.kept ≡ self.old.kept) }
         ensures same { OnOk result (self.new ≡ self.old) }
         ensures failed { OnErr result (Fails self.old None (down None) self.new) }
     {
