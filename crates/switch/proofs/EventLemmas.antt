@@ -203,6 +203,10 @@ module _ {V : Type 0} (size : V → ℕ) (now : Shared V) (e : Event V) (o : Opt
   pub up_acts : is_down_at now.places o ≡ false → (new : Shared V) (result : Result ℕ StepFault) → ForOk (world_of size now) (λ x. ActsUp size x now new e result) → ForOk (world_of size now) (λ x. Acts size x now new e result)
   up_acts test new result acts = λ x d. record { is_down = λ yes. (let never : false ≡ true = sym (test_at false test x d) ∙ yes in cc); is_up = λ no. acts x d }
 
+-- the receiver of a packet
+pub received : {V : Type 0} (size : V → ℕ) (now : Shared V) (number : ℕ) (o : Option ℕ) → o ≡ option_map (λ p. p.to) (slice_get (packets_after (world_of size now)) number) → (x : World V) → world_of size now ≡ Ok x → node_of x (Deliver number) ≡ o
+received {V} size now number o is x d = ap (λ (r : Result (World V) StepFault). option_map (λ p. p.to) (slice_get (packets_after r) number)) (sym d) ∙ sym is
+
 -- The dispatch of a restart.
 module _ {V : Type 0} (size : V → ℕ) (now new : Shared V) (k : ℕ) (result : Result ℕ StepFault) where
   pub restarts_down : is_down_at now.places (Some k) ≡ true

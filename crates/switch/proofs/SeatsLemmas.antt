@@ -35,6 +35,11 @@ seat_in [] k low = absurd (omega arith)
 seat_in (x ∷ xs) zero low = (x, refl)
 seat_in (x ∷ xs) (suc k) low = seat_in xs k (le_of_suc-le-suc low)
 
+pub same_at : {A : Type 0} (xs : List A) (k : ℕ) (x y : A) → k < length xs → x ≡ get_or xs k x → y ≡ get_or xs k y → x ≡ y
+same_at [] k x y low is other = absurd (omega arith)
+same_at (z ∷ xs) zero x y low is other = is ∙ sym other
+same_at (z ∷ xs) (suc k) x y low is other = same_at xs k x y (le_of_suc-le-suc low) is other
+
 -- What is so of each node and its seat, once one of the seats is another.
 pub each_after : {V : Type 0} (nodes : List (Node V)) (seats : List (Seated V)) (P : ℕ → Node V → Seated V → Type 0) (k : ℕ) (seat new : Seated V) → slice_get seats k ≡ Some seat
     → ((m : Node V) → slice_get nodes k ≡ Some m → P k m new) → ((j : ℕ) (m : Node V) (s : Seated V) → k ≢ j → slice_get nodes j ≡ Some m → slice_get seats j ≡ Some s → P j m s)

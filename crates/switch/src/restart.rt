@@ -64,7 +64,7 @@ impl<V: Value, K: Keep<V>> Switch<V, K> {
         };
         match self.net.room(room, 2) {
             Ok(()) => {}
-            Err(fault) => return Err(fault),
+            Err(_) => return Err(StepFault::Memory),
         }
         let (owed, record) = match self.seats[at].repair() {
             Ok(made) => made,
