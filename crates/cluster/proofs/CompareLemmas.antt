@@ -14,7 +14,7 @@ use Rattle.world.specs.Headline.{Headline}
 use Rattle.world.proofs.EntriesLemmas.{entries_begin}
 use Rattle.world.proofs.HeadlineLemmas.{headline_holds}
 use Rattle.world.proofs.ReplicasLemmas.{of_longer}
-use Rattle.cluster.specs.Switch.{Shared, world_of}
+use Rattle.switch.specs.Switch.{Shared, world_of}
 use Rattle.cluster.specs.Cell.{Cell, IsCell}
 use Rattle.cluster.specs.Belongs.{Belongs}
 

@@ -6,16 +6,18 @@ ghost use Rattle.net.specs.declared.fault.StepFault.TheVariants.{NoNode};
 ghost use Rattle.net.specs.World.{World, log};
 ghost use Rattle.world.specs.Carried.{carried_size};
 ghost use Rattle.world.specs.Replicas.{AppliesNext};
-ghost use Rattle.cluster.specs.Switch.{world_of, Restarts};
-ghost use Rattle.cluster.specs.Belongs.{Belongs, OthersStay};
+ghost use Rattle.switch.specs.Switch.{world_of, Restarts};
+ghost use Rattle.switch.specs.Belonging.{OthersStay};
+ghost use Rattle.cluster.specs.Belongs.{Belongs};
 ghost use Rattle.cluster.specs.Cell.{Cell, new_cell, IsCell, AddsEntry, TakesOver, next_entry};
 
-use crate::switch::Switch;
+use crate::log::begins_log;
 use library::{Library, Listed, Verdict};
 use net::StepFault;
 use std::alloc::{AllocError, Global};
 use std::marker::Model;
 use std::thread::Threads;
+use switch::Switch;
 use synod::{Keep, copy_value};
 use verify_pool::Gate;
 use world::{Carried, Replica};
@@ -83,7 +85,7 @@ impl NodeCell {
 pub fn belongs<K: Keep<Carried>>(cell: &NodeCell, switch: &Switch<Carried, K>) -> bool
     ensures { IsTrue result ↔ Belongs cell.now switch.now }
 {
-    switch.begins_log(cell.at, &cell.entries)
+    begins_log(switch, cell.at, &cell.entries)
 }
 
 /// Takes over the next entry of the node's log, and answers whether there is one.
@@ -98,7 +100,10 @@ pub fn take_on<K: Keep<Carried>>(
     ensures belongs { Belongs cell.old switch.now → Belongs cell.new switch.now }
 {
     let slot = cell.entries.len() as u32;
-    let next = switch.entry(cell.at, slot)?;
+    let next = match switch.entry(cell.at, slot) {
+        Ok(next) => next,
+        Err(fault) => return Err(fault),
+    };
     add_entry(&mut cell.entries, next)
 }
 

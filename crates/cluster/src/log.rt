@@ -1,42 +1,65 @@
 //! Whether entries begin a node's log.
-ghost use Rattle.std.specs.Prelude.{◌≡◌, ◌↔◌, ◌≤◌, ◌<◌, Some, length, option_map, IsTrue};
+ghost use Rattle.std.specs.Prelude.{◌≡◌, ◌↔◌, ◌≤◌, ◌<◌, Some, length, slice_get, option_map, IsTrue};
 ghost use Rattle.slots.specs.declared.slots.TheConstants.{SLOTS};
-ghost use Rattle.synod.specs.Log.{log_of};
+ghost use Rattle.net.specs.World.{log_after};
 ghost use Rattle.net.specs.Agree.{IsBeginningOf};
+ghost use Rattle.switch.specs.Switch.{world_of};
+ghost use Rattle.switch.specs.Belonging.{BeginsLog};
 ghost use Rattle.world.specs.Carried.{carried_size};
-ghost use Rattle.cluster.specs.Belongs.{BeginsLog};
 
-use crate::switch::Switch;
 use library::{Entry, Submission};
-use synod::{Keep, NodeCore};
+use switch::Switch;
+use synod::Keep;
 use world::Carried;
 
-impl<K: Keep<Carried>> Switch<Carried, K> {
-    /// Whether node `k` is there, and the entries begin its log.
-    ///
-    /// Cost: the size of the entries.
-    pub(crate) fn begins_log(&self, k: u8, entries: &[Option<Carried>]) -> bool
-        requires { length entries.now ≤ SLOTS }
-        ensures { IsTrue result ↔ BeginsLog carried_size self.now k entries.now }
-    {
-        match self.seats.get(k as usize) {
-            Some(seat) => begins(seat.core(), entries),
-            None => false,
-        }
+/// Whether node `k` is there, and the entries begin its log.
+///
+/// Cost: the size of the entries.
+pub(crate) fn begins_log<K: Keep<Carried>>(
+    switch: &Switch<Carried, K>,
+    k: u8,
+    entries: &[Option<Carried>],
+) -> bool
+    requires { length entries.now ≤ SLOTS }
+    ensures { IsTrue result ↔ BeginsLog carried_size switch.now k entries.now }
+{
+    if switch.entry(k, 0).is_ok() {
+        begins(switch, k, entries)
+    } else {
+        false
     }
 }
 
-/// Whether the entries begin the log of the node.
-fn begins(core: &NodeCore<Carried>, entries: &[Option<Carried>]) -> bool
+/// Whether the entries begin the log of node `k`, which is empty where there is none.
+fn begins<K: Keep<Carried>>(
+    switch: &Switch<Carried, K>,
+    k: u8,
+    entries: &[Option<Carried>],
+) -> bool
     requires { length entries.now ≤ SLOTS }
-    ensures { IsTrue result ↔ IsBeginningOf entries.now (log_of core.now.node) }
+    ensures { IsTrue result ↔ IsBeginningOf entries.now (log_after (world_of carried_size switch.now) k) }
 {
     for slot in 0..entries.len() {
-        if !is_found(core.entry(slot as u32), &entries[slot]) {
+        if !is_entry(switch, k, slot as u32, &entries[slot]) {
             return false;
         }
     }
     true
+}
+
+/// Whether it is the entry of node `k`'s log at that slot.
+fn is_entry<K: Keep<Carried>>(
+    switch: &Switch<Carried, K>,
+    k: u8,
+    slot: u32,
+    entry: &Option<Carried>,
+) -> bool
+    ensures { IsTrue result ↔ (slice_get (log_after (world_of carried_size switch.now) k) slot ≡ Some entry.now) }
+{
+    match switch.entry(k, slot) {
+        Ok(found) => is_found(found, entry),
+        Err(_) => false,
+    }
 }
 
 /// Whether the entry was found.

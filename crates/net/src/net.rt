@@ -53,6 +53,7 @@ impl<V: Value> Net<V> {
     /// The world of new nodes.
     pub fn new(alloc: Global, weights: Weights) -> Result<Self, StepFault>
         ensures new { IfOk result (λ net. net.taken ≡ record { weights = weights; events = [] }) }
+        ensures world { IfOk result (λ net. AreOfWorld V.bytes net.taken net.cores net.packets) }
         ensures only_memory { IsOkUnless result Memory }
     {
         Ok(Net {

@@ -8,7 +8,7 @@ use Rattle.net.specs.World.{World}
 use Rattle.net.specs.Agree.{IsAfter}
 use Rattle.world.specs.Carried.{carried_size}
 use Rattle.net.specs.KeptPart.{node_of}
-use Rattle.cluster.specs.Switch.{Shared}
+use Rattle.switch.specs.Switch.{Shared}
 
 abbrev pub is_node : ℕ → Option ℕ → Bool
 is_node k None = false

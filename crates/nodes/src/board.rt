@@ -2,7 +2,7 @@
 ghost use Rattle.std.specs.Prelude.{◌≡◌};
 ghost use Rattle.std.specs.Result.{ForOk};
 ghost use Rattle.world.specs.Carried.{carried_size};
-ghost use Rattle.cluster.specs.Switch.{world_of};
+ghost use Rattle.switch.specs.Switch.{world_of};
 ghost use Rattle.nodes.specs.Report.{is_own};
 
 use cluster::Switch;

@@ -22,7 +22,7 @@ use Rattle.net.proofs.TwoMoments.{all_happen-append}
 use Rattle.net.proofs.TakenLemmas.{after-push}
 use Rattle.net.proofs.LogsGrow.{log_grows}
 use Rattle.switch.specs.Seat.{Standing, up, down}
-use Rattle.switch.specs.Switch.{Place, Shared, world_of, with_place, with_event, IsPlaceOf, ArePlaces, is_down, is_down_at, is_down_place, due, change_due, events_due, FailsAt, TakesAt, ActsUp, Acts, RevivesAt, ActsDown, Restarts}
+use Rattle.switch.specs.Switch.{Place, Shared, world_of, with_place, with_event, IsPlaceOf, ArePlaces, is_down, is_down_place, due, change_due, events_due, FailsAt, TakesAt, ActsUp, RevivesAt, ActsDown, Restarts}
 use Rattle.switch.specs.Belonging.{BeginsLog, StaysBelonging, StaysAtRestart}
 
 then_begins : {A : Type 0} (xs ys zs : List A) → IsBeginningOf xs ys → IsBeginningOf ys zs → IsBeginningOf xs zs

@@ -1,6 +1,7 @@
 -- What a call on one node answers: the fields are what is seen, and the world is the one after the history.
-use Rattle.std.proofs.Common.{◌≡◌, ℕ, ◌+◌, ◌<◌, ◌≤◌, Bool, true, false, List, [], ◌∷◌, ◌++◌, length, get_or, set, slice_get, inl, inr, Option, Some, None, Result, Ok, Err, refl, ap, sym, ◌∙◌, subst, arith, append-nil}
-use Rattle.std.specs.Prelude.{IfErr, OnOk, IsOkUnless}
+use Rattle.std.proofs.Common.{◌≡◌, ℕ, zero, suc, ◌+◌, ◌<◌, ◌≤◌, nat_lt, Bool, true, false, List, [], ◌∷◌, ◌++◌, length, get_or, set, slice_get, inl, inr, Option, Some, None, Result, Ok, Err, refl, ap, sym, ◌∙◌, subst, arith}
+use Rattle.std.specs.Prelude.{◌↔◌, IfErr, IsOk, IsSome, OnOk, IsOkUnless}
+use Rattle.std.proofs.lemmas.Bool.Decides.{nat_tests}
 use Rattle.std.specs.Option.{option_map}
 use Rattle.std.specs.Result.{ForOk}
 use Rattle.synod.specs.declared.packet.Packet.{Packet}
@@ -9,10 +10,10 @@ use Rattle.synod.specs.Record.{Kept, changed_by}
 use Rattle.synod.specs.Node.{Node, Stepped, kept_of}
 use Rattle.net.specs.declared.event.TheConstants.{MOST_EVENTS}
 use Rattle.net.specs.declared.event.Event.{Event}
-use Rattle.net.specs.declared.event.Event.TheVariants.{Offer, Begin, Deliver, Restart}
+use Rattle.net.specs.declared.event.Event.TheVariants.{Deliver, Restart}
 use Rattle.net.specs.declared.fault.StepFault.{StepFault}
-use Rattle.net.specs.declared.fault.StepFault.TheVariants.{Memory, Device, Down, EventsSpent}
-use Rattle.net.specs.World.{World, stepped, happens, after, packets_after}
+use Rattle.net.specs.declared.fault.StepFault.TheVariants.{Memory, Device, Down, NoNode}
+use Rattle.net.specs.World.{World, stepped, happens, packets_after}
 use Rattle.net.specs.Taken.{Taken, with_event, world_of as world_of_taken}
 use Rattle.net.specs.KeptPart.{node_of, change_of}
 use Rattle.net.specs.Due.{Work, steps, restarts, Due, NetView, IsDue, IsReadyAt, IsOfEvent, IsEventAt, ComesTo, IsStill, IsTaken, change_in, posts_of, step_of, loads, loads_due}
@@ -22,10 +23,10 @@ use Rattle.synod.specs.Core.{Core}
 use Rattle.synod.specs.Packets.{IsPost}
 use Rattle.synod.specs.Step.{reloaded}
 use Rattle.std.proofs.lemmas.Option.{slice_get_within}
-use Rattle.net.proofs.TakenLemmas.{after-push, length-nodes_of}
+use Rattle.net.proofs.TakenLemmas.{after-push, length-nodes_of, count_shown}
 use Rattle.switch.specs.Seat.{Standing, up, down, Seated, IsRecordOf, IsWithOrWithout, Fails, change_owed}
-use Rattle.switch.specs.Switch.{Place, Shared, event_owed, standing_seen, place_of, places_of, IsOwing, IsSeat, IsSwitch, world_of, change_due, IsRecordIn, IsPlaceOf, ArePlaces, is_down_at, is_down_place, with_place, due, TakesAt, ActsUp, Acts, ActsDown, Restarts}
-use Rattle.switch.proofs.SeatsLemmas.{places_of-set, place_at, place_past, seat_in, up_at, down_place}
+use Rattle.switch.specs.Switch.{Place, Shared, event_owed, standing_seen, place_of, places_of, IsOwing, IsSwitch, world_of, IsRecordIn, IsPlaceOf, ArePlaces, is_down_at, with_place, due, TakesAt, ActsUp, Acts, ActsDown, Restarts}
+use Rattle.switch.proofs.SeatsLemmas.{count_places, places_of-set, place_at, place_past, seat_in, up_at, down_place}
 use Rattle.switch.proofs.SwitchLemmas.{shared, still_switch, other_seat, committed, node_is, at, happens_is, change_is, change_told, changes}
 
 pub shared_is : {V : Type 0} (ws us : List ℕ) (hs gs : List (Event V)) (some others : List (Place V)) → ws ≡ us → hs ≡ gs → some ≡ others
@@ -187,6 +188,41 @@ module _ {V : Type 0} (size : V → ℕ) (net : NetView V) (seats : List (Seated
               (places_of-set seats d1.at new ∙ ap (λ (s : Seated V). set (places_of seats) d1.at (place_of s)) stored),
           counted ∙ ap (λ (r : Result (World V) StepFault). length (packets_after r)) world_then,
         ))
+
+-- Which nodes there are.
+
+module _ {V : Type 0} (size : V → ℕ) (net : NetView V) (seats : List (Seated V)) (h : IsSwitch size net seats) (now : Shared V) (seen : shared net seats ≡ now) where
+  count_nodes : length h.world.world.nodes ≡ length net.taken.weights
+  count_nodes = ap (λ (ns : List (Node V)). length ns) h.world.nodes ∙ length-nodes_of net.cores ∙ count_shown size net.taken net.taken net.cores net.packets h.world refl
+
+  count_now : length now.places ≡ length net.taken.weights
+  count_now = ap (λ (s : Shared V). length s.places) (sym seen) ∙ count_places seats ∙ h.count ∙ count_shown size net.taken net.taken net.cores net.packets h.world refl
+
+  past_none : {A : Type 0} (xs : List A) (k : ℕ) → slice_get xs k ≡ None → length xs ≤ k
+  past_none [] k is = omega arith
+  past_none (x ∷ xs) zero is = cc
+  past_none (x ∷ xs) (suc k) is = let past = past_none xs k is in omega (arith, past)
+
+  some_in : {A : Type 0} (xs : List A) (k : ℕ) → IsSome (slice_get xs k) → k < length xs
+  some_in [] k is = let no : false ≡ true = is in cc
+  some_in (x ∷ xs) zero is = omega arith
+  some_in (x ∷ xs) (suc k) is = let low = some_in xs k is in omega (arith, low)
+
+  module _ (A : Type 0) (k : ℕ) (r : Result A StepFault) (no_node : length net.taken.weights ≤ k → r ≡ Err NoNode) (node : k < length net.taken.weights → IsOk r) where
+    pub told_no_node : ForOk (world_of size now) (λ x. slice_get x.nodes k ≡ None → r ≡ Err NoNode)
+    told_no_node = of_world size net seats h now seen (λ s x. slice_get x.nodes k ≡ None → r ≡ Err NoNode) (λ none. no_node (let past = past_none h.world.world.nodes k none in let count = count_nodes in omega (arith, past, count)))
+
+    pub told_node : ForOk (world_of size now) (λ x. IsSome (slice_get x.nodes k) → IsOk r)
+    told_node = of_world size net seats h now seen (λ s x. IsSome (slice_get x.nodes k) → IsOk r) (λ some. node (let low = some_in h.world.world.nodes k some in let count = count_nodes in omega (arith, low, count)))
+
+    pub told_place : IsOk r ↔ k < length now.places
+    told_place = (λ ok. by_test (nat_lt k (length net.taken.weights)) refl ok, λ low. node (let count = count_now in omega (arith, low, count))) where
+      by_test : (t : Bool) → nat_lt k (length net.taken.weights) ≡ t → IsOk r → k < length now.places
+      by_test true test ok = let low : k < length net.taken.weights = grind (arith, nat_tests) in let count = count_now in omega (arith, low, count)
+      by_test false test ok =
+          let past : length net.taken.weights ≤ k = grind (arith, nat_tests) in
+          let no : IsOk (let a : Result A StepFault = Err NoNode in a) = subst (λ (a : Result A StepFault). IsOk a) (no_node past) ok in
+          let never : false ≡ true = no in cc
 
 -- The dispatch of an event by its node.
 

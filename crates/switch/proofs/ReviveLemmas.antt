@@ -4,7 +4,6 @@ use Rattle.std.specs.List.{AllByRecursion}
 use Rattle.std.specs.Option.{option_map}
 use Rattle.std.specs.Result.{ForOk}
 use Rattle.std.proofs.lemmas.List.{length-set}
-use Rattle.std.proofs.lemmas.Option.{slice_get_within}
 use Rattle.synod.specs.declared.packet.Packet.{Packet}
 use Rattle.synod.specs.declared.packet.Body.TheVariants.{Ask}
 use Rattle.synod.specs.declared.change.Change.{Change}
@@ -22,8 +21,8 @@ use Rattle.std.specs.Prelude.{OnOk, IsOkUnless}
 use Rattle.net.specs.World.{World, stepped, at_node, packets_after}
 use Rattle.net.specs.Agree.{IsAfter}
 use Rattle.net.specs.Taken.{Taken, with_event, world_of as world_of_taken}
-use Rattle.net.specs.KeptPart.{node_of, kept_part}
-use Rattle.net.specs.Due.{Work, steps, restarts, Due, NetView, HasRoom, IsDue, IsReadyAt, IsOfEvent, IsEventAt, ComesTo, IsStill, IsTaken, posts_of, step_of, loads, loads_due}
+use Rattle.net.specs.KeptPart.{kept_part}
+use Rattle.net.specs.Due.{Work, steps, restarts, Due, NetView, HasRoom, IsDue, IsReadyAt, IsOfEvent, IsEventAt, ComesTo, IsTaken, posts_of, step_of, loads, loads_due}
 use Rattle.net.proofs.Lists.{at_place, at_set, set_twice}
 use Rattle.net.proofs.DueLemmas.{comes_restart}
 use Rattle.net.proofs.TakenLemmas.{set_same, next_is}
@@ -31,7 +30,7 @@ use Rattle.switch.specs.Seat.{Standing, up, down, Seated, owed_in, change_owed, 
 use Rattle.switch.specs.Switch.{Place, Shared, event_owed, standing_seen, place_of, places_of, IsOwing, IsSeat, IsSwitch, CanTakeOwed, TakesOwed, world_of, change_due, is_down_at, is_down_place, events_due, with_place, RevivesAt, ActsDown}
 use Rattle.switch.proofs.KeepLemmas.{with_either, either_twice}
 use Rattle.switch.proofs.SeatsLemmas.{places_of-set, place_at, place_past, seat_in, down_at}
-use Rattle.switch.proofs.SwitchLemmas.{shared, still_switch, core_node, own_number, own_weights, other_seat, at, node_is, committed, change_told, changes, taken_world}
+use Rattle.switch.proofs.SwitchLemmas.{shared, core_node, own_number, own_weights, other_seat, at, node_is, committed, change_told, changes}
 use Rattle.switch.proofs.EventLemmas.{shared_is, of_world, node_there}
 
 -- The switch before, seats and net being as they are when the keep is called.
@@ -94,12 +93,15 @@ module _ {V : Type 0} (size : V → ℕ) (net : NetView V) (seats : List (Seated
 
   -- there is no memory
   pub no_memory : (new : Shared V) → new ≡ old → ForOk (world_of size now) (λ x. (place : Place V) → slice_get now.places j ≡ Some place → (e : Option (Event V)) → place.standing ≡ down e → ActsDown size x now new j place e (Err Memory))
-  no_memory new same = of_place new (Err Memory) (inl (refl, record {
-    kept = seat.kept;
-    either = inl refl;
-    rest = same ∙ ap (λ (ps : List (Place V)). let s : Shared V = record { weights = net.taken.weights; history = net.taken.events; places = ps } in s)
-        (sym (set_same (places_of seats) j (place_of seat) (ap (λ (i : ℕ). slice_get (places_of seats) i) is_j ∙ place_at seats k seat found)));
-  }))
+  no_memory new same = of_place new (Err Memory) (inl (
+    refl,
+    record {
+      kept = seat.kept;
+      either = inl refl;
+      rest = same ∙ ap (λ (ps : List (Place V)). let s : Shared V = record { weights = net.taken.weights; history = net.taken.events; places = ps } in s)
+          (sym (set_same (places_of seats) j (place_of seat) (ap (λ (i : ℕ). slice_get (places_of seats) i) is_j ∙ place_at seats k seat found)));
+    },
+  ))
 
   -- a call of the keep failed
   module _ (new : Seated V) (fails : Fails seat (change_owed (owed_in seat.standing)) seat.standing new) where
@@ -116,13 +118,16 @@ module _ {V : Type 0} (size : V → ℕ) (net : NetView V) (seats : List (Seated
     }
 
     pub stays_acts : ForOk (world_of size now) (λ x. (place : Place V) → slice_get now.places j ≡ Some place → (e : Option (Event V)) → place.standing ≡ down e → ActsDown size x now (shared net (set seats k new)) j place e (Err Device))
-    stays_acts = of_place (shared net (set seats k new)) (Err Device) (inr (refl, record {
-      kept = new.kept;
-      either = subst (λ (c : Option (Change V)). IsWithOrWithout seat.kept c new.kept) (change_is o owing) either;
-      rest = ap (λ (ps : List (Place V)). let s : Shared V = record { weights = net.taken.weights; history = net.taken.events; places = ps } in s) (places_of-set seats k new)
-          ∙ ap (λ (s : Seated V). with_place old k (place_of s)) fails.rest
-          ∙ ap (λ (i : ℕ). with_place old i record { kept = new.kept; failures = seat.failures + 1; standing = standing_seen seat.standing }) (sym is_j);
-    }))
+    stays_acts = of_place (shared net (set seats k new)) (Err Device) (inr (
+      refl,
+      record {
+        kept = new.kept;
+        either = subst (λ (c : Option (Change V)). IsWithOrWithout seat.kept c new.kept) (change_is o owing) either;
+        rest = ap (λ (ps : List (Place V)). let s : Shared V = record { weights = net.taken.weights; history = net.taken.events; places = ps } in s) (places_of-set seats k new)
+            ∙ ap (λ (s : Seated V). with_place old k (place_of s)) fails.rest
+            ∙ ap (λ (i : ℕ). with_place old i record { kept = new.kept; failures = seat.failures + 1; standing = standing_seen seat.standing }) (sym is_j);
+      },
+    ))
 
   -- what is owed can be taken
   can_take : (o : Option (Due V)) → IsOwing size net k (down o) → (more : ℕ) → HasRoom net (length (posts_owed o) + more) 2 → CanTakeOwed size net o

@@ -8,7 +8,7 @@ use Rattle.net.specs.declared.event.Event.{Event}
 use Rattle.net.specs.Due.{Due}
 use Rattle.net.proofs.Lists.{at_set, at_set_other}
 use Rattle.switch.specs.Seat.{Standing, up, down, Seated}
-use Rattle.switch.specs.Switch.{Place, event_owed, standing_seen, place_of, places_of, new_places, new_seats, is_down, is_down_place, is_down_at}
+use Rattle.switch.specs.Switch.{Place, standing_seen, place_of, places_of, new_places, new_seats, is_down, is_down_place, is_down_at}
 
 pub places_of-set : {V : Type 0} (seats : List (Seated V)) (k : ℕ) (seat : Seated V) → places_of (set seats k seat) ≡ set (places_of seats) k (place_of seat)
 places_of-set [] k seat = refl

@@ -1,9 +1,7 @@
 -- What a switch keeps after its net or one of its seats has changed.
-use Rattle.std.proofs.Common.{◌≡◌, ◌≢◌, ℕ, zero, suc, ◌+◌, ◌<◌, ◌≤◌, List, [], ◌∷◌, ◌++◌, length, set, slice_get, Option, Some, None, Result, Ok, Err, refl, ap, sym, ◌∙◌, subst, arith, append_assoc, append-nil}
+use Rattle.std.proofs.Common.{◌≡◌, ◌≢◌, ℕ, zero, suc, ◌<◌, ◌≤◌, List, [], ◌∷◌, ◌++◌, length, set, slice_get, Option, Some, None, Ok, refl, ap, sym, ◌∙◌, subst, arith, append_assoc, append-nil}
 use Rattle.std.specs.List.{AllByRecursion}
 use Rattle.std.specs.Option.{option_map}
-use Rattle.std.specs.Result.{ForOk}
-use Rattle.std.proofs.lemmas.Option.{slice_get_within}
 use Rattle.std.proofs.lemmas.List.{length-set}
 use Rattle.synod.specs.declared.packet.Packet.{Packet}
 use Rattle.synod.specs.declared.change.Change.{Change}
@@ -13,20 +11,19 @@ use Rattle.synod.specs.Node.{Node, Stepped, kept_of, new_node}
 use Rattle.synod.specs.Core.{Core}
 use Rattle.net.specs.declared.event.TheConstants.{MOST_EVENTS}
 use Rattle.net.specs.declared.event.Event.{Event}
-use Rattle.net.specs.declared.fault.StepFault.{StepFault}
 use Rattle.net.specs.World.{World, start, nodes_from, stepped, happens, happens_at, after, offers_of}
 use Rattle.net.specs.Agree.{IsAfter}
 use Rattle.net.specs.Taken.{Taken, nodes_of, AreOfWorld, with_event}
 use Rattle.net.specs.KeptPart.{change_of, kept_part}
-use Rattle.net.specs.Due.{Work, steps, restarts, Due, change_in, posts_of, step_of, IsEventAt, ComesTo, NetView, AreStill, IsStill, IsDue, IsTaken}
-use Rattle.net.proofs.Lists.{all_append, at_set, at_set_other, none_past}
+use Rattle.net.specs.Due.{Work, steps, restarts, Due, change_in, posts_of, step_of, IsEventAt, NetView, AreStill, IsStill, IsDue, IsTaken}
+use Rattle.net.proofs.Lists.{all_append, at_set, at_set_other}
 use Rattle.net.proofs.EveryEvent.{if_taken, node_at, holds_after}
 use Rattle.net.proofs.TwoMoments.{world_lasts}
 use Rattle.net.proofs.KeptPartLemmas.{Happens, event_moves}
 use Rattle.net.proofs.TakenLemmas.{taken_count, happens-not_spent, events_within, rooms_stay, makes, nodes_of-set}
 use Rattle.net.proofs.DueLemmas.{nodes_found, nodes_still, due_still, posts_same}
 use Rattle.switch.specs.Seat.{Standing, up, down, Seated, IsRecordOf}
-use Rattle.switch.specs.Switch.{Shared, world_of, places_of, new_seats, IsOwing, IsSeat, IsSwitch}
+use Rattle.switch.specs.Switch.{Shared, places_of, new_seats, IsOwing, IsSeat, IsSwitch}
 use Rattle.switch.proofs.SeatsLemmas.{each_after, new_at, count_seats}
 
 abbrev pub shared : {V : Type 0} → NetView V → List (Seated V) → Shared V

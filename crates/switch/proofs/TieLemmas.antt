@@ -1,10 +1,9 @@
 -- What a call leaves of what begins a log.
-use Rattle.std.proofs.Common.{◌≡◌, ◌≢◌, ℕ, List, Option, Some, None, Result, Ok, refl, ap, sym, ◌∙◌, slice_get}
+use Rattle.std.proofs.Common.{◌≡◌, ◌≢◌, ℕ, List, Option, Some, None, Result, refl, ap, sym, ◌∙◌, slice_get}
 use Rattle.std.specs.Result.{ForOk}
 use Rattle.net.specs.declared.event.Event.{Event}
 use Rattle.net.specs.declared.event.Event.TheVariants.{Offer, Begin, Deliver, Restart}
 use Rattle.net.specs.declared.fault.StepFault.{StepFault}
-use Rattle.net.specs.World.{World}
 use Rattle.net.specs.KeptPart.{node_of}
 use Rattle.net.specs.Due.{Due, NetView}
 use Rattle.switch.specs.Seat.{Standing, up, down, Seated}

@@ -1,5 +1,5 @@
 //! What the nodes share: the net, and of each node its keep.
-ghost use Rattle.std.specs.Prelude.{◌≡◌, ◌<◌, ◌≤◌, Ok, Err, Some, None, [], length, slice_get, IsOk, IsSome, IfOk, IsOkUnless, MatchOption, MatchResult};
+ghost use Rattle.std.specs.Prelude.{◌≡◌, ◌↔◌, ◌<◌, ◌≤◌, Ok, Err, Some, None, [], length, slice_get, IsOk, IsSome, IfOk, IsOkUnless, MatchOption, MatchResult};
 ghost use Rattle.std.specs.List.{AllByRecursion};
 ghost use Rattle.std.specs.Option.{option_map};
 ghost use Rattle.std.specs.Result.{ForOk};
@@ -44,7 +44,6 @@ impl<V: Value, K: Keep<V>> Switch<V, K> {
     {
         let net = Net::new(alloc, weights)?;
         let seats = new_seats(alloc, keeps)?;
-        let _taken = net.history();
         Ok(Switch { net, seats })
     }
 
@@ -65,8 +64,9 @@ impl<V: Value, K: Keep<V>> Switch<V, K> {
     pub fn entry(&self, k: u8, slot: u32) -> Result<Option<&Option<V>>, StepFault>
         ensures entry { IfOk result (λ found. MatchOption found (slice_get (log_after (world_of V.bytes self.now) k) slot ≡ None) (λ entry. slice_get (log_after (world_of V.bytes self.now) k) slot ≡ Some entry.now)) }
         ensures below { IfOk result (λ found. IsSome found → slot < SLOTS) }
-        ensures no_node { length self.now.places ≤ k → result ≡ Err NoNode }
-        ensures node { k < length self.now.places → IsOk result }
+        ensures no_node { ForOk (world_of V.bytes self.now) (λ world. slice_get world.nodes k ≡ None → result ≡ Err NoNode) }
+        ensures node { ForOk (world_of V.bytes self.now) (λ world. IsSome (slice_get world.nodes k) → IsOk result) }
+        ensures place { IsOk result ↔ k < length self.now.places }
     {
         self.net.entry(k, slot)
     }

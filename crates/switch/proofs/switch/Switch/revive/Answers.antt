@@ -1,6 +1,5 @@
 use Rattle.std.proofs.Common.{◌≡◌, ◌+◌, ℕ, List, length, ap, refl, sym, subst, ◌∙◌, arith}
 use Rattle.net.specs.declared.event.Event.{Event}
-use Rattle.net.specs.declared.event.Event.TheVariants.{Restart}
 use Rattle.net.specs.Taken.{Taken}
 use Rattle.synod.specs.declared.packet.Packet.{Packet}
 use Rattle.net.specs.Due.{Due, HasRoom, IsDue, IsTaken, posts_of}
