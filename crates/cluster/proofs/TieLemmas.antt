@@ -5,13 +5,15 @@ use Rattle.std.specs.Borrow.{Bor}
 use Rattle.std.specs.Result.{ForOk}
 use Rattle.synod.specs.Node.{Node}
 use Rattle.net.specs.declared.fault.StepFault.{StepFault}
+use Rattle.net.specs.declared.fault.StepFault.TheVariants.{NoNode}
 use Rattle.net.specs.World.{World, log_at, log, log_after}
 use Rattle.net.specs.Agree.{IsBeginningOf}
 use Rattle.switch.specs.Switch.{Shared, world_of}
 use Rattle.switch.specs.Belonging.{BeginsLog}
 use Rattle.world.specs.declared.carried.Carried.{Carried}
 use Rattle.world.specs.Carried.{carried_size}
-use Rattle.cluster.specs.Cell.{Cell, new_cell, AddsEntry}
+use Rattle.world.specs.Replicas.{NodeLibrary}
+use Rattle.cluster.specs.Cell.{Cell, new_cell, AddsEntry, TakesOver}
 use Rattle.cluster.specs.Belongs.{Belongs}
 
 -- What a switch shows of a log.
@@ -65,6 +67,46 @@ module _ (s : Shared Carried) (k : ℕ) (old new : List (Option Carried)) (b : B
   taken_belongs None (Ok true) slot is shows adds = elim adds [ ]
   taken_belongs None (Ok false) slot is shows adds = as_begun adds
   taken_belongs None (Err fault) slot is shows adds = elim adds [ ]
+
+-- What is told of the entry that is next.
+
+abbrev cell_of : ℕ → List (Option Carried) → NodeLibrary → Cell
+cell_of k entries node = record { at = k; entries = entries; node = node }
+
+adds_takes : (k : ℕ) (node : NodeLibrary) (es fs : List (Option Carried)) (next : Option (Option Carried)) (result : Result Bool StepFault) → AddsEntry es fs next result → TakesOver (cell_of k es node) (cell_of k fs node) next result
+adds_takes k node es fs (Some entry) (Ok true) h = ap (λ (gs : List (Option Carried)). cell_of k gs node) h
+adds_takes k node es fs (Some entry) (Ok false) h = elim h [ ]
+adds_takes k node es fs (Some entry) (Err fault) h = (h.0, ap (λ (gs : List (Option Carried)). cell_of k gs node) h.1)
+adds_takes k node es fs None (Ok true) h = elim h [ ]
+adds_takes k node es fs None (Ok false) h = ap (λ (gs : List (Option Carried)). cell_of k gs node) h
+adds_takes k node es fs None (Err fault) h = elim h [ ]
+
+module _ (s : Shared Carried) (k : ℕ) (node : NodeLibrary) (es : List (Option Carried)) (now : Cell) (seen : cell_of k es node ≡ now) where
+  pub takes_over : (fs : List (Option Carried)) (found : Option (Bor (Option Carried))) (slot : ℕ) → slot ≡ length es
+      → MatchOption found (slice_get (log_after (world_of carried_size s) k) slot ≡ None) (λ (e : Bor (Option Carried)). slice_get (log_after (world_of carried_size s) k) slot ≡ Some e.now)
+      → (result : Result Bool StepFault) → AddsEntry es fs (option_map (λ (e : Bor (Option Carried)). e.now) found) result
+      → ForOk (world_of carried_size s) (λ w. IsSome (slice_get w.nodes now.at) → TakesOver now (cell_of k fs node) (slice_get (log w now.at) (length now.entries)) result)
+  takes_over fs found slot is shown result adds = λ w d there.
+      let next : option_map (λ (e : Bor (Option Carried)). e.now) found ≡ slice_get (log w k) (length es) =
+      shown_is (log_after (world_of carried_size s) k) slot found shown ∙ ap (λ (r : Result (World Carried) StepFault). slice_get (log_after r k) slot) d ∙ ap (λ (i : ℕ). slice_get (log w k) i) is in
+      subst (λ (c : Cell). TakesOver c (cell_of k fs node) (slice_get (log w c.at) (length c.entries)) result) seen
+      (subst (λ (o : Option (Option Carried)). TakesOver (cell_of k es node) (cell_of k fs node) o result) next (adds_takes k node es fs (option_map (λ (e : Bor (Option Carried)). e.now) found) result adds))
+
+  -- there is such a node
+  pub there_is : {A : Type 0} (r : Result A StepFault) (x : A) → r ≡ Ok x → ForOk (world_of carried_size s) (λ w. slice_get w.nodes k ≡ None → r ≡ Err NoNode) → (P : Type 0) → ForOk (world_of carried_size s) (λ w. slice_get w.nodes now.at ≡ None → P)
+  there_is {A} r x is no_node P = λ w d none. (let no : Ok x ≡ Err NoNode = sym is ∙ no_node w d (ap (λ (c : Cell). slice_get w.nodes c.at) seen ∙ none) in cc)
+
+  -- there is none
+  pub none_is : {A : Type 0} (r : Result A StepFault) (fault : StepFault) → r ≡ Err fault → ForOk (world_of carried_size s) (λ w. slice_get w.nodes k ≡ None → r ≡ Err NoNode)
+      → (new : Cell) → new ≡ now → ForOk (world_of carried_size s) (λ w. slice_get w.nodes now.at ≡ None → (let a : Result Bool StepFault = Err fault in a ≡ Err NoNode) × (new ≡ now))
+  none_is {A} r fault is no_node new same = λ w d none.
+      let both : (let a : Result A StepFault = Err fault in a) ≡ Err NoNode = sym is ∙ no_node w d (ap (λ (c : Cell). slice_get w.nodes c.at) seen ∙ none) in
+      let one : fault ≡ NoNode = cc in
+      (ap (λ (f : StepFault). let a : Result Bool StepFault = Err f in a) one, same)
+
+  pub none_takes : {A : Type 0} (r : Result A StepFault) (fault : StepFault) → r ≡ Err fault → ForOk (world_of carried_size s) (λ w. IsSome (slice_get w.nodes k) → IsOk r) → (P : World Carried → Type 0)
+      → ForOk (world_of carried_size s) (λ w. IsSome (slice_get w.nodes now.at) → P w)
+  none_takes {A} r fault is node P = λ w d there. (let no : false ≡ true = subst (λ (a : Result A StepFault). IsOk a) is (node w d (subst (λ (c : Cell). IsSome (slice_get w.nodes c.at)) (sym seen) there)) in cc)
 
 -- Entries found one by one.
 

@@ -6,13 +6,14 @@ ghost use Rattle.net.specs.declared.fault.StepFault.TheVariants.{NoNode};
 ghost use Rattle.net.specs.World.{World, log};
 ghost use Rattle.world.specs.Carried.{carried_size};
 ghost use Rattle.world.specs.Replicas.{AppliesNext};
-ghost use Rattle.switch.specs.Switch.{world_of, Restarts};
-ghost use Rattle.switch.specs.Belonging.{OthersStay};
+ghost use Rattle.net.specs.declared.event.Event.TheVariants.{Offer};
+ghost use Rattle.switch.specs.Switch.{world_of, Acts, Restarts};
+ghost use Rattle.switch.specs.Belonging.{OthersStay, StaysBelonging};
 ghost use Rattle.cluster.specs.Belongs.{Belongs};
 ghost use Rattle.cluster.specs.Cell.{Cell, new_cell, IsCell, AddsEntry, TakesOver, next_entry};
 
 use crate::log::begins_log;
-use library::{Library, Listed, Verdict};
+use library::{Entry, Library, Listed, Verdict};
 use net::StepFault;
 use std::alloc::{AllocError, Global};
 use std::marker::Model;
@@ -86,6 +87,20 @@ pub fn belongs<K: Keep<Carried>>(cell: &NodeCell, switch: &Switch<Carried, K>) -
     ensures { IsTrue result ↔ Belongs cell.now switch.now }
 {
     begins_log(switch, cell.at, &cell.entries)
+}
+
+/// An entry is offered to node `k`. It answers the count of the packets posted so far.
+///
+/// Errors: as of `begin_on`.
+pub fn offer_on<K: Keep<Carried>>(
+    switch: &mut Switch<Carried, K>,
+    k: u8,
+    entry: Entry,
+) -> Result<u64, StepFault>
+    ensures acts { ForOk (world_of carried_size switch.old) (λ world. Acts carried_size world switch.old switch.new (Offer k (record { 0 = entry })) result) }
+    ensures belonging { StaysBelonging carried_size switch.old switch.new }
+{
+    switch.offer(k, Carried(entry))
 }
 
 /// Takes over the next entry of the node's log, and answers whether there is one.

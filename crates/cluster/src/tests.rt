@@ -9,7 +9,8 @@ use scope::Steps;
 use std::alloc::{AllocError, Global};
 use std::test::Fail;
 use synod::{Body, Change, Failed, Keep, Record, Weights};
-use world::{Carried, Event, StepFault};
+use net::{Event, StepFault};
+use world::Carried;
 
 /// The text of author 7 under that serial number, as a value that nodes agree on.
 fn text(alloc: Global, serial: u64, text: &[u8]) -> Result<Carried, AllocError> {

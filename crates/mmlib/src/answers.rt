@@ -10,7 +10,7 @@ use crate::verdict_text::push_verdict;
 use library::{Entry, Library, Listed, Verdict};
 use mm_read::{Stmt, push_line};
 use std::alloc::AllocError;
-use world::StepFault;
+use net::StepFault;
 
 /// The bytes that the answer of an event or a verdict needs at most.
 pub const ANSWER_ROOM: usize = 128;

@@ -12,7 +12,8 @@ use std::sync::{Arc, Wait};
 use std::thread::Threads;
 use synod::{Keep, Weights};
 use verify_pool::OpenGate;
-use world::{Carried, StepFault};
+use net::StepFault;
+use world::Carried;
 
 /// How often a cluster that finds no memory to stop is asked again.
 const MOST_RETRIES: u32 = 1000;

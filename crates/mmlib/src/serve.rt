@@ -18,7 +18,7 @@ use std::sync::Wait;
 use std::thread;
 use std::thread::Threads;
 use synod::Weights;
-use world::StepFault;
+use net::StepFault;
 
 /// How often `settle` asks.
 const MOST_ASKS: u32 = 10_000_000;

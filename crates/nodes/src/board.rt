@@ -9,7 +9,8 @@ use cluster::Switch;
 use std::alloc::Global;
 use std::mem;
 use synod::Keep;
-use world::{Carried, Event, MOST_EVENTS, StepFault};
+use net::{Event, MOST_EVENTS, StepFault};
+use world::Carried;
 
 /// A packet that was posted, and the node that it is for.
 #[derive(Clone, Copy)]

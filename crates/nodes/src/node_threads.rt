@@ -21,7 +21,8 @@ use std::thread::{JoinHandle, Threads};
 use std::{mem, thread};
 use synod::{Keep, Weights};
 use verify_pool::Gate;
-use world::{Carried, StepFault};
+use net::StepFault;
+use world::Carried;
 
 /// The node threads. It stays in its thread; where it is dropped and was not stopped, its threads wait on. It is seen as the count
 /// of the nodes.

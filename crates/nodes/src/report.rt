@@ -8,7 +8,8 @@ ghost use Rattle.nodes.specs.Report.{IsReport, own_events};
 
 use crate::board::Board;
 use synod::Keep;
-use world::{Carried, Event};
+use net::Event;
+use world::Carried;
 
 /// What the nodes did: the events of the history, and of each node how many of them were its own, the deliveries of packets
 /// addressed to it included.

@@ -13,7 +13,8 @@ use std::sync::{Arc, Mutex, Wait};
 use std::thread::Threads;
 use synod::Keep;
 use verify_pool::{Gate, Place};
-use world::{Carried, StepFault};
+use net::StepFault;
+use world::Carried;
 
 /// What the node threads and the desks share. A node's lock is taken before the switch's, and of two nodes' locks the lower one
 /// first; the senders' lock is never taken while the switch's is held.

@@ -14,7 +14,8 @@ use std::thread;
 use std::thread::Threads;
 use synod::Weights;
 use verify_pool::{Gate, OpenGate, Place};
-use world::{Carried, StepFault};
+use net::StepFault;
+use world::Carried;
 
 /// A text of author 7.
 fn text(alloc: Global, serial: u64, text: &[u8]) -> Result<Entry, AllocError> {

@@ -1,4 +1,4 @@
-use Rattle.std.proofs.Common.{◌≡◌, ◌∙◌, ap, sym, true, false, Option, Some, None, slice_get}
+use Rattle.std.proofs.Common.{◌≡◌, ◌∙◌, ap, sym, true, false, List, Option, Some, None, slice_get}
 use Rattle.net.specs.World.{log_after}
 use Rattle.switch.specs.Switch.{world_of}
 use Rattle.world.specs.declared.carried.Carried.{Carried}
@@ -18,5 +18,5 @@ returns-in-Err g c = (
   λ yes. (let no : false ≡ true = yes in cc),
   λ at.
       (let none = none_shown c.args.switch.now c.args.k _ c.entry.result c.in-Err.is c.entry.ensures.node in
-      let no : None ≡ Some c.args.entry.now = ap (λ (es). slice_get es c.args.slot) (sym none) ∙ at in cc),
+      let no : None ≡ Some c.args.entry.now = ap (λ (es : List (Option Carried)). slice_get es c.args.slot) (sym none) ∙ at in cc),
 )
