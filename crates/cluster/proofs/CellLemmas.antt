@@ -1,17 +1,17 @@
 -- What a cell keeps: room for its entries, and a library that is that of the first of them.
 use Rattle.std.proofs.Common.{◌≡◌, ℕ, ◌<◌, Bool, true, false, List, [], ◌∷◌, ◌++◌, length, slice_get, Option, Some, None, Result, Ok, Err, refl, ap, sym, subst, arith, length-append}
-use Rattle.std.specs.Prelude.{IsSome, IfOk, option_map}
+use Rattle.std.specs.Prelude.{IsSome, option_map}
 use Rattle.std.specs.Borrow.{Bor}
 use Rattle.slots.specs.declared.slots.TheConstants.{SLOTS}
 use Rattle.library.specs.declared.entry.Entry.{Entry}
 use Rattle.library.specs.declared.verdict.Verdict.{Verdict}
 use Rattle.world.specs.declared.carried.Carried.{Carried}
-use Rattle.world.specs.declared.fault.StepFault.{StepFault}
+use Rattle.net.specs.declared.fault.StepFault.{StepFault}
 use Rattle.world.specs.Carried.{entry_of, entries_of}
-use Rattle.world.specs.Replicas.{NodeLibrary}
+use Rattle.world.specs.Replicas.{NodeLibrary, AppliesNext}
 use Rattle.world.proofs.EntriesLemmas.{entries_begin, entries_of-get, entries_of-none}
 use Rattle.world.proofs.ReplicasLemmas.{of_longer, of_log_applied}
-use Rattle.cluster.specs.Cell.{Cell, IsCell, AddsEntry, AppliesNext, next_entry}
+use Rattle.cluster.specs.Cell.{Cell, IsCell, AddsEntry, next_entry}
 
 -- the cell as a call sees it
 abbrev pub cell : ℕ → List (Option Carried) → NodeLibrary → Cell
@@ -29,15 +29,17 @@ module _ (k : ℕ) (node : NodeLibrary) (old new : List (Option Carried)) (h : I
   as_before : new ≡ old → IsCell (cell k new node)
   as_before is = subst (λ (es : List (Option Carried)). IsCell (cell k es node)) (sym is) h
 
-  pub stays_cell : (next : Result (Option (Option Carried)) StepFault) (result : Result Bool StepFault) (slot : ℕ) → slot ≡ length old → IfOk next (λ entry. IsSome entry → slot < SLOTS) → AddsEntry old new next result → IsCell (cell k new node)
-  stays_cell (Ok (Some entry)) (Ok true) slot is below adds = one_more entry (let low = below refl in omega (arith, low, is)) adds
-  stays_cell (Ok (Some entry)) (Ok false) slot is below adds = elim adds [ ]
-  stays_cell (Ok (Some entry)) (Err fault) slot is below adds = as_before adds.1
-  stays_cell (Ok None) (Ok true) slot is below adds = elim adds [ ]
-  stays_cell (Ok None) (Ok false) slot is below adds = as_before adds
-  stays_cell (Ok None) (Err fault) slot is below adds = elim adds [ ]
-  stays_cell (Err met) (Ok done) slot is below adds = elim adds [ ]
-  stays_cell (Err met) (Err fault) slot is below adds = as_before adds.1
+  pub stays_cell : (next : Option (Option Carried)) (result : Result Bool StepFault) → (IsSome next → length old < SLOTS) → AddsEntry old new next result → IsCell (cell k new node)
+  stays_cell (Some entry) (Ok true) below adds = one_more entry (below refl) adds
+  stays_cell (Some entry) (Ok false) below adds = elim adds [ ]
+  stays_cell (Some entry) (Err fault) below adds = as_before adds.1
+  stays_cell None (Ok true) below adds = elim adds [ ]
+  stays_cell None (Ok false) below adds = as_before adds
+  stays_cell None (Err fault) below adds = elim adds [ ]
+
+pub below_some : (found : Option (Bor (Option Carried))) (n m : ℕ) → (IsSome found → n < SLOTS) → n ≡ m → IsSome (option_map (λ (e : Bor (Option Carried)). e.now) found) → m < SLOTS
+below_some None n m below is some = let no : false ≡ true = some in cc
+below_some (Some e) n m below is some = let low = below refl in omega (arith, low, is)
 
 -- An entry is applied.
 

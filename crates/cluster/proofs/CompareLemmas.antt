@@ -3,18 +3,18 @@ use Rattle.std.proofs.Common.{◌≡◌, ◌+◌, ◌<◌, ◌≤◌, true, fals
 use Rattle.std.specs.Prelude.{IsOk}
 use Rattle.mm_read.specs.Statements.{Database}
 use Rattle.world.specs.declared.carried.Carried.{Carried}
-use Rattle.world.specs.declared.fault.StepFault.{StepFault}
-use Rattle.world.specs.World.{World, log, log_after}
-use Rattle.world.specs.Agree.{IsBeginningOf, Agree}
-use Rattle.world.specs.Taken.{Taken}
-use Rattle.world.specs.History.{IsMoment}
+use Rattle.net.specs.declared.fault.StepFault.{StepFault}
+use Rattle.net.specs.World.{World, log, log_after}
+use Rattle.net.specs.Agree.{IsBeginningOf, Agree}
+use Rattle.net.specs.Taken.{Taken}
+use Rattle.net.specs.History.{IsMoment}
 use Rattle.world.specs.Carried.{carried_size, entries_of}
 use Rattle.world.specs.Replicas.{IsOfLog}
 use Rattle.world.specs.Headline.{Headline}
 use Rattle.world.proofs.EntriesLemmas.{entries_begin}
 use Rattle.world.proofs.HeadlineLemmas.{headline_holds}
 use Rattle.world.proofs.ReplicasLemmas.{of_longer}
-use Rattle.cluster.specs.Switch.{Shared, world_of}
+use Rattle.switch.specs.Switch.{Shared, world_of}
 use Rattle.cluster.specs.Cell.{Cell, IsCell}
 use Rattle.cluster.specs.Belongs.{Belongs}
 

@@ -1,9 +1,5 @@
-mod SeatLemmas
-mod SwitchLemmas
-mod CallLemmas
-mod CellLemmas
-mod EntriesLemmas
 mod CellsLemmas
-mod BelongsLemmas
+mod EntriesLemmas
+mod CellLemmas
 mod TieLemmas
 mod CompareLemmas

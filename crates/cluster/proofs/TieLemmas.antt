@@ -1,96 +1,37 @@
 -- What a call leaves of the tie between cells and switch, and what the tie gives.
-use Rattle.std.proofs.Common.{◌≡◌, ◌≢◌, ℕ, zero, suc, ◌<◌, ◌≤◌, Bool, true, false, List, [], ◌∷◌, ◌++◌, length, slice_get, Option, Some, None, Result, Ok, Err, refl, ap, sym, ◌∙◌, subst, arith, append-nil, append_assoc, le_of_suc-le-suc}
-use Rattle.std.specs.Prelude.{◌↔◌, IsTrue, IfOk}
+use Rattle.std.proofs.Common.{◌≡◌, ℕ, zero, suc, ◌<◌, Bool, true, false, List, [], ◌∷◌, ◌++◌, length, slice_get, Option, Some, None, Result, Ok, Err, refl, ap, sym, ◌∙◌, subst, arith, append_assoc, le_of_suc-le-suc}
+use Rattle.std.specs.Prelude.{IsOk, IsSome, MatchOption, option_map}
+use Rattle.std.specs.Borrow.{Bor}
 use Rattle.std.specs.Result.{ForOk}
-use Rattle.synod.specs.declared.packet.Packet.{Packet}
-use Rattle.synod.specs.Log.{log_of}
 use Rattle.synod.specs.Node.{Node}
-use Rattle.world.specs.declared.event.Event.{Event}
-use Rattle.world.specs.declared.event.Event.TheVariants.{Offer, Begin, Deliver, Restart}
-use Rattle.world.specs.declared.fault.StepFault.{StepFault}
-use Rattle.world.specs.World.{World, log_at, log_after}
-use Rattle.world.specs.Agree.{IsBeginningOf}
-use Rattle.world.specs.KeptPart.{node_of}
-use Rattle.cluster.specs.Seat.{Owed, Standing, up, down, Seated}
-use Rattle.cluster.specs.Switch.{Place, Shared, standing_seen, place_of, places_of, IsOwing, IsSwitch, world_of, Acts, Restarts, ShowsEntry}
+use Rattle.net.specs.declared.fault.StepFault.{StepFault}
+use Rattle.net.specs.declared.fault.StepFault.TheVariants.{NoNode}
+use Rattle.net.specs.World.{World, log_at, log, log_after}
+use Rattle.net.specs.Agree.{IsBeginningOf}
+use Rattle.switch.specs.Switch.{Shared, world_of}
+use Rattle.switch.specs.Belonging.{BeginsLog}
 use Rattle.world.specs.declared.carried.Carried.{Carried}
 use Rattle.world.specs.Carried.{carried_size}
-use Rattle.cluster.specs.Cell.{Cell, new_cell, AddsEntry}
-use Rattle.cluster.specs.Belongs.{BeginsLog, Belongs, StaysBelonging, StaysAtRestart}
-use Rattle.cluster.proofs.SwitchLemmas.{shared, place_at, place_past, node_is, own}
-use Rattle.cluster.proofs.CallLemmas.{places_are}
-use Rattle.cluster.proofs.BelongsLemmas.{acts_stay, restart_stays}
+use Rattle.world.specs.Replicas.{NodeLibrary}
+use Rattle.cluster.specs.Cell.{Cell, new_cell, AddsEntry, TakesOver}
+use Rattle.cluster.specs.Belongs.{Belongs}
 
-pub offers_no_restart : {V : Type 0} (k : ℕ) (v : V) (j : ℕ) → let e : Event V = Offer k v in e ≢ Restart j
-offers_no_restart k v j = λ same. let no = same in cc
+-- What a switch shows of a log.
 
-pub begins_no_restart : {V : Type 0} (k : ℕ) (j : ℕ) → let e : Event V = Begin k in e ≢ Restart j
-begins_no_restart k j = λ same. let no = same in cc
+pub shown_is : (log : List (Option Carried)) (slot : ℕ) (found : Option (Bor (Option Carried))) → MatchOption found (slice_get log slot ≡ None) (λ (e : Bor (Option Carried)). slice_get log slot ≡ Some e.now)
+    → option_map (λ (e : Bor (Option Carried)). e.now) found ≡ slice_get log slot
+shown_is log slot None h = sym h
+shown_is log slot (Some e) h = sym h
 
-pub delivers_no_restart : {V : Type 0} (number : ℕ) (j : ℕ) → let e : Event V = Deliver number in e ≢ Restart j
-delivers_no_restart number j = λ same. let no = same in cc
+pub none_shown : (s : Shared Carried) (k : ℕ) {A : Type 0} (fault : StepFault) (r : Result A StepFault) → r ≡ Err fault → ForOk (world_of carried_size s) (λ w. IsSome (slice_get w.nodes k) → IsOk r) → log_after (world_of carried_size s) k ≡ []
+none_shown s k {A} fault r is node = by_world (world_of carried_size s) refl where
+  by_node : (o : Option (Node Carried)) → (IsSome o → IsOk r) → log_at o ≡ []
+  by_node None there = refl
+  by_node (Some n) there = let no : false ≡ true = subst (λ (a : Result A StepFault). IsOk a) is (there refl) in cc
 
-count_places : {V : Type 0} (seats : List (Seated V)) → length (places_of seats) ≡ length seats
-count_places [] = refl
-count_places (s ∷ seats) = ap suc (count_places seats)
-
-get_below : {A : Type 0} (xs : List A) (k : ℕ) (x : A) → slice_get xs k ≡ Some x → k < length xs
-get_below [] k x is = cc
-get_below (y ∷ xs) zero x is = omega arith
-get_below (y ∷ xs) (suc k) x is = let low = get_below xs k x is in omega (arith, low)
-
-module _ {V : Type 0} (size : V → ℕ) (ws : List ℕ) (hs : List (Event V)) (seats : List (Seated V)) (ps : List (Packet V)) (h : IsSwitch size ws hs seats ps) (now : Shared V) (seen : shared ws hs seats ≡ now) where
-  after_is : world_of size now ≡ Ok h.world.world
-  after_is = ap (λ (s : Shared V). world_of size s) (sym seen) ∙ h.world.is_after
-
-  -- An event of one of the nodes.
-  pub call_stays : (e : Event V) → ((j : ℕ) → e ≢ Restart j) → (new : Shared V) (result : Result ℕ StepFault) → ForOk (world_of size now) (λ w. Acts size w now new e result) → StaysBelonging size now new
-  call_stays e other new result acts = acts_stay size now h.world.world after_is (places_are size ws hs seats ps h now seen h.world.world after_is) new e result other (acts h.world.world after_is)
-
-  -- what is owed is an event of its node
-  owed_own : (k : ℕ) (seat : Seated V) → slice_get seats k ≡ Some seat → (s : Standing (Owed V)) → IsOwing size ps k seat.core.node s → (e : Event V) → standing_seen s ≡ down (Some e) → node_of h.world.world e ≡ Some k
-  owed_own k seat at up owing e is = cc
-  owed_own k seat at (down None) owing e is = cc
-  owed_own k seat at (down (Some o)) owing e is =
-      let both : down (Some o.event) ≡ down (Some e) = is in
-      let same : o.event ≡ e = cc in
-      ap (λ (v : Event V). node_of h.world.world v) (sym same) ∙ (owing h.world.world [] (h.world.posted ∙ sym (append-nil ps)) (node_is size ws hs seats ps h k seat at)).node
-
-  owed_at : (k : ℕ) (o : Option (Seated V)) → slice_get seats k ≡ o → (place : Place V) → slice_get (places_of seats) k ≡ Some place → (e : Event V) → place.standing ≡ down (Some e) → node_of h.world.world e ≡ Some k
-  owed_at k None none place at e stands = let no : None ≡ Some place = sym (place_past seats k none) ∙ at in cc
-  owed_at k (Some seat) some place at e stands =
-      let both : Some (place_of seat) ≡ Some place = sym (place_at seats k seat some) ∙ at in
-      let same : place_of seat ≡ place = cc in
-      owed_own k seat some seat.standing (own size ws hs seats ps h k seat some).owing e (ap (λ (p : Place V). p.standing) same ∙ stands)
-
-  -- A restart.
-  pub call_stays_restart : (k : ℕ) (new : Shared V) (result : Result ℕ StepFault) → ForOk (world_of size now) (λ w. Restarts size w now new k result) → StaysAtRestart size k now new result
-  call_stays_restart k new result restarts =
-      restart_stays size now h.world.world after_is (places_are size ws hs seats ps h now seen h.world.world after_is) k new
-      (λ place at e stands. owed_at k (slice_get seats k) refl place (ap (λ (s : Shared V). slice_get s.places k) seen ∙ at) e stands) result (restarts h.world.world after_is)
-
-  -- What a test of the log says.
-  pub log_here : (k : ℕ) (seat : Seated V) → slice_get seats k ≡ Some seat → log_after (world_of size now) k ≡ log_of seat.core.node
-  log_here k seat at = ap (λ (r : Result (World V) StepFault). log_after r k) after_is ∙ ap (λ (o : Option (Node V)). log_at o) (node_is size ws hs seats ps h k seat at)
-
-  places_count : length now.places ≡ length seats
-  places_count = ap (λ (s : Shared V). length s.places) (sym seen) ∙ count_places seats
-
-  pub begins_there : (k : ℕ) (seat : Seated V) → slice_get seats k ≡ Some seat → (entries : List (Option V)) (t : Bool) → (IsTrue t ↔ IsBeginningOf entries (log_of seat.core.node)) → (IsTrue t ↔ BeginsLog size now k entries)
-  begins_there k seat at entries t test = (
-    λ yes. record {
-      node = let low = get_below seats k seat at in let count = places_count in omega (arith, low, count);
-      begins = subst (λ (es : List (Option V)). IsBeginningOf entries es) (sym (log_here k seat at)) (test.0 yes);
-    },
-    λ b. test.1 (subst (λ (es : List (Option V)). IsBeginningOf entries es) (log_here k seat at) b.begins),
-  )
-
-  pub begins_nowhere : (k : ℕ) → length seats ≤ k → (entries : List (Option V)) → (IsTrue false ↔ BeginsLog size now k entries)
-  begins_nowhere k past entries = (λ no. (let never : false ≡ true = no in cc), λ b. (let count = places_count in let low = b.node in absurd (omega (arith, past, count, low))))
-
-pub shown_log : {V : Type 0} (n : Node V) (slot : ℕ) (r : Result (Option (Option V)) StepFault) (entries : List (Option V)) → entries ≡ log_of n → ShowsEntry (Some n) slot r → IfOk r (λ entry. entry ≡ slice_get entries slot)
-shown_log {V} n slot (Ok entry) entries is shows = shows ∙ ap (λ (es : List (Option V)). slice_get es slot) (sym is)
-shown_log n slot (Err fault) entries is shows = tt
+  by_world : (x : Result (World Carried) StepFault) → world_of carried_size s ≡ x → log_after x k ≡ []
+  by_world (Ok w) at = by_node (slice_get w.nodes k) (node w at)
+  by_world (Err f) at = refl
 
 -- The cell of a node that restarted.
 pub restarted_belongs : (old new : Cell) (was now : Shared Carried) → new ≡ new_cell old.at → length now.places ≡ length was.places → Belongs old was → Belongs new now
@@ -115,20 +56,57 @@ module _ (s : Shared Carried) (k : ℕ) (old new : List (Option Carried)) (b : B
   as_begun : new ≡ old → BeginsLog carried_size s k new
   as_begun is = subst (λ (es : List (Option Carried)). BeginsLog carried_size s k es) (sym is) b
 
-  pub taken_belongs : (next : Result (Option (Option Carried)) StepFault) (result : Result Bool StepFault) (slot : ℕ) → slot ≡ length old → IfOk next (λ entry. entry ≡ slice_get (log_after (world_of carried_size s) k) slot)
-      → AddsEntry old new next result → BeginsLog carried_size s k new
-  taken_belongs (Ok (Some entry)) (Ok true) slot is shows adds = record {
+  pub taken_belongs : (next : Option (Option Carried)) (result : Result Bool StepFault) (slot : ℕ) → slot ≡ length old → next ≡ slice_get (log_after (world_of carried_size s) k) slot → AddsEntry old new next result → BeginsLog carried_size s k new
+  taken_belongs (Some entry) (Ok true) slot is shows adds = record {
     node = b.node;
     begins = subst (λ (es : List (Option Carried)). IsBeginningOf es (log_after (world_of carried_size s) k)) (sym adds)
         (one_more_begins old (log_after (world_of carried_size s) k) entry b.begins (ap (λ (i : ℕ). slice_get (log_after (world_of carried_size s) k) i) (sym is) ∙ sym shows));
   }
-  taken_belongs (Ok (Some entry)) (Ok false) slot is shows adds = elim adds [ ]
-  taken_belongs (Ok (Some entry)) (Err fault) slot is shows adds = as_begun adds.1
-  taken_belongs (Ok None) (Ok true) slot is shows adds = elim adds [ ]
-  taken_belongs (Ok None) (Ok false) slot is shows adds = as_begun adds
-  taken_belongs (Ok None) (Err fault) slot is shows adds = elim adds [ ]
-  taken_belongs (Err met) (Ok done) slot is shows adds = elim adds [ ]
-  taken_belongs (Err met) (Err fault) slot is shows adds = as_begun adds.1
+  taken_belongs (Some entry) (Ok false) slot is shows adds = elim adds [ ]
+  taken_belongs (Some entry) (Err fault) slot is shows adds = as_begun adds.1
+  taken_belongs None (Ok true) slot is shows adds = elim adds [ ]
+  taken_belongs None (Ok false) slot is shows adds = as_begun adds
+  taken_belongs None (Err fault) slot is shows adds = elim adds [ ]
+
+-- What is told of the entry that is next.
+
+abbrev cell_of : ℕ → List (Option Carried) → NodeLibrary → Cell
+cell_of k entries node = record { at = k; entries = entries; node = node }
+
+adds_takes : (k : ℕ) (node : NodeLibrary) (es fs : List (Option Carried)) (next : Option (Option Carried)) (result : Result Bool StepFault) → AddsEntry es fs next result → TakesOver (cell_of k es node) (cell_of k fs node) next result
+adds_takes k node es fs (Some entry) (Ok true) h = ap (λ (gs : List (Option Carried)). cell_of k gs node) h
+adds_takes k node es fs (Some entry) (Ok false) h = elim h [ ]
+adds_takes k node es fs (Some entry) (Err fault) h = (h.0, ap (λ (gs : List (Option Carried)). cell_of k gs node) h.1)
+adds_takes k node es fs None (Ok true) h = elim h [ ]
+adds_takes k node es fs None (Ok false) h = ap (λ (gs : List (Option Carried)). cell_of k gs node) h
+adds_takes k node es fs None (Err fault) h = elim h [ ]
+
+module _ (s : Shared Carried) (k : ℕ) (node : NodeLibrary) (es : List (Option Carried)) (now : Cell) (seen : cell_of k es node ≡ now) where
+  pub takes_over : (fs : List (Option Carried)) (found : Option (Bor (Option Carried))) (slot : ℕ) → slot ≡ length es
+      → MatchOption found (slice_get (log_after (world_of carried_size s) k) slot ≡ None) (λ (e : Bor (Option Carried)). slice_get (log_after (world_of carried_size s) k) slot ≡ Some e.now)
+      → (result : Result Bool StepFault) → AddsEntry es fs (option_map (λ (e : Bor (Option Carried)). e.now) found) result
+      → ForOk (world_of carried_size s) (λ w. IsSome (slice_get w.nodes now.at) → TakesOver now (cell_of k fs node) (slice_get (log w now.at) (length now.entries)) result)
+  takes_over fs found slot is shown result adds = λ w d there.
+      let next : option_map (λ (e : Bor (Option Carried)). e.now) found ≡ slice_get (log w k) (length es) =
+      shown_is (log_after (world_of carried_size s) k) slot found shown ∙ ap (λ (r : Result (World Carried) StepFault). slice_get (log_after r k) slot) d ∙ ap (λ (i : ℕ). slice_get (log w k) i) is in
+      subst (λ (c : Cell). TakesOver c (cell_of k fs node) (slice_get (log w c.at) (length c.entries)) result) seen
+      (subst (λ (o : Option (Option Carried)). TakesOver (cell_of k es node) (cell_of k fs node) o result) next (adds_takes k node es fs (option_map (λ (e : Bor (Option Carried)). e.now) found) result adds))
+
+  -- there is such a node
+  pub there_is : {A : Type 0} (r : Result A StepFault) (x : A) → r ≡ Ok x → ForOk (world_of carried_size s) (λ w. slice_get w.nodes k ≡ None → r ≡ Err NoNode) → (P : Type 0) → ForOk (world_of carried_size s) (λ w. slice_get w.nodes now.at ≡ None → P)
+  there_is {A} r x is no_node P = λ w d none. (let no : Ok x ≡ Err NoNode = sym is ∙ no_node w d (ap (λ (c : Cell). slice_get w.nodes c.at) seen ∙ none) in cc)
+
+  -- there is none
+  pub none_is : {A : Type 0} (r : Result A StepFault) (fault : StepFault) → r ≡ Err fault → ForOk (world_of carried_size s) (λ w. slice_get w.nodes k ≡ None → r ≡ Err NoNode)
+      → (new : Cell) → new ≡ now → ForOk (world_of carried_size s) (λ w. slice_get w.nodes now.at ≡ None → (let a : Result Bool StepFault = Err fault in a ≡ Err NoNode) × (new ≡ now))
+  none_is {A} r fault is no_node new same = λ w d none.
+      let both : (let a : Result A StepFault = Err fault in a) ≡ Err NoNode = sym is ∙ no_node w d (ap (λ (c : Cell). slice_get w.nodes c.at) seen ∙ none) in
+      let one : fault ≡ NoNode = cc in
+      (ap (λ (f : StepFault). let a : Result Bool StepFault = Err f in a) one, same)
+
+  pub none_takes : {A : Type 0} (r : Result A StepFault) (fault : StepFault) → r ≡ Err fault → ForOk (world_of carried_size s) (λ w. IsSome (slice_get w.nodes k) → IsOk r) → (P : World Carried → Type 0)
+      → ForOk (world_of carried_size s) (λ w. IsSome (slice_get w.nodes now.at) → P w)
+  none_takes {A} r fault is node P = λ w d there. (let no : false ≡ true = subst (λ (a : Result A StepFault). IsOk a) is (node w d (subst (λ (c : Cell). IsSome (slice_get w.nodes c.at)) (sym seen) there)) in cc)
 
 -- Entries found one by one.
 

@@ -7,8 +7,8 @@ use Rattle.library.specs.declared.entry.Entry.{Entry}
 use Rattle.library.specs.declared.verdict.Verdict.{Verdict}
 use Rattle.library.specs.LibraryOf.{Applies}
 use Rattle.world.specs.declared.carried.Carried.{Carried}
-use Rattle.world.specs.declared.fault.StepFault.{StepFault}
-use Rattle.world.specs.declared.fault.StepFault.TheVariants.{Memory}
+use Rattle.net.specs.declared.fault.StepFault.{StepFault}
+use Rattle.net.specs.declared.fault.StepFault.TheVariants.{Memory}
 use Rattle.world.specs.Carried.{entries_of}
 use Rattle.world.specs.Replicas.{NodeLibrary, new_library, IsOfLog}
 
@@ -25,35 +25,24 @@ pub record IsCell (c : Cell) : Type 0 where
   pub few : length c.entries ≤ SLOTS
   pub of_entries : IsOfLog (entries_of c.entries) c.node
 
--- the next entry is taken over, or there is none; or there is no memory, and nothing is taken over
+-- the next entry is taken over, or there is none; or there is no memory for it, and nothing is taken over
 abbrev pub TakesOver : Cell → Cell → Option (Option Carried) → Result Bool StepFault → Type 0
 TakesOver old new (Some entry) (Ok true) = new ≡ record old { entries = old.entries ++ entry ∷ [] }
 TakesOver old new None (Ok true) = ⊥
 TakesOver old new None (Ok false) = new ≡ old
 TakesOver old new (Some entry) (Ok false) = ⊥
 TakesOver old new (Some entry) (Err fault) = (fault ≡ Memory) × (new ≡ old)
-TakesOver old new None (Err fault) = (fault ≡ Memory) × (new ≡ old)
+TakesOver old new None (Err fault) = ⊥
 
--- the entry that was shown is added, or there is none; or what was met is answered, or there is no memory, and nothing is added
-abbrev pub AddsEntry : List (Option Carried) → List (Option Carried) → Result (Option (Option Carried)) StepFault → Result Bool StepFault → Type 0
-AddsEntry old new (Ok (Some entry)) (Ok true) = new ≡ old ++ entry ∷ []
-AddsEntry old new (Ok (Some entry)) (Ok false) = ⊥
-AddsEntry old new (Ok (Some entry)) (Err fault) = (fault ≡ Memory) × (new ≡ old)
-AddsEntry old new (Ok None) (Ok true) = ⊥
-AddsEntry old new (Ok None) (Ok false) = new ≡ old
-AddsEntry old new (Ok None) (Err fault) = ⊥
-AddsEntry old new (Err met) (Ok done) = ⊥
-AddsEntry old new (Err met) (Err fault) = (fault ≡ met) × (new ≡ old)
+-- the same of the entries alone
+abbrev pub AddsEntry : List (Option Carried) → List (Option Carried) → Option (Option Carried) → Result Bool StepFault → Type 0
+AddsEntry old new (Some entry) (Ok true) = new ≡ old ++ entry ∷ []
+AddsEntry old new (Some entry) (Ok false) = ⊥
+AddsEntry old new (Some entry) (Err fault) = (fault ≡ Memory) × (new ≡ old)
+AddsEntry old new None (Ok true) = ⊥
+AddsEntry old new None (Ok false) = new ≡ old
+AddsEntry old new None (Err fault) = ⊥
 
 -- the entry that is applied next, if it is taken over
 abbrev pub next_entry : Cell → Option (Option Entry)
 next_entry c = slice_get (entries_of c.entries) c.node.applied
-
--- the entry is applied with this verdict, or there is none; or there is no memory, and the library stays at its entry
-abbrev pub AppliesNext : NodeLibrary → NodeLibrary → Option (Option Entry) → Result (Option Verdict) StepFault → Type 0
-AppliesNext old new None (Ok None) = new ≡ old
-AppliesNext old new None (Ok (Some verdict)) = ⊥
-AppliesNext old new None (Err fault) = ⊥
-AppliesNext old new (Some entry) (Ok None) = ⊥
-AppliesNext old new (Some entry) (Ok (Some verdict)) = Applies old.library entry verdict new.library × (new.applied ≡ old.applied + 1)
-AppliesNext old new (Some entry) (Err fault) = (fault ≡ Memory) × (new ≡ old)

@@ -1,24 +1,27 @@
 //! A node's own part: the entries that were taken over from its log, and the library of those applied.
 ghost use Rattle.std.specs.Prelude.{◌≡◌, ◌↔◌, IsTrue, ◌≤◌, ◌<◌, ℕ, Ok, Err, Some, None, length, slice_get, option_map, IsSome, IfOk, OnOk, OnErr, IsOkUnless};
 ghost use Rattle.std.specs.Result.{ForOk};
-ghost use Rattle.slots.specs.declared.slots.TheConstants.{SLOTS};
-ghost use Rattle.library.specs.LibraryOf.{Applies};
 ghost use Rattle.library.specs.Listed.{listed};
-ghost use Rattle.world.specs.declared.fault.StepFault.TheVariants.{NoNode};
-ghost use Rattle.world.specs.World.{World, log};
-ghost use Rattle.world.specs.Carried.{carried_size, entry_of};
-ghost use Rattle.cluster.specs.Switch.{world_of, Restarts};
-ghost use Rattle.cluster.specs.Belongs.{Belongs, OthersStay};
-ghost use Rattle.cluster.specs.Cell.{Cell, new_cell, IsCell, AddsEntry, TakesOver, AppliesNext, next_entry};
+ghost use Rattle.net.specs.declared.fault.StepFault.TheVariants.{NoNode};
+ghost use Rattle.net.specs.World.{World, log};
+ghost use Rattle.world.specs.Carried.{carried_size};
+ghost use Rattle.world.specs.Replicas.{AppliesNext};
+ghost use Rattle.net.specs.declared.event.Event.TheVariants.{Offer};
+ghost use Rattle.switch.specs.Switch.{world_of, Acts, Restarts};
+ghost use Rattle.switch.specs.Belonging.{OthersStay, StaysBelonging};
+ghost use Rattle.cluster.specs.Belongs.{Belongs};
+ghost use Rattle.cluster.specs.Cell.{Cell, new_cell, IsCell, AddsEntry, TakesOver, next_entry};
 
-use crate::switch::Switch;
-use library::{Library, Listed, Verdict};
+use crate::log::begins_log;
+use library::{Entry, Library, Listed, Verdict};
+use net::StepFault;
 use std::alloc::{AllocError, Global};
 use std::marker::Model;
 use std::thread::Threads;
-use synod::Keep;
-use verify_pool::{Gate, Workers};
-use world::{Carried, StepFault};
+use switch::Switch;
+use synod::{Keep, copy_value};
+use verify_pool::Gate;
+use world::{Carried, Replica};
 
 /// What node `at` has taken over of its log, and its library: that of the first entries taken over, as many as were applied.
 ///
@@ -28,8 +31,7 @@ pub struct NodeCell {
     alloc: Global,
     at: u8,
     entries: Vec<Option<Carried>>,
-    applied: u32,
-    library: Library,
+    replica: Replica,
 }
 
 impl Model for NodeCell {
@@ -37,9 +39,9 @@ impl Model for NodeCell {
 
     ghost Value = { Cell };
 
-    ghost view = { λ c. record { at = c.at; entries = c.entries.items; node = record { applied = c.applied; library = c.library.replica } } };
+    ghost view = { λ c. record { at = c.at; entries = c.entries.items; node = c.replica } };
 
-    ghost invariant = { λ c. IsCell (record { at = c.at; entries = c.entries.items; node = record { applied = c.applied; library = c.library.replica } }) };
+    ghost invariant = { λ c. IsCell (record { at = c.at; entries = c.entries.items; node = c.replica }) };
 }
 
 impl NodeCell {
@@ -51,8 +53,7 @@ impl NodeCell {
             alloc,
             at,
             entries: Vec::new(alloc),
-            applied: 0,
-            library: Library::new(alloc),
+            replica: Replica::new(alloc),
         }
     }
 
@@ -68,14 +69,14 @@ impl NodeCell {
         ensures library { result.now.replica ≡ self.now.node.library }
         ensures of_entries { IsCell self.now }
     {
-        &self.library
+        self.replica.library()
     }
 
     /// Whether an entry that was taken over is still to be applied.
     pub fn is_behind(&self) -> bool
         ensures { IsTrue result ↔ self.now.node.applied < length self.now.entries }
     {
-        (self.applied as usize) < self.entries.len()
+        (self.replica.applied() as usize) < self.entries.len()
     }
 }
 
@@ -85,12 +86,26 @@ impl NodeCell {
 pub fn belongs<K: Keep<Carried>>(cell: &NodeCell, switch: &Switch<Carried, K>) -> bool
     ensures { IsTrue result ↔ Belongs cell.now switch.now }
 {
-    switch.begins_log(cell.at, &cell.entries)
+    begins_log(switch, cell.at, &cell.entries)
+}
+
+/// An entry is offered to node `k`. It answers the count of the packets posted so far.
+///
+/// Errors: as of `begin_on`.
+pub fn offer_on<K: Keep<Carried>>(
+    switch: &mut Switch<Carried, K>,
+    k: u8,
+    entry: Entry,
+) -> Result<u64, StepFault>
+    ensures acts { ForOk (world_of carried_size switch.old) (λ world. Acts carried_size world switch.old switch.new (Offer k (record { 0 = entry })) result) }
+    ensures belonging { StaysBelonging carried_size switch.old switch.new }
+{
+    switch.offer(k, Carried(entry))
 }
 
 /// Takes over the next entry of the node's log, and answers whether there is one.
 ///
-/// Errors: `NoNode` where the switch has no such node; else `Memory`, and nothing is taken over.
+/// Errors: `NoNode` where the switch has no such node; else `Memory`, where there is one, and nothing is taken over.
 pub fn take_on<K: Keep<Carried>>(
     cell: &mut NodeCell,
     switch: &Switch<Carried, K>,
@@ -100,24 +115,29 @@ pub fn take_on<K: Keep<Carried>>(
     ensures belongs { Belongs cell.old switch.now → Belongs cell.new switch.now }
 {
     let slot = cell.entries.len() as u32;
-    let next = switch.entry(cell.at, slot);
+    let next = match switch.entry(cell.at, slot) {
+        Ok(next) => next,
+        Err(fault) => return Err(fault),
+    };
     add_entry(&mut cell.entries, next)
 }
 
-/// Adds the entry that is next, where there is one.
+/// Adds a copy of the entry that is next, where there is one.
 fn add_entry(
     entries: &mut Vec<Option<Carried>>,
-    next: Result<Option<Option<Carried>>, StepFault>,
+    next: Option<&Option<Carried>>,
 ) -> Result<bool, StepFault>
-    ensures { AddsEntry entries.old.items entries.new.items next result }
+    ensures { AddsEntry entries.old.items entries.new.items (option_map (λ e. e.now) next.entry) result }
 {
-    match next {
-        Ok(Some(entry)) => match entries.push(entry) {
-            Ok(()) => Ok(true),
-            Err(_) => Err(StepFault::Memory),
-        },
-        Ok(None) => Ok(false),
-        Err(fault) => Err(fault),
+    let Some(entry) = next else {
+        return Ok(false);
+    };
+    let Ok(copy) = copy_value(entry) else {
+        return Err(StepFault::Memory);
+    };
+    match entries.push(copy) {
+        Ok(()) => Ok(true),
+        Err(_) => Err(StepFault::Memory),
     }
 }
 
@@ -128,8 +148,8 @@ pub fn apply_on(cell: &mut NodeCell) -> Result<Option<Verdict>, StepFault>
     ensures applies { AppliesNext cell.old.node cell.new.node (next_entry cell.old) result }
     ensures rest { cell.new ≡ record cell.old { node = cell.new.node } }
 {
-    let next = entry_at(&cell.entries, cell.applied);
-    apply_next(&mut cell.library, &mut cell.applied, next)
+    let next = entry_at(&cell.entries, cell.replica.applied());
+    cell.replica.apply_next(next)
 }
 
 /// Applies the next of the entries taken over as `apply_on` does, its proofs checked by some workers side by side. Each passes the
@@ -146,15 +166,8 @@ pub fn apply_on_with<G: Gate + Sync, R: Threads + Sync>(
     ensures applies { AppliesNext cell.old.node cell.new.node (next_entry cell.old) result }
     ensures rest { cell.new ≡ record cell.old { node = cell.new.node } }
 {
-    let next = entry_at(&cell.entries, cell.applied);
-    apply_next_with(
-        rt,
-        &mut cell.library,
-        &mut cell.applied,
-        next,
-        workers,
-        gate,
-    )
+    let next = entry_at(&cell.entries, cell.replica.applied());
+    cell.replica.apply_next_with(rt, next, workers, gate)
 }
 
 /// The entry of that slot, if it is taken over.
@@ -164,79 +177,6 @@ fn entry_at(entries: &[Option<Carried>], slot: u32) -> Option<&Option<Carried>>
     entries.get(slot as usize)
 }
 
-/// Applies the entry that is next, where there is one.
-fn apply_next(
-    library: &mut Library,
-    applied: &mut u32,
-    next: Option<&Option<Carried>>,
-) -> Result<Option<Verdict>, StepFault>
-    requires { IsSome next → applied.old < SLOTS }
-    ensures { AppliesNext (record { applied = applied.old; library = library.old.replica }) (record { applied = applied.new; library = library.new.replica }) (option_map (λ e. entry_of e.now) next.entry) result }
-{
-    let Some(entry) = next else {
-        return Ok(None);
-    };
-    match apply_entry(library, entry) {
-        Ok(verdict) => {
-            *applied += 1;
-            Ok(Some(verdict))
-        }
-        Err(_) => Err(StepFault::Memory),
-    }
-}
-
-/// Applies the entry that is next, where there is one, by some workers.
-fn apply_next_with<G: Gate + Sync, R: Threads + Sync>(
-    rt: &R,
-    library: &mut Library,
-    applied: &mut u32,
-    next: Option<&Option<Carried>>,
-    workers: usize,
-    gate: &G,
-) -> Result<Option<Verdict>, StepFault>
-    requires place { IsSome next → applied.old < SLOTS }
-    requires workers { (1 ≤ workers) × (workers ≤ 16) }
-    ensures { AppliesNext (record { applied = applied.old; library = library.old.replica }) (record { applied = applied.new; library = library.new.replica }) (option_map (λ e. entry_of e.now) next.entry) result }
-{
-    let Some(entry) = next else {
-        return Ok(None);
-    };
-    let Ok(verdict) = apply_entry_with(rt, library, entry, workers, gate) else {
-        return Err(StepFault::Memory);
-    };
-    *applied += 1;
-    Ok(Some(verdict))
-}
-
-/// Applies an entry of a log, or a no-operation.
-fn apply_entry(library: &mut Library, entry: &Option<Carried>) -> Result<Verdict, AllocError>
-    ensures step { IfOk result (λ verdict. Applies library.old.replica (entry_of entry.now) verdict library.new.replica) }
-    ensures same { OnErr result (library.new.replica ≡ library.old.replica) }
-{
-    match entry {
-        Some(carried) => library.apply(Some(&carried.0)),
-        None => library.apply(None),
-    }
-}
-
-/// Applies an entry of a log, or a no-operation, by some workers.
-fn apply_entry_with<G: Gate + Sync, R: Threads + Sync>(
-    rt: &R,
-    library: &mut Library,
-    entry: &Option<Carried>,
-    workers: usize,
-    gate: &G,
-) -> Result<Verdict, AllocError>
-    requires { (1 ≤ workers) × (workers ≤ 16) }
-    ensures step { IfOk result (λ verdict. Applies library.old.replica (entry_of entry.now) verdict library.new.replica) }
-    ensures same { OnErr result (library.new.replica ≡ library.old.replica) }
-{
-    match entry {
-        Some(carried) => library.apply_with(rt, Some(&carried.0), Workers::of(workers), gate),
-        None => library.apply_with(rt, None, Workers::of(workers), gate),
-    }
-}
-
 /// The assertions of the cell's library, in order.
 ///
 /// Errors: a growth was refused. Cost: that of all statements.
@@ -244,7 +184,7 @@ pub fn list_on(cell: &NodeCell) -> Result<Vec<Listed>, AllocError>
     ensures lists { IfOk result (λ list. list.items ≡ listed cell.now.node.library.statements) }
     ensures of_entries { IsCell cell.now }
 {
-    cell.library.list()
+    cell.replica.library().list()
 }
 
 /// Restarts the cell's node: it is up with the record that its keep has, and the cell is as new: nothing is taken over, and the
@@ -273,7 +213,6 @@ impl NodeCell {
         ensures { self.new ≡ new_cell self.old.at }
     {
         self.entries.clear();
-        self.applied = 0;
-        self.library = Library::new(self.alloc);
+        self.replica = Replica::new(self.alloc);
     }
 }

@@ -2,7 +2,7 @@
 ghost use Rattle.cluster.specs.Belongs.{Belongs, IsAhead};
 
 use crate::cell::NodeCell;
-use crate::switch::Switch;
+use switch::Switch;
 use synod::Keep;
 use world::Carried;
 

@@ -1,24 +1,21 @@
-//! The nodes of one agreement, each with a keep that may fail, and what each has taken over of its log.
+//! The nodes of one agreement on the entries of libraries, each with what it has taken over of its log.
 //!
 //! The contract that the crates above use is that of the calls that are lent locked values: each of `begin_on`, `offer_on`,
-//! `deliver_on` and `restart_on` is one event of a history that is taken (`Acts`, `Restarts` of `specs/Switch.antt`); what
+//! `deliver_on` and `restart_on` is one event of a history that is taken (`Acts`, `Restarts` of `switch/specs/Switch.antt`); what
 //! `Switch::history` tells is true of every switch, and `NodeCell::library` of every cell. Cells and switch of one `cells` call
 //! stay belonging to each other, and of two such cells `compare_on` tells which library begins the other.
 //!
-//! Read `memory_keep`, `seat` and `switch`, then `cell` and `compare`; the definitions are specs/Seat, Switch, Cell and Belongs.
+//! Read `memory_keep`, `cell` and `log`, then `compare`; the definitions are specs/Cell and Belongs.
 #![tactic(auto)]
 
 mod cell;
 mod compare;
-mod copies;
+mod log;
 mod memory_keep;
 mod parts;
-mod seat;
-mod standing;
-mod switch;
 
-pub use cell::{NodeCell, apply_on, apply_on_with, belongs, list_on, restart_on, take_on};
+pub use cell::{NodeCell, apply_on, apply_on_with, belongs, list_on, offer_on, restart_on, take_on};
 pub use compare::{Ahead, compare_on};
 pub use memory_keep::MemoryKeep;
 pub use parts::cells;
-pub use switch::{Switch, begin_on, deliver_on, offer_on};
+pub use switch::{Switch, begin_on, deliver_on};

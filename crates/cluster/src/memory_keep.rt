@@ -5,11 +5,10 @@ ghost use Rattle.slots.specs.declared.slots.TheConstants.{SLOTS};
 ghost use Rattle.synod.specs.Record.{new_kept, HasRoomFor};
 ghost use Rattle.cluster.specs.Entries.{with_entry};
 
-use crate::copies::{copy_change, copy_held};
 use scope::Steps;
 use slots::SLOTS;
 use std::alloc::{AllocError, Global};
-use synod::{Change, Failed, Keep, Record, Value};
+use synod::{Change, Failed, Held, Keep, Record, Value, copy_value};
 
 /// An acceptor's store that lasts as long as the process. Where it finds no memory, it fails.
 #[derive(Drop)]
@@ -119,4 +118,28 @@ fn copy_slot<V: Value>(
     copy.room(slot)?;
     copy.change_by(Some(Change::Entry { slot, held }));
     Ok(())
+}
+
+/// The same ballot and value.
+fn copy_held<V: Value>(held: &Held<V>) -> Result<Held<V>, AllocError>
+    ensures { IfOk result (λ copy. copy ≡ held.now) }
+{
+    Ok(Held {
+        ballot: held.ballot,
+        value: copy_value(&held.value)?,
+    })
+}
+
+/// The same change.
+fn copy_change<V: Value>(change: &Change<V>) -> Result<Change<V>, AllocError>
+    ensures { IfOk result (λ copy. copy ≡ change.now) }
+{
+    match change {
+        Change::Round(round) => Ok(Change::Round(*round)),
+        Change::Promise(ballot) => Ok(Change::Promise(*ballot)),
+        Change::Entry { slot, held } => Ok(Change::Entry {
+            slot: *slot,
+            held: copy_held(held)?,
+        }),
+    }
 }

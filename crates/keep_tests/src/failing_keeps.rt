@@ -3,7 +3,8 @@ use crate::fuse::{Fuse, restart_first, three};
 use cluster::{Switch, begin_on};
 use std::alloc::Global;
 use synod::Body;
-use world::{Carried, Event, StepFault};
+use net::{Event, StepFault};
+use world::Carried;
 
 #[test]
 fn a_store_fails(rt: HostRuntime) {

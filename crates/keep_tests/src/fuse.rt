@@ -8,7 +8,8 @@ use library::{Entry, Submission};
 use scope::Steps;
 use std::alloc::{AllocError, Global};
 use synod::{Change, Failed, Keep, Record, Weights};
-use world::{Carried, StepFault};
+use net::StepFault;
+use world::Carried;
 
 /// The text of author 7 under that serial number, as an entry.
 pub fn entry(alloc: Global, serial: u64, text: &[u8]) -> Result<Entry, AllocError> {

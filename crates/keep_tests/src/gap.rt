@@ -7,7 +7,8 @@ use cluster::{
     offer_on, take_on,
 };
 use std::alloc::Global;
-use world::{Carried, StepFault};
+use net::StepFault;
+use world::Carried;
 
 /// A step of the row: a ballot or an offer of one of two texts, at node 0, or a delivery.
 #[derive(Clone, Copy)]

@@ -3,7 +3,8 @@ use crate::fuse::entry;
 use library::Entry;
 use std::alloc::{AllocError, Global};
 use synod::Weights;
-use world::{Event, StepFault, World, run};
+use net::{Event, StepFault};
+use world::{World, run};
 
 /// The packets that are delivered after the ballot and after the two offers of the row of a gap in the log.
 const DELIVERED: [[u64; 4]; 3] = [[0, 1, 3, 4], [5, 6, 8, 9], [11, 14, 19, 22]];

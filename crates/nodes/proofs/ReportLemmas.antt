@@ -1,8 +1,8 @@
 -- What a report counts: one node more.
 use Rattle.std.proofs.Common.{◌≡◌, ℕ, ◌+◌, List, [], ◌∷◌, ◌++◌, ap, sym, ◌∙◌, add-one, sum}
 use Rattle.std.proofs.lemmas.List.Sums.{sum_by_push}
-use Rattle.world.specs.World.{World}
-use Rattle.world.specs.declared.event.Event.{Event}
+use Rattle.net.specs.World.{World}
+use Rattle.net.specs.declared.event.Event.{Event}
 use Rattle.nodes.specs.Report.{own_events, own_counts}
 
 pub one_count : (total count : ℕ) (old new : List ℕ) → total ≡ sum old → new ≡ old ++ count ∷ [] → total + count ≡ sum new

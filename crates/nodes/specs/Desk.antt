@@ -8,7 +8,7 @@ use Rattle.library.specs.LibraryOf.{status}
 use Rattle.library.specs.Listed.{listed}
 use Rattle.world.specs.declared.carried.Carried.{Carried}
 use Rattle.cluster.specs.declared.compare.Ahead.{Ahead}
-use Rattle.cluster.specs.Switch.{Shared}
+use Rattle.switch.specs.Switch.{Shared}
 use Rattle.cluster.specs.Belongs.{Belongs, IsAhead}
 use Rattle.cluster.specs.Cell.{Cell, IsCell}
 

@@ -3,12 +3,12 @@
 -- The code goes through the history once for each node.
 use Rattle.std.specs.Prelude.{◌≡◌, ℕ, zero, suc, ◌+◌, ◌==◌, Bool, false, List, [], ◌∷◌, ◌++◌, Option, Some, None, if◌then◌else◌}
 use Rattle.world.specs.declared.carried.Carried.{Carried}
-use Rattle.world.specs.declared.event.Event.{Event}
-use Rattle.world.specs.World.{World}
-use Rattle.world.specs.Agree.{IsAfter}
+use Rattle.net.specs.declared.event.Event.{Event}
+use Rattle.net.specs.World.{World}
+use Rattle.net.specs.Agree.{IsAfter}
 use Rattle.world.specs.Carried.{carried_size}
-use Rattle.world.specs.KeptPart.{node_of}
-use Rattle.cluster.specs.Switch.{Shared}
+use Rattle.net.specs.KeptPart.{node_of}
+use Rattle.switch.specs.Switch.{Shared}
 
 abbrev pub is_node : ℕ → Option ℕ → Bool
 is_node k None = false

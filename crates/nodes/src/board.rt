@@ -2,14 +2,15 @@
 ghost use Rattle.std.specs.Prelude.{◌≡◌};
 ghost use Rattle.std.specs.Result.{ForOk};
 ghost use Rattle.world.specs.Carried.{carried_size};
-ghost use Rattle.cluster.specs.Switch.{world_of};
+ghost use Rattle.switch.specs.Switch.{world_of};
 ghost use Rattle.nodes.specs.Report.{is_own};
 
 use cluster::Switch;
 use std::alloc::Global;
 use std::mem;
 use synod::Keep;
-use world::{Carried, Event, MOST_EVENTS, StepFault};
+use net::{Event, MOST_EVENTS, StepFault};
+use world::Carried;
 
 /// A packet that was posted, and the node that it is for.
 #[derive(Clone, Copy)]

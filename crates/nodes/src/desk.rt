@@ -1,6 +1,6 @@
 //! What any thread may call.
 ghost use Rattle.std.specs.Prelude.{◌≡◌, ◌≤◌, ◌<◌, ◌⊎◌, ℕ, Ok, Err, IsOk, IfOk, IsOkUnless};
-ghost use Rattle.world.specs.declared.fault.StepFault.TheVariants.{NoNode, Memory, Apart};
+ghost use Rattle.net.specs.declared.fault.StepFault.TheVariants.{NoNode, Memory, Apart};
 ghost use Rattle.cluster.specs.declared.compare.Ahead.TheVariants.{Same};
 ghost use Rattle.nodes.specs.Desk.{IsListed, IsStatus, IsCompared};
 
@@ -11,7 +11,8 @@ use std::marker::Model;
 use std::sync::{Arc, Wait};
 use synod::Keep;
 use verify_pool::Gate;
-use world::{Carried, StepFault};
+use net::StepFault;
+use world::Carried;
 
 /// A desk of a cluster: its calls take the locks themselves, and may wait for them. It is seen as the count of the nodes.
 #[derive(Drop)]
@@ -38,7 +39,7 @@ impl<G: Gate, K: Keep<Carried>> Desk<G, K> {
         }
         let hints = {
             let mut board = self.shared.board.lock(rt);
-            let answer = offer_on(&mut board.switch, k, Carried(entry));
+            let answer = offer_on(&mut board.switch, k, entry);
             board.posts(self.shared.alloc, answer)?
         };
         self.shared.send(rt, &hints);

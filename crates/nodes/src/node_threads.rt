@@ -3,7 +3,7 @@ ghost use Rattle.std.specs.Prelude.{◌≡◌, ◌≤◌, length, vec_len, IfOk,
 ghost use Rattle.std.specs.Arc.{arc_value};
 ghost use Rattle.std.specs.List.{AllByRecursion};
 ghost use Rattle.synod.specs.Record.{new_kept};
-ghost use Rattle.world.specs.declared.fault.StepFault.TheVariants.{Memory};
+ghost use Rattle.net.specs.declared.fault.StepFault.TheVariants.{Memory};
 ghost use Rattle.nodes.specs.Report.{IsReport};
 
 use crate::board::Board;
@@ -21,7 +21,8 @@ use std::thread::{JoinHandle, Threads};
 use std::{mem, thread};
 use synod::{Keep, Weights};
 use verify_pool::Gate;
-use world::{Carried, StepFault};
+use net::StepFault;
+use world::Carried;
 
 /// The node threads. It stays in its thread; where it is dropped and was not stopped, its threads wait on. It is seen as the count
 /// of the nodes.

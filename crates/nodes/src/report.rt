@@ -1,14 +1,15 @@
 //! What the nodes did.
 ghost use Rattle.std.specs.Prelude.{◌≡◌, ◌≤◌, [], length, sum, vec_capacity};
 ghost use Rattle.std.specs.Result.{ForOk};
-ghost use Rattle.world.specs.declared.event.TheConstants.{MOST_EVENTS};
+ghost use Rattle.net.specs.declared.event.TheConstants.{MOST_EVENTS};
 ghost use Rattle.world.specs.Carried.{carried_size};
-ghost use Rattle.cluster.specs.Switch.{world_of};
+ghost use Rattle.switch.specs.Switch.{world_of};
 ghost use Rattle.nodes.specs.Report.{IsReport, own_events};
 
 use crate::board::Board;
 use synod::Keep;
-use world::{Carried, Event};
+use net::Event;
+use world::Carried;
 
 /// What the nodes did: the events of the history, and of each node how many of them were its own, the deliveries of packets
 /// addressed to it included.

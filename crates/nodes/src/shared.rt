@@ -1,7 +1,7 @@
 //! The locks that the threads share.
 ghost use Rattle.std.specs.Prelude.{◌≡◌, ◌≤◌, ◌<◌, ℕ, Err, IsOk, IfOk, IsOkUnless, IsTrue, vec_len};
 ghost use Rattle.cluster.specs.Belongs.{Belongs};
-ghost use Rattle.world.specs.declared.fault.StepFault.TheVariants.{NoNode, Apart};
+ghost use Rattle.net.specs.declared.fault.StepFault.TheVariants.{NoNode, Apart};
 ghost use Rattle.nodes.specs.Desk.{IsCompared};
 
 use crate::board::{Board, Hint};
@@ -13,7 +13,8 @@ use std::sync::{Arc, Mutex, Wait};
 use std::thread::Threads;
 use synod::Keep;
 use verify_pool::{Gate, Place};
-use world::{Carried, StepFault};
+use net::StepFault;
+use world::Carried;
 
 /// What the node threads and the desks share. A node's lock is taken before the switch's, and of two nodes' locks the lower one
 /// first; the senders' lock is never taken while the switch's is held.

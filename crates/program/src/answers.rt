@@ -1,5 +1,5 @@
 //! What a line of a script prints.
-use world::StepFault;
+use net::StepFault;
 
 /// The bytes that the answer of an event or a verdict needs at most.
 pub const ANSWER_ROOM: usize = 128;

@@ -2,7 +2,7 @@
 ghost use Rattle.std.specs.Prelude.{◌≡◌, length, vec_len, IfOk, IsOkUnless};
 ghost use Rattle.std.specs.List.{AllByRecursion};
 ghost use Rattle.synod.specs.Record.{new_kept};
-ghost use Rattle.world.specs.declared.fault.StepFault.TheVariants.{Memory};
+ghost use Rattle.net.specs.declared.fault.StepFault.TheVariants.{Memory};
 
 use cluster::MemoryKeep;
 use commands::WorkerCount;
@@ -12,7 +12,8 @@ use std::sync::{Arc, Wait};
 use std::thread::Threads;
 use synod::{Keep, Weights};
 use verify_pool::OpenGate;
-use world::{Carried, StepFault};
+use net::StepFault;
+use world::Carried;
 
 /// How often a cluster that finds no memory to stop is asked again.
 const MOST_RETRIES: u32 = 1000;

@@ -7,7 +7,8 @@ use scripts::PlayLine;
 use std::alloc::Global;
 use std::io::{Read, Write};
 use synod::Weights;
-use world::{Event, StepFault, World};
+use net::{Event, StepFault};
+use world::World;
 
 /// Reads a script, and prints what each line of it answers; the answer is the exit status.
 pub fn play<I: Read, O: Write>(

@@ -1,6 +1,6 @@
 //! The command `serve`: a script at the desk of a cluster, whose nodes are threads.
 ghost use Rattle.std.specs.Prelude.{◌≡◌, ◌++◌, ◌≤◌, ◌<◌, List, Err, OnOk, IfOk, IsOk};
-ghost use Rattle.world.specs.declared.fault.StepFault.TheVariants.{NoNode};
+ghost use Rattle.net.specs.declared.fault.StepFault.TheVariants.{NoNode};
 ghost use Rattle.library.specs.declared.listed.Listed.{Listed};
 ghost use Rattle.nodes.specs.Desk.{IsListed, IsStatus};
 ghost use Rattle.printed.specs.Printed.{list_text};
@@ -19,7 +19,7 @@ use std::sync::Wait;
 use std::thread;
 use std::thread::Threads;
 use synod::Weights;
-use world::StepFault;
+use net::StepFault;
 
 /// How often `settle` asks.
 const MOST_ASKS: u32 = 10_000_000;

@@ -14,6 +14,14 @@ pub joined-push : {T : Type 0} (pages : List (List T)) (page : List T) → joine
 joined-push [] page = append-nil page
 joined-push (first ∷ pages) page = ap (λ slots. first ++ slots) (joined-push pages page) ∙ sym (append_assoc first (joined pages) page)
 
+pub joined-append : {T : Type 0} (pages more : List (List T)) → joined (pages ++ more) ≡ joined pages ++ joined more
+joined-append [] more = refl
+joined-append (first ∷ pages) more = ap (λ slots. first ++ slots) (joined-append pages more) ∙ sym (append_assoc first (joined pages) (joined more))
+
+pub whole-append : {T : Type 0} (pages more : List (List T)) → AreWhole pages → AreWhole more → AreWhole (pages ++ more)
+whole-append [] more whole rest = rest
+whole-append (first ∷ pages) more whole rest = (whole.0, whole-append pages more whole.1 rest)
+
 pub whole-push : {T : Type 0} (pages : List (List T)) (page : List T) → AreWhole pages → length page ≡ 256 → AreWhole (pages ++ page ∷ [])
 whole-push [] page whole one = (one, tt)
 whole-push (first ∷ pages) page whole one = (whole.0, whole-push pages page whole.1 one)

@@ -1,6 +1,7 @@
 //! Pages, one behind the other, seen as one list of slots.
-ghost use Rattle.std.specs.Prelude.{◌≡◌, ◌<◌, ◌*◌, ◌++◌, [], Some, None, OnOk, OnErr, length, slice_set, replicate, MatchOption};
+ghost use Rattle.std.specs.Prelude.{◌≡◌, ◌<◌, ◌*◌, ◌++◌, [], Some, None, IfOk, OnOk, OnErr, length, slice_set, replicate, MatchOption};
 ghost use Rattle.slots.specs.FiniteMap.{entry_at};
+ghost use Rattle.slots.specs.Pages.{joined, AreWhole};
 
 use crate::page::{PAGE_SLOTS, Page};
 use std::alloc::{AllocError, Global};
@@ -42,13 +43,13 @@ impl<T: Drop> Pages<T> {
         self.pages.len()
     }
 
-    /// Adds a page with no entry.
-    pub fn add(&mut self) -> Result<(), AllocError>
-        ensures added { OnOk result (self.new ≡ self.old ++ replicate PAGE_SLOTS None) }
+    /// Adds so many pages with no entry.
+    pub fn add(&mut self, count: usize) -> Result<(), AllocError>
+        ensures added { OnOk result (self.new ≡ self.old ++ replicate (PAGE_SLOTS * count) None) }
         ensures same { OnErr result (self.new ≡ self.old) }
     {
-        let page = Page::new(self.alloc)?;
-        self.pages.push(page)?;
+        let mut more = empty_pages(self.alloc, count)?;
+        self.pages.append(&mut more)?;
         Ok(())
     }
 
@@ -77,4 +78,17 @@ impl<T: Drop> Pages<T> {
     {
         self.pages.clear();
     }
+}
+
+/// So many pages with no entry.
+fn empty_pages<T: Drop>(alloc: Global, count: usize) -> Result<Vec<Page<T>>, AllocError>
+    ensures whole { IfOk result (λ pages. AreWhole pages.items) }
+    ensures empty { IfOk result (λ pages. joined pages.items ≡ replicate (PAGE_SLOTS * count) None) }
+{
+    let mut pages = Vec::new(alloc);
+    for _page in 0..count {
+        let page = Page::new(alloc)?;
+        pages.push(page)?;
+    }
+    Ok(pages)
 }

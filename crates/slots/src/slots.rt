@@ -1,5 +1,5 @@
 //! The finite map.
-ghost use Rattle.std.specs.Prelude.{◌≡◌, ◌<◌, ◌≤◌, ◌+◌, ◌↔◌, [], drop, max, IsTrue, IsOk, OnOk, Some, None, length, MatchOption};
+ghost use Rattle.std.specs.Prelude.{◌≡◌, ◌<◌, ◌≤◌, ◌+◌, ◌↔◌, [], drop, max, IsTrue, IsOk, OnOk, OnErr, Some, None, length, MatchOption};
 ghost use Rattle.slots.specs.FiniteMap.{entry_at, put_at, front_of, top_of};
 
 use crate::page::PAGE_SLOTS;
@@ -43,7 +43,7 @@ impl<T: Drop> Slots<T> {
         }
     }
 
-    /// Makes room at a slot. The entries stay.
+    /// Makes room at a slot. The entries stay, and where it finds no memory the room too.
     ///
     /// Cost: the pages that it adds.
     pub fn room(&mut self, slot: u32) -> Result<(), AllocError>
@@ -52,11 +52,14 @@ impl<T: Drop> Slots<T> {
         ensures had { slot < self.old.room → IsOk result }
         ensures entries { self.new.entries ≡ self.old.entries }
         ensures room { self.old.room ≤ self.new.room }
+        ensures same { OnErr result (self.new ≡ self.old) }
     {
         let pages = slot as usize / PAGE_SLOTS + 1;
-        while self.pages.count() < pages {
-            self.pages.add()?;
+        let had = self.pages.count();
+        if had >= pages {
+            return Ok(());
         }
+        self.pages.add(pages - had)?;
         Ok(())
     }
 

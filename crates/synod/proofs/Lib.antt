@@ -8,6 +8,7 @@ pub mod PostsLemmas
 pub mod PagesHadLemmas
 pub mod RecordLemmas
 pub mod StepKeeps
+pub mod RoomLemmas
 pub mod NodeLemmas
 pub mod AcceptedLemmas
 pub mod LogLemmas

@@ -15,5 +15,6 @@ pub mod Core
 pub mod PagesHad
 pub mod Plans
 pub mod Said
+pub mod Rooms
 pub mod Ready
 pub mod Heights

@@ -240,6 +240,8 @@ impl<V: Drop> Learner<V> {
         ensures tallies { OnOk result (slot < self.new.tallies_room) }
         ensures learned { OnOk result (slot < self.new.learned_room) }
         ensures state { self.new.state ≡ self.old.state }
+        ensures tallies_room { self.old.tallies_room ≤ self.new.tallies_room }
+        ensures learned_room { self.old.learned_room ≤ self.new.learned_room }
     {
         self.tallies.room(slot)?;
         self.learned.room(slot)

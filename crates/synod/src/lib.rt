@@ -34,5 +34,5 @@ pub use proposer::{Heard, MOST_WAITING, Role};
 pub use ready::Ready;
 pub use record::Record;
 pub use refusal::Refusal;
-pub use value::{MOST_BYTES, Value};
+pub use value::{MOST_BYTES, Value, copy_value};
 pub use weights::{MOST_NODES, MOST_WEIGHT, Weights};

@@ -1,5 +1,5 @@
 //! One node: proposer, acceptor and learner at once.
-ghost use Rattle.std.specs.Prelude.{◌≡◌, ◌<◌, ◌≤◌, IfOk, IsSome, Ok, Err, Some, None, MatchOption, length};
+ghost use Rattle.std.specs.Prelude.{◌≡◌, ◌<◌, ◌≤◌, IfOk, IsOkUnless, IsSome, Ok, Err, Some, None, MatchOption, length};
 ghost use Rattle.std.specs.List.{AllByRecursion};
 
 mod accepting;
@@ -55,6 +55,8 @@ impl<V: Value> NodeCore<V> {
     ghost use Rattle.synod.specs.Step.{IsNode, Keeps, on_body, on_packet, reloaded, restarted};
     ghost use Rattle.synod.specs.Refusals.{Makes};
     ghost use Rattle.synod.specs.Ready.{Readies, IsReadyFor, planned, CanFollow};
+    ghost use Rattle.synod.specs.Rooms.{HasAtLeast};
+    ghost use Rattle.synod.specs.declared.refusal.Refusal.TheVariants.{Memory};
 
     /// Node `me` of a world of such nodes. It takes no memory.
     pub fn new(alloc: Global, me: u8, weights: Weights) -> Self
@@ -84,6 +86,7 @@ impl<V: Value> NodeCore<V> {
     pub fn ready_begin(&mut self) -> Result<Ready<V>, Refusal>
         ensures ready { Readies self.new (begun self.old.node) result }
         ensures node { self.new.node ≡ self.old.node }
+        ensures room { HasAtLeast self.old self.new }
         ensures posts { IfOk result (λ made. AllByRecursion (IsPost (length self.old.node.weights)) made.step.posts) }
     {
         let last = std::cmp::max(self.record.round(), self.record.promise().round);
@@ -101,6 +104,7 @@ impl<V: Value> NodeCore<V> {
     pub fn ready_offer(&mut self, value: V) -> Result<Ready<V>, Refusal>
         ensures ready { Readies self.new (offered V.bytes self.old.node value) result }
         ensures node { self.new.node ≡ self.old.node }
+        ensures room { HasAtLeast self.old self.new }
         ensures posts { IfOk result (λ made. AllByRecursion (IsPost (length self.old.node.weights)) made.step.posts) }
     {
         if value.size() > MOST_BYTES {
@@ -122,6 +126,7 @@ impl<V: Value> NodeCore<V> {
     fn ready_offer_waiting(&mut self, value: V) -> Result<Ready<V>, Refusal>
         ensures ready { Readies self.new (offer_waits self.old.node value) result }
         ensures node { self.new.node ≡ self.old.node }
+        ensures room { HasAtLeast self.old self.new }
         ensures posts { IfOk result (λ made. AllByRecursion (IsPost (length self.old.node.weights)) made.step.posts) }
     {
         if self.learner.front() == SLOTS {
@@ -138,6 +143,7 @@ impl<V: Value> NodeCore<V> {
         requires { IsPacket (length self.old.node.weights) packet.now }
         ensures ready { Readies self.new (Ok (on_packet self.old.node packet.now)) result }
         ensures node { self.new.node ≡ self.old.node }
+        ensures room { HasAtLeast self.old self.new }
         ensures posts { IfOk result (λ made. AllByRecursion (IsPost (length self.old.node.weights)) made.step.posts) }
     {
         prove!(packet.from < self.nodes());
@@ -151,6 +157,7 @@ impl<V: Value> NodeCore<V> {
         requires keeps { Keeps (length self.old.node.weights) (on_body self.old.node from body.now) }
         ensures ready { IfOk result (IsReadyFor self.new (on_body self.old.node from body.now)) }
         ensures node { self.new.node ≡ self.old.node }
+        ensures room { HasAtLeast self.old self.new }
     {
         match body {
             Body::Prepare { ballot, first } => self.ready_prepare(from, *ballot, *first),
@@ -176,9 +183,11 @@ impl<V: Value> NodeCore<V> {
         }
     }
 
-    /// Makes the step that was made ready, and gives its posts. It takes no memory.
+    /// Makes the step that was made ready, and gives its posts. It takes no memory. Other steps may have been made ready
+    /// since, and let go.
     pub fn commit(&mut self, ready: Ready<V>) -> Vec<Packet<V>>
-        requires { ready.before ≡ self.old }
+        requires node { self.old.node ≡ ready.before.node }
+        requires room { HasAtLeast ready.before self.old }
         ensures node { self.new.node ≡ ready.step.node }
         ensures posts { result.items ≡ ready.step.posts }
     {
@@ -268,16 +277,42 @@ impl<V: Value> NodeCore<V> {
         Ok(log)
     }
 
+    /// Makes the growths of a restart, or answers `Memory`: these are its posts, which ask for what may be missed.
+    pub fn ready_restart(&self) -> Result<Vec<Packet<V>>, Refusal>
+        ensures asks { IfOk result (λ posts. posts.items ≡ to_others self.now.node.me self.now.node.weights (Ask 0)) }
+        ensures posts { IfOk result (λ posts. AllByRecursion (IsPost (length self.now.node.weights)) posts.items) }
+        ensures only_memory { IsOkUnless result Memory }
+    {
+        let Ok(posts) = self.ask_all() else {
+            return Err(Refusal::Memory);
+        };
+        Ok(posts)
+    }
+
+    /// Restarts, once that was made ready: the kept part stays, and all else is as at first. It takes no memory.
+    pub fn commit_restart(&mut self)
+        ensures { self.new.node ≡ (restarted self.old.node).node }
+    {
+        self.proposer = Proposer::new(self.alloc);
+        self.learner = Learner::new(self.alloc);
+    }
+
+    /// The same with a loaded record as the kept part.
+    pub fn commit_reload(&mut self, record: Record<V>)
+        ensures { self.new.node ≡ (reloaded self.old.node record.kept).node }
+    {
+        prove!(record.top() <= SLOTS);
+        self.record = record;
+        self.commit_restart();
+    }
+
     /// Restarts: the kept part stays, and all else is as at first. The posts ask for what may be missed.
     pub fn restart(&mut self) -> Result<Vec<Packet<V>>, Refusal>
         ensures makes { Makes self.old.node self.new.node (Ok (restarted self.old.node)) result }
         ensures posts { IfOk result (λ posts. AllByRecursion (IsPost (length self.old.node.weights)) posts.items) }
     {
-        let Ok(posts) = self.ask_all() else {
-            return Err(Refusal::Memory);
-        };
-        self.proposer = Proposer::new(self.alloc);
-        self.learner = Learner::new(self.alloc);
+        let posts = self.ready_restart()?;
+        self.commit_restart();
         Ok(posts)
     }
 
@@ -286,19 +321,15 @@ impl<V: Value> NodeCore<V> {
         ensures makes { Makes self.old.node self.new.node (Ok (reloaded self.old.node record.kept)) result }
         ensures posts { IfOk result (λ posts. AllByRecursion (IsPost (length self.old.node.weights)) posts.items) }
     {
-        prove!(record.top() <= SLOTS);
-        match self.restart() {
-            Ok(posts) => {
-                self.record = record;
-                Ok(posts)
-            }
-            Err(refusal) => Err(refusal),
-        }
+        let posts = self.ready_restart()?;
+        self.commit_reload(record);
+        Ok(posts)
     }
 
     /// The other nodes are asked for the first entry.
     fn ask_all(&self) -> Result<Vec<Packet<V>>, AllocError>
-        ensures { IfOk result (λ posts. posts.items ≡ to_others self.now.node.me self.now.node.weights (Ask 0)) }
+        ensures asks { IfOk result (λ posts. posts.items ≡ to_others self.now.node.me self.now.node.weights (Ask 0)) }
+        ensures posts { IfOk result (λ posts. AllByRecursion (IsPost (length self.now.node.weights)) posts.items) }
     {
         let mut posts = Vec::new(self.alloc);
         post_to_others(&mut posts, self.me, &self.weights, &Said::Ask { slot: 0 })?;

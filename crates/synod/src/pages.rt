@@ -5,6 +5,7 @@ ghost use Rattle.slots.specs.FiniteMap.{entry_at, put_at, front_of};
 ghost use Rattle.synod.specs.declared.packet.Report.{Report};
 ghost use Rattle.synod.specs.Node.{no_pages, pages_from, page_of, with_page};
 ghost use Rattle.synod.specs.PagesHad.{entries_of, rooms_of, put_page};
+ghost use Rattle.synod.specs.Rooms.{RoomsGrow};
 
 use crate::packet::Reports;
 use crate::weights::Weights;
@@ -57,6 +58,7 @@ impl<V: Drop> PagesHad<V> {
         requires page { page < SLOTS }
         ensures ok { OnOk result (page < slice_index_or (rooms_of self.new) node 0) }
         ensures pages { entries_of self.new ≡ entries_of self.old }
+        ensures rooms { RoomsGrow (rooms_of self.old) (rooms_of self.new) }
     {
         let pages = &mut self.by_node[node as usize];
         pages.room(page)

@@ -118,6 +118,7 @@ impl<V: Drop> Proposer<V> {
     ghost use Rattle.slots.specs.declared.slots.TheConstants.{SLOTS};
     ghost use Rattle.synod.specs.PagesHad.{entries_of, rooms_of};
     ghost use Rattle.synod.specs.Plans.{proposed, HasRoomToPropose};
+    ghost use Rattle.synod.specs.Rooms.{RoomsGrow};
 
     /// At no ballot, with nothing heard and nothing waiting. It takes no memory.
     pub(crate) fn new(alloc: Global) -> Self
@@ -170,7 +171,9 @@ impl<V: Drop> Proposer<V> {
         requires page { page < SLOTS }
         ensures ok { OnOk result (page < slice_index_or self.new.page_rooms node 0) }
         ensures state { self.new.state ≡ self.old.state }
+        ensures pages { RoomsGrow self.old.page_rooms self.new.page_rooms }
         ensures heard { self.new.heard_room ≡ self.old.heard_room }
+        ensures waiting { self.new.waiting_room ≡ self.old.waiting_room }
     {
         self.pages.room(node, page)
     }
@@ -179,6 +182,9 @@ impl<V: Drop> Proposer<V> {
     pub(crate) fn room_to_wait(&mut self) -> Result<(), AllocError>
         ensures ok { OnOk result (length self.new.state.waiting < self.new.waiting_room) }
         ensures state { self.new.state ≡ self.old.state }
+        ensures pages { self.new.page_rooms ≡ self.old.page_rooms }
+        ensures heard { self.new.heard_room ≡ self.old.heard_room }
+        ensures waiting { self.old.waiting_room ≤ self.new.waiting_room }
     {
         self.waiting.reserve(1)
     }
@@ -188,6 +194,8 @@ impl<V: Drop> Proposer<V> {
         ensures ok { OnOk result (length self.new.state.heard < self.new.heard_room) }
         ensures state { self.new.state ≡ self.old.state }
         ensures pages { self.new.page_rooms ≡ self.old.page_rooms }
+        ensures heard { self.old.heard_room ≤ self.new.heard_room }
+        ensures waiting { self.new.waiting_room ≡ self.old.waiting_room }
     {
         self.heard.reserve(1)
     }

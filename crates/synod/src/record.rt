@@ -82,6 +82,7 @@ impl<V: Drop> Record<V> {
         requires { slot < SLOTS }
         ensures ok { OnOk result (slot < self.new.room) }
         ensures kept { self.new.kept ≡ self.old.kept }
+        ensures room { self.old.room ≤ self.new.room }
     {
         self.accepted.room(slot)
     }

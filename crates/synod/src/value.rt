@@ -23,7 +23,7 @@ pub trait Value: Sized + Drop {
 }
 
 /// The value of an entry once more: `None` is the no-operation.
-pub(crate) fn copy_value<V: Value>(value: &Option<V>) -> Result<Option<V>, AllocError>
+pub fn copy_value<V: Value>(value: &Option<V>) -> Result<Option<V>, AllocError>
     ensures { IfOk result (λ copy. copy ≡ value.now) }
 {
     match value {

@@ -11,7 +11,7 @@ use std::thread::Threads;
 use std::time::Clock;
 use synod::Weights;
 use verify_pool::{Gate, OpenGate};
-use world::StepFault;
+use net::StepFault;
 
 /// The node that leads, and the weight of the first.
 const ROWS: [(u8, u8); 3] = [(0, 1), (0, 100), (1, 1)];

@@ -9,7 +9,7 @@ use std::thread::Threads;
 use std::time::Clock;
 use synod::Weights;
 use verify_pool::{Gate, Place};
-use world::StepFault;
+use net::StepFault;
 
 /// Holds the first two nodes before an entry, each until the other has come.
 #[derive(Drop)]

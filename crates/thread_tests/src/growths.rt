@@ -8,7 +8,7 @@ use std::thread::Threads;
 use std::time::Clock;
 use synod::Weights;
 use verify_pool::Gate;
-use world::StepFault;
+use net::StepFault;
 
 /// Want of memory at one growth is answered by `start`, `desk`, `submit` or `stop`, or loses a packet, or leaves an entry to a
 /// later hint, or fails a keep, whose node is down then until it restarts.

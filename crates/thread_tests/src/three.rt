@@ -12,7 +12,8 @@ use std::thread::Threads;
 use std::time::{Clock, Duration};
 use synod::Weights;
 use verify_pool::{Gate, OpenGate};
-use world::{Carried, StepFault};
+use net::StepFault;
+use world::Carried;
 
 pub type Kept = MemoryKeep<Carried>;
 

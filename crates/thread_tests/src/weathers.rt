@@ -12,7 +12,7 @@ use std::thread::Threads;
 use std::time::{Clock, Duration};
 use synod::Weights;
 use verify_pool::{Gate, OpenGate};
-use world::StepFault;
+use net::StepFault;
 
 /// Passes, repeats and delays hints in turn.
 #[derive(Clone, Copy)]

@@ -5,14 +5,14 @@ use Rattle.library.specs.declared.entry.Entry.{Entry}
 use Rattle.library.specs.LibraryOf.{Replica, IsLibraryOf}
 use Rattle.library.proofs.LibraryLemmas.{library-begins, library-good}
 use Rattle.world.specs.declared.carried.Carried.{Carried}
-use Rattle.world.specs.declared.fault.StepFault.{StepFault}
-use Rattle.world.specs.World.{World, log}
-use Rattle.world.specs.Agree.{IsBeginningOf, Agree}
-use Rattle.world.specs.Taken.{Taken, world_of}
-use Rattle.world.specs.History.{Agreement}
+use Rattle.net.specs.declared.fault.StepFault.{StepFault}
+use Rattle.net.specs.World.{World, log}
+use Rattle.net.specs.Agree.{IsBeginningOf, Agree}
+use Rattle.net.specs.Taken.{Taken, world_of}
+use Rattle.net.specs.History.{Agreement}
 use Rattle.world.specs.Carried.{carried_size, entries_of}
 use Rattle.world.specs.Headline.{Headline, HeadlineHolds}
-use Rattle.world.proofs.HistoryLemmas.{beginnings_agree, agreement_of}
+use Rattle.net.proofs.HistoryLemmas.{beginnings_agree, agreement_of}
 use Rattle.world.proofs.EntriesLemmas.{entries_agree}
 
 take_begins : {A : Type 0} (n : ℕ) (xs : List A) → IsBeginningOf (take n xs) xs

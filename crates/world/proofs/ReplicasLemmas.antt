@@ -8,19 +8,19 @@ use Rattle.library.specs.declared.verdict.Verdict.{Verdict}
 use Rattle.library.specs.LibraryOf.{Applies, IsLibraryOf}
 use Rattle.library.proofs.LibraryLemmas.{library-more}
 use Rattle.world.specs.declared.carried.Carried.{Carried}
-use Rattle.world.specs.declared.event.Event.{Event}
-use Rattle.world.specs.declared.event.Event.TheVariants.{Offer, Begin, Deliver, Restart}
-use Rattle.world.specs.declared.fault.StepFault.{StepFault}
-use Rattle.world.specs.World.{World, start, happens, all_happen, log, log_after}
-use Rattle.world.specs.Agree.{IsBeginningOf}
-use Rattle.world.specs.Taken.{Taken, world_of, with_event}
+use Rattle.net.specs.declared.event.Event.{Event}
+use Rattle.net.specs.declared.event.Event.TheVariants.{Offer, Begin, Deliver, Restart}
+use Rattle.net.specs.declared.fault.StepFault.{StepFault}
+use Rattle.net.specs.World.{World, start, happens, all_happen, log, log_after}
+use Rattle.net.specs.Agree.{IsBeginningOf}
+use Rattle.net.specs.Taken.{Taken, world_of, with_event}
 use Rattle.world.specs.Carried.{carried_size, carried, all_carried, entries_of}
 use Rattle.world.specs.Replicas.{NodeLibrary, Replicas, new_library, new_libraries, restarts, given_up, then_event, log_entries, IsOfLog, AreReplicas}
-use Rattle.world.proofs.EveryEvent.{if_taken}
-use Rattle.world.proofs.TwoMoments.{all_happen-append}
-use Rattle.world.proofs.TakenLemmas.{after-push}
-use Rattle.world.proofs.KeptPartLemmas.{slice_get-set_other}
-use Rattle.world.proofs.LogsGrow.{log_grows}
+use Rattle.net.proofs.EveryEvent.{if_taken}
+use Rattle.net.proofs.TwoMoments.{all_happen-append}
+use Rattle.net.proofs.TakenLemmas.{after-push}
+use Rattle.net.proofs.KeptPartLemmas.{slice_get-set_other}
+use Rattle.net.proofs.LogsGrow.{log_grows}
 use Rattle.world.proofs.EntriesLemmas.{all_carried-append, entries_begin}
 
 -- A library and its log.

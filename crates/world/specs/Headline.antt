@@ -12,10 +12,10 @@ use Rattle.verify.specs.Right.{IsProvable}
 use Rattle.library.specs.LibraryOf.{Replica, IsLibraryOf}
 use Rattle.library.specs.Good.{Good}
 use Rattle.world.specs.declared.carried.Carried.{Carried}
-use Rattle.world.specs.World.{World, log}
-use Rattle.world.specs.Agree.{Agree}
-use Rattle.world.specs.Taken.{Taken, world_of}
-use Rattle.world.specs.History.{IsMoment, Agreement}
+use Rattle.net.specs.World.{World, log}
+use Rattle.net.specs.Agree.{Agree}
+use Rattle.net.specs.Taken.{Taken, world_of}
+use Rattle.net.specs.History.{IsMoment, Agreement}
 use Rattle.world.specs.Carried.{carried_size, entries_of}
 
 -- a library at node k and that moment: the library of the first a entries of the node's log

@@ -1,15 +1,17 @@
 -- What contracts see of a world: its weights, the events that it took, and each node's library with the count of entries applied.
 -- Source: Lamport, Paxos Made Simple, section 3: a server executes the commands of its log in order, each once all before it are known.
 -- The code keeps the nodes and packets too; the type keeps that each library is that of the first entries of its node's log.
-use Rattle.std.specs.Prelude.{◌≡◌, ◌+◌, ◌≤◌, ℕ, List, [], Option, Some, None, length, take, replicate, slice_get, slice_set}
+use Rattle.std.specs.Prelude.{◌≡◌, ◌+◌, ◌≤◌, ℕ, List, [], Option, Some, None, Result, Ok, Err, length, take, replicate, slice_get, slice_set}
 use Rattle.library.specs.declared.entry.Entry.{Entry}
 use Rattle.library.specs.declared.verdict.Verdict.{Verdict}
 use Rattle.library.specs.LibraryOf.{Replica, empty, Applies, IsLibraryOf}
 use Rattle.world.specs.declared.carried.Carried.{Carried}
-use Rattle.world.specs.declared.event.Event.{Event}
-use Rattle.world.specs.declared.event.Event.TheVariants.{Offer, Begin, Deliver, Restart}
-use Rattle.world.specs.World.{log_after}
-use Rattle.world.specs.Taken.{Taken, world_of, with_event}
+use Rattle.net.specs.declared.event.Event.{Event}
+use Rattle.net.specs.declared.fault.StepFault.{StepFault}
+use Rattle.net.specs.declared.fault.StepFault.TheVariants.{Memory}
+use Rattle.net.specs.declared.event.Event.TheVariants.{Offer, Begin, Deliver, Restart}
+use Rattle.net.specs.World.{log_after}
+use Rattle.net.specs.Taken.{Taken, world_of, with_event}
 use Rattle.world.specs.Carried.{carried_size, entries_of}
 
 -- a node's library, and how many entries of its log made it
@@ -78,3 +80,12 @@ pub record IsApplied (old : Replicas) (k : ℕ) (entry : Option Entry) (verdict 
   pub was : slice_get old.libraries k ≡ Some before
   pub applies : Applies before.library entry verdict library
   pub becomes : new ≡ record { taken = old.taken; libraries = slice_set old.libraries k (record { applied = before.applied + 1; library = library }) }
+
+-- the entry is applied with this verdict, or there is none; or there is no memory, and the library stays at its entry
+abbrev pub AppliesNext : NodeLibrary → NodeLibrary → Option (Option Entry) → Result (Option Verdict) StepFault → Type 0
+AppliesNext old new None (Ok None) = new ≡ old
+AppliesNext old new None (Ok (Some verdict)) = ⊥
+AppliesNext old new None (Err fault) = ⊥
+AppliesNext old new (Some entry) (Ok None) = ⊥
+AppliesNext old new (Some entry) (Ok (Some verdict)) = Applies old.library entry verdict new.library × (new.applied ≡ old.applied + 1)
+AppliesNext old new (Some entry) (Err fault) = (fault ≡ Memory) × (new ≡ old)

@@ -4,8 +4,8 @@ ghost use Rattle.world.specs.Carried.{carried as carried_event};
 ghost use Rattle.world.specs.Replicas.{restarts};
 
 use crate::carried::Carried;
-use crate::event::Event;
 use library::Entry;
+use net::Event;
 
 /// The event, of a value that is the entry.
 pub(crate) fn carried(event: Event<Entry>) -> Event<Carried>

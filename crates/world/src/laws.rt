@@ -1,28 +1,4 @@
-ghost use Rattle.world.specs.Laws.{BallotsHaveOneValue, LaterBallotsKeepChosen, ChosenValuesAgree, LogEntriesAreChosen, LogsOfNodesAgree, LogEntriesWereOffered, KeptPartSurvives, LogsOnlyGrow, RestartEmptiesLog};
 ghost use Rattle.world.specs.Headline.{HeadlineHolds};
-
-/// Agreement: what holds of the nodes after any events that are taken, whatever was lost, repeated or delayed and whoever
-/// restarted, for any weights and any values. Source: Lamport, Paxos Made Simple, section 2.2.
-pub fn agreement<V>()
-    ensures one_value { BallotsHaveOneValue V }
-    ensures later_value { LaterBallotsKeepChosen V }
-    ensures chosen { ChosenValuesAgree V }
-    ensures logs_chosen { LogEntriesAreChosen V }
-    ensures logs_agree { LogsOfNodesAgree V }
-    ensures logs_offered { LogEntriesWereOffered V }
-{}
-
-/// The law of the kept part: after an event of a node and a restart of it, its kept part is the one before with the event's
-/// change, whether or not any packet of the event is ever delivered. Source: Lamport, Paxos Made Simple, section 2.5.
-pub fn kept_part<V>()
-    ensures { KeptPartSurvives V }
-{}
-
-/// The law of growing logs: a node's log only grows, but for a restart of it, which empties it.
-pub fn logs_grow<V>()
-    ensures grows { LogsOnlyGrow V }
-    ensures restart { RestartEmptiesLog V }
-{}
 
 /// The headline: of every history that is taken, the libraries of any two replicas at any two moments are one the beginning of
 /// the other, and every provable assertion of a library has a derivation.

@@ -1,14 +1,13 @@
 //! All events of a list, one after another.
 ghost use Rattle.std.specs.Prelude.{◌≡◌, IfOk, IfErr, OnOk};
-ghost use Rattle.world.specs.History.{StopsAt};
+ghost use Rattle.net.specs.History.{StopsAt};
 ghost use Rattle.world.specs.Carried.{carried_size, all_carried};
 ghost use Rattle.world.specs.Replicas.{new_libraries};
 ghost use Rattle.world.specs.Headline.{Headline};
 
-use crate::event::Event;
-use crate::fault::StepFault;
 use crate::world::World;
 use library::Entry;
+use net::{Event, StepFault};
 use std::alloc::Global;
 use synod::Weights;
 

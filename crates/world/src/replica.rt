@@ -1,18 +1,20 @@
 //! One node's replica: its library, and how many entries of its log made it.
-ghost use Rattle.std.specs.Prelude.{◌≡◌, ◌+◌, ◌<◌, ◌≤◌, None, Some, Ok, Err, length, replicate, slice_get, IfOk, OnErr};
+ghost use Rattle.std.specs.Prelude.{◌≡◌, ◌<◌, ◌≤◌, replicate, option_map, IsSome, IfOk};
 ghost use Rattle.slots.specs.declared.slots.TheConstants.{SLOTS};
-ghost use Rattle.library.specs.LibraryOf.{Applies};
 ghost use Rattle.world.specs.Carried.{entry_of};
-ghost use Rattle.world.specs.Replicas.{new_library, given_up};
+ghost use Rattle.world.specs.Replicas.{AppliesNext, new_library, given_up};
 
 use crate::carried::Carried;
-use library::{Library, Verdict};
+use library::{Entry, Library, Verdict};
+use net::StepFault;
 use std::alloc::{AllocError, Global};
 use std::marker::Model;
+use std::thread::Threads;
+use verify_pool::{Gate, Workers};
 
 /// A library with the count of entries applied, the entries of a log in order from its first.
 #[derive(Drop)]
-pub(crate) struct Replica {
+pub struct Replica {
     library: Library,
     applied: u32,
 }
@@ -27,7 +29,7 @@ impl Model for Replica {
 
 impl Replica {
     /// The replica of a new node. It takes no memory.
-    pub(crate) fn new(alloc: Global) -> Self
+    pub fn new(alloc: Global) -> Self
         ensures { result ≡ new_library }
     {
         Replica {
@@ -37,32 +39,72 @@ impl Replica {
     }
 
     /// How many entries were applied: the slot of the next.
-    pub(crate) fn applied(&self) -> u32
+    pub fn applied(&self) -> u32
         ensures { result ≡ self.now.applied }
     {
         self.applied
     }
 
     /// The library of the entries applied.
-    pub(crate) fn library(&self) -> &Library
+    pub fn library(&self) -> &Library
         ensures { result.now.replica ≡ self.now.library }
     {
         &self.library
     }
 
-    /// Applies the next entry of the log. Want of memory leaves the replica at its slot.
-    pub(crate) fn apply(&mut self, entry: &Option<Carried>) -> Result<Verdict, AllocError>
-        requires { self.old.applied < SLOTS }
-        ensures verdict { IfOk result (λ verdict. Applies self.old.library (entry_of entry.now) verdict self.new.library) }
-        ensures applied { IfOk result (λ _. self.new.applied ≡ self.old.applied + 1) }
-        ensures same { OnErr result (self.new ≡ self.old) }
+    /// Applies the entry that is next in the log; `None` where none is.
+    ///
+    /// Errors: `Memory`; the replica then stays at its slot. Cost: that of `Library::apply` on the entry.
+    pub fn apply_next(
+        &mut self,
+        next: Option<&Option<Carried>>,
+    ) -> Result<Option<Verdict>, StepFault>
+        requires { IsSome next → self.old.applied < SLOTS }
+        ensures { AppliesNext self.old self.new (option_map (λ e. entry_of e.now) next.entry) result }
     {
-        let verdict = match entry {
-            Some(carried) => self.library.apply(Some(&carried.0))?,
-            None => self.library.apply(None)?,
+        let Some(entry) = next else {
+            return Ok(None);
+        };
+        let Ok(verdict) = self.library.apply(entry_in(entry)) else {
+            return Err(StepFault::Memory);
         };
         self.applied += 1;
-        Ok(verdict)
+        Ok(Some(verdict))
+    }
+
+    /// The same, the proofs checked by some workers side by side. Each passes the gate before each proof. No answer depends on
+    /// the number of workers.
+    ///
+    /// Errors: those of `apply_next`. Cost: that of `Library::apply_with` on the entry.
+    pub fn apply_next_with<G: Gate + Sync, R: Threads + Sync>(
+        &mut self,
+        rt: &R,
+        next: Option<&Option<Carried>>,
+        workers: usize,
+        gate: &G,
+    ) -> Result<Option<Verdict>, StepFault>
+        requires place { IsSome next → self.old.applied < SLOTS }
+        requires workers { (1 ≤ workers) × (workers ≤ 16) }
+        ensures { AppliesNext self.old self.new (option_map (λ e. entry_of e.now) next.entry) result }
+    {
+        let Some(entry) = next else {
+            return Ok(None);
+        };
+        let Ok(verdict) = self.library.apply_with(rt, entry_in(entry), Workers::of(workers), gate) else {
+            return Err(StepFault::Memory);
+        };
+        self.applied += 1;
+        Ok(Some(verdict))
+    }
+}
+
+/// What an entry of a log hands to a library; `None` is the no-operation.
+fn entry_in(entry: &Option<Carried>) -> Option<&Entry>
+    ensures { option_map (λ e. e.now) result ≡ entry_of entry.now }
+{
+    match entry {
+        Some(carried) => Some(&carried.0),
+        None => None,
     }
 }
 

@@ -1,19 +1,16 @@
 //! All nodes, all packets and all libraries, driven by a list of events.
-ghost use Rattle.std.specs.Prelude.{◌≡◌, ◌↔◌, ◌+◌, ◌≤◌, ◌<◌, None, Some, Ok, Err, length, slice_get, IfOk, IfErr, IfSome, IsSomeAnd, OnOk, OnErr, IsOk, IsOkUnless};
-ghost use Rattle.library.specs.LibraryOf.{Applies};
-ghost use Rattle.world.specs.World.{packets_after};
-ghost use Rattle.world.specs.Taken.{world_of, with_event};
+ghost use Rattle.std.specs.Prelude.{◌≡◌, ◌↔◌, ◌≤◌, ◌<◌, None, Some, Ok, Err, length, slice_get, IfOk, IfErr, IfSome, IsSomeAnd, OnOk, OnErr, IsOk, IsOkUnless};
+ghost use Rattle.net.specs.World.{packets_after};
+ghost use Rattle.net.specs.Taken.{world_of, with_event};
 ghost use Rattle.world.specs.Carried.{carried as carried_event, carried_size};
-ghost use Rattle.world.specs.Replicas.{log_entries};
-ghost use Rattle.world.specs.declared.fault.StepFault.TheVariants.{NoNode, NoPacket, Memory};
+ghost use Rattle.world.specs.Replicas.{log_entries, AppliesNext};
+ghost use Rattle.net.specs.declared.fault.StepFault.TheVariants.{NoNode, NoPacket, Memory};
 
 use crate::carried::{Carried, entries};
 use crate::entry_event::{carried, restarted};
-use crate::event::{Event, MOST_EVENTS};
-use crate::fault::StepFault;
-use crate::net::Net;
 use crate::replica::{Replica, give_up, new_replicas};
 use library::{Entry, Library, Verdict};
+use net::{Event, MOST_EVENTS, Net, StepFault};
 use std::alloc::Global;
 use std::marker::Model;
 use synod::{Packet, Weights};
@@ -35,9 +32,9 @@ impl Model for World {
 
     ghost Value = { Replicas };
 
-    ghost view = { λ w. record { taken = w.net; libraries = w.replicas.items } };
+    ghost view = { λ w. record { taken = w.net.taken; libraries = w.replicas.items } };
 
-    ghost invariant = { λ w. AreReplicas (record { taken = w.net; libraries = w.replicas.items }) };
+    ghost invariant = { λ w. AreReplicas (record { taken = w.net.taken; libraries = w.replicas.items }) };
 }
 
 impl World {
@@ -140,14 +137,9 @@ fn apply_from(
     net: &Net<Carried>,
     k: u8,
 ) -> Result<Option<Verdict>, StepFault>
-    requires { k < length net.now.weights }
-    ensures applied { IfSome (slice_get (log_entries net.now k) replica.old.applied) (λ entry. IfOk result (λ answer. IsSomeAnd answer (λ verdict. Applies replica.old.library entry verdict replica.new.library × (replica.new.applied ≡ replica.old.applied + 1)))) }
-    ensures none { slice_get (log_entries net.now k) replica.old.applied ≡ None → (result ≡ Ok None) × (replica.new ≡ replica.old) }
-    ensures only_memory { IsOkUnless result Memory }
-    ensures same { OnErr result (replica.new ≡ replica.old) }
+    requires { k < length net.now.taken.weights }
+    ensures { AppliesNext replica.old replica.new (slice_get (log_entries net.now.taken k) replica.old.applied) result }
 {
-    match net.entry(k, replica.applied())? {
-        Some(entry) => Ok(Some(replica.apply(entry)?)),
-        None => Ok(None),
-    }
+    let next = net.entry(k, replica.applied())?;
+    replica.apply_next(next)
 }

@@ -15,6 +15,7 @@ use std::alloc::AllocError;
 impl<V: Value> NodeCore<V> {
     ghost use Rattle.synod.specs.Acceptor.{refuses, on_prepare, on_accept};
     ghost use Rattle.synod.specs.Step.{Keeps};
+    ghost use Rattle.synod.specs.Rooms.{HasAtLeast};
     ghost use Rattle.synod.specs.Ready.{IsReadyFor};
 
     /// A proposer is told of the promise that stands against its ballot.
@@ -48,6 +49,7 @@ impl<V: Value> NodeCore<V> {
         requires { Keeps (length self.old.node.weights) (on_prepare self.old.node from ballot first) }
         ensures ready { IfOk result (IsReadyFor self.new (on_prepare self.old.node from ballot first)) }
         ensures node { self.new.node ≡ self.old.node }
+        ensures room { HasAtLeast self.old self.new }
     {
         if !self.record.promise().is_under(ballot) {
             return self.ready_refusal(from, ballot);
@@ -73,6 +75,7 @@ impl<V: Value> NodeCore<V> {
         requires keeps { Keeps (length self.old.node.weights) (on_accept self.old.node from ballot slot value.now) }
         ensures ready { IfOk result (IsReadyFor self.new (on_accept self.old.node from ballot slot value.now)) }
         ensures node { self.new.node ≡ self.old.node }
+        ensures room { HasAtLeast self.old self.new }
     {
         if ballot.is_under(self.record.promise()) {
             return self.ready_refusal(from, ballot);

@@ -19,6 +19,7 @@ impl<V: Value> NodeCore<V> {
     ghost use Rattle.synod.specs.Node.{is_heard, with_page};
     ghost use Rattle.synod.specs.Proposer.{on_promise, gathers, leads_with, keeps_page, keeps_promise};
     ghost use Rattle.synod.specs.Step.{Keeps};
+    ghost use Rattle.synod.specs.Rooms.{HasAtLeast};
     ghost use Rattle.synod.specs.Ready.{IsReadyFor};
 
     /// A page is kept, unless it was had before.
@@ -33,6 +34,7 @@ impl<V: Value> NodeCore<V> {
         requires keeps { Keeps (length self.old.node.weights) (keeps_page self.old.node (with_page self.old.node.pages node page reports.now)) }
         ensures ready { IfOk result (IsReadyFor self.new (keeps_page self.old.node (with_page self.old.node.pages node page reports.now))) }
         ensures node { self.new.node ≡ self.old.node }
+        ensures room { HasAtLeast self.old self.new }
     {
         if self.proposer.pages().get(node, page).is_some() {
             return Ok(self.ready_nothing());
@@ -59,6 +61,7 @@ impl<V: Value> NodeCore<V> {
         requires keeps { Keeps (length self.old.node.weights) (keeps_promise self.old.node (with_page self.old.node.pages heard.node page reports.now) (self.old.node.heard ++ heard ∷ [])) }
         ensures ready { IfOk result (IsReadyFor self.new (keeps_promise self.old.node (with_page self.old.node.pages heard.node page reports.now) (self.old.node.heard ++ heard ∷ []))) }
         ensures node { self.new.node ≡ self.old.node }
+        ensures room { HasAtLeast self.old self.new }
     {
         if self.proposer.pages().get(heard.node, page).is_some() {
             self.proposer.room_to_hear()?;
@@ -100,6 +103,7 @@ impl<V: Value> NodeCore<V> {
         requires keeps { Keeps (length self.old.node.weights) (gathers self.old.node heard.node ballot first heard.count (with_page self.old.node.pages heard.node page reports.now)) }
         ensures ready { IfOk result (IsReadyFor self.new (gathers self.old.node heard.node ballot first heard.count (with_page self.old.node.pages heard.node page reports.now))) }
         ensures node { self.new.node ≡ self.old.node }
+        ensures room { HasAtLeast self.old self.new }
     {
         let front = front_after(self.proposer.pages(), heard.node, page);
         if front < heard.count {
@@ -176,6 +180,7 @@ impl<V: Value> NodeCore<V> {
         requires keeps { Keeps (length self.old.node.weights) (on_promise self.old.node from ballot page count reports.now) }
         ensures ready { IfOk result (IsReadyFor self.new (on_promise self.old.node from ballot page count reports.now)) }
         ensures node { self.new.node ≡ self.old.node }
+        ensures room { HasAtLeast self.old self.new }
     {
         let Role::Preparing { ballot: at, first } = self.proposer.role() else {
             return Ok(self.ready_nothing());

@@ -21,6 +21,7 @@ impl<V: Value> NodeCore<V> {
     ghost use Rattle.synod.specs.Node.{answers};
     ghost use Rattle.synod.specs.Plans.{HasRoomToLearn};
     ghost use Rattle.synod.specs.Step.{Keeps, IsNode};
+    ghost use Rattle.synod.specs.Rooms.{HasAtLeast};
     ghost use Rattle.synod.specs.Ready.{IsReadyFor, learner_of, taught_node};
 
     /// An Ask came.
@@ -57,6 +58,7 @@ impl<V: Value> NodeCore<V> {
         requires keeps { Keeps (length self.old.node.weights) (on_told self.old.node from slot value.now) }
         ensures ready { IfOk result (IsReadyFor self.new (on_told self.old.node from slot value.now)) }
         ensures node { self.new.node ≡ self.old.node }
+        ensures room { HasAtLeast self.old self.new }
     {
         if self.learner.learned(slot).is_some() {
             return Ok(self.ready_nothing());
@@ -87,6 +89,7 @@ impl<V: Value> NodeCore<V> {
         requires keeps { Keeps (length self.old.node.weights) (on_accepted self.old.node from ballot slot value.now) }
         ensures ready { IfOk result (IsReadyFor self.new (on_accepted self.old.node from ballot slot value.now)) }
         ensures node { self.new.node ≡ self.old.node }
+        ensures room { HasAtLeast self.old self.new }
     {
         if self.learner.learned(slot).is_some() {
             return Ok(self.ready_nothing());

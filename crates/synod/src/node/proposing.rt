@@ -18,6 +18,7 @@ impl<V: Value> NodeCore<V> {
     ghost use Rattle.synod.specs.Proposer.{begins, next_ballot, waits, takes_slot, on_nack};
     ghost use Rattle.synod.specs.Plans.{HasRoomToPropose};
     ghost use Rattle.synod.specs.Step.{Keeps, IsNode};
+    ghost use Rattle.synod.specs.Rooms.{HasAtLeast};
     ghost use Rattle.synod.specs.Ready.{IsReadyFor, proposer_of, proposed_node};
 
     /// The proposer alone changes.
@@ -39,6 +40,7 @@ impl<V: Value> NodeCore<V> {
         requires keeps { Keeps (length self.old.node.weights) (waits self.old.node value) }
         ensures ready { IfOk result (IsReadyFor self.new (waits self.old.node value)) }
         ensures node { self.new.node ≡ self.old.node }
+        ensures room { HasAtLeast self.old self.new }
     {
         self.proposer.room_to_wait()?;
         Ok(self.ready_proposal(Proposal::Wait(value), Vec::new(self.alloc)))
@@ -55,6 +57,7 @@ impl<V: Value> NodeCore<V> {
         requires keeps { Keeps (length self.old.node.weights) (takes_slot self.old.node ballot slot value) }
         ensures ready { IfOk result (IsReadyFor self.new (takes_slot self.old.node ballot slot value)) }
         ensures node { self.new.node ≡ self.old.node }
+        ensures room { HasAtLeast self.old self.new }
     {
         let value = Some(value);
         let mut posts = Vec::new(self.alloc);
@@ -74,6 +77,7 @@ impl<V: Value> NodeCore<V> {
         requires ballot { ballot ≡ next_ballot self.old.node }
         ensures ready { IfOk result (IsReadyFor self.new (begins self.old.node)) }
         ensures node { self.new.node ≡ self.old.node }
+        ensures room { HasAtLeast self.old self.new }
     {
         let first = self.learner.front();
         let pages = PagesHad::of_nodes(self.alloc, &self.weights)?;

@@ -1,7 +1,7 @@
 use Rattle.std.proofs.Common.{◌≡◌, ◌≤◌, ◌+◌, drop}
 use Rattle.std.specs.Result.{ForOk}
 use Rattle.world.specs.Carried.{carried_size}
-use Rattle.cluster.specs.Switch.{world_of}
+use Rattle.switch.specs.Switch.{world_of}
 use Rattle.nodes.specs.Report.{own_events}
 use Rattle.nodes.proofs.report.count_own.Given as goal
 

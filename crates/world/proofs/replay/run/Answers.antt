@@ -2,10 +2,10 @@ use Rattle.std.proofs.Common.{◌≡◌, List, ◌∷◌, ◌++◌, [], ap, sym,
 use Rattle.std.specs.Vec.Iter.{into_iter_items, into_iter_steps}
 use Rattle.std.proofs.iter.Next.{Yields-more}
 use Rattle.library.specs.declared.entry.Entry.{Entry}
-use Rattle.world.specs.declared.event.Event.{Event}
+use Rattle.net.specs.declared.event.Event.{Event}
 use Rattle.world.specs.Carried.{carried, all_carried, carried_size}
 use Rattle.world.specs.Replicas.{Replicas}
-use Rattle.world.proofs.HistoryLemmas.{taken_front, stops_there}
+use Rattle.net.proofs.HistoryLemmas.{taken_front, stops_there}
 use Rattle.world.proofs.EntriesLemmas.{all_carried-append}
 use Rattle.world.proofs.ReplicasLemmas.{run_goes_on}
 use Rattle.world.proofs.replay.run.Goals as goal

@@ -1,17 +1,15 @@
-use Rattle.std.proofs.Common.{◌∙◌, ◌++◌, ap, length, replicate, List, Option, None}
-use Rattle.std.proofs.lemmas.List.{length-replicate}
-use Rattle.slots.proofs.PagesLemmas.{joined-push, whole-push}
+use Rattle.std.proofs.Common.{◌∙◌, ◌++◌, ◌*◌, ap, replicate, List, Option, None}
+use Rattle.slots.specs.Pages.{joined}
+use Rattle.slots.proofs.PagesLemmas.{joined-append, whole-append}
 use Rattle.slots.proofs.pages.Pages.add.Goals as goal
 
 pub invariant_of-self-2 : goal.invariant_of-self-2
 invariant_of-self-2 g c =
-    rw c.in_ok-push.ensures.items
-    (whole-push c.self.inside.pages.items c.in_ok-page.page c.self.invariant
-    (ap (λ (page : List (Option g.row.T.Denot)). length page) c.in_ok-page.ensures ∙ length-replicate {A = Option g.row.T.Denot} 256 None))
+    rw c.in_ok-append.ensures.items (whole-append c.self.inside.pages.items c.in_ok-more.more.items c.self.invariant c.in_ok-more.ensures.whole)
 
 pub returns-clause-added : goal.returns-clause-added
 returns-clause-added g c =
-    rw c.in_ok-push.ensures.items
-    (joined-push c.self.inside.pages.items c.in_ok-page.page
-    ∙ ap (λ (page : List (Option g.row.T.Denot)). Rattle.slots.specs.Pages.joined c.self.inside.pages.items ++ page) c.in_ok-page.ensures
-    ∙ ap (λ (slots : List (Option g.row.T.Denot)). slots ++ replicate 256 None) c.self.view_is)
+    rw c.in_ok-append.ensures.items
+    (joined-append c.self.inside.pages.items c.in_ok-more.more.items
+    ∙ ap (λ (slots : List (Option g.row.T.Denot)). joined c.self.inside.pages.items ++ slots) c.in_ok-more.ensures.empty
+    ∙ ap (λ (slots : List (Option g.row.T.Denot)). slots ++ replicate (256 * c.args.count) None) c.self.view_is)

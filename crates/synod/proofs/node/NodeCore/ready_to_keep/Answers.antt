@@ -1,4 +1,4 @@
-use Rattle.std.proofs.Common.{◌≡◌, ◌∙◌, ap, sym, subst, None, List, Option}
+use Rattle.std.proofs.Common.{◌≡◌, ◌∙◌, arith, ap, sym, subst, None, List, Option}
 use Rattle.synod.specs.declared.packet.Report.{Report}
 use Rattle.synod.specs.Node.{Stepped, page_of}
 use Rattle.synod.specs.Core.{Core, assembled}
@@ -6,6 +6,7 @@ use Rattle.synod.specs.PagesHad.{entries_of}
 use Rattle.synod.specs.Step.{IsNode}
 use Rattle.synod.proofs.AcceptedLemmas.{none_is}
 use Rattle.synod.proofs.GatherLemmas.{keep_step}
+use Rattle.synod.proofs.RoomLemmas.{proposer_room}
 use Rattle.synod.proofs.node.NodeCore.ready_to_keep.Goals as goal
 
 pub ready_proposal-requires-clause-node : goal.ready_proposal-requires-clause-node
@@ -25,3 +26,8 @@ returns-clause-ready g c =
     ap (λ (ps : List (List (Option (List (Report g.row.V.Denot))))). page_of ps c.args.node c.args.page) (sym c.pages.ensures.pages)
     ∙ none_is c.get.result (page_of (entries_of c.pages.result.now) c.args.node c.args.page) _ c.is_some.result c.get.ensures c.is_some.ensures c.if-is_some.false in
     (c.ready_proposal.ensures.0, c.ready_proposal.ensures.1 ∙ sym (keep_step (assembled c.self.inside.me c.self.inside.weights c.self.inside.record.kept c.self.inside.proposer.state c.self.inside.learner.state) c.args.self.now.node same c.room_for_page.new.self.state (c.room_for_page.ensures.state) c.args.page c.args.reports.now c.in_ok-reports.reports c.in_ok-reports.ensures c.new.result.items c.new.ensures.items c.args.node none))
+
+pub returns-clause-room : goal.returns-clause-room
+returns-clause-room g c =
+    proposer_room c.self.inside.me c.self.inside.weights c.self.inside.record c.self.inside.proposer c.self.inside.learner c.args.self.now c.self.view_is c.room_for_page.new.self
+    c.room_for_page.ensures.pages (let same = c.room_for_page.ensures.heard in omega (arith, same)) (let same = c.room_for_page.ensures.waiting in omega (arith, same))

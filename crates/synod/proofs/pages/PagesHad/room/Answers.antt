@@ -1,7 +1,9 @@
-use Rattle.std.proofs.Common.{◌∙◌, ap, length, List, arith}
+use Rattle.std.proofs.Common.{◌∙◌, ap, subst, set, length, List, arith}
 use Rattle.slots.specs.FiniteMap.{SlotsView}
 use Rattle.synod.specs.declared.packet.Report.{Report}
-use Rattle.synod.specs.PagesHad.{entries_of}
+use Rattle.synod.specs.PagesHad.{entries_of, rooms_of}
+use Rattle.synod.specs.Rooms.{RoomsGrow}
+use Rattle.synod.proofs.RoomLemmas.{rooms_grow}
 use Rattle.synod.proofs.PagesHadLemmas.{entries-same, room-after, ok-room}
 use Rattle.synod.proofs.pages.PagesHad.room.Goals as goal
 
@@ -16,3 +18,8 @@ returns-clause-pages g c =
     let count = ap (λ (maps : List (SlotsView (List (Report g.row.V.Denot)))). length maps) c.self.view_is in
     entries-same c.self.inside.by_node.items c.args.node c.index_mut-pages.result.now c.room.new.self c.index_mut-pages.ensures.value c.room.ensures.entries (omega (arith, count, c.requires.node))
     ∙ ap (λ (maps : List (SlotsView (List (Report g.row.V.Denot)))). entries_of maps) c.self.view_is
+
+pub returns-clause-rooms : goal.returns-clause-rooms
+returns-clause-rooms g c =
+    subst (λ (maps : List (SlotsView (List (Report g.row.V.Denot)))). RoomsGrow (rooms_of maps) (rooms_of (set c.self.inside.by_node.items c.args.node c.room.new.self))) c.self.view_is
+    (rooms_grow c.self.inside.by_node.items c.args.node c.index_mut-pages.result.now c.room.new.self c.index_mut-pages.ensures.value c.room.ensures.room)

@@ -1,10 +1,10 @@
 use Rattle.std.proofs.Common.{length, ap, sym, ◌∙◌}
-use Rattle.world.specs.Taken.{Taken}
+use Rattle.net.specs.Taken.{Taken}
 use Rattle.world.specs.declared.carried.Carried.{Carried}
 use Rattle.world.proofs.ReplicasLemmas.{new_are_replicas}
 use Rattle.world.proofs.world.World.new.Goals as goal
 
 pub invariant_of-result : goal.invariant_of-result
 invariant_of-result c =
-    new_are_replicas c.in_ok-new.field-0 c.count.result (c.count.ensures.count ∙ sym (ap (λ (t : Taken Carried). length t.weights) c.in_ok-new.ensures.new))
+    new_are_replicas c.in_ok-new.field-0.taken c.count.result (c.count.ensures.count ∙ sym (ap (λ (t : Taken Carried). length t.weights) c.in_ok-new.ensures.new))
     c.in_ok-new_replicas.field-0.items c.in_ok-new_replicas.ensures

@@ -1,0 +1,12 @@
+use Rattle.std.proofs.Common.{refl, arith}
+use Rattle.net.specs.World.{log_after}
+use Rattle.switch.specs.Switch.{world_of}
+use Rattle.world.specs.Carried.{carried_size}
+use Rattle.cluster.proofs.TieLemmas.{all_found}
+use Rattle.cluster.proofs.log.begins.Goals as goal
+
+pub returns : goal.returns
+returns g c = (
+  λ yes. all_found c.args.entries.now (log_after (world_of carried_size c.args.switch.now) c.args.k) (λ i low. c.loop-slot.invariant i (omega (arith, low, c.loop-slot-test.false))),
+  λ b. refl,
+)

@@ -1,0 +1,115 @@
+//! Whether entries begin a node's log.
+ghost use Rattle.std.specs.Prelude.{◌≡◌, ◌↔◌, ◌≤◌, ◌<◌, Some, length, slice_get, option_map, IsTrue};
+ghost use Rattle.slots.specs.declared.slots.TheConstants.{SLOTS};
+ghost use Rattle.net.specs.World.{log_after};
+ghost use Rattle.net.specs.Agree.{IsBeginningOf};
+ghost use Rattle.switch.specs.Switch.{world_of};
+ghost use Rattle.switch.specs.Belonging.{BeginsLog};
+ghost use Rattle.world.specs.Carried.{carried_size};
+
+use library::{Entry, Submission};
+use switch::Switch;
+use synod::Keep;
+use world::Carried;
+
+/// Whether node `k` is there, and the entries begin its log.
+///
+/// Cost: the size of the entries.
+pub(crate) fn begins_log<K: Keep<Carried>>(
+    switch: &Switch<Carried, K>,
+    k: u8,
+    entries: &[Option<Carried>],
+) -> bool
+    requires { length entries.now ≤ SLOTS }
+    ensures { IsTrue result ↔ BeginsLog carried_size switch.now k entries.now }
+{
+    if switch.entry(k, 0).is_ok() {
+        begins(switch, k, entries)
+    } else {
+        false
+    }
+}
+
+/// Whether the entries begin the log of node `k`, which is empty where there is none.
+fn begins<K: Keep<Carried>>(
+    switch: &Switch<Carried, K>,
+    k: u8,
+    entries: &[Option<Carried>],
+) -> bool
+    requires { length entries.now ≤ SLOTS }
+    ensures { IsTrue result ↔ IsBeginningOf entries.now (log_after (world_of carried_size switch.now) k) }
+{
+    for slot in 0..entries.len() {
+        if !is_entry(switch, k, slot as u32, &entries[slot]) {
+            return false;
+        }
+    }
+    true
+}
+
+/// Whether it is the entry of node `k`'s log at that slot.
+fn is_entry<K: Keep<Carried>>(
+    switch: &Switch<Carried, K>,
+    k: u8,
+    slot: u32,
+    entry: &Option<Carried>,
+) -> bool
+    ensures { IsTrue result ↔ (slice_get (log_after (world_of carried_size switch.now) k) slot ≡ Some entry.now) }
+{
+    match switch.entry(k, slot) {
+        Ok(found) => is_found(found, entry),
+        Err(_) => false,
+    }
+}
+
+/// Whether the entry was found.
+fn is_found(found: Option<&Option<Carried>>, entry: &Option<Carried>) -> bool
+    ensures { IsTrue result ↔ (option_map (λ e. e.now) found.entry ≡ Some entry.now) }
+{
+    match found {
+        Some(found) => is_same(found, entry),
+        None => false,
+    }
+}
+
+/// Whether they are the same entry of a log.
+fn is_same(one: &Option<Carried>, other: &Option<Carried>) -> bool
+    ensures { IsTrue result ↔ (one.now ≡ other.now) }
+{
+    match (one, other) {
+        (Some(one), Some(other)) => is_same_entry(&one.0, &other.0),
+        (None, None) => true,
+        _ => false,
+    }
+}
+
+/// Whether they are the same entry of a library.
+fn is_same_entry(one: &Entry, other: &Entry) -> bool
+    ensures { IsTrue result ↔ (one.now ≡ other.now) }
+{
+    match (one, other) {
+        (Entry::Text(one), Entry::Text(other)) => is_same_text(one, other),
+        (
+            Entry::Charter {
+                author,
+                serial,
+                names,
+            },
+            Entry::Charter {
+                author: by,
+                serial: number,
+                names: others,
+            },
+        ) => *author == *by && *serial == *number && names.as_slice() == others.as_slice(),
+        _ => false,
+    }
+}
+
+/// Whether they are the same text of one author under one number.
+fn is_same_text(one: &Submission, other: &Submission) -> bool
+    ensures { IsTrue result ↔ (one.now ≡ other.now) }
+{
+    one.author == other.author
+        && one.serial == other.serial
+        && one.text.as_slice() == other.text.as_slice()
+}

@@ -1,0 +1,125 @@
+-- The law of the kept part: each step makes its one change of the kept part of its node and of no other node's, and a restart makes none.
+use Rattle.std.proofs.Common.{◌≡◌, ◌≢◌, ℕ, zero, suc, ◌==◌, List, [], ◌∷◌, ◌++◌, Option, Some, None, Result, Ok, Err, refl, ap, sym, ◌∙◌, subst, set, slice_get}
+use Rattle.std.specs.Option.{option_map}
+use Rattle.synod.specs.declared.packet.Packet.{Packet}
+use Rattle.synod.specs.declared.change.Change.{Change}
+use Rattle.synod.specs.declared.refusal.Refusal.{Refusal}
+use Rattle.synod.specs.Record.{Kept, changed_by}
+use Rattle.synod.specs.Node.{Node, Stepped, kept_of}
+use Rattle.synod.specs.Proposer.{offered, begun}
+use Rattle.synod.specs.Step.{on_packet, restarted}
+use Rattle.synod.proofs.RecordLemmas.{ChangesKeptOnOk, offered_kept, begun_kept, body_kept, restarted_kept}
+use Rattle.net.specs.declared.event.TheConstants.{MOST_EVENTS}
+use Rattle.net.specs.declared.event.Event.{Event}
+use Rattle.net.specs.declared.event.Event.TheVariants.{Offer, Begin, Deliver, Restart}
+use Rattle.net.specs.declared.fault.StepFault.{StepFault}
+use Rattle.net.specs.World.{World, stepped, answered, at_node, delivered, happens_at, happens, all_happen}
+use Rattle.net.specs.KeptPart.{kept_part, node_of, change_answered, change_at, change_delivered, change_of, AreOfOthers}
+use Rattle.net.specs.Laws.{KeptPartSurvives}
+use Rattle.net.proofs.EveryEvent.{IfTaken, if_taken, spent_or}
+use Rattle.net.proofs.TwoMoments.{all_happen-append, later_events}
+
+pub slice_get-set : {A : Type 0} (xs : List A) (i : ℕ) (x y : A) → slice_get xs i ≡ Some y → slice_get (set xs i x) i ≡ Some x
+slice_get-set [] i x y e = cc
+slice_get-set (z ∷ xs) zero x y e = refl
+slice_get-set (z ∷ xs) (suc i) x y e = slice_get-set xs i x y e
+
+pub slice_get-set_other : {A : Type 0} (xs : List A) (i k : ℕ) (x : A) → i ≢ k → slice_get (set xs i x) k ≡ slice_get xs k
+slice_get-set_other [] i k x other = refl
+slice_get-set_other (z ∷ xs) zero zero x other = absurd (other refl)
+slice_get-set_other (z ∷ xs) zero (suc k) x other = refl
+slice_get-set_other (z ∷ xs) (suc i) zero x other = refl
+slice_get-set_other (z ∷ xs) (suc i) (suc k) x other = slice_get-set_other xs i k x (λ e. other (ap suc e))
+
+abbrev changed_part : {V : Type 0} → Option (Change V) → Option (Kept V) → Option (Kept V)
+changed_part change kept = option_map (λ kept. changed_by kept change) kept
+
+-- x came of w by a step of node j that made the change
+pub record Moves {V : Type 0} (w : World V) (j k : ℕ) (change : Option (Change V)) (x : World V) : Type 0 where
+  pub own : j ≡ k → kept_part x k ≡ changed_part change (kept_part w k)
+  pub other : j ≢ k → kept_part x k ≡ kept_part w k
+
+module _ {V : Type 0} (w : World V) (j k : ℕ) where
+  own_part : (n : Node V) (step : Stepped V) → slice_get w.nodes j ≡ Some n → kept_of step.node ≡ changed_by (kept_of n) step.change → kept_part (stepped w j step) j ≡ changed_part step.change (kept_part w j)
+  own_part n step is_node changes =
+      ap (λ (o : Option (Node V)). option_map kept_of o) (slice_get-set w.nodes j step.node n is_node)
+      ∙ ap (λ (kept : Kept V). let o : Option (Kept V) = Some kept in o) changes
+      ∙ ap (λ (o : Option (Node V)). changed_part step.change (option_map kept_of o)) (sym is_node)
+
+  moves_answered : (n : Node V) → slice_get w.nodes j ≡ Some n → (r : Result (Stepped V) Refusal) → ChangesKeptOnOk n r → IfTaken (answered w j r) (Moves w j k (change_answered r))
+  moves_answered n is_node (Ok step) changes = record {
+    own = λ e. subst (λ (k : ℕ). kept_part (stepped w j step) k ≡ changed_part step.change (kept_part w k)) e (own_part n step is_node changes);
+    other = λ other. ap (λ (o : Option (Node V)). option_map kept_of o) (slice_get-set_other w.nodes j k step.node other);
+  }
+  moves_answered n is_node (Err refusal) changes = tt
+
+  moves_at : (make : Node V → Result (Stepped V) Refusal) → ((n : Node V) → ChangesKeptOnOk n (make n)) → (o : Option (Node V)) → slice_get w.nodes j ≡ o → IfTaken (at_node w j make o) (Moves w j k (change_at make o))
+  moves_at make changes None e = tt
+  moves_at make changes (Some n) e = moves_answered n e (make n) (changes n)
+
+-- the event, by the node whose it is
+pub record Happens {V : Type 0} (size : V → ℕ) (w : World V) (k : ℕ) (e : Event V) (x : World V) : Type 0 where
+  pub own : node_of w e ≡ Some k → kept_part x k ≡ changed_part (change_of size w e) (kept_part w k)
+  pub other : node_of w e ≢ Some k → kept_part x k ≡ kept_part w k
+
+module _ {V : Type 0} (size : V → ℕ) (w : World V) (k : ℕ) where
+  as_happens : (e : Event V) (j : ℕ) → node_of w e ≡ Some j → (r : Result (World V) StepFault) → IfTaken r (Moves w j k (change_of size w e)) → IfTaken r (Happens size w k e)
+  as_happens e j is_of (Ok x) h = record {
+    own = λ d. h.own (let same : j ≡ k = cc in same);
+    other = λ d. h.other (λ same. d (is_of ∙ ap (λ (i : ℕ). let o : Option ℕ = Some i in o) same));
+  }
+  as_happens e j is_of (Err fault) h = tt
+
+  happens_delivered : (number : ℕ) (o : Option (Packet V)) → slice_get w.packets number ≡ o → IfTaken (delivered w o) (Happens size w k (Deliver number))
+  happens_delivered number None e = tt
+  happens_delivered number (Some p) e =
+      as_happens (Deliver number) p.to (ap (λ (o : Option (Packet V)). option_map (λ p. p.to) o) e) (delivered w (Some p))
+      (subst (λ (o : Option (Packet V)). IfTaken (delivered w (Some p)) (Moves w p.to k (change_delivered w o))) (sym e)
+      (moves_at w p.to k (λ n. Ok (on_packet n p)) (λ n. body_kept n p.from p.body) (slice_get w.nodes p.to) refl))
+
+  happens_moves : (e : Event V) → IfTaken (happens_at size w e) (Happens size w k e)
+  happens_moves (Offer j v) = as_happens (Offer j v) j refl (happens_at size w (Offer j v)) (moves_at w j k (λ n. offered size n v) (λ n. offered_kept n size v) (slice_get w.nodes j) refl)
+  happens_moves (Begin j) = as_happens (Begin j) j refl (happens_at size w (Begin j)) (moves_at w j k begun (λ n. begun_kept n) (slice_get w.nodes j) refl)
+  happens_moves (Deliver number) = happens_delivered number (slice_get w.packets number) refl
+  happens_moves (Restart j) = as_happens (Restart j) j refl (happens_at size w (Restart j)) (moves_at w j k (λ n. Ok (restarted n)) (λ n. restarted_kept n) (slice_get w.nodes j) refl)
+
+  pub event_moves : (e : Event V) → IfTaken (happens size w e) (Happens size w k e)
+  event_moves e = spent_or (Happens size w k e) (happens_at size w e) (w.taken == MOST_EVENTS) (happens_moves e)
+
+-- Events of others, and then the restart.
+
+abbrev KeptIs : {V : Type 0} → ℕ → Option (Kept V) → World V → Type 0
+KeptIs k kept w = kept_part w k ≡ kept
+
+module _ {V : Type 0} (size : V → ℕ) (k : ℕ) (kept : Option (Kept V)) where
+  other_keeps : (w : World V) (e : Event V) → KeptIs k kept w → node_of w e ≢ Some k → (r : Result (World V) StepFault) → IfTaken r (Happens size w k e) → IfTaken r (KeptIs k kept)
+  other_keeps w e is other (Ok x) h = h.other other ∙ is
+  other_keeps w e is other (Err fault) h = tt
+
+  others_keep : (es : List (Event V)) (r : Result (World V) StepFault) → AreOfOthers size k r es → IfTaken r (KeptIs k kept) → IfTaken (all_happen size es r) (KeptIs k kept)
+  others_keep [] r others h = h
+  others_keep (e ∷ es) (Err fault) others h = tt
+  others_keep (e ∷ es) (Ok w) others h = others_keep es (happens size w e) others.1 (other_keeps w e h others.0 (happens size w e) (event_moves size w k e))
+
+  no_change : (o : Option (Node V)) → changed_part (change_at (λ n. Ok (restarted n)) o) (option_map kept_of o) ≡ option_map kept_of o
+  no_change None = refl
+  no_change (Some n) = refl
+
+  restart_keeps : (w : World V) → KeptIs k kept w → (r : Result (World V) StepFault) → IfTaken r (Happens size w k (Restart k)) → IfTaken r (KeptIs k kept)
+  restart_keeps w is (Ok x) h = h.own refl ∙ no_change (slice_get w.nodes k) ∙ is
+  restart_keeps w is (Err fault) h = tt
+
+  then_restart : (r : Result (World V) StepFault) → IfTaken r (KeptIs k kept) → IfTaken (all_happen size (Restart k ∷ []) r) (KeptIs k kept)
+  then_restart (Err fault) h = tt
+  then_restart (Ok w) h = restart_keeps w h (happens size w (Restart k)) (event_moves size w k (Restart k))
+
+pub kept_part_survives : {V : Type 0} → KeptPartSurvives V
+kept_part_survives {V} size ws events others e k w x y before made is_of of_others after_all =
+    let kept : Option (Kept V) = changed_part (change_of size w e) (kept_part w k) in
+    let moved : KeptIs k kept x = (if_taken (Happens size w k e) (happens size w e) x made (event_moves size w k e)).own is_of in
+    let rest : List (Event V) = others ++ Restart k ∷ [] in
+    let from_e = later_events size ws events (e ∷ rest) w (Ok y) before after_all in
+    let from_x : all_happen size rest (Ok x) ≡ Ok y = ap (λ (r : Result (World V) StepFault). all_happen size rest r) (sym made) ∙ from_e in
+    let last : all_happen size (Restart k ∷ []) (all_happen size others (Ok x)) ≡ Ok y = sym (all_happen-append size others (Restart k ∷ []) (Ok x)) ∙ from_x in
+    if_taken (KeptIs k kept) (all_happen size (Restart k ∷ []) (all_happen size others (Ok x))) y last
+    (then_restart size k kept (all_happen size others (Ok x)) (others_keep size k kept others (Ok x) of_others moved))

@@ -1,0 +1,131 @@
+-- The ledger of a run: what was begun, promised, proposed and voted, four lists that only grow, the newest first.
+-- The proof alone keeps it, beside the world; the argument over it needs no node and no packet.
+use Rattle.std.proofs.Common.{◌≡◌, ℕ, Bool, true, List, [], ◌∷◌, Option, Some, None, ◌⊎◌, inl, ◌≤◌}
+use Rattle.slots.proofs.Lists.{In}
+use Rattle.synod.specs.declared.ballot.Ballot.{Ballot}
+use Rattle.synod.specs.declared.packet.Report.{Report}
+use Rattle.synod.specs.Weights.{is_quorum}
+use Rattle.synod.proofs.BallotsLemmas.{Under, Upto}
+use Rattle.net.specs.Chosen.{Vote, vote}
+use Rattle.net.proofs.Lists.{Settles}
+
+-- a ballot was begun from a slot on
+pub record Begun : Type 0 where
+  pub ballot : Ballot
+  pub first : ℕ
+
+abbrev pub begun_as : Ballot → ℕ → Begun
+begun_as b first = record { ballot = b; first = first }
+
+-- a node promised a ballot, and reported its votes from a slot on
+pub record Promised (V : Type 0) : Type 0 where
+  pub node : ℕ
+  pub ballot : Ballot
+  pub first : ℕ
+  pub reports : List (Report V)
+
+pub record Proposal (V : Type 0) : Type 0 where
+  pub ballot : Ballot
+  pub slot : ℕ
+  pub value : Option V
+
+abbrev pub proposal : {V : Type 0} → Ballot → ℕ → Option V → Proposal V
+proposal b s v = record { ballot = b; slot = s; value = v }
+
+pub record Ledger (V : Type 0) : Type 0 where
+  pub begun : List Begun
+  pub promises : List (Promised V)
+  pub proposals : List (Proposal V)
+  pub votes : List (Vote V)
+
+-- Lamport's condition on a proposal, P2c of section 2.2.
+
+pub record HasPromised {V : Type 0} (l : Ledger V) (k : ℕ) (b : Ballot) : Type 0 where
+  pub promise : Promised V
+  pub is_in : In promise l.promises
+  pub node : promise.node ≡ k
+  pub ballot : promise.ballot ≡ b
+
+-- no node of the quorum voted at s under a ballot below b
+abbrev pub NoneVoted : {V : Type 0} → Ledger V → (ℕ → Bool) → Ballot → ℕ → Type 0
+NoneVoted {V} l quorum b s = (x : Vote V) → In x l.votes → quorum x.node ≡ true → x.slot ≡ s → Under x.ballot b → ⊥
+
+-- under a ballot below b an older proposal gives v to slot s, and no node of the quorum voted there in between
+pub record HighestVoted {V : Type 0} (l : Ledger V) (older : List (Proposal V)) (quorum : ℕ → Bool) (b : Ballot) (s : ℕ) (v : Option V) : Type 0 where
+  pub ballot : Ballot
+  pub under : Under ballot b
+  pub proposed : In (proposal ballot s v) older
+  pub highest : (x : Vote V) → In x l.votes → quorum x.node ≡ true → x.slot ≡ s → Under x.ballot b → Upto x.ballot ballot
+
+-- a quorum promised b, and of its votes below b at s there are none, or the highest is for v
+pub record IsGrounded {V : Type 0} (ws : List ℕ) (l : Ledger V) (older : List (Proposal V)) (b : Ballot) (s : ℕ) (v : Option V) : Type 0 where
+  pub quorum : ℕ → Bool
+  pub majority : is_quorum ws quorum ≡ true
+  pub promised : (k : ℕ) → quorum k ≡ true → HasPromised l k b
+  pub picks : NoneVoted l quorum b s ⊎ HighestVoted l older quorum b s v
+
+-- any value may be proposed at s under b
+pub record IsFree {V : Type 0} (ws : List ℕ) (l : Ledger V) (b : Ballot) (s : ℕ) : Type 0 where
+  pub quorum : ℕ → Bool
+  pub majority : is_quorum ws quorum ≡ true
+  pub promised : (k : ℕ) → quorum k ≡ true → HasPromised l k b
+  pub none : NoneVoted l quorum b s
+
+pub free_grounded : {V : Type 0} {ws : List ℕ} {l : Ledger V} {b : Ballot} {s : ℕ} (older : List (Proposal V)) (v : Option V) → IsFree ws l b s → IsGrounded ws l older b s v
+free_grounded older v free = record { quorum = free.quorum; majority = free.majority; promised = free.promised; picks = inl free.none }
+
+-- each proposal is grounded on those older than itself
+abbrev pub AllGrounded : {V : Type 0} → List ℕ → Ledger V → List (Proposal V) → Type 0
+AllGrounded ws l [] = Unit {0}
+AllGrounded ws l (p ∷ older) = IsGrounded ws l older p.ballot p.slot p.value × AllGrounded ws l older
+
+-- What a promise tells.
+
+-- one of the reports is of the vote's slot, under a ballot not below the vote's
+pub record HasHigher {V : Type 0} (reports : List (Report V)) (x : Vote V) : Type 0 where
+  pub report : Report V
+  pub is_in : In report reports
+  pub slot : report.slot ≡ x.slot
+  pub upto : Upto x.ballot report.ballot
+
+-- the report is of a vote of the node that promises, below its ballot
+pub record IsBacked {V : Type 0} (l : Ledger V) (p : Promised V) (r : Report V) : Type 0 where
+  pub first : p.first ≤ r.slot
+  pub under : Under r.ballot p.ballot
+  pub voted : In (vote p.node r.ballot r.slot r.value) l.votes
+
+-- at each slot from the first on the promise reports the highest vote of its node below its ballot, and votes alone
+pub record IsTruthful {V : Type 0} (l : Ledger V) (p : Promised V) : Type 0 where
+  pub begun : In (begun_as p.ballot p.first) l.begun
+  pub reported : (x : Vote V) → In x l.votes → x.node ≡ p.node → p.first ≤ x.slot → Under x.ballot p.ballot → HasHigher p.reports x
+  pub backed : (r : Report V) → In r p.reports → IsBacked l p r
+
+-- What always holds of the ledger.
+
+pub record IsBegun {V : Type 0} (l : Ledger V) (b : Ballot) : Type 0 where
+  pub first : ℕ
+  pub is_in : In (begun_as b first) l.begun
+
+-- a no-operation, or one of what was offered
+abbrev pub IsBrought : {V : Type 0} → List V → Option V → Type 0
+IsBrought offers None = Unit {0}
+IsBrought offers (Some v) = In v offers
+
+abbrev pub OneBallot : Begun → Begun → Type 0
+OneBallot x y = x.ballot ≡ y.ballot
+
+abbrev pub OnePromise : {V : Type 0} → Promised V → Promised V → Type 0
+OnePromise p q = (p.node ≡ q.node) × (p.ballot ≡ q.ballot)
+
+abbrev pub OnePlace : {V : Type 0} → Proposal V → Proposal V → Type 0
+OnePlace p q = (p.ballot ≡ q.ballot) × (p.slot ≡ q.slot)
+
+pub record IsSound {V : Type 0} (ws : List ℕ) (offers : List V) (l : Ledger V) : Type 0 where
+  pub one_value : Settles OnePlace (λ p. p.value) l.proposals  -- one value a ballot and slot
+  pub backed : (x : Vote V) → In x l.votes → In (proposal x.ballot x.slot x.value) l.proposals
+  pub grounded : AllGrounded ws l l.proposals
+  pub brought : (p : Proposal V) → In p l.proposals → IsBrought offers p.value
+  pub proposed_begun : (p : Proposal V) → In p l.proposals → IsBegun l p.ballot
+  pub begun_once : Settles OneBallot (λ x. x.first) l.begun
+  pub promised_once : Settles OnePromise (λ p. p.reports) l.promises
+  pub truthful : (p : Promised V) → In p l.promises → IsTruthful l p

@@ -1,0 +1,126 @@
+-- The ledger grows by what one node does, and what was true of it lasts.
+-- The heart: who promised a ballot casts no new vote below it, so a quorum's promises settle once and for all what was voted below.
+use Rattle.std.proofs.Common.{◌≡◌, ℕ, Bool, true, List, [], ◌∷◌, Option, inl, inr, refl, sym, ◌∙◌, subst}
+use Rattle.slots.proofs.Lists.{In}
+use Rattle.slots.proofs.Lists.{Contains-in, In-contains}
+use Rattle.synod.specs.declared.ballot.Ballot.{Ballot}
+use Rattle.synod.proofs.BallotsLemmas.{Under, Upto, not_both}
+use Rattle.net.specs.Chosen.{Vote, IsChosen}
+use Rattle.net.proofs.Lists.{Adds, adds_none, adds_one, adds_both}
+use Rattle.net.proofs.Ledger.{Begun, Promised, Proposal, Ledger, HasPromised, NoneVoted, IsGrounded, IsFree, AllGrounded, IsTruthful, IsBegun}
+
+-- all that k promised is up to b
+abbrev pub AllPromisedUpto : {V : Type 0} → List (Promised V) → ℕ → Ballot → Type 0
+AllPromisedUpto {V} promises k b = (p : Promised V) → In p promises → p.node ≡ k → Upto p.ballot b
+
+-- l grew to m by what node k did
+pub record Grows {V : Type 0} (k : ℕ) (l m : Ledger V) : Type 0 where
+  pub begun : Adds (λ x. x.ballot.node ≡ k) l.begun m.begun
+  pub promises : Adds (λ x. x.node ≡ k) l.promises m.promises
+  pub proposals : Adds (λ x. x.ballot.node ≡ k) l.proposals m.proposals
+  pub votes : Adds (λ x. (x.node ≡ k) × AllPromisedUpto l.promises k x.ballot) l.votes m.votes
+
+pub grows_none : {V : Type 0} (k : ℕ) (l : Ledger V) → Grows k l l
+grows_none k l = record { begun = adds_none; promises = adds_none; proposals = adds_none; votes = adds_none }
+
+pub grows_both : {V : Type 0} {k : ℕ} {l m n : Ledger V} → Grows k l m → Grows k m n → Grows k l n
+grows_both g h = record {
+  begun = adds_both (λ x e. e) (λ x e. e) g.begun h.begun;
+  promises = adds_both (λ x e. e) (λ x e. e) g.promises h.promises;
+  proposals = adds_both (λ x e. e) (λ x e. e) g.proposals h.proposals;
+  votes = adds_both (λ x e. e) (λ x e. (e.0, λ p i d. e.1 p (g.promises.old p i) d)) g.votes h.votes;
+}
+
+-- What one node adds.
+
+abbrev pub with_begun : {V : Type 0} → Begun → Ledger V → Ledger V
+with_begun x l = record l { begun = x ∷ l.begun }
+
+abbrev pub with_promise : {V : Type 0} → Promised V → Ledger V → Ledger V
+with_promise x l = record l { promises = x ∷ l.promises }
+
+abbrev pub with_proposal : {V : Type 0} → Proposal V → Ledger V → Ledger V
+with_proposal x l = record l { proposals = x ∷ l.proposals }
+
+abbrev pub with_vote : {V : Type 0} → Vote V → Ledger V → Ledger V
+with_vote x l = record l { votes = x ∷ l.votes }
+
+pub grows-with_begun : {V : Type 0} (x : Begun) (l : Ledger V) (k : ℕ) → x.ballot.node ≡ k → Grows k l (with_begun x l)
+grows-with_begun x l k mine = record { begun = adds_one mine; promises = adds_none; proposals = adds_none; votes = adds_none }
+
+pub grows-with_promise : {V : Type 0} (x : Promised V) (l : Ledger V) (k : ℕ) → x.node ≡ k → Grows k l (with_promise x l)
+grows-with_promise x l k mine = record { begun = adds_none; promises = adds_one mine; proposals = adds_none; votes = adds_none }
+
+pub grows-with_proposal : {V : Type 0} (x : Proposal V) (l : Ledger V) (k : ℕ) → x.ballot.node ≡ k → Grows k l (with_proposal x l)
+grows-with_proposal x l k mine = record { begun = adds_none; promises = adds_none; proposals = adds_one mine; votes = adds_none }
+
+pub grows-with_vote : {V : Type 0} (x : Vote V) (l : Ledger V) → AllPromisedUpto l.promises x.node x.ballot → Grows x.node l (with_vote x l)
+grows-with_vote x l upto = record { begun = adds_none; promises = adds_none; proposals = adds_none; votes = adds_one (refl, upto) }
+
+-- What lasts.
+
+pub chosen_with_more : {V : Type 0} {ws : List ℕ} {s : ℕ} {v : Option V} (old new : List (Vote V)) → ((x : Vote V) → In x old → In x new) → IsChosen ws old s v → IsChosen ws new s v
+chosen_with_more old new more h = record {
+  ballot = h.ballot;
+  chosen = record {
+    voters = h.chosen.voters;
+    majority = h.chosen.majority;
+    voted = λ j q. In-contains _ new (more _ (Contains-in _ old (h.chosen.voted j q)));
+  };
+}
+
+module _ {V : Type 0} {k : ℕ} {l m : Ledger V} (g : Grows k l m) where
+  pub promised_lasts : {j : ℕ} {b : Ballot} → HasPromised l j b → HasPromised m j b
+  promised_lasts h = record { promise = h.promise; is_in = g.promises.old _ h.is_in; node = h.node; ballot = h.ballot }
+
+  -- a vote below a ballot that its node promised is no new one
+  pub vote_is_old : (x : Vote V) (b : Ballot) → HasPromised l x.node b → In x m.votes → Under x.ballot b → In x l.votes
+  vote_is_old x b h i under = elim (g.votes.new x i) [
+    | inl old ↦ old
+    | inr new ↦ absurd (not_both x.ballot b under (subst (λ (c : Ballot). Upto c x.ballot) h.ballot (new.1 h.promise h.is_in (h.node ∙ new.0))))
+  ]
+
+  pub none_lasts : {b : Ballot} {s : ℕ} (quorum : ℕ → Bool) → ((j : ℕ) → quorum j ≡ true → HasPromised l j b) → NoneVoted l quorum b s → NoneVoted m quorum b s
+  none_lasts {b} quorum promised none x i q e under = none x (vote_is_old x b (promised x.node q) i under) q e under
+
+  pub free_lasts : {ws : List ℕ} {b : Ballot} {s : ℕ} → IsFree ws l b s → IsFree ws m b s
+  free_lasts h = record {
+    quorum = h.quorum;
+    majority = h.majority;
+    promised = λ j q. promised_lasts (h.promised j q);
+    none = none_lasts h.quorum h.promised h.none;
+  }
+
+  pub grounded_lasts : {ws : List ℕ} {b : Ballot} {s : ℕ} {v : Option V} (older newer : List (Proposal V)) → ((p : Proposal V) → In p older → In p newer)
+      → IsGrounded ws l older b s v → IsGrounded ws m newer b s v
+  grounded_lasts {b = b} older newer more h = record {
+    quorum = h.quorum;
+    majority = h.majority;
+    promised = λ j q. promised_lasts (h.promised j q);
+    picks = elim h.picks [
+      | inl none ↦ inl (none_lasts h.quorum h.promised none)
+      | inr most ↦ inr record {
+        ballot = most.ballot;
+        under = most.under;
+        proposed = more _ most.proposed;
+        highest = λ x i q e under. most.highest x (vote_is_old x b (h.promised x.node q) i under) q e under;
+      }
+    ];
+  }
+
+  pub all_grounded_last : (ws : List ℕ) (ps : List (Proposal V)) → AllGrounded ws l ps → AllGrounded ws m ps
+  all_grounded_last ws [] h = tt
+  all_grounded_last ws (p ∷ ps) h = (grounded_lasts ps ps (λ q i. i) h.0, all_grounded_last ws ps h.1)
+
+  pub truthful_lasts : (p : Promised V) → In p l.promises → IsTruthful l p → IsTruthful m p
+  truthful_lasts p i h = record {
+    begun = g.begun.old _ h.begun;
+    reported = λ x j e from under. h.reported x (vote_is_old x p.ballot record { promise = p; is_in = i; node = sym e; ballot = refl } j under) e from under;
+    backed = λ r j. let b = h.backed r j in record { first = b.first; under = b.under; voted = g.votes.old _ b.voted };
+  }
+
+  pub begun_lasts : (b : Ballot) → IsBegun l b → IsBegun m b
+  begun_lasts b h = record { first = h.first; is_in = g.begun.old _ h.is_in }
+
+  pub chosen_lasts : {ws : List ℕ} {s : ℕ} {v : Option V} → IsChosen ws l.votes s v → IsChosen ws m.votes s v
+  chosen_lasts h = chosen_with_more l.votes m.votes (λ x i. g.votes.old x i) h

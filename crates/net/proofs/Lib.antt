@@ -1,0 +1,24 @@
+pub mod Lists
+mod Ledger
+mod LedgerGrows
+mod LedgerSteps
+mod Invariant
+mod StepsContinue
+mod AcceptorSteps
+mod LearnerSteps
+mod QuorumHeard
+mod ProposerSteps
+mod PromiseSteps
+pub mod EveryEvent
+pub mod TwoMoments
+mod OneValue
+mod LaterBallots
+mod ChosenAgree
+mod LogsAgree
+mod Offered
+pub mod KeptPartLemmas
+pub mod LogsGrow
+pub mod HistoryLemmas
+mod Rows
+pub mod TakenLemmas
+pub mod DueLemmas

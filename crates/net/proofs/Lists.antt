@@ -1,0 +1,99 @@
+-- Lists: facts of each element, like elements with one answer, and lists that grow.
+use Rattle.std.proofs.Common.{◌≡◌, ◌≢◌, ℕ, zero, suc, ◌<◌, ◌≤◌, List, [], ◌∷◌, ◌++◌, length, get_or, set, Option, Some, None, slice_get, ◌⊎◌, inl, inr, refl, ap, sym, ◌∙◌, subst, arith, le_of_suc-le-suc}
+use Rattle.std.specs.List.{AllByRecursion}
+use Rattle.slots.proofs.Lists.{In}
+
+-- Facts of each element.
+
+pub all_more : {A : Type 0} (P Q : A → Type 0) (xs : List A) → ((x : A) → P x → Q x) → AllByRecursion P xs → AllByRecursion Q xs
+all_more P Q [] more h = tt
+all_more P Q (x ∷ xs) more h = (more x h.0, all_more P Q xs more h.1)
+
+pub all_append : {A : Type 0} (P : A → Type 0) (xs ys : List A) → AllByRecursion P xs → AllByRecursion P ys → AllByRecursion P (xs ++ ys)
+all_append P [] ys h k = k
+all_append P (x ∷ xs) ys h k = (h.0, all_append P xs ys h.1 k)
+
+pub all_in : {A : Type 0} (P : A → Type 0) (xs : List A) (x : A) → In x xs → AllByRecursion P xs → P x
+all_in P [] x i h = elim i [ ]
+all_in P (y ∷ ys) x (inl e) h = subst P e h.0
+all_in P (y ∷ ys) x (inr i) h = all_in P ys x i h.1
+
+pub in_slice_get : {A : Type 0} (xs : List A) (i : ℕ) (x : A) → slice_get xs i ≡ Some x → In x xs
+in_slice_get [] i x e = cc
+in_slice_get (y ∷ ys) zero x e = inl cc
+in_slice_get (y ∷ ys) (suc i) x e = inr (in_slice_get ys i x e)
+
+-- Like elements.
+
+-- like elements have one answer
+abbrev pub Settles : {A B : Type 0} → (A → A → Type 0) → (A → B) → List A → Type 0
+Settles {A} same answer xs = (x y : A) → In x xs → In y xs → same x y → answer x ≡ answer y
+
+-- a new element that is like no old one leaves it so
+pub settles_more : {A B : Type 0} (same : A → A → Type 0) (answer : A → B) (new : A) (xs : List A) → ((x y : A) → same x y → same y x)
+    → ((y : A) → In y xs → same new y → ⊥) → Settles same answer xs → Settles same answer (new ∷ xs)
+settles_more {A} same answer new xs symmetric fresh old x y (inl e) (inl d) like = ap answer (sym e ∙ d)
+settles_more {A} same answer new xs symmetric fresh old x y (inl e) (inr j) like = absurd (fresh y j (subst (λ (z : A). same z y) (sym e) like))
+settles_more {A} same answer new xs symmetric fresh old x y (inr i) (inl d) like = absurd (fresh x i (subst (λ (z : A). same z x) (sym d) (symmetric x y like)))
+settles_more same answer new xs symmetric fresh old x y (inr i) (inr j) like = old x y i j like
+
+-- Lists that grow.
+
+-- all that was in xs is in ys, and what is new there is as P says
+pub record Adds {A : Type 0} (P : A → Type 0) (xs ys : List A) : Type 0 where
+  pub old : (x : A) → In x xs → In x ys
+  pub new : (x : A) → In x ys → In x xs ⊎ P x
+
+pub adds_none : {A : Type 0} {P : A → Type 0} {xs : List A} → Adds P xs xs
+adds_none = record { old = λ x i. i; new = λ x i. inl i }
+
+one_new : {A : Type 0} (P : A → Type 0) (y : A) (xs : List A) → P y → (x : A) → In x (y ∷ xs) → In x xs ⊎ P x
+one_new P y xs p x (inl e) = inr (subst P e p)
+one_new P y xs p x (inr i) = inl i
+
+pub adds_one : {A : Type 0} {P : A → Type 0} {y : A} {xs : List A} → P y → Adds P xs (y ∷ xs)
+adds_one {A} {P} {y} {xs} p = record { old = λ x i. inr i; new = one_new P y xs p }
+
+first_new : {A B P Q : Type 0} → A ⊎ P → (A → B ⊎ Q) → (P → Q) → B ⊎ Q
+first_new (inl a) f g = f a
+first_new (inr p) f g = inr (g p)
+
+pub adds_both : {A : Type 0} {P Q R : A → Type 0} {xs ys zs : List A} → ((x : A) → P x → R x) → ((x : A) → Q x → R x) → Adds P xs ys → Adds Q ys zs → Adds R xs zs
+adds_both f g a b = record {
+  old = λ x i. b.old x (a.old x i);
+  new = λ x i. first_new (b.new x i) (λ j. first_new (a.new x j) (λ k. inl k) (f x)) (g x);
+}
+
+-- Lists by index.
+
+pub at_place : {A : Type 0} (xs : List A) (k : ℕ) (x : A) → k < length xs → x ≡ get_or xs k x → slice_get xs k ≡ Some x
+at_place [] k x low is = absurd (omega arith)
+at_place {A} (y ∷ xs) zero x low is = ap (λ (z : A). let o : Option A = Some z in o) (sym is)
+at_place (y ∷ xs) (suc k) x low is = at_place xs k x (le_of_suc-le-suc low) is
+
+pub none_past : {A : Type 0} (xs : List A) (k : ℕ) → length xs ≤ k → slice_get xs k ≡ None
+none_past [] k past = refl
+none_past (x ∷ xs) zero past = absurd (omega arith)
+none_past (x ∷ xs) (suc k) past = none_past xs k (le_of_suc-le-suc past)
+
+pub at_set : {A : Type 0} (xs : List A) (k : ℕ) (x y : A) → slice_get xs k ≡ Some y → slice_get (set xs k x) k ≡ Some x
+at_set [] k x y e = cc
+at_set (z ∷ xs) zero x y e = refl
+at_set (z ∷ xs) (suc k) x y e = at_set xs k x y e
+
+pub at_set_other : {A : Type 0} (xs : List A) (k j : ℕ) (x : A) → k ≢ j → slice_get (set xs k x) j ≡ slice_get xs j
+at_set_other [] k j x other = refl
+at_set_other (z ∷ xs) zero zero x other = absurd (other refl)
+at_set_other (z ∷ xs) zero (suc j) x other = refl
+at_set_other (z ∷ xs) (suc k) zero x other = refl
+at_set_other (z ∷ xs) (suc k) (suc j) x other = at_set_other xs k j x (λ e. other (ap suc e))
+
+pub set_twice : {A : Type 0} (xs : List A) (k : ℕ) (x y : A) → set (set xs k x) k y ≡ set xs k y
+set_twice [] k x y = refl
+set_twice (z ∷ xs) zero x y = refl
+set_twice (z ∷ xs) (suc k) x y = ap (λ zs. z ∷ zs) (set_twice xs k x y)
+
+pub at_front : {A : Type 0} (xs more : List A) (k : ℕ) (x : A) → slice_get xs k ≡ Some x → slice_get (xs ++ more) k ≡ Some x
+at_front [] more k x e = cc
+at_front (y ∷ xs) more zero x e = e
+at_front (y ∷ xs) more (suc k) x e = at_front xs more k x e

@@ -1,0 +1,175 @@
+-- A log only grows: a step of a node learns at an empty slot alone, and forgets nothing but at a restart.
+use Rattle.std.proofs.Common.{◌≡◌, ◌≢◌, ℕ, zero, suc, ◌-◌, ◌^◌, ◌==◌, ◌&&◌, not, nat_lt, Bool, true, false, List, [], ◌∷◌, ◌++◌, length, Option, Some, None, Result, Ok, Err, refl, ap, sym, ◌∙◌, subst, slice_get, if◌then◌else◌}
+use Rattle.std.proofs.Common.{arith}
+use Rattle.std.proofs.lemmas.Bool.Decides.{nat_tests}
+use Rattle.slots.specs.declared.slots.TheConstants.{SLOTS}
+use Rattle.slots.specs.FiniteMap.{entry_at, put_at, entries_to_gap}
+use Rattle.synod.specs.declared.ballot.Ballot.{Ballot}
+use Rattle.synod.specs.declared.packet.Packet.{Packet}
+use Rattle.synod.specs.declared.packet.Report.{Report}
+use Rattle.synod.specs.declared.packet.Body.{Body}
+use Rattle.synod.specs.declared.packet.Body.TheVariants.{Prepare, Promise, Accept, Accepted, Nack, Ask, Told}
+use Rattle.synod.specs.declared.proposer.TheConstants.{MOST_WAITING}
+use Rattle.synod.specs.declared.proposer.Heard.{Heard}
+use Rattle.synod.specs.declared.proposer.Role.{Role}
+use Rattle.synod.specs.declared.proposer.Role.TheVariants.{Idle, Preparing, Leading}
+use Rattle.synod.specs.declared.refusal.Refusal.{Refusal}
+use Rattle.synod.specs.declared.refusal.Refusal.TheVariants.{Busy, LogFull, RoundsSpent, TooLong}
+use Rattle.synod.specs.declared.value.TheConstants.{MOST_BYTES}
+use Rattle.synod.specs.Ballots.{is_under, is_same}
+use Rattle.synod.specs.Weights.{is_quorum}
+use Rattle.synod.specs.Pages.{all_had}
+use Rattle.synod.specs.Node.{Node, Stepped, unchanged, pages_from, with_page, is_heard}
+use Rattle.synod.specs.Log.{log_of, log_length}
+use Rattle.synod.specs.Acceptor.{promises, refuses, takes_value}
+use Rattle.synod.specs.Proposer.{waits, takes_slot, offer_waits, offer_as, offered, next_round, begins, begun, top_reported, all_reports, leads, keeps_page, keeps_promise, hears, gathers, on_promise_as, is_at, idles}
+use Rattle.synod.specs.Learner.{has_voter, counted, chooses, on_accepted_at, on_ask_at, on_told_at}
+use Rattle.synod.specs.Step.{on_body, on_packet, restarted}
+use Rattle.net.specs.declared.event.TheConstants.{MOST_EVENTS}
+use Rattle.net.specs.declared.event.Event.{Event}
+use Rattle.net.specs.declared.event.Event.TheVariants.{Offer, Begin, Deliver, Restart}
+use Rattle.net.specs.World.{World, stepped, answered, at_node, delivered, happens_at, happens, log_at, log}
+use Rattle.net.specs.Agree.{IsBeginningOf}
+use Rattle.net.specs.Laws.{LogsOnlyGrow, RestartEmptiesLog}
+use Rattle.net.proofs.EveryEvent.{IfTaken, if_taken, spent_or}
+use Rattle.net.proofs.KeptPartLemmas.{slice_get-set, slice_get-set_other}
+
+-- an entry at an empty slot lengthens the log or leaves it
+log-put : {T : Type 0} (xs : List (Option T)) (s : ℕ) (v : T) → entry_at xs s ≡ None → IsBeginningOf (entries_to_gap xs) (entries_to_gap (put_at xs s v))
+log-put [] s v empty = (entries_to_gap (put_at [] s v), refl)
+log-put (None ∷ xs) s v empty = (entries_to_gap (put_at (None ∷ xs) s v), refl)
+log-put (Some x ∷ xs) zero v empty = cc
+log-put (Some x ∷ xs) (suc s) v empty = let more = log-put xs s v empty in (more.0, ap (λ ys. x ∷ ys) more.1)
+
+-- the step leaves the log a beginning of the new one
+abbrev LogGrows : {V : Type 0} → Node V → Stepped V → Type 0
+LogGrows n step = IsBeginningOf (log_of n) (log_of step.node)
+
+-- the same, where the step is not refused
+abbrev LogGrowsOnOk : {V : Type 0} → Node V → Result (Stepped V) Refusal → Type 0
+LogGrowsOnOk n (Ok step) = LogGrows n step
+LogGrowsOnOk n (Err refusal) = Unit {0}
+
+all_of : {A : Type 0} (xs : List A) → xs ++ [] ≡ xs
+all_of [] = refl
+all_of (x ∷ xs) = ap (λ ys. x ∷ ys) (all_of xs)
+
+either : {V : Type 0} (n : Node V) (one other : Stepped V) (t : Bool) → LogGrows n one → LogGrows n other → LogGrows n (if t then one else other)
+either n one other true h k = h
+either n one other false h k = k
+
+either_ok : {V : Type 0} (n : Node V) (one other : Result (Stepped V) Refusal) (t : Bool) → LogGrowsOnOk n one → LogGrowsOnOk n other → LogGrowsOnOk n (if t then one else other)
+either_ok n one other true h k = h
+either_ok n one other false h k = k
+
+module _ {V : Type 0} (n : Node V) where
+  same : IsBeginningOf (log_of n) (log_of n)
+  same = ([], all_of (log_of n))
+
+  offer_waits_grows : (v : V) → LogGrowsOnOk n (offer_waits n v)
+  offer_waits_grows v = either_ok n (Err LogFull) (if nat_lt (length n.waiting) MOST_WAITING then Ok (waits n v) else Err Busy) (log_length n == SLOTS) tt
+      (either_ok n (Ok (waits n v)) (Err Busy) (nat_lt (length n.waiting) MOST_WAITING) same tt)
+
+  offer_as_grows : (role : Role) (v : V) → LogGrowsOnOk n (offer_as role n v)
+  offer_as_grows Idle v = offer_waits_grows v
+  offer_as_grows (Preparing b first) v = offer_waits_grows v
+  offer_as_grows (Leading b next) v = either_ok n (Err LogFull) (Ok (takes_slot n b next v)) (next == SLOTS) tt same
+
+  offered_grows : (size : V → ℕ) (v : V) → LogGrowsOnOk n (offered size n v)
+  offered_grows size v = either_ok n (Err TooLong) (offer_as n.role n v) (nat_lt MOST_BYTES (size v)) tt (offer_as_grows n.role v)
+
+  begun_grows : LogGrowsOnOk n (begun n)
+  begun_grows = either_ok n (Ok (begins n)) (Err RoundsSpent) (nat_lt (next_round n) (2 ^ 64)) same tt
+
+  abbrev heard_with : ℕ → ℕ → List Heard
+  heard_with p count = n.heard ++ record { node = p; count = count } ∷ []
+
+  hears_grows : (b : Ballot) (first : ℕ) (pages : List (List (Option (List (Report V))))) (heard : List Heard) → LogGrows n (hears n b first pages heard)
+  hears_grows b first pages heard = either n (leads n b first (all_reports pages heard) (top_reported first (all_reports pages heard))) (keeps_promise n pages heard) (is_quorum n.weights (is_heard heard)) same same
+
+  gathers_grows : (p : ℕ) (b : Ballot) (first count : ℕ) (pages : List (List (Option (List (Report V))))) → LogGrows n (gathers n p b first count pages)
+  gathers_grows p b first count pages = either n (hears n b first pages (heard_with p count)) (keeps_page n pages) (all_had (pages_from pages p) count)
+      (hears_grows b first pages (heard_with p count)) same
+
+  promise_grows : (role : Role) (p : ℕ) (b : Ballot) (page count : ℕ) (reports : List (Report V)) → LogGrows n (on_promise_as role n p b page count reports)
+  promise_grows Idle p b page count reports = same
+  promise_grows (Leading c next) p b page count reports = same
+  promise_grows (Preparing c first) p b page count reports = either n (gathers n p c first count (with_page n.pages p (page - 1) reports)) (unchanged n) (is_same b c && not (is_heard n.heard p))
+      (gathers_grows p c first count (with_page n.pages p (page - 1) reports)) same
+
+  accepted_grows : (o : Option (Option V)) (p : ℕ) (b : Ballot) (s : ℕ) (v : Option V) → entry_at n.learned s ≡ o → LogGrows n (on_accepted_at o n p b s v)
+  accepted_grows (Some u) p b s v is = same
+  accepted_grows None p b s v is = let counting : Node V = record n { tallies = counted n.tallies s b p } in
+      either n (chooses counting s v) (unchanged counting) (is_quorum n.weights (has_voter counting.tallies s b)) (log-put n.learned s v is) same
+
+  ask_grows : (o : Option (Option V)) (p s : ℕ) → LogGrows n (on_ask_at o n p s)
+  ask_grows None p s = same
+  ask_grows (Some v) p s = same
+
+  told_grows : (o : Option (Option V)) (p s : ℕ) (v : Option V) → entry_at n.learned s ≡ o → LogGrows n (on_told_at o n p s v)
+  told_grows (Some u) p s v is = same
+  told_grows None p s v is = log-put n.learned s v is
+
+  body_grows : (p : ℕ) (body : Body V) → LogGrows n (on_body n p body)
+  body_grows p (Prepare b first) = either n (promises n p b first) (refuses n p b) (is_under n.promise b) same same
+  body_grows p (Promise b page count reports) = promise_grows n.role p b page count reports
+  body_grows p (Accept b s v) = either n (refuses n p b) (takes_value n b s v) (is_under b n.promise) same same
+  body_grows p (Accepted b s v) = accepted_grows (entry_at n.learned s) p b s v refl
+  body_grows p (Nack b c) = either n (idles n) (unchanged n) (is_at n.role b && is_under b c) same same
+  body_grows p (Ask s) = ask_grows (entry_at n.learned s) p s
+  body_grows p (Told s v) = told_grows (entry_at n.learned s) p s v refl
+
+-- The logs of a world: that of the node of an event grows, and each other stays.
+
+same_log : {A : Type 0} (xs ys : List A) → ys ≡ xs → IsBeginningOf xs ys
+same_log xs ys is = ([], all_of xs ∙ sym is)
+
+module _ {V : Type 0} (w : World V) (j k : ℕ) where
+  other_log : (step : Stepped V) → j ≢ k → log (stepped w j step) k ≡ log w k
+  other_log step other = ap (λ (o : Option (Node V)). log_at o) (slice_get-set_other w.nodes j k step.node other)
+
+  own_log : (n : Node V) (step : Stepped V) → slice_get w.nodes j ≡ Some n → LogGrows n step → IsBeginningOf (log w j) (log (stepped w j step) j)
+  own_log n step is grows =
+      (grows.0, ap (λ (o : Option (Node V)). log_at o ++ grows.0) is ∙ grows.1 ∙ ap (λ (o : Option (Node V)). log_at o) (sym (slice_get-set w.nodes j step.node n is)))
+
+  either_log : (n : Node V) (step : Stepped V) → slice_get w.nodes j ≡ Some n → LogGrows n step → (t : Bool) → (j == k) ≡ t → IsBeginningOf (log w k) (log (stepped w j step) k)
+  either_log n step is grows true test = let e : j ≡ k = grind (arith, nat_tests) in subst (λ (i : ℕ). IsBeginningOf (log w i) (log (stepped w j step) i)) e (own_log n step is grows)
+  either_log n step is grows false test = same_log (log w k) (log (stepped w j step) k) (other_log step (grind (arith, nat_tests)))
+
+  grows_answered : (n : Node V) → slice_get w.nodes j ≡ Some n → (r : Result (Stepped V) Refusal) → LogGrowsOnOk n r → IfTaken (answered w j r) (λ x. IsBeginningOf (log w k) (log x k))
+  grows_answered n is (Ok step) grows = either_log n step is grows (j == k) refl
+  grows_answered n is (Err refusal) grows = tt
+
+  grows_at : (make : Node V → Result (Stepped V) Refusal) → ((n : Node V) → LogGrowsOnOk n (make n)) → (o : Option (Node V)) → slice_get w.nodes j ≡ o → IfTaken (at_node w j make o) (λ x. IsBeginningOf (log w k) (log x k))
+  grows_at make grows None is = tt
+  grows_at make grows (Some n) is = grows_answered n is (make n) (grows n)
+
+module _ {V : Type 0} (size : V → ℕ) (w : World V) (k : ℕ) where
+  grows_delivered : (o : Option (Packet V)) → IfTaken (delivered w o) (λ x. IsBeginningOf (log w k) (log x k))
+  grows_delivered None = tt
+  grows_delivered (Some p) = grows_at w p.to k (λ n. Ok (on_packet n p)) (λ n. body_grows n p.from p.body) (slice_get w.nodes p.to) refl
+
+  others_restart : (j : ℕ) → j ≢ k → (o : Option (Node V)) → IfTaken (at_node w j (λ n. Ok (restarted n)) o) (λ x. IsBeginningOf (log w k) (log x k))
+  others_restart j other None = tt
+  others_restart j other (Some n) = same_log _ _ (other_log w j k (restarted n) other)
+
+  grows_happens_at : (e : Event V) → e ≢ Restart k → IfTaken (happens_at size w e) (λ x. IsBeginningOf (log w k) (log x k))
+  grows_happens_at (Offer j v) other = grows_at w j k (λ n. offered size n v) (λ n. offered_grows n size v) (slice_get w.nodes j) refl
+  grows_happens_at (Begin j) other = grows_at w j k begun (λ n. begun_grows n) (slice_get w.nodes j) refl
+  grows_happens_at (Deliver number) other = grows_delivered (slice_get w.packets number)
+  grows_happens_at (Restart j) other = others_restart j (λ same. other (ap (λ (i : ℕ). let e : Event V = Restart i in e) same)) (slice_get w.nodes j)
+
+  -- an event that is no restart of node k leaves its log a beginning of the new one
+  pub log_grows : (e : Event V) → e ≢ Restart k → IfTaken (happens size w e) (λ x. IsBeginningOf (log w k) (log x k))
+  log_grows e other = spent_or (λ x. IsBeginningOf (log w k) (log x k)) (happens_at size w e) (w.taken == MOST_EVENTS) (grows_happens_at e other)
+
+  emptied : (o : Option (Node V)) → slice_get w.nodes k ≡ o → IfTaken (at_node w k (λ n. Ok (restarted n)) o) (λ x. log x k ≡ [])
+  emptied None is = tt
+  emptied (Some n) is = ap (λ (o : Option (Node V)). log_at o) (slice_get-set w.nodes k (restarted n).node n is)
+
+pub logs_only_grow : {V : Type 0} → LogsOnlyGrow V
+logs_only_grow size weights events e k w x is_after happened other = if_taken (λ x. IsBeginningOf (log w k) (log x k)) (happens size w e) x happened (log_grows size w k e other)
+
+pub restart_empties_log : {V : Type 0} → RestartEmptiesLog V
+restart_empties_log size weights events k w x is_after happened =
+    if_taken (λ x. log x k ≡ []) (happens size w (Restart k)) x happened (spent_or (λ x. log x k ≡ []) (happens_at size w (Restart k)) (w.taken == MOST_EVENTS) (emptied size w k (slice_get w.nodes k) refl))

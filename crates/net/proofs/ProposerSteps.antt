@@ -1,0 +1,175 @@
+-- A begin, an offer, a Promise and a Nack continue the story: a proposer begins a ballot of its own once, and proposes only what is grounded.
+use Rattle.std.proofs.Common.{◌≡◌, ℕ, zero, suc, ◌+◌, ◌≤◌, ◌^◌, Bool, true, false, ◌&&◌, ◌==◌, nat_lt, List, [], ◌∷◌, length, Option, Some, Result, Ok, Err, inl, inr, refl, ap, sym, subst, arith, if◌then◌else◌}
+use Rattle.std.specs.List.{AllByRecursion}
+use Rattle.slots.specs.declared.slots.TheConstants.{SLOTS}
+use Rattle.slots.proofs.Lists.{In}
+use Rattle.synod.specs.declared.ballot.Ballot.{Ballot}
+use Rattle.synod.specs.declared.packet.Report.{Report}
+use Rattle.synod.specs.declared.packet.Body.TheVariants.{Prepare, Accept}
+use Rattle.synod.specs.declared.proposer.Heard.{Heard}
+use Rattle.synod.specs.declared.proposer.Role.{Role}
+use Rattle.synod.specs.declared.proposer.Role.TheVariants.{Idle, Preparing, Leading}
+use Rattle.synod.specs.declared.value.TheConstants.{MOST_BYTES}
+use Rattle.synod.specs.declared.proposer.TheConstants.{MOST_WAITING}
+use Rattle.synod.specs.declared.refusal.Refusal.{Refusal}
+use Rattle.synod.specs.declared.refusal.Refusal.TheVariants.{Busy, LogFull, RoundsSpent, TooLong}
+use Rattle.synod.specs.Ballots.{is_under}
+use Rattle.synod.specs.Node.{Node, Stepped, unchanged, page_of, no_pages}
+use Rattle.synod.specs.Log.{log_length}
+use Rattle.synod.specs.Proposer.{waits, takes_slot, offer_as, offered, next_round, next_ballot, begins, begun, is_at, idles, on_nack}
+use Rattle.net.proofs.Lists.{all_append}
+use Rattle.net.proofs.Ledger.{Begun, begun_as, Ledger, IsSound}
+use Rattle.net.proofs.LedgerGrows.{Grows, with_begun, grows-with_begun, begun_lasts, free_lasts}
+use Rattle.net.proofs.LedgerSteps.{begun_sound, with_proposals, each_free, batch}
+use Rattle.net.proofs.Invariant.{IsLeading, RoleHolds, NodeHolds, AcceptorHolds, LearnerHolds}
+use Rattle.net.proofs.StepsContinue.{Continues, same_ledger, true_to_all}
+
+-- where a step is answered
+abbrev pub IfStep : {V : Type 0} → Result (Stepped V) Refusal → (Stepped V → Type 0) → Type 0
+IfStep (Ok step) P = P step
+IfStep (Err refusal) P = Unit {0}
+
+module _ {V : Type 0} {offers : List V} {l : Ledger V} (n : Node V) (sound : IsSound n.weights offers l) (holds : NodeHolds n.weights offers l n.me n) where
+  abbrev Goes : Stepped V → Type 0
+  Goes step = Continues n.weights offers n.me l step
+
+  -- the node with another role
+  as_role : (role : Role) → RoleHolds n.weights l n.me role n.pages n.heard → NodeHolds n.weights offers l n.me (record n { role = role })
+  as_role role h = record {
+    me = holds.me;
+    weights = holds.weights;
+    acceptor = holds.acceptor;
+    learner = holds.learner;
+    proposer = record { begun = holds.proposer.begun; as_role = h; offered = holds.proposer.offered };
+  }
+
+  -- A begin: the round is above all rounds that the node began, so the ballot is a new one.
+
+  not_begun : (x : Begun) → In x l.begun → next_ballot n ≡ x.ballot → ⊥
+  not_begun x i same =
+      let round : next_round n ≡ x.ballot.round = ap (λ (b : Ballot). b.round) same in
+      let low = holds.proposer.begun x i (sym (ap (λ (b : Ballot). b.node) same)) in
+      omega (arith, round, low)
+
+  begun_upto : (x : Begun) → In x (begun_as (next_ballot n) (log_length n) ∷ l.begun) → x.ballot.node ≡ n.me → x.ballot.round ≤ next_round n
+  begun_upto x (inl e) mine = let round : next_round n ≡ x.ballot.round = ap (λ (y : Begun). y.ballot.round) e in omega (arith, round)
+  begun_upto x (inr i) mine = let low = holds.proposer.begun x i mine in omega (arith, low)
+
+  none_had : (weights : List ℕ) (j i : ℕ) (page : List (Report V)) → page_of (no_pages weights) j i ≡ Some page → ⊥
+  none_had [] j i page e = cc
+  none_had (w ∷ weights) zero i page e = cc
+  none_had (w ∷ weights) (suc j) i page e = none_had weights j i page e
+
+  begins_continue : Goes (begins n)
+  begins_continue =
+      let x : Begun = begun_as (next_ballot n) (log_length n) in
+      let m : Ledger V = with_begun x l in
+      let g : Grows n.me l m = grows-with_begun x l n.me refl in
+      record {
+        ledger = m;
+        grows = g;
+        sound = begun_sound sound x not_begun;
+        node = record {
+          me = holds.me;
+          weights = holds.weights;
+          acceptor = holds.acceptor;
+          learner = holds.learner;
+          proposer = record {
+            begun = begun_upto;
+            as_role = record {
+              mine = refl;
+              begun = inl refl;
+              fresh = λ p i e. let b = sound.proposed_begun p i in not_begun (begun_as p.ballot b.first) b.is_in (sym e);
+              each_page = λ j i page e. absurd (none_had n.weights j i page e);
+              each_heard = tt;
+            };
+            offered = holds.proposer.offered;
+          };
+        };
+        posts = true_to_all n.weights m n.me (Prepare (next_ballot n) (log_length n)) (inl refl) 0 n.weights;
+        cast = refl;
+      }
+
+  begin_either : (t : Bool) (refusal : Refusal) → IfStep (if t then Ok (begins n) else Err refusal) Goes
+  begin_either true refusal = begins_continue
+  begin_either false refusal = tt
+
+  pub begin_continues : IfStep (begun n) Goes
+  begin_continues = begin_either (nat_lt (next_round n) (2 ^ 64)) RoundsSpent
+
+  -- An offer: a leader may propose anything from its next slot on.
+
+  pub after_batch : (b : Ballot) (next : ℕ) (m : Ledger V) (pages : List (List (Option (List (Report V))))) (heard : List Heard) (waiting : List V) → m.begun ≡ l.begun → m.promises ≡ l.promises → m.votes ≡ l.votes
+      → IsLeading n.weights m n.me b next → AllByRecursion (λ v. In v offers) waiting
+      → NodeHolds n.weights offers m n.me (record n { role = Leading b next; pages = pages; heard = heard; waiting = waiting })
+  after_batch b next m pages heard waiting begun promises votes leading offered = record {
+    me = holds.me;
+    weights = holds.weights;
+    acceptor = subst (λ ps. AcceptorHolds ps m.votes n.me n.promise n.accepted) (sym promises) (subst (λ vs. AcceptorHolds l.promises vs n.me n.promise n.accepted) (sym votes) holds.acceptor);
+    proposer = record {
+      begun = subst (λ (xs : List Begun). (x : Begun) → In x xs → x.ballot.node ≡ n.me → x.ballot.round ≤ n.round) (sym begun) holds.proposer.begun;
+      as_role = leading;
+      offered = offered;
+    };
+    learner = subst (λ vs. LearnerHolds n.weights vs n.tallies n.learned) (sym votes) holds.learner;
+  }
+
+  takes_slot_continues : (v : V) (b : Ballot) (next : ℕ) → In v offers → IsLeading n.weights l n.me b next → Goes (takes_slot n b next v)
+  takes_slot_continues v b next brought leading =
+      let vs : List (Option V) = Some v ∷ [] in
+      let m : Ledger V = with_proposals b next vs l in
+      let made = batch n.weights offers b vs next l sound leading.begun leading.below (each_free n.weights l b next vs leading.free) (brought, tt) in
+      let g : Grows n.me l m = subst (λ (k : ℕ). Grows k l m) leading.mine made.grows in
+      record {
+        ledger = m;
+        grows = g;
+        sound = made.sound;
+        node = after_batch b (next + 1) m n.pages n.heard n.waiting refl refl refl
+            record { mine = leading.mine; begun = begun_lasts g b leading.begun; below = made.below; free = λ s le. free_lasts g (leading.free s (let z : next ≤ s = omega arith in z)) }
+            holds.proposer.offered;
+        posts = true_to_all n.weights m n.me (Accept b next (Some v)) made.proposed.0 0 n.weights;
+        cast = refl;
+      }
+
+  waits_continues : (v : V) → In v offers → Goes (waits n v)
+  waits_continues v brought = same_ledger sound record {
+    me = holds.me;
+    weights = holds.weights;
+    acceptor = holds.acceptor;
+    learner = holds.learner;
+    proposer = record {
+      begun = holds.proposer.begun;
+      as_role = holds.proposer.as_role;
+      offered = all_append (λ v. In v offers) n.waiting (v ∷ []) holds.proposer.offered (brought, tt);
+    };
+  } tt refl
+
+  waits_either : (v : V) → In v offers → (t u : Bool) → IfStep (if t then Err LogFull else if u then Ok (waits n v) else Err Busy) Goes
+  waits_either v brought true u = tt
+  waits_either v brought false true = waits_continues v brought
+  waits_either v brought false false = tt
+
+  slot_either : (v : V) (b : Ballot) (next : ℕ) → In v offers → IsLeading n.weights l n.me b next → (t : Bool) → IfStep (if t then Err LogFull else Ok (takes_slot n b next v)) Goes
+  slot_either v b next brought leading true = tt
+  slot_either v b next brought leading false = takes_slot_continues v b next brought leading
+
+  offer_as_continues : (v : V) → In v offers → (role : Role) → RoleHolds n.weights l n.me role n.pages n.heard → IfStep (offer_as role n v) Goes
+  offer_as_continues v brought Idle h = waits_either v brought (log_length n == SLOTS) (nat_lt (length n.waiting) MOST_WAITING)
+  offer_as_continues v brought (Preparing b first) h = waits_either v brought (log_length n == SLOTS) (nat_lt (length n.waiting) MOST_WAITING)
+  offer_as_continues v brought (Leading b next) h = slot_either v b next brought h (next == SLOTS)
+
+  long_either : (r : Result (Stepped V) Refusal) → IfStep r Goes → (t : Bool) → IfStep (if t then Err TooLong else r) Goes
+  long_either r h true = tt
+  long_either r h false = h
+
+  pub offer_continues : (size : V → ℕ) (v : V) → In v offers → IfStep (offered size n v) Goes
+  offer_continues size v brought = long_either (offer_as n.role n v) (offer_as_continues v brought n.role holds.proposer.as_role) (nat_lt MOST_BYTES (size v))
+
+  -- A Nack.
+
+  nack_either : (t : Bool) → Goes (if t then idles n else unchanged n)
+  nack_either true = same_ledger sound (as_role Idle tt) tt refl
+  nack_either false = same_ledger sound holds tt refl
+
+  pub nack_continues : (b c : Ballot) → Goes (on_nack n b c)
+  nack_continues b c = nack_either (is_at n.role b && is_under b c)

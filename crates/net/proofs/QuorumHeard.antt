@@ -1,0 +1,151 @@
+-- What a proposer may propose once it has heard the promises of a quorum (phase 2 of section 2.2): at a slot reported the value of
+-- the highest ballot reported there; at any other slot from the first on, any value. Each such proposal is grounded.
+use Rattle.std.proofs.Common.{◌≡◌, ℕ, zero, suc, ◌≤◌, Bool, true, false, ◌||◌, ◌==◌, List, [], ◌∷◌, Option, Some, None, inl, inr, refl, sym, ◌∙◌, subst, arith, eqb-true}
+use Rattle.std.specs.List.{AllByRecursion}
+use Rattle.slots.proofs.Lists.{In, In-append_left, In-append_right, In-append}
+use Rattle.synod.specs.declared.ballot.Ballot.{Ballot}
+use Rattle.synod.specs.declared.packet.Report.{Report}
+use Rattle.synod.specs.declared.proposer.Heard.{Heard}
+use Rattle.synod.specs.Weights.{is_quorum}
+use Rattle.synod.specs.Pages.{joined_pages}
+use Rattle.synod.specs.Node.{pages_from, is_heard}
+use Rattle.synod.specs.Proposer.{highest_at, reported_value, top_reported, fills, all_reports}
+use Rattle.synod.proofs.BallotsLemmas.{Under, upto_upto}
+use Rattle.synod.proofs.ReportsLemmas.{IsHighest, HighestHolds, highest_holds, below_top}
+use Rattle.net.specs.Chosen.{Vote}
+use Rattle.net.proofs.Ledger.{begun_as, Promised, proposal, Ledger, HasPromised, NoneVoted, HighestVoted, IsGrounded, IsFree, HasHigher, IsBrought, IsSound}
+use Rattle.net.proofs.LedgerSteps.{EachGrounded}
+use Rattle.net.proofs.Invariant.{IsHeard}
+
+-- all that was heard is what true promises report
+abbrev pub AllHeard : {V : Type 0} → Ledger V → Ballot → List (List (Option (List (Report V)))) → List Heard → Type 0
+AllHeard l b pages heard = AllByRecursion (λ h. IsHeard l b h.node (joined_pages (pages_from pages h.node) h.count)) heard
+
+pub record IsQuorumHeard {V : Type 0} (ws : List ℕ) (offers : List V) (l : Ledger V) (b : Ballot) (first : ℕ) (pages : List (List (Option (List (Report V))))) (heard : List Heard) : Type 0 where
+  pub sound : IsSound ws offers l
+  pub begun : In (begun_as b first) l.begun
+  pub each : AllHeard l b pages heard
+  pub quorum : is_quorum ws (is_heard heard) ≡ true
+
+-- node k promised b, and what it reports was heard
+pub record HeardFrom {V : Type 0} (l : Ledger V) (b : Ballot) (reports : List (Report V)) (k : ℕ) : Type 0 where
+  pub promise : Promised V
+  pub is_in : In promise l.promises
+  pub node : promise.node ≡ k
+  pub ballot : promise.ballot ≡ b
+  pub each : (r : Report V) → In r promise.reports → In r reports
+
+-- a report that was heard is one of a promise of b
+pub record IsReported {V : Type 0} (l : Ledger V) (b : Ballot) (r : Report V) : Type 0 where
+  pub promise : Promised V
+  pub is_in : In promise l.promises
+  pub ballot : promise.ballot ≡ b
+  pub reported : In r promise.reports
+
+module _ {V : Type 0} (l : Ledger V) (b : Ballot) (pages : List (List (Option (List (Report V))))) where
+  first_heard : (h : Heard) (hs : List Heard) (k : ℕ) → IsHeard l b h.node (joined_pages (pages_from pages h.node) h.count) → h.node ≡ k → HeardFrom l b (all_reports pages (h ∷ hs)) k
+  first_heard h hs k d same = record {
+    promise = d.promise;
+    is_in = d.is_in;
+    node = d.node ∙ same;
+    ballot = d.ballot;
+    each = λ r i. In-append_left r _ (all_reports pages hs) (subst (λ (rs : List (Report V)). In r rs) d.all i);
+  }
+
+  later_heard : (h : Heard) (hs : List Heard) (k : ℕ) → HeardFrom l b (all_reports pages hs) k → HeardFrom l b (all_reports pages (h ∷ hs)) k
+  later_heard h hs k d = record {
+    promise = d.promise;
+    is_in = d.is_in;
+    node = d.node;
+    ballot = d.ballot;
+    each = λ r i. In-append_right r (joined_pages (pages_from pages h.node) h.count) _ (d.each r i);
+  }
+
+  heard_either : (h : Heard) (hs : List Heard) (k : ℕ) (t : Bool) → (h.node == k) ≡ t → IsHeard l b h.node (joined_pages (pages_from pages h.node) h.count)
+      → (is_heard hs k ≡ true → HeardFrom l b (all_reports pages hs) k) → (t || is_heard hs k) ≡ true → HeardFrom l b (all_reports pages (h ∷ hs)) k
+  heard_either h hs k true test d later i = first_heard h hs k d (eqb-true _ _ test)
+  heard_either h hs k false test d later i = later_heard h hs k (later i)
+
+  heard_from : (heard : List Heard) → AllHeard l b pages heard → (k : ℕ) → is_heard heard k ≡ true → HeardFrom l b (all_reports pages heard) k
+  heard_from [] each k i = cc
+  heard_from (h ∷ hs) each k i = heard_either h hs k (h.node == k) refl each.0 (heard_from hs each.1 k) i
+
+  reported_by : (heard : List Heard) → AllHeard l b pages heard → (r : Report V) → In r (all_reports pages heard) → IsReported l b r
+  reported_by [] each r i = elim i [ ]
+  reported_by (h ∷ hs) each r i = elim (In-append r (joined_pages (pages_from pages h.node) h.count) (all_reports pages hs) i) [
+    | inl j ↦ let d = each.0 in record { promise = d.promise; is_in = d.is_in; ballot = d.ballot; reported = subst (λ (rs : List (Report V)). In r rs) (sym d.all) j }
+    | inr j ↦ reported_by hs each.1 r j
+  ]
+
+module _ {V : Type 0} (ws : List ℕ) (offers : List V) (l : Ledger V) (b : Ballot) (first : ℕ) (pages : List (List (Option (List (Report V))))) (heard : List Heard)
+    (h : IsQuorumHeard ws offers l b first pages heard) where
+  abbrev reports : List (Report V)
+  reports = all_reports pages heard
+
+  -- a promise of the ballot reports from the slot on from which it was begun
+  same_first : (p : Promised V) → In p l.promises → p.ballot ≡ b → p.first ≡ first
+  same_first p i same = h.sound.begun_once (begun_as p.ballot p.first) (begun_as b first) (h.sound.truthful p i).begun h.begun same
+
+  -- a vote of a heard node below the ballot is reported, or a higher one of its slot
+  vote_reported : (x : Vote V) → In x l.votes → is_heard heard x.node ≡ true → first ≤ x.slot → Under x.ballot b → HasHigher reports x
+  vote_reported x i heard_node from under =
+      let d = heard_from l b pages heard h.each x.node heard_node in
+      let start = same_first d.promise d.is_in d.ballot in
+      let r = (h.sound.truthful d.promise d.is_in).reported x i (sym d.node) (omega (arith, start, from)) (subst (λ (c : Ballot). Under x.ballot c) (sym d.ballot) under) in
+      record { report = r.report; is_in = d.each r.report r.is_in; slot = r.slot; upto = r.upto }
+
+  all_promised : (k : ℕ) → is_heard heard k ≡ true → HasPromised l k b
+  all_promised k i = let d = heard_from l b pages heard h.each k i in record { promise = d.promise; is_in = d.is_in; node = d.node; ballot = d.ballot }
+
+  none_voted : (s : ℕ) → first ≤ s → ((r : Report V) → In r reports → r.slot ≡ s → ⊥) → NoneVoted l (is_heard heard) b s
+  none_voted s from none x i heard_node at_s under =
+      let r = vote_reported x i heard_node (omega arith) under in
+      none r.report r.is_in (r.slot ∙ at_s)
+
+  highest_voted : (s : ℕ) → first ≤ s → (r : Report V) → IsHighest s reports r → HighestVoted l l.proposals (is_heard heard) b s r.value
+  highest_voted s from r most =
+      let t = reported_by l b pages heard h.each r most.is_in in
+      let back = (h.sound.truthful t.promise t.is_in).backed r t.reported in
+      record {
+        ballot = r.ballot;
+        under = subst (λ (c : Ballot). Under r.ballot c) t.ballot back.under;
+        proposed = subst (λ (s : ℕ). In (proposal r.ballot s r.value) l.proposals) most.slot (h.sound.backed _ back.voted);
+        highest = λ x i heard_node at_s under.
+            let higher = vote_reported x i heard_node (let z : first ≤ x.slot = omega arith in z) under in
+            upto_upto x.ballot higher.report.ballot r.ballot higher.upto (most.most higher.report higher.is_in (higher.slot ∙ at_s));
+      }
+
+  fill_grounded : (s : ℕ) → first ≤ s → (o : Option (Report V)) → HighestHolds s reports o → IsGrounded ws l l.proposals b s (reported_value o)
+  fill_grounded s from None none = record { quorum = is_heard heard; majority = h.quorum; promised = all_promised; picks = inl (none_voted s from none) }
+  fill_grounded s from (Some r) most = record { quorum = is_heard heard; majority = h.quorum; promised = all_promised; picks = inr (highest_voted s from r most) }
+
+  pub fills_grounded : (s count : ℕ) → first ≤ s → EachGrounded ws l b s (fills reports s count)
+  fills_grounded s zero from = tt
+  fills_grounded s (suc count) from = (fill_grounded s from (highest_at s reports) (highest_holds s reports), fills_grounded (suc s) count (omega arith))
+
+  -- what is reported was proposed, so it was brought
+  fill_brought : (s : ℕ) (o : Option (Report V)) → HighestHolds s reports o → IsBrought offers (reported_value o)
+  fill_brought s None none = tt
+  fill_brought s (Some r) most =
+      let t = reported_by l b pages heard h.each r most.is_in in
+      h.sound.brought _ (h.sound.backed _ ((h.sound.truthful t.promise t.is_in).backed r t.reported).voted)
+
+  pub fills_brought : (s count : ℕ) → AllByRecursion (IsBrought offers) (fills reports s count)
+  fills_brought s zero = tt
+  fills_brought s (suc count) = (fill_brought s (highest_at s reports) (highest_holds s reports), fills_brought (suc s) count)
+
+  -- above what is reported any value may be proposed
+  pub free_above : (s : ℕ) → first ≤ s → top_reported first reports ≤ s → IsFree ws l b s
+  free_above s from above = record {
+    quorum = is_heard heard;
+    majority = h.quorum;
+    promised = all_promised;
+    none = none_voted s from (λ r i at_s. let low = below_top first reports r i in let no : ⊥ = omega arith in no);
+  }
+
+  pub reported_from : (r : Report V) → In r reports → first ≤ r.slot
+  reported_from r i =
+      let t = reported_by l b pages heard h.each r i in
+      let from = ((h.sound.truthful t.promise t.is_in).backed r t.reported).first in
+      let start = same_first t.promise t.is_in t.ballot in
+      omega (arith, start, from)

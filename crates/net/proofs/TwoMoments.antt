@@ -1,0 +1,72 @@
+-- From one moment of a run to a later one the weights stay, and what was voted stays voted; so what is chosen stays chosen.
+use Rattle.std.proofs.Common.{◌≡◌, ℕ, List, [], ◌∷◌, ◌++◌, Option, Some, None, Result, Ok, Err, inr, refl, ap, sym, ◌∙◌, subst, length, slice_get}
+use Rattle.std.proofs.lemmas.List.{length-set}
+use Rattle.std.specs.List.{AllByRecursion}
+use Rattle.slots.proofs.Lists.{In}
+use Rattle.synod.specs.declared.change.Change.{Change}
+use Rattle.synod.specs.declared.change.Change.TheVariants.{Round, Promise, Entry}
+use Rattle.synod.specs.declared.packet.Packet.{Packet}
+use Rattle.synod.specs.declared.refusal.Refusal.{Refusal}
+use Rattle.synod.specs.Node.{Node, Stepped}
+use Rattle.synod.specs.Proposer.{offered, begun}
+use Rattle.synod.specs.Step.{on_packet, restarted}
+use Rattle.net.specs.declared.event.Event.{Event}
+use Rattle.net.specs.declared.event.Event.TheVariants.{Offer, Begin, Deliver, Restart}
+use Rattle.net.specs.declared.fault.StepFault.{StepFault}
+use Rattle.net.specs.Chosen.{Vote, IsChosen}
+use Rattle.net.specs.World.{World, start, votes_after, answered, at_node, delivered, happens_at, happens, all_happen, after}
+use Rattle.net.specs.Agree.{IsAfter}
+use Rattle.net.proofs.LedgerGrows.{chosen_with_more}
+use Rattle.net.proofs.EveryEvent.{IfTaken, if_taken, all_keep}
+
+pub record Lasts {V : Type 0} (w x : World V) : Type 0 where
+  pub weights : x.weights ≡ w.weights
+  pub count : length x.nodes ≡ length w.nodes
+  pub votes : (v : Vote V) → In v w.ever → In v x.ever
+
+votes_stay : {V : Type 0} (k : ℕ) (change : Option (Change V)) (votes : List (Vote V)) (v : Vote V) → In v votes → In v (votes_after k change votes)
+votes_stay k None votes v i = i
+votes_stay k (Some (Round r)) votes v i = i
+votes_stay k (Some (Promise b)) votes v i = i
+votes_stay k (Some (Entry s h)) votes v i = inr i
+
+module _ {V : Type 0} (first w : World V) (h : Lasts first w) where
+  lasts_answered : (k : ℕ) (r : Result (Stepped V) Refusal) → IfTaken (answered w k r) (Lasts first)
+  lasts_answered k (Ok step) = record { weights = h.weights; count = length-set w.nodes k step.node ∙ h.count; votes = λ v i. votes_stay k step.change w.ever v (h.votes v i) }
+  lasts_answered k (Err refusal) = tt
+
+  lasts_at : (k : ℕ) (make : Node V → Result (Stepped V) Refusal) (o : Option (Node V)) → IfTaken (at_node w k make o) (Lasts first)
+  lasts_at k make None = tt
+  lasts_at k make (Some n) = lasts_answered k (make n)
+
+  lasts_delivered : (o : Option (Packet V)) → IfTaken (delivered w o) (Lasts first)
+  lasts_delivered None = tt
+  lasts_delivered (Some p) = lasts_at p.to (λ n. Ok (on_packet n p)) (slice_get w.nodes p.to)
+
+  lasts_happens : (size : V → ℕ) (e : Event V) → IfTaken (happens_at size w e) (Lasts first)
+  lasts_happens size (Offer k v) = lasts_at k (λ n. offered size n v) (slice_get w.nodes k)
+  lasts_happens size (Begin k) = lasts_at k begun (slice_get w.nodes k)
+  lasts_happens size (Deliver number) = lasts_delivered (slice_get w.packets number)
+  lasts_happens size (Restart k) = lasts_at k (λ n. Ok (restarted n)) (slice_get w.nodes k)
+
+each_event : {V : Type 0} (es : List (Event V)) → AllByRecursion (λ e. Unit {0}) es
+each_event [] = tt
+each_event (e ∷ es) = (tt, each_event es)
+
+pub all_happen-append : {V : Type 0} (size : V → ℕ) (es ds : List (Event V)) (r : Result (World V) StepFault) → all_happen size (es ++ ds) r ≡ all_happen size ds (all_happen size es r)
+all_happen-append size [] ds r = refl
+all_happen-append size (e ∷ es) [] (Err fault) = refl
+all_happen-append size (e ∷ es) (d ∷ ds) (Err fault) = refl
+all_happen-append size (e ∷ es) ds (Ok w) = all_happen-append size es ds (happens size w e)
+
+-- the later events go on from the earlier moment
+pub later_events : {V : Type 0} (size : V → ℕ) (ws : List ℕ) (early late : List (Event V)) (w : World V) (r : Result (World V) StepFault) → IsAfter size ws early w → after size ws (early ++ late) ≡ r → all_happen size late (Ok w) ≡ r
+later_events size ws early late w r first then = ap (λ r. all_happen size late r) (sym first) ∙ sym (all_happen-append size early late (Ok (start ws))) ∙ then
+
+module _ {V : Type 0} (size : V → ℕ) (ws : List ℕ) (early late : List (Event V)) (w x : World V) (first : IsAfter size ws early w) (then : IsAfter size ws (early ++ late) x) where
+  pub world_lasts : Lasts w x
+  world_lasts = if_taken (Lasts w) (all_happen size late (Ok w)) x (later_events size ws early late w (Ok x) first then)
+      (all_keep size (Lasts w) (λ e. Unit {0}) (λ y e u h. lasts_happens w y h size e) late (each_event late) (Ok w) record { weights = refl; count = refl; votes = λ v i. i })
+
+  pub stays_chosen : (s : ℕ) (v : Option V) → IsChosen w.weights w.ever s v → IsChosen x.weights x.ever s v
+  stays_chosen s v chosen = subst (λ (ws : List ℕ). IsChosen ws x.ever s v) (sym world_lasts.weights) (chosen_with_more w.ever x.ever world_lasts.votes chosen)

@@ -1,0 +1,7 @@
+use Rattle.std.proofs.Common.{◌≡◌, take}
+use Rattle.net.specs.Taken.{nodes_of}
+use Rattle.net.specs.World.{nodes_from}
+use Rattle.net.proofs.net.new_nodes.Given as goal
+
+abbrev pub invariant-loop-k : goal.invariant-loop-k
+invariant-loop-k g l = nodes_of l.nodes.items ≡ nodes_from l.weights 0 (take l.k l.weights)

@@ -1,0 +1,49 @@
+-- What agreement says of a world, and of two worlds of one run.
+-- Source: Lamport, Paxos Made Simple, section 2.2: P2 is that each proposal above a chosen one has its value.
+-- The code tells none of this; it is what the steps of the nodes come to.
+use Rattle.std.specs.Prelude.{◌≡◌, ℕ, true, List, ◌++◌, Option, Some, Contains, ◌⊎◌, Ok, slice_get}
+use Rattle.synod.specs.declared.ballot.Ballot.{Ballot}
+use Rattle.synod.specs.declared.packet.Packet.{Packet}
+use Rattle.synod.specs.declared.packet.Body.TheVariants.{Accept}
+use Rattle.synod.specs.Ballots.{is_under}
+use Rattle.net.specs.declared.event.Event.{Event}
+use Rattle.net.specs.Chosen.{IsChosen, IsChosenAt}
+use Rattle.net.specs.World.{World, after, log, offers_of}
+
+-- the events are taken, and w is the world after them
+abbrev pub IsAfter : {V : Type 0} → (V → ℕ) → List ℕ → List (Event V) → World V → Type 0
+IsAfter size weights events w = after size weights events ≡ Ok w
+
+-- v was proposed at slot s under ballot b
+abbrev pub IsProposed : {V : Type 0} → World V → Ballot → ℕ → Option V → Type 0
+IsProposed {V} w b s v = (p : Packet V) × Contains w.packets p × (p.body ≡ Accept b s v)
+
+-- one value a ballot and slot
+abbrev pub OneValue : {V : Type 0} → World V → Type 0
+OneValue {V} w = (b : Ballot) (s : ℕ) (u v : Option V) → IsProposed w b s u → IsProposed w b s v → u ≡ v
+
+-- the value of a later ballot is the one chosen under an earlier
+abbrev pub LaterValue : {V : Type 0} → World V → Type 0
+LaterValue {V} w = (b c : Ballot) (s : ℕ) (u v : Option V) → IsChosenAt w.weights w.ever b s u → IsProposed w c s v → is_under b c ≡ true → u ≡ v
+
+-- what is chosen at a slot is chosen once
+abbrev pub ChosenAgree : {V : Type 0} → World V → World V → Type 0
+ChosenAgree {V} w x = (s : ℕ) (u v : Option V) → IsChosen w.weights w.ever s u → IsChosen x.weights x.ever s v → u ≡ v
+
+-- each entry of a log is chosen
+abbrev pub LogsChosen : {V : Type 0} → World V → Type 0
+LogsChosen {V} w = (k s : ℕ) (v : Option V) → slice_get (log w k) s ≡ Some v → IsChosen w.weights w.ever s v
+
+abbrev pub IsBeginningOf : {A : Type 0} → List A → List A → Type 0
+IsBeginningOf {A} xs ys = (rest : List A) × (xs ++ rest ≡ ys)
+
+-- one list is a beginning of the other
+abbrev pub Agree : {A : Type 0} → List A → List A → Type 0
+Agree xs ys = IsBeginningOf xs ys ⊎ IsBeginningOf ys xs
+
+abbrev pub LogsAgree : {V : Type 0} → World V → World V → Type 0
+LogsAgree w x = (j k : ℕ) → Agree (log w j) (log x k)
+
+-- each entry of a log is a no-operation, or one of the events offered it
+abbrev pub LogsOffered : {V : Type 0} → List (Event V) → World V → Type 0
+LogsOffered {V} events w = (k s : ℕ) (v : V) → slice_get (log w k) s ≡ Some (Some v) → Contains (offers_of events) v

@@ -1,0 +1,52 @@
+-- The kept part of a node, and the one change that an event makes of it.
+-- Source: Lamport, Paxos Made Simple, section 2.5: an acceptor must remember, in stable storage, what it promised and accepted.
+-- The code stores the change before it posts anything; here both are of one step.
+use Rattle.std.specs.Prelude.{◌≢◌, ℕ, List, [], ◌∷◌, Option, Some, None, Result, Ok, Err, slice_get}
+use Rattle.std.specs.Option.{option_map}
+use Rattle.synod.specs.declared.packet.Packet.{Packet}
+use Rattle.synod.specs.declared.change.Change.{Change}
+use Rattle.synod.specs.declared.refusal.Refusal.{Refusal}
+use Rattle.synod.specs.Record.{Kept}
+use Rattle.synod.specs.Node.{Node, Stepped, kept_of}
+use Rattle.synod.specs.Proposer.{offered, begun}
+use Rattle.synod.specs.Step.{on_packet, restarted}
+use Rattle.net.specs.declared.event.Event.{Event}
+use Rattle.net.specs.declared.event.Event.TheVariants.{Offer, Begin, Deliver, Restart}
+use Rattle.net.specs.declared.fault.StepFault.{StepFault}
+use Rattle.net.specs.World.{World, happens}
+
+-- promise, round and accepted entries of node k
+abbrev pub kept_part : {V : Type 0} → World V → ℕ → Option (Kept V)
+kept_part w k = option_map kept_of (slice_get w.nodes k)
+
+-- the node of an event: that of a Deliver is the one that the packet is addressed to
+abbrev pub node_of : {V : Type 0} → World V → Event V → Option ℕ
+node_of w (Offer k v) = Some k
+node_of w (Begin k) = Some k
+node_of w (Deliver number) = option_map (λ p. p.to) (slice_get w.packets number)
+node_of w (Restart k) = Some k
+
+abbrev pub change_answered : {V : Type 0} → Result (Stepped V) Refusal → Option (Change V)
+change_answered (Ok step) = step.change
+change_answered (Err refusal) = None
+
+abbrev pub change_at : {V : Type 0} → (Node V → Result (Stepped V) Refusal) → Option (Node V) → Option (Change V)
+change_at make None = None
+change_at make (Some n) = change_answered (make n)
+
+abbrev pub change_delivered : {V : Type 0} → World V → Option (Packet V) → Option (Change V)
+change_delivered w None = None
+change_delivered w (Some p) = change_at (λ n. Ok (on_packet n p)) (slice_get w.nodes p.to)
+
+-- the change that the step of the event makes of the kept part of its node
+abbrev pub change_of : {V : Type 0} → (V → ℕ) → World V → Event V → Option (Change V)
+change_of size w (Offer k v) = change_at (λ n. offered size n v) (slice_get w.nodes k)
+change_of size w (Begin k) = change_at begun (slice_get w.nodes k)
+change_of size w (Deliver number) = change_delivered w (slice_get w.packets number)
+change_of size w (Restart k) = change_at (λ n. Ok (restarted n)) (slice_get w.nodes k)
+
+-- of the events that follow none is node k's
+abbrev pub AreOfOthers : {V : Type 0} → (V → ℕ) → ℕ → Result (World V) StepFault → List (Event V) → Type 0
+AreOfOthers size k r [] = Unit {0}
+AreOfOthers size k (Err fault) (e ∷ es) = Unit {0}
+AreOfOthers size k (Ok w) (e ∷ es) = (node_of w e ≢ Some k) × AreOfOthers size k (happens size w e) es

@@ -1,0 +1,67 @@
+-- The laws of the world, each over every list of events that is taken, for any weights and any values.
+-- Source: Lamport, Paxos Made Simple, section 2.2.
+-- No code stands behind a law; the steps of the nodes are the definitions that their own contracts cite.
+use Rattle.std.specs.Prelude.{◌≡◌, ◌≢◌, ℕ, List, [], ◌∷◌, ◌++◌, Some, Ok}
+use Rattle.std.specs.Option.{option_map}
+use Rattle.synod.specs.Record.{changed_by}
+use Rattle.net.specs.declared.event.Event.{Event}
+use Rattle.net.specs.declared.event.Event.TheVariants.{Restart}
+use Rattle.net.specs.World.{World, happens, log}
+use Rattle.net.specs.Agree.{IsAfter, OneValue, LaterValue, ChosenAgree, LogsChosen, IsBeginningOf, LogsAgree, LogsOffered}
+use Rattle.net.specs.KeptPart.{kept_part, node_of, change_of, AreOfOthers}
+
+-- the fact holds of the world after any events
+abbrev pub Always : {V : Type 0} → (List (Event V) → World V → Type 0) → Type 0
+Always {V} fact = (size : V → ℕ) (weights : List ℕ) (events : List (Event V)) (w : World V) → IsAfter size weights events w → fact events w
+
+-- the fact holds of the worlds at any two moments of a run
+abbrev pub AtTwoMoments : {V : Type 0} → (World V → World V → Type 0) → Type 0
+AtTwoMoments {V} fact = (size : V → ℕ) (weights : List ℕ) (early late : List (Event V)) (w x : World V) → IsAfter size weights early w → IsAfter size weights (early ++ late) x → fact w x
+
+-- Agreement.
+
+-- under one ballot one value at most is proposed for a slot
+abbrev pub BallotsHaveOneValue : Type 0 → Type 0
+BallotsHaveOneValue V = Always {V = V} (λ events w. OneValue w)
+
+-- a later ballot's value at a slot is the one chosen there under an earlier ballot
+abbrev pub LaterBallotsKeepChosen : Type 0 → Type 0
+LaterBallotsKeepChosen V = Always {V = V} (λ events w. LaterValue w)
+
+-- values chosen at one slot at any two moments are equal
+abbrev pub ChosenValuesAgree : Type 0 → Type 0
+ChosenValuesAgree V = AtTwoMoments {V = V} (λ w x. ChosenAgree w x)
+
+-- an entry of a log is chosen
+abbrev pub LogEntriesAreChosen : Type 0 → Type 0
+LogEntriesAreChosen V = Always {V = V} (λ events w. LogsChosen w)
+
+-- the logs of any two nodes at any two moments agree
+abbrev pub LogsOfNodesAgree : Type 0 → Type 0
+LogsOfNodesAgree V = AtTwoMoments {V = V} (λ w x. LogsAgree w x)
+
+-- each entry of a log is a no-operation or was offered
+abbrev pub LogEntriesWereOffered : Type 0 → Type 0
+LogEntriesWereOffered V = Always {V = V} (λ events w. LogsOffered events w)
+
+-- The kept part.
+
+-- after an event of node k and a restart of it, whatever happens at other nodes in between, and so whether or not any packet of the
+-- event is delivered there, the kept part is the one before the event, with the event's change
+abbrev pub KeptPartSurvives : Type 0 → Type 0
+KeptPartSurvives V = (size : V → ℕ) (weights : List ℕ) (events others : List (Event V)) (e : Event V) (k : ℕ) (w x y : World V)
+    → IsAfter size weights events w → happens size w e ≡ Ok x → node_of w e ≡ Some k → AreOfOthers size k (Ok x) others
+    → IsAfter size weights (events ++ e ∷ (others ++ Restart k ∷ [])) y
+    → kept_part y k ≡ option_map (λ kept. changed_by kept (change_of size w e)) (kept_part w k)
+
+-- Logs.
+
+-- an event that is no restart of node k leaves the log of k a beginning of its new one
+abbrev pub LogsOnlyGrow : Type 0 → Type 0
+LogsOnlyGrow V = (size : V → ℕ) (weights : List ℕ) (events : List (Event V)) (e : Event V) (k : ℕ) (w x : World V)
+    → IsAfter size weights events w → happens size w e ≡ Ok x → e ≢ Restart k → IsBeginningOf (log w k) (log x k)
+
+-- a restart of node k empties it
+abbrev pub RestartEmptiesLog : Type 0 → Type 0
+RestartEmptiesLog V = (size : V → ℕ) (weights : List ℕ) (events : List (Event V)) (k : ℕ) (w x : World V)
+    → IsAfter size weights events w → happens size w (Restart k) ≡ Ok x → log x k ≡ []

@@ -1,0 +1,258 @@
+//! The nodes, all packets that they posted, and the events that led there, whatever the values are.
+ghost use Rattle.synod.specs.Weights.{IsWeights};
+ghost use Rattle.net.specs.Taken.{nodes_of};
+ghost use Rattle.net.specs.World.{nodes_from};
+ghost use Rattle.std.specs.Prelude.{◌≡◌, ◌↔◌, ◌≤◌, ◌<◌, ◌++◌, [], Ok, Err, Some, None, length, vec_len, vec_capacity, IfOk, IsOk, OnOk, OnErr, IsOkUnless, MatchResult};
+
+use crate::due::{Due, commit_at, ready_begin, ready_offer, ready_packet, ready_restart};
+use crate::event::{Event, MOST_EVENTS};
+use crate::fault::StepFault;
+use std::alloc::{AllocError, Global};
+use std::marker::Model;
+use synod::{NodeCore, Packet, Value, Weights};
+
+/// The nodes of a world and their packets. It is seen as the weights and the events taken, its state being that of the world
+/// after them, and the room that it has.
+///
+/// Source: Lamport, Paxos Made Simple, 2 and 3; the world after a list of events is in `specs/World.antt`.
+#[derive(Drop)]
+pub struct Net<V: Value> {
+    weights: Weights,
+    nodes: Vec<NodeCore<V>>,
+    packets: Vec<Packet<V>>,
+    events: Vec<Event<V>>,
+}
+
+impl<V: Value> Model for Net<V> {
+    ghost use Rattle.std.specs.Prelude.{vec_capacity};
+    ghost use Rattle.net.specs.Taken.{AreOfWorld};
+    ghost use Rattle.net.specs.Due.{NetView};
+
+    ghost Value = { NetView V };
+
+    ghost view = { λ w. record {
+      taken = record { weights = w.weights; events = w.events.items };
+      cores = w.nodes.items;
+      packets = w.packets.items;
+      packet_room = vec_capacity w.packets;
+      event_room = vec_capacity w.events;
+    } };
+
+    ghost invariant = { λ w. AreOfWorld V.bytes (record { weights = w.weights; events = w.events.items }) w.nodes.items w.packets.items };
+}
+
+impl<V: Value> Net<V> {
+    ghost use Rattle.std.specs.Prelude.{slice_get, IfErr, IsSome, MatchOption};
+    ghost use Rattle.slots.specs.declared.slots.TheConstants.{SLOTS};
+    ghost use Rattle.net.specs.World.{log_after, packets_after};
+    ghost use Rattle.net.specs.Taken.{AreOfWorld, world_of, with_event};
+    ghost use Rattle.net.specs.Due.{Gives, HasRoom, IsDue, IsOfEvent, IsStill, IsTaken, posts_of};
+    ghost use Rattle.net.specs.History.{Agreement};
+    ghost use Rattle.net.specs.declared.fault.StepFault.TheVariants.{NoNode, NoPacket, Memory};
+
+    /// The world of new nodes.
+    pub fn new(alloc: Global, weights: Weights) -> Result<Self, StepFault>
+        ensures new { IfOk result (λ net. net.taken ≡ record { weights = weights; events = [] }) }
+        ensures world { IfOk result (λ net. AreOfWorld V.bytes net.taken net.cores net.packets) }
+        ensures only_memory { IsOkUnless result Memory }
+    {
+        Ok(Net {
+            weights,
+            nodes: new_nodes(alloc, weights)?,
+            packets: Vec::new(alloc),
+            events: Vec::new(alloc),
+        })
+    }
+
+    /// Makes the growths of an event, or answers the first fault that it meets, or `Memory` where it meets none. Nothing else
+    /// changes.
+    pub fn ready(&mut self, event: Event<V>) -> Result<Due<V>, StepFault>
+        ensures due { IfOk result (IsDue V.bytes self.new) }
+        ensures event { IfOk result (λ due. due.event ≡ event) }
+        ensures kind { IfOk result (λ due. IsOfEvent event due.work) }
+        ensures room { IfOk result (λ due. HasRoom self.new (length (posts_of due.work)) 1) }
+
+        // A fault is answered however little memory there is.
+        ensures refused { IfErr (world_of V.bytes (with_event self.old.taken event)) (λ fault. result ≡ Err fault) }
+        ensures only_memory { OnOk (world_of V.bytes (with_event self.old.taken event)) (IsOkUnless result Memory) }
+        ensures still { IsStill self.old self.new }
+        ensures few { IfOk result (λ _. length self.old.taken.events < MOST_EVENTS) }
+    {
+        if self.events.len() as u64 == MOST_EVENTS {
+            return Err(StepFault::EventsSpent);
+        }
+        let due = self.ready_at_node(event)?;
+        self.room(due.posts().len(), 1)?;
+        Ok(due)
+    }
+
+    /// The growths of the event's node.
+    fn ready_at_node(&mut self, event: Event<V>) -> Result<Due<V>, StepFault>
+        requires { length self.old.taken.events < MOST_EVENTS }
+        ensures gives { Gives V.bytes self.new event (world_of V.bytes (with_event self.old.taken event)) result }
+        ensures still { IsStill self.old self.new }
+    {
+        match event {
+            Event::Offer(k, value) => self.ready_offer(k, value),
+            Event::Begin(k) => self.ready_begin(k),
+            Event::Deliver(number) => self.ready_deliver(number),
+            Event::Restart(k) => self.ready_restart(k),
+        }
+    }
+
+    /// The growths of an offer at node `k`.
+    fn ready_offer(&mut self, k: u8, value: V) -> Result<Due<V>, StepFault>
+        requires { length self.old.taken.events < MOST_EVENTS }
+        ensures gives { Gives V.bytes self.new (Event.Offer k value) (world_of V.bytes (with_event self.old.taken (Event.Offer k value))) result }
+        ensures still { IsStill self.old self.new }
+    {
+        let node = match self.nodes.get_mut(k as usize) {
+            Some(node) => node,
+            None => return Err(StepFault::NoNode),
+        };
+        ready_offer(node, k, value)
+    }
+
+    /// The growths of a ballot that node `k` begins.
+    fn ready_begin(&mut self, k: u8) -> Result<Due<V>, StepFault>
+        requires { length self.old.taken.events < MOST_EVENTS }
+        ensures gives { Gives V.bytes self.new (Event.Begin k) (world_of V.bytes (with_event self.old.taken (Event.Begin k))) result }
+        ensures still { IsStill self.old self.new }
+    {
+        let node = match self.nodes.get_mut(k as usize) {
+            Some(node) => node,
+            None => return Err(StepFault::NoNode),
+        };
+        ready_begin(node, k)
+    }
+
+    /// The growths of a delivery of the packet of that number.
+    fn ready_deliver(&mut self, number: u64) -> Result<Due<V>, StepFault>
+        requires { length self.old.taken.events < MOST_EVENTS }
+        ensures gives { Gives V.bytes self.new (Event.Deliver number) (world_of V.bytes (with_event self.old.taken (Event.Deliver number))) result }
+        ensures still { IsStill self.old self.new }
+    {
+        let to = match self.packets.get(number as usize) {
+            Some(packet) => packet.to,
+            None => return Err(StepFault::NoPacket),
+        };
+        let node = match self.nodes.get_mut(to as usize) {
+            Some(node) => node,
+            None => return Err(StepFault::NoNode),
+        };
+        ready_packet(node, to, &self.packets, number as usize)
+    }
+
+    /// The growths of a restart of node `k`.
+    fn ready_restart(&self, k: u8) -> Result<Due<V>, StepFault>
+        requires { length self.now.taken.events < MOST_EVENTS }
+        ensures { Gives V.bytes self.now (Event.Restart k) (world_of V.bytes (with_event self.now.taken (Event.Restart k))) result }
+    {
+        match self.nodes.get(k as usize) {
+            Some(node) => ready_restart(node, k),
+            None => Err(StepFault::NoNode),
+        }
+    }
+
+    /// Makes room for so many packets and events more.
+    pub fn room(&mut self, packets: usize, events: usize) -> Result<(), StepFault>
+        ensures room { OnOk result (HasRoom self.new packets events) }
+        ensures only_memory { IsOkUnless result Memory }
+        ensures still { IsStill self.old self.new }
+    {
+        self.packets.reserve(packets)?;
+        self.events.reserve(events)?;
+        Ok(())
+    }
+
+    /// Takes an event that is due, and answers how many packets were posted so far. It takes no memory.
+    pub fn commit(&mut self, due: Due<V>) -> u64
+        requires due { IsDue V.bytes self.old due }
+        requires room { HasRoom self.old (length (posts_of due.work)) 1 }
+        requires few { length self.old.taken.events < MOST_EVENTS }
+        ensures taken { IsTaken self.old self.new due }
+        ensures posted { result ≡ length (packets_after (world_of V.bytes self.new.taken)) }
+    {
+        let (at, event, work) = due.into_parts();
+        let mut posts = commit_at(&mut self.nodes[at as usize], work);
+        // There is room for them.
+        let _added = self.packets.append(&mut posts);
+        self.events.push_reserved(event);
+        self.packets.len() as u64
+    }
+
+    /// Takes an event, and answers how many packets were posted so far.
+    ///
+    /// Errors: the first fault that the event meets, or `Memory` where it meets none; the world is then as before.
+    pub fn step(&mut self, event: Event<V>) -> Result<u64, StepFault>
+        ensures taken { OnOk result (self.new.taken ≡ with_event self.old.taken event) }
+        ensures posted { IfOk result (λ count. count ≡ length (packets_after (world_of V.bytes self.new.taken))) }
+
+        // A fault is answered however little memory there is.
+        ensures refused { IfErr (world_of V.bytes (with_event self.old.taken event)) (λ fault. result ≡ Err fault) }
+        ensures only_memory { OnOk (world_of V.bytes (with_event self.old.taken event)) (IsOkUnless result Memory) }
+        ensures same { OnErr result (self.new.taken ≡ self.old.taken) }
+    {
+        let due = self.ready(event)?;
+        Ok(self.commit(due))
+    }
+
+    /// The events that it took, first in first. None of them meets a fault, and what agreement says holds at all their moments.
+    pub fn history(&self) -> &[Event<V>]
+        ensures events { result.now ≡ self.now.taken.events }
+        ensures few { length self.now.taken.events ≤ MOST_EVENTS }
+        ensures agreement { Agreement V.bytes self.now.taken }
+        ensures world { AreOfWorld V.bytes self.now.taken self.now.cores self.now.packets }
+    {
+        &self.events
+    }
+
+    /// Entry `slot` of the log of node `k`. It takes no memory.
+    pub fn entry(&self, k: u8, slot: u32) -> Result<Option<&Option<V>>, StepFault>
+        ensures entry { IfOk result (λ found. MatchOption found (slice_get (log_after (world_of V.bytes self.now.taken) k) slot ≡ None) (λ entry. slice_get (log_after (world_of V.bytes self.now.taken) k) slot ≡ Some entry.now)) }
+        ensures below { IfOk result (λ found. IsSome found → slot < SLOTS) }
+        ensures no_node { length self.now.taken.weights ≤ k → result ≡ Err NoNode }
+        ensures node { k < length self.now.taken.weights → IsOk result }
+    {
+        match self.nodes.get(k as usize) {
+            Some(node) => Ok(node.entry(slot)),
+            None => Err(StepFault::NoNode),
+        }
+    }
+
+    /// The log of node `k`: what it learned, up to its first gap.
+    pub fn log(&self, k: u8) -> Result<Vec<Option<V>>, StepFault>
+        ensures log { IfOk result (λ entries. entries.items ≡ log_after (world_of V.bytes self.now.taken) k) }
+        ensures no_node { length self.now.taken.weights ≤ k → result ≡ Err NoNode }
+        ensures only_memory { k < length self.now.taken.weights → IsOkUnless result Memory }
+    {
+        match self.nodes.get(k as usize) {
+            Some(node) => Ok(node.log()?),
+            None => Err(StepFault::NoNode),
+        }
+    }
+
+    /// The packet of that number, from 0 in the order of posting. It takes no memory.
+    pub fn packet(&self, number: u64) -> Result<&Packet<V>, StepFault>
+        ensures found { IfOk result (λ packet. slice_get (packets_after (world_of V.bytes self.now.taken)) number ≡ Some packet.now) }
+        ensures no_packet { (result ≡ Err NoPacket) ↔ (slice_get (packets_after (world_of V.bytes self.now.taken)) number ≡ None) }
+        ensures only_no_packet { IsOkUnless result NoPacket }
+    {
+        match self.packets.get(number as usize) {
+            Some(packet) => Ok(packet),
+            None => Err(StepFault::NoPacket),
+        }
+    }
+}
+
+/// A new node for each of the weights.
+fn new_nodes<V: Value>(alloc: Global, weights: Weights) -> Result<Vec<NodeCore<V>>, AllocError>
+    ensures nodes { IfOk result (λ nodes. nodes_of nodes.items ≡ nodes_from weights 0 weights) }
+    ensures weights { OnOk result (IsWeights weights) }
+{
+    let mut nodes = Vec::new(alloc);
+    for k in 0..weights.count() {
+        nodes.push(NodeCore::new(alloc, k, weights))?;
+    }
+    Ok(nodes)
+}

@@ -1,0 +1,6 @@
+use Rattle.std.proofs.Common.{◌≡◌, ◌*◌, None, replicate}
+use Rattle.slots.specs.Pages.{joined, AreWhole}
+use Rattle.slots.proofs.pages.empty_pages.Given as goal
+
+abbrev pub invariant-loop-page : goal.invariant-loop-page
+invariant-loop-page g l = AreWhole l.pages.items × (joined l.pages.items ≡ replicate (256 * l._page) None)

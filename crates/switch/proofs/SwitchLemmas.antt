@@ -1,0 +1,219 @@
+-- What a switch keeps after its net or one of its seats has changed.
+use Rattle.std.proofs.Common.{◌≡◌, ◌≢◌, ℕ, zero, suc, ◌<◌, ◌≤◌, List, [], ◌∷◌, ◌++◌, length, set, slice_get, Option, Some, None, Ok, refl, ap, sym, ◌∙◌, subst, arith, append_assoc, append-nil}
+use Rattle.std.specs.List.{AllByRecursion}
+use Rattle.std.specs.Option.{option_map}
+use Rattle.std.proofs.lemmas.List.{length-set}
+use Rattle.synod.specs.declared.packet.Packet.{Packet}
+use Rattle.synod.specs.declared.change.Change.{Change}
+use Rattle.synod.specs.Packets.{IsPost}
+use Rattle.synod.specs.Record.{Kept, changed_by, new_kept}
+use Rattle.synod.specs.Node.{Node, Stepped, kept_of, new_node}
+use Rattle.synod.specs.Core.{Core}
+use Rattle.net.specs.declared.event.TheConstants.{MOST_EVENTS}
+use Rattle.net.specs.declared.event.Event.{Event}
+use Rattle.net.specs.World.{World, start, nodes_from, stepped, happens, happens_at, after, offers_of}
+use Rattle.net.specs.Agree.{IsAfter}
+use Rattle.net.specs.Taken.{Taken, nodes_of, AreOfWorld, with_event}
+use Rattle.net.specs.KeptPart.{change_of, kept_part}
+use Rattle.net.specs.Due.{Work, steps, restarts, Due, change_in, posts_of, step_of, IsEventAt, NetView, AreStill, IsStill, IsDue, IsTaken}
+use Rattle.net.proofs.Lists.{all_append, at_set, at_set_other}
+use Rattle.net.proofs.EveryEvent.{if_taken, node_at, holds_after}
+use Rattle.net.proofs.TwoMoments.{world_lasts}
+use Rattle.net.proofs.KeptPartLemmas.{Happens, event_moves}
+use Rattle.net.proofs.TakenLemmas.{taken_count, happens-not_spent, events_within, rooms_stay, makes, nodes_of-set}
+use Rattle.net.proofs.DueLemmas.{nodes_found, nodes_still, due_still, posts_same}
+use Rattle.switch.specs.Seat.{Standing, up, down, Seated, IsRecordOf}
+use Rattle.switch.specs.Switch.{Shared, places_of, new_seats, IsOwing, IsSeat, IsSwitch}
+use Rattle.switch.proofs.SeatsLemmas.{each_after, new_at, count_seats}
+
+abbrev pub shared : {V : Type 0} → NetView V → List (Seated V) → Shared V
+shared net seats = record { weights = net.taken.weights; history = net.taken.events; places = places_of seats }
+
+-- the same net, where only rooms are others
+still_world : {V : Type 0} (size : V → ℕ) (a b : NetView V) → IsStill a b → AreOfWorld size a.taken a.cores a.packets → AreOfWorld size b.taken b.cores b.packets
+still_world {V} size a b still h =
+    subst (λ (t : Taken V). AreOfWorld size t b.cores b.packets) (sym still.taken)
+    (subst (λ (ps : List (Packet V)). AreOfWorld size a.taken b.cores ps) (sym still.packets) (rooms_stay size a.taken a.cores a.packets h b.cores (nodes_still a.cores b.cores still.cores)))
+
+still_count : {V : Type 0} (cs ds : List (Core V)) → AreStill cs ds → length ds ≡ length cs
+still_count [] [] h = refl
+still_count (c ∷ cs) (d ∷ ds) h = ap suc (still_count cs ds h.2)
+still_count [] (d ∷ ds) h = elim h [ ]
+still_count (c ∷ cs) [] h = elim h [ ]
+
+new_node_at : {V : Type 0} (weights : List ℕ) (j k : ℕ) (ws : List ℕ) (n : Node V) → slice_get (nodes_from weights j ws) k ≡ Some n → kept_of n ≡ new_kept
+new_node_at weights j k [] n at = cc
+new_node_at {V} weights j zero (w ∷ ws) n at = let same : new_node j weights ≡ n = cc in ap (λ (m : Node V). kept_of m) (sym same)
+new_node_at weights j (suc k) (w ∷ ws) n at = new_node_at weights (suc j) k ws n at
+
+-- a switch of new nodes
+pub starts : {V K : Type 0} (size : V → ℕ) (kept : K → Kept V) (failures : K → ℕ) (net : NetView V) (weights : List ℕ) (keeps : List K) (seats : List (Seated V)) → AreOfWorld size net.taken net.cores net.packets
+    → net.taken ≡ record { weights = weights; events = [] } → length net.cores ≡ length net.taken.weights → length keeps ≡ length weights → AllByRecursion (λ keep. kept keep ≡ new_kept) keeps → seats ≡ new_seats kept failures keeps → IsSwitch size net seats
+starts {V} size kept failures net weights keeps seats h is cores count new are = subst (λ (us : List (Seated V)). IsSwitch size net us) (sym are) record {
+  world = h;
+  count = count_seats kept failures keeps ∙ count ∙ sym (cores ∙ ap (λ (t : Taken V). length t.weights) is);
+  each = λ k n seat at is_seat.
+      (let s = new_at kept failures keeps new k seat is_seat in
+      let begun : Ok (start weights) ≡ Ok h.world = sym (ap (λ (t : Taken V). after size t.weights t.events) is) ∙ h.is_after in
+      let same : start weights ≡ h.world = cc in
+      let fits : kept_of n ≡ new_kept = new_node_at weights 0 k weights n (ap (λ (w : World V). slice_get w.nodes k) same ∙ at) in
+      subst (λ (x : Seated V). IsSeat size net k n x) refl (seat_is s.0 s.1 fits));
+} where
+  seat_is : {V : Type 0} {size : V → ℕ} {net : NetView V} {k : ℕ} {n : Node V} {seat : Seated V} → seat.kept ≡ new_kept → seat.standing ≡ up → kept_of n ≡ new_kept → IsSeat size net k n seat
+  seat_is {V} {size} {net} {k} {n} {seat} is_new is_up fits = record {
+    fits = subst (λ (s : Standing (Due V)). IsRecordOf n s seat.kept) (sym is_up) (is_new ∙ sym fits);
+    owing = subst (λ (s : Standing (Due V)). IsOwing size net k s) (sym is_up) tt;
+  }
+
+module _ {V : Type 0} (size : V → ℕ) (net : NetView V) (seats : List (Seated V)) (h : IsSwitch size net seats) where
+  abbrev w : World V
+  w = h.world.world
+
+  pub taken_is : w.taken ≡ length net.taken.events
+  taken_is = taken_count size net.taken.weights net.taken.events w h.world.is_after
+
+  pub within : length net.taken.events ≤ MOST_EVENTS
+  within = events_within size net.taken net.taken net.cores net.packets h.world refl
+
+  pub has_room : (e : Event V) → length net.taken.events < MOST_EVENTS → happens size w e ≡ happens_at size w e
+  has_room e low = happens-not_spent size w e (let c = taken_is in omega (arith, c, low))
+
+  pub core_node : (k : ℕ) (c : Core V) → slice_get net.cores k ≡ Some c → slice_get w.nodes k ≡ Some c.node
+  core_node k c at = ap (λ (ns : List (Node V)). slice_get ns k) h.world.nodes ∙ nodes_found net.cores k c at
+
+  pub same_world : (x : World V) → IsAfter size net.taken.weights net.taken.events x → w ≡ x
+  same_world x is = let both : Ok w ≡ Ok x = sym h.world.is_after ∙ is in cc
+
+  -- the number and the weights of a node
+  pub own_weights : (k : ℕ) (n : Node V) → slice_get w.nodes k ≡ Some n → n.weights ≡ net.taken.weights
+  own_weights k n at =
+      let holds = holds_after size net.taken.weights net.taken.events w h.world.is_after in
+      (node_at w.weights (offers_of net.taken.events) holds.ledger w.nodes 0 k n at holds.nodes).weights
+      ∙ (world_lasts size net.taken.weights [] net.taken.events (start net.taken.weights) w refl h.world.is_after).weights
+
+  pub own_number : (k : ℕ) (n : Node V) → slice_get w.nodes k ≡ Some n → n.me ≡ k
+  own_number k n at =
+      let holds = holds_after size net.taken.weights net.taken.events w h.world.is_after in
+      (node_at w.weights (offers_of net.taken.events) holds.ledger w.nodes 0 k n at holds.nodes).me ∙ omega arith
+
+  -- Rooms alone are others.
+
+  still_owing : (b : NetView V) → IsStill net b → (k : ℕ) (s : Standing (Due V)) → IsOwing size net k s → IsOwing size b k s
+  still_owing b still k up o = tt
+  still_owing b still k (down None) o = tt
+  still_owing b still k (down (Some due)) o = (o.0, due_still size net b due still o.1)
+
+  pub still_switch : (b : NetView V) → IsStill net b → IsSwitch size b seats
+  still_switch b still =
+      let there = still_world size net b still h.world in
+      let same : w ≡ there.world = same_world there.world (ap (λ (t : Taken V). after size t.weights t.events) (sym still.taken) ∙ there.is_after) in
+      record {
+        world = there;
+        count = h.count ∙ sym (still_count net.cores b.cores still.cores);
+        each = λ k n seat at is.
+            (let own = h.each k n seat (ap (λ (x : World V). slice_get x.nodes k) same ∙ at) is in
+            record { fits = own.fits; owing = still_owing b still k seat.standing own.owing });
+      }
+
+  -- One seat is another.
+
+  pub other_seat : (k : ℕ) (n : Node V) (seat new : Seated V) → slice_get w.nodes k ≡ Some n → slice_get seats k ≡ Some seat → IsSeat size net k n new → IsSwitch size net (set seats k new)
+  other_seat k n seat new at is own = record {
+    world = h.world;
+    count = length-set seats k new ∙ h.count;
+    each = each_after w.nodes seats (λ j m s. IsSeat size net j m s) k seat new is
+        (λ m there. (let both : Some n ≡ Some m = sym at ∙ there in let same : n ≡ m = cc in subst (λ (x : Node V). IsSeat size net k x new) same own)) (λ j m s other there is_s. h.each j m s there is_s);
+  }
+
+  -- A due event is taken.
+
+  module _ (due : Due V) (d : IsDue size net due) where
+    abbrev step : Stepped V
+    step = step_of due.work d.core.node
+
+    pub node_is : slice_get w.nodes due.at ≡ Some d.core.node
+    node_is = core_node due.at d.core d.at
+
+    pub at : IsEventAt size w due.at due.event (Ok step)
+    at = d.comes w [] (h.world.posted ∙ sym (append-nil net.packets)) node_is
+
+    change_work : (work : Work V) (n : Node V) → change_in work ≡ (step_of work n).change
+    change_work (steps made) n = refl
+    change_work (restarts posts None) n = refl
+    change_work (restarts posts (Some kept)) n = refl
+
+    pub change_is : change_in due.work ≡ step.change
+    change_is = change_work due.work d.core.node
+
+    -- the change, as the world tells it
+    pub change_told : change_in due.work ≡ change_of size w due.event
+    change_told = change_is ∙ sym at.change
+
+    module _ (low : length net.taken.events < MOST_EVENTS) where
+      pub happens_is : happens size w due.event ≡ Ok (stepped w due.at step)
+      happens_is = has_room due.event low ∙ at.happens
+
+      pub changes : kept_of step.node ≡ changed_by (kept_of d.core.node) (change_in due.work)
+      changes =
+          let k = due.at in
+          let moved : Happens size w k due.event (stepped w k step) = if_taken (Happens size w k due.event) (happens size w due.event) (stepped w k step) happens_is (event_moves size w k due.event) in
+          let left : kept_part (stepped w k step) k ≡ Some (kept_of step.node) = ap (λ (o : Option (Node V)). option_map kept_of o) (at_set w.nodes k step.node d.core.node node_is) in
+          let right : option_map (λ kept. changed_by kept (change_of size w due.event)) (kept_part w k) ≡ Some (changed_by (kept_of d.core.node) (change_in due.work)) =
+          ap (λ (o : Option (Node V)). option_map (λ kept. changed_by kept (change_of size w due.event)) (option_map kept_of o)) node_is
+          ∙ ap (λ (c : Option (Change V)). let o : Option (Kept V) = Some (changed_by (kept_of d.core.node) c) in o) (at.change ∙ sym change_is) in
+          let both : Some (kept_of step.node) ≡ Some (changed_by (kept_of d.core.node) (change_in due.work)) = sym left ∙ moved.own at.node ∙ right in
+          cc
+
+      module _ (b : NetView V) (t : IsTaken net b due) where
+        was_core : t.was ≡ d.core
+        was_core = let both : Some t.was ≡ Some d.core = sym t.at ∙ d.at in cc
+
+        node_then : t.core.node ≡ step.node
+        node_then = t.node ∙ ap (λ (c : Core V). (step_of due.work c.node).node) was_core
+
+        posts_are : b.packets ≡ net.packets ++ step.posts
+        posts_are = t.packets ∙ ap (λ (ps : List (Packet V)). net.packets ++ ps) (posts_same d.core due.work d.ready)
+
+        pub taken_world : AreOfWorld size b.taken b.cores b.packets
+        taken_world =
+            subst (λ (x : Taken V). AreOfWorld size x b.cores b.packets) (sym t.taken)
+            (subst (λ (cs : List (Core V)). AreOfWorld size (with_event net.taken due.event) cs b.packets) (sym t.cores)
+            (makes size net.taken net.cores net.packets h.world low due.event due.at t.core step at.happens b.packets node_then posts_are
+            (subst (λ (ps : List (Packet V)). AllByRecursion (IsPost (length net.taken.weights)) ps) (sym t.packets) (all_append (IsPost (length net.taken.weights)) net.packets (posts_of due.work) h.world.posts d.posts))))
+
+        nodes_then : taken_world.world.nodes ≡ set w.nodes due.at step.node
+        nodes_then = taken_world.nodes ∙ ap (λ (cs : List (Core V)). nodes_of cs) t.cores ∙ nodes_of-set net.cores due.at t.core
+            ∙ ap (λ (n : Node V). set (nodes_of net.cores) due.at n) node_then ∙ ap (λ (ns : List (Node V)). set ns due.at step.node) (sym h.world.nodes)
+
+        -- another node's due event is still due
+        other_due : (other : Due V) → due.at ≢ other.at → IsDue size net other → IsDue size b other
+        other_due other apart o = record {
+          core = o.core;
+          at = ap (λ (cs : List (Core V)). slice_get cs other.at) t.cores ∙ at_set_other net.cores due.at other.at t.core apart ∙ o.at;
+          ready = o.ready;
+          comes = λ x more e is. o.comes x (posts_of due.work ++ more) (e ∙ ap (λ (ps : List (Packet V)). ps ++ more) t.packets ∙ append_assoc net.packets (posts_of due.work) more) is;
+          posts = subst (λ (x : Taken V). AllByRecursion (IsPost (length x.weights)) (posts_of other.work)) (sym t.taken) o.posts;
+        }
+
+        other_owing : (j : ℕ) → due.at ≢ j → (s : Standing (Due V)) → IsOwing size net j s → IsOwing size b j s
+        other_owing j apart up o = tt
+        other_owing j apart (down None) o = tt
+        other_owing j apart (down (Some other)) o = (o.0, other_due other (λ e. apart (e ∙ o.0)) o.1)
+
+        -- the node is up, and its keep has made the change
+        pub committed : (seat new : Seated V) → slice_get seats due.at ≡ Some seat → new.kept ≡ kept_of step.node → new.standing ≡ up → IsSwitch size b (set seats due.at new)
+        committed seat new is kept is_up = record {
+          world = taken_world;
+          count = length-set seats due.at new ∙ h.count ∙ sym (ap (λ (cs : List (Core V)). length cs) t.cores ∙ length-set net.cores due.at t.core);
+          each = each_after taken_world.world.nodes seats (λ j m s. IsSeat size b j m s) due.at seat new is
+              (λ m there.
+              (let both : Some step.node ≡ Some m = sym (ap (λ (ns : List (Node V)). slice_get ns due.at) nodes_then ∙ at_set w.nodes due.at step.node d.core.node node_is) ∙ there in
+              let same : step.node ≡ m = cc in
+              record {
+                fits = subst (λ (s : Standing (Due V)). IsRecordOf m s new.kept) (sym is_up) (kept ∙ ap (λ (n : Node V). kept_of n) same);
+                owing = subst (λ (s : Standing (Due V)). IsOwing size b due.at s) (sym is_up) tt;
+              }))
+              (λ j m s other there is_s.
+              (let own = h.each j m s (sym (ap (λ (ns : List (Node V)). slice_get ns j) nodes_then ∙ at_set_other w.nodes due.at j step.node other) ∙ there) is_s in
+              record { fits = own.fits; owing = other_owing j other s.standing own.owing }));
+        }

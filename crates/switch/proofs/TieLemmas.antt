@@ -1,0 +1,52 @@
+-- What a call leaves of what begins a log.
+use Rattle.std.proofs.Common.{◌≡◌, ◌≢◌, ℕ, List, Option, Some, None, Result, refl, ap, sym, ◌∙◌, slice_get}
+use Rattle.std.specs.Result.{ForOk}
+use Rattle.net.specs.declared.event.Event.{Event}
+use Rattle.net.specs.declared.event.Event.TheVariants.{Offer, Begin, Deliver, Restart}
+use Rattle.net.specs.declared.fault.StepFault.{StepFault}
+use Rattle.net.specs.KeptPart.{node_of}
+use Rattle.net.specs.Due.{Due, NetView}
+use Rattle.switch.specs.Seat.{Standing, up, down, Seated}
+use Rattle.switch.specs.Switch.{Place, Shared, standing_seen, place_of, places_of, due, IsOwing, IsSwitch, world_of, ActsUp, Restarts}
+use Rattle.switch.specs.Belonging.{StaysBelonging, StaysAtRestart}
+use Rattle.switch.proofs.SeatsLemmas.{place_at, place_past}
+use Rattle.switch.proofs.SwitchLemmas.{shared, at}
+use Rattle.switch.proofs.EventLemmas.{places_are, after_is, node_there}
+use Rattle.switch.proofs.BelongsLemmas.{up_stays, restart_stays}
+
+no_restart : {V : Type 0} (e : Event V) → due e ≡ Some e → (j : ℕ) → e ≢ Restart j
+no_restart (Offer k v) is j = λ same. let no = same in cc
+no_restart (Begin k) is j = λ same. let no = same in cc
+no_restart (Deliver number) is j = λ same. let no = same in cc
+no_restart (Restart k) is j = cc
+
+module _ {V : Type 0} (size : V → ℕ) (net : NetView V) (seats : List (Seated V)) (h : IsSwitch size net seats) (now : Shared V) (seen : shared net seats ≡ now) where
+  -- An event of one of the nodes.
+  pub call_stays : (e : Event V) → due e ≡ Some e → (new : Shared V) (result : Result ℕ StepFault) → ForOk (world_of size now) (λ w. ActsUp size w now new e result) → StaysBelonging size now new
+  call_stays e is new result acts =
+      let was = after_is size net seats h now seen in
+      λ j entries b. up_stays size now h.world.world was (places_are size net seats h now seen h.world.world was) new e result (acts h.world.world was) j entries (no_restart e is j) b
+
+  -- what is owed is an event of its node
+  owed_own : (k : ℕ) (s : Standing (Due V)) → IsOwing size net k s → (e : Event V) → standing_seen s ≡ down (Some e) → node_of h.world.world e ≡ Some k
+  owed_own k up owing e is = cc
+  owed_own k (down None) owing e is = cc
+  owed_own k (down (Some o)) owing e is =
+      let both : down (Some o.event) ≡ down (Some e) = is in
+      let same : o.event ≡ e = cc in
+      ap (λ (v : Event V). node_of h.world.world v) (sym same) ∙ (at size net seats h o owing.1).node ∙ ap (λ (i : ℕ). let p : Option ℕ = Some i in p) owing.0
+
+  owed_at : (k : ℕ) (o : Option (Seated V)) → slice_get seats k ≡ o → (place : Place V) → slice_get (places_of seats) k ≡ Some place → (e : Event V) → place.standing ≡ down (Some e) → node_of h.world.world e ≡ Some k
+  owed_at k None none place is e stands = let no : None ≡ Some place = sym (place_past seats k none) ∙ is in cc
+  owed_at k (Some seat) some place is e stands =
+      let both : Some (place_of seat) ≡ Some place = sym (place_at seats k seat some) ∙ is in
+      let same : place_of seat ≡ place = cc in
+      let n = node_there size net seats h now seen k seat some in
+      owed_own k seat.standing (h.each k n.0 seat n.1 some).owing e (ap (λ (p : Place V). p.standing) same ∙ stands)
+
+  -- A restart.
+  pub call_stays_restart : (k : ℕ) (new : Shared V) (result : Result ℕ StepFault) → ForOk (world_of size now) (λ w. Restarts size w now new k result) → StaysAtRestart size k now new result
+  call_stays_restart k new result restarts =
+      let was = after_is size net seats h now seen in
+      restart_stays size now h.world.world was (places_are size net seats h now seen h.world.world was) k new
+      (λ place is e stands. owed_at k (slice_get seats k) refl place (ap (λ (s : Shared V). slice_get s.places k) seen ∙ is) e stands) result (restarts h.world.world was)

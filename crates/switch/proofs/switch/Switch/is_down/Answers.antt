@@ -1,0 +1,24 @@
+use Rattle.std.proofs.Common.{ℕ, List, Option, Some, length, get_or, ap, sym, ◌∙◌, arith}
+use Rattle.net.proofs.Lists.{at_place, none_past}
+use Rattle.switch.specs.Seat.{Seated}
+use Rattle.switch.specs.Switch.{Place, Shared, is_down_at, is_down_place}
+use Rattle.switch.proofs.SeatsLemmas.{place_at, place_past}
+use Rattle.switch.proofs.switch.Switch.is_down.Goals as goal
+
+pub returns-in-Some-get : goal.returns-in-Some-get
+returns-in-Some-get g c =
+    let Seats : Type 0 = List (Seated g.row.V.Denot) in
+    let count = ap (λ (seats : Seats). length seats) c.deref.ensures.value in
+    let is = c.in-Some-get.ensures.lookup.1 ∙ ap (λ (seats : Seats). get_or seats c.in-Some.k c.in-Some-get.seat.now) c.deref.ensures.value in
+    let at = at_place c.self.inside.seats.items c.in-Some.k c.in-Some-get.seat.now (omega (arith, count, c.in-Some-get.ensures.lookup.3.0)) is in
+    c.is_down.ensures ∙ sym (ap (λ (o : Option (Place g.row.V.Denot)). is_down_place o) (place_at c.self.inside.seats.items c.in-Some.k c.in-Some-get.seat.now at))
+    ∙ ap (λ (s : Shared g.row.V.Denot). is_down_at s.places (Some c.in-Some.k)) c.self.view_is
+    ∙ ap (λ (o : Option ℕ). is_down_at c.args.self.now.places o) (sym c.in-Some.is)
+
+pub returns-in-None : goal.returns-in-None
+returns-in-None g c =
+    let count = ap (λ (seats : List (Seated g.row.V.Denot)). length seats) c.deref.ensures.value in
+    let none = none_past c.self.inside.seats.items c.in-Some.k (omega (arith, count, c.in-None.ensures.lookup.3)) in
+    sym (ap (λ (o : Option (Place g.row.V.Denot)). is_down_place o) (place_past c.self.inside.seats.items c.in-Some.k none))
+    ∙ ap (λ (s : Shared g.row.V.Denot). is_down_at s.places (Some c.in-Some.k)) c.self.view_is
+    ∙ ap (λ (o : Option ℕ). is_down_at c.args.self.now.places o) (sym c.in-Some.is)

@@ -1,0 +1,3 @@
+pub mod Seat
+pub mod Switch
+pub mod Belonging

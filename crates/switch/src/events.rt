@@ -1,0 +1,77 @@
+//! What happens to one node of a switch.
+ghost use Rattle.std.specs.Prelude.{◌≡◌, Some, None, false};
+ghost use Rattle.std.specs.Result.{ForOk};
+ghost use Rattle.net.specs.declared.event.Event.TheVariants.{Offer, Begin, Deliver, Restart};
+ghost use Rattle.net.specs.KeptPart.{node_of};
+ghost use Rattle.switch.specs.Switch.{Acts, ActsUp, due, is_down_at, world_of};
+ghost use Rattle.switch.specs.Belonging.{StaysBelonging};
+
+use crate::switch::Switch;
+use net::{Event, StepFault};
+use synod::{Keep, Value};
+
+impl<V: Value, K: Keep<V>> Switch<V, K> {
+    /// An event that is no restart, at a node that is not down: it is made ready, its change is stored, and it is taken. It
+    /// answers the count of the packets posted so far.
+    fn play(&mut self, event: Event<V>) -> Result<u64, StepFault>
+        requires event { due event ≡ Some event }
+        requires up { ForOk (world_of V.bytes self.old) (λ world. is_down_at self.old.places (node_of world event) ≡ false) }
+        ensures acts { ForOk (world_of V.bytes self.old) (λ world. ActsUp V.bytes world self.old self.new event result) }
+        ensures belonging { StaysBelonging V.bytes self.old self.new }
+    {
+        let due = match self.net.ready(event) {
+            Ok(due) => due,
+            Err(fault) => return Err(fault),
+        };
+        let at = due.at() as usize;
+        let due = match self.seats[at].store(due) {
+            Ok(due) => due,
+            Err(_) => return Err(StepFault::Device),
+        };
+        Ok(self.net.commit(due))
+    }
+
+    /// A value is offered to node `k`. It answers the count of the packets posted so far.
+    ///
+    /// Errors: as of `begin_on`.
+    pub fn offer(&mut self, k: u8, value: V) -> Result<u64, StepFault>
+        ensures acts { ForOk (world_of V.bytes self.old) (λ world. Acts V.bytes world self.old self.new (Offer k value) result) }
+        ensures belonging { StaysBelonging V.bytes self.old self.new }
+    {
+        if self.is_down(Some(k)) {
+            return Err(StepFault::Down);
+        }
+        self.play(Event::Offer(k, value))
+    }
+}
+
+/// Node `k` begins a ballot. It answers the count of the packets posted so far.
+///
+/// Errors: `Down` where the node is down; else the fault that the event meets in the world after the history, the first in
+/// the order of `StepFault`; else `Memory`, with nothing changed, or `Device`, where its keep failed: the node is then down.
+pub fn begin_on<V: Value, K: Keep<V>>(switch: &mut Switch<V, K>, k: u8) -> Result<u64, StepFault>
+    ensures acts { ForOk (world_of V.bytes switch.old) (λ world. Acts V.bytes world switch.old switch.new (Begin k) result) }
+    ensures belonging { StaysBelonging V.bytes switch.old switch.new }
+{
+    if switch.is_down(Some(k)) {
+        return Err(StepFault::Down);
+    }
+    switch.play(Event::Begin(k))
+}
+
+/// The packet of that number comes to the node that it is addressed to. It answers the count of the packets posted so far.
+///
+/// Errors: as of `begin_on`, for that node; a number that is no packet is of no node.
+pub fn deliver_on<V: Value, K: Keep<V>>(
+    switch: &mut Switch<V, K>,
+    number: u64,
+) -> Result<u64, StepFault>
+    ensures acts { ForOk (world_of V.bytes switch.old) (λ world. Acts V.bytes world switch.old switch.new (Deliver number) result) }
+    ensures belonging { StaysBelonging V.bytes switch.old switch.new }
+{
+    let receiver = switch.receiver(number);
+    if switch.is_down(receiver) {
+        return Err(StepFault::Down);
+    }
+    switch.play(Event::Deliver(number))
+}

@@ -1,5 +1,0 @@
-use Rattle.world.proofs.KeptPartLemmas.{kept_part_survives}
-use Rattle.world.proofs.laws.kept_part.Goals as goal
-
-pub returns : goal.returns
-returns g c = kept_part_survives
