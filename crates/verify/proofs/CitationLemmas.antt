@@ -17,13 +17,13 @@ use Rattle.subst.proofs.SubstitutionLemmas.{substitution_over_names}
 use Rattle.entries.specs.declared.citation.Hypothesis.TheVariants.{Float}
 use Rattle.entries.specs.declared.citation.Cited.{Cited}
 use Rattle.frame.specs.Bound.{IsBound}
-use Rattle.frame.specs.Cited.{head_of, IsCited}
-use Rattle.verify.specs.Fits.{AreRead, DoFit}
+use Rattle.frame.specs.Cited.{IsCited}
+use Rattle.verify.specs.Fits.{IsTyped, AreRead, DoFit}
 use Rattle.verify.specs.Goes.{named, AreNamed, Goes}
 use Rattle.verify.specs.Machine.{Results, Cites, of_hypothesis, of_assertion}
 use Rattle.verify.specs.Places.{below, top, Adds}
 use Rattle.verify.proofs.AskedLemmas.{asked-lengths}
-use Rattle.verify.proofs.CitingLemmas.{of_variables, apply-τ, apart-τ, premises-read, premise-some, heads-agree, fits-agree, conclusion-agrees, apart-agrees, read-over}
+use Rattle.verify.proofs.CitingLemmas.{of_variables, apply-τ, apart-τ, premises-read, premise-typed, fits-agree, conclusion-agrees, apart-agrees, read-over}
 use Rattle.verify.proofs.Decide.{append_cut, length-premises, some_same, not_both}
 use Rattle.verify.proofs.ImageLemmas.{only, apply-below, are-codes}
 use Rattle.verify.proofs.Named.{map-append, named-result, result-named, all-take, all-drop, halves, length-top}
@@ -31,11 +31,10 @@ use Rattle.verify.proofs.Named.{map-append, named-result, result-named, all-take
 -- what the code finds wherever the citation can give f
 pub record Meets (S : Database) (names : List Name) (at a : ℕ) (c : Cited) (stack : List (List ℕ)) (f : Expr) : Type 0 where
   pub many : length c.hypotheses.now ≤ length stack
-  pub firsts : map head_of (top (length c.hypotheses.now) stack) ≡ c.heads.now
-  pub some : (k x : ℕ) → slice_get c.hypotheses.now k ≡ Some (Float x) → get_or (top (length c.hypotheses.now) stack) k [] ≡ [] → ⊥
-  pub fits : (ρ : CodeImages) → AreRead c.hypotheses.now (top (length c.hypotheses.now) stack) ρ → DoFit S (images_of_names names ρ) c.hypotheses.now (map (decode names) (top (length c.hypotheses.now) stack))
-  pub apart : (ρ : CodeImages) → AreRead c.hypotheses.now (top (length c.hypotheses.now) stack) ρ → are_groups_apart (before S at) (images_of_names names ρ) (map (decode names) c.groups) ≡ true
-  pub gives : (ρ : CodeImages) → AreRead c.hypotheses.now (top (length c.hypotheses.now) stack) ρ → f ≡ decode names (code_apply ρ c.conclusion.now)
+  pub typed : (k x : ℕ) → slice_get c.hypotheses.now k ≡ Some (Float x) → IsTyped (get_or c.heads.now k 0) (get_or (top (length c.hypotheses.now) stack) k [])
+  pub fits : (ρ : CodeImages) → AreRead c.heads.now c.hypotheses.now (top (length c.hypotheses.now) stack) ρ → DoFit S (images_of_names names ρ) c.hypotheses.now (map (decode names) (top (length c.hypotheses.now) stack))
+  pub apart : (ρ : CodeImages) → AreRead c.heads.now c.hypotheses.now (top (length c.hypotheses.now) stack) ρ → are_groups_apart (before S at) (images_of_names names ρ) (map (decode names) c.groups) ≡ true
+  pub gives : (ρ : CodeImages) → AreRead c.heads.now c.hypotheses.now (top (length c.hypotheses.now) stack) ρ → f ≡ decode names (code_apply ρ c.conclusion.now)
 
 module _ (S : Database) (names : List Name) (at a : ℕ) (s : Stmt) (c : Cited) (legal : AreLegal S names) (bound : IsBound S a s) (is : IsCited S names a s c) where
   abbrev n : ℕ
@@ -46,17 +45,17 @@ module _ (S : Database) (names : List Name) (at a : ℕ) (s : Stmt) (c : Cited) 
   conclusion-named ρ = substitution_over_names names ρ c.conclusion.now legal.distinct (are-codes names c.conclusion.now is.conclusion_below) ∙ ap (applied (images_of_names names ρ)) is.conclusion
 
   pub goes-assertion : (old new : Results ℕ) (label : Name) (ρ : CodeImages) → AreNamed names old → Carries S a s label → HasAssertion S a s → a < at
-      → n ≤ length old.stack → map head_of (top n old.stack) ≡ c.heads.now → AreRead c.hypotheses.now (top n old.stack) ρ → DoFit S (images_of_names names ρ) c.hypotheses.now (map (decode names) (top n old.stack))
+      → n ≤ length old.stack → AreRead c.heads.now c.hypotheses.now (top n old.stack) ρ → DoFit S (images_of_names names ρ) c.hypotheses.now (map (decode names) (top n old.stack))
       → are_groups_apart (before S at) (images_of_names names ρ) (map (decode names) c.groups) ≡ true
       → Adds true old new (below n old.stack) (code_apply ρ c.conclusion.now)
       → Goes true S at names (Cite label) old new
-  goes-assertion old new label ρ an carries has earlier many firsts read fits apart adds =
+  goes-assertion old new label ρ an carries has earlier many read fits apart adds =
       let es = top n old.stack in
       let e = code_apply ρ c.conclusion.now in
       let count = length-top n old.stack many in
       let low = all-drop (length names) (length old.stack - n) old.stack an.stack_named in
       let τ = only (is_variable (before S a)) (images_of_names names ρ) in
-      let prem : premises S a s τ ≡ map (decode names) es = premises-read S names a s legal.distinct bound c.heads.now c.hypotheses.now is.asked es count ρ read firsts fits in
+      let prem : premises S a s τ ≡ map (decode names) es = premises-read S names a s legal.distinct bound c.heads.now c.hypotheses.now is.asked es count ρ read fits in
       let away : are_groups_apart (before S at) τ (mandatory_groups (before S a) s) ≡ true
       = apart-τ S names a s legal.distinct bound c.heads.now c.hypotheses.now is.asked es count ρ read (before S at) (mandatory_groups (before S a) s) ∙ (ap (are_groups_apart (before S at) (images_of_names names ρ)) (sym is.groups) ∙ apart) in
       let whole : map (decode names) old.stack ≡ map (decode names) (below n old.stack) ++ premises S a s τ
@@ -89,8 +88,7 @@ module _ (S : Database) (names : List Name) (at a : ℕ) (s : Stmt) (c : Cited) 
       let low = all-drop (length names) (length old.stack - n) old.stack an.stack_named in
       record {
         many = many;
-        firsts = heads-agree S names a s legal.distinct bound c.heads.now c.hypotheses.now is.asked es count low σ fits.of_variables (sym cut);
-        some = premise-some S names a s legal.distinct bound c.heads.now c.hypotheses.now is.asked es count low σ fits.of_variables (sym cut);
+        typed = premise-typed S names a s legal.distinct bound c.heads.now c.hypotheses.now is.asked es count low σ fits.of_variables (sym cut);
         fits = λ ρ read. fits-agree S names a s legal.distinct bound c.heads.now c.hypotheses.now is.asked es count low σ fits.of_variables (sym cut) ρ read;
         apart = λ ρ read. ap (are_groups_apart (before S at) (images_of_names names ρ)) is.groups
             ∙ (apart-agrees S names a s legal.distinct bound c.heads.now c.hypotheses.now is.asked es count low σ fits.of_variables (sym cut) ρ read (before S at) ∙ fits.apart);
@@ -109,7 +107,7 @@ module _ (S : Database) (names : List Name) (at a : ℕ) (s : Stmt) (c : Cited) 
       meets old σ b f an (subst (λ u. IsInstance S at a u σ) e (subst (λ m. IsInstance S at m t σ) i fits))
       (whole ∙ (ap (λ m. b ++ premises S m t σ) i ∙ ap (λ u. b ++ premises S a u σ) e)) (gives ∙ ap (λ u. applied σ (expr_of u)) e)
 
-  pub goes-heavy : (old new : Results ℕ) (label : Name) (ρ : CodeImages) → AreNamed names old → Carries S a s label → HasAssertion S a s → AreRead c.hypotheses.now (top n old.stack) ρ
+  pub goes-heavy : (old new : Results ℕ) (label : Name) (ρ : CodeImages) → AreNamed names old → Carries S a s label → HasAssertion S a s → AreRead c.heads.now c.hypotheses.now (top n old.stack) ρ
       → Adds false old new (below n old.stack) (code_apply ρ c.conclusion.now) → Goes false S at names (Cite label) old new
   goes-heavy old new label ρ an carries has read heavy = λ next p.
       let m = meets-step old label p.0 p.1 an carries has p.2 in

@@ -22,7 +22,7 @@ use Rattle.entries.specs.declared.citation.Hypothesis.{Hypothesis}
 use Rattle.entries.specs.declared.citation.Hypothesis.TheVariants.{Float, Essential}
 use Rattle.frame.specs.Bound.{IsBound, HasFloat, IsFirstFixed}
 use Rattle.frame.specs.Cited.{head_of, IsHead, IsAsked, AreAsked}
-use Rattle.verify.specs.Fits.{AreRead, FitsOne, DoFit}
+use Rattle.verify.specs.Fits.{IsTyped, AreRead, FitsOne, DoFit}
 use Rattle.verify.proofs.Decide.{some_same}
 use Rattle.verify.proofs.Named.{name_at-injective, all-at}
 use Rattle.verify.proofs.AskedLemmas.{At, asked-lengths, asked-at, float-at, essential-at, float-number, float-find, some-get, some-within, lists-same}
@@ -39,11 +39,6 @@ get-map-of : {A B : Type 0} (f : A → B) (xs : List A) (k : ℕ) (x : A) (d : B
 get-map-of f [] k x d h = cc
 get-map-of f (y ∷ xs) zero x d h = let e : y ≡ x = cc in ap f e
 get-map-of f (y ∷ xs) (suc k) x d h = get-map-of f xs k x d h
-
-get-heads : (rs : List (List ℕ)) (k : ℕ) → k < length rs → get_or (map head_of rs) k 0 ≡ head_of (get_or rs k [])
-get-heads [] k h = absurd (omega (arith, h))
-get-heads (r ∷ rs) zero h = refl
-get-heads (r ∷ rs) (suc k) h = get-heads rs k (omega (arith, h))
 
 drop-decode : (names : List Name) (e : List ℕ) → drop 1 (decode names e) ≡ decode names (drop 1 e)
 drop-decode names [] = refl
@@ -77,7 +72,7 @@ module _ (S : Database) (names : List Name) (a : ℕ) (s : Stmt) (distinct : Are
 
   -- ---- the images that were read
 
-  module _ (ρ : CodeImages) (read : AreRead hs rs ρ) where
+  module _ (ρ : CodeImages) (read : AreRead heads hs rs ρ) where
     abbrev N : Images
     N = images_of_names names ρ
 
@@ -136,7 +131,7 @@ module _ (S : Database) (names : List Name) (a : ℕ) (s : Stmt) (distinct : Are
     apart-τ D gs = groups-members D τ N gs (λ k g x e f. image-τ x)
 
     -- what they make of the hypotheses are the results
-    module _ (firsts : map head_of rs ≡ heads) (fits : DoFit S N hs (map (decode names) rs)) where
+    module _ (fits : DoFit S N hs (map (decode names) rs)) where
       one-premise : (k : ℕ) → k < length rs → (d : At S names ps heads hs k) → applied τ (expr_at S d.position) ≡ decode names (get_or rs k [])
       one-premise k less d = by d.hypothesis d.kind d.asked
         where
@@ -147,12 +142,13 @@ module _ (S : Database) (names : List Name) (a : ℕ) (s : Stmt) (distinct : Are
           by (Float x) kind asked =
               let f = float-at S names d.position d.head x asked in
               let fixed : V f.constant ≡ false = bound.first k d.position (stmt.Float f.label f.constant f.variable) d.listed f.stands in
-              let head : head_of (get_or rs k []) ≡ d.head = sym (get-heads rs k less) ∙ (ap (λ v. get_or v k 0) firsts ∙ some-get heads k d.head 0 d.first) in
+              let typed = read.typed k x kind in
+              let head : head_of (get_or rs k []) ≡ d.head = typed.first ∙ some-get heads k d.head 0 d.first in
               ap (applied τ) (expr-stands d.position (stmt.Float f.label f.constant f.variable) f.stands)
               ∙ (apply-τ (f.constant ∷ f.variable ∷ [])
               ∙ (ap (λ e. e ++ (image N f.variable ++ [])) (image-constant f.constant fixed)
               ∙ (ap (λ e. f.constant ∷ e) (append-nil (image N f.variable) ∙ image-float k x f.variable kind f.below f.named)
-              ∙ (ap (λ c. c ∷ decode names (drop 1 (get_or rs k []))) (sym (ap (name_at names) head ∙ f.head_named)) ∙ sym (headed names (get_or rs k []) (read.some k x kind))))))
+              ∙ (ap (λ c. c ∷ decode names (drop 1 (get_or rs k []))) (sym (ap (name_at names) head ∙ f.head_named)) ∙ sym (headed names (get_or rs k []) typed.some)))))
 
       pub premises-read : premises S a s τ ≡ map (decode names) rs
       premises-read =
@@ -181,7 +177,7 @@ module _ (S : Database) (names : List Name) (a : ℕ) (s : Stmt) (distinct : Are
         ∙ (ap (λ e. e ++ (image σ f.variable ++ [])) (fixed f.constant fix) ∙ ap (λ e. f.constant ∷ e) (append-nil (image σ f.variable))))
 
     -- has symbols
-    pub premise-some : (k x : ℕ) → slice_get hs k ≡ Some (Float x) → get_or rs k [] ≡ [] → ⊥
+    premise-some : (k x : ℕ) → slice_get hs k ≡ Some (Float x) → get_or rs k [] ≡ [] → ⊥
     premise-some k x kind none =
         let d = at k (within k (Float x) kind) in
         let asked' = subst (IsAsked S names d.position d.head) (some_same d.kind kind) d.asked in
@@ -202,13 +198,17 @@ module _ (S : Database) (names : List Name) (a : ℕ) (s : Stmt) (distinct : Are
             let one : name_at names n ≡ x = cc in
             name_at-injective names n d.head distinct b.0 first.0 (one ∙ sym first.1)
 
-    pub heads-agree : map head_of rs ≡ heads
-    heads-agree =
-        lists-same (map head_of rs) heads 0 (length-map rs head_of ∙ (count ∙ (lens.1 ∙ sym lens.0)))
-        (λ k less. (let less' : k < length rs = (let l = length-map rs head_of in omega (arith, less, l)) in
-        let d = at k less' in get-heads rs k less' ∙ (one-head k d ∙ sym (some-get heads k d.head 0 d.first))))
+    -- begins as the `$f` asks
+    pub premise-typed : (k x : ℕ) → slice_get hs k ≡ Some (Float x) → IsTyped (get_or heads k 0) (get_or rs k [])
+    premise-typed k x kind =
+        let d = at k (within k (Float x) kind) in
+        record { some = some-length (get_or rs k []) (premise-some k x kind); first = one-head k d ∙ sym (some-get heads k d.head 0 d.first) }
+      where
+        some-length : (e : List ℕ) → (e ≡ [] → ⊥) → 0 < length e
+        some-length [] none = absurd (none refl)
+        some-length (y ∷ e) none = omega arith
 
-    module _ (ρ : CodeImages) (read : AreRead hs rs ρ) where
+    module _ (ρ : CodeImages) (read : AreRead heads hs rs ρ) where
       float-agrees : (k x : ℕ) (v : Name) → slice_get hs k ≡ Some (Float x) → x < length names → name_at names x ≡ v → image (images_of_names names ρ) v ≡ image σ v
       float-agrees k x v kind lows named =
           let d = at k (within k (Float x) kind) in

@@ -1,4 +1,4 @@
--- Results in a buffer that grows, with the first symbols of those that wait.
+-- Results in a buffer that grows.
 use Rattle.std.specs.Prelude.{◌≡◌, ℕ, zero, suc, ◌+◌, ◌-◌, ◌<◌, ◌≤◌, List, [], ◌∷◌, ◌++◌, length, map, take, drop, get_or, replicate, slice_get, slice_set, Some, refl}
 use Rattle.std.proofs.Common.{sym, ◌∙◌, ap, subst, arith, length-append, length-drop}
 use Rattle.std.proofs.lemmas.List.{length-map, take_all}
@@ -6,9 +6,8 @@ use Rattle.subst.specs.declared.place.Place.{Place}
 use Rattle.subst.specs.Places.{seen_at, AreWithin, AreInside}
 use Rattle.subst.proofs.PlaceLemmas.{map-seen-more, within-weaken, within-snoc, within-take, within-drop, within-get, within-at, seen-get, length-seen, seen-last}
 use Rattle.subst.proofs.ImagePlacesLemmas.{inside-more, inside-none}
-use Rattle.frame.specs.Cited.{head_of}
 use Rattle.verify.specs.Machine.{Results, with_result, IsSaved}
-use Rattle.verify.specs.Places.{seen, heads_at, AreKept, below, top}
+use Rattle.verify.specs.Places.{seen, AreKept, below, top}
 use Rattle.verify.specs.Right.{weight_limit}
 
 pub map-snoc : {A B : Type 0} (f : A → B) (xs : List A) (x : A) → map f (xs ++ x ∷ []) ≡ map f xs ++ f x ∷ []
@@ -25,20 +24,6 @@ map-drop f zero xs = refl
 map-drop f (suc k) [] = refl
 map-drop f (suc k) (x ∷ xs) = map-drop f k xs
 
--- ---- first symbols
-
-heads-more : (xs ys : List ℕ) (ps : List Place) → AreWithin (length xs) ps → heads_at (xs ++ ys) ps ≡ heads_at xs ps
-heads-more xs ys ps w = ap (map head_of) (map-seen-more xs ys ps w)
-
-heads-snoc : (xs : List ℕ) (ps : List Place) (p : Place) → heads_at xs (ps ++ p ∷ []) ≡ heads_at xs ps ++ head_of (seen_at xs p) ∷ []
-heads-snoc xs ps p = ap (map head_of) (map-snoc (seen_at xs) ps p) ∙ map-snoc head_of (map (seen_at xs) ps) (seen_at xs p)
-
-pub heads-take : (xs : List ℕ) (k : ℕ) (ps : List Place) → heads_at xs (take k ps) ≡ take k (heads_at xs ps)
-heads-take xs k ps = ap (map head_of) (map-take (seen_at xs) k ps) ∙ map-take head_of k (map (seen_at xs) ps)
-
-pub heads-length : (xs : List ℕ) (ps : List Place) → length (heads_at xs ps) ≡ length ps
-heads-length xs ps = length-map (map (seen_at xs) ps) head_of ∙ length-map ps (seen_at xs)
-
 -- how much longer the buffer is, and how heavy
 grown-few : (xs ys zs : List ℕ) (w v : ℕ) → length xs ≤ w → zs ≡ xs ++ ys → v ≡ w + length ys → length zs ≤ v
 grown-few xs ys zs w v few e weighs = omega (arith, ap length e, length-append xs ys, few, weighs)
@@ -49,16 +34,14 @@ results-same {A} a b c d w v p q r =
     ap (λ s. f s c w) p ∙ (ap (λ t. f b t w) q ∙ ap (λ n. f b d n) r)
 
 -- a result was written at the end of the buffer, above those of `rest`
-pub added-kept : (xs ys zs : List ℕ) (images : List (ℕ × Place)) (stack rest saved stack' : List Place) (heads rest_heads heads' : List ℕ) (w v : ℕ) (p : Place) → AreKept xs images stack heads saved w → AreWithin (length xs) rest
-    → rest_heads ≡ heads_at xs rest → zs ≡ xs ++ ys → p.start ≡ length xs → p.end ≡ length zs → stack' ≡ rest ++ p ∷ [] → heads' ≡ rest_heads ++ head_of ys ∷ [] → v ≡ w + length ys → v ≤ weight_limit
-    → AreKept zs images stack' heads' saved v
-added-kept xs ys zs images stack rest saved stack' heads rest_heads heads' w v p k r kept e low high whole firsts weighs light =
+pub added-kept : (xs ys zs : List ℕ) (images : List (ℕ × Place)) (stack rest saved stack' : List Place) (w v : ℕ) (p : Place) → AreKept xs images stack saved w → AreWithin (length xs) rest
+    → zs ≡ xs ++ ys → p.start ≡ length xs → p.end ≡ length zs → stack' ≡ rest ++ p ∷ [] → v ≡ w + length ys → v ≤ weight_limit
+    → AreKept zs images stack' saved v
+added-kept xs ys zs images stack rest saved stack' w v p k r e low high whole weighs light =
     let longer : length xs ≤ length zs = omega (arith, ap length e, length-append xs ys) in
     record {
       images_inside = inside-more (length xs) (length zs) images longer k.images_inside;
       stack_within = subst (AreWithin (length zs)) (sym whole) (within-snoc (length zs) rest p (within-weaken (length xs) (length zs) rest longer r) (omega (arith, low, high, longer)) (omega (arith, high)));
-      heads_kept = firsts ∙ (ap (λ h. h ++ head_of ys ∷ []) (kept ∙ (sym (heads-more xs ys rest r) ∙ ap (λ s. heads_at s rest) (sym e)))
-          ∙ (ap (λ s. heads_at zs rest ++ head_of s ∷ []) (sym (seen-last xs ys zs p e low high)) ∙ (sym (heads-snoc zs rest p) ∙ ap (heads_at zs) (sym whole))));
       saved_within = within-weaken (length xs) (length zs) saved longer k.saved_within;
       few = grown-few xs ys zs w v k.few e weighs;
       light = light;
@@ -88,32 +71,31 @@ map-set f (y ∷ xs) zero x = refl
 map-set f (y ∷ xs) (suc k) x = ap (λ r. f y ∷ r) (map-set f xs k x)
 
 -- a result was written at the end of the buffer, and kept
-pub given-cut : (xs ys zs : List ℕ) (images : List (ℕ × Place)) (stack saved stack' saved' : List Place) (heads heads' : List ℕ) (w v k : ℕ) (p : Place) → AreKept xs images stack heads saved w
-    → zs ≡ xs ++ ys → p.start ≡ length xs → p.end ≡ length zs → stack' ≡ stack → heads' ≡ heads → saved' ≡ slice_set saved k p → v ≡ w + length ys → v ≤ weight_limit → AreKept zs images stack' heads' saved' v
-given-cut xs ys zs images stack saved stack' saved' heads heads' w v k p kept e low high same firsts set weighs light =
+pub given-cut : (xs ys zs : List ℕ) (images : List (ℕ × Place)) (stack saved stack' saved' : List Place) (w v k : ℕ) (p : Place) → AreKept xs images stack saved w
+    → zs ≡ xs ++ ys → p.start ≡ length xs → p.end ≡ length zs → stack' ≡ stack → saved' ≡ slice_set saved k p → v ≡ w + length ys → v ≤ weight_limit → AreKept zs images stack' saved' v
+given-cut xs ys zs images stack saved stack' saved' w v k p kept e low high same set weighs light =
     let longer : length xs ≤ length zs = omega (arith, ap length e, length-append xs ys) in
     record {
       images_inside = inside-more (length xs) (length zs) images longer kept.images_inside;
       stack_within = subst (AreWithin (length zs)) (sym same) (within-weaken (length xs) (length zs) stack longer kept.stack_within);
-      heads_kept = firsts ∙ (kept.heads_kept ∙ (sym (heads-more xs ys stack kept.stack_within) ∙ (ap (λ s. heads_at s stack) (sym e) ∙ ap (heads_at zs) (sym same))));
       saved_within = subst (AreWithin (length zs)) (sym set)
           (within-set (length zs) k saved p (within-weaken (length xs) (length zs) saved longer kept.saved_within) (omega (arith, low, high, longer)) (omega (arith, high)));
       few = grown-few xs ys zs w v kept.few e weighs;
       light = light;
     }
 
-pub given-kept : (xs ys zs : List ℕ) (images : List (ℕ × Place)) (stack saved stack' saved' : List Place) (heads heads' : List ℕ) (w v k : ℕ) (p : Place) → AreKept xs images stack heads saved w
-    → zs ≡ xs ++ ys → p.start ≡ length xs → p.end ≡ length zs → stack' ≡ stack ++ p ∷ [] → heads' ≡ heads ++ head_of ys ∷ [] → saved' ≡ slice_set saved k p → v ≡ w + length ys → v ≤ weight_limit
-    → AreKept zs images stack' heads' saved' v
-given-kept xs ys zs images stack saved stack' saved' heads heads' w v k p kept e low high whole firsts set weighs light =
-    let cut = given-cut xs ys zs images stack saved stack saved' heads heads w v k p kept e low high refl refl set weighs light in
-    let added = added-kept xs ys zs images stack stack saved stack' heads heads heads' w v p kept kept.stack_within kept.heads_kept e low high whole firsts weighs light in
-    record { images_inside = cut.images_inside; stack_within = added.stack_within; heads_kept = added.heads_kept; saved_within = cut.saved_within; few = cut.few; light = light }
+pub given-kept : (xs ys zs : List ℕ) (images : List (ℕ × Place)) (stack saved stack' saved' : List Place) (w v k : ℕ) (p : Place) → AreKept xs images stack saved w
+    → zs ≡ xs ++ ys → p.start ≡ length xs → p.end ≡ length zs → stack' ≡ stack ++ p ∷ [] → saved' ≡ slice_set saved k p → v ≡ w + length ys → v ≤ weight_limit
+    → AreKept zs images stack' saved' v
+given-kept xs ys zs images stack saved stack' saved' w v k p kept e low high whole set weighs light =
+    let cut = given-cut xs ys zs images stack saved stack saved' w v k p kept e low high refl set weighs light in
+    let added = added-kept xs ys zs images stack stack saved stack' w v p kept kept.stack_within e low high whole weighs light in
+    record { images_inside = cut.images_inside; stack_within = added.stack_within; saved_within = cut.saved_within; few = cut.few; light = light }
 
-pub given-seen : (xs ys zs : List ℕ) (images : List (ℕ × Place)) (stack saved stack' saved' : List Place) (heads : List ℕ) (w v k : ℕ) (p : Place) → AreKept xs images stack heads saved w
+pub given-seen : (xs ys zs : List ℕ) (images : List (ℕ × Place)) (stack saved stack' saved' : List Place) (w v k : ℕ) (p : Place) → AreKept xs images stack saved w
     → zs ≡ xs ++ ys → p.start ≡ length xs → p.end ≡ length zs → stack' ≡ stack ++ p ∷ [] → saved' ≡ slice_set saved k p → v ≡ w + length ys
     → seen zs stack' saved' v ≡ (let r : Results ℕ = record { stack = map (seen_at xs) stack ++ ys ∷ []; saved = slice_set (map (seen_at xs) saved) k ys; weight = w + length ys } in r)
-given-seen xs ys zs images stack saved stack' saved' heads w v k p kept e low high whole set weighs =
+given-seen xs ys zs images stack saved stack' saved' w v k p kept e low high whole set weighs =
     let added = added-seen xs ys zs stack stack saved stack' w v p kept.saved_within kept.stack_within e low high whole weighs in
     results-same (map (seen_at zs) stack') (map (seen_at xs) stack ++ ys ∷ []) (map (seen_at zs) saved') (slice_set (map (seen_at xs) saved) k ys) v (w + length ys)
     (ap (λ r. r.stack) added)
@@ -124,27 +106,25 @@ given-seen xs ys zs images stack saved stack' saved' heads w v k p kept e low hi
 
 -- ---- marked and recalled
 
-pub kept-mark : (xs : List ℕ) (images : List (ℕ × Place)) (stack saved saved' : List Place) (heads : List ℕ) (w : ℕ) (p : Place) (k : ℕ) → AreKept xs images stack heads saved w → slice_get stack k ≡ Some p → saved' ≡ saved ++ p ∷ []
-    → AreKept xs images stack heads saved' w
-kept-mark xs images stack saved saved' heads w p k a h e =
+pub kept-mark : (xs : List ℕ) (images : List (ℕ × Place)) (stack saved saved' : List Place) (w : ℕ) (p : Place) (k : ℕ) → AreKept xs images stack saved w → slice_get stack k ≡ Some p → saved' ≡ saved ++ p ∷ []
+    → AreKept xs images stack saved' w
+kept-mark xs images stack saved saved' w p k a h e =
     let b = within-get (length xs) k stack p a.stack_within h in
     record {
       images_inside = a.images_inside;
       stack_within = a.stack_within;
-      heads_kept = a.heads_kept;
       saved_within = subst (AreWithin (length xs)) (sym e) (within-snoc (length xs) saved p a.saved_within b.0 b.1);
       few = a.few;
       light = a.light;
     }
 
-pub kept-recall : (xs : List ℕ) (images : List (ℕ × Place)) (stack stack' saved : List Place) (heads heads' : List ℕ) (w v : ℕ) (p : Place) → AreKept xs images stack heads saved w → (p.start ≤ p.end) × (p.end ≤ length xs)
-    → stack' ≡ stack ++ p ∷ [] → heads' ≡ heads ++ head_of (seen_at xs p) ∷ [] → w ≤ v → v ≤ weight_limit → AreKept xs images stack' heads' saved v
-kept-recall xs images stack stack' saved heads heads' w v p a b e firsts more light =
+pub kept-recall : (xs : List ℕ) (images : List (ℕ × Place)) (stack stack' saved : List Place) (w v : ℕ) (p : Place) → AreKept xs images stack saved w → (p.start ≤ p.end) × (p.end ≤ length xs)
+    → stack' ≡ stack ++ p ∷ [] → w ≤ v → v ≤ weight_limit → AreKept xs images stack' saved v
+kept-recall xs images stack stack' saved w v p a b e more light =
     let few = a.few in
     record {
       images_inside = a.images_inside;
       stack_within = subst (AreWithin (length xs)) (sym e) (within-snoc (length xs) stack p a.stack_within b.0 b.1);
-      heads_kept = firsts ∙ (ap (λ h. h ++ head_of (seen_at xs p) ∷ []) a.heads_kept ∙ (sym (heads-snoc xs stack p) ∙ ap (heads_at xs) (sym e)));
       saved_within = a.saved_within;
       few = omega (arith, few, more);
       light = light;
@@ -199,11 +179,10 @@ pub seen-none : (n : ℕ) → map (seen_at []) (replicate n (let p : Place = rec
 seen-none zero = refl
 seen-none (suc n) = ap (λ r. [] ∷ r) (seen-none n)
 
-pub cleared-kept : (xs : List ℕ) (images : List (ℕ × Place)) (stack saved : List Place) (heads : List ℕ) → xs ≡ [] → images ≡ [] → stack ≡ [] → heads ≡ [] → AreWithin 0 saved → AreKept xs images stack heads saved 0
-cleared-kept xs images stack saved heads e i f g w = record {
+pub cleared-kept : (xs : List ℕ) (images : List (ℕ × Place)) (stack saved : List Place) → xs ≡ [] → images ≡ [] → stack ≡ [] → AreWithin 0 saved → AreKept xs images stack saved 0
+cleared-kept xs images stack saved e i f w = record {
   images_inside = subst (AreInside (length xs)) (sym i) (inside-none (length xs));
   stack_within = subst (AreWithin (length xs)) (sym f) tt;
-  heads_kept = g ∙ ap (heads_at xs) (sym f);
   saved_within = subst (λ n. AreWithin n saved) (sym (ap length e)) w;
   few = (let l = ap length e in omega (arith, l));
   light = omega arith;
@@ -246,33 +225,32 @@ seen_eq xs ds s e all k r p q v l =
 pub last-within : (n k : ℕ) (s : List Place) → AreWithin n s → AreWithin n (take (length s - k) (drop k s))
 last-within n k s w = within-take n (length s - k) (drop k s) (within-drop n k s w)
 
-pub apply-kept : (xs ys zs : List ℕ) (images : List (ℕ × Place)) (stack saved stack' : List Place) (heads heads' : List ℕ) (w v k : ℕ) (p : Place) → AreKept xs images stack heads saved w
-    → zs ≡ xs ++ ys → p.start ≡ length xs → p.end ≡ length zs → stack' ≡ take k stack ++ p ∷ [] → heads' ≡ take k heads ++ head_of ys ∷ [] → v ≡ w + length ys → v ≤ weight_limit → AreKept zs images stack' heads' saved v
-apply-kept xs ys zs images stack saved stack' heads heads' w v k p a e low high whole firsts weighs light =
-    added-kept xs ys zs images stack (take k stack) saved stack' heads (take k heads) heads' w v p a (within-take (length xs) k stack a.stack_within)
-    (ap (take k) a.heads_kept ∙ sym (heads-take xs k stack)) e low high whole firsts weighs light
+pub apply-kept : (xs ys zs : List ℕ) (images : List (ℕ × Place)) (stack saved stack' : List Place) (w v k : ℕ) (p : Place) → AreKept xs images stack saved w
+    → zs ≡ xs ++ ys → p.start ≡ length xs → p.end ≡ length zs → stack' ≡ take k stack ++ p ∷ [] → v ≡ w + length ys → v ≤ weight_limit → AreKept zs images stack' saved v
+apply-kept xs ys zs images stack saved stack' w v k p a e low high whole weighs light =
+    added-kept xs ys zs images stack (take k stack) saved stack' w v p a (within-take (length xs) k stack a.stack_within)
+    e low high whole weighs light
 
-pub apply-seen : (xs ys zs : List ℕ) (images : List (ℕ × Place)) (stack saved stack' : List Place) (heads : List ℕ) (w v k r : ℕ) (p : Place) → AreKept xs images stack heads saved w → k ≡ length stack - r
+pub apply-seen : (xs ys zs : List ℕ) (images : List (ℕ × Place)) (stack saved stack' : List Place) (w v k r : ℕ) (p : Place) → AreKept xs images stack saved w → k ≡ length stack - r
     → zs ≡ xs ++ ys → p.start ≡ length xs → p.end ≡ length zs → stack' ≡ take k stack ++ p ∷ [] → v ≡ w + length ys
     → seen zs stack' saved v ≡ with_result (seen xs stack saved w) (below r (map (seen_at xs) stack)) ys
-apply-seen xs ys zs images stack saved stack' heads w v k r p a at e low high whole weighs =
+apply-seen xs ys zs images stack saved stack' w v k r p a at e low high whole weighs =
     added-seen xs ys zs stack (take k stack) saved stack' w v p a.saved_within (within-take (length xs) k stack a.stack_within) e low high whole weighs
     ∙ ap (λ b. with_result (seen xs stack saved w) b ys) (map-take (seen_at xs) k stack ∙ ap (λ n. take n (map (seen_at xs) stack)) (at ∙ ap (λ n. n - r) (sym (length-map stack (seen_at xs)))))
 
-pub apply-cut : (xs zs ys : List ℕ) (images : List (ℕ × Place)) (stack saved stack' : List Place) (heads heads' : List ℕ) (w v k : ℕ) → AreKept xs images stack heads saved w → zs ≡ xs ++ ys → stack' ≡ take k stack → heads' ≡ take k heads
-    → v ≡ w + length ys → v ≤ weight_limit → AreKept zs images stack' heads' saved v
-apply-cut xs zs ys images stack saved stack' heads heads' w v k a e cut firsts weighs light =
+pub apply-cut : (xs zs ys : List ℕ) (images : List (ℕ × Place)) (stack saved stack' : List Place) (w v k : ℕ) → AreKept xs images stack saved w → zs ≡ xs ++ ys → stack' ≡ take k stack
+    → v ≡ w + length ys → v ≤ weight_limit → AreKept zs images stack' saved v
+apply-cut xs zs ys images stack saved stack' w v k a e cut weighs light =
     let longer : length xs ≤ length zs = omega (arith, ap length e, length-append xs ys) in
     let few = a.few in
     record {
       images_inside = inside-more (length xs) (length zs) images longer a.images_inside;
       stack_within = subst (AreWithin (length zs)) (sym cut) (within-take (length zs) k stack (within-weaken (length xs) (length zs) stack longer a.stack_within));
-      heads_kept = firsts ∙ (ap (take k) (a.heads_kept ∙ (sym (heads-more xs ys stack a.stack_within) ∙ ap (λ s. heads_at s stack) (sym e))) ∙ (sym (heads-take zs k stack) ∙ ap (heads_at zs) (sym cut)));
       saved_within = within-weaken (length xs) (length zs) saved longer a.saved_within;
       few = omega (arith, ap length e, length-append xs ys, few, weighs);
       light = light;
     }
 
 -- other images
-pub kept-read : (xs : List ℕ) (images images' : List (ℕ × Place)) (stack saved : List Place) (heads : List ℕ) (w : ℕ) → AreKept xs images stack heads saved w → AreInside (length xs) images' → AreKept xs images' stack heads saved w
-kept-read xs images images' stack saved heads w a inside = record { images_inside = inside; stack_within = a.stack_within; heads_kept = a.heads_kept; saved_within = a.saved_within; few = a.few; light = a.light }
+pub kept-read : (xs : List ℕ) (images images' : List (ℕ × Place)) (stack saved : List Place) (w : ℕ) → AreKept xs images stack saved w → AreInside (length xs) images' → AreKept xs images' stack saved w
+kept-read xs images images' stack saved w a inside = record { images_inside = inside; stack_within = a.stack_within; saved_within = a.saved_within; few = a.few; light = a.light }

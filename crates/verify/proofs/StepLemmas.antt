@@ -16,7 +16,7 @@ use Rattle.verify.specs.Machine.{Results, State, start, Cites, of_hypothesis, of
 use Rattle.frame.specs.Substitution.{CodeImages, code_apply, images_of_names}
 use Rattle.frame.specs.Disjoint.{are_groups_apart}
 use Rattle.frame.specs.Bound.{IsBound}
-use Rattle.frame.specs.Cited.{head_of, IsCited}
+use Rattle.frame.specs.Cited.{IsCited}
 use Rattle.verify.specs.Fits.{AreRead, Reads, DoFit}
 use Rattle.verify.specs.Places.{below, top, Adds, Marks, Recalls}
 use Rattle.frame.specs.Below.{AreBelow, AllBelow}
@@ -42,30 +42,27 @@ module _ (S : Database) (names : List Name) (at : ℕ) (legal : AreLegal S names
       pub assertion-few : length old.stack < n → Goes false S at names (Cite label) old new
       assertion-few h = not_cited (λ f m. (let many = m.many in omega (arith, h, many)))
 
-      pub assertion-heads : (map head_of (top n old.stack) ≡ c.heads.now → ⊥) → Goes false S at names (Cite label) old new
-      assertion-heads h = not_cited (λ f m. h m.firsts)
+      pub assertion-untyped : (σ : CodeImages) → Reads false c.heads.now c.hypotheses.now (top n old.stack) σ → Goes false S at names (Cite label) old new
+      assertion-untyped σ r = not_cited (λ f m. r.3 (m.typed r.0 r.1 r.2))
 
-      pub assertion-empty : (σ : CodeImages) → Reads false c.hypotheses.now (top n old.stack) σ → Goes false S at names (Cite label) old new
-      assertion-empty σ r = not_cited (λ f m. m.some r.0 r.1 r.2 r.3)
-
-      module _ (ρ : CodeImages) (read : AreRead c.hypotheses.now (top n old.stack) ρ) where
+      module _ (ρ : CodeImages) (read : AreRead c.heads.now c.hypotheses.now (top n old.stack) ρ) where
         pub assertion-unfit : (DoFit S (images_of_names names ρ) c.hypotheses.now (map (decode names) (top n old.stack)) → ⊥) → Goes false S at names (Cite label) old new
         assertion-unfit h = not_cited (λ f m. h (m.fits ρ read))
 
         pub assertion-clash : are_groups_apart (before S at) (images_of_names names ρ) (map (decode names) c.groups) ≡ false → Goes false S at names (Cite label) old new
         assertion-clash h = not_cited (λ f m. (let e : true ≡ false = sym (m.apart ρ read) ∙ h in cc))
 
-        assertion-by : (ok : Bool) → a < at → n ≤ length old.stack → map head_of (top n old.stack) ≡ c.heads.now → DoFit S (images_of_names names ρ) c.hypotheses.now (map (decode names) (top n old.stack))
+        assertion-by : (ok : Bool) → a < at → n ≤ length old.stack → DoFit S (images_of_names names ρ) c.hypotheses.now (map (decode names) (top n old.stack))
             → are_groups_apart (before S at) (images_of_names names ρ) (map (decode names) c.groups) ≡ true
             → Adds ok old new (below n old.stack) (code_apply ρ c.conclusion.now) → Goes ok S at names (Cite label) old new
-        assertion-by true earlier many firsts fits apart adds = goes-assertion S names at a s c legal bound is old new label ρ an carries has earlier many firsts read fits apart adds
-        assertion-by false earlier many firsts fits apart adds = goes-heavy S names at a s c legal bound is old new label ρ an carries has read adds
+        assertion-by true earlier many fits apart adds = goes-assertion S names at a s c legal bound is old new label ρ an carries has earlier many read fits apart adds
+        assertion-by false earlier many fits apart adds = goes-heavy S names at a s c legal bound is old new label ρ an carries has read adds
 
-        pub assertion-result : (r : Result Bool AllocError) → a < at → n ≤ length old.stack → map head_of (top n old.stack) ≡ c.heads.now → DoFit S (images_of_names names ρ) c.hypotheses.now (map (decode names) (top n old.stack))
+        pub assertion-result : (r : Result Bool AllocError) → a < at → n ≤ length old.stack → DoFit S (images_of_names names ρ) c.hypotheses.now (map (decode names) (top n old.stack))
             → are_groups_apart (before S at) (images_of_names names ρ) (map (decode names) c.groups) ≡ true
             → IfOk r (λ ok. Adds ok old new (below n old.stack) (code_apply ρ c.conclusion.now)) → IfOk r (λ ok. Goes ok S at names (Cite label) old new)
-        assertion-result (Err e) earlier many firsts fits apart adds = tt
-        assertion-result (Ok ok) earlier many firsts fits apart adds = assertion-by ok earlier many firsts fits apart adds
+        assertion-result (Err e) earlier many fits apart adds = tt
+        assertion-result (Ok ok) earlier many fits apart adds = assertion-by ok earlier many fits apart adds
 
     module _ (label : Name) (i : ℕ) (s : Stmt) (carries : Carries S i s label) where
       pub hypothesis-result : (r : Result Bool AllocError) (e : List ℕ) (t : Stmt) → IsHypothesis S at i t → decode names e ≡ expr_of t → AreBelow (length names) e

@@ -1,12 +1,13 @@
 -- What the results for the mandatory hypotheses of an assertion must be.
 -- Metamath, 4.2.6: what stands behind the first symbol of the result for a `$f` is the image of its variable.
--- The code compares first symbols, reads the images off the results, and holds each `$e` under them against its result.
+-- The code looks at first symbols, reads the images off the results, and holds each `$e` under them against its result.
 use Rattle.std.specs.Prelude.{◌≡◌, ℕ, ◌<◌, Bool, true, false, List, [], ◌∷◌, length, drop, get_or, slice_get, Some}
 use Rattle.mm_read.specs.declared.stmt.Stmt.{Stmt}
 use Rattle.mm_read.specs.Statements.{Expr, Database}
 use Rattle.scope.specs.Active.{stmt_at}
 use Rattle.frame.specs.Substitution.{Images, apply as applied, CodeImages, code_image}
 use Rattle.frame.specs.Citations.{expr_at}
+use Rattle.frame.specs.Cited.{head_of}
 use Rattle.entries.specs.declared.citation.Hypothesis.{Hypothesis}
 use Rattle.entries.specs.declared.citation.Hypothesis.TheVariants.{Float, Essential}
 
@@ -23,16 +24,22 @@ abbrev pub AreStanding : Database → List Hypothesis → Type 0
 AreStanding S [] = Unit {0}
 AreStanding S (h ∷ hs) = IsStanding S h × AreStanding S hs
 
--- the image of each `$f`'s variable is what stands behind the first symbol of its result, and no other symbol has one
-pub record AreRead (hs : List Hypothesis) (rs : List (List ℕ)) (σ : CodeImages) : Type 0 where
-  pub some : (k x : ℕ) → slice_get hs k ≡ Some (Float x) → 0 < length (get_or rs k [])
+-- the result begins with this symbol
+pub record IsTyped (head : ℕ) (r : List ℕ) : Type 0 where
+  pub some : 0 < length r
+  pub first : head_of r ≡ head
+
+-- the result of each `$f` begins with the symbol that it asks for, the image of its variable is what stands behind, and no
+-- other symbol has an image
+pub record AreRead (heads : List ℕ) (hs : List Hypothesis) (rs : List (List ℕ)) (σ : CodeImages) : Type 0 where
+  pub typed : (k x : ℕ) → slice_get hs k ≡ Some (Float x) → IsTyped (get_or heads k 0) (get_or rs k [])
   pub image : (k x : ℕ) → slice_get hs k ≡ Some (Float x) → code_image σ x ≡ drop 1 (get_or rs k [])
   pub own : (x : ℕ) → ((k : ℕ) → slice_get hs k ≡ Some (Float x) → ⊥) → code_image σ x ≡ x ∷ []
 
--- the images were read, or the result for some `$f` has no symbol
-abbrev pub Reads : Bool → List Hypothesis → List (List ℕ) → CodeImages → Type 0
-Reads true hs rs σ = AreRead hs rs σ
-Reads false hs rs σ = (k : ℕ) × (x : ℕ) × (slice_get hs k ≡ Some (Float x)) × (get_or rs k [] ≡ [])
+-- the images were read, or the result for some `$f` begins otherwise
+abbrev pub Reads : Bool → List ℕ → List Hypothesis → List (List ℕ) → CodeImages → Type 0
+Reads true heads hs rs σ = AreRead heads hs rs σ
+Reads false heads hs rs σ = (k : ℕ) × (x : ℕ) × (slice_get hs k ≡ Some (Float x)) × (IsTyped (get_or heads k 0) (get_or rs k []) → ⊥)
 
 -- the result is the expression of the `$e` with the images put in
 abbrev pub FitsOne : Database → Images → Hypothesis → Expr → Type 0

@@ -5,7 +5,6 @@ use Rattle.std.specs.Prelude.{◌≡◌, ℕ, ◌+◌, ◌-◌, ◌<◌, ◌≤�
 use Rattle.frame.specs.Substitution.{CodeImages}
 use Rattle.subst.specs.declared.place.Place.{Place}
 use Rattle.subst.specs.Places.{seen_at, images_at, AreWithin, AreInside}
-use Rattle.frame.specs.Cited.{head_of}
 use Rattle.verify.specs.Machine.{Results, with_result, with_mark, IsSaved}
 use Rattle.verify.specs.Right.{weight_limit}
 
@@ -20,14 +19,9 @@ seen symbols stack saved weight = record { stack = map (seen_at symbols) stack; 
 abbrev pub held : List ℕ → List (ℕ × Place) → List Place → List Place → ℕ → Held
 held symbols images stack saved weight = record { results = seen symbols stack saved weight; images = images_at symbols images }
 
--- the first symbols of the results at places
-abbrev pub heads_at : List ℕ → List Place → List ℕ
-heads_at symbols places = map head_of (map (seen_at symbols) places)
-
-pub record AreKept (symbols : List ℕ) (images : List (ℕ × Place)) (stack : List Place) (heads : List ℕ) (saved : List Place) (weight : ℕ) : Type 0 where
+pub record AreKept (symbols : List ℕ) (images : List (ℕ × Place)) (stack saved : List Place) (weight : ℕ) : Type 0 where
   pub images_inside : AreInside (length symbols) images
   pub stack_within : AreWithin (length symbols) stack
-  pub heads_kept : heads ≡ heads_at symbols stack
   pub saved_within : AreWithin (length symbols) saved
   pub few : length symbols ≤ weight
   pub light : weight ≤ weight_limit

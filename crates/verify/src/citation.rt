@@ -41,10 +41,7 @@ fn cite_assertion(
     if count > results.len() {
         return Ok(false);
     }
-    if !results.has_heads(cited.heads) {
-        return Ok(false);
-    }
-    if !results.read_images(cited.hypotheses)? {
+    if !results.read_images(cited.heads, cited.hypotheses)? {
         return Ok(false);
     }
     if !results.fits(frames, cited.hypotheses) {

@@ -1,6 +1,6 @@
 //! Images read off results.
 
-ghost use Rattle.std.specs.Prelude.{◌≡◌, ℕ, length, IfOk, OnErr};
+ghost use Rattle.std.specs.Prelude.{◌≡◌, ℕ, ◌≤◌, length, IfOk, OnErr};
 ghost use Rattle.subst.specs.Places.{AreWithin, AreInside};
 ghost use Rattle.verify.specs.Fits.{AreDifferent};
 ghost use Rattle.verify.specs.ReadPlaces.{ReadsOne, ReadsAll};
@@ -10,18 +10,25 @@ use std::alloc::AllocError;
 use subst::{ImagePlaces, Place};
 
 /// Sets the image of the variable of a `$f` to what stands behind the first symbol of its result; not where the result
-/// has no symbol. A `$e` sets none.
+/// begins with another symbol than the one asked for. A `$e` sets none.
 fn read_one(
     images: &mut ImagePlaces,
+    symbols: &[u32],
+    head: u32,
     hypothesis: Hypothesis,
     place: Place,
 ) -> Result<bool, AllocError>
-    ensures ok { IfOk result (λ ok. ReadsOne ok hypothesis place images.old images.new) }
+    requires { place.end ≤ length symbols.now }
+    ensures ok { IfOk result (λ ok. ReadsOne ok symbols.now head hypothesis place images.old images.new) }
     ensures err { OnErr result (images.new ≡ images.old) }
 {
     match hypothesis {
         Hypothesis::Float(variable) => {
             if place.start >= place.end {
+                return Ok(false);
+            }
+            let first = symbols[place.start as usize];
+            if first != head {
                 return Ok(false);
             }
             let behind = Place {
@@ -35,20 +42,24 @@ fn read_one(
     }
 }
 
-/// Sets the images of the variables of all `$f`, and no other; or finds a result with no symbol.
+/// Sets the images of the variables of all `$f`, and no other; or finds a result that begins otherwise.
 pub fn read_off(
     images: &mut ImagePlaces,
+    symbols: &[u32],
+    heads: &[u32],
     hypotheses: &[Hypothesis],
     places: &[Place],
 ) -> Result<bool, AllocError>
     requires same { length places.now ≡ length hypotheses.now }
+    requires heads { length heads.now ≡ length hypotheses.now }
+    requires within { AreWithin (length symbols.now) places.now }
     requires different { AreDifferent hypotheses.now }
-    ensures ok { IfOk result (λ ok. ReadsAll ok (length hypotheses.now) hypotheses.now places.now images.new) }
+    ensures ok { IfOk result (λ ok. ReadsAll ok (length hypotheses.now) symbols.now heads.now hypotheses.now places.now images.new) }
     ensures inside { (n : ℕ) → AreWithin n places.now → AreInside n images.new }
 {
     images.clear();
     for (k, hypothesis) in hypotheses.iter().enumerate() {
-        if !read_one(images, *hypothesis, places[k])? {
+        if !read_one(images, symbols, heads[k], *hypothesis, places[k])? {
             return Ok(false);
         }
     }

@@ -7,7 +7,6 @@ ghost use Rattle.frame.specs.Disjoint.{are_groups_apart};
 ghost use Rattle.frame.specs.Reading.{AreLegal};
 ghost use Rattle.frame.specs.Substitution.{code_apply, images_of_names};
 ghost use Rattle.subst.specs.Images.{AreOver};
-ghost use Rattle.frame.specs.Cited.{head_of};
 ghost use Rattle.verify.specs.Fits.{AreDifferent, AreStanding, Reads, DoFit};
 ghost use Rattle.verify.specs.Machine.{with_result, with_mark, IsSaved};
 ghost use Rattle.verify.specs.Places.{below, top, Adds, Gives, Marks, Recalls};
@@ -15,7 +14,7 @@ ghost use Rattle.verify.specs.Right.{weight_limit};
 
 use crate::fitting::all_fit;
 use crate::reading_off::read_off;
-use entries::{Groups, Hypothesis, NO_HEAD};
+use entries::{Groups, Hypothesis};
 use frame::{Frames, Pairs};
 use std::alloc::{AllocError, Global};
 use std::marker::Model;
@@ -27,14 +26,12 @@ const EMPTY: Place = Place { start: 0, end: 0 };
 /// The results of a proof so far, their symbols in one buffer, and the images that were read off the last of them.
 ///
 /// A hypothesis is written out once, where it is cited first: what is saved begins with a place for each label, which
-/// is empty until then, and goes on with the results that were marked. The first symbols of the results that wait stand
-/// beside them in a row of their own.
+/// is empty until then, and goes on with the results that were marked.
 #[derive(Drop)]
 pub struct Results {
     symbols: Buffer,
     images: ImagePlaces,
     stack: Vec<Place>,
-    heads: Vec<u32>,
     saved: Vec<Place>,
     weight: usize,
 }
@@ -46,7 +43,7 @@ impl Model for Results {
 
     ghost view = { λ a. held a.symbols a.images a.stack.items a.saved.items a.weight };
 
-    ghost invariant = { λ a. AreKept a.symbols a.images a.stack.items a.heads.items a.saved.items a.weight };
+    ghost invariant = { λ a. AreKept a.symbols a.images a.stack.items a.saved.items a.weight };
 }
 
 impl Results {
@@ -58,7 +55,6 @@ impl Results {
             symbols: Buffer::new(alloc),
             images: ImagePlaces::new(alloc),
             stack: Vec::new(alloc),
-            heads: Vec::new(alloc),
             saved: Vec::new(alloc),
             weight: 0,
         }
@@ -71,7 +67,6 @@ impl Results {
         self.images.clear();
         self.symbols.truncate(0);
         self.stack.clear();
-        self.heads.clear();
         self.saved.clear();
         self.weight = 0;
         self.saved.resize(labels, EMPTY)?;
@@ -91,7 +86,7 @@ impl Results {
         self.weight += expr.len();
         let place = place_between(start, self.symbols.len());
         self.saved[label] = place;
-        push_result(&mut self.stack, &mut self.heads, place, head(expr))?;
+        self.stack.push(place)?;
         Ok(true)
     }
 
@@ -133,31 +128,32 @@ impl Results {
         if len > SYMBOLS_LIMIT - self.weight {
             return Ok(false);
         }
-        let first = head(symbols_at(self.symbols.as_slice(), place));
-        push_result(&mut self.stack, &mut self.heads, place, first)?;
+        self.stack.push(place)?;
         self.weight += len;
         Ok(true)
     }
 
-    /// Whether the last results have these first symbols.
-    pub fn has_heads(&self, heads: &[u32]) -> bool
-        requires { length heads.now ≤ length self.now.results.stack }
-        ensures { IsTrue result ↔ (map head_of (top (length heads.now) self.now.results.stack) ≡ heads.now) }
-    {
-        let keep = self.heads.len() - heads.len();
-        &self.heads[keep..] == heads
-    }
-
-    /// Reads the images of the variables of the `$f` off the last results, one for each hypothesis; or finds one with no
-    /// symbol.
-    pub fn read_images(&mut self, hypotheses: &[Hypothesis]) -> Result<bool, AllocError>
+    /// Reads the images of the variables of the `$f` off the last results, one for each hypothesis; or finds one that
+    /// does not begin with the symbol that its `$f` asks for.
+    pub fn read_images(
+        &mut self,
+        heads: &[u32],
+        hypotheses: &[Hypothesis],
+    ) -> Result<bool, AllocError>
+        requires same { length heads.now ≡ length hypotheses.now }
         requires count { length hypotheses.now ≤ length self.old.results.stack }
         requires different { AreDifferent hypotheses.now }
         ensures same { self.new.results ≡ self.old.results }
-        ensures read { IfOk result (λ ok. Reads ok hypotheses.now (top (length hypotheses.now) self.old.results.stack) self.new.images) }
+        ensures read { IfOk result (λ ok. Reads ok heads.now hypotheses.now (top (length hypotheses.now) self.old.results.stack) self.new.images) }
     {
         let keep = self.stack.len() - hypotheses.len();
-        read_off(&mut self.images, hypotheses, &self.stack[keep..])
+        read_off(
+            &mut self.images,
+            self.symbols.as_slice(),
+            heads,
+            hypotheses,
+            &self.stack[keep..],
+        )
     }
 
     /// Whether the last results are the expressions of the `$e` with the images put in.
@@ -203,9 +199,7 @@ impl Results {
         let place = place_between(start, self.symbols.len());
         self.weight += self.symbols.len() - start;
         self.stack.truncate(keep);
-        self.heads.truncate(keep);
-        let first = head(symbols_at(self.symbols.as_slice(), place));
-        push_result(&mut self.stack, &mut self.heads, place, first)?;
+        self.stack.push(place)?;
         Ok(true)
     }
 
@@ -226,39 +220,5 @@ impl Results {
         }
         let place = self.stack[0];
         symbols_at(self.symbols.as_slice(), place) == expr
-    }
-}
-
-/// The first symbol, or the number of none.
-fn head(symbols: &[u32]) -> u32
-    ensures { result ≡ head_of symbols.now }
-{
-    if symbols.is_empty() {
-        NO_HEAD
-    } else {
-        symbols[0]
-    }
-}
-
-/// Adds a result with its first symbol.
-fn push_result(
-    stack: &mut Vec<Place>,
-    heads: &mut Vec<u32>,
-    place: Place,
-    head: u32,
-) -> Result<(), AllocError>
-    ensures stack { OnOk result (stack.new.items ≡ stack.old.items ++ place ∷ []) }
-    ensures heads { OnOk result (heads.new.items ≡ heads.old.items ++ head ∷ []) }
-    ensures same_stack { OnErr result (stack.new.items ≡ stack.old.items) }
-    ensures same_heads { OnErr result (heads.new.items ≡ heads.old.items) }
-{
-    heads.push(head)?;
-    match stack.push(place) {
-        Ok(()) => Ok(()),
-        Err(_) => {
-            let count = heads.len();
-            heads.truncate(count - 1);
-            Err(AllocError)
-        }
     }
 }

@@ -15,7 +15,13 @@ loop-k-preserved c =
     let k = c.loop-k.k in
     let less = c.loop-k-test.true in
     let there : k < length places = (let s = c.requires.same in omega (arith, s, less)) in
-    let one = subst (λ v. ReadsOne v (get_or hs k (Float 0)) (get_or places k none) c.loop-k.images c.read_one.new.images) c.if-not-branch.false c.in_ok-read_one.ensures.ok in (
-      read-next hs places c.requires.different k (get_or places k none) (get-some places k none there) (get_or hs k (Float 0)) c.loop-k.images c.read_one.new.images (get-some hs k (Float 0) less) c.loop-k.invariant.0 one,
-      λ n w. read-inside n (get_or hs k (Float 0)) (get_or places k none) c.loop-k.images c.read_one.new.images (c.loop-k.invariant.1 n w) (within-at n k places none w there) one,
+    let one = subst (λ v. ReadsOne v c.args.symbols.now (get_or c.args.heads.now k 0) (get_or hs k (Float 0)) (get_or places k none) c.loop-k.images c.read_one.new.images) c.if-not-branch.false c.in_ok-read_one.ensures.ok in (
+      read-next c.args.symbols.now c.args.heads.now hs places c.requires.different k (get_or places k none) (get-some places k none there) (get_or hs k (Float 0)) c.loop-k.images c.read_one.new.images (get-some hs k (Float 0) less) c.loop-k.invariant.0 one,
+      λ n w. read-inside n (get_or c.args.heads.now k 0) c.args.symbols.now (get_or hs k (Float 0)) (get_or places k none) c.loop-k.images c.read_one.new.images (c.loop-k.invariant.1 n w) (within-at n k places none w there) one,
     )
+
+pub read_one-requires : goal.read_one-requires
+read_one-requires c =
+    let less = c.loop-k-test.true in
+    let same = c.requires.same in
+    (within-at (length c.args.symbols.now) c.loop-k.k c.args.places.now _ c.requires.within (omega (arith, same, less))).1

@@ -4,4 +4,4 @@ use Rattle.verify.specs.ReadPlaces.{ReadTo}
 use Rattle.verify.proofs.reading_off.read_off.Given as goal
 
 abbrev pub invariant-loop-k : goal.invariant-loop-k
-invariant-loop-k l = ReadTo l.k l.hypotheses l.places l.images × ((n : ℕ) → AreWithin n l.places → AreInside n l.images)
+invariant-loop-k l = ReadTo l.k l.symbols l.heads l.hypotheses l.places l.images × ((n : ℕ) → AreWithin n l.places → AreInside n l.images)
