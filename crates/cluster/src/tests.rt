@@ -13,12 +13,12 @@ use net::{Event, StepFault};
 use world::Carried;
 
 /// The text of author 7 under that serial number, as a value that nodes agree on.
-fn text(alloc: Global, serial: u64, text: &[u8]) -> Result<Carried, AllocError> {
-    Ok(Carried(Entry::Text(Submission {
+fn text(alloc: Global, serial: u64, text: &[u8]) -> Result<Entry, AllocError> {
+    Ok(Entry::Text(Submission {
         author: 7,
         serial,
         text: Bytes::copy_from_slice(alloc, text)?,
-    })))
+    }))
 }
 
 /// A keep that fails once, after so many calls, and then goes on. A store that fails leaves the old record or the new one.
