@@ -16,13 +16,6 @@ use Rattle.verify.specs.ReadPlaces.{tail_of, BeginsWith, ReadsOne, ReadTo, Reads
 use Rattle.verify.proofs.Decide.{some_same}
 use Rattle.verify.proofs.AskedLemmas.{some-within}
 
-pub read-none : (symbols heads : List ℕ) (hs : List Hypothesis) (places : List Place) (images : List (ℕ × Place)) → images ≡ [] → ReadTo 0 symbols heads hs places images
-read-none symbols heads hs places images e = record {
-  begun = λ k x p h. absurd (omega (arith, h));
-  placed = λ k x p h. absurd (omega (arith, h));
-  own = λ x none. ap (λ (ps : List (ℕ × Place)). lookup (nat_eq x) ps) e;
-}
-
 module _ (symbols heads : List ℕ) (hs : List Hypothesis) (places : List Place) (different : AreDifferent hs) (i : ℕ) (p : Place) (at_place : slice_get places i ≡ Some p) where
   earlier : (k : ℕ) → k < i + 1 → (nat_lt k i ≡ false) → k ≡ i
   earlier k h e = grind (arith, nat_tests, h, e)
@@ -94,13 +87,6 @@ module _ (symbols heads : List ℕ) (hs : List Hypothesis) (places : List Place)
 pub read-inside : (n head : ℕ) (symbols : List ℕ) (h : Hypothesis) (p : Place) (old new : List (ℕ × Place)) → AreInside n old → (p.start ≤ p.end) × (p.end ≤ n) → ReadsOne true symbols head h p old new → AreInside n new
 read-inside n head symbols (Float x) p old new a w one = let low = one.0.0 in inside-set n old new x (tail_of p) a one.1 (omega (arith, low)) w.1
 read-inside n head symbols (Essential q) p old new a w one = subst (AreInside n) (sym one) a
-
-pub read-end : (symbols heads : List ℕ) (hs : List Hypothesis) (places : List Place) (images : List (ℕ × Place)) (i : ℕ) → length hs ≤ i → ReadTo i symbols heads hs places images → ReadTo (length hs) symbols heads hs places images
-read-end symbols heads hs places images i h r = record {
-  begun = λ k x p less. r.begun k x p (omega (arith, h, less));
-  placed = λ k x p less. r.placed k x p (omega (arith, h, less));
-  own = λ x none. r.own x (λ k less kind. none k (some-within hs k (Float x) kind) kind);
-}
 
 -- ---- places as lists of symbols
 
