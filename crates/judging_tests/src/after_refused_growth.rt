@@ -77,15 +77,16 @@ fn is_framed(alloc: Global, scope: &Scope, stmt: &Stmt) -> bool {
 fn pushed_after_a_refused_growth(rt: HostRuntime) {
     assert!(rt;
         is_pushed(
+            rt.alloc(),
             &frames_of(rt.alloc(), ARITHMETIC),
             18,
             b"mp",
             &[6, 7, 15, 16]
         )
     );
-    assert!(rt; is_pushed(&frames_of(rt.alloc(), APART), 17, b"th", &[3]));
+    assert!(rt; is_pushed(rt.alloc(), &frames_of(rt.alloc(), APART), 17, b"th", &[3]));
 }
 
-fn is_pushed(frames: &Frames, len: usize, label: &[u8], hypotheses: &[u32]) -> bool {
-    frames.len() == len && has_hypotheses(frames, label, hypotheses)
+fn is_pushed(alloc: Global, frames: &Frames, len: usize, label: &[u8], hypotheses: &[u32]) -> bool {
+    frames.len() == len && has_hypotheses(alloc, frames, label, hypotheses)
 }

@@ -7,7 +7,7 @@ ghost use Rattle.frame.specs.Stored.{Extends};
 
 use crate::worked_frames::{APART, ARITHMETIC};
 use entries::{Cited, Groups, Hypothesis};
-use frame::{Frames, Meaning};
+use frame::{Frames, Gathered, Meaning};
 use mm_read::{ReadFault, Stmt, read};
 use scope::{Scope, Steps};
 use std::alloc::Global;
@@ -43,7 +43,7 @@ fn hypotheses_by_position(rt: HostRuntime) {
 }
 
 fn asks_for(alloc: Global, text: &[u8], label: &[u8], positions: &[u32]) -> bool {
-    has_hypotheses(&frames_of(alloc, text), label, positions)
+    has_hypotheses(alloc, &frames_of(alloc, text), label, positions)
 }
 
 #[test]
@@ -80,6 +80,50 @@ fn is_relation(ax: Cited<'_>) -> bool {
 const RELATION: &[u32] = &[1, 3, 2, 4];
 
 const BOTH: &[u32] = &[3, 4];
+
+#[test]
+fn lists_that_are_gathered(rt: HostRuntime) {
+    let mut gathered = Gathered::new(rt.alloc());
+    assert!(rt; gathers(rt.alloc(), &mut gathered) || gathers(rt.alloc(), &mut gathered));
+}
+
+/// Whether the lists of an assertion under eighty `$d` are made when they are asked for.
+fn gathers(alloc: Global, gathered: &mut Gathered) -> bool {
+    let Some(text) = disjoint_often(alloc, 80) else {
+        return false;
+    };
+    let frames = frames_of(alloc, &text);
+    match frames.position(b"ax") {
+        Some(a) => is_assertion(&frames, a) && gathers_at(&frames, a, gathered, 80),
+        None => false,
+    }
+}
+
+fn gathers_at(frames: &Frames, a: usize, gathered: &mut Gathered, count: usize) -> bool
+    requires { (s : Statement) × HasAssertion frames.now.statements a s }
+{
+    if frames.cited(a).is_some() || frames.gather(a, gathered).is_err() {
+        return false;
+    }
+    let ax = frames.gathered(a, gathered);
+    ax.heads == [0, 0].as_slice()
+        && ax.hypotheses == [Hypothesis::Float(2), Hypothesis::Float(3)].as_slice()
+        && ax.conclusion == [1, 2, 3].as_slice()
+        && ax.groups.len() == count
+}
+
+/// A text with so many `$d` before its assertion.
+fn disjoint_often(alloc: Global, count: usize) -> Option<Vec<u8>> {
+    let mut text = Vec::new(alloc);
+    text.extend_from_slice(b"$c wff |- $. $v x y $. wx $f wff x $. wy $f wff y $. ")
+        .ok()?;
+    for _ in 0..count {
+        text.extend_from_slice(b"$d x y $. ").ok()?;
+    }
+    text.extend_from_slice(b"ax $a |- x y $. th $a |- x $.")
+        .ok()?;
+    Some(text)
+}
 
 /// A position, two symbols of one letter, and whether they are kept apart there.
 const PAIRS: [(usize, u8, u8, bool); 6] = [
@@ -154,7 +198,7 @@ fn push_again(alloc: Global, scope: &mut Scope, frames: &mut Frames) -> bool
         && push_and_cut(alloc, scope, frames)
         && is_cut(frames)
         && push_all(alloc, scope, frames, BEHIND_AGAIN)
-        && is_behind_the_cut(frames)
+        && is_behind_the_cut(alloc, frames)
 }
 
 /// Pushes a text behind what stands, where no block is open, and goes back; whether its last assertion was found.
@@ -168,7 +212,7 @@ fn push_and_cut(alloc: Global, scope: &mut Scope, frames: &mut Frames) -> bool
     scope.mark();
     let len = frames.len();
     let is_pushed = push_all(alloc, scope, frames, BEHIND);
-    let is_found = is_pushed && has_hypotheses(frames, b"a3", &[14, 16]);
+    let is_found = is_pushed && has_hypotheses(alloc, frames, b"a3", &[14, 16]);
     scope.back();
     frames.shorten(len);
     is_found
@@ -178,8 +222,8 @@ fn is_cut(frames: &Frames) -> bool {
     frames.len() == 11 && frames.position(b"a3").is_none()
 }
 
-fn is_behind_the_cut(frames: &Frames) -> bool {
-    has_hypotheses(frames, b"a3", &[13]) && has_hypotheses(frames, b"a2", &[9])
+fn is_behind_the_cut(alloc: Global, frames: &Frames) -> bool {
+    has_hypotheses(alloc, frames, b"a3", &[13]) && has_hypotheses(alloc, frames, b"a2", &[9])
 }
 
 /// The frames of a text; of as much of it as is legal.
@@ -241,11 +285,20 @@ pub fn push(scope: &mut Scope, frames: &mut Frames, stmt: &Stmt) -> bool
 }
 
 /// Whether the assertion with this label has these hypotheses, and stands before the last statement.
-pub fn has_hypotheses(frames: &Frames, label: &[u8], want: &[u32]) -> bool {
+pub fn has_hypotheses(alloc: Global, frames: &Frames, label: &[u8], want: &[u32]) -> bool {
     match frames.position(label) {
-        Some(a) => is_assertion(frames, a) && frames.hypotheses(a) == want,
+        Some(a) => is_assertion(frames, a) && are_mandatory(alloc, frames, a, want),
         None => false,
     }
+}
+
+fn are_mandatory(alloc: Global, frames: &Frames, a: usize, want: &[u32]) -> bool
+    requires { (s : Statement) × HasAssertion frames.now.statements a s }
+{
+    let mut list = Vec::new(alloc);
+    let mut more = Vec::new(alloc);
+    (frames.mandatory(a, &mut list).is_ok() && list.as_slice() == want)
+        || (frames.mandatory(a, &mut more).is_ok() && more.as_slice() == want)
 }
 
 /// The first of the lists of variables; nothing where there is none.
@@ -256,7 +309,7 @@ fn first_group<'a>(groups: &Groups<'a>) -> &'a [u32] {
 fn cited_of<'a>(frames: &'a Frames, label: &[u8]) -> Option<Cited<'a>> {
     let a = frames.position(label)?;
     if is_assertion(frames, a) {
-        Some(frames.cited(a))
+        frames.cited(a)
     } else {
         None
     }

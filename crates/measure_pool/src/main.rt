@@ -202,8 +202,10 @@ fn items_of(
     if !is_compressed(proof) {
         return normal(alloc, proof).ok();
     }
+    let mut positions = Vec::new(alloc);
+    frames.mandatory(at, &mut positions).ok()?;
     let mut mandatory = Words::new(alloc);
-    for position in frames.hypotheses(at) {
+    for position in positions.as_slice() {
         match statements.get((*position as usize).saturating_sub(1)) {
             Some(Stmt::Float { label, .. }) => mandatory.push(label.as_bytes()).ok()?,
             Some(Stmt::Ess { label, .. }) => mandatory.push(label.as_bytes()).ok()?,
