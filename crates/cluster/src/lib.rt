@@ -22,6 +22,3 @@ pub use compare::{Ahead, compare_on};
 pub use memory_keep::MemoryKeep;
 pub use parts::cells;
 pub use switch::{Switch, begin_on, deliver_on, offer_on};
-
-#[cfg(test)]
-mod tests;

@@ -5,11 +5,11 @@
 //! of its name, `keys` makes keys.
 #![tactic(auto)]
 
+mod kept;
 mod keys;
 mod names;
+mod overflow;
 mod table;
-#[cfg(test)]
-mod tests;
 mod texts;
 
 pub use names::Names;

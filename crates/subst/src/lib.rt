@@ -10,10 +10,6 @@ mod buffer;
 mod images;
 mod laws;
 mod substitute;
-#[cfg(test)]
-mod tests;
-#[cfg(test)]
-mod tests_disjoint;
 
 pub use apart::disjoint;
 pub use buffer::{Buffer, SYMBOLS_LIMIT, apply_into, has_room};

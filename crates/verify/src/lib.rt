@@ -28,6 +28,3 @@ pub use checker::{Checker, check};
 pub use tree::Tree;
 pub use tree_from_items::derivation;
 pub use tree_size::{MOST_DEPTH, MOST_NODES};
-
-#[cfg(test)]
-mod tests;

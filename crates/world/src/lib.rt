@@ -27,6 +27,3 @@ pub use laws::{agreement, headline, kept_part, logs_grow};
 pub use net::Net;
 pub use replay::run;
 pub use world::World;
-
-#[cfg(test)]
-mod tests;

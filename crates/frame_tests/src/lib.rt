@@ -1,0 +1,9 @@
+//! Tests of `scope`, `frame` and `subst`: copies of a scope, the numbers it notes, worked frames, and images put in at once.
+#![tactic(auto)]
+
+#[cfg(test)]
+mod scopes;
+#[cfg(test)]
+mod substitution;
+#[cfg(test)]
+mod worked_frames;

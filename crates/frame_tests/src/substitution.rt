@@ -1,0 +1,53 @@
+//! Images that are put in at once, and an image of nothing.
+use std::alloc::{AllocError, Global};
+use subst::{Buffer, Subst, apply, apply_into, has_room};
+
+/// Numbers of symbols.
+const X: u32 = 4;
+
+const Y: u32 = 5;
+
+/// What is put in for x and for y, an expression, and what comes of it.
+const ROWS: [(&[u32], &[u32], &[u32], &[u32]); 3] = [
+    (&[Y], &[X], &[0, X, 3, Y], &[0, Y, 3, X]),
+    (&[], &[Y], &[0, 1, X, 2], &[0, 1, 2]),
+    (&[1, Y, 2], &[0], &[X, X], &[1, Y, 2, 1, Y, 2]),
+];
+
+#[test]
+fn images_are_put_in_at_once(rt: HostRuntime) {
+    for (x, y, expr, want) in ROWS {
+        assert!(rt; gives(rt.alloc(), x, y, expr, want) == Ok(true), "{expr:?}");
+    }
+}
+
+/// Whether an expression with these images of x and y becomes that one, also behind others in a buffer.
+fn gives(
+    alloc: Global,
+    x: &[u32],
+    y: &[u32],
+    expr: &[u32],
+    want: &[u32],
+) -> Result<bool, AllocError> {
+    let mut subst = Subst::new(alloc);
+    subst.set(X, &[X, X])?;
+    subst.set(X, x)?;
+    subst.set(Y, y)?;
+    let applied = apply(alloc, &subst, expr)?;
+    Ok(applied.as_slice() == want && is_added(alloc, &subst, expr, want)?)
+}
+
+/// Whether that is what is added to a buffer twice.
+fn is_added(alloc: Global, subst: &Subst, expr: &[u32], want: &[u32]) -> Result<bool, AllocError> {
+    let mut buffer = Buffer::new(alloc);
+    if !has_room(subst, expr, &buffer) {
+        return Ok(false);
+    }
+    let _first = apply_into(subst, expr, &mut buffer)?;
+    if !has_room(subst, expr, &buffer) {
+        return Ok(false);
+    }
+    let _second = apply_into(subst, expr, &mut buffer)?;
+    let behind = buffer.as_slice().strip_prefix(want);
+    Ok(behind == Some(want))
+}

@@ -1,0 +1,99 @@
+//! The frames of worked assertions.
+ghost use Rattle.mm_read.specs.Statements.{AreShaped};
+
+use frame::{Frame, frame};
+use mm_read::{Stmt, read};
+use scope::{Scope, Steps};
+use std::alloc::Global;
+
+/// The first example of the Metamath book, up to modus ponens.
+const ARITHMETIC: &[u8] = b"$c 0 + = -> ( ) term wff |- $. $v t r s P Q $. \
+    tt $f term t $. tr $f term r $. ts $f term s $. wp $f wff P $. wq $f wff Q $. \
+    tze $a term 0 $. tpl $a term ( t + r ) $. weq $a wff t = r $. wim $a wff ( P -> Q ) $. \
+    a1 $a |- ( t = r -> ( t = s -> r = s ) ) $. a2 $a |- ( t + 0 ) = t $. \
+    ${ min $e |- P $. maj $e |- ( P -> Q ) $. mp $a |- Q $. $}";
+
+/// A `$d` on the variables of `ax`, and one on a dummy of `th`.
+const APART: &[u8] = b"$c wff |- R $. $v x y z $. wx $f wff x $. wy $f wff y $. wz $f wff z $. \
+    ${ $d x y $. ax $a |- x R y $. $} ${ h $e |- x R y $. r $a |- R x $. $} \
+    ${ $d x z $. th $p |- R x $= wx wz wx wz ax r $. $}";
+
+/// A text, how many statements stand before an assertion, and its hypotheses, the one list of variables that it keeps apart
+/// (or none) and its conclusion.
+const ROWS: [(&[u8], usize, &[usize], &[u8], &[u8]); 5] = [
+    (ARITHMETIC, 16, &[6, 7, 15, 16], b"", b"|- Q"),
+    (
+        ARITHMETIC,
+        11,
+        &[3, 4, 5],
+        b"",
+        b"|- ( t = r -> ( t = s -> r = s ) )",
+    ),
+    (ARITHMETIC, 7, &[], b"", b"term 0"),
+    (APART, 7, &[3, 4], b"x y", b"|- x R y"),
+    (APART, 15, &[3], b"", b"|- R x"),
+];
+
+#[test]
+fn assertions_have_their_frames(rt: HostRuntime) {
+    for (text, count, hypotheses, group, conclusion) in ROWS {
+        let frame = frame_behind(rt.alloc(), text, count);
+        assert!(rt;
+            is_frame(frame, hypotheses, group, conclusion),
+            "{conclusion:?}"
+        );
+    }
+}
+
+/// The frame of the assertion that stands behind so many statements.
+fn frame_behind(alloc: Global, text: &[u8], count: usize) -> Option<Frame> {
+    match read(alloc, text) {
+        Ok(statements) => frame_at(alloc, statements.as_slice(), count),
+        Err(_) => None,
+    }
+}
+
+fn frame_at(alloc: Global, statements: &[Stmt], count: usize) -> Option<Frame>
+    requires { AreShaped statements.now }
+{
+    let mut scope = Scope::new(alloc);
+    frame_in(alloc, &mut scope, statements, count)
+}
+
+fn frame_in(alloc: Global, scope: &mut Scope, statements: &[Stmt], count: usize) -> Option<Frame>
+    requires { AreShaped statements.now }
+{
+    for stmt in statements {
+        if scope.len() == count {
+            return frame_of(alloc, scope, stmt);
+        }
+        scope.add(stmt, &mut Steps::new()).ok()?;
+    }
+    None
+}
+
+fn frame_of(alloc: Global, scope: &Scope, stmt: &Stmt) -> Option<Frame> {
+    match stmt {
+        Stmt::Axiom { .. } => frame(alloc, scope, stmt).ok(),
+        Stmt::Prove { .. } => frame(alloc, scope, stmt).ok(),
+        _ => None,
+    }
+}
+
+fn is_frame(frame: Option<Frame>, hypotheses: &[usize], group: &[u8], conclusion: &[u8]) -> bool {
+    match frame {
+        Some(frame) => {
+            frame.hypotheses() == hypotheses
+                && is_only_group(&frame, group)
+                && frame.conclusion().as_text() == conclusion
+        }
+        None => false,
+    }
+}
+
+fn is_only_group(frame: &Frame, text: &[u8]) -> bool {
+    match frame.groups().first() {
+        Some(group) => frame.groups().len() == 1 && group.as_text() == text,
+        None => text.is_empty(),
+    }
+}

@@ -1,0 +1,167 @@
+//! The row of a gap in the log, by the calls that are lent the locked values: each cell fills the gap, and cells compare as their
+//! statements do, also where the first node's keep fails at any call and the node restarts after any event.
+
+use crate::fuse::{Fuse, entry, restart_first, three};
+use cluster::{
+    Ahead, NodeCell, Switch, apply_on, begin_on, belongs, compare_on, deliver_on, list_on,
+    offer_on, take_on,
+};
+use std::alloc::Global;
+use world::{Carried, StepFault};
+
+/// A step of the row: a ballot or an offer of one of two texts, at node 0, or a delivery.
+#[derive(Clone, Copy)]
+enum Step {
+    Begin,
+    Offer(u64),
+    Deliver(u64),
+}
+
+/// Each step with the count of packets after it.
+const GAP: [(Step, u64); 17] = [
+    (Step::Begin, 3),
+    (Step::Deliver(0), 4),
+    (Step::Deliver(1), 5),
+    (Step::Deliver(3), 5),
+    (Step::Deliver(4), 5),
+    (Step::Offer(1), 8),
+    (Step::Offer(2), 11),
+    (Step::Deliver(5), 14),
+    (Step::Deliver(6), 17),
+    (Step::Deliver(8), 20),
+    (Step::Deliver(9), 23),
+    (Step::Deliver(11), 23),
+    (Step::Deliver(14), 23),
+    (Step::Deliver(19), 23),
+    (Step::Deliver(22), 25),
+    (Step::Deliver(23), 26),
+    (Step::Deliver(25), 27),
+];
+
+#[test]
+fn each_cell_fills_the_gap(rt: HostRuntime) {
+    assert!(rt; is_filled(rt.alloc()) == Ok(true));
+}
+
+fn is_filled(alloc: Global) -> Result<bool, StepFault> {
+    let (mut switch, mut cells) = three(alloc, Fuse::new(alloc, None, false))?;
+    for (step, want) in GAP {
+        if make(alloc, &mut switch, step) != Ok(want) {
+            return Ok(false);
+        }
+    }
+    if deliver_on(&mut switch, 27) != Err(StepFault::NoPacket)
+        || begin_on(&mut switch, 3) != Err(StepFault::NoNode)
+    {
+        return Ok(false);
+    }
+    for (cell, added) in cells.iter_mut().zip([1, 0, 2]) {
+        if !adds(cell, &switch, added)? {
+            return Ok(false);
+        }
+    }
+    Ok(all_agree(&switch, &cells))
+}
+
+/// Whether the cell takes over and applies what its log has, so many statements without a label.
+fn adds(
+    cell: &mut NodeCell,
+    switch: &Switch<Carried, Fuse>,
+    added: usize,
+) -> Result<bool, StepFault> {
+    let was_ahead = apply_on(cell)?.is_some();
+    settle(cell, switch)?;
+    let is_behind = take_on(cell, switch)? || apply_on(cell)?.is_some();
+    let listed = list_on(cell)?.len();
+    Ok(!was_ahead && !is_behind && listed == 0 && cell.library().statements().len() == added)
+}
+
+/// Makes a step of the row.
+fn make(alloc: Global, switch: &mut Switch<Carried, Fuse>, step: Step) -> Result<u64, StepFault> {
+    match step {
+        Step::Begin => begin_on(switch, 0),
+        Step::Offer(1) => offer_on(switch, 0, Carried(entry(alloc, 1, b"$c a $.")?)),
+        Step::Offer(serial) => offer_on(switch, 0, Carried(entry(alloc, serial, b"$c b $.")?)),
+        Step::Deliver(number) => deliver_on(switch, number),
+    }
+}
+
+/// Takes over and applies all that the cell's log has.
+fn settle(cell: &mut NodeCell, switch: &Switch<Carried, Fuse>) -> Result<(), StepFault> {
+    for _entry in 0..3 {
+        if !take_on(cell, switch)? {
+            break;
+        }
+        apply_on(cell)?;
+    }
+    Ok(())
+}
+
+/// Whether each cell is of the switch, and each two compare as their statements do.
+fn all_agree(switch: &Switch<Carried, Fuse>, cells: &[NodeCell]) -> bool {
+    for one in cells {
+        for other in cells {
+            if ahead(one, other, switch) != Some(counted(one, other)) {
+                return false;
+            }
+        }
+    }
+    true
+}
+
+/// Which of two cells is ahead, where both are of the switch.
+fn ahead(one: &NodeCell, other: &NodeCell, switch: &Switch<Carried, Fuse>) -> Option<Ahead> {
+    if belongs(one, switch) && belongs(other, switch) {
+        Some(compare_on(one, other, switch))
+    } else {
+        None
+    }
+}
+
+/// Whose library has more statements, counted.
+fn counted(one: &NodeCell, other: &NodeCell) -> Ahead {
+    let first = one.library().statements().len();
+    let second = other.library().statements().len();
+    if first == second {
+        Ahead::Same
+    } else if first < second {
+        Ahead::Second
+    } else {
+        Ahead::First
+    }
+}
+
+#[test]
+fn stop_at_each(rt: HostRuntime) {
+    for stop in 0..GAP.len() {
+        for calls in 0..18 {
+            let old = agrees(rt.alloc(), Some(calls), false, stop);
+            let new = agrees(rt.alloc(), Some(calls), true, stop);
+            assert!(rt;
+                old == Ok(true) && new == Ok(true),
+                "stop {stop}, call {calls}"
+            );
+        }
+    }
+}
+
+/// Whether all cells agree behind the steps, where node 0 has this keep and restarts after one of them; a step that is refused
+/// is passed over. Each cell takes over and applies what it can after each step.
+fn agrees(alloc: Global, left: Option<u32>, new: bool, stop: usize) -> Result<bool, StepFault> {
+    let (mut switch, mut cells) = three(alloc, Fuse::new(alloc, left, new))?;
+    for (i, (step, _)) in GAP.iter().enumerate() {
+        let _ = make(alloc, &mut switch, *step);
+        settle_each(&mut cells, &switch)?;
+        if i == stop {
+            let _ = restart_first(&mut switch, &mut cells);
+        }
+    }
+    Ok(all_agree(&switch, &cells))
+}
+
+fn settle_each(cells: &mut Vec<NodeCell>, switch: &Switch<Carried, Fuse>) -> Result<(), StepFault> {
+    for cell in cells.iter_mut() {
+        settle(cell, switch)?;
+    }
+    Ok(())
+}

@@ -1,0 +1,12 @@
+//! Tests of `world` and `cluster`: keeps that fail at each of their calls, a gap in the log that each cell fills, and an
+//! application after a refused growth.
+#![tactic(auto)]
+
+#[cfg(test)]
+mod failing_keeps;
+#[cfg(test)]
+mod fuse;
+#[cfg(test)]
+mod gap;
+#[cfg(test)]
+mod worlds;

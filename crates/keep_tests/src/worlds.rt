@@ -1,0 +1,84 @@
+//! A world of entries: a list of events at once, and an application after a growth that was refused.
+use crate::fuse::entry;
+use library::Entry;
+use std::alloc::{AllocError, Global};
+use synod::Weights;
+use world::{Event, StepFault, World, run};
+
+/// The packets that are delivered after the ballot and after the two offers of the row of a gap in the log.
+const DELIVERED: [[u64; 4]; 3] = [[0, 1, 3, 4], [5, 6, 8, 9], [11, 14, 19, 22]];
+
+#[test]
+fn events_are_run(rt: HostRuntime) {
+    assert!(rt; runs_to_its_end(rt.alloc()) == Ok(true));
+}
+
+/// Whether the events up to the gap are all taken, and all but its last if one more names no packet.
+fn runs_to_its_end(alloc: Global) -> Result<bool, AllocError> {
+    let mut events = gap(alloc)?;
+    let good = match run(alloc, Weights::equal(3), gap(alloc)?) {
+        Ok(world) => world.history().len() == 15,
+        Err(_) => false,
+    };
+    events.push(Event::Deliver(25))?;
+    let bad = match run(alloc, Weights::equal(3), events) {
+        Ok(_) => false,
+        Err(stop) => stop == (15, StepFault::NoPacket),
+    };
+    Ok(good && bad)
+}
+
+/// The events of the row up to the gap.
+fn gap(alloc: Global) -> Result<Vec<Event<Entry>>, AllocError> {
+    let mut events = Vec::new(alloc);
+    events.push(Event::Begin(0))?;
+    let [ballot, first, second] = DELIVERED;
+    push_deliveries(&mut events, &ballot)?;
+    events.push(Event::Offer(0, entry(alloc, 1, b"$c a $.")?))?;
+    events.push(Event::Offer(0, entry(alloc, 2, b"$c b $.")?))?;
+    push_deliveries(&mut events, &first)?;
+    push_deliveries(&mut events, &second)?;
+    Ok(events)
+}
+
+fn push_deliveries(events: &mut Vec<Event<Entry>>, numbers: &[u64]) -> Result<(), AllocError> {
+    for number in numbers {
+        events.push(Event::Deliver(*number))?;
+    }
+    Ok(())
+}
+
+/// The replica stays at its slot where memory was refused once, and the next application decides.
+#[test]
+fn applies_after_a_refused_growth(rt: HostRuntime) {
+    if let Ok(mut world) = learned(rt.alloc()) {
+        assert!(rt; applies_all(&mut world));
+    }
+}
+
+/// Whether the two entries are applied by three calls of which one may find no memory, and nothing is left then.
+fn applies_all(world: &mut World) -> bool {
+    for _call in 0..3 {
+        match world.apply_next(0) {
+            Ok(_) => {}
+            Err(fault) => {
+                if fault != StepFault::Memory {
+                    return false;
+                }
+            }
+        }
+    }
+    world.apply_next(0) == Ok(None)
+}
+
+/// A world of one node that learned two texts of one author under one number.
+fn learned(alloc: Global) -> Result<World, StepFault> {
+    let mut world = World::new(alloc, Weights::equal(1))?;
+    world.step(Event::Offer(0, entry(alloc, 1, b"$c a $.")?))?;
+    world.step(Event::Offer(0, entry(alloc, 1, b"$c b $.")?))?;
+    world.step(Event::Begin(0))?;
+    for number in 0..6 {
+        world.step(Event::Deliver(number))?;
+    }
+    Ok(world)
+}

@@ -1,0 +1,93 @@
+//! A node whose log is full, and one whose rounds are spent.
+ghost use Rattle.std.specs.Prelude.{IfSome};
+ghost use Rattle.std.specs.List.{AllByRecursion};
+ghost use Rattle.synod.specs.Packets.{IsReport};
+
+use slots::SLOTS;
+use std::alloc::{AllocError, Global};
+use synod::{Ballot, Body, NodeCore, Packet, Refusal, Report, Reports, Value, Weights};
+
+/// A value for the tests.
+#[derive(Clone, Copy)]
+struct Number(u64);
+
+impl Value for Number {
+    ghost bytes = { λ _. 8 };
+
+    fn copy(&self) -> Result<Self, AllocError> {
+        Ok(*self)
+    }
+
+    fn size(&self) -> u64 {
+        8
+    }
+}
+
+#[test]
+fn the_log_may_be_full(rt: HostRuntime) {
+    assert!(rt; fills_its_log(rt.alloc()) == Some(true));
+}
+
+/// Whether a node that alone leads, and hears of a value at the last slot, proposes at each slot and then has no room for an
+/// offer.
+fn fills_its_log(alloc: Global) -> Option<bool> {
+    let mut node = NodeCore::new(alloc, 0, Weights::equal(1));
+    let _prepare = node.begin().ok()?;
+    let promise = Body::Promise {
+        ballot: Ballot { round: 1, node: 0 },
+        page: 1,
+        count: 1,
+        reports: last_reported(alloc)?,
+    };
+    if node.nodes() == 0 {
+        return None;
+    }
+    let posts = node
+        .on_packet(&Packet {
+            from: 0,
+            to: 0,
+            body: promise,
+        })
+        .ok()?;
+    Some(posts.len() == SLOTS as usize && node.offer(Number(2)).err() == Some(Refusal::LogFull))
+}
+
+/// A value at the last slot.
+fn last_reported(alloc: Global) -> Option<Reports<Number>>
+    ensures { IfSome result (λ reports. AllByRecursion IsReport reports) }
+{
+    let mut reports = Vec::new(alloc);
+    reports
+        .push(Report {
+            slot: SLOTS - 1,
+            ballot: Ballot { round: 0, node: 0 },
+            value: Some(Number(1)),
+        })
+        .ok()?;
+    Some(Reports::new(reports))
+}
+
+#[test]
+fn the_rounds_may_be_spent(rt: HostRuntime) {
+    assert!(rt; spends_its_rounds(rt.alloc()) == Some(true));
+}
+
+/// Whether a node that hears of the greatest round begins no other.
+fn spends_its_rounds(alloc: Global) -> Option<bool> {
+    let mut node: NodeCore<Number> = NodeCore::new(alloc, 0, Weights::equal(1));
+    let ballot = Ballot {
+        round: u64::MAX,
+        node: 0,
+    };
+    if node.nodes() == 0 {
+        return None;
+    }
+    let _promise = node
+        .on_packet(&Packet {
+            from: 0,
+            to: 0,
+            body: Body::Prepare { ballot, first: 0 },
+        })
+        .ok()?;
+    Some(node.begin().err() == Some(Refusal::RoundsSpent))
+}

@@ -1,0 +1,28 @@
+-- A name's number in the overflow stays when that of another is written or taken away.
+use Rattle.std.specs.Prelude.{◌≡◌, ◌≢◌, Bool, true, false, List, ℕ, Option, refl}
+use Rattle.std.proofs.Common.{sym, ◌∙◌}
+use Rattle.std.specs.BTreeMap.{BTreeMap, UpdatesBy, get_by}
+use Rattle.std.specs.Map.{KeepsOthers, IsKeyTest, AreApart, lookup}
+use Rattle.std.specs.Cmp.{eq_by_cmp_equiv}
+use Rattle.std.specs.Cmp.Lexicographic.{slice_cmp, nat_list_cmp_total}
+use Rattle.std.specs.Ordering.{nat_cmp, is_eq}
+use Rattle.std.specs.Str.{bytes_eq}
+use Rattle.std.proofs.lemmas.Map.Text.{is_eq-slice_cmp}
+use Rattle.std.proofs.lemmas.Slice.Eq.{bytes_eq-Decides}
+
+keeps : {K X : Type 0} (eq : K → K → Bool) (test : K → Bool) (old new : List (K × X)) → KeepsOthers eq test old new → (other : K → Bool) → IsKeyTest eq other → AreApart test other → lookup other new ≡ lookup other old
+unfolding KeepsOthers
+keeps eq test old new h = h
+
+apart : (xs ys zs : List ℕ) → ys ≢ xs → is_eq (slice_cmp nat_cmp xs zs) ≡ true → is_eq (slice_cmp nat_cmp ys zs) ≡ false
+apart xs ys zs ne e = by (is_eq (slice_cmp nat_cmp ys zs)) (sym (is_eq-slice_cmp ys zs))
+  where
+    by : (b : Bool) → bytes_eq ys zs ≡ b → b ≡ false
+    by false p = refl
+    by true p = absurd (ne ((bytes_eq-Decides ys zs).0 p ∙ sym ((bytes_eq-Decides xs zs).0 (sym (is_eq-slice_cmp xs zs) ∙ e))))
+
+-- keys that are read as texts by f
+pub other-number : {K X : Type 0} (f : K → List ℕ) (xs : List ℕ) (m n : BTreeMap K X) (w : Option X) → UpdatesBy (λ a b. slice_cmp nat_cmp (f a) (f b)) (λ k. slice_cmp nat_cmp xs (f k)) m n w
+    → (ys : List ℕ) → ys ≢ xs → get_by (λ k. slice_cmp nat_cmp ys (f k)) n ≡ get_by (λ k. slice_cmp nat_cmp ys (f k)) m
+other-number f xs m n w h ys ne =
+    keeps _ _ m.entries n.entries h.3 (λ k. is_eq (slice_cmp nat_cmp ys (f k))) (λ x y. (eq_by_cmp_equiv nat_list_cmp_total).congr ys (f x) (f y)) (λ k e. apart xs ys (f k) ne e)

@@ -1,0 +1,110 @@
+//! The items that proof tokens write, with the numbers of the book, and the tokens that write none.
+use mm_lex::Words;
+use mm_read::{Stmt, read};
+use proof_code::{CodeFault, Items, is_compressed, normal, packed};
+use std::alloc::{AllocError, Global};
+
+/// The tokens behind the labels h1 to h130, and the numbers of their items.
+const NUMBERS: [(&[u8], &[u32]); 4] = [
+    (b"( ) TUAYTUUA", &[20, 21, 120, 121]),
+    (b"( b ) A BZ U A U B ZC", &[1, 2, 0, 21, 22, 0, 3]),
+    (b"( b c.1 ) A BZ UU L ZC UUK", &[1, 2, 0, 132, 0, 3, 131]),
+    (b"h1 b h1", &[1, 2, 3]),
+];
+
+#[test]
+fn items_have_their_numbers(rt: HostRuntime) {
+    for (tokens, numbers) in NUMBERS {
+        assert!(rt; has_numbers(rt.alloc(), tokens, numbers), "{tokens:?}");
+    }
+}
+
+fn has_numbers(alloc: Global, tokens: &[u8], want: &[u32]) -> bool {
+    match items_of(alloc, tokens) {
+        Ok(items) => items.parts().numbers == want,
+        Err(_) => false,
+    }
+}
+
+/// The tokens behind the same labels, and why they write no items.
+const FAULTS: [(&[u8], CodeFault); 9] = [
+    (b"( ) AU", CodeFault::Malformed),
+    (b"( ) ZA", CodeFault::Malformed),
+    (b"( ) UUK", CodeFault::Malformed),
+    (b"( h7 ) A", CodeFault::Malformed),
+    (b"( A", CodeFault::Malformed),
+    (b"( b ) A U UL", CodeFault::Malformed),
+    (b"( ) A?", CodeFault::Unfinished),
+    (b"?", CodeFault::Unfinished),
+    (b"h1 h+", CodeFault::Malformed),
+];
+
+#[test]
+fn faults_are_told_apart(rt: HostRuntime) {
+    for (tokens, fault) in FAULTS {
+        assert!(rt; has_fault(rt.alloc(), tokens, fault), "{tokens:?}");
+    }
+}
+
+/// The number of a long word is over every limit.
+#[test]
+fn word_of_100_000_letters(rt: HostRuntime) {
+    assert!(rt; is_too_long(rt.alloc()));
+}
+
+fn is_too_long(alloc: Global) -> bool {
+    match long_word(alloc) {
+        Ok(text) => has_fault(alloc, &text, CodeFault::Malformed),
+        Err(_) => false,
+    }
+}
+
+fn long_word(alloc: Global) -> Result<Vec<u8>, AllocError> {
+    let mut text = vec![in alloc; b'U'; 100_000]?;
+    text.extend_from_slice(b"A")?;
+    let mut tokens = Vec::from_slice(alloc, b"( ) ")?;
+    tokens.extend_from_slice(&text)?;
+    Ok(tokens)
+}
+
+fn has_fault(alloc: Global, tokens: &[u8], want: CodeFault) -> bool {
+    match items_of(alloc, tokens) {
+        Ok(_) => false,
+        Err(fault) => fault == want,
+    }
+}
+
+/// The items that these tokens write behind the labels h1 to h130.
+fn items_of(alloc: Global, tokens: &[u8]) -> Result<Items, CodeFault> {
+    let Ok(text) = text_of(alloc, tokens) else {
+        return Err(CodeFault::Memory);
+    };
+    match read(alloc, text.as_slice()) {
+        Ok(statements) => match statements.as_slice() {
+            [Stmt::Const(labels), Stmt::Prove { proof, .. }] => items_behind(alloc, labels, proof),
+            _ => Err(CodeFault::Memory),
+        },
+        Err(_) => Err(CodeFault::Memory),
+    }
+}
+
+fn items_behind(alloc: Global, mandatory: &Words, tokens: &Words) -> Result<Items, CodeFault> {
+    if is_compressed(tokens) {
+        packed(alloc, tokens, mandatory)
+    } else {
+        normal(alloc, tokens)
+    }
+}
+
+/// A statement of the labels, and one with the tokens as its proof.
+fn text_of(alloc: Global, tokens: &[u8]) -> Result<Vec<u8>, AllocError> {
+    let mut labels = String::from_str(alloc, "$c ")?;
+    for number in 1..131u8 {
+        write!(labels, "h{number} ")?;
+    }
+    let mut text = Vec::from_slice(alloc, labels.as_bytes())?;
+    text.extend_from_slice(b"$. p $p a $= ")?;
+    text.extend_from_slice(tokens)?;
+    text.extend_from_slice(b" $.")?;
+    Ok(text)
+}
