@@ -1,7 +1,7 @@
 //! A text as an entry, and the verdict on the greatest text and on one byte more.
 use bytes::Bytes;
 use library::{Cause, Entry, Library, Submission, Verdict};
-use std::alloc::{AllocError, Global};
+use std::alloc::Global;
 
 /// An author's text as an entry.
 pub fn entry(serial: u64, text: Bytes) -> Entry {
@@ -21,14 +21,21 @@ const LENGTHS: [(usize, Verdict); 2] = [
 fn texts_have_a_limit(rt: HostRuntime) {
     for (length, verdict) in LENGTHS {
         assert!(rt;
-            spaces_verdict(rt.alloc(), length) == Ok(verdict),
+            spaces_verdict(rt.alloc(), length) == Some(verdict),
             "{length} bytes"
         );
     }
 }
 
 /// The verdict of a new library on so many spaces.
-fn spaces_verdict(alloc: Global, length: usize) -> Result<Verdict, AllocError> {
-    let text = Bytes::from_vec(vec![in alloc; b' '; length]?)?;
-    Library::new(alloc).apply(Some(&entry(1, text)))
+fn spaces_verdict(alloc: Global, length: usize) -> Option<Verdict> {
+    let text = Bytes::from_vec(vec![in alloc; b' '; length].ok()?).ok()?;
+    let entry = entry(1, text);
+    let mut library = Library::new(alloc);
+    verdict_on(&mut library, &entry)
+}
+
+/// The verdict on the entry; nothing where there is no memory.
+pub fn verdict_on(library: &mut Library, entry: &Entry) -> Option<Verdict> {
+    library.apply(Some(entry)).ok()
 }

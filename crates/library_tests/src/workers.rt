@@ -3,7 +3,7 @@ ghost use Rattle.std.specs.Prelude.{◌≤◌};
 
 use crate::texts::entry;
 use bytes::Bytes;
-use library::{Cause, Library, Verdict};
+use library::{Cause, Entry, Library, Verdict};
 use std::alloc::Global;
 use std::sync::atomic::{AtomicBool, Ordering};
 use std::thread::Threads;
@@ -51,7 +51,7 @@ fn is_judged_by_each<R: Threads + Sync>(
         && by_workers(rt, alloc, 16, text, &OpenGate) == Some(verdict)
 }
 
-/// The verdict of a new library by so many workers, asked once more where a growth is refused.
+/// The verdict of a new library by so many workers.
 pub fn by_workers<G: Gate + Sync, R: Threads + Sync>(
     rt: &R,
     alloc: Global,
@@ -63,9 +63,22 @@ pub fn by_workers<G: Gate + Sync, R: Threads + Sync>(
 {
     let entry = entry(1, Bytes::copy_from_slice(alloc, text).ok()?);
     let mut library = Library::new(alloc);
-    match library.apply_with(rt, Some(&entry), Workers::of(workers), gate) {
+    asked_again(rt, &mut library, &entry, workers, gate)
+}
+
+/// The verdict on the entry, asked once more where a growth is refused.
+fn asked_again<G: Gate + Sync, R: Threads + Sync>(
+    rt: &R,
+    library: &mut Library,
+    entry: &Entry,
+    workers: usize,
+    gate: &G,
+) -> Option<Verdict>
+    requires { (1 ≤ workers) × (workers ≤ 16) }
+{
+    match library.apply_with(rt, Some(entry), Workers::of(workers), gate) {
         Ok(verdict) => Some(verdict),
-        Err(_) => library.apply_with(rt, Some(&entry), Workers::of(workers), gate).ok(),
+        Err(_) => library.apply_with(rt, Some(entry), Workers::of(workers), gate).ok(),
     }
 }
 

@@ -44,7 +44,7 @@ on-ok (Err e) P Q p f = tt
 
 -- one of the names is set apart
 pub kept-apart : (a b : Kept) (names : List Name) (n : ℕ) → AreKept a names → AreDistinct names → n < length names → b.keys.items ≡ slice_set a.keys.items n APART
-    → number_of b.overflow (name_at names n) ≡ Some n → ((x : Name) → x ≢ name_at names n → number_of b.overflow x ≡ number_of a.overflow x) → AreKept b names
+    → number_of b.overflow (name_at names n) ≡ Some n → ((x : Name) → AreBytes x → x ≢ name_at names n → number_of b.overflow x ≡ number_of a.overflow x) → AreKept b names
 kept-apart a b names n kept d lt keys own others k p = by (cases_eq k n)
   where
     l : length b.keys.items ≡ length a.keys.items
@@ -62,7 +62,7 @@ kept-apart a b names n kept d lt keys own others k p = by (cases_eq k n)
         })
     by (inr ne) =
         let t = (kept k p).there in
-        kept-as a b (name_at names k) k (omega (arith, t, l)) (ap (λ xs. get_or xs k 0) keys ∙ get_or-set_other a.keys.items n k APART 0 ne) (others (name_at names k) (names-apart names k n d p lt ne)) (kept k p)
+        kept-as a b (name_at names k) k (omega (arith, t, l)) (ap (λ xs. get_or xs k 0) keys ∙ get_or-set_other a.keys.items n k APART 0 ne) (others (name_at names k) (kept k p).bytes (names-apart names k n d p lt ne)) (kept k p)
 
 pub fewer-apart : (a b : Kept) (n : ℕ) → b.keys.items ≡ slice_set a.keys.items n APART → n < length a.keys.items → AreFewer a b
 fewer-apart a b n keys lt k ne = by (cases_eq k n)
@@ -88,7 +88,7 @@ held-passed slots a names n own held k p ne = by (cases_eq k n)
 
 -- the overflow failed to take a name that is in the table
 pub kept-failed : (a b : Kept) (names : List Name) (n : ℕ) → AreKept a names → AreDistinct names → n < length names → get_or a.keys.items n 0 ≢ APART → b.keys.items ≡ a.keys.items
-    → ((x : Name) → x ≢ name_at names n → number_of b.overflow x ≡ number_of a.overflow x) → AreKept b names
+    → ((x : Name) → AreBytes x → x ≢ name_at names n → number_of b.overflow x ≡ number_of a.overflow x) → AreKept b names
 kept-failed a b names n kept d lt own keys others k p = by (cases_eq k n)
   where
     l : length b.keys.items ≡ length a.keys.items
@@ -106,7 +106,7 @@ kept-failed a b names n kept d lt own keys others k p = by (cases_eq k n)
         })
     by (inr ne) =
         let t = (kept k p).there in
-        kept-as a b (name_at names k) k (omega (arith, t, l)) (ap (λ xs. get_or xs k 0) keys) (others (name_at names k) (names-apart names k n d p lt ne)) (kept k p)
+        kept-as a b (name_at names k) k (omega (arith, t, l)) (ap (λ xs. get_or xs k 0) keys) (others (name_at names k) (kept k p).bytes (names-apart names k n d p lt ne)) (kept k p)
 
 -- more is known, of names that come
 pub kept-same : (a b : Kept) (names : List Name) → AreKept a names → length names ≤ length b.keys.items → ((k : ℕ) → k < length names → get_or b.keys.items k 0 ≡ get_or a.keys.items k 0)
@@ -141,11 +141,11 @@ kept-push a b names x n key count kept overflow same more last own other bytes =
     })
 
 -- the same of a name that stands apart
-pub kept-push_apart : (a b : Kept) (names : List Name) (x : Name) (n : ℕ) → n ≡ length names → AreKept a names → has_name x names ≡ false → ((y : Name) → y ≢ x → number_of b.overflow y ≡ number_of a.overflow y)
+pub kept-push_apart : (a b : Kept) (names : List Name) (x : Name) (n : ℕ) → n ≡ length names → AreKept a names → has_name x names ≡ false → ((y : Name) → AreBytes y → y ≢ x → number_of b.overflow y ≡ number_of a.overflow y)
     → ((k : ℕ) → k < n → get_or b.keys.items k 0 ≡ get_or a.keys.items k 0) → n < length b.keys.items → get_or b.keys.items n 0 ≡ APART → number_of b.overflow x ≡ Some n → AreBytes x → AreKept b (names ++ x ∷ [])
 kept-push_apart a b names x n count kept fresh others same more last own bytes =
     kept-last b names x n count
-    (kept-same a b names kept (omega (arith, count, more)) (λ k p. same k (omega (arith, p, count))) (λ k p. others (name_at names k) (none-is names x k fresh p)))
+    (kept-same a b names kept (omega (arith, count, more)) (λ k p. same k (omega (arith, p, count))) (λ k p. others (name_at names k) (kept k p).bytes (none-is names x k fresh p)))
     (record {
       there = more;
       bytes = bytes;

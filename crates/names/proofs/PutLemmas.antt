@@ -73,7 +73,7 @@ names-put slots a b names new name sound n key at is h count few fresh overflow 
 
 -- a name came that stands apart
 pub names-set_apart : (slots : List Slot) (a b : Kept) (names new : List Name) (name : Name) (sound n : ℕ) → new ≡ names ++ name ∷ [] → Holds slots a names sound → n ≡ length names → n < NO_NAME → has_name name names ≡ false
-    → ((y : Name) → y ≢ name → number_of b.overflow y ≡ number_of a.overflow y) → ((k : ℕ) → k < n → get_or b.keys.items k 0 ≡ get_or a.keys.items k 0) → n < length b.keys.items → get_or b.keys.items n 0 ≡ APART
+    → ((y : Name) → AreBytes y → y ≢ name → number_of b.overflow y ≡ number_of a.overflow y) → ((k : ℕ) → k < n → get_or b.keys.items k 0 ≡ get_or a.keys.items k 0) → n < length b.keys.items → get_or b.keys.items n 0 ≡ APART
     → number_of b.overflow name ≡ Some n → AreBytes name → Holds slots b new sound
 names-set_apart slots a b names new name sound n is h count few fresh others same more last own bytes =
     subst (λ xs. Holds slots b xs sound) (sym is) (

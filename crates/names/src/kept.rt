@@ -2,6 +2,7 @@
 ghost use Rattle.std.specs.Prelude.{◌≡◌, ◌≢◌, ℕ, ◌<◌, ◌≤◌, ◌^◌, length, get_or, slice_set, Some, IfOk, OnOk, OnErr};
 ghost use Rattle.mm_lex.specs.Alphabet.{Name};
 ghost use Rattle.names.specs.Codes.{name_at, AreDistinct};
+ghost use Rattle.names.specs.Keys.{AreBytes};
 ghost use Rattle.names.specs.Overflow.{number_of};
 ghost use Rattle.names.specs.Table.{AreKept};
 
@@ -63,7 +64,7 @@ impl Kept {
         requires few { number < 2 ^ 32 }
         ensures keys { OnOk result (self.new.keys.items ≡ slice_set self.old.keys.items number APART) }
         ensures own { OnOk result (number_of self.new.overflow name.now ≡ Some number) }
-        ensures others { (x : Name) → x ≢ name.now → number_of self.new.overflow x ≡ number_of self.old.overflow x }
+        ensures others { (x : Name) → AreBytes x → x ≢ name.now → number_of self.new.overflow x ≡ number_of self.old.overflow x }
         ensures err { OnErr result (self.new.keys ≡ self.old.keys) }
     {
         self.overflow.insert(alloc, name, number as u32)?;
@@ -73,7 +74,7 @@ impl Kept {
 
     /// Forgets the names from a number on.
     pub(crate) fn truncate(&mut self, texts: &Texts, len: usize)
-        requires count { length texts.now ≤ length self.old.keys.items }
+        requires kept { AreKept self.old texts.now }
         requires distinct { AreDistinct texts.now }
         requires within { len ≤ length texts.now }
         ensures keys { self.new.keys ≡ self.old.keys }

@@ -20,6 +20,3 @@ pub use desk::Desk;
 pub use node_threads::{Cluster, start};
 pub use report::Report;
 pub use weather::{Clear, Fate, Weather};
-
-#[cfg(test)]
-mod tests;

@@ -56,10 +56,23 @@ fn last_nodes(alloc: Global, statements: &[Stmt], mandatory: &Words) -> Option<u
 {
     let mut scope = Scope::new(alloc);
     let mut frames = Frames::new(alloc);
+    nodes_in(alloc, statements, mandatory, &mut scope, &mut frames)
+}
+
+fn nodes_in(
+    alloc: Global,
+    statements: &[Stmt],
+    mandatory: &Words,
+    scope: &mut Scope,
+    frames: &mut Frames,
+) -> Option<usize>
+    requires shaped { AreShaped statements.now }
+    requires same { scope.old.statements ≡ frames.old.statements }
+{
     let mut nodes = None;
     for stmt in statements {
-        push(&mut scope, &mut frames, stmt)?;
-        nodes = nodes_at(alloc, &frames, stmt, mandatory);
+        push(scope, frames, stmt)?;
+        nodes = nodes_at(alloc, frames, stmt, mandatory);
     }
     nodes
 }

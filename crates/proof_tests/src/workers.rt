@@ -1,6 +1,6 @@
 //! The least bad job by one, two and sixteen workers, and two workers side by side.
-ghost use Rattle.std.specs.Prelude.{◌≡◌, ◌≤◌, ◌∷◌, ◌++◌, []};
-ghost use Rattle.mm_read.specs.Statements.{Database, AreShaped};
+ghost use Rattle.std.specs.Prelude.{◌≡◌, ◌≤◌, ◌∷◌, ◌++◌, [], IsTrue};
+ghost use Rattle.mm_read.specs.Statements.{Database, AreShaped, IsShaped};
 ghost use Rattle.scope.specs.Active.{bare};
 ghost use Rattle.verify_pool.specs.Jobs.{AreJobs};
 
@@ -127,7 +127,7 @@ fn answer_of<G: Gate + Sync, R: Threads + Sync>(
     }
 }
 
-/// What is answered of the proofs of these statements. Where a growth is refused, it is asked again.
+/// What is answered of the proofs of these statements.
 fn judge<G: Gate + Sync, R: Threads + Sync>(
     rt: &R,
     alloc: Global,
@@ -138,17 +138,81 @@ fn judge<G: Gate + Sync, R: Threads + Sync>(
     requires shaped { AreShaped statements.now }
     requires workers { (1 ≤ workers) × (workers ≤ 16) }
 {
-    let mut scope = Scope::new(alloc);
     let mut frames = Frames::new(alloc);
     let mut jobs = Vec::new(alloc);
-    for stmt in statements {
-        push(&mut scope, &mut frames, stmt)?;
-        push_job(alloc, &frames, stmt, &mut jobs)?;
+    if push_all(alloc, statements, &mut frames, &mut jobs) {
+        checked_again(rt, alloc, &frames, jobs.as_slice(), workers, gate)
+    } else {
+        None
     }
-    match check_all(rt, alloc, &frames, &jobs, Workers::of(workers), gate) {
+}
+
+/// The least bad of the jobs. Where a growth is refused, it is asked again.
+fn checked_again<G: Gate + Sync, R: Threads + Sync>(
+    rt: &R,
+    alloc: Global,
+    frames: &Frames,
+    jobs: &[Job],
+    workers: usize,
+    gate: &G,
+) -> Option<Option<usize>>
+    requires jobs { AreJobs frames.now.statements jobs.now }
+    requires workers { (1 ≤ workers) × (workers ≤ 16) }
+{
+    match check_all(rt, alloc, frames, jobs, Workers::of(workers), gate) {
         Ok(answer) => Some(answer),
-        Err(_) => check_all(rt, alloc, &frames, &jobs, Workers::of(workers), gate).ok(),
+        Err(_) => check_all(rt, alloc, frames, jobs, Workers::of(workers), gate).ok(),
     }
+}
+
+/// Pushes the statements, and adds the jobs of their proofs.
+fn push_all(alloc: Global, statements: &[Stmt], frames: &mut Frames, jobs: &mut Vec<Job>) -> bool
+    requires shaped { AreShaped statements.now }
+    requires none { frames.old.statements ≡ [] }
+    requires jobs { AreJobs frames.old.statements jobs.old.items }
+    ensures { IsTrue result → AreJobs frames.new.statements jobs.new.items }
+{
+    let mut scope = Scope::new(alloc);
+    push_each(alloc, statements, &mut scope, frames, jobs)
+}
+
+fn push_each(
+    alloc: Global,
+    statements: &[Stmt],
+    scope: &mut Scope,
+    frames: &mut Frames,
+    jobs: &mut Vec<Job>,
+) -> bool
+    requires shaped { AreShaped statements.now }
+    requires same { scope.old.statements ≡ frames.old.statements }
+    requires jobs { AreJobs frames.old.statements jobs.old.items }
+    ensures { IsTrue result → AreJobs frames.new.statements jobs.new.items }
+{
+    for stmt in statements {
+        if !push_one(alloc, stmt, scope, frames, jobs) {
+            return false;
+        }
+    }
+    true
+}
+
+fn push_one(
+    alloc: Global,
+    stmt: &Stmt,
+    scope: &mut Scope,
+    frames: &mut Frames,
+    jobs: &mut Vec<Job>,
+) -> bool
+    requires shaped { IsShaped stmt.now }
+    requires same { scope.old.statements ≡ frames.old.statements }
+    requires jobs { AreJobs frames.old.statements jobs.old.items }
+    ensures same { IsTrue result → scope.new.statements ≡ frames.new.statements }
+    ensures jobs { IsTrue result → AreJobs frames.new.statements jobs.new.items }
+{
+    if push(scope, frames, stmt).is_none() {
+        return false;
+    }
+    push_job(alloc, frames, stmt, jobs).is_some()
 }
 
 /// Adds the job of the statement that was pushed last, where it is a `$p`.

@@ -193,36 +193,46 @@ fn refusal_difference(alloc: Global, printed: &Printed) -> Result<Option<String>
     difference(alloc, &refused, printed)
 }
 
-/// The row with writers that fail at each of their calls, until one writes all.
+/// The row with writers that fail at each of their calls, and with one that writes all.
 fn judge_failing_writes<R: AllocGlobal + Threads + Wait + Copy + Send + Sync + Drop + 'static>(
     rt: &R,
     words: &[&str],
     input: &[u8],
     wanted: &Wanted<'_>,
 ) -> Result<Option<String>, AllocError> {
-    for calls in 0..wanted.output.len() + 1 {
-        let mut writer = FailingWriter::new(rt.alloc(), calls);
-        let mut text = input;
-        let mut faults = Vec::new(rt.alloc());
-        let status = run(rt, words, &mut text, &mut writer, &mut faults);
-        let now = Wanted {
+    for calls in 0..wanted.output.len() {
+        let front = Wanted {
             output: &wanted.output[..calls],
             lines: None,
             faults: wanted.faults,
-            status: if writer.failed { 1 } else { wanted.status },
+            status: 1,
         };
-        let called_again = writer.called_again;
-        let printed = Printed {
-            output: writer.text,
-            faults,
-            status,
-        };
-        if let Some(told) = difference(rt.alloc(), &now, &printed)? {
+        if let Some(told) = judge_failing_write(rt, words, input, &front)? {
             return Ok(Some(format!(in rt.alloc(); "{calls} writes: {told}")?));
         }
-        if called_again {
-            return Ok(Some(format!(in rt.alloc(); "{calls} writes: more was written")?));
-        }
     }
-    Ok(None)
+    let mut text = input;
+    let printed = print_to_memory(rt, words, &mut text)?;
+    difference(rt.alloc(), wanted, &printed)
+}
+
+/// The row with a writer that fails behind this output.
+fn judge_failing_write<R: AllocGlobal + Threads + Wait + Copy + Send + Sync + Drop + 'static>(
+    rt: &R,
+    words: &[&str],
+    mut input: &[u8],
+    front: &Wanted<'_>,
+) -> Result<Option<String>, AllocError> {
+    let mut writer = FailingWriter::new(rt.alloc(), front.output.len());
+    let mut faults = Vec::new(rt.alloc());
+    let status = run(rt, words, &mut input, &mut writer, &mut faults);
+    if writer.called_again {
+        return Ok(Some(String::from_str(rt.alloc(), "more was written")?));
+    }
+    let printed = Printed {
+        output: writer.text,
+        faults,
+        status,
+    };
+    difference(rt.alloc(), front, &printed)
 }

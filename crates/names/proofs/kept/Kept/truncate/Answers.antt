@@ -17,7 +17,7 @@ loop-number-preserved c =
         c.loop-number.invariant.0,
         λ k p.
             let ne : k ≢ i = λ e. absurd (omega (arith, p, e)) in
-            w.remove.ensures (name_at names k) (λ e. names-apart names k i c.requires.distinct (omega (arith, p)) lt ne (e ∙ w.get.ensures)) ∙ c.loop-number.invariant.1 k p,
+            w.remove.ensures (name_at names k) (c.requires.kept k (omega (arith, p))).bytes (λ e. names-apart names k i c.requires.distinct (omega (arith, p)) lt ne (e ∙ w.get.ensures)) ∙ c.loop-number.invariant.1 k p,
       )
       | else-index-eq-APART w ↦ subst P (sym w.self-is) c.loop-number.invariant
     ]

@@ -48,7 +48,7 @@ invariant_of-self-in_err-insert-in-None c =
     let names = c.self.inside.texts in
     let fresh : has_name c.args.name.now names ≡ false = ap (has_name c.args.name.now) (c.self.view_is ∙ c.in_ok-make_room.ensures) ∙ c.requires in
     names-same c.self.inside.slots.items c.self.inside.kept (record { keys = c.push-in-None.new.self.keys; overflow = c.insert.new.self }) names names c.self.inside.sound c.len-code.result refl c.self.invariant c.len-code.ensures e.count e.same
-    (λ k p. c.insert.ensures.others (name_at names k) (none-is names c.args.name.now k fresh p) ∙ ap (λ o. number_of o (name_at names k)) e.overflow)
+    (λ k p. c.insert.ensures.others (name_at names k) (c.self.invariant.1.1.kept k p).bytes (none-is names c.args.name.now k fresh p) ∙ ap (λ o. number_of o (name_at names k)) e.overflow)
 
 pub invariant_of-self-in-Continue-branch-6 : goal.invariant_of-self-in-Continue-branch-6
 invariant_of-self-in-Continue-branch-6 c =
@@ -57,7 +57,7 @@ invariant_of-self-in-Continue-branch-6 c =
     let few : n < NO_NAME = search rules in
     let fresh : has_name c.args.name.now c.self.inside.texts ≡ false = ap (has_name c.args.name.now) (c.self.view_is ∙ c.in_ok-make_room.ensures) ∙ c.requires in
     names-set_apart c.self.inside.slots.items c.self.inside.kept (record { keys = c.push-in-None.new.self.keys; overflow = c.insert.new.self }) c.self.inside.texts c.push-in-None-2.new.self c.args.name.now c.self.inside.sound n
-    c.in_ok-push-in-None-2.ensures.ok c.self.invariant c.len-code.ensures few fresh (λ y ne. c.insert.ensures.others y ne ∙ ap (λ o. number_of o y) e.overflow) e.same e.more e.last c.in_ok-insert-in-None.ensures.own c.key-key.ensures.bytes
+    c.in_ok-push-in-None-2.ensures.ok c.self.invariant c.len-code.ensures few fresh (λ y bytes ne. c.insert.ensures.others y bytes ne ∙ ap (λ o. number_of o y) e.overflow) e.same e.more e.last c.in_ok-insert-in-None.ensures.own c.key-key.ensures.bytes
 
 pub invariant_of-self-in_err-push-in-None-2 : goal.invariant_of-self-in_err-push-in-None-2
 invariant_of-self-in_err-push-in-None-2 c =
@@ -65,4 +65,4 @@ invariant_of-self-in_err-push-in-None-2 c =
     let names = c.self.inside.texts in
     let fresh : has_name c.args.name.now names ≡ false = ap (has_name c.args.name.now) (c.self.view_is ∙ c.in_ok-make_room.ensures) ∙ c.requires in
     names-same c.self.inside.slots.items c.self.inside.kept (record { keys = c.push-in-None.new.self.keys; overflow = c.insert.new.self }) names c.push-in-None-2.new.self c.self.inside.sound c.len-code.result c.in_err-push-in-None-2.ensures.err c.self.invariant c.len-code.ensures
-    e.count e.same (λ k p. c.insert.ensures.others (name_at names k) (none-is names c.args.name.now k fresh p) ∙ ap (λ o. number_of o (name_at names k)) e.overflow)
+    e.count e.same (λ k p. c.insert.ensures.others (name_at names k) (c.self.invariant.1.1.kept k p).bytes (none-is names c.args.name.now k fresh p) ∙ ap (λ o. number_of o (name_at names k)) e.overflow)

@@ -1,0 +1,82 @@
+//! Two nodes side by side: each waits before an entry for the other.
+use crate::three::{Kept, added_by_all, everywhere, submit_one, three};
+use nodes::{Clear, Cluster};
+use std::alloc::Global;
+use std::sync::atomic::{AtomicBool, Ordering};
+use std::sync::{Arc, Wait};
+use std::thread;
+use std::thread::Threads;
+use std::time::Clock;
+use synod::Weights;
+use verify_pool::{Gate, Place};
+use world::StepFault;
+
+/// Holds the first two nodes before an entry, each until the other has come.
+#[derive(Drop)]
+struct Meeting {
+    first: AtomicBool,
+    second: AtomicBool,
+    missed: AtomicBool,
+}
+
+impl Meeting {
+    fn meet(&self, mine: &AtomicBool, other: &AtomicBool) {
+        mine.store(true, Ordering::SeqCst);
+        for turn in 0..1_000_000_000u32 {
+            if other.load(Ordering::SeqCst) {
+                return;
+            }
+            if turn % 1024 == 0 {
+                thread::yield_now();
+            }
+        }
+        self.missed.store(true, Ordering::SeqCst);
+    }
+}
+
+impl Gate for Meeting {
+    fn pass(&self, place: Place) {
+        match place {
+            Place::Apply(0) => self.meet(&self.first, &self.second),
+            Place::Apply(1) => self.meet(&self.second, &self.first),
+            _ => {}
+        }
+    }
+}
+
+#[test]
+fn gate_two_nodes(rt: HostRuntime) {
+    assert!(rt; meet(&rt, rt.alloc()) == Ok(true));
+}
+
+/// Whether the first two nodes, which wait for one another, both add a text.
+fn meet<R: Threads + Wait + Clock + Copy + Send + Sync + Drop + 'static>(
+    rt: &R,
+    alloc: Global,
+) -> Result<bool, StepFault> {
+    let meeting = Meeting {
+        first: AtomicBool::new(false),
+        second: AtomicBool::new(false),
+        missed: AtomicBool::new(false),
+    };
+    let Ok(gate) = Arc::new(alloc, meeting) else {
+        return Err(StepFault::Memory);
+    };
+    let seen = Arc::try_clone(&gate)?;
+    let weathers = everywhere(alloc, Clear)?;
+    let mut cluster = three(rt, alloc, Weights::equal(3), gate, weathers)?;
+    let added = adds_one(rt, alloc, &cluster);
+    cluster.stop(rt)?;
+    Ok(added? && !seen.missed.load(Ordering::SeqCst))
+}
+
+fn adds_one<R: Threads + Wait + Clock + Copy + Send + Sync + Drop + 'static>(
+    rt: &R,
+    alloc: Global,
+    cluster: &Cluster<Meeting, Kept>,
+) -> Result<bool, StepFault> {
+    let desk = cluster.desk()?;
+    desk.begin(rt, 0)?;
+    submit_one(rt, alloc, &desk, 1, b"$c a $.")?;
+    added_by_all(rt, &desk, 1)
+}

@@ -1,0 +1,60 @@
+//! A text is decided after any one growth that is refused.
+use crate::three::{Kept, everywhere, open, settled, text};
+use library::Verdict;
+use nodes::{Clear, Desk};
+use std::alloc::Global;
+use std::sync::Wait;
+use std::thread::Threads;
+use std::time::Clock;
+use synod::Weights;
+use verify_pool::Gate;
+use world::StepFault;
+
+/// Want of memory at one growth is answered by `start`, `desk`, `submit` or `stop`, or loses a packet, or leaves an entry to a
+/// later hint, or fails a keep, whose node is down then until it restarts.
+#[test]
+fn decides_after_a_refused_growth(rt: HostRuntime) {
+    let mut verdict = decided_by_three(&rt, rt.alloc());
+    if verdict == Err(StepFault::Memory) {
+        verdict = decided_by_three(&rt, rt.alloc());
+    }
+    assert!(rt; verdict == Ok(Some(Verdict::Added)));
+}
+
+/// The verdict at node 0 of new nodes, which have stopped then.
+fn decided_by_three<R: Threads + Wait + Clock + Copy + Send + Sync + Drop + 'static>(
+    rt: &R,
+    alloc: Global,
+) -> Result<Option<Verdict>, StepFault> {
+    let weathers = everywhere(alloc, Clear)?;
+    let mut cluster = open(rt, alloc, Weights::equal(3), weathers)?;
+    let verdict = match cluster.desk() {
+        Ok(desk) => decided(rt, alloc, &desk),
+        Err(_) => Err(StepFault::Memory),
+    };
+    if cluster.stop(rt).is_err() {
+        cluster.stop(rt)?;
+    }
+    verdict
+}
+
+/// The verdict at node 0 on a text that is submitted there again and again, each time after a new ballot: what was lost for want
+/// of memory is made good by what is posted then.
+fn decided<G: Gate, R: Wait + Clock>(
+    rt: &R,
+    alloc: Global,
+    desk: &Desk<G, Kept>,
+) -> Result<Option<Verdict>, StepFault> {
+    for _turn in 0..30u8 {
+        if desk.begin(rt, 0) == Err(StepFault::Down) {
+            let _restarted = desk.restart(rt, 0);
+            let _begun = desk.begin(rt, 0);
+        }
+        let _offered = desk.submit(rt, 0, text(alloc, 1, b"$c |- $. p $a |- $.")?);
+        let verdict = settled(rt, desk, 0, 1, 200)?;
+        if verdict.is_some() {
+            return Ok(verdict);
+        }
+    }
+    Ok(None)
+}

@@ -1,0 +1,13 @@
+//! Tests of `nodes`: three nodes on real threads.
+#![tactic(auto)]
+
+#[cfg(test)]
+mod agreeing;
+#[cfg(test)]
+mod gates;
+#[cfg(test)]
+mod growths;
+#[cfg(test)]
+mod three;
+#[cfg(test)]
+mod weathers;

@@ -1,0 +1,124 @@
+//! What the tests share: three nodes with keeps in memory, texts, and a desk that is asked until it answers.
+ghost use Rattle.std.specs.Prelude.{◌≡◌, length, IfOk};
+
+use bytes::Bytes;
+use cluster::MemoryKeep;
+use library::{Entry, Submission, Verdict};
+use nodes::{Cluster, Desk, Weather, start};
+use std::alloc::{AllocError, Global};
+use std::sync::{Arc, Wait};
+use std::thread;
+use std::thread::Threads;
+use std::time::{Clock, Duration};
+use synod::Weights;
+use verify_pool::{Gate, OpenGate};
+use world::{Carried, StepFault};
+
+pub type Kept = MemoryKeep<Carried>;
+
+/// A text of author 7.
+pub fn text(alloc: Global, serial: u64, text: &[u8]) -> Result<Entry, AllocError> {
+    Ok(Entry::Text(Submission {
+        author: 7,
+        serial,
+        text: Bytes::copy_from_slice(alloc, text)?,
+    }))
+}
+
+/// Three nodes with keeps in memory, and two workers each.
+pub fn three<
+    G: Gate + Send + Sync + Drop + 'static,
+    W: Weather + Send + Drop + 'static,
+    R: Threads + Wait + Copy + Send + Sync + Drop + 'static,
+>(
+    rt: &R,
+    alloc: Global,
+    weights: Weights,
+    gate: Arc<G>,
+    weathers: Vec<W>,
+) -> Result<Cluster<G, Kept>, StepFault>
+    requires weights { length weights ≡ 3 }
+    requires weathers { length weathers.items ≡ 3 }
+{
+    let Ok(keeps) = vec![in alloc; Kept::new(alloc), Kept::new(alloc), Kept::new(alloc)] else {
+        return Err(StepFault::Memory);
+    };
+    start(rt, alloc, weights, 2, gate, weathers, keeps)
+}
+
+/// Three nodes of that weather, at which nothing waits before an entry.
+pub fn open<
+    W: Weather + Send + Drop + 'static,
+    R: Threads + Wait + Copy + Send + Sync + Drop + 'static,
+>(
+    rt: &R,
+    alloc: Global,
+    weights: Weights,
+    weathers: Vec<W>,
+) -> Result<Cluster<OpenGate, Kept>, StepFault>
+    requires weights { length weights ≡ 3 }
+    requires weathers { length weathers.items ≡ 3 }
+{
+    let Ok(gate) = Arc::new(alloc, OpenGate) else {
+        return Err(StepFault::Memory);
+    };
+    three(rt, alloc, weights, gate, weathers)
+}
+
+/// Submits the text at node 0.
+pub fn submit_one<G: Gate, R: Wait>(
+    rt: &R,
+    alloc: Global,
+    desk: &Desk<G, Kept>,
+    serial: u64,
+    source: &[u8],
+) -> Result<(), StepFault> {
+    let entry = text(alloc, serial, source)?;
+    desk.submit(rt, 0, entry)
+}
+
+/// The same weather at each node.
+pub fn everywhere<W: Weather + Copy>(alloc: Global, weather: W) -> Result<Vec<W>, AllocError>
+    ensures { IfOk result (λ weathers. length weathers.items ≡ 3) }
+{
+    let mut weathers = Vec::with_capacity(alloc, 3)?;
+    weathers.push_reserved(weather);
+    weathers.push_reserved(weather);
+    weathers.push_reserved(weather);
+    Ok(weathers)
+}
+
+/// The verdict at node `k` on the text of that number, asked each millisecond, so often at most, until it is known.
+pub fn settled<G: Gate, R: Wait + Clock>(
+    rt: &R,
+    desk: &Desk<G, Kept>,
+    k: u8,
+    serial: u64,
+    asked: u32,
+) -> Result<Option<Verdict>, StepFault> {
+    for _time in 0..asked {
+        let status = desk.status(rt, k, 7, serial)?;
+        if status.is_some() {
+            return Ok(status);
+        }
+        thread::sleep(rt, Duration::from_millis(1));
+    }
+    Ok(None)
+}
+
+/// How often a desk is asked for a verdict: 20 seconds.
+pub const OFTEN: u32 = 20_000;
+
+/// Whether each node adds the text of that number.
+pub fn added_by_all<G: Gate, R: Wait + Clock>(
+    rt: &R,
+    desk: &Desk<G, Kept>,
+    serial: u64,
+) -> Result<bool, StepFault> {
+    for k in [0, 1, 2] {
+        if settled(rt, desk, k, serial, OFTEN)? != Some(Verdict::Added) {
+            return Ok(false);
+        }
+    }
+    Ok(true)
+}
