@@ -96,7 +96,8 @@ impl Checker {
     {
         frames.legal();
         fill_mandatory(frames, at, &mut self.mandatory, &mut self.table)?;
-        let Some(heading) = self.reader.read(tokens, self.mandatory.len())? else {
+        let count = self.mandatory.as_slice().len();
+        let Some(heading) = self.reader.read(tokens, count)? else {
             return Ok(Answer::Wrong);
         };
         if !add_listed(frames, at, &self.mandatory, heading, &mut self.table)? {

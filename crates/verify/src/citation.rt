@@ -107,7 +107,9 @@ fn cite(
 {
     match table[label] {
         Entry::Hypothesis(position) => results.give(label, frames.expr(position)),
-        Entry::Assertion(position) => cite_assertion(frames, at, pairs, position, gathered, results),
+        Entry::Assertion(position) => cite_assertion(
+            frames, at, pairs, position, gathered, results,
+        ),
         Entry::Nothing => Ok(false),
     }
 }
