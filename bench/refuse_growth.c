@@ -6,6 +6,8 @@
 #include <stddef.h>
 #include <stdio.h>
 #include <stdlib.h>
+#include <sys/syscall.h>
+#include <unistd.h>
 
 static atomic_long count;
 static long refused;
@@ -28,6 +30,14 @@ __attribute__((destructor)) static void end(void) {
   if (file) {
     fprintf(file, "%ld\n", atomic_load(&count));
     fclose(file);
+  }
+}
+
+// A program with threads ends so, and runs no destructor.
+void _exit(int status) {
+  end();
+  syscall(SYS_exit_group, status);
+  for (;;) {
   }
 }
 

@@ -37,8 +37,7 @@ pub struct Library {
 }
 
 impl Model for Library {
-    ghost use Rattle.library.specs.Ledger.{IsDecision};
-ghost use Rattle.library.specs.Kept.{Kept};
+    ghost use Rattle.library.specs.Kept.{Kept};
 
     ghost Value = { Kept };
 

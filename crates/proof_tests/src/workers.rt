@@ -6,8 +6,9 @@ ghost use Rattle.verify_pool.specs.Jobs.{AreJobs};
 
 use crate::database::push;
 use frame::Frames;
+use mm_lex::Words;
 use mm_read::{Stmt, read};
-use proof_code::normal;
+use proof_code::{CodeFault, Items, normal};
 use scope::Scope;
 use std::alloc::Global;
 use std::sync::atomic::{AtomicBool, Ordering};
@@ -215,6 +216,14 @@ fn push_one(
     push_job(alloc, frames, stmt, jobs).is_some()
 }
 
+/// The items of a normal proof, asked once more where there was no memory.
+fn items_again(alloc: Global, tokens: &Words) -> Result<Items, CodeFault> {
+    match normal(alloc, tokens) {
+        Err(CodeFault::Memory) => normal(alloc, tokens),
+        items => items,
+    }
+}
+
 /// Adds the job of the statement that was pushed last, where it is a `$p`.
 fn push_job(alloc: Global, frames: &Frames, stmt: &Stmt, jobs: &mut Vec<Job>) -> Option<()>
     requires { (S : Database) × (frames.now.statements ≡ S ++ bare stmt.now ∷ []) × AreJobs S jobs.old.items }
@@ -222,7 +231,7 @@ fn push_job(alloc: Global, frames: &Frames, stmt: &Stmt, jobs: &mut Vec<Job>) ->
 {
     if let Stmt::Prove { proof, .. } = stmt {
         let at = frames.len();
-        let code = normal(alloc, proof).ok();
+        let code = items_again(alloc, proof).ok();
         jobs.push(Job { at, code }).ok()?;
     }
     Some(())

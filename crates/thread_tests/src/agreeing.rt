@@ -55,8 +55,15 @@ fn serves<R: Threads + Wait + Clock + Copy + Send + Sync + Drop + 'static>(
     Ok(
         added_by_all(rt, &desk, 1)?
             && lists_alike(rt, &desk)?
-            && knows_no_node(rt, alloc, &desk, 3)?,
+            && knows_no_node(rt, alloc, &desk, 3)?
+            && comes_back(rt, &desk)?,
     )
+}
+
+/// Whether node 2 has the text again once it has restarted, by what the others answer it.
+fn comes_back<R: Wait + Clock>(rt: &R, desk: &Desk<OpenGate, Kept>) -> Result<bool, StepFault> {
+    desk.restart(rt, 2)?;
+    added_by_all(rt, desk, 1)
 }
 
 /// Whether the cluster stops, two nodes of three having had events, and takes nothing more then.

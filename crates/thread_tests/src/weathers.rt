@@ -5,10 +5,11 @@ use crate::three::{Kept, OFTEN, added_by_all, everywhere, open, settled, submit_
 use library::{Entry, Library, Verdict};
 use nodes::{Cluster, Desk, Fate, Weather};
 use std::alloc::{AllocError, Global};
-use std::sync::atomic::{AtomicBool, Ordering};
+use std::sync::atomic::{AtomicU8, Ordering};
 use std::sync::{Arc, Wait};
+use std::thread;
 use std::thread::Threads;
-use std::time::Clock;
+use std::time::{Clock, Duration};
 use synod::Weights;
 use verify_pool::{Gate, OpenGate};
 use world::StepFault;
@@ -139,21 +140,31 @@ fn serves<G: Gate, R: Wait + Clock>(
     Ok(same && list.len() == want.len())
 }
 
-/// Passes each hint, or, at a node that is cut off, the first alone until the network is open.
+/// How a node's hints fare: the test tells it.
+const PASS: u8 = 0;
+
+const LOSE: u8 = 1;
+
+const HOLD: u8 = 2;
+
+/// Passes a node's first hint, and treats the others as it is told.
 #[derive(Drop)]
-struct CutOff {
-    open: Option<Arc<AtomicBool>>,
+struct Told {
+    told: Arc<AtomicU8>,
     first: bool,
 }
 
-impl Weather for CutOff {
+impl Weather for Told {
     fn turn(&mut self, _number: u64) -> Fate {
-        let passes = match &self.open {
-            Some(open) => self.first || open.load(Ordering::SeqCst),
-            None => true,
-        };
-        self.first = false;
-        if passes { Fate::Pass } else { Fate::Drop }
+        if self.first {
+            self.first = false;
+            return Fate::Pass;
+        }
+        match self.told.load(Ordering::SeqCst) {
+            LOSE => Fate::Drop,
+            HOLD => Fate::Later,
+            _ => Fate::Pass,
+        }
     }
 }
 
@@ -162,57 +173,85 @@ fn a_filled_gap_is_applied(rt: HostRuntime) {
     assert!(rt; fills_its_gap(&rt, rt.alloc()) == Ok(true));
 }
 
-/// Whether node 2, to which nothing of the first text comes, applies both texts once it learns of the second: it asks for the
-/// first, and one answer gives it both.
+/// Whether node 2, to which nothing of the first text comes, and which cannot ask for it while it learns of the next four, applies
+/// all six texts once it learns of the sixth: it asks for the first then, and one answer gives it all.
 fn fills_its_gap<R: Threads + Wait + Clock + Copy + Send + Sync + Drop + 'static>(
     rt: &R,
     alloc: Global,
 ) -> Result<bool, StepFault> {
-    let Ok(switch) = Arc::new(alloc, AtomicBool::new(false)) else {
+    let (Ok(first), Ok(last)) = (
+        Arc::new(alloc, AtomicU8::new(PASS)),
+        Arc::new(alloc, AtomicU8::new(LOSE)),
+    ) else {
         return Err(StepFault::Memory);
     };
-    let weathers = last_cut_off(alloc, &switch)?;
+    let weathers = all_told(alloc, &first, &last)?;
     let mut cluster = open(rt, alloc, Weights::equal(3), weathers)?;
-    let filled = learns_both(rt, alloc, &cluster, &switch);
+    let filled = learns_all(rt, alloc, &cluster, &first, &last);
     cluster.stop(rt)?;
     filled
 }
 
-fn learns_both<R: Threads + Wait + Clock + Copy + Send + Sync + Drop + 'static>(
-    rt: &R,
+/// Weathers of two nodes that are told one thing, and of one that is told another.
+fn all_told(
     alloc: Global,
-    cluster: &Cluster<OpenGate, Kept>,
-    switch: &AtomicBool,
-) -> Result<bool, StepFault> {
-    let desk = cluster.desk()?;
-    desk.begin(rt, 0)?;
-    submit_one(rt, alloc, &desk, 1, b"$c a $.")?;
-    let added = Some(Verdict::Added);
-    if settled(rt, &desk, 0, 1, OFTEN)? != added || settled(rt, &desk, 1, 1, OFTEN)? != added {
-        return Ok(false);
-    }
-    let missed = desk.status(rt, 2, 7, 1)?.is_none();
-    switch.store(true, Ordering::SeqCst);
-    submit_one(rt, alloc, &desk, 2, b"$c b $.")?;
-    Ok(missed && added_by_all(rt, &desk, 2)?)
-}
-
-/// Weathers of which the last cuts its node off.
-fn last_cut_off(alloc: Global, switch: &Arc<AtomicBool>) -> Result<Vec<CutOff>, AllocError>
+    first: &Arc<AtomicU8>,
+    last: &Arc<AtomicU8>,
+) -> Result<Vec<Told>, AllocError>
     ensures { IfOk result (λ weathers. length weathers.items ≡ 3) }
 {
     let mut weathers = Vec::with_capacity(alloc, 3)?;
-    weathers.push_reserved(CutOff {
-        open: None,
-        first: true,
-    });
-    weathers.push_reserved(CutOff {
-        open: None,
-        first: true,
-    });
-    weathers.push_reserved(CutOff {
-        open: Some(Arc::try_clone(switch)?),
-        first: true,
-    });
+    weathers.push_reserved(told_by(first)?);
+    weathers.push_reserved(told_by(first)?);
+    weathers.push_reserved(told_by(last)?);
     Ok(weathers)
+}
+
+fn told_by(told: &Arc<AtomicU8>) -> Result<Told, AllocError> {
+    Ok(Told {
+        told: Arc::try_clone(told)?,
+        first: true,
+    })
+}
+
+fn learns_all<R: Threads + Wait + Clock + Copy + Send + Sync + Drop + 'static>(
+    rt: &R,
+    alloc: Global,
+    cluster: &Cluster<OpenGate, Kept>,
+    first: &AtomicU8,
+    last: &AtomicU8,
+) -> Result<bool, StepFault> {
+    let desk = cluster.desk()?;
+    desk.begin(rt, 0)?;
+    let decided = decide(rt, alloc, &desk, 1)?;
+    last.store(HOLD, Ordering::SeqCst);
+    let more = decide(rt, alloc, &desk, 2)?
+        && decide(rt, alloc, &desk, 3)?
+        && decide(rt, alloc, &desk, 4)?
+        && decide(rt, alloc, &desk, 5)?;
+    first.store(LOSE, Ordering::SeqCst);
+    last.store(PASS, Ordering::SeqCst);
+    thread::sleep(rt, Duration::from_millis(QUIET));
+    first.store(PASS, Ordering::SeqCst);
+    let missed = desk.status(rt, 2, 7, 5)?.is_none();
+    submit_one(rt, alloc, &desk, 6, b"$c a $.")?;
+    Ok(decided && more && missed && added_by_all(rt, &desk, 6)?)
+}
+
+/// How many milliseconds the nodes have for the hints that are on their way.
+const QUIET: u64 = 100;
+
+/// Submits a text at node 0; whether the first two nodes add it. The hints of it that go to the third have come then.
+fn decide<R: Wait + Clock>(
+    rt: &R,
+    alloc: Global,
+    desk: &Desk<OpenGate, Kept>,
+    serial: u64,
+) -> Result<bool, StepFault> {
+    submit_one(rt, alloc, desk, serial, b"")?;
+    let added = Some(Verdict::Added);
+    let decided = settled(rt, desk, 0, serial, OFTEN)? == added
+        && settled(rt, desk, 1, serial, OFTEN)? == added;
+    thread::sleep(rt, Duration::from_millis(QUIET));
+    Ok(decided)
 }
