@@ -1,5 +1,5 @@
 -- One more statement: its place is the last one, and its parts are what was added.
-use Rattle.std.specs.Prelude.{◌≡◌, ℕ, ◌-◌, true, false, List, [], ◌∷◌, ◌++◌, length, slice_get, slice_range, get_or, take, drop, Some, None, refl, Result, Ok, Err, OnOk, OnErr, is_err}
+use Rattle.std.specs.Prelude.{◌≡◌, ℕ, ◌-◌, true, false, Bool, List, [], ◌∷◌, ◌++◌, length, slice_get, slice_range, get_or, take, drop, Some, None, refl, Result, Ok, Err, OnOk, OnErr, is_err}
 use Rattle.std.proofs.Common.{◌∙◌, ap, sym, subst, arith, append-nil}
 use Rattle.std.proofs.lemmas.List.{length-append}
 use Rattle.std.proofs.lemmas.Option.{slice_get_past, slice_get-get_or, get_or_from_slice_get}
@@ -18,10 +18,10 @@ use Rattle.entries.specs.Records.{head_of, no_row, hypotheses_by, groups_by, gro
 use Rattle.entries.proofs.SpanLemmas.{range-behind, extends-length, extends-refl}
 use Rattle.entries.proofs.RecordLemmas.{places-push}
 
-made-same : (h k : Head) (s t : List ℕ) (a b : List ℕ) (p q : List Hypothesis) (u v : List ℕ) (g l : List (List ℕ))
-    → h ≡ k → s ≡ t → a ≡ b → p ≡ q → u ≡ v → g ≡ l
-    → made h s (record { hypotheses = a; asked = p; heads = u; groups = g }) ≡ made k t (record { hypotheses = b; asked = q; heads = v; groups = l })
-made-same h k s t a b p q u v g l e1 e2 e3 e4 e5 e6 = cc
+made-same : (h k : Head) (u' v' : Bool) (s t : List ℕ) (a b : List ℕ) (p q : List Hypothesis) (u v : List ℕ) (g l : List (List ℕ))
+    → h ≡ k → u' ≡ v' → s ≡ t → a ≡ b → p ≡ q → u ≡ v → g ≡ l
+    → made h s (record { whole = u'; hypotheses = a; asked = p; heads = u; groups = g }) ≡ made k t (record { whole = v'; hypotheses = b; asked = q; heads = v; groups = l })
+made-same h k u' v' s t a b p q u v g l e1 e0 e2 e3 e4 e5 e6 = cc
 
 abbrev sizes : ℕ → ℕ → ℕ → ℕ → Sizes
 sizes n h g r = record { numbers = n; hypotheses = h; groups = g; rows = r }
@@ -63,8 +63,9 @@ module _ (b m c : Buffers) (rs qs : List Record) (r : Record) (w : Row) (h : Hea
   placed = ap (λ t. place_by t c r (length c.numbers.items)) kind ∙ ap (row_place r) (get_or_from_slice_get c.rows.items r.row w no_row row-there)
 
   last-entry : entry_of c (row_place r w) ≡ made h p.symbols.now (assertion_of p)
-  last-entry = made-same (head_of r) h _ p.symbols.now _ p.hypotheses.now _ p.asked.now _ p.heads.now _ (cut p.places.now p.groups.now)
+  last-entry = made-same (head_of r) h w.whole p.whole _ p.symbols.now _ p.hypotheses.now _ p.asked.now _ p.heads.now _ (cut p.places.now p.groups.now)
       head
+      row.whole
       (ap (λ xs. slice_range xs r.from w.symbols) numbers ∙ (ap (λ n. slice_range m.numbers.items n w.symbols) from ∙ row.symbols))
       (ap (λ xs. slice_range xs w.hypotheses_from w.hypotheses) hypotheses ∙ row.hypotheses)
       (ap (λ xs. slice_range xs w.hypotheses_from w.hypotheses) asked ∙ row.asked)
@@ -88,7 +89,7 @@ module _ (b m c : Buffers) (rs qs : List Record) (r : Record) (w : Row) (h : Hea
           symbols = let x = row.from_symbols in omega arith;
           heads = row.symbols_heads;
           places = row.heads_places;
-          numbers = let x = row.whole in omega arith;
+          numbers = let x = row.within in omega arith;
           hypotheses = let x = row.hypotheses_from in let y = row.hypotheses_end in omega arith;
           hypotheses_end = let y = row.hypotheses_end in omega arith;
           groups = let x = row.groups_from in let y = row.groups_end in omega arith;
@@ -133,8 +134,9 @@ module _ (b c : Buffers) (rs qs : List Record) (r : Record) (h : Head) (codes : 
       record {
         last = plain_place r (length c.numbers.items) (length c.hypotheses.items) (length c.groups.items);
         behind = ap (places_of c) behind ∙ (places-push b c rs r ([], rows ∙ sym (append-nil b.rows.items)) plain-begins from packed.within ∙ ap (λ x. places_of b rs ++ x ∷ []) plain-placed);
-        entry = made-same (head_of r) h _ codes _ [] _ [] _ [] _ []
+        entry = made-same (head_of r) h false false _ codes _ [] _ [] _ [] _ []
             head
+            refl
             (range-behind b.numbers.items codes c.numbers.items c.numbers.items r.from (length c.numbers.items) from numbers refl (extends-refl c.numbers.items))
             (range-none c.hypotheses.items (length c.hypotheses.items))
             (range-none c.asked.items (length c.hypotheses.items))

@@ -24,6 +24,7 @@ is-entry b rs es i r v e = ap (λ xs. slice_get xs i) (sym v) ∙ (slice_get-map
 
 -- what the row of a statement says: of a statement that has none, that its parts are empty
 pub record IsReading (b : Buffers) (w : Row) (a : Assertion) : Type 0 where
+  pub whole : w.whole ≡ a.whole
   pub heads_in : w.symbols ≤ w.heads
   pub places_in : w.heads ≤ w.places
   pub numbers_in : w.places ≤ length b.numbers.items
@@ -39,6 +40,7 @@ pub record IsReading (b : Buffers) (w : Row) (a : Assertion) : Type 0 where
 
 reads-by : (t : Bool) (b : Buffers) (r : Record) (end : ℕ) → IsWithin (sizes_of b) (place_by t b r end) → HasGroups b (place_by t b r end) → IsReading b (row_by t b.rows.items r.row) (entry_of b (place_by t b r end)).assertion
 reads-by true b r end w g = record {
+  whole = refl;
   heads_in = w.heads;
   places_in = w.places;
   numbers_in = w.numbers;
@@ -53,6 +55,7 @@ reads-by true b r end w g = record {
   grouped = g;
 }
 reads-by false b r end w g = record {
+  whole = refl;
   heads_in = omega arith;
   places_in = omega arith;
   numbers_in = omega arith;

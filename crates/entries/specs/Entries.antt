@@ -1,8 +1,9 @@
 -- A statement as numbers, as plain lists.
 -- Metamath, 4.2.6 and 4.2.7: an assertion is cited by what it asks of its hypotheses. What the numbers mean is said in `frame`.
 -- The code keeps the lists of all statements in a few buffers.
-use Rattle.std.specs.Prelude.{◌≡◌, ℕ, List, [], length, slice_get, Some}
+use Rattle.std.specs.Prelude.{◌≡◌, ℕ, Bool, true, false, List, [], length, slice_get, Some}
 use Rattle.entries.specs.declared.citation.Hypothesis.{Hypothesis}
+use Rattle.entries.specs.declared.citation.Cited.{Cited}
 use Rattle.entries.specs.declared.links.Links.{Links}
 use Rattle.entries.specs.declared.kind.Kind.{Kind}
 use Rattle.entries.specs.declared.head.Head.{Head}
@@ -10,8 +11,10 @@ use Rattle.entries.specs.declared.parts.Parts.{Parts}
 use Rattle.entries.specs.declared.entry.EntryRef.{EntryRef}
 use Rattle.entries.specs.Spans.{cut, AreSpansIn}
 
--- hypotheses by position, what each is and its first symbol, and groups of variables; of most statements all lists are empty
+-- hypotheses by position, what each is and its first symbol, and groups of variables; of most statements all lists are empty.
+-- Whether these are whole, or only what the statement adds to what is active.
 pub record Assertion : Type 0 where
+  pub whole : Bool
   pub hypotheses : List ℕ
   pub asked : List Hypothesis
   pub heads : List ℕ
@@ -28,7 +31,7 @@ pub record Entry : Type 0 where
 
 -- the parts of an assertion that is added
 abbrev pub assertion_of : Parts → Assertion
-assertion_of p = record { hypotheses = p.hypotheses.now; asked = p.asked.now; heads = p.heads.now; groups = cut p.places.now p.groups.now }
+assertion_of p = record { whole = p.whole; hypotheses = p.hypotheses.now; asked = p.asked.now; heads = p.heads.now; groups = cut p.places.now p.groups.now }
 
 -- of each hypothesis it is said what it is, and the groups are parts of the places
 pub record AreShapedParts (p : Parts) : Type 0 where
@@ -41,11 +44,19 @@ made h codes a = record { kind = h.kind; label = h.label; names = h.names; links
 
 -- a statement that has no parts of an assertion
 abbrev pub plain : Head → List ℕ → Entry
-plain h codes = made h codes (record { hypotheses = []; asked = []; heads = []; groups = [] })
+plain h codes = made h codes (record { whole = false; hypotheses = []; asked = []; heads = []; groups = [] })
 
 -- the statement that was read
 abbrev pub seen : EntryRef → Assertion → Entry
 seen x a = record { kind = x.kind; label = x.label; names = x.names; links = x.links; symbols = x.symbols.now; assertion = a }
+
+-- the parts of a statement that are whole
+pub record AreWhole (e : Entry) (c : Cited) : Type 0 where
+  pub whole : e.assertion.whole ≡ true
+  pub heads : c.heads.now ≡ e.assertion.heads
+  pub hypotheses : c.hypotheses.now ≡ e.assertion.asked
+  pub conclusion : c.conclusion.now ≡ e.symbols
+  pub groups : c.groups ≡ e.assertion.groups
 
 abbrev pub IsEntry : List Entry → ℕ → EntryRef → Type 0
 IsEntry es i x = (a : Assertion) × (slice_get es i ≡ Some (seen x a))

@@ -15,6 +15,7 @@ use Rattle.entries.specs.Spans.{cut, AreSpansIn, Extends}
 -- a statement's head, and where its parts stand: numbers one part behind the other, each up to its end
 pub record Place : Type 0 where
   pub head : Head
+  pub whole : Bool
   pub from : ℕ
   pub symbols : ℕ
   pub heads : ℕ
@@ -34,6 +35,7 @@ entry_of b p = record {
   links = p.head.links;
   symbols = slice_range b.numbers.items p.from p.symbols;
   assertion = record {
+    whole = p.whole;
     hypotheses = slice_range b.hypotheses.items p.hypotheses_from p.hypotheses;
     asked = slice_range b.asked.items p.hypotheses_from p.hypotheses;
     heads = slice_range b.numbers.items p.symbols p.heads;
@@ -47,7 +49,7 @@ abbrev pub head_of : Record → Head
 head_of r = record { kind = r.kind; label = r.label; names = r.names; links = r.links }
 
 abbrev pub no_row : Row
-no_row = record { symbols = 0; heads = 0; places = 0; hypotheses_from = 0; hypotheses = 0; groups_from = 0; groups = 0 }
+no_row = record { whole = false; symbols = 0; heads = 0; places = 0; hypotheses_from = 0; hypotheses = 0; groups_from = 0; groups = 0 }
 
 abbrev pub row_by : Bool → List Row → ℕ → Row
 row_by true rows k = get_or rows k no_row
@@ -75,6 +77,7 @@ groups_at b k = groups_by (length b.groups.items) (slice_get b.rows.items k)
 abbrev pub row_place : Record → Row → Place
 row_place r w = record {
   head = head_of r;
+  whole = w.whole;
   from = r.from;
   symbols = w.symbols;
   heads = w.heads;
@@ -91,6 +94,7 @@ row_place r w = record {
 abbrev pub plain_place : Record → ℕ → ℕ → ℕ → Place
 plain_place r end hypotheses groups = record {
   head = head_of r;
+  whole = false;
   from = r.from;
   symbols = end;
   heads = end;
@@ -198,10 +202,11 @@ pub record AreEnds (old new : List ℕ) (p : Parts) (e : Ends) : Type 0 where
 
 -- the parts of an assertion stand in these buffers, from there on, where the row tells
 pub record IsRowOf (old new : Buffers) (p : Parts) (w : Row) : Type 0 where
+  pub whole : w.whole ≡ p.whole
   pub from_symbols : length old.numbers.items ≤ w.symbols
   pub symbols_heads : w.symbols ≤ w.heads
   pub heads_places : w.heads ≤ w.places
-  pub whole : w.places ≤ length new.numbers.items
+  pub within : w.places ≤ length new.numbers.items
   pub count : w.places - w.heads ≡ length p.places.now
   pub symbols : slice_range new.numbers.items (length old.numbers.items) w.symbols ≡ p.symbols.now
   pub heads : slice_range new.numbers.items w.symbols w.heads ≡ p.heads.now

@@ -1,6 +1,6 @@
 //! The statements of a database as numbers, by position.
-ghost use Rattle.std.specs.Prelude.{◌≡◌, ◌≤◌, ◌<◌, ◌+◌, ◌^◌, ◌++◌, ◌∷◌, [], length, take, slice_get, Some, OnOk, OnErr, IfOk};
-ghost use Rattle.entries.specs.Entries.{Entry, IsEntry, AreShapedParts, assertion_of, made, plain};
+ghost use Rattle.std.specs.Prelude.{◌≡◌, ◌≤◌, ◌<◌, ◌+◌, ◌^◌, ◌++◌, ◌∷◌, [], length, take, slice_get, Some, OnOk, OnErr, IfOk, IfSome};
+ghost use Rattle.entries.specs.Entries.{Entry, IsEntry, AreWhole, AreShapedParts, assertion_of, made, plain};
 ghost use Rattle.entries.specs.Records.{IsAdded, IsRowOf, ArePacked, Grows, AreEnds, places_of};
 ghost use Rattle.entries.specs.Spans.{Extends};
 
@@ -96,24 +96,33 @@ impl Entries {
         part(hypotheses, row.hypotheses_from, row.hypotheses)
     }
 
-    /// The parts of the assertion at an index.
-    pub fn cited(&self, index: usize) -> Cited<'_>
+    /// Whether the parts of the assertion at an index are whole.
+    pub fn is_whole(&self, index: usize) -> bool
         requires { index < length self.now }
-        ensures heads { (e : Entry) → slice_get self.now index ≡ Some e → result.heads.now ≡ e.assertion.heads }
-        ensures hypotheses { (e : Entry) → slice_get self.now index ≡ Some e → result.hypotheses.now ≡ e.assertion.asked }
-        ensures conclusion { (e : Entry) → slice_get self.now index ≡ Some e → result.conclusion.now ≡ e.symbols }
-        ensures groups { (e : Entry) → slice_get self.now index ≡ Some e → result.groups ≡ e.assertion.groups }
+        ensures { (e : Entry) → slice_get self.now index ≡ Some e → result ≡ e.assertion.whole }
+    {
+        row_of(&self.buffers.rows, item(&self.records, index)).whole
+    }
+
+    /// The parts of the assertion at an index, where they are whole.
+    pub fn cited(&self, index: usize) -> Option<Cited<'_>>
+        requires { index < length self.now }
+        ensures { (e : Entry) → slice_get self.now index ≡ Some e → IfSome result (AreWhole e) }
     {
         let row = row_of(&self.buffers.rows, item(&self.records, index));
         let numbers = self.buffers.numbers.as_slice();
-        Cited {
-            heads: part(numbers, row.symbols, row.heads),
-            hypotheses: part(&self.buffers.asked, row.hypotheses_from, row.hypotheses),
-            conclusion: self.entry(index).symbols,
-            groups: Groups {
-                spans: part(&self.buffers.groups, row.groups_from, row.groups),
-                places: part(numbers, row.heads, row.places),
-            },
+        if row.whole {
+            Some(Cited {
+                heads: part(numbers, row.symbols, row.heads),
+                hypotheses: part(&self.buffers.asked, row.hypotheses_from, row.hypotheses),
+                conclusion: self.entry(index).symbols,
+                groups: Groups {
+                    spans: part(&self.buffers.groups, row.groups_from, row.groups),
+                    places: part(numbers, row.heads, row.places),
+                },
+            })
+        } else {
+            None
         }
     }
 
@@ -230,6 +239,7 @@ fn add_parts(buffers: &mut Buffers, parts: &Parts<'_>) -> Result<Row, AllocError
     let groups_from = place(buffers.groups.len())?;
     let groups = append(&mut buffers.groups, parts.groups)?;
     Ok(Row {
+        whole: parts.whole,
         symbols: ends.symbols,
         heads: ends.heads,
         places: ends.places,

@@ -1,5 +1,6 @@
 //! Lists of numbers, one behind the other.
 ghost use Rattle.std.specs.Prelude.{◌≡◌, ◌<◌, length, slice_get, Some};
+ghost use Rattle.entries.specs.Spans.{cut, AreSpansIn};
 
 use crate::span::{Span, item, part};
 use std::marker::Model;
@@ -24,6 +25,14 @@ impl<'a> Model for Groups<'a> {
 }
 
 impl<'a> Groups<'a> {
+    /// These parts of the numbers.
+    pub fn new(spans: &'a [Span], places: &'a [u32]) -> Groups<'a>
+        requires { AreSpansIn (length places.now) spans.now }
+        ensures { result ≡ cut places.now spans.now }
+    {
+        Groups { spans, places }
+    }
+
     /// How many lists there are.
     pub fn len(&self) -> usize
         ensures { result ≡ length self.now }

@@ -5,6 +5,8 @@ use crate::span::Span;
 /// A statement's symbols, and the parts of an assertion. Most other statements have none.
 #[derive(Clone, Copy, Drop)]
 pub struct Parts<'a> {
+    /// Whether these are all hypotheses and groups, or only what the statement adds to what is active.
+    pub whole: bool,
     /// The numbers of its symbols.
     pub symbols: &'a [u32],
     /// The positions of its hypotheses, in order.

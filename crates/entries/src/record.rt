@@ -26,6 +26,7 @@ pub struct Record {
 /// behind the other, each part up to its end.
 #[derive(Clone, Copy, Drop)]
 pub struct Row {
+    pub whole: bool,
     pub symbols: u32,
     pub heads: u32,
     pub places: u32,
@@ -38,6 +39,7 @@ pub struct Row {
 
 /// The row of a statement that has no parts of an assertion.
 const NO_ROW: Row = Row {
+    whole: false,
     symbols: 0,
     heads: 0,
     places: 0,

@@ -6,7 +6,7 @@ use Rattle.mm_lex.specs.Alphabet.{Name}
 use Rattle.mm_read.specs.declared.stmt.Stmt.{Stmt}
 use Rattle.mm_read.specs.declared.stmt.Stmt.TheVariants as stmt
 use Rattle.mm_read.specs.Statements.{Expr, Database}
-use Rattle.scope.specs.Active.{active, active_from, stays_open, expr_of, is_assertion, is_essential}
+use Rattle.scope.specs.Active.{active, active_from, stays_open, expr_of, is_essential}
 use Rattle.names.specs.Codes.{name_at, decode}
 use Rattle.frame.specs.FrameOf.{hypotheses, is_hypothesis}
 use Rattle.frame.specs.Links.{actives, is_disj}
@@ -15,7 +15,7 @@ use Rattle.frame.specs.Cited.{head_of}
 use Rattle.entries.specs.declared.kind.Kind.{Kind}
 use Rattle.entries.specs.declared.kind.Kind.TheVariants.{Open, Close, Const, Var, Disj, Float, Ess, Axiom, Prove}
 use Rattle.entries.specs.Entries.{Entry, Assertion}
-use Rattle.frame.specs.Stored.{stmt_by, stmt_of, AreHypotheses, AreParts, AreFloats, IsKeptAs, kept_with, is_float_in, floats_in, is_hypothesis_entry, variable_at, option_variable, option_asked, symbols_at, option_symbols, groups_by, with_floats, collected}
+use Rattle.frame.specs.Stored.{stmt_by, stmt_of, AreHypotheses, AreParts, IsKeptAs, kept_with, is_float_in, floats_in, is_hypothesis_entry, variable_at, option_variable, option_asked, symbols_at, option_symbols, groups_by, with_floats, collected}
 
 pub get-entry : (names labels : List Name) (es : List Entry) (i : ℕ) (s : Stmt) → slice_get (map (stmt_of names labels) es) i ≡ Some s → (e : Entry) × (slice_get es i ≡ Some e) × (stmt_of names labels e ≡ s)
 get-entry names labels [] i s h = cc
@@ -108,38 +108,9 @@ hypotheses-are names labels es s = hypotheses-of names labels es (is_hypothesis 
 pub floats-are : (names labels : List Name) (es : List Entry) (e : Expr) → AreHypotheses es (floats_in (map (stmt_of names labels) es) e)
 floats-are names labels es e = hypotheses-of names labels es (is_float_in e) (float-kinds-in e)
 
-pub kept-are : (names labels : List Name) (es : List Entry) (s : Stmt) → AreHypotheses es (kept_with (map (stmt_of names labels) es) s)
-kept-are names labels es (stmt.Ess l e) = floats-are names labels es e
-kept-are names labels es stmt.Open = hypotheses-are names labels es stmt.Open
-kept-are names labels es stmt.Close = hypotheses-are names labels es stmt.Close
-kept-are names labels es (stmt.Const ws) = hypotheses-are names labels es (stmt.Const ws)
-kept-are names labels es (stmt.Var ws) = hypotheses-are names labels es (stmt.Var ws)
-kept-are names labels es (stmt.Disj ws) = hypotheses-are names labels es (stmt.Disj ws)
-kept-are names labels es (stmt.Float l c x) = hypotheses-are names labels es (stmt.Float l c x)
-kept-are names labels es (stmt.Axiom l e) = hypotheses-are names labels es (stmt.Axiom l e)
-kept-are names labels es (stmt.Prove l e p) = hypotheses-are names labels es (stmt.Prove l e p)
-
-pub asserted : (S : Database) (s : Stmt) → is_assertion s ≡ true → kept_with S s ≡ hypotheses S s
-asserted S (stmt.Axiom l e) h = refl
-asserted S (stmt.Prove l e p) h = refl
-asserted S (stmt.Ess l e) h = cc
-asserted S stmt.Open h = cc
-asserted S stmt.Close h = cc
-asserted S (stmt.Const ws) h = cc
-asserted S (stmt.Var ws) h = cc
-asserted S (stmt.Disj ws) h = cc
-asserted S (stmt.Float l c x) h = cc
-
-pub noted : (S : Database) (s : Stmt) → is_essential s ≡ true → kept_with S s ≡ floats_in S (expr_of s)
-noted S (stmt.Ess l e) h = refl
-noted S (stmt.Axiom l e) h = cc
-noted S (stmt.Prove l e p) h = cc
-noted S stmt.Open h = cc
-noted S stmt.Close h = cc
-noted S (stmt.Const ws) h = cc
-noted S (stmt.Var ws) h = cc
-noted S (stmt.Disj ws) h = cc
-noted S (stmt.Float l c x) h = cc
+pub kept-are : (names labels : List Name) (es : List Entry) (whole : Bool) (s : Stmt) → AreHypotheses es (kept_with whole (map (stmt_of names labels) es) s)
+kept-are names labels es true s = hypotheses-are names labels es s
+kept-are names labels es false s = floats-are names labels es (expr_of s)
 
 -- ---- more behind it, or less
 
@@ -182,8 +153,8 @@ module _ (names labels : List Name) (es more : List Entry) (s : Stmt) (d : Asser
   abbrev front : Database
   front = map (stmt_of names labels) es
 
-  there : d.hypotheses ≡ kept_with front s → AreHypotheses es d.hypotheses
-  there h = subst (AreHypotheses es) (sym h) (kept-are names labels es s)
+  there : d.hypotheses ≡ kept_with d.whole front s → AreHypotheses es d.hypotheses
+  there h = subst (AreHypotheses es) (sym h) (kept-are names labels es d.whole s)
 
   groups-same : (ps : List ℕ) → AreHypotheses es ps
       → groups_by (map (variable_at es) ps) (map (λ q. symbols_at es q.0) (actives is_disj front)) ≡ groups_by (map (variable_at (es ++ more)) ps) (map (λ q. symbols_at (es ++ more) q.0) (actives is_disj front))
@@ -199,6 +170,7 @@ module _ (names labels : List Name) (es more : List Entry) (s : Stmt) (d : Asser
         asked_kept = k.asked_kept ∙ maps-same option_asked es more d.hypotheses h;
         heads_kept = k.heads_kept ∙ maps-same (λ p o. head_of (option_symbols o)) es more d.hypotheses h;
         groups_kept = λ a. k.groups_kept a ∙ groups-same d.hypotheses h;
+        own_kept = k.own_kept;
       }
 
   pub kept-less : IsKeptAs (es ++ more) front s d → IsKeptAs es front s d
@@ -209,6 +181,7 @@ module _ (names labels : List Name) (es more : List Entry) (s : Stmt) (d : Asser
         asked_kept = k.asked_kept ∙ sym (maps-same option_asked es more d.hypotheses h);
         heads_kept = k.heads_kept ∙ sym (maps-same (λ p o. head_of (option_symbols o)) es more d.hypotheses h);
         groups_kept = λ a. k.groups_kept a ∙ sym (groups-same d.hypotheses h);
+        own_kept = k.own_kept;
       }
 
 -- what was kept behind the first i entries is kept in any list that begins with these
@@ -224,29 +197,16 @@ kept-moved names labels es fs i s d same k =
     subst (λ x. IsKeptAs x S s d) (sym up) (subst (λ T. IsKeptAs (few ++ drop i fs) T s d) (sym is) (kept-more names labels few (drop i fs) s d low))
 
 -- what was made of the symbols of s is what s is kept as
-pub parts-kept : (es : List Entry) (S : Database) (s : Stmt) (codes : List ℕ) (d : Assertion) → is_assertion s ≡ true → collected es S codes ≡ hypotheses S s → AreParts es S codes d → IsKeptAs es S s d
-parts-kept es S s codes d a found p = record {
-  hypotheses_kept = p.hypotheses_found ∙ (found ∙ sym (asserted S s a));
+pub parts-kept : (es : List Entry) (S : Database) (s : Stmt) (codes : List ℕ) (d : Assertion) → collected es S codes ≡ hypotheses S s → with_floats es S codes [] ≡ floats_in S (expr_of s)
+    → (is_essential s ≡ true → d.whole ≡ false) → AreParts es S codes d → IsKeptAs es S s d
+parts-kept es S s codes d all own partial p = record {
+  hypotheses_kept = p.hypotheses_found ∙ by d.whole;
   asked_kept = p.described.asked_made;
   heads_kept = p.described.heads_made;
-  groups_kept = λ h. p.groups_made;
-}
-
-pub floats-kept : (es : List Entry) (S : Database) (s : Stmt) (codes : List ℕ) (d : Assertion) → is_essential s ≡ true → with_floats es S codes [] ≡ floats_in S (expr_of s) → AreFloats es S codes d → IsKeptAs es S s d
-floats-kept es S s codes d a found p = record {
-  hypotheses_kept = p.floats_found ∙ (found ∙ sym (noted S s a));
-  asked_kept = p.floats_described.asked_made;
-  heads_kept = p.floats_described.heads_made;
-  groups_kept = λ h. absurd (not-both s a h);
+  groups_kept = p.groups_made;
+  own_kept = partial;
 }
   where
-    not-both : (t : Stmt) → is_essential t ≡ true → is_assertion t ≡ true → ⊥
-    not-both (stmt.Ess l e) h g = cc
-    not-both stmt.Open h g = cc
-    not-both stmt.Close h g = cc
-    not-both (stmt.Const ws) h g = cc
-    not-both (stmt.Var ws) h g = cc
-    not-both (stmt.Disj ws) h g = cc
-    not-both (stmt.Float l c x) h g = cc
-    not-both (stmt.Axiom l e) h g = cc
-    not-both (stmt.Prove l e p) h g = cc
+    by : (b : Bool) → cond b (collected es S codes) (with_floats es S codes []) ≡ kept_with b S s
+    by true = all
+    by false = own

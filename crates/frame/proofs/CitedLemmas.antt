@@ -3,20 +3,21 @@ use Rattle.std.specs.Prelude.{◌≡◌, ℕ, zero, suc, ◌+◌, true, List, le
 use Rattle.std.proofs.Common.{sym, ◌∙◌, ap, subst, arith}
 use Rattle.mm_lex.specs.Alphabet.{Name}
 use Rattle.mm_read.specs.declared.stmt.Stmt.{Stmt}
-use Rattle.scope.specs.Active.{is_assertion}
+use Rattle.scope.specs.Active.{expr_of, is_assertion}
 use Rattle.names.specs.Codes.{name_at, decode, AreDistinct}
 use Rattle.frame.specs.FrameOf.{HasAssertion}
 use Rattle.entries.specs.declared.citation.Cited.{Cited}
-use Rattle.entries.specs.Entries.{Entry}
+use Rattle.entries.specs.Entries.{Entry, Assertion, AreWhole}
 use Rattle.entries.specs.declared.kind.Kind.{Kind}
 use Rattle.entries.specs.declared.kind.Kind.TheVariants.{Open, Close, Const, Var, Disj, Float, Ess, Axiom, Prove}
 use Rattle.frame.specs.declared.storage.Stock.{Stock}
-use Rattle.frame.specs.Cited.{IsCited}
+use Rattle.frame.specs.Below.{AreBelow}
+use Rattle.frame.specs.Cited.{AreListsOf, IsCited}
 use Rattle.frame.specs.Bound.{IsBound}
 use Rattle.frame.specs.Reading.{AreLegal}
 use Rattle.frame.specs.Stored.{stmt_by, stmt_of, statements_of, AreStored, IsKeptAs, has_parts}
 use Rattle.frame.proofs.AssertionLemmas.{get-entry}
-use Rattle.frame.proofs.KeptLemmas.{cited-at}
+use Rattle.frame.proofs.KeptLemmas.{own-expr, numbered-at, lists-at, lists-cited}
 use Rattle.frame.proofs.BoundLemmas.{bound, bound-single}
 use Rattle.frame.proofs.LegalLabels.{legal-labels}
 
@@ -48,13 +49,25 @@ is-there k (suc i) s stored h =
     let asserts : is_assertion (stmt_of k.names k.labels e.0) ≡ true = ap is_assertion e.2 ∙ h.1 in
     (i, e.0, record { place = omega arith; here = e.1; is = e.2; kept = stored.parts_kept i e.0 e.1 (parts-kind k.names k.labels e.0 asserts) })
 
-pub there-cited : (k : Stock) (a i : ℕ) (s : Stmt) (e : Entry) (c : Cited) → AreStored k → AreDistinct k.names → is_assertion s ≡ true → IsThere k a i s e
-    → c.heads.now ≡ e.assertion.heads → c.hypotheses.now ≡ e.assertion.asked → c.conclusion.now ≡ e.symbols → c.groups ≡ e.assertion.groups
-    → IsCited (statements_of k) k.names a s c
-there-cited k a i s e c stored distinct asserts t p q r g =
-    subst (λ n. IsCited (statements_of k) k.names n s c) (sym t.place)
-    (subst (λ x. IsCited (statements_of k) k.names (i + 1) x c) t.is
-    (cited-at k.entries k.names k.labels (length k.labels) i e e.assertion distinct stored.coded stored.legal t.here (ap is_assertion t.is ∙ asserts) t.kept c p q r g))
+-- the expression of the assertion, by numbers
+pub there-expr : (k : Stock) (a i : ℕ) (s : Stmt) (e : Entry) → AreStored k → is_assertion s ≡ true → IsThere k a i s e → (decode k.names e.symbols ≡ expr_of s) × AreBelow (length k.names) e.symbols
+there-expr k a i s e stored asserts t = (
+  sym (ap expr_of (sym t.is) ∙ own-expr k.names e.kind (name_at k.labels e.label) e.symbols (ap is_assertion t.is ∙ asserts)),
+  (numbered-at (length k.names) (length k.labels) k.entries i e stored.coded t.here).0,
+)
+
+-- lists of which all is said are those of the assertion
+pub there-lists : (k : Stock) (a i : ℕ) (s : Stmt) (e : Entry) (d : Assertion) → AreStored k → AreDistinct k.names → is_assertion s ≡ true → IsThere k a i s e
+    → IsKeptAs k.entries (take i (statements_of k)) (stmt_of k.names k.labels e) d → d.whole ≡ true → AreListsOf (statements_of k) k.names a d s
+there-lists k a i s e d stored distinct asserts t kept whole =
+    subst (λ n. AreListsOf (statements_of k) k.names n d s) (sym t.place)
+    (subst (λ x. AreListsOf (statements_of k) k.names (i + 1) d x) t.is
+    (lists-at k.entries k.names k.labels (length k.labels) i e d distinct stored.coded stored.legal t.here (ap is_assertion t.is ∙ asserts) kept whole))
+
+pub there-cited : (k : Stock) (a i : ℕ) (s : Stmt) (e : Entry) (c : Cited) → AreStored k → AreDistinct k.names → is_assertion s ≡ true → IsThere k a i s e → AreWhole e c → IsCited (statements_of k) k.names a s c
+there-cited k a i s e c stored distinct asserts t w =
+    let x = there-expr k a i s e stored asserts t in
+    lists-cited (statements_of k) k.names a s e.assertion e.symbols (there-lists k a i s e e.assertion stored distinct asserts t t.kept w.whole) x.0 x.1 c w.heads w.hypotheses w.conclusion w.groups
 
 pub all-legal : (k : Stock) → AreStored k → AreDistinct k.names → AreLegal (statements_of k) k.names
 all-legal k stored distinct =

@@ -217,7 +217,7 @@ module _ (es : List Entry) (S : Database) where
       by more k (inl e) x = more (inl (in-float p c list (inr (subst (λ n. IsFloatOf n p) e x))))
       by more k (inr j) x = more (inr (record { code = k; among = j; float = x }))
 
-  ascends-floats : (codes list : List ℕ) → Ascends list → Ascends (with_floats es S codes list)
+  pub ascends-floats : (codes list : List ℕ) → Ascends list → Ascends (with_floats es S codes list)
   ascends-floats [] list a = a
   ascends-floats (c ∷ codes) list a = ascends-floats codes (with_float es S c list) (ascends-float c list a)
 
@@ -333,7 +333,7 @@ members-active q n (a ∷ A) t B stays h =
         one true = inr more
         one false = more
 
-ascends-active : (q : Stmt → Bool) (n : ℕ) (T : Database) → ((k : ℕ) → k < n → AreAbove k (map (λ x. x.0) (filter (λ x. q x.1) (active_from n T)))) × Ascends (map (λ x. x.0) (filter (λ x. q x.1) (active_from n T)))
+pub ascends-active : (q : Stmt → Bool) (n : ℕ) (T : Database) → ((k : ℕ) → k < n → AreAbove k (map (λ x. x.0) (filter (λ x. q x.1) (active_from n T)))) × Ascends (map (λ x. x.0) (filter (λ x. q x.1) (active_from n T)))
 ascends-active q n [] = (λ k h. tt, tt)
 ascends-active q n (t ∷ T) = by (ascends-active q (n + 1) T) (stays_open 0 T)
   where

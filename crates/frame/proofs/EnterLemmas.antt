@@ -1,12 +1,11 @@
 -- A statement entered with its label stands for itself.
-use Rattle.std.specs.Prelude.{◌≡◌, ℕ, ◌+◌, List, [], ◌∷◌, ◌++◌, length, take, slice_get, Some, Result, Ok, Err, OnOk, true, ◌||◌, refl}
+use Rattle.std.specs.Prelude.{◌≡◌, ℕ, ◌+◌, List, [], ◌∷◌, ◌++◌, length, take, slice_get, Some, Result, Ok, Err, OnOk, Bool, true, ◌||◌, refl}
 use Rattle.std.proofs.Common.{sym, ◌∙◌, ap, subst, arith, length-append}
 use Rattle.std.proofs.lemmas.List.{length-map}
 use Rattle.mm_lex.specs.Alphabet.{Name}
 use Rattle.mm_read.specs.declared.stmt.Stmt.{Stmt}
 use Rattle.mm_read.specs.declared.stmt.Stmt.TheVariants as stmt
 use Rattle.scope.specs.Active.{bare, label_of, expr_of, is_assertion, is_essential}
-use Rattle.scope.specs.Legal.{IsLegal}
 use Rattle.names.specs.Codes.{name_at, decode, with_names}
 use Rattle.scope.specs.Symbols.{symbols_by, symbols_in}
 use Rattle.frame.specs.Below.{AreBelow}
@@ -18,9 +17,8 @@ use Rattle.entries.specs.declared.kind.Kind.{Kind}
 use Rattle.entries.specs.declared.kind.Kind.TheVariants.{Open, Close, Const, Var, Disj, Float, Ess, Axiom, Prove}
 use Rattle.frame.specs.Drafts.{IsDraft, IsPartless}
 use Rattle.frame.specs.declared.storage.Stock.{Stock}
-use Rattle.frame.specs.Stored.{stmt_by, stmt_of, AreStored, floats_in, AreNumbersOf, Entered, IsHead, IsKeptOf, IsNext, IsNextEssential, statements_of, kind_of, has_parts, IsLabelBelow, HasTwo, option_list, option_position}
+use Rattle.frame.specs.Stored.{stmt_by, stmt_of, AreStored, floats_in, kept_with, AreNumbersOf, Entered, IsHead, IsKeptOf, IsNext, statements_of, kind_of, has_parts, IsLabelBelow, HasTwo, option_list, option_position}
 use Rattle.frame.proofs.SymbolsLemmas.{symbols_by-bare}
-use Rattle.frame.proofs.AssertionLemmas.{noted}
 
 name_at-last : (names : List Name) (x : Name) → name_at (names ++ x ∷ []) (length names) ≡ x
 name_at-last [] x = refl
@@ -33,6 +31,10 @@ ok-both (Err e) P Q R f p q = tt
 pub ok-map : {T E : Type 0} (r : Result T E) (P Q : Type 0) → (P → Q) → OnOk r P → OnOk r Q
 ok-map (Ok x) P Q f p = f p
 ok-map (Err e) P Q f p = tt
+
+pub ok-given : {T E : Type 0} (r : Result T E) (A P Q R : Type 0) → (P → (A → Q) → R) → OnOk r P → (A → OnOk r Q) → OnOk r R
+ok-given (Ok x) A P Q R f p q = f p q
+ok-given (Err e) A P Q R f p q = tt
 
 pub ok-same : {T E : Type 0} (r : Result T E) (P : Type 0) → P → OnOk r P
 ok-same (Ok x) P p = p
@@ -106,28 +108,17 @@ parts-kind (stmt.Ess label expr) = refl
 parts-kind (stmt.Axiom label expr) = refl
 parts-kind (stmt.Prove label expr proof) = refl
 
-pub next-essential : (k : Stock) (codes : List ℕ) (s : Stmt) → is_essential s ≡ true → decode k.names codes ≡ symbols_in s → IsNextEssential k codes (bare s)
-next-essential k codes (stmt.Ess label expr) a e = record { essential = a; stand = e }
-next-essential k codes stmt.Open a e = cc
-next-essential k codes stmt.Close a e = cc
-next-essential k codes (stmt.Const names) a e = cc
-next-essential k codes (stmt.Var names) a e = cc
-next-essential k codes (stmt.Disj names) a e = cc
-next-essential k codes (stmt.Float label constant variable) a e = cc
-next-essential k codes (stmt.Axiom label expr) a e = cc
-next-essential k codes (stmt.Prove label expr proof) a e = cc
-
--- the numbers are those of the expression, where the statement is an assertion
-pub next-bare : (k : Stock) (codes : List ℕ) (s : Stmt) → IsLegal (statements_of k) s → is_assertion s ≡ true → decode k.names codes ≡ symbols_in s → IsNext k codes (bare s)
-next-bare k codes (stmt.Axiom label expr) l a e = record { legal = l; assertion = a; stand = e }
-next-bare k codes (stmt.Prove label expr proof) l a e = record { legal = l; assertion = a; stand = e }
-next-bare k codes stmt.Open l a e = cc
-next-bare k codes stmt.Close l a e = cc
-next-bare k codes (stmt.Const names) l a e = cc
-next-bare k codes (stmt.Var names) l a e = cc
-next-bare k codes (stmt.Disj names) l a e = cc
-next-bare k codes (stmt.Float label constant variable) l a e = cc
-next-bare k codes (stmt.Ess label expr) l a e = cc
+-- the numbers are those of the expression, where the statement is an assertion or a `$e`
+pub next-bare : (k : Stock) (is_own : Bool) (codes : List ℕ) (s : Stmt) → (is_essential s ≡ true → is_own ≡ true) → has_parts (kind_of s) ≡ true → decode k.names codes ≡ symbols_in s → IsNext k is_own codes (bare s)
+next-bare k w codes (stmt.Axiom label expr) l a e = record { own = l; stand = e }
+next-bare k w codes (stmt.Prove label expr proof) l a e = record { own = l; stand = e }
+next-bare k w codes (stmt.Ess label expr) l a e = record { own = l; stand = e }
+next-bare k w codes stmt.Open l a e = cc
+next-bare k w codes stmt.Close l a e = cc
+next-bare k w codes (stmt.Const names) l a e = cc
+next-bare k w codes (stmt.Var names) l a e = cc
+next-bare k w codes (stmt.Disj names) l a e = cc
+next-bare k w codes (stmt.Float label constant variable) l a e = cc
 
 -- the numbers of the symbols, then the parts, then the label: what is kept is the statement
 pub entered-statement : (old mid new : Stock) (codes : List ℕ) (d : Assertion) (h : Head) (s : Stmt) → IsHead old (bare s) h
@@ -158,11 +149,23 @@ entered-statement old mid new codes d h s head made_names numbers same_names lab
       kept = λ a. kept (sym (ap has_parts kind) ∙ a);
     }
 
+pub not-essential : (s : Stmt) → is_assertion s ≡ true → is_essential s ≡ true → ⊥
+not-essential (stmt.Axiom label expr) a e = cc
+not-essential (stmt.Prove label expr proof) a e = cc
+not-essential (stmt.Ess label expr) a e = cc
+not-essential stmt.Open a e = cc
+not-essential stmt.Close a e = cc
+not-essential (stmt.Const names) a e = cc
+not-essential (stmt.Var names) a e = cc
+not-essential (stmt.Disj names) a e = cc
+not-essential (stmt.Float label constant variable) a e = cc
+
 -- what is kept with each `$e`
 pub essentials-kept : (k : Stock) → AreStored k → (i : ℕ) (x : Entry) → slice_get k.entries i ≡ Some x → is_essential (stmt_of k.names k.labels x) ≡ true
     → x.assertion.hypotheses ≡ floats_in (take i (statements_of k)) (expr_of (stmt_of k.names k.labels x))
 essentials-kept k stored i x h e =
-    (stored.parts_kept i x h (by x.kind e)).hypotheses_kept ∙ noted (take i (statements_of k)) (stmt_of k.names k.labels x) e
+    let kept = stored.parts_kept i x h (by x.kind e) in
+    kept.hypotheses_kept ∙ ap (λ b. kept_with b (take i (statements_of k)) (stmt_of k.names k.labels x)) (kept.own_kept e)
   where
     by : (kind : Kind) → is_essential (stmt_by kind (name_at k.labels x.label) (decode k.names x.symbols)) ≡ true → has_parts kind ≡ true
     by Ess g = refl

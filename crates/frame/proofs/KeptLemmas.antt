@@ -13,16 +13,15 @@ use Rattle.names.specs.Codes.{name_at, decode, AreDistinct}
 use Rattle.frame.specs.FrameOf.{is_mandatory, is_hypothesis, hypotheses, variable_of, variables_of, is_some_name, has_place, separates}
 use Rattle.frame.specs.FrameOf as frame_of
 use Rattle.frame.specs.Below.{AreBelow, AllBelow}
-use Rattle.frame.specs.Cited.{head_of, IsHead, IsOf, IsAsked, AreAsked, IsCited}
+use Rattle.frame.specs.Cited.{head_of, IsHead, IsOf, IsAsked, AreAsked, AreListsOf, IsCited}
 use Rattle.entries.specs.declared.citation.Cited.{Cited}
 use Rattle.entries.specs.declared.kind.Kind.{Kind}
 use Rattle.entries.specs.declared.kind.Kind.TheVariants.{Open, Close, Const, Var, Disj, Float, Ess, Axiom, Prove}
 use Rattle.entries.specs.Entries.{Entry, Assertion}
 use Rattle.frame.specs.Links.{actives, actives_from, is_disj}
-use Rattle.frame.specs.Stored.{stmt_by, stmt_of, AreAllLegal, AreNumbered, HasTwo, variable_by, variable_at, is_code, place_from, place_of, is_placed, placed, symbols_at, option_symbols, has_two, groups_by, head_at, asked_by, option_asked, asked_at, IsKeptAs}
+use Rattle.frame.specs.Stored.{stmt_by, stmt_of, AreAllLegal, AreNumbered, HasTwo, variable_by, variable_at, is_code, place_from, place_of, is_placed, placed, symbols_at, option_symbols, has_two, groups_by, head_at, asked_by, option_asked, asked_at, kept_with, IsKeptAs}
 use Rattle.frame.proofs.LegalLabels.{AllKept}
 use Rattle.frame.proofs.PlacesLemmas.{mandatory-place}
-use Rattle.frame.proofs.AssertionLemmas.{asserted}
 
 -- ---- lists
 
@@ -184,7 +183,7 @@ numbered-at n m [] k e a h = cc
 numbered-at n m (x ∷ es) zero e a h = let same : x ≡ e = cc in subst (λ v. AreBelow n v.symbols × HasTwo v.kind v.symbols) same (a.0, a.3)
 numbered-at n m (x ∷ es) (suc k) e a h = numbered-at n m es k e a.2 h
 
-own-expr : (names : List Name) (kind : Kind) (label : Name) (codes : List ℕ) → is_assertion (stmt_by kind label (decode names codes)) ≡ true → expr_of (stmt_by kind label (decode names codes)) ≡ decode names codes
+pub own-expr : (names : List Name) (kind : Kind) (label : Name) (codes : List ℕ) → is_assertion (stmt_by kind label (decode names codes)) ≡ true → expr_of (stmt_by kind label (decode names codes)) ≡ decode names codes
 own-expr names Axiom label codes h = refl
 own-expr names Prove label codes h = refl
 own-expr names Open label codes h = cc
@@ -251,7 +250,7 @@ hyps S s = hyps-from S s [] S 1 refl refl
 module _ (es : List Entry) (names labels : List Name) (m a : ℕ) (e : Entry) (d : Assertion)
     (distinct : AreDistinct names) (numbered : AreNumbered (length names) m es) (legal : AreAllLegal (map (stmt_of names labels) es))
     (positive : 1 ≤ a) (here : slice_get es (a - 1) ≡ Some e) (asserts : is_assertion (stmt_of names labels e) ≡ true)
-    (kept : IsKeptAs es (before (map (stmt_of names labels) es) a) (stmt_of names labels e) d) where
+    (kept : IsKeptAs es (before (map (stmt_of names labels) es) a) (stmt_of names labels e) d) (whole : d.whole ≡ true) where
   abbrev all : Database
   all = map (stmt_of names labels) es
 
@@ -317,7 +316,7 @@ module _ (es : List Entry) (names labels : List Name) (m a : ℕ) (e : Entry) (d
       (subst (λ o. OptionBelow (length names) (Rattle.frame.specs.Stored.option_variable o)) (sym x.found) (variable-below (length names) x.entry.kind x.entry.symbols x.codes), places-below ps h.1)
 
   hyps-are : d.hypotheses ≡ hypotheses front_of own
-  hyps-are = kept.hypotheses_kept ∙ asserted front_of own asserts
+  hyps-are = kept.hypotheses_kept ∙ ap (λ b. kept_with b front_of own) whole
 
   own-hyps : AreHyps front_of own d.hypotheses
   own-hyps = subst (AreHyps front_of own) (sym hyps-are) (hyps front_of own)
@@ -461,21 +460,29 @@ module _ (es : List Entry) (names labels : List Name) (m a : ℕ) (e : Entry) (d
 
   -- ---- what is read of it
 
-  pub kept-cited : (c : Cited) → c.heads.now ≡ d.heads → c.hypotheses.now ≡ d.asked → c.conclusion.now ≡ e.symbols → c.groups ≡ d.groups → IsCited all names a own c
-  kept-cited c p q k g = record {
-    asked = subst (λ hs. AreAsked all names (hypotheses front_of own) hs c.hypotheses.now) (sym p) (subst (AreAsked all names (hypotheses front_of own) d.heads) (sym q) kept-asked);
-    conclusion = ap (decode names) k ∙ sym (own-expr names e.kind (name_at labels e.label) e.symbols asserts);
-    conclusion_below = subst (AreBelow (length names)) (sym k) own-codes;
-    groups = ap (map (decode names)) (g ∙ kept.groups_kept asserts) ∙ groups-from [] front_of 1 refl refl;
-    groups_below = subst (AllBelow (length names)) (sym (g ∙ kept.groups_kept asserts)) (groups-low (actives is_disj front_of));
+  pub kept-lists : AreListsOf all names a d own
+  kept-lists = record {
+    asked = kept-asked;
+    groups = ap (map (decode names)) (kept.groups_kept whole) ∙ groups-from [] front_of 1 refl refl;
+    groups_below = subst (AllBelow (length names)) (sym (kept.groups_kept whole)) (groups-low (actives is_disj front_of));
   }
 
+-- the lists, and the expression, are what is cited
+pub lists-cited : (S : Database) (names : List Name) (a : ℕ) (s : Stmt) (d : Assertion) (codes : List ℕ) → AreListsOf S names a d s → decode names codes ≡ expr_of s → AreBelow (length names) codes
+    → (c : Cited) → c.heads.now ≡ d.heads → c.hypotheses.now ≡ d.asked → c.conclusion.now ≡ codes → c.groups ≡ d.groups → IsCited S names a s c
+lists-cited S names a s d codes l stand low c p q k g = record {
+  asked = subst (λ hs. AreAsked S names (hypotheses (before S a) s) hs c.hypotheses.now) (sym p) (subst (AreAsked S names (hypotheses (before S a) s) d.heads) (sym q) l.asked);
+  conclusion = ap (decode names) k ∙ stand;
+  conclusion_below = subst (AreBelow (length names)) (sym k) low;
+  groups = ap (map (decode names)) g ∙ l.groups;
+  groups_below = subst (AllBelow (length names)) (sym g) l.groups_below;
+}
+
 -- the same by the place i of the entry
-pub cited-at : (es : List Entry) (names labels : List Name) (m i : ℕ) (e : Entry) (d : Assertion) → AreDistinct names → AreNumbered (length names) m es → AreAllLegal (map (stmt_of names labels) es)
-    → slice_get es i ≡ Some e → is_assertion (stmt_of names labels e) ≡ true → IsKeptAs es (take i (map (stmt_of names labels) es)) (stmt_of names labels e) d
-    → (c : Cited) → c.heads.now ≡ d.heads → c.hypotheses.now ≡ d.asked → c.conclusion.now ≡ e.symbols → c.groups ≡ d.groups
-    → IsCited (map (stmt_of names labels) es) names (i + 1) (stmt_of names labels e) c
-cited-at es names labels m i e d distinct numbered legal here asserts kept c p q k g =
+pub lists-at : (es : List Entry) (names labels : List Name) (m i : ℕ) (e : Entry) (d : Assertion) → AreDistinct names → AreNumbered (length names) m es → AreAllLegal (map (stmt_of names labels) es)
+    → slice_get es i ≡ Some e → is_assertion (stmt_of names labels e) ≡ true → IsKeptAs es (take i (map (stmt_of names labels) es)) (stmt_of names labels e) d → d.whole ≡ true
+    → AreListsOf (map (stmt_of names labels) es) names (i + 1) d (stmt_of names labels e)
+lists-at es names labels m i e d distinct numbered legal here asserts kept whole =
     let one : i ≡ i + 1 - 1 = omega arith in
-    kept-cited es names labels m (i + 1) e d distinct numbered legal (omega arith) (ap (slice_get es) (sym one) ∙ here) asserts
-    (subst (λ j. IsKeptAs es (take j (map (stmt_of names labels) es)) (stmt_of names labels e) d) one kept) c p q k g
+    kept-lists es names labels m (i + 1) e d distinct numbered legal (omega arith) (ap (slice_get es) (sym one) ∙ here) asserts
+    (subst (λ j. IsKeptAs es (take j (map (stmt_of names labels) es)) (stmt_of names labels e) d) one kept) whole

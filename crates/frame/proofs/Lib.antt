@@ -22,6 +22,7 @@ pub mod LegalLabels
 pub mod PlacesLemmas
 pub mod KeptLemmas
 pub mod BoundLemmas
+pub mod GatherLemmas
 pub mod CollectedLemmas
 pub mod LookedLemmas
 pub mod OneFrameLemmas

@@ -3,12 +3,13 @@ use Rattle.std.specs.Prelude.{◌≡◌, ℕ, zero, suc, ◌+◌, ◌-◌, ◌<�
 use Rattle.std.proofs.Common.{sym, ◌∙◌, ap, subst, arith, append_assoc, append-nil}
 use Rattle.std.proofs.lemmas.List.Elements.{filter-append}
 use Rattle.std.proofs.lemmas.List.{length-append, map-append, reverse-append}
-use Rattle.std.proofs.Math.Seq.{take-append_seam, take-length}
+use Rattle.std.proofs.Math.Seq.{take-append_seam}
 use Rattle.indexmap.proofs.ReorderLemmas.{map-reverse}
 use Rattle.mm_read.specs.declared.stmt.Stmt.{Stmt}
 use Rattle.entries.specs.declared.span.Span.{Span}
 use Rattle.entries.specs.Spans.{cut, AreSpansIn}
 use Rattle.entries.proofs.SpanLemmas.{range-behind, extends-refl, cut-more, cut-push, spans-push}
+use Rattle.entries.specs.declared.links.Links.{Links}
 use Rattle.frame.specs.declared.storage.Stock.{Stock}
 use Rattle.frame.specs.Links.{actives, last_active, is_disj, links_of}
 use Rattle.entries.specs.Entries.{Entry}
@@ -93,18 +94,16 @@ groups-step es vs all rest before p s found group e g k b h =
     last true w = ap (λ x. cond (has_two x) (x ∷ []) [] ++ reverse found) (sym g) ∙ (ap (λ u. cond u (group ∷ []) [] ++ reverse found) w ∙ sym (reverse-append found (group ∷ [])))
     last false w = ap (λ x. cond (has_two x) (x ∷ []) [] ++ reverse found) (sym g) ∙ ap (λ u. cond u (group ∷ []) [] ++ reverse found) w
 
-pub groups-start : (k : Stock) (vs : List (Option ℕ)) (found : List (List ℕ)) → found ≡ [] → k.links ≡ links_of (statements_of k)
-    → (m : ℕ) × (m ≤ length (statements_of k)) × (k.links.disjoint ≡ last_active is_disj (take m (statements_of k)))
-    × AreGroups k.entries vs (actives is_disj (statements_of k)) (actives is_disj (take m (statements_of k))) found
-groups-start k vs found e h =
-    let S = statements_of k in
-    let whole : take (length S) S ≡ S = take-length S in (
-      length S,
-      omega arith,
-      ap (λ l. l.disjoint) h ∙ ap (last_active is_disj) (sym whole),
-      sym (ap (λ r. groups_by vs (map (λ q. symbols_at k.entries q.0) (actives is_disj r)) ++ reverse found) whole
-          ∙ (ap (λ f. groups_by vs (map (λ q. symbols_at k.entries q.0) (actives is_disj S)) ++ reverse f) e
-          ∙ append-nil (groups_by vs (map (λ q. symbols_at k.entries q.0) (actives is_disj S))))),
+pub groups-start : (k : Stock) (at : ℕ) (vs : List (Option ℕ)) (found : List (List ℕ)) (links : Links) → found ≡ [] → 1 ≤ at → at ≤ length (statements_of k) + 1 → links ≡ links_of (take (at - 1) (statements_of k))
+    → (m : ℕ) × (m ≤ length (statements_of k)) × (links.disjoint ≡ last_active is_disj (take m (statements_of k)))
+    × AreGroups k.entries vs (actives is_disj (take (at - 1) (statements_of k))) (actives is_disj (take m (statements_of k))) found
+groups-start k at vs found links e one high h =
+    let S = statements_of k in (
+      at - 1,
+      omega (arith, one, high),
+      ap (λ l. l.disjoint) h,
+      sym (ap (λ f. groups_by vs (map (λ q. symbols_at k.entries q.0) (actives is_disj (take (at - 1) S))) ++ reverse f) e
+          ∙ append-nil (groups_by vs (map (λ q. symbols_at k.entries q.0) (actives is_disj (take (at - 1) S))))),
     )
 
 pub groups-end : (es : List Entry) (vs : List (Option ℕ)) (all rest : List (ℕ × Stmt)) (places : List ℕ) (found new : List Span) → AreGroups es vs all rest (cut places found) → rest ≡ [] → new ≡ reverse found

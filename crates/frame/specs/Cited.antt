@@ -11,6 +11,7 @@ use Rattle.names.specs.Codes.{name_at, decode}
 use Rattle.entries.specs.declared.citation.Hypothesis.{Hypothesis}
 use Rattle.entries.specs.declared.citation.Hypothesis.TheVariants.{Float, Essential}
 use Rattle.entries.specs.declared.citation.Cited.{Cited}
+use Rattle.entries.specs.Entries.{Assertion}
 use Rattle.entries.specs.declared.citation.TheConstants.{NO_HEAD}
 use Rattle.frame.specs.FrameOf.{hypotheses, mandatory_groups}
 use Rattle.frame.specs.Below.{AreBelow, AllBelow}
@@ -42,6 +43,15 @@ abbrev pub AreAsked : Database → List Name → List ℕ → List ℕ → List 
 AreAsked S names [] [] [] = Unit {0}
 AreAsked S names (p ∷ ps) (head ∷ heads) (h ∷ hs) = IsAsked S names p head h × AreAsked S names ps heads hs
 AreAsked S names ps heads hs = ⊥
+
+-- these lists are made of the assertion s at a
+pub record AreListsOf (S : Database) (names : List Name) (a : ℕ) (g : Assertion) (s : Stmt) : Type 0 where
+  pub asked : AreAsked S names (hypotheses (before S a) s) g.heads g.asked
+  pub groups : map (decode names) g.groups ≡ mandatory_groups (before S a) s
+  pub groups_below : AllBelow (length names) g.groups
+
+abbrev pub IsGathered : Database → List Name → ℕ → Assertion → Type 0
+IsGathered S names a g = (s : Stmt) → stmt_at S a ≡ Some s → AreListsOf S names a g s
 
 -- the parts of the assertion s at a
 pub record IsCited (S : Database) (names : List Name) (a : ℕ) (s : Stmt) (c : Cited) : Type 0 where

@@ -298,17 +298,17 @@ is_float_in e s = false
 abbrev pub floats_in : Database → Expr → List ℕ
 floats_in S e = map (λ p. p.0) (filter (λ p. is_float_in e p.1) (active S))
 
--- the hypotheses that are kept with a statement: with a `$e` the `$f` of its variables
-abbrev pub kept_with : Database → Stmt → List ℕ
-kept_with S (stmt.Ess label expr) = floats_in S expr
-kept_with S s = hypotheses S s
+-- the hypotheses that are kept with a statement: all mandatory ones, or the `$f` of its own variables
+abbrev pub kept_with : Bool → Database → Stmt → List ℕ
+kept_with whole S s = if whole then hypotheses S s else floats_in S (expr_of s)
 
 -- the statement s, which stands behind the first statements S, is kept with the parts d
 pub record IsKeptAs (es : List Entry) (S : Database) (s : Stmt) (d : Assertion) : Type 0 where
-  pub hypotheses_kept : d.hypotheses ≡ kept_with S s
+  pub hypotheses_kept : d.hypotheses ≡ kept_with d.whole S s
   pub asked_kept : d.asked ≡ map (asked_at es) d.hypotheses
   pub heads_kept : d.heads ≡ map (head_at es) d.hypotheses
-  pub groups_kept : is_assertion s ≡ true → d.groups ≡ groups_by (map (variable_at es) d.hypotheses) (map (λ q. symbols_at es q.0) (actives is_disj S))
+  pub groups_kept : d.whole ≡ true → d.groups ≡ groups_by (map (variable_at es) d.hypotheses) (map (λ q. symbols_at es q.0) (actives is_disj S))
+  pub own_kept : is_essential s ≡ true → d.whole ≡ false
 
 -- a statement that is kept with hypotheses
 abbrev pub has_parts : Kind → Bool
@@ -383,16 +383,18 @@ pub record AreDescribed (es : List Entry) (d : Assertion) : Type 0 where
   pub asked_made : d.asked ≡ map (asked_at es) d.hypotheses
   pub heads_made : d.heads ≡ map (head_at es) d.hypotheses
 
--- the parts of an assertion with these symbols, behind the statements S
-pub record AreParts (es : List Entry) (S : Database) (codes : List ℕ) (d : Assertion) : Type 0 where
-  pub hypotheses_found : d.hypotheses ≡ collected es S codes
+-- an assertion behind the statements S has these hypotheses, of which all is said
+pub record IsSpread (es : List Entry) (S : Database) (ps : List ℕ) (d : Assertion) : Type 0 where
+  pub is_whole : d.whole ≡ true
+  pub same : d.hypotheses ≡ ps
   pub described : AreDescribed es d
   pub groups_made : d.groups ≡ groups_by (map (variable_at es) d.hypotheses) (map (λ q. symbols_at es q.0) (actives is_disj S))
 
--- the parts of a `$e` with these symbols, behind the statements S
-pub record AreFloats (es : List Entry) (S : Database) (codes : List ℕ) (d : Assertion) : Type 0 where
-  pub floats_found : d.hypotheses ≡ with_floats es S codes []
-  pub floats_described : AreDescribed es d
+-- the parts of an assertion or a `$e` with these symbols, behind the statements S
+pub record AreParts (es : List Entry) (S : Database) (codes : List ℕ) (d : Assertion) : Type 0 where
+  pub hypotheses_found : d.hypotheses ≡ (if d.whole then collected es S codes else with_floats es S codes [])
+  pub described : AreDescribed es d
+  pub groups_made : d.whole ≡ true → d.groups ≡ groups_by (map (variable_at es) d.hypotheses) (map (λ q. symbols_at es q.0) (actives is_disj S))
 
 -- the storage of a database
 pub record AreKept (names labels : List Name) (positions : List ℕ) (symbols : List Symbol) (replaced : List ℕ) (entries : List Entry) (links : Links) : Type 0 where
@@ -440,15 +442,9 @@ pub record AreNumbersOf (names : List Name) (s : Stmt) (codes : List ℕ) : Type
   pub below : AreBelow (length names) codes
   pub stand : decode names codes ≡ symbols_in s
 
--- the symbols are those of the assertion s, which may come next
-pub record IsNext (k : Stock) (codes : List ℕ) (s : Stmt) : Type 0 where
-  pub legal : IsLegal (statements_of k) s
-  pub assertion : is_assertion s ≡ true
-  pub stand : decode k.names codes ≡ expr_of s
-
--- the same of a `$e`
-pub record IsNextEssential (k : Stock) (codes : List ℕ) (s : Stmt) : Type 0 where
-  pub essential : is_essential s ≡ true
+-- the symbols are those of the assertion s or, where it is one, of the `$e` s
+pub record IsNext (k : Stock) (is_own : Bool) (codes : List ℕ) (s : Stmt) : Type 0 where
+  pub own : is_essential s ≡ true → is_own ≡ true
   pub stand : decode k.names codes ≡ expr_of s
 
 abbrev pub IsKeptOf : Stock → Stmt → Assertion → Type 0

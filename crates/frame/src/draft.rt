@@ -12,6 +12,8 @@ use std::alloc::Global;
 pub struct Draft {
     /// The numbers of its symbols.
     pub symbols: Vec<u32>,
+    /// Whether the parts are whole, or only what it adds to what is active.
+    pub whole: bool,
     /// The symbols whose `$f` was looked for.
     pub looked: Places,
     /// The positions of its hypotheses, in order.
@@ -36,6 +38,7 @@ impl Draft {
     {
         Draft {
             symbols: Vec::new(alloc),
+            whole: false,
             looked: Places::new(alloc),
             hypotheses: Vec::new(alloc),
             variables: Places::new(alloc),
@@ -54,6 +57,7 @@ impl Draft {
         ensures assertion { assertion_of result ≡ drafted self.now }
     {
         Parts {
+            whole: self.whole,
             symbols: &self.symbols,
             hypotheses: &self.hypotheses,
             asked: &self.asked,
@@ -69,6 +73,7 @@ impl Draft {
         ensures partless { IsPartless self.new }
     {
         self.symbols.clear();
+        self.whole = false;
         self.looked.clear();
         self.hypotheses.clear();
         self.variables.clear();

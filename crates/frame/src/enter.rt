@@ -8,11 +8,11 @@ ghost use Rattle.scope.specs.Symbols.{symbols_by, symbols_in};
 ghost use Rattle.entries.specs.declared.head.Head.{Head as Before};
 ghost use Rattle.frame.specs.Below.{AreBelow};
 ghost use Rattle.frame.specs.Drafts.{IsPartless, IsDraft, drafted, made};
-ghost use Rattle.frame.specs.Stored.{AreNumbersOf, Entered, Grown, option_list, option_position, IsFresh, HasRoom, AreStored, IsHead, IsNext, IsNextEssential, IsKeptOf, has_parts, kind_of, statements_of};
+ghost use Rattle.frame.specs.Stored.{AreNumbersOf, Entered, Grown, option_list, option_position, IsFresh, HasRoom, AreStored, IsHead, IsNext, IsKeptOf, has_parts, kind_of, statements_of};
 
 use crate::declare::name_label;
 use crate::draft::Draft;
-use crate::make::{assertion, essential};
+use crate::make::parts;
 use crate::numbers::{declared_numbers, numbers};
 use crate::shape::{is_assertion, is_essential, label};
 use crate::storage::Stock;
@@ -112,31 +112,18 @@ pub fn enter_label(alloc: Global, stock: &mut Stock, stmt: &Stmt) -> Result<(), 
     )
 }
 
-/// Finds what is kept of an assertion with the symbols of the draft.
-fn keep(stock: &Stock, draft: &mut Draft) -> Result<(), AllocError>
+/// Finds what is kept of an assertion or a `$e` with the symbols of the draft.
+fn keep(stock: &Stock, draft: &mut Draft, is_own: bool) -> Result<(), AllocError>
     requires stored { AreStored stock.now }
     requires codes { AreBelow (length stock.now.names) draft.old.symbols.items }
-    requires assertion { (s : Statement) × IsNext stock.now draft.old.symbols.items s }
+    requires next { (s : Statement) × IsNext stock.now is_own draft.old.symbols.items s }
     requires partless { IsPartless draft.old }
-    ensures kept { (s : Statement) → IsNext stock.now draft.old.symbols.items s → OnOk result (IsKeptOf stock.now s (drafted draft.new)) }
+    ensures kept { (s : Statement) → IsNext stock.now is_own draft.old.symbols.items s → OnOk result (IsKeptOf stock.now s (drafted draft.new)) }
     ensures draft { OnOk result (IsDraft draft.new) }
     ensures symbols { draft.new.symbols.items ≡ draft.old.symbols.items }
 {
     stock.names.distinct();
-    assertion(stock, draft)
-}
-
-/// Finds what is kept of a `$e` with the symbols of the draft.
-fn keep_essential(stock: &Stock, draft: &mut Draft) -> Result<(), AllocError>
-    requires stored { AreStored stock.now }
-    requires codes { AreBelow (length stock.now.names) draft.old.symbols.items }
-    requires partless { IsPartless draft.old }
-    ensures kept { (s : Statement) → IsNextEssential stock.now draft.old.symbols.items s → OnOk result (IsKeptOf stock.now s (drafted draft.new)) }
-    ensures draft { OnOk result (IsDraft draft.new) }
-    ensures symbols { draft.new.symbols.items ≡ draft.old.symbols.items }
-{
-    stock.names.distinct();
-    essential(stock, draft)
+    parts(stock, draft, is_own)
 }
 
 /// Finds the parts of an assertion or of a `$e` with the symbols of the draft. Another statement has none.
@@ -150,9 +137,9 @@ fn enter_parts(stock: &Stock, draft: &mut Draft, stmt: &Stmt) -> Result<(), Allo
     ensures symbols { draft.new.symbols.items ≡ draft.old.symbols.items }
 {
     if is_assertion(stmt) {
-        keep(stock, draft)
+        keep(stock, draft, false)
     } else if is_essential(stmt) {
-        keep_essential(stock, draft)
+        keep(stock, draft, true)
     } else {
         Ok(())
     }

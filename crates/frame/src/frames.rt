@@ -8,15 +8,16 @@ ghost use Rattle.scope.specs.Symbols.{symbols_of, AreOfLast};
 ghost use Rattle.frame.specs.Below.{AreBelow};
 ghost use Rattle.frame.specs.FrameOf.{HasAssertion, hypotheses};
 ghost use Rattle.frame.specs.Reading.{IsMeaning, IsPosition, AreLegal};
-ghost use Rattle.frame.specs.Cited.{IsCited};
+ghost use Rattle.frame.specs.Cited.{IsCited, IsGathered};
 ghost use Rattle.frame.specs.Stored.{Extends};
 
 use crate::draft::Draft;
 use crate::extend::{cut, extend, roll_back};
-use crate::hypotheses::{hypotheses_at, label_at};
+use crate::gathered::Gathered;
+use crate::hypotheses::{gather_at, label_at, mandatory_at};
 use crate::meaning::Meaning;
 use crate::pairs::Pairs;
-use crate::reading::{cited_at, expr_at, meaning_at};
+use crate::reading::{cited_at, expr_at, gathered_at, meaning_at};
 use crate::storage::Stock;
 use entries::{Cited, Entries, Links};
 use mm_read::Stmt;
@@ -205,21 +206,47 @@ impl Frames {
         }
     }
 
-    /// The parts of the assertion at a position, by numbers.
-    pub fn cited(&self, a: usize) -> Cited<'_>
+    /// The parts of the assertion at a position, by numbers, where they are kept whole: where they are few.
+    pub fn cited(&self, a: usize) -> Option<Cited<'_>>
         requires { (s : Statement) × HasAssertion self.now.statements a s }
-        ensures { (s : Statement) → stmt_at self.now.statements a ≡ Some s → IsCited self.now.statements self.now.names a s result }
+        ensures { (s : Statement) → stmt_at self.now.statements a ≡ Some s → IfSome result (IsCited self.now.statements self.now.names a s) }
     {
         self.stock.names.distinct();
         cited_at(&self.stock, a)
     }
 
-    /// The mandatory hypotheses of the assertion at a position, by position, in order.
-    pub fn hypotheses(&self, a: usize) -> &[u32]
+    /// Makes the lists of the assertion at a position, of which only what it adds to what is active is kept.
+    ///
+    /// Cost: the size of its hypotheses and of the active `$d`.
+    pub fn gather(&self, a: usize, gathered: &mut Gathered) -> Result<(), AllocError>
         requires { (s : Statement) × HasAssertion self.now.statements a s }
-        ensures { (s : Statement) → stmt_at self.now.statements a ≡ Some s → result.now ≡ hypotheses (before self.now.statements a) s }
+        ensures { OnOk result (IsGathered self.now.statements self.now.names a gathered.new) }
     {
-        hypotheses_at(&self.stock, a)
+        self.stock.names.distinct();
+        let made = gather_at(&self.stock, a, &mut gathered.draft);
+        if made.is_err() {
+            gathered.draft.clear();
+        }
+        made
+    }
+
+    /// The parts of the assertion at a position, by the lists that were made of it.
+    pub fn gathered<'a>(&'a self, a: usize, gathered: &'a Gathered) -> Cited<'a>
+        requires assertion { (s : Statement) × HasAssertion self.now.statements a s }
+        requires gathered { IsGathered self.now.statements self.now.names a gathered.now }
+        ensures { (s : Statement) → stmt_at self.now.statements a ≡ Some s → IsCited self.now.statements self.now.names a s result }
+    {
+        gathered_at(&self.stock, a, &gathered.draft)
+    }
+
+    /// Adds the mandatory hypotheses of the assertion at a position, by position, in order, to a list that has none.
+    pub fn mandatory(&self, a: usize, list: &mut Vec<u32>) -> Result<(), AllocError>
+        requires assertion { (s : Statement) × HasAssertion self.now.statements a s }
+        requires empty { list.old.items ≡ [] }
+        ensures { (s : Statement) → stmt_at self.now.statements a ≡ Some s → OnOk result (list.new.items ≡ hypotheses (before self.now.statements a) s) }
+    {
+        self.stock.names.distinct();
+        mandatory_at(&self.stock, a, list)
     }
 
     /// The label of the statement at a position; none where it has none.

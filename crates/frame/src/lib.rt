@@ -13,6 +13,7 @@ mod draft;
 mod enter;
 mod extend;
 mod frames;
+mod gathered;
 mod hypotheses;
 mod laws;
 mod make;
@@ -30,6 +31,7 @@ mod undo;
 
 pub use assertion::Frame;
 pub use frames::Frames;
+pub use gathered::Gathered;
 pub use laws::groups_are_pairs;
 pub use meaning::Meaning;
 pub use one_frame::frame;

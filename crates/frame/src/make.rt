@@ -1,15 +1,16 @@
 //! The hypotheses that are kept with a statement, what they are, and what is kept apart.
-ghost use Rattle.std.specs.Prelude.{◌≡◌, ◌<◌, ◌++◌, ◌∷◌, [], true, if◌then◌else◌, length, map, OnOk};
+ghost use Rattle.std.specs.Prelude.{◌≡◌, ◌+◌, ◌-◌, ◌<◌, ◌≤◌, ◌++◌, ◌∷◌, [], true, false, if◌then◌else◌, length, map, take, OnOk};
 ghost use Rattle.entries.specs.Spans.{cut, AreSpansIn};
 ghost use Rattle.frame.specs.Below.{AreBelow};
 ghost use Rattle.frame.specs.Cited.{head_of};
-ghost use Rattle.frame.specs.Drafts.{IsPartless, IsDraft, drafted};
+ghost use Rattle.frame.specs.Drafts.{IsPartless, IsUndescribed, IsDraft, drafted};
 ghost use Rattle.frame.specs.Links.{actives, is_disj};
-ghost use Rattle.frame.specs.Stored.{AreStored, AreHypotheses, HasTwo, asked_at, asked_by, head_at, has_two, AreParts, AreFloats, collected, with_floats, statements_of, variable_at, variable_by, symbols_at, groups_by, placed};
+ghost use Rattle.frame.specs.Stored.{AreStored, AreHypotheses, HasTwo, asked_at, asked_by, head_at, has_two, AreParts, IsSpread, collected, with_floats, statements_of, variable_at, variable_by, symbols_at, groups_by, placed};
 
 use crate::draft::Draft;
-use crate::mandatory::{mandatory, put_floats};
+use crate::mandatory::{add_essentials, are_few, put_floats};
 use crate::places::Places;
+use crate::reading::links_at;
 use crate::storage::Stock;
 use entries::span::between;
 use entries::{EntryRef, Hypothesis, Kind, NO_HEAD, Span};
@@ -100,19 +101,21 @@ fn add_if(is_among: bool, code: u32, found: &mut Vec<u32>) -> Result<(), AllocEr
     Ok(())
 }
 
-/// Adds the groups of variables that are kept apart, from the active `$d`.
+/// Adds the groups of variables that are kept apart, from the `$d` that are active at `at`.
 fn groups(
     stock: &Stock,
+    at: usize,
     variables: &Places,
     places: &mut Vec<u32>,
     groups: &mut Vec<Span>,
 ) -> Result<(), AllocError>
     requires stored { AreStored stock.now }
+    requires place { (1 ≤ at) × (at ≤ length (statements_of stock.now) + 1) }
     requires empty { groups.old.items ≡ [] }
-    ensures groups { OnOk result (cut places.new.items groups.new.items ≡ groups_by variables.now (map (λ q. symbols_at stock.now.entries q.0) (actives is_disj (statements_of stock.now)))) }
+    ensures groups { OnOk result (cut places.new.items groups.new.items ≡ groups_by variables.now (map (λ q. symbols_at stock.now.entries q.0) (actives is_disj (take (at - 1) (statements_of stock.now))))) }
     ensures within { OnOk result (AreSpansIn (length places.new.items) groups.new.items) }
 {
-    let mut last = stock.links.disjoint;
+    let mut last = links_at(stock, at).disjoint;
     while last != 0 {
         let entry = stock.entries.entry(last as usize - 1);
         add_group(variables, entry.symbols, places, groups)?;
@@ -145,39 +148,39 @@ fn add_group(
     Ok(())
 }
 
-/// Finds the parts of an assertion with the symbols of the draft, which come behind all statements.
-pub fn assertion(stock: &Stock, draft: &mut Draft) -> Result<(), AllocError>
+/// Says what the hypotheses of an assertion at `at` are, and adds its groups.
+pub fn spread(stock: &Stock, at: usize, draft: &mut Draft) -> Result<(), AllocError>
     requires stored { AreStored stock.now }
-    requires codes { AreBelow (length stock.now.names) draft.old.symbols.items }
-    requires hypotheses { AreHypotheses stock.now.entries (collected stock.now.entries (statements_of stock.now) draft.old.symbols.items) }
-    requires partless { IsPartless draft.old }
-    ensures parts { OnOk result (AreParts stock.now.entries (statements_of stock.now) draft.old.symbols.items (drafted draft.new)) }
+    requires place { (1 ≤ at) × (at ≤ length (statements_of stock.now) + 1) }
+    requires hypotheses { AreHypotheses stock.now.entries draft.old.hypotheses.items }
+    requires undescribed { IsUndescribed draft.old }
+    ensures spread { OnOk result (IsSpread stock.now.entries (take (at - 1) (statements_of stock.now)) draft.old.hypotheses.items (drafted draft.new)) }
     ensures draft { OnOk result (IsDraft draft.new) }
     ensures symbols { draft.new.symbols.items ≡ draft.old.symbols.items }
 {
-    mandatory(
-        stock,
-        &draft.symbols,
-        &mut draft.looked,
-        &mut draft.hypotheses,
-    )?;
     describe(stock, &draft.hypotheses, &mut draft.asked, &mut draft.heads)?;
     variables(stock, &draft.hypotheses, &mut draft.variables)?;
     groups(
         stock,
+        at,
         &draft.variables,
         &mut draft.places,
         &mut draft.groups,
-    )
+    )?;
+    draft.whole = true;
+    Ok(())
 }
 
-/// Finds the `$f` of the variables of a `$e` with the symbols of the draft, which comes behind all statements.
-pub fn essential(stock: &Stock, draft: &mut Draft) -> Result<(), AllocError>
+/// Finds the parts of an assertion or a `$e` with the symbols of the draft, which comes behind all statements: the `$f` of
+/// its own variables, or all mandatory hypotheses, where it may keep more than its own and these are few.
+pub fn parts(stock: &Stock, draft: &mut Draft, is_own: bool) -> Result<(), AllocError>
     requires stored { AreStored stock.now }
     requires codes { AreBelow (length stock.now.names) draft.old.symbols.items }
-    requires hypotheses { AreHypotheses stock.now.entries (with_floats stock.now.entries (statements_of stock.now) draft.old.symbols.items []) }
+    requires floats { AreHypotheses stock.now.entries (with_floats stock.now.entries (statements_of stock.now) draft.old.symbols.items []) }
+    requires hypotheses { AreHypotheses stock.now.entries (collected stock.now.entries (statements_of stock.now) draft.old.symbols.items) }
     requires partless { IsPartless draft.old }
-    ensures parts { OnOk result (AreFloats stock.now.entries (statements_of stock.now) draft.old.symbols.items (drafted draft.new)) }
+    ensures parts { OnOk result (AreParts stock.now.entries (statements_of stock.now) draft.old.symbols.items (drafted draft.new)) }
+    ensures own { is_own ≡ true → OnOk result (draft.new.whole ≡ false) }
     ensures draft { OnOk result (IsDraft draft.new) }
     ensures symbols { draft.new.symbols.items ≡ draft.old.symbols.items }
 {
@@ -187,5 +190,39 @@ pub fn essential(stock: &Stock, draft: &mut Draft) -> Result<(), AllocError>
         &mut draft.hypotheses,
         &draft.symbols,
     )?;
+    if is_own || !are_few(stock, draft.hypotheses.len()) {
+        own_parts(stock, draft)
+    } else {
+        whole_parts(stock, draft)
+    }
+}
+
+/// The parts, where only the `$f` of its own variables are kept.
+fn own_parts(stock: &Stock, draft: &mut Draft) -> Result<(), AllocError>
+    requires stored { AreStored stock.now }
+    requires found { draft.old.hypotheses.items ≡ with_floats stock.now.entries (statements_of stock.now) draft.old.symbols.items [] }
+    requires floats { AreHypotheses stock.now.entries draft.old.hypotheses.items }
+    requires undescribed { IsUndescribed draft.old }
+    requires own { draft.old.whole ≡ false }
+    ensures parts { OnOk result (AreParts stock.now.entries (statements_of stock.now) draft.old.symbols.items (drafted draft.new)) }
+    ensures own { draft.new.whole ≡ false }
+    ensures draft { OnOk result (IsDraft draft.new) }
+    ensures symbols { draft.new.symbols.items ≡ draft.old.symbols.items }
+{
     describe(stock, &draft.hypotheses, &mut draft.asked, &mut draft.heads)
+}
+
+/// The parts, where all mandatory hypotheses are kept.
+fn whole_parts(stock: &Stock, draft: &mut Draft) -> Result<(), AllocError>
+    requires stored { AreStored stock.now }
+    requires found { draft.old.hypotheses.items ≡ with_floats stock.now.entries (statements_of stock.now) draft.old.symbols.items [] }
+    requires hypotheses { AreHypotheses stock.now.entries (collected stock.now.entries (statements_of stock.now) draft.old.symbols.items) }
+    requires undescribed { IsUndescribed draft.old }
+    ensures parts { OnOk result (AreParts stock.now.entries (statements_of stock.now) draft.old.symbols.items (drafted draft.new)) }
+    ensures draft { OnOk result (IsDraft draft.new) }
+    ensures symbols { draft.new.symbols.items ≡ draft.old.symbols.items }
+{
+    let at = stock.entries.len() + 1;
+    add_essentials(stock, at, &mut draft.hypotheses)?;
+    spread(stock, at, draft)
 }

@@ -1,10 +1,12 @@
 //! The mandatory hypotheses of an assertion, found by the symbols that it uses.
-ghost use Rattle.std.specs.Prelude.{◌≡◌, ◌+◌, ◌≤◌, ◌<◌, [], length, OnOk};
+ghost use Rattle.std.specs.Prelude.{◌≡◌, ◌+◌, ◌-◌, ◌≤◌, ◌<◌, length, take, OnOk};
+ghost use Rattle.scope.specs.Active.{is_essential};
+ghost use Rattle.frame.specs.Links.{actives};
 ghost use Rattle.frame.specs.Below.{AreBelow};
-ghost use Rattle.frame.specs.Stored.{AreStored, Ascends, IsLooked, floats, last_where, statements_of, inserted, with_all, with_float, with_floats, collected};
+ghost use Rattle.frame.specs.Stored.{AreStored, Ascends, IsLooked, floats, last_where, statements_of, inserted, with_all, with_float, with_floats, with_essentials};
 
 use crate::places::Places;
-use crate::reading::is_active_at;
+use crate::reading::{is_active_at, links_at};
 use crate::storage::Stock;
 use std::alloc::AllocError;
 
@@ -93,24 +95,16 @@ fn put_all(list: &mut Vec<u32>, positions: &[u32]) -> Result<(), AllocError>
     Ok(())
 }
 
-/// Adds the positions of the mandatory hypotheses of an assertion with these symbols behind all statements, in order.
-/// The symbols that were looked at are noted. The `$f` of the variables of a `$e` were found when it was kept.
+/// Adds the `$e` that are active at `at`, and the `$f` that are kept with them, in their places.
 ///
-/// Cost: one step for each symbol of the assertion, and for each hypothesis a search by halves.
-pub fn mandatory(
-    stock: &Stock,
-    codes: &[u32],
-    looked: &mut Places,
-    list: &mut Vec<u32>,
-) -> Result<(), AllocError>
+/// Cost: for each of these a search by halves.
+pub fn add_essentials(stock: &Stock, at: usize, list: &mut Vec<u32>) -> Result<(), AllocError>
     requires stored { AreStored stock.now }
-    requires codes { AreBelow (length stock.now.names) codes.now }
-    requires none { looked.old ≡ [] }
-    requires empty { list.old.items ≡ [] }
-    ensures { OnOk result (list.new.items ≡ collected stock.now.entries (statements_of stock.now) codes.now) }
+    requires place { (1 ≤ at) × (at ≤ length (statements_of stock.now) + 1) }
+    requires ascends { Ascends list.old.items }
+    ensures { OnOk result (list.new.items ≡ with_essentials stock.now.entries (actives is_essential (take (at - 1) (statements_of stock.now))) list.old.items) }
 {
-    put_floats(stock, looked, list, codes)?;
-    let mut essential = stock.links.essential;
+    let mut essential = links_at(stock, at).essential;
     while essential != 0 {
         let index = essential as usize - 1;
         put(list, essential)?;
@@ -118,4 +112,44 @@ pub fn mandatory(
         essential = stock.entries.entry(index).links.essential;
     }
     Ok(())
+}
+
+/// Lists of at most so many items are kept whole, beside what an assertion adds.
+const FEW: usize = 64;
+
+/// Whether the mandatory hypotheses and groups of an assertion with so many `$f` of its own are few, or may be. Whatever is
+/// answered, what is kept is right.
+///
+/// Cost: at most a few steps, however much is active.
+pub fn are_few(stock: &Stock, own: usize) -> bool {
+    are_few_essentials(stock, own) && are_few_disjoint(stock)
+}
+
+fn are_few_essentials(stock: &Stock, own: usize) -> bool {
+    let mut essential = stock.links.essential as usize;
+    let mut count = own;
+    for _ in 0..FEW {
+        if essential == 0 || essential > stock.entries.len() || count > FEW {
+            break;
+        }
+        let index = essential - 1;
+        let floats = stock.entries.hypotheses(index).len();
+        count = count.saturating_add(floats).saturating_add(1);
+        essential = stock.entries.entry(index).links.essential as usize;
+    }
+    essential == 0 && count <= FEW
+}
+
+fn are_few_disjoint(stock: &Stock) -> bool {
+    let mut disjoint = stock.links.disjoint as usize;
+    let mut count = 0usize;
+    for _ in 0..FEW {
+        if disjoint == 0 || disjoint > stock.entries.len() || count > 2 * FEW {
+            break;
+        }
+        let entry = stock.entries.entry(disjoint - 1);
+        count = count.saturating_add(entry.symbols.len());
+        disjoint = entry.links.disjoint as usize;
+    }
+    disjoint == 0 && count <= 2 * FEW
 }

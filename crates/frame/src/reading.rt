@@ -1,18 +1,20 @@
 //! What is active at a position, read off the storage.
-ghost use Rattle.std.specs.Prelude.{◌≡◌, ◌+◌, ◌-◌, ◌<◌, ◌≤◌, Some, false, length, take, slice_get};
+ghost use Rattle.std.specs.Prelude.{◌≡◌, ◌+◌, ◌-◌, ◌<◌, ◌≤◌, Some, IfSome, false, length, take, slice_get};
 ghost use Rattle.mm_read.specs.declared.stmt.Stmt.{Stmt as Statement};
 ghost use Rattle.scope.specs.Active.{is_active, is_open, is_close, stmt_at, expr_of};
 ghost use Rattle.names.specs.Codes.{decode, AreDistinct};
 ghost use Rattle.frame.specs.Below.{AreBelow};
 ghost use Rattle.frame.specs.FrameOf.{HasAssertion};
 ghost use Rattle.frame.specs.Reading.{IsMeaning};
-ghost use Rattle.frame.specs.Cited.{IsCited};
+ghost use Rattle.frame.specs.Cited.{IsCited, IsGathered};
+ghost use Rattle.frame.specs.Drafts.{IsDraft, drafted};
 ghost use Rattle.frame.specs.Links.{last_active, links_of};
 ghost use Rattle.frame.specs.Stored.{AreStored, statements_of, IsPlain, IsHypothesisAt};
 
+use crate::draft::Draft;
 use crate::meaning::Meaning;
 use crate::storage::Stock;
-use entries::{Cited, Kind, Links};
+use entries::{Cited, Groups, Kind, Links};
 
 /// What is active before the statement at `at`, or at the end.
 pub fn links_at(stock: &Stock, at: usize) -> Links
@@ -92,12 +94,28 @@ fn hypothesis_at(stock: &Stock, at: usize, i: usize) -> Meaning<'_>
     }
 }
 
-/// The parts of the assertion at a position.
-pub fn cited_at(stock: &Stock, a: usize) -> Cited<'_>
+/// The parts of the assertion at a position, where they are kept whole.
+pub fn cited_at(stock: &Stock, a: usize) -> Option<Cited<'_>>
     requires stored { AreStored stock.now }
     requires distinct { AreDistinct stock.now.names }
     requires assertion { (s : Statement) × HasAssertion (statements_of stock.now) a s }
-    ensures { (s : Statement) → stmt_at (statements_of stock.now) a ≡ Some s → IsCited (statements_of stock.now) stock.now.names a s result }
+    ensures { (s : Statement) → stmt_at (statements_of stock.now) a ≡ Some s → IfSome result (IsCited (statements_of stock.now) stock.now.names a s) }
 {
     stock.entries.cited(a - 1)
+}
+
+/// The parts of the assertion at a position, by lists that were made of it.
+pub fn gathered_at<'a>(stock: &'a Stock, a: usize, draft: &'a Draft) -> Cited<'a>
+    requires stored { AreStored stock.now }
+    requires assertion { (s : Statement) × HasAssertion (statements_of stock.now) a s }
+    requires draft { IsDraft draft.now }
+    requires gathered { IsGathered (statements_of stock.now) stock.now.names a (drafted draft.now) }
+    ensures { (s : Statement) → stmt_at (statements_of stock.now) a ≡ Some s → IsCited (statements_of stock.now) stock.now.names a s result }
+{
+    Cited {
+        heads: &draft.heads,
+        hypotheses: &draft.asked,
+        conclusion: expr_at(stock, a),
+        groups: Groups::new(&draft.groups, &draft.places),
+    }
 }

@@ -63,8 +63,10 @@ fn labels_of(
     ensures { IfOk result (λ labels. (s : Statement) → IsProvable statements.now at s
         → labels ≡ mandatory_labels (bares statements.now) at s) }
 {
+    let mut mandatory = Vec::new(alloc);
+    frames.mandatory(at, &mut mandatory)?;
     let mut labels = Words::new(alloc);
-    for position in frames.hypotheses(at) {
+    for position in mandatory.as_slice() {
         labels.push(hypothesis_label(statements, *position as usize))?;
     }
     Ok(labels)

@@ -10,7 +10,7 @@ use crate::answer::Answer;
 use crate::results::Results;
 use crate::run::run;
 use crate::table::{Entry, add_listed, fill_mandatory, fill_table};
-use frame::Frames;
+use frame::{Frames, Gathered};
 use mm_lex::Words;
 use proof_code::{CodeFault, Items, Reader, is_compressed, normal};
 use std::alloc::{AllocError, Global};
@@ -21,6 +21,8 @@ pub struct Checker {
     alloc: Global,
     reader: Reader,
     table: Vec<Entry>,
+    mandatory: Vec<u32>,
+    gathered: Gathered,
     results: Results,
 }
 
@@ -31,6 +33,8 @@ impl Checker {
             alloc,
             reader: Reader::new(alloc),
             table: Vec::new(alloc),
+            mandatory: Vec::new(alloc),
+            gathered: Gathered::new(alloc),
             results: Results::new(alloc),
         }
     }
@@ -46,7 +50,14 @@ impl Checker {
         frames.legal();
         let parts = items.parts();
         fill_table(frames, at, parts.labels, &mut self.table)?;
-        run(frames, at, &self.table, parts.numbers, &mut self.results)
+        run(
+            frames,
+            at,
+            &self.table,
+            parts.numbers,
+            &mut self.gathered,
+            &mut self.results,
+        )
     }
 
     /// Whether the tokens write a right proof of the `$p` at that position.
@@ -84,12 +95,12 @@ impl Checker {
         ensures { IfOk result (λ answer. Says answer (Proves frames.now.statements at tokens.now)) }
     {
         frames.legal();
-        let mandatory = frames.hypotheses(at);
-        let Some(heading) = self.reader.read(tokens, mandatory.len())? else {
+        fill_mandatory(frames, at, &mut self.mandatory, &mut self.table)?;
+        let count = self.mandatory.as_slice().len();
+        let Some(heading) = self.reader.read(tokens, count)? else {
             return Ok(Answer::Wrong);
         };
-        fill_mandatory(frames, at, &mut self.table)?;
-        if !add_listed(frames, at, heading, &mut self.table)? {
+        if !add_listed(frames, at, &self.mandatory, heading, &mut self.table)? {
             return Ok(Answer::Wrong);
         }
         run(
@@ -97,6 +108,7 @@ impl Checker {
             at,
             &self.table,
             self.reader.numbers(),
+            &mut self.gathered,
             &mut self.results,
         )
     }

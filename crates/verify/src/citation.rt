@@ -1,9 +1,10 @@
 //! One item of a proof.
 
-ghost use Rattle.std.specs.Prelude.{◌≡◌, ◌<◌, List, length, get_or, IfOk, IsTrue};
+ghost use Rattle.std.specs.Prelude.{◌≡◌, ◌<◌, List, length, get_or, Some, IfOk, IsTrue};
 ghost use Rattle.mm_lex.specs.Alphabet.{Name};
 ghost use Rattle.mm_read.specs.declared.stmt.Stmt.{Stmt as Statement};
-ghost use Rattle.scope.specs.Active.{before};
+ghost use Rattle.scope.specs.Active.{before, stmt_at};
+ghost use Rattle.frame.specs.Cited.{IsCited};
 ghost use Rattle.frame.specs.FrameOf.{HasAssertion};
 ghost use Rattle.frame.specs.Citations.{Carries};
 ghost use Rattle.frame.specs.Reading.{AreLegal};
@@ -15,15 +16,17 @@ ghost use Rattle.verify.specs.Table.{IsEntry, AreEntries};
 
 use crate::results::Results;
 use crate::table::Entry;
-use frame::{Frames, Pairs};
+use entries::Cited;
+use frame::{Frames, Gathered, Pairs};
 use std::alloc::AllocError;
 
-/// Takes the results that the assertion asks for, and adds what it gives.
+/// Takes the results that the assertion asks for, and adds what it gives. Long lists are made in a buffer.
 fn cite_assertion(
     frames: &Frames,
     at: usize,
     pairs: &Pairs<'_>,
     position: usize,
+    gathered: &mut Gathered,
     results: &mut Results,
 ) -> Result<bool, AllocError>
     requires legal { AreLegal frames.now.statements frames.now.names }
@@ -36,7 +39,34 @@ fn cite_assertion(
         → IfOk result (λ ok. Goes ok frames.now.statements at frames.now.names (Cite label) results.old.results results.new.results) }
     ensures saved { IfOk result (λ ok. IsTrue ok → results.new.results.saved ≡ results.old.results.saved) }
 {
-    let cited = frames.cited(position);
+    if let Some(cited) = frames.cited(position) {
+        return cite_parts(frames, at, pairs, position, &cited, results);
+    }
+    frames.gather(position, gathered)?;
+    let cited = frames.gathered(position, gathered);
+    cite_parts(frames, at, pairs, position, &cited, results)
+}
+
+/// The same by the parts of the assertion.
+fn cite_parts(
+    frames: &Frames,
+    at: usize,
+    pairs: &Pairs<'_>,
+    position: usize,
+    cited: &Cited<'_>,
+    results: &mut Results,
+) -> Result<bool, AllocError>
+    requires legal { AreLegal frames.now.statements frames.now.names }
+    requires active { pairs.now.statements ≡ before frames.now.statements at }
+    requires names { pairs.now.names ≡ frames.now.names }
+    requires named { AreNamed frames.now.names results.old.results }
+    requires assertion { (s : Statement) × HasAssertion frames.now.statements position s }
+    requires earlier { position < at }
+    requires cited { (s : Statement) → stmt_at frames.now.statements position ≡ Some s → IsCited frames.now.statements frames.now.names position s cited.now }
+    ensures goes { (label : Name) → (s : Statement) → Carries frames.now.statements position s label
+        → IfOk result (λ ok. Goes ok frames.now.statements at frames.now.names (Cite label) results.old.results results.new.results) }
+    ensures saved { IfOk result (λ ok. IsTrue ok → results.new.results.saved ≡ results.old.results.saved) }
+{
     let count = cited.hypotheses.len();
     if count > results.len() {
         return Ok(false);
@@ -60,6 +90,7 @@ fn cite(
     pairs: &Pairs<'_>,
     table: &[Entry],
     label: usize,
+    gathered: &mut Gathered,
     results: &mut Results,
 ) -> Result<bool, AllocError>
     requires legal { AreLegal frames.now.statements frames.now.names }
@@ -73,7 +104,9 @@ fn cite(
 {
     match table[label] {
         Entry::Hypothesis(position) => results.give(label, frames.expr(position)),
-        Entry::Assertion(position) => cite_assertion(frames, at, pairs, position, results),
+        Entry::Assertion(position) => cite_assertion(
+            frames, at, pairs, position, gathered, results,
+        ),
         Entry::Nothing => Ok(false),
     }
 }
@@ -85,6 +118,7 @@ pub fn step(
     pairs: &Pairs<'_>,
     table: &[Entry],
     number: u32,
+    gathered: &mut Gathered,
     results: &mut Results,
 ) -> Result<bool, AllocError>
     requires legal { AreLegal frames.now.statements frames.now.names }
@@ -103,7 +137,7 @@ pub fn step(
         return results.recall(index);
     }
     if index < table.len() {
-        cite(frames, at, pairs, table, index, results)
+        cite(frames, at, pairs, table, index, gathered, results)
     } else {
         results.recall(index)
     }

@@ -32,6 +32,8 @@ pub struct Plan {
     pub nodes: Vec<Node>,
     pub stack: Vec<usize>,
     pub saved: Vec<usize>,
+    /// The mandatory hypotheses of an assertion that is cited.
+    pub mandatory: Vec<u32>,
 }
 
 /// A plan of nothing.
@@ -43,6 +45,7 @@ pub fn new_plan(alloc: Global) -> Plan
         nodes: Vec::new(alloc),
         stack: Vec::new(alloc),
         saved: Vec::new(alloc),
+        mandatory: Vec::new(alloc),
     }
 }
 
@@ -118,7 +121,9 @@ fn cite(frames: &Frames, entry: Entry, plan: &mut Plan) -> Result<bool, AllocErr
             Ok(true)
         }
         Entry::Assertion(position) => {
-            let count = frames.cited(position).hypotheses.len();
+            plan.mandatory.clear();
+            frames.mandatory(position, &mut plan.mandatory)?;
+            let count = plan.mandatory.len();
             if count > plan.stack.len() {
                 return Ok(false);
             }

@@ -12,16 +12,17 @@ use crate::answer::Answer;
 use crate::citation::step;
 use crate::results::Results;
 use crate::table::Entry;
-use frame::Frames;
+use frame::{Frames, Gathered};
 use std::alloc::AllocError;
 
 /// Whether the items with these numbers, over a table of what the labels name, are a right proof of the `$p` at that
-/// position. The results are used for the run.
+/// position. The results, and the buffer of long lists, are used for the run.
 pub fn run(
     frames: &Frames,
     at: usize,
     table: &[Entry],
     numbers: &[u32],
+    gathered: &mut Gathered,
     results: &mut Results,
 ) -> Result<Answer, AllocError>
     requires legal { AreLegal frames.now.statements frames.now.names }
@@ -33,7 +34,7 @@ pub fn run(
     results.start(table.len())?;
     let pairs = frames.active_pairs(at);
     for number in numbers {
-        if !step(frames, at, &pairs, table, *number, results)? {
+        if !step(frames, at, &pairs, table, *number, gathered, results)? {
             return Ok(Answer::Wrong);
         }
     }

@@ -7,6 +7,8 @@ ghost use Rattle.mm_read.specs.declared.stmt.Stmt.{Stmt as Statement};
 ghost use Rattle.proof_code.specs.Reading.{share_label};
 ghost use Rattle.verify.specs.Proves.{mandatory_labels};
 ghost use Rattle.verify.specs.Right.{IsProvable};
+ghost use Rattle.scope.specs.Active.{before};
+ghost use Rattle.frame.specs.FrameOf.{hypotheses};
 ghost use Rattle.frame.specs.Reading.{AreLegal};
 ghost use Rattle.verify.specs.Table.{is_hypothesis_among, IsEntry, AreEntries};
 
@@ -60,14 +62,22 @@ pub fn fill_table(
     Ok(())
 }
 
-/// Fills the table with the mandatory hypotheses of the `$p` at that position.
-pub fn fill_mandatory(frames: &Frames, at: usize, table: &mut Vec<Entry>) -> Result<(), AllocError>
+/// Fills the list, and the table, with the mandatory hypotheses of the `$p` at that position.
+pub fn fill_mandatory(
+    frames: &Frames,
+    at: usize,
+    mandatory: &mut Vec<u32>,
+    table: &mut Vec<Entry>,
+) -> Result<(), AllocError>
     requires { (s : Statement) × IsProvable frames.now.statements at s }
-    ensures { OnOk result ((s : Statement) → IsProvable frames.now.statements at s
+    ensures mandatory { OnOk result ((s : Statement) → IsProvable frames.now.statements at s → mandatory.new.items ≡ hypotheses (before frames.now.statements at) s) }
+    ensures entries { OnOk result ((s : Statement) → IsProvable frames.now.statements at s
         → AreEntries frames.now.statements at (mandatory_labels frames.now.statements at s) table.new.items) }
 {
+    mandatory.clear();
+    frames.mandatory(at, mandatory)?;
     table.clear();
-    for position in frames.hypotheses(at) {
+    for position in mandatory.as_slice() {
         table.push(Entry::Hypothesis(*position as usize))?;
     }
     Ok(())
@@ -91,9 +101,11 @@ fn is_among(entry: Entry, hypotheses: &[u32]) -> bool
 pub fn add_listed(
     frames: &Frames,
     at: usize,
+    mandatory: &[u32],
     heading: Heading<'_>,
     table: &mut Vec<Entry>,
 ) -> Result<bool, AllocError>
+    requires mandatory { (s : Statement) → IsProvable frames.now.statements at s → mandatory.now ≡ hypotheses (before frames.now.statements at) s }
     requires legal { AreLegal frames.now.statements frames.now.names }
     requires provable { (s : Statement) × IsProvable frames.now.statements at s }
     requires listed { heading.count ≤ length heading.words }
@@ -102,7 +114,6 @@ pub fn add_listed(
     ensures apart { IfOk result (λ ok. (s : Statement) → IsProvable frames.now.statements at s
         → ok ≡ not (share_label (mandatory_labels frames.now.statements at s) (take heading.entry.count heading.entry.words))) }
 {
-    let mandatory = frames.hypotheses(at);
     let mut words = heading.words;
     for _ in 0..heading.count {
         let Some(label) = words.next() else {

@@ -1,26 +1,38 @@
-use Rattle.std.proofs.Common.{sym, subst, refl, length}
-use Rattle.frame.specs.Stored.{statements_of, AreHypotheses}
+use Rattle.std.specs.Prelude.{true}
+use Rattle.scope.specs.Active.{is_essential}
+use Rattle.std.proofs.Common.{◌≡◌, ◌∙◌, ap, sym, subst, refl, length}
+use Rattle.names.specs.Codes.{decode}
+use Rattle.frame.specs.Stored.{statements_of, AreHypotheses, floats_in}
 use Rattle.frame.specs.Drafts.{drafted}
-use Rattle.frame.proofs.CollectedLemmas.{collected-hypotheses}
-use Rattle.frame.proofs.AssertionLemmas.{hypotheses-are, parts-kept}
-use Rattle.frame.proofs.EnterLemmas.{ok-map, essentials-kept}
+use Rattle.frame.proofs.CollectedLemmas.{collected-hypotheses, found-floats}
+use Rattle.frame.proofs.AssertionLemmas.{hypotheses-are, floats-are, parts-kept}
+use Rattle.frame.proofs.EnterLemmas.{ok-given, essentials-kept}
 use Rattle.frame.proofs.enter.keep.Goals as goal
 
-pub assertion-requires-clause-hypotheses : goal.assertion-requires-clause-hypotheses
-assertion-requires-clause-hypotheses c =
+pub parts-requires-clause-hypotheses : goal.parts-requires-clause-hypotheses
+parts-requires-clause-hypotheses c =
     let k = c.args.stock.now in
-    let s = c.requires.assertion.0 in
-    let n = c.requires.assertion.1 in
+    let s = c.requires.next.0 in
+    let n = c.requires.next.1 in
     subst (AreHypotheses k.entries)
     (sym (collected-hypotheses k.entries k.names k.labels (length k.labels) (statements_of k) refl c.distinct.ensures c.requires.stored.coded c.requires.stored.legal s c.args.draft.now.symbols.items c.requires.codes n.stand
     (essentials-kept k c.requires.stored)))
     (hypotheses-are k.names k.labels k.entries s)
 
+pub parts-requires-clause-floats : goal.parts-requires-clause-floats
+parts-requires-clause-floats c =
+    let k = c.args.stock.now in
+    subst (AreHypotheses k.entries)
+    (sym (found-floats k.entries k.names k.labels (length k.labels) (statements_of k) refl c.distinct.ensures c.requires.stored.coded c.requires.stored.legal c.args.draft.now.symbols.items c.requires.codes))
+    (floats-are k.names k.labels k.entries (decode k.names c.args.draft.now.symbols.items))
+
 pub returns-clause-kept : goal.returns-clause-kept
 returns-clause-kept c = λ s n.
     let k = c.args.stock.now in
-    ok-map c.assertion.result _ _
-    (λ parts. parts-kept k.entries (statements_of k) s c.args.draft.now.symbols.items (drafted c.assertion.new.draft) n.assertion
+    ok-given c.parts.result (is_essential s ≡ true) _ _ _
+    (λ parts own. parts-kept k.entries (statements_of k) s c.args.draft.now.symbols.items (drafted c.parts.new.draft)
     (collected-hypotheses k.entries k.names k.labels (length k.labels) (statements_of k) refl c.distinct.ensures c.requires.stored.coded c.requires.stored.legal s c.args.draft.now.symbols.items c.requires.codes n.stand
     (essentials-kept k c.requires.stored))
-    parts) c.assertion.ensures.parts
+    (found-floats k.entries k.names k.labels (length k.labels) (statements_of k) refl c.distinct.ensures c.requires.stored.coded c.requires.stored.legal c.args.draft.now.symbols.items c.requires.codes
+    ∙ ap (floats_in (statements_of k)) n.stand)
+    own parts) c.parts.ensures.parts (λ e. c.parts.ensures.own (n.own e))

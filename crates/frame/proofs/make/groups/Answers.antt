@@ -24,7 +24,7 @@ pub loop-last-init : goal.loop-last-init
 loop-last-init c =
     let k = c.args.stock.now in
     record {
-      walk = groups-start k c.args.variables.now (cut c.args.places.now.items c.args.groups.now.items) (ap (cut c.args.places.now.items) c.requires.empty) c.requires.stored.last;
+      walk = groups-start k c.args.at c.args.variables.now (cut c.args.places.now.items c.args.groups.now.items) c.links_at-last.result (ap (cut c.args.places.now.items) c.requires.empty) c.requires.place.0 c.requires.place.1 c.links_at-last.ensures;
       within = subst (AreSpansIn (length c.args.places.now.items)) (sym c.requires.empty) tt;
     }
 
@@ -61,8 +61,8 @@ loop-last-preserved c =
         p - 1,
         omega (arith, b, high),
         l,
-        subst (AreGroups k.entries vs (actives is_disj S) (actives is_disj (take (p - 1) S))) (sym c.in_ok-add_group.ensures.added)
-            (groups-step k.entries vs (actives is_disj S) (actives is_disj (take i.0 S)) (actives is_disj (take (p - 1) S)) p w.0 (cut c.loop-last.places.items c.loop-last.groups.items) group w.1.list own i.3 (has_two group) refl),
+        subst (AreGroups k.entries vs (actives is_disj (take (c.args.at - 1) S)) (actives is_disj (take (p - 1) S))) (sym c.in_ok-add_group.ensures.added)
+            (groups-step k.entries vs (actives is_disj (take (c.args.at - 1) S)) (actives is_disj (take i.0 S)) (actives is_disj (take (p - 1) S)) p w.0 (cut c.loop-last.places.items c.loop-last.groups.items) group w.1.list own i.3 (has_two group) refl),
       );
       within = c.in_ok-add_group.ensures.within;
     }
@@ -72,7 +72,7 @@ returns-clause-groups c =
     let k = c.args.stock.now in
     let S = statements_of k in
     let i = c.loop-last.invariant.walk in
-    groups-end k.entries c.args.variables.now (actives is_disj S) (actives is_disj (take i.0 S)) c.loop-last.places.items c.loop-last.groups.items c.reverse.new.self.items i.3 (walk-over is_disj S i.0 c.loop-last.last refl i.2 c.loop-last-test.false) c.reverse.ensures.items
+    groups-end k.entries c.args.variables.now (actives is_disj (take (c.args.at - 1) S)) (actives is_disj (take i.0 S)) c.loop-last.places.items c.loop-last.groups.items c.reverse.new.self.items i.3 (walk-over is_disj S i.0 c.loop-last.last refl i.2 c.loop-last-test.false) c.reverse.ensures.items
 
 pub returns-clause-within : goal.returns-clause-within
 returns-clause-within c =

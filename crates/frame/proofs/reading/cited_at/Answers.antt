@@ -1,10 +1,12 @@
 use Rattle.std.proofs.Common.{◌≡◌, ◌∙◌, ◌-◌, ap, sym, subst, arith}
-use Rattle.std.specs.Prelude.{slice_get}
+use Rattle.std.specs.Prelude.{slice_get, IfSome}
+use Rattle.entries.specs.Entries.{AreWhole}
 use Rattle.std.proofs.lemmas.Option.{slice_get_within}
 use Rattle.frame.specs.Cited.{IsCited}
 use Rattle.frame.specs.Stored.{statements_of}
 use Rattle.frame.proofs.WalkLemmas.{some-same}
 use Rattle.frame.proofs.CitedLemmas.{is-there, there-cited}
+use Rattle.frame.proofs.GatherLemmas.{some-map}
 use Rattle.frame.proofs.reading.cited_at.Goals as goal
 
 pub cited-requires : goal.cited-requires
@@ -22,8 +24,7 @@ returns c = λ s h.
     let w = t.2 in
     let back : c.args.a - 1 ≡ t.0 = omega (arith, w.place) in
     let here = ap (slice_get k.entries) back ∙ w.here in
-    let p = c.cited.ensures in
     let same : c.requires.assertion.0 ≡ s = some-same (sym c.requires.assertion.1.0 ∙ h) in
-    subst (λ r. IsCited (statements_of k) k.names c.args.a r c.cited.result) same
-    (there-cited k c.args.a t.0 c.requires.assertion.0 t.1 c.cited.result c.requires.stored c.requires.distinct c.requires.assertion.1.1 w
-    (p.heads t.1 here) (p.hypotheses t.1 here) (p.conclusion t.1 here) (p.groups t.1 here))
+    subst (λ r. IfSome c.cited.result (IsCited (statements_of k) k.names c.args.a r)) same
+    (some-map c.cited.result (AreWhole t.1) (IsCited (statements_of k) k.names c.args.a c.requires.assertion.0)
+    (λ x p. there-cited k c.args.a t.0 c.requires.assertion.0 t.1 x c.requires.stored c.requires.distinct c.requires.assertion.1.1 w p) (c.cited.ensures t.1 here))

@@ -15,7 +15,7 @@ look_up-entry-requires-clause-place c = place_of c.args.frames.now.statements c.
 
 pub is_among-requires : goal.is_among-requires
 is_among-requires c =
-    subst IsNonDecreasing (sym (c.hypotheses-mandatory.ensures c.requires.provable.0 c.requires.provable.1.stands))
+    subst IsNonDecreasing (sym (c.requires.mandatory c.requires.provable.0 c.requires.provable.1))
     (hypotheses-rise (before c.args.frames.now.statements c.args.at) c.requires.provable.0)
 
 pub returns-then-is_among-clause-apart : goal.returns-then-is_among-clause-apart
@@ -23,7 +23,7 @@ returns-then-is_among-clause-apart c = λ s provable.
     let within : c.loop.counter < length c.args.heading.words = let a = c.requires.listed in let b = c.loop-test.true in omega (arith, a, b) in
     ap not (sym (one-shared _ _ _ _ _ _ _ c.loop.invariant within c.in-Some.label.now c.next.new.self c.in-Some.ensures.steps c.look_up-entry.result c.requires.legal.once c.look_up-entry.ensures
     c.requires.provable.0 c.requires.provable.1
-    (ap (λ hs. is_hypothesis_among hs c.look_up-entry.result) (sym (c.hypotheses-mandatory.ensures c.requires.provable.0 c.requires.provable.1.stands)) ∙ sym c.if-is_among.ensures)
+    (ap (λ hs. is_hypothesis_among hs c.look_up-entry.result) (sym (c.requires.mandatory c.requires.provable.0 c.requires.provable.1)) ∙ sym c.if-is_among.ensures)
     c.args.heading.count (let b = c.loop-test.true in omega (arith, b)) s provable))
 
 pub loop-preserved : goal.loop-preserved
@@ -31,5 +31,5 @@ loop-preserved c =
     let within : c.loop.counter < length c.args.heading.words = let a = c.requires.listed in let b = c.loop-test.true in omega (arith, a, b) in
     one-added _ _ _ _ _ _ _ c.loop.invariant within c.in-Some.label.now c.next.new.self c.in-Some.ensures.steps c.look_up-entry.result c.requires.legal.once c.look_up-entry.ensures
     c.requires.provable.0 c.requires.provable.1
-    (ap (λ hs. is_hypothesis_among hs c.look_up-entry.result) (sym (c.hypotheses-mandatory.ensures c.requires.provable.0 c.requires.provable.1.stands)) ∙ sym c.if-is_among.ensures)
+    (ap (λ hs. is_hypothesis_among hs c.look_up-entry.result) (sym (c.requires.mandatory c.requires.provable.0 c.requires.provable.1)) ∙ sym c.if-is_among.ensures)
     c.push.new.self.items c.in_ok-push.ensures.items

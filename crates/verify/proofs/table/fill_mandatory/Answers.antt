@@ -4,8 +4,8 @@ use Rattle.verify.specs.declared.table.Entry.TheVariants.{Hypothesis}
 use Rattle.verify.proofs.MandatoryLemmas.{mandatory-entries}
 use Rattle.verify.proofs.table.fill_mandatory.Goals as goal
 
-pub returns : goal.returns
-returns c = λ s provable.
-    mandatory-entries c.args.frames.now.statements c.args.at s c.hypotheses-position-items.result.now c.loop-position.table.items provable
-    (c.hypotheses-position-items.ensures s provable.stands)
-    (c.loop-position.invariant ∙ ap (map Hypothesis) (take_all c.loop-position.position-index c.hypotheses-position-items.result.now (let over = c.loop-position-test.false in omega (arith, over))))
+pub returns-clause-entries : goal.returns-clause-entries
+returns-clause-entries c = λ s provable.
+    mandatory-entries c.args.frames.now.statements c.args.at s c.as_slice-position-items.result.now c.loop-position.table.items provable
+    (c.as_slice-position-items.ensures.value ∙ c.in_ok-mandatory.ensures s provable.stands)
+    (c.loop-position.invariant ∙ ap (map Hypothesis) (take_all c.loop-position.position-index c.as_slice-position-items.result.now (let over = c.loop-position-test.false in omega (arith, over))))

@@ -1,5 +1,6 @@
 use Rattle.std.proofs.Common.{◌≡◌, ◌<◌, ◌-◌, length, slice_get, sym, ap, ◌∙◌, arith, subst}
-use Rattle.std.specs.Prelude.{slice_range}
+use Rattle.std.specs.Prelude.{slice_range, Some}
+use Rattle.entries.specs.Entries.{Entry, seen}
 use Rattle.entries.specs.Records.{own_row}
 use Rattle.entries.specs.Spans.{cut, AreSpansIn}
 use Rattle.entries.proofs.SpanLemmas.{part-of, length-range}
@@ -27,8 +28,8 @@ part-requires c =
     let s : IsReading b w is.0 = subst (λ v. IsReading b v is.0) (sym row) is.1 in
     (s.heads_in, omega (arith, ap length c.as_slice-numbers.ensures.value, s.places_in, s.numbers_in))
 
-pub part-requires-2 : goal.part-requires-2
-part-requires-2 c =
+pub part-requires-then-row : goal.part-requires-then-row
+part-requires-then-row c =
     let b = c.self.inside.buffers in
     let rs = c.self.inside.records.items in
     let r = c.item.result in
@@ -37,10 +38,10 @@ part-requires-2 c =
     let row : w ≡ own_row b.rows.items r = c.row_of-row.ensures ∙ ap (λ ws. own_row ws r) c.deref.ensures.value in
     let is = reads-some b rs c.args.self.now c.args.index r c.self.invariant c.self.view_is got in
     let s : IsReading b w is.0 = subst (λ v. IsReading b v is.0) (sym row) is.1 in
-    (s.hypotheses_in, omega (arith, ap length c.deref-3.ensures.value, s.hypotheses_end, c.self.invariant.paired))
+    (s.hypotheses_in, omega (arith, ap length c.deref-then-row.ensures.value, s.hypotheses_end, c.self.invariant.paired))
 
-pub part-requires-3 : goal.part-requires-3
-part-requires-3 c =
+pub part-requires-then-row-2 : goal.part-requires-then-row-2
+part-requires-then-row-2 c =
     let b = c.self.inside.buffers in
     let rs = c.self.inside.records.items in
     let r = c.item.result in
@@ -49,10 +50,10 @@ part-requires-3 c =
     let row : w ≡ own_row b.rows.items r = c.row_of-row.ensures ∙ ap (λ ws. own_row ws r) c.deref.ensures.value in
     let is = reads-some b rs c.args.self.now c.args.index r c.self.invariant c.self.view_is got in
     let s : IsReading b w is.0 = subst (λ v. IsReading b v is.0) (sym row) is.1 in
-    (s.groups_in, omega (arith, ap length c.deref-4.ensures.value, s.groups_end))
+    (s.groups_in, omega (arith, ap length c.deref-then-row-2.ensures.value, s.groups_end))
 
-pub part-requires-4 : goal.part-requires-4
-part-requires-4 c =
+pub part-requires-then-row-3 : goal.part-requires-then-row-3
+part-requires-then-row-3 c =
     let b = c.self.inside.buffers in
     let rs = c.self.inside.records.items in
     let r = c.item.result in
@@ -73,13 +74,13 @@ invariant_of-result c =
     let row : w ≡ own_row b.rows.items r = c.row_of-row.ensures ∙ ap (λ ws. own_row ws r) c.deref.ensures.value in
     let is = reads-some b rs c.args.self.now c.args.index r c.self.invariant c.self.view_is got in
     let s : IsReading b w is.0 = subst (λ v. IsReading b v is.0) (sym row) is.1 in
-    let spans = part-of b.groups.items c.deref-4.result.now c.part-3.result.now w.groups_from w.groups c.deref-4.ensures.value c.part-3.ensures in
-    let places = part-of b.numbers.items c.as_slice-numbers.result.now c.part-4.result.now w.heads w.places c.as_slice-numbers.ensures.value c.part-4.ensures in
-    let count : w.places - w.heads ≡ length c.part-4.result.now = omega (arith, ap length places, length-range b.numbers.items w.heads w.places s.numbers_in) in
-    subst (λ n. AreSpansIn n c.part-3.result.now) count (subst (AreSpansIn (w.places - w.heads)) (sym spans) s.grouped)
+    let spans = part-of b.groups.items c.deref-then-row-2.result.now c.part-then-row-2.result.now w.groups_from w.groups c.deref-then-row-2.ensures.value c.part-then-row-2.ensures in
+    let places = part-of b.numbers.items c.as_slice-numbers.result.now c.part-then-row-3.result.now w.heads w.places c.as_slice-numbers.ensures.value c.part-then-row-3.ensures in
+    let count : w.places - w.heads ≡ length c.part-then-row-3.result.now = omega (arith, ap length places, length-range b.numbers.items w.heads w.places s.numbers_in) in
+    subst (λ n. AreSpansIn n c.part-then-row-2.result.now) count (subst (AreSpansIn (w.places - w.heads)) (sym spans) s.grouped)
 
-pub returns-clause-heads : goal.returns-clause-heads
-returns-clause-heads c = λ e h.
+pub returns-then-row : goal.returns-then-row
+returns-then-row c = λ e h.
     let b = c.self.inside.buffers in
     let rs = c.self.inside.records.items in
     let r = c.item.result in
@@ -87,28 +88,13 @@ returns-clause-heads c = λ e h.
     let got = ap (λ xs. slice_get xs c.args.index) (sym c.deref-2.ensures.value) ∙ c.item.ensures in
     let row : w ≡ own_row b.rows.items r = c.row_of-row.ensures ∙ ap (λ ws. own_row ws r) c.deref.ensures.value in
     let s : IsReading b w e.assertion = subst (λ v. IsReading b v e.assertion) (sym row) (reads b rs c.args.self.now c.args.index r c.self.invariant c.self.view_is got e h) in
-    part-of b.numbers.items c.as_slice-numbers.result.now c.part.result.now w.symbols w.heads c.as_slice-numbers.ensures.value c.part.ensures ∙ s.heads
-
-pub returns-clause-hypotheses : goal.returns-clause-hypotheses
-returns-clause-hypotheses c = λ e h.
-    let b = c.self.inside.buffers in
-    let rs = c.self.inside.records.items in
-    let r = c.item.result in
-    let w = c.row_of-row.result in
-    let got = ap (λ xs. slice_get xs c.args.index) (sym c.deref-2.ensures.value) ∙ c.item.ensures in
-    let row : w ≡ own_row b.rows.items r = c.row_of-row.ensures ∙ ap (λ ws. own_row ws r) c.deref.ensures.value in
-    let s : IsReading b w e.assertion = subst (λ v. IsReading b v e.assertion) (sym row) (reads b rs c.args.self.now c.args.index r c.self.invariant c.self.view_is got e h) in
-    part-of b.asked.items c.deref-3.result.now c.part-2.result.now w.hypotheses_from w.hypotheses c.deref-3.ensures.value c.part-2.ensures ∙ s.asked
-
-pub returns-clause-groups : goal.returns-clause-groups
-returns-clause-groups c = λ e h.
-    let b = c.self.inside.buffers in
-    let rs = c.self.inside.records.items in
-    let r = c.item.result in
-    let w = c.row_of-row.result in
-    let got = ap (λ xs. slice_get xs c.args.index) (sym c.deref-2.ensures.value) ∙ c.item.ensures in
-    let row : w ≡ own_row b.rows.items r = c.row_of-row.ensures ∙ ap (λ ws. own_row ws r) c.deref.ensures.value in
-    let s : IsReading b w e.assertion = subst (λ v. IsReading b v e.assertion) (sym row) (reads b rs c.args.self.now c.args.index r c.self.invariant c.self.view_is got e h) in
-    let spans = part-of b.groups.items c.deref-4.result.now c.part-3.result.now w.groups_from w.groups c.deref-4.ensures.value c.part-3.ensures in
-    let places = part-of b.numbers.items c.as_slice-numbers.result.now c.part-4.result.now w.heads w.places c.as_slice-numbers.ensures.value c.part-4.ensures in
-    ap (cut c.part-4.result.now) spans ∙ (ap (λ xs. cut xs (slice_range b.groups.items w.groups_from w.groups)) places ∙ s.groups)
+    let spans = part-of b.groups.items c.deref-then-row-2.result.now c.part-then-row-2.result.now w.groups_from w.groups c.deref-then-row-2.ensures.value c.part-then-row-2.ensures in
+    let places = part-of b.numbers.items c.as_slice-numbers.result.now c.part-then-row-3.result.now w.heads w.places c.as_slice-numbers.ensures.value c.part-then-row-3.ensures in
+    let own : Some e ≡ Some (seen c.entry.result c.entry.ensures.0) = sym h ∙ c.entry.ensures.1 in
+    record {
+      whole = sym s.whole ∙ c.if-row.true;
+      heads = part-of b.numbers.items c.as_slice-numbers.result.now c.part.result.now w.symbols w.heads c.as_slice-numbers.ensures.value c.part.ensures ∙ s.heads;
+      hypotheses = part-of b.asked.items c.deref-then-row.result.now c.part-then-row.result.now w.hypotheses_from w.hypotheses c.deref-then-row.ensures.value c.part-then-row.ensures ∙ s.asked;
+      conclusion = let same : e ≡ seen c.entry.result c.entry.ensures.0 = cc in sym (ap (λ (x : Entry). x.symbols) same);
+      groups = ap (cut c.part-then-row-3.result.now) spans ∙ (ap (λ xs. cut xs (slice_range b.groups.items w.groups_from w.groups)) places ∙ s.groups);
+    }

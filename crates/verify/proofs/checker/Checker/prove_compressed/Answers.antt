@@ -1,4 +1,4 @@
-use Rattle.std.proofs.Common.{◌++◌, take, sym, subst}
+use Rattle.std.proofs.Common.{◌++◌, ◌∙◌, take, sym, subst}
 use Rattle.std.specs.Prelude.{IfOk}
 use Rattle.proof_code.specs.Numbers.{items_of}
 use Rattle.verify.specs.Proves.{mandatory_labels}
@@ -10,8 +10,8 @@ use Rattle.verify.proofs.checker.Checker.prove_compressed.Goals as goal
 pub returns-in_default : goal.returns-in_default
 returns-in_default c =
     let s = c.requires.provable.0 in
-    unwritten c.args.frames.now.statements c.args.at s c.args.tokens.now c.requires.provable.1 c.requires.compressed c.hypotheses-mandatory.result.now
-    (c.hypotheses-mandatory.ensures s c.requires.provable.1.stands) (rw c.in_default.is at c.in_ok-heading.ensures)
+    unwritten c.args.frames.now.statements c.args.at s c.args.tokens.now c.requires.provable.1 c.requires.compressed c.as_slice-count.result.now
+    (c.as_slice-count.ensures.value ∙ c.in_ok-fill_mandatory.ensures.mandatory s c.requires.provable.1) (rw c.in_default.is at c.in_ok-heading.ensures)
 
 pub returns-then-not-branch : goal.returns-then-not-branch
 returns-then-not-branch c =
@@ -25,8 +25,8 @@ returns c =
     let labels = mandatory_labels c.args.frames.now.statements c.args.at s ++ take c.in-Some.heading.count c.in-Some.heading.words in
     read-proves c.args.frames.now.statements c.args.at s c.args.tokens.now c.requires.provable.1 c.requires.compressed _ _ _ _ (rw c.in-Some.is at c.in_ok-heading.ensures)
     c.in_ok-add_listed.field-0 c.if-not-branch.false (c.in_ok-add_listed.ensures.apart s c.requires.provable.1)
-    (many c.args.frames.now.statements c.args.at s c.args.tokens.now c.requires.provable.1 c.requires.compressed c.hypotheses-mandatory.result.now (c.hypotheses-mandatory.ensures s c.requires.provable.1.stands))
+    (many c.args.frames.now.statements c.args.at s c.args.tokens.now c.requires.provable.1 c.requires.compressed c.as_slice-count.result.now (c.as_slice-count.ensures.value ∙ c.in_ok-fill_mandatory.ensures.mandatory s c.requires.provable.1))
     c.run.result
     (subst (λ ns. IfOk c.run.result (λ answer. Says answer (IsRight c.args.frames.now.statements c.args.at (items_of labels ns)))) c.numbers.ensures
-    (c.run.ensures labels (subst (AreEntries c.args.frames.now.statements c.args.at labels) (sym c.deref.ensures.value)
-    (c.in_ok-add_listed.ensures.entries c.if-not-branch.false (mandatory_labels c.args.frames.now.statements c.args.at s) (c.in_ok-fill_mandatory.ensures s c.requires.provable.1)))))
+    (c.run.ensures labels (subst (AreEntries c.args.frames.now.statements c.args.at labels) (sym c.deref-2.ensures.value)
+    (c.in_ok-add_listed.ensures.entries c.if-not-branch.false (mandatory_labels c.args.frames.now.statements c.args.at s) (c.in_ok-fill_mandatory.ensures.entries s c.requires.provable.1)))))

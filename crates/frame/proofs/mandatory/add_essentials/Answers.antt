@@ -7,7 +7,7 @@ use Rattle.frame.proofs.WalkLemmas.{walk-back, walk-over, last-within}
 use Rattle.frame.proofs.CollectLemmas.{essentials-step}
 use Rattle.frame.proofs.CollectedLemmas.{ascends-inserted}
 use Rattle.entries.specs.Entries.{seen}
-use Rattle.frame.proofs.mandatory.mandatory.Goals as goal
+use Rattle.frame.proofs.mandatory.add_essentials.Goals as goal
 
 pub hypotheses-requires : goal.hypotheses-requires
 hypotheses-requires c =

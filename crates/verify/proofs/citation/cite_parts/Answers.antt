@@ -18,7 +18,7 @@ use Rattle.verify.proofs.KnownLemmas.{saved-same}
 use Rattle.verify.proofs.Named.{all-drop, length-top}
 use Rattle.verify.proofs.StepLemmas.{assertion-few, assertion-untyped, assertion-unfit, assertion-clash, assertion-result}
 use Rattle.verify.proofs.TableLemmas.{has_with}
-use Rattle.verify.proofs.citation.cite_assertion.Goals as goal
+use Rattle.verify.proofs.citation.cite_parts.Goals as goal
 
 -- which of the two it was
 reads-as : (ok b : Bool) (heads : List ℕ) (hs : List Hypothesis) (rs : List (List ℕ)) (σ : CodeImages) → ok ≡ b → Reads ok heads hs rs σ → Reads b heads hs rs σ
@@ -38,29 +38,29 @@ adds-as r old old' new n e same h = subst (λ (v : Results ℕ). IfOk r (λ ok. 
 
 pub read_images-requires-clause-same : goal.read_images-requires-clause-same
 read_images-requires-clause-same c =
-    let cited = c.cited-cited.ensures c.requires.assertion.0 c.requires.assertion.1.0 in
-    let l = asked-lengths c.args.frames.now.statements c.args.frames.now.names _ c.cited-cited.result.heads.now c.cited-cited.result.hypotheses.now cited.asked in
+    let cited = c.requires.cited c.requires.assertion.0 c.requires.assertion.1.0 in
+    let l = asked-lengths c.args.frames.now.statements c.args.frames.now.names _ c.args.cited.now.heads.now c.args.cited.now.hypotheses.now cited.asked in
     l.0 ∙ sym l.1
 
 pub read_images-requires-clause-different : goal.read_images-requires-clause-different
 read_images-requires-clause-different c =
-    let cited = c.cited-cited.ensures c.requires.assertion.0 c.requires.assertion.1.0 in
-    asked-different c.args.frames.now.statements c.args.frames.now.names c.args.position c.requires.assertion.0 c.cited-cited.result.heads.now c.cited-cited.result.hypotheses.now
+    let cited = c.requires.cited c.requires.assertion.0 c.requires.assertion.1.0 in
+    asked-different c.args.frames.now.statements c.args.frames.now.names c.args.position c.requires.assertion.0 c.args.cited.now.heads.now c.args.cited.now.hypotheses.now
     (c.requires.legal.bound _ c.requires.assertion.0 c.requires.assertion.1) cited.asked
 
 pub fits-requires-clause-standing : goal.fits-requires-clause-standing
 fits-requires-clause-standing c =
-    let cited = c.cited-cited.ensures c.requires.assertion.0 c.requires.assertion.1.0 in
-    asked-standing c.args.frames.now.statements c.args.frames.now.names _ c.cited-cited.result.heads.now c.cited-cited.result.hypotheses.now cited.asked
+    let cited = c.requires.cited c.requires.assertion.0 c.requires.assertion.1.0 in
+    asked-standing c.args.frames.now.statements c.args.frames.now.names _ c.args.cited.now.heads.now c.args.cited.now.hypotheses.now cited.asked
 
 pub fits-requires-clause-over : goal.fits-requires-clause-over
 fits-requires-clause-over c =
     let S = c.args.frames.now.statements in
     let names = c.args.frames.now.names in
-    let cited = c.cited-cited.ensures c.requires.assertion.0 c.requires.assertion.1.0 in
+    let cited = c.requires.cited c.requires.assertion.0 c.requires.assertion.1.0 in
     let stack = c.args.results.now.results.stack in
-    let n = length c.cited-cited.result.hypotheses.now in
-    read-over S names c.args.position c.requires.assertion.0 c.requires.legal.distinct (c.requires.legal.bound _ c.requires.assertion.0 c.requires.assertion.1) c.cited-cited.result.heads.now c.cited-cited.result.hypotheses.now
+    let n = length c.args.cited.now.hypotheses.now in
+    read-over S names c.args.position c.requires.assertion.0 c.requires.legal.distinct (c.requires.legal.bound _ c.requires.assertion.0 c.requires.assertion.1) c.args.cited.now.heads.now c.args.cited.now.hypotheses.now
     cited.asked (top n stack) (length-top n stack (let h = c.if-count-len.false in omega (arith, h, c.len.ensures)))
     c.read_images.new.self.images (reads-as _ true _ _ _ _ c.if-not-branch.false c.in_ok-read_images.ensures.read) (all-drop (length names) (length stack - n) stack c.requires.named.stack_named)
 
@@ -68,49 +68,49 @@ pub are_apart-requires-clause-over : goal.are_apart-requires-clause-over
 are_apart-requires-clause-over c =
     let S = c.args.frames.now.statements in
     let names = c.args.frames.now.names in
-    let cited = c.cited-cited.ensures c.requires.assertion.0 c.requires.assertion.1.0 in
+    let cited = c.requires.cited c.requires.assertion.0 c.requires.assertion.1.0 in
     let stack = c.args.results.now.results.stack in
-    let n = length c.cited-cited.result.hypotheses.now in
+    let n = length c.args.cited.now.hypotheses.now in
     subst (λ v. AreOver v c.read_images.new.self.images) (sym c.requires.names)
-    (read-over S names c.args.position c.requires.assertion.0 c.requires.legal.distinct (c.requires.legal.bound _ c.requires.assertion.0 c.requires.assertion.1) c.cited-cited.result.heads.now c.cited-cited.result.hypotheses.now
+    (read-over S names c.args.position c.requires.assertion.0 c.requires.legal.distinct (c.requires.legal.bound _ c.requires.assertion.0 c.requires.assertion.1) c.args.cited.now.heads.now c.args.cited.now.hypotheses.now
     cited.asked (top n stack) (length-top n stack (let h = c.if-count-len.false in omega (arith, h, c.len.ensures)))
     c.read_images.new.self.images (reads-as _ true _ _ _ _ c.if-not-branch.false c.in_ok-read_images.ensures.read) (all-drop (length names) (length stack - n) stack c.requires.named.stack_named))
 
 pub returns-then-count-len-clause-goes : goal.returns-then-count-len-clause-goes
 returns-then-count-len-clause-goes c = λ label s carries.
     let has = has_with _ _ s _ label carries c.requires.assertion.1 in
-    assertion-few _ _ c.args.at c.requires.legal c.args.results.now.results c.args.results.now.results c.requires.named label c.args.position c.cited-cited.result s carries
-    has (c.requires.legal.bound _ s has) (c.cited-cited.ensures s carries.stands) (omega (arith, c.if-count-len.true, c.len.ensures))
+    assertion-few _ _ c.args.at c.requires.legal c.args.results.now.results c.args.results.now.results c.requires.named label c.args.position c.args.cited.now s carries
+    has (c.requires.legal.bound _ s has) (c.requires.cited s carries.stands) (omega (arith, c.if-count-len.true, c.len.ensures))
 
 pub returns-then-not-branch-clause-goes : goal.returns-then-not-branch-clause-goes
 returns-then-not-branch-clause-goes c = λ label s carries.
     let has = has_with _ _ s _ label carries c.requires.assertion.1 in
-    assertion-untyped _ _ c.args.at c.requires.legal c.args.results.now.results c.read_images.new.self.results c.requires.named label c.args.position c.cited-cited.result s carries
-    has (c.requires.legal.bound _ s has) (c.cited-cited.ensures s carries.stands) c.read_images.new.self.images (reads-as _ false _ _ _ _ c.if-not-branch.true c.in_ok-read_images.ensures.read)
+    assertion-untyped _ _ c.args.at c.requires.legal c.args.results.now.results c.read_images.new.self.results c.requires.named label c.args.position c.args.cited.now s carries
+    has (c.requires.legal.bound _ s has) (c.requires.cited s carries.stands) c.read_images.new.self.images (reads-as _ false _ _ _ _ c.if-not-branch.true c.in_ok-read_images.ensures.read)
 
 pub returns-then-not-fits-clause-goes : goal.returns-then-not-fits-clause-goes
 returns-then-not-fits-clause-goes c = λ label s carries.
     let has = has_with _ _ s _ label carries c.requires.assertion.1 in
-    assertion-unfit _ _ c.args.at c.requires.legal c.args.results.now.results c.read_images.new.self.results c.requires.named label c.args.position c.cited-cited.result s carries
-    has (c.requires.legal.bound _ s has) (c.cited-cited.ensures s carries.stands) c.read_images.new.self.images (reads-as _ true _ _ _ _ c.if-not-branch.false c.in_ok-read_images.ensures.read)
+    assertion-unfit _ _ c.args.at c.requires.legal c.args.results.now.results c.read_images.new.self.results c.requires.named label c.args.position c.args.cited.now s carries
+    has (c.requires.legal.bound _ s has) (c.requires.cited s carries.stands) c.read_images.new.self.images (reads-as _ true _ _ _ _ c.if-not-branch.false c.in_ok-read_images.ensures.read)
     (λ h. let e = (fit-as _ _ _ _ _ _ _ (ap (λ (v : Results ℕ). v.stack) c.in_ok-read_images.ensures.same) c.fits.ensures).1 h in let f = c.if-not-fits.true in cc)
 
 pub returns-then-not-are_apart-clause-goes : goal.returns-then-not-are_apart-clause-goes
 returns-then-not-are_apart-clause-goes c = λ label s carries.
     let has = has_with _ _ s _ label carries c.requires.assertion.1 in
-    assertion-clash _ _ c.args.at c.requires.legal c.args.results.now.results c.read_images.new.self.results c.requires.named label c.args.position c.cited-cited.result s carries
-    has (c.requires.legal.bound _ s has) (c.cited-cited.ensures s carries.stands) c.read_images.new.self.images (reads-as _ true _ _ _ _ c.if-not-branch.false c.in_ok-read_images.ensures.read)
-    (apart-by _ _ _ _ _ c.read_images.new.self.images c.cited-cited.result.groups _ c.requires.active c.requires.names c.are_apart.ensures c.if-not-are_apart.true)
+    assertion-clash _ _ c.args.at c.requires.legal c.args.results.now.results c.read_images.new.self.results c.requires.named label c.args.position c.args.cited.now s carries
+    has (c.requires.legal.bound _ s has) (c.requires.cited s carries.stands) c.read_images.new.self.images (reads-as _ true _ _ _ _ c.if-not-branch.false c.in_ok-read_images.ensures.read)
+    (apart-by _ _ _ _ _ c.read_images.new.self.images c.args.cited.now.groups _ c.requires.active c.requires.names c.are_apart.ensures c.if-not-are_apart.true)
 
 pub returns-clause-goes : goal.returns-clause-goes
 returns-clause-goes c = λ label s carries.
     let has = has_with _ _ s _ label carries c.requires.assertion.1 in
-    let cited = c.cited-cited.ensures s carries.stands in
-    assertion-result _ _ c.args.at c.requires.legal c.args.results.now.results _ c.requires.named label c.args.position c.cited-cited.result s carries
+    let cited = c.requires.cited s carries.stands in
+    assertion-result _ _ c.args.at c.requires.legal c.args.results.now.results _ c.requires.named label c.args.position c.args.cited.now s carries
     has (c.requires.legal.bound _ s has) cited c.read_images.new.self.images (reads-as _ true _ _ _ _ c.if-not-branch.false c.in_ok-read_images.ensures.read)
     c.apply.result c.requires.earlier (let h = c.if-count-len.false in omega (arith, h, c.len.ensures))
     ((fit-as _ _ _ _ _ _ _ (ap (λ (v : Results ℕ). v.stack) c.in_ok-read_images.ensures.same) c.fits.ensures).0 c.if-not-fits.false)
-    (apart-by _ _ _ _ _ c.read_images.new.self.images c.cited-cited.result.groups _ c.requires.active c.requires.names c.are_apart.ensures c.if-not-are_apart.false)
+    (apart-by _ _ _ _ _ c.read_images.new.self.images c.args.cited.now.groups _ c.requires.active c.requires.names c.are_apart.ensures c.if-not-are_apart.false)
     (adds-as _ c.read_images.new.self.results _ _ _ _ c.in_ok-read_images.ensures.same c.apply.ensures)
 
 pub returns-clause-saved : goal.returns-clause-saved
@@ -118,5 +118,5 @@ returns-clause-saved c = saved-same c.args.results.now.results _ _ _ c.apply.res
 
 pub are_apart-requires-clause-below : goal.are_apart-requires-clause-below
 are_apart-requires-clause-below c =
-    let cited = c.cited-cited.ensures c.requires.assertion.0 c.requires.assertion.1.0 in
-    subst (λ ns. AllBelow (length ns) c.cited-cited.result.groups) (sym c.requires.names) cited.groups_below
+    let cited = c.requires.cited c.requires.assertion.0 c.requires.assertion.1.0 in
+    subst (λ ns. AllBelow (length ns) c.args.cited.now.groups) (sym c.requires.names) cited.groups_below
