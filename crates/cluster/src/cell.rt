@@ -17,7 +17,7 @@ use std::alloc::{AllocError, Global};
 use std::marker::Model;
 use std::thread::Threads;
 use synod::Keep;
-use verify_pool::Gate;
+use verify_pool::{Gate, Workers};
 use world::{Carried, StepFault};
 
 /// What node `at` has taken over of its log, and its library: that of the first entries taken over, as many as were applied.
@@ -232,8 +232,8 @@ fn apply_entry_with<G: Gate + Sync, R: Threads + Sync>(
     ensures same { OnErr result (library.new.replica ≡ library.old.replica) }
 {
     match entry {
-        Some(carried) => library.apply_with(rt, Some(&carried.0), workers, gate),
-        None => library.apply_with(rt, None, workers, gate),
+        Some(carried) => library.apply_with(rt, Some(&carried.0), Workers::of(workers), gate),
+        None => library.apply_with(rt, None, Workers::of(workers), gate),
     }
 }
 

@@ -5,7 +5,7 @@ use Rattle.std.proofs.lemmas.List.{length-append}
 use Rattle.std.proofs.lemmas.Option.{slice_get_past, slice_get-get_or, get_or_from_slice_get}
 use Rattle.std.proofs.Math.Nat.{sub_self}
 use Rattle.std.proofs.Math.Seq.{get_or-append_seam}
-use Rattle.entries.specs.declared.citation.Pattern.{Pattern}
+use Rattle.entries.specs.declared.citation.Hypothesis.{Hypothesis}
 use Rattle.entries.specs.declared.head.Head.{Head}
 use Rattle.entries.specs.declared.parts.Parts.{Parts}
 use Rattle.entries.specs.declared.record.Record.{Record}
@@ -18,10 +18,10 @@ use Rattle.entries.specs.Records.{head_of, no_row, hypotheses_by, groups_by, gro
 use Rattle.entries.proofs.SpanLemmas.{range-behind, extends-length, extends-refl}
 use Rattle.entries.proofs.RecordLemmas.{places-push}
 
-made-same : (h k : Head) (s t : List ℕ) (a b : List ℕ) (p q : List Pattern) (u v : List ℕ) (x y : List ℕ) (g l : List (List ℕ))
-    → h ≡ k → s ≡ t → a ≡ b → p ≡ q → u ≡ v → x ≡ y → g ≡ l
-    → made h s (record { hypotheses = a; patterns = p; templates = u; conclusion = x; groups = g }) ≡ made k t (record { hypotheses = b; patterns = q; templates = v; conclusion = y; groups = l })
-made-same h k s t a b p q u v x y g l e1 e2 e3 e4 e5 e6 e7 = cc
+made-same : (h k : Head) (s t : List ℕ) (a b : List ℕ) (p q : List Hypothesis) (u v : List ℕ) (g l : List (List ℕ))
+    → h ≡ k → s ≡ t → a ≡ b → p ≡ q → u ≡ v → g ≡ l
+    → made h s (record { hypotheses = a; asked = p; heads = u; groups = g }) ≡ made k t (record { hypotheses = b; asked = q; heads = v; groups = l })
+made-same h k s t a b p q u v g l e1 e2 e3 e4 e5 e6 = cc
 
 abbrev sizes : ℕ → ℕ → ℕ → ℕ → Sizes
 sizes n h g r = record { numbers = n; hypotheses = h; groups = g; rows = r }
@@ -41,7 +41,7 @@ range-none xs n = ap (λ m. take m (drop n xs)) (sub_self n)
 
 module _ (b m c : Buffers) (rs qs : List Record) (r : Record) (w : Row) (h : Head) (p : Parts)
     (packed : ArePacked b (places_of b rs)) (shaped : AreShapedParts p) (grows : Grows b m) (row : IsRowOf b m p w)
-    (numbers : c.numbers.items ≡ m.numbers.items) (hypotheses : c.hypotheses.items ≡ m.hypotheses.items) (patterns : c.patterns.items ≡ m.patterns.items) (groups : c.groups.items ≡ m.groups.items)
+    (numbers : c.numbers.items ≡ m.numbers.items) (hypotheses : c.hypotheses.items ≡ m.hypotheses.items) (asked : c.asked.items ≡ m.asked.items) (groups : c.groups.items ≡ m.groups.items)
     (rows : c.rows.items ≡ b.rows.items ++ w ∷ [])
     (head : head_of r ≡ h) (kind : r.has_row ≡ true) (from : r.from ≡ length b.numbers.items) (at : r.row ≡ length b.rows.items) (behind : qs ≡ rs ++ r ∷ []) where
   row-there : slice_get c.rows.items r.row ≡ Some w
@@ -63,14 +63,13 @@ module _ (b m c : Buffers) (rs qs : List Record) (r : Record) (w : Row) (h : Hea
   placed = ap (λ t. place_by t c r (length c.numbers.items)) kind ∙ ap (row_place r) (get_or_from_slice_get c.rows.items r.row w no_row row-there)
 
   last-entry : entry_of c (row_place r w) ≡ made h p.symbols.now (assertion_of p)
-  last-entry = made-same (head_of r) h _ p.symbols.now _ p.hypotheses.now _ p.patterns.now _ p.templates.now _ p.conclusion.now _ (cut p.places.now p.groups.now)
+  last-entry = made-same (head_of r) h _ p.symbols.now _ p.hypotheses.now _ p.asked.now _ p.heads.now _ (cut p.places.now p.groups.now)
       head
       (ap (λ xs. slice_range xs r.from w.symbols) numbers ∙ (ap (λ n. slice_range m.numbers.items n w.symbols) from ∙ row.symbols))
       (ap (λ xs. slice_range xs w.hypotheses_from w.hypotheses) hypotheses ∙ row.hypotheses)
-      (ap (λ xs. slice_range xs w.hypotheses_from w.hypotheses) patterns ∙ row.patterns)
-      (ap (λ xs. slice_range xs w.symbols w.templates) numbers ∙ row.templates)
-      (ap (λ xs. slice_range xs w.templates w.conclusion) numbers ∙ row.conclusion)
-      (ap (λ xs. cut (slice_range xs w.conclusion w.places) (slice_range c.groups.items w.groups_from w.groups)) numbers
+      (ap (λ xs. slice_range xs w.hypotheses_from w.hypotheses) asked ∙ row.asked)
+      (ap (λ xs. slice_range xs w.symbols w.heads) numbers ∙ row.heads)
+      (ap (λ xs. cut (slice_range xs w.heads w.places) (slice_range c.groups.items w.groups_from w.groups)) numbers
       ∙ (ap (λ xs. cut xs (slice_range c.groups.items w.groups_from w.groups)) row.places
       ∙ ap (cut p.places.now) (ap (λ xs. slice_range xs w.groups_from w.groups) groups ∙ row.groups)))
 
@@ -80,16 +79,15 @@ module _ (b m c : Buffers) (rs qs : List Record) (r : Record) (w : Row) (h : Hea
       let k = length-append b.rows.items (w ∷ []) in
       let more = extends-length b.hypotheses.items m.hypotheses.items grows.hypotheses in
       let more' = extends-length b.groups.items m.groups.items grows.groups in
-      let q = ap length patterns in
+      let q = ap length asked in
       record {
         last = row_place r w;
         behind = ap (places_of c) behind ∙ (places-push b c rs r rows-more begins from packed.within ∙ ap (λ x. places_of b rs ++ x ∷ []) placed);
         entry = last-entry;
         within = record {
           symbols = let x = row.from_symbols in omega arith;
-          templates = row.symbols_templates;
-          conclusion = row.templates_conclusion;
-          places = row.conclusion_places;
+          heads = row.symbols_heads;
+          places = row.heads_places;
           numbers = let x = row.whole in omega arith;
           hypotheses = let x = row.hypotheses_from in let y = row.hypotheses_end in omega arith;
           hypotheses_end = let y = row.hypotheses_end in omega arith;
@@ -98,7 +96,7 @@ module _ (b m c : Buffers) (rs qs : List Record) (r : Record) (w : Row) (h : Hea
           rows = omega arith;
           rows_end = omega arith;
         };
-        grouped = subst (λ spans. AreSpansIn (w.places - w.conclusion) spans) (sym (ap (λ xs. slice_range xs w.groups_from w.groups) groups ∙ row.groups)) (subst (λ x. AreSpansIn x p.groups.now) (sym row.count) shaped.grouped);
+        grouped = subst (λ spans. AreSpansIn (w.places - w.heads) spans) (sym (ap (λ xs. slice_range xs w.groups_from w.groups) groups ∙ row.groups)) (subst (λ x. AreSpansIn x p.groups.now) (sym row.count) shaped.grouped);
         start = sizes-same r.from (length b.numbers.items) w.hypotheses_from (length b.hypotheses.items) w.groups_from (length b.groups.items) r.row (length b.rows.items) from row.hypotheses_from row.groups_from at;
         paired = q ∙ (row.paired ∙ sym a);
       }
@@ -107,7 +105,7 @@ module _ (b m c : Buffers) (rs qs : List Record) (r : Record) (w : Row) (h : Hea
 
 module _ (b c : Buffers) (rs qs : List Record) (r : Record) (h : Head) (codes : List ℕ)
     (packed : ArePacked b (places_of b rs))
-    (numbers : c.numbers.items ≡ b.numbers.items ++ codes) (hypotheses : c.hypotheses.items ≡ b.hypotheses.items) (patterns : c.patterns.items ≡ b.patterns.items) (groups : c.groups.items ≡ b.groups.items)
+    (numbers : c.numbers.items ≡ b.numbers.items ++ codes) (hypotheses : c.hypotheses.items ≡ b.hypotheses.items) (asked : c.asked.items ≡ b.asked.items) (groups : c.groups.items ≡ b.groups.items)
     (rows : c.rows.items ≡ b.rows.items)
     (head : head_of r ≡ h) (kind : r.has_row ≡ false) (from : r.from ≡ length b.numbers.items) (at : r.row ≡ length b.rows.items) (behind : qs ≡ rs ++ r ∷ []) where
   none-at : slice_get c.rows.items r.row ≡ None
@@ -130,23 +128,21 @@ module _ (b c : Buffers) (rs qs : List Record) (r : Record) (h : Head) (codes : 
 
   pub added-plain : IsAdded b c (places_of b rs) (places_of c qs) (plain h codes)
   added-plain =
-      let n = ap length numbers in let a = ap length hypotheses in let g = ap length groups in let l = ap length rows in let q = ap length patterns in
+      let n = ap length numbers in let a = ap length hypotheses in let g = ap length groups in let l = ap length rows in let q = ap length asked in
       let k = length-append b.numbers.items codes in
       record {
         last = plain_place r (length c.numbers.items) (length c.hypotheses.items) (length c.groups.items);
         behind = ap (places_of c) behind ∙ (places-push b c rs r ([], rows ∙ sym (append-nil b.rows.items)) plain-begins from packed.within ∙ ap (λ x. places_of b rs ++ x ∷ []) plain-placed);
-        entry = made-same (head_of r) h _ codes _ [] _ [] _ [] _ [] _ []
+        entry = made-same (head_of r) h _ codes _ [] _ [] _ [] _ []
             head
             (range-behind b.numbers.items codes c.numbers.items c.numbers.items r.from (length c.numbers.items) from numbers refl (extends-refl c.numbers.items))
             (range-none c.hypotheses.items (length c.hypotheses.items))
-            (range-none c.patterns.items (length c.hypotheses.items))
-            (range-none c.numbers.items (length c.numbers.items))
+            (range-none c.asked.items (length c.hypotheses.items))
             (range-none c.numbers.items (length c.numbers.items))
             (ap (cut (slice_range c.numbers.items (length c.numbers.items) (length c.numbers.items))) (range-none c.groups.items (length c.groups.items)));
         within = record {
           symbols = omega (arith, n, k, from);
-          templates = omega arith;
-          conclusion = omega arith;
+          heads = omega arith;
           places = omega arith;
           numbers = omega arith;
           hypotheses = omega arith;

@@ -54,7 +54,7 @@ module _ (b c : Buffers) (rs : List Record) (n : ℕ) (r : Record) (s : Sizes) (
   is-cut = record {
     numbers = k.numbers ∙ ap (λ m. take m c.numbers.items) (numbers ∙ sym (from-of c r end));
     hypotheses = k.hypotheses ∙ ap (λ m. take m c.hypotheses.items) hypotheses-start;
-    patterns = k.patterns ∙ ap (λ m. take m c.patterns.items) hypotheses-start;
+    asked = k.asked ∙ ap (λ m. take m c.asked.items) hypotheses-start;
     groups = k.groups ∙ ap (λ m. take m c.groups.items) groups-start;
     rows = k.rows ∙ ap (λ m. take m c.rows.items) (rows ∙ sym (rows_from-of c r end));
   }
@@ -62,7 +62,7 @@ module _ (b c : Buffers) (rs : List Record) (n : ℕ) (r : Record) (s : Sizes) (
   numbers-length : length b.numbers.items ≡ r.from
   numbers-length =
       let e = ap length is-cut.numbers in let f = from-of c r end in
-      let l = length-take-le place.from c.numbers.items (omega (arith, own.symbols, own.templates, own.conclusion, own.places, own.numbers)) in omega arith
+      let l = length-take-le place.from c.numbers.items (omega (arith, own.symbols, own.heads, own.places, own.numbers)) in omega arith
 
   rows-length : length b.rows.items ≡ r.row
   rows-length =
@@ -102,8 +102,8 @@ module _ (b m c : Buffers) (rs qs : List Record) (n : Sizes) (p : ArePacked b (p
   back-hypotheses : c.hypotheses.items ≡ b.hypotheses.items
   back-hypotheses = k.hypotheses ∙ take-extends b.hypotheses.items m.hypotheses.items n.hypotheses hypotheses g.hypotheses
 
-  back-patterns : c.patterns.items ≡ b.patterns.items
-  back-patterns = k.patterns ∙ take-extends b.patterns.items m.patterns.items n.hypotheses (hypotheses ∙ sym p.paired) g.patterns
+  back-asked : c.asked.items ≡ b.asked.items
+  back-asked = k.asked ∙ take-extends b.asked.items m.asked.items n.hypotheses (hypotheses ∙ sym p.paired) g.asked
 
   back-groups : c.groups.items ≡ b.groups.items
   back-groups = k.groups ∙ take-extends b.groups.items m.groups.items n.groups groups g.groups
@@ -115,7 +115,7 @@ module _ (b m c : Buffers) (rs qs : List Record) (n : Sizes) (p : ArePacked b (p
   back-grows = record {
     numbers = ([], back-numbers ∙ sym (append-nil b.numbers.items));
     hypotheses = ([], back-hypotheses ∙ sym (append-nil b.hypotheses.items));
-    patterns = ([], back-patterns ∙ sym (append-nil b.patterns.items));
+    asked = ([], back-asked ∙ sym (append-nil b.asked.items));
     groups = ([], back-groups ∙ sym (append-nil b.groups.items));
     rows = ([], back-rows ∙ sym (append-nil b.rows.items));
   }
@@ -128,7 +128,7 @@ module _ (b m c : Buffers) (rs qs : List Record) (n : Sizes) (p : ArePacked b (p
     within = within-more (sizes_of b) (sizes_of c) (places_of b rs) (more-grown b c back-grows) p.within;
     grouped = groups-same b c (places_of b rs) back-grows p.within p.grouped;
     ordered = p.ordered;
-    paired = ap length back-patterns ∙ (p.paired ∙ sym (ap length back-hypotheses));
+    paired = ap length back-asked ∙ (p.paired ∙ sym (ap length back-hypotheses));
     few = p.few;
   })
 

@@ -42,8 +42,7 @@ within-more n m (r ∷ rs) p h =
     let w = h.0 in (
       record {
         symbols = w.symbols;
-        templates = w.templates;
-        conclusion = w.conclusion;
+        heads = w.heads;
         places = w.places;
         numbers = omega (arith, w.numbers, p.numbers);
         hypotheses = w.hypotheses;
@@ -71,18 +70,17 @@ groups-take b (suc n) (r ∷ rs) h = (h.0, groups-take b n rs h.1)
 
 -- ---- more behind the buffers
 
-pub entry-same : (b c : Buffers) (r : Place) → Grows b c → IsWithin (sizes_of b) r → length b.patterns.items ≡ length b.hypotheses.items → entry_of c r ≡ entry_of b r
+pub entry-same : (b c : Buffers) (r : Place) → Grows b c → IsWithin (sizes_of b) r → length b.asked.items ≡ length b.hypotheses.items → entry_of c r ≡ entry_of b r
 entry-same b c r g w same =
-    let s = range-extends b.numbers.items c.numbers.items r.from r.symbols g.numbers w.symbols (omega (arith, w.templates, w.conclusion, w.places, w.numbers)) in
-    let t = range-extends b.numbers.items c.numbers.items r.symbols r.templates g.numbers w.templates (omega (arith, w.conclusion, w.places, w.numbers)) in
-    let u = range-extends b.numbers.items c.numbers.items r.templates r.conclusion g.numbers w.conclusion (omega (arith, w.places, w.numbers)) in
-    let v = range-extends b.numbers.items c.numbers.items r.conclusion r.places g.numbers w.places w.numbers in
+    let s = range-extends b.numbers.items c.numbers.items r.from r.symbols g.numbers w.symbols (omega (arith, w.heads, w.places, w.numbers)) in
+    let t = range-extends b.numbers.items c.numbers.items r.symbols r.heads g.numbers w.heads (omega (arith, w.places, w.numbers)) in
+    let v = range-extends b.numbers.items c.numbers.items r.heads r.places g.numbers w.places w.numbers in
     let h = range-extends b.hypotheses.items c.hypotheses.items r.hypotheses_from r.hypotheses g.hypotheses w.hypotheses w.hypotheses_end in
-    let p = range-extends b.patterns.items c.patterns.items r.hypotheses_from r.hypotheses g.patterns w.hypotheses (omega (arith, same, w.hypotheses_end)) in
+    let p = range-extends b.asked.items c.asked.items r.hypotheses_from r.hypotheses g.asked w.hypotheses (omega (arith, same, w.hypotheses_end)) in
     let k = range-extends b.groups.items c.groups.items r.groups_from r.groups g.groups w.groups w.groups_end in
     cc
 
-pub entries-same : (b c : Buffers) (rs : List Place) → Grows b c → AreWithin (sizes_of b) rs → length b.patterns.items ≡ length b.hypotheses.items → map (entry_of c) rs ≡ map (entry_of b) rs
+pub entries-same : (b c : Buffers) (rs : List Place) → Grows b c → AreWithin (sizes_of b) rs → length b.asked.items ≡ length b.hypotheses.items → map (entry_of c) rs ≡ map (entry_of b) rs
 entries-same b c [] g h same = refl
 entries-same b c (r ∷ rs) g h same = let e = entry-same b c r g h.0 same in let es = entries-same b c rs g h.1 same in cc
 
@@ -90,14 +88,14 @@ pub groups-same : (b c : Buffers) (rs : List Place) → Grows b c → AreWithin 
 groups-same b c [] g w h = tt
 groups-same b c (r ∷ rs) g w h =
     let k = range-extends b.groups.items c.groups.items r.groups_from r.groups g.groups w.0.groups w.0.groups_end in
-    (subst (AreSpansIn (r.places - r.conclusion)) (sym k) h.0, groups-same b c rs g w.1 h.1)
+    (subst (AreSpansIn (r.places - r.heads)) (sym k) h.0, groups-same b c rs g w.1 h.1)
 
 -- and back
 pub groups-before : (b c : Buffers) (rs : List Place) → Grows b c → AreWithin (sizes_of b) rs → HaveGroups c rs → HaveGroups b rs
 groups-before b c [] g w h = tt
 groups-before b c (r ∷ rs) g w h =
     let k = range-extends b.groups.items c.groups.items r.groups_from r.groups g.groups w.0.groups w.0.groups_end in
-    (subst (AreSpansIn (r.places - r.conclusion)) k h.0, groups-before b c rs g w.1 h.1)
+    (subst (AreSpansIn (r.places - r.heads)) k h.0, groups-before b c rs g w.1 h.1)
 
 pub more-grown : (b c : Buffers) → Grows b c → AreMore (sizes_of b) (sizes_of c)
 more-grown b c g = record { numbers = extends-length b.numbers.items c.numbers.items g.numbers; hypotheses = extends-length b.hypotheses.items c.hypotheses.items g.hypotheses; groups = extends-length b.groups.items c.groups.items g.groups; rows = extends-length b.rows.items c.rows.items g.rows }
@@ -161,7 +159,7 @@ take-less (suc i) (suc n) (x ∷ xs) p = ap (λ ys. x ∷ ys) (take-less i n xs 
 pub record IsCut (b c : Buffers) (n : Sizes) : Type 0 where
   pub numbers : b.numbers.items ≡ take n.numbers c.numbers.items
   pub hypotheses : b.hypotheses.items ≡ take n.hypotheses c.hypotheses.items
-  pub patterns : b.patterns.items ≡ take n.hypotheses c.patterns.items
+  pub asked : b.asked.items ≡ take n.hypotheses c.asked.items
   pub groups : b.groups.items ≡ take n.groups c.groups.items
   pub rows : b.rows.items ≡ take n.rows c.rows.items
 
@@ -169,14 +167,14 @@ pub cut-grows : (b c : Buffers) (n : Sizes) → IsCut b c n → Grows b c
 cut-grows b c n k = record {
   numbers = subst (λ xs. Extends xs c.numbers.items) (sym k.numbers) (extends-take n.numbers c.numbers.items);
   hypotheses = subst (λ xs. Extends xs c.hypotheses.items) (sym k.hypotheses) (extends-take n.hypotheses c.hypotheses.items);
-  patterns = subst (λ xs. Extends xs c.patterns.items) (sym k.patterns) (extends-take n.hypotheses c.patterns.items);
+  asked = subst (λ xs. Extends xs c.asked.items) (sym k.asked) (extends-take n.hypotheses c.asked.items);
   groups = subst (λ xs. Extends xs c.groups.items) (sym k.groups) (extends-take n.groups c.groups.items);
   rows = subst (λ xs. Extends xs c.rows.items) (sym k.rows) (extends-take n.rows c.rows.items);
 }
 
 cut-sizes : (b c : Buffers) (r : Place) → IsCut b c (start_of r) → IsWithin (sizes_of c) r → AreMore (start_of r) (sizes_of b)
 cut-sizes b c r k w = record {
-  numbers = let l = length-take-le r.from c.numbers.items (omega (arith, w.symbols, w.templates, w.conclusion, w.places, w.numbers)) in let e = ap length k.numbers in omega arith;
+  numbers = let l = length-take-le r.from c.numbers.items (omega (arith, w.symbols, w.heads, w.places, w.numbers)) in let e = ap length k.numbers in omega arith;
   hypotheses = let l = length-take-le r.hypotheses_from c.hypotheses.items (omega (arith, w.hypotheses, w.hypotheses_end)) in let e = ap length k.hypotheses in omega arith;
   groups = let l = length-take-le r.groups_from c.groups.items (omega (arith, w.groups, w.groups_end)) in let e = ap length k.groups in omega arith;
   rows = let l = length-take-le r.rows_from c.rows.items (omega (arith, w.rows, w.rows_end)) in let e = ap length k.rows in omega arith;
@@ -189,12 +187,12 @@ module _ (b c : Buffers) (rs : List Place) (n : ℕ) (r : Place) (p : ArePacked 
   fits : AreWithin (sizes_of b) (take n rs)
   fits = within-more (start_of r) (sizes_of b) (take n rs) (cut-sizes b c r k own) (p.ordered n r here)
 
-  pairs : length b.patterns.items ≡ length b.hypotheses.items
+  pairs : length b.asked.items ≡ length b.hypotheses.items
   pairs =
       let q = p.paired in
       let l = length-take-le r.hypotheses_from c.hypotheses.items (omega (arith, own.hypotheses, own.hypotheses_end)) in
-      let m = length-take-le r.hypotheses_from c.patterns.items (omega (arith, q, own.hypotheses, own.hypotheses_end)) in
-      let e = ap length k.hypotheses in let f = ap length k.patterns in omega arith
+      let m = length-take-le r.hypotheses_from c.asked.items (omega (arith, q, own.hypotheses, own.hypotheses_end)) in
+      let e = ap length k.hypotheses in let f = ap length k.asked in omega arith
 
   pub packed-cut : ArePacked b (take n rs)
   packed-cut = record {

@@ -24,25 +24,22 @@ is-entry b rs es i r v e = ap (λ xs. slice_get xs i) (sym v) ∙ (slice_get-map
 
 -- what the row of a statement says: of a statement that has none, that its parts are empty
 pub record IsReading (b : Buffers) (w : Row) (a : Assertion) : Type 0 where
-  pub templates_in : w.symbols ≤ w.templates
-  pub conclusion_in : w.templates ≤ w.conclusion
-  pub places_in : w.conclusion ≤ w.places
+  pub heads_in : w.symbols ≤ w.heads
+  pub places_in : w.heads ≤ w.places
   pub numbers_in : w.places ≤ length b.numbers.items
   pub hypotheses_in : w.hypotheses_from ≤ w.hypotheses
   pub hypotheses_end : w.hypotheses ≤ length b.hypotheses.items
   pub groups_in : w.groups_from ≤ w.groups
   pub groups_end : w.groups ≤ length b.groups.items
   pub hypotheses : slice_range b.hypotheses.items w.hypotheses_from w.hypotheses ≡ a.hypotheses
-  pub patterns : slice_range b.patterns.items w.hypotheses_from w.hypotheses ≡ a.patterns
-  pub templates : slice_range b.numbers.items w.symbols w.templates ≡ a.templates
-  pub conclusion : slice_range b.numbers.items w.templates w.conclusion ≡ a.conclusion
-  pub groups : cut (slice_range b.numbers.items w.conclusion w.places) (slice_range b.groups.items w.groups_from w.groups) ≡ a.groups
-  pub grouped : AreSpansIn (w.places - w.conclusion) (slice_range b.groups.items w.groups_from w.groups)
+  pub asked : slice_range b.asked.items w.hypotheses_from w.hypotheses ≡ a.asked
+  pub heads : slice_range b.numbers.items w.symbols w.heads ≡ a.heads
+  pub groups : cut (slice_range b.numbers.items w.heads w.places) (slice_range b.groups.items w.groups_from w.groups) ≡ a.groups
+  pub grouped : AreSpansIn (w.places - w.heads) (slice_range b.groups.items w.groups_from w.groups)
 
 reads-by : (t : Bool) (b : Buffers) (r : Record) (end : ℕ) → IsWithin (sizes_of b) (place_by t b r end) → HasGroups b (place_by t b r end) → IsReading b (row_by t b.rows.items r.row) (entry_of b (place_by t b r end)).assertion
 reads-by true b r end w g = record {
-  templates_in = w.templates;
-  conclusion_in = w.conclusion;
+  heads_in = w.heads;
   places_in = w.places;
   numbers_in = w.numbers;
   hypotheses_in = w.hypotheses;
@@ -50,15 +47,13 @@ reads-by true b r end w g = record {
   groups_in = w.groups;
   groups_end = w.groups_end;
   hypotheses = refl;
-  patterns = refl;
-  templates = refl;
-  conclusion = refl;
+  asked = refl;
+  heads = refl;
   groups = refl;
   grouped = g;
 }
 reads-by false b r end w g = record {
-  templates_in = omega arith;
-  conclusion_in = omega arith;
+  heads_in = omega arith;
   places_in = omega arith;
   numbers_in = omega arith;
   hypotheses_in = omega arith;
@@ -66,9 +61,8 @@ reads-by false b r end w g = record {
   groups_in = omega arith;
   groups_end = omega arith;
   hypotheses = sym (range-none b.hypotheses.items (place_by false b r end).hypotheses);
-  patterns = sym (range-none b.patterns.items (place_by false b r end).hypotheses);
-  templates = sym (range-none b.numbers.items end);
-  conclusion = sym (range-none b.numbers.items end);
+  asked = sym (range-none b.asked.items (place_by false b r end).hypotheses);
+  heads = sym (range-none b.numbers.items end);
   groups = sym (ap (cut (slice_range b.numbers.items end end)) (range-none b.groups.items (place_by false b r end).groups));
   grouped = tt;
 }

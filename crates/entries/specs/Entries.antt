@@ -1,8 +1,8 @@
 -- A statement as numbers, as plain lists.
--- Metamath, 4.2.6 and 4.2.7: an assertion is cited by what it asks of its hypotheses. What the numbers mean is said above.
+-- Metamath, 4.2.6 and 4.2.7: an assertion is cited by what it asks of its hypotheses. What the numbers mean is said in `frame`.
 -- The code keeps the lists of all statements in a few buffers.
 use Rattle.std.specs.Prelude.{◌≡◌, ℕ, List, [], length, slice_get, Some}
-use Rattle.entries.specs.declared.citation.Pattern.{Pattern}
+use Rattle.entries.specs.declared.citation.Hypothesis.{Hypothesis}
 use Rattle.entries.specs.declared.links.Links.{Links}
 use Rattle.entries.specs.declared.kind.Kind.{Kind}
 use Rattle.entries.specs.declared.head.Head.{Head}
@@ -10,12 +10,11 @@ use Rattle.entries.specs.declared.parts.Parts.{Parts}
 use Rattle.entries.specs.declared.entry.EntryRef.{EntryRef}
 use Rattle.entries.specs.Spans.{cut, AreSpansIn}
 
--- an assertion by the places of its hypotheses; of another statement all lists are empty
+-- hypotheses by position, what each is and its first symbol, and groups of variables; of most statements all lists are empty
 pub record Assertion : Type 0 where
   pub hypotheses : List ℕ
-  pub patterns : List Pattern
-  pub templates : List ℕ
-  pub conclusion : List ℕ
+  pub asked : List Hypothesis
+  pub heads : List ℕ
   pub groups : List (List ℕ)
 
 -- its kind, the counts of labels and names before it, what was active before it, and the numbers of its symbols
@@ -29,11 +28,11 @@ pub record Entry : Type 0 where
 
 -- the parts of an assertion that is added
 abbrev pub assertion_of : Parts → Assertion
-assertion_of p = record { hypotheses = p.hypotheses.now; patterns = p.patterns.now; templates = p.templates.now; conclusion = p.conclusion.now; groups = cut p.places.now p.groups.now }
+assertion_of p = record { hypotheses = p.hypotheses.now; asked = p.asked.now; heads = p.heads.now; groups = cut p.places.now p.groups.now }
 
--- there is a pattern for each hypothesis, and the groups are parts of the places
+-- of each hypothesis it is said what it is, and the groups are parts of the places
 pub record AreShapedParts (p : Parts) : Type 0 where
-  pub paired : length p.patterns.now ≡ length p.hypotheses.now
+  pub paired : length p.asked.now ≡ length p.hypotheses.now
   pub grouped : AreSpansIn (length p.places.now) p.groups.now
 
 -- the statement with this head, these symbols and these parts
@@ -42,7 +41,7 @@ made h codes a = record { kind = h.kind; label = h.label; names = h.names; links
 
 -- a statement that has no parts of an assertion
 abbrev pub plain : Head → List ℕ → Entry
-plain h codes = made h codes (record { hypotheses = []; patterns = []; templates = []; conclusion = []; groups = [] })
+plain h codes = made h codes (record { hypotheses = []; asked = []; heads = []; groups = [] })
 
 -- the statement that was read
 abbrev pub seen : EntryRef → Assertion → Entry

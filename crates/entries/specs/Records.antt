@@ -17,8 +17,7 @@ pub record Place : Type 0 where
   pub head : Head
   pub from : ℕ
   pub symbols : ℕ
-  pub templates : ℕ
-  pub conclusion : ℕ
+  pub heads : ℕ
   pub places : ℕ
   pub hypotheses_from : ℕ
   pub hypotheses : ℕ
@@ -36,10 +35,9 @@ entry_of b p = record {
   symbols = slice_range b.numbers.items p.from p.symbols;
   assertion = record {
     hypotheses = slice_range b.hypotheses.items p.hypotheses_from p.hypotheses;
-    patterns = slice_range b.patterns.items p.hypotheses_from p.hypotheses;
-    templates = slice_range b.numbers.items p.symbols p.templates;
-    conclusion = slice_range b.numbers.items p.templates p.conclusion;
-    groups = cut (slice_range b.numbers.items p.conclusion p.places) (slice_range b.groups.items p.groups_from p.groups);
+    asked = slice_range b.asked.items p.hypotheses_from p.hypotheses;
+    heads = slice_range b.numbers.items p.symbols p.heads;
+    groups = cut (slice_range b.numbers.items p.heads p.places) (slice_range b.groups.items p.groups_from p.groups);
   };
 }
 
@@ -49,7 +47,7 @@ abbrev pub head_of : Record → Head
 head_of r = record { kind = r.kind; label = r.label; names = r.names; links = r.links }
 
 abbrev pub no_row : Row
-no_row = record { symbols = 0; templates = 0; conclusion = 0; places = 0; hypotheses_from = 0; hypotheses = 0; groups_from = 0; groups = 0 }
+no_row = record { symbols = 0; heads = 0; places = 0; hypotheses_from = 0; hypotheses = 0; groups_from = 0; groups = 0 }
 
 abbrev pub row_by : Bool → List Row → ℕ → Row
 row_by true rows k = get_or rows k no_row
@@ -79,8 +77,7 @@ row_place r w = record {
   head = head_of r;
   from = r.from;
   symbols = w.symbols;
-  templates = w.templates;
-  conclusion = w.conclusion;
+  heads = w.heads;
   places = w.places;
   hypotheses_from = w.hypotheses_from;
   hypotheses = w.hypotheses;
@@ -96,8 +93,7 @@ plain_place r end hypotheses groups = record {
   head = head_of r;
   from = r.from;
   symbols = end;
-  templates = end;
-  conclusion = end;
+  heads = end;
   places = end;
   hypotheses_from = hypotheses;
   hypotheses = hypotheses;
@@ -146,9 +142,8 @@ start_of p = record { numbers = p.from; hypotheses = p.hypotheses_from; groups =
 -- the parts stand in order within buffers of these sizes
 pub record IsWithin (n : Sizes) (p : Place) : Type 0 where
   pub symbols : p.from ≤ p.symbols
-  pub templates : p.symbols ≤ p.templates
-  pub conclusion : p.templates ≤ p.conclusion
-  pub places : p.conclusion ≤ p.places
+  pub heads : p.symbols ≤ p.heads
+  pub places : p.heads ≤ p.places
   pub numbers : p.places ≤ n.numbers
   pub hypotheses : p.hypotheses_from ≤ p.hypotheses
   pub hypotheses_end : p.hypotheses ≤ n.hypotheses
@@ -163,7 +158,7 @@ AreWithin n (p ∷ ps) = IsWithin n p × AreWithin n ps
 
 -- the groups of a statement are parts of its places
 abbrev pub HasGroups : Buffers → Place → Type 0
-HasGroups b p = AreSpansIn (p.places - p.conclusion) (slice_range b.groups.items p.groups_from p.groups)
+HasGroups b p = AreSpansIn (p.places - p.heads) (slice_range b.groups.items p.groups_from p.groups)
 
 abbrev pub HaveGroups : Buffers → List Place → Type 0
 HaveGroups b [] = Unit {0}
@@ -173,14 +168,14 @@ pub record ArePacked (b : Buffers) (ps : List Place) : Type 0 where
   pub within : AreWithin (sizes_of b) ps
   pub grouped : HaveGroups b ps
   pub ordered : (i : ℕ) (p : Place) → slice_get ps i ≡ Some p → AreWithin (start_of p) (take i ps)
-  pub paired : length b.patterns.items ≡ length b.hypotheses.items
+  pub paired : length b.asked.items ≡ length b.hypotheses.items
   pub few : length ps + 1 < 2 ^ 32
 
 -- more stands behind each buffer
 pub record Grows (old new : Buffers) : Type 0 where
   pub numbers : Extends old.numbers.items new.numbers.items
   pub hypotheses : Extends old.hypotheses.items new.hypotheses.items
-  pub patterns : Extends old.patterns.items new.patterns.items
+  pub asked : Extends old.asked.items new.asked.items
   pub groups : Extends old.groups.items new.groups.items
   pub rows : Extends old.rows.items new.rows.items
 
@@ -193,36 +188,32 @@ pub record Begins (old new : Buffers) : Type 0 where
 pub record AreEnds (old new : List ℕ) (p : Parts) (e : Ends) : Type 0 where
   pub from : e.from ≡ length old
   pub from_symbols : e.from ≤ e.symbols
-  pub symbols_templates : e.symbols ≤ e.templates
-  pub templates_conclusion : e.templates ≤ e.conclusion
-  pub conclusion_places : e.conclusion ≤ e.places
+  pub symbols_heads : e.symbols ≤ e.heads
+  pub heads_places : e.heads ≤ e.places
   pub whole : e.places ≤ length new
-  pub count : e.places - e.conclusion ≡ length p.places.now
+  pub count : e.places - e.heads ≡ length p.places.now
   pub symbols : slice_range new e.from e.symbols ≡ p.symbols.now
-  pub templates : slice_range new e.symbols e.templates ≡ p.templates.now
-  pub conclusion : slice_range new e.templates e.conclusion ≡ p.conclusion.now
-  pub places : slice_range new e.conclusion e.places ≡ p.places.now
+  pub heads : slice_range new e.symbols e.heads ≡ p.heads.now
+  pub places : slice_range new e.heads e.places ≡ p.places.now
 
 -- the parts of an assertion stand in these buffers, from there on, where the row tells
 pub record IsRowOf (old new : Buffers) (p : Parts) (w : Row) : Type 0 where
   pub from_symbols : length old.numbers.items ≤ w.symbols
-  pub symbols_templates : w.symbols ≤ w.templates
-  pub templates_conclusion : w.templates ≤ w.conclusion
-  pub conclusion_places : w.conclusion ≤ w.places
+  pub symbols_heads : w.symbols ≤ w.heads
+  pub heads_places : w.heads ≤ w.places
   pub whole : w.places ≤ length new.numbers.items
-  pub count : w.places - w.conclusion ≡ length p.places.now
+  pub count : w.places - w.heads ≡ length p.places.now
   pub symbols : slice_range new.numbers.items (length old.numbers.items) w.symbols ≡ p.symbols.now
-  pub templates : slice_range new.numbers.items w.symbols w.templates ≡ p.templates.now
-  pub conclusion : slice_range new.numbers.items w.templates w.conclusion ≡ p.conclusion.now
-  pub places : slice_range new.numbers.items w.conclusion w.places ≡ p.places.now
+  pub heads : slice_range new.numbers.items w.symbols w.heads ≡ p.heads.now
+  pub places : slice_range new.numbers.items w.heads w.places ≡ p.places.now
   pub hypotheses_from : w.hypotheses_from ≡ length old.hypotheses.items
   pub hypotheses_end : w.hypotheses ≡ length new.hypotheses.items
   pub hypotheses : slice_range new.hypotheses.items w.hypotheses_from w.hypotheses ≡ p.hypotheses.now
-  pub patterns : slice_range new.patterns.items w.hypotheses_from w.hypotheses ≡ p.patterns.now
+  pub asked : slice_range new.asked.items w.hypotheses_from w.hypotheses ≡ p.asked.now
   pub groups_from : w.groups_from ≡ length old.groups.items
   pub groups_end : w.groups ≡ length new.groups.items
   pub groups : slice_range new.groups.items w.groups_from w.groups ≡ p.groups.now
-  pub paired : length new.patterns.items ≡ length new.hypotheses.items
+  pub paired : length new.asked.items ≡ length new.hypotheses.items
 
 -- behind the places stands one more, of the statement e, with its parts behind the others
 pub record IsAdded (old new : Buffers) (ps qs : List Place) (e : Entry) : Type 0 where
@@ -232,4 +223,4 @@ pub record IsAdded (old new : Buffers) (ps qs : List Place) (e : Entry) : Type 0
   pub within : IsWithin (sizes_of new) last
   pub grouped : HasGroups new last
   pub start : start_of last ≡ sizes_of old
-  pub paired : length new.patterns.items ≡ length new.hypotheses.items
+  pub paired : length new.asked.items ≡ length new.hypotheses.items

@@ -2,25 +2,27 @@
 
 use crate::groups::Groups;
 
-/// What the result for a hypothesis must be.
+/// The head of an expression that has no symbols. No symbol has this number.
+pub const NO_HEAD: u32 = u32::MAX;
+
+/// A mandatory hypothesis, by numbers of symbols.
 #[derive(Clone, Copy, Debug, Drop, PartialEq, Eq)]
-pub enum Pattern {
-    /// This constant, and then anything: the hypothesis is a `$f`.
-    Typed(u32),
-    /// The template from the one place to the other, filled: the hypothesis is a `$e`.
-    Full(u32, u32),
+pub enum Hypothesis {
+    /// A `$f`: the number of its variable.
+    Float(u32),
+    /// A `$e`: its position.
+    Essential(u32),
 }
 
-/// An assertion by the places of its hypotheses. With r hypotheses a number below r is a place,
-/// and a number n from r on is the symbol n - r.
+/// An assertion by numbers of symbols.
 #[derive(Drop)]
 pub struct Cited<'a> {
-    /// What the results for its hypotheses must be, in order.
-    pub patterns: &'a [Pattern],
-    /// The templates of its essential hypotheses.
-    pub templates: &'a [u32],
-    /// The template of its conclusion.
+    /// The first symbol of each mandatory hypothesis, in order.
+    pub heads: &'a [u32],
+    /// What each is, in order.
+    pub hypotheses: &'a [Hypothesis],
+    /// Its expression.
     pub conclusion: &'a [u32],
-    /// The places whose images are kept apart, each two of a group.
+    /// The variables whose images are kept apart, each two of a group.
     pub groups: Groups<'a>,
 }

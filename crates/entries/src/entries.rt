@@ -48,7 +48,7 @@ impl Entries {
             buffers: Buffers {
                 numbers: Vec::new(alloc),
                 hypotheses: Vec::new(alloc),
-                patterns: Vec::new(alloc),
+                asked: Vec::new(alloc),
                 groups: Vec::new(alloc),
                 rows: Vec::new(alloc),
             },
@@ -87,7 +87,7 @@ impl Entries {
     }
 
     /// The positions of the hypotheses of the assertion at an index.
-    pub fn hypotheses(&self, index: usize) -> &[usize]
+    pub fn hypotheses(&self, index: usize) -> &[u32]
         requires { index < length self.now }
         ensures { (e : Entry) → slice_get self.now index ≡ Some e → result.now ≡ e.assertion.hypotheses }
     {
@@ -99,20 +99,20 @@ impl Entries {
     /// The parts of the assertion at an index.
     pub fn cited(&self, index: usize) -> Cited<'_>
         requires { index < length self.now }
-        ensures patterns { (e : Entry) → slice_get self.now index ≡ Some e → result.patterns.now ≡ e.assertion.patterns }
-        ensures templates { (e : Entry) → slice_get self.now index ≡ Some e → result.templates.now ≡ e.assertion.templates }
-        ensures conclusion { (e : Entry) → slice_get self.now index ≡ Some e → result.conclusion.now ≡ e.assertion.conclusion }
+        ensures heads { (e : Entry) → slice_get self.now index ≡ Some e → result.heads.now ≡ e.assertion.heads }
+        ensures hypotheses { (e : Entry) → slice_get self.now index ≡ Some e → result.hypotheses.now ≡ e.assertion.asked }
+        ensures conclusion { (e : Entry) → slice_get self.now index ≡ Some e → result.conclusion.now ≡ e.symbols }
         ensures groups { (e : Entry) → slice_get self.now index ≡ Some e → result.groups ≡ e.assertion.groups }
     {
         let row = row_of(&self.buffers.rows, item(&self.records, index));
         let numbers = self.buffers.numbers.as_slice();
         Cited {
-            patterns: part(&self.buffers.patterns, row.hypotheses_from, row.hypotheses),
-            templates: part(numbers, row.symbols, row.templates),
-            conclusion: part(numbers, row.templates, row.conclusion),
+            heads: part(numbers, row.symbols, row.heads),
+            hypotheses: part(&self.buffers.asked, row.hypotheses_from, row.hypotheses),
+            conclusion: self.entry(index).symbols,
             groups: Groups {
                 spans: part(&self.buffers.groups, row.groups_from, row.groups),
-                places: part(numbers, row.conclusion, row.places),
+                places: part(numbers, row.heads, row.places),
             },
         }
     }
@@ -218,7 +218,7 @@ fn add_last<T: Copy>(items: &mut Vec<T>, last: T) -> Result<(), AllocError>
 /// Adds the parts of an assertion behind the others, and tells where they stand.
 fn add_parts(buffers: &mut Buffers, parts: &Parts<'_>) -> Result<Row, AllocError>
     requires shaped { AreShapedParts parts.now }
-    requires paired { length buffers.old.patterns.items ≡ length buffers.old.hypotheses.items }
+    requires paired { length buffers.old.asked.items ≡ length buffers.old.hypotheses.items }
     ensures added { IfOk result (λ w. IsRowOf buffers.old buffers.new parts.now w) }
     ensures grows { Grows buffers.old buffers.new }
     ensures same { buffers.new.rows.items ≡ buffers.old.rows.items }
@@ -226,13 +226,12 @@ fn add_parts(buffers: &mut Buffers, parts: &Parts<'_>) -> Result<Row, AllocError
     let ends = add_numbers(&mut buffers.numbers, parts)?;
     let hypotheses_from = place(buffers.hypotheses.len())?;
     let hypotheses = append(&mut buffers.hypotheses, parts.hypotheses)?;
-    append(&mut buffers.patterns, parts.patterns)?;
+    append(&mut buffers.asked, parts.asked)?;
     let groups_from = place(buffers.groups.len())?;
     let groups = append(&mut buffers.groups, parts.groups)?;
     Ok(Row {
         symbols: ends.symbols,
-        templates: ends.templates,
-        conclusion: ends.conclusion,
+        heads: ends.heads,
         places: ends.places,
         hypotheses_from,
         hypotheses,
@@ -246,8 +245,7 @@ fn add_parts(buffers: &mut Buffers, parts: &Parts<'_>) -> Result<Row, AllocError
 pub struct Ends {
     pub from: u32,
     pub symbols: u32,
-    pub templates: u32,
-    pub conclusion: u32,
+    pub heads: u32,
     pub places: u32,
 }
 
@@ -258,14 +256,12 @@ fn add_numbers(numbers: &mut Vec<u32>, parts: &Parts<'_>) -> Result<Ends, AllocE
 {
     let from = place(numbers.len())?;
     let symbols = append(numbers, parts.symbols)?;
-    let templates = append(numbers, parts.templates)?;
-    let conclusion = append(numbers, parts.conclusion)?;
+    let heads = append(numbers, parts.heads)?;
     let places = append(numbers, parts.places)?;
     Ok(Ends {
         from,
         symbols,
-        templates,
-        conclusion,
+        heads,
         places,
     })
 }

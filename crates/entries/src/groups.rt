@@ -1,10 +1,10 @@
-//! Lists of places, one behind the other.
+//! Lists of numbers, one behind the other.
 ghost use Rattle.std.specs.Prelude.{◌≡◌, ◌<◌, length, slice_get, Some};
 
 use crate::span::{Span, item, part};
 use std::marker::Model;
 
-/// Lists of places in one buffer. Contracts see the list of the lists.
+/// Lists of numbers in one buffer. Contracts see the list of the lists.
 #[derive(Drop)]
 pub struct Groups<'a> {
     pub(crate) spans: &'a [Span],

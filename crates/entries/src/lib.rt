@@ -17,7 +17,7 @@ mod record;
 mod sizes;
 pub mod span;
 
-pub use citation::{Cited, Pattern};
+pub use citation::{Cited, Hypothesis, NO_HEAD};
 pub use entries::Entries;
 pub use entry::EntryRef;
 pub use groups::Groups;

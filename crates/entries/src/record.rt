@@ -2,7 +2,7 @@
 ghost use Rattle.std.specs.Prelude.{◌≡◌, ◌<◌, ◌+◌, true, length, slice_get};
 ghost use Rattle.entries.specs.Records.{head_of, own_row, from_by, symbols_by};
 
-use crate::citation::Pattern;
+use crate::citation::Hypothesis;
 use crate::head::Head;
 use crate::kind::Kind;
 use crate::links::Links;
@@ -22,15 +22,14 @@ pub struct Record {
     pub row: u32,
 }
 
-/// Where the parts of an assertion stand. Its symbols, its templates, its conclusion and its places stand one behind
-/// the other, each part up to its end.
+/// Where the parts of an assertion stand. Its symbols, the heads of its hypotheses and its groups' variables stand one
+/// behind the other, each part up to its end.
 #[derive(Clone, Copy, Drop)]
 pub struct Row {
     pub symbols: u32,
-    pub templates: u32,
-    pub conclusion: u32,
+    pub heads: u32,
     pub places: u32,
-    /// Its hypotheses, and their patterns.
+    /// Its hypotheses, and what they are.
     pub hypotheses_from: u32,
     pub hypotheses: u32,
     pub groups_from: u32,
@@ -40,8 +39,7 @@ pub struct Row {
 /// The row of a statement that has no parts of an assertion.
 const NO_ROW: Row = Row {
     symbols: 0,
-    templates: 0,
-    conclusion: 0,
+    heads: 0,
     places: 0,
     hypotheses_from: 0,
     hypotheses: 0,
@@ -53,8 +51,8 @@ const NO_ROW: Row = Row {
 #[derive(Drop)]
 pub struct Buffers {
     pub numbers: Vec<u32>,
-    pub hypotheses: Vec<usize>,
-    pub patterns: Vec<Pattern>,
+    pub hypotheses: Vec<u32>,
+    pub asked: Vec<Hypothesis>,
     pub groups: Vec<Span>,
     /// Where they stand, of each assertion.
     pub rows: Vec<Row>,

@@ -49,13 +49,13 @@ pub fn sizes_before(buffers: &Buffers, kept: Record) -> Sizes
 pub fn cut(buffers: &mut Buffers, sizes: Sizes)
     ensures numbers { buffers.new.numbers.items ≡ take sizes.numbers buffers.old.numbers.items }
     ensures hypotheses { buffers.new.hypotheses.items ≡ take sizes.hypotheses buffers.old.hypotheses.items }
-    ensures patterns { buffers.new.patterns.items ≡ take sizes.hypotheses buffers.old.patterns.items }
+    ensures asked { buffers.new.asked.items ≡ take sizes.hypotheses buffers.old.asked.items }
     ensures groups { buffers.new.groups.items ≡ take sizes.groups buffers.old.groups.items }
     ensures rows { buffers.new.rows.items ≡ take sizes.rows buffers.old.rows.items }
 {
     buffers.numbers.truncate(sizes.numbers);
     buffers.hypotheses.truncate(sizes.hypotheses);
-    buffers.patterns.truncate(sizes.hypotheses);
+    buffers.asked.truncate(sizes.hypotheses);
     buffers.groups.truncate(sizes.groups);
     buffers.rows.truncate(sizes.rows);
 }

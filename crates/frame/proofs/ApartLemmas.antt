@@ -14,7 +14,7 @@ use Rattle.scope.proofs.KeptLemmas.{all-has}
 use Rattle.frame.specs.FrameOf.{is_pair, groups}
 use Rattle.frame.specs.Links.{is_disj}
 use Rattle.frame.specs.Disjoint.{are_apart}
-use Rattle.frame.specs.ByPlaces.{AreBelow}
+use Rattle.frame.specs.Below.{AreBelow}
 use Rattle.frame.specs.Covers.{is_listed, are_listed, does_cover, are_covered, do_share, is_pair_apart, is_variable_apart, is_symbol_apart, are_marked}
 use Rattle.frame.proofs.PairsLemmas.{has-decode}
 

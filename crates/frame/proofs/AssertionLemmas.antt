@@ -1,21 +1,21 @@
--- An assertion is kept as what it was made of, and stays so when more is put behind it.
-use Rattle.std.specs.Prelude.{◌≡◌, ℕ, zero, suc, ◌+◌, ◌-◌, ◌<◌, ◌≤◌, Bool, true, false, cond, List, [], ◌∷◌, ◌++◌, length, map, flat_map, filter, slice_get, Option, Some, None, IfSome, unwrap_or, refl}
+-- A statement is kept with what was found, and stays so when more is put behind it.
+use Rattle.std.specs.Prelude.{◌≡◌, ℕ, zero, suc, ◌+◌, ◌-◌, ◌≤◌, Bool, true, false, cond, List, [], ◌∷◌, ◌++◌, map, filter, take, drop, slice_get, Option, Some, refl}
 use Rattle.std.proofs.Common.{sym, ◌∙◌, ap, subst, arith}
-use Rattle.std.proofs.lemmas.List.{length-map}
+use Rattle.std.proofs.lemmas.List.{take-map, take-append-drop}
 use Rattle.mm_lex.specs.Alphabet.{Name}
 use Rattle.mm_read.specs.declared.stmt.Stmt.{Stmt}
-use Rattle.mm_read.specs.Statements.{Database}
-use Rattle.scope.specs.Active.{active, active_from, stays_open}
+use Rattle.mm_read.specs.declared.stmt.Stmt.TheVariants as stmt
+use Rattle.mm_read.specs.Statements.{Expr, Database}
+use Rattle.scope.specs.Active.{active, active_from, stays_open, expr_of, is_assertion, is_essential}
 use Rattle.names.specs.Codes.{name_at, decode}
 use Rattle.frame.specs.FrameOf.{hypotheses, is_hypothesis}
-use Rattle.frame.specs.ByPlaces.{AreBelow}
 use Rattle.frame.specs.Links.{actives, is_disj}
-use Rattle.entries.specs.declared.citation.Pattern.{Pattern}
-use Rattle.entries.specs.Entries.{Assertion}
+use Rattle.frame.specs.Citations.{is_hypothesis_kind}
+use Rattle.frame.specs.Cited.{head_of}
 use Rattle.entries.specs.declared.kind.Kind.{Kind}
 use Rattle.entries.specs.declared.kind.Kind.TheVariants.{Open, Close, Const, Var, Disj, Float, Ess, Axiom, Prove}
-use Rattle.entries.specs.Entries.{Entry}
-use Rattle.frame.specs.Stored.{stmt_by, stmt_of, AreHypotheses, ArePatterns, IsPatternOf, AreParts, IsKeptAs, is_hypothesis_entry, variable_at, option_variable, symbols_at, option_symbols, groups_by, templated, template_number, place_of, place_from, is_code, is_float_kind, own_template, option_template, template_at, AreNumbered, collected}
+use Rattle.entries.specs.Entries.{Entry, Assertion}
+use Rattle.frame.specs.Stored.{stmt_by, stmt_of, AreHypotheses, AreParts, AreFloats, IsKeptAs, kept_with, is_float_in, floats_in, is_hypothesis_entry, variable_at, option_variable, option_asked, symbols_at, option_symbols, groups_by, with_floats, collected}
 
 pub get-entry : (names labels : List Name) (es : List Entry) (i : ℕ) (s : Stmt) → slice_get (map (stmt_of names labels) es) i ≡ Some s → (e : Entry) × (slice_get es i ≡ Some e) × (stmt_of names labels e ≡ s)
 get-entry names labels [] i s h = cc
@@ -37,10 +37,10 @@ module _ (Q : ℕ → Stmt → Type 0) where
       by true q r = (q, r)
       by false q r = r
 
-hypothesis-kind : (names labels : List Name) (S : Database) (s : Stmt) (e : Entry) → is_hypothesis S s (stmt_of names labels e) ≡ true → is_hypothesis_entry e.kind ≡ true
-hypothesis-kind names labels S s e = by e.kind
+hypothesis-entry : (names labels : List Name) (e : Entry) → is_hypothesis_kind (stmt_of names labels e) ≡ true → is_hypothesis_entry e.kind ≡ true
+hypothesis-entry names labels e = by e.kind
   where
-    by : (kind : Kind) → is_hypothesis S s (stmt_by kind (name_at labels e.label) (decode names e.symbols)) ≡ true → is_hypothesis_entry kind ≡ true
+    by : (kind : Kind) → is_hypothesis_kind (stmt_by kind (name_at labels e.label) (decode names e.symbols)) ≡ true → is_hypothesis_entry kind ≡ true
     by Float h = refl
     by Ess h = refl
     by Open h = cc
@@ -51,9 +51,9 @@ hypothesis-kind names labels S s e = by e.kind
     by Axiom h = cc
     by Prove h = cc
 
--- at each position of the hypotheses stands one
-pub hypotheses-are : (names labels : List Name) (es : List Entry) (s : Stmt) → AreHypotheses es (hypotheses (map (stmt_of names labels) es) s)
-hypotheses-are names labels es s = all (active S) (active-are Stands 1 S (λ k t g. (omega arith, ap (slice_get S) (back k) ∙ g)))
+-- where only hypotheses pass a test, one stands at each position of the active statements that pass it
+pub hypotheses-of : (names labels : List Name) (es : List Entry) (q : Stmt → Bool) → ((t : Stmt) → q t ≡ true → is_hypothesis_kind t ≡ true) → AreHypotheses es (map (λ p. p.0) (filter (λ p. q p.1) (active (map (stmt_of names labels) es))))
+hypotheses-of names labels es q kinds = all (active S) (active-are Stands 1 S (λ k t g. (omega arith, ap (slice_get S) (back k) ∙ g)))
   where
     S : Database
     S = map (stmt_of names labels) es
@@ -64,114 +64,96 @@ hypotheses-are names labels es s = all (active S) (active-are Stands 1 S (λ k t
     back : (k : ℕ) → 1 + k - 1 ≡ k
     back k = omega arith
 
-    one : (p : ℕ) (t : Stmt) → (1 ≤ p) × (slice_get (map (stmt_of names labels) es) (p - 1) ≡ Some t) → is_hypothesis (map (stmt_of names labels) es) s t ≡ true
+    one : (p : ℕ) (t : Stmt) → (1 ≤ p) × (slice_get (map (stmt_of names labels) es) (p - 1) ≡ Some t) → q t ≡ true
         → (e : Entry) × (1 ≤ p) × (slice_get es (p - 1) ≡ Some e) × (is_hypothesis_entry e.kind ≡ true)
-    one p t q h =
-        let e = get-entry names labels es (p - 1) t q.1 in
-        (e.0, q.0, e.1, hypothesis-kind names labels (map (stmt_of names labels) es) s e.0 (ap (is_hypothesis (map (stmt_of names labels) es) s) e.2 ∙ h))
+    one p t r h =
+        let e = get-entry names labels es (p - 1) t r.1 in
+        (e.0, r.0, e.1, hypothesis-entry names labels e.0 (ap is_hypothesis_kind e.2 ∙ kinds t h))
 
     all : (ps : List (ℕ × Stmt)) → AllAre (λ p t. (1 ≤ p) × (slice_get (map (stmt_of names labels) es) (p - 1) ≡ Some t)) ps
-        → AreHypotheses es (map (λ p. p.0) (filter (λ p. is_hypothesis (map (stmt_of names labels) es) s p.1) ps))
+        → AreHypotheses es (map (λ p. p.0) (filter (λ p. q p.1) ps))
     all [] h = tt
-    all (p ∷ ps) h = step (is_hypothesis (map (stmt_of names labels) es) s p.1) refl (all ps h.1)
+    all (p ∷ ps) h = step (q p.1) refl (all ps h.1)
       where
-        step : (b : Bool) → is_hypothesis (map (stmt_of names labels) es) s p.1 ≡ b → AreHypotheses es (map (λ q. q.0) (filter (λ q. is_hypothesis (map (stmt_of names labels) es) s q.1) ps))
-            → AreHypotheses es (map (λ q. q.0) (cond b (p ∷ filter (λ q. is_hypothesis (map (stmt_of names labels) es) s q.1) ps) (filter (λ q. is_hypothesis (map (stmt_of names labels) es) s q.1) ps)))
+        step : (b : Bool) → q p.1 ≡ b → AreHypotheses es (map (λ r. r.0) (filter (λ r. q r.1) ps))
+            → AreHypotheses es (map (λ r. r.0) (cond b (p ∷ filter (λ r. q r.1) ps) (filter (λ r. q r.1) ps)))
         step true e r = (one p.0 p.1 h.0 e, r)
         step false e r = r
 
--- ---- more behind it
+hypothesis-kinds : (S : Database) (s t : Stmt) → is_hypothesis S s t ≡ true → is_hypothesis_kind t ≡ true
+hypothesis-kinds S s (stmt.Float l c x) h = refl
+hypothesis-kinds S s (stmt.Ess l e) h = refl
+hypothesis-kinds S s stmt.Open h = cc
+hypothesis-kinds S s stmt.Close h = cc
+hypothesis-kinds S s (stmt.Const ws) h = cc
+hypothesis-kinds S s (stmt.Var ws) h = cc
+hypothesis-kinds S s (stmt.Disj ws) h = cc
+hypothesis-kinds S s (stmt.Axiom l e) h = cc
+hypothesis-kinds S s (stmt.Prove l e p) h = cc
 
-get-more : (es more : List Entry) (k : ℕ) (e : Entry) → slice_get es k ≡ Some e → slice_get (es ++ more) k ≡ Some e
+float-kinds-in : (e : Expr) (t : Stmt) → is_float_in e t ≡ true → is_hypothesis_kind t ≡ true
+float-kinds-in e (stmt.Float l c x) h = refl
+float-kinds-in e (stmt.Ess l w) h = cc
+float-kinds-in e stmt.Open h = cc
+float-kinds-in e stmt.Close h = cc
+float-kinds-in e (stmt.Const ws) h = cc
+float-kinds-in e (stmt.Var ws) h = cc
+float-kinds-in e (stmt.Disj ws) h = cc
+float-kinds-in e (stmt.Axiom l w) h = cc
+float-kinds-in e (stmt.Prove l w p) h = cc
+
+pub hypotheses-are : (names labels : List Name) (es : List Entry) (s : Stmt) → AreHypotheses es (hypotheses (map (stmt_of names labels) es) s)
+hypotheses-are names labels es s = hypotheses-of names labels es (is_hypothesis (map (stmt_of names labels) es) s) (hypothesis-kinds (map (stmt_of names labels) es) s)
+
+pub floats-are : (names labels : List Name) (es : List Entry) (e : Expr) → AreHypotheses es (floats_in (map (stmt_of names labels) es) e)
+floats-are names labels es e = hypotheses-of names labels es (is_float_in e) (float-kinds-in e)
+
+pub kept-are : (names labels : List Name) (es : List Entry) (s : Stmt) → AreHypotheses es (kept_with (map (stmt_of names labels) es) s)
+kept-are names labels es (stmt.Ess l e) = floats-are names labels es e
+kept-are names labels es stmt.Open = hypotheses-are names labels es stmt.Open
+kept-are names labels es stmt.Close = hypotheses-are names labels es stmt.Close
+kept-are names labels es (stmt.Const ws) = hypotheses-are names labels es (stmt.Const ws)
+kept-are names labels es (stmt.Var ws) = hypotheses-are names labels es (stmt.Var ws)
+kept-are names labels es (stmt.Disj ws) = hypotheses-are names labels es (stmt.Disj ws)
+kept-are names labels es (stmt.Float l c x) = hypotheses-are names labels es (stmt.Float l c x)
+kept-are names labels es (stmt.Axiom l e) = hypotheses-are names labels es (stmt.Axiom l e)
+kept-are names labels es (stmt.Prove l e p) = hypotheses-are names labels es (stmt.Prove l e p)
+
+pub asserted : (S : Database) (s : Stmt) → is_assertion s ≡ true → kept_with S s ≡ hypotheses S s
+asserted S (stmt.Axiom l e) h = refl
+asserted S (stmt.Prove l e p) h = refl
+asserted S (stmt.Ess l e) h = cc
+asserted S stmt.Open h = cc
+asserted S stmt.Close h = cc
+asserted S (stmt.Const ws) h = cc
+asserted S (stmt.Var ws) h = cc
+asserted S (stmt.Disj ws) h = cc
+asserted S (stmt.Float l c x) h = cc
+
+pub noted : (S : Database) (s : Stmt) → is_essential s ≡ true → kept_with S s ≡ floats_in S (expr_of s)
+noted S (stmt.Ess l e) h = refl
+noted S (stmt.Axiom l e) h = cc
+noted S (stmt.Prove l e p) h = cc
+noted S stmt.Open h = cc
+noted S stmt.Close h = cc
+noted S (stmt.Const ws) h = cc
+noted S (stmt.Var ws) h = cc
+noted S (stmt.Disj ws) h = cc
+noted S (stmt.Float l c x) h = cc
+
+-- ---- more behind it, or less
+
+pub get-more : (es more : List Entry) (k : ℕ) (e : Entry) → slice_get es k ≡ Some e → slice_get (es ++ more) k ≡ Some e
 get-more [] more k e h = cc
 get-more (d ∷ es) more zero e h = h
 get-more (d ∷ es) more (suc k) e h = get-more es more k e h
 
-patterns-grow : (es more : List Entry) (vs : List (Option ℕ)) (t : List ℕ) (ps : List ℕ) (qs : List Pattern) → ArePatterns es vs t ps qs → ArePatterns (es ++ more) vs t ps qs
-patterns-grow es more vs t [] [] h = tt
-patterns-grow es more vs t [] (q ∷ qs) h = absurd h
-patterns-grow es more vs t (p ∷ ps) [] h = absurd h
-patterns-grow es more vs t (p ∷ ps) (q ∷ qs) h = ((h.0.0, get-more es more (p - 1) h.0.0 h.0.1, h.0.2), patterns-grow es more vs t ps qs h.1)
-
-variables-grow : (es more : List Entry) (vs : List (Option ℕ)) (t : List ℕ) (ps : List ℕ) (qs : List Pattern) → ArePatterns es vs t ps qs → map (variable_at es) ps ≡ map (variable_at (es ++ more)) ps
-variables-grow es more vs t [] [] h = refl
-variables-grow es more vs t [] (q ∷ qs) h = absurd h
-variables-grow es more vs t (p ∷ ps) [] h = absurd h
-variables-grow es more vs t (p ∷ ps) (q ∷ qs) h =
-    ap (λ o. option_variable o ∷ map (variable_at es) ps) (h.0.1 ∙ sym (get-more es more (p - 1) h.0.0 h.0.1))
-    ∙ ap (λ r. variable_at (es ++ more) p ∷ r) (variables-grow es more vs t ps qs h.1)
-
-templates-grow : (es more : List Entry) (vs ws : List (Option ℕ)) (t : List ℕ) (ps : List ℕ) (qs : List Pattern) → ArePatterns es vs t ps qs → flat_map (template_at es ws) ps ≡ flat_map (template_at (es ++ more) ws) ps
-templates-grow es more vs ws t [] [] h = refl
-templates-grow es more vs ws t [] (q ∷ qs) h = absurd h
-templates-grow es more vs ws t (p ∷ ps) [] h = absurd h
-templates-grow es more vs ws t (p ∷ ps) (q ∷ qs) h =
-    ap (λ o. option_template ws o ++ flat_map (template_at es ws) ps) (h.0.1 ∙ sym (get-more es more (p - 1) h.0.0 h.0.1))
-    ∙ ap (λ r. template_at (es ++ more) ws p ++ r) (templates-grow es more vs ws t ps qs h.1)
-
--- ---- the templates are of numbers that have names or are places
-
-template-below : (vs : List (Option ℕ)) (n c : ℕ) → c < n → template_number vs c < length vs + n
-template-below vs n c h = by (place_of vs c) (place-within 0 vs c)
-  where
-    place-within : (k : ℕ) (ws : List (Option ℕ)) (x : ℕ) → IfSome (place_from k ws x) (λ p. p < k + length ws)
-    place-within k [] x = tt
-    place-within k (w ∷ ws) x = step (is_code x w) (place-within (k + 1) ws x)
-      where
-        wider : (o : Option ℕ) → IfSome o (λ p. p < k + 1 + length ws) → IfSome o (λ p. p < k + suc (length ws))
-        wider None q = tt
-        wider (Some p) q = omega (arith, q)
-
-        step : (b : Bool) → IfSome (place_from (k + 1) ws x) (λ p. p < k + 1 + length ws) → IfSome (cond b (Some k) (place_from (k + 1) ws x)) (λ p. p < k + suc (length ws))
-        step true q = omega arith
-        step false q = wider (place_from (k + 1) ws x) q
-
-    by : (o : Option ℕ) → IfSome o (λ p. p < 0 + length vs) → unwrap_or o (length vs + c) < length vs + n
-    by None q = omega (arith, h)
-    by (Some p) q = omega (arith, q, h)
-
-below-append : (n : ℕ) (a b : List ℕ) → AreBelow n a → AreBelow n b → AreBelow n (a ++ b)
-below-append n [] b p q = q
-below-append n (x ∷ a) b p q = (p.0, below-append n a b p.1 q)
-
-templated-below : (vs : List (Option ℕ)) (n : ℕ) (codes : List ℕ) → AreBelow n codes → AreBelow (length vs + n) (templated vs codes)
-templated-below vs n [] h = tt
-templated-below vs n (c ∷ codes) h = (template-below vs n c h.0, templated-below vs n codes h.1)
-
-own-below : (vs : List (Option ℕ)) (n : ℕ) (e : Entry) → AreBelow n e.symbols → AreBelow (length vs + n) (own_template vs e)
-own-below vs n e h = by (is_float_kind e.kind)
-  where
-    by : (b : Bool) → AreBelow (length vs + n) (cond b [] (templated vs e.symbols))
-    by true = tt
-    by false = templated-below vs n e.symbols h
-
-flat-below : (names-count m : ℕ) (es : List Entry) (vs ws : List (Option ℕ)) (t ps : List ℕ) (qs : List Pattern) → AreNumbered names-count m es → ArePatterns es vs t ps qs → AreBelow (length ws + names-count) (flat_map (template_at es ws) ps)
-flat-below n m es vs ws t [] [] a h = tt
-flat-below n m es vs ws t [] (q ∷ qs) a h = absurd h
-flat-below n m es vs ws t (p ∷ ps) [] a h = absurd h
-flat-below n m es vs ws t (p ∷ ps) (q ∷ qs) a h =
-    below-append (length ws + n) (template_at es ws p) (flat_map (template_at es ws) ps)
-    (subst (λ o. AreBelow (length ws + n) (option_template ws o)) (sym h.0.1) (own-below ws n h.0.0 (numbered-here n m es a (p - 1) h.0.0 h.0.1)))
-    (flat-below n m es vs ws t ps qs a h.1)
-  where
-    numbered-here : (x y : ℕ) (ds : List Entry) → AreNumbered x y ds → (k : ℕ) (d : Entry) → slice_get ds k ≡ Some d → AreBelow x d.symbols
-    numbered-here x y [] b k d g = cc
-    numbered-here x y (c ∷ ds) b zero d g = let same : c ≡ d = cc in subst (λ w. AreBelow x w.symbols) same b.0
-    numbered-here x y (c ∷ ds) b (suc k) d g = numbered-here x y ds b.2 k d g
-
-patterns-count : (es : List Entry) (vs : List (Option ℕ)) (t ps : List ℕ) (qs : List Pattern) → ArePatterns es vs t ps qs → length qs ≡ length ps
-patterns-count es vs t [] [] h = refl
-patterns-count es vs t [] (q ∷ qs) h = absurd h
-patterns-count es vs t (p ∷ ps) [] h = absurd h
-patterns-count es vs t (p ∷ ps) (q ∷ qs) h = ap suc (patterns-count es vs t ps qs h.1)
-
-pub kept-low : (n m : ℕ) (es : List Entry) (S : Database) (s : Stmt) (e : Entry) (d : Assertion) → AreNumbered n m es → IsKeptAs es S s e d → AreBelow (length d.patterns + n) d.templates
-kept-low n m es S s e d a k =
-    let vs = map (variable_at es) d.hypotheses in
-    let one : length vs ≡ length d.hypotheses = length-map d.hypotheses (variable_at es) in
-    let two = patterns-count es vs d.templates d.hypotheses d.patterns k.patterns_kept in
-    let low : AreBelow (length vs + n) d.templates = subst (AreBelow (length vs + n)) (sym k.templates_kept) (flat-below n m es vs vs d.templates d.hypotheses d.patterns a k.patterns_kept) in
-    subst (λ r. AreBelow (r + n) d.templates) (one ∙ sym two) low
+-- what is read off the entries at these positions stays
+maps-same : {A : Type 0} (f : ℕ → Option Entry → A) (es more : List Entry) (ps : List ℕ) → AreHypotheses es ps → map (λ p. f p (slice_get es (p - 1))) ps ≡ map (λ p. f p (slice_get (es ++ more) (p - 1))) ps
+maps-same f es more [] h = refl
+maps-same f es more (p ∷ ps) h =
+    ap (λ o. f p o ∷ map (λ q. f q (slice_get es (q - 1))) ps) (h.0.2 ∙ sym (get-more es more (p - 1) h.0.0 h.0.2))
+    ∙ ap (λ r. f p (slice_get (es ++ more) (p - 1)) ∷ r) (maps-same f es more ps h.1)
 
 -- the symbols at positions within the list
 symbols-grow : (names labels : List Name) (es more : List Entry) (S : Database) → ((k : ℕ) (t : Stmt) → slice_get S k ≡ Some t → (e : Entry) × (slice_get es k ≡ Some e))
@@ -196,61 +178,75 @@ symbols-grow names labels es more S h = all (active S) (active-are Stands 1 S (�
             ∙ ap (λ w. symbols_at (es ++ more) p.0 ∷ w) r
         step false r = r
 
-pub kept-more : (names labels : List Name) (es more : List Entry) (S : Database) (s : Stmt) (e : Entry) (d : Assertion) → ((k : ℕ) (t : Stmt) → slice_get S k ≡ Some t → (x : Entry) × (slice_get es k ≡ Some x))
-    → IsKeptAs es S s e d → IsKeptAs (es ++ more) S s e d
-kept-more names labels es more S s e d h k =
-    let vs = map (variable_at es) d.hypotheses in
-    let same : vs ≡ map (variable_at (es ++ more)) d.hypotheses = variables-grow es more vs d.templates d.hypotheses d.patterns k.patterns_kept in
-    record {
-      hypotheses_kept = k.hypotheses_kept;
-      patterns_kept = subst (λ v. ArePatterns (es ++ more) v d.templates d.hypotheses d.patterns) same (patterns-grow es more vs d.templates d.hypotheses d.patterns k.patterns_kept);
-      conclusion_kept = k.conclusion_kept ∙ ap (λ v. templated v e.symbols) same;
-      groups_kept = k.groups_kept ∙ (ap (λ v. groups_by v (map (λ q. symbols_at es q.0) (actives is_disj S))) same
-          ∙ ap (groups_by (map (variable_at (es ++ more)) d.hypotheses)) (symbols-grow names labels es more S h));
-      few = k.few;
-      templates_kept = k.templates_kept ∙ (templates-grow es more vs vs d.templates d.hypotheses d.patterns k.patterns_kept
-          ∙ ap (λ v. flat_map (template_at (es ++ more) v) d.hypotheses) same);
-    }
+module _ (names labels : List Name) (es more : List Entry) (s : Stmt) (d : Assertion) where
+  abbrev front : Database
+  front = map (stmt_of names labels) es
 
--- ---- less behind it
+  there : d.hypotheses ≡ kept_with front s → AreHypotheses es d.hypotheses
+  there h = subst (AreHypotheses es) (sym h) (kept-are names labels es s)
 
-patterns-shrink : (es more : List Entry) (vs : List (Option ℕ)) (t : List ℕ) (ps : List ℕ) (qs : List Pattern) → AreHypotheses es ps → ArePatterns (es ++ more) vs t ps qs → ArePatterns es vs t ps qs
-patterns-shrink es more vs t [] [] there h = tt
-patterns-shrink es more vs t [] (q ∷ qs) there h = absurd h
-patterns-shrink es more vs t (p ∷ ps) [] there h = absurd h
-patterns-shrink es more vs t (p ∷ ps) (q ∷ qs) there h =
-    let e = there.0.0 in
-    let same : Some h.0.0 ≡ Some e = sym h.0.1 ∙ get-more es more (p - 1) e there.0.2 in
-    let is : h.0.0 ≡ e = cc in
-    ((e, there.0.2, subst (λ d. IsPatternOf vs t d q) is h.0.2), patterns-shrink es more vs t ps qs there.1 h.1)
+  groups-same : (ps : List ℕ) → AreHypotheses es ps
+      → groups_by (map (variable_at es) ps) (map (λ q. symbols_at es q.0) (actives is_disj front)) ≡ groups_by (map (variable_at (es ++ more)) ps) (map (λ q. symbols_at (es ++ more) q.0) (actives is_disj front))
+  groups-same ps h =
+      ap (λ vs. groups_by vs (map (λ q. symbols_at es q.0) (actives is_disj front))) (maps-same (λ p o. option_variable o) es more ps h)
+      ∙ ap (groups_by (map (variable_at (es ++ more)) ps)) (symbols-grow names labels es more front (λ k t g. let x = get-entry names labels es k t g in (x.0, x.1)))
 
-pub kept-less : (names labels : List Name) (es more : List Entry) (s : Stmt) (e : Entry) (d : Assertion) → IsKeptAs (es ++ more) (map (stmt_of names labels) es) s e d → IsKeptAs es (map (stmt_of names labels) es) s e d
-kept-less names labels es more s e d k =
-    let S = map (stmt_of names labels) es in
-    let ps = d.hypotheses in
-    let vs = map (variable_at (es ++ more)) ps in
-    let there = subst (AreHypotheses es) (sym k.hypotheses_kept) (hypotheses-are names labels es s) in
-    let found = patterns-shrink es more vs d.templates ps d.patterns there k.patterns_kept in
-    let same : vs ≡ map (variable_at es) ps = sym (variables-grow es more vs d.templates ps d.patterns found) in
-    let stand : (k : ℕ) (t : Stmt) → slice_get S k ≡ Some t → (x : Entry) × (slice_get es k ≡ Some x) = λ k t g. let x = get-entry names labels es k t g in (x.0, x.1) in
-    record {
-      hypotheses_kept = k.hypotheses_kept;
-      patterns_kept = subst (λ v. ArePatterns es v d.templates ps d.patterns) same found;
-      conclusion_kept = k.conclusion_kept ∙ ap (λ v. templated v e.symbols) same;
-      groups_kept = k.groups_kept ∙ (ap (λ v. groups_by v (map (λ q. symbols_at (es ++ more) q.0) (actives is_disj S))) same
-          ∙ ap (groups_by (map (variable_at es) ps)) (sym (symbols-grow names labels es more S stand)));
-      few = k.few;
-      templates_kept = k.templates_kept ∙ (ap (λ v. flat_map (template_at (es ++ more) v) ps) same
-          ∙ sym (templates-grow es more vs (map (variable_at es) ps) d.templates ps d.patterns found));
-    }
+  pub kept-more : IsKeptAs es front s d → IsKeptAs (es ++ more) front s d
+  kept-more k =
+      let h = there k.hypotheses_kept in
+      record {
+        hypotheses_kept = k.hypotheses_kept;
+        asked_kept = k.asked_kept ∙ maps-same option_asked es more d.hypotheses h;
+        heads_kept = k.heads_kept ∙ maps-same (λ p o. head_of (option_symbols o)) es more d.hypotheses h;
+        groups_kept = λ a. k.groups_kept a ∙ groups-same d.hypotheses h;
+      }
 
--- what was made of the symbols of e is what e is kept as
-pub parts-kept : (es : List Entry) (S : Database) (s : Stmt) (e : Entry) (codes : List ℕ) (d : Assertion) → e.symbols ≡ codes → collected es S codes ≡ hypotheses S s → AreParts es S codes d → IsKeptAs es S s e d
-parts-kept es S s e codes d same found p = record {
-  hypotheses_kept = p.hypotheses_found ∙ found;
-  patterns_kept = p.patterns_made;
-  conclusion_kept = p.conclusion_made ∙ ap (templated (map (variable_at es) d.hypotheses)) (sym same);
-  groups_kept = p.groups_made;
-  few = p.few_places;
-  templates_kept = p.templates_made;
+  pub kept-less : IsKeptAs (es ++ more) front s d → IsKeptAs es front s d
+  kept-less k =
+      let h = there k.hypotheses_kept in
+      record {
+        hypotheses_kept = k.hypotheses_kept;
+        asked_kept = k.asked_kept ∙ sym (maps-same option_asked es more d.hypotheses h);
+        heads_kept = k.heads_kept ∙ sym (maps-same (λ p o. head_of (option_symbols o)) es more d.hypotheses h);
+        groups_kept = λ a. k.groups_kept a ∙ sym (groups-same d.hypotheses h);
+      }
+
+-- what was kept behind the first i entries is kept in any list that begins with these
+pub kept-moved : (names labels : List Name) (es fs : List Entry) (i : ℕ) (s : Stmt) (d : Assertion) → take i es ≡ take i fs
+    → IsKeptAs es (take i (map (stmt_of names labels) es)) s d → IsKeptAs fs (take i (map (stmt_of names labels) es)) s d
+kept-moved names labels es fs i s d same k =
+    let few = take i es in
+    let S = take i (map (stmt_of names labels) es) in
+    let is : S ≡ map (stmt_of names labels) few = take-map (stmt_of names labels) i es in
+    let low = kept-less names labels few (drop i es) s d
+    (subst (λ T. IsKeptAs (few ++ drop i es) T s d) is (subst (λ x. IsKeptAs x S s d) (sym (take-append-drop i es)) k)) in
+    let up : fs ≡ few ++ drop i fs = sym (take-append-drop i fs) ∙ ap (λ r. r ++ drop i fs) (sym same) in
+    subst (λ x. IsKeptAs x S s d) (sym up) (subst (λ T. IsKeptAs (few ++ drop i fs) T s d) (sym is) (kept-more names labels few (drop i fs) s d low))
+
+-- what was made of the symbols of s is what s is kept as
+pub parts-kept : (es : List Entry) (S : Database) (s : Stmt) (codes : List ℕ) (d : Assertion) → is_assertion s ≡ true → collected es S codes ≡ hypotheses S s → AreParts es S codes d → IsKeptAs es S s d
+parts-kept es S s codes d a found p = record {
+  hypotheses_kept = p.hypotheses_found ∙ (found ∙ sym (asserted S s a));
+  asked_kept = p.described.asked_made;
+  heads_kept = p.described.heads_made;
+  groups_kept = λ h. p.groups_made;
 }
+
+pub floats-kept : (es : List Entry) (S : Database) (s : Stmt) (codes : List ℕ) (d : Assertion) → is_essential s ≡ true → with_floats es S codes [] ≡ floats_in S (expr_of s) → AreFloats es S codes d → IsKeptAs es S s d
+floats-kept es S s codes d a found p = record {
+  hypotheses_kept = p.floats_found ∙ (found ∙ sym (noted S s a));
+  asked_kept = p.floats_described.asked_made;
+  heads_kept = p.floats_described.heads_made;
+  groups_kept = λ h. absurd (not-both s a h);
+}
+  where
+    not-both : (t : Stmt) → is_essential t ≡ true → is_assertion t ≡ true → ⊥
+    not-both (stmt.Ess l e) h g = cc
+    not-both stmt.Open h g = cc
+    not-both stmt.Close h g = cc
+    not-both (stmt.Const ws) h g = cc
+    not-both (stmt.Var ws) h g = cc
+    not-both (stmt.Disj ws) h g = cc
+    not-both (stmt.Float l c x) h g = cc
+    not-both (stmt.Axiom l e) h g = cc
+    not-both (stmt.Prove l e p) h g = cc

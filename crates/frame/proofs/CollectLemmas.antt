@@ -9,7 +9,7 @@ use Rattle.names.specs.Codes.{name_at, decode}
 use Rattle.entries.specs.declared.kind.Kind.{Kind}
 use Rattle.entries.specs.declared.kind.Kind.TheVariants.{Open, Close, Const, Var, Disj, Float, Ess, Axiom, Prove}
 use Rattle.entries.specs.Entries.{Entry}
-use Rattle.frame.specs.Stored.{inserted, floats, last_from, last_where, with_float, with_floats, with_essentials, symbols_at, stmt_by, stmt_of, is_float_kind, IsPlain}
+use Rattle.frame.specs.Stored.{inserted, floats, last_from, last_where, with_float, with_floats, with_all, with_essentials, kept_at, stmt_by, stmt_of, is_float_kind, IsPlain}
 
 pub inserted-here : (p q : ℕ) (qs : List ℕ) → p ≡ q → inserted p (q ∷ qs) ≡ q ∷ qs
 inserted-here p q qs e = let t : (p == q) ≡ true = grind (arith, e) in ap (λ b. cond b (q ∷ qs) (cond (nat_lt p q) (p ∷ q ∷ qs) (q ∷ inserted p qs))) t
@@ -115,10 +115,13 @@ floats-step es S codes i list h = ap (λ r. with_floats es S r list) (drop-at co
 
 -- ---- the active `$e`, from the last one back
 
-pub essentials-step : (es : List Entry) (S : Database) (qs : List (ℕ × Stmt)) (p : ℕ) (s : Stmt) (list : List ℕ)
-    → with_essentials es S (qs ++ (p, s) ∷ []) list ≡ with_essentials es S qs (with_floats es S (symbols_at es p) (inserted p list))
-essentials-step es S [] p s list = refl
-essentials-step es S (q ∷ qs) p s list = ap (λ r. with_floats es S (symbols_at es q.0) (inserted q.0 r)) (essentials-step es S qs p s list)
+pub essentials-step : (es : List Entry) (qs : List (ℕ × Stmt)) (p : ℕ) (s : Stmt) (list : List ℕ)
+    → with_essentials es (qs ++ (p, s) ∷ []) list ≡ with_essentials es qs (with_all (kept_at es p) (inserted p list))
+essentials-step es [] p s list = refl
+essentials-step es (q ∷ qs) p s list = ap (λ r. with_all (kept_at es q.0) (inserted q.0 r)) (essentials-step es qs p s list)
+
+pub all-step : (ps : List ℕ) (i : ℕ) (list : List ℕ) → i < length ps → with_all (drop i ps) list ≡ with_all (drop (i + 1) ps) (inserted (get_or ps i 0) list)
+all-step ps i list h = ap (λ r. with_all r list) (drop-at ps i h)
 
 pub index-is : {A : Type 0} (xs : List A) (i : ℕ) (x y : A) → slice_get xs i ≡ Some y → x ≡ get_or xs i x → x ≡ y
 index-is [] i x y h e = cc

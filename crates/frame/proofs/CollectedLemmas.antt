@@ -7,18 +7,18 @@ use Rattle.std.proofs.lemmas.Slice.Eq.{bytes_eq-Decides}
 use Rattle.mm_lex.specs.Alphabet.{Name, name_eq, has_name}
 use Rattle.mm_read.specs.declared.stmt.Stmt.{Stmt}
 use Rattle.mm_read.specs.declared.stmt.Stmt.TheVariants as stmt
-use Rattle.mm_read.specs.Statements.{Database}
+use Rattle.mm_read.specs.Statements.{Expr, Database}
 use Rattle.scope.specs.Active.{stays_open, active, active_from, is_active, expr_of, is_essential, is_variable, has_float, is_float_of}
 use Rattle.names.specs.Codes.{name_at, decode, AreDistinct}
 use Rattle.frame.specs.FrameOf.{is_used, is_mandatory, is_hypothesis, hypotheses}
-use Rattle.frame.specs.ByPlaces.{AreBelow}
+use Rattle.frame.specs.Below.{AreBelow}
 use Rattle.entries.specs.declared.kind.Kind.{Kind}
 use Rattle.entries.specs.declared.kind.Kind.TheVariants.{Open, Close, Const, Var, Disj, Float, Ess, Axiom, Prove}
 use Rattle.entries.specs.Entries.{Entry}
 use Rattle.frame.specs.Links.{actives}
-use Rattle.frame.specs.Stored.{stmt_by, stmt_of, AreNumbered, HasTwo, floats, second_is, is_float_kind, last_from, last_where, inserted, AreAbove, Ascends, with_float, with_floats, with_essentials, collected, symbols_at, option_symbols}
+use Rattle.frame.specs.Stored.{stmt_by, stmt_of, AreNumbered, HasTwo, floats, second_is, is_float_kind, last_from, last_where, inserted, AreAbove, Ascends, with_float, with_floats, with_all, with_essentials, collected, kept_at, option_kept, is_float_in, floats_in}
 use Rattle.frame.proofs.LegalLabels.{AllKept}
-use Rattle.frame.proofs.PlacesLemmas.{Stands, active-stands, stands-active, float-kinds, kept-legal, legal-keeps, active-rest, open_front, Order, earlier, at_one, later, order}
+use Rattle.frame.proofs.PlacesLemmas.{Stands, active-stands, stands-active, float-kinds, kept-legal, legal-keeps, active-rest, open_front, open_both, is_ess, typed-before, Order, earlier, at_one, later, order}
 use Rattle.frame.proofs.KeptLemmas.{name_at-injective, map-back, map-at, middle, numbered-at}
 
 -- ---- ascending lists
@@ -221,14 +221,40 @@ module _ (es : List Entry) (S : Database) where
   ascends-floats [] list a = a
   ascends-floats (c ∷ codes) list a = ascends-floats codes (with_float es S c list) (ascends-float c list a)
 
+-- ---- many positions more
+
+all-in : (p : ℕ) (ps list : List ℕ) → In p (with_all ps list) → In p list ⊎ In p ps
+all-in p [] list i = inl i
+all-in p (q ∷ ps) list i = up (all-in p ps (inserted q list) i)
+  where
+    first : (p ≡ q) ⊎ In p list → In p list ⊎ In p (q ∷ ps)
+    first (inl e) = inr (inl e)
+    first (inr k) = inl k
+
+    up : In p (inserted q list) ⊎ In p ps → In p list ⊎ In p (q ∷ ps)
+    up (inr k) = inr (inr k)
+    up (inl k) = first (inserted-in p q list k)
+
+in-all : (p : ℕ) (ps list : List ℕ) → In p list ⊎ In p ps → In p (with_all ps list)
+in-all p [] list (inl i) = i
+in-all p [] list (inr i) = absurd i
+in-all p (q ∷ ps) list (inl i) = in-all p ps (inserted q list) (inl (in-inserted p q list (inr i)))
+in-all p (q ∷ ps) list (inr (inl e)) = in-all p ps (inserted q list) (inl (in-inserted p q list (inl e)))
+in-all p (q ∷ ps) list (inr (inr i)) = in-all p ps (inserted q list) (inr i)
+
+pub ascends-all : (ps list : List ℕ) → Ascends list → Ascends (with_all ps list)
+ascends-all [] list a = a
+ascends-all (p ∷ ps) list a = ascends-all ps (inserted p list) (ascends-inserted p list a)
+
+module _ (es : List Entry) where
   pub record SomeEssential (qs : List ℕ) (p : ℕ) : Type 0 where
     pub essential : ℕ
     pub among : In essential qs
-    pub way : (p ≡ essential) ⊎ SomeFloat (symbols_at es essential) p
+    pub way : (p ≡ essential) ⊎ In p (kept_at es essential)
 
-  essentials-in : (p : ℕ) (qs : List (ℕ × Stmt)) (list : List ℕ) → In p (with_essentials es S qs list) → In p list ⊎ SomeEssential (map (λ q. q.0) qs) p
+  essentials-in : (p : ℕ) (qs : List (ℕ × Stmt)) (list : List ℕ) → In p (with_essentials es qs list) → In p list ⊎ SomeEssential (map (λ q. q.0) qs) p
   essentials-in p [] list i = inl i
-  essentials-in p (q ∷ qs) list i = up (floats-in p (symbols_at es q.0) (inserted q.0 (with_essentials es S qs list)) i) (essentials-in p qs list)
+  essentials-in p (q ∷ qs) list i = up (all-in p (kept_at es q.0) (inserted q.0 (with_essentials es qs list)) i) (essentials-in p qs list)
     where
       wider : SomeEssential (map (λ r. r.0) qs) p → SomeEssential (q.0 ∷ map (λ r. r.0) qs) p
       wider s = record { essential = s.essential; among = inr s.among; way = s.way }
@@ -237,31 +263,31 @@ module _ (es : List Entry) (S : Database) where
       out (inl k) = inl k
       out (inr k) = inr (wider k)
 
-      up : In p (inserted q.0 (with_essentials es S qs list)) ⊎ SomeFloat (symbols_at es q.0) p → (In p (with_essentials es S qs list) → In p list ⊎ SomeEssential (map (λ r. r.0) qs) p)
+      up : In p (inserted q.0 (with_essentials es qs list)) ⊎ In p (kept_at es q.0) → (In p (with_essentials es qs list) → In p list ⊎ SomeEssential (map (λ r. r.0) qs) p)
           → In p list ⊎ SomeEssential (q.0 ∷ map (λ r. r.0) qs) p
       up (inr f) more = inr (record { essential = q.0; among = inl refl; way = inr f })
-      up (inl j) more = mid (inserted-in p q.0 (with_essentials es S qs list) j)
+      up (inl j) more = mid (inserted-in p q.0 (with_essentials es qs list) j)
         where
-          mid : (p ≡ q.0) ⊎ In p (with_essentials es S qs list) → In p list ⊎ SomeEssential (q.0 ∷ map (λ r. r.0) qs) p
+          mid : (p ≡ q.0) ⊎ In p (with_essentials es qs list) → In p list ⊎ SomeEssential (q.0 ∷ map (λ r. r.0) qs) p
           mid (inl k) = inr (record { essential = q.0; among = inl refl; way = inl k })
           mid (inr k) = out (more k)
 
-  in-essentials : (p : ℕ) (qs : List (ℕ × Stmt)) (list : List ℕ) → In p list ⊎ SomeEssential (map (λ q. q.0) qs) p → In p (with_essentials es S qs list)
+  in-essentials : (p : ℕ) (qs : List (ℕ × Stmt)) (list : List ℕ) → In p list ⊎ SomeEssential (map (λ q. q.0) qs) p → In p (with_essentials es qs list)
   in-essentials p [] list (inl i) = i
   in-essentials p [] list (inr s) = absurd s.among
   in-essentials p (q ∷ qs) list (inl i) =
-      in-floats p (symbols_at es q.0) (inserted q.0 (with_essentials es S qs list)) (inl (in-inserted p q.0 (with_essentials es S qs list) (inr (in-essentials p qs list (inl i)))))
+      in-all p (kept_at es q.0) (inserted q.0 (with_essentials es qs list)) (inl (in-inserted p q.0 (with_essentials es qs list) (inr (in-essentials p qs list (inl i)))))
   in-essentials p (q ∷ qs) list (inr s) = by s.essential s.among s.way (in-essentials p qs list)
     where
-      by : (r : ℕ) → In r (q.0 ∷ map (λ x. x.0) qs) → (p ≡ r) ⊎ SomeFloat (symbols_at es r) p → (In p list ⊎ SomeEssential (map (λ x. x.0) qs) p → In p (with_essentials es S qs list))
-          → In p (with_floats es S (symbols_at es q.0) (inserted q.0 (with_essentials es S qs list)))
-      by r (inl e) (inl w) more = in-floats p (symbols_at es q.0) (inserted q.0 (with_essentials es S qs list)) (inl (in-inserted p q.0 (with_essentials es S qs list) (inl (w ∙ e))))
-      by r (inl e) (inr w) more = in-floats p (symbols_at es q.0) (inserted q.0 (with_essentials es S qs list)) (inr (subst (λ n. SomeFloat (symbols_at es n) p) e w))
-      by r (inr j) w more = in-floats p (symbols_at es q.0) (inserted q.0 (with_essentials es S qs list)) (inl (in-inserted p q.0 (with_essentials es S qs list) (inr (more (inr (record { essential = r; among = j; way = w }))))))
+      by : (r : ℕ) → In r (q.0 ∷ map (λ x. x.0) qs) → (p ≡ r) ⊎ In p (kept_at es r) → (In p list ⊎ SomeEssential (map (λ x. x.0) qs) p → In p (with_essentials es qs list))
+          → In p (with_all (kept_at es q.0) (inserted q.0 (with_essentials es qs list)))
+      by r (inl e) (inl w) more = in-all p (kept_at es q.0) (inserted q.0 (with_essentials es qs list)) (inl (in-inserted p q.0 (with_essentials es qs list) (inl (w ∙ e))))
+      by r (inl e) (inr w) more = in-all p (kept_at es q.0) (inserted q.0 (with_essentials es qs list)) (inr (subst (λ n. In p (kept_at es n)) e w))
+      by r (inr j) w more = in-all p (kept_at es q.0) (inserted q.0 (with_essentials es qs list)) (inl (in-inserted p q.0 (with_essentials es qs list) (inr (more (inr (record { essential = r; among = j; way = w }))))))
 
-  ascends-essentials : (qs : List (ℕ × Stmt)) (list : List ℕ) → Ascends list → Ascends (with_essentials es S qs list)
+  ascends-essentials : (qs : List (ℕ × Stmt)) (list : List ℕ) → Ascends list → Ascends (with_essentials es qs list)
   ascends-essentials [] list a = a
-  ascends-essentials (q ∷ qs) list a = ascends-floats (symbols_at es q.0) (inserted q.0 (with_essentials es S qs list)) (ascends-inserted q.0 (with_essentials es S qs list) (ascends-essentials qs list a))
+  ascends-essentials (q ∷ qs) list a = ascends-all (kept_at es q.0) (inserted q.0 (with_essentials es qs list)) (ascends-inserted q.0 (with_essentials es qs list) (ascends-essentials qs list a))
 
 -- ---- the active statements that pass a test, by position
 
@@ -457,17 +483,6 @@ one-float S A m l x B k m' l' all whole stays at_k lt =
         let has : has_float (take k S) x ≡ true = ap (λ D. has_float D x) p ∙ stands-active (is_float_of x) 1 A (stmt.Float m l x) M inside ((bytes_eq-Decides x x).1 refl) in
         let bad : true ≡ false = sym none.1 ∙ ap not has in cc
 
-ess-expr : (names : List Name) (k : Kind) (label : Name) (codes : List ℕ) → is_essential (stmt_by k label (decode names codes)) ≡ true → expr_of (stmt_by k label (decode names codes)) ≡ decode names codes
-ess-expr names Ess label codes h = refl
-ess-expr names Open label codes h = cc
-ess-expr names Close label codes h = cc
-ess-expr names Const label codes h = cc
-ess-expr names Var label codes h = cc
-ess-expr names Disj label codes h = cc
-ess-expr names Float label codes h = cc
-ess-expr names Axiom label codes h = cc
-ess-expr names Prove label codes h = cc
-
 -- a hypothesis is a `$e`, or the `$f` of a mandatory variable
 hyp-kind : (S : Database) (s t : Stmt) → is_hypothesis S s t ≡ true → (is_essential t ≡ true) ⊎ ((m : Name) × (l : Name) × (x : Name) × (t ≡ stmt.Float m l x) × (is_mandatory S s x ≡ true))
 hyp-kind S s (stmt.Ess m w) h = inl refl
@@ -491,11 +506,58 @@ ess-hyp S s (stmt.Disj ws) h = cc
 ess-hyp S s (stmt.Axiom m w) h = cc
 ess-hyp S s (stmt.Prove m w r) h = cc
 
--- ---- the collected positions are those of the hypotheses
+float-in-kind : (e : Expr) (t : Stmt) → is_float_in e t ≡ true → (m l x : Name) × (t ≡ stmt.Float m l x) × (has_name x e ≡ true)
+float-in-kind e (stmt.Float m l x) h = (m, l, x, refl, h)
+float-in-kind e (stmt.Ess m w) h = cc
+float-in-kind e stmt.Open h = cc
+float-in-kind e stmt.Close h = cc
+float-in-kind e (stmt.Const ws) h = cc
+float-in-kind e (stmt.Var ws) h = cc
+float-in-kind e (stmt.Disj ws) h = cc
+float-in-kind e (stmt.Axiom m w) h = cc
+float-in-kind e (stmt.Prove m w r) h = cc
 
-module _ (es : List Entry) (names labels : List Name) (m : ℕ) (S : Database) (s : Stmt) (codes : List ℕ)
-    (whole : S ≡ map (stmt_of names labels) es) (distinct : AreDistinct names) (numbered : AreNumbered (length names) m es) (all : AllKept S)
-    (low : AreBelow (length names) codes) (same : decode names codes ≡ expr_of s) where
+float-of-kind : (x : Name) (t : Stmt) → is_float_of x t ≡ true → (m l : Name) × (t ≡ stmt.Float m l x)
+float-of-kind x (stmt.Float m l y) h = (m, l, ap (stmt.Float m l) (sym ((bytes_eq-Decides x y).0 h)))
+float-of-kind x (stmt.Ess m w) h = cc
+float-of-kind x stmt.Open h = cc
+float-of-kind x stmt.Close h = cc
+float-of-kind x (stmt.Const ws) h = cc
+float-of-kind x (stmt.Var ws) h = cc
+float-of-kind x (stmt.Disj ws) h = cc
+float-of-kind x (stmt.Axiom m w) h = cc
+float-of-kind x (stmt.Prove m w r) h = cc
+
+-- a `$e` closes no block
+stays-behind : (t : Stmt) (B : Database) → is_essential t ≡ true → stays_open 0 B ≡ true → stays_open 0 (t ∷ B) ≡ true
+stays-behind (stmt.Ess m w) B h k = k
+stays-behind (stmt.Float m l x) B h k = cc
+stays-behind stmt.Open B h k = cc
+stays-behind stmt.Close B h k = cc
+stays-behind (stmt.Const ws) B h k = cc
+stays-behind (stmt.Var ws) B h k = cc
+stays-behind (stmt.Disj ws) B h k = cc
+stays-behind (stmt.Axiom m w) B h k = cc
+stays-behind (stmt.Prove m w r) B h k = cc
+
+take-front : (A : Database) (t : Stmt) (B : Database) → take (length A) (A ++ t ∷ B) ≡ A
+take-front [] t B = refl
+take-front (a ∷ A) t B = ap (λ r. a ∷ r) (take-front A t B)
+
+-- the active `$f` of a variable is one
+one-place : (S A : Database) (m l x : Name) (B A' : Database) (m' l' : Name) (B' : Database) → AllKept S → S ≡ A ++ stmt.Float m l x ∷ B → stays_open 0 B ≡ true
+    → S ≡ A' ++ stmt.Float m' l' x ∷ B' → stays_open 0 B' ≡ true → length A ≡ length A'
+one-place S A m l x B A' m' l' B' all whole stays whole' stays' =
+    let there : slice_get S (length A) ≡ Some (stmt.Float m l x) = ap (λ w. slice_get w (length A)) whole ∙ middle A (stmt.Float m l x) B in
+    let there' : slice_get S (length A') ≡ Some (stmt.Float m' l' x) = ap (λ w. slice_get w (length A')) whole' ∙ middle A' (stmt.Float m' l' x) B' in
+    let f = one-float S A m l x B (length A') m' l' all whole stays there' in
+    let g = one-float S A' m' l' x B' (length A) m l all whole' stays' there in
+    omega (arith, f, g)
+
+-- ---- what is found is what is meant
+
+module _ (es : List Entry) (names labels : List Name) (m : ℕ) (S : Database)
+    (whole : S ≡ map (stmt_of names labels) es) (distinct : AreDistinct names) (numbered : AreNumbered (length names) m es) (all : AllKept S) where
   pub record EntryOf (k : ℕ) (t : Stmt) : Type 0 where
     pub entry : Entry
     pub found : slice_get es k ≡ Some entry
@@ -509,14 +571,21 @@ module _ (es : List Entry) (names labels : List Name) (m : ℕ) (S : Database) (
       let n = numbered-at (length names) m es (length A) b.0 numbered b.1 in
       record { entry = b.0; found = b.1; is = b.2; below = n.0; two = n.1 }
 
-  -- the `$f` of a used symbol
-  float-hyp : (c p : ℕ) → IsFloatOf es S c p → is_used S s (name_at names c) ≡ true → In p (hypotheses S s)
-  float-hyp c p f used = by (last-is (floats c) 0 1 es)
+  members : (q : Stmt → Bool) (p : ℕ) (A : Database) (t : Stmt) (B : Database) → S ≡ A ++ t ∷ B → p ≡ suc (length A) → stays_open 0 B ≡ true → q t ≡ true → In p (map (λ y. y.0) (filter (λ y. q y.1) (active S)))
+  members q p A t B cut at_p stays h =
+      let e : 1 + length A ≡ p = omega (arith, at_p) in
+      subst (λ D. In p (map (λ y. y.0) (filter (λ y. q y.1) (active D)))) (sym cut)
+      (subst (λ n. In n (map (λ y. y.0) (filter (λ y. q y.1) (active (A ++ t ∷ B))))) e (members-active q 1 A t B stays h))
+
+  -- the `$f` of a symbol, where such a `$f` passes the test
+  float-member : (q : Stmt → Bool) (c p : ℕ) → IsFloatOf es S c p → ((l k : Name) → is_variable S (name_at names c) ≡ true → q (stmt.Float l k (name_at names c)) ≡ true)
+      → In p (map (λ y. y.0) (filter (λ y. q y.1) (active S)))
+  float-member q c p f passes = by (last-is (floats c) 0 1 es)
     where
-      by : (NoneOf (floats c) es × (last_from (floats c) 0 1 es ≡ 0)) ⊎ LastAt (floats c) 1 es (last_from (floats c) 0 1 es) → In p (hypotheses S s)
+      by : (NoneOf (floats c) es × (last_from (floats c) 0 1 es ≡ 0)) ⊎ LastAt (floats c) 1 es (last_from (floats c) 0 1 es) → In p (map (λ y. y.0) (filter (λ y. q y.1) (active S)))
       by (inl n) = absurd (f.some (f.last ∙ n.1))
       by (inr l) =
-          let place : p ≡ suc l.place = (let q = f.last in let r = l.is in omega (arith, q, r)) in
+          let place : p ≡ suc l.place = (let q' = f.last in let r = l.is in omega (arith, q', r)) in
           let x = l.entry in
           let k = floats-is names c x (name_at labels x.label) l.passes in
           let there : slice_get S l.place ≡ Some (stmt.Float (name_at labels x.label) k.0 (name_at names c))
@@ -526,64 +595,7 @@ module _ (es : List Entry) (names labels : List Name) (m : ℕ) (S : Database) (
           let len = length-cut S l.place t there in
           let stays = active-rest S l.place (ap (λ n. is_active S n (length S + 1)) (sym place) ∙ f.stands) in
           let var = (float-kinds S (take l.place S) (name_at labels x.label) k.0 (name_at names c) (drop (suc l.place) S) all cut stays).1 in
-          let hyp : is_hypothesis S s t ≡ true = ap (λ b. b && is_used S s (name_at names c)) var ∙ used in
-          let e : 1 + length (take l.place S) ≡ p = omega (arith, len, place) in
-          subst (λ D. In p (map (λ y. y.0) (filter (λ y. is_hypothesis S s y.1) (active D)))) (sym cut)
-          (subst (λ n. In n (map (λ y. y.0) (filter (λ y. is_hypothesis S s y.1) (active (take l.place S ++ t ∷ drop (suc l.place) S))))) e
-          (members-active (is_hypothesis S s) 1 (take l.place S) t (drop (suc l.place) S) stays hyp))
-
-  used-own : (c : ℕ) → In c codes → is_used S s (name_at names c) ≡ true
-  used-own c i = or-left (has_name (name_at names c) (expr_of s)) _ (ap (has_name (name_at names c)) (sym same) ∙ has-code names codes c i)
-
-  symbols-there : (r : ℕ) (A : Database) (t : Stmt) (x : EntryOf (length A) t) → r ≡ suc (length A) → symbols_at es r ≡ x.entry.symbols
-  symbols-there r A t x at_r = let one : r - 1 ≡ length A = omega (arith, at_r) in ap (λ k. option_symbols (slice_get es k)) one ∙ ap option_symbols x.found
-
-  -- the symbols of an active `$e`
-  ess-symbols : (r : ℕ) (h : IsActiveAt S is_essential r) → expr_of h.stmt ≡ decode names (symbols_at es r)
-  ess-symbols r h =
-      let x = entry-of h.front h.stmt h.rest h.whole in
-      ap expr_of x.is ∙ (ess-expr names x.entry.kind (name_at labels x.entry.label) x.entry.symbols (sym (ap is_essential x.is) ∙ h.passes)
-      ∙ ap (decode names) (sym (symbols-there r h.front h.stmt x h.at)))
-
-  ess-below : (r : ℕ) (h : IsActiveAt S is_essential r) → AreBelow (length names) (symbols_at es r)
-  ess-below r h = let x = entry-of h.front h.stmt h.rest h.whole in subst (AreBelow (length names)) (sym (symbols-there r h.front h.stmt x h.at)) x.below
-
-  used-ess : (r : ℕ) (h : IsActiveAt S is_essential r) (c : ℕ) → In c (symbols_at es r) → is_used S s (name_at names c) ≡ true
-  used-ess r h c i =
-      or-right (has_name (name_at names c) (expr_of s)) (list_any (λ q. is_essential q.1 && has_name (name_at names c) (expr_of q.1)) (active S))
-      (ap (λ D. list_any (λ q. is_essential q.1 && has_name (name_at names c) (expr_of q.1)) (active D)) h.whole
-      ∙ stands-active (λ t. is_essential t && has_name (name_at names c) (expr_of t)) 1 h.front h.stmt h.rest h.stays
-      (ap (λ b. b && has_name (name_at names c) (expr_of h.stmt)) h.passes ∙ (ap (has_name (name_at names c)) (ess-symbols r h) ∙ has-code names (symbols_at es r) c i)))
-
-  members : (q : Stmt → Bool) (p : ℕ) (A : Database) (t : Stmt) (B : Database) → S ≡ A ++ t ∷ B → p ≡ suc (length A) → stays_open 0 B ≡ true → q t ≡ true → In p (map (λ y. y.0) (filter (λ y. q y.1) (active S)))
-  members q p A t B cut at_p stays h =
-      let e : 1 + length A ≡ p = omega (arith, at_p) in
-      subst (λ D. In p (map (λ y. y.0) (filter (λ y. q y.1) (active D)))) (sym cut)
-      (subst (λ n. In n (map (λ y. y.0) (filter (λ y. q y.1) (active (A ++ t ∷ B))))) e (members-active q 1 A t B stays h))
-
-  -- what is collected is a hypothesis
-  collected-hyp : (p : ℕ) → In p (collected es S codes) → In p (hypotheses S s)
-  collected-hyp p i = by (essentials-in es S p (actives is_essential S) (with_floats es S codes []) i)
-    where
-      some : (gs : List ℕ) → ((c : ℕ) → In c gs → is_used S s (name_at names c) ≡ true) → SomeFloat es S gs p → In p (hypotheses S s)
-      some gs used f = float-hyp f.code p f.float (used f.code f.among)
-
-      own : In p [] ⊎ SomeFloat es S codes p → In p (hypotheses S s)
-      own (inl j) = absurd j
-      own (inr f) = some codes used-own f
-
-      ess : SomeEssential es S (map (λ q. q.0) (actives is_essential S)) p → In p (hypotheses S s)
-      ess e =
-          let h = active-members S is_essential e.essential [] S 1 refl refl e.among in
-          way h e.way
-        where
-          way : IsActiveAt S is_essential e.essential → (p ≡ e.essential) ⊎ SomeFloat es S (symbols_at es e.essential) p → In p (hypotheses S s)
-          way h (inl k) = members (is_hypothesis S s) p h.front h.stmt h.rest h.whole (k ∙ h.at) h.stays (ess-hyp S s h.stmt h.passes)
-          way h (inr f) = some (symbols_at es e.essential) (used-ess e.essential h) f
-
-      by : In p (with_floats es S codes []) ⊎ SomeEssential es S (map (λ q. q.0) (actives is_essential S)) p → In p (hypotheses S s)
-      by (inl j) = own (floats-in es S p codes [] j)
-      by (inr e) = ess e
+          members q p (take l.place S) t (drop (suc l.place) S) cut (omega (arith, len, place)) stays (passes (name_at labels x.label) k.0 var)
 
   -- the active `$f` of a number is its last one
   is-float : (p c : ℕ) (A B : Database) (u l : Name) → S ≡ A ++ stmt.Float u l (name_at names c) ∷ B → p ≡ suc (length A) → stays_open 0 B ≡ true → c < length names → IsFloatOf es S c p
@@ -613,55 +625,155 @@ module _ (es : List Entry) (names labels : List Name) (m : ℕ) (S : Database) (
           equal : last_from (floats c) 0 1 es ≡ 1 + k.place → k.place ≡ length A → p ≡ last_where (floats c) es
           equal is same_place = let e : p ≡ 1 + k.place = omega (arith, at_p, same_place) in e ∙ sym is
 
-  -- a hypothesis is collected
-  hyp-collected : (p : ℕ) → In p (hypotheses S s) → In p (collected es S codes)
-  hyp-collected p i = by h (hyp-kind S s h.stmt h.passes)
-    where
-      h : IsActiveAt S (is_hypothesis S s) p
-      h = active-members S (is_hypothesis S s) p [] S 1 refl refl i
+  last_float : (p c : ℕ) (A B : Database) (u l x : Name) → S ≡ A ++ stmt.Float u l x ∷ B → p ≡ suc (length A) → stays_open 0 B ≡ true → c < length names → name_at names c ≡ x → IsFloatOf es S c p
+  last_float p c A B u l x cut at_p stays small e = is-float p c A B u l (cut ∙ ap (λ y. A ++ stmt.Float u l y ∷ B) (sym e)) at_p stays small
 
-      through : SomeEssential es S (map (λ q. q.0) (actives is_essential S)) p → In p (collected es S codes)
-      through e = in-essentials es S p (actives is_essential S) (with_floats es S codes []) (inr e)
+  -- ---- the `$f` of the symbols of an expression
 
-      direct : SomeFloat es S codes p → In p (collected es S codes)
-      direct f = in-essentials es S p (actives is_essential S) (with_floats es S codes []) (inl (in-floats es S p codes [] (inr f)))
+  module _ (codes : List ℕ) (low : AreBelow (length names) codes) where
+    found-float : (p : ℕ) → In p (with_floats es S codes []) → In p (floats_in S (decode names codes))
+    found-float p i = by (floats-in es S p codes [] i)
+      where
+        by : In p [] ⊎ SomeFloat es S codes p → In p (floats_in S (decode names codes))
+        by (inl j) = absurd j
+        by (inr f) = float-member (is_float_in (decode names codes)) f.code p f.float (λ l k v. has-code names codes f.code f.among)
 
-      by : IsActiveAt S (is_hypothesis S s) p → (is_essential h.stmt ≡ true) ⊎ ((u : Name) × (l : Name) × (x : Name) × (h.stmt ≡ stmt.Float u l x) × (is_mandatory S s x ≡ true)) → In p (collected es S codes)
-      by k (inl e) = through (record { essential = p; among = members is_essential p h.front h.stmt h.rest h.whole h.at h.stays e; way = inl refl })
-      by k (inr f) = used (has_name f.2 (expr_of s)) refl (and-both (is_variable S f.2) (is_used S s f.2) f.4).1
-        where
-          cut : S ≡ h.front ++ stmt.Float f.0 f.1 f.2 ∷ h.rest
-          cut = h.whole ∙ ap (λ t. h.front ++ t ∷ h.rest) f.3
+    float-found : (p : ℕ) → In p (floats_in S (decode names codes)) → In p (with_floats es S codes [])
+    float-found p i =
+        let h = active-members S (is_float_in (decode names codes)) p [] S 1 refl refl i in
+        let f = float-in-kind (decode names codes) h.stmt h.passes in
+        let c = coded names codes f.2 f.4 in
+        in-floats es S p codes []
+        (inr (record { code = c.code; among = c.among; float = last_float p c.code h.front h.rest f.0 f.1 f.2 (h.whole ∙ ap (λ t. h.front ++ t ∷ h.rest) f.3) h.at h.stays (code-low (length names) c.code codes low c.among) c.name }))
 
-          last_float : (c : ℕ) → name_at names c ≡ f.2 → c < length names → IsFloatOf es S c p
-          last_float c e small = is-float p c h.front h.rest f.0 f.1 (cut ∙ ap (λ y. h.front ++ stmt.Float f.0 f.1 y ∷ h.rest) (sym e)) h.at h.stays small
+    pub found-floats : with_floats es S codes [] ≡ floats_in S (decode names codes)
+    found-floats =
+        same-lists (with_floats es S codes []) (floats_in S (decode names codes))
+        (ascends-floats es S codes [] tt) (ascends-active (is_float_in (decode names codes)) 1 S).1
+        found-float float-found
 
-          own : has_name f.2 (expr_of s) ≡ true → In p (collected es S codes)
-          own e =
-              let c = coded names codes f.2 (ap (has_name f.2) same ∙ e) in
-              direct (record { code = c.code; among = c.among; float = last_float c.code c.name (code-low (length names) c.code codes low c.among) })
+  -- ---- the mandatory hypotheses
 
-          ess : list_any (λ q. is_essential q.1 && has_name f.2 (expr_of q.1)) (active S) ≡ true → In p (collected es S codes)
-          ess e = found (active-stands (λ t. is_essential t && has_name f.2 (expr_of t)) 1 S e)
-            where
-              found : Stands S (λ t. is_essential t && has_name f.2 (expr_of t)) → In p (collected es S codes)
-              found r =
-                  let two = and-both (is_essential r.stmt) (has_name f.2 (expr_of r.stmt)) r.passes in
-                  let a : IsActiveAt S is_essential (suc (length r.front)) = record { front = r.front; stmt = r.stmt; rest = r.rest; whole = r.whole; at = refl; stays = r.stays; passes = two.0 } in
-                  let c = coded names (symbols_at es (suc (length r.front))) f.2 (ap (has_name f.2) (sym (ess-symbols (suc (length r.front)) a)) ∙ two.1) in
-                  through (record {
-                    essential = suc (length r.front);
-                    among = members is_essential (suc (length r.front)) r.front r.stmt r.rest r.whole refl r.stays two.0;
-                    way = inr (record { code = c.code; among = c.among; float = last_float c.code c.name (code-low (length names) c.code (symbols_at es (suc (length r.front))) (ess-below (suc (length r.front)) a) c.among) });
-                  })
+  module _ (s : Stmt) (codes : List ℕ) (low : AreBelow (length names) codes) (same : decode names codes ≡ expr_of s)
+      (kept : (k : ℕ) (x : Entry) → slice_get es k ≡ Some x → is_essential (stmt_of names labels x) ≡ true → x.assertion.hypotheses ≡ floats_in (take k S) (expr_of (stmt_of names labels x))) where
+    -- what is kept with an active `$e`
+    ess-kept : (r : ℕ) (h : IsActiveAt S is_essential r) → kept_at es r ≡ floats_in h.front (expr_of h.stmt)
+    ess-kept r h =
+        let x = entry-of h.front h.stmt h.rest h.whole in
+        let one : r - 1 ≡ length h.front = (let a = h.at in omega (arith, a)) in
+        ap (λ k. option_kept (slice_get es k)) one ∙ (ap option_kept x.found
+        ∙ (kept (length h.front) x.entry x.found (sym (ap is_essential x.is) ∙ h.passes)
+        ∙ (ap (λ t. floats_in (take (length h.front) S) (expr_of t)) (sym x.is)
+        ∙ ap (λ D. floats_in D (expr_of h.stmt)) (ap (take (length h.front)) h.whole ∙ take-front h.front h.stmt h.rest))))
 
-          used : (b : Bool) → has_name f.2 (expr_of s) ≡ b → (b || list_any (λ q. is_essential q.1 && has_name f.2 (expr_of q.1)) (active S)) ≡ true → In p (collected es S codes)
-          used true e k' = own e
-          used false e k' = ess k'
+    used-own : (x : Name) → has_name x (expr_of s) ≡ true → is_used S s x ≡ true
+    used-own x h = or-left (has_name x (expr_of s)) _ h
 
-  pub collected-hypotheses : collected es S codes ≡ hypotheses S s
-  collected-hypotheses =
-      same-lists (collected es S codes) (hypotheses S s)
-      (ascends-essentials es S (actives is_essential S) (with_floats es S codes []) (ascends-floats es S codes [] tt))
-      (ascends-active (is_hypothesis S s) 1 S).1
-      collected-hyp hyp-collected
+    used-ess : (r : ℕ) (h : IsActiveAt S is_essential r) (x : Name) → has_name x (expr_of h.stmt) ≡ true → is_used S s x ≡ true
+    used-ess r h x has =
+        or-right (has_name x (expr_of s)) (list_any (λ q. is_essential q.1 && has_name x (expr_of q.1)) (active S))
+        (ap (λ D. list_any (λ q. is_essential q.1 && has_name x (expr_of q.1)) (active D)) h.whole
+        ∙ stands-active (λ t. is_essential t && has_name x (expr_of t)) 1 h.front h.stmt h.rest h.stays
+        (ap (λ b. b && has_name x (expr_of h.stmt)) h.passes ∙ has))
+
+    -- a `$f` that was kept with an active `$e` is a hypothesis
+    kept-hyp : (r p : ℕ) (h : IsActiveAt S is_essential r) → In p (kept_at es r) → In p (hypotheses S s)
+    kept-hyp r p h i =
+        let g = active-members h.front (is_float_in (expr_of h.stmt)) p [] h.front 1 refl refl (subst (In p) (ess-kept r h) i) in
+        let f = float-in-kind (expr_of h.stmt) g.stmt g.passes in
+        let behind = g.rest ++ h.stmt ∷ h.rest in
+        let cut : S ≡ g.front ++ stmt.Float f.0 f.1 f.2 ∷ behind
+        = h.whole ∙ (ap (λ w. w ++ h.stmt ∷ h.rest) (g.whole ∙ ap (λ t. g.front ++ t ∷ g.rest) f.3) ∙ append_assoc g.front (stmt.Float f.0 f.1 f.2 ∷ g.rest) (h.stmt ∷ h.rest)) in
+        let stays = open_both 0 g.rest (h.stmt ∷ h.rest) g.stays (stays-behind h.stmt h.rest h.passes h.stays) in
+        let var = (float-kinds S g.front f.0 f.1 f.2 behind all cut stays).1 in
+        members (is_hypothesis S s) p g.front (stmt.Float f.0 f.1 f.2) behind cut g.at stays (ap (λ b. b && is_used S s f.2) var ∙ used-ess r h f.2 f.4)
+
+    -- what is collected is a hypothesis
+    collected-hyp : (p : ℕ) → In p (collected es S codes) → In p (hypotheses S s)
+    collected-hyp p i = by (essentials-in es p (actives is_essential S) (with_floats es S codes []) i)
+      where
+        own : In p [] ⊎ SomeFloat es S codes p → In p (hypotheses S s)
+        own (inl j) = absurd j
+        own (inr f) =
+            float-member (is_hypothesis S s) f.code p f.float
+            (λ l k v. ap (λ b. b && is_used S s (name_at names f.code)) v ∙ used-own (name_at names f.code) (ap (has_name (name_at names f.code)) (sym same) ∙ has-code names codes f.code f.among))
+
+        ess : SomeEssential es (map (λ q. q.0) (actives is_essential S)) p → In p (hypotheses S s)
+        ess e =
+            let h = active-members S is_essential e.essential [] S 1 refl refl e.among in
+            way h e.way
+          where
+            way : IsActiveAt S is_essential e.essential → (p ≡ e.essential) ⊎ In p (kept_at es e.essential) → In p (hypotheses S s)
+            way h (inl k) = members (is_hypothesis S s) p h.front h.stmt h.rest h.whole (k ∙ h.at) h.stays (ess-hyp S s h.stmt h.passes)
+            way h (inr f) = kept-hyp e.essential p h f
+
+        by : In p (with_floats es S codes []) ⊎ SomeEssential es (map (λ q. q.0) (actives is_essential S)) p → In p (hypotheses S s)
+        by (inl j) = own (floats-in es S p codes [] j)
+        by (inr e) = ess e
+
+    -- the `$f` of a variable of an active `$e` was kept with it
+    float-kept : (r p : ℕ) (h : IsActiveAt S is_essential r) (A B : Database) (u l x : Name) → S ≡ A ++ stmt.Float u l x ∷ B → p ≡ suc (length A) → stays_open 0 B ≡ true
+        → has_name x (expr_of h.stmt) ≡ true → is_variable S x ≡ true → In p (kept_at es r)
+    float-kept r p h A B u l x cut at_p stays has var =
+        let e = is_ess h.stmt x (ap (λ b. b && has_name x (expr_of h.stmt)) h.passes ∙ has) in
+        let typed = typed-before S h.front e.0 e.1 h.rest x all (h.whole ∙ ap (λ t. h.front ++ t ∷ h.rest) e.2) e.3 var in
+        let v = active-stands (is_float_of x) 1 h.front typed in
+        let f = float-of-kind x v.stmt v.passes in
+        let behind = v.rest ++ h.stmt ∷ h.rest in
+        let there : h.front ≡ v.front ++ stmt.Float f.0 f.1 x ∷ v.rest = v.whole ∙ ap (λ t. v.front ++ t ∷ v.rest) f.2 in
+        let cut' : S ≡ v.front ++ stmt.Float f.0 f.1 x ∷ behind
+        = h.whole ∙ (ap (λ w. w ++ h.stmt ∷ h.rest) there ∙ append_assoc v.front (stmt.Float f.0 f.1 x ∷ v.rest) (h.stmt ∷ h.rest)) in
+        let stays' = open_both 0 v.rest (h.stmt ∷ h.rest) v.stays (stays-behind h.stmt h.rest h.passes h.stays) in
+        let place : 1 + length v.front ≡ p = (let o = one-place S A u l x B v.front f.0 f.1 behind all cut stays cut' stays' in omega (arith, at_p, o)) in
+        let i = subst (λ n. In n (map (λ y. y.0) (filter (λ y. is_float_in (expr_of h.stmt) y.1) (active (v.front ++ stmt.Float f.0 f.1 x ∷ v.rest))))) place
+        (members-active (is_float_in (expr_of h.stmt)) 1 v.front (stmt.Float f.0 f.1 x) v.rest v.stays has) in
+        subst (In p) (sym (ess-kept r h)) (subst (λ D. In p (floats_in D (expr_of h.stmt))) (sym there) i)
+
+    -- a hypothesis is collected
+    hyp-collected : (p : ℕ) → In p (hypotheses S s) → In p (collected es S codes)
+    hyp-collected p i = by h (hyp-kind S s h.stmt h.passes)
+      where
+        h : IsActiveAt S (is_hypothesis S s) p
+        h = active-members S (is_hypothesis S s) p [] S 1 refl refl i
+
+        through : SomeEssential es (map (λ q. q.0) (actives is_essential S)) p → In p (collected es S codes)
+        through e = in-essentials es p (actives is_essential S) (with_floats es S codes []) (inr e)
+
+        direct : SomeFloat es S codes p → In p (collected es S codes)
+        direct f = in-essentials es p (actives is_essential S) (with_floats es S codes []) (inl (in-floats es S p codes [] (inr f)))
+
+        by : IsActiveAt S (is_hypothesis S s) p → (is_essential h.stmt ≡ true) ⊎ ((u : Name) × (l : Name) × (x : Name) × (h.stmt ≡ stmt.Float u l x) × (is_mandatory S s x ≡ true)) → In p (collected es S codes)
+        by k (inl e) = through (record { essential = p; among = members is_essential p h.front h.stmt h.rest h.whole h.at h.stays e; way = inl refl })
+        by k (inr f) = let m = and-both (is_variable S f.2) (is_used S s f.2) f.4 in used m.0 (has_name f.2 (expr_of s)) refl m.1
+          where
+            cut : S ≡ h.front ++ stmt.Float f.0 f.1 f.2 ∷ h.rest
+            cut = h.whole ∙ ap (λ t. h.front ++ t ∷ h.rest) f.3
+
+            own : has_name f.2 (expr_of s) ≡ true → In p (collected es S codes)
+            own e =
+                let c = coded names codes f.2 (ap (has_name f.2) same ∙ e) in
+                direct (record { code = c.code; among = c.among; float = last_float p c.code h.front h.rest f.0 f.1 f.2 cut h.at h.stays (code-low (length names) c.code codes low c.among) c.name })
+
+            ess : is_variable S f.2 ≡ true → list_any (λ q. is_essential q.1 && has_name f.2 (expr_of q.1)) (active S) ≡ true → In p (collected es S codes)
+            ess var e = found (active-stands (λ t. is_essential t && has_name f.2 (expr_of t)) 1 S e)
+              where
+                found : Stands S (λ t. is_essential t && has_name f.2 (expr_of t)) → In p (collected es S codes)
+                found r =
+                    let two = and-both (is_essential r.stmt) (has_name f.2 (expr_of r.stmt)) r.passes in
+                    let a : IsActiveAt S is_essential (suc (length r.front)) = record { front = r.front; stmt = r.stmt; rest = r.rest; whole = r.whole; at = refl; stays = r.stays; passes = two.0 } in
+                    through (record {
+                      essential = suc (length r.front);
+                      among = members is_essential (suc (length r.front)) r.front r.stmt r.rest r.whole refl r.stays two.0;
+                      way = inr (float-kept (suc (length r.front)) p a h.front h.rest f.0 f.1 f.2 cut h.at h.stays two.1 var);
+                    })
+
+            used : is_variable S f.2 ≡ true → (b : Bool) → has_name f.2 (expr_of s) ≡ b → (b || list_any (λ q. is_essential q.1 && has_name f.2 (expr_of q.1)) (active S)) ≡ true → In p (collected es S codes)
+            used var true e k' = own e
+            used var false e k' = ess var k'
+
+    pub collected-hypotheses : collected es S codes ≡ hypotheses S s
+    collected-hypotheses =
+        same-lists (collected es S codes) (hypotheses S s)
+        (ascends-essentials es (actives is_essential S) (with_floats es S codes []) (ascends-floats es S codes [] tt))
+        (ascends-active (is_hypothesis S s) 1 S).1
+        collected-hyp hyp-collected

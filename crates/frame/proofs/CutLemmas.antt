@@ -9,13 +9,12 @@ use Rattle.scope.specs.Active.{before, label_of, stays_open}
 use Rattle.scope.specs.Legal.{IsLegal}
 use Rattle.scope.specs.Symbols.{symbols_of}
 use Rattle.entries.specs.declared.links.Links.{Links}
-use Rattle.entries.specs.Entries.{Assertion}
 use Rattle.entries.specs.Entries.{Entry}
 use Rattle.frame.specs.declared.storage.Symbol.{Symbol}
 use Rattle.frame.specs.Links.{links_of}
-use Rattle.frame.specs.Stored.{stmt_of, labels_of, positions_from, option_list, option_position, AreAllLegal, AreNumbered, AreKept, KeepsCounts, Extends, ReadsAs, replaced_of, symbol_of, is_assertion_kind, IsKeptAs}
+use Rattle.frame.specs.Stored.{stmt_of, labels_of, positions_from, option_list, option_position, AreAllLegal, AreNumbered, AreKept, KeepsCounts, Extends, ReadsAs, replaced_of, symbol_of, has_parts, IsKeptAs}
 use Rattle.frame.proofs.SymbolsLemmas.{symbols_of-front}
-use Rattle.frame.proofs.AssertionLemmas.{get-entry, kept-more, kept-less}
+use Rattle.frame.proofs.AssertionLemmas.{kept-moved}
 use Rattle.frame.proofs.OpenLemmas.{stays_open-front}
 use Rattle.frame.proofs.StoredLemmas.{statements-more, stmt-more, numbered-at, label-at, length-positions}
 
@@ -87,21 +86,6 @@ legal-front n S all (suc j) s h =
     let lt = g.0 in
     let same : before (take n S) (suc j) ≡ before S (suc j) = take-take (suc j - 1) n S (omega (arith, lt)) in
     subst (λ B. IsLegal B s) (sym same) (all (suc j) s g.1)
-
--- an assertion that is kept in the whole list is kept in its front
-kept-front : (names labels : List Name) (entries : List Entry) (i n : ℕ) (s : Stmt) (e : Entry) (d : Assertion) → i ≤ n
-    → IsKeptAs entries (take i (map (stmt_of names labels) entries)) s e d → IsKeptAs (take n entries) (take i (map (stmt_of names labels) entries)) s e d
-kept-front names labels entries i n s e d le k =
-    let few = take i entries in
-    let S = map (stmt_of names labels) few in
-    let is : take i (map (stmt_of names labels) entries) ≡ S = take-map (stmt_of names labels) i entries in
-    let low = kept-less names labels few (drop i entries) s e d
-    (subst (λ T. IsKeptAs (few ++ drop i entries) T s e d) is (subst (λ es. IsKeptAs es (take i (map (stmt_of names labels) entries)) s e d) (sym (take-append-drop i entries)) k)) in
-    let more = drop i (take n entries) in
-    let up : take n entries ≡ few ++ more = sym (take-append-drop i (take n entries)) ∙ ap (λ r. r ++ more) (take-take i n entries le) in
-    let stand : (j : ℕ) (t : Stmt) → slice_get S j ≡ Some t → (x : Entry) × (slice_get few j ≡ Some x) = λ j t g. let x = get-entry names labels few j t g in (x.0, x.1) in
-    subst (λ es. IsKeptAs es (take i (map (stmt_of names labels) entries)) s e d) (sym up)
-    (subst (λ T. IsKeptAs (few ++ more) T s e d) (sym is) (kept-more names labels few more S s e d stand low))
 
 -- ---- what was done to the parts: the statement behind the first n is e
 
@@ -182,17 +166,17 @@ module _ (names labels : List Name) (positions : List ℕ) (symbols : List Symbo
         name_count = c.name_count ∙ ap (λ T. length (symbols_of T)) (sym (front-of i lt));
       }
 
-  assertions' : (i : ℕ) (d : Entry) → slice_get entries' i ≡ Some d → is_assertion_kind d.kind ≡ true → IsKeptAs entries' (take i (map (stmt_of names' labels') entries')) (stmt_of names' labels' d) d d.assertion
-  assertions' i d h a =
+  parts' : (i : ℕ) (d : Entry) → slice_get entries' i ≡ Some d → has_parts d.kind ≡ true → IsKeptAs entries' (take i (map (stmt_of names' labels') entries')) (stmt_of names' labels' d) d.assertion
+  parts' i d h a =
       let q = there i d h in
       let lt = q.0 in
       let here = ap (λ r. slice_get r i) (sym p.entries_cut) ∙ h in
       let same : stmt_of names labels d ≡ stmt_of names' labels' d =
       stmt-more names' names labels' labels d names-front labels-extend (numbered-at (length names') (length labels') (take n entries) numbered i d here) (label-at (length names') (length labels') (take n entries) numbered i d here) in
-      subst (λ es. IsKeptAs es (take i (map (stmt_of names' labels') entries')) (stmt_of names' labels' d) d d.assertion) (sym p.entries_cut)
-      (subst (λ T. IsKeptAs (take n entries) T (stmt_of names' labels' d) d d.assertion) (sym (front-of i lt))
-      (subst (λ t. IsKeptAs (take n entries) (take i S) t d d.assertion) same
-      (kept-front names labels entries i n (stmt_of names labels d) d d.assertion (omega (arith, lt)) (k.assertions_kept i d q.1 a))))
+      subst (λ es. IsKeptAs es (take i (map (stmt_of names' labels') entries')) (stmt_of names' labels' d) d.assertion) (sym p.entries_cut)
+      (subst (λ T. IsKeptAs (take n entries) T (stmt_of names' labels' d) d.assertion) (sym (front-of i lt))
+      (subst (λ t. IsKeptAs (take n entries) (take i S) t d.assertion) same
+      (kept-moved names labels entries (take n entries) i (stmt_of names labels d) d.assertion (sym (take-take i n entries (omega (arith, lt)))) (k.parts_kept i d q.1 a))))
 
   pub kept-cut : AreKept names' labels' positions' symbols' replaced' entries' links'
   kept-cut = record {
@@ -212,5 +196,5 @@ module _ (names labels : List Name) (positions : List ℕ) (symbols : List Symbo
         let c : length symbols' ≡ e.names = ap length p.symbols_cut ∙ length-take-le e.names between (omega (arith, b, d, w)) in
         c ∙ sym a;
     few = let a = names-count in let w = counts.within in let f = k.few in omega (arith, a, w, f);
-    assertions_kept = assertions';
+    parts_kept = parts';
   }

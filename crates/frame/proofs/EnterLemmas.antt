@@ -1,23 +1,26 @@
 -- A statement entered with its label stands for itself.
-use Rattle.std.specs.Prelude.{◌≡◌, ℕ, ◌+◌, List, [], ◌∷◌, ◌++◌, length, Result, Ok, Err, OnOk, true, refl}
+use Rattle.std.specs.Prelude.{◌≡◌, ℕ, ◌+◌, List, [], ◌∷◌, ◌++◌, length, take, slice_get, Some, Result, Ok, Err, OnOk, true, ◌||◌, refl}
 use Rattle.std.proofs.Common.{sym, ◌∙◌, ap, subst, arith, length-append}
 use Rattle.std.proofs.lemmas.List.{length-map}
 use Rattle.mm_lex.specs.Alphabet.{Name}
 use Rattle.mm_read.specs.declared.stmt.Stmt.{Stmt}
 use Rattle.mm_read.specs.declared.stmt.Stmt.TheVariants as stmt
-use Rattle.scope.specs.Active.{bare, label_of, is_assertion}
+use Rattle.scope.specs.Active.{bare, label_of, expr_of, is_assertion, is_essential}
 use Rattle.scope.specs.Legal.{IsLegal}
 use Rattle.names.specs.Codes.{name_at, decode, with_names}
 use Rattle.scope.specs.Symbols.{symbols_by, symbols_in}
-use Rattle.frame.specs.ByPlaces.{AreBelow}
+use Rattle.frame.specs.Below.{AreBelow}
 use Rattle.entries.specs.declared.head.Head.{Head}
 use Rattle.frame.specs.declared.draft.Draft.{Draft}
 use Rattle.entries.specs.Spans.{AreSpansIn}
-use Rattle.entries.specs.Entries.{Assertion}
+use Rattle.entries.specs.Entries.{Assertion, Entry}
+use Rattle.entries.specs.declared.kind.Kind.{Kind}
+use Rattle.entries.specs.declared.kind.Kind.TheVariants.{Open, Close, Const, Var, Disj, Float, Ess, Axiom, Prove}
 use Rattle.frame.specs.Drafts.{IsDraft, IsPartless}
 use Rattle.frame.specs.declared.storage.Stock.{Stock}
-use Rattle.frame.specs.Stored.{stmt_by, AreNumbersOf, Entered, IsHead, IsKeptOf, IsNext, statements_of, kind_of, is_assertion_kind, IsLabelBelow, HasTwo, option_list, option_position}
+use Rattle.frame.specs.Stored.{stmt_by, stmt_of, AreStored, floats_in, AreNumbersOf, Entered, IsHead, IsKeptOf, IsNext, IsNextEssential, statements_of, kind_of, has_parts, IsLabelBelow, HasTwo, option_list, option_position}
 use Rattle.frame.proofs.SymbolsLemmas.{symbols_by-bare}
+use Rattle.frame.proofs.AssertionLemmas.{noted}
 
 name_at-last : (names : List Name) (x : Name) → name_at (names ++ x ∷ []) (length names) ≡ x
 name_at-last [] x = refl
@@ -92,16 +95,27 @@ label_of-bare (stmt.Ess label expr) = refl
 label_of-bare (stmt.Axiom label expr) = refl
 label_of-bare (stmt.Prove label expr proof) = refl
 
-assertion-kind : (s : Stmt) → is_assertion_kind (kind_of s) ≡ is_assertion s
-assertion-kind stmt.Open = refl
-assertion-kind stmt.Close = refl
-assertion-kind (stmt.Const names) = refl
-assertion-kind (stmt.Var names) = refl
-assertion-kind (stmt.Disj names) = refl
-assertion-kind (stmt.Float label constant variable) = refl
-assertion-kind (stmt.Ess label expr) = refl
-assertion-kind (stmt.Axiom label expr) = refl
-assertion-kind (stmt.Prove label expr proof) = refl
+pub parts-kind : (s : Stmt) → has_parts (kind_of s) ≡ (is_assertion s || is_essential s)
+parts-kind stmt.Open = refl
+parts-kind stmt.Close = refl
+parts-kind (stmt.Const names) = refl
+parts-kind (stmt.Var names) = refl
+parts-kind (stmt.Disj names) = refl
+parts-kind (stmt.Float label constant variable) = refl
+parts-kind (stmt.Ess label expr) = refl
+parts-kind (stmt.Axiom label expr) = refl
+parts-kind (stmt.Prove label expr proof) = refl
+
+pub next-essential : (k : Stock) (codes : List ℕ) (s : Stmt) → is_essential s ≡ true → decode k.names codes ≡ symbols_in s → IsNextEssential k codes (bare s)
+next-essential k codes (stmt.Ess label expr) a e = record { essential = a; stand = e }
+next-essential k codes stmt.Open a e = cc
+next-essential k codes stmt.Close a e = cc
+next-essential k codes (stmt.Const names) a e = cc
+next-essential k codes (stmt.Var names) a e = cc
+next-essential k codes (stmt.Disj names) a e = cc
+next-essential k codes (stmt.Float label constant variable) a e = cc
+next-essential k codes (stmt.Axiom label expr) a e = cc
+next-essential k codes (stmt.Prove label expr proof) a e = cc
 
 -- the numbers are those of the expression, where the statement is an assertion
 pub next-bare : (k : Stock) (codes : List ℕ) (s : Stmt) → IsLegal (statements_of k) s → is_assertion s ≡ true → decode k.names codes ≡ symbols_in s → IsNext k codes (bare s)
@@ -119,7 +133,7 @@ next-bare k codes (stmt.Ess label expr) l a e = cc
 pub entered-statement : (old mid new : Stock) (codes : List ℕ) (d : Assertion) (h : Head) (s : Stmt) → IsHead old (bare s) h
     → mid.names ≡ with_names old.names (symbols_by s) → AreNumbersOf mid.names s codes → new.names ≡ mid.names
     → new.labels ≡ old.labels ++ option_list (label_of s) [] → new.positions.items ≡ old.positions.items ++ option_position (label_of s) (length old.entries + 1) []
-    → (is_assertion s ≡ true → IsKeptOf old codes (bare s) d)
+    → (has_parts (kind_of s) ≡ true → IsKeptOf old (bare s) d)
     → Entered old new (bare s) (record { kind = h.kind; label = h.label; names = h.names; links = h.links; symbols = codes; assertion = d })
 entered-statement old mid new codes d h s head made_names numbers same_names labels positions kept =
     let kind : h.kind ≡ kind_of s = head.kind ∙ kind_of-bare s in
@@ -141,11 +155,28 @@ entered-statement old mid new codes d h s head made_names numbers same_names lab
       labels = labels ∙ ap (λ o. old.labels ++ option_list o []) (sym same_label);
       positions = positions ∙ ap (λ o. old.positions.items ++ option_position o (length old.entries + 1) []) (sym same_label);
       links = head.links;
-      kept = λ a. kept (sym (ap is_assertion_kind kind ∙ assertion-kind s) ∙ a) (record { kind = h.kind; label = h.label; names = h.names; links = h.links; symbols = codes; assertion = d }) refl;
+      kept = λ a. kept (sym (ap has_parts kind) ∙ a);
     }
+
+-- what is kept with each `$e`
+pub essentials-kept : (k : Stock) → AreStored k → (i : ℕ) (x : Entry) → slice_get k.entries i ≡ Some x → is_essential (stmt_of k.names k.labels x) ≡ true
+    → x.assertion.hypotheses ≡ floats_in (take i (statements_of k)) (expr_of (stmt_of k.names k.labels x))
+essentials-kept k stored i x h e =
+    (stored.parts_kept i x h (by x.kind e)).hypotheses_kept ∙ noted (take i (statements_of k)) (stmt_of k.names k.labels x) e
+  where
+    by : (kind : Kind) → is_essential (stmt_by kind (name_at k.labels x.label) (decode k.names x.symbols)) ≡ true → has_parts kind ≡ true
+    by Ess g = refl
+    by Axiom g = refl
+    by Prove g = refl
+    by Open g = cc
+    by Close g = cc
+    by Const g = cc
+    by Var g = cc
+    by Disj g = cc
+    by Float g = cc
 
 pub partless-draft : (d : Draft) → IsPartless d → IsDraft d
 partless-draft d p = record {
-  paired = ap length p.patterns ∙ sym (ap length p.hypotheses);
+  paired = ap length p.asked ∙ sym (ap length p.hypotheses);
   grouped = subst (AreSpansIn (length d.places.items)) (sym p.groups) tt;
 }

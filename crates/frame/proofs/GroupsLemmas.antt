@@ -8,7 +8,7 @@ use Rattle.frame.specs.FrameOf.{groups, separates, is_mandatory}
 use Rattle.frame.specs.Laws.{GroupsArePairs}
 
 -- a name is in the filtered list where it is in the list and passes
-has-filter : (m : Name → Bool) (x : Name) (l : List Name) → has_name x (filter m l) ≡ (has_name x l && m x)
+pub has-filter : (m : Name → Bool) (x : Name) (l : List Name) → has_name x (filter m l) ≡ (has_name x l && m x)
 has-filter m x [] = refl
 has-filter m x (y ∷ l) = by (name_eq x y) refl (m y) refl (has-filter m x l)
   where

@@ -8,16 +8,10 @@ use Rattle.mm_read.specs.declared.stmt.Stmt.TheVariants.{Open, Close, Const, Var
 use Rattle.mm_read.specs.Statements.{Database}
 use Rattle.scope.specs.declared.rule.Rule.{Rule}
 use Rattle.scope.specs.declared.rule.Rule.TheVariants.{G1, G2, G3, G4}
-use Rattle.scope.specs.Active.{stmt_at, before, label_of, has_label, was_label, was_symbol, expr_of}
-use Rattle.names.specs.Codes.{name_at}
+use Rattle.scope.specs.Active.{stmt_at, before, label_of, has_label, was_label, was_symbol}
 use Rattle.scope.specs.Legal.{IsLegal, keeps}
-use Rattle.frame.specs.FrameOf.{HasAssertion}
-use Rattle.frame.specs.Substitution.{Images, apply as applied}
-use Rattle.entries.specs.declared.citation.Pattern.{Pattern}
-use Rattle.frame.specs.Citations.{Carries, OfVariables, premises}
-use Rattle.frame.specs.Templates.{filled}
-use Rattle.frame.specs.ByPlaces.{IsByPlaces}
-use Rattle.frame.specs.Reading.{HasLabelsOnce, IsSingle}
+use Rattle.frame.specs.Citations.{Carries}
+use Rattle.frame.specs.Reading.{HasLabelsOnce}
 
 -- each statement is legal behind those before it
 abbrev pub AllKept : Database → Type 0
@@ -81,18 +75,3 @@ legal-labels S kept i j s r label p q =
     let a = no_later S kept i j s r label p q in
     let b = no_later S kept j i r s label q p in
     omega (arith, a, b)
-
--- two ways to fill in one assertion kept by places give one result
-pub by_places-single : (S : Database) (names : List Name) (a : ℕ) (s : Stmt) (patterns : List Pattern) (templates conclusion : List ℕ) (groups : List (List ℕ))
-    → IsByPlaces S names a s patterns templates conclusion groups → (σ τ : Images) → OfVariables S a σ → OfVariables S a τ
-    → premises S a s σ ≡ premises S a s τ → applied σ (expr_of s) ≡ applied τ (expr_of s)
-by_places-single S names a s patterns templates conclusion groups by σ τ p q e =
-    by.gives σ p ∙ (ap (λ v. filled (name_at names) (length patterns) v conclusion) e ∙ sym (by.gives τ q))
-
--- where each assertion can be kept by places, each is single
-pub single-of : (S : Database) (names : List Name) (at : ℕ)
-    → ((a : ℕ) (s : Stmt) → HasAssertion S a s → (patterns : List Pattern) × (templates : List ℕ) × (conclusion : List ℕ) × (groups : List (List ℕ)) × IsByPlaces S names a s patterns templates conclusion groups)
-    → IsSingle S at
-single-of S names at by a s σ τ p q e =
-    let b = by a s (p.stands, p.assertion) in
-    by_places-single S names a s b.0 b.1 b.2 b.3 b.4 σ τ p.of_variables q.of_variables e

@@ -18,12 +18,10 @@ pub mod AssertionLemmas
 pub mod CitedLemmas
 pub mod GroupsLemmas
 pub mod WalkLemmas
-pub mod TemplatesLemmas
-pub mod Translate
-pub mod ByPlacesLemmas
 pub mod LegalLabels
 pub mod PlacesLemmas
 pub mod KeptLemmas
+pub mod BoundLemmas
 pub mod CollectedLemmas
 pub mod LookedLemmas
 pub mod OneFrameLemmas

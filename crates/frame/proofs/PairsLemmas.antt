@@ -10,7 +10,7 @@ use Rattle.mm_read.specs.declared.stmt.Stmt.TheVariants as stmt
 use Rattle.mm_read.specs.Statements.{Database}
 use Rattle.scope.specs.Active.{stays_open, active, active_from, is_active, separated, variables}
 use Rattle.names.specs.Codes.{name_at, decode, AreDistinct}
-use Rattle.frame.specs.ByPlaces.{AreBelow}
+use Rattle.frame.specs.Below.{AreBelow}
 use Rattle.frame.specs.Links.{actives, last_active, is_var, is_disj}
 use Rattle.frame.proofs.OpenLemmas.{IsNoClose}
 use Rattle.frame.proofs.WalkLemmas.{IsBack, walk-back, walk-over, cut-here, get-take, active-stays}

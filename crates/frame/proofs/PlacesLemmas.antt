@@ -11,10 +11,21 @@ use Rattle.mm_read.specs.Statements.{Expr, Database}
 use Rattle.scope.specs.declared.rule.Rule.{Rule}
 use Rattle.scope.specs.declared.rule.Rule.TheVariants.{G1, G2, G3, G4, G5, G6, G7, G8, G9, G10}
 use Rattle.scope.specs.Active.{stmt_at, before, stays_open, active, active_from, is_active, constants, variables, expr_of, is_assertion, is_essential, is_variable, is_constant, is_float_of, has_float, was_symbol}
-use Rattle.scope.specs.Legal.{IsLegal, keeps, all_different}
+use Rattle.scope.specs.Legal.{IsLegal, keeps, all_different, starts_with_constant}
 use Rattle.frame.specs.FrameOf.{is_used, is_mandatory, is_hypothesis, hypotheses, variable_of, variable_at, variables_of, is_some_name, has_place}
+use Rattle.frame.specs.Bound.{IsFirstFixed}
 use Rattle.frame.proofs.LegalLabels.{AllKept}
-use Rattle.frame.proofs.ByPlacesLemmas.{IsElsewhere, AreOnce}
+
+-- no variable has two `$f` among the hypotheses
+abbrev pub IsElsewhere : Name → List (Option Name) → Type 0
+IsElsewhere x [] = Unit {0}
+IsElsewhere x (None ∷ vs) = IsElsewhere x vs
+IsElsewhere x (Some y ∷ vs) = (name_eq y x ≡ false) × IsElsewhere x vs
+
+abbrev pub AreOnce : List (Option Name) → Type 0
+AreOnce [] = Unit {0}
+AreOnce (None ∷ vs) = AreOnce vs
+AreOnce (Some x ∷ vs) = IsElsewhere x vs × AreOnce vs
 
 -- ---- tests
 
@@ -320,6 +331,37 @@ float-kinds S A l c x B all whole stays =
       still-active (λ s. has_name x (variables s)) S A (Float l c x) B whole stays (and-both (is_variable A x) (not (has_float A x)) g7).0,
     )
 
+-- an expression begins with a constant, so with no variable
+fixed : (S A B : Database) (t : Stmt) (e : Expr) → AllKept S → S ≡ A ++ t ∷ B → starts_with_constant A e ≡ true → IsFirstFixed S e
+fixed S A B t [] all whole h = tt
+fixed S A B t (x ∷ e) all whole h = constant-no_variable S x all (constant-front S A t B x whole h)
+
+pub first-fixed : (S A : Database) (t : Stmt) (B : Database) → AllKept S → S ≡ A ++ t ∷ B → IsFirstFixed S (expr_of t)
+first-fixed S A (Float l c x) B all whole = fixed S A B (Float l c x) (c ∷ x ∷ []) all whole (legal-keeps A (Float l c x) (kept-legal S A (Float l c x) B all whole)).g6
+first-fixed S A (Ess l e) B all whole = fixed S A B (Ess l e) e all whole (legal-keeps A (Ess l e) (kept-legal S A (Ess l e) B all whole)).g6
+first-fixed S A (Axiom l e) B all whole = fixed S A B (Axiom l e) e all whole (legal-keeps A (Axiom l e) (kept-legal S A (Axiom l e) B all whole)).g6
+first-fixed S A (Prove l e p) B all whole = fixed S A B (Prove l e p) e all whole (legal-keeps A (Prove l e p) (kept-legal S A (Prove l e p) B all whole)).g6
+first-fixed S A Open B all whole = tt
+first-fixed S A Close B all whole = tt
+first-fixed S A (Const ws) B all whole = tt
+first-fixed S A (Var ws) B all whole = tt
+first-fixed S A (Disj ws) B all whole = tt
+
+fixed-own : (S : Database) (e : Expr) → AllKept S → starts_with_constant S e ≡ true → IsFirstFixed S e
+fixed-own S [] all h = tt
+fixed-own S (x ∷ e) all h = constant-no_variable S x all h
+
+pub own-fixed : (S : Database) (s : Stmt) → AllKept S → IsLegal S s → IsFirstFixed S (expr_of s)
+own-fixed S (Float l c x) all legal = fixed-own S (c ∷ x ∷ []) all (legal-keeps S (Float l c x) legal).g6
+own-fixed S (Ess l e) all legal = fixed-own S e all (legal-keeps S (Ess l e) legal).g6
+own-fixed S (Axiom l e) all legal = fixed-own S e all (legal-keeps S (Axiom l e) legal).g6
+own-fixed S (Prove l e p) all legal = fixed-own S e all (legal-keeps S (Prove l e p) legal).g6
+own-fixed S Open all legal = tt
+own-fixed S Close all legal = tt
+own-fixed S (Const ws) all legal = tt
+own-fixed S (Var ws) all legal = tt
+own-fixed S (Disj ws) all legal = tt
+
 implied : (a b : Bool) → (not a || b) ≡ true → a ≡ true → b ≡ true
 implied true b h e = h
 implied false b h e = cc
@@ -335,7 +377,7 @@ typed-own S (Disj ws) x legal asserts h v = cc
 typed-own S (Float l c w) x legal asserts h v = cc
 typed-own S (Ess l e) x legal asserts h v = cc
 
-is_ess : (t : Stmt) (x : Name) → (is_essential t && has_name x (expr_of t)) ≡ true → (l : Name) × (e : Expr) × (t ≡ Ess l e) × (has_name x e ≡ true)
+pub is_ess : (t : Stmt) (x : Name) → (is_essential t && has_name x (expr_of t)) ≡ true → (l : Name) × (e : Expr) × (t ≡ Ess l e) × (has_name x e ≡ true)
 is_ess (Ess l e) x h = (l, e, refl, h)
 is_ess Open x h = cc
 is_ess Close x h = cc
@@ -346,17 +388,21 @@ is_ess (Float l c w) x h = cc
 is_ess (Axiom l e) x h = cc
 is_ess (Prove l e p) x h = cc
 
-typed-ess : (S A : Database) (l : Name) (e : Expr) (B : Database) (x : Name) → AllKept S → S ≡ A ++ Ess l e ∷ B → stays_open 0 B ≡ true → has_name x e ≡ true → is_variable S x ≡ true → has_float S x ≡ true
-typed-ess S A l e B x all whole stays h v =
+-- a variable of a `$e` has a `$f` that is active before it
+pub typed-before : (S A : Database) (l : Name) (e : Expr) (B : Database) (x : Name) → AllKept S → S ≡ A ++ Ess l e ∷ B → has_name x e ≡ true → is_variable S x ≡ true → has_float A x ≡ true
+typed-before S A l e B x all whole h v =
     let legal = kept-legal S A (Ess l e) B all whole in
     let k = legal-keeps A (Ess l e) legal in
     let known : (is_constant A x || is_variable A x) ≡ true = all-has (λ y. is_constant A y || is_variable A y) e x k.g5 h in
     let var : is_variable A x ≡ true = by (is_constant A x) refl (is_variable A x) known in
-    still-active (is_float_of x) S A (Ess l e) B whole stays (implied (is_variable A x) (has_float A x) (all-has (λ y. not (is_variable A y) || has_float A y) e x k.g9 h) var)
+    implied (is_variable A x) (has_float A x) (all-has (λ y. not (is_variable A y) || has_float A y) e x k.g9 h) var
   where
     by : (a : Bool) → is_constant A x ≡ a → (b : Bool) → (a || b) ≡ true → b ≡ true
     by true p b q = absurd (not-both (is_variable S x) v (constant-no_variable S x all (constant-front S A (Ess l e) B x whole p)))
     by false p b q = q
+
+typed-ess : (S A : Database) (l : Name) (e : Expr) (B : Database) (x : Name) → AllKept S → S ≡ A ++ Ess l e ∷ B → stays_open 0 B ≡ true → has_name x e ≡ true → is_variable S x ≡ true → has_float S x ≡ true
+typed-ess S A l e B x all whole stays h v = still-active (is_float_of x) S A (Ess l e) B whole stays (typed-before S A l e B x all whole h v)
 
 -- a variable that is used has an active `$f`
 pub used-typed : (S : Database) (s : Stmt) (x : Name) → AllKept S → IsLegal S s → is_assertion s ≡ true → is_used S s x ≡ true → is_variable S x ≡ true → has_float S x ≡ true
@@ -475,7 +521,7 @@ mandatory-place S s x all legal asserts = by (is_mandatory S s x) (has_place (va
 
 -- ---- each variable has one place
 
-is_flt : (t : Stmt) (y : Name) → variable_of t ≡ Some y → (l c : Name) × (t ≡ Float l c y)
+pub is_flt : (t : Stmt) (y : Name) → variable_of t ≡ Some y → (l c : Name) × (t ≡ Float l c y)
 is_flt (Float l c w) y h = let e : w ≡ y = cc in (l, c, ap (Float l c) e)
 is_flt (Ess l w) y h = cc
 is_flt Open y h = cc

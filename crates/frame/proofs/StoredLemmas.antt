@@ -14,7 +14,7 @@ use Rattle.scope.specs.Legal.{IsLegal}
 use Rattle.scope.specs.declared.rule.Rule.TheVariants.{G10}
 use Rattle.names.specs.Codes.{name_at, decode, with_names}
 use Rattle.scope.specs.Symbols.{symbols_by, symbols_of}
-use Rattle.frame.specs.ByPlaces.{AreBelow}
+use Rattle.frame.specs.Below.{AreBelow}
 use Rattle.frame.specs.Citations.{is_hypothesis_kind}
 use Rattle.std.proofs.lemmas.Slice.Eq.{bytes_eq-Decides}
 use Rattle.entries.specs.declared.links.Links.{Links}
@@ -24,14 +24,14 @@ use Rattle.entries.specs.Entries.{Entry}
 use Rattle.frame.specs.declared.storage.Symbol.{Symbol}
 use Rattle.frame.specs.declared.storage.Stock.{Stock}
 use Rattle.frame.specs.Links.{links_of}
-use Rattle.frame.specs.Stored.{stmt_by, stmt_of, labels_of, positions_from, option_list, option_position, AreAllLegal, IsLabelBelow, HasTwo, AreNumbered, AreKept, Extends, AreZero, AreZeroBehind, zero_symbol, symbol_of, ReadsAs, with_entry, floats, declares, second_is, is_float_kind, is_var_kind, last_from, IsFresh, is_assertion_kind, IsKeptAs, KeepsCounts, replaced_by, replaced_of, AreStored, IsBehind, statements_of, numbered}
+use Rattle.frame.specs.Stored.{stmt_by, stmt_of, labels_of, positions_from, option_list, option_position, AreAllLegal, IsLabelBelow, HasTwo, AreNumbered, AreKept, Extends, AreZero, AreZeroBehind, zero_symbol, symbol_of, ReadsAs, with_entry, floats, declares, second_is, is_float_kind, is_var_kind, last_from, IsFresh, has_parts, IsKeptAs, KeepsCounts, replaced_by, replaced_of, AreStored, IsBehind, statements_of, numbered}
 use Rattle.frame.proofs.SymbolsLemmas.{symbols_of-push}
 use Rattle.frame.proofs.NumberLemmas.{decode-extends, name_at-extends, below-more, extends-length, take-extends}
 use Rattle.frame.proofs.DeclareLemmas.{symbol_of-push}
 use Rattle.frame.proofs.UndoLemmas.{replaced_of-push}
 use Rattle.frame.proofs.OpenLemmas.{stays_open-push, stays_open-close}
 use Rattle.frame.proofs.LegalLabels.{fresh}
-use Rattle.frame.proofs.AssertionLemmas.{get-entry, kept-more}
+use Rattle.frame.proofs.AssertionLemmas.{kept-more, kept-moved}
 
 -- ---- what was entered stands for what it stood for
 
@@ -260,7 +260,7 @@ pub record IsPushed (names labels : List Name) (positions : List ℕ) (symbols :
   pub entry_links : e.links ≡ links
   pub entries_more : entries' ≡ entries ++ e ∷ []
   pub legal : IsLegal (map (stmt_of names labels) entries) s
-  pub kept : is_assertion_kind e.kind ≡ true → IsKeptAs entries (map (stmt_of names labels) entries) s e e.assertion
+  pub kept : has_parts e.kind ≡ true → IsKeptAs entries (map (stmt_of names labels) entries) s e.assertion
   pub links_next : links' ≡ links_of (map (stmt_of names labels) entries ++ s ∷ [])
 
 module _ (names labels : List Name) (positions : List ℕ) (symbols : List Symbol) (replaced : List ℕ) (entries : List Entry) (links : Links)
@@ -296,33 +296,29 @@ module _ (names labels : List Name) (positions : List ℕ) (symbols : List Symbo
       p.noted c (symbol_of entries c) (still-reads names labels positions symbols replaced entries links between k p.symbols_more c (omega (arith, lt, n)))
       ∙ ap Some (ap (λ n. with_entry e n c (symbol_of entries c)) (omega arith) ∙ (sym (symbol_of-push entries e c) ∙ ap (λ r. symbol_of r c) (sym p.entries_more)))
 
-  assertions' : (i : ℕ) (d : Entry) → slice_get entries' i ≡ Some d → is_assertion_kind d.kind ≡ true → IsKeptAs entries' (take i (map (stmt_of names' labels') entries')) (stmt_of names' labels' d) d d.assertion
-  assertions' i d h a = by (get-push entries e d i (ap (λ r. slice_get r i) (sym p.entries_more) ∙ h))
+  parts' : (i : ℕ) (d : Entry) → slice_get entries' i ≡ Some d → has_parts d.kind ≡ true → IsKeptAs entries' (take i (map (stmt_of names' labels') entries')) (stmt_of names' labels' d) d.assertion
+  parts' i d h a = by (get-push entries e d i (ap (λ r. slice_get r i) (sym p.entries_more) ∙ h))
     where
       S : Database
       S = map (stmt_of names labels) entries
 
-      stands : (j : ℕ) (n : ℕ) (t : Stmt) → slice_get (take n (map (stmt_of names labels) entries)) j ≡ Some t → (x : Entry) × (slice_get entries j ≡ Some x)
-      stands j n t g = let x = get-entry names labels entries j t (get-less n (map (stmt_of names labels) entries) j t g) in (x.0, x.1)
-
-      by : ((i < length entries) × (slice_get entries i ≡ Some d)) ⊎ ((i ≡ length entries) × (e ≡ d)) → IsKeptAs entries' (take i (map (stmt_of names' labels') entries')) (stmt_of names' labels' d) d d.assertion
+      by : ((i < length entries) × (slice_get entries i ≡ Some d)) ⊎ ((i ≡ length entries) × (e ≡ d)) → IsKeptAs entries' (take i (map (stmt_of names' labels') entries')) (stmt_of names' labels' d) d.assertion
       by (inl q) =
           let here : take i (map (stmt_of names' labels') entries') ≡ take i (map (stmt_of names labels) entries) =
           ap (take i) pushed-statements ∙ take-append-le i (map (stmt_of names labels) entries) (s ∷ []) (omega (arith, q.0, len)) in
           let same : stmt_of names' labels' d ≡ stmt_of names labels d = stmt-more names names' labels labels' d p.names_more labels-extend (numbered-at (length names) (length labels) entries k.coded i d q.1) (label-at (length names) (length labels) entries k.coded i d q.1) in
-          subst (λ es. IsKeptAs es (take i (map (stmt_of names' labels') entries')) (stmt_of names' labels' d) d d.assertion) (sym p.entries_more)
-          (subst (λ T. IsKeptAs (entries ++ e ∷ []) T (stmt_of names' labels' d) d d.assertion) (sym here)
-          (subst (λ t. IsKeptAs (entries ++ e ∷ []) (take i (map (stmt_of names labels) entries)) t d d.assertion) (sym same)
-          (kept-more names labels entries (e ∷ []) (take i (map (stmt_of names labels) entries)) (stmt_of names labels d) d d.assertion (λ j t g. stands j i t g) (k.assertions_kept i d q.1 a))))
+          subst (λ es. IsKeptAs es (take i (map (stmt_of names' labels') entries')) (stmt_of names' labels' d) d.assertion) (sym p.entries_more)
+          (subst (λ T. IsKeptAs (entries ++ e ∷ []) T (stmt_of names' labels' d) d.assertion) (sym here)
+          (subst (λ t. IsKeptAs (entries ++ e ∷ []) (take i (map (stmt_of names labels) entries)) t d.assertion) (sym same)
+          (kept-moved names labels entries (entries ++ e ∷ []) i (stmt_of names labels d) d.assertion (sym (take-append-le i entries (e ∷ []) (omega (arith, q.0)))) (k.parts_kept i d q.1 a))))
       by (inr q) =
           let here : take i (map (stmt_of names' labels') entries') ≡ map (stmt_of names labels) entries =
           ap (take i) pushed-statements ∙ (ap (λ n. take n (map (stmt_of names labels) entries ++ s ∷ [])) (q.0 ∙ sym len) ∙ take-whole (map (stmt_of names labels) entries) s) in
-          let whole : (j : ℕ) (t : Stmt) → slice_get (map (stmt_of names labels) entries) j ≡ Some t → (x : Entry) × (slice_get entries j ≡ Some x) = λ j t g. let x = get-entry names labels entries j t g in (x.0, x.1) in
-          subst (λ w. IsKeptAs entries' (take i (map (stmt_of names' labels') entries')) (stmt_of names' labels' w) w w.assertion) q.1
-          (subst (λ es. IsKeptAs es (take i (map (stmt_of names' labels') entries')) (stmt_of names' labels' e) e e.assertion) (sym p.entries_more)
-          (subst (λ T. IsKeptAs (entries ++ e ∷ []) T (stmt_of names' labels' e) e e.assertion) (sym here)
-          (subst (λ t. IsKeptAs (entries ++ e ∷ []) (map (stmt_of names labels) entries) t e e.assertion) (sym p.stands)
-          (kept-more names labels entries (e ∷ []) (map (stmt_of names labels) entries) s e e.assertion whole (p.kept (ap (λ w. is_assertion_kind w.kind) q.1 ∙ a))))))
+          subst (λ w. IsKeptAs entries' (take i (map (stmt_of names' labels') entries')) (stmt_of names' labels' w) w.assertion) q.1
+          (subst (λ es. IsKeptAs es (take i (map (stmt_of names' labels') entries')) (stmt_of names' labels' e) e.assertion) (sym p.entries_more)
+          (subst (λ T. IsKeptAs (entries ++ e ∷ []) T (stmt_of names' labels' e) e.assertion) (sym here)
+          (subst (λ t. IsKeptAs (entries ++ e ∷ []) (map (stmt_of names labels) entries) t e.assertion) (sym p.stands)
+          (kept-more names labels entries (e ∷ []) s e.assertion (p.kept (ap (λ w. has_parts w.kind) q.1 ∙ a))))))
 
   front-before : (i : ℕ) → i < length entries → take i entries' ≡ take i entries
   front-before i lt = ap (take i) p.entries_more ∙ take-append-le i entries (e ∷ []) (omega (arith, lt))
@@ -389,7 +385,7 @@ module _ (names labels : List Name) (positions : List ℕ) (symbols : List Symbo
     counts_kept = counts';
     count = p.noted_count ∙ p.count;
     few = p.few;
-    assertions_kept = assertions';
+    parts_kept = parts';
   }
 
 -- the same parts are a storage too

@@ -19,7 +19,7 @@ use Rattle.scope.proofs.NamesLemmas.{active-was}
 use Rattle.names.proofs.CodesLemmas.{has-at, name_eq-comm}
 use Rattle.scope.proofs.SortsLemmas.{is_variable-active, was_symbol-either}
 use Rattle.scope.proofs.KeptLemmas.{all-has}
-use Rattle.frame.specs.ByPlaces.{AreBelow}
+use Rattle.frame.specs.Below.{AreBelow}
 use Rattle.frame.specs.Stored.{AreNumbersOf, Extends}
 
 or_cases : (a b : Bool) → (a || b) ≡ true → (a ≡ true) ⊎ (b ≡ true)

@@ -7,11 +7,11 @@ use Rattle.entries.specs.declared.head.Head.{Head}
 use Rattle.frame.specs.declared.draft.Draft.{Draft}
 
 abbrev pub drafted : Draft → Assertion
-drafted d = record { hypotheses = d.hypotheses.items; patterns = d.patterns.items; templates = d.templates.items; conclusion = d.conclusion.items; groups = cut d.places.items d.groups.items }
+drafted d = record { hypotheses = d.hypotheses.items; asked = d.asked.items; heads = d.heads.items; groups = cut d.places.items d.groups.items }
 
--- there is a pattern for each hypothesis, and the groups are parts of the places
+-- of each hypothesis it is said what it is, and the groups are parts of the places
 pub record IsDraft (d : Draft) : Type 0 where
-  pub paired : length d.patterns.items ≡ length d.hypotheses.items
+  pub paired : length d.asked.items ≡ length d.hypotheses.items
   pub grouped : AreSpansIn (length d.places.items) d.groups.items
 
 -- the statement that is kept of a draft
@@ -23,8 +23,7 @@ pub record IsPartless (d : Draft) : Type 0 where
   pub looked : d.looked ≡ []
   pub hypotheses : d.hypotheses.items ≡ []
   pub variables : d.variables ≡ []
-  pub patterns : d.patterns.items ≡ []
-  pub templates : d.templates.items ≡ []
-  pub conclusion : d.conclusion.items ≡ []
+  pub asked : d.asked.items ≡ []
+  pub heads : d.heads.items ≡ []
   pub places : d.places.items ≡ []
   pub groups : d.groups.items ≡ []

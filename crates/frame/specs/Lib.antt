@@ -4,8 +4,9 @@ pub mod Substitution
 pub mod Disjoint
 pub mod Covers
 pub mod Citations
-pub mod Templates
-pub mod ByPlaces
+pub mod Below
+pub mod Cited
+pub mod Bound
 pub mod Reading
 pub mod Links
 pub mod Laws

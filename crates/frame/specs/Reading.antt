@@ -1,7 +1,7 @@
 -- What a verifier reads of a database by position.
 -- Metamath, 4.2: labels name one statement each; what may be cited at a statement.
 -- The code answers by numbers; these words say which statements and names they stand for.
-use Rattle.std.specs.Prelude.{◌≡◌, ℕ, ◌<◌, ◌^◌, true, List, length, Option, Some, None}
+use Rattle.std.specs.Prelude.{◌≡◌, ℕ, ◌<◌, true, List, length, Option, Some, None}
 use Rattle.mm_lex.specs.Alphabet.{Name}
 use Rattle.mm_read.specs.declared.stmt.Stmt.{Stmt}
 use Rattle.mm_read.specs.Statements.{Database}
@@ -9,19 +9,11 @@ use Rattle.scope.specs.Active.{stmt_at, expr_of, is_assertion}
 use Rattle.names.specs.Codes.{decode, AreDistinct}
 use Rattle.frame.specs.FrameOf.{HasAssertion}
 use Rattle.frame.specs.Substitution.{Images, apply as applied}
-use Rattle.entries.specs.declared.citation.Cited.{Cited}
 use Rattle.frame.specs.declared.meaning.Meaning.{Meaning}
 use Rattle.frame.specs.declared.meaning.Meaning.TheVariants.{Hypothesis, Assertion, Nothing}
 use Rattle.frame.specs.Citations.{Carries, IsHypothesis, IsInstance, premises}
-use Rattle.frame.specs.Templates.{AreIn}
-use Rattle.frame.specs.ByPlaces.{IsByPlaces, AreBelow, AreCoded}
-
--- the parts of the assertion s at a
-pub record IsCited (S : Database) (names : List Name) (a : ℕ) (s : Stmt) (c : Cited) : Type 0 where
-  pub by_places : IsByPlaces S names a s c.patterns.now c.templates.now c.conclusion.now c.groups
-  pub coded : AreCoded (length names) c.patterns.now c.templates.now c.conclusion.now c.groups
-  pub inside : AreIn (length c.templates.now) c.patterns.now
-  pub few : length c.patterns.now < 2 ^ 31
+use Rattle.frame.specs.Below.{AreBelow}
+use Rattle.frame.specs.Bound.{IsBound}
 
 -- what a citation of the statement at i means at `at`
 abbrev pub IsMeaning : Database → List Name → ℕ → ℕ → Meaning → Type 0
@@ -48,4 +40,5 @@ IsSingle S at =
 pub record AreLegal (S : Database) (names : List Name) : Type 0 where
   pub once : HasLabelsOnce S
   pub single : (at : ℕ) → IsSingle S at
+  pub bound : (a : ℕ) (s : Stmt) → HasAssertion S a s → IsBound S a s
   pub distinct : AreDistinct names

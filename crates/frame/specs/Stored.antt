@@ -1,18 +1,18 @@
 -- Statements kept as numbers: what each entry stands for, and what the parts of the storage say of the statements.
 -- The code's own form: no public clause cites it.
-use Rattle.std.specs.Prelude.{◌≡◌, ℕ, ◌+◌, ◌-◌, ◌<◌, ◌≤◌, ◌^◌, ◌==◌, nat_lt, Bool, true, false, ◌&&◌, if◌then◌else◌, List, [], ◌∷◌, ◌++◌, length, map, flat_map, filter, take, slice_get, slice_range, Option, Some, None, unwrap_or}
-use Rattle.std.specs.List.{list_any, filter_map}
+use Rattle.std.specs.Prelude.{◌≡◌, ℕ, ◌+◌, ◌-◌, ◌<◌, ◌≤◌, ◌^◌, ◌==◌, nat_lt, Bool, true, false, ◌&&◌, if◌then◌else◌, List, [], ◌∷◌, ◌++◌, length, map, filter, take, get_or, slice_get, Option, Some, None, is_some}
+use Rattle.std.specs.List.{list_any}
 use Rattle.mm_lex.specs.Alphabet.{Name, has_name}
 use Rattle.mm_read.specs.declared.stmt.Stmt.{Stmt}
 use Rattle.mm_read.specs.declared.stmt.Stmt.TheVariants as stmt
 use Rattle.mm_read.specs.Statements.{Expr, Database}
-use Rattle.scope.specs.Active.{stmt_at, before, label_of, expr_of, is_assertion, is_active, is_essential, is_open, is_close, stays_open}
+use Rattle.scope.specs.Active.{stmt_at, before, label_of, expr_of, is_assertion, active, is_active, is_essential, is_open, is_close, stays_open}
 use Rattle.scope.specs.Legal.{IsLegal}
 use Rattle.names.specs.Codes.{name_at, decode, with_names}
 use Rattle.scope.specs.Symbols.{symbols_by, symbols_in, symbols_of}
 use Rattle.frame.specs.FrameOf.{hypotheses}
-use Rattle.entries.specs.declared.citation.Pattern.{Pattern}
-use Rattle.entries.specs.declared.citation.Pattern.TheVariants.{Typed, Full}
+use Rattle.entries.specs.declared.citation.Hypothesis.{Hypothesis}
+use Rattle.entries.specs.declared.citation.Hypothesis.TheVariants as hypothesis
 use Rattle.entries.specs.declared.links.Links.{Links}
 use Rattle.entries.specs.declared.head.Head.{Head}
 use Rattle.entries.specs.declared.kind.Kind.{Kind}
@@ -25,7 +25,8 @@ pub use Rattle.entries.specs.Spans.{Extends}
 pub use Rattle.frame.specs.Places.{is_code, place_from, place_of}
 use Rattle.frame.specs.Parts.{Numbered}
 use Rattle.frame.specs.Citations.{is_hypothesis_kind}
-use Rattle.frame.specs.ByPlaces.{AreBelow}
+use Rattle.frame.specs.Below.{AreBelow}
+use Rattle.frame.specs.Cited.{head_of}
 use Rattle.frame.specs.Links.{links_of, actives, is_disj}
 
 -- a statement by its kind, its label and its names
@@ -234,7 +235,7 @@ abbrev pub IsHypothesisAt : Option Stmt → Type 0
 IsHypothesisAt None = ⊥
 IsHypothesisAt (Some s) = is_hypothesis_kind s ≡ true
 
--- ---- an assertion by the places of its hypotheses, by numbers
+-- ---- the parts of an assertion, by numbers
 
 -- the variable of a `$f`, by its number
 abbrev pub variable_by : Kind → List ℕ → Option ℕ
@@ -249,16 +250,12 @@ option_variable (Some e) = variable_by e.kind e.symbols
 abbrev pub variable_at : List Entry → ℕ → Option ℕ
 variable_at es p = option_variable (slice_get es (p - 1))
 
--- the place of a variable, or the number of a symbol behind the places
-abbrev pub template_number : List (Option ℕ) → ℕ → ℕ
-template_number vs c = unwrap_or (place_of vs c) (length vs + c)
+-- those that are such a variable
+abbrev pub is_placed : List (Option ℕ) → ℕ → Bool
+is_placed vs c = is_some (place_of vs c)
 
-abbrev pub templated : List (Option ℕ) → List ℕ → List ℕ
-templated vs codes = map (template_number vs) codes
-
--- the places of those that have one
-abbrev pub places_of : List (Option ℕ) → List ℕ → List ℕ
-places_of vs codes = filter_map (place_of vs) codes
+abbrev pub placed : List (Option ℕ) → List ℕ → List ℕ
+placed vs codes = filter (is_placed vs) codes
 
 abbrev pub option_symbols : Option Entry → List ℕ
 option_symbols None = []
@@ -274,50 +271,51 @@ has_two (x ∷ []) = false
 has_two (x ∷ y ∷ xs) = true
 
 abbrev pub groups_by : List (Option ℕ) → List (List ℕ) → List (List ℕ)
-groups_by vs lists = filter has_two (map (places_of vs) lists)
+groups_by vs lists = filter has_two (map (placed vs) lists)
 
--- the pattern of the hypothesis e: the first symbol of a `$f`; the place of the template of a `$e`
-abbrev pub IsPatternBy : List (Option ℕ) → List ℕ → Kind → List ℕ → Pattern → Type 0
-IsPatternBy vs templates kind codes (Typed c) = (kind ≡ Float) × (slice_get codes 0 ≡ Some c)
-IsPatternBy vs templates kind codes (Full from to) =
-    (kind ≡ Ess) × (from ≤ to) × (to ≤ length templates) × (slice_range templates from to ≡ templated vs codes)
+-- the first symbol of the statement at a position
+abbrev pub head_at : List Entry → ℕ → ℕ
+head_at es p = head_of (symbols_at es p)
 
-abbrev pub IsPatternOf : List (Option ℕ) → List ℕ → Entry → Pattern → Type 0
-IsPatternOf vs templates e q = IsPatternBy vs templates e.kind e.symbols q
+-- what the hypothesis at a position is
+abbrev pub asked_by : ℕ → Kind → List ℕ → Hypothesis
+asked_by p Float codes = hypothesis.Float (get_or codes 1 0)
+asked_by p kind codes = hypothesis.Essential p
 
-abbrev pub ArePatterns : List Entry → List (Option ℕ) → List ℕ → List ℕ → List Pattern → Type 0
-ArePatterns es vs templates [] [] = Unit {0}
-ArePatterns es vs templates [] (q ∷ qs) = ⊥
-ArePatterns es vs templates (p ∷ ps) [] = ⊥
-ArePatterns es vs templates (p ∷ ps) (q ∷ qs) = ((e : Entry) × (slice_get es (p - 1) ≡ Some e) × IsPatternOf vs templates e q) × ArePatterns es vs templates ps qs
+abbrev pub option_asked : ℕ → Option Entry → Hypothesis
+option_asked p None = hypothesis.Essential p
+option_asked p (Some e) = asked_by p e.kind e.symbols
 
--- the template of a hypothesis, if it is a `$e`
-abbrev pub template_by : List (Option ℕ) → Kind → List ℕ → List ℕ
-template_by vs kind codes = if is_float_kind kind then [] else templated vs codes
+abbrev pub asked_at : List Entry → ℕ → Hypothesis
+asked_at es p = option_asked p (slice_get es (p - 1))
 
-abbrev pub own_template : List (Option ℕ) → Entry → List ℕ
-own_template vs e = template_by vs e.kind e.symbols
+-- a `$f` of a symbol of the expression
+abbrev pub is_float_in : Expr → Stmt → Bool
+is_float_in e (stmt.Float label constant variable) = has_name variable e
+is_float_in e s = false
 
-abbrev pub option_template : List (Option ℕ) → Option Entry → List ℕ
-option_template vs None = []
-option_template vs (Some e) = own_template vs e
+-- the active ones, by position
+abbrev pub floats_in : Database → Expr → List ℕ
+floats_in S e = map (λ p. p.0) (filter (λ p. is_float_in e p.1) (active S))
 
-abbrev pub template_at : List Entry → List (Option ℕ) → ℕ → List ℕ
-template_at es vs p = option_template vs (slice_get es (p - 1))
+-- the hypotheses that are kept with a statement: with a `$e` the `$f` of its variables
+abbrev pub kept_with : Database → Stmt → List ℕ
+kept_with S (stmt.Ess label expr) = floats_in S expr
+kept_with S s = hypotheses S s
 
--- the assertion e, which stands behind the first i statements S, is kept as d
-pub record IsKeptAs (es : List Entry) (S : Database) (s : Stmt) (e : Entry) (d : Assertion) : Type 0 where
-  pub hypotheses_kept : d.hypotheses ≡ hypotheses S s
-  pub patterns_kept : ArePatterns es (map (variable_at es) d.hypotheses) d.templates d.hypotheses d.patterns
-  pub conclusion_kept : d.conclusion ≡ templated (map (variable_at es) d.hypotheses) e.symbols
-  pub groups_kept : d.groups ≡ groups_by (map (variable_at es) d.hypotheses) (map (λ q. symbols_at es q.0) (actives is_disj S))
-  pub few : length d.hypotheses < 2 ^ 31
-  pub templates_kept : d.templates ≡ flat_map (template_at es (map (variable_at es) d.hypotheses)) d.hypotheses
+-- the statement s, which stands behind the first statements S, is kept with the parts d
+pub record IsKeptAs (es : List Entry) (S : Database) (s : Stmt) (d : Assertion) : Type 0 where
+  pub hypotheses_kept : d.hypotheses ≡ kept_with S s
+  pub asked_kept : d.asked ≡ map (asked_at es) d.hypotheses
+  pub heads_kept : d.heads ≡ map (head_at es) d.hypotheses
+  pub groups_kept : is_assertion s ≡ true → d.groups ≡ groups_by (map (variable_at es) d.hypotheses) (map (λ q. symbols_at es q.0) (actives is_disj S))
 
-abbrev pub is_assertion_kind : Kind → Bool
-is_assertion_kind Axiom = true
-is_assertion_kind Prove = true
-is_assertion_kind kind = false
+-- a statement that is kept with hypotheses
+abbrev pub has_parts : Kind → Bool
+has_parts Ess = true
+has_parts Axiom = true
+has_parts Prove = true
+has_parts kind = false
 
 -- ---- how the mandatory hypotheses are found: the `$f` of the symbols of the assertion and of the active `$e`, and these
 
@@ -350,14 +348,25 @@ pub record IsLooked (es : List Entry) (S : Database) (looked : List (Option ℕ)
   pub ascends : Ascends list
   pub has : (c k : ℕ) → place_of looked c ≡ Some k → with_float es S c list ≡ list
 
--- with the active `$e`, the last one first, and the `$f` of their symbols
-abbrev pub with_essentials : List Entry → Database → List (ℕ × Stmt) → List ℕ → List ℕ
-with_essentials es S [] list = list
-with_essentials es S (q ∷ qs) list =
-    with_floats es S (symbols_at es q.0) (inserted q.0 (with_essentials es S qs list))
+-- the hypotheses that are kept with the statement at a position
+abbrev pub option_kept : Option Entry → List ℕ
+option_kept None = []
+option_kept (Some e) = e.assertion.hypotheses
+
+abbrev pub kept_at : List Entry → ℕ → List ℕ
+kept_at es p = option_kept (slice_get es (p - 1))
+
+abbrev pub with_all : List ℕ → List ℕ → List ℕ
+with_all [] list = list
+with_all (p ∷ ps) list = with_all ps (inserted p list)
+
+-- with the active `$e`, the last one first, and the `$f` that are kept with them
+abbrev pub with_essentials : List Entry → List (ℕ × Stmt) → List ℕ → List ℕ
+with_essentials es [] list = list
+with_essentials es (q ∷ qs) list = with_all (kept_at es q.0) (inserted q.0 (with_essentials es qs list))
 
 abbrev pub collected : List Entry → Database → List ℕ → List ℕ
-collected es S codes = with_essentials es S (actives is_essential S) (with_floats es S codes [])
+collected es S codes = with_essentials es (actives is_essential S) (with_floats es S codes [])
 
 abbrev pub is_hypothesis_entry : Kind → Bool
 is_hypothesis_entry Float = true
@@ -369,14 +378,21 @@ abbrev pub AreHypotheses : List Entry → List ℕ → Type 0
 AreHypotheses es [] = Unit {0}
 AreHypotheses es (p ∷ ps) = ((e : Entry) × (1 ≤ p) × (slice_get es (p - 1) ≡ Some e) × (is_hypothesis_entry e.kind ≡ true)) × AreHypotheses es ps
 
+-- of the hypotheses it is said what they are and what symbols they begin with
+pub record AreDescribed (es : List Entry) (d : Assertion) : Type 0 where
+  pub asked_made : d.asked ≡ map (asked_at es) d.hypotheses
+  pub heads_made : d.heads ≡ map (head_at es) d.hypotheses
+
 -- the parts of an assertion with these symbols, behind the statements S
 pub record AreParts (es : List Entry) (S : Database) (codes : List ℕ) (d : Assertion) : Type 0 where
   pub hypotheses_found : d.hypotheses ≡ collected es S codes
-  pub patterns_made : ArePatterns es (map (variable_at es) d.hypotheses) d.templates d.hypotheses d.patterns
-  pub conclusion_made : d.conclusion ≡ templated (map (variable_at es) d.hypotheses) codes
+  pub described : AreDescribed es d
   pub groups_made : d.groups ≡ groups_by (map (variable_at es) d.hypotheses) (map (λ q. symbols_at es q.0) (actives is_disj S))
-  pub few_places : length d.hypotheses < 2 ^ 31
-  pub templates_made : d.templates ≡ flat_map (template_at es (map (variable_at es) d.hypotheses)) d.hypotheses
+
+-- the parts of a `$e` with these symbols, behind the statements S
+pub record AreFloats (es : List Entry) (S : Database) (codes : List ℕ) (d : Assertion) : Type 0 where
+  pub floats_found : d.hypotheses ≡ with_floats es S codes []
+  pub floats_described : AreDescribed es d
 
 -- the storage of a database
 pub record AreKept (names labels : List Name) (positions : List ℕ) (symbols : List Symbol) (replaced : List ℕ) (entries : List Entry) (links : Links) : Type 0 where
@@ -393,7 +409,7 @@ pub record AreKept (names labels : List Name) (positions : List ℕ) (symbols : 
   pub counts_kept : (i : ℕ) (e : Entry) → slice_get entries i ≡ Some e → KeepsCounts names labels entries i e
   pub count : length symbols ≡ length names
   pub few : length names < 2 ^ 31
-  pub assertions_kept : (i : ℕ) (e : Entry) → slice_get entries i ≡ Some e → is_assertion_kind e.kind ≡ true → IsKeptAs entries (take i (map (stmt_of names labels) entries)) (stmt_of names labels e) e e.assertion
+  pub parts_kept : (i : ℕ) (e : Entry) → slice_get entries i ≡ Some e → has_parts e.kind ≡ true → IsKeptAs entries (take i (map (stmt_of names labels) entries)) (stmt_of names labels e) e.assertion
 
 abbrev pub AreStored : Stock → Type 0
 AreStored k = AreKept k.names k.labels k.positions.items k.symbols.items k.replaced.items k.entries k.links
@@ -417,7 +433,7 @@ pub record Entered (old new : Stock) (s : Stmt) (e : Entry) : Type 0 where
   pub labels : new.labels ≡ old.labels ++ option_list (label_of s) []
   pub positions : new.positions.items ≡ old.positions.items ++ option_position (label_of s) (length old.entries + 1) []
   pub links : e.links ≡ old.links
-  pub kept : is_assertion_kind e.kind ≡ true → IsKeptAs old.entries (statements_of old) s e e.assertion
+  pub kept : has_parts e.kind ≡ true → IsKeptAs old.entries (statements_of old) s e.assertion
 
 -- the numbers stand for the symbols of the statement
 pub record AreNumbersOf (names : List Name) (s : Stmt) (codes : List ℕ) : Type 0 where
@@ -430,5 +446,10 @@ pub record IsNext (k : Stock) (codes : List ℕ) (s : Stmt) : Type 0 where
   pub assertion : is_assertion s ≡ true
   pub stand : decode k.names codes ≡ expr_of s
 
-abbrev pub IsKeptOf : Stock → List ℕ → Stmt → Assertion → Type 0
-IsKeptOf k codes s d = (e : Entry) → e.symbols ≡ codes → IsKeptAs k.entries (statements_of k) s e d
+-- the same of a `$e`
+pub record IsNextEssential (k : Stock) (codes : List ℕ) (s : Stmt) : Type 0 where
+  pub essential : is_essential s ≡ true
+  pub stand : decode k.names codes ≡ expr_of s
+
+abbrev pub IsKeptOf : Stock → Stmt → Assertion → Type 0
+IsKeptOf k s d = IsKeptAs k.entries (statements_of k) s d

@@ -3,7 +3,7 @@ ghost use Rattle.std.specs.Prelude.{◌≡◌, ◌<◌, ◌≤◌, ◌==◌, ◌
 ghost use Rattle.std.specs.List.{list_any};
 ghost use Rattle.scope.specs.Active.{before};
 ghost use Rattle.names.specs.Codes.{name_at, decode, AreDistinct};
-ghost use Rattle.frame.specs.ByPlaces.{AreBelow};
+ghost use Rattle.frame.specs.Below.{AreBelow};
 ghost use Rattle.frame.specs.Disjoint.{are_apart};
 ghost use Rattle.frame.specs.Covers.{are_listed, are_covered, do_share, are_marked, is_variable_apart};
 ghost use Rattle.frame.specs.Stored.{AreStored, statements_of};

@@ -4,7 +4,7 @@ ghost use Rattle.entries.specs.Entries.{AreShapedParts, assertion_of};
 ghost use Rattle.frame.specs.Drafts.{IsDraft, IsPartless, drafted};
 
 use crate::places::Places;
-use entries::{Parts, Pattern, Span};
+use entries::{Hypothesis, Parts, Span};
 use std::alloc::Global;
 
 /// The numbers of a statement's symbols, and the parts of an assertion. Its buffers serve one statement after another.
@@ -15,16 +15,14 @@ pub struct Draft {
     /// The symbols whose `$f` was looked for.
     pub looked: Places,
     /// The positions of its hypotheses, in order.
-    pub hypotheses: Vec<usize>,
+    pub hypotheses: Vec<u32>,
     /// The variables of the hypotheses, at their places.
     pub variables: Places,
-    /// What the results for the hypotheses must be.
-    pub patterns: Vec<Pattern>,
-    /// The templates of the essential ones, one behind the other.
-    pub templates: Vec<u32>,
-    /// The template of its conclusion.
-    pub conclusion: Vec<u32>,
-    /// The places whose images are kept apart, one group behind the other.
+    /// What each hypothesis is.
+    pub asked: Vec<Hypothesis>,
+    /// The first symbol of each.
+    pub heads: Vec<u32>,
+    /// The variables whose images are kept apart, one group behind the other.
     pub places: Vec<u32>,
     /// The groups.
     pub groups: Vec<Span>,
@@ -41,9 +39,8 @@ impl Draft {
             looked: Places::new(alloc),
             hypotheses: Vec::new(alloc),
             variables: Places::new(alloc),
-            patterns: Vec::new(alloc),
-            templates: Vec::new(alloc),
-            conclusion: Vec::new(alloc),
+            asked: Vec::new(alloc),
+            heads: Vec::new(alloc),
             places: Vec::new(alloc),
             groups: Vec::new(alloc),
         }
@@ -59,9 +56,8 @@ impl Draft {
         Parts {
             symbols: &self.symbols,
             hypotheses: &self.hypotheses,
-            patterns: &self.patterns,
-            templates: &self.templates,
-            conclusion: &self.conclusion,
+            asked: &self.asked,
+            heads: &self.heads,
             places: &self.places,
             groups: &self.groups,
         }
@@ -76,9 +72,8 @@ impl Draft {
         self.looked.clear();
         self.hypotheses.clear();
         self.variables.clear();
-        self.patterns.clear();
-        self.templates.clear();
-        self.conclusion.clear();
+        self.asked.clear();
+        self.heads.clear();
         self.places.clear();
         self.groups.clear();
     }

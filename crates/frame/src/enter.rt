@@ -6,15 +6,15 @@ ghost use Rattle.scope.specs.Legal.{IsLegal};
 ghost use Rattle.names.specs.Codes.{with_names, AreNamed};
 ghost use Rattle.scope.specs.Symbols.{symbols_by, symbols_in};
 ghost use Rattle.entries.specs.declared.head.Head.{Head as Before};
-ghost use Rattle.frame.specs.ByPlaces.{AreBelow};
+ghost use Rattle.frame.specs.Below.{AreBelow};
 ghost use Rattle.frame.specs.Drafts.{IsPartless, IsDraft, drafted, made};
-ghost use Rattle.frame.specs.Stored.{AreNumbersOf, Entered, Grown, option_list, option_position, IsFresh, HasRoom, AreStored, IsHead, IsNext, IsKeptOf, kind_of, statements_of};
+ghost use Rattle.frame.specs.Stored.{AreNumbersOf, Entered, Grown, option_list, option_position, IsFresh, HasRoom, AreStored, IsHead, IsNext, IsNextEssential, IsKeptOf, has_parts, kind_of, statements_of};
 
 use crate::declare::name_label;
 use crate::draft::Draft;
-use crate::make::assertion;
+use crate::make::{assertion, essential};
 use crate::numbers::{declared_numbers, numbers};
-use crate::shape::{is_assertion, label};
+use crate::shape::{is_assertion, is_essential, label};
 use crate::storage::Stock;
 use entries::span::place;
 use entries::{Head, Kind};
@@ -54,7 +54,7 @@ fn enter_symbols(
     ensures same_positions { stock.new.positions.items ≡ stock.old.positions.items }
     ensures names { OnOk result (stock.new.names ≡ with_names stock.old.names (symbols_by stmt.now)) }
     ensures numbers { OnOk result (AreNumbersOf stock.new.names stmt.now codes.new.items) }
-    ensures same { is_assertion stmt.now ≡ true → stock.new ≡ stock.old }
+    ensures same { has_parts (kind_of stmt.now) ≡ true → stock.new ≡ stock.old }
 {
     match stmt {
         Stmt::Const(words) => {
@@ -118,7 +118,7 @@ fn keep(stock: &Stock, draft: &mut Draft) -> Result<(), AllocError>
     requires codes { AreBelow (length stock.now.names) draft.old.symbols.items }
     requires assertion { (s : Statement) × IsNext stock.now draft.old.symbols.items s }
     requires partless { IsPartless draft.old }
-    ensures kept { (s : Statement) → IsNext stock.now draft.old.symbols.items s → OnOk result (IsKeptOf stock.now draft.old.symbols.items s (drafted draft.new)) }
+    ensures kept { (s : Statement) → IsNext stock.now draft.old.symbols.items s → OnOk result (IsKeptOf stock.now s (drafted draft.new)) }
     ensures draft { OnOk result (IsDraft draft.new) }
     ensures symbols { draft.new.symbols.items ≡ draft.old.symbols.items }
 {
@@ -126,18 +126,33 @@ fn keep(stock: &Stock, draft: &mut Draft) -> Result<(), AllocError>
     assertion(stock, draft)
 }
 
-/// Finds the parts of an assertion with the symbols of the draft. Another statement has none.
+/// Finds what is kept of a `$e` with the symbols of the draft.
+fn keep_essential(stock: &Stock, draft: &mut Draft) -> Result<(), AllocError>
+    requires stored { AreStored stock.now }
+    requires codes { AreBelow (length stock.now.names) draft.old.symbols.items }
+    requires partless { IsPartless draft.old }
+    ensures kept { (s : Statement) → IsNextEssential stock.now draft.old.symbols.items s → OnOk result (IsKeptOf stock.now s (drafted draft.new)) }
+    ensures draft { OnOk result (IsDraft draft.new) }
+    ensures symbols { draft.new.symbols.items ≡ draft.old.symbols.items }
+{
+    stock.names.distinct();
+    essential(stock, draft)
+}
+
+/// Finds the parts of an assertion or of a `$e` with the symbols of the draft. Another statement has none.
 fn enter_parts(stock: &Stock, draft: &mut Draft, stmt: &Stmt) -> Result<(), AllocError>
-    requires stored { is_assertion stmt.now ≡ true → AreStored stock.now }
-    requires legal { is_assertion stmt.now ≡ true → IsLegal (statements_of stock.now) stmt.now }
+    requires stored { has_parts (kind_of stmt.now) ≡ true → AreStored stock.now }
+    requires legal { has_parts (kind_of stmt.now) ≡ true → IsLegal (statements_of stock.now) stmt.now }
     requires numbers { AreNumbersOf stock.now.names stmt.now draft.old.symbols.items }
     requires partless { IsPartless draft.old }
-    ensures kept { is_assertion stmt.now ≡ true → OnOk result (IsKeptOf stock.now draft.old.symbols.items (bare stmt.now) (drafted draft.new)) }
+    ensures kept { has_parts (kind_of stmt.now) ≡ true → OnOk result (IsKeptOf stock.now (bare stmt.now) (drafted draft.new)) }
     ensures draft { OnOk result (IsDraft draft.new) }
     ensures symbols { draft.new.symbols.items ≡ draft.old.symbols.items }
 {
     if is_assertion(stmt) {
         keep(stock, draft)
+    } else if is_essential(stmt) {
+        keep_essential(stock, draft)
     } else {
         Ok(())
     }

@@ -5,9 +5,10 @@ ghost use Rattle.scope.specs.Active.{bare, before, stmt_at, expr_of, label_of};
 ghost use Rattle.scope.specs.Legal.{IsLegal};
 ghost use Rattle.names.specs.Codes.{decode};
 ghost use Rattle.scope.specs.Symbols.{symbols_of, AreOfLast};
-ghost use Rattle.frame.specs.ByPlaces.{AreBelow};
+ghost use Rattle.frame.specs.Below.{AreBelow};
 ghost use Rattle.frame.specs.FrameOf.{HasAssertion, hypotheses};
-ghost use Rattle.frame.specs.Reading.{IsMeaning, IsPosition, IsCited, AreLegal};
+ghost use Rattle.frame.specs.Reading.{IsMeaning, IsPosition, AreLegal};
+ghost use Rattle.frame.specs.Cited.{IsCited};
 ghost use Rattle.frame.specs.Stored.{Extends};
 
 use crate::draft::Draft;
@@ -204,7 +205,7 @@ impl Frames {
         }
     }
 
-    /// The assertion at a position, by the places of its hypotheses.
+    /// The parts of the assertion at a position, by numbers.
     pub fn cited(&self, a: usize) -> Cited<'_>
         requires { (s : Statement) × HasAssertion self.now.statements a s }
         ensures { (s : Statement) → stmt_at self.now.statements a ≡ Some s → IsCited self.now.statements self.now.names a s result }
@@ -214,7 +215,7 @@ impl Frames {
     }
 
     /// The mandatory hypotheses of the assertion at a position, by position, in order.
-    pub fn hypotheses(&self, a: usize) -> &[usize]
+    pub fn hypotheses(&self, a: usize) -> &[u32]
         requires { (s : Statement) × HasAssertion self.now.statements a s }
         ensures { (s : Statement) → stmt_at self.now.statements a ≡ Some s → result.now ≡ hypotheses (before self.now.statements a) s }
     {
@@ -230,7 +231,7 @@ impl Frames {
     }
 
     /// The statements are legal: no two carry one label, what an assertion takes determines what it gives,
-    /// and the names are told apart.
+    /// each variable that it uses is that of one mandatory `$f`, and the names are told apart.
     pub fn legal(&self)
         ensures { AreLegal self.now.statements self.now.names }
     {

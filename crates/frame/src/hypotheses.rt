@@ -10,7 +10,7 @@ use crate::storage::Stock;
 use entries::Kind;
 
 /// The mandatory hypotheses of the assertion at a position.
-pub fn hypotheses_at(stock: &Stock, a: usize) -> &[usize]
+pub fn hypotheses_at(stock: &Stock, a: usize) -> &[u32]
     requires stored { AreStored stock.now }
     requires assertion { (s : Statement) × HasAssertion (statements_of stock.now) a s }
     ensures { (s : Statement) → stmt_at (statements_of stock.now) a ≡ Some s → result.now ≡ hypotheses (before (statements_of stock.now) a) s }

@@ -1,7 +1,7 @@
 //! What an assertion asks of who cites it.
 //!
 //! `Frames` keeps the statements of a database by position, and reads off them what a verifier asks:
-//! what a citation means at a statement, an assertion by the places of its hypotheses, and the variables that are kept apart.
+//! what a citation means at a statement, the parts of an assertion, and the variables that are kept apart.
 //! `frame` gathers the `Frame` of one assertion from what is active.
 //! Reading order: `storage`, `numbers`, `declare`, `undo`, `enter`, `plain`, `extend`, `reading`, `hypotheses`, `frames`; `assertion`, `one_frame`.
 #![tactic(auto)]
@@ -26,7 +26,6 @@ mod plain;
 mod reading;
 mod shape;
 mod storage;
-mod templates;
 mod undo;
 
 pub use assertion::Frame;

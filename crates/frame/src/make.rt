@@ -1,80 +1,106 @@
-//! The parts of an assertion by the places of its hypotheses.
-ghost use Rattle.std.specs.Prelude.{◌≡◌, ◌+◌, ◌<◌, ◌^◌, ◌++◌, ◌∷◌, [], true, if◌then◌else◌, length, map, flat_map, OnOk, IfOk};
+//! The hypotheses that are kept with a statement, what they are, and what is kept apart.
+ghost use Rattle.std.specs.Prelude.{◌≡◌, ◌<◌, ◌++◌, ◌∷◌, [], true, if◌then◌else◌, length, map, OnOk};
 ghost use Rattle.entries.specs.Spans.{cut, AreSpansIn};
-ghost use Rattle.frame.specs.ByPlaces.{AreBelow};
+ghost use Rattle.frame.specs.Below.{AreBelow};
+ghost use Rattle.frame.specs.Cited.{head_of};
 ghost use Rattle.frame.specs.Drafts.{IsPartless, IsDraft, drafted};
 ghost use Rattle.frame.specs.Links.{actives, is_disj};
-ghost use Rattle.frame.specs.Stored.{AreStored, AreHypotheses, ArePatterns, IsPatternBy, HasTwo, is_hypothesis_entry, template_by, template_at, has_two, AreParts, collected, statements_of, variable_at, symbols_at, groups_by, places_of};
+ghost use Rattle.frame.specs.Stored.{AreStored, AreHypotheses, HasTwo, asked_at, asked_by, head_at, has_two, AreParts, AreFloats, collected, with_floats, statements_of, variable_at, variable_by, symbols_at, groups_by, placed};
 
 use crate::draft::Draft;
-use crate::mandatory::mandatory;
-use crate::numbers::NAMES_LIMIT;
+use crate::mandatory::{mandatory, put_floats};
 use crate::places::Places;
 use crate::storage::Stock;
-use crate::templates::{add_places, add_template, variable_of};
-use entries::span::{between, place};
-use entries::{EntryRef, Kind, Pattern, Span};
+use entries::span::between;
+use entries::{EntryRef, Hypothesis, Kind, NO_HEAD, Span};
 use std::alloc::AllocError;
 
+/// The variable of a `$f`.
+fn variable_of(entry: EntryRef<'_>) -> Option<u32>
+    ensures { result ≡ variable_by entry.entry.kind entry.entry.symbols.now }
+{
+    match entry.kind {
+        Kind::Float => entry.symbols.get(1).copied(),
+        _ => None,
+    }
+}
+
 /// Adds the variables of the hypotheses, at their places.
-fn variables(stock: &Stock, hypotheses: &[usize], found: &mut Places) -> Result<(), AllocError>
+fn variables(stock: &Stock, hypotheses: &[u32], found: &mut Places) -> Result<(), AllocError>
     requires hypotheses { AreHypotheses stock.now.entries hypotheses.now }
     requires empty { found.old ≡ [] }
     ensures { OnOk result (found.new ≡ map (variable_at stock.now.entries) hypotheses.now) }
 {
     for position in hypotheses {
-        found.push(variable_of(stock.entries.entry(*position - 1)))?;
+        found.push(variable_of(stock.entries.entry(*position as usize - 1)))?;
     }
     Ok(())
 }
 
-/// The pattern of a hypothesis, and its template behind the others if it is essential.
-fn pattern(
-    entry: EntryRef<'_>,
-    variables: &Places,
-    templates: &mut Vec<u32>,
-) -> Result<Pattern, AllocError>
-    requires few { length variables.now < 2 ^ 31 }
-    requires kind { is_hypothesis_entry entry.kind ≡ true }
-    requires two { HasTwo entry.kind entry.symbols.now }
-    requires codes { AreBelow (2 ^ 31) entry.symbols.now }
-    ensures pattern { IfOk result (IsPatternBy variables.now templates.new.items entry.entry.kind entry.entry.symbols.now) }
-    ensures template { OnOk result (templates.new.items ≡ templates.old.items ++ template_by variables.now entry.entry.kind entry.entry.symbols.now) }
+/// The first symbol of an expression.
+fn head(codes: &[u32]) -> u32
+    ensures { result ≡ head_of codes.now }
 {
-    match entry.kind {
-        Kind::Float => Ok(Pattern::Typed(entry.symbols[0])),
-        _ => {
-            let from = place(templates.len())?;
-            add_template(variables, entry.symbols, templates)?;
-            Ok(Pattern::Full(from, place(templates.len())?))
-        }
+    match codes {
+        [first, ..] => *first,
+        [] => NO_HEAD,
     }
 }
 
-/// Adds the patterns of the hypotheses, and the templates of the essential ones.
-fn patterns(
+/// What the hypothesis at a position is.
+fn hypothesis(entry: EntryRef<'_>, position: u32) -> Hypothesis
+    requires { HasTwo entry.kind entry.symbols.now }
+    ensures { result ≡ asked_by position entry.entry.kind entry.entry.symbols.now }
+{
+    match entry.kind {
+        Kind::Float => Hypothesis::Float(entry.symbols[1]),
+        _ => Hypothesis::Essential(position),
+    }
+}
+
+/// Adds what the hypotheses are, and their first symbols.
+fn describe(
     stock: &Stock,
-    hypotheses: &[usize],
-    variables: &Places,
-    templates: &mut Vec<u32>,
-    found: &mut Vec<Pattern>,
+    hypotheses: &[u32],
+    asked: &mut Vec<Hypothesis>,
+    heads: &mut Vec<u32>,
 ) -> Result<(), AllocError>
     requires stored { AreStored stock.now }
     requires hypotheses { AreHypotheses stock.now.entries hypotheses.now }
-    requires few { length variables.now < 2 ^ 31 }
-    requires no_templates { templates.old.items ≡ [] }
-    requires no_patterns { found.old.items ≡ [] }
-    ensures patterns { OnOk result (ArePatterns stock.now.entries variables.now templates.new.items hypotheses.now found.new.items) }
-    ensures templates { OnOk result (templates.new.items ≡ flat_map (template_at stock.now.entries variables.now) hypotheses.now) }
+    requires no_asked { asked.old.items ≡ [] }
+    requires no_heads { heads.old.items ≡ [] }
+    ensures asked { OnOk result (asked.new.items ≡ map (asked_at stock.now.entries) hypotheses.now) }
+    ensures heads { OnOk result (heads.new.items ≡ map (head_at stock.now.entries) hypotheses.now) }
 {
     for position in hypotheses {
-        let next = pattern(stock.entries.entry(*position - 1), variables, templates)?;
-        found.push(next)?;
+        let entry = stock.entries.entry(*position as usize - 1);
+        asked.push(hypothesis(entry, *position))?;
+        heads.push(head(entry.symbols))?;
     }
     Ok(())
 }
 
-/// Adds the groups of places that are kept apart, from the active `$d`.
+/// Adds those of the symbols that are among the variables.
+fn add_placed(variables: &Places, codes: &[u32], places: &mut Vec<u32>) -> Result<(), AllocError>
+    ensures { OnOk result (places.new.items ≡ places.old.items ++ placed variables.now codes.now) }
+{
+    for code in codes {
+        add_if(variables.place(*code).is_some(), *code, places)?;
+    }
+    Ok(())
+}
+
+/// Adds a symbol, where it is among them.
+fn add_if(is_among: bool, code: u32, found: &mut Vec<u32>) -> Result<(), AllocError>
+    ensures { OnOk result (found.new.items ≡ found.old.items ++ (if is_among then code ∷ [] else [])) }
+{
+    if is_among {
+        found.push(code)?;
+    }
+    Ok(())
+}
+
+/// Adds the groups of variables that are kept apart, from the active `$d`.
 fn groups(
     stock: &Stock,
     variables: &Places,
@@ -82,7 +108,6 @@ fn groups(
     groups: &mut Vec<Span>,
 ) -> Result<(), AllocError>
     requires stored { AreStored stock.now }
-    requires few { length variables.now < 2 ^ 31 }
     requires empty { groups.old.items ≡ [] }
     ensures groups { OnOk result (cut places.new.items groups.new.items ≡ groups_by variables.now (map (λ q. symbols_at stock.now.entries q.0) (actives is_disj (statements_of stock.now)))) }
     ensures within { OnOk result (AreSpansIn (length places.new.items) groups.new.items) }
@@ -97,20 +122,19 @@ fn groups(
     Ok(())
 }
 
-/// Adds the group of those of the symbols that have a place, where they are two or more.
+/// Adds the group of those of the symbols that are among the variables, where they are two or more.
 fn add_group(
     variables: &Places,
     codes: &[u32],
     places: &mut Vec<u32>,
     groups: &mut Vec<Span>,
 ) -> Result<(), AllocError>
-    requires few { length variables.now < 2 ^ 31 }
     requires within { AreSpansIn (length places.old.items) groups.old.items }
-    ensures added { OnOk result (cut places.new.items groups.new.items ≡ (if has_two (places_of variables.now codes.now) then cut places.old.items groups.old.items ++ places_of variables.now codes.now ∷ [] else cut places.old.items groups.old.items)) }
+    ensures added { OnOk result (cut places.new.items groups.new.items ≡ (if has_two (placed variables.now codes.now) then cut places.old.items groups.old.items ++ placed variables.now codes.now ∷ [] else cut places.old.items groups.old.items)) }
     ensures within { OnOk result (AreSpansIn (length places.new.items) groups.new.items) }
 {
     let from = places.len();
-    add_places(variables, codes, places)?;
+    add_placed(variables, codes, places)?;
     let to = places.len();
     if to > from + 1 {
         let span = between(from, to)?;
@@ -137,22 +161,31 @@ pub fn assertion(stock: &Stock, draft: &mut Draft) -> Result<(), AllocError>
         &mut draft.looked,
         &mut draft.hypotheses,
     )?;
-    if draft.hypotheses.len() >= NAMES_LIMIT {
-        return Err(AllocError);
-    }
+    describe(stock, &draft.hypotheses, &mut draft.asked, &mut draft.heads)?;
     variables(stock, &draft.hypotheses, &mut draft.variables)?;
-    patterns(
-        stock,
-        &draft.hypotheses,
-        &draft.variables,
-        &mut draft.templates,
-        &mut draft.patterns,
-    )?;
-    add_template(&draft.variables, &draft.symbols, &mut draft.conclusion)?;
     groups(
         stock,
         &draft.variables,
         &mut draft.places,
         &mut draft.groups,
     )
+}
+
+/// Finds the `$f` of the variables of a `$e` with the symbols of the draft, which comes behind all statements.
+pub fn essential(stock: &Stock, draft: &mut Draft) -> Result<(), AllocError>
+    requires stored { AreStored stock.now }
+    requires codes { AreBelow (length stock.now.names) draft.old.symbols.items }
+    requires hypotheses { AreHypotheses stock.now.entries (with_floats stock.now.entries (statements_of stock.now) draft.old.symbols.items []) }
+    requires partless { IsPartless draft.old }
+    ensures parts { OnOk result (AreFloats stock.now.entries (statements_of stock.now) draft.old.symbols.items (drafted draft.new)) }
+    ensures draft { OnOk result (IsDraft draft.new) }
+    ensures symbols { draft.new.symbols.items ≡ draft.old.symbols.items }
+{
+    put_floats(
+        stock,
+        &mut draft.looked,
+        &mut draft.hypotheses,
+        &draft.symbols,
+    )?;
+    describe(stock, &draft.hypotheses, &mut draft.asked, &mut draft.heads)
 }

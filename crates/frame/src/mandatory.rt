@@ -1,7 +1,7 @@
 //! The mandatory hypotheses of an assertion, found by the symbols that it uses.
 ghost use Rattle.std.specs.Prelude.{◌≡◌, ◌+◌, ◌≤◌, ◌<◌, [], length, OnOk};
-ghost use Rattle.frame.specs.ByPlaces.{AreBelow};
-ghost use Rattle.frame.specs.Stored.{AreStored, Ascends, IsLooked, floats, last_where, statements_of, inserted, with_float, with_floats, collected};
+ghost use Rattle.frame.specs.Below.{AreBelow};
+ghost use Rattle.frame.specs.Stored.{AreStored, Ascends, IsLooked, floats, last_where, statements_of, inserted, with_all, with_float, with_floats, collected};
 
 use crate::places::Places;
 use crate::reading::is_active_at;
@@ -9,7 +9,7 @@ use crate::storage::Stock;
 use std::alloc::AllocError;
 
 /// Puts a position in its place, once.
-fn put(list: &mut Vec<usize>, position: usize) -> Result<(), AllocError>
+fn put(list: &mut Vec<u32>, position: u32) -> Result<(), AllocError>
     requires { Ascends list.old.items }
     ensures { OnOk result (list.new.items ≡ inserted position list.old.items) }
 {
@@ -23,7 +23,7 @@ fn put(list: &mut Vec<usize>, position: usize) -> Result<(), AllocError>
 }
 
 /// Puts in the last `$f` of a symbol, where it is active behind all statements.
-fn put_last(stock: &Stock, list: &mut Vec<usize>, code: u32, float: usize) -> Result<(), AllocError>
+fn put_last(stock: &Stock, list: &mut Vec<u32>, code: u32, float: usize) -> Result<(), AllocError>
     requires stored { AreStored stock.now }
     requires last { float ≡ last_where (floats code) stock.now.entries }
     requires some { 1 ≤ float }
@@ -32,7 +32,7 @@ fn put_last(stock: &Stock, list: &mut Vec<usize>, code: u32, float: usize) -> Re
 {
     let _code = code;
     if is_active_at(stock, float, stock.entries.len() + 1) {
-        put(list, float)
+        put(list, float as u32)
     } else {
         Ok(())
     }
@@ -42,7 +42,7 @@ fn put_last(stock: &Stock, list: &mut Vec<usize>, code: u32, float: usize) -> Re
 fn put_float(
     stock: &Stock,
     looked: &mut Places,
-    list: &mut Vec<usize>,
+    list: &mut Vec<u32>,
     code: u32,
 ) -> Result<(), AllocError>
     requires stored { AreStored stock.now }
@@ -63,10 +63,10 @@ fn put_float(
 }
 
 /// Puts in the active `$f` of each of the symbols.
-fn put_floats(
+pub fn put_floats(
     stock: &Stock,
     looked: &mut Places,
-    list: &mut Vec<usize>,
+    list: &mut Vec<u32>,
     codes: &[u32],
 ) -> Result<(), AllocError>
     requires stored { AreStored stock.now }
@@ -81,15 +81,27 @@ fn put_floats(
     Ok(())
 }
 
+/// Puts each of the positions in its place, once.
+fn put_all(list: &mut Vec<u32>, positions: &[u32]) -> Result<(), AllocError>
+    requires { Ascends list.old.items }
+    ensures list { OnOk result (list.new.items ≡ with_all positions.now list.old.items) }
+    ensures ascends { OnOk result (Ascends list.new.items) }
+{
+    for position in positions {
+        put(list, *position)?;
+    }
+    Ok(())
+}
+
 /// Adds the positions of the mandatory hypotheses of an assertion with these symbols behind all statements, in order.
-/// The symbols that were looked at are noted.
+/// The symbols that were looked at are noted. The `$f` of the variables of a `$e` were found when it was kept.
 ///
-/// Cost: one step for each symbol of the assertion and of the active `$e`, and for each hypothesis a search by halves.
+/// Cost: one step for each symbol of the assertion, and for each hypothesis a search by halves.
 pub fn mandatory(
     stock: &Stock,
     codes: &[u32],
     looked: &mut Places,
-    list: &mut Vec<usize>,
+    list: &mut Vec<u32>,
 ) -> Result<(), AllocError>
     requires stored { AreStored stock.now }
     requires codes { AreBelow (length stock.now.names) codes.now }
@@ -100,10 +112,10 @@ pub fn mandatory(
     put_floats(stock, looked, list, codes)?;
     let mut essential = stock.links.essential;
     while essential != 0 {
-        put(list, essential as usize)?;
-        let entry = stock.entries.entry(essential as usize - 1);
-        put_floats(stock, looked, list, entry.symbols)?;
-        essential = entry.links.essential;
+        let index = essential as usize - 1;
+        put(list, essential)?;
+        put_all(list, stock.entries.hypotheses(index))?;
+        essential = stock.entries.entry(index).links.essential;
     }
     Ok(())
 }

@@ -3,7 +3,7 @@ ghost use Rattle.std.specs.Prelude.{◌≡◌, ◌+◌, ◌<◌, ◌^◌, [], �
 ghost use Rattle.mm_lex.specs.Alphabet.{Name, has_name};
 ghost use Rattle.names.specs.Codes.{name_at, decode, with_name, with_names, code_of, AreDistinct, AreNamed};
 ghost use Rattle.scope.specs.Symbols.{symbols_in};
-ghost use Rattle.frame.specs.ByPlaces.{AreBelow};
+ghost use Rattle.frame.specs.Below.{AreBelow};
 ghost use Rattle.frame.specs.Stored.{AreNumbersOf, Extends, zero_symbol, AreZeroBehind};
 
 use crate::storage::Symbol;
@@ -12,8 +12,8 @@ use mm_read::Stmt;
 use names::Names;
 use std::alloc::{AllocError, Global};
 
-/// There are fewer names than this: with the places of a frame before them, numbers fit in 32 bits.
-pub const NAMES_LIMIT: usize = 2147483648;
+/// There are fewer names than this, so numbers fit in 32 bits.
+const NAMES_LIMIT: usize = 2147483648;
 
 /// The number of a symbol that is declared, which is given one where it has none.
 fn declared_number(

@@ -1,4 +1,4 @@
-//! A statement that is neither a declaration nor an assertion, in the storage.
+//! A statement that declares nothing and is kept without hypotheses, in the storage.
 ghost use Rattle.std.specs.Prelude.{◌≡◌, ◌++◌, ◌∷◌, [], OnOk, OnErr, IfSome};
 ghost use Rattle.scope.specs.Active.{bare};
 ghost use Rattle.scope.specs.Legal.{IsLegal};
@@ -18,7 +18,7 @@ use std::alloc::{AllocError, Global};
 
 const NOTHING: &[u32] = &[];
 
-/// The numbers of the symbols of a statement that is neither a declaration nor an assertion, where they are known.
+/// The numbers of the symbols of a statement that declares nothing and is kept without hypotheses, where they are known.
 pub fn plain_numbers<'a>(names: &Names, stmt: &Stmt, noted: Option<&'a [u32]>) -> Option<&'a [u32]>
     requires { IfSome noted (λ numbers. AreNumbersOf (with_names names.now (symbols_by stmt.now)) stmt.now numbers.now) }
     ensures { IfSome result (λ numbers. ArePlainNumbers names.now stmt.now numbers.now) }
@@ -33,7 +33,6 @@ pub fn plain_numbers<'a>(names: &Names, stmt: &Stmt, noted: Option<&'a [u32]>) -
             constant: _,
             variable: _,
         } => noted,
-        Stmt::Ess { label: _, expr: _ } => noted,
         _ => None,
     }
 }

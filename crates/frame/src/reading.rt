@@ -3,9 +3,10 @@ ghost use Rattle.std.specs.Prelude.{◌≡◌, ◌+◌, ◌-◌, ◌<◌, ◌≤
 ghost use Rattle.mm_read.specs.declared.stmt.Stmt.{Stmt as Statement};
 ghost use Rattle.scope.specs.Active.{is_active, is_open, is_close, stmt_at, expr_of};
 ghost use Rattle.names.specs.Codes.{decode, AreDistinct};
-ghost use Rattle.frame.specs.ByPlaces.{AreBelow};
+ghost use Rattle.frame.specs.Below.{AreBelow};
 ghost use Rattle.frame.specs.FrameOf.{HasAssertion};
-ghost use Rattle.frame.specs.Reading.{IsMeaning, IsCited};
+ghost use Rattle.frame.specs.Reading.{IsMeaning};
+ghost use Rattle.frame.specs.Cited.{IsCited};
 ghost use Rattle.frame.specs.Links.{last_active, links_of};
 ghost use Rattle.frame.specs.Stored.{AreStored, statements_of, IsPlain, IsHypothesisAt};
 

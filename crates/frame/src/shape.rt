@@ -1,6 +1,6 @@
 //! What is read off a statement.
 ghost use Rattle.std.specs.Prelude.{◌≡◌, option_map};
-ghost use Rattle.scope.specs.Active.{bare, label_of, is_assertion};
+ghost use Rattle.scope.specs.Active.{bare, label_of, is_assertion, is_essential};
 ghost use Rattle.frame.specs.Stored.{kind_of};
 
 use entries::Kind;
@@ -58,4 +58,11 @@ pub fn is_assertion(stmt: &Stmt) -> bool
     ensures { result ≡ is_assertion stmt.now }
 {
     matches!(stmt, Stmt::Axiom { .. } | Stmt::Prove { .. })
+}
+
+/// Whether a statement is an essential hypothesis.
+pub fn is_essential(stmt: &Stmt) -> bool
+    ensures { result ≡ is_essential stmt.now }
+{
+    matches!(stmt, Stmt::Ess { .. })
 }

@@ -1,7 +1,7 @@
 //! What declarations replace, and how it comes back.
 ghost use Rattle.std.specs.Prelude.{◌≡◌, ℕ, ◌<◌, ◌≤◌, ◌==◌, ◌++◌, List, Some, length, take, map, slice_get, OnOk, if◌then◌else◌};
 ghost use Rattle.std.specs.List.{list_any};
-ghost use Rattle.frame.specs.ByPlaces.{AreBelow};
+ghost use Rattle.frame.specs.Below.{AreBelow};
 ghost use Rattle.frame.specs.declared.storage.Symbol.{Symbol as Declared};
 ghost use Rattle.frame.specs.Stored.{AreNumbered, Extends, HasTwo, ReadsAs, replaced_by, replaced_of, symbol_of, with_declared};
 

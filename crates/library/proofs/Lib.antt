@@ -1,4 +1,4 @@
-pub mod JobsLemmas
+pub mod UnprovedLemmas
 pub mod AskedLemmas
 pub mod TraceLemmas
 pub mod WalkLemmas

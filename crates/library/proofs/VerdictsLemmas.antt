@@ -1,11 +1,16 @@
 -- The table of verdicts is their list: what is looked up, and what is added.
-use Rattle.std.specs.Prelude.{◌≡◌, ℕ, Bool, true, false, ◌&&◌, ◌==◌, cond, List, [], ◌∷◌, ◌++◌, Option, Some, None, refl}
+use Rattle.std.specs.Prelude.{◌≡◌, ℕ, Bool, true, false, ◌&&◌, ◌==◌, cond, List, [], ◌∷◌, ◌++◌, Option, Some, None, IfSome, refl}
 use Rattle.std.specs.Map.{lookup}
 use Rattle.std.proofs.Common.{◌∙◌, ap}
 use Rattle.indexmap.specs.IndexMap.{insert_entry}
 use Rattle.library.specs.declared.verdict.Verdict.{Verdict}
-use Rattle.library.specs.LibraryOf.{status}
-use Rattle.library.specs.Ledger.{decided_of}
+use Rattle.mm_read.specs.Statements.{Database}
+use Rattle.library.specs.declared.entry.Entry.{Entry}
+use Rattle.library.specs.declared.entry.Entry.TheVariants.{Text, Charter}
+use Rattle.library.specs.declared.verdict.Verdict.TheVariants.{Added, Nothing, Repeat, Refused}
+use Rattle.library.specs.LibraryOf.{Decided, status}
+use Rattle.library.specs.Ledger.{decided_of, IsDecision, AreDecisions}
+use Rattle.library.specs.Judging.{Judges}
 
 pub lookup-status : (author serial : ℕ) (es : List ((ℕ × ℕ) × Verdict)) → lookup (λ k. (author == k.0) && (serial == k.1)) es ≡ status (decided_of es) author serial
 lookup-status author serial [] = refl
@@ -23,3 +28,27 @@ decided_of-insert author serial v (e ∷ es) h =
     let rest = none-cond ((author == e.0.0) && (serial == e.0.1)) e.1 (status (decided_of es) author serial) h in
     ap (λ b. decided_of (cond b ((e.0, v) ∷ es) (e ∷ insert_entry (λ (a b : ℕ × ℕ). (a.0 == b.0) && (a.1 == b.1)) es (author, serial) v))) rest.0
     ∙ ap (λ r. record { author = e.0.0; serial = e.0.1; verdict = e.1 } ∷ r) (decided_of-insert author serial v es rest.1)
+
+-- ---- what is decided is added or refused
+
+pub status-decided : (author serial : ℕ) (ds : List Decided) → AreDecisions ds → IfSome (status ds author serial) IsDecision
+status-decided author serial [] are = tt
+status-decided author serial (d ∷ ds) are = by ((author == d.author) && (serial == d.serial)) (status-decided author serial ds are.1)
+  where
+    by : (b : Bool) → IfSome (status ds author serial) IsDecision → IfSome (cond b (Some d.verdict) (status ds author serial)) IsDecision
+    by true rest = are.0
+    by false rest = rest
+
+pub decisions-more : (ds : List Decided) (d : Decided) → AreDecisions ds → IsDecision d.verdict → AreDecisions (ds ++ d ∷ [])
+decisions-more [] d are is = (is, tt)
+decisions-more (first ∷ ds) d are is = (are.0, decisions-more ds d are.1 is)
+
+pub judges-decision : (L L' : Database) (charter charter' : Option (List ℕ)) (entry : Entry) (v : Verdict) → Judges L charter entry v L' charter' → IsDecision v
+judges-decision L L' charter charter' (Text submission) Added j = tt
+judges-decision L L' charter charter' (Text submission) (Refused cause) j = tt
+judges-decision L L' charter charter' (Text submission) Nothing j = absurd j.0
+judges-decision L L' charter charter' (Text submission) Repeat j = absurd j.0
+judges-decision L L' charter charter' (Charter author serial names) Added j = tt
+judges-decision L L' charter charter' (Charter author serial names) (Refused cause) j = tt
+judges-decision L L' charter charter' (Charter author serial names) Nothing j = absurd j.0
+judges-decision L L' charter charter' (Charter author serial names) Repeat j = absurd j.0

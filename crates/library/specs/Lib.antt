@@ -11,4 +11,4 @@ pub mod Listed
 pub mod Uses
 pub mod Asked
 pub mod Marks
-pub mod Jobs
+pub mod Unproved

@@ -9,8 +9,8 @@ ghost use Rattle.library.specs.Good.{Good};
 ghost use Rattle.library.specs.Uses.{AreUsed, HasItems};
 ghost use Rattle.library.specs.Asked.{HasNoLabel, NamesProof, NamesNoProof, IsTrace, IsTreeOf, IsNoProof, SpellsTree, SpellsLargeTree};
 
+use crate::items::items_of;
 use crate::library::Library;
-use crate::proving::items_of;
 use crate::uses::axioms_used;
 use frame::Frames;
 use mm_lex::Word;
@@ -96,7 +96,7 @@ pub(crate) fn proof_at(
 }
 
 /// Whether a `$p` stands at the position.
-fn is_proof_at(statements: &[Stmt], at: usize) -> bool
+pub(crate) fn is_proof_at(statements: &[Stmt], at: usize) -> bool
     requires { (1 ≤ at) × (at ≤ length statements.now) }
     ensures { (s : Statement) → stmt_at statements.now at ≡ Some s → result ≡ is_provable s }
 {

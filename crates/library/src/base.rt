@@ -1,5 +1,6 @@
 //! Good statements, with what judges those that come behind them.
 ghost use Rattle.std.specs.Prelude.{◌≡◌, ℕ, ◌+◌, ◌*◌, ◌≤◌, ◌++◌, ◌≢◌, ◌↔◌, ◌⊎◌, [], length, take, drop, Ok, Err, Some, None, IfOk, OnErr, IsTrue, MatchResult, MatchOption};
+ghost use Rattle.std.specs.Fn.{FnReturnsAt};
 ghost use Rattle.mm_read.specs.Statements.{AreShaped};
 ghost use Rattle.scope.specs.Active.{bares, is_closed};
 ghost use Rattle.library.specs.Good.{Good};
@@ -7,11 +8,12 @@ ghost use Rattle.verify.specs.Derivations.{Derivation, derivation_of};
 ghost use Rattle.verify.specs.Right.{IsSmall};
 ghost use Rattle.library.specs.Asked.{HasNoLabel, NamesNoProof, IsTrace, IsTreeOf};
 ghost use Rattle.library.specs.Judging.{Begins, IsPlaced, IsUnproved, Extends};
+ghost use Rattle.library.specs.Unproved.{FindsLeast};
 
 use crate::asked::{AskFault, proof_at, trace_at, tree_at};
 use crate::entering::enter;
-use crate::pool::least_unproved_by;
-use crate::proving::{first_unproved, is_unfinished};
+use crate::items::is_unfinished;
+use crate::unproved::{Proofs, least_unproved};
 use crate::verdict::Cause;
 use frame::Frames;
 use mm_lex::Word;
@@ -19,9 +21,7 @@ use mm_read::Stmt;
 use scope::{Scope, Steps};
 use std::alloc::{AllocError, Global};
 use std::marker::Model;
-use std::thread::Threads;
 use verify::Tree;
-use verify_pool::Gate;
 
 /// Good statements as they were read, with the scope and the frames behind them. Contracts see the list of statements.
 #[derive(Drop)]
@@ -99,12 +99,15 @@ impl Base {
     /// Adds the statements whole, where they are good behind those that stand; else it answers why they are not.
     ///
     /// Errors: a growth was refused; nothing is added then. Cost: that of the statements added, two steps each.
-    pub(crate) fn extend(
+    pub(crate) fn extend<F: Fn(&Proofs<'_>) -> Result<Option<usize>, AllocError>>(
         &mut self,
         mut more: Vec<Stmt>,
         steps: &mut Steps,
+        least: &F,
     ) -> Result<Option<Cause>, AllocError>
-        requires { AreShaped more.items }
+        requires shaped { AreShaped more.items }
+        requires callable { F.IsAlwaysCallable least.now }
+        requires finds { FindsLeast (FnReturnsAt F.Fn least.now) }
         ensures judged { IfOk result (λ found. Extends self.old more.items found self.new) }
         ensures same { OnErr result (self.new ≡ self.old) }
         ensures counted { steps.new.count ≤ steps.old.count + 3 * length more.items }
@@ -118,43 +121,7 @@ impl Base {
             &self.statements,
             front,
             steps,
-        );
-        settle(
-            &mut self.statements,
-            &mut self.scope,
-            &mut self.frames,
-            front,
-            found,
-        )
-    }
-
-    /// Adds the statements as `extend` does, their proofs checked by some workers.
-    pub(crate) fn extend_with<G: Gate + Sync, R: Threads + Sync>(
-        &mut self,
-        rt: &R,
-        mut more: Vec<Stmt>,
-        steps: &mut Steps,
-        workers: usize,
-        gate: &G,
-    ) -> Result<Option<Cause>, AllocError>
-        requires shaped { AreShaped more.items }
-        requires workers { (1 ≤ workers) × (workers ≤ 16) }
-        ensures judged { IfOk result (λ found. Extends self.old more.items found self.new) }
-        ensures same { OnErr result (self.new ≡ self.old) }
-        ensures counted { steps.new.count ≤ steps.old.count + 3 * length more.items }
-    {
-        let front = self.statements.len();
-        Vec::append(&mut self.statements, &mut more)?;
-        let found = judge_with(
-            rt,
-            self.alloc,
-            &mut self.scope,
-            &mut self.frames,
-            &self.statements,
-            front,
-            steps,
-            workers,
-            gate,
+            least,
         );
         settle(
             &mut self.statements,
@@ -169,14 +136,17 @@ impl Base {
 /// Why the statements behind the first `front` may not stand there; none where they may.
 ///
 /// Errors: a growth was refused. Cost: that of these statements, two steps each.
-fn judge(
+fn judge<F: Fn(&Proofs<'_>) -> Result<Option<usize>, AllocError>>(
     alloc: Global,
     scope: &mut Scope,
     frames: &mut Frames,
     statements: &[Stmt],
     front: usize,
     steps: &mut Steps,
+    least: &F,
 ) -> Result<Option<Cause>, AllocError>
+    requires callable { F.IsAlwaysCallable least.now }
+    requires finds { FindsLeast (FnReturnsAt F.Fn least.now) }
     requires within { front ≤ length statements.now }
     requires shaped { AreShaped (drop front statements.now) }
     requires scope { scope.old.statements ≡ bares (take front statements.now) }
@@ -190,39 +160,7 @@ fn judge(
         None => {}
         Some((statement, rule)) => return Ok(Some(Cause::Rule { statement, rule })),
     }
-    match first_unproved(alloc, frames, statements, front)? {
-        None => Ok(None),
-        Some(at) => Ok(Some(unproved(&statements[at - 1], at - front))),
-    }
-}
-
-/// The same as `judge`, the proofs checked by some workers.
-fn judge_with<G: Gate + Sync, R: Threads + Sync>(
-    rt: &R,
-    alloc: Global,
-    scope: &mut Scope,
-    frames: &mut Frames,
-    statements: &[Stmt],
-    front: usize,
-    steps: &mut Steps,
-    workers: usize,
-    gate: &G,
-) -> Result<Option<Cause>, AllocError>
-    requires within { front ≤ length statements.now }
-    requires shaped { AreShaped (drop front statements.now) }
-    requires scope { scope.old.statements ≡ bares (take front statements.now) }
-    requires workers { (1 ≤ workers) × (workers ≤ 16) }
-    requires frames { frames.old.statements ≡ bares (take front statements.now) }
-    ensures placed { IfOk result (IsPlaced (take front statements.now) (drop front statements.now) scope.new frames.new) }
-    ensures begins { Begins frames.old.statements frames.new.statements }
-    ensures marked { scope.new.marked ≡ scope.old.marked }
-    ensures counted { steps.new.count ≤ steps.old.count + 2 * length (drop front statements.now) }
-{
-    match enter(scope, frames, &statements[front..], steps)? {
-        None => {}
-        Some((statement, rule)) => return Ok(Some(Cause::Rule { statement, rule })),
-    }
-    match least_unproved_by(rt, alloc, frames, statements, front, workers, gate)? {
+    match least_unproved(alloc, frames, statements, front, least)? {
         None => Ok(None),
         Some(at) => Ok(Some(unproved(&statements[at - 1], at - front))),
     }

@@ -4,7 +4,8 @@
 //! memory decides nothing.
 //!
 //! Reading order: `submission`, `charter`, `entry` (what a log holds), `verdict`; `library`; `reading` (a text and its charter),
-//! `base` (all or nothing), `entering` (the rules), `proving` (the proofs), `pool` (the same by workers), `verdicts`; `asked` (traces and trees), `uses`; `laws`.
+//! `base` (all or nothing), `entering` (the rules), `unproved` (the proofs), `verdicts`; `asked` (traces and trees), `items`,
+//! `uses`; `laws`.
 #![tactic(auto)]
 
 mod asked;
@@ -12,13 +13,13 @@ mod base;
 mod charter;
 mod entering;
 mod entry;
+mod items;
 mod laws;
 mod library;
 mod listed;
-mod pool;
-mod proving;
 mod reading;
 mod submission;
+mod unproved;
 mod uses;
 mod verdict;
 mod verdicts;

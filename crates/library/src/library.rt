@@ -1,17 +1,21 @@
 //! One replica: the statements that the entries of a log validly add, and the verdicts on them.
-ghost use Rattle.std.specs.Prelude.{◌≡◌, ◌≤◌, ℕ, None, Some, IfOk, OnErr, option_map};
+ghost use Rattle.std.specs.Prelude.{◌≡◌, ◌≤◌, ℕ, None, Some, IfOk, IfSome, OnErr, option_map};
+ghost use Rattle.std.specs.Fn.{FnReturnsAt};
 ghost use Rattle.mm_read.specs.Statements.{AreShaped};
 ghost use Rattle.library.specs.Charters.{AreNames};
 ghost use Rattle.library.specs.Good.{Good};
 ghost use Rattle.library.specs.LibraryOf.{Applies, empty, status};
+ghost use Rattle.library.specs.Ledger.{IsDecision};
 ghost use Rattle.library.specs.Kept.{IsWithinSteps, IsWithinEntry, IsWithinText};
 ghost use Rattle.library.specs.Judging.{Judges, JudgesText, JudgesCharter};
+ghost use Rattle.library.specs.Unproved.{FindsLeast};
 
 use crate::base::Base;
 use crate::charter::Names;
 use crate::entry::Entry;
 use crate::reading::{may_declare, read_text};
 use crate::submission::Submission;
+use crate::unproved::Proofs;
 use crate::verdict::{Cause, Verdict};
 use crate::verdicts::Verdicts;
 use mm_read::Stmt;
@@ -19,7 +23,7 @@ use scope::Steps;
 use std::alloc::{AllocError, Global};
 use std::marker::Model;
 use std::thread::Threads;
-use verify_pool::Gate;
+use verify_pool::{Gate, Workers, judge_all, judge_here};
 
 /// The statements added, the verdicts decided, and the charter that is there. Contracts see them as a replica, and the
 /// count of the steps that the library took.
@@ -64,6 +68,44 @@ impl Library {
         ensures same { OnErr result (self.new.replica ≡ self.old.replica) }
         ensures counted { IsWithinSteps self.old.replica (option_map (λ e. e.now) next.entry) self.old.steps self.new.steps }
     {
+        let alloc = self.alloc;
+        self.apply_by(next, &|proofs: &Proofs<'_>| judge_here(alloc, proofs))
+    }
+
+    /// Applies the next entry as `apply` does, its proofs checked by some workers side by side. Each passes the gate before
+    /// each proof; the jobs are the `$p` of the text, in order. No answer depends on the number of workers.
+    ///
+    /// Errors and steps: those of `apply`. Cost: that of the entry's own text, its proofs over the workers.
+    pub fn apply_with<G: Gate + Sync, R: Threads + Sync>(
+        &mut self,
+        rt: &R,
+        next: Option<&Entry>,
+        workers: Workers,
+        gate: &G,
+    ) -> Result<Verdict, AllocError>
+        ensures step { IfOk result (λ verdict. Applies self.old.replica (option_map (λ e. e.now) next.entry) verdict self.new.replica) }
+        ensures same { OnErr result (self.new.replica ≡ self.old.replica) }
+        ensures counted { IsWithinSteps self.old.replica (option_map (λ e. e.now) next.entry) self.old.steps self.new.steps }
+    {
+        let alloc = self.alloc;
+        self.apply_by(
+            next,
+            &|proofs: &Proofs<'_>| judge_all(rt, alloc, proofs, workers, gate),
+        )
+    }
+
+    /// Applies the next entry, where `least` answers of proofs the index of the least that is not right.
+    fn apply_by<F: Fn(&Proofs<'_>) -> Result<Option<usize>, AllocError>>(
+        &mut self,
+        next: Option<&Entry>,
+        least: &F,
+    ) -> Result<Verdict, AllocError>
+        requires callable { F.IsAlwaysCallable least.now }
+        requires finds { FindsLeast (FnReturnsAt F.Fn least.now) }
+        ensures step { IfOk result (λ verdict. Applies self.old.replica (option_map (λ e. e.now) next.entry) verdict self.new.replica) }
+        ensures same { OnErr result (self.new.replica ≡ self.old.replica) }
+        ensures counted { IsWithinSteps self.old.replica (option_map (λ e. e.now) next.entry) self.old.steps self.new.steps }
+    {
         let Some(entry) = next else {
             return Ok(Verdict::Nothing);
         };
@@ -78,52 +120,16 @@ impl Library {
             &mut self.charter,
             entry,
             &mut self.steps,
+            least,
         )?;
         self.verdicts.push(entry.author(), entry.serial(), verdict);
         Ok(verdict)
     }
 
-    /// Applies the next entry as `apply` does, its proofs checked by some workers side by side. Each passes the gate before
-    /// each proof; the jobs are the `$p` of the text, in order. No answer depends on the number of workers.
-    ///
-    /// Errors and steps: those of `apply`. Cost: that of the entry's own text, its proofs over the workers.
-    pub fn apply_with<G: Gate + Sync, R: Threads + Sync>(
-        &mut self,
-        rt: &R,
-        next: Option<&Entry>,
-        workers: usize,
-        gate: &G,
-    ) -> Result<Verdict, AllocError>
-        requires { (1 ≤ workers) × (workers ≤ 16) }
-        ensures step { IfOk result (λ verdict. Applies self.old.replica (option_map (λ e. e.now) next.entry) verdict self.new.replica) }
-        ensures same { OnErr result (self.new.replica ≡ self.old.replica) }
-        ensures counted { IsWithinSteps self.old.replica (option_map (λ e. e.now) next.entry) self.old.steps self.new.steps }
-    {
-        let Some(entry) = next else {
-            return Ok(Verdict::Nothing);
-        };
-        match self.verdicts.status(entry.author(), entry.serial()) {
-            Some(_first) => return Ok(Verdict::Repeat),
-            None => {}
-        }
-        self.verdicts.reserve()?;
-        let verdict = judge_with(
-            rt,
-            self.alloc,
-            &mut self.base,
-            &mut self.charter,
-            entry,
-            &mut self.steps,
-            workers,
-            gate,
-        )?;
-        self.verdicts.push(entry.author(), entry.serial(), verdict);
-        Ok(verdict)
-    }
-
-    /// The verdict first decided on the author's text or charter of that number. Takes no memory.
+    /// The verdict first decided on the author's text or charter of that number: Added or Refused. Takes no memory.
     pub fn status(&self, author: u64, serial: u64) -> Option<Verdict>
-        ensures { result ≡ status self.now.replica.decided author serial }
+        ensures first { result ≡ status self.now.replica.decided author serial }
+        ensures decided { IfSome result IsDecision }
     {
         self.verdicts.status(author, serial)
     }
@@ -158,88 +164,44 @@ impl Library {
 }
 
 /// The verdict on an entry that was not decided before, and what it changes.
-fn judge(
+fn judge<F: Fn(&Proofs<'_>) -> Result<Option<usize>, AllocError>>(
     alloc: Global,
     base: &mut Base,
     charter: &mut Option<Names>,
     entry: &Entry,
     steps: &mut Steps,
+    least: &F,
 ) -> Result<Verdict, AllocError>
+    requires callable { F.IsAlwaysCallable least.now }
+    requires finds { FindsLeast (FnReturnsAt F.Fn least.now) }
     ensures judged { IfOk result (λ verdict. Judges base.old charter.old entry.now verdict base.new charter.new) }
     ensures base { OnErr result (base.new ≡ base.old) }
     ensures charter { OnErr result (charter.new ≡ charter.old) }
     ensures counted { IsWithinEntry entry.now steps.old.count steps.new.count }
 {
     match entry {
-        Entry::Text(submission) => judge_text(alloc, base, charter, submission, steps),
+        Entry::Text(submission) => judge_text(alloc, base, charter, submission, steps, least),
         Entry::Charter { author, names, .. } => judge_charter(charter, *author, names),
     }
 }
 
 /// The verdict on a text that was not decided before, whose statements are added where they are good.
-fn judge_text(
+fn judge_text<F: Fn(&Proofs<'_>) -> Result<Option<usize>, AllocError>>(
     alloc: Global,
     base: &mut Base,
     charter: &Option<Names>,
     submission: &Submission,
     steps: &mut Steps,
+    least: &F,
 ) -> Result<Verdict, AllocError>
+    requires callable { F.IsAlwaysCallable least.now }
+    requires finds { FindsLeast (FnReturnsAt F.Fn least.now) }
     ensures judged { IfOk result (λ verdict. JudgesText base.old charter.now submission.now verdict base.new) }
     ensures base { OnErr result (base.new ≡ base.old) }
     ensures counted { IsWithinText submission.now steps.old.count steps.new.count }
 {
     match read_text(alloc, charter, submission)? {
-        Ok(statements) => match base.extend(statements, steps)? {
-            None => Ok(Verdict::Added),
-            Some(cause) => Ok(Verdict::Refused(cause)),
-        },
-        Err(cause) => Ok(Verdict::Refused(cause)),
-    }
-}
-
-/// The same as `judge`, the proofs checked by some workers.
-fn judge_with<G: Gate + Sync, R: Threads + Sync>(
-    rt: &R,
-    alloc: Global,
-    base: &mut Base,
-    charter: &mut Option<Names>,
-    entry: &Entry,
-    steps: &mut Steps,
-    workers: usize,
-    gate: &G,
-) -> Result<Verdict, AllocError>
-    requires { (1 ≤ workers) × (workers ≤ 16) }
-    ensures judged { IfOk result (λ verdict. Judges base.old charter.old entry.now verdict base.new charter.new) }
-    ensures base { OnErr result (base.new ≡ base.old) }
-    ensures charter { OnErr result (charter.new ≡ charter.old) }
-    ensures counted { IsWithinEntry entry.now steps.old.count steps.new.count }
-{
-    match entry {
-        Entry::Text(submission) => judge_text_with(
-            rt, alloc, base, charter, submission, steps, workers, gate,
-        ),
-        Entry::Charter { author, names, .. } => judge_charter(charter, *author, names),
-    }
-}
-
-/// The same as `judge_text`, the proofs checked by some workers.
-fn judge_text_with<G: Gate + Sync, R: Threads + Sync>(
-    rt: &R,
-    alloc: Global,
-    base: &mut Base,
-    charter: &Option<Names>,
-    submission: &Submission,
-    steps: &mut Steps,
-    workers: usize,
-    gate: &G,
-) -> Result<Verdict, AllocError>
-    requires { (1 ≤ workers) × (workers ≤ 16) }
-    ensures judged { IfOk result (λ verdict. JudgesText base.old charter.now submission.now verdict base.new) }
-    ensures base { OnErr result (base.new ≡ base.old) }
-    ensures counted { IsWithinText submission.now steps.old.count steps.new.count }
-{
-    match read_text(alloc, charter, submission)? {
-        Ok(statements) => match base.extend_with(rt, statements, steps, workers, gate)? {
+        Ok(statements) => match base.extend(statements, steps, least)? {
             None => Ok(Verdict::Added),
             Some(cause) => Ok(Verdict::Refused(cause)),
         },

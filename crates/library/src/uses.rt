@@ -7,7 +7,7 @@ ghost use Rattle.library.specs.Good.{Good};
 ghost use Rattle.library.specs.Uses.{AreUsed};
 ghost use Rattle.library.specs.Marks.{ArePlaces, place_of, mark, MarksItems, MarksCited, AreReached, axiom_label, axioms_in};
 
-use crate::proving::items_of;
+use crate::items::items_of;
 use frame::Frames;
 use mm_lex::{Word, Words};
 use mm_read::Stmt;

@@ -1,5 +1,6 @@
 //! The verdicts decided, by author and number.
-ghost use Rattle.std.specs.Prelude.{◌≡◌, ◌<◌, [], ◌∷◌, ◌++◌, None, OnOk};
+ghost use Rattle.std.specs.Prelude.{◌≡◌, ◌<◌, [], ◌∷◌, ◌++◌, None, IfSome, OnOk};
+ghost use Rattle.library.specs.Ledger.{IsDecision};
 ghost use Rattle.library.specs.LibraryOf.{status};
 
 use crate::verdict::Verdict;
@@ -15,11 +16,13 @@ pub(crate) struct Verdicts {
 
 impl Model for Verdicts {
     ghost use Rattle.indexmap.specs.IndexMap.{spare};
-    ghost use Rattle.library.specs.Ledger.{Ledger, decided_of};
+    ghost use Rattle.library.specs.Ledger.{Ledger, decided_of, AreDecisions};
 
     ghost Value = { Ledger };
 
     ghost view = { λ a. record { decided = decided_of a.kept.entries; room = spare a.kept } };
+
+    ghost invariant = { λ a. AreDecisions (decided_of a.kept.entries) };
 }
 
 impl Verdicts {
@@ -34,7 +37,8 @@ impl Verdicts {
 
     /// The verdict on the author's entry of that number. Cost: one look-up.
     pub(crate) fn status(&self, author: u64, serial: u64) -> Option<Verdict>
-        ensures { result ≡ status self.now.decided author serial }
+        ensures first { result ≡ status self.now.decided author serial }
+        ensures decided { IfSome result IsDecision }
     {
         self.kept.get(&(author, serial)).copied()
     }
@@ -51,6 +55,7 @@ impl Verdicts {
     pub(crate) fn push(&mut self, author: u64, serial: u64, verdict: Verdict)
         requires new { status self.old.decided author serial ≡ None }
         requires room { 0 < self.old.room }
+        requires decided { IsDecision verdict }
         ensures { self.new.decided ≡ self.old.decided ++ record { author = author; serial = serial; verdict = verdict } ∷ [] }
     {
         if self.kept.insert((author, serial), verdict).is_err() {

@@ -7,7 +7,7 @@ use library::{Cause, Entry, Library, Verdict};
 use std::alloc::Global;
 use std::sync::atomic::{AtomicBool, Ordering};
 use std::thread::Threads;
-use verify_pool::{Gate, OpenGate, Place};
+use verify_pool::{Gate, OpenGate, Place, Workers};
 
 /// Texts whose proofs several workers share, and the verdict on each.
 const ROWS: [(&[u8], Verdict); 4] = [
@@ -76,9 +76,9 @@ fn asked_again<G: Gate + Sync, R: Threads + Sync>(
 ) -> Option<Verdict>
     requires { (1 ≤ workers) × (workers ≤ 16) }
 {
-    match library.apply_with(rt, Some(entry), workers, gate) {
+    match library.apply_with(rt, Some(entry), Workers::of(workers), gate) {
         Ok(verdict) => Some(verdict),
-        Err(_) => library.apply_with(rt, Some(entry), workers, gate).ok(),
+        Err(_) => library.apply_with(rt, Some(entry), Workers::of(workers), gate).ok(),
     }
 }
 

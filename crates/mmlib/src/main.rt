@@ -1,31 +1,7 @@
-//! `mmlib`: formal mathematics in the Metamath language.
-//!
-//! Reading order: `program` (`run`, what a command line does), `commands` (its words), `streams`
-//! (what is read and written), `outline`, `rules`; `database` (`check`, `tree`, `trace`), `tree_text`,
-//! `verdict_text`; `play`, with `script_input` (its lines, which crate `scripts` reads), `answers` and `printed` (what they
-//! answer); `serve`, with `workers` and `node_threads`.
+//! `mmlib`: formal mathematics in the Metamath language. The program's arguments and streams; crate `program` says what it does.
 #![tactic(auto)]
 
-mod answers;
-mod commands;
-mod database;
-mod node_threads;
-mod outline;
-mod play;
-mod printed;
-mod program;
-mod rules;
-mod script_input;
-mod serve;
-mod streams;
-#[cfg(test)]
-mod tests;
-mod tree_text;
-mod verdict_text;
-mod weights;
-mod workers;
-
-use program::run;
+use program::{print, run};
 use std::alloc::{AllocError, Global};
 use std::process::ExitCode;
 use std::{env, io};
@@ -42,12 +18,12 @@ fn main(rt: HostRuntime) -> ExitCode {
                 &mut output,
                 &mut faults,
             ),
-            Err(AllocError) => streams::print(&mut output, b"refused Memory\n", 1),
+            Err(AllocError) => print(&mut output, b"refused Memory\n", 1),
         },
         Err(error) if error.kind() == io::ErrorKind::OutOfMemory => {
-            streams::print(&mut output, b"refused Memory\n", 1)
+            print(&mut output, b"refused Memory\n", 1)
         }
-        Err(_) => streams::print(&mut faults, b"error: the arguments are no text\n", 2),
+        Err(_) => print(&mut faults, b"error: the arguments are no text\n", 2),
     };
     ExitCode::from(status)
 }

@@ -1,10 +1,9 @@
 -- Names and the places where they stand.
-use Rattle.std.specs.Prelude.{◌≡◌, ℕ, zero, suc, ◌+◌, ◌<◌, Bool, true, false, not, cond, ◌||◌, nat_lt, length, List, [], ◌∷◌, ◌++◌, map, position, Option, Some, None, get_or, refl}
+use Rattle.std.specs.Prelude.{◌≡◌, ℕ, zero, suc, ◌+◌, ◌<◌, Bool, true, false, not, cond, ◌||◌, nat_lt, length, List, [], ◌∷◌, ◌++◌, map, Option, Some, None, get_or, refl}
 use Rattle.std.specs.List.{list_any, position_or_len, prefix_len}
 use Rattle.std.proofs.Common.{sym, ◌∙◌, ap, true≢false, arith, length-append}
 use Rattle.std.proofs.lemmas.List.Quantifiers.{position-Some}
 use Rattle.std.proofs.lemmas.Slice.Eq.{bytes_eq-Decides}
-use Rattle.std.proofs.lemmas.List.{length-map}
 use Rattle.mm_lex.specs.Alphabet.{Name, name_eq, has_name}
 use Rattle.names.specs.Codes.{name_at, code_of, AreDistinct, number_in}
 

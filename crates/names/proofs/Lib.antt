@@ -1,6 +1,9 @@
-pub mod CodesLemmas
+pub mod OverflowLemmas
+pub mod KeptLemmas
 pub mod AddedLemmas
+pub mod CodesLemmas
 pub mod DistinctLemmas
 pub mod KeysLemmas
-pub mod TextsLemmas
 pub mod TableLemmas
+pub mod TextsLemmas
+pub mod PutLemmas

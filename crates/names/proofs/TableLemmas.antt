@@ -1,18 +1,21 @@
 -- A table by keys: what is put there is found, and what is not found is not there.
-use Rattle.std.specs.Prelude.{◌≡◌, ◌≢◌, ℕ, zero, suc, ◌+◌, ◌<◌, ◌≤◌, ◌^◌, Bool, true, false, ◌||◌, ◌⊎◌, List, [], ◌∷◌, ◌++◌, length, take, drop, slice_get, Some, None, refl}
-use Rattle.std.proofs.Common.{sym, ◌∙◌, ap, subst, arith, inl, inr, slice_set, length-append, add-one}
+use Rattle.std.specs.Prelude.{◌≡◌, ◌≢◌, ℕ, zero, suc, ◌+◌, ◌<◌, ◌≤◌, ◌^◌, ◌⊎◌, List, [], ◌∷◌, ◌++◌, length, take, slice_get, Option, Some, None, IfSome, refl}
+use Rattle.std.proofs.Common.{sym, ◌∙◌, ap, subst, arith, inl, inr, slice_set, length-append}
 use Rattle.std.proofs.lemmas.Bool.{cases_lt}
 use Rattle.std.specs.Prelude.{unwrap_or, replicate}
-use Rattle.std.proofs.lemmas.List.{length-set, length-replicate, get_or-replicate, take-append-drop}
+use Rattle.std.proofs.lemmas.List.{length-set, length-replicate, get_or-replicate}
 use Rattle.std.proofs.lemmas.Option.{slice_get_within, unwrap_or-slice_get}
-use Rattle.mm_lex.specs.Alphabet.{Name, name_eq, has_name}
-use Rattle.names.specs.Codes.{name_at, code_of, AreDistinct}
+use Rattle.mm_lex.specs.Alphabet.{Name}
+use Rattle.names.specs.Codes.{name_at, code_of}
 use Rattle.names.specs.declared.table.Slot.{Slot}
-use Rattle.names.specs.declared.table.TheConstants.{NO_NAME}
+use Rattle.names.specs.declared.table.TheConstants.{NO_NAME, REACH}
+use Rattle.names.specs.declared.kept.Kept.{Kept}
+use Rattle.names.specs.declared.overflow.Overflow.{Overflow}
+use Rattle.names.specs.Overflow.{number_of}
 use Rattle.names.specs.Keys.{AreBytes, key_of}
-use Rattle.names.specs.Table.{place_of, slot_at, IsTaken, IsHeld, AreHeld, HasKey, IsTable, IsFree, IsPassed}
+use Rattle.names.specs.Table.{place_of, slot_at, IsTaken, IsHeld, AreHeld, AreFound, HasKey, AreSound, AreUnused, IsFree, IsPassed}
 use Rattle.names.proofs.CodesLemmas.{code-absent}
-use Rattle.names.proofs.DistinctLemmas.{name_at-more, name_at-last, name_at-take, length-take-below}
+use Rattle.names.proofs.DistinctLemmas.{name_at-more, name_at-take}
 
 some-same : {A : Type 0} {x y : A} → Some x ≡ Some y → x ≡ y
 some-same e = cc
@@ -28,32 +31,46 @@ passed-one slots names name key step t at taken other s g =
 no-name : (k n : ℕ) → k < n → n < 2 ^ 32 → k ≡ NO_NAME → ⊥
 no-name k n p q e = omega (arith, p, q, e)
 
--- the search met a slot without number, or each slot: then no name is this one
-pub not-found : (slots : List Slot) (names : List Name) (name : Name) (key step : ℕ) → key ≡ key_of name → AreHeld slots names → length names < 2 ^ 32
-    → ((i : ℕ) → i < step → IsPassed slots names name key i) → (length slots ≤ step) ⊎ ((s : Slot) × slot_at slots key step s × (s.number ≡ NO_NAME))
-    → code_of names name ≡ None
-not-found slots names name key step own held few passed end = code-absent names name none
+-- the search met a slot without number, or each slot that it may, and the name does not stand apart: then no name is this one
+pub not-found : (slots : List Slot) (a : Overflow) (names : List Name) (name : Name) (key step : ℕ) → key ≡ key_of name → AreFound slots a names → length names < 2 ^ 32
+    → ((i : ℕ) → i < step → IsPassed slots names name key i) → ((length slots ≤ step) ⊎ (REACH ≤ step)) ⊎ ((s : Slot) × slot_at slots key step s × (s.number ≡ NO_NAME))
+    → ((k : ℕ) → k < length names → name_at names k ≡ name → number_of a name ≢ Some k) → code_of names name ≡ None
+not-found slots a names name key step own found few passed end other = code-absent names name none
   where
     none : (k : ℕ) → k < length names → name_at names k ≡ name → ⊥
-    none k lt e = by end (cases_lt h.step step)
+    none k lt e = elim (found k lt) [
+      | inl h ↦ in-table (subst (λ n. IsHeld slots n k) (ap key_of e ∙ sym own) h)
+      | inr o ↦ other k lt e (ap (number_of a) (sym e) ∙ o)
+    ]
       where
-        h : IsHeld slots key k
-        h = subst (λ n. IsHeld slots n k) (ap key_of e ∙ sym own) (held k lt)
-
-        met : h.step < step → ⊥
-        met p = (passed h.step p (record { key = key; number = k }) h.there).1 refl lt e
-
-        by : (length slots ≤ step) ⊎ ((s : Slot) × slot_at slots key step s × (s.number ≡ NO_NAME)) → (h.step < step) ⊎ (step ≤ h.step) → ⊥
-        by end (inl p) = met p
-        by (inl all) (inr p) = let w = h.within in absurd (omega (arith, w, all, p))
-        by (inr f) (inr p) = later f (cases_lt step h.step)
+        in-table : IsHeld slots key k → ⊥
+        in-table h = by end (cases_lt h.step step)
           where
-            later : (s : Slot) × slot_at slots key step s × (s.number ≡ NO_NAME) → (step < h.step) ⊎ (h.step ≤ step) → ⊥
-            later g (inl q) = h.before step q g.0 g.1 g.2
-            later g (inr q) =
-                let same : h.step ≡ step = omega (arith, p, q) in
-                let there : slot_at slots key step (record { key = key; number = k }) = subst (λ i. slot_at slots key i (record { key = key; number = k })) same h.there in
-                no-name k (length names) lt few (ap (λ (u : Slot). u.number) (same-slot slots key step (record { key = key; number = k }) g.0 there g.1) ∙ g.2)
+            met : h.step < step → ⊥
+            met p = (passed h.step p (record { key = key; number = k }) h.there).1 refl lt e
+
+            past : (length slots ≤ step) ⊎ (REACH ≤ step) → step ≤ h.step → ⊥
+            past (inl all) p = let w = h.within in absurd (omega (arith, w, all, p))
+            past (inr all) p = let w = h.near in absurd (omega (arith, w, all, p))
+
+            by : ((length slots ≤ step) ⊎ (REACH ≤ step)) ⊎ ((s : Slot) × slot_at slots key step s × (s.number ≡ NO_NAME)) → (h.step < step) ⊎ (step ≤ h.step) → ⊥
+            by end (inl p) = met p
+            by (inl all) (inr p) = past all p
+            by (inr f) (inr p) = later f (cases_lt step h.step)
+              where
+                later : (s : Slot) × slot_at slots key step s × (s.number ≡ NO_NAME) → (step < h.step) ⊎ (h.step ≤ step) → ⊥
+                later g (inl q) = h.before step q g.0 g.1 g.2
+                later g (inr q) =
+                    let same : h.step ≡ step = omega (arith, p, q) in
+                    let there : slot_at slots key step (record { key = key; number = k }) = subst (λ i. slot_at slots key i (record { key = key; number = k })) same h.there in
+                    no-name k (length names) lt few (ap (λ (u : Slot). u.number) (same-slot slots key step (record { key = key; number = k }) g.0 there g.1) ∙ g.2)
+
+-- the same of what the overflow answers then
+pub ended : (slots : List Slot) (a : Overflow) (names : List Name) (name : Name) (key step : ℕ) (r : Option ℕ) → key ≡ key_of name → AreFound slots a names → length names < 2 ^ 32
+    → ((i : ℕ) → i < step → IsPassed slots names name key i) → ((length slots ≤ step) ⊎ (REACH ≤ step)) ⊎ ((s : Slot) × slot_at slots key step s × (s.number ≡ NO_NAME))
+    → IfSome r (λ n. code_of names name ≡ Some n) → (r ≡ None → (k : ℕ) → k < length names → name_at names k ≡ name → number_of a name ≢ Some k) → r ≡ code_of names name
+ended slots a names name key step (Some n) own found few passed end some none = sym some
+ended slots a names name key step None own found few passed end some none = sym (not-found slots a names name key step own found few passed end (none refl))
 
 get-set_other : {A : Type 0} (xs : List A) (i n : ℕ) (v : A) → n ≢ i → slice_get (slice_set xs i v) n ≡ slice_get xs n
 get-set_other [] i n v ne = refl
@@ -98,6 +115,7 @@ held-set slots at new key k free ne known h =
     record {
       step = h.step;
       within = omega (arith, w, l);
+      near = h.near;
       there = ap (λ n. slice_get (slice_set slots at new) (place_of key h.step n)) l
           ∙ (get-set_other slots at (place_of key h.step (length slots)) new (λ e. known (free (record { key = key; number = k }) (ap (slice_get slots) (sym e) ∙ h.there))) ∙ h.there);
       before = λ i p. taken-set slots at new key i ne (h.before i p);
@@ -111,60 +129,45 @@ put-new slots at key k f known =
     record {
       step = f.step;
       within = omega (arith, w, l);
+      near = f.near;
       there = ap (λ n. slice_get (slice_set slots at new) (place_of key f.step n)) l
           ∙ (ap (slice_get (slice_set slots at new)) f.place ∙ get-set_same slots at new f.inside);
       before = λ i p. taken-set slots at new key i known (f.before i p);
     }
 
--- slots without number are the table of no names
-pub no-names : (slots old : List Slot) (m n : ℕ) (free : Slot) → old ≡ [] → slots ≡ take m old ++ replicate n free → free.number ≡ NO_NAME → IsTable slots [] NO_NAME
-no-names slots old m n free nothing e none = record {
-  held = λ k h. absurd (omega (arith, h));
-  keys = λ i s g h. absurd (taken i s (sym (ap (λ xs. slice_get xs i) (e ∙ (ap (λ xs. take m xs ++ replicate n free) nothing ∙ front m))) ∙ g) h);
-}
+-- slots that are all alike
+pub unused : (slots old : List Slot) (m n : ℕ) (free : Slot) → old ≡ [] → slots ≡ take m old ++ replicate n free → free.number ≡ NO_NAME → AreUnused slots
+unused slots old m n free nothing e none i s g = alike (sym (ap (λ xs. slice_get xs i) (e ∙ (ap (λ xs. take m xs ++ replicate n free) nothing ∙ front m))) ∙ g)
   where
     front : (m : ℕ) → take m [] ++ replicate n free ≡ replicate n free
     front zero = refl
     front (suc m) = refl
 
-    taken : (i : ℕ) (s : Slot) → slice_get (replicate n free) i ≡ Some s → s.number < NO_NAME → ⊥
-    taken i s g h =
+    alike : slice_get (replicate n free) i ≡ Some s → s.number ≡ NO_NAME
+    alike g =
         let w = slice_get_within (replicate n free) i s g in
         let l = length-replicate n free in
         let same : s ≡ free =
         sym (ap (λ r. unwrap_or r free) g) ∙ (unwrap_or-slice_get (replicate n free) i free ∙ get_or-replicate n i free free (omega (arith, w, l))) in
-        let number = ap (λ (u : Slot). u.number) same in
-        omega (arith, h, number, none)
+        ap (λ (u : Slot). u.number) same ∙ none
 
-put-held : (slots : List Slot) (names : List Name) (name : Name) (key at n : ℕ) → key ≡ key_of name → n ≡ length names → n < NO_NAME → AreHeld slots names → IsFree slots key at
-    → AreHeld (slice_set slots at (record { key = key; number = n })) (names ++ name ∷ [])
-put-held slots names name key at n own count few held f k lt = by (cases_lt k (length names))
+pub unused-sound : (slots : List Slot) (names : List Name) → AreUnused slots → AreSound slots names NO_NAME
+unused-sound slots names free i s g below = let none = free i s g in absurd (omega (arith, none, below))
+
+-- one more name is put where its key meets the first free slot
+pub put-held : (slots : List Slot) (a : Kept) (names : List Name) (key at n : ℕ) → key ≡ key_of (name_at names n) → n < NO_NAME → AreHeld n slots a names → IsFree slots key at
+    → AreHeld (n + 1) (slice_set slots at (record { key = key; number = n })) a names
+put-held slots a names key at n own few held f k lt ne = by (cases_lt k n)
   where
-    ne : n ≢ NO_NAME
-    ne e = absurd (omega (arith, few, e))
+    known : n ≢ NO_NAME
+    known e = absurd (omega (arith, few, e))
 
-    by : (k < length names) ⊎ (length names ≤ k) → IsHeld (slice_set slots at (record { key = key; number = n })) (key_of (name_at (names ++ name ∷ []) k)) k
-    by (inl p) =
-        subst (λ x. IsHeld (slice_set slots at (record { key = key; number = n })) (key_of x) k) (sym (name_at-more names (name ∷ []) k p))
-        (held-set slots at (record { key = key; number = n }) (key_of (name_at names k)) k f.free ne (λ e. absurd (omega (arith, p, count, few, e))) (held k p))
+    by : (k < n) ⊎ (n ≤ k) → IsHeld (slice_set slots at (record { key = key; number = n })) (key_of (name_at names k)) k
+    by (inl p) = held-set slots at (record { key = key; number = n }) (key_of (name_at names k)) k f.free known (λ e. absurd (omega (arith, p, few, e))) (held k p ne)
     by (inr p) =
-        let l = length-append names (name ∷ []) in
-        let same : n ≡ k = omega (arith, p, lt, l, count) in
-        let e : key ≡ key_of (name_at (names ++ name ∷ []) k) = own ∙ ap key_of (sym (name_at-last names name) ∙ ap (name_at (names ++ name ∷ [])) (sym count ∙ same)) in
-        subst (λ h. IsHeld (slice_set slots at (record { key = key; number = n })) h k) e
-        (subst (IsHeld (slice_set slots at (record { key = key; number = n })) key) same (put-new slots at key n f ne))
-
--- a slot keeps the key of its name when others come
-key-more : (names more : List Name) (s : Slot) → HasKey names s → HasKey (names ++ more) s
-key-more names more s h =
-    let l = length-append names more in
-    let w = h.within in
-    let same = sym (name_at-more names more s.number w) in
-    record {
-      within = omega (arith, l, w);
-      bytes = subst AreBytes same h.bytes;
-      key = h.key ∙ ap key_of same;
-    }
+        let same : n ≡ k = omega (arith, p, lt) in
+        subst (λ h. IsHeld (slice_set slots at (record { key = key; number = n })) h k) (own ∙ ap (λ i. key_of (name_at names i)) same)
+        (subst (IsHeld (slice_set slots at (record { key = key; number = n })) key) same (put-new slots at key n f known))
 
 -- the slot that is written, or one that stood there
 set-cases : (slots : List Slot) (at : ℕ) (new : Slot) (i : ℕ) (s : Slot) → at < length slots → slice_get (slice_set slots at new) i ≡ Some s → (s ≡ new) ⊎ ((i : ℕ) × (slice_get slots i ≡ Some s))
@@ -177,39 +180,31 @@ set-cases slots at new i s inside g = by (cases_lt i at) (cases_lt at i)
         let same : i ≡ at = omega (arith, p, q) in
         inl (some-same (sym g ∙ (ap (slice_get (slice_set slots at new)) same ∙ get-set_same slots at new inside)))
 
--- one more name is put where its key meets the first free slot
-pub put : (slots : List Slot) (names : List Name) (name : Name) (key at n sound : ℕ) → key ≡ key_of name → AreBytes name → n ≡ length names → n < NO_NAME → IsFree slots key at → IsTable slots names sound
-    → IsTable (slice_set slots at (record { key = key; number = n })) (names ++ name ∷ []) sound
-put slots names name key at n sound own bytes count few free old = record {
-  held = put-held slots names name key at n own count few old.held free;
-  keys = λ i s g below. by s below (set-cases slots at (record { key = key; number = n }) i s free.inside g);
-}
+pub put-sound : (slots : List Slot) (names : List Name) (at sound : ℕ) (new : Slot) → at < length slots → HasKey names new → AreSound slots names sound → AreSound (slice_set slots at new) names sound
+put-sound slots names at sound new inside here old i s g below = by (set-cases slots at new i s inside g)
   where
-    here : HasKey (names ++ name ∷ []) (record { key = key; number = n })
-    here =
-        let l = length-append names (name ∷ []) in
-        let last : name_at (names ++ name ∷ []) n ≡ name = ap (name_at (names ++ name ∷ [])) count ∙ name_at-last names name in
+    by : (s ≡ new) ⊎ ((i : ℕ) × (slice_get slots i ≡ Some s)) → HasKey names s
+    by (inl e) = subst (HasKey names) (sym e) here
+    by (inr f) = old f.0 s f.1 below
+
+-- a slot keeps the key of its name when others come
+pub sound-more : (slots : List Slot) (names more : List Name) (sound : ℕ) → AreSound slots names sound → AreSound slots (names ++ more) sound
+sound-more slots names more sound old i s g below = key-more (old i s g below)
+  where
+    key-more : HasKey names s → HasKey (names ++ more) s
+    key-more h =
+        let l = length-append names more in
+        let w = h.within in
+        let same = sym (name_at-more names more s.number w) in
         record {
-          within = omega (arith, l, count);
-          bytes = subst AreBytes (sym last) bytes;
-          key = own ∙ ap key_of (sym last);
+          within = omega (arith, l, w);
+          bytes = subst AreBytes same h.bytes;
+          key = h.key ∙ ap key_of same;
         }
 
-    by : (s : Slot) → s.number < sound → (s ≡ record { key = key; number = n }) ⊎ ((i : ℕ) × (slice_get slots i ≡ Some s)) → HasKey (names ++ name ∷ []) s
-    by s below (inl e) = subst (HasKey (names ++ name ∷ [])) (sym e) here
-    by s below (inr f) = key-more names (name ∷ []) s (old.keys f.0 s f.1 below)
-
-held-take : (slots : List Slot) (names : List Name) (n : ℕ) → AreHeld slots names → AreHeld slots (take n names)
-held-take slots names n held k lt =
-    let l = length-take-below n names in
-    subst (λ x. IsHeld slots (key_of x) k) (sym (name_at-take n names k lt)) (held k (omega (arith, lt, l)))
-
 -- where names are taken away, the slots below those are sound
-pub table-take : (slots : List Slot) (names : List Name) (n sound less : ℕ) → less ≤ sound → less ≤ n → IsTable slots names sound → IsTable slots (take n names) less
-table-take slots names n sound less p q old = record {
-  held = held-take slots names n old.held;
-  keys = λ i s g below. kept s below (old.keys i s g (omega (arith, p, below)));
-}
+pub sound-take : (slots : List Slot) (names : List Name) (n sound less : ℕ) → less ≤ sound → less ≤ n → AreSound slots names sound → AreSound slots (take n names) less
+sound-take slots names n sound less p q old i s g below = kept (old i s g (omega (arith, p, below)))
   where
     inside : (n : ℕ) (names : List Name) (k : ℕ) → k < length names → k < n → k < length (take n names)
     inside zero names k p q = absurd (omega (arith, q))
@@ -217,8 +212,8 @@ table-take slots names n sound less p q old = record {
     inside (suc n) (x ∷ names) zero p q = omega arith
     inside (suc n) (x ∷ names) (suc k) p q = let r = inside n names k (omega (arith, p)) (omega (arith, q)) in omega (arith, r)
 
-    kept : (s : Slot) → s.number < less → HasKey names s → HasKey (take n names) s
-    kept s below h =
+    kept : HasKey names s → HasKey (take n names) s
+    kept h =
         let w = h.within in
         let within : s.number < length (take n names) = inside n names s.number w (omega (arith, q, below)) in
         let same = sym (name_at-take n names s.number within) in

@@ -1,3 +1,4 @@
 pub mod Codes
 pub mod Keys
+pub mod Overflow
 pub mod Table

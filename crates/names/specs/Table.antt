@@ -1,13 +1,17 @@
 -- Names by number, and the table in which their numbers are found.
 -- The code's own form: no clause of a scope cites it.
-use Rattle.std.specs.Prelude.{◌≡◌, ◌≢◌, ℕ, ◌+◌, ◌-◌, ◌*◌, ◌%◌, ◌^◌, ◌<◌, ◌≤◌, List, [], ◌∷◌, length, map, Some, slice_get, slice_range, bit_and}
+use Rattle.std.specs.Prelude.{◌≡◌, ◌≢◌, ◌⊎◌, ℕ, ◌+◌, ◌-◌, ◌*◌, ◌/◌, ◌%◌, ◌^◌, ◌<◌, ◌≤◌, List, [], ◌∷◌, length, map, Some, get_or, slice_get, slice_range, bit_and}
 use Rattle.std.specs.Int.{w64, swap_bytes}
 use Rattle.mm_lex.specs.Alphabet.{Name}
 use Rattle.names.specs.Codes.{name_at}
 use Rattle.names.specs.declared.table.Slot.{Slot}
-use Rattle.names.specs.declared.table.TheConstants.{NO_NAME, FACTOR}
+use Rattle.names.specs.declared.table.TheConstants.{NO_NAME, REACH, FACTOR}
+use Rattle.names.specs.declared.keys.TheConstants.{APART}
+use Rattle.names.specs.declared.kept.Kept.{Kept}
+use Rattle.names.specs.declared.overflow.Overflow.{Overflow}
 use Rattle.names.specs.declared.texts.Span.{Span}
 use Rattle.names.specs.Keys.{AreBytes, key_of}
+use Rattle.names.specs.Overflow.{number_of}
 
 -- the parts of a buffer
 abbrev pub cut : List ℕ → List Span → List Name
@@ -29,7 +33,7 @@ spread key = swap_bytes w64 (key * FACTOR % 2 ^ 64)
 
 -- where the table is looked at in a step, by the key and the table's length
 abbrev pub place_of : ℕ → ℕ → ℕ → ℕ
-place_of key step len = bit_and ((spread key + step) % 2 ^ 64) (len - 1)
+place_of key step len = bit_and ((spread key + step * (step + 1) / 2) % 2 ^ 64) (len - 1)
 
 abbrev pub slot_at : List Slot → ℕ → ℕ → Slot → Type 0
 slot_at slots key step s = slice_get slots (place_of key step (length slots)) ≡ Some s
@@ -42,11 +46,9 @@ IsTaken slots key step = (s : Slot) → slot_at slots key step s → s.number �
 pub record IsHeld (slots : List Slot) (key number : ℕ) : Type 0 where
   pub step : ℕ
   pub within : step < length slots
+  pub near : step < REACH
   pub there : slot_at slots key step (record { key = key; number = number })
   pub before : (i : ℕ) → i < step → IsTaken slots key i
-
-abbrev pub AreHeld : List Slot → List Name → Type 0
-AreHeld slots names = (k : ℕ) → k < length names → IsHeld slots (key_of (name_at names k)) k
 
 -- a slot with the key of the name that has its number now
 pub record HasKey (names : List Name) (s : Slot) : Type 0 where
@@ -54,15 +56,46 @@ pub record HasKey (names : List Name) (s : Slot) : Type 0 where
   pub bytes : AreBytes (name_at names s.number)
   pub key : s.key ≡ key_of (name_at names s.number)
 
--- the table of these names. Slots with lower numbers have the keys of the names that have these numbers now
-pub record IsTable (slots : List Slot) (names : List Name) (sound : ℕ) : Type 0 where
-  pub held : AreHeld slots names
-  pub keys : (i : ℕ) (s : Slot) → slice_get slots i ≡ Some s → s.number < sound → HasKey names s
+-- slots with lower numbers have the keys of the names that have these numbers now
+abbrev pub AreSound : List Slot → List Name → ℕ → Type 0
+AreSound slots names sound = (i : ℕ) (s : Slot) → slice_get slots i ≡ Some s → s.number < sound → HasKey names s
+
+abbrev pub AreUnused : List Slot → Type 0
+AreUnused slots = (i : ℕ) (s : Slot) → slice_get slots i ≡ Some s → s.number ≡ NO_NAME
+
+-- the key of a name, by its number, or the name stands apart
+pub record IsKept (a : Kept) (x : Name) (k : ℕ) : Type 0 where
+  pub there : k < length a.keys.items
+  pub bytes : AreBytes x
+  pub key : get_or a.keys.items k 0 ≢ APART → get_or a.keys.items k 0 ≡ key_of x
+  pub apart : get_or a.keys.items k 0 ≡ APART → number_of a.overflow x ≡ Some k
+
+abbrev pub AreKept : Kept → List Name → Type 0
+AreKept a names = (k : ℕ) → k < length names → IsKept a (name_at names k) k
+
+-- what stood apart stands apart still
+abbrev pub AreFewer : Kept → Kept → Type 0
+AreFewer a b = (k : ℕ) → get_or b.keys.items k 0 ≢ APART → get_or a.keys.items k 0 ≢ APART
+
+-- of the first names those that do not stand apart are in the table
+abbrev pub AreHeld : ℕ → List Slot → Kept → List Name → Type 0
+AreHeld n slots a names = (k : ℕ) → k < n → get_or a.keys.items k 0 ≢ APART → IsHeld slots (key_of (name_at names k)) k
+
+-- each name is in the table or stands apart
+abbrev pub AreFound : List Slot → Overflow → List Name → Type 0
+AreFound slots a names = (k : ℕ) → k < length names → IsHeld slots (key_of (name_at names k)) k ⊎ (number_of a (name_at names k) ≡ Some k)
+
+-- the table of these names
+pub record IsTable (slots : List Slot) (a : Kept) (names : List Name) (sound : ℕ) : Type 0 where
+  pub kept : AreKept a names
+  pub held : AreHeld (length names) slots a names
+  pub keys : AreSound slots names sound
 
 -- the first slot without number that is met by a key
 pub record IsFree (slots : List Slot) (key at : ℕ) : Type 0 where
   pub step : ℕ
   pub within : step < length slots
+  pub near : step < REACH
   pub place : place_of key step (length slots) ≡ at
   pub inside : at < length slots
   pub free : (s : Slot) → slice_get slots at ≡ Some s → s.number ≡ NO_NAME

@@ -1,5 +1,5 @@
 //! A name as a number of 64 bits, by which most names are told apart.
-ghost use Rattle.std.specs.Prelude.{◌≡◌, ◌+◌, ◌*◌, ◌^◌, ◌<◌, ◌≤◌, length};
+ghost use Rattle.std.specs.Prelude.{◌≡◌, ◌≢◌, ◌+◌, ◌*◌, ◌^◌, ◌<◌, ◌≤◌, length};
 ghost use Rattle.names.specs.Keys.{AreBytes, digits, picked, mixed, hint_of, key_of};
 
 /// From this length on the key of a name is a hint. A shorter name shares its key with no other.
@@ -8,10 +8,14 @@ pub(crate) const LONG: usize = 8;
 /// The hints are the numbers from this one on.
 const HINTS: u64 = 0x8000_0000_0000_0000;
 
+/// No name has this key.
+pub(crate) const APART: u64 = 0x7fff_ffff_ffff_ffff;
+
 /// The key of a name.
 pub(crate) fn key(name: &[u8]) -> u64
     ensures key { result ≡ key_of name.now }
     ensures bytes { AreBytes name.now }
+    ensures own { result ≢ APART }
 {
     match name.len() {
         0 => 0,

@@ -5,8 +5,10 @@
 //! of its name, `keys` makes keys.
 #![tactic(auto)]
 
+mod kept;
 mod keys;
 mod names;
+mod overflow;
 mod table;
 mod texts;
 

@@ -3,7 +3,8 @@ ghost use Rattle.std.specs.Prelude.{◌≡◌, ◌<◌, ◌≤◌, ◌^◌, [], 
 ghost use Rattle.mm_lex.specs.Alphabet.{has_name};
 ghost use Rattle.names.specs.Codes.{name_at, code_of, AreDistinct};
 
-use crate::keys::key;
+use crate::kept::Kept;
+use crate::keys::{APART, key};
 use crate::table::{NO_NAME, Slot, free_place, search, table};
 use crate::texts::Texts;
 use std::alloc::{AllocError, Global};
@@ -12,10 +13,11 @@ use std::marker::Model;
 /// Names, none of them twice. The code of a name is its place, from 0. Contracts see the list.
 ///
 /// The bytes of all names stand in one buffer. A table tells a name's code by its key, which for a name
-/// of at most seven bytes no other name has.
+/// of at most seven bytes no other name has. A name that finds no slot within few steps stands apart, in order.
 #[derive(Drop)]
 pub struct Names {
     texts: Texts,
+    kept: Kept,
     slots: Vec<Slot>,
     /// How many slots are taken, those of names that are gone with them.
     taken: usize,
@@ -33,7 +35,7 @@ impl Model for Names {
 
     ghost view = { λ a. a.texts };
 
-    ghost invariant = { λ a. (length a.texts < 2 ^ 32) × (AreDistinct a.texts × IsTable a.slots.items a.texts a.sound) };
+    ghost invariant = { λ a. (length a.texts < 2 ^ 32) × (AreDistinct a.texts × IsTable a.slots.items a.kept a.texts a.sound) };
 }
 
 impl Names {
@@ -43,6 +45,7 @@ impl Names {
     {
         Names {
             texts: Texts::new(alloc),
+            kept: Kept::new(alloc),
             slots: Vec::new(alloc),
             taken: 0,
             sound: NO_NAME,
@@ -54,12 +57,15 @@ impl Names {
         ensures { IfOk result (λ names. names ≡ self.now) }
     {
         let texts = self.texts.copy(alloc)?;
-        let slots = Vec::from_slice(alloc, self.slots.as_slice())?;
+        let mut kept = Kept::of(alloc, &texts)?;
+        let slots = table(alloc, &texts, &mut kept)?;
+        let taken = texts.len();
         Ok(Names {
             texts,
+            kept,
             slots,
-            taken: self.taken,
-            sound: self.sound,
+            taken,
+            sound: NO_NAME,
         })
     }
 
@@ -74,7 +80,8 @@ impl Names {
     pub fn find(&self, name: &[u8]) -> Option<usize>
         ensures { result ≡ code_of self.now name.now }
     {
-        search(self.slots.as_slice(), &self.texts, self.sound, name)
+        let slots = self.slots.as_slice();
+        search(slots, &self.kept.overflow, &self.texts, self.sound, name)
     }
 
     /// The name of a code.
@@ -114,15 +121,22 @@ impl Names {
             return Err(AllocError);
         }
         let key = key(name);
-        let Some(at) = free_place(self.slots.as_slice(), key) else {
-            return Err(AllocError);
-        };
-        self.texts.push(name)?;
-        self.slots[at] = Slot {
-            key,
-            number: code as u32,
-        };
-        self.taken = self.taken.saturating_add(1);
+        match free_place(self.slots.as_slice(), key) {
+            Some(at) => {
+                self.kept.push(code, key)?;
+                self.texts.push(name)?;
+                self.slots[at] = Slot {
+                    key,
+                    number: code as u32,
+                };
+                self.taken = self.taken.saturating_add(1);
+            }
+            None => {
+                self.kept.push(code, APART)?;
+                self.kept.overflow.insert(alloc, name, code as u32)?;
+                self.texts.push(name)?;
+            }
+        }
         Ok(code)
     }
 
@@ -131,7 +145,7 @@ impl Names {
         ensures { self.new ≡ self.old }
     {
         if self.taken >= self.slots.len() / 4 * 3 {
-            self.slots = table(alloc, &self.texts)?;
+            self.slots = table(alloc, &self.texts, &mut self.kept)?;
             self.taken = self.texts.len();
             self.sound = NO_NAME;
         }
@@ -145,6 +159,7 @@ impl Names {
         if len >= self.texts.len() {
             return;
         }
+        self.kept.truncate(&self.texts, len);
         self.sound = len.min(self.sound as usize) as u32;
         self.texts.truncate(len);
     }

@@ -9,8 +9,8 @@ use std::marker::Model;
 /// The bytes of a text: from the one place up to the other.
 #[derive(Clone, Copy, Drop)]
 pub struct Span {
-    pub from: u32,
-    pub to: u32,
+    pub from: usize,
+    pub to: usize,
 }
 
 /// Texts by number, from 0.
@@ -72,9 +72,9 @@ impl Texts {
         ensures err { OnErr result (self.new ≡ self.old) }
     {
         let from = self.bytes.as_slice().len();
-        let span = behind(from, text.len())?;
         self.bytes.extend_from_slice(text)?;
-        let pushed = self.spans.push(span);
+        let to = self.bytes.as_slice().len();
+        let pushed = self.spans.push(Span { from, to });
         if pushed.is_err() {
             self.bytes.truncate(from);
             return Err(AllocError);
@@ -88,7 +88,7 @@ impl Texts {
     {
         if len < self.spans.len() {
             let span = item(self.spans.as_slice(), len);
-            self.bytes.truncate(span.from as usize);
+            self.bytes.truncate(span.from);
             self.spans.truncate(len);
         }
     }
@@ -101,7 +101,7 @@ fn part<'a>(bytes: &'a [u8], spans: &[Span], number: usize) -> &'a [u8]
     ensures { result.now ≡ name_at (cut bytes.now spans.now) number }
 {
     let span = item(spans, number);
-    &bytes[span.from as usize..span.to as usize]
+    &bytes[span.from..span.to]
 }
 
 /// The item at an index.
@@ -110,18 +110,4 @@ pub(crate) fn item<T: Copy>(items: &[T], index: usize) -> T
     ensures { slice_get items.now index ≡ Some result }
 {
     items[index]
-}
-
-/// So many bytes behind a place. Texts take less than 2^32 bytes: more are answered as want of memory.
-fn behind(from: usize, count: usize) -> Result<Span, AllocError>
-    ensures { IfOk result (λ s. (s.from ≡ from) × (s.to ≡ from + count)) }
-{
-    let to = from.checked_add(count).ok_or(AllocError)?;
-    if to > u32::MAX as usize {
-        return Err(AllocError);
-    }
-    Ok(Span {
-        from: from as u32,
-        to: to as u32,
-    })
 }

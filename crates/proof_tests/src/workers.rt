@@ -13,7 +13,7 @@ use scope::Scope;
 use std::alloc::Global;
 use std::sync::atomic::{AtomicBool, Ordering};
 use std::thread::Threads;
-use verify_pool::{Gate, Job, OpenGate, Place, check_all};
+use verify_pool::{Gate, Job, OpenGate, Place, Workers, check_all};
 
 /// Texts of normal proofs, and the index of the least that is not right.
 const ROWS: [(&[u8], Option<usize>); 5] = [
@@ -160,9 +160,9 @@ fn checked_again<G: Gate + Sync, R: Threads + Sync>(
     requires jobs { AreJobs frames.now.statements jobs.now }
     requires workers { (1 ≤ workers) × (workers ≤ 16) }
 {
-    match check_all(rt, alloc, frames, jobs, workers, gate) {
+    match check_all(rt, alloc, frames, jobs, Workers::of(workers), gate) {
         Ok(answer) => Some(answer),
-        Err(_) => check_all(rt, alloc, frames, jobs, workers, gate).ok(),
+        Err(_) => check_all(rt, alloc, frames, jobs, Workers::of(workers), gate).ok(),
     }
 }
 

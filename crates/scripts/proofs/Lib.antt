@@ -1,4 +1,3 @@
-mod NumberLemmas
 mod PiecesLemmas
 mod ScriptsLemmas
 mod NamesLemmas

@@ -1,4 +1,3 @@
-pub mod Numbers
 pub mod Pieces
 pub mod Words
 pub mod Verbs

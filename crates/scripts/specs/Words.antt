@@ -2,7 +2,7 @@
 -- Source: this project's own form.
 -- The code takes one word after another; here a definition has what it reads, and the words behind it.
 use Rattle.std.specs.Prelude.{ℕ, List, [], ◌∷◌, Option, Some, None, option_map, option_and_then, nat_lt, if◌then◌else◌}
-use Rattle.scripts.specs.Numbers.{number_of}
+use Rattle.numbers.specs.Numbers.{number_of}
 use Rattle.scripts.specs.declared.words.EntryAt.{EntryAt}
 
 infixl 10 ◌>>=◌

@@ -3,14 +3,13 @@
 //! The crate above uses one contract: `parse_script` gives what the definition of the command's lines reads (`specs/PlayLines` and
 //! `specs/ServeLines`), or the number of the first line that is none of them.
 //!
-//! Reading order: `number`, `pieces` (what stands between separators), `words` (of a line), `verb` (the first of them), `offered`
+//! Reading order: `pieces` (what stands between separators), `words` (of a line), `verb` (the first of them), `offered`
 //! (entries); `line` (what the lines of a command are), `play_line`, `serve_line`; `lines`, `script` (all lines), `fault`.
 #![tactic(auto)]
 
 mod fault;
 mod line;
 mod lines;
-mod number;
 mod offered;
 mod pieces;
 mod play_line;
@@ -23,7 +22,6 @@ mod words;
 
 pub use fault::{LineFault, ScriptFault};
 pub use line::Line;
-pub use number::parse_number;
 pub use offered::Offered;
 pub use play_line::PlayLine;
 pub use script::parse_script;

@@ -5,10 +5,10 @@ ghost use Rattle.scripts.specs.Parsed.{Parses};
 ghost use Rattle.scripts.specs.Offered.{text_offered, charter_offered, names_of, numbers_of, rises};
 
 use crate::fault::LineFault;
-use crate::number::parse_number;
 use crate::words::Words;
 use bytes::Bytes;
 use library::{Entry, MOST_NAMES, Names, Submission};
+use numbers::parse_number;
 use std::alloc::{AllocError, Global};
 
 /// An entry, and the node that it is offered at.

@@ -5,9 +5,9 @@ ghost use Rattle.scripts.specs.Pieces.{words_of};
 ghost use Rattle.scripts.specs.Verbs.{verb_at};
 ghost use Rattle.scripts.specs.Words.{number_at, one_number, node_of, one_node, entry_at, one_entry};
 
-use crate::number::parse_number;
 use crate::pieces::cut;
 use crate::verb::{Verb, parse_verb};
+use numbers::parse_number;
 use std::marker::Model;
 
 /// The byte between two words.

@@ -1,5 +1,10 @@
-mod ImagesLemmas
+pub mod PlaceLemmas
+pub mod ImagePlacesLemmas
+mod SlotLemmas
 mod ApplyLemmas
-mod SubstitutionLemmas
-mod DisjointLemmas
+mod MatchLemmas
+mod CopyLemmas
+pub mod SubstitutionLemmas
+pub mod DisjointLemmas
+pub mod NumbersApartLemmas
 mod Rows

@@ -23,7 +23,7 @@ not_at x [] n h k = absurd (omega (arith, ltb-true n 0 k))
 not_at x (y ∷ names) zero h k = (or_false (name_eq x y) (has_name x names) h).0
 not_at x (y ∷ names) (suc n) h k = not_at x names n (or_false (name_eq x y) (has_name x names) h).1 (tail_lt n (length names) k)
 
-decode-append : (names : List Name) (a b : List ℕ) → decode names (a ++ b) ≡ decode names a ++ decode names b
+pub decode-append : (names : List Name) (a b : List ℕ) → decode names (a ++ b) ≡ decode names a ++ decode names b
 decode-append names [] b = refl
 decode-append names (x ∷ a) b = ap (λ r. name_at names x ∷ r) (decode-append names a b)
 
@@ -60,7 +60,7 @@ image-unnamed names σ x h =
     ∙ ap (λ b. cond b (decode names (code_image σ (0 + position_or_len (name_eq x) names))) (x ∷ [])) (unknown-number names x (sym h))
 
 -- a number's name has that number, where names are told apart
-place-of : (names : List Name) (n : ℕ) → AreDistinct names → nat_lt n (length names) ≡ true
+pub place-of : (names : List Name) (n : ℕ) → AreDistinct names → nat_lt n (length names) ≡ true
     → (has_name (name_at names n) names ≡ true) × (position_or_len (name_eq (name_at names n)) names ≡ n)
 place-of [] n d h = absurd (omega (arith, ltb-true n 0 h))
 place-of (x ∷ names) zero d h = (ap (λ b. b || has_name x names) (name_same x), ap (λ b. cond (not b) (1 + position_or_len (name_eq x) names) 0) (name_same x))
@@ -75,7 +75,7 @@ place-of (x ∷ names) (suc n) d h =
     up : (m n : ℕ) → m ≡ n → 1 + m ≡ suc n
     up m n e = omega (arith, e)
 
-image-decode : (names : List Name) (σ : CodeImages) (n : ℕ) → AreDistinct names → nat_lt n (length names) ≡ true
+pub image-decode : (names : List Name) (σ : CodeImages) (n : ℕ) → AreDistinct names → nat_lt n (length names) ≡ true
     → decode names (code_image σ n) ≡ image (images_of_names names σ) (name_at names n)
 image-decode names σ n d h =
     let p = place-of names n d h in

@@ -1,2 +1,6 @@
-pub mod Laws
+pub mod Places
+pub mod Slots
+pub mod Written
 pub mod Images
+pub mod Apart
+pub mod Laws

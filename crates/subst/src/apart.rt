@@ -1,7 +1,7 @@
 //! Images that are kept apart as a cited assertion asks.
 ghost use Rattle.std.specs.Prelude.{◌≡◌, length};
 ghost use Rattle.names.specs.Codes.{decode};
-ghost use Rattle.frame.specs.ByPlaces.{AreBelow};
+ghost use Rattle.frame.specs.Below.{AreBelow};
 ghost use Rattle.frame.specs.Disjoint.{are_apart, is_group_apart, are_groups_apart};
 ghost use Rattle.frame.specs.Substitution.{images_of_names, image};
 ghost use Rattle.subst.specs.Images.{AreOver, is_image_apart};

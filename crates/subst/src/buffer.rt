@@ -1,7 +1,12 @@
 //! A list of symbols that keeps its bound.
 ghost use Rattle.std.specs.Prelude.{◌≡◌, [], ◌++◌, ◌+◌, ◌≤◌, ◌↔◌, length, take, IfOk, OnOk, OnErr, IsTrue};
 ghost use Rattle.frame.specs.Substitution.{code_apply};
+ghost use Rattle.subst.specs.Places.{images_at, AreInside};
+ghost use Rattle.subst.specs.Written.{Appends};
 
+use crate::copies::put_expr;
+use crate::filling::{fill_growing, make_room};
+use crate::image_places::ImagePlaces;
 use crate::images::Subst;
 use crate::substitute::{applied_len, write};
 use std::alloc::{AllocError, Global};
@@ -14,18 +19,21 @@ pub const SYMBOLS_LIMIT: usize = 67_108_864;
 /// A list of symbols, never more than `SYMBOLS_LIMIT`.
 #[derive(Drop)]
 pub struct Buffer {
+    /// The symbols, and behind them room that counts for nothing.
     symbols: Vec<u32>,
+    /// How many symbols there are.
+    len: usize,
 }
 
 impl Model for Buffer {
-    ghost use Rattle.std.specs.Prelude.{ℕ, List, length, ◌≤◌};
+    ghost use Rattle.std.specs.Prelude.{ℕ, List, length, take, ◌≤◌};
     ghost use Rattle.subst.specs.declared.buffer.TheConstants.{SYMBOLS_LIMIT};
 
     ghost Value = { List ℕ };
 
-    ghost view = { λ a. a.symbols.items };
+    ghost view = { λ a. take a.len a.symbols.items };
 
-    ghost invariant = { λ a. length a.symbols.items ≤ SYMBOLS_LIMIT };
+    ghost invariant = { λ a. (a.len ≤ length a.symbols.items) × (a.len ≤ SYMBOLS_LIMIT) };
 }
 
 impl Buffer {
@@ -35,7 +43,16 @@ impl Buffer {
     {
         Buffer {
             symbols: Vec::new(alloc),
+            len: 0,
         }
+    }
+
+    /// How many symbols there are.
+    pub fn len(&self) -> usize
+        ensures len { result ≡ length self.now }
+        ensures bound { result ≤ SYMBOLS_LIMIT }
+    {
+        self.len
     }
 
     /// The symbols.
@@ -43,7 +60,7 @@ impl Buffer {
         ensures symbols { result.now ≡ self.now }
         ensures bound { length self.now ≤ SYMBOLS_LIMIT }
     {
-        self.symbols.as_slice()
+        &self.symbols[..self.len]
     }
 
     /// Adds symbols at the end.
@@ -54,14 +71,43 @@ impl Buffer {
         ensures added { OnOk result (self.new ≡ self.old ++ more.now) }
         ensures same { OnErr result (self.new ≡ self.old) }
     {
-        self.symbols.extend_from_slice(more)
+        make_room(&mut self.symbols, self.len, more.len())?;
+        put_expr(&mut self.symbols, self.len, more);
+        self.len += more.len();
+        Ok(())
     }
 
-    /// Keeps the first `len` symbols.
+    /// Keeps the first `len` symbols; the room stays.
     pub fn truncate(&mut self, len: usize)
         ensures { self.new ≡ take len self.old }
     {
-        self.symbols.truncate(len);
+        self.len = self.len.min(len);
+    }
+
+    /// Adds the expression with all images put in at once at the end, if it has no more symbols than the limit. The
+    /// images are places in this buffer.
+    ///
+    /// Errors: where memory is refused the buffer is as before.
+    /// Cost: the symbols read and written, each once.
+    pub fn add_applied(
+        &mut self,
+        images: &ImagePlaces,
+        expr: &[u32],
+        limit: usize,
+    ) -> Result<bool, AllocError>
+        requires inside { AreInside (length self.old) images.now }
+        requires bound { length self.old + limit ≤ SYMBOLS_LIMIT }
+        ensures ok { IfOk result (λ ok. Appends ok limit self.old self.new (code_apply (images_at self.old images.now) expr.now)) }
+        ensures err { OnErr result (self.new ≡ self.old) }
+    {
+        let Some(end) = fill_growing(&mut self.symbols, self.len, images, expr, limit)? else {
+            return Ok(false);
+        };
+        if end - self.len > limit {
+            return Ok(false);
+        }
+        self.len = end;
+        Ok(true)
     }
 }
 
@@ -71,7 +117,7 @@ impl Buffer {
 pub fn has_room(subst: &Subst, expr: &[u32], buffer: &Buffer) -> bool
     ensures { IsTrue result ↔ (length buffer.now + length (code_apply subst.now expr.now) ≤ SYMBOLS_LIMIT) }
 {
-    applied_len(subst, expr, SYMBOLS_LIMIT - buffer.as_slice().len()).is_some()
+    applied_len(subst, expr, SYMBOLS_LIMIT - buffer.len()).is_some()
 }
 
 /// Adds the expression with all images put in at once at the end, and tells where it lies.
@@ -88,12 +134,9 @@ pub fn apply_into(
     ensures place { IfOk result (λ place. (place.start ≡ length buffer.old) × (place.end ≡ length buffer.new)) }
     ensures same { OnErr result (buffer.new ≡ buffer.old) }
 {
-    let start = buffer.symbols.len();
-    match write(subst, expr, &mut buffer.symbols) {
-        Ok(()) => Ok(start..buffer.symbols.len()),
-        Err(refused) => {
-            buffer.symbols.truncate(start);
-            Err(refused)
-        }
-    }
+    let start = buffer.len;
+    buffer.symbols.truncate(start);
+    write(subst, expr, &mut buffer.symbols)?;
+    buffer.len = buffer.symbols.len();
+    Ok(start..buffer.len)
 }

@@ -2,26 +2,32 @@
 ghost use Rattle.std.specs.Prelude.{◌≡◌, ℕ, [], ◌∷◌, ◌==◌, if◌then◌else◌, length, OnOk, OnErr, IfSome, IfNone};
 ghost use Rattle.frame.specs.Substitution.{code_image};
 
-use indexmap::IndexMap;
+use crate::buffer::{Buffer, SYMBOLS_LIMIT};
+use crate::image_places::ImagePlaces;
+use crate::place::{place_between, symbols_at};
 use std::alloc::{AllocError, Global};
 use std::marker::Model;
 
 /// Images of symbols. A symbol to which it gives no image stays itself.
 ///
-/// Contracts see the symbols with their images. Cost: the image of a symbol is found by one look-up.
+/// Contracts see the symbols with their images. The images stand in one buffer, those that were replaced too.
+/// Cost: an image is found by one look-up, in a table as long as the greatest number that was set.
 /// Source: Metamath, 4.1.
 #[derive(Drop)]
 pub struct Subst {
-    images: IndexMap<u32, Vec<u32>>,
-    alloc: Global,
+    symbols: Buffer,
+    images: ImagePlaces,
 }
 
 impl Model for Subst {
-    ghost use Rattle.std.specs.Prelude.{ℕ, List, map};
+    ghost use Rattle.std.specs.Prelude.{ℕ, List, length};
+    ghost use Rattle.subst.specs.Places.{images_at, AreInside};
 
     ghost Value = { List (ℕ × List ℕ) };
 
-    ghost view = { λ a. map (λ p. (p.0, p.1.items)) a.images.entries };
+    ghost view = { λ a. images_at a.symbols a.images };
+
+    ghost invariant = { λ a. AreInside (length a.symbols) a.images };
 }
 
 impl Subst {
@@ -30,21 +36,32 @@ impl Subst {
         ensures { result ≡ [] }
     {
         Subst {
-            images: IndexMap::new(alloc),
-            alloc: alloc,
+            symbols: Buffer::new(alloc),
+            images: ImagePlaces::new(alloc),
         }
     }
 
     /// Gives the symbol this image, in place of any before.
     ///
-    /// Errors: where memory is refused all images are as before.
+    /// Errors: where memory is refused, or all images that were set have more than `SYMBOLS_LIMIT` symbols together,
+    /// all images are as before.
     pub fn set(&mut self, symbol: u32, image: &[u32]) -> Result<(), AllocError>
         ensures ok { OnOk result ((x : ℕ) → code_image self.new x ≡ (if x == symbol then image.now else code_image self.old x)) }
         ensures same { OnErr result (self.new ≡ self.old) }
     {
-        let kept = Vec::from_slice(self.alloc, image)?;
-        self.images.insert(symbol, kept)?;
-        Ok(())
+        let start = self.symbols.len();
+        if image.len() > SYMBOLS_LIMIT - start {
+            return Err(AllocError);
+        }
+        self.symbols.extend(image)?;
+        let place = place_between(start, self.symbols.len());
+        match self.images.set(symbol, place) {
+            Ok(()) => Ok(()),
+            Err(refused) => {
+                self.symbols.truncate(start);
+                Err(refused)
+            }
+        }
     }
 
     /// The image of a symbol, if it was given one.
@@ -52,8 +69,8 @@ impl Subst {
         ensures some { IfSome result (λ image. image.now ≡ code_image self.now symbol) }
         ensures none { IfNone result (code_image self.now symbol ≡ symbol ∷ []) }
     {
-        match self.images.get(&symbol) {
-            Some(image) => Some(image.as_slice()),
+        match self.images.get(symbol) {
+            Some(place) => Some(symbols_at(self.symbols.as_slice(), place)),
             None => None,
         }
     }

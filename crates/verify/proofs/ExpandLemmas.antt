@@ -3,13 +3,13 @@ use Rattle.std.specs.Prelude.{◌≡◌, ℕ, ◌+◌, ◌<◌, List, [], ◌∷
 use Rattle.std.specs.declared.alloc.Global.{Global}
 use Rattle.std.proofs.Common.{sym, ◌∙◌, ap, subst, arith, append_assoc}
 use Rattle.std.proofs.lemmas.List.{take-append-drop, length-take-le}
-use Rattle.frame.specs.ByPlaces.{AreBelow}
+use Rattle.frame.specs.Below.{AreBelow}
 use Rattle.verify.specs.declared.plan.Node.{Node}
 use Rattle.verify.specs.declared.plan.Node.TheVariants.{Hyp, Apply}
 use Rattle.verify.specs.Derivations.{Derivation, hyp, apply, from_list}
 use Rattle.verify.specs.Plan.{pick, derive, built, built_from, IsAfter, AreOrdered}
 use Rattle.verify.proofs.PlanLemmas.{length-built', map-pick}
-use Rattle.verify.proofs.ApartLemmas.{below-at}
+use Rattle.subst.proofs.NumbersApartLemmas.{below-at}
 use Rattle.verify.proofs.TableLemmas.{get-front, get-last}
 use Rattle.verify.proofs.SizeLemmas.{node-after, built-more}
 

@@ -1,26 +1,25 @@
 -- Items where the first results that are saved are kept for labels.
-use Rattle.std.specs.Prelude.{◌≡◌, ℕ, zero, suc, ◌+◌, ◌-◌, ◌<◌, ◌≤◌, Bool, true, false, IsTrue, nat_lt, nat_eq, List, [], ◌∷◌, ◌++◌, length, map, take, drop, get_or, replicate, slice_get, slice_set, Some, Result, Ok, Err, IfOk, refl}
+use Rattle.std.specs.Prelude.{◌≡◌, ℕ, zero, suc, ◌+◌, ◌-◌, ◌<◌, ◌≤◌, Bool, true, false, IsTrue, nat_lt, nat_eq, List, [], ◌∷◌, ◌++◌, length, map, drop, get_or, replicate, slice_get, slice_set, Some, Result, Ok, Err, IfOk, refl}
 use Rattle.std.proofs.Common.{sym, ◌∙◌, ap, subst, arith, true≢false, length-append}
 use Rattle.std.proofs.lemmas.Bool.Decides.{nat_tests}
 use Rattle.std.proofs.lemmas.List.{drop-append-le}
 use Rattle.std.specs.declared.alloc.AllocError.{AllocError}
 use Rattle.mm_lex.specs.Alphabet.{Name}
 use Rattle.mm_read.specs.declared.stmt.Stmt.{Stmt}
-use Rattle.mm_read.specs.Statements.{Expr, Database}
-use Rattle.scope.specs.Active.{stmt_at, expr_of}
+use Rattle.mm_read.specs.Statements.{Database}
+use Rattle.scope.specs.Active.{expr_of}
 use Rattle.names.specs.Codes.{decode}
-use Rattle.frame.specs.ByPlaces.{AreBelow, AllBelow}
+use Rattle.frame.specs.Below.{AreBelow, AllBelow}
 use Rattle.frame.specs.Citations.{Carries, IsHypothesis}
 use Rattle.frame.specs.Reading.{AreLegal}
-use Rattle.proof_code.specs.declared.item.Item.TheVariants.{Cite, Recall, Mark}
+use Rattle.proof_code.specs.declared.item.Item.TheVariants.{Cite}
 use Rattle.proof_code.specs.Numbers.{item_of}
 use Rattle.verify.specs.declared.table.Entry.{Entry}
 use Rattle.verify.specs.declared.table.Entry.TheVariants.{Hypothesis, Assertion, Nothing}
-use Rattle.verify.specs.Machine.{Results, State, with_result, with_mark, IsSaved}
+use Rattle.verify.specs.Machine.{Results, State, with_result}
 use Rattle.verify.specs.Places.{Adds, Gives, Marks, Recalls}
 use Rattle.verify.specs.Goes.{named, AreNamed, Goes, behind, IsGiven, AreGiven, AreKnown, GoesOn}
 use Rattle.verify.specs.Table.{IsEntry, AreEntries}
-use Rattle.verify.specs.Right.{weight_limit}
 use Rattle.verify.proofs.Decide.{some_same}
 use Rattle.verify.proofs.Named.{all-drop, all-get}
 use Rattle.verify.proofs.PlaceLemmas.{map-drop, results-same}

@@ -3,10 +3,13 @@ pub mod Sound
 pub mod Complete
 pub mod Decide
 pub mod PlaceLemmas
-pub mod PartLemmas
-pub mod CopyLemmas
 pub mod Named
-pub mod ApartLemmas
+pub mod AskedLemmas
+pub mod ImageLemmas
+pub mod CitingLemmas
+pub mod CitationLemmas
+pub mod ReadingLemmas
+pub mod FittingLemmas
 pub mod TableLemmas
 pub mod StepLemmas
 pub mod KnownLemmas

@@ -268,7 +268,7 @@ some-at (p ∷ ps) x (suc k) h e = or-true (p == x) (list_any (λ p. p == x) ps)
     or-true true b q = refl
     or-true false b q = q
 
-none-is : (ps : List ℕ) (x : ℕ) → ((k : ℕ) → k < length ps → get_or ps k 0 ≡ x → ⊥) → list_any (λ p. p == x) ps ≡ false
+pub none-is : (ps : List ℕ) (x : ℕ) → ((k : ℕ) → k < length ps → get_or ps k 0 ≡ x → ⊥) → list_any (λ p. p == x) ps ≡ false
 none-is [] x h = refl
 none-is (p ∷ ps) x h =
     let t : (p == x) ≡ false = by (p == x) refl in

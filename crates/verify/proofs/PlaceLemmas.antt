@@ -1,46 +1,15 @@
--- Places in a buffer that grows.
+-- Results in a buffer that grows, with the first symbols of those that wait.
 use Rattle.std.specs.Prelude.{◌≡◌, ℕ, zero, suc, ◌+◌, ◌-◌, ◌<◌, ◌≤◌, List, [], ◌∷◌, ◌++◌, length, map, take, drop, get_or, replicate, slice_get, slice_set, Some, refl}
 use Rattle.std.proofs.Common.{sym, ◌∙◌, ap, subst, arith, length-append, length-drop}
-use Rattle.std.proofs.lemmas.List.{take-append-le, drop-append-le, length-take-le}
-use Rattle.std.proofs.Math.Seq.{drop-append_seam}
-use Rattle.verify.specs.declared.results.Place.{Place}
+use Rattle.std.proofs.lemmas.List.{length-map, take_all}
+use Rattle.subst.specs.declared.place.Place.{Place}
+use Rattle.subst.specs.Places.{seen_at, AreWithin, AreInside}
+use Rattle.subst.proofs.PlaceLemmas.{map-seen-more, within-weaken, within-snoc, within-take, within-drop, within-get, within-at, seen-get, length-seen, seen-last}
+use Rattle.subst.proofs.ImagePlacesLemmas.{inside-more, inside-none}
+use Rattle.frame.specs.Cited.{head_of}
 use Rattle.verify.specs.Machine.{Results, with_result, IsSaved}
-use Rattle.verify.specs.Places.{seen, seen_at, AreWithin, AreKept}
+use Rattle.verify.specs.Places.{seen, heads_at, AreKept, below, top}
 use Rattle.verify.specs.Right.{weight_limit}
-
-pub seen-more : (xs ys : List ℕ) (p : Place) → p.start ≤ p.end → p.end ≤ length xs → seen_at (xs ++ ys) p ≡ seen_at xs p
-seen-more xs ys p low high =
-    let le : p.start ≤ length xs = omega (arith, low, high) in
-    let len = length-drop p.start xs in
-    let fits : p.end - p.start ≤ length (drop p.start xs) = omega (arith, len, low, high) in
-    ap (take (p.end - p.start)) (drop-append-le p.start xs ys le) ∙ take-append-le (p.end - p.start) (drop p.start xs) ys fits
-
-pub map-seen-more : (xs ys : List ℕ) (ps : List Place) → AreWithin (length xs) ps → map (seen_at (xs ++ ys)) ps ≡ map (seen_at xs) ps
-map-seen-more xs ys [] w = refl
-map-seen-more xs ys (p ∷ ps) w = ap (λ r. r ∷ map (seen_at (xs ++ ys)) ps) (seen-more xs ys p w.0 w.1) ∙ ap (λ r. seen_at xs p ∷ r) (map-seen-more xs ys ps w.2)
-
-pub within-weaken : (n m : ℕ) (ps : List Place) → n ≤ m → AreWithin n ps → AreWithin m ps
-within-weaken n m [] h w = tt
-within-weaken n m (p ∷ ps) h w = (w.0, omega (arith, h, w.1), within-weaken n m ps h w.2)
-
-pub within-snoc : (n : ℕ) (ps : List Place) (p : Place) → AreWithin n ps → p.start ≤ p.end → p.end ≤ n → AreWithin n (ps ++ p ∷ [])
-within-snoc n [] p w low high = (low, high, tt)
-within-snoc n (q ∷ ps) p w low high = (w.0, w.1, within-snoc n ps p w.2 low high)
-
-pub within-take : (n k : ℕ) (ps : List Place) → AreWithin n ps → AreWithin n (take k ps)
-within-take n zero ps w = tt
-within-take n (suc k) [] w = tt
-within-take n (suc k) (p ∷ ps) w = (w.0, w.1, within-take n k ps w.2)
-
-pub within-drop : (n k : ℕ) (ps : List Place) → AreWithin n ps → AreWithin n (drop k ps)
-within-drop n zero ps w = w
-within-drop n (suc k) [] w = tt
-within-drop n (suc k) (p ∷ ps) w = within-drop n k ps w.2
-
-pub within-get : (n k : ℕ) (ps : List Place) (p : Place) → AreWithin n ps → slice_get ps k ≡ Some p → (p.start ≤ p.end) × (p.end ≤ n)
-within-get n k [] p w h = cc
-within-get n zero (q ∷ ps) p w h = let e : q ≡ p = cc in subst (λ r. (r.start ≤ r.end) × (r.end ≤ n)) e (w.0, w.1)
-within-get n (suc k) (q ∷ ps) p w h = within-get n k ps p w.2 h
 
 pub map-snoc : {A B : Type 0} (f : A → B) (xs : List A) (x : A) → map f (xs ++ x ∷ []) ≡ map f xs ++ f x ∷ []
 map-snoc f [] x = refl
@@ -56,16 +25,19 @@ map-drop f zero xs = refl
 map-drop f (suc k) [] = refl
 map-drop f (suc k) (x ∷ xs) = map-drop f k xs
 
-take-all : {A : Type 0} (n : ℕ) (xs : List A) → length xs ≤ n → take n xs ≡ xs
-take-all zero [] h = refl
-take-all zero (x ∷ xs) h = absurd (omega (arith, h))
-take-all (suc n) [] h = refl
-take-all (suc n) (x ∷ xs) h = ap (λ r. x ∷ r) (take-all n xs (omega (arith, h)))
+-- ---- first symbols
 
-pub seen-new : (xs ys : List ℕ) → take (length (xs ++ ys) - length xs) (drop (length xs) (xs ++ ys)) ≡ ys
-seen-new xs ys =
-    let e = length-append xs ys in
-    ap (take (length (xs ++ ys) - length xs)) (drop-append_seam xs ys) ∙ take-all (length (xs ++ ys) - length xs) ys (omega (arith, e))
+heads-more : (xs ys : List ℕ) (ps : List Place) → AreWithin (length xs) ps → heads_at (xs ++ ys) ps ≡ heads_at xs ps
+heads-more xs ys ps w = ap (map head_of) (map-seen-more xs ys ps w)
+
+heads-snoc : (xs : List ℕ) (ps : List Place) (p : Place) → heads_at xs (ps ++ p ∷ []) ≡ heads_at xs ps ++ head_of (seen_at xs p) ∷ []
+heads-snoc xs ps p = ap (map head_of) (map-snoc (seen_at xs) ps p) ∙ map-snoc head_of (map (seen_at xs) ps) (seen_at xs p)
+
+pub heads-take : (xs : List ℕ) (k : ℕ) (ps : List Place) → heads_at xs (take k ps) ≡ take k (heads_at xs ps)
+heads-take xs k ps = ap (map head_of) (map-take (seen_at xs) k ps) ∙ map-take head_of k (map (seen_at xs) ps)
+
+pub heads-length : (xs : List ℕ) (ps : List Place) → length (heads_at xs ps) ≡ length ps
+heads-length xs ps = length-map (map (seen_at xs) ps) head_of ∙ length-map ps (seen_at xs)
 
 -- how much longer the buffer is, and how heavy
 grown-few : (xs ys zs : List ℕ) (w v : ℕ) → length xs ≤ w → zs ≡ xs ++ ys → v ≡ w + length ys → length zs ≤ v
@@ -77,25 +49,22 @@ results-same {A} a b c d w v p q r =
     ap (λ s. f s c w) p ∙ (ap (λ t. f b t w) q ∙ ap (λ n. f b d n) r)
 
 -- a result was written at the end of the buffer, above those of `rest`
-pub added-kept : (xs ys zs : List ℕ) (stack rest saved stack' : List Place) (w v : ℕ) (p : Place) → AreKept xs stack saved w → AreWithin (length xs) rest
-    → zs ≡ xs ++ ys → p.start ≡ length xs → p.end ≡ length zs → stack' ≡ rest ++ p ∷ [] → v ≡ w + length ys → v ≤ weight_limit → AreKept zs stack' saved v
-added-kept xs ys zs stack rest saved stack' w v p k r e low high whole weighs light =
+pub added-kept : (xs ys zs : List ℕ) (images : List (ℕ × Place)) (stack rest saved stack' : List Place) (heads rest_heads heads' : List ℕ) (w v : ℕ) (p : Place) → AreKept xs images stack heads saved w → AreWithin (length xs) rest
+    → rest_heads ≡ heads_at xs rest → zs ≡ xs ++ ys → p.start ≡ length xs → p.end ≡ length zs → stack' ≡ rest ++ p ∷ [] → heads' ≡ rest_heads ++ head_of ys ∷ [] → v ≡ w + length ys → v ≤ weight_limit
+    → AreKept zs images stack' heads' saved v
+added-kept xs ys zs images stack rest saved stack' heads rest_heads heads' w v p k r kept e low high whole firsts weighs light =
     let longer : length xs ≤ length zs = omega (arith, ap length e, length-append xs ys) in
     record {
+      images_inside = inside-more (length xs) (length zs) images longer k.images_inside;
       stack_within = subst (AreWithin (length zs)) (sym whole) (within-snoc (length zs) rest p (within-weaken (length xs) (length zs) rest longer r) (omega (arith, low, high, longer)) (omega (arith, high)));
+      heads_kept = firsts ∙ (ap (λ h. h ++ head_of ys ∷ []) (kept ∙ (sym (heads-more xs ys rest r) ∙ ap (λ s. heads_at s rest) (sym e)))
+          ∙ (ap (λ s. heads_at zs rest ++ head_of s ∷ []) (sym (seen-last xs ys zs p e low high)) ∙ (sym (heads-snoc zs rest p) ∙ ap (heads_at zs) (sym whole))));
       saved_within = within-weaken (length xs) (length zs) saved longer k.saved_within;
       few = grown-few xs ys zs w v k.few e weighs;
       light = light;
     }
 
--- what stands at the end of the buffer
-pub seen-last : (xs ys zs : List ℕ) (p : Place) → zs ≡ xs ++ ys → p.start ≡ length xs → p.end ≡ length zs → seen_at zs p ≡ ys
-seen-last xs ys zs p e low high =
-    ap (λ s. take (p.end - s) (drop s zs)) low
-    ∙ (ap (λ n. take (n - length xs) (drop (length xs) zs)) high
-    ∙ (ap (λ s. take (length s - length xs) (drop (length xs) s)) e ∙ seen-new xs ys))
-
-pub added-seen : (xs ys zs : List ℕ) (stack rest saved stack' : List Place) (w v : ℕ) (p : Place) → AreKept xs stack saved w → AreWithin (length xs) rest
+pub added-seen : (xs ys zs : List ℕ) (stack rest saved stack' : List Place) (w v : ℕ) (p : Place) → AreWithin (length xs) saved → AreWithin (length xs) rest
     → zs ≡ xs ++ ys → p.start ≡ length xs → p.end ≡ length zs → stack' ≡ rest ++ p ∷ [] → v ≡ w + length ys
     → seen zs stack' saved v ≡ with_result (seen xs stack saved w) (map (seen_at xs) rest) ys
 added-seen xs ys zs stack rest saved stack' w v p k r e low high whole weighs =
@@ -103,7 +72,7 @@ added-seen xs ys zs stack rest saved stack' w v p k r e low high whole weighs =
     (ap (map (seen_at zs)) whole ∙ (map-snoc (seen_at zs) rest p
     ∙ (ap (λ r. r ++ seen_at zs p ∷ []) (ap (λ s. map (seen_at s) rest) e ∙ map-seen-more xs ys rest r)
     ∙ ap (λ s. map (seen_at xs) rest ++ s ∷ []) (seen-last xs ys zs p e low high))))
-    (ap (λ s. map (seen_at s) saved) e ∙ map-seen-more xs ys saved k.saved_within)
+    (ap (λ s. map (seen_at s) saved) e ∙ map-seen-more xs ys saved k)
     weighs
 
 -- ---- a place that is changed
@@ -119,30 +88,33 @@ map-set f (y ∷ xs) zero x = refl
 map-set f (y ∷ xs) (suc k) x = ap (λ r. f y ∷ r) (map-set f xs k x)
 
 -- a result was written at the end of the buffer, and kept
-pub given-cut : (xs ys zs : List ℕ) (stack saved stack' saved' : List Place) (w v k : ℕ) (p : Place) → AreKept xs stack saved w
-    → zs ≡ xs ++ ys → p.start ≡ length xs → p.end ≡ length zs → stack' ≡ stack → saved' ≡ slice_set saved k p → v ≡ w + length ys → v ≤ weight_limit → AreKept zs stack' saved' v
-given-cut xs ys zs stack saved stack' saved' w v k p kept e low high same set weighs light =
+pub given-cut : (xs ys zs : List ℕ) (images : List (ℕ × Place)) (stack saved stack' saved' : List Place) (heads heads' : List ℕ) (w v k : ℕ) (p : Place) → AreKept xs images stack heads saved w
+    → zs ≡ xs ++ ys → p.start ≡ length xs → p.end ≡ length zs → stack' ≡ stack → heads' ≡ heads → saved' ≡ slice_set saved k p → v ≡ w + length ys → v ≤ weight_limit → AreKept zs images stack' heads' saved' v
+given-cut xs ys zs images stack saved stack' saved' heads heads' w v k p kept e low high same firsts set weighs light =
     let longer : length xs ≤ length zs = omega (arith, ap length e, length-append xs ys) in
     record {
+      images_inside = inside-more (length xs) (length zs) images longer kept.images_inside;
       stack_within = subst (AreWithin (length zs)) (sym same) (within-weaken (length xs) (length zs) stack longer kept.stack_within);
+      heads_kept = firsts ∙ (kept.heads_kept ∙ (sym (heads-more xs ys stack kept.stack_within) ∙ (ap (λ s. heads_at s stack) (sym e) ∙ ap (heads_at zs) (sym same))));
       saved_within = subst (AreWithin (length zs)) (sym set)
           (within-set (length zs) k saved p (within-weaken (length xs) (length zs) saved longer kept.saved_within) (omega (arith, low, high, longer)) (omega (arith, high)));
       few = grown-few xs ys zs w v kept.few e weighs;
       light = light;
     }
 
-pub given-kept : (xs ys zs : List ℕ) (stack saved stack' saved' : List Place) (w v k : ℕ) (p : Place) → AreKept xs stack saved w
-    → zs ≡ xs ++ ys → p.start ≡ length xs → p.end ≡ length zs → stack' ≡ stack ++ p ∷ [] → saved' ≡ slice_set saved k p → v ≡ w + length ys → v ≤ weight_limit → AreKept zs stack' saved' v
-given-kept xs ys zs stack saved stack' saved' w v k p kept e low high whole set weighs light =
-    let cut = given-cut xs ys zs stack saved stack saved' w v k p kept e low high refl set weighs light in
-    let added = added-kept xs ys zs stack stack saved stack' w v p kept kept.stack_within e low high whole weighs light in
-    record { stack_within = added.stack_within; saved_within = cut.saved_within; few = cut.few; light = light }
+pub given-kept : (xs ys zs : List ℕ) (images : List (ℕ × Place)) (stack saved stack' saved' : List Place) (heads heads' : List ℕ) (w v k : ℕ) (p : Place) → AreKept xs images stack heads saved w
+    → zs ≡ xs ++ ys → p.start ≡ length xs → p.end ≡ length zs → stack' ≡ stack ++ p ∷ [] → heads' ≡ heads ++ head_of ys ∷ [] → saved' ≡ slice_set saved k p → v ≡ w + length ys → v ≤ weight_limit
+    → AreKept zs images stack' heads' saved' v
+given-kept xs ys zs images stack saved stack' saved' heads heads' w v k p kept e low high whole firsts set weighs light =
+    let cut = given-cut xs ys zs images stack saved stack saved' heads heads w v k p kept e low high refl refl set weighs light in
+    let added = added-kept xs ys zs images stack stack saved stack' heads heads heads' w v p kept kept.stack_within kept.heads_kept e low high whole firsts weighs light in
+    record { images_inside = cut.images_inside; stack_within = added.stack_within; heads_kept = added.heads_kept; saved_within = cut.saved_within; few = cut.few; light = light }
 
-pub given-seen : (xs ys zs : List ℕ) (stack saved stack' saved' : List Place) (w v k : ℕ) (p : Place) → AreKept xs stack saved w
+pub given-seen : (xs ys zs : List ℕ) (images : List (ℕ × Place)) (stack saved stack' saved' : List Place) (heads : List ℕ) (w v k : ℕ) (p : Place) → AreKept xs images stack heads saved w
     → zs ≡ xs ++ ys → p.start ≡ length xs → p.end ≡ length zs → stack' ≡ stack ++ p ∷ [] → saved' ≡ slice_set saved k p → v ≡ w + length ys
     → seen zs stack' saved' v ≡ (let r : Results ℕ = record { stack = map (seen_at xs) stack ++ ys ∷ []; saved = slice_set (map (seen_at xs) saved) k ys; weight = w + length ys } in r)
-given-seen xs ys zs stack saved stack' saved' w v k p kept e low high whole set weighs =
-    let added = added-seen xs ys zs stack stack saved stack' w v p kept kept.stack_within e low high whole weighs in
+given-seen xs ys zs images stack saved stack' saved' heads w v k p kept e low high whole set weighs =
+    let added = added-seen xs ys zs stack stack saved stack' w v p kept.saved_within kept.stack_within e low high whole weighs in
     results-same (map (seen_at zs) stack') (map (seen_at xs) stack ++ ys ∷ []) (map (seen_at zs) saved') (slice_set (map (seen_at xs) saved) k ys) v (w + length ys)
     (ap (λ r. r.stack) added)
     (ap (map (seen_at zs)) set ∙ (map-set (seen_at zs) saved k p
@@ -150,31 +122,33 @@ given-seen xs ys zs stack saved stack' saved' w v k p kept e low high whole set 
     ∙ ap (slice_set (map (seen_at xs) saved) k) (seen-last xs ys zs p e low high))))
     weighs
 
-pub within-at : (n k : ℕ) (ps : List Place) (d : Place) → AreWithin n ps → k < length ps → let p = get_or ps k d in (p.start ≤ p.end) × (p.end ≤ n)
-within-at n k [] d w h = absurd (omega (arith, h))
-within-at n zero (p ∷ ps) d w h = (w.0, w.1)
-within-at n (suc k) (p ∷ ps) d w h = within-at n k ps d w.2 (omega (arith, h))
+-- ---- marked and recalled
 
-pub seen-get : (xs : List ℕ) (k : ℕ) (ps : List Place) (d : Place) → k < length ps → get_or (map (seen_at xs) ps) k [] ≡ seen_at xs (get_or ps k d)
-seen-get xs k [] d h = absurd (omega (arith, h))
-seen-get xs zero (p ∷ ps) d h = refl
-seen-get xs (suc k) (p ∷ ps) d h = seen-get xs k ps d (omega (arith, h))
-
-pub kept-mark : (xs : List ℕ) (stack saved saved' : List Place) (w : ℕ) (p : Place) (k : ℕ) → AreKept xs stack saved w → slice_get stack k ≡ Some p → saved' ≡ saved ++ p ∷ [] → AreKept xs stack saved' w
-kept-mark xs stack saved saved' w p k a h e =
+pub kept-mark : (xs : List ℕ) (images : List (ℕ × Place)) (stack saved saved' : List Place) (heads : List ℕ) (w : ℕ) (p : Place) (k : ℕ) → AreKept xs images stack heads saved w → slice_get stack k ≡ Some p → saved' ≡ saved ++ p ∷ []
+    → AreKept xs images stack heads saved' w
+kept-mark xs images stack saved saved' heads w p k a h e =
     let b = within-get (length xs) k stack p a.stack_within h in
-    record { stack_within = a.stack_within; saved_within = subst (AreWithin (length xs)) (sym e) (within-snoc (length xs) saved p a.saved_within b.0 b.1); few = a.few; light = a.light }
+    record {
+      images_inside = a.images_inside;
+      stack_within = a.stack_within;
+      heads_kept = a.heads_kept;
+      saved_within = subst (AreWithin (length xs)) (sym e) (within-snoc (length xs) saved p a.saved_within b.0 b.1);
+      few = a.few;
+      light = a.light;
+    }
 
-pub kept-recall : (xs : List ℕ) (stack stack' saved : List Place) (w v : ℕ) (p : Place) → AreKept xs stack saved w → (p.start ≤ p.end) × (p.end ≤ length xs) → stack' ≡ stack ++ p ∷ [] → w ≤ v → v ≤ weight_limit → AreKept xs stack' saved v
-kept-recall xs stack stack' saved w v p a b e more light =
+pub kept-recall : (xs : List ℕ) (images : List (ℕ × Place)) (stack stack' saved : List Place) (heads heads' : List ℕ) (w v : ℕ) (p : Place) → AreKept xs images stack heads saved w → (p.start ≤ p.end) × (p.end ≤ length xs)
+    → stack' ≡ stack ++ p ∷ [] → heads' ≡ heads ++ head_of (seen_at xs p) ∷ [] → w ≤ v → v ≤ weight_limit → AreKept xs images stack' heads' saved v
+kept-recall xs images stack stack' saved heads heads' w v p a b e firsts more light =
     let few = a.few in
-    record { stack_within = subst (AreWithin (length xs)) (sym e) (within-snoc (length xs) stack p a.stack_within b.0 b.1); saved_within = a.saved_within; few = omega (arith, few, more); light = light }
-
-pub length-seen : (xs : List ℕ) (p : Place) → p.start ≤ p.end → p.end ≤ length xs → length (seen_at xs p) ≡ p.end - p.start
-length-seen xs p low high =
-    let len = length-drop p.start xs in
-    let fits : p.end - p.start ≤ length (drop p.start xs) = omega (arith, len, low, high) in
-    length-take-le (p.end - p.start) (drop p.start xs) fits
+    record {
+      images_inside = a.images_inside;
+      stack_within = subst (AreWithin (length xs)) (sym e) (within-snoc (length xs) stack p a.stack_within b.0 b.1);
+      heads_kept = firsts ∙ (ap (λ h. h ++ head_of (seen_at xs p) ∷ []) a.heads_kept ∙ (sym (heads-snoc xs stack p) ∙ ap (heads_at xs) (sym e)));
+      saved_within = a.saved_within;
+      few = omega (arith, few, more);
+      light = light;
+    }
 
 pub get-map : {A B : Type 0} (f : A → B) (xs : List A) (k : ℕ) (y : B) → slice_get (map f xs) k ≡ Some y → (d : A) → y ≡ f (get_or xs k d)
 get-map f [] k y h d = cc
@@ -187,10 +161,10 @@ get-map-some f (x ∷ xs) zero d h = refl
 get-map-some f (x ∷ xs) (suc k) d h = get-map-some f xs k d (omega (arith, h))
 
 -- a saved result by its index
-pub recall-seen : (xs : List ℕ) (stack stack' saved : List Place) (w v k : ℕ) (d p : Place) → AreKept xs stack saved w → k < length saved → p ≡ get_or saved k d
+pub recall-seen : (xs : List ℕ) (stack stack' saved : List Place) (w v k : ℕ) (d p : Place) → AreWithin (length xs) saved → k < length saved → p ≡ get_or saved k d
     → stack' ≡ stack ++ p ∷ [] → v ≡ w + (p.end - p.start) → (e : List ℕ) × IsSaved (map (seen_at xs) saved) (suc k) e × (seen xs stack' saved v ≡ with_result (seen xs stack saved w) (map (seen_at xs) stack) e)
 recall-seen xs stack stack' saved w v k d p a less at whole weighs =
-    let b : (p.start ≤ p.end) × (p.end ≤ length xs) = subst (λ q. (q.start ≤ q.end) × (q.end ≤ length xs)) (sym at) (within-at (length xs) k saved d a.saved_within less) in
+    let b : (p.start ≤ p.end) × (p.end ≤ length xs) = subst (λ q. (q.start ≤ q.end) × (q.end ≤ length xs)) (sym at) (within-at (length xs) k saved d a less) in
     let len : length (seen_at xs p) ≡ p.end - p.start = length-seen xs p b.0 b.1 in (
       seen_at xs p,
       get-map-some (seen_at xs) saved k d less ∙ ap (λ q. Some (seen_at xs q)) (sym at),
@@ -225,9 +199,11 @@ pub seen-none : (n : ℕ) → map (seen_at []) (replicate n (let p : Place = rec
 seen-none zero = refl
 seen-none (suc n) = ap (λ r. [] ∷ r) (seen-none n)
 
-pub cleared-kept : (xs : List ℕ) (stack saved : List Place) → xs ≡ [] → stack ≡ [] → AreWithin 0 saved → AreKept xs stack saved 0
-cleared-kept xs stack saved e f w = record {
+pub cleared-kept : (xs : List ℕ) (images : List (ℕ × Place)) (stack saved : List Place) (heads : List ℕ) → xs ≡ [] → images ≡ [] → stack ≡ [] → heads ≡ [] → AreWithin 0 saved → AreKept xs images stack heads saved 0
+cleared-kept xs images stack saved heads e i f g w = record {
+  images_inside = subst (AreInside (length xs)) (sym i) (inside-none (length xs));
   stack_within = subst (AreWithin (length xs)) (sym f) tt;
+  heads_kept = g ∙ ap (heads_at xs) (sym f);
   saved_within = subst (λ n. AreWithin n saved) (sym (ap length e)) w;
   few = (let l = ap length e in omega (arith, l));
   light = omega arith;
@@ -248,3 +224,55 @@ pub started-seen : (xs : List ℕ) (n : ℕ) (stack saved : List Place) → xs �
 started-seen xs n stack saved e f g =
     results-same (map (seen_at xs) stack) [] (map (seen_at xs) saved) (replicate n []) 0 0
     (ap (map (seen_at xs)) f) (ap (λ s. map (seen_at s) saved) e ∙ (ap (map (seen_at [])) g ∙ seen-none n)) refl
+
+-- ---- the last results
+
+pub rest-of : {A : Type 0} (k : ℕ) (s : List A) → take (length s - k) (drop k s) ≡ drop k s
+rest-of k s = take_all (length s - k) (drop k s) (let e = length-drop k s in omega (arith, e))
+
+-- the places of the last r results
+pub last-count : {A : Type 0} (k r : ℕ) (s : List A) → r ≤ length s → k ≡ length s - r → length (take (length s - k) (drop k s)) ≡ r
+last-count k r s h e = let a = ap length (rest-of k s) in let b = length-drop k s in omega (arith, a, b, h, e)
+
+pub last-seen : (xs : List ℕ) (k r : ℕ) (s : List Place) → k ≡ length s - r → map (seen_at xs) (take (length s - k) (drop k s)) ≡ top r (map (seen_at xs) s)
+last-seen xs k r s e =
+    ap (map (seen_at xs)) (rest-of k s) ∙ (map-drop (seen_at xs) k s
+    ∙ ap (λ n. drop n (map (seen_at xs) s)) (e ∙ ap (λ n. n - r) (sym (length-map s (seen_at xs)))))
+
+pub seen_eq : (xs ds : List ℕ) (s e : List Place) (all : List (List ℕ)) (k r : ℕ) → ds ≡ xs → e ≡ s → map (seen_at xs) s ≡ all → k ≡ length s - r → map (seen_at ds) (take (length e - k) (drop k e)) ≡ top r all
+seen_eq xs ds s e all k r p q v l =
+    ap (λ w. map (seen_at ds) (take (length w - k) (drop k w))) q ∙ (ap (λ w. map (seen_at w) (take (length s - k) (drop k s))) p ∙ (last-seen xs k r s l ∙ ap (top r) v))
+
+pub last-within : (n k : ℕ) (s : List Place) → AreWithin n s → AreWithin n (take (length s - k) (drop k s))
+last-within n k s w = within-take n (length s - k) (drop k s) (within-drop n k s w)
+
+pub apply-kept : (xs ys zs : List ℕ) (images : List (ℕ × Place)) (stack saved stack' : List Place) (heads heads' : List ℕ) (w v k : ℕ) (p : Place) → AreKept xs images stack heads saved w
+    → zs ≡ xs ++ ys → p.start ≡ length xs → p.end ≡ length zs → stack' ≡ take k stack ++ p ∷ [] → heads' ≡ take k heads ++ head_of ys ∷ [] → v ≡ w + length ys → v ≤ weight_limit → AreKept zs images stack' heads' saved v
+apply-kept xs ys zs images stack saved stack' heads heads' w v k p a e low high whole firsts weighs light =
+    added-kept xs ys zs images stack (take k stack) saved stack' heads (take k heads) heads' w v p a (within-take (length xs) k stack a.stack_within)
+    (ap (take k) a.heads_kept ∙ sym (heads-take xs k stack)) e low high whole firsts weighs light
+
+pub apply-seen : (xs ys zs : List ℕ) (images : List (ℕ × Place)) (stack saved stack' : List Place) (heads : List ℕ) (w v k r : ℕ) (p : Place) → AreKept xs images stack heads saved w → k ≡ length stack - r
+    → zs ≡ xs ++ ys → p.start ≡ length xs → p.end ≡ length zs → stack' ≡ take k stack ++ p ∷ [] → v ≡ w + length ys
+    → seen zs stack' saved v ≡ with_result (seen xs stack saved w) (below r (map (seen_at xs) stack)) ys
+apply-seen xs ys zs images stack saved stack' heads w v k r p a at e low high whole weighs =
+    added-seen xs ys zs stack (take k stack) saved stack' w v p a.saved_within (within-take (length xs) k stack a.stack_within) e low high whole weighs
+    ∙ ap (λ b. with_result (seen xs stack saved w) b ys) (map-take (seen_at xs) k stack ∙ ap (λ n. take n (map (seen_at xs) stack)) (at ∙ ap (λ n. n - r) (sym (length-map stack (seen_at xs)))))
+
+pub apply-cut : (xs zs ys : List ℕ) (images : List (ℕ × Place)) (stack saved stack' : List Place) (heads heads' : List ℕ) (w v k : ℕ) → AreKept xs images stack heads saved w → zs ≡ xs ++ ys → stack' ≡ take k stack → heads' ≡ take k heads
+    → v ≡ w + length ys → v ≤ weight_limit → AreKept zs images stack' heads' saved v
+apply-cut xs zs ys images stack saved stack' heads heads' w v k a e cut firsts weighs light =
+    let longer : length xs ≤ length zs = omega (arith, ap length e, length-append xs ys) in
+    let few = a.few in
+    record {
+      images_inside = inside-more (length xs) (length zs) images longer a.images_inside;
+      stack_within = subst (AreWithin (length zs)) (sym cut) (within-take (length zs) k stack (within-weaken (length xs) (length zs) stack longer a.stack_within));
+      heads_kept = firsts ∙ (ap (take k) (a.heads_kept ∙ (sym (heads-more xs ys stack a.stack_within) ∙ ap (λ s. heads_at s stack) (sym e))) ∙ (sym (heads-take zs k stack) ∙ ap (heads_at zs) (sym cut)));
+      saved_within = within-weaken (length xs) (length zs) saved longer a.saved_within;
+      few = omega (arith, ap length e, length-append xs ys, few, weighs);
+      light = light;
+    }
+
+-- other images
+pub kept-read : (xs : List ℕ) (images images' : List (ℕ × Place)) (stack saved : List Place) (heads : List ℕ) (w : ℕ) → AreKept xs images stack heads saved w → AreInside (length xs) images' → AreKept xs images' stack heads saved w
+kept-read xs images images' stack saved heads w a inside = record { images_inside = inside; stack_within = a.stack_within; heads_kept = a.heads_kept; saved_within = a.saved_within; few = a.few; light = a.light }

@@ -2,7 +2,8 @@
 use Rattle.std.specs.Prelude.{◌≡◌, ℕ, zero, suc, ◌+◌, ◌-◌, ◌<◌, ◌≤◌, true, List, [], ◌∷◌, ◌++◌, length, map, take, drop, get_or, slice_get, Some, refl}
 use Rattle.std.proofs.Common.{sym, ◌∙◌, ap, subst, arith, length-append}
 use Rattle.std.proofs.lemmas.List.{length-map}
-use Rattle.frame.specs.ByPlaces.{AreBelow}
+use Rattle.frame.specs.Below.{AreBelow}
+use Rattle.subst.proofs.NumbersApartLemmas.{below-at}
 use Rattle.verify.specs.declared.plan.Node.{Node}
 use Rattle.verify.specs.declared.plan.Plan.{Plan}
 use Rattle.verify.specs.Derivations.{Derivation, hyp}
@@ -125,7 +126,7 @@ pub recalled-plan : (old new : Plan) (i k d : ℕ) → IsPlan old → i < length
 recalled-plan old new i k d is lt at nodes stack saved =
     record {
       ordered = subst (AreOrdered 0) (sym nodes) is.ordered;
-      stack_below = subst (λ ns. AreBelow (length ns) new.stack.items) (sym nodes) (subst (AreBelow (length old.nodes.items)) (sym stack) (below-snoc _ old.stack.items k is.stack_below (subst (λ v. v < length old.nodes.items) (sym at) (Rattle.verify.proofs.ApartLemmas.below-at _ old.saved.items i d is.saved_below lt))));
+      stack_below = subst (λ ns. AreBelow (length ns) new.stack.items) (sym nodes) (subst (AreBelow (length old.nodes.items)) (sym stack) (below-snoc _ old.stack.items k is.stack_below (subst (λ v. v < length old.nodes.items) (sym at) (below-at _ old.saved.items i d is.saved_below lt))));
       saved_below = subst (λ ns. AreBelow (length ns) new.saved.items) (sym nodes) (subst (AreBelow (length old.nodes.items)) (sym saved) is.saved_below);
     }
 

@@ -19,7 +19,7 @@ use Rattle.verify.specs.Extents.{extent_of}
 use Rattle.verify.proofs.Unique.{spelled_once}
 use Rattle.verify.proofs.GrowthLemmas.{leaves, only-number}
 use Rattle.verify.proofs.PlanLemmas.{length-built'}
-use Rattle.verify.proofs.ApartLemmas.{below-at}
+use Rattle.subst.proofs.NumbersApartLemmas.{below-at}
 use Rattle.verify.proofs.SizeLemmas.{child-extent}
 
 derives-same : (S : Database) (at : ℕ) → HasLabelsOnce S → (items : List Item) (t u : Derivation) → Derives S at items t → Derives S at items u → t ≡ u

@@ -1,5 +1,5 @@
 -- Extents, one child and one node at a time.
-use Rattle.std.specs.Prelude.{◌≡◌, ℕ, zero, suc, ◌+◌, ◌<◌, ◌≤◌, min, max, List, [], ◌∷◌, ◌++◌, length, map, take, get_or, slice_get, Some}
+use Rattle.std.specs.Prelude.{◌≡◌, ℕ, zero, suc, ◌+◌, ◌<◌, ◌≤◌, min, max, List, [], ◌∷◌, ◌++◌, length, map, take, get_or, slice_get, Some, refl}
 use Rattle.std.proofs.Common.{sym, ◌∙◌, ap, subst, arith}
 use Rattle.std.proofs.lemmas.List.{length-map}
 use Rattle.verify.specs.declared.tree_size.Extent.{Extent}
@@ -8,8 +8,14 @@ use Rattle.verify.specs.Derivations.{Derivation, from_list, node_count, nodes_in
 use Rattle.verify.specs.Plan.{pick, derive, built, IsAfter, AreOrdered}
 use Rattle.verify.specs.Extents.{extent_of}
 use Rattle.verify.proofs.PlaceLemmas.{map-snoc}
-use Rattle.verify.proofs.PartLemmas.{take-more}
 use Rattle.verify.proofs.PlanLemmas.{built-snoc, length-built'}
+
+take-more : {A : Type 0} (xs : List A) (i : ℕ) (d : A) → i < length xs → take (i + 1) xs ≡ take i xs ++ get_or xs i d ∷ []
+take-more [] i d h = absurd (omega (arith, h))
+take-more (x ∷ xs) zero d h = refl
+take-more (x ∷ xs) (suc i) d h =
+    let e : suc i + 1 ≡ suc (i + 1) = omega arith in
+    ap (λ n. take n (x ∷ xs)) e ∙ ap (λ r. x ∷ r) (take-more xs i d (omega (arith, h)))
 
 nodes_in-snoc : (ts : List Derivation) (t : Derivation) → nodes_in (from_list (ts ++ t ∷ [])) ≡ nodes_in (from_list ts) + node_count t
 nodes_in-snoc [] t = omega arith

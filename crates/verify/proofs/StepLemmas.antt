@@ -13,46 +13,59 @@ use Rattle.proof_code.specs.declared.item.Item.TheVariants.{Cite, Recall}
 use Rattle.entries.specs.declared.citation.Cited.{Cited}
 use Rattle.frame.specs.Citations.{IsHypothesis, Carries}
 use Rattle.verify.specs.Machine.{Results, State, start, Cites, of_hypothesis, of_assertion, Runs}
-use Rattle.frame.specs.Templates.{filled, DoFit, own}
+use Rattle.frame.specs.Substitution.{CodeImages, code_apply, images_of_names}
+use Rattle.frame.specs.Disjoint.{are_groups_apart}
+use Rattle.frame.specs.Bound.{IsBound}
+use Rattle.frame.specs.Cited.{head_of, IsCited}
+use Rattle.verify.specs.Fits.{AreRead, Reads, DoFit}
 use Rattle.verify.specs.Places.{below, top, Adds, Marks, Recalls}
-use Rattle.frame.specs.ByPlaces.{are_places_apart, AreBelow, AllBelow}
+use Rattle.frame.specs.Below.{AreBelow, AllBelow}
 use Rattle.verify.specs.Goes.{named, AreNamed, Goes}
-use Rattle.frame.specs.Reading.{AreLegal, IsCited}
+use Rattle.frame.specs.Reading.{AreLegal}
 use Rattle.proof_code.specs.Numbers.{item_of}
 use Rattle.verify.specs.Spells.{IsCitable}
 use Rattle.verify.specs.Right.{IsRight, weight_limit}
-use Rattle.verify.proofs.Named.{goes-recall, goes-mark, goes-hypothesis, goes-assertion, goes-heavy, goes-not, decode-injective}
+use Rattle.verify.proofs.Named.{goes-recall, goes-mark, goes-hypothesis, decode-injective}
+use Rattle.verify.proofs.CitationLemmas.{Meets, goes-assertion, goes-heavy, goes-not}
 use Rattle.verify.proofs.Decide.{cites_same, some_same, refuted_at_end, refuted_at_step, accepts_right}
 use Rattle.verify.proofs.Complete.{runs_append}
 
 module _ (S : Database) (names : List Name) (at : ℕ) (legal : AreLegal S names) where
   module _ (old new : Results ℕ) (an : AreNamed names old) where
-    module _ (label : Name) (a : ℕ) (c : Cited) (s : Stmt) (carries : Carries S a s label) (has : HasAssertion S a s) (is : IsCited S names a s c) where
-      not_cited : ((f : Expr) → Rattle.verify.proofs.Named.Meets names (before S at) c.patterns.now c.templates.now c.conclusion.now c.groups old.stack f → ⊥) → Goes false S at names (Cite label) old new
-      not_cited none = goes-not names S at a s c.patterns.now c.templates.now c.conclusion.now c.groups is.by_places legal.once old new label legal.distinct an is.coded carries has none
+    module _ (label : Name) (a : ℕ) (c : Cited) (s : Stmt) (carries : Carries S a s label) (has : HasAssertion S a s) (bound : IsBound S a s) (is : IsCited S names a s c) where
+      abbrev n : ℕ
+      n = length c.hypotheses.now
 
-      pub assertion-few : length old.stack < length c.patterns.now → Goes false S at names (Cite label) old new
-      assertion-few h = not_cited (λ f m. absurd (omega (arith, h, m.many)))
+      not_cited : ((f : Expr) → Meets S names at a c old.stack f → ⊥) → Goes false S at names (Cite label) old new
+      not_cited none = goes-not S names at a s c legal bound is old new label an carries has none
 
-      pub assertion-unfit : (DoFit own c.patterns.now c.templates.now (top (length c.patterns.now) old.stack) → ⊥) → Goes false S at names (Cite label) old new
-      assertion-unfit h = not_cited (λ f m. h m.fits)
+      pub assertion-few : length old.stack < n → Goes false S at names (Cite label) old new
+      assertion-few h = not_cited (λ f m. (let many = m.many in omega (arith, h, many)))
 
-      pub assertion-clash : are_places_apart (before S at) (map (decode names) (top (length c.patterns.now) old.stack)) c.groups ≡ false → Goes false S at names (Cite label) old new
-      assertion-clash h = not_cited (λ f m. let e : true ≡ false = sym m.apart ∙ h in cc)
+      pub assertion-heads : (map head_of (top n old.stack) ≡ c.heads.now → ⊥) → Goes false S at names (Cite label) old new
+      assertion-heads h = not_cited (λ f m. h m.firsts)
 
-      assertion-by : (ok : Bool) → a < at → length c.patterns.now ≤ length old.stack → DoFit own c.patterns.now c.templates.now (top (length c.patterns.now) old.stack)
-          → are_places_apart (before S at) (map (decode names) (top (length c.patterns.now) old.stack)) c.groups ≡ true
-          → Adds ok old new (below (length c.patterns.now) old.stack) (filled own (length c.patterns.now) (top (length c.patterns.now) old.stack) c.conclusion.now)
-          → Goes ok S at names (Cite label) old new
-      assertion-by true earlier many fits apart adds = goes-assertion names S at a s c.patterns.now c.templates.now c.conclusion.now c.groups is.by_places old new label an is.coded carries has earlier many fits apart adds
-      assertion-by false earlier many fits apart adds = goes-heavy names S at a s c.patterns.now c.templates.now c.conclusion.now c.groups is.by_places legal.once old new label legal.distinct an is.coded carries has adds
+      pub assertion-empty : (σ : CodeImages) → Reads false c.hypotheses.now (top n old.stack) σ → Goes false S at names (Cite label) old new
+      assertion-empty σ r = not_cited (λ f m. m.some r.0 r.1 r.2 r.3)
 
-      pub assertion-result : (r : Result Bool AllocError) → a < at → length c.patterns.now ≤ length old.stack → DoFit own c.patterns.now c.templates.now (top (length c.patterns.now) old.stack)
-          → are_places_apart (before S at) (map (decode names) (top (length c.patterns.now) old.stack)) c.groups ≡ true
-          → IfOk r (λ ok. Adds ok old new (below (length c.patterns.now) old.stack) (filled own (length c.patterns.now) (top (length c.patterns.now) old.stack) c.conclusion.now))
-          → IfOk r (λ ok. Goes ok S at names (Cite label) old new)
-      assertion-result (Err e) earlier many fits apart adds = tt
-      assertion-result (Ok ok) earlier many fits apart adds = assertion-by ok earlier many fits apart adds
+      module _ (ρ : CodeImages) (read : AreRead c.hypotheses.now (top n old.stack) ρ) where
+        pub assertion-unfit : (DoFit S (images_of_names names ρ) c.hypotheses.now (map (decode names) (top n old.stack)) → ⊥) → Goes false S at names (Cite label) old new
+        assertion-unfit h = not_cited (λ f m. h (m.fits ρ read))
+
+        pub assertion-clash : are_groups_apart (before S at) (images_of_names names ρ) (map (decode names) c.groups) ≡ false → Goes false S at names (Cite label) old new
+        assertion-clash h = not_cited (λ f m. (let e : true ≡ false = sym (m.apart ρ read) ∙ h in cc))
+
+        assertion-by : (ok : Bool) → a < at → n ≤ length old.stack → map head_of (top n old.stack) ≡ c.heads.now → DoFit S (images_of_names names ρ) c.hypotheses.now (map (decode names) (top n old.stack))
+            → are_groups_apart (before S at) (images_of_names names ρ) (map (decode names) c.groups) ≡ true
+            → Adds ok old new (below n old.stack) (code_apply ρ c.conclusion.now) → Goes ok S at names (Cite label) old new
+        assertion-by true earlier many firsts fits apart adds = goes-assertion S names at a s c legal bound is old new label ρ an carries has earlier many firsts read fits apart adds
+        assertion-by false earlier many firsts fits apart adds = goes-heavy S names at a s c legal bound is old new label ρ an carries has read adds
+
+        pub assertion-result : (r : Result Bool AllocError) → a < at → n ≤ length old.stack → map head_of (top n old.stack) ≡ c.heads.now → DoFit S (images_of_names names ρ) c.hypotheses.now (map (decode names) (top n old.stack))
+            → are_groups_apart (before S at) (images_of_names names ρ) (map (decode names) c.groups) ≡ true
+            → IfOk r (λ ok. Adds ok old new (below n old.stack) (code_apply ρ c.conclusion.now)) → IfOk r (λ ok. Goes ok S at names (Cite label) old new)
+        assertion-result (Err e) earlier many firsts fits apart adds = tt
+        assertion-result (Ok ok) earlier many firsts fits apart adds = assertion-by ok earlier many firsts fits apart adds
 
     module _ (label : Name) (i : ℕ) (s : Stmt) (carries : Carries S i s label) where
       pub hypothesis-result : (r : Result Bool AllocError) (e : List ℕ) (t : Stmt) → IsHypothesis S at i t → decode names e ≡ expr_of t → AreBelow (length names) e

@@ -7,7 +7,7 @@ use Rattle.mm_read.specs.declared.stmt.Stmt.{Stmt}
 use Rattle.mm_read.specs.Statements.{Database}
 use Rattle.scope.specs.Active.{stmt_at, expr_of}
 use Rattle.names.specs.Codes.{decode}
-use Rattle.frame.specs.ByPlaces.{AllBelow}
+use Rattle.frame.specs.Below.{AllBelow}
 use Rattle.proof_code.specs.declared.item.Item.{Item}
 use Rattle.verify.specs.declared.table.Entry.{Entry}
 use Rattle.verify.specs.declared.table.Entry.TheVariants.{Hypothesis, Assertion, Nothing}

@@ -4,8 +4,8 @@ pub mod Spells
 pub mod Right
 pub mod Machine
 pub mod Places
-pub mod Written
-pub mod Apart
+pub mod Fits
+pub mod ReadPlaces
 pub mod Goes
 pub mod Table
 pub mod Growth

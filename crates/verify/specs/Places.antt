@@ -1,24 +1,33 @@
--- Results that lie in one buffer.
+-- Results that lie in one buffer, and images that were read off some of them.
 -- Metamath, 4.2.6: the stack of a proof.
 -- The code keeps where each result lies; here they are lists of symbols.
-use Rattle.std.specs.Prelude.{◌≡◌, ℕ, ◌+◌, ◌-◌, ◌<◌, ◌≤◌, Bool, true, false, List, [], ◌∷◌, ◌++◌, length, map, drop, take, slice_range, slice_set}
-use Rattle.verify.specs.declared.results.Place.{Place}
+use Rattle.std.specs.Prelude.{◌≡◌, ℕ, ◌+◌, ◌-◌, ◌<◌, ◌≤◌, Bool, true, false, List, [], ◌∷◌, ◌++◌, length, map, drop, take, slice_set}
+use Rattle.frame.specs.Substitution.{CodeImages}
+use Rattle.subst.specs.declared.place.Place.{Place}
+use Rattle.subst.specs.Places.{seen_at, images_at, AreWithin, AreInside}
+use Rattle.frame.specs.Cited.{head_of}
 use Rattle.verify.specs.Machine.{Results, with_result, with_mark, IsSaved}
 use Rattle.verify.specs.Right.{weight_limit}
 
-abbrev pub seen_at : List ℕ → Place → List ℕ
-seen_at symbols p = slice_range symbols p.start p.end
+-- results and images
+pub record Held : Type 0 where
+  pub results : Results ℕ
+  pub images : CodeImages
 
 abbrev pub seen : List ℕ → List Place → List Place → ℕ → Results ℕ
 seen symbols stack saved weight = record { stack = map (seen_at symbols) stack; saved = map (seen_at symbols) saved; weight = weight }
 
--- each place lies within so many symbols
-abbrev pub AreWithin : ℕ → List Place → Type 0
-AreWithin n [] = Unit {0}
-AreWithin n (p ∷ places) = (p.start ≤ p.end) × (p.end ≤ n) × AreWithin n places
+abbrev pub held : List ℕ → List (ℕ × Place) → List Place → List Place → ℕ → Held
+held symbols images stack saved weight = record { results = seen symbols stack saved weight; images = images_at symbols images }
 
-pub record AreKept (symbols : List ℕ) (stack saved : List Place) (weight : ℕ) : Type 0 where
+-- the first symbols of the results at places
+abbrev pub heads_at : List ℕ → List Place → List ℕ
+heads_at symbols places = map head_of (map (seen_at symbols) places)
+
+pub record AreKept (symbols : List ℕ) (images : List (ℕ × Place)) (stack : List Place) (heads : List ℕ) (saved : List Place) (weight : ℕ) : Type 0 where
+  pub images_inside : AreInside (length symbols) images
   pub stack_within : AreWithin (length symbols) stack
+  pub heads_kept : heads ≡ heads_at symbols stack
   pub saved_within : AreWithin (length symbols) saved
   pub few : length symbols ≤ weight
   pub light : weight ≤ weight_limit

@@ -2,7 +2,7 @@
 -- A recalled derivation stands in a tree again; a plan has its nodes once.
 -- The code makes a plan first, measures it, and makes the tree where it is small.
 use Rattle.std.specs.Prelude.{ℕ, ◌+◌, Bool, ◌&&◌, nat_le, List, [], ◌∷◌, ◌++◌, length, map, get_or}
-use Rattle.frame.specs.ByPlaces.{AreBelow}
+use Rattle.frame.specs.Below.{AreBelow}
 use Rattle.verify.specs.declared.plan.Node.{Node}
 use Rattle.verify.specs.declared.plan.Plan.{Plan}
 use Rattle.verify.specs.declared.plan.Node.TheVariants.{Hyp, Apply}

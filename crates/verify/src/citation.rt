@@ -29,22 +29,28 @@ fn cite_assertion(
     requires legal { AreLegal frames.now.statements frames.now.names }
     requires active { pairs.now.statements ≡ before frames.now.statements at }
     requires names { pairs.now.names ≡ frames.now.names }
-    requires named { AreNamed frames.now.names results.old }
+    requires named { AreNamed frames.now.names results.old.results }
     requires assertion { (s : Statement) × HasAssertion frames.now.statements position s }
     requires earlier { position < at }
     ensures goes { (label : Name) → (s : Statement) → Carries frames.now.statements position s label
-        → IfOk result (λ ok. Goes ok frames.now.statements at frames.now.names (Cite label) results.old results.new) }
-    ensures saved { IfOk result (λ ok. IsTrue ok → results.new.saved ≡ results.old.saved) }
+        → IfOk result (λ ok. Goes ok frames.now.statements at frames.now.names (Cite label) results.old.results results.new.results) }
+    ensures saved { IfOk result (λ ok. IsTrue ok → results.new.results.saved ≡ results.old.results.saved) }
 {
     let cited = frames.cited(position);
-    let count = cited.patterns.len();
+    let count = cited.hypotheses.len();
     if count > results.len() {
         return Ok(false);
     }
-    if !results.fits(cited.patterns, cited.templates) {
+    if !results.has_heads(cited.heads) {
         return Ok(false);
     }
-    if !results.are_apart(pairs, count, &cited.groups) {
+    if !results.read_images(cited.hypotheses)? {
+        return Ok(false);
+    }
+    if !results.fits(frames, cited.hypotheses) {
+        return Ok(false);
+    }
+    if !results.are_apart(pairs, &cited.groups) {
         return Ok(false);
     }
     results.apply(count, cited.conclusion)
@@ -62,11 +68,11 @@ fn cite(
     requires legal { AreLegal frames.now.statements frames.now.names }
     requires active { pairs.now.statements ≡ before frames.now.statements at }
     requires names { pairs.now.names ≡ frames.now.names }
-    requires known { AreKnown frames.now.statements frames.now.names table.now results.old }
+    requires known { AreKnown frames.now.statements frames.now.names table.now results.old.results }
     requires within { label < length table.now }
     requires entry { (name : Name) × IsEntry frames.now.statements at name (get_or table.now label Nothing) }
     ensures { (name : Name) → IsEntry frames.now.statements at name (get_or table.now label Nothing)
-        → IfOk result (λ ok. GoesOn ok frames.now.statements at frames.now.names table.now (Cite name) results.old results.new) }
+        → IfOk result (λ ok. GoesOn ok frames.now.statements at frames.now.names table.now (Cite name) results.old.results results.new.results) }
 {
     match table[label] {
         Entry::Hypothesis(position) => results.give(label, frames.expr(position)),
@@ -87,10 +93,10 @@ pub fn step(
     requires legal { AreLegal frames.now.statements frames.now.names }
     requires active { pairs.now.statements ≡ before frames.now.statements at }
     requires names { pairs.now.names ≡ frames.now.names }
-    requires known { AreKnown frames.now.statements frames.now.names table.now results.old }
+    requires known { AreKnown frames.now.statements frames.now.names table.now results.old.results }
     requires entries { (labels : List Name) × AreEntries frames.now.statements at labels table.now }
     ensures { (labels : List Name) → AreEntries frames.now.statements at labels table.now
-        → IfOk result (λ ok. GoesOn ok frames.now.statements at frames.now.names table.now (item_of labels number) results.old results.new) }
+        → IfOk result (λ ok. GoesOn ok frames.now.statements at frames.now.names table.now (item_of labels number) results.old.results results.new.results) }
 {
     if number == 0 {
         return results.mark();

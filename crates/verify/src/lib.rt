@@ -3,22 +3,19 @@
 //! The crate above uses one contract: `check` answers `Proved` exactly where some derivation is spelled by the items,
 //! concludes the statement's expression and weighs no more than the limit; else it answers `Wrong`.
 //!
-//! Reading order: `answer`, `tree`, `copies`, `templates`, `symbols` and `results` (results as ranges of one buffer),
-//! `apart`, `table`, `citation` (one item), `run` and `checker` (a whole proof), `laws`.
+//! Reading order: `answer`, `tree`, `reading_off`, `fitting` and `results` (results as ranges of one buffer), `table`, `citation` (one item), `run` and `checker` (a whole proof), `laws`.
 #![tactic(auto)]
 
 mod answer;
-mod apart;
 mod checker;
 mod citation;
-mod copies;
+mod fitting;
 pub mod laws;
 mod plan;
+mod reading_off;
 mod results;
 mod run;
-mod symbols;
 mod table;
-mod templates;
 mod tree;
 mod tree_from_items;
 mod tree_size;

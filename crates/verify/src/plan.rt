@@ -118,7 +118,7 @@ fn cite(frames: &Frames, entry: Entry, plan: &mut Plan) -> Result<bool, AllocErr
             Ok(true)
         }
         Entry::Assertion(position) => {
-            let count = frames.cited(position).patterns.len();
+            let count = frames.cited(position).hypotheses.len();
             if count > plan.stack.len() {
                 return Ok(false);
             }

@@ -1,76 +1,77 @@
 //! The results of a proof so far, as ranges of one buffer.
 
-ghost use Rattle.std.specs.Prelude.{◌≡◌, suc, ◌<◌, ◌≤◌, ◌^◌, ◌↔◌, ◌∷◌, [], length, map, get_or, replicate, IfOk, OnOk, IsTrue};
-ghost use Rattle.verify.specs.Places.{below, top, Adds, Gives, Marks, Recalls};
-ghost use Rattle.frame.specs.Templates.{filled, own, DoFit, AreIn};
-ghost use Rattle.names.specs.Codes.{decode};
-ghost use Rattle.frame.specs.ByPlaces.{are_places_apart, AllBelow};
+ghost use Rattle.std.specs.Prelude.{◌≡◌, suc, ◌<◌, ◌≤◌, ◌↔◌, ◌∷◌, ◌++◌, [], length, map, get_or, replicate, IfOk, OnOk, OnErr, IsTrue};
+ghost use Rattle.names.specs.Codes.{decode, AreDistinct};
+ghost use Rattle.frame.specs.Below.{AllBelow};
+ghost use Rattle.frame.specs.Disjoint.{are_groups_apart};
+ghost use Rattle.frame.specs.Reading.{AreLegal};
+ghost use Rattle.frame.specs.Substitution.{code_apply, images_of_names};
+ghost use Rattle.subst.specs.Images.{AreOver};
+ghost use Rattle.frame.specs.Cited.{head_of};
+ghost use Rattle.verify.specs.Fits.{AreDifferent, AreStanding, Reads, DoFit};
 ghost use Rattle.verify.specs.Machine.{with_result, with_mark, IsSaved};
+ghost use Rattle.verify.specs.Places.{below, top, Adds, Gives, Marks, Recalls};
 ghost use Rattle.verify.specs.Right.{weight_limit};
 
-use crate::apart::groups_apart;
-use crate::symbols::Symbols;
-use crate::templates::{all_fit, result_at};
-use entries::{Groups, Pattern};
-use frame::Pairs;
+use crate::fitting::all_fit;
+use crate::reading_off::read_off;
+use entries::{Groups, Hypothesis, NO_HEAD};
+use frame::{Frames, Pairs};
 use std::alloc::{AllocError, Global};
 use std::marker::Model;
-
-/// Where a result lies.
-#[derive(Clone, Copy, Drop)]
-pub struct Place {
-    pub start: u32,
-    pub end: u32,
-}
+use subst::{Buffer, ImagePlaces, Place, SYMBOLS_LIMIT, groups_apart, place_between, symbols_at};
 
 /// The place of no symbols.
 const EMPTY: Place = Place { start: 0, end: 0 };
 
-const LIMIT: usize = 67_108_864;
-
-/// The results of a proof so far, their symbols in one buffer.
+/// The results of a proof so far, their symbols in one buffer, and the images that were read off the last of them.
 ///
 /// A hypothesis is written out once, where it is cited first: what is saved begins with a place for each label, which
-/// is empty until then, and goes on with the results that were marked.
+/// is empty until then, and goes on with the results that were marked. The first symbols of the results that wait stand
+/// beside them in a row of their own.
 #[derive(Drop)]
 pub struct Results {
-    symbols: Symbols,
+    symbols: Buffer,
+    images: ImagePlaces,
     stack: Vec<Place>,
+    heads: Vec<u32>,
     saved: Vec<Place>,
     weight: usize,
 }
 
 impl Model for Results {
-    ghost use Rattle.std.specs.Prelude.{ℕ};
-    ghost use Rattle.verify.specs.Machine.{Results as Seen};
-    ghost use Rattle.verify.specs.Places.{seen, AreKept};
+    ghost use Rattle.verify.specs.Places.{Held, held, AreKept};
 
-    ghost Value = { Seen ℕ };
+    ghost Value = { Held };
 
-    ghost view = { λ a. seen a.symbols a.stack.items a.saved.items a.weight };
+    ghost view = { λ a. held a.symbols a.images a.stack.items a.saved.items a.weight };
 
-    ghost invariant = { λ a. AreKept a.symbols a.stack.items a.saved.items a.weight };
+    ghost invariant = { λ a. AreKept a.symbols a.images a.stack.items a.heads.items a.saved.items a.weight };
 }
 
 impl Results {
     /// No results.
     pub fn new(alloc: Global) -> Results
-        ensures { result ≡ record { stack = []; saved = []; weight = 0 } }
+        ensures { result.results ≡ record { stack = []; saved = []; weight = 0 } }
     {
         Results {
-            symbols: Symbols::new(alloc),
+            symbols: Buffer::new(alloc),
+            images: ImagePlaces::new(alloc),
             stack: Vec::new(alloc),
+            heads: Vec::new(alloc),
             saved: Vec::new(alloc),
             weight: 0,
         }
     }
 
-    /// Takes all results away, and makes places for so many labels; the buffers stay.
+    /// Takes all results and images away, and makes places for so many labels; the buffers stay.
     pub fn start(&mut self, labels: usize) -> Result<(), AllocError>
-        ensures { OnOk result (self.new ≡ record { stack = []; saved = replicate labels []; weight = 0 }) }
+        ensures { OnOk result (self.new.results ≡ record { stack = []; saved = replicate labels []; weight = 0 }) }
     {
-        self.symbols.clear();
+        self.images.clear();
+        self.symbols.truncate(0);
         self.stack.clear();
+        self.heads.clear();
         self.saved.clear();
         self.weight = 0;
         self.saved.resize(labels, EMPTY)?;
@@ -79,24 +80,24 @@ impl Results {
 
     /// Adds a result that is written out, and keeps it for the label of that number.
     pub fn give(&mut self, label: usize, expr: &[u32]) -> Result<bool, AllocError>
-        requires { label < length self.old.saved }
-        ensures { IfOk result (λ ok. Gives ok self.old self.new label expr.now) }
+        requires { label < length self.old.results.saved }
+        ensures { IfOk result (λ ok. Gives ok self.old.results self.new.results label expr.now) }
     {
-        if expr.len() > LIMIT - self.weight {
+        if expr.len() > SYMBOLS_LIMIT - self.weight {
             return Ok(false);
         }
         let start = self.symbols.len();
-        self.symbols.push(expr)?;
+        self.symbols.extend(expr)?;
         self.weight += expr.len();
-        let place = between(start, self.symbols.len());
+        let place = place_between(start, self.symbols.len());
         self.saved[label] = place;
-        self.stack.push(place)?;
+        push_result(&mut self.stack, &mut self.heads, place, head(expr))?;
         Ok(true)
     }
 
     /// Marks the last result.
     pub fn mark(&mut self) -> Result<bool, AllocError>
-        ensures { IfOk result (λ ok. Marks ok self.old self.new) }
+        ensures { IfOk result (λ ok. Marks ok self.old.results self.new.results) }
     {
         match self.stack.last() {
             Some(place) => {
@@ -110,8 +111,8 @@ impl Results {
 
     /// Whether a result with symbols is saved at that index.
     pub fn has(&self, index: usize) -> bool
-        ensures within { IsTrue result → index < length self.now.saved }
-        ensures some { IsTrue result → 0 < length (get_or self.now.saved index []) }
+        ensures within { IsTrue result → index < length self.now.results.saved }
+        ensures some { IsTrue result → 0 < length (get_or self.now.results.saved index []) }
     {
         if index >= self.saved.len() {
             return false;
@@ -122,98 +123,142 @@ impl Results {
 
     /// Puts the result that is saved at that index on top, if there is one and it is light enough.
     pub fn recall(&mut self, index: usize) -> Result<bool, AllocError>
-        ensures { IfOk result (λ ok. Recalls ok self.old self.new (suc index)) }
+        ensures { IfOk result (λ ok. Recalls ok self.old.results self.new.results (suc index)) }
     {
         if index >= self.saved.len() {
             return Ok(false);
         }
         let place = self.saved[index];
         let len = (place.end - place.start) as usize;
-        if len > LIMIT - self.weight {
+        if len > SYMBOLS_LIMIT - self.weight {
             return Ok(false);
         }
-        self.stack.push(place)?;
+        let first = head(symbols_at(self.symbols.as_slice(), place));
+        push_result(&mut self.stack, &mut self.heads, place, first)?;
         self.weight += len;
         Ok(true)
     }
 
-    /// Takes the last r results and adds the filled template, if it is light enough.
-    pub fn apply(&mut self, r: usize, template: &[u32]) -> Result<bool, AllocError>
-        requires count { r ≤ length self.old.stack }
-        requires few { r < 2 ^ 31 }
-        ensures { IfOk result (λ ok. Adds ok self.old self.new (below r self.old.stack) (filled own r (top r self.old.stack) template.now)) }
+    /// Whether the last results have these first symbols.
+    pub fn has_heads(&self, heads: &[u32]) -> bool
+        requires { length heads.now ≤ length self.now.results.stack }
+        ensures { IsTrue result ↔ (map head_of (top (length heads.now) self.now.results.stack) ≡ heads.now) }
     {
-        let keep = self.stack.len() - r;
-        let start = self.symbols.len();
-        let room = LIMIT - self.weight;
-        if !self
-            .symbols
-            .push_filled(&self.stack[keep..], template, room)?
-        {
-            return Ok(false);
-        }
-        let end = self.symbols.len();
-        self.weight += end - start;
-        self.stack.truncate(keep);
-        self.stack.push(between(start, end))?;
-        Ok(true)
+        let keep = self.heads.len() - heads.len();
+        &self.heads[keep..] == heads
     }
 
-    /// Whether the last results are what the hypotheses ask for.
-    pub fn fits(&self, patterns: &[Pattern], templates: &[u32]) -> bool
-        requires count { length patterns.now ≤ length self.now.stack }
-        requires few { length patterns.now < 2 ^ 31 }
-        requires within { AreIn (length templates.now) patterns.now }
-        ensures { IsTrue result ↔ DoFit own patterns.now templates.now (top (length patterns.now) self.now.stack) }
+    /// Reads the images of the variables of the `$f` off the last results, one for each hypothesis; or finds one with no
+    /// symbol.
+    pub fn read_images(&mut self, hypotheses: &[Hypothesis]) -> Result<bool, AllocError>
+        requires count { length hypotheses.now ≤ length self.old.results.stack }
+        requires different { AreDifferent hypotheses.now }
+        ensures same { self.new.results ≡ self.old.results }
+        ensures read { IfOk result (λ ok. Reads ok hypotheses.now (top (length hypotheses.now) self.old.results.stack) self.new.images) }
     {
-        let keep = self.stack.len() - patterns.len();
+        let keep = self.stack.len() - hypotheses.len();
+        read_off(&mut self.images, hypotheses, &self.stack[keep..])
+    }
+
+    /// Whether the last results are the expressions of the `$e` with the images put in.
+    pub fn fits(&self, frames: &Frames, hypotheses: &[Hypothesis]) -> bool
+        requires legal { AreLegal frames.now.statements frames.now.names }
+        requires standing { AreStanding frames.now.statements hypotheses.now }
+        requires count { length hypotheses.now ≤ length self.now.results.stack }
+        requires over { AreOver frames.now.names self.now.images }
+        requires named { AllBelow (length frames.now.names) self.now.results.stack }
+        ensures { IsTrue result ↔ DoFit frames.now.statements (images_of_names frames.now.names self.now.images) hypotheses.now (map (decode frames.now.names) (top (length hypotheses.now) self.now.results.stack)) }
+    {
+        let keep = self.stack.len() - hypotheses.len();
         all_fit(
+            frames,
             self.symbols.as_slice(),
+            &self.images,
+            hypotheses,
             &self.stack[keep..],
-            patterns,
-            templates,
         )
     }
 
-    /// Whether the images of the last `count` results are apart as the groups of places ask.
-    pub fn are_apart(&self, pairs: &Pairs<'_>, count: usize, groups: &Groups<'_>) -> bool
-        requires count { count ≤ length self.now.stack }
-        requires named { AllBelow (length pairs.now.names) self.now.stack }
-        requires places { AllBelow count groups.now }
-        ensures { result ≡ are_places_apart pairs.now.statements
-            (map (decode pairs.now.names) (top count self.now.stack)) groups.now }
+    /// Whether the images of each two variables of a group are apart.
+    pub fn are_apart(&self, pairs: &Pairs<'_>, groups: &Groups<'_>) -> bool
+        requires distinct { AreDistinct pairs.now.names }
+        requires over { AreOver pairs.now.names self.now.images }
+        requires below { AllBelow (length pairs.now.names) groups.now }
+        ensures { result ≡ are_groups_apart pairs.now.statements (images_of_names pairs.now.names self.now.images) (map (decode pairs.now.names) groups.now) }
     {
-        let keep = self.stack.len() - count;
-        groups_apart(pairs, groups, self.symbols.as_slice(), &self.stack[keep..])
+        groups_apart(pairs, groups, self.symbols.as_slice(), &self.images)
+    }
+
+    /// Takes the last r results and adds the expression with the images put in, if it is light enough.
+    pub fn apply(&mut self, r: usize, expr: &[u32]) -> Result<bool, AllocError>
+        requires { r ≤ length self.old.results.stack }
+        ensures { IfOk result (λ ok. Adds ok self.old.results self.new.results (below r self.old.results.stack) (code_apply self.old.images expr.now)) }
+    {
+        let keep = self.stack.len() - r;
+        let start = self.symbols.len();
+        let room = SYMBOLS_LIMIT - self.weight;
+        if !self.symbols.add_applied(&self.images, expr, room)? {
+            return Ok(false);
+        }
+        let place = place_between(start, self.symbols.len());
+        self.weight += self.symbols.len() - start;
+        self.stack.truncate(keep);
+        self.heads.truncate(keep);
+        let first = head(symbols_at(self.symbols.as_slice(), place));
+        push_result(&mut self.stack, &mut self.heads, place, first)?;
+        Ok(true)
     }
 
     /// How many results wait.
     pub fn len(&self) -> usize
-        ensures { result ≡ length self.now.stack }
+        ensures { result ≡ length self.now.results.stack }
     {
         self.stack.len()
     }
 
     /// Whether there is one result, and it is this.
     pub fn is_only(&self, expr: &[u32]) -> bool
-        ensures only { IsTrue result ↔ (self.now.stack ≡ expr.now ∷ []) }
-        ensures light { self.now.weight ≤ weight_limit }
+        ensures only { IsTrue result ↔ (self.now.results.stack ≡ expr.now ∷ []) }
+        ensures light { self.now.results.weight ≤ weight_limit }
     {
         if self.stack.len() != 1 {
             return false;
         }
         let place = self.stack[0];
-        result_at(self.symbols.as_slice(), place) == expr
+        symbols_at(self.symbols.as_slice(), place) == expr
     }
 }
 
-/// The place between two that are within the limit.
-fn between(start: usize, end: usize) -> Place
-    requires { (start ≤ weight_limit) × (end ≤ weight_limit) }
-    ensures { (result.start ≡ start) × (result.end ≡ end) }
+/// The first symbol, or the number of none.
+fn head(symbols: &[u32]) -> u32
+    ensures { result ≡ head_of symbols.now }
 {
-    Place {
-        start: start as u32,
-        end: end as u32,
+    if symbols.is_empty() {
+        NO_HEAD
+    } else {
+        symbols[0]
+    }
+}
+
+/// Adds a result with its first symbol.
+fn push_result(
+    stack: &mut Vec<Place>,
+    heads: &mut Vec<u32>,
+    place: Place,
+    head: u32,
+) -> Result<(), AllocError>
+    ensures stack { OnOk result (stack.new.items ≡ stack.old.items ++ place ∷ []) }
+    ensures heads { OnOk result (heads.new.items ≡ heads.old.items ++ head ∷ []) }
+    ensures same_stack { OnErr result (stack.new.items ≡ stack.old.items) }
+    ensures same_heads { OnErr result (heads.new.items ≡ heads.old.items) }
+{
+    heads.push(head)?;
+    match stack.push(place) {
+        Ok(()) => Ok(()),
+        Err(_) => {
+            let count = heads.len();
+            heads.truncate(count - 1);
+            Err(AllocError)
+        }
     }
 }

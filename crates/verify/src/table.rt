@@ -68,18 +68,21 @@ pub fn fill_mandatory(frames: &Frames, at: usize, table: &mut Vec<Entry>) -> Res
 {
     table.clear();
     for position in frames.hypotheses(at) {
-        table.push(Entry::Hypothesis(*position))?;
+        table.push(Entry::Hypothesis(*position as usize))?;
     }
     Ok(())
 }
 
 /// Whether the entry is one of these hypotheses.
-fn is_among(entry: Entry, hypotheses: &[usize]) -> bool
+fn is_among(entry: Entry, hypotheses: &[u32]) -> bool
     requires { IsNonDecreasing hypotheses.now }
     ensures { result ≡ is_hypothesis_among hypotheses.now entry }
 {
     match entry {
-        Entry::Hypothesis(position) => hypotheses.binary_search(&position).is_ok(),
+        Entry::Hypothesis(position) => match u32::try_from(position) {
+            Ok(position) => hypotheses.binary_search(&position).is_ok(),
+            Err(_) => false,
+        },
         _ => false,
     }
 }

@@ -1,7 +1,7 @@
 //! How large the derivations of a plan are, before one of them is made.
 
 ghost use Rattle.std.specs.Prelude.{◌≡◌, ℕ, ◌<◌, ◌≤◌, ◌↔◌, IsTrue, List, IfOk, Some, length, map, slice_get};
-ghost use Rattle.frame.specs.ByPlaces.{AreBelow};
+ghost use Rattle.frame.specs.Below.{AreBelow};
 ghost use Rattle.verify.specs.Derivations.{Derivation};
 ghost use Rattle.verify.specs.Plan.{built, derive, pick, IsAfter, AreOrdered};
 ghost use Rattle.verify.specs.Extents.{extent_of, extent_above};

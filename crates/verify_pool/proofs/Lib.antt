@@ -1,3 +1,4 @@
+pub mod LeastLemmas
 pub mod StripeLemmas
 pub mod JobsLemmas
 mod LawsHold

@@ -1,15 +1,21 @@
 -- The least job that is not right.
 -- What is right is `verify`'s, from Metamath, 4.2.6 and appendix B; that the least bad proof decides is this project's.
 -- The code deals the jobs out to workers; here they are one list, judged in order.
-use Rattle.std.specs.Prelude.{◌≡◌, ℕ, ◌<◌, List, slice_get, Option, Some, None, IfSome, MatchOption, ⊤}
+use Rattle.std.specs.Prelude.{◌≡◌, ℕ, List, slice_get, Option, Some, IfSome, MatchOption}
 use Rattle.mm_read.specs.declared.stmt.Stmt.{Stmt}
 use Rattle.mm_read.specs.Statements.{Database}
 use Rattle.verify.specs.Right.{IsProvable, IsRight}
 use Rattle.verify_pool.specs.declared.job.Job.{Job}
+use Rattle.verify_pool.specs.Least.{IsBefore}
 
 -- a `$p` stands at the job's position
 abbrev pub IsJob : Database → Job → Type 0
 IsJob S job = (s : Stmt) × IsProvable S job.at s
+
+-- jobs, with the statements that they are checked against
+pub record Checked : Type 0 where
+  pub statements : Database
+  pub jobs : List Job
 
 abbrev pub AreJobs : Database → List Job → Type 0
 AreJobs S jobs = (k : ℕ) (job : Job) → slice_get jobs k ≡ Some job → IsJob S job
@@ -18,10 +24,9 @@ AreJobs S jobs = (k : ℕ) (job : Job) → slice_get jobs k ≡ Some job → IsJ
 abbrev pub IsRightJob : Database → Job → Type 0
 IsRightJob S job = MatchOption job.code ⊥ (λ items. IsRight S job.at items)
 
--- index k is before the answer; where the answer is none, each index is
-abbrev pub IsBefore : ℕ → Option ℕ → Type 0
-IsBefore k None = ⊤
-IsBefore k (Some i) = k < i
+-- the job of that index is right, where there is one
+abbrev pub IsRightAt : Database → List Job → ℕ → Type 0
+IsRightAt S jobs k = (job : Job) → slice_get jobs k ≡ Some job → IsRightJob S job
 
 -- each job before the answer is right
 abbrev pub AreRightBefore : Database → List Job → Option ℕ → Type 0

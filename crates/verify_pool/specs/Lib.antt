@@ -1,3 +1,4 @@
+pub mod Least
 pub mod Jobs
 pub mod Stripes
 pub mod Laws

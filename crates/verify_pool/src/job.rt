@@ -1,12 +1,18 @@
-//! One proof to be checked.
+//! Proofs whose items were made before.
 
 ghost use Rattle.std.specs.Prelude.{◌≡◌, IfOk};
 ghost use Rattle.verify.specs.Right.{Says};
-ghost use Rattle.verify_pool.specs.Jobs.{IsJob, IsRightJob};
+ghost use Rattle.verify_pool.specs.Jobs.{AreJobs, IsJob, IsRightAt, IsRightJob, LeastBad};
 
+use crate::gate::Gate;
+use crate::pool::judge_all;
+use crate::work::Work;
+use crate::workers::Workers;
 use frame::Frames;
 use proof_code::Items;
-use std::alloc::AllocError;
+use std::alloc::{AllocError, Global};
+use std::marker::Model;
+use std::thread::Threads;
 use verify::{Answer, Checker};
 
 /// One proof to be checked.
@@ -18,8 +24,61 @@ pub struct Job {
     pub code: Option<Items>,
 }
 
+/// The index, from 0, of the least job that is not right; none where each is right.
+///
+/// The jobs are dealt out to the workers in turn, each worker runs on a thread of its own where one can be made, and
+/// passes `Place::Job(index)` of the gate before the job of that index. A worker stops at its first job that is not right.
+/// Errors: a growth was refused. Cost: that of the proofs, over the workers.
+pub fn check_all<G: Gate + Sync, R: Threads + Sync>(
+    rt: &R,
+    alloc: Global,
+    frames: &Frames,
+    jobs: &[Job],
+    workers: Workers,
+    gate: &G,
+) -> Result<Option<usize>, AllocError>
+    requires jobs { AreJobs frames.now.statements jobs.now }
+    ensures { IfOk result (λ least. LeastBad frames.now.statements jobs.now least) }
+{
+    judge_all(rt, alloc, &Jobs { frames, jobs }, workers, gate)
+}
+
+/// Jobs with the frames that they are checked against.
+#[derive(Drop)]
+struct Jobs<'a> {
+    frames: &'a Frames,
+    jobs: &'a [Job],
+}
+
+impl<'a> Model for Jobs<'a> {
+    ghost use Rattle.verify_pool.specs.Jobs.{AreJobs, Checked};
+
+    ghost Value = { Checked };
+
+    ghost view = { λ a. record { statements = a.frames.now.statements; jobs = a.jobs.now } };
+
+    ghost invariant = { λ a. AreJobs a.frames.now.statements a.jobs.now };
+}
+
+impl<'a> Work for Jobs<'a> {
+    ghost use Rattle.std.specs.Prelude.{length};
+    ghost use Rattle.verify_pool.specs.Jobs.{IsRightAt};
+
+    ghost count = { λ work. length work.jobs };
+
+    ghost right = { λ work. IsRightAt work.statements work.jobs };
+
+    fn count(&self) -> usize {
+        self.jobs.len()
+    }
+
+    fn judge(&self, index: usize, checker: &mut Checker) -> Result<Answer, AllocError> {
+        check_job(self.frames, &self.jobs[index], checker)
+    }
+}
+
 /// Whether the job is right.
-pub fn check_job(frames: &Frames, job: &Job, checker: &mut Checker) -> Result<Answer, AllocError>
+fn check_job(frames: &Frames, job: &Job, checker: &mut Checker) -> Result<Answer, AllocError>
     requires { IsJob frames.now.statements job.now }
     ensures { IfOk result (λ answer. Says answer (IsRightJob frames.now.statements job.now)) }
 {

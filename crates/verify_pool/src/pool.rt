@@ -1,13 +1,13 @@
 //! All jobs, side by side.
 
 ghost use Rattle.std.specs.Prelude.{◌≡◌, ℕ, ◌<◌, ◌≤◌, ◌⊎◌, IfOk, vec_len, slice_index_or};
-ghost use Rattle.verify_pool.specs.Jobs.{AreJobs, LeastBad};
-ghost use Rattle.verify_pool.specs.Stripes.{LeastBadInStripe, IsNoLater};
+ghost use Rattle.verify_pool.specs.Least.{IsLeast};
+ghost use Rattle.verify_pool.specs.Stripes.{IsLeastInStripe, IsNoLater};
 
-use crate::gate::Gate;
-use crate::job::Job;
-use crate::stripe::check_stripe;
-use frame::Frames;
+use crate::gate::{Gate, OpenGate};
+use crate::stripe::judge_stripe;
+use crate::work::Work;
+use crate::workers::Workers;
 use std::alloc::{AllocError, Global};
 use std::thread;
 use std::thread::Threads;
@@ -16,20 +16,17 @@ use std::thread::Threads;
 ///
 /// The jobs are dealt out to the workers in turn, each worker runs on a thread of its own where one can be made, and
 /// passes `Place::Job(index)` of the gate before the job of that index. A worker stops at its first job that is not right.
-/// Errors: a growth was refused. Cost: that of the proofs, over the workers.
-pub fn check_all<G: Gate + Sync, R: Threads + Sync>(
+/// Errors: a growth was refused. Cost: that of the jobs, over the workers.
+pub fn judge_all<W: Work + Sync, G: Gate + Sync, R: Threads + Sync>(
     rt: &R,
     alloc: Global,
-    frames: &Frames,
-    jobs: &[Job],
-    workers: usize,
+    work: &W,
+    workers: Workers,
     gate: &G,
 ) -> Result<Option<usize>, AllocError>
-    requires jobs { AreJobs frames.now.statements jobs.now }
-    requires workers { (1 ≤ workers) × (workers ≤ 16) }
-    ensures { IfOk result (λ least. LeastBad frames.now.statements jobs.now least) }
+    ensures { IfOk result (IsLeast (W.right work.now) (W.count work.now)) }
 {
-    let answers = check_stripes(rt, alloc, frames, jobs, workers, gate)?;
+    let answers = judge_stripes(rt, alloc, work, workers.count(), gate)?;
     let mut least = None;
     for answer in &answers {
         least = earlier(least, (*answer)?);
@@ -37,26 +34,31 @@ pub fn check_all<G: Gate + Sync, R: Threads + Sync>(
     Ok(least)
 }
 
+/// The same on the calling thread.
+pub fn judge_here<W: Work>(alloc: Global, work: &W) -> Result<Option<usize>, AllocError>
+    ensures { IfOk result (IsLeast (W.right work.now) (W.count work.now)) }
+{
+    judge_stripe(alloc, work, 0, 1, &OpenGate)
+}
+
 /// What each of the workers answers of its stripe.
-fn check_stripes<G: Gate + Sync, R: Threads + Sync>(
+fn judge_stripes<W: Work + Sync, G: Gate + Sync, R: Threads + Sync>(
     rt: &R,
     alloc: Global,
-    frames: &Frames,
-    jobs: &[Job],
+    work: &W,
     workers: usize,
     gate: &G,
 ) -> Result<Vec<Result<Option<usize>, AllocError>>, AllocError>
-    requires jobs { AreJobs frames.now.statements jobs.now }
-    requires workers { (1 ≤ workers) × (workers ≤ 16) }
+    requires { (1 ≤ workers) × (workers ≤ 16) }
     ensures count { IfOk result (λ answers. vec_len answers ≡ workers) }
     ensures each { IfOk result (λ answers. (k : ℕ) (d : _) → k < workers
-        → IfOk (slice_index_or answers.items k d) (λ least. LeastBadInStripe frames.now.statements jobs.now k workers least)) }
+        → IfOk (slice_index_or answers.items k d) (λ least. IsLeastInStripe (W.right work.now) (W.count work.now) k workers least)) }
 {
     thread::map_indices(
         rt,
         alloc,
         workers,
-        &|first: usize| check_stripe(alloc, frames, jobs, first, workers, gate),
+        &|first: usize| judge_stripe(alloc, work, first, workers, gate),
     )
 }
 

@@ -8,7 +8,7 @@ pub returns-clause-added : goal.returns-clause-added
 returns-clause-added c =
     let b = c.args.buffers.now in
     let m = c.add_parts.new.buffers in
-    let new : Buffers = record { numbers = m.numbers; hypotheses = m.hypotheses; patterns = m.patterns; groups = m.groups; rows = c.add_last.new.items } in
+    let new : Buffers = record { numbers = m.numbers; hypotheses = m.hypotheses; asked = m.asked; groups = m.groups; rows = c.add_last.new.items } in
     let r = c.record_of in
     let told = c.in_ok-last.ensures in
     ok-weaker c.add_last-2.result _ _

@@ -6,7 +6,7 @@ use Rattle.entries.proofs.entries.add_plain.Goals as goal
 pub returns-clause-added : goal.returns-clause-added
 returns-clause-added c =
     let b = c.args.buffers.now in
-    let new : Buffers = record { numbers = c.append.new.buffer; hypotheses = b.hypotheses; patterns = b.patterns; groups = b.groups; rows = b.rows } in
+    let new : Buffers = record { numbers = c.append.new.buffer; hypotheses = b.hypotheses; asked = b.asked; groups = b.groups; rows = b.rows } in
     let r = c.record_of in
     ok-weaker c.add_last.result _ _
     (λ behind. added-plain b new c.args.records.now.items c.add_last.new.items.items r.result c.args.head c.args.codes.now c.requires.packed

@@ -29,6 +29,5 @@ returns-clause-entered c = λ h head.
     (labels ∙ ap (λ ls. ls ++ option_list (label_of s) []) first.same_labels)
     (positions ∙ (ap (λ ps. ps ++ option_position (label_of s) (length mid.entries + 1) []) first.same_positions
     ∙ ap (λ es. old.positions.items ++ option_position (label_of s) (length es + 1) []) first.grown.entries))
-    (λ a. subst (λ v. IsKeptOf old v (bare s) (drafted d)) (sym parts.symbols)
-    (subst (λ k. IsKeptOf k codes (bare s) (drafted d)) (first.same a) (parts.kept a))))
+    (λ a. subst (λ k. IsKeptOf k (bare s) (drafted d)) (first.same a) (parts.kept a)))
     c.enter_label.ensures.labels c.enter_label.ensures.positions

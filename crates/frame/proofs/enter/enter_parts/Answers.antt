@@ -1,6 +1,6 @@
-use Rattle.frame.proofs.EnterLemmas.{next-bare}
+use Rattle.std.proofs.Common.{◌∙◌, ap, sym}
+use Rattle.std.specs.Prelude.{◌||◌}
+use Rattle.std.proofs.lemmas.Bool.{false≢true}
+use Rattle.scope.specs.Active.{is_essential}
+use Rattle.frame.proofs.EnterLemmas.{next-bare, next-essential, parts-kind}
 use Rattle.frame.proofs.enter.enter_parts.Goals as goal
-
-pub returns-then-is_assertion-clause-kept : goal.returns-then-is_assertion-clause-kept
-returns-then-is_assertion-clause-kept c = λ asserts.
-    c.keep.ensures.kept _ (next-bare c.args.stock.now c.args.draft.now.symbols.items c.args.stmt.now (c.requires.legal asserts) asserts c.requires.numbers.stand)

@@ -2,7 +2,7 @@ use Rattle.std.proofs.Common.{◌≡◌, ◌+◌, ◌∙◌, ap, sym, subst, ari
 use Rattle.std.specs.Prelude.{◌++◌, ◌∷◌, []}
 use Rattle.scope.specs.Active.{bare}
 use Rattle.entries.specs.Entries.{assertion_of, made as made_of}
-use Rattle.frame.specs.ByPlaces.{AreBelow}
+use Rattle.frame.specs.Below.{AreBelow}
 use Rattle.frame.specs.Drafts.{made}
 use Rattle.frame.specs.Stored.{statements_of, kind_of, HasTwo}
 use Rattle.frame.proofs.ExtendLemmas.{is-pushed}

@@ -1,10 +1,12 @@
 use Rattle.std.proofs.Common.{◌≡◌, ◌∙◌, ◌-◌, ap, sym, arith, take}
 use Rattle.std.specs.Prelude.{slice_get}
 use Rattle.std.proofs.lemmas.Option.{slice_get_within}
+use Rattle.scope.specs.Active.{is_assertion}
 use Rattle.frame.specs.FrameOf.{hypotheses}
 use Rattle.frame.specs.Stored.{statements_of, stmt_of}
 use Rattle.frame.proofs.WalkLemmas.{some-same}
 use Rattle.frame.proofs.CitedLemmas.{is-there}
+use Rattle.frame.proofs.AssertionLemmas.{asserted}
 use Rattle.frame.proofs.hypotheses.hypotheses_at.Goals as goal
 
 pub hypotheses-requires : goal.hypotheses-requires
@@ -24,4 +26,5 @@ returns c = λ s h.
     let same : c.requires.assertion.0 ≡ s = some-same (sym c.requires.assertion.1.0 ∙ h) in
     c.hypotheses.ensures t.1 (ap (slice_get k.entries) back ∙ w.here)
     ∙ (w.kept.hypotheses_kept
-    ∙ (ap (λ i. hypotheses (take i (statements_of k)) (stmt_of k.names k.labels t.1)) (sym back) ∙ ap (hypotheses (take (c.args.a - 1) (statements_of k))) (w.is ∙ same)))
+    ∙ (asserted (take t.0 (statements_of k)) (stmt_of k.names k.labels t.1) (ap is_assertion w.is ∙ c.requires.assertion.1.1)
+    ∙ (ap (λ i. hypotheses (take i (statements_of k)) (stmt_of k.names k.labels t.1)) (sym back) ∙ ap (hypotheses (take (c.args.a - 1) (statements_of k))) (w.is ∙ same))))

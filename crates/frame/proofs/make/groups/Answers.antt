@@ -2,7 +2,7 @@ use Rattle.std.proofs.Common.{◌≡◌, ◌-◌, ap, sym, subst, arith, take, r
 use Rattle.std.proofs.lemmas.List.{length-map, length-take-le}
 use Rattle.frame.specs.Links.{actives, is_disj}
 use Rattle.entries.specs.Spans.{cut, AreSpansIn}
-use Rattle.frame.specs.Stored.{statements_of, stmt_of, places_of, symbols_at, option_symbols, has_two}
+use Rattle.frame.specs.Stored.{statements_of, stmt_of, placed, symbols_at, option_symbols, has_two}
 use Rattle.entries.specs.Entries.{seen}
 use Rattle.frame.proofs.WalkLemmas.{walk-back, walk-over, last-within}
 use Rattle.frame.proofs.MakeLemmas.{AreGroups, groups-step, groups-start, groups-end}
@@ -54,8 +54,8 @@ loop-last-preserved c =
     let g = c.entry-entry.ensures.1 in
     let l = ap (λ q. q.disjoint) (c.requires.stored.linked (p - 1) e g) in
     let vs = c.args.variables.now in
-    let group = places_of vs c.entry-entry.result.symbols.now in
-    let own : group ≡ places_of vs (symbols_at k.entries p) = ap (places_of vs) (ap option_symbols (sym g)) in
+    let group = placed vs c.entry-entry.result.symbols.now in
+    let own : group ≡ placed vs (symbols_at k.entries p) = ap (placed vs) (ap option_symbols (sym g)) in
     record {
       walk = (
         p - 1,

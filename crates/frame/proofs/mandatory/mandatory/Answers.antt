@@ -2,16 +2,15 @@ use Rattle.std.proofs.Common.{◌≡◌, ◌-◌, ◌∙◌, ap, sym, subst, ari
 use Rattle.std.proofs.lemmas.List.{length-map, length-take-le}
 use Rattle.scope.specs.Active.{is_essential}
 use Rattle.frame.specs.Links.{actives}
-use Rattle.frame.specs.Stored.{statements_of, stmt_of, inserted, with_floats, with_essentials, symbols_at, option_symbols, IsLooked}
+use Rattle.frame.specs.Stored.{Ascends, statements_of, stmt_of, inserted, with_all, with_essentials, kept_at, option_kept}
 use Rattle.frame.proofs.WalkLemmas.{walk-back, walk-over, last-within}
-use Rattle.frame.proofs.StoredLemmas.{numbered-at}
 use Rattle.frame.proofs.CollectLemmas.{essentials-step}
-use Rattle.frame.proofs.LookedLemmas.{looked-inserted}
+use Rattle.frame.proofs.CollectedLemmas.{ascends-inserted}
 use Rattle.entries.specs.Entries.{seen}
 use Rattle.frame.proofs.mandatory.mandatory.Goals as goal
 
-pub entry-entry-requires : goal.entry-entry-requires
-entry-entry-requires c =
+pub hypotheses-requires : goal.hypotheses-requires
+hypotheses-requires c =
     let k = c.args.stock.now in
     let S = statements_of k in
     let i = c.loop-essential.invariant in
@@ -21,8 +20,8 @@ entry-entry-requires c =
     let b = w.1.within in let one = w.1.above in let high = i.1 in
     omega (arith, n, b, one, high)
 
-pub put_floats-requires-in-loop-essential-clause-codes : goal.put_floats-requires-in-loop-essential-clause-codes
-put_floats-requires-in-loop-essential-clause-codes c =
+pub entry-essential-requires : goal.entry-essential-requires
+entry-essential-requires c =
     let k = c.args.stock.now in
     let S = statements_of k in
     let i = c.loop-essential.invariant in
@@ -30,9 +29,10 @@ put_floats-requires-in-loop-essential-clause-codes c =
     let n = length-map k.entries (stmt_of k.names k.labels) in
     let w = walk-back is_essential S i.0 p refl i.1 i.2 c.loop-essential-test.true in
     let b = w.1.within in let one = w.1.above in let high = i.1 in
-    let e = seen c.entry-entry.result c.entry-entry.ensures.0 in
-    let g = c.entry-entry.ensures.1 in
-    numbered-at (length k.names) (length k.labels) k.entries c.requires.stored.coded (p - 1) e g
+    omega (arith, n, b, one, high)
+
+pub put_all-requires : goal.put_all-requires
+put_all-requires c = subst Ascends (sym c.in_ok-put.ensures) (ascends-inserted c.loop-essential.essential c.loop-essential.list.items c.loop-essential.invariant.4)
 
 pub loop-essential-smaller : goal.loop-essential-smaller
 loop-essential-smaller c =
@@ -43,8 +43,8 @@ loop-essential-smaller c =
     let n = length-map k.entries (stmt_of k.names k.labels) in
     let w = walk-back is_essential S i.0 p refl i.1 i.2 c.loop-essential-test.true in
     let b = w.1.within in let one = w.1.above in let high = i.1 in
-    let e = seen c.entry-entry.result c.entry-entry.ensures.0 in
-    let g = c.entry-entry.ensures.1 in
+    let e = seen c.entry-essential.result c.entry-essential.ensures.0 in
+    let g = c.entry-essential.ensures.1 in
     let l = ap (λ q. q.essential) (c.requires.stored.linked (p - 1) e g) in
     let a = last-within is_essential (take (p - 1) S) refl in
     let d = length-take-le (p - 1) S (omega (arith, b, high)) in
@@ -59,20 +59,21 @@ loop-essential-preserved c =
     let n = length-map k.entries (stmt_of k.names k.labels) in
     let w = walk-back is_essential S i.0 p refl i.1 i.2 c.loop-essential-test.true in
     let b = w.1.within in let one = w.1.above in let high = i.1 in
-    let e = seen c.entry-entry.result c.entry-entry.ensures.0 in
-    let g = c.entry-entry.ensures.1 in
+    let e = seen c.entry-essential.result c.entry-essential.ensures.0 in
+    let g = c.entry-essential.ensures.1 in
     let l = ap (λ q. q.essential) (c.requires.stored.linked (p - 1) e g) in
     let es = k.entries in
     let there = actives is_essential (take (p - 1) S) in
-    let list : c.put_floats-in-loop-essential.new.list.items ≡ with_floats es S (symbols_at es p) (inserted p c.loop-essential.list.items) =
-    c.in_ok-put_floats-2.ensures.list
-    ∙ (ap (λ codes. with_floats es S codes c.put.new.list.items) (ap option_symbols (sym g)) ∙ ap (with_floats es S (symbols_at es p)) c.in_ok-put.ensures) in (
+    let kept = c.hypotheses.ensures e g in
+    let list : c.put_all.new.list.items ≡ with_all (kept_at es p) (inserted p c.loop-essential.list.items) =
+    c.in_ok-put_all.ensures.list
+    ∙ (ap (λ ps. with_all ps c.put.new.list.items) (kept ∙ sym (ap option_kept g)) ∙ ap (with_all (kept_at es p)) c.in_ok-put.ensures) in (
       p - 1,
       omega (arith, b, high),
       l,
-      ap (with_essentials es S there) list
-          ∙ (sym (essentials-step es S there p w.0 c.loop-essential.list.items) ∙ (ap (λ r. with_essentials es S r c.loop-essential.list.items) (sym w.1.list) ∙ i.3)),
-      c.in_ok-put_floats-2.ensures.looked,
+      ap (with_essentials es there) list
+          ∙ (sym (essentials-step es there p w.0 c.loop-essential.list.items) ∙ (ap (λ r. with_essentials es r c.loop-essential.list.items) (sym w.1.list) ∙ i.3)),
+      c.in_ok-put_all.ensures.ascends,
     )
 
 pub returns : goal.returns
@@ -80,11 +81,4 @@ returns c =
     let k = c.args.stock.now in
     let S = statements_of k in
     let i = c.loop-essential.invariant in
-    sym (ap (λ r. with_essentials k.entries S r c.loop-essential.list.items) (walk-over is_essential S i.0 c.loop-essential.essential refl i.2 c.loop-essential-test.false)) ∙ i.3
-
-pub put_floats-requires-in-loop-essential-clause-looked : goal.put_floats-requires-in-loop-essential-clause-looked
-put_floats-requires-in-loop-essential-clause-looked c =
-    let k = c.args.stock.now in
-    let S = statements_of k in
-    subst (IsLooked k.entries S c.loop-essential.looked) (sym c.in_ok-put.ensures)
-    (looked-inserted k.entries S c.loop-essential.looked c.loop-essential.essential c.loop-essential.list.items c.loop-essential.invariant.4)
+    sym (ap (λ r. with_essentials k.entries r c.loop-essential.list.items) (walk-over is_essential S i.0 c.loop-essential.essential refl i.2 c.loop-essential-test.false)) ∙ i.3

@@ -1,14 +1,13 @@
 use Rattle.std.proofs.Common.{◌≡◌, ◌≤◌, ℕ, length, take}
 use Rattle.scope.specs.Active.{is_essential}
 use Rattle.frame.specs.Links.{actives, last_active}
-use Rattle.frame.specs.Stored.{statements_of, with_essentials, collected, IsLooked}
+use Rattle.frame.specs.Stored.{Ascends, statements_of, with_essentials, collected}
 use Rattle.frame.proofs.mandatory.mandatory.Given as goal
 
 abbrev pub invariant-loop-essential : goal.invariant-loop-essential
 invariant-loop-essential l = (m : ℕ) × (m ≤ length (statements_of l.stock)) × (l.essential ≡ last_active is_essential (take m (statements_of l.stock)))
-    × (with_essentials l.stock.entries (statements_of l.stock) (actives is_essential (take m (statements_of l.stock))) l.list.items
-    ≡ collected l.stock.entries (statements_of l.stock) l.codes)
-    × IsLooked l.stock.entries (statements_of l.stock) l.looked l.list.items
+    × (with_essentials l.stock.entries (actives is_essential (take m (statements_of l.stock))) l.list.items ≡ collected l.stock.entries (statements_of l.stock) l.codes)
+    × Ascends l.list.items
 
 abbrev pub decreases-loop-essential : goal.decreases-loop-essential
 decreases-loop-essential l = l.essential

@@ -1,6 +1,6 @@
 use Rattle.std.proofs.Common.{◌≡◌, ◌<◌, ◌^◌, ◌++◌, length}
 use Rattle.names.specs.Codes.{decode, with_names}
-use Rattle.frame.specs.ByPlaces.{AreBelow}
+use Rattle.frame.specs.Below.{AreBelow}
 use Rattle.frame.specs.Stored.{Extends, AreZeroBehind}
 use Rattle.frame.proofs.numbers.declared_numbers.Given as goal
 

@@ -1,6 +1,6 @@
 use Rattle.std.proofs.Common.{◌∙◌, ◌++◌, ap, sym, subst, rules, length}
 use Rattle.names.specs.Codes.{decode}
-use Rattle.frame.specs.ByPlaces.{AreBelow}
+use Rattle.frame.specs.Below.{AreBelow}
 use Rattle.frame.proofs.NumberLemmas.{below-push, stand-step, extends-same, first-named, rest-named}
 use Rattle.frame.proofs.numbers.list_numbers.Goals as goal
 

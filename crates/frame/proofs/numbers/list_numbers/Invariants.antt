@@ -1,6 +1,6 @@
 use Rattle.std.proofs.Common.{◌≡◌, ◌++◌, length}
 use Rattle.names.specs.Codes.{decode, AreNamed}
-use Rattle.frame.specs.ByPlaces.{AreBelow}
+use Rattle.frame.specs.Below.{AreBelow}
 use Rattle.frame.proofs.numbers.list_numbers.Given as goal
 
 abbrev pub invariant-loop-word : goal.invariant-loop-word

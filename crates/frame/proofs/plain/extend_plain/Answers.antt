@@ -28,7 +28,7 @@ returns-clause-stored c =
     let is_kind : c.kind-kind.result ≡ kind_of (bare s) = c.kind-kind.ensures in
     let head = c.in_ok-head.ensures (bare s) is_kind in
     let own = entered-statement k k new codes e.assertion h s head (ap (with_names k.names) (sym c.requires.plain.declares_none)) c.requires.plain.numbers told.names told.labels told.positions
-    (λ a. absurd (false≢true (sym c.requires.plain.asserts_none ∙ a))) in
+    (λ a. absurd (false≢true (sym c.requires.plain.asks_none ∙ a))) in
     let room : HasRoom new = record { count = ap (λ v. length v.items) told.same_symbols ∙ (c.requires.stored.count ∙ ap length (sym told.names)); few = let n = ap length told.names in let f = c.requires.stored.few in omega (arith, n, f) } in
     let pushed = is-pushed k new (bare s) e c.kind-kind.result codes codes (c.len-at.result + 1) c.deref.result.now c.declare.new.symbols.items c.note_replaced.new.replaced.items c.push_plain.new.self c.links_after-links.result
     c.requires.stored own told.grown room (legal-bare (statements_of k) s c.requires.legal) (is_kind ∙ sym head.kind) refl refl (omega (arith, c.len-at.ensures.len)) c.deref.ensures.value
@@ -48,7 +48,7 @@ returns-clause-added c =
     let is_kind : c.kind-kind.result ≡ kind_of (bare s) = c.kind-kind.ensures in
     let head = c.in_ok-head.ensures (bare s) is_kind in
     let own = entered-statement k k new codes e.assertion h s head (ap (with_names k.names) (sym c.requires.plain.declares_none)) c.requires.plain.numbers told.names told.labels told.positions
-    (λ a. absurd (false≢true (sym c.requires.plain.asserts_none ∙ a))) in
+    (λ a. absurd (false≢true (sym c.requires.plain.asks_none ∙ a))) in
     let room : HasRoom new = record { count = ap (λ v. length v.items) told.same_symbols ∙ (c.requires.stored.count ∙ ap length (sym told.names)); few = let n = ap length told.names in let f = c.requires.stored.few in omega (arith, n, f) } in
     let pushed = is-pushed k new (bare s) e c.kind-kind.result codes codes (c.len-at.result + 1) c.deref.result.now c.declare.new.symbols.items c.note_replaced.new.replaced.items c.push_plain.new.self c.links_after-links.result
     c.requires.stored own told.grown room (legal-bare (statements_of k) s c.requires.legal) (is_kind ∙ sym head.kind) refl refl (omega (arith, c.len-at.ensures.len)) c.deref.ensures.value

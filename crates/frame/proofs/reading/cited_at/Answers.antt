@@ -1,7 +1,7 @@
 use Rattle.std.proofs.Common.{◌≡◌, ◌∙◌, ◌-◌, ap, sym, subst, arith}
 use Rattle.std.specs.Prelude.{slice_get}
 use Rattle.std.proofs.lemmas.Option.{slice_get_within}
-use Rattle.frame.specs.Reading.{IsCited}
+use Rattle.frame.specs.Cited.{IsCited}
 use Rattle.frame.specs.Stored.{statements_of}
 use Rattle.frame.proofs.WalkLemmas.{some-same}
 use Rattle.frame.proofs.CitedLemmas.{is-there, there-cited}
@@ -26,4 +26,4 @@ returns c = λ s h.
     let same : c.requires.assertion.0 ≡ s = some-same (sym c.requires.assertion.1.0 ∙ h) in
     subst (λ r. IsCited (statements_of k) k.names c.args.a r c.cited.result) same
     (there-cited k c.args.a t.0 c.requires.assertion.0 t.1 c.cited.result c.requires.stored c.requires.distinct c.requires.assertion.1.1 w
-    (p.patterns t.1 here) (p.templates t.1 here) (p.conclusion t.1 here) (p.groups t.1 here))
+    (p.heads t.1 here) (p.hypotheses t.1 here) (p.conclusion t.1 here) (p.groups t.1 here))

@@ -1,6 +1,6 @@
 use Rattle.std.proofs.Common.{◌≡◌, ◌+◌, ◌-◌, ◌∙◌, ap, sym, subst, arith, length, length-append, take}
 use Rattle.std.specs.Prelude.{[], ◌∷◌, Some}
-use Rattle.frame.specs.ByPlaces.{AreBelow}
+use Rattle.frame.specs.Below.{AreBelow}
 use Rattle.entries.specs.Entries.{seen}
 use Rattle.frame.specs.Stored.{Extends, ReadsAs, replaced_of, symbol_of}
 use Rattle.frame.proofs.DeclareLemmas.{symbol_of-push}

@@ -1,6 +1,6 @@
 use Rattle.std.proofs.Common.{refl}
-use Rattle.names.proofs.TableLemmas.{no-names}
+use Rattle.names.proofs.TableLemmas.{unused}
 use Rattle.names.proofs.table.free_slots.Goals as goal
 
 pub returns : goal.returns
-returns c = no-names _ c.new-slots.result.items _ _ _ c.new-slots.ensures.items c.in_ok-resize.ensures.items refl
+returns c = unused _ c.new-slots.result.items _ _ _ c.new-slots.ensures.items c.in_ok-resize.ensures.items refl

@@ -1,14 +1,14 @@
-use Rattle.std.proofs.Common.{sym, inl, inr, below_more, rules, length}
+use Rattle.std.proofs.Common.{sym, inl, inr, below_more, arith, length}
 use Rattle.names.specs.Table.{place_of}
 use Rattle.names.proofs.CodesLemmas.{code-at}
-use Rattle.names.proofs.TableLemmas.{passed-one, not-found}
+use Rattle.names.proofs.TableLemmas.{passed-one, ended}
 use Rattle.names.proofs.table.search_on.Goals as goal
 use Rattle.names.proofs.table.search_on.Goals.{else-slot-key-via-then-slot-key+else-is_name, else-slot-key-via-else-slot-key}
 
 pub returns-then-slot : goal.returns-then-slot
 returns-then-slot c =
-    sym (not-found c.args.slots.now c.args.texts.now c.args.name.now c.key-key.result c.loop-step.step c.key-key.ensures.key c.requires.table.held c.requires.few c.loop-step.invariant
-    (inr (c.look-slot.result, c.look-slot.ensures, c.if-slot.true)))
+    ended c.args.slots.now c.args.overflow.now c.args.texts.now c.args.name.now c.key-key.result c.loop-step.step c.search_apart.result c.key-key.ensures.key c.requires.found c.requires.few c.loop-step.invariant
+    (inr (c.look-slot.result, c.look-slot.ensures, c.if-slot.true)) c.search_apart.ensures.some c.search_apart.ensures.none
 
 pub returns-then-is_name : goal.returns-then-is_name
 returns-then-is_name c =
@@ -26,7 +26,11 @@ loop-step-preserved c =
 
 pub returns : goal.returns
 returns c =
-    sym (not-found c.args.slots.now c.args.texts.now c.args.name.now c.key-key.result c.loop-step.step c.key-key.ensures.key c.requires.table.held c.requires.few c.loop-step.invariant (inl (search rules)))
+    ended c.args.slots.now c.args.overflow.now c.args.texts.now c.args.name.now c.key-key.result c.loop-step.step c.search_apart-2.result c.key-key.ensures.key c.requires.found c.requires.few c.loop-step.invariant
+    (inl (elim c.steps-step-end.ensures.all [
+      | inl p ↦ inl (omega (arith, p))
+      | inr p ↦ inr (omega (arith, p))
+    ])) c.search_apart-2.ensures.some c.search_apart-2.ensures.none
 
 pub is_name-requires-clause-sound : goal.is_name-requires-clause-sound
-is_name-requires-clause-sound c = c.requires.table.keys (place_of c.key-key.result c.loop-step.step (length c.args.slots.now)) c.look-slot.result c.look-slot.ensures
+is_name-requires-clause-sound c = c.requires.sound (place_of c.key-key.result c.loop-step.step (length c.args.slots.now)) c.look-slot.result c.look-slot.ensures

@@ -1,7 +1,11 @@
-use Rattle.std.proofs.Common.{take}
 use Rattle.names.specs.declared.table.TheConstants.{NO_NAME}
-use Rattle.names.specs.Table.{IsTable}
+use Rattle.names.specs.Table.{AreKept, AreFewer, AreHeld, AreSound}
 use Rattle.names.proofs.table.table.Given as goal
 
 abbrev pub invariant-loop-number : goal.invariant-loop-number
-invariant-loop-number l = IsTable l.slots.items (take l.number l.texts) NO_NAME
+invariant-loop-number l = record {
+  kept : AreKept l.kept l.texts;
+  fewer : AreFewer l.initial.kept l.kept;
+  held : AreHeld l.number l.slots.items l.kept l.texts;
+  sound : AreSound l.slots.items l.texts NO_NAME;
+}

@@ -1,6 +1,6 @@
 use Rattle.std.proofs.Common.{◌∙◌, sym, ap, subst, length}
 use Rattle.names.specs.Codes.{decode}
-use Rattle.frame.specs.ByPlaces.{AreBelow}
+use Rattle.frame.specs.Below.{AreBelow}
 use Rattle.frame.specs.Substitution.{images_of_names}
 use Rattle.names.proofs.CodesLemmas.{code-name}
 use Rattle.subst.specs.Images.{is_image_apart}

@@ -1,4 +1,4 @@
-use Rattle.std.proofs.Common.{sym, ◌∙◌, subst}
+use Rattle.std.proofs.Common.{◌∙◌, subst}
 use Rattle.verify.specs.Table.{IsEntry}
 use Rattle.verify.proofs.KnownLemmas.{nothing-on, assertion-on, give-on}
 use Rattle.verify.proofs.StepLemmas.{get-default}

@@ -1,4 +1,4 @@
-use Rattle.std.proofs.Common.{◌≡◌, ℕ, ◌-◌, ◌<◌, ◌≤◌, [], length, get_or, arith, refl}
+use Rattle.std.proofs.Common.{◌≡◌, ℕ, ◌-◌, [], get_or, arith, refl}
 use Rattle.std.specs.Prelude.{suc}
 use Rattle.verify.proofs.KnownLemmas.{mark-on, has-on, recall-on, cite-on}
 use Rattle.verify.proofs.TableLemmas.{entry_at}

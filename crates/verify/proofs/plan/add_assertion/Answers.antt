@@ -1,5 +1,5 @@
 use Rattle.std.proofs.Common.{◌≡◌, length, map, arith, refl, sym, ap, ◌∙◌, ◌++◌, ◌∷◌, [], ◌-◌, take, subst}
-use Rattle.frame.specs.ByPlaces.{AreBelow}
+use Rattle.frame.specs.Below.{AreBelow}
 use Rattle.verify.specs.declared.plan.Node.TheVariants.{Apply}
 use Rattle.verify.specs.Derivations.{apply, from_list}
 use Rattle.verify.specs.Growth.{with_tree}

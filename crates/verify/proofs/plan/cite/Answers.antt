@@ -2,6 +2,7 @@ use Rattle.std.proofs.Common.{length, arith, subst}
 use Rattle.std.proofs.lemmas.List.{length-map}
 use Rattle.verify.specs.Plan.{pick, built, trees_of}
 use Rattle.verify.specs.Table.{IsEntry}
+use Rattle.verify.proofs.AskedLemmas.{asked-lengths}
 use Rattle.verify.proofs.GrowthLemmas.{too-few, assertion-grows, hypothesis-grows}
 use Rattle.verify.proofs.plan.cite.Goals as goal
 
@@ -9,8 +10,8 @@ pub returns-then-count-len-clause-grew : goal.returns-then-count-len-clause-grew
 returns-then-count-len-clause-grew c = λ at label once is.
     let h = subst (IsEntry c.args.frames.now.statements at label) c.in-Assertion.is is in
     let l = length-map c.args.plan.now.stack.items (pick (built c.args.plan.now.nodes.items)) in
-    too-few c.args.frames.now.statements at label once c.in-Assertion.position h.0 h.1 h.2 (trees_of c.args.plan.now) (trees_of c.args.plan.now) (length c.cited.result.patterns.now)
-    (c.cited.ensures h.0 h.1.stands).by_places.count (let t = c.if-count-len.true in let e = c.len.ensures in omega (arith, t, e, l))
+    too-few c.args.frames.now.statements at label once c.in-Assertion.position h.0 h.1 h.2 (trees_of c.args.plan.now) (trees_of c.args.plan.now) (length c.cited.result.hypotheses.now)
+    (asked-lengths c.args.frames.now.statements c.args.frames.now.names _ c.cited.result.heads.now c.cited.result.hypotheses.now (c.cited.ensures h.0 h.1.stands).asked).1 (let t = c.if-count-len.true in let e = c.len.ensures in omega (arith, t, e, l))
 
 pub returns-in_ok-add_hypothesis-in-Hypothesis-clause-grew : goal.returns-in_ok-add_hypothesis-in-Hypothesis-clause-grew
 returns-in_ok-add_hypothesis-in-Hypothesis-clause-grew c = λ at label once is.
@@ -21,5 +22,5 @@ pub returns-in_ok-add_assertion-in-Assertion-clause-grew : goal.returns-in_ok-ad
 returns-in_ok-add_assertion-in-Assertion-clause-grew c = λ at label once is.
     let h = subst (IsEntry c.args.frames.now.statements at label) c.in-Assertion.is is in
     let l = length-map c.args.plan.now.stack.items (pick (built c.args.plan.now.nodes.items)) in
-    assertion-grows c.args.frames.now.statements at label c.in-Assertion.position h.0 h.1 h.2 (trees_of c.args.plan.now) (trees_of c.add_assertion.new.plan) (length c.cited.result.patterns.now)
-    (c.cited.ensures h.0 h.1.stands).by_places.count (let t = c.if-count-len.false in let e = c.len.ensures in omega (arith, t, e, l)) c.in_ok-add_assertion-in-Assertion.ensures.grew
+    assertion-grows c.args.frames.now.statements at label c.in-Assertion.position h.0 h.1 h.2 (trees_of c.args.plan.now) (trees_of c.add_assertion.new.plan) (length c.cited.result.hypotheses.now)
+    (asked-lengths c.args.frames.now.statements c.args.frames.now.names _ c.cited.result.heads.now c.cited.result.hypotheses.now (c.cited.ensures h.0 h.1.stands).asked).1 (let t = c.if-count-len.false in let e = c.len.ensures in omega (arith, t, e, l)) c.in_ok-add_assertion-in-Assertion.ensures.grew

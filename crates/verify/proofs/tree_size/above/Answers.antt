@@ -2,7 +2,7 @@ use Rattle.std.proofs.Common.{◌≡◌, ℕ, length, get_or, arith, ◌∙◌}
 use Rattle.std.specs.Prelude.{max}
 use Rattle.std.specs.Ordering.{nat_cmp, ord_max}
 use Rattle.std.proofs.lemmas.Bool.Decides.{nat_tests}
-use Rattle.verify.proofs.ApartLemmas.{below-at}
+use Rattle.subst.proofs.NumbersApartLemmas.{below-at}
 use Rattle.verify.proofs.SizeLemmas.{so-far-step, extent-low}
 use Rattle.verify.proofs.tree_size.above.Goals as goal
 

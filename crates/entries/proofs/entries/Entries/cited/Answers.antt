@@ -25,7 +25,7 @@ part-requires c =
     let row : w ≡ own_row b.rows.items r = c.row_of-row.ensures ∙ ap (λ ws. own_row ws r) c.deref.ensures.value in
     let is = reads-some b rs c.args.self.now c.args.index r c.self.invariant c.self.view_is got in
     let s : IsReading b w is.0 = subst (λ v. IsReading b v is.0) (sym row) is.1 in
-    (s.hypotheses_in, omega (arith, ap length c.deref-3.ensures.value, s.hypotheses_end, c.self.invariant.paired))
+    (s.heads_in, omega (arith, ap length c.as_slice-numbers.ensures.value, s.places_in, s.numbers_in))
 
 pub part-requires-2 : goal.part-requires-2
 part-requires-2 c =
@@ -37,7 +37,7 @@ part-requires-2 c =
     let row : w ≡ own_row b.rows.items r = c.row_of-row.ensures ∙ ap (λ ws. own_row ws r) c.deref.ensures.value in
     let is = reads-some b rs c.args.self.now c.args.index r c.self.invariant c.self.view_is got in
     let s : IsReading b w is.0 = subst (λ v. IsReading b v is.0) (sym row) is.1 in
-    (s.templates_in, omega (arith, ap length c.as_slice-numbers.ensures.value, s.conclusion_in, s.places_in, s.numbers_in))
+    (s.hypotheses_in, omega (arith, ap length c.deref-3.ensures.value, s.hypotheses_end, c.self.invariant.paired))
 
 pub part-requires-3 : goal.part-requires-3
 part-requires-3 c =
@@ -49,22 +49,10 @@ part-requires-3 c =
     let row : w ≡ own_row b.rows.items r = c.row_of-row.ensures ∙ ap (λ ws. own_row ws r) c.deref.ensures.value in
     let is = reads-some b rs c.args.self.now c.args.index r c.self.invariant c.self.view_is got in
     let s : IsReading b w is.0 = subst (λ v. IsReading b v is.0) (sym row) is.1 in
-    (s.conclusion_in, omega (arith, ap length c.as_slice-numbers.ensures.value, s.places_in, s.numbers_in))
+    (s.groups_in, omega (arith, ap length c.deref-4.ensures.value, s.groups_end))
 
 pub part-requires-4 : goal.part-requires-4
 part-requires-4 c =
-    let b = c.self.inside.buffers in
-    let rs = c.self.inside.records.items in
-    let r = c.item.result in
-    let w = c.row_of-row.result in
-    let got = ap (λ xs. slice_get xs c.args.index) (sym c.deref-2.ensures.value) ∙ c.item.ensures in
-    let row : w ≡ own_row b.rows.items r = c.row_of-row.ensures ∙ ap (λ ws. own_row ws r) c.deref.ensures.value in
-    let is = reads-some b rs c.args.self.now c.args.index r c.self.invariant c.self.view_is got in
-    let s : IsReading b w is.0 = subst (λ v. IsReading b v is.0) (sym row) is.1 in
-    (s.groups_in, omega (arith, ap length c.deref-4.ensures.value, s.groups_end))
-
-pub part-requires-5 : goal.part-requires-5
-part-requires-5 c =
     let b = c.self.inside.buffers in
     let rs = c.self.inside.records.items in
     let r = c.item.result in
@@ -85,13 +73,13 @@ invariant_of-result c =
     let row : w ≡ own_row b.rows.items r = c.row_of-row.ensures ∙ ap (λ ws. own_row ws r) c.deref.ensures.value in
     let is = reads-some b rs c.args.self.now c.args.index r c.self.invariant c.self.view_is got in
     let s : IsReading b w is.0 = subst (λ v. IsReading b v is.0) (sym row) is.1 in
-    let spans = part-of b.groups.items c.deref-4.result.now c.part-4.result.now w.groups_from w.groups c.deref-4.ensures.value c.part-4.ensures in
-    let places = part-of b.numbers.items c.as_slice-numbers.result.now c.part-5.result.now w.conclusion w.places c.as_slice-numbers.ensures.value c.part-5.ensures in
-    let count : w.places - w.conclusion ≡ length c.part-5.result.now = omega (arith, ap length places, length-range b.numbers.items w.conclusion w.places s.numbers_in) in
-    subst (λ n. AreSpansIn n c.part-4.result.now) count (subst (AreSpansIn (w.places - w.conclusion)) (sym spans) s.grouped)
+    let spans = part-of b.groups.items c.deref-4.result.now c.part-3.result.now w.groups_from w.groups c.deref-4.ensures.value c.part-3.ensures in
+    let places = part-of b.numbers.items c.as_slice-numbers.result.now c.part-4.result.now w.heads w.places c.as_slice-numbers.ensures.value c.part-4.ensures in
+    let count : w.places - w.heads ≡ length c.part-4.result.now = omega (arith, ap length places, length-range b.numbers.items w.heads w.places s.numbers_in) in
+    subst (λ n. AreSpansIn n c.part-3.result.now) count (subst (AreSpansIn (w.places - w.heads)) (sym spans) s.grouped)
 
-pub returns-clause-patterns : goal.returns-clause-patterns
-returns-clause-patterns c = λ e h.
+pub returns-clause-heads : goal.returns-clause-heads
+returns-clause-heads c = λ e h.
     let b = c.self.inside.buffers in
     let rs = c.self.inside.records.items in
     let r = c.item.result in
@@ -99,10 +87,10 @@ returns-clause-patterns c = λ e h.
     let got = ap (λ xs. slice_get xs c.args.index) (sym c.deref-2.ensures.value) ∙ c.item.ensures in
     let row : w ≡ own_row b.rows.items r = c.row_of-row.ensures ∙ ap (λ ws. own_row ws r) c.deref.ensures.value in
     let s : IsReading b w e.assertion = subst (λ v. IsReading b v e.assertion) (sym row) (reads b rs c.args.self.now c.args.index r c.self.invariant c.self.view_is got e h) in
-    part-of b.patterns.items c.deref-3.result.now c.part.result.now w.hypotheses_from w.hypotheses c.deref-3.ensures.value c.part.ensures ∙ s.patterns
+    part-of b.numbers.items c.as_slice-numbers.result.now c.part.result.now w.symbols w.heads c.as_slice-numbers.ensures.value c.part.ensures ∙ s.heads
 
-pub returns-clause-templates : goal.returns-clause-templates
-returns-clause-templates c = λ e h.
+pub returns-clause-hypotheses : goal.returns-clause-hypotheses
+returns-clause-hypotheses c = λ e h.
     let b = c.self.inside.buffers in
     let rs = c.self.inside.records.items in
     let r = c.item.result in
@@ -110,18 +98,7 @@ returns-clause-templates c = λ e h.
     let got = ap (λ xs. slice_get xs c.args.index) (sym c.deref-2.ensures.value) ∙ c.item.ensures in
     let row : w ≡ own_row b.rows.items r = c.row_of-row.ensures ∙ ap (λ ws. own_row ws r) c.deref.ensures.value in
     let s : IsReading b w e.assertion = subst (λ v. IsReading b v e.assertion) (sym row) (reads b rs c.args.self.now c.args.index r c.self.invariant c.self.view_is got e h) in
-    part-of b.numbers.items c.as_slice-numbers.result.now c.part-2.result.now w.symbols w.templates c.as_slice-numbers.ensures.value c.part-2.ensures ∙ s.templates
-
-pub returns-clause-conclusion : goal.returns-clause-conclusion
-returns-clause-conclusion c = λ e h.
-    let b = c.self.inside.buffers in
-    let rs = c.self.inside.records.items in
-    let r = c.item.result in
-    let w = c.row_of-row.result in
-    let got = ap (λ xs. slice_get xs c.args.index) (sym c.deref-2.ensures.value) ∙ c.item.ensures in
-    let row : w ≡ own_row b.rows.items r = c.row_of-row.ensures ∙ ap (λ ws. own_row ws r) c.deref.ensures.value in
-    let s : IsReading b w e.assertion = subst (λ v. IsReading b v e.assertion) (sym row) (reads b rs c.args.self.now c.args.index r c.self.invariant c.self.view_is got e h) in
-    part-of b.numbers.items c.as_slice-numbers.result.now c.part-3.result.now w.templates w.conclusion c.as_slice-numbers.ensures.value c.part-3.ensures ∙ s.conclusion
+    part-of b.asked.items c.deref-3.result.now c.part-2.result.now w.hypotheses_from w.hypotheses c.deref-3.ensures.value c.part-2.ensures ∙ s.asked
 
 pub returns-clause-groups : goal.returns-clause-groups
 returns-clause-groups c = λ e h.
@@ -132,6 +109,6 @@ returns-clause-groups c = λ e h.
     let got = ap (λ xs. slice_get xs c.args.index) (sym c.deref-2.ensures.value) ∙ c.item.ensures in
     let row : w ≡ own_row b.rows.items r = c.row_of-row.ensures ∙ ap (λ ws. own_row ws r) c.deref.ensures.value in
     let s : IsReading b w e.assertion = subst (λ v. IsReading b v e.assertion) (sym row) (reads b rs c.args.self.now c.args.index r c.self.invariant c.self.view_is got e h) in
-    let spans = part-of b.groups.items c.deref-4.result.now c.part-4.result.now w.groups_from w.groups c.deref-4.ensures.value c.part-4.ensures in
-    let places = part-of b.numbers.items c.as_slice-numbers.result.now c.part-5.result.now w.conclusion w.places c.as_slice-numbers.ensures.value c.part-5.ensures in
-    ap (cut c.part-5.result.now) spans ∙ (ap (λ xs. cut xs (slice_range b.groups.items w.groups_from w.groups)) places ∙ s.groups)
+    let spans = part-of b.groups.items c.deref-4.result.now c.part-3.result.now w.groups_from w.groups c.deref-4.ensures.value c.part-3.ensures in
+    let places = part-of b.numbers.items c.as_slice-numbers.result.now c.part-4.result.now w.heads w.places c.as_slice-numbers.ensures.value c.part-4.ensures in
+    ap (cut c.part-4.result.now) spans ∙ (ap (λ xs. cut xs (slice_range b.groups.items w.groups_from w.groups)) places ∙ s.groups)

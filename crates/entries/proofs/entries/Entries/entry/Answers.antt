@@ -66,7 +66,7 @@ slice_bounds-result-end c =
     ∙ (ap (λ qs. symbols_by r.has_row (own_row b.rows.items r) (from_by (length c.as_slice-numbers.result.now) (slice_get qs (c.args.index + 1)))) c.deref-3.ensures.value
     ∙ (ap (λ m. symbols_by r.has_row (own_row b.rows.items r) (from_by m (slice_get rs (c.args.index + 1)))) n
     ∙ sym (symbols-there b rs c.args.self.now c.args.index r c.self.invariant c.self.view_is got)))) in
-    omega (arith, n, to, w.templates, w.conclusion, w.places, w.numbers)
+    omega (arith, n, to, w.heads, w.places, w.numbers)
 
 pub returns : goal.returns
 returns c =

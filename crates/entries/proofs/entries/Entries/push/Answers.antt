@@ -14,7 +14,7 @@ invariant_of-self c =
     let n = c.sizes_now-before in
     let failed = sym c.is_err.ensures.value ∙ c.if-is_err.true in
     packed-back b c.add-added.new.buffers c.cut.new.buffers c.self.inside.records.items c.add-added.new.records.items n.result
-    c.self.invariant c.add-added.ensures.grows (record { numbers = c.cut.ensures.numbers; hypotheses = c.cut.ensures.hypotheses; patterns = c.cut.ensures.patterns; groups = c.cut.ensures.groups; rows = c.cut.ensures.rows })
+    c.self.invariant c.add-added.ensures.grows (record { numbers = c.cut.ensures.numbers; hypotheses = c.cut.ensures.hypotheses; asked = c.cut.ensures.asked; groups = c.cut.ensures.groups; rows = c.cut.ensures.rows })
     (ap (λ s. s.numbers) n.ensures) (ap (λ s. s.hypotheses) n.ensures) (ap (λ s. s.groups) n.ensures) (ap (λ s. s.rows) n.ensures)
     (on-err c.add-added.result _ failed c.add-added.ensures.same)
 

@@ -13,7 +13,7 @@ invariant_of-self c =
     let b = c.cut.new.buffers in
     let s = c.sizes_before-before in
     let got = ap (λ xs. slice_get xs c.args.len) (sym c.deref.ensures.value) ∙ c.item.ensures in
-    let cut : IsCut b c.self.inside.buffers s.result = record { numbers = c.cut.ensures.numbers; hypotheses = c.cut.ensures.hypotheses; patterns = c.cut.ensures.patterns; groups = c.cut.ensures.groups; rows = c.cut.ensures.rows } in
+    let cut : IsCut b c.self.inside.buffers s.result = record { numbers = c.cut.ensures.numbers; hypotheses = c.cut.ensures.hypotheses; asked = c.cut.ensures.asked; groups = c.cut.ensures.groups; rows = c.cut.ensures.rows } in
     subst (λ rs. ArePacked b (places_of b rs)) (sym c.truncate.ensures.items)
     (packed-shorter b c.self.inside.buffers c.self.inside.records.items c.args.len c.item.result s.result c.self.invariant got s.ensures.numbers s.ensures.hypotheses s.ensures.groups s.ensures.rows cut)
 
@@ -22,7 +22,7 @@ returns-then-len c =
     let b = c.cut.new.buffers in
     let s = c.sizes_before-before in
     let got = ap (λ xs. slice_get xs c.args.len) (sym c.deref.ensures.value) ∙ c.item.ensures in
-    let cut : IsCut b c.self.inside.buffers s.result = record { numbers = c.cut.ensures.numbers; hypotheses = c.cut.ensures.hypotheses; patterns = c.cut.ensures.patterns; groups = c.cut.ensures.groups; rows = c.cut.ensures.rows } in
+    let cut : IsCut b c.self.inside.buffers s.result = record { numbers = c.cut.ensures.numbers; hypotheses = c.cut.ensures.hypotheses; asked = c.cut.ensures.asked; groups = c.cut.ensures.groups; rows = c.cut.ensures.rows } in
     ap (λ rs. map (entry_of b) (places_of b rs)) c.truncate.ensures.items
     ∙ (items-shorter b c.self.inside.buffers c.self.inside.records.items c.args.len c.item.result s.result c.self.invariant got s.ensures.numbers s.ensures.hypotheses s.ensures.groups s.ensures.rows cut
     ∙ ap (take c.args.len) c.self.view_is)

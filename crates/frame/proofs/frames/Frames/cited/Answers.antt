@@ -1,7 +1,7 @@
 use Rattle.std.proofs.Common.{◌∙◌, ap, subst}
 use Rattle.scope.specs.Active.{stmt_at}
 use Rattle.frame.specs.Parts.{Numbered}
-use Rattle.frame.specs.Reading.{IsCited}
+use Rattle.frame.specs.Cited.{IsCited}
 use Rattle.frame.proofs.frames.Frames.cited.Goals as goal
 
 pub returns : goal.returns

@@ -1,14 +1,18 @@
-use Rattle.std.specs.Prelude.{List, ℕ, cond, nat_eq}
-use Rattle.std.proofs.Common.{◌∙◌, ap}
+use Rattle.std.specs.Prelude.{◌++◌, length, nat_eq, cond}
+use Rattle.std.proofs.Common.{refl, ◌∙◌, ap}
 use Rattle.frame.specs.Substitution.{CodeImages, code_image}
-use Rattle.subst.proofs.ImagesLemmas.{seen, image-insert}
+use Rattle.subst.specs.Places.{images_at}
+use Rattle.subst.proofs.PlaceLemmas.{seen-last}
+use Rattle.subst.proofs.ImagePlacesLemmas.{image-set}
 use Rattle.subst.proofs.images.Subst.set.Goals as goal
 
-pub returns-clause-ok : goal.returns-clause-ok
-returns-clause-ok c x =
-    let es = c.self.inside.images.entries in
-    let v = c.in_ok-kept.kept in
-    ap (λ es. code_image (seen es) x) c.in_ok-insert.ensures.entries
-    ∙ (image-insert es c.args.symbol v x
-    ∙ (ap (λ (σ : CodeImages). cond (nat_eq x c.args.symbol) v.items (code_image σ x)) c.self.view_is
-    ∙ ap (λ (i : List ℕ). cond (nat_eq x c.args.symbol) i (code_image c.args.self.now x)) c.in_ok-kept.ensures.items))
+pub returns-in-Ok-clause-ok : goal.returns-in-Ok-clause-ok
+returns-in-Ok-clause-ok c x =
+    let xs = c.self.inside.symbols in
+    let ys = c.args.image.now in
+    let p = c.place_between-place.result in
+    let added = c.in_ok-extend.ensures.added in
+    ap (λ s. code_image (images_at s c.set.new.self) x) added
+    ∙ (image-set xs ys c.self.inside.images c.set.new.self c.args.symbol p x c.self.invariant c.in-Ok.ensures.ok
+    (seen-last xs ys (xs ++ ys) p refl (c.place_between-place.ensures.0 ∙ c.len-start.ensures.len) (c.place_between-place.ensures.1 ∙ (c.len.ensures.len ∙ ap length added)))
+    ∙ ap (λ (σ : CodeImages). cond (nat_eq x c.args.symbol) ys (code_image σ x)) c.self.view_is)

@@ -1,23 +1,20 @@
-use Rattle.std.proofs.Common.{◌∙◌, ap, arith, ◌-◌, map, subst, length, sym}
+use Rattle.std.proofs.Common.{◌∙◌, ap, map, length, sym, subst}
 use Rattle.names.specs.Codes.{decode}
-use Rattle.frame.specs.ByPlaces.{are_places_apart, AllBelow}
-use Rattle.verify.proofs.Named.{all-drop}
-use Rattle.verify.proofs.PartLemmas.{last-within, seen_eq}
+use Rattle.frame.specs.Disjoint.{are_groups_apart}
+use Rattle.frame.specs.Substitution.{images_of_names}
+use Rattle.subst.specs.Images.{AreOver}
+use Rattle.subst.specs.Places.{images_at, AreInside}
 use Rattle.verify.proofs.results.Results.are_apart.Goals as goal
 
-pub groups_apart-requires-clause-within : goal.groups_apart-requires-clause-within
-groups_apart-requires-clause-within c = rw (c.as_slice.ensures, c.deref.ensures.value) (last-within _ _ _ c.self.invariant.stack_within)
+pub groups_apart-requires-clause-inside : goal.groups_apart-requires-clause-inside
+groups_apart-requires-clause-inside c = subst (λ s. AreInside (length s) c.self.inside.images) (sym c.as_slice.ensures.symbols) c.self.invariant.images_inside
+
+pub groups_apart-requires-clause-named : goal.groups_apart-requires-clause-named
+groups_apart-requires-clause-named c =
+    subst (AreOver c.args.pairs.now.names) (sym (ap (λ s. images_at s c.self.inside.images) c.as_slice.ensures.symbols ∙ ap (λ v. v.images) c.self.view_is)) c.requires.over
 
 pub returns : goal.returns
 returns c =
     c.groups_apart.ensures
-    ∙ ap (λ rs. are_places_apart c.args.pairs.now.statements (map (decode c.args.pairs.now.names) rs) c.args.groups.now)
-    (seen_eq c.self.inside.symbols c.as_slice.result.now c.self.inside.stack.items c.deref.result.now c.args.self.now.stack (c.len.result - c.args.count) c.args.count
-    c.as_slice.ensures c.deref.ensures.value (ap (λ v. v.stack) c.self.view_is) (omega (arith, c.len.ensures)))
-
-pub groups_apart-requires-clause-named : goal.groups_apart-requires-clause-named
-groups_apart-requires-clause-named c =
-    subst (AllBelow (length c.args.pairs.now.names))
-    (sym (seen_eq c.self.inside.symbols c.as_slice.result.now c.self.inside.stack.items c.deref.result.now c.args.self.now.stack (c.len.result - c.args.count) c.args.count
-    c.as_slice.ensures c.deref.ensures.value (ap (λ v. v.stack) c.self.view_is) (omega (arith, c.len.ensures))))
-    (all-drop (length c.args.pairs.now.names) (length c.args.self.now.stack - c.args.count) c.args.self.now.stack c.requires.named)
+    ∙ ap (λ σ. are_groups_apart c.args.pairs.now.statements (images_of_names c.args.pairs.now.names σ) (map (decode c.args.pairs.now.names) c.args.groups.now))
+    (ap (λ s. images_at s c.self.inside.images) c.as_slice.ensures.symbols ∙ ap (λ v. v.images) c.self.view_is)

@@ -1,20 +1,21 @@
-use Rattle.std.proofs.Common.{arith, refl, ◌∙◌, ap}
+use Rattle.std.proofs.Common.{arith, refl, ◌∙◌, ◌++◌, ◌∷◌, [], ap}
 use Rattle.verify.proofs.PlaceLemmas.{given-cut, given-kept, given-seen}
 use Rattle.verify.proofs.results.Results.give.Goals as goal
 
-pub invariant_of-self-in_err-push-2 : goal.invariant_of-self-in_err-push-2
-invariant_of-self-in_err-push-2 c =
-    given-cut c.self.inside.symbols c.args.expr.now _ c.self.inside.stack.items c.self.inside.saved.items _ _ c.self.inside.weight _ c.args.label c.between-place.result c.self.invariant
-    c.in_ok-push.ensures.ok (c.between-place.ensures.0 ∙ c.len-start.ensures) (c.between-place.ensures.1 ∙ c.len.ensures) c.in_err-push-2.ensures.items refl refl
+pub invariant_of-self-in_err-push_result : goal.invariant_of-self-in_err-push_result
+invariant_of-self-in_err-push_result c =
+    given-cut c.self.inside.symbols c.args.expr.now _ c.self.inside.images c.self.inside.stack.items c.self.inside.saved.items _ _ c.self.inside.heads.items _ c.self.inside.weight _ c.args.label c.place_between-place.result c.self.invariant
+    c.in_ok-extend.ensures.added (c.place_between-place.ensures.0 ∙ c.len-start.ensures.len) (c.place_between-place.ensures.1 ∙ c.len.ensures.len) c.in_err-push_result.ensures.same_stack c.in_err-push_result.ensures.same_heads refl refl
     (let h = c.if-expr-self.false in let l = c.self.invariant.light in omega (arith, h, l))
 
 pub invariant_of-self-2 : goal.invariant_of-self-2
 invariant_of-self-2 c =
-    given-kept c.self.inside.symbols c.args.expr.now _ c.self.inside.stack.items c.self.inside.saved.items _ _ c.self.inside.weight _ c.args.label c.between-place.result c.self.invariant
-    c.in_ok-push.ensures.ok (c.between-place.ensures.0 ∙ c.len-start.ensures) (c.between-place.ensures.1 ∙ c.len.ensures) c.in_ok-push-2.ensures.items refl refl
+    given-kept c.self.inside.symbols c.args.expr.now _ c.self.inside.images c.self.inside.stack.items c.self.inside.saved.items _ _ c.self.inside.heads.items _ c.self.inside.weight _ c.args.label c.place_between-place.result c.self.invariant
+    c.in_ok-extend.ensures.added (c.place_between-place.ensures.0 ∙ c.len-start.ensures.len) (c.place_between-place.ensures.1 ∙ c.len.ensures.len) c.in_ok-push_result.ensures.stack
+    (c.in_ok-push_result.ensures.heads ∙ ap (λ h. c.self.inside.heads.items ++ h ∷ []) c.head.ensures) refl refl
     (let h = c.if-expr-self.false in let l = c.self.invariant.light in omega (arith, h, l))
 
 pub returns : goal.returns
 returns c =
-    rw (← c.self.view_is) (given-seen c.self.inside.symbols c.args.expr.now _ c.self.inside.stack.items c.self.inside.saved.items _ _ c.self.inside.weight _ c.args.label c.between-place.result c.self.invariant
-    c.in_ok-push.ensures.ok (c.between-place.ensures.0 ∙ c.len-start.ensures) (c.between-place.ensures.1 ∙ c.len.ensures) c.in_ok-push-2.ensures.items refl refl)
+    rw (← c.self.view_is) (given-seen c.self.inside.symbols c.args.expr.now _ c.self.inside.images c.self.inside.stack.items c.self.inside.saved.items _ _ c.self.inside.heads.items c.self.inside.weight _ c.args.label c.place_between-place.result c.self.invariant
+    c.in_ok-extend.ensures.added (c.place_between-place.ensures.0 ∙ c.len-start.ensures.len) (c.place_between-place.ensures.1 ∙ c.len.ensures.len) c.in_ok-push_result.ensures.stack refl refl)

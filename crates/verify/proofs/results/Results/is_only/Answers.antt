@@ -1,6 +1,6 @@
 use Rattle.std.proofs.Common.{◌≡◌, ℕ, ◌↔◌, ◌∷◌, [], List, length, map, get_or, IsTrue, Bool, arith, sym, ap, ◌∙◌}
-use Rattle.verify.specs.Places.{seen_at}
-use Rattle.verify.specs.declared.results.Place.{Place}
+use Rattle.subst.specs.Places.{seen_at}
+use Rattle.subst.specs.declared.place.Place.{Place}
 use Rattle.verify.proofs.results.Results.is_only.Goals as goal
 use Rattle.std.specs.Prelude.{bytes_eq}
 use Rattle.std.proofs.lemmas.Slice.Eq.{bytes_eq-Decides}
@@ -16,4 +16,4 @@ only_iff xs ds r e (x ∷ []) all p b l at q d v t =
     )
 
 pub returns-clause-only : goal.returns-clause-only
-returns-clause-only c = only_iff c.self.inside.symbols c.as_slice.result.now c.result_at.result.now c.args.expr.now c.self.inside.stack.items c.args.self.now.stack c.index-place.result.now c.eq.result (omega (arith, c.if-len-ne1.false, c.len.ensures)) c.index-place.ensures c.result_at.ensures c.as_slice.ensures (ap (λ v. v.stack) c.self.view_is) c.eq.ensures
+returns-clause-only c = only_iff c.self.inside.symbols c.as_slice.result.now c.symbols_at.result.now c.args.expr.now c.self.inside.stack.items c.args.self.now.results.stack c.index-place.result.now c.eq.result (omega (arith, c.if-len-ne1.false, c.len.ensures)) c.index-place.ensures c.symbols_at.ensures c.as_slice.ensures.symbols (ap (λ v. v.results.stack) c.self.view_is) c.eq.ensures

@@ -1,18 +1,14 @@
-use Rattle.std.proofs.Common.{◌∙◌, sym, subst}
-use Rattle.verify.specs.Places.{AreWithin}
+use Rattle.std.proofs.Common.{sym, subst}
+use Rattle.subst.specs.Places.{AreWithin}
 use Rattle.verify.proofs.PlaceLemmas.{within-none, cleared-kept, resized-none, started-seen}
 use Rattle.verify.proofs.results.Results.start.Goals as goal
 
-pub invariant_of-self : goal.invariant_of-self
-invariant_of-self c =
-    cleared-kept c.clear.new.self c.clear-2.new.self.items _ c.clear.ensures c.clear-2.ensures.items (subst (AreWithin 0) (sym (c.in_err-resize.ensures.items ∙ c.clear-3.ensures.items)) tt)
-
 pub invariant_of-self-2 : goal.invariant_of-self-2
 invariant_of-self-2 c =
-    cleared-kept c.clear.new.self c.clear-2.new.self.items _ c.clear.ensures c.clear-2.ensures.items
-    (subst (AreWithin 0) (sym (resized-none c.args.labels _ _ _ c.clear-3.ensures.items c.clear-3.ensures.len c.in_ok-resize.ensures.items)) (within-none c.args.labels 0))
+    cleared-kept c.truncate.new.self c.clear.new.self c.clear-2.new.self.items _ c.clear-3.new.self.items c.truncate.ensures c.clear.ensures c.clear-2.ensures.items c.clear-3.ensures.items
+    (subst (AreWithin 0) (sym (resized-none c.args.labels _ _ _ c.clear-4.ensures.items c.clear-4.ensures.len c.in_ok-resize.ensures.items)) (within-none c.args.labels 0))
 
 pub returns : goal.returns
 returns c =
-    started-seen c.clear.new.self c.args.labels c.clear-2.new.self.items _ c.clear.ensures c.clear-2.ensures.items
-    (resized-none c.args.labels _ _ _ c.clear-3.ensures.items c.clear-3.ensures.len c.in_ok-resize.ensures.items)
+    started-seen c.truncate.new.self c.args.labels c.clear-2.new.self.items _ c.truncate.ensures c.clear-2.ensures.items
+    (resized-none c.args.labels _ _ _ c.clear-4.ensures.items c.clear-4.ensures.len c.in_ok-resize.ensures.items)

@@ -1,0 +1,6 @@
+use Rattle.std.proofs.Common.{◌≡◌, ◌++◌, take}
+use Rattle.frame.specs.Stored.{placed}
+use Rattle.frame.proofs.make.add_placed.Given as goal
+
+abbrev pub invariant-loop-code : goal.invariant-loop-code
+invariant-loop-code l = l.places.items ≡ l.initial.places.items ++ placed l.variables (take l.code-index l.codes)

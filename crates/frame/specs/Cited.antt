@@ -1,0 +1,52 @@
+-- The parts of an assertion by numbers: of each mandatory hypothesis its first symbol and what it is.
+-- Metamath, 4.2.6: an assertion is cited by what it asks of the results for its hypotheses.
+-- The code keeps these parts by the assertion; the expression of a `$e` is read where the `$e` stands.
+use Rattle.std.specs.Prelude.{◌≡◌, ℕ, ◌<◌, List, [], ◌∷◌, length, map, Some}
+use Rattle.mm_lex.specs.Alphabet.{Name}
+use Rattle.mm_read.specs.declared.stmt.Stmt.{Stmt}
+use Rattle.mm_read.specs.declared.stmt.Stmt.TheVariants as stmt
+use Rattle.mm_read.specs.Statements.{Expr, Database}
+use Rattle.scope.specs.Active.{stmt_at, before, expr_of}
+use Rattle.names.specs.Codes.{name_at, decode}
+use Rattle.entries.specs.declared.citation.Hypothesis.{Hypothesis}
+use Rattle.entries.specs.declared.citation.Hypothesis.TheVariants.{Float, Essential}
+use Rattle.entries.specs.declared.citation.Cited.{Cited}
+use Rattle.entries.specs.declared.citation.TheConstants.{NO_HEAD}
+use Rattle.frame.specs.FrameOf.{hypotheses, mandatory_groups}
+use Rattle.frame.specs.Below.{AreBelow, AllBelow}
+
+-- the first of the numbers
+abbrev pub head_of : List ℕ → ℕ
+head_of [] = NO_HEAD
+head_of (c ∷ codes) = c
+
+-- the number stands for the first symbol
+abbrev pub IsHead : List Name → ℕ → Expr → Type 0
+IsHead names h [] = h ≡ NO_HEAD
+IsHead names h (x ∷ e) = (h < length names) × (name_at names h ≡ x)
+
+-- the statement at p is this hypothesis
+abbrev pub IsOf : List Name → ℕ → Stmt → Hypothesis → Type 0
+IsOf names p (stmt.Float label constant variable) (Float x) = (x < length names) × (name_at names x ≡ variable)
+IsOf names p (stmt.Ess label expr) (Essential q) = q ≡ p
+IsOf names p s h = ⊥
+
+-- the hypothesis at p, by its first symbol and by what it is
+pub record IsAsked (S : Database) (names : List Name) (p head : ℕ) (h : Hypothesis) : Type 0 where
+  pub stmt : Stmt
+  pub stands : stmt_at S p ≡ Some stmt
+  pub first : IsHead names head (expr_of stmt)
+  pub is : IsOf names p stmt h
+
+abbrev pub AreAsked : Database → List Name → List ℕ → List ℕ → List Hypothesis → Type 0
+AreAsked S names [] [] [] = Unit {0}
+AreAsked S names (p ∷ ps) (head ∷ heads) (h ∷ hs) = IsAsked S names p head h × AreAsked S names ps heads hs
+AreAsked S names ps heads hs = ⊥
+
+-- the parts of the assertion s at a
+pub record IsCited (S : Database) (names : List Name) (a : ℕ) (s : Stmt) (c : Cited) : Type 0 where
+  pub asked : AreAsked S names (hypotheses (before S a) s) c.heads.now c.hypotheses.now
+  pub conclusion : decode names c.conclusion.now ≡ expr_of s
+  pub conclusion_below : AreBelow (length names) c.conclusion.now
+  pub groups : map (decode names) c.groups ≡ mandatory_groups (before S a) s
+  pub groups_below : AllBelow (length names) c.groups

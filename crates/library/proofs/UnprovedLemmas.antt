@@ -1,0 +1,122 @@
+-- The positions of the `$p` behind the first statements, and what their least that is not right says of all statements.
+use Rattle.std.specs.Prelude.{◌≡◌, ◌⊎◌, ℕ, zero, suc, ◌+◌, ◌<◌, ◌≤◌, Bool, true, false, nat_lt, List, [], ◌∷◌, ◌++◌, length, get_or, Option, Some, None, slice_get, refl}
+use Rattle.std.proofs.Common.{sym, ◌∙◌, subst, arith, inl, inr}
+use Rattle.std.proofs.lemmas.Bool.{cases_eq}
+use Rattle.mm_read.specs.declared.stmt.Stmt.{Stmt}
+use Rattle.mm_read.specs.Statements.{Database}
+use Rattle.scope.specs.Active.{stmt_at, is_provable}
+use Rattle.verify.specs.Right.{IsProvable}
+use Rattle.verify_pool.specs.Least.{IsLeast}
+use Rattle.library.specs.Unproved.{IsRightProof, AreProofs, AreBehind}
+use Rattle.library.specs.Judging.{StandsProved, IsLeastUnproved}
+
+-- ---- one more statement
+
+-- no `$p` stands above the one position, up to the other
+abbrev pub NoneBetween : Database → ℕ → ℕ → Type 0
+NoneBetween S front end = (at : ℕ) (s : Stmt) → front < at → at ≤ end → IsProvable S at s → ⊥
+
+none-more : (S : Database) (front end : ℕ) → NoneBetween S front end → ((s : Stmt) → IsProvable S (end + 1) s → ⊥) → NoneBetween S front (end + 1)
+none-more S front end none here at s above below p =
+    elim (cases_eq at (end + 1)) [ inl e ↦ here s (subst (λ n. IsProvable S n s) e p) | inr apart ↦ none at s above (omega (arith, below, apart)) p ]
+
+pub behind-pass : (S : Database) (front end : ℕ) (ps : List ℕ) → AreBehind S front end ps → ((s : Stmt) → IsProvable S (end + 1) s → ⊥) → AreBehind S front (end + 1) ps
+behind-pass S front end [] are here = none-more S front end are here
+behind-pass S front end (at ∷ ps) are here = let l = are.1 in (are.0, omega (arith, l), are.2, behind-pass S at end ps are.3 here)
+
+pub behind-more : (S : Database) (front end : ℕ) (ps : List ℕ) → front ≤ end → AreBehind S front end ps → AreBehind S front (end + 1) (ps ++ (end + 1) ∷ [])
+behind-more S front end [] h none = (
+  omega (arith, h),
+  omega arith,
+  (λ at s above below p. none at s above (omega (arith, below)) p),
+  (λ at s above below p. absurd (omega (arith, above, below))),
+)
+behind-more S front end (at ∷ ps) h are = let l = are.1 in (are.0, omega (arith, l), are.2, behind-more S at end ps l are.3)
+
+-- within a list no default is read
+pub get-same : (ps : List ℕ) (i at d : ℕ) → i < length ps → at ≡ get_or ps i d → at ≡ get_or ps i 0
+get-same [] i at d less is = absurd (omega (arith, less))
+get-same (p ∷ ps) zero at d less is = is
+get-same (p ∷ ps) (suc i) at d less is = get-same ps i at d (omega (arith, less)) is
+
+-- where no `$p` was found
+pub no-proof : (S : Database) (at : ℕ) (found : Bool) → ((s : Stmt) → stmt_at S at ≡ Some s → found ≡ is_provable s) → found ≡ false → (s : Stmt) → IsProvable S at s → ⊥
+no-proof S at found told not s p = absurd (let e : false ≡ true = sym not ∙ (told s p.stands ∙ p.provable) in cc)
+
+-- ---- all positions
+
+placed-behind : (S : Database) (front end : ℕ) (ps : List ℕ) → AreBehind S front end ps → (k at : ℕ) → slice_get ps k ≡ Some at → (front < at) × (at ≤ end)
+placed-behind S front end [] are k at e = absurd (let f = e in cc)
+placed-behind S front end (first ∷ ps) are zero at e = let is : first ≡ at = cc in let low = are.0 in let high = are.1 in (omega (arith, is, low), omega (arith, is, high))
+placed-behind S front end (first ∷ ps) are (suc k) at e =
+    let rest = placed-behind S first end ps are.3 k at e in
+    let low = are.0 in
+    let above = rest.0 in
+    (omega (arith, low, above), rest.1)
+
+pub are-proofs : (S F : Database) (front : ℕ) (ps : List ℕ) → F ≡ Rattle.scope.specs.Active.bares S → AreBehind S front (length S) ps → AreProofs S F ps
+are-proofs S F front ps same are = record {
+  same = same;
+  placed = λ k at e. let w = placed-behind S front (length S) ps are k at e in let low = w.0 in (omega (arith, low), w.1);
+}
+
+-- a position before the other, at it or behind it
+where-at : (at here : ℕ) → (at < here) ⊎ ((at ≡ here) ⊎ (here < at))
+where-at at here = elim (cases_eq at here) [ inl e ↦ inr (inl e) | inr apart ↦ by apart (nat_lt at here) refl ]
+  where
+    by : (at ≡ here → ⊥) → (b : Bool) → nat_lt at here ≡ b → (at < here) ⊎ ((at ≡ here) ⊎ (here < at))
+    by apart true q = inl (grind (arith, q))
+    by apart false q = let le : here ≤ at = grind (arith, q) in inr (inr (omega (arith, le, apart)))
+
+module _ (S : Database) where
+  -- the first so many are proved
+  abbrev pub FrontProved : ℕ → List ℕ → Type 0
+  FrontProved count ps = (k : ℕ) → k < count → StandsProved S (get_or ps k 0)
+
+  -- what is said of a position that none before it is
+  abbrev pub IsFirst : ℕ → ℕ → ℕ → Type 0
+  IsFirst front end at = (front < at) × (at ≤ end) × (StandsProved S at → ⊥) × ((m : ℕ) → front < m → m < at → StandsProved S m)
+
+  all-proved : (front end : ℕ) (ps : List ℕ) → AreBehind S front end ps → FrontProved (length ps) ps → (at : ℕ) → front < at → at ≤ end → StandsProved S at
+  all-proved front end [] are right at above below = λ s p. absurd (are at s above below p)
+  all-proved front end (first ∷ ps) are right at above below =
+      elim (where-at at first) [
+        | inl less ↦ (λ s p. absurd (are.2 at s above less p))
+        | inr other ↦ elim other [
+          | inl e ↦ subst (StandsProved S) (sym e) (right 0 (omega arith))
+          | inr more ↦ all-proved first end ps are.3 (λ k less. right (suc k) (omega (arith, less))) at more below
+        ]
+      ]
+
+  first-bad : (front end : ℕ) (ps : List ℕ) (i : ℕ) → AreBehind S front end ps → FrontProved i ps → i < length ps → (StandsProved S (get_or ps i 0) → ⊥) → IsFirst front end (get_or ps i 0)
+  first-bad front end [] i are right less wrong = absurd (omega (arith, less))
+  first-bad front end (first ∷ ps) zero are right less wrong = (are.0, are.1, wrong, (λ m above below s p. absurd (are.2 m s above below p)))
+  first-bad front end (first ∷ ps) (suc i) are right less wrong =
+      let r = first-bad first end ps i are.3 (λ k below. right (suc k) (omega (arith, below))) (omega (arith, less)) wrong in
+      let low = are.0 in
+      let above = r.0 in (
+        omega (arith, low, above),
+        r.1,
+        r.2,
+        (λ m over below. elim (where-at m first) [
+          | inl before ↦ (λ s p. absurd (are.2 m s over before p))
+          | inr other ↦ elim other [
+            | inl q ↦ subst (StandsProved S) (sym q) (right 0 (omega arith))
+            | inr more ↦ r.3 m more below
+          ]
+        ]),
+      )
+
+  module _ (front : ℕ) (ps : List ℕ) (are : AreBehind S front (length S) ps) (answer : Option ℕ) (least : IsLeast (IsRightProof (record { statements = S; positions = ps })) (length ps) answer) where
+    pub none-unproved : answer ≡ None → IsLeastUnproved S front None
+    none-unproved e =
+        let l = subst (IsLeast (IsRightProof (record { statements = S; positions = ps })) (length ps)) e least in
+        all-proved front (length S) ps are (λ k less. l.before k less tt)
+
+    pub some-unproved : (i : ℕ) → answer ≡ Some i → IsLeastUnproved S front (Some (get_or ps i 0))
+    some-unproved i e =
+        let l = subst (IsLeast (IsRightProof (record { statements = S; positions = ps })) (length ps)) e least in
+        first-bad front (length S) ps i are (λ k below. let w = l.wrong.0 in l.before k (omega (arith, below, w)) below) l.wrong.0 l.wrong.1
+
+    pub some-within : (i : ℕ) → answer ≡ Some i → i < length ps
+    some-within i e = let l = subst (IsLeast (IsRightProof (record { statements = S; positions = ps })) (length ps)) e least in l.wrong.0

@@ -1,0 +1,22 @@
+use Rattle.std.proofs.Common.{arith, refl}
+use Rattle.std.proofs.Common.{take_all}
+use Rattle.library.proofs.ItemsLemmas.{has-assertion, hypothesis-of, kind-of, labels-more, labels-all}
+use Rattle.library.proofs.items.labels_of.Goals as goal
+
+pub hypotheses-position-items-requires : goal.hypotheses-position-items-requires
+hypotheses-position-items-requires c = has-assertion _ _ _ c.requires.provable.0 c.requires.same c.requires.provable.1
+
+pub hypothesis_label-requires : goal.hypothesis_label-requires
+hypothesis_label-requires c =
+    let h = hypothesis-of _ _ _ c.requires.provable.0 _ c.loop-position.position-index _ 0 c.requires.same c.requires.provable.1 c.hypotheses-position-items.ensures c.loop-position-test.true refl in
+    record { place = (h.positive, h.within); kind = kind-of _ _ h }
+
+pub loop-position-preserved : goal.loop-position-preserved
+loop-position-preserved c =
+    labels-more c.args.statements.now c.hypotheses-position-items.result.now c.loop-position.position-index _ 0 _ _ _ c.loop-position-test.true refl c.hypothesis_label.ensures.label
+    c.loop-position.invariant c.in_ok-push.ensures.ok
+
+pub returns : goal.returns
+returns c = λ s provable.
+    labels-all c.args.statements.now c.args.frames.now.statements c.args.at s c.hypotheses-position-items.result.now c.loop-position.position-index c.loop-position.labels c.requires.same provable c.hypotheses-position-items.ensures
+    (let over = c.loop-position-test.false in take_all _ _ (omega (arith, over))) c.loop-position.invariant

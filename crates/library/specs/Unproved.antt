@@ -1,0 +1,35 @@
+-- The `$p` behind the first statements, as work for a pool.
+-- Source: none; for the private functions of `unproved`.
+-- The code keeps their positions, in order.
+use Rattle.std.specs.Prelude.{◌≡◌, ℕ, ◌<◌, ◌≤◌, List, [], ◌∷◌, length, slice_get, get_or, Option, Some, Result, IfOk}
+use Rattle.mm_read.specs.declared.stmt.Stmt.{Stmt}
+use Rattle.mm_read.specs.Statements.{Database}
+use Rattle.scope.specs.Active.{bares}
+use Rattle.verify.specs.Right.{IsProvable}
+use Rattle.verify_pool.specs.Least.{IsLeast}
+use Rattle.library.specs.Judging.{StandsProved}
+
+-- statements, and positions of `$p` among them
+pub record ProofsAt : Type 0 where
+  pub statements : Database
+  pub positions : List ℕ
+
+-- the `$p` of that index is proved
+abbrev pub IsRightProof : ProofsAt → ℕ → Type 0
+IsRightProof proofs k = StandsProved proofs.statements (get_or proofs.positions k 0)
+
+-- positions of these statements, behind which the frames stand
+pub record AreProofs (S frames : Database) (positions : List ℕ) : Type 0 where
+  pub same : frames ≡ bares S
+  pub placed : (k at : ℕ) → slice_get positions k ≡ Some at → (1 ≤ at) × (at ≤ length S)
+
+-- the positions of the `$p` above the one position, up to the other, in order
+abbrev pub AreBehind : Database → ℕ → ℕ → List ℕ → Type 0
+AreBehind S front end [] = (at : ℕ) (s : Stmt) → front < at → at ≤ end → ¬ IsProvable S at s
+AreBehind S front end (at ∷ positions) =
+    (front < at) × (at ≤ end) × ((m : ℕ) (s : Stmt) → front < m → m < at → ¬ IsProvable S m s) × AreBehind S at end positions
+
+-- what is returned of proofs is the index of the least that is not right
+abbrev pub FindsLeast : {E : Type 0} → (ProofsAt → Result (Option ℕ) E → Type 0) → Type 0
+FindsLeast {E} returns =
+    (proofs : ProofsAt) (r : Result (Option ℕ) E) → returns proofs r → IfOk r (IsLeast (IsRightProof proofs) (length proofs.positions))

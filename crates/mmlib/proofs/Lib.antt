@@ -1,4 +1,0 @@
-mod OutlineLemmas
-mod RulesLemmas
-mod TreesLemmas
-mod Rows

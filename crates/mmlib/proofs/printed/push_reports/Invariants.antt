@@ -1,7 +1,0 @@
-use Rattle.std.proofs.Common.{◌≡◌, ◌++◌, take}
-use Rattle.std.specs.Prelude.{flat_map}
-use Rattle.mmlib.specs.Printed.{report_text}
-use Rattle.mmlib.proofs.printed.push_reports.Given as goal
-
-abbrev pub invariant-loop-report : goal.invariant-loop-report
-invariant-loop-report l = l.text.items ≡ l.initial.text.items ++ flat_map report_text (take l.report-index l.reports)

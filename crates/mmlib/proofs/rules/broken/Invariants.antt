@@ -1,5 +1,0 @@
-use Rattle.mmlib.proofs.RulesLemmas.{IsBehind}
-use Rattle.mmlib.proofs.rules.broken.Given as goal
-
-abbrev pub invariant-loop-index : goal.invariant-loop-index
-invariant-loop-index l = IsBehind l.statements l.index l.scope.statements

@@ -1,3 +1,0 @@
-pub mod Outline
-pub mod Printed
-pub mod Trees

@@ -1,0 +1,6 @@
+use Rattle.std.proofs.Common.{take, length, ◌≤◌}
+use Rattle.names.specs.Table.{AreKept}
+use Rattle.names.proofs.kept.Kept.of.Given as goal
+
+abbrev pub invariant-loop-number : goal.invariant-loop-number
+invariant-loop-number l = (l.number ≤ length l.kept.keys.items) × AreKept l.kept (take l.number l.texts)

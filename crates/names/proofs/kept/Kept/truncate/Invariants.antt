@@ -1,0 +1,8 @@
+use Rattle.std.proofs.Common.{◌≡◌, ℕ, ◌<◌}
+use Rattle.names.specs.Codes.{name_at}
+use Rattle.names.specs.Overflow.{number_of}
+use Rattle.names.proofs.kept.Kept.truncate.Given as goal
+
+abbrev pub invariant-loop-number : goal.invariant-loop-number
+invariant-loop-number l =
+    (l.self.keys ≡ l.initial.self.keys) × ((k : ℕ) → k < l.len → number_of l.self.overflow (name_at l.texts k) ≡ number_of l.initial.self.overflow (name_at l.texts k))

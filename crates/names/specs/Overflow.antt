@@ -1,0 +1,15 @@
+-- The numbers of the names that stand apart from the table, of short ones by their keys and of others by their bytes.
+-- Source: this project's form of keeping names.
+-- The code's own form: no clause of a scope cites it.
+use Rattle.std.specs.Prelude.{ℕ, Option, length, nat_lt, if◌then◌else◌}
+use Rattle.std.specs.BTreeMap.{get_by}
+use Rattle.std.specs.Cmp.Lexicographic.{slice_cmp}
+use Rattle.std.specs.Ordering.{nat_cmp}
+use Rattle.mm_lex.specs.Alphabet.{Name}
+use Rattle.names.specs.Keys.{key_of}
+use Rattle.names.specs.declared.keys.TheConstants.{LONG}
+use Rattle.names.specs.declared.overflow.Overflow.{Overflow}
+
+-- the number that is kept for a name
+abbrev pub number_of : Overflow → Name → Option ℕ
+number_of a x = if nat_lt (length x) LONG then get_by (nat_cmp (key_of x)) a.short else get_by (λ k. slice_cmp nat_cmp x k.items) a.long

@@ -1,0 +1,92 @@
+//! The keys of names by number, and the names that stand apart from the table.
+ghost use Rattle.std.specs.Prelude.{◌≡◌, ◌≢◌, ℕ, ◌<◌, ◌≤◌, ◌^◌, length, get_or, slice_set, Some, IfOk, OnOk, OnErr};
+ghost use Rattle.mm_lex.specs.Alphabet.{Name};
+ghost use Rattle.names.specs.Codes.{name_at, AreDistinct};
+ghost use Rattle.names.specs.Keys.{AreBytes};
+ghost use Rattle.names.specs.Overflow.{number_of};
+ghost use Rattle.names.specs.Table.{AreKept};
+
+use crate::keys::{APART, key};
+use crate::overflow::Overflow;
+use crate::texts::Texts;
+use std::alloc::{AllocError, Global};
+
+/// The key of each name that stands in the table, and `APART` for one that stands in the overflow. What lies behind
+/// the last name has no meaning.
+#[derive(Drop)]
+pub struct Kept {
+    pub keys: Vec<u64>,
+    pub overflow: Overflow,
+}
+
+impl Kept {
+    /// Nothing of no names.
+    pub(crate) fn new(alloc: Global) -> Kept {
+        Kept {
+            keys: Vec::new(alloc),
+            overflow: Overflow::new(alloc),
+        }
+    }
+
+    /// The keys of texts, none of which stands apart.
+    pub(crate) fn of(alloc: Global, texts: &Texts) -> Result<Kept, AllocError>
+        ensures { IfOk result (λ kept. AreKept kept texts.now) }
+    {
+        let mut kept = Kept::new(alloc);
+        for number in 0..texts.len() {
+            kept.push(number, key(texts.get(number)))?;
+        }
+        Ok(kept)
+    }
+
+    /// Notes the key of the name that comes next.
+    pub(crate) fn push(&mut self, code: usize, key: u64) -> Result<(), AllocError>
+        requires { code ≤ length self.old.keys.items }
+        ensures overflow { self.new.overflow ≡ self.old.overflow }
+        ensures same { (k : ℕ) → k < code → get_or self.new.keys.items k 0 ≡ get_or self.old.keys.items k 0 }
+        ensures count { code ≤ length self.new.keys.items }
+        ensures more { OnOk result (code < length self.new.keys.items) }
+        ensures last { OnOk result (get_or self.new.keys.items code 0 ≡ key) }
+    {
+        self.keys.truncate(code);
+        self.keys.push(key)?;
+        Ok(())
+    }
+
+    /// Puts a name into the overflow.
+    pub(crate) fn set_apart(
+        &mut self,
+        alloc: Global,
+        number: usize,
+        name: &[u8],
+    ) -> Result<(), AllocError>
+        requires there { number < length self.old.keys.items }
+        requires few { number < 2 ^ 32 }
+        ensures keys { OnOk result (self.new.keys.items ≡ slice_set self.old.keys.items number APART) }
+        ensures own { OnOk result (number_of self.new.overflow name.now ≡ Some number) }
+        ensures others { (x : Name) → AreBytes x → x ≢ name.now → number_of self.new.overflow x ≡ number_of self.old.overflow x }
+        ensures err { OnErr result (self.new.keys ≡ self.old.keys) }
+    {
+        self.overflow.insert(alloc, name, number as u32)?;
+        self.keys[number] = APART;
+        Ok(())
+    }
+
+    /// Forgets the names from a number on.
+    pub(crate) fn truncate(&mut self, texts: &Texts, len: usize)
+        requires kept { AreKept self.old texts.now }
+        requires distinct { AreDistinct texts.now }
+        requires within { len ≤ length texts.now }
+        ensures keys { self.new.keys ≡ self.old.keys }
+        ensures numbers { (k : ℕ) → k < len → number_of self.new.overflow (name_at texts.now k) ≡ number_of self.old.overflow (name_at texts.now k) }
+    {
+        if self.overflow.is_empty() {
+            return;
+        }
+        for number in len..texts.len() {
+            if self.keys[number] == APART {
+                self.overflow.remove(texts.get(number));
+            }
+        }
+    }
+}

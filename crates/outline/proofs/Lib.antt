@@ -1,0 +1,3 @@
+mod OutlineLemmas
+mod RulesLemmas
+mod Rows

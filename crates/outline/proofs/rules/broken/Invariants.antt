@@ -1,0 +1,5 @@
+use Rattle.outline.proofs.RulesLemmas.{IsBehind}
+use Rattle.outline.proofs.rules.broken.Given as goal
+
+abbrev pub invariant-loop-index : goal.invariant-loop-index
+invariant-loop-index l = IsBehind l.statements l.index l.scope.statements

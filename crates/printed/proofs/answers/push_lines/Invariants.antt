@@ -1,0 +1,6 @@
+use Rattle.std.proofs.Common.{◌≡◌, ◌++◌, take}
+use Rattle.mm_read.specs.Export.{export_of}
+use Rattle.printed.proofs.answers.push_lines.Given as goal
+
+abbrev pub invariant-loop-statement : goal.invariant-loop-statement
+invariant-loop-statement l = l.text.items ≡ l.initial.text.items ++ export_of (take l.statement-index l.statements)

@@ -1,0 +1,7 @@
+use Rattle.std.proofs.Common.{◌≡◌, ◌++◌, take}
+use Rattle.std.specs.Prelude.{flat_map}
+use Rattle.printed.specs.Printed.{logged_text}
+use Rattle.printed.proofs.answers.push_log.Given as goal
+
+abbrev pub invariant-loop-entry : goal.invariant-loop-entry
+invariant-loop-entry l = l.text.items ≡ l.initial.text.items ++ flat_map logged_text (take l.entry-index l.log)

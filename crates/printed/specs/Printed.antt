@@ -1,0 +1,88 @@
+-- What the program prints of packets, verdicts and libraries.
+-- Source: this project's own forms; a ballot is written round first (Lamport, Paxos Made Simple, 2.2, orders them so).
+-- The code adds each text to the end of the answer.
+use Rattle.std.specs.Prelude.{ℕ, ◌==◌, List, [], ◌++◌, length, codes, decimal, flat_map, Option, Some, None, if◌then◌else◌}
+use Rattle.mm_read.specs.Statements.{Database}
+use Rattle.mm_read.specs.Export.{export_of}
+use Rattle.library.specs.declared.entry.Entry.{Entry}
+use Rattle.library.specs.declared.listed.Listed.{Listed}
+use Rattle.library.specs.declared.verdict.Verdict.{Verdict}
+use Rattle.library.specs.declared.verdict.Verdict.TheVariants.{Added, Nothing, Repeat, Refused}
+use Rattle.library.specs.declared.verdict.Cause.{Cause}
+use Rattle.library.specs.declared.verdict.Cause.TheVariants.{TooLong, Text, Shape, Rule, Proof, Unfinished, NotChartered}
+use Rattle.library.specs.LibraryOf.{author_of, serial_of}
+use Rattle.synod.specs.declared.ballot.Ballot.{Ballot}
+use Rattle.synod.specs.declared.packet.Report.{Report}
+use Rattle.synod.specs.declared.packet.Packet.{Packet}
+use Rattle.synod.specs.declared.packet.Body.{Body}
+use Rattle.synod.specs.declared.packet.Body.TheVariants.{Prepare, Promise, Accept, Accepted, Nack, Ask, Told}
+use Rattle.world.specs.declared.carried.Carried.{Carried}
+use Rattle.world.specs.Carried.{entry_of}
+use Rattle.outline.specs.Outline.{rule_text}
+
+-- a ballot R.N
+abbrev pub ballot_text : Ballot → List ℕ
+ballot_text b = decimal b.round ++ codes "." ++ decimal b.node
+
+-- an entry of a log: AUTHOR/SERIAL, or idle for a no-operation
+abbrev pub entry_text : Option Entry → List ℕ
+entry_text None = codes "idle"
+entry_text (Some entry) = decimal (author_of entry) ++ codes "/" ++ decimal (serial_of entry)
+
+abbrev pub report_text : Report Carried → List ℕ
+report_text r = codes " " ++ decimal r.slot ++ codes "@" ++ ballot_text r.ballot
+
+-- which page it is, where there are more than one
+abbrev pub page_text : ℕ → ℕ → List ℕ
+page_text page count = if count == 1 then [] else (codes " page " ++ decimal page ++ codes " of " ++ decimal count)
+
+-- a ballot, a slot and a value
+abbrev pub vote_text : Ballot → ℕ → Option Carried → List ℕ
+vote_text ballot slot value = ballot_text ballot ++ codes " " ++ decimal slot ++ codes " " ++ entry_text (entry_of value)
+
+abbrev pub body_text : Body Carried → List ℕ
+body_text (Prepare ballot first) = codes "prepare " ++ ballot_text ballot ++ codes " " ++ decimal first
+body_text (Promise ballot page count reports) = codes "promise " ++ ballot_text ballot ++ page_text page count ++ flat_map report_text reports
+body_text (Accept ballot slot value) = codes "accept " ++ vote_text ballot slot value
+body_text (Accepted ballot slot value) = codes "accepted " ++ vote_text ballot slot value
+body_text (Nack ballot promise) = codes "nack " ++ ballot_text ballot ++ codes " " ++ ballot_text promise
+body_text (Ask slot) = codes "ask " ++ decimal slot
+body_text (Told slot value) = codes "told " ++ decimal slot ++ codes " " ++ entry_text (entry_of value)
+
+-- FROM>TO, a space, and the body
+abbrev pub packet_text : Packet Carried → List ℕ
+packet_text p = decimal p.from ++ codes ">" ++ decimal p.to ++ codes " " ++ body_text p.body
+
+-- a cause of refusal: its code, then the statement and the rule where it has them
+abbrev pub cause_text : Cause → List ℕ
+cause_text TooLong = codes "C1"
+cause_text Text = codes "C2"
+cause_text Shape = codes "C3"
+cause_text (NotChartered statement) = codes "C7 " ++ decimal statement
+cause_text (Rule statement rule) = codes "C4 " ++ decimal statement ++ codes " " ++ rule_text rule
+cause_text (Proof statement) = codes "C5 " ++ decimal statement
+cause_text (Unfinished statement) = codes "C6 " ++ decimal statement
+
+abbrev pub verdict_text : Verdict → List ℕ
+verdict_text Added = codes "added"
+verdict_text Nothing = codes "nothing"
+verdict_text Repeat = codes "repeat"
+verdict_text (Refused cause) = codes "refused " ++ cause_text cause
+
+-- a log, on one line
+abbrev pub logged_text : Option Entry → List ℕ
+logged_text entry = codes " " ++ entry_text entry
+
+abbrev pub log_text : List (Option Entry) → List ℕ
+log_text log = codes "log" ++ flat_map logged_text log
+
+-- the assertions of a library: their count, and a line for each
+abbrev pub listed_text : Listed → List ℕ
+listed_text l = (if l.proved then codes "proved " else codes "axiom ") ++ l.label ++ codes "\n"
+
+abbrev pub list_text : List Listed → List ℕ
+list_text ls = codes "list " ++ decimal (length ls) ++ codes "\n" ++ flat_map listed_text ls
+
+-- the statements of a library: their count, and the export form
+abbrev pub export_text : Database → List ℕ
+export_text S = codes "export " ++ decimal (length S) ++ codes "\n" ++ export_of S

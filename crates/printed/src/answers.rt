@@ -1,0 +1,107 @@
+//! What the lines of a script answer: each call adds an answer to a text, with its line feeds.
+ghost use Rattle.std.specs.Prelude.{◌≡◌, ◌++◌, codes, decimal, length, flat_map, option_map, OnOk};
+ghost use Rattle.mm_read.specs.Statements.{AreShaped};
+ghost use Rattle.mm_read.specs.Export.{export_of};
+ghost use Rattle.library.specs.Listed.{listed};
+ghost use Rattle.printed.specs.Printed.{verdict_text, logged_text, log_text, listed_text, list_text, export_text};
+
+use crate::packets::push_entry;
+use crate::verdict_text::push_verdict;
+use library::{Entry, Library, Listed, Verdict};
+use mm_read::{Stmt, push_line};
+use outline::push_number;
+use std::alloc::AllocError;
+
+/// Adds `ok` and how many packets were posted so far.
+pub fn push_posted(text: &mut Vec<u8>, posted: u64) -> Result<(), AllocError>
+    ensures { OnOk result (text.new.items ≡ text.old.items ++ (codes "ok " ++ decimal posted ++ codes "\n")) }
+{
+    text.extend_from_slice(b"ok ")?;
+    push_number(text, posted)?;
+    text.extend_from_slice(b"\n")
+}
+
+/// Adds what was decided, or a word where nothing was.
+pub fn push_decided(
+    text: &mut Vec<u8>,
+    verdict: Option<Verdict>,
+    undecided: &[u8],
+) -> Result<(), AllocError> {
+    match verdict {
+        Some(verdict) => push_verdict(text, verdict)?,
+        None => text.extend_from_slice(undecided)?,
+    }
+    text.extend_from_slice(b"\n")
+}
+
+/// Adds a log: each entry, or `idle` for a no-operation.
+pub fn push_log(text: &mut Vec<u8>, log: &[Option<Entry>]) -> Result<(), AllocError>
+    ensures { OnOk result (text.new.items ≡ text.old.items ++ (log_text log.now ++ codes "\n")) }
+{
+    text.extend_from_slice(b"log")?;
+    for entry in log {
+        push_entry(text, entry.as_ref())?;
+    }
+    text.extend_from_slice(b"\n")
+}
+
+/// Adds the assertions of a library.
+pub fn push_library(text: &mut Vec<u8>, library: &Library) -> Result<(), AllocError>
+    ensures { OnOk result (text.new.items ≡ text.old.items ++ list_text (listed library.now.replica.statements)) }
+{
+    let list = library.list()?;
+    push_list(text, list.as_slice())
+}
+
+/// Adds these assertions: their count, and a line for each.
+pub fn push_list(text: &mut Vec<u8>, list: &[Listed]) -> Result<(), AllocError>
+    ensures { OnOk result (text.new.items ≡ text.old.items ++ list_text list.now) }
+{
+    text.extend_from_slice(b"list ")?;
+    push_number(text, list.len() as u64)?;
+    text.extend_from_slice(b"\n")?;
+    push_listed_lines(text, list)
+}
+
+fn push_listed_lines(text: &mut Vec<u8>, list: &[Listed]) -> Result<(), AllocError>
+    ensures { OnOk result (text.new.items ≡ text.old.items ++ flat_map listed_text list.now) }
+{
+    for assertion in list {
+        push_listed(text, assertion)?;
+    }
+    Ok(())
+}
+
+fn push_listed(text: &mut Vec<u8>, assertion: &Listed) -> Result<(), AllocError>
+    ensures { OnOk result (text.new.items ≡ text.old.items ++ listed_text assertion.now) }
+{
+    let kind = if assertion.proved {
+        b"proved ".as_slice()
+    } else {
+        b"axiom "
+    };
+    text.extend_from_slice(kind)?;
+    text.extend_from_slice(assertion.label.as_bytes())?;
+    text.extend_from_slice(b"\n")
+}
+
+/// Adds the statements of a library: their count, and the export form.
+pub fn push_export(text: &mut Vec<u8>, library: &Library) -> Result<(), AllocError>
+    ensures { OnOk result (text.new.items ≡ text.old.items ++ export_text library.now.replica.statements) }
+{
+    let statements = library.statements();
+    text.extend_from_slice(b"export ")?;
+    push_number(text, statements.len() as u64)?;
+    text.extend_from_slice(b"\n")?;
+    push_lines(text, statements)
+}
+
+fn push_lines(text: &mut Vec<u8>, statements: &[Stmt]) -> Result<(), AllocError>
+    requires { AreShaped statements.now }
+    ensures { OnOk result (text.new.items ≡ text.old.items ++ export_of statements.now) }
+{
+    for statement in statements {
+        push_line(text, statement)?;
+    }
+    Ok(())
+}

@@ -1,0 +1,162 @@
+//! Packets and entries as the program prints them: each call adds a text to the end of an answer.
+ghost use Rattle.std.specs.Prelude.{◌≡◌, ◌++◌, codes, decimal, flat_map, option_map, OnOk};
+ghost use Rattle.world.specs.Carried.{entry_of};
+ghost use Rattle.printed.specs.Printed.{ballot_text, entry_text, report_text, page_text, vote_text, body_text, packet_text};
+
+use library::Entry;
+use outline::push_number;
+use std::alloc::AllocError;
+use synod::{Ballot, Body, Packet, Report};
+use world::Carried;
+
+/// Adds `FROM>TO`, a space, and what the packet says.
+pub fn push_packet(text: &mut Vec<u8>, packet: &Packet<Carried>) -> Result<(), AllocError>
+    ensures { OnOk result (text.new.items ≡ text.old.items ++ packet_text packet.now) }
+{
+    push_number(text, u64::from(packet.from))?;
+    text.extend_from_slice(b">")?;
+    push_number(text, u64::from(packet.to))?;
+    text.extend_from_slice(b" ")?;
+    push_body(text, &packet.body)
+}
+
+fn push_body(text: &mut Vec<u8>, body: &Body<Carried>) -> Result<(), AllocError>
+    ensures { OnOk result (text.new.items ≡ text.old.items ++ body_text body.now) }
+{
+    match body {
+        Body::Prepare { ballot, first } => {
+            text.extend_from_slice(b"prepare ")?;
+            push_ballot(text, *ballot)?;
+            push_slot(text, *first)
+        }
+        Body::Promise {
+            ballot,
+            page,
+            count,
+            reports,
+        } => {
+            text.extend_from_slice(b"promise ")?;
+            push_ballot(text, *ballot)?;
+            push_page(text, *page, *count)?;
+            push_reports(text, reports.as_slice())
+        }
+        Body::Accept {
+            ballot,
+            slot,
+            value,
+        } => {
+            text.extend_from_slice(b"accept ")?;
+            push_vote(text, *ballot, *slot, value)
+        }
+        Body::Accepted {
+            ballot,
+            slot,
+            value,
+        } => {
+            text.extend_from_slice(b"accepted ")?;
+            push_vote(text, *ballot, *slot, value)
+        }
+        Body::Nack { ballot, promise } => {
+            text.extend_from_slice(b"nack ")?;
+            push_ballot(text, *ballot)?;
+            text.extend_from_slice(b" ")?;
+            push_ballot(text, *promise)
+        }
+        Body::Ask { slot } => {
+            text.extend_from_slice(b"ask")?;
+            push_slot(text, *slot)
+        }
+        Body::Told { slot, value } => {
+            text.extend_from_slice(b"told")?;
+            push_slot(text, *slot)?;
+            push_value(text, value)
+        }
+    }
+}
+
+/// Adds which page it is, where there are more than one.
+fn push_page(text: &mut Vec<u8>, page: u32, count: u32) -> Result<(), AllocError>
+    ensures { OnOk result (text.new.items ≡ text.old.items ++ page_text page count) }
+{
+    if count == 1 {
+        return Ok(());
+    }
+    text.extend_from_slice(b" page ")?;
+    push_number(text, u64::from(page))?;
+    text.extend_from_slice(b" of ")?;
+    push_number(text, u64::from(count))
+}
+
+fn push_reports(text: &mut Vec<u8>, reports: &[Report<Carried>]) -> Result<(), AllocError>
+    ensures { OnOk result (text.new.items ≡ text.old.items ++ flat_map report_text reports.now) }
+{
+    for report in reports {
+        push_report(text, report)?;
+    }
+    Ok(())
+}
+
+/// Adds a space and `SLOT@R.N`.
+fn push_report(text: &mut Vec<u8>, report: &Report<Carried>) -> Result<(), AllocError>
+    ensures { OnOk result (text.new.items ≡ text.old.items ++ report_text report.now) }
+{
+    push_slot(text, report.slot)?;
+    text.extend_from_slice(b"@")?;
+    push_ballot(text, report.ballot)
+}
+
+/// Adds a ballot, a slot and a value.
+fn push_vote(
+    text: &mut Vec<u8>,
+    ballot: Ballot,
+    slot: u32,
+    value: &Option<Carried>,
+) -> Result<(), AllocError>
+    ensures { OnOk result (text.new.items ≡ text.old.items ++ vote_text ballot slot value.now) }
+{
+    push_ballot(text, ballot)?;
+    push_slot(text, slot)?;
+    push_value(text, value)
+}
+
+/// Adds a space and the value.
+fn push_value(text: &mut Vec<u8>, value: &Option<Carried>) -> Result<(), AllocError>
+    ensures { OnOk result (text.new.items ≡ text.old.items ++ (codes " " ++ entry_text (entry_of value.now))) }
+{
+    match value {
+        Some(Carried(entry)) => push_entry(text, Some(entry)),
+        None => push_entry(text, None),
+    }
+}
+
+/// Adds a space and `AUTHOR/SERIAL`, or `idle` for a no-operation.
+pub fn push_entry(text: &mut Vec<u8>, entry: Option<&Entry>) -> Result<(), AllocError>
+    ensures { OnOk result (text.new.items ≡ text.old.items ++ (codes " " ++ entry_text (option_map (λ e. e.now) entry.entry))) }
+{
+    match entry {
+        Some(entry) => {
+            text.extend_from_slice(b" ")?;
+            push_number(text, entry.author())?;
+            text.extend_from_slice(b"/")?;
+            push_number(text, entry.serial())
+        }
+        None => text.extend_from_slice(b" idle"),
+    }
+}
+
+/// Adds `R.N`.
+fn push_ballot(text: &mut Vec<u8>, ballot: Ballot) -> Result<(), AllocError>
+    ensures { OnOk result (text.new.items ≡ text.old.items ++ ballot_text ballot) }
+{
+    push_number(text, ballot.round)?;
+    text.extend_from_slice(b".")?;
+    push_number(text, u64::from(ballot.node))
+}
+
+/// Adds a space and the slot.
+fn push_slot(text: &mut Vec<u8>, slot: u32) -> Result<(), AllocError>
+    ensures { OnOk result (text.new.items ≡ text.old.items ++ (codes " " ++ decimal slot)) }
+{
+    text.extend_from_slice(b" ")?;
+    push_number(text, u64::from(slot))
+}

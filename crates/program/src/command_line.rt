@@ -1,0 +1,36 @@
+//! What a command line does.
+use crate::database::{ask, print_outline};
+use crate::play::play;
+use crate::serve::serve;
+use crate::streams::print;
+use commands::{Request, WordsFault, parse_words};
+use std::io::{Read, Write};
+use std::sync::Wait;
+use std::thread::Threads;
+
+/// Runs the command of these words, which come without the program's own name; the answer is the
+/// exit status.
+///
+/// 0 is good, 1 a refusal (of the input, of a line, of memory, or of a write), 2 a bad command line, bad weights or a bad
+/// script. The text of a bad command line and of bad weights goes to `faults`, and all else to `output`.
+pub fn run<
+    R: AllocGlobal + Threads + Wait + Copy + Send + Sync + Drop + 'static,
+    I: Read,
+    O: Write,
+    F: Write,
+>(rt: &R, words: &[&str], input: &mut I, output: &mut O, faults: &mut F) -> u8 {
+    match parse_words(rt.alloc(), words) {
+        Ok(Request::Outline) => print_outline(rt.alloc(), input, output),
+        Ok(Request::Ask(question)) => ask(rt, rt.alloc(), question, input, output),
+        Ok(Request::Play { weights }) => match weights {
+            Some(weights) => play(rt.alloc(), weights, input, output),
+            None => print(faults, b"bad weights\n", 2),
+        },
+        Ok(Request::Serve { weights, workers }) => match weights {
+            Some(weights) => serve(rt, rt.alloc(), weights, workers, input, output),
+            None => print(faults, b"bad weights\n", 2),
+        },
+        Err(WordsFault::Memory) => print(output, b"refused Memory\n", 1),
+        Err(WordsFault::Bad { text }) => print(faults, text.as_bytes(), 2),
+    }
+}

@@ -1,0 +1,18 @@
+//! What `mmlib` does: a command line, an input and an output to an exit status.
+//!
+//! Reading order: `command_line` (`run`, what a command line does), `streams` (what is read and written), `database` (`outline`, `check`, `tree`, `trace`);
+//! `play`, with `script_input` (its lines, which crate `scripts` reads) and `answers` (what a line prints); `serve`, with
+//! `node_threads`.
+#![tactic(auto)]
+
+mod answers;
+mod command_line;
+mod database;
+mod node_threads;
+mod play;
+mod script_input;
+mod serve;
+mod streams;
+
+pub use command_line::run;
+pub use streams::print;

@@ -1,0 +1,76 @@
+//! The nodes that `serve` starts and stops.
+ghost use Rattle.std.specs.Prelude.{◌≡◌, length, vec_len, IfOk, IsOkUnless};
+ghost use Rattle.std.specs.List.{AllByRecursion};
+ghost use Rattle.synod.specs.Record.{new_kept};
+ghost use Rattle.world.specs.declared.fault.StepFault.TheVariants.{Memory};
+
+use cluster::MemoryKeep;
+use commands::WorkerCount;
+use nodes::{Clear, Cluster, Desk, start};
+use std::alloc::{AllocError, Global};
+use std::sync::{Arc, Wait};
+use std::thread::Threads;
+use synod::{Keep, Weights};
+use verify_pool::OpenGate;
+use world::{Carried, StepFault};
+
+/// How often a cluster that finds no memory to stop is asked again.
+const MOST_RETRIES: u32 = 1000;
+
+/// The nodes of one process, each with a keep in memory.
+pub type Nodes = Cluster<OpenGate, MemoryKeep<Carried>>;
+
+/// A desk of such nodes.
+pub type NodesDesk = Desk<OpenGate, MemoryKeep<Carried>>;
+
+/// Starts a node for each weight. No hint is lost, repeated or delayed, and each thread passes the gate at once.
+///
+/// Errors: `Memory`; no thread is left then.
+pub fn start_nodes<R: Threads + Wait + Copy + Send + Sync + Drop + 'static>(
+    rt: &R,
+    alloc: Global,
+    weights: Weights,
+    workers: WorkerCount,
+) -> Result<Nodes, StepFault>
+    ensures nodes { IfOk result (λ nodes. nodes ≡ length weights) }
+    ensures only_memory { IsOkUnless result Memory }
+{
+    let count = weights.count();
+    let Ok(gate) = Arc::new(alloc, OpenGate) else {
+        return Err(StepFault::Memory);
+    };
+    let weathers = vec![in alloc; Clear; usize::from(count)]?;
+    let keeps = keeps(alloc, count)?;
+    start(rt, alloc, weights, workers.count, gate, weathers, keeps)
+}
+
+/// So many keeps of new nodes.
+fn keeps(alloc: Global, count: u8) -> Result<Vec<MemoryKeep<Carried>>, AllocError>
+    ensures count { IfOk result (λ keeps. vec_len keeps ≡ count) }
+    ensures new { IfOk result (λ keeps. AllByRecursion (λ keep. ⟦<MemoryKeep<Carried> as Keep<Carried>>⟧.kept keep ≡ new_kept) keeps.items) }
+{
+    if count == 0 {
+        return Ok(Vec::new(alloc));
+    }
+    let mut all = keeps(alloc, count - 1)?;
+    let keep = MemoryKeep::new(alloc);
+    all.push(keep)?;
+    Ok(all)
+}
+
+/// Stops the nodes, and joins their threads. Where there is no memory for their report they are asked again.
+///
+/// Errors: as of the last time that they were asked.
+pub fn stop_nodes<R: Threads + Wait>(rt: &R, nodes: &mut Nodes) -> Result<(), StepFault>
+    ensures { nodes.new ≡ nodes.old }
+{
+    for _retry in 0..MOST_RETRIES {
+        match nodes.stop(rt) {
+            Err(StepFault::Memory) => {}
+            Ok(_report) => return Ok(()),
+            Err(fault) => return Err(fault),
+        }
+    }
+    nodes.stop(rt)?;
+    Ok(())
+}

@@ -1,0 +1,97 @@
+//! Texts of a row: bytes that stand for themselves, and those that stand behind a backslash.
+use numbers::parse_number;
+use std::alloc::{AllocError, Global};
+use std::io::Write;
+
+/// Why a line is not read.
+#[derive(Drop)]
+pub enum LineFault {
+    /// It says nothing.
+    Bad,
+    /// A growth was refused.
+    Memory,
+}
+
+impl From<AllocError> for LineFault {
+    fn from(_error: AllocError) -> LineFault {
+        LineFault::Memory
+    }
+}
+
+/// Adds the line so many times; in each `\{K}` and `\{K+S}` stand for the number of that time.
+pub fn push_lines(bytes: &mut Vec<u8>, text: &str, times: u64) -> Result<(), LineFault> {
+    for time in 0..times {
+        push_line(bytes, text, time)?;
+    }
+    Ok(())
+}
+
+/// Adds the line, with a line feed where the text does not end in a backslash.
+pub fn push_line(bytes: &mut Vec<u8>, text: &str, time: u64) -> Result<(), LineFault> {
+    match text.strip_suffix("\\") {
+        Some(text) => push_text(bytes, text, time),
+        None => {
+            push_text(bytes, text, time)?;
+            bytes.extend_from_slice(b"\n")?;
+            Ok(())
+        }
+    }
+}
+
+/// A word of a command line.
+pub fn word_of(alloc: Global, text: &str) -> Result<String, LineFault> {
+    let mut bytes = Vec::new(alloc);
+    push_text(&mut bytes, text.strip_suffix("\\").unwrap_or(text), 0)?;
+    String::from_utf8(bytes).map_err(|_error| LineFault::Bad)
+}
+
+/// Adds the bytes of a text.
+fn push_text(bytes: &mut Vec<u8>, text: &str, time: u64) -> Result<(), LineFault> {
+    let mut pieces = text.split('\\');
+    if let Some(first) = pieces.next() {
+        bytes.extend_from_slice(first.as_bytes())?;
+    }
+    for piece in pieces {
+        push_escaped(bytes, piece, time)?;
+    }
+    Ok(())
+}
+
+/// Adds the bytes of what stands behind a backslash.
+fn push_escaped(bytes: &mut Vec<u8>, piece: &str, time: u64) -> Result<(), LineFault> {
+    if let Some(digits) = piece.strip_prefix("x") {
+        return push_byte(bytes, digits);
+    }
+    let Some((number, rest)) = piece
+        .strip_prefix("{")
+        .and_then(|rest| rest.split_once('}'))
+    else {
+        return Err(LineFault::Bad);
+    };
+    let number = number_at(number, time).ok_or(LineFault::Bad)?;
+    write!(bytes, "{number}").map_err(|_error| LineFault::Memory)?;
+    bytes.extend_from_slice(rest.as_bytes())?;
+    Ok(())
+}
+
+/// Adds the byte of two hexadecimal digits, and what stands behind them.
+fn push_byte(bytes: &mut Vec<u8>, digits: &str) -> Result<(), LineFault> {
+    let Some((digits, rest)) = digits.split_at_checked(2) else {
+        return Err(LineFault::Bad);
+    };
+    let Ok(byte) = u8::from_str_radix(digits, 16) else {
+        return Err(LineFault::Bad);
+    };
+    bytes.extend_from_slice(&[byte])?;
+    bytes.extend_from_slice(rest.as_bytes())?;
+    Ok(())
+}
+
+/// The number that `K` or `K+S` stands for at a time, from 0.
+fn number_at(text: &str, time: u64) -> Option<u64> {
+    let (first, step) = match text.split_once('+') {
+        Some((first, step)) => (first, parse_number(step.as_bytes())?),
+        None => (text, 1),
+    };
+    parse_number(first.as_bytes())?.checked_add(step.checked_mul(time)?)
+}

@@ -1,0 +1,119 @@
+-- Symbols copied and written within one buffer.
+use Rattle.std.specs.Prelude.{◌≡◌, ℕ, ◌+◌, ◌-◌, ◌<◌, ◌≤◌, min, List, ◌++◌, length, take, drop, get_or}
+use Rattle.std.proofs.Common.{sym, ◌∙◌, ap, subst, arith, length-append, append_assoc, take-add}
+use Rattle.std.proofs.lemmas.List.{length-take-le, take-take, drop-drop, drop-take}
+use Rattle.std.proofs.Math.Seq.{take-append-add, take-append_seam}
+use Rattle.std.proofs.lemmas.Simd.{take_more_put_chunk, length-chunk}
+use lib.Lanes.{chunk, put_chunk}
+use Rattle.frame.specs.Substitution.{code_image, code_apply}
+use Rattle.subst.specs.declared.place.Place.{Place}
+use Rattle.subst.specs.Places.{seen_at, images_at, AreInside}
+use Rattle.subst.specs.Written.{IsWritten, LacksRoom}
+use Rattle.subst.proofs.ApplyLemmas.{apply-take, len-take, len-within}
+use Rattle.subst.proofs.PlaceLemmas.{length-seen}
+use Rattle.subst.proofs.ImagePlacesLemmas.{image-more}
+
+-- two lists that begin alike have the same ranges there
+range-same : (x y : List ℕ) (at from k : ℕ) → take at x ≡ take at y → from + k ≤ at → take k (drop from x) ≡ take k (drop from y)
+range-same x y at from k e h = range x ∙ (ap (λ s. drop from (take (from + k) s)) e ∙ sym (range y))
+  where
+    range : (s : List ℕ) → take k (drop from s) ≡ drop from (take (from + k) (take at s))
+    range s = sym (drop-take from k s) ∙ ap (drop from) (sym (take-take (from + k) at s h))
+
+-- one more block of a run
+pub copy-on : (x x0 x' : List ℕ) (from len at done : ℕ) → from + len ≤ at → at + len + 8 ≤ length x → done < len
+    → take (at + min done len) x ≡ take at x0 ++ take (min done len) (drop from x0) → at ≤ length x0 → x' ≡ put_chunk (at + done) x (chunk (from + done) 8 x)
+    → take (at + min (done + 8) len) x' ≡ take at x0 ++ take (min (done + 8) len) (drop from x0)
+copy-on x x0 x' from len at done before room more sofar long put =
+    let m : min done len ≡ done = omega (arith, more) in
+    let sofar' : take (at + done) x ≡ take at x0 ++ take done (drop from x0) = subst (λ n. take (at + n) x ≡ take at x0 ++ take n (drop from x0)) m sofar in
+    let k : ℕ = min (done + 8) len - done in
+    let k8 : k ≤ 8 = omega (arith, more) in
+    let whole : min (done + 8) len ≡ done + k = omega (arith, more) in
+    let inside : from + done + k ≤ at = omega (arith, before, whole) in
+    let c : List ℕ = chunk (from + done) 8 x in
+    let c_long : length c ≡ 8 = length-chunk (from + done) 8 x (omega (arith, before, room, more)) in
+    let grown : take (at + done + 8) x' ≡ take (at + done) x ++ c = ap (take (at + done + 8)) put ∙ take_more_put_chunk (at + done) x c (at + done + 8) (omega (arith, c_long)) (omega (arith, room, more)) in
+    let front : take at x ≡ take at x0 =
+    sym (take-take at (at + done) x (omega arith)) ∙ (ap (take at) sofar' ∙ (ap (λ n. take n (take at x0 ++ take done (drop from x0))) (sym (length-take-le at x0 long)) ∙ take-append_seam (take at x0) (take done (drop from x0)))) in
+    let piece : take k c ≡ take k (drop (from + done) x0) = take-take k 8 (drop (from + done) x) k8 ∙ range-same x x0 at (from + done) k front inside in
+    let seam : length (take (at + done) x) ≡ at + done = length-take-le (at + done) x (omega (arith, room, more)) in
+    ap (λ n. take (at + n) x') whole
+    ∙ (ap (λ n. take n x') (let e : at + (done + k) ≡ at + done + k = omega arith in e)
+    ∙ (sym (take-take (at + done + k) (at + done + 8) x' (omega (arith, k8)))
+    ∙ (ap (take (at + done + k)) grown
+    ∙ (ap (λ n. take (n + k) (take (at + done) x ++ c)) (sym seam)
+    ∙ (take-append-add (take (at + done) x) c k
+    ∙ (ap (λ s. s ++ take k c) sofar'
+    ∙ (append_assoc (take at x0) (take done (drop from x0)) (take k c)
+    ∙ ap (λ s. take at x0 ++ s)
+    (ap (λ s. take done (drop from x0) ++ s) (piece ∙ ap (take k) (sym (drop-drop done from x0)))
+    ∙ (sym (take-add done k (drop from x0)) ∙ ap (λ n. take n (drop from x0)) (sym whole))))))))))
+
+-- the symbols at a place, as a run
+pub place-written : (x y : List ℕ) (at len : ℕ) (p : Place) → p.start ≤ p.end → p.end ≤ at → at ≤ length x → len ≡ p.end - p.start → at + len ≤ length y
+    → take (at + len) y ≡ take at x ++ take len (drop p.start x) → IsWritten x y at (seen_at (take at x) p) (at + len)
+place-written x y at len p low high long e room copied =
+    let seam : length (take at x) ≡ at = length-take-le at x long in
+    let size : length (seen_at (take at x) p) ≡ p.end - p.start = length-seen (take at x) p low (omega (arith, high, seam)) in
+    record {
+      written = copied ∙ ap (λ s. take at x ++ s) (ap (λ n. take n (drop p.start x)) e ∙ range-same x (take at x) at p.start (p.end - p.start) (sym (take-take at at x (omega arith))) (omega (arith, low, high)));
+      moved = omega (arith, size, e);
+      inside = room;
+    }
+
+pub place-lacks : (x : List ℕ) (at : ℕ) (p : Place) → p.start ≤ p.end → p.end ≤ at → at ≤ length x → length x < at + (p.end - p.start) + 8 → LacksRoom (length x) at (seen_at (take at x) p)
+place-lacks x at p low high long less =
+    let seam : length (take at x) ≡ at = length-take-le at x long in
+    let size : length (seen_at (take at x) p) ≡ p.end - p.start = length-seen (take at x) p low (omega (arith, high, seam)) in
+    omega (arith, size, less)
+
+-- what stood before is as it was
+pub written-kept : (x y e : List ℕ) (at end : ℕ) → at ≤ length x → IsWritten x y at e end → take at y ≡ take at x
+written-kept x y e at end long w =
+    let moved = w.moved in
+    sym (take-take at end y (omega (arith, moved)))
+    ∙ (ap (take at) w.written ∙ (ap (λ n. take n (take at x ++ e)) (sym (length-take-le at x long)) ∙ take-append_seam (take at x) e))
+
+-- written behind the same symbols
+pub written-from : (x x0 y e e' : List ℕ) (at end : ℕ) → take at x ≡ take at x0 → e ≡ e' → IsWritten x y at e end → IsWritten x0 y at e' end
+written-from x x0 y e e' at end same q w =
+    record { written = w.written ∙ (ap (λ s. s ++ e) same ∙ ap (λ s. take at x0 ++ s) q); moved = w.moved ∙ ap (λ s. at + length s) q; inside = w.inside }
+
+pub kept-on : (x0 x y : List ℕ) (at end : ℕ) → at ≤ end → take end y ≡ take end x → take at x ≡ take at x0 → take at y ≡ take at x0
+kept-on x0 x y at end h e f = sym (take-take at end y h) ∙ (ap (take at) e ∙ (take-take at end x h ∙ f))
+
+-- the image of one more symbol
+pub fill-on : (x0 x x' : List ℕ) (ps : List (ℕ × Place)) (t : List ℕ) (i at end e : ℕ) → AreInside at ps → at ≤ length x0 → i < length t
+    → IsWritten x0 x at (code_apply (images_at (take at x0) ps) (take i t)) end
+    → IsWritten x x' end (code_image (images_at (take end x) ps) (get_or t i 0)) e
+    → IsWritten x0 x' at (code_apply (images_at (take at x0) ps) (take (i + 1) t)) e
+fill-on x0 x x' ps t i at end e within long more w v =
+    let seam : length (take at x0) ≡ at = length-take-le at x0 long in
+    let σ = images_at (take at x0) ps in
+    let n = get_or t i 0 in
+    let front = code_apply σ (take i t) in
+    let same : code_image (images_at (take end x) ps) n ≡ code_image σ n
+    = ap (λ s. code_image (images_at s ps) n) w.written ∙ image-more (take at x0) front ps n (subst (λ m. AreInside m ps) (sym seam) within) in
+    let next : List ℕ = code_apply σ (take (i + 1) t) in
+    let whole : take e x' ≡ take at x0 ++ next
+    = v.written ∙ (ap (λ s. s ++ code_image (images_at (take end x) ps) n) w.written ∙ (append_assoc (take at x0) front (code_image (images_at (take end x) ps) n)
+    ∙ ap (λ s. take at x0 ++ s) (ap (λ s. front ++ s) same ∙ sym (apply-take σ t i more)))) in
+    let inside = v.inside in
+    let size = length-take-le e x' inside in
+    record { written = whole; moved = omega (arith, ap length whole, length-append (take at x0) next, seam, size); inside = inside }
+
+pub fill-lacks : (x0 x : List ℕ) (ps : List (ℕ × Place)) (t : List ℕ) (i at end : ℕ) → AreInside at ps → at ≤ length x0 → i < length t → length x ≡ length x0
+    → IsWritten x0 x at (code_apply (images_at (take at x0) ps) (take i t)) end
+    → LacksRoom (length x) end (code_image (images_at (take end x) ps) (get_or t i 0))
+    → LacksRoom (length x0) at (code_apply (images_at (take at x0) ps) t)
+fill-lacks x0 x ps t i at end within long more same w lacks =
+    let seam : length (take at x0) ≡ at = length-take-le at x0 long in
+    let σ = images_at (take at x0) ps in
+    let n = get_or t i 0 in
+    let image_same : length (code_image (images_at (take end x) ps) n) ≡ length (code_image σ n)
+    = ap length (ap (λ s. code_image (images_at s ps) n) w.written ∙ image-more (take at x0) (code_apply σ (take i t)) ps n (subst (λ m. AreInside m ps) (sym seam) within)) in
+    let moved = w.moved in
+    let longer = len-within σ t (i + 1) in
+    let one = len-take σ t i more in
+    omega (arith, lacks, same, moved, longer, one, image_same)

@@ -1,0 +1,193 @@
+-- The images of each two numbers of a group, each two compared once.
+use Rattle.std.specs.Prelude.{◌≡◌, ℕ, zero, suc, ◌+◌, ◌<◌, Bool, true, false, not, ◌||◌, ◌&&◌, ◌==◌, List, [], ◌∷◌, length, map, take, drop, get_or, slice_get, Some, refl}
+use Rattle.std.specs.List.{list_all, list_any, position_or_len}
+use Rattle.std.proofs.Common.{sym, ◌∙◌, ap, subst, arith}
+use Rattle.std.proofs.lemmas.Bool.{lt-ltb}
+use Rattle.std.proofs.lemmas.List.Folds.{list_all-map, list_all_at, list_all_more}
+use Rattle.std.proofs.lemmas.Option.{get_or_from_slice_get, slice_get_within}
+use Rattle.std.proofs.lemmas.Slice.Eq.{bytes_eq-Decides}
+use Rattle.mm_lex.specs.Alphabet.{Name, name_eq, has_name}
+use Rattle.mm_read.specs.Statements.{Expr, Database}
+use Rattle.scope.specs.Active.{is_variable}
+use Rattle.names.specs.Codes.{name_at, decode, AreDistinct}
+use Rattle.names.proofs.CodesLemmas.{name_same, same_name}
+use Rattle.frame.specs.FrameOf.{is_pair, groups}
+use Rattle.frame.specs.Substitution.{CodeImages, image, images_of_names}
+use Rattle.frame.specs.Disjoint.{are_apart, is_group_apart, are_groups_apart}
+use Rattle.frame.specs.Below.{AreBelow, AllBelow}
+use Rattle.subst.specs.Apart.{image_named, are_two_apart, is_number_apart, are_numbers_apart}
+use Rattle.subst.proofs.SubstitutionLemmas.{place-of, image-decode}
+
+-- ---- lists
+
+pub below-at : (n : ℕ) (xs : List ℕ) (i d : ℕ) → AreBelow n xs → i < length xs → get_or xs i d < n
+below-at n [] i d b h = absurd (omega (arith, h))
+below-at n (x ∷ xs) zero d b h = b.0
+below-at n (x ∷ xs) (suc i) d b h = below-at n xs i d b.1 (omega (arith, h))
+
+pub below-drop : (n i : ℕ) (xs : List ℕ) → AreBelow n xs → AreBelow n (drop i xs)
+below-drop n zero xs b = b
+below-drop n (suc i) [] b = tt
+below-drop n (suc i) (x ∷ xs) b = below-drop n i xs b.1
+
+pub below-group : (n : ℕ) (groups : List (List ℕ)) (i : ℕ) (g : List ℕ) → AllBelow n groups → slice_get groups i ≡ Some g → AreBelow n g
+below-group n [] i g b h = absurd (cc)
+below-group n (f ∷ groups) zero g b h = let e : f ≡ g = cc in subst (AreBelow n) e b.0
+below-group n (f ∷ groups) (suc i) g b h = below-group n groups i g b.1 h
+
+-- a group that is not apart, and one more that is
+pub group-stops : (p : List ℕ → Bool) (groups : List (List ℕ)) (i : ℕ) (g : List ℕ) → slice_get groups i ≡ Some g → p g ≡ false → list_all p groups ≡ false
+group-stops p groups i g h e =
+    list_all_at p groups i [] (slice_get_within groups i g h) (ap p (get_or_from_slice_get groups i g [] h) ∙ e)
+
+pub group-goes_on : (p : List ℕ → Bool) (groups : List (List ℕ)) (i : ℕ) (g : List ℕ) → slice_get groups i ≡ Some g → list_all p (take i groups) ≡ true → p g ≡ true → list_all p (take (i + 1) groups) ≡ true
+group-goes_on p groups i g h before here =
+    list_all_more p groups i [] (slice_get_within groups i g h) ∙ both _ _ before (ap p (get_or_from_slice_get groups i g [] h) ∙ here)
+  where
+    both : (a b : Bool) → a ≡ true → b ≡ true → (a && b) ≡ true
+    both true b h e = e
+    both false b h e = cc
+
+pub differ : (k l : ℕ) → (k ≡ l → ⊥) → (k == l) ≡ false
+differ k l ne = grind (arith, ne)
+
+all-true : {A : Type 0} (p : A → Bool) (xs : List A) → ((x : A) → p x ≡ true) → list_all p xs ≡ true
+all-true p [] h = refl
+all-true p (x ∷ xs) h = ap (λ b. b && list_all p xs) (h x) ∙ all-true p xs h
+
+all-same : {A : Type 0} (p q : A → Bool) (xs : List A) → ((x : A) → p x ≡ q x) → list_all p xs ≡ list_all q xs
+all-same p q [] h = refl
+all-same p q (x ∷ xs) h = ap (λ b. b && list_all p xs) (h x) ∙ ap (λ b. q x && b) (all-same p q xs h)
+
+all-both : {A : Type 0} (p q : A → Bool) (xs : List A) → list_all (λ x. p x && q x) xs ≡ (list_all p xs && list_all q xs)
+all-both p q [] = refl
+all-both p q (x ∷ xs) = ap (λ b. (p x && q x) && b) (all-both p q xs) ∙ shuffle (p x) (q x) (list_all p xs) (list_all q xs)
+  where
+    shuffle : (a b c d : Bool) → ((a && b) && (c && d)) ≡ ((a && c) && (b && d))
+    shuffle true true c d = refl
+    shuffle true false true d = refl
+    shuffle true false false d = refl
+    shuffle false b c d = refl
+
+all-swap : {A B : Type 0} (p : A → B → Bool) (xs : List A) (ys : List B) → list_all (λ x. list_all (λ y. p x y) ys) xs ≡ list_all (λ y. list_all (λ x. p x y) xs) ys
+all-swap p [] ys = sym (all-true (λ y. true) ys (λ y. refl))
+all-swap p (x ∷ xs) ys = ap (λ b. list_all (λ y. p x y) ys && b) (all-swap p xs ys) ∙ sym (all-both (λ y. p x y) (λ y. list_all (λ z. p z y) xs) ys)
+
+any-same : {A : Type 0} (p q : A → Bool) (xs : List A) → ((x : A) → p x ≡ q x) → list_any p xs ≡ list_any q xs
+any-same p q [] h = refl
+any-same p q (x ∷ xs) h = ap (λ b. b || list_any p xs) (h x) ∙ ap (λ b. q x || b) (any-same p q xs h)
+
+-- ---- the pair clause has no order
+
+name_eq-swap : (x y : Name) → name_eq x y ≡ name_eq y x
+name_eq-swap x y = split (name_eq x y) (name_eq y x) refl refl
+  where
+    split : (a b : Bool) → name_eq x y ≡ a → name_eq y x ≡ b → a ≡ b
+    split true true p q = refl
+    split false false p q = refl
+    split true false p q = let e : name_eq y x ≡ true = (bytes_eq-Decides y x).1 (sym ((bytes_eq-Decides x y).0 p)) in let f : true ≡ false = sym e ∙ q in cc
+    split false true p q = let e : name_eq x y ≡ true = (bytes_eq-Decides x y).1 (sym ((bytes_eq-Decides y x).0 q)) in let f : true ≡ false = sym e ∙ p in cc
+
+pair-swap : (D : Database) (x y : Name) → is_pair D x y ≡ is_pair D y x
+pair-swap D x y =
+    ap (λ b. not b && list_any (λ names. has_name x names && has_name y names) (groups D)) (name_eq-swap x y)
+    ∙ ap (λ b. not (name_eq y x) && b) (any-same (λ names. has_name x names && has_name y names) (λ names. has_name y names && has_name x names) (groups D) (λ names. and-swap (has_name x names) (has_name y names)))
+  where
+    and-swap : (a b : Bool) → (a && b) ≡ (b && a)
+    and-swap true true = refl
+    and-swap true false = refl
+    and-swap false true = refl
+    and-swap false false = refl
+
+apart-swap : (D : Database) (e f : Expr) → are_apart D e f ≡ are_apart D f e
+apart-swap D e f =
+    all-swap (λ u v. not (is_variable D u) || not (is_variable D v) || is_pair D u v) e f
+    ∙ all-same (λ v. list_all (λ u. not (is_variable D u) || not (is_variable D v) || is_pair D u v) e) (λ v. list_all (λ u. not (is_variable D v) || not (is_variable D u) || is_pair D v u) e) f
+    (λ v. all-same (λ u. not (is_variable D u) || not (is_variable D v) || is_pair D u v) (λ u. not (is_variable D v) || not (is_variable D u) || is_pair D v u) e
+    (λ u. either (is_variable D u) (is_variable D v) (is_pair D u v) (is_pair D v u) (pair-swap D u v)))
+  where
+    either : (a b p q : Bool) → p ≡ q → (not a || not b || p) ≡ (not b || not a || q)
+    either true true p q h = h
+    either true false p q h = refl
+    either false true p q h = refl
+    either false false p q h = refl
+
+eq-swap : (i j : ℕ) → (i == j) ≡ (j == i)
+eq-swap i j = grind arith
+
+eq-own : (j : ℕ) → (j == j) ≡ true
+eq-own j = grind arith
+
+-- ---- each two once
+
+module _ (D : Database) (image_of : ℕ → Expr) where
+  two-swap : (k l : ℕ) → are_two_apart D image_of k l ≡ are_two_apart D image_of l k
+  two-swap k l =
+      ap (λ b. b || are_apart D (image_of k) (image_of l)) (eq-swap k l)
+      ∙ ap (λ b. (l == k) || b) (apart-swap D (image_of k) (image_of l))
+
+  -- each image is apart from those of the numbers behind its own
+  abbrev pub is_rest_apart : List ℕ → Bool
+  is_rest_apart [] = true
+  is_rest_apart (k ∷ group) = is_number_apart D image_of group k && is_rest_apart group
+
+  pub group-by_rest : (group : List ℕ) → are_numbers_apart D image_of group ≡ is_rest_apart group
+  group-by_rest [] = refl
+  group-by_rest (k ∷ group) =
+      ap (λ b. ((b || are_apart D (image_of k) (image_of k)) && list_all (are_two_apart D image_of k) group) && list_all (is_number_apart D image_of (k ∷ group)) group) (eq-own k)
+      ∙ (ap (λ b. list_all (are_two_apart D image_of k) group && b) (all-both (λ l. are_two_apart D image_of l k) (λ l. list_all (are_two_apart D image_of l) group) group)
+      ∙ (ap (λ b. list_all (are_two_apart D image_of k) group && (b && are_numbers_apart D image_of group)) (all-same (λ l. are_two_apart D image_of l k) (are_two_apart D image_of k) group (λ l. two-swap l k))
+      ∙ (once (list_all (are_two_apart D image_of k) group) (are_numbers_apart D image_of group)
+      ∙ ap (λ b. list_all (are_two_apart D image_of k) group && b) (group-by_rest group))))
+    where
+      once : (a b : Bool) → (a && (a && b)) ≡ (a && b)
+      once true b = refl
+      once false b = refl
+
+  drop-at : (xs : List ℕ) (i d : ℕ) → i < length xs → drop i xs ≡ get_or xs i d ∷ drop (i + 1) xs
+  drop-at [] i d h = absurd (omega (arith, h))
+  drop-at (x ∷ xs) zero d h = refl
+  drop-at (x ∷ xs) (suc i) d h = let e : suc (i + 1) ≡ suc i + 1 = omega arith in drop-at xs i d (omega (arith, h)) ∙ ap (λ n. get_or xs i d ∷ drop n (x ∷ xs)) e
+
+  pub rest-at : (group : List ℕ) (i d : ℕ) → i < length group
+      → is_rest_apart (drop i group) ≡ (is_number_apart D image_of (drop (i + 1) group) (get_or group i d) && is_rest_apart (drop (i + 1) group))
+  rest-at group i d h = ap is_rest_apart (drop-at group i d h)
+
+-- ---- numbers for names
+
+all-below : (n : ℕ) (p q : ℕ → Bool) (xs : List ℕ) → AreBelow n xs → ((k : ℕ) → k < n → p k ≡ q k) → list_all p xs ≡ list_all q xs
+all-below n p q [] b h = refl
+all-below n p q (x ∷ xs) b h = ap (λ r. r && list_all p xs) (h x b.0) ∙ ap (λ r. q x && r) (all-below n p q xs b.1 h)
+
+module _ (names : List Name) (distinct : AreDistinct names) where
+  eq-named : (k l : ℕ) → k < length names → l < length names → (k == l) ≡ name_eq (name_at names k) (name_at names l)
+  eq-named k l hk hl = by (name_eq (name_at names k) (name_at names l)) refl
+    where
+      by : (b : Bool) → name_eq (name_at names k) (name_at names l) ≡ b → (k == l) ≡ b
+      by true e =
+          let p = place-of names k distinct (lt-ltb k (length names) hk) in
+          let q = place-of names l distinct (lt-ltb l (length names) hl) in
+          let one : k ≡ l = sym p.1 ∙ (ap (λ x. position_or_len (name_eq x) names) (same_name (name_at names k) (name_at names l) e) ∙ q.1) in
+          ap (λ m. m == l) one ∙ eq-own l
+      by false e = differ k l (λ one. (let same : name_eq (name_at names k) (name_at names l) ≡ true = ap (λ m. name_eq (name_at names m) (name_at names l)) one ∙ name_same (name_at names l) in let f : true ≡ false = sym same ∙ e in cc))
+
+  module _ (D : Database) (σ : CodeImages) where
+    two-named : (k l : ℕ) → k < length names → l < length names
+        → are_two_apart D (image_named names σ) k l ≡ (name_eq (name_at names k) (name_at names l) || are_apart D (image (images_of_names names σ) (name_at names k)) (image (images_of_names names σ) (name_at names l)))
+    two-named k l hk hl =
+        ap (λ b. b || are_apart D (image_named names σ k) (image_named names σ l)) (eq-named k l hk hl)
+        ∙ (ap (λ e. name_eq (name_at names k) (name_at names l) || are_apart D e (image_named names σ l)) (image-decode names σ k distinct (lt-ltb k (length names) hk))
+        ∙ ap (λ e. name_eq (name_at names k) (name_at names l) || are_apart D (image (images_of_names names σ) (name_at names k)) e) (image-decode names σ l distinct (lt-ltb l (length names) hl)))
+
+    group-named : (g : List ℕ) → AreBelow (length names) g → are_numbers_apart D (image_named names σ) g ≡ is_group_apart D (images_of_names names σ) (decode names g)
+    group-named g b =
+        all-below (length names) (is_number_apart D (image_named names σ) g) (λ k. list_all (λ y. name_eq (name_at names k) y || are_apart D (image (images_of_names names σ) (name_at names k)) (image (images_of_names names σ) y)) (decode names g)) g b
+        (λ k hk. all-below (length names) (are_two_apart D (image_named names σ) k) (λ l. name_eq (name_at names k) (name_at names l) || are_apart D (image (images_of_names names σ) (name_at names k)) (image (images_of_names names σ) (name_at names l))) g b (λ l hl. two-named k l hk hl)
+        ∙ sym (list_all-map (λ y. name_eq (name_at names k) y || are_apart D (image (images_of_names names σ) (name_at names k)) (image (images_of_names names σ) y)) (name_at names) g))
+        ∙ sym (list_all-map (λ x. list_all (λ y. name_eq x y || are_apart D (image (images_of_names names σ) x) (image (images_of_names names σ) y)) (decode names g)) (name_at names) g)
+
+    pub groups-named : (gs : List (List ℕ)) → AllBelow (length names) gs → list_all (are_numbers_apart D (image_named names σ)) gs ≡ are_groups_apart D (images_of_names names σ) (map (decode names) gs)
+    groups-named [] b = refl
+    groups-named (g ∷ gs) b =
+        ap (λ r. r && list_all (are_numbers_apart D (image_named names σ)) gs) (group-named g b.0)
+        ∙ ap (λ r. is_group_apart D (images_of_names names σ) (decode names g) && r) (groups-named gs b.1)

@@ -1,0 +1,12 @@
+use Rattle.std.proofs.Common.{◌≡◌, ◌+◌, ◌-◌, ◌<◌, ◌++◌, length, take, drop}
+use Rattle.std.specs.Prelude.{min}
+use Rattle.subst.proofs.copies.copy_run.Given as goal
+
+abbrev pub invariant-loop-done : goal.invariant-loop-done
+invariant-loop-done l =
+    (take (l.at + min l.done l.len) l.symbols ≡ take l.at l.initial.symbols ++ take (min l.done l.len) (drop l.from l.initial.symbols))
+    × (l.done < l.len + 8)
+    × (length l.symbols ≡ length l.initial.symbols)
+
+abbrev pub decreases-loop-done : goal.decreases-loop-done
+decreases-loop-done l = l.len - l.done

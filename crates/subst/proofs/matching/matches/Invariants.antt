@@ -1,0 +1,7 @@
+use Rattle.std.proofs.Common.{◌≡◌, ◌++◌, take}
+use Rattle.frame.specs.Substitution.{code_apply}
+use Rattle.subst.specs.Places.{images_at}
+use Rattle.subst.proofs.matching.matches.Given as goal
+
+abbrev pub invariant-loop-symbol : goal.invariant-loop-symbol
+invariant-loop-symbol l = l.whole ≡ code_apply (images_at l.symbols l.images) (take l.symbol-index l.expr) ++ l.rest

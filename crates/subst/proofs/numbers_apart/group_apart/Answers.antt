@@ -1,0 +1,49 @@
+use Rattle.std.proofs.Common.{◌≡◌, ◌+◌, ◌&&◌, ◌-◌, true, false, Bool, ℕ, List, length, take, drop, get_or, arith, refl, sym, ap, subst, ◌∙◌, length-drop}
+use Rattle.std.proofs.lemmas.List.{drop_all, take_all}
+use Rattle.frame.specs.Below.{AreBelow}
+use Rattle.subst.specs.Places.{images_at}
+use Rattle.subst.specs.Apart.{image_named, is_number_apart}
+use Rattle.subst.proofs.NumbersApartLemmas.{below-at, below-drop, is_rest_apart, group-by_rest, rest-at}
+use Rattle.subst.proofs.numbers_apart.group_apart.Goals as goal
+
+rest-of : (k : ℕ) (s : List ℕ) → take (length s - k) (drop k s) ≡ drop k s
+rest-of k s = take_all (length s - k) (drop k s) (let e = length-drop k s in omega (arith, e))
+
+pub number_apart-requires-clause-left : goal.number_apart-requires-clause-left
+number_apart-requires-clause-left c = below-at (length c.args.pairs.now.names) c.args.group.now c.loop-index.index 0 c.requires.below c.loop-index-test.true
+
+pub number_apart-requires-clause-below : goal.number_apart-requires-clause-below
+number_apart-requires-clause-below c =
+    subst (AreBelow (length c.args.pairs.now.names)) (sym (rest-of (c.loop-index.index + 1) c.args.group.now)) (below-drop (length c.args.pairs.now.names) (c.loop-index.index + 1) c.args.group.now c.requires.below)
+
+both : (a b : Bool) → a ≡ true → (a && b) ≡ b
+both true b e = refl
+both false b e = cc
+
+neither : (a b : Bool) → a ≡ false → (a && b) ≡ false
+neither true b e = cc
+neither false b e = refl
+
+pub returns-then-not-number_apart : goal.returns-then-not-number_apart
+returns-then-not-number_apart c =
+    let D = c.args.pairs.now.statements in
+    let rs = image_named c.args.pairs.now.names (images_at c.args.symbols.now c.args.images.now) in
+    let i = c.loop-index.index in
+    let here = sym c.number_apart.ensures ∙ c.if-not-number_apart.true in
+    sym (group-by_rest D rs c.args.group.now ∙ (sym c.loop-index.invariant ∙ (rest-at D rs c.args.group.now i 0 c.loop-index-test.true
+    ∙ neither _ _ (ap (λ g. is_number_apart D rs g (get_or c.args.group.now i 0)) (sym (rest-of (i + 1) c.args.group.now)) ∙ here))))
+
+pub loop-index-preserved : goal.loop-index-preserved
+loop-index-preserved c =
+    let D = c.args.pairs.now.statements in
+    let rs = image_named c.args.pairs.now.names (images_at c.args.symbols.now c.args.images.now) in
+    let i = c.loop-index.index in
+    let here = sym c.number_apart.ensures ∙ c.if-not-number_apart.false in
+    sym (rest-at D rs c.args.group.now i 0 c.loop-index-test.true
+    ∙ both _ _ (ap (λ g. is_number_apart D rs g (get_or c.args.group.now i 0)) (sym (rest-of (i + 1) c.args.group.now)) ∙ here)) ∙ c.loop-index.invariant
+
+pub returns : goal.returns
+returns c =
+    let D = c.args.pairs.now.statements in
+    let rs = image_named c.args.pairs.now.names (images_at c.args.symbols.now c.args.images.now) in
+    sym (group-by_rest D rs c.args.group.now ∙ (sym c.loop-index.invariant ∙ ap (is_rest_apart D rs) (drop_all c.loop-index.index c.args.group.now (omega (arith, c.loop-index-test.false)))))

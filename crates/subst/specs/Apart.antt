@@ -1,0 +1,25 @@
+-- Images of numbers that are kept apart.
+-- Metamath, 4.2.6: no variable stands in two images that a `$d` keeps apart, and each pair of one variable from each has its own `$d`.
+-- The code goes by numbers; `are_groups_apart`, one number and one group at a time.
+use Rattle.std.specs.Prelude.{ℕ, Bool, ◌||◌, ◌==◌, List}
+use Rattle.std.specs.List.{list_all}
+use Rattle.mm_lex.specs.Alphabet.{Name}
+use Rattle.mm_read.specs.Statements.{Expr, Database}
+use Rattle.names.specs.Codes.{decode}
+use Rattle.frame.specs.Substitution.{CodeImages, code_image}
+use Rattle.frame.specs.Disjoint.{are_apart}
+
+-- the image of a number, by names
+abbrev pub image_named : List Name → CodeImages → ℕ → Expr
+image_named names σ n = decode names (code_image σ n)
+
+-- the numbers are one, or their images are apart
+abbrev pub are_two_apart : Database → (ℕ → Expr) → ℕ → ℕ → Bool
+are_two_apart D image k l = (k == l) || are_apart D (image k) (image l)
+
+-- the image of k is apart from those of the other numbers
+abbrev pub is_number_apart : Database → (ℕ → Expr) → List ℕ → ℕ → Bool
+is_number_apart D image group k = list_all (are_two_apart D image k) group
+
+abbrev pub are_numbers_apart : Database → (ℕ → Expr) → List ℕ → Bool
+are_numbers_apart D image group = list_all (is_number_apart D image group) group

@@ -1,0 +1,70 @@
+//! Symbols copied within one buffer, eight at once.
+ghost use Rattle.std.specs.Prelude.{◌≡◌, ◌+◌, ◌≤◌, ◌++◌, ◌∷◌, [], length, take, drop, IfSome, IfNone};
+ghost use Rattle.subst.specs.Places.{seen_at};
+ghost use Rattle.subst.specs.Written.{IsWritten, LacksRoom};
+
+use crate::place::Place;
+use std::simd::prelude::*;
+
+/// How many symbols are copied at once, and so how many may be written over behind what is written.
+pub const LANES: usize = 8;
+
+/// Copies symbols that lie before `at` to `at`.
+fn copy_run(symbols: &mut [u32], from: usize, len: usize, at: usize)
+    requires before { from + len ≤ at }
+    requires room { at + len + 8 ≤ length symbols.old }
+    ensures copied { take (at + len) symbols.new ≡ take at symbols.old ++ take len (drop from symbols.old) }
+    ensures count { length symbols.new ≡ length symbols.old }
+{
+    let mut done = 0;
+    while done < len {
+        u32x8::from_slice(&symbols[from + done..]).copy_to_slice(&mut symbols[at + done..]);
+        done += LANES;
+    }
+}
+
+/// Copies the symbols at a place to `at`, and tells where they end.
+pub fn copy_place(symbols: &mut [u32], at: usize, place: Place) -> Option<usize>
+    requires place { (place.start ≤ place.end) × (place.end ≤ at) }
+    requires inside { at ≤ length symbols.old }
+    ensures some { IfSome result (IsWritten symbols.old symbols.new at (seen_at (take at symbols.old) place)) }
+    ensures none { IfNone result (LacksRoom (length symbols.old) at (seen_at (take at symbols.old) place)) }
+    ensures kept { take at symbols.new ≡ take at symbols.old }
+    ensures count { length symbols.new ≡ length symbols.old }
+{
+    let len = (place.end - place.start) as usize;
+    if at + len + LANES > symbols.len() {
+        return None;
+    }
+    copy_run(symbols, place.start as usize, len, at);
+    Some(at + len)
+}
+
+/// Writes a symbol at `at`, and tells where it ends.
+pub fn put_symbol(symbols: &mut [u32], at: usize, symbol: u32) -> Option<usize>
+    requires inside { at ≤ length symbols.old }
+    ensures some { IfSome result (IsWritten symbols.old symbols.new at (symbol ∷ [])) }
+    ensures none { IfNone result (LacksRoom (length symbols.old) at (symbol ∷ [])) }
+    ensures kept { take at symbols.new ≡ take at symbols.old }
+    ensures count { length symbols.new ≡ length symbols.old }
+{
+    if at + LANES >= symbols.len() {
+        return None;
+    }
+    symbols[at] = symbol;
+    Some(at + 1)
+}
+
+/// Writes an expression at `at`. Most are the two symbols of a `$f`.
+pub fn put_expr(symbols: &mut [u32], at: usize, expr: &[u32])
+    requires { at + length expr.now ≤ length symbols.old }
+    ensures written { take (at + length expr.now) symbols.new ≡ take at symbols.old ++ expr.now }
+    ensures count { length symbols.new ≡ length symbols.old }
+{
+    if let [first, second] = expr {
+        symbols[at] = *first;
+        symbols[at + 1] = *second;
+    } else {
+        symbols[at..at + expr.len()].copy_from_slice(expr);
+    }
+}

@@ -1,0 +1,53 @@
+//! An expression with the images put in, against symbols that stand, without writing it.
+ghost use Rattle.std.specs.Prelude.{◌≡◌, ℕ, ◌∷◌, ◌++◌, ◌↔◌, List, length, IfSome, IfNone, IsTrue};
+ghost use Rattle.frame.specs.Substitution.{code_image, code_apply};
+ghost use Rattle.subst.specs.Places.{images_at, AreInside};
+
+use crate::image_places::ImagePlaces;
+use crate::place::symbols_at;
+
+/// What stands behind a symbol.
+fn behind_symbol(symbol: u32, rest: &[u32]) -> Option<&[u32]>
+    ensures some { IfSome result (λ more. rest.now ≡ symbol ∷ more.now) }
+    ensures none { IfNone result ((more : List ℕ) → rest.now ≡ symbol ∷ more → ⊥) }
+{
+    if !rest.is_empty() && rest[0] == symbol {
+        Some(&rest[1..])
+    } else {
+        None
+    }
+}
+
+/// What stands behind the image of a symbol.
+fn behind<'a>(
+    symbols: &[u32],
+    images: &ImagePlaces,
+    symbol: u32,
+    rest: &'a [u32],
+) -> Option<&'a [u32]>
+    requires { AreInside (length symbols.now) images.now }
+    ensures some { IfSome result (λ more. rest.now ≡ code_image (images_at symbols.now images.now) symbol ++ more.now) }
+    ensures none { IfNone result ((more : List ℕ) → rest.now ≡ code_image (images_at symbols.now images.now) symbol ++ more → ⊥) }
+{
+    match images.get(symbol) {
+        Some(place) => rest.strip_prefix(symbols_at(symbols, place)),
+        None => behind_symbol(symbol, rest),
+    }
+}
+
+/// Whether the symbols are the expression with all images put in. The images lie in the first list of symbols.
+///
+/// Cost: the symbols that agree, each once; nothing is written.
+pub fn matches(symbols: &[u32], images: &ImagePlaces, expr: &[u32], whole: &[u32]) -> bool
+    requires { AreInside (length symbols.now) images.now }
+    ensures { IsTrue result ↔ (whole.now ≡ code_apply (images_at symbols.now images.now) expr.now) }
+{
+    let mut rest = whole;
+    for symbol in expr {
+        match behind(symbols, images, *symbol, rest) {
+            Some(more) => rest = more,
+            None => return false,
+        }
+    }
+    rest.is_empty()
+}

@@ -1,0 +1,29 @@
+//! Where symbols lie in a buffer.
+ghost use Rattle.std.specs.Prelude.{◌≡◌, ◌≤◌, length};
+ghost use Rattle.subst.specs.Places.{seen_at};
+
+/// Where symbols lie.
+#[derive(Clone, Copy, Drop)]
+pub struct Place {
+    pub start: u32,
+    pub end: u32,
+}
+
+/// The symbols at a place.
+pub fn symbols_at(symbols: &[u32], place: Place) -> &[u32]
+    requires { (place.start ≤ place.end) × (place.end ≤ length symbols.now) }
+    ensures { result.now ≡ seen_at symbols.now place }
+{
+    &symbols[place.start as usize..place.end as usize]
+}
+
+/// The place between two that are within the bound of a buffer.
+pub fn place_between(start: usize, end: usize) -> Place
+    requires { (start ≤ 67108864) × (end ≤ 67108864) }
+    ensures { (result.start ≡ start) × (result.end ≡ end) }
+{
+    Place {
+        start: start as u32,
+        end: end as u32,
+    }
+}

@@ -1,0 +1,122 @@
+-- The citation of an assertion, by results of numbers.
+use Rattle.std.specs.Prelude.{◌≡◌, ℕ, ◌-◌, ◌<◌, ◌≤◌, true, false, List, [], ◌++◌, length, map, get_or, slice_get, Some}
+use Rattle.std.proofs.Common.{sym, ◌∙◌, ap, subst, arith, length-append}
+use Rattle.std.proofs.lemmas.List.{length-map}
+use Rattle.mm_lex.specs.Alphabet.{Name}
+use Rattle.mm_read.specs.declared.stmt.Stmt.{Stmt}
+use Rattle.mm_read.specs.Statements.{Expr, Database}
+use Rattle.scope.specs.Active.{stmt_at, before, expr_of, is_assertion, is_variable}
+use Rattle.names.specs.Codes.{name_at, decode}
+use Rattle.frame.specs.FrameOf.{HasAssertion, mandatory_groups}
+use Rattle.frame.specs.Substitution.{Images, apply as applied, CodeImages, code_apply, images_of_names}
+use Rattle.frame.specs.Disjoint.{are_groups_apart}
+use Rattle.frame.specs.Citations.{Carries, IsInstance, premises}
+use Rattle.frame.specs.Reading.{AreLegal}
+use Rattle.proof_code.specs.declared.item.Item.TheVariants.{Cite}
+use Rattle.subst.proofs.SubstitutionLemmas.{substitution_over_names}
+use Rattle.entries.specs.declared.citation.Hypothesis.TheVariants.{Float}
+use Rattle.entries.specs.declared.citation.Cited.{Cited}
+use Rattle.frame.specs.Bound.{IsBound}
+use Rattle.frame.specs.Cited.{head_of, IsCited}
+use Rattle.verify.specs.Fits.{AreRead, DoFit}
+use Rattle.verify.specs.Goes.{named, AreNamed, Goes}
+use Rattle.verify.specs.Machine.{Results, Cites, of_hypothesis, of_assertion}
+use Rattle.verify.specs.Places.{below, top, Adds}
+use Rattle.verify.proofs.AskedLemmas.{asked-lengths}
+use Rattle.verify.proofs.CitingLemmas.{of_variables, apply-τ, apart-τ, premises-read, premise-some, heads-agree, fits-agree, conclusion-agrees, apart-agrees, read-over}
+use Rattle.verify.proofs.Decide.{append_cut, length-premises, some_same, not_both}
+use Rattle.verify.proofs.ImageLemmas.{only, apply-below, are-codes}
+use Rattle.verify.proofs.Named.{map-append, named-result, result-named, all-take, all-drop, halves, length-top}
+
+-- what the code finds wherever the citation can give f
+pub record Meets (S : Database) (names : List Name) (at a : ℕ) (c : Cited) (stack : List (List ℕ)) (f : Expr) : Type 0 where
+  pub many : length c.hypotheses.now ≤ length stack
+  pub firsts : map head_of (top (length c.hypotheses.now) stack) ≡ c.heads.now
+  pub some : (k x : ℕ) → slice_get c.hypotheses.now k ≡ Some (Float x) → get_or (top (length c.hypotheses.now) stack) k [] ≡ [] → ⊥
+  pub fits : (ρ : CodeImages) → AreRead c.hypotheses.now (top (length c.hypotheses.now) stack) ρ → DoFit S (images_of_names names ρ) c.hypotheses.now (map (decode names) (top (length c.hypotheses.now) stack))
+  pub apart : (ρ : CodeImages) → AreRead c.hypotheses.now (top (length c.hypotheses.now) stack) ρ → are_groups_apart (before S at) (images_of_names names ρ) (map (decode names) c.groups) ≡ true
+  pub gives : (ρ : CodeImages) → AreRead c.hypotheses.now (top (length c.hypotheses.now) stack) ρ → f ≡ decode names (code_apply ρ c.conclusion.now)
+
+module _ (S : Database) (names : List Name) (at a : ℕ) (s : Stmt) (c : Cited) (legal : AreLegal S names) (bound : IsBound S a s) (is : IsCited S names a s c) where
+  abbrev n : ℕ
+  n = length c.hypotheses.now
+
+  -- the conclusion under the images that were read, by names
+  conclusion-named : (ρ : CodeImages) → decode names (code_apply ρ c.conclusion.now) ≡ applied (images_of_names names ρ) (expr_of s)
+  conclusion-named ρ = substitution_over_names names ρ c.conclusion.now legal.distinct (are-codes names c.conclusion.now is.conclusion_below) ∙ ap (applied (images_of_names names ρ)) is.conclusion
+
+  pub goes-assertion : (old new : Results ℕ) (label : Name) (ρ : CodeImages) → AreNamed names old → Carries S a s label → HasAssertion S a s → a < at
+      → n ≤ length old.stack → map head_of (top n old.stack) ≡ c.heads.now → AreRead c.hypotheses.now (top n old.stack) ρ → DoFit S (images_of_names names ρ) c.hypotheses.now (map (decode names) (top n old.stack))
+      → are_groups_apart (before S at) (images_of_names names ρ) (map (decode names) c.groups) ≡ true
+      → Adds true old new (below n old.stack) (code_apply ρ c.conclusion.now)
+      → Goes true S at names (Cite label) old new
+  goes-assertion old new label ρ an carries has earlier many firsts read fits apart adds =
+      let es = top n old.stack in
+      let e = code_apply ρ c.conclusion.now in
+      let count = length-top n old.stack many in
+      let low = all-drop (length names) (length old.stack - n) old.stack an.stack_named in
+      let τ = only (is_variable (before S a)) (images_of_names names ρ) in
+      let prem : premises S a s τ ≡ map (decode names) es = premises-read S names a s legal.distinct bound c.heads.now c.hypotheses.now is.asked es count ρ read firsts fits in
+      let away : are_groups_apart (before S at) τ (mandatory_groups (before S a) s) ≡ true
+      = apart-τ S names a s legal.distinct bound c.heads.now c.hypotheses.now is.asked es count ρ read (before S at) (mandatory_groups (before S a) s) ∙ (ap (are_groups_apart (before S at) (images_of_names names ρ)) (sym is.groups) ∙ apart) in
+      let whole : map (decode names) old.stack ≡ map (decode names) (below n old.stack) ++ premises S a s τ
+      = ap (map (decode names)) (halves n old.stack) ∙ (map-append (decode names) (below n old.stack) es ∙ ap (λ v. map (decode names) (below n old.stack) ++ v) (sym prem)) in
+      let gives : decode names e ≡ applied τ (expr_of s) = conclusion-named ρ ∙ sym (apply-τ S names a s legal.distinct bound c.heads.now c.hypotheses.now is.asked es count ρ read (expr_of s)) in (
+        (
+          map (decode names) (below n old.stack),
+          decode names e,
+          of_assertion a s τ carries
+              (record { earlier = earlier; stands = has.0; assertion = has.1; of_variables = of_variables S names a s legal.distinct bound c.heads.now c.hypotheses.now is.asked es count ρ read; apart = away }) whole gives,
+          ap (named names) adds ∙ named-result names old (below n old.stack) e,
+        ),
+        subst (AreNamed names) (sym adds) (result-named names old (below n old.stack) e an (all-take (length names) (length old.stack - n) old.stack an.stack_named)
+            (apply-below names ρ c.conclusion.now (read-over S names a s legal.distinct bound c.heads.now c.hypotheses.now is.asked es count ρ read low) is.conclusion_below)),
+      )
+
+  -- whatever the citation can give, the code finds
+  meets : (old : Results ℕ) (σ : Images) (b : List Expr) (f : Expr) → AreNamed names old
+      → IsInstance S at a s σ → map (decode names) old.stack ≡ b ++ premises S a s σ → f ≡ applied σ (expr_of s) → Meets S names at a c old.stack f
+  meets old σ b f an fits whole gives =
+      let lp : length (premises S a s σ) ≡ n = length-premises S a s σ ∙ sym (asked-lengths S names _ c.heads.now c.hypotheses.now is.asked).1 in
+      let ls = ap length whole in
+      let la = length-append b (premises S a s σ) in
+      let lm = length-map old.stack (decode names) in
+      let many : n ≤ length old.stack = omega (arith, lp, ls, la, lm) in
+      let es = top n old.stack in
+      let count = length-top n old.stack many in
+      let split : map (decode names) (below n old.stack) ++ map (decode names) es ≡ b ++ premises S a s σ = sym (map-append (decode names) (below n old.stack) es) ∙ (ap (map (decode names)) (sym (halves n old.stack)) ∙ whole) in
+      let cut : map (decode names) es ≡ premises S a s σ = (append_cut (map (decode names) (below n old.stack)) b (map (decode names) es) (premises S a s σ) split (length-map es (decode names) ∙ (count ∙ sym lp))).1 in
+      let low = all-drop (length names) (length old.stack - n) old.stack an.stack_named in
+      record {
+        many = many;
+        firsts = heads-agree S names a s legal.distinct bound c.heads.now c.hypotheses.now is.asked es count low σ fits.of_variables (sym cut);
+        some = premise-some S names a s legal.distinct bound c.heads.now c.hypotheses.now is.asked es count low σ fits.of_variables (sym cut);
+        fits = λ ρ read. fits-agree S names a s legal.distinct bound c.heads.now c.hypotheses.now is.asked es count low σ fits.of_variables (sym cut) ρ read;
+        apart = λ ρ read. ap (are_groups_apart (before S at) (images_of_names names ρ)) is.groups
+            ∙ (apart-agrees S names a s legal.distinct bound c.heads.now c.hypotheses.now is.asked es count low σ fits.of_variables (sym cut) ρ read (before S at) ∙ fits.apart);
+        gives = λ ρ read. gives ∙ (conclusion-agrees S names a s legal.distinct bound c.heads.now c.hypotheses.now is.asked es count low σ fits.of_variables (sym cut) ρ read ∙ sym (conclusion-named ρ));
+      }
+
+  -- every step by the label is one by this assertion
+  pub meets-step : (old : Results ℕ) (label : Name) (b : List Expr) (f : Expr) → AreNamed names old → Carries S a s label → HasAssertion S a s
+      → Cites S at label (map (decode names) old.stack) b f → Meets S names at a c old.stack f
+  meets-step old label b f an carries has (of_hypothesis i t carries' active same whole) =
+      let e : t ≡ s = some_same carries'.stands (ap (stmt_at S) (legal.once i a t s label carries' carries) ∙ carries.stands) in
+      absurd (not_both t active.kind (ap is_assertion e ∙ has.1))
+  meets-step old label b f an carries has (of_assertion a' t σ carries' fits whole gives) =
+      let i : a' ≡ a = legal.once a' a t s label carries' carries in
+      let e : t ≡ s = some_same carries'.stands (ap (stmt_at S) i ∙ carries.stands) in
+      meets old σ b f an (subst (λ u. IsInstance S at a u σ) e (subst (λ m. IsInstance S at m t σ) i fits))
+      (whole ∙ (ap (λ m. b ++ premises S m t σ) i ∙ ap (λ u. b ++ premises S a u σ) e)) (gives ∙ ap (λ u. applied σ (expr_of u)) e)
+
+  pub goes-heavy : (old new : Results ℕ) (label : Name) (ρ : CodeImages) → AreNamed names old → Carries S a s label → HasAssertion S a s → AreRead c.hypotheses.now (top n old.stack) ρ
+      → Adds false old new (below n old.stack) (code_apply ρ c.conclusion.now) → Goes false S at names (Cite label) old new
+  goes-heavy old new label ρ an carries has read heavy = λ next p.
+      let m = meets-step old label p.0 p.1 an carries has p.2 in
+      let l = ap length (m.gives ρ read) ∙ length-map (code_apply ρ c.conclusion.now) (name_at names) in
+      let w = ap (λ v. v.weight) p.3 in
+      omega (arith, heavy, l, w)
+
+  pub goes-not : (old new : Results ℕ) (label : Name) → AreNamed names old → Carries S a s label → HasAssertion S a s
+      → ((f : Expr) → Meets S names at a c old.stack f → ⊥) → Goes false S at names (Cite label) old new
+  goes-not old new label an carries has none = λ next p. absurd (none p.1 (meets-step old label p.0 p.1 an carries has p.2))

@@ -1,0 +1,253 @@
+-- The results that an assertion takes are what some images make of its hypotheses, exactly where the first symbols agree
+-- and each `$e` is its result under the images that are read off the others.
+use Rattle.std.specs.Prelude.{◌≡◌, ℕ, zero, suc, ◌<◌, Bool, true, false, cond, List, [], ◌∷◌, ◌++◌, length, map, drop, get_or, slice_get, Option, Some, None, ◌⊎◌, refl}
+use Rattle.std.proofs.Common.{sym, ◌∙◌, ap, subst, arith, inl, inr, true≢false, append-nil}
+use Rattle.std.proofs.lemmas.Bool.{lt-ltb}
+use Rattle.std.proofs.lemmas.List.{length-map}
+use Rattle.mm_lex.specs.Alphabet.{Name}
+use Rattle.mm_read.specs.declared.stmt.Stmt.{Stmt}
+use Rattle.mm_read.specs.declared.stmt.Stmt.TheVariants as stmt
+use Rattle.mm_read.specs.Statements.{Expr, Database}
+use Rattle.scope.specs.Active.{stmt_at, before, expr_of, is_variable}
+use Rattle.names.specs.Codes.{name_at, decode, code_of, AreDistinct}
+use Rattle.names.proofs.CodesLemmas.{code-name}
+use Rattle.frame.specs.FrameOf.{hypotheses, mandatory_groups}
+use Rattle.frame.specs.Substitution.{Images, image, apply as applied, CodeImages, code_image, images_of_names}
+use Rattle.frame.specs.Citations.{OfVariables, premises, expr_at, option_expr}
+use Rattle.frame.specs.Disjoint.{are_groups_apart}
+use Rattle.frame.specs.Below.{AreBelow, AllBelow}
+use Rattle.subst.specs.Images.{AreOver}
+use Rattle.subst.proofs.SubstitutionLemmas.{image-named, image-unnamed, image-decode}
+use Rattle.entries.specs.declared.citation.Hypothesis.{Hypothesis}
+use Rattle.entries.specs.declared.citation.Hypothesis.TheVariants.{Float, Essential}
+use Rattle.frame.specs.Bound.{IsBound, HasFloat, IsFirstFixed}
+use Rattle.frame.specs.Cited.{head_of, IsHead, IsAsked, AreAsked}
+use Rattle.verify.specs.Fits.{AreRead, FitsOne, DoFit}
+use Rattle.verify.proofs.Decide.{some_same}
+use Rattle.verify.proofs.Named.{name_at-injective, all-at}
+use Rattle.verify.proofs.AskedLemmas.{At, asked-lengths, asked-at, float-at, essential-at, float-number, float-find, some-get, some-within, lists-same}
+use Rattle.verify.proofs.ImageLemmas.{apply-members, groups-members, only, only-all, image-only, image-fixed}
+
+-- ---- lists of numbers and of names
+
+pub get-decode : (names : List Name) (rs : List (List ℕ)) (k : ℕ) → get_or (map (decode names) rs) k [] ≡ decode names (get_or rs k [])
+get-decode names [] k = refl
+get-decode names (e ∷ rs) zero = refl
+get-decode names (e ∷ rs) (suc k) = get-decode names rs k
+
+get-map-of : {A B : Type 0} (f : A → B) (xs : List A) (k : ℕ) (x : A) (d : B) → slice_get xs k ≡ Some x → get_or (map f xs) k d ≡ f x
+get-map-of f [] k x d h = cc
+get-map-of f (y ∷ xs) zero x d h = let e : y ≡ x = cc in ap f e
+get-map-of f (y ∷ xs) (suc k) x d h = get-map-of f xs k x d h
+
+get-heads : (rs : List (List ℕ)) (k : ℕ) → k < length rs → get_or (map head_of rs) k 0 ≡ head_of (get_or rs k [])
+get-heads [] k h = absurd (omega (arith, h))
+get-heads (r ∷ rs) zero h = refl
+get-heads (r ∷ rs) (suc k) h = get-heads rs k (omega (arith, h))
+
+drop-decode : (names : List Name) (e : List ℕ) → drop 1 (decode names e) ≡ decode names (drop 1 e)
+drop-decode names [] = refl
+drop-decode names (x ∷ e) = refl
+
+-- a list with symbols, and its first one
+pub headed : (names : List Name) (e : List ℕ) → 0 < length e → decode names e ≡ name_at names (head_of e) ∷ decode names (drop 1 e)
+headed names [] h = absurd (omega (arith, h))
+headed names (x ∷ e) h = refl
+
+module _ (S : Database) (names : List Name) (a : ℕ) (s : Stmt) (distinct : AreDistinct names) (bound : IsBound S a s)
+    (heads : List ℕ) (hs : List Hypothesis) (asked : AreAsked S names (hypotheses (before S a) s) heads hs) (rs : List (List ℕ)) (count : length rs ≡ length hs) where
+  abbrev V : Name → Bool
+  V = is_variable (before S a)
+
+  abbrev ps : List ℕ
+  ps = hypotheses (before S a) s
+
+  lens : (length heads ≡ length ps) × (length hs ≡ length ps)
+  lens = asked-lengths S names ps heads hs asked
+
+  at : (k : ℕ) → k < length rs → At S names ps heads hs k
+  at k h = asked-at S names ps heads hs k asked (let l = lens.1 in omega (arith, h, l, count))
+
+  within : (k : ℕ) (h : Hypothesis) → slice_get hs k ≡ Some h → k < length rs
+  within k h e = let r = some-within hs k h e in omega (arith, r, count)
+
+  -- the expression at a position where a statement stands
+  expr-stands : (p : ℕ) (r : Stmt) → stmt_at S p ≡ Some r → expr_at S p ≡ expr_of r
+  expr-stands p r e = ap option_expr e
+
+  -- ---- the images that were read
+
+  module _ (ρ : CodeImages) (read : AreRead hs rs ρ) where
+    abbrev N : Images
+    N = images_of_names names ρ
+
+    -- the image of a `$f`'s variable
+    pub image-float : (k x : ℕ) (v : Name) → slice_get hs k ≡ Some (Float x) → x < length names → name_at names x ≡ v → image N v ≡ decode names (drop 1 (get_or rs k []))
+    image-float k x v at_k low named =
+        ap (image N) (sym named) ∙ (sym (image-decode names ρ x distinct (lt-ltb x (length names) low)) ∙ ap (decode names) (read.image k x at_k))
+
+    -- a symbol that is no variable
+    pub image-constant : (y : Name) → V y ≡ false → image N y ≡ y ∷ []
+    image-constant y none = by (code_of names y) refl
+      where
+        by : (o : Option ℕ) → code_of names y ≡ o → image N y ≡ y ∷ []
+        by None e = image-unnamed names ρ y e
+        by (Some n) e =
+            let c = code-name names y n e in
+            image-named names ρ y n e
+            ∙ (ap (decode names) (read.own n (λ k is.
+            (let d = at k (within k (Float n) is) in
+            let f = float-at S names d.position d.head n (subst (IsAsked S names d.position d.head) (some_same d.kind is) d.asked) in
+            let v : V f.variable ≡ true = bound.variable k d.position f.label f.constant f.variable d.listed f.stands in
+            true≢false (sym v ∙ (ap V (sym f.named ∙ c.1) ∙ none)))))
+            ∙ ap (λ z. z ∷ []) c.1)
+
+    -- each number has an image of numbers with names
+    pub read-over : AllBelow (length names) rs → AreOver names ρ
+    read-over low n less = by (float-find hs n)
+      where
+        tail-low : (e : List ℕ) → AreBelow (length names) e → AreBelow (length names) (drop 1 e)
+        tail-low [] b = tt
+        tail-low (x ∷ e) b = b.1
+
+        by : ((k : ℕ) × (slice_get hs k ≡ Some (Float n))) ⊎ ((k : ℕ) → slice_get hs k ≡ Some (Float n) → ⊥) → AreBelow (length names) (code_image ρ n)
+        by (inl f) = subst (AreBelow (length names)) (sym (read.image f.0 n f.1)) (tail-low (get_or rs f.0 []) (all-at (length names) f.0 rs low))
+        by (inr none) = subst (AreBelow (length names)) (sym (read.own n none)) (less, tt)
+
+    -- ---- they are images of variables
+
+    abbrev τ : Images
+    τ = only V N
+
+    image-τ : (y : Name) → image τ y ≡ image N y
+    image-τ y = image-only V N y ∙ by (V y) refl
+      where
+        by : (b : Bool) → V y ≡ b → cond b (image N y) (y ∷ []) ≡ image N y
+        by true e = refl
+        by false e = sym (image-constant y e)
+
+    pub of_variables : OfVariables S a τ
+    of_variables = only-all V N
+
+    pub apply-τ : (e : Expr) → applied τ e ≡ applied N e
+    apply-τ e = apply-members τ N e (λ x k. image-τ x)
+
+    pub apart-τ : (D : Database) (gs : List (List Name)) → are_groups_apart D τ gs ≡ are_groups_apart D N gs
+    apart-τ D gs = groups-members D τ N gs (λ k g x e f. image-τ x)
+
+    -- what they make of the hypotheses are the results
+    module _ (firsts : map head_of rs ≡ heads) (fits : DoFit S N hs (map (decode names) rs)) where
+      one-premise : (k : ℕ) → k < length rs → (d : At S names ps heads hs k) → applied τ (expr_at S d.position) ≡ decode names (get_or rs k [])
+      one-premise k less d = by d.hypothesis d.kind d.asked
+        where
+          by : (h : Hypothesis) → slice_get hs k ≡ Some h → IsAsked S names d.position d.head h → applied τ (expr_at S d.position) ≡ decode names (get_or rs k [])
+          by (Essential q) kind asked =
+              let f = essential-at S names d.position d.head q asked in
+              apply-τ (expr_at S d.position) ∙ (ap (λ p. applied N (expr_at S p)) (sym f.same) ∙ (sym (fits.each k (Essential q) kind) ∙ get-decode names rs k))
+          by (Float x) kind asked =
+              let f = float-at S names d.position d.head x asked in
+              let fixed : V f.constant ≡ false = bound.first k d.position (stmt.Float f.label f.constant f.variable) d.listed f.stands in
+              let head : head_of (get_or rs k []) ≡ d.head = sym (get-heads rs k less) ∙ (ap (λ v. get_or v k 0) firsts ∙ some-get heads k d.head 0 d.first) in
+              ap (applied τ) (expr-stands d.position (stmt.Float f.label f.constant f.variable) f.stands)
+              ∙ (apply-τ (f.constant ∷ f.variable ∷ [])
+              ∙ (ap (λ e. e ++ (image N f.variable ++ [])) (image-constant f.constant fixed)
+              ∙ (ap (λ e. f.constant ∷ e) (append-nil (image N f.variable) ∙ image-float k x f.variable kind f.below f.named)
+              ∙ (ap (λ c. c ∷ decode names (drop 1 (get_or rs k []))) (sym (ap (name_at names) head ∙ f.head_named)) ∙ sym (headed names (get_or rs k []) (read.some k x kind))))))
+
+      pub premises-read : premises S a s τ ≡ map (decode names) rs
+      premises-read =
+          lists-same (premises S a s τ) (map (decode names) rs) []
+          (length-map ps (λ i. applied τ (expr_at S i)) ∙ (sym lens.1 ∙ (sym count ∙ sym (length-map rs (decode names)))))
+          (λ k less. (let less' : k < length rs = (let l = length-map ps (λ i. applied τ (expr_at S i)) in let m = lens.1 in omega (arith, less, l, m, count)) in
+          let d = at k less' in
+          get-map-of (λ i. applied τ (expr_at S i)) ps k d.position [] d.listed ∙ (one-premise k less' d ∙ sym (get-decode names rs k))))
+
+  -- ---- results that come from images of variables
+
+  module _ (low : AllBelow (length names) rs) (σ : Images) (of_vars : OfVariables S a σ) (whole : premises S a s σ ≡ map (decode names) rs) where
+    premise-at : (k p : ℕ) → slice_get ps k ≡ Some p → decode names (get_or rs k []) ≡ applied σ (expr_at S p)
+    premise-at k p listed = sym (get-decode names rs k) ∙ (ap (λ v. get_or v k []) (sym whole) ∙ get-map-of (λ i. applied σ (expr_at S i)) ps k p [] listed)
+
+    fixed : (y : Name) → V y ≡ false → image σ y ≡ y ∷ []
+    fixed y none = image-fixed V σ y of_vars none
+
+    -- the result of a `$f`
+    float-premise : (k : ℕ) (d : At S names ps heads hs k) (x : ℕ) → (asked : IsAsked S names d.position d.head (Float x)) → let f = float-at S names d.position d.head x asked in decode names (get_or rs k []) ≡ f.constant ∷ image σ f.variable
+    float-premise k d x asked =
+        let f = float-at S names d.position d.head x asked in
+        let fix : V f.constant ≡ false = bound.first k d.position (stmt.Float f.label f.constant f.variable) d.listed f.stands in
+        premise-at k d.position d.listed
+        ∙ (ap (applied σ) (expr-stands d.position (stmt.Float f.label f.constant f.variable) f.stands)
+        ∙ (ap (λ e. e ++ (image σ f.variable ++ [])) (fixed f.constant fix) ∙ ap (λ e. f.constant ∷ e) (append-nil (image σ f.variable))))
+
+    -- has symbols
+    pub premise-some : (k x : ℕ) → slice_get hs k ≡ Some (Float x) → get_or rs k [] ≡ [] → ⊥
+    premise-some k x kind none =
+        let d = at k (within k (Float x) kind) in
+        let asked' = subst (IsAsked S names d.position d.head) (some_same d.kind kind) d.asked in
+        let f = float-at S names d.position d.head x asked' in
+        let e : [] ≡ f.constant ∷ image σ f.variable = ap (decode names) (sym none) ∙ float-premise k d x asked' in cc
+
+    one-head : (k : ℕ) → (d : At S names ps heads hs k) → head_of (get_or rs k []) ≡ d.head
+    one-head k d = by (expr_of d.asked.stmt) d.asked.first (get_or rs k []) (all-at (length names) k rs low)
+        (bound.first k d.position d.asked.stmt d.listed d.asked.stands)
+        (premise-at k d.position d.listed ∙ ap (applied σ) (expr-stands d.position d.asked.stmt d.asked.stands))
+      where
+        by : (e : Expr) → IsHead names d.head e → (r : List ℕ) → AreBelow (length names) r → IsFirstFixed (before S a) e → decode names r ≡ applied σ e → head_of r ≡ d.head
+        by [] first [] b fix same = sym first
+        by [] first (n ∷ r) b fix same = cc
+        by (x ∷ e) first [] b fix same = let q : [] ≡ x ∷ applied σ e = same ∙ ap (λ i. i ++ applied σ e) (fixed x fix) in cc
+        by (x ∷ e) first (n ∷ r) b fix same =
+            let q : name_at names n ∷ decode names r ≡ x ∷ applied σ e = same ∙ ap (λ i. i ++ applied σ e) (fixed x fix) in
+            let one : name_at names n ≡ x = cc in
+            name_at-injective names n d.head distinct b.0 first.0 (one ∙ sym first.1)
+
+    pub heads-agree : map head_of rs ≡ heads
+    heads-agree =
+        lists-same (map head_of rs) heads 0 (length-map rs head_of ∙ (count ∙ (lens.1 ∙ sym lens.0)))
+        (λ k less. (let less' : k < length rs = (let l = length-map rs head_of in omega (arith, less, l)) in
+        let d = at k less' in get-heads rs k less' ∙ (one-head k d ∙ sym (some-get heads k d.head 0 d.first))))
+
+    module _ (ρ : CodeImages) (read : AreRead hs rs ρ) where
+      float-agrees : (k x : ℕ) (v : Name) → slice_get hs k ≡ Some (Float x) → x < length names → name_at names x ≡ v → image (images_of_names names ρ) v ≡ image σ v
+      float-agrees k x v kind lows named =
+          let d = at k (within k (Float x) kind) in
+          let asked' = subst (IsAsked S names d.position d.head) (some_same d.kind kind) d.asked in
+          let f = float-at S names d.position d.head x asked' in
+          image-float ρ read k x v kind lows named
+          ∙ (sym (drop-decode names (get_or rs k [])) ∙ (ap (drop 1) (float-premise k d x asked') ∙ ap (image σ) (sym f.named ∙ named)))
+
+      -- a symbol that is no variable, or the variable of some `$f`
+      agrees : (y : Name) → (V y ≡ true → HasFloat S ps y) → image (images_of_names names ρ) y ≡ image σ y
+      agrees y has = by (V y) refl
+        where
+          float : HasFloat S ps y → image (images_of_names names ρ) y ≡ image σ y
+          float f =
+              let d = at f.place (let l = lens.1 in let m = some-within ps f.place f.position f.listed in omega (arith, l, m, count)) in
+              let same : d.position ≡ f.position = some_same d.listed f.listed in
+              let x = float-number S names d.position d.head d.hypothesis f.label f.constant y d.asked (ap (stmt_at S) same ∙ f.stands) in
+              float-agrees f.place x.0 y (d.kind ∙ ap Some x.1) x.2 x.3
+
+          by : (b : Bool) → V y ≡ b → image (images_of_names names ρ) y ≡ image σ y
+          by false e = image-constant ρ read y e ∙ sym (fixed y e)
+          by true e = float (has e)
+
+      pub fits-agree : DoFit S (images_of_names names ρ) hs (map (decode names) rs)
+      fits-agree = record { each = one }
+        where
+          one : (k : ℕ) (h : Hypothesis) → slice_get hs k ≡ Some h → FitsOne S (images_of_names names ρ) h (get_or (map (decode names) rs) k [])
+          one k (Float x) kind = tt
+          one k (Essential q) kind =
+              let d = at k (within k (Essential q) kind) in
+              let f = essential-at S names d.position d.head q (subst (IsAsked S names d.position d.head) (some_same d.kind kind) d.asked) in
+              get-decode names rs k
+              ∙ (premise-at k d.position d.listed
+              ∙ (ap (applied σ) (expr-stands d.position (stmt.Ess f.label f.expr) f.stands)
+              ∙ (sym (apply-members (images_of_names names ρ) σ f.expr (λ x in_x. agrees x (λ var. bound.essential k d.position f.label f.expr x d.listed f.stands in_x var)))
+              ∙ ap (applied (images_of_names names ρ)) (sym (ap (expr_at S) f.same ∙ expr-stands d.position (stmt.Ess f.label f.expr) f.stands)))))
+
+      pub conclusion-agrees : applied σ (expr_of s) ≡ applied (images_of_names names ρ) (expr_of s)
+      conclusion-agrees = sym (apply-members (images_of_names names ρ) σ (expr_of s) (λ x in_x. agrees x (λ var. bound.own x in_x var)))
+
+      pub apart-agrees : (D : Database) → are_groups_apart D (images_of_names names ρ) (mandatory_groups (before S a) s) ≡ are_groups_apart D σ (mandatory_groups (before S a) s)
+      apart-agrees D = groups-members D (images_of_names names ρ) σ (mandatory_groups (before S a) s) (λ k g x listed in_g. agrees x (λ var. bound.grouped k g x listed in_g))

@@ -1,0 +1,41 @@
+use Rattle.std.specs.Prelude.{◌≡◌, ℕ, ◌-◌, ◌≤◌, Bool, List, Result, Ok, Err, IfOk, length, map, take, drop, refl}
+use Rattle.std.specs.declared.alloc.AllocError.{AllocError}
+use Rattle.std.proofs.Common.{arith, ap, subst}
+use Rattle.std.proofs.lemmas.List.{length-map}
+use Rattle.subst.specs.declared.place.Place.{Place}
+use Rattle.subst.specs.Places.{seen_at, images_at, AreWithin}
+use Rattle.entries.specs.declared.citation.Hypothesis.{Hypothesis}
+use Rattle.verify.specs.Fits.{Reads}
+use Rattle.verify.specs.Places.{top}
+use Rattle.verify.specs.ReadPlaces.{ReadsAll}
+use Rattle.verify.proofs.PlaceLemmas.{last-within, last-count, seen_eq, kept-read}
+use Rattle.verify.proofs.ReadingLemmas.{reads-seen}
+use Rattle.verify.proofs.results.Results.read_images.Goals as goal
+
+few_of : (xs : List ℕ) (s : List Place) (stack : List (List ℕ)) (r : ℕ) → map (seen_at xs) s ≡ stack → r ≤ length stack → r ≤ length s
+few_of xs s stack r e h = let a = ap length e in let b = length-map s (seen_at xs) in omega (arith, a, b, h)
+
+reads-result : (r : Result Bool AllocError) (xs : List ℕ) (hs : List Hypothesis) (places : List Place) (images : List (ℕ × Place)) (rs : List (List ℕ)) → length places ≡ length hs → AreWithin (length xs) places
+    → map (seen_at xs) places ≡ rs → IfOk r (λ ok. ReadsAll ok (length hs) hs places images) → IfOk r (λ ok. Reads ok hs rs (images_at xs images))
+reads-result (Err e) xs hs places images rs count within seen h = tt
+reads-result (Ok ok) xs hs places images rs count within seen h = subst (λ v. Reads ok hs v (images_at xs images)) seen (reads-seen ok xs hs places images count within h)
+
+pub invariant_of-self : goal.invariant_of-self
+invariant_of-self c =
+    kept-read c.self.inside.symbols c.self.inside.images _ c.self.inside.stack.items c.self.inside.saved.items c.self.inside.heads.items c.self.inside.weight c.self.invariant
+    (c.read_off.ensures.inside (length c.self.inside.symbols) (rw (c.deref.ensures.value) (last-within _ _ _ c.self.invariant.stack_within)))
+
+pub read_off-requires-clause-same : goal.read_off-requires-clause-same
+read_off-requires-clause-same c =
+    let few = few_of c.self.inside.symbols c.self.inside.stack.items c.args.self.now.results.stack (length c.args.hypotheses.now) (ap (λ v. v.results.stack) c.self.view_is) c.requires.count in
+    rw (c.deref.ensures.value) (last-count (c.len.result - length c.args.hypotheses.now) (length c.args.hypotheses.now) c.self.inside.stack.items few (omega (arith, c.len.ensures)))
+
+pub returns-clause-read : goal.returns-clause-read
+returns-clause-read c =
+    let n = length c.args.hypotheses.now in
+    let few = few_of c.self.inside.symbols c.self.inside.stack.items c.args.self.now.results.stack n (ap (λ v. v.results.stack) c.self.view_is) c.requires.count in
+    reads-result c.read_off.result c.self.inside.symbols c.args.hypotheses.now (take (length c.deref.result.now - (c.len.result - n)) (drop (c.len.result - n) c.deref.result.now)) _ (top n c.args.self.now.results.stack)
+    (rw (c.deref.ensures.value) (last-count (c.len.result - n) n c.self.inside.stack.items few (omega (arith, c.len.ensures))))
+    (rw (c.deref.ensures.value) (last-within _ _ _ c.self.invariant.stack_within))
+    (seen_eq c.self.inside.symbols c.self.inside.symbols c.self.inside.stack.items c.deref.result.now c.args.self.now.results.stack (c.len.result - n) n refl c.deref.ensures.value (ap (λ v. v.results.stack) c.self.view_is) (omega (arith, c.len.ensures)))
+    c.read_off.ensures.ok

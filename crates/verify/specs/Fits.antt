@@ -1,0 +1,43 @@
+-- What the results for the mandatory hypotheses of an assertion must be.
+-- Metamath, 4.2.6: what stands behind the first symbol of the result for a `$f` is the image of its variable.
+-- The code compares first symbols, reads the images off the results, and holds each `$e` under them against its result.
+use Rattle.std.specs.Prelude.{◌≡◌, ℕ, ◌<◌, Bool, true, false, List, [], ◌∷◌, length, drop, get_or, slice_get, Some}
+use Rattle.mm_read.specs.declared.stmt.Stmt.{Stmt}
+use Rattle.mm_read.specs.Statements.{Expr, Database}
+use Rattle.scope.specs.Active.{stmt_at}
+use Rattle.frame.specs.Substitution.{Images, apply as applied, CodeImages, code_image}
+use Rattle.frame.specs.Citations.{expr_at}
+use Rattle.entries.specs.declared.citation.Hypothesis.{Hypothesis}
+use Rattle.entries.specs.declared.citation.Hypothesis.TheVariants.{Float, Essential}
+
+-- the `$f` are of different variables
+pub record AreDifferent (hs : List Hypothesis) : Type 0 where
+  pub each : (j k x : ℕ) → slice_get hs j ≡ Some (Float x) → slice_get hs k ≡ Some (Float x) → j ≡ k
+
+-- a statement stands at the position of a `$e`
+abbrev pub IsStanding : Database → Hypothesis → Type 0
+IsStanding S (Float x) = Unit {0}
+IsStanding S (Essential p) = (s : Stmt) × (stmt_at S p ≡ Some s)
+
+abbrev pub AreStanding : Database → List Hypothesis → Type 0
+AreStanding S [] = Unit {0}
+AreStanding S (h ∷ hs) = IsStanding S h × AreStanding S hs
+
+-- the image of each `$f`'s variable is what stands behind the first symbol of its result, and no other symbol has one
+pub record AreRead (hs : List Hypothesis) (rs : List (List ℕ)) (σ : CodeImages) : Type 0 where
+  pub some : (k x : ℕ) → slice_get hs k ≡ Some (Float x) → 0 < length (get_or rs k [])
+  pub image : (k x : ℕ) → slice_get hs k ≡ Some (Float x) → code_image σ x ≡ drop 1 (get_or rs k [])
+  pub own : (x : ℕ) → ((k : ℕ) → slice_get hs k ≡ Some (Float x) → ⊥) → code_image σ x ≡ x ∷ []
+
+-- the images were read, or the result for some `$f` has no symbol
+abbrev pub Reads : Bool → List Hypothesis → List (List ℕ) → CodeImages → Type 0
+Reads true hs rs σ = AreRead hs rs σ
+Reads false hs rs σ = (k : ℕ) × (x : ℕ) × (slice_get hs k ≡ Some (Float x)) × (get_or rs k [] ≡ [])
+
+-- the result is the expression of the `$e` with the images put in
+abbrev pub FitsOne : Database → Images → Hypothesis → Expr → Type 0
+FitsOne S σ (Float x) r = Unit {0}
+FitsOne S σ (Essential p) r = r ≡ applied σ (expr_at S p)
+
+pub record DoFit (S : Database) (σ : Images) (hs : List Hypothesis) (rs : List Expr) : Type 0 where
+  pub each : (k : ℕ) (h : Hypothesis) → slice_get hs k ≡ Some h → FitsOne S σ h (get_or rs k [])

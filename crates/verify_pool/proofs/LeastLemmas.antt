@@ -1,0 +1,41 @@
+-- The least job that is not right, by index and by job.
+use Rattle.std.proofs.Common.{◌≡◌, ℕ, zero, suc, ◌<◌, List, [], ◌∷◌, length, slice_get, Option, Some, None, Result, Ok, Err, IfOk, IfSome, arith, sym, subst, refl, ◌∙◌}
+use Rattle.std.proofs.lemmas.Option.{same_Some, slice_get_within}
+use Rattle.mm_read.specs.Statements.{Database}
+use Rattle.verify.specs.declared.answer.Answer.{Answer}
+use Rattle.verify.specs.declared.answer.Answer.TheVariants.{Proved, Wrong}
+use Rattle.verify.specs.Right.{Says}
+use Rattle.verify_pool.specs.declared.job.Job.{Job}
+use Rattle.verify_pool.specs.Least.{IsWrongAt, IsLeast}
+use Rattle.verify_pool.specs.Jobs.{IsRightJob, IsRightAt, IsBadAt, LeastBad}
+
+get_there : {X : Type 0} (xs : List X) (k : ℕ) → k < length xs → (x : X) × (slice_get xs k ≡ Some x)
+get_there [] k less = absurd (omega (arith, less))
+get_there (x ∷ xs) zero less = (x, refl)
+get_there (x ∷ xs) (suc k) less = get_there xs k (omega (arith, less))
+
+module _ (S : Database) (jobs : List Job) where
+  there_right : (k : ℕ) (job : Job) → slice_get jobs k ≡ Some job → IsRightJob S job → IsRightAt S jobs k
+  there_right k job stands right other e = subst (IsRightJob S) (same_Some job other (sym stands ∙ e)) right
+
+  pub job_judged : {E : Type 0} (k : ℕ) (job : Job) (r : Result Answer E) → slice_get jobs k ≡ Some job
+      → IfOk r (λ answer. Says answer (IsRightJob S job)) → IfOk r (λ answer. Says answer (IsRightAt S jobs k))
+  job_judged k job (Ok Proved) stands h = there_right k job stands h
+  job_judged k job (Ok Wrong) stands h = λ right. h (right job stands)
+  job_judged k job (Err e) stands h = h
+
+  bad_at : (i : ℕ) → IsWrongAt (IsRightAt S jobs) (length jobs) i → IsBadAt S jobs i
+  bad_at i wrong =
+      let job = get_there jobs i wrong.0 in
+      record { job = job.0; stands = job.1; bad = λ right. wrong.1 (there_right i job.0 job.1 right) }
+
+  some_bad : (answer : Option ℕ) → IfSome answer (IsWrongAt (IsRightAt S jobs) (length jobs)) → IfSome answer (IsBadAt S jobs)
+  some_bad None wrong = wrong
+  some_bad (Some i) wrong = bad_at i wrong
+
+  pub least_bad : {E : Type 0} (r : Result (Option ℕ) E) → IfOk r (IsLeast (IsRightAt S jobs) (length jobs)) → IfOk r (λ least. LeastBad S jobs least)
+  least_bad (Ok answer) least = record {
+    before = λ k job before stands. least.before k (slice_get_within jobs k job stands) before job stands;
+    bad = some_bad answer least.wrong;
+  }
+  least_bad (Err e) h = h

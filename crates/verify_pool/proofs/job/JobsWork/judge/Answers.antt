@@ -1,0 +1,16 @@
+use Rattle.std.proofs.Common.{◌≡◌, ◌<◌, Some, length, slice_get, get_or, refl, subst, sym, IfOk}
+use Rattle.std.proofs.lemmas.Option.{slice_get_read}
+use Rattle.verify.specs.Right.{Says}
+use Rattle.verify_pool.specs.Jobs.{IsRightAt}
+use Rattle.verify_pool.proofs.LeastLemmas.{job_judged}
+use Rattle.verify_pool.proofs.job.JobsWork.judge.Goals as goal
+
+pub returns : goal.returns
+returns c =
+    let jobs = c.self.inside.jobs.now in
+    let within : c.args.index < length jobs = subst (λ work. c.args.index < length work.jobs) (sym c.self.view_is) c.requires in
+    let found = c.index-self-index in
+    let stands : slice_get jobs c.args.index ≡ Some (get_or jobs c.args.index found.result) =
+    subst (λ job. slice_get jobs c.args.index ≡ Some job) found.is (slice_get_read jobs (length jobs) c.args.index found.result refl within found.is) in
+    subst (λ work. IfOk c.check_job.result (λ answer. Says answer (IsRightAt work.statements work.jobs c.args.index))) c.self.view_is
+    (job_judged c.self.inside.frames.now.statements jobs c.args.index (get_or jobs c.args.index found.result) c.check_job.result stands c.check_job.ensures)

@@ -1,0 +1,12 @@
+use Rattle.std.proofs.Common.{◌≡◌, ℕ, ◌+◌, ◌*◌, ◌-◌, Some}
+use Rattle.verify_pool.specs.Stripes.{IsStripeRightBefore}
+use Rattle.verify_pool.proofs.stripe.judge_stripe.Given as goal
+
+abbrev pub invariant-loop-index : goal.invariant-loop-index
+invariant-loop-index g l = record {
+  place : (turn : ℕ) × (l.index ≡ l.first + turn * l.step);
+  right : IsStripeRightBefore (g.W.Work.right l.work) (g.W.Work.count l.work) l.first l.step (Some l.index);
+}
+
+abbrev pub decreases-loop-index : goal.decreases-loop-index
+decreases-loop-index g l = l.count - l.index

@@ -1,0 +1,18 @@
+-- The least of so many jobs that is not right.
+-- This project's.
+-- The code deals the jobs out to workers; here they are judged in order.
+use Rattle.std.specs.Prelude.{ℕ, ◌<◌, Option, Some, None, IfSome, ⊤}
+
+-- index k is before the answer; where the answer is none, each index is
+abbrev pub IsBefore : ℕ → Option ℕ → Type 0
+IsBefore k None = ⊤
+IsBefore k (Some i) = k < i
+
+-- there is a job of that index, and it is not right
+abbrev pub IsWrongAt : (ℕ → Type 0) → ℕ → ℕ → Type 0
+IsWrongAt right count i = (i < count) × (¬ right i)
+
+-- the answer is the index of the least job that is not right, or none where each is right
+pub record IsLeast (right : ℕ → Type 0) (count : ℕ) (answer : Option ℕ) : Type 0 where
+  pub before : (k : ℕ) → k < count → IsBefore k answer → right k
+  pub wrong : IfSome answer (IsWrongAt right count)

@@ -1,0 +1,58 @@
+//! How many threads judge side by side.
+
+ghost use Rattle.std.specs.Prelude.{◌≡◌, ◌≤◌, ◌<◌, ◌⊎◌, MatchOption};
+ghost use Rattle.verify_pool.specs.declared.workers.TheConstants.{MOST_WORKERS};
+
+use std::thread;
+use std::thread::Threads;
+
+/// The most workers that there may be.
+pub const MOST_WORKERS: usize = 16;
+
+/// How many threads check the proofs of one text: 1 to 16.
+#[derive(Clone, Copy, Debug)]
+pub struct Workers {
+    count: usize,
+    ghost some: { 1 ≤ count },
+    ghost few: { count ≤ MOST_WORKERS },
+}
+
+impl Workers {
+    /// So many workers, where they are 1 to 16.
+    pub fn new(count: u64) -> Option<Workers>
+        ensures { MatchOption result ((count ≡ 0) ⊎ (MOST_WORKERS < count)) (λ workers. workers.count ≡ count) }
+    {
+        if count == 0 || count > MOST_WORKERS as u64 {
+            return None;
+        }
+        Some(Workers {
+            count: count as usize,
+        })
+    }
+
+    /// So many workers, of which a caller knows that they are 1 to 16.
+    pub fn of(count: usize) -> Workers
+        requires { (1 ≤ count) × (count ≤ MOST_WORKERS) }
+        ensures { result.count ≡ count }
+    {
+        Workers { count }
+    }
+
+    /// As many as the machine offers threads, and 16 where it offers more; one where it does not tell.
+    pub fn offered<R: Threads>(rt: &R) -> Workers {
+        let count = match thread::available_parallelism(rt) {
+            Ok(threads) => threads.get().min(MOST_WORKERS),
+            Err(_) => 1,
+        };
+        Workers { count }
+    }
+
+    /// How many.
+    pub fn count(self) -> usize
+        ensures value { result ≡ self.count }
+        ensures some { 1 ≤ result }
+        ensures few { result ≤ MOST_WORKERS }
+    {
+        self.count
+    }
+}
