@@ -78,7 +78,9 @@ fn asked_again<G: Gate + Sync, R: Threads + Sync>(
 {
     match library.apply_with(rt, Some(entry), Workers::of(workers), gate) {
         Ok(verdict) => Some(verdict),
-        Err(_) => library.apply_with(rt, Some(entry), Workers::of(workers), gate).ok(),
+        Err(_) => library
+            .apply_with(rt, Some(entry), Workers::of(workers), gate)
+            .ok(),
     }
 }
 

@@ -56,9 +56,16 @@ fn serve_as_one<R: Threads + Wait + Clock + Copy + Send + Sync + Drop + 'static>
     alloc: Global,
 ) -> Result<bool, StepFault> {
     let mut library = Library::new(alloc);
-    let given = apply_all(alloc, &mut library);
-    let served = serve_like(rt, alloc, &library);
-    Ok(given? && served?)
+    serve_as(rt, alloc, &mut library)
+}
+
+/// The same of that library, which is new.
+fn serve_as<R: Threads + Wait + Clock + Copy + Send + Sync + Drop + 'static>(
+    rt: &R,
+    alloc: Global,
+    library: &mut Library,
+) -> Result<bool, StepFault> {
+    Ok(apply_all(alloc, library)? && serve_like(rt, alloc, library)?)
 }
 
 /// Gives the library the texts in order; whether it took them.
