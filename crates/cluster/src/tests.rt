@@ -5,11 +5,11 @@ ghost use Rattle.synod.specs.Record.{new_kept};
 use super::*;
 use bytes::Bytes;
 use library::{Entry, Submission, Verdict};
+use net::{Event, StepFault};
 use scope::Steps;
 use std::alloc::{AllocError, Global};
 use std::test::Fail;
 use synod::{Body, Change, Failed, Keep, Record, Weights};
-use net::{Event, StepFault};
 use world::Carried;
 
 /// The text of author 7 under that serial number, as a value that nodes agree on.

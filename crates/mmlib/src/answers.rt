@@ -9,8 +9,8 @@ use crate::printed::{push_entry, push_number};
 use crate::verdict_text::push_verdict;
 use library::{Entry, Library, Listed, Verdict};
 use mm_read::{Stmt, push_line};
-use std::alloc::AllocError;
 use net::StepFault;
+use std::alloc::AllocError;
 
 /// The bytes that the answer of an event or a verdict needs at most.
 pub const ANSWER_ROOM: usize = 128;

@@ -5,11 +5,11 @@ use crate::answers::{
 use crate::printed::push_packet;
 use crate::script_input::{print_unread, read_script};
 use crate::streams::print;
+use net::{Event, StepFault};
 use scripts::PlayLine;
 use std::alloc::Global;
 use std::io::{Read, Write};
 use synod::Weights;
-use net::{Event, StepFault};
 use world::World;
 
 /// Reads a script, and prints what each line of it answers; the answer is the exit status.

@@ -11,6 +11,7 @@ use crate::script_input::{print_unread, read_script};
 use crate::streams::print;
 use crate::workers::Workers;
 use library::Verdict;
+use net::StepFault;
 use scripts::{EntryAt, ServeLine};
 use std::alloc::Global;
 use std::io::{Read, Write};
@@ -18,7 +19,6 @@ use std::sync::Wait;
 use std::thread;
 use std::thread::Threads;
 use synod::Weights;
-use net::StepFault;
 
 /// How often `settle` asks.
 const MOST_ASKS: u32 = 10_000_000;

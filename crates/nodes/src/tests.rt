@@ -5,6 +5,7 @@ use super::*;
 use bytes::Bytes;
 use cluster::{Ahead, MemoryKeep};
 use library::{Entry, Library, Submission, Verdict};
+use net::StepFault;
 use std::alloc::{AllocError, Global};
 use std::process::Abort;
 use std::sync::atomic::{AtomicU64, Ordering};
@@ -14,7 +15,6 @@ use std::thread;
 use std::thread::Threads;
 use synod::Weights;
 use verify_pool::{Gate, OpenGate, Place};
-use net::StepFault;
 use world::Carried;
 
 /// A text of author 7.
