@@ -14,7 +14,9 @@ mod log;
 mod memory_keep;
 mod parts;
 
-pub use cell::{NodeCell, apply_on, apply_on_with, belongs, list_on, offer_on, restart_on, take_on};
+pub use cell::{
+    NodeCell, apply_on, apply_on_with, belongs, list_on, offer_on, restart_on, take_on,
+};
 pub use compare::{Ahead, compare_on};
 pub use memory_keep::MemoryKeep;
 pub use parts::cells;

@@ -31,11 +31,7 @@ pub(crate) fn begins_log<K: Keep<Carried>>(
 }
 
 /// Whether the entries begin the log of node `k`, which is empty where there is none.
-fn begins<K: Keep<Carried>>(
-    switch: &Switch<Carried, K>,
-    k: u8,
-    entries: &[Option<Carried>],
-) -> bool
+fn begins<K: Keep<Carried>>(switch: &Switch<Carried, K>, k: u8, entries: &[Option<Carried>]) -> bool
     requires { length entries.now ≤ SLOTS }
     ensures { IsTrue result ↔ IsBeginningOf entries.now (log_after (world_of carried_size switch.now) k) }
 {

@@ -203,14 +203,14 @@ pub still_room : {V : Type 0} (view now : NetView V) (packets : List (Packet V))
     → view.packet_room ≤ packet_room → view.event_room ≤ event_room
     → IsStill now (record { taken = record { weights = view.taken.weights; events = events }; cores = view.cores; packets = packets; packet_room = packet_room; event_room = event_room })
 still_room {V} view now packets events packet_room event_room seen same_packets same_events p e =
-  let new : NetView V = record { taken = record { weights = view.taken.weights; events = events }; cores = view.cores; packets = packets; packet_room = packet_room; event_room = event_room } in
-  subst (λ (n : NetView V). IsStill n new) seen record {
-  taken = ap (λ (es : List (Event V)). let t : Taken V = record { weights = view.taken.weights; events = es } in t) same_events;
-  cores = still_same view.cores;
-  packets = same_packets;
-  packet_room = p;
-  event_room = e;
-}
+    let new : NetView V = record { taken = record { weights = view.taken.weights; events = events }; cores = view.cores; packets = packets; packet_room = packet_room; event_room = event_room } in
+    subst (λ (n : NetView V). IsStill n new) seen record {
+      taken = ap (λ (es : List (Event V)). let t : Taken V = record { weights = view.taken.weights; events = es } in t) same_events;
+      cores = still_same view.cores;
+      packets = same_packets;
+      packet_room = p;
+      event_room = e;
+    }
 
 pub not_moved : {V : Type 0} (view now : NetView V) → view ≡ now → IsStill now view
 not_moved view now seen = still_room view now view.packets view.taken.events view.packet_room view.event_room seen refl refl (omega arith) (omega arith)
@@ -286,18 +286,18 @@ module _ {V : Type 0} (size : V → ℕ) (view now : NetView V) (seen : view ≡
     pub commit_taken : (packet_room event_room : ℕ) → view.packet_room ≤ packet_room → view.event_room ≤ event_room
         → IsTaken now (record { taken = record { weights = view.taken.weights; events = events }; cores = set view.cores k new; packets = packets; packet_room = packet_room; event_room = event_room }) due
     commit_taken packet_room event_room p e =
-      let next : NetView V = record { taken = record { weights = view.taken.weights; events = events }; cores = set view.cores k new; packets = packets; packet_room = packet_room; event_room = event_room } in
-      subst (λ (n : NetView V). IsTaken n next due) seen record {
-      was = due_view.core;
-      at = due_view.at;
-      core = new;
-      node = new_node;
-      cores = ap (λ (i : ℕ). set view.cores i new) is_at;
-      taken = ap (λ (es : List (Event V)). let t : Taken V = record { weights = view.taken.weights; events = es } in t) pushed;
-      packets = packets_are;
-      packet_room = p;
-      event_room = e;
-    }
+        let next : NetView V = record { taken = record { weights = view.taken.weights; events = events }; cores = set view.cores k new; packets = packets; packet_room = packet_room; event_room = event_room } in
+        subst (λ (n : NetView V). IsTaken n next due) seen record {
+          was = due_view.core;
+          at = due_view.at;
+          core = new;
+          node = new_node;
+          cores = ap (λ (i : ℕ). set view.cores i new) is_at;
+          taken = ap (λ (es : List (Event V)). let t : Taken V = record { weights = view.taken.weights; events = es } in t) pushed;
+          packets = packets_are;
+          packet_room = p;
+          event_room = e;
+        }
 
 -- The clauses of an answer.
 

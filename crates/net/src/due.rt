@@ -106,10 +106,7 @@ pub(crate) fn ready_offer<V: Value>(
 }
 
 /// The node begins a ballot.
-pub(crate) fn ready_begin<V: Value>(
-    node: &mut NodeCore<V>,
-    k: u8,
-) -> Result<Due<V>, StepFault>
+pub(crate) fn ready_begin<V: Value>(node: &mut NodeCore<V>, k: u8) -> Result<Due<V>, StepFault>
     ensures ready { Readies node.old node.new k (Event.Begin k) (begun node.old.node) result }
     ensures node { node.new.node ≡ node.old.node }
     ensures room { HasAtLeast node.old node.new }

@@ -6,10 +6,10 @@ ghost use Rattle.switch.specs.Switch.{world_of};
 ghost use Rattle.nodes.specs.Report.{is_own};
 
 use cluster::Switch;
+use net::{Event, MOST_EVENTS, StepFault};
 use std::alloc::Global;
 use std::mem;
 use synod::Keep;
-use net::{Event, MOST_EVENTS, StepFault};
 use world::Carried;
 
 /// A packet that was posted, and the node that it is for.

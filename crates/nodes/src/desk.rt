@@ -7,11 +7,11 @@ ghost use Rattle.nodes.specs.Desk.{IsListed, IsStatus, IsCompared};
 use crate::shared::Shared;
 use cluster::{Ahead, begin_on, list_on, offer_on, restart_on};
 use library::{Entry, Listed, Verdict};
+use net::StepFault;
 use std::marker::Model;
 use std::sync::{Arc, Wait};
 use synod::Keep;
 use verify_pool::Gate;
-use net::StepFault;
 use world::Carried;
 
 /// A desk of a cluster: its calls take the locks themselves, and may wait for them. It is seen as the count of the nodes.

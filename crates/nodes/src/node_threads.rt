@@ -14,6 +14,7 @@ use crate::shared::Shared;
 use crate::weather::Weather;
 use cluster::{NodeCell, cells};
 use crossbeam_channel::{Receiver, Sender};
+use net::StepFault;
 use std::alloc::{AllocError, Global};
 use std::marker::Model;
 use std::sync::{Arc, Mutex, Wait};
@@ -21,7 +22,6 @@ use std::thread::{JoinHandle, Threads};
 use std::{mem, thread};
 use synod::{Keep, Weights};
 use verify_pool::Gate;
-use net::StepFault;
 use world::Carried;
 
 /// The node threads. It stays in its thread; where it is dropped and was not stopped, its threads wait on. It is seen as the count

@@ -7,8 +7,8 @@ ghost use Rattle.switch.specs.Switch.{world_of};
 ghost use Rattle.nodes.specs.Report.{IsReport, own_events};
 
 use crate::board::Board;
-use synod::Keep;
 use net::Event;
+use synod::Keep;
 use world::Carried;
 
 /// What the nodes did: the events of the history, and of each node how many of them were its own, the deliveries of packets

@@ -7,13 +7,13 @@ ghost use Rattle.nodes.specs.Desk.{IsCompared};
 use crate::board::{Board, Hint};
 use cluster::{Ahead, NodeCell, Switch, apply_on_with, belongs, compare_on, deliver_on, take_on};
 use crossbeam_channel::Sender;
+use net::StepFault;
 use slots::SLOTS;
 use std::alloc::Global;
 use std::sync::{Arc, Mutex, Wait};
 use std::thread::Threads;
 use synod::Keep;
 use verify_pool::{Gate, Place};
-use net::StepFault;
 use world::Carried;
 
 /// What the node threads and the desks share. A node's lock is taken before the switch's, and of two nodes' locks the lower one
