@@ -1,9 +1,9 @@
 //! A node whose keep fails is down until it restarts.
 use crate::fuse::{Fuse, restart_first, three};
 use cluster::{Switch, begin_on};
+use net::{Event, StepFault};
 use std::alloc::Global;
 use synod::Body;
-use net::{Event, StepFault};
 use world::Carried;
 
 #[test]

@@ -5,10 +5,10 @@ ghost use Rattle.synod.specs.Record.{new_kept};
 use bytes::Bytes;
 use cluster::{MemoryKeep, NodeCell, Switch, cells, restart_on};
 use library::{Entry, Submission};
+use net::StepFault;
 use scope::Steps;
 use std::alloc::{AllocError, Global};
 use synod::{Change, Failed, Keep, Record, Weights};
-use net::StepFault;
 use world::Carried;
 
 /// The text of author 7 under that serial number, as an entry.

@@ -6,8 +6,8 @@ use cluster::{
     Ahead, NodeCell, Switch, apply_on, begin_on, belongs, compare_on, deliver_on, list_on,
     offer_on, take_on,
 };
-use std::alloc::Global;
 use net::StepFault;
+use std::alloc::Global;
 use world::Carried;
 
 /// A step of the row: a ballot or an offer of one of two texts, at node 0, or a delivery.

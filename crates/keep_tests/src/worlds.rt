@@ -1,9 +1,9 @@
 //! A world of entries: a list of events at once, and an application after a growth that was refused.
 use crate::fuse::entry;
 use library::Entry;
+use net::{Event, StepFault};
 use std::alloc::{AllocError, Global};
 use synod::Weights;
-use net::{Event, StepFault};
 use world::{World, run};
 
 /// The packets that are delivered after the ballot and after the two offers of the row of a gap in the log.

@@ -6,13 +6,13 @@ ghost use Rattle.net.specs.declared.fault.StepFault.TheVariants.{Memory};
 
 use cluster::MemoryKeep;
 use commands::WorkerCount;
+use net::StepFault;
 use nodes::{Clear, Cluster, Desk, start};
 use std::alloc::{AllocError, Global};
 use std::sync::{Arc, Wait};
 use std::thread::Threads;
 use synod::{Keep, Weights};
 use verify_pool::OpenGate;
-use net::StepFault;
 use world::Carried;
 
 /// How often a cluster that finds no memory to stop is asked again.

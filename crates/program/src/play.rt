@@ -2,12 +2,12 @@
 use crate::answers::{ANSWER_ROOM, answer_bytes};
 use crate::script_input::{print_unread, read_script};
 use crate::streams::print;
+use net::{Event, StepFault};
 use printed::{push_decided, push_export, push_library, push_log, push_packet, push_posted};
 use scripts::PlayLine;
 use std::alloc::Global;
 use std::io::{Read, Write};
 use synod::Weights;
-use net::{Event, StepFault};
 use world::World;
 
 /// Reads a script, and prints what each line of it answers; the answer is the exit status.

@@ -11,6 +11,7 @@ use crate::script_input::{print_unread, read_script};
 use crate::streams::print;
 use commands::WorkerCount;
 use library::Verdict;
+use net::StepFault;
 use printed::{push_decided, push_list};
 use scripts::{EntryAt, ServeLine};
 use std::alloc::Global;
@@ -19,7 +20,6 @@ use std::sync::Wait;
 use std::thread;
 use std::thread::Threads;
 use synod::Weights;
-use net::StepFault;
 
 /// How often `settle` asks.
 const MOST_ASKS: u32 = 10_000_000;

@@ -3,6 +3,7 @@
 use crate::three::{Kept, added_by_all, everywhere, open, text};
 use cluster::Ahead;
 use library::Entry;
+use net::StepFault;
 use nodes::{Clear, Cluster, Desk};
 use std::alloc::Global;
 use std::sync::Wait;
@@ -11,7 +12,6 @@ use std::thread::Threads;
 use std::time::Clock;
 use synod::Weights;
 use verify_pool::{Gate, OpenGate};
-use net::StepFault;
 
 /// The node that leads, and the weight of the first.
 const ROWS: [(u8, u8); 3] = [(0, 1), (0, 100), (1, 1)];

@@ -1,5 +1,6 @@
 //! Two nodes side by side: each waits before an entry for the other.
 use crate::three::{Kept, added_by_all, everywhere, submit_one, three};
+use net::StepFault;
 use nodes::{Clear, Cluster};
 use std::alloc::Global;
 use std::sync::atomic::{AtomicBool, Ordering};
@@ -9,7 +10,6 @@ use std::thread::Threads;
 use std::time::Clock;
 use synod::Weights;
 use verify_pool::{Gate, Place};
-use net::StepFault;
 
 /// Holds the first two nodes before an entry, each until the other has come.
 #[derive(Drop)]

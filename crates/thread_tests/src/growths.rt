@@ -1,6 +1,7 @@
 //! A text is decided after any one growth that is refused.
 use crate::three::{Kept, everywhere, open, settled, text};
 use library::Verdict;
+use net::StepFault;
 use nodes::{Clear, Desk};
 use std::alloc::Global;
 use std::sync::Wait;
@@ -8,7 +9,6 @@ use std::thread::Threads;
 use std::time::Clock;
 use synod::Weights;
 use verify_pool::Gate;
-use net::StepFault;
 
 /// Want of memory at one growth is answered by `start`, `desk`, `submit` or `stop`, or loses a packet, or leaves an entry to a
 /// later hint, or fails a keep, whose node is down then until it restarts.

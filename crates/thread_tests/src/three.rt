@@ -4,6 +4,7 @@ ghost use Rattle.std.specs.Prelude.{◌≡◌, length, IfOk};
 use bytes::Bytes;
 use cluster::MemoryKeep;
 use library::{Entry, Submission, Verdict};
+use net::StepFault;
 use nodes::{Cluster, Desk, Weather, start};
 use std::alloc::{AllocError, Global};
 use std::sync::{Arc, Wait};
@@ -12,7 +13,6 @@ use std::thread::Threads;
 use std::time::{Clock, Duration};
 use synod::Weights;
 use verify_pool::{Gate, OpenGate};
-use net::StepFault;
 use world::Carried;
 
 pub type Kept = MemoryKeep<Carried>;

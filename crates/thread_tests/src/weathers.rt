@@ -3,6 +3,7 @@ ghost use Rattle.std.specs.Prelude.{◌≡◌, length, IfOk};
 
 use crate::three::{Kept, OFTEN, added_by_all, everywhere, open, settled, submit_one, text};
 use library::{Entry, Library, Verdict};
+use net::StepFault;
 use nodes::{Cluster, Desk, Fate, Weather};
 use std::alloc::{AllocError, Global};
 use std::sync::atomic::{AtomicU8, Ordering};
@@ -12,7 +13,6 @@ use std::thread::Threads;
 use std::time::{Clock, Duration};
 use synod::Weights;
 use verify_pool::{Gate, OpenGate};
-use net::StepFault;
 
 /// Passes, repeats and delays hints in turn.
 #[derive(Clone, Copy)]

@@ -90,7 +90,10 @@ impl Replica {
         let Some(entry) = next else {
             return Ok(None);
         };
-        let Ok(verdict) = self.library.apply_with(rt, entry_in(entry), Workers::of(workers), gate) else {
+        let Ok(verdict) = self
+            .library
+            .apply_with(rt, entry_in(entry), Workers::of(workers), gate)
+        else {
             return Err(StepFault::Memory);
         };
         self.applied += 1;
