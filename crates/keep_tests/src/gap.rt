@@ -81,8 +81,8 @@ fn adds(
 fn make(alloc: Global, switch: &mut Switch<Carried, Fuse>, step: Step) -> Result<u64, StepFault> {
     match step {
         Step::Begin => begin_on(switch, 0),
-        Step::Offer(1) => offer_on(switch, 0, Carried(entry(alloc, 1, b"$c a $.")?)),
-        Step::Offer(serial) => offer_on(switch, 0, Carried(entry(alloc, serial, b"$c b $.")?)),
+        Step::Offer(1) => offer_on(switch, 0, entry(alloc, 1, b"$c a $.")?),
+        Step::Offer(serial) => offer_on(switch, 0, entry(alloc, serial, b"$c b $.")?),
         Step::Deliver(number) => deliver_on(switch, number),
     }
 }
