@@ -12,6 +12,7 @@ use Rattle.synod.specs.Packets.{IsPost, to_others}
 use Rattle.synod.specs.Node.{Node, Stepped, kept_of}
 use Rattle.synod.specs.Core.{Core}
 use Rattle.synod.specs.Rooms.{HasAtLeast}
+use Rattle.synod.specs.Ready.{Made, Readies as ReadiesStep}
 use Rattle.synod.specs.Proposer.{offered, begun}
 use Rattle.synod.specs.Step.{on_packet, restarted}
 use Rattle.synod.proofs.RoomLemmas.{same_room}
@@ -21,11 +22,11 @@ use Rattle.net.specs.declared.event.Event.TheVariants.{Offer, Begin, Deliver, Re
 use Rattle.net.specs.declared.fault.StepFault.{StepFault}
 use Rattle.net.specs.declared.fault.StepFault.TheVariants.{Memory, NoNode, NoPacket}
 use Rattle.net.specs.World.{World, stepped, answered, at_node, delivered, happens_at}
-use Rattle.net.specs.KeptPart.{change_at, change_delivered}
+use Rattle.net.specs.KeptPart.{addressed, change_at, change_delivered}
 use Rattle.net.specs.Taken.{Taken, nodes_of, AreOfWorld, world_of, with_event}
-use Rattle.net.specs.Due.{Work, steps, restarts, Due, posts_of, step_of, IsReadyAt, ComesTo, IsDueAt, Readies, NetView, AreStill, IsStill, IsDue, IsTaken, Gives}
-use Rattle.net.proofs.Lists.{all_append, at_place, at_set, at_front, none_past}
-use Rattle.net.proofs.TakenLemmas.{next_is, node_shown, no_node_shown, own_weights, rooms_stay, makes, set_same}
+use Rattle.net.specs.Due.{Work, steps, restarts, Due, posts_of, step_of, IsReadyAt, IsOfEvent, ComesTo, IsDueAt, Readies, ReadiesEvent, NetView, AreStill, IsStill, IsDue, IsTaken, Gives}
+use Rattle.net.proofs.Lists.{all_append, at_place, at_set, at_front}
+use Rattle.net.proofs.TakenLemmas.{next_is, node_shown, no_node_shown, own_weights, rooms_stay, makes}
 
 -- What an event comes to at its node.
 
@@ -61,6 +62,18 @@ module _ {V : Type 0} (size : V → ℕ) (ps : List (Packet V)) (k : ℕ) (n : N
         change = ap (λ (o : Option (Packet V)). change_delivered w o) got ∙ ap (λ (o : Option (Node V)). change_at (λ n. Ok (on_packet n p)) o) node;
         node = ap (λ (o : Option (Packet V)). option_map (λ p. p.to) o) got ∙ ap (λ (j : ℕ). let o : Option ℕ = Some j in o) to;
       }
+
+not_mapped : {V : Type 0} (o : Option (Packet V)) → option_map (λ (p : Packet V). p.to) o ≡ None → o ≡ None
+not_mapped None is = refl
+not_mapped (Some p) is = cc
+
+mapped : {V : Type 0} (o : Option (Packet V)) (k : ℕ) → option_map (λ (p : Packet V). p.to) o ≡ Some k → (p : Packet V) × (o ≡ Some p) × (p.to ≡ k)
+mapped None k is = cc
+mapped (Some p) k is = (p, refl, let same : p.to ≡ k = cc in same)
+
+-- a packet of a delivery is there
+pub packet_there : {V : Type 0} (ps : List (Packet V)) (number k : ℕ) → addressed ps (Deliver number) ≡ Some k → number < length ps
+packet_there ps number k at = let p = mapped (slice_get ps number) k at in slice_get_within ps number p.0 p.1
 
 -- Nodes that stand, with room at least as much.
 
@@ -121,6 +134,24 @@ due_still {V} size a b due still h =
       posts = subst (λ (t : Taken V). AllByRecursion (IsPost (length t.weights)) (posts_of due.work)) (sym still.taken) h.posts;
     }
 
+-- A step that a node made ready.
+
+pub made_due : {V : Type 0} (old new : Core V) (k : ℕ) (e f : Event V) (r : Result (Stepped V) Refusal) (made : Made V) → ReadiesStep new r (Ok made) → f ≡ e → IsOfEvent e (steps made) → AllByRecursion (IsPost (length old.node.weights)) made.step.posts
+    → Readies old new k e r (Ok (record { at = k; event = f; work = steps made }))
+made_due {V} old new k e f (Ok step) made h same kind posts = record {
+  at = refl;
+  event = same;
+  ready = (ap (λ (c : Core V). c.node) (sym h.0), subst (λ (c : Core V). HasAtLeast c new) (sym h.0) (same_room new));
+  is_step = h.1;
+  kind = kind;
+  posts = posts;
+}
+made_due old new k e f (Err refusal) made h same kind posts = elim h [ ]
+
+-- the packet at a number
+pub packet_is : {V : Type 0} (ps : List (Packet V)) (number : ℕ) (p q : Packet V) → p ≡ get_or ps number p → slice_get ps number ≡ Some q → p ≡ q
+packet_is ps number p q is at = let both : Some p ≡ Some q = sym (at_place ps number p (slice_get_within ps number q at) is) ∙ at in cc
+
 -- What a node's answer tells of the net, view being what the fields show.
 
 module _ {V : Type 0} (size : V → ℕ) (view now : NetView V) (seen : view ≡ now) (h : AreOfWorld size view.taken view.cores view.packets) (low : length now.taken.events < MOST_EVENTS) where
@@ -133,17 +164,29 @@ module _ {V : Type 0} (size : V → ℕ) (view now : NetView V) (seen : view ≡
   gives_fault : (e : Event V) (fault : StepFault) → happens_at size h.world e ≡ Err fault → (net : NetView V) → Gives size net e (world_of size (with_event now.taken e)) (Err fault)
   gives_fault e fault meets net = subst (λ (r : Result (World V) StepFault). Gives size net e r (Err fault)) (sym (met_is e (Err fault) meets)) refl
 
-  -- no such node, or no such packet
-  pub gives_no_node : (k : ℕ) (e : Event V) (make : Node V → Result (Stepped V) Refusal) → happens_at size h.world e ≡ at_node h.world k make (slice_get h.world.nodes k) → length view.cores ≤ k
-      → (net : NetView V) → Gives size net e (world_of size (with_event now.taken e)) (Err NoNode)
-  gives_no_node k e make at past = gives_fault e NoNode (at ∙ ap (λ (o : Option (Node V)). at_node h.world k make o) (no_node_shown size view.taken view.cores view.packets h k past))
+  -- no such packet
+  pub gives_no_packet : (e : Event V) → addressed view.packets e ≡ None → (net : NetView V) → Gives size net e (world_of size (with_event now.taken e)) (Err NoPacket)
+  gives_no_packet (Deliver number) none net =
+      gives_fault (Deliver number) NoPacket (ap (λ (o : Option (Packet V)). delivered h.world o) (ap (λ (ps : List (Packet V)). slice_get ps number) h.posted ∙ not_mapped (slice_get view.packets number) none)) net
+  gives_no_packet (Offer k v) none net = let no : Some k ≡ None = none in cc
+  gives_no_packet (Begin k) none net = let no : Some k ≡ None = none in cc
+  gives_no_packet (Restart k) none net = let no : Some k ≡ None = none in cc
 
-  pub gives_no_packet : (number : ℕ) → length view.packets ≤ number → (net : NetView V) → Gives size net (Deliver number) (world_of size (with_event now.taken (Deliver number))) (Err NoPacket)
-  gives_no_packet number past =
-      gives_fault (Deliver number) NoPacket (ap (λ (o : Option (Packet V)). delivered h.world o) (ap (λ (ps : List (Packet V)). slice_get ps number) h.posted ∙ none_past view.packets number past))
-
-  pub delivered_at : (number : ℕ) (p : Packet V) → slice_get view.packets number ≡ Some p → happens_at size h.world (Deliver number) ≡ at_node h.world p.to (λ n. Ok (on_packet n p)) (slice_get h.world.nodes p.to)
+  delivered_at : (number : ℕ) (p : Packet V) → slice_get view.packets number ≡ Some p → happens_at size h.world (Deliver number) ≡ at_node h.world p.to (λ n. Ok (on_packet n p)) (slice_get h.world.nodes p.to)
   delivered_at number p is = ap (λ (o : Option (Packet V)). delivered h.world o) (ap (λ (ps : List (Packet V)). slice_get ps number) h.posted ∙ is)
+
+  -- no such node
+  gives_nowhere : (k : ℕ) (e : Event V) (make : Node V → Result (Stepped V) Refusal) → happens_at size h.world e ≡ at_node h.world k make (slice_get h.world.nodes k) → length view.cores ≤ k
+      → (net : NetView V) → Gives size net e (world_of size (with_event now.taken e)) (Err NoNode)
+  gives_nowhere k e make at past = gives_fault e NoNode (at ∙ ap (λ (o : Option (Node V)). at_node h.world k make o) (no_node_shown size view.taken view.cores view.packets h k past))
+
+  pub gives_no_node : (k : ℕ) (e : Event V) → addressed view.packets e ≡ Some k → length view.cores ≤ k → (net : NetView V) → Gives size net e (world_of size (with_event now.taken e)) (Err NoNode)
+  gives_no_node k (Offer j v) at past = gives_nowhere j (Offer j v) (λ n. offered size n v) refl (let same : j ≡ k = cc in omega (arith, past, same))
+  gives_no_node k (Begin j) at past = gives_nowhere j (Begin j) begun refl (let same : j ≡ k = cc in omega (arith, past, same))
+  gives_no_node k (Deliver number) at past =
+      let p = mapped (slice_get view.packets number) k at in
+      gives_nowhere p.0.to (Deliver number) (λ n. Ok (on_packet n p.0)) (delivered_at number p.0 p.1) (let to = p.2 in omega (arith, past, to))
+  gives_no_node k (Restart j) at past = gives_nowhere j (Restart j) (λ n. Ok (restarted n)) refl (let same : j ≡ k = cc in omega (arith, past, same))
 
   pub posts_at : (k : ℕ) (core : Core V) → k < length view.cores → core ≡ get_or view.cores k core → AllByRecursion (IsPost (length core.node.weights)) view.packets
   posts_at k core in_cores is = subst (λ (ws : List ℕ). AllByRecursion (IsPost (length ws)) view.packets) (sym (own_weights size view.taken view.cores view.packets h k core in_cores is)) h.posts
@@ -172,11 +215,25 @@ module _ {V : Type 0} (size : V → ℕ) (view now : NetView V) (seen : view ≡
     by_answer e (Err refusal) comes (Ok due) d met is = elim d [ ]
     by_answer e (Err refusal) comes (Err fault) d met is = subst (λ (x : Result (World V) StepFault). Gives size left e x (Err fault)) (sym is) d
 
-    pub gives_node : (e : Event V) (r : Result (Stepped V) Refusal) → ComesTo size view.packets k core.node e r → (result : Result (Due V) StepFault) → Readies core new k e r result
+    gives_node : (e : Event V) (r : Result (Stepped V) Refusal) → ComesTo size view.packets k core.node e r → (result : Result (Due V) StepFault) → Readies core new k e r result
         → Gives size left e (world_of size (with_event now.taken e)) result
     gives_node e r comes result readies =
         by_answer e r comes result readies (world_of size (with_event now.taken e))
         (met_is e (answered h.world k r) (comes h.world [] (h.posted ∙ sym (append-nil view.packets)) (node_shown size view.taken view.cores view.packets h k core in_cores is)).happens)
+
+    pub gives_event_here : (e : Event V) → addressed view.packets e ≡ Some k → (result : Result (Due V) StepFault) → ReadiesEvent size view.packets core new k e result → Gives size left e (world_of size (with_event now.taken e)) result
+    gives_event_here (Offer j v) at result readies =
+        let same : j ≡ k = cc in
+        gives_node (Offer j v) (offered size core.node v) (subst (λ (i : ℕ). ComesTo size view.packets k core.node (Offer i v) (offered size core.node v)) (sym same) (comes_offer size view.packets k core.node v)) result readies
+    gives_event_here (Begin j) at result readies =
+        let same : j ≡ k = cc in
+        gives_node (Begin j) (begun core.node) (subst (λ (i : ℕ). ComesTo size view.packets k core.node (Begin i) (begun core.node)) (sym same) (comes_begin size view.packets k core.node)) result readies
+    gives_event_here (Deliver number) at result readies =
+        let p = mapped (slice_get view.packets number) k at in
+        gives_node (Deliver number) (Ok (on_packet core.node p.0)) (comes_packet size view.packets k core.node number p.0 p.1 p.2) result (readies p.0 p.1)
+    gives_event_here (Restart j) at result readies =
+        let same : j ≡ k = cc in
+        gives_node (Restart j) (Ok (restarted core.node)) (subst (λ (i : ℕ). ComesTo size view.packets k core.node (Restart i) (Ok (restarted core.node))) (sym same) (comes_restart size view.packets k core.node)) result readies
 
     pub still_here : HasAtLeast core new → IsStill now left
     still_here room = subst (λ (n : NetView V). IsStill n left) seen record {
@@ -189,14 +246,6 @@ module _ {V : Type 0} (size : V → ℕ) (view now : NetView V) (seen : view ≡
 
     pub of_world_here : HasAtLeast core new → AreOfWorld size view.taken (set view.cores k new) view.packets
     of_world_here room = rooms_stay size view.taken view.cores view.packets h (set view.cores k new) (nodes_still view.cores (set view.cores k new) (still_set view.cores k core new is same room))
-
-  -- the same, where it has made none
-  pub gives_same : (k : ℕ) (core : Core V) → k < length view.cores → core ≡ get_or view.cores k core → (e : Event V) (r : Result (Stepped V) Refusal) → ComesTo size view.packets k core.node e r → (result : Result (Due V) StepFault)
-      → Readies core core k e r result → Gives size now e (world_of size (with_event now.taken e)) result
-  gives_same k core in_cores is e r comes result readies =
-      subst (λ (n : NetView V). Gives size n e (world_of size (with_event now.taken e)) result)
-      (ap (λ (cs : List (Core V)). let n : NetView V = record view { cores = cs } in n) (set_same view.cores k core (at_place view.cores k core in_cores is)) ∙ seen)
-      (gives_node k core core in_cores is refl e r comes result readies)
 
 -- more room for packets and events
 pub still_room : {V : Type 0} (view now : NetView V) (packets : List (Packet V)) (events : List (Event V)) (packet_room event_room : ℕ) → view ≡ now → packets ≡ view.packets → events ≡ view.taken.events

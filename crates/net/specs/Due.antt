@@ -13,7 +13,8 @@ use Rattle.synod.specs.Node.{Node, Stepped, kept_of}
 use Rattle.synod.specs.Core.{Core}
 use Rattle.synod.specs.Rooms.{HasAtLeast}
 use Rattle.synod.specs.Ready.{Made}
-use Rattle.synod.specs.Step.{reloaded, restarted}
+use Rattle.synod.specs.Proposer.{offered, begun}
+use Rattle.synod.specs.Step.{on_packet, reloaded, restarted}
 use Rattle.net.specs.declared.event.Event.{Event}
 use Rattle.net.specs.declared.event.Event.TheVariants.{Offer, Begin, Deliver, Restart}
 use Rattle.net.specs.declared.fault.StepFault.{StepFault}
@@ -109,6 +110,13 @@ Readies old new k e (Ok step) (Ok due) = IsDueAt old new k e step due
 Readies old new k e (Ok step) (Err fault) = fault ≡ Memory
 Readies old new k e (Err met) (Ok due) = ⊥
 Readies old new k e (Err met) (Err fault) = fault ≡ fault_of met
+
+-- the same of an event, by what it comes to at the node
+abbrev pub ReadiesEvent : {V : Type 0} → (V → ℕ) → List (Packet V) → Core V → Core V → ℕ → Event V → Result (Due V) StepFault → Type 0
+ReadiesEvent size packets old new k (Offer j v) result = Readies old new k (Offer j v) (offered size old.node v) result
+ReadiesEvent size packets old new k (Begin j) result = Readies old new k (Begin j) (begun old.node) result
+ReadiesEvent {V} size packets old new k (Deliver number) result = (p : Packet V) → slice_get packets number ≡ Some p → Readies old new k (Deliver number) (Ok (on_packet old.node p)) result
+ReadiesEvent size packets old new k (Restart j) result = Readies old new k (Restart j) (Ok (restarted old.node)) result
 
 -- The net.
 

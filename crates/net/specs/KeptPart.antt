@@ -20,11 +20,14 @@ abbrev pub kept_part : {V : Type 0} → World V → ℕ → Option (Kept V)
 kept_part w k = option_map kept_of (slice_get w.nodes k)
 
 -- the node of an event: that of a Deliver is the one that the packet is addressed to
+abbrev pub addressed : {V : Type 0} → List (Packet V) → Event V → Option ℕ
+addressed packets (Offer k v) = Some k
+addressed packets (Begin k) = Some k
+addressed packets (Deliver number) = option_map (λ p. p.to) (slice_get packets number)
+addressed packets (Restart k) = Some k
+
 abbrev pub node_of : {V : Type 0} → World V → Event V → Option ℕ
-node_of w (Offer k v) = Some k
-node_of w (Begin k) = Some k
-node_of w (Deliver number) = option_map (λ p. p.to) (slice_get w.packets number)
-node_of w (Restart k) = Some k
+node_of w e = addressed w.packets e
 
 abbrev pub change_answered : {V : Type 0} → Result (Stepped V) Refusal → Option (Change V)
 change_answered (Ok step) = step.change

@@ -1,12 +1,10 @@
 //! An event that is made ready: all its growths are made, and nothing is changed yet.
-ghost use Rattle.std.specs.Prelude.{◌≡◌, ◌<◌, Ok, Some, None, MatchOption, length, slice_get};
+ghost use Rattle.std.specs.Prelude.{◌≡◌, Some, None, MatchOption, length};
 ghost use Rattle.std.specs.List.{AllByRecursion};
 ghost use Rattle.synod.specs.Packets.{IsPost};
-ghost use Rattle.synod.specs.Proposer.{begun, offered};
 ghost use Rattle.synod.specs.Rooms.{HasAtLeast};
-ghost use Rattle.synod.specs.Step.{on_packet, restarted};
-ghost use Rattle.synod.specs.declared.packet.Packet.{Packet};
-ghost use Rattle.net.specs.Due.{IsReadyAt, Readies, posts_of, step_of, work_of};
+ghost use Rattle.net.specs.KeptPart.{addressed};
+ghost use Rattle.net.specs.Due.{IsReadyAt, ReadiesEvent, posts_of, step_of, work_of};
 
 use crate::event::Event;
 use crate::fault::StepFault;
@@ -86,70 +84,36 @@ impl<V: Value> Due<V> {
     }
 }
 
-/// A value is offered to the node. The event keeps the value itself, and the node takes a copy.
-pub(crate) fn ready_offer<V: Value>(
+/// An event comes to its node. That of an offer keeps the value itself, and the node takes a copy.
+pub(crate) fn ready_event<V: Value>(
     node: &mut NodeCore<V>,
     k: u8,
-    value: V,
-) -> Result<Due<V>, StepFault>
-    ensures ready { Readies node.old node.new k (Event.Offer k value) (offered V.bytes node.old.node value) result }
-    ensures node { node.new.node ≡ node.old.node }
-    ensures room { HasAtLeast node.old node.new }
-{
-    let copy = value.copy();
-    let ready = node.ready_offer(value)?;
-    Ok(Due {
-        at: k,
-        event: Event::Offer(k, copy?),
-        work: Work::Step(ready),
-    })
-}
-
-/// The node begins a ballot.
-pub(crate) fn ready_begin<V: Value>(node: &mut NodeCore<V>, k: u8) -> Result<Due<V>, StepFault>
-    ensures ready { Readies node.old node.new k (Event.Begin k) (begun node.old.node) result }
-    ensures node { node.new.node ≡ node.old.node }
-    ensures room { HasAtLeast node.old node.new }
-{
-    let ready = node.ready_begin()?;
-    Ok(Due {
-        at: k,
-        event: Event::Begin(k),
-        work: Work::Step(ready),
-    })
-}
-
-/// A packet comes to the node.
-pub(crate) fn ready_packet<V: Value>(
-    node: &mut NodeCore<V>,
-    k: u8,
+    event: Event<V>,
     packets: &[Packet<V>],
-    number: usize,
 ) -> Result<Due<V>, StepFault>
     requires posts { AllByRecursion (IsPost (length node.old.node.weights)) packets.now }
-    requires number { number < length packets.now }
-    ensures ready { (packet : Packet V) → slice_get packets.now number ≡ Some packet → Readies node.old node.new k (Event.Deliver number) (Ok (on_packet node.old.node packet)) result }
+    requires at { addressed packets.now event ≡ Some k }
+    ensures ready { ReadiesEvent V.bytes packets.now node.old node.new k event result }
     ensures node { node.new.node ≡ node.old.node }
     ensures room { HasAtLeast node.old node.new }
 {
-    let ready = node.ready_packet(&packets[number])?;
-    Ok(Due {
-        at: k,
-        event: Event::Deliver(number as u64),
-        work: Work::Step(ready),
-    })
-}
-
-/// The node restarts.
-pub(crate) fn ready_restart<V: Value>(node: &NodeCore<V>, k: u8) -> Result<Due<V>, StepFault>
-    ensures { Readies node.now node.now k (Event.Restart k) (Ok (restarted node.now.node)) result }
-{
-    let posts = node.ready_restart()?;
-    Ok(Due {
-        at: k,
-        event: Event::Restart(k),
-        work: Work::Restart(posts, None),
-    })
+    let (event, work) = match event {
+        Event::Offer(at, value) => {
+            let copy = value.copy();
+            let ready = node.ready_offer(value)?;
+            (Event::Offer(at, copy?), Work::Step(ready))
+        }
+        Event::Begin(at) => (Event::Begin(at), Work::Step(node.ready_begin()?)),
+        Event::Deliver(number) => {
+            let ready = node.ready_packet(&packets[number as usize])?;
+            (Event::Deliver(number), Work::Step(ready))
+        }
+        Event::Restart(at) => (
+            Event::Restart(at),
+            Work::Restart(node.ready_restart()?, None),
+        ),
+    };
+    Ok(Due { at: k, event, work })
 }
 
 /// The node does what is ready, and gives its posts. It takes no memory.

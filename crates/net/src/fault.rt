@@ -1,7 +1,7 @@
 ghost use Rattle.std.specs.Prelude.{◌≡◌};
 
 use std::alloc::AllocError;
-use synod::Refusal;
+use synod::{Failed, Refusal};
 use thiserror::Error;
 
 /// Why an event was not taken. Of several the first in the order of `EventsSpent`, `NoNode`, `NoPacket`, `TooLong`,
@@ -69,5 +69,15 @@ impl From<AllocError> for StepFault {
 
     fn from(_error: AllocError) -> StepFault {
         StepFault::Memory
+    }
+}
+
+impl From<Failed> for StepFault {
+    ghost use Rattle.net.specs.declared.fault.StepFault.TheVariants.{Device};
+
+    ghost from_gives = { λ _ fault. fault ≡ Device };
+
+    fn from(_failed: Failed) -> StepFault {
+        StepFault::Device
     }
 }

@@ -4,7 +4,7 @@ ghost use Rattle.net.specs.Taken.{nodes_of};
 ghost use Rattle.net.specs.World.{nodes_from};
 ghost use Rattle.std.specs.Prelude.{◌≡◌, ◌↔◌, ◌≤◌, ◌<◌, ◌++◌, [], Ok, Err, Some, None, length, vec_len, vec_capacity, IfOk, IsOk, OnOk, OnErr, IsOkUnless, MatchResult};
 
-use crate::due::{Due, commit_at, ready_begin, ready_offer, ready_packet, ready_restart};
+use crate::due::{Due, commit_at, ready_event};
 use crate::event::{Event, MOST_EVENTS};
 use crate::fault::StepFault;
 use std::alloc::{AllocError, Global};
@@ -46,6 +46,7 @@ impl<V: Value> Net<V> {
     ghost use Rattle.slots.specs.declared.slots.TheConstants.{SLOTS};
     ghost use Rattle.net.specs.World.{log_after, packets_after};
     ghost use Rattle.net.specs.Taken.{AreOfWorld, world_of, with_event};
+    ghost use Rattle.net.specs.KeptPart.{addressed};
     ghost use Rattle.net.specs.Due.{Gives, HasRoom, IsDue, IsOfEvent, IsStill, IsTaken, posts_of};
     ghost use Rattle.net.specs.History.{Agreement};
     ghost use Rattle.net.specs.declared.fault.StepFault.TheVariants.{NoNode, NoPacket, Memory};
@@ -86,72 +87,34 @@ impl<V: Value> Net<V> {
         Ok(due)
     }
 
+    /// The node of an event: that of a delivery is the one that the packet is addressed to.
+    pub fn node_of(&self, event: &Event<V>) -> Option<u8>
+        ensures { result ≡ addressed self.now.packets event.now }
+    {
+        match event {
+            Event::Offer(k, _) => Some(*k),
+            Event::Begin(k) => Some(*k),
+            Event::Deliver(number) => match self.packets.get(*number as usize) {
+                Some(packet) => Some(packet.to),
+                None => None,
+            },
+            Event::Restart(k) => Some(*k),
+        }
+    }
+
     /// The growths of the event's node.
     fn ready_at_node(&mut self, event: Event<V>) -> Result<Due<V>, StepFault>
         requires { length self.old.taken.events < MOST_EVENTS }
         ensures gives { Gives V.bytes self.new event (world_of V.bytes (with_event self.old.taken event)) result }
         ensures still { IsStill self.old self.new }
     {
-        match event {
-            Event::Offer(k, value) => self.ready_offer(k, value),
-            Event::Begin(k) => self.ready_begin(k),
-            Event::Deliver(number) => self.ready_deliver(number),
-            Event::Restart(k) => self.ready_restart(k),
-        }
-    }
-
-    /// The growths of an offer at node `k`.
-    fn ready_offer(&mut self, k: u8, value: V) -> Result<Due<V>, StepFault>
-        requires { length self.old.taken.events < MOST_EVENTS }
-        ensures gives { Gives V.bytes self.new (Event.Offer k value) (world_of V.bytes (with_event self.old.taken (Event.Offer k value))) result }
-        ensures still { IsStill self.old self.new }
-    {
-        let node = match self.nodes.get_mut(k as usize) {
-            Some(node) => node,
-            None => return Err(StepFault::NoNode),
+        let Some(k) = self.node_of(&event) else {
+            return Err(StepFault::NoPacket);
         };
-        ready_offer(node, k, value)
-    }
-
-    /// The growths of a ballot that node `k` begins.
-    fn ready_begin(&mut self, k: u8) -> Result<Due<V>, StepFault>
-        requires { length self.old.taken.events < MOST_EVENTS }
-        ensures gives { Gives V.bytes self.new (Event.Begin k) (world_of V.bytes (with_event self.old.taken (Event.Begin k))) result }
-        ensures still { IsStill self.old self.new }
-    {
-        let node = match self.nodes.get_mut(k as usize) {
-            Some(node) => node,
-            None => return Err(StepFault::NoNode),
+        let Some(node) = self.nodes.get_mut(k as usize) else {
+            return Err(StepFault::NoNode);
         };
-        ready_begin(node, k)
-    }
-
-    /// The growths of a delivery of the packet of that number.
-    fn ready_deliver(&mut self, number: u64) -> Result<Due<V>, StepFault>
-        requires { length self.old.taken.events < MOST_EVENTS }
-        ensures gives { Gives V.bytes self.new (Event.Deliver number) (world_of V.bytes (with_event self.old.taken (Event.Deliver number))) result }
-        ensures still { IsStill self.old self.new }
-    {
-        let to = match self.packets.get(number as usize) {
-            Some(packet) => packet.to,
-            None => return Err(StepFault::NoPacket),
-        };
-        let node = match self.nodes.get_mut(to as usize) {
-            Some(node) => node,
-            None => return Err(StepFault::NoNode),
-        };
-        ready_packet(node, to, &self.packets, number as usize)
-    }
-
-    /// The growths of a restart of node `k`.
-    fn ready_restart(&self, k: u8) -> Result<Due<V>, StepFault>
-        requires { length self.now.taken.events < MOST_EVENTS }
-        ensures { Gives V.bytes self.now (Event.Restart k) (world_of V.bytes (with_event self.now.taken (Event.Restart k))) result }
-    {
-        match self.nodes.get(k as usize) {
-            Some(node) => ready_restart(node, k),
-            None => Err(StepFault::NoNode),
-        }
+        ready_event(node, k, event, &self.packets)
     }
 
     /// Makes room for so many packets and events more.

@@ -2,7 +2,6 @@
 use Rattle.std.proofs.Common.{◌≡◌, ℕ, zero, suc, ◌+◌, ◌<◌, ◌≤◌, nat_lt, Bool, true, false, List, [], ◌∷◌, ◌++◌, length, get_or, set, slice_get, inl, inr, Option, Some, None, Result, Ok, Err, refl, ap, sym, ◌∙◌, subst, arith}
 use Rattle.std.specs.Prelude.{◌↔◌, IfErr, IsOk, IsSome, OnOk, IsOkUnless}
 use Rattle.std.proofs.lemmas.Bool.Decides.{nat_tests}
-use Rattle.std.specs.Option.{option_map}
 use Rattle.std.specs.Result.{ForOk}
 use Rattle.synod.specs.declared.packet.Packet.{Packet}
 use Rattle.synod.specs.declared.change.Change.{Change}
@@ -10,12 +9,12 @@ use Rattle.synod.specs.Record.{Kept, changed_by}
 use Rattle.synod.specs.Node.{Node, Stepped, kept_of}
 use Rattle.net.specs.declared.event.TheConstants.{MOST_EVENTS}
 use Rattle.net.specs.declared.event.Event.{Event}
-use Rattle.net.specs.declared.event.Event.TheVariants.{Deliver, Restart}
+use Rattle.net.specs.declared.event.Event.TheVariants.{Restart}
 use Rattle.net.specs.declared.fault.StepFault.{StepFault}
 use Rattle.net.specs.declared.fault.StepFault.TheVariants.{Memory, Device, Down, NoNode}
 use Rattle.net.specs.World.{World, stepped, happens, packets_after}
 use Rattle.net.specs.Taken.{Taken, with_event, world_of as world_of_taken}
-use Rattle.net.specs.KeptPart.{node_of, change_of}
+use Rattle.net.specs.KeptPart.{addressed, node_of, change_of}
 use Rattle.net.specs.Due.{Work, steps, restarts, Due, NetView, IsDue, IsReadyAt, IsOfEvent, IsEventAt, ComesTo, IsStill, IsTaken, change_in, posts_of, step_of, loads, loads_due}
 use Rattle.net.proofs.Lists.{at_place}
 use Rattle.std.specs.List.{AllByRecursion}
@@ -55,6 +54,10 @@ module _ {V : Type 0} (size : V → ℕ) (net : NetView V) (seats : List (Seated
 
   next_is : (e : Event V) → world_of_taken size (with_event net.taken e) ≡ happens size w e
   next_is e = after-push size net.taken.weights net.taken.events w e h.world.is_after
+
+  -- the node of an event
+  pub node_seen : (e : Event V) (o : Option ℕ) → o ≡ addressed net.packets e → ForOk (world_of size now) (λ x. node_of x e ≡ o)
+  node_seen e o is = of_world (λ s x. node_of x e ≡ o) (ap (λ (ps : List (Packet V)). addressed ps e) h.world.posted ∙ sym is)
 
   -- Each node has its place.
 
@@ -238,10 +241,6 @@ module _ {V : Type 0} (size : V → ℕ) (now : Shared V) (e : Event V) (o : Opt
 
   pub up_acts : is_down_at now.places o ≡ false → (new : Shared V) (result : Result ℕ StepFault) → ForOk (world_of size now) (λ x. ActsUp size x now new e result) → ForOk (world_of size now) (λ x. Acts size x now new e result)
   up_acts test new result acts = λ x d. record { is_down = λ yes. (let never : false ≡ true = sym (test_at false test x d) ∙ yes in cc); is_up = λ no. acts x d }
-
--- the receiver of a packet
-pub received : {V : Type 0} (size : V → ℕ) (now : Shared V) (number : ℕ) (o : Option ℕ) → o ≡ option_map (λ p. p.to) (slice_get (packets_after (world_of size now)) number) → (x : World V) → world_of size now ≡ Ok x → node_of x (Deliver number) ≡ o
-received {V} size now number o is x d = ap (λ (r : Result (World V) StepFault). option_map (λ p. p.to) (slice_get (packets_after r) number)) (sym d) ∙ sym is
 
 -- The dispatch of a restart.
 module _ {V : Type 0} (size : V → ℕ) (now new : Shared V) (k : ℕ) (result : Result ℕ StepFault) where

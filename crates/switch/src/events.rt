@@ -1,9 +1,8 @@
 //! What happens to one node of a switch.
-ghost use Rattle.std.specs.Prelude.{◌≡◌, Some, None, false};
+ghost use Rattle.std.specs.Prelude.{◌≡◌, Some};
 ghost use Rattle.std.specs.Result.{ForOk};
-ghost use Rattle.net.specs.declared.event.Event.TheVariants.{Offer, Begin, Deliver, Restart};
-ghost use Rattle.net.specs.KeptPart.{node_of};
-ghost use Rattle.switch.specs.Switch.{Acts, ActsUp, due, is_down_at, world_of};
+ghost use Rattle.net.specs.declared.event.Event.TheVariants.{Offer, Begin, Deliver};
+ghost use Rattle.switch.specs.Switch.{Acts, due, world_of};
 ghost use Rattle.switch.specs.Belonging.{StaysBelonging};
 
 use crate::switch::Switch;
@@ -11,23 +10,19 @@ use net::{Event, StepFault};
 use synod::{Keep, Value};
 
 impl<V: Value, K: Keep<V>> Switch<V, K> {
-    /// An event that is no restart, at a node that is not down: it is made ready, its change is stored, and it is taken. It
+    /// An event that is no restart: at a node that is not down it is made ready, its change is stored, and it is taken. It
     /// answers the count of the packets posted so far.
     fn play(&mut self, event: Event<V>) -> Result<u64, StepFault>
-        requires event { due event ≡ Some event }
-        requires up { ForOk (world_of V.bytes self.old) (λ world. is_down_at self.old.places (node_of world event) ≡ false) }
-        ensures acts { ForOk (world_of V.bytes self.old) (λ world. ActsUp V.bytes world self.old self.new event result) }
+        requires { due event ≡ Some event }
+        ensures acts { ForOk (world_of V.bytes self.old) (λ world. Acts V.bytes world self.old self.new event result) }
         ensures belonging { StaysBelonging V.bytes self.old self.new }
     {
-        let due = match self.net.ready(event) {
-            Ok(due) => due,
-            Err(fault) => return Err(fault),
-        };
+        if self.is_down(self.net.node_of(&event)) {
+            return Err(StepFault::Down);
+        }
+        let due = self.net.ready(event)?;
         let at = due.at() as usize;
-        let due = match self.seats[at].store(due) {
-            Ok(due) => due,
-            Err(_) => return Err(StepFault::Device),
-        };
+        let due = self.seats[at].store(due)?;
         Ok(self.net.commit(due))
     }
 
@@ -38,9 +33,6 @@ impl<V: Value, K: Keep<V>> Switch<V, K> {
         ensures acts { ForOk (world_of V.bytes self.old) (λ world. Acts V.bytes world self.old self.new (Offer k value) result) }
         ensures belonging { StaysBelonging V.bytes self.old self.new }
     {
-        if self.is_down(Some(k)) {
-            return Err(StepFault::Down);
-        }
         self.play(Event::Offer(k, value))
     }
 }
@@ -53,9 +45,6 @@ pub fn begin_on<V: Value, K: Keep<V>>(switch: &mut Switch<V, K>, k: u8) -> Resul
     ensures acts { ForOk (world_of V.bytes switch.old) (λ world. Acts V.bytes world switch.old switch.new (Begin k) result) }
     ensures belonging { StaysBelonging V.bytes switch.old switch.new }
 {
-    if switch.is_down(Some(k)) {
-        return Err(StepFault::Down);
-    }
     switch.play(Event::Begin(k))
 }
 
@@ -69,9 +58,5 @@ pub fn deliver_on<V: Value, K: Keep<V>>(
     ensures acts { ForOk (world_of V.bytes switch.old) (λ world. Acts V.bytes world switch.old switch.new (Deliver number) result) }
     ensures belonging { StaysBelonging V.bytes switch.old switch.new }
 {
-    let receiver = switch.receiver(number);
-    if switch.is_down(receiver) {
-        return Err(StepFault::Down);
-    }
     switch.play(Event::Deliver(number))
 }

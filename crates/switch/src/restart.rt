@@ -30,15 +30,9 @@ impl<V: Value, K: Keep<V>> Switch<V, K> {
         ensures acts { ForOk (world_of V.bytes self.old) (λ world. ActsUp V.bytes world self.old self.new (Restart k) result) }
         ensures belonging { StaysAtRestart V.bytes k self.old self.new result }
     {
-        let mut due = match self.net.ready(Event::Restart(k)) {
-            Ok(due) => due,
-            Err(fault) => return Err(fault),
-        };
+        let mut due = self.net.ready(Event::Restart(k))?;
         let at = due.at() as usize;
-        let record = match self.seats[at].load() {
-            Ok(record) => record,
-            Err(_) => return Err(StepFault::Device),
-        };
+        let record = self.seats[at].load()?;
         due.load(record);
         Ok(self.net.commit(due))
     }
@@ -52,24 +46,14 @@ impl<V: Value, K: Keep<V>> Switch<V, K> {
         if self.net.history().len() as u64 + 2 > MOST_EVENTS {
             return Err(StepFault::EventsSpent);
         }
-        let mut due = match self.net.ready(Event::Restart(k)) {
-            Ok(due) => due,
-            Err(fault) => return Err(fault),
-        };
+        let mut due = self.net.ready(Event::Restart(k))?;
         let at = due.at() as usize;
         // So much room no memory has.
-        let room = match self.seats[at].count_owed().checked_add(due.posts().len()) {
-            Some(room) => room,
-            None => return Err(StepFault::Memory),
+        let Some(room) = self.seats[at].count_owed().checked_add(due.posts().len()) else {
+            return Err(StepFault::Memory);
         };
-        match self.net.room(room, 2) {
-            Ok(()) => {}
-            Err(_) => return Err(StepFault::Memory),
-        }
-        let (owed, record) = match self.seats[at].repair() {
-            Ok(made) => made,
-            Err(_) => return Err(StepFault::Device),
-        };
+        self.net.room(room, 2)?;
+        let (owed, record) = self.seats[at].repair()?;
         take_owed(&mut self.net, owed);
         due.load(record);
         Ok(self.net.commit(due))

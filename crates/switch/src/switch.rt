@@ -1,13 +1,12 @@
 //! What the nodes share: the net, and of each node its keep.
 ghost use Rattle.std.specs.Prelude.{◌≡◌, ◌↔◌, ◌<◌, ◌≤◌, Ok, Err, Some, None, [], length, slice_get, IsOk, IsSome, IfOk, IsOkUnless, MatchOption, MatchResult};
 ghost use Rattle.std.specs.List.{AllByRecursion};
-ghost use Rattle.std.specs.Option.{option_map};
 ghost use Rattle.std.specs.Result.{ForOk};
 ghost use Rattle.slots.specs.declared.slots.TheConstants.{SLOTS};
 ghost use Rattle.synod.specs.Record.{new_kept};
 ghost use Rattle.net.specs.declared.event.TheConstants.{MOST_EVENTS};
 ghost use Rattle.net.specs.declared.fault.StepFault.TheVariants.{NoNode, NoPacket, Memory};
-ghost use Rattle.net.specs.World.{log_after, packets_after};
+ghost use Rattle.net.specs.World.{log_after};
 ghost use Rattle.switch.specs.Switch.{ArePlaces, is_down_at, new_places, new_seats, world_of};
 
 use crate::seat::Seat;
@@ -89,16 +88,6 @@ impl<V: Value, K: Keep<V>> Switch<V, K> {
         ensures found { ForOk (world_of V.bytes self.now) (λ world. MatchResult result (λ packet. slice_get world.packets number ≡ Some packet.now) (λ fault. (slice_get world.packets number ≡ None) × (fault ≡ NoPacket))) }
     {
         self.net.packet(number)
-    }
-
-    /// The node that the packet of that number is addressed to.
-    pub(crate) fn receiver(&self, number: u64) -> Option<u8>
-        ensures { result ≡ option_map (λ p. p.to) (slice_get (packets_after (world_of V.bytes self.now)) number) }
-    {
-        match self.net.packet(number) {
-            Ok(packet) => Some(packet.to),
-            Err(_) => None,
-        }
     }
 }
 
