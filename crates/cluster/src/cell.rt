@@ -1,15 +1,18 @@
-//! A node's own part: the entries that were taken over from its log, and the library of those applied.
-ghost use Rattle.std.specs.Prelude.{◌≡◌, ◌↔◌, IsTrue, ◌≤◌, ◌<◌, ℕ, Ok, Err, Some, None, length, slice_get, option_map, IsSome, IfOk, OnOk, OnErr, IsOkUnless};
+//! A node's own part, its cell: the entries that were taken over from its log, and the library of those applied.
+ghost use Rattle.std.specs.Prelude.{◌≡◌, ◌↔◌, IsTrue, ◌<◌, [], Ok, Err, Some, None, length, slice_get, option_map, IsSome, IfOk, OnOk, OnErr, IsOkUnless};
+ghost use Rattle.std.specs.List.{AllByRecursion};
 ghost use Rattle.std.specs.Result.{ForOk};
 ghost use Rattle.library.specs.Listed.{listed};
-ghost use Rattle.net.specs.declared.fault.StepFault.TheVariants.{NoNode};
+ghost use Rattle.synod.specs.Record.{new_kept};
+ghost use Rattle.net.specs.declared.fault.StepFault.TheVariants.{NoNode, Memory};
 ghost use Rattle.net.specs.World.{World, log};
 ghost use Rattle.world.specs.Carried.{carried_size};
 ghost use Rattle.world.specs.Replicas.{AppliesNext};
 ghost use Rattle.net.specs.declared.event.Event.TheVariants.{Offer};
-ghost use Rattle.switch.specs.Switch.{world_of, Acts, Restarts};
+ghost use Rattle.switch.specs.Switch.{world_of, new_places, Acts, Restarts};
 ghost use Rattle.switch.specs.Belonging.{OthersStay, StaysBelonging};
-ghost use Rattle.cluster.specs.Belongs.{Belongs};
+ghost use Rattle.cluster.specs.Belongs.{Belongs, EachBelongs};
+ghost use Rattle.cluster.specs.Cells.{new_cells};
 ghost use Rattle.cluster.specs.Cell.{Cell, new_cell, IsCell, AddsEntry, TakesOver, next_entry};
 
 use crate::log::begins_log;
@@ -19,8 +22,8 @@ use std::alloc::{AllocError, Global};
 use std::marker::Model;
 use std::thread::Threads;
 use switch::Switch;
-use synod::{Keep, copy_value};
-use verify_pool::Gate;
+use synod::{Keep, Weights, copy_value};
+use verify_pool::{Gate, Workers};
 use world::{Carried, Replica};
 
 /// What node `at` has taken over of its log, and its library: that of the first entries taken over, as many as were applied.
@@ -159,10 +162,9 @@ pub fn apply_on(cell: &mut NodeCell) -> Result<Option<Verdict>, StepFault>
 pub fn apply_on_with<G: Gate + Sync, R: Threads + Sync>(
     rt: &R,
     cell: &mut NodeCell,
-    workers: usize,
+    workers: Workers,
     gate: &G,
 ) -> Result<Option<Verdict>, StepFault>
-    requires { (1 ≤ workers) × (workers ≤ 16) }
     ensures applies { AppliesNext cell.old.node cell.new.node (next_entry cell.old) result }
     ensures rest { cell.new ≡ record cell.old { node = cell.new.node } }
 {
@@ -215,4 +217,33 @@ impl NodeCell {
         self.entries.clear();
         self.replica = Replica::new(self.alloc);
     }
+}
+
+/// A switch of new nodes, one for each weight, and their cells. Each keep has the record of a new node.
+pub fn cells<K: Keep<Carried>>(
+    alloc: Global,
+    weights: Weights,
+    keeps: Vec<K>,
+) -> Result<(Switch<Carried, K>, Vec<NodeCell>), StepFault>
+    requires count { length keeps.items ≡ length weights }
+    requires new { AllByRecursion (λ keep. K.kept keep ≡ new_kept) keeps.items }
+    ensures switch { IfOk result (λ made. made.0 ≡ record { weights = weights; history = []; places = new_places K.failures keeps.items }) }
+    ensures cells { IfOk result (λ made. made.1.items ≡ new_cells 0 weights) }
+    ensures belong { IfOk result (λ made. EachBelongs made.1.items made.0) }
+    ensures only_memory { IsOkUnless result Memory }
+{
+    let switch = Switch::new(alloc, weights, keeps)?;
+    let cells = cells_of(alloc, weights)?;
+    Ok((switch, cells))
+}
+
+/// A new cell for each of the weights.
+fn cells_of(alloc: Global, weights: Weights) -> Result<Vec<NodeCell>, AllocError>
+    ensures { IfOk result (λ cells. cells.items ≡ new_cells 0 weights) }
+{
+    let mut cells = Vec::new(alloc);
+    for k in 0..weights.count() {
+        cells.push(NodeCell::new(alloc, k))?;
+    }
+    Ok(cells)
 }

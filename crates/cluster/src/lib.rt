@@ -12,12 +12,10 @@ mod cell;
 mod compare;
 mod log;
 mod memory_keep;
-mod parts;
 
 pub use cell::{
-    NodeCell, apply_on, apply_on_with, belongs, list_on, offer_on, restart_on, take_on,
+    NodeCell, apply_on, apply_on_with, belongs, cells, list_on, offer_on, restart_on, take_on,
 };
 pub use compare::{Ahead, compare_on};
 pub use memory_keep::MemoryKeep;
-pub use parts::cells;
 pub use switch::{Switch, begin_on, deliver_on};

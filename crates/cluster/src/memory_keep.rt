@@ -39,11 +39,7 @@ impl<V: Value> Keep<V> for MemoryKeep<V> {
     ghost failures = { λ s. s.failures.count };
 
     fn store(&mut self, change: &Change<V>) -> Result<(), Failed> {
-        let Ok(change) = copy_change(change) else {
-            self.failures.tick();
-            return Err(Failed);
-        };
-        let Ok(()) = make_room(&mut self.stored, &change) else {
+        let Ok(change) = ready_change(&mut self.stored, change) else {
             self.failures.tick();
             return Err(Failed);
         };
@@ -60,29 +56,28 @@ impl<V: Value> Keep<V> for MemoryKeep<V> {
     }
 }
 
-/// Makes room for a change. No record has a slot past the limit.
-fn make_room<V: Value>(kept: &mut Record<V>, change: &Change<V>) -> Result<(), Failed>
+/// The same change, and room for it. No record has a slot past the limit.
+fn ready_change<V: Value>(
+    kept: &mut Record<V>,
+    change: &Change<V>,
+) -> Result<Change<V>, AllocError>
+    ensures change { IfOk result (λ copy. copy ≡ change.now) }
     ensures room { OnOk result (HasRoomFor kept.new.room (Some change.now)) }
     ensures kept { kept.new.kept ≡ kept.old.kept }
 {
     match change {
-        Change::Round(_) => Ok(()),
-        Change::Promise(_) => Ok(()),
-        Change::Entry { slot, .. } => room_at(kept, *slot),
-    }
-}
-
-/// The same for one slot.
-fn room_at<V: Value>(kept: &mut Record<V>, slot: u32) -> Result<(), Failed>
-    ensures room { OnOk result (slot < kept.new.room) }
-    ensures kept { kept.new.kept ≡ kept.old.kept }
-{
-    if slot >= SLOTS {
-        return Err(Failed);
-    }
-    match kept.room(slot) {
-        Ok(()) => Ok(()),
-        Err(_) => Err(Failed),
+        Change::Round(round) => Ok(Change::Round(*round)),
+        Change::Promise(ballot) => Ok(Change::Promise(*ballot)),
+        Change::Entry { slot, held } => {
+            if *slot >= SLOTS {
+                return Err(AllocError);
+            }
+            kept.room(*slot)?;
+            Ok(Change::Entry {
+                slot: *slot,
+                held: copy_held(held)?,
+            })
+        }
     }
 }
 
@@ -128,18 +123,4 @@ fn copy_held<V: Value>(held: &Held<V>) -> Result<Held<V>, AllocError>
         ballot: held.ballot,
         value: copy_value(&held.value)?,
     })
-}
-
-/// The same change.
-fn copy_change<V: Value>(change: &Change<V>) -> Result<Change<V>, AllocError>
-    ensures { IfOk result (λ copy. copy ≡ change.now) }
-{
-    match change {
-        Change::Round(round) => Ok(Change::Round(*round)),
-        Change::Promise(ballot) => Ok(Change::Promise(*ballot)),
-        Change::Entry { slot, held } => Ok(Change::Entry {
-            slot: *slot,
-            held: copy_held(held)?,
-        }),
-    }
 }

@@ -1,26 +1,35 @@
 //! How many threads judge side by side.
 
-ghost use Rattle.std.specs.Prelude.{◌≡◌, ◌≤◌, ◌<◌, ◌⊎◌, MatchOption};
+ghost use Rattle.std.specs.Prelude.{◌≡◌, ℕ, ◌≤◌, ◌<◌, ◌⊎◌, MatchOption};
 ghost use Rattle.verify_pool.specs.declared.workers.TheConstants.{MOST_WORKERS};
 
+use std::marker::Model;
 use std::thread;
 use std::thread::Threads;
 
 /// The most workers that there may be.
 pub const MOST_WORKERS: usize = 16;
 
-/// How many threads check the proofs of one text: 1 to 16.
+/// How many threads check the proofs of one text: 1 to 16. Contracts see that number.
 #[derive(Clone, Copy, Debug)]
 pub struct Workers {
     count: usize,
-    ghost some: { 1 ≤ count },
-    ghost few: { count ≤ MOST_WORKERS },
+}
+
+impl Model for Workers {
+    ghost Value = { ℕ };
+
+    ghost view = { λ w. w.count };
+
+    ghost invariant = { λ w. (1 ≤ w.count) × (w.count ≤ MOST_WORKERS) };
+
+    ghost inverse = { λ n. record { count = n } };
 }
 
 impl Workers {
     /// So many workers, where they are 1 to 16.
     pub fn new(count: u64) -> Option<Workers>
-        ensures { MatchOption result ((count ≡ 0) ⊎ (MOST_WORKERS < count)) (λ workers. workers.count ≡ count) }
+        ensures { MatchOption result ((count ≡ 0) ⊎ (MOST_WORKERS < count)) (λ workers. workers ≡ count) }
     {
         if count == 0 || count > MOST_WORKERS as u64 {
             return None;
@@ -33,7 +42,7 @@ impl Workers {
     /// So many workers, of which a caller knows that they are 1 to 16.
     pub fn of(count: usize) -> Workers
         requires { (1 ≤ count) × (count ≤ MOST_WORKERS) }
-        ensures { result.count ≡ count }
+        ensures { result ≡ count }
     {
         Workers { count }
     }
@@ -49,7 +58,7 @@ impl Workers {
 
     /// How many.
     pub fn count(self) -> usize
-        ensures value { result ≡ self.count }
+        ensures value { result ≡ self }
         ensures some { 1 ≤ result }
         ensures few { result ≤ MOST_WORKERS }
     {

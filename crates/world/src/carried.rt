@@ -1,8 +1,10 @@
-//! An entry of the library as a value that nodes agree on.
+//! An entry of the library as a value that nodes agree on, and events on entries as the nodes take them.
 ghost use Rattle.std.specs.Prelude.{◌≡◌, IfOk};
-ghost use Rattle.world.specs.Carried.{entry_of, entries_of};
+ghost use Rattle.world.specs.Carried.{carried, entry_of, entries_of};
+ghost use Rattle.world.specs.Replicas.{restarts};
 
 use library::Entry;
+use net::Event;
 use std::alloc::{AllocError, Global};
 use synod::Value;
 
@@ -45,5 +47,27 @@ fn entry(value: Option<Carried>) -> Option<Entry>
     match value {
         Some(Carried(entry)) => Some(entry),
         None => None,
+    }
+}
+
+/// The event, of a value that is the entry.
+pub(crate) fn carry(event: Event<Entry>) -> Event<Carried>
+    ensures { result ≡ carried event }
+{
+    match event {
+        Event::Offer(k, entry) => Event::Offer(k, Carried(entry)),
+        Event::Begin(k) => Event::Begin(k),
+        Event::Deliver(number) => Event::Deliver(number),
+        Event::Restart(k) => Event::Restart(k),
+    }
+}
+
+/// The node that the event restarts.
+pub(crate) fn restarted(event: &Event<Carried>) -> Option<u8>
+    ensures { result ≡ restarts event.now }
+{
+    match event {
+        Event::Restart(k) => Some(*k),
+        _ => None,
     }
 }

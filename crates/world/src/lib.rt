@@ -7,7 +7,6 @@
 #![tactic(auto)]
 
 mod carried;
-mod entry_event;
 mod laws;
 mod replay;
 mod replica;

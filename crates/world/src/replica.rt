@@ -1,5 +1,5 @@
 //! One node's replica: its library, and how many entries of its log made it.
-ghost use Rattle.std.specs.Prelude.{◌≡◌, ◌<◌, ◌≤◌, replicate, option_map, IsSome, IfOk};
+ghost use Rattle.std.specs.Prelude.{◌≡◌, ◌<◌, replicate, option_map, IsSome, IfOk};
 ghost use Rattle.slots.specs.declared.slots.TheConstants.{SLOTS};
 ghost use Rattle.world.specs.Carried.{entry_of};
 ghost use Rattle.world.specs.Replicas.{AppliesNext, new_library, given_up};
@@ -65,9 +65,7 @@ impl Replica {
         let Some(entry) = next else {
             return Ok(None);
         };
-        let Ok(verdict) = self.library.apply(entry_in(entry)) else {
-            return Err(StepFault::Memory);
-        };
+        let verdict = self.library.apply(entry_in(entry))?;
         self.applied += 1;
         Ok(Some(verdict))
     }
@@ -80,22 +78,18 @@ impl Replica {
         &mut self,
         rt: &R,
         next: Option<&Option<Carried>>,
-        workers: usize,
+        workers: Workers,
         gate: &G,
     ) -> Result<Option<Verdict>, StepFault>
-        requires place { IsSome next → self.old.applied < SLOTS }
-        requires workers { (1 ≤ workers) × (workers ≤ 16) }
+        requires { IsSome next → self.old.applied < SLOTS }
         ensures { AppliesNext self.old self.new (option_map (λ e. entry_of e.now) next.entry) result }
     {
         let Some(entry) = next else {
             return Ok(None);
         };
-        let Ok(verdict) = self
+        let verdict = self
             .library
-            .apply_with(rt, entry_in(entry), Workers::of(workers), gate)
-        else {
-            return Err(StepFault::Memory);
-        };
+            .apply_with(rt, entry_in(entry), workers, gate)?;
         self.applied += 1;
         Ok(Some(verdict))
     }

@@ -6,8 +6,7 @@ ghost use Rattle.world.specs.Carried.{carried as carried_event, carried_size};
 ghost use Rattle.world.specs.Replicas.{log_entries, AppliesNext};
 ghost use Rattle.net.specs.declared.fault.StepFault.TheVariants.{NoNode, NoPacket, Memory};
 
-use crate::carried::{Carried, entries};
-use crate::entry_event::{carried, restarted};
+use crate::carried::{Carried, carry, entries, restarted};
 use crate::replica::{Replica, give_up, new_replicas};
 use library::{Entry, Library, Verdict};
 use net::{Event, MOST_EVENTS, Net, StepFault};
@@ -65,7 +64,7 @@ impl World {
         ensures only_memory { OnOk (world_of carried_size (with_event self.old.taken (carried_event event))) (IsOkUnless result Memory) }
         ensures same { OnErr result (self.new ≡ self.old) }
     {
-        let event = carried(event);
+        let event = carry(event);
         let restarted = restarted(&event);
         let posted = self.net.step(event)?;
         give_up(self.alloc, &mut self.replicas, restarted);

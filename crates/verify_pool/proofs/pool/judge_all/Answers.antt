@@ -7,7 +7,7 @@ pub loop-answer-preserved : goal.loop-answer-preserved
 loop-answer-preserved g c =
     let right = g.W.Work.right c.args.work.now in
     let count = g.W.Work.count c.args.work.now in
-    let step = c.args.workers.count in
+    let step = c.args.workers in
     let answer = c.in_ok-answer.field-0 in
     let here : IsLeastInStripe right count c.loop-answer.answer-index step answer =
     subst (λ n. IsLeastInStripe right count c.loop-answer.answer-index n answer) c.count.ensures.value
@@ -23,7 +23,7 @@ pub returns : goal.returns
 returns g c =
     let all = c.in_ok-answers in
     record {
-      before = stripes_are_all (g.W.Work.right c.args.work.now) (g.W.Work.count c.args.work.now) c.args.workers.count (omega arith) c.loop-answer.least
+      before = stripes_are_all (g.W.Work.right c.args.work.now) (g.W.Work.count c.args.work.now) c.args.workers (omega arith) c.loop-answer.least
           (λ stripe lower. c.loop-answer.invariant.before stripe (omega (arith, all.ensures.count, all.answers.ok.0)));
       wrong = c.loop-answer.invariant.wrong;
     }

@@ -1,6 +1,6 @@
 use Rattle.std.proofs.Common.{◌≡◌, take}
 use Rattle.cluster.specs.Cells.{new_cells}
-use Rattle.cluster.proofs.parts.cells_of.Given as goal
+use Rattle.cluster.proofs.cell.cells_of.Given as goal
 
 abbrev pub invariant-loop-k : goal.invariant-loop-k
 invariant-loop-k l = l.cells.items ≡ new_cells 0 (take l.k l.fn.weights)

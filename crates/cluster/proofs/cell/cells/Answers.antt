@@ -2,7 +2,7 @@ use Rattle.std.proofs.Common.{length, ap, ◌∙◌}
 use Rattle.world.specs.declared.carried.Carried.{Carried}
 use Rattle.switch.specs.Switch.{Shared}
 use Rattle.cluster.proofs.CellsLemmas.{count_new_places, new_belong}
-use Rattle.cluster.proofs.parts.cells.Goals as goal
+use Rattle.cluster.proofs.cell.cells.Goals as goal
 
 pub returns-clause-belong : goal.returns-clause-belong
 returns-clause-belong g c =

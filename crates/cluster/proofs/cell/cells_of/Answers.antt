@@ -1,7 +1,7 @@
 use Rattle.std.proofs.Common.{◌++◌, ◌∷◌, [], ap, ◌∙◌, arith}
 use Rattle.cluster.specs.Cell.{Cell}
 use Rattle.cluster.proofs.CellsLemmas.{new_cells-push}
-use Rattle.cluster.proofs.parts.cells_of.Goals as goal
+use Rattle.cluster.proofs.cell.cells_of.Goals as goal
 
 pub loop-k-preserved : goal.loop-k-preserved
 loop-k-preserved c =
