@@ -13,7 +13,7 @@ use std::alloc::Global;
 use std::sync::{Arc, Mutex, Wait};
 use std::thread::Threads;
 use synod::Keep;
-use verify_pool::{Gate, Place};
+use verify_pool::{Gate, Place, Workers};
 use world::Carried;
 
 /// What the node threads and the desks share. A node's lock is taken before the switch's, and of two nodes' locks the lower one
@@ -90,7 +90,7 @@ impl<G: Gate, K: Keep<Carried>> Shared<G, K> {
                 break;
             }
             gate.pass(Place::Apply(k));
-            if apply_on_with(rt, cell, self.workers, gate).is_err() {
+            if apply_on_with(rt, cell, Workers::of(self.workers), gate).is_err() {
                 break;
             }
         }
