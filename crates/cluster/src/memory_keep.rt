@@ -57,10 +57,7 @@ impl<V: Value> Keep<V> for MemoryKeep<V> {
 }
 
 /// The same change, and room for it. No record has a slot past the limit.
-fn ready_change<V: Value>(
-    kept: &mut Record<V>,
-    change: &Change<V>,
-) -> Result<Change<V>, AllocError>
+fn ready_change<V: Value>(kept: &mut Record<V>, change: &Change<V>) -> Result<Change<V>, AllocError>
     ensures change { IfOk result (λ copy. copy ≡ change.now) }
     ensures room { OnOk result (HasRoomFor kept.new.room (Some change.now)) }
     ensures kept { kept.new.kept ≡ kept.old.kept }

@@ -87,9 +87,7 @@ impl Replica {
         let Some(entry) = next else {
             return Ok(None);
         };
-        let verdict = self
-            .library
-            .apply_with(rt, entry_in(entry), workers, gate)?;
+        let verdict = self.library.apply_with(rt, entry_in(entry), workers, gate)?;
         self.applied += 1;
         Ok(Some(verdict))
     }
