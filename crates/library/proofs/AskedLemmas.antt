@@ -1,5 +1,5 @@
 -- The `$p` of a label, and what is answered of it.
-use Rattle.std.specs.Prelude.{◌≡◌, ◌⊎◌, ℕ, true, false, List, Some, Result, Ok, Err, IfErr, MatchResult, refl}
+use Rattle.std.specs.Prelude.{◌≡◌, ◌↔◌, ◌⊎◌, ℕ, Bool, true, false, List, Some, Result, Ok, Err, IfOk, IfErr, MatchResult, refl}
 use Rattle.std.proofs.Common.{sym, ◌∙◌, ap, subst, inl, inr}
 use Rattle.mm_lex.specs.Alphabet.{Name}
 use Rattle.mm_read.specs.declared.stmt.Stmt.{Stmt}
@@ -13,8 +13,8 @@ use Rattle.verify.specs.Right.{IsRight, Derives}
 use Rattle.library.specs.declared.asked.AskFault.{AskFault}
 use Rattle.library.specs.declared.asked.AskFault.TheVariants.{NoLabel, NotProvable, TooLarge, Memory}
 use Rattle.library.specs.Good.{Good}
-use Rattle.library.specs.Uses.{HasItems}
-use Rattle.library.specs.Asked.{HasNoLabel, NamesNoProof, NamesProof, IsNoProof, SpellsTree, IsTreeOf}
+use Rattle.library.specs.Uses.{HasItems, IsUser, AreLabelsOf}
+use Rattle.library.specs.Asked.{HasNoLabel, NamesNoProof, NamesProof, IsNoProof, IsUsage, SpellsTree, IsTreeOf}
 use Rattle.library.proofs.WalkLemmas.{carries-bare, carries-whole, one-items}
 
 module _ (S F : Database) (same : F ≡ bares S) where
@@ -74,3 +74,14 @@ not-named (Ok a) fault large memory m e = absurd (let f = e in cc)
 not-named (Err x) fault large memory m e =
     let f : x ≡ fault = (let g = e in cc) in
     elim m [ inl h ↦ large (sym f ∙ h) | inr h ↦ memory (sym f ∙ h) ]
+
+-- ---- who uses what has the label
+
+module _ (S F : Database) (same : F ≡ bares S) (label : Name) (at : ℕ) where
+  pub usage-labels : {A : Type 0} (all : Bool) (items : A → List Name) (r : Result A AskFault) → (s : Stmt) × Carries F at s label → MatchResult r (λ ls. AreLabelsOf S (IsUser S all at) (items ls)) (λ f. f ≡ Memory) → IfOk r (λ ls. IsUsage S label all (items ls))
+  usage-labels all items (Ok ls) c are = let n = named S F same label at c in (at, n.0, n.1, are)
+  usage-labels all items (Err x) c are = tt
+
+  pub usage-label : {A : Type 0} (P : A → Type 0) (r : Result A AskFault) → (s : Stmt) × Carries F at s label → MatchResult r P (λ f. f ≡ Memory) → (r ≡ Err NoLabel) ↔ HasNoLabel S label
+  usage-label P r c m =
+      ((λ e. absurd (only-memory P r NoLabel (λ f. let g = f in cc) m e)), λ none. absurd (let n = named S F same label at c in none at n.0 n.1))

@@ -2,6 +2,7 @@ pub mod UnprovedLemmas
 pub mod AskedLemmas
 pub mod TraceLemmas
 pub mod WalkLemmas
+pub mod UsersLemmas
 pub mod MarksLemmas
 pub mod FrontLemmas
 pub mod LaterLemmas

@@ -1,5 +1,6 @@
 -- The positions of labels, and the marks of what items cite.
-use Rattle.std.specs.Prelude.{◌≡◌, ◌⊎◌, ℕ, zero, suc, ◌-◌, ◌<◌, ◌≤◌, Bool, true, false, cond, nat_lt, List, [], ◌∷◌, ◌++◌, length, map, get_or, slice_set, Option, Some, None, slice_get, refl}
+use Rattle.std.specs.Prelude.{◌≡◌, ◌↔◌, ◌||◌, ◌⊎◌, ℕ, zero, suc, ◌-◌, ◌<◌, ◌≤◌, Bool, true, false, cond, nat_lt, List, [], ◌∷◌, ◌++◌, length, map, get_or, slice_set, Option, Some, None, slice_get, refl}
+use Rattle.std.specs.List.{list_any}
 use Rattle.std.proofs.Common.{sym, ◌∙◌, ap, subst, arith, length-append, Bor, inl, inr}
 use Rattle.std.proofs.lemmas.Bool.{cases_eq}
 use Rattle.std.proofs.lemmas.Bool.Decides.{nat_tests}
@@ -12,7 +13,7 @@ use Rattle.frame.specs.Reading.{IsPosition, HasLabelsOnce}
 use Rattle.proof_code.specs.declared.item.Item.{Item}
 use Rattle.proof_code.specs.declared.item.Item.TheVariants.{Cite, Recall}
 use Rattle.proof_code.specs.Numbers.{item_of, items_of}
-use Rattle.library.specs.Marks.{IsMarked, mark, place_of, mark_items, ArePlaces, ItemsCite, MarksItems}
+use Rattle.library.specs.Marks.{IsMarked, is_marked, mark, place_of, mark_items, ArePlaces, ItemsCite, ItemsMeet, MarksItems}
 use Rattle.library.proofs.FrontLemmas.{stands-within}
 
 -- ---- the positions of labels
@@ -188,3 +189,49 @@ module _ (S : Database) (labels : List Name) (places : List (Option ℕ)) (are :
       subst (λ is. MarksItems S is old new) same
       (subst (MarksItems S (items_of labels numbers) old) (sym after)
       (record { count = items-count numbers old; kept = items-kept numbers old; sound = items-sound numbers old; whole = items-whole numbers old }))
+
+  -- ---- whether they cite what is marked
+
+  marked-some : (marks : List Bool) (o : Option ℕ) → is_marked marks o ≡ true → (a : ℕ) × (o ≡ Some a) × IsMarked marks a
+  marked-some marks None h = absurd (let e = h in cc)
+  marked-some marks (Some zero) h = absurd (let e = h in cc)
+  marked-some marks (Some (suc k)) h = (suc k, refl, h)
+
+  marked-is : (marks : List Bool) (a : ℕ) → IsMarked marks a → is_marked marks (Some a) ≡ true
+  marked-is marks zero h = absurd h
+  marked-is marks (suc k) h = h
+
+  abbrev Hits : List Bool → ℕ → Bool
+  Hits marks number = is_marked marks (place_of places number)
+
+  meets-sound : (marks : List Bool) (numbers : List ℕ) → list_any (Hits marks) numbers ≡ true → ItemsMeet S (items_of labels numbers) marks
+  meets-sound marks [] h = absurd (let e = h in cc)
+  meets-sound marks (n ∷ ns) h = by (meets-sound marks ns) (Hits marks n) refl
+    where
+      by : (list_any (Hits marks) ns ≡ true → ItemsMeet S (items_of labels ns) marks) → (b : Bool) → Hits marks n ≡ b → ItemsMeet S (items_of labels (n ∷ ns)) marks
+      by later true e =
+          let m = marked-some marks (place_of places n) e in
+          let c = place-sound n m.0 m.1 in
+          (m.0, m.2, record { place = 0; label = c.label; cited = c.cited; cites = ap Some c.cites; carries = c.carries })
+      by later false e =
+          let rest = later (sym (ap (λ b. b || list_any (Hits marks) ns) e) ∙ h) in
+          (rest.0, rest.1, item-there (item_of labels n) (items_of labels ns) rest.0 rest.2)
+
+  meets-whole : (marks : List Bool) (numbers : List ℕ) (a : ℕ) → IsMarked marks a → (label : Name) (cited : Stmt) → Carries S a cited label → (place : ℕ) → slice_get (items_of labels numbers) place ≡ Some (Cite label) → list_any (Hits marks) numbers ≡ true
+  meets-whole marks [] a m label cited c place e = absurd (let f = e in cc)
+  meets-whole marks (n ∷ ns) a m label cited c zero e =
+      let is : item_of labels n ≡ Cite label = (let f = e in cc) in
+      let at : place_of places n ≡ Some a = place-whole n a (record { label = label; cited = cited; cites = is; carries = c }) in
+      let hit : Hits marks n ≡ true = ap (is_marked marks) at ∙ marked-is marks a m in
+      ap (λ b. b || list_any (Hits marks) ns) hit
+  meets-whole marks (n ∷ ns) a m label cited c (suc place) e =
+      either (Hits marks n) (list_any (Hits marks) ns) (meets-whole marks ns a m label cited c place e)
+    where
+      either : (b d : Bool) → d ≡ true → (b || d) ≡ true
+      either true d h = refl
+      either false d h = h
+
+  pub meets-items : (numbers : List ℕ) (items : List Item) (marks : List Bool) (found : Bool) → items_of labels numbers ≡ items → found ≡ list_any (Hits marks) numbers → found ≡ true ↔ ItemsMeet S items marks
+  meets-items numbers items marks found same is =
+      subst (λ is. found ≡ true ↔ ItemsMeet S is marks) same
+      ((λ e. meets-sound marks numbers (sym is ∙ e)), λ m. is ∙ meets-whole marks numbers m.0 m.1 m.2.label m.2.cited m.2.carries m.2.place m.2.cites)

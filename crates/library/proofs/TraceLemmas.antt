@@ -9,7 +9,7 @@ use Rattle.mm_read.specs.Statements.{Database}
 use Rattle.scope.specs.Active.{stmt_at, is_provable}
 use Rattle.verify.specs.Proves.{label_or_none}
 use Rattle.verify.specs.Right.{IsProvable}
-use Rattle.library.specs.Uses.{Uses, directly, through, is_axiom, IsAxiomAt, Rises, IsIn, AreUsed}
+use Rattle.library.specs.Uses.{RestsOn, Uses, directly, through, is_axiom, IsAxiomAt, Rises, IsIn, AreLabelsOf}
 use Rattle.library.specs.Marks.{IsMarked, Reaches, starts, leads, AreReached, axiom_label, axioms_in}
 
 -- ---- one more statement
@@ -145,17 +145,13 @@ labels-from n (s ∷ S) (true ∷ ms) f same =
 
 -- ---- what is used
 
-uses-reaches : (S : Database) (j b a : ℕ) → Reaches S j b → Uses S b a → Reaches S j a
-uses-reaches S j b a r (directly c kind) = leads r c
-uses-reaches S j b a r (through {b = b'} c u) = uses-reaches S j b' a (leads r c) u
+rests-reaches : (S : Database) (j b a : ℕ) → Reaches S j b → RestsOn S b a → Reaches S j a
+rests-reaches S j b a r (directly c) = leads r c
+rests-reaches S j b a r (through {b = b'} c u) = rests-reaches S j b' a (leads r c) u
 
-reaches-uses : (S : Database) (j b a : ℕ) → Reaches S j b → Uses S b a → Uses S j a
-reaches-uses S j b a starts u = u
-reaches-uses S j b a (leads {b = b'} r c) u = reaches-uses S j b' a r (through c u)
-
-uses-axiom : (S : Database) (j a : ℕ) → Uses S j a → IsAxiomAt S a
-uses-axiom S j a (directly c kind) = kind
-uses-axiom S j a (through {b = b} c u) = uses-axiom S b a u
+reaches-rests : (S : Database) (j b a : ℕ) → Reaches S j b → RestsOn S b a → RestsOn S j a
+reaches-rests S j b a starts u = u
+reaches-rests S j b a (leads {b = b'} r c) u = reaches-rests S j b' a r (through c u)
 
 not-both : (s : Stmt) → is_provable s ≡ true → is_axiom s ≡ true → ⊥
 not-both (Axiom label expr) h k = let e = h in cc
@@ -173,14 +169,14 @@ reached-used S j a s provable starts kind =
     let e : Some s ≡ Some kind.stmt = sym provable.stands ∙ kind.stands in
     let same : s ≡ kind.stmt = cc in
     absurd (not-both kind.stmt (ap is_provable (sym same) ∙ provable.provable) kind.kind)
-reached-used S j a s provable (leads {b = b} r c) kind = reaches-uses S j b a r (directly c kind)
+reached-used S j a s provable (leads {b = b} r c) kind = (reaches-rests S j b a r (directly c), kind)
 
-pub are-used : (S : Database) (j : ℕ) (s : Stmt) (ms : List Bool) (labels : List Name) → IsProvable S j s → AreReached S j ms → labels ≡ axioms_in S ms → AreUsed S j labels
+pub are-used : (S : Database) (j : ℕ) (s : Stmt) (ms : List Bool) (labels : List Name) → IsProvable S j s → AreReached S j ms → labels ≡ axioms_in S ms → AreLabelsOf S (Uses S j) labels
 are-used S j s ms labels provable reached is =
     record {
       positions = positions 1 S ms;
       rising = rising 0 S ms;
-      used = λ a. (forth a, back a);
+      passing = λ a. (forth a, back a);
       labelled = is ∙ labels-from 1 S ms (λ a. label_or_none (stmt_at S a)) (λ k t e. let q : 1 + k ≡ suc k = omega arith in ap (λ a. label_or_none (stmt_at S a)) q ∙ ap label_or_none e);
     }
   where
@@ -196,7 +192,7 @@ are-used S j s ms labels provable reached is =
     there (suc k) t m stands kind = let e : 1 + k ≡ suc k = omega arith in subst (λ a. IsIn a (positions 1 S ms)) e (listed-in 1 S ms k t m stands kind)
 
     back : (a : ℕ) → Uses S j a → IsIn a (positions 1 S ms)
-    back a u = let k = uses-axiom S j a u in there a k.stmt ((reached a).1 (uses-reaches S j j a starts u)) k.stands k.kind
+    back a u = there a u.1.stmt ((reached a).1 (rests-reaches S j j a starts u.0)) u.1.stands u.1.kind
 
 pub used-ok : {A E : Type 0} {P Q : A → Type 0} (r : Result A E) → ((a : A) → P a → Q a) → IfOk r P → IfOk r Q
 used-ok (Ok a) f p = f a p

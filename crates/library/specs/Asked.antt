@@ -1,18 +1,18 @@
--- Questions on the `$p` of a label: what its proof rests on, and the derivation that it spells.
+-- Questions on a label: what the proof of a `$p` rests on, its items and the derivation that they spell; who uses a statement.
 -- Source: this project's profile; Metamath, 4.2.6 and appendix B.
 -- The code finds the label in a table.
-use Rattle.std.specs.Prelude.{ℕ, IsFalse, List}
+use Rattle.std.specs.Prelude.{ℕ, Bool, IsFalse, List}
 use Rattle.mm_lex.specs.Alphabet.{Name}
 use Rattle.mm_read.specs.declared.stmt.Stmt.{Stmt}
 use Rattle.mm_read.specs.Statements.{Database}
 use Rattle.scope.specs.Active.{bares, is_provable}
 use Rattle.frame.specs.Citations.{Carries}
 use Rattle.proof_code.specs.declared.item.Item.{Item}
-use Rattle.verify.specs.Right.{IsProvable, Derives, IsSmall}
+use Rattle.verify.specs.Right.{IsProvable, IsRight, Derives, IsSmall}
 use Rattle.verify.specs.Derivations.{Derivation}
 use Rattle.library.specs.declared.asked.AskFault.{AskFault}
 use Rattle.library.specs.declared.asked.AskFault.TheVariants.{NoLabel, NotProvable, TooLarge, Memory}
-use Rattle.library.specs.Uses.{HasItems, AreUsed}
+use Rattle.library.specs.Uses.{HasItems, Uses, IsUser, AreLabelsOf}
 
 -- no statement has the label
 abbrev pub HasNoLabel : Database → Name → Type 0
@@ -33,7 +33,17 @@ pub record NamesProof (S : Database) (label : Name) (j : ℕ) : Type 0 where
 
 -- the labels of the `$a` that the proof of the label uses
 abbrev pub IsTrace : Database → Name → List Name → Type 0
-IsTrace S label labels = (j : ℕ) × NamesProof S label j × AreUsed S j labels
+IsTrace S label labels = (j : ℕ) × NamesProof S label j × AreLabelsOf S (Uses S j) labels
+
+-- the labels of the `$p` that use what has the label
+abbrev pub IsUsage : Database → Name → Bool → List Name → Type 0
+IsUsage S label all labels = (a : ℕ) × (s : Stmt) × Carries S a s label × AreLabelsOf S (IsUser S all a) labels
+
+-- the `$p` of the label stands at j, and its tokens write these items, which are right
+pub record IsProofOf (S : Database) (label : Name) (j : ℕ) (items : List Item) : Type 0 where
+  pub named : NamesProof S label j
+  pub written : HasItems S j items
+  pub right : IsRight (bares S) j items
 
 -- why the label names no `$p`
 abbrev pub IsNoProof : Database → Name → AskFault → Type 0

@@ -1,21 +1,29 @@
 -- Which positions a walk down from a `$p` has marked.
 -- Source: none; for the private functions of `uses`.
 -- The marks are a list with one place for each position, the first for position 1.
-use Rattle.std.specs.Prelude.{◌≡◌, ◌↔◌, ◌⊎◌, ℕ, zero, suc, ◌<◌, ◌≤◌, Bool, true, false, List, [], ◌∷◌, ◌++◌, length, Option, Some, None, slice_get, slice_index_or, slice_set}
+use Rattle.std.specs.Prelude.{◌≡◌, ◌↔◌, ◌⊎◌, ℕ, zero, suc, ◌<◌, ◌≤◌, Bool, true, false, List, [], ◌∷◌, ◌++◌, length, cond, ◌&&◌, Option, Some, None, slice_get, slice_index_or, slice_set}
 use Rattle.mm_lex.specs.Alphabet.{Name}
 use Rattle.mm_read.specs.declared.stmt.Stmt.{Stmt}
 use Rattle.mm_read.specs.declared.stmt.Stmt.TheVariants.{Axiom}
 use Rattle.mm_read.specs.Statements.{Database}
+use Rattle.scope.specs.Active.{stmt_at}
 use Rattle.frame.specs.Citations.{Carries}
 use Rattle.frame.specs.Reading.{IsPosition}
 use Rattle.proof_code.specs.declared.item.Item.{Item}
 use Rattle.proof_code.specs.declared.item.Item.TheVariants.{Cite}
+use Rattle.verify.specs.Proves.{label_or_none}
 use Rattle.library.specs.Uses.{Cites}
 
 -- the position is marked
 abbrev pub IsMarked : List Bool → ℕ → Type 0
 IsMarked marks zero = ⊥
 IsMarked marks (suc k) = slice_index_or marks k false ≡ true
+
+-- the same as a test, of a position that there may be
+abbrev pub is_marked : List Bool → Option ℕ → Bool
+is_marked marks None = false
+is_marked marks (Some zero) = false
+is_marked marks (Some (suc k)) = slice_index_or marks k false
 
 -- the marks, with that of the position
 abbrev pub mark : Option ℕ → List Bool → List Bool
@@ -80,3 +88,18 @@ axioms_in [] marks = []
 axioms_in (s ∷ S) [] = []
 axioms_in (s ∷ S) (true ∷ marks) = axiom_label s ++ axioms_in S marks
 axioms_in (s ∷ S) (false ∷ marks) = axioms_in S marks
+
+-- an item cites a statement that is marked
+abbrev pub ItemsMeet : Database → List Item → List Bool → Type 0
+ItemsMeet S items marks = (a : ℕ) × IsMarked marks a × ItemsCite S items a
+
+-- the same of the proof of the statement at a position
+abbrev pub ProofMeets : Database → ℕ → List Bool → Type 0
+ProofMeets S at marks = (a : ℕ) × IsMarked marks a × Cites S at a
+
+-- where the proof cites a statement that is marked its label is added, and where all users are meant it is marked too
+pub record NotesUser (S : Database) (all : Bool) (at : ℕ) (old new : List Bool) (before after : List Name) : Type 0 where
+  pub found : Bool
+  pub meets : found ≡ true ↔ ProofMeets S at old
+  pub marks : new ≡ mark (cond (found && all) (Some at) None) old
+  pub labels : after ≡ before ++ cond found (label_or_none (stmt_at S at) ∷ []) []

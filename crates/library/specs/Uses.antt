@@ -1,6 +1,6 @@
--- What the proof of a `$p` rests on: the `$a` that it cites, and those that the `$p` it cites rest on.
+-- What the proof of a `$p` rests on, by its own citations or by those of the `$p` that it cites, and who uses a statement.
 -- Source: Metamath, 4.2.6 and appendix B: a proof cites by labels; a label that is listed and not cited does not count.
--- The code walks the positions once, from the `$p` down; here one citation leads to the next.
+-- The code walks the positions once, from the `$p` down or from the statement up; here one citation leads to the next.
 use Rattle.std.specs.Prelude.{◌≡◌, ◌↔◌, ℕ, ◌<◌, Bool, true, false, IsTrue, List, [], ◌∷◌, map, Some, slice_get}
 use Rattle.mm_lex.specs.Alphabet.{Name}
 use Rattle.mm_read.specs.declared.stmt.Stmt.{Stmt}
@@ -40,10 +40,19 @@ pub record IsAxiomAt (S : Database) (a : ℕ) : Type 0 where
   pub stands : stmt_at S a ≡ Some stmt
   pub kind : IsTrue (is_axiom stmt)
 
--- the `$p` at j uses the `$a` at a: it cites it, or cites a `$p` that uses it
-pub data Uses (S : Database) : ℕ → ℕ → Type 0 where
-  directly : {j a : ℕ} → Cites S j a → IsAxiomAt S a → Uses S j a
-  through : {j b a : ℕ} → Cites S j b → Uses S b a → Uses S j a
+-- the `$p` at j rests on the statement at a: it cites it, or cites a `$p` that rests on it
+pub data RestsOn (S : Database) : ℕ → ℕ → Type 0 where
+  directly : {j a : ℕ} → Cites S j a → RestsOn S j a
+  through : {j b a : ℕ} → Cites S j b → RestsOn S b a → RestsOn S j a
+
+-- the `$p` at j rests on the `$a` at a
+abbrev pub Uses : Database → ℕ → ℕ → Type 0
+Uses S j a = RestsOn S j a × IsAxiomAt S a
+
+-- the `$p` at j uses the statement at a: it cites it, or, where all are meant, rests on it
+abbrev pub IsUser : Database → Bool → ℕ → ℕ → Type 0
+IsUser S true a j = RestsOn S j a
+IsUser S false a j = Cites S j a
 
 -- each number is above those before it, the first of them above this one
 abbrev pub Rises : ℕ → List ℕ → Type 0
@@ -54,9 +63,9 @@ Rises above (n ∷ ns) = (above < n) × Rises n ns
 abbrev pub IsIn : ℕ → List ℕ → Type 0
 IsIn n ns = (k : ℕ) × (slice_get ns k ≡ Some n)
 
--- the labels are those of the `$a` that the `$p` at j uses, each once, in order
-pub record AreUsed (S : Database) (j : ℕ) (labels : List Name) : Type 0 where
+-- the labels are those of the statements that pass, each once, in order
+pub record AreLabelsOf (S : Database) (Passes : ℕ → Type 0) (labels : List Name) : Type 0 where
   pub positions : List ℕ
   pub rising : Rises 0 positions
-  pub used : (a : ℕ) → IsIn a positions ↔ Uses S j a
+  pub passing : (a : ℕ) → IsIn a positions ↔ Passes a
   pub labelled : labels ≡ map (λ a. label_or_none (stmt_at S a)) positions

@@ -1,16 +1,18 @@
-//! Questions on the `$p` of a label: what its proof rests on, and the derivation that it spells.
+//! Questions on a label: what the proof of a `$p` rests on, its items and the derivation that they spell; who uses a statement.
 ghost use Rattle.std.specs.Prelude.{◌≡◌, ◌≢◌, ◌≤◌, ◌↔◌, ◌⊎◌, length, Some, Ok, Err, IfOk, IfErr, MatchResult};
 ghost use Rattle.mm_read.specs.declared.stmt.Stmt.{Stmt as Statement};
 ghost use Rattle.scope.specs.Active.{bares, is_provable, stmt_at};
 ghost use Rattle.proof_code.specs.declared.item.Item.{Item};
 ghost use Rattle.verify.specs.Derivations.{Derivation, derivation_of};
-ghost use Rattle.verify.specs.Right.{IsProvable, Derives, IsSmall};
+ghost use Rattle.verify.specs.Right.{IsProvable, IsRight, IsSmall};
+ghost use Rattle.frame.specs.Reading.{HasLabelsOnce};
 ghost use Rattle.library.specs.Good.{Good};
-ghost use Rattle.library.specs.Uses.{AreUsed, HasItems};
-ghost use Rattle.library.specs.Asked.{HasNoLabel, NamesProof, NamesNoProof, IsTrace, IsTreeOf, IsNoProof, SpellsTree, SpellsLargeTree};
+ghost use Rattle.library.specs.Uses.{HasItems, Uses, IsUser, AreLabelsOf};
+ghost use Rattle.library.specs.Asked.{HasNoLabel, NamesProof, NamesNoProof, IsTrace, IsUsage, IsProofOf, IsTreeOf, IsNoProof, SpellsTree, SpellsLargeTree};
 
 use crate::items::items_of;
 use crate::library::Library;
+use crate::users::users;
 use crate::uses::axioms_used;
 use frame::Frames;
 use mm_lex::Word;
@@ -56,6 +58,41 @@ impl Library {
         ensures small { result ≢ Err AskFault.TooLarge }
     {
         self.base().trace(label)
+    }
+
+    /// The labels of the `$p` whose proofs cite what has the label, a hypothesis or an assertion, each once, in the order of the
+    /// library; with `all` of those too that use it through others, as `trace` has it.
+    ///
+    /// Errors: `NoLabel` where no statement has the label, also where every growth is refused; `Memory` in place of an answer
+    /// alone. Cost: that of the proofs behind the statement, each read once, and a byte a statement. Source: Metamath, 4.2.6
+    /// and appendix B.
+    pub fn usage(&self, label: &[u8], all: bool) -> Result<Vec<Word>, AskFault>
+        ensures labels { IfOk result (λ labels. IsUsage self.now.replica.statements label.now all labels.items) }
+        ensures no_label { (result ≡ Err AskFault.NoLabel) ↔ HasNoLabel self.now.replica.statements label.now }
+        ensures any_kind { result ≢ Err AskFault.NotProvable }
+        ensures small { result ≢ Err AskFault.TooLarge }
+    {
+        self.base().usage(label, all)
+    }
+
+    /// The position of the `$p` of the label, and the items that the tokens of its proof write, which are right.
+    ///
+    /// Errors: those of `trace`. Cost: the proof's own size. Source: Metamath, 4.2.6 and appendix B.
+    pub fn items(&self, label: &[u8]) -> Result<(usize, Items), AskFault>
+        ensures items { IfOk result (λ found. IsProofOf self.now.replica.statements label.now found.0 found.1) }
+        ensures no_label { (result ≡ Err AskFault.NoLabel) ↔ HasNoLabel self.now.replica.statements label.now }
+        ensures not_provable { (result ≡ Err AskFault.NotProvable) ↔ NamesNoProof self.now.replica.statements label.now }
+        ensures small { result ≢ Err AskFault.TooLarge }
+    {
+        self.base().items(label)
+    }
+
+    /// The frames of the statements, no two of which carry one label.
+    pub fn frames(&self) -> &Frames
+        ensures same { result.now.statements ≡ bares self.now.replica.statements }
+        ensures once { HasLabelsOnce result.now.statements }
+    {
+        self.base().frames()
     }
 
     /// The derivation that the proof of the label spells.
@@ -111,11 +148,65 @@ pub(crate) fn trace_at(
     at: usize,
 ) -> Result<Vec<Word>, AskFault>
     requires same { frames.now.statements ≡ bares statements.now }
+    requires once { HasLabelsOnce frames.now.statements }
     requires good { Good statements.now }
     requires provable { (s : Statement) × IsProvable statements.now at s }
-    ensures { MatchResult result (λ labels. AreUsed statements.now at labels.items) (λ fault. fault ≡ AskFault.Memory) }
+    ensures { MatchResult result (λ labels. AreLabelsOf statements.now (Uses statements.now at) labels.items) (λ fault. fault ≡ AskFault.Memory) }
 {
     Ok(axioms_used(alloc, frames, statements, at)?)
+}
+
+/// The labels of the `$p` that use what has the label.
+pub(crate) fn usage_of(
+    alloc: Global,
+    frames: &Frames,
+    statements: &[Stmt],
+    label: &[u8],
+    all: bool,
+) -> Result<Vec<Word>, AskFault>
+    requires same { frames.now.statements ≡ bares statements.now }
+    requires once { HasLabelsOnce frames.now.statements }
+    requires good { Good statements.now }
+    ensures labels { IfOk result (λ labels. IsUsage statements.now label.now all labels.items) }
+    ensures no_label { (result ≡ Err AskFault.NoLabel) ↔ HasNoLabel statements.now label.now }
+    ensures fault { IfErr result (λ fault. (fault ≡ AskFault.NoLabel) ⊎ (fault ≡ AskFault.Memory)) }
+{
+    match frames.position(label) {
+        Some(at) => usage_at(alloc, frames, statements, at, all),
+        None => Err(AskFault::NoLabel),
+    }
+}
+
+/// The labels of the `$p` that use the statement at a position.
+fn usage_at(
+    alloc: Global,
+    frames: &Frames,
+    statements: &[Stmt],
+    at: usize,
+    all: bool,
+) -> Result<Vec<Word>, AskFault>
+    requires same { frames.now.statements ≡ bares statements.now }
+    requires once { HasLabelsOnce frames.now.statements }
+    requires good { Good statements.now }
+    requires place { (1 ≤ at) × (at ≤ length statements.now) }
+    ensures { MatchResult result (λ labels. AreLabelsOf statements.now (IsUser statements.now all at) labels.items) (λ fault. fault ≡ AskFault.Memory) }
+{
+    Ok(users(alloc, frames, statements, at, all)?)
+}
+
+/// The items of the `$p` at a position.
+pub(crate) fn items_at(
+    alloc: Global,
+    frames: &Frames,
+    statements: &[Stmt],
+    at: usize,
+) -> Result<(usize, Items), AskFault>
+    requires same { frames.now.statements ≡ bares statements.now }
+    requires good { Good statements.now }
+    requires provable { (s : Statement) × IsProvable statements.now at s }
+    ensures { MatchResult result (λ found. (found.0 ≡ at) × HasItems statements.now at found.1 × IsRight (bares statements.now) at found.1) (λ fault. fault ≡ AskFault.Memory) }
+{
+    Ok((at, proof_items(alloc, frames, statements, at)?))
 }
 
 /// The derivation that the `$p` at a position spells.

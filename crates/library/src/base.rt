@@ -1,16 +1,17 @@
 //! Good statements, with what judges those that come behind them.
-ghost use Rattle.std.specs.Prelude.{◌≡◌, ℕ, ◌+◌, ◌*◌, ◌≤◌, ◌++◌, ◌≢◌, ◌↔◌, ◌⊎◌, [], length, take, drop, Ok, Err, Some, None, IfOk, OnErr, IsTrue, MatchResult, MatchOption};
+ghost use Rattle.std.specs.Prelude.{◌≡◌, ℕ, ◌+◌, ◌*◌, ◌≤◌, ◌++◌, ◌≢◌, ◌↔◌, ◌⊎◌, [], length, take, drop, Ok, Err, Some, None, IfOk, IfErr, OnErr, IsTrue, MatchResult, MatchOption};
 ghost use Rattle.std.specs.Fn.{FnReturnsAt};
 ghost use Rattle.mm_read.specs.Statements.{AreShaped};
 ghost use Rattle.scope.specs.Active.{bares, is_closed};
+ghost use Rattle.frame.specs.Reading.{HasLabelsOnce};
 ghost use Rattle.library.specs.Good.{Good};
 ghost use Rattle.verify.specs.Derivations.{Derivation, derivation_of};
 ghost use Rattle.verify.specs.Right.{IsSmall};
-ghost use Rattle.library.specs.Asked.{HasNoLabel, NamesNoProof, IsTrace, IsTreeOf};
+ghost use Rattle.library.specs.Asked.{HasNoLabel, NamesNoProof, IsTrace, IsUsage, IsProofOf, IsTreeOf};
 ghost use Rattle.library.specs.Judging.{Begins, IsPlaced, IsUnproved, Extends};
 ghost use Rattle.library.specs.Unproved.{FindsLeast};
 
-use crate::asked::{AskFault, proof_at, trace_at, tree_at};
+use crate::asked::{AskFault, items_at, proof_at, trace_at, tree_at, usage_of};
 use crate::entering::enter;
 use crate::items::is_unfinished;
 use crate::unproved::{Proofs, least_unproved};
@@ -18,6 +19,7 @@ use crate::verdict::Cause;
 use frame::Frames;
 use mm_lex::Word;
 use mm_read::Stmt;
+use proof_code::Items;
 use scope::{Scope, Steps};
 use std::alloc::{AllocError, Global};
 use std::marker::Model;
@@ -65,6 +67,15 @@ impl Base {
         self.statements.as_slice()
     }
 
+    /// The frames of the statements, no two of which carry one label.
+    pub(crate) fn frames(&self) -> &Frames
+        ensures same { result.now.statements ≡ bares self.now }
+        ensures once { HasLabelsOnce result.now.statements }
+    {
+        self.frames.legal();
+        &self.frames
+    }
+
     /// The labels of the `$a` that the proof of the label uses.
     pub(crate) fn trace(&self, label: &[u8]) -> Result<Vec<Word>, AskFault>
         ensures labels { IfOk result (λ labels. IsTrace self.now label.now labels.items) }
@@ -72,9 +83,30 @@ impl Base {
         ensures not_provable { (result ≡ Err AskFault.NotProvable) ↔ NamesNoProof self.now label.now }
         ensures small { result ≢ Err AskFault.TooLarge }
     {
-        self.frames.legal();
-        match proof_at(&self.frames, &self.statements, label) {
-            Ok(at) => trace_at(self.alloc, &self.frames, &self.statements, at),
+        match proof_at(self.frames(), &self.statements, label) {
+            Ok(at) => trace_at(self.alloc, self.frames(), &self.statements, at),
+            Err(fault) => Err(fault),
+        }
+    }
+
+    /// The labels of the `$p` that use what has the label.
+    pub(crate) fn usage(&self, label: &[u8], all: bool) -> Result<Vec<Word>, AskFault>
+        ensures labels { IfOk result (λ labels. IsUsage self.now label.now all labels.items) }
+        ensures no_label { (result ≡ Err AskFault.NoLabel) ↔ HasNoLabel self.now label.now }
+        ensures fault { IfErr result (λ fault. (fault ≡ AskFault.NoLabel) ⊎ (fault ≡ AskFault.Memory)) }
+    {
+        usage_of(self.alloc, self.frames(), &self.statements, label, all)
+    }
+
+    /// The position and the items of the `$p` of the label.
+    pub(crate) fn items(&self, label: &[u8]) -> Result<(usize, Items), AskFault>
+        ensures items { IfOk result (λ found. IsProofOf self.now label.now found.0 found.1) }
+        ensures no_label { (result ≡ Err AskFault.NoLabel) ↔ HasNoLabel self.now label.now }
+        ensures not_provable { (result ≡ Err AskFault.NotProvable) ↔ NamesNoProof self.now label.now }
+        ensures small { result ≢ Err AskFault.TooLarge }
+    {
+        match proof_at(self.frames(), &self.statements, label) {
+            Ok(at) => items_at(self.alloc, self.frames(), &self.statements, at),
             Err(fault) => Err(fault),
         }
     }
@@ -89,9 +121,8 @@ impl Base {
             → (result ≡ Err AskFault.TooLarge) ⊎ (result ≡ Err AskFault.Memory) }
         ensures only_large { result ≡ Err AskFault.TooLarge → (t : Derivation) × IsTreeOf self.now label.now t × (¬ IsSmall t) }
     {
-        self.frames.legal();
-        match proof_at(&self.frames, &self.statements, label) {
-            Ok(at) => tree_at(self.alloc, &self.frames, &self.statements, at),
+        match proof_at(self.frames(), &self.statements, label) {
+            Ok(at) => tree_at(self.alloc, self.frames(), &self.statements, at),
             Err(fault) => Err(fault),
         }
     }

@@ -4,8 +4,8 @@
 //! memory decides nothing.
 //!
 //! Reading order: `submission`, `charter`, `entry` (what a log holds), `verdict`; `library`; `reading` (a text and its charter),
-//! `base` (all or nothing), `entering` (the rules), `unproved` (the proofs), `verdicts`; `asked` (traces and trees), `items`,
-//! `uses`; `laws`.
+//! `base` (all or nothing), `entering` (the rules), `unproved` (the proofs), `verdicts`; `asked` (traces, uses, items and trees), `items`,
+//! `uses`, `users`; `laws`.
 #![tactic(auto)]
 
 mod asked;
@@ -20,6 +20,7 @@ mod listed;
 mod reading;
 mod submission;
 mod unproved;
+mod users;
 mod uses;
 mod verdict;
 mod verdicts;

@@ -3,8 +3,9 @@ ghost use Rattle.std.specs.Prelude.{◌≡◌, ℕ, ◌≤◌, ◌∷◌, ◌++�
 ghost use Rattle.mm_read.specs.declared.stmt.Stmt.{Stmt as Statement};
 ghost use Rattle.scope.specs.Active.{bares};
 ghost use Rattle.verify.specs.Right.{IsProvable};
+ghost use Rattle.frame.specs.Reading.{HasLabelsOnce};
 ghost use Rattle.library.specs.Good.{Good};
-ghost use Rattle.library.specs.Uses.{AreUsed};
+ghost use Rattle.library.specs.Uses.{Uses, AreLabelsOf};
 ghost use Rattle.library.specs.Marks.{ArePlaces, place_of, mark, MarksItems, MarksCited, AreReached, axiom_label, axioms_in};
 
 use crate::items::items_of;
@@ -25,11 +26,11 @@ pub(crate) fn axioms_used(
     at: usize,
 ) -> Result<Vec<Word>, AllocError>
     requires same { frames.now.statements ≡ bares statements.now }
+    requires once { HasLabelsOnce frames.now.statements }
     requires good { Good statements.now }
     requires provable { (s : Statement) × IsProvable statements.now at s }
-    ensures { IfOk result (λ labels. AreUsed statements.now at labels.items) }
+    ensures { IfOk result (λ labels. AreLabelsOf statements.now (Uses statements.now at) labels.items) }
 {
-    frames.legal();
     let marks = reached(alloc, frames, statements, at)?;
     axioms_marked(alloc, statements, &marks)
 }
@@ -71,12 +72,12 @@ fn reached(
     at: usize,
 ) -> Result<Vec<bool>, AllocError>
     requires same { frames.now.statements ≡ bares statements.now }
+    requires once { HasLabelsOnce frames.now.statements }
     requires good { Good statements.now }
     requires provable { (s : Statement) × IsProvable statements.now at s }
     ensures count { IfOk result (λ marks. length marks.items ≡ at) }
     ensures reached { IfOk result (λ marks. AreReached statements.now at marks.items) }
 {
-    frames.legal();
     let mut marks = vec![in alloc; false; at]?;
     marks[at - 1] = true;
     let mut position = at;
@@ -98,6 +99,7 @@ fn mark_proof(
     marks: &mut [bool],
 ) -> Result<(), AllocError>
     requires same { frames.now.statements ≡ bares statements.now }
+    requires once { HasLabelsOnce frames.now.statements }
     requires place { (1 ≤ at) × (at ≤ length statements.now) }
     ensures { OnOk result (MarksCited statements.now at marks.old marks.new) }
 {
@@ -117,9 +119,9 @@ fn mark_cited(
     items: &Items,
     marks: &mut [bool],
 ) -> Result<(), AllocError>
+    requires once { HasLabelsOnce frames.now.statements }
     ensures { OnOk result (MarksItems frames.now.statements items.now marks.old marks.new) }
 {
-    frames.legal();
     let parts = items.parts();
     let places = places_of(alloc, frames, parts.labels)?;
     for number in parts.numbers {
@@ -129,7 +131,7 @@ fn mark_cited(
 }
 
 /// The position of what each of the labels names.
-fn places_of(
+pub(crate) fn places_of(
     alloc: Global,
     frames: &Frames,
     labels: &Words,
@@ -144,7 +146,7 @@ fn places_of(
 }
 
 /// The position that an item cites, by its number.
-fn place_of(places: &[Option<usize>], number: u32) -> Option<usize>
+pub(crate) fn place_of(places: &[Option<usize>], number: u32) -> Option<usize>
     ensures { result ≡ place_of places.now number }
 {
     let number = number as usize;
@@ -155,7 +157,7 @@ fn place_of(places: &[Option<usize>], number: u32) -> Option<usize>
 }
 
 /// Marks a position, where it is one of those that can be marked.
-fn mark_position(marks: &mut [bool], position: Option<usize>)
+pub(crate) fn mark_position(marks: &mut [bool], position: Option<usize>)
     ensures { marks.new ≡ mark position marks.old }
 {
     if let Some(position) = position {

@@ -20,7 +20,7 @@ pub loop-position-preserved : goal.loop-position-preserved
 loop-position-preserved c =
     elim c.if-index.branch [
       | then-index+in_ok-mark_proof w ↦ step-proof c.args.statements.now c.args.frames.now.statements c.args.at c.loop-position.position c.loop-position.marks.items _ _ _ c.index.result.now
-          c.loop-position-test.true c.requires.same c.requires.good c.legal.ensures.once w.deref_mut.ensures.value (ap (λ v. v.items) w.marks-is ∙ lent-whole c.loop-position.marks.len w.mark_proof.new.marks c.loop-position.marks.items (w.in_ok-mark_proof.ensures.count ∙ ap length w.deref_mut.ensures.value) (let ok = c.loop-position.marks.ok in omega (arith, ok.0))) c.index.ensures w.if-index.true w.in_ok-mark_proof.ensures c.loop-position.invariant
+          c.loop-position-test.true c.requires.same c.requires.good c.requires.once w.deref_mut.ensures.value (ap (λ v. v.items) w.marks-is ∙ lent-whole c.loop-position.marks.len w.mark_proof.new.marks c.loop-position.marks.items (w.in_ok-mark_proof.ensures.count ∙ ap length w.deref_mut.ensures.value) (let ok = c.loop-position.marks.ok in omega (arith, ok.0))) c.index.ensures w.if-index.true w.in_ok-mark_proof.ensures c.loop-position.invariant
       | else-index w ↦ step-pass c.args.statements.now c.args.at c.loop-position.position c.loop-position.marks.items _ c.index.result.now
           c.loop-position-test.true (ap (λ v. v.items) w.marks-is) c.index.ensures w.if-index.false c.loop-position.invariant
     ]

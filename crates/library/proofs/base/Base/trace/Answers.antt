@@ -1,5 +1,4 @@
 use Rattle.std.proofs.Common.{◌≡◌, subst}
-use Rattle.scope.specs.Active.{bares}
 use Rattle.library.specs.Asked.{NamesProof}
 use Rattle.library.specs.declared.asked.AskFault.TheVariants.{NotProvable}
 use Rattle.library.proofs.AskedLemmas.{not-both, only-memory}
@@ -9,10 +8,8 @@ pub returns-in-Ok-clause-not_provable : goal.returns-in-Ok-clause-not_provable
 returns-in-Ok-clause-not_provable c =
     let view = c.self.view_is in
     let lent = c.deref.ensures.value in
-    let frames = c.self.invariant.frames_are in
-    let same : c.self.inside.frames.statements ≡ bares c.args.self.now = cc in
     let whole : c.deref.result.now ≡ c.args.self.now = cc in
     let named = subst (λ S. NamesProof S c.args.label.now c.in-Ok.at) whole c.in-Ok.ensures in (
       λ e. absurd (only-memory _ c.trace_at.result NotProvable (λ f. let g = f in cc) c.trace_at.ensures e),
-      λ other. absurd (not-both c.args.self.now c.self.inside.frames.statements same c.args.label.now c.in-Ok.at c.legal.ensures.once named other),
+      λ other. absurd (not-both c.args.self.now c.frames.result.now.statements c.frames.ensures.same c.args.label.now c.in-Ok.at c.frames.ensures.once named other),
     )
