@@ -1,0 +1,4 @@
+pub mod KnownLemmas
+pub mod ConcludingLemmas
+pub mod DraftLemmas
+pub mod RowLemmas

@@ -1,0 +1,3 @@
+pub mod StepTable
+pub mod Rows
+pub mod Drafted
