@@ -1,7 +1,7 @@
 -- What the code keeps of a table while it goes over the items.
 -- Source: this project's form of a table of steps.
 -- The code keeps all expressions in one buffer, and finds a step by its position and those that it takes.
-use Rattle.std.specs.Prelude.{◌≡◌, ◌≢◌, ℕ, zero, suc, ◌≤◌, ◌⊎◌, List, [], ◌∷◌, ◌++◌, length, map, get_or, Option, Some, None, slice_get}
+use Rattle.std.specs.Prelude.{◌≡◌, ◌≢◌, ℕ, zero, suc, ◌<◌, ◌≤◌, ◌⊎◌, List, [], ◌∷◌, ◌++◌, length, map, get_or, Option, Some, None, slice_get}
 use Rattle.std.specs.BTreeMap.{BTreeMap, get_by}
 use Rattle.std.specs.Cmp.Lexicographic.{slice_cmp}
 use Rattle.std.specs.Ordering.{nat_cmp}
@@ -13,14 +13,15 @@ use Rattle.frame.specs.Below.{AreBelow}
 use Rattle.frame.specs.Reading.{IsPosition}
 use Rattle.frame.specs.Substitution.{CodeImages, code_apply}
 use Rattle.entries.specs.declared.citation.Cited.{Cited}
+use Rattle.proof_code.specs.declared.item.Item.{Item}
 use Rattle.subst.specs.declared.place.Place.{Place}
 use Rattle.subst.specs.Places.{seen_at}
 use Rattle.verify.specs.Fits.{AreRead}
 use Rattle.verify.specs.Places.{below, top}
-use Rattle.verify.specs.Machine.{State}
+use Rattle.verify.specs.Machine.{State, Steps}
 use Rattle.steps.specs.declared.draft.PlacedStep.{PlacedStep}
 use Rattle.steps.specs.declared.draft.Draft.{Draft}
-use Rattle.steps.specs.StepTable.{Step, Progress, progress}
+use Rattle.steps.specs.StepTable.{Step, Progress, progress, Notes}
 use Rattle.steps.specs.Rows.{Row, no_row, steps_of, expr_in, AreRows}
 
 -- ---- steps found again
@@ -66,7 +67,15 @@ pub record IsTied (names : List Name) (d : Draft) (st : State) : Type 0 where
 -- where the statement of each label stands, if there is one
 pub record ArePositions (S : Database) (labels : List Name) (positions : List (Option ℕ)) : Type 0 where
   pub count : length positions ≡ length labels
-  pub each : (k : ℕ) (label : Name) (position : Option ℕ) → slice_get labels k ≡ Some label → slice_get positions k ≡ Some position → IsPosition S label position
+  pub each : (k : ℕ) → k < length labels → IsPosition S (get_or labels k []) (get_or positions k None)
+
+-- a run does the item
+abbrev pub CanDo : Database → ℕ → List Name → Draft → Item → Type 0
+CanDo S at names old item = (st : State) × (next : State) × IsTied names old st × Steps S at st item next
+
+-- where a run does the item, it was noted, and the results of the run are the expressions of the rows
+abbrev pub IsDone : Database → ℕ → List Name → Draft → Item → Draft → Type 0
+IsDone S at names old item new = (st next : State) → IsTied names old st → Steps S at st item next → Notes S at (progress_of old) item (progress_of new) × IsTied names new next
 
 -- the code of the row at a place
 abbrev pub codes_in : Draft → ℕ → List ℕ

@@ -1,24 +1,16 @@
-//! A table while it is made: what one item adds.
-ghost use Rattle.std.specs.Prelude.{◌≡◌, ℕ, ◌+◌, ◌<◌, ◌≤◌, ◌∷◌, ◌++◌, [], List, Some, OnOk, IfOk, length, map, get_or, slice_get};
+//! A table while it is made: what a citation adds.
+ghost use Rattle.std.specs.Prelude.{◌≡◌, ℕ, ◌<◌, ◌≤◌, ◌∷◌, [], List, Some, OnOk, length, map, get_or, slice_get};
 ghost use Rattle.mm_lex.specs.Alphabet.{Name};
 ghost use Rattle.mm_read.specs.declared.stmt.Stmt.{Stmt as Statement};
 ghost use Rattle.entries.specs.declared.citation.Hypothesis.TheVariants.{Float};
 ghost use Rattle.frame.specs.Below.{AreBelow};
-ghost use Rattle.frame.specs.FrameOf.{HasAssertion};
-ghost use Rattle.frame.specs.Reading.{AreLegal};
-ghost use Rattle.proof_code.specs.Numbers.{item_of};
-ghost use Rattle.subst.specs.Places.{AreWithin};
 ghost use Rattle.verify.specs.Fits.{AreDifferent, IsTyped};
-ghost use Rattle.verify.specs.Machine.{State, Steps};
-ghost use Rattle.verify.specs.Places.{below, top};
-ghost use Rattle.steps.specs.StepTable.{Notes};
-ghost use Rattle.steps.specs.Rows.{expr_in};
-ghost use Rattle.steps.specs.Drafted.{IsDraft, IsTied, ArePositions, AreInBuffer, AreHeld, Adds, GivesHypothesis, GivesAssertion, place_in, codes_in};
+ghost use Rattle.verify.specs.Places.{top};
+ghost use Rattle.steps.specs.Drafted.{IsDraft, AreHeld, Adds, GivesHypothesis, GivesAssertion, place_in, codes_in};
 
 use crate::concluding::conclude;
 use crate::known::{find, keep, key};
 use entries::Cited;
-use frame::{Frames, Gathered, Meaning};
 use std::alloc::{AllocError, Global};
 use std::collections::BTreeMap;
 use subst::{Buffer, ImagePlaces, Place, SYMBOLS_LIMIT, place_between};
@@ -44,7 +36,6 @@ pub struct Draft {
     pub known: BTreeMap<Vec<usize>, usize>,
     pub images: ImagePlaces,
     pub places: Vec<Place>,
-    pub gathered: Gathered,
 }
 
 impl Draft {
@@ -61,7 +52,6 @@ impl Draft {
             known: BTreeMap::new(alloc),
             images: ImagePlaces::new(alloc),
             places: Vec::new(alloc),
-            gathered: Gathered::new(alloc),
         }
     }
 }
@@ -83,7 +73,7 @@ fn add_step(
 }
 
 /// Cites a hypothesis.
-fn cite_hypothesis(
+pub fn cite_hypothesis(
     alloc: Global,
     draft: &mut Draft,
     position: usize,
@@ -131,7 +121,7 @@ fn fill_places(
 }
 
 /// Cites an assertion by its parts.
-fn cite_parts(
+pub fn cite_parts(
     alloc: Global,
     draft: &mut Draft,
     position: usize,

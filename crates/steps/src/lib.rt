@@ -3,11 +3,13 @@
 //! The crate above uses one contract: `proof_table` gives the steps of the items of a right proof, of each what its citation
 //! concludes from those that it takes, in the order in which the items make them.
 //!
-//! Reading order: `proof_table` (the table, and the call), `draft` (one item), `concluding` (one conclusion), `known` (steps found again).
+//! Reading order: `table` (the table, and the call), `noting` (one item), `draft` (one citation), `concluding` (one conclusion), `known` (steps found again).
 #![tactic(auto)]
 
 mod concluding;
 mod draft;
 mod known;
+mod noting;
+mod table;
 
-pub use draft::Draft;
+pub use table::{ProofTable, proof_table};
