@@ -42,3 +42,8 @@ exprs-seen symbols ps [] h = refl
 exprs-seen symbols ps (k ∷ ks) h =
     ap (λ e. e ∷ map (seen_at symbols) (map (place_in ps) ks)) (sym (expr-seen symbols ps k h.0))
     ∙ ap (λ r. (get_or (map (row_of symbols) ps) k no_row).expr ∷ r) (exprs-seen symbols ps ks h.1)
+
+pub got-within : (xs : List ℕ) (n : ℕ) (ps : List PlacedStep) (k : ℕ) (p d : PlacedStep) → AreInBuffer n ps → k < length (map (row_of xs) ps) → p ≡ get_or ps k d → (p.place.start ≤ p.place.end) × (p.place.end ≤ n)
+got-within xs n [] k p d b h e = absurd (omega (arith, h))
+got-within xs n (q ∷ ps) zero p d b h e = subst (λ v. (v.place.start ≤ v.place.end) × (v.place.end ≤ n)) (sym e) (b.0, b.1)
+got-within xs n (q ∷ ps) (suc k) p d b h e = got-within xs n ps k p d b.2 (omega (arith, h)) e

@@ -6,3 +6,4 @@ pub mod CiteLemmas
 pub mod ItemLemmas
 pub mod PositionLemmas
 pub mod SoundLemmas
+pub mod ReachedLemmas

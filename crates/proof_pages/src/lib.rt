@@ -1,0 +1,14 @@
+//! A proof for people: its steps as lines, as a picture for Graphviz, and as a page.
+//!
+//! Every byte of a database goes into a page by `push_html`, and into a picture by `push_quoted`.
+//!
+//! Reading order: `escapes`, `symbols` (names of numbers), `lines`, `picture`, `page`, `writing`.
+#![tactic(auto)]
+
+mod escapes;
+mod lines;
+mod symbols;
+
+pub use escapes::{push_html, push_quoted};
+pub use lines::push_step;
+pub use symbols::symbol_names;
