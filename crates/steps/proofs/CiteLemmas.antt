@@ -1,5 +1,5 @@
 -- What a citation adds to a table, where a run takes the same step.
-use Rattle.std.specs.Prelude.{◌≡◌, ℕ, zero, suc, ◌-◌, ◌+◌, ◌<◌, ◌≤◌, ◌⊎◌, List, [], ◌∷◌, ◌++◌, length, map, take, drop, get_or, slice_get, Some, refl}
+use Rattle.std.specs.Prelude.{◌≡◌, ℕ, zero, suc, ◌-◌, ◌+◌, ◌<◌, ◌≤◌, List, [], ◌∷◌, ◌++◌, length, map, drop, get_or, slice_get, Some, refl}
 use Rattle.std.proofs.Common.{sym, ◌∙◌, ap, subst, arith, length-append, inl, inr}
 use Rattle.std.proofs.lemmas.List.{length-map}
 use Rattle.mm_lex.specs.Alphabet.{Name}
@@ -22,14 +22,13 @@ use Rattle.verify.specs.Fits.{IsTyped, AreRead, AreDifferent}
 use Rattle.verify.specs.Goes.{AreNamed}
 use Rattle.verify.specs.Machine.{Results, State, Cites, of_hypothesis, of_assertion, Steps, with_result}
 use Rattle.verify.specs.Places.{below, top}
-use Rattle.verify.specs.Spells.{IsCitable}
 use Rattle.verify.proofs.AskedLemmas.{asked-lengths, asked-different}
 use Rattle.verify.proofs.CitationLemmas.{Meets, meets-step}
 use Rattle.verify.proofs.CitingLemmas.{read-over}
 use Rattle.verify.proofs.Decide.{some_same, append_cut, length-premises, not_both}
 use Rattle.verify.proofs.ImageLemmas.{apply-below}
-use Rattle.verify.proofs.Named.{map-append, all-take, all-drop, halves, length-top}
-use Rattle.verify.proofs.PlaceLemmas.{map-snoc, map-take, map-drop}
+use Rattle.verify.proofs.Named.{map-append, halves, length-top}
+use Rattle.verify.proofs.PlaceLemmas.{map-snoc, map-drop}
 use Rattle.verify.proofs.PlanLemmas.{below-take, below-snoc}
 use Rattle.verify.proofs.TableLemmas.{get-last}
 use Rattle.steps.specs.StepTable.{Step, IsPlaced, stands, comes_last, of_hypothesis as makes_hypothesis, of_assertion as makes_assertion, Notes}
@@ -38,7 +37,7 @@ use Rattle.steps.specs.StepTable as table
 use Rattle.steps.specs.Drafted as drafted
 use Rattle.steps.specs.Drafted.{row_of, rows_of, codes_in, key_of, progress_of, IsDraft, IsTied, Finds, GivesHypothesis, GivesAssertion}
 use Rattle.steps.specs.declared.draft.Draft.{Draft}
-use Rattle.steps.proofs.RowLemmas.{rows-more, buffer-snoc, row-at, step-at, some-get, some-low, exprs-front, rows-snoc, known-snoc, weaken}
+use Rattle.steps.proofs.RowLemmas.{rows-more, buffer-snoc, row-at, some-get, some-low, exprs-front, rows-snoc, known-snoc, weaken}
 
 top-map : {A B : Type 0} (f : A → B) (n : ℕ) (xs : List A) → top n (map f xs) ≡ map f (top n xs)
 top-map f n xs = ap (λ l. drop (l - n) (map f xs)) (length-map xs f) ∙ sym (map-drop f (length xs - n) xs)

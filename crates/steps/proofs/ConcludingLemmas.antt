@@ -1,6 +1,6 @@
 -- Images are read off results that begin as their hypotheses ask.
 use Rattle.std.specs.Prelude.{◌≡◌, ℕ, Bool, true, false, List, [], length, map, get_or, slice_get, Some}
-use Rattle.std.proofs.Common.{sym, subst}
+use Rattle.std.proofs.Common.{subst}
 use Rattle.subst.specs.declared.place.Place.{Place}
 use Rattle.subst.specs.Places.{seen_at, images_at, AreWithin}
 use Rattle.entries.specs.declared.citation.Hypothesis.{Hypothesis}

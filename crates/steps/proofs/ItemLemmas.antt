@@ -1,5 +1,5 @@
 -- What one item does to a draft.
-use Rattle.std.specs.Prelude.{◌≡◌, ℕ, zero, suc, ◌-◌, ◌+◌, ◌<◌, ◌≤◌, List, [], ◌∷◌, ◌++◌, length, map, get_or, slice_get, Option, Some, None, refl}
+use Rattle.std.specs.Prelude.{◌≡◌, ℕ, zero, suc, ◌-◌, ◌<◌, List, [], ◌∷◌, ◌++◌, length, map, get_or, slice_get, Option, Some, None, refl}
 use Rattle.std.proofs.Common.{sym, ◌∙◌, ap, subst, arith, length-append}
 use Rattle.std.proofs.lemmas.List.{length-map}
 use Rattle.mm_lex.specs.Alphabet.{Name}
@@ -10,16 +10,16 @@ use Rattle.frame.specs.Below.{AreBelow}
 use Rattle.frame.specs.Citations.{Carries, IsHypothesis}
 use Rattle.frame.specs.Reading.{IsMeaning, IsPosition, AreLegal}
 use Rattle.frame.specs.declared.meaning.Meaning.TheVariants.{Nothing}
-use Rattle.proof_code.specs.declared.item.Item.TheVariants.{Cite, Recall, Mark}
-use Rattle.verify.specs.Machine.{State, Cites, of_hypothesis, of_assertion, Steps, with_result, with_mark}
+use Rattle.proof_code.specs.declared.item.Item.TheVariants.{Recall, Mark}
+use Rattle.verify.specs.Machine.{State, Cites, of_hypothesis, of_assertion, with_result, with_mark}
 use Rattle.verify.proofs.Decide.{append_cut}
 use Rattle.verify.proofs.AskedLemmas.{get-some}
 use Rattle.verify.proofs.PlaceLemmas.{map-snoc, get-map}
 use Rattle.verify.proofs.PlanLemmas.{below-snoc}
 use Rattle.subst.proofs.NumbersApartLemmas.{below-at}
-use Rattle.steps.specs.StepTable.{Notes, Progress}
-use Rattle.steps.specs.Rows.{Row, steps_of, expr_in, AreRows}
-use Rattle.steps.specs.Drafted.{row_of, rows_of, progress_of, AreInBuffer, AreKnown, IsDraft, IsTied, ArePositions, CanDo, IsDone}
+use Rattle.steps.specs.StepTable.{Progress}
+use Rattle.steps.specs.Rows.{steps_of, expr_in, AreRows}
+use Rattle.steps.specs.Drafted.{row_of, rows_of, AreInBuffer, AreKnown, IsDraft, IsTied, ArePositions, CanDo, IsDone}
 use Rattle.steps.specs.declared.draft.Draft.{Draft}
 
 -- the last of a list

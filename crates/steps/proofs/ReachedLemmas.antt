@@ -1,5 +1,5 @@
 -- How far the items were noted, and that the rest of them runs through.
-use Rattle.std.specs.Prelude.{◌≡◌, ℕ, zero, suc, ◌-◌, ◌+◌, ◌<◌, ◌≤◌, List, [], ◌∷◌, ◌++◌, length, map, take, drop, get_or, Option, Some, refl}
+use Rattle.std.specs.Prelude.{◌≡◌, ℕ, zero, suc, ◌-◌, ◌+◌, ◌<◌, ◌≤◌, List, [], ◌∷◌, length, map, take, drop, get_or, Some, refl}
 use Rattle.std.proofs.Common.{sym, ◌∙◌, ap, subst, arith}
 use Rattle.std.proofs.lemmas.List.{length-map}
 use Rattle.mm_lex.specs.Alphabet.{Name}
@@ -17,7 +17,7 @@ use Rattle.verify.proofs.LawsHold.{spellings_run}
 use Rattle.verify.proofs.StepLemmas.{items-more, all-taken}
 use Rattle.steps.specs.StepTable.{progress, NotesAll, AreSteps}
 use Rattle.steps.specs.Rows.{steps_of, expr_in}
-use Rattle.steps.specs.Drafted.{row_of, rows_of, progress_of, IsDraft, IsTied, ArePositions, CanDo, IsDone}
+use Rattle.steps.specs.Drafted.{row_of, rows_of, progress_of, IsTied, CanDo, IsDone}
 use Rattle.steps.specs.declared.draft.Draft.{Draft}
 use Rattle.steps.proofs.SoundLemmas.{notes-sound, notes-snoc, nothing-sound, root-last}
 

@@ -1,20 +1,18 @@
 -- A row more: what stood before stands.
-use Rattle.std.specs.Prelude.{◌≡◌, ◌≢◌, ℕ, zero, suc, ◌+◌, ◌<◌, ◌≤◌, ◌⊎◌, List, [], ◌∷◌, ◌++◌, length, map, get_or, slice_get, Option, Some, None, refl}
-use Rattle.std.proofs.Common.{sym, ◌∙◌, ap, subst, arith, length-append, inl, inr, true≢false, true, false, Bool}
-use Rattle.std.proofs.lemmas.List.{length-map}
+use Rattle.std.specs.Prelude.{◌≡◌, ◌≢◌, ℕ, zero, suc, ◌<◌, ◌≤◌, ◌⊎◌, List, [], ◌∷◌, ◌++◌, length, map, get_or, slice_get, Some, None, refl}
+use Rattle.std.proofs.Common.{sym, ◌∙◌, ap, subst, arith, inl, inr, true≢false, true, false, Bool}
 use Rattle.std.specs.BTreeMap.{BTreeMap}
 use Rattle.std.specs.Str.{bytes_eq}
 use Rattle.std.specs.declared.vec.Vec.{Vec}
 use Rattle.std.specs.declared.alloc.Global.{Global}
 use Rattle.std.proofs.lemmas.Slice.Eq.{bytes_eq-Decides}
 use Rattle.mm_lex.specs.Alphabet.{Name}
-use Rattle.mm_read.specs.Statements.{Expr, Database}
+use Rattle.mm_read.specs.Statements.{Database}
 use Rattle.names.specs.Codes.{decode}
-use Rattle.frame.specs.Below.{AreBelow, AllBelow}
-use Rattle.subst.specs.Places.{seen_at}
+use Rattle.frame.specs.Below.{AreBelow}
 use Rattle.subst.proofs.PlaceLemmas.{seen-more, seen-last}
 use Rattle.verify.proofs.PlaceLemmas.{map-snoc}
-use Rattle.verify.proofs.TableLemmas.{get-front, get-last}
+use Rattle.verify.proofs.TableLemmas.{get-front}
 use Rattle.steps.specs.declared.draft.PlacedStep.{PlacedStep}
 use Rattle.steps.specs.StepTable.{Step}
 use Rattle.steps.specs.Rows.{Row, no_row, steps_of, expr_in, Follows, from_hypothesis, from_assertion, IsRow, AreRows}

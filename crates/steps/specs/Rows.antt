@@ -7,7 +7,7 @@ use Rattle.mm_read.specs.declared.stmt.Stmt.{Stmt}
 use Rattle.mm_read.specs.Statements.{Expr, Database}
 use Rattle.scope.specs.Active.{expr_of}
 use Rattle.names.specs.Codes.{decode}
-use Rattle.frame.specs.Below.{AreBelow, AllBelow}
+use Rattle.frame.specs.Below.{AreBelow}
 use Rattle.frame.specs.Substitution.{Images, apply as applied}
 use Rattle.frame.specs.Citations.{IsHypothesis, IsInstance, premises}
 use Rattle.steps.specs.StepTable.{Step}

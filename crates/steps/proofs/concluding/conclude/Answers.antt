@@ -1,4 +1,4 @@
-use Rattle.std.proofs.Common.{◌++◌, ◌-◌, subst}
+use Rattle.std.proofs.Common.{◌-◌, subst}
 use Rattle.frame.specs.Substitution.{code_apply}
 use Rattle.subst.specs.Places.{images_at}
 use Rattle.subst.specs.declared.buffer.TheConstants.{SYMBOLS_LIMIT}

@@ -1,4 +1,4 @@
-use Rattle.std.proofs.Common.{◌≡◌, arith, ◌-◌, [], ◌∷◌, ◌++◌, ◌≢◌, length, map, drop, take, get_or, inr, sym, ◌∙◌, ap, subst, refl}
+use Rattle.std.proofs.Common.{◌≡◌, arith, ◌-◌, [], ◌∷◌, ◌++◌, length, map, drop, take, get_or, inr, sym, ◌∙◌, ap, subst, refl}
 use Rattle.std.proofs.lemmas.Result.{on_ok_weaker}
 use Rattle.frame.specs.Below.{AreBelow}
 use Rattle.subst.specs.Places.{seen_at, AreWithin}

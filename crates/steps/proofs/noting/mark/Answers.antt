@@ -1,4 +1,4 @@
-use Rattle.std.proofs.Common.{◌≡◌, ◌-◌, ◌<◌, length, get_or, arith, refl, ◌∙◌, ap}
+use Rattle.std.proofs.Common.{◌≡◌, ◌-◌, length, get_or, arith, refl, ◌∙◌, ap}
 use Rattle.steps.proofs.ItemLemmas.{mark-some, marked-draft, marked-done}
 use Rattle.steps.proofs.noting.mark.Goals as goal
 

@@ -1,6 +1,6 @@
-use Rattle.std.proofs.Common.{◌≡◌, suc, ◌-◌, ◌<◌, ◌≤◌, ℕ, [], length, get_or, arith, sym, ◌∙◌, ap, subst, None}
+use Rattle.std.proofs.Common.{suc, ◌-◌, [], get_or, arith, sym, ◌∙◌, ap, subst, None}
 use Rattle.std.proofs.lemmas.Result.{on_ok_weaker}
-use Rattle.proof_code.specs.declared.item.Item.TheVariants.{Cite, Recall, Mark}
+use Rattle.proof_code.specs.declared.item.Item.TheVariants.{Recall}
 use Rattle.proof_code.specs.Numbers.{item_of}
 use Rattle.verify.proofs.GrowthLemmas.{item-cite, item-recall}
 use Rattle.steps.specs.Drafted.{CanDo, IsDone}
