@@ -36,7 +36,7 @@ rows-more xs e zs ps p step b same start end position taken =
     ∙ (ap (λ k. let r : Row = record { step = record { position = k; taken = p.taken.items }; expr = e } in r) position
     ∙ ap (λ t. let r : Row = record { step = record { position = step.position; taken = t }; expr = e } in r) taken)))
 
-buffer-weaken : (n m : ℕ) (ps : List PlacedStep) → n ≤ m → AreInBuffer n ps → AreInBuffer m ps
+pub buffer-weaken : (n m : ℕ) (ps : List PlacedStep) → n ≤ m → AreInBuffer n ps → AreInBuffer m ps
 buffer-weaken n m [] h b = tt
 buffer-weaken n m (p ∷ ps) h b = (b.0, (let e = b.1 in omega (arith, e, h)), buffer-weaken n m ps h b.2)
 

@@ -7,7 +7,7 @@ use Rattle.frame.specs.Below.{AreBelow}
 use Rattle.proof_code.specs.declared.item.Item.{Item}
 use Rattle.proof_code.specs.declared.item.Item.TheVariants.{Cite, Recall, Mark}
 use Rattle.verify.proofs.PlanLemmas.{below-snoc}
-use Rattle.steps.specs.StepTable.{Step, Progress, progress, IsPlaced, stands, comes_last, Makes, of_hypothesis, of_assertion, Notes, NotesAll}
+use Rattle.steps.specs.StepTable.{Step, Progress, progress, IsPlaced, stands, comes_last, Makes, of_hypothesis, of_assertion, Notes, NotesAll, AreSteps}
 use Rattle.steps.proofs.RowLemmas.{some-front, some-more, some-last, some-low, weaken}
 
 pub record IsSound (p : Progress) : Type 0 where
@@ -137,3 +137,7 @@ root-last p n is one =
     only : (i n m : ℕ) → slice_get (n ∷ []) i ≡ Some m → m ≡ n
     only zero n m h = let e : n ≡ m = cc in sym e
     only (suc i) n m h = cc
+
+pub steps-sound : (S : Database) (at : ℕ) (items : List Item) (steps : List Step) (are : AreSteps S at items steps) → IsSound (progress steps are.end.stack are.end.saved)
+steps-sound S at items steps are =
+    subst (λ s. IsSound (progress s are.end.stack are.end.saved)) are.same (notes-sound S at items (progress [] [] []) are.end nothing-sound are.noted)

@@ -17,6 +17,9 @@ pub record Row : Type 0 where
   pub step : Step
   pub expr : List ℕ
 
+abbrev pub row : ℕ → List ℕ → List ℕ → Row
+row position taken expr = record { step = record { position = position; taken = taken }; expr = expr }
+
 abbrev pub no_row : Row
 no_row = record { step = record { position = 0; taken = [] }; expr = [] }
 

@@ -30,7 +30,13 @@ pub fn conclude(
     ensures place { IfOk result (λ place. (place.start ≡ length symbols.old) × (place.end ≡ length symbols.new)) }
 {
     let start = symbols.len();
-    if !read_off(images, symbols.as_slice(), cited.heads, cited.hypotheses, places)? {
+    if !read_off(
+        images,
+        symbols.as_slice(),
+        cited.heads,
+        cited.hypotheses,
+        places,
+    )? {
         unreachable!();
     }
     if !symbols.add_applied(images, cited.conclusion, SYMBOLS_LIMIT - start)? {

@@ -57,11 +57,7 @@ impl Draft {
 }
 
 /// Adds a step that does not stand yet, and puts its result on top.
-fn add_step(
-    draft: &mut Draft,
-    key: Vec<usize>,
-    step: PlacedStep,
-) -> Result<(), AllocError>
+fn add_step(draft: &mut Draft, key: Vec<usize>, step: PlacedStep) -> Result<(), AllocError>
     requires { key.items ≡ step.position ∷ step.taken.items }
     ensures { OnOk result (Adds draft.old draft.new step) }
 {
@@ -93,7 +89,15 @@ pub fn cite_hypothesis(
     draft.symbols.extend(expr)?;
     let place = place_between(start, draft.symbols.len());
     let taken = Vec::new(alloc);
-    add_step(draft, key, PlacedStep { position, taken, place })
+    add_step(
+        draft,
+        key,
+        PlacedStep {
+            position,
+            taken,
+            place,
+        },
+    )
 }
 
 /// Where the expression of the step at a place lies.
@@ -143,11 +147,14 @@ pub fn cite_parts(
         return Ok(());
     }
     fill_places(&draft.placed, &taken, &mut draft.places)?;
-    let place = conclude(
-        &mut draft.symbols,
-        &mut draft.images,
-        cited,
-        &draft.places,
-    )?;
-    add_step(draft, key, PlacedStep { position, taken, place })
+    let place = conclude(&mut draft.symbols, &mut draft.images, cited, &draft.places)?;
+    add_step(
+        draft,
+        key,
+        PlacedStep {
+            position,
+            taken,
+            place,
+        },
+    )
 }

@@ -33,7 +33,7 @@ pub fn positions_of(
 }
 
 /// The parts of the assertion at a position, by lists that are made for it where they are long.
-fn cited_at<'a>(
+pub fn cited_at<'a>(
     frames: &'a Frames,
     position: usize,
     gathered: &'a mut Gathered,

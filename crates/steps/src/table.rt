@@ -1,10 +1,10 @@
 //! The table of a proof.
-ghost use Rattle.std.specs.Prelude.{◌≡◌, ◌-◌, ◌<◌, IfOk, length, get_or, Some};
+ghost use Rattle.std.specs.Prelude.{◌≡◌, ◌-◌, ◌<◌, ◌∷◌, ◌++◌, [], IfOk, OnOk, length, get_or, Some};
 ghost use Rattle.mm_read.specs.declared.stmt.Stmt.{Stmt as Statement};
 ghost use Rattle.scope.specs.Active.{stmt_at, expr_of};
 ghost use Rattle.verify.specs.Right.{IsRight};
 ghost use Rattle.steps.specs.StepTable.{AreSteps};
-ghost use Rattle.steps.specs.Rows.{no_row, steps_of, expr_in, AreRows};
+ghost use Rattle.steps.specs.Rows.{no_row, row, steps_of, expr_in, AreRows};
 
 use crate::draft::{Draft, PlacedStep};
 use crate::noting::{note, positions_of};
@@ -12,7 +12,7 @@ use frame::{Frames, Gathered};
 use proof_code::Items;
 use std::alloc::{AllocError, Global};
 use std::marker::Model;
-use subst::{Buffer, symbols_at};
+use subst::{Buffer, SYMBOLS_LIMIT, place_between, symbols_at};
 
 /// The steps of a proof, none twice, each after those that it takes. Contracts see the list of rows.
 #[derive(Drop)]
@@ -34,6 +34,39 @@ impl Model for ProofTable {
 }
 
 impl ProofTable {
+    /// No steps.
+    pub(crate) fn new(alloc: Global) -> ProofTable
+        ensures { result ≡ [] }
+    {
+        ProofTable {
+            placed: Vec::new(alloc),
+            symbols: Buffer::new(alloc),
+        }
+    }
+
+    /// Adds a step with its expression.
+    pub(crate) fn push(
+        &mut self,
+        position: usize,
+        taken: Vec<usize>,
+        expr: &[u32],
+    ) -> Result<(), AllocError>
+        ensures { OnOk result (self.new ≡ self.old ++ row position taken.items expr.now ∷ []) }
+    {
+        let start = self.symbols.len();
+        if expr.len() > SYMBOLS_LIMIT - start {
+            return Err(AllocError);
+        }
+        self.symbols.extend(expr)?;
+        let place = place_between(start, self.symbols.len());
+        self.placed.push(PlacedStep {
+            position,
+            taken,
+            place,
+        })?;
+        Ok(())
+    }
+
     /// How many steps there are.
     pub fn len(&self) -> usize
         ensures { result ≡ length self.now }
