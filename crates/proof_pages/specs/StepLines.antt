@@ -1,0 +1,35 @@
+-- The steps of a proof as lines of text, and as a picture for Graphviz.
+-- Source: this project's own form; the DOT language of Graphviz.
+-- The code adds each part to the end of a buffer.
+use Rattle.std.specs.Prelude.{ℕ, ◌+◌, List, [], ◌∷◌, ◌++◌, codes, decimal, flat_map}
+use Rattle.mm_lex.specs.Alphabet.{Name}
+use Rattle.mm_read.specs.Statements.{Database}
+use Rattle.scope.specs.Active.{stmt_at}
+use Rattle.names.specs.Codes.{name_at}
+use Rattle.verify.specs.Proves.{label_or_none}
+use Rattle.steps.specs.Rows.{Row}
+use Rattle.proof_pages.specs.Escapes.{quoted_text}
+
+-- a place from 0 as a number from 1
+abbrev pub number_text : ℕ → List ℕ
+number_text place = decimal (place + 1)
+
+abbrev pub behind_comma : ℕ → List ℕ
+behind_comma place = codes "," ++ number_text place
+
+-- the numbers of the steps that are taken, or `-`
+abbrev pub taken_text : List ℕ → List ℕ
+taken_text [] = codes "-"
+taken_text (place ∷ places) = number_text place ++ flat_map behind_comma places
+
+-- a symbol behind a space
+abbrev pub symbol_text : List Name → ℕ → List ℕ
+symbol_text names symbol = codes " " ++ name_at names symbol
+
+abbrev pub expr_text : List Name → List ℕ → List ℕ
+expr_text names expr = flat_map (symbol_text names) expr
+
+-- number, numbers taken, label, expression
+abbrev pub step_line : Database → List Name → ℕ → Row → List ℕ
+step_line S names place row =
+    number_text place ++ (codes " " ++ (taken_text row.step.taken ++ (codes " " ++ (label_or_none (stmt_at S row.step.position) ++ (expr_text names row.expr ++ codes "\n")))))

@@ -1,0 +1,4 @@
+pub mod StepTable
+pub mod Rows
+pub mod Drafted
+pub mod Laws
