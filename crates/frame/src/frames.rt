@@ -3,7 +3,7 @@ ghost use Rattle.std.specs.Prelude.{◌≡◌, ℕ, ◌+◌, ◌≤◌, [], ◌�
 ghost use Rattle.mm_read.specs.declared.stmt.Stmt.{Stmt as Statement};
 ghost use Rattle.scope.specs.Active.{bare, before, stmt_at, expr_of, label_of};
 ghost use Rattle.scope.specs.Legal.{IsLegal};
-ghost use Rattle.names.specs.Codes.{decode};
+ghost use Rattle.names.specs.Codes.{decode, name_at};
 ghost use Rattle.scope.specs.Symbols.{symbols_of, AreOfLast};
 ghost use Rattle.frame.specs.Below.{AreBelow};
 ghost use Rattle.frame.specs.FrameOf.{HasAssertion, hypotheses};
@@ -255,6 +255,18 @@ impl Frames {
         ensures { (s : Statement) → stmt_at self.now.statements at ≡ Some s → option_map (λ r. r.now) result ≡ label_of s }
     {
         label_at(&self.stock, at)
+    }
+
+    /// The symbol of a number; nothing where no symbol has it.
+    pub fn symbol(&self, number: u32) -> &[u8]
+        ensures { result.now ≡ name_at self.now.names number }
+    {
+        let number = number as usize;
+        if number < self.stock.names.len() {
+            self.stock.names.name(number)
+        } else {
+            &[]
+        }
     }
 
     /// The statements are legal: no two carry one label, what an assertion takes determines what it gives,

@@ -1,0 +1,13 @@
+use Rattle.std.specs.Prelude.{◌≡◌, ℕ, zero, suc, ◌≤◌, List, [], ◌∷◌, length}
+use Rattle.std.proofs.Common.{refl, arith}
+use Rattle.mm_lex.specs.Alphabet.{Name}
+use Rattle.names.specs.Codes.{name_at}
+use Rattle.frame.proofs.frames.Frames.symbol.Goals as goal
+
+past-end : (names : List Name) (n : ℕ) → length names ≤ n → [] ≡ name_at names n
+past-end [] n h = refl
+past-end (x ∷ names) zero h = absurd (omega (arith, h))
+past-end (x ∷ names) (suc n) h = past-end names n (omega (arith, h))
+
+pub returns-else-number-len : goal.returns-else-number-len
+returns-else-number-len c = past-end c.self.inside.stock.names c.args.number (let l = c.len.ensures in let f = c.if-number-len.false in omega (arith, l, f))
