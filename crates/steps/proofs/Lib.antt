@@ -7,3 +7,7 @@ pub mod ItemLemmas
 pub mod PositionLemmas
 pub mod SoundLemmas
 pub mod ReachedLemmas
+pub mod PremiseLemmas
+pub mod MarkLemmas
+pub mod NumberLemmas
+pub mod UnfoldLemmas

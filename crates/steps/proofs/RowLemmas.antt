@@ -15,7 +15,7 @@ use Rattle.verify.proofs.PlaceLemmas.{map-snoc}
 use Rattle.verify.proofs.TableLemmas.{get-front}
 use Rattle.steps.specs.declared.draft.PlacedStep.{PlacedStep}
 use Rattle.steps.specs.StepTable.{Step}
-use Rattle.steps.specs.Rows.{Row, no_row, steps_of, expr_in, Follows, from_hypothesis, from_assertion, IsRow, AreRows}
+use Rattle.steps.specs.Rows.{Row, row, no_row, steps_of, expr_in, Follows, from_hypothesis, from_assertion, IsRow, AreRows}
 use Rattle.steps.specs.Drafted.{row_of, key_of, place_of, AreKnown, AreInBuffer}
 
 -- ---- one buffer
@@ -141,3 +141,6 @@ known-snoc old new steps step k fresh own others = record { there = λ s n h. th
         none : None ≡ Some n → ⊥
         none h = cc
     all s n (inr (e, same)) = ap (λ x. place_of new (key_of x)) same ∙ (own ∙ ap Some (sym e))
+
+pub row-same : (p q : ℕ) (t u e f : List ℕ) → p ≡ q → t ≡ u → e ≡ f → row p t e ≡ row q u f
+row-same p q t u e f a b c = ap (λ x. row x t e) a ∙ (ap (λ x. row q x e) b ∙ ap (row q u) c)

@@ -17,11 +17,11 @@ pub record IsSound (p : Progress) : Type 0 where
   pub once : (j k : ℕ) (step : Step) → slice_get p.steps j ≡ Some step → slice_get p.steps k ≡ Some step → j ≡ k
   pub last : (n : ℕ) → length p.steps ≡ suc n → (i : ℕ) × (slice_get p.stack i ≡ Some n)
 
-below-split : (n : ℕ) (xs ys : List ℕ) → AreBelow n (xs ++ ys) → AreBelow n xs × AreBelow n ys
+pub below-split : (n : ℕ) (xs ys : List ℕ) → AreBelow n (xs ++ ys) → AreBelow n xs × AreBelow n ys
 below-split n [] ys b = (tt, b)
 below-split n (x ∷ xs) ys b = let r = below-split n xs ys b.1 in ((b.0, r.0), r.1)
 
-below-some : (n : ℕ) (xs : List ℕ) (k x : ℕ) → AreBelow n xs → slice_get xs k ≡ Some x → x < n
+pub below-some : (n : ℕ) (xs : List ℕ) (k x : ℕ) → AreBelow n xs → slice_get xs k ≡ Some x → x < n
 below-some n [] k x b h = cc
 below-some n (y ∷ xs) zero x b h = let e : y ≡ x = cc in subst (λ v. v < n) e b.0
 below-some n (y ∷ xs) (suc k) x b h = below-some n xs k x b.1 h

@@ -2,9 +2,10 @@
 ghost use Rattle.std.specs.Prelude.{◌≡◌, ◌-◌, ◌<◌, ◌∷◌, ◌++◌, [], IfOk, OnOk, length, get_or, Some};
 ghost use Rattle.mm_read.specs.declared.stmt.Stmt.{Stmt as Statement};
 ghost use Rattle.scope.specs.Active.{stmt_at, expr_of};
-ghost use Rattle.verify.specs.Right.{IsRight};
+ghost use Rattle.verify.specs.Right.{IsRight, Derives};
 ghost use Rattle.steps.specs.StepTable.{AreSteps};
 ghost use Rattle.steps.specs.Rows.{no_row, row, steps_of, expr_in, AreRows};
+ghost use Rattle.steps.specs.Unfolded.{last_unfolded};
 
 use crate::draft::{Draft, PlacedStep};
 use crate::noting::{note, positions_of};
@@ -114,6 +115,7 @@ pub fn proof_table(
     ensures rows { IfOk result (λ table. AreRows frames.now.statements at frames.now.names table) }
     ensures last { IfOk result (λ table. (s : Statement) → stmt_at frames.now.statements at ≡ Some s
         → expr_in frames.now.names table (length table - 1) ≡ expr_of s) }
+    ensures derives { IfOk result (λ table. Derives frames.now.statements at items.now (last_unfolded frames.now.statements (steps_of table))) }
 {
     frames.legal();
     let parts = items.parts();

@@ -2,6 +2,7 @@ use Rattle.std.proofs.Common.{sym, subst}
 use Rattle.steps.specs.Drafted.{ArePositions}
 use Rattle.verify.proofs.MandatoryLemmas.{place_of}
 use Rattle.steps.proofs.ReachedLemmas.{reached-start, reached-can, reached-next, reached-steps, reached-last}
+use Rattle.steps.proofs.UnfoldLemmas.{unfolds}
 use Rattle.steps.proofs.table.proof_table.Goals as goal
 
 pub loop-number-init : goal.loop-number-init
@@ -53,3 +54,9 @@ pub returns-clause-last : goal.returns-clause-last
 returns-clause-last c =
     let i = c.loop-number.invariant.2 in
     λ s stands. reached-last c.args.frames.now.statements c.args.at c.args.frames.now.names i.0 c.parts-parts.result.numbers.now c.args.items.now c.loop-number.number-index _ i.2 c.loop-number-test.false i.3 s stands
+
+pub returns-clause-derives : goal.returns-clause-derives
+returns-clause-derives c =
+    let i = c.loop-number.invariant.2 in
+    let are = reached-steps c.args.frames.now.statements c.args.at c.args.frames.now.names i.0 c.parts-parts.result.numbers.now c.args.items.now c.loop-number.number-index _ i.2 c.loop-number-test.false i.3 in
+    unfolds c.args.frames.now.statements c.args.at c.legal.ensures.once c.args.items.now _ c.requires are
