@@ -2,6 +2,7 @@ pub mod KnownLemmas
 pub mod ConcludingLemmas
 pub mod DraftLemmas
 pub mod RowLemmas
+pub mod PlacingLemmas
 pub mod CiteLemmas
 pub mod ItemLemmas
 pub mod PositionLemmas
