@@ -1,8 +1,6 @@
--- What is written for bytes reads as these bytes; there is no name past the last.
-use Rattle.std.specs.Prelude.{◌≡◌, ℕ, zero, suc, ◌≤◌, Bool, true, false, if◌then◌else◌, List, [], ◌∷◌, ◌++◌, length}
-use Rattle.std.proofs.Common.{sym, subst, refl, arith}
-use Rattle.mm_lex.specs.Alphabet.{Name}
-use Rattle.names.specs.Codes.{name_at}
+-- What is written for bytes reads as these bytes.
+use Rattle.std.specs.Prelude.{◌≡◌, ℕ, Bool, true, false, if◌then◌else◌, List, [], ◌∷◌, ◌++◌}
+use Rattle.std.proofs.Common.{sym, subst, refl}
 use Rattle.proof_pages.specs.Escapes.{is_markup, reference, html_byte, html_text, ReadsAs, reads_none, reads_plain, reads_reference}
 
 one-more : (b : ℕ) (written text : List ℕ) → ReadsAs written text → (t : Bool) → is_markup b ≡ t → ReadsAs (html_byte b ++ written) (b ∷ text)
@@ -14,8 +12,3 @@ one-more b written text r false e =
 pub reads-back : (text : List ℕ) → ReadsAs (html_text text) text
 reads-back [] = reads_none
 reads-back (b ∷ text) = one-more b (html_text text) text (reads-back text) (is_markup b) refl
-
-pub past-end : (names : List Name) (n : ℕ) → length names ≤ n → [] ≡ name_at names n
-past-end [] n h = refl
-past-end (x ∷ names) zero h = absurd (omega (arith, h))
-past-end (x ∷ names) (suc n) h = past-end names n (omega (arith, h))

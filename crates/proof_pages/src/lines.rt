@@ -1,14 +1,27 @@
 //! A step as a line.
 ghost use Rattle.std.specs.Prelude.{◌≡◌, ◌<◌, ◌++◌, codes, length, get_or, flat_map, OnOk};
+ghost use Rattle.scope.specs.Active.{stmt_at};
+ghost use Rattle.verify.specs.Proves.{label_or_none};
 ghost use Rattle.steps.specs.Rows.{no_row};
 ghost use Rattle.proof_pages.specs.StepLines.{number_text, behind_comma, taken_text, symbol_text, expr_text, step_line};
 
-use crate::symbols::{label_at, name_of};
-use mm_read::Stmt;
-use names::Names;
+use frame::Frames;
 use outline::push_number;
 use std::alloc::AllocError;
 use steps::ProofTable;
+
+/// The label of the statement at a position, empty where it has none.
+pub fn label_at(frames: &Frames, position: usize) -> &[u8]
+    ensures { result.now ≡ label_or_none (stmt_at frames.now.statements position) }
+{
+    if position == 0 || position > frames.len() {
+        return &[];
+    }
+    match frames.label(position) {
+        Some(label) => label,
+        None => &[],
+    }
+}
 
 /// Adds the number of the step at a place.
 pub fn push_place(text: &mut Vec<u8>, place: usize) -> Result<(), AllocError>
@@ -47,39 +60,38 @@ fn push_taken(text: &mut Vec<u8>, places: &[usize]) -> Result<(), AllocError>
     }
 }
 
-fn push_symbol(text: &mut Vec<u8>, names: &Names, symbol: u32) -> Result<(), AllocError>
-    ensures { OnOk result (text.new.items ≡ text.old.items ++ symbol_text names.now symbol) }
+fn push_symbol(text: &mut Vec<u8>, frames: &Frames, symbol: u32) -> Result<(), AllocError>
+    ensures { OnOk result (text.new.items ≡ text.old.items ++ symbol_text frames.now.names symbol) }
 {
     text.extend_from_slice(b" ")?;
-    text.extend_from_slice(name_of(names, symbol))
+    text.extend_from_slice(frames.symbol(symbol))
 }
 
 /// Adds the symbols of an expression, each behind a space.
-pub fn push_expr(text: &mut Vec<u8>, names: &Names, expr: &[u32]) -> Result<(), AllocError>
-    ensures { OnOk result (text.new.items ≡ text.old.items ++ expr_text names.now expr.now) }
+fn push_expr(text: &mut Vec<u8>, frames: &Frames, expr: &[u32]) -> Result<(), AllocError>
+    ensures { OnOk result (text.new.items ≡ text.old.items ++ expr_text frames.now.names expr.now) }
 {
     for symbol in expr {
-        push_symbol(text, names, *symbol)?;
+        push_symbol(text, frames, *symbol)?;
     }
     Ok(())
 }
 
-/// Adds the step at a place as a line.
+/// Adds the step at a place as a line: its number, the numbers of the steps that it takes, its label, its expression.
 pub fn push_step(
     text: &mut Vec<u8>,
-    statements: &[Stmt],
-    names: &Names,
+    frames: &Frames,
     table: &ProofTable,
     place: usize,
 ) -> Result<(), AllocError>
     requires { place < length table.now }
-    ensures { OnOk result (text.new.items ≡ text.old.items ++ step_line statements.now names.now place (get_or table.now place no_row)) }
+    ensures { OnOk result (text.new.items ≡ text.old.items ++ step_line frames.now.statements frames.now.names place (get_or table.now place no_row)) }
 {
     push_place(text, place)?;
     text.extend_from_slice(b" ")?;
     push_taken(text, table.taken(place))?;
     text.extend_from_slice(b" ")?;
-    text.extend_from_slice(label_at(statements, table.position(place)))?;
-    push_expr(text, names, table.expr(place))?;
+    text.extend_from_slice(label_at(frames, table.position(place)))?;
+    push_expr(text, frames, table.expr(place))?;
     text.extend_from_slice(b"\n")
 }
