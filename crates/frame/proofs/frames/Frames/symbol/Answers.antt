@@ -1,7 +1,8 @@
 use Rattle.std.specs.Prelude.{◌≡◌, ℕ, zero, suc, ◌≤◌, List, [], ◌∷◌, length}
-use Rattle.std.proofs.Common.{refl, arith}
+use Rattle.std.proofs.Common.{refl, subst, arith}
 use Rattle.mm_lex.specs.Alphabet.{Name}
 use Rattle.names.specs.Codes.{name_at}
+use Rattle.frame.specs.Parts.{Numbered}
 use Rattle.frame.proofs.frames.Frames.symbol.Goals as goal
 
 past-end : (names : List Name) (n : ℕ) → length names ≤ n → [] ≡ name_at names n
@@ -10,4 +11,6 @@ past-end (x ∷ names) zero h = absurd (omega (arith, h))
 past-end (x ∷ names) (suc n) h = past-end names n (omega (arith, h))
 
 pub returns-else-number-len : goal.returns-else-number-len
-returns-else-number-len c = past-end c.self.inside.stock.names c.args.number (let l = c.len.ensures in let f = c.if-number-len.false in omega (arith, l, f))
+returns-else-number-len c =
+    subst (λ (v : Numbered). [] ≡ name_at v.names c.args.number) c.self.view_is
+    (past-end c.self.inside.stock.names c.args.number (let l = c.len.ensures in let f = c.if-number-len.false in omega (arith, l, f)))
