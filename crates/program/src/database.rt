@@ -1,11 +1,11 @@
-//! The commands on a database: `outline`, and those on a text that is applied to an empty library, `check`, `tree` and `trace`.
+//! The commands on a database: `outline`, and the questions on a text that is applied to an empty library.
 use crate::streams::{ReadFailure, TEXT_LIMIT, print, read_text};
 use bytes::Bytes;
 use commands::Question;
 use library::{AskFault, Cause, Entry, Library, Submission, Verdict};
 use mm_read::Stmt;
 use outline::{outline_text, push_number};
-use printed::{push_labels, push_tree, push_verdict};
+use printed::{push_assertions, push_labels, push_tree, push_verdict};
 use std::alloc::{AllocError, Global};
 use std::io::{Read, Write};
 use std::thread::Threads;
@@ -75,9 +75,20 @@ fn print_answer<O: Write>(
 fn answer(alloc: Global, question: Question<'_>, library: &Library) -> Result<Vec<u8>, AskFault> {
     match question {
         Question::Check => Ok(proved(alloc, library.statements())?),
+        Question::List => Ok(list(alloc, library)?),
+        Question::Export => Ok(library.export()?),
         Question::Tree { label } => tree(alloc, library, label),
         Question::Trace { label } => trace(alloc, library, label),
+        Question::Usage { label, all } => usage(alloc, library, label, all),
     }
+}
+
+/// The assertions, a line each.
+fn list(alloc: Global, library: &Library) -> Result<Vec<u8>, AllocError> {
+    let list = library.list()?;
+    let mut lines = Vec::new(alloc);
+    push_assertions(&mut lines, list.as_slice())?;
+    Ok(lines)
 }
 
 /// The derivation of the `$p` of the label, a line a node.
@@ -91,6 +102,14 @@ fn tree(alloc: Global, library: &Library, label: &str) -> Result<Vec<u8>, AskFau
 /// The axioms that the `$p` of the label rests on, a line each.
 fn trace(alloc: Global, library: &Library, label: &str) -> Result<Vec<u8>, AskFault> {
     let labels = library.trace(label.as_bytes())?;
+    let mut lines = Vec::new(alloc);
+    push_labels(&mut lines, labels.as_slice())?;
+    Ok(lines)
+}
+
+/// The `$p` that use what has the label, a line each.
+fn usage(alloc: Global, library: &Library, label: &str, all: bool) -> Result<Vec<u8>, AskFault> {
+    let labels = library.usage(label.as_bytes(), all)?;
     let mut lines = Vec::new(alloc);
     push_labels(&mut lines, labels.as_slice())?;
     Ok(lines)

@@ -1,6 +1,6 @@
 //! What `mmlib` does: a command line, an input and an output to an exit status.
 //!
-//! Reading order: `command_line` (`run`, what a command line does), `streams` (what is read and written), `database` (`outline`, `check`, `tree`, `trace`);
+//! Reading order: `command_line` (`run`, what a command line does), `streams` (what is read and written), `database` (what is asked of one);
 //! `play`, with `script_input` (its lines, which crate `scripts` reads) and `answers` (what a line prints); `serve`, with
 //! `node_threads`.
 #![tactic(auto)]
