@@ -1,4 +1,5 @@
 //! The commands on a database: `outline`, and the questions on a text that is applied to an empty library.
+use crate::proofs::{Wanted, print_proof};
 use crate::streams::{ReadFailure, TEXT_LIMIT, print, read_text};
 use bytes::Bytes;
 use commands::Question;
@@ -65,21 +66,29 @@ fn print_answer<O: Write>(
     library: &Library,
     output: &mut O,
 ) -> u8 {
-    match answer(alloc, question, library) {
-        Ok(lines) => print(output, lines.as_slice(), 0),
-        Err(fault) => print(output, fault_line(fault), 1),
-    }
-}
-
-/// The lines of the answer about a library.
-fn answer(alloc: Global, question: Question<'_>, library: &Library) -> Result<Vec<u8>, AskFault> {
-    match question {
-        Question::Check => Ok(proved(alloc, library.statements())?),
-        Question::List => Ok(list(alloc, library)?),
-        Question::Export => Ok(library.export()?),
+    let answered = match question {
+        Question::Check => proved(alloc, library.statements()).map_err(AskFault::from),
+        Question::List => list(alloc, library).map_err(AskFault::from),
+        Question::Export => library.export().map_err(AskFault::from),
         Question::Tree { label } => tree(alloc, library, label),
         Question::Trace { label } => trace(alloc, library, label),
         Question::Usage { label, all } => usage(alloc, library, label, all),
+        Question::Proof {
+            label,
+            essential,
+            form,
+        } => {
+            let wanted = Wanted {
+                label: label.as_bytes(),
+                is_essential: essential,
+                form,
+            };
+            return print_proof(alloc, library, &wanted, output);
+        }
+    };
+    match answered {
+        Ok(lines) => print(output, lines.as_slice(), 0),
+        Err(fault) => print(output, fault_line(fault), 1),
     }
 }
 
@@ -161,7 +170,7 @@ fn cause_line(alloc: Global, cause: Cause) -> Result<Vec<u8>, AllocError> {
 }
 
 /// The line of a label that has no answer.
-fn fault_line(fault: AskFault) -> &'static [u8] {
+pub(crate) fn fault_line(fault: AskFault) -> &'static [u8] {
     match fault {
         AskFault::NoLabel => b"refused NoLabel\n",
         AskFault::NotProvable => b"refused NotProvable\n",

@@ -10,6 +10,7 @@ mod command_line;
 mod database;
 mod node_threads;
 mod play;
+mod proofs;
 mod script_input;
 mod serve;
 mod streams;
