@@ -1,33 +1,44 @@
 //! The commands on a database: `outline`, and the questions on a text that is applied to an empty library.
 use crate::proofs::{Wanted, print_proof};
+use crate::refusal::{print_outline_reason, print_refusal};
 use crate::streams::{ReadFailure, TEXT_LIMIT, print, read_text};
 use bytes::Bytes;
 use commands::Question;
 use library::{AskFault, Cause, Entry, Library, Submission, Verdict};
 use mm_read::Stmt;
 use outline::{outline_text, push_number};
-use printed::{push_assertions, push_labels, push_tree, push_verdict};
+use printed::{push_assertions, push_labels, push_tree};
 use std::alloc::{AllocError, Global};
 use std::io::{Read, Write};
 use std::thread::Threads;
 use verify_pool::{OpenGate, Workers};
 
 /// Prints the outline of the database that is read, or why there is none; the answer is the exit status.
-pub fn print_outline<I: Read, O: Write>(alloc: Global, input: &mut I, output: &mut O) -> u8 {
+pub fn print_outline<I: Read, O: Write, F: Write>(
+    alloc: Global,
+    input: &mut I,
+    output: &mut O,
+    faults: &mut F,
+) -> u8 {
     let text = match read_text(alloc, input) {
         Ok(text) => text,
         Err(failure) => return print_failure(output, failure),
     };
+    let text = text.as_slice();
     if text.len() > TEXT_LIMIT {
-        return print(output, b"refused C1\n", 1);
+        return print_refusal(alloc, text, Cause::TooLong, output, faults);
     }
-    match outline_text(alloc, text.as_slice()) {
-        Ok(lines) => {
-            let status = if lines.ends_with(b"good\n") { 0 } else { 1 };
-            print(output, lines.as_slice(), status)
-        }
-        Err(_) => print(output, b"refused Memory\n", 1),
+    let Ok(lines) = outline_text(alloc, text) else {
+        return print(output, b"refused Memory\n", 1);
+    };
+    if print(output, lines.as_slice(), 0) != 0 {
+        return 1;
     }
+    if lines.ends_with(b"good\n") {
+        return 0;
+    }
+    print_outline_reason(alloc, text, faults);
+    1
 }
 
 /// Prints why a text was not read; the answer is the exit status.
@@ -40,20 +51,24 @@ fn print_failure<O: Write>(output: &mut O, failure: ReadFailure) -> u8 {
 
 /// Prints the answer about the database that is read, or why there is none; the answer is the exit status. Its proofs are checked
 /// by as many threads as the machine offers, and no answer depends on how many.
-pub fn ask<R: Threads + Sync, I: Read, O: Write>(
+pub fn ask<R: Threads + Sync, I: Read, O: Write, F: Write>(
     rt: &R,
     alloc: Global,
     question: Question<'_>,
     input: &mut I,
     output: &mut O,
+    faults: &mut F,
 ) -> u8 {
     let text = match read_text(alloc, input) {
         Ok(text) => text,
         Err(failure) => return print_failure(output, failure),
     };
+    let Ok(text) = Bytes::from_vec(text) else {
+        return print(output, b"refused Memory\n", 1);
+    };
     let mut library = Library::new(alloc);
-    match judge(rt, &mut library, text) {
-        Ok(Verdict::Refused(cause)) => print_cause(alloc, cause, output),
+    match judge(rt, &mut library, &text) {
+        Ok(Verdict::Refused(cause)) => print_refusal(alloc, text.as_slice(), cause, output, faults),
         Ok(_) => print_answer(alloc, question, &library, output),
         Err(_) => print(output, b"refused Memory\n", 1),
     }
@@ -128,13 +143,12 @@ fn usage(alloc: Global, library: &Library, label: &str, all: bool) -> Result<Vec
 fn judge<R: Threads + Sync>(
     rt: &R,
     library: &mut Library,
-    text: Vec<u8>,
+    text: &Bytes,
 ) -> Result<Verdict, AllocError> {
-    let text = Bytes::from_vec(text).map_err(AllocError::from)?;
     let entry = Entry::Text(Submission {
         author: 0,
         serial: 0,
-        text,
+        text: text.clone()?,
     });
     library.apply_with(rt, Some(&entry), Workers::offered(rt), &OpenGate)
 }
@@ -149,22 +163,6 @@ fn proved(alloc: Global, statements: &[Stmt]) -> Result<Vec<u8>, AllocError> {
     }
     let mut line = Vec::from_slice(alloc, b"proved ")?;
     push_number(&mut line, count)?;
-    line.extend_from_slice(b"\n")?;
-    Ok(line)
-}
-
-/// Prints why a database is refused.
-fn print_cause<O: Write>(alloc: Global, cause: Cause, output: &mut O) -> u8 {
-    match cause_line(alloc, cause) {
-        Ok(line) => print(output, line.as_slice(), 1),
-        Err(_) => print(output, b"refused Memory\n", 1),
-    }
-}
-
-/// The line of a database that is refused.
-fn cause_line(alloc: Global, cause: Cause) -> Result<Vec<u8>, AllocError> {
-    let mut line = Vec::new(alloc);
-    push_verdict(&mut line, Verdict::Refused(cause))?;
     line.extend_from_slice(b"\n")?;
     Ok(line)
 }
