@@ -1,6 +1,6 @@
 -- What a citation adds to a table, where a run takes the same step.
-use Rattle.std.specs.Prelude.{◌≡◌, ℕ, zero, suc, ◌-◌, ◌+◌, ◌<◌, ◌≤◌, List, [], ◌∷◌, ◌++◌, length, map, drop, get_or, slice_get, Some, refl}
-use Rattle.std.proofs.Common.{sym, ◌∙◌, ap, subst, arith, length-append, inl, inr}
+use Rattle.std.specs.Prelude.{◌≡◌, ℕ, zero, suc, ◌-◌, ◌<◌, ◌≤◌, List, [], ◌∷◌, ◌++◌, length, map, drop, get_or, slice_get, Some, refl}
+use Rattle.std.proofs.Common.{sym, ◌∙◌, ap, subst, arith, inl, inr}
 use Rattle.std.proofs.lemmas.List.{length-map}
 use Rattle.mm_lex.specs.Alphabet.{Name}
 use Rattle.mm_read.specs.declared.stmt.Stmt.{Stmt}
@@ -28,16 +28,14 @@ use Rattle.verify.proofs.CitingLemmas.{read-over}
 use Rattle.verify.proofs.Decide.{some_same, append_cut, length-premises, not_both}
 use Rattle.verify.proofs.ImageLemmas.{apply-below}
 use Rattle.verify.proofs.Named.{map-append, halves, length-top}
-use Rattle.verify.proofs.PlaceLemmas.{map-snoc, map-drop}
-use Rattle.verify.proofs.PlanLemmas.{below-take, below-snoc}
-use Rattle.verify.proofs.TableLemmas.{get-last}
+use Rattle.verify.proofs.PlaceLemmas.{map-drop}
+use Rattle.verify.proofs.PlanLemmas.{below-take}
 use Rattle.steps.specs.StepTable.{Step, IsPlaced, stands, comes_last, of_hypothesis as makes_hypothesis, of_assertion as makes_assertion, Notes}
-use Rattle.steps.specs.Rows.{Row, no_row, steps_of, expr_in, Follows, from_hypothesis, from_assertion, AreRows}
+use Rattle.steps.specs.Rows.{Row, no_row, expr_in, Follows, from_hypothesis, from_assertion, AreRows}
 use Rattle.steps.specs.StepTable as table
-use Rattle.steps.specs.Drafted as drafted
-use Rattle.steps.specs.Drafted.{row_of, rows_of, codes_in, key_of, progress_of, IsDraft, IsTied, Finds, GivesHypothesis, GivesAssertion}
+use Rattle.steps.specs.Drafted.{row_of, rows_of, codes_in, progress_of, IsDraft, IsTied, GivesHypothesis, GivesAssertion}
 use Rattle.steps.specs.declared.draft.Draft.{Draft}
-use Rattle.steps.proofs.RowLemmas.{rows-more, buffer-snoc, row-at, some-get, some-low, exprs-front, rows-snoc, known-snoc, weaken}
+use Rattle.steps.proofs.RowLemmas.{some-get}
 use Rattle.steps.proofs.PlacingLemmas.{found-draft, found-placed, found-tied, made-draft, made-placed, made-tied}
 
 top-map : {A B : Type 0} (f : A → B) (n : ℕ) (xs : List A) → top n (map f xs) ≡ map f (top n xs)

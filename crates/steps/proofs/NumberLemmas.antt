@@ -6,11 +6,10 @@ use Rattle.std.specs.List.Sorted.{IsStrictlyIncreasing}
 use Rattle.mm_read.specs.Statements.{Database}
 use Rattle.verify.proofs.AskedLemmas.{get-some}
 use Rattle.verify.proofs.PlaceLemmas.{map-snoc}
-use Rattle.steps.specs.StepTable.{Step}
 use Rattle.steps.specs.Rows.{Row, no_row, steps_of}
-use Rattle.steps.specs.Essential.{essential_of, IsIn, IsEssential, is_taken, IsRenumbered, AreEssential}
+use Rattle.steps.specs.Essential.{essential_of, IsEssential, is_taken, IsRenumbered, AreEssential}
 use Rattle.steps.specs.Marked.{HasMark, AreMarks, marked_before, number_of, AreNumbers, kept_row}
-use Rattle.steps.proofs.RowLemmas.{some-front, some-more, some-last, some-low, some-get, step-at}
+use Rattle.steps.proofs.RowLemmas.{some-front, some-more, some-last, some-get, step-at}
 use Rattle.steps.proofs.MarkLemmas.{from-or-at}
 
 either : (b : Bool) → (b ≡ true) ⊎ (b ≡ false)

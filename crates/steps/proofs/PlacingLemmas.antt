@@ -1,39 +1,18 @@
 -- A step that stood already, or that is new, in a table while it is made.
-use Rattle.std.specs.Prelude.{◌≡◌, ℕ, zero, suc, ◌-◌, ◌+◌, ◌<◌, ◌≤◌, List, [], ◌∷◌, ◌++◌, length, map, drop, get_or, slice_get, Some, refl}
-use Rattle.std.proofs.Common.{sym, ◌∙◌, ap, subst, arith, length-append, inl, inr}
+use Rattle.std.specs.Prelude.{◌≡◌, ℕ, ◌+◌, ◌<◌, ◌≤◌, List, [], ◌∷◌, ◌++◌, length, map, slice_get, Some}
+use Rattle.std.proofs.Common.{sym, ◌∙◌, ap, subst, arith, length-append}
 use Rattle.std.proofs.lemmas.List.{length-map}
 use Rattle.mm_lex.specs.Alphabet.{Name}
-use Rattle.mm_read.specs.declared.stmt.Stmt.{Stmt}
 use Rattle.mm_read.specs.Statements.{Expr, Database}
-use Rattle.scope.specs.Active.{stmt_at, before, expr_of, is_assertion}
 use Rattle.names.specs.Codes.{decode}
-use Rattle.entries.specs.declared.citation.Hypothesis.TheVariants.{Float}
-use Rattle.entries.specs.declared.citation.Cited.{Cited}
-use Rattle.frame.specs.Below.{AreBelow, AllBelow}
-use Rattle.frame.specs.Bound.{IsBound}
-use Rattle.frame.specs.Cited.{IsCited}
-use Rattle.frame.specs.FrameOf.{HasAssertion, hypotheses}
-use Rattle.frame.specs.Citations.{Carries, IsHypothesis, IsInstance, premises}
+use Rattle.frame.specs.Below.{AreBelow}
 use Rattle.frame.specs.Reading.{AreLegal}
-use Rattle.frame.specs.Substitution.{Images, CodeImages, apply as applied, code_apply}
-use Rattle.proof_code.specs.declared.item.Item.TheVariants.{Cite}
-use Rattle.subst.proofs.NumbersApartLemmas.{below-drop}
-use Rattle.verify.specs.Fits.{IsTyped, AreRead, AreDifferent}
-use Rattle.verify.specs.Goes.{AreNamed}
-use Rattle.verify.specs.Machine.{Results, State, Cites, of_hypothesis, of_assertion, Steps, with_result}
-use Rattle.verify.specs.Places.{below, top}
-use Rattle.verify.proofs.AskedLemmas.{asked-lengths, asked-different}
-use Rattle.verify.proofs.CitationLemmas.{Meets, meets-step}
-use Rattle.verify.proofs.CitingLemmas.{read-over}
-use Rattle.verify.proofs.Decide.{some_same, append_cut, length-premises, not_both}
-use Rattle.verify.proofs.ImageLemmas.{apply-below}
-use Rattle.verify.proofs.Named.{map-append, halves, length-top}
-use Rattle.verify.proofs.PlaceLemmas.{map-snoc, map-drop}
-use Rattle.verify.proofs.PlanLemmas.{below-take, below-snoc}
+use Rattle.verify.specs.Machine.{State, with_result}
+use Rattle.verify.proofs.PlaceLemmas.{map-snoc}
+use Rattle.verify.proofs.PlanLemmas.{below-snoc}
 use Rattle.verify.proofs.TableLemmas.{get-last}
-use Rattle.steps.specs.StepTable.{Step, IsPlaced, stands, comes_last, of_hypothesis as makes_hypothesis, of_assertion as makes_assertion, Notes}
-use Rattle.steps.specs.Rows.{Row, no_row, steps_of, expr_in, Follows, from_hypothesis, from_assertion, AreRows}
-use Rattle.steps.specs.StepTable as table
+use Rattle.steps.specs.StepTable.{Step, IsPlaced, stands, comes_last}
+use Rattle.steps.specs.Rows.{Row, no_row, steps_of, expr_in, Follows, AreRows}
 use Rattle.steps.specs.Drafted as drafted
 use Rattle.steps.specs.Drafted.{row_of, rows_of, codes_in, key_of, progress_of, IsDraft, IsTied, Finds, GivesHypothesis, GivesAssertion}
 use Rattle.steps.specs.declared.draft.Draft.{Draft}

@@ -1,5 +1,5 @@
 -- What a step takes for a `$e`, by its assertion's hypotheses.
-use Rattle.std.specs.Prelude.{◌≡◌, ℕ, zero, suc, ◌+◌, ◌<◌, Bool, true, false, if◌then◌else◌, List, [], ◌∷◌, ◌++◌, length, map, drop, get_or, slice_get, Some, refl}
+use Rattle.std.specs.Prelude.{◌≡◌, ℕ, zero, suc, ◌+◌, ◌<◌, Bool, true, false, if◌then◌else◌, List, [], ◌∷◌, ◌++◌, length, drop, get_or, Some, refl}
 use Rattle.std.proofs.Common.{sym, ◌∙◌, ap, subst, arith, append_assoc}
 use Rattle.std.proofs.lemmas.List.{length-map}
 use Rattle.mm_lex.specs.Alphabet.{Name}
@@ -10,12 +10,11 @@ use Rattle.scope.specs.Active.{stmt_at, before, is_assertion}
 use Rattle.entries.specs.declared.citation.Hypothesis.{Hypothesis}
 use Rattle.entries.specs.declared.citation.Hypothesis.TheVariants.{Float, Essential}
 use Rattle.frame.specs.Below.{AreBelow}
-use Rattle.frame.specs.Cited.{IsOf, IsAsked, AreAsked}
+use Rattle.frame.specs.Cited.{IsOf, AreAsked}
 use Rattle.frame.specs.FrameOf.{HasAssertion, hypotheses}
 use Rattle.frame.specs.Citations.{IsHypothesis}
 use Rattle.verify.proofs.AskedLemmas.{get-some, asked-lengths}
 use Rattle.verify.proofs.Decide.{some_same, length-premises, not_both}
-use Rattle.steps.specs.StepTable.{Step}
 use Rattle.steps.specs.Rows.{Row, no_row, expr_in, Follows, from_hypothesis, from_assertion, AreRows}
 use Rattle.steps.specs.Essential.{is_premise, for_premises, mandatory, essential_of}
 use Rattle.steps.specs.Marked.{taken_by}

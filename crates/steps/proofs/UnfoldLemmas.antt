@@ -1,18 +1,18 @@
 -- The steps of items last_unfolded to the derivation that the items spell.
-use Rattle.std.specs.Prelude.{◌≡◌, ℕ, zero, suc, ◌+◌, ◌-◌, ◌<◌, ◌≤◌, Bool, true, false, if◌then◌else◌, List, [], ◌∷◌, ◌++◌, length, map, get_or, slice_get, Some, refl}
+use Rattle.std.specs.Prelude.{◌≡◌, ℕ, zero, suc, ◌+◌, ◌-◌, ◌<◌, Bool, true, false, if◌then◌else◌, List, [], ◌∷◌, ◌++◌, length, map, slice_get, Some, refl}
 use Rattle.std.proofs.Common.{sym, ◌∙◌, ap, subst, arith, length-append}
 use Rattle.std.proofs.lemmas.List.{length-map}
 use Rattle.mm_lex.specs.Alphabet.{Name}
 use Rattle.mm_read.specs.declared.stmt.Stmt.{Stmt}
 use Rattle.mm_read.specs.Statements.{Database}
-use Rattle.scope.specs.Active.{stmt_at, before, is_assertion}
+use Rattle.scope.specs.Active.{stmt_at, is_assertion}
 use Rattle.frame.specs.Below.{AreBelow}
 use Rattle.frame.specs.Citations.{IsHypothesis}
 use Rattle.frame.specs.Reading.{HasLabelsOnce}
 use Rattle.proof_code.specs.declared.item.Item.{Item}
 use Rattle.proof_code.specs.declared.item.Item.TheVariants.{Cite, Recall, Mark}
 use Rattle.verify.specs.Derivations.{Derivation, hyp, apply, from_list}
-use Rattle.verify.specs.Growth.{Trees, trees, Builds, a_hypothesis, an_assertion, Grows, GrowsBy}
+use Rattle.verify.specs.Growth.{Trees, trees, a_hypothesis, an_assertion, Grows, GrowsBy}
 use Rattle.verify.specs.Plan.{pick}
 use Rattle.verify.specs.Right.{IsRight, Derives}
 use Rattle.verify.proofs.Decide.{not_both}
@@ -23,8 +23,7 @@ use Rattle.verify.proofs.PlanLemmas.{map-pick}
 use Rattle.verify.proofs.TableLemmas.{get-front, get-last}
 use Rattle.steps.specs.StepTable.{Step, Progress, progress, IsPlaced, stands, comes_last, Makes, of_hypothesis, of_assertion, Notes, NotesAll, AreSteps}
 use Rattle.steps.specs.Unfolded.{has_assertion, citation_over, unfolded_behind, unfolded, last_unfolded}
-use Rattle.steps.proofs.RowLemmas.{some-low}
-use Rattle.steps.proofs.SoundLemmas.{IsSound, note-sound, nothing-sound, below-split, below-some}
+use Rattle.steps.proofs.SoundLemmas.{IsSound, note-sound, nothing-sound, below-split}
 
 module _ (S : Database) where
   -- ---- a list of steps, one by one
@@ -131,8 +130,8 @@ module _ (S : Database) where
         by : Makes S at label p.stack below step → Grows S at (seen p) (Cite label) (seen q)
         by (of_hypothesis s carries active none whole) =
             let over : citation_over S (unfolded S p.steps) step ≡ hyp step.position =
-                ap (λ o. if has_assertion o then apply step.position (from_list (map (pick (unfolded S p.steps)) step.taken)) else hyp step.position) active.stands
-                ∙ ap (λ b. if b then apply step.position (from_list (map (pick (unfolded S p.steps)) step.taken)) else hyp step.position) (other s active (is_assertion s) refl) in (
+            ap (λ o. if has_assertion o then apply step.position (from_list (map (pick (unfolded S p.steps)) step.taken)) else hyp step.position) active.stands
+            ∙ ap (λ b. if b then apply step.position (from_list (map (pick (unfolded S p.steps)) step.taken)) else hyp step.position) (other s active (is_assertion s) refl) in (
               map (pick (unfolded S p.steps)) below,
               citation_over S (unfolded S p.steps) step,
               a_hypothesis step.position s carries active over (ap (map (pick (unfolded S p.steps))) whole),
@@ -140,8 +139,8 @@ module _ (S : Database) where
             )
         by (of_assertion s carries citable many whole) =
             let over : citation_over S (unfolded S p.steps) step ≡ apply step.position (from_list (map (pick (unfolded S p.steps)) step.taken)) =
-                ap (λ o. if has_assertion o then apply step.position (from_list (map (pick (unfolded S p.steps)) step.taken)) else hyp step.position) carries.stands
-                ∙ ap (λ b. if b then apply step.position (from_list (map (pick (unfolded S p.steps)) step.taken)) else hyp step.position) citable.assertion in (
+            ap (λ o. if has_assertion o then apply step.position (from_list (map (pick (unfolded S p.steps)) step.taken)) else hyp step.position) carries.stands
+            ∙ ap (λ b. if b then apply step.position (from_list (map (pick (unfolded S p.steps)) step.taken)) else hyp step.position) citable.assertion in (
               map (pick (unfolded S p.steps)) below,
               citation_over S (unfolded S p.steps) step,
               an_assertion step.position s (map (pick (unfolded S p.steps)) step.taken) carries citable (length-map step.taken (pick (unfolded S p.steps)) ∙ many) (ap (map (pick (unfolded S p.steps))) whole ∙ map-append (pick (unfolded S p.steps)) below step.taken) over,

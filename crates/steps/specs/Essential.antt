@@ -1,7 +1,7 @@
 -- The steps that a mathematician reads: the last, and those that a kept step takes for a `$e`.
 -- Metamath, 4.2.6: of the hypotheses of an assertion, a `$f` gives the type of a variable, and a `$e` is a premise.
 -- The code marks the steps from the last to the first, and lists the marked ones from the first to the last.
-use Rattle.std.specs.Prelude.{◌≡◌, ◌↔◌, ℕ, suc, Bool, true, false, if◌then◌else◌, List, [], ◌∷◌, length, map, get_or, Option, Some, None, slice_get}
+use Rattle.std.specs.Prelude.{◌≡◌, ◌↔◌, ℕ, suc, Bool, false, if◌then◌else◌, List, [], ◌∷◌, length, map, get_or, Option, Some, None, slice_get}
 use Rattle.std.specs.List.Sorted.{IsStrictlyIncreasing}
 use Rattle.mm_read.specs.declared.stmt.Stmt.{Stmt}
 use Rattle.mm_read.specs.Statements.{Database}

@@ -1,7 +1,7 @@
 -- The derivation that a table of steps unfolds to: each step over the derivations of the steps that it takes.
 -- Metamath, 4.2.6: a proof is a tree of citations; a table has each of its parts once.
 -- The code never unfolds a table, since a tree may be as large as two to the number of its steps.
-use Rattle.std.specs.Prelude.{ℕ, Bool, false, if◌then◌else◌, List, [], ◌∷◌, ◌++◌, length, map, Option, Some, None, ◌-◌}
+use Rattle.std.specs.Prelude.{Bool, false, if◌then◌else◌, List, [], ◌∷◌, ◌++◌, length, map, Option, Some, None, ◌-◌}
 use Rattle.mm_read.specs.declared.stmt.Stmt.{Stmt}
 use Rattle.mm_read.specs.Statements.{Database}
 use Rattle.scope.specs.Active.{stmt_at, is_assertion}

@@ -115,15 +115,7 @@ fn marks_of(
     let mut gathered = Gathered::new(alloc);
     let mut marks = last_marked(alloc, count)?;
     for place in (0..count).rev() {
-        mark_step(
-            alloc,
-            frames,
-            at,
-            table,
-            place,
-            &mut gathered,
-            &mut marks,
-        )?;
+        mark_step(alloc, frames, at, table, place, &mut gathered, &mut marks)?;
     }
     Ok(marks)
 }

@@ -42,10 +42,10 @@ loop-place-preserved c =
             let ks = essential_of S (get_or rows place no_row).step in
             let premises : w.deref.result.now ≡ ks = w.deref.ensures.value ∙ w.in_ok-premises.ensures in
             let taken : w.in_ok-taken.taken.items ≡ map (number_of marks) ks =
-                w.in_ok-taken.ensures
-                ∙ (ap (λ v. map (λ k. get_or v k 0) w.deref.result.now) w.deref-then-index.ensures.value
-                ∙ (ap (map (λ k. get_or c.push.new.self.items k 0)) premises
-                ∙ numbers-are marks (place + 1) c.push.new.self.items ks numbers (λ i x e. (let b = below-some place ks i x low e in omega (arith, b))))) in
+            w.in_ok-taken.ensures
+            ∙ (ap (λ v. map (λ k. get_or v k 0) w.deref.result.now) w.deref-then-index.ensures.value
+            ∙ (ap (map (λ k. get_or c.push.new.self.items k 0)) premises
+            ∙ numbers-are marks (place + 1) c.push.new.self.items ks numbers (λ i x e. (let b = below-some place ks i x low e in omega (arith, b))))) in
             kept-more marks f place c.loop-place.kept c.if-index.kept (get-default marks place false true (omega (arith, within, count, steps)) ∙ sym (subst (λ b. b ≡ get_or marks place b) w.if-index.true c.index.ensures)) is (w.kept-is ∙ (w.in_ok-push-2.ensures ∙ ap (λ r. c.loop-place.kept ++ r ∷ []) (row-same _ _ _ _ _ _ w.position.ensures taken w.expr.ensures)))
         | else-index w ↦ subst (λ r. r ≡ map f (marked_before marks (place + 1))) (sym w.kept-is) (kept-same marks f place c.loop-place.kept (sym (subst (λ b. b ≡ get_or marks place b) w.if-index.false c.index.ensures)) is)
       ],
