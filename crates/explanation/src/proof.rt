@@ -90,7 +90,14 @@ fn explain_wrong(
     let mut scope = Scope::new(alloc);
     let mut frames = Frames::new(alloc);
     let mut mandatory = Words::new(alloc);
-    match enter(alloc, &mut scope, &mut frames, &mut mandatory, statements, at) {
+    match enter(
+        alloc,
+        &mut scope,
+        &mut frames,
+        &mut mandatory,
+        statements,
+        at,
+    ) {
         Ok(true) => explain_theorem(alloc, page, &frames, &mandatory, &theorem),
         Ok(false) => Ok(()),
         Err(error) => Err(error),
@@ -161,7 +168,13 @@ fn explain_reason(
             explain_step(alloc, page, frames, theorem, items, *item, fault)
         }
         Reason::Results { count } => explain_results(alloc, page, theorem, *count),
-        Reason::Theorem { proved } => explain_other(alloc, page, frames, theorem, proved.as_slice()),
+        Reason::Theorem { proved } => explain_other(
+            alloc,
+            page,
+            frames,
+            theorem,
+            proved.as_slice(),
+        ),
     }
 }
 

@@ -23,7 +23,9 @@ pub(crate) fn push_fault(
         Fault::Later { .. } => push_later(page, theorem),
         Fault::Few { takes, there, .. } => push_few(page, *takes, *there),
         Fault::Constant {
-            hypothesis, result, ..
+            hypothesis,
+            result,
+            ..
         } => push_constant(page, theorem, frames, *hypothesis, result.as_slice()),
         Fault::Expression {
             hypothesis,
