@@ -17,6 +17,7 @@ use std::io::Write;
 use steps::ProofTable;
 
 /// What a page tells of a theorem.
+#[derive(Drop)]
 pub struct Theorem<'a> {
     /// The statements that the frames are of.
     pub statements: &'a [Stmt],
