@@ -42,7 +42,15 @@ pub fn start_nodes<R: Threads + Wait + Copy + Send + Sync + Drop + 'static>(
     };
     let weathers = vec![in alloc; Clear; usize::from(count)]?;
     let keeps = keeps(alloc, count)?;
-    start(rt, alloc, weights, Workers::of(workers.count), gate, weathers, keeps)
+    start(
+        rt,
+        alloc,
+        weights,
+        Workers::of(workers.count),
+        gate,
+        weathers,
+        keeps,
+    )
 }
 
 /// So many keeps of new nodes.
