@@ -58,10 +58,16 @@ fn with_questions<'a>(alloc: Global, program: Command<'a>) -> Result<Command<'a>
         )
         .arg(label_argument(alloc))?
         .arg(all_option(alloc))?;
+    let extract = Command::new(alloc, "extract")
+        .about(
+            "Print some assertions of the database on standard input, with all that they need: mmlib extract id < set.mm",
+        )
+        .arg(labels_argument(alloc))?;
     program
         .subcommand(tree)?
         .subcommand(trace)?
-        .subcommand(usage)
+        .subcommand(usage)?
+        .subcommand(extract)
 }
 
 /// The commands that run a script.
@@ -83,6 +89,15 @@ fn label_argument<'a>(alloc: Global) -> Arg<'a> {
         .value_name("LABEL")
         .required(true)
         .help("A label of the database; one that begins with - stands after --")
+}
+
+fn labels_argument<'a>(alloc: Global) -> Arg<'a> {
+    Arg::new(alloc, "labels")
+        .value_name("LABEL")
+        .action(ArgAction::Append)
+        .required(true)
+        .num_args(1..)
+        .help("The labels of assertions; those that begin with - stand after --")
 }
 
 fn all_option<'a>(alloc: Global) -> Arg<'a> {

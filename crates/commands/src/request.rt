@@ -43,6 +43,8 @@ pub enum Question<'a> {
     Trace { label: &'a str },
     /// `usage`: the `$p` that use what has this label; through others too where all are asked for.
     Usage { label: &'a str, all: bool },
+    /// `extract`: a database of the assertions of these labels and of all that they need.
+    Extract { labels: Vec<&'a str> },
 }
 
 /// Why words ask for nothing.

@@ -2,6 +2,7 @@
 use crate::streams::{ReadFailure, TEXT_LIMIT, print, read_text};
 use bytes::Bytes;
 use commands::Question;
+use extract::{ExtractFault, extract};
 use library::{AskFault, Cause, Entry, Library, Submission, Verdict};
 use mm_read::Stmt;
 use outline::{outline_text, push_number};
@@ -58,6 +59,32 @@ pub fn ask<R: Threads + Sync, I: Read, O: Write>(
     }
 }
 
+/// Why a question has no answer.
+enum Unanswered {
+    /// What was asked of the library.
+    Asked(AskFault),
+    /// What was to be taken out of it.
+    Extracted(ExtractFault),
+}
+
+impl From<AskFault> for Unanswered {
+    fn from(fault: AskFault) -> Unanswered {
+        Unanswered::Asked(fault)
+    }
+}
+
+impl From<ExtractFault> for Unanswered {
+    fn from(fault: ExtractFault) -> Unanswered {
+        Unanswered::Extracted(fault)
+    }
+}
+
+impl From<AllocError> for Unanswered {
+    fn from(_error: AllocError) -> Unanswered {
+        Unanswered::Asked(AskFault::Memory)
+    }
+}
+
 /// Prints the answer about a library, or why there is none.
 fn print_answer<O: Write>(
     alloc: Global,
@@ -67,19 +94,25 @@ fn print_answer<O: Write>(
 ) -> u8 {
     match answer(alloc, question, library) {
         Ok(lines) => print(output, lines.as_slice(), 0),
-        Err(fault) => print(output, fault_line(fault), 1),
+        Err(Unanswered::Asked(fault)) => print(output, fault_line(fault), 1),
+        Err(Unanswered::Extracted(fault)) => print(output, extract_line(fault), 1),
     }
 }
 
 /// The lines of the answer about a library.
-fn answer(alloc: Global, question: Question<'_>, library: &Library) -> Result<Vec<u8>, AskFault> {
+fn answer(
+    alloc: Global,
+    question: Question<'_>,
+    library: &Library,
+) -> Result<Vec<u8>, Unanswered> {
     match question {
         Question::Check => Ok(proved(alloc, library.statements())?),
         Question::List => Ok(list(alloc, library)?),
         Question::Export => Ok(library.export()?),
-        Question::Tree { label } => tree(alloc, library, label),
-        Question::Trace { label } => trace(alloc, library, label),
-        Question::Usage { label, all } => usage(alloc, library, label, all),
+        Question::Tree { label } => Ok(tree(alloc, library, label)?),
+        Question::Trace { label } => Ok(trace(alloc, library, label)?),
+        Question::Usage { label, all } => Ok(usage(alloc, library, label, all)?),
+        Question::Extract { labels } => Ok(extract(alloc, library, labels.as_slice())?),
     }
 }
 
@@ -167,5 +200,15 @@ fn fault_line(fault: AskFault) -> &'static [u8] {
         AskFault::NotProvable => b"refused NotProvable\n",
         AskFault::TooLarge => b"refused TooLarge\n",
         AskFault::Memory => b"refused Memory\n",
+    }
+}
+
+/// The line of labels that name nothing to take out.
+fn extract_line(fault: ExtractFault) -> &'static [u8] {
+    match fault {
+        ExtractFault::NoLabel => b"refused NoLabel\n",
+        ExtractFault::NotAssertion => b"refused NotAssertion\n",
+        ExtractFault::SameLabel => b"refused SameLabel\n",
+        ExtractFault::Memory => b"refused Memory\n",
     }
 }
