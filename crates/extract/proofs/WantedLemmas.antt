@@ -1,7 +1,7 @@
 -- Labels of which nothing is wrong, and the first of which something is.
-use Rattle.std.specs.Prelude.{◌≡◌, ◌⊎◌, ℕ, ◌+◌, zero, suc, ◌<◌, ◌≤◌, true, false, List, [], ◌∷◌, ◌++◌, length, map, take, drop, get_or, Option, Some, None, refl}
+use Rattle.std.specs.Prelude.{◌≡◌, ◌⊎◌, ℕ, ◌+◌, zero, suc, ◌<◌, ◌≤◌, true, false, List, [], ◌∷◌, ◌++◌, length, map, take, drop, get_or, Some, refl}
 use Rattle.std.proofs.Common.{sym, ◌∙◌, ap, subst, arith, inl, inr, append_assoc, append-nil, take_all}
-use Rattle.std.proofs.lemmas.List.{take_more, drop_more, drop_all, take-append-drop}
+use Rattle.std.proofs.lemmas.List.{take_more, drop_more, drop_all, take-map, take-append-drop}
 use Rattle.mm_lex.specs.Alphabet.{Name}
 use Rattle.mm_read.specs.declared.stmt.Stmt.{Stmt}
 use Rattle.mm_read.specs.Statements.{Database}
@@ -11,7 +11,7 @@ use Rattle.frame.specs.Reading.{HasLabelsOnce}
 use Rattle.library.proofs.AskedLemmas.{one-place}
 use Rattle.extract.specs.declared.fault.ExtractFault.{ExtractFault}
 use Rattle.extract.specs.declared.fault.ExtractFault.TheVariants.{NoLabel, NotAssertion, SameLabel, Memory}
-use Rattle.extract.specs.Wanted.{NamesAssertion, NamesHypothesis, IsWrong, IsRight, IsJudged, AreRight, IsFirstWrong}
+use Rattle.extract.specs.Wanted.{NamesAssertion, NamesHypothesis, IsWrong, IsRight, AreRight, IsFirstWrong}
 
 -- ---- a label of the list
 
@@ -22,6 +22,10 @@ map-at f (x ∷ xs) (suc n) a b less = map-at f xs n a b (omega (arith, less))
 
 pub label-at : {A : Type 0} (f : A → Name) (xs : List A) (n : ℕ) (x : A) (label : Name) → n < length xs → x ≡ get_or xs n x → label ≡ f x → label ≡ get_or (map f xs) n label
 label-at f xs n x label less is e = e ∙ (ap f is ∙ map-at f xs n x label less)
+
+length-map : {A B : Type 0} (f : A → B) (xs : List A) → length (map f xs) ≡ length xs
+length-map f [] = refl
+length-map f (x ∷ xs) = ap suc (length-map f xs)
 
 -- ---- one label more
 
@@ -108,23 +112,23 @@ module _ (S F : Database) (same : F ≡ bares S) (once : HasLabelsOnce F) where
       by (inl v) = wrong-one (take n labels) label g f w v
       by (inr q) = absurd (right-wrong (take n labels) label g q.0 w)
 
-  pub judged-right : (labels earlier : List Name) (n : ℕ) (label : Name) (r : Option ExtractFault) → n < length labels → label ≡ get_or labels n label → earlier ≡ take n labels
-      → IsPassed S labels n → IsJudged S earlier label r → r ≡ None → IsPassed S labels (n + 1)
-  judged-right labels earlier n label r less is front p j e =
-      passed-more labels n label less is p (subst (λ es. IsRight S es label) front (subst (IsJudged S earlier label) e j))
+  -- the same of labels that are seen as names
 
-  judged-fault : (labels earlier : List Name) (n : ℕ) (label : Name) (r : Option ExtractFault) (g : ExtractFault) → earlier ≡ take n labels → IsJudged S earlier label r → r ≡ Some g → IsWrong S (take n labels) label g
-  judged-fault labels earlier n label r g front j e = subst (λ es. IsWrong S es label g) front (subst (IsJudged S earlier label) e j)
+  module _ {A : Type 0} (f : A → Name) (xs : List A) (n : ℕ) (x : A) (label : Name) (less : n < length xs) (is : x ≡ get_or xs n x) (e : label ≡ f x) (p : IsPassed S (map f xs) n) where
+    inside : n < length (map f xs)
+    inside = subst (λ m. n < m) (sym (length-map f xs)) less
 
-  pub judged-wrong : (labels earlier : List Name) (n : ℕ) (label : Name) (r : Option ExtractFault) (g : ExtractFault) → n < length labels → label ≡ get_or labels n label → earlier ≡ take n labels
-      → IsPassed S labels n → IsJudged S earlier label r → r ≡ Some g → (f : ExtractFault) → Some g ≡ Some f → IsFirstWrong S [] labels f
-  judged-wrong labels earlier n label r g less is front p j e f same =
-      subst (IsFirstWrong S [] labels) (let told : g ≡ f = (let q = same in cc) in told) (passed-wrong labels n label g less is p (judged-fault labels earlier n label r g front j e))
+    front : map f (take n xs) ≡ take n (map f xs)
+    front = sym (take-map f n xs)
 
-  pub judged-only : (labels earlier : List Name) (n : ℕ) (label : Name) (r : Option ExtractFault) (g : ExtractFault) → n < length labels → label ≡ get_or labels n label → earlier ≡ take n labels
-      → IsPassed S labels n → IsJudged S earlier label r → r ≡ Some g → (f : ExtractFault) → IsFirstWrong S [] labels f → Some g ≡ Some f
-  judged-only labels earlier n label r g less is front p j e f first =
-      ap Some (passed-only labels n label g f less is p (judged-fault labels earlier n label r g front j e) first)
+    pub label-right : IsRight S (map f (take n xs)) label → IsPassed S (map f xs) (n + 1)
+    label-right r = passed-more (map f xs) n label inside (label-at f xs n x label less is e) p (subst (λ es. IsRight S es label) front r)
+
+    pub label-wrong : (g : ExtractFault) → IsWrong S (map f (take n xs)) label g → IsFirstWrong S [] (map f xs) g
+    label-wrong g w = passed-wrong (map f xs) n label g inside (label-at f xs n x label less is e) p (subst (λ es. IsWrong S es label g) front w)
+
+    pub label-only : (g h : ExtractFault) → IsWrong S (map f (take n xs)) label g → IsFirstWrong S [] (map f xs) h → g ≡ h
+    label-only g h w first = passed-only (map f xs) n label g h inside (label-at f xs n x label less is e) p (subst (λ es. IsWrong S es label g) front w) first
 
   pub passed-all : (labels : List Name) (n : ℕ) → length labels ≤ n → IsPassed S labels n → AreRight S [] labels
   passed-all labels n over p = subst (AreRight S []) (take_all n labels over) p.right
