@@ -52,22 +52,43 @@ fn with_questions<'a>(alloc: Global, program: Command<'a>) -> Result<Command<'a>
             "Print the axioms that a $p of the database on standard input rests on: mmlib trace id < set.mm",
         )
         .arg(label_argument(alloc))?;
-    let usage = Command::new(alloc, "usage")
-        .about(
-            "Print who cites a statement of the database on standard input: mmlib usage id < set.mm",
-        )
-        .arg(label_argument(alloc))?
-        .arg(all_option(alloc))?;
-    let extract = Command::new(alloc, "extract")
-        .about(
-            "Print some assertions of the database on standard input, with all that they need: mmlib extract id < set.mm",
-        )
-        .arg(labels_argument(alloc))?;
+    let usage = usage_command(alloc)?;
+    let proof = proof_command(alloc)?;
+    let extract = extract_command(alloc)?;
     program
         .subcommand(tree)?
         .subcommand(trace)?
         .subcommand(usage)?
+        .subcommand(proof)?
         .subcommand(extract)
+}
+
+fn usage_command<'a>(alloc: Global) -> Result<Command<'a>, AllocError> {
+    Command::new(alloc, "usage")
+        .about(
+            "Print who cites a statement of the database on standard input: mmlib usage id < set.mm",
+        )
+        .arg(label_argument(alloc))?
+        .arg(all_option(alloc))
+}
+
+fn proof_command<'a>(alloc: Global) -> Result<Command<'a>, AllocError> {
+    Command::new(alloc, "proof")
+        .about(
+            "Print the steps of the proof of a $p of the database on standard input: mmlib proof id --essential < set.mm",
+        )
+        .arg(label_argument(alloc))?
+        .arg(essential_option(alloc))?
+        .arg(dot_option(alloc).conflicts_with("html")?)?
+        .arg(html_option(alloc))
+}
+
+fn extract_command<'a>(alloc: Global) -> Result<Command<'a>, AllocError> {
+    Command::new(alloc, "extract")
+        .about(
+            "Print some assertions of the database on standard input, with all that they need: mmlib extract id < set.mm",
+        )
+        .arg(labels_argument(alloc))
 }
 
 /// The commands that run a script.
@@ -105,6 +126,27 @@ fn all_option<'a>(alloc: Global) -> Arg<'a> {
         .long("all")
         .action(ArgAction::SetTrue)
         .help("Those too that use it through others")
+}
+
+fn essential_option<'a>(alloc: Global) -> Arg<'a> {
+    Arg::new(alloc, "essential")
+        .long("essential")
+        .action(ArgAction::SetTrue)
+        .help("The last step, and those alone that are taken for an $e")
+}
+
+fn dot_option<'a>(alloc: Global) -> Arg<'a> {
+    Arg::new(alloc, "dot")
+        .long("dot")
+        .action(ArgAction::SetTrue)
+        .help("A picture of the steps, for Graphviz")
+}
+
+fn html_option<'a>(alloc: Global) -> Arg<'a> {
+    Arg::new(alloc, "html")
+        .long("html")
+        .action(ArgAction::SetTrue)
+        .help("A page that stands alone")
 }
 
 fn nodes_option<'a>(alloc: Global) -> Arg<'a> {

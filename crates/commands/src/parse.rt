@@ -2,7 +2,7 @@
 ghost use Rattle.std.specs.Prelude.{◌≤◌, IfSome};
 
 use crate::grammar::commands;
-use crate::request::{Question, Request, WordsFault};
+use crate::request::{ProofForm, Question, Request, WordsFault};
 use crate::weights::parse_weights;
 use crate::worker_count::WorkerCount;
 use clap::error::ErrorKind;
@@ -97,6 +97,11 @@ fn question<'a>(
         "trace" => Ok(Question::Trace {
             label: label(alloc, options)?,
         }),
+        "proof" => Ok(Question::Proof {
+            label: label(alloc, options)?,
+            essential: options.get_flag("essential"),
+            form: proof_form(options),
+        }),
         "usage" => Ok(Question::Usage {
             label: label(alloc, options)?,
             all: options.get_flag("all"),
@@ -126,6 +131,17 @@ fn labels<'a>(alloc: Global, options: &ArgMatches<'a>) -> Result<Vec<&'a str>, E
 
 fn no_label(alloc: Global) -> Result<Error, AllocError> {
     commands(alloc)?.error(ErrorKind::MissingRequiredArgument, "a label is wanted")
+}
+
+/// The form that is asked for.
+fn proof_form(options: &ArgMatches) -> ProofForm {
+    if options.get_flag("dot") {
+        ProofForm::Picture
+    } else if options.get_flag("html") {
+        ProofForm::Page
+    } else {
+        ProofForm::Steps
+    }
 }
 
 /// The weights that the options give.

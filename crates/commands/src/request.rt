@@ -38,13 +38,39 @@ pub enum Question<'a> {
     /// `export`: its statements, in the export form.
     Export,
     /// `tree`: the derivation of the `$p` of this label.
-    Tree { label: &'a str },
+    Tree {
+        label: &'a str,
+    },
     /// `trace`: the `$a` that the proof of the `$p` of this label uses.
-    Trace { label: &'a str },
+    Trace {
+        label: &'a str,
+    },
+    /// `proof`: the steps of the proof of the `$p` of this label, or the essential ones alone.
+    Proof {
+        label: &'a str,
+        essential: bool,
+        form: ProofForm,
+    },
     /// `usage`: the `$p` that use what has this label; through others too where all are asked for.
-    Usage { label: &'a str, all: bool },
+    Usage {
+        label: &'a str,
+        all: bool,
+    },
     /// `extract`: a database of the assertions of these labels and of all that they need.
-    Extract { labels: Vec<&'a str> },
+    Extract {
+        labels: Vec<&'a str>,
+    },
+}
+
+/// In which form a proof is printed.
+#[derive(Clone, Copy, Debug, PartialEq, Eq)]
+pub enum ProofForm {
+    /// A line a step.
+    Steps,
+    /// `--dot`: a picture of the steps, for Graphviz.
+    Picture,
+    /// `--html`: a page that stands alone.
+    Page,
 }
 
 /// Why words ask for nothing.

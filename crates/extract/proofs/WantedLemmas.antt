@@ -1,14 +1,17 @@
 -- Labels of which nothing is wrong, and the first of which something is.
-use Rattle.std.specs.Prelude.{◌≡◌, ◌⊎◌, ℕ, ◌+◌, zero, suc, ◌<◌, ◌≤◌, true, false, List, [], ◌∷◌, ◌++◌, length, map, take, drop, get_or, Some, refl}
+use Rattle.std.specs.Prelude.{◌≡◌, ◌⊎◌, ℕ, ◌+◌, zero, suc, ◌<◌, ◌≤◌, true, false, List, [], ◌∷◌, ◌++◌, length, map, take, drop, get_or, option_map, Some, refl}
 use Rattle.std.proofs.Common.{sym, ◌∙◌, ap, subst, arith, inl, inr, append_assoc, append-nil, take_all}
 use Rattle.std.proofs.lemmas.List.{take_more, drop_more, drop_all, take-map, take-append-drop}
 use Rattle.mm_lex.specs.Alphabet.{Name}
 use Rattle.mm_read.specs.declared.stmt.Stmt.{Stmt}
+use Rattle.mm_read.specs.declared.stmt.Stmt.TheVariants.{Open, Close, Const, Var, Disj, Float, Ess, Axiom, Prove}
 use Rattle.mm_read.specs.Statements.{Database}
-use Rattle.scope.specs.Active.{bares, stmt_at, is_assertion}
+use Rattle.scope.specs.Active.{bare, bares, stmt_at, is_assertion}
 use Rattle.frame.specs.Citations.{Carries}
+use Rattle.frame.specs.FrameOf.{HasAssertion}
 use Rattle.frame.specs.Reading.{HasLabelsOnce}
 use Rattle.library.proofs.AskedLemmas.{one-place}
+use Rattle.library.proofs.FrontLemmas.{stmt_at-bares}
 use Rattle.extract.specs.declared.fault.ExtractFault.{ExtractFault}
 use Rattle.extract.specs.declared.fault.ExtractFault.TheVariants.{NoLabel, NotAssertion, SameLabel, Memory}
 use Rattle.extract.specs.Wanted.{NamesAssertion, NamesHypothesis, IsWrong, IsRight, AreRight, IsFirstWrong}
@@ -135,3 +138,20 @@ module _ (S F : Database) (same : F ≡ bares S) (once : HasLabelsOnce F) where
 
   pub passed-end : (labels : List Name) (n : ℕ) (f : ExtractFault) → length labels ≤ n → IsPassed S labels n → IsFirstWrong S [] labels f → ⊥
   passed-end labels n f over p first = subst (λ ls. IsFirstWrong S (take n labels) ls f) (drop_all n labels over) (p.rest f first)
+
+-- ---- an assertion that stands at a position
+
+bare-kind : (s : Stmt) → is_assertion s ≡ true → is_assertion (bare s) ≡ true
+bare-kind (Axiom label expr) h = refl
+bare-kind (Prove label expr proof) h = refl
+bare-kind Open h = h
+bare-kind Close h = h
+bare-kind (Const names) h = h
+bare-kind (Var names) h = h
+bare-kind (Disj names) h = h
+bare-kind (Float label constant variable) h = h
+bare-kind (Ess label expr) h = h
+
+pub has-assertion : (S F : Database) (at : ℕ) (s : Stmt) → F ≡ bares S → Some s ≡ stmt_at S at → is_assertion s ≡ true → (r : Stmt) × HasAssertion F at r
+has-assertion S F at s same found kind =
+    (bare s, (ap (λ U. stmt_at U at) same ∙ (stmt_at-bares S at ∙ ap (option_map bare) (sym found)), bare-kind s kind))

@@ -1,4 +1,7 @@
 //! Which statements are taken out.
+ghost use Rattle.std.specs.Prelude.{◌≡◌, option_map};
+ghost use Rattle.scope.specs.Active.{stmt_at};
+
 use crate::cited::{is_marked, mark, named};
 use crate::wanted::is_assertion;
 use library::Library;
@@ -234,7 +237,9 @@ impl<'a> Choice<'a> {
 }
 
 /// The statement at a position, counted from 1.
-fn statement_at(statements: &[Stmt], position: usize) -> Option<&Stmt> {
+fn statement_at(statements: &[Stmt], position: usize) -> Option<&Stmt>
+    ensures { option_map (λ s. s.now) result ≡ stmt_at statements.now position }
+{
     if position == 0 {
         return None;
     }

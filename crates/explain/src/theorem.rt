@@ -1,0 +1,116 @@
+//! The reason why a `$p` is not proved.
+ghost use Rattle.std.specs.Prelude.{◌≡◌, ◌⊎◌, List, Ok, Err, IfOk, IfSome, IsTrue, MatchOption};
+ghost use Rattle.std.specs.List.{list_all};
+ghost use Rattle.mm_lex.specs.Alphabet.{is_visible};
+ghost use Rattle.mm_lex.specs.Words.{is_word};
+ghost use Rattle.mm_read.specs.declared.stmt.Stmt.{Stmt as Statement};
+ghost use Rattle.proof_code.specs.Writes.{Writes};
+ghost use Rattle.proof_code.specs.declared.item.Item.{Item};
+ghost use Rattle.verify.specs.Proves.{Proves, mandatory_labels};
+ghost use Rattle.verify.specs.Right.{IsProvable};
+ghost use Rattle.explain.specs.Why.{IsWhy};
+
+use crate::why::WhyUnproved;
+use frame::Frames;
+use mm_lex::Words;
+use proof_code::{CodeFault, Items, is_compressed, normal, packed};
+use reasons::first_fault;
+use std::alloc::{AllocError, Global};
+use verify::{Answer, Checker};
+
+/// Why the tokens do not prove the `$p` at a position, or none where they do.
+///
+/// It runs after a refusal. Cost: that of judging the proof twice, with whole expressions.
+pub fn explain(
+    alloc: Global,
+    frames: &Frames,
+    at: usize,
+    tokens: &Words,
+) -> Result<Option<WhyUnproved>, AllocError>
+    requires { (s : Statement) × IsProvable frames.now.statements at s }
+    ensures proved { IfOk result (λ why. MatchOption why (Proves frames.now.statements at tokens.now) (λ _. ¬ Proves frames.now.statements at tokens.now)) }
+    ensures first { IfOk result (λ why. IfSome why (IsWhy frames.now.statements frames.now.names at tokens.now)) }
+{
+    match Checker::new(alloc).prove(frames, at, tokens)? {
+        Answer::Proved => Ok(None),
+        Answer::Wrong => Ok(Some(explain_wrong(alloc, frames, at, tokens)?)),
+    }
+}
+
+/// Why they do not.
+fn explain_wrong(
+    alloc: Global,
+    frames: &Frames,
+    at: usize,
+    tokens: &Words,
+) -> Result<WhyUnproved, AllocError>
+    requires provable { (s : Statement) × IsProvable frames.now.statements at s }
+    requires wrong { ¬ Proves frames.now.statements at tokens.now }
+    ensures { IfOk result (IsWhy frames.now.statements frames.now.names at tokens.now) }
+{
+    let labels = labels_of(alloc, frames, at)?;
+    let Some(items) = items_of(alloc, tokens, &labels)? else {
+        return Ok(WhyUnproved::Code);
+    };
+    match first_fault(alloc, frames, at, &items)? {
+        Some(reason) => Ok(WhyUnproved::Run { items, reason }),
+        None => unreachable!(),
+    }
+}
+
+/// The items that the tokens write under these mandatory labels; none where they write none.
+fn items_of(alloc: Global, tokens: &Words, mandatory: &Words) -> Result<Option<Items>, AllocError>
+    ensures { IfOk result (λ items. MatchOption items ((other : List Item) → ¬ Writes tokens.now mandatory.now other)
+        (λ items. Writes tokens.now mandatory.now items)) }
+{
+    if is_compressed(tokens) {
+        written(packed(alloc, tokens, mandatory))
+    } else {
+        written(normal(alloc, tokens))
+    }
+}
+
+/// The items, or none where the tokens write none.
+fn written(items: Result<Items, CodeFault>) -> Result<Option<Items>, AllocError>
+    ensures { IfOk result (λ found. MatchOption found
+        ((items ≡ Err CodeFault.Unfinished) ⊎ (items ≡ Err CodeFault.Malformed)) (λ found. items ≡ Ok found)) }
+{
+    match items {
+        Ok(items) => Ok(Some(items)),
+        Err(CodeFault::Unfinished) => Ok(None),
+        Err(CodeFault::Malformed) => Ok(None),
+        Err(CodeFault::Memory) => Err(AllocError),
+    }
+}
+
+/// The labels of the mandatory hypotheses of the `$p` at a position, in order.
+///
+/// A label that is no word, which no statement that was read has, is answered as want of memory.
+fn labels_of(alloc: Global, frames: &Frames, at: usize) -> Result<Words, AllocError>
+    requires { (s : Statement) × IsProvable frames.now.statements at s }
+    ensures { IfOk result (λ labels. (s : Statement) → IsProvable frames.now.statements at s → labels ≡ mandatory_labels frames.now.statements at s) }
+{
+    let mut mandatory = Vec::new(alloc);
+    frames.mandatory(at, &mut mandatory)?;
+    let mut labels = Words::new(alloc);
+    for position in mandatory.as_slice() {
+        match frames.label(*position as usize) {
+            Some(label) if is_word(label) => labels.push(label)?,
+            _ => return Err(AllocError),
+        }
+    }
+    Ok(labels)
+}
+
+/// Whether the bytes are a word.
+fn is_word(bytes: &[u8]) -> bool
+    ensures { IsTrue result → IsTrue (is_word bytes.now) }
+{
+    !bytes.is_empty() && are_visible(bytes)
+}
+
+fn are_visible(bytes: &[u8]) -> bool
+    ensures { result ≡ list_all is_visible bytes.now }
+{
+    bytes.iter().all(|byte| byte.is_ascii_graphic())
+}

@@ -1,0 +1,202 @@
+-- From what the searches tell to a witness of each rule.
+use Rattle.std.proofs.Common.{◌≡◌, Bool, true, false, not, ◌&&◌, ◌||◌, List, [], ◌∷◌, refl, sym, ◌∙◌, ap, Option, Some, None, IsSomeAnd, MatchOption, true≢false, slice_get}
+use Rattle.std.specs.List.{list_any, list_all}
+use Rattle.mm_lex.specs.Alphabet.{Name, has_name}
+use Rattle.mm_read.specs.declared.stmt.Stmt.{Stmt}
+use Rattle.mm_read.specs.declared.stmt.Stmt.TheVariants.{Open, Close, Const, Var, Disj, Float, Ess, Axiom, Prove}
+use Rattle.mm_read.specs.Statements.{Database, Expr}
+use Rattle.scope.specs.declared.rule.Rule.TheVariants.{G2, G3, G4, G5, G8, G9}
+use Rattle.scope.specs.Active.{constants, variables, label_of, has_label, expr_of, is_constant, is_variable, has_float, was_symbol, was_label}
+use Rattle.scope.specs.Legal.{keeps, all_different, is_fresh_label, are_typed}
+use Rattle.offence.specs.declared.witness.Witness.{Witness}
+use Rattle.offence.specs.declared.witness.Witness.TheVariants.{Statement, Symbol, Twice, Earlier, Label}
+use Rattle.offence.specs.declared.search.Part.TheVariants as part
+use Rattle.offence.specs.declared.symbols.Test.TheVariants as test
+use Rattle.offence.specs.Search.{meets, fails}
+use Rattle.offence.specs.Offends.{Offends, IsRepeated, IsSymbolOf, IsLabelOf, typed_expr}
+
+-- ---- lists and tests
+
+none_all : {A : Type 0} (t p : A → Bool) → ((x : A) → p x ≡ not (t x)) → (xs : List A) → list_any t xs ≡ false → list_all p xs ≡ true
+none_all t p same [] h = refl
+none_all t p same (x ∷ xs) h = by (t x) refl (list_any t xs) refl (none_all t p same xs)
+  where
+    by : (a : Bool) → t x ≡ a → (b : Bool) → list_any t xs ≡ b → (list_any t xs ≡ false → list_all p xs ≡ true) → (p x && list_all p xs) ≡ true
+    by true e b f rest = absurd (true≢false (sym (ap (λ y. y || list_any t xs) e) ∙ h))
+    by false e true f rest = absurd (true≢false (sym (ap (λ y. y || list_any t xs) e ∙ f) ∙ h))
+    by false e false f rest = ap (λ y. y && list_all p xs) (same x ∙ ap not e) ∙ rest f
+
+any_or : {A : Type 0} (p q r : A → Bool) → ((x : A) → r x ≡ (p x || q x)) → (xs : List A) → (list_any p xs || list_any q xs) ≡ list_any r xs
+any_or p q r same [] = refl
+any_or p q r same (x ∷ xs) = swap (p x) (q x) (list_any p xs) (list_any q xs) ∙ (ap (λ b. b || (list_any p xs || list_any q xs)) (sym (same x)) ∙ ap (λ b. r x || b) (any_or p q r same xs))
+  where
+    swap : (a b c d : Bool) → ((a || c) || (b || d)) ≡ ((a || b) || (c || d))
+    swap true b c d = refl
+    swap false true true d = refl
+    swap false true false d = refl
+    swap false false c d = refl
+
+or_comm : (a b : Bool) → (a || b) ≡ (b || a)
+or_comm true true = refl
+or_comm true false = refl
+or_comm false true = refl
+or_comm false false = refl
+
+or_left : (a b c : Bool) → ((a || b) || c) ≡ (a || (b || c))
+or_left true b c = refl
+or_left false b c = refl
+
+named_is : (S : Database) (x : Name) → (was_symbol S x || was_label S x) ≡ list_any (meets part.Named x) S
+named_is S x = any_or (λ s. has_name x (constants s) || has_name x (variables s)) (λ s. has_label x (label_of s)) (meets part.Named x) (λ s. or_comm (has_label x (label_of s)) (has_name x (constants s) || has_name x (variables s))) S
+
+fixed_is : (S : Database) (x : Name) → (is_constant S x || was_label S x) ≡ list_any (meets part.Fixed x) S
+fixed_is S x = any_or (λ s. has_name x (constants s)) (λ s. has_label x (label_of s)) (meets part.Fixed x) (λ s. or_comm (has_label x (label_of s)) (has_name x (constants s))) S
+
+-- ---- witnesses
+
+some_witness : (r : Option Witness) (Q : Type 0) (R P : Witness → Type 0) → MatchOption r Q R → (Q → ⊥) → ((w : Witness) → R w → P w) → IsSomeAnd r P
+some_witness None Q R P told not on = absurd (not told)
+some_witness (Some w) Q R P told not on = on w told
+
+contradict : {b : Bool} → b ≡ true → b ≡ false → ⊥
+contradict t f = true≢false (sym t ∙ f)
+
+both_true : (a b : Bool) → a ≡ true → b ≡ true → (a && b) ≡ true
+both_true a b e f = ap (λ y. y && b) e ∙ f
+
+pub G2_twice : (S : Database) (names : List Name) (r : Option Witness) → list_any (fails S test.Named) names ≡ false → MatchOption r (all_different names ≡ true) (IsRepeated names)
+    → keeps S (Const names) G2 ≡ false → IsSomeAnd r (Offends S (Const names) G2)
+G2_twice S names r none told broken =
+    some_witness r (all_different names ≡ true) (IsRepeated names) (Offends S (Const names) G2) told
+    (λ differ. contradict (both_true _ _ (none_all (fails S test.Named) (λ x. not (was_symbol S x || was_label S x)) (λ x. ap not (named_is S x)) names none) differ) broken) on
+  where
+    on : (w : Witness) → IsRepeated names w → Offends S (Const names) G2 w
+    on Statement h = absurd h
+    on (Symbol k) h = absurd h
+    on (Twice j k) h = h
+    on (Earlier k i) h = absurd h
+    on (Label i) h = absurd h
+
+pub G3_twice : (S : Database) (names : List Name) (r : Option Witness) → list_any (fails S test.Taken) names ≡ false → MatchOption r (all_different names ≡ true) (IsRepeated names)
+    → keeps S (Var names) G3 ≡ false → IsSomeAnd r (Offends S (Var names) G3)
+G3_twice S names r none told broken =
+    some_witness r (all_different names ≡ true) (IsRepeated names) (Offends S (Var names) G3) told
+    (λ differ. contradict (both_true _ _ (none_all (fails S test.Taken) (λ x. not (is_variable S x || is_constant S x || was_label S x)) same names none) differ) broken) on
+  where
+    same : (x : Name) → not (is_variable S x || is_constant S x || was_label S x) ≡ not (fails S test.Taken x)
+    same x = ap not (or_left (is_variable S x) (is_constant S x) (was_label S x) ∙ ap (λ b. is_variable S x || b) (fixed_is S x))
+
+    on : (w : Witness) → IsRepeated names w → Offends S (Var names) G3 w
+    on Statement h = absurd h
+    on (Symbol k) h = absurd h
+    on (Twice j k) h = h
+    on (Earlier k i) h = absurd h
+    on (Label i) h = absurd h
+
+pub G8_twice : (S : Database) (names : List Name) (r : Option Witness) → list_any (fails S test.Inactive) names ≡ false → MatchOption r (all_different names ≡ true) (IsRepeated names)
+    → keeps S (Disj names) G8 ≡ false → IsSomeAnd r (Offends S (Disj names) G8)
+G8_twice S names r none told broken =
+    some_witness r (all_different names ≡ true) (IsRepeated names) (Offends S (Disj names) G8) told
+    (λ differ. contradict (both_true _ _ differ (none_all (fails S test.Inactive) (is_variable S) (λ x. twice_not (is_variable S x)) names none)) broken) on
+  where
+    twice_not : (b : Bool) → b ≡ not (not b)
+    twice_not true = refl
+    twice_not false = refl
+
+    on : (w : Witness) → IsRepeated names w → Offends S (Disj names) G8 w
+    on Statement h = absurd h
+    on (Symbol k) h = absurd h
+    on (Twice j k) h = h
+    on (Earlier k i) h = absurd h
+    on (Label i) h = absurd h
+
+keeps_label : (S : Database) (s : Stmt) → keeps S s G4 ≡ is_fresh_label S (label_of s)
+keeps_label S Open = refl
+keeps_label S Close = refl
+keeps_label S (Const x) = refl
+keeps_label S (Var x) = refl
+keeps_label S (Disj x) = refl
+keeps_label S (Float l c v) = refl
+keeps_label S (Ess l e) = refl
+keeps_label S (Axiom l e) = refl
+keeps_label S (Prove l e p) = refl
+
+pub G4_is : (S : Database) (s : Stmt) (x : Name) (r : Option Witness) → label_of s ≡ Some x → MatchOption r (list_any (meets part.Named x) S ≡ false) (IsLabelOf S x)
+    → keeps S s G4 ≡ false → IsSomeAnd r (Offends S s G4)
+G4_is S s x r is told broken =
+    some_witness r (list_any (meets part.Named x) S ≡ false) (IsLabelOf S x) (Offends S s G4) told
+    (λ none. contradict (keeps_label S s ∙ (ap (is_fresh_label S) is ∙ ap not (or_comm (was_label S x) (was_symbol S x) ∙ (named_is S x ∙ none)))) broken) on
+  where
+    on : (w : Witness) → IsLabelOf S x w → Offends S s G4 w
+    on Statement h = absurd h
+    on (Symbol k) h = absurd h
+    on (Twice j k) h = absurd h
+    on (Earlier k i) h = absurd h
+    on (Label i) h = (x, is, h)
+
+keeps_expr : (S : Database) (s : Stmt) → keeps S s G5 ≡ list_all (λ x. is_constant S x || is_variable S x) (expr_of s)
+keeps_expr S Open = refl
+keeps_expr S Close = refl
+keeps_expr S (Const x) = refl
+keeps_expr S (Var x) = refl
+keeps_expr S (Disj x) = refl
+keeps_expr S (Float l c v) = refl
+keeps_expr S (Ess l e) = refl
+keeps_expr S (Axiom l e) = refl
+keeps_expr S (Prove l e p) = refl
+
+pub G5_is : (S : Database) (s : Stmt) (expr : Expr) (r : Option Witness) → expr_of s ≡ expr → MatchOption r (list_any (fails S test.Unknown) expr ≡ false) (IsSymbolOf expr (fails S test.Unknown))
+    → keeps S s G5 ≡ false → IsSomeAnd r (Offends S s G5)
+G5_is S s expr r is told broken =
+    some_witness r (list_any (fails S test.Unknown) expr ≡ false) (IsSymbolOf expr (fails S test.Unknown)) (Offends S s G5) told
+    (λ none. contradict (keeps_expr S s ∙ (ap (list_all (λ x. is_constant S x || is_variable S x)) is ∙ none_all (fails S test.Unknown) (λ x. is_constant S x || is_variable S x) (λ x. not_not (is_constant S x || is_variable S x)) expr none)) broken) on
+  where
+    not_not : (b : Bool) → b ≡ not (not b)
+    not_not true = refl
+    not_not false = refl
+
+    neither : (a b : Bool) → not (a || b) ≡ true → (a ≡ false) × (b ≡ false)
+    neither true b h = cc
+    neither false true h = cc
+    neither false false h = (refl, refl)
+
+    on : (w : Witness) → IsSymbolOf expr (fails S test.Unknown) w → Offends S s G5 w
+    on Statement h = absurd h
+    on (Symbol k) h = record { name = h.name; stands = ap (λ e. slice_get e k) is ∙ h.stands; is = neither (is_constant S h.name) (is_variable S h.name) h.is }
+    on (Twice j k) h = absurd h
+    on (Earlier k i) h = absurd h
+    on (Label i) h = absurd h
+
+keeps_typed : (S : Database) (s : Stmt) → keeps S s G9 ≡ are_typed S (typed_expr s)
+keeps_typed S Open = refl
+keeps_typed S Close = refl
+keeps_typed S (Const x) = refl
+keeps_typed S (Var x) = refl
+keeps_typed S (Disj x) = refl
+keeps_typed S (Float l c v) = refl
+keeps_typed S (Ess l e) = refl
+keeps_typed S (Axiom l e) = refl
+keeps_typed S (Prove l e p) = refl
+
+pub G9_is : (S : Database) (s : Stmt) (expr : Expr) (r : Option Witness) → typed_expr s ≡ expr → MatchOption r (list_any (fails S test.Untyped) expr ≡ false) (IsSymbolOf expr (fails S test.Untyped))
+    → keeps S s G9 ≡ false → IsSomeAnd r (Offends S s G9)
+G9_is S s expr r is told broken =
+    some_witness r (list_any (fails S test.Untyped) expr ≡ false) (IsSymbolOf expr (fails S test.Untyped)) (Offends S s G9) told
+    (λ none. contradict (keeps_typed S s ∙ (ap (are_typed S) is ∙ none_all (fails S test.Untyped) (λ x. not (is_variable S x) || has_float S x) (λ x. not_and (is_variable S x) (has_float S x)) expr none)) broken) on
+  where
+    not_and : (a b : Bool) → (not a || b) ≡ not (a && not b)
+    not_and true true = refl
+    not_and true false = refl
+    not_and false b = refl
+
+    apart : (a b : Bool) → (a && not b) ≡ true → (a ≡ true) × (b ≡ false)
+    apart true true h = cc
+    apart true false h = (refl, refl)
+    apart false b h = cc
+
+    on : (w : Witness) → IsSymbolOf expr (fails S test.Untyped) w → Offends S s G9 w
+    on Statement h = absurd h
+    on (Symbol k) h = record { name = h.name; stands = ap (λ e. slice_get e k) is ∙ h.stands; is = apart (is_variable S h.name) (has_float S h.name) h.is }
+    on (Twice j k) h = absurd h
+    on (Earlier k i) h = absurd h
+    on (Label i) h = absurd h

@@ -1,0 +1,13 @@
+use Rattle.std.proofs.Common.{◌≡◌, false, sym, subst, IsSomeAnd}
+use Rattle.mm_read.specs.declared.stmt.Stmt.{Stmt}
+use Rattle.scope.specs.declared.rule.Rule.TheVariants.{G2}
+use Rattle.scope.specs.Legal.{keeps}
+use Rattle.offence.specs.Offends.{Offends}
+use Rattle.offence.proofs.OffenceLemmas.{G2_twice}
+use Rattle.offence.proofs.offence.of_constants.Goals as goal
+
+pub returns-in_default-first : goal.returns-in_default-first
+returns-in_default-first c =
+    let S = c.args.earlier.now in
+    let P : Stmt → Type 0 = λ s. keeps S s G2 ≡ false → IsSomeAnd c.twice.result (Offends S s G2) in
+    subst P (sym c.in-Const.is) (G2_twice S c.in-Const.names c.twice.result c.in_default-first.ensures c.twice.ensures)

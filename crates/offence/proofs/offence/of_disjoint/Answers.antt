@@ -1,0 +1,13 @@
+use Rattle.std.proofs.Common.{◌≡◌, false, sym, subst, IsSomeAnd}
+use Rattle.mm_read.specs.declared.stmt.Stmt.{Stmt}
+use Rattle.scope.specs.declared.rule.Rule.TheVariants.{G8}
+use Rattle.scope.specs.Legal.{keeps}
+use Rattle.offence.specs.Offends.{Offends}
+use Rattle.offence.proofs.OffenceLemmas.{G8_twice}
+use Rattle.offence.proofs.offence.of_disjoint.Goals as goal
+
+pub returns-in-None : goal.returns-in-None
+returns-in-None c =
+    let S = c.args.earlier.now in
+    let P : Stmt → Type 0 = λ s. keeps S s G8 ≡ false → IsSomeAnd c.twice.result (Offends S s G8) in
+    subst P (sym c.in-Disj.is) (G8_twice S c.in-Disj.names c.twice.result c.in-None.ensures c.twice.ensures)

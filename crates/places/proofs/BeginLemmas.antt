@@ -1,0 +1,30 @@
+-- The beginning of a statement, as a loop goes on.
+use Rattle.std.proofs.Common.{◌≡◌, ℕ, ◌+◌, ◌-◌, ◌<◌, ◌≤◌, List, [], IsTrue, IsFalse, get_or, take, length, arith, ap, sym, ◌∙◌, below_more, length-take}
+use Rattle.std.proofs.lemmas.List.{get_or-map, get_or-take}
+use Rattle.mm_lex.specs.declared.span.Span.{Span}
+use Rattle.mm_lex.specs.Tokens.{words}
+use Rattle.mm_lex.specs.Alphabet.{Name, word}
+use Rattle.places.specs.Places.{ends}
+use Rattle.places.specs.Comments.{BeginsStatement}
+
+pub statement_here : (tokens : List Name) (i : ℕ) → IsTrue (ends (get_or tokens i [])) → BeginsStatement tokens (i + 1) (i + 1)
+statement_here tokens i is = record {
+  before = omega arith;
+  behind = λ _. let e : i ≡ i + 1 - 1 = omega arith in
+      ap (λ k. ends (get_or tokens k [])) (sym e) ∙ is;
+  none = λ k a b. absurd (omega (arith, a, b));
+}
+
+pub statement_on : (tokens : List Name) (i start : ℕ) → BeginsStatement tokens i start → IsFalse (ends (get_or tokens i [])) → BeginsStatement tokens (i + 1) start
+statement_on tokens i start b not = record {
+  before = let h : start ≤ i = b.before in omega arith;
+  behind = b.behind;
+  none = λ k a l. below_more (λ k. start ≤ k → IsFalse (ends (get_or tokens k []))) i (λ k l a. b.none k a l) (λ _. not) k l a;
+}
+
+-- the word of a token is that of its place
+pub word_is : (text : List ℕ) (spans : List Span) (n i : ℕ) (d : Span) → i < length (take n spans) → get_or (words text spans) i [] ≡ word text (get_or (take n spans) i d)
+word_is text spans n i d h =
+    let inside : i < n = omega (arith, h, length-take n spans) in
+    let within : i < length spans = omega (arith, h, length-take n spans) in
+    get_or-map (word text) spans i d [] within ∙ ap (word text) (sym (get_or-take n spans i d inside))

@@ -1,0 +1,16 @@
+use Rattle.std.proofs.Common.{◌<◌, ◌-◌, ◌∙◌, sym, ap, cond, arith}
+use Rattle.mm_lex.specs.declared.span.Span.{Span}
+use Rattle.places.proofs.PlacesLemmas.{one_token}
+use Rattle.places.proofs.place.first_token.Goals as goal
+use Rattle.places.proofs.place.first_token.Goals.{then-ends, else-ends}
+
+pub loop-i-preserved : goal.loop-i-preserved
+loop-i-preserved c =
+    let d : Span = record { start = 0; end = 0 } in
+    let some : 0 < c.loop-i.left = omega arith in
+    elim c.if-ends.branch [
+      | then-ends w ↦ c.loop-i.invariant ∙ one_token c.args.text.now c.args.spans.now c.loop-i.i c.loop-i.left c.if-ends.left d c.loop-i-test.true some
+          (w.left-is ∙ sym (ap (λ b. cond b (c.loop-i.left - 1) c.loop-i.left) (sym c.ends.ensures ∙ w.if-ends.true)))
+      | else-ends w ↦ c.loop-i.invariant ∙ one_token c.args.text.now c.args.spans.now c.loop-i.i c.loop-i.left c.if-ends.left d c.loop-i-test.true some
+          (w.left-is ∙ sym (ap (λ b. cond b (c.loop-i.left - 1) c.loop-i.left) (sym c.ends.ensures ∙ w.if-ends.false)))
+    ]

@@ -1,0 +1,7 @@
+use Rattle.std.proofs.Common.{◌≡◌, ◌+◌, ◌-◌, drop}
+use Rattle.mm_lex.specs.Tokens.{words}
+use Rattle.places.specs.Places.{behind_ends}
+use Rattle.places.proofs.place.first_token.Given as goal
+
+abbrev pub invariant-loop-i : goal.invariant-loop-i
+invariant-loop-i l = behind_ends (l.statement - 1) (words l.text l.spans) ≡ l.i + behind_ends l.left (words l.text (drop l.i l.spans))

@@ -1,0 +1,24 @@
+use Rattle.std.proofs.Common.{◌≡◌, ◌∙◌, ◌+◌, sym, ap, subst, get_or, [], List, ℕ, rules}
+use Rattle.mm_lex.specs.declared.span.Span.{Span}
+use Rattle.mm_lex.specs.Alphabet.{Name}
+use Rattle.mm_lex.specs.Tokens.{words}
+use Rattle.places.specs.Places.{ends}
+use Rattle.places.specs.Comments.{BeginsStatement}
+use Rattle.places.proofs.BeginLemmas.{statement_here, statement_on, word_is}
+use Rattle.places.proofs.place.statement_at.Goals as goal
+use Rattle.places.proofs.place.statement_at.Goals.{then-ends, else-ends}
+
+pub loop-i-init : goal.loop-i-init
+loop-i-init c = search rules
+
+pub loop-i-preserved : goal.loop-i-preserved
+loop-i-preserved c =
+    let d : Span = record { start = 0; end = 0 } in
+    let tokens : List Name = words c.args.text.now c.args.spans.now in
+    let is = word_is c.args.text.now c.args.spans.now c.args.token c.loop-i.i d c.loop-i-test.true in
+    let told : ends (get_or tokens c.loop-i.i []) ≡ c.ends.result = ap ends is ∙ sym c.ends.ensures in
+    let P : ℕ → Type 0 = λ start. BeginsStatement tokens (c.loop-i.i + 1) start in
+    elim c.if-ends.branch [
+      | then-ends w ↦ subst P (sym w.start-is) (statement_here tokens c.loop-i.i (told ∙ w.if-ends.true))
+      | else-ends w ↦ subst P (sym w.start-is) (statement_on tokens c.loop-i.i c.loop-i.start c.loop-i.invariant (told ∙ w.if-ends.false))
+    ]

@@ -1,0 +1,6 @@
+use Rattle.mm_lex.specs.Tokens.{words}
+use Rattle.places.specs.Comments.{BeginsStatement}
+use Rattle.places.proofs.place.statement_at.Given as goal
+
+abbrev pub invariant-loop-i : goal.invariant-loop-i
+invariant-loop-i l = BeginsStatement (words l.text l.fn.spans) l.i l.start

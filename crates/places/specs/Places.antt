@@ -1,0 +1,38 @@
+-- The place of a token of a statement in a text that reads as statements.
+-- Source: Metamath, 4.1 and appendix E.
+-- The code passes the tokens that end a statement; here the statements before are written out.
+use Rattle.std.specs.Prelude.{◌≡◌, ℕ, zero, suc, ◌+◌, ◌-◌, ◌≤◌, Bool, ◌||◌, if◌then◌else◌, List, [], ◌∷◌, length, take, Some, slice_get, codes}
+use Rattle.mm_lex.specs.declared.span.Span.{Span}
+use Rattle.mm_lex.specs.Alphabet.{Name, name_eq}
+use Rattle.mm_lex.specs.Tokens.{AreTokens, words}
+use Rattle.mm_read.specs.declared.stmt.Stmt.{Stmt}
+use Rattle.mm_read.specs.Statements.{Database, stmt_tokens, spelled}
+
+-- the statement has a token of this number, both counted from 1
+pub record HasToken (S : Database) (statement token : ℕ) : Type 0 where
+  pub stmt : Stmt
+  pub some : 1 ≤ statement
+  pub stands : slice_get S (statement - 1) ≡ Some stmt
+  pub first : 1 ≤ token
+  pub within : token ≤ length (stmt_tokens stmt)
+
+-- which token of the text that is, counted from 0: those of the statements before stand before it
+abbrev pub index_of : Database → ℕ → ℕ → ℕ
+index_of S statement token = length (spelled (take (statement - 1) S)) + (token - 1)
+
+-- the token of the statement stands here
+pub record IsPlaceOf (text : List ℕ) (S : Database) (statement token : ℕ) (place : Span) : Type 0 where
+  pub tokens : List Span
+  pub are : AreTokens text tokens
+  pub written : words text tokens ≡ spelled S
+  pub here : slice_get tokens (index_of S statement token) ≡ Some place
+
+-- no statement goes on behind this token
+abbrev pub ends : Name → Bool
+ends w = name_eq w (codes "$.") || name_eq w (codes "${") || name_eq w (codes "$}")
+
+-- the index of the first token behind so many tokens that end a statement
+abbrev pub behind_ends : ℕ → List Name → ℕ
+behind_ends zero ws = 0
+behind_ends (suc n) [] = 0
+behind_ends (suc n) (w ∷ ws) = suc (behind_ends (if ends w then n else suc n) ws)

@@ -1,0 +1,14 @@
+//! Where something stands in a text.
+//!
+//! `line_and_column` counts lines and columns up to an offset. `place_of` gives the place of a token of a statement in a text
+//! that reads as statements, and `token_of` that of a token counted from the beginning of the text. `comment_fault` says what
+//! is wrong with a comment and where that began. Read `lines`, `place`, `comments`.
+#![tactic(auto)]
+
+mod comments;
+mod lines;
+mod place;
+
+pub use comments::{CommentFault, comment_fault};
+pub use lines::{Position, line_and_column};
+pub use place::{first_token, place_of, place_within, statement_at};

@@ -1,0 +1,83 @@
+//! The places of tokens.
+ghost use Rattle.std.specs.Prelude.{◌≡◌, ℕ, ◌+◌, ◌-◌, ◌≤◌, IfOk, IfSome, IsSomeAnd, Some, slice_get, length};
+ghost use Rattle.std.specs.List.{All};
+ghost use Rattle.mm_lex.specs.Alphabet.{word};
+ghost use Rattle.mm_lex.specs.Tokens.{AreTokens, IsWordAt, words};
+ghost use Rattle.mm_read.specs.Statements.{Database};
+ghost use Rattle.mm_read.specs.Reads.{Reads};
+ghost use Rattle.places.specs.Places.{HasToken, IsPlaceOf, behind_ends, ends};
+ghost use Rattle.places.specs.Comments.{BeginsStatement};
+
+use mm_lex::{LexFault, Span, tokens};
+use std::alloc::Global;
+
+/// The place of a token of a statement, both counted from 1, in a text that reads as statements.
+///
+/// Errors: those of a text without tokens. Cost: the size of the text.
+pub fn place_of(
+    alloc: Global,
+    text: &[u8],
+    statement: usize,
+    token: usize,
+) -> Result<Option<Span>, LexFault>
+    ensures { (S : Database) → Reads text.now S → HasToken S statement token
+        → IfOk result (λ place. IsSomeAnd place (IsPlaceOf text.now S statement token)) }
+{
+    let spans = tokens(alloc, text)?;
+    if statement == 0 || token == 0 {
+        return Ok(None);
+    }
+    Ok(place_within(text, spans.as_slice(), statement, token))
+}
+
+/// The same among the places of the text's tokens.
+pub fn place_within(text: &[u8], spans: &[Span], statement: usize, token: usize) -> Option<Span>
+    requires words { All (IsWordAt text.now) spans.now }
+    requires some { (1 ≤ statement) × (1 ≤ token) }
+    ensures { result ≡ slice_get spans.now (behind_ends (statement - 1) (words text.now spans.now) + (token - 1)) }
+{
+    let first = first_token(text, spans, statement);
+    let rest = &spans[first..];
+    rest.get(token - 1).copied()
+}
+
+/// Which token is the first of the statement of this number, from 1; tokens count from 0.
+pub fn first_token(text: &[u8], spans: &[Span], statement: usize) -> usize
+    requires words { All (IsWordAt text.now) spans.now }
+    requires some { 1 ≤ statement }
+    ensures first { result ≡ behind_ends (statement - 1) (words text.now spans.now) }
+    ensures within { result ≤ length spans.now }
+{
+    let mut left = statement - 1;
+    for (i, span) in spans.iter().enumerate() {
+        if left == 0 {
+            return i;
+        }
+        if ends(&text[span.start..span.end]) {
+            left -= 1;
+        }
+    }
+    spans.len()
+}
+
+/// Whether no statement goes on behind this token.
+fn ends(word: &[u8]) -> bool
+    ensures { result ≡ ends word.now }
+{
+    word == b"$.".as_slice() || word == b"${".as_slice() || word == b"$}".as_slice()
+}
+
+/// Which token is the first of the statement in which the token at an index stands; tokens count from 0.
+pub fn statement_at(text: &[u8], spans: &[Span], token: usize) -> usize
+    requires words { All (IsWordAt text.now) spans.now }
+    requires within { token ≤ length spans.now }
+    ensures { BeginsStatement (words text.now spans.now) token result }
+{
+    let mut start = 0;
+    for (i, span) in spans[..token].iter().enumerate() {
+        if ends(&text[span.start..span.end]) {
+            start = i + 1;
+        }
+    }
+    start
+}

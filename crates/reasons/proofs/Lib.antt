@@ -1,0 +1,9 @@
+pub mod KeptLemmas
+pub mod StateLemmas
+pub mod ImagesLemmas
+pub mod NamedLemmas
+pub mod FaultsLemmas
+pub mod ClashLemmas
+pub mod ConcludedLemmas
+pub mod RunLemmas
+pub mod ItemLemmas

@@ -1,0 +1,28 @@
+use Rattle.std.proofs.Common.{◌∙◌, length, arith}
+use Rattle.names.specs.Codes.{decode}
+use Rattle.frame.specs.Disjoint.{is_group_apart}
+use Rattle.reasons.specs.Kept.{code_images}
+use Rattle.reasons.specs.Images.{named_images}
+use Rattle.reasons.proofs.KeptLemmas.{all-at}
+use Rattle.reasons.proofs.ClashLemmas.{clash_is, groups_step, groups_end}
+use Rattle.reasons.proofs.clash.find_clash.Goals as goal
+
+pub clash_in-requires-clause-group : goal.clash_in-requires-clause-group
+clash_in-requires-clause-group c = all-at (length c.args.pairs.now.names) c.args.groups.now c.loop-k.k c.get.result.now c.requires.groups c.get.ensures
+
+pub returns-in-Some : goal.returns-in-Some
+returns-in-Some c =
+    let names = c.args.pairs.now.names in
+    clash_is c.args.pairs.now.statements names (named_images names (code_images c.args.images.now)) c.args.groups.now c.loop-k.k c.get.result.now c.in-Some.clash c.get.ensures c.in-Some.ensures
+
+pub loop-k-preserved : goal.loop-k-preserved
+loop-k-preserved c =
+    let S = c.args.pairs.now.statements in let names = c.args.pairs.now.names in
+    let σ = named_images names (code_images c.args.images.now) in
+    c.loop-k.invariant ∙ groups_step (is_group_apart S σ) (decode names) c.args.groups.now c.loop-k.k c.get.result.now c.get.ensures c.in_default.ensures
+
+pub returns : goal.returns
+returns c =
+    let S = c.args.pairs.now.statements in let names = c.args.pairs.now.names in
+    let σ = named_images names (code_images c.args.images.now) in
+    c.loop-k.invariant ∙ groups_end (is_group_apart S σ) (decode names) c.args.groups.now c.loop-k.k (omega arith)

@@ -1,0 +1,103 @@
+-- The first fault of the run over the items of a proof: what fails at an item, or at the end, where all before it goes well.
+-- Source: Metamath, 4.2.6 and appendix B; the limit is this project's.
+-- The code stops at it.
+use Rattle.std.specs.Prelude.{◌≡◌, ◌≢◌, ℕ, ◌+◌, ◌-◌, ◌<◌, ◌≤◌, true, List, [], ◌∷◌, ◌++◌, length, take, Option, Some, slice_get}
+use Rattle.std.specs.Global.{Vec}
+use Rattle.mm_lex.specs.Alphabet.{Name}
+use Rattle.mm_read.specs.declared.stmt.Stmt.{Stmt}
+use Rattle.mm_read.specs.Statements.{Expr, Database}
+use Rattle.scope.specs.Active.{before, expr_of, is_assertion}
+use Rattle.names.specs.Codes.{decode}
+use Rattle.frame.specs.FrameOf.{hypotheses}
+use Rattle.frame.specs.Citations.{Carries, IsHypothesis}
+use Rattle.frame.specs.Reading.{IsPosition}
+use Rattle.proof_code.specs.declared.item.Item.{Item}
+use Rattle.proof_code.specs.declared.item.Item.TheVariants.{Cite, Recall, Mark}
+use Rattle.reasons.specs.declared.reason.Fault.{Fault}
+use Rattle.reasons.specs.declared.reason.Fault.TheVariants.{Unknown, Inactive, Later, Few, Constant, Expression, Together, Heavy, Unmarked}
+use Rattle.reasons.specs.declared.reason.Reason.{Reason}
+use Rattle.reasons.specs.declared.reason.Reason.TheVariants as reason
+use Rattle.reasons.specs.Concluded.{IsWrong}
+use Rattle.reasons.specs.Run.{Held, nothing, Gives, IsMarked, Runs}
+
+abbrev pub limit : ℕ
+limit = 67108864
+
+-- the last results on the stack, one for each mandatory hypothesis of the assertion s at a, are wrong
+pub record AreWrong (S : Database) (names : List Name) (at : ℕ) (h : Held) (a : ℕ) (s : Stmt) (fault : Fault) : Type 0 where
+  pub below : List Expr
+  pub results : List Expr
+  pub whole : h.stack ≡ below ++ results
+  pub count : length results ≡ length (hypotheses (before S a) s)
+  pub wrong : IsWrong S names at a s results (limit - h.weight) fault
+
+-- it gives a result that makes the proof too heavy
+pub record IsHeavy (S : Database) (at : ℕ) (h : Held) (i : ℕ) (s : Stmt) : Type 0 where
+  pub below : List Expr
+  pub result : Expr
+  pub gives : Gives S at i s h.stack below result
+  pub heavy : limit < h.weight + length result
+
+-- what fails where the statement s at i is cited
+abbrev pub FailsAt : Database → List Name → ℕ → Held → ℕ → Stmt → Fault → Type 0
+FailsAt S names at h i s (Inactive j) = (j ≡ i) × (i < at) × (IsHypothesis S at i s → ⊥) × (is_assertion s ≡ true → ⊥)
+FailsAt S names at h i s (Later j) = (j ≡ i) × (at ≤ i)
+FailsAt S names at h i s (Few b takes there) = (b ≡ i) × (takes ≡ length (hypotheses (before S i) s)) × (there ≡ length h.stack) × (there < takes)
+FailsAt S names at h i s (Constant b p r) = AreWrong S names at h i s (Constant b p r)
+FailsAt S names at h i s (Expression b p q r) = AreWrong S names at h i s (Expression b p q r)
+FailsAt S names at h i s (Together b x y u v) = AreWrong S names at h i s (Together b x y u v)
+FailsAt S names at h i s Heavy = IsHeavy S at h i s
+FailsAt S names at h i s fault = ⊥
+
+-- what fails at an item: a label that no statement carries; what fails where its statement is cited; a recall of what is not
+-- marked, or too heavy; a mark of nothing
+abbrev pub FailsCited : Database → List Name → ℕ → Held → Name → Fault → Type 0
+FailsCited S names at h label Unknown = (i : ℕ) (s : Stmt) → Carries S i s label → ⊥
+FailsCited S names at h label fault = (i : ℕ) × (s : Stmt) × Carries S i s label × FailsAt S names at h i s fault
+
+abbrev pub FailsRecalled : Held → ℕ → Fault → Type 0
+FailsRecalled h k Unmarked = (e : Expr) → IsMarked h.marked k e → ⊥
+FailsRecalled h k Heavy = (e : Expr) × IsMarked h.marked k e × (limit < h.weight + length e)
+FailsRecalled h k fault = ⊥
+
+abbrev pub FailsMarked : Held → Fault → Type 0
+FailsMarked h Unmarked = h.stack ≡ []
+FailsMarked h fault = ⊥
+
+abbrev pub Fails : Database → List Name → ℕ → Held → Item → Fault → Type 0
+Fails S names at h (Cite label) fault = FailsCited S names at h label fault
+Fails S names at h (Recall k) fault = FailsRecalled h k fault
+Fails S names at h Mark fault = FailsMarked h fault
+
+-- the items run to this, within the limit
+pub record RunsWell (S : Database) (at : ℕ) (items : List Item) (h : Held) : Type 0 where
+  pub runs : Runs S at nothing items h
+  pub light : h.weight ≤ limit
+
+-- the items run to the expression alone
+abbrev pub RunsTo : Database → ℕ → List Item → Expr → Type 0
+RunsTo S at items e = (h : Held) × RunsWell S at items h × (h.stack ≡ e ∷ [])
+
+-- the first fault of the run over the items of a proof of the statement s at `at`
+abbrev pub IsFirstFault : Database → List Name → ℕ → Stmt → List Item → Reason → Type 0
+IsFirstFault S names at s items (reason.Item k fault) =
+    (h : Held) × (item : Item) × RunsWell S at (take k items) h × (slice_get items k ≡ Some item) × Fails S names at h item fault
+IsFirstFault S names at s items (reason.Results count) = (h : Held) × RunsWell S at items h × (count ≡ length h.stack) × (count ≢ 1)
+IsFirstFault S names at s items (reason.Theorem proved) =
+    (h : Held) × RunsWell S at items h × (h.stack ≡ decode names proved.items ∷ []) × (decode names proved.items ≢ expr_of s)
+
+-- the positions of the statements with these labels
+abbrev pub AreFound : Database → List Name → List (Option ℕ) → Type 0
+AreFound S [] [] = Unit {0}
+AreFound S (x ∷ labels) (p ∷ positions) = IsPosition S x p × AreFound S labels positions
+AreFound S labels positions = ⊥
+
+-- the one result on the stack, by number, is what the theorem says, or it is not
+abbrev pub IsAlone : List ℕ → List (Vec ℕ) → Type 0
+IsAlone says (e ∷ []) = e.items ≡ says
+IsAlone says stack = ⊥
+
+abbrev pub IsEndFault : List ℕ → List (Vec ℕ) → Reason → Type 0
+IsEndFault says stack (reason.Results count) = (count ≡ length stack) × (count ≢ 1)
+IsEndFault says stack (reason.Theorem proved) = (e : Vec ℕ) × (stack ≡ e ∷ []) × (proved.items ≡ e.items) × (e.items ≢ says)
+IsEndFault says stack r = ⊥

@@ -1,0 +1,128 @@
+//! Two variables whose images are not kept apart.
+ghost use Rattle.std.specs.Prelude.{◌≡◌, ◌<◌, length, map, true, MatchOption};
+ghost use Rattle.std.specs.List.{list_all};
+ghost use Rattle.names.specs.Codes.{AreDistinct, name_at, decode};
+ghost use Rattle.frame.specs.Below.{AreBelow, AllBelow};
+ghost use Rattle.frame.specs.Disjoint.{are_apart, is_group_apart, are_groups_apart};
+ghost use Rattle.reasons.specs.Kept.{AreImages, code_images};
+ghost use Rattle.reasons.specs.Images.{named_images, AreVariables};
+ghost use Rattle.reasons.specs.Clashes.{IsClash, IsClashIn, IsClashWith, is_kept, is_other_apart, IsUnpairedIn, AreShared};
+
+use crate::images::{Image, image_or};
+use entries::Groups;
+use frame::Pairs;
+
+/// Two variables of an assertion, and a variable in the image of each, which no active `$d` has together.
+#[derive(Clone, Copy, Drop)]
+pub struct Clash {
+    pub first: u32,
+    pub second: u32,
+    pub one: u32,
+    pub other: u32,
+}
+
+/// The first clash of the images of variables that stand together in one of the lists.
+pub fn find_clash(pairs: &Pairs<'_>, images: &[Image], groups: &Groups<'_>) -> Option<Clash>
+    requires groups { AllBelow (length pairs.now.names) groups.now }
+    requires images { AreImages (length pairs.now.names) images.now }
+    requires variables { AreVariables (length pairs.now.names) (code_images images.now) }
+    requires distinct { AreDistinct pairs.now.names }
+    ensures { MatchOption result
+        (are_groups_apart pairs.now.statements (named_images pairs.now.names (code_images images.now)) (map (decode pairs.now.names) groups.now) ≡ true)
+        (IsClash pairs.now.statements pairs.now.names (named_images pairs.now.names (code_images images.now)) (map (decode pairs.now.names) groups.now)) }
+{
+    for k in 0..groups.len() {
+        if let Some(clash) = clash_in(pairs, images, groups.get(k)) {
+            return Some(clash);
+        }
+    }
+    None
+}
+
+/// The first clash of the images of variables of one list.
+fn clash_in(pairs: &Pairs<'_>, images: &[Image], group: &[u32]) -> Option<Clash>
+    requires group { AreBelow (length pairs.now.names) group.now }
+    requires images { AreImages (length pairs.now.names) images.now }
+    requires variables { AreVariables (length pairs.now.names) (code_images images.now) }
+    requires distinct { AreDistinct pairs.now.names }
+    ensures { MatchOption result
+        (is_group_apart pairs.now.statements (named_images pairs.now.names (code_images images.now)) (decode pairs.now.names group.now) ≡ true)
+        (IsClashIn pairs.now.statements pairs.now.names (named_images pairs.now.names (code_images images.now)) (decode pairs.now.names group.now)) }
+{
+    for first in group {
+        if let Some(clash) = clash_with(pairs, images, *first, group) {
+            return Some(clash);
+        }
+    }
+    None
+}
+
+/// The first clash of the image of a variable with those of the others of a list.
+fn clash_with(pairs: &Pairs<'_>, images: &[Image], first: u32, group: &[u32]) -> Option<Clash>
+    requires first { first < length pairs.now.names }
+    requires group { AreBelow (length pairs.now.names) group.now }
+    requires images { AreImages (length pairs.now.names) images.now }
+    requires variables { AreVariables (length pairs.now.names) (code_images images.now) }
+    requires distinct { AreDistinct pairs.now.names }
+    ensures { MatchOption result
+        (list_all (is_other_apart pairs.now.statements (named_images pairs.now.names (code_images images.now)) (name_at pairs.now.names first)) (decode pairs.now.names group.now) ≡ true)
+        (IsClashWith pairs.now.statements pairs.now.names (named_images pairs.now.names (code_images images.now)) (name_at pairs.now.names first) (decode pairs.now.names group.now)) }
+{
+    let own = [first];
+    let left = image_or(images, first, &own);
+    for second in group {
+        let code = *second;
+        if code != first {
+            let alone = [code];
+            let right = image_or(images, code, &alone);
+            if let Some((one, other)) = shared(pairs, left, right) {
+                return Some(Clash {
+                    first,
+                    second: code,
+                    one,
+                    other,
+                });
+            }
+        }
+    }
+    None
+}
+
+/// A variable of the one expression and one of the other, which are the same or stand together in no active `$d`.
+fn shared(pairs: &Pairs<'_>, left: &[u32], right: &[u32]) -> Option<(u32, u32)>
+    requires left { AreBelow (length pairs.now.names) left.now }
+    requires right { AreBelow (length pairs.now.names) right.now }
+    ensures { MatchOption result
+        (are_apart pairs.now.statements (decode pairs.now.names left.now) (decode pairs.now.names right.now) ≡ true)
+        (λ r. AreShared pairs.now.statements (name_at pairs.now.names r.0) (name_at pairs.now.names r.1) (decode pairs.now.names left.now) (decode pairs.now.names right.now)) }
+{
+    if pairs.apart(left, right) {
+        return None;
+    }
+    for one in left {
+        if let Some(other) = not_with(pairs, *one, right) {
+            return Some((*one, other));
+        }
+    }
+    None
+}
+
+/// A variable of the expression that is this one or stands with it in no active `$d`, where this is a variable.
+fn not_with(pairs: &Pairs<'_>, one: u32, right: &[u32]) -> Option<u32>
+    requires one { one < length pairs.now.names }
+    requires right { AreBelow (length pairs.now.names) right.now }
+    ensures { MatchOption result
+        (list_all (is_kept pairs.now.statements (name_at pairs.now.names one)) (decode pairs.now.names right.now) ≡ true)
+        (λ v. IsUnpairedIn pairs.now.statements (name_at pairs.now.names one) (name_at pairs.now.names v) (decode pairs.now.names right.now)) }
+{
+    if !pairs.variable(one) {
+        return None;
+    }
+    for other in right {
+        let code = *other;
+        if pairs.variable(code) && !pairs.has(one, code) {
+            return Some(code);
+        }
+    }
+    None
+}

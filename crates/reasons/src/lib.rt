@@ -1,0 +1,16 @@
+//! Why a proof is wrong: the first fault of the run over its items.
+//!
+//! `first_fault` runs over the items of a proof of a `$p` and gives the first fault that it meets, or none where the run
+//! ends with what the theorem says. It runs only after a refusal, so it is plain and keeps whole expressions.
+//! Read `reason`, `state`, `images`, `clash`, `citation`, `run`.
+#![tactic(auto)]
+
+mod citation;
+mod clash;
+mod images;
+mod reason;
+mod run;
+mod state;
+
+pub use reason::{Fault, Reason};
+pub use run::first_fault;
