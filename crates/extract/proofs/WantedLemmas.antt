@@ -23,8 +23,8 @@ map-at f [] n a b less = absurd (omega (arith, less))
 map-at f (x ∷ xs) zero a b less = refl
 map-at f (x ∷ xs) (suc n) a b less = map-at f xs n a b (omega (arith, less))
 
-pub label-at : {A : Type 0} (f : A → Name) (xs : List A) (n : ℕ) (x : A) (label : Name) → n < length xs → x ≡ get_or xs n x → label ≡ f x → label ≡ get_or (map f xs) n label
-label-at f xs n x label less is e = e ∙ (ap f is ∙ map-at f xs n x label less)
+label-at : {A : Type 0} (f : A → Name) (xs : List A) (n : ℕ) (x : A) (label : Name) → n < length xs → label ≡ f (get_or xs n x) → label ≡ get_or (map f xs) n label
+label-at f xs n x label less e = e ∙ map-at f xs n x label less
 
 length-map : {A B : Type 0} (f : A → B) (xs : List A) → length (map f xs) ≡ length xs
 length-map f [] = refl
@@ -117,7 +117,7 @@ module _ (S F : Database) (same : F ≡ bares S) (once : HasLabelsOnce F) where
 
   -- the same of labels that are seen as names
 
-  module _ {A : Type 0} (f : A → Name) (xs : List A) (n : ℕ) (x : A) (label : Name) (less : n < length xs) (is : x ≡ get_or xs n x) (e : label ≡ f x) (p : IsPassed S (map f xs) n) where
+  module _ {A : Type 0} (f : A → Name) (xs : List A) (n : ℕ) (x : A) (label : Name) (less : n < length xs) (e : label ≡ f (get_or xs n x)) (p : IsPassed S (map f xs) n) where
     inside : n < length (map f xs)
     inside = subst (λ m. n < m) (sym (length-map f xs)) less
 
@@ -125,13 +125,13 @@ module _ (S F : Database) (same : F ≡ bares S) (once : HasLabelsOnce F) where
     front = sym (take-map f n xs)
 
     pub label-right : IsRight S (map f (take n xs)) label → IsPassed S (map f xs) (n + 1)
-    label-right r = passed-more (map f xs) n label inside (label-at f xs n x label less is e) p (subst (λ es. IsRight S es label) front r)
+    label-right r = passed-more (map f xs) n label inside (label-at f xs n x label less e) p (subst (λ es. IsRight S es label) front r)
 
     pub label-wrong : (g : ExtractFault) → IsWrong S (map f (take n xs)) label g → IsFirstWrong S [] (map f xs) g
-    label-wrong g w = passed-wrong (map f xs) n label g inside (label-at f xs n x label less is e) p (subst (λ es. IsWrong S es label g) front w)
+    label-wrong g w = passed-wrong (map f xs) n label g inside (label-at f xs n x label less e) p (subst (λ es. IsWrong S es label g) front w)
 
     pub label-only : (g h : ExtractFault) → IsWrong S (map f (take n xs)) label g → IsFirstWrong S [] (map f xs) h → g ≡ h
-    label-only g h w first = passed-only (map f xs) n label g h inside (label-at f xs n x label less is e) p (subst (λ es. IsWrong S es label g) front w) first
+    label-only g h w first = passed-only (map f xs) n label g h inside (label-at f xs n x label less e) p (subst (λ es. IsWrong S es label g) front w) first
 
   pub passed-all : (labels : List Name) (n : ℕ) → length labels ≤ n → IsPassed S labels n → AreRight S [] labels
   passed-all labels n over p = subst (AreRight S []) (take_all n labels over) p.right
