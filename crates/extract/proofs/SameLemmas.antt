@@ -2,14 +2,12 @@
 use Rattle.std.specs.Prelude.{◌≡◌, ℕ, zero, suc, ◌&&◌, ◌||◌, ◌+◌, ◌<◌, ◌≤◌, Bool, true, false, List, [], ◌∷◌, ◌++◌, length, map, take, get_or, refl}
 use Rattle.std.specs.List.{list_all, list_any}
 use Rattle.std.proofs.Common.{sym, ◌∙◌, ap, arith, take_all}
-use Rattle.std.proofs.lemmas.List.{map_more, take_more}
+use Rattle.std.proofs.lemmas.List.{map_more}
 use Rattle.mm_lex.specs.Alphabet.{Name, name_eq, has_name}
 use Rattle.mm_lex.specs.Words.{spaced, words_of, is_word}
 use Rattle.mm_lex.proofs.WordsLemmas.{words_of-spaced}
 use Rattle.mm_read.specs.declared.stmt.Stmt.{Stmt}
 use Rattle.mm_read.specs.Statements.{Database, is_shaped}
-use Rattle.extract.specs.Walk.{wanted, AreKept}
-use Rattle.extract.specs.Kept.{IsPart, IsKept}
 
 pub same-words : (xs ys : List Name) → list_all is_word xs ≡ true → list_all is_word ys ≡ true → spaced xs ≡ spaced ys → xs ≡ ys
 same-words xs ys p q e = sym (words_of-spaced xs p) ∙ (ap words_of e ∙ words_of-spaced ys q)

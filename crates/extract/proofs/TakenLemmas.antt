@@ -1,20 +1,20 @@
 -- What is taken out is an extract: the part where it was found to be one, and else the whole.
-use Rattle.std.specs.Prelude.{◌≡◌, ◌||◌, ℕ, ◌≤◌, Bool, true, false, List, [], ◌∷◌, ◌++◌, length, Option, Some, Result, Ok, Err, IfOk, refl}
+use Rattle.std.specs.Prelude.{◌≡◌, ◌||◌, ℕ, Bool, true, false, List, [], ◌∷◌, ◌++◌, length, Some, Result, Ok, Err, IfOk, refl}
 use Rattle.std.specs.List.{list_any, AllByRecursion}
-use Rattle.std.proofs.Common.{sym, ◌∙◌, ap, subst}
+use Rattle.std.proofs.Common.{◌∙◌, ap, subst}
 use Rattle.mm_lex.specs.Alphabet.{Name, name_eq, has_name}
 use Rattle.mm_read.specs.declared.stmt.Stmt.{Stmt}
 use Rattle.mm_read.specs.declared.stmt.Stmt.TheVariants.{Open, Close, Const, Var, Disj, Float, Ess, Axiom, Prove}
 use Rattle.mm_read.specs.Statements.{Database}
 use Rattle.mm_read.specs.Reads.{Reads}
 use Rattle.names.proofs.CodesLemmas.{name_same}
-use Rattle.scope.specs.Active.{stmt_at, label_of, is_assertion}
+use Rattle.scope.specs.Active.{label_of, is_assertion}
 use Rattle.library.specs.Good.{Good}
 use Rattle.library.proofs.FrontLemmas.{stands-within}
-use Rattle.extract.specs.Wanted.{NamesAssertion, IsRight, AreRight}
+use Rattle.extract.specs.Wanted.{NamesAssertion, AreRight}
 use Rattle.extract.specs.Kept.{IsPart, IsKept}
 use Rattle.extract.specs.Walk.{wanted, AreKept}
-use Rattle.extract.specs.Extract.{AreExtract, IsExtract}
+use Rattle.extract.specs.Extract.{IsExtract}
 use Rattle.extract.proofs.WalkLemmas.{part-whole}
 
 -- ---- each label

@@ -1,5 +1,5 @@
 -- Two databases walked side by side, and what of the one is kept in the other.
-use Rattle.std.specs.Prelude.{◌≡◌, ℕ, zero, suc, ◌+◌, ◌-◌, ◌<◌, ◌≤◌, Bool, true, false, List, [], ◌∷◌, ◌++◌, length, map, take, get_or, slice_get, Some, None, Result, Ok, Err, IfOk, refl}
+use Rattle.std.specs.Prelude.{◌≡◌, ℕ, zero, suc, ◌+◌, ◌-◌, ◌<◌, ◌≤◌, true, false, List, [], ◌∷◌, ◌++◌, length, map, take, get_or, slice_get, Some, Result, Ok, Err, IfOk, refl}
 use Rattle.std.proofs.Common.{sym, ◌∙◌, ap, subst, arith, inl, inr, take_all}
 use Rattle.std.proofs.lemmas.Bool.{cases_eq}
 use Rattle.std.proofs.lemmas.List.{take_more, take-map, map-append}
@@ -9,9 +9,9 @@ use Rattle.mm_read.specs.declared.stmt.Stmt.TheVariants.{Open, Close, Const, Var
 use Rattle.mm_read.specs.Statements.{Database}
 use Rattle.scope.specs.Active.{bare, bares, before, stmt_at, is_assertion}
 use Rattle.frame.specs.Citations.{Carries}
-use Rattle.frame.specs.FrameOf.{hypotheses, mandatory_groups, together, is_mandatory_pair}
+use Rattle.frame.specs.FrameOf.{hypotheses, mandatory_groups, together}
 use Rattle.frame.proofs.GroupsLemmas.{groups-pairs}
-use Rattle.extract.specs.Kept.{IsPart, nothing, takes, leaves, hypotheses_at, IsKept}
+use Rattle.extract.specs.Kept.{IsPart, nothing, takes, leaves, IsKept}
 use Rattle.extract.specs.Walk.{wanted, AreKept, IsSameFrame, IsWalked}
 
 -- ---- what holds of an answer
@@ -76,9 +76,9 @@ wanted-assertion labels (Ess label expr) h = cc
 
 kept-more : (S T : Database) (labels : List Name) (n : ℕ) (s : Stmt) → AreKept S T labels n → slice_get S n ≡ Some s → (wanted labels s ≡ true → (label : Name) → Carries S (suc n) s label → IsKept S T label) → AreKept S T labels (n + 1)
 kept-more S T labels n s kept there here i r upto stands want label c = elim (cases_eq i (suc n)) [
-    | inl same ↦ last same
-    | inr apart ↦ kept i r (omega (arith, upto, apart)) stands want label c
-  ]
+  | inl same ↦ last same
+  | inr apart ↦ kept i r (omega (arith, upto, apart)) stands want label c
+]
   where
     last : i ≡ suc n → IsKept S T label
     last e =

@@ -1,5 +1,5 @@
 -- Labels of which nothing is wrong, and the first of which something is.
-use Rattle.std.specs.Prelude.{◌≡◌, ◌⊎◌, ℕ, ◌+◌, zero, suc, ◌<◌, ◌≤◌, true, false, List, [], ◌∷◌, ◌++◌, length, map, take, drop, get_or, option_map, Some, refl}
+use Rattle.std.specs.Prelude.{◌≡◌, ℕ, ◌+◌, zero, suc, ◌<◌, ◌≤◌, true, false, List, [], ◌∷◌, ◌++◌, length, map, take, drop, get_or, option_map, Some, refl}
 use Rattle.std.proofs.Common.{sym, ◌∙◌, ap, subst, arith, inl, inr, append_assoc, append-nil, take_all}
 use Rattle.std.proofs.lemmas.List.{take_more, drop_more, drop_all, take-map, take-append-drop}
 use Rattle.mm_lex.specs.Alphabet.{Name}
@@ -7,7 +7,6 @@ use Rattle.mm_read.specs.declared.stmt.Stmt.{Stmt}
 use Rattle.mm_read.specs.declared.stmt.Stmt.TheVariants.{Open, Close, Const, Var, Disj, Float, Ess, Axiom, Prove}
 use Rattle.mm_read.specs.Statements.{Database}
 use Rattle.scope.specs.Active.{bare, bares, stmt_at, is_assertion}
-use Rattle.frame.specs.Citations.{Carries}
 use Rattle.frame.specs.FrameOf.{HasAssertion}
 use Rattle.frame.specs.Reading.{HasLabelsOnce}
 use Rattle.library.proofs.AskedLemmas.{one-place}

@@ -160,9 +160,13 @@ impl<'a> Choice<'a> {
     /// Takes a hypothesis of the assertion at a position.
     fn hypothesis(&mut self, at: usize, position: usize) {
         match statement_at(self.library.statements(), position) {
-            Some(Stmt::Float {
-                constant, variable, ..
-            }) => {
+            Some(
+                Stmt::Float {
+                    constant,
+                    variable,
+                    ..
+                },
+            ) => {
                 mark(&mut self.marks, Some(position));
                 self.declaration(constant.as_bytes());
                 self.declaration(variable.as_bytes());

@@ -68,7 +68,11 @@ fn advance(
     let statement = &whole[index];
     let wanted = is_wanted(statement, labels);
     if !is_at(part, walk.next, statement) {
-        return if wanted { Ok(false) } else { accepts(&mut walk.whole, statement) };
+        return if wanted {
+            Ok(false)
+        } else {
+            accepts(&mut walk.whole, statement)
+        };
     }
     if !agrees(alloc, whole, part, walk, wanted, statement)? {
         return Ok(false);

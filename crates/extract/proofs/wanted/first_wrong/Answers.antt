@@ -9,14 +9,14 @@ returns-in-Some-clause-wrong c =
     let same : c.in-Some.fault ≡ fault = (let h = e in cc) in
     subst (IsFirstWrong c.args.statements.now [] (map (λ label. label.now) c.args.labels.now)) same
     (label-wrong c.args.statements.now c.args.frames.now.statements c.requires.same c.requires.once (λ label. label.now) c.args.labels.now c.loop-index.index _
-        c.as_bytes-label.result.now c.loop-index-test.true c.as_bytes-label.ensures.value c.loop-index.invariant c.in-Some.fault c.in-Some.ensures)
+    c.as_bytes-label.result.now c.loop-index-test.true c.as_bytes-label.ensures.value c.loop-index.invariant c.in-Some.fault c.in-Some.ensures)
 
 pub returns-in-Some-clause-only : goal.returns-in-Some-clause-only
 returns-in-Some-clause-only c =
     λ fault first.
     ap Some
     (label-only c.args.statements.now c.args.frames.now.statements c.requires.same c.requires.once (λ label. label.now) c.args.labels.now c.loop-index.index _
-        c.as_bytes-label.result.now c.loop-index-test.true c.as_bytes-label.ensures.value c.loop-index.invariant c.in-Some.fault fault c.in-Some.ensures first)
+    c.as_bytes-label.result.now c.loop-index-test.true c.as_bytes-label.ensures.value c.loop-index.invariant c.in-Some.fault fault c.in-Some.ensures first)
 
 pub loop-index-preserved : goal.loop-index-preserved
 loop-index-preserved c =
