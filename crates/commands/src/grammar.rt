@@ -54,11 +54,13 @@ fn with_questions<'a>(alloc: Global, program: Command<'a>) -> Result<Command<'a>
         .arg(label_argument(alloc))?;
     let usage = usage_command(alloc)?;
     let proof = proof_command(alloc)?;
+    let extract = extract_command(alloc)?;
     program
         .subcommand(tree)?
         .subcommand(trace)?
         .subcommand(usage)?
-        .subcommand(proof)
+        .subcommand(proof)?
+        .subcommand(extract)
 }
 
 fn usage_command<'a>(alloc: Global) -> Result<Command<'a>, AllocError> {
@@ -81,6 +83,14 @@ fn proof_command<'a>(alloc: Global) -> Result<Command<'a>, AllocError> {
         .arg(html_option(alloc))
 }
 
+fn extract_command<'a>(alloc: Global) -> Result<Command<'a>, AllocError> {
+    Command::new(alloc, "extract")
+        .about(
+            "Print some assertions of the database on standard input, with all that they need: mmlib extract id < set.mm",
+        )
+        .arg(labels_argument(alloc))
+}
+
 /// The commands that run a script.
 fn with_scripts<'a>(alloc: Global, program: Command<'a>) -> Result<Command<'a>, AllocError> {
     let play = Command::new(alloc, "play")
@@ -100,6 +110,15 @@ fn label_argument<'a>(alloc: Global) -> Arg<'a> {
         .value_name("LABEL")
         .required(true)
         .help("A label of the database; one that begins with - stands after --")
+}
+
+fn labels_argument<'a>(alloc: Global) -> Arg<'a> {
+    Arg::new(alloc, "labels")
+        .value_name("LABEL")
+        .action(ArgAction::Append)
+        .required(true)
+        .num_args(1..)
+        .help("The labels of assertions; those that begin with - stand after --")
 }
 
 fn all_option<'a>(alloc: Global) -> Arg<'a> {

@@ -106,6 +106,9 @@ fn question<'a>(
             label: label(alloc, options)?,
             all: options.get_flag("all"),
         }),
+        "extract" => Ok(Question::Extract {
+            labels: labels(alloc, options)?,
+        }),
         _ => Err(commands(alloc)?.error(ErrorKind::MissingSubcommand, "a command is wanted")?),
     }
 }
@@ -114,11 +117,20 @@ fn question<'a>(
 fn label<'a>(alloc: Global, options: &ArgMatches<'a>) -> Result<&'a str, Error> {
     match options.get_str("label") {
         Some(label) => Ok(label),
-        None => Err(commands(alloc)?.error(
-            ErrorKind::MissingRequiredArgument,
-            "a label is wanted",
-        )?),
+        None => Err(no_label(alloc)?),
     }
+}
+
+/// The labels that are asked about, in order.
+fn labels<'a>(alloc: Global, options: &ArgMatches<'a>) -> Result<Vec<&'a str>, Error> {
+    match options.get_strs("labels") {
+        Some(labels) => Ok(Vec::from_slice(alloc, labels)?),
+        None => Err(no_label(alloc)?),
+    }
+}
+
+fn no_label(alloc: Global) -> Result<Error, AllocError> {
+    commands(alloc)?.error(ErrorKind::MissingRequiredArgument, "a label is wanted")
 }
 
 /// The form that is asked for.

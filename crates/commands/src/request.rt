@@ -56,6 +56,10 @@ pub enum Question<'a> {
         label: &'a str,
         all: bool,
     },
+    /// `extract`: a database of the assertions of these labels and of all that they need.
+    Extract {
+        labels: Vec<&'a str>,
+    },
 }
 
 /// In which form a proof is printed.

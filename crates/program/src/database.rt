@@ -4,6 +4,7 @@ use crate::refusal::{print_outline_reason, print_refusal};
 use crate::streams::{ReadFailure, TEXT_LIMIT, print, read_text};
 use bytes::Bytes;
 use commands::Question;
+use extract::{ExtractFault, extract};
 use library::{AskFault, Cause, Entry, Library, Submission, Verdict};
 use mm_read::Stmt;
 use outline::{outline_text, push_number};
@@ -100,10 +101,26 @@ fn print_answer<O: Write>(
             };
             return print_proof(alloc, library, &wanted, output);
         }
+        Question::Extract { labels } => {
+            return print_extract(alloc, library, labels.as_slice(), output);
+        }
     };
     match answered {
         Ok(lines) => print(output, lines.as_slice(), 0),
         Err(fault) => print(output, fault_line(fault), 1),
+    }
+}
+
+/// Prints what is taken out of a library, or why nothing is; the answer is the exit status.
+fn print_extract<O: Write>(
+    alloc: Global,
+    library: &Library,
+    labels: &[&str],
+    output: &mut O,
+) -> u8 {
+    match extract(alloc, library, labels) {
+        Ok(text) => print(output, text.as_slice(), 0),
+        Err(fault) => print(output, extract_line(fault), 1),
     }
 }
 
@@ -174,5 +191,15 @@ pub(crate) fn fault_line(fault: AskFault) -> &'static [u8] {
         AskFault::NotProvable => b"refused NotProvable\n",
         AskFault::TooLarge => b"refused TooLarge\n",
         AskFault::Memory => b"refused Memory\n",
+    }
+}
+
+/// The line of labels that name nothing to take out.
+fn extract_line(fault: ExtractFault) -> &'static [u8] {
+    match fault {
+        ExtractFault::NoLabel => b"refused NoLabel\n",
+        ExtractFault::NotAssertion => b"refused NotAssertion\n",
+        ExtractFault::SameLabel => b"refused SameLabel\n",
+        ExtractFault::Memory => b"refused Memory\n",
     }
 }

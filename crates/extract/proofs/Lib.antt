@@ -1,0 +1,4 @@
+pub mod WantedLemmas
+pub mod WalkLemmas
+pub mod SameLemmas
+pub mod TakenLemmas

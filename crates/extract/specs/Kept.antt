@@ -1,0 +1,31 @@
+-- Some of the statements of a database, and an assertion that stands among them as in the whole.
+-- Source: Metamath, 4.2.7: an assertion is its frame, that is its hypotheses, its pairs and its expression.
+-- The code goes through both databases once, side by side.
+use Rattle.std.specs.Prelude.{◌≡◌, ℕ, IsTrue, List, [], ◌∷◌, map, Option}
+use Rattle.mm_lex.specs.Alphabet.{Name}
+use Rattle.mm_read.specs.declared.stmt.Stmt.{Stmt}
+use Rattle.mm_read.specs.Statements.{Database}
+use Rattle.scope.specs.Active.{bares, before, stmt_at, is_assertion}
+use Rattle.frame.specs.Citations.{Carries}
+use Rattle.frame.specs.FrameOf.{hypotheses, is_mandatory_pair}
+
+-- the first database has some of the statements of the second, in their order, and nothing else
+pub data IsPart : Database → Database → Type 0 where
+  nothing : IsPart [] []
+  takes : {s : Stmt} {T S : Database} → IsPart T S → IsPart (s ∷ T) (s ∷ S)
+  leaves : {s : Stmt} {T S : Database} → IsPart T S → IsPart T (s ∷ S)
+
+-- the mandatory hypotheses of the assertion at a position, as statements
+abbrev pub hypotheses_at : Database → ℕ → Stmt → List (Option Stmt)
+hypotheses_at S at s = map (stmt_at S) (hypotheses (before (bares S) at) s)
+
+-- the assertion of the label stands in S and in T, the same in its expression, its proof, its hypotheses and its mandatory pairs
+pub record IsKept (S T : Database) (label : Name) : Type 0 where
+  pub stmt : Stmt
+  pub there : ℕ
+  pub here : ℕ
+  pub stands : Carries S there stmt label
+  pub kept : Carries T here stmt label
+  pub assertion : IsTrue (is_assertion stmt)
+  pub hypotheses : hypotheses_at S there stmt ≡ hypotheses_at T here stmt
+  pub pairs : (x y : Name) → is_mandatory_pair (before (bares S) there) stmt x y ≡ is_mandatory_pair (before (bares T) here) stmt x y

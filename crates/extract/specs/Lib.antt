@@ -1,0 +1,4 @@
+pub mod Wanted
+pub mod Kept
+pub mod Walk
+pub mod Extract

@@ -1,0 +1,34 @@
+-- How far a database and a part of it were walked side by side.
+-- Source: none; for the private functions of `compare`.
+-- The code keeps of each the scope behind the statements that were passed.
+use Rattle.std.specs.Prelude.{◌≡◌, ℕ, ◌≤◌, Bool, true, false, List, map, take, Some}
+use Rattle.mm_lex.specs.Alphabet.{Name, has_name}
+use Rattle.mm_read.specs.declared.stmt.Stmt.{Stmt}
+use Rattle.mm_read.specs.declared.stmt.Stmt.TheVariants.{Axiom, Prove}
+use Rattle.mm_read.specs.Statements.{Database}
+use Rattle.scope.specs.Active.{bares, stmt_at}
+use Rattle.frame.specs.Citations.{Carries}
+use Rattle.frame.specs.FrameOf.{hypotheses, mandatory_groups}
+use Rattle.extract.specs.Kept.{IsPart, IsKept}
+
+-- an assertion of one of these labels
+abbrev pub wanted : List Name → Stmt → Bool
+wanted labels (Axiom label expr) = has_name label labels
+wanted labels (Prove label expr proof) = has_name label labels
+wanted labels s = false
+
+-- the assertions of these labels among the first so many statements are kept
+abbrev pub AreKept : Database → Database → List Name → ℕ → Type 0
+AreKept S T labels n = (i : ℕ) (s : Stmt) → i ≤ n → stmt_at S i ≡ Some s → wanted labels s ≡ true → (label : Name) → Carries S i s label → IsKept S T label
+
+-- an assertion behind the statements A of S and B of T has the same hypotheses and pairs
+pub record IsSameFrame (S T A B : Database) (s : Stmt) : Type 0 where
+  pub hypotheses : map (stmt_at S) (hypotheses A s) ≡ map (stmt_at T) (hypotheses B s)
+  pub groups : mandatory_groups A s ≡ mandatory_groups B s
+
+-- n statements of S were passed and k of T met, behind which the scopes stand
+pub record IsWalked (S T : Database) (labels : List Name) (n k : ℕ) (whole part : Database) : Type 0 where
+  pub whole_is : whole ≡ bares (take n S)
+  pub part_is : part ≡ bares (take k T)
+  pub part_of : IsPart (take k T) (take n S)
+  pub kept : AreKept S T labels n

@@ -1,0 +1,53 @@
+-- Labels that name assertions, each once, and the first of a list that does not.
+-- Source: Metamath, 4.2 (assertions are `$a` and `$p`); that a label stands once is this project's choice.
+-- The code finds labels in a table.
+use Rattle.std.specs.Prelude.{◌≡◌, ◌⊎◌, ℕ, true, false, IsTrue, IsFalse, List, [], ◌∷◌, ◌++◌, Option, Some, None}
+use Rattle.mm_lex.specs.Alphabet.{Name, has_name}
+use Rattle.mm_read.specs.declared.stmt.Stmt.{Stmt}
+use Rattle.mm_read.specs.Statements.{Database}
+use Rattle.scope.specs.Active.{is_assertion}
+use Rattle.frame.specs.Citations.{Carries}
+use Rattle.library.specs.Asked.{HasNoLabel}
+use Rattle.extract.specs.declared.fault.ExtractFault.{ExtractFault}
+use Rattle.extract.specs.declared.fault.ExtractFault.TheVariants.{NoLabel, NotAssertion, SameLabel, Memory}
+
+-- the assertion of the label
+pub record NamesAssertion (S : Database) (label : Name) : Type 0 where
+  pub position : ℕ
+  pub stmt : Stmt
+  pub carries : Carries S position stmt label
+  pub assertion : IsTrue (is_assertion stmt)
+
+-- a statement has the label, and is no assertion
+pub record NamesHypothesis (S : Database) (label : Name) : Type 0 where
+  pub position : ℕ
+  pub stmt : Stmt
+  pub carries : Carries S position stmt label
+  pub other : IsFalse (is_assertion stmt)
+
+-- what is wrong with a label behind others
+abbrev pub IsWrong : Database → List Name → Name → ExtractFault → Type 0
+IsWrong S earlier label NoLabel = HasNoLabel S label
+IsWrong S earlier label NotAssertion = NamesHypothesis S label
+IsWrong S earlier label SameLabel = NamesAssertion S label × (has_name label earlier ≡ true)
+IsWrong S earlier label Memory = ⊥
+
+-- nothing is wrong with it
+abbrev pub IsRight : Database → List Name → Name → Type 0
+IsRight S earlier label = NamesAssertion S label × (has_name label earlier ≡ false)
+
+-- what is wrong with it, if anything
+abbrev pub IsJudged : Database → List Name → Name → Option ExtractFault → Type 0
+IsJudged S earlier label None = IsRight S earlier label
+IsJudged S earlier label (Some fault) = IsWrong S earlier label fault
+
+-- nothing is wrong with the labels, which stand behind others
+abbrev pub AreRight : Database → List Name → List Name → Type 0
+AreRight S earlier [] = Unit {0}
+AreRight S earlier (label ∷ labels) = IsRight S earlier label × AreRight S (earlier ++ label ∷ []) labels
+
+-- the first label with which something is wrong, and what
+abbrev pub IsFirstWrong : Database → List Name → List Name → ExtractFault → Type 0
+IsFirstWrong S earlier [] fault = ⊥
+IsFirstWrong S earlier (label ∷ labels) fault =
+    IsWrong S earlier label fault ⊎ (IsRight S earlier label × IsFirstWrong S (earlier ++ label ∷ []) labels fault)

@@ -1,0 +1,53 @@
+//! The statements that assertions rest on: those that their proofs name, and those that these name.
+use frame::Frames;
+use library::Library;
+use mm_lex::Words;
+use mm_read::Stmt;
+use std::alloc::{AllocError, Global};
+
+/// For each statement whether it has one of the labels, or the proof of one that is marked names it. What a proof names stands
+/// before it, so the statements are walked down.
+pub(crate) fn named(
+    alloc: Global,
+    library: &Library,
+    labels: &[&str],
+) -> Result<Vec<bool>, AllocError> {
+    let statements = library.statements();
+    let frames = library.frames();
+    let mut marks = vec![in alloc; false; statements.len()]?;
+    for label in labels {
+        mark(&mut marks, frames.position(label.as_bytes()));
+    }
+    for (index, statement) in statements.iter().enumerate().rev() {
+        if let Stmt::Prove { proof, .. } = statement {
+            if is_marked(&marks, index + 1) {
+                mark_named(frames, proof, &mut marks);
+            }
+        }
+    }
+    Ok(marks)
+}
+
+/// Marks what the labels of a proof name: all tokens of a normal proof, those in the parentheses of a compressed one.
+fn mark_named(frames: &Frames, proof: &Words, marks: &mut [bool]) {
+    for token in proof.iter() {
+        if token == b")".as_slice() {
+            return;
+        }
+        mark(marks, frames.position(token));
+    }
+}
+
+/// Marks a position, counted from 1.
+pub(crate) fn mark(marks: &mut [bool], position: Option<usize>) {
+    if let Some(position) = position {
+        if position > 0 && position <= marks.len() {
+            marks[position - 1] = true;
+        }
+    }
+}
+
+/// Whether the position is marked.
+pub(crate) fn is_marked(marks: &[bool], position: usize) -> bool {
+    position > 0 && position <= marks.len() && marks[position - 1]
+}

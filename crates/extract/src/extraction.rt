@@ -1,0 +1,82 @@
+//! What is taken out of a library.
+ghost use Rattle.std.specs.Prelude.{◌≡◌, ◌⊎◌, [], map, Err, IfOk, IfErr};
+ghost use Rattle.extract.specs.declared.fault.ExtractFault.{ExtractFault as Fault};
+ghost use Rattle.extract.specs.Wanted.{AreRight, IsFirstWrong};
+ghost use Rattle.extract.specs.Extract.{AreExtract, IsExtract};
+
+use crate::choice::choose;
+use crate::compare::is_extract;
+use crate::fault::ExtractFault;
+use crate::wanted::first_wrong;
+use bytes::Bytes;
+use library::{Entry, Library, Submission};
+use mm_read::push_line;
+use std::alloc::{AllocError, Global};
+
+/// Statements of the library with the assertions of these labels, in the export form: those with all that their proofs use, and
+/// little else.
+///
+/// Errors: what is wrong with the first label that is no assertion's or that stands before, also where every growth is refused;
+/// `Memory` in place of an answer alone. Cost: that of the proofs taken, and a pass over the rules of all statements.
+/// Source: Metamath, 4.2.
+pub fn extract(alloc: Global, library: &Library, labels: &[&str]) -> Result<Vec<u8>, ExtractFault>
+    ensures extract { IfOk result (λ text. IsExtract library.now.replica.statements (map (λ label. label.now) labels.now) text.items) }
+    ensures wrong { (fault : Fault) → IsFirstWrong library.now.replica.statements [] (map (λ label. label.now) labels.now) fault → result ≡ Err fault }
+    ensures only_wrong { IfErr result (λ fault. IsFirstWrong library.now.replica.statements [] (map (λ label. label.now) labels.now) fault ⊎ (fault ≡ ExtractFault.Memory)) }
+{
+    match first_wrong(library.frames(), library.statements(), labels) {
+        Some(fault) => Err(fault),
+        None => Ok(taken(alloc, library, labels)?),
+    }
+}
+
+/// The text of the chosen statements where they are enough, and else of all.
+fn taken(alloc: Global, library: &Library, labels: &[&str]) -> Result<Vec<u8>, AllocError>
+    requires { AreRight library.now.replica.statements [] (map (λ label. label.now) labels.now) }
+    ensures { IfOk result (λ text. IsExtract library.now.replica.statements (map (λ label. label.now) labels.now) text.items) }
+{
+    let mut part = Library::new(alloc);
+    taken_by(alloc, library, labels, &mut part)
+}
+
+/// The same by a library for the chosen statements, which stays empty where they are not good.
+fn taken_by(
+    alloc: Global,
+    library: &Library,
+    labels: &[&str],
+    part: &mut Library,
+) -> Result<Vec<u8>, AllocError>
+    requires { AreRight library.now.replica.statements [] (map (λ label. label.now) labels.now) }
+    ensures { IfOk result (λ text. IsExtract library.now.replica.statements (map (λ label. label.now) labels.now) text.items) }
+{
+    enter(chosen(alloc, library, labels)?, part)?;
+    if is_extract(alloc, library.statements(), part.statements(), labels)? {
+        part.export()
+    } else {
+        library.export()
+    }
+}
+
+/// The text of the chosen statements.
+fn chosen(alloc: Global, library: &Library, labels: &[&str]) -> Result<Vec<u8>, AllocError> {
+    let marks = choose(alloc, library, labels)?;
+    let mut text = Vec::new(alloc);
+    for (statement, marked) in library.statements().iter().zip(marks.iter()) {
+        if *marked {
+            push_line(&mut text, statement)?;
+        }
+    }
+    Ok(text)
+}
+
+/// Adds the statements of a text, where they are good.
+fn enter(text: Vec<u8>, part: &mut Library) -> Result<(), AllocError> {
+    let text = Bytes::from_vec(text).map_err(AllocError::from)?;
+    let entry = Entry::Text(Submission {
+        author: 0,
+        serial: 0,
+        text,
+    });
+    part.apply(Some(&entry))?;
+    Ok(())
+}

@@ -1,0 +1,26 @@
+//! Why assertions are not taken out of a library.
+use std::alloc::AllocError;
+
+/// Why assertions are not taken out of a library.
+#[derive(Clone, Copy, Debug, Drop, PartialEq, Eq)]
+pub enum ExtractFault {
+    /// No statement has the label.
+    NoLabel,
+    /// The statement that has it is a hypothesis.
+    NotAssertion,
+    /// The label stands before in the list.
+    SameLabel,
+    /// A growth was refused.
+    Memory,
+}
+
+impl From<AllocError> for ExtractFault {
+    ghost use Rattle.std.specs.Prelude.{◌≡◌};
+    ghost use Rattle.extract.specs.declared.fault.ExtractFault.TheVariants.{Memory};
+
+    ghost from_gives = { λ _ fault. fault ≡ Memory };
+
+    fn from(_error: AllocError) -> ExtractFault {
+        ExtractFault::Memory
+    }
+}

@@ -1,0 +1,18 @@
+//! A database of some assertions of a library, with what they need and little else.
+//!
+//! The crate above uses `extract`: what it gives reads as good statements of the library, in their order, and has each named
+//! assertion with its hypotheses and its mandatory pairs. Which statements are chosen is promised nowhere: the choice is judged by
+//! a library of its own and compared with the whole, and where anything is wanting the whole is given.
+//!
+//! Reading order: `fault`, `wanted` (the labels), `cited` and `choice` (the statements), `compare` (what is kept), `extract`.
+#![tactic(auto)]
+
+mod choice;
+mod cited;
+mod compare;
+mod extraction;
+mod fault;
+mod wanted;
+
+pub use extraction::extract;
+pub use fault::ExtractFault;

@@ -1,0 +1,93 @@
+//! The labels of the assertions that are wanted.
+ghost use Rattle.std.specs.Prelude.{◌≡◌, ◌≤◌, [], map, length, Some, None};
+ghost use Rattle.mm_lex.specs.Alphabet.{name_eq, has_name};
+ghost use Rattle.mm_read.specs.declared.stmt.Stmt.{Stmt as Statement};
+ghost use Rattle.scope.specs.Active.{bares, stmt_at, is_assertion};
+ghost use Rattle.frame.specs.Reading.{HasLabelsOnce};
+ghost use Rattle.extract.specs.declared.fault.ExtractFault.{ExtractFault as Fault};
+ghost use Rattle.extract.specs.Wanted.{AreRight, IsFirstWrong, IsJudged};
+
+use crate::fault::ExtractFault;
+use frame::Frames;
+use mm_read::Stmt;
+
+/// What is wrong with the first label that is no assertion's, or that stands before; none where nothing is. Takes no memory.
+pub(crate) fn first_wrong(
+    frames: &Frames,
+    statements: &[Stmt],
+    labels: &[&str],
+) -> Option<ExtractFault>
+    requires same { frames.now.statements ≡ bares statements.now }
+    requires once { HasLabelsOnce frames.now.statements }
+    ensures right { result ≡ None → AreRight statements.now [] (map (λ label. label.now) labels.now) }
+    ensures wrong { (fault : Fault) → result ≡ Some fault → IsFirstWrong statements.now [] (map (λ label. label.now) labels.now) fault }
+    ensures only { (fault : Fault) → IsFirstWrong statements.now [] (map (λ label. label.now) labels.now) fault → result ≡ Some fault }
+{
+    for index in 0..labels.len() {
+        let label = labels[index].as_bytes();
+        match wrong(frames, statements, &labels[..index], label) {
+            Some(fault) => return Some(fault),
+            None => {}
+        }
+    }
+    None
+}
+
+/// What is wrong with a label behind others, if anything.
+fn wrong(
+    frames: &Frames,
+    statements: &[Stmt],
+    earlier: &[&str],
+    label: &[u8],
+) -> Option<ExtractFault>
+    requires same { frames.now.statements ≡ bares statements.now }
+    requires once { HasLabelsOnce frames.now.statements }
+    ensures { IsJudged statements.now (map (λ label. label.now) earlier.now) label.now result }
+{
+    let Some(at) = frames.position(label) else {
+        return Some(ExtractFault::NoLabel);
+    };
+    if is_assertion_at(statements, at) {
+        if is_among(label, earlier) {
+            Some(ExtractFault::SameLabel)
+        } else {
+            None
+        }
+    } else {
+        Some(ExtractFault::NotAssertion)
+    }
+}
+
+/// Whether an assertion stands at the position.
+fn is_assertion_at(statements: &[Stmt], at: usize) -> bool
+    requires { (1 ≤ at) × (at ≤ length statements.now) }
+    ensures { (s : Statement) → stmt_at statements.now at ≡ Some s → result ≡ is_assertion s }
+{
+    is_assertion(&statements[at - 1])
+}
+
+/// Whether it is a `$a` or a `$p`.
+pub(crate) fn is_assertion(statement: &Stmt) -> bool
+    ensures { result ≡ is_assertion statement.now }
+{
+    matches!(statement, Stmt::Axiom { .. } | Stmt::Prove { .. })
+}
+
+/// Whether the label stands among these.
+pub(crate) fn is_among(label: &[u8], labels: &[&str]) -> bool
+    ensures { result ≡ has_name label.now (map (λ label. label.now) labels.now) }
+{
+    for other in labels {
+        if is_text(other, label) {
+            return true;
+        }
+    }
+    false
+}
+
+/// Whether the text has these bytes.
+fn is_text(text: &str, bytes: &[u8]) -> bool
+    ensures { result ≡ name_eq bytes.now text.now }
+{
+    bytes == text.as_bytes()
+}
