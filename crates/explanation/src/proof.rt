@@ -1,5 +1,7 @@
 //! Proofs that are wrong or unfinished.
+ghost use Rattle.mm_read.specs.declared.stmt.Stmt.{Stmt as Statement};
 ghost use Rattle.mm_read.specs.Statements.{AreShaped};
+ghost use Rattle.verify.specs.Right.{IsProvable};
 
 use crate::code_fault::code_break;
 use crate::expressions::push_expression;
@@ -9,11 +11,12 @@ use crate::page::Page;
 use crate::step_fault::push_fault;
 use crate::symbols::word_at;
 use crate::theorem::Theorem;
+use explain::{WhyUnproved, explain};
 use frame::Frames;
 use mm_lex::Words;
 use mm_read::{ReadFault, Stmt, read};
-use proof_code::{CodeFault, Items, is_compressed, normal, packed};
-use reasons::{Fault, Reason, first_fault};
+use proof_code::Items;
+use reasons::{Fault, Reason};
 use scope::Scope;
 use std::alloc::{AllocError, Global};
 
@@ -89,16 +92,8 @@ fn explain_wrong(
     };
     let mut scope = Scope::new(alloc);
     let mut frames = Frames::new(alloc);
-    let mut mandatory = Words::new(alloc);
-    match enter(
-        alloc,
-        &mut scope,
-        &mut frames,
-        &mut mandatory,
-        statements,
-        at,
-    ) {
-        Ok(true) => explain_theorem(alloc, page, &frames, &mandatory, &theorem),
+    match enter(&mut scope, &mut frames, statements) {
+        Ok(true) => explain_theorem(alloc, page, &frames, &theorem),
         Ok(false) => Ok(()),
         Err(error) => Err(error),
     }
@@ -108,18 +103,16 @@ fn explain_theorem(
     alloc: Global,
     page: &mut Page,
     frames: &Frames,
-    mandatory: &Words,
     theorem: &Theorem<'_>,
-) -> Result<(), AllocError> {
-    let read = if is_compressed(theorem.proof) {
-        packed(alloc, theorem.proof, mandatory)
-    } else {
-        normal(alloc, theorem.proof)
-    };
-    match read {
-        Ok(items) => explain_items(alloc, page, frames, theorem, &items),
-        Err(CodeFault::Memory) => Err(AllocError),
-        Err(_) => explain_code(alloc, page, mandatory, theorem),
+) -> Result<(), AllocError>
+    requires { (s : Statement) × IsProvable frames.now.statements theorem.now.at s }
+{
+    match explain(alloc, frames, theorem.at, theorem.proof)? {
+        Some(WhyUnproved::Code) => explain_code(alloc, page, frames, theorem),
+        Some(WhyUnproved::Run { items, reason }) => {
+            explain_reason(alloc, page, frames, theorem, &items, &reason)
+        }
+        None => Ok(()),
     }
 }
 
@@ -127,10 +120,13 @@ fn explain_theorem(
 fn explain_code(
     alloc: Global,
     page: &mut Page,
-    mandatory: &Words,
+    frames: &Frames,
     theorem: &Theorem<'_>,
-) -> Result<(), AllocError> {
-    let broken = code_break(theorem.proof, mandatory);
+) -> Result<(), AllocError>
+    requires { (s : Statement) × IsProvable frames.now.statements theorem.now.at s }
+{
+    let mandatory = theorem.mandatory(alloc, frames)?;
+    let broken = code_break(theorem.proof, &mandatory);
     theorem.push_spot(alloc, page, broken.spot)?;
     page.push(b" cannot be read\n  ")?;
     page.push(broken.words)?;
@@ -138,23 +134,6 @@ fn explain_code(
 }
 
 /// The first fault of the run over the items.
-fn explain_items(
-    alloc: Global,
-    page: &mut Page,
-    frames: &Frames,
-    theorem: &Theorem<'_>,
-    items: &Items,
-) -> Result<(), AllocError> {
-    if theorem.at == 0 || theorem.at > frames.len() {
-        return Ok(());
-    }
-    match first_fault(alloc, frames, theorem.at, items) {
-        Ok(Some(reason)) => explain_reason(alloc, page, frames, theorem, items, &reason),
-        Ok(None) => Ok(()),
-        Err(error) => Err(error),
-    }
-}
-
 fn explain_reason(
     alloc: Global,
     page: &mut Page,

@@ -27,7 +27,7 @@ pub enum DatabaseFault {
 
 /// The lines that say why the text is refused; none where it is not refused so.
 ///
-/// Cost: that of reading the text and of its statements once more, and of the one proof.
+/// Cost: that of reading the text and of its statements once more, and of judging the one proof twice.
 pub fn explain_refusal(
     alloc: Global,
     text: &[u8],

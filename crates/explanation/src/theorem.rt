@@ -1,8 +1,12 @@
 //! A `$p` of a text: its parts, and where its proof stands.
+ghost use Rattle.std.specs.Prelude.{◌≡◌, IfSome};
+ghost use Rattle.mm_read.specs.declared.stmt.Stmt.{Stmt as Statement};
+ghost use Rattle.verify.specs.Right.{IsProvable};
 
 use crate::items::Spot;
 use crate::page::Page;
 use crate::symbols::label_of;
+use frame::Frames;
 use mm_lex::Words;
 use mm_read::Stmt;
 use places::place_of;
@@ -22,8 +26,12 @@ pub(crate) struct Theorem<'a> {
 
 impl<'a> Theorem<'a> {
     /// The `$p` at a position; none where no `$p` stands there.
-    pub(crate) fn new(text: &'a [u8], statements: &'a [Stmt], at: usize) -> Option<Theorem<'a>> {
-        let Some(Stmt::Prove { label, expr, proof }) = statements.get(at.saturating_sub(1)) else {
+    pub(crate) fn new(text: &'a [u8], statements: &'a [Stmt], at: usize) -> Option<Theorem<'a>>
+        ensures at { IfSome result (λ theorem. theorem.at ≡ at) }
+        ensures provable { IfSome result (λ theorem. (s : Statement) × IsProvable statements.now at s) }
+    {
+        let index = at.checked_sub(1)?;
+        let Some(Stmt::Prove { label, expr, proof }) = statements.get(index) else {
             return None;
         };
         Some(Theorem {
@@ -57,6 +65,23 @@ impl<'a> Theorem<'a> {
     pub(crate) fn push_end(&self, alloc: Global, page: &mut Page) -> Result<(), AllocError> {
         let token = self.proof.len();
         self.push_spot(alloc, page, Spot { token, byte: 0 })
+    }
+
+    /// The labels of its mandatory hypotheses, in order.
+    pub(crate) fn mandatory(&self, alloc: Global, frames: &Frames) -> Result<Words, AllocError>
+        requires { (s : Statement) × IsProvable frames.now.statements self.now.at s }
+    {
+        let mut positions = Vec::new(alloc);
+        frames.mandatory(self.at, &mut positions)?;
+        let mut labels = Words::new(alloc);
+        for position in positions.as_slice() {
+            match self.statements.get((*position as usize).saturating_sub(1)) {
+                Some(Stmt::Float { label, .. }) => labels.push(label.as_bytes())?,
+                Some(Stmt::Ess { label, .. }) => labels.push(label.as_bytes())?,
+                _ => {}
+            }
+        }
+        Ok(labels)
     }
 
     /// The label of the statement at a position.
