@@ -2,44 +2,132 @@
 use clap::{Arg, ArgAction, Command};
 use std::alloc::{AllocError, Global};
 
+/// What `--version` prints behind the name.
+const VERSION: &str = "1.0.0";
+
 /// All commands of the program.
 pub fn commands<'a>(alloc: Global) -> Result<Command<'a>, AllocError> {
+    let program = Command::new(alloc, "mmlib")
+        .version(VERSION)
+        .about(
+            "Formal mathematics in the Metamath language, and replicas of one library.\n\
+             A database is read from standard input: mmlib check < set.mm",
+        )
+        .no_binary_name(true)
+        .subcommand_required(true);
+    let asked = with_questions(alloc, with_lists(alloc, program)?)?;
+    with_scripts(alloc, asked)
+}
+
+/// The commands on a database as a whole.
+fn with_lists<'a>(alloc: Global, program: Command<'a>) -> Result<Command<'a>, AllocError> {
     let outline = Command::new(alloc, "outline").about(
-        "Print the statements of a database, one a line",
+        "Print the statements of the database on standard input, one a line: mmlib outline < set.mm",
     );
-    let check = Command::new(alloc, "check").about("Check the proofs of a database");
+    let check = Command::new(alloc, "check").about(
+        "Check the proofs of the database on standard input: mmlib check < set.mm",
+    );
+    let list = Command::new(alloc, "list").about(
+        "Print the assertions of the database on standard input, one a line: mmlib list < set.mm",
+    );
+    let export = Command::new(alloc, "export").about(
+        "Print the database on standard input in the export form: mmlib export < set.mm",
+    );
+    program
+        .subcommand(outline)?
+        .subcommand(check)?
+        .subcommand(list)?
+        .subcommand(export)
+}
+
+/// The commands on what a label of a database names.
+fn with_questions<'a>(alloc: Global, program: Command<'a>) -> Result<Command<'a>, AllocError> {
     let tree = Command::new(alloc, "tree")
-        .about("Print the derivation of a provable assertion, a node a line")
+        .about(
+            "Print the derivation of a $p of the database on standard input, a node a line: mmlib tree id < set.mm",
+        )
         .arg(label_argument(alloc))?;
     let trace = Command::new(alloc, "trace")
-        .about("Print the axioms that a proof rests on")
+        .about(
+            "Print the axioms that a $p of the database on standard input rests on: mmlib trace id < set.mm",
+        )
         .arg(label_argument(alloc))?;
+    let usage = usage_command(alloc)?;
+    let proof = proof_command(alloc)?;
+    program
+        .subcommand(tree)?
+        .subcommand(trace)?
+        .subcommand(usage)?
+        .subcommand(proof)
+}
+
+fn usage_command<'a>(alloc: Global) -> Result<Command<'a>, AllocError> {
+    Command::new(alloc, "usage")
+        .about(
+            "Print who cites a statement of the database on standard input: mmlib usage id < set.mm",
+        )
+        .arg(label_argument(alloc))?
+        .arg(all_option(alloc))
+}
+
+fn proof_command<'a>(alloc: Global) -> Result<Command<'a>, AllocError> {
+    Command::new(alloc, "proof")
+        .about(
+            "Print the steps of the proof of a $p of the database on standard input: mmlib proof id --essential < set.mm",
+        )
+        .arg(label_argument(alloc))?
+        .arg(essential_option(alloc))?
+        .arg(dot_option(alloc).conflicts_with("html")?)?
+        .arg(html_option(alloc))
+}
+
+/// The commands that run a script.
+fn with_scripts<'a>(alloc: Global, program: Command<'a>) -> Result<Command<'a>, AllocError> {
     let play = Command::new(alloc, "play")
-        .about("Drive a world of nodes by a script")
+        .about("Drive a world of nodes by the script on standard input")
         .arg(nodes_option(alloc))?
         .arg(weights_option(alloc))?;
     let serve = Command::new(alloc, "serve")
-        .about("Serve a script by nodes that are threads")
+        .about("Serve the script on standard input by nodes that are threads")
         .arg(nodes_option(alloc))?
         .arg(workers_option(alloc))?
         .arg(weights_option(alloc))?;
-    Command::new(alloc, "mmlib")
-        .about("Formal mathematics in the Metamath language, and replicas of one library")
-        .no_binary_name(true)
-        .subcommand_required(true)
-        .subcommand(outline)?
-        .subcommand(check)?
-        .subcommand(tree)?
-        .subcommand(trace)?
-        .subcommand(play)?
-        .subcommand(serve)
+    program.subcommand(play)?.subcommand(serve)
 }
 
 fn label_argument<'a>(alloc: Global) -> Arg<'a> {
     Arg::new(alloc, "label")
         .value_name("LABEL")
         .required(true)
-        .help("The label of a $p of the database; one that begins with - stands after --")
+        .help("A label of the database; one that begins with - stands after --")
+}
+
+fn all_option<'a>(alloc: Global) -> Arg<'a> {
+    Arg::new(alloc, "all")
+        .long("all")
+        .action(ArgAction::SetTrue)
+        .help("Those too that use it through others")
+}
+
+fn essential_option<'a>(alloc: Global) -> Arg<'a> {
+    Arg::new(alloc, "essential")
+        .long("essential")
+        .action(ArgAction::SetTrue)
+        .help("The last step, and those alone that are taken for an $e")
+}
+
+fn dot_option<'a>(alloc: Global) -> Arg<'a> {
+    Arg::new(alloc, "dot")
+        .long("dot")
+        .action(ArgAction::SetTrue)
+        .help("A picture of the steps, for Graphviz")
+}
+
+fn html_option<'a>(alloc: Global) -> Arg<'a> {
+    Arg::new(alloc, "html")
+        .long("html")
+        .action(ArgAction::SetTrue)
+        .help("A page that stands alone")
 }
 
 fn nodes_option<'a>(alloc: Global) -> Arg<'a> {

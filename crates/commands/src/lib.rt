@@ -13,5 +13,5 @@ mod weights;
 mod worker_count;
 
 pub use parse::parse_words;
-pub use request::{Question, Request, WordsFault};
+pub use request::{ProofForm, Question, Request, WordsFault};
 pub use worker_count::{MOST_WORKERS, WorkerCount};

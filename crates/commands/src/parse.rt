@@ -2,13 +2,13 @@
 ghost use Rattle.std.specs.Prelude.{◌≤◌, IfSome};
 
 use crate::grammar::commands;
-use crate::request::{Question, Request, WordsFault};
+use crate::request::{ProofForm, Question, Request, WordsFault};
 use crate::weights::parse_weights;
 use crate::worker_count::WorkerCount;
 use clap::error::ErrorKind;
 use clap::{ArgMatches, Error};
 use numbers::parse_number;
-use std::alloc::Global;
+use std::alloc::{AllocError, Global};
 use synod::{MOST_NODES, Weights};
 
 /// What these words ask for, which come without the program's own name.
@@ -17,19 +17,51 @@ use synod::{MOST_NODES, Weights};
 pub fn parse_words<'a>(alloc: Global, words: &'a [&'a str]) -> Result<Request<'a>, WordsFault> {
     match request(alloc, words) {
         Ok(request) => Ok(request),
-        Err(error) => Err(fault(alloc, error)),
+        Err(error) => answered(alloc, error, words),
     }
 }
 
-/// What is told of a command line that cannot be read.
-fn fault(alloc: Global, error: Error) -> WordsFault {
-    if error.kind() == ErrorKind::OutOfMemory {
-        return WordsFault::Memory;
+/// What is told of a command line that cannot be read, and the version where it was asked for.
+fn answered<'a>(
+    alloc: Global,
+    error: Error,
+    words: &'a [&'a str],
+) -> Result<Request<'a>, WordsFault> {
+    match error.kind() {
+        ErrorKind::OutOfMemory => Err(WordsFault::Memory),
+        ErrorKind::DisplayVersion => Ok(Request::Version {
+            line: format!(in alloc; "{error}")?,
+        }),
+        ErrorKind::UnknownArgument => Err(WordsFault::Bad {
+            text: with_hint(alloc, error, words)?,
+        }),
+        _ => Err(WordsFault::Bad {
+            text: format!(in alloc; "{error}")?,
+        }),
     }
-    match format!(in alloc; "{error}") {
-        Ok(text) => WordsFault::Bad { text },
-        Err(_) => WordsFault::Memory,
+}
+
+/// The error, behind a hint where the words but for the last ask about a database: that may be its file.
+fn with_hint(alloc: Global, error: Error, words: &[&str]) -> Result<String, AllocError> {
+    let Some((file, front)) = words.split_last() else {
+        return format!(in alloc; "{error}");
+    };
+    match request(alloc, front) {
+        Ok(Request::Outline) | Ok(Request::Ask(_)) => hint(alloc, error, file, front),
+        _ => format!(in alloc; "{error}"),
     }
+}
+
+/// The error, behind the hint that this file is to be the standard input.
+fn hint(alloc: Global, error: Error, file: &str, front: &[&str]) -> Result<String, AllocError> {
+    let mut text = format!(in alloc; "the database is read from standard input: mmlib ")?;
+    for word in front {
+        text.push_str(word)?;
+        text.push_str(" ")?;
+    }
+    let rest = format!(in alloc; "< {file}\n{error}")?;
+    text.push_str(rest.as_str())?;
+    Ok(text)
 }
 
 /// The command of these words, with what its options give.
@@ -37,19 +69,42 @@ fn request<'a>(alloc: Global, words: &'a [&'a str]) -> Result<Request<'a>, Error
     let matches = commands(alloc)?.try_get_matches_from(words)?;
     match matches.subcommand() {
         Some(("outline", _)) => Ok(Request::Outline),
-        Some(("check", _)) => Ok(Request::Ask(Question::Check)),
-        Some(("tree", options)) => Ok(Request::Ask(Question::Tree {
-            label: label(alloc, options)?,
-        })),
-        Some(("trace", options)) => Ok(Request::Ask(Question::Trace {
-            label: label(alloc, options)?,
-        })),
         Some(("play", options)) => Ok(Request::Play {
             weights: weights(alloc, options)?,
         }),
         Some(("serve", options)) => Ok(Request::Serve {
             weights: weights(alloc, options)?,
             workers: workers(alloc, options)?,
+        }),
+        Some((name, options)) => Ok(Request::Ask(question(alloc, name, options)?)),
+        _ => Err(commands(alloc)?.error(ErrorKind::MissingSubcommand, "a command is wanted")?),
+    }
+}
+
+/// What the command of this name asks about a database, with what its options give.
+fn question<'a>(
+    alloc: Global,
+    name: &str,
+    options: &ArgMatches<'a>,
+) -> Result<Question<'a>, Error> {
+    match name {
+        "check" => Ok(Question::Check),
+        "list" => Ok(Question::List),
+        "export" => Ok(Question::Export),
+        "tree" => Ok(Question::Tree {
+            label: label(alloc, options)?,
+        }),
+        "trace" => Ok(Question::Trace {
+            label: label(alloc, options)?,
+        }),
+        "proof" => Ok(Question::Proof {
+            label: label(alloc, options)?,
+            essential: options.get_flag("essential"),
+            form: proof_form(options),
+        }),
+        "usage" => Ok(Question::Usage {
+            label: label(alloc, options)?,
+            all: options.get_flag("all"),
         }),
         _ => Err(commands(alloc)?.error(ErrorKind::MissingSubcommand, "a command is wanted")?),
     }
@@ -63,6 +118,17 @@ fn label<'a>(alloc: Global, options: &ArgMatches<'a>) -> Result<&'a str, Error> 
             ErrorKind::MissingRequiredArgument,
             "a label is wanted",
         )?),
+    }
+}
+
+/// The form that is asked for.
+fn proof_form(options: &ArgMatches) -> ProofForm {
+    if options.get_flag("dot") {
+        ProofForm::Picture
+    } else if options.get_flag("html") {
+        ProofForm::Page
+    } else {
+        ProofForm::Steps
     }
 }
 

@@ -1,9 +1,10 @@
 //! A node whose keep fails is down until it restarts.
 use crate::fuse::{Fuse, restart_first, three};
-use cluster::{Switch, begin_on};
+use cluster::{MemoryKeep, NodeCell, Switch, begin_on};
 use net::{Event, StepFault};
+use slots::SLOTS;
 use std::alloc::Global;
-use synod::Body;
+use synod::{Ballot, Body, Change, Failed, Held, Keep};
 use world::Carried;
 
 #[test]
@@ -17,16 +18,19 @@ fn a_store_fails(rt: HostRuntime) {
 /// restarts.
 fn store_fails(alloc: Global, new: bool) -> Result<bool, StepFault> {
     let (mut switch, mut cells) = three(alloc, Fuse::new(alloc, Some(0), new))?;
-    if begin_on(&mut switch, 0) != Err(StepFault::Device) {
-        return Ok(false);
-    }
-    if begin_on(&mut switch, 0) != Err(StepFault::Down) {
-        return Ok(false);
-    }
-    if restart_first(&mut switch, &mut cells) != Ok(5) {
-        return Ok(false);
-    }
-    comes_back(&mut switch)
+    goes_down(&mut switch, &mut cells)
+}
+
+fn goes_down(
+    switch: &mut Switch<Carried, Fuse>,
+    cells: &mut Vec<NodeCell>,
+) -> Result<bool, StepFault> {
+    Ok(
+        begin_on(switch, 0) == Err(StepFault::Device)
+            && begin_on(switch, 0) == Err(StepFault::Down)
+            && restart_first(switch, cells) == Ok(5)
+            && comes_back(switch)?,
+    )
 }
 
 /// Whether the restart asked both others, and the next ballot is the second.
@@ -64,11 +68,41 @@ fn a_load_fails(rt: HostRuntime) {
 
 fn load_fails(alloc: Global) -> Result<bool, StepFault> {
     let (mut switch, mut cells) = three(alloc, Fuse::new(alloc, Some(0), false))?;
-    if restart_first(&mut switch, &mut cells) != Err(StepFault::Device) {
-        return Ok(false);
+    Ok(restarts_twice(&mut switch, &mut cells))
+}
+
+fn restarts_twice(switch: &mut Switch<Carried, Fuse>, cells: &mut Vec<NodeCell>) -> bool {
+    restart_first(switch, cells) == Err(StepFault::Device)
+        && restart_first(switch, cells) == Ok(2)
+        && matches!(switch.history(), [Event::Restart(0)])
+}
+
+/// Slots of the first page and of others, up to the last.
+const SLOTS_KEPT: [u32; 5] = [0, 255, 256, 300, SLOTS - 1];
+
+#[test]
+fn each_slot_is_kept(rt: HostRuntime) {
+    for slot in SLOTS_KEPT {
+        assert!(rt; keeps(rt.alloc(), slot) == Ok(true), "slot {slot}");
     }
-    if restart_first(&mut switch, &mut cells) != Ok(2) {
-        return Ok(false);
-    }
-    Ok(matches!(switch.history(), [Event::Restart(0)]))
+}
+
+fn keeps(alloc: Global, slot: u32) -> Result<bool, Failed> {
+    let mut keep: MemoryKeep<Carried> = MemoryKeep::new(alloc);
+    is_kept(&mut keep, slot)
+}
+
+/// Whether a no-operation that is stored at the slot is loaded.
+fn is_kept<K: Keep<Carried>>(keep: &mut K, slot: u32) -> Result<bool, Failed> {
+    let ballot = Ballot { round: 1, node: 0 };
+    let held = Held {
+        ballot,
+        value: None,
+    };
+    keep.store(&Change::Entry { slot, held })?;
+    let record = keep.load()?;
+    Ok(match record.get(slot) {
+        Some(held) => held.ballot.is_same(ballot),
+        None => false,
+    })
 }

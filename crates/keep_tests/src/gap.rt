@@ -46,22 +46,28 @@ fn each_cell_fills_the_gap(rt: HostRuntime) {
 
 fn is_filled(alloc: Global) -> Result<bool, StepFault> {
     let (mut switch, mut cells) = three(alloc, Fuse::new(alloc, None, false))?;
+    Ok(makes_all(alloc, &mut switch) && fills(&switch, &mut cells)?)
+}
+
+/// Whether each step of the row is made, and no other packet and no other node is there.
+fn makes_all(alloc: Global, switch: &mut Switch<Carried, Fuse>) -> bool {
     for (step, want) in GAP {
-        if make(alloc, &mut switch, step) != Ok(want) {
-            return Ok(false);
+        if make(alloc, switch, step) != Ok(want) {
+            return false;
         }
     }
-    if deliver_on(&mut switch, 27) != Err(StepFault::NoPacket)
-        || begin_on(&mut switch, 3) != Err(StepFault::NoNode)
-    {
-        return Ok(false);
-    }
+    deliver_on(switch, 27) == Err(StepFault::NoPacket)
+        && begin_on(switch, 3) == Err(StepFault::NoNode)
+}
+
+/// Whether the cells add so many statements each, and agree.
+fn fills(switch: &Switch<Carried, Fuse>, cells: &mut Vec<NodeCell>) -> Result<bool, StepFault> {
     for (cell, added) in cells.iter_mut().zip([1, 0, 2]) {
-        if !adds(cell, &switch, added)? {
+        if !adds(cell, switch, added)? {
             return Ok(false);
         }
     }
-    Ok(all_agree(&switch, &cells))
+    Ok(all_agree(switch, cells))
 }
 
 /// Whether the cell takes over and applies what its log has, so many statements without a label.
@@ -150,14 +156,23 @@ fn stop_at_each(rt: HostRuntime) {
 /// is passed over. Each cell takes over and applies what it can after each step.
 fn agrees(alloc: Global, left: Option<u32>, new: bool, stop: usize) -> Result<bool, StepFault> {
     let (mut switch, mut cells) = three(alloc, Fuse::new(alloc, left, new))?;
+    go_on(alloc, &mut switch, &mut cells, stop)
+}
+
+fn go_on(
+    alloc: Global,
+    switch: &mut Switch<Carried, Fuse>,
+    cells: &mut Vec<NodeCell>,
+    stop: usize,
+) -> Result<bool, StepFault> {
     for (i, (step, _)) in GAP.iter().enumerate() {
-        let _ = make(alloc, &mut switch, *step);
-        settle_each(&mut cells, &switch)?;
+        let _ = make(alloc, switch, *step);
+        settle_each(cells, switch)?;
         if i == stop {
-            let _ = restart_first(&mut switch, &mut cells);
+            let _ = restart_first(switch, cells);
         }
     }
-    Ok(all_agree(&switch, &cells))
+    Ok(all_agree(switch, cells))
 }
 
 fn settle_each(cells: &mut Vec<NodeCell>, switch: &Switch<Carried, Fuse>) -> Result<(), StepFault> {

@@ -75,11 +75,16 @@ fn applies_all(world: &mut World) -> bool {
 /// A world of one node that learned two texts of one author under one number.
 fn learned(alloc: Global) -> Result<World, StepFault> {
     let mut world = World::new(alloc, Weights::equal(1))?;
+    learn_two(alloc, &mut world)?;
+    Ok(world)
+}
+
+fn learn_two(alloc: Global, world: &mut World) -> Result<(), StepFault> {
     world.step(Event::Offer(0, entry(alloc, 1, b"$c a $.")?))?;
     world.step(Event::Offer(0, entry(alloc, 1, b"$c b $.")?))?;
     world.step(Event::Begin(0))?;
     for number in 0..6 {
         world.step(Event::Deliver(number))?;
     }
-    Ok(world)
+    Ok(())
 }

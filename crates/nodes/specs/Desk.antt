@@ -12,15 +12,17 @@ use Rattle.switch.specs.Switch.{Shared}
 use Rattle.cluster.specs.Belongs.{Belongs, IsAhead}
 use Rattle.cluster.specs.Cell.{Cell, IsCell}
 
--- the assertions of a cell's library
-pub record IsListed (list : List Listed) : Type 0 where
+-- the assertions of the library of node k's cell
+pub record IsListed (k : ℕ) (list : List Listed) : Type 0 where
   pub cell : Cell
+  pub at : cell.at ≡ k
   pub is_cell : IsCell cell
   pub lists : list ≡ listed cell.node.library.statements
 
--- the verdict of a cell's library on the author's entry of that number
-pub record IsStatus (author serial : ℕ) (verdict : Option Verdict) : Type 0 where
+-- the verdict of the library of node k's cell on the author's entry of that number
+pub record IsStatus (k author serial : ℕ) (verdict : Option Verdict) : Type 0 where
   pub cell : Cell
+  pub at : cell.at ≡ k
   pub is_cell : IsCell cell
   pub decides : verdict ≡ status cell.node.library.decided author serial
 

@@ -1,5 +1,5 @@
 //! What any thread may call.
-ghost use Rattle.std.specs.Prelude.{◌≡◌, ◌≤◌, ◌<◌, ◌⊎◌, ℕ, Ok, Err, IsOk, IfOk, IsOkUnless};
+ghost use Rattle.std.specs.Prelude.{◌≡◌, ◌≤◌, ◌<◌, ◌⊎◌, ℕ, Ok, Err, IfOk, IfErr, IsOkUnless};
 ghost use Rattle.net.specs.declared.fault.StepFault.TheVariants.{NoNode, Memory, Apart};
 ghost use Rattle.cluster.specs.declared.compare.Ahead.TheVariants.{Same};
 ghost use Rattle.nodes.specs.Desk.{IsListed, IsStatus, IsCompared};
@@ -86,19 +86,22 @@ impl<G: Gate, K: Keep<Carried>> Desk<G, K> {
 
     /// The assertions of node `k`'s library, in order.
     ///
-    /// Errors: `NoNode`; else `Memory`.
+    /// Errors: `NoNode`; else `Apart` where the cell is not of its node; else `Memory`.
     pub fn list<R: Wait>(&self, rt: &R, k: u8) -> Result<Vec<Listed>, StepFault>
-        ensures listed { IfOk result (λ list. IsListed list.items) }
+        ensures listed { IfOk result (λ list. IsListed k list.items) }
         ensures no_node { self.now ≤ k → result ≡ Err NoNode }
-        ensures only_memory { k < self.now → IsOkUnless result Memory }
+        ensures only_memory { k < self.now → IfErr result (λ fault. (fault ≡ Apart) ⊎ (fault ≡ Memory)) }
     {
         let cell = self.shared.cell(k)?.lock(rt);
+        if cell.at() != k {
+            return Err(StepFault::Apart);
+        }
         Ok(list_on(&cell)?)
     }
 
     /// The verdict of node `k`'s library on the author's entry of that number, if it is decided there.
     ///
-    /// Errors: `NoNode`.
+    /// Errors: `NoNode`; else `Apart` where the cell is not of its node.
     pub fn status<R: Wait>(
         &self,
         rt: &R,
@@ -106,11 +109,14 @@ impl<G: Gate, K: Keep<Carried>> Desk<G, K> {
         author: u64,
         serial: u64,
     ) -> Result<Option<Verdict>, StepFault>
-        ensures status { IfOk result (IsStatus author serial) }
+        ensures status { IfOk result (IsStatus k author serial) }
         ensures no_node { self.now ≤ k → result ≡ Err NoNode }
-        ensures found { k < self.now → IsOk result }
+        ensures only_apart { k < self.now → IsOkUnless result Apart }
     {
         let cell = self.shared.cell(k)?.lock(rt);
+        if cell.at() != k {
+            return Err(StepFault::Apart);
+        }
         Ok(cell.library().status(author, serial))
     }
 

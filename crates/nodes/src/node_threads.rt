@@ -21,7 +21,7 @@ use std::sync::{Arc, Mutex, Wait};
 use std::thread::{JoinHandle, Threads};
 use std::{mem, thread};
 use synod::{Keep, Weights};
-use verify_pool::Gate;
+use verify_pool::{Gate, Workers};
 use world::Carried;
 
 /// The node threads. It stays in its thread; where it is dropped and was not stopped, its threads wait on. It is seen as the count
@@ -58,12 +58,11 @@ pub fn start<
     rt: &R,
     alloc: Global,
     weights: Weights,
-    workers: usize,
+    workers: Workers,
     gate: Arc<G>,
     weathers: Vec<W>,
     keeps: Vec<K>,
 ) -> Result<Cluster<G, K>, StepFault>
-    requires workers { (1 ≤ workers) × (workers ≤ 16) }
     requires weathers { length weathers.items ≡ length weights }
     requires keeps { length keeps.items ≡ length weights }
     requires new { AllByRecursion (λ keep. K.kept keep ≡ new_kept) keeps.items }
@@ -90,11 +89,10 @@ pub fn start<
 fn share<G: Gate + Drop, K: Keep<Carried>>(
     alloc: Global,
     weights: Weights,
-    workers: usize,
+    workers: Workers,
     gate: Arc<G>,
     keeps: Vec<K>,
 ) -> Result<(Arc<Shared<G, K>>, Vec<Receiver<u64>>), StepFault>
-    requires workers { (1 ≤ workers) × (workers ≤ 16) }
     requires keeps { length keeps.items ≡ length weights }
     requires new { AllByRecursion (λ keep. K.kept keep ≡ new_kept) keeps.items }
     ensures cells { IfOk result (λ parts. vec_len (arc_value parts.0).cells ≡ length weights) }

@@ -21,13 +21,12 @@ use world::Carried;
 #[derive(Drop)]
 pub(crate) struct Shared<G: Gate, K: Keep<Carried>> {
     pub alloc: Global,
-    pub workers: usize,
+    pub workers: Workers,
     pub gate: Arc<G>,
     pub board: Mutex<Board<K>>,
     pub cells: Vec<Mutex<NodeCell>>,
     /// The ends at which the nodes' hints are put; none once the cluster is stopped.
     pub senders: Mutex<Vec<Sender<u64>>>,
-    pub ghost some: { (1 ≤ workers) × (workers ≤ 16) },
 }
 
 impl<G: Gate, K: Keep<Carried>> Shared<G, K> {
@@ -90,7 +89,7 @@ impl<G: Gate, K: Keep<Carried>> Shared<G, K> {
                 break;
             }
             gate.pass(Place::Apply(k));
-            if apply_on_with(rt, cell, Workers::of(self.workers), gate).is_err() {
+            if apply_on_with(rt, cell, self.workers, gate).is_err() {
                 break;
             }
         }

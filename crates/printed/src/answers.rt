@@ -60,10 +60,11 @@ pub fn push_list(text: &mut Vec<u8>, list: &[Listed]) -> Result<(), AllocError>
     text.extend_from_slice(b"list ")?;
     push_number(text, list.len() as u64)?;
     text.extend_from_slice(b"\n")?;
-    push_listed_lines(text, list)
+    push_assertions(text, list)
 }
 
-fn push_listed_lines(text: &mut Vec<u8>, list: &[Listed]) -> Result<(), AllocError>
+/// Adds a line for each of these assertions.
+pub fn push_assertions(text: &mut Vec<u8>, list: &[Listed]) -> Result<(), AllocError>
     ensures { OnOk result (text.new.items ≡ text.old.items ++ flat_map listed_text list.now) }
 {
     for assertion in list {

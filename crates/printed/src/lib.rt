@@ -10,7 +10,9 @@ mod packets;
 mod tree_text;
 mod verdict_text;
 
-pub use answers::{push_decided, push_export, push_library, push_list, push_log, push_posted};
+pub use answers::{
+    push_assertions, push_decided, push_export, push_library, push_list, push_log, push_posted,
+};
 pub use packets::push_packet;
 pub use tree_text::{push_labels, push_tree};
 pub use verdict_text::push_verdict;

@@ -11,8 +11,9 @@ use std::thread::Threads;
 /// Runs the command of these words, which come without the program's own name; the answer is the
 /// exit status.
 ///
-/// 0 is good, 1 a refusal (of the input, of a line, of memory, or of a write), 2 a bad command line, bad weights or a bad
-/// script. The text of a bad command line and of bad weights goes to `faults`, and all else to `output`.
+/// 0 is good (the version too), 1 a refusal (of the input, of a line, of memory, or of a write), 2 a bad command line, bad
+/// weights or a bad script. The text of a bad command line and of bad weights goes to `faults`, and so does the reason of a
+/// database that is refused; all else goes to `output`.
 pub fn run<
     R: AllocGlobal + Threads + Wait + Copy + Send + Sync + Drop + 'static,
     I: Read,
@@ -20,8 +21,9 @@ pub fn run<
     F: Write,
 >(rt: &R, words: &[&str], input: &mut I, output: &mut O, faults: &mut F) -> u8 {
     match parse_words(rt.alloc(), words) {
-        Ok(Request::Outline) => print_outline(rt.alloc(), input, output),
-        Ok(Request::Ask(question)) => ask(rt, rt.alloc(), question, input, output),
+        Ok(Request::Version { line }) => print(output, line.as_bytes(), 0),
+        Ok(Request::Outline) => print_outline(rt.alloc(), input, output, faults),
+        Ok(Request::Ask(question)) => ask(rt, rt.alloc(), question, input, output, faults),
         Ok(Request::Play { weights }) => match weights {
             Some(weights) => play(rt.alloc(), weights, input, output),
             None => print(faults, b"bad weights\n", 2),

@@ -1,32 +1,44 @@
-//! The commands on a database: `outline`, and those on a text that is applied to an empty library, `check`, `tree` and `trace`.
+//! The commands on a database: `outline`, and the questions on a text that is applied to an empty library.
+use crate::proofs::{Wanted, print_proof};
+use crate::refusal::{print_outline_reason, print_refusal};
 use crate::streams::{ReadFailure, TEXT_LIMIT, print, read_text};
 use bytes::Bytes;
 use commands::Question;
 use library::{AskFault, Cause, Entry, Library, Submission, Verdict};
 use mm_read::Stmt;
 use outline::{outline_text, push_number};
-use printed::{push_labels, push_tree, push_verdict};
+use printed::{push_assertions, push_labels, push_tree};
 use std::alloc::{AllocError, Global};
 use std::io::{Read, Write};
 use std::thread::Threads;
 use verify_pool::{OpenGate, Workers};
 
 /// Prints the outline of the database that is read, or why there is none; the answer is the exit status.
-pub fn print_outline<I: Read, O: Write>(alloc: Global, input: &mut I, output: &mut O) -> u8 {
+pub fn print_outline<I: Read, O: Write, F: Write>(
+    alloc: Global,
+    input: &mut I,
+    output: &mut O,
+    faults: &mut F,
+) -> u8 {
     let text = match read_text(alloc, input) {
         Ok(text) => text,
         Err(failure) => return print_failure(output, failure),
     };
+    let text = text.as_slice();
     if text.len() > TEXT_LIMIT {
-        return print(output, b"refused C1\n", 1);
+        return print_refusal(alloc, text, Cause::TooLong, output, faults);
     }
-    match outline_text(alloc, text.as_slice()) {
-        Ok(lines) => {
-            let status = if lines.ends_with(b"good\n") { 0 } else { 1 };
-            print(output, lines.as_slice(), status)
-        }
-        Err(_) => print(output, b"refused Memory\n", 1),
+    let Ok(lines) = outline_text(alloc, text) else {
+        return print(output, b"refused Memory\n", 1);
+    };
+    if print(output, lines.as_slice(), 0) != 0 {
+        return 1;
     }
+    if lines.ends_with(b"good\n") {
+        return 0;
+    }
+    print_outline_reason(alloc, text, faults);
+    1
 }
 
 /// Prints why a text was not read; the answer is the exit status.
@@ -39,20 +51,24 @@ fn print_failure<O: Write>(output: &mut O, failure: ReadFailure) -> u8 {
 
 /// Prints the answer about the database that is read, or why there is none; the answer is the exit status. Its proofs are checked
 /// by as many threads as the machine offers, and no answer depends on how many.
-pub fn ask<R: Threads + Sync, I: Read, O: Write>(
+pub fn ask<R: Threads + Sync, I: Read, O: Write, F: Write>(
     rt: &R,
     alloc: Global,
     question: Question<'_>,
     input: &mut I,
     output: &mut O,
+    faults: &mut F,
 ) -> u8 {
     let text = match read_text(alloc, input) {
         Ok(text) => text,
         Err(failure) => return print_failure(output, failure),
     };
+    let Ok(text) = Bytes::from_vec(text) else {
+        return print(output, b"refused Memory\n", 1);
+    };
     let mut library = Library::new(alloc);
-    match judge(rt, &mut library, text) {
-        Ok(Verdict::Refused(cause)) => print_cause(alloc, cause, output),
+    match judge(rt, &mut library, &text) {
+        Ok(Verdict::Refused(cause)) => print_refusal(alloc, text.as_slice(), cause, output, faults),
         Ok(_) => print_answer(alloc, question, &library, output),
         Err(_) => print(output, b"refused Memory\n", 1),
     }
@@ -65,19 +81,38 @@ fn print_answer<O: Write>(
     library: &Library,
     output: &mut O,
 ) -> u8 {
-    match answer(alloc, question, library) {
+    let answered = match question {
+        Question::Check => proved(alloc, library.statements()).map_err(AskFault::from),
+        Question::List => list(alloc, library).map_err(AskFault::from),
+        Question::Export => library.export().map_err(AskFault::from),
+        Question::Tree { label } => tree(alloc, library, label),
+        Question::Trace { label } => trace(alloc, library, label),
+        Question::Usage { label, all } => usage(alloc, library, label, all),
+        Question::Proof {
+            label,
+            essential,
+            form,
+        } => {
+            let wanted = Wanted {
+                label: label.as_bytes(),
+                is_essential: essential,
+                form,
+            };
+            return print_proof(alloc, library, &wanted, output);
+        }
+    };
+    match answered {
         Ok(lines) => print(output, lines.as_slice(), 0),
         Err(fault) => print(output, fault_line(fault), 1),
     }
 }
 
-/// The lines of the answer about a library.
-fn answer(alloc: Global, question: Question<'_>, library: &Library) -> Result<Vec<u8>, AskFault> {
-    match question {
-        Question::Check => Ok(proved(alloc, library.statements())?),
-        Question::Tree { label } => tree(alloc, library, label),
-        Question::Trace { label } => trace(alloc, library, label),
-    }
+/// The assertions, a line each.
+fn list(alloc: Global, library: &Library) -> Result<Vec<u8>, AllocError> {
+    let list = library.list()?;
+    let mut lines = Vec::new(alloc);
+    push_assertions(&mut lines, list.as_slice())?;
+    Ok(lines)
 }
 
 /// The derivation of the `$p` of the label, a line a node.
@@ -96,17 +131,24 @@ fn trace(alloc: Global, library: &Library, label: &str) -> Result<Vec<u8>, AskFa
     Ok(lines)
 }
 
+/// The `$p` that use what has the label, a line each.
+fn usage(alloc: Global, library: &Library, label: &str, all: bool) -> Result<Vec<u8>, AskFault> {
+    let labels = library.usage(label.as_bytes(), all)?;
+    let mut lines = Vec::new(alloc);
+    push_labels(&mut lines, labels.as_slice())?;
+    Ok(lines)
+}
+
 /// The verdict on the text as the first entry of an author.
 fn judge<R: Threads + Sync>(
     rt: &R,
     library: &mut Library,
-    text: Vec<u8>,
+    text: &Bytes,
 ) -> Result<Verdict, AllocError> {
-    let text = Bytes::from_vec(text).map_err(AllocError::from)?;
     let entry = Entry::Text(Submission {
         author: 0,
         serial: 0,
-        text,
+        text: text.clone()?,
     });
     library.apply_with(rt, Some(&entry), Workers::offered(rt), &OpenGate)
 }
@@ -125,24 +167,8 @@ fn proved(alloc: Global, statements: &[Stmt]) -> Result<Vec<u8>, AllocError> {
     Ok(line)
 }
 
-/// Prints why a database is refused.
-fn print_cause<O: Write>(alloc: Global, cause: Cause, output: &mut O) -> u8 {
-    match cause_line(alloc, cause) {
-        Ok(line) => print(output, line.as_slice(), 1),
-        Err(_) => print(output, b"refused Memory\n", 1),
-    }
-}
-
-/// The line of a database that is refused.
-fn cause_line(alloc: Global, cause: Cause) -> Result<Vec<u8>, AllocError> {
-    let mut line = Vec::new(alloc);
-    push_verdict(&mut line, Verdict::Refused(cause))?;
-    line.extend_from_slice(b"\n")?;
-    Ok(line)
-}
-
 /// The line of a label that has no answer.
-fn fault_line(fault: AskFault) -> &'static [u8] {
+pub(crate) fn fault_line(fault: AskFault) -> &'static [u8] {
     match fault {
         AskFault::NoLabel => b"refused NoLabel\n",
         AskFault::NotProvable => b"refused NotProvable\n",

@@ -1,6 +1,7 @@
 //! What `mmlib` does: a command line, an input and an output to an exit status.
 //!
-//! Reading order: `command_line` (`run`, what a command line does), `streams` (what is read and written), `database` (`outline`, `check`, `tree`, `trace`);
+//! Reading order: `command_line` (`run`, what a command line does), `streams` (what is read and written), `database` (what is asked of one),
+//! `proofs` (the steps of a proof) and `refusal` (a database that is refused);
 //! `play`, with `script_input` (its lines, which crate `scripts` reads) and `answers` (what a line prints); `serve`, with
 //! `node_threads`.
 #![tactic(auto)]
@@ -10,6 +11,8 @@ mod command_line;
 mod database;
 mod node_threads;
 mod play;
+mod proofs;
+mod refusal;
 mod script_input;
 mod serve;
 mod streams;

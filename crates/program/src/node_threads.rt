@@ -12,7 +12,7 @@ use std::alloc::{AllocError, Global};
 use std::sync::{Arc, Wait};
 use std::thread::Threads;
 use synod::{Keep, Weights};
-use verify_pool::OpenGate;
+use verify_pool::{OpenGate, Workers};
 use world::Carried;
 
 /// How often a cluster that finds no memory to stop is asked again.
@@ -42,7 +42,7 @@ pub fn start_nodes<R: Threads + Wait + Copy + Send + Sync + Drop + 'static>(
     };
     let weathers = vec![in alloc; Clear; usize::from(count)]?;
     let keeps = keeps(alloc, count)?;
-    start(rt, alloc, weights, workers.count, gate, weathers, keeps)
+    start(rt, alloc, weights, Workers::of(workers.count), gate, weathers, keeps)
 }
 
 /// So many keeps of new nodes.

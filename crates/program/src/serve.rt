@@ -1,6 +1,6 @@
 //! The command `serve`: a script at the desk of a cluster, whose nodes are threads.
-ghost use Rattle.std.specs.Prelude.{◌≡◌, ◌++◌, ◌≤◌, ◌<◌, List, Err, OnOk, IfOk, IsOk};
-ghost use Rattle.net.specs.declared.fault.StepFault.TheVariants.{NoNode};
+ghost use Rattle.std.specs.Prelude.{◌≡◌, ◌++◌, ◌≤◌, ◌<◌, List, Err, OnOk, IfOk, IsOkUnless};
+ghost use Rattle.net.specs.declared.fault.StepFault.TheVariants.{NoNode, Apart};
 ghost use Rattle.library.specs.declared.listed.Listed.{Listed};
 ghost use Rattle.nodes.specs.Desk.{IsListed, IsStatus};
 ghost use Rattle.printed.specs.Printed.{list_text};
@@ -123,7 +123,7 @@ fn push_node_list<R: Wait>(
     node: u8,
     text: &mut Vec<u8>,
 ) -> Result<(), StepFault>
-    ensures listed { OnOk result ((list : List Listed) × IsListed list × (text.new.items ≡ text.old.items ++ list_text list)) }
+    ensures listed { OnOk result ((list : List Listed) × IsListed node list × (text.new.items ≡ text.old.items ++ list_text list)) }
     ensures no_node { desk.now ≤ node → result ≡ Err NoNode }
 {
     let list = desk.list(rt, node)?;
@@ -133,18 +133,18 @@ fn push_node_list<R: Wait>(
 
 /// What the node's library decided on the entry, if anything.
 fn status<R: Wait>(rt: &R, desk: &NodesDesk, at: EntryAt) -> Result<Option<Verdict>, StepFault>
-    ensures status { IfOk result (IsStatus at.author at.serial) }
+    ensures status { IfOk result (IsStatus at.node at.author at.serial) }
     ensures no_node { desk.now ≤ at.node → result ≡ Err NoNode }
-    ensures found { at.node < desk.now → IsOk result }
+    ensures only_apart { at.node < desk.now → IsOkUnless result Apart }
 {
     desk.status(rt, at.node, at.author, at.serial)
 }
 
 /// The same, asked again and again until it is known, but not for ever.
 fn settled<R: Wait>(rt: &R, desk: &NodesDesk, at: EntryAt) -> Result<Option<Verdict>, StepFault>
-    ensures status { IfOk result (IsStatus at.author at.serial) }
+    ensures status { IfOk result (IsStatus at.node at.author at.serial) }
     ensures no_node { desk.now ≤ at.node → result ≡ Err NoNode }
-    ensures found { at.node < desk.now → IsOk result }
+    ensures only_apart { at.node < desk.now → IsOkUnless result Apart }
 {
     for _ask in 1..MOST_ASKS {
         let verdict = status(rt, desk, at)?;

@@ -59,7 +59,7 @@ fn new_row(alloc: Global, sentence: &str) -> Result<Row, AllocError> {
         output: Vec::new(alloc),
         choices: Vec::new(alloc),
         lines: None,
-        faults: Faults::Exactly(Vec::new(alloc)),
+        faults: Faults::Unsaid,
         status: None,
         way: Way::Whole,
         cuts: Vec::new(alloc),
@@ -77,7 +77,7 @@ fn read_more(alloc: Global, row: &mut Row, line: &str) -> Result<(), LineFault> 
         "reads" if text == "none" => set_way(row, Way::NoReads, text, "none"),
         "reads" => set_way(row, Way::FailingReads, text, "fail"),
         "writes" => set_way(row, Way::FailingWrites, text, "fail"),
-        "!" => add_fault(row, text),
+        "!" => add_fault(alloc, row, text),
         "!~" => set_beginning(alloc, row, text),
         "</" => add_choice(alloc, row, text, "\\"),
         "</>" => add_choice_with_answer(alloc, row, text),
@@ -118,10 +118,16 @@ fn set_way(row: &mut Row, way: Way, text: &str, wanted: &str) -> Result<(), Line
 }
 
 /// Adds a line of the standard error.
-fn add_fault(row: &mut Row, text: &str) -> Result<(), LineFault> {
+fn add_fault(alloc: Global, row: &mut Row, text: &str) -> Result<(), LineFault> {
     match &mut row.faults {
         Faults::Exactly(told) => push_line(told, text, 0),
         Faults::Beginning(_) => Err(LineFault::Bad),
+        Faults::Unsaid => {
+            let mut told = Vec::new(alloc);
+            push_line(&mut told, text, 0)?;
+            row.faults = Faults::Exactly(told);
+            Ok(())
+        }
     }
 }
 

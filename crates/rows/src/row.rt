@@ -31,7 +31,9 @@ pub struct Choice {
 /// What is told on the standard error.
 #[derive(Drop)]
 pub enum Faults {
-    /// This, and nothing where it is empty.
+    /// Nothing is said of it: it is empty, or anything where a text is refused, which is explained there.
+    Unsaid,
+    /// This.
     Exactly(Vec<u8>),
     /// Something that begins with this.
     Beginning(Vec<u8>),

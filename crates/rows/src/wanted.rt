@@ -43,7 +43,7 @@ pub fn difference(
     } else if printed.output.as_slice() != wanted.output {
         return line_difference(alloc, wanted.output, printed.output.as_slice());
     }
-    if !are_told(wanted.faults, printed.faults.as_slice()) {
+    if !are_told(wanted, printed.faults.as_slice()) {
         let told = printed.faults.escape_ascii();
         return Ok(Some(format!(in alloc; "standard error: `{told}`")?));
     }
@@ -61,11 +61,23 @@ fn begins(output: &[u8], beginning: &[u8], lines: u64) -> bool {
 }
 
 /// Whether this is what the standard error is to tell.
-fn are_told(faults: &Faults, told: &[u8]) -> bool {
-    match faults {
-        Faults::Exactly(wanted) => told == wanted.as_slice(),
-        Faults::Beginning(wanted) => !told.is_empty() && told.starts_with(wanted.as_slice()),
+fn are_told(wanted: &Wanted<'_>, told: &[u8]) -> bool {
+    match wanted.faults {
+        Faults::Unsaid => told.is_empty() || is_refusal(wanted.output),
+        Faults::Exactly(faults) => told == faults.as_slice(),
+        Faults::Beginning(faults) => !told.is_empty() && told.starts_with(faults.as_slice()),
     }
+}
+
+/// Whether the last line of the output refuses a text.
+fn is_refusal(output: &[u8]) -> bool {
+    let mut refuses = false;
+    for line in output.split(|byte| *byte == b'\n') {
+        if !line.is_empty() {
+            refuses = line.starts_with(b"refused C");
+        }
+    }
+    refuses
 }
 
 /// The first line that differs.

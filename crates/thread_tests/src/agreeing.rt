@@ -35,28 +35,48 @@ fn agree<R: Threads + Wait + Clock + Copy + Send + Sync + Drop + 'static>(
     let Some(weights) = Weights::new(&[heaviest, 1, 1]) else {
         return Ok(false);
     };
-    let mut cluster = open(rt, alloc, weights, everywhere(alloc, Clear)?)?;
-    let served = serves(rt, alloc, &cluster, leader);
-    let stopped = stops(rt, alloc, &mut cluster);
+    let weathers = everywhere(alloc, Clear)?;
+    let mut cluster = open(rt, alloc, weights, weathers)?;
+    works(rt, alloc, &mut cluster, leader)
+}
+
+/// Whether the cluster serves, and then stops.
+fn works<R: Threads + Wait + Clock>(
+    rt: &R,
+    alloc: Global,
+    cluster: &mut Cluster<OpenGate, Kept>,
+    leader: u8,
+) -> Result<bool, StepFault> {
+    let desk = cluster.desk()?;
+    works_at(rt, alloc, cluster, &desk, leader)
+}
+
+fn works_at<R: Threads + Wait + Clock>(
+    rt: &R,
+    alloc: Global,
+    cluster: &mut Cluster<OpenGate, Kept>,
+    desk: &Desk<OpenGate, Kept>,
+    leader: u8,
+) -> Result<bool, StepFault> {
+    let served = serves(rt, alloc, desk, leader);
+    let stopped = stops(rt, alloc, cluster, desk);
     Ok(served? && stopped?)
 }
 
 /// Whether what is submitted at the leader is added and listed at each, and no other node is known.
-fn serves<R: Threads + Wait + Clock + Copy + Send + Sync + Drop + 'static>(
+fn serves<R: Wait + Clock>(
     rt: &R,
     alloc: Global,
-    cluster: &Cluster<OpenGate, Kept>,
+    desk: &Desk<OpenGate, Kept>,
     leader: u8,
 ) -> Result<bool, StepFault> {
-    let desk = cluster.desk()?;
     desk.begin(rt, leader)?;
-    let entry = text(alloc, 1, b"$c |- $. p $a |- $.")?;
-    desk.submit(rt, leader, entry)?;
+    desk.submit(rt, leader, text(alloc, 1, b"$c |- $. p $a |- $.")?)?;
     Ok(
-        added_by_all(rt, &desk, 1)?
-            && lists_alike(rt, &desk)?
-            && knows_no_node(rt, alloc, &desk, 3)?
-            && comes_back(rt, &desk)?,
+        added_by_all(rt, desk, 1)?
+            && lists_alike(rt, desk)?
+            && knows_no_node(rt, alloc, desk, 3)?
+            && comes_back(rt, desk)?,
     )
 }
 
@@ -67,15 +87,15 @@ fn comes_back<R: Wait + Clock>(rt: &R, desk: &Desk<OpenGate, Kept>) -> Result<bo
 }
 
 /// Whether the cluster stops, two nodes of three having had events, and takes nothing more then.
-fn stops<R: Threads + Wait + Clock + Copy + Send + Sync + Drop + 'static>(
+fn stops<R: Threads + Wait>(
     rt: &R,
     alloc: Global,
     cluster: &mut Cluster<OpenGate, Kept>,
+    desk: &Desk<OpenGate, Kept>,
 ) -> Result<bool, StepFault> {
-    let desk = cluster.desk()?;
     let report = cluster.stop(rt)?;
     let worked = report.handled.iter().filter(|count| **count > 0).count();
-    Ok(report.handled.len() == 3 && worked >= 2 && has_stopped(rt, alloc, cluster, &desk)?)
+    Ok(report.handled.len() == 3 && worked >= 2 && has_stopped(rt, alloc, cluster, desk)?)
 }
 
 /// Whether node 1 lists the axiom p alone, and no node is ahead.
@@ -129,17 +149,35 @@ fn submits_elsewhere<R: Threads + Wait + Clock + Copy + Send + Sync + Drop + 'st
 ) -> Result<bool, StepFault> {
     let weathers = everywhere(alloc, Clear)?;
     let mut cluster = open(rt, alloc, Weights::equal(3), weathers)?;
-    let desk = cluster.desk()?;
-    let theirs = cluster.desk()?;
-    let entry = text(alloc, 1, b"$c a $.")?;
-    let handle = *rt;
-    let Ok(author) = thread::spawn(rt, move || submit_first(handle, theirs, entry)) else {
-        return Err(StepFault::Memory);
-    };
-    let submitted = author.join(rt);
-    let added = added_by_all(rt, &desk, 1)?;
+    let added = adds_theirs(rt, alloc, &cluster);
     cluster.stop(rt)?;
-    Ok(submitted == Ok(()) && added)
+    added
+}
+
+/// Whether each node adds what another thread submits.
+fn adds_theirs<R: Threads + Wait + Clock + Copy + Send + Sync + Drop + 'static>(
+    rt: &R,
+    alloc: Global,
+    cluster: &Cluster<OpenGate, Kept>,
+) -> Result<bool, StepFault> {
+    let desk = cluster.desk()?;
+    let submitted = submit_elsewhere(rt, alloc, cluster);
+    Ok(submitted == Ok(()) && added_by_all(rt, &desk, 1)?)
+}
+
+/// Lets another thread begin a ballot and submit a text, and waits for its end.
+fn submit_elsewhere<R: Threads + Wait + Copy + Send + Sync + Drop + 'static>(
+    rt: &R,
+    alloc: Global,
+    cluster: &Cluster<OpenGate, Kept>,
+) -> Result<(), StepFault> {
+    let entry = text(alloc, 1, b"$c a $.")?;
+    let theirs = cluster.desk()?;
+    let handle = *rt;
+    match thread::spawn(rt, move || submit_first(handle, theirs, entry)) {
+        Ok(author) => author.join(rt),
+        Err(_) => Err(StepFault::Memory),
+    }
 }
 
 /// Begins a ballot at node 0 and submits there.

@@ -1,7 +1,7 @@
 //! Two nodes side by side: each waits before an entry for the other.
 use crate::three::{Kept, added_by_all, everywhere, submit_one, three};
 use net::StepFault;
-use nodes::{Clear, Cluster};
+use nodes::{Clear, Cluster, Desk};
 use std::alloc::Global;
 use std::sync::atomic::{AtomicBool, Ordering};
 use std::sync::{Arc, Wait};
@@ -62,21 +62,38 @@ fn meet<R: Threads + Wait + Clock + Copy + Send + Sync + Drop + 'static>(
     let Ok(gate) = Arc::new(alloc, meeting) else {
         return Err(StepFault::Memory);
     };
-    let seen = Arc::try_clone(&gate)?;
+    let added = meet_at(rt, alloc, Arc::try_clone(&gate)?);
+    Ok(added? && !gate.missed.load(Ordering::SeqCst))
+}
+
+/// Whether three nodes add a text, whose gate this is.
+fn meet_at<R: Threads + Wait + Clock + Copy + Send + Sync + Drop + 'static>(
+    rt: &R,
+    alloc: Global,
+    gate: Arc<Meeting>,
+) -> Result<bool, StepFault> {
     let weathers = everywhere(alloc, Clear)?;
     let mut cluster = three(rt, alloc, Weights::equal(3), gate, weathers)?;
     let added = adds_one(rt, alloc, &cluster);
     cluster.stop(rt)?;
-    Ok(added? && !seen.missed.load(Ordering::SeqCst))
+    added
 }
 
-fn adds_one<R: Threads + Wait + Clock + Copy + Send + Sync + Drop + 'static>(
+fn adds_one<R: Wait + Clock>(
     rt: &R,
     alloc: Global,
     cluster: &Cluster<Meeting, Kept>,
 ) -> Result<bool, StepFault> {
     let desk = cluster.desk()?;
+    adds_at(rt, alloc, &desk)
+}
+
+fn adds_at<R: Wait + Clock>(
+    rt: &R,
+    alloc: Global,
+    desk: &Desk<Meeting, Kept>,
+) -> Result<bool, StepFault> {
     desk.begin(rt, 0)?;
-    submit_one(rt, alloc, &desk, 1, b"$c a $.")?;
-    added_by_all(rt, &desk, 1)
+    submit_one(rt, alloc, desk, 1, b"$c a $.")?;
+    added_by_all(rt, desk, 1)
 }

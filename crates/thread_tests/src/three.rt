@@ -12,7 +12,7 @@ use std::thread;
 use std::thread::Threads;
 use std::time::{Clock, Duration};
 use synod::Weights;
-use verify_pool::{Gate, OpenGate};
+use verify_pool::{Gate, OpenGate, Workers};
 use world::Carried;
 
 pub type Kept = MemoryKeep<Carried>;
@@ -44,7 +44,7 @@ pub fn three<
     let Ok(keeps) = vec![in alloc; Kept::new(alloc), Kept::new(alloc), Kept::new(alloc)] else {
         return Err(StepFault::Memory);
     };
-    start(rt, alloc, weights, 2, gate, weathers, keeps)
+    start(rt, alloc, weights, Workers::of(2), gate, weathers, keeps)
 }
 
 /// Three nodes of that weather, at which nothing waits before an entry.

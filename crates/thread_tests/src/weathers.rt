@@ -94,24 +94,38 @@ fn serve_like<R: Threads + Wait + Clock + Copy + Send + Sync + Drop + 'static>(
     served
 }
 
-fn serve_all<R: Threads + Wait + Clock + Copy + Send + Sync + Drop + 'static>(
+fn serve_all<R: Wait + Clock>(
     rt: &R,
     alloc: Global,
     cluster: &Cluster<OpenGate, Kept>,
     library: &Library,
 ) -> Result<bool, StepFault> {
     let desk = cluster.desk()?;
-    if !desk.list(rt, 0)?.is_empty() || !desk.list(rt, 2)?.is_empty() {
+    serve_at(rt, alloc, &desk, library)
+}
+
+fn serve_at<R: Wait + Clock>(
+    rt: &R,
+    alloc: Global,
+    desk: &Desk<OpenGate, Kept>,
+    library: &Library,
+) -> Result<bool, StepFault> {
+    if !is_new(rt, desk)? {
         return Ok(false);
     }
-    submit_all(rt, alloc, &desk)?;
+    submit_all(rt, alloc, desk)?;
     for k in [0, 1, 2] {
-        if !serves(rt, &desk, k, library)? {
+        if !serves(rt, desk, k, library)? {
             return Ok(false);
         }
     }
     desk.restart(rt, 2)?;
-    serves(rt, &desk, 2, library)
+    serves(rt, desk, 2, library)
+}
+
+/// Whether the first node and the last list nothing.
+fn is_new<R: Wait>(rt: &R, desk: &Desk<OpenGate, Kept>) -> Result<bool, StepFault> {
+    Ok(desk.list(rt, 0)?.is_empty() && desk.list(rt, 2)?.is_empty())
 }
 
 /// Begins a ballot at node 0, and submits the texts there.
@@ -221,7 +235,7 @@ fn told_by(told: &Arc<AtomicU8>) -> Result<Told, AllocError> {
     })
 }
 
-fn learns_all<R: Threads + Wait + Clock + Copy + Send + Sync + Drop + 'static>(
+fn learns_all<R: Wait + Clock>(
     rt: &R,
     alloc: Global,
     cluster: &Cluster<OpenGate, Kept>,
@@ -229,20 +243,30 @@ fn learns_all<R: Threads + Wait + Clock + Copy + Send + Sync + Drop + 'static>(
     last: &AtomicU8,
 ) -> Result<bool, StepFault> {
     let desk = cluster.desk()?;
+    learns_at(rt, alloc, &desk, first, last)
+}
+
+fn learns_at<R: Wait + Clock>(
+    rt: &R,
+    alloc: Global,
+    desk: &Desk<OpenGate, Kept>,
+    first: &AtomicU8,
+    last: &AtomicU8,
+) -> Result<bool, StepFault> {
     desk.begin(rt, 0)?;
-    let decided = decide(rt, alloc, &desk, 1)?;
+    let decided = decide(rt, alloc, desk, 1)?;
     last.store(HOLD, Ordering::SeqCst);
-    let more = decide(rt, alloc, &desk, 2)?
-        && decide(rt, alloc, &desk, 3)?
-        && decide(rt, alloc, &desk, 4)?
-        && decide(rt, alloc, &desk, 5)?;
+    let more = decide(rt, alloc, desk, 2)?
+        && decide(rt, alloc, desk, 3)?
+        && decide(rt, alloc, desk, 4)?
+        && decide(rt, alloc, desk, 5)?;
     first.store(LOSE, Ordering::SeqCst);
     last.store(PASS, Ordering::SeqCst);
     thread::sleep(rt, Duration::from_millis(QUIET));
     first.store(PASS, Ordering::SeqCst);
     let missed = desk.status(rt, 2, 7, 5)?.is_none();
-    submit_one(rt, alloc, &desk, 6, b"$c a $.")?;
-    Ok(decided && more && missed && added_by_all(rt, &desk, 6)?)
+    submit_one(rt, alloc, desk, 6, b"$c a $.")?;
+    Ok(decided && more && missed && added_by_all(rt, desk, 6)?)
 }
 
 /// How many milliseconds the nodes have for the hints that are on their way.

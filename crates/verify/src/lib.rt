@@ -22,6 +22,7 @@ mod tree_size;
 
 pub use answer::{Answer, TreeFault};
 pub use checker::{Checker, check};
+pub use reading_off::read_off;
 pub use tree::Tree;
 pub use tree_from_items::derivation;
 pub use tree_size::{MOST_DEPTH, MOST_NODES};

@@ -1,7 +1,7 @@
 use Rattle.std.proofs.Common.{◌≡◌, ◌++◌, take}
 use Rattle.std.specs.Prelude.{flat_map}
 use Rattle.printed.specs.Printed.{listed_text}
-use Rattle.printed.proofs.answers.push_listed_lines.Given as goal
+use Rattle.printed.proofs.answers.push_assertions.Given as goal
 
 abbrev pub invariant-loop-assertion : goal.invariant-loop-assertion
 invariant-loop-assertion l = l.text.items ≡ l.initial.text.items ++ flat_map listed_text (take l.assertion-index l.list)

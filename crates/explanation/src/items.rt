@@ -1,0 +1,64 @@
+//! Where an item stands among the tokens of a proof.
+
+use mm_lex::Words;
+use proof_code::is_compressed;
+
+/// A token of a proof, from 0, and a byte of it.
+#[derive(Clone, Copy)]
+pub(crate) struct Spot {
+    pub(crate) token: usize,
+    pub(crate) byte: usize,
+}
+
+/// Where the item of that index begins: its token, or the first letter of its word or mark.
+pub(crate) fn spot_of(proof: &Words, item: usize) -> Spot {
+    if is_compressed(proof) {
+        letters_spot(proof, item)
+    } else {
+        Spot {
+            token: item,
+            byte: 0,
+        }
+    }
+}
+
+/// Where the word or mark of that index begins among the letters; behind the last token where there are fewer.
+fn letters_spot(proof: &Words, item: usize) -> Spot {
+    let mut behind = false;
+    let mut left = proof.iter();
+    let mut token = 0usize;
+    let mut before = item;
+    let mut begun = None;
+    while let Some(word) = left.next() {
+        if behind {
+            for (byte, letter) in word.iter().enumerate() {
+                let begin = begun.unwrap_or(Spot { token, byte });
+                begun = Some(begin);
+                if ends_item(*letter) {
+                    if before == 0 {
+                        return begin;
+                    }
+                    before -= 1;
+                    begun = None;
+                }
+            }
+        }
+        behind = behind || word == b")".as_slice();
+        token = token.saturating_add(1);
+    }
+    Spot { token, byte: 0 }
+}
+
+/// Whether a letter ends a word, or marks.
+fn ends_item(letter: u8) -> bool {
+    letter.is_ascii_uppercase() && (letter <= b'T' || letter == b'Z')
+}
+
+/// Which step the item is: how many citations and recalls stand up to it.
+pub(crate) fn step_of(numbers: &[u32], item: usize) -> usize {
+    numbers
+        .iter()
+        .take(item.saturating_add(1))
+        .filter(|number| **number != 0)
+        .count()
+}

@@ -1,0 +1,253 @@
+//! Proofs that are wrong or unfinished.
+ghost use Rattle.mm_read.specs.Statements.{AreShaped};
+
+use crate::code_fault::code_break;
+use crate::expressions::push_expression;
+use crate::items::{Spot, spot_of, step_of};
+use crate::judged::enter;
+use crate::page::Page;
+use crate::step_fault::push_fault;
+use crate::symbols::word_at;
+use crate::theorem::Theorem;
+use frame::Frames;
+use mm_lex::Words;
+use mm_read::{ReadFault, Stmt, read};
+use proof_code::{CodeFault, Items, is_compressed, normal, packed};
+use reasons::{Fault, Reason, first_fault};
+use scope::Scope;
+use std::alloc::{AllocError, Global};
+
+/// The first token with `?`.
+pub(crate) fn explain_unfinished(
+    alloc: Global,
+    page: &mut Page,
+    text: &[u8],
+    statement: usize,
+) -> Result<(), AllocError> {
+    match read(alloc, text) {
+        Ok(statements) => {
+            explain_question_mark(alloc, page, text, statements.as_slice(), statement)
+        }
+        Err(ReadFault::Memory) => Err(AllocError),
+        Err(_) => Ok(()),
+    }
+}
+
+fn explain_question_mark(
+    alloc: Global,
+    page: &mut Page,
+    text: &[u8],
+    statements: &[Stmt],
+    at: usize,
+) -> Result<(), AllocError> {
+    let Some(theorem) = Theorem::new(text, statements, at) else {
+        return Ok(());
+    };
+    let token = first_unfinished(theorem.proof);
+    theorem.push_spot(alloc, page, Spot { token, byte: 0 })?;
+    page.push(b" is not finished\n")
+}
+
+/// The index of the first token with `?`.
+fn first_unfinished(proof: &Words) -> usize {
+    let mut token = 0usize;
+    let mut left = proof.iter();
+    while let Some(word) = left.next() {
+        if word.contains(&b'?') {
+            break;
+        }
+        token = token.saturating_add(1);
+    }
+    token
+}
+
+/// The first fault of a proof.
+pub(crate) fn explain_proof(
+    alloc: Global,
+    page: &mut Page,
+    text: &[u8],
+    statement: usize,
+) -> Result<(), AllocError> {
+    match read(alloc, text) {
+        Ok(statements) => explain_wrong(alloc, page, text, statements.as_slice(), statement),
+        Err(ReadFault::Memory) => Err(AllocError),
+        Err(_) => Ok(()),
+    }
+}
+
+fn explain_wrong(
+    alloc: Global,
+    page: &mut Page,
+    text: &[u8],
+    statements: &[Stmt],
+    at: usize,
+) -> Result<(), AllocError>
+    requires { AreShaped statements.now }
+{
+    let Some(theorem) = Theorem::new(text, statements, at) else {
+        return Ok(());
+    };
+    let mut scope = Scope::new(alloc);
+    let mut frames = Frames::new(alloc);
+    let mut mandatory = Words::new(alloc);
+    match enter(
+        alloc,
+        &mut scope,
+        &mut frames,
+        &mut mandatory,
+        statements,
+        at,
+    ) {
+        Ok(true) => explain_theorem(alloc, page, &frames, &mandatory, &theorem),
+        Ok(false) => Ok(()),
+        Err(error) => Err(error),
+    }
+}
+
+fn explain_theorem(
+    alloc: Global,
+    page: &mut Page,
+    frames: &Frames,
+    mandatory: &Words,
+    theorem: &Theorem<'_>,
+) -> Result<(), AllocError> {
+    let read = if is_compressed(theorem.proof) {
+        packed(alloc, theorem.proof, mandatory)
+    } else {
+        normal(alloc, theorem.proof)
+    };
+    match read {
+        Ok(items) => explain_items(alloc, page, frames, theorem, &items),
+        Err(CodeFault::Memory) => Err(AllocError),
+        Err(_) => explain_code(alloc, page, mandatory, theorem),
+    }
+}
+
+/// The tokens are no proof code.
+fn explain_code(
+    alloc: Global,
+    page: &mut Page,
+    mandatory: &Words,
+    theorem: &Theorem<'_>,
+) -> Result<(), AllocError> {
+    let broken = code_break(theorem.proof, mandatory);
+    theorem.push_spot(alloc, page, broken.spot)?;
+    page.push(b" cannot be read\n  ")?;
+    page.push(broken.words)?;
+    page.push(b"\n")
+}
+
+/// The first fault of the run over the items.
+fn explain_items(
+    alloc: Global,
+    page: &mut Page,
+    frames: &Frames,
+    theorem: &Theorem<'_>,
+    items: &Items,
+) -> Result<(), AllocError> {
+    if theorem.at == 0 || theorem.at > frames.len() {
+        return Ok(());
+    }
+    match first_fault(alloc, frames, theorem.at, items) {
+        Ok(Some(reason)) => explain_reason(alloc, page, frames, theorem, items, &reason),
+        Ok(None) => Ok(()),
+        Err(error) => Err(error),
+    }
+}
+
+fn explain_reason(
+    alloc: Global,
+    page: &mut Page,
+    frames: &Frames,
+    theorem: &Theorem<'_>,
+    items: &Items,
+    reason: &Reason,
+) -> Result<(), AllocError> {
+    match reason {
+        Reason::Item { item, fault } => {
+            explain_step(alloc, page, frames, theorem, items, *item, fault)
+        }
+        Reason::Results { count } => explain_results(alloc, page, theorem, *count),
+        Reason::Theorem { proved } => explain_other(
+            alloc,
+            page,
+            frames,
+            theorem,
+            proved.as_slice(),
+        ),
+    }
+}
+
+/// An item fails.
+fn explain_step(
+    alloc: Global,
+    page: &mut Page,
+    frames: &Frames,
+    theorem: &Theorem<'_>,
+    items: &Items,
+    item: usize,
+    fault: &Fault,
+) -> Result<(), AllocError> {
+    theorem.push_spot(alloc, page, spot_of(theorem.proof, item))?;
+    push_step(page, items, item)?;
+    push_fault(page, theorem, frames, fault)
+}
+
+/// Not one result is left.
+fn explain_results(
+    alloc: Global,
+    page: &mut Page,
+    theorem: &Theorem<'_>,
+    count: usize,
+) -> Result<(), AllocError> {
+    theorem.push_end(alloc, page)?;
+    page.push(b" is wrong at its end\n  it leaves ")?;
+    page.push_number(count)?;
+    page.push(b" results, and one has to be left\n")
+}
+
+/// Another theorem is proved.
+fn explain_other(
+    alloc: Global,
+    page: &mut Page,
+    frames: &Frames,
+    theorem: &Theorem<'_>,
+    proved: &[u32],
+) -> Result<(), AllocError> {
+    theorem.push_end(alloc, page)?;
+    page.push(b" is wrong at its end\n  it proves")?;
+    push_expression(page, frames, proved)?;
+    page.push(b"\n  but ")?;
+    page.push(theorem.label)?;
+    page.push(b" says")?;
+    push_expression(page, frames, expr_at(frames, theorem.at))?;
+    page.push(b"\n")
+}
+
+/// The expression of the statement at a position; nothing where none stands there.
+fn expr_at(frames: &Frames, at: usize) -> &[u32] {
+    if at == 0 || at > frames.len() {
+        return &[];
+    }
+    frames.expr(at)
+}
+
+/// Which step of the proof the item is, and what it cites.
+fn push_step(page: &mut Page, items: &Items, item: usize) -> Result<(), AllocError> {
+    let parts = items.parts();
+    page.push(b" is wrong at step ")?;
+    page.push_number(step_of(parts.numbers, item))?;
+    let number = match parts.numbers.get(item) {
+        Some(number) => *number as usize,
+        None => 0,
+    };
+    if number == 0 {
+        return page.push(b", which marks a result\n");
+    }
+    if number > parts.labels.len() {
+        return page.push(b", which recalls a result\n");
+    }
+    page.push(b", which cites ")?;
+    page.push(word_at(parts.labels, number - 1))?;
+    page.push(b"\n")
+}

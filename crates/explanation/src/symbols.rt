@@ -1,0 +1,54 @@
+//! The label and the symbols of a statement.
+
+use mm_lex::Words;
+use mm_read::Stmt;
+
+/// The label of a statement; nothing where it has none.
+pub(crate) fn label_of(stmt: &Stmt) -> &[u8] {
+    match stmt {
+        Stmt::Float { label, .. } => label.as_bytes(),
+        Stmt::Ess { label, .. } => label.as_bytes(),
+        Stmt::Axiom { label, .. } => label.as_bytes(),
+        Stmt::Prove { label, .. } => label.as_bytes(),
+        _ => b"",
+    }
+}
+
+/// Which token of a statement its first symbol is, from 1.
+pub(crate) fn symbols_before(stmt: &Stmt) -> usize {
+    match stmt {
+        Stmt::Const(_) => 2,
+        Stmt::Var(_) => 2,
+        Stmt::Disj(_) => 2,
+        _ => 3,
+    }
+}
+
+/// The symbol at an index, from 0; nothing where there is none.
+pub(crate) fn symbol_at(stmt: &Stmt, index: usize) -> &[u8] {
+    match stmt {
+        Stmt::Const(names) => word_at(names, index),
+        Stmt::Var(names) => word_at(names, index),
+        Stmt::Disj(names) => word_at(names, index),
+        Stmt::Float {
+            constant,
+            variable,
+            ..
+        } => {
+            if index == 0 {
+                constant.as_bytes()
+            } else {
+                variable.as_bytes()
+            }
+        }
+        Stmt::Ess { expr, .. } => word_at(expr, index),
+        Stmt::Axiom { expr, .. } => word_at(expr, index),
+        Stmt::Prove { expr, .. } => word_at(expr, index),
+        _ => b"",
+    }
+}
+
+/// The word at an index, from 0; nothing where there is none.
+pub(crate) fn word_at(words: &Words, index: usize) -> &[u8] {
+    words.iter().nth(index).unwrap_or(b"")
+}

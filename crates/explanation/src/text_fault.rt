@@ -1,0 +1,51 @@
+//! Bytes and comments at fault.
+ghost use Rattle.mm_lex.specs.Faults.{IsCommentFault};
+
+use crate::page::Page;
+use mm_lex::{LexFault, tokens};
+use places::{CommentFault, comment_fault};
+use std::alloc::{AllocError, Global};
+
+/// What is wrong with the bytes or the comments of the text.
+pub(crate) fn explain_text(alloc: Global, page: &mut Page, text: &[u8]) -> Result<(), AllocError> {
+    match tokens(alloc, text) {
+        Ok(_) => Ok(()),
+        Err(LexFault::Text { offset }) => explain_byte(page, text, offset),
+        Err(LexFault::Comment { offset }) => explain_comment(page, text, offset),
+        Err(LexFault::Memory) => Err(AllocError),
+    }
+}
+
+fn explain_byte(page: &mut Page, text: &[u8], offset: usize) -> Result<(), AllocError> {
+    let Some(byte) = text.get(offset) else {
+        return Ok(());
+    };
+    page.push_place(text, offset)?;
+    page.push(b": the byte 0x")?;
+    page.push(&[hexadecimal(*byte / 16), hexadecimal(*byte % 16)])?;
+    page.push(b" may not stand in a database\n")?;
+    page.push(b"  visible ASCII characters, spaces, tabs, form feeds and ends of lines may\n")
+}
+
+/// The digit of a number below 16.
+fn hexadecimal(number: u8) -> u8 {
+    match b"0123456789abcdef".get(number as usize) {
+        Some(digit) => *digit,
+        None => b'?',
+    }
+}
+
+fn explain_comment(page: &mut Page, text: &[u8], offset: usize) -> Result<(), AllocError>
+    requires { IsCommentFault text.now offset }
+{
+    page.push_place(text, offset)?;
+    match comment_fault(text, offset) {
+        CommentFault::Stray => page.push(b": this $) closes no comment\n"),
+        CommentFault::Inside { outer } => {
+            page.push(b": a comment begins inside a comment\n  which begins at ")?;
+            page.push_place(text, outer)?;
+            page.push(b"\n")
+        }
+        CommentFault::Unclosed => page.push(b": this comment is never closed\n"),
+    }
+}

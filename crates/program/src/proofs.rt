@@ -1,0 +1,99 @@
+//! The command `proof`: the steps of a proof as lines, as a picture or as a page.
+use crate::database::fault_line;
+use crate::streams::print;
+use commands::ProofForm;
+use library::{AskFault, Library};
+use proof_pages::{Theorem, WriteFault, write_dot, write_page, write_plain};
+use std::alloc::{AllocError, Global};
+use std::io::Write;
+use steps::{essential_table, proof_table};
+
+/// What is wanted of a proof.
+#[derive(Drop)]
+pub struct Wanted<'a> {
+    pub label: &'a [u8],
+    /// The essential steps alone.
+    pub is_essential: bool,
+    pub form: ProofForm,
+}
+
+/// Why a proof was not printed.
+enum ProofFault {
+    /// There is none, or a growth was refused.
+    Asked(AskFault),
+    /// A write failed.
+    Output,
+}
+
+impl From<AllocError> for ProofFault {
+    fn from(_error: AllocError) -> ProofFault {
+        ProofFault::Asked(AskFault::Memory)
+    }
+}
+
+impl From<AskFault> for ProofFault {
+    fn from(fault: AskFault) -> ProofFault {
+        ProofFault::Asked(fault)
+    }
+}
+
+impl From<WriteFault> for ProofFault {
+    fn from(fault: WriteFault) -> ProofFault {
+        match fault {
+            WriteFault::Memory => ProofFault::Asked(AskFault::Memory),
+            WriteFault::Output => ProofFault::Output,
+        }
+    }
+}
+
+/// Prints what is wanted of the proof of a label, or why there is none; the answer is the exit status. Where memory
+/// runs out while it is printed, the line that says so stands behind what was printed.
+pub fn print_proof<O: Write>(
+    alloc: Global,
+    library: &Library,
+    wanted: &Wanted<'_>,
+    output: &mut O,
+) -> u8 {
+    match write_proof(alloc, library, wanted, output) {
+        Ok(()) => print(output, b"", 0),
+        Err(ProofFault::Asked(fault)) => print(output, fault_line(fault), 1),
+        Err(ProofFault::Output) => 1,
+    }
+}
+
+/// Writes what is wanted of a proof.
+fn write_proof<O: Write>(
+    alloc: Global,
+    library: &Library,
+    wanted: &Wanted<'_>,
+    output: &mut O,
+) -> Result<(), ProofFault> {
+    let (at, items) = library.items(wanted.label)?;
+    let frames = library.frames();
+    let steps = proof_table(alloc, frames, at, &items)?;
+    let essential = essential_table(alloc, frames, at, &steps)?;
+    let listed = if wanted.is_essential {
+        &essential
+    } else {
+        &steps
+    };
+    match wanted.form {
+        ProofForm::Steps => write_plain(alloc, output, frames, listed)?,
+        ProofForm::Picture => write_dot(alloc, output, frames, wanted.label, listed)?,
+        ProofForm::Page => {
+            let axioms = library.trace(wanted.label)?;
+            let users = library.usage(wanted.label, false)?;
+            let theorem = Theorem {
+                statements: library.statements(),
+                frames,
+                at,
+                steps: &steps,
+                essential: &essential,
+                axioms: &axioms,
+                users: &users,
+            };
+            write_page(alloc, output, &theorem, !wanted.is_essential)?
+        }
+    }
+    Ok(())
+}

@@ -1,0 +1,3 @@
+pub mod AppendLemmas
+pub mod EscapeLemmas
+pub mod WritingLemmas

@@ -1,0 +1,61 @@
+-- Writes one after another, and texts of rows one after another.
+use Rattle.std.specs.Prelude.{◌≡◌, ℕ, suc, ◌+◌, ◌<◌, ◌≤◌, List, [], ◌∷◌, ◌++◌, length, take, get_or, Option, Some, None, Result, Ok, Err, OnOk, refl}
+use Rattle.std.specs.Io.KnownBytes.{Appends}
+use Rattle.std.proofs.Common.{sym, ◌∙◌, ap, subst, arith}
+use Rattle.std.proofs.lemmas.List.{append-nil, append_assoc, take_more, take_all, length-take-le}
+use Rattle.steps.specs.Rows.{Row, no_row}
+use Rattle.proof_pages.specs.StepLines.{texts_from}
+use Rattle.proof_pages.specs.Writing.{Wrote}
+
+pub appends_none : (a : Option (List ℕ)) → Appends a a []
+appends_none None = tt
+appends_none (Some xs) = sym (append-nil xs)
+
+pub appends_on : (a b c : Option (List ℕ)) (x y : List ℕ) → Appends a b x → Appends b c y → Appends a c (x ++ y)
+appends_on None b c x y h k = tt
+appends_on (Some xs) None c x y h k = absurd h
+appends_on (Some xs) (Some ys) None x y h k = absurd k
+appends_on (Some xs) (Some ys) (Some zs) x y h k = k ∙ (ap (λ s. s ++ y) h ∙ append_assoc xs x y)
+
+pub wrote_none : (a : Option (List ℕ)) (text : List ℕ) → Wrote a a text text
+wrote_none a text = record { done = []; written = appends_none a; whole = refl }
+
+pub wrote_on : (a b c : Option (List ℕ)) (held text later more : List ℕ) → Wrote a b held text → Wrote b c later (held ++ more) → Wrote a c later (text ++ more)
+wrote_on a b c held text later more w v = record {
+  done = w.done ++ v.done;
+  written = appends_on a b c w.done v.done w.written v.written;
+  whole = append_assoc w.done v.done later ∙ (ap (λ s. w.done ++ s) v.whole ∙ (sym (append_assoc w.done held more) ∙ ap (λ s. s ++ more) w.whole));
+}
+
+pub wrote_all : (a b c : Option (List ℕ)) (held text : List ℕ) → Wrote a b held text → Appends b c held → Appends a c text
+wrote_all a b c held text w h = subst (λ s. Appends a c s) w.whole (appends_on a b c w.done held w.written h)
+
+texts-more : (f : ℕ → Row → List ℕ) (place : ℕ) (rows : List Row) (r : Row) → texts_from f place (rows ++ r ∷ []) ≡ texts_from f place rows ++ f (place + length rows) r
+texts-more f place [] r = append-nil (f place r) ∙ ap (λ n. f n r) (let e : place ≡ place + 0 = omega arith in e)
+texts-more f place (x ∷ rows) r =
+    ap (λ t. f place x ++ t) (texts-more f (suc place) rows r)
+    ∙ (sym (append_assoc (f place x) (texts_from f (suc place) rows) (f (suc place + length rows) r))
+    ∙ ap (λ n. f place x ++ texts_from f (suc place) rows ++ f n r) (let e : suc place + length rows ≡ place + suc (length rows) = omega arith in e))
+
+pub texts_grow : (f : ℕ → Row → List ℕ) (rows : List Row) (i : ℕ) → i < length rows → texts_from f 0 (take (i + 1) rows) ≡ texts_from f 0 (take i rows) ++ f i (get_or rows i no_row)
+texts_grow f rows i h =
+    ap (λ rs. texts_from f 0 rs) (take_more rows i no_row h)
+    ∙ (texts-more f 0 (take i rows) (get_or rows i no_row)
+    ∙ ap (λ n. texts_from f 0 (take i rows) ++ f n (get_or rows i no_row)) (let e = length-take-le i rows (omega (arith, h)) in omega (arith, e)))
+
+-- a row more is added, and perhaps written
+pub row_on : (f : ℕ → Row → List ℕ) (rows : List Row) (i : ℕ) (head : List ℕ) (a b c : Option (List ℕ)) (held later new : List ℕ) → i < length rows → Wrote a b held (head ++ texts_from f 0 (take i rows))
+    → new ≡ held ++ f i (get_or rows i no_row) → Wrote b c later new → Wrote a c later (head ++ texts_from f 0 (take (i + 1) rows))
+row_on f rows i head a b c held later new h w e v =
+    subst (λ t. Wrote a c later t) (append_assoc head (texts_from f 0 (take i rows)) (f i (get_or rows i no_row)) ∙ sym (ap (λ t. head ++ t) (texts_grow f rows i h)))
+    (wrote_on a b c held (head ++ texts_from f 0 (take i rows)) later (f i (get_or rows i no_row)) w (subst (λ s. Wrote b c later s) e v))
+
+-- all rows were added, and the tail is written with what is held back
+pub end_on : {T E : Type 0} (r : Result T E) (f : ℕ → Row → List ℕ) (rows : List Row) (i : ℕ) (head tail : List ℕ) (a b c : Option (List ℕ)) (held bytes : List ℕ) → length rows ≤ i
+    → Wrote a b held (head ++ texts_from f 0 (take i rows)) → bytes ≡ held ++ tail → OnOk r (Appends b c bytes) → OnOk r (Appends a c (head ++ texts_from f 0 rows ++ tail))
+end_on (Ok v) f rows i head tail a b c held bytes h w e k =
+    subst (λ rs. Appends a c (head ++ texts_from f 0 rs ++ tail)) (take_all i rows h)
+    (wrote_all a b c (held ++ tail) (head ++ texts_from f 0 (take i rows) ++ tail)
+    (record { done = w.done; written = w.written; whole = sym (append_assoc w.done held tail) ∙ ap (λ s. s ++ tail) w.whole })
+    (subst (λ s. Appends b c s) e k))
+end_on (Err x) f rows i head tail a b c held bytes h w e k = tt

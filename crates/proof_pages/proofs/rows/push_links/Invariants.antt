@@ -1,0 +1,7 @@
+use Rattle.std.proofs.Common.{◌≡◌, ◌++◌, take}
+use Rattle.std.specs.Prelude.{flat_map}
+use Rattle.proof_pages.specs.Pages.{link_html}
+use Rattle.proof_pages.proofs.rows.push_links.Given as goal
+
+abbrev pub invariant-loop-place : goal.invariant-loop-place
+invariant-loop-place l = l.page.items ≡ l.initial.page.items ++ flat_map (link_html l.mark) (take l.place-index l.places)

@@ -1,0 +1,12 @@
+use Rattle.std.proofs.Common.{◌++◌}
+use Rattle.std.specs.Prelude.{codes, decimal}
+use Rattle.proof_pages.specs.Escapes.{html_text}
+use Rattle.proof_pages.proofs.AppendLemmas.{joined, joined-last}
+use Rattle.proof_pages.proofs.rows.push_variable.Goals as goal
+
+pub returns : goal.returns
+returns c =
+    let step2 = joined c.args.page.now.items c.extend_from_slice.new.self.items c.push_number.new.text.items (codes "<var class=\"k") (decimal c.args.class) c.in_ok-extend_from_slice.ensures.items (c.in_ok-push_number.ensures) in
+    let step3 = joined c.args.page.now.items c.push_number.new.text.items c.extend_from_slice-2.new.self.items (codes "<var class=\"k" ++ decimal c.args.class) (codes "\">") step2 (c.in_ok-extend_from_slice-2.ensures.items) in
+    let step4 = joined c.args.page.now.items c.extend_from_slice-2.new.self.items c.push_html.new.page.items (codes "<var class=\"k" ++ decimal c.args.class ++ codes "\">") (html_text c.args.name.now) step3 (c.in_ok-push_html.ensures.written) in
+    joined-last c.args.page.now.items c.push_html.new.page.items c.extend_from_slice-3.new.self.items (codes "<var class=\"k" ++ decimal c.args.class ++ codes "\">" ++ html_text c.args.name.now) (codes "</var>") c.extend_from_slice-3.result step4 c.extend_from_slice-3.ensures.items

@@ -1,0 +1,8 @@
+use Rattle.std.proofs.Common.{◌++◌, take}
+use Rattle.proof_pages.specs.StepLines.{texts_from}
+use Rattle.proof_pages.specs.Pictures.{picture_head, node_text}
+use Rattle.proof_pages.specs.Writing.{Wrote}
+use Rattle.proof_pages.proofs.writing.write_dot.Given as goal
+
+abbrev pub invariant-loop-place : goal.invariant-loop-place
+invariant-loop-place g l = Wrote (g.W.Write.contents l.initial.out) (g.W.Write.contents l.out) l.text.items (picture_head l.label ++ texts_from (node_text l.frames.statements l.frames.names) 0 (take l.place l.table))

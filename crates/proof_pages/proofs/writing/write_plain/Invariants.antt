@@ -1,0 +1,7 @@
+use Rattle.std.proofs.Common.{take}
+use Rattle.proof_pages.specs.StepLines.{step_line, texts_from}
+use Rattle.proof_pages.specs.Writing.{Wrote}
+use Rattle.proof_pages.proofs.writing.write_plain.Given as goal
+
+abbrev pub invariant-loop-place : goal.invariant-loop-place
+invariant-loop-place g l = Wrote (g.W.Write.contents l.initial.out) (g.W.Write.contents l.out) l.text.items (texts_from (step_line l.frames.statements l.frames.names) 0 (take l.place l.table))

@@ -1,0 +1,31 @@
+-- Bytes of a database as text of a page, and as text between quotes of a picture.
+-- Source: HTML, character references; the DOT language of Graphviz, quoted strings.
+-- The code adds byte by byte.
+use Rattle.std.specs.Prelude.{◌≡◌, ℕ, ◌==◌, Bool, true, false, ◌||◌, if◌then◌else◌, List, [], ◌∷◌, ◌++◌, codes, flat_map}
+
+-- `&`, `<`, `>` and `"`
+abbrev pub is_markup : ℕ → Bool
+is_markup b = b == 38 || (b == 60 || (b == 62 || b == 34))
+
+-- the character reference that stands for one of them
+abbrev pub reference : ℕ → List ℕ
+reference b = if b == 38 then codes "&amp;" else if b == 60 then codes "&lt;" else if b == 62 then codes "&gt;" else codes "&quot;"
+
+abbrev pub html_byte : ℕ → List ℕ
+html_byte b = if is_markup b then reference b else b ∷ []
+
+abbrev pub html_text : List ℕ → List ℕ
+html_text text = flat_map html_byte text
+
+-- what is written reads as the text: bytes that are none of the four as themselves, references as what they stand for
+pub data ReadsAs : List ℕ → List ℕ → Type 0 where
+  reads_none : ReadsAs [] []
+  reads_plain : (b : ℕ) (written text : List ℕ) → is_markup b ≡ false → ReadsAs written text → ReadsAs (b ∷ written) (b ∷ text)
+  reads_reference : (b : ℕ) (written text : List ℕ) → is_markup b ≡ true → ReadsAs written text → ReadsAs (reference b ++ written) (b ∷ text)
+
+-- `"` and `\` behind a `\`
+abbrev pub quoted_byte : ℕ → List ℕ
+quoted_byte b = if b == 34 || b == 92 then 92 ∷ b ∷ [] else b ∷ []
+
+abbrev pub quoted_text : List ℕ → List ℕ
+quoted_text text = flat_map quoted_byte text

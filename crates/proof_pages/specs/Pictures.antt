@@ -1,0 +1,38 @@
+-- The steps of a proof as a picture for Graphviz.
+-- Source: the DOT language of Graphviz.
+-- The code adds each part to the end of a buffer.
+use Rattle.std.specs.Prelude.{ℕ, List, [], ◌∷◌, ◌++◌, codes, flat_map}
+use Rattle.mm_lex.specs.Alphabet.{Name}
+use Rattle.mm_read.specs.Statements.{Database}
+use Rattle.scope.specs.Active.{stmt_at}
+use Rattle.names.specs.Codes.{name_at}
+use Rattle.verify.specs.Proves.{label_or_none}
+use Rattle.steps.specs.Rows.{Row}
+use Rattle.proof_pages.specs.Escapes.{quoted_text}
+use Rattle.proof_pages.specs.StepLines.{number_text, texts_from}
+
+abbrev pub quoted_symbol : List Name → ℕ → List ℕ
+quoted_symbol names symbol = codes " " ++ quoted_text (name_at names symbol)
+
+-- the symbols between quotes, a space between two
+abbrev pub quoted_expr : List Name → List ℕ → List ℕ
+quoted_expr names [] = []
+quoted_expr names (symbol ∷ symbols) = quoted_text (name_at names symbol) ++ flat_map (quoted_symbol names) symbols
+
+-- an arrow from a step that is taken
+abbrev pub arrow_line : ℕ → ℕ → List ℕ
+arrow_line place taken = number_text taken ++ codes " -> " ++ number_text place ++ codes ";\n"
+
+abbrev pub node_line : Database → List Name → ℕ → Row → List ℕ
+node_line S names place row =
+    number_text place ++ codes " [label=\"" ++ quoted_text (label_or_none (stmt_at S row.step.position)) ++ codes "\\n" ++ quoted_expr names row.expr ++ codes "\"];\n"
+
+-- a node, and an arrow from each step that it takes
+abbrev pub node_text : Database → List Name → ℕ → Row → List ℕ
+node_text S names place row = node_line S names place row ++ flat_map (arrow_line place) row.step.taken
+
+abbrev pub picture_head : Name → List ℕ
+picture_head label = codes "digraph \"" ++ quoted_text label ++ codes "\" {\n"
+
+abbrev pub picture_text : Database → List Name → Name → List Row → List ℕ
+picture_text S names label rows = picture_head label ++ texts_from (node_text S names) 0 rows ++ codes "}\n"

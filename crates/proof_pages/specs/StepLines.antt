@@ -1,0 +1,39 @@
+-- The steps of a proof as lines of text.
+-- Source: this project's own form.
+-- The code adds each part to the end of a buffer.
+use Rattle.std.specs.Prelude.{ℕ, suc, ◌+◌, List, [], ◌∷◌, ◌++◌, codes, decimal, flat_map}
+use Rattle.mm_lex.specs.Alphabet.{Name}
+use Rattle.mm_read.specs.Statements.{Database}
+use Rattle.scope.specs.Active.{stmt_at}
+use Rattle.names.specs.Codes.{name_at}
+use Rattle.verify.specs.Proves.{label_or_none}
+use Rattle.steps.specs.Rows.{Row}
+
+-- a place from 0 as a number from 1
+abbrev pub number_text : ℕ → List ℕ
+number_text place = decimal (place + 1)
+
+abbrev pub behind_comma : ℕ → List ℕ
+behind_comma place = codes "," ++ number_text place
+
+-- the numbers of the steps that are taken, or `-`
+abbrev pub taken_text : List ℕ → List ℕ
+taken_text [] = codes "-"
+taken_text (place ∷ places) = number_text place ++ flat_map behind_comma places
+
+-- a symbol behind a space
+abbrev pub symbol_text : List Name → ℕ → List ℕ
+symbol_text names symbol = codes " " ++ name_at names symbol
+
+abbrev pub expr_text : List Name → List ℕ → List ℕ
+expr_text names expr = flat_map (symbol_text names) expr
+
+-- number, numbers taken, label, expression
+abbrev pub step_line : Database → List Name → ℕ → Row → List ℕ
+step_line S names place row =
+    number_text place ++ codes " " ++ taken_text row.step.taken ++ codes " " ++ label_or_none (stmt_at S row.step.position) ++ expr_text names row.expr ++ codes "\n"
+
+-- the texts of rows one after another, the first of which stands at this place
+abbrev pub texts_from : (ℕ → Row → List ℕ) → ℕ → List Row → List ℕ
+texts_from text place [] = []
+texts_from text place (row ∷ rows) = text place row ++ texts_from text (suc place) rows

@@ -1,0 +1,52 @@
+//! Bytes of a database inside a page, and inside quotes of a picture.
+ghost use Rattle.std.specs.Prelude.{◌≡◌, ◌++◌, OnOk};
+ghost use Rattle.proof_pages.specs.Escapes.{html_byte, html_text, ReadsAs, quoted_byte, quoted_text};
+
+use std::alloc::AllocError;
+
+/// Adds the bytes as text of a page: none of them can be read as markup.
+pub fn push_html(page: &mut Vec<u8>, bytes: &[u8]) -> Result<(), AllocError>
+    ensures written { OnOk result (page.new.items ≡ page.old.items ++ html_text bytes.now) }
+    ensures reads { ReadsAs (html_text bytes.now) bytes.now }
+{
+    for byte in bytes {
+        push_html_byte(page, *byte)?;
+    }
+    Ok(())
+}
+
+fn push_html_byte(page: &mut Vec<u8>, byte: u8) -> Result<(), AllocError>
+    ensures { OnOk result (page.new.items ≡ page.old.items ++ html_byte byte) }
+{
+    if byte == b'&' {
+        page.extend_from_slice(b"&amp;")
+    } else if byte == b'<' {
+        page.extend_from_slice(b"&lt;")
+    } else if byte == b'>' {
+        page.extend_from_slice(b"&gt;")
+    } else if byte == b'"' {
+        page.extend_from_slice(b"&quot;")
+    } else {
+        page.extend_from_slice(&[byte])
+    }
+}
+
+/// Adds the bytes as text between quotes.
+pub fn push_quoted(picture: &mut Vec<u8>, bytes: &[u8]) -> Result<(), AllocError>
+    ensures { OnOk result (picture.new.items ≡ picture.old.items ++ quoted_text bytes.now) }
+{
+    for byte in bytes {
+        push_quoted_byte(picture, *byte)?;
+    }
+    Ok(())
+}
+
+fn push_quoted_byte(picture: &mut Vec<u8>, byte: u8) -> Result<(), AllocError>
+    ensures { OnOk result (picture.new.items ≡ picture.old.items ++ quoted_byte byte) }
+{
+    if byte == b'"' || byte == b'\\' {
+        picture.extend_from_slice(&[b'\\', byte])
+    } else {
+        picture.extend_from_slice(&[byte])
+    }
+}

@@ -1,0 +1,22 @@
+//! A proof for people: its steps as lines, as a picture for Graphviz, and as a page.
+//!
+//! Every byte of a database goes into a page by `push_html`, and into a picture by `push_quoted`.
+//!
+//! Reading order: `escapes`, `lines`, `picture`, `writing`; `rows`, `colours`, `style`, `page`.
+#![tactic(auto)]
+
+mod colours;
+mod escapes;
+mod lines;
+mod page;
+mod picture;
+mod rows;
+mod style;
+mod writing;
+
+pub use escapes::{push_html, push_quoted};
+pub use lines::push_step;
+pub use page::{Theorem, write_page};
+pub use picture::push_node;
+pub use rows::push_html_step;
+pub use writing::{WriteFault, write_dot, write_plain};

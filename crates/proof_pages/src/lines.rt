@@ -1,0 +1,97 @@
+//! A step as a line.
+ghost use Rattle.std.specs.Prelude.{◌≡◌, ◌<◌, ◌++◌, codes, length, get_or, flat_map, OnOk};
+ghost use Rattle.scope.specs.Active.{stmt_at};
+ghost use Rattle.verify.specs.Proves.{label_or_none};
+ghost use Rattle.steps.specs.Rows.{no_row};
+ghost use Rattle.proof_pages.specs.StepLines.{number_text, behind_comma, taken_text, symbol_text, expr_text, step_line};
+
+use frame::Frames;
+use outline::push_number;
+use std::alloc::AllocError;
+use steps::ProofTable;
+
+/// The label of the statement at a position, empty where it has none.
+pub fn label_at(frames: &Frames, position: usize) -> &[u8]
+    ensures { result.now ≡ label_or_none (stmt_at frames.now.statements position) }
+{
+    if position == 0 || position > frames.len() {
+        return &[];
+    }
+    match frames.label(position) {
+        Some(label) => label,
+        None => &[],
+    }
+}
+
+/// Adds the number of the step at a place.
+pub fn push_place(text: &mut Vec<u8>, place: usize) -> Result<(), AllocError>
+    ensures { OnOk result (text.new.items ≡ text.old.items ++ number_text place) }
+{
+    let number = (place as u64).checked_add(1).ok_or(AllocError)?;
+    push_number(text, number)
+}
+
+fn push_behind_comma(text: &mut Vec<u8>, place: usize) -> Result<(), AllocError>
+    ensures { OnOk result (text.new.items ≡ text.old.items ++ behind_comma place) }
+{
+    text.extend_from_slice(b",")?;
+    push_place(text, place)
+}
+
+fn push_others(text: &mut Vec<u8>, places: &[usize]) -> Result<(), AllocError>
+    ensures { OnOk result (text.new.items ≡ text.old.items ++ flat_map behind_comma places.now) }
+{
+    for place in places {
+        push_behind_comma(text, *place)?;
+    }
+    Ok(())
+}
+
+/// Adds the numbers of the steps that are taken, or `-`.
+fn push_taken(text: &mut Vec<u8>, places: &[usize]) -> Result<(), AllocError>
+    ensures { OnOk result (text.new.items ≡ text.old.items ++ taken_text places.now) }
+{
+    match places.split_first() {
+        None => text.extend_from_slice(b"-"),
+        Some((first, others)) => {
+            push_place(text, *first)?;
+            push_others(text, others)
+        }
+    }
+}
+
+fn push_symbol(text: &mut Vec<u8>, frames: &Frames, symbol: u32) -> Result<(), AllocError>
+    ensures { OnOk result (text.new.items ≡ text.old.items ++ symbol_text frames.now.names symbol) }
+{
+    text.extend_from_slice(b" ")?;
+    text.extend_from_slice(frames.symbol(symbol))
+}
+
+/// Adds the symbols of an expression, each behind a space.
+fn push_expr(text: &mut Vec<u8>, frames: &Frames, expr: &[u32]) -> Result<(), AllocError>
+    ensures { OnOk result (text.new.items ≡ text.old.items ++ expr_text frames.now.names expr.now) }
+{
+    for symbol in expr {
+        push_symbol(text, frames, *symbol)?;
+    }
+    Ok(())
+}
+
+/// Adds the step at a place as a line: its number, the numbers of the steps that it takes, its label, its expression.
+pub fn push_step(
+    text: &mut Vec<u8>,
+    frames: &Frames,
+    table: &ProofTable,
+    place: usize,
+) -> Result<(), AllocError>
+    requires { place < length table.now }
+    ensures { OnOk result (text.new.items ≡ text.old.items ++ step_line frames.now.statements frames.now.names place (get_or table.now place no_row)) }
+{
+    push_place(text, place)?;
+    text.extend_from_slice(b" ")?;
+    push_taken(text, table.taken(place))?;
+    text.extend_from_slice(b" ")?;
+    text.extend_from_slice(label_at(frames, table.position(place)))?;
+    push_expr(text, frames, table.expr(place))?;
+    text.extend_from_slice(b"\n")
+}

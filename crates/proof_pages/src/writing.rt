@@ -1,0 +1,97 @@
+//! A proof written step by step, so that a long one takes no more memory than its table.
+ghost use Rattle.std.specs.Prelude.{◌≡◌, [], codes, OnOk};
+ghost use Rattle.std.specs.Io.KnownBytes.{Appends};
+ghost use Rattle.proof_pages.specs.StepLines.{step_line, texts_from};
+ghost use Rattle.proof_pages.specs.Pictures.{picture_text};
+ghost use Rattle.proof_pages.specs.Writing.{Wrote};
+
+use crate::lines::push_step;
+use crate::picture::{push_head, push_node};
+use frame::Frames;
+use std::alloc::{AllocError, Global};
+use std::io::Write;
+use steps::ProofTable;
+
+/// Why a proof was not written to its end.
+#[derive(Debug, Drop, PartialEq, Eq)]
+pub enum WriteFault {
+    /// A growth was refused.
+    Memory,
+    /// A write failed.
+    Output,
+}
+
+impl From<AllocError> for WriteFault {
+    fn from(_error: AllocError) -> WriteFault {
+        WriteFault::Memory
+    }
+}
+
+/// How many bytes are put together before they are written.
+const PART: usize = 65_536;
+
+/// Writes what is held back, if that is much.
+pub(crate) fn write_part<W: Write>(out: &mut W, text: &mut Vec<u8>) -> Result<(), WriteFault>
+    ensures { OnOk result (Wrote (W.contents out.old) (W.contents out.new) text.new.items text.old.items) }
+{
+    if text.len() < PART {
+        return Ok(());
+    }
+    write_rest(out, text)?;
+    text.clear();
+    Ok(())
+}
+
+/// Writes what is held back.
+pub(crate) fn write_rest<W: Write>(out: &mut W, text: &[u8]) -> Result<(), WriteFault>
+    ensures { OnOk result (Appends (W.contents out.old) (W.contents out.new) text.now) }
+{
+    match out.write_all(text) {
+        Ok(()) => Ok(()),
+        Err(_) => Err(WriteFault::Output),
+    }
+}
+
+/// Writes the steps, a line a step: its number, the numbers of the steps that it takes, its label, its expression.
+///
+/// Errors: `Memory`, `Output`; some lines may be written then. Cost: the size of the lines; 64 KiB and one line are
+/// held back at most.
+pub fn write_plain<W: Write>(
+    alloc: Global,
+    out: &mut W,
+    frames: &Frames,
+    table: &ProofTable,
+) -> Result<(), WriteFault>
+    ensures { OnOk result (Appends (W.contents out.old) (W.contents out.new)
+        (texts_from (step_line frames.now.statements frames.now.names) 0 table.now)) }
+{
+    let mut text = Vec::new(alloc);
+    for place in 0..table.len() {
+        push_step(&mut text, frames, table, place)?;
+        write_part(out, &mut text)?;
+    }
+    write_rest(out, &text)
+}
+
+/// Writes the steps as a picture for Graphviz.
+///
+/// Errors and cost: those of `write_plain`.
+pub fn write_dot<W: Write>(
+    alloc: Global,
+    out: &mut W,
+    frames: &Frames,
+    label: &[u8],
+    table: &ProofTable,
+) -> Result<(), WriteFault>
+    ensures { OnOk result (Appends (W.contents out.old) (W.contents out.new)
+        (picture_text frames.now.statements frames.now.names label.now table.now)) }
+{
+    let mut text = Vec::new(alloc);
+    push_head(&mut text, label)?;
+    for place in 0..table.len() {
+        push_node(&mut text, frames, table, place)?;
+        write_part(out, &mut text)?;
+    }
+    text.extend_from_slice(b"}\n")?;
+    write_rest(out, &text)
+}

@@ -1,0 +1,239 @@
+-- What a citation adds to a table, where a run takes the same step.
+use Rattle.std.specs.Prelude.{◌≡◌, ℕ, zero, suc, ◌-◌, ◌<◌, ◌≤◌, List, [], ◌∷◌, ◌++◌, length, map, drop, get_or, slice_get, Some, refl}
+use Rattle.std.proofs.Common.{sym, ◌∙◌, ap, subst, arith, inl, inr}
+use Rattle.std.proofs.lemmas.List.{length-map}
+use Rattle.mm_lex.specs.Alphabet.{Name}
+use Rattle.mm_read.specs.declared.stmt.Stmt.{Stmt}
+use Rattle.mm_read.specs.Statements.{Expr, Database}
+use Rattle.scope.specs.Active.{stmt_at, before, expr_of, is_assertion}
+use Rattle.names.specs.Codes.{decode}
+use Rattle.entries.specs.declared.citation.Hypothesis.TheVariants.{Float}
+use Rattle.entries.specs.declared.citation.Cited.{Cited}
+use Rattle.frame.specs.Below.{AreBelow, AllBelow}
+use Rattle.frame.specs.Bound.{IsBound}
+use Rattle.frame.specs.Cited.{IsCited}
+use Rattle.frame.specs.FrameOf.{HasAssertion, hypotheses}
+use Rattle.frame.specs.Citations.{Carries, IsHypothesis, IsInstance, premises}
+use Rattle.frame.specs.Reading.{AreLegal}
+use Rattle.frame.specs.Substitution.{Images, CodeImages, apply as applied, code_apply}
+use Rattle.proof_code.specs.declared.item.Item.TheVariants.{Cite}
+use Rattle.subst.proofs.NumbersApartLemmas.{below-drop}
+use Rattle.verify.specs.Fits.{IsTyped, AreRead, AreDifferent}
+use Rattle.verify.specs.Goes.{AreNamed}
+use Rattle.verify.specs.Machine.{Results, State, Cites, of_hypothesis, of_assertion, Steps, with_result}
+use Rattle.verify.specs.Places.{below, top}
+use Rattle.verify.proofs.AskedLemmas.{asked-lengths, asked-different}
+use Rattle.verify.proofs.CitationLemmas.{Meets, meets-step}
+use Rattle.verify.proofs.CitingLemmas.{read-over}
+use Rattle.verify.proofs.Decide.{some_same, append_cut, length-premises, not_both}
+use Rattle.verify.proofs.ImageLemmas.{apply-below}
+use Rattle.verify.proofs.Named.{map-append, halves, length-top}
+use Rattle.verify.proofs.PlaceLemmas.{map-drop}
+use Rattle.verify.proofs.PlanLemmas.{below-take}
+use Rattle.steps.specs.StepTable.{Step, IsPlaced, stands, comes_last, of_hypothesis as makes_hypothesis, of_assertion as makes_assertion, Notes}
+use Rattle.steps.specs.Rows.{Row, no_row, expr_in, Follows, from_hypothesis, from_assertion, AreRows}
+use Rattle.steps.specs.StepTable as table
+use Rattle.steps.specs.Drafted.{row_of, rows_of, codes_in, progress_of, IsDraft, IsTied, GivesHypothesis, GivesAssertion}
+use Rattle.steps.specs.declared.draft.Draft.{Draft}
+use Rattle.steps.proofs.RowLemmas.{some-get}
+use Rattle.steps.proofs.PlacingLemmas.{found-draft, found-placed, found-tied, made-draft, made-placed, made-tied}
+
+top-map : {A B : Type 0} (f : A → B) (n : ℕ) (xs : List A) → top n (map f xs) ≡ map f (top n xs)
+top-map f n xs = ap (λ l. drop (l - n) (map f xs)) (length-map xs f) ∙ sym (map-drop f (length xs - n) xs)
+
+-- the codes of rows have names
+codes-named : (S : Database) (at : ℕ) (names : List Name) (rows : List Row) (ks : List ℕ) → AreRows S at names rows → AreBelow (length rows) ks → AllBelow (length names) (map (λ k. (get_or rows k no_row).expr) ks)
+codes-named S at names rows [] are b = tt
+codes-named S at names rows (k ∷ ks) are b = (one rows k are b.0, codes-named S at names rows ks are b.1)
+  where
+    there : (rs : List Row) (k : ℕ) → k < length rs → (row : Row) × (slice_get rs k ≡ Some row)
+    there [] k h = absurd (omega (arith, h))
+    there (r ∷ rs) zero h = (r, refl)
+    there (r ∷ rs) (suc k) h = there rs k (omega (arith, h))
+
+    one : (rs : List Row) (k : ℕ) → AreRows S at names rs → k < length rs → AreBelow (length names) (get_or rs k no_row).expr
+    one rs k are h = let r = there rs k h in subst (λ x. AreBelow (length names) x.expr) (sym (some-get rs k r.0 no_row r.1)) ((are k r.0 r.1).named)
+
+-- the citation is noted, and the results of the run are the expressions of the rows
+abbrev IsNoted : Database → ℕ → List Name → Draft → Name → Draft → State → Type 0
+IsNoted S at names d label new next = Notes S at (progress_of d) (Cite label) (progress_of new) × IsTied names new next
+
+module _ (S : Database) (at : ℕ) (names : List Name) (legal : AreLegal S names) (d : Draft) (is : IsDraft S at names d) (label : Name) (st : State) (tied : IsTied names d st) where
+  -- ---- a hypothesis
+
+  module _ (i : ℕ) (s : Stmt) (codes : List ℕ) (carries : Carries S i s label) (active : IsHypothesis S at i s) (named : decode names codes ≡ expr_of s) (low : AreBelow (length names) codes) where
+    abbrev h_step : Step
+    h_step = record { position = i; taken = [] }
+
+    hypothesis-same : (row : Row) → row.step ≡ h_step → Follows S at names (rows_of d) row → decode names row.expr ≡ expr_of s
+    hypothesis-same r e (from_hypothesis t active' none is') =
+        is' ∙ ap expr_of (some_same (subst (λ x. stmt_at S x.position ≡ Some t) e active'.stands) active.stands)
+    hypothesis-same r e (from_assertion t σ fits takes is') =
+        let same : t ≡ s = some_same (subst (λ x. stmt_at S x.position ≡ Some t) e fits.stands) active.stands in
+        absurd (not_both s active.kind (ap is_assertion (sym same) ∙ fits.assertion))
+
+    -- what the run gives is the hypothesis
+    run-hypothesis : (b : List Expr) (f : Expr) → Cites S at label st.stack b f → (st.stack ≡ b) × (f ≡ expr_of s)
+    run-hypothesis b f (of_hypothesis j t carries' active' same whole) = (whole, same ∙ ap expr_of (some_same (carries'.stands) (ap (stmt_at S) (legal.once j i t s label carries' carries) ∙ carries.stands)))
+    run-hypothesis b f (of_assertion a t σ carries' fits whole gives) =
+        let same : t ≡ s = some_same carries'.stands (ap (stmt_at S) (legal.once a i t s label carries' carries) ∙ carries.stands) in
+        absurd (not_both s active.kind (ap is_assertion (sym same) ∙ fits.assertion))
+
+    hypothesis-draft' : (new : Draft) → GivesHypothesis d new i codes → IsDraft S at names new
+    hypothesis-draft' new (inl finds) = found-draft S at names legal d new is h_step d.stack.items (expr_of s) finds is.stack_below hypothesis-same
+    hypothesis-draft' new (inr makes) = made-draft S at names legal d new is h_step d.stack.items codes makes is.stack_below tt (from_hypothesis s active refl named) low
+
+    hypothesis-tied' : (new : Draft) → GivesHypothesis d new i codes → (b : List Expr) (f : Expr) → (st.stack ≡ b) × (f ≡ expr_of s) → IsNoted S at names d label new (with_result st b f)
+    hypothesis-tied' new (inl finds) b f (whole, gives) = (
+      (d.stack.items, h_step, finds.place, makes_hypothesis s carries active refl refl, found-placed S at names legal d new is h_step d.stack.items (expr_of s) finds is.stack_below hypothesis-same, finds.stack, finds.saved),
+      found-tied S at names legal d new is h_step d.stack.items f finds is.stack_below (λ r e x. hypothesis-same r e x ∙ sym gives) st b tied (tied.stack ∙ whole),
+    )
+    hypothesis-tied' new (inr makes) b f (whole, gives) =
+        let follows = from_hypothesis s active refl named in (
+          (d.stack.items, h_step, length d.placed.items, makes_hypothesis s carries active refl refl, made-placed S at names legal d new is h_step d.stack.items codes makes is.stack_below tt follows low, makes.stack, makes.saved),
+          made-tied S at names legal d new is h_step d.stack.items codes makes is.stack_below tt follows low st b f tied (tied.stack ∙ whole) (named ∙ sym gives),
+        )
+
+    pub hypothesis-draft : (new : Draft) → GivesHypothesis d new i codes → IsDraft S at names new
+    hypothesis-draft = hypothesis-draft'
+
+    pub hypothesis-done : (new : Draft) → GivesHypothesis d new i codes → (next : State) → Steps S at st (Cite label) next → IsNoted S at names d label new next
+    hypothesis-done new gives next run = subst (IsNoted S at names d label new) (sym run.3) (hypothesis-tied' new gives run.0 run.1 (run-hypothesis run.0 run.1 run.2))
+
+  -- ---- an assertion
+
+  module _ (a : ℕ) (s : Stmt) (c : Cited) (carries : Carries S a s label) (has : HasAssertion S a s) (earlier : a < at) (cited : IsCited S names a s c) (next : State) (run : Steps S at st (Cite label) next) where
+    abbrev n : ℕ
+    n = length c.hypotheses.now
+
+    abbrev rows' : List Row
+    rows' = rows_of d
+
+    abbrev results : Results ℕ
+    results = record { stack = map (codes_in d) d.stack.items; saved = map (codes_in d) d.saved.items; weight = st.weight }
+
+    bound : IsBound S a s
+    bound = legal.bound a s has
+
+    count' : length rows' ≡ length d.placed.items
+    count' = length-map d.placed.items (row_of d.symbols)
+
+    in_rows : (ks : List ℕ) → AreBelow (length d.placed.items) ks → AreBelow (length rows') ks
+    in_rows ks b = subst (λ m. AreBelow m ks) (sym count') b
+
+    are_named : AreNamed names results
+    are_named = record { stack_named = codes-named S at names rows' d.stack.items is.rows (in_rows d.stack.items is.stack_below); saved_named = codes-named S at names rows' d.saved.items is.rows (in_rows d.saved.items is.saved_below) }
+
+    map-map : (ks : List ℕ) → map (decode names) (map (codes_in d) ks) ≡ map (expr_in names rows') ks
+    map-map [] = refl
+    map-map (k ∷ ks) = ap (λ r. expr_in names rows' k ∷ r) (map-map ks)
+
+    cites' : Cites S at label (map (decode names) results.stack) run.0 run.1
+    cites' = subst (λ x. Cites S at label x run.0 run.1) (sym (map-map d.stack.items ∙ tied.stack)) run.2
+
+    meets' : Meets S names at a c results.stack run.1
+    meets' = meets-step S names at a s c legal bound cited results label run.0 run.1 are_named carries has cites'
+
+    pub many : n ≤ length d.stack.items
+    many = let m = meets'.many in let l = length-map d.stack.items (codes_in d) in omega (arith, m, l)
+
+    top-codes : top n results.stack ≡ map (codes_in d) (top n d.stack.items)
+    top-codes = top-map (codes_in d) n d.stack.items
+
+    pub typed : (k x : ℕ) → slice_get c.hypotheses.now k ≡ Some (Float x) → IsTyped (get_or c.heads.now k 0) (get_or (map (codes_in d) (top n d.stack.items)) k [])
+    typed k x kind = subst (λ es. IsTyped (get_or c.heads.now k 0) (get_or es k [])) top-codes (meets'.typed k x kind)
+
+    abbrev a_step : Step
+    a_step = record { position = a; taken = top n d.stack.items }
+
+    hypotheses-count : n ≡ length (hypotheses (before S a) s)
+    hypotheses-count = (asked-lengths S names (hypotheses (before S a) s) c.heads.now c.hypotheses.now cited.asked).1
+
+    record Instance : Type 0 where
+      images : Images
+      fits : IsInstance S at a s images
+      front : map (expr_in names rows') (below n d.stack.items) ≡ run.0
+      takes : map (expr_in names rows') (top n d.stack.items) ≡ premises S a s images
+      gives : run.1 ≡ applied images (expr_of s)
+
+    instance' : (b : List Expr) (f : Expr) → Cites S at label st.stack b f → (σ : Images) × IsInstance S at a s σ × (st.stack ≡ b ++ premises S a s σ) × (f ≡ applied σ (expr_of s))
+    instance' b f (of_hypothesis i t carries' active same whole) =
+        let e : t ≡ s = some_same carries'.stands (ap (stmt_at S) (legal.once i a t s label carries' carries) ∙ carries.stands) in
+        absurd (not_both t active.kind (ap is_assertion e ∙ has.1))
+    instance' b f (of_assertion a' t σ carries' fits whole gives) =
+        let i : a' ≡ a = legal.once a' a t s label carries' carries in
+        let e : t ≡ s = some_same carries'.stands (ap (stmt_at S) i ∙ carries.stands) in (
+          σ,
+          subst (λ u. IsInstance S at a u σ) e (subst (λ m. IsInstance S at m t σ) i fits),
+          whole ∙ (ap (λ m. b ++ premises S m t σ) i ∙ ap (λ u. b ++ premises S a u σ) e),
+          gives ∙ ap (λ u. applied σ (expr_of u)) e,
+        )
+
+    instance : Instance
+    instance =
+        let r = instance' run.0 run.1 run.2 in
+        let f = expr_in names rows' in
+        let stack = d.stack.items in
+        let whole : map f (below n stack) ++ map f (top n stack) ≡ run.0 ++ premises S a s r.0 = sym (map-append f (below n stack) (top n stack)) ∙ (ap (map f) (sym (halves n stack)) ∙ (tied.stack ∙ r.2)) in
+        let lens : length (map f (top n stack)) ≡ length (premises S a s r.0) = length-map (top n stack) f ∙ (length-top n stack many ∙ (hypotheses-count ∙ sym (length-premises S a s r.0))) in
+        let cut = append_cut (map f (below n stack)) run.0 (map f (top n stack)) (premises S a s r.0) whole lens in
+        record { images = r.0; fits = r.1; front = cut.0; takes = cut.1; gives = r.3 }
+
+    low_rest : AreBelow (length d.placed.items) (below n d.stack.items)
+    low_rest = below-take (length d.placed.items) (length d.stack.items - n) d.stack.items is.stack_below
+
+    low_top : AreBelow (length d.placed.items) (top n d.stack.items)
+    low_top = below-drop (length d.placed.items) (length d.stack.items - n) d.stack.items is.stack_below
+
+    assertion-same : (row : Row) → row.step ≡ a_step → Follows S at names rows' row → decode names row.expr ≡ run.1
+    assertion-same r e (from_hypothesis t active none is') =
+        let same : t ≡ s = some_same (subst (λ x. stmt_at S x.position ≡ Some t) e active.stands) has.0 in
+        absurd (not_both t active.kind (ap is_assertion same ∙ has.1))
+    assertion-same r e (from_assertion t σ fits takes is') =
+        let fits1 : IsInstance S at a t σ = subst (λ x. IsInstance S at x.position t σ) e fits in
+        let same : t ≡ s = some_same fits1.stands has.0 in
+        let fits2 = subst (λ u. IsInstance S at a u σ) same fits1 in
+        let takes1 : map (expr_in names rows') (top n d.stack.items) ≡ premises S a t σ = subst (λ x. map (expr_in names rows') x.taken ≡ premises S x.position t σ) e takes in
+        let takes2 = takes1 ∙ ap (λ u. premises S a u σ) same in
+        is' ∙ (ap (λ u. applied σ (expr_of u)) same ∙ (legal.single at a s σ instance.images fits2 instance.fits (sym takes2 ∙ instance.takes) ∙ sym instance.gives))
+
+    made-step : (ρ : CodeImages) → AreRead c.heads.now c.hypotheses.now (map (codes_in d) (top n d.stack.items)) ρ → decode names (code_apply ρ c.conclusion.now) ≡ run.1
+    made-step ρ read = sym (meets'.gives ρ (subst (λ es. AreRead c.heads.now c.hypotheses.now es ρ) (sym top-codes) read))
+
+    made-follows : (ρ : CodeImages) → AreRead c.heads.now c.hypotheses.now (map (codes_in d) (top n d.stack.items)) ρ → Follows S at names rows' (record { step = a_step; expr = code_apply ρ c.conclusion.now })
+    made-follows ρ read = from_assertion s instance.images instance.fits instance.takes (made-step ρ read ∙ instance.gives)
+
+    made-coded : (ρ : CodeImages) → AreRead c.heads.now c.hypotheses.now (map (codes_in d) (top n d.stack.items)) ρ → AreBelow (length names) (code_apply ρ c.conclusion.now)
+    made-coded ρ read =
+        let es = map (codes_in d) (top n d.stack.items) in
+        let len : length es ≡ length c.hypotheses.now = length-map (top n d.stack.items) (codes_in d) ∙ length-top n d.stack.items many in
+        apply-below names ρ c.conclusion.now
+        (read-over S names a s legal.distinct bound c.heads.now c.hypotheses.now cited.asked es len ρ read (codes-named S at names rows' (top n d.stack.items) is.rows (in_rows (top n d.stack.items) low_top)))
+        cited.conclusion_below
+
+    makes-step : table.Makes S at label d.stack.items (below n d.stack.items) a_step
+    makes-step = makes_assertion s carries (record { earlier = earlier; assertion = has.1 }) (length-top n d.stack.items many ∙ hypotheses-count) (halves n d.stack.items)
+
+    pub assertion-draft : (new : Draft) → GivesAssertion d new a c → IsDraft S at names new
+    assertion-draft new (inl finds) = found-draft S at names legal d new is a_step (below n d.stack.items) run.1 finds low_rest assertion-same
+    assertion-draft new (inr (ρ, read, makes)) = made-draft S at names legal d new is a_step (below n d.stack.items) (code_apply ρ c.conclusion.now) makes low_rest low_top (made-follows ρ read) (made-coded ρ read)
+
+    done' : (new : Draft) → GivesAssertion d new a c → IsNoted S at names d label new (with_result st run.0 run.1)
+    done' new (inl finds) = (
+      (below n d.stack.items, a_step, finds.place, makes-step, found-placed S at names legal d new is a_step (below n d.stack.items) run.1 finds low_rest assertion-same, finds.stack, finds.saved),
+      found-tied S at names legal d new is a_step (below n d.stack.items) run.1 finds low_rest assertion-same st run.0 tied instance.front,
+    )
+    done' new (inr (ρ, read, makes)) =
+        let e = code_apply ρ c.conclusion.now in (
+          (below n d.stack.items, a_step, length d.placed.items, makes-step, made-placed S at names legal d new is a_step (below n d.stack.items) e makes low_rest low_top (made-follows ρ read) (made-coded ρ read), makes.stack, makes.saved),
+          made-tied S at names legal d new is a_step (below n d.stack.items) e makes low_rest low_top (made-follows ρ read) (made-coded ρ read) st run.0 run.1 tied instance.front (made-step ρ read),
+        )
+
+    pub assertion-done : (new : Draft) → GivesAssertion d new a c → IsNoted S at names d label new next
+    assertion-done new gives = subst (IsNoted S at names d label new) (sym run.3) (done' new gives)
+
+    pub heads-count : length c.heads.now ≡ n
+    heads-count = let l = asked-lengths S names (hypotheses (before S a) s) c.heads.now c.hypotheses.now cited.asked in l.0 ∙ sym l.1
+
+    pub different : AreDifferent c.hypotheses.now
+    different = asked-different S names a s c.heads.now c.hypotheses.now bound cited.asked

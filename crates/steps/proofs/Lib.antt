@@ -1,0 +1,14 @@
+pub mod KnownLemmas
+pub mod ConcludingLemmas
+pub mod DraftLemmas
+pub mod RowLemmas
+pub mod PlacingLemmas
+pub mod CiteLemmas
+pub mod ItemLemmas
+pub mod PositionLemmas
+pub mod SoundLemmas
+pub mod ReachedLemmas
+pub mod PremiseLemmas
+pub mod MarkLemmas
+pub mod NumberLemmas
+pub mod UnfoldLemmas

@@ -1,0 +1,175 @@
+-- The marks of the essential steps, from the last step to the first.
+use Rattle.std.specs.Prelude.{◌≡◌, ◌⊎◌, ℕ, zero, suc, ◌-◌, ◌<◌, ◌≤◌, Bool, true, false, List, [], ◌∷◌, ◌++◌, length, take, drop, replicate, get_or, slice_get, slice_set, Some, refl}
+use Rattle.std.proofs.Common.{sym, ◌∙◌, ap, subst, arith, append-nil, inl, inr}
+use Rattle.std.proofs.lemmas.List.{drop_all, take_all}
+use Rattle.mm_read.specs.Statements.{Database}
+use Rattle.frame.specs.Below.{AreBelow}
+use Rattle.steps.specs.StepTable.{Step}
+use Rattle.steps.specs.Essential.{essential_of, IsIn, IsEssential, is_last, is_taken}
+use Rattle.steps.specs.Marked.{HasMark, mark_last, mark_each, MarksMore, AreMarkedFrom, AreMarks}
+use Rattle.steps.proofs.RowLemmas.{some-low}
+use Rattle.steps.proofs.SoundLemmas.{below-some}
+
+pub from-or-at : (p j : ℕ) → p ≤ j → (j ≡ p) ⊎ (suc p ≤ j)
+from-or-at zero zero h = inl refl
+from-or-at zero (suc j) h = inr (omega arith)
+from-or-at (suc p) zero h = absurd (omega (arith, h))
+from-or-at (suc p) (suc j) h = on (from-or-at p j (omega (arith, h)))
+  where
+    on : (j ≡ p) ⊎ (suc p ≤ j) → (suc j ≡ suc p) ⊎ (suc (suc p) ≤ suc j)
+    on (inl e) = inl (ap suc e)
+    on (inr l) = inr (omega (arith, l))
+
+-- ---- one mark
+
+length-set : (m : List Bool) (x : ℕ) → length (slice_set m x true) ≡ length m
+length-set [] x = refl
+length-set (b ∷ m) zero = refl
+length-set (b ∷ m) (suc x) = ap suc (length-set m x)
+
+set-keeps : (m : List Bool) (x k : ℕ) → HasMark m k → HasMark (slice_set m x true) k
+set-keeps [] x k h = cc
+set-keeps (b ∷ m) zero zero h = refl
+set-keeps (b ∷ m) zero (suc k) h = h
+set-keeps (b ∷ m) (suc x) zero h = h
+set-keeps (b ∷ m) (suc x) (suc k) h = set-keeps m x k h
+
+set-there : (m : List Bool) (x : ℕ) → x < length m → HasMark (slice_set m x true) x
+set-there [] x l = absurd (omega (arith, l))
+set-there (b ∷ m) zero l = refl
+set-there (b ∷ m) (suc x) l = set-there m x (omega (arith, l))
+
+set-only : (m : List Bool) (x k : ℕ) → HasMark (slice_set m x true) k → HasMark m k ⊎ (k ≡ x)
+set-only [] x k h = inl h
+set-only (b ∷ m) zero zero h = inr refl
+set-only (b ∷ m) zero (suc k) h = inl h
+set-only (b ∷ m) (suc x) zero h = inl h
+set-only (b ∷ m) (suc x) (suc k) h = on (set-only m x k h)
+  where
+    on : HasMark m k ⊎ (k ≡ x) → HasMark m k ⊎ (suc k ≡ suc x)
+    on (inl e) = inl e
+    on (inr e) = inr (ap suc e)
+
+-- ---- marks one after another
+
+more-first : (x : ℕ) (ks : List ℕ) (m new : List Bool) → x < length m → MarksMore (slice_set m x true) new ks → MarksMore m new (x ∷ ks)
+more-first x ks m new low more = record { count = more.count ∙ length-set m x; each = λ k. (λ h. only k ((more.each k).0 h), λ o. (more.each k).1 (there k o)) }
+  where
+    marked : (k : ℕ) → HasMark m k ⊎ (k ≡ x) → HasMark m k ⊎ IsIn k (x ∷ ks)
+    marked k (inl h) = inl h
+    marked k (inr e) = inr (0, ap (λ v. Some v) (sym e))
+
+    only : (k : ℕ) → HasMark (slice_set m x true) k ⊎ IsIn k ks → HasMark m k ⊎ IsIn k (x ∷ ks)
+    only k (inl h) = marked k (set-only m x k h)
+    only k (inr h) = inr (suc h.0, h.1)
+
+    there : (k : ℕ) → HasMark m k ⊎ IsIn k (x ∷ ks) → HasMark (slice_set m x true) k ⊎ IsIn k ks
+    there k (inl h) = inl (set-keeps m x k h)
+    there k (inr (zero, e)) = let same : x ≡ k = cc in inl (subst (HasMark (slice_set m x true)) same (set-there m x low))
+    there k (inr (suc i, e)) = inr (i, e)
+
+pub each-more : (ks : List ℕ) (m : List Bool) → AreBelow (length m) ks → MarksMore m (mark_each ks m) ks
+each-more [] m b = record { count = refl; each = λ k. (λ h. inl h, λ o. none k o) }
+  where
+    none : (k : ℕ) → HasMark m k ⊎ IsIn k [] → HasMark m k
+    none k (inl h) = h
+    none k (inr h) = let e = h.1 in cc
+each-more (x ∷ ks) m b = more-first x ks m (mark_each ks (slice_set m x true)) b.0 (each-more ks (slice_set m x true) (subst (λ n. AreBelow n ks) (sym (length-set m x)) b.1))
+
+-- a list that was lent, and comes back whole
+pub lent-whole : (n : ℕ) (s old : List Bool) → length s ≡ length old → n ≡ length old → take n (s ++ drop (length s) old) ≡ s
+lent-whole n s old same all =
+    ap (λ r. take n (s ++ r)) (drop_all (length s) old (omega (arith, same))) ∙ (ap (take n) (append-nil s) ∙ take_all n s (omega (arith, same, all)))
+
+no-mark : (n k : ℕ) → get_or (replicate n false) k false ≡ false
+no-mark zero k = refl
+no-mark (suc n) zero = refl
+no-mark (suc n) (suc k) = no-mark n k
+
+length-none : (n : ℕ) → length (replicate n false) ≡ n
+length-none zero = refl
+length-none (suc n) = ap suc (length-none n)
+
+module _ (S : Database) (steps : List Step) where
+  -- the last is marked
+  marked-start : (marks : List Bool) → length marks ≡ length steps → ((k : ℕ) → HasMark marks k → length steps ≡ suc k) → ((k : ℕ) → length steps ≡ suc k → HasMark marks k) → AreMarkedFrom S steps (length steps) marks
+  marked-start marks count only last = record {
+    count = count;
+    sound = λ k h. is_last (only k h);
+    last = last;
+    closed = λ j k step from h at in_it. (let l = some-low steps j step at in absurd (omega (arith, l, from)));
+  }
+
+  -- no steps
+  marked-none : (marks : List Bool) → length steps ≡ 0 → marks ≡ replicate (length steps) false → AreMarkedFrom S steps (length steps) marks
+  marked-none marks empty is = marked-start marks (ap length is ∙ length-none (length steps)) (λ k h. absurd (bare k h)) (λ k e. absurd (omega (arith, empty, e)))
+    where
+      bare : (k : ℕ) → HasMark marks k → ⊥
+      bare k h = let e : get_or marks k false ≡ false = ap (λ m. get_or m k false) is ∙ no-mark (length steps) k in cc
+
+  abbrev none : List Bool
+  none = replicate (length steps) false
+
+  -- the last step alone
+  marked-one : (marks : List Bool) → 0 < length steps → marks ≡ slice_set (replicate (length steps) false) (length steps - 1) true → AreMarkedFrom S steps (length steps) marks
+  marked-one marks some is = marked-start marks (ap length is ∙ (length-set none (length steps - 1) ∙ length-none (length steps))) (λ k h. only k (set-only none (length steps - 1) k (ap (λ m. get_or m k false) (sym is) ∙ h))) last
+    where
+      only : (k : ℕ) → HasMark none k ⊎ (k ≡ length steps - 1) → length steps ≡ suc k
+      only k (inl h) = let e = no-mark (length steps) k in cc
+      only k (inr e) = omega (arith, some, e)
+
+      last : (k : ℕ) → length steps ≡ suc k → HasMark marks k
+      last k e =
+          let at : k ≡ length steps - 1 = omega (arith, e) in
+          let l = length-none (length steps) in
+          ap (λ m. get_or m k false) is ∙ (ap (λ i. get_or (slice_set none (length steps - 1) true) i false) at ∙ set-there none (length steps - 1) (omega (arith, l, some)))
+
+  pub marked-last : (marks : List Bool) → marks ≡ mark_last (length steps) → AreMarkedFrom S steps (length steps) marks
+  marked-last marks is = by (length steps) refl
+    where
+      by : (n : ℕ) → length steps ≡ n → AreMarkedFrom S steps (length steps) marks
+      by zero e = marked-none marks e (is ∙ (ap mark_last e ∙ sym (ap (λ n. replicate n false) e)))
+      by (suc n) e = marked-one marks (omega (arith, e)) is
+
+  -- the step at p is not kept
+  pub marked-over : (p : ℕ) (marks : List Bool) → AreMarkedFrom S steps (suc p) marks → get_or marks p false ≡ false → AreMarkedFrom S steps p marks
+  marked-over p marks m none = record {
+    count = m.count;
+    sound = m.sound;
+    last = m.last;
+    closed = λ j k step from h at in_it. by j k step (from-or-at p j from) h at in_it;
+  }
+    where
+      by : (j k : ℕ) (step : Step) → (j ≡ p) ⊎ (suc p ≤ j) → HasMark marks j → slice_get steps j ≡ Some step → IsIn k (essential_of S step) → HasMark marks k
+      by j k step (inl e) h at in_it = let x : get_or marks p false ≡ true = ap (λ i. get_or marks i false) (sym e) ∙ h in cc
+      by j k step (inr l) h at in_it = m.closed j k step l h at in_it
+
+  -- the step at p is kept, and what it takes for a `$e` is marked
+  pub marked-on : (p : ℕ) (step : Step) (old new : List Bool) → AreMarkedFrom S steps (suc p) old → HasMark old p → slice_get steps p ≡ Some step → AreBelow p (essential_of S step) → MarksMore old new (essential_of S step) → AreMarkedFrom S steps p new
+  marked-on p step old new m here at low more = record {
+    count = more.count ∙ m.count;
+    sound = λ k h. sound k ((more.each k).0 h);
+    last = λ k e. (more.each k).1 (inl (m.last k e));
+    closed = λ j k s from h at' in_it. by j k s (from-or-at p j from) ((more.each j).0 h) at' in_it;
+  }
+    where
+      sound : (k : ℕ) → HasMark old k ⊎ IsIn k (essential_of S step) → IsEssential S steps k
+      sound k (inl h) = m.sound k h
+      sound k (inr h) = is_taken p step (m.sound p here) at h
+
+      by : (j k : ℕ) (s : Step) → (j ≡ p) ⊎ (suc p ≤ j) → HasMark old j ⊎ IsIn j (essential_of S step) → slice_get steps j ≡ Some s → IsIn k (essential_of S s) → HasMark new k
+      by j k s (inl e) h at' in_it =
+          let both : Some s ≡ Some step = sym at' ∙ (ap (slice_get steps) e ∙ at) in
+          let same : s ≡ step = cc in
+          (more.each k).1 (inr (subst (λ x. IsIn k (essential_of S x)) same in_it))
+      by j k s (inr l) (inl h) at' in_it = (more.each k).1 (inl (m.closed j k s l h at' in_it))
+      by j k s (inr l) (inr h) at' in_it = let x = below-some p (essential_of S step) h.0 j low h.1 in absurd (omega (arith, x, l))
+
+  -- all steps were looked at
+  module _ (marks : List Bool) (m : AreMarkedFrom S steps 0 marks) where
+    reached : {k : ℕ} → IsEssential S steps k → HasMark marks k
+    reached {k} (is_last e) = m.last k e
+    reached {k} (is_taken j step is at in_it) = m.closed j k step (omega arith) (reached is) at in_it
+
+    pub marks-exact : AreMarks S steps marks
+    marks-exact = record { count = m.count; exact = λ k. (m.sound k, reached) }

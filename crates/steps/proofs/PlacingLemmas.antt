@@ -1,0 +1,116 @@
+-- A step that stood already, or that is new, in a table while it is made.
+use Rattle.std.specs.Prelude.{◌≡◌, ℕ, ◌+◌, ◌<◌, ◌≤◌, List, [], ◌∷◌, ◌++◌, length, map, slice_get, Some}
+use Rattle.std.proofs.Common.{sym, ◌∙◌, ap, subst, arith, length-append}
+use Rattle.std.proofs.lemmas.List.{length-map}
+use Rattle.mm_lex.specs.Alphabet.{Name}
+use Rattle.mm_read.specs.Statements.{Expr, Database}
+use Rattle.names.specs.Codes.{decode}
+use Rattle.frame.specs.Below.{AreBelow}
+use Rattle.frame.specs.Reading.{AreLegal}
+use Rattle.verify.specs.Machine.{State, with_result}
+use Rattle.verify.proofs.PlaceLemmas.{map-snoc}
+use Rattle.verify.proofs.PlanLemmas.{below-snoc}
+use Rattle.verify.proofs.TableLemmas.{get-last}
+use Rattle.steps.specs.StepTable.{Step, IsPlaced, stands, comes_last}
+use Rattle.steps.specs.Rows.{Row, no_row, steps_of, expr_in, Follows, AreRows}
+use Rattle.steps.specs.Drafted as drafted
+use Rattle.steps.specs.Drafted.{row_of, rows_of, codes_in, key_of, progress_of, IsDraft, IsTied, Finds, GivesHypothesis, GivesAssertion}
+use Rattle.steps.specs.declared.draft.Draft.{Draft}
+use Rattle.steps.proofs.RowLemmas.{rows-more, buffer-snoc, row-at, some-get, some-low, exprs-front, rows-snoc, known-snoc, weaken}
+
+module _ (S : Database) (at : ℕ) (names : List Name) (legal : AreLegal S names) (d new : Draft) (is : IsDraft S at names d) where
+  abbrev rows : List Row
+  rows = rows_of d
+
+  count : length rows ≡ length d.placed.items
+  count = length-map d.placed.items (row_of d.symbols)
+
+  rows_below : (ks : List ℕ) → AreBelow (length d.placed.items) ks → AreBelow (length rows) ks
+  rows_below ks b = subst (λ n. AreBelow n ks) (sym count) b
+
+  -- ---- a step that stood already
+
+  module _ (step : Step) (rest : List ℕ) (f : Expr) (finds : Finds d new step rest) (low : AreBelow (length d.placed.items) rest)
+      (gives : (row : Row) → row.step ≡ step → Follows S at names rows row → decode names row.expr ≡ f) where
+    same_rows : rows_of new ≡ rows
+    same_rows = ap (λ s. map (row_of s) new.placed.items) finds.symbols ∙ ap (map (row_of d.symbols)) finds.placed
+
+    at_step : slice_get (steps_of rows) finds.place ≡ Some step
+    at_step = is.known.there step finds.place finds.found
+
+    found_low : finds.place < length d.placed.items
+    found_low = let l = some-low (steps_of rows) finds.place step at_step in let m = length-map rows (λ r. r.step) in let n = count in omega (arith, l, m, n)
+
+    pub found-draft : IsDraft S at names new
+    found-draft =
+        record {
+          inside = subst (λ s. drafted.AreInBuffer (length s) new.placed.items) (sym finds.symbols) (subst (drafted.AreInBuffer (length d.symbols)) (sym finds.placed) is.inside);
+          rows = subst (AreRows S at names) (sym same_rows) is.rows;
+          known = subst (λ m. drafted.AreKnown m (steps_of (rows_of new))) (sym finds.known) (subst (λ r. drafted.AreKnown d.known (steps_of r)) (sym same_rows) is.known);
+          stack_below = subst (λ ps. AreBelow (length ps) new.stack.items) (sym finds.placed) (subst (AreBelow (length d.placed.items)) (sym finds.stack) (below-snoc (length d.placed.items) rest finds.place low found_low));
+          saved_below = subst (λ ps. AreBelow (length ps) new.saved.items) (sym finds.placed) (subst (AreBelow (length d.placed.items)) (sym finds.saved) is.saved_below);
+        }
+
+    pub found-placed : IsPlaced (steps_of rows) step (steps_of (rows_of new)) finds.place
+    found-placed = stands at_step (ap steps_of same_rows)
+
+    pub found-tied : (st : State) (b : List Expr) → IsTied names d st → map (expr_in names rows) rest ≡ b → IsTied names new (with_result st b f)
+    found-tied st b tied front =
+        let r = row-at rows finds.place step at_step in
+        let e : expr_in names rows finds.place ≡ f = ap (λ x. decode names x.expr) (some-get rows finds.place r.0 no_row r.1) ∙ gives r.0 r.2 ((is.rows finds.place r.0 r.1).follows) in
+        record {
+          stack = ap (λ x. map (expr_in names x) new.stack.items) same_rows ∙ (ap (map (expr_in names rows)) finds.stack ∙ (map-snoc (expr_in names rows) rest finds.place ∙ (ap (λ x. x ++ expr_in names rows finds.place ∷ []) front ∙ ap (λ x. b ++ x ∷ []) e)));
+          saved = ap (λ x. map (expr_in names x) new.saved.items) same_rows ∙ (ap (map (expr_in names rows)) finds.saved ∙ tied.saved);
+        }
+
+  -- ---- a step that is new
+
+  module _ (step : Step) (rest e : List ℕ) (makes : drafted.Makes d new step rest e) (low : AreBelow (length d.placed.items) rest) (low_taken : AreBelow (length d.placed.items) step.taken)
+      (follows : Follows S at names rows (record { step = step; expr = e })) (coded : AreBelow (length names) e) where
+    abbrev row : Row
+    row = record { step = step; expr = e }
+
+    more_rows : rows_of new ≡ rows ++ row ∷ []
+    more_rows =
+        ap (map (row_of new.symbols)) makes.placed
+        ∙ rows-more d.symbols e new.symbols d.placed.items makes.made step is.inside makes.symbols makes.start makes.end makes.is_position makes.is_taken
+
+    more_steps : steps_of (rows_of new) ≡ steps_of rows ++ step ∷ []
+    more_steps = ap steps_of more_rows ∙ map-snoc (λ r. r.step) rows row
+
+    steps_count : length (steps_of rows) ≡ length d.placed.items
+    steps_count = length-map rows (λ r. r.step) ∙ count
+
+    longer : length new.placed.items ≡ length d.placed.items + 1
+    longer = ap length makes.placed ∙ length-append d.placed.items (makes.made ∷ [])
+
+    fresh : (k : ℕ) → slice_get (steps_of rows) k ≡ Some step → ⊥
+    fresh k h = let x = is.known.all step k h in let y = makes.fresh in cc
+
+    pub made-draft : IsDraft S at names new
+    made-draft =
+        let more : length d.symbols ≤ length new.symbols = (let s = ap length makes.symbols in let l = length-append d.symbols e in omega (arith, s, l)) in
+        record {
+          inside = subst (drafted.AreInBuffer (length new.symbols)) (sym makes.placed)
+              (buffer-snoc (length d.symbols) (length new.symbols) d.placed.items makes.made more is.inside (let x = makes.start in let y = makes.end in omega (arith, x, y, more)) (let y = makes.end in omega (arith, y)));
+          rows = subst (AreRows S at names) (sym more_rows) (rows-snoc S at names rows row is.rows (rows_below step.taken low_taken) follows coded);
+          known = subst (drafted.AreKnown new.known) (sym more_steps)
+              (known-snoc d.known new.known (steps_of rows) step is.known makes.fresh (makes.own ∙ ap Some (sym steps_count)) makes.others);
+          stack_below = subst (AreBelow (length new.placed.items)) (sym makes.stack)
+              (below-snoc (length new.placed.items) rest (length d.placed.items) (weaken _ _ rest (let l = longer in omega (arith, l)) low) (let l = longer in omega (arith, l)));
+          saved_below = subst (AreBelow (length new.placed.items)) (sym makes.saved) (weaken _ _ d.saved.items (let l = longer in omega (arith, l)) is.saved_below);
+        }
+
+    pub made-placed : IsPlaced (steps_of rows) step (steps_of (rows_of new)) (length d.placed.items)
+    made-placed = comes_last fresh (sym steps_count) more_steps
+
+    pub made-tied : (st : State) (b : List Expr) (f : Expr) → IsTied names d st → map (expr_in names rows) rest ≡ b → decode names e ≡ f → IsTied names new (with_result st b f)
+    made-tied st b f tied front ends =
+        record {
+          stack = ap (λ x. map (expr_in names x) new.stack.items) more_rows ∙ (ap (map (expr_in names (rows ++ row ∷ []))) makes.stack
+              ∙ (map-snoc (expr_in names (rows ++ row ∷ [])) rest (length d.placed.items)
+              ∙ (ap (λ x. x ++ expr_in names (rows ++ row ∷ []) (length d.placed.items) ∷ []) (exprs-front names rows row rest (rows_below rest low) ∙ front)
+              ∙ ap (λ x. b ++ x ∷ []) (ap (λ x. decode names x.expr) (get-last rows row (length d.placed.items) no_row (sym count)) ∙ ends))));
+          saved = ap (λ x. map (expr_in names x) new.saved.items) more_rows ∙ (ap (map (expr_in names (rows ++ row ∷ []))) makes.saved
+              ∙ (exprs-front names rows row d.saved.items (rows_below d.saved.items is.saved_below) ∙ tied.saved));
+        }

@@ -1,0 +1,34 @@
+-- One more label.
+use Rattle.std.specs.Prelude.{◌≡◌, ℕ, ◌<◌, Bool, true, false, nat_lt, List, [], ◌∷◌, ◌++◌, length, map, get_or, Option, None, refl}
+use Rattle.std.proofs.Common.{sym, ◌∙◌, subst, arith, length-append, Bor}
+use Rattle.mm_lex.specs.Alphabet.{Name}
+use Rattle.mm_read.specs.Statements.{Database}
+use Rattle.frame.specs.Reading.{IsPosition}
+use Rattle.verify.proofs.PlaceLemmas.{map-snoc}
+use Rattle.verify.proofs.TableLemmas.{get-front, get-last}
+use Rattle.steps.specs.Drafted.{ArePositions}
+
+snoc : (S : Database) (ls : List Name) (label : Name) (ps : List (Option ℕ)) (p : Option ℕ) → ArePositions S ls ps → IsPosition S label p → ArePositions S (ls ++ label ∷ []) (ps ++ p ∷ [])
+snoc S ls label ps p a is = record { count = counted; each = λ k h. each k h (nat_lt k (length ls)) refl }
+  where
+    counted : length (ps ++ p ∷ []) ≡ length (ls ++ label ∷ [])
+    counted = let x = length-append ps (p ∷ []) in let q = length-append ls (label ∷ []) in let c = a.count in omega (arith, x, q, c)
+
+    each : (k : ℕ) → k < length (ls ++ label ∷ []) → (b : Bool) → nat_lt k (length ls) ≡ b → IsPosition S (get_or (ls ++ label ∷ []) k []) (get_or (ps ++ p ∷ []) k None)
+    each k h true q =
+        let lt : k < length ls = grind (arith, q) in
+        let c = a.count in
+        subst (λ l. IsPosition S l (get_or (ps ++ p ∷ []) k None)) (sym (get-front ls (label ∷ []) k [] lt))
+        (subst (IsPosition S (get_or ls k [])) (sym (get-front ps (p ∷ []) k None (omega (arith, lt, c)))) (a.each k lt))
+    each k h false q =
+        let x = length-append ls (label ∷ []) in
+        let same : k ≡ length ls = grind (arith, q, h, x) in
+        let c = a.count in
+        subst (λ l. IsPosition S l (get_or (ps ++ p ∷ []) k None)) (sym (get-last ls label k [] same))
+        (subst (IsPosition S label) (sym (get-last ps p k None (same ∙ sym c))) is)
+
+pub positions-more : (S : Database) (labels : List (Bor Name)) (label : Bor Name) (ps ps' : List (Option ℕ)) (p : Option ℕ) → ArePositions S (map (λ l. l.now) labels) ps
+    → ps' ≡ ps ++ p ∷ [] → IsPosition S label.now p → ArePositions S (map (λ l. l.now) (labels ++ label ∷ [])) ps'
+positions-more S labels label ps ps' p are grown is =
+    subst (λ ls. ArePositions S ls ps') (sym (map-snoc (λ l. l.now) labels label))
+    (subst (ArePositions S (map (λ l. l.now) labels ++ label.now ∷ [])) (sym grown) (snoc S (map (λ l. l.now) labels) label.now ps p are is))

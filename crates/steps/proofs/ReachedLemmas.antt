@@ -1,0 +1,113 @@
+-- How far the items were noted, and that the rest of them runs through.
+use Rattle.std.specs.Prelude.{◌≡◌, ℕ, zero, suc, ◌-◌, ◌+◌, ◌<◌, ◌≤◌, List, [], ◌∷◌, length, map, take, drop, get_or, Some, refl}
+use Rattle.std.proofs.Common.{sym, ◌∙◌, ap, subst, arith}
+use Rattle.std.proofs.lemmas.List.{length-map}
+use Rattle.mm_lex.specs.Alphabet.{Name}
+use Rattle.mm_read.specs.declared.stmt.Stmt.{Stmt}
+use Rattle.mm_read.specs.Statements.{Expr, Database}
+use Rattle.scope.specs.Active.{stmt_at, expr_of}
+use Rattle.frame.specs.Reading.{AreLegal}
+use Rattle.proof_code.specs.declared.item.Item.{Item}
+use Rattle.proof_code.specs.Numbers.{item_of, items_of}
+use Rattle.verify.specs.Machine.{State, start, Steps, Runs}
+use Rattle.verify.specs.Right.{IsRight}
+use Rattle.verify.proofs.Complete.{conclude_same}
+use Rattle.verify.proofs.Decide.{some_same}
+use Rattle.verify.proofs.LawsHold.{spellings_run}
+use Rattle.verify.proofs.StepLemmas.{items-more, all-taken}
+use Rattle.steps.specs.StepTable.{progress, NotesAll, AreSteps}
+use Rattle.steps.specs.Rows.{steps_of, expr_in}
+use Rattle.steps.specs.Drafted.{row_of, rows_of, progress_of, IsTied, CanDo, IsDone}
+use Rattle.steps.specs.declared.draft.Draft.{Draft}
+use Rattle.steps.proofs.SoundLemmas.{notes-sound, notes-snoc, nothing-sound, root-last}
+
+drop-more : (labels : List Name) (xs : List ℕ) (i : ℕ) → i < length xs → map (item_of labels) (drop i xs) ≡ item_of labels (get_or xs i 0) ∷ map (item_of labels) (drop (i + 1) xs)
+drop-more labels [] i h = absurd (omega (arith, h))
+drop-more labels (x ∷ xs) zero h = refl
+drop-more labels (x ∷ xs) (suc i) h = let e : suc i + 1 ≡ suc (i + 1) = omega arith in drop-more labels xs i (omega (arith, h)) ∙ ap (λ k. item_of labels (get_or xs i 0) ∷ map (item_of labels) (drop k (x ∷ xs))) (sym e)
+
+drop-end : (xs : List ℕ) (i : ℕ) → length xs ≤ i → drop i xs ≡ []
+drop-end [] zero h = refl
+drop-end [] (suc i) h = refl
+drop-end (x ∷ xs) zero h = absurd (omega (arith, h))
+drop-end (x ∷ xs) (suc i) h = drop-end xs i (omega (arith, h))
+
+module _ (S : Database) (at : ℕ) (names : List Name) where
+  pub record Reached (labels : List Name) (numbers : List ℕ) (i : ℕ) (d : Draft) : Type 0 where
+    pub state : State
+    pub end : State
+    pub stmt : Stmt
+    pub stands : stmt_at S at ≡ Some stmt
+    pub tied : IsTied names d state
+    pub rest : Runs S at state (map (item_of labels) (drop i numbers)) end
+    pub ends : end.stack ≡ expr_of stmt ∷ []
+    pub noted : NotesAll S at (progress [] [] []) (map (item_of labels) (take i numbers)) (progress_of d)
+
+  pub reached-start : AreLegal S names → (labels : List Name) (numbers : List ℕ) (items : List Item) (d : Draft) → items_of labels numbers ≡ items → IsRight S at items → d.placed.items ≡ [] → d.stack.items ≡ [] → d.saved.items ≡ []
+      → Reached labels numbers 0 d
+  reached-start legal labels numbers items d same (t, derives) placed stack saved =
+      let r = spellings_run S at (legal.single at) items t derives.after derives.weight derives.spelled in
+      let rows : rows_of d ≡ [] = ap (map (row_of d.symbols)) placed in
+      record {
+        state = start;
+        end = r.end;
+        stmt = derives.stmt;
+        stands = derives.stands;
+        tied = record { stack = ap (map (expr_in names (rows_of d))) stack; saved = ap (map (expr_in names (rows_of d))) saved };
+        rest = subst (λ is. Runs S at start is r.end) (sym same) r.runs;
+        ends = r.one ∙ ap (λ e. e ∷ []) (conclude_same S at (legal.single at) t r.result (expr_of derives.stmt) r.concludes derives.concludes);
+        noted = ap (λ r. progress (steps_of r) [] []) (sym rows) ∙ (ap (λ s. progress (steps_of (rows_of d)) s []) (sym stack) ∙ ap (λ s. progress (steps_of (rows_of d)) d.stack.items s) (sym saved));
+      }
+
+  -- the item may be done
+  pub reached-run : (labels : List Name) (numbers : List ℕ) (i : ℕ) (d : Draft) → i < length numbers → (r : Reached labels numbers i d) → (next : State) × Steps S at r.state (item_of labels (get_or numbers i 0)) next × Runs S at next (map (item_of labels) (drop (i + 1) numbers)) r.end
+  reached-run labels numbers i d h r = subst (λ is. Runs S at r.state is r.end) (drop-more labels numbers i h) r.rest
+
+  pub reached-can : (labels : List Name) (numbers : List ℕ) (i : ℕ) (d : Draft) → i < length numbers → Reached labels numbers i d → CanDo S at names d (item_of labels (get_or numbers i 0))
+  reached-can labels numbers i d h r = let x = reached-run labels numbers i d h r in (r.state, x.0, r.tied, x.1)
+
+  pub reached-next : (labels : List Name) (numbers : List ℕ) (i : ℕ) (d new : Draft) → i < length numbers → Reached labels numbers i d → IsDone S at names d (item_of labels (get_or numbers i 0)) new → Reached labels numbers (i + 1) new
+  reached-next labels numbers i d new h r done =
+      let x = reached-run labels numbers i d h r in
+      let y = done r.state x.0 r.tied x.1 in
+      record {
+        state = x.0;
+        end = r.end;
+        stmt = r.stmt;
+        stands = r.stands;
+        tied = y.1;
+        rest = x.2;
+        ends = r.ends;
+        noted = subst (λ is. NotesAll S at (progress [] [] []) is (progress_of new)) (sym (items-more labels numbers i h))
+            (notes-snoc S at (map (item_of labels) (take i numbers)) (item_of labels (get_or numbers i 0)) (progress [] [] []) (progress_of d) (progress_of new) r.noted y.0);
+      }
+
+  -- all were done
+  module _ (labels : List Name) (numbers : List ℕ) (items : List Item) (i : ℕ) (d : Draft) (same : items_of labels numbers ≡ items) (h : length numbers ≤ i) (r : Reached labels numbers i d) where
+    over : r.state ≡ r.end
+    over = subst (λ is. Runs S at r.state is r.end) (ap (map (item_of labels)) (drop-end numbers i h)) r.rest
+
+    noted-all : NotesAll S at (progress [] [] []) items (progress_of d)
+    noted-all = subst (λ is. NotesAll S at (progress [] [] []) is (progress_of d)) (all-taken (item_of labels) numbers i h ∙ same) r.noted
+
+    one-left : map (expr_in names (rows_of d)) d.stack.items ≡ expr_of r.stmt ∷ []
+    one-left = r.tied.stack ∙ (ap (λ s. s.stack) over ∙ r.ends)
+
+    root : (xs : List ℕ) (e : Expr) → map (expr_in names (rows_of d)) xs ≡ e ∷ [] → (n : ℕ) × (xs ≡ n ∷ []) × (expr_in names (rows_of d) n ≡ e)
+    root [] e q = cc
+    root (x ∷ []) e q = (x, refl, (let p : expr_in names (rows_of d) x ≡ e = cc in p))
+    root (x ∷ y ∷ xs) e q = absurd (omega (arith, ap length q))
+
+    pub reached-steps : AreSteps S at items (steps_of (rows_of d))
+    reached-steps =
+        let n = root d.stack.items (expr_of r.stmt) one-left in
+        record { end = progress_of d; root = n.0; noted = noted-all; same = refl; one = n.1; last = root-last (progress_of d) n.0 (notes-sound S at items (progress [] [] []) (progress_of d) nothing-sound noted-all) n.1 }
+
+    pub reached-last : (s : Stmt) → stmt_at S at ≡ Some s → expr_in names (rows_of d) (length (rows_of d) - 1) ≡ expr_of s
+    unfolding root reached-steps
+    reached-last s stands =
+        let n = root d.stack.items (expr_of r.stmt) one-left in
+        let l : length (steps_of (rows_of d)) ≡ suc n.0 = reached-steps.last in
+        let m = length-map (rows_of d) (λ x. x.step) in
+        let e : length (rows_of d) - 1 ≡ n.0 = omega (arith, l, m) in
+        ap (expr_in names (rows_of d)) e ∙ (n.2 ∙ ap expr_of (some_same r.stands stands))

@@ -1,0 +1,143 @@
+-- What holds of the steps of items, whatever the items are.
+use Rattle.std.specs.Prelude.{◌≡◌, ℕ, zero, suc, ◌-◌, ◌<◌, ◌⊎◌, List, [], ◌∷◌, ◌++◌, length, slice_get, Some, refl}
+use Rattle.std.proofs.Common.{sym, ◌∙◌, ap, subst, arith, length-append, inl, inr}
+use Rattle.mm_lex.specs.Alphabet.{Name}
+use Rattle.mm_read.specs.Statements.{Database}
+use Rattle.frame.specs.Below.{AreBelow}
+use Rattle.proof_code.specs.declared.item.Item.{Item}
+use Rattle.proof_code.specs.declared.item.Item.TheVariants.{Cite, Recall, Mark}
+use Rattle.verify.proofs.PlanLemmas.{below-snoc}
+use Rattle.steps.specs.StepTable.{Step, Progress, progress, IsPlaced, stands, comes_last, Makes, of_hypothesis, of_assertion, Notes, NotesAll, AreSteps}
+use Rattle.steps.proofs.RowLemmas.{some-front, some-more, some-last, some-low, weaken}
+
+pub record IsSound (p : Progress) : Type 0 where
+  pub stack_below : AreBelow (length p.steps) p.stack
+  pub saved_below : AreBelow (length p.steps) p.saved
+  pub ordered : (k : ℕ) (step : Step) → slice_get p.steps k ≡ Some step → AreBelow k step.taken
+  pub once : (j k : ℕ) (step : Step) → slice_get p.steps j ≡ Some step → slice_get p.steps k ≡ Some step → j ≡ k
+  pub last : (n : ℕ) → length p.steps ≡ suc n → (i : ℕ) × (slice_get p.stack i ≡ Some n)
+
+pub below-split : (n : ℕ) (xs ys : List ℕ) → AreBelow n (xs ++ ys) → AreBelow n xs × AreBelow n ys
+below-split n [] ys b = (tt, b)
+below-split n (x ∷ xs) ys b = let r = below-split n xs ys b.1 in ((b.0, r.0), r.1)
+
+pub below-some : (n : ℕ) (xs : List ℕ) (k x : ℕ) → AreBelow n xs → slice_get xs k ≡ Some x → x < n
+below-some n [] k x b h = cc
+below-some n (y ∷ xs) zero x b h = let e : y ≡ x = cc in subst (λ v. v < n) e b.0
+below-some n (y ∷ xs) (suc k) x b h = below-some n xs k x b.1 h
+
+-- a place of two lists one behind the other
+some-split : (xs ys : List ℕ) (k x : ℕ) → slice_get (xs ++ ys) k ≡ Some x → (slice_get xs k ≡ Some x) ⊎ ((j : ℕ) × (slice_get ys j ≡ Some x))
+some-split [] ys k x h = inr (k, h)
+some-split (y ∷ xs) ys zero x h = inl h
+some-split (y ∷ xs) ys (suc k) x h = some-split xs ys k x h
+
+-- ---- a citation
+
+module _ (p q : Progress) (is : IsSound p) (below : List ℕ) (step : Step) (n : ℕ) (low : AreBelow (length p.steps) below) (low_taken : AreBelow (length p.steps) step.taken)
+    (waits : (k x : ℕ) → slice_get p.stack k ≡ Some x → (slice_get below k ≡ Some x) ⊎ ((j : ℕ) × (slice_get step.taken j ≡ Some x))) (stack : q.stack ≡ below ++ n ∷ []) (saved : q.saved ≡ p.saved) where
+  stood : slice_get p.steps n ≡ Some step → q.steps ≡ p.steps → IsSound q
+  stood h same = record {
+    stack_below = subst (λ s. AreBelow (length s) q.stack) (sym same) (subst (AreBelow (length p.steps)) (sym stack) (below-snoc (length p.steps) below n low (some-low p.steps n step h)));
+    saved_below = subst (λ s. AreBelow (length s) q.saved) (sym same) (subst (AreBelow (length p.steps)) (sym saved) is.saved_below);
+    ordered = λ k s e. is.ordered k s (ap (λ v. slice_get v k) (sym same) ∙ e);
+    once = λ j k s e f. is.once j k s (ap (λ v. slice_get v j) (sym same) ∙ e) (ap (λ v. slice_get v k) (sym same) ∙ f);
+    last = λ m e. there m (ap length (sym same) ∙ e);
+  }
+    where
+      there : (m : ℕ) → length p.steps ≡ suc m → (i : ℕ) × (slice_get q.stack i ≡ Some m)
+      there m e = let r = is.last m e in by (waits r.0 m r.1)
+        where
+          by : (slice_get below (is.last m e).0 ≡ Some m) ⊎ ((j : ℕ) × (slice_get step.taken j ≡ Some m)) → (i : ℕ) × (slice_get q.stack i ≡ Some m)
+          by (inl b) = ((is.last m e).0, ap (λ v. slice_get v (is.last m e).0) stack ∙ some-more below n (is.last m e).0 m b)
+          by (inr t) =
+              let x = below-some n step.taken t.0 m (is.ordered n step h) t.1 in
+              let y = some-low p.steps n step h in
+              absurd (omega (arith, x, y, e))
+
+  added : ((k : ℕ) → slice_get p.steps k ≡ Some step → ⊥) → n ≡ length p.steps → q.steps ≡ p.steps ++ step ∷ [] → IsSound q
+  added fresh place more =
+      let len : length q.steps ≡ suc (length p.steps) = (let l = length-append p.steps (step ∷ []) in let m = ap length more in omega (arith, l, m)) in
+      record {
+        stack_below = subst (AreBelow (length q.steps)) (sym stack) (below-snoc (length q.steps) below n (weaken _ _ below (omega (arith, len)) low) (omega (arith, len, place)));
+        saved_below = subst (AreBelow (length q.steps)) (sym saved) (weaken _ _ p.saved (omega (arith, len)) is.saved_below);
+        ordered = λ k s e. ordered k s (some-front p.steps step k s (ap (λ v. slice_get v k) (sym more) ∙ e));
+        once = λ j k s e f. once j k s (some-front p.steps step j s (ap (λ v. slice_get v j) (sym more) ∙ e)) (some-front p.steps step k s (ap (λ v. slice_get v k) (sym more) ∙ f));
+        last = λ m e. (length below, ap (λ v. slice_get v (length below)) stack ∙ (some-last below n ∙ ap Some (let r : n ≡ m = omega (arith, len, place, e) in r)));
+      }
+    where
+      ordered : (k : ℕ) (s : Step) → (slice_get p.steps k ≡ Some s) ⊎ ((k ≡ length p.steps) × (s ≡ step)) → AreBelow k s.taken
+      ordered k s (inl e) = is.ordered k s e
+      ordered k s (inr (e, same)) = subst (λ v. AreBelow k v.taken) (sym same) (subst (λ v. AreBelow v step.taken) (sym e) low_taken)
+
+      once : (j k : ℕ) (s : Step) → (slice_get p.steps j ≡ Some s) ⊎ ((j ≡ length p.steps) × (s ≡ step)) → (slice_get p.steps k ≡ Some s) ⊎ ((k ≡ length p.steps) × (s ≡ step)) → j ≡ k
+      once j k s (inl e) (inl f) = is.once j k s e f
+      once j k s (inl e) (inr (f, same)) = absurd (fresh j (e ∙ ap Some same))
+      once j k s (inr (e, same)) (inl f) = absurd (fresh k (f ∙ ap Some same))
+      once j k s (inr (e, same)) (inr (f, same')) = e ∙ sym f
+
+  pub cited : IsPlaced p.steps step q.steps n → IsSound q
+  cited (stands h same) = stood h same
+  cited (comes_last fresh place more) = added fresh place more
+
+module _ (S : Database) (at : ℕ) where
+  cites : (p q : Progress) (label : Name) → IsSound p → Notes S at p (Cite label) q → IsSound q
+  cites p q label is (below, step, n, makes, placed, stack, saved) = by makes
+    where
+      by : Makes S at label p.stack below step → IsSound q
+      by (of_hypothesis s carries active none whole) =
+          cited p q is below step n (subst (AreBelow (length p.steps)) whole is.stack_below) (subst (AreBelow (length p.steps)) (sym none) tt) (λ k x h. inl (ap (λ v. slice_get v k) (sym whole) ∙ h)) stack saved placed
+      by (of_assertion s carries citable many whole) =
+          let b = below-split (length p.steps) below step.taken (subst (AreBelow (length p.steps)) whole is.stack_below) in
+          cited p q is below step n b.0 b.1 (λ k x h. some-split below step.taken k x (ap (λ v. slice_get v k) (sym whole) ∙ h)) stack saved placed
+
+  recalls : (p : Progress) (n : ℕ) → IsSound p → n < length p.steps → IsSound (progress p.steps (p.stack ++ n ∷ []) p.saved)
+  recalls p n is low = record {
+    stack_below = below-snoc (length p.steps) p.stack n is.stack_below low;
+    saved_below = is.saved_below;
+    ordered = is.ordered;
+    once = is.once;
+    last = λ m e. let r = is.last m e in (r.0, some-more p.stack n r.0 m r.1);
+  }
+
+  marks : (p : Progress) (n : ℕ) → IsSound p → n < length p.steps → IsSound (progress p.steps p.stack (p.saved ++ n ∷ []))
+  marks p n is low = record {
+    stack_below = is.stack_below;
+    saved_below = below-snoc (length p.steps) p.saved n is.saved_below low;
+    ordered = is.ordered;
+    once = is.once;
+    last = is.last;
+  }
+
+  pub note-sound : (p q : Progress) (item : Item) → IsSound p → Notes S at p item q → IsSound q
+  note-sound p q (Cite label) is h = cites p q label is h
+  note-sound p q (Recall zero) is h = absurd h.1
+  note-sound p q (Recall (suc k)) is h = subst IsSound (sym h.2) (recalls p h.0 is (below-some (length p.steps) p.saved k h.0 is.saved_below h.1))
+  note-sound p q Mark is h = subst IsSound (sym h.3) (marks p h.1 is (below-split (length p.steps) h.0 (h.1 ∷ []) (subst (AreBelow (length p.steps)) h.2 is.stack_below)).1.0)
+
+  pub notes-sound : (items : List Item) (p q : Progress) → IsSound p → NotesAll S at p items q → IsSound q
+  notes-sound [] p q is h = subst IsSound h is
+  notes-sound (item ∷ items) p q is h = notes-sound items h.0 q (note-sound p h.0 item is h.1) h.2
+
+  pub notes-snoc : (items : List Item) (item : Item) (p q r : Progress) → NotesAll S at p items q → Notes S at q item r → NotesAll S at p (items ++ item ∷ []) r
+  notes-snoc [] item p q r h n = (r, subst (λ v. Notes S at v item r) (sym h) n, refl)
+  notes-snoc (i ∷ items) item p q r h n = (h.0, h.1, notes-snoc items item h.0 q r h.2 n)
+
+pub nothing-sound : IsSound (progress [] [] [])
+nothing-sound = record { stack_below = tt; saved_below = tt; ordered = λ k s e. (let x = e in cc); once = λ j k s e f. (let x = e in cc); last = λ n e. absurd (omega (arith, e)) }
+
+-- the one result that is left is that of the last step
+pub root-last : (p : Progress) (n : ℕ) → IsSound p → p.stack ≡ n ∷ [] → length p.steps ≡ suc n
+root-last p n is one =
+    let low = (subst (AreBelow (length p.steps)) one is.stack_below).0 in
+    let e : length p.steps ≡ suc (length p.steps - 1) = omega (arith, low) in
+    let r = is.last (length p.steps - 1) e in
+    e ∙ ap suc (only r.0 n (length p.steps - 1) (ap (λ v. slice_get v r.0) (sym one) ∙ r.1))
+  where
+    only : (i n m : ℕ) → slice_get (n ∷ []) i ≡ Some m → m ≡ n
+    only zero n m h = let e : n ≡ m = cc in sym e
+    only (suc i) n m h = cc
+
+pub steps-sound : (S : Database) (at : ℕ) (items : List Item) (steps : List Step) (are : AreSteps S at items steps) → IsSound (progress steps are.end.stack are.end.saved)
+steps-sound S at items steps are =
+    subst (λ s. IsSound (progress s are.end.stack are.end.saved)) are.same (notes-sound S at items (progress [] [] []) are.end nothing-sound are.noted)

@@ -1,0 +1,179 @@
+-- The steps of items last_unfolded to the derivation that the items spell.
+use Rattle.std.specs.Prelude.{◌≡◌, ℕ, zero, suc, ◌+◌, ◌-◌, ◌<◌, Bool, true, false, if◌then◌else◌, List, [], ◌∷◌, ◌++◌, length, map, slice_get, Some, refl}
+use Rattle.std.proofs.Common.{sym, ◌∙◌, ap, subst, arith, length-append}
+use Rattle.std.proofs.lemmas.List.{length-map}
+use Rattle.mm_lex.specs.Alphabet.{Name}
+use Rattle.mm_read.specs.declared.stmt.Stmt.{Stmt}
+use Rattle.mm_read.specs.Statements.{Database}
+use Rattle.scope.specs.Active.{stmt_at, is_assertion}
+use Rattle.frame.specs.Below.{AreBelow}
+use Rattle.frame.specs.Citations.{IsHypothesis}
+use Rattle.frame.specs.Reading.{HasLabelsOnce}
+use Rattle.proof_code.specs.declared.item.Item.{Item}
+use Rattle.proof_code.specs.declared.item.Item.TheVariants.{Cite, Recall, Mark}
+use Rattle.verify.specs.Derivations.{Derivation, hyp, apply, from_list}
+use Rattle.verify.specs.Growth.{Trees, trees, a_hypothesis, an_assertion, Grows, GrowsBy}
+use Rattle.verify.specs.Plan.{pick}
+use Rattle.verify.specs.Right.{IsRight, Derives}
+use Rattle.verify.proofs.Decide.{not_both}
+use Rattle.verify.proofs.GrowthLemmas.{leaves}
+use Rattle.verify.proofs.Named.{map-append}
+use Rattle.verify.proofs.PlaceLemmas.{map-snoc}
+use Rattle.verify.proofs.PlanLemmas.{map-pick}
+use Rattle.verify.proofs.TableLemmas.{get-front, get-last}
+use Rattle.steps.specs.StepTable.{Step, Progress, progress, IsPlaced, stands, comes_last, Makes, of_hypothesis, of_assertion, Notes, NotesAll, AreSteps}
+use Rattle.steps.specs.Unfolded.{has_assertion, citation_over, unfolded_behind, unfolded, last_unfolded}
+use Rattle.steps.proofs.SoundLemmas.{IsSound, note-sound, nothing-sound, below-split}
+
+module _ (S : Database) where
+  -- ---- a list of steps, one by one
+
+  citation-same : (ts us : List Derivation) (step : Step) → map (pick ts) step.taken ≡ map (pick us) step.taken → citation_over S ts step ≡ citation_over S us step
+  citation-same ts us step e = ap (λ ks. if has_assertion (stmt_at S step.position) then apply step.position (from_list ks) else hyp step.position) e
+
+  behind-snoc : (ts : List Derivation) (steps : List Step) (step : Step) → unfolded_behind S ts (steps ++ step ∷ []) ≡ unfolded_behind S ts steps ++ citation_over S (unfolded_behind S ts steps) step ∷ []
+  behind-snoc ts [] step = refl
+  behind-snoc ts (s ∷ steps) step = behind-snoc (ts ++ citation_over S ts s ∷ []) steps step
+
+  behind-length : (ts : List Derivation) (steps : List Step) → length (unfolded_behind S ts steps) ≡ length ts + length steps
+  behind-length ts [] = omega arith
+  behind-length ts (s ∷ steps) =
+      let r = behind-length (ts ++ citation_over S ts s ∷ []) steps in
+      let l = length-append ts (citation_over S ts s ∷ []) in
+      omega (arith, r, l)
+
+  unfolded-length : (steps : List Step) → length (unfolded S steps) ≡ length steps
+  unfolded-length steps = let r = behind-length [] steps in omega (arith, r)
+
+  -- the derivations that stood already
+  front-kept : (ts : List Derivation) (steps : List Step) (k : ℕ) → k < length ts → pick (unfolded_behind S ts steps) k ≡ pick ts k
+  front-kept ts [] k l = refl
+  front-kept ts (s ∷ steps) k l =
+      let m = length-append ts (citation_over S ts s ∷ []) in
+      front-kept (ts ++ citation_over S ts s ∷ []) steps k (omega (arith, l, m)) ∙ get-front ts (citation_over S ts s ∷ []) k (hyp 0) l
+
+  fronts-kept : (ts : List Derivation) (steps : List Step) (ks : List ℕ) → AreBelow (length ts) ks → map (pick (unfolded_behind S ts steps)) ks ≡ map (pick ts) ks
+  fronts-kept ts steps [] b = refl
+  fronts-kept ts steps (k ∷ ks) b = ap (λ t. t ∷ map (pick (unfolded_behind S ts steps)) ks) (front-kept ts steps k b.0) ∙ ap (λ r. pick ts k ∷ r) (fronts-kept ts steps ks b.1)
+
+  -- the derivation of a step
+  behind-at : (ts : List Derivation) (steps : List Step) (n : ℕ) (step : Step) → slice_get steps n ≡ Some step → AreBelow (length ts + n) step.taken
+      → pick (unfolded_behind S ts steps) (length ts + n) ≡ citation_over S (unfolded_behind S ts steps) step
+  behind-at ts [] n step h b = cc
+  behind-at ts (s ∷ steps) zero step h b =
+      let same : s ≡ step = cc in
+      let t = citation_over S ts s in
+      let e : length ts + 0 ≡ length ts = omega arith in
+      let m = length-append ts (t ∷ []) in
+      let low : AreBelow (length ts) step.taken = subst (λ k. AreBelow k step.taken) e b in
+      ap (pick (unfolded_behind S (ts ++ t ∷ []) steps)) e
+      ∙ (front-kept (ts ++ t ∷ []) steps (length ts) (omega (arith, m))
+      ∙ (get-last ts t (length ts) (hyp 0) refl
+      ∙ (ap (citation_over S ts) same
+      ∙ citation-same ts (unfolded_behind S ts (s ∷ steps)) step (sym (fronts-kept ts (s ∷ steps) step.taken low)))))
+  behind-at ts (s ∷ steps) (suc n) step h b =
+      let t = citation_over S ts s in
+      let m = length-append ts (t ∷ []) in
+      let e : length (ts ++ t ∷ []) + n ≡ length ts + suc n = omega (arith, m) in
+      ap (pick (unfolded_behind S (ts ++ t ∷ []) steps)) (sym e)
+      ∙ behind-at (ts ++ t ∷ []) steps n step h (subst (λ k. AreBelow k step.taken) (sym e) b)
+
+  unfolded-at : (steps : List Step) (n : ℕ) (step : Step) → slice_get steps n ≡ Some step → AreBelow n step.taken → pick (unfolded S steps) n ≡ citation_over S (unfolded S steps) step
+  unfolded-at steps n step h b = let e : 0 + n ≡ n = omega arith in ap (pick (unfolded S steps)) (sym e) ∙ behind-at [] steps n step h (subst (λ k. AreBelow k step.taken) (sym e) b)
+
+  -- ---- the machine over derivations does what is noted
+
+  abbrev seen : Progress → Trees
+  seen p = trees (map (pick (unfolded S p.steps)) p.stack) (map (pick (unfolded S p.steps)) p.saved)
+
+  trees-same : (a b c d : List Derivation) → a ≡ b → c ≡ d → trees a c ≡ trees b d
+  trees-same a b c d p q = ap (λ v. trees v c) p ∙ ap (trees b) q
+
+  some-map : (f : ℕ → Derivation) (xs : List ℕ) (k x : ℕ) → slice_get xs k ≡ Some x → slice_get (map f xs) k ≡ Some (f x)
+  some-map f [] k x h = cc
+  some-map f (y ∷ xs) zero x h = let e : y ≡ x = cc in ap (λ z. Some (f z)) e
+  some-map f (y ∷ xs) (suc k) x h = some-map f xs k x h
+
+  -- a citation puts the derivation of its step on those below
+  cites-over : (p q : Progress) (below : List ℕ) (step : Step) (n : ℕ) → IsSound p → AreBelow (length p.steps) below → IsPlaced p.steps step q.steps n → q.stack ≡ below ++ n ∷ [] → q.saved ≡ p.saved
+      → seen q ≡ trees (map (pick (unfolded S p.steps)) below ++ citation_over S (unfolded S p.steps) step ∷ []) (map (pick (unfolded S p.steps)) p.saved)
+  cites-over p q below step n is low (stands h same) stack saved =
+      let us = unfolded S p.steps in
+      ap (λ s. trees (map (pick (unfolded S s)) q.stack) (map (pick (unfolded S s)) q.saved)) same
+      ∙ trees-same _ _ _ _
+      (ap (map (pick us)) stack ∙ (map-snoc (pick us) below n ∙ ap (λ t. map (pick us) below ++ t ∷ []) (unfolded-at p.steps n step h (is.ordered n step h))))
+      (ap (map (pick us)) saved)
+  cites-over p q below step n is low (comes_last fresh place more) stack saved =
+      let us = unfolded S p.steps in
+      let t = citation_over S us step in
+      let len : length us ≡ length p.steps = unfolded-length p.steps in
+      let grown : unfolded S q.steps ≡ us ++ t ∷ [] = ap (unfolded S) more ∙ behind-snoc [] p.steps step in
+      ap (λ vs. trees (map (pick vs) q.stack) (map (pick vs) q.saved)) grown
+      ∙ trees-same _ _ _ _
+      (ap (map (pick (us ++ t ∷ []))) stack
+      ∙ (map-snoc (pick (us ++ t ∷ [])) below n
+      ∙ (ap (λ r. r ++ pick (us ++ t ∷ []) n ∷ []) (map-pick us (t ∷ []) below (subst (λ k. AreBelow k below) (sym len) low))
+      ∙ ap (λ x. map (pick us) below ++ x ∷ []) (get-last us t n (hyp 0) (place ∙ sym len)))))
+      (ap (map (pick (us ++ t ∷ []))) saved ∙ map-pick us (t ∷ []) p.saved (subst (λ k. AreBelow k p.saved) (sym len) is.saved_below))
+
+  module _ (at : ℕ) where
+    cite-grows : (p q : Progress) (label : Name) → IsSound p → Notes S at p (Cite label) q → Grows S at (seen p) (Cite label) (seen q)
+    cite-grows p q label is (below, step, n, makes, placed, stack, saved) = by makes
+      where
+        low : p.stack ≡ below ++ step.taken → AreBelow (length p.steps) below
+        low whole = (below-split (length p.steps) below step.taken (subst (AreBelow (length p.steps)) whole is.stack_below)).0
+
+        other : (s : Stmt) → IsHypothesis S at step.position s → (b : Bool) → is_assertion s ≡ b → b ≡ false
+        other s active true e = absurd (not_both s active.kind e)
+        other s active false e = refl
+
+        by : Makes S at label p.stack below step → Grows S at (seen p) (Cite label) (seen q)
+        by (of_hypothesis s carries active none whole) =
+            let over : citation_over S (unfolded S p.steps) step ≡ hyp step.position =
+            ap (λ o. if has_assertion o then apply step.position (from_list (map (pick (unfolded S p.steps)) step.taken)) else hyp step.position) active.stands
+            ∙ ap (λ b. if b then apply step.position (from_list (map (pick (unfolded S p.steps)) step.taken)) else hyp step.position) (other s active (is_assertion s) refl) in (
+              map (pick (unfolded S p.steps)) below,
+              citation_over S (unfolded S p.steps) step,
+              a_hypothesis step.position s carries active over (ap (map (pick (unfolded S p.steps))) whole),
+              cites-over p q below step n is (subst (AreBelow (length p.steps)) whole is.stack_below) placed stack saved,
+            )
+        by (of_assertion s carries citable many whole) =
+            let over : citation_over S (unfolded S p.steps) step ≡ apply step.position (from_list (map (pick (unfolded S p.steps)) step.taken)) =
+            ap (λ o. if has_assertion o then apply step.position (from_list (map (pick (unfolded S p.steps)) step.taken)) else hyp step.position) carries.stands
+            ∙ ap (λ b. if b then apply step.position (from_list (map (pick (unfolded S p.steps)) step.taken)) else hyp step.position) citable.assertion in (
+              map (pick (unfolded S p.steps)) below,
+              citation_over S (unfolded S p.steps) step,
+              an_assertion step.position s (map (pick (unfolded S p.steps)) step.taken) carries citable (length-map step.taken (pick (unfolded S p.steps)) ∙ many) (ap (map (pick (unfolded S p.steps))) whole ∙ map-append (pick (unfolded S p.steps)) below step.taken) over,
+              cites-over p q below step n is (low whole) placed stack saved,
+            )
+
+    note-grows : (p q : Progress) (item : Item) → IsSound p → Notes S at p item q → Grows S at (seen p) item (seen q)
+    note-grows p q (Cite label) is h = cite-grows p q label is h
+    note-grows p q (Recall zero) is h = absurd h.1
+    note-grows p q (Recall (suc k)) is h =
+        let us = unfolded S p.steps in (
+          pick us h.0,
+          some-map (pick us) p.saved k h.0 h.1,
+          ap seen h.2 ∙ ap (λ s. trees s (map (pick us) p.saved)) (map-snoc (pick us) p.stack h.0),
+        )
+    note-grows p q Mark is h =
+        let us = unfolded S p.steps in (
+          map (pick us) h.0,
+          pick us h.1,
+          ap (map (pick us)) h.2 ∙ map-snoc (pick us) h.0 h.1,
+          ap seen h.3 ∙ ap (trees (map (pick us) p.stack)) (map-snoc (pick us) p.saved h.1),
+        )
+
+    notes-grow : (items : List Item) (p q : Progress) → IsSound p → NotesAll S at p items q → GrowsBy S at (seen p) items (seen q)
+    notes-grow [] p q is h = ap seen h
+    notes-grow (item ∷ items) p q is h = (seen h.0, note-grows p h.0 item is h.1, notes-grow items h.0 q (note-sound S at p h.0 item is h.1) h.2)
+
+    -- the last step unfolds to the derivation that the items spell
+    pub unfolds : HasLabelsOnce S → (items : List Item) (steps : List Step) → IsRight S at items → AreSteps S at items steps → Derives S at items (last_unfolded S steps)
+    unfolds once items steps right are =
+        let left = leaves S at once items (seen are.end) right (notes-grow items (progress [] [] []) are.end nothing-sound are.noted) in
+        let one : map (pick (unfolded S are.end.steps)) (are.root ∷ []) ≡ left.0 ∷ [] = ap (map (pick (unfolded S are.end.steps))) (sym are.one) ∙ left.2 in
+        let top : pick (unfolded S are.end.steps) are.root ≡ left.0 = cc in
+        let last : length steps - 1 ≡ are.root = (let l = are.last in omega (arith, l)) in
+        let whole : last_unfolded S steps ≡ left.0 = ap (pick (unfolded S steps)) last ∙ (ap (λ s. pick (unfolded S s) are.root) (sym are.same) ∙ top) in
+        subst (Derives S at items) (sym whole) left.1

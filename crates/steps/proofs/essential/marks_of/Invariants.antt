@@ -1,0 +1,7 @@
+use Rattle.steps.specs.Rows.{steps_of}
+use Rattle.steps.specs.Marked.{AreMarkedFrom}
+use Rattle.steps.proofs.essential.marks_of.Given as goal
+
+-- the steps from here on were looked at
+abbrev pub invariant-loop-place : goal.invariant-loop-place
+invariant-loop-place l = AreMarkedFrom l.frames.statements (steps_of l.table) l.place l.marks.items

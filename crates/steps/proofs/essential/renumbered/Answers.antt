@@ -1,0 +1,12 @@
+use Rattle.std.proofs.Common.{◌∷◌, ◌++◌, [], map, take, get_or, sym, ◌∙◌, ap}
+use Rattle.steps.proofs.DraftLemmas.{map-more, below-get}
+use Rattle.steps.proofs.essential.renumbered.Goals as goal
+
+pub number_at-requires : goal.number_at-requires
+number_at-requires c = below-get _ c.args.list.now c.loop-place.place-index c.requires c.loop-place-test.true
+
+pub loop-place-preserved : goal.loop-place-preserved
+loop-place-preserved c =
+    c.in_ok-push.ensures.items ∙ (ap (λ r. r ++ c.number_at.result ∷ []) c.loop-place.invariant
+    ∙ (ap (λ p. map (λ k. get_or c.args.numbers.now k 0) (take c.loop-place.place-index c.args.list.now) ++ p ∷ []) c.number_at.ensures
+    ∙ sym (map-more (λ k. get_or c.args.numbers.now k 0) c.args.list.now c.loop-place.place-index c.loop-place-test.true)))

@@ -1,0 +1,141 @@
+-- What the code keeps of a table while it goes over the items.
+-- Source: this project's form of a table of steps.
+-- The code keeps all expressions in one buffer, and finds a step by its position and those that it takes.
+use Rattle.std.specs.Prelude.{◌≡◌, ◌≢◌, ℕ, zero, suc, ◌<◌, ◌≤◌, ◌⊎◌, List, [], ◌∷◌, ◌++◌, length, map, get_or, Option, Some, None, slice_get}
+use Rattle.std.specs.BTreeMap.{BTreeMap, get_by}
+use Rattle.std.specs.Cmp.Lexicographic.{slice_cmp}
+use Rattle.std.specs.Ordering.{nat_cmp}
+use Rattle.std.specs.declared.vec.Vec.{Vec}
+use Rattle.std.specs.declared.alloc.Global.{Global}
+use Rattle.mm_lex.specs.Alphabet.{Name}
+use Rattle.mm_read.specs.Statements.{Database}
+use Rattle.frame.specs.Below.{AreBelow}
+use Rattle.frame.specs.Reading.{IsPosition}
+use Rattle.frame.specs.Substitution.{CodeImages, code_apply}
+use Rattle.entries.specs.declared.citation.Cited.{Cited}
+use Rattle.proof_code.specs.declared.item.Item.{Item}
+use Rattle.subst.specs.declared.place.Place.{Place}
+use Rattle.subst.specs.Places.{seen_at}
+use Rattle.verify.specs.Fits.{AreRead}
+use Rattle.verify.specs.Places.{below, top}
+use Rattle.verify.specs.Machine.{State, Steps}
+use Rattle.steps.specs.declared.draft.PlacedStep.{PlacedStep}
+use Rattle.steps.specs.declared.draft.Draft.{Draft}
+use Rattle.steps.specs.StepTable.{Step, Progress, progress, Notes}
+use Rattle.steps.specs.Rows.{Row, no_row, steps_of, expr_in, AreRows}
+
+-- ---- steps found again
+
+abbrev pub key_of : Step → List ℕ
+key_of step = step.position ∷ step.taken
+
+abbrev pub place_of : BTreeMap (Vec ℕ Global) ℕ → List ℕ → Option ℕ
+place_of known key = get_by (λ k. slice_cmp nat_cmp key k.items) known
+
+-- the map has the place of each step, and no other
+pub record AreKnown (known : BTreeMap (Vec ℕ Global) ℕ) (steps : List Step) : Type 0 where
+  pub there : (step : Step) (n : ℕ) → place_of known (key_of step) ≡ Some n → slice_get steps n ≡ Some step
+  pub all : (step : Step) (n : ℕ) → slice_get steps n ≡ Some step → place_of known (key_of step) ≡ Some n
+
+-- ---- rows in one buffer
+
+abbrev pub row_of : List ℕ → PlacedStep → Row
+row_of symbols p = record { step = record { position = p.position; taken = p.taken.items }; expr = seen_at symbols p.place }
+
+abbrev pub rows_of : Draft → List Row
+rows_of d = map (row_of d.symbols) d.placed.items
+
+abbrev pub AreInBuffer : ℕ → List PlacedStep → Type 0
+AreInBuffer n [] = Unit {0}
+AreInBuffer n (p ∷ ps) = (p.place.start ≤ p.place.end) × (p.place.end ≤ n) × AreInBuffer n ps
+
+abbrev pub progress_of : Draft → Progress
+progress_of d = progress (steps_of (rows_of d)) d.stack.items d.saved.items
+
+pub record IsDraft (S : Database) (at : ℕ) (names : List Name) (d : Draft) : Type 0 where
+  pub inside : AreInBuffer (length d.symbols) d.placed.items
+  pub rows : AreRows S at names (rows_of d)
+  pub known : AreKnown d.known (steps_of (rows_of d))
+  pub stack_below : AreBelow (length d.placed.items) d.stack.items
+  pub saved_below : AreBelow (length d.placed.items) d.saved.items
+
+-- the results of a run are the expressions of the rows
+pub record IsTied (names : List Name) (d : Draft) (st : State) : Type 0 where
+  pub stack : map (expr_in names (rows_of d)) d.stack.items ≡ st.stack
+  pub saved : map (expr_in names (rows_of d)) d.saved.items ≡ st.saved
+
+-- where the statement of each label stands, if there is one
+pub record ArePositions (S : Database) (labels : List Name) (positions : List (Option ℕ)) : Type 0 where
+  pub count : length positions ≡ length labels
+  pub each : (k : ℕ) → k < length labels → IsPosition S (get_or labels k []) (get_or positions k None)
+
+-- a run does the item
+abbrev pub CanDo : Database → ℕ → List Name → Draft → Item → Type 0
+CanDo S at names old item = (st : State) × (next : State) × IsTied names old st × Steps S at st item next
+
+-- where a run does the item, it was noted, and the results of the run are the expressions of the rows
+abbrev pub IsDone : Database → ℕ → List Name → Draft → Item → Draft → Type 0
+IsDone S at names old item new = (st next : State) → IsTied names old st → Steps S at st item next → Notes S at (progress_of old) item (progress_of new) × IsTied names new next
+
+-- the code of the row at a place
+abbrev pub codes_in : Draft → ℕ → List ℕ
+codes_in d k = (get_or (rows_of d) k no_row).expr
+
+-- where the expression of the step at a place lies
+abbrev pub place_in : List PlacedStep → ℕ → Place
+place_in [] k = record { start = 0; end = 0 }
+place_in (p ∷ ps) zero = p.place
+place_in (p ∷ ps) (suc k) = place_in ps k
+
+pub record AreHeld (d : Draft) : Type 0 where
+  pub inside : AreInBuffer (length d.symbols) d.placed.items
+  pub stack_below : AreBelow (length d.placed.items) d.stack.items
+
+-- ---- what a change adds
+
+-- a step was added, and its result put on top
+pub record Adds (old new : Draft) (step : PlacedStep) : Type 0 where
+  pub placed : new.placed.items ≡ old.placed.items ++ step ∷ []
+  pub symbols : new.symbols ≡ old.symbols
+  pub stack : new.stack.items ≡ old.stack.items ++ length old.placed.items ∷ []
+  pub saved : new.saved.items ≡ old.saved.items
+  pub own : place_of new.known (step.position ∷ step.taken.items) ≡ Some (length old.placed.items)
+  pub others : (x : List ℕ) → x ≢ step.position ∷ step.taken.items → place_of new.known x ≡ place_of old.known x
+
+-- a step that was there, in place of the results above `below`
+pub record Finds (old new : Draft) (step : Step) (below : List ℕ) : Type 0 where
+  pub place : ℕ
+  pub found : place_of old.known (key_of step) ≡ Some place
+  pub stack : new.stack.items ≡ below ++ place ∷ []
+  pub saved : new.saved.items ≡ old.saved.items
+  pub symbols : new.symbols ≡ old.symbols
+  pub placed : new.placed.items ≡ old.placed.items
+  pub known : new.known ≡ old.known
+
+-- a step that was not there, with its expression, in place of the results above `below`
+pub record Makes (old new : Draft) (step : Step) (below e : List ℕ) : Type 0 where
+  pub made : PlacedStep
+  pub is_position : made.position ≡ step.position
+  pub is_taken : made.taken.items ≡ step.taken
+  pub fresh : place_of old.known (key_of step) ≡ None
+  pub symbols : new.symbols ≡ old.symbols ++ e
+  pub start : made.place.start ≡ length old.symbols
+  pub end : made.place.end ≡ length new.symbols
+  pub placed : new.placed.items ≡ old.placed.items ++ made ∷ []
+  pub stack : new.stack.items ≡ below ++ length old.placed.items ∷ []
+  pub saved : new.saved.items ≡ old.saved.items
+  pub own : place_of new.known (key_of step) ≡ Some (length old.placed.items)
+  pub others : (x : List ℕ) → x ≢ key_of step → place_of new.known x ≡ place_of old.known x
+
+abbrev pub GivesHypothesis : Draft → Draft → ℕ → List ℕ → Type 0
+GivesHypothesis old new position e =
+    let step : Step = record { position = position; taken = [] } in Finds old new step old.stack.items ⊎ Makes old new step old.stack.items e
+
+-- an assertion takes as many results as it has hypotheses, and its images are read off them
+abbrev pub GivesAssertion : Draft → Draft → ℕ → Cited → Type 0
+GivesAssertion old new position cited =
+    let n = length cited.hypotheses.now in
+    let step : Step = record { position = position; taken = top n old.stack.items } in
+    Finds old new step (below n old.stack.items)
+    ⊎ ((ρ : CodeImages) × AreRead cited.heads.now cited.hypotheses.now (map (codes_in old) (top n old.stack.items)) ρ
+    × Makes old new step (below n old.stack.items) (code_apply ρ cited.conclusion.now))

@@ -1,0 +1,18 @@
+-- Laws of the steps of items, whatever the items are.
+-- Metamath, 4.2.6: a result follows from earlier ones.
+-- The code finds steps again; here that no two are one.
+use Rattle.std.specs.Prelude.{◌≡◌, ℕ, List, Some, slice_get}
+use Rattle.mm_read.specs.Statements.{Database}
+use Rattle.frame.specs.Below.{AreBelow}
+use Rattle.proof_code.specs.declared.item.Item.{Item}
+use Rattle.steps.specs.StepTable.{Step, AreSteps}
+
+-- each step takes earlier ones
+abbrev pub TakeEarlier : Type 0
+TakeEarlier = (S : Database) (at : ℕ) (items : List Item) (steps : List Step) → AreSteps S at items steps
+    → (k : ℕ) (step : Step) → slice_get steps k ≡ Some step → AreBelow k step.taken
+
+-- no step stands twice
+abbrev pub StandOnce : Type 0
+StandOnce = (S : Database) (at : ℕ) (items : List Item) (steps : List Step) → AreSteps S at items steps
+    → (j k : ℕ) (step : Step) → slice_get steps j ≡ Some step → slice_get steps k ≡ Some step → j ≡ k

@@ -1,0 +1,64 @@
+-- The steps of a list of items.
+-- Metamath, 4.2.6 and appendix B: a citation gives a result of those that it takes; a result that stands already is not given again.
+-- The code finds a step again in an ordered map; here it stands in the list, or it does not.
+use Rattle.std.specs.Prelude.{◌≡◌, ℕ, zero, suc, List, [], ◌∷◌, ◌++◌, length, Some, slice_get}
+use Rattle.mm_lex.specs.Alphabet.{Name}
+use Rattle.mm_read.specs.declared.stmt.Stmt.{Stmt}
+use Rattle.mm_read.specs.Statements.{Database}
+use Rattle.scope.specs.Active.{before}
+use Rattle.frame.specs.FrameOf.{hypotheses}
+use Rattle.frame.specs.Citations.{Carries, IsHypothesis}
+use Rattle.proof_code.specs.declared.item.Item.{Item}
+use Rattle.proof_code.specs.declared.item.Item.TheVariants.{Cite, Recall, Mark}
+use Rattle.verify.specs.Spells.{IsCitable}
+
+-- what is cited, by position, and the steps whose results it takes, by their places in the table from 0
+pub record Step : Type 0 where
+  pub position : ℕ
+  pub taken : List ℕ
+
+-- the steps so far; of the results that wait, and of those that were marked, the places of their steps
+pub record Progress : Type 0 where
+  pub steps : List Step
+  pub stack : List ℕ
+  pub saved : List ℕ
+
+abbrev pub progress : List Step → List ℕ → List ℕ → Progress
+progress steps stack saved = record { steps = steps; stack = stack; saved = saved }
+
+-- the step stands at place n: it stood there already, or it stands nowhere and comes last
+pub data IsPlaced (old : List Step) (step : Step) (new : List Step) (n : ℕ) : Type 0 where
+  stands : slice_get old n ≡ Some step → new ≡ old → IsPlaced old step new n
+  comes_last : ((k : ℕ) → slice_get old k ≡ Some step → ⊥) → n ≡ length old → new ≡ old ++ step ∷ [] → IsPlaced old step new n
+
+-- the citation of a label makes this step of the results above `below`
+pub data Makes (S : Database) (at : ℕ) (label : Name) (stack below : List ℕ) (step : Step) : Type 0 where
+  of_hypothesis : (s : Stmt) → Carries S step.position s label → IsHypothesis S at step.position s → step.taken ≡ [] → stack ≡ below → Makes S at label stack below step
+  of_assertion : (s : Stmt) → Carries S step.position s label → IsCitable S at step.position s → length step.taken ≡ length (hypotheses (before S step.position) s)
+      → stack ≡ below ++ step.taken → Makes S at label stack below step
+
+-- the result marked as number k, from 1
+abbrev pub IsMarked : List ℕ → ℕ → ℕ → Type 0
+IsMarked saved zero n = ⊥
+IsMarked saved (suc k) n = slice_get saved k ≡ Some n
+
+-- what one item does: a citation makes its step, a recall and a mark make none
+abbrev pub Notes : Database → ℕ → Progress → Item → Progress → Type 0
+Notes S at old (Cite label) new =
+    (below : List ℕ) × (step : Step) × (n : ℕ) × Makes S at label old.stack below step × IsPlaced old.steps step new.steps n
+    × (new.stack ≡ below ++ n ∷ []) × (new.saved ≡ old.saved)
+Notes S at old (Recall k) new = (n : ℕ) × IsMarked old.saved k n × (new ≡ progress old.steps (old.stack ++ n ∷ []) old.saved)
+Notes S at old Mark new = (below : List ℕ) × (n : ℕ) × (old.stack ≡ below ++ n ∷ []) × (new ≡ progress old.steps old.stack (old.saved ++ n ∷ []))
+
+abbrev pub NotesAll : Database → ℕ → Progress → List Item → Progress → Type 0
+NotesAll S at old [] new = old ≡ new
+NotesAll S at old (item ∷ items) new = (next : Progress) × Notes S at old item next × NotesAll S at next items new
+
+-- these are the steps of the items, and the one result that is left is that of the last step
+pub record AreSteps (S : Database) (at : ℕ) (items : List Item) (steps : List Step) : Type 0 where
+  pub end : Progress
+  pub root : ℕ
+  pub noted : NotesAll S at (progress [] [] []) items end
+  pub same : end.steps ≡ steps
+  pub one : end.stack ≡ root ∷ []
+  pub last : length steps ≡ suc root

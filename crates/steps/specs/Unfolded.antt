@@ -1,0 +1,30 @@
+-- The derivation that a table of steps unfolds to: each step over the derivations of the steps that it takes.
+-- Metamath, 4.2.6: a proof is a tree of citations; a table has each of its parts once.
+-- The code never unfolds a table, since a tree may be as large as two to the number of its steps.
+use Rattle.std.specs.Prelude.{Bool, false, if◌then◌else◌, List, [], ◌∷◌, ◌++◌, length, map, Option, Some, None, ◌-◌}
+use Rattle.mm_read.specs.declared.stmt.Stmt.{Stmt}
+use Rattle.mm_read.specs.Statements.{Database}
+use Rattle.scope.specs.Active.{stmt_at, is_assertion}
+use Rattle.verify.specs.Derivations.{Derivation, hyp, apply, from_list}
+use Rattle.verify.specs.Plan.{pick}
+use Rattle.steps.specs.StepTable.{Step}
+
+abbrev pub has_assertion : Option Stmt → Bool
+has_assertion None = false
+has_assertion (Some s) = is_assertion s
+
+-- the step's citation, applied to the derivations of the steps that it takes
+abbrev pub citation_over : Database → List Derivation → Step → Derivation
+citation_over S ts step = if has_assertion (stmt_at S step.position) then apply step.position (from_list (map (pick ts) step.taken)) else hyp step.position
+
+-- the derivations of steps, behind those that stand already
+abbrev pub unfolded_behind : Database → List Derivation → List Step → List Derivation
+unfolded_behind S ts [] = ts
+unfolded_behind S ts (step ∷ steps) = unfolded_behind S (ts ++ citation_over S ts step ∷ []) steps
+
+abbrev pub unfolded : Database → List Step → List Derivation
+unfolded S steps = unfolded_behind S [] steps
+
+-- the derivation of the last step
+abbrev pub last_unfolded : Database → List Step → Derivation
+last_unfolded S steps = pick (unfolded S steps) (length steps - 1)

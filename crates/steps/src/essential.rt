@@ -1,0 +1,170 @@
+//! The steps that a mathematician reads.
+ghost use Rattle.std.specs.Prelude.{◌≡◌, suc, ◌<◌, ◌≤◌, IfOk, OnOk, length, map, get_or};
+ghost use Rattle.frame.specs.Below.{AreBelow};
+ghost use Rattle.steps.specs.Rows.{no_row, steps_of, AreRows};
+ghost use Rattle.steps.specs.Essential.{essential_of, AreEssential};
+ghost use Rattle.steps.specs.Marked.{taken_by, mark_each, mark_last, AreMarkedFrom, AreMarks};
+
+use crate::noting::cited_at;
+use crate::table::ProofTable;
+use entries::Hypothesis;
+use frame::{Frames, Gathered, Meaning};
+use std::alloc::{AllocError, Global};
+
+/// Those of the places that are taken for a `$e`.
+fn premises_among(
+    alloc: Global,
+    hypotheses: &[Hypothesis],
+    taken: &[usize],
+) -> Result<Vec<usize>, AllocError>
+    requires { length taken.now ≡ length hypotheses.now }
+    ensures { IfOk result (λ list. list.items ≡ taken_by hypotheses.now taken.now) }
+{
+    let mut list = Vec::new(alloc);
+    for (k, hypothesis) in hypotheses.iter().enumerate() {
+        match *hypothesis {
+            Hypothesis::Float(_) => {}
+            Hypothesis::Essential(_) => list.push(taken[k])?,
+        }
+    }
+    Ok(list)
+}
+
+/// The places of the steps that the step at a place takes for a `$e`.
+fn premises_of(
+    alloc: Global,
+    frames: &Frames,
+    at: usize,
+    table: &ProofTable,
+    place: usize,
+    gathered: &mut Gathered,
+) -> Result<Vec<usize>, AllocError>
+    requires at { (1 ≤ at) × (at ≤ length frames.now.statements) }
+    requires rows { AreRows frames.now.statements at frames.now.names table.now }
+    requires place { place < length table.now }
+    ensures { IfOk result (λ list. list.items ≡ essential_of frames.now.statements (get_or table.now place no_row).step) }
+{
+    let position = table.position(place);
+    match frames.meaning(at, position) {
+        Meaning::Assertion => {
+            let cited = cited_at(frames, position, gathered)?;
+            premises_among(alloc, cited.hypotheses, table.taken(place))
+        }
+        Meaning::Hypothesis(_) => Ok(Vec::new(alloc)),
+        Meaning::Nothing => unreachable!(),
+    }
+}
+
+/// Marks these places.
+fn mark_all(list: &[usize], marks: &mut [bool])
+    requires { AreBelow (length marks.old) list.now }
+    ensures { marks.new ≡ mark_each list.now marks.old }
+{
+    for place in list {
+        marks[*place] = true;
+    }
+}
+
+/// Marks what the step at a place takes for a `$e`, if the step is kept.
+fn mark_step(
+    alloc: Global,
+    frames: &Frames,
+    at: usize,
+    table: &ProofTable,
+    place: usize,
+    gathered: &mut Gathered,
+    marks: &mut [bool],
+) -> Result<(), AllocError>
+    requires at { (1 ≤ at) × (at ≤ length frames.now.statements) }
+    requires rows { AreRows frames.now.statements at frames.now.names table.now }
+    requires place { place < length table.now }
+    requires marks { AreMarkedFrom frames.now.statements (steps_of table.now) (suc place) marks.old }
+    ensures { OnOk result (AreMarkedFrom frames.now.statements (steps_of table.now) place marks.new) }
+{
+    if marks[place] {
+        let premises = premises_of(alloc, frames, at, table, place, gathered)?;
+        mark_all(&premises, marks);
+    }
+    Ok(())
+}
+
+/// A mark at the last of so many steps alone.
+fn last_marked(alloc: Global, count: usize) -> Result<Vec<bool>, AllocError>
+    ensures { IfOk result (λ marks. marks.items ≡ mark_last count) }
+{
+    let mut marks = vec![in alloc; false; count]?;
+    if count > 0 {
+        marks[count - 1] = true;
+    }
+    Ok(marks)
+}
+
+/// Of each step, whether it is kept: the last, and those that a kept step takes for a `$e`. A step takes earlier ones, so
+/// they are walked down.
+fn marks_of(
+    alloc: Global,
+    frames: &Frames,
+    at: usize,
+    table: &ProofTable,
+) -> Result<Vec<bool>, AllocError>
+    requires at { (1 ≤ at) × (at ≤ length frames.now.statements) }
+    requires rows { AreRows frames.now.statements at frames.now.names table.now }
+    ensures { IfOk result (λ marks. AreMarks frames.now.statements (steps_of table.now) marks.items) }
+{
+    let count = table.len();
+    let mut gathered = Gathered::new(alloc);
+    let mut marks = last_marked(alloc, count)?;
+    for place in (0..count).rev() {
+        mark_step(alloc, frames, at, table, place, &mut gathered, &mut marks)?;
+    }
+    Ok(marks)
+}
+
+/// The number of a place.
+fn number_at(numbers: &[usize], place: usize) -> usize
+    requires { place < length numbers.now }
+    ensures { result ≡ get_or numbers.now place 0 }
+{
+    numbers[place]
+}
+
+/// The numbers of these places.
+fn renumbered(alloc: Global, list: &[usize], numbers: &[usize]) -> Result<Vec<usize>, AllocError>
+    requires { AreBelow (length numbers.now) list.now }
+    ensures { IfOk result (λ taken. taken.items ≡ map (λ k. get_or numbers.now k 0) list.now) }
+{
+    let mut taken = Vec::new(alloc);
+    for place in list {
+        taken.push(number_at(numbers, *place))?;
+    }
+    Ok(taken)
+}
+
+/// The last step of a table of the `$p` at a position, and with each step those that it takes for a `$e`; numbered anew, and of
+/// what each takes only those.
+///
+/// Cost: the table's own size, and the hypotheses of the assertions cited. Source: Metamath, 4.2.6.
+pub fn essential_table(
+    alloc: Global,
+    frames: &Frames,
+    at: usize,
+    table: &ProofTable,
+) -> Result<ProofTable, AllocError>
+    requires at { (1 ≤ at) × (at ≤ length frames.now.statements) }
+    requires rows { AreRows frames.now.statements at frames.now.names table.now }
+    ensures { IfOk result (λ kept. AreEssential frames.now.statements table.now kept) }
+{
+    let marks = marks_of(alloc, frames, at, table)?;
+    let mut gathered = Gathered::new(alloc);
+    let mut numbers = Vec::new(alloc);
+    let mut kept = ProofTable::new(alloc);
+    for place in 0..table.len() {
+        numbers.push(kept.len())?;
+        if marks[place] {
+            let premises = premises_of(alloc, frames, at, table, place, &mut gathered)?;
+            let taken = renumbered(alloc, &premises, &numbers)?;
+            kept.push(table.position(place), taken, table.expr(place))?;
+        }
+    }
+    Ok(kept)
+}

@@ -1,0 +1,36 @@
+//! Steps found again, by what they cite and what they take.
+ghost use Rattle.std.specs.Prelude.{◌≡◌, ◌≢◌, ℕ, ◌∷◌, List, None, Some, IfOk, OnOk};
+ghost use Rattle.steps.specs.Drafted.{place_of};
+
+use std::alloc::{AllocError, Global};
+use std::collections::BTreeMap;
+
+/// The position that is cited, and then the places of the steps that are taken.
+pub fn key(alloc: Global, position: usize, taken: &[usize]) -> Result<Vec<usize>, AllocError>
+    ensures { IfOk result (λ key. key.items ≡ position ∷ taken.now) }
+{
+    let mut key = Vec::with_capacity(alloc, taken.len().saturating_add(1))?;
+    key.push(position)?;
+    key.extend_from_slice(taken)?;
+    Ok(key)
+}
+
+/// The place of the step with that key, if it stands already.
+pub fn find(known: &BTreeMap<Vec<usize>, usize>, key: &[usize]) -> Option<usize>
+    ensures { result ≡ place_of known.now key.now }
+{
+    known.get(key).copied()
+}
+
+/// Keeps the place of a step.
+pub fn keep(
+    known: &mut BTreeMap<Vec<usize>, usize>,
+    key: Vec<usize>,
+    place: usize,
+) -> Result<(), AllocError>
+    ensures own { OnOk result (place_of known.new key.items ≡ Some place) }
+    ensures others { OnOk result ((x : List ℕ) → x ≢ key.items → place_of known.new x ≡ place_of known.old x) }
+{
+    known.insert(key, place)?;
+    Ok(())
+}

@@ -1,0 +1,18 @@
+//! The steps of a proof as a table: none twice, each with its expression, the last the theorem's.
+//!
+//! The crate above uses one contract: `proof_table` gives the steps of the items of a right proof, of each what its citation
+//! concludes from those that it takes, in the order in which the items make them.
+//!
+//! Reading order: `table` (the table, and the call), `noting` (one item), `draft` (one citation), `concluding` (one conclusion), `known` (steps found again), `essential` (the steps that a mathematician reads), `laws`.
+#![tactic(auto)]
+
+mod concluding;
+mod draft;
+mod essential;
+mod known;
+pub mod laws;
+mod noting;
+mod table;
+
+pub use essential::essential_table;
+pub use table::{ProofTable, proof_table};
