@@ -1,19 +1,16 @@
 -- The labels of the mandatory hypotheses.
-use Rattle.std.specs.Prelude.{◌≡◌, ℕ, zero, suc, ◌+◌, ◌<◌, ◌≤◌, ◌&&◌, ◌||◌, not, Bool, true, false, List, [], ◌∷◌, ◌++◌, length, map, take, get_or, Option, Some, None, option_map, unwrap_or, refl}
+use Rattle.std.specs.Prelude.{◌≡◌, ℕ, zero, suc, ◌+◌, ◌<◌, ◌≤◌, true, List, [], ◌∷◌, ◌++◌, length, map, take, get_or, Some, unwrap_or, refl}
 use Rattle.std.specs.List.{list_all}
 use Rattle.std.proofs.Common.{sym, ◌∙◌, ap, subst, arith}
 use Rattle.std.proofs.lemmas.List.{map_more, length-map}
-use Rattle.std.proofs.lemmas.Bool.Decides.{nat_tests}
-use Rattle.mm_lex.specs.Alphabet.{Name, is_label, is_label_byte, is_visible}
+use Rattle.mm_lex.specs.Alphabet.{Name, is_visible}
 use Rattle.mm_lex.specs.Words.{is_word}
 use Rattle.mm_read.specs.declared.stmt.Stmt.{Stmt}
 use Rattle.mm_read.specs.Statements.{Database}
 use Rattle.scope.specs.Active.{before, stmt_at, label_of}
 use Rattle.frame.specs.FrameOf.{hypotheses}
-use Rattle.frame.specs.Citations.{Carries}
 use Rattle.verify.specs.Proves.{mandatory_labels, label_or_none}
 use Rattle.verify.specs.Right.{IsProvable}
-use Rattle.verify.specs.declared.table.Entry.{Entry}
 use Rattle.verify.specs.declared.table.Entry.TheVariants.{Hypothesis, Nothing}
 use Rattle.verify.specs.Table.{IsEntry}
 use Rattle.verify.proofs.MandatoryLemmas.{place_of, mandatory-entries}
@@ -47,18 +44,7 @@ labels-more S ps k p d label front after h less is labelled so_far added =
     ∙ (ap (λ l. map (λ i. label_or_none (stmt_at S i)) (take k ps) ++ l ∷ []) (one ∙ ap (λ i. label_or_none (stmt_at S i)) is)
     ∙ sym (map_more (λ i. label_or_none (stmt_at S i)) ps k d less)))
 
--- a label is a word
-label-byte : (b : ℕ) → is_label_byte b ≡ true → is_visible b ≡ true
-label-byte b h = grind (arith, nat_tests)
-
-label-bytes : (bytes : List ℕ) → list_all is_label_byte bytes ≡ true → list_all is_visible bytes ≡ true
-label-bytes [] h = refl
-label-bytes (b ∷ bytes) h = by (is_label_byte b) refl h
-  where
-    by : (t : Bool) → is_label_byte b ≡ t → (t && list_all is_label_byte bytes) ≡ true → (is_visible b && list_all is_visible bytes) ≡ true
-    by false e h = cc
-    by true e h = ap (λ t. t && list_all is_visible bytes) (label-byte b e) ∙ label-bytes bytes h
-
-pub label-word : (word : Name) → is_label word ≡ true → is_word word ≡ true
-label-word [] h = cc
-label-word (b ∷ word) h = label-bytes (b ∷ word) h
+-- bytes that can be seen are a word
+pub word-is : (bytes : List ℕ) → (bytes ≡ [] → ⊥) → list_all is_visible bytes ≡ true → is_word bytes ≡ true
+word-is [] some h = absurd (some refl)
+word-is (b ∷ bytes) some h = h

@@ -14,7 +14,7 @@ use Rattle.proof_code.specs.Numbers.{items_of}
 use Rattle.proof_code.specs.Reading.{before_rest}
 use Rattle.proof_code.specs.Text.{numbers_from, starts_with_mark, with_number}
 use Rattle.proof_code.specs.Writes.{WritesRow}
-use Rattle.proof_code.proofs.LettersLemmas.{number_of-placed, first_bounds, last_bounds}
+use Rattle.proof_code.proofs.LettersLemmas.{is_first-true, number_of-placed, first_bounds, last_bounds}
 use Rattle.proof_code.proofs.RowLemmas.{WritesRow-read}
 use Rattle.explain.specs.declared.why.LetterBreak.{LetterBreak}
 use Rattle.explain.specs.declared.why.LetterFault.{LetterFault}
@@ -41,11 +41,11 @@ not-empty (y ∷ xs) x h = cc
 marks-zeros : (names : List Name) (numbers : List ℕ) → marks_in (items_of names numbers) ≡ zeros numbers
 marks-zeros names [] = refl
 marks-zeros names (zero ∷ numbers) = ap suc (marks-zeros names numbers)
-marks-zeros names (suc n ∷ numbers) = by (nat_lt n (length names))
+marks-zeros names (suc n ∷ numbers) = by (marks-zeros names numbers) (nat_lt n (length names))
   where
-    by : (t : Bool) → marks_in (cond t (Cite (slice_index_or names n [])) (Recall (suc (n - length names))) ∷ items_of names numbers) ≡ zeros numbers
-    by true = marks-zeros names numbers
-    by false = marks-zeros names numbers
+    by : marks_in (items_of names numbers) ≡ zeros numbers → (t : Bool) → marks_in (cond t (Cite (slice_index_or names n [])) (Recall (suc (n - length names))) ∷ items_of names numbers) ≡ zeros numbers
+    by rest true = rest
+    by rest false = rest
 
 zeros-number : (numbers : List ℕ) (n : ℕ) → 1 ≤ n → zeros (numbers ++ n ∷ []) ≡ zeros numbers
 zeros-number [] zero h = absurd (omega (arith, h))
@@ -53,7 +53,7 @@ zeros-number [] (suc n) h = refl
 zeros-number (zero ∷ numbers) n h = ap suc (zeros-number numbers n h)
 zeros-number (suc m ∷ numbers) n h = zeros-number numbers n h
 
-zeros-mark : (numbers : List ℕ) → zeros (numbers ++ 0 ∷ []) ≡ zeros numbers + 1
+zeros-mark : (numbers : List ℕ) → zeros (numbers ++ 0 ∷ []) ≡ suc (zeros numbers)
 zeros-mark [] = refl
 zeros-mark (zero ∷ numbers) = ap suc (zeros-mark numbers)
 zeros-mark (suc m ∷ numbers) = zeros-mark numbers
@@ -67,12 +67,12 @@ before-push numbers n (Some more) = ap Some (sym (append_assoc numbers (n ∷ []
 -- a word that is over the limit already has no number within it
 over : (limit digits : ℕ) (word : Name) (n : ℕ) → limit < 20 * digits → number_from digits word ≡ Some n → limit < n
 over limit digits [] n h e = absurd (none-some n e)
-over limit digits (letter ∷ word) n h e = by (is_first letter) (is_last letter && is_empty word) e
+over limit digits (letter ∷ word) n h e = by (λ more. over limit (5 * digits + (letter - 84)) word n (omega (arith, h)) more) (is_first letter) (is_last letter && is_empty word) e
   where
-    by : (f l : Bool) → cond f (number_from (5 * digits + (letter - 84)) word) (cond l (Some (20 * digits + (letter - 64))) None) ≡ Some n → limit < n
-    by true l e = over limit (5 * digits + (letter - 84)) word n (omega (arith, h)) e
-    by false true e = let same : 20 * digits + (letter - 64) ≡ n = same_Some (20 * digits + (letter - 64)) n e in omega (arith, h, same)
-    by false false e = absurd (none-some n e)
+    by : (number_from (5 * digits + (letter - 84)) word ≡ Some n → limit < n) → (f l : Bool) → cond f (number_from (5 * digits + (letter - 84)) word) (cond l (Some (20 * digits + (letter - 64))) None) ≡ Some n → limit < n
+    by rest true l e = rest e
+    by rest false true e = let same : 20 * digits + (letter - 64) ≡ n = same_Some (20 * digits + (letter - 64)) n e in omega (arith, h, same)
+    by rest false false e = absurd (none-some n e)
 
 last-over : (limit digits letter : ℕ) (word : Name) (n : ℕ) → is_first letter ≡ false → limit < 20 * digits + (letter - 64) → number_from digits (letter ∷ word) ≡ Some n → limit < n
 last-over limit digits letter word n first h e = by (is_last letter && is_empty word) (sym (ap (λ f. cond f (number_from (5 * digits + (letter - 84)) word) (cond (is_last letter && is_empty word) (Some (20 * digits + (letter - 64))) None)) first) ∙ e)
@@ -87,6 +87,17 @@ or-left a b h = ap (λ t. t || b) h
 or-right : (a b : Bool) → b ≡ true → (a || b) ≡ true
 or-right true b h = refl
 or-right false b h = h
+
+-- ---- letters and tests
+
+first-false : (c : ℕ) → c ≤ 84 → is_first c ≡ false
+first-false c high = grind (arith, nat_tests)
+
+last-true : (c : ℕ) → 65 ≤ c → c ≤ 84 → is_last c ≡ true
+last-true c low high = grind (arith, nat_tests)
+
+le-true : (a b : ℕ) → a ≤ b → nat_le a b ≡ true
+le-true a b h = grind (arith, nat_tests)
 
 -- ---- nothing read yet
 
@@ -191,7 +202,7 @@ module _ (labels : ℕ) (letters : List ℕ) (index limit digits begin : ℕ) (r
       rest = next.0;
       whole = r.whole ∙ (ap (λ x. r.front ++ (r.begun ++ x)) next.1 ∙ (ap (λ x. r.front ++ x) (sym (append_assoc r.begun (letter ∷ []) next.0)) ∙ sym (append_assoc r.front (r.begun ++ letter ∷ []) next.0)));
       at_begin = longer;
-      at_index = longer;
+      at_index = let l = longer in omega (arith, l);
       starts = r.starts;
       reads = λ text.
           ap (numbers_from labels 0) (append_assoc r.front (r.begun ++ letter ∷ []) text ∙ ap (λ x. r.front ++ x) (append_assoc r.begun (letter ∷ []) text))
@@ -215,13 +226,13 @@ module _ (labels : ℕ) (letters : List ℕ) (index limit digits begin : ℕ) (r
         done (20 * digits + (letter - 64)) limit step (r.limit_is ∙ ap (λ z. labels + z) (sym zs)) (let f = r.few in omega (arith, zs, f))
       where
         first : is_first letter ≡ false
-        first = grind (arith, nat_tests)
+        first = first-false letter high
 
         last : is_last letter ≡ true
-        last = grind (arith, nat_tests)
+        last = last-true letter low high
 
         fits : nat_le (20 * digits + (letter - 64)) limit ≡ true
-        fits = grind (arith, nat_tests)
+        fits = le-true (20 * digits + (letter - 64)) limit within
 
         step : (text : List ℕ) → numbers_from limit digits (letter ∷ text) ≡ option_map (λ more. (20 * digits + (letter - 64)) ∷ more) (numbers_from limit 0 text)
         step text = rw (first, last, fits) refl
@@ -256,7 +267,7 @@ module _ (labels : ℕ) (letters : List ℕ) (index limit digits begin : ℕ) (r
     }
       where
         first : is_first letter ≡ true
-        first = grind (arith, nat_tests)
+        first = is_first-true letter low high
 
         first-goes : (text : List ℕ) → numbers_from limit digits (letter ∷ text) ≡ numbers_from limit (5 * digits + (letter - 84)) text
         first-goes text = rw first refl
@@ -270,7 +281,7 @@ module _ (labels : ℕ) (letters : List ℕ) (index limit digits begin : ℕ) (r
 
     pub word-over : 65 ≤ letter → letter ≤ 84 → limit < 20 * digits + (letter - 64) → BeginsWith (IsOver limit r.begun) r.rest
     word-over low high h =
-        breaks-here (IsOver limit r.begun) (or-right (is_first letter) (is_last letter) (grind (arith, nat_tests)), λ word n is. last-over limit digits letter word n (grind (arith, nat_tests)) h (counted word n is))
+        breaks-here (IsOver limit r.begun) (or-right (is_first letter) (is_last letter) (last-true letter low high), λ word n is. last-over limit digits letter word n (first-false letter high) h (counted word n is))
 
     pub begun-over : (digits' : ℕ) → 85 ≤ letter → letter ≤ 89 → digits' ≡ 5 * digits + (letter - 84) → limit / 20 < digits' → BeginsWith (IsOver limit r.begun) r.rest
     begun-over digits' low high is h =
@@ -278,7 +289,7 @@ module _ (labels : ℕ) (letters : List ℕ) (index limit digits begin : ℕ) (r
         over limit (5 * digits + (letter - 84)) word n (omega (arith, h, is)) (sym (goes word) ∙ counted word n placed))
       where
         first : is_first letter ≡ true
-        first = grind (arith, nat_tests)
+        first = is_first-true letter low high
 
         goes : (word : Name) → number_from digits (letter ∷ word) ≡ number_from (5 * digits + (letter - 84)) word
         goes word = rw first refl

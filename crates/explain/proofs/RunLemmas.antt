@@ -1,5 +1,5 @@
 -- A run for reasons that goes through is one of the verifier, so it proves.
-use Rattle.std.specs.Prelude.{◌≡◌, ℕ, zero, suc, List, [], ◌∷◌, Some, refl}
+use Rattle.std.specs.Prelude.{◌≡◌, ℕ, zero, suc, List, [], ◌∷◌, Some}
 use Rattle.std.proofs.Common.{ap}
 use Rattle.mm_lex.specs.Alphabet.{Name}
 use Rattle.mm_read.specs.declared.stmt.Stmt.{Stmt}
@@ -9,7 +9,7 @@ use Rattle.frame.specs.Citations.{Carries}
 use Rattle.proof_code.specs.declared.item.Item.{Item}
 use Rattle.proof_code.specs.declared.item.Item.TheVariants.{Cite, Recall, Mark}
 use Rattle.proof_code.specs.Writes.{Writes}
-use Rattle.verify.specs.Machine.{State, Cites, of_hypothesis as cites_hypothesis, of_assertion as cites_assertion, Steps as StepsOn, Runs as RunsOn, start}
+use Rattle.verify.specs.Machine.{State, Cites, of_hypothesis as cites_hypothesis, of_assertion as cites_assertion, Steps as StepsOn, Runs as RunsOn}
 use Rattle.verify.specs.Proves.{mandatory_labels, Proves}
 use Rattle.verify.specs.Right.{IsProvable, IsRight}
 use Rattle.verify.proofs.Sound.{Spelled, sound}
@@ -17,7 +17,7 @@ use Rattle.reasons.specs.Run.{Held, nothing, Gives, of_hypothesis, of_assertion,
 use Rattle.reasons.specs.FirstFault.{RunsTo}
 
 -- what is held, as the machine has it
-state_of : Held → State
+abbrev state_of : Held → State
 state_of h = record { stack = h.stack; saved = h.marked; weight = h.weight }
 
 module _ (S : Database) (at : ℕ) where

@@ -94,8 +94,8 @@ impl Front {
                 }
                 Ok(Front {
                     limit: self.limit + 1,
+                    digits: 0,
                     begin: index + 1,
-                    ..self
                 })
             }
             _ => Err(LetterBreak {

@@ -1,14 +1,16 @@
 //! The reason why a `$p` is not proved.
-ghost use Rattle.std.specs.Prelude.{◌≡◌, IfOk, IfSome, MatchOption};
+ghost use Rattle.std.specs.Prelude.{◌≡◌, ◌⊎◌, List, Ok, Err, IfOk, IfSome, IsTrue, MatchOption};
+ghost use Rattle.std.specs.List.{list_all};
+ghost use Rattle.mm_lex.specs.Alphabet.{is_visible};
+ghost use Rattle.mm_lex.specs.Words.{is_word};
 ghost use Rattle.mm_read.specs.declared.stmt.Stmt.{Stmt as Statement};
 ghost use Rattle.proof_code.specs.Writes.{Writes};
 ghost use Rattle.proof_code.specs.declared.item.Item.{Item};
 ghost use Rattle.verify.specs.Proves.{Proves, mandatory_labels};
 ghost use Rattle.verify.specs.Right.{IsProvable};
-ghost use Rattle.std.specs.Prelude.{List};
 ghost use Rattle.explain.specs.Why.{IsWhy};
 
-use crate::code::{code_break, is_label};
+use crate::code::code_break;
 use crate::why::WhyUnproved;
 use frame::Frames;
 use mm_lex::Words;
@@ -57,26 +59,34 @@ fn explain_wrong(
     }
 }
 
-/// The items that the tokens write; none where they write none.
+/// The items that the tokens write under these mandatory labels; none where they write none.
 fn items_of(alloc: Global, tokens: &Words, mandatory: &Words) -> Result<Option<Items>, AllocError>
     ensures { IfOk result (λ items. MatchOption items ((other : List Item) → ¬ Writes tokens.now mandatory.now other)
         (λ items. Writes tokens.now mandatory.now items)) }
 {
-    let read = if is_compressed(tokens) {
-        packed(alloc, tokens, mandatory)
+    if is_compressed(tokens) {
+        written(packed(alloc, tokens, mandatory))
     } else {
-        normal(alloc, tokens)
-    };
-    match read {
+        written(normal(alloc, tokens))
+    }
+}
+
+/// The items, or none where the tokens write none.
+fn written(items: Result<Items, CodeFault>) -> Result<Option<Items>, AllocError>
+    ensures { IfOk result (λ found. MatchOption found
+        ((items ≡ Err CodeFault.Unfinished) ⊎ (items ≡ Err CodeFault.Malformed)) (λ found. items ≡ Ok found)) }
+{
+    match items {
         Ok(items) => Ok(Some(items)),
+        Err(CodeFault::Unfinished) => Ok(None),
+        Err(CodeFault::Malformed) => Ok(None),
         Err(CodeFault::Memory) => Err(AllocError),
-        Err(_) => Ok(None),
     }
 }
 
 /// The labels of the mandatory hypotheses of the `$p` at a position, in order.
 ///
-/// A hypothesis whose label is none, which no statement that was read has, is answered as want of memory.
+/// A label that is no word, which no statement that was read has, is answered as want of memory.
 fn labels_of(alloc: Global, frames: &Frames, at: usize) -> Result<Words, AllocError>
     requires { (s : Statement) × IsProvable frames.now.statements at s }
     ensures { IfOk result (λ labels. (s : Statement) → IsProvable frames.now.statements at s → labels ≡ mandatory_labels frames.now.statements at s) }
@@ -86,9 +96,22 @@ fn labels_of(alloc: Global, frames: &Frames, at: usize) -> Result<Words, AllocEr
     let mut labels = Words::new(alloc);
     for position in mandatory.as_slice() {
         match frames.label(*position as usize) {
-            Some(label) if is_label(label) => labels.push(label)?,
+            Some(label) if is_word(label) => labels.push(label)?,
             _ => return Err(AllocError),
         }
     }
     Ok(labels)
+}
+
+/// Whether the bytes are a word.
+fn is_word(bytes: &[u8]) -> bool
+    ensures { IsTrue result → IsTrue (is_word bytes.now) }
+{
+    !bytes.is_empty() && are_visible(bytes)
+}
+
+fn are_visible(bytes: &[u8]) -> bool
+    ensures { result ≡ list_all is_visible bytes.now }
+{
+    bytes.iter().all(|byte| byte.is_ascii_graphic())
 }

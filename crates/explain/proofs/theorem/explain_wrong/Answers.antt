@@ -1,16 +1,30 @@
-use Rattle.std.proofs.Common.{rules, ◌≡◌, IfOk, IfSome, MatchOption, List, ℕ, ◌+◌, ◌-◌, ◌*◌, ◌<◌, ◌≤◌, length, ◌/◌, ◌%◌, Bool, true, false, nat_eq, nat_lt, [], ◌∷◌, ◌++◌, slice_index_or, slice_set, bit_and, bit_or, Fits, w8, w32, w64, Bor, MutBor}
-use Rattle.mm_read.specs.declared.stmt.Stmt.{Stmt as Statement}
-use Rattle.proof_code.specs.Writes.{Writes}
+use Rattle.std.proofs.Common.{List, subst}
 use Rattle.proof_code.specs.declared.item.Item.{Item}
-use Rattle.verify.specs.Proves.{Proves, mandatory_labels}
-use Rattle.verify.specs.Right.{IsProvable}
-use Rattle.explain.specs.Why.{IsWhy}
+use Rattle.proof_code.specs.Writes.{Writes}
+use Rattle.verify.proofs.MandatoryLemmas.{place_of}
+use Rattle.explain.proofs.RunLemmas.{proves}
 use Rattle.explain.proofs.theorem.explain_wrong.Goals as goal
 
--- src/theorem.rt:56:17
-pub unreachable-requires : goal.unreachable-requires
-unreachable-requires c = ?
+pub returns-in_default : goal.returns-in_default
+returns-in_default c =
+    let s = c.requires.provable.0 in let p = c.requires.provable.1 in
+    (s, p, subst (λ labels. (items : List Item) → Writes c.args.tokens.now labels items → ⊥) (c.in_ok-labels.ensures s p) (rw c.in_default.is at c.in_ok-items.ensures))
 
--- src/theorem.rt:40:1
+pub first_fault-requires : goal.first_fault-requires
+first_fault-requires c = place_of c.args.frames.now.statements c.args.at c.requires.provable.0 c.requires.provable.1.stands
+
+pub unreachable-requires : goal.unreachable-requires
+unreachable-requires c =
+    let s = c.requires.provable.0 in let p = c.requires.provable.1 in
+    c.requires.wrong (proves c.args.frames.now.statements c.args.at c.args.tokens.now c.in-Some.items s p
+    (subst (λ labels. Writes c.args.tokens.now labels c.in-Some.items) (c.in_ok-labels.ensures s p) (rw c.in-Some.is at c.in_ok-items.ensures))
+    (rw c.in-None.is at (c.in_ok-reason.ensures s p.stands)))
+
 pub returns : goal.returns
-returns c = ?
+returns c =
+    let s = c.requires.provable.0 in let p = c.requires.provable.1 in (
+      s,
+      p,
+      subst (λ labels. Writes c.args.tokens.now labels c.in-Some.items) (c.in_ok-labels.ensures s p) (rw c.in-Some.is at c.in_ok-items.ensures),
+      rw c.in-Some-2.is at (c.in_ok-reason.ensures s p.stands),
+    )

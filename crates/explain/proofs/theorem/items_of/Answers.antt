@@ -1,12 +1,7 @@
-use Rattle.std.proofs.Common.{rules, ◌≡◌, IfOk, IfSome, MatchOption, List, ℕ, ◌+◌, ◌-◌, ◌*◌, ◌<◌, ◌≤◌, length, ◌/◌, ◌%◌, Bool, true, false, nat_eq, nat_lt, [], ◌∷◌, ◌++◌, slice_index_or, slice_set, bit_and, bit_or, Fits, w8, w32, w64, Bor, MutBor}
-use Rattle.mm_read.specs.declared.stmt.Stmt.{Stmt as Statement}
-use Rattle.proof_code.specs.Writes.{Writes}
-use Rattle.proof_code.specs.declared.item.Item.{Item}
-use Rattle.verify.specs.Proves.{Proves, mandatory_labels}
-use Rattle.verify.specs.Right.{IsProvable}
-use Rattle.explain.specs.Why.{IsWhy}
+use Rattle.std.proofs.Common.{sym, ◌∙◌}
+use Rattle.explain.proofs.ItemsLemmas.{packed-found}
 use Rattle.explain.proofs.theorem.items_of.Goals as goal
 
--- src/theorem.rt:61:1
-pub returns-in-Err : goal.returns-in-Err
-returns-in-Err c = ?
+pub returns-then-is_compressed : goal.returns-then-is_compressed
+returns-then-is_compressed c =
+    packed-found c.args.tokens.now c.args.mandatory.now c.packed.result c.written.result c.written.ensures c.packed.ensures.unfinished (sym c.is_compressed.ensures ∙ c.if-is_compressed.true) c.packed.ensures.items c.packed.ensures.malformed

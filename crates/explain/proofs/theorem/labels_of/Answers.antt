@@ -1,28 +1,28 @@
-use Rattle.std.proofs.Common.{rules, ◌≡◌, IfOk, IfSome, MatchOption, List, ℕ, ◌+◌, ◌-◌, ◌*◌, ◌<◌, ◌≤◌, length, ◌/◌, ◌%◌, Bool, true, false, nat_eq, nat_lt, [], ◌∷◌, ◌++◌, slice_index_or, slice_set, bit_and, bit_or, Fits, w8, w32, w64, Bor, MutBor}
-use Rattle.mm_read.specs.declared.stmt.Stmt.{Stmt as Statement}
-use Rattle.proof_code.specs.Writes.{Writes}
-use Rattle.proof_code.specs.declared.item.Item.{Item}
-use Rattle.verify.specs.Proves.{Proves, mandatory_labels}
-use Rattle.verify.specs.Right.{IsProvable}
-use Rattle.explain.specs.Why.{IsWhy}
+use Rattle.std.proofs.Common.{◌∙◌, ap, arith, refl, map}
+use Rattle.std.proofs.lemmas.List.{take_all}
+use Rattle.scope.specs.Active.{stmt_at}
+use Rattle.verify.specs.Proves.{label_or_none}
+use Rattle.explain.proofs.LabelLemmas.{stands-at, labels-more}
 use Rattle.explain.proofs.theorem.labels_of.Goals as goal
 
--- src/theorem.rt:87:5
 pub loop-position-init : goal.loop-position-init
-loop-position-init c = ?
+loop-position-init c = c.new-labels.ensures
 
--- src/theorem.rt:88:15
 pub label-requires : goal.label-requires
-label-requires c = ?
+label-requires c =
+    let h = stands-at c.args.frames.now.statements c.args.at c.requires.0 c.as_slice-position-items.result.now c.loop-position.position-index _ 0 c.requires.1
+    (c.as_slice-position-items.ensures.value ∙ c.in_ok-mandatory.ensures c.requires.0 c.requires.1.stands) c.loop-position-test.true refl in
+    (h.positive, h.within)
 
--- src/theorem.rt:89:47
-pub push-requires : goal.push-requires
-push-requires c = ?
-
--- src/theorem.rt:87:5
 pub loop-position-preserved : goal.loop-position-preserved
-loop-position-preserved c = ?
+loop-position-preserved c =
+    let h = stands-at c.args.frames.now.statements c.args.at c.requires.0 c.as_slice-position-items.result.now c.loop-position.position-index _ 0 c.requires.1
+    (c.as_slice-position-items.ensures.value ∙ c.in_ok-mandatory.ensures c.requires.0 c.requires.1.stands) c.loop-position-test.true refl in
+    labels-more c.args.frames.now.statements c.as_slice-position-items.result.now c.loop-position.position-index _ 0 c.in-Some.label.now c.loop-position.labels c.push.new.self h c.loop-position-test.true refl
+    (c.in-Some.ensures h.stmt h.stands) c.loop-position.invariant c.in_ok-push-in-Some.ensures.ok
 
--- src/theorem.rt:80:1
 pub returns : goal.returns
-returns c = ?
+returns c s provable =
+    c.loop-position.invariant ∙ ap (map (λ i. label_or_none (stmt_at c.args.frames.now.statements i)))
+    (take_all c.loop-position.position-index c.as_slice-position-items.result.now (let over = c.loop-position-test.false in omega (arith, over))
+    ∙ (c.as_slice-position-items.ensures.value ∙ c.in_ok-mandatory.ensures s provable.stands))
