@@ -179,6 +179,9 @@ module _ (labels : ℕ) (letters : List ℕ) (index limit digits begin : ℕ) (r
   pub ends-here : length letters ≤ index → digits ≡ 0 → letters ≡ r.front
   ends-here h e = r.whole ∙ (ap (λ b. r.front ++ (b ++ r.rest)) (r.empty e) ∙ (ap (λ x. r.front ++ x) (ended h) ∙ append-nil r.front))
 
+  pub nothing-left : length letters ≤ index → IsEnd r.rest
+  nothing-left h = subst IsEnd (sym (ended h)) tt
+
   pub some-begun : (digits ≡ 0 → ⊥) → r.begun ≢ []
   some-begun h e = h (r.some e)
 
