@@ -1,5 +1,5 @@
 -- Tokens that write no items.
-use Rattle.std.specs.Prelude.{◌≡◌, ℕ, zero, suc, ◌+◌, Bool, true, false, cond, not, ◌&&◌, ◌||◌, List, [], ◌∷◌, ◌++◌, length, flat_map, map, refl}
+use Rattle.std.specs.Prelude.{◌≡◌, ℕ, zero, suc, ◌+◌, Bool, true, false, cond, not, bytes_eq, ◌&&◌, ◌||◌, List, [], ◌∷◌, ◌++◌, length, flat_map, map, refl}
 use Rattle.std.specs.List.{list_all, list_any}
 use Rattle.std.proofs.Common.{sym, ◌∙◌, ap, subst, arith, append_assoc, append-nil, length-append, inl, inr, true≢false}
 use Rattle.std.proofs.lemmas.List.Folds.{list_any-append}
@@ -9,7 +9,8 @@ use Rattle.proof_code.specs.declared.item.Item.{Item}
 use Rattle.proof_code.specs.declared.item.Item.TheVariants.{Cite}
 use Rattle.proof_code.specs.Writes.{is_unfinished, is_compressed, begin, finish, Writes, WritesRow, WritesCompressed}
 use Rattle.explain.specs.declared.code.Test.TheVariants as test
-use Rattle.explain.specs.Breaks.{fails, IsFirst, IsListing, joined}
+use Rattle.explain.specs.declared.why.LetterBreak.{LetterBreak}
+use Rattle.explain.specs.Breaks.{fails, joined, IsFirst, IsLetterBreak, IsListing, IsNotLabel, AreBroken}
 
 -- ---- the first word that fails a test
 
@@ -87,12 +88,53 @@ writes-compressed tokens mandatory index rest items f c l row =
     let p = listed-labels mandatory l.first.front l.first.before in
     inl (c, (f, record { listed = l.first.front; rest = rest; whole = l.whole ∙ ap (λ w. begin ∷ w) l.first.whole; labels = p.0; apart = p.1; letters = row }))
 
--- a label is not `)`, and what fails and is a label is a mandatory one
-pub named-of : (mandatory : List Name) (word : Name) → fails mandatory test.NotListed word ≡ true → is_label word ≡ true → has_name word mandatory ≡ true
-named-of mandatory word h l = by (has_name word mandatory) (sym (ap (λ b. not b || has_name word mandatory) l) ∙ h)
-  where
-    by : (b : Bool) → (false || b) ≡ true → b ≡ true
-    by b h = h
+-- ---- what the broken rule is
+
+not-true : (a : Bool) → not a ≡ true → a ≡ false
+not-true false h = refl
+not-true true h = cc
+
+pub not-label-normal : (tokens mandatory words : List Name) (token : ℕ) (word : Name) (rest : List Name) → words ≡ tokens → is_compressed tokens ≡ false
+    → IsFirst (fails mandatory test.NotLabel) words token word rest → IsNotLabel tokens mandatory token
+not-label-normal tokens mandatory words token word rest same c f = record {
+  word = word;
+  rest = rest;
+  here = inl (c, subst (λ w. IsFirst (fails mandatory test.NotLabel) w token word rest) same f);
+  other = not-true (is_label word) f.here;
+}
+
+module _ (tokens mandatory words : List Name) (index : ℕ) (word : Name) (rest : List Name) (starts : tokens ≡ begin ∷ words) (f : IsFirst (fails mandatory test.NotListed) words index word rest) where
+  listing-of : IsListing tokens mandatory index word rest
+  listing-of = record { words = words; whole = starts; first = f }
+
+  pub not-label-listed : (closing : Name) → closing ≡ finish → bytes_eq word closing ≡ false → is_label word ≡ false → IsNotLabel tokens mandatory (index + 1)
+  not-label-listed closing is other none = record {
+    word = word;
+    rest = rest;
+    here = inr (index, refl, listing-of, λ same. true≢false (sym ((bytes_eq-Decides word closing).1 (same ∙ sym is)) ∙ other));
+    other = none;
+  }
+
+  pub finish-listing : (closing : Name) → closing ≡ finish → bytes_eq word closing ≡ true → IsListing tokens mandatory index finish rest
+  finish-listing closing is same = subst (λ w. IsListing tokens mandatory index w rest) ((bytes_eq-Decides word closing).0 same ∙ is) listing-of
+
+module _ (tokens mandatory : List Name) (index : ℕ) (rest : List Name) (l : IsListing tokens mandatory index finish rest) (many : ℕ) (all : many ≡ length mandatory) (letters : List ℕ) (text : letters ≡ joined rest) where
+  count : length (mandatory ++ l.first.front) ≡ many + index
+  count = let a = length-append mandatory l.first.front in let p = l.first.place in omega (arith, a, p, all)
+
+  pub letters-broken : (broken : LetterBreak) → ((names : List Name) → length names ≡ many + index → IsLetterBreak names letters broken) → AreBroken tokens mandatory broken
+  letters-broken broken told = record {
+    index = index;
+    rest = rest;
+    listing = l;
+    letters = subst (λ letters. IsLetterBreak (mandatory ++ l.first.front) letters broken) text (told (mandatory ++ l.first.front) count);
+  }
+
+  pub letters-write : is_unfinished tokens ≡ false → is_compressed tokens ≡ true → ((names : List Name) → length names ≡ many + index → (items : List Item) × WritesRow names letters items)
+      → (items : List Item) × Writes tokens mandatory items
+  letters-write f c told =
+      let w = told (mandatory ++ l.first.front) count in
+      (w.0, writes-compressed tokens mandatory index rest w.0 f c l (subst (λ letters. WritesRow (mandatory ++ l.first.front) letters w.0) text w.1))
 
 pub joined-more : (front : List ℕ) (word : Name) (left rest : List Name) (letters more : List ℕ) → left ≡ word ∷ rest → letters ++ joined left ≡ front → more ≡ letters ++ word → more ++ joined rest ≡ front
 joined-more front word left rest letters more e so_far added =
