@@ -1,24 +1,22 @@
 -- Letters read up to one of them, and what the next one does.
-use Rattle.std.specs.Prelude.{◌≡◌, ◌≢◌, ℕ, zero, suc, ◌+◌, ◌-◌, ◌*◌, ◌/◌, ◌<◌, ◌≤◌, Bool, true, false, cond, ◌==◌, ◌&&◌, ◌||◌, nat_lt, nat_le, List, [], ◌∷◌, ◌++◌, length, Option, Some, None, slice_get, slice_index_or, refl}
-use Rattle.std.specs.List.{list_all}
+use Rattle.std.specs.Prelude.{◌≡◌, ◌≢◌, ℕ, zero, suc, ◌+◌, ◌-◌, ◌*◌, ◌/◌, ◌<◌, ◌≤◌, Bool, true, false, cond, ◌&&◌, ◌||◌, nat_lt, nat_le, List, [], ◌∷◌, ◌++◌, length, Option, Some, None, slice_get, slice_index_or, refl}
 use Rattle.std.specs.Option.{option_map}
-use Rattle.std.proofs.Common.{sym, ◌∙◌, ap, subst, arith, append_assoc, append-nil, length-append, true≢false}
+use Rattle.std.proofs.Common.{sym, ◌∙◌, ap, subst, arith, append_assoc, append-nil, length-append}
 use Rattle.std.proofs.lemmas.Bool.Decides.{nat_tests}
 use Rattle.std.proofs.lemmas.List.Folds.{list_all-append}
 use Rattle.std.proofs.lemmas.Option.{none-some, same_Some}
 use Rattle.mm_lex.specs.Alphabet.{Name, is_empty}
 use Rattle.proof_code.specs.declared.item.Item.{Item}
-use Rattle.proof_code.specs.declared.item.Item.TheVariants.{Cite, Recall, Mark}
+use Rattle.proof_code.specs.declared.item.Item.TheVariants.{Cite, Recall}
 use Rattle.proof_code.specs.Letters.{IsNumber, is_first, is_last, number_from}
 use Rattle.proof_code.specs.Numbers.{items_of}
 use Rattle.proof_code.specs.Reading.{before_rest}
-use Rattle.proof_code.specs.Text.{numbers_from, starts_with_mark, with_number}
+use Rattle.proof_code.specs.Text.{numbers_from, starts_with_mark}
 use Rattle.proof_code.specs.Writes.{WritesRow}
 use Rattle.proof_code.proofs.LettersLemmas.{is_first-true, number_of-placed, first_bounds, last_bounds}
 use Rattle.proof_code.proofs.RowLemmas.{WritesRow-read}
 use Rattle.explain.specs.declared.why.LetterBreak.{LetterBreak}
 use Rattle.explain.specs.declared.why.LetterFault.{LetterFault}
-use Rattle.explain.specs.declared.why.LetterFault.TheVariants.{NotLetter, NotEnded, EarlyMark, TooGreat}
 use Rattle.explain.specs.Breaks.{marks_in, IsEnd, place_in, IsOther, IsOver, BeginsWith, Breaks, IsLetterBreak}
 use Rattle.explain.specs.Reading.{zeros, IsReadTo}
 

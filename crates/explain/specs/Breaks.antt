@@ -1,7 +1,7 @@
 -- Which rule of proof code tokens break that write no items: the first place at which they do.
 -- Source: Metamath, 4.3 (normal proofs) and appendix B (compressed proofs).
 -- The code reads tokens and letters from left to right.
-use Rattle.std.specs.Prelude.{◌≡◌, ◌≢◌, ℕ, suc, ◌+◌, ◌<◌, ◌⊎◌, Bool, false, not, ◌||◌, IsTrue, IsFalse, List, [], ◌∷◌, ◌++◌, length, flat_map}
+use Rattle.std.specs.Prelude.{◌≡◌, ◌≢◌, ℕ, suc, ◌+◌, ◌<◌, ◌⊎◌, Bool, not, ◌||◌, IsTrue, IsFalse, List, [], ◌∷◌, ◌++◌, length, flat_map}
 use Rattle.std.specs.List.{list_all, list_any}
 use Rattle.mm_lex.specs.Alphabet.{Name, has_byte, has_name, is_label}
 use Rattle.proof_code.specs.declared.item.Item.{Item}

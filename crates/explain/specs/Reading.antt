@@ -1,7 +1,7 @@
 -- Letters of a compressed proof read up to one of them, for the private functions.
 -- Source: Metamath, appendix B.
 -- This is the code's way to read; what it finds is told by `Breaks`.
-use Rattle.std.specs.Prelude.{◌≡◌, ℕ, zero, suc, ◌+◌, ◌*◌, ◌≤◌, IsTrue, IsFalse, List, [], ◌∷◌, ◌++◌, take, drop, length}
+use Rattle.std.specs.Prelude.{◌≡◌, ℕ, zero, suc, ◌+◌, ◌*◌, ◌≤◌, IsTrue, IsFalse, List, [], ◌∷◌, ◌++◌, length}
 use Rattle.std.specs.List.{list_all}
 use Rattle.mm_lex.specs.Alphabet.{Name}
 use Rattle.proof_code.specs.Letters.{is_first, number_from}

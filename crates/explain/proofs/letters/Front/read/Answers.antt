@@ -1,6 +1,6 @@
-use Rattle.std.proofs.Common.{arith, refl, sym, ap, ◌∙◌, ◌+◌, ◌*◌}
+use Rattle.std.proofs.Common.{arith, refl, sym, ap, ◌+◌, ◌*◌}
 use Rattle.explain.specs.declared.why.LetterFault.TheVariants.{NotLetter, NotEnded, TooGreat}
-use Rattle.explain.proofs.LetterLemmas.{broken-at, some-begun, breaks-here, word-over, begun-over, number-read, mark-read, letter-read, other-here, ends-so}
+use Rattle.explain.proofs.LetterLemmas.{broken-at, some-begun, word-over, begun-over, number-read, mark-read, letter-read, other-here, ends-so}
 use Rattle.explain.proofs.letters.Front.read.Goals as goal
 
 pub returns-then-self-ne0 : goal.returns-then-self-ne0
