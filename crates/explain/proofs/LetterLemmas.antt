@@ -152,7 +152,7 @@ module _ (labels : ℕ) (letters : List ℕ) (index limit digits begin : ℕ) (r
       reads = writes;
       firsts = r.firsts;
       breaks = subst (λ f. Breaks f (length names + marks_in (items_of names r.numbers)) (items_of names r.numbers) r.begun r.rest) (sym is)
-      (subst (λ n. Breaks fault n (items_of names r.numbers) r.begun r.rest) greatest breaks);
+          (subst (λ n. Breaks fault n (items_of names r.numbers) r.begun r.rest) greatest breaks);
       place = at ∙ (place ∙ ap (λ f. place_in f (length r.front) (length r.begun)) (sym is));
     }
 
@@ -286,8 +286,11 @@ module _ (labels : ℕ) (letters : List ℕ) (index limit digits begin : ℕ) (r
 
     pub begun-over : (digits' : ℕ) → 85 ≤ letter → letter ≤ 89 → digits' ≡ 5 * digits + (letter - 84) → limit / 20 < digits' → BeginsWith (IsOver limit r.begun) r.rest
     begun-over digits' low high is h =
-        breaks-here (IsOver limit r.begun) (or-left (is_first letter) (is_last letter) first, λ word n placed.
-        over limit (5 * digits + (letter - 84)) word n (omega (arith, h, is)) (sym (goes word) ∙ counted word n placed))
+        breaks-here (IsOver limit r.begun) (
+          or-left (is_first letter) (is_last letter) first,
+          λ word n placed.
+              over limit (5 * digits + (letter - 84)) word n (omega (arith, h, is)) (sym (goes word) ∙ counted word n placed),
+        )
       where
         first : is_first letter ≡ true
         first = is_first-true letter low high

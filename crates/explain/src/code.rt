@@ -134,7 +134,7 @@ fn has(names: &Words, name: &[u8]) -> bool
 }
 
 /// Whether the token is a label: some bytes, each a letter, a digit, `.`, `-` or `_`.
-pub(crate) fn is_label(token: &[u8]) -> bool
+fn is_label(token: &[u8]) -> bool
     ensures { result ≡ is_label token.now }
 {
     !token.is_empty() && are_label_bytes(token)
