@@ -1,7 +1,7 @@
 -- Letters read up to one of them, and what the next one does.
-use Rattle.std.specs.Prelude.{◌≡◌, ◌≢◌, ℕ, zero, suc, ◌+◌, ◌-◌, ◌*◌, ◌/◌, ◌<◌, ◌≤◌, Bool, true, false, cond, ◌&&◌, ◌||◌, nat_lt, nat_le, List, [], ◌∷◌, ◌++◌, length, Option, Some, None, slice_get, slice_index_or, refl}
+use Rattle.std.specs.Prelude.{◌≡◌, ◌≢◌, ◌⊎◌, ℕ, zero, suc, ◌+◌, ◌-◌, ◌*◌, ◌<◌, ◌≤◌, Bool, true, false, cond, ◌&&◌, ◌||◌, nat_lt, nat_le, List, [], ◌∷◌, ◌++◌, length, Option, Some, None, slice_get, slice_index_or, refl}
 use Rattle.std.specs.Option.{option_map}
-use Rattle.std.proofs.Common.{sym, ◌∙◌, ap, subst, arith, append_assoc, append-nil, length-append}
+use Rattle.std.proofs.Common.{sym, ◌∙◌, ap, subst, arith, append_assoc, append-nil, length-append, inl, inr}
 use Rattle.std.proofs.lemmas.Bool.Decides.{nat_tests}
 use Rattle.std.proofs.lemmas.List.Folds.{list_all-append}
 use Rattle.std.proofs.lemmas.Option.{none-some, same_Some}
@@ -13,11 +13,11 @@ use Rattle.proof_code.specs.Numbers.{items_of}
 use Rattle.proof_code.specs.Reading.{before_rest}
 use Rattle.proof_code.specs.Text.{numbers_from, starts_with_mark}
 use Rattle.proof_code.specs.Writes.{WritesRow}
-use Rattle.proof_code.proofs.LettersLemmas.{is_first-true, number_of-placed, first_bounds, last_bounds}
+use Rattle.proof_code.proofs.LettersLemmas.{is_first-true, number_of-placed, placed-number_of, first_bounds, last_bounds}
 use Rattle.proof_code.proofs.RowLemmas.{WritesRow-read}
 use Rattle.explain.specs.declared.why.LetterBreak.{LetterBreak}
 use Rattle.explain.specs.declared.why.LetterFault.{LetterFault}
-use Rattle.explain.specs.Breaks.{marks_in, IsEnd, place_in, IsOther, IsOver, BeginsWith, Breaks, IsLetterBreak}
+use Rattle.explain.specs.Breaks.{marks_in, IsEnd, place_in, IsAllowed, IsOther, IsOver, BeginsWith, Breaks, IsLetterBreak}
 use Rattle.explain.specs.Reading.{zeros, IsReadTo}
 
 -- ---- lists
@@ -62,15 +62,20 @@ before-push numbers n (Some more) = ap Some (sym (append_assoc numbers (n ∷ []
 
 -- ---- numbers above a limit
 
--- a word that is over the limit already has no number within it
-over : (limit digits : ℕ) (word : Name) (n : ℕ) → limit < 20 * digits → number_from digits word ≡ Some n → limit < n
+-- no word that begins so has a number within the limit
+over : (limit digits : ℕ) (word : Name) (n : ℕ) → limit ≤ 20 * digits → number_from digits word ≡ Some n → limit < n
 over limit digits [] n h e = absurd (none-some n e)
-over limit digits (letter ∷ word) n h e = by (λ more. over limit (5 * digits + (letter - 84)) word n (omega (arith, h)) more) (is_first letter) (is_last letter && is_empty word) e
+over limit digits (letter ∷ word) n h e = by (λ more. over limit (5 * digits + (letter - 84)) word n (omega (arith, h)) more) (is_first letter) (is_last letter) refl (is_empty word) e
   where
-    by : (number_from (5 * digits + (letter - 84)) word ≡ Some n → limit < n) → (f l : Bool) → cond f (number_from (5 * digits + (letter - 84)) word) (cond l (Some (20 * digits + (letter - 64))) None) ≡ Some n → limit < n
-    by rest true l e = rest e
-    by rest false true e = let same : 20 * digits + (letter - 64) ≡ n = same_Some (20 * digits + (letter - 64)) n e in omega (arith, h, same)
-    by rest false false e = absurd (none-some n e)
+    by : (number_from (5 * digits + (letter - 84)) word ≡ Some n → limit < n) → (f l : Bool) → is_last letter ≡ l → (m : Bool)
+        → cond f (number_from (5 * digits + (letter - 84)) word) (cond (l && m) (Some (20 * digits + (letter - 64))) None) ≡ Some n → limit < n
+    by rest true l q m e = rest e
+    by rest false true q true e =
+        let same : 20 * digits + (letter - 64) ≡ n = same_Some (20 * digits + (letter - 64)) n e in
+        let low = (last_bounds letter q).0 in
+        omega (arith, h, same, low)
+    by rest false true q false e = absurd (none-some n e)
+    by rest false false q m e = absurd (none-some n e)
 
 last-over : (limit digits letter : ℕ) (word : Name) (n : ℕ) → is_first letter ≡ false → limit < 20 * digits + (letter - 64) → number_from digits (letter ∷ word) ≡ Some n → limit < n
 last-over limit digits letter word n first h e = by (is_last letter && is_empty word) (sym (ap (λ f. cond f (number_from (5 * digits + (letter - 84)) word) (cond (is_last letter && is_empty word) (Some (20 * digits + (letter - 64))) None)) first) ∙ e)
@@ -97,6 +102,10 @@ last-true c low high = grind (arith, nat_tests)
 le-true : (a b : ℕ) → a ≤ b → nat_le a b ≡ true
 le-true a b h = grind (arith, nat_tests)
 
+zero-or : (n : ℕ) → (n ≡ 0) ⊎ (n ≢ 0)
+zero-or zero = inl refl
+zero-or (suc n) = inr (λ e. omega (arith, e))
+
 -- ---- nothing read yet
 
 pub read-none : (labels : ℕ) (letters : List ℕ) → starts_with_mark letters ≡ false → IsReadTo labels letters 0 labels 0 0
@@ -118,6 +127,7 @@ read-none labels letters starts = record {
   limit_is = omega arith;
   few = omega arith;
   small = omega arith;
+  room = λ e. absurd (e refl);
 }
   where
     none : (o : Option (List ℕ)) → o ≡ before_rest [] o
@@ -140,6 +150,9 @@ module _ (labels : ℕ) (letters : List ℕ) (index limit digits begin : ℕ) (r
     greatest : limit ≡ length names + marks_in (items_of names r.numbers)
     greatest = r.limit_is ∙ (ap (λ n. n + zeros r.numbers) (sym count) ∙ ap (λ z. length names + z) (sym (marks-zeros names r.numbers)))
 
+    allowed : IsAllowed limit r.begun
+    allowed = elim (zero-or digits) [ inl e ↦ inl (r.empty e) | inr e ↦ inr (65 ∷ [], 20 * digits + 1, placed-number_of (r.begun ++ 65 ∷ []) (20 * digits + 1) (r.counts (65 ∷ [])), let q = r.room e in omega (arith, q)) ]
+
     -- what breaks a rule is told of the word that is begun
     pub broken-at : (broken : LetterBreak) (fault : LetterFault) (letter : ℕ) → broken.fault ≡ fault → broken.letter ≡ letter → Breaks fault limit (items_of names r.numbers) r.begun r.rest
         → letter ≡ place_in fault (length r.front) (length r.begun) → IsLetterBreak names letters broken
@@ -151,6 +164,7 @@ module _ (labels : ℕ) (letters : List ℕ) (index limit digits begin : ℕ) (r
       whole = r.whole;
       reads = writes;
       firsts = r.firsts;
+      allowed = subst (λ n. IsAllowed n r.begun) greatest allowed;
       breaks = subst (λ f. Breaks f (length names + marks_in (items_of names r.numbers)) (items_of names r.numbers) r.begun r.rest) (sym is)
           (subst (λ n. Breaks fault n (items_of names r.numbers) r.begun r.rest) greatest breaks);
       place = at ∙ (place ∙ ap (λ f. place_in f (length r.front) (length r.begun)) (sym is));
@@ -216,6 +230,7 @@ module _ (labels : ℕ) (letters : List ℕ) (index limit digits begin : ℕ) (r
       limit_is = limit_is;
       few = few;
       small = omega arith;
+      room = λ e. absurd (e refl);
     }
       where
         longer : length (r.front ++ (r.begun ++ letter ∷ [])) ≡ index + 1
@@ -246,7 +261,7 @@ module _ (labels : ℕ) (letters : List ℕ) (index limit digits begin : ℕ) (r
         step : (text : List ℕ) → numbers_from limit digits (letter ∷ text) ≡ option_map (λ more. 0 ∷ more) (numbers_from (limit + 1) 0 text)
         step text = ap (λ l. numbers_from limit digits (l ∷ text)) is ∙ ap (λ d. numbers_from limit d (90 ∷ text)) none
 
-    pub letter-read : (digits' : ℕ) → 85 ≤ letter → letter ≤ 89 → digits' ≡ 5 * digits + (letter - 84) → digits' ≤ limit / 20 → IsReadTo labels letters (index + 1) limit digits' begin
+    pub letter-read : (digits' : ℕ) → 85 ≤ letter → letter ≤ 89 → digits' ≡ 5 * digits + (letter - 84) → 20 * digits' < limit → IsReadTo labels letters (index + 1) limit digits' begin
     letter-read digits' low high is within = record {
       numbers = r.numbers;
       front = r.front;
@@ -265,6 +280,7 @@ module _ (labels : ℕ) (letters : List ℕ) (index limit digits begin : ℕ) (r
       limit_is = r.limit_is;
       few = let f = r.few in omega (arith, f);
       small = omega (arith, within);
+      room = λ e. within;
     }
       where
         first : is_first letter ≡ true
@@ -284,7 +300,7 @@ module _ (labels : ℕ) (letters : List ℕ) (index limit digits begin : ℕ) (r
     word-over low high h =
         breaks-here (IsOver limit r.begun) (or-right (is_first letter) (is_last letter) (last-true letter low high), λ word n is. last-over limit digits letter word n (first-false letter high) h (counted word n is))
 
-    pub begun-over : (digits' : ℕ) → 85 ≤ letter → letter ≤ 89 → digits' ≡ 5 * digits + (letter - 84) → limit / 20 < digits' → BeginsWith (IsOver limit r.begun) r.rest
+    pub begun-over : (digits' : ℕ) → 85 ≤ letter → letter ≤ 89 → digits' ≡ 5 * digits + (letter - 84) → limit ≤ 20 * digits' → BeginsWith (IsOver limit r.begun) r.rest
     begun-over digits' low high is h =
         breaks-here (IsOver limit r.begun) (
           or-left (is_first letter) (is_last letter) first,

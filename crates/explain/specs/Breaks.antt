@@ -1,7 +1,7 @@
 -- Which rule of proof code tokens break that write no items: the first place at which they do.
 -- Source: Metamath, 4.3 (normal proofs) and appendix B (compressed proofs).
 -- The code reads tokens and letters from left to right.
-use Rattle.std.specs.Prelude.{◌≡◌, ◌≢◌, ℕ, suc, ◌+◌, ◌<◌, ◌⊎◌, Bool, not, ◌||◌, IsTrue, IsFalse, List, [], ◌∷◌, ◌++◌, length, flat_map}
+use Rattle.std.specs.Prelude.{◌≡◌, ◌≢◌, ℕ, suc, ◌+◌, ◌<◌, ◌≤◌, ◌⊎◌, Bool, not, ◌||◌, IsTrue, IsFalse, List, [], ◌∷◌, ◌++◌, length, flat_map}
 use Rattle.std.specs.List.{list_all, list_any}
 use Rattle.mm_lex.specs.Alphabet.{Name, has_byte, has_name, is_label}
 use Rattle.proof_code.specs.declared.item.Item.{Item}
@@ -55,6 +55,10 @@ BeginsWith P (letter ∷ letters) = P letter
 abbrev pub IsOther : ℕ → Type 0
 IsOther letter = IsFalse (is_first letter) × IsFalse (is_last letter) × (letter ≢ 90)
 
+-- no letter of the word yet, or a word that begins so has a number up to the limit
+abbrev pub IsAllowed : ℕ → List ℕ → Type 0
+IsAllowed limit begun = (begun ≡ []) ⊎ ((word : Name) × (n : ℕ) × IsNumber (begun ++ word) n × (n ≤ limit))
+
 -- a letter A to Y, with which every word that begins so has a number greater than the limit
 abbrev pub IsOver : ℕ → List ℕ → ℕ → Type 0
 IsOver limit begun letter = IsTrue (is_first letter || is_last letter) × ((word : Name) (n : ℕ) → IsNumber (begun ++ letter ∷ word) n → limit < n)
@@ -82,6 +86,7 @@ pub record IsLetterBreak (labels : List Name) (letters : List ℕ) (broken : Let
   pub whole : letters ≡ front ++ (begun ++ rest)
   pub reads : WritesRow labels front items
   pub firsts : IsTrue (list_all is_first begun)
+  pub allowed : IsAllowed (length labels + marks_in items) begun
   pub breaks : Breaks broken.fault (length labels + marks_in items) items begun rest
   pub place : broken.letter ≡ place_in broken.fault (length front) (length begun)
 

@@ -1,7 +1,7 @@
 -- Letters of a compressed proof read up to one of them, for the private functions.
 -- Source: Metamath, appendix B.
 -- This is the code's way to read; what it finds is told by `Breaks`.
-use Rattle.std.specs.Prelude.{◌≡◌, ℕ, zero, suc, ◌+◌, ◌*◌, ◌≤◌, IsTrue, IsFalse, List, [], ◌∷◌, ◌++◌, length}
+use Rattle.std.specs.Prelude.{◌≡◌, ◌≢◌, ℕ, zero, suc, ◌+◌, ◌*◌, ◌<◌, ◌≤◌, IsTrue, IsFalse, List, [], ◌∷◌, ◌++◌, length}
 use Rattle.std.specs.List.{list_all}
 use Rattle.mm_lex.specs.Alphabet.{Name}
 use Rattle.proof_code.specs.Letters.{is_first, number_from}
@@ -33,3 +33,4 @@ pub record IsReadTo (labels : ℕ) (letters : List ℕ) (index limit digits begi
   pub limit_is : limit ≡ labels + zeros numbers
   pub few : zeros numbers ≤ index
   pub small : 20 * digits ≤ limit
+  pub room : digits ≢ 0 → 20 * digits < limit

@@ -22,7 +22,7 @@ pub(crate) struct Front {
 
 /// Which rule the letters break, where so many labels are numbered; none where they write items.
 pub(crate) fn letter_break(letters: &[u8], labels: usize) -> Option<LetterBreak>
-    requires { labels + length letters.now + 200 < 2 ^ 64 }
+    requires { 5 * (labels + length letters.now) + 200 < 2 ^ 64 }
     ensures { (names : List Name) → length names ≡ labels → MatchOption result ((items : List Item) × WritesRow names letters.now items)
         (IsLetterBreak names letters.now) }
 {
@@ -60,7 +60,7 @@ fn begins_with_mark(letters: &[u8]) -> bool
 impl Front {
     /// What stands before the next letter, or what this letter breaks.
     fn read(self, index: usize, letter: u8) -> Result<Front, LetterBreak>
-        requires room { self.limit + 200 < 2 ^ 64 }
+        requires room { 5 * self.limit + 200 < 2 ^ 64 }
         requires index { index + 1 < 2 ^ 64 }
         requires small { 20 * self.digits ≤ self.limit }
         ensures { (labels : ℕ) (letters : List ℕ) → IsReadTo labels letters index self.limit self.digits self.begin → slice_get letters index ≡ Some letter
@@ -69,9 +69,6 @@ impl Front {
     {
         match letter {
             b'A'..=b'T' => {
-                if self.digits > self.limit / 20 {
-                    return Err(self.broken(LetterFault::TooGreat));
-                }
                 if 20 * self.digits + usize::from(letter - 64) > self.limit {
                     return Err(self.broken(LetterFault::TooGreat));
                 }
@@ -83,7 +80,7 @@ impl Front {
             }
             b'U'..=b'Y' => {
                 let digits = 5 * self.digits + usize::from(letter - 84);
-                if digits > self.limit / 20 {
+                if 20 * digits >= self.limit {
                     return Err(self.broken(LetterFault::TooGreat));
                 }
                 Ok(Front { digits, ..self })
