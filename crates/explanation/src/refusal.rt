@@ -1,7 +1,7 @@
 //! What is explained, and the lines of its explanation.
 
 use crate::page::Page;
-use crate::proof::{explain_proof, explain_unfinished};
+use crate::proof::explain_proof;
 use crate::rules::explain_rule;
 use crate::shape::explain_shape;
 use crate::text_fault::explain_text;
@@ -52,6 +52,6 @@ fn push_lines(
         DatabaseFault::Shape => explain_shape(alloc, page, text),
         DatabaseFault::Rule { statement, rule } => explain_rule(alloc, page, text, statement, rule),
         DatabaseFault::Proof { statement } => explain_proof(alloc, page, text, statement),
-        DatabaseFault::Unfinished { statement } => explain_unfinished(alloc, page, text, statement),
+        DatabaseFault::Unfinished { statement } => explain_proof(alloc, page, text, statement),
     }
 }

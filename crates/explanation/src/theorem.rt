@@ -6,7 +6,6 @@ ghost use Rattle.verify.specs.Right.{IsProvable};
 use crate::items::Spot;
 use crate::page::Page;
 use crate::symbols::label_of;
-use frame::Frames;
 use mm_lex::Words;
 use mm_read::Stmt;
 use places::place_of;
@@ -65,23 +64,6 @@ impl<'a> Theorem<'a> {
     pub(crate) fn push_end(&self, alloc: Global, page: &mut Page) -> Result<(), AllocError> {
         let token = self.proof.len();
         self.push_spot(alloc, page, Spot { token, byte: 0 })
-    }
-
-    /// The labels of its mandatory hypotheses, in order.
-    pub(crate) fn mandatory(&self, alloc: Global, frames: &Frames) -> Result<Words, AllocError>
-        requires { (s : Statement) × IsProvable frames.now.statements self.now.at s }
-    {
-        let mut positions = Vec::new(alloc);
-        frames.mandatory(self.at, &mut positions)?;
-        let mut labels = Words::new(alloc);
-        for position in positions.as_slice() {
-            match self.statements.get((*position as usize).saturating_sub(1)) {
-                Some(Stmt::Float { label, .. }) => labels.push(label.as_bytes())?,
-                Some(Stmt::Ess { label, .. }) => labels.push(label.as_bytes())?,
-                _ => {}
-            }
-        }
-        Ok(labels)
     }
 
     /// The label of the statement at a position.
