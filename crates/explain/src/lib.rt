@@ -1,11 +1,13 @@
 //! Why a proof is refused.
 //!
-//! `explain` gives the reason why the tokens of a `$p` do not prove it: they write no items, or the first fault of the run over
-//! the items that they write. It runs only after a refusal. Read `why`, `theorem`.
+//! `explain` gives the reason why the tokens of a `$p` do not prove it: where they break a rule of proof code, or the first
+//! fault of the run over the items that they write. It runs only after a refusal. Read `why`, `theorem`, `code`, `letters`.
 #![tactic(auto)]
 
+mod code;
+mod letters;
 mod theorem;
 mod why;
 
 pub use theorem::explain;
-pub use why::WhyUnproved;
+pub use why::{CodeBreak, LetterBreak, LetterFault, WhyUnproved};

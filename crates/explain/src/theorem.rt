@@ -10,6 +10,7 @@ ghost use Rattle.verify.specs.Proves.{Proves, mandatory_labels};
 ghost use Rattle.verify.specs.Right.{IsProvable};
 ghost use Rattle.explain.specs.Why.{IsWhy};
 
+use crate::code::code_break;
 use crate::why::WhyUnproved;
 use frame::Frames;
 use mm_lex::Words;
@@ -50,7 +51,7 @@ fn explain_wrong(
 {
     let labels = labels_of(alloc, frames, at)?;
     let Some(items) = items_of(alloc, tokens, &labels)? else {
-        return Ok(WhyUnproved::Code);
+        return Ok(WhyUnproved::Code(code_break(alloc, tokens, &labels)?));
     };
     match first_fault(alloc, frames, at, &items)? {
         Some(reason) => Ok(WhyUnproved::Run { items, reason }),

@@ -7,7 +7,42 @@ use reasons::Reason;
 #[derive(Drop)]
 pub enum WhyUnproved {
     /// They write no items.
-    Code,
+    Code(CodeBreak),
     /// They write these items, and the run over them meets this first.
     Run { items: Items, reason: Reason },
+}
+
+/// Which rule of proof code tokens break; tokens are indexed from 0. Source: Metamath, 4.3 and appendix B.
+#[derive(Clone, Copy, Debug, Drop)]
+pub enum CodeBreak {
+    /// The first token with the byte `?`.
+    Unfinished { token: usize },
+    /// The first token that is no label, where a label has to stand.
+    NotLabel { token: usize },
+    /// The first listed label that is one of a mandatory hypothesis.
+    Mandatory { token: usize },
+    /// No `)` stands behind the listed labels.
+    Unclosed,
+    /// The letters behind `)`.
+    Letters(LetterBreak),
+}
+
+/// Where the letters of a compressed proof break a rule: a letter by its index from 0 among those of all tokens behind `)`.
+#[derive(Clone, Copy, Debug, Drop)]
+pub struct LetterBreak {
+    pub letter: usize,
+    pub fault: LetterFault,
+}
+
+/// What is wrong with letters; all before them write items.
+#[derive(Clone, Copy, Debug, Drop)]
+pub enum LetterFault {
+    /// The byte is none of A to Z.
+    NotLetter,
+    /// The letters U to Y from here on are ended by no letter A to T.
+    NotEnded,
+    /// A mark stands before any number.
+    EarlyMark,
+    /// The word that begins here has a number greater than all labels and marks so far.
+    TooGreat,
 }

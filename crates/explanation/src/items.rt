@@ -1,4 +1,4 @@
-//! Where an item stands among the tokens of a proof.
+//! Where an item or a letter stands among the tokens of a proof.
 
 use mm_lex::Words;
 use proof_code::is_compressed;
@@ -13,7 +13,7 @@ pub(crate) struct Spot {
 /// Where the item of that index begins: its token, or the first letter of its word or mark.
 pub(crate) fn spot_of(proof: &Words, item: usize) -> Spot {
     if is_compressed(proof) {
-        letters_spot(proof, item)
+        word_spot(proof, item)
     } else {
         Spot {
             token: item,
@@ -23,7 +23,7 @@ pub(crate) fn spot_of(proof: &Words, item: usize) -> Spot {
 }
 
 /// Where the word or mark of that index begins among the letters; behind the last token where there are fewer.
-fn letters_spot(proof: &Words, item: usize) -> Spot {
+fn word_spot(proof: &Words, item: usize) -> Spot {
     let mut behind = false;
     let mut left = proof.iter();
     let mut token = 0usize;
@@ -42,6 +42,25 @@ fn letters_spot(proof: &Words, item: usize) -> Spot {
                     begun = None;
                 }
             }
+        }
+        behind = behind || word == b")".as_slice();
+        token = token.saturating_add(1);
+    }
+    Spot { token, byte: 0 }
+}
+
+/// Where the letter of that index stands, of all tokens behind `)`; behind the last token where there are fewer.
+pub(crate) fn letter_spot(proof: &Words, letter: usize) -> Spot {
+    let mut behind = false;
+    let mut left = proof.iter();
+    let mut token = 0usize;
+    let mut byte = letter;
+    while let Some(word) = left.next() {
+        if behind {
+            if byte < word.len() {
+                return Spot { token, byte };
+            }
+            byte -= word.len();
         }
         behind = behind || word == b")".as_slice();
         token = token.saturating_add(1);

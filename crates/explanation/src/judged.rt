@@ -1,35 +1,26 @@
 //! The statements of a text, judged once more.
-ghost use Rattle.std.specs.Prelude.{◌≡◌, IsTrue};
+ghost use Rattle.std.specs.Prelude.{◌≡◌, [], Ok, true};
 ghost use Rattle.mm_read.specs.Statements.{AreShaped};
-ghost use Rattle.scope.specs.Active.{is_assertion};
+ghost use Rattle.scope.specs.Active.{bares};
 
-use frame::{Frames, frame};
-use mm_lex::Words;
+use frame::Frames;
 use mm_read::Stmt;
 use scope::{Rule, Scope, Steps};
-use std::alloc::{AllocError, Global};
+use std::alloc::AllocError;
 
-/// Adds the statements to the scope and the frames, and the labels of the mandatory hypotheses of the `$p` at a position to
-/// the list; false where one of the statements is not legal.
+/// Adds the statements to a scope and frames that have none; false where one of them is not legal.
 pub(crate) fn enter(
-    alloc: Global,
     scope: &mut Scope,
     frames: &mut Frames,
-    mandatory: &mut Words,
     statements: &[Stmt],
-    at: usize,
 ) -> Result<bool, AllocError>
     requires shaped { AreShaped statements.now }
-    requires same { scope.old.statements ≡ frames.old.statements }
+    requires no_scope { scope.old.statements ≡ [] }
+    requires no_frames { frames.old.statements ≡ [] }
+    ensures { result ≡ Ok true → frames.new.statements ≡ bares statements.now }
 {
     let mut steps = Steps::new();
-    for i in 0..statements.len() {
-        let stmt = &statements[i];
-        if let Stmt::Prove { .. } = stmt
-            && i.saturating_add(1) == at
-        {
-            push_mandatory(alloc, scope, stmt, statements, mandatory)?;
-        }
+    for stmt in statements {
         match scope.add(stmt, &mut steps) {
             Ok(()) => frames.keep_accepted(scope, stmt, &mut steps)?,
             Err(Rule::Memory) => return Err(AllocError),
@@ -37,34 +28,4 @@ pub(crate) fn enter(
         }
     }
     Ok(true)
-}
-
-/// Adds the labels of the mandatory hypotheses of an assertion behind the statements of the scope.
-fn push_mandatory(
-    alloc: Global,
-    scope: &Scope,
-    stmt: &Stmt,
-    statements: &[Stmt],
-    labels: &mut Words,
-) -> Result<(), AllocError>
-    requires { IsTrue (is_assertion stmt.now) }
-{
-    let asked = frame(alloc, scope, stmt)?;
-    push_labels(asked.hypotheses(), statements, labels)
-}
-
-/// Adds the labels of the hypotheses at these positions.
-fn push_labels(
-    positions: &[usize],
-    statements: &[Stmt],
-    labels: &mut Words,
-) -> Result<(), AllocError> {
-    for position in positions {
-        match statements.get(position.saturating_sub(1)) {
-            Some(Stmt::Float { label, .. }) => labels.push(label.as_bytes())?,
-            Some(Stmt::Ess { label, .. }) => labels.push(label.as_bytes())?,
-            _ => {}
-        }
-    }
-    Ok(())
 }

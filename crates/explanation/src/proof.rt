@@ -1,67 +1,25 @@
 //! Proofs that are wrong or unfinished.
+ghost use Rattle.mm_read.specs.declared.stmt.Stmt.{Stmt as Statement};
 ghost use Rattle.mm_read.specs.Statements.{AreShaped};
+ghost use Rattle.verify.specs.Right.{IsProvable};
 
-use crate::code_fault::code_break;
+use crate::code_break::explain_break;
 use crate::expressions::push_expression;
-use crate::items::{Spot, spot_of, step_of};
+use crate::items::{spot_of, step_of};
 use crate::judged::enter;
 use crate::page::Page;
 use crate::step_fault::push_fault;
 use crate::symbols::word_at;
 use crate::theorem::Theorem;
+use explain::{WhyUnproved, explain};
 use frame::Frames;
-use mm_lex::Words;
 use mm_read::{ReadFault, Stmt, read};
-use proof_code::{CodeFault, Items, is_compressed, normal, packed};
-use reasons::{Fault, Reason, first_fault};
+use proof_code::Items;
+use reasons::{Fault, Reason};
 use scope::Scope;
 use std::alloc::{AllocError, Global};
 
-/// The first token with `?`.
-pub(crate) fn explain_unfinished(
-    alloc: Global,
-    page: &mut Page,
-    text: &[u8],
-    statement: usize,
-) -> Result<(), AllocError> {
-    match read(alloc, text) {
-        Ok(statements) => {
-            explain_question_mark(alloc, page, text, statements.as_slice(), statement)
-        }
-        Err(ReadFault::Memory) => Err(AllocError),
-        Err(_) => Ok(()),
-    }
-}
-
-fn explain_question_mark(
-    alloc: Global,
-    page: &mut Page,
-    text: &[u8],
-    statements: &[Stmt],
-    at: usize,
-) -> Result<(), AllocError> {
-    let Some(theorem) = Theorem::new(text, statements, at) else {
-        return Ok(());
-    };
-    let token = first_unfinished(theorem.proof);
-    theorem.push_spot(alloc, page, Spot { token, byte: 0 })?;
-    page.push(b" is not finished\n")
-}
-
-/// The index of the first token with `?`.
-fn first_unfinished(proof: &Words) -> usize {
-    let mut token = 0usize;
-    let mut left = proof.iter();
-    while let Some(word) = left.next() {
-        if word.contains(&b'?') {
-            break;
-        }
-        token = token.saturating_add(1);
-    }
-    token
-}
-
-/// The first fault of a proof.
+/// The rule of proof code that a proof breaks, or the first fault of its run.
 pub(crate) fn explain_proof(
     alloc: Global,
     page: &mut Page,
@@ -89,16 +47,8 @@ fn explain_wrong(
     };
     let mut scope = Scope::new(alloc);
     let mut frames = Frames::new(alloc);
-    let mut mandatory = Words::new(alloc);
-    match enter(
-        alloc,
-        &mut scope,
-        &mut frames,
-        &mut mandatory,
-        statements,
-        at,
-    ) {
-        Ok(true) => explain_theorem(alloc, page, &frames, &mandatory, &theorem),
+    match enter(&mut scope, &mut frames, statements) {
+        Ok(true) => explain_theorem(alloc, page, &frames, &theorem),
         Ok(false) => Ok(()),
         Err(error) => Err(error),
     }
@@ -108,53 +58,20 @@ fn explain_theorem(
     alloc: Global,
     page: &mut Page,
     frames: &Frames,
-    mandatory: &Words,
     theorem: &Theorem<'_>,
-) -> Result<(), AllocError> {
-    let read = if is_compressed(theorem.proof) {
-        packed(alloc, theorem.proof, mandatory)
-    } else {
-        normal(alloc, theorem.proof)
-    };
-    match read {
-        Ok(items) => explain_items(alloc, page, frames, theorem, &items),
-        Err(CodeFault::Memory) => Err(AllocError),
-        Err(_) => explain_code(alloc, page, mandatory, theorem),
+) -> Result<(), AllocError>
+    requires { (s : Statement) × IsProvable frames.now.statements theorem.now.at s }
+{
+    match explain(alloc, frames, theorem.at, theorem.proof)? {
+        Some(WhyUnproved::Code(broken)) => explain_break(alloc, page, theorem, broken),
+        Some(WhyUnproved::Run { items, reason }) => {
+            explain_reason(alloc, page, frames, theorem, &items, &reason)
+        }
+        None => Ok(()),
     }
-}
-
-/// The tokens are no proof code.
-fn explain_code(
-    alloc: Global,
-    page: &mut Page,
-    mandatory: &Words,
-    theorem: &Theorem<'_>,
-) -> Result<(), AllocError> {
-    let broken = code_break(theorem.proof, mandatory);
-    theorem.push_spot(alloc, page, broken.spot)?;
-    page.push(b" cannot be read\n  ")?;
-    page.push(broken.words)?;
-    page.push(b"\n")
 }
 
 /// The first fault of the run over the items.
-fn explain_items(
-    alloc: Global,
-    page: &mut Page,
-    frames: &Frames,
-    theorem: &Theorem<'_>,
-    items: &Items,
-) -> Result<(), AllocError> {
-    if theorem.at == 0 || theorem.at > frames.len() {
-        return Ok(());
-    }
-    match first_fault(alloc, frames, theorem.at, items) {
-        Ok(Some(reason)) => explain_reason(alloc, page, frames, theorem, items, &reason),
-        Ok(None) => Ok(()),
-        Err(error) => Err(error),
-    }
-}
-
 fn explain_reason(
     alloc: Global,
     page: &mut Page,

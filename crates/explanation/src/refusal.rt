@@ -1,7 +1,7 @@
 //! What is explained, and the lines of its explanation.
 
 use crate::page::Page;
-use crate::proof::{explain_proof, explain_unfinished};
+use crate::proof::explain_proof;
 use crate::rules::explain_rule;
 use crate::shape::explain_shape;
 use crate::text_fault::explain_text;
@@ -27,7 +27,7 @@ pub enum DatabaseFault {
 
 /// The lines that say why the text is refused; none where it is not refused so.
 ///
-/// Cost: that of reading the text and of its statements once more, and of the one proof.
+/// Cost: that of reading the text and of its statements once more, and of judging the one proof twice.
 pub fn explain_refusal(
     alloc: Global,
     text: &[u8],
@@ -52,6 +52,6 @@ fn push_lines(
         DatabaseFault::Shape => explain_shape(alloc, page, text),
         DatabaseFault::Rule { statement, rule } => explain_rule(alloc, page, text, statement, rule),
         DatabaseFault::Proof { statement } => explain_proof(alloc, page, text, statement),
-        DatabaseFault::Unfinished { statement } => explain_unfinished(alloc, page, text, statement),
+        DatabaseFault::Unfinished { statement } => explain_proof(alloc, page, text, statement),
     }
 }

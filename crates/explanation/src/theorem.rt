@@ -1,4 +1,7 @@
 //! A `$p` of a text: its parts, and where its proof stands.
+ghost use Rattle.std.specs.Prelude.{◌≡◌, IfSome};
+ghost use Rattle.mm_read.specs.declared.stmt.Stmt.{Stmt as Statement};
+ghost use Rattle.verify.specs.Right.{IsProvable};
 
 use crate::items::Spot;
 use crate::page::Page;
@@ -22,8 +25,12 @@ pub(crate) struct Theorem<'a> {
 
 impl<'a> Theorem<'a> {
     /// The `$p` at a position; none where no `$p` stands there.
-    pub(crate) fn new(text: &'a [u8], statements: &'a [Stmt], at: usize) -> Option<Theorem<'a>> {
-        let Some(Stmt::Prove { label, expr, proof }) = statements.get(at.saturating_sub(1)) else {
+    pub(crate) fn new(text: &'a [u8], statements: &'a [Stmt], at: usize) -> Option<Theorem<'a>>
+        ensures at { IfSome result (λ theorem. theorem.at ≡ at) }
+        ensures provable { IfSome result (λ theorem. (s : Statement) × IsProvable statements.now at s) }
+    {
+        let index = at.checked_sub(1)?;
+        let Some(Stmt::Prove { label, expr, proof }) = statements.get(index) else {
             return None;
         };
         Some(Theorem {

@@ -1,14 +1,8 @@
-use Rattle.std.proofs.Common.{List, subst}
-use Rattle.proof_code.specs.declared.item.Item.{Item}
+use Rattle.std.proofs.Common.{subst}
 use Rattle.proof_code.specs.Writes.{Writes}
 use Rattle.verify.proofs.MandatoryLemmas.{place_of}
 use Rattle.explain.proofs.RunLemmas.{proves}
 use Rattle.explain.proofs.theorem.explain_wrong.Goals as goal
-
-pub returns-in_default : goal.returns-in_default
-returns-in_default c =
-    let s = c.requires.provable.0 in let p = c.requires.provable.1 in
-    (s, p, subst (λ labels. (items : List Item) → Writes c.args.tokens.now labels items → ⊥) (c.in_ok-labels.ensures s p) (rw c.in_default.is at c.in_ok-items.ensures))
 
 pub first_fault-requires : goal.first_fault-requires
 first_fault-requires c = place_of c.args.frames.now.statements c.args.at c.requires.provable.0 c.requires.provable.1.stands

@@ -1,5 +1,9 @@
-use Rattle.std.proofs.Common.{◌≡◌}
+use Rattle.std.proofs.Common.{◌≡◌, take}
+use Rattle.scope.specs.Active.{bares}
 use Rattle.explanation.proofs.judged.enter.Given as goal
 
-abbrev pub invariant-loop-i : goal.invariant-loop-i
-invariant-loop-i l = l.scope.statements ≡ l.frames.statements
+abbrev pub invariant-loop-stmt : goal.invariant-loop-stmt
+invariant-loop-stmt l = record {
+  same : l.scope.statements ≡ l.frames.statements;
+  taken : l.frames.statements ≡ bares (take l.stmt-index l.statements);
+}

@@ -1,0 +1,332 @@
+-- Letters read up to one of them, and what the next one does.
+use Rattle.std.specs.Prelude.{◌≡◌, ◌≢◌, ◌⊎◌, ℕ, zero, suc, ◌+◌, ◌-◌, ◌*◌, ◌<◌, ◌≤◌, Bool, true, false, cond, ◌&&◌, ◌||◌, nat_lt, nat_le, List, [], ◌∷◌, ◌++◌, length, Option, Some, None, slice_get, slice_index_or, refl}
+use Rattle.std.specs.Option.{option_map}
+use Rattle.std.proofs.Common.{sym, ◌∙◌, ap, subst, arith, append_assoc, append-nil, length-append, inl, inr}
+use Rattle.std.proofs.lemmas.Bool.Decides.{nat_tests}
+use Rattle.std.proofs.lemmas.List.Folds.{list_all-append}
+use Rattle.std.proofs.lemmas.Option.{none-some, same_Some}
+use Rattle.mm_lex.specs.Alphabet.{Name, is_empty}
+use Rattle.proof_code.specs.declared.item.Item.{Item}
+use Rattle.proof_code.specs.declared.item.Item.TheVariants.{Cite, Recall}
+use Rattle.proof_code.specs.Letters.{IsNumber, is_first, is_last, number_from}
+use Rattle.proof_code.specs.Numbers.{items_of}
+use Rattle.proof_code.specs.Reading.{before_rest}
+use Rattle.proof_code.specs.Text.{numbers_from, starts_with_mark}
+use Rattle.proof_code.specs.Writes.{WritesRow}
+use Rattle.proof_code.proofs.LettersLemmas.{is_first-true, number_of-placed, placed-number_of, first_bounds, last_bounds}
+use Rattle.proof_code.proofs.RowLemmas.{WritesRow-read}
+use Rattle.explain.specs.declared.why.LetterBreak.{LetterBreak}
+use Rattle.explain.specs.declared.why.LetterFault.{LetterFault}
+use Rattle.explain.specs.Breaks.{marks_in, IsEnd, place_in, IsAllowed, IsOther, IsOver, BeginsWith, Breaks, IsLetterBreak}
+use Rattle.explain.specs.Reading.{zeros, IsReadTo}
+
+-- ---- lists
+
+at-append : (xs ys : List ℕ) (i x : ℕ) → length xs ≡ i → slice_get (xs ++ ys) i ≡ Some x → (more : List ℕ) × (ys ≡ x ∷ more)
+at-append [] [] zero x e h = cc
+at-append [] [] (suc i) x e h = absurd (omega (arith, e))
+at-append [] (y ∷ ys) zero x e h = (ys, let same : y ≡ x = cc in ap (λ z. z ∷ ys) same)
+at-append [] (y ∷ ys) (suc i) x e h = absurd (omega (arith, e))
+at-append (z ∷ xs) ys zero x e h = absurd (omega (arith, e))
+at-append (z ∷ xs) ys (suc i) x e h = at-append xs ys i x (omega (arith, e)) h
+
+pub not-empty : (xs : List ℕ) (x : ℕ) → xs ++ x ∷ [] ≡ [] → ⊥
+not-empty [] x h = cc
+not-empty (y ∷ xs) x h = cc
+
+-- ---- marks
+
+marks-zeros : (names : List Name) (numbers : List ℕ) → marks_in (items_of names numbers) ≡ zeros numbers
+marks-zeros names [] = refl
+marks-zeros names (zero ∷ numbers) = ap suc (marks-zeros names numbers)
+marks-zeros names (suc n ∷ numbers) = by (marks-zeros names numbers) (nat_lt n (length names))
+  where
+    by : marks_in (items_of names numbers) ≡ zeros numbers → (t : Bool) → marks_in (cond t (Cite (slice_index_or names n [])) (Recall (suc (n - length names))) ∷ items_of names numbers) ≡ zeros numbers
+    by rest true = rest
+    by rest false = rest
+
+zeros-number : (numbers : List ℕ) (n : ℕ) → 1 ≤ n → zeros (numbers ++ n ∷ []) ≡ zeros numbers
+zeros-number [] zero h = absurd (omega (arith, h))
+zeros-number [] (suc n) h = refl
+zeros-number (zero ∷ numbers) n h = ap suc (zeros-number numbers n h)
+zeros-number (suc m ∷ numbers) n h = zeros-number numbers n h
+
+zeros-mark : (numbers : List ℕ) → zeros (numbers ++ 0 ∷ []) ≡ suc (zeros numbers)
+zeros-mark [] = refl
+zeros-mark (zero ∷ numbers) = ap suc (zeros-mark numbers)
+zeros-mark (suc m ∷ numbers) = zeros-mark numbers
+
+before-push : (numbers : List ℕ) (n : ℕ) (o : Option (List ℕ)) → before_rest numbers (option_map (λ more. n ∷ more) o) ≡ before_rest (numbers ++ n ∷ []) o
+before-push numbers n None = refl
+before-push numbers n (Some more) = ap Some (sym (append_assoc numbers (n ∷ []) more))
+
+-- ---- numbers above a limit
+
+-- no word that begins so has a number within the limit
+over : (limit digits : ℕ) (word : Name) (n : ℕ) → limit ≤ 20 * digits → number_from digits word ≡ Some n → limit < n
+over limit digits [] n h e = absurd (none-some n e)
+over limit digits (letter ∷ word) n h e = by (λ more. over limit (5 * digits + (letter - 84)) word n (omega (arith, h)) more) (is_first letter) (is_last letter) refl (is_empty word) e
+  where
+    by : (number_from (5 * digits + (letter - 84)) word ≡ Some n → limit < n) → (f l : Bool) → is_last letter ≡ l → (m : Bool)
+        → cond f (number_from (5 * digits + (letter - 84)) word) (cond (l && m) (Some (20 * digits + (letter - 64))) None) ≡ Some n → limit < n
+    by rest true l q m e = rest e
+    by rest false true q true e =
+        let same : 20 * digits + (letter - 64) ≡ n = same_Some (20 * digits + (letter - 64)) n e in
+        let low = (last_bounds letter q).0 in
+        omega (arith, h, same, low)
+    by rest false true q false e = absurd (none-some n e)
+    by rest false false q m e = absurd (none-some n e)
+
+last-over : (limit digits letter : ℕ) (word : Name) (n : ℕ) → is_first letter ≡ false → limit < 20 * digits + (letter - 64) → number_from digits (letter ∷ word) ≡ Some n → limit < n
+last-over limit digits letter word n first h e = by (is_last letter && is_empty word) (sym (ap (λ f. cond f (number_from (5 * digits + (letter - 84)) word) (cond (is_last letter && is_empty word) (Some (20 * digits + (letter - 64))) None)) first) ∙ e)
+  where
+    by : (l : Bool) → cond l (Some (20 * digits + (letter - 64))) None ≡ Some n → limit < n
+    by true e = let same : 20 * digits + (letter - 64) ≡ n = same_Some (20 * digits + (letter - 64)) n e in omega (arith, h, same)
+    by false e = absurd (none-some n e)
+
+or-left : (a b : Bool) → a ≡ true → (a || b) ≡ true
+or-left a b h = ap (λ t. t || b) h
+
+or-right : (a b : Bool) → b ≡ true → (a || b) ≡ true
+or-right true b h = refl
+or-right false b h = h
+
+-- ---- letters and tests
+
+first-false : (c : ℕ) → c ≤ 84 → is_first c ≡ false
+first-false c high = grind (arith, nat_tests)
+
+last-true : (c : ℕ) → 65 ≤ c → c ≤ 84 → is_last c ≡ true
+last-true c low high = grind (arith, nat_tests)
+
+le-true : (a b : ℕ) → a ≤ b → nat_le a b ≡ true
+le-true a b h = grind (arith, nat_tests)
+
+zero-or : (n : ℕ) → (n ≡ 0) ⊎ (n ≢ 0)
+zero-or zero = inl refl
+zero-or (suc n) = inr (λ e. omega (arith, e))
+
+-- ---- nothing read yet
+
+pub read-none : (labels : ℕ) (letters : List ℕ) → starts_with_mark letters ≡ false → IsReadTo labels letters 0 labels 0 0
+read-none labels letters starts = record {
+  numbers = [];
+  front = [];
+  begun = [];
+  rest = letters;
+  whole = refl;
+  at_begin = refl;
+  at_index = refl;
+  starts = starts;
+  reads = λ text. none (numbers_from labels 0 text);
+  goes = λ text. refl;
+  counts = λ word. refl;
+  firsts = refl;
+  empty = λ e. refl;
+  some = λ e. refl;
+  limit_is = omega arith;
+  few = omega arith;
+  small = omega arith;
+  room = λ e. absurd (e refl);
+}
+  where
+    none : (o : Option (List ℕ)) → o ≡ before_rest [] o
+    none None = refl
+    none (Some xs) = refl
+
+module _ (labels : ℕ) (letters : List ℕ) (index limit digits begin : ℕ) (r : IsReadTo labels letters index limit digits begin) where
+  -- the letters before the word write items
+  module _ (names : List Name) (count : length names ≡ labels) where
+    front-starts : (front more : List ℕ) → letters ≡ front ++ more → starts_with_mark front ≡ false
+    front-starts [] more e = refl
+    front-starts (x ∷ front) more e = sym (ap starts_with_mark e) ∙ r.starts
+
+    writes : WritesRow names r.front (items_of names r.numbers)
+    writes =
+        let read : numbers_from labels 0 r.front ≡ Some r.numbers =
+        ap (numbers_from labels 0) (sym (append-nil r.front)) ∙ (r.reads [] ∙ ap Some (append-nil r.numbers)) in
+        WritesRow-read names r.front r.numbers (front-starts r.front (r.begun ++ r.rest) r.whole) (ap (λ n. numbers_from n 0 r.front) count ∙ read)
+
+    greatest : limit ≡ length names + marks_in (items_of names r.numbers)
+    greatest = r.limit_is ∙ (ap (λ n. n + zeros r.numbers) (sym count) ∙ ap (λ z. length names + z) (sym (marks-zeros names r.numbers)))
+
+    allowed : IsAllowed limit r.begun
+    allowed = elim (zero-or digits) [ inl e ↦ inl (r.empty e) | inr e ↦ inr (65 ∷ [], 20 * digits + 1, placed-number_of (r.begun ++ 65 ∷ []) (20 * digits + 1) (r.counts (65 ∷ [])), let q = r.room e in omega (arith, q)) ]
+
+    -- what breaks a rule is told of the word that is begun
+    pub broken-at : (broken : LetterBreak) (fault : LetterFault) (letter : ℕ) → broken.fault ≡ fault → broken.letter ≡ letter → Breaks fault limit (items_of names r.numbers) r.begun r.rest
+        → letter ≡ place_in fault (length r.front) (length r.begun) → IsLetterBreak names letters broken
+    broken-at broken fault letter is at breaks place = record {
+      front = r.front;
+      items = items_of names r.numbers;
+      begun = r.begun;
+      rest = r.rest;
+      whole = r.whole;
+      reads = writes;
+      firsts = r.firsts;
+      allowed = subst (λ n. IsAllowed n r.begun) greatest allowed;
+      breaks = subst (λ f. Breaks f (length names + marks_in (items_of names r.numbers)) (items_of names r.numbers) r.begun r.rest) (sym is)
+          (subst (λ n. Breaks fault n (items_of names r.numbers) r.begun r.rest) greatest breaks);
+      place = at ∙ (place ∙ ap (λ f. place_in f (length r.front) (length r.begun)) (sym is));
+    }
+
+    -- all letters are read
+    pub all-read : letters ≡ r.front → (items : List Item) × WritesRow names letters items
+    all-read e = (items_of names r.numbers, subst (λ l. WritesRow names l (items_of names r.numbers)) (sym e) writes)
+
+  split : letters ≡ (r.front ++ r.begun) ++ r.rest
+  split = r.whole ∙ sym (append_assoc r.front r.begun r.rest)
+
+  long : length (r.front ++ r.begun) ≡ index
+  long = length-append r.front r.begun ∙ r.at_index
+
+  -- the end of the letters
+  drop-end : (xs ys : List ℕ) (i : ℕ) → length xs ≡ i → length (xs ++ ys) ≤ i → ys ≡ []
+  drop-end xs [] i e h = refl
+  drop-end xs (y ∷ ys) i e h = absurd (let l = length-append xs (y ∷ ys) in omega (arith, e, h, l))
+
+  pub ended : length letters ≤ index → r.rest ≡ []
+  ended h = drop-end (r.front ++ r.begun) r.rest index long (subst (λ l. length l ≤ index) split h)
+
+  pub ends-here : length letters ≤ index → digits ≡ 0 → letters ≡ r.front
+  ends-here h e = r.whole ∙ (ap (λ b. r.front ++ (b ++ r.rest)) (r.empty e) ∙ (ap (λ x. r.front ++ x) (ended h) ∙ append-nil r.front))
+
+  pub nothing-left : length letters ≤ index → IsEnd r.rest
+  nothing-left h = subst IsEnd (sym (ended h)) tt
+
+  pub some-begun : (digits ≡ 0 → ⊥) → r.begun ≢ []
+  some-begun h e = h (r.some e)
+
+  module _ (letter : ℕ) (here : slice_get letters index ≡ Some letter) where
+    next : (more : List ℕ) × (r.rest ≡ letter ∷ more)
+    next = at-append (r.front ++ r.begun) r.rest index letter long (sym (ap (λ l. slice_get l index) split) ∙ here)
+
+    pub breaks-here : (P : ℕ → Type 0) → P letter → BeginsWith P r.rest
+    breaks-here P p = subst (BeginsWith P) (sym next.1) p
+
+    pub ends-so : letter ≡ 90 → IsEnd r.rest
+    ends-so e = subst IsEnd (sym next.1) e
+
+    -- a word or a mark ends here
+    done : (n limit' : ℕ) → ((text : List ℕ) → numbers_from limit digits (letter ∷ text) ≡ option_map (λ more. n ∷ more) (numbers_from limit' 0 text))
+        → limit' ≡ labels + zeros (r.numbers ++ n ∷ []) → zeros (r.numbers ++ n ∷ []) ≤ index + 1 → IsReadTo labels letters (index + 1) limit' 0 (index + 1)
+    done n limit' step limit_is few = record {
+      numbers = r.numbers ++ n ∷ [];
+      front = r.front ++ (r.begun ++ letter ∷ []);
+      begun = [];
+      rest = next.0;
+      whole = r.whole ∙ (ap (λ x. r.front ++ (r.begun ++ x)) next.1 ∙ (ap (λ x. r.front ++ x) (sym (append_assoc r.begun (letter ∷ []) next.0)) ∙ sym (append_assoc r.front (r.begun ++ letter ∷ []) next.0)));
+      at_begin = longer;
+      at_index = let l = longer in omega (arith, l);
+      starts = r.starts;
+      reads = λ text.
+          ap (numbers_from labels 0) (append_assoc r.front (r.begun ++ letter ∷ []) text ∙ ap (λ x. r.front ++ x) (append_assoc r.begun (letter ∷ []) text))
+          ∙ (r.reads (r.begun ++ letter ∷ text) ∙ (ap (before_rest r.numbers) (r.goes (letter ∷ text) ∙ step text) ∙ before-push r.numbers n (numbers_from limit' 0 text)));
+      goes = λ text. refl;
+      counts = λ word. refl;
+      firsts = refl;
+      empty = λ e. refl;
+      some = λ e. refl;
+      limit_is = limit_is;
+      few = few;
+      small = omega arith;
+      room = λ e. absurd (e refl);
+    }
+      where
+        longer : length (r.front ++ (r.begun ++ letter ∷ [])) ≡ index + 1
+        longer = let a = length-append r.front (r.begun ++ letter ∷ []) in let b = length-append r.begun (letter ∷ []) in let c = r.at_index in omega (arith, a, b, c)
+
+    pub number-read : 65 ≤ letter → letter ≤ 84 → 20 * digits + (letter - 64) ≤ limit → IsReadTo labels letters (index + 1) limit 0 (index + 1)
+    number-read low high within =
+        let zs = zeros-number r.numbers (20 * digits + (letter - 64)) (omega (arith, low)) in
+        done (20 * digits + (letter - 64)) limit step (r.limit_is ∙ ap (λ z. labels + z) (sym zs)) (let f = r.few in omega (arith, zs, f))
+      where
+        first : is_first letter ≡ false
+        first = first-false letter high
+
+        last : is_last letter ≡ true
+        last = last-true letter low high
+
+        fits : nat_le (20 * digits + (letter - 64)) limit ≡ true
+        fits = le-true (20 * digits + (letter - 64)) limit within
+
+        step : (text : List ℕ) → numbers_from limit digits (letter ∷ text) ≡ option_map (λ more. (20 * digits + (letter - 64)) ∷ more) (numbers_from limit 0 text)
+        step text = rw (first, last, fits) refl
+
+    pub mark-read : letter ≡ 90 → digits ≡ 0 → IsReadTo labels letters (index + 1) (limit + 1) 0 (index + 1)
+    mark-read is none =
+        let zs = zeros-mark r.numbers in
+        done 0 (limit + 1) step (let l = r.limit_is in omega (arith, zs, l)) (let f = r.few in omega (arith, zs, f))
+      where
+        step : (text : List ℕ) → numbers_from limit digits (letter ∷ text) ≡ option_map (λ more. 0 ∷ more) (numbers_from (limit + 1) 0 text)
+        step text = ap (λ l. numbers_from limit digits (l ∷ text)) is ∙ ap (λ d. numbers_from limit d (90 ∷ text)) none
+
+    pub letter-read : (digits' : ℕ) → 85 ≤ letter → letter ≤ 89 → digits' ≡ 5 * digits + (letter - 84) → 20 * digits' < limit → IsReadTo labels letters (index + 1) limit digits' begin
+    letter-read digits' low high is within = record {
+      numbers = r.numbers;
+      front = r.front;
+      begun = r.begun ++ letter ∷ [];
+      rest = next.0;
+      whole = r.whole ∙ (ap (λ x. r.front ++ (r.begun ++ x)) next.1 ∙ ap (λ x. r.front ++ x) (sym (append_assoc r.begun (letter ∷ []) next.0)));
+      at_begin = r.at_begin;
+      at_index = let b = length-append r.begun (letter ∷ []) in let c = r.at_index in omega (arith, b, c);
+      starts = r.starts;
+      reads = r.reads;
+      goes = λ text. ap (numbers_from limit 0) (append_assoc r.begun (letter ∷ []) text) ∙ (r.goes (letter ∷ text) ∙ (first-goes text ∙ ap (λ d. numbers_from limit d text) (sym is)));
+      counts = λ word. ap (number_from 0) (append_assoc r.begun (letter ∷ []) word) ∙ (r.counts (letter ∷ word) ∙ (first-counts word ∙ ap (λ d. number_from d word) (sym is)));
+      firsts = list_all-append is_first r.begun (letter ∷ []) ∙ (ap (λ t. t && (is_first letter && true)) r.firsts ∙ ap (λ t. t && true) first);
+      empty = λ e. absurd (omega (arith, e, is, low));
+      some = λ e. absurd (not-empty r.begun letter e);
+      limit_is = r.limit_is;
+      few = let f = r.few in omega (arith, f);
+      small = omega (arith, within);
+      room = λ e. within;
+    }
+      where
+        first : is_first letter ≡ true
+        first = is_first-true letter low high
+
+        first-goes : (text : List ℕ) → numbers_from limit digits (letter ∷ text) ≡ numbers_from limit (5 * digits + (letter - 84)) text
+        first-goes text = rw first refl
+
+        first-counts : (word : Name) → number_from digits (letter ∷ word) ≡ number_from (5 * digits + (letter - 84)) word
+        first-counts word = rw first refl
+
+    -- every word that begins so is too great
+    counted : (word : Name) (n : ℕ) → IsNumber (r.begun ++ letter ∷ word) n → number_from digits (letter ∷ word) ≡ Some n
+    counted word n is = sym (r.counts (letter ∷ word)) ∙ number_of-placed (r.begun ++ letter ∷ word) n is
+
+    pub word-over : 65 ≤ letter → letter ≤ 84 → limit < 20 * digits + (letter - 64) → BeginsWith (IsOver limit r.begun) r.rest
+    word-over low high h =
+        breaks-here (IsOver limit r.begun) (or-right (is_first letter) (is_last letter) (last-true letter low high), λ word n is. last-over limit digits letter word n (first-false letter high) h (counted word n is))
+
+    pub begun-over : (digits' : ℕ) → 85 ≤ letter → letter ≤ 89 → digits' ≡ 5 * digits + (letter - 84) → limit ≤ 20 * digits' → BeginsWith (IsOver limit r.begun) r.rest
+    begun-over digits' low high is h =
+        breaks-here (IsOver limit r.begun) (
+          or-left (is_first letter) (is_last letter) first,
+          λ word n placed.
+              over limit (5 * digits + (letter - 84)) word n (omega (arith, h, is)) (sym (goes word) ∙ counted word n placed),
+        )
+      where
+        first : is_first letter ≡ true
+        first = is_first-true letter low high
+
+        goes : (word : Name) → number_from digits (letter ∷ word) ≡ number_from (5 * digits + (letter - 84)) word
+        goes word = rw first refl
+
+    pub other-here : (65 ≤ letter → letter ≤ 84 → ⊥) → (85 ≤ letter → letter ≤ 89 → ⊥) → letter ≢ 90 → BeginsWith IsOther r.rest
+    other-here last first mark = breaks-here IsOther (not-first, not-last, mark)
+      where
+        not-first : is_first letter ≡ false
+        not-first = by (is_first letter) refl
+          where
+            by : (t : Bool) → is_first letter ≡ t → is_first letter ≡ false
+            by false e = e
+            by true e = let b = first_bounds letter e in absurd (first b.0 b.1)
+
+        not-last : is_last letter ≡ false
+        not-last = by (is_last letter) refl
+          where
+            by : (t : Bool) → is_last letter ≡ t → is_last letter ≡ false
+            by false e = e
+            by true e = let b = last_bounds letter e in absurd (last b.0 b.1)

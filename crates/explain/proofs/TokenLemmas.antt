@@ -1,0 +1,141 @@
+-- Tokens that write no items.
+use Rattle.std.specs.Prelude.{◌≡◌, ℕ, ◌+◌, Bool, true, false, not, bytes_eq, ◌&&◌, ◌||◌, List, [], ◌∷◌, ◌++◌, length, map, refl}
+use Rattle.std.specs.List.{list_all, list_any}
+use Rattle.std.proofs.Common.{sym, ◌∙◌, ap, subst, arith, append_assoc, append-nil, length-append, inl, inr, true≢false}
+use Rattle.std.proofs.lemmas.List.Folds.{list_any-append}
+use Rattle.std.proofs.lemmas.Slice.Eq.{bytes_eq-Decides}
+use Rattle.mm_lex.specs.Alphabet.{Name, has_name, is_label}
+use Rattle.proof_code.specs.declared.item.Item.{Item}
+use Rattle.proof_code.specs.declared.item.Item.TheVariants.{Cite}
+use Rattle.proof_code.specs.Writes.{is_unfinished, is_compressed, begin, finish, Writes, WritesRow}
+use Rattle.explain.specs.declared.code.Test.TheVariants as test
+use Rattle.explain.specs.declared.why.LetterBreak.{LetterBreak}
+use Rattle.explain.specs.Breaks.{fails, joined, IsFirst, IsLetterBreak, IsListing, IsNotLabel, AreBroken}
+
+-- ---- the first word that fails a test
+
+module _ (t : Name → Bool) where
+  pub record IsPassed (words left : List Name) (index : ℕ) : Type 0 where
+    pub front : List Name
+    pub whole : words ≡ front ++ left
+    pub place : length front ≡ index
+    pub before : list_any t front ≡ false
+
+  pub none-passed : (words : List Name) → IsPassed words words 0
+  none-passed words = record { front = []; whole = refl; place = refl; before = refl }
+
+  module _ (words left : List Name) (index : ℕ) (p : IsPassed words left index) (word : Name) (rest : List Name) (e : left ≡ word ∷ rest) where
+    pub passed-more : t word ≡ false → IsPassed words rest (index + 1)
+    passed-more h = record {
+      front = p.front ++ word ∷ [];
+      whole = p.whole ∙ (ap (λ l. p.front ++ l) e ∙ sym (append_assoc p.front (word ∷ []) rest));
+      place = let l = length-append p.front (word ∷ []) in let q = p.place in omega (arith, l, q);
+      before = list_any-append t p.front (word ∷ []) ∙ (ap (λ b. b || (t word || false)) p.before ∙ ap (λ b. b || false) h);
+    }
+
+    pub first-here : t word ≡ true → IsFirst t words index word rest
+    first-here h = record { front = p.front; whole = p.whole ∙ ap (λ l. p.front ++ l) e; place = p.place; before = p.before; here = h }
+
+    pub room : index + 1 + length rest ≡ length words
+    room = let l = length-append p.front left in let q = p.place in let a = ap length e in let w = ap length p.whole in omega (arith, l, q, a, w)
+
+  pub all-passed : (words left : List Name) (index : ℕ) → IsPassed words left index → left ≡ [] → list_any t words ≡ false
+  all-passed words left index p e = ap (list_any t) (p.whole ∙ (ap (λ l. p.front ++ l) e ∙ append-nil p.front)) ∙ p.before
+
+-- ---- what passes
+
+or-false : (a b : Bool) → (a || b) ≡ false → (a ≡ false) × (b ≡ false)
+or-false true b h = cc
+or-false false b h = (refl, h)
+
+not-false : (a : Bool) → not a ≡ false → a ≡ true
+not-false true h = refl
+not-false false h = cc
+
+both : (a b : Bool) → a ≡ true → b ≡ true → (a && b) ≡ true
+both a b p q = rw (p, q) refl
+
+neither : (a b : Bool) → a ≡ false → b ≡ false → (a || b) ≡ false
+neither a b p q = rw (p, q) refl
+
+all-labels : (mandatory words : List Name) → list_any (fails mandatory test.NotLabel) words ≡ false → list_all is_label words ≡ true
+all-labels mandatory [] h = refl
+all-labels mandatory (w ∷ words) h =
+    let p = or-false (not (is_label w)) (list_any (fails mandatory test.NotLabel) words) h in
+    both (is_label w) (list_all is_label words) (not-false (is_label w) p.0) (all-labels mandatory words p.1)
+
+listed-labels : (mandatory words : List Name) → list_any (fails mandatory test.NotListed) words ≡ false
+    → (list_all is_label words ≡ true) × (list_any (λ label. has_name label mandatory) words ≡ false)
+listed-labels mandatory [] h = (refl, refl)
+listed-labels mandatory (w ∷ words) h =
+    let p = or-false (not (is_label w) || has_name w mandatory) (list_any (fails mandatory test.NotListed) words) h in
+    let q = or-false (not (is_label w)) (has_name w mandatory) p.0 in
+    let more = listed-labels mandatory words p.1 in
+    (both (is_label w) (list_all is_label words) (not-false (is_label w) q.0) more.0, neither (has_name w mandatory) (list_any (λ label. has_name label mandatory) words) q.1 more.1)
+
+-- ---- tokens that write
+
+pub finished : (mandatory tokens : List Name) → list_any (fails mandatory test.Unfinished) tokens ≡ false → is_unfinished tokens ≡ false
+finished mandatory tokens h = h
+
+pub writes-normal : (tokens mandatory : List Name) → is_unfinished tokens ≡ false → is_compressed tokens ≡ false → list_any (fails mandatory test.NotLabel) tokens ≡ false
+    → Writes tokens mandatory (map (λ token. Cite token) tokens)
+writes-normal tokens mandatory f c h = inr (c, (f, record { labels = all-labels mandatory tokens h; cites = refl }))
+
+pub writes-compressed : (tokens mandatory : List Name) (index : ℕ) (rest : List Name) (items : List Item) → is_unfinished tokens ≡ false → is_compressed tokens ≡ true
+    → (l : IsListing tokens mandatory index finish rest) → WritesRow (mandatory ++ l.first.front) (joined rest) items → Writes tokens mandatory items
+writes-compressed tokens mandatory index rest items f c l row =
+    let p = listed-labels mandatory l.first.front l.first.before in
+    inl (c, (f, record { listed = l.first.front; rest = rest; whole = l.whole ∙ ap (λ w. begin ∷ w) l.first.whole; labels = p.0; apart = p.1; letters = row }))
+
+-- ---- what the broken rule is
+
+not-true : (a : Bool) → not a ≡ true → a ≡ false
+not-true false h = refl
+not-true true h = cc
+
+pub not-label-normal : (tokens mandatory words : List Name) (token : ℕ) (word : Name) (rest : List Name) → words ≡ tokens → is_compressed tokens ≡ false
+    → IsFirst (fails mandatory test.NotLabel) words token word rest → IsNotLabel tokens mandatory token
+not-label-normal tokens mandatory words token word rest same c f = record {
+  word = word;
+  rest = rest;
+  here = inl (c, subst (λ w. IsFirst (fails mandatory test.NotLabel) w token word rest) same f);
+  other = not-true (is_label word) f.here;
+}
+
+module _ (tokens mandatory words : List Name) (index : ℕ) (word : Name) (rest : List Name) (starts : tokens ≡ begin ∷ words) (f : IsFirst (fails mandatory test.NotListed) words index word rest) where
+  listing-of : IsListing tokens mandatory index word rest
+  listing-of = record { words = words; whole = starts; first = f }
+
+  pub not-label-listed : (closing : Name) → closing ≡ finish → bytes_eq word closing ≡ false → is_label word ≡ false → IsNotLabel tokens mandatory (index + 1)
+  not-label-listed closing is other none = record {
+    word = word;
+    rest = rest;
+    here = inr (index, refl, listing-of, λ same. true≢false (sym ((bytes_eq-Decides word closing).1 (same ∙ sym is)) ∙ other));
+    other = none;
+  }
+
+  pub finish-listing : (closing : Name) → closing ≡ finish → bytes_eq word closing ≡ true → IsListing tokens mandatory index finish rest
+  finish-listing closing is same = subst (λ w. IsListing tokens mandatory index w rest) ((bytes_eq-Decides word closing).0 same ∙ is) listing-of
+
+module _ (tokens mandatory : List Name) (index : ℕ) (rest : List Name) (l : IsListing tokens mandatory index finish rest) (many : ℕ) (all : many ≡ length mandatory) (letters : List ℕ) (text : letters ≡ joined rest) where
+  count : length (mandatory ++ l.first.front) ≡ many + index
+  count = let a = length-append mandatory l.first.front in let p = l.first.place in omega (arith, a, p, all)
+
+  pub letters-broken : (broken : LetterBreak) → ((names : List Name) → length names ≡ many + index → IsLetterBreak names letters broken) → AreBroken tokens mandatory broken
+  letters-broken broken told = record {
+    index = index;
+    rest = rest;
+    listing = l;
+    letters = subst (λ letters. IsLetterBreak (mandatory ++ l.first.front) letters broken) text (told (mandatory ++ l.first.front) count);
+  }
+
+  pub letters-write : is_unfinished tokens ≡ false → is_compressed tokens ≡ true → ((names : List Name) → length names ≡ many + index → (items : List Item) × WritesRow names letters items)
+      → (items : List Item) × Writes tokens mandatory items
+  letters-write f c told =
+      let w = told (mandatory ++ l.first.front) count in
+      (w.0, writes-compressed tokens mandatory index rest w.0 f c l (subst (λ letters. WritesRow (mandatory ++ l.first.front) letters w.0) text w.1))
+
+pub joined-more : (front : List ℕ) (word : Name) (left rest : List Name) (letters more : List ℕ) → left ≡ word ∷ rest → letters ++ joined left ≡ front → more ≡ letters ++ word → more ++ joined rest ≡ front
+joined-more front word left rest letters more e so_far added =
+    ap (λ m. m ++ joined rest) added ∙ (append_assoc letters word (joined rest) ∙ (ap (λ l. letters ++ joined l) (sym e) ∙ so_far))

@@ -1,0 +1,19 @@
+use Rattle.std.proofs.Common.{sym, ◌∙◌, ap}
+use Rattle.std.specs.List.{list_any}
+use Rattle.explain.specs.declared.code.Test.TheVariants as test
+use Rattle.explain.specs.Breaks.{fails}
+use Rattle.explain.proofs.TokenLemmas.{writes-normal, not-label-normal}
+use Rattle.explain.proofs.code.code_break.Goals as goal
+
+pub unreachable-requires : goal.unreachable-requires
+unreachable-requires c =
+    let m = c.args.mandatory.now in
+    c.requires _ (writes-normal c.args.tokens.now m (sym (ap (list_any (fails m test.Unfinished)) c.iter.ensures.words) ∙ (rw c.in_default.is at c.first_of.ensures)) (sym c.is_compressed.ensures ∙ c.if-is_compressed.false)
+    (sym (ap (list_any (fails m test.NotLabel)) c.iter-2.ensures.words) ∙ c.in-None.ensures))
+
+pub returns : goal.returns
+returns c =
+    let m = c.args.mandatory.now in (
+      sym (ap (list_any (fails m test.Unfinished)) c.iter.ensures.words) ∙ (rw c.in_default.is at c.first_of.ensures),
+      not-label-normal c.args.tokens.now m c.iter-2.result _ _ _ c.iter-2.ensures.words (sym c.is_compressed.ensures ∙ c.if-is_compressed.false) c.in-Some-first_of.ensures,
+    )

@@ -1,0 +1,6 @@
+use Rattle.std.proofs.Common.{◌≡◌, ◌++◌}
+use Rattle.explain.specs.Breaks.{joined}
+use Rattle.explain.proofs.code.join.Given as goal
+
+abbrev pub invariant-loop-word : goal.invariant-loop-word
+invariant-loop-word l = l.letters.items ++ joined l.words ≡ joined l.initial.words

@@ -1,0 +1,134 @@
+-- Which rule of proof code tokens break that write no items: the first place at which they do.
+-- Source: Metamath, 4.3 (normal proofs) and appendix B (compressed proofs).
+-- The code reads tokens and letters from left to right.
+use Rattle.std.specs.Prelude.{◌≡◌, ◌≢◌, ℕ, suc, ◌+◌, ◌<◌, ◌≤◌, ◌⊎◌, Bool, not, ◌||◌, IsTrue, IsFalse, List, [], ◌∷◌, ◌++◌, length, flat_map}
+use Rattle.std.specs.List.{list_all, list_any}
+use Rattle.mm_lex.specs.Alphabet.{Name, has_byte, has_name, is_label}
+use Rattle.proof_code.specs.declared.item.Item.{Item}
+use Rattle.proof_code.specs.declared.item.Item.TheVariants.{Cite, Recall, Mark}
+use Rattle.proof_code.specs.Letters.{IsNumber, is_first, is_last}
+use Rattle.proof_code.specs.Writes.{question_mark, is_unfinished, is_compressed, begin, finish, WritesRow}
+use Rattle.explain.specs.declared.code.Test.{Test}
+use Rattle.explain.specs.declared.code.Test.TheVariants as test
+use Rattle.explain.specs.declared.why.CodeBreak.{CodeBreak}
+use Rattle.explain.specs.declared.why.CodeBreak.TheVariants.{Unfinished, NotLabel, Mandatory, Unclosed, Letters}
+use Rattle.explain.specs.declared.why.LetterBreak.{LetterBreak}
+use Rattle.explain.specs.declared.why.LetterFault.{LetterFault}
+use Rattle.explain.specs.declared.why.LetterFault.TheVariants.{NotLetter, NotEnded, EarlyMark, TooGreat}
+
+-- what may be wrong with a token
+abbrev pub fails : List Name → Test → Name → Bool
+fails mandatory test.Unfinished token = has_byte question_mark token
+fails mandatory test.NotLabel token = not (is_label token)
+fails mandatory test.NotListed token = not (is_label token) || has_name token mandatory
+
+-- the first of the words that fails the test, its index, and those behind it
+pub record IsFirst (test : Name → Bool) (words : List Name) (index : ℕ) (word : Name) (rest : List Name) : Type 0 where
+  pub front : List Name
+  pub whole : words ≡ front ++ word ∷ rest
+  pub place : length front ≡ index
+  pub before : IsFalse (list_any test front)
+  pub here : IsTrue (test word)
+
+-- ---- letters
+
+abbrev pub joined : List Name → List ℕ
+joined words = flat_map (λ word. word) words
+
+-- how many marks
+abbrev pub marks_in : List Item → ℕ
+marks_in [] = 0
+marks_in (Mark ∷ items) = suc (marks_in items)
+marks_in (Cite label ∷ items) = marks_in items
+marks_in (Recall k ∷ items) = marks_in items
+
+-- the letters end here, or mark
+abbrev pub IsEnd : List ℕ → Type 0
+IsEnd [] = Unit {0}
+IsEnd (letter ∷ letters) = letter ≡ 90
+
+abbrev pub BeginsWith : (ℕ → Type 0) → List ℕ → Type 0
+BeginsWith P [] = ⊥
+BeginsWith P (letter ∷ letters) = P letter
+
+-- no letter
+abbrev pub IsOther : ℕ → Type 0
+IsOther letter = IsFalse (is_first letter) × IsFalse (is_last letter) × (letter ≢ 90)
+
+-- no letter of the word yet, or a word that begins so has a number up to the limit
+abbrev pub IsAllowed : ℕ → List ℕ → Type 0
+IsAllowed limit begun = (begun ≡ []) ⊎ ((word : Name) × (n : ℕ) × IsNumber (begun ++ word) n × (n ≤ limit))
+
+-- a letter A to Y, with which every word that begins so has a number greater than the limit
+abbrev pub IsOver : ℕ → List ℕ → ℕ → Type 0
+IsOver limit begun letter = IsTrue (is_first letter || is_last letter) × ((word : Name) (n : ℕ) → IsNumber (begun ++ letter ∷ word) n → limit < n)
+
+-- behind the items, with letters U to Y of a word that is begun, the rest breaks the rule
+abbrev pub Breaks : LetterFault → ℕ → List Item → List ℕ → List ℕ → Type 0
+Breaks NotLetter limit items begun rest = BeginsWith IsOther rest
+Breaks NotEnded limit items begun rest = (begun ≢ []) × IsEnd rest
+Breaks EarlyMark limit items begun rest = (items ≡ []) × (begun ≡ []) × BeginsWith (λ letter. letter ≡ 90) rest
+Breaks TooGreat limit items begun rest = BeginsWith (IsOver limit begun) rest
+
+-- what is pointed at: the letter itself, or where the word begins
+abbrev pub place_in : LetterFault → ℕ → ℕ → ℕ
+place_in NotLetter front begun = front + begun
+place_in NotEnded front begun = front
+place_in EarlyMark front begun = front
+place_in TooGreat front begun = front
+
+-- the letters before the word write items, and it breaks a rule
+pub record IsLetterBreak (labels : List Name) (letters : List ℕ) (broken : LetterBreak) : Type 0 where
+  pub front : List ℕ
+  pub items : List Item
+  pub begun : List ℕ
+  pub rest : List ℕ
+  pub whole : letters ≡ front ++ (begun ++ rest)
+  pub reads : WritesRow labels front items
+  pub firsts : IsTrue (list_all is_first begun)
+  pub allowed : IsAllowed (length labels + marks_in items) begun
+  pub breaks : Breaks broken.fault (length labels + marks_in items) items begun rest
+  pub place : broken.letter ≡ place_in broken.fault (length front) (length begun)
+
+-- ---- tokens
+
+-- the tokens behind `(`, of which the first that is no label to be listed has this index and is this one
+pub record IsListing (tokens mandatory : List Name) (index : ℕ) (word : Name) (rest : List Name) : Type 0 where
+  pub words : List Name
+  pub whole : tokens ≡ begin ∷ words
+  pub first : IsFirst (fails mandatory test.NotListed) words index word rest
+
+pub record IsNotLabel (tokens mandatory : List Name) (token : ℕ) : Type 0 where
+  pub word : Name
+  pub rest : List Name
+  pub here : (IsFalse (is_compressed tokens) × IsFirst (fails mandatory test.NotLabel) tokens token word rest)
+      ⊎ ((index : ℕ) × (token ≡ index + 1) × IsListing tokens mandatory index word rest × (word ≢ finish))
+  pub other : IsFalse (is_label word)
+
+pub record IsMandatory (tokens mandatory : List Name) (token : ℕ) : Type 0 where
+  pub index : ℕ
+  pub word : Name
+  pub rest : List Name
+  pub token_is : token ≡ index + 1
+  pub listing : IsListing tokens mandatory index word rest
+  pub label : IsTrue (is_label word)
+  pub named : IsTrue (has_name word mandatory)
+
+pub record IsUnclosed (tokens mandatory : List Name) : Type 0 where
+  pub words : List Name
+  pub whole : tokens ≡ begin ∷ words
+  pub listed : IsFalse (list_any (fails mandatory test.NotListed) words)
+
+pub record AreBroken (tokens mandatory : List Name) (broken : LetterBreak) : Type 0 where
+  pub index : ℕ
+  pub rest : List Name
+  pub listing : IsListing tokens mandatory index finish rest
+  pub letters : IsLetterBreak (mandatory ++ listing.first.front) (joined rest) broken
+
+-- the rule that the tokens break, with these mandatory labels; but for a `?` no token has one
+abbrev pub IsBreak : List Name → List Name → CodeBreak → Type 0
+IsBreak tokens mandatory (Unfinished token) = (word : Name) × (rest : List Name) × IsFirst (fails mandatory test.Unfinished) tokens token word rest
+IsBreak tokens mandatory (NotLabel token) = IsFalse (is_unfinished tokens) × IsNotLabel tokens mandatory token
+IsBreak tokens mandatory (Mandatory token) = IsFalse (is_unfinished tokens) × IsMandatory tokens mandatory token
+IsBreak tokens mandatory Unclosed = IsFalse (is_unfinished tokens) × IsUnclosed tokens mandatory
+IsBreak tokens mandatory (Letters broken) = IsFalse (is_unfinished tokens) × AreBroken tokens mandatory broken

@@ -1,0 +1,36 @@
+-- Letters of a compressed proof read up to one of them, for the private functions.
+-- Source: Metamath, appendix B.
+-- This is the code's way to read; what it finds is told by `Breaks`.
+use Rattle.std.specs.Prelude.{◌≡◌, ◌≢◌, ℕ, zero, suc, ◌+◌, ◌*◌, ◌<◌, ◌≤◌, IsTrue, IsFalse, List, [], ◌∷◌, ◌++◌, length}
+use Rattle.std.specs.List.{list_all}
+use Rattle.mm_lex.specs.Alphabet.{Name}
+use Rattle.proof_code.specs.Letters.{is_first, number_from}
+use Rattle.proof_code.specs.Reading.{before_rest}
+use Rattle.proof_code.specs.Text.{numbers_from, starts_with_mark}
+
+-- how many marks
+abbrev pub zeros : List ℕ → ℕ
+zeros [] = 0
+zeros (zero ∷ numbers) = suc (zeros numbers)
+zeros (suc n ∷ numbers) = zeros numbers
+
+-- before the letter at an index stand whole words and marks up to `begin`, and letters U to Y that come to `digits`
+pub record IsReadTo (labels : ℕ) (letters : List ℕ) (index limit digits begin : ℕ) : Type 0 where
+  pub numbers : List ℕ
+  pub front : List ℕ
+  pub begun : List ℕ
+  pub rest : List ℕ
+  pub whole : letters ≡ front ++ (begun ++ rest)
+  pub at_begin : length front ≡ begin
+  pub at_index : length front + length begun ≡ index
+  pub starts : IsFalse (starts_with_mark letters)
+  pub reads : (text : List ℕ) → numbers_from labels 0 (front ++ text) ≡ before_rest numbers (numbers_from limit 0 text)
+  pub goes : (text : List ℕ) → numbers_from limit 0 (begun ++ text) ≡ numbers_from limit digits text
+  pub counts : (word : Name) → number_from 0 (begun ++ word) ≡ number_from digits word
+  pub firsts : IsTrue (list_all is_first begun)
+  pub empty : digits ≡ 0 → begun ≡ []
+  pub some : begun ≡ [] → digits ≡ 0
+  pub limit_is : limit ≡ labels + zeros numbers
+  pub few : zeros numbers ≤ index
+  pub small : 20 * digits ≤ limit
+  pub room : digits ≢ 0 → 20 * digits < limit
