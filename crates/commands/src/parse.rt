@@ -41,11 +41,14 @@ fn answered<'a>(
     }
 }
 
-/// The error, behind a hint where the words but for the last ask about a database: that may be its file.
+/// The error, behind a hint where the words but for the last ask about a database and the last is no option: that may be its file.
 fn with_hint(alloc: Global, error: Error, words: &[&str]) -> Result<String, AllocError> {
     let Some((file, front)) = words.split_last() else {
         return format!(in alloc; "{error}");
     };
+    if file.as_bytes().first() == Some(&b'-') {
+        return format!(in alloc; "{error}");
+    }
     match request(alloc, front) {
         Ok(Request::Outline) | Ok(Request::Ask(_)) => hint(alloc, error, file, front),
         _ => format!(in alloc; "{error}"),
