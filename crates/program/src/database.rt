@@ -1,11 +1,11 @@
 //! The commands on a database: `outline`, and the questions on a text that is applied to an empty library.
 use crate::proofs::{Wanted, print_proof};
 use crate::refusal::{print_outline_reason, print_refusal};
-use crate::streams::{ReadFailure, TEXT_LIMIT, print, read_text};
+use crate::streams::{NO_MEMORY, ReadFailure, print, print_no_memory, read_text};
 use bytes::Bytes;
 use commands::Question;
 use extract::{ExtractFault, extract};
-use library::{AskFault, Cause, Entry, Library, Submission, Verdict};
+use library::{AskFault, Cause, Entry, Library, MOST_BYTES, Submission, Verdict};
 use mm_read::Stmt;
 use outline::{outline_text, push_number};
 use printed::{push_assertions, push_labels, push_tree};
@@ -26,11 +26,11 @@ pub fn print_outline<I: Read, O: Write, F: Write>(
         Err(failure) => return print_failure(output, failure),
     };
     let text = text.as_slice();
-    if text.len() > TEXT_LIMIT {
+    if text.len() > MOST_BYTES {
         return print_refusal(alloc, text, Cause::TooLong, output, faults);
     }
     let Ok(lines) = outline_text(alloc, text) else {
-        return print(output, b"refused Memory\n", 1);
+        return print_no_memory(output);
     };
     if print(output, lines.as_slice(), 0) != 0 {
         return 1;
@@ -46,7 +46,7 @@ pub fn print_outline<I: Read, O: Write, F: Write>(
 fn print_failure<O: Write>(output: &mut O, failure: ReadFailure) -> u8 {
     match failure {
         ReadFailure::Input => print(output, b"refused Input\n", 1),
-        ReadFailure::Memory => print(output, b"refused Memory\n", 1),
+        ReadFailure::Memory => print_no_memory(output),
     }
 }
 
@@ -55,40 +55,64 @@ fn print_failure<O: Write>(output: &mut O, failure: ReadFailure) -> u8 {
 pub fn ask<R: Threads + Sync, I: Read, O: Write, F: Write>(
     rt: &R,
     alloc: Global,
-    question: Question<'_>,
+    question: &Question<'_>,
     input: &mut I,
     output: &mut O,
     faults: &mut F,
 ) -> u8 {
-    let text = match read_text(alloc, input) {
-        Ok(text) => text,
-        Err(failure) => return print_failure(output, failure),
-    };
-    let Ok(text) = Bytes::from_vec(text) else {
-        return print(output, b"refused Memory\n", 1);
-    };
+    match read_text(alloc, input) {
+        Ok(text) => match Bytes::from_vec(text) {
+            Ok(text) => ask_text(rt, alloc, question, &text, output, faults),
+            Err(_) => print_no_memory(output),
+        },
+        Err(failure) => print_failure(output, failure),
+    }
+}
+
+/// The same about a text.
+fn ask_text<R: Threads + Sync, O: Write, F: Write>(
+    rt: &R,
+    alloc: Global,
+    question: &Question<'_>,
+    text: &Bytes,
+    output: &mut O,
+    faults: &mut F,
+) -> u8 {
     let mut library = Library::new(alloc);
-    match judge(rt, &mut library, &text) {
+    ask_library(rt, alloc, question, text, &mut library, output, faults)
+}
+
+/// The same, where the library is empty.
+fn ask_library<R: Threads + Sync, O: Write, F: Write>(
+    rt: &R,
+    alloc: Global,
+    question: &Question<'_>,
+    text: &Bytes,
+    library: &mut Library,
+    output: &mut O,
+    faults: &mut F,
+) -> u8 {
+    match judge(rt, library, text) {
         Ok(Verdict::Refused(cause)) => print_refusal(alloc, text.as_slice(), cause, output, faults),
-        Ok(_) => print_answer(alloc, question, &library, output),
-        Err(_) => print(output, b"refused Memory\n", 1),
+        Ok(_) => print_answer(alloc, question, library, output),
+        Err(_) => print_no_memory(output),
     }
 }
 
 /// Prints the answer about a library, or why there is none.
 fn print_answer<O: Write>(
     alloc: Global,
-    question: Question<'_>,
+    question: &Question<'_>,
     library: &Library,
     output: &mut O,
 ) -> u8 {
-    let answered = match question {
-        Question::Check => proved(alloc, library.statements()).map_err(AskFault::from),
-        Question::List => list(alloc, library).map_err(AskFault::from),
-        Question::Export => library.export().map_err(AskFault::from),
-        Question::Tree { label } => tree(alloc, library, label),
-        Question::Trace { label } => trace(alloc, library, label),
-        Question::Usage { label, all } => usage(alloc, library, label, all),
+    match question {
+        Question::Check => print_lines(output, proved(alloc, library.statements())),
+        Question::List => print_lines(output, list(alloc, library)),
+        Question::Export => print_lines(output, export(library)),
+        Question::Tree { label } => print_lines(output, tree(alloc, library, label)),
+        Question::Trace { label } => print_lines(output, trace(alloc, library, label)),
+        Question::Usage { label, all } => print_lines(output, usage(alloc, library, label, *all)),
         Question::Proof {
             label,
             essential,
@@ -96,15 +120,17 @@ fn print_answer<O: Write>(
         } => {
             let wanted = Wanted {
                 label: label.as_bytes(),
-                is_essential: essential,
-                form,
+                is_essential: *essential,
+                form: *form,
             };
-            return print_proof(alloc, library, &wanted, output);
+            print_proof(alloc, library, &wanted, output)
         }
-        Question::Extract { labels } => {
-            return print_extract(alloc, library, labels.as_slice(), output);
-        }
-    };
+        Question::Extract { labels } => print_extract(alloc, library, labels.as_slice(), output),
+    }
+}
+
+/// Prints the lines of an answer, or why there is none; the answer is the exit status.
+fn print_lines<O: Write>(output: &mut O, answered: Result<Vec<u8>, AskFault>) -> u8 {
     match answered {
         Ok(lines) => print(output, lines.as_slice(), 0),
         Err(fault) => print(output, fault_line(fault), 1),
@@ -125,11 +151,16 @@ fn print_extract<O: Write>(
 }
 
 /// The assertions, a line each.
-fn list(alloc: Global, library: &Library) -> Result<Vec<u8>, AllocError> {
+fn list(alloc: Global, library: &Library) -> Result<Vec<u8>, AskFault> {
     let list = library.list()?;
     let mut lines = Vec::new(alloc);
     push_assertions(&mut lines, list.as_slice())?;
     Ok(lines)
+}
+
+/// The statements in the export form.
+fn export(library: &Library) -> Result<Vec<u8>, AskFault> {
+    Ok(library.export()?)
 }
 
 /// The derivation of the `$p` of the label, a line a node.
@@ -171,7 +202,7 @@ fn judge<R: Threads + Sync>(
 }
 
 /// `proved` and how many `$p` there are.
-fn proved(alloc: Global, statements: &[Stmt]) -> Result<Vec<u8>, AllocError> {
+fn proved(alloc: Global, statements: &[Stmt]) -> Result<Vec<u8>, AskFault> {
     let mut count = 0u64;
     for statement in statements {
         if let Stmt::Prove { .. } = statement {
@@ -190,7 +221,7 @@ pub(crate) fn fault_line(fault: AskFault) -> &'static [u8] {
         AskFault::NoLabel => b"refused NoLabel\n",
         AskFault::NotProvable => b"refused NotProvable\n",
         AskFault::TooLarge => b"refused TooLarge\n",
-        AskFault::Memory => b"refused Memory\n",
+        AskFault::Memory => NO_MEMORY,
     }
 }
 
@@ -200,6 +231,6 @@ fn extract_line(fault: ExtractFault) -> &'static [u8] {
         ExtractFault::NoLabel => b"refused NoLabel\n",
         ExtractFault::NotAssertion => b"refused NotAssertion\n",
         ExtractFault::SameLabel => b"refused SameLabel\n",
-        ExtractFault::Memory => b"refused Memory\n",
+        ExtractFault::Memory => NO_MEMORY,
     }
 }

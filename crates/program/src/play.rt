@@ -1,7 +1,7 @@
 //! The command `play`: a script drives one world of nodes.
 use crate::answers::{ANSWER_ROOM, answer_bytes};
 use crate::script_input::{print_unread, read_script};
-use crate::streams::print;
+use crate::streams::{print, print_no_memory};
 use net::{Event, StepFault};
 use printed::{push_decided, push_export, push_library, push_log, push_packet, push_posted};
 use scripts::PlayLine;
@@ -23,7 +23,7 @@ pub fn play<I: Read, O: Write>(
     };
     match drive(alloc, weights, lines, output) {
         Ok(status) => status,
-        Err(_) => print(output, b"refused Memory\n", 1),
+        Err(_) => print_no_memory(output),
     }
 }
 
@@ -37,11 +37,21 @@ fn drive<O: Write>(
     output: &mut O,
 ) -> Result<u8, StepFault> {
     let mut world = World::new(alloc, weights)?;
+    answer_all(alloc, &mut world, lines, output)
+}
+
+/// Runs the lines on a world.
+fn answer_all<O: Write>(
+    alloc: Global,
+    world: &mut World,
+    lines: Vec<PlayLine>,
+    output: &mut O,
+) -> Result<u8, StepFault> {
     let mut text = Vec::with_capacity(alloc, ANSWER_ROOM)?;
     let mut status = 0;
     for line in lines {
         text.clear();
-        let answered = answer(&mut world, line, &mut text);
+        let answered = answer(world, line, &mut text);
         let bytes = answer_bytes(answered, text.as_slice());
         if bytes.starts_with(b"refused") {
             status = 1;
