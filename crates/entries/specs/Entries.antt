@@ -42,9 +42,13 @@ pub record AreShapedParts (p : Parts) : Type 0 where
 abbrev pub made : Head → List ℕ → Assertion → Entry
 made h codes a = record { kind = h.kind; label = h.label; names = h.names; links = h.links; symbols = codes; assertion = a }
 
+-- no parts, and whether they are whole
+abbrev pub partless : Bool → Assertion
+partless whole = record { whole = whole; hypotheses = []; asked = []; heads = []; groups = [] }
+
 -- a statement that has no parts of an assertion
 abbrev pub plain : Head → List ℕ → Entry
-plain h codes = made h codes (record { whole = false; hypotheses = []; asked = []; heads = []; groups = [] })
+plain h codes = made h codes (partless false)
 
 -- the statement that was read
 abbrev pub seen : EntryRef → Assertion → Entry
