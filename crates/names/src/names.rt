@@ -5,7 +5,7 @@ ghost use Rattle.names.specs.Codes.{name_at, code_of, AreDistinct};
 
 use crate::kept::Kept;
 use crate::keys::{APART, key};
-use crate::table::{NO_NAME, Slot, free_place, search, table};
+use crate::table::{NO_NAME, Slot, free_place, make_slot, search, table};
 use crate::texts::Texts;
 use std::alloc::{AllocError, Global};
 use std::marker::Model;
@@ -21,9 +21,6 @@ pub struct Names {
     slots: Vec<Slot>,
     /// How many slots are taken, those of names that are gone with them.
     taken: usize,
-    /// A slot with a code below this one has the key of that code's name. Another may stand there since
-    /// a name was taken away, and its code given to a later one.
-    sound: u32,
 }
 
 impl Model for Names {
@@ -35,7 +32,7 @@ impl Model for Names {
 
     ghost view = { λ a. a.texts };
 
-    ghost invariant = { λ a. (length a.texts < 2 ^ 32) × (AreDistinct a.texts × IsTable a.slots.items a.kept a.texts a.sound) };
+    ghost invariant = { λ a. (length a.texts < 2 ^ 32) × (AreDistinct a.texts × IsTable a.slots.items a.kept a.texts) };
 }
 
 impl Names {
@@ -48,7 +45,6 @@ impl Names {
             kept: Kept::new(alloc),
             slots: Vec::new(alloc),
             taken: 0,
-            sound: NO_NAME,
         }
     }
 
@@ -65,7 +61,6 @@ impl Names {
             kept,
             slots,
             taken,
-            sound: NO_NAME,
         })
     }
 
@@ -81,7 +76,7 @@ impl Names {
         ensures { result ≡ code_of self.now name.now }
     {
         let slots = self.slots.as_slice();
-        search(slots, &self.kept.overflow, &self.texts, self.sound, name)
+        search(slots, &self.kept, &self.texts, name)
     }
 
     /// The name of a code.
@@ -125,10 +120,7 @@ impl Names {
             Some(at) => {
                 self.kept.push(code, key)?;
                 self.texts.push(name)?;
-                self.slots[at] = Slot {
-                    key,
-                    number: code as u32,
-                };
+                self.slots[at] = make_slot(key, code as u32);
                 self.taken = self.taken.saturating_add(1);
             }
             None => {
@@ -147,7 +139,6 @@ impl Names {
         if self.taken >= self.slots.len() / 4 * 3 {
             self.slots = table(alloc, &self.texts, &mut self.kept)?;
             self.taken = self.texts.len();
-            self.sound = NO_NAME;
         }
         Ok(())
     }
@@ -160,7 +151,6 @@ impl Names {
             return;
         }
         self.kept.truncate(&self.texts, len);
-        self.sound = len.min(self.sound as usize) as u32;
         self.texts.truncate(len);
     }
 
