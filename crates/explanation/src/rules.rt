@@ -97,7 +97,7 @@ fn explain_statement(
     }
     let (earlier, rest) = broken.statements.split_at(index);
     let stmt = &rest[0];
-    match witness_of(earlier, stmt, broken.rule) {
+    match witness_of(alloc, earlier, stmt, broken.rule)? {
         Some(Witness::Statement) => explain_alone(alloc, page, broken),
         Some(Witness::Symbol { symbol }) => explain_symbol(alloc, page, broken, stmt, symbol),
         Some(Witness::Twice { first, second }) => {

@@ -1,2 +1,3 @@
 pub mod SearchLemmas
+pub mod MarksLemmas
 pub mod OffenceLemmas

@@ -1,5 +1,9 @@
 -- From what the searches tell to a witness of each rule.
-use Rattle.std.proofs.Common.{◌≡◌, Bool, true, false, not, ◌&&◌, ◌||◌, List, [], ◌∷◌, refl, sym, ◌∙◌, ap, Option, Some, None, IsSomeAnd, MatchOption, true≢false, slice_get}
+use Rattle.std.proofs.Common.{◌≡◌, ℕ, Bool, true, false, not, ◌&&◌, ◌||◌, List, [], ◌∷◌, refl, sym, ◌∙◌, ap, Option, Some, None, IsSomeAnd, MatchOption, IsTrue, true≢false, slice_get}
+use Rattle.std.specs.Prelude.{IfOk, Result}
+use Rattle.std.proofs.lemmas.Result.{IfOk-weaker}
+use Rattle.scope.specs.declared.rule.Rule.{Rule}
+use Rattle.offence.specs.declared.symbols.Test.{Test}
 use Rattle.std.specs.List.{list_any, list_all}
 use Rattle.mm_lex.specs.Alphabet.{Name, has_name}
 use Rattle.mm_read.specs.declared.stmt.Stmt.{Stmt}
@@ -13,7 +17,8 @@ use Rattle.offence.specs.declared.witness.Witness.TheVariants.{Statement, Symbol
 use Rattle.offence.specs.declared.search.Part.TheVariants as part
 use Rattle.offence.specs.declared.symbols.Test.TheVariants as test
 use Rattle.offence.specs.Search.{meets, fails}
-use Rattle.offence.specs.Offends.{Offends, IsRepeated, IsSymbolOf, IsLabelOf, typed_expr}
+use Rattle.offence.proofs.MarksLemmas.{or_comm}
+use Rattle.offence.specs.Offends.{Offends, Among, IsTwice, IsRepeated, IsSymbolOf, IsLabelOf, typed_expr}
 
 -- ---- lists and tests
 
@@ -36,12 +41,6 @@ any_or p q r same (x ∷ xs) = swap (p x) (q x) (list_any p xs) (list_any q xs) 
     swap false true false d = refl
     swap false false c d = refl
 
-or_comm : (a b : Bool) → (a || b) ≡ (b || a)
-or_comm true true = refl
-or_comm true false = refl
-or_comm false true = refl
-or_comm false false = refl
-
 or_left : (a b c : Bool) → ((a || b) || c) ≡ (a || (b || c))
 or_left true b c = refl
 or_left false b c = refl
@@ -54,9 +53,9 @@ fixed_is S x = any_or (λ s. has_name x (constants s)) (λ s. has_label x (label
 
 -- ---- witnesses
 
-some_witness : (r : Option Witness) (Q : Type 0) (R P : Witness → Type 0) → MatchOption r Q R → (Q → ⊥) → ((w : Witness) → R w → P w) → IsSomeAnd r P
-some_witness None Q R P told not on = absurd (not told)
-some_witness (Some w) Q R P told not on = on w told
+some_witness : (Q : Type 0) (R P : Witness → Type 0) → (Q → ⊥) → ((w : Witness) → R w → P w) → (found : Option Witness) → MatchOption found Q R → IsSomeAnd found P
+some_witness Q R P not on None told = absurd (not told)
+some_witness Q R P not on (Some w) told = on w told
 
 contradict : {b : Bool} → b ≡ true → b ≡ false → ⊥
 contradict t f = true≢false (sym t ∙ f)
@@ -64,51 +63,63 @@ contradict t f = true≢false (sym t ∙ f)
 both_true : (a b : Bool) → a ≡ true → b ≡ true → (a && b) ≡ true
 both_true a b e f = ap (λ y. y && b) e ∙ f
 
-pub G2_twice : (S : Database) (names : List Name) (r : Option Witness) → list_any (fails S test.Named) names ≡ false → MatchOption r (all_different names ≡ true) (IsRepeated names)
-    → keeps S (Const names) G2 ≡ false → IsSomeAnd r (Offends S (Const names) G2)
-G2_twice S names r none told broken =
-    some_witness r (all_different names ≡ true) (IsRepeated names) (Offends S (Const names) G2) told
-    (λ differ. contradict (both_true _ _ (none_all (fails S test.Named) (λ x. not (was_symbol S x || was_label S x)) (λ x. ap not (named_is S x)) names none) differ) broken) on
+-- of what stands twice
+by_twice : {E : Type 0} (names : List Name) (r : Result (Option Witness) E) (P : Witness → Type 0) → (all_different names ≡ true → ⊥) → ((j k : ℕ) → IsTwice names j k → P (Twice j k))
+    → IfOk r (λ found. MatchOption found (all_different names ≡ true) (IsRepeated names)) → IfOk r (λ found. IsSomeAnd found P)
+by_twice names r P not is = IfOk-weaker r _ _ (some_witness (all_different names ≡ true) (IsRepeated names) P not on)
   where
-    on : (w : Witness) → IsRepeated names w → Offends S (Const names) G2 w
+    on : (w : Witness) → IsRepeated names w → P w
     on Statement h = absurd h
     on (Symbol k) h = absurd h
-    on (Twice j k) h = h
+    on (Twice j k) h = is j k h
     on (Earlier k i) h = absurd h
     on (Label i) h = absurd h
 
-pub G3_twice : (S : Database) (names : List Name) (r : Option Witness) → list_any (fails S test.Taken) names ≡ false → MatchOption r (all_different names ≡ true) (IsRepeated names)
-    → keeps S (Var names) G3 ≡ false → IsSomeAnd r (Offends S (Var names) G3)
+-- of a symbol of a list that fails a test, which all would pass where the rule is kept
+by_symbol : {E : Type 0} (S : Database) (s : Stmt) (rule : Rule) (t : Test) (pass : Name → Bool) (expr : Expr) (r : Result (Option Witness) E)
+    → keeps S s rule ≡ list_all pass expr → ((x : Name) → pass x ≡ not (fails S t x)) → ((k : ℕ) → Among expr k (λ x. IsTrue (fails S t x)) → Offends S s rule (Symbol k))
+    → IfOk r (λ found. MatchOption found (list_any (fails S t) expr ≡ false) (IsSymbolOf expr (fails S t)))
+    → keeps S s rule ≡ false → IfOk r (λ found. IsSomeAnd found (Offends S s rule))
+by_symbol S s rule t pass expr r keeps_is same is told broken =
+    IfOk-weaker r _ _ (some_witness (list_any (fails S t) expr ≡ false) (IsSymbolOf expr (fails S t)) (Offends S s rule) none on) told
+  where
+    none : list_any (fails S t) expr ≡ false → ⊥
+    none h = contradict (keeps_is ∙ none_all (fails S t) pass same expr h) broken
+
+    on : (w : Witness) → IsSymbolOf expr (fails S t) w → Offends S s rule w
+    on Statement h = absurd h
+    on (Symbol k) h = is k h
+    on (Twice j k) h = absurd h
+    on (Earlier k i) h = absurd h
+    on (Label i) h = absurd h
+
+pub G2_twice : {E : Type 0} (S : Database) (names : List Name) (r : Result (Option Witness) E) → list_any (fails S test.Named) names ≡ false
+    → IfOk r (λ found. MatchOption found (all_different names ≡ true) (IsRepeated names))
+    → keeps S (Const names) G2 ≡ false → IfOk r (λ found. IsSomeAnd found (Offends S (Const names) G2))
+G2_twice S names r none told broken =
+    by_twice names r (Offends S (Const names) G2)
+    (λ differ. contradict (both_true _ _ (none_all (fails S test.Named) (λ x. not (was_symbol S x || was_label S x)) (λ x. ap not (named_is S x)) names none) differ) broken) (λ j k h. h) told
+
+pub G3_twice : {E : Type 0} (S : Database) (names : List Name) (r : Result (Option Witness) E) → list_any (fails S test.Taken) names ≡ false
+    → IfOk r (λ found. MatchOption found (all_different names ≡ true) (IsRepeated names))
+    → keeps S (Var names) G3 ≡ false → IfOk r (λ found. IsSomeAnd found (Offends S (Var names) G3))
 G3_twice S names r none told broken =
-    some_witness r (all_different names ≡ true) (IsRepeated names) (Offends S (Var names) G3) told
-    (λ differ. contradict (both_true _ _ (none_all (fails S test.Taken) (λ x. not (is_variable S x || is_constant S x || was_label S x)) same names none) differ) broken) on
+    by_twice names r (Offends S (Var names) G3)
+    (λ differ. contradict (both_true _ _ (none_all (fails S test.Taken) (λ x. not (is_variable S x || is_constant S x || was_label S x)) same names none) differ) broken) (λ j k h. h) told
   where
     same : (x : Name) → not (is_variable S x || is_constant S x || was_label S x) ≡ not (fails S test.Taken x)
     same x = ap not (or_left (is_variable S x) (is_constant S x) (was_label S x) ∙ ap (λ b. is_variable S x || b) (fixed_is S x))
 
-    on : (w : Witness) → IsRepeated names w → Offends S (Var names) G3 w
-    on Statement h = absurd h
-    on (Symbol k) h = absurd h
-    on (Twice j k) h = h
-    on (Earlier k i) h = absurd h
-    on (Label i) h = absurd h
+not_not : (b : Bool) → b ≡ not (not b)
+not_not true = refl
+not_not false = refl
 
-pub G8_twice : (S : Database) (names : List Name) (r : Option Witness) → list_any (fails S test.Inactive) names ≡ false → MatchOption r (all_different names ≡ true) (IsRepeated names)
-    → keeps S (Disj names) G8 ≡ false → IsSomeAnd r (Offends S (Disj names) G8)
+pub G8_twice : {E : Type 0} (S : Database) (names : List Name) (r : Result (Option Witness) E) → list_any (fails S test.Inactive) names ≡ false
+    → IfOk r (λ found. MatchOption found (all_different names ≡ true) (IsRepeated names))
+    → keeps S (Disj names) G8 ≡ false → IfOk r (λ found. IsSomeAnd found (Offends S (Disj names) G8))
 G8_twice S names r none told broken =
-    some_witness r (all_different names ≡ true) (IsRepeated names) (Offends S (Disj names) G8) told
-    (λ differ. contradict (both_true _ _ differ (none_all (fails S test.Inactive) (is_variable S) (λ x. twice_not (is_variable S x)) names none)) broken) on
-  where
-    twice_not : (b : Bool) → b ≡ not (not b)
-    twice_not true = refl
-    twice_not false = refl
-
-    on : (w : Witness) → IsRepeated names w → Offends S (Disj names) G8 w
-    on Statement h = absurd h
-    on (Symbol k) h = absurd h
-    on (Twice j k) h = h
-    on (Earlier k i) h = absurd h
-    on (Label i) h = absurd h
+    by_twice names r (Offends S (Disj names) G8)
+    (λ differ. contradict (both_true _ _ differ (none_all (fails S test.Inactive) (is_variable S) (λ x. not_not (is_variable S x)) names none)) broken) (λ j k h. h) told
 
 keeps_label : (S : Database) (s : Stmt) → keeps S s G4 ≡ is_fresh_label S (label_of s)
 keeps_label S Open = refl
@@ -124,8 +135,8 @@ keeps_label S (Prove l e p) = refl
 pub G4_is : (S : Database) (s : Stmt) (x : Name) (r : Option Witness) → label_of s ≡ Some x → MatchOption r (list_any (meets part.Named x) S ≡ false) (IsLabelOf S x)
     → keeps S s G4 ≡ false → IsSomeAnd r (Offends S s G4)
 G4_is S s x r is told broken =
-    some_witness r (list_any (meets part.Named x) S ≡ false) (IsLabelOf S x) (Offends S s G4) told
-    (λ none. contradict (keeps_label S s ∙ (ap (is_fresh_label S) is ∙ ap not (or_comm (was_label S x) (was_symbol S x) ∙ (named_is S x ∙ none)))) broken) on
+    some_witness (list_any (meets part.Named x) S ≡ false) (IsLabelOf S x) (Offends S s G4)
+    (λ none. contradict (keeps_label S s ∙ (ap (is_fresh_label S) is ∙ ap not (or_comm (was_label S x) (was_symbol S x) ∙ (named_is S x ∙ none)))) broken) on r told
   where
     on : (w : Witness) → IsLabelOf S x w → Offends S s G4 w
     on Statement h = absurd h
@@ -145,27 +156,18 @@ keeps_expr S (Ess l e) = refl
 keeps_expr S (Axiom l e) = refl
 keeps_expr S (Prove l e p) = refl
 
-pub G5_is : (S : Database) (s : Stmt) (expr : Expr) (r : Option Witness) → expr_of s ≡ expr → MatchOption r (list_any (fails S test.Unknown) expr ≡ false) (IsSymbolOf expr (fails S test.Unknown))
-    → keeps S s G5 ≡ false → IsSomeAnd r (Offends S s G5)
-G5_is S s expr r is told broken =
-    some_witness r (list_any (fails S test.Unknown) expr ≡ false) (IsSymbolOf expr (fails S test.Unknown)) (Offends S s G5) told
-    (λ none. contradict (keeps_expr S s ∙ (ap (list_all (λ x. is_constant S x || is_variable S x)) is ∙ none_all (fails S test.Unknown) (λ x. is_constant S x || is_variable S x) (λ x. not_not (is_constant S x || is_variable S x)) expr none)) broken) on
+pub G5_is : {E : Type 0} (S : Database) (s : Stmt) (expr : Expr) (r : Result (Option Witness) E) → expr_of s ≡ expr
+    → IfOk r (λ found. MatchOption found (list_any (fails S test.Unknown) expr ≡ false) (IsSymbolOf expr (fails S test.Unknown)))
+    → keeps S s G5 ≡ false → IfOk r (λ found. IsSomeAnd found (Offends S s G5))
+G5_is S s expr r is =
+    by_symbol S s G5 test.Unknown (λ x. is_constant S x || is_variable S x) expr r (keeps_expr S s ∙ ap (list_all (λ x. is_constant S x || is_variable S x)) is)
+    (λ x. not_not (is_constant S x || is_variable S x))
+    (λ k h. record { name = h.name; stands = ap (λ e. slice_get e k) is ∙ h.stands; is = neither (is_constant S h.name) (is_variable S h.name) h.is })
   where
-    not_not : (b : Bool) → b ≡ not (not b)
-    not_not true = refl
-    not_not false = refl
-
     neither : (a b : Bool) → not (a || b) ≡ true → (a ≡ false) × (b ≡ false)
     neither true b h = cc
     neither false true h = cc
     neither false false h = (refl, refl)
-
-    on : (w : Witness) → IsSymbolOf expr (fails S test.Unknown) w → Offends S s G5 w
-    on Statement h = absurd h
-    on (Symbol k) h = record { name = h.name; stands = ap (λ e. slice_get e k) is ∙ h.stands; is = neither (is_constant S h.name) (is_variable S h.name) h.is }
-    on (Twice j k) h = absurd h
-    on (Earlier k i) h = absurd h
-    on (Label i) h = absurd h
 
 keeps_typed : (S : Database) (s : Stmt) → keeps S s G9 ≡ are_typed S (typed_expr s)
 keeps_typed S Open = refl
@@ -178,11 +180,13 @@ keeps_typed S (Ess l e) = refl
 keeps_typed S (Axiom l e) = refl
 keeps_typed S (Prove l e p) = refl
 
-pub G9_is : (S : Database) (s : Stmt) (expr : Expr) (r : Option Witness) → typed_expr s ≡ expr → MatchOption r (list_any (fails S test.Untyped) expr ≡ false) (IsSymbolOf expr (fails S test.Untyped))
-    → keeps S s G9 ≡ false → IsSomeAnd r (Offends S s G9)
-G9_is S s expr r is told broken =
-    some_witness r (list_any (fails S test.Untyped) expr ≡ false) (IsSymbolOf expr (fails S test.Untyped)) (Offends S s G9) told
-    (λ none. contradict (keeps_typed S s ∙ (ap (are_typed S) is ∙ none_all (fails S test.Untyped) (λ x. not (is_variable S x) || has_float S x) (λ x. not_and (is_variable S x) (has_float S x)) expr none)) broken) on
+pub G9_is : {E : Type 0} (S : Database) (s : Stmt) (expr : Expr) (r : Result (Option Witness) E) → typed_expr s ≡ expr
+    → IfOk r (λ found. MatchOption found (list_any (fails S test.Untyped) expr ≡ false) (IsSymbolOf expr (fails S test.Untyped)))
+    → keeps S s G9 ≡ false → IfOk r (λ found. IsSomeAnd found (Offends S s G9))
+G9_is S s expr r is =
+    by_symbol S s G9 test.Untyped (λ x. not (is_variable S x) || has_float S x) expr r (keeps_typed S s ∙ ap (are_typed S) is)
+    (λ x. not_and (is_variable S x) (has_float S x))
+    (λ k h. record { name = h.name; stands = ap (λ e. slice_get e k) is ∙ h.stands; is = apart (is_variable S h.name) (has_float S h.name) h.is })
   where
     not_and : (a b : Bool) → (not a || b) ≡ not (a && not b)
     not_and true true = refl
@@ -193,10 +197,3 @@ G9_is S s expr r is told broken =
     apart true true h = cc
     apart true false h = (refl, refl)
     apart false b h = cc
-
-    on : (w : Witness) → IsSymbolOf expr (fails S test.Untyped) w → Offends S s G9 w
-    on Statement h = absurd h
-    on (Symbol k) h = record { name = h.name; stands = ap (λ e. slice_get e k) is ∙ h.stands; is = apart (is_variable S h.name) (has_float S h.name) h.is }
-    on (Twice j k) h = absurd h
-    on (Earlier k i) h = absurd h
-    on (Label i) h = absurd h

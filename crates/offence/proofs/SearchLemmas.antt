@@ -1,5 +1,5 @@
 -- What is active, from the end back, and the places of names in a list.
-use Rattle.std.proofs.Common.{◌≡◌, ℕ, zero, suc, ◌+◌, ◌-◌, ◌<◌, ◌≤◌, Bool, true, false, not, ◌&&◌, ◌||◌, cond, List, [], ◌∷◌, length, drop, take, get_or, refl, sym, ◌∙◌, ap, arith, Some, slice_get, add-one}
+use Rattle.std.proofs.Common.{◌≡◌, ℕ, zero, suc, ◌+◌, ◌-◌, ◌<◌, ◌≤◌, Bool, true, false, not, ◌&&◌, ◌||◌, cond, List, [], ◌∷◌, length, drop, get_or, refl, sym, ◌∙◌, ap, arith, Some, slice_get, add-one}
 use Rattle.std.specs.Prelude.{nat_le, Option, None, MatchOption, is_some}
 use Rattle.std.proofs.Math.Bool.{or-true}
 use Rattle.std.specs.List.{list_any}
@@ -7,7 +7,6 @@ use Rattle.std.proofs.Math.Seq.{drop-cons}
 use Rattle.mm_read.specs.declared.stmt.Stmt.{Stmt}
 use Rattle.mm_read.specs.declared.stmt.Stmt.TheVariants.{Open, Close, Const, Var, Disj, Float, Ess, Axiom, Prove}
 use Rattle.mm_read.specs.Statements.{Database}
-use Rattle.mm_lex.specs.Alphabet.{Name, name_eq, has_name}
 use Rattle.scope.specs.Active.{stays_open, active_from}
 use Rattle.std.specs.Prelude.{◌==◌}
 use Rattle.std.proofs.lemmas.Bool.{and_parts}
@@ -91,30 +90,45 @@ module _ (S : Database) (i h : ℕ) (s : Stmt) (closed : ℕ) (t : Stmt → Bool
         stays = ap (λ k. stays_open 0 (drop k S)) (sym next) ∙ (stays ∙ parts.0);
       }
 
-  pub none_back : list_any (λ p. t p.1) (active_from (h + 1) (drop h S)) ≡ false → (closed == 0 && t s) ≡ false → list_any (λ p. t p.1) (active_from (i + 1) (drop i S)) ≡ false
-  none_back none not =
-      ap (λ T. list_any (λ p. t p.1) (active_from (i + 1) T)) opened ∙ (by (stays_open 0 (drop h S)) refl)
+  -- what is active from there on has it where this statement does, or what is active behind it
+  pub active_back : list_any (λ p. t p.1) (active_from (i + 1) (drop i S)) ≡ ((closed == 0 && t s) || list_any (λ p. t p.1) (active_from (h + 1) (drop h S)))
+  active_back =
+      ap (λ T. list_any (λ p. t p.1) (active_from (i + 1) T)) opened
+      ∙ (by (stays_open 0 (drop h S)) (active_from (i + 1 + 1) (drop h S))
+      ∙ (ap (λ b. (b && t s) || list_any (λ p. t p.1) (active_from (i + 1 + 1) (drop h S))) stays
+      ∙ ap (λ k. (closed == 0 && t s) || list_any (λ p. t p.1) (active_from (k + 1) (drop h S))) (sym next)))
     where
-      rest : list_any (λ p. t p.1) (active_from (i + 1 + 1) (drop h S)) ≡ false
-      rest = ap (λ k. list_any (λ p. t p.1) (active_from (k + 1) (drop h S))) (sym next) ∙ none
+      by : (b : Bool) (es : List (ℕ × Stmt)) → list_any (λ p. t p.1) (cond b ((i + 1, s) ∷ es) es) ≡ ((b && t s) || list_any (λ p. t p.1) es)
+      by true es = refl
+      by false es = refl
 
-      by : (b : Bool) → stays_open 0 (drop h S) ≡ b → list_any (λ p. t p.1) (cond (stays_open 0 (drop h S)) ((i + 1, s) ∷ active_from (i + 1 + 1) (drop h S)) (active_from (i + 1 + 1) (drop h S))) ≡ false
-      by true e =
-          let is : t s ≡ false = ap (λ b. b && t s) (sym e ∙ stays) ∙ not in
-          ap (λ b. list_any (λ p. t p.1) (cond b ((i + 1, s) ∷ active_from (i + 1 + 1) (drop h S)) (active_from (i + 1 + 1) (drop h S)))) e ∙ (ap (λ b. b || list_any (λ p. t p.1) (active_from (i + 1 + 1) (drop h S))) is ∙ rest)
-      by false e = ap (λ b. list_any (λ p. t p.1) (cond b ((i + 1, s) ∷ active_from (i + 1 + 1) (drop h S)) (active_from (i + 1 + 1) (drop h S)))) e ∙ rest
+  pub none_back : list_any (λ p. t p.1) (active_from (h + 1) (drop h S)) ≡ false → (closed == 0 && t s) ≡ false → list_any (λ p. t p.1) (active_from (i + 1) (drop i S)) ≡ false
+  none_back none not = active_back ∙ (ap (λ b. b || list_any (λ p. t p.1) (active_from (h + 1) (drop h S))) not ∙ none)
+
+-- nothing is active at the end, and nothing closed behind it
+all_gone : (S : Database) → drop (length S) S ≡ []
+all_gone [] = refl
+all_gone (s ∷ S) = all_gone S
+
+pub none_active : (t : (ℕ × Stmt) → Bool) (S : Database) → list_any t (active_from (length S + 1) (drop (length S) S)) ≡ false
+none_active t S = ap (λ T. list_any t (active_from (length S + 1) T)) (all_gone S)
+
+pub none_closed : (S : Database) → closed_behind (drop (length S) S) ≡ 0
+none_closed S = ap closed_behind (all_gone S)
 
 -- what is found first
 pub found_at : (S : Database) (i : ℕ) (s : Stmt) (t : Stmt → Bool) → slice_get S i ≡ Some s → t s ≡ true → IsAt S (i + 1) t
 found_at S i s t e passes = record { stmt = s; stands = ap (stmt_at S) (add-one i) ∙ e; passes = passes }
 
--- where the first of the rest does not pass, what is behind it decides
+-- the first of the rest decides, or what is behind it
+pub rest_is : {A : Type 0} (t : A → Bool) (xs : List A) (i : ℕ) (x : A) → i < length xs → x ≡ get_or xs i x → list_any t (drop i xs) ≡ (t x || list_any t (drop (i + 1) xs))
+rest_is t xs i x inside is =
+    ap (list_any t) (drop-cons xs i x inside)
+    ∙ (ap (λ y. t y || list_any t (drop (suc i) xs)) (sym is) ∙ ap (λ k. t x || list_any t (drop k xs)) (sym (add-one i)))
+
 pub rest_decides : {A : Type 0} (t : A → Bool) (xs : List A) (i : ℕ) (x : A) → i < length xs → x ≡ get_or xs i x → t x ≡ false
     → list_any t (drop i xs) ≡ list_any t (drop (i + 1) xs)
-rest_decides t xs i x inside is not =
-    ap (list_any t) (drop-cons xs i x inside)
-    ∙ (ap (λ y. t y || list_any t (drop (suc i) xs)) (sym is)
-    ∙ (ap (λ b. b || list_any t (drop (suc i) xs)) not ∙ ap (λ k. list_any t (drop k xs)) (sym (add-one i))))
+rest_decides t xs i x inside is not = rest_is t xs i x inside is ∙ ap (λ b. b || list_any t (drop (i + 1) xs)) not
 
 pub rest_empty : {A : Type 0} (t : A → Bool) (xs : List A) (i : ℕ) → length xs ≤ i → list_any t (drop i xs) ≡ false
 rest_empty t [] zero h = refl
@@ -178,10 +192,3 @@ some_told (Some i) b P h some = sym (some i h)
 pub not_back : (a b : Bool) → b ≡ not a → a ≡ not b
 not_back true b e = sym (ap not e)
 not_back false b e = sym (ap not e)
-
--- a name that is not the one sought is passed
-pub one_less : (x y : Name) (rest : List Name) (end i : ℕ) → i < end → name_eq x y ≡ false
-    → has_name x (take (end - i) (y ∷ rest)) ≡ has_name x (take (end - (i + 1)) rest)
-one_less x y rest end i inside not =
-    let e : end - i ≡ suc (end - (i + 1)) = omega arith in
-    ap (λ n. has_name x (take n (y ∷ rest))) e ∙ ap (λ b. b || has_name x (take (end - (i + 1)) rest)) not

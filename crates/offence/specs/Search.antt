@@ -7,21 +7,20 @@ use Rattle.mm_lex.specs.Alphabet.{Name, has_name}
 use Rattle.mm_read.specs.declared.stmt.Stmt.{Stmt}
 use Rattle.mm_read.specs.declared.stmt.Stmt.TheVariants.{Open, Close}
 use Rattle.mm_read.specs.Statements.{Database}
-use Rattle.scope.specs.Active.{stmt_at, stays_open, constants, variables, label_of, has_label, is_float_of, is_open, is_constant, is_variable, has_float}
+use Rattle.scope.specs.Active.{stmt_at, stays_open, constants, variables, label_of, has_label, is_float_of, is_constant, is_variable, has_float}
 use Rattle.offence.specs.declared.symbols.Test.{Test}
-use Rattle.offence.specs.declared.symbols.Test.TheVariants.{Named as Again, Taken, Unknown, Free, Inactive, Untyped}
+use Rattle.offence.specs.declared.symbols.Test.TheVariants.{Named as Again, Taken, Unknown, Inactive, Untyped}
 use Rattle.offence.specs.declared.search.Part.{Part}
-use Rattle.offence.specs.declared.search.Part.TheVariants.{Named, Fixed, Constant, Variable, Float, Block}
+use Rattle.offence.specs.declared.search.Part.TheVariants.{Named, Fixed, Constant, Variable, Float}
 
 -- whether the statement has the name in that part: as its label or among the symbols that it declares; as its label or a
--- constant; as a constant; as a variable; as the variable of a `$f`; or is a `${`, whatever the name
+-- constant; as a constant; as a variable; as the variable of a `$f`
 abbrev pub meets : Part → Name → Stmt → Bool
 meets Named x s = has_label x (label_of s) || (has_name x (constants s) || has_name x (variables s))
 meets Fixed x s = has_label x (label_of s) || has_name x (constants s)
 meets Constant x s = has_name x (constants s)
 meets Variable x s = has_name x (variables s)
 meets Float x s = is_float_of x s
-meets Block x s = is_open s
 
 -- the statement at i passes the test
 pub record IsAt (S : Database) (i : ℕ) (test : Stmt → Bool) : Type 0 where
@@ -49,7 +48,6 @@ abbrev pub fails : Database → Test → Name → Bool
 fails S Again x = list_any (meets Named x) S
 fails S Taken x = is_variable S x || list_any (meets Fixed x) S
 fails S Unknown x = not (is_constant S x || is_variable S x)
-fails S Free x = not (is_constant S x)
 fails S Inactive x = not (is_variable S x)
 fails S Untyped x = is_variable S x && not (has_float S x)
 

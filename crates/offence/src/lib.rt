@@ -1,9 +1,10 @@
 //! What in a statement breaks a rule, and which earlier statement it breaks it with.
 //!
 //! `witness_of` gives the witness of a broken rule: which symbol of the statement, and which earlier statement. What a witness says
-//! is `specs/Offends`. It runs over the statements themselves, after a refusal. Read `witness`, `search`, `symbols`, `offence`.
+//! is `specs/Offends`. It runs over the statements themselves, after a refusal. Read `witness`, `search`, `marks`, `symbols`, `offence`.
 #![tactic(auto)]
 
+mod marks;
 mod offence;
 mod search;
 mod symbols;

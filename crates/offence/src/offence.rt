@@ -1,5 +1,5 @@
 //! The witness of a broken rule.
-ghost use Rattle.std.specs.Prelude.{◌≡◌, false, IsSomeAnd, IfSome, MatchOption};
+ghost use Rattle.std.specs.Prelude.{◌≡◌, ◌==◌, ◌&&◌, false, IfOk, IsSomeAnd, IfSome, MatchOption};
 ghost use Rattle.std.specs.List.{list_any};
 ghost use Rattle.scope.specs.Active.{is_open};
 ghost use Rattle.scope.specs.Legal.{keeps};
@@ -8,64 +8,70 @@ ghost use Rattle.offence.specs.Search.{meets, fails, IsActiveAt};
 ghost use Rattle.offence.specs.declared.search.Part.TheVariants as part;
 ghost use Rattle.offence.specs.Offends.{IsLabelOf, IsSymbolOf, Offends};
 
-use crate::search::{Part, find, find_active};
-use crate::symbols::{Test, fails, first, twice};
+use crate::search::{Part, closed_by, find, find_active};
+use crate::symbols::{Test, first, is_symbol, twice};
 use crate::witness::Witness;
 use mm_lex::{Word, Words};
 use mm_read::Stmt;
 use scope::Rule;
+use std::alloc::{AllocError, Global};
 
 /// What breaks the rule in a statement behind the earlier ones, which it does not keep.
 ///
-/// Takes no memory. Cost: the symbols of the statement times the size of the earlier ones.
-pub fn witness_of(earlier: &[Stmt], stmt: &Stmt, rule: Rule) -> Option<Witness>
-    ensures { keeps earlier.now stmt.now rule ≡ false → IsSomeAnd result (Offends earlier.now stmt.now rule) }
+/// Cost: few passes over the earlier statements, with a look-up of each name that they have among those of the statement.
+pub fn witness_of(
+    alloc: Global,
+    earlier: &[Stmt],
+    stmt: &Stmt,
+    rule: Rule,
+) -> Result<Option<Witness>, AllocError>
+    ensures { keeps earlier.now stmt.now rule ≡ false → IfOk result (λ witness. IsSomeAnd witness (Offends earlier.now stmt.now rule)) }
 {
     match rule {
-        Rule::G1 => Some(Witness::Statement),
-        Rule::G2 => of_constants(earlier, stmt),
-        Rule::G3 => of_variables(earlier, stmt),
-        Rule::G4 => of_label(earlier, stmt),
-        Rule::G5 => of_expression(earlier, stmt),
-        Rule::G6 => Some(Witness::Symbol { symbol: 0 }),
-        Rule::G7 => of_float(earlier, stmt),
-        Rule::G8 => of_disjoint(earlier, stmt),
-        Rule::G9 => of_typed(earlier, stmt),
-        Rule::G10 => Some(Witness::Statement),
-        Rule::Memory => None,
+        Rule::G1 => Ok(Some(Witness::Statement)),
+        Rule::G2 => of_constants(alloc, earlier, stmt),
+        Rule::G3 => of_variables(alloc, earlier, stmt),
+        Rule::G4 => Ok(of_label(earlier, stmt)),
+        Rule::G5 => of_expression(alloc, earlier, stmt),
+        Rule::G6 => Ok(Some(Witness::Symbol { symbol: 0 })),
+        Rule::G7 => Ok(of_float(earlier, stmt)),
+        Rule::G8 => of_disjoint(alloc, earlier, stmt),
+        Rule::G9 => of_typed(alloc, earlier, stmt),
+        Rule::G10 => Ok(Some(Witness::Statement)),
+        Rule::Memory => Ok(None),
     }
 }
 
-fn of_constants(earlier: &[Stmt], stmt: &Stmt) -> Option<Witness>
-    ensures { keeps earlier.now stmt.now rule.G2 ≡ false → IsSomeAnd result (Offends earlier.now stmt.now rule.G2) }
+fn of_constants(alloc: Global, earlier: &[Stmt], stmt: &Stmt) -> Result<Option<Witness>, AllocError>
+    ensures { keeps earlier.now stmt.now rule.G2 ≡ false → IfOk result (λ witness. IsSomeAnd witness (Offends earlier.now stmt.now rule.G2)) }
 {
     let Stmt::Const(names) = stmt else {
-        return None;
+        return Ok(None);
     };
-    let Some((symbol, name)) = first(earlier, names, Test::Named) else {
-        return twice(names);
+    let Some((symbol, name)) = first(alloc, earlier, names, Test::Named)? else {
+        return twice(alloc, names);
     };
     match find(earlier, Part::Named, name) {
-        Some(statement) => Some(Witness::Earlier { symbol, statement }),
-        None => None,
+        Some(statement) => Ok(Some(Witness::Earlier { symbol, statement })),
+        None => Ok(None),
     }
 }
 
-fn of_variables(earlier: &[Stmt], stmt: &Stmt) -> Option<Witness>
-    ensures { keeps earlier.now stmt.now rule.G3 ≡ false → IsSomeAnd result (Offends earlier.now stmt.now rule.G3) }
+fn of_variables(alloc: Global, earlier: &[Stmt], stmt: &Stmt) -> Result<Option<Witness>, AllocError>
+    ensures { keeps earlier.now stmt.now rule.G3 ≡ false → IfOk result (λ witness. IsSomeAnd witness (Offends earlier.now stmt.now rule.G3)) }
 {
     let Stmt::Var(names) = stmt else {
-        return None;
+        return Ok(None);
     };
-    let Some((symbol, name)) = first(earlier, names, Test::Taken) else {
-        return twice(names);
+    let Some((symbol, name)) = first(alloc, earlier, names, Test::Taken)? else {
+        return twice(alloc, names);
     };
     if let Some(statement) = find_active(earlier, Part::Variable, name) {
-        return Some(Witness::Earlier { symbol, statement });
+        return Ok(Some(Witness::Earlier { symbol, statement }));
     }
     match find(earlier, Part::Fixed, name) {
-        Some(statement) => Some(Witness::Earlier { symbol, statement }),
-        None => None,
+        Some(statement) => Ok(Some(Witness::Earlier { symbol, statement })),
+        None => Ok(None),
     }
 }
 
@@ -91,28 +97,37 @@ fn carried(earlier: &[Stmt], label: &Word) -> Option<Witness>
     }
 }
 
-fn of_expression(earlier: &[Stmt], stmt: &Stmt) -> Option<Witness>
-    ensures { keeps earlier.now stmt.now rule.G5 ≡ false → IsSomeAnd result (Offends earlier.now stmt.now rule.G5) }
+fn of_expression(
+    alloc: Global,
+    earlier: &[Stmt],
+    stmt: &Stmt,
+) -> Result<Option<Witness>, AllocError>
+    ensures { keeps earlier.now stmt.now rule.G5 ≡ false → IfOk result (λ witness. IsSomeAnd witness (Offends earlier.now stmt.now rule.G5)) }
 {
     match stmt {
         Stmt::Float { constant, .. } => {
-            let symbol = usize::from(!fails(earlier, Test::Unknown, constant.as_bytes()));
-            Some(Witness::Symbol { symbol })
+            let symbol = usize::from(is_symbol(earlier, constant.as_bytes()));
+            Ok(Some(Witness::Symbol { symbol }))
         }
-        Stmt::Ess { expr, .. } => symbol_of(earlier, expr, Test::Unknown),
-        Stmt::Axiom { expr, .. } => symbol_of(earlier, expr, Test::Unknown),
-        Stmt::Prove { expr, .. } => symbol_of(earlier, expr, Test::Unknown),
-        _ => None,
+        Stmt::Ess { expr, .. } => symbol_of(alloc, earlier, expr, Test::Unknown),
+        Stmt::Axiom { expr, .. } => symbol_of(alloc, earlier, expr, Test::Unknown),
+        Stmt::Prove { expr, .. } => symbol_of(alloc, earlier, expr, Test::Unknown),
+        _ => Ok(None),
     }
 }
 
 /// The first of the symbols with which this is wrong.
-fn symbol_of(earlier: &[Stmt], names: &Words, test: Test) -> Option<Witness>
-    ensures { MatchOption result (list_any (fails earlier.now test) names.now ≡ false) (IsSymbolOf names.now (fails earlier.now test)) }
+fn symbol_of(
+    alloc: Global,
+    earlier: &[Stmt],
+    names: &Words,
+    test: Test,
+) -> Result<Option<Witness>, AllocError>
+    ensures { IfOk result (λ found. MatchOption found (list_any (fails earlier.now test) names.now ≡ false) (IsSymbolOf names.now (fails earlier.now test))) }
 {
-    match first(earlier, names, test) {
-        Some((symbol, _)) => Some(Witness::Symbol { symbol }),
-        None => None,
+    match first(alloc, earlier, names, test)? {
+        Some((symbol, _)) => Ok(Some(Witness::Symbol { symbol })),
+        None => Ok(None),
     }
 }
 
@@ -131,26 +146,26 @@ fn of_float(earlier: &[Stmt], stmt: &Stmt) -> Option<Witness>
     }
 }
 
-fn of_disjoint(earlier: &[Stmt], stmt: &Stmt) -> Option<Witness>
-    ensures { keeps earlier.now stmt.now rule.G8 ≡ false → IsSomeAnd result (Offends earlier.now stmt.now rule.G8) }
+fn of_disjoint(alloc: Global, earlier: &[Stmt], stmt: &Stmt) -> Result<Option<Witness>, AllocError>
+    ensures { keeps earlier.now stmt.now rule.G8 ≡ false → IfOk result (λ witness. IsSomeAnd witness (Offends earlier.now stmt.now rule.G8)) }
 {
     let Stmt::Disj(names) = stmt else {
-        return None;
+        return Ok(None);
     };
-    match symbol_of(earlier, names, Test::Inactive) {
-        Some(witness) => Some(witness),
-        None => twice(names),
+    match symbol_of(alloc, earlier, names, Test::Inactive)? {
+        Some(witness) => Ok(Some(witness)),
+        None => twice(alloc, names),
     }
 }
 
-fn of_typed(earlier: &[Stmt], stmt: &Stmt) -> Option<Witness>
-    ensures { keeps earlier.now stmt.now rule.G9 ≡ false → IsSomeAnd result (Offends earlier.now stmt.now rule.G9) }
+fn of_typed(alloc: Global, earlier: &[Stmt], stmt: &Stmt) -> Result<Option<Witness>, AllocError>
+    ensures { keeps earlier.now stmt.now rule.G9 ≡ false → IfOk result (λ witness. IsSomeAnd witness (Offends earlier.now stmt.now rule.G9)) }
 {
     match stmt {
-        Stmt::Ess { expr, .. } => symbol_of(earlier, expr, Test::Untyped),
-        Stmt::Axiom { expr, .. } => symbol_of(earlier, expr, Test::Untyped),
-        Stmt::Prove { expr, .. } => symbol_of(earlier, expr, Test::Untyped),
-        _ => None,
+        Stmt::Ess { expr, .. } => symbol_of(alloc, earlier, expr, Test::Untyped),
+        Stmt::Axiom { expr, .. } => symbol_of(alloc, earlier, expr, Test::Untyped),
+        Stmt::Prove { expr, .. } => symbol_of(alloc, earlier, expr, Test::Untyped),
+        _ => Ok(None),
     }
 }
 
@@ -158,5 +173,20 @@ fn of_typed(earlier: &[Stmt], stmt: &Stmt) -> Option<Witness>
 pub fn never_closed(statements: &[Stmt]) -> Option<usize>
     ensures { IfSome result (λ i. IsActiveAt statements.now i is_open) }
 {
-    find_active(statements, Part::Block, b"")
+    let mut closed = 0usize;
+    for i in (0..statements.len()).rev() {
+        let stmt = &statements[i];
+        if is_active_open(closed, stmt) {
+            return Some(i + 1);
+        }
+        closed = closed_by(stmt, closed);
+    }
+    None
+}
+
+/// Whether so many blocks are closed behind that the statement is active, and it is a `${`.
+fn is_active_open(closed: usize, stmt: &Stmt) -> bool
+    ensures { result ≡ (closed == 0 && is_open stmt.now) }
+{
+    closed == 0 && matches!(stmt, Stmt::Open)
 }

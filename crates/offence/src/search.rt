@@ -2,7 +2,7 @@
 ghost use Rattle.std.specs.Prelude.{◌≡◌, ◌+◌, ◌<◌, ◌^◌, ◌==◌, ◌&&◌, ◌||◌, false, MatchOption};
 ghost use Rattle.std.specs.List.{list_any};
 ghost use Rattle.mm_lex.specs.Alphabet.{has_name, name_eq};
-ghost use Rattle.scope.specs.Active.{active, label_of, has_label, constants, variables, is_float_of, is_open};
+ghost use Rattle.scope.specs.Active.{active, label_of, has_label, constants, variables, is_float_of};
 ghost use Rattle.offence.specs.Search.{meets, closed_by, IsAt, IsActiveAt};
 
 use mm_lex::{Word, Words};
@@ -21,8 +21,6 @@ pub(crate) enum Part {
     Variable,
     /// It is its `$f`.
     Float,
-    /// It is a `${`, whatever the name.
-    Block,
 }
 
 /// The first statement that has to do with the name, by its position from 1.
@@ -63,7 +61,7 @@ fn is_active_match(closed: usize, stmt: &Stmt, part: Part, name: &[u8]) -> bool
 }
 
 /// How many blocks that were open before the statement are closed by it or behind it.
-fn closed_by(stmt: &Stmt, closed: usize) -> usize
+pub(crate) fn closed_by(stmt: &Stmt, closed: usize) -> usize
     requires { closed + 1 < 2 ^ 64 }
     ensures { result ≡ closed_by stmt.now closed }
 {
@@ -86,7 +84,6 @@ fn meets(stmt: &Stmt, part: Part, name: &[u8]) -> bool
         Part::Constant => has_constant(stmt, name),
         Part::Variable => has_variable(stmt, name),
         Part::Float => is_float_of(stmt, name),
-        Part::Block => matches!(stmt, Stmt::Open),
     }
 }
 
@@ -136,7 +133,7 @@ fn is(word: &Word, name: &[u8]) -> bool
 }
 
 /// Whether the name is among these.
-pub(crate) fn has(names: &Words, name: &[u8]) -> bool
+fn has(names: &Words, name: &[u8]) -> bool
     ensures { result ≡ has_name name.now names.now }
 {
     names.iter().any(|other| name == other)

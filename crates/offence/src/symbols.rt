@@ -1,16 +1,21 @@
 //! The first symbol of a list that passes a test, and the first that stands twice.
-ghost use Rattle.std.specs.Prelude.{◌≡◌, ◌<◌, Some, false, true, MatchOption, IfSome, slice_get, take, length};
+ghost use Rattle.std.specs.Prelude.{◌≡◌, ℕ, Bool, ◌||◌, false, true, IfOk, MatchOption, map, replicate, length};
 ghost use Rattle.std.specs.List.{list_any};
-ghost use Rattle.mm_lex.specs.Alphabet.{has_name};
+ghost use Rattle.mm_lex.specs.Alphabet.{Name};
+ghost use Rattle.names.specs.Codes.{AreNamed};
 ghost use Rattle.scope.specs.Active.{is_constant, is_variable};
 ghost use Rattle.scope.specs.Legal.{all_different};
+ghost use Rattle.offence.specs.Marks.{is_wrong_unseen};
 ghost use Rattle.offence.specs.Search.{fails, IsSymbolAt};
 ghost use Rattle.offence.specs.Offends.{IsRepeated};
 
+use crate::marks::{mark_active, mark_any, mark_of, names_of};
 use crate::search::{Part, find, find_active};
 use crate::witness::Witness;
 use mm_lex::Words;
 use mm_read::Stmt;
+use names::Names;
+use std::alloc::{AllocError, Global};
 
 /// What may be wrong with a symbol.
 #[derive(Clone, Copy, Drop)]
@@ -21,24 +26,72 @@ pub(crate) enum Test {
     Taken,
     /// It is neither a constant nor an active variable.
     Unknown,
-    /// It is no constant.
-    Free,
     /// It is no active variable.
     Inactive,
     /// It is a variable and has no active `$f`.
     Untyped,
 }
 
-/// The first of the names with which this is wrong, and its index.
-pub(crate) fn first<'a>(earlier: &[Stmt], names: &'a Words, test: Test) -> Option<(usize, &'a [u8])>
-    ensures { MatchOption result (list_any (fails earlier.now test) names.entry.now ≡ false)
-        (λ r. IsSymbolAt names.entry.now (fails earlier.now test) r.0 r.1.now) }
+/// The first of the words with which this is wrong, and its index.
+///
+/// Cost: one or two passes over the statements, with a look-up of each name that they have.
+pub(crate) fn first<'a>(
+    alloc: Global,
+    earlier: &[Stmt],
+    words: &'a Words,
+    test: Test,
+) -> Result<Option<(usize, &'a [u8])>, AllocError>
+    ensures { IfOk result (λ found. MatchOption found (list_any (fails earlier.now test) words.entry.now ≡ false)
+        (λ r. IsSymbolAt words.entry.now (fails earlier.now test) r.0 r.1.now)) }
 {
-    let _count = names.len();
-    let mut left = names.iter();
+    let names = names_of(alloc, words)?;
+    let mut marks = vec![in alloc; is_wrong_unseen(test); names.len()]?;
+    mark_wrong(&names, earlier, test, &mut marks);
+    Ok(first_marked(&names, &marks, words))
+}
+
+/// Whether this is wrong with a name that no statement has.
+fn is_wrong_unseen(test: Test) -> bool
+    ensures { result ≡ is_wrong_unseen test }
+{
+    matches!(test, Test::Unknown | Test::Inactive)
+}
+
+/// Marks the names with which this is wrong.
+fn mark_wrong(names: &Names, earlier: &[Stmt], test: Test, marks: &mut [bool])
+    requires { marks.old ≡ replicate (length names.now) (is_wrong_unseen test) }
+    ensures { marks.new ≡ map (fails earlier.now test) names.now }
+{
+    match test {
+        Test::Named => mark_any(names, earlier, Part::Named, true, marks),
+        Test::Taken => {
+            mark_any(names, earlier, Part::Fixed, true, marks);
+            mark_active(names, earlier, Part::Variable, true, marks);
+        }
+        Test::Unknown => {
+            mark_any(names, earlier, Part::Constant, false, marks);
+            mark_active(names, earlier, Part::Variable, false, marks);
+        }
+        Test::Inactive => mark_active(names, earlier, Part::Variable, false, marks),
+        Test::Untyped => {
+            mark_active(names, earlier, Part::Variable, true, marks);
+            mark_active(names, earlier, Part::Float, false, marks);
+        }
+    }
+}
+
+/// The first of the words that has a mark, and its index.
+fn first_marked<'a>(names: &Names, marks: &[bool], words: &'a Words) -> Option<(usize, &'a [u8])>
+    requires count { length marks.now ≡ length names.now }
+    requires named { AreNamed names.now words.now }
+    ensures { (t : Name → Bool) → marks.now ≡ map t names.now
+        → MatchOption result (list_any t words.entry.now ≡ false) (λ r. IsSymbolAt words.entry.now t r.0 r.1.now) }
+{
+    let _count = words.len();
+    let mut left = words.iter();
     let mut index = 0usize;
     while let Some(name) = left.next() {
-        if fails(earlier, test, name) {
+        if mark_of(names, marks, name) {
             return Some((index, name));
         }
         index += 1;
@@ -46,20 +99,11 @@ pub(crate) fn first<'a>(earlier: &[Stmt], names: &'a Words, test: Test) -> Optio
     None
 }
 
-/// Whether this is wrong with the name.
-pub(crate) fn fails(earlier: &[Stmt], test: Test, name: &[u8]) -> bool
-    ensures { result ≡ fails earlier.now test name.now }
+/// Whether the name is a constant or an active variable.
+pub(crate) fn is_symbol(earlier: &[Stmt], name: &[u8]) -> bool
+    ensures { result ≡ (is_constant earlier.now name.now || is_variable earlier.now name.now) }
 {
-    match test {
-        Test::Named => find(earlier, Part::Named, name).is_some(),
-        Test::Taken => { is_variable(earlier, name) || find(earlier, Part::Fixed, name).is_some() }
-        Test::Unknown => !(is_constant(earlier, name) || is_variable(earlier, name)),
-        Test::Free => !is_constant(earlier, name),
-        Test::Inactive => !is_variable(earlier, name),
-        Test::Untyped => {
-            is_variable(earlier, name) && find_active(earlier, Part::Float, name).is_none()
-        }
-    }
+    is_constant(earlier, name) || is_variable(earlier, name)
 }
 
 fn is_constant(earlier: &[Stmt], name: &[u8]) -> bool
@@ -74,41 +118,24 @@ fn is_variable(earlier: &[Stmt], name: &[u8]) -> bool
     find_active(earlier, Part::Variable, name).is_some()
 }
 
-/// The first name that stands twice.
-pub(crate) fn twice(names: &Words) -> Option<Witness>
-    ensures { MatchOption result (all_different names.now ≡ true) (IsRepeated names.now) }
+/// The first word that stands twice.
+pub(crate) fn twice(alloc: Global, words: &Words) -> Result<Option<Witness>, AllocError>
+    ensures { IfOk result (λ found. MatchOption found (all_different words.now ≡ true) (IsRepeated words.now)) }
 {
-    let _count = names.len();
-    let mut left = names.iter();
+    let _count = words.len();
+    let mut names = Names::new(alloc);
+    let mut left = words.iter();
     let mut index = 0usize;
-    while let Some(name) = left.next() {
-        if let Some(first) = place_before(names, index, name) {
-            return Some(Witness::Twice {
+    while let Some(word) = left.next() {
+        let first = names.code(alloc, word)?;
+        if first < index {
+            return Ok(Some(Witness::Twice {
                 first,
                 second: index,
-            });
+            }));
         }
         index += 1;
     }
-    None
-}
-
-/// Where the name stands among the first `end` ones.
-fn place_before(names: &Words, end: usize, name: &[u8]) -> Option<usize>
-    ensures { MatchOption result (has_name name.now (take end names.now) ≡ false)
-        (λ i. (i < end) × (slice_get names.now i ≡ Some name.now)) }
-{
-    let _count = names.len();
-    let mut left = names.iter();
-    let mut index = 0usize;
-    while let Some(other) = left.next() {
-        if index == end {
-            return None;
-        }
-        if name == other {
-            return Some(index);
-        }
-        index += 1;
-    }
-    None
+    names.distinct();
+    Ok(None)
 }

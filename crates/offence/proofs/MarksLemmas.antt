@@ -1,0 +1,200 @@
+-- Marks given to names, one test after another, and names that are given codes.
+use Rattle.std.proofs.Common.{◌≡◌, ℕ, zero, suc, ◌<◌, Bool, true, false, cond, not, ◌&&◌, ◌||◌, List, [], ◌∷◌, ◌++◌, map, replicate, length, slice_set, slice_get, refl, sym, ◌∙◌, ap, arith, append-nil, Some, true≢false}
+use Rattle.mm_lex.specs.Alphabet.{Name, name_eq, has_name}
+use Rattle.names.specs.Codes.{name_at, code_of, AreDistinct, AreNamed}
+use Rattle.names.proofs.CodesLemmas.{name_same, same_name, name_eq-comm, has-at, code-name}
+use Rattle.names.proofs.AddedLemmas.{has_name-append}
+use Rattle.std.specs.Prelude.{slice_index_or, ◌≤◌, ◌⊎◌}
+use Rattle.std.proofs.Common.{inl, inr}
+use Rattle.scope.specs.Legal.{all_different}
+use Rattle.offence.specs.Offends.{IsTwice}
+use Rattle.offence.specs.Marks.{marked}
+
+pub marked-same : (p q : Name → Bool) (v : Bool) → ((x : Name) → p x ≡ q x) → (names : List Name) (marks : List Bool) → marked p v names marks ≡ marked q v names marks
+marked-same p q v same [] marks = refl
+marked-same p q v same (x ∷ names) [] = refl
+marked-same p q v same (x ∷ names) (m ∷ marks) = ap (λ b. cond b v m ∷ marked p v names marks) (same x) ∙ ap (λ r. cond (q x) v m ∷ r) (marked-same p q v same names marks)
+
+-- names that pass the one test or the other
+pub marked-both : (p q r : Name → Bool) (v : Bool) → ((x : Name) → r x ≡ (q x || p x)) → (names : List Name) (marks : List Bool) → marked p v names (marked q v names marks) ≡ marked r v names marks
+marked-both p q r v either [] marks = refl
+marked-both p q r v either (x ∷ names) [] = refl
+marked-both p q r v either (x ∷ names) (m ∷ marks) =
+    ap (λ b. b ∷ marked p v names (marked q v names marks)) (one (p x) (q x) (r x) m (either x)) ∙ ap (λ l. cond (r x) v m ∷ l) (marked-both p q r v either names marks)
+  where
+    one : (a b c m : Bool) → c ≡ (b || a) → cond a v (cond b v m) ≡ cond c v m
+    one true true c m e = sym (ap (λ d. cond d v m) e)
+    one true false c m e = sym (ap (λ d. cond d v m) e)
+    one false true c m e = sym (ap (λ d. cond d v m) e)
+    one false false c m e = sym (ap (λ d. cond d v m) e)
+
+pub marked-none : (p : Name → Bool) (v : Bool) → ((x : Name) → p x ≡ false) → (names : List Name) (marks : List Bool) → marked p v names marks ≡ marks
+marked-none p v none [] marks = refl
+marked-none p v none (x ∷ names) [] = refl
+marked-none p v none (x ∷ names) (m ∷ marks) = ap (λ b. cond b v m ∷ marked p v names marks) (none x) ∙ ap (λ l. m ∷ l) (marked-none p v none names marks)
+
+pub or_comm : (a b : Bool) → (a || b) ≡ (b || a)
+or_comm true true = refl
+or_comm true false = refl
+or_comm false true = refl
+or_comm false false = refl
+
+or_false : (a b : Bool) → (a || b) ≡ false → (a ≡ false) × (b ≡ false)
+or_false true b h = cc
+or_false false b h = (refl, h)
+
+-- a name that has no code, and one that has
+pub marked-absent : (w : Name) (v : Bool) (names : List Name) (marks : List Bool) → has_name w names ≡ false → marked (λ x. name_eq x w) v names marks ≡ marks
+marked-absent w v [] marks h = refl
+marked-absent w v (x ∷ names) [] h = refl
+marked-absent w v (x ∷ names) (m ∷ marks) h =
+    let parts : (name_eq w x ≡ false) × (has_name w names ≡ false) = or_false (name_eq w x) (has_name w names) h in
+    ap (λ b. cond b v m ∷ marked (λ x. name_eq x w) v names marks) (name_eq-comm x w ∙ parts.0) ∙ ap (λ l. m ∷ l) (marked-absent w v names marks parts.1)
+
+at_place : (w : Name) (v : Bool) (names : List Name) (marks : List Bool) (n : ℕ) → AreDistinct names → n < length names → name_at names n ≡ w → length marks ≡ length names
+    → marked (λ x. name_eq x w) v names marks ≡ slice_set marks n v
+at_place w v [] marks n d h e l = absurd (omega (arith, h))
+at_place w v (x ∷ names) [] n d h e l = absurd (omega (arith, l))
+at_place w v (x ∷ names) (m ∷ marks) zero d h e l =
+    ap (λ b. cond b v m ∷ marked (λ x. name_eq x w) v names marks) (ap (λ y. name_eq y w) e ∙ name_same w)
+    ∙ ap (λ l. v ∷ l) (marked-absent w v names marks (ap (λ y. has_name y names) (sym e) ∙ d.0))
+at_place w v (x ∷ names) (m ∷ marks) (suc n) d h e l =
+    ap (λ b. cond b v m ∷ marked (λ x. name_eq x w) v names marks) (apart (name_eq x w) refl)
+    ∙ ap (λ l. m ∷ l) (at_place w v names marks n d.1 (omega (arith, h)) e (omega (arith, l)))
+  where
+    apart : (b : Bool) → name_eq x w ≡ b → name_eq x w ≡ false
+    apart false q = q
+    apart true q = absurd (true≢false (sym (has-at names w n (omega (arith, h)) e) ∙ (ap (λ z. has_name z names) (sym (same_name x w q)) ∙ d.0)))
+
+pub marked-one : (w : Name) (v : Bool) (names : List Name) (marks : List Bool) (n : ℕ) → AreDistinct names → code_of names w ≡ Some n → length marks ≡ length names
+    → slice_set marks n v ≡ marked (λ x. name_eq x w) v names marks
+marked-one w v names marks n d e l = let at = code-name names w n e in sym (at_place w v names marks n d at.0 at.1 l)
+
+-- ---- marks by a test
+
+pub marked-map : (p f : Name → Bool) (v : Bool) (names : List Name) → marked p v names (map f names) ≡ map (λ x. cond (p x) v (f x)) names
+marked-map p f v [] = refl
+marked-map p f v (x ∷ names) = ap (λ l. cond (p x) v (f x) ∷ l) (marked-map p f v names)
+
+pub map-same : (f g : Name → Bool) → ((x : Name) → f x ≡ g x) → (names : List Name) → map f names ≡ map g names
+map-same f g same [] = refl
+map-same f g same (x ∷ names) = ap (λ b. b ∷ map f names) (same x) ∙ ap (λ l. g x ∷ l) (map-same f g same names)
+
+all_alike : (b : Bool) (names : List Name) → replicate (length names) b ≡ map (λ (x : Name). b) names
+all_alike b [] = refl
+all_alike b (x ∷ names) = ap (λ l. b ∷ l) (all_alike b names)
+
+-- one test from marks that are all alike, and two
+pub marked-once : (p f : Name → Bool) (v b : Bool) (names : List Name) (marks : List Bool) → marks ≡ replicate (length names) b → ((x : Name) → cond (p x) v b ≡ f x)
+    → marked p v names marks ≡ map f names
+marked-once p f v b names marks e same =
+    ap (marked p v names) (e ∙ all_alike b names) ∙ (marked-map p (λ x. b) v names ∙ map-same (λ x. cond (p x) v b) f same names)
+
+pub marked-twice : (p q f : Name → Bool) (u v b : Bool) (names : List Name) (marks : List Bool) → marks ≡ replicate (length names) b → ((x : Name) → cond (p x) u (cond (q x) v b) ≡ f x)
+    → marked p u names (marked q v names marks) ≡ map f names
+marked-twice p q f u v b names marks e same =
+    ap (marked p u names) (marked-once q (λ x. cond (q x) v b) v b names marks e (λ x. refl)) ∙ (marked-map p (λ x. cond (q x) v b) u names ∙ map-same (λ x. cond (p x) u (cond (q x) v b)) f same names)
+
+pub marked-three : (p q r : Name → Bool) (v : Bool) (names : List Name) (marks : List Bool)
+    → marked r v names (marked q v names (marked p v names marks)) ≡ marked (λ x. p x || (q x || r x)) v names marks
+marked-three p q r v names marks =
+    ap (marked r v names) (marked-both q p (λ x. p x || q x) v (λ x. refl) names marks)
+    ∙ marked-both r (λ x. p x || q x) (λ x. p x || (q x || r x)) v (λ x. left (p x) (q x) (r x)) names marks
+  where
+    left : (a b c : Bool) → (a || (b || c)) ≡ ((a || b) || c)
+    left true b c = refl
+    left false b c = refl
+
+-- ---- reading a mark
+
+pub mark_is : (t : Name → Bool) (names : List Name) (marks : List Bool) (w : Name) (n : ℕ) → code_of names w ≡ Some n → marks ≡ map t names → slice_index_or marks n false ≡ t w
+mark_is t names marks w n c e = let at = code-name names w n c in ap (λ m. slice_index_or m n false) e ∙ (read names n at.0 ∙ ap t at.1)
+  where
+    read : (names : List Name) (n : ℕ) → n < length names → slice_index_or (map t names) n false ≡ t (name_at names n)
+    read [] n h = absurd (omega (arith, h))
+    read (x ∷ names) zero h = refl
+    read (x ∷ names) (suc n) h = read names n (omega (arith, h))
+
+-- ---- names with a code
+
+or-true : (a b : Bool) → b ≡ true → (a || b) ≡ true
+or-true true b h = refl
+or-true false b h = h
+
+low_or_not : (n m : ℕ) → (n < m) ⊎ (m ≤ n)
+low_or_not n zero = inr (omega arith)
+low_or_not zero (suc m) = inl (omega arith)
+low_or_not (suc n) (suc m) = elim (low_or_not n m) [ inl h ↦ inl (omega (arith, h)) | inr h ↦ inr (omega (arith, h)) ]
+
+-- a name that is given a code has one, and the others keep theirs
+coded : (old new : List Name) (x w : Name) (n : ℕ) → (n < length new) × (name_at new n ≡ w) → (n < length old → new ≡ old) → (length old ≤ n → new ≡ old ++ w ∷ [])
+    → (has_name x old || name_eq x w) ≡ true → has_name x new ≡ true
+coded old new x w n at same more h = by (name_eq x w) refl
+  where
+    kept : has_name x old ≡ true → has_name x new ≡ true
+    kept k = elim (low_or_not n (length old)) [
+      | inl low ↦ ap (has_name x) (same low) ∙ k
+      | inr high ↦ ap (has_name x) (more high) ∙ (has_name-append x old (w ∷ []) ∙ ap (λ b. b || has_name x (w ∷ [])) k)
+    ]
+
+    or_no : (a : Bool) → a ≡ (a || false)
+    or_no true = refl
+    or_no false = refl
+
+    by : (b : Bool) → name_eq x w ≡ b → has_name x new ≡ true
+    by true e = has-at new x n at.0 (at.1 ∙ sym (same_name x w e))
+    by false e = kept (or_no (has_name x old) ∙ (ap (λ b. has_name x old || b) (sym e) ∙ h))
+
+pub coded_first : (old new rest : List Name) (x w : Name) (n : ℕ) → (n < length new) × (name_at new n ≡ w) → (n < length old → new ≡ old) → (length old ≤ n → new ≡ old ++ w ∷ [])
+    → (has_name x old || has_name x (w ∷ rest)) ≡ true → (has_name x new || has_name x rest) ≡ true
+coded_first old new rest x w n at same more h = by (has_name x rest) refl
+  where
+    by : (b : Bool) → has_name x rest ≡ b → (has_name x new || has_name x rest) ≡ true
+    by true e = or-true (has_name x new) (has_name x rest) e
+    by false e = ap (λ b. b || has_name x rest) (coded old new x w n at same more (ap (λ b. has_name x old || b) (sym (no (name_eq x w) (has_name x rest) e)) ∙ h))
+      where
+        no : (a b : Bool) → b ≡ false → (a || b) ≡ a
+        no true b e = refl
+        no false b e = e
+
+pub all_coded : (names words rest : List Name) (x : Name) → rest ≡ [] → (has_name x names || has_name x rest) ≡ true → has_name x names ≡ true
+all_coded names words rest x e h = or_no (has_name x names) ∙ (ap (λ r. has_name x names || has_name x r) (sym e) ∙ h)
+  where
+    or_no : (a : Bool) → a ≡ (a || false)
+    or_no true = refl
+    or_no false = refl
+
+pub first_coded : (names left rest : List Name) (w : Name) → AreNamed names left → left ≡ w ∷ rest → has_name w names ≡ true
+first_coded names left rest w named e = named w (ap (has_name w) e ∙ ap (λ b. b || has_name w rest) (name_same w))
+
+pub rest_coded : (names left rest : List Name) (w : Name) → AreNamed names left → left ≡ w ∷ rest → AreNamed names rest
+rest_coded names left rest w named e = λ x h. named x (ap (has_name x) e ∙ or-true (name_eq x w) (has_name x rest) h)
+
+-- ---- the first that stands twice
+
+got_before : (X ys : List Name) (n : ℕ) → n < length X → slice_get (X ++ ys) n ≡ Some (name_at X n)
+got_before [] ys n h = absurd (omega (arith, h))
+got_before (x ∷ X) ys zero h = refl
+got_before (x ∷ X) ys (suc n) h = got_before X ys n (omega (arith, h))
+
+got_behind : (X rest : List Name) (w : Name) → slice_get (X ++ w ∷ rest) (length X) ≡ Some w
+got_behind [] rest w = refl
+got_behind (x ∷ X) rest w = got_behind X rest w
+
+pub again : (X rest words : List Name) (w : Name) (first second : ℕ) → X ++ (w ∷ rest) ≡ words → second ≡ length X → first < second → name_at X first ≡ w → IsTwice words first second
+again X rest words w first second split count low is = (
+  low,
+  record {
+    name = w;
+    stands = ap (λ n. slice_get words n) count ∙ (ap (λ ws. slice_get ws (length X)) (sym split) ∙ got_behind X rest w);
+    is = ap (λ ws. slice_get ws first) (sym split) ∙ (got_before X (w ∷ rest) first (omega (arith, low, count)) ∙ ap Some is);
+  },
+)
+
+differ : (names : List Name) → AreDistinct names → all_different names ≡ true
+differ [] d = refl
+differ (x ∷ names) d = ap (λ b. not b && all_different names) d.0 ∙ differ names d.1
+
+pub none_again : (names left words : List Name) → names ++ left ≡ words → left ≡ [] → AreDistinct names → all_different words ≡ true
+none_again names left words split e d =
+    ap all_different (sym split ∙ (ap (λ r. names ++ r) e ∙ append-nil names)) ∙ differ names d
