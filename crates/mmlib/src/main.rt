@@ -1,7 +1,7 @@
 //! `mmlib`: formal mathematics in the Metamath language. The program's arguments and streams; crate `program` says what it does.
 #![tactic(auto)]
 
-use program::{print, run};
+use program::{print, print_no_memory, run};
 use std::alloc::{AllocError, Global};
 use std::process::ExitCode;
 use std::{env, io};
@@ -18,10 +18,10 @@ fn main(rt: HostRuntime) -> ExitCode {
                 &mut output,
                 &mut faults,
             ),
-            Err(AllocError) => print(&mut output, b"refused Memory\n", 1),
+            Err(AllocError) => print_no_memory(&mut output),
         },
         Err(error) if error.kind() == io::ErrorKind::OutOfMemory => {
-            print(&mut output, b"refused Memory\n", 1)
+            print_no_memory(&mut output)
         }
         Err(_) => print(&mut faults, b"error: the arguments are no text\n", 2),
     };

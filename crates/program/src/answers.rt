@@ -1,4 +1,5 @@
 //! What a line of a script prints.
+use crate::streams::NO_MEMORY;
 use net::StepFault;
 
 /// The bytes that the answer of an event or a verdict needs at most.
@@ -19,7 +20,7 @@ fn refusal(fault: StepFault) -> &'static [u8] {
         StepFault::LogFull => b"refused LogFull\n",
         StepFault::RoundsSpent => b"refused RoundsSpent\n",
         StepFault::TooLong => b"refused TooLong\n",
-        StepFault::Memory => b"refused Memory\n",
+        StepFault::Memory => NO_MEMORY,
         StepFault::NoNode => b"refused NoNode\n",
         StepFault::NoPacket => b"refused NoPacket\n",
         StepFault::EventsSpent => b"refused EventsSpent\n",

@@ -2,7 +2,7 @@
 use crate::database::{ask, print_outline};
 use crate::play::play;
 use crate::serve::serve;
-use crate::streams::print;
+use crate::streams::{print, print_no_memory};
 use commands::{Request, WordsFault, parse_words};
 use std::io::{Read, Write};
 use std::sync::Wait;
@@ -32,7 +32,7 @@ pub fn run<
             Some(weights) => serve(rt, rt.alloc(), weights, workers, input, output),
             None => print(faults, b"bad weights\n", 2),
         },
-        Err(WordsFault::Memory) => print(output, b"refused Memory\n", 1),
+        Err(WordsFault::Memory) => print_no_memory(output),
         Err(WordsFault::Bad { text }) => print(faults, text.as_bytes(), 2),
     }
 }

@@ -1,11 +1,11 @@
 //! The commands on a database: `outline`, and the questions on a text that is applied to an empty library.
 use crate::proofs::{Wanted, print_proof};
 use crate::refusal::{print_outline_reason, print_refusal};
-use crate::streams::{ReadFailure, TEXT_LIMIT, print, read_text};
+use crate::streams::{NO_MEMORY, ReadFailure, print, print_no_memory, read_text};
 use bytes::Bytes;
 use commands::Question;
 use extract::{ExtractFault, extract};
-use library::{AskFault, Cause, Entry, Library, Submission, Verdict};
+use library::{AskFault, Cause, Entry, Library, MOST_BYTES, Submission, Verdict};
 use mm_read::Stmt;
 use outline::{outline_text, push_number};
 use printed::{push_assertions, push_labels, push_tree};
@@ -26,11 +26,11 @@ pub fn print_outline<I: Read, O: Write, F: Write>(
         Err(failure) => return print_failure(output, failure),
     };
     let text = text.as_slice();
-    if text.len() > TEXT_LIMIT {
+    if text.len() > MOST_BYTES {
         return print_refusal(alloc, text, Cause::TooLong, output, faults);
     }
     let Ok(lines) = outline_text(alloc, text) else {
-        return print(output, b"refused Memory\n", 1);
+        return print_no_memory(output);
     };
     if print(output, lines.as_slice(), 0) != 0 {
         return 1;
@@ -46,7 +46,7 @@ pub fn print_outline<I: Read, O: Write, F: Write>(
 fn print_failure<O: Write>(output: &mut O, failure: ReadFailure) -> u8 {
     match failure {
         ReadFailure::Input => print(output, b"refused Input\n", 1),
-        ReadFailure::Memory => print(output, b"refused Memory\n", 1),
+        ReadFailure::Memory => print_no_memory(output),
     }
 }
 
@@ -65,13 +65,13 @@ pub fn ask<R: Threads + Sync, I: Read, O: Write, F: Write>(
         Err(failure) => return print_failure(output, failure),
     };
     let Ok(text) = Bytes::from_vec(text) else {
-        return print(output, b"refused Memory\n", 1);
+        return print_no_memory(output);
     };
     let mut library = Library::new(alloc);
     match judge(rt, &mut library, &text) {
         Ok(Verdict::Refused(cause)) => print_refusal(alloc, text.as_slice(), cause, output, faults),
         Ok(_) => print_answer(alloc, question, &library, output),
-        Err(_) => print(output, b"refused Memory\n", 1),
+        Err(_) => print_no_memory(output),
     }
 }
 
@@ -190,7 +190,7 @@ pub(crate) fn fault_line(fault: AskFault) -> &'static [u8] {
         AskFault::NoLabel => b"refused NoLabel\n",
         AskFault::NotProvable => b"refused NotProvable\n",
         AskFault::TooLarge => b"refused TooLarge\n",
-        AskFault::Memory => b"refused Memory\n",
+        AskFault::Memory => NO_MEMORY,
     }
 }
 
@@ -200,6 +200,6 @@ fn extract_line(fault: ExtractFault) -> &'static [u8] {
         ExtractFault::NoLabel => b"refused NoLabel\n",
         ExtractFault::NotAssertion => b"refused NotAssertion\n",
         ExtractFault::SameLabel => b"refused SameLabel\n",
-        ExtractFault::Memory => b"refused Memory\n",
+        ExtractFault::Memory => NO_MEMORY,
     }
 }

@@ -18,4 +18,4 @@ mod serve;
 mod streams;
 
 pub use command_line::run;
-pub use streams::print;
+pub use streams::{print, print_no_memory};

@@ -1,7 +1,7 @@
 //! The command `play`: a script drives one world of nodes.
 use crate::answers::{ANSWER_ROOM, answer_bytes};
 use crate::script_input::{print_unread, read_script};
-use crate::streams::print;
+use crate::streams::{print, print_no_memory};
 use net::{Event, StepFault};
 use printed::{push_decided, push_export, push_library, push_log, push_packet, push_posted};
 use scripts::PlayLine;
@@ -23,7 +23,7 @@ pub fn play<I: Read, O: Write>(
     };
     match drive(alloc, weights, lines, output) {
         Ok(status) => status,
-        Err(_) => print(output, b"refused Memory\n", 1),
+        Err(_) => print_no_memory(output),
     }
 }
 

@@ -1,5 +1,5 @@
 //! A database that is refused: the line that is printed of it, and why, in words.
-use crate::streams::print;
+use crate::streams::{print, print_no_memory};
 use explanation::{DatabaseFault, explain_refusal};
 use library::{Cause, Verdict};
 use mm_read::{ReadFault, read};
@@ -19,7 +19,7 @@ pub fn print_refusal<O: Write, F: Write>(
     faults: &mut F,
 ) -> u8 {
     let Ok(line) = refusal_line(alloc, cause) else {
-        return print(output, b"refused Memory\n", 1);
+        return print_no_memory(output);
     };
     if print(output, line.as_slice(), 0) == 0
         && let Some(fault) = fault_of(cause)

@@ -1,5 +1,5 @@
 //! The script of a command, from its input.
-use crate::streams::{ReadFailure, print, read_all};
+use crate::streams::{ReadFailure, print, print_no_memory, read_all};
 use scripts::{Line, ScriptFault, parse_script};
 use std::alloc::Global;
 use std::io::{Read, Write};
@@ -32,7 +32,7 @@ pub fn read_script<L: Line, I: Read>(alloc: Global, input: &mut I) -> Result<Vec
 pub fn print_unread<O: Write>(output: &mut O, unread: Unread) -> u8 {
     match unread {
         Unread::Input => print(output, b"refused Input\n", 1),
-        Unread::Memory => print(output, b"refused Memory\n", 1),
+        Unread::Memory => print_no_memory(output),
         Unread::BadLine { number } => {
             if writeln!(output, "bad line {number}").is_err() {
                 return 1;

@@ -8,7 +8,7 @@ ghost use Rattle.printed.specs.Printed.{list_text};
 use crate::answers::{ANSWER_ROOM, answer_bytes};
 use crate::node_threads::{NodesDesk, start_nodes, stop_nodes};
 use crate::script_input::{print_unread, read_script};
-use crate::streams::print;
+use crate::streams::{print, print_no_memory};
 use commands::WorkerCount;
 use library::Verdict;
 use net::StepFault;
@@ -39,7 +39,7 @@ pub fn serve<R: Threads + Wait + Copy + Send + Sync + Drop + 'static, I: Read, O
         Err(unread) => return print_unread(output, unread),
     };
     let Ok(mut nodes) = start_nodes(rt, alloc, weights, workers) else {
-        return print(output, b"refused Memory\n", 1);
+        return print_no_memory(output);
     };
     let answered = match (nodes.desk(), Vec::with_capacity(alloc, ANSWER_ROOM)) {
         (Ok(desk), Ok(text)) => answer_all(rt, &desk, lines, text, output),
@@ -49,9 +49,9 @@ pub fn serve<R: Threads + Wait + Copy + Send + Sync + Drop + 'static, I: Read, O
     match answered {
         Answered::All { status } => match stopped {
             Ok(()) => print(output, b"stopped\n", status),
-            Err(_) => print(output, b"refused Memory\n", 1),
+            Err(_) => print_no_memory(output),
         },
-        Answered::WithoutMemory => print(output, b"refused Memory\n", 1),
+        Answered::WithoutMemory => print_no_memory(output),
         Answered::Unwritten => 1,
     }
 }

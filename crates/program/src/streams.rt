@@ -1,9 +1,7 @@
 //! What is read from the input, and how an answer is written.
+use library::MOST_BYTES;
 use std::alloc::Global;
 use std::io::{ErrorKind, Read, Write};
-
-/// The greatest count of bytes that a text may have.
-pub const TEXT_LIMIT: usize = 67_108_864;
 
 /// How many bytes are asked for at once.
 const PART: usize = 65_536;
@@ -19,7 +17,7 @@ pub enum ReadFailure {
 
 /// The whole input, or its first bytes, one more than a text may have.
 pub fn read_text<I: Read>(alloc: Global, input: &mut I) -> Result<Vec<u8>, ReadFailure> {
-    read_at_most(alloc, input, TEXT_LIMIT + 1)
+    read_at_most(alloc, input, MOST_BYTES + 1)
 }
 
 /// The whole input.
@@ -54,6 +52,14 @@ fn read_at_most<I: Read>(
         }
     }
     Err(ReadFailure::Input)
+}
+
+/// The line of what is refused for want of memory.
+pub const NO_MEMORY: &[u8] = b"refused Memory\n";
+
+/// Prints that there was no memory; the answer is the exit status.
+pub fn print_no_memory<W: Write>(writer: &mut W) -> u8 {
+    print(writer, NO_MEMORY, 1)
 }
 
 /// Writes the text, and gives this exit status, or 1 where a write failed.

@@ -13,7 +13,6 @@ mod fault;
 mod header;
 mod item;
 mod items;
-mod label;
 mod laws;
 mod letters;
 mod listing;
