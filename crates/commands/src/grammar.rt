@@ -5,6 +5,9 @@ use std::alloc::{AllocError, Global};
 /// What `--version` prints behind the name.
 const VERSION: &str = "1.0.0";
 
+/// The line that `--version` prints.
+pub const VERSION_LINE: &str = "mmlib 1.0.0\n";
+
 /// All commands of the program.
 pub fn commands<'a>(alloc: Global) -> Result<Command<'a>, AllocError> {
     let program = Command::new(alloc, "mmlib")

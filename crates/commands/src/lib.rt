@@ -12,6 +12,7 @@ mod request;
 mod weights;
 mod worker_count;
 
+pub use grammar::VERSION_LINE;
 pub use parse::parse_words;
 pub use request::{ProofForm, Question, Request, WordsFault};
 pub use worker_count::{MOST_WORKERS, WorkerCount};

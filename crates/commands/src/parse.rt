@@ -29,9 +29,7 @@ fn answered<'a>(
 ) -> Result<Request<'a>, WordsFault> {
     match error.kind() {
         ErrorKind::OutOfMemory => Err(WordsFault::Memory),
-        ErrorKind::DisplayVersion => Ok(Request::Version {
-            line: format!(in alloc; "{error}")?,
-        }),
+        ErrorKind::DisplayVersion => Ok(Request::Version),
         ErrorKind::UnknownArgument => Err(WordsFault::Bad {
             text: with_hint(alloc, error, words)?,
         }),

@@ -6,10 +6,8 @@ use synod::Weights;
 /// What a command line asks for.
 #[derive(Drop)]
 pub enum Request<'a> {
-    /// `--version`: the name and the version, as a line.
-    Version {
-        line: String,
-    },
+    /// `--version`: the name and the version.
+    Version,
     /// `outline`: the outline of a database.
     Outline,
     /// A question about a database.

@@ -3,7 +3,7 @@ use crate::database::{ask, print_outline};
 use crate::play::play;
 use crate::serve::serve;
 use crate::streams::{print, print_no_memory};
-use commands::{Request, WordsFault, parse_words};
+use commands::{Request, VERSION_LINE, WordsFault, parse_words};
 use std::io::{Read, Write};
 use std::sync::Wait;
 use std::thread::Threads;
@@ -21,18 +21,32 @@ pub fn run<
     F: Write,
 >(rt: &R, words: &[&str], input: &mut I, output: &mut O, faults: &mut F) -> u8 {
     match parse_words(rt.alloc(), words) {
-        Ok(Request::Version { line }) => print(output, line.as_bytes(), 0),
-        Ok(Request::Outline) => print_outline(rt.alloc(), input, output, faults),
-        Ok(Request::Ask(question)) => ask(rt, rt.alloc(), question, input, output, faults),
-        Ok(Request::Play { weights }) => match weights {
-            Some(weights) => play(rt.alloc(), weights, input, output),
-            None => print(faults, b"bad weights\n", 2),
-        },
-        Ok(Request::Serve { weights, workers }) => match weights {
-            Some(weights) => serve(rt, rt.alloc(), weights, workers, input, output),
-            None => print(faults, b"bad weights\n", 2),
-        },
+        Ok(request) => answer(rt, request, input, output, faults),
         Err(WordsFault::Memory) => print_no_memory(output),
         Err(WordsFault::Bad { text }) => print(faults, text.as_bytes(), 2),
+    }
+}
+
+/// Does what is asked for; the answer is the exit status.
+fn answer<
+    R: AllocGlobal + Threads + Wait + Copy + Send + Sync + Drop + 'static,
+    I: Read,
+    O: Write,
+    F: Write,
+>(rt: &R, request: Request<'_>, input: &mut I, output: &mut O, faults: &mut F) -> u8 {
+    match request {
+        Request::Version => print(output, VERSION_LINE.as_bytes(), 0),
+        Request::Outline => print_outline(rt.alloc(), input, output, faults),
+        Request::Ask(question) => ask(rt, rt.alloc(), &question, input, output, faults),
+        Request::Play {
+            weights: Some(weights),
+        } => play(rt.alloc(), weights, input, output),
+        Request::Serve {
+            weights: Some(weights),
+            workers,
+        } => serve(rt, rt.alloc(), weights, workers, input, output),
+        Request::Play { weights: None } | Request::Serve { weights: None, .. } => {
+            print(faults, b"bad weights\n", 2)
+        }
     }
 }

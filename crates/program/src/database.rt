@@ -55,22 +55,47 @@ fn print_failure<O: Write>(output: &mut O, failure: ReadFailure) -> u8 {
 pub fn ask<R: Threads + Sync, I: Read, O: Write, F: Write>(
     rt: &R,
     alloc: Global,
-    question: Question<'_>,
+    question: &Question<'_>,
     input: &mut I,
     output: &mut O,
     faults: &mut F,
 ) -> u8 {
-    let text = match read_text(alloc, input) {
-        Ok(text) => text,
-        Err(failure) => return print_failure(output, failure),
-    };
-    let Ok(text) = Bytes::from_vec(text) else {
-        return print_no_memory(output);
-    };
+    match read_text(alloc, input) {
+        Ok(text) => match Bytes::from_vec(text) {
+            Ok(text) => ask_text(rt, alloc, question, &text, output, faults),
+            Err(_) => print_no_memory(output),
+        },
+        Err(failure) => print_failure(output, failure),
+    }
+}
+
+/// The same about a text.
+fn ask_text<R: Threads + Sync, O: Write, F: Write>(
+    rt: &R,
+    alloc: Global,
+    question: &Question<'_>,
+    text: &Bytes,
+    output: &mut O,
+    faults: &mut F,
+) -> u8 {
     let mut library = Library::new(alloc);
-    match judge(rt, &mut library, &text) {
+    let verdict = judge(rt, &mut library, text);
+    print_verdict(alloc, question, text, &library, verdict, output, faults)
+}
+
+/// Prints the answer about a library that the text made, or why it is refused; the answer is the exit status.
+fn print_verdict<O: Write, F: Write>(
+    alloc: Global,
+    question: &Question<'_>,
+    text: &Bytes,
+    library: &Library,
+    verdict: Result<Verdict, AllocError>,
+    output: &mut O,
+    faults: &mut F,
+) -> u8 {
+    match verdict {
         Ok(Verdict::Refused(cause)) => print_refusal(alloc, text.as_slice(), cause, output, faults),
-        Ok(_) => print_answer(alloc, question, &library, output),
+        Ok(_) => print_answer(alloc, question, library, output),
         Err(_) => print_no_memory(output),
     }
 }
@@ -78,17 +103,11 @@ pub fn ask<R: Threads + Sync, I: Read, O: Write, F: Write>(
 /// Prints the answer about a library, or why there is none.
 fn print_answer<O: Write>(
     alloc: Global,
-    question: Question<'_>,
+    question: &Question<'_>,
     library: &Library,
     output: &mut O,
 ) -> u8 {
-    let answered = match question {
-        Question::Check => proved(alloc, library.statements()).map_err(AskFault::from),
-        Question::List => list(alloc, library).map_err(AskFault::from),
-        Question::Export => library.export().map_err(AskFault::from),
-        Question::Tree { label } => tree(alloc, library, label),
-        Question::Trace { label } => trace(alloc, library, label),
-        Question::Usage { label, all } => usage(alloc, library, label, all),
+    match question {
         Question::Proof {
             label,
             essential,
@@ -96,18 +115,32 @@ fn print_answer<O: Write>(
         } => {
             let wanted = Wanted {
                 label: label.as_bytes(),
-                is_essential: essential,
-                form,
+                is_essential: *essential,
+                form: *form,
             };
-            return print_proof(alloc, library, &wanted, output);
+            print_proof(alloc, library, &wanted, output)
         }
-        Question::Extract { labels } => {
-            return print_extract(alloc, library, labels.as_slice(), output);
-        }
-    };
-    match answered {
-        Ok(lines) => print(output, lines.as_slice(), 0),
-        Err(fault) => print(output, fault_line(fault), 1),
+        Question::Extract { labels } => print_extract(alloc, library, labels.as_slice(), output),
+        _ => match lines(alloc, question, library) {
+            Ok(lines) => print(output, lines.as_slice(), 0),
+            Err(fault) => print(output, fault_line(fault), 1),
+        },
+    }
+}
+
+/// The lines that answer a question. Those of `proof` and `extract` are printed by `print_answer`.
+fn lines(
+    alloc: Global,
+    question: &Question<'_>,
+    library: &Library,
+) -> Result<Vec<u8>, AskFault> {
+    match question {
+        Question::List => Ok(list(alloc, library)?),
+        Question::Export => Ok(library.export()?),
+        Question::Tree { label } => tree(alloc, library, label),
+        Question::Trace { label } => trace(alloc, library, label),
+        Question::Usage { label, all } => usage(alloc, library, label, *all),
+        _ => Ok(proved(alloc, library.statements())?),
     }
 }
 
