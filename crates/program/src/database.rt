@@ -108,6 +108,12 @@ fn print_answer<O: Write>(
     output: &mut O,
 ) -> u8 {
     match question {
+        Question::Check => print_lines(output, proved(alloc, library.statements())),
+        Question::List => print_lines(output, list(alloc, library)),
+        Question::Export => print_lines(output, export(library)),
+        Question::Tree { label } => print_lines(output, tree(alloc, library, label)),
+        Question::Trace { label } => print_lines(output, trace(alloc, library, label)),
+        Question::Usage { label, all } => print_lines(output, usage(alloc, library, label, *all)),
         Question::Proof {
             label,
             essential,
@@ -121,26 +127,14 @@ fn print_answer<O: Write>(
             print_proof(alloc, library, &wanted, output)
         }
         Question::Extract { labels } => print_extract(alloc, library, labels.as_slice(), output),
-        _ => match lines(alloc, question, library) {
-            Ok(lines) => print(output, lines.as_slice(), 0),
-            Err(fault) => print(output, fault_line(fault), 1),
-        },
     }
 }
 
-/// The lines that answer a question. Those of `proof` and `extract` are printed by `print_answer`.
-fn lines(
-    alloc: Global,
-    question: &Question<'_>,
-    library: &Library,
-) -> Result<Vec<u8>, AskFault> {
-    match question {
-        Question::List => Ok(list(alloc, library)?),
-        Question::Export => Ok(library.export()?),
-        Question::Tree { label } => tree(alloc, library, label),
-        Question::Trace { label } => trace(alloc, library, label),
-        Question::Usage { label, all } => usage(alloc, library, label, *all),
-        _ => Ok(proved(alloc, library.statements())?),
+/// Prints the lines of an answer, or why there is none; the answer is the exit status.
+fn print_lines<O: Write>(output: &mut O, answered: Result<Vec<u8>, AskFault>) -> u8 {
+    match answered {
+        Ok(lines) => print(output, lines.as_slice(), 0),
+        Err(fault) => print(output, fault_line(fault), 1),
     }
 }
 
@@ -158,11 +152,16 @@ fn print_extract<O: Write>(
 }
 
 /// The assertions, a line each.
-fn list(alloc: Global, library: &Library) -> Result<Vec<u8>, AllocError> {
+fn list(alloc: Global, library: &Library) -> Result<Vec<u8>, AskFault> {
     let list = library.list()?;
     let mut lines = Vec::new(alloc);
     push_assertions(&mut lines, list.as_slice())?;
     Ok(lines)
+}
+
+/// The statements in the export form.
+fn export(library: &Library) -> Result<Vec<u8>, AskFault> {
+    Ok(library.export()?)
 }
 
 /// The derivation of the `$p` of the label, a line a node.
@@ -204,7 +203,7 @@ fn judge<R: Threads + Sync>(
 }
 
 /// `proved` and how many `$p` there are.
-fn proved(alloc: Global, statements: &[Stmt]) -> Result<Vec<u8>, AllocError> {
+fn proved(alloc: Global, statements: &[Stmt]) -> Result<Vec<u8>, AskFault> {
     let mut count = 0u64;
     for statement in statements {
         if let Stmt::Prove { .. } = statement {
