@@ -6,7 +6,7 @@ use crate::theorem::Theorem;
 use explain::{CodeBreak, LetterFault};
 use mm_lex::Words;
 use proof_code::is_compressed;
-use std::alloc::{AllocError, Global};
+use std::alloc::Global;
 
 /// The rule that the tokens break, and where.
 pub(crate) fn explain_break(
@@ -14,12 +14,12 @@ pub(crate) fn explain_break(
     page: &mut Page,
     theorem: &Theorem<'_>,
     broken: CodeBreak,
-) -> Result<(), AllocError> {
+) {
     let proof = theorem.proof;
     match broken {
         CodeBreak::Unfinished { token } => {
-            theorem.push_spot(alloc, page, Spot { token, byte: 0 })?;
-            page.push(b" is not finished\n")
+            theorem.push_spot(alloc, page, Spot { token, byte: 0 });
+            page.push(b" is not finished\n");
         }
         CodeBreak::NotLabel { token } => {
             push_break(
@@ -58,17 +58,11 @@ pub(crate) fn explain_break(
 }
 
 /// Where the tokens cannot be read, and why.
-fn push_break(
-    alloc: Global,
-    page: &mut Page,
-    theorem: &Theorem<'_>,
-    spot: Spot,
-    words: &[u8],
-) -> Result<(), AllocError> {
-    theorem.push_spot(alloc, page, spot)?;
-    page.push(b" cannot be read\n  ")?;
-    page.push(words)?;
-    page.push(b"\n")
+fn push_break(alloc: Global, page: &mut Page, theorem: &Theorem<'_>, spot: Spot, words: &[u8]) {
+    theorem.push_spot(alloc, page, spot);
+    page.push(b" cannot be read\n  ");
+    page.push(words);
+    page.push(b"\n");
 }
 
 /// A token that is no label.

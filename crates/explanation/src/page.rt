@@ -5,45 +5,57 @@ use mm_lex::Span;
 use places::line_and_column;
 use std::alloc::{AllocError, Global};
 
-/// The lines of an explanation.
+/// The lines of an explanation, or nothing where a growth was refused: all that is pushed after that is dropped.
 #[derive(Drop)]
 pub(crate) struct Page {
     lines: Vec<u8>,
+    is_refused: bool,
 }
 
 impl Page {
     pub(crate) fn new(alloc: Global) -> Page {
         Page {
             lines: Vec::new(alloc),
+            is_refused: false,
         }
     }
 
-    pub(crate) fn into_lines(self) -> Vec<u8> {
-        let Page { lines } = self;
-        lines
+    /// The lines, where there was memory for all of them.
+    pub(crate) fn into_lines(self) -> Result<Vec<u8>, AllocError> {
+        let Page { lines, is_refused } = self;
+        if is_refused {
+            return Err(AllocError);
+        }
+        Ok(lines)
     }
 
-    pub(crate) fn push(&mut self, words: &[u8]) -> Result<(), AllocError> {
-        self.lines.extend_from_slice(words)
+    /// There is no memory for what comes next.
+    pub(crate) fn refuse(&mut self) {
+        self.is_refused = true;
     }
 
-    pub(crate) fn push_number(&mut self, number: usize) -> Result<(), AllocError> {
+    pub(crate) fn push(&mut self, words: &[u8]) {
+        if self.lines.extend_from_slice(words).is_err() {
+            self.refuse();
+        }
+    }
+
+    pub(crate) fn push_number(&mut self, number: usize) {
         let mut buffer = Buffer::new();
-        let digits = buffer.format(number);
-        self.lines.extend_from_slice(digits.as_bytes())
+        self.push(buffer.format(number).as_bytes());
     }
 
     /// `LINE:COLUMN`
-    pub(crate) fn push_place(&mut self, text: &[u8], offset: usize) -> Result<(), AllocError> {
+    pub(crate) fn push_place(&mut self, text: &[u8], offset: usize) {
         let within = if offset <= text.len() {
             offset
         } else {
             text.len()
         };
         let place = line_and_column(text, within);
-        self.push_number(place.line)?;
-        self.push(b":")?;
-        self.push_number(place.column)
+        self.push_number(place.line);
+        self.push(b":");
+        self.push_number(place.column);
     }
 }
 

@@ -17,57 +17,42 @@ use mm_read::{ReadFault, Stmt, read};
 use proof_code::Items;
 use reasons::{Fault, Reason};
 use scope::Scope;
-use std::alloc::{AllocError, Global};
+use std::alloc::Global;
 
 /// The rule of proof code that a proof breaks, or the first fault of its run.
-pub(crate) fn explain_proof(
-    alloc: Global,
-    page: &mut Page,
-    text: &[u8],
-    statement: usize,
-) -> Result<(), AllocError> {
+pub(crate) fn explain_proof(alloc: Global, page: &mut Page, text: &[u8], statement: usize) {
     match read(alloc, text) {
         Ok(statements) => explain_wrong(alloc, page, text, statements.as_slice(), statement),
-        Err(ReadFault::Memory) => Err(AllocError),
-        Err(_) => Ok(()),
+        Err(ReadFault::Memory) => page.refuse(),
+        Err(_) => {}
     }
 }
 
-fn explain_wrong(
-    alloc: Global,
-    page: &mut Page,
-    text: &[u8],
-    statements: &[Stmt],
-    at: usize,
-) -> Result<(), AllocError>
+fn explain_wrong(alloc: Global, page: &mut Page, text: &[u8], statements: &[Stmt], at: usize)
     requires { AreShaped statements.now }
 {
     let Some(theorem) = Theorem::new(text, statements, at) else {
-        return Ok(());
+        return;
     };
     let mut scope = Scope::new(alloc);
     let mut frames = Frames::new(alloc);
     match enter(&mut scope, &mut frames, statements) {
         Ok(true) => explain_theorem(alloc, page, &frames, &theorem),
-        Ok(false) => Ok(()),
-        Err(error) => Err(error),
+        Ok(false) => {}
+        Err(_) => page.refuse(),
     }
 }
 
-fn explain_theorem(
-    alloc: Global,
-    page: &mut Page,
-    frames: &Frames,
-    theorem: &Theorem<'_>,
-) -> Result<(), AllocError>
+fn explain_theorem(alloc: Global, page: &mut Page, frames: &Frames, theorem: &Theorem<'_>)
     requires { (s : Statement) × IsProvable frames.now.statements theorem.now.at s }
 {
-    match explain(alloc, frames, theorem.at, theorem.proof)? {
-        Some(WhyUnproved::Code(broken)) => explain_break(alloc, page, theorem, broken),
-        Some(WhyUnproved::Run { items, reason }) => {
-            explain_reason(alloc, page, frames, theorem, &items, &reason)
+    match explain(alloc, frames, theorem.at, theorem.proof) {
+        Ok(Some(WhyUnproved::Code(broken))) => explain_break(alloc, page, theorem, broken),
+        Ok(Some(WhyUnproved::Run { items, reason })) => {
+            explain_reason(alloc, page, frames, theorem, &items, &reason);
         }
-        None => Ok(()),
+        Ok(None) => {}
+        Err(_) => page.refuse(),
     }
 }
 
@@ -79,10 +64,10 @@ fn explain_reason(
     theorem: &Theorem<'_>,
     items: &Items,
     reason: &Reason,
-) -> Result<(), AllocError> {
+) {
     match reason {
         Reason::Item { item, fault } => {
-            explain_step(alloc, page, frames, theorem, items, *item, fault)
+            explain_step(alloc, page, frames, theorem, items, *item, fault);
         }
         Reason::Results { count } => explain_results(alloc, page, theorem, *count),
         Reason::Theorem { proved } => explain_other(
@@ -104,23 +89,18 @@ fn explain_step(
     items: &Items,
     item: usize,
     fault: &Fault,
-) -> Result<(), AllocError> {
-    theorem.push_spot(alloc, page, spot_of(theorem.proof, item))?;
-    push_step(page, items, item)?;
-    push_fault(page, theorem, frames, fault)
+) {
+    theorem.push_spot(alloc, page, spot_of(theorem.proof, item));
+    push_step(page, items, item);
+    push_fault(page, theorem, frames, fault);
 }
 
 /// Not one result is left.
-fn explain_results(
-    alloc: Global,
-    page: &mut Page,
-    theorem: &Theorem<'_>,
-    count: usize,
-) -> Result<(), AllocError> {
-    theorem.push_end(alloc, page)?;
-    page.push(b" is wrong at its end\n  it leaves ")?;
-    page.push_number(count)?;
-    page.push(b" results, and one has to be left\n")
+fn explain_results(alloc: Global, page: &mut Page, theorem: &Theorem<'_>, count: usize) {
+    theorem.push_end(alloc, page);
+    page.push(b" is wrong at its end\n  it leaves ");
+    page.push_number(count);
+    page.push(b" results, and one has to be left\n");
 }
 
 /// Another theorem is proved.
@@ -130,15 +110,15 @@ fn explain_other(
     frames: &Frames,
     theorem: &Theorem<'_>,
     proved: &[u32],
-) -> Result<(), AllocError> {
-    theorem.push_end(alloc, page)?;
-    page.push(b" is wrong at its end\n  it proves")?;
-    push_expression(page, frames, proved)?;
-    page.push(b"\n  but ")?;
-    page.push(theorem.label)?;
-    page.push(b" says")?;
-    push_expression(page, frames, expr_at(frames, theorem.at))?;
-    page.push(b"\n")
+) {
+    theorem.push_end(alloc, page);
+    page.push(b" is wrong at its end\n  it proves");
+    push_expression(page, frames, proved);
+    page.push(b"\n  but ");
+    page.push(theorem.label);
+    page.push(b" says");
+    push_expression(page, frames, expr_at(frames, theorem.at));
+    page.push(b"\n");
 }
 
 /// The expression of the statement at a position; nothing where none stands there.
@@ -150,21 +130,23 @@ fn expr_at(frames: &Frames, at: usize) -> &[u32] {
 }
 
 /// Which step of the proof the item is, and what it cites.
-fn push_step(page: &mut Page, items: &Items, item: usize) -> Result<(), AllocError> {
+fn push_step(page: &mut Page, items: &Items, item: usize) {
     let parts = items.parts();
-    page.push(b" is wrong at step ")?;
-    page.push_number(step_of(parts.numbers, item))?;
+    page.push(b" is wrong at step ");
+    page.push_number(step_of(parts.numbers, item));
     let number = match parts.numbers.get(item) {
         Some(number) => *number as usize,
         None => 0,
     };
     if number == 0 {
-        return page.push(b", which marks a result\n");
+        page.push(b", which marks a result\n");
+        return;
     }
     if number > parts.labels.len() {
-        return page.push(b", which recalls a result\n");
+        page.push(b", which recalls a result\n");
+        return;
     }
-    page.push(b", which cites ")?;
-    page.push(word_at(parts.labels, number - 1))?;
-    page.push(b"\n")
+    page.push(b", which cites ");
+    page.push(word_at(parts.labels, number - 1));
+    page.push(b"\n");
 }

@@ -34,16 +34,11 @@ pub fn explain_refusal(
     fault: DatabaseFault,
 ) -> Result<Vec<u8>, AllocError> {
     let mut page = Page::new(alloc);
-    push_lines(alloc, &mut page, text, fault)?;
-    Ok(page.into_lines())
+    push_lines(alloc, &mut page, text, fault);
+    page.into_lines()
 }
 
-fn push_lines(
-    alloc: Global,
-    page: &mut Page,
-    text: &[u8],
-    fault: DatabaseFault,
-) -> Result<(), AllocError> {
+fn push_lines(alloc: Global, page: &mut Page, text: &[u8], fault: DatabaseFault) {
     match fault {
         DatabaseFault::TooLong => page.push(
             b"a database may have at most 67108864 bytes, and this one has more\n",

@@ -5,7 +5,7 @@ use mm_read::{ReadFault, Stmt, read};
 use offence::{Witness, never_closed, witness_of};
 use places::place_of;
 use scope::Rule;
-use std::alloc::{AllocError, Global};
+use std::alloc::Global;
 
 /// A rule that a statement of a text breaks.
 #[derive(Clone, Copy)]
@@ -24,7 +24,7 @@ pub(crate) fn explain_rule(
     text: &[u8],
     statement: usize,
     rule: Rule,
-) -> Result<(), AllocError> {
+) {
     match read(alloc, text) {
         Ok(statements) => explain_broken(
             alloc,
@@ -36,25 +36,25 @@ pub(crate) fn explain_rule(
                 rule,
             },
         ),
-        Err(ReadFault::Memory) => Err(AllocError),
-        Err(_) => Ok(()),
+        Err(ReadFault::Memory) => page.refuse(),
+        Err(_) => {}
     }
 }
 
-fn explain_broken(alloc: Global, page: &mut Page, broken: &Broken<'_>) -> Result<(), AllocError> {
+fn explain_broken(alloc: Global, page: &mut Page, broken: &Broken<'_>) {
     if broken.statement > broken.statements.len() {
         return explain_open(alloc, page, broken);
     }
-    explain_statement(alloc, page, broken)
+    explain_statement(alloc, page, broken);
 }
 
 /// A block that is never closed.
-fn explain_open(alloc: Global, page: &mut Page, broken: &Broken<'_>) -> Result<(), AllocError> {
+fn explain_open(alloc: Global, page: &mut Page, broken: &Broken<'_>) {
     let Some(open) = never_closed(broken.statements) else {
-        return Ok(());
+        return;
     };
-    push_start(alloc, page, broken.text, open, 1)?;
-    page.push(b"this block is never closed\n")
+    push_start(alloc, page, broken.text, open, 1);
+    page.push(b"this block is never closed\n");
 }
 
 /// `LINE:COLUMN: ` of a token of a statement.
@@ -64,9 +64,9 @@ pub(crate) fn push_start(
     text: &[u8],
     statement: usize,
     token: usize,
-) -> Result<(), AllocError> {
-    push_token_place(alloc, page, text, statement, token)?;
-    page.push(b": ")
+) {
+    push_token_place(alloc, page, text, statement, token);
+    page.push(b": ");
 }
 
 /// `LINE:COLUMN` of a token of a statement.
@@ -76,24 +76,20 @@ pub(crate) fn push_token_place(
     text: &[u8],
     statement: usize,
     token: usize,
-) -> Result<(), AllocError> {
+) {
     match place_of(alloc, text, statement, token) {
         Ok(Some(span)) => page.push_place(text, span.start),
-        Ok(None) => Ok(()),
-        Err(_) => Err(AllocError),
+        Ok(None) => {}
+        Err(_) => page.refuse(),
     }
 }
 
-fn explain_statement(
-    alloc: Global,
-    page: &mut Page,
-    broken: &Broken<'_>,
-) -> Result<(), AllocError> {
+fn explain_statement(alloc: Global, page: &mut Page, broken: &Broken<'_>) {
     let Some(index) = broken.statement.checked_sub(1) else {
-        return Ok(());
+        return;
     };
     if index >= broken.statements.len() {
-        return Ok(());
+        return;
     }
     let (earlier, rest) = broken.statements.split_at(index);
     let stmt = &rest[0];
@@ -101,48 +97,36 @@ fn explain_statement(
         Some(Witness::Statement) => explain_alone(alloc, page, broken),
         Some(Witness::Symbol { symbol }) => explain_symbol(alloc, page, broken, stmt, symbol),
         Some(Witness::Twice { first, second }) => {
-            explain_twice(alloc, page, broken, stmt, first, second)
+            explain_twice(alloc, page, broken, stmt, first, second);
         }
         Some(Witness::Earlier { symbol, statement }) => {
-            explain_earlier(alloc, page, broken, stmt, symbol, statement)
+            explain_earlier(alloc, page, broken, stmt, symbol, statement);
         }
         Some(Witness::Label { statement }) => explain_label(alloc, page, broken, stmt, statement),
-        None => Ok(()),
+        None => {}
     }
 }
 
 /// A `$c` in a block, or a `$}` that closes none.
-fn explain_alone(alloc: Global, page: &mut Page, broken: &Broken<'_>) -> Result<(), AllocError> {
-    push_start(alloc, page, broken.text, broken.statement, 1)?;
+fn explain_alone(alloc: Global, page: &mut Page, broken: &Broken<'_>) {
+    push_start(alloc, page, broken.text, broken.statement, 1);
     if broken.rule == Rule::G1 {
         return page.push(
             b"this $c stands inside a block; constants are declared outside all blocks\n",
         );
     }
-    page.push(b"this $} closes no block\n")
+    page.push(b"this $} closes no block\n");
 }
 
 /// The place of a symbol of the statement, and the symbol.
-fn push_symbol(
-    alloc: Global,
-    page: &mut Page,
-    broken: &Broken<'_>,
-    stmt: &Stmt,
-    symbol: usize,
-) -> Result<(), AllocError> {
+fn push_symbol(alloc: Global, page: &mut Page, broken: &Broken<'_>, stmt: &Stmt, symbol: usize) {
     let token = symbols_before(stmt).saturating_add(symbol);
-    push_start(alloc, page, broken.text, broken.statement, token)?;
-    page.push(symbol_at(stmt, symbol))
+    push_start(alloc, page, broken.text, broken.statement, token);
+    page.push(symbol_at(stmt, symbol));
 }
 
-fn explain_symbol(
-    alloc: Global,
-    page: &mut Page,
-    broken: &Broken<'_>,
-    stmt: &Stmt,
-    symbol: usize,
-) -> Result<(), AllocError> {
-    push_symbol(alloc, page, broken, stmt, symbol)?;
+fn explain_symbol(alloc: Global, page: &mut Page, broken: &Broken<'_>, stmt: &Stmt, symbol: usize) {
+    push_symbol(alloc, page, broken, stmt, symbol);
     match broken.rule {
         Rule::G5 => page.push(b" is neither a constant nor an active variable\n"),
         Rule::G6 => page.push(b" is no constant, and an expression begins with a constant\n"),
@@ -158,12 +142,12 @@ fn explain_twice(
     stmt: &Stmt,
     first: usize,
     second: usize,
-) -> Result<(), AllocError> {
-    push_symbol(alloc, page, broken, stmt, second)?;
-    page.push(b" stands twice in this statement\n  first at ")?;
+) {
+    push_symbol(alloc, page, broken, stmt, second);
+    page.push(b" stands twice in this statement\n  first at ");
     let token = symbols_before(stmt).saturating_add(first);
-    push_token_place(alloc, page, broken.text, broken.statement, token)?;
-    page.push(b"\n")
+    push_token_place(alloc, page, broken.text, broken.statement, token);
+    page.push(b"\n");
 }
 
 fn explain_earlier(
@@ -173,39 +157,28 @@ fn explain_earlier(
     stmt: &Stmt,
     symbol: usize,
     other: usize,
-) -> Result<(), AllocError> {
-    push_symbol(alloc, page, broken, stmt, symbol)?;
-    push_other(alloc, page, broken, symbol_at(stmt, symbol), other)
+) {
+    push_symbol(alloc, page, broken, stmt, symbol);
+    push_other(alloc, page, broken, symbol_at(stmt, symbol), other);
 }
 
-fn explain_label(
-    alloc: Global,
-    page: &mut Page,
-    broken: &Broken<'_>,
-    stmt: &Stmt,
-    other: usize,
-) -> Result<(), AllocError> {
-    push_start(alloc, page, broken.text, broken.statement, 1)?;
-    page.push(label_of(stmt))?;
-    push_other(alloc, page, broken, label_of(stmt), other)
+fn explain_label(alloc: Global, page: &mut Page, broken: &Broken<'_>, stmt: &Stmt, other: usize) {
+    push_start(alloc, page, broken.text, broken.statement, 1);
+    page.push(label_of(stmt));
+    push_other(alloc, page, broken, label_of(stmt), other);
 }
 
 /// What the other statement made of the name, and where.
-fn push_other(
-    alloc: Global,
-    page: &mut Page,
-    broken: &Broken<'_>,
-    name: &[u8],
-    other: usize,
-) -> Result<(), AllocError> {
+fn push_other(alloc: Global, page: &mut Page, broken: &Broken<'_>, name: &[u8], other: usize) {
     let Some(stmt) = broken.statements.get(other.saturating_sub(1)) else {
-        return page.push(b"\n");
+        page.push(b"\n");
+        return;
     };
     let (words, token) = told(stmt, name);
-    page.push(words)?;
-    page.push(b"\n  at ")?;
-    push_token_place(alloc, page, broken.text, other, token)?;
-    page.push(b"\n")
+    page.push(words);
+    page.push(b"\n  at ");
+    push_token_place(alloc, page, broken.text, other, token);
+    page.push(b"\n");
 }
 
 /// What a statement makes of a name, and the token at which it does.

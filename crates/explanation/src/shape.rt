@@ -7,51 +7,36 @@ use crate::page::{Page, word};
 use mm_lex::{LexFault, Span, tokens};
 use mm_read::{ReadFault, read};
 use places::statement_at;
-use std::alloc::{AllocError, Global};
+use std::alloc::Global;
 
 /// Which token fits nowhere, what may stand there, and where its statement begins.
-pub(crate) fn explain_shape(alloc: Global, page: &mut Page, text: &[u8]) -> Result<(), AllocError> {
+pub(crate) fn explain_shape(alloc: Global, page: &mut Page, text: &[u8]) {
     match read(alloc, text) {
         Err(ReadFault::Shape { token }) => explain_among(alloc, page, text, token),
-        Err(ReadFault::Memory) => Err(AllocError),
-        _ => Ok(()),
+        Err(ReadFault::Memory) => page.refuse(),
+        _ => {}
     }
 }
 
 /// The same of the token that fits nowhere, from 1.
-fn explain_among(
-    alloc: Global,
-    page: &mut Page,
-    text: &[u8],
-    token: usize,
-) -> Result<(), AllocError> {
+fn explain_among(alloc: Global, page: &mut Page, text: &[u8], token: usize) {
     match tokens(alloc, text) {
         Ok(spans) => explain_misfit(page, text, spans.as_slice(), token.saturating_sub(1)),
-        Err(LexFault::Memory) => Err(AllocError),
-        Err(_) => Ok(()),
+        Err(LexFault::Memory) => page.refuse(),
+        Err(_) => {}
     }
 }
 
-fn explain_misfit(
-    page: &mut Page,
-    text: &[u8],
-    spans: &[Span],
-    index: usize,
-) -> Result<(), AllocError>
+fn explain_misfit(page: &mut Page, text: &[u8], spans: &[Span], index: usize)
     requires { All (IsWordAt text.now) spans.now }
 {
     if index > spans.len() {
-        return Ok(());
+        return;
     }
-    explain_token(page, text, spans, index)
+    explain_token(page, text, spans, index);
 }
 
-fn explain_token(
-    page: &mut Page,
-    text: &[u8],
-    spans: &[Span],
-    index: usize,
-) -> Result<(), AllocError>
+fn explain_token(page: &mut Page, text: &[u8], spans: &[Span], index: usize)
     requires words { All (IsWordAt text.now) spans.now }
     requires within { index ≤ length spans.now }
 {
@@ -59,29 +44,29 @@ fn explain_token(
     let expected = what_may_stand(text, &spans[start..index]);
     match spans.get(index) {
         Some(span) => {
-            page.push_place(text, span.start)?;
-            page.push(b": ")?;
-            page.push(expected)?;
-            page.push(b" may stand here, not ")?;
-            page.push(word(text, *span))?;
+            page.push_place(text, span.start);
+            page.push(b": ");
+            page.push(expected);
+            page.push(b" may stand here, not ");
+            page.push(word(text, *span));
         }
         None => {
-            page.push_place(text, text.len())?;
-            page.push(b": the database ends here, where ")?;
-            page.push(expected)?;
-            page.push(b" may stand")?;
+            page.push_place(text, text.len());
+            page.push(b": the database ends here, where ");
+            page.push(expected);
+            page.push(b" may stand");
         }
     }
-    page.push(b"\n")?;
+    page.push(b"\n");
     if start == index {
-        return Ok(());
+        return;
     }
     let Some(first) = spans.get(start) else {
-        return Ok(());
+        return;
     };
-    page.push(b"  in the statement that begins at ")?;
-    page.push_place(text, first.start)?;
-    page.push(b"\n")
+    page.push(b"  in the statement that begins at ");
+    page.push_place(text, first.start);
+    page.push(b"\n");
 }
 
 /// What may stand behind these tokens of a statement.

@@ -5,20 +5,14 @@ use crate::page::Page;
 use crate::theorem::Theorem;
 use frame::Frames;
 use reasons::Fault;
-use std::alloc::AllocError;
 
 /// What fails at the step.
-pub(crate) fn push_fault(
-    page: &mut Page,
-    theorem: &Theorem<'_>,
-    frames: &Frames,
-    fault: &Fault,
-) -> Result<(), AllocError> {
+pub(crate) fn push_fault(page: &mut Page, theorem: &Theorem<'_>, frames: &Frames, fault: &Fault) {
     match fault {
         Fault::Unknown => page.push(b"  no statement has this label\n"),
         Fault::Inactive { .. } => push_inactive(page, theorem),
         Fault::Later { statement } if theorem.is_hypothesis(*statement) => {
-            push_inactive(page, theorem)
+            push_inactive(page, theorem);
         }
         Fault::Later { .. } => push_later(page, theorem),
         Fault::Few { takes, there, .. } => push_few(page, *takes, *there),
@@ -52,28 +46,28 @@ pub(crate) fn push_fault(
     }
 }
 
-fn push_inactive(page: &mut Page, theorem: &Theorem<'_>) -> Result<(), AllocError> {
-    page.push(b"  this hypothesis is not active at ")?;
-    page.push(theorem.label)?;
-    page.push(b"\n")
+fn push_inactive(page: &mut Page, theorem: &Theorem<'_>) {
+    page.push(b"  this hypothesis is not active at ");
+    page.push(theorem.label);
+    page.push(b"\n");
 }
 
-fn push_later(page: &mut Page, theorem: &Theorem<'_>) -> Result<(), AllocError> {
-    page.push(b"  it stands at ")?;
-    page.push(theorem.label)?;
-    page.push(b" or behind it\n")
+fn push_later(page: &mut Page, theorem: &Theorem<'_>) {
+    page.push(b"  it stands at ");
+    page.push(theorem.label);
+    page.push(b" or behind it\n");
 }
 
-fn push_few(page: &mut Page, takes: usize, there: usize) -> Result<(), AllocError> {
-    page.push(b"  it takes ")?;
-    page.push_number(takes)?;
+fn push_few(page: &mut Page, takes: usize, there: usize) {
+    page.push(b"  it takes ");
+    page.push_number(takes);
     page.push(if takes == 1 {
         b" result, but finds ".as_slice()
     } else {
         b" results, but finds ".as_slice()
-    })?;
-    page.push_number(there)?;
-    page.push(b"\n")
+    });
+    page.push_number(there);
+    page.push(b"\n");
 }
 
 /// A result of another type than that of a `$f`.
@@ -83,11 +77,11 @@ fn push_constant(
     frames: &Frames,
     hypothesis: usize,
     there: &[u32],
-) -> Result<(), AllocError> {
-    push_hypothesis(page, theorem, hypothesis)?;
-    page.push(b" asks for a result that begins with ")?;
-    page.push(theorem.constant_at(hypothesis))?;
-    push_there(page, frames, there)
+) {
+    push_hypothesis(page, theorem, hypothesis);
+    page.push(b" asks for a result that begins with ");
+    page.push(theorem.constant_at(hypothesis));
+    push_there(page, frames, there);
 }
 
 /// A result that is not what a hypothesis asks for.
@@ -98,46 +92,42 @@ fn push_asked(
     hypothesis: usize,
     asked: &[u32],
     there: &[u32],
-) -> Result<(), AllocError> {
-    push_hypothesis(page, theorem, hypothesis)?;
-    page.push(b" asks for")?;
-    push_expression(page, frames, asked)?;
-    push_there(page, frames, there)
+) {
+    push_hypothesis(page, theorem, hypothesis);
+    page.push(b" asks for");
+    push_expression(page, frames, asked);
+    push_there(page, frames, there);
 }
 
-fn push_there(page: &mut Page, frames: &Frames, expr: &[u32]) -> Result<(), AllocError> {
-    page.push(b"\n  but this result stands there")?;
-    push_expression(page, frames, expr)?;
-    page.push(b"\n")
+fn push_there(page: &mut Page, frames: &Frames, expr: &[u32]) {
+    page.push(b"\n  but this result stands there");
+    push_expression(page, frames, expr);
+    page.push(b"\n");
 }
 
-fn push_hypothesis(page: &mut Page, theorem: &Theorem<'_>, at: usize) -> Result<(), AllocError> {
-    page.push(b"  its hypothesis ")?;
-    page.push(theorem.label_at(at))
+fn push_hypothesis(page: &mut Page, theorem: &Theorem<'_>, at: usize) {
+    page.push(b"  its hypothesis ");
+    page.push(theorem.label_at(at));
 }
 
 /// Two variables that are not kept apart.
-fn push_together(
-    page: &mut Page,
-    frames: &Frames,
-    variables: [u32; 2],
-    images: [u32; 2],
-) -> Result<(), AllocError> {
+fn push_together(page: &mut Page, frames: &Frames, variables: [u32; 2], images: [u32; 2]) {
     let [first, second] = variables;
     let [one, other] = images;
-    page.push(b"  its variables ")?;
-    page.push(frames.symbol(first))?;
-    page.push(b" and ")?;
-    page.push(frames.symbol(second))?;
-    page.push(b" have to be kept apart")?;
+    page.push(b"  its variables ");
+    page.push(frames.symbol(first));
+    page.push(b" and ");
+    page.push(frames.symbol(second));
+    page.push(b" have to be kept apart");
     if one == other {
-        page.push(b", and ")?;
-        page.push(frames.symbol(one))?;
-        return page.push(b" stands in both of their images\n");
+        page.push(b", and ");
+        page.push(frames.symbol(one));
+        page.push(b" stands in both of their images\n");
+        return;
     }
-    page.push(b"\n  but no active $d has both ")?;
-    page.push(frames.symbol(one))?;
-    page.push(b" and ")?;
-    page.push(frames.symbol(other))?;
-    page.push(b", which stand in their images\n")
+    page.push(b"\n  but no active $d has both ");
+    page.push(frames.symbol(one));
+    page.push(b" and ");
+    page.push(frames.symbol(other));
+    page.push(b", which stand in their images\n");
 }

@@ -4,27 +4,27 @@ ghost use Rattle.mm_lex.specs.Faults.{IsCommentFault};
 use crate::page::Page;
 use mm_lex::{LexFault, tokens};
 use places::{CommentFault, comment_fault};
-use std::alloc::{AllocError, Global};
+use std::alloc::Global;
 
 /// What is wrong with the bytes or the comments of the text.
-pub(crate) fn explain_text(alloc: Global, page: &mut Page, text: &[u8]) -> Result<(), AllocError> {
+pub(crate) fn explain_text(alloc: Global, page: &mut Page, text: &[u8]) {
     match tokens(alloc, text) {
-        Ok(_) => Ok(()),
+        Ok(_) => {}
         Err(LexFault::Text { offset }) => explain_byte(page, text, offset),
         Err(LexFault::Comment { offset }) => explain_comment(page, text, offset),
-        Err(LexFault::Memory) => Err(AllocError),
+        Err(LexFault::Memory) => page.refuse(),
     }
 }
 
-fn explain_byte(page: &mut Page, text: &[u8], offset: usize) -> Result<(), AllocError> {
+fn explain_byte(page: &mut Page, text: &[u8], offset: usize) {
     let Some(byte) = text.get(offset) else {
-        return Ok(());
+        return;
     };
-    page.push_place(text, offset)?;
-    page.push(b": the byte 0x")?;
-    page.push(&[hexadecimal(*byte / 16), hexadecimal(*byte % 16)])?;
-    page.push(b" may not stand in a database\n")?;
-    page.push(b"  visible ASCII characters, spaces, tabs, form feeds and ends of lines may\n")
+    page.push_place(text, offset);
+    page.push(b": the byte 0x");
+    page.push(&[hexadecimal(*byte / 16), hexadecimal(*byte % 16)]);
+    page.push(b" may not stand in a database\n");
+    page.push(b"  visible ASCII characters, spaces, tabs, form feeds and ends of lines may\n");
 }
 
 /// The digit of a number below 16.
@@ -35,16 +35,16 @@ fn hexadecimal(number: u8) -> u8 {
     }
 }
 
-fn explain_comment(page: &mut Page, text: &[u8], offset: usize) -> Result<(), AllocError>
+fn explain_comment(page: &mut Page, text: &[u8], offset: usize)
     requires { IsCommentFault text.now offset }
 {
-    page.push_place(text, offset)?;
+    page.push_place(text, offset);
     match comment_fault(text, offset) {
         CommentFault::Stray => page.push(b": this $) closes no comment\n"),
         CommentFault::Inside { outer } => {
-            page.push(b": a comment begins inside a comment\n  which begins at ")?;
-            page.push_place(text, outer)?;
-            page.push(b"\n")
+            page.push(b": a comment begins inside a comment\n  which begins at ");
+            page.push_place(text, outer);
+            page.push(b"\n");
         }
         CommentFault::Unclosed => page.push(b": this comment is never closed\n"),
     }

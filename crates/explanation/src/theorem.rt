@@ -9,7 +9,7 @@ use crate::symbols::label_of;
 use mm_lex::Words;
 use mm_read::Stmt;
 use places::place_of;
-use std::alloc::{AllocError, Global};
+use std::alloc::Global;
 
 /// A `$p` of a text that reads as these statements.
 #[derive(Clone, Copy)]
@@ -29,7 +29,7 @@ impl<'a> Theorem<'a> {
         ensures at { IfSome result (λ theorem. theorem.at ≡ at) }
         ensures provable { IfSome result (λ theorem. (s : Statement) × IsProvable statements.now at s) }
     {
-        let index = at.checked_sub(1)?;
+        let index = at.checked_sub(1);
         let Some(Stmt::Prove { label, expr, proof }) = statements.get(index) else {
             return None;
         };
@@ -44,26 +44,21 @@ impl<'a> Theorem<'a> {
     }
 
     /// `LINE:COLUMN: the proof of LABEL`, of a byte of a token of the proof, or of the `$.` behind the last token.
-    pub(crate) fn push_spot(
-        &self,
-        alloc: Global,
-        page: &mut Page,
-        spot: Spot,
-    ) -> Result<(), AllocError> {
+    pub(crate) fn push_spot(&self, alloc: Global, page: &mut Page, spot: Spot) {
         let token = self.expr.len().saturating_add(4).saturating_add(spot.token);
         match place_of(alloc, self.text, self.at, token) {
-            Ok(Some(span)) => page.push_place(self.text, span.start.saturating_add(spot.byte))?,
+            Ok(Some(span)) => page.push_place(self.text, span.start.saturating_add(spot.byte)),
             Ok(None) => {}
-            Err(_) => return Err(AllocError),
+            Err(_) => page.refuse(),
         }
-        page.push(b": the proof of ")?;
-        page.push(self.label)
+        page.push(b": the proof of ");
+        page.push(self.label);
     }
 
     /// The same of the `$.`.
-    pub(crate) fn push_end(&self, alloc: Global, page: &mut Page) -> Result<(), AllocError> {
+    pub(crate) fn push_end(&self, alloc: Global, page: &mut Page) {
         let token = self.proof.len();
-        self.push_spot(alloc, page, Spot { token, byte: 0 })
+        self.push_spot(alloc, page, Spot { token, byte: 0 });
     }
 
     /// The label of the statement at a position.
