@@ -1,4 +1,5 @@
 //! Proofs that are wrong or unfinished.
+ghost use Rattle.std.specs.Prelude.{◌≡◌, []};
 ghost use Rattle.mm_read.specs.declared.stmt.Stmt.{Stmt as Statement};
 ghost use Rattle.mm_read.specs.Statements.{AreShaped};
 ghost use Rattle.verify.specs.Right.{IsProvable};
@@ -31,13 +32,37 @@ pub(crate) fn explain_proof(alloc: Global, page: &mut Page, text: &[u8], stateme
 fn explain_wrong(alloc: Global, page: &mut Page, text: &[u8], statements: &[Stmt], at: usize)
     requires { AreShaped statements.now }
 {
-    let Some(theorem) = Theorem::new(text, statements, at) else {
-        return;
-    };
+    if let Some(theorem) = Theorem::new(text, statements, at) {
+        explain_at(alloc, page, statements, &theorem);
+    }
+}
+
+/// The same of a `$p` of the statements.
+fn explain_at(alloc: Global, page: &mut Page, statements: &[Stmt], theorem: &Theorem<'_>)
+    requires shaped { AreShaped statements.now }
+    requires provable { (s : Statement) × IsProvable statements.now theorem.now.at s }
+{
     let mut scope = Scope::new(alloc);
     let mut frames = Frames::new(alloc);
-    match enter(&mut scope, &mut frames, statements) {
-        Ok(true) => explain_theorem(alloc, page, &frames, &theorem),
+    explain_entered(alloc, page, statements, theorem, &mut scope, &mut frames);
+}
+
+/// The same, where the scope and the frames have no statement yet.
+fn explain_entered(
+    alloc: Global,
+    page: &mut Page,
+    statements: &[Stmt],
+    theorem: &Theorem<'_>,
+    scope: &mut Scope,
+    frames: &mut Frames,
+)
+    requires shaped { AreShaped statements.now }
+    requires provable { (s : Statement) × IsProvable statements.now theorem.now.at s }
+    requires no_scope { scope.old.statements ≡ [] }
+    requires no_frames { frames.old.statements ≡ [] }
+{
+    match enter(scope, frames, statements) {
+        Ok(true) => explain_theorem(alloc, page, frames, theorem),
         Ok(false) => {}
         Err(_) => page.refuse(),
     }
@@ -47,12 +72,25 @@ fn explain_theorem(alloc: Global, page: &mut Page, frames: &Frames, theorem: &Th
     requires { (s : Statement) × IsProvable frames.now.statements theorem.now.at s }
 {
     match explain(alloc, frames, theorem.at, theorem.proof) {
-        Ok(Some(WhyUnproved::Code(broken))) => explain_break(alloc, page, theorem, broken),
-        Ok(Some(WhyUnproved::Run { items, reason })) => {
-            explain_reason(alloc, page, frames, theorem, &items, &reason);
-        }
+        Ok(Some(why)) => explain_why(alloc, page, frames, theorem, &why),
         Ok(None) => {}
         Err(_) => page.refuse(),
+    }
+}
+
+/// The rule of proof code that is broken, or the first fault of the run.
+fn explain_why(
+    alloc: Global,
+    page: &mut Page,
+    frames: &Frames,
+    theorem: &Theorem<'_>,
+    why: &WhyUnproved,
+) {
+    match why {
+        WhyUnproved::Code(broken) => explain_break(alloc, page, theorem, *broken),
+        WhyUnproved::Run { items, reason } => {
+            explain_reason(alloc, page, frames, theorem, items, reason);
+        }
     }
 }
 

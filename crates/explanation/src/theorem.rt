@@ -1,5 +1,5 @@
 //! A `$p` of a text: its parts, and where its proof stands.
-ghost use Rattle.std.specs.Prelude.{◌≡◌, IfSome};
+ghost use Rattle.std.specs.Prelude.{IfSome};
 ghost use Rattle.mm_read.specs.declared.stmt.Stmt.{Stmt as Statement};
 ghost use Rattle.verify.specs.Right.{IsProvable};
 
@@ -26,10 +26,9 @@ pub(crate) struct Theorem<'a> {
 impl<'a> Theorem<'a> {
     /// The `$p` at a position; none where no `$p` stands there.
     pub(crate) fn new(text: &'a [u8], statements: &'a [Stmt], at: usize) -> Option<Theorem<'a>>
-        ensures at { IfSome result (λ theorem. theorem.at ≡ at) }
-        ensures provable { IfSome result (λ theorem. (s : Statement) × IsProvable statements.now at s) }
+        ensures { IfSome result (λ theorem. (s : Statement) × IsProvable statements.now theorem.at s) }
     {
-        let index = at.checked_sub(1);
+        let index = at.checked_sub(1)?;
         let Some(Stmt::Prove { label, expr, proof }) = statements.get(index) else {
             return None;
         };
