@@ -79,21 +79,20 @@ fn ask_text<R: Threads + Sync, O: Write, F: Write>(
     faults: &mut F,
 ) -> u8 {
     let mut library = Library::new(alloc);
-    let verdict = judge(rt, &mut library, text);
-    print_verdict(alloc, question, text, &library, verdict, output, faults)
+    ask_library(rt, alloc, question, text, &mut library, output, faults)
 }
 
-/// Prints the answer about a library that the text made, or why it is refused; the answer is the exit status.
-fn print_verdict<O: Write, F: Write>(
+/// The same, where the library is empty.
+fn ask_library<R: Threads + Sync, O: Write, F: Write>(
+    rt: &R,
     alloc: Global,
     question: &Question<'_>,
     text: &Bytes,
-    library: &Library,
-    verdict: Result<Verdict, AllocError>,
+    library: &mut Library,
     output: &mut O,
     faults: &mut F,
 ) -> u8 {
-    match verdict {
+    match judge(rt, library, text) {
         Ok(Verdict::Refused(cause)) => print_refusal(alloc, text.as_slice(), cause, output, faults),
         Ok(_) => print_answer(alloc, question, library, output),
         Err(_) => print_no_memory(output),

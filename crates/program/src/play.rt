@@ -37,11 +37,21 @@ fn drive<O: Write>(
     output: &mut O,
 ) -> Result<u8, StepFault> {
     let mut world = World::new(alloc, weights)?;
+    answer_all(alloc, &mut world, lines, output)
+}
+
+/// Runs the lines on a world.
+fn answer_all<O: Write>(
+    alloc: Global,
+    world: &mut World,
+    lines: Vec<PlayLine>,
+    output: &mut O,
+) -> Result<u8, StepFault> {
     let mut text = Vec::with_capacity(alloc, ANSWER_ROOM)?;
     let mut status = 0;
     for line in lines {
         text.clear();
-        let answered = answer(&mut world, line, &mut text);
+        let answered = answer(world, line, &mut text);
         let bytes = answer_bytes(answered, text.as_slice());
         if bytes.starts_with(b"refused") {
             status = 1;

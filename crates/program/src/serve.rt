@@ -6,7 +6,7 @@ ghost use Rattle.nodes.specs.Desk.{IsListed, IsStatus};
 ghost use Rattle.printed.specs.Printed.{list_text};
 
 use crate::answers::{ANSWER_ROOM, answer_bytes};
-use crate::node_threads::{NodesDesk, start_nodes, stop_nodes};
+use crate::node_threads::{Nodes, NodesDesk, start_nodes, stop_nodes};
 use crate::script_input::{print_unread, read_script};
 use crate::streams::{print, print_no_memory};
 use commands::WorkerCount;
@@ -34,18 +34,28 @@ pub fn serve<R: Threads + Wait + Copy + Send + Sync + Drop + 'static, I: Read, O
     input: &mut I,
     output: &mut O,
 ) -> u8 {
-    let lines = match read_script(alloc, input) {
-        Ok(lines) => lines,
-        Err(unread) => return print_unread(output, unread),
-    };
-    let Ok(mut nodes) = start_nodes(rt, alloc, weights, workers) else {
-        return print_no_memory(output);
-    };
+    match read_script(alloc, input) {
+        Ok(lines) => match start_nodes(rt, alloc, weights, workers) {
+            Ok(mut nodes) => serve_on(rt, alloc, &mut nodes, lines, output),
+            Err(_) => print_no_memory(output),
+        },
+        Err(unread) => print_unread(output, unread),
+    }
+}
+
+/// Prints what each line answers at the nodes, and stops them; the answer is the exit status.
+fn serve_on<R: Wait, O: Write>(
+    rt: &R,
+    alloc: Global,
+    nodes: &mut Nodes,
+    lines: Vec<ServeLine>,
+    output: &mut O,
+) -> u8 {
     let answered = match (nodes.desk(), Vec::with_capacity(alloc, ANSWER_ROOM)) {
         (Ok(desk), Ok(text)) => answer_all(rt, &desk, lines, text, output),
         _ => Answered::WithoutMemory,
     };
-    let stopped = stop_nodes(rt, &mut nodes);
+    let stopped = stop_nodes(rt, nodes);
     match answered {
         Answered::All { status } => match stopped {
             Ok(()) => print(output, b"stopped\n", status),
