@@ -24,46 +24,52 @@ pub fn commands<'a>(alloc: Global) -> Result<Command<'a>, AllocError> {
 
 /// The commands on a database as a whole.
 fn with_lists<'a>(alloc: Global, program: Command<'a>) -> Result<Command<'a>, AllocError> {
-    let outline = Command::new(alloc, "outline").about(
-        "Print the statements of the database on standard input, one a line: mmlib outline < set.mm",
-    );
-    let check = Command::new(alloc, "check").about(
-        "Check the proofs of the database on standard input: mmlib check < set.mm",
-    );
-    let list = Command::new(alloc, "list").about(
-        "Print the assertions of the database on standard input, one a line: mmlib list < set.mm",
-    );
-    let export = Command::new(alloc, "export").about(
-        "Print the database on standard input in the export form: mmlib export < set.mm",
-    );
     program
-        .subcommand(outline)?
-        .subcommand(check)?
-        .subcommand(list)?
-        .subcommand(export)
+        .subcommand(Command::new(alloc, "outline").about(
+            "Print the statements of the database on standard input, one a line: mmlib outline < set.mm",
+        ))?
+        .subcommand(Command::new(alloc, "check").about(
+            "Check the proofs of the database on standard input: mmlib check < set.mm",
+        ))?
+        .subcommand(Command::new(alloc, "list").about(
+            "Print the assertions of the database on standard input, one a line: mmlib list < set.mm",
+        ))?
+        .subcommand(Command::new(alloc, "export").about(
+            "Print the database on standard input in the export form: mmlib export < set.mm",
+        ))
+}
+
+/// The program with one command more.
+fn added<'a>(
+    program: Command<'a>,
+    command: Result<Command<'a>, AllocError>,
+) -> Result<Command<'a>, AllocError> {
+    program.subcommand(command?)
 }
 
 /// The commands on what a label of a database names.
 fn with_questions<'a>(alloc: Global, program: Command<'a>) -> Result<Command<'a>, AllocError> {
-    let tree = Command::new(alloc, "tree")
+    let program = added(program, tree_command(alloc))?;
+    let program = added(program, trace_command(alloc))?;
+    let program = added(program, usage_command(alloc))?;
+    let program = added(program, proof_command(alloc))?;
+    added(program, extract_command(alloc))
+}
+
+fn tree_command<'a>(alloc: Global) -> Result<Command<'a>, AllocError> {
+    Command::new(alloc, "tree")
         .about(
             "Print the derivation of a $p of the database on standard input, a node a line: mmlib tree id < set.mm",
         )
-        .arg(label_argument(alloc))?;
-    let trace = Command::new(alloc, "trace")
+        .arg(label_argument(alloc))
+}
+
+fn trace_command<'a>(alloc: Global) -> Result<Command<'a>, AllocError> {
+    Command::new(alloc, "trace")
         .about(
             "Print the axioms that a $p of the database on standard input rests on: mmlib trace id < set.mm",
         )
-        .arg(label_argument(alloc))?;
-    let usage = usage_command(alloc)?;
-    let proof = proof_command(alloc)?;
-    let extract = extract_command(alloc)?;
-    program
-        .subcommand(tree)?
-        .subcommand(trace)?
-        .subcommand(usage)?
-        .subcommand(proof)?
-        .subcommand(extract)
+        .arg(label_argument(alloc))
 }
 
 fn usage_command<'a>(alloc: Global) -> Result<Command<'a>, AllocError> {
@@ -96,16 +102,23 @@ fn extract_command<'a>(alloc: Global) -> Result<Command<'a>, AllocError> {
 
 /// The commands that run a script.
 fn with_scripts<'a>(alloc: Global, program: Command<'a>) -> Result<Command<'a>, AllocError> {
-    let play = Command::new(alloc, "play")
+    let program = added(program, play_command(alloc))?;
+    added(program, serve_command(alloc))
+}
+
+fn play_command<'a>(alloc: Global) -> Result<Command<'a>, AllocError> {
+    Command::new(alloc, "play")
         .about("Drive a world of nodes by the script on standard input")
         .arg(nodes_option(alloc))?
-        .arg(weights_option(alloc))?;
-    let serve = Command::new(alloc, "serve")
+        .arg(weights_option(alloc))
+}
+
+fn serve_command<'a>(alloc: Global) -> Result<Command<'a>, AllocError> {
+    Command::new(alloc, "serve")
         .about("Serve the script on standard input by nodes that are threads")
         .arg(nodes_option(alloc))?
         .arg(workers_option(alloc))?
-        .arg(weights_option(alloc))?;
-    program.subcommand(play)?.subcommand(serve)
+        .arg(weights_option(alloc))
 }
 
 fn label_argument<'a>(alloc: Global) -> Arg<'a> {

@@ -17,16 +17,12 @@ use synod::{MOST_NODES, Weights};
 pub fn parse_words<'a>(alloc: Global, words: &'a [&'a str]) -> Result<Request<'a>, WordsFault> {
     match request(alloc, words) {
         Ok(request) => Ok(request),
-        Err(error) => answered(alloc, error, words),
+        Err(error) => answered(alloc, &error, words),
     }
 }
 
 /// What is told of a command line that cannot be read, and the version where it was asked for.
-fn answered<'a>(
-    alloc: Global,
-    error: Error,
-    words: &'a [&'a str],
-) -> Result<Request<'a>, WordsFault> {
+fn answered<'a>(alloc: Global, error: &Error, words: &[&str]) -> Result<Request<'a>, WordsFault> {
     match error.kind() {
         ErrorKind::OutOfMemory => Err(WordsFault::Memory),
         ErrorKind::DisplayVersion => Ok(Request::Version),
@@ -40,21 +36,26 @@ fn answered<'a>(
 }
 
 /// The error, behind a hint where the words but for the last ask about a database and the last is no option: that may be its file.
-fn with_hint(alloc: Global, error: Error, words: &[&str]) -> Result<String, AllocError> {
+fn with_hint(alloc: Global, error: &Error, words: &[&str]) -> Result<String, AllocError> {
     let Some((file, front)) = words.split_last() else {
         return format!(in alloc; "{error}");
     };
-    if file.as_bytes().first() == Some(&b'-') {
+    if file.as_bytes().first() == Some(&b'-') || !asks_about_database(alloc, front) {
         return format!(in alloc; "{error}");
     }
-    match request(alloc, front) {
-        Ok(Request::Outline) | Ok(Request::Ask(_)) => hint(alloc, error, file, front),
-        _ => format!(in alloc; "{error}"),
-    }
+    hint(alloc, error, file, front)
+}
+
+/// Whether these words ask about a database.
+fn asks_about_database(alloc: Global, words: &[&str]) -> bool {
+    matches!(
+        request(alloc, words),
+        Ok(Request::Outline) | Ok(Request::Ask(_))
+    )
 }
 
 /// The error, behind the hint that this file is to be the standard input.
-fn hint(alloc: Global, error: Error, file: &str, front: &[&str]) -> Result<String, AllocError> {
+fn hint(alloc: Global, error: &Error, file: &str, front: &[&str]) -> Result<String, AllocError> {
     let mut text = format!(in alloc; "the database is read from standard input: mmlib ")?;
     for word in front {
         text.push_str(word)?;
@@ -68,6 +69,11 @@ fn hint(alloc: Global, error: Error, file: &str, front: &[&str]) -> Result<Strin
 /// The command of these words, with what its options give.
 fn request<'a>(alloc: Global, words: &'a [&'a str]) -> Result<Request<'a>, Error> {
     let matches = commands(alloc)?.try_get_matches_from(words)?;
+    request_of(alloc, &matches)
+}
+
+/// The command that was found, with what its options give.
+fn request_of<'a>(alloc: Global, matches: &ArgMatches<'a>) -> Result<Request<'a>, Error> {
     match matches.subcommand() {
         Some(("outline", _)) => Ok(Request::Outline),
         Some(("play", options)) => Ok(Request::Play {
