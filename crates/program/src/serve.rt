@@ -44,7 +44,7 @@ pub fn serve<R: Threads + Wait + Copy + Send + Sync + Drop + 'static, I: Read, O
 }
 
 /// Prints what each line answers at the nodes, and stops them; the answer is the exit status.
-fn serve_on<R: Wait, O: Write>(
+fn serve_on<R: Threads + Wait, O: Write>(
     rt: &R,
     alloc: Global,
     nodes: &mut Nodes,
