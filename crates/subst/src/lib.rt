@@ -5,13 +5,14 @@
 //! with a buffer of its own, and `apply` puts all its images in at once.
 //! Symbols are numbers; that this is substitution over the names that they stand for is a law.
 //! Reading order: `place`, `image_places`, `copies`, `filling`, `matching`, `buffer`, `images`, `substitute`, `apart`,
-//! `numbers_apart`, `laws`.
+//! `findings`, `numbers_apart`, `laws`.
 #![tactic(auto)]
 
 mod apart;
 mod buffer;
 mod copies;
 mod filling;
+mod findings;
 mod image_places;
 mod images;
 mod laws;
@@ -22,6 +23,7 @@ mod substitute;
 
 pub use apart::disjoint;
 pub use buffer::{Buffer, SYMBOLS_LIMIT, apply_into, has_room};
+pub use findings::Findings;
 pub use image_places::ImagePlaces;
 pub use images::Subst;
 pub use laws::{pair_clause, substitution_over_names};
