@@ -132,7 +132,7 @@ impl Base {
     /// Errors: a growth was refused; nothing is added then. Cost: that of the statements added, two steps each.
     pub(crate) fn extend<F: Fn(&Proofs<'_>) -> Result<Option<usize>, AllocError>>(
         &mut self,
-        mut more: Vec<Stmt>,
+        more: Vec<Stmt>,
         steps: &mut Steps,
         least: &F,
     ) -> Result<Option<Cause>, AllocError>
@@ -144,7 +144,7 @@ impl Base {
         ensures counted { steps.new.count ≤ steps.old.count + 3 * length more.items }
     {
         let front = self.statements.len();
-        self.statements.append(&mut more)?;
+        append_all(&mut self.statements, more)?;
         let found = judge(
             self.alloc,
             &mut self.scope,
@@ -162,6 +162,20 @@ impl Base {
             found,
         )
     }
+}
+
+/// Puts more statements behind the others; where there are no others they are taken as they stand.
+///
+/// Errors: a growth was refused; nothing is added then. Cost: that of the statements added.
+fn append_all(statements: &mut Vec<Stmt>, mut more: Vec<Stmt>) -> Result<(), AllocError>
+    ensures added { OnOk result (statements.new.items ≡ statements.old.items ++ more.items) }
+    ensures same { OnErr result (statements.new ≡ statements.old) }
+{
+    if statements.is_empty() {
+        *statements = more;
+        return Ok(());
+    }
+    statements.append(&mut more)
 }
 
 /// Why the statements behind the first `front` may not stand there; none where they may.
