@@ -7,7 +7,7 @@ use Rattle.std.proofs.Math.Nat.{sub_self}
 use Rattle.std.proofs.Math.Seq.{get_or-append_seam}
 use Rattle.entries.specs.declared.citation.Hypothesis.{Hypothesis}
 use Rattle.entries.specs.declared.head.Head.{Head}
-use Rattle.entries.specs.declared.parts.Parts.{Parts}
+use Rattle.entries.specs.declared.parts.AssertionParts.{AssertionParts}
 use Rattle.entries.specs.declared.record.Record.{Record}
 use Rattle.entries.specs.declared.record.Row.{Row}
 use Rattle.entries.specs.declared.record.Buffers.{Buffers}
@@ -39,7 +39,7 @@ range-none xs n = ap (λ m. take m (drop n xs)) (sub_self n)
 
 -- ---- an assertion, with its row
 
-module _ (b m c : Buffers) (rs qs : List Record) (r : Record) (w : Row) (h : Head) (p : Parts)
+module _ (b m c : Buffers) (rs qs : List Record) (r : Record) (w : Row) (h : Head) (p : AssertionParts)
     (packed : ArePacked b (places_of b rs)) (shaped : AreShapedParts p) (grows : Grows b m) (row : IsRowOf b m p w)
     (numbers : c.numbers.items ≡ m.numbers.items) (hypotheses : c.hypotheses.items ≡ m.hypotheses.items) (asked : c.asked.items ≡ m.asked.items) (groups : c.groups.items ≡ m.groups.items)
     (rows : c.rows.items ≡ b.rows.items ++ w ∷ [])

@@ -7,7 +7,7 @@ use Rattle.entries.specs.declared.citation.Cited.{Cited}
 use Rattle.entries.specs.declared.links.Links.{Links}
 use Rattle.entries.specs.declared.kind.Kind.{Kind}
 use Rattle.entries.specs.declared.head.Head.{Head}
-use Rattle.entries.specs.declared.parts.Parts.{Parts}
+use Rattle.entries.specs.declared.parts.AssertionParts.{AssertionParts}
 use Rattle.entries.specs.declared.entry.EntryRef.{EntryRef}
 use Rattle.entries.specs.Spans.{cut, AreSpansIn}
 
@@ -30,11 +30,11 @@ pub record Entry : Type 0 where
   pub assertion : Assertion
 
 -- the parts of an assertion that is added
-abbrev pub assertion_of : Parts → Assertion
+abbrev pub assertion_of : AssertionParts → Assertion
 assertion_of p = record { whole = p.whole; hypotheses = p.hypotheses.now; asked = p.asked.now; heads = p.heads.now; groups = cut p.places.now p.groups.now }
 
 -- of each hypothesis it is said what it is, and the groups are parts of the places
-pub record AreShapedParts (p : Parts) : Type 0 where
+pub record AreShapedParts (p : AssertionParts) : Type 0 where
   pub paired : length p.asked.now ≡ length p.hypotheses.now
   pub grouped : AreSpansIn (length p.places.now) p.groups.now
 

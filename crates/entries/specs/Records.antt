@@ -8,7 +8,7 @@ use Rattle.entries.specs.declared.record.Buffers.{Buffers}
 use Rattle.entries.specs.declared.entries.Ends.{Ends}
 use Rattle.entries.specs.declared.sizes.Sizes.{Sizes}
 use Rattle.entries.specs.declared.head.Head.{Head}
-use Rattle.entries.specs.declared.parts.Parts.{Parts}
+use Rattle.entries.specs.declared.parts.AssertionParts.{AssertionParts}
 use Rattle.entries.specs.Entries.{Entry}
 use Rattle.entries.specs.Spans.{cut, AreSpansIn, Extends}
 
@@ -193,7 +193,7 @@ pub record Begins (old new : Buffers) : Type 0 where
   pub groups : groups_at new (length old.rows.items) ≡ length old.groups.items
 
 -- the numbers of the parts stand between these ends
-pub record AreEnds (old new : List ℕ) (p : Parts) (e : Ends) : Type 0 where
+pub record AreEnds (old new : List ℕ) (p : AssertionParts) (e : Ends) : Type 0 where
   pub from : e.from ≡ length old
   pub from_symbols : e.from ≤ e.symbols
   pub symbols_heads : e.symbols ≤ e.heads
@@ -205,7 +205,7 @@ pub record AreEnds (old new : List ℕ) (p : Parts) (e : Ends) : Type 0 where
   pub places : slice_range new e.heads e.places ≡ p.places.now
 
 -- the parts of an assertion stand in these buffers, from there on, where the row tells
-pub record IsRowOf (old new : Buffers) (p : Parts) (w : Row) : Type 0 where
+pub record IsRowOf (old new : Buffers) (p : AssertionParts) (w : Row) : Type 0 where
   pub whole : w.whole ≡ p.whole
   pub from_symbols : length old.numbers.items ≤ w.symbols
   pub symbols_heads : w.symbols ≤ w.heads

@@ -8,7 +8,7 @@ use crate::citation::Cited;
 use crate::entry::EntryRef;
 use crate::groups::Groups;
 use crate::head::Head;
-use crate::parts::Parts;
+use crate::parts::AssertionParts;
 use crate::record::{Buffers, Record, Row, record_of, row_of, symbols_end};
 use crate::sizes::{cut, sizes_before, sizes_now};
 use crate::span::{item, part, place};
@@ -127,7 +127,7 @@ impl Entries {
     }
 
     /// Adds a statement. Where a growth is refused, everything is as before.
-    pub fn push(&mut self, head: Head, parts: &Parts<'_>) -> Result<(), AllocError>
+    pub fn push(&mut self, head: Head, parts: &AssertionParts<'_>) -> Result<(), AllocError>
         requires { AreShapedParts parts.now }
         ensures added { OnOk result (self.new ≡ self.old ++ made head parts.now.symbols.now (assertion_of parts.now) ∷ []) }
         ensures same { OnErr result (self.new ≡ self.old) }
@@ -149,7 +149,7 @@ impl Entries {
     }
 
     /// Adds a statement with its parts.
-    fn push_parts(&mut self, head: Head, parts: &Parts<'_>) -> Result<(), AllocError>
+    fn push_parts(&mut self, head: Head, parts: &AssertionParts<'_>) -> Result<(), AllocError>
         requires { AreShapedParts parts.now }
         ensures added { OnOk result (self.new ≡ self.old ++ made head parts.now.symbols.now (assertion_of parts.now) ∷ []) }
         ensures same { OnErr result (self.new ≡ self.old) }
@@ -196,7 +196,7 @@ impl Entries {
 }
 
 /// Whether there are no hypotheses and no groups.
-fn is_partless(parts: &Parts<'_>) -> bool
+fn is_partless(parts: &AssertionParts<'_>) -> bool
     ensures { result ≡ true → assertion_of parts.now ≡ partless parts.now.whole }
 {
     parts.hypotheses.is_empty()
@@ -210,7 +210,7 @@ fn add(
     records: &mut Vec<Record>,
     buffers: &mut Buffers,
     head: Head,
-    parts: &Parts<'_>,
+    parts: &AssertionParts<'_>,
 ) -> Result<(), AllocError>
     requires shaped { AreShapedParts parts.now }
     requires packed { ArePacked buffers.old (places_of buffers.old records.old.items) }
@@ -257,7 +257,7 @@ fn add_last<T: Copy>(items: &mut Vec<T>, last: T) -> Result<(), AllocError>
 }
 
 /// Adds the parts of an assertion behind the others, and tells where they stand.
-fn add_parts(buffers: &mut Buffers, parts: &Parts<'_>) -> Result<Row, AllocError>
+fn add_parts(buffers: &mut Buffers, parts: &AssertionParts<'_>) -> Result<Row, AllocError>
     requires shaped { AreShapedParts parts.now }
     requires paired { length buffers.old.asked.items ≡ length buffers.old.hypotheses.items }
     ensures added { IfOk result (λ w. IsRowOf buffers.old buffers.new parts.now w) }
@@ -292,7 +292,7 @@ pub struct Ends {
 }
 
 /// Adds a statement's numbers behind the others.
-fn add_numbers(numbers: &mut Vec<u32>, parts: &Parts<'_>) -> Result<Ends, AllocError>
+fn add_numbers(numbers: &mut Vec<u32>, parts: &AssertionParts<'_>) -> Result<Ends, AllocError>
     ensures added { IfOk result (λ ends. AreEnds numbers.old.items numbers.new.items parts.now ends) }
     ensures grows { Extends numbers.old.items numbers.new.items }
 {

@@ -6,7 +6,7 @@ use crate::citation::Hypothesis;
 use crate::head::Head;
 use crate::kind::Kind;
 use crate::links::Links;
-use crate::span::{Span, item};
+use crate::span::{BufferPart, item};
 
 /// A statement: what is in its head, and where its numbers begin. They end where those of the next statement begin.
 /// A statement that has hypotheses or groups has a row beside.
@@ -45,7 +45,7 @@ pub struct Buffers {
     pub numbers: Vec<u32>,
     pub hypotheses: Vec<u32>,
     pub asked: Vec<Hypothesis>,
-    pub groups: Vec<Span>,
+    pub groups: Vec<BufferPart>,
     /// Where they stand, of each assertion.
     pub rows: Vec<Row>,
 }

@@ -11,13 +11,13 @@ ghost use Rattle.frame.specs.Stored.{AreStored, statements_of, with_declared, ki
 use crate::reading::links_at;
 use crate::storage::{Stock, Symbol};
 use entries::{Kind, Links};
-use names::Names;
+use names::NameTable;
 use std::alloc::{AllocError, Global};
 
 /// Gives a label its number and its position.
 pub fn name_label(
     alloc: Global,
-    labels: &mut Names,
+    labels: &mut NameTable,
     positions: &mut Vec<usize>,
     label: &[u8],
     at: usize,

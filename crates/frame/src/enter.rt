@@ -19,7 +19,7 @@ use crate::storage::Stock;
 use entries::span::place;
 use entries::{Head, Kind};
 use mm_read::Stmt;
-use names::Names;
+use names::NameTable;
 use std::alloc::{AllocError, Global};
 
 /// What is noted of a statement of this kind that comes next.
@@ -70,7 +70,7 @@ fn enter_symbols(
 /// Adds the numbers of the symbols of a statement, which all have one, to codes, of which there are none: those that
 /// were noted, where they were.
 fn known_numbers(
-    names: &Names,
+    names: &NameTable,
     codes: &mut Vec<u32>,
     stmt: &Stmt,
     noted: Option<&[u32]>,

@@ -21,7 +21,7 @@ use crate::reading::{cited_at, expr_at, gathered_at, meaning_at};
 use crate::storage::Stock;
 use entries::{Cited, Entries, Links};
 use mm_read::Stmt;
-use names::Names;
+use names::NameTable;
 use scope::{Scope, Steps};
 use std::alloc::{AllocError, Global};
 use std::marker::Model;
@@ -58,8 +58,8 @@ impl Frames {
         Frames {
             alloc,
             stock: Stock {
-                names: Names::new(alloc),
-                labels: Names::new(alloc),
+                names: NameTable::new(alloc),
+                labels: NameTable::new(alloc),
                 positions: Vec::new(alloc),
                 symbols: Vec::new(alloc),
                 replaced: Vec::new(alloc),

@@ -13,7 +13,7 @@ use crate::places::Places;
 use crate::reading::links_at;
 use crate::storage::Stock;
 use entries::span::between;
-use entries::{EntryRef, Hypothesis, Kind, NO_HEAD, Span};
+use entries::{BufferPart, EntryRef, Hypothesis, Kind, NO_HEAD};
 use std::alloc::AllocError;
 
 /// The variable of a `$f`.
@@ -107,7 +107,7 @@ fn groups(
     at: usize,
     variables: &Places,
     places: &mut Vec<u32>,
-    groups: &mut Vec<Span>,
+    groups: &mut Vec<BufferPart>,
 ) -> Result<(), AllocError>
     requires stored { AreStored stock.now }
     requires place { (1 ≤ at) × (at ≤ length (statements_of stock.now) + 1) }
@@ -130,7 +130,7 @@ fn add_group(
     variables: &Places,
     codes: &[u32],
     places: &mut Vec<u32>,
-    groups: &mut Vec<Span>,
+    groups: &mut Vec<BufferPart>,
 ) -> Result<(), AllocError>
     requires within { AreSpansIn (length places.old.items) groups.old.items }
     ensures added { OnOk result (cut places.new.items groups.new.items ≡ (if has_two (placed variables.now codes.now) then cut places.old.items groups.old.items ++ placed variables.now codes.now ∷ [] else cut places.old.items groups.old.items)) }

@@ -13,13 +13,17 @@ use crate::shape::kind;
 use crate::storage::Stock;
 use crate::undo::note_replaced;
 use mm_read::Stmt;
-use names::Names;
+use names::NameTable;
 use std::alloc::{AllocError, Global};
 
 const NOTHING: &[u32] = &[];
 
 /// The numbers of the symbols of a statement that declares nothing and is kept without hypotheses, where they are known.
-pub fn plain_numbers<'a>(names: &Names, stmt: &Stmt, noted: Option<&'a [u32]>) -> Option<&'a [u32]>
+pub fn plain_numbers<'a>(
+    names: &NameTable,
+    stmt: &Stmt,
+    noted: Option<&'a [u32]>,
+) -> Option<&'a [u32]>
     requires { IfSome noted (λ numbers. AreNumbersOf (with_names names.now (symbols_by stmt.now)) stmt.now numbers.now) }
     ensures { IfSome result (λ numbers. ArePlainNumbers names.now stmt.now numbers.now) }
 {

@@ -1,4 +1,4 @@
-//! Names by number: `Names` is a list of distinct names that gives each of them a code.
+//! Names by number: `NameTable` is a list of distinct names that gives each of them a code.
 //!
 //! The crates above use `Names::find`, `Names::add` and `Names::name`: a name's code is its place in the list, and the
 //! name of a code is the one that stands there. Read `names`; `texts` keeps the bytes, `table` finds a code by the key
@@ -12,4 +12,4 @@ mod overflow;
 mod table;
 mod texts;
 
-pub use names::Names;
+pub use names::NameTable;

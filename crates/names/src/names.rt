@@ -15,7 +15,7 @@ use std::marker::Model;
 /// The bytes of all names stand in one buffer. A table tells a name's code by its key, which for a name
 /// of at most seven bytes no other name has. A name that finds no slot within few steps stands apart, in order.
 #[derive(Drop)]
-pub struct Names {
+pub struct NameTable {
     texts: Texts,
     kept: Kept,
     slots: Vec<Slot>,
@@ -23,7 +23,7 @@ pub struct Names {
     taken: usize,
 }
 
-impl Model for Names {
+impl Model for NameTable {
     ghost use Rattle.std.specs.Prelude.{ℕ, List, length, ◌<◌, ◌^◌};
     ghost use Rattle.names.specs.Codes.{AreDistinct};
     ghost use Rattle.names.specs.Table.{IsTable};
@@ -35,12 +35,12 @@ impl Model for Names {
     ghost invariant = { λ a. (length a.texts < 2 ^ 32) × (AreDistinct a.texts × IsTable a.slots.items a.kept a.texts) };
 }
 
-impl Names {
+impl NameTable {
     /// No names.
-    pub fn new(alloc: Global) -> Names
+    pub fn new(alloc: Global) -> NameTable
         ensures { result ≡ [] }
     {
-        Names {
+        NameTable {
             texts: Texts::new(alloc),
             kept: Kept::new(alloc),
             slots: Vec::new(alloc),
@@ -49,14 +49,14 @@ impl Names {
     }
 
     /// The same names.
-    pub fn copy(&self, alloc: Global) -> Result<Names, AllocError>
+    pub fn copy(&self, alloc: Global) -> Result<NameTable, AllocError>
         ensures { IfOk result (λ names. names ≡ self.now) }
     {
         let texts = self.texts.copy(alloc)?;
         let mut kept = Kept::of(alloc, &texts)?;
         let slots = table(alloc, &texts, &mut kept)?;
         let taken = texts.len();
-        Ok(Names {
+        Ok(NameTable {
             texts,
             kept,
             slots,

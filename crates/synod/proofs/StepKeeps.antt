@@ -10,7 +10,7 @@ use Rattle.synod.specs.declared.packet.TheConstants.{MOST_PAGES}
 use Rattle.synod.specs.declared.value.TheConstants.{MOST_BYTES}
 use Rattle.synod.specs.declared.proposer.TheConstants.{MOST_WAITING}
 use Rattle.synod.specs.declared.ballot.Ballot.{Ballot}
-use Rattle.synod.specs.declared.packet.Report.{Report}
+use Rattle.synod.specs.declared.packet.SlotReport.{SlotReport}
 use Rattle.synod.specs.declared.packet.Packet.{Packet}
 use Rattle.synod.specs.declared.packet.Body.{Body}
 use Rattle.synod.specs.declared.packet.Body.TheVariants.{Prepare, Promise, Accept, Accepted, Nack, Ask, Told}
@@ -100,7 +100,7 @@ module _ {V : Type 0} (n : Node V) (is : IsNode n) where
   same = record { node = is; posts = tt }
 
   -- the node with other slots, role and pages
-  with_parts : (promise : Ballot) (round : ℕ) (accepted : List (Option (Held V))) (role : Role) (pages : List (List (Option (List (Report V))))) (heard : List Heard) (learned : List (Option (Option V))) (waiting : List V)
+  with_parts : (promise : Ballot) (round : ℕ) (accepted : List (Option (Held V))) (role : Role) (pages : List (List (Option (List (SlotReport V))))) (heard : List Heard) (learned : List (Option (Option V))) (waiting : List V)
       → length accepted ≤ SLOTS → length learned ≤ SLOTS → IsRole role → AllByRecursion (AllByRecursion ArePages) pages
       → IsNode (record n { promise = promise; round = round; accepted = accepted; role = role; pages = pages; heard = heard; learned = learned; waiting = waiting })
   with_parts promise round accepted role pages heard learned waiting low low_learned as_role each =
@@ -208,7 +208,7 @@ module _ {V : Type 0} (n : Node V) (is : IsNode n) where
 
 -- The pages of a promise.
 
-reported_either : {V : Type 0} (first s : ℕ) (r : Report V) (rs : List (Report V)) (t : Bool) → IsReport r → AllByRecursion IsReport rs → AllByRecursion IsReport (if t then rs else (r ∷ rs))
+reported_either : {V : Type 0} (first s : ℕ) (r : SlotReport V) (rs : List (SlotReport V)) (t : Bool) → IsReport r → AllByRecursion IsReport rs → AllByRecursion IsReport (if t then rs else (r ∷ rs))
 reported_either first s r rs true h rest = rest
 reported_either first s r rs false h rest = (h, rest)
 
@@ -218,7 +218,7 @@ reports_low first s (None ∷ hs) le = reports_low first (suc s) hs (omega arith
 reports_low first s (Some h ∷ hs) le =
     reported_either first s (record { slot = s; ballot = h.ballot; value = h.value }) (reports_from first (suc s) hs) (nat_lt s first) (omega arith) (reports_low first (suc s) hs (omega arith))
 
-few_either : {V : Type 0} (r : Report V) (rs : List (Report V)) (t : Bool) → length (if t then rs else (r ∷ rs)) ≤ suc (length rs)
+few_either : {V : Type 0} (r : SlotReport V) (rs : List (SlotReport V)) (t : Bool) → length (if t then rs else (r ∷ rs)) ≤ suc (length rs)
 few_either r rs true = omega arith
 few_either r rs false = omega arith
 
@@ -251,7 +251,7 @@ pages_few (suc room) [] = (omega arith, omega arith)
 pages_few (suc room) (x ∷ xs) = let h = pages_few room xs in let e = length-onto_first x (cut room xs) h.1 in (omega (arith, h.0, h.1, e), omega (arith, h.1, e))
 pages_few zero (x ∷ xs) = let h = pages_few 255 xs in let e = length-onto_first x (cut 255 xs) h.1 in (omega (arith, h.0, h.1, e), omega arith)
 
-posts_pages : {V : Type 0} (nodes me to : ℕ) (b : Ballot) (count i : ℕ) (pages : List (List (Report V))) → me < nodes → to < nodes → 1 ≤ i → i + length pages ≤ suc count → count ≤ MOST_PAGES
+posts_pages : {V : Type 0} (nodes me to : ℕ) (b : Ballot) (count i : ℕ) (pages : List (List (SlotReport V))) → me < nodes → to < nodes → 1 ≤ i → i + length pages ≤ suc count → count ≤ MOST_PAGES
     → AllByRecursion (AllByRecursion IsReport) pages → AllByRecursion (IsPost nodes) (promise_pages me to b count i pages)
 posts_pages nodes me to b count i [] from for one all few each = tt
 posts_pages nodes me to b count i (page ∷ pages) from for one all few each = (
@@ -261,50 +261,50 @@ posts_pages nodes me to b count i (page ∷ pages) from for one all few each = (
 
 -- What is proposed stands below the limit.
 
-all_low : {V : Type 0} (reports : List (Report V)) → AllByRecursion IsReport reports → above_all reports ≤ SLOTS
+all_low : {V : Type 0} (reports : List (SlotReport V)) → AllByRecursion IsReport reports → above_all reports ≤ SLOTS
 all_low [] h = omega arith
 all_low (r ∷ rs) h = let rest = all_low rs h.1 in let low : r.slot < SLOTS = h.0 in omega arith
 
-pub top_low : {V : Type 0} (first : ℕ) (reports : List (Report V)) → first ≤ SLOTS → AllByRecursion IsReport reports → top_reported first reports ≤ SLOTS
+pub top_low : {V : Type 0} (first : ℕ) (reports : List (SlotReport V)) → first ≤ SLOTS → AllByRecursion IsReport reports → top_reported first reports ≤ SLOTS
 top_low first [] low h = low
 top_low first (r ∷ rs) low h = all_low (r ∷ rs) h
 
-all_joined : {V : Type 0} (pages : List (Option (List (Report V)))) (count : ℕ) → AllByRecursion ArePages pages → AllByRecursion IsReport (joined_pages pages count)
+all_joined : {V : Type 0} (pages : List (Option (List (SlotReport V)))) (count : ℕ) → AllByRecursion ArePages pages → AllByRecursion IsReport (joined_pages pages count)
 all_joined pages zero h = tt
 all_joined [] (suc count) h = tt
 all_joined (None ∷ pages) (suc count) h = all_joined pages count h.1
 all_joined (Some page ∷ pages) (suc count) h = all_append IsReport page (joined_pages pages count) h.0 (all_joined pages count h.1)
 
-reports_heard : {V : Type 0} (pages : List (List (Option (List (Report V))))) (heard : List Heard) → AllByRecursion (AllByRecursion ArePages) pages → AllByRecursion IsReport (all_reports pages heard)
+reports_heard : {V : Type 0} (pages : List (List (Option (List (SlotReport V))))) (heard : List Heard) → AllByRecursion (AllByRecursion ArePages) pages → AllByRecursion IsReport (all_reports pages heard)
 reports_heard pages [] h = tt
 reports_heard pages (x ∷ heard) h =
     all_append IsReport (joined_pages (pages_from pages x.node) x.count) (all_reports pages heard) (all_joined (pages_from pages x.node) x.count (all_index (AllByRecursion ArePages) pages x.node [] h tt)) (reports_heard pages heard h)
 
-all_put : {V : Type 0} (pages : List (Option (List (Report V)))) (i : ℕ) (reports : List (Report V)) → AllByRecursion ArePages pages → AllByRecursion IsReport reports → AllByRecursion ArePages (put_at pages i reports)
+all_put : {V : Type 0} (pages : List (Option (List (SlotReport V)))) (i : ℕ) (reports : List (SlotReport V)) → AllByRecursion ArePages pages → AllByRecursion IsReport reports → AllByRecursion ArePages (put_at pages i reports)
 all_put [] zero reports h r = (r, tt)
 all_put [] (suc i) reports h r = (tt, all_put [] i reports tt r)
 all_put (x ∷ pages) zero reports h r = (r, h.1)
 all_put (x ∷ pages) (suc i) reports h r = (h.0, all_put pages i reports h.1 r)
 
-all_with_page : {V : Type 0} (pages : List (List (Option (List (Report V))))) (p i : ℕ) (reports : List (Report V)) (t : Bool) → AllByRecursion (AllByRecursion ArePages) pages → AllByRecursion IsReport reports
+all_with_page : {V : Type 0} (pages : List (List (Option (List (SlotReport V))))) (p i : ℕ) (reports : List (SlotReport V)) (t : Bool) → AllByRecursion (AllByRecursion ArePages) pages → AllByRecursion IsReport reports
     → AllByRecursion (AllByRecursion ArePages) (if t then pages else set pages p (put_at (pages_from pages p) i reports))
 all_with_page pages p i reports true h r = h
 all_with_page pages p i reports false h r = all_set (AllByRecursion ArePages) pages p (put_at (pages_from pages p) i reports) h (all_put (pages_from pages p) i reports (all_index (AllByRecursion ArePages) pages p [] h tt) r)
 
 -- what the nodes heard have reported, with a page just delivered
-pub reports_with_page : {V : Type 0} (pages : List (List (Option (List (Report V))))) (p i : ℕ) (reports : List (Report V)) (heard : List Heard) → AllByRecursion (AllByRecursion ArePages) pages → AllByRecursion IsReport reports
+pub reports_with_page : {V : Type 0} (pages : List (List (Option (List (SlotReport V))))) (p i : ℕ) (reports : List (SlotReport V)) (heard : List Heard) → AllByRecursion (AllByRecursion ArePages) pages → AllByRecursion IsReport reports
     → AllByRecursion IsReport (all_reports (with_page pages p i reports) heard)
 reports_with_page pages p i reports heard each r = reports_heard (with_page pages p i reports) heard (all_with_page pages p i reports (is_some (page_of pages p i)) each r)
 
-length-fills : {V : Type 0} (reports : List (Report V)) (s count : ℕ) → length (fills reports s count) ≡ count
+length-fills : {V : Type 0} (reports : List (SlotReport V)) (s count : ℕ) → length (fills reports s count) ≡ count
 length-fills reports s zero = refl
 length-fills reports s (suc count) = ap suc (length-fills reports (suc s) count)
 
 module _ {V : Type 0} (n : Node V) (is : IsNode n) where
   pub keeps_prepare : (p : ℕ) (b : Ballot) (first : ℕ) → p < length n.weights → Keeps (length n.weights) (on_prepare n p b first)
   keeps_prepare p b first for = either (length n.weights) (promises n p b first) (refuses n p b) (is_under n.promise b) (λ e.
-      let reports : List (Report V) = reports_from first 0 n.accepted in
-      let pages : List (List (Report V)) = pages_of reports in
+      let reports : List (SlotReport V) = reports_from first 0 n.accepted in
+      let pages : List (List (SlotReport V)) = pages_of reports in
       let few = reports_few first 0 n.accepted in
       let low = is.accepted in
       let count = pages_few 256 reports in
@@ -325,10 +325,10 @@ module _ {V : Type 0} (n : Node V) (is : IsNode n) where
 
   -- A page of a promise.
 
-  module _ (b : Ballot) (first : ℕ) (low : first ≤ SLOTS) (role : n.role ≡ Preparing b first) (pages : List (List (Option (List (Report V))))) (each : AllByRecursion (AllByRecursion ArePages) pages) where
+  module _ (b : Ballot) (first : ℕ) (low : first ≤ SLOTS) (role : n.role ≡ Preparing b first) (pages : List (List (Option (List (SlotReport V))))) (each : AllByRecursion (AllByRecursion ArePages) pages) where
     leads_keep : (heard : List Heard) → Keeps (length n.weights) (leads n b first (all_reports pages heard) (top_reported first (all_reports pages heard)))
     leads_keep heard =
-        let reports : List (Report V) = all_reports pages heard in
+        let reports : List (SlotReport V) = all_reports pages heard in
         let top : ℕ = top_reported first reports in
         let below : top ≤ SLOTS = top_low first reports low (reports_heard pages heard each) in
         let taken : List V = take (SLOTS - top) n.waiting in
@@ -352,7 +352,7 @@ module _ {V : Type 0} (n : Node V) (is : IsNode n) where
         (λ e. hears_keep (n.heard ++ record { node = p; count = count } ∷ []))
         (λ e. record { node = with_parts n is n.promise n.round n.accepted n.role pages n.heard n.learned n.waiting is.accepted is.learned is.role each; posts = tt })
 
-  promise_as : (as_role : Role) (p : ℕ) (b : Ballot) (page count : ℕ) (reports : List (Report V)) → n.role ≡ as_role → IsRole as_role → AllByRecursion IsReport reports
+  promise_as : (as_role : Role) (p : ℕ) (b : Ballot) (page count : ℕ) (reports : List (SlotReport V)) → n.role ≡ as_role → IsRole as_role → AllByRecursion IsReport reports
       → Keeps (length n.weights) (on_promise_as as_role n p b page count reports)
   promise_as Idle p b page count reports role low each = same n is
   promise_as (Leading c next) p b page count reports role low each = same n is
@@ -361,7 +361,7 @@ module _ {V : Type 0} (n : Node V) (is : IsNode n) where
       (λ e. gathers_keep c first low role (with_page n.pages p (page - 1) reports) (all_with_page n.pages p (page - 1) reports (is_some (page_of n.pages p (page - 1))) is.pages each) p count)
       (λ e. same n is)
 
-  pub keeps_promise_page : (p : ℕ) (b : Ballot) (page count : ℕ) (reports : List (Report V)) → IsPage page count reports → Keeps (length n.weights) (on_promise n p b page count reports)
+  pub keeps_promise_page : (p : ℕ) (b : Ballot) (page count : ℕ) (reports : List (SlotReport V)) → IsPage page count reports → Keeps (length n.weights) (on_promise n p b page count reports)
   keeps_promise_page p b page count reports h = promise_as n.role p b page count reports refl is.role h.each
 
   body_keeps : (p : ℕ) (body : Body V) → p < length n.weights → IsBody body → Keeps (length n.weights) (on_body n p body)

@@ -7,7 +7,7 @@ use Rattle.names.specs.Overflow.{number_of}
 use Rattle.names.specs.Table.{IsFree}
 use Rattle.names.proofs.KeptLemmas.{none-is}
 use Rattle.names.proofs.PutLemmas.{Holds, names-same, names-put, names-set_apart}
-use Rattle.names.proofs.names.Names.add.Goals as goal
+use Rattle.names.proofs.names.NameTable.add.Goals as goal
 
 pub invariant_of-self : goal.invariant_of-self
 invariant_of-self c =

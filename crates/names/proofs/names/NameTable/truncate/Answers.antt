@@ -1,5 +1,5 @@
 use Rattle.names.proofs.PutLemmas.{names-take}
-use Rattle.names.proofs.names.Names.truncate.Goals as goal
+use Rattle.names.proofs.names.NameTable.truncate.Goals as goal
 
 pub invariant_of-self : goal.invariant_of-self
 invariant_of-self c =
