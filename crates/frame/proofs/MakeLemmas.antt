@@ -13,7 +13,9 @@ use Rattle.entries.specs.declared.links.Links.{Links}
 use Rattle.frame.specs.declared.storage.Stock.{Stock}
 use Rattle.frame.specs.Links.{actives, last_active, is_disj, links_of}
 use Rattle.entries.specs.Entries.{Entry}
-use Rattle.frame.specs.Stored.{is_placed, placed, variable_at, option_variable, variable_by, symbols_at, is_hypothesis_entry, has_two, groups_by, AreHypotheses, statements_of}
+use Rattle.frame.specs.StoredParts.{is_placed, placed, variable_at, option_variable, variable_by, symbols_at, has_two, groups_by}
+use Rattle.frame.specs.StoredHypotheses.{is_hypothesis_entry, AreHypotheses}
+use Rattle.frame.specs.StoredEntries.{statements_of}
 
 -- ---- one symbol more
 

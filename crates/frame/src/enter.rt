@@ -8,7 +8,10 @@ ghost use Rattle.scope.specs.Symbols.{symbols_by, symbols_in};
 ghost use Rattle.entries.specs.declared.head.Head.{Head as Before};
 ghost use Rattle.frame.specs.Below.{AreBelow};
 ghost use Rattle.frame.specs.Drafts.{IsPartless, IsDraft, drafted, made};
-ghost use Rattle.frame.specs.Stored.{AreNumbersOf, Entered, Grown, option_list, option_position, IsFresh, HasRoom, AreStored, IsHead, IsNext, IsKeptOf, has_parts, kind_of, statements_of};
+ghost use Rattle.frame.specs.Stored.{AreNumbersOf, Entered, AreStored, IsHead, IsNext, IsKeptOf};
+ghost use Rattle.frame.specs.StoredCounts.{Grown, IsFresh, HasRoom, kind_of};
+ghost use Rattle.frame.specs.StoredEntries.{option_list, option_position, statements_of};
+ghost use Rattle.frame.specs.StoredParts.{has_parts};
 
 use crate::declare::name_label;
 use crate::draft::Draft;

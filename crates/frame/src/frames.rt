@@ -9,7 +9,7 @@ ghost use Rattle.frame.specs.Below.{AreBelow};
 ghost use Rattle.frame.specs.FrameOf.{HasAssertion, hypotheses};
 ghost use Rattle.frame.specs.Reading.{IsMeaning, IsPosition, AreLegal};
 ghost use Rattle.frame.specs.Cited.{IsCited, IsGathered};
-ghost use Rattle.frame.specs.Stored.{Extends};
+ghost use Rattle.entries.specs.Spans.{Extends};
 
 use crate::draft::Draft;
 use crate::extend::{cut, extend, roll_back};
@@ -42,7 +42,8 @@ impl Model for Frames {
 
     ghost Value = { Numbered };
 
-    ghost use Rattle.frame.specs.Stored.{numbered, AreStored};
+    ghost use Rattle.frame.specs.StoredEntries.{numbered};
+    ghost use Rattle.frame.specs.Stored.{AreStored};
 
     ghost view = { λ a. numbered a.stock };
 

@@ -5,7 +5,11 @@ ghost use Rattle.frame.specs.Below.{AreBelow};
 ghost use Rattle.frame.specs.Cited.{head_of};
 ghost use Rattle.frame.specs.Drafts.{IsPartless, IsUndescribed, IsDraft, drafted};
 ghost use Rattle.frame.specs.Links.{actives, is_disj};
-ghost use Rattle.frame.specs.Stored.{AreStored, AreHypotheses, HasTwo, asked_at, asked_by, head_at, has_two, AreParts, IsSpread, collected, with_floats, statements_of, variable_at, variable_by, symbols_at, groups_by, placed};
+ghost use Rattle.frame.specs.Stored.{AreStored};
+ghost use Rattle.frame.specs.StoredHypotheses.{AreHypotheses, AreParts, IsSpread, collected, with_floats};
+ghost use Rattle.frame.specs.StoredCounts.{HasTwo};
+ghost use Rattle.frame.specs.StoredParts.{asked_at, asked_by, head_at, has_two, variable_at, variable_by, symbols_at, groups_by, placed};
+ghost use Rattle.frame.specs.StoredEntries.{statements_of};
 
 use crate::draft::Draft;
 use crate::mandatory::{add_essentials, are_few, put_floats};

@@ -12,7 +12,7 @@ use Rattle.synod.specs.declared.change.Held.{Held}
 use Rattle.synod.specs.Packets.{packet}
 use Rattle.synod.specs.Pages.{onto_first, cut, pages_of}
 use Rattle.synod.specs.Acceptor.{reports_from, promise_pages}
-use Rattle.synod.proofs.StepKeeps.{reports_few, pages_few}
+use Rattle.synod.proofs.PageKeeps.{reports_few, pages_few}
 
 -- a page that was begun, and the pages after it
 abbrev pub onto_front : {T : Type 0} → List T → List (List T) → List (List T)

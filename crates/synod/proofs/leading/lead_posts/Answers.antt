@@ -3,7 +3,7 @@ use Rattle.synod.specs.declared.packet.SlotReport.{SlotReport}
 use Rattle.synod.specs.Proposer.{top_reported, all_reports}
 use Rattle.synod.specs.PagesHad.{pages_with}
 use Rattle.synod.specs.Heights.{all_of}
-use Rattle.synod.proofs.StepKeeps.{top_low}
+use Rattle.synod.proofs.PageKeeps.{top_low}
 use Rattle.synod.proofs.HeightsLemmas.{take_min, is_lead}
 use Rattle.synod.proofs.leading.lead_posts.Goals as goal
 

@@ -5,7 +5,7 @@ use Rattle.synod.specs.Node.{Stepped}
 use Rattle.synod.specs.Core.{Core, assembled}
 use Rattle.synod.specs.PagesHad.{entries_of}
 use Rattle.synod.specs.Step.{IsNode, ArePages}
-use Rattle.synod.proofs.StepKeeps.{reports_with_page}
+use Rattle.synod.proofs.PageKeeps.{reports_with_page}
 use Rattle.synod.proofs.LeadLemmas.{lead_step}
 use Rattle.synod.proofs.node.NodeCore.ready_to_lead.Goals as goal
 
