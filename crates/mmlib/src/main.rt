@@ -20,9 +20,7 @@ fn main(rt: HostRuntime) -> ExitCode {
             ),
             Err(AllocError) => print_no_memory(&mut output),
         },
-        Err(error) if error.kind() == io::ErrorKind::OutOfMemory => {
-            print_no_memory(&mut output)
-        }
+        Err(error) if error.kind() == io::ErrorKind::OutOfMemory => { print_no_memory(&mut output) }
         Err(_) => print(&mut faults, b"error: the arguments are no text\n", 2),
     };
     ExitCode::from(status)
