@@ -93,17 +93,20 @@ fn explain_statement(alloc: Global, page: &mut Page, broken: &Broken<'_>) {
     }
     let (earlier, rest) = broken.statements.split_at(index);
     let stmt = &rest[0];
-    match witness_of(alloc, earlier, stmt, broken.rule)? {
-        Some(Witness::Statement) => explain_alone(alloc, page, broken),
-        Some(Witness::Symbol { symbol }) => explain_symbol(alloc, page, broken, stmt, symbol),
-        Some(Witness::Twice { first, second }) => {
+    match witness_of(alloc, earlier, stmt, broken.rule) {
+        Ok(Some(Witness::Statement)) => explain_alone(alloc, page, broken),
+        Ok(Some(Witness::Symbol { symbol })) => explain_symbol(alloc, page, broken, stmt, symbol),
+        Ok(Some(Witness::Twice { first, second })) => {
             explain_twice(alloc, page, broken, stmt, first, second);
         }
-        Some(Witness::Earlier { symbol, statement }) => {
+        Ok(Some(Witness::Earlier { symbol, statement })) => {
             explain_earlier(alloc, page, broken, stmt, symbol, statement);
         }
-        Some(Witness::Label { statement }) => explain_label(alloc, page, broken, stmt, statement),
-        None => {}
+        Ok(Some(Witness::Label { statement })) => explain_label(
+            alloc, page, broken, stmt, statement,
+        ),
+        Ok(None) => {}
+        Err(_) => page.refuse(),
     }
 }
 
