@@ -1,5 +1,5 @@
 //! Good statements, with what judges those that come behind them.
-ghost use Rattle.std.specs.Prelude.{◌≡◌, ℕ, ◌+◌, ◌*◌, ◌≤◌, ◌++◌, ◌≢◌, ◌↔◌, ◌⊎◌, [], length, take, drop, Ok, Err, Some, None, IfOk, IfErr, OnErr, IsTrue, MatchResult, MatchOption};
+ghost use Rattle.std.specs.Prelude.{◌≡◌, ℕ, ◌+◌, ◌*◌, ◌≤◌, ◌++◌, ◌≢◌, ◌↔◌, ◌⊎◌, [], length, take, drop, Ok, Err, Some, None, IfOk, IfErr, OnOk, OnErr, IsTrue, MatchResult, MatchOption};
 ghost use Rattle.std.specs.Fn.{FnReturnsAt};
 ghost use Rattle.mm_read.specs.Statements.{AreShaped};
 ghost use Rattle.scope.specs.Active.{bares, is_closed};
@@ -169,13 +169,14 @@ impl Base {
 /// Errors: a growth was refused; nothing is added then. Cost: that of the statements added.
 fn append_all(statements: &mut Vec<Stmt>, mut more: Vec<Stmt>) -> Result<(), AllocError>
     ensures added { OnOk result (statements.new.items ≡ statements.old.items ++ more.items) }
-    ensures same { OnErr result (statements.new ≡ statements.old) }
+    ensures same { OnErr result (statements.new.items ≡ statements.old.items) }
 {
     if statements.is_empty() {
         *statements = more;
-        return Ok(());
+    } else {
+        statements.append(&mut more)?;
     }
-    statements.append(&mut more)
+    Ok(())
 }
 
 /// Why the statements behind the first `front` may not stand there; none where they may.
