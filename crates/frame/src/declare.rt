@@ -20,9 +20,9 @@ use std::alloc::{AllocError, Global};
 pub fn name_label(
     alloc: Global,
     labels: &mut NameTable,
-    positions: &mut Vec<usize>,
+    positions: &mut Vec<u32>,
     label: &[u8],
-    at: usize,
+    at: u32,
 ) -> Result<(), AllocError>
     requires { has_name label.now labels.old ≡ false }
     ensures labels { OnOk result (labels.new ≡ labels.old ++ label.now ∷ []) }

@@ -105,7 +105,7 @@ pub fn enter_label(alloc: Global, stock: &mut Stock, stmt: &Stmt) -> Result<(), 
     let Some(label) = label(stmt) else {
         return Ok(());
     };
-    let at = stock.entries.len() + 1;
+    let at = stock.entries.len() as u32 + 1;
     name_label(
         alloc,
         &mut stock.labels,

@@ -174,7 +174,7 @@ impl Frames {
         ensures { IsPosition self.now.statements label.now result }
     {
         let number = self.stock.labels.find(label)?;
-        Some(self.stock.positions[number])
+        Some(self.stock.positions[number] as usize)
     }
 
     /// The expression of the statement at a position, by numbers; nothing where it has none.

@@ -18,7 +18,7 @@ pub struct Symbol {
 pub struct Stock {
     pub names: NameTable,
     pub labels: NameTable,
-    pub positions: Vec<usize>,
+    pub positions: Vec<u32>,
     pub symbols: Vec<Symbol>,
     /// What each `$f`, and each symbol of each `$v`, replaced in `symbols`, in order.
     pub replaced: Vec<usize>,
