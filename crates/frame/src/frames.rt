@@ -29,7 +29,7 @@ use std::marker::Model;
 /// The statements of a database by position, without their proofs, with their symbols as numbers.
 ///
 /// Contracts see the list of the statements, each legal behind those before it, and the names that the numbers
-/// stand for, in order of first appearance.
+/// stand for, in order of first declaration.
 #[derive(Drop)]
 pub struct Frames {
     alloc: Global,

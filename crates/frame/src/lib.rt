@@ -3,7 +3,9 @@
 //! `Frames` keeps the statements of a database by position, and reads off them what a verifier asks:
 //! what a citation means at a statement, the parts of an assertion, and the variables that are kept apart.
 //! `frame` gathers the `Frame` of one assertion from what is active.
-//! Reading order: `storage`, `numbers`, `declare`, `undo`, `enter`, `plain`, `extend`, `reading`, `hypotheses`, `frames`; `assertion`, `one_frame`.
+//! Reading order: `storage`, `shape`, `places`, `draft`; `numbers`, `declare`, `undo`, `mandatory`, `make`, `enter`, `plain`,
+//! `extend` (one statement more); `reading`, `hypotheses`, `meaning`, `gathered`, `pairs`, `apart`, `frames` (what is asked);
+//! `assertion`, `one_frame`; `laws`.
 #![tactic(auto)]
 
 mod apart;

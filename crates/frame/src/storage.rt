@@ -11,7 +11,7 @@ pub struct Symbol {
     pub variable: usize,
 }
 
-/// The statements, the names of their symbols and of their labels in order of first appearance,
+/// The statements, the names of their symbols and of their labels in order of first declaration,
 /// the position of each label, the last declarations of each symbol, those that others replaced, and what is active
 /// at the end.
 #[derive(Drop)]

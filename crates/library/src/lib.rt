@@ -5,7 +5,7 @@
 //!
 //! Reading order: `submission`, `charter`, `entry` (what a log holds), `verdict`; `library`; `reading` (a text and its charter),
 //! `base` (all or nothing), `entering` (the rules), `unproved` (the proofs), `verdicts`; `asked` (traces, uses, items and trees), `items`,
-//! `uses`, `users`; `laws`.
+//! `uses`, `users`; `listed`; `laws`.
 #![tactic(auto)]
 
 mod asked;

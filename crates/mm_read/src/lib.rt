@@ -2,7 +2,8 @@
 //!
 //! `Stmt` is one of the eight shapes of a statement. `read` gives the one list of statements that a text writes, or says where
 //! the text stops being statements; `spell` writes statements in the export form. What a text writes is `specs/Reads`: the
-//! crates above rest on the clauses of `read`. Read `stmt`, `parse`, `statement`, `part`, `keyword`, then `export`.
+//! crates above rest on the clauses of `read`. Read `stmt`, `fault`,
+//! `parse`, `statement`, `part`, `keyword`, then `export` and `laws`.
 #![tactic(auto)]
 
 mod export;

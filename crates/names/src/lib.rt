@@ -1,8 +1,8 @@
 //! Names by number: `NameTable` is a list of distinct names that gives each of them a code.
 //!
-//! The crates above use `Names::find`, `Names::add` and `Names::name`: a name's code is its place in the list, and the
-//! name of a code is the one that stands there. Read `names`; `texts` keeps the bytes, `table` finds a code by the key
-//! of its name, `keys` makes keys.
+//! The crates above use `NameTable::find`, `add` and `name`: a name's code is its place in the list, and the name of a code
+//! is the one that stands there. Read `names`; `texts` keeps the bytes, `table` finds a code by the key of its name, `keys`
+//! makes keys, `kept` has them by code, and `overflow` the names that stand apart from the table.
 #![tactic(auto)]
 
 mod kept;

@@ -4,8 +4,8 @@
 //! or delayed and whoever restarted, the logs of any two nodes at any two moments agree. `kept_part` says what a restart
 //! leaves, `logs_grow` that nothing else shortens a log.
 //!
-//! Read `event` and `fault`, then the definitions: specs/World, Chosen, Agree, KeptPart, Laws, Taken, History; then `laws` and
-//! `net`.
+//! Read `event` and `fault`, then the definitions: specs/World, Chosen, Agree, KeptPart, Laws, Taken, History; then `laws`,
+//! `due` (an event that is made ready) and `net`.
 #![tactic(auto)]
 
 mod due;

@@ -1,8 +1,8 @@
 //! Where something stands in a text.
 //!
 //! `line_and_column` counts lines and columns up to an offset. `place_of` gives the place of a token of a statement in a text
-//! that reads as statements, and `token_of` that of a token counted from the beginning of the text. `comment_fault` says what
-//! is wrong with a comment and where that began. Read `lines`, `place`, `comments`.
+//! that reads as statements, `statement_at` the statement in which a token stands. `comment_fault` says what is wrong with a
+//! comment and where that began. Read `lines`, `place`, `comments`.
 #![tactic(auto)]
 
 mod comments;

@@ -2,10 +2,12 @@
 //!
 //! The crate above uses `normal` and `packed`: an `Ok` holds the items that the tokens write, and where they write
 //! none the fault is `Unfinished` exactly where a token has the byte `?`, else `Malformed`. `Items` is seen as the
-//! list of items, and gives its labels once each and a number for each item.
+//! list of items, and gives its labels once each and a number for each item. `Reader::read` does so of one compressed
+//! proof after another, for mandatory labels that the caller knows otherwise.
 //!
 //! To read: `item`, `items`, `fault`, then `normal_proof` and `compressed_proof` with its parts `header` (the labels
-//! in parentheses) and `letters` (the numbers); `reader` with `listing` (the labels counted) and `numbers`; and `laws`.
+//! in parentheses), `mandatory` and `letters` (the numbers); `reader` with `listing` (the labels counted) and
+//! `numbers`; and `laws`.
 #![tactic(auto)]
 
 mod compressed_proof;

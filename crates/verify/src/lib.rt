@@ -1,9 +1,11 @@
 //! Proofs: whether the items of a proof are a right proof of a statement, and the derivation that they spell.
 //!
-//! The crate above uses one contract: `check` answers `Proved` exactly where some derivation is spelled by the items,
-//! concludes the statement's expression and weighs no more than the limit; else it answers `Wrong`.
+//! The crate above uses one contract: `Checker::prove` answers `Proved` exactly where the tokens write items by which some
+//! derivation is spelled that concludes the statement's expression and weighs no more than the limit; else it answers `Wrong`.
+//! `check` is the same of the items.
 //!
-//! Reading order: `answer`, `tree`, `reading_off`, `fitting` and `results` (results as ranges of one buffer), `table`, `citation` (one item), `run` and `checker` (a whole proof), `laws`.
+//! Reading order: `answer`, `tree`; `reading_off`, `fitting` and `results` (results as ranges of one buffer), `table`, `citation`
+//! (one item), `run` and `checker` (a whole proof); `plan`, `tree_size` and `tree_from_items` (the derivation); `laws`.
 #![tactic(auto)]
 
 mod answer;

@@ -3,7 +3,8 @@
 //! The contract that the crates above use is the headline, of an Ok of `run` and of each `World`: whatever was lost, repeated
 //! or delayed and whoever restarted, the libraries of any two nodes at any two moments are one the beginning of the other.
 //!
-//! Read the definitions, specs/Carried, Replicas and Headline; then `replica`, `world` and `replay`.
+//! Read the definitions, specs/Carried, Replicas and Headline; then `carried`, `replica`,
+//! `world`, `replay` and `laws`.
 #![tactic(auto)]
 
 mod carried;

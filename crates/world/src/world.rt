@@ -17,8 +17,8 @@ use synod::{Packet, Weights};
 /// A world of nodes and their libraries, seen as the weights, the events taken, and each node's library with the count of
 /// entries applied.
 ///
-/// Source: Lamport, Paxos Made Simple, 2 and 3; the world after a list of events is in `specs/World.antt`, what is seen in
-/// `specs/Replicas.antt`.
+/// Source: Lamport, Paxos Made Simple, 2 and 3; the world after a list of events is in `net/specs/World.antt`, what is
+/// seen in `specs/Replicas.antt`.
 #[derive(Drop)]
 pub struct World {
     alloc: Global,
