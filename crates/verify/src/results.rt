@@ -20,11 +20,12 @@ use frame::{Frames, Pairs};
 use std::alloc::{AllocError, Global};
 use std::marker::Model;
 use subst::{
-    Buffer, Findings, ImagePlaces, Place, SYMBOLS_LIMIT, groups_apart, place_between, symbols_at,
+    Buffer, ExpressionPlace, Findings, ImagePlaces, SYMBOLS_LIMIT, groups_apart, place_between,
+    symbols_at,
 };
 
 /// The place of no symbols.
-const EMPTY: Place = Place { start: 0, end: 0 };
+const EMPTY: ExpressionPlace = ExpressionPlace { start: 0, end: 0 };
 
 /// The results of a proof so far, their symbols in one buffer, and the images that were read off the last of them.
 ///
@@ -34,8 +35,8 @@ const EMPTY: Place = Place { start: 0, end: 0 };
 pub struct Results {
     symbols: Buffer,
     images: ImagePlaces,
-    stack: Vec<Place>,
-    saved: Vec<Place>,
+    stack: Vec<ExpressionPlace>,
+    saved: Vec<ExpressionPlace>,
     weight: usize,
 }
 
