@@ -1,5 +1,5 @@
 //! A node's own part, its cell: the entries that were taken over from its log, and the library of those applied.
-ghost use Rattle.std.specs.Prelude.{◌≡◌, ◌↔◌, IsTrue, ◌<◌, [], Ok, Err, Some, None, length, slice_get, option_map, IsSome, IfOk, OnOk, OnErr, IsOkUnless};
+ghost use Rattle.std.specs.Prelude.{◌≡◌, ◌↔◌, IsTrue, ◌<◌, [], Ok, Err, Some, None, length, slice_get, option_map, IsOk, IsSome, IfOk, OnOk, OnErr, IsOkUnless};
 ghost use Rattle.std.specs.List.{AllByRecursion};
 ghost use Rattle.std.specs.Result.{ForOk};
 ghost use Rattle.library.specs.Listed.{listed};
@@ -100,6 +100,7 @@ pub fn offer_on<K: Keep<Carried>>(
     k: u8,
     entry: Entry,
 ) -> Result<u64, StepFault>
+    ensures taken { IsOk (world_of carried_size switch.old) }
     ensures acts { ForOk (world_of carried_size switch.old) (λ world. Acts carried_size world switch.old switch.new (Offer k (record { 0 = entry })) result) }
     ensures belonging { StaysBelonging carried_size switch.old switch.new }
 {
@@ -198,6 +199,7 @@ pub fn restart_on<K: Keep<Carried>>(
     cell: &mut NodeCell,
     switch: &mut Switch<Carried, K>,
 ) -> Result<u64, StepFault>
+    ensures taken { IsOk (world_of carried_size switch.old) }
     ensures restarts { ForOk (world_of carried_size switch.old) (λ world. Restarts carried_size world switch.old switch.new cell.old.at result) }
     ensures fresh { OnOk result (cell.new ≡ new_cell cell.old.at) }
     ensures stays { OnErr result (cell.new ≡ cell.old) }

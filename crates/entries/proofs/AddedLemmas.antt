@@ -7,12 +7,12 @@ use Rattle.std.proofs.Math.Nat.{sub_self}
 use Rattle.std.proofs.Math.Seq.{get_or-append_seam}
 use Rattle.entries.specs.declared.citation.Hypothesis.{Hypothesis}
 use Rattle.entries.specs.declared.head.Head.{Head}
-use Rattle.entries.specs.declared.parts.Parts.{Parts}
+use Rattle.entries.specs.declared.parts.AssertionParts.{AssertionParts}
 use Rattle.entries.specs.declared.record.Record.{Record}
 use Rattle.entries.specs.declared.record.Row.{Row}
 use Rattle.entries.specs.declared.record.Buffers.{Buffers}
 use Rattle.entries.specs.declared.sizes.Sizes.{Sizes}
-use Rattle.entries.specs.Entries.{AreShapedParts, assertion_of, made, plain}
+use Rattle.entries.specs.Entries.{AreShapedParts, assertion_of, made, partless}
 use Rattle.entries.specs.Spans.{AreSpansIn, Extends, cut}
 use Rattle.entries.specs.Records.{head_of, no_row, hypotheses_by, groups_by, groups_at, row_place, plain_place, place_by, place_of, places_of, entry_of, ArePacked, Grows, Begins, IsRowOf, IsAdded}
 use Rattle.entries.proofs.SpanLemmas.{range-behind, extends-length, extends-refl}
@@ -39,7 +39,7 @@ range-none xs n = ap (λ m. take m (drop n xs)) (sub_self n)
 
 -- ---- an assertion, with its row
 
-module _ (b m c : Buffers) (rs qs : List Record) (r : Record) (w : Row) (h : Head) (p : Parts)
+module _ (b m c : Buffers) (rs qs : List Record) (r : Record) (w : Row) (h : Head) (p : AssertionParts)
     (packed : ArePacked b (places_of b rs)) (shaped : AreShapedParts p) (grows : Grows b m) (row : IsRowOf b m p w)
     (numbers : c.numbers.items ≡ m.numbers.items) (hypotheses : c.hypotheses.items ≡ m.hypotheses.items) (asked : c.asked.items ≡ m.asked.items) (groups : c.groups.items ≡ m.groups.items)
     (rows : c.rows.items ≡ b.rows.items ++ w ∷ [])
@@ -104,11 +104,11 @@ module _ (b m c : Buffers) (rs qs : List Record) (r : Record) (w : Row) (h : Hea
 
 -- ---- any other statement
 
-module _ (b c : Buffers) (rs qs : List Record) (r : Record) (h : Head) (codes : List ℕ)
+module _ (b c : Buffers) (rs qs : List Record) (r : Record) (h : Head) (codes : List ℕ) (whole : Bool)
     (packed : ArePacked b (places_of b rs))
     (numbers : c.numbers.items ≡ b.numbers.items ++ codes) (hypotheses : c.hypotheses.items ≡ b.hypotheses.items) (asked : c.asked.items ≡ b.asked.items) (groups : c.groups.items ≡ b.groups.items)
     (rows : c.rows.items ≡ b.rows.items)
-    (head : head_of r ≡ h) (kind : r.has_row ≡ false) (from : r.from ≡ length b.numbers.items) (at : r.row ≡ length b.rows.items) (behind : qs ≡ rs ++ r ∷ []) where
+    (head : head_of r ≡ h) (kind : r.has_row ≡ false) (same_whole : r.whole ≡ whole) (from : r.from ≡ length b.numbers.items) (at : r.row ≡ length b.rows.items) (behind : qs ≡ rs ++ r ∷ []) where
   none-at : slice_get c.rows.items r.row ≡ None
   none-at = let l = ap length rows in slice_get_past c.rows.items r.row (omega (arith, l, at))
 
@@ -127,16 +127,16 @@ module _ (b c : Buffers) (rs qs : List Record) (r : Record) (h : Head) (codes : 
       ∙ (ap (λ x. plain_place r (length c.numbers.items) (hypotheses_by (length c.hypotheses.items) x) (groups_at c r.row)) none-at
       ∙ ap (λ x. plain_place r (length c.numbers.items) (length c.hypotheses.items) (groups_by (length c.groups.items) x)) none-at)
 
-  pub added-plain : IsAdded b c (places_of b rs) (places_of c qs) (plain h codes)
+  pub added-plain : IsAdded b c (places_of b rs) (places_of c qs) (made h codes (partless whole))
   added-plain =
       let n = ap length numbers in let a = ap length hypotheses in let g = ap length groups in let l = ap length rows in let q = ap length asked in
       let k = length-append b.numbers.items codes in
       record {
         last = plain_place r (length c.numbers.items) (length c.hypotheses.items) (length c.groups.items);
         behind = ap (places_of c) behind ∙ (places-push b c rs r ([], rows ∙ sym (append-nil b.rows.items)) plain-begins from packed.within ∙ ap (λ x. places_of b rs ++ x ∷ []) plain-placed);
-        entry = made-same (head_of r) h false false _ codes _ [] _ [] _ [] _ []
+        entry = made-same (head_of r) h r.whole whole _ codes _ [] _ [] _ [] _ []
             head
-            refl
+            same_whole
             (range-behind b.numbers.items codes c.numbers.items c.numbers.items r.from (length c.numbers.items) from numbers refl (extends-refl c.numbers.items))
             (range-none c.hypotheses.items (length c.hypotheses.items))
             (range-none c.asked.items (length c.hypotheses.items))

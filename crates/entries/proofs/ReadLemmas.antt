@@ -38,7 +38,7 @@ pub record IsReading (b : Buffers) (w : Row) (a : Assertion) : Type 0 where
   pub groups : cut (slice_range b.numbers.items w.heads w.places) (slice_range b.groups.items w.groups_from w.groups) ≡ a.groups
   pub grouped : AreSpansIn (w.places - w.heads) (slice_range b.groups.items w.groups_from w.groups)
 
-reads-by : (t : Bool) (b : Buffers) (r : Record) (end : ℕ) → IsWithin (sizes_of b) (place_by t b r end) → HasGroups b (place_by t b r end) → IsReading b (row_by t b.rows.items r.row) (entry_of b (place_by t b r end)).assertion
+reads-by : (t : Bool) (b : Buffers) (r : Record) (end : ℕ) → IsWithin (sizes_of b) (place_by t b r end) → HasGroups b (place_by t b r end) → IsReading b (row_by t r.whole b.rows.items r.row) (entry_of b (place_by t b r end)).assertion
 reads-by true b r end w g = record {
   whole = refl;
   heads_in = w.heads;
@@ -93,6 +93,6 @@ module _ (b : Buffers) (rs : List Record) (es : List Entry) (i : ℕ) (r : Recor
   pub symbols-there : (place_of b r (end_of b (drop (suc i) rs))).symbols ≡ symbols_by r.has_row (own_row b.rows.items r) (from_by (length b.numbers.items) (slice_get rs (i + 1)))
   symbols-there = by r.has_row
     where
-      by : (t : Bool) → (place_by t b r (end_of b (drop (suc i) rs))).symbols ≡ symbols_by t (row_by t b.rows.items r.row) (from_by (length b.numbers.items) (slice_get rs (i + 1)))
+      by : (t : Bool) → (place_by t b r (end_of b (drop (suc i) rs))).symbols ≡ symbols_by t (row_by t r.whole b.rows.items r.row) (from_by (length b.numbers.items) (slice_get rs (i + 1)))
       by true = refl
       by false = let k : suc i ≡ i + 1 = omega arith in end-by b (suc i) rs ∙ ap (λ n. from_by (length b.numbers.items) (slice_get rs n)) k

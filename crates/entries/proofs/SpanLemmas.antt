@@ -3,16 +3,16 @@ use Rattle.std.specs.Prelude.{◌≡◌, ℕ, zero, suc, ◌+◌, ◌-◌, ◌�
 use Rattle.std.proofs.Common.{◌∙◌, ap, sym, subst, arith, append-nil, append_assoc}
 use Rattle.std.proofs.lemmas.List.{length-append, length-drop, length-take-le, take-append-le, drop-append-le, take-append-drop, reverse-append}
 use Rattle.std.proofs.Math.Seq.{take-append_seam, drop-append_seam}
-use Rattle.entries.specs.declared.span.Span.{Span}
+use Rattle.entries.specs.declared.span.BufferPart.{BufferPart}
 use Rattle.entries.specs.Spans.{cut, AreSpansIn, Extends}
 
 some-same : {A : Type 0} {x y : A} → Some x ≡ Some y → x ≡ y
 some-same e = cc
 
-pub span-in : (n : ℕ) (spans : List Span) (i : ℕ) (s : Span) → AreSpansIn n spans → slice_get spans i ≡ Some s → (s.from ≤ s.to) × (s.to ≤ n)
+pub span-in : (n : ℕ) (spans : List BufferPart) (i : ℕ) (s : BufferPart) → AreSpansIn n spans → slice_get spans i ≡ Some s → (s.from ≤ s.to) × (s.to ≤ n)
 span-in n [] zero s h e = absurd (cc)
 span-in n [] (suc i) s h e = absurd (cc)
-span-in n (t ∷ spans) zero s h e = subst (λ (x : Span). (x.from ≤ x.to) × (x.to ≤ n)) (some-same e) h.0
+span-in n (t ∷ spans) zero s h e = subst (λ (x : BufferPart). (x.from ≤ x.to) × (x.to ≤ n)) (some-same e) h.0
 span-in n (t ∷ spans) (suc i) s h e = span-in n spans i s h.1 e
 
 pub range-more : {A : Type 0} (xs more : List A) (from to : ℕ) → from ≤ to → to ≤ length xs → slice_range (xs ++ more) from to ≡ slice_range xs from to
@@ -64,23 +64,23 @@ part-of buffer slice part from to e h = h ∙ ap (λ xs. slice_range xs from to)
 pub length-range : {A : Type 0} (xs : List A) (from to : ℕ) → to ≤ length xs → length (slice_range xs from to) ≡ to - from
 length-range xs from to p = let d = length-drop from xs in let t = length-take-le (to - from) (drop from xs) (omega arith) in t
 
-spans-append : (n : ℕ) (a b : List Span) → AreSpansIn n a → AreSpansIn n b → AreSpansIn n (a ++ b)
+spans-append : (n : ℕ) (a b : List BufferPart) → AreSpansIn n a → AreSpansIn n b → AreSpansIn n (a ++ b)
 spans-append n [] b h k = k
 spans-append n (s ∷ a) b h k = (h.0, spans-append n a b h.1 k)
 
-pub spans-push : (n m : ℕ) (a : List Span) (s : Span) → n ≤ m → AreSpansIn n a → s.from ≤ s.to → s.to ≤ m → AreSpansIn m (a ++ s ∷ [])
+pub spans-push : (n m : ℕ) (a : List BufferPart) (s : BufferPart) → n ≤ m → AreSpansIn n a → s.from ≤ s.to → s.to ≤ m → AreSpansIn m (a ++ s ∷ [])
 spans-push n m [] s le h p q = ((p, q), tt)
 spans-push n m (t ∷ a) s le h p q = let k = h.0.1 in ((h.0.0, omega (arith, k, le)), spans-push n m a s le h.1 p q)
 
-pub spans-reverse : (n : ℕ) (a : List Span) → AreSpansIn n a → AreSpansIn n (reverse a)
+pub spans-reverse : (n : ℕ) (a : List BufferPart) → AreSpansIn n a → AreSpansIn n (reverse a)
 spans-reverse n [] h = tt
 spans-reverse n (s ∷ a) h = subst (AreSpansIn n) (sym (reverse-append (s ∷ []) a)) (spans-append n (reverse a) (s ∷ []) (spans-reverse n a h.1) (h.0, tt))
 
 -- more behind the buffer changes no part
-pub cut-more : {A : Type 0} (xs more : List A) (a : List Span) → AreSpansIn (length xs) a → cut (xs ++ more) a ≡ cut xs a
+pub cut-more : {A : Type 0} (xs more : List A) (a : List BufferPart) → AreSpansIn (length xs) a → cut (xs ++ more) a ≡ cut xs a
 cut-more xs more [] h = refl
 cut-more xs more (s ∷ a) h = let e = range-more xs more s.from s.to h.0.0 h.0.1 in let r = cut-more xs more a h.1 in cc
 
-pub cut-push : {A : Type 0} (xs : List A) (a : List Span) (s : Span) → cut xs (a ++ s ∷ []) ≡ cut xs a ++ slice_range xs s.from s.to ∷ []
+pub cut-push : {A : Type 0} (xs : List A) (a : List BufferPart) (s : BufferPart) → cut xs (a ++ s ∷ []) ≡ cut xs a ++ slice_range xs s.from s.to ∷ []
 cut-push xs [] s = refl
 cut-push xs (t ∷ a) s = ap (λ r. slice_range xs t.from t.to ∷ r) (cut-push xs a s)

@@ -7,7 +7,7 @@ use Rattle.entries.specs.declared.citation.Cited.{Cited}
 use Rattle.entries.specs.declared.links.Links.{Links}
 use Rattle.entries.specs.declared.kind.Kind.{Kind}
 use Rattle.entries.specs.declared.head.Head.{Head}
-use Rattle.entries.specs.declared.parts.Parts.{Parts}
+use Rattle.entries.specs.declared.parts.AssertionParts.{AssertionParts}
 use Rattle.entries.specs.declared.entry.EntryRef.{EntryRef}
 use Rattle.entries.specs.Spans.{cut, AreSpansIn}
 
@@ -30,11 +30,11 @@ pub record Entry : Type 0 where
   pub assertion : Assertion
 
 -- the parts of an assertion that is added
-abbrev pub assertion_of : Parts → Assertion
+abbrev pub assertion_of : AssertionParts → Assertion
 assertion_of p = record { whole = p.whole; hypotheses = p.hypotheses.now; asked = p.asked.now; heads = p.heads.now; groups = cut p.places.now p.groups.now }
 
 -- of each hypothesis it is said what it is, and the groups are parts of the places
-pub record AreShapedParts (p : Parts) : Type 0 where
+pub record AreShapedParts (p : AssertionParts) : Type 0 where
   pub paired : length p.asked.now ≡ length p.hypotheses.now
   pub grouped : AreSpansIn (length p.places.now) p.groups.now
 
@@ -42,9 +42,13 @@ pub record AreShapedParts (p : Parts) : Type 0 where
 abbrev pub made : Head → List ℕ → Assertion → Entry
 made h codes a = record { kind = h.kind; label = h.label; names = h.names; links = h.links; symbols = codes; assertion = a }
 
+-- no parts, and whether they are whole
+abbrev pub partless : Bool → Assertion
+partless whole = record { whole = whole; hypotheses = []; asked = []; heads = []; groups = [] }
+
 -- a statement that has no parts of an assertion
 abbrev pub plain : Head → List ℕ → Entry
-plain h codes = made h codes (record { whole = false; hypotheses = []; asked = []; heads = []; groups = [] })
+plain h codes = made h codes (partless false)
 
 -- the statement that was read
 abbrev pub seen : EntryRef → Assertion → Entry

@@ -8,7 +8,7 @@ use Rattle.entries.specs.declared.record.Buffers.{Buffers}
 use Rattle.entries.specs.declared.entries.Ends.{Ends}
 use Rattle.entries.specs.declared.sizes.Sizes.{Sizes}
 use Rattle.entries.specs.declared.head.Head.{Head}
-use Rattle.entries.specs.declared.parts.Parts.{Parts}
+use Rattle.entries.specs.declared.parts.AssertionParts.{AssertionParts}
 use Rattle.entries.specs.Entries.{Entry}
 use Rattle.entries.specs.Spans.{cut, AreSpansIn, Extends}
 
@@ -48,15 +48,19 @@ entry_of b p = record {
 abbrev pub head_of : Record → Head
 head_of r = record { kind = r.kind; label = r.label; names = r.names; links = r.links }
 
-abbrev pub no_row : Row
-no_row = record { whole = false; symbols = 0; heads = 0; places = 0; hypotheses_from = 0; hypotheses = 0; groups_from = 0; groups = 0 }
+-- what a row would say of a statement that has none
+abbrev pub rowless : Bool → Row
+rowless whole = record { whole = whole; symbols = 0; heads = 0; places = 0; hypotheses_from = 0; hypotheses = 0; groups_from = 0; groups = 0 }
 
-abbrev pub row_by : Bool → List Row → ℕ → Row
-row_by true rows k = get_or rows k no_row
-row_by false rows k = no_row
+abbrev pub no_row : Row
+no_row = rowless false
+
+abbrev pub row_by : Bool → Bool → List Row → ℕ → Row
+row_by true whole rows k = get_or rows k no_row
+row_by false whole rows k = rowless whole
 
 abbrev pub own_row : List Row → Record → Row
-own_row rows r = row_by r.has_row rows r.row
+own_row rows r = row_by r.has_row r.whole rows r.row
 
 -- how many hypotheses and groups there were before the row at k
 abbrev pub hypotheses_by : ℕ → Option Row → ℕ
@@ -94,7 +98,7 @@ row_place r w = record {
 abbrev pub plain_place : Record → ℕ → ℕ → ℕ → Place
 plain_place r end hypotheses groups = record {
   head = head_of r;
-  whole = false;
+  whole = r.whole;
   from = r.from;
   symbols = end;
   heads = end;
@@ -189,7 +193,7 @@ pub record Begins (old new : Buffers) : Type 0 where
   pub groups : groups_at new (length old.rows.items) ≡ length old.groups.items
 
 -- the numbers of the parts stand between these ends
-pub record AreEnds (old new : List ℕ) (p : Parts) (e : Ends) : Type 0 where
+pub record AreEnds (old new : List ℕ) (p : AssertionParts) (e : Ends) : Type 0 where
   pub from : e.from ≡ length old
   pub from_symbols : e.from ≤ e.symbols
   pub symbols_heads : e.symbols ≤ e.heads
@@ -201,7 +205,7 @@ pub record AreEnds (old new : List ℕ) (p : Parts) (e : Ends) : Type 0 where
   pub places : slice_range new e.heads e.places ≡ p.places.now
 
 -- the parts of an assertion stand in these buffers, from there on, where the row tells
-pub record IsRowOf (old new : Buffers) (p : Parts) (w : Row) : Type 0 where
+pub record IsRowOf (old new : Buffers) (p : AssertionParts) (w : Row) : Type 0 where
   pub whole : w.whole ≡ p.whole
   pub from_symbols : length old.numbers.items ≤ w.symbols
   pub symbols_heads : w.symbols ≤ w.heads

@@ -1,14 +1,14 @@
 -- Lists that stand in one buffer, one behind the other.
 -- The code's own form: no public clause cites it.
 use Rattle.std.specs.Prelude.{◌≡◌, ℕ, ◌≤◌, List, [], ◌∷◌, ◌++◌, map, slice_range}
-use Rattle.entries.specs.declared.span.Span.{Span}
+use Rattle.entries.specs.declared.span.BufferPart.{BufferPart}
 
 -- the parts of a buffer
-abbrev pub cut : {A : Type 0} → List A → List Span → List (List A)
+abbrev pub cut : {A : Type 0} → List A → List BufferPart → List (List A)
 cut xs spans = map (λ s. slice_range xs s.from s.to) spans
 
 -- each within so many items
-abbrev pub AreSpansIn : ℕ → List Span → Type 0
+abbrev pub AreSpansIn : ℕ → List BufferPart → Type 0
 AreSpansIn n [] = Unit {0}
 AreSpansIn n (s ∷ spans) = ((s.from ≤ s.to) × (s.to ≤ n)) × AreSpansIn n spans
 

@@ -1,6 +1,6 @@
 //! The statements of a database as numbers, by position.
-ghost use Rattle.std.specs.Prelude.{◌≡◌, ◌≤◌, ◌<◌, ◌+◌, ◌^◌, ◌++◌, ◌∷◌, [], length, take, slice_get, Some, OnOk, OnErr, IfOk, IfSome};
-ghost use Rattle.entries.specs.Entries.{Entry, IsEntry, AreWhole, AreShapedParts, assertion_of, made, plain};
+ghost use Rattle.std.specs.Prelude.{◌≡◌, ◌≤◌, ◌<◌, ◌+◌, ◌^◌, ◌++◌, ◌∷◌, [], length, take, slice_get, Some, OnOk, OnErr, IfOk, IfSome, true};
+ghost use Rattle.entries.specs.Entries.{Entry, IsEntry, AreWhole, AreShapedParts, assertion_of, made, partless, plain};
 ghost use Rattle.entries.specs.Records.{IsAdded, IsRowOf, ArePacked, Grows, AreEnds, places_of};
 ghost use Rattle.entries.specs.Spans.{Extends};
 
@@ -8,7 +8,7 @@ use crate::citation::Cited;
 use crate::entry::EntryRef;
 use crate::groups::Groups;
 use crate::head::Head;
-use crate::parts::Parts;
+use crate::parts::AssertionParts;
 use crate::record::{Buffers, Record, Row, record_of, row_of, symbols_end};
 use crate::sizes::{cut, sizes_before, sizes_now};
 use crate::span::{item, part, place};
@@ -17,8 +17,8 @@ use std::marker::Model;
 
 /// Statements as numbers. Contracts see the list of them, with plain lists for their parts.
 ///
-/// Inside the parts of all statements stand in a few buffers; a statement is one record of fixed size, and an
-/// assertion has a row beside.
+/// Inside the parts of all statements stand in a few buffers; a statement is one record of fixed size, and one that has
+/// hypotheses or groups has a row beside.
 #[derive(Drop)]
 pub struct Entries {
     records: Vec<Record>,
@@ -127,7 +127,29 @@ impl Entries {
     }
 
     /// Adds a statement. Where a growth is refused, everything is as before.
-    pub fn push(&mut self, head: Head, parts: &Parts<'_>) -> Result<(), AllocError>
+    pub fn push(&mut self, head: Head, parts: &AssertionParts<'_>) -> Result<(), AllocError>
+        requires { AreShapedParts parts.now }
+        ensures added { OnOk result (self.new ≡ self.old ++ made head parts.now.symbols.now (assertion_of parts.now) ∷ []) }
+        ensures same { OnErr result (self.new ≡ self.old) }
+    {
+        if is_partless(parts) {
+            self.push_partless(head, parts.symbols, parts.whole)
+        } else {
+            self.push_parts(head, parts)
+        }
+    }
+
+    /// Adds a statement that has no parts of an assertion, with these symbols. Where a growth is refused, everything is
+    /// as before.
+    pub fn push_plain(&mut self, head: Head, codes: &[u32]) -> Result<(), AllocError>
+        ensures added { OnOk result (self.new ≡ self.old ++ plain head codes.now ∷ []) }
+        ensures same { OnErr result (self.new ≡ self.old) }
+    {
+        self.push_partless(head, codes, false)
+    }
+
+    /// Adds a statement with its parts.
+    fn push_parts(&mut self, head: Head, parts: &AssertionParts<'_>) -> Result<(), AllocError>
         requires { AreShapedParts parts.now }
         ensures added { OnOk result (self.new ≡ self.old ++ made head parts.now.symbols.now (assertion_of parts.now) ∷ []) }
         ensures same { OnErr result (self.new ≡ self.old) }
@@ -144,10 +166,9 @@ impl Entries {
         added
     }
 
-    /// Adds a statement that has no parts of an assertion, with these symbols. Where a growth is refused, everything is
-    /// as before.
-    pub fn push_plain(&mut self, head: Head, codes: &[u32]) -> Result<(), AllocError>
-        ensures added { OnOk result (self.new ≡ self.old ++ plain head codes.now ∷ []) }
+    /// Adds a statement without parts, which takes a record alone.
+    fn push_partless(&mut self, head: Head, codes: &[u32], whole: bool) -> Result<(), AllocError>
+        ensures added { OnOk result (self.new ≡ self.old ++ made head codes.now (partless whole) ∷ []) }
         ensures same { OnErr result (self.new ≡ self.old) }
     {
         let count = self.records.len();
@@ -155,7 +176,7 @@ impl Entries {
             return Err(AllocError);
         }
         let before = sizes_now(&self.buffers);
-        let added = add_plain(&mut self.records, &mut self.buffers, head, codes);
+        let added = add_plain(&mut self.records, &mut self.buffers, head, codes, whole);
         if added.is_err() {
             cut(&mut self.buffers, before);
         }
@@ -174,12 +195,22 @@ impl Entries {
     }
 }
 
+/// Whether there are no hypotheses and no groups.
+fn is_partless(parts: &AssertionParts<'_>) -> bool
+    ensures { result ≡ true → assertion_of parts.now ≡ partless parts.now.whole }
+{
+    parts.hypotheses.is_empty()
+        && parts.asked.is_empty()
+        && parts.heads.is_empty()
+        && parts.groups.is_empty()
+}
+
 /// Adds a statement's parts behind the others, with their row, and its record.
 fn add(
     records: &mut Vec<Record>,
     buffers: &mut Buffers,
     head: Head,
-    parts: &Parts<'_>,
+    parts: &AssertionParts<'_>,
 ) -> Result<(), AllocError>
     requires shaped { AreShapedParts parts.now }
     requires packed { ArePacked buffers.old (places_of buffers.old records.old.items) }
@@ -191,7 +222,7 @@ fn add(
     let row = place(buffers.rows.len())?;
     let last = add_parts(buffers, parts)?;
     add_last(&mut buffers.rows, last)?;
-    add_last(records, record_of(head, true, from, row))
+    add_last(records, record_of(head, true, parts.whole, from, row))
 }
 
 /// Adds a statement that has no parts of an assertion, and its record.
@@ -200,16 +231,17 @@ fn add_plain(
     buffers: &mut Buffers,
     head: Head,
     codes: &[u32],
+    whole: bool,
 ) -> Result<(), AllocError>
     requires packed { ArePacked buffers.old (places_of buffers.old records.old.items) }
-    ensures added { OnOk result (IsAdded buffers.old buffers.new (places_of buffers.old records.old.items) (places_of buffers.new records.new.items) (plain head codes.now)) }
+    ensures added { OnOk result (IsAdded buffers.old buffers.new (places_of buffers.old records.old.items) (places_of buffers.new records.new.items) (made head codes.now (partless whole))) }
     ensures grows { Grows buffers.old buffers.new }
     ensures same { OnErr result (records.new.items ≡ records.old.items) }
 {
     let from = place(buffers.numbers.len())?;
     let row = place(buffers.rows.len())?;
     append(&mut buffers.numbers, codes)?;
-    add_last(records, record_of(head, false, from, row))
+    add_last(records, record_of(head, false, whole, from, row))
 }
 
 /// Adds a record or a row.
@@ -225,7 +257,7 @@ fn add_last<T: Copy>(items: &mut Vec<T>, last: T) -> Result<(), AllocError>
 }
 
 /// Adds the parts of an assertion behind the others, and tells where they stand.
-fn add_parts(buffers: &mut Buffers, parts: &Parts<'_>) -> Result<Row, AllocError>
+fn add_parts(buffers: &mut Buffers, parts: &AssertionParts<'_>) -> Result<Row, AllocError>
     requires shaped { AreShapedParts parts.now }
     requires paired { length buffers.old.asked.items ≡ length buffers.old.hypotheses.items }
     ensures added { IfOk result (λ w. IsRowOf buffers.old buffers.new parts.now w) }
@@ -260,7 +292,7 @@ pub struct Ends {
 }
 
 /// Adds a statement's numbers behind the others.
-fn add_numbers(numbers: &mut Vec<u32>, parts: &Parts<'_>) -> Result<Ends, AllocError>
+fn add_numbers(numbers: &mut Vec<u32>, parts: &AssertionParts<'_>) -> Result<Ends, AllocError>
     ensures added { IfOk result (λ ends. AreEnds numbers.old.items numbers.new.items parts.now ends) }
     ensures grows { Extends numbers.old.items numbers.new.items }
 {

@@ -2,13 +2,13 @@
 ghost use Rattle.std.specs.Prelude.{◌≡◌, ◌<◌, length, slice_get, Some};
 ghost use Rattle.entries.specs.Spans.{cut, AreSpansIn};
 
-use crate::span::{Span, item, part};
+use crate::span::{BufferPart, item, part};
 use std::marker::Model;
 
 /// Lists of numbers in one buffer. Contracts see the list of the lists.
 #[derive(Drop)]
 pub struct Groups<'a> {
-    pub(crate) spans: &'a [Span],
+    pub(crate) spans: &'a [BufferPart],
     pub(crate) places: &'a [u32],
 }
 
@@ -26,7 +26,7 @@ impl<'a> Model for Groups<'a> {
 
 impl<'a> Groups<'a> {
     /// These parts of the numbers.
-    pub fn new(spans: &'a [Span], places: &'a [u32]) -> Groups<'a>
+    pub fn new(spans: &'a [BufferPart], places: &'a [u32]) -> Groups<'a>
         requires { AreSpansIn (length places.now) spans.now }
         ensures { result ≡ cut places.now spans.now }
     {

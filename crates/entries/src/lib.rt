@@ -24,5 +24,5 @@ pub use groups::Groups;
 pub use head::Head;
 pub use kind::Kind;
 pub use links::Links;
-pub use parts::Parts;
-pub use span::Span;
+pub use parts::AssertionParts;
+pub use span::BufferPart;

@@ -1,10 +1,10 @@
 //! The parts of a statement that is added.
 use crate::citation::Hypothesis;
-use crate::span::Span;
+use crate::span::BufferPart;
 
 /// A statement's symbols, and the parts of an assertion. Most other statements have none.
 #[derive(Clone, Copy, Drop)]
-pub struct Parts<'a> {
+pub struct AssertionParts<'a> {
     /// Whether these are all hypotheses and groups, or only what the statement adds to what is active.
     pub whole: bool,
     /// The numbers of its symbols.
@@ -18,5 +18,5 @@ pub struct Parts<'a> {
     /// The variables whose images are kept apart, one group behind the other.
     pub places: &'a [u32],
     /// The groups.
-    pub groups: &'a [Span],
+    pub groups: &'a [BufferPart],
 }

@@ -1,19 +1,21 @@
 //! How a statement is kept: where its parts stand in buffers that all share.
 ghost use Rattle.std.specs.Prelude.{◌≡◌, ◌<◌, ◌+◌, true, length, slice_get};
-ghost use Rattle.entries.specs.Records.{head_of, own_row, from_by, symbols_by};
+ghost use Rattle.entries.specs.Records.{head_of, own_row, rowless, from_by, symbols_by};
 
 use crate::citation::Hypothesis;
 use crate::head::Head;
 use crate::kind::Kind;
 use crate::links::Links;
-use crate::span::{Span, item};
+use crate::span::{BufferPart, item};
 
 /// A statement: what is in its head, and where its numbers begin. They end where those of the next statement begin.
-/// An assertion has a row beside.
+/// A statement that has hypotheses or groups has a row beside.
 #[derive(Clone, Copy, Drop)]
 pub struct Record {
     pub kind: Kind,
     pub has_row: bool,
+    /// Of a statement without a row: whether its parts, of which there are none, are whole.
+    pub whole: bool,
     pub label: u32,
     pub names: u32,
     pub links: Links,
@@ -37,25 +39,13 @@ pub struct Row {
     pub groups: u32,
 }
 
-/// The row of a statement that has no parts of an assertion.
-const NO_ROW: Row = Row {
-    whole: false,
-    symbols: 0,
-    heads: 0,
-    places: 0,
-    hypotheses_from: 0,
-    hypotheses: 0,
-    groups_from: 0,
-    groups: 0,
-};
-
 /// The parts of all statements.
 #[derive(Drop)]
 pub struct Buffers {
     pub numbers: Vec<u32>,
     pub hypotheses: Vec<u32>,
     pub asked: Vec<Hypothesis>,
-    pub groups: Vec<Span>,
+    pub groups: Vec<BufferPart>,
     /// Where they stand, of each assertion.
     pub rows: Vec<Row>,
 }
@@ -68,20 +58,38 @@ pub fn row_of(rows: &[Row], kept: Record) -> Row
     if kept.has_row {
         item(rows, kept.row as usize)
     } else {
-        NO_ROW
+        rowless(kept.whole)
+    }
+}
+
+/// What a row would say of a statement that has no parts.
+fn rowless(whole: bool) -> Row
+    ensures { result ≡ rowless whole }
+{
+    Row {
+        whole,
+        symbols: 0,
+        heads: 0,
+        places: 0,
+        hypotheses_from: 0,
+        hypotheses: 0,
+        groups_from: 0,
+        groups: 0,
     }
 }
 
 /// The record of a statement with this head.
-pub fn record_of(head: Head, has_row: bool, from: u32, row: u32) -> Record
+pub fn record_of(head: Head, has_row: bool, whole: bool, from: u32, row: u32) -> Record
     ensures head { head_of result ≡ head }
     ensures has_row { result.has_row ≡ has_row }
+    ensures whole { result.whole ≡ whole }
     ensures from { result.from ≡ from }
     ensures row { result.row ≡ row }
 {
     Record {
         kind: head.kind,
         has_row,
+        whole,
         label: head.label,
         names: head.names,
         links: head.links,

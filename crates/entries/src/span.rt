@@ -5,7 +5,7 @@ use std::alloc::AllocError;
 
 /// The items of a buffer from the one place up to the other.
 #[derive(Clone, Copy, Drop)]
-pub struct Span {
+pub struct BufferPart {
     pub from: u32,
     pub to: u32,
 }
@@ -21,10 +21,10 @@ pub fn place(at: usize) -> Result<u32, AllocError>
 }
 
 /// What stands between two places.
-pub fn between(from: usize, to: usize) -> Result<Span, AllocError>
+pub fn between(from: usize, to: usize) -> Result<BufferPart, AllocError>
     ensures { IfOk result (λ s. (s.from ≡ from) × (s.to ≡ to)) }
 {
-    Ok(Span {
+    Ok(BufferPart {
         from: place(from)?,
         to: place(to)?,
     })

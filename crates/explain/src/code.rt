@@ -1,14 +1,14 @@
 //! Which rule of proof code tokens break.
 ghost use Rattle.std.specs.Prelude.{◌≡◌, ◌++◌, ◌<◌, ◌^◌, List, length, false, IsTrue, IsFalse, IfOk, MatchOption};
 ghost use Rattle.std.specs.List.{list_any, list_all};
-ghost use Rattle.mm_lex.specs.Alphabet.{is_label, is_label_byte, has_name};
+ghost use Rattle.mm_lex.specs.Alphabet.{is_label, has_name};
 ghost use Rattle.proof_code.specs.declared.item.Item.{Item};
 ghost use Rattle.proof_code.specs.Writes.{Writes, is_compressed, is_unfinished};
 ghost use Rattle.explain.specs.Breaks.{IsFirst, IsBreak, fails, joined};
 
 use crate::letters::letter_break;
 use crate::why::CodeBreak;
-use mm_lex::{WordIter, Words};
+use mm_lex::{WordIter, Words, is_label};
 use proof_code::is_compressed;
 use std::alloc::{AllocError, Global};
 
@@ -131,23 +131,4 @@ fn has(names: &Words, name: &[u8]) -> bool
     ensures { result ≡ has_name name.now names.now }
 {
     names.iter().any(|other| name == other)
-}
-
-/// Whether the token is a label: some bytes, each a letter, a digit, `.`, `-` or `_`.
-fn is_label(token: &[u8]) -> bool
-    ensures { result ≡ is_label token.now }
-{
-    !token.is_empty() && are_label_bytes(token)
-}
-
-fn are_label_bytes(bytes: &[u8]) -> bool
-    ensures { result ≡ list_all is_label_byte bytes.now }
-{
-    bytes.iter().all(|byte| is_label_byte(*byte))
-}
-
-fn is_label_byte(byte: u8) -> bool
-    ensures { result ≡ is_label_byte byte }
-{
-    byte.is_ascii_alphanumeric() || byte == b'.' || byte == b'-' || byte == b'_'
 }

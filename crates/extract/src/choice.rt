@@ -7,7 +7,7 @@ use crate::wanted::is_assertion;
 use library::Library;
 use mm_lex::Words;
 use mm_read::Stmt;
-use names::Names;
+use names::NameTable;
 use std::alloc::{AllocError, Global};
 
 /// A block that is open.
@@ -28,7 +28,7 @@ struct Choice<'a> {
     library: &'a Library,
     marks: Vec<bool>,
     /// The symbols that were declared.
-    symbols: Names,
+    symbols: NameTable,
     /// Of each symbol the position of its last declaration.
     declared: Vec<usize>,
     /// Of each symbol the position of the last assertion that has a hypothesis for it as a variable.
@@ -49,7 +49,7 @@ pub(crate) fn choose(
         alloc,
         library,
         marks: named(alloc, library, labels)?,
-        symbols: Names::new(alloc),
+        symbols: NameTable::new(alloc),
         declared: Vec::new(alloc),
         variable_of: Vec::new(alloc),
         disjoint: Vec::new(alloc),

@@ -16,9 +16,12 @@ use Rattle.frame.specs.Citations.{OfVariables, premises, expr_at, option_expr}
 use Rattle.frame.specs.Bound.{HasFloat, IsFirstFixed, IsBound}
 use Rattle.frame.specs.Reading.{IsSingle}
 use Rattle.frame.proofs.LegalLabels.{AllKept}
-use Rattle.frame.proofs.PlacesLemmas.{stands-active, first-fixed, own-fixed, float-kinds, is_flt, used-has-place, mandatory-place, variables-once, IsElsewhere, AreOnce}
+use Rattle.frame.proofs.ActiveBehind.{stands-active, IsElsewhere, AreOnce}
+use Rattle.frame.proofs.TypedVariables.{first-fixed, own-fixed, float-kinds}
+use Rattle.frame.proofs.PlacesLemmas.{is_flt, used-has-place, mandatory-place, variables-once}
 use Rattle.frame.proofs.GroupsLemmas.{has-filter}
-use Rattle.frame.proofs.KeptLemmas.{map-back, map-at, take-at, middle, kept-front, IsHyp, AreHyps, hyps}
+use Rattle.frame.proofs.FoundByNumber.{map-back, map-at, take-at, middle, kept-front}
+use Rattle.frame.proofs.KeptLemmas.{IsHyp, AreHyps, hyps}
 
 and-both : (a b : Bool) → (a && b) ≡ true → (a ≡ true) × (b ≡ true)
 and-both true b h = (refl, h)

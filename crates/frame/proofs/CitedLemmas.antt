@@ -15,9 +15,12 @@ use Rattle.frame.specs.Below.{AreBelow}
 use Rattle.frame.specs.Cited.{AreListsOf, IsCited}
 use Rattle.frame.specs.Bound.{IsBound}
 use Rattle.frame.specs.Reading.{AreLegal}
-use Rattle.frame.specs.Stored.{stmt_by, stmt_of, statements_of, AreStored, IsKeptAs, has_parts}
+use Rattle.frame.specs.StoredEntries.{stmt_by, stmt_of, statements_of}
+use Rattle.frame.specs.Stored.{AreStored}
+use Rattle.frame.specs.StoredParts.{IsKeptAs, has_parts}
 use Rattle.frame.proofs.AssertionLemmas.{get-entry}
-use Rattle.frame.proofs.KeptLemmas.{own-expr, numbered-at, lists-at, lists-cited}
+use Rattle.frame.proofs.FoundByNumber.{own-expr, numbered-at}
+use Rattle.frame.proofs.KeptLemmas.{lists-at, lists-cited}
 use Rattle.frame.proofs.BoundLemmas.{bound, bound-single}
 use Rattle.frame.proofs.LegalLabels.{legal-labels}
 

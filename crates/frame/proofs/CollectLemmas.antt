@@ -9,7 +9,9 @@ use Rattle.names.specs.Codes.{name_at, decode}
 use Rattle.entries.specs.declared.kind.Kind.{Kind}
 use Rattle.entries.specs.declared.kind.Kind.TheVariants.{Open, Close, Const, Var, Disj, Float, Ess, Axiom, Prove}
 use Rattle.entries.specs.Entries.{Entry}
-use Rattle.frame.specs.Stored.{inserted, floats, last_from, last_where, with_float, with_floats, with_all, with_essentials, kept_at, stmt_by, stmt_of, is_float_kind, IsPlain}
+use Rattle.frame.specs.StoredHypotheses.{inserted, with_float, with_floats, with_all, with_essentials, kept_at}
+use Rattle.frame.specs.StoredEntries.{floats, last_from, last_where, stmt_by, stmt_of, is_float_kind}
+use Rattle.frame.specs.StoredCounts.{IsPlain}
 
 pub inserted-here : (p q : ℕ) (qs : List ℕ) → p ≡ q → inserted p (q ∷ qs) ≡ q ∷ qs
 inserted-here p q qs e = let t : (p == q) ≡ true = grind (arith, e) in ap (λ b. cond b (q ∷ qs) (cond (nat_lt p q) (p ∷ q ∷ qs) (q ∷ inserted p qs))) t

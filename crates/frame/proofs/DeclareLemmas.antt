@@ -5,7 +5,8 @@ use Rattle.std.proofs.Common.{sym, ◌∙◌, ap, arith}
 use Rattle.frame.specs.Below.{AreBelow}
 use Rattle.entries.specs.Entries.{Entry}
 use Rattle.frame.specs.declared.storage.Symbol.{Symbol}
-use Rattle.frame.specs.Stored.{floats, declares, last_from, symbol_of, with_entry}
+use Rattle.frame.specs.StoredEntries.{floats, declares, last_from, symbol_of}
+use Rattle.frame.specs.StoredCounts.{with_entry}
 
 pub below-at : (n : ℕ) (codes : List ℕ) (k : ℕ) → AreBelow n codes → k < length codes → get_or codes k 0 < n
 below-at n [] k h l = absurd (omega (arith, l))

@@ -17,7 +17,10 @@ use Rattle.entries.specs.declared.kind.Kind.{Kind}
 use Rattle.entries.specs.declared.kind.Kind.TheVariants.{Open, Close, Const, Var, Disj, Float, Ess, Axiom, Prove}
 use Rattle.frame.specs.Drafts.{IsDraft, IsPartless}
 use Rattle.frame.specs.declared.storage.Stock.{Stock}
-use Rattle.frame.specs.Stored.{stmt_by, stmt_of, AreStored, floats_in, kept_with, AreNumbersOf, Entered, IsHead, IsKeptOf, IsNext, statements_of, kind_of, has_parts, IsLabelBelow, HasTwo, option_list, option_position}
+use Rattle.frame.specs.StoredEntries.{stmt_by, stmt_of, statements_of, option_list, option_position}
+use Rattle.frame.specs.Stored.{AreStored, AreNumbersOf, Entered, IsHead, IsKeptOf, IsNext}
+use Rattle.frame.specs.StoredParts.{floats_in, kept_with, has_parts}
+use Rattle.frame.specs.StoredCounts.{kind_of, IsLabelBelow, HasTwo}
 use Rattle.frame.proofs.SymbolsLemmas.{symbols_by-bare}
 
 name_at-last : (names : List Name) (x : Name) → name_at (names ++ x ∷ []) (length names) ≡ x

@@ -9,8 +9,11 @@ use Rattle.frame.specs.declared.storage.Stock.{Stock}
 use Rattle.frame.specs.declared.storage.Symbol.{Symbol}
 use Rattle.entries.specs.Entries.{Entry}
 use Rattle.frame.specs.Links.{links_of}
-use Rattle.frame.specs.Stored.{AreStored, Entered, Grown, HasRoom, IsBehind, ReadsAs, replaced_by, statements_of, symbol_of, with_declared}
-use Rattle.frame.proofs.StoredLemmas.{IsPushed, still-reads}
+use Rattle.frame.specs.Stored.{AreStored, Entered}
+use Rattle.frame.specs.StoredCounts.{Grown, HasRoom, IsBehind, with_declared}
+use Rattle.frame.specs.StoredEntries.{ReadsAs, replaced_by, statements_of, symbol_of}
+use Rattle.frame.proofs.StoredLemmas.{IsPushed}
+use Rattle.frame.proofs.StoredOneMore.{still-reads}
 
 pub on-err-same : {T E : Type 0} (r : Result T E) (P : Type 0) → P → OnErr r P
 on-err-same (Ok x) P p = tt

@@ -13,13 +13,18 @@ use Rattle.frame.specs.Links.{actives, is_disj}
 use Rattle.frame.specs.Cited.{AreListsOf}
 use Rattle.frame.specs.declared.storage.Stock.{Stock}
 use Rattle.entries.specs.Entries.{Entry, Assertion}
-use Rattle.frame.specs.Stored.{stmt_of, statements_of, AreStored, AreHypotheses, IsSpread, kept_with, variable_at, symbols_at, groups_by, AreNumbered, Ascends, floats_in, is_float_in, inserted, option_kept, kept_at, with_all, with_essentials, with_floats, collected}
+use Rattle.frame.specs.StoredEntries.{stmt_of, statements_of}
+use Rattle.frame.specs.Stored.{AreStored}
+use Rattle.frame.specs.StoredHypotheses.{AreHypotheses, IsSpread, Ascends, inserted, option_kept, kept_at, with_all, with_essentials, with_floats, collected}
+use Rattle.frame.specs.StoredParts.{kept_with, variable_at, symbols_at, groups_by, floats_in, is_float_in}
+use Rattle.frame.specs.StoredCounts.{AreNumbered}
 use Rattle.frame.proofs.LegalLabels.{AllKept}
 use Rattle.frame.proofs.AssertionLemmas.{AllAre, active-are, get-entry, get-more, hypotheses-are}
 use Rattle.frame.proofs.EnterLemmas.{essentials-kept, not-essential}
 use Rattle.frame.proofs.CitedLemmas.{IsThere, there-expr, there-lists}
-use Rattle.frame.proofs.KeptLemmas.{kept-front, take-at}
-use Rattle.frame.proofs.CollectedLemmas.{found-floats, collected-hypotheses, ascends-active}
+use Rattle.frame.proofs.FoundByNumber.{kept-front, take-at}
+use Rattle.frame.proofs.CollectedLemmas.{found-floats, collected-hypotheses}
+use Rattle.frame.proofs.ActivePositions.{ascends-active}
 
 pub some-map : {A : Type 0} (o : Option A) (P Q : A → Type 0) → ((x : A) → P x → Q x) → IfSome o P → IfSome o Q
 some-map (Some x) P Q f p = f x p

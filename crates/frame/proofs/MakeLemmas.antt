@@ -6,14 +6,16 @@ use Rattle.std.proofs.lemmas.List.{length-append, map-append, reverse-append}
 use Rattle.std.proofs.Math.Seq.{take-append_seam}
 use Rattle.indexmap.proofs.ReorderLemmas.{map-reverse}
 use Rattle.mm_read.specs.declared.stmt.Stmt.{Stmt}
-use Rattle.entries.specs.declared.span.Span.{Span}
+use Rattle.entries.specs.declared.span.BufferPart.{BufferPart}
 use Rattle.entries.specs.Spans.{cut, AreSpansIn}
 use Rattle.entries.proofs.SpanLemmas.{range-behind, extends-refl, cut-more, cut-push, spans-push}
 use Rattle.entries.specs.declared.links.Links.{Links}
 use Rattle.frame.specs.declared.storage.Stock.{Stock}
 use Rattle.frame.specs.Links.{actives, last_active, is_disj, links_of}
 use Rattle.entries.specs.Entries.{Entry}
-use Rattle.frame.specs.Stored.{is_placed, placed, variable_at, option_variable, variable_by, symbols_at, is_hypothesis_entry, has_two, groups_by, AreHypotheses, statements_of}
+use Rattle.frame.specs.StoredParts.{is_placed, placed, variable_at, option_variable, variable_by, symbols_at, has_two, groups_by}
+use Rattle.frame.specs.StoredHypotheses.{is_hypothesis_entry, AreHypotheses}
+use Rattle.frame.specs.StoredEntries.{statements_of}
 
 -- ---- one symbol more
 
@@ -106,14 +108,14 @@ groups-start k at vs found links e one high h =
           ∙ append-nil (groups_by vs (map (λ q. symbols_at k.entries q.0) (actives is_disj (take (at - 1) S))))),
     )
 
-pub groups-end : (es : List Entry) (vs : List (Option ℕ)) (all rest : List (ℕ × Stmt)) (places : List ℕ) (found new : List Span) → AreGroups es vs all rest (cut places found) → rest ≡ [] → new ≡ reverse found
+pub groups-end : (es : List Entry) (vs : List (Option ℕ)) (all rest : List (ℕ × Stmt)) (places : List ℕ) (found new : List BufferPart) → AreGroups es vs all rest (cut places found) → rest ≡ [] → new ≡ reverse found
     → cut places new ≡ groups_by vs (map (λ q. symbols_at es q.0) all)
 groups-end es vs all rest places found new k z n =
-    ap (cut places) n ∙ (map-reverse (λ (s : Span). slice_range places s.from s.to) found ∙ sym (k ∙ ap (λ r. groups_by vs (map (λ q. symbols_at es q.0) r) ++ reverse (cut places found)) z))
+    ap (cut places) n ∙ (map-reverse (λ (s : BufferPart). slice_range places s.from s.to) found ∙ sym (k ∙ ap (λ r. groups_by vs (map (λ q. symbols_at es q.0) r) ++ reverse (cut places found)) z))
 
 -- ---- a group more
 
-pub group-added : (places new : List ℕ) (a b : List Span) (s : Span) (group : List ℕ) → new ≡ places ++ group → s.from ≡ length places → s.to ≡ length new → s.from + 1 < s.to → AreSpansIn (length places) a
+pub group-added : (places new : List ℕ) (a b : List BufferPart) (s : BufferPart) (group : List ℕ) → new ≡ places ++ group → s.from ≡ length places → s.to ≡ length new → s.from + 1 < s.to → AreSpansIn (length places) a
     → b ≡ a ++ s ∷ [] → cut new b ≡ cond (has_two group) (cut places a ++ group ∷ []) (cut places a)
 group-added places new a b s group e from to two h k =
     let l = length-append places group in
@@ -124,7 +126,7 @@ group-added places new a b s group e from to two h k =
     ap (cut new) k ∙ (cut-push new a s ∙ (ap (λ r. r ++ slice_range new s.from s.to ∷ []) before ∙ (ap (λ g. cut places a ++ g ∷ []) here
     ∙ sym (ap (λ t. cond t (cut places a ++ group ∷ []) (cut places a)) both))))
 
-pub group-within : (places new : List ℕ) (a b : List Span) (s : Span) (group : List ℕ) → new ≡ places ++ group → s.from ≡ length places → s.to ≡ length new → AreSpansIn (length places) a
+pub group-within : (places new : List ℕ) (a b : List BufferPart) (s : BufferPart) (group : List ℕ) → new ≡ places ++ group → s.from ≡ length places → s.to ≡ length new → AreSpansIn (length places) a
     → b ≡ a ++ s ∷ [] → AreSpansIn (length new) b
 group-within places new a b s group e from to h k =
     let l = length-append places group in
@@ -132,7 +134,7 @@ group-within places new a b s group e from to h k =
     subst (AreSpansIn (length new)) (sym k) (spans-push (length places) (length new) a s (omega arith) h (omega arith) (omega arith))
 
 -- fewer than two places are taken back
-pub group-dropped : (places new back : List ℕ) (a : List Span) (group : List ℕ) → new ≡ places ++ group → back ≡ take (length places) new → length new ≤ length places + 1
+pub group-dropped : (places new back : List ℕ) (a : List BufferPart) (group : List ℕ) → new ≡ places ++ group → back ≡ take (length places) new → length new ≤ length places + 1
     → cut back a ≡ cond (has_two group) (cut places a ++ group ∷ []) (cut places a)
 group-dropped places new back a group e k few =
     let l = length-append places group in

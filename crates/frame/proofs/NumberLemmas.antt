@@ -8,7 +8,8 @@ use Rattle.mm_lex.specs.Alphabet.{Name, name_eq, has_name}
 use Rattle.names.specs.Codes.{name_at, decode, with_name, with_names, AreNamed}
 use Rattle.frame.specs.Below.{AreBelow}
 use Rattle.frame.specs.declared.storage.Symbol.{Symbol}
-use Rattle.frame.specs.Stored.{Extends, AreZero, AreZeroBehind}
+use Rattle.entries.specs.Spans.{Extends}
+use Rattle.frame.specs.StoredCounts.{AreZero, AreZeroBehind}
 
 pub extends-trans : {A : Type 0} (a b c : List A) → Extends a b → Extends b c → Extends a c
 extends-trans a b c p q = (p.0 ++ q.0, q.1 ∙ (ap (λ r. r ++ q.0) p.1 ∙ append_assoc a p.0 q.0))

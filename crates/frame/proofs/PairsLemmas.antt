@@ -14,15 +14,17 @@ use Rattle.frame.specs.Below.{AreBelow}
 use Rattle.frame.specs.Links.{actives, last_active, is_var, is_disj}
 use Rattle.frame.proofs.OpenLemmas.{IsNoClose}
 use Rattle.frame.proofs.WalkLemmas.{IsBack, walk-back, walk-over, cut-here, get-take, active-stays}
-use Rattle.frame.proofs.PlacesLemmas.{stands-active}
+use Rattle.frame.proofs.ActiveBehind.{stands-active}
 use Rattle.frame.proofs.WalkLemmas.{some-same}
 use Rattle.frame.proofs.CollectLemmas.{last-is}
-use Rattle.frame.proofs.StoredLemmas.{get-stmt, numbered-at}
+use Rattle.frame.proofs.StoredReading.{get-stmt}
+use Rattle.frame.proofs.StoredOneMore.{numbered-at}
 use Rattle.frame.proofs.AssertionLemmas.{get-entry}
 use Rattle.entries.specs.declared.kind.Kind.{Kind}
 use Rattle.entries.specs.declared.kind.Kind.TheVariants.{Open, Close, Const, Var, Disj, Float, Ess, Axiom, Prove}
 use Rattle.entries.specs.Entries.{Entry}
-use Rattle.frame.specs.Stored.{stmt_by, stmt_of, AreNumbered, declares, is_var_kind, last_from, last_where, IsPlain}
+use Rattle.frame.specs.StoredEntries.{stmt_by, stmt_of, declares, is_var_kind, last_from, last_where}
+use Rattle.frame.specs.StoredCounts.{AreNumbered, IsPlain}
 
 -- ---- numbers are the same where their names are
 

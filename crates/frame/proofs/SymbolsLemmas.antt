@@ -18,9 +18,10 @@ use Rattle.names.proofs.AddedLemmas.{with_names-more, has-more, has-with_names, 
 use Rattle.scope.proofs.NamesLemmas.{active-was}
 use Rattle.names.proofs.CodesLemmas.{has-at, name_eq-comm}
 use Rattle.scope.proofs.SortsLemmas.{is_variable-active, was_symbol-either}
-use Rattle.scope.proofs.KeptLemmas.{all-has}
+use Rattle.scope.proofs.MarkLemmas.{all-has}
 use Rattle.frame.specs.Below.{AreBelow}
-use Rattle.frame.specs.Stored.{AreNumbersOf, Extends}
+use Rattle.frame.specs.Stored.{AreNumbersOf}
+use Rattle.entries.specs.Spans.{Extends}
 
 or_cases : (a b : Bool) → (a || b) ≡ true → (a ≡ true) ⊎ (b ≡ true)
 or_cases true b h = inl refl

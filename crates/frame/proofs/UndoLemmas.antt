@@ -9,7 +9,9 @@ use Rattle.entries.specs.Entries.{Entry}
 use Rattle.entries.specs.declared.kind.Kind.{Kind}
 use Rattle.entries.specs.declared.kind.Kind.TheVariants.{Open, Close, Const, Var, Disj, Float, Ess, Axiom, Prove}
 use Rattle.frame.specs.declared.storage.Symbol.{Symbol}
-use Rattle.frame.specs.Stored.{Extends, ReadsAs, replaced_by, replaced_behind, replaced_of, symbol_of, with_declared, is_float_kind, is_var_kind, second_is}
+use Rattle.entries.specs.Spans.{Extends}
+use Rattle.frame.specs.StoredEntries.{ReadsAs, replaced_by, replaced_behind, replaced_of, symbol_of, is_float_kind, is_var_kind, second_is}
+use Rattle.frame.specs.StoredCounts.{with_declared}
 use Rattle.frame.proofs.DeclareLemmas.{noted, or-true, or-false}
 
 -- ---- one entry more

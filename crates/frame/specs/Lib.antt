@@ -12,6 +12,10 @@ pub mod Links
 pub mod Laws
 pub mod Places
 pub mod Drafts
+pub mod StoredEntries
+pub mod StoredCounts
+pub mod StoredParts
+pub mod StoredHypotheses
 pub mod Stored
 pub mod Labels
 pub mod OneFrame

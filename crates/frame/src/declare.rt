@@ -6,21 +6,23 @@ ghost use Rattle.mm_read.specs.declared.stmt.Stmt.{Stmt as Statement};
 ghost use Rattle.frame.specs.Below.{AreBelow};
 ghost use Rattle.frame.specs.Links.{links_of};
 ghost use Rattle.frame.specs.declared.storage.Symbol.{Symbol as Declared};
-ghost use Rattle.frame.specs.Stored.{AreStored, statements_of, with_declared, kind_of};
+ghost use Rattle.frame.specs.Stored.{AreStored};
+ghost use Rattle.frame.specs.StoredEntries.{statements_of};
+ghost use Rattle.frame.specs.StoredCounts.{with_declared, kind_of};
 
 use crate::reading::links_at;
 use crate::storage::{Stock, Symbol};
 use entries::{Kind, Links};
-use names::Names;
+use names::NameTable;
 use std::alloc::{AllocError, Global};
 
 /// Gives a label its number and its position.
 pub fn name_label(
     alloc: Global,
-    labels: &mut Names,
-    positions: &mut Vec<usize>,
+    labels: &mut NameTable,
+    positions: &mut Vec<u32>,
     label: &[u8],
-    at: usize,
+    at: u32,
 ) -> Result<(), AllocError>
     requires { has_name label.now labels.old ≡ false }
     ensures labels { OnOk result (labels.new ≡ labels.old ++ label.now ∷ []) }

@@ -4,7 +4,7 @@ ghost use Rattle.entries.specs.Entries.{AreShapedParts, assertion_of};
 ghost use Rattle.frame.specs.Drafts.{IsDraft, IsPartless, drafted};
 
 use crate::places::Places;
-use entries::{Hypothesis, Parts, Span};
+use entries::{AssertionParts, BufferPart, Hypothesis};
 use std::alloc::Global;
 
 /// The numbers of a statement's symbols, and the parts of an assertion. Its buffers serve one statement after another.
@@ -27,7 +27,7 @@ pub struct Draft {
     /// The variables whose images are kept apart, one group behind the other.
     pub places: Vec<u32>,
     /// The groups.
-    pub groups: Vec<Span>,
+    pub groups: Vec<BufferPart>,
 }
 
 impl Draft {
@@ -50,13 +50,13 @@ impl Draft {
     }
 
     /// What is kept of it.
-    pub fn parts(&self) -> Parts<'_>
+    pub fn parts(&self) -> AssertionParts<'_>
         requires { IsDraft self.now }
         ensures shaped { AreShapedParts result }
         ensures symbols { result.symbols.now ≡ self.now.symbols.items }
         ensures assertion { assertion_of result ≡ drafted self.now }
     {
-        Parts {
+        AssertionParts {
             whole: self.whole,
             symbols: &self.symbols,
             hypotheses: &self.hypotheses,

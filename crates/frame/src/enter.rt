@@ -8,7 +8,10 @@ ghost use Rattle.scope.specs.Symbols.{symbols_by, symbols_in};
 ghost use Rattle.entries.specs.declared.head.Head.{Head as Before};
 ghost use Rattle.frame.specs.Below.{AreBelow};
 ghost use Rattle.frame.specs.Drafts.{IsPartless, IsDraft, drafted, made};
-ghost use Rattle.frame.specs.Stored.{AreNumbersOf, Entered, Grown, option_list, option_position, IsFresh, HasRoom, AreStored, IsHead, IsNext, IsKeptOf, has_parts, kind_of, statements_of};
+ghost use Rattle.frame.specs.Stored.{AreNumbersOf, Entered, AreStored, IsHead, IsNext, IsKeptOf};
+ghost use Rattle.frame.specs.StoredCounts.{Grown, IsFresh, HasRoom, kind_of};
+ghost use Rattle.frame.specs.StoredEntries.{option_list, option_position, statements_of};
+ghost use Rattle.frame.specs.StoredParts.{has_parts};
 
 use crate::declare::name_label;
 use crate::draft::Draft;
@@ -19,7 +22,7 @@ use crate::storage::Stock;
 use entries::span::place;
 use entries::{Head, Kind};
 use mm_read::Stmt;
-use names::Names;
+use names::NameTable;
 use std::alloc::{AllocError, Global};
 
 /// What is noted of a statement of this kind that comes next.
@@ -70,7 +73,7 @@ fn enter_symbols(
 /// Adds the numbers of the symbols of a statement, which all have one, to codes, of which there are none: those that
 /// were noted, where they were.
 fn known_numbers(
-    names: &Names,
+    names: &NameTable,
     codes: &mut Vec<u32>,
     stmt: &Stmt,
     noted: Option<&[u32]>,
@@ -102,7 +105,7 @@ pub fn enter_label(alloc: Global, stock: &mut Stock, stmt: &Stmt) -> Result<(), 
     let Some(label) = label(stmt) else {
         return Ok(());
     };
-    let at = stock.entries.len() + 1;
+    let at = stock.entries.len() as u32 + 1;
     name_label(
         alloc,
         &mut stock.labels,

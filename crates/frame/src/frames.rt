@@ -9,7 +9,7 @@ ghost use Rattle.frame.specs.Below.{AreBelow};
 ghost use Rattle.frame.specs.FrameOf.{HasAssertion, hypotheses};
 ghost use Rattle.frame.specs.Reading.{IsMeaning, IsPosition, AreLegal};
 ghost use Rattle.frame.specs.Cited.{IsCited, IsGathered};
-ghost use Rattle.frame.specs.Stored.{Extends};
+ghost use Rattle.entries.specs.Spans.{Extends};
 
 use crate::draft::Draft;
 use crate::extend::{cut, extend, roll_back};
@@ -21,7 +21,7 @@ use crate::reading::{cited_at, expr_at, gathered_at, meaning_at};
 use crate::storage::Stock;
 use entries::{Cited, Entries, Links};
 use mm_read::Stmt;
-use names::Names;
+use names::NameTable;
 use scope::{Scope, Steps};
 use std::alloc::{AllocError, Global};
 use std::marker::Model;
@@ -42,7 +42,8 @@ impl Model for Frames {
 
     ghost Value = { Numbered };
 
-    ghost use Rattle.frame.specs.Stored.{numbered, AreStored};
+    ghost use Rattle.frame.specs.StoredEntries.{numbered};
+    ghost use Rattle.frame.specs.Stored.{AreStored};
 
     ghost view = { λ a. numbered a.stock };
 
@@ -58,8 +59,8 @@ impl Frames {
         Frames {
             alloc,
             stock: Stock {
-                names: Names::new(alloc),
-                labels: Names::new(alloc),
+                names: NameTable::new(alloc),
+                labels: NameTable::new(alloc),
                 positions: Vec::new(alloc),
                 symbols: Vec::new(alloc),
                 replaced: Vec::new(alloc),
@@ -173,7 +174,7 @@ impl Frames {
         ensures { IsPosition self.now.statements label.now result }
     {
         let number = self.stock.labels.find(label)?;
-        Some(self.stock.positions[number])
+        Some(self.stock.positions[number] as usize)
     }
 
     /// The expression of the statement at a position, by numbers; nothing where it has none.

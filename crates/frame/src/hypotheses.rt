@@ -7,7 +7,8 @@ ghost use Rattle.frame.specs.FrameOf.{HasAssertion, hypotheses};
 ghost use Rattle.frame.specs.Cited.{IsGathered};
 ghost use Rattle.frame.specs.Drafts.{IsDraft, drafted};
 ghost use Rattle.frame.specs.Labels.{is_label_kind};
-ghost use Rattle.frame.specs.Stored.{AreStored, statements_of};
+ghost use Rattle.frame.specs.Stored.{AreStored};
+ghost use Rattle.frame.specs.StoredEntries.{statements_of};
 
 use crate::draft::Draft;
 use crate::make::spread;

@@ -5,7 +5,11 @@ ghost use Rattle.frame.specs.Below.{AreBelow};
 ghost use Rattle.frame.specs.Cited.{head_of};
 ghost use Rattle.frame.specs.Drafts.{IsPartless, IsUndescribed, IsDraft, drafted};
 ghost use Rattle.frame.specs.Links.{actives, is_disj};
-ghost use Rattle.frame.specs.Stored.{AreStored, AreHypotheses, HasTwo, asked_at, asked_by, head_at, has_two, AreParts, IsSpread, collected, with_floats, statements_of, variable_at, variable_by, symbols_at, groups_by, placed};
+ghost use Rattle.frame.specs.Stored.{AreStored};
+ghost use Rattle.frame.specs.StoredHypotheses.{AreHypotheses, AreParts, IsSpread, collected, with_floats};
+ghost use Rattle.frame.specs.StoredCounts.{HasTwo};
+ghost use Rattle.frame.specs.StoredParts.{asked_at, asked_by, head_at, has_two, variable_at, variable_by, symbols_at, groups_by, placed};
+ghost use Rattle.frame.specs.StoredEntries.{statements_of};
 
 use crate::draft::Draft;
 use crate::mandatory::{add_essentials, are_few, put_floats};
@@ -13,7 +17,7 @@ use crate::places::Places;
 use crate::reading::links_at;
 use crate::storage::Stock;
 use entries::span::between;
-use entries::{EntryRef, Hypothesis, Kind, NO_HEAD, Span};
+use entries::{BufferPart, EntryRef, Hypothesis, Kind, NO_HEAD};
 use std::alloc::AllocError;
 
 /// The variable of a `$f`.
@@ -107,7 +111,7 @@ fn groups(
     at: usize,
     variables: &Places,
     places: &mut Vec<u32>,
-    groups: &mut Vec<Span>,
+    groups: &mut Vec<BufferPart>,
 ) -> Result<(), AllocError>
     requires stored { AreStored stock.now }
     requires place { (1 ≤ at) × (at ≤ length (statements_of stock.now) + 1) }
@@ -130,7 +134,7 @@ fn add_group(
     variables: &Places,
     codes: &[u32],
     places: &mut Vec<u32>,
-    groups: &mut Vec<Span>,
+    groups: &mut Vec<BufferPart>,
 ) -> Result<(), AllocError>
     requires within { AreSpansIn (length places.old.items) groups.old.items }
     ensures added { OnOk result (cut places.new.items groups.new.items ≡ (if has_two (placed variables.now codes.now) then cut places.old.items groups.old.items ++ placed variables.now codes.now ∷ [] else cut places.old.items groups.old.items)) }

@@ -3,7 +3,9 @@ ghost use Rattle.std.specs.Prelude.{◌≡◌, ◌+◌, ◌-◌, ◌≤◌, ◌<
 ghost use Rattle.scope.specs.Active.{is_essential};
 ghost use Rattle.frame.specs.Links.{actives};
 ghost use Rattle.frame.specs.Below.{AreBelow};
-ghost use Rattle.frame.specs.Stored.{AreStored, Ascends, IsLooked, floats, last_where, statements_of, inserted, with_all, with_float, with_floats, with_essentials};
+ghost use Rattle.frame.specs.Stored.{AreStored};
+ghost use Rattle.frame.specs.StoredHypotheses.{Ascends, IsLooked, inserted, with_all, with_float, with_floats, with_essentials};
+ghost use Rattle.frame.specs.StoredEntries.{floats, last_where, statements_of};
 
 use crate::places::Places;
 use crate::reading::{is_active_at, links_at};

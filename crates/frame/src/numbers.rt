@@ -4,12 +4,14 @@ ghost use Rattle.mm_lex.specs.Alphabet.{Name, has_name};
 ghost use Rattle.names.specs.Codes.{name_at, decode, with_name, with_names, code_of, AreDistinct, AreNamed};
 ghost use Rattle.scope.specs.Symbols.{symbols_in};
 ghost use Rattle.frame.specs.Below.{AreBelow};
-ghost use Rattle.frame.specs.Stored.{AreNumbersOf, Extends, zero_symbol, AreZeroBehind};
+ghost use Rattle.frame.specs.Stored.{AreNumbersOf};
+ghost use Rattle.entries.specs.Spans.{Extends};
+ghost use Rattle.frame.specs.StoredCounts.{zero_symbol, AreZeroBehind};
 
 use crate::storage::Symbol;
 use mm_lex::Words;
 use mm_read::Stmt;
-use names::Names;
+use names::NameTable;
 use std::alloc::{AllocError, Global};
 
 /// There are fewer names than this, so numbers fit in 32 bits.
@@ -18,7 +20,7 @@ const NAMES_LIMIT: usize = 2147483648;
 /// The number of a symbol that is declared, which is given one where it has none.
 fn declared_number(
     alloc: Global,
-    names: &mut Names,
+    names: &mut NameTable,
     symbols: &mut Vec<Symbol>,
     word: &[u8],
 ) -> Result<u32, AllocError>
@@ -55,7 +57,7 @@ fn declared_number(
 /// Adds the numbers of the symbols of a declaration to codes, of which there are none.
 pub fn declared_numbers(
     alloc: Global,
-    names: &mut Names,
+    names: &mut NameTable,
     symbols: &mut Vec<Symbol>,
     words: &Words,
     codes: &mut Vec<u32>,
@@ -79,7 +81,7 @@ pub fn declared_numbers(
 }
 
 /// The number of a symbol that has one.
-fn number(names: &Names, word: &[u8]) -> u32
+fn number(names: &NameTable, word: &[u8]) -> u32
     requires few { length names.now < 2 ^ 31 }
     requires named { has_name word.now names.now ≡ true }
     ensures below { result < length names.now }
@@ -92,7 +94,7 @@ fn number(names: &Names, word: &[u8]) -> u32
 }
 
 /// Adds the numbers of the symbols of a list to codes, of which there are none.
-fn list_numbers(names: &Names, words: &Words, codes: &mut Vec<u32>) -> Result<(), AllocError>
+fn list_numbers(names: &NameTable, words: &Words, codes: &mut Vec<u32>) -> Result<(), AllocError>
     requires few { length names.now < 2 ^ 31 }
     requires named { AreNamed names.now words.now }
     requires empty { codes.old.items ≡ [] }
@@ -106,7 +108,7 @@ fn list_numbers(names: &Names, words: &Words, codes: &mut Vec<u32>) -> Result<()
 }
 
 /// Adds the numbers of the symbols of a statement, which all have one, to codes, of which there are none.
-pub fn numbers(names: &Names, stmt: &Stmt, codes: &mut Vec<u32>) -> Result<(), AllocError>
+pub fn numbers(names: &NameTable, stmt: &Stmt, codes: &mut Vec<u32>) -> Result<(), AllocError>
     requires few { length names.now < 2 ^ 31 }
     requires named { AreNamed names.now (symbols_in stmt.now) }
     requires empty { codes.old.items ≡ [] }

@@ -9,7 +9,7 @@ ghost use Rattle.frame.specs.OneFrame.{AreNoted, AreMandatory, among, asked, ask
 use crate::assertion::Frame;
 use mm_lex::Words;
 use mm_read::Stmt;
-use names::Names;
+use names::NameTable;
 use scope::{Scope, Standing};
 use smallvec::SmallVec;
 use std::alloc::{AllocError, Global};
@@ -49,11 +49,11 @@ fn expression(stmt: &Stmt) -> &Words
 }
 
 /// The variables of an assertion and of the active `$e`.
-fn mandatory_variables(alloc: Global, scope: &Scope, stmt: &Stmt) -> Result<Names, AllocError>
+fn mandatory_variables(alloc: Global, scope: &Scope, stmt: &Stmt) -> Result<NameTable, AllocError>
     requires { IsTrue (is_assertion stmt.now) }
     ensures { IfOk result (λ used. AreMandatory scope.now.statements stmt.now used) }
 {
-    let mut used = Names::new(alloc);
+    let mut used = NameTable::new(alloc);
     note_variables(alloc, scope, &mut used, expression(stmt))?;
     for entry in scope.standing().iter() {
         if let Stmt::Ess { label: _, expr } = &entry.stmt {
@@ -67,7 +67,7 @@ fn mandatory_variables(alloc: Global, scope: &Scope, stmt: &Stmt) -> Result<Name
 fn note_variables(
     alloc: Global,
     scope: &Scope,
-    used: &mut Names,
+    used: &mut NameTable,
     expr: &Words,
 ) -> Result<(), AllocError>
     ensures { OnOk result (AreNoted scope.now.statements used.old used.new expr.now) }
@@ -81,7 +81,7 @@ fn note_variables(
 }
 
 /// Notes a name, once.
-fn note(alloc: Global, used: &mut Names, name: &[u8]) -> Result<(), AllocError>
+fn note(alloc: Global, used: &mut NameTable, name: &[u8]) -> Result<(), AllocError>
     ensures { OnOk result ((x : Name) → has_name x used.new ≡ (has_name x used.old || name_eq x name.now)) }
 {
     used.code(alloc, name)?;
@@ -92,7 +92,7 @@ fn note(alloc: Global, used: &mut Names, name: &[u8]) -> Result<(), AllocError>
 fn mandatory_hypotheses(
     alloc: Global,
     standing: &[Standing],
-    used: &Names,
+    used: &NameTable,
 ) -> Result<SmallVec<usize, 8>, AllocError>
     ensures { IfOk result (λ list. list.items ≡ asked used.now standing.now) }
 {
@@ -106,7 +106,7 @@ fn mandatory_hypotheses(
 }
 
 /// Whether it is an `$e`, or the `$f` of one of the variables.
-fn is_asked(used: &Names, stmt: &Stmt) -> bool
+fn is_asked(used: &NameTable, stmt: &Stmt) -> bool
     ensures { result ≡ asks used.now stmt.now }
 {
     match stmt {
@@ -120,14 +120,14 @@ fn is_asked(used: &Names, stmt: &Stmt) -> bool
     }
 }
 
-fn has(used: &Names, name: &[u8]) -> bool
+fn has(used: &NameTable, name: &[u8]) -> bool
     ensures { result ≡ has_name name.now used.now }
 {
     used.find(name).is_some()
 }
 
 /// Of each `$d` those of the variables, where they are two or more.
-fn groups(alloc: Global, standing: &[Standing], used: &Names) -> Result<Vec<Words>, AllocError>
+fn groups(alloc: Global, standing: &[Standing], used: &NameTable) -> Result<Vec<Words>, AllocError>
     ensures { IfOk result (λ groups. groups.items ≡ groups_among used.now standing.now) }
 {
     let mut groups = Vec::new(alloc);
@@ -143,7 +143,7 @@ fn groups(alloc: Global, standing: &[Standing], used: &Names) -> Result<Vec<Word
 }
 
 /// Those of the names that are among the variables.
-fn group(alloc: Global, used: &Names, names: &Words) -> Result<Words, AllocError>
+fn group(alloc: Global, used: &NameTable, names: &Words) -> Result<Words, AllocError>
     ensures { IfOk result (λ group. group ≡ among used.now names.now) }
 {
     let mut group = Words::new(alloc);

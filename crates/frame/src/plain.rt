@@ -5,7 +5,10 @@ ghost use Rattle.scope.specs.Legal.{IsLegal};
 ghost use Rattle.names.specs.Codes.{with_names};
 ghost use Rattle.scope.specs.Symbols.{symbols_by};
 ghost use Rattle.frame.specs.Plain.{ArePlainNumbers};
-ghost use Rattle.frame.specs.Stored.{AreNumbersOf, AreStored, IsBehind, Extends, statements_of};
+ghost use Rattle.frame.specs.Stored.{AreNumbersOf, AreStored};
+ghost use Rattle.frame.specs.StoredCounts.{IsBehind};
+ghost use Rattle.entries.specs.Spans.{Extends};
+ghost use Rattle.frame.specs.StoredEntries.{statements_of};
 
 use crate::declare::{declare, links_after};
 use crate::enter::{enter_label, head};
@@ -13,13 +16,17 @@ use crate::shape::kind;
 use crate::storage::Stock;
 use crate::undo::note_replaced;
 use mm_read::Stmt;
-use names::Names;
+use names::NameTable;
 use std::alloc::{AllocError, Global};
 
 const NOTHING: &[u32] = &[];
 
 /// The numbers of the symbols of a statement that declares nothing and is kept without hypotheses, where they are known.
-pub fn plain_numbers<'a>(names: &Names, stmt: &Stmt, noted: Option<&'a [u32]>) -> Option<&'a [u32]>
+pub fn plain_numbers<'a>(
+    names: &NameTable,
+    stmt: &Stmt,
+    noted: Option<&'a [u32]>,
+) -> Option<&'a [u32]>
     requires { IfSome noted (λ numbers. AreNumbersOf (with_names names.now (symbols_by stmt.now)) stmt.now numbers.now) }
     ensures { IfSome result (λ numbers. ArePlainNumbers names.now stmt.now numbers.now) }
 {

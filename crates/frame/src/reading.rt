@@ -9,7 +9,9 @@ ghost use Rattle.frame.specs.Reading.{IsMeaning};
 ghost use Rattle.frame.specs.Cited.{IsCited, IsGathered};
 ghost use Rattle.frame.specs.Drafts.{IsDraft, drafted};
 ghost use Rattle.frame.specs.Links.{last_active, links_of};
-ghost use Rattle.frame.specs.Stored.{AreStored, statements_of, IsPlain, IsHypothesisAt};
+ghost use Rattle.frame.specs.Stored.{AreStored};
+ghost use Rattle.frame.specs.StoredEntries.{statements_of};
+ghost use Rattle.frame.specs.StoredCounts.{IsPlain, IsHypothesisAt};
 
 use crate::draft::Draft;
 use crate::meaning::Meaning;

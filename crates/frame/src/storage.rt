@@ -1,6 +1,6 @@
 //! The statements of a database as numbers.
 use entries::{Entries, Links};
-use names::Names;
+use names::NameTable;
 
 /// The last statements that declare a symbol, by position, or 0.
 #[derive(Clone, Copy, Drop)]
@@ -16,9 +16,9 @@ pub struct Symbol {
 /// at the end.
 #[derive(Drop)]
 pub struct Stock {
-    pub names: Names,
-    pub labels: Names,
-    pub positions: Vec<usize>,
+    pub names: NameTable,
+    pub labels: NameTable,
+    pub positions: Vec<u32>,
     pub symbols: Vec<Symbol>,
     /// What each `$f`, and each symbol of each `$v`, replaced in `symbols`, in order.
     pub replaced: Vec<usize>,

@@ -1,5 +1,5 @@
 //! Good statements, with what judges those that come behind them.
-ghost use Rattle.std.specs.Prelude.{◌≡◌, ℕ, ◌+◌, ◌*◌, ◌≤◌, ◌++◌, ◌≢◌, ◌↔◌, ◌⊎◌, [], length, take, drop, Ok, Err, Some, None, IfOk, IfErr, OnErr, IsTrue, MatchResult, MatchOption};
+ghost use Rattle.std.specs.Prelude.{◌≡◌, ℕ, ◌+◌, ◌*◌, ◌≤◌, ◌++◌, ◌≢◌, ◌↔◌, ◌⊎◌, [], length, take, drop, Ok, Err, Some, None, IfOk, IfErr, OnOk, OnErr, IsTrue, MatchResult, MatchOption};
 ghost use Rattle.std.specs.Fn.{FnReturnsAt};
 ghost use Rattle.mm_read.specs.Statements.{AreShaped};
 ghost use Rattle.scope.specs.Active.{bares, is_closed};
@@ -132,7 +132,7 @@ impl Base {
     /// Errors: a growth was refused; nothing is added then. Cost: that of the statements added, two steps each.
     pub(crate) fn extend<F: Fn(&Proofs<'_>) -> Result<Option<usize>, AllocError>>(
         &mut self,
-        mut more: Vec<Stmt>,
+        more: Vec<Stmt>,
         steps: &mut Steps,
         least: &F,
     ) -> Result<Option<Cause>, AllocError>
@@ -144,7 +144,7 @@ impl Base {
         ensures counted { steps.new.count ≤ steps.old.count + 3 * length more.items }
     {
         let front = self.statements.len();
-        self.statements.append(&mut more)?;
+        append_all(&mut self.statements, more)?;
         let found = judge(
             self.alloc,
             &mut self.scope,
@@ -162,6 +162,21 @@ impl Base {
             found,
         )
     }
+}
+
+/// Puts more statements behind the others; where there are no others they are taken as they stand.
+///
+/// Errors: a growth was refused; nothing is added then. Cost: that of the statements added.
+fn append_all(statements: &mut Vec<Stmt>, mut more: Vec<Stmt>) -> Result<(), AllocError>
+    ensures added { OnOk result (statements.new.items ≡ statements.old.items ++ more.items) }
+    ensures same { OnErr result (statements.new.items ≡ statements.old.items) }
+{
+    if statements.is_empty() {
+        *statements = more;
+    } else {
+        statements.append(&mut more)?;
+    }
+    Ok(())
 }
 
 /// Why the statements behind the first `front` may not stand there; none where they may.

@@ -5,7 +5,7 @@ ghost use Rattle.synod.specs.Packets.{IsReport};
 
 use slots::SLOTS;
 use std::alloc::{AllocError, Global};
-use synod::{Ballot, Body, NodeCore, Packet, Refusal, Report, Reports, Value, Weights};
+use synod::{Ballot, Body, NodeCore, Packet, Refusal, Reports, SlotReport, Value, Weights};
 
 /// A value for the tests.
 #[derive(Clone, Copy)]
@@ -58,7 +58,7 @@ fn last_reported(alloc: Global) -> Option<Reports<Number>>
 {
     let mut reports = Vec::new(alloc);
     reports
-        .push(Report {
+        .push(SlotReport {
             slot: SLOTS - 1,
             ballot: Ballot { round: 0, node: 0 },
             value: Some(Number(1)),

@@ -5,7 +5,7 @@ ghost use Rattle.synod.specs.Packets.{IsReport, IsBody, IsPacket};
 
 use slots::SLOTS;
 use std::alloc::AllocError;
-use synod::{Body, MOST_PAGES, Packet, Report, Value};
+use synod::{Body, MOST_PAGES, Packet, SlotReport, Value};
 
 /// A value of eight bytes.
 #[derive(Debug, Clone, Copy, PartialEq, Eq)]
@@ -52,7 +52,7 @@ fn is_body(body: &Body<Number>) -> bool
     }
 }
 
-fn reports_are_low(reports: &[Report<Number>]) -> bool
+fn reports_are_low(reports: &[SlotReport<Number>]) -> bool
     ensures { IsTrue result → AllByRecursion IsReport reports.now }
 {
     for report in reports {

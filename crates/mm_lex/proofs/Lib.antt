@@ -9,6 +9,7 @@ pub mod PlainLemmas
 pub mod Progress
 pub mod TokensLemmas
 pub mod StretchLemmas
+pub mod TidyLemmas
 pub mod SymbolsLemmas
 pub mod BetweenLemmas
 pub mod WalkLemmas

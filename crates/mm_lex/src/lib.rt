@@ -4,11 +4,12 @@
 //! `count_tokens` go from place to place without a list of them, and tell the faults of comments as they
 //! meet them. `Word` and `Words` keep words compactly. Reading order:
 //! `span`, `fault`, `lanes`, `run`, `comment`, `scan`; `word`, `words`, `reading`; `walk`, `stretch`,
-//! `symbol_list`; `laws`.
+//! `symbol_list`; `label`; `laws`.
 #![tactic(auto)]
 
 mod comment;
 mod fault;
+mod label;
 mod lanes;
 mod laws;
 mod reading;
@@ -22,6 +23,7 @@ mod word;
 mod words;
 
 pub use fault::LexFault;
+pub use label::is_label;
 pub use laws::{one_answer, one_cut};
 pub use reading::WordIter;
 pub use scan::{first_bad_byte, tokens};

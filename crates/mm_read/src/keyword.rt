@@ -1,7 +1,6 @@
 //! Tokens as words, labels and keywords.
 ghost use Rattle.std.specs.Prelude.{◌≡◌, ◌≤◌, [], ◌∷◌, IsTrue, length};
-ghost use Rattle.std.specs.List.{list_all};
-ghost use Rattle.mm_lex.specs.Alphabet.{word, is_label, is_label_byte};
+ghost use Rattle.mm_lex.specs.Alphabet.{word};
 ghost use Rattle.mm_lex.specs.Words.{is_word};
 ghost use Rattle.mm_read.specs.Front.{IsKeyword};
 
@@ -57,24 +56,4 @@ pub fn token(text: &[u8], span: Span) -> &[u8]
     ensures { result.now ≡ word text.now span }
 {
     &text[span.start..span.end]
-}
-
-/// Whether the word is a label.
-pub fn is_label(word: &[u8]) -> bool
-    ensures { result ≡ is_label word.now }
-{
-    !word.is_empty() && has_label_bytes(word)
-}
-
-fn has_label_bytes(word: &[u8]) -> bool
-    ensures { result ≡ list_all is_label_byte word.now }
-{
-    word.iter().all(|b| is_label_byte(*b))
-}
-
-/// Letters, digits, `.`, `-` and `_`.
-fn is_label_byte(byte: u8) -> bool
-    ensures { result ≡ is_label_byte byte }
-{
-    byte.is_ascii_alphanumeric() || b".-_".contains(&byte)
 }

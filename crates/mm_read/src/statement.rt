@@ -6,10 +6,10 @@ ghost use Rattle.mm_lex.specs.Tokens.{IsClean, IsWordAt};
 ghost use Rattle.mm_read.specs.Next.{IsNextAfter, IsFaultAfter};
 
 use crate::fault::ReadFault;
-use crate::keyword::{Keyword, is_label, keyword_of, token};
+use crate::keyword::{Keyword, keyword_of, token};
 use crate::part::{next_symbol, pass_token, symbols_until};
 use crate::stmt::Stmt;
-use mm_lex::{Span, Word, next_token};
+use mm_lex::{Span, Word, is_label, next_token};
 use std::alloc::Global;
 
 /// The statement whose first token stands at `first`, and the place of the byte behind it.

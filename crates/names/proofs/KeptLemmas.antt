@@ -180,19 +180,18 @@ held-take slots a b names n keys held k p ne =
     subst (λ y. IsHeld slots (key_of y) k) (sym (name_at-take n names k p)) (held k (omega (arith, p, l)) (λ z. ne (ap (λ xs. get_or xs k 0) keys ∙ z)))
 
 -- each name is found
-pub found : (slots : List Slot) (a : Kept) (names : List Name) (sound : ℕ) → IsTable slots a names sound → AreFound slots a.overflow names
-found slots a names sound t k lt = by (cases_eq (get_or a.keys.items k 0) APART)
+pub found : (slots : List Slot) (a : Kept) (names : List Name) → IsTable slots a names → AreFound slots a.overflow names
+found slots a names t k lt = by (cases_eq (get_or a.keys.items k 0) APART)
   where
     by : (get_or a.keys.items k 0 ≡ APART) ⊎ (get_or a.keys.items k 0 ≢ APART) → IsHeld slots (key_of (name_at names k)) k ⊎ (number_of a.overflow (name_at names k) ≡ Some k)
     by (inl e) = inr ((t.kept k lt).apart e)
     by (inr ne) = inl (t.held k lt ne)
 
 -- a table where only what lies behind the names changed
-pub table-same : (slots : List Slot) (a b : Kept) (names : List Name) (sound : ℕ) → IsTable slots a names sound → length names ≤ length b.keys.items
+pub table-same : (slots : List Slot) (a b : Kept) (names : List Name) → IsTable slots a names → length names ≤ length b.keys.items
     → ((k : ℕ) → k < length names → get_or b.keys.items k 0 ≡ get_or a.keys.items k 0) → ((k : ℕ) → k < length names → number_of b.overflow (name_at names k) ≡ number_of a.overflow (name_at names k))
-    → IsTable slots b names sound
-table-same slots a b names sound t count same others = record {
+    → IsTable slots b names
+table-same slots a b names t count same others = record {
   kept = kept-same a b names t.kept count same others;
   held = held-same slots a b names (length names) same t.held;
-  keys = t.keys;
 }

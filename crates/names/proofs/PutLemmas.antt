@@ -9,20 +9,20 @@ use Rattle.names.specs.declared.keys.TheConstants.{APART}
 use Rattle.names.specs.declared.kept.Kept.{Kept}
 use Rattle.names.specs.declared.table.Slot.{Slot}
 use Rattle.names.specs.declared.table.TheConstants.{NO_NAME}
-use Rattle.names.specs.Table.{HasKey, IsFree, AreHeld, IsTable}
+use Rattle.names.specs.Table.{slot_of, IsFree, AreHeld, IsTable}
 use Rattle.names.proofs.DistinctLemmas.{distinct-push, distinct-take, length-take-below, name_at-last}
-use Rattle.names.proofs.TableLemmas.{put-held, put-sound, sound-more, sound-take}
+use Rattle.names.proofs.TableLemmas.{put-held}
 use Rattle.names.proofs.KeptLemmas.{table-same, held-same, held-more, held-take, kept-push, kept-push_apart, kept-take, held-passed}
 
-abbrev pub Holds : List Slot → Kept → List Name → ℕ → Type 0
-Holds slots a names sound = (length names < 2 ^ 32) × (AreDistinct names × IsTable slots a names sound)
+abbrev pub Holds : List Slot → Kept → List Name → Type 0
+Holds slots a names = (length names < 2 ^ 32) × (AreDistinct names × IsTable slots a names)
 
 -- no name came
-pub names-same : (slots : List Slot) (a b : Kept) (names new : List Name) (sound n : ℕ) → new ≡ names → Holds slots a names sound → n ≡ length names → n ≤ length b.keys.items
-    → ((k : ℕ) → k < n → get_or b.keys.items k 0 ≡ get_or a.keys.items k 0) → ((k : ℕ) → k < length names → number_of b.overflow (name_at names k) ≡ number_of a.overflow (name_at names k)) → Holds slots b new sound
-names-same slots a b names new sound n is h count within same others =
-    subst (λ xs. Holds slots b xs sound) (sym is)
-    (h.0, (h.1.0, table-same slots a b names sound h.1.1 (omega (arith, count, within)) (λ k p. same k (omega (arith, p, count))) others))
+pub names-same : (slots : List Slot) (a b : Kept) (names new : List Name) (n : ℕ) → new ≡ names → Holds slots a names → n ≡ length names → n ≤ length b.keys.items
+    → ((k : ℕ) → k < n → get_or b.keys.items k 0 ≡ get_or a.keys.items k 0) → ((k : ℕ) → k < length names → number_of b.overflow (name_at names k) ≡ number_of a.overflow (name_at names k)) → Holds slots b new
+names-same slots a b names new n is h count within same others =
+    subst (λ xs. Holds slots b xs) (sym is)
+    (h.0, (h.1.0, table-same slots a b names h.1.1 (omega (arith, count, within)) (λ k p. same k (omega (arith, p, count))) others))
 
 more-names : (names : List Name) (name : Name) (n : ℕ) → n ≡ length names → n < NO_NAME → length (names ++ name ∷ []) < 2 ^ 32
 more-names names name n count few = let l = length-append names (name ∷ []) in omega (arith, l, count, few)
@@ -42,19 +42,18 @@ held-all slots b names name n count held =
     subst (λ m. AreHeld m slots b (names ++ name ∷ [])) e held
 
 -- a name came that has a slot
-pub names-put : (slots : List Slot) (a b : Kept) (names new : List Name) (name : Name) (sound n key at : ℕ) → new ≡ names ++ name ∷ [] → Holds slots a names sound → n ≡ length names → n < NO_NAME → has_name name names ≡ false
+pub names-put : (slots : List Slot) (a b : Kept) (names new : List Name) (name : Name) (n key at : ℕ) → new ≡ names ++ name ∷ [] → Holds slots a names → n ≡ length names → n < NO_NAME → has_name name names ≡ false
     → b.overflow ≡ a.overflow → ((k : ℕ) → k < n → get_or b.keys.items k 0 ≡ get_or a.keys.items k 0) → n < length b.keys.items → get_or b.keys.items n 0 ≡ key → key ≡ key_of name → key ≢ APART → AreBytes name
-    → IsFree slots key at → Holds (slice_set slots at (record { key = key; number = n })) b new sound
-names-put slots a b names new name sound n key at is h count few fresh overflow same more last own other bytes free =
-    subst (λ xs. Holds (slice_set slots at (record { key = key; number = n })) b xs sound) (sym is) (
+    → IsFree slots key at → Holds (slice_set slots at (slot_of key n)) b new
+names-put slots a b names new name n key at is h count few fresh overflow same more last own other bytes free =
+    subst (λ xs. Holds (slice_set slots at (slot_of key n)) b xs) (sym is) (
       more-names names name n count few,
       (
         distinct-push names name h.1.0 fresh,
         record {
           kept = kept-push a b names name n key count h.1.1.kept overflow same more last own other bytes;
-          held = held-all (slice_set slots at (record { key = key; number = n })) b names name n count
+          held = held-all (slice_set slots at (slot_of key n)) b names name n count
               (put-held slots b (names ++ name ∷ []) key at n (own ∙ ap key_of (sym at-n)) few (held-before slots a b names name n count h.1.1.held same) free);
-          keys = put-sound slots (names ++ name ∷ []) at sound (record { key = key; number = n }) free.inside here (sound-more slots names (name ∷ []) sound h.1.1.keys);
         },
       ),
     )
@@ -62,47 +61,36 @@ names-put slots a b names new name sound n key at is h count few fresh overflow 
     at-n : name_at (names ++ name ∷ []) n ≡ name
     at-n = last-name names name n count
 
-    here : HasKey (names ++ name ∷ []) (record { key = key; number = n })
-    here =
-        let l = length-append names (name ∷ []) in
-        record {
-          within = omega (arith, l, count);
-          bytes = subst AreBytes (sym at-n) bytes;
-          key = own ∙ ap key_of (sym at-n);
-        }
-
 -- a name came that stands apart
-pub names-set_apart : (slots : List Slot) (a b : Kept) (names new : List Name) (name : Name) (sound n : ℕ) → new ≡ names ++ name ∷ [] → Holds slots a names sound → n ≡ length names → n < NO_NAME → has_name name names ≡ false
+pub names-set_apart : (slots : List Slot) (a b : Kept) (names new : List Name) (name : Name) (n : ℕ) → new ≡ names ++ name ∷ [] → Holds slots a names → n ≡ length names → n < NO_NAME → has_name name names ≡ false
     → ((y : Name) → AreBytes y → y ≢ name → number_of b.overflow y ≡ number_of a.overflow y) → ((k : ℕ) → k < n → get_or b.keys.items k 0 ≡ get_or a.keys.items k 0) → n < length b.keys.items → get_or b.keys.items n 0 ≡ APART
-    → number_of b.overflow name ≡ Some n → AreBytes name → Holds slots b new sound
-names-set_apart slots a b names new name sound n is h count few fresh others same more last own bytes =
-    subst (λ xs. Holds slots b xs sound) (sym is) (
+    → number_of b.overflow name ≡ Some n → AreBytes name → Holds slots b new
+names-set_apart slots a b names new name n is h count few fresh others same more last own bytes =
+    subst (λ xs. Holds slots b xs) (sym is) (
       more-names names name n count few,
       (
         distinct-push names name h.1.0 fresh,
         record {
           kept = kept-push_apart a b names name n count h.1.1.kept fresh others same more last own bytes;
           held = held-all slots b names name n count (held-passed slots b (names ++ name ∷ []) n last (held-before slots a b names name n count h.1.1.held same));
-          keys = sound-more slots names (name ∷ []) sound h.1.1.keys;
         },
       ),
     )
 
 -- the first names stay
-pub names-take : (slots : List Slot) (a b : Kept) (names new : List Name) (sound less n : ℕ) → new ≡ take n names → Holds slots a names sound → less ≤ sound → less ≤ n → b.keys ≡ a.keys
-    → ((k : ℕ) → k < n → number_of b.overflow (name_at names k) ≡ number_of a.overflow (name_at names k)) → Holds slots b new less
-names-take slots a b names new sound less n is h p q keys numbers =
+pub names-take : (slots : List Slot) (a b : Kept) (names new : List Name) (n : ℕ) → new ≡ take n names → Holds slots a names → b.keys ≡ a.keys
+    → ((k : ℕ) → k < n → number_of b.overflow (name_at names k) ≡ number_of a.overflow (name_at names k)) → Holds slots b new
+names-take slots a b names new n is h keys numbers =
     let l = length-take-below n names in
     let few = h.0 in
     let items : b.keys.items ≡ a.keys.items = ap (λ v. v.items) keys in
-    subst (λ xs. Holds slots b xs less) (sym is) (
+    subst (λ xs. Holds slots b xs) (sym is) (
       omega (arith, l, few),
       (
         distinct-take n names h.1.0,
         record {
           kept = kept-take a b names n h.1.1.kept items numbers;
           held = held-take slots a b names n items h.1.1.held;
-          keys = sound-take slots names n sound less p q h.1.1.keys;
         },
       ),
     )

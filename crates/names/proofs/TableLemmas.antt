@@ -1,6 +1,6 @@
 -- A table by keys: what is put there is found, and what is not found is not there.
 use Rattle.std.specs.Prelude.{◌≡◌, ◌≢◌, ℕ, zero, suc, ◌+◌, ◌<◌, ◌≤◌, ◌^◌, ◌⊎◌, List, [], ◌∷◌, ◌++◌, length, take, slice_get, Option, Some, None, IfSome, refl}
-use Rattle.std.proofs.Common.{sym, ◌∙◌, ap, subst, arith, inl, inr, slice_set, length-append}
+use Rattle.std.proofs.Common.{sym, ◌∙◌, ap, subst, arith, inl, inr, slice_set}
 use Rattle.std.proofs.lemmas.Bool.{cases_lt}
 use Rattle.std.specs.Prelude.{unwrap_or, replicate}
 use Rattle.std.proofs.lemmas.List.{length-set, length-replicate, get_or-replicate}
@@ -12,10 +12,9 @@ use Rattle.names.specs.declared.table.TheConstants.{NO_NAME, REACH}
 use Rattle.names.specs.declared.kept.Kept.{Kept}
 use Rattle.names.specs.declared.overflow.Overflow.{Overflow}
 use Rattle.names.specs.Overflow.{number_of}
-use Rattle.names.specs.Keys.{AreBytes, key_of}
-use Rattle.names.specs.Table.{place_of, slot_at, IsTaken, IsHeld, AreHeld, AreFound, HasKey, AreSound, AreUnused, IsFree, IsPassed}
+use Rattle.names.specs.Keys.{key_of}
+use Rattle.names.specs.Table.{half_of, slot_of, place_of, slot_at, IsTaken, IsHeld, AreHeld, AreFound, AreUnused, IsFree, IsPassed}
 use Rattle.names.proofs.CodesLemmas.{code-absent}
-use Rattle.names.proofs.DistinctLemmas.{name_at-more, name_at-take}
 
 some-same : {A : Type 0} {x y : A} → Some x ≡ Some y → x ≡ y
 some-same e = cc
@@ -23,10 +22,10 @@ some-same e = cc
 same-slot : (slots : List Slot) (key step : ℕ) (s t : Slot) → slot_at slots key step s → slot_at slots key step t → s ≡ t
 same-slot slots key step s t a b = some-same (sym a ∙ b)
 
-pub passed-one : (slots : List Slot) (names : List Name) (name : Name) (key step : ℕ) (t : Slot) → slot_at slots key step t → t.number ≢ NO_NAME → (t.key ≡ key → t.number < length names → name_at names t.number ≢ name)
+pub passed-one : (slots : List Slot) (names : List Name) (name : Name) (key step : ℕ) (t : Slot) → slot_at slots key step t → t.number ≢ NO_NAME → (t.half ≡ half_of key → t.number < length names → name_at names t.number ≢ name)
     → IsPassed slots names name key step
 passed-one slots names name key step t at taken other s g =
-    subst (λ (u : Slot). (u.number ≢ NO_NAME) × (u.key ≡ key → u.number < length names → name_at names u.number ≢ name)) (same-slot slots key step t s at g) (taken, other)
+    subst (λ (u : Slot). (u.number ≢ NO_NAME) × (u.half ≡ half_of key → u.number < length names → name_at names u.number ≢ name)) (same-slot slots key step t s at g) (taken, other)
 
 no-name : (k n : ℕ) → k < n → n < 2 ^ 32 → k ≡ NO_NAME → ⊥
 no-name k n p q e = omega (arith, p, q, e)
@@ -47,7 +46,7 @@ not-found slots a names name key step own found few passed end other = code-abse
         in-table h = by end (cases_lt h.step step)
           where
             met : h.step < step → ⊥
-            met p = (passed h.step p (record { key = key; number = k }) h.there).1 refl lt e
+            met p = (passed h.step p (slot_of key k) h.there).1 refl lt e
 
             past : (length slots ≤ step) ⊎ (REACH ≤ step) → step ≤ h.step → ⊥
             past (inl all) p = let w = h.within in absurd (omega (arith, w, all, p))
@@ -62,8 +61,8 @@ not-found slots a names name key step own found few passed end other = code-abse
                 later g (inl q) = h.before step q g.0 g.1 g.2
                 later g (inr q) =
                     let same : h.step ≡ step = omega (arith, p, q) in
-                    let there : slot_at slots key step (record { key = key; number = k }) = subst (λ i. slot_at slots key i (record { key = key; number = k })) same h.there in
-                    no-name k (length names) lt few (ap (λ (u : Slot). u.number) (same-slot slots key step (record { key = key; number = k }) g.0 there g.1) ∙ g.2)
+                    let there : slot_at slots key step (slot_of key k) = subst (λ i. slot_at slots key i (slot_of key k)) same h.there in
+                    no-name k (length names) lt few (ap (λ (u : Slot). u.number) (same-slot slots key step (slot_of key k) g.0 there g.1) ∙ g.2)
 
 -- the same of what the overflow answers then
 pub ended : (slots : List Slot) (a : Overflow) (names : List Name) (name : Name) (key step : ℕ) (r : Option ℕ) → key ≡ key_of name → AreFound slots a names → length names < 2 ^ 32
@@ -117,13 +116,13 @@ held-set slots at new key k free ne known h =
       within = omega (arith, w, l);
       near = h.near;
       there = ap (λ n. slice_get (slice_set slots at new) (place_of key h.step n)) l
-          ∙ (get-set_other slots at (place_of key h.step (length slots)) new (λ e. known (free (record { key = key; number = k }) (ap (slice_get slots) (sym e) ∙ h.there))) ∙ h.there);
+          ∙ (get-set_other slots at (place_of key h.step (length slots)) new (λ e. known (free (slot_of key k) (ap (slice_get slots) (sym e) ∙ h.there))) ∙ h.there);
       before = λ i p. taken-set slots at new key i ne (h.before i p);
     }
 
-put-new : (slots : List Slot) (at : ℕ) (key k : ℕ) → IsFree slots key at → k ≢ NO_NAME → IsHeld (slice_set slots at (record { key = key; number = k })) key k
+put-new : (slots : List Slot) (at : ℕ) (key k : ℕ) → IsFree slots key at → k ≢ NO_NAME → IsHeld (slice_set slots at (slot_of key k)) key k
 put-new slots at key k f known =
-    let new : Slot = record { key = key; number = k } in
+    let new : Slot = slot_of key k in
     let l = length-set slots at new in
     let w = f.within in
     record {
@@ -151,74 +150,17 @@ unused slots old m n free nothing e none i s g = alike (sym (ap (λ xs. slice_ge
         sym (ap (λ r. unwrap_or r free) g) ∙ (unwrap_or-slice_get (replicate n free) i free ∙ get_or-replicate n i free free (omega (arith, w, l))) in
         ap (λ (u : Slot). u.number) same ∙ none
 
-pub unused-sound : (slots : List Slot) (names : List Name) → AreUnused slots → AreSound slots names NO_NAME
-unused-sound slots names free i s g below = let none = free i s g in absurd (omega (arith, none, below))
-
 -- one more name is put where its key meets the first free slot
 pub put-held : (slots : List Slot) (a : Kept) (names : List Name) (key at n : ℕ) → key ≡ key_of (name_at names n) → n < NO_NAME → AreHeld n slots a names → IsFree slots key at
-    → AreHeld (n + 1) (slice_set slots at (record { key = key; number = n })) a names
+    → AreHeld (n + 1) (slice_set slots at (slot_of key n)) a names
 put-held slots a names key at n own few held f k lt ne = by (cases_lt k n)
   where
     known : n ≢ NO_NAME
     known e = absurd (omega (arith, few, e))
 
-    by : (k < n) ⊎ (n ≤ k) → IsHeld (slice_set slots at (record { key = key; number = n })) (key_of (name_at names k)) k
-    by (inl p) = held-set slots at (record { key = key; number = n }) (key_of (name_at names k)) k f.free known (λ e. absurd (omega (arith, p, few, e))) (held k p ne)
+    by : (k < n) ⊎ (n ≤ k) → IsHeld (slice_set slots at (slot_of key n)) (key_of (name_at names k)) k
+    by (inl p) = held-set slots at (slot_of key n) (key_of (name_at names k)) k f.free known (λ e. absurd (omega (arith, p, few, e))) (held k p ne)
     by (inr p) =
         let same : n ≡ k = omega (arith, p, lt) in
-        subst (λ h. IsHeld (slice_set slots at (record { key = key; number = n })) h k) (own ∙ ap (λ i. key_of (name_at names i)) same)
-        (subst (IsHeld (slice_set slots at (record { key = key; number = n })) key) same (put-new slots at key n f known))
-
--- the slot that is written, or one that stood there
-set-cases : (slots : List Slot) (at : ℕ) (new : Slot) (i : ℕ) (s : Slot) → at < length slots → slice_get (slice_set slots at new) i ≡ Some s → (s ≡ new) ⊎ ((i : ℕ) × (slice_get slots i ≡ Some s))
-set-cases slots at new i s inside g = by (cases_lt i at) (cases_lt at i)
-  where
-    by : (i < at) ⊎ (at ≤ i) → (at < i) ⊎ (i ≤ at) → (s ≡ new) ⊎ ((i : ℕ) × (slice_get slots i ≡ Some s))
-    by (inl p) q = inr (i, sym (get-set_other slots at i new (λ e. absurd (omega (arith, p, e)))) ∙ g)
-    by (inr p) (inl q) = inr (i, sym (get-set_other slots at i new (λ e. absurd (omega (arith, q, e)))) ∙ g)
-    by (inr p) (inr q) =
-        let same : i ≡ at = omega (arith, p, q) in
-        inl (some-same (sym g ∙ (ap (slice_get (slice_set slots at new)) same ∙ get-set_same slots at new inside)))
-
-pub put-sound : (slots : List Slot) (names : List Name) (at sound : ℕ) (new : Slot) → at < length slots → HasKey names new → AreSound slots names sound → AreSound (slice_set slots at new) names sound
-put-sound slots names at sound new inside here old i s g below = by (set-cases slots at new i s inside g)
-  where
-    by : (s ≡ new) ⊎ ((i : ℕ) × (slice_get slots i ≡ Some s)) → HasKey names s
-    by (inl e) = subst (HasKey names) (sym e) here
-    by (inr f) = old f.0 s f.1 below
-
--- a slot keeps the key of its name when others come
-pub sound-more : (slots : List Slot) (names more : List Name) (sound : ℕ) → AreSound slots names sound → AreSound slots (names ++ more) sound
-sound-more slots names more sound old i s g below = key-more (old i s g below)
-  where
-    key-more : HasKey names s → HasKey (names ++ more) s
-    key-more h =
-        let l = length-append names more in
-        let w = h.within in
-        let same = sym (name_at-more names more s.number w) in
-        record {
-          within = omega (arith, l, w);
-          bytes = subst AreBytes same h.bytes;
-          key = h.key ∙ ap key_of same;
-        }
-
--- where names are taken away, the slots below those are sound
-pub sound-take : (slots : List Slot) (names : List Name) (n sound less : ℕ) → less ≤ sound → less ≤ n → AreSound slots names sound → AreSound slots (take n names) less
-sound-take slots names n sound less p q old i s g below = kept (old i s g (omega (arith, p, below)))
-  where
-    inside : (n : ℕ) (names : List Name) (k : ℕ) → k < length names → k < n → k < length (take n names)
-    inside zero names k p q = absurd (omega (arith, q))
-    inside (suc n) [] k p q = absurd (omega (arith, p))
-    inside (suc n) (x ∷ names) zero p q = omega arith
-    inside (suc n) (x ∷ names) (suc k) p q = let r = inside n names k (omega (arith, p)) (omega (arith, q)) in omega (arith, r)
-
-    kept : HasKey names s → HasKey (take n names) s
-    kept h =
-        let w = h.within in
-        let within : s.number < length (take n names) = inside n names s.number w (omega (arith, q, below)) in
-        let same = sym (name_at-take n names s.number within) in
-        record {
-          within = within;
-          bytes = subst AreBytes same h.bytes;
-          key = h.key ∙ ap key_of same;
-        }
+        subst (λ h. IsHeld (slice_set slots at (slot_of key n)) h k) (own ∙ ap (λ i. key_of (name_at names i)) same)
+        (subst (IsHeld (slice_set slots at (slot_of key n)) key) same (put-new slots at key n f known))

@@ -1,24 +1,52 @@
 -- Texts one behind the other in one buffer.
-use Rattle.std.specs.Prelude.{◌≡◌, ℕ, zero, suc, ◌+◌, ◌-◌, ◌≤◌, List, [], ◌∷◌, ◌++◌, length, take, drop, slice_get, slice_range, Some, refl}
+use Rattle.std.specs.Prelude.{◌≡◌, ℕ, zero, suc, ◌+◌, ◌-◌, ◌<◌, ◌≤◌, List, [], ◌∷◌, ◌++◌, length, take, drop, slice_get, slice_range, Some, refl}
 use Rattle.std.proofs.Common.{◌∙◌, ap, sym, subst, arith}
 use Rattle.std.proofs.lemmas.List.{length-drop, length-take-le, take-append-le, drop-append-le, take-append-drop, take_all}
 use Rattle.std.proofs.Math.Seq.{drop-append_seam}
 use Rattle.names.specs.Codes.{name_at}
-use Rattle.names.specs.declared.texts.Span.{Span}
-use Rattle.names.specs.Table.{cut, AreBehind, AreLaid}
+use Rattle.names.specs.Texts.{cut, start_of, AreLaid}
 
 some-same : {A : Type 0} {x y : A} → Some x ≡ Some y → x ≡ y
 some-same e = cc
 
-pub laid-in : (n : ℕ) (spans : List Span) (i : ℕ) (s : Span) → AreLaid n spans → slice_get spans i ≡ Some s → (s.from ≤ s.to) × (s.to ≤ n)
-laid-in n [] i s l h = cc
-laid-in n (t ∷ spans) zero s l h = subst (λ (x : Span). (x.from ≤ x.to) × (x.to ≤ n)) (some-same h) (l.0, l.1)
-laid-in n (t ∷ spans) (suc i) s l h = laid-in n spans i s l.3 h
+pub cut-length : (xs : List ℕ) (from : ℕ) (ends : List ℕ) → length (cut xs from ends) ≡ length ends
+cut-length xs from [] = refl
+cut-length xs from (to ∷ ends) = ap suc (cut-length xs to ends)
 
-pub text-at : (xs : List ℕ) (spans : List Span) (i : ℕ) (s : Span) → slice_get spans i ≡ Some s → slice_range xs s.from s.to ≡ name_at (cut xs spans) i
-text-at xs [] i s h = cc
-text-at xs (t ∷ spans) zero s h = ap (λ (x : Span). slice_range xs x.from x.to) (sym (some-same h))
-text-at xs (t ∷ spans) (suc i) s h = text-at xs spans i s h
+-- the last end is behind the others
+laid-behind : (n from : ℕ) (ends : List ℕ) → AreLaid n from ends → from ≤ n
+laid-behind n from [] l = omega (arith, l)
+laid-behind n from (to ∷ ends) l = let r = laid-behind n to ends l.1 in let a = l.0 in omega (arith, a, r)
+
+laid-start : (n from : ℕ) (ends : List ℕ) (i : ℕ) → AreLaid n from ends → from ≤ start_of from ends i
+laid-start n from [] i l = omega arith
+laid-start n from (to ∷ ends) zero l = omega arith
+laid-start n from (to ∷ ends) (suc i) l = let r = laid-start n to ends i l.1 in let a = l.0 in omega (arith, a, r)
+
+pub laid-in : (n from : ℕ) (ends : List ℕ) (i to : ℕ) → AreLaid n from ends → slice_get ends i ≡ Some to → (start_of from ends i ≤ to) × (to ≤ n)
+laid-in n from [] i to l h = cc
+laid-in n from (t ∷ ends) zero to l h = subst (λ x. (from ≤ x) × (x ≤ n)) (some-same h) (l.0, laid-behind n t ends l.1)
+laid-in n from (t ∷ ends) (suc i) to l h = laid-in n t ends i to l.1 h
+
+pub start-within : (n from : ℕ) (ends : List ℕ) (i : ℕ) → AreLaid n from ends → start_of from ends i ≤ n
+start-within n from [] i l = omega (arith, l)
+start-within n from (to ∷ ends) zero l = laid-behind n from (to ∷ ends) l
+start-within n from (to ∷ ends) (suc i) l = start-within n to ends i l.1
+
+-- a text begins where the one before it ends
+pub start-first : (from : ℕ) (ends : List ℕ) → start_of from ends 0 ≡ from
+start-first from [] = refl
+start-first from (to ∷ ends) = refl
+
+pub start-next : (from : ℕ) (ends : List ℕ) (i to : ℕ) → slice_get ends i ≡ Some to → start_of from ends (suc i) ≡ to
+start-next from [] i to h = cc
+start-next from (t ∷ ends) zero to h = start-first t ends ∙ some-same h
+start-next from (t ∷ ends) (suc i) to h = start-next t ends i to h
+
+pub text-at : (xs : List ℕ) (from : ℕ) (ends : List ℕ) (i to : ℕ) → slice_get ends i ≡ Some to → slice_range xs (start_of from ends i) to ≡ name_at (cut xs from ends) i
+text-at xs from [] i to h = cc
+text-at xs from (t ∷ ends) zero to h = ap (slice_range xs from) (sym (some-same h))
+text-at xs from (t ∷ ends) (suc i) to h = text-at xs t ends i to h
 
 range-more : (xs more : List ℕ) (from to : ℕ) → from ≤ to → to ≤ length xs → slice_range (xs ++ more) from to ≡ slice_range xs from to
 range-more xs more from to p q =
@@ -37,53 +65,28 @@ range-last xs ys from to p q =
     let k : to - from ≡ length ys = omega arith in
     ap (λ n. take n (drop from (xs ++ ys))) k ∙ (ap (λ n. take (length ys) (drop n (xs ++ ys))) p ∙ (ap (take (length ys)) (drop-append_seam xs ys) ∙ take_all (length ys) ys (omega arith)))
 
-cut-more : (xs more : List ℕ) (spans : List Span) → AreLaid (length xs) spans → cut (xs ++ more) spans ≡ cut xs spans
-cut-more xs more [] l = refl
-cut-more xs more (s ∷ spans) l = let e = range-more xs more s.from s.to l.0 l.1 in let r = cut-more xs more spans l.3 in cc
-
-cut-push : (xs : List ℕ) (spans : List Span) (s : Span) → cut xs (spans ++ s ∷ []) ≡ cut xs spans ++ slice_range xs s.from s.to ∷ []
-cut-push xs [] s = refl
-cut-push xs (t ∷ spans) s = ap (λ r. slice_range xs t.from t.to ∷ r) (cut-push xs spans s)
-
 -- a text put behind the others
-pub push-text : (xs ys : List ℕ) (spans : List Span) (s : Span) → AreLaid (length xs) spans → s.from ≡ length xs → s.to ≡ length xs + length ys → cut (xs ++ ys) (spans ++ s ∷ []) ≡ cut xs spans ++ ys ∷ []
-push-text xs ys spans s l p q =
-    cut-push (xs ++ ys) spans s
-    ∙ (ap (λ r. r ++ slice_range (xs ++ ys) s.from s.to ∷ []) (cut-more xs ys spans l) ∙ ap (λ r. cut xs spans ++ r ∷ []) (range-last xs ys s.from s.to p q))
+pub push-text : (xs ys : List ℕ) (from : ℕ) (ends : List ℕ) (to : ℕ) → AreLaid (length xs) from ends → to ≡ length xs + length ys → cut (xs ++ ys) from (ends ++ to ∷ []) ≡ cut xs from ends ++ ys ∷ []
+push-text xs ys from [] to l q = ap (λ r. r ∷ []) (range-last xs ys from to (sym l) q)
+push-text xs ys from (t ∷ ends) to l q =
+    let first = range-more xs ys from t l.0 (laid-behind (length xs) t ends l.1) in
+    let rest = push-text xs ys t ends to l.1 q in
+    cc
 
-behind-push : (n : ℕ) (spans : List Span) (s : Span) → AreBehind n spans → n ≤ s.from → AreBehind n (spans ++ s ∷ [])
-behind-push n [] s b h = (h, tt)
-behind-push n (t ∷ spans) s b h = (b.0, behind-push n spans s b.1 h)
-
-pub laid-push : (n m : ℕ) (spans : List Span) (s : Span) → n ≤ m → AreLaid n spans → s.from ≡ n → s.to ≡ m → AreLaid m (spans ++ s ∷ [])
-laid-push n m [] s le l p q = (omega (arith, p, q, le), omega (arith, q), tt, tt)
-laid-push n m (t ∷ spans) s le l p q =
-    let a = l.1 in
-    (l.0, omega (arith, a, le), behind-push t.to spans s l.2 (omega (arith, a, p)), laid-push n m spans s le l.3 p q)
-
-behind-at : (n : ℕ) (spans : List Span) (i : ℕ) (s : Span) → AreLaid n spans → (m : ℕ) → AreBehind m spans → slice_get spans i ≡ Some s → m ≤ s.from
-behind-at n [] i s l m b h = cc
-behind-at n (t ∷ spans) zero s l m b h = subst (λ (x : Span). m ≤ x.from) (some-same h) b.0
-behind-at n (t ∷ spans) (suc i) s l m b h = behind-at n spans i s l.3 m b.1 h
-
-behind-take : (n : ℕ) (spans : List Span) (i : ℕ) → AreBehind n spans → AreBehind n (take i spans)
-behind-take n [] zero b = tt
-behind-take n [] (suc i) b = tt
-behind-take n (t ∷ spans) zero b = tt
-behind-take n (t ∷ spans) (suc i) b = (b.0, behind-take n spans i b.1)
+pub laid-push : (n m from : ℕ) (ends : List ℕ) → n ≤ m → AreLaid n from ends → AreLaid m from (ends ++ m ∷ [])
+laid-push n m from [] le l = (omega (arith, l, le), refl)
+laid-push n m from (t ∷ ends) le l = (l.0, laid-push n m t ends le l.1)
 
 -- cut back to where a text begins
-pub laid-take : (n : ℕ) (spans : List Span) (i : ℕ) (s : Span) → AreLaid n spans → slice_get spans i ≡ Some s → AreLaid s.from (take i spans)
-laid-take n [] i s l h = cc
-laid-take n (t ∷ spans) zero s l h = tt
-laid-take n (t ∷ spans) (suc i) s l h = (l.0, behind-at n spans i s l.3 t.to l.2 h, behind-take t.to spans i l.2, laid-take n spans i s l.3 h)
+pub laid-take : (n from : ℕ) (ends : List ℕ) (i : ℕ) → i < length ends → AreLaid n from ends → AreLaid (start_of from ends i) from (take i ends)
+laid-take n from [] i h l = absurd (omega (arith, h))
+laid-take n from (t ∷ ends) zero h l = refl
+laid-take n from (t ∷ ends) (suc i) h l = (l.0, laid-take n t ends i (omega (arith, h)) l.1)
 
-pub cut-take : (xs : List ℕ) (spans : List Span) (i : ℕ) (s : Span) → AreLaid (length xs) spans → slice_get spans i ≡ Some s → cut (take s.from xs) (take i spans) ≡ take i (cut xs spans)
-cut-take xs [] i s l h = cc
-cut-take xs (t ∷ spans) zero s l h = refl
-cut-take xs (t ∷ spans) (suc i) s l h =
-    let b = behind-at (length xs) spans i s l.3 t.to l.2 h in
-    let in-s = laid-in (length xs) spans i s l.3 h in
-    let e = range-take xs s.from t.from t.to l.0 b (omega (arith, in-s.0, in-s.1)) in
-    let r = cut-take xs spans i s l.3 h in
+pub cut-take : (xs : List ℕ) (from : ℕ) (ends : List ℕ) (i : ℕ) → i < length ends → AreLaid (length xs) from ends → cut (take (start_of from ends i) xs) from (take i ends) ≡ take i (cut xs from ends)
+cut-take xs from [] i h l = absurd (omega (arith, h))
+cut-take xs from (t ∷ ends) zero h l = refl
+cut-take xs from (t ∷ ends) (suc i) h l =
+    let first = range-take xs (start_of t ends i) from t l.0 (laid-start (length xs) t ends i l.1) (start-within (length xs) t ends i l.1) in
+    let rest = cut-take xs t ends i (omega (arith, h)) l.1 in
     cc

@@ -1,31 +1,24 @@
 -- Names by number, and the table in which their numbers are found.
 -- The code's own form: no clause of a scope cites it.
-use Rattle.std.specs.Prelude.{◌≡◌, ◌≢◌, ◌⊎◌, ℕ, ◌+◌, ◌-◌, ◌*◌, ◌/◌, ◌%◌, ◌^◌, ◌<◌, ◌≤◌, List, [], ◌∷◌, length, map, Some, get_or, slice_get, slice_range, bit_and}
+use Rattle.std.specs.Prelude.{◌≡◌, ◌≢◌, ◌⊎◌, ℕ, ◌+◌, ◌-◌, ◌*◌, ◌/◌, ◌%◌, ◌^◌, ◌<◌, List, length, Some, get_or, slice_get, bit_and}
 use Rattle.std.specs.Int.{w64, swap_bytes}
 use Rattle.mm_lex.specs.Alphabet.{Name}
 use Rattle.names.specs.Codes.{name_at}
 use Rattle.names.specs.declared.table.Slot.{Slot}
-use Rattle.names.specs.declared.table.TheConstants.{NO_NAME, REACH, FACTOR}
+use Rattle.names.specs.declared.table.TheConstants.{NO_NAME, REACH, FACTOR, HALVES}
 use Rattle.names.specs.declared.keys.TheConstants.{APART}
 use Rattle.names.specs.declared.kept.Kept.{Kept}
 use Rattle.names.specs.declared.overflow.Overflow.{Overflow}
-use Rattle.names.specs.declared.texts.Span.{Span}
 use Rattle.names.specs.Keys.{AreBytes, key_of}
 use Rattle.names.specs.Overflow.{number_of}
 
--- the parts of a buffer
-abbrev pub cut : List ℕ → List Span → List Name
-cut xs spans = map (λ s. slice_range xs s.from s.to) spans
+-- the lower half of a key
+abbrev pub half_of : ℕ → ℕ
+half_of key = key % HALVES
 
--- each begins where that place is, or behind it
-abbrev pub AreBehind : ℕ → List Span → Type 0
-AreBehind n [] = Unit {0}
-AreBehind n (s ∷ spans) = (n ≤ s.from) × AreBehind n spans
-
--- one behind the other, within so many bytes
-abbrev pub AreLaid : ℕ → List Span → Type 0
-AreLaid n [] = Unit {0}
-AreLaid n (s ∷ spans) = (s.from ≤ s.to) × (s.to ≤ n) × AreBehind s.to spans × AreLaid n spans
+-- the slot of a name with this key
+abbrev pub slot_of : ℕ → ℕ → Slot
+slot_of key number = record { half = half_of key; number = number }
 
 -- where the table is looked at first, before that is brought below the table's length
 abbrev pub spread : ℕ → ℕ
@@ -47,18 +40,8 @@ pub record IsHeld (slots : List Slot) (key number : ℕ) : Type 0 where
   pub step : ℕ
   pub within : step < length slots
   pub near : step < REACH
-  pub there : slot_at slots key step (record { key = key; number = number })
+  pub there : slot_at slots key step (slot_of key number)
   pub before : (i : ℕ) → i < step → IsTaken slots key i
-
--- a slot with the key of the name that has its number now
-pub record HasKey (names : List Name) (s : Slot) : Type 0 where
-  pub within : s.number < length names
-  pub bytes : AreBytes (name_at names s.number)
-  pub key : s.key ≡ key_of (name_at names s.number)
-
--- slots with lower numbers have the keys of the names that have these numbers now
-abbrev pub AreSound : List Slot → List Name → ℕ → Type 0
-AreSound slots names sound = (i : ℕ) (s : Slot) → slice_get slots i ≡ Some s → s.number < sound → HasKey names s
 
 abbrev pub AreUnused : List Slot → Type 0
 AreUnused slots = (i : ℕ) (s : Slot) → slice_get slots i ≡ Some s → s.number ≡ NO_NAME
@@ -86,10 +69,9 @@ abbrev pub AreFound : List Slot → Overflow → List Name → Type 0
 AreFound slots a names = (k : ℕ) → k < length names → IsHeld slots (key_of (name_at names k)) k ⊎ (number_of a (name_at names k) ≡ Some k)
 
 -- the table of these names
-pub record IsTable (slots : List Slot) (a : Kept) (names : List Name) (sound : ℕ) : Type 0 where
+pub record IsTable (slots : List Slot) (a : Kept) (names : List Name) : Type 0 where
   pub kept : AreKept a names
   pub held : AreHeld (length names) slots a names
-  pub keys : AreSound slots names sound
 
 -- the first slot without number that is met by a key
 pub record IsFree (slots : List Slot) (key at : ℕ) : Type 0 where
@@ -103,4 +85,4 @@ pub record IsFree (slots : List Slot) (key at : ℕ) : Type 0 where
 
 -- the slot of a step has a number, and not that of the name
 abbrev pub IsPassed : List Slot → List Name → Name → ℕ → ℕ → Type 0
-IsPassed slots names name key step = (s : Slot) → slot_at slots key step s → (s.number ≢ NO_NAME) × (s.key ≡ key → s.number < length names → name_at names s.number ≢ name)
+IsPassed slots names name key step = (s : Slot) → slot_at slots key step s → (s.number ≢ NO_NAME) × (s.half ≡ half_of key → s.number < length names → name_at names s.number ≢ name)

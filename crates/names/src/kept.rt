@@ -1,10 +1,11 @@
 //! The keys of names by number, and the names that stand apart from the table.
-ghost use Rattle.std.specs.Prelude.{◌≡◌, ◌≢◌, ℕ, ◌<◌, ◌≤◌, ◌^◌, length, get_or, slice_set, Some, IfOk, OnOk, OnErr};
+ghost use Rattle.std.specs.Prelude.{◌≡◌, ◌≢◌, ℕ, ◌<◌, ◌≤◌, ◌^◌, length, get_or, slice_set, Some, IfOk, OnOk, OnErr, true};
 ghost use Rattle.mm_lex.specs.Alphabet.{Name};
 ghost use Rattle.names.specs.Codes.{name_at, AreDistinct};
-ghost use Rattle.names.specs.Keys.{AreBytes};
+ghost use Rattle.names.specs.Keys.{AreBytes, key_of};
 ghost use Rattle.names.specs.Overflow.{number_of};
 ghost use Rattle.names.specs.Table.{AreKept};
+ghost use Rattle.names.specs.declared.keys.TheConstants.{APART};
 
 use crate::keys::{APART, key};
 use crate::overflow::Overflow;
@@ -37,6 +38,15 @@ impl Kept {
             kept.push(number, key(texts.get(number)))?;
         }
         Ok(kept)
+    }
+
+    /// Whether the name of a number has this key, and stands in the table.
+    pub(crate) fn has(&self, texts: &Texts, number: u32, key: u64) -> bool
+        requires kept { AreKept self.now texts.now }
+        requires own { key ≢ APART }
+        ensures { result ≡ true → (number < length texts.now) × AreBytes (name_at texts.now number) × (key_of (name_at texts.now number) ≡ key) }
+    {
+        (number as usize) < texts.len() && self.keys[number as usize] == key
     }
 
     /// Notes the key of the name that comes next.

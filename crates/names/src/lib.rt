@@ -1,6 +1,6 @@
-//! Names by number: `Names` is a list of distinct names that gives each of them a code.
+//! Names by number: `NameTable` is a list of distinct names that gives each of them a code.
 //!
-//! The crates above use `Names::find`, `add` and `name`: a name's code is its place in the list, and the name of a code
+//! The crates above use `NameTable::find`, `add` and `name`: a name's code is its place in the list, and the name of a code
 //! is the one that stands there. Read `names`; `texts` keeps the bytes, `table` finds a code by the key of its name, `keys`
 //! makes keys, `kept` has them by code, and `overflow` the names that stand apart from the table.
 #![tactic(auto)]
@@ -12,4 +12,4 @@ mod overflow;
 mod table;
 mod texts;
 
-pub use names::Names;
+pub use names::NameTable;

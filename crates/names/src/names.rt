@@ -5,7 +5,7 @@ ghost use Rattle.names.specs.Codes.{name_at, code_of, AreDistinct};
 
 use crate::kept::Kept;
 use crate::keys::{APART, key};
-use crate::table::{NO_NAME, Slot, free_place, search, table};
+use crate::table::{NO_NAME, Slot, free_place, make_slot, search, table};
 use crate::texts::Texts;
 use std::alloc::{AllocError, Global};
 use std::marker::Model;
@@ -15,18 +15,15 @@ use std::marker::Model;
 /// The bytes of all names stand in one buffer. A table tells a name's code by its key, which for a name
 /// of at most seven bytes no other name has. A name that finds no slot within few steps stands apart, in order.
 #[derive(Drop)]
-pub struct Names {
+pub struct NameTable {
     texts: Texts,
     kept: Kept,
     slots: Vec<Slot>,
     /// How many slots are taken, those of names that are gone with them.
     taken: usize,
-    /// A slot with a code below this one has the key of that code's name. Another may stand there since
-    /// a name was taken away, and its code given to a later one.
-    sound: u32,
 }
 
-impl Model for Names {
+impl Model for NameTable {
     ghost use Rattle.std.specs.Prelude.{ℕ, List, length, ◌<◌, ◌^◌};
     ghost use Rattle.names.specs.Codes.{AreDistinct};
     ghost use Rattle.names.specs.Table.{IsTable};
@@ -35,37 +32,35 @@ impl Model for Names {
 
     ghost view = { λ a. a.texts };
 
-    ghost invariant = { λ a. (length a.texts < 2 ^ 32) × (AreDistinct a.texts × IsTable a.slots.items a.kept a.texts a.sound) };
+    ghost invariant = { λ a. (length a.texts < 2 ^ 32) × (AreDistinct a.texts × IsTable a.slots.items a.kept a.texts) };
 }
 
-impl Names {
+impl NameTable {
     /// No names.
-    pub fn new(alloc: Global) -> Names
+    pub fn new(alloc: Global) -> NameTable
         ensures { result ≡ [] }
     {
-        Names {
+        NameTable {
             texts: Texts::new(alloc),
             kept: Kept::new(alloc),
             slots: Vec::new(alloc),
             taken: 0,
-            sound: NO_NAME,
         }
     }
 
     /// The same names.
-    pub fn copy(&self, alloc: Global) -> Result<Names, AllocError>
+    pub fn copy(&self, alloc: Global) -> Result<NameTable, AllocError>
         ensures { IfOk result (λ names. names ≡ self.now) }
     {
         let texts = self.texts.copy(alloc)?;
         let mut kept = Kept::of(alloc, &texts)?;
         let slots = table(alloc, &texts, &mut kept)?;
         let taken = texts.len();
-        Ok(Names {
+        Ok(NameTable {
             texts,
             kept,
             slots,
             taken,
-            sound: NO_NAME,
         })
     }
 
@@ -81,7 +76,7 @@ impl Names {
         ensures { result ≡ code_of self.now name.now }
     {
         let slots = self.slots.as_slice();
-        search(slots, &self.kept.overflow, &self.texts, self.sound, name)
+        search(slots, &self.kept, &self.texts, name)
     }
 
     /// The name of a code.
@@ -125,10 +120,7 @@ impl Names {
             Some(at) => {
                 self.kept.push(code, key)?;
                 self.texts.push(name)?;
-                self.slots[at] = Slot {
-                    key,
-                    number: code as u32,
-                };
+                self.slots[at] = make_slot(key, code as u32);
                 self.taken = self.taken.saturating_add(1);
             }
             None => {
@@ -147,7 +139,6 @@ impl Names {
         if self.taken >= self.slots.len() / 4 * 3 {
             self.slots = table(alloc, &self.texts, &mut self.kept)?;
             self.taken = self.texts.len();
-            self.sound = NO_NAME;
         }
         Ok(())
     }
@@ -160,7 +151,6 @@ impl Names {
             return;
         }
         self.kept.truncate(&self.texts, len);
-        self.sound = len.min(self.sound as usize) as u32;
         self.texts.truncate(len);
     }
 

@@ -3,8 +3,9 @@ ghost use Rattle.std.specs.Prelude.{◌≡◌, ◌≢◌, ◌+◌, ◌⊎◌, �
 ghost use Rattle.names.specs.Codes.{name_at, code_of, AreDistinct};
 ghost use Rattle.names.specs.Keys.{key_of};
 ghost use Rattle.names.specs.Overflow.{number_of};
-ghost use Rattle.names.specs.Table.{place_of, slot_at, HasKey, AreSound, AreFound, AreKept, AreFewer, AreHeld, AreUnused, IsFree};
-ghost use Rattle.names.specs.declared.table.TheConstants.{NO_NAME, REACH};
+ghost use Rattle.names.specs.Table.{half_of, slot_of, place_of, slot_at, AreFound, AreKept, AreFewer, AreHeld, AreUnused, IsFree};
+ghost use Rattle.names.specs.declared.keys.TheConstants.{APART};
+ghost use Rattle.names.specs.declared.table.TheConstants.{REACH};
 
 use crate::kept::Kept;
 use crate::keys::{APART, LONG, key};
@@ -24,11 +25,31 @@ const FIRST_SLOTS: usize = 16;
 /// An odd number whose bits are spread evenly: 2^64 by the golden ratio.
 const FACTOR: u64 = 0x9e37_79b9_7f4a_7c15;
 
-/// The key and the number of a name, or `NO_NAME`.
+/// So many numbers fit into half a key.
+const HALVES: u64 = 0x1_0000_0000;
+
+/// Half of the key of a name, and the number of the name, or `NO_NAME`. The whole key is kept by the number.
 #[derive(Clone, Copy, Drop)]
 pub struct Slot {
-    pub key: u64,
+    pub half: u32,
     pub number: u32,
+}
+
+/// The lower half of a key.
+fn half(key: u64) -> u32
+    ensures { result ≡ half_of key }
+{
+    (key % HALVES) as u32
+}
+
+/// The slot of a name with this key.
+pub(crate) fn make_slot(key: u64, number: u32) -> Slot
+    ensures { result ≡ slot_of key number }
+{
+    Slot {
+        half: half(key),
+        number,
+    }
 }
 
 /// Where to look in a step: first by the highest bytes of the product, which all bits of the key reach, and then
@@ -62,59 +83,48 @@ fn look(slots: &[Slot], key: u64, step: usize) -> Slot
 }
 
 /// The number of a name that has one. Most short names stand in the first slot, and no text is read.
-pub(crate) fn search(
-    slots: &[Slot],
-    overflow: &Overflow,
-    texts: &Texts,
-    sound: u32,
-    name: &[u8],
-) -> Option<usize>
-    requires found { AreFound slots.now overflow.now texts.now }
-    requires sound { AreSound slots.now texts.now sound }
+pub(crate) fn search(slots: &[Slot], kept: &Kept, texts: &Texts, name: &[u8]) -> Option<usize>
+    requires found { AreFound slots.now kept.now.overflow texts.now }
+    requires kept { AreKept kept.now texts.now }
     requires distinct { AreDistinct texts.now }
     requires few { length texts.now < 2 ^ 32 }
     ensures { result ≡ code_of texts.now name.now }
 {
     if slots.is_empty() || name.is_empty() || name.len() >= LONG {
-        return search_on(slots, overflow, texts, sound, name);
+        return search_on(slots, kept, texts, name);
     }
     let key = key(name);
     let slot = look(slots, key, 0);
-    if slot.key == key && slot.number < sound {
+    if slot.half == half(key) && kept.has(texts, slot.number, key) {
         return Some(slot.number as usize);
     }
-    if slot.number == NO_NAME && overflow.is_empty() {
+    if slot.number == NO_NAME && kept.overflow.is_empty() {
         return None;
     }
-    search_on(slots, overflow, texts, sound, name)
+    search_on(slots, kept, texts, name)
 }
 
 /// The same for all names, slot by slot.
 #[inline(never)]
-fn search_on(
-    slots: &[Slot],
-    overflow: &Overflow,
-    texts: &Texts,
-    sound: u32,
-    name: &[u8],
-) -> Option<usize>
-    requires found { AreFound slots.now overflow.now texts.now }
-    requires sound { AreSound slots.now texts.now sound }
+fn search_on(slots: &[Slot], kept: &Kept, texts: &Texts, name: &[u8]) -> Option<usize>
+    requires found { AreFound slots.now kept.now.overflow texts.now }
+    requires kept { AreKept kept.now texts.now }
     requires distinct { AreDistinct texts.now }
     requires few { length texts.now < 2 ^ 32 }
     ensures { result ≡ code_of texts.now name.now }
 {
     let key = key(name);
+    let half = half(key);
     for step in 0..steps(slots.len()) {
         let slot = look(slots, key, step);
         if slot.number == NO_NAME {
-            return search_apart(overflow, texts, name);
+            return search_apart(&kept.overflow, texts, name);
         }
-        if slot.key == key && is_name(texts, sound, slot, name) {
+        if slot.half == half && is_name(kept, texts, slot.number, key, name) {
             return Some(slot.number as usize);
         }
     }
-    search_apart(overflow, texts, name)
+    search_apart(&kept.overflow, texts, name)
 }
 
 /// The number of a name that stands apart.
@@ -129,17 +139,18 @@ fn search_apart(overflow: &Overflow, texts: &Texts, name: &[u8]) -> Option<usize
     }
 }
 
-/// Whether a slot with the name's key has its number. A short name's key tells, where the slot is sound.
-fn is_name(texts: &Texts, sound: u32, slot: Slot, name: &[u8]) -> bool
-    requires sound { slot.number < sound → HasKey texts.now slot }
-    requires key { slot.key ≡ key_of name.now }
-    ensures yes { result ≡ true → (slot.number < length texts.now) × (name_at texts.now slot.number ≡ name.now) }
-    ensures no { result ≡ false → slot.number < length texts.now → name_at texts.now slot.number ≡ name.now → ⊥ }
+/// Whether a number is that of the name with this key. The key of a short name tells that it is.
+fn is_name(kept: &Kept, texts: &Texts, number: u32, key: u64, name: &[u8]) -> bool
+    requires kept { AreKept kept.now texts.now }
+    requires key { key ≡ key_of name.now }
+    requires own { key ≢ APART }
+    ensures yes { result ≡ true → (number < length texts.now) × (name_at texts.now number ≡ name.now) }
+    ensures no { result ≡ false → number < length texts.now → name_at texts.now number ≡ name.now → ⊥ }
 {
-    if name.len() < LONG && slot.number < sound {
+    if name.len() < LONG && kept.has(texts, number, key) {
         return true;
     }
-    is_text(texts, slot.number, name)
+    is_text(texts, number, name)
 }
 
 /// Whether the text of a number is the name.
@@ -170,7 +181,6 @@ pub(crate) fn table(alloc: Global, texts: &Texts, kept: &mut Kept) -> Result<Vec
     ensures kept { AreKept kept.new texts.now }
     ensures fewer { AreFewer kept.old kept.new }
     ensures held { IfOk result (λ slots. AreHeld (length texts.now) slots.items kept.new texts.now) }
-    ensures sound { IfOk result (λ slots. AreSound slots.items texts.now NO_NAME) }
 {
     let mut slots = free_slots(alloc, slots_for(texts.len()))?;
     for number in 0..texts.len() {
@@ -192,11 +202,9 @@ fn settle(
     requires distinct { AreDistinct texts.now }
     requires kept { AreKept kept.old texts.now }
     requires held { AreHeld number slots.old.items kept.old texts.now }
-    requires sound { AreSound slots.old.items texts.now NO_NAME }
     ensures kept { AreKept kept.new texts.now }
     ensures fewer { AreFewer kept.old kept.new }
     ensures held { OnOk result (AreHeld (number + 1) slots.new.items kept.new texts.now) }
-    ensures sound { OnOk result (AreSound slots.new.items texts.now NO_NAME) }
 {
     let key = kept.keys[number];
     if key == APART {
@@ -204,10 +212,7 @@ fn settle(
     }
     match free_place(slots.as_slice(), key) {
         Some(at) => {
-            slots[at] = Slot {
-                key,
-                number: number as u32,
-            };
+            slots[at] = make_slot(key, number as u32);
             Ok(())
         }
         None => kept.set_apart(alloc, number, texts.get(number)),
@@ -218,10 +223,7 @@ fn settle(
 fn free_slots(alloc: Global, count: usize) -> Result<Vec<Slot>, AllocError>
     ensures { IfOk result (λ slots. AreUnused slots.items) }
 {
-    let free = Slot {
-        key: 0,
-        number: NO_NAME,
-    };
+    let free = make_slot(0, NO_NAME);
     let mut slots = Vec::new(alloc);
     slots.resize(count, free)?;
     Ok(slots)

@@ -1,34 +1,27 @@
 //! Texts by number, one behind the other in one buffer.
-ghost use Rattle.std.specs.Prelude.{◌≡◌, ◌+◌, ◌<◌, [], ◌∷◌, ◌++◌, take, length, slice_get, Some, IfOk, OnOk, OnErr};
+ghost use Rattle.std.specs.Prelude.{◌≡◌, ◌+◌, ◌<◌, ◌≤◌, [], ◌∷◌, ◌++◌, take, length, slice_get, Some, IfOk, OnOk, OnErr};
 ghost use Rattle.names.specs.Codes.{name_at};
-ghost use Rattle.names.specs.Table.{cut, AreLaid};
+ghost use Rattle.names.specs.Texts.{cut, start_of, AreLaid};
 
 use std::alloc::{AllocError, Global};
 use std::marker::Model;
 
-/// The bytes of a text: from the one place up to the other.
-#[derive(Clone, Copy, Drop)]
-pub struct Span {
-    pub from: usize,
-    pub to: usize,
-}
-
-/// Texts by number, from 0.
+/// Texts by number, from 0. Each begins where the one before it ends.
 #[derive(Drop)]
 pub struct Texts {
     bytes: Vec<u8>,
-    spans: Vec<Span>,
+    ends: Vec<usize>,
 }
 
 impl Model for Texts {
     ghost use Rattle.std.specs.Prelude.{ℕ, List, length};
-    ghost use Rattle.names.specs.Table.{cut, AreLaid};
+    ghost use Rattle.names.specs.Texts.{cut, AreLaid};
 
     ghost Value = { List (List ℕ) };
 
-    ghost view = { λ a. cut a.bytes.items a.spans.items };
+    ghost view = { λ a. cut a.bytes.items 0 a.ends.items };
 
-    ghost invariant = { λ a. AreLaid (length a.bytes.items) a.spans.items };
+    ghost invariant = { λ a. AreLaid (length a.bytes.items) 0 a.ends.items };
 }
 
 impl Texts {
@@ -38,7 +31,7 @@ impl Texts {
     {
         Texts {
             bytes: Vec::new(alloc),
-            spans: Vec::new(alloc),
+            ends: Vec::new(alloc),
         }
     }
 
@@ -47,15 +40,15 @@ impl Texts {
         ensures { IfOk result (λ texts. texts ≡ self.now) }
     {
         let bytes = Vec::from_slice(alloc, self.bytes.as_slice())?;
-        let spans = Vec::from_slice(alloc, self.spans.as_slice())?;
-        Ok(Texts { bytes, spans })
+        let ends = Vec::from_slice(alloc, self.ends.as_slice())?;
+        Ok(Texts { bytes, ends })
     }
 
     /// How many there are.
     pub(crate) fn len(&self) -> usize
         ensures { result ≡ length self.now }
     {
-        self.spans.len()
+        self.ends.len()
     }
 
     /// The text of a number.
@@ -63,7 +56,7 @@ impl Texts {
         requires { number < length self.now }
         ensures { result.now ≡ name_at self.now number }
     {
-        part(self.bytes.as_slice(), self.spans.as_slice(), number)
+        part(self.bytes.as_slice(), self.ends.as_slice(), number)
     }
 
     /// Gives the next number to a text.
@@ -74,7 +67,7 @@ impl Texts {
         let from = self.bytes.as_slice().len();
         self.bytes.extend_from_slice(text)?;
         let to = self.bytes.as_slice().len();
-        let pushed = self.spans.push(Span { from, to });
+        let pushed = self.ends.push(to);
         if pushed.is_err() {
             self.bytes.truncate(from);
             return Err(AllocError);
@@ -86,22 +79,35 @@ impl Texts {
     pub(crate) fn truncate(&mut self, len: usize)
         ensures { self.new ≡ take len self.old }
     {
-        if len < self.spans.len() {
-            let span = item(self.spans.as_slice(), len);
-            self.bytes.truncate(span.from);
-            self.spans.truncate(len);
+        if len < self.ends.len() {
+            let from = start(self.ends.as_slice(), len);
+            self.bytes.truncate(from);
+            self.ends.truncate(len);
         }
     }
 }
 
 /// The text of a number.
-fn part<'a>(bytes: &'a [u8], spans: &[Span], number: usize) -> &'a [u8]
-    requires number { number < length spans.now }
-    requires laid { AreLaid (length bytes.now) spans.now }
-    ensures { result.now ≡ name_at (cut bytes.now spans.now) number }
+fn part<'a>(bytes: &'a [u8], ends: &[usize], number: usize) -> &'a [u8]
+    requires number { number < length ends.now }
+    requires laid { AreLaid (length bytes.now) 0 ends.now }
+    ensures { result.now ≡ name_at (cut bytes.now 0 ends.now) number }
 {
-    let span = item(spans, number);
-    &bytes[span.from..span.to]
+    let from = start(ends, number);
+    let to = item(ends, number);
+    &bytes[from..to]
+}
+
+/// Where the text of a number begins.
+fn start(ends: &[usize], number: usize) -> usize
+    requires { number ≤ length ends.now }
+    ensures { result ≡ start_of 0 ends.now number }
+{
+    if number == 0 {
+        0
+    } else {
+        item(ends, number - 1)
+    }
 }
 
 /// The item at an index.

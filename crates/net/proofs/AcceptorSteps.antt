@@ -5,7 +5,7 @@ use Rattle.slots.specs.FiniteMap.{entry_at, put_at}
 use Rattle.slots.proofs.Lists.{In}
 use Rattle.slots.proofs.MapReads.{put_either, put_same}
 use Rattle.synod.specs.declared.ballot.Ballot.{Ballot}
-use Rattle.synod.specs.declared.packet.Report.{Report}
+use Rattle.synod.specs.declared.packet.SlotReport.{SlotReport}
 use Rattle.synod.specs.declared.packet.Body.TheVariants.{Accepted}
 use Rattle.synod.specs.declared.change.Held.{Held}
 use Rattle.synod.specs.Ballots.{is_under}
@@ -22,8 +22,8 @@ use Rattle.net.proofs.Invariant.{IsHeldFrom, NodeHolds, IsTrue, proposer_lasts, 
 use Rattle.net.proofs.StepsContinue.{Continues, same_ledger, true_to_all}
 
 -- each page is a page of the promise
-true_pages : {V : Type 0} (ws : List ℕ) (l : Ledger V) (p : Promised V) (to : ℕ) → In p l.promises → (i : ℕ) (pages : List (List (Report V)))
-    → ((d : ℕ) (page : List (Report V)) → slice_get pages d ≡ Some page → slice_get (pages_of p.reports) (i + d) ≡ Some page)
+true_pages : {V : Type 0} (ws : List ℕ) (l : Ledger V) (p : Promised V) (to : ℕ) → In p l.promises → (i : ℕ) (pages : List (List (SlotReport V)))
+    → ((d : ℕ) (page : List (SlotReport V)) → slice_get pages d ≡ Some page → slice_get (pages_of p.reports) (i + d) ≡ Some page)
     → AllByRecursion (IsTrue ws l) (promise_pages p.node to p.ballot (length (pages_of p.reports)) (suc i) pages)
 true_pages ws l p to is_in i [] each = tt
 true_pages {V} ws l p to is_in i (page ∷ pages) each = (
@@ -58,7 +58,7 @@ module _ {V : Type 0} {offers : List V} {l : Ledger V} (n : Node V) (sound : IsS
         record { report = r.report; is_in = r.is_in; slot = r.slot; upto = subst (λ (c : Ballot). Upto x.ballot c) (sym r.ballot) kept.upto }
 
     -- what is reported was voted
-    backs_all : (r : Report V) → In r made.reports → IsBacked l made r
+    backs_all : (r : SlotReport V) → In r made.reports → IsBacked l made r
     backs_all r i =
         let from = reports-held first 0 n.accepted r i in
         let voted = holds.acceptor.held from.index from.entry from.is_held in

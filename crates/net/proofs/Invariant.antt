@@ -5,7 +5,7 @@ use Rattle.std.specs.List.{AllByRecursion}
 use Rattle.slots.specs.FiniteMap.{entry_at}
 use Rattle.slots.proofs.Lists.{In}
 use Rattle.synod.specs.declared.ballot.Ballot.{Ballot}
-use Rattle.synod.specs.declared.packet.Report.{Report}
+use Rattle.synod.specs.declared.packet.SlotReport.{SlotReport}
 use Rattle.synod.specs.declared.packet.Packet.{Packet}
 use Rattle.synod.specs.declared.packet.Body.{Body}
 use Rattle.synod.specs.declared.packet.Body.TheVariants.{Prepare, Promise, Accept, Accepted, Nack, Ask, Told}
@@ -41,7 +41,7 @@ pub record AcceptorHolds {V : Type 0} (promises : List (Promised V)) (votes : Li
 -- The proposer: preparing, it had true pages and proposed nothing yet; leading, it may propose anything from its next slot on.
 
 -- the page is the one of that index, from 0, of node k's promise
-pub record IsPage {V : Type 0} (l : Ledger V) (k : ℕ) (b : Ballot) (index : ℕ) (page : List (Report V)) : Type 0 where
+pub record IsPage {V : Type 0} (l : Ledger V) (k : ℕ) (b : Ballot) (index : ℕ) (page : List (SlotReport V)) : Type 0 where
   pub promise : Promised V
   pub is_in : In promise l.promises
   pub node : promise.node ≡ k
@@ -49,18 +49,18 @@ pub record IsPage {V : Type 0} (l : Ledger V) (k : ℕ) (b : Ballot) (index : �
   pub place : slice_get (pages_of promise.reports) index ≡ Some page
 
 -- what was heard of the node is all that its promise reports
-pub record IsHeard {V : Type 0} (l : Ledger V) (b : Ballot) (k : ℕ) (reports : List (Report V)) : Type 0 where
+pub record IsHeard {V : Type 0} (l : Ledger V) (b : Ballot) (k : ℕ) (reports : List (SlotReport V)) : Type 0 where
   pub promise : Promised V
   pub is_in : In promise l.promises
   pub node : promise.node ≡ k
   pub ballot : promise.ballot ≡ b
   pub all : promise.reports ≡ reports
 
-pub record IsPreparing {V : Type 0} (l : Ledger V) (k : ℕ) (b : Ballot) (first : ℕ) (pages : List (List (Option (List (Report V))))) (heard : List Heard) : Type 0 where
+pub record IsPreparing {V : Type 0} (l : Ledger V) (k : ℕ) (b : Ballot) (first : ℕ) (pages : List (List (Option (List (SlotReport V))))) (heard : List Heard) : Type 0 where
   pub mine : b.node ≡ k
   pub begun : In (begun_as b first) l.begun
   pub fresh : (p : Proposal V) → In p l.proposals → p.ballot ≡ b → ⊥
-  pub each_page : (j i : ℕ) (page : List (Report V)) → page_of pages j i ≡ Some page → IsPage l j b i page
+  pub each_page : (j i : ℕ) (page : List (SlotReport V)) → page_of pages j i ≡ Some page → IsPage l j b i page
   pub each_heard : AllByRecursion (λ h. IsHeard l b h.node (joined_pages (pages_from pages h.node) h.count)) heard
 
 pub record IsLeading {V : Type 0} (ws : List ℕ) (l : Ledger V) (k : ℕ) (b : Ballot) (next : ℕ) : Type 0 where
@@ -69,12 +69,12 @@ pub record IsLeading {V : Type 0} (ws : List ℕ) (l : Ledger V) (k : ℕ) (b : 
   pub below : AllProposedBelow l b next
   pub free : (s : ℕ) → next ≤ s → IsFree ws l b s
 
-abbrev pub RoleHolds : {V : Type 0} → List ℕ → Ledger V → ℕ → Role → List (List (Option (List (Report V)))) → List Heard → Type 0
+abbrev pub RoleHolds : {V : Type 0} → List ℕ → Ledger V → ℕ → Role → List (List (Option (List (SlotReport V)))) → List Heard → Type 0
 RoleHolds ws l k Idle pages heard = Unit {0}
 RoleHolds ws l k (Preparing b first) pages heard = IsPreparing l k b first pages heard
 RoleHolds ws l k (Leading b next) pages heard = IsLeading ws l k b next
 
-pub record ProposerHolds {V : Type 0} (ws : List ℕ) (offers : List V) (l : Ledger V) (k round : ℕ) (role : Role) (pages : List (List (Option (List (Report V))))) (heard : List Heard) (waiting : List V) : Type 0 where
+pub record ProposerHolds {V : Type 0} (ws : List ℕ) (offers : List V) (l : Ledger V) (k round : ℕ) (role : Role) (pages : List (List (Option (List (SlotReport V))))) (heard : List Heard) (waiting : List V) : Type 0 where
   pub begun : (x : Begun) → In x l.begun → x.ballot.node ≡ k → x.ballot.round ≤ round
   pub as_role : RoleHolds ws l k role pages heard
   pub offered : AllByRecursion (λ v. In v offers) waiting
@@ -99,7 +99,7 @@ pub record NodeHolds {V : Type 0} (ws : List ℕ) (offers : List V) (l : Ledger 
   pub learner : LearnerHolds ws l.votes n.tallies n.learned
 
 -- a packet of a promise, numbered from 1
-pub record IsPagePacket {V : Type 0} (l : Ledger V) (k : ℕ) (b : Ballot) (number count : ℕ) (page : List (Report V)) : Type 0 where
+pub record IsPagePacket {V : Type 0} (l : Ledger V) (k : ℕ) (b : Ballot) (number count : ℕ) (page : List (SlotReport V)) : Type 0 where
   pub promise : Promised V
   pub is_in : In promise l.promises
   pub node : promise.node ≡ k
@@ -141,14 +141,14 @@ not_new (inl old) e other = old
 not_new (inr d) e other = absurd (other (sym e ∙ d))
 
 module _ {V : Type 0} {k : ℕ} {l m : Ledger V} (g : Grows k l m) where
-  page_lasts : (j : ℕ) (b : Ballot) (i : ℕ) (page : List (Report V)) → IsPage l j b i page → IsPage m j b i page
+  page_lasts : (j : ℕ) (b : Ballot) (i : ℕ) (page : List (SlotReport V)) → IsPage l j b i page → IsPage m j b i page
   page_lasts j b i page h = record { promise = h.promise; is_in = g.promises.old _ h.is_in; node = h.node; ballot = h.ballot; place = h.place }
 
-  heard_lasts : (b : Ballot) (j : ℕ) (reports : List (Report V)) → IsHeard l b j reports → IsHeard m b j reports
+  heard_lasts : (b : Ballot) (j : ℕ) (reports : List (SlotReport V)) → IsHeard l b j reports → IsHeard m b j reports
   heard_lasts b j reports h = record { promise = h.promise; is_in = g.promises.old _ h.is_in; node = h.node; ballot = h.ballot; all = h.all }
 
   -- a role lasts where its ballot has no new proposals
-  role_lasts : (ws : List ℕ) (j : ℕ) (role : Role) (pages : List (List (Option (List (Report V))))) (heard : List Heard)
+  role_lasts : (ws : List ℕ) (j : ℕ) (role : Role) (pages : List (List (Option (List (SlotReport V))))) (heard : List Heard)
       → ((p : Proposal V) → In p m.proposals → p.ballot.node ≡ j → In p l.proposals) → RoleHolds ws l j role pages heard → RoleHolds ws m j role pages heard
   role_lasts ws j Idle pages heard old h = tt
   role_lasts ws j (Preparing b first) pages heard old h = record {
@@ -165,7 +165,7 @@ module _ {V : Type 0} {k : ℕ} {l m : Ledger V} (g : Grows k l m) where
     free = λ s le. free_lasts g (h.free s le);
   }
 
-  pub proposer_lasts : (ws : List ℕ) (offers : List V) (j round : ℕ) (role : Role) (pages : List (List (Option (List (Report V))))) (heard : List Heard) (waiting : List V)
+  pub proposer_lasts : (ws : List ℕ) (offers : List V) (j round : ℕ) (role : Role) (pages : List (List (Option (List (SlotReport V))))) (heard : List Heard) (waiting : List V)
       → ((x : Begun) → In x m.begun → x.ballot.node ≡ j → In x l.begun) → ((p : Proposal V) → In p m.proposals → p.ballot.node ≡ j → In p l.proposals)
       → ProposerHolds ws offers l j round role pages heard waiting → ProposerHolds ws offers m j round role pages heard waiting
   proposer_lasts ws offers j round role pages heard waiting old_begun old_proposed h = record {

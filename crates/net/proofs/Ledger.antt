@@ -3,7 +3,7 @@
 use Rattle.std.proofs.Common.{◌≡◌, ℕ, Bool, true, List, [], ◌∷◌, Option, Some, None, ◌⊎◌, inl, ◌≤◌}
 use Rattle.slots.proofs.Lists.{In}
 use Rattle.synod.specs.declared.ballot.Ballot.{Ballot}
-use Rattle.synod.specs.declared.packet.Report.{Report}
+use Rattle.synod.specs.declared.packet.SlotReport.{SlotReport}
 use Rattle.synod.specs.Weights.{is_quorum}
 use Rattle.synod.proofs.BallotsLemmas.{Under, Upto}
 use Rattle.net.specs.Chosen.{Vote, vote}
@@ -22,7 +22,7 @@ pub record Promised (V : Type 0) : Type 0 where
   pub node : ℕ
   pub ballot : Ballot
   pub first : ℕ
-  pub reports : List (Report V)
+  pub reports : List (SlotReport V)
 
 pub record Proposal (V : Type 0) : Type 0 where
   pub ballot : Ballot
@@ -82,14 +82,14 @@ AllGrounded ws l (p ∷ older) = IsGrounded ws l older p.ballot p.slot p.value �
 -- What a promise tells.
 
 -- one of the reports is of the vote's slot, under a ballot not below the vote's
-pub record HasHigher {V : Type 0} (reports : List (Report V)) (x : Vote V) : Type 0 where
-  pub report : Report V
+pub record HasHigher {V : Type 0} (reports : List (SlotReport V)) (x : Vote V) : Type 0 where
+  pub report : SlotReport V
   pub is_in : In report reports
   pub slot : report.slot ≡ x.slot
   pub upto : Upto x.ballot report.ballot
 
 -- the report is of a vote of the node that promises, below its ballot
-pub record IsBacked {V : Type 0} (l : Ledger V) (p : Promised V) (r : Report V) : Type 0 where
+pub record IsBacked {V : Type 0} (l : Ledger V) (p : Promised V) (r : SlotReport V) : Type 0 where
   pub first : p.first ≤ r.slot
   pub under : Under r.ballot p.ballot
   pub voted : In (vote p.node r.ballot r.slot r.value) l.votes
@@ -98,7 +98,7 @@ pub record IsBacked {V : Type 0} (l : Ledger V) (p : Promised V) (r : Report V) 
 pub record IsTruthful {V : Type 0} (l : Ledger V) (p : Promised V) : Type 0 where
   pub begun : In (begun_as p.ballot p.first) l.begun
   pub reported : (x : Vote V) → In x l.votes → x.node ≡ p.node → p.first ≤ x.slot → Under x.ballot p.ballot → HasHigher p.reports x
-  pub backed : (r : Report V) → In r p.reports → IsBacked l p r
+  pub backed : (r : SlotReport V) → In r p.reports → IsBacked l p r
 
 -- What always holds of the ledger.
 

@@ -6,7 +6,7 @@ use Rattle.slots.specs.declared.slots.TheConstants.{SLOTS}
 use Rattle.slots.specs.FiniteMap.{entry_at, put_at, entries_to_gap}
 use Rattle.synod.specs.declared.ballot.Ballot.{Ballot}
 use Rattle.synod.specs.declared.packet.Packet.{Packet}
-use Rattle.synod.specs.declared.packet.Report.{Report}
+use Rattle.synod.specs.declared.packet.SlotReport.{SlotReport}
 use Rattle.synod.specs.declared.packet.Body.{Body}
 use Rattle.synod.specs.declared.packet.Body.TheVariants.{Prepare, Promise, Accept, Accepted, Nack, Ask, Told}
 use Rattle.synod.specs.declared.proposer.TheConstants.{MOST_WAITING}
@@ -84,14 +84,14 @@ module _ {V : Type 0} (n : Node V) where
   abbrev heard_with : ℕ → ℕ → List Heard
   heard_with p count = n.heard ++ record { node = p; count = count } ∷ []
 
-  hears_grows : (b : Ballot) (first : ℕ) (pages : List (List (Option (List (Report V))))) (heard : List Heard) → LogGrows n (hears n b first pages heard)
+  hears_grows : (b : Ballot) (first : ℕ) (pages : List (List (Option (List (SlotReport V))))) (heard : List Heard) → LogGrows n (hears n b first pages heard)
   hears_grows b first pages heard = either n (leads n b first (all_reports pages heard) (top_reported first (all_reports pages heard))) (keeps_promise n pages heard) (is_quorum n.weights (is_heard heard)) same same
 
-  gathers_grows : (p : ℕ) (b : Ballot) (first count : ℕ) (pages : List (List (Option (List (Report V))))) → LogGrows n (gathers n p b first count pages)
+  gathers_grows : (p : ℕ) (b : Ballot) (first count : ℕ) (pages : List (List (Option (List (SlotReport V))))) → LogGrows n (gathers n p b first count pages)
   gathers_grows p b first count pages = either n (hears n b first pages (heard_with p count)) (keeps_page n pages) (all_had (pages_from pages p) count)
       (hears_grows b first pages (heard_with p count)) same
 
-  promise_grows : (role : Role) (p : ℕ) (b : Ballot) (page count : ℕ) (reports : List (Report V)) → LogGrows n (on_promise_as role n p b page count reports)
+  promise_grows : (role : Role) (p : ℕ) (b : Ballot) (page count : ℕ) (reports : List (SlotReport V)) → LogGrows n (on_promise_as role n p b page count reports)
   promise_grows Idle p b page count reports = same
   promise_grows (Leading c next) p b page count reports = same
   promise_grows (Preparing c first) p b page count reports = either n (gathers n p c first count (with_page n.pages p (page - 1) reports)) (unchanged n) (is_same b c && not (is_heard n.heard p))

@@ -8,7 +8,7 @@ use Rattle.slots.specs.declared.slots.TheConstants.{SLOTS}
 use Rattle.slots.specs.FiniteMap.{entry_at, front_of}
 use Rattle.slots.proofs.Lists.{In}
 use Rattle.synod.specs.declared.ballot.Ballot.{Ballot}
-use Rattle.synod.specs.declared.packet.Report.{Report}
+use Rattle.synod.specs.declared.packet.SlotReport.{SlotReport}
 use Rattle.synod.specs.declared.proposer.Heard.{Heard}
 use Rattle.synod.specs.declared.proposer.Role.{Role}
 use Rattle.synod.specs.declared.proposer.Role.TheVariants.{Idle, Preparing, Leading}
@@ -45,7 +45,7 @@ all_offered : {V : Type 0} (offers vs : List V) → AllByRecursion (λ v. In v o
 all_offered offers [] h = tt
 all_offered offers (v ∷ vs) h = (h.0, all_offered offers vs h.1)
 
-length-fills : {V : Type 0} (reports : List (Report V)) (s count : ℕ) → length (fills reports s count) ≡ count
+length-fills : {V : Type 0} (reports : List (SlotReport V)) (s count : ℕ) → length (fills reports s count) ≡ count
 length-fills reports s zero = refl
 length-fills reports s (suc count) = ap suc (length-fills reports (suc s) count)
 
@@ -55,11 +55,11 @@ module _ {V : Type 0} {offers : List V} {l : Ledger V} (n : Node V) (sound : IsS
 
   -- A quorum is heard: first the reported slots are filled, and then what waits takes slots.
 
-  leads_continues : (b : Ballot) (first : ℕ) (pages : List (List (Option (List (Report V))))) (heard : List Heard) → IsPreparing l n.me b first pages heard → is_quorum n.weights (is_heard heard) ≡ true
+  leads_continues : (b : Ballot) (first : ℕ) (pages : List (List (Option (List (SlotReport V))))) (heard : List Heard) → IsPreparing l n.me b first pages heard → is_quorum n.weights (is_heard heard) ≡ true
       → Goes (leads n b first (all_reports pages heard) (top_reported first (all_reports pages heard)))
   leads_continues b first pages heard preparing quorum =
       let h : IsQuorumHeard n.weights offers l b first pages heard = record { sound = sound; begun = preparing.begun; each = preparing.each_heard; quorum = quorum } in
-      let reports : List (Report V) = all_reports pages heard in
+      let reports : List (SlotReport V) = all_reports pages heard in
       let top : ℕ = top_reported first reports in
       let first_top : first ≤ top = first_to_top first reports (reported_from n.weights offers l b first pages heard h) in
       let filled : List (Option V) = fills reports first (top - first) in
@@ -97,7 +97,7 @@ module _ {V : Type 0} {offers : List V} {l : Ledger V} (n : Node V) (sound : IsS
 
   -- A node that goes on preparing.
 
-  prepares_on : (b : Ballot) (first : ℕ) (pages : List (List (Option (List (Report V))))) (heard : List Heard) → n.role ≡ Preparing b first → IsPreparing l n.me b first pages heard
+  prepares_on : (b : Ballot) (first : ℕ) (pages : List (List (Option (List (SlotReport V))))) (heard : List Heard) → n.role ≡ Preparing b first → IsPreparing l n.me b first pages heard
       → NodeHolds n.weights offers l n.me (record n { pages = pages; heard = heard })
   prepares_on b first pages heard role preparing = record {
     me = holds.me;
@@ -111,7 +111,7 @@ module _ {V : Type 0} {offers : List V} {l : Ledger V} (n : Node V) (sound : IsS
     };
   }
 
-  hears_either : (b : Ballot) (first : ℕ) (pages : List (List (Option (List (Report V))))) (heard : List Heard) → n.role ≡ Preparing b first → IsPreparing l n.me b first pages heard
+  hears_either : (b : Ballot) (first : ℕ) (pages : List (List (Option (List (SlotReport V))))) (heard : List Heard) → n.role ≡ Preparing b first → IsPreparing l n.me b first pages heard
       → (t : Bool) → is_quorum n.weights (is_heard heard) ≡ t
       → Goes (if t then leads n b first (all_reports pages heard) (top_reported first (all_reports pages heard)) else keeps_promise n pages heard)
   hears_either b first pages heard role preparing true quorum = leads_continues b first pages heard preparing quorum
@@ -119,12 +119,12 @@ module _ {V : Type 0} {offers : List V} {l : Ledger V} (n : Node V) (sound : IsS
 
   -- A page comes of a node p that is not heard.
 
-  module _ (p : ℕ) (b : Ballot) (number count : ℕ) (reports : List (Report V)) (packet : IsPagePacket l p b number count reports) (first : ℕ) (role : n.role ≡ Preparing b first)
+  module _ (p : ℕ) (b : Ballot) (number count : ℕ) (reports : List (SlotReport V)) (packet : IsPagePacket l p b number count reports) (first : ℕ) (role : n.role ≡ Preparing b first)
       (preparing : IsPreparing l n.me b first n.pages n.heard) (unheard : is_heard n.heard p ≡ false) where
-    abbrev had : List (List (Option (List (Report V))))
+    abbrev had : List (List (Option (List (SlotReport V))))
     had = with_page n.pages p (number - 1) reports
 
-    true_page : (j i : ℕ) (page : List (Report V)) → page_of had j i ≡ Some page → IsPage l j b i page
+    true_page : (j i : ℕ) (page : List (SlotReport V)) → page_of had j i ≡ Some page → IsPage l j b i page
     true_page j i page e = elim (page_either n.pages p (number - 1) reports j i page e) [
       | inl old ↦ preparing.each_page j i page old
       | inr new ↦ let index : packet.index ≡ i = omega (arith, packet.is_number, new.1) in
@@ -133,7 +133,7 @@ module _ {V : Type 0} {offers : List V} {l : Ledger V} (n : Node V) (sound : IsS
             is_in = packet.is_in;
             node = packet.node ∙ sym new.0;
             ballot = packet.ballot;
-            place = subst (λ (page : List (Report V)). slice_get (pages_of packet.promise.reports) i ≡ Some page) new.2
+            place = subst (λ (page : List (SlotReport V)). slice_get (pages_of packet.promise.reports) i ≡ Some page) new.2
                 (subst (λ (i : ℕ). slice_get (pages_of packet.promise.reports) i ≡ Some reports) index packet.place);
           }
     ]
@@ -143,7 +143,7 @@ module _ {V : Type 0} {offers : List V} {l : Ledger V} (n : Node V) (sound : IsS
     still_heard [] none h = tt
     still_heard (x ∷ hs) none h =
         let other : x.node ≢ p = grind (arith, nat_tests) in (
-          subst (λ (m : List (Option (List (Report V)))). IsHeard l b x.node (joined_pages m x.count)) (sym (other_pages n.pages p (number - 1) reports x.node other)) h.0,
+          subst (λ (m : List (Option (List (SlotReport V)))). IsHeard l b x.node (joined_pages m x.count)) (sym (other_pages n.pages p (number - 1) reports x.node other)) h.0,
           still_heard hs (grind (arith, nat_tests)) h.1,
         )
 
@@ -151,10 +151,10 @@ module _ {V : Type 0} {offers : List V} {l : Ledger V} (n : Node V) (sound : IsS
     whole_heard : all_had (pages_from had p) count ≡ true → IsHeard l b p (joined_pages (pages_from had p) count)
     whole_heard all =
         let promise : Promised V = packet.promise in
-        let one : (i : ℕ) (page : List (Report V)) → entry_at (pages_from had p) i ≡ Some page → slice_get (pages_of promise.reports) i ≡ Some page = λ i page e.
+        let one : (i : ℕ) (page : List (SlotReport V)) → entry_at (pages_from had p) i ≡ Some page → slice_get (pages_of promise.reports) i ≡ Some page = λ i page e.
         let q = true_page p i page e in
         let same = sound.promised_once q.promise promise q.is_in packet.is_in (q.node ∙ sym packet.node, q.ballot ∙ sym packet.ballot) in
-        subst (λ (rs : List (Report V)). slice_get (pages_of rs) i ≡ Some page) same q.place in
+        subst (λ (rs : List (SlotReport V)). slice_get (pages_of rs) i ≡ Some page) same q.place in
         let enough : length (pages_of promise.reports) ≤ front_of (pages_from had p) = subst (λ (c : ℕ). c ≤ front_of (pages_from had p)) packet.counted (all_had-front (pages_from had p) count all) in
         let joined = joined-all (pages_of promise.reports) (pages_from had p) one enough ∙ pages-all promise.reports in
         record {
@@ -191,7 +191,7 @@ module _ {V : Type 0} {offers : List V} {l : Ledger V} (n : Node V) (sound : IsS
   both_true true false e = (refl, refl)
   both_true false t e = cc
 
-  comes_either : (p : ℕ) (b : Ballot) (number count : ℕ) (reports : List (Report V)) → IsPagePacket l p b number count reports → (c : Ballot) (first : ℕ) → n.role ≡ Preparing c first
+  comes_either : (p : ℕ) (b : Ballot) (number count : ℕ) (reports : List (SlotReport V)) → IsPagePacket l p b number count reports → (c : Ballot) (first : ℕ) → n.role ≡ Preparing c first
       → IsPreparing l n.me c first n.pages n.heard → (t : Bool) → (is_same b c && not (is_heard n.heard p)) ≡ t
       → Goes (if t then gathers n p c first count (with_page n.pages p (number - 1) reports) else unchanged n)
   comes_either p b number count reports packet c first role preparing false test = same_ledger sound holds tt refl
@@ -200,11 +200,11 @@ module _ {V : Type 0} {offers : List V} {l : Ledger V} (n : Node V) (sound : IsS
       let here : IsPagePacket l p c number count reports = subst (λ (d : Ballot). IsPagePacket l p d number count reports) (same_true b c tests.0) packet in
       gathers_either p c number count reports here first role preparing tests.1 (all_had (pages_from (with_page n.pages p (number - 1) reports) p) count) refl
 
-  promise_as : (p : ℕ) (b : Ballot) (number count : ℕ) (reports : List (Report V)) → IsPagePacket l p b number count reports → (role : Role) → n.role ≡ role
+  promise_as : (p : ℕ) (b : Ballot) (number count : ℕ) (reports : List (SlotReport V)) → IsPagePacket l p b number count reports → (role : Role) → n.role ≡ role
       → RoleHolds n.weights l n.me role n.pages n.heard → Goes (on_promise_as role n p b number count reports)
   promise_as p b number count reports packet Idle role h = same_ledger sound holds tt refl
   promise_as p b number count reports packet (Leading c next) role h = same_ledger sound holds tt refl
   promise_as p b number count reports packet (Preparing c first) role h = comes_either p b number count reports packet c first role h (is_same b c && not (is_heard n.heard p)) refl
 
-  pub promise_continues : (p : ℕ) (b : Ballot) (number count : ℕ) (reports : List (Report V)) → IsPagePacket l p b number count reports → Goes (on_promise n p b number count reports)
+  pub promise_continues : (p : ℕ) (b : Ballot) (number count : ℕ) (reports : List (SlotReport V)) → IsPagePacket l p b number count reports → Goes (on_promise n p b number count reports)
   promise_continues p b number count reports packet = promise_as p b number count reports packet n.role refl holds.proposer.as_role

@@ -4,7 +4,7 @@ use Rattle.std.specs.List.{AllByRecursion}
 use Rattle.slots.specs.declared.slots.TheConstants.{SLOTS}
 use Rattle.slots.proofs.Lists.{In}
 use Rattle.synod.specs.declared.ballot.Ballot.{Ballot}
-use Rattle.synod.specs.declared.packet.Report.{Report}
+use Rattle.synod.specs.declared.packet.SlotReport.{SlotReport}
 use Rattle.synod.specs.declared.packet.Body.TheVariants.{Prepare, Accept}
 use Rattle.synod.specs.declared.proposer.Heard.{Heard}
 use Rattle.synod.specs.declared.proposer.Role.{Role}
@@ -55,7 +55,7 @@ module _ {V : Type 0} {offers : List V} {l : Ledger V} (n : Node V) (sound : IsS
   begun_upto x (inl e) mine = let round : next_round n ≡ x.ballot.round = ap (λ (y : Begun). y.ballot.round) e in omega (arith, round)
   begun_upto x (inr i) mine = let low = holds.proposer.begun x i mine in omega (arith, low)
 
-  none_had : (weights : List ℕ) (j i : ℕ) (page : List (Report V)) → page_of (no_pages weights) j i ≡ Some page → ⊥
+  none_had : (weights : List ℕ) (j i : ℕ) (page : List (SlotReport V)) → page_of (no_pages weights) j i ≡ Some page → ⊥
   none_had [] j i page e = cc
   none_had (w ∷ weights) zero i page e = cc
   none_had (w ∷ weights) (suc j) i page e = none_had weights j i page e
@@ -99,7 +99,7 @@ module _ {V : Type 0} {offers : List V} {l : Ledger V} (n : Node V) (sound : IsS
 
   -- An offer: a leader may propose anything from its next slot on.
 
-  pub after_batch : (b : Ballot) (next : ℕ) (m : Ledger V) (pages : List (List (Option (List (Report V))))) (heard : List Heard) (waiting : List V) → m.begun ≡ l.begun → m.promises ≡ l.promises → m.votes ≡ l.votes
+  pub after_batch : (b : Ballot) (next : ℕ) (m : Ledger V) (pages : List (List (Option (List (SlotReport V))))) (heard : List Heard) (waiting : List V) → m.begun ≡ l.begun → m.promises ≡ l.promises → m.votes ≡ l.votes
       → IsLeading n.weights m n.me b next → AllByRecursion (λ v. In v offers) waiting
       → NodeHolds n.weights offers m n.me (record n { role = Leading b next; pages = pages; heard = heard; waiting = waiting })
   after_batch b next m pages heard waiting begun promises votes leading offered = record {

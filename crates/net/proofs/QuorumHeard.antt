@@ -4,7 +4,7 @@ use Rattle.std.proofs.Common.{◌≡◌, ℕ, zero, suc, ◌≤◌, Bool, true, 
 use Rattle.std.specs.List.{AllByRecursion}
 use Rattle.slots.proofs.Lists.{In, In-append_left, In-append_right, In-append}
 use Rattle.synod.specs.declared.ballot.Ballot.{Ballot}
-use Rattle.synod.specs.declared.packet.Report.{Report}
+use Rattle.synod.specs.declared.packet.SlotReport.{SlotReport}
 use Rattle.synod.specs.declared.proposer.Heard.{Heard}
 use Rattle.synod.specs.Weights.{is_quorum}
 use Rattle.synod.specs.Pages.{joined_pages}
@@ -18,38 +18,38 @@ use Rattle.net.proofs.LedgerSteps.{EachGrounded}
 use Rattle.net.proofs.Invariant.{IsHeard}
 
 -- all that was heard is what true promises report
-abbrev pub AllHeard : {V : Type 0} → Ledger V → Ballot → List (List (Option (List (Report V)))) → List Heard → Type 0
+abbrev pub AllHeard : {V : Type 0} → Ledger V → Ballot → List (List (Option (List (SlotReport V)))) → List Heard → Type 0
 AllHeard l b pages heard = AllByRecursion (λ h. IsHeard l b h.node (joined_pages (pages_from pages h.node) h.count)) heard
 
-pub record IsQuorumHeard {V : Type 0} (ws : List ℕ) (offers : List V) (l : Ledger V) (b : Ballot) (first : ℕ) (pages : List (List (Option (List (Report V))))) (heard : List Heard) : Type 0 where
+pub record IsQuorumHeard {V : Type 0} (ws : List ℕ) (offers : List V) (l : Ledger V) (b : Ballot) (first : ℕ) (pages : List (List (Option (List (SlotReport V))))) (heard : List Heard) : Type 0 where
   pub sound : IsSound ws offers l
   pub begun : In (begun_as b first) l.begun
   pub each : AllHeard l b pages heard
   pub quorum : is_quorum ws (is_heard heard) ≡ true
 
 -- node k promised b, and what it reports was heard
-pub record HeardFrom {V : Type 0} (l : Ledger V) (b : Ballot) (reports : List (Report V)) (k : ℕ) : Type 0 where
+pub record HeardFrom {V : Type 0} (l : Ledger V) (b : Ballot) (reports : List (SlotReport V)) (k : ℕ) : Type 0 where
   pub promise : Promised V
   pub is_in : In promise l.promises
   pub node : promise.node ≡ k
   pub ballot : promise.ballot ≡ b
-  pub each : (r : Report V) → In r promise.reports → In r reports
+  pub each : (r : SlotReport V) → In r promise.reports → In r reports
 
 -- a report that was heard is one of a promise of b
-pub record IsReported {V : Type 0} (l : Ledger V) (b : Ballot) (r : Report V) : Type 0 where
+pub record IsReported {V : Type 0} (l : Ledger V) (b : Ballot) (r : SlotReport V) : Type 0 where
   pub promise : Promised V
   pub is_in : In promise l.promises
   pub ballot : promise.ballot ≡ b
   pub reported : In r promise.reports
 
-module _ {V : Type 0} (l : Ledger V) (b : Ballot) (pages : List (List (Option (List (Report V))))) where
+module _ {V : Type 0} (l : Ledger V) (b : Ballot) (pages : List (List (Option (List (SlotReport V))))) where
   first_heard : (h : Heard) (hs : List Heard) (k : ℕ) → IsHeard l b h.node (joined_pages (pages_from pages h.node) h.count) → h.node ≡ k → HeardFrom l b (all_reports pages (h ∷ hs)) k
   first_heard h hs k d same = record {
     promise = d.promise;
     is_in = d.is_in;
     node = d.node ∙ same;
     ballot = d.ballot;
-    each = λ r i. In-append_left r _ (all_reports pages hs) (subst (λ (rs : List (Report V)). In r rs) d.all i);
+    each = λ r i. In-append_left r _ (all_reports pages hs) (subst (λ (rs : List (SlotReport V)). In r rs) d.all i);
   }
 
   later_heard : (h : Heard) (hs : List Heard) (k : ℕ) → HeardFrom l b (all_reports pages hs) k → HeardFrom l b (all_reports pages (h ∷ hs)) k
@@ -70,16 +70,16 @@ module _ {V : Type 0} (l : Ledger V) (b : Ballot) (pages : List (List (Option (L
   heard_from [] each k i = cc
   heard_from (h ∷ hs) each k i = heard_either h hs k (h.node == k) refl each.0 (heard_from hs each.1 k) i
 
-  reported_by : (heard : List Heard) → AllHeard l b pages heard → (r : Report V) → In r (all_reports pages heard) → IsReported l b r
+  reported_by : (heard : List Heard) → AllHeard l b pages heard → (r : SlotReport V) → In r (all_reports pages heard) → IsReported l b r
   reported_by [] each r i = elim i [ ]
   reported_by (h ∷ hs) each r i = elim (In-append r (joined_pages (pages_from pages h.node) h.count) (all_reports pages hs) i) [
-    | inl j ↦ let d = each.0 in record { promise = d.promise; is_in = d.is_in; ballot = d.ballot; reported = subst (λ (rs : List (Report V)). In r rs) (sym d.all) j }
+    | inl j ↦ let d = each.0 in record { promise = d.promise; is_in = d.is_in; ballot = d.ballot; reported = subst (λ (rs : List (SlotReport V)). In r rs) (sym d.all) j }
     | inr j ↦ reported_by hs each.1 r j
   ]
 
-module _ {V : Type 0} (ws : List ℕ) (offers : List V) (l : Ledger V) (b : Ballot) (first : ℕ) (pages : List (List (Option (List (Report V))))) (heard : List Heard)
+module _ {V : Type 0} (ws : List ℕ) (offers : List V) (l : Ledger V) (b : Ballot) (first : ℕ) (pages : List (List (Option (List (SlotReport V))))) (heard : List Heard)
     (h : IsQuorumHeard ws offers l b first pages heard) where
-  abbrev reports : List (Report V)
+  abbrev reports : List (SlotReport V)
   reports = all_reports pages heard
 
   -- a promise of the ballot reports from the slot on from which it was begun
@@ -97,12 +97,12 @@ module _ {V : Type 0} (ws : List ℕ) (offers : List V) (l : Ledger V) (b : Ball
   all_promised : (k : ℕ) → is_heard heard k ≡ true → HasPromised l k b
   all_promised k i = let d = heard_from l b pages heard h.each k i in record { promise = d.promise; is_in = d.is_in; node = d.node; ballot = d.ballot }
 
-  none_voted : (s : ℕ) → first ≤ s → ((r : Report V) → In r reports → r.slot ≡ s → ⊥) → NoneVoted l (is_heard heard) b s
+  none_voted : (s : ℕ) → first ≤ s → ((r : SlotReport V) → In r reports → r.slot ≡ s → ⊥) → NoneVoted l (is_heard heard) b s
   none_voted s from none x i heard_node at_s under =
       let r = vote_reported x i heard_node (omega arith) under in
       none r.report r.is_in (r.slot ∙ at_s)
 
-  highest_voted : (s : ℕ) → first ≤ s → (r : Report V) → IsHighest s reports r → HighestVoted l l.proposals (is_heard heard) b s r.value
+  highest_voted : (s : ℕ) → first ≤ s → (r : SlotReport V) → IsHighest s reports r → HighestVoted l l.proposals (is_heard heard) b s r.value
   highest_voted s from r most =
       let t = reported_by l b pages heard h.each r most.is_in in
       let back = (h.sound.truthful t.promise t.is_in).backed r t.reported in
@@ -115,7 +115,7 @@ module _ {V : Type 0} (ws : List ℕ) (offers : List V) (l : Ledger V) (b : Ball
             upto_upto x.ballot higher.report.ballot r.ballot higher.upto (most.most higher.report higher.is_in (higher.slot ∙ at_s));
       }
 
-  fill_grounded : (s : ℕ) → first ≤ s → (o : Option (Report V)) → HighestHolds s reports o → IsGrounded ws l l.proposals b s (reported_value o)
+  fill_grounded : (s : ℕ) → first ≤ s → (o : Option (SlotReport V)) → HighestHolds s reports o → IsGrounded ws l l.proposals b s (reported_value o)
   fill_grounded s from None none = record { quorum = is_heard heard; majority = h.quorum; promised = all_promised; picks = inl (none_voted s from none) }
   fill_grounded s from (Some r) most = record { quorum = is_heard heard; majority = h.quorum; promised = all_promised; picks = inr (highest_voted s from r most) }
 
@@ -124,7 +124,7 @@ module _ {V : Type 0} (ws : List ℕ) (offers : List V) (l : Ledger V) (b : Ball
   fills_grounded s (suc count) from = (fill_grounded s from (highest_at s reports) (highest_holds s reports), fills_grounded (suc s) count (omega arith))
 
   -- what is reported was proposed, so it was brought
-  fill_brought : (s : ℕ) (o : Option (Report V)) → HighestHolds s reports o → IsBrought offers (reported_value o)
+  fill_brought : (s : ℕ) (o : Option (SlotReport V)) → HighestHolds s reports o → IsBrought offers (reported_value o)
   fill_brought s None none = tt
   fill_brought s (Some r) most =
       let t = reported_by l b pages heard h.each r most.is_in in
@@ -143,7 +143,7 @@ module _ {V : Type 0} (ws : List ℕ) (offers : List V) (l : Ledger V) (b : Ball
     none = none_voted s from (λ r i at_s. let low = below_top first reports r i in let no : ⊥ = omega arith in no);
   }
 
-  pub reported_from : (r : Report V) → In r reports → first ≤ r.slot
+  pub reported_from : (r : SlotReport V) → In r reports → first ≤ r.slot
   reported_from r i =
       let t = reported_by l b pages heard h.each r i in
       let from = ((h.sound.truthful t.promise t.is_in).backed r t.reported).first in

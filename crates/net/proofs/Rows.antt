@@ -2,7 +2,7 @@
 -- An entry stands for its author and serial, as 71 for serial 1 of author 7.
 use Rattle.std.proofs.Common.{◌≡◌, ℕ, zero, suc, List, [], ◌∷◌, ◌++◌, length, Option, Some, None, Result, Ok, Err, refl, slice_get}
 use Rattle.synod.specs.declared.ballot.Ballot.{Ballot}
-use Rattle.synod.specs.declared.packet.Report.{Report}
+use Rattle.synod.specs.declared.packet.SlotReport.{SlotReport}
 use Rattle.synod.specs.declared.packet.Packet.{Packet}
 use Rattle.synod.specs.declared.packet.Body.TheVariants.{Prepare, Promise, Accept, Nack, Ask, Told}
 use Rattle.synod.specs.Packets.{packet}
@@ -42,7 +42,7 @@ log_after (Ok w) k = Some (log w k)
 abbrev ballot : ℕ → ℕ → Ballot
 ballot round node = record { round = round; node = node }
 
-abbrev report : ℕ → Ballot → ℕ → Report ℕ
+abbrev report : ℕ → Ballot → ℕ → SlotReport ℕ
 report slot b v = record { slot = slot; ballot = b; value = Some v }
 
 abbrev three : List ℕ

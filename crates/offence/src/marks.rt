@@ -10,14 +10,14 @@ ghost use Rattle.offence.specs.Search.{meets};
 use crate::search::{Part, closed_by};
 use mm_lex::Words;
 use mm_read::Stmt;
-use names::Names;
+use names::NameTable;
 use std::alloc::{AllocError, Global};
 
 /// The words, each once.
-pub(crate) fn names_of(alloc: Global, words: &Words) -> Result<Names, AllocError>
+pub(crate) fn names_of(alloc: Global, words: &Words) -> Result<NameTable, AllocError>
     ensures { IfOk result (λ names. AreNamed names words.now) }
 {
-    let mut names = Names::new(alloc);
+    let mut names = NameTable::new(alloc);
     for word in words.iter() {
         names.code(alloc, word)?;
     }
@@ -25,7 +25,13 @@ pub(crate) fn names_of(alloc: Global, words: &Words) -> Result<Names, AllocError
 }
 
 /// Gives the mark to each name that an earlier statement has in that part.
-pub(crate) fn mark_any(names: &Names, earlier: &[Stmt], part: Part, mark: bool, marks: &mut [bool])
+pub(crate) fn mark_any(
+    names: &NameTable,
+    earlier: &[Stmt],
+    part: Part,
+    mark: bool,
+    marks: &mut [bool],
+)
     requires { length marks.old ≡ length names.now }
     ensures { marks.new ≡ marked (λ x. list_any (meets part x) earlier.now) mark names.now marks.old }
 {
@@ -37,7 +43,7 @@ pub(crate) fn mark_any(names: &Names, earlier: &[Stmt], part: Part, mark: bool, 
 
 /// Gives the mark to each name that an active statement has in that part.
 pub(crate) fn mark_active(
-    names: &Names,
+    names: &NameTable,
     earlier: &[Stmt],
     part: Part,
     mark: bool,
@@ -57,7 +63,7 @@ pub(crate) fn mark_active(
 /// The same by one statement, behind which so many blocks are closed.
 fn mark_where_active(
     closed: usize,
-    names: &Names,
+    names: &NameTable,
     stmt: &Stmt,
     part: Part,
     mark: bool,
@@ -72,7 +78,7 @@ fn mark_where_active(
 }
 
 /// Gives the mark to each name that the statement has in that part.
-fn mark_stmt(names: &Names, stmt: &Stmt, part: Part, mark: bool, marks: &mut [bool])
+fn mark_stmt(names: &NameTable, stmt: &Stmt, part: Part, mark: bool, marks: &mut [bool])
     requires { length marks.old ≡ length names.now }
     ensures { marks.new ≡ marked (λ x. meets part x stmt.now) mark names.now marks.old }
 {
@@ -92,7 +98,7 @@ fn mark_stmt(names: &Names, stmt: &Stmt, part: Part, mark: bool, marks: &mut [bo
     }
 }
 
-fn mark_label(names: &Names, stmt: &Stmt, mark: bool, marks: &mut [bool])
+fn mark_label(names: &NameTable, stmt: &Stmt, mark: bool, marks: &mut [bool])
     requires { length marks.old ≡ length names.now }
     ensures { marks.new ≡ marked (λ x. has_label x (label_of stmt.now)) mark names.now marks.old }
 {
@@ -105,7 +111,7 @@ fn mark_label(names: &Names, stmt: &Stmt, mark: bool, marks: &mut [bool])
     }
 }
 
-fn mark_constants(names: &Names, stmt: &Stmt, mark: bool, marks: &mut [bool])
+fn mark_constants(names: &NameTable, stmt: &Stmt, mark: bool, marks: &mut [bool])
     requires { length marks.old ≡ length names.now }
     ensures { marks.new ≡ marked (λ x. has_name x (constants stmt.now)) mark names.now marks.old }
 {
@@ -115,7 +121,7 @@ fn mark_constants(names: &Names, stmt: &Stmt, mark: bool, marks: &mut [bool])
     }
 }
 
-fn mark_variables(names: &Names, stmt: &Stmt, mark: bool, marks: &mut [bool])
+fn mark_variables(names: &NameTable, stmt: &Stmt, mark: bool, marks: &mut [bool])
     requires { length marks.old ≡ length names.now }
     ensures { marks.new ≡ marked (λ x. has_name x (variables stmt.now)) mark names.now marks.old }
 {
@@ -125,7 +131,7 @@ fn mark_variables(names: &Names, stmt: &Stmt, mark: bool, marks: &mut [bool])
     }
 }
 
-fn mark_float(names: &Names, stmt: &Stmt, mark: bool, marks: &mut [bool])
+fn mark_float(names: &NameTable, stmt: &Stmt, mark: bool, marks: &mut [bool])
     requires { length marks.old ≡ length names.now }
     ensures { marks.new ≡ marked (λ x. is_float_of x stmt.now) mark names.now marks.old }
 {
@@ -136,7 +142,7 @@ fn mark_float(names: &Names, stmt: &Stmt, mark: bool, marks: &mut [bool])
 }
 
 /// Gives the mark to each of the words that is among the names.
-fn mark_words(names: &Names, words: &Words, mark: bool, marks: &mut [bool])
+fn mark_words(names: &NameTable, words: &Words, mark: bool, marks: &mut [bool])
     requires { length marks.old ≡ length names.now }
     ensures { marks.new ≡ marked (λ x. has_name x words.now) mark names.now marks.old }
 {
@@ -145,7 +151,7 @@ fn mark_words(names: &Names, words: &Words, mark: bool, marks: &mut [bool])
     }
 }
 
-fn mark_word(names: &Names, word: &[u8], mark: bool, marks: &mut [bool])
+fn mark_word(names: &NameTable, word: &[u8], mark: bool, marks: &mut [bool])
     requires { length marks.old ≡ length names.now }
     ensures { marks.new ≡ marked (λ x. name_eq x word.now) mark names.now marks.old }
 {
@@ -157,7 +163,7 @@ fn mark_word(names: &Names, word: &[u8], mark: bool, marks: &mut [bool])
 }
 
 /// The mark of a name.
-pub(crate) fn mark_of(names: &Names, marks: &[bool], name: &[u8]) -> bool
+pub(crate) fn mark_of(names: &NameTable, marks: &[bool], name: &[u8]) -> bool
     requires count { length marks.now ≡ length names.now }
     requires named { has_name name.now names.now ≡ true }
     ensures { (t : Name → Bool) → marks.now ≡ map t names.now → result ≡ t name.now }

@@ -14,7 +14,7 @@ use crate::search::{Part, find, find_active};
 use crate::witness::Witness;
 use mm_lex::Words;
 use mm_read::Stmt;
-use names::Names;
+use names::NameTable;
 use std::alloc::{AllocError, Global};
 
 /// What may be wrong with a symbol.
@@ -58,7 +58,7 @@ fn is_wrong_unseen(test: Test) -> bool
 }
 
 /// Marks the names with which this is wrong.
-fn mark_wrong(names: &Names, earlier: &[Stmt], test: Test, marks: &mut [bool])
+fn mark_wrong(names: &NameTable, earlier: &[Stmt], test: Test, marks: &mut [bool])
     requires { marks.old ≡ replicate (length names.now) (is_wrong_unseen test) }
     ensures { marks.new ≡ map (fails earlier.now test) names.now }
 {
@@ -81,7 +81,11 @@ fn mark_wrong(names: &Names, earlier: &[Stmt], test: Test, marks: &mut [bool])
 }
 
 /// The first of the words that has a mark, and its index.
-fn first_marked<'a>(names: &Names, marks: &[bool], words: &'a Words) -> Option<(usize, &'a [u8])>
+fn first_marked<'a>(
+    names: &NameTable,
+    marks: &[bool],
+    words: &'a Words,
+) -> Option<(usize, &'a [u8])>
     requires count { length marks.now ≡ length names.now }
     requires named { AreNamed names.now words.now }
     ensures { (t : Name → Bool) → marks.now ≡ map t names.now
@@ -123,7 +127,7 @@ pub(crate) fn twice(alloc: Global, words: &Words) -> Result<Option<Witness>, All
     ensures { IfOk result (λ found. MatchOption found (all_different words.now ≡ true) (IsRepeated words.now)) }
 {
     let _count = words.len();
-    let mut names = Names::new(alloc);
+    let mut names = NameTable::new(alloc);
     let mut left = words.iter();
     let mut index = 0usize;
     while let Some(word) = left.next() {

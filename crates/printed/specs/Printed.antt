@@ -12,7 +12,7 @@ use Rattle.library.specs.declared.verdict.Cause.{Cause}
 use Rattle.library.specs.declared.verdict.Cause.TheVariants.{TooLong, Text, Shape, Rule, Proof, Unfinished, NotChartered}
 use Rattle.library.specs.LibraryOf.{author_of, serial_of}
 use Rattle.synod.specs.declared.ballot.Ballot.{Ballot}
-use Rattle.synod.specs.declared.packet.Report.{Report}
+use Rattle.synod.specs.declared.packet.SlotReport.{SlotReport}
 use Rattle.synod.specs.declared.packet.Packet.{Packet}
 use Rattle.synod.specs.declared.packet.Body.{Body}
 use Rattle.synod.specs.declared.packet.Body.TheVariants.{Prepare, Promise, Accept, Accepted, Nack, Ask, Told}
@@ -29,7 +29,7 @@ abbrev pub entry_text : Option Entry → List ℕ
 entry_text None = codes "idle"
 entry_text (Some entry) = decimal (author_of entry) ++ codes "/" ++ decimal (serial_of entry)
 
-abbrev pub report_text : Report Carried → List ℕ
+abbrev pub report_text : SlotReport Carried → List ℕ
 report_text r = codes " " ++ decimal r.slot ++ codes "@" ++ ballot_text r.ballot
 
 -- which page it is, where there are more than one

@@ -6,7 +6,7 @@ ghost use Rattle.printed.specs.Printed.{ballot_text, entry_text, report_text, pa
 use library::Entry;
 use outline::push_number;
 use std::alloc::AllocError;
-use synod::{Ballot, Body, Packet, Report};
+use synod::{Ballot, Body, Packet, SlotReport};
 use world::Carried;
 
 /// Adds `FROM>TO`, a space, and what the packet says.
@@ -87,7 +87,7 @@ fn push_page(text: &mut Vec<u8>, page: u32, count: u32) -> Result<(), AllocError
     push_number(text, u64::from(count))
 }
 
-fn push_reports(text: &mut Vec<u8>, reports: &[Report<Carried>]) -> Result<(), AllocError>
+fn push_reports(text: &mut Vec<u8>, reports: &[SlotReport<Carried>]) -> Result<(), AllocError>
     ensures { OnOk result (text.new.items ≡ text.old.items ++ flat_map report_text reports.now) }
 {
     for report in reports {
@@ -97,7 +97,7 @@ fn push_reports(text: &mut Vec<u8>, reports: &[Report<Carried>]) -> Result<(), A
 }
 
 /// Adds a space and `SLOT@R.N`.
-fn push_report(text: &mut Vec<u8>, report: &Report<Carried>) -> Result<(), AllocError>
+fn push_report(text: &mut Vec<u8>, report: &SlotReport<Carried>) -> Result<(), AllocError>
     ensures { OnOk result (text.new.items ≡ text.old.items ++ report_text report.now) }
 {
     push_slot(text, report.slot)?;

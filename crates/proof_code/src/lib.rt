@@ -15,7 +15,6 @@ mod fault;
 mod header;
 mod item;
 mod items;
-mod label;
 mod laws;
 mod letters;
 mod listing;

@@ -4,8 +4,7 @@ ghost use Rattle.std.specs.Option.{ForSome};
 ghost use Rattle.mm_lex.specs.Alphabet.{is_label, has_name};
 ghost use Rattle.proof_code.specs.Kinds.{kind_of, are_marked, AreNames};
 
-use crate::label::is_label;
-use mm_lex::Words;
+use mm_lex::{Words, is_label};
 use std::alloc::Global;
 use std::collections::HashSet;
 

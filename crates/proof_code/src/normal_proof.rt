@@ -8,8 +8,7 @@ ghost use Rattle.proof_code.specs.Answers.{Answers};
 
 use crate::fault::{CodeFault, code_fault};
 use crate::items::Items;
-use crate::label::is_label;
-use mm_lex::Words;
+use mm_lex::{Words, is_label};
 use std::alloc::{AllocError, Global};
 
 /// The items of a normal proof: a citation for each token.

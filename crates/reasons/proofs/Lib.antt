@@ -4,6 +4,7 @@ pub mod ImagesLemmas
 pub mod NamedLemmas
 pub mod FaultsLemmas
 pub mod ClashLemmas
+pub mod BesideLemmas
 pub mod ConcludedLemmas
 pub mod RunLemmas
 pub mod ItemLemmas

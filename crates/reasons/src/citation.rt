@@ -171,7 +171,8 @@ fn conclude(
         return Ok(Concluded::Wrong(fault));
     }
     let pairs = frames.active_pairs(at);
-    if let Some(clash) = find_clash(&pairs, images.as_slice(), &cited.groups) {
+    let clash = find_clash(alloc, &pairs, images.as_slice(), &cited.groups)?;
+    if let Some(clash) = clash {
         return Ok(Concluded::Wrong(Fault::Together {
             assertion: a,
             first: clash.first,

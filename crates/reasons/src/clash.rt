@@ -1,16 +1,18 @@
 //! Two variables whose images are not kept apart.
-ghost use Rattle.std.specs.Prelude.{◌≡◌, ◌<◌, length, map, true, MatchOption};
+ghost use Rattle.std.specs.Prelude.{◌≡◌, ◌<◌, length, map, true, IfOk, MatchOption};
 ghost use Rattle.std.specs.List.{list_all};
 ghost use Rattle.names.specs.Codes.{AreDistinct, name_at, decode};
 ghost use Rattle.frame.specs.Below.{AreBelow, AllBelow};
 ghost use Rattle.frame.specs.Disjoint.{are_apart, is_group_apart, are_groups_apart};
+ghost use Rattle.frame.specs.Substitution.{code_image};
 ghost use Rattle.reasons.specs.Kept.{AreImages, code_images};
 ghost use Rattle.reasons.specs.Images.{named_images, AreVariables};
-ghost use Rattle.reasons.specs.Clashes.{IsClash, IsClashIn, IsClashWith, is_kept, is_other_apart, IsUnpairedIn, AreShared};
+ghost use Rattle.reasons.specs.Clashes.{IsClash, IsClashIn, IsClashWith, is_kept, is_other_apart, IsUnpairedIn, AreShared, AreBeside};
 
-use crate::images::{Image, image_or};
+use crate::images::{Image, apply, image_or};
 use entries::Groups;
 use frame::Pairs;
+use std::alloc::{AllocError, Global};
 
 /// Two variables of an assertion, and a variable in the image of each, which no active `$d` has together.
 #[derive(Clone, Copy, Drop)]
@@ -22,39 +24,90 @@ pub struct Clash {
 }
 
 /// The first clash of the images of variables that stand together in one of the lists.
-pub fn find_clash(pairs: &Pairs<'_>, images: &[Image], groups: &Groups<'_>) -> Option<Clash>
+pub fn find_clash(
+    alloc: Global,
+    pairs: &Pairs<'_>,
+    images: &[Image],
+    groups: &Groups<'_>,
+) -> Result<Option<Clash>, AllocError>
     requires groups { AllBelow (length pairs.now.names) groups.now }
     requires images { AreImages (length pairs.now.names) images.now }
     requires variables { AreVariables (length pairs.now.names) (code_images images.now) }
     requires distinct { AreDistinct pairs.now.names }
-    ensures { MatchOption result
+    ensures { IfOk result (λ found. MatchOption found
         (are_groups_apart pairs.now.statements (named_images pairs.now.names (code_images images.now)) (map (decode pairs.now.names) groups.now) ≡ true)
-        (IsClash pairs.now.statements pairs.now.names (named_images pairs.now.names (code_images images.now)) (map (decode pairs.now.names) groups.now)) }
+        (IsClash pairs.now.statements pairs.now.names (named_images pairs.now.names (code_images images.now)) (map (decode pairs.now.names) groups.now))) }
 {
     for k in 0..groups.len() {
-        if let Some(clash) = clash_in(pairs, images, groups.get(k)) {
-            return Some(clash);
+        let found = clash_in(alloc, pairs, images, groups.get(k))?;
+        if let Some(clash) = found {
+            return Ok(Some(clash));
         }
     }
-    None
+    Ok(None)
 }
 
-/// The first clash of the images of variables of one list.
-fn clash_in(pairs: &Pairs<'_>, images: &[Image], group: &[u32]) -> Option<Clash>
+/// The first clash of the images of variables of one list. All images are written one after another, and those of the
+/// others are held against each at once; only where these are not apart the clash is sought.
+fn clash_in(
+    alloc: Global,
+    pairs: &Pairs<'_>,
+    images: &[Image],
+    group: &[u32],
+) -> Result<Option<Clash>, AllocError>
     requires group { AreBelow (length pairs.now.names) group.now }
     requires images { AreImages (length pairs.now.names) images.now }
     requires variables { AreVariables (length pairs.now.names) (code_images images.now) }
     requires distinct { AreDistinct pairs.now.names }
-    ensures { MatchOption result
+    ensures { IfOk result (λ found. MatchOption found
         (is_group_apart pairs.now.statements (named_images pairs.now.names (code_images images.now)) (decode pairs.now.names group.now) ≡ true)
-        (IsClashIn pairs.now.statements pairs.now.names (named_images pairs.now.names (code_images images.now)) (decode pairs.now.names group.now)) }
+        (IsClashIn pairs.now.statements pairs.now.names (named_images pairs.now.names (code_images images.now)) (decode pairs.now.names group.now))) }
 {
+    let Some(written) = apply(alloc, images, group, usize::MAX)? else {
+        return Err(AllocError);
+    };
+    let joined = written.as_slice();
+    let mut start = 0;
     for first in group {
-        if let Some(clash) = clash_with(pairs, images, *first, group) {
-            return Some(clash);
+        let own = [*first];
+        let image = image_or(images, *first, &own);
+        let end = start + image.len();
+        let before = &joined[..start];
+        let behind = &joined[end..];
+        if let Some(clash) = clash_beside(pairs, images, *first, group, image, before, behind) {
+            return Ok(Some(clash));
         }
+        start = end;
     }
-    None
+    Ok(None)
+}
+
+/// The first clash of the image of a variable with those of the others of a list, which stand one after another before
+/// and behind it.
+fn clash_beside(
+    pairs: &Pairs<'_>,
+    images: &[Image],
+    first: u32,
+    group: &[u32],
+    image: &[u32],
+    before: &[u32],
+    behind: &[u32],
+) -> Option<Clash>
+    requires first { first < length pairs.now.names }
+    requires group { AreBelow (length pairs.now.names) group.now }
+    requires images { AreImages (length pairs.now.names) images.now }
+    requires variables { AreVariables (length pairs.now.names) (code_images images.now) }
+    requires distinct { AreDistinct pairs.now.names }
+    requires image { image.now ≡ code_image (code_images images.now) first }
+    requires beside { AreBeside (code_images images.now) group.now first before.now behind.now }
+    ensures { MatchOption result
+        (list_all (is_other_apart pairs.now.statements (named_images pairs.now.names (code_images images.now)) (name_at pairs.now.names first)) (decode pairs.now.names group.now) ≡ true)
+        (IsClashWith pairs.now.statements pairs.now.names (named_images pairs.now.names (code_images images.now)) (name_at pairs.now.names first) (decode pairs.now.names group.now)) }
+{
+    if pairs.apart(image, before) && pairs.apart(image, behind) {
+        return None;
+    }
+    clash_with(pairs, images, first, group)
 }
 
 /// The first clash of the image of a variable with those of the others of a list.

@@ -24,7 +24,9 @@ use Rattle.names.proofs.CodesLemmas.{same_name}
 use Rattle.scope.proofs.NamesLemmas.{declared_names-with_kinds, active-named}
 use Rattle.scope.proofs.SortsLemmas.{numbers-has, is_variable-active, has_float-typed}
 use Rattle.scope.proofs.SymbolsLemmas.{declared_symbols-label, declared_symbols-with_kinds}
-use Rattle.scope.proofs.KeptLemmas.{kept-more, tells-nothing, tells-constants, tells-variables, tells-label, all-has, fresh-none, inactive-free, inactive-not, can_push-names}
+use Rattle.scope.proofs.StackFollows.{kept-more}
+use Rattle.scope.proofs.DeclaredLemmas.{tells-nothing, tells-constants, tells-variables, tells-label}
+use Rattle.scope.proofs.MarkLemmas.{all-has, fresh-none, inactive-free, inactive-not, can_push-names}
 use Rattle.scope.proofs.LegalLemmas.{legal-constants, legal-variables, legal-label, legal-float}
 
 pub same-kept : {S S' M : Database} {names names' : Declared} {vs vs' ts ts' : List ℕ} {blocks blocks' : List Sizes} {mark : Sizes} {m : ℕ} → S ≡ S' → names ≡ names' → vs ≡ vs' → ts ≡ ts' → blocks ≡ blocks'

@@ -4,7 +4,9 @@ pub mod NamesLemmas
 pub mod SortsLemmas
 pub mod EntriesLemmas
 pub mod SymbolsLemmas
-pub mod KeptLemmas
+pub mod DeclaredLemmas
+pub mod StackFollows
+pub mod MarkLemmas
 pub mod StandingLemmas
 pub mod LegalLemmas
 pub mod AcceptLemmas

@@ -16,7 +16,7 @@ use Rattle.scope.specs.declared.sizes.Sizes.{Sizes}
 use Rattle.scope.specs.declared.standing.Standing.{Standing}
 use Rattle.scope.proofs.ActiveLemmas.{active_from-later, flat_map-taken}
 use Rattle.scope.proofs.BlocksLemmas.{blocks-close}
-use Rattle.scope.proofs.KeptLemmas.{flat_map-more, flat_map-close, has_open-some, some_open}
+use Rattle.scope.proofs.StackFollows.{flat_map-more, flat_map-close, has_open-some, some_open}
 
 pub standing-more : (S M : Database) (s : Stmt) (standing : List Standing) (n m : ℕ) → is_close s ≡ false → IsStanding S M standing n m
     → IsStanding (S ++ s ∷ []) M (standing ++ stands_at (n + 1) s) (n + 1) m

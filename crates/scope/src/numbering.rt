@@ -4,7 +4,7 @@ ghost use Rattle.names.specs.Codes.{name_at, code_of};
 ghost use Rattle.scope.specs.Entries.{AreCounted, count_behind};
 ghost use Rattle.scope.specs.Kinds.{declared_names, kind_in, symbols_before};
 
-use names::Names;
+use names::NameTable;
 use std::alloc::{AllocError, Global};
 use std::marker::Model;
 
@@ -26,7 +26,7 @@ pub struct Entry {
 /// Names with their kinds. The number of a name is its place, from 0.
 #[derive(Drop)]
 pub struct Numbering {
-    names: Names,
+    names: NameTable,
     entries: Vec<Entry>,
 }
 
@@ -49,7 +49,7 @@ impl Numbering {
         ensures { result ≡ [] }
     {
         Numbering {
-            names: Names::new(alloc),
+            names: NameTable::new(alloc),
             entries: Vec::new(alloc),
         }
     }

@@ -1,7 +1,7 @@
 -- Images are read off results that begin as their hypotheses ask.
 use Rattle.std.specs.Prelude.{◌≡◌, ℕ, Bool, true, false, List, [], length, map, get_or, slice_get, Some}
 use Rattle.std.proofs.Common.{subst}
-use Rattle.subst.specs.declared.place.Place.{Place}
+use Rattle.subst.specs.declared.place.ExpressionPlace.{ExpressionPlace}
 use Rattle.subst.specs.Places.{seen_at, images_at, AreWithin}
 use Rattle.entries.specs.declared.citation.Hypothesis.{Hypothesis}
 use Rattle.entries.specs.declared.citation.Hypothesis.TheVariants.{Float}
@@ -9,7 +9,7 @@ use Rattle.verify.specs.Fits.{IsTyped, AreRead, Reads}
 use Rattle.verify.specs.ReadPlaces.{ReadsAll}
 use Rattle.verify.proofs.ReadingLemmas.{reads-seen}
 
-module _ (xs ys heads : List ℕ) (hs : List Hypothesis) (places : List Place) (images : List (ℕ × Place)) (same : ys ≡ xs) (count : length places ≡ length hs) (within : AreWithin (length xs) places) where
+module _ (xs ys heads : List ℕ) (hs : List Hypothesis) (places : List ExpressionPlace) (images : List (ℕ × ExpressionPlace)) (same : ys ≡ xs) (count : length places ≡ length hs) (within : AreWithin (length xs) places) where
   seen : (b : Bool) → ReadsAll b (length hs) ys heads hs places images → Reads b heads hs (map (seen_at xs) places) (images_at xs images)
   seen b r = reads-seen b xs heads hs places images count within (subst (λ s. ReadsAll b (length hs) s heads hs places images) same r)
 

@@ -14,7 +14,7 @@ use Rattle.frame.specs.Reading.{IsPosition}
 use Rattle.frame.specs.Substitution.{CodeImages, code_apply}
 use Rattle.entries.specs.declared.citation.Cited.{Cited}
 use Rattle.proof_code.specs.declared.item.Item.{Item}
-use Rattle.subst.specs.declared.place.Place.{Place}
+use Rattle.subst.specs.declared.place.ExpressionPlace.{ExpressionPlace}
 use Rattle.subst.specs.Places.{seen_at}
 use Rattle.verify.specs.Fits.{AreRead}
 use Rattle.verify.specs.Places.{below, top}
@@ -82,7 +82,7 @@ abbrev pub codes_in : Draft → ℕ → List ℕ
 codes_in d k = (get_or (rows_of d) k no_row).expr
 
 -- where the expression of the step at a place lies
-abbrev pub place_in : List PlacedStep → ℕ → Place
+abbrev pub place_in : List PlacedStep → ℕ → ExpressionPlace
 place_in [] k = record { start = 0; end = 0 }
 place_in (p ∷ ps) zero = p.place
 place_in (p ∷ ps) (suc k) = place_in ps k

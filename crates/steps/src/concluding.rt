@@ -7,7 +7,7 @@ ghost use Rattle.verify.specs.Fits.{AreDifferent, IsTyped, AreRead};
 
 use entries::Cited;
 use std::alloc::AllocError;
-use subst::{Buffer, ImagePlaces, Place, SYMBOLS_LIMIT, place_between};
+use subst::{Buffer, ExpressionPlace, ImagePlaces, SYMBOLS_LIMIT, place_between};
 use verify::read_off;
 
 /// Writes behind the symbols what the assertion concludes from the results at these places, and tells where it lies.
@@ -17,8 +17,8 @@ pub fn conclude(
     symbols: &mut Buffer,
     images: &mut ImagePlaces,
     cited: &Cited<'_>,
-    places: &[Place],
-) -> Result<Place, AllocError>
+    places: &[ExpressionPlace],
+) -> Result<ExpressionPlace, AllocError>
     requires same { length places.now ≡ length cited.now.hypotheses.now }
     requires heads { length cited.now.heads.now ≡ length cited.now.hypotheses.now }
     requires within { AreWithin (length symbols.old) places.now }

@@ -6,7 +6,7 @@ use Rattle.std.proofs.Math.Seq.{take-append-add, take-append_seam}
 use Rattle.std.proofs.lemmas.Simd.{take_more_put_chunk, length-chunk}
 use lib.Lanes.{chunk, put_chunk}
 use Rattle.frame.specs.Substitution.{code_image, code_apply}
-use Rattle.subst.specs.declared.place.Place.{Place}
+use Rattle.subst.specs.declared.place.ExpressionPlace.{ExpressionPlace}
 use Rattle.subst.specs.Places.{seen_at, images_at, AreInside}
 use Rattle.subst.specs.Written.{IsWritten, LacksRoom}
 use Rattle.subst.proofs.ApplyLemmas.{apply-take, len-take, len-within}
@@ -51,7 +51,7 @@ copy-on x x0 x' from len at done before room more sofar long put =
     ∙ (sym (take-add done k (drop from x0)) ∙ ap (λ n. take n (drop from x0)) (sym whole))))))))))
 
 -- the symbols at a place, as a run
-pub place-written : (x y : List ℕ) (at len : ℕ) (p : Place) → p.start ≤ p.end → p.end ≤ at → at ≤ length x → len ≡ p.end - p.start → at + len ≤ length y
+pub place-written : (x y : List ℕ) (at len : ℕ) (p : ExpressionPlace) → p.start ≤ p.end → p.end ≤ at → at ≤ length x → len ≡ p.end - p.start → at + len ≤ length y
     → take (at + len) y ≡ take at x ++ take len (drop p.start x) → IsWritten x y at (seen_at (take at x) p) (at + len)
 place-written x y at len p low high long e room copied =
     let seam : length (take at x) ≡ at = length-take-le at x long in
@@ -62,7 +62,7 @@ place-written x y at len p low high long e room copied =
       inside = room;
     }
 
-pub place-lacks : (x : List ℕ) (at : ℕ) (p : Place) → p.start ≤ p.end → p.end ≤ at → at ≤ length x → length x < at + (p.end - p.start) + 8 → LacksRoom (length x) at (seen_at (take at x) p)
+pub place-lacks : (x : List ℕ) (at : ℕ) (p : ExpressionPlace) → p.start ≤ p.end → p.end ≤ at → at ≤ length x → length x < at + (p.end - p.start) + 8 → LacksRoom (length x) at (seen_at (take at x) p)
 place-lacks x at p low high long less =
     let seam : length (take at x) ≡ at = length-take-le at x long in
     let size : length (seen_at (take at x) p) ≡ p.end - p.start = length-seen (take at x) p low (omega (arith, high, seam)) in
@@ -84,7 +84,7 @@ pub kept-on : (x0 x y : List ℕ) (at end : ℕ) → at ≤ end → take end y �
 kept-on x0 x y at end h e f = sym (take-take at end y h) ∙ (ap (take at) e ∙ (take-take at end x h ∙ f))
 
 -- the image of one more symbol
-pub fill-on : (x0 x x' : List ℕ) (ps : List (ℕ × Place)) (t : List ℕ) (i at end e : ℕ) → AreInside at ps → at ≤ length x0 → i < length t
+pub fill-on : (x0 x x' : List ℕ) (ps : List (ℕ × ExpressionPlace)) (t : List ℕ) (i at end e : ℕ) → AreInside at ps → at ≤ length x0 → i < length t
     → IsWritten x0 x at (code_apply (images_at (take at x0) ps) (take i t)) end
     → IsWritten x x' end (code_image (images_at (take end x) ps) (get_or t i 0)) e
     → IsWritten x0 x' at (code_apply (images_at (take at x0) ps) (take (i + 1) t)) e
@@ -103,7 +103,7 @@ fill-on x0 x x' ps t i at end e within long more w v =
     let size = length-take-le e x' inside in
     record { written = whole; moved = omega (arith, ap length whole, length-append (take at x0) next, seam, size); inside = inside }
 
-pub fill-lacks : (x0 x : List ℕ) (ps : List (ℕ × Place)) (t : List ℕ) (i at end : ℕ) → AreInside at ps → at ≤ length x0 → i < length t → length x ≡ length x0
+pub fill-lacks : (x0 x : List ℕ) (ps : List (ℕ × ExpressionPlace)) (t : List ℕ) (i at end : ℕ) → AreInside at ps → at ≤ length x0 → i < length t → length x ≡ length x0
     → IsWritten x0 x at (code_apply (images_at (take at x0) ps) (take i t)) end
     → LacksRoom (length x) end (code_image (images_at (take end x) ps) (get_or t i 0))
     → LacksRoom (length x0) at (code_apply (images_at (take at x0) ps) t)

@@ -8,3 +8,4 @@ pub mod SubstitutionLemmas
 pub mod DisjointLemmas
 pub mod NumbersApartLemmas
 mod Rows
+pub mod FindingsLemmas

@@ -3,11 +3,11 @@ use Rattle.std.specs.Prelude.{◌≡◌, ℕ, zero, suc, ◌+◌, ◌<◌, ◌�
 use Rattle.std.specs.Map.{lookup}
 use Rattle.std.proofs.Common.{sym, ◌∙◌, ap, arith}
 use Rattle.std.proofs.lemmas.Bool.Decides.{nat_tests}
-use Rattle.subst.specs.declared.place.Place.{Place}
+use Rattle.subst.specs.declared.place.ExpressionPlace.{ExpressionPlace}
 use Rattle.subst.specs.declared.image_places.Slot.{Slot}
 use Rattle.subst.specs.Slots.{placed, AreUpTo}
 
-abbrev pub slot_of : ℕ → List Slot → ℕ → Option Place
+abbrev pub slot_of : ℕ → List Slot → ℕ → Option ExpressionPlace
 slot_of round [] x = None
 slot_of round (s ∷ slots) zero = cond (s.round == round) (Some s.place) None
 slot_of round (s ∷ slots) (suc x) = slot_of round slots x

@@ -4,20 +4,20 @@
 use Rattle.std.specs.Prelude.{◌≡◌, ℕ, ◌≤◌, nat_eq, List, [], ◌∷◌, map, Some, slice_range}
 use Rattle.std.specs.Map.{lookup}
 use Rattle.frame.specs.Substitution.{CodeImages}
-use Rattle.subst.specs.declared.place.Place.{Place}
+use Rattle.subst.specs.declared.place.ExpressionPlace.{ExpressionPlace}
 
-abbrev pub seen_at : List ℕ → Place → List ℕ
+abbrev pub seen_at : List ℕ → ExpressionPlace → List ℕ
 seen_at symbols p = slice_range symbols p.start p.end
 
 -- each place lies within so many symbols
-abbrev pub AreWithin : ℕ → List Place → Type 0
+abbrev pub AreWithin : ℕ → List ExpressionPlace → Type 0
 AreWithin n [] = Unit {0}
 AreWithin n (p ∷ places) = (p.start ≤ p.end) × (p.end ≤ n) × AreWithin n places
 
 -- the images at these places
-abbrev pub images_at : List ℕ → List (ℕ × Place) → CodeImages
+abbrev pub images_at : List ℕ → List (ℕ × ExpressionPlace) → CodeImages
 images_at symbols places = map (λ p. (p.0, seen_at symbols p.1)) places
 
 -- each image lies within so many symbols
-pub record AreInside (n : ℕ) (places : List (ℕ × Place)) : Type 0 where
-  pub each : (x : ℕ) (p : Place) → lookup (nat_eq x) places ≡ Some p → (p.start ≤ p.end) × (p.end ≤ n)
+pub record AreInside (n : ℕ) (places : List (ℕ × ExpressionPlace)) : Type 0 where
+  pub each : (x : ℕ) (p : ExpressionPlace) → lookup (nat_eq x) places ≡ Some p → (p.start ≤ p.end) × (p.end ≤ n)

@@ -3,7 +3,7 @@ ghost use Rattle.std.specs.Prelude.{◌≡◌, ◌+◌, ◌≤◌, ◌++◌, ◌
 ghost use Rattle.subst.specs.Places.{seen_at};
 ghost use Rattle.subst.specs.Written.{IsWritten, LacksRoom};
 
-use crate::place::Place;
+use crate::place::ExpressionPlace;
 use std::simd::prelude::*;
 
 /// How many symbols are copied at once, and so how many may be written over behind what is written.
@@ -24,7 +24,7 @@ fn copy_run(symbols: &mut [u32], from: usize, len: usize, at: usize)
 }
 
 /// Copies the symbols at a place to `at`, and tells where they end.
-pub fn copy_place(symbols: &mut [u32], at: usize, place: Place) -> Option<usize>
+pub fn copy_place(symbols: &mut [u32], at: usize, place: ExpressionPlace) -> Option<usize>
     requires place { (place.start ≤ place.end) × (place.end ≤ at) }
     requires inside { at ≤ length symbols.old }
     ensures some { IfSome result (IsWritten symbols.old symbols.new at (seen_at (take at symbols.old) place)) }

@@ -2,7 +2,7 @@
 ghost use Rattle.std.specs.Prelude.{◌≡◌, ℕ, ◌+◌, ◌<◌, ◌++◌, [], ◌==◌, ◌^◌, nat_eq, if◌then◌else◌, length, replicate, Some, OnOk, OnErr};
 ghost use Rattle.std.specs.Map.{lookup};
 
-use crate::place::Place;
+use crate::place::ExpressionPlace;
 use std::alloc::{AllocError, Global};
 use std::marker::Model;
 
@@ -10,13 +10,13 @@ use std::marker::Model;
 #[derive(Clone, Copy, Drop)]
 struct Slot {
     round: u32,
-    place: Place,
+    place: ExpressionPlace,
 }
 
 /// What was set in no round.
 const UNSET: Slot = Slot {
     round: 0,
-    place: Place { start: 0, end: 0 },
+    place: ExpressionPlace { start: 0, end: 0 },
 };
 
 /// Images of symbols, each a place in a buffer that stands beside. Contracts see the symbols with their places.
@@ -31,10 +31,10 @@ pub struct ImagePlaces {
 
 impl Model for ImagePlaces {
     ghost use Rattle.std.specs.Prelude.{ℕ, ◌≤◌, List};
-    ghost use Rattle.subst.specs.declared.place.Place.{Place};
+    ghost use Rattle.subst.specs.declared.place.ExpressionPlace.{ExpressionPlace};
     ghost use Rattle.subst.specs.Slots.{placed, AreUpTo};
 
-    ghost Value = { List (ℕ × Place) };
+    ghost Value = { List (ℕ × ExpressionPlace) };
 
     ghost view = { λ a. placed a.round 0 a.slots.items };
 
@@ -67,7 +67,7 @@ impl ImagePlaces {
     /// Gives the symbol the image at this place.
     ///
     /// Errors: where memory is refused all images are as before.
-    pub fn set(&mut self, symbol: u32, place: Place) -> Result<(), AllocError>
+    pub fn set(&mut self, symbol: u32, place: ExpressionPlace) -> Result<(), AllocError>
         ensures ok { OnOk result ((x : ℕ) → lookup (nat_eq x) self.new ≡ (if x == symbol then Some place else lookup (nat_eq x) self.old)) }
         ensures same { OnErr result (self.new ≡ self.old) }
     {
@@ -81,7 +81,7 @@ impl ImagePlaces {
     }
 
     /// The place of a symbol's image, if it was given one.
-    pub fn get(&self, symbol: u32) -> Option<Place>
+    pub fn get(&self, symbol: u32) -> Option<ExpressionPlace>
         ensures { result ≡ lookup (nat_eq symbol) self.now }
     {
         let index = symbol as usize;

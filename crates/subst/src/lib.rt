@@ -1,17 +1,18 @@
 //! Images put into expressions, all at once.
 //!
-//! A symbol's image is a place in a buffer of symbols (`Place`, `ImagePlaces`, `Buffer`): so a verifier reads images off
+//! A symbol's image is a place in a buffer of symbols (`ExpressionPlace`, `ImagePlaces`, `Buffer`): so a verifier reads images off
 //! its results, matches an expression under them without writing it, and adds one behind them. `Subst` is such a table
 //! with a buffer of its own, and `apply` puts all its images in at once.
 //! Symbols are numbers; that this is substitution over the names that they stand for is a law.
 //! Reading order: `place`, `image_places`, `copies`, `filling`, `matching`, `buffer`, `images`, `substitute`, `apart`,
-//! `numbers_apart`, `laws`.
+//! `findings`, `numbers_apart`, `laws`.
 #![tactic(auto)]
 
 mod apart;
 mod buffer;
 mod copies;
 mod filling;
+mod findings;
 mod image_places;
 mod images;
 mod laws;
@@ -22,10 +23,11 @@ mod substitute;
 
 pub use apart::disjoint;
 pub use buffer::{Buffer, SYMBOLS_LIMIT, apply_into, has_room};
+pub use findings::Findings;
 pub use image_places::ImagePlaces;
 pub use images::Subst;
 pub use laws::{pair_clause, substitution_over_names};
 pub use matching::matches;
 pub use numbers_apart::groups_apart;
-pub use place::{Place, place_between, symbols_at};
+pub use place::{ExpressionPlace, place_between, symbols_at};
 pub use substitute::apply;

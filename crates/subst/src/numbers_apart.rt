@@ -7,8 +7,10 @@ ghost use Rattle.frame.specs.Disjoint.{are_groups_apart};
 ghost use Rattle.frame.specs.Substitution.{code_image, images_of_names};
 ghost use Rattle.subst.specs.Images.{AreOver};
 ghost use Rattle.subst.specs.Places.{images_at, AreInside};
+ghost use Rattle.subst.specs.Findings.{IsKnown};
 ghost use Rattle.subst.specs.Apart.{image_named, are_two_apart, is_number_apart, are_numbers_apart};
 
+use crate::findings::Findings;
 use crate::image_places::ImagePlaces;
 use crate::place::symbols_at;
 use entries::Groups;
@@ -27,12 +29,21 @@ fn image_or<'a>(symbols: &'a [u32], images: &ImagePlaces, number: u32, own: &'a 
 }
 
 /// Whether the numbers are one, or their images are apart.
-fn two_apart(pairs: &Pairs<'_>, symbols: &[u32], images: &ImagePlaces, k: u32, l: u32) -> bool
+fn two_apart(
+    pairs: &Pairs<'_>,
+    findings: &mut Findings,
+    symbols: &[u32],
+    images: &ImagePlaces,
+    k: u32,
+    l: u32,
+) -> bool
+    requires known { IsKnown pairs.now findings.old }
     requires named { AreOver pairs.now.names (images_at symbols.now images.now) }
     requires inside { AreInside (length symbols.now) images.now }
     requires left { k < length pairs.now.names }
     requires right { l < length pairs.now.names }
-    ensures { result ≡ are_two_apart pairs.now.statements (image_named pairs.now.names (images_at symbols.now images.now)) k l }
+    ensures known { IsKnown pairs.now findings.new }
+    ensures apart { result ≡ are_two_apart pairs.now.statements (image_named pairs.now.names (images_at symbols.now images.now)) k l }
 {
     if k == l {
         return true;
@@ -41,25 +52,28 @@ fn two_apart(pairs: &Pairs<'_>, symbols: &[u32], images: &ImagePlaces, k: u32, l
     let own_right = [l];
     let left = image_or(symbols, images, k, &own_left);
     let right = image_or(symbols, images, l, &own_right);
-    pairs.apart(left, right)
+    findings.apart(pairs, left, right)
 }
 
 /// Whether the image of the number is apart from those of the others.
 fn number_apart(
     pairs: &Pairs<'_>,
+    findings: &mut Findings,
     symbols: &[u32],
     images: &ImagePlaces,
     k: u32,
     group: &[u32],
 ) -> bool
+    requires known { IsKnown pairs.now findings.old }
     requires named { AreOver pairs.now.names (images_at symbols.now images.now) }
     requires inside { AreInside (length symbols.now) images.now }
     requires left { k < length pairs.now.names }
     requires below { AreBelow (length pairs.now.names) group.now }
-    ensures { result ≡ is_number_apart pairs.now.statements (image_named pairs.now.names (images_at symbols.now images.now)) group.now k }
+    ensures known { IsKnown pairs.now findings.new }
+    ensures apart { result ≡ is_number_apart pairs.now.statements (image_named pairs.now.names (images_at symbols.now images.now)) group.now k }
 {
     for l in group {
-        if !two_apart(pairs, symbols, images, k, *l) {
+        if !two_apart(pairs, findings, symbols, images, k, *l) {
             return false;
         }
     }
@@ -67,14 +81,22 @@ fn number_apart(
 }
 
 /// Whether the images of each two numbers of the group are apart. Each two are compared once.
-fn group_apart(pairs: &Pairs<'_>, symbols: &[u32], images: &ImagePlaces, group: &[u32]) -> bool
+fn group_apart(
+    pairs: &Pairs<'_>,
+    findings: &mut Findings,
+    symbols: &[u32],
+    images: &ImagePlaces,
+    group: &[u32],
+) -> bool
+    requires known { IsKnown pairs.now findings.old }
     requires named { AreOver pairs.now.names (images_at symbols.now images.now) }
     requires inside { AreInside (length symbols.now) images.now }
     requires below { AreBelow (length pairs.now.names) group.now }
-    ensures { result ≡ are_numbers_apart pairs.now.statements (image_named pairs.now.names (images_at symbols.now images.now)) group.now }
+    ensures known { IsKnown pairs.now findings.new }
+    ensures apart { result ≡ are_numbers_apart pairs.now.statements (image_named pairs.now.names (images_at symbols.now images.now)) group.now }
 {
     for (index, k) in group.iter().enumerate() {
-        if !number_apart(pairs, symbols, images, *k, &group[index + 1..]) {
+        if !number_apart(pairs, findings, symbols, images, *k, &group[index + 1..]) {
             return false;
         }
     }
@@ -82,25 +104,27 @@ fn group_apart(pairs: &Pairs<'_>, symbols: &[u32], images: &ImagePlaces, group: 
 }
 
 /// Whether the images of each two numbers of each group are apart at the statement of the pairs. The images lie in the
-/// symbols.
+/// symbols. What is found of these is noted, and asked for again in the same proof.
 ///
-/// Cost: for each two numbers of a group, the size of their images and of the active `$d`, where one of these has the
-/// variables of both images; else, for each pair of a variable from each, the active `$d`.
+/// Cost: for each two numbers of a group that of `Findings::apart`.
 /// Source: Metamath, 4.2.6.
 pub fn groups_apart(
     pairs: &Pairs<'_>,
     groups: &Groups<'_>,
+    findings: &mut Findings,
     symbols: &[u32],
     images: &ImagePlaces,
 ) -> bool
+    requires known { IsKnown pairs.now findings.old }
     requires distinct { AreDistinct pairs.now.names }
     requires named { AreOver pairs.now.names (images_at symbols.now images.now) }
     requires inside { AreInside (length symbols.now) images.now }
     requires below { AllBelow (length pairs.now.names) groups.now }
-    ensures { result ≡ are_groups_apart pairs.now.statements (images_of_names pairs.now.names (images_at symbols.now images.now)) (map (decode pairs.now.names) groups.now) }
+    ensures known { IsKnown pairs.now findings.new }
+    ensures apart { result ≡ are_groups_apart pairs.now.statements (images_of_names pairs.now.names (images_at symbols.now images.now)) (map (decode pairs.now.names) groups.now) }
 {
     for i in 0..groups.len() {
-        if !group_apart(pairs, symbols, images, groups.get(i)) {
+        if !group_apart(pairs, findings, symbols, images, groups.get(i)) {
             return false;
         }
     }

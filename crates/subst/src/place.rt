@@ -4,13 +4,13 @@ ghost use Rattle.subst.specs.Places.{seen_at};
 
 /// Where symbols lie.
 #[derive(Clone, Copy, Drop)]
-pub struct Place {
+pub struct ExpressionPlace {
     pub start: u32,
     pub end: u32,
 }
 
 /// The symbols at a place.
-pub fn symbols_at(symbols: &[u32], place: Place) -> &[u32]
+pub fn symbols_at(symbols: &[u32], place: ExpressionPlace) -> &[u32]
     requires { (place.start ≤ place.end) × (place.end ≤ length symbols.now) }
     ensures { result.now ≡ seen_at symbols.now place }
 {
@@ -18,11 +18,11 @@ pub fn symbols_at(symbols: &[u32], place: Place) -> &[u32]
 }
 
 /// The place between two that are within the bound of a buffer.
-pub fn place_between(start: usize, end: usize) -> Place
+pub fn place_between(start: usize, end: usize) -> ExpressionPlace
     requires { (start ≤ 67108864) × (end ≤ 67108864) }
     ensures { (result.start ≡ start) × (result.end ≡ end) }
 {
-    Place {
+    ExpressionPlace {
         start: start as u32,
         end: end as u32,
     }

@@ -1,5 +1,5 @@
 //! What happens to one node of a switch.
-ghost use Rattle.std.specs.Prelude.{◌≡◌, Some};
+ghost use Rattle.std.specs.Prelude.{◌≡◌, Some, IsOk};
 ghost use Rattle.std.specs.Result.{ForOk};
 ghost use Rattle.net.specs.declared.event.Event.TheVariants.{Offer, Begin, Deliver};
 ghost use Rattle.switch.specs.Switch.{Acts, due, world_of};
@@ -14,6 +14,7 @@ impl<V: Value, K: Keep<V>> Switch<V, K> {
     /// answers the count of the packets posted so far.
     fn play(&mut self, event: Event<V>) -> Result<u64, StepFault>
         requires { due event ≡ Some event }
+        ensures taken { IsOk (world_of V.bytes self.old) }
         ensures acts { ForOk (world_of V.bytes self.old) (λ world. Acts V.bytes world self.old self.new event result) }
         ensures belonging { StaysBelonging V.bytes self.old self.new }
     {
@@ -30,6 +31,7 @@ impl<V: Value, K: Keep<V>> Switch<V, K> {
     ///
     /// Errors: as of `begin_on`.
     pub fn offer(&mut self, k: u8, value: V) -> Result<u64, StepFault>
+        ensures taken { IsOk (world_of V.bytes self.old) }
         ensures acts { ForOk (world_of V.bytes self.old) (λ world. Acts V.bytes world self.old self.new (Offer k value) result) }
         ensures belonging { StaysBelonging V.bytes self.old self.new }
     {
@@ -42,6 +44,7 @@ impl<V: Value, K: Keep<V>> Switch<V, K> {
 /// Errors: `Down` where the node is down; else the fault that the event meets in the world after the history, the first in
 /// the order of `StepFault`; else `Memory`, with nothing changed, or `Device`, where its keep failed: the node is then down.
 pub fn begin_on<V: Value, K: Keep<V>>(switch: &mut Switch<V, K>, k: u8) -> Result<u64, StepFault>
+    ensures taken { IsOk (world_of V.bytes switch.old) }
     ensures acts { ForOk (world_of V.bytes switch.old) (λ world. Acts V.bytes world switch.old switch.new (Begin k) result) }
     ensures belonging { StaysBelonging V.bytes switch.old switch.new }
 {
@@ -55,6 +58,7 @@ pub fn deliver_on<V: Value, K: Keep<V>>(
     switch: &mut Switch<V, K>,
     number: u64,
 ) -> Result<u64, StepFault>
+    ensures taken { IsOk (world_of V.bytes switch.old) }
     ensures acts { ForOk (world_of V.bytes switch.old) (λ world. Acts V.bytes world switch.old switch.new (Deliver number) result) }
     ensures belonging { StaysBelonging V.bytes switch.old switch.new }
 {

@@ -1,5 +1,5 @@
 //! The restart of one node of a switch.
-ghost use Rattle.std.specs.Prelude.{◌≡◌, Some, None, Option, true, false, slice_get};
+ghost use Rattle.std.specs.Prelude.{◌≡◌, Some, None, Option, true, false, slice_get, IsOk};
 ghost use Rattle.std.specs.Result.{ForOk};
 ghost use Rattle.net.specs.declared.event.Event.{Event};
 ghost use Rattle.net.specs.declared.event.Event.TheVariants.{Restart};
@@ -14,6 +14,7 @@ use synod::{Keep, Value};
 impl<V: Value, K: Keep<V>> Switch<V, K> {
     /// Node `k` restarts, with the record that its keep has. It answers the count of the packets posted so far.
     pub fn restart(&mut self, k: u8) -> Result<u64, StepFault>
+        ensures taken { IsOk (world_of V.bytes self.old) }
         ensures restarts { ForOk (world_of V.bytes self.old) (λ world. Restarts V.bytes world self.old self.new k result) }
         ensures belonging { StaysAtRestart V.bytes k self.old self.new result }
     {
@@ -27,6 +28,7 @@ impl<V: Value, K: Keep<V>> Switch<V, K> {
     /// The same at a node that is up, or where there is none.
     fn restart_up(&mut self, k: u8) -> Result<u64, StepFault>
         requires { is_down_at self.old.places (Some k) ≡ false }
+        ensures taken { IsOk (world_of V.bytes self.old) }
         ensures acts { ForOk (world_of V.bytes self.old) (λ world. ActsUp V.bytes world self.old self.new (Restart k) result) }
         ensures belonging { StaysAtRestart V.bytes k self.old self.new result }
     {
@@ -40,6 +42,7 @@ impl<V: Value, K: Keep<V>> Switch<V, K> {
     /// The same at a node that is down: what it failed to store is stored, and the event comes before the restart.
     fn revive(&mut self, k: u8) -> Result<u64, StepFault>
         requires { is_down_at self.old.places (Some k) ≡ true }
+        ensures taken { IsOk (world_of V.bytes self.old) }
         ensures belonging { StaysAtRestart V.bytes k self.old self.new result }
         ensures acts { ForOk (world_of V.bytes self.old) (λ world. (place : Place V) → slice_get self.old.places k ≡ Some place → (e : Option (Event V)) → place.standing ≡ down e → ActsDown V.bytes world self.old self.new k place e result) }
     {

@@ -6,7 +6,7 @@ use Rattle.std.specs.List.{AllByRecursion}
 use Rattle.std.specs.Borrow.{Bor}
 use Rattle.std.specs.Option.{option_copied}
 use Rattle.synod.specs.declared.ballot.Ballot.{Ballot}
-use Rattle.synod.specs.declared.packet.Report.{Report}
+use Rattle.synod.specs.declared.packet.SlotReport.{SlotReport}
 use Rattle.synod.specs.Ballots.{is_under}
 use Rattle.synod.specs.declared.packet.Packet.{Packet}
 use Rattle.synod.specs.declared.packet.Body.TheVariants.{Accept}
@@ -26,34 +26,34 @@ not-under : (a b c : Ballot) → is_under a b ≡ false → is_under b c ≡ fal
 not-under a b c h k = grind (arith, nat_tests)
 
 -- the later report, where it is of a higher ballot
-abbrev pub joined_with : {V : Type 0} → Option (Report V) → Report V → Option (Report V)
+abbrev pub joined_with : {V : Type 0} → Option (SlotReport V) → SlotReport V → Option (SlotReport V)
 joined_with None r = Some r
 joined_with (Some q) r = if is_under q.ballot r.ballot then Some r else Some q
 
 -- one report is gone through before, and one after
-higher-joined_if : {V : Type 0} (x q r : Report V) (a b d : Bool) → (a ≡ true → b ≡ true → d ≡ true) → (a ≡ false → b ≡ false → d ≡ false) → is_under q.ballot r.ballot ≡ a → is_under x.ballot q.ballot ≡ b → is_under x.ballot r.ballot ≡ d
+higher-joined_if : {V : Type 0} (x q r : SlotReport V) (a b d : Bool) → (a ≡ true → b ≡ true → d ≡ true) → (a ≡ false → b ≡ false → d ≡ false) → is_under q.ballot r.ballot ≡ a → is_under x.ballot q.ballot ≡ b → is_under x.ballot r.ballot ≡ d
     → higher x (if a then Some r else Some q) ≡ joined_with (if b then Some q else Some x) r
 higher-joined_if {V} x q r true true d both none ea eb ed =
     let under : is_under x.ballot r.ballot ≡ true = ed ∙ both refl refl in
-    ap (λ (t : Bool). let o : Option (Report V) = if t then Some r else Some x in o) under ∙ ap (λ (t : Bool). let o : Option (Report V) = if t then Some r else Some q in o) (sym ea)
+    ap (λ (t : Bool). let o : Option (SlotReport V) = if t then Some r else Some x in o) under ∙ ap (λ (t : Bool). let o : Option (SlotReport V) = if t then Some r else Some q in o) (sym ea)
 higher-joined_if x q r true false d both none ea eb ed = refl
 higher-joined_if {V} x q r false true d both none ea eb ed =
-    ap (λ (t : Bool). let o : Option (Report V) = if t then Some q else Some x in o) eb ∙ ap (λ (t : Bool). let o : Option (Report V) = if t then Some r else Some q in o) (sym ea)
+    ap (λ (t : Bool). let o : Option (SlotReport V) = if t then Some q else Some x in o) eb ∙ ap (λ (t : Bool). let o : Option (SlotReport V) = if t then Some r else Some q in o) (sym ea)
 higher-joined_if {V} x q r false false d both none ea eb ed =
     let over : is_under x.ballot r.ballot ≡ false = ed ∙ none refl refl in
-    ap (λ (t : Bool). let o : Option (Report V) = if t then Some q else Some x in o) eb ∙ ap (λ (t : Bool). let o : Option (Report V) = if t then Some r else Some x in o) (sym over)
+    ap (λ (t : Bool). let o : Option (SlotReport V) = if t then Some q else Some x in o) eb ∙ ap (λ (t : Bool). let o : Option (SlotReport V) = if t then Some r else Some x in o) (sym over)
 
-higher-joined : {V : Type 0} (x : Report V) (o : Option (Report V)) (r : Report V) → higher x (joined_with o r) ≡ joined_with (higher x o) r
+higher-joined : {V : Type 0} (x : SlotReport V) (o : Option (SlotReport V)) (r : SlotReport V) → higher x (joined_with o r) ≡ joined_with (higher x o) r
 higher-joined x None r = refl
 higher-joined x (Some q) r = higher-joined_if x q r (is_under q.ballot r.ballot) (is_under x.ballot q.ballot) (is_under x.ballot r.ballot)
     (λ a b. under-under x.ballot q.ballot r.ballot b a) (λ a b. not-under x.ballot q.ballot r.ballot b a) refl refl refl
 
-at_slot : {V : Type 0} (x : Report V) (t : Bool) (o p : Option (Report V)) (r : Report V) → p ≡ joined_with o r → (if t then higher x p else p) ≡ joined_with (if t then higher x o else o) r
-at_slot {V} x true o p r e = ap (λ (q : Option (Report V)). higher x q) e ∙ higher-joined x o r
+at_slot : {V : Type 0} (x : SlotReport V) (t : Bool) (o p : Option (SlotReport V)) (r : SlotReport V) → p ≡ joined_with o r → (if t then higher x p else p) ≡ joined_with (if t then higher x o else o) r
+at_slot {V} x true o p r e = ap (λ (q : Option (SlotReport V)). higher x q) e ∙ higher-joined x o r
 at_slot x false o p r e = e
 
 -- a report of the slot at the end
-pub highest_at-push : {V : Type 0} (s : ℕ) (rs : List (Report V)) (r : Report V) → r.slot ≡ s → highest_at s (rs ++ r ∷ []) ≡ joined_with (highest_at s rs) r
+pub highest_at-push : {V : Type 0} (s : ℕ) (rs : List (SlotReport V)) (r : SlotReport V) → r.slot ≡ s → highest_at s (rs ++ r ∷ []) ≡ joined_with (highest_at s rs) r
 highest_at-push {V} s [] r same = one (r.slot == s) (grind (arith, nat_tests)) where
   one : (t : Bool) → t ≡ true → (if t then Some r else None) ≡ Some r
   one true e = refl
@@ -61,37 +61,37 @@ highest_at-push {V} s [] r same = one (r.slot == s) (grind (arith, nat_tests)) w
 highest_at-push s (x ∷ rs) r same = at_slot x (x.slot == s) (highest_at s rs) (highest_at s (rs ++ r ∷ [])) r (highest_at-push s rs r same)
 
 -- a report of another slot at the end
-pub highest_at-push_other : {V : Type 0} (s : ℕ) (rs : List (Report V)) (r : Report V) → r.slot ≢ s → highest_at s (rs ++ r ∷ []) ≡ highest_at s rs
+pub highest_at-push_other : {V : Type 0} (s : ℕ) (rs : List (SlotReport V)) (r : SlotReport V) → r.slot ≢ s → highest_at s (rs ++ r ∷ []) ≡ highest_at s rs
 highest_at-push_other {V} s [] r other = none (r.slot == s) (grind (arith, nat_tests)) where
   none : (t : Bool) → t ≡ false → (if t then Some r else None) ≡ None
   none true e = cc
   none false e = refl
-highest_at-push_other {V} s (x ∷ rs) r other = ap (λ (o : Option (Report V)). if x.slot == s then higher x o else o) (highest_at-push_other s rs r other)
+highest_at-push_other {V} s (x ∷ rs) r other = ap (λ (o : Option (SlotReport V)). if x.slot == s then higher x o else o) (highest_at-push_other s rs r other)
 
 -- The table.
 
-module _ {V : Type 0} (first : ℕ) (table : List (Option (Bor (Report V)))) (reports : List (Report V)) (r : Report V) (h : AreHighest first table reports) where
+module _ {V : Type 0} (first : ℕ) (table : List (Option (Bor (SlotReport V)))) (reports : List (SlotReport V)) (r : SlotReport V) (h : AreHighest first table reports) where
   kept_at : (k : ℕ) → k < length table → (t : Bool) → (r.slot == (first + k)) ≡ t → (r.slot ≡ first + k → joined_with (option_copied (slice_index_or table k None)) r ≡ option_copied (slice_index_or table k None))
       → option_copied (slice_index_or table k None) ≡ highest_at (first + k) (reports ++ r ∷ [])
   kept_at k low true e keeps =
       let same : r.slot ≡ first + k = eqb-true _ _ e in
-      sym (keeps same) ∙ ap (λ (o : Option (Report V)). joined_with o r) (h k low) ∙ sym (highest_at-push (first + k) reports r same)
+      sym (keeps same) ∙ ap (λ (o : Option (SlotReport V)). joined_with o r) (h k low) ∙ sym (highest_at-push (first + k) reports r same)
   kept_at k low false e keeps = h k low ∙ sym (highest_at-push_other (first + k) reports r (λ d. grind (arith, nat_tests)))
 
   -- the table stays, where the report is of no slot of it or no higher
   pub highest_kept : ((k : ℕ) → k < length table → r.slot ≡ first + k → joined_with (option_copied (slice_index_or table k None)) r ≡ option_copied (slice_index_or table k None)) → AreHighest first table (reports ++ r ∷ [])
   highest_kept keeps k low = kept_at k low (r.slot == (first + k)) refl (keeps k low)
 
-  module _ (place : ℕ) (b : Bor (Report V)) (is : b.now ≡ r) (in_table : place < length table) (at : r.slot ≡ first + place) (takes : joined_with (option_copied (slice_index_or table place None)) r ≡ Some r) where
+  module _ (place : ℕ) (b : Bor (SlotReport V)) (is : b.now ≡ r) (in_table : place < length table) (at : r.slot ≡ first + place) (takes : joined_with (option_copied (slice_index_or table place None)) r ≡ Some r) where
     set_at : (k : ℕ) → k < length table → (t : Bool) → (k == place) ≡ t → option_copied (slice_index_or (set table place (Some b)) k None) ≡ highest_at (first + k) (reports ++ r ∷ [])
     set_at k low true e =
         let same : k ≡ place = eqb-true _ _ e in
         subst (λ (k : ℕ). option_copied (slice_index_or (set table place (Some b)) k None) ≡ highest_at (first + k) (reports ++ r ∷ [])) (sym same)
-        (ap (λ (o : Option (Bor (Report V))). option_copied o) (get_or-set_same table place (Some b) None in_table)
-        ∙ ap (λ (x : Report V). let o : Option (Report V) = Some x in o) is ∙ sym takes ∙ ap (λ (o : Option (Report V)). joined_with o r) (h place in_table) ∙ sym (highest_at-push (first + place) reports r at))
+        (ap (λ (o : Option (Bor (SlotReport V))). option_copied o) (get_or-set_same table place (Some b) None in_table)
+        ∙ ap (λ (x : SlotReport V). let o : Option (SlotReport V) = Some x in o) is ∙ sym takes ∙ ap (λ (o : Option (SlotReport V)). joined_with o r) (h place in_table) ∙ sym (highest_at-push (first + place) reports r at))
     set_at k low false e =
         let other : k ≢ place = λ d. grind (arith, nat_tests) in
-        ap (λ (o : Option (Bor (Report V))). option_copied o) (get_or-set_other table place k (Some b) None other) ∙ h k low
+        ap (λ (o : Option (Bor (SlotReport V))). option_copied o) (get_or-set_other table place k (Some b) None other) ∙ h k low
         ∙ sym (highest_at-push_other (first + k) reports r (λ d. other (omega (arith, at, d))))
 
     -- the report is put at its place, where it is higher
@@ -105,28 +105,28 @@ get_or-default [] i d e low = absurd (omega arith)
 get_or-default (x ∷ xs) zero d e low = refl
 get_or-default (x ∷ xs) (suc i) d e low = get_or-default xs i d e (le_of_suc-le-suc low)
 
-pub table_at : {V : Type 0} (table : List (Option (Bor (Report V)))) (place : ℕ) (item : Option (Bor (Report V))) → place < length table → item ≡ get_or table place item → slice_index_or table place None ≡ item
+pub table_at : {V : Type 0} (table : List (Option (Bor (SlotReport V)))) (place : ℕ) (item : Option (Bor (SlotReport V))) → place < length table → item ≡ get_or table place item → slice_index_or table place None ≡ item
 table_at table place item low is = get_or-default table place None item low ∙ sym is
 
-pub joined-under : {V : Type 0} (q r : Report V) → is_under q.ballot r.ballot ≡ true → joined_with (Some q) r ≡ Some r
-joined-under {V} q r e = ap (λ (t : Bool). let o : Option (Report V) = if t then Some r else Some q in o) e
+pub joined-under : {V : Type 0} (q r : SlotReport V) → is_under q.ballot r.ballot ≡ true → joined_with (Some q) r ≡ Some r
+joined-under {V} q r e = ap (λ (t : Bool). let o : Option (SlotReport V) = if t then Some r else Some q in o) e
 
-pub joined-upto : {V : Type 0} (q r : Report V) → is_under q.ballot r.ballot ≡ false → joined_with (Some q) r ≡ Some q
-joined-upto {V} q r e = ap (λ (t : Bool). let o : Option (Report V) = if t then Some r else Some q in o) e
+pub joined-upto : {V : Type 0} (q r : SlotReport V) → is_under q.ballot r.ballot ≡ false → joined_with (Some q) r ≡ Some q
+joined-upto {V} q r e = ap (λ (t : Bool). let o : Option (SlotReport V) = if t then Some r else Some q in o) e
 
-pub copied-Some : {V : Type 0} (item : Option (Bor (Report V))) (b : Bor (Report V)) → item ≡ Some b → option_copied item ≡ Some b.now
-copied-Some {V} item b e = ap (λ (o : Option (Bor (Report V))). option_copied o) e
+pub copied-Some : {V : Type 0} (item : Option (Bor (SlotReport V))) (b : Bor (SlotReport V)) → item ≡ Some b → option_copied item ≡ Some b.now
+copied-Some {V} item b e = ap (λ (o : Option (Bor (SlotReport V))). option_copied o) e
 
-pub copied-None : {V : Type 0} (item : Option (Bor (Report V))) → item ≡ None → option_copied item ≡ None
-copied-None {V} item e = ap (λ (o : Option (Bor (Report V))). option_copied o) e
+pub copied-None : {V : Type 0} (item : Option (Bor (SlotReport V))) → item ≡ None → option_copied item ≡ None
+copied-None {V} item e = ap (λ (o : Option (Bor (SlotReport V))). option_copied o) e
 
 -- One above the greatest slot.
 
-pub above_all-append : {V : Type 0} (rs qs : List (Report V)) → above_all (rs ++ qs) ≡ max (above_all rs) (above_all qs)
+pub above_all-append : {V : Type 0} (rs qs : List (SlotReport V)) → above_all (rs ++ qs) ≡ max (above_all rs) (above_all qs)
 above_all-append [] qs = omega arith
 above_all-append (r ∷ rs) qs = let e = above_all-append rs qs in omega (arith, e)
 
-pub top-above : {V : Type 0} (first : ℕ) (rs : List (Report V)) (above : ℕ) → above ≡ above_all rs → (above ≡ 0 → first ≡ top_reported first rs) × ((above ≡ 0 → ⊥) → above ≡ top_reported first rs)
+pub top-above : {V : Type 0} (first : ℕ) (rs : List (SlotReport V)) (above : ℕ) → above ≡ above_all rs → (above ≡ 0 → first ≡ top_reported first rs) × ((above ≡ 0 → ⊥) → above ≡ top_reported first rs)
 top-above first [] above e = (λ z. refl, λ n. absurd (n e))
 top-above first (r ∷ rs) above e = (λ z. absurd (omega (arith, e, z)), λ n. e)
 
@@ -142,11 +142,11 @@ take_next xs i x is low = ap (λ (j : ℕ). take j xs) (add-one i) ∙ take-suc_
 pub drop_next : {A : Type 0} (xs : List A) (i : ℕ) (x : A) → x ≡ get_or xs i x → i < length xs → drop i xs ≡ x ∷ drop (i + 1) xs
 drop_next {A} xs i x is low = drop-cons xs i x low ∙ ap (λ (z : A). z ∷ drop (suc i) xs) (sym is) ∙ ap (λ (j : ℕ). x ∷ drop j xs) (sym (add-one i))
 
-all_of-append : {V : Type 0} (pages more : List (Bor (List (Report V)))) → all_of (pages ++ more) ≡ all_of pages ++ all_of more
+all_of-append : {V : Type 0} (pages more : List (Bor (List (SlotReport V)))) → all_of (pages ++ more) ≡ all_of pages ++ all_of more
 all_of-append [] more = refl
 all_of-append (page ∷ pages) more = ap (λ rs. page.now ++ rs) (all_of-append pages more) ∙ sym (append_assoc page.now (all_of pages) (all_of more))
 
-pub all_of-push : {V : Type 0} (pages : List (Bor (List (Report V)))) (page : Bor (List (Report V))) → all_of (pages ++ page ∷ []) ≡ all_of pages ++ page.now
+pub all_of-push : {V : Type 0} (pages : List (Bor (List (SlotReport V)))) (page : Bor (List (SlotReport V))) → all_of (pages ++ page ∷ []) ≡ all_of pages ++ page.now
 all_of-push pages page = all_of-append pages (page ∷ []) ∙ ap (λ rs. all_of pages ++ rs) (append-nil page.now)
 
 -- each fact of all is one of the page at hand, and of the pages to come
@@ -158,12 +158,12 @@ pub all_right : {A : Type 0} (P : A → Type 0) (xs ys : List A) → AllByRecurs
 all_right P [] ys h = h
 all_right P (x ∷ xs) ys h = all_right P xs ys h.1
 
-pub pages_next : {V : Type 0} (pages : List (Bor (List (Report V)))) (i : ℕ) (page : Bor (List (Report V))) → page ≡ get_or pages i page → i < length pages → all_of (drop i pages) ≡ page.now ++ all_of (drop (i + 1) pages)
-pages_next {V} pages i page is low = ap (λ (ps : List (Bor (List (Report V)))). all_of ps) (drop_next pages i page is low)
+pub pages_next : {V : Type 0} (pages : List (Bor (List (SlotReport V)))) (i : ℕ) (page : Bor (List (SlotReport V))) → page ≡ get_or pages i page → i < length pages → all_of (drop i pages) ≡ page.now ++ all_of (drop (i + 1) pages)
+pages_next {V} pages i page is low = ap (λ (ps : List (Bor (List (SlotReport V)))). all_of ps) (drop_next pages i page is low)
 
 -- a table of nothing
-pub highest_of_none : {V : Type 0} (first : ℕ) (table : List (Option (Bor (Report V)))) → ((k : ℕ) → slice_index_or table k None ≡ None) → AreHighest first table []
-highest_of_none {V} first table none k low = ap (λ (o : Option (Bor (Report V))). option_copied o) (none k)
+pub highest_of_none : {V : Type 0} (first : ℕ) (table : List (Option (Bor (SlotReport V)))) → ((k : ℕ) → slice_index_or table k None ≡ None) → AreHighest first table []
+highest_of_none {V} first table none k low = ap (λ (o : Option (Bor (SlotReport V))). option_copied o) (none k)
 
 pub none_push : {A : Type 0} (table more : List (Option A)) → more ≡ table ++ None ∷ [] → ((k : ℕ) → slice_index_or table k None ≡ None) → (k : ℕ) → slice_index_or more k None ≡ None
 none_push {A} table more e none k = ap (λ (xs : List (Option A)). slice_index_or xs k None) e ∙ pushed table none k where
@@ -180,7 +180,7 @@ take_past (x ∷ xs) zero h = absurd (omega arith)
 take_past (x ∷ xs) (suc i) h = ap (λ ys. x ∷ ys) (take_past xs i (le_of_suc-le-suc h))
 
 -- one slot more is filled
-pub fill_next : {V : Type 0} (me : ℕ) (weights : List ℕ) (b : Ballot) (s n m : ℕ) (reports : List (Report V)) (v : Option V) (posts more : List (Packet V)) → more ≡ posts ++ to_all me weights (Accept b s v) → v ≡ reported_value (highest_at s reports) → n ≡ suc m
+pub fill_next : {V : Type 0} (me : ℕ) (weights : List ℕ) (b : Ballot) (s n m : ℕ) (reports : List (SlotReport V)) (v : Option V) (posts more : List (Packet V)) → more ≡ posts ++ to_all me weights (Accept b s v) → v ≡ reported_value (highest_at s reports) → n ≡ suc m
     → more ++ accepts me weights b (s + 1) (fills reports (s + 1) m) ≡ posts ++ accepts me weights b s (fills reports s n)
 fill_next {V} me weights b s n m reports v posts more posted is count =
     let rest : List (Packet V) = accepts me weights b (suc s) (fills reports (suc s) m) in
@@ -190,43 +190,43 @@ fill_next {V} me weights b s n m reports v posts more posted is count =
     ∙ ap (λ (k : ℕ). posts ++ accepts me weights b s (fills reports s k)) (sym count)
 
 -- the value of the table's report is the one that is reported highest
-pub value_at : {V : Type 0} (first : ℕ) (table : List (Option (Bor (Report V)))) (reports : List (Report V)) → AreHighest first table reports → (i s : ℕ) (item : Option (Bor (Report V))) → i < length table → item ≡ get_or table i item → s ≡ first + i
+pub value_at : {V : Type 0} (first : ℕ) (table : List (Option (Bor (SlotReport V)))) (reports : List (SlotReport V)) → AreHighest first table reports → (i s : ℕ) (item : Option (Bor (SlotReport V))) → i < length table → item ≡ get_or table i item → s ≡ first + i
     → reported_value (option_copied item) ≡ reported_value (highest_at s reports)
 value_at {V} first table reports h i s item low is at =
-    ap (λ (o : Option (Report V)). reported_value o)
-    (ap (λ (o : Option (Bor (Report V))). option_copied o) (sym (table_at table i item low is)) ∙ h i low ∙ ap (λ (j : ℕ). highest_at j reports) (sym at))
+    ap (λ (o : Option (SlotReport V)). reported_value o)
+    (ap (λ (o : Option (Bor (SlotReport V))). option_copied o) (sym (table_at table i item low is)) ∙ h i low ∙ ap (λ (j : ℕ). highest_at j reports) (sym at))
 
 -- The pages of a node, from one on.
 
-joined-none : {V : Type 0} (count : ℕ) → joined_pages {T = Report V} [] count ≡ []
+joined-none : {V : Type 0} (count : ℕ) → joined_pages {T = SlotReport V} [] count ≡ []
 joined-none zero = refl
 joined-none (suc count) = refl
 
-pub joined-gap : {V : Type 0} (pages : List (Option (List (Report V)))) (i count : ℕ) → entry_at pages i ≡ None → joined_pages (drop i pages) (suc count) ≡ joined_pages (drop (i + 1) pages) count
+pub joined-gap : {V : Type 0} (pages : List (Option (List (SlotReport V)))) (i count : ℕ) → entry_at pages i ≡ None → joined_pages (drop i pages) (suc count) ≡ joined_pages (drop (i + 1) pages) count
 joined-gap {V} pages i count e = gap pages i count e ∙ ap (λ (j : ℕ). joined_pages (drop j pages) count) (sym (add-one i)) where
-  gap : {V : Type 0} (pages : List (Option (List (Report V)))) (i count : ℕ) → entry_at pages i ≡ None → joined_pages (drop i pages) (suc count) ≡ joined_pages (drop (suc i) pages) count
+  gap : {V : Type 0} (pages : List (Option (List (SlotReport V)))) (i count : ℕ) → entry_at pages i ≡ None → joined_pages (drop i pages) (suc count) ≡ joined_pages (drop (suc i) pages) count
   gap [] zero count e = sym (joined-none count)
   gap [] (suc i) count e = sym (joined-none count)
   gap (None ∷ pages) zero count e = refl
   gap (Some page ∷ pages) zero count e = cc
   gap (x ∷ pages) (suc i) count e = gap pages i count e
 
-pub joined-page : {V : Type 0} (pages : List (Option (List (Report V)))) (i count : ℕ) (page : List (Report V)) → entry_at pages i ≡ Some page → joined_pages (drop i pages) (suc count) ≡ page ++ joined_pages (drop (i + 1) pages) count
+pub joined-page : {V : Type 0} (pages : List (Option (List (SlotReport V)))) (i count : ℕ) (page : List (SlotReport V)) → entry_at pages i ≡ Some page → joined_pages (drop i pages) (suc count) ≡ page ++ joined_pages (drop (i + 1) pages) count
 joined-page {V} pages i count page e = here pages i count page e ∙ ap (λ (j : ℕ). page ++ joined_pages (drop j pages) count) (sym (add-one i)) where
-  here : {V : Type 0} (pages : List (Option (List (Report V)))) (i count : ℕ) (page : List (Report V)) → entry_at pages i ≡ Some page → joined_pages (drop i pages) (suc count) ≡ page ++ joined_pages (drop (suc i) pages) count
+  here : {V : Type 0} (pages : List (Option (List (SlotReport V)))) (i count : ℕ) (page : List (SlotReport V)) → entry_at pages i ≡ Some page → joined_pages (drop i pages) (suc count) ≡ page ++ joined_pages (drop (suc i) pages) count
   here [] i count page e = cc
   here (None ∷ pages) zero count page e = cc
-  here {V} (Some x ∷ pages) zero count page e = let same : x ≡ page = cc in ap (λ (p : List (Report V)). p ++ joined_pages pages count) same
+  here {V} (Some x ∷ pages) zero count page e = let same : x ≡ page = cc in ap (λ (p : List (SlotReport V)). p ++ joined_pages pages count) same
   here (x ∷ pages) (suc i) count page e = here pages i count page e
 
 -- one page more was added
-pub add_next : {V : Type 0} (had : List (Option (List (Report V)))) (i n : ℕ) (all more : List (Bor (List (Report V)))) (page : Bor (List (Report V))) → entry_at had i ≡ Some page.now → more ≡ all ++ page ∷ []
+pub add_next : {V : Type 0} (had : List (Option (List (SlotReport V)))) (i n : ℕ) (all more : List (Bor (List (SlotReport V)))) (page : Bor (List (SlotReport V))) → entry_at had i ≡ Some page.now → more ≡ all ++ page ∷ []
     → all_of more ++ joined_pages (drop (i + 1) had) n ≡ all_of all ++ joined_pages (drop i had) (suc n)
 add_next {V} had i n all more page is added =
-    ap (λ (ps : List (Bor (List (Report V)))). all_of ps ++ joined_pages (drop (i + 1) had) n) added
-    ∙ ap (λ (rs : List (Report V)). rs ++ joined_pages (drop (i + 1) had) n) (all_of-push all page)
+    ap (λ (ps : List (Bor (List (SlotReport V)))). all_of ps ++ joined_pages (drop (i + 1) had) n) added
+    ∙ ap (λ (rs : List (SlotReport V)). rs ++ joined_pages (drop (i + 1) had) n) (all_of-push all page)
     ∙ append_assoc (all_of all) page.now (joined_pages (drop (i + 1) had) n)
-    ∙ ap (λ (rs : List (Report V)). all_of all ++ rs) (sym (joined-page had i n page.now is))
+    ∙ ap (λ (rs : List (SlotReport V)). all_of all ++ rs) (sym (joined-page had i n page.now is))
 
 -- As many of the values as there are slots.
 
@@ -246,7 +246,7 @@ take_min {A} xs n taken e = elim (le_or_lt (length xs) n) [
   le_or_lt a b = grind arith
 
 -- The parts of a lead.
-pub is_lead : {V : Type 0} (me : ℕ) (weights : List ℕ) (b : Ballot) (first : ℕ) (reports : List (Report V)) (waiting : List V) (top taken : ℕ) (all : List (Report V)) (none filled posts : List (Packet V))
+pub is_lead : {V : Type 0} (me : ℕ) (weights : List ℕ) (b : Ballot) (first : ℕ) (reports : List (SlotReport V)) (waiting : List V) (top taken : ℕ) (all : List (SlotReport V)) (none filled posts : List (Packet V))
     → top ≡ top_reported first reports → taken ≡ min (length waiting) (SLOTS - top) → all ≡ reports → none ≡ [] → filled ≡ none ++ accepts me weights b first (fills all first (top - first))
     → posts ≡ filled ++ accepts me weights b top (some_of (take taken waiting)) → IsLead me weights b first reports waiting posts (top + taken) taken
 is_lead {V} me weights b first reports waiting top taken all none filled posts is_top is_taken is_all is_none is_filled is_posts =
@@ -256,7 +256,7 @@ is_lead {V} me weights b first reports waiting top taken all none filled posts i
       posted = is_posts
           ∙ ap (λ (ps : List (Packet V)). ps ++ accepts me weights b top (some_of (take taken waiting))) (is_filled
           ∙ ap (λ (ps : List (Packet V)). ps ++ accepts me weights b first (fills all first (top - first))) is_none
-          ∙ ap (λ (rs : List (Report V)). accepts me weights b first (fills rs first (top - first))) is_all
+          ∙ ap (λ (rs : List (SlotReport V)). accepts me weights b first (fills rs first (top - first))) is_all
           ∙ ap (λ (t : ℕ). accepts me weights b first (fills reports first (t - first))) is_top)
           ∙ ap (λ (vs : List V). accepts me weights b first (fills reports first (top_reported first reports - first)) ++ accepts me weights b top (some_of vs)) (part.0 ∙ ap (λ (i : ℕ). take i waiting) room)
           ∙ ap (λ (t : ℕ). accepts me weights b first (fills reports first (top_reported first reports - first)) ++ accepts me weights b t (some_of (take (SLOTS - top_reported first reports) waiting))) is_top;

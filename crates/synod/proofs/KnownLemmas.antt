@@ -3,7 +3,7 @@ use Rattle.std.proofs.Common.{◌≡◌, ◌≢◌, ℕ, zero, suc, Bool, true, 
 use Rattle.slots.specs.FiniteMap.{entry_at, put_at}
 use Rattle.slots.proofs.MapReads.{put_either}
 use Rattle.synod.specs.declared.ballot.Ballot.{Ballot}
-use Rattle.synod.specs.declared.packet.Report.{Report}
+use Rattle.synod.specs.declared.packet.SlotReport.{SlotReport}
 use Rattle.synod.specs.declared.learner.Tally.{Tally}
 use Rattle.synod.specs.Ballots.{is_same}
 use Rattle.synod.specs.Node.{pages_from, page_of, with_page}
@@ -20,31 +20,31 @@ set_either (x ∷ xs) (suc i) (suc k) v d = elim (set_either xs i k v d) [ inl h
 
 -- Pages.
 
-abbrev IsPut : {V : Type 0} → ℕ → ℕ → List (Report V) → ℕ → ℕ → List (Report V) → Type 0
+abbrev IsPut : {V : Type 0} → ℕ → ℕ → List (SlotReport V) → ℕ → ℕ → List (SlotReport V) → Type 0
 IsPut p i reports k j page = (k ≡ p) × (j ≡ i) × (reports ≡ page)
 
-module _ {V : Type 0} (pages : List (List (Option (List (Report V))))) (p i : ℕ) (reports : List (Report V)) where
-  put_page : (k j : ℕ) (page : List (Report V)) (m : List (Option (List (Report V)))) → (k ≡ p) → m ≡ put_at (pages_from pages p) i reports
+module _ {V : Type 0} (pages : List (List (Option (List (SlotReport V))))) (p i : ℕ) (reports : List (SlotReport V)) where
+  put_page : (k j : ℕ) (page : List (SlotReport V)) (m : List (Option (List (SlotReport V)))) → (k ≡ p) → m ≡ put_at (pages_from pages p) i reports
       → ((j ≡ i) × (entry_at (put_at (pages_from pages p) i reports) j ≡ Some reports)) ⊎ (entry_at (put_at (pages_from pages p) i reports) j ≡ entry_at (pages_from pages p) j)
       → entry_at m j ≡ Some page → (page_of pages k j ≡ Some page) ⊎ IsPut p i reports k j page
   put_page k j page m same is (inl here) h = inr (same, here.0, cc)
   put_page k j page m same is (inr old) h =
-      let e : entry_at (pages_from pages p) j ≡ Some page = sym old ∙ ap (λ (m : List (Option (List (Report V)))). entry_at m j) (sym is) ∙ h in
+      let e : entry_at (pages_from pages p) j ≡ Some page = sym old ∙ ap (λ (m : List (Option (List (SlotReport V)))). entry_at m j) (sym is) ∙ h in
       inl (subst (λ (k : ℕ). page_of pages k j ≡ Some page) (sym same) e)
 
-  set_page : (k j : ℕ) (page : List (Report V)) → let m : List (Option (List (Report V))) = put_at (pages_from pages p) i reports in
+  set_page : (k j : ℕ) (page : List (SlotReport V)) → let m : List (Option (List (SlotReport V))) = put_at (pages_from pages p) i reports in
       ((k ≡ p) × (pages_from (set pages p m) k ≡ m)) ⊎ (pages_from (set pages p m) k ≡ pages_from pages k)
       → page_of (set pages p m) k j ≡ Some page → (page_of pages k j ≡ Some page) ⊎ IsPut p i reports k j page
   set_page k j page (inl here) h = put_page k j page _ here.0 here.1 (put_either (pages_from pages p) i j reports) h
-  set_page k j page (inr old) h = inl (ap (λ (m : List (Option (List (Report V)))). entry_at m j) (sym old) ∙ h)
+  set_page k j page (inr old) h = inl (ap (λ (m : List (Option (List (SlotReport V)))). entry_at m j) (sym old) ∙ h)
 
-  had_page : (t : Bool) (k j : ℕ) (page : List (Report V)) → page_of (if t then pages else set pages p (put_at (pages_from pages p) i reports)) k j ≡ Some page
+  had_page : (t : Bool) (k j : ℕ) (page : List (SlotReport V)) → page_of (if t then pages else set pages p (put_at (pages_from pages p) i reports)) k j ≡ Some page
       → (page_of pages k j ≡ Some page) ⊎ IsPut p i reports k j page
   had_page true k j page h = inl h
   had_page false k j page h = set_page k j page (set_either pages p k (put_at (pages_from pages p) i reports) []) h
 
   -- a page that is had was had before, or is the one that came
-  pub page_either : (k j : ℕ) (page : List (Report V)) → page_of (with_page pages p i reports) k j ≡ Some page → (page_of pages k j ≡ Some page) ⊎ IsPut p i reports k j page
+  pub page_either : (k j : ℕ) (page : List (SlotReport V)) → page_of (with_page pages p i reports) k j ≡ Some page → (page_of pages k j ≡ Some page) ⊎ IsPut p i reports k j page
   page_either k j page h = had_page (is_some (page_of pages p i)) k j page h
 
   other_if : (t : Bool) (k : ℕ) → k ≢ p → pages_from (if t then pages else set pages p (put_at (pages_from pages p) i reports)) k ≡ pages_from pages k

@@ -7,6 +7,8 @@ pub mod KnownLemmas
 pub mod PostsLemmas
 pub mod PagesHadLemmas
 pub mod RecordLemmas
+pub mod NodeKeeps
+pub mod PageKeeps
 pub mod StepKeeps
 pub mod RoomLemmas
 pub mod NodeLemmas

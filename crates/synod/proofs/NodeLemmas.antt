@@ -14,7 +14,7 @@ use Rattle.synod.specs.Core.{Core, ProposerView, LearnerView, core_of, assembled
 use Rattle.synod.specs.Proposer.{begun, begins, next_round}
 use Rattle.synod.specs.Step.{IsNode, Keeps}
 use Rattle.synod.specs.Ready.{Made, IsReadyFor}
-use Rattle.synod.proofs.StepKeeps.{KeepsOnOk, keeps_begun, keeps_reloaded}
+use Rattle.synod.proofs.NodeKeeps.{KeepsOnOk, keeps_begun, keeps_reloaded}
 
 -- the parts of a node make a node
 pub node_of_parts : {V : Type 0} (me : ℕ) (weights : List ℕ) (r : RecordView V) (p : ProposerView V) (l : LearnerView V) (core : Core V) → core_of me weights r p l ≡ core → IsNode (assembled me weights r.kept p.state l.state) → IsNode core.node

@@ -4,20 +4,20 @@ use Rattle.std.proofs.lemmas.List.{get_or-set_same, get_or-set_other}
 use Rattle.std.proofs.lemmas.Bool.{cases_eq}
 use Rattle.slots.specs.FiniteMap.{entry_at, put_at}
 use Rattle.slots.proofs.MapReads.{put_either, put_same}
-use Rattle.synod.specs.declared.packet.Report.{Report}
+use Rattle.synod.specs.declared.packet.SlotReport.{SlotReport}
 use Rattle.synod.specs.Node.{pages_from, page_of, with_page}
 
 had_not : {X : Type 0} (o : Option X) (x : X) → o ≡ Some x → is_some o ≡ false → ⊥
 had_not None x e n = cc
 had_not (Some y) x e n = cc
 
-module _ {V : Type 0} (pages : List (List (Option (List (Report V))))) (k i : ℕ) (reports : List (Report V)) where
-  abbrev with_if : Bool → List (List (Option (List (Report V))))
+module _ {V : Type 0} (pages : List (List (Option (List (SlotReport V))))) (k i : ℕ) (reports : List (SlotReport V)) where
+  abbrev with_if : Bool → List (List (Option (List (SlotReport V))))
   with_if t = if t then pages else set pages k (put_at (pages_from pages k) i reports)
 
   -- where it is new
   pub with_new : page_of pages k i ≡ None → with_page pages k i reports ≡ set pages k (put_at (pages_from pages k) i reports)
-  with_new none = ap (λ (o : Option (List (Report V))). with_if (is_some o)) none
+  with_new none = ap (λ (o : Option (List (SlotReport V))). with_if (is_some o)) none
 
   -- where it was had before
   pub with_had : is_some (page_of pages k i) ≡ true → with_page pages k i reports ≡ pages
@@ -25,35 +25,35 @@ module _ {V : Type 0} (pages : List (List (Option (List (Report V))))) (k i : �
 
   pub page_new : page_of pages k i ≡ None → k < length pages → page_of (with_page pages k i reports) k i ≡ Some reports
   page_new none within =
-      ap (λ (ps : List (List (Option (List (Report V))))). page_of ps k i) (with_new none)
-      ∙ ap (λ (m : List (Option (List (Report V)))). entry_at m i) (get_or-set_same pages k (put_at (pages_from pages k) i reports) [] within)
+      ap (λ (ps : List (List (Option (List (SlotReport V))))). page_of ps k i) (with_new none)
+      ∙ ap (λ (m : List (Option (List (SlotReport V)))). entry_at m i) (get_or-set_same pages k (put_at (pages_from pages k) i reports) [] within)
       ∙ put_same (pages_from pages k) i reports
 
-  put_other : (j : ℕ) → j ≢ i → (m : List (Option (List (Report V)))) → entry_at (put_at m i reports) j ≡ entry_at m j
+  put_other : (j : ℕ) → j ≢ i → (m : List (Option (List (SlotReport V)))) → entry_at (put_at m i reports) j ≡ entry_at m j
   put_other j other m = elim (put_either m i j reports) [ inl h ↦ absurd (other h.0) | inr h ↦ h ]
 
   set_at : (l j : ℕ) → j ≢ i → k < length pages → (l ≡ k) ⊎ (l ≢ k) → page_of (set pages k (put_at (pages_from pages k) i reports)) l j ≡ page_of pages l j
   set_at l j other within (inl same) =
       ap (λ (n : ℕ). page_of (set pages k (put_at (pages_from pages k) i reports)) n j) same
-      ∙ ap (λ (m : List (Option (List (Report V)))). entry_at m j) (get_or-set_same pages k (put_at (pages_from pages k) i reports) [] within)
+      ∙ ap (λ (m : List (Option (List (SlotReport V)))). entry_at m j) (get_or-set_same pages k (put_at (pages_from pages k) i reports) [] within)
       ∙ put_other j other (pages_from pages k)
       ∙ ap (λ (n : ℕ). page_of pages n j) (sym same)
   set_at l j other within (inr apart) =
-      ap (λ (m : List (Option (List (Report V)))). entry_at m j) (get_or-set_other pages k l (put_at (pages_from pages k) i reports) [] apart)
+      ap (λ (m : List (Option (List (SlotReport V)))). entry_at m j) (get_or-set_other pages k l (put_at (pages_from pages k) i reports) [] apart)
 
   other_if : (t : Bool) (l j : ℕ) → (l ≢ k) ⊎ (j ≢ i) → k < length pages → page_of (with_if t) l j ≡ page_of pages l j
   other_if true l j other within = refl
   other_if false l j (inl other) within =
-      ap (λ (m : List (Option (List (Report V)))). entry_at m j) (get_or-set_other pages k l (put_at (pages_from pages k) i reports) [] other)
+      ap (λ (m : List (Option (List (SlotReport V)))). entry_at m j) (get_or-set_other pages k l (put_at (pages_from pages k) i reports) [] other)
   other_if false l j (inr other) within = set_at l j other within (cases_eq l k)
 
   -- another page
   pub page_other : (l j : ℕ) → (l ≢ k) ⊎ (j ≢ i) → k < length pages → page_of (with_page pages k i reports) l j ≡ page_of pages l j
   page_other l j other within = other_if (is_some (page_of pages k i)) l j other within
 
-  stays_if : (t : Bool) → is_some (page_of pages k i) ≡ t → (l j : ℕ) (page : List (Report V)) → page_of pages l j ≡ Some page → k < length pages → (l ≡ k) ⊎ (l ≢ k) → (j ≡ i) ⊎ (j ≢ i)
+  stays_if : (t : Bool) → is_some (page_of pages k i) ≡ t → (l j : ℕ) (page : List (SlotReport V)) → page_of pages l j ≡ Some page → k < length pages → (l ≡ k) ⊎ (l ≢ k) → (j ≡ i) ⊎ (j ≢ i)
       → page_of (with_page pages k i reports) l j ≡ Some page
-  stays_if true e l j page had within a b = ap (λ (ps : List (List (Option (List (Report V))))). page_of ps l j) (with_had e) ∙ had
+  stays_if true e l j page had within a b = ap (λ (ps : List (List (Option (List (SlotReport V))))). page_of ps l j) (with_had e) ∙ had
   stays_if false e l j page had within (inr other) b = page_other l j (inl other) within ∙ had
   stays_if false e l j page had within (inl same) (inr other) = page_other l j (inr other) within ∙ had
   stays_if false e l j page had within (inl same) (inl here) =
@@ -61,10 +61,10 @@ module _ {V : Type 0} (pages : List (List (Option (List (Report V))))) (k i : �
       absurd (had_not (page_of pages k i) page at e)
 
   -- what was had stays
-  pub page_stays : (l j : ℕ) (page : List (Report V)) → page_of pages l j ≡ Some page → k < length pages → page_of (with_page pages k i reports) l j ≡ Some page
+  pub page_stays : (l j : ℕ) (page : List (SlotReport V)) → page_of pages l j ≡ Some page → k < length pages → page_of (with_page pages k i reports) l j ≡ Some page
   page_stays l j page had within = stays_if (is_some (page_of pages k i)) refl l j page had within (cases_eq l k) (cases_eq j i)
 
-  pub match_stays : (l j : ℕ) (r : Option (Bor (List (Report V)))) → MatchOption r (page_of pages l j ≡ None) (λ x. page_of pages l j ≡ Some x.now) → (b : Bool) → b ≡ is_some r → b ≡ true → k < length pages
+  pub match_stays : (l j : ℕ) (r : Option (Bor (List (SlotReport V)))) → MatchOption r (page_of pages l j ≡ None) (λ x. page_of pages l j ≡ Some x.now) → (b : Bool) → b ≡ is_some r → b ≡ true → k < length pages
       → MatchOption r (page_of (with_page pages k i reports) l j ≡ None) (λ x. page_of (with_page pages k i reports) l j ≡ Some x.now)
   match_stays l j None had b told some within = cc
   match_stays l j (Some x) had b told some within = page_stays l j x.now had within
@@ -72,7 +72,7 @@ module _ {V : Type 0} (pages : List (List (Option (List (Report V))))) (k i : �
   -- the pages of its node
   pub pages_new : page_of pages k i ≡ None → k < length pages → pages_from (with_page pages k i reports) k ≡ put_at (pages_from pages k) i reports
   pages_new none within =
-      ap (λ (ps : List (List (Option (List (Report V))))). pages_from ps k) (with_new none)
+      ap (λ (ps : List (List (Option (List (SlotReport V))))). pages_from ps k) (with_new none)
       ∙ get_or-set_same pages k (put_at (pages_from pages k) i reports) [] within
 
 pub some_is : {X : Type 0} (r : Option (Bor X)) (o : Option X) → MatchOption r (o ≡ None) (λ x. o ≡ Some x.now) → (b : Bool) → b ≡ is_some r → b ≡ true → is_some o ≡ true

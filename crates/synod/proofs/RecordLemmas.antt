@@ -2,7 +2,7 @@
 use Rattle.std.proofs.Common.{◌≡◌, ℕ, ◌-◌, ◌^◌, ◌==◌, ◌&&◌, not, nat_lt, Bool, true, false, List, [], ◌∷◌, ◌++◌, length, Option, Some, None, Result, Ok, Err, refl, if◌then◌else◌}
 use Rattle.slots.specs.FiniteMap.{entry_at}
 use Rattle.synod.specs.declared.ballot.Ballot.{Ballot}
-use Rattle.synod.specs.declared.packet.Report.{Report}
+use Rattle.synod.specs.declared.packet.SlotReport.{SlotReport}
 use Rattle.synod.specs.declared.packet.Body.{Body}
 use Rattle.synod.specs.declared.packet.Body.TheVariants.{Prepare, Promise, Accept, Accepted, Nack, Ask, Told}
 use Rattle.synod.specs.declared.proposer.Heard.{Heard}
@@ -60,14 +60,14 @@ module _ {V : Type 0} (n : Node V) where
   abbrev heard_with : ℕ → ℕ → List Heard
   heard_with p count = n.heard ++ record { node = p; count = count } ∷ []
 
-  hears_kept : (b : Ballot) (first : ℕ) (pages : List (List (Option (List (Report V))))) (heard : List Heard) → ChangesKept n (hears n b first pages heard)
+  hears_kept : (b : Ballot) (first : ℕ) (pages : List (List (Option (List (SlotReport V))))) (heard : List Heard) → ChangesKept n (hears n b first pages heard)
   hears_kept b first pages heard = either n (leads n b first (all_reports pages heard) (top_reported first (all_reports pages heard))) (keeps_promise n pages heard) (is_quorum n.weights (is_heard heard)) refl refl
 
-  gathers_kept : (p : ℕ) (b : Ballot) (first count : ℕ) (pages : List (List (Option (List (Report V))))) → ChangesKept n (gathers n p b first count pages)
+  gathers_kept : (p : ℕ) (b : Ballot) (first count : ℕ) (pages : List (List (Option (List (SlotReport V))))) → ChangesKept n (gathers n p b first count pages)
   gathers_kept p b first count pages = either n (hears n b first pages (heard_with p count)) (keeps_page n pages) (all_had (pages_from pages p) count)
       (hears_kept b first pages (heard_with p count)) refl
 
-  promise_kept : (role : Role) (p : ℕ) (b : Ballot) (page count : ℕ) (reports : List (Report V)) → ChangesKept n (on_promise_as role n p b page count reports)
+  promise_kept : (role : Role) (p : ℕ) (b : Ballot) (page count : ℕ) (reports : List (SlotReport V)) → ChangesKept n (on_promise_as role n p b page count reports)
   promise_kept Idle p b page count reports = refl
   promise_kept (Leading c next) p b page count reports = refl
   promise_kept (Preparing c first) p b page count reports = either n (gathers n p c first count (with_page n.pages p (page - 1) reports)) (unchanged n) (is_same b c && not (is_heard n.heard p))

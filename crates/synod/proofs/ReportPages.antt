@@ -5,14 +5,14 @@ use Rattle.slots.specs.declared.slots.TheConstants.{SLOTS}
 use Rattle.slots.specs.FiniteMap.{entry_at}
 use Rattle.synod.specs.declared.packet.TheConstants.{MOST_PAGES}
 use Rattle.synod.specs.declared.ballot.Ballot.{Ballot}
-use Rattle.synod.specs.declared.packet.Report.{Report}
+use Rattle.synod.specs.declared.packet.SlotReport.{SlotReport}
 use Rattle.synod.specs.declared.packet.Packet.{Packet}
 use Rattle.synod.specs.declared.packet.Body.TheVariants.{Promise}
 use Rattle.synod.specs.declared.change.Held.{Held}
 use Rattle.synod.specs.Packets.{packet}
 use Rattle.synod.specs.Pages.{onto_first, cut, pages_of}
 use Rattle.synod.specs.Acceptor.{reports_from, promise_pages}
-use Rattle.synod.proofs.StepKeeps.{reports_few, pages_few}
+use Rattle.synod.proofs.PageKeeps.{reports_few, pages_few}
 
 -- a page that was begun, and the pages after it
 abbrev pub onto_front : {T : Type 0} → List T → List (List T) → List (List T)
@@ -67,11 +67,11 @@ pages_with-last {T} full page = ap (λ (pages : List (List T)). full ++ pages) (
 
 -- The reports, slot by slot.
 
-below_if : {V : Type 0} (r : Report V) (rs : List (Report V)) (t : Bool) → t ≡ true → (if t then rs else (r ∷ rs)) ≡ rs
+below_if : {V : Type 0} (r : SlotReport V) (rs : List (SlotReport V)) (t : Bool) → t ≡ true → (if t then rs else (r ∷ rs)) ≡ rs
 below_if r rs true e = refl
 below_if r rs false e = cc
 
-above_if : {V : Type 0} (r : Report V) (rs : List (Report V)) (t : Bool) → t ≡ false → (if t then rs else (r ∷ rs)) ≡ r ∷ rs
+above_if : {V : Type 0} (r : SlotReport V) (rs : List (SlotReport V)) (t : Bool) → t ≡ false → (if t then rs else (r ∷ rs)) ≡ r ∷ rs
 above_if r rs true e = cc
 above_if r rs false e = refl
 
@@ -106,7 +106,7 @@ reports-end {V} first s i hs le = ap (λ (rest : List (Option (Held V))). report
 
 -- The packets, page by page.
 
-pub promise_pages-push : {V : Type 0} (me to : ℕ) (b : Ballot) (count i : ℕ) (pages : List (List (Report V))) (page : List (Report V))
+pub promise_pages-push : {V : Type 0} (me to : ℕ) (b : Ballot) (count i : ℕ) (pages : List (List (SlotReport V))) (page : List (SlotReport V))
     → promise_pages me to b count i (pages ++ page ∷ []) ≡ promise_pages me to b count i pages ++ packet me to (Promise b (i + length pages) count page) ∷ []
 promise_pages-push {V} me to b count i [] page = let e : i ≡ i + 0 = omega arith in ap (λ (j : ℕ). let ps : List (Packet V) = packet me to (Promise b j count page) ∷ [] in ps) e
 promise_pages-push {V} me to b count i (next ∷ pages) page =
@@ -122,55 +122,55 @@ pages-within first accepted low =
     omega (arith, low, few, count)
 
 -- What the loop over the slots keeps: the pages so far, the page begun and the reports of the slots to come are all pages.
-pub record Gathers {V : Type 0} (first s : ℕ) (accepted : List (Option (Held V))) (full : List (List (Report V))) (page : List (Report V)) : Type 0 where
+pub record Gathers {V : Type 0} (first s : ℕ) (accepted : List (Option (Held V))) (full : List (List (SlotReport V))) (page : List (SlotReport V)) : Type 0 where
   pub from : first ≤ s
   pub low : length page ≤ 256
   pub all : pages_with full page (reports_from first s (drop s accepted)) ≡ pages_of (reports_from first 0 accepted)
 
-pub gathers-first : {V : Type 0} (first : ℕ) (accepted : List (Option (Held V))) (full : List (List (Report V))) (page : List (Report V)) → full ≡ [] → page ≡ [] → Gathers first first accepted full page
+pub gathers-first : {V : Type 0} (first : ℕ) (accepted : List (Option (Held V))) (full : List (List (SlotReport V))) (page : List (SlotReport V)) → full ≡ [] → page ≡ [] → Gathers first first accepted full page
 gathers-first {V} first accepted full page no_pages no_page =
     let z : 0 + first ≡ first = omega arith in
     let skip : reports_from first first (drop first accepted) ≡ reports_from first 0 accepted = ap (λ (j : ℕ). reports_from first j (drop first accepted)) (sym z) ∙ reports-skip first 0 first accepted (omega arith) in
-    subst (λ (full : List (List (Report V))). Gathers first first accepted full page) (sym no_pages)
-    (subst (λ (page : List (Report V)). Gathers first first accepted [] page) (sym no_page) record {
+    subst (λ (full : List (List (SlotReport V))). Gathers first first accepted full page) (sym no_pages)
+    (subst (λ (page : List (SlotReport V)). Gathers first first accepted [] page) (sym no_page) record {
       from = omega arith;
       low = omega arith;
-      all = ap (λ (rs : List (Report V)). pages_with [] [] rs) skip ∙ pages_with-none (reports_from first 0 accepted);
+      all = ap (λ (rs : List (SlotReport V)). pages_with [] [] rs) skip ∙ pages_with-none (reports_from first 0 accepted);
     })
 
-module _ {V : Type 0} (first s : ℕ) (accepted : List (Option (Held V))) (full : List (List (Report V))) (page : List (Report V)) (h : Gathers first s accepted full page) (low : s < length accepted) where
-  abbrev rest : List (Report V)
+module _ {V : Type 0} (first s : ℕ) (accepted : List (Option (Held V))) (full : List (List (SlotReport V))) (page : List (SlotReport V)) (h : Gathers first s accepted full page) (low : s < length accepted) where
+  abbrev rest : List (SlotReport V)
   rest = reports_from first (suc s) (drop (suc s) accepted)
 
-  gathers-at : (full : List (List (Report V))) (page : List (Report V)) → length page ≤ 256 → pages_with full page rest ≡ pages_of (reports_from first 0 accepted) → Gathers first (s + 1) accepted full page
+  gathers-at : (full : List (List (SlotReport V))) (page : List (SlotReport V)) → length page ≤ 256 → pages_with full page rest ≡ pages_of (reports_from first 0 accepted) → Gathers first (s + 1) accepted full page
   gathers-at full page small all =
       let from = h.from in
       record { from = omega (arith, from); low = small; all = ap (λ (j : ℕ). pages_with full page (reports_from first j (drop j accepted))) (add-one s) ∙ all }
 
   pub gathers-gap : entry_at accepted s ≡ None → Gathers first (s + 1) accepted full page
-  gathers-gap none = gathers-at full page h.low (ap (λ (rs : List (Report V)). pages_with full page rs) (sym (reports-none first s s accepted low none)) ∙ h.all)
+  gathers-gap none = gathers-at full page h.low (ap (λ (rs : List (SlotReport V)). pages_with full page rs) (sym (reports-none first s s accepted low none)) ∙ h.all)
 
   module _ (x : Held V) (is : entry_at accepted s ≡ Some x) where
-    abbrev here : Report V
+    abbrev here : SlotReport V
     here = record { slot = s; ballot = x.ballot; value = x.value }
 
     with_here : pages_with full page (here ∷ rest) ≡ pages_of (reports_from first 0 accepted)
-    with_here = ap (λ (rs : List (Report V)). pages_with full page rs) (sym (reports-some first s s accepted x h.from is)) ∙ h.all
+    with_here = ap (λ (rs : List (SlotReport V)). pages_with full page rs) (sym (reports-some first s s accepted x h.from is)) ∙ h.all
 
-    pub gathers-add : length page ≢ 256 → (next : List (Report V)) → next ≡ page ++ here ∷ [] → Gathers first (s + 1) accepted full next
+    pub gathers-add : length page ≢ 256 → (next : List (SlotReport V)) → next ≡ page ++ here ∷ [] → Gathers first (s + 1) accepted full next
     gathers-add other next more =
         let small = h.low in
         let count : length (page ++ here ∷ []) ≡ length page + 1 = length-append page (here ∷ []) in
-        subst (λ (page : List (Report V)). Gathers first (s + 1) accepted full page) (sym more)
+        subst (λ (page : List (SlotReport V)). Gathers first (s + 1) accepted full page) (sym more)
         (gathers-at full (page ++ here ∷ []) (omega (arith, small, other, count)) (sym (pages_with-add full page here rest (omega (arith, small, other))) ∙ with_here))
 
-    pub gathers-new : length page ≡ 256 → (pages : List (List (Report V))) (next : List (Report V)) → pages ≡ full ++ page ∷ [] → next ≡ here ∷ [] → Gathers first (s + 1) accepted pages next
+    pub gathers-new : length page ≡ 256 → (pages : List (List (SlotReport V))) (next : List (SlotReport V)) → pages ≡ full ++ page ∷ [] → next ≡ here ∷ [] → Gathers first (s + 1) accepted pages next
     gathers-new whole pages next more one =
-        subst (λ (pages : List (List (Report V))). Gathers first (s + 1) accepted pages next) (sym more)
-        (subst (λ (begun : List (Report V)). Gathers first (s + 1) accepted (full ++ page ∷ []) begun) (sym one)
+        subst (λ (pages : List (List (SlotReport V))). Gathers first (s + 1) accepted pages next) (sym more)
+        (subst (λ (begun : List (SlotReport V)). Gathers first (s + 1) accepted (full ++ page ∷ []) begun) (sym one)
         (gathers-at (full ++ page ∷ []) (here ∷ []) (omega arith) (sym (pages_with-new full page here rest whole) ∙ with_here)))
 
-pub gathers-last : {V : Type 0} (first s : ℕ) (accepted : List (Option (Held V))) (full : List (List (Report V))) (page : List (Report V)) → Gathers first s accepted full page → length accepted ≤ s → (pages : List (List (Report V))) → pages ≡ full ++ page ∷ []
+pub gathers-last : {V : Type 0} (first s : ℕ) (accepted : List (Option (Held V))) (full : List (List (SlotReport V))) (page : List (SlotReport V)) → Gathers first s accepted full page → length accepted ≤ s → (pages : List (List (SlotReport V))) → pages ≡ full ++ page ∷ []
     → pages ≡ pages_of (reports_from first 0 accepted)
 gathers-last {V} first s accepted full page h past pages more =
-    more ∙ sym (pages_with-last full page) ∙ ap (λ (rs : List (Report V)). pages_with full page rs) (sym (reports-end first s s accepted past)) ∙ h.all
+    more ∙ sym (pages_with-last full page) ∙ ap (λ (rs : List (SlotReport V)). pages_with full page rs) (sym (reports-end first s s accepted past)) ∙ h.all

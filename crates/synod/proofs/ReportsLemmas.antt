@@ -5,14 +5,14 @@ use Rattle.std.proofs.lemmas.Bool.Decides.{nat_tests}
 use Rattle.slots.proofs.Lists.{In}
 use Rattle.slots.specs.FiniteMap.{entry_at}
 use Rattle.synod.specs.declared.ballot.Ballot.{Ballot}
-use Rattle.synod.specs.declared.packet.Report.{Report}
+use Rattle.synod.specs.declared.packet.SlotReport.{SlotReport}
 use Rattle.synod.specs.Ballots.{is_under}
 use Rattle.synod.specs.Acceptor.{reports_from}
 use Rattle.synod.specs.Proposer.{higher, highest_at, above_all, top_reported}
 use Rattle.synod.proofs.BallotsLemmas.{Upto, upto_self, under_true, under_false, under_is_upto, upto_upto}
 
 -- a report says what is held at its slot, the list beginning at slot s
-pub record IsReport {V : Type 0} (first s : ℕ) (hs : List (Option (Held V))) (r : Report V) : Type 0 where
+pub record IsReport {V : Type 0} (first s : ℕ) (hs : List (Option (Held V))) (r : SlotReport V) : Type 0 where
   pub index : ℕ
   pub entry : Held V
   pub is_held : entry_at hs index ≡ Some entry
@@ -21,14 +21,14 @@ pub record IsReport {V : Type 0} (first s : ℕ) (hs : List (Option (Held V))) (
   pub value : r.value ≡ entry.value
   pub from_first : first ≤ r.slot
 
-next_report : {V : Type 0} {first s : ℕ} {hs : List (Option (Held V))} {r : Report V} (x : Option (Held V)) → IsReport first (suc s) hs r → IsReport first s (x ∷ hs) r
+next_report : {V : Type 0} {first s : ℕ} {hs : List (Option (Held V))} {r : SlotReport V} (x : Option (Held V)) → IsReport first (suc s) hs r → IsReport first s (x ∷ hs) r
 next_report x h = record { index = suc h.index; entry = h.entry; is_held = h.is_held; slot = omega (arith, h.slot); ballot = h.ballot; value = h.value; from_first = h.from_first }
 
-here_held : {V : Type 0} (first s : ℕ) (h : Held V) (hs : List (Option (Held V))) (r : Report V) (b : Bool) → nat_lt s first ≡ b
+here_held : {V : Type 0} (first s : ℕ) (h : Held V) (hs : List (Option (Held V))) (r : SlotReport V) (b : Bool) → nat_lt s first ≡ b
     → In r (if b then reports_from first (suc s) hs else (record { slot = s; ballot = h.ballot; value = h.value } ∷ reports_from first (suc s) hs))
     → (In r (reports_from first (suc s) hs) → IsReport first (suc s) hs r) → IsReport first s (Some h ∷ hs) r
 here_held first s h hs r true e i more = next_report (Some h) (more i)
-here_held {V} first s h hs r false e (inl d) more = subst (λ (r : Report V). IsReport first s (Some h ∷ hs) r) d record {
+here_held {V} first s h hs r false e (inl d) more = subst (λ (r : SlotReport V). IsReport first s (Some h ∷ hs) r) d record {
   index = 0;
   entry = h;
   is_held = refl;
@@ -39,19 +39,19 @@ here_held {V} first s h hs r false e (inl d) more = subst (λ (r : Report V). Is
 }
 here_held first s h hs r false e (inr i) more = next_report (Some h) (more i)
 
-pub reports-held : {V : Type 0} (first s : ℕ) (hs : List (Option (Held V))) (r : Report V) → In r (reports_from first s hs) → IsReport first s hs r
+pub reports-held : {V : Type 0} (first s : ℕ) (hs : List (Option (Held V))) (r : SlotReport V) → In r (reports_from first s hs) → IsReport first s hs r
 reports-held first s [] r i = elim i [ ]
 reports-held first s (None ∷ hs) r i = next_report None (reports-held first (suc s) hs r i)
 reports-held first s (Some h ∷ hs) r i = here_held first s h hs r (nat_lt s first) refl i (reports-held first (suc s) hs r)
 
 -- what is held from the first slot on is reported
-pub record HasReport {V : Type 0} (s : ℕ) (b : Ballot) (rs : List (Report V)) : Type 0 where
-  pub report : Report V
+pub record HasReport {V : Type 0} (s : ℕ) (b : Ballot) (rs : List (SlotReport V)) : Type 0 where
+  pub report : SlotReport V
   pub is_in : In report rs
   pub slot : report.slot ≡ s
   pub ballot : report.ballot ≡ b
 
-one_more : {V : Type 0} {slot : ℕ} {b : Ballot} {rs : List (Report V)} (r : Report V) → HasReport slot b rs → HasReport slot b (r ∷ rs)
+one_more : {V : Type 0} {slot : ℕ} {b : Ballot} {rs : List (SlotReport V)} (r : SlotReport V) → HasReport slot b rs → HasReport slot b (r ∷ rs)
 one_more r h = record { report = h.report; is_in = inr h.is_in; slot = h.slot; ballot = h.ballot }
 
 here_reported : {V : Type 0} (first s : ℕ) (h : Held V) (hs : List (Option (Held V))) (slot : ℕ) (ballot : Ballot) (b : Bool) → nat_lt s first ≡ b
@@ -60,7 +60,7 @@ here_reported : {V : Type 0} (first s : ℕ) (h : Held V) (hs : List (Option (He
 here_reported first s h hs slot ballot true e m = m
 here_reported first s h hs slot ballot false e m = one_more _ m
 
-is_here : {V : Type 0} (first s : ℕ) (h : Held V) (rs : List (Report V)) (slot : ℕ) (b : Bool) → nat_lt s first ≡ b → first ≤ slot → s ≡ slot
+is_here : {V : Type 0} (first s : ℕ) (h : Held V) (rs : List (SlotReport V)) (slot : ℕ) (b : Bool) → nat_lt s first ≡ b → first ≤ slot → s ≡ slot
     → HasReport slot h.ballot (if b then rs else (record { slot = s; ballot = h.ballot; value = h.value } ∷ rs))
 is_here first s h rs slot true e l d = let f = ltb-true _ _ e in absurd (omega arith)
 is_here first s h rs slot false e l d = record { report = record { slot = s; ballot = h.ballot; value = h.value }; is_in = inl refl; slot = d; ballot = refl }
@@ -78,68 +78,68 @@ held-reported first s (Some h ∷ hs) (suc i) x slot e d l =
 
 -- The highest report.
 
-pub record IsHighest {V : Type 0} (s : ℕ) (rs : List (Report V)) (r : Report V) : Type 0 where
+pub record IsHighest {V : Type 0} (s : ℕ) (rs : List (SlotReport V)) (r : SlotReport V) : Type 0 where
   pub is_in : In r rs
   pub slot : r.slot ≡ s
-  pub most : (q : Report V) → In q rs → q.slot ≡ s → Upto q.ballot r.ballot
+  pub most : (q : SlotReport V) → In q rs → q.slot ≡ s → Upto q.ballot r.ballot
 
-abbrev pub HighestHolds : {V : Type 0} → ℕ → List (Report V) → Option (Report V) → Type 0
-HighestHolds {V} s rs None = (q : Report V) → In q rs → q.slot ≡ s → ⊥
+abbrev pub HighestHolds : {V : Type 0} → ℕ → List (SlotReport V) → Option (SlotReport V) → Type 0
+HighestHolds {V} s rs None = (q : SlotReport V) → In q rs → q.slot ≡ s → ⊥
 HighestHolds s rs (Some r) = IsHighest s rs r
 
-slot_of : {V : Type 0} → Report V → ℕ
+slot_of : {V : Type 0} → SlotReport V → ℕ
 slot_of r = r.slot
 
-more_none : {V : Type 0} (s : ℕ) (r : Report V) (rs : List (Report V)) → (r.slot ≡ s → ⊥) → HighestHolds s rs None → HighestHolds s (r ∷ rs) None
-more_none {V} s r rs n h q (inl e) d = n (ap (λ (x : Report V). x.slot) e ∙ d)
+more_none : {V : Type 0} (s : ℕ) (r : SlotReport V) (rs : List (SlotReport V)) → (r.slot ≡ s → ⊥) → HighestHolds s rs None → HighestHolds s (r ∷ rs) None
+more_none {V} s r rs n h q (inl e) d = n (ap (λ (x : SlotReport V). x.slot) e ∙ d)
 more_none s r rs n h q (inr i) d = h q i d
 
-more_some : {V : Type 0} (s : ℕ) (r : Report V) (rs : List (Report V)) (p : Report V) → (r.slot ≡ s → Upto r.ballot p.ballot) → IsHighest s rs p → (q : Report V) → In q (r ∷ rs) → q.slot ≡ s → Upto q.ballot p.ballot
-more_some {V} s r rs p n h q (inl e) d = subst (λ (x : Report V). Upto x.ballot p.ballot) e (n (ap (λ (x : Report V). x.slot) e ∙ d))
+more_some : {V : Type 0} (s : ℕ) (r : SlotReport V) (rs : List (SlotReport V)) (p : SlotReport V) → (r.slot ≡ s → Upto r.ballot p.ballot) → IsHighest s rs p → (q : SlotReport V) → In q (r ∷ rs) → q.slot ≡ s → Upto q.ballot p.ballot
+more_some {V} s r rs p n h q (inl e) d = subst (λ (x : SlotReport V). Upto x.ballot p.ballot) e (n (ap (λ (x : SlotReport V). x.slot) e ∙ d))
 more_some s r rs p n h q (inr i) d = h.most q i d
 
-kept_highest : {V : Type 0} (s : ℕ) (r : Report V) (rs : List (Report V)) (p : Report V) → (r.slot ≡ s → Upto r.ballot p.ballot) → IsHighest s rs p → IsHighest s (r ∷ rs) p
+kept_highest : {V : Type 0} (s : ℕ) (r : SlotReport V) (rs : List (SlotReport V)) (p : SlotReport V) → (r.slot ≡ s → Upto r.ballot p.ballot) → IsHighest s rs p → IsHighest s (r ∷ rs) p
 kept_highest s r rs p n h = record { is_in = inr h.is_in; slot = h.slot; most = more_some s r rs p n h }
 
-alone_most : {V : Type 0} (s : ℕ) (r : Report V) (rs : List (Report V)) → HighestHolds s rs None → (q : Report V) → In q (r ∷ rs) → q.slot ≡ s → Upto q.ballot r.ballot
-alone_most {V} s r rs h q (inl e) d = subst (λ (x : Report V). Upto x.ballot r.ballot) e (upto_self r.ballot)
+alone_most : {V : Type 0} (s : ℕ) (r : SlotReport V) (rs : List (SlotReport V)) → HighestHolds s rs None → (q : SlotReport V) → In q (r ∷ rs) → q.slot ≡ s → Upto q.ballot r.ballot
+alone_most {V} s r rs h q (inl e) d = subst (λ (x : SlotReport V). Upto x.ballot r.ballot) e (upto_self r.ballot)
 alone_most s r rs h q (inr i) d = absurd (h q i d)
 
-over_most : {V : Type 0} (s : ℕ) (r : Report V) (rs : List (Report V)) (p : Report V) → Upto p.ballot r.ballot → IsHighest s rs p → (q : Report V) → In q (r ∷ rs) → q.slot ≡ s → Upto q.ballot r.ballot
-over_most {V} s r rs p u h q (inl e) d = subst (λ (x : Report V). Upto x.ballot r.ballot) e (upto_self r.ballot)
+over_most : {V : Type 0} (s : ℕ) (r : SlotReport V) (rs : List (SlotReport V)) (p : SlotReport V) → Upto p.ballot r.ballot → IsHighest s rs p → (q : SlotReport V) → In q (r ∷ rs) → q.slot ≡ s → Upto q.ballot r.ballot
+over_most {V} s r rs p u h q (inl e) d = subst (λ (x : SlotReport V). Upto x.ballot r.ballot) e (upto_self r.ballot)
 over_most s r rs p u h q (inr i) d = upto_upto q.ballot p.ballot r.ballot (h.most q i d) u
 
-higher_either : {V : Type 0} (s : ℕ) (r : Report V) (rs : List (Report V)) (p : Report V) (b : Bool) → is_under r.ballot p.ballot ≡ b → r.slot ≡ s → IsHighest s rs p → HighestHolds s (r ∷ rs) (if b then Some p else Some r)
+higher_either : {V : Type 0} (s : ℕ) (r : SlotReport V) (rs : List (SlotReport V)) (p : SlotReport V) (b : Bool) → is_under r.ballot p.ballot ≡ b → r.slot ≡ s → IsHighest s rs p → HighestHolds s (r ∷ rs) (if b then Some p else Some r)
 higher_either s r rs p true e d h = kept_highest s r rs p (λ _. under_is_upto _ _ (under_true _ _ e)) h
 higher_either s r rs p false e d h = record { is_in = inl refl; slot = d; most = over_most s r rs p (under_false _ _ e) h }
 
-higher_holds : {V : Type 0} (s : ℕ) (r : Report V) (rs : List (Report V)) (o : Option (Report V)) → r.slot ≡ s → HighestHolds s rs o → HighestHolds s (r ∷ rs) (higher r o)
+higher_holds : {V : Type 0} (s : ℕ) (r : SlotReport V) (rs : List (SlotReport V)) (o : Option (SlotReport V)) → r.slot ≡ s → HighestHolds s rs o → HighestHolds s (r ∷ rs) (higher r o)
 higher_holds s r rs None d h = record { is_in = inl refl; slot = d; most = alone_most s r rs h }
 higher_holds s r rs (Some p) d h = higher_either s r rs p (is_under r.ballot p.ballot) refl d h
 
-other_holds : {V : Type 0} (s : ℕ) (r : Report V) (rs : List (Report V)) (o : Option (Report V)) → (r.slot ≡ s → ⊥) → HighestHolds s rs o → HighestHolds s (r ∷ rs) o
+other_holds : {V : Type 0} (s : ℕ) (r : SlotReport V) (rs : List (SlotReport V)) (o : Option (SlotReport V)) → (r.slot ≡ s → ⊥) → HighestHolds s rs o → HighestHolds s (r ∷ rs) o
 other_holds s r rs None n h = more_none s r rs n h
 other_holds s r rs (Some p) n h = kept_highest s r rs p (λ d. absurd (n d)) h
 
-either_holds : {V : Type 0} (s : ℕ) (r : Report V) (rs : List (Report V)) (b : Bool) → (r.slot == s) ≡ b → HighestHolds s rs (highest_at s rs) → HighestHolds s (r ∷ rs) (if b then higher r (highest_at s rs) else highest_at s rs)
+either_holds : {V : Type 0} (s : ℕ) (r : SlotReport V) (rs : List (SlotReport V)) (b : Bool) → (r.slot == s) ≡ b → HighestHolds s rs (highest_at s rs) → HighestHolds s (r ∷ rs) (if b then higher r (highest_at s rs) else highest_at s rs)
 either_holds s r rs true e h = higher_holds s r rs (highest_at s rs) (eqb-true _ _ e) h
 either_holds s r rs false e h = other_holds s r rs (highest_at s rs) (λ d. grind (arith, nat_tests)) h
 
-pub highest_holds : {V : Type 0} (s : ℕ) (rs : List (Report V)) → HighestHolds s rs (highest_at s rs)
+pub highest_holds : {V : Type 0} (s : ℕ) (rs : List (SlotReport V)) → HighestHolds s rs (highest_at s rs)
 highest_holds s [] = λ q i d. elim i [ ]
 highest_holds s (r ∷ rs) = either_holds s r rs (r.slot == s) refl (highest_holds s rs)
 
 -- The top.
 
-pub above_each : {V : Type 0} (rs : List (Report V)) (r : Report V) → In r rs → r.slot < above_all rs
+pub above_each : {V : Type 0} (rs : List (SlotReport V)) (r : SlotReport V) → In r rs → r.slot < above_all rs
 above_each [] r i = elim i [ ]
-above_each {V} (q ∷ rs) r (inl e) = subst (λ (x : Report V). x.slot < max (q.slot + 1) (above_all rs)) e (omega arith)
+above_each {V} (q ∷ rs) r (inl e) = subst (λ (x : SlotReport V). x.slot < max (q.slot + 1) (above_all rs)) e (omega arith)
 above_each (q ∷ rs) r (inr i) = let h = above_each rs r i in omega arith
 
-pub below_top : {V : Type 0} (first : ℕ) (rs : List (Report V)) (r : Report V) → In r rs → r.slot < top_reported first rs
+pub below_top : {V : Type 0} (first : ℕ) (rs : List (SlotReport V)) (r : SlotReport V) → In r rs → r.slot < top_reported first rs
 below_top first [] r i = elim i [ ]
 below_top first (q ∷ rs) r i = above_each (q ∷ rs) r i
 
-pub first_to_top : {V : Type 0} (first : ℕ) (rs : List (Report V)) → ((r : Report V) → In r rs → first ≤ r.slot) → first ≤ top_reported first rs
+pub first_to_top : {V : Type 0} (first : ℕ) (rs : List (SlotReport V)) → ((r : SlotReport V) → In r rs → first ≤ r.slot) → first ≤ top_reported first rs
 first_to_top first [] h = omega arith
 first_to_top first (q ∷ rs) h = let l = h q (inl refl) in omega arith

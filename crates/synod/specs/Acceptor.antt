@@ -4,7 +4,7 @@
 use Rattle.std.specs.Prelude.{ℕ, suc, nat_lt, List, [], ◌∷◌, Option, Some, None, length, if◌then◌else◌}
 use Rattle.slots.specs.FiniteMap.{put_at}
 use Rattle.synod.specs.declared.ballot.Ballot.{Ballot}
-use Rattle.synod.specs.declared.packet.Report.{Report}
+use Rattle.synod.specs.declared.packet.SlotReport.{SlotReport}
 use Rattle.synod.specs.declared.packet.Packet.{Packet}
 use Rattle.synod.specs.declared.packet.Body.TheVariants.{Promise, Accepted, Nack}
 use Rattle.synod.specs.declared.change.Held.{Held}
@@ -15,7 +15,7 @@ use Rattle.synod.specs.Pages.{pages_of}
 use Rattle.synod.specs.Node.{Node, Stepped, answers}
 
 -- the reports of the slots from first on, where the list begins at slot s
-abbrev pub reports_from : {V : Type 0} → ℕ → ℕ → List (Option (Held V)) → List (Report V)
+abbrev pub reports_from : {V : Type 0} → ℕ → ℕ → List (Option (Held V)) → List (SlotReport V)
 reports_from first s [] = []
 reports_from first s (None ∷ hs) = reports_from first (suc s) hs
 reports_from first s (Some h ∷ hs) =
@@ -24,11 +24,11 @@ reports_from first s (Some h ∷ hs) =
     else (record { slot = s; ballot = h.ballot; value = h.value } ∷ reports_from first (suc s) hs)
 
 -- the packets of a promise, numbered from i
-abbrev pub promise_pages : {V : Type 0} → ℕ → ℕ → Ballot → ℕ → ℕ → List (List (Report V)) → List (Packet V)
+abbrev pub promise_pages : {V : Type 0} → ℕ → ℕ → Ballot → ℕ → ℕ → List (List (SlotReport V)) → List (Packet V)
 promise_pages me p b count i [] = []
 promise_pages me p b count i (page ∷ pages) = packet me p (Promise b i count page) ∷ promise_pages me p b count (suc i) pages
 
-abbrev pub promise_posts : {V : Type 0} → ℕ → ℕ → Ballot → List (List (Report V)) → List (Packet V)
+abbrev pub promise_posts : {V : Type 0} → ℕ → ℕ → Ballot → List (List (SlotReport V)) → List (Packet V)
 promise_posts me p b pages = promise_pages me p b (length pages) 1 pages
 
 -- the ballot is promised to p, with what was accepted from first on

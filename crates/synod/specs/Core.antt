@@ -2,7 +2,7 @@
 -- Source: this project's way of making a step ready, and then making it.
 -- The code keeps the three parts of a node apart, and each has its own room.
 use Rattle.std.specs.Prelude.{ℕ, List, Option}
-use Rattle.synod.specs.declared.packet.Report.{Report}
+use Rattle.synod.specs.declared.packet.SlotReport.{SlotReport}
 use Rattle.synod.specs.declared.proposer.Role.{Role}
 use Rattle.synod.specs.declared.proposer.Heard.{Heard}
 use Rattle.synod.specs.declared.learner.Tally.{Tally}
@@ -12,7 +12,7 @@ use Rattle.synod.specs.Node.{Node}
 -- the proposer's part of a node
 pub record Proposing (V : Type 0) : Type 0 where
   pub role : Role
-  pub pages : List (List (Option (List (Report V))))
+  pub pages : List (List (Option (List (SlotReport V))))
   pub heard : List Heard
   pub waiting : List V
 

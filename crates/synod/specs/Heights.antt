@@ -4,7 +4,7 @@
 use Rattle.std.specs.Prelude.{◌≡◌, ◌<◌, ◌≤◌, ◌+◌, ◌-◌, ℕ, List, [], ◌∷◌, ◌++◌, Option, Some, None, length, map, take, drop, slice_index_or}
 use Rattle.std.specs.Borrow.{Bor}
 use Rattle.std.specs.Option.{option_copied}
-use Rattle.synod.specs.declared.packet.Report.{Report}
+use Rattle.synod.specs.declared.packet.SlotReport.{SlotReport}
 use Rattle.slots.specs.declared.slots.TheConstants.{SLOTS}
 use Rattle.synod.specs.declared.ballot.Ballot.{Ballot}
 use Rattle.synod.specs.declared.packet.Packet.{Packet}
@@ -12,12 +12,12 @@ use Rattle.synod.specs.Packets.{accepts}
 use Rattle.synod.specs.Proposer.{highest_at, top_reported, fills}
 
 -- the reports of all pages, in order
-abbrev pub all_of : {V : Type 0} → List (Bor (List (Report V))) → List (Report V)
+abbrev pub all_of : {V : Type 0} → List (Bor (List (SlotReport V))) → List (SlotReport V)
 all_of [] = []
 all_of (page ∷ pages) = page.now ++ all_of pages
 
 -- the table has the highest of the reports at each slot, from the first on
-abbrev pub AreHighest : {V : Type 0} → ℕ → List (Option (Bor (Report V))) → List (Report V) → Type 0
+abbrev pub AreHighest : {V : Type 0} → ℕ → List (Option (Bor (SlotReport V))) → List (SlotReport V) → Type 0
 AreHighest first table reports = (k : ℕ) → k < length table → option_copied (slice_index_or table k None) ≡ highest_at (first + k) reports
 
 -- the values as entries
@@ -25,7 +25,7 @@ abbrev pub some_of : {V : Type 0} → List V → List (Option V)
 some_of values = map (λ v. Some v) values
 
 -- what `leads` says, part by part: the posts, the next slot, and how many that waited are proposed
-pub record IsLead {V : Type 0} (me : ℕ) (weights : List ℕ) (b : Ballot) (first : ℕ) (reports : List (Report V)) (waiting : List V) (posts : List (Packet V)) (next taken : ℕ) : Type 0 where
+pub record IsLead {V : Type 0} (me : ℕ) (weights : List ℕ) (b : Ballot) (first : ℕ) (reports : List (SlotReport V)) (waiting : List V) (posts : List (Packet V)) (next taken : ℕ) : Type 0 where
   pub posted : let top = top_reported first reports in
       posts ≡ accepts me weights b first (fills reports first (top - first)) ++ accepts me weights b top (some_of (take (SLOTS - top) waiting))
   pub next_is : next ≡ top_reported first reports + length (take (SLOTS - top_reported first reports) waiting)

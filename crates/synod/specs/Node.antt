@@ -4,7 +4,7 @@
 use Rattle.std.specs.Prelude.{ℕ, Bool, false, ◌==◌, ◌||◌, List, [], ◌∷◌, Option, None, is_some, map, slice_set, slice_index_or, if◌then◌else◌}
 use Rattle.slots.specs.FiniteMap.{entry_at, put_at}
 use Rattle.synod.specs.declared.ballot.Ballot.{Ballot}
-use Rattle.synod.specs.declared.packet.Report.{Report}
+use Rattle.synod.specs.declared.packet.SlotReport.{SlotReport}
 use Rattle.synod.specs.declared.packet.Packet.{Packet}
 use Rattle.synod.specs.declared.change.Held.{Held}
 use Rattle.synod.specs.declared.change.Change.{Change}
@@ -21,7 +21,7 @@ pub record Node (V : Type 0) : Type 0 where
   pub round : ℕ
   pub accepted : List (Option (Held V))  -- by slot
   pub role : Role
-  pub pages : List (List (Option (List (Report V))))  -- by node, and then by page, from 0
+  pub pages : List (List (Option (List (SlotReport V))))  -- by node, and then by page, from 0
   pub heard : List Heard  -- the first heard first
   pub tallies : List (Option (List Tally))  -- by slot
   pub learned : List (Option (Option V))  -- by slot
@@ -65,20 +65,20 @@ abbrev pub answers : {V : Type 0} → Node V → List (Packet V) → Stepped V
 answers n posts = record { node = n; change = None; posts = posts }
 
 -- the pages had of node k
-abbrev pub pages_from : {V : Type 0} → List (List (Option (List (Report V)))) → ℕ → List (Option (List (Report V)))
+abbrev pub pages_from : {V : Type 0} → List (List (Option (List (SlotReport V)))) → ℕ → List (Option (List (SlotReport V)))
 pages_from pages k = slice_index_or pages k []
 
 -- the page of node k at that index, where it was had
-abbrev pub page_of : {V : Type 0} → List (List (Option (List (Report V)))) → ℕ → ℕ → Option (List (Report V))
+abbrev pub page_of : {V : Type 0} → List (List (Option (List (SlotReport V)))) → ℕ → ℕ → Option (List (SlotReport V))
 page_of pages k i = entry_at (pages_from pages k) i
 
 -- a page is kept, unless it was had before
-abbrev pub with_page : {V : Type 0} → List (List (Option (List (Report V)))) → ℕ → ℕ → List (Report V) → List (List (Option (List (Report V))))
+abbrev pub with_page : {V : Type 0} → List (List (Option (List (SlotReport V)))) → ℕ → ℕ → List (SlotReport V) → List (List (Option (List (SlotReport V))))
 with_page pages k i reports =
     if is_some (page_of pages k i) then pages else slice_set pages k (put_at (pages_from pages k) i reports)
 
 -- no page was had of any node
-abbrev pub no_pages : {V : Type 0} → List ℕ → List (List (Option (List (Report V))))
+abbrev pub no_pages : {V : Type 0} → List ℕ → List (List (Option (List (SlotReport V))))
 no_pages weights = map (λ w. []) weights
 
 abbrev pub is_heard : List Heard → ℕ → Bool

@@ -6,7 +6,7 @@ use Rattle.std.specs.List.{AllByRecursion}
 use Rattle.slots.specs.declared.slots.TheConstants.{SLOTS}
 use Rattle.synod.specs.declared.packet.TheConstants.{MOST_PAGES}
 use Rattle.synod.specs.declared.ballot.Ballot.{Ballot}
-use Rattle.synod.specs.declared.packet.Report.{Report}
+use Rattle.synod.specs.declared.packet.SlotReport.{SlotReport}
 use Rattle.synod.specs.declared.packet.Packet.{Packet}
 use Rattle.synod.specs.declared.packet.Body.{Body}
 use Rattle.synod.specs.declared.packet.Body.TheVariants.{Prepare, Promise, Accept, Accepted, Nack, Ask, Told}
@@ -40,10 +40,10 @@ accepts me weights ballot s (v ∷ vs) = to_all me weights (Accept ballot s v) +
 -- What every packet keeps: each slot that it names is below the limit, that of a Prepare at most the limit,
 -- and a page is one of those counted.
 
-abbrev pub IsReport : {V : Type 0} → Report V → Type 0
+abbrev pub IsReport : {V : Type 0} → SlotReport V → Type 0
 IsReport report = report.slot < SLOTS
 
-pub record IsPage {V : Type 0} (page count : ℕ) (reports : List (Report V)) : Type 0 where
+pub record IsPage {V : Type 0} (page count : ℕ) (reports : List (SlotReport V)) : Type 0 where
   pub first : 1 ≤ page
   pub last : page ≤ count
   pub few : count ≤ MOST_PAGES

@@ -3,7 +3,7 @@
 -- The code keeps a map of pages for each node, with its room.
 use Rattle.std.specs.Prelude.{ℕ, List, Option, map, slice_set}
 use Rattle.slots.specs.FiniteMap.{SlotsView, put_at}
-use Rattle.synod.specs.declared.packet.Report.{Report}
+use Rattle.synod.specs.declared.packet.SlotReport.{SlotReport}
 use Rattle.synod.specs.declared.pages.PagesWith.{PagesWith}
 use Rattle.synod.specs.Node.{pages_from, with_page}
 
@@ -15,9 +15,9 @@ abbrev pub rooms_of : {T : Type 0} → List (SlotsView T) → List ℕ
 rooms_of maps = map (λ m. m.room) maps
 
 -- a page is put into the map of its node
-abbrev pub put_page : {V : Type 0} → List (List (Option (List (Report V)))) → ℕ → ℕ → List (Report V) → List (List (Option (List (Report V))))
+abbrev pub put_page : {V : Type 0} → List (List (Option (List (SlotReport V)))) → ℕ → ℕ → List (SlotReport V) → List (List (Option (List (SlotReport V))))
 put_page pages k i reports = slice_set pages k (put_at (pages_from pages k) i reports)
 
 -- the pages had, with the one just delivered
-abbrev pub pages_with : {V : Type 0} → PagesWith V → List (List (Option (List (Report V))))
+abbrev pub pages_with : {V : Type 0} → PagesWith V → List (List (Option (List (SlotReport V))))
 pages_with w = with_page (entries_of w.pages.now) w.node w.page w.reports.now

@@ -6,7 +6,7 @@ use Rattle.slots.specs.declared.slots.TheConstants.{SLOTS}
 use Rattle.synod.specs.declared.value.TheConstants.{MOST_BYTES}
 use Rattle.synod.specs.declared.proposer.TheConstants.{MOST_WAITING}
 use Rattle.synod.specs.declared.ballot.Ballot.{Ballot}
-use Rattle.synod.specs.declared.packet.Report.{Report}
+use Rattle.synod.specs.declared.packet.SlotReport.{SlotReport}
 use Rattle.synod.specs.declared.packet.Body.TheVariants.{Prepare, Accept}
 use Rattle.synod.specs.declared.change.Change.TheVariants.{Round}
 use Rattle.synod.specs.declared.proposer.Heard.{Heard}
@@ -79,41 +79,41 @@ begun n = if nat_lt (next_round n) (2 ^ 64) then Ok (begins n) else Err RoundsSp
 -- What is proposed.
 
 -- the earlier one, unless the later is of a higher ballot
-abbrev pub higher : {V : Type 0} → Report V → Option (Report V) → Option (Report V)
+abbrev pub higher : {V : Type 0} → SlotReport V → Option (SlotReport V) → Option (SlotReport V)
 higher r None = Some r
 higher r (Some q) = if is_under r.ballot q.ballot then Some q else Some r
 
 -- the first report of the highest ballot at the slot
-abbrev pub highest_at : {V : Type 0} → ℕ → List (Report V) → Option (Report V)
+abbrev pub highest_at : {V : Type 0} → ℕ → List (SlotReport V) → Option (SlotReport V)
 highest_at s [] = None
 highest_at s (r ∷ rs) = if r.slot == s then higher r (highest_at s rs) else highest_at s rs
 
 -- its value, or the no-operation
-abbrev pub reported_value : {V : Type 0} → Option (Report V) → Option V
+abbrev pub reported_value : {V : Type 0} → Option (SlotReport V) → Option V
 reported_value None = None
 reported_value (Some r) = r.value
 
 -- one above the greatest slot reported
-abbrev pub above_all : {V : Type 0} → List (Report V) → ℕ
+abbrev pub above_all : {V : Type 0} → List (SlotReport V) → ℕ
 above_all [] = 0
 above_all (r ∷ rs) = max (r.slot + 1) (above_all rs)
 
-abbrev pub top_reported : {V : Type 0} → ℕ → List (Report V) → ℕ
+abbrev pub top_reported : {V : Type 0} → ℕ → List (SlotReport V) → ℕ
 top_reported first [] = first
 top_reported first (r ∷ rs) = above_all (r ∷ rs)
 
 -- the values for so many slots from s on
-abbrev pub fills : {V : Type 0} → List (Report V) → ℕ → ℕ → List (Option V)
+abbrev pub fills : {V : Type 0} → List (SlotReport V) → ℕ → ℕ → List (Option V)
 fills reports s zero = []
 fills reports s (suc count) = reported_value (highest_at s reports) ∷ fills reports (suc s) count
 
 -- the reports of all nodes heard, the first heard first
-abbrev pub all_reports : {V : Type 0} → List (List (Option (List (Report V)))) → List Heard → List (Report V)
+abbrev pub all_reports : {V : Type 0} → List (List (Option (List (SlotReport V)))) → List Heard → List (SlotReport V)
 all_reports pages [] = []
 all_reports pages (h ∷ hs) = joined_pages (pages_from pages h.node) h.count ++ all_reports pages hs
 
 -- it leads: what was reported goes to the slots from first to top, and what waits to those after
-abbrev pub leads : {V : Type 0} → Node V → Ballot → ℕ → List (Report V) → ℕ → Stepped V
+abbrev pub leads : {V : Type 0} → Node V → Ballot → ℕ → List (SlotReport V) → ℕ → Stepped V
 leads n b first reports top =
     let taken = take (SLOTS - top) n.waiting in
     answers
@@ -121,34 +121,34 @@ leads n b first reports top =
     (accepts n.me n.weights b first (fills reports first (top - first)) ++ accepts n.me n.weights b top (map (λ v. Some v) taken))
 
 -- the same, of what the nodes heard have reported
-abbrev pub leads_with : {V : Type 0} → Node V → Ballot → ℕ → List (List (Option (List (Report V)))) → List Heard → Stepped V
+abbrev pub leads_with : {V : Type 0} → Node V → Ballot → ℕ → List (List (Option (List (SlotReport V)))) → List Heard → Stepped V
 leads_with n b first pages heard = leads n b first (all_reports pages heard) (top_reported first (all_reports pages heard))
 
 -- A page of a promise comes.
 
 -- the page is kept, and the promise has more
-abbrev pub keeps_page : {V : Type 0} → Node V → List (List (Option (List (Report V)))) → Stepped V
+abbrev pub keeps_page : {V : Type 0} → Node V → List (List (Option (List (SlotReport V)))) → Stepped V
 keeps_page n pages = answers (record n { pages = pages }) []
 
 -- the sender is heard, and no quorum yet
-abbrev pub keeps_promise : {V : Type 0} → Node V → List (List (Option (List (Report V)))) → List Heard → Stepped V
+abbrev pub keeps_promise : {V : Type 0} → Node V → List (List (Option (List (SlotReport V)))) → List Heard → Stepped V
 keeps_promise n pages heard = answers (record n { pages = pages; heard = heard }) []
 
 -- the sender is heard
-abbrev pub hears : {V : Type 0} → Node V → Ballot → ℕ → List (List (Option (List (Report V)))) → List Heard → Stepped V
+abbrev pub hears : {V : Type 0} → Node V → Ballot → ℕ → List (List (Option (List (SlotReport V)))) → List Heard → Stepped V
 hears n b first pages heard =
     if is_quorum n.weights (is_heard heard)
     then leads_with n b first pages heard
     else keeps_promise n pages heard
 
 -- a page that was asked for, of a node not heard yet
-abbrev pub gathers : {V : Type 0} → Node V → ℕ → Ballot → ℕ → ℕ → List (List (Option (List (Report V)))) → Stepped V
+abbrev pub gathers : {V : Type 0} → Node V → ℕ → Ballot → ℕ → ℕ → List (List (Option (List (SlotReport V)))) → Stepped V
 gathers n p b first count pages =
     if all_had (pages_from pages p) count
     then hears n b first pages (n.heard ++ record { node = p; count = count } ∷ [])
     else keeps_page n pages
 
-abbrev pub on_promise_as : {V : Type 0} → Role → Node V → ℕ → Ballot → ℕ → ℕ → List (Report V) → Stepped V
+abbrev pub on_promise_as : {V : Type 0} → Role → Node V → ℕ → Ballot → ℕ → ℕ → List (SlotReport V) → Stepped V
 on_promise_as Idle n p b page count reports = unchanged n
 on_promise_as (Leading c next) n p b page count reports = unchanged n
 on_promise_as (Preparing c first) n p b page count reports =
@@ -157,7 +157,7 @@ on_promise_as (Preparing c first) n p b page count reports =
     else unchanged n
 
 -- Promise(b, page, count, reports) from p
-abbrev pub on_promise : {V : Type 0} → Node V → ℕ → Ballot → ℕ → ℕ → List (Report V) → Stepped V
+abbrev pub on_promise : {V : Type 0} → Node V → ℕ → Ballot → ℕ → ℕ → List (SlotReport V) → Stepped V
 on_promise n p b page count reports = on_promise_as n.role n p b page count reports
 
 -- A proposer is refused.

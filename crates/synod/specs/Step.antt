@@ -4,7 +4,7 @@
 use Rattle.std.specs.Prelude.{◌<◌, ◌≤◌, ℕ, List, Option, Some, None, length}
 use Rattle.std.specs.List.{AllByRecursion}
 use Rattle.slots.specs.declared.slots.TheConstants.{SLOTS}
-use Rattle.synod.specs.declared.packet.Report.{Report}
+use Rattle.synod.specs.declared.packet.SlotReport.{SlotReport}
 use Rattle.synod.specs.declared.packet.Packet.{Packet}
 use Rattle.synod.specs.declared.packet.Body.{Body}
 use Rattle.synod.specs.declared.packet.Body.TheVariants.{Prepare, Promise, Accept, Accepted, Nack, Ask, Told}
@@ -46,7 +46,7 @@ IsRole Idle = Unit {0}
 IsRole (Preparing b first) = first ≤ SLOTS
 IsRole (Leading b next) = next ≤ SLOTS
 
-abbrev pub ArePages : {V : Type 0} → Option (List (Report V)) → Type 0
+abbrev pub ArePages : {V : Type 0} → Option (List (SlotReport V)) → Type 0
 ArePages None = Unit {0}
 ArePages (Some reports) = AllByRecursion IsReport reports
 

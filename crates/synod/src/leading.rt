@@ -2,7 +2,7 @@
 ghost use Rattle.std.specs.Prelude.{◌≡◌, ◌<◌, ◌≤◌, ◌+◌, ◌-◌, ◌++◌, [], ◌∷◌, ℕ, List, Option, Some, None, max, min, map, length, OnOk, IfOk, slice_index_or};
 ghost use Rattle.std.specs.List.{AllByRecursion};
 ghost use Rattle.slots.specs.declared.slots.TheConstants.{SLOTS};
-ghost use Rattle.synod.specs.declared.packet.Report.{Report};
+ghost use Rattle.synod.specs.declared.packet.SlotReport.{SlotReport};
 ghost use Rattle.synod.specs.Packets.{IsReport, accepts};
 ghost use Rattle.std.specs.Option.{option_copied};
 ghost use Rattle.synod.specs.Proposer.{above_all, top_reported, highest_at, reported_value, fills, all_reports};
@@ -12,7 +12,7 @@ ghost use Rattle.synod.specs.PagesHad.{pages_with};
 ghost use Rattle.synod.specs.Heights.{all_of, AreHighest, some_of, IsLead};
 
 use crate::ballot::Ballot;
-use crate::packet::{Packet, Report};
+use crate::packet::{Packet, SlotReport};
 use crate::pages::PagesWith;
 use crate::posts::{Said, post_to_all};
 use crate::proposer::Heard;
@@ -22,7 +22,7 @@ use slots::SLOTS;
 use std::alloc::{AllocError, Global};
 
 /// One above the greatest slot of the reports, or `above` where that is greater.
-fn above_page<V>(above: u32, reports: &[Report<V>]) -> u32
+fn above_page<V>(above: u32, reports: &[SlotReport<V>]) -> u32
     requires { AllByRecursion IsReport reports.now }
     ensures { result ≡ max above (above_all reports.now) }
 {
@@ -34,7 +34,7 @@ fn above_page<V>(above: u32, reports: &[Report<V>]) -> u32
 }
 
 /// One above the greatest slot reported, or `first` where none is.
-fn top_of_reports<V>(first: u32, pages: &[&[Report<V>]]) -> u32
+fn top_of_reports<V>(first: u32, pages: &[&[SlotReport<V>]]) -> u32
     requires { AllByRecursion IsReport (all_of pages.now) }
     ensures { result ≡ top_reported first (all_of pages.now) }
 {
@@ -46,8 +46,12 @@ fn top_of_reports<V>(first: u32, pages: &[&[Report<V>]]) -> u32
 }
 
 /// Keeps a report where it is higher than what the table has at its slot.
-fn keep_report<'a, V>(table: &mut Vec<Option<&'a Report<V>>>, first: u32, report: &'a Report<V>)
-    ensures highest { (reports : List (Report V)) → AreHighest first table.old.items reports → AreHighest first table.new.items (reports ++ report.now ∷ []) }
+fn keep_report<'a, V>(
+    table: &mut Vec<Option<&'a SlotReport<V>>>,
+    first: u32,
+    report: &'a SlotReport<V>,
+)
+    ensures highest { (reports : List (SlotReport V)) → AreHighest first table.old.items reports → AreHighest first table.new.items (reports ++ report.now ∷ []) }
     ensures slots { length table.new.items ≡ length table.old.items }
 {
     if report.slot < first {
@@ -67,8 +71,12 @@ fn keep_report<'a, V>(table: &mut Vec<Option<&'a Report<V>>>, first: u32, report
 }
 
 /// Keeps the reports of a page that are higher.
-fn keep_page<'a, V>(table: &mut Vec<Option<&'a Report<V>>>, first: u32, page: &'a [Report<V>])
-    ensures highest { (reports : List (Report V)) → AreHighest first table.old.items reports → AreHighest first table.new.items (reports ++ page.now) }
+fn keep_page<'a, V>(
+    table: &mut Vec<Option<&'a SlotReport<V>>>,
+    first: u32,
+    page: &'a [SlotReport<V>],
+)
+    ensures highest { (reports : List (SlotReport V)) → AreHighest first table.old.items reports → AreHighest first table.new.items (reports ++ page.now) }
     ensures slots { length table.new.items ≡ length table.old.items }
 {
     for report in page {
@@ -81,8 +89,8 @@ fn highest_reports<'a, V>(
     alloc: Global,
     first: u32,
     top: u32,
-    pages: &[&'a [Report<V>]],
-) -> Result<Vec<Option<&'a Report<V>>>, AllocError>
+    pages: &[&'a [SlotReport<V>]],
+) -> Result<Vec<Option<&'a SlotReport<V>>>, AllocError>
     ensures highest { IfOk result (λ table. AreHighest first table.items (all_of pages.now)) }
     ensures slots { IfOk result (λ table. length table.items ≡ top - first) }
 {
@@ -97,7 +105,7 @@ fn highest_reports<'a, V>(
 }
 
 /// The value that is proposed at a slot: that of its highest report, or the no-operation.
-fn value_of<V: Value>(highest: Option<&Report<V>>) -> Result<Option<V>, AllocError>
+fn value_of<V: Value>(highest: Option<&SlotReport<V>>) -> Result<Option<V>, AllocError>
     ensures { IfOk result (λ value. value ≡ reported_value (option_copied highest.entry)) }
 {
     match highest {
@@ -115,7 +123,7 @@ fn fill_posts<V: Value>(
     ballot: Ballot,
     first: u32,
     top: u32,
-    pages: &[&[Report<V>]],
+    pages: &[&[SlotReport<V>]],
 ) -> Result<(), AllocError>
     ensures { OnOk result (posts.new.items ≡ posts.old.items ++ accepts me weights.now ballot first (fills (all_of pages.now) first (top - first))) }
 {
@@ -136,7 +144,7 @@ fn fill_posts<V: Value>(
 
 /// Adds the first pages of a node, in order.
 fn add_pages<'a, V: Drop>(
-    all: &mut Vec<&'a [Report<V>]>,
+    all: &mut Vec<&'a [SlotReport<V>]>,
     pages: &'a PagesWith<'a, V>,
     node: u8,
     count: u32,
@@ -157,7 +165,7 @@ fn heard_pages<'a, V: Drop>(
     alloc: Global,
     pages: &'a PagesWith<'a, V>,
     heard: &[Heard],
-) -> Result<Vec<&'a [Report<V>]>, AllocError>
+) -> Result<Vec<&'a [SlotReport<V>]>, AllocError>
     requires { pages.now.node < length pages.now.pages.now }
     ensures { IfOk result (λ all. all_of all.items ≡ all_reports (pages_with pages.now) heard.now) }
 {

@@ -30,7 +30,7 @@ pub use change::{Change, Held};
 pub use keep::{Failed, Keep};
 pub use learner::{Tallies, Tally};
 pub use node::NodeCore;
-pub use packet::{Body, MOST_PAGES, PAGE_REPORTS, Packet, Report, Reports};
+pub use packet::{Body, MOST_PAGES, PAGE_REPORTS, Packet, Reports, SlotReport};
 pub use proposer::{Heard, MOST_WAITING, Role};
 pub use ready::Ready;
 pub use record::Record;

@@ -14,7 +14,7 @@ pub const MOST_PAGES: u32 = 4096;
 
 /// What an acceptor had accepted at a slot. A value of `None` is the no-operation.
 #[derive(Drop)]
-pub struct Report<V> {
+pub struct SlotReport<V> {
     pub slot: u32,
     pub ballot: Ballot,
     pub value: Option<V>,
@@ -23,14 +23,14 @@ pub struct Report<V> {
 /// The reports of one page, seen as their list.
 #[derive(Drop)]
 pub struct Reports<V> {
-    all: Vec<Report<V>>,
+    all: Vec<SlotReport<V>>,
 }
 
 impl<V> Model for Reports<V> {
     ghost use Rattle.std.specs.Prelude.{List};
-    ghost use Rattle.synod.specs.declared.packet.Report.{Report};
+    ghost use Rattle.synod.specs.declared.packet.SlotReport.{SlotReport};
 
-    ghost Value = { List (Report V) };
+    ghost Value = { List (SlotReport V) };
 
     ghost view = { λ r. r.all.items };
 }
@@ -39,21 +39,21 @@ impl<V> Reports<V> {
     ghost use Rattle.std.specs.Prelude.{◌≡◌};
 
     /// The reports of a list. It takes no memory.
-    pub fn new(all: Vec<Report<V>>) -> Self
+    pub fn new(all: Vec<SlotReport<V>>) -> Self
         ensures { result ≡ all.items }
     {
         Reports { all }
     }
 
     /// The list once more. It takes no memory.
-    pub fn into_vec(self) -> Vec<Report<V>>
+    pub fn into_vec(self) -> Vec<SlotReport<V>>
         ensures { result.items ≡ self }
     {
         self.all
     }
 
     /// The reports, in order of slots.
-    pub fn as_slice(&self) -> &[Report<V>]
+    pub fn as_slice(&self) -> &[SlotReport<V>]
         ensures { result.now ≡ self.now }
     {
         self.all.as_slice()
@@ -70,7 +70,7 @@ pub(crate) fn copy_reports<V: Value>(
     let mut all = Vec::new(alloc);
     for report in reports.as_slice() {
         let value = copy_value(&report.value)?;
-        all.push(Report {
+        all.push(SlotReport {
             slot: report.slot,
             ballot: report.ballot,
             value,

@@ -2,7 +2,7 @@
 ghost use Rattle.std.specs.Prelude.{◌≡◌, ◌<◌, ◌≤◌, List, OnOk, IfOk, Some, None, MatchOption, length, slice_index_or};
 ghost use Rattle.slots.specs.declared.slots.TheConstants.{SLOTS};
 ghost use Rattle.slots.specs.FiniteMap.{entry_at, put_at, front_of};
-ghost use Rattle.synod.specs.declared.packet.Report.{Report};
+ghost use Rattle.synod.specs.declared.packet.SlotReport.{SlotReport};
 ghost use Rattle.synod.specs.Node.{no_pages, pages_from, page_of, with_page};
 ghost use Rattle.synod.specs.PagesHad.{entries_of, rooms_of, put_page};
 ghost use Rattle.synod.specs.Rooms.{RoomsGrow};
@@ -22,9 +22,9 @@ pub struct PagesHad<V> {
 impl<V> Model for PagesHad<V> {
     ghost use Rattle.std.specs.Prelude.{List};
     ghost use Rattle.slots.specs.FiniteMap.{SlotsView};
-    ghost use Rattle.synod.specs.declared.packet.Report.{Report};
+    ghost use Rattle.synod.specs.declared.packet.SlotReport.{SlotReport};
 
-    ghost Value = { List (SlotsView (List (Report V))) };
+    ghost Value = { List (SlotsView (List (SlotReport V))) };
 
     ghost view = { λ p. p.by_node.items };
 }
@@ -104,7 +104,7 @@ impl<V: Drop> PagesHad<V> {
     pub(crate) fn front_with(&self, node: u8, page: u32) -> u32
         requires node { node < length self.now }
         requires page { page < SLOTS }
-        ensures { (reports : List (Report V)) → front_of (put_at (pages_from (entries_of self.now) node) page reports) ≡ result }
+        ensures { (reports : List (SlotReport V)) → front_of (put_at (pages_from (entries_of self.now) node) page reports) ≡ result }
     {
         let pages = &self.by_node[node as usize];
         pages.front_with(page)
@@ -115,7 +115,7 @@ impl<V: Drop> PagesHad<V> {
 pub(crate) fn front_after<V: Drop>(pages: &PagesHad<V>, node: u8, page: u32) -> u32
     requires node { node < length pages.now }
     requires page { page < SLOTS }
-    ensures { (reports : List (Report V)) → front_of (pages_from (with_page (entries_of pages.now) node page reports) node) ≡ result }
+    ensures { (reports : List (SlotReport V)) → front_of (pages_from (with_page (entries_of pages.now) node page reports) node) ≡ result }
 {
     if pages.get(node, page).is_some() {
         pages.front(node)

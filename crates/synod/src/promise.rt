@@ -6,7 +6,7 @@ ghost use Rattle.synod.specs.Pages.{pages_of};
 ghost use Rattle.synod.specs.Acceptor.{reports_from, promise_posts};
 
 use crate::ballot::Ballot;
-use crate::packet::{Body, PAGE_REPORTS, Packet, Report, Reports};
+use crate::packet::{Body, PAGE_REPORTS, Packet, Reports, SlotReport};
 use crate::record::Record;
 use crate::value::{Value, copy_value};
 use std::alloc::{AllocError, Global};
@@ -28,7 +28,7 @@ fn report_pages<V: Value>(
                 pages.push(Reports::new(page))?;
                 page = Vec::new(alloc);
             }
-            page.push(Report {
+            page.push(SlotReport {
                 slot,
                 ballot: held.ballot,
                 value: copy_value(&held.value)?,

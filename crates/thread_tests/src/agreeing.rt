@@ -149,7 +149,16 @@ fn submits_elsewhere<R: Threads + Wait + Clock + Copy + Send + Sync + Drop + 'st
 ) -> Result<bool, StepFault> {
     let weathers = everywhere(alloc, Clear)?;
     let mut cluster = open(rt, alloc, Weights::equal(3), weathers)?;
-    let added = adds_theirs(rt, alloc, &cluster);
+    adds_and_stops(rt, alloc, &mut cluster)
+}
+
+/// Whether each node adds what another thread submits, and the cluster stops then.
+fn adds_and_stops<R: Threads + Wait + Clock + Copy + Send + Sync + Drop + 'static>(
+    rt: &R,
+    alloc: Global,
+    cluster: &mut Cluster<OpenGate, Kept>,
+) -> Result<bool, StepFault> {
+    let added = adds_theirs(rt, alloc, cluster);
     cluster.stop(rt)?;
     added
 }

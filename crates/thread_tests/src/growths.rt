@@ -2,13 +2,13 @@
 use crate::three::{Kept, everywhere, open, settled, text};
 use library::Verdict;
 use net::StepFault;
-use nodes::{Clear, Desk};
+use nodes::{Clear, Cluster, Desk};
 use std::alloc::Global;
 use std::sync::Wait;
 use std::thread::Threads;
 use std::time::Clock;
 use synod::Weights;
-use verify_pool::Gate;
+use verify_pool::{Gate, OpenGate};
 
 /// Want of memory at one growth is answered by `start`, `desk`, `submit` or `stop`, or loses a packet, or leaves an entry to a
 /// later hint, or fails a keep, whose node is down then until it restarts.
@@ -28,6 +28,15 @@ fn decided_by_three<R: Threads + Wait + Clock + Copy + Send + Sync + Drop + 'sta
 ) -> Result<Option<Verdict>, StepFault> {
     let weathers = everywhere(alloc, Clear)?;
     let mut cluster = open(rt, alloc, Weights::equal(3), weathers)?;
+    decided_and_stopped(rt, alloc, &mut cluster)
+}
+
+/// The verdict at node 0 of that cluster, which has stopped then.
+fn decided_and_stopped<R: Threads + Wait + Clock>(
+    rt: &R,
+    alloc: Global,
+    cluster: &mut Cluster<OpenGate, Kept>,
+) -> Result<Option<Verdict>, StepFault> {
     let verdict = match cluster.desk() {
         Ok(desk) => decided(rt, alloc, &desk),
         Err(_) => Err(StepFault::Memory),

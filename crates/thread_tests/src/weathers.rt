@@ -89,7 +89,17 @@ fn serve_like<R: Threads + Wait + Clock + Copy + Send + Sync + Drop + 'static>(
 ) -> Result<bool, StepFault> {
     let weathers = everywhere(alloc, Turns(0))?;
     let mut cluster = open(rt, alloc, Weights::equal(3), weathers)?;
-    let served = serve_all(rt, alloc, &cluster, library);
+    serves_and_stops(rt, alloc, &mut cluster, library)
+}
+
+/// The same of that cluster, which stops then.
+fn serves_and_stops<R: Threads + Wait + Clock>(
+    rt: &R,
+    alloc: Global,
+    cluster: &mut Cluster<OpenGate, Kept>,
+    library: &Library,
+) -> Result<bool, StepFault> {
+    let served = serve_all(rt, alloc, cluster, library);
     cluster.stop(rt)?;
     served
 }
@@ -208,7 +218,18 @@ fn fills_its_gap<R: Threads + Wait + Clock + Copy + Send + Sync + Drop + 'static
     };
     let weathers = all_told(alloc, &first, &last)?;
     let mut cluster = open(rt, alloc, Weights::equal(3), weathers)?;
-    let filled = learns_all(rt, alloc, &cluster, &first, &last);
+    learns_and_stops(rt, alloc, &mut cluster, &first, &last)
+}
+
+/// Whether node 2 of that cluster applies all texts; the cluster stops then.
+fn learns_and_stops<R: Threads + Wait + Clock>(
+    rt: &R,
+    alloc: Global,
+    cluster: &mut Cluster<OpenGate, Kept>,
+    first: &AtomicU8,
+    last: &AtomicU8,
+) -> Result<bool, StepFault> {
+    let filled = learns_all(rt, alloc, cluster, first, last);
     cluster.stop(rt)?;
     filled
 }

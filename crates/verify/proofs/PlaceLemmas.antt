@@ -2,7 +2,7 @@
 use Rattle.std.specs.Prelude.{◌≡◌, ℕ, zero, suc, ◌+◌, ◌-◌, ◌<◌, ◌≤◌, List, [], ◌∷◌, ◌++◌, length, map, take, drop, get_or, replicate, slice_get, slice_set, Some, refl}
 use Rattle.std.proofs.Common.{sym, ◌∙◌, ap, subst, arith, length-append, length-drop}
 use Rattle.std.proofs.lemmas.List.{length-map, take_all}
-use Rattle.subst.specs.declared.place.Place.{Place}
+use Rattle.subst.specs.declared.place.ExpressionPlace.{ExpressionPlace}
 use Rattle.subst.specs.Places.{seen_at, AreWithin, AreInside}
 use Rattle.subst.proofs.PlaceLemmas.{map-seen-more, within-weaken, within-snoc, within-take, within-drop, within-get, within-at, seen-get, length-seen, seen-last}
 use Rattle.subst.proofs.ImagePlacesLemmas.{inside-more, inside-none}
@@ -34,7 +34,7 @@ results-same {A} a b c d w v p q r =
     ap (λ s. f s c w) p ∙ (ap (λ t. f b t w) q ∙ ap (λ n. f b d n) r)
 
 -- a result was written at the end of the buffer, above those of `rest`
-pub added-kept : (xs ys zs : List ℕ) (images : List (ℕ × Place)) (stack rest saved stack' : List Place) (w v : ℕ) (p : Place) → AreKept xs images stack saved w → AreWithin (length xs) rest
+pub added-kept : (xs ys zs : List ℕ) (images : List (ℕ × ExpressionPlace)) (stack rest saved stack' : List ExpressionPlace) (w v : ℕ) (p : ExpressionPlace) → AreKept xs images stack saved w → AreWithin (length xs) rest
     → zs ≡ xs ++ ys → p.start ≡ length xs → p.end ≡ length zs → stack' ≡ rest ++ p ∷ [] → v ≡ w + length ys → v ≤ weight_limit
     → AreKept zs images stack' saved v
 added-kept xs ys zs images stack rest saved stack' w v p k r e low high whole weighs light =
@@ -47,7 +47,7 @@ added-kept xs ys zs images stack rest saved stack' w v p k r e low high whole we
       light = light;
     }
 
-pub added-seen : (xs ys zs : List ℕ) (stack rest saved stack' : List Place) (w v : ℕ) (p : Place) → AreWithin (length xs) saved → AreWithin (length xs) rest
+pub added-seen : (xs ys zs : List ℕ) (stack rest saved stack' : List ExpressionPlace) (w v : ℕ) (p : ExpressionPlace) → AreWithin (length xs) saved → AreWithin (length xs) rest
     → zs ≡ xs ++ ys → p.start ≡ length xs → p.end ≡ length zs → stack' ≡ rest ++ p ∷ [] → v ≡ w + length ys
     → seen zs stack' saved v ≡ with_result (seen xs stack saved w) (map (seen_at xs) rest) ys
 added-seen xs ys zs stack rest saved stack' w v p k r e low high whole weighs =
@@ -60,7 +60,7 @@ added-seen xs ys zs stack rest saved stack' w v p k r e low high whole weighs =
 
 -- ---- a place that is changed
 
-within-set : (n k : ℕ) (ps : List Place) (p : Place) → AreWithin n ps → p.start ≤ p.end → p.end ≤ n → AreWithin n (slice_set ps k p)
+within-set : (n k : ℕ) (ps : List ExpressionPlace) (p : ExpressionPlace) → AreWithin n ps → p.start ≤ p.end → p.end ≤ n → AreWithin n (slice_set ps k p)
 within-set n k [] p w low high = tt
 within-set n zero (q ∷ ps) p w low high = (low, high, w.2)
 within-set n (suc k) (q ∷ ps) p w low high = (w.0, w.1, within-set n k ps p w.2 low high)
@@ -71,7 +71,7 @@ map-set f (y ∷ xs) zero x = refl
 map-set f (y ∷ xs) (suc k) x = ap (λ r. f y ∷ r) (map-set f xs k x)
 
 -- a result was written at the end of the buffer, and kept
-pub given-cut : (xs ys zs : List ℕ) (images : List (ℕ × Place)) (stack saved stack' saved' : List Place) (w v k : ℕ) (p : Place) → AreKept xs images stack saved w
+pub given-cut : (xs ys zs : List ℕ) (images : List (ℕ × ExpressionPlace)) (stack saved stack' saved' : List ExpressionPlace) (w v k : ℕ) (p : ExpressionPlace) → AreKept xs images stack saved w
     → zs ≡ xs ++ ys → p.start ≡ length xs → p.end ≡ length zs → stack' ≡ stack → saved' ≡ slice_set saved k p → v ≡ w + length ys → v ≤ weight_limit → AreKept zs images stack' saved' v
 given-cut xs ys zs images stack saved stack' saved' w v k p kept e low high same set weighs light =
     let longer : length xs ≤ length zs = omega (arith, ap length e, length-append xs ys) in
@@ -84,7 +84,7 @@ given-cut xs ys zs images stack saved stack' saved' w v k p kept e low high same
       light = light;
     }
 
-pub given-kept : (xs ys zs : List ℕ) (images : List (ℕ × Place)) (stack saved stack' saved' : List Place) (w v k : ℕ) (p : Place) → AreKept xs images stack saved w
+pub given-kept : (xs ys zs : List ℕ) (images : List (ℕ × ExpressionPlace)) (stack saved stack' saved' : List ExpressionPlace) (w v k : ℕ) (p : ExpressionPlace) → AreKept xs images stack saved w
     → zs ≡ xs ++ ys → p.start ≡ length xs → p.end ≡ length zs → stack' ≡ stack ++ p ∷ [] → saved' ≡ slice_set saved k p → v ≡ w + length ys → v ≤ weight_limit
     → AreKept zs images stack' saved' v
 given-kept xs ys zs images stack saved stack' saved' w v k p kept e low high whole set weighs light =
@@ -92,7 +92,7 @@ given-kept xs ys zs images stack saved stack' saved' w v k p kept e low high who
     let added = added-kept xs ys zs images stack stack saved stack' w v p kept kept.stack_within e low high whole weighs light in
     record { images_inside = cut.images_inside; stack_within = added.stack_within; saved_within = cut.saved_within; few = cut.few; light = light }
 
-pub given-seen : (xs ys zs : List ℕ) (images : List (ℕ × Place)) (stack saved stack' saved' : List Place) (w v k : ℕ) (p : Place) → AreKept xs images stack saved w
+pub given-seen : (xs ys zs : List ℕ) (images : List (ℕ × ExpressionPlace)) (stack saved stack' saved' : List ExpressionPlace) (w v k : ℕ) (p : ExpressionPlace) → AreKept xs images stack saved w
     → zs ≡ xs ++ ys → p.start ≡ length xs → p.end ≡ length zs → stack' ≡ stack ++ p ∷ [] → saved' ≡ slice_set saved k p → v ≡ w + length ys
     → seen zs stack' saved' v ≡ (let r : Results ℕ = record { stack = map (seen_at xs) stack ++ ys ∷ []; saved = slice_set (map (seen_at xs) saved) k ys; weight = w + length ys } in r)
 given-seen xs ys zs images stack saved stack' saved' w v k p kept e low high whole set weighs =
@@ -106,7 +106,7 @@ given-seen xs ys zs images stack saved stack' saved' w v k p kept e low high who
 
 -- ---- marked and recalled
 
-pub kept-mark : (xs : List ℕ) (images : List (ℕ × Place)) (stack saved saved' : List Place) (w : ℕ) (p : Place) (k : ℕ) → AreKept xs images stack saved w → slice_get stack k ≡ Some p → saved' ≡ saved ++ p ∷ []
+pub kept-mark : (xs : List ℕ) (images : List (ℕ × ExpressionPlace)) (stack saved saved' : List ExpressionPlace) (w : ℕ) (p : ExpressionPlace) (k : ℕ) → AreKept xs images stack saved w → slice_get stack k ≡ Some p → saved' ≡ saved ++ p ∷ []
     → AreKept xs images stack saved' w
 kept-mark xs images stack saved saved' w p k a h e =
     let b = within-get (length xs) k stack p a.stack_within h in
@@ -118,7 +118,7 @@ kept-mark xs images stack saved saved' w p k a h e =
       light = a.light;
     }
 
-pub kept-recall : (xs : List ℕ) (images : List (ℕ × Place)) (stack stack' saved : List Place) (w v : ℕ) (p : Place) → AreKept xs images stack saved w → (p.start ≤ p.end) × (p.end ≤ length xs)
+pub kept-recall : (xs : List ℕ) (images : List (ℕ × ExpressionPlace)) (stack stack' saved : List ExpressionPlace) (w v : ℕ) (p : ExpressionPlace) → AreKept xs images stack saved w → (p.start ≤ p.end) × (p.end ≤ length xs)
     → stack' ≡ stack ++ p ∷ [] → w ≤ v → v ≤ weight_limit → AreKept xs images stack' saved v
 kept-recall xs images stack stack' saved w v p a b e more light =
     let few = a.few in
@@ -141,7 +141,7 @@ get-map-some f (x ∷ xs) zero d h = refl
 get-map-some f (x ∷ xs) (suc k) d h = get-map-some f xs k d (omega (arith, h))
 
 -- a saved result by its index
-pub recall-seen : (xs : List ℕ) (stack stack' saved : List Place) (w v k : ℕ) (d p : Place) → AreWithin (length xs) saved → k < length saved → p ≡ get_or saved k d
+pub recall-seen : (xs : List ℕ) (stack stack' saved : List ExpressionPlace) (w v k : ℕ) (d p : ExpressionPlace) → AreWithin (length xs) saved → k < length saved → p ≡ get_or saved k d
     → stack' ≡ stack ++ p ∷ [] → v ≡ w + (p.end - p.start) → (e : List ℕ) × IsSaved (map (seen_at xs) saved) (suc k) e × (seen xs stack' saved v ≡ with_result (seen xs stack saved w) (map (seen_at xs) stack) e)
 recall-seen xs stack stack' saved w v k d p a less at whole weighs =
     let b : (p.start ≤ p.end) × (p.end ≤ length xs) = subst (λ q. (q.start ≤ q.end) × (q.end ≤ length xs)) (sym at) (within-at (length xs) k saved d a less) in
@@ -153,7 +153,7 @@ recall-seen xs stack stack' saved w v k d p a less at whole weighs =
     )
 
 -- a saved result that is too heavy
-pub recall-heavy : (xs : List ℕ) (saved : List Place) (w k : ℕ) (d p : Place) → AreWithin (length xs) saved → w ≤ weight_limit → k < length saved → p ≡ get_or saved k d
+pub recall-heavy : (xs : List ℕ) (saved : List ExpressionPlace) (w k : ℕ) (d p : ExpressionPlace) → AreWithin (length xs) saved → w ≤ weight_limit → k < length saved → p ≡ get_or saved k d
     → weight_limit - w < p.end - p.start → (e : List ℕ) → IsSaved (map (seen_at xs) saved) (suc k) e → weight_limit < w + length e
 recall-heavy xs saved w k d p a light less at heavy e h =
     let b : (p.start ≤ p.end) × (p.end ≤ length xs) = subst (λ q. (q.start ≤ q.end) × (q.end ≤ length xs)) (sym at) (within-at (length xs) k saved d a less) in
@@ -162,7 +162,7 @@ recall-heavy xs saved w k d p a light less at heavy e h =
     omega (arith, ap length same, len, heavy, light)
 
 -- what is saved at an index has symbols where its place has
-pub some-saved : (xs : List ℕ) (saved : List Place) (k : ℕ) (p d : Place) → AreWithin (length xs) saved → k < length saved → p ≡ get_or saved k d → p.start < p.end → 0 < length (get_or (map (seen_at xs) saved) k [])
+pub some-saved : (xs : List ℕ) (saved : List ExpressionPlace) (k : ℕ) (p d : ExpressionPlace) → AreWithin (length xs) saved → k < length saved → p ≡ get_or saved k d → p.start < p.end → 0 < length (get_or (map (seen_at xs) saved) k [])
 some-saved xs saved k p d a within at less =
     let b = within-at (length xs) k saved d a within in
     let len = length-seen xs (get_or saved k d) b.0 b.1 in
@@ -171,15 +171,15 @@ some-saved xs saved k p d a within at less =
     omega (arith, len, more, same)
 
 -- places of no symbols
-pub within-none : (n m : ℕ) → AreWithin m (replicate n (let p : Place = record { start = 0; end = 0 } in p))
+pub within-none : (n m : ℕ) → AreWithin m (replicate n (let p : ExpressionPlace = record { start = 0; end = 0 } in p))
 within-none zero m = tt
 within-none (suc n) m = (omega arith, omega arith, within-none n m)
 
-pub seen-none : (n : ℕ) → map (seen_at []) (replicate n (let p : Place = record { start = 0; end = 0 } in p)) ≡ replicate n []
+pub seen-none : (n : ℕ) → map (seen_at []) (replicate n (let p : ExpressionPlace = record { start = 0; end = 0 } in p)) ≡ replicate n []
 seen-none zero = refl
 seen-none (suc n) = ap (λ r. [] ∷ r) (seen-none n)
 
-pub cleared-kept : (xs : List ℕ) (images : List (ℕ × Place)) (stack saved : List Place) → xs ≡ [] → images ≡ [] → stack ≡ [] → AreWithin 0 saved → AreKept xs images stack saved 0
+pub cleared-kept : (xs : List ℕ) (images : List (ℕ × ExpressionPlace)) (stack saved : List ExpressionPlace) → xs ≡ [] → images ≡ [] → stack ≡ [] → AreWithin 0 saved → AreKept xs images stack saved 0
 cleared-kept xs images stack saved e i f w = record {
   images_inside = subst (AreInside (length xs)) (sym i) (inside-none (length xs));
   stack_within = subst (AreWithin (length xs)) (sym f) tt;
@@ -188,17 +188,17 @@ cleared-kept xs images stack saved e i f w = record {
   light = omega arith;
 }
 
-pub resized-none : (n m : ℕ) (old new : List Place) → old ≡ [] → m ≡ 0 → new ≡ take n old ++ replicate (n - m) (let p : Place = record { start = 0; end = 0 } in p) → new ≡ replicate n (let p : Place = record { start = 0; end = 0 } in p)
+pub resized-none : (n m : ℕ) (old new : List ExpressionPlace) → old ≡ [] → m ≡ 0 → new ≡ take n old ++ replicate (n - m) (let p : ExpressionPlace = record { start = 0; end = 0 } in p) → new ≡ replicate n (let p : ExpressionPlace = record { start = 0; end = 0 } in p)
 resized-none n m old new e f g =
-    g ∙ (ap (λ r. take n r ++ replicate (n - m) (let p : Place = record { start = 0; end = 0 } in p)) e
-    ∙ (ap (λ r. r ++ replicate (n - m) (let p : Place = record { start = 0; end = 0 } in p)) (none n)
-    ∙ ap (λ k. replicate k (let p : Place = record { start = 0; end = 0 } in p)) (let q : n - m ≡ n = omega (arith, f) in q)))
+    g ∙ (ap (λ r. take n r ++ replicate (n - m) (let p : ExpressionPlace = record { start = 0; end = 0 } in p)) e
+    ∙ (ap (λ r. r ++ replicate (n - m) (let p : ExpressionPlace = record { start = 0; end = 0 } in p)) (none n)
+    ∙ ap (λ k. replicate k (let p : ExpressionPlace = record { start = 0; end = 0 } in p)) (let q : n - m ≡ n = omega (arith, f) in q)))
   where
-    none : (k : ℕ) → take k (let r : List Place = [] in r) ≡ []
+    none : (k : ℕ) → take k (let r : List ExpressionPlace = [] in r) ≡ []
     none zero = refl
     none (suc k) = refl
 
-pub started-seen : (xs : List ℕ) (n : ℕ) (stack saved : List Place) → xs ≡ [] → stack ≡ [] → saved ≡ replicate n (let p : Place = record { start = 0; end = 0 } in p)
+pub started-seen : (xs : List ℕ) (n : ℕ) (stack saved : List ExpressionPlace) → xs ≡ [] → stack ≡ [] → saved ≡ replicate n (let p : ExpressionPlace = record { start = 0; end = 0 } in p)
     → seen xs stack saved 0 ≡ (let r : Results ℕ = record { stack = []; saved = replicate n []; weight = 0 } in r)
 started-seen xs n stack saved e f g =
     results-same (map (seen_at xs) stack) [] (map (seen_at xs) saved) (replicate n []) 0 0
@@ -213,32 +213,32 @@ rest-of k s = take_all (length s - k) (drop k s) (let e = length-drop k s in ome
 pub last-count : {A : Type 0} (k r : ℕ) (s : List A) → r ≤ length s → k ≡ length s - r → length (take (length s - k) (drop k s)) ≡ r
 last-count k r s h e = let a = ap length (rest-of k s) in let b = length-drop k s in omega (arith, a, b, h, e)
 
-pub last-seen : (xs : List ℕ) (k r : ℕ) (s : List Place) → k ≡ length s - r → map (seen_at xs) (take (length s - k) (drop k s)) ≡ top r (map (seen_at xs) s)
+pub last-seen : (xs : List ℕ) (k r : ℕ) (s : List ExpressionPlace) → k ≡ length s - r → map (seen_at xs) (take (length s - k) (drop k s)) ≡ top r (map (seen_at xs) s)
 last-seen xs k r s e =
     ap (map (seen_at xs)) (rest-of k s) ∙ (map-drop (seen_at xs) k s
     ∙ ap (λ n. drop n (map (seen_at xs) s)) (e ∙ ap (λ n. n - r) (sym (length-map s (seen_at xs)))))
 
-pub seen_eq : (xs ds : List ℕ) (s e : List Place) (all : List (List ℕ)) (k r : ℕ) → ds ≡ xs → e ≡ s → map (seen_at xs) s ≡ all → k ≡ length s - r → map (seen_at ds) (take (length e - k) (drop k e)) ≡ top r all
+pub seen_eq : (xs ds : List ℕ) (s e : List ExpressionPlace) (all : List (List ℕ)) (k r : ℕ) → ds ≡ xs → e ≡ s → map (seen_at xs) s ≡ all → k ≡ length s - r → map (seen_at ds) (take (length e - k) (drop k e)) ≡ top r all
 seen_eq xs ds s e all k r p q v l =
     ap (λ w. map (seen_at ds) (take (length w - k) (drop k w))) q ∙ (ap (λ w. map (seen_at w) (take (length s - k) (drop k s))) p ∙ (last-seen xs k r s l ∙ ap (top r) v))
 
-pub last-within : (n k : ℕ) (s : List Place) → AreWithin n s → AreWithin n (take (length s - k) (drop k s))
+pub last-within : (n k : ℕ) (s : List ExpressionPlace) → AreWithin n s → AreWithin n (take (length s - k) (drop k s))
 last-within n k s w = within-take n (length s - k) (drop k s) (within-drop n k s w)
 
-pub apply-kept : (xs ys zs : List ℕ) (images : List (ℕ × Place)) (stack saved stack' : List Place) (w v k : ℕ) (p : Place) → AreKept xs images stack saved w
+pub apply-kept : (xs ys zs : List ℕ) (images : List (ℕ × ExpressionPlace)) (stack saved stack' : List ExpressionPlace) (w v k : ℕ) (p : ExpressionPlace) → AreKept xs images stack saved w
     → zs ≡ xs ++ ys → p.start ≡ length xs → p.end ≡ length zs → stack' ≡ take k stack ++ p ∷ [] → v ≡ w + length ys → v ≤ weight_limit → AreKept zs images stack' saved v
 apply-kept xs ys zs images stack saved stack' w v k p a e low high whole weighs light =
     added-kept xs ys zs images stack (take k stack) saved stack' w v p a (within-take (length xs) k stack a.stack_within)
     e low high whole weighs light
 
-pub apply-seen : (xs ys zs : List ℕ) (images : List (ℕ × Place)) (stack saved stack' : List Place) (w v k r : ℕ) (p : Place) → AreKept xs images stack saved w → k ≡ length stack - r
+pub apply-seen : (xs ys zs : List ℕ) (images : List (ℕ × ExpressionPlace)) (stack saved stack' : List ExpressionPlace) (w v k r : ℕ) (p : ExpressionPlace) → AreKept xs images stack saved w → k ≡ length stack - r
     → zs ≡ xs ++ ys → p.start ≡ length xs → p.end ≡ length zs → stack' ≡ take k stack ++ p ∷ [] → v ≡ w + length ys
     → seen zs stack' saved v ≡ with_result (seen xs stack saved w) (below r (map (seen_at xs) stack)) ys
 apply-seen xs ys zs images stack saved stack' w v k r p a at e low high whole weighs =
     added-seen xs ys zs stack (take k stack) saved stack' w v p a.saved_within (within-take (length xs) k stack a.stack_within) e low high whole weighs
     ∙ ap (λ b. with_result (seen xs stack saved w) b ys) (map-take (seen_at xs) k stack ∙ ap (λ n. take n (map (seen_at xs) stack)) (at ∙ ap (λ n. n - r) (sym (length-map stack (seen_at xs)))))
 
-pub apply-cut : (xs zs ys : List ℕ) (images : List (ℕ × Place)) (stack saved stack' : List Place) (w v k : ℕ) → AreKept xs images stack saved w → zs ≡ xs ++ ys → stack' ≡ take k stack
+pub apply-cut : (xs zs ys : List ℕ) (images : List (ℕ × ExpressionPlace)) (stack saved stack' : List ExpressionPlace) (w v k : ℕ) → AreKept xs images stack saved w → zs ≡ xs ++ ys → stack' ≡ take k stack
     → v ≡ w + length ys → v ≤ weight_limit → AreKept zs images stack' saved v
 apply-cut xs zs ys images stack saved stack' w v k a e cut weighs light =
     let longer : length xs ≤ length zs = omega (arith, ap length e, length-append xs ys) in
@@ -252,5 +252,5 @@ apply-cut xs zs ys images stack saved stack' w v k a e cut weighs light =
     }
 
 -- other images
-pub kept-read : (xs : List ℕ) (images images' : List (ℕ × Place)) (stack saved : List Place) (w : ℕ) → AreKept xs images stack saved w → AreInside (length xs) images' → AreKept xs images' stack saved w
+pub kept-read : (xs : List ℕ) (images images' : List (ℕ × ExpressionPlace)) (stack saved : List ExpressionPlace) (w : ℕ) → AreKept xs images stack saved w → AreInside (length xs) images' → AreKept xs images' stack saved w
 kept-read xs images images' stack saved w a inside = record { images_inside = inside; stack_within = a.stack_within; saved_within = a.saved_within; few = a.few; light = a.light }

@@ -5,7 +5,7 @@ use Rattle.std.proofs.Common.{sym, ◌∙◌, ap, subst, arith}
 use Rattle.std.proofs.lemmas.Bool.Decides.{nat_tests}
 use Rattle.frame.specs.Cited.{head_of}
 use Rattle.frame.specs.Substitution.{code_image}
-use Rattle.subst.specs.declared.place.Place.{Place}
+use Rattle.subst.specs.declared.place.ExpressionPlace.{ExpressionPlace}
 use Rattle.subst.specs.Places.{seen_at, images_at, AreWithin, AreInside}
 use Rattle.subst.proofs.ImagePlacesLemmas.{image-some, image-none, inside-set}
 use Rattle.subst.proofs.PlaceLemmas.{within-get, length-seen}
@@ -16,11 +16,11 @@ use Rattle.verify.specs.ReadPlaces.{tail_of, BeginsWith, ReadsOne, ReadTo, Reads
 use Rattle.verify.proofs.Decide.{some_same}
 use Rattle.verify.proofs.AskedLemmas.{some-within}
 
-module _ (symbols heads : List ℕ) (hs : List Hypothesis) (places : List Place) (different : AreDifferent hs) (i : ℕ) (p : Place) (at_place : slice_get places i ≡ Some p) where
+module _ (symbols heads : List ℕ) (hs : List Hypothesis) (places : List ExpressionPlace) (different : AreDifferent hs) (i : ℕ) (p : ExpressionPlace) (at_place : slice_get places i ≡ Some p) where
   earlier : (k : ℕ) → k < i + 1 → (nat_lt k i ≡ false) → k ≡ i
   earlier k h e = grind (arith, nat_tests, h, e)
 
-  module _ (x : ℕ) (kind : slice_get hs i ≡ Some (Float x)) (old new : List (ℕ × Place)) (r : ReadTo i symbols heads hs places old) (low : BeginsWith symbols (get_or heads i 0) p)
+  module _ (x : ℕ) (kind : slice_get hs i ≡ Some (Float x)) (old new : List (ℕ × ExpressionPlace)) (r : ReadTo i symbols heads hs places old) (low : BeginsWith symbols (get_or heads i 0) p)
       (set : (y : ℕ) → lookup (nat_eq y) new ≡ cond (nat_eq y x) (Some (tail_of p)) (lookup (nat_eq y) old)) where
     same_number : (y : ℕ) → nat_eq y x ≡ true → y ≡ x
     same_number y e = grind (arith, nat_tests, e)
@@ -28,7 +28,7 @@ module _ (symbols heads : List ℕ) (hs : List Hypothesis) (places : List Place)
     number_same : (y : ℕ) → y ≡ x → nat_eq y x ≡ true
     number_same y e = grind (arith, nat_tests, e)
 
-    float-begun : (k y : ℕ) (q : Place) → k < i + 1 → slice_get hs k ≡ Some (Float y) → slice_get places k ≡ Some q → BeginsWith symbols (get_or heads k 0) q
+    float-begun : (k y : ℕ) (q : ExpressionPlace) → k < i + 1 → slice_get hs k ≡ Some (Float y) → slice_get places k ≡ Some q → BeginsWith symbols (get_or heads k 0) q
     float-begun k y q h kind' at = by (nat_lt k i) refl
       where
         by : (b : Bool) → nat_lt k i ≡ b → BeginsWith symbols (get_or heads k 0) q
@@ -38,7 +38,7 @@ module _ (symbols heads : List ℕ) (hs : List Hypothesis) (places : List Place)
             let same : p ≡ q = some_same at_place (ap (slice_get places) (sym one) ∙ at) in
             subst (λ v. BeginsWith symbols (get_or heads k 0) v) same (subst (λ n. BeginsWith symbols (get_or heads n 0) p) (sym one) low)
 
-    float-placed : (k y : ℕ) (q : Place) → k < i + 1 → slice_get hs k ≡ Some (Float y) → slice_get places k ≡ Some q → lookup (nat_eq y) new ≡ Some (tail_of q)
+    float-placed : (k y : ℕ) (q : ExpressionPlace) → k < i + 1 → slice_get hs k ≡ Some (Float y) → slice_get places k ≡ Some q → lookup (nat_eq y) new ≡ Some (tail_of q)
     float-placed k y q h kind' at = set y ∙ by (nat_eq y x) refl (nat_lt k i) refl
       where
         by : (b : Bool) → nat_eq y x ≡ b → (t : Bool) → nat_lt k i ≡ t → cond b (Some (tail_of p)) (lookup (nat_eq y) old) ≡ Some (tail_of q)
@@ -63,7 +63,7 @@ module _ (symbols heads : List ℕ) (hs : List Hypothesis) (places : List Place)
     float-next : ReadTo (i + 1) symbols heads hs places new
     float-next = record { begun = float-begun; placed = float-placed; own = float-own }
 
-  module _ (q : ℕ) (kind : slice_get hs i ≡ Some (Essential q)) (old : List (ℕ × Place)) (r : ReadTo i symbols heads hs places old) where
+  module _ (q : ℕ) (kind : slice_get hs i ≡ Some (Essential q)) (old : List (ℕ × ExpressionPlace)) (r : ReadTo i symbols heads hs places old) where
     before : (k x : ℕ) → k < i + 1 → slice_get hs k ≡ Some (Float x) → k < i
     before k x h kind' = by (nat_lt k i) refl
       where
@@ -80,18 +80,18 @@ module _ (symbols heads : List ℕ) (hs : List Hypothesis) (places : List Place)
       own = λ x none. r.own x (λ k h. none k (omega (arith, h)));
     }
 
-  pub read-next : (h : Hypothesis) (old new : List (ℕ × Place)) → slice_get hs i ≡ Some h → ReadTo i symbols heads hs places old → ReadsOne true symbols (get_or heads i 0) h p old new → ReadTo (i + 1) symbols heads hs places new
+  pub read-next : (h : Hypothesis) (old new : List (ℕ × ExpressionPlace)) → slice_get hs i ≡ Some h → ReadTo i symbols heads hs places old → ReadsOne true symbols (get_or heads i 0) h p old new → ReadTo (i + 1) symbols heads hs places new
   read-next (Float x) old new kind r one = float-next x kind old new r one.0 one.1
   read-next (Essential q) old new kind r one = subst (ReadTo (i + 1) symbols heads hs places) (sym one) (essential-next q kind old r)
 
-pub read-inside : (n head : ℕ) (symbols : List ℕ) (h : Hypothesis) (p : Place) (old new : List (ℕ × Place)) → AreInside n old → (p.start ≤ p.end) × (p.end ≤ n) → ReadsOne true symbols head h p old new → AreInside n new
+pub read-inside : (n head : ℕ) (symbols : List ℕ) (h : Hypothesis) (p : ExpressionPlace) (old new : List (ℕ × ExpressionPlace)) → AreInside n old → (p.start ≤ p.end) × (p.end ≤ n) → ReadsOne true symbols head h p old new → AreInside n new
 read-inside n head symbols (Float x) p old new a w one = let low = one.0.0 in inside-set n old new x (tail_of p) a one.1 (omega (arith, low)) w.1
 read-inside n head symbols (Essential q) p old new a w one = subst (AreInside n) (sym one) a
 
 -- ---- places as lists of symbols
 
 -- what stands behind the first symbol, as a range of its own
-pub tail-range : (xs : List ℕ) (p : Place) → p.start ≤ p.end → seen_at xs (tail_of p) ≡ drop 1 (seen_at xs p)
+pub tail-range : (xs : List ℕ) (p : ExpressionPlace) → p.start ≤ p.end → seen_at xs (tail_of p) ≡ drop 1 (seen_at xs p)
 tail-range xs p low = tail xs p.start p.end low
   where
     take-nil : (n : ℕ) → take n (let e : List ℕ = [] in e) ≡ []
@@ -114,7 +114,7 @@ tail-range xs p low = tail xs p.start p.end low
         let e : b - (a + 1) ≡ (b - a) - 1 = omega (arith, h) in
         ap (take (b - (a + 1))) (drop-drop a s) ∙ (ap (λ n. take n (drop 1 (drop a s))) e ∙ drop-take (b - a) (drop a s))
 
-get-seen : (xs : List ℕ) (places : List Place) (k : ℕ) (p : Place) → slice_get places k ≡ Some p → get_or (map (seen_at xs) places) k [] ≡ seen_at xs p
+get-seen : (xs : List ℕ) (places : List ExpressionPlace) (k : ℕ) (p : ExpressionPlace) → slice_get places k ≡ Some p → get_or (map (seen_at xs) places) k [] ≡ seen_at xs p
 get-seen xs [] k p h = cc
 get-seen xs (q ∷ places) zero p h = let e : q ≡ p = cc in ap (seen_at xs) e
 get-seen xs (q ∷ places) (suc k) p h = get-seen xs places k p h
@@ -126,28 +126,28 @@ head-drop (x ∷ xs) zero (suc n) h m = refl
 head-drop (x ∷ xs) (suc a) n h m = head-drop xs a n (omega (arith, h)) m
 
 -- the symbols at a place, and the list of them
-begun-typed : (symbols : List ℕ) (head : ℕ) (p : Place) → p.end ≤ length symbols → BeginsWith symbols head p → IsTyped head (seen_at symbols p)
+begun-typed : (symbols : List ℕ) (head : ℕ) (p : ExpressionPlace) → p.end ≤ length symbols → BeginsWith symbols head p → IsTyped head (seen_at symbols p)
 begun-typed symbols head p high b =
     let low = b.0 in
     let len = length-seen symbols p (omega (arith, low)) high in
     record { some = omega (arith, low, len); first = head-drop symbols p.start (p.end - p.start) (omega (arith, low, high)) (omega (arith, low)) ∙ b.1 }
 
-typed-begun : (symbols : List ℕ) (head : ℕ) (p : Place) → p.start ≤ p.end → p.end ≤ length symbols → IsTyped head (seen_at symbols p) → BeginsWith symbols head p
+typed-begun : (symbols : List ℕ) (head : ℕ) (p : ExpressionPlace) → p.start ≤ p.end → p.end ≤ length symbols → IsTyped head (seen_at symbols p) → BeginsWith symbols head p
 typed-begun symbols head p low high t =
     let len = length-seen symbols p low high in
     let some = t.some in
     (omega (arith, some, len), sym (head-drop symbols p.start (p.end - p.start) (omega (arith, some, len, high)) (omega (arith, some, len))) ∙ t.first)
 
-place-there : (places : List Place) (k : ℕ) → k < length places → (p : Place) × (slice_get places k ≡ Some p)
+place-there : (places : List ExpressionPlace) (k : ℕ) → k < length places → (p : ExpressionPlace) × (slice_get places k ≡ Some p)
 place-there [] k h = absurd (omega (arith, h))
 place-there (q ∷ places) zero h = (q, refl)
 place-there (q ∷ places) (suc k) h = place-there places k (omega (arith, h))
 
-pub reads-seen : (ok : Bool) (symbols heads : List ℕ) (hs : List Hypothesis) (places : List Place) (images : List (ℕ × Place)) → length places ≡ length hs → AreWithin (length symbols) places
+pub reads-seen : (ok : Bool) (symbols heads : List ℕ) (hs : List Hypothesis) (places : List ExpressionPlace) (images : List (ℕ × ExpressionPlace)) → length places ≡ length hs → AreWithin (length symbols) places
     → ReadsAll ok (length hs) symbols heads hs places images → Reads ok heads hs (map (seen_at symbols) places) (images_at symbols images)
 reads-seen true symbols heads hs places images count within r = record { typed = typed; image = image; own = λ x none. image-none symbols images x (r.own x (λ k less. none k)) }
   where
-    there : (k x : ℕ) → slice_get hs k ≡ Some (Float x) → (p : Place) × (slice_get places k ≡ Some p)
+    there : (k x : ℕ) → slice_get hs k ≡ Some (Float x) → (p : ExpressionPlace) × (slice_get places k ≡ Some p)
     there k x kind = let less = some-within hs k (Float x) kind in place-there places k (omega (arith, less, count))
 
     typed : (k x : ℕ) → slice_get hs k ≡ Some (Float x) → IsTyped (get_or heads k 0) (get_or (map (seen_at symbols) places) k [])

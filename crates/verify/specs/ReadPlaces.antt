@@ -3,33 +3,33 @@
 -- The code sets one image after another; here are those set so far.
 use Rattle.std.specs.Prelude.{◌≡◌, ℕ, ◌+◌, ◌<◌, ◌==◌, nat_eq, Bool, true, false, if◌then◌else◌, List, get_or, slice_get, Some, None}
 use Rattle.std.specs.Map.{lookup}
-use Rattle.subst.specs.declared.place.Place.{Place}
+use Rattle.subst.specs.declared.place.ExpressionPlace.{ExpressionPlace}
 use Rattle.entries.specs.declared.citation.Hypothesis.{Hypothesis}
 use Rattle.entries.specs.declared.citation.Hypothesis.TheVariants.{Float, Essential}
 
 -- what stands behind the first symbol
-abbrev pub tail_of : Place → Place
+abbrev pub tail_of : ExpressionPlace → ExpressionPlace
 tail_of p = record { start = p.start + 1; end = p.end }
 
 -- the symbols at the place begin with this one
-abbrev pub BeginsWith : List ℕ → ℕ → Place → Type 0
+abbrev pub BeginsWith : List ℕ → ℕ → ExpressionPlace → Type 0
 BeginsWith symbols head p = (p.start < p.end) × (get_or symbols p.start 0 ≡ head)
 
 -- one image was set, or the result begins otherwise
-abbrev pub ReadsOne : Bool → List ℕ → ℕ → Hypothesis → Place → List (ℕ × Place) → List (ℕ × Place) → Type 0
+abbrev pub ReadsOne : Bool → List ℕ → ℕ → Hypothesis → ExpressionPlace → List (ℕ × ExpressionPlace) → List (ℕ × ExpressionPlace) → Type 0
 ReadsOne true symbols head (Float x) p old new = BeginsWith symbols head p × ((y : ℕ) → lookup (nat_eq y) new ≡ (if y == x then Some (tail_of p) else lookup (nat_eq y) old))
 ReadsOne true symbols head (Essential q) p old new = new ≡ old
 ReadsOne false symbols head (Float x) p old new = (BeginsWith symbols head p → ⊥) × (new ≡ old)
 ReadsOne false symbols head (Essential q) p old new = ⊥
 
 -- those of the first n hypotheses
-pub record ReadTo (n : ℕ) (symbols heads : List ℕ) (hs : List Hypothesis) (places : List Place) (images : List (ℕ × Place)) : Type 0 where
-  pub begun : (k x : ℕ) (p : Place) → k < n → slice_get hs k ≡ Some (Float x) → slice_get places k ≡ Some p → BeginsWith symbols (get_or heads k 0) p
-  pub placed : (k x : ℕ) (p : Place) → k < n → slice_get hs k ≡ Some (Float x) → slice_get places k ≡ Some p → lookup (nat_eq x) images ≡ Some (tail_of p)
+pub record ReadTo (n : ℕ) (symbols heads : List ℕ) (hs : List Hypothesis) (places : List ExpressionPlace) (images : List (ℕ × ExpressionPlace)) : Type 0 where
+  pub begun : (k x : ℕ) (p : ExpressionPlace) → k < n → slice_get hs k ≡ Some (Float x) → slice_get places k ≡ Some p → BeginsWith symbols (get_or heads k 0) p
+  pub placed : (k x : ℕ) (p : ExpressionPlace) → k < n → slice_get hs k ≡ Some (Float x) → slice_get places k ≡ Some p → lookup (nat_eq x) images ≡ Some (tail_of p)
   pub own : (x : ℕ) → ((k : ℕ) → k < n → slice_get hs k ≡ Some (Float x) → ⊥) → lookup (nat_eq x) images ≡ None
 
 -- all of them were set, or a result begins otherwise
-abbrev pub ReadsAll : Bool → ℕ → List ℕ → List ℕ → List Hypothesis → List Place → List (ℕ × Place) → Type 0
+abbrev pub ReadsAll : Bool → ℕ → List ℕ → List ℕ → List Hypothesis → List ExpressionPlace → List (ℕ × ExpressionPlace) → Type 0
 ReadsAll true n symbols heads hs places images = ReadTo n symbols heads hs places images
 ReadsAll false n symbols heads hs places images =
-    (k : ℕ) × (x : ℕ) × (p : Place) × (slice_get hs k ≡ Some (Float x)) × (slice_get places k ≡ Some p) × (BeginsWith symbols (get_or heads k 0) p → ⊥)
+    (k : ℕ) × (x : ℕ) × (p : ExpressionPlace) × (slice_get hs k ≡ Some (Float x)) × (slice_get places k ≡ Some p) × (BeginsWith symbols (get_or heads k 0) p → ⊥)

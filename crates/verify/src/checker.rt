@@ -14,6 +14,7 @@ use frame::{Frames, Gathered};
 use mm_lex::Words;
 use proof_code::{CodeFault, Items, Reader, is_compressed, normal};
 use std::alloc::{AllocError, Global};
+use subst::Findings;
 
 /// A verifier that keeps its buffers from proof to proof.
 #[derive(Drop)]
@@ -23,6 +24,7 @@ pub struct Checker {
     table: Vec<Entry>,
     mandatory: Vec<u32>,
     gathered: Gathered,
+    findings: Findings,
     results: Results,
 }
 
@@ -35,6 +37,7 @@ impl Checker {
             table: Vec::new(alloc),
             mandatory: Vec::new(alloc),
             gathered: Gathered::new(alloc),
+            findings: Findings::new(alloc),
             results: Results::new(alloc),
         }
     }
@@ -56,6 +59,7 @@ impl Checker {
             &self.table,
             parts.numbers,
             &mut self.gathered,
+            &mut self.findings,
             &mut self.results,
         )
     }
@@ -109,6 +113,7 @@ impl Checker {
             &self.table,
             self.reader.numbers(),
             &mut self.gathered,
+            &mut self.findings,
             &mut self.results,
         )
     }

@@ -10,6 +10,7 @@ ghost use Rattle.frame.specs.Citations.{Carries};
 ghost use Rattle.frame.specs.Reading.{AreLegal};
 ghost use Rattle.proof_code.specs.declared.item.Item.TheVariants.{Cite};
 ghost use Rattle.proof_code.specs.Numbers.{item_of};
+ghost use Rattle.subst.specs.Findings.{IsKnown};
 ghost use Rattle.verify.specs.Goes.{Goes, AreNamed, AreKnown, GoesOn};
 ghost use Rattle.verify.specs.declared.table.Entry.TheVariants.{Nothing};
 ghost use Rattle.verify.specs.Table.{IsEntry, AreEntries};
@@ -19,6 +20,7 @@ use crate::table::Entry;
 use entries::Cited;
 use frame::{Frames, Gathered, Pairs};
 use std::alloc::AllocError;
+use subst::Findings;
 
 /// Takes the results that the assertion asks for, and adds what it gives. Long lists are made in a buffer.
 fn cite_assertion(
@@ -27,24 +29,27 @@ fn cite_assertion(
     pairs: &Pairs<'_>,
     position: usize,
     gathered: &mut Gathered,
+    findings: &mut Findings,
     results: &mut Results,
 ) -> Result<bool, AllocError>
     requires legal { AreLegal frames.now.statements frames.now.names }
     requires active { pairs.now.statements ≡ before frames.now.statements at }
     requires names { pairs.now.names ≡ frames.now.names }
+    requires found { IsKnown pairs.now findings.old }
     requires named { AreNamed frames.now.names results.old.results }
     requires assertion { (s : Statement) × HasAssertion frames.now.statements position s }
     requires earlier { position < at }
     ensures goes { (label : Name) → (s : Statement) → Carries frames.now.statements position s label
         → IfOk result (λ ok. Goes ok frames.now.statements at frames.now.names (Cite label) results.old.results results.new.results) }
+    ensures found { IsKnown pairs.now findings.new }
     ensures saved { IfOk result (λ ok. IsTrue ok → results.new.results.saved ≡ results.old.results.saved) }
 {
     if let Some(cited) = frames.cited(position) {
-        return cite_parts(frames, at, pairs, position, &cited, results);
+        return cite_parts(frames, at, pairs, position, &cited, findings, results);
     }
     frames.gather(position, gathered)?;
     let cited = frames.gathered(position, gathered);
-    cite_parts(frames, at, pairs, position, &cited, results)
+    cite_parts(frames, at, pairs, position, &cited, findings, results)
 }
 
 /// The same by the parts of the assertion.
@@ -54,17 +59,20 @@ fn cite_parts(
     pairs: &Pairs<'_>,
     position: usize,
     cited: &Cited<'_>,
+    findings: &mut Findings,
     results: &mut Results,
 ) -> Result<bool, AllocError>
     requires legal { AreLegal frames.now.statements frames.now.names }
     requires active { pairs.now.statements ≡ before frames.now.statements at }
     requires names { pairs.now.names ≡ frames.now.names }
+    requires found { IsKnown pairs.now findings.old }
     requires named { AreNamed frames.now.names results.old.results }
     requires assertion { (s : Statement) × HasAssertion frames.now.statements position s }
     requires earlier { position < at }
     requires cited { (s : Statement) → stmt_at frames.now.statements position ≡ Some s → IsCited frames.now.statements frames.now.names position s cited.now }
     ensures goes { (label : Name) → (s : Statement) → Carries frames.now.statements position s label
         → IfOk result (λ ok. Goes ok frames.now.statements at frames.now.names (Cite label) results.old.results results.new.results) }
+    ensures found { IsKnown pairs.now findings.new }
     ensures saved { IfOk result (λ ok. IsTrue ok → results.new.results.saved ≡ results.old.results.saved) }
 {
     let count = cited.hypotheses.len();
@@ -77,7 +85,7 @@ fn cite_parts(
     if !results.fits(frames, cited.hypotheses) {
         return Ok(false);
     }
-    if !results.are_apart(pairs, &cited.groups) {
+    if !results.are_apart(pairs, &cited.groups, findings) {
         return Ok(false);
     }
     results.apply(count, cited.conclusion)
@@ -91,21 +99,24 @@ fn cite(
     table: &[Entry],
     label: usize,
     gathered: &mut Gathered,
+    findings: &mut Findings,
     results: &mut Results,
 ) -> Result<bool, AllocError>
     requires legal { AreLegal frames.now.statements frames.now.names }
     requires active { pairs.now.statements ≡ before frames.now.statements at }
     requires names { pairs.now.names ≡ frames.now.names }
+    requires found { IsKnown pairs.now findings.old }
     requires known { AreKnown frames.now.statements frames.now.names table.now results.old.results }
     requires within { label < length table.now }
     requires entry { (name : Name) × IsEntry frames.now.statements at name (get_or table.now label Nothing) }
-    ensures { (name : Name) → IsEntry frames.now.statements at name (get_or table.now label Nothing)
+    ensures found { IsKnown pairs.now findings.new }
+    ensures goes { (name : Name) → IsEntry frames.now.statements at name (get_or table.now label Nothing)
         → IfOk result (λ ok. GoesOn ok frames.now.statements at frames.now.names table.now (Cite name) results.old.results results.new.results) }
 {
     match table[label] {
         Entry::Hypothesis(position) => results.give(label, frames.expr(position)),
         Entry::Assertion(position) => cite_assertion(
-            frames, at, pairs, position, gathered, results,
+            frames, at, pairs, position, gathered, findings, results,
         ),
         Entry::Nothing => Ok(false),
     }
@@ -119,14 +130,17 @@ pub fn step(
     table: &[Entry],
     number: u32,
     gathered: &mut Gathered,
+    findings: &mut Findings,
     results: &mut Results,
 ) -> Result<bool, AllocError>
     requires legal { AreLegal frames.now.statements frames.now.names }
     requires active { pairs.now.statements ≡ before frames.now.statements at }
     requires names { pairs.now.names ≡ frames.now.names }
+    requires found { IsKnown pairs.now findings.old }
     requires known { AreKnown frames.now.statements frames.now.names table.now results.old.results }
     requires entries { (labels : List Name) × AreEntries frames.now.statements at labels table.now }
-    ensures { (labels : List Name) → AreEntries frames.now.statements at labels table.now
+    ensures found { IsKnown pairs.now findings.new }
+    ensures goes { (labels : List Name) → AreEntries frames.now.statements at labels table.now
         → IfOk result (λ ok. GoesOn ok frames.now.statements at frames.now.names table.now (item_of labels number) results.old.results results.new.results) }
 {
     if number == 0 {
@@ -137,7 +151,7 @@ pub fn step(
         return results.recall(index);
     }
     if index < table.len() {
-        cite(frames, at, pairs, table, index, gathered, results)
+        cite(frames, at, pairs, table, index, gathered, findings, results)
     } else {
         results.recall(index)
     }

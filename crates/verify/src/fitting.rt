@@ -11,7 +11,7 @@ ghost use Rattle.verify.specs.Fits.{IsStanding, AreStanding, FitsOne, DoFit};
 
 use entries::Hypothesis;
 use frame::Frames;
-use subst::{ImagePlaces, Place, matches, symbols_at};
+use subst::{ExpressionPlace, ImagePlaces, matches, symbols_at};
 
 /// Whether the result is the expression of a `$e` with the images put in. Of a `$f` nothing is asked here.
 fn fits_one(
@@ -19,7 +19,7 @@ fn fits_one(
     symbols: &[u32],
     images: &ImagePlaces,
     hypothesis: Hypothesis,
-    place: Place,
+    place: ExpressionPlace,
 ) -> bool
     requires legal { AreLegal frames.now.statements frames.now.names }
     requires standing { IsStanding frames.now.statements hypothesis }
@@ -44,7 +44,7 @@ pub fn all_fit(
     symbols: &[u32],
     images: &ImagePlaces,
     hypotheses: &[Hypothesis],
-    places: &[Place],
+    places: &[ExpressionPlace],
 ) -> bool
     requires legal { AreLegal frames.now.statements frames.now.names }
     requires standing { AreStanding frames.now.statements hypotheses.now }

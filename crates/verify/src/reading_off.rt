@@ -7,7 +7,7 @@ ghost use Rattle.verify.specs.ReadPlaces.{ReadsOne, ReadsAll};
 
 use entries::Hypothesis;
 use std::alloc::AllocError;
-use subst::{ImagePlaces, Place};
+use subst::{ExpressionPlace, ImagePlaces};
 
 /// Sets the image of the variable of a `$f` to what stands behind the first symbol of its result; not where the result
 /// begins with another symbol than the one asked for. A `$e` sets none.
@@ -16,7 +16,7 @@ fn read_one(
     symbols: &[u32],
     head: u32,
     hypothesis: Hypothesis,
-    place: Place,
+    place: ExpressionPlace,
 ) -> Result<bool, AllocError>
     requires { place.end ≤ length symbols.now }
     ensures ok { IfOk result (λ ok. ReadsOne ok symbols.now head hypothesis place images.old images.new) }
@@ -31,7 +31,7 @@ fn read_one(
             if first != head {
                 return Ok(false);
             }
-            let behind = Place {
+            let behind = ExpressionPlace {
                 start: place.start + 1,
                 end: place.end,
             };
@@ -48,7 +48,7 @@ pub fn read_off(
     symbols: &[u32],
     heads: &[u32],
     hypotheses: &[Hypothesis],
-    places: &[Place],
+    places: &[ExpressionPlace],
 ) -> Result<bool, AllocError>
     requires same { length places.now ≡ length hypotheses.now }
     requires heads { length heads.now ≡ length hypotheses.now }

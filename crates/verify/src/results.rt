@@ -6,6 +6,7 @@ ghost use Rattle.frame.specs.Below.{AllBelow};
 ghost use Rattle.frame.specs.Disjoint.{are_groups_apart};
 ghost use Rattle.frame.specs.Reading.{AreLegal};
 ghost use Rattle.frame.specs.Substitution.{code_apply, images_of_names};
+ghost use Rattle.subst.specs.Findings.{IsKnown};
 ghost use Rattle.subst.specs.Images.{AreOver};
 ghost use Rattle.verify.specs.Fits.{AreDifferent, AreStanding, Reads, DoFit};
 ghost use Rattle.verify.specs.Machine.{with_result, with_mark, IsSaved};
@@ -18,10 +19,13 @@ use entries::{Groups, Hypothesis};
 use frame::{Frames, Pairs};
 use std::alloc::{AllocError, Global};
 use std::marker::Model;
-use subst::{Buffer, ImagePlaces, Place, SYMBOLS_LIMIT, groups_apart, place_between, symbols_at};
+use subst::{
+    Buffer, ExpressionPlace, Findings, ImagePlaces, SYMBOLS_LIMIT, groups_apart, place_between,
+    symbols_at,
+};
 
 /// The place of no symbols.
-const EMPTY: Place = Place { start: 0, end: 0 };
+const EMPTY: ExpressionPlace = ExpressionPlace { start: 0, end: 0 };
 
 /// The results of a proof so far, their symbols in one buffer, and the images that were read off the last of them.
 ///
@@ -31,8 +35,8 @@ const EMPTY: Place = Place { start: 0, end: 0 };
 pub struct Results {
     symbols: Buffer,
     images: ImagePlaces,
-    stack: Vec<Place>,
-    saved: Vec<Place>,
+    stack: Vec<ExpressionPlace>,
+    saved: Vec<ExpressionPlace>,
     weight: usize,
 }
 
@@ -176,13 +180,21 @@ impl Results {
     }
 
     /// Whether the images of each two variables of a group are apart.
-    pub fn are_apart(&self, pairs: &Pairs<'_>, groups: &Groups<'_>) -> bool
+    pub fn are_apart(&self, pairs: &Pairs<'_>, groups: &Groups<'_>, findings: &mut Findings) -> bool
+        requires known { IsKnown pairs.now findings.old }
         requires distinct { AreDistinct pairs.now.names }
         requires over { AreOver pairs.now.names self.now.images }
         requires below { AllBelow (length pairs.now.names) groups.now }
-        ensures { result ≡ are_groups_apart pairs.now.statements (images_of_names pairs.now.names self.now.images) (map (decode pairs.now.names) groups.now) }
+        ensures known { IsKnown pairs.now findings.new }
+        ensures apart { result ≡ are_groups_apart pairs.now.statements (images_of_names pairs.now.names self.now.images) (map (decode pairs.now.names) groups.now) }
     {
-        groups_apart(pairs, groups, self.symbols.as_slice(), &self.images)
+        groups_apart(
+            pairs,
+            groups,
+            findings,
+            self.symbols.as_slice(),
+            &self.images,
+        )
     }
 
     /// Takes the last r results and adds the expression with the images put in, if it is light enough.

@@ -14,15 +14,17 @@ use crate::results::Results;
 use crate::table::Entry;
 use frame::{Frames, Gathered};
 use std::alloc::AllocError;
+use subst::Findings;
 
 /// Whether the items with these numbers, over a table of what the labels name, are a right proof of the `$p` at that
-/// position. The results, and the buffer of long lists, are used for the run.
+/// position. The results, the findings and the buffer of long lists are used for the run.
 pub fn run(
     frames: &Frames,
     at: usize,
     table: &[Entry],
     numbers: &[u32],
     gathered: &mut Gathered,
+    findings: &mut Findings,
     results: &mut Results,
 ) -> Result<Answer, AllocError>
     requires legal { AreLegal frames.now.statements frames.now.names }
@@ -32,9 +34,12 @@ pub fn run(
         → IfOk result (λ answer. Says answer (IsRight frames.now.statements at (items_of labels numbers.now))) }
 {
     results.start(table.len())?;
+    findings.clear();
     let pairs = frames.active_pairs(at);
     for number in numbers {
-        if !step(frames, at, &pairs, table, *number, gathered, results)? {
+        if !step(
+            frames, at, &pairs, table, *number, gathered, findings, results,
+        )? {
             return Ok(Answer::Wrong);
         }
     }

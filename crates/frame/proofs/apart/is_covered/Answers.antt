@@ -5,10 +5,10 @@ use Rattle.mm_read.specs.declared.stmt.Stmt.{Stmt}
 use Rattle.scope.specs.Active.{active, before, separated}
 use Rattle.names.specs.Codes.{decode}
 use Rattle.frame.specs.Links.{is_disj}
-use Rattle.frame.specs.Stored.{statements_of, stmt_of}
+use Rattle.frame.specs.StoredEntries.{statements_of, stmt_of}
 use Rattle.frame.specs.Covers.{does_cover}
 use Rattle.frame.proofs.WalkLemmas.{last-within}
-use Rattle.frame.proofs.StoredLemmas.{numbered-at}
+use Rattle.frame.proofs.StoredOneMore.{numbered-at}
 use Rattle.frame.proofs.PairsLemmas.{IsSought, sought-here, sought-found, sought-step, sought-over, read-here, any-kind, entry-disj}
 use Rattle.frame.proofs.ApartLemmas.{covers-told, covers-other}
 use Rattle.entries.specs.Entries.{seen}

@@ -1,7 +1,8 @@
 use Rattle.std.proofs.Common.{◌≡◌, ◌∙◌, sym, subst}
 use Rattle.frame.specs.Drafts.{drafted}
 use Rattle.frame.specs.Cited.{AreListsOf}
-use Rattle.frame.specs.Stored.{AreHypotheses, statements_of}
+use Rattle.frame.specs.StoredHypotheses.{AreHypotheses}
+use Rattle.frame.specs.StoredEntries.{statements_of}
 use Rattle.frame.proofs.WalkLemmas.{some-same}
 use Rattle.frame.proofs.CollectLemmas.{on-ok-weaker}
 use Rattle.frame.proofs.CitedLemmas.{is-there}

@@ -5,9 +5,9 @@ use Rattle.mm_lex.specs.Alphabet.{Name}
 use Rattle.mm_read.specs.declared.stmt.Stmt.{Stmt}
 use Rattle.scope.specs.Active.{stmt_at, label_of}
 use Rattle.entries.specs.Entries.{Entry}
-use Rattle.frame.specs.Stored.{stmt_of}
+use Rattle.frame.specs.StoredEntries.{stmt_of}
 use Rattle.frame.proofs.WalkLemmas.{some-same}
-use Rattle.frame.proofs.StoredLemmas.{get-stmt, stmt-at-suc}
+use Rattle.frame.proofs.StoredReading.{get-stmt, stmt-at-suc}
 use Rattle.frame.proofs.LabelLemmas.{label-below-at, label-below, label-is, label-none}
 use Rattle.entries.specs.Entries.{seen}
 use Rattle.frame.proofs.hypotheses.label_at.Goals as goal

@@ -3,7 +3,8 @@ use Rattle.std.specs.Prelude.{◌++◌, slice_get}
 use Rattle.scope.specs.Active.{is_essential, before}
 use Rattle.frame.specs.FrameOf.{hypotheses}
 use Rattle.frame.specs.Links.{actives}
-use Rattle.frame.specs.Stored.{Ascends, statements_of, with_essentials}
+use Rattle.frame.specs.StoredHypotheses.{Ascends, with_essentials}
+use Rattle.frame.specs.StoredEntries.{statements_of}
 use Rattle.frame.proofs.WalkLemmas.{some-same}
 use Rattle.frame.proofs.CollectLemmas.{on-ok-weaker}
 use Rattle.frame.proofs.CitedLemmas.{is-there}

@@ -2,7 +2,7 @@ use Rattle.std.proofs.Common.{◌≡◌, ◌∙◌, ap, sym, arith, get_or, ◌-
 use Rattle.std.specs.Prelude.{◌++◌, ◌∷◌, []}
 use Rattle.frame.proofs.WalkLemmas.{some-same}
 use Rattle.entries.specs.Entries.{seen}
-use Rattle.frame.specs.Stored.{variable_by}
+use Rattle.frame.specs.StoredParts.{variable_by}
 use Rattle.frame.proofs.MakeLemmas.{hypothesis-at, get-below, variables-more}
 use Rattle.frame.proofs.make.variables.Goals as goal
 

@@ -1,6 +1,7 @@
 use Rattle.std.proofs.Common.{sym, subst}
-use Rattle.frame.specs.Stored.{Ascends, statements_of}
-use Rattle.frame.proofs.CollectedLemmas.{ascends-floats}
+use Rattle.frame.specs.StoredHypotheses.{Ascends}
+use Rattle.frame.specs.StoredEntries.{statements_of}
+use Rattle.frame.proofs.ActivePositions.{ascends-floats}
 use Rattle.frame.proofs.make.whole_parts.Goals as goal
 
 pub add_essentials-requires-clause-ascends : goal.add_essentials-requires-clause-ascends

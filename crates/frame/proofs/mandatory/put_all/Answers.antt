@@ -1,7 +1,7 @@
 use Rattle.std.proofs.Common.{◌∙◌, ◌+◌, ap, sym, subst, arith, drop}
-use Rattle.frame.specs.Stored.{Ascends, with_all}
+use Rattle.frame.specs.StoredHypotheses.{Ascends, with_all}
 use Rattle.frame.proofs.CollectLemmas.{all-step}
-use Rattle.frame.proofs.CollectedLemmas.{ascends-inserted}
+use Rattle.frame.proofs.AscendingLists.{ascends-inserted}
 use Rattle.frame.proofs.mandatory.put_all.Goals as goal
 
 pub loop-position-preserved : goal.loop-position-preserved

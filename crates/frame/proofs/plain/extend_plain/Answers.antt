@@ -3,10 +3,12 @@ use Rattle.std.proofs.lemmas.Bool.{false≢true}
 use Rattle.scope.specs.Active.{bare}
 use Rattle.names.specs.Codes.{with_names}
 use Rattle.entries.specs.Entries.{plain}
-use Rattle.frame.specs.Stored.{HasRoom, statements_of, kind_of}
+use Rattle.frame.specs.StoredCounts.{HasRoom, kind_of}
+use Rattle.frame.specs.StoredEntries.{statements_of}
 use Rattle.frame.proofs.EnterLemmas.{entered-statement}
 use Rattle.frame.proofs.ExtendLemmas.{on-err-same, grown-behind, is-pushed}
-use Rattle.frame.proofs.StoredLemmas.{kept-pushed, pushed-statements, legal-bare, legal-fresh}
+use Rattle.frame.proofs.StoredLemmas.{kept-pushed, pushed-statements}
+use Rattle.frame.proofs.StoredTaken.{legal-bare, legal-fresh}
 use Rattle.frame.proofs.plain.extend_plain.Goals as goal
 
 pub enter_label-requires : goal.enter_label-requires

@@ -4,9 +4,9 @@ use Rattle.std.proofs.lemmas.List.{length-map}
 use Rattle.std.specs.Prelude.{Some, true, false, IsTrue, Bool, ◌-◌, ◌≤◌}
 use Rattle.scope.specs.Active.{stmt_at, is_assertion}
 use Rattle.frame.specs.Citations.{is_hypothesis_kind}
-use Rattle.frame.specs.Stored.{statements_of, stmt_of}
+use Rattle.frame.specs.StoredEntries.{statements_of, stmt_of}
 use Rattle.frame.proofs.WalkLemmas.{some-same}
-use Rattle.frame.proofs.StoredLemmas.{IsCitable, get-stmt, stmt-at-suc, entry-none, none-of, entry-assertion}
+use Rattle.frame.proofs.StoredReading.{IsCitable, get-stmt, stmt-at-suc, entry-none, none-of, entry-assertion}
 use Rattle.entries.specs.Entries.{seen}
 use Rattle.frame.proofs.reading.meaning_at.Goals as goal
 

@@ -2,9 +2,11 @@ use Rattle.std.proofs.Common.{◌≡◌, ◌+◌, ◌-◌, ◌∙◌, ap, sym, s
 use Rattle.std.specs.Prelude.{[], ◌∷◌, Some}
 use Rattle.frame.specs.Below.{AreBelow}
 use Rattle.entries.specs.Entries.{seen}
-use Rattle.frame.specs.Stored.{Extends, ReadsAs, replaced_of, symbol_of}
+use Rattle.entries.specs.Spans.{Extends}
+use Rattle.frame.specs.StoredEntries.{ReadsAs, replaced_of, symbol_of}
 use Rattle.frame.proofs.DeclareLemmas.{symbol_of-push}
-use Rattle.frame.proofs.StoredLemmas.{numbered-at, two-of}
+use Rattle.frame.proofs.StoredOneMore.{numbered-at}
+use Rattle.frame.proofs.StoredReading.{two-of}
 use Rattle.frame.proofs.UndoLemmas.{front-step, last-of, replaced_of-push}
 use Rattle.frame.proofs.undo.take_away.Goals as goal
 

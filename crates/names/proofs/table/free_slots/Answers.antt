@@ -1,6 +1,7 @@
-use Rattle.std.proofs.Common.{refl}
+use Rattle.std.proofs.Common.{ap}
+use Rattle.names.specs.declared.table.Slot.{Slot}
 use Rattle.names.proofs.TableLemmas.{unused}
 use Rattle.names.proofs.table.free_slots.Goals as goal
 
 pub returns : goal.returns
-returns c = unused _ c.new-slots.result.items _ _ _ c.new-slots.ensures.items c.in_ok-resize.ensures.items refl
+returns c = unused _ c.new-slots.result.items _ _ _ c.new-slots.ensures.items c.in_ok-resize.ensures.items (ap (λ (s : Slot). s.number) c.make_slot-free.ensures)

@@ -1,12 +1,11 @@
 use Rattle.std.proofs.Common.{◌∙◌, sym, arith, rules}
 use Rattle.names.specs.Codes.{name_at}
 use Rattle.names.specs.Keys.{AreBytes}
-use Rattle.names.specs.Table.{HasKey}
 use Rattle.names.proofs.KeysLemmas.{key-same}
 use Rattle.names.proofs.table.is_name.Goals as goal
 
-pub returns-then-slot-sound-clause-yes : goal.returns-then-slot-sound-clause-yes
-returns-then-slot-sound-clause-yes c = λ _.
-    let h : HasKey c.args.texts.now c.args.slot = c.requires.sound c.if-slot-sound.true in
+pub returns-then-has-clause-yes : goal.returns-then-has-clause-yes
+returns-then-has-clause-yes c = λ _.
+    let h = c.has.ensures c.if-has.true in
     let own : AreBytes c.args.name.now = λ k. omega (arith, c.type_inv.name k) in
-    (h.within, sym (key-same c.args.name.now (name_at c.args.texts.now c.args.slot.number) own h.bytes (search rules) (sym c.requires.key ∙ h.key)))
+    (h.0, sym (key-same c.args.name.now (name_at c.args.texts.now c.args.number) own h.1 (search rules) (sym c.requires.key ∙ sym h.2)))

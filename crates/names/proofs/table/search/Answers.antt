@@ -1,20 +1,19 @@
-use Rattle.std.proofs.Common.{◌≡◌, ◌∙◌, sym, length, rules, arith, inr}
+use Rattle.std.proofs.Common.{◌≡◌, ◌∙◌, sym, rules, arith, inr}
 use Rattle.names.specs.Codes.{name_at}
-use Rattle.names.specs.Table.{place_of, HasKey}
 use Rattle.names.proofs.KeysLemmas.{key-same}
 use Rattle.names.proofs.CodesLemmas.{code-at}
 use Rattle.names.proofs.TableLemmas.{not-found}
 use Rattle.names.proofs.table.search.Goals as goal
 
-pub returns-then-slot-sound : goal.returns-then-slot-sound
-returns-then-slot-sound c =
+pub returns-then-has : goal.returns-then-has
+returns-then-has c =
     let slot = c.look-slot.result in
-    let h : HasKey c.args.texts.now slot = c.requires.sound (place_of c.key-key.result 0 (length c.args.slots.now)) slot c.look-slot.ensures c.if-slot-sound.true in
+    let h = c.has.ensures c.if-has.true in
     let same : c.args.name.now ≡ name_at c.args.texts.now slot.number =
-    key-same c.args.name.now (name_at c.args.texts.now slot.number) c.key-key.ensures.bytes h.bytes (search rules) (sym c.key-key.ensures.key ∙ (sym c.if-slot-key.true ∙ h.key)) in
-    sym (code-at c.args.texts.now c.args.name.now slot.number c.requires.distinct h.within (sym same))
+    key-same c.args.name.now (name_at c.args.texts.now slot.number) c.key-key.ensures.bytes h.1 (search rules) (sym c.key-key.ensures.key ∙ sym h.2) in
+    sym (code-at c.args.texts.now c.args.name.now slot.number c.requires.distinct h.0 (sym same))
 
 pub returns-then-is_empty-3 : goal.returns-then-is_empty-3
 returns-then-is_empty-3 c =
-    sym (not-found c.args.slots.now c.args.overflow.now c.args.texts.now c.args.name.now c.key-key.result 0 c.key-key.ensures.key c.requires.found c.requires.few (λ i below. absurd (omega (arith, below)))
+    sym (not-found c.args.slots.now c.args.kept.now.overflow c.args.texts.now c.args.name.now c.key-key.result 0 c.key-key.ensures.key c.requires.found c.requires.few (λ i below. absurd (omega (arith, below)))
     (inr (c.look-slot.result, c.look-slot.ensures, c.if-slot.true)) (λ k lt e z. let none = c.is_empty-then-slot.ensures c.if-is_empty-3.true c.args.name.now in cc (sym none ∙ z)))

@@ -1,13 +1,12 @@
-use Rattle.std.proofs.Common.{sym, inl, inr, below_more, arith, length}
-use Rattle.names.specs.Table.{place_of}
+use Rattle.std.proofs.Common.{◌∙◌, sym, inl, inr, below_more, arith}
 use Rattle.names.proofs.CodesLemmas.{code-at}
 use Rattle.names.proofs.TableLemmas.{passed-one, ended}
 use Rattle.names.proofs.table.search_on.Goals as goal
-use Rattle.names.proofs.table.search_on.Goals.{else-slot-key-via-then-slot-key+else-is_name, else-slot-key-via-else-slot-key}
+use Rattle.names.proofs.table.search_on.Goals.{else-slot-half-via-then-slot-half+else-is_name, else-slot-half-via-else-slot-half}
 
 pub returns-then-slot : goal.returns-then-slot
 returns-then-slot c =
-    ended c.args.slots.now c.args.overflow.now c.args.texts.now c.args.name.now c.key-key.result c.loop-step.step c.search_apart.result c.key-key.ensures.key c.requires.found c.requires.few c.loop-step.invariant
+    ended c.args.slots.now c.args.kept.now.overflow c.args.texts.now c.args.name.now c.key-key.result c.loop-step.step c.search_apart.result c.key-key.ensures.key c.requires.found c.requires.few c.loop-step.invariant
     (inr (c.look-slot.result, c.look-slot.ensures, c.if-slot.true)) c.search_apart.ensures.some c.search_apart.ensures.none
 
 pub returns-then-is_name : goal.returns-then-is_name
@@ -19,18 +18,15 @@ pub loop-step-preserved : goal.loop-step-preserved
 loop-step-preserved c =
     below_more _ _ c.loop-step.invariant
     (passed-one c.args.slots.now c.args.texts.now c.args.name.now c.key-key.result c.loop-step.step c.look-slot.result c.look-slot.ensures c.if-slot.false
-    (λ own. elim c.else-slot-key.branch [
-      | else-slot-key-via-then-slot-key+else-is_name w ↦ w.is_name.ensures.no w.if-is_name.false
-      | else-slot-key-via-else-slot-key w ↦ absurd (w.if-slot-key.false own)
+    (λ own. elim c.else-slot-half.branch [
+      | else-slot-half-via-then-slot-half+else-is_name w ↦ w.is_name.ensures.no w.if-is_name.false
+      | else-slot-half-via-else-slot-half w ↦ absurd (w.if-slot-half.false (own ∙ sym c.half-half.ensures))
     ]))
 
 pub returns : goal.returns
 returns c =
-    ended c.args.slots.now c.args.overflow.now c.args.texts.now c.args.name.now c.key-key.result c.loop-step.step c.search_apart-2.result c.key-key.ensures.key c.requires.found c.requires.few c.loop-step.invariant
+    ended c.args.slots.now c.args.kept.now.overflow c.args.texts.now c.args.name.now c.key-key.result c.loop-step.step c.search_apart-2.result c.key-key.ensures.key c.requires.found c.requires.few c.loop-step.invariant
     (inl (elim c.steps-step-end.ensures.all [
       | inl p ↦ inl (omega (arith, p))
       | inr p ↦ inr (omega (arith, p))
     ])) c.search_apart-2.ensures.some c.search_apart-2.ensures.none
-
-pub is_name-requires-clause-sound : goal.is_name-requires-clause-sound
-is_name-requires-clause-sound c = c.requires.sound (place_of c.key-key.result c.loop-step.step (length c.args.slots.now)) c.look-slot.result c.look-slot.ensures

@@ -1,10 +1,9 @@
-use Rattle.std.proofs.Common.{◌≡◌, ◌≢◌, ◌∙◌, ap, sym, subst, arith, get_or, ℕ, List, Some}
+use Rattle.std.proofs.Common.{◌≡◌, ◌≢◌, ◌∙◌, ap, sym, subst, arith, get_or, ℕ, ◌+◌, List, Some, slice_set}
 use Rattle.std.proofs.lemmas.List.{get_or_read}
-use Rattle.names.specs.declared.table.TheConstants.{NO_NAME}
 use Rattle.names.specs.Keys.{AreBytes}
 use Rattle.names.specs.Overflow.{number_of}
-use Rattle.names.specs.Table.{HasKey, IsFree, AreKept, AreFewer}
-use Rattle.names.proofs.TableLemmas.{put-held, put-sound}
+use Rattle.names.specs.Table.{IsFree, AreHeld, AreKept, AreFewer}
+use Rattle.names.proofs.TableLemmas.{put-held}
 use Rattle.names.proofs.KeptLemmas.{either, on-ok, held-passed, kept-apart, kept-failed, fewer-apart, held-apart}
 use Rattle.names.proofs.table.settle.Goals as goal
 
@@ -25,18 +24,8 @@ returns-in-Some-clause-held c =
     let lt = c.requires.number in
     let few = c.requires.few in
     let free : IsFree c.args.slots.now.items key c.in-Some.at = subst (λ s. IsFree s key c.in-Some.at) c.as_slice.ensures.value c.in-Some.ensures in
-    put-held c.args.slots.now.items a c.args.texts.now key c.in-Some.at n (is ∙ k.key (λ z. c.if-key-eq-APART.false (is ∙ z))) (omega (arith, lt, few)) c.requires.held free
-
-pub returns-in-Some-clause-sound : goal.returns-in-Some-clause-sound
-returns-in-Some-clause-sound c =
-    let a = c.args.kept.now in
-    let n = c.args.number in
-    let key = c.index-key.result.now in
-    let k = c.requires.kept n c.requires.number in
-    let is : key ≡ get_or a.keys.items n 0 = get_or_read a.keys.items n key k.there c.index-key.ensures 0 in
-    let free : IsFree c.args.slots.now.items key c.in-Some.at = subst (λ s. IsFree s key c.in-Some.at) c.as_slice.ensures.value c.in-Some.ensures in
-    let here : HasKey c.args.texts.now (record { key = key; number = n }) = record { within = c.requires.number; bytes = k.bytes; key = is ∙ k.key (λ z. c.if-key-eq-APART.false (is ∙ z)) } in
-    put-sound c.args.slots.now.items c.args.texts.now c.in-Some.at NO_NAME (record { key = key; number = n }) free.inside here c.requires.sound
+    subst (λ s. AreHeld (n + 1) (slice_set c.args.slots.now.items c.in-Some.at s) a c.args.texts.now) (sym c.make_slot.ensures)
+    (put-held c.args.slots.now.items a c.args.texts.now key c.in-Some.at n (is ∙ k.key (λ z. c.if-key-eq-APART.false (is ∙ z))) (omega (arith, lt, few)) c.requires.held free)
 
 pub returns-in-None-clause-kept : goal.returns-in-None-clause-kept
 returns-in-None-clause-kept c =

@@ -1,15 +1,16 @@
-use Rattle.std.proofs.Common.{arith}
+use Rattle.std.proofs.Common.{◌∙◌, ap, arith}
+use Rattle.std.specs.Prelude.{slice_range}
 use Rattle.names.proofs.TextsLemmas.{laid-in, text-at}
 use Rattle.names.proofs.texts.part.Goals as goal
 
 pub slice_bounds-result-count : goal.slice_bounds-result-count
-slice_bounds-result-count c = (laid-in _ c.args.spans.now c.args.number c.item-span.result c.requires.laid c.item-span.ensures).0
+slice_bounds-result-count c = let h = laid-in _ 0 c.args.ends.now c.args.number c.item-to.result c.requires.laid c.item-to.ensures in let s = c.start-from.ensures in omega (arith, h.0, s)
 
 pub slice_bounds-result-end : goal.slice_bounds-result-end
-slice_bounds-result-end c = let h = laid-in _ c.args.spans.now c.args.number c.item-span.result c.requires.laid c.item-span.ensures in omega (arith, h.0, h.1)
+slice_bounds-result-end c = let h = laid-in _ 0 c.args.ends.now c.args.number c.item-to.result c.requires.laid c.item-to.ensures in let s = c.start-from.ensures in omega (arith, h.0, h.1, s)
 
 pub slice_bounds-result-start : goal.slice_bounds-result-start
-slice_bounds-result-start c = let h = laid-in _ c.args.spans.now c.args.number c.item-span.result c.requires.laid c.item-span.ensures in omega (arith, h.0, h.1)
+slice_bounds-result-start c = let h = laid-in _ 0 c.args.ends.now c.args.number c.item-to.result c.requires.laid c.item-to.ensures in let s = c.start-from.ensures in omega (arith, h.0, h.1, s)
 
 pub returns : goal.returns
-returns c = text-at c.args.bytes.now c.args.spans.now c.args.number c.item-span.result c.item-span.ensures
+returns c = ap (λ from. slice_range c.args.bytes.now from c.item-to.result) c.start-from.ensures ∙ text-at c.args.bytes.now 0 c.args.ends.now c.args.number c.item-to.result c.item-to.ensures

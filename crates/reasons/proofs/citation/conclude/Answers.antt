@@ -67,8 +67,8 @@ returns-in-Some-clause-told c s e =
     let S = c.args.frames.now.statements in let names = c.args.frames.now.names in
     wrong_is S names c.args.at c.args.a s (named names c.args.results.now) c.args.room c.in-Some.fault (rw c.in-Some.is at (c.in_ok-fault.ensures s e))
 
-pub returns-in-Some-find_clash-clause-told : goal.returns-in-Some-find_clash-clause-told
-returns-in-Some-find_clash-clause-told c s e =
+pub returns-in-Some-clash-clause-told : goal.returns-in-Some-clash-clause-told
+returns-in-Some-clash-clause-told c s e =
     let S = c.args.frames.now.statements in let names = c.args.frames.now.names in let cited = c.requires.cited s e in
     let rs = named names c.args.results.now in
     let ps = hypotheses (before S c.args.a) s in
@@ -77,7 +77,7 @@ returns-in-Some-find_clash-clause-told c s e =
     let pn = c.active_pairs-pairs.ensures.names in
     let images = ap (λ ns. named_images ns (code_images c.as_slice.result.now)) pn ∙ (ap (named_images names) is ∙ (are.0 ∙ ap (images_read S ps) (named-codes names c.args.results.now))) in
     let groups = ap (λ ns. map (decode ns) c.args.cited.now.groups) pn ∙ cited.groups in
-    (refl, rw c.in_default.is at (c.in_ok-fault.ensures s e), clash_moved c.active_pairs-pairs.ensures.statements pn images groups c.in-Some-find_clash.clash c.in-Some-find_clash.ensures)
+    (refl, rw c.in_default.is at (c.in_ok-fault.ensures s e), clash_moved c.active_pairs-pairs.ensures.statements pn images groups c.in-Some-clash.clash (rw c.in-Some-clash.is at c.in_ok-clash.ensures))
 
 pub returns-in-Some-2-clause-told : goal.returns-in-Some-2-clause-told
 returns-in-Some-2-clause-told c s e =
@@ -94,7 +94,7 @@ returns-in-Some-2-clause-told c s e =
     let variables = subst (λ σ. AreVariables (length names) σ) (sym is-2) are.1 in (
       record {
         fit = rw c.in_default.is at (c.in_ok-fault.ensures s e);
-        apart = apart_moved c.active_pairs-pairs.ensures.statements pn images groups c.in_default-find_clash.ensures;
+        apart = apart_moved c.active_pairs-pairs.ensures.statements pn images groups (rw c.in_default-clash.is at c.in_ok-clash.ensures);
       },
       ap (decode names) told.0 ∙ conclusion_is names c.legal.ensures.distinct (code_images c.as_slice-2.result.now) variables (images_read S ps (named names c.args.results.now)) (ap (named_images names) is-2 ∙ read)
           c.args.cited.now.conclusion.now cited.conclusion_below (expr_of s) cited.conclusion,
@@ -116,7 +116,7 @@ returns-clause-told c s e =
     let variables = subst (λ σ. AreVariables (length names) σ) (sym is-2) are.1 in (
       record {
         fit = rw c.in_default.is at (c.in_ok-fault.ensures s e);
-        apart = apart_moved c.active_pairs-pairs.ensures.statements pn images groups c.in_default-find_clash.ensures;
+        apart = apart_moved c.active_pairs-pairs.ensures.statements pn images groups (rw c.in_default-clash.is at c.in_ok-clash.ensures);
       },
       subst (λ n. c.args.room < n) (conclusion_length names c.legal.ensures.distinct (code_images c.as_slice-2.result.now) variables (images_read S ps (named names c.args.results.now)) (ap (named_images names) is-2 ∙ read)
           c.args.cited.now.conclusion.now cited.conclusion_below (expr_of s) cited.conclusion) told,

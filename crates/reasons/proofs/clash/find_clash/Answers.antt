@@ -13,13 +13,13 @@ clash_in-requires-clause-group c = all-at (length c.args.pairs.now.names) c.args
 pub returns-in-Some : goal.returns-in-Some
 returns-in-Some c =
     let names = c.args.pairs.now.names in
-    clash_is c.args.pairs.now.statements names (named_images names (code_images c.args.images.now)) c.args.groups.now c.loop-k.k c.get.result.now c.in-Some.clash c.get.ensures c.in-Some.ensures
+    clash_is c.args.pairs.now.statements names (named_images names (code_images c.args.images.now)) c.args.groups.now c.loop-k.k c.get.result.now c.in-Some.clash c.get.ensures (rw c.in-Some.is at c.in_ok-found.ensures)
 
 pub loop-k-preserved : goal.loop-k-preserved
 loop-k-preserved c =
     let S = c.args.pairs.now.statements in let names = c.args.pairs.now.names in
     let σ = named_images names (code_images c.args.images.now) in
-    c.loop-k.invariant ∙ groups_step (is_group_apart S σ) (decode names) c.args.groups.now c.loop-k.k c.get.result.now c.get.ensures c.in_default.ensures
+    c.loop-k.invariant ∙ groups_step (is_group_apart S σ) (decode names) c.args.groups.now c.loop-k.k c.get.result.now c.get.ensures (rw c.in_default.is at c.in_ok-found.ensures)
 
 pub returns : goal.returns
 returns c =

@@ -24,13 +24,13 @@ neither : (a b : Bool) → a ≡ false → (a && b) ≡ false
 neither true b e = cc
 neither false b e = refl
 
-pub returns-then-not-number_apart : goal.returns-then-not-number_apart
-returns-then-not-number_apart c =
+pub returns-then-not-number_apart-clause-apart : goal.returns-then-not-number_apart-clause-apart
+returns-then-not-number_apart-clause-apart c =
     let D = c.args.pairs.now.statements in
     let rs = image_named c.args.pairs.now.names (images_at c.args.symbols.now c.args.images.now) in
     let i = c.loop-index.index in
-    let here = sym c.number_apart.ensures ∙ c.if-not-number_apart.true in
-    sym (group-by_rest D rs c.args.group.now ∙ (sym c.loop-index.invariant ∙ (rest-at D rs c.args.group.now i 0 c.loop-index-test.true
+    let here = sym c.number_apart.ensures.apart ∙ c.if-not-number_apart.true in
+    sym (group-by_rest D rs c.args.group.now ∙ (sym c.loop-index.invariant.1 ∙ (rest-at D rs c.args.group.now i 0 c.loop-index-test.true
     ∙ neither _ _ (ap (λ g. is_number_apart D rs g (get_or c.args.group.now i 0)) (sym (rest-of (i + 1) c.args.group.now)) ∙ here))))
 
 pub loop-index-preserved : goal.loop-index-preserved
@@ -38,12 +38,14 @@ loop-index-preserved c =
     let D = c.args.pairs.now.statements in
     let rs = image_named c.args.pairs.now.names (images_at c.args.symbols.now c.args.images.now) in
     let i = c.loop-index.index in
-    let here = sym c.number_apart.ensures ∙ c.if-not-number_apart.false in
-    sym (rest-at D rs c.args.group.now i 0 c.loop-index-test.true
-    ∙ both _ _ (ap (λ g. is_number_apart D rs g (get_or c.args.group.now i 0)) (sym (rest-of (i + 1) c.args.group.now)) ∙ here)) ∙ c.loop-index.invariant
+    let here = sym c.number_apart.ensures.apart ∙ c.if-not-number_apart.false in (
+      c.number_apart.ensures.known,
+      sym (rest-at D rs c.args.group.now i 0 c.loop-index-test.true
+          ∙ both _ _ (ap (λ g. is_number_apart D rs g (get_or c.args.group.now i 0)) (sym (rest-of (i + 1) c.args.group.now)) ∙ here)) ∙ c.loop-index.invariant.1,
+    )
 
-pub returns : goal.returns
-returns c =
+pub returns-clause-apart : goal.returns-clause-apart
+returns-clause-apart c =
     let D = c.args.pairs.now.statements in
     let rs = image_named c.args.pairs.now.names (images_at c.args.symbols.now c.args.images.now) in
-    sym (group-by_rest D rs c.args.group.now ∙ (sym c.loop-index.invariant ∙ ap (is_rest_apart D rs) (drop_all c.loop-index.index c.args.group.now (omega (arith, c.loop-index-test.false)))))
+    sym (group-by_rest D rs c.args.group.now ∙ (sym c.loop-index.invariant.1 ∙ ap (is_rest_apart D rs) (drop_all c.loop-index.index c.args.group.now (omega (arith, c.loop-index-test.false)))))

@@ -8,11 +8,11 @@ use Rattle.subst.specs.Apart.{image_named}
 use Rattle.subst.proofs.NumbersApartLemmas.{differ}
 use Rattle.subst.proofs.numbers_apart.two_apart.Goals as goal
 
-pub returns : goal.returns
-returns c =
+pub returns-clause-apart : goal.returns-clause-apart
+returns-clause-apart c =
     let v = c.args.pairs.now in
     let image = image_named v.names (images_at c.args.symbols.now c.args.images.now) in
-    c.apart.ensures
+    c.apart.ensures.apart
     ∙ (ap (λ e. are_apart v.statements (decode v.names e) (decode v.names c.image_or-right.result.now)) c.image_or-left.ensures
     ∙ (ap (λ e. are_apart v.statements (image c.args.k) (decode v.names e)) c.image_or-right.ensures
     ∙ sym (ap (λ b. b || are_apart v.statements (image c.args.k) (image c.args.l)) (differ c.args.k c.args.l c.if-k-l.false))))

@@ -1,5 +1,5 @@
 use Rattle.std.proofs.Common.{◌≡◌, ℕ, suc, ◌+◌, ◌-◌, ◌++◌, List, Option, Some, drop, ap, sym, ◌∙◌, arith}
-use Rattle.synod.specs.declared.packet.Report.{Report}
+use Rattle.synod.specs.declared.packet.SlotReport.{SlotReport}
 use Rattle.synod.specs.Pages.{joined_pages}
 use Rattle.synod.specs.Node.{pages_from}
 use Rattle.synod.specs.PagesHad.{pages_with}
@@ -10,14 +10,14 @@ use Rattle.synod.proofs.leading.add_pages.Goals.{in-Some+in_ok-push, in_default}
 
 pub loop-page-preserved : goal.loop-page-preserved
 loop-page-preserved g c =
-    let had : List (Option (List (Report g.row.V.Denot))) = pages_from (pages_with c.args.pages.now) c.args.node in
+    let had : List (Option (List (SlotReport g.row.V.Denot))) = pages_from (pages_with c.args.pages.now) c.args.node in
     let i : ℕ = c.loop-page.page in
     let n : ℕ = c.args.count - (i + 1) in
     let count : c.args.count - i ≡ suc n = omega arith in
     let before = ap (λ (k : ℕ). all_of c.loop-page.all.items ++ joined_pages (drop i had) k) (sym count) ∙ c.loop-page.invariant in
     elim c.match-get.branch [
       | in-Some+in_ok-push w ↦
-          let is = w.in-Some.ensures ∙ ap (λ (page : List (Report g.row.V.Denot)). let o : Option (List (Report g.row.V.Denot)) = Some page in o) (sym w.as_slice.ensures) in
+          let is = w.in-Some.ensures ∙ ap (λ (page : List (SlotReport g.row.V.Denot)). let o : Option (List (SlotReport g.row.V.Denot)) = Some page in o) (sym w.as_slice.ensures) in
           rw w.all-is (add_next had i n c.loop-page.all.items w.push.new.self.items w.as_slice.result is w.in_ok-push.ensures.items ∙ before)
-      | in_default w ↦ rw w.all-is (ap (λ (rs : List (Report g.row.V.Denot)). all_of c.loop-page.all.items ++ rs) (sym (joined-gap had i n w.in_default.ensures)) ∙ before)
+      | in_default w ↦ rw w.all-is (ap (λ (rs : List (SlotReport g.row.V.Denot)). all_of c.loop-page.all.items ++ rs) (sym (joined-gap had i n w.in_default.ensures)) ∙ before)
     ]

@@ -1,6 +1,6 @@
 use Rattle.std.proofs.Common.{ℕ, List, take, ap, sym, ◌∙◌, subst, arith}
 use Rattle.std.specs.Borrow.{Bor}
-use Rattle.synod.specs.declared.packet.Report.{Report}
+use Rattle.synod.specs.declared.packet.SlotReport.{SlotReport}
 use Rattle.synod.specs.Heights.{all_of, AreHighest}
 use Rattle.synod.proofs.HeightsLemmas.{take_next, take_past, all_of-push, highest_of_none}
 use Rattle.synod.proofs.leading.highest_reports.Goals as goal
@@ -11,12 +11,12 @@ loop-page-init g c = record { highest = highest_of_none c.args.first c.loop-slot
 pub loop-page-preserved : goal.loop-page-preserved
 loop-page-preserved g c =
     let i : ℕ = c.loop-page.page-index in
-    let next = ap (λ (ps : List (Bor (List (Report g.row.V.Denot)))). all_of ps) (take_next c.args.pages.now i c.page-item.result c.page-item.is (omega arith)) ∙ all_of-push (take i c.args.pages.now) c.page-item.result in
+    let next = ap (λ (ps : List (Bor (List (SlotReport g.row.V.Denot)))). all_of ps) (take_next c.args.pages.now i c.page-item.result c.page-item.is (omega arith)) ∙ all_of-push (take i c.args.pages.now) c.page-item.result in
     record {
-      highest = subst (λ (rs : List (Report g.row.V.Denot)). AreHighest c.args.first c.keep_page.new.table.items rs) (sym next) (c.keep_page.ensures.highest (all_of (take i c.args.pages.now)) c.loop-page.invariant.highest);
+      highest = subst (λ (rs : List (SlotReport g.row.V.Denot)). AreHighest c.args.first c.keep_page.new.table.items rs) (sym next) (c.keep_page.ensures.highest (all_of (take i c.args.pages.now)) c.loop-page.invariant.highest);
       slots = c.keep_page.ensures.slots ∙ c.loop-page.invariant.slots;
     }
 
 pub returns-clause-highest : goal.returns-clause-highest
 returns-clause-highest g c =
-    subst (λ (ps : List (Bor (List (Report g.row.V.Denot)))). AreHighest c.args.first c.loop-page.table.items (all_of ps)) (take_past c.args.pages.now c.loop-page.page-index (omega arith)) c.loop-page.invariant.highest
+    subst (λ (ps : List (Bor (List (SlotReport g.row.V.Denot)))). AreHighest c.args.first c.loop-page.table.items (all_of ps)) (take_past c.args.pages.now c.loop-page.page-index (omega arith)) c.loop-page.invariant.highest

@@ -1,5 +1,5 @@
 use Rattle.std.proofs.Common.{ℕ, List, [], ◌∷◌, ◌++◌, take, ap, sym, ◌∙◌, subst, arith, append_assoc}
-use Rattle.synod.specs.declared.packet.Report.{Report}
+use Rattle.synod.specs.declared.packet.SlotReport.{SlotReport}
 use Rattle.synod.specs.Heights.{AreHighest}
 use Rattle.synod.proofs.HeightsLemmas.{take_next, take_past}
 use Rattle.synod.proofs.leading.keep_page.Goals as goal
@@ -10,11 +10,11 @@ loop-report-preserved g c = record {
       let i : ℕ = c.loop-report.report-index in
       let one_more = c.keep_report.ensures.highest (reports ++ take i c.args.page.now) (c.loop-report.invariant.highest reports h) in
       let next = take_next c.args.page.now i c.report-item.result c.report-item.is (omega arith) in
-      subst (λ (rs : List (Report g.row.V.Denot)). AreHighest c.args.first c.keep_report.new.table.items rs)
-      (append_assoc reports (take i c.args.page.now) (c.report-item.result ∷ []) ∙ ap (λ (rs : List (Report g.row.V.Denot)). reports ++ rs) (sym next)) one_more;
+      subst (λ (rs : List (SlotReport g.row.V.Denot)). AreHighest c.args.first c.keep_report.new.table.items rs)
+      (append_assoc reports (take i c.args.page.now) (c.report-item.result ∷ []) ∙ ap (λ (rs : List (SlotReport g.row.V.Denot)). reports ++ rs) (sym next)) one_more;
   slots = c.keep_report.ensures.slots ∙ c.loop-report.invariant.slots;
 }
 
 pub returns-clause-highest : goal.returns-clause-highest
 returns-clause-highest g c = λ reports h.
-    subst (λ (rs : List (Report g.row.V.Denot)). AreHighest c.args.first c.loop-report.table.items (reports ++ rs)) (take_past c.args.page.now c.loop-report.report-index (omega arith)) (c.loop-report.invariant.highest reports h)
+    subst (λ (rs : List (SlotReport g.row.V.Denot)). AreHighest c.args.first c.loop-report.table.items (reports ++ rs)) (take_past c.args.page.now c.loop-report.report-index (omega arith)) (c.loop-report.invariant.highest reports h)

@@ -1,10 +1,10 @@
 use Rattle.std.proofs.Common.{◌≡◌, ◌++◌, List, length, take}
-use Rattle.synod.specs.declared.packet.Report.{Report}
+use Rattle.synod.specs.declared.packet.SlotReport.{SlotReport}
 use Rattle.synod.specs.Heights.{AreHighest}
 use Rattle.synod.proofs.leading.keep_page.Given as goal
 
 abbrev pub invariant-loop-report : goal.invariant-loop-report
 invariant-loop-report g l = record {
-  highest : (reports : List (Report g.row.V.Denot)) → AreHighest l.first l.fn.table.items reports → AreHighest l.first l.table.items (reports ++ take l.report-index l.page);
+  highest : (reports : List (SlotReport g.row.V.Denot)) → AreHighest l.first l.fn.table.items reports → AreHighest l.first l.table.items (reports ++ take l.report-index l.page);
   slots : length l.table.items ≡ length l.fn.table.items;
 }

@@ -1,6 +1,6 @@
 use Rattle.std.proofs.Common.{◌+◌, List, drop, ap, ◌∙◌, subst, arith}
 use Rattle.std.specs.List.{AllByRecursion}
-use Rattle.synod.specs.declared.packet.Report.{Report}
+use Rattle.synod.specs.declared.packet.SlotReport.{SlotReport}
 use Rattle.synod.specs.Packets.{IsReport}
 use Rattle.synod.specs.Proposer.{above_all}
 use Rattle.synod.specs.Heights.{all_of}
@@ -11,14 +11,14 @@ pub above_page-above-requires : goal.above_page-above-requires
 above_page-above-requires g c =
     let next = pages_next c.args.pages.now c.loop-reports.reports-index c.reports-item.result c.reports-item.is (omega arith) in
     all_left IsReport c.reports-item.result.now (all_of (drop (c.loop-reports.reports-index + 1) c.args.pages.now))
-    (subst (λ (rs : List (Report g.row.V.Denot)). AllByRecursion IsReport rs) next c.loop-reports.invariant.low)
+    (subst (λ (rs : List (SlotReport g.row.V.Denot)). AllByRecursion IsReport rs) next c.loop-reports.invariant.low)
 
 pub loop-reports-preserved : goal.loop-reports-preserved
 loop-reports-preserved g c =
     let next = pages_next c.args.pages.now c.loop-reports.reports-index c.reports-item.result c.reports-item.is (omega arith) in
-    let rest : List (Report g.row.V.Denot) = all_of (drop (c.loop-reports.reports-index + 1) c.args.pages.now) in
-    let parts = ap (λ (rs : List (Report g.row.V.Denot)). above_all rs) next ∙ above_all-append c.reports-item.result.now rest in
+    let rest : List (SlotReport g.row.V.Denot) = all_of (drop (c.loop-reports.reports-index + 1) c.args.pages.now) in
+    let parts = ap (λ (rs : List (SlotReport g.row.V.Denot)). above_all rs) next ∙ above_all-append c.reports-item.result.now rest in
     record {
-      low = all_right IsReport c.reports-item.result.now rest (subst (λ (rs : List (Report g.row.V.Denot)). AllByRecursion IsReport rs) next c.loop-reports.invariant.low);
+      low = all_right IsReport c.reports-item.result.now rest (subst (λ (rs : List (SlotReport g.row.V.Denot)). AllByRecursion IsReport rs) next c.loop-reports.invariant.low);
       above = omega (arith, parts, c.loop-reports.invariant.above, c.above_page-above.ensures);
     }

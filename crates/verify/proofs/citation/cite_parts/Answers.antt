@@ -100,7 +100,7 @@ returns-then-not-are_apart-clause-goes c = λ label s carries.
     let has = has_with _ _ s _ label carries c.requires.assertion.1 in
     assertion-clash _ _ c.args.at c.requires.legal c.args.results.now.results c.read_images.new.self.results c.requires.named label c.args.position c.args.cited.now s carries
     has (c.requires.legal.bound _ s has) (c.requires.cited s carries.stands) c.read_images.new.self.images (reads-as _ true _ _ _ _ c.if-not-branch.false c.in_ok-read_images.ensures.read)
-    (apart-by _ _ _ _ _ c.read_images.new.self.images c.args.cited.now.groups _ c.requires.active c.requires.names c.are_apart.ensures c.if-not-are_apart.true)
+    (apart-by _ _ _ _ _ c.read_images.new.self.images c.args.cited.now.groups _ c.requires.active c.requires.names c.are_apart.ensures.apart c.if-not-are_apart.true)
 
 pub returns-clause-goes : goal.returns-clause-goes
 returns-clause-goes c = λ label s carries.
@@ -110,7 +110,7 @@ returns-clause-goes c = λ label s carries.
     has (c.requires.legal.bound _ s has) cited c.read_images.new.self.images (reads-as _ true _ _ _ _ c.if-not-branch.false c.in_ok-read_images.ensures.read)
     c.apply.result c.requires.earlier (let h = c.if-count-len.false in omega (arith, h, c.len.ensures))
     ((fit-as _ _ _ _ _ _ _ (ap (λ (v : Results ℕ). v.stack) c.in_ok-read_images.ensures.same) c.fits.ensures).0 c.if-not-fits.false)
-    (apart-by _ _ _ _ _ c.read_images.new.self.images c.args.cited.now.groups _ c.requires.active c.requires.names c.are_apart.ensures c.if-not-are_apart.false)
+    (apart-by _ _ _ _ _ c.read_images.new.self.images c.args.cited.now.groups _ c.requires.active c.requires.names c.are_apart.ensures.apart c.if-not-are_apart.false)
     (adds-as _ c.read_images.new.self.results _ _ _ _ c.in_ok-read_images.ensures.same c.apply.ensures)
 
 pub returns-clause-saved : goal.returns-clause-saved

@@ -13,22 +13,22 @@ cite-requires-clause-entry c = (
   entry_at c.args.frames.now.statements c.args.at c.requires.entries.0 c.args.table.now (c.args.number - 1) _ c.requires.entries.1 c.if-index-table.true,
 )
 
-pub returns-then-number-eq0 : goal.returns-then-number-eq0
-returns-then-number-eq0 c = λ labels are.
+pub returns-then-number-eq0-clause-goes : goal.returns-then-number-eq0-clause-goes
+returns-then-number-eq0-clause-goes c = λ labels are.
     mark-on _ _ _ c.requires.legal c.args.table.now _ _ c.requires.known labels c.args.number c.mark.result c.if-number-eq0.true c.mark.ensures
 
-pub returns-then-has : goal.returns-then-has
-returns-then-has c = λ labels are.
+pub returns-then-has-clause-goes : goal.returns-then-has-clause-goes
+returns-then-has-clause-goes c = λ labels are.
     has-on _ _ _ c.requires.legal c.args.table.now _ _ c.requires.known labels (c.args.number - 1) c.args.number c.recall.result (suc_back c.args.number c.if-number-eq0.false) are
     (c.has.ensures.some c.if-has.true) c.recall.ensures
 
-pub returns-then-index-table : goal.returns-then-index-table
-returns-then-index-table c = λ labels are.
+pub returns-then-index-table-clause-goes : goal.returns-then-index-table-clause-goes
+returns-then-index-table-clause-goes c = λ labels are.
     cite-on _ _ _ c.requires.legal c.args.table.now _ _ c.requires.known labels (get_or labels (c.args.number - 1) []) c.args.number (c.args.number - 1) c.cite.result
     (suc_back c.args.number c.if-number-eq0.false) (let n = are.count in let h = c.if-index-table.true in omega (arith, n, h)) refl
-    (c.cite.ensures (get_or labels (c.args.number - 1) []) (entry_at c.args.frames.now.statements c.args.at labels c.args.table.now (c.args.number - 1) _ are c.if-index-table.true))
+    (c.cite.ensures.goes (get_or labels (c.args.number - 1) []) (entry_at c.args.frames.now.statements c.args.at labels c.args.table.now (c.args.number - 1) _ are c.if-index-table.true))
 
-pub returns-else-index-table : goal.returns-else-index-table
-returns-else-index-table c = λ labels are.
+pub returns-else-index-table-clause-goes : goal.returns-else-index-table-clause-goes
+returns-else-index-table-clause-goes c = λ labels are.
     recall-on _ _ _ c.requires.legal c.args.table.now _ _ c.requires.known labels (c.args.number - 1) c.args.number c.recall-else-index-table.result
     (suc_back c.args.number c.if-number-eq0.false) are.count (let h = c.if-index-table.false in omega (arith, h)) c.recall-else-index-table.ensures

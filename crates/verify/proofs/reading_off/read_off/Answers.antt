@@ -1,6 +1,6 @@
 use Rattle.std.proofs.Common.{◌<◌, length, arith, subst, get_or}
 use Rattle.subst.proofs.PlaceLemmas.{within-at}
-use Rattle.subst.specs.declared.place.Place.{Place}
+use Rattle.subst.specs.declared.place.ExpressionPlace.{ExpressionPlace}
 use Rattle.entries.specs.declared.citation.Hypothesis.TheVariants.{Float}
 use Rattle.verify.specs.ReadPlaces.{ReadsOne}
 use Rattle.verify.proofs.AskedLemmas.{get-some}
@@ -11,7 +11,7 @@ pub loop-k-preserved : goal.loop-k-preserved
 loop-k-preserved c =
     let hs = c.args.hypotheses.now in
     let places = c.args.places.now in
-    let none : Place = record { start = 0; end = 0 } in
+    let none : ExpressionPlace = record { start = 0; end = 0 } in
     let k = c.loop-k.k in
     let less = c.loop-k-test.true in
     let there : k < length places = (let s = c.requires.same in omega (arith, s, less)) in

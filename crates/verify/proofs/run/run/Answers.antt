@@ -2,6 +2,7 @@ use Rattle.std.proofs.Common.{◌≡◌, ◌+◌, Bool, true, false, Result, Ok,
 use Rattle.proof_code.specs.Numbers.{item_of}
 use Rattle.verify.specs.Goes.{behind, GoesOn}
 use Rattle.verify.specs.Right.{IsRight}
+use Rattle.subst.proofs.FindingsLemmas.{known-none}
 use Rattle.verify.proofs.KnownLemmas.{start-known, start-behind}
 use Rattle.verify.proofs.StepLemmas.{Reached, reached-start, reached-step, wrong-step, right-end, wrong-end, items-more, items-rest, all-taken}
 use Rattle.verify.proofs.MandatoryLemmas.{place_of}
@@ -12,6 +13,7 @@ loop-number-init c = (
   c.requires.legal,
   start-known c.args.frames.now.statements c.args.frames.now.names c.args.at c.args.table.now c.start.new.self.results c.in_ok-start.ensures,
   λ labels are. reached-start c.args.frames.now.statements c.args.frames.now.names c.args.at c.requires.legal (behind (length c.args.table.now) c.start.new.self.results) (start-behind (length c.args.table.now) c.start.new.self.results c.in_ok-start.ensures),
+  known-none _ _ c.clear.ensures.variables c.clear.ensures.constants,
 )
 
 -- what the step did
@@ -23,7 +25,7 @@ loop-number-preserved c = (
   c.loop-number.invariant.0,
   (went c.step.result c.in_ok-step.field-0 true
       (λ v. GoesOn v c.args.frames.now.statements c.args.at c.args.frames.now.names c.args.table.now (item_of c.requires.entries.0 (get_or c.args.numbers.now c.loop-number.number-index 0)) c.loop-number.results.results c.step.new.results.results)
-      (c.step.ensures c.requires.entries.0 c.requires.entries.1) c.in_ok-step.was c.if-not-branch.false).1 refl,
+      (c.step.ensures.goes c.requires.entries.0 c.requires.entries.1) c.in_ok-step.was c.if-not-branch.false).1 refl,
   λ labels are.
       subst (λ is. Reached c.args.frames.now.statements c.args.frames.now.names c.args.at c.loop-number.invariant.0 is (behind (length c.args.table.now) c.step.new.results.results)) (sym (items-more labels c.args.numbers.now c.loop-number.number-index c.loop-number-test.true))
       (reached-step c.args.frames.now.statements c.args.frames.now.names c.args.at c.loop-number.invariant.0
@@ -31,7 +33,8 @@ loop-number-preserved c = (
       (behind (length c.args.table.now) c.loop-number.results.results) (behind (length c.args.table.now) c.step.new.results.results) (c.loop-number.invariant.2 labels are)
       (went c.step.result c.in_ok-step.field-0 true
       (λ v. GoesOn v c.args.frames.now.statements c.args.at c.args.frames.now.names c.args.table.now (item_of labels (get_or c.args.numbers.now c.loop-number.number-index 0)) c.loop-number.results.results c.step.new.results.results)
-      (c.step.ensures labels are) c.in_ok-step.was c.if-not-branch.false).0),
+      (c.step.ensures.goes labels are) c.in_ok-step.was c.if-not-branch.false).0),
+  c.step.ensures.found,
 )
 
 pub returns-then-not-branch : goal.returns-then-not-branch
@@ -43,7 +46,7 @@ returns-then-not-branch c = λ labels are right.
     (map (item_of labels) (take c.loop-number.number-index c.args.numbers.now)) (map (item_of labels) (drop (c.loop-number.number-index + 1) c.args.numbers.now))
     (item_of labels (get_or c.args.numbers.now c.loop-number.number-index 0)) (behind (length table) c.loop-number.results.results) (behind (length table) c.step.new.results.results) c.requires.provable.0 c.requires.provable.1.stands (c.loop-number.invariant.2 labels are)
     (went c.step.result c.in_ok-step.field-0 false (λ v. GoesOn v S c.args.at names table (item_of labels (get_or c.args.numbers.now c.loop-number.number-index 0)) c.loop-number.results.results c.step.new.results.results)
-    (c.step.ensures labels are) c.in_ok-step.was c.if-not-branch.true).0
+    (c.step.ensures.goes labels are) c.in_ok-step.was c.if-not-branch.true).0
     (subst (IsRight S c.args.at) (items-rest labels c.args.numbers.now c.loop-number.number-index c.loop-number-test.true) right)
 
 pub returns-then-is_only : goal.returns-then-is_only

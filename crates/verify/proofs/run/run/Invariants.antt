@@ -2,6 +2,7 @@ use Rattle.std.proofs.Common.{List, length, map, take}
 use Rattle.mm_lex.specs.Alphabet.{Name}
 use Rattle.frame.specs.Reading.{AreLegal}
 use Rattle.proof_code.specs.Numbers.{item_of}
+use Rattle.subst.specs.Findings.{IsKnown}
 use Rattle.verify.specs.Goes.{behind, AreKnown}
 use Rattle.verify.specs.Table.{AreEntries}
 use Rattle.verify.proofs.StepLemmas.{Reached}
@@ -14,3 +15,4 @@ invariant-loop-number l =
     × AreKnown l.frames.statements l.frames.names l.table l.results.results
     × ((labels : List Name) → AreEntries l.frames.statements l.at labels l.table
     → Reached l.frames.statements l.frames.names l.at legal (map (item_of labels) (take l.number-index l.numbers)) (behind (length l.table) l.results.results))
+    × IsKnown l.pairs l.findings

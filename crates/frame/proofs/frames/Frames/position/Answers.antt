@@ -8,10 +8,12 @@ use Rattle.scope.specs.Active.{stmt_at, was_label}
 use Rattle.names.specs.Codes.{code_of, name_at}
 use Rattle.frame.specs.Citations.{Carries}
 use Rattle.frame.specs.Reading.{IsPosition}
-use Rattle.frame.specs.Stored.{statements_of, labels_of, positions_from}
+use Rattle.frame.specs.StoredEntries.{statements_of, labels_of, positions_from}
 use Rattle.names.proofs.CodesLemmas.{code-name}
 use Rattle.names.proofs.CodesLemmas.{unknown-number}
-use Rattle.frame.proofs.StoredLemmas.{label-place, label-none, length-positions, has-labels_of}
+use Rattle.frame.proofs.StoredReading.{label-place, label-none}
+use Rattle.frame.proofs.StoredTaken.{length-positions}
+use Rattle.frame.proofs.StoredOneMore.{has-labels_of}
 use Rattle.frame.proofs.frames.Frames.position.Goals as goal
 
 found : (S T : Database) (labels : List Name) (positions : List ℕ) (x : Name) (n p : ℕ) → S ≡ T → labels ≡ labels_of S → positions ≡ positions_from 1 S → code_of labels x ≡ Some n

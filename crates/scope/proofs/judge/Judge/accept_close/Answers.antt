@@ -4,7 +4,7 @@ use Rattle.scope.specs.Active.{bare}
 use Rattle.scope.specs.Legal.{broken_rule}
 use Rattle.scope.proofs.ActiveLemmas.{left_open}
 use Rattle.scope.proofs.BlocksLemmas.{length-blocks}
-use Rattle.scope.proofs.KeptLemmas.{kept-close, some_open}
+use Rattle.scope.proofs.StackFollows.{kept-close, some_open}
 use Rattle.scope.proofs.LegalLemmas.{legal-close}
 use Rattle.scope.proofs.AcceptLemmas.{same-kept}
 use Rattle.scope.proofs.StandingLemmas.{same-standing, standing-close}

@@ -1,7 +1,7 @@
 use Rattle.std.proofs.Common.{◌∙◌, ap, sym, ◌++◌, ◌∷◌, [], refl}
 use Rattle.scope.specs.Active.{bare, active}
 use Rattle.scope.specs.Kept.{sizes_of}
-use Rattle.scope.proofs.KeptLemmas.{kept-open}
+use Rattle.scope.proofs.StackFollows.{kept-open}
 use Rattle.scope.proofs.AcceptLemmas.{same-kept}
 use Rattle.std.proofs.lemmas.List.{append-nil}
 use Rattle.mm_read.specs.declared.stmt.Stmt.TheVariants as shape

@@ -4,7 +4,7 @@ use Rattle.scope.specs.Kept.{IsKept, sizes_of}
 use Rattle.mm_read.specs.Statements.{Database}
 use Rattle.scope.specs.Standing.{IsStanding}
 use Rattle.scope.proofs.StandingLemmas.{standing-mark}
-use Rattle.scope.proofs.KeptLemmas.{kept-mark}
+use Rattle.scope.proofs.MarkLemmas.{kept-mark}
 use Rattle.scope.proofs.judge.Judge.mark.Goals as goal
 
 pub invariant_of-self : goal.invariant_of-self

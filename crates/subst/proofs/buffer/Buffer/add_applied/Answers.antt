@@ -1,7 +1,7 @@
 use Rattle.std.specs.Prelude.{◌≡◌, ℕ, ◌<◌, ◌≤◌, ◌++◌, List, Option, Some, None, IfSome, IfNone, length, take}
 use Rattle.std.proofs.Common.{arith, ◌∙◌, ap, subst}
 use Rattle.frame.specs.Substitution.{code_apply}
-use Rattle.subst.specs.declared.place.Place.{Place}
+use Rattle.subst.specs.declared.place.ExpressionPlace.{ExpressionPlace}
 use Rattle.subst.specs.Places.{images_at}
 use Rattle.subst.specs.Written.{IsWritten}
 use Rattle.subst.proofs.buffer.Buffer.add_applied.Goals as goal
@@ -12,10 +12,10 @@ some_of o e P is h = let Q : Option ℕ → Type 0 = λ v. IfSome v P in subst Q
 none_of : (o : Option ℕ) (P : Type 0) → o ≡ None → IfNone o P → P
 none_of o P is h = let Q : Option ℕ → Type 0 = λ v. IfNone v P in subst Q is h
 
-heavy : (xs ys : List ℕ) (ps : List (ℕ × Place)) (expr : List ℕ) (limit : ℕ) → xs ≡ ys → limit < length (code_apply (images_at xs ps) expr) → limit < length (code_apply (images_at ys ps) expr)
+heavy : (xs ys : List ℕ) (ps : List (ℕ × ExpressionPlace)) (expr : List ℕ) (limit : ℕ) → xs ≡ ys → limit < length (code_apply (images_at xs ps) expr) → limit < length (code_apply (images_at ys ps) expr)
 heavy xs ys ps expr limit e h = subst (λ s. limit < length (code_apply (images_at s ps) expr)) e h
 
-light : (xs ys : List ℕ) (ps : List (ℕ × Place)) (expr : List ℕ) (limit : ℕ) → xs ≡ ys → length (code_apply (images_at xs ps) expr) ≤ limit → length (code_apply (images_at ys ps) expr) ≤ limit
+light : (xs ys : List ℕ) (ps : List (ℕ × ExpressionPlace)) (expr : List ℕ) (limit : ℕ) → xs ≡ ys → length (code_apply (images_at xs ps) expr) ≤ limit → length (code_apply (images_at ys ps) expr) ≤ limit
 light xs ys ps expr limit e h = subst (λ s. length (code_apply (images_at s ps) expr) ≤ limit) e h
 
 pub returns-in_default-clause-ok : goal.returns-in_default-clause-ok

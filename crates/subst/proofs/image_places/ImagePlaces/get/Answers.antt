@@ -2,7 +2,7 @@ use Rattle.std.proofs.Common.{◌≡◌, ℕ, ◌<◌, ◌==◌, List, length, g
 use Rattle.std.specs.Prelude.{nat_eq, cond, Some, None}
 use Rattle.std.specs.Map.{lookup}
 use Rattle.std.proofs.lemmas.Bool.Decides.{nat_tests}
-use Rattle.subst.specs.declared.place.Place.{Place}
+use Rattle.subst.specs.declared.place.ExpressionPlace.{ExpressionPlace}
 use Rattle.subst.specs.declared.image_places.Slot.{Slot}
 use Rattle.subst.specs.Slots.{placed}
 use Rattle.subst.proofs.SlotLemmas.{placed-slot, slot-none, slot-at}
@@ -23,15 +23,15 @@ other m n e = grind (arith, nat_tests, e)
 
 pub returns-then-index-len : goal.returns-then-index-len
 returns-then-index-len c =
-    sym (ap (λ (ps : List (ℕ × Place)). lookup (nat_eq c.args.symbol) ps) (sym c.self.view_is)
+    sym (ap (λ (ps : List (ℕ × ExpressionPlace)). lookup (nat_eq c.args.symbol) ps) (sym c.self.view_is)
     ∙ (placed-slot c.self.inside.round c.self.inside.slots.items c.args.symbol ∙ slot-none c.self.inside.round c.self.inside.slots.items c.args.symbol (omega (arith, c.if-index-len.true, c.len.ensures))))
 
 pub returns-then-slot-self : goal.returns-then-slot-self
 returns-then-slot-self c =
     found c.self.inside.round c.self.inside.slots.items c.args.symbol c.index-slot.result.now true (omega (arith, c.if-index-len.false, c.len.ensures)) c.index-slot.ensures (same _ _ c.if-slot-self.true)
-    ∙ ap (λ (ps : List (ℕ × Place)). lookup (nat_eq c.args.symbol) ps) c.self.view_is
+    ∙ ap (λ (ps : List (ℕ × ExpressionPlace)). lookup (nat_eq c.args.symbol) ps) c.self.view_is
 
 pub returns-else-slot-self : goal.returns-else-slot-self
 returns-else-slot-self c =
     found c.self.inside.round c.self.inside.slots.items c.args.symbol c.index-slot.result.now false (omega (arith, c.if-index-len.false, c.len.ensures)) c.index-slot.ensures (other _ _ c.if-slot-self.false)
-    ∙ ap (λ (ps : List (ℕ × Place)). lookup (nat_eq c.args.symbol) ps) c.self.view_is
+    ∙ ap (λ (ps : List (ℕ × ExpressionPlace)). lookup (nat_eq c.args.symbol) ps) c.self.view_is

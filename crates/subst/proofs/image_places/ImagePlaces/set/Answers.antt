@@ -1,7 +1,7 @@
 use Rattle.std.specs.Prelude.{ℕ, List, Option, Some, nat_eq, cond}
 use Rattle.std.specs.Map.{lookup}
 use Rattle.std.proofs.Common.{arith, refl, sym, ◌∙◌, ap, subst}
-use Rattle.subst.specs.declared.place.Place.{Place}
+use Rattle.subst.specs.declared.place.ExpressionPlace.{ExpressionPlace}
 use Rattle.subst.specs.Slots.{placed, AreUpTo}
 use Rattle.subst.proofs.SlotLemmas.{placed-slot, placed-more, slot-set, up_to-set, up_to-more}
 use Rattle.subst.proofs.image_places.ImagePlaces.set.Goals as goal
@@ -22,6 +22,6 @@ returns-clause-ok c x =
     let slots = c.make_slot.new.slots.items in
     placed-slot round _ x
     ∙ (slot-set round slots c.args.symbol (record { round = round; place = c.args.place }) x c.in_ok-make_slot.ensures.there refl
-    ∙ ap (λ (o : Option Place). cond (nat_eq x c.args.symbol) (Some c.args.place) o)
+    ∙ ap (λ (o : Option ExpressionPlace). cond (nat_eq x c.args.symbol) (Some c.args.place) o)
     (sym (placed-slot round slots x)
-    ∙ ap (λ (ps : List (ℕ × Place)). lookup (nat_eq x) ps) (ap (placed round 0) e.1 ∙ (placed-more _ refl round 0 c.self.inside.slots.items e.0 c.self.invariant.0 ∙ c.self.view_is))))
+    ∙ ap (λ (ps : List (ℕ × ExpressionPlace)). lookup (nat_eq x) ps) (ap (placed round 0) e.1 ∙ (placed-more _ refl round 0 c.self.inside.slots.items e.0 c.self.invariant.0 ∙ c.self.view_is))))

@@ -5,7 +5,7 @@ use Rattle.synod.specs.declared.proposer.Role.{Role}
 use Rattle.synod.specs.declared.proposer.Role.TheVariants.{Leading}
 use Rattle.synod.specs.Step.{IsNode, IsRole}
 use Rattle.synod.specs.Proposer.{takes_slot}
-use Rattle.synod.proofs.StepKeeps.{slot_is_taken}
+use Rattle.synod.proofs.NodeKeeps.{slot_is_taken}
 use Rattle.synod.proofs.NodeLemmas.{node_of_parts, memory_posts}
 use Rattle.synod.proofs.node.NodeCore.ready_offer.Goals as goal
 

@@ -1,7 +1,7 @@
 use Rattle.std.proofs.Common.{◌≡◌, ◌∙◌, ap, sym, arith, length, false, List, Option}
 use Rattle.std.proofs.lemmas.List.{length-map}
 use Rattle.slots.specs.FiniteMap.{SlotsView}
-use Rattle.synod.specs.declared.packet.Report.{Report}
+use Rattle.synod.specs.declared.packet.SlotReport.{SlotReport}
 use Rattle.synod.specs.declared.proposer.Heard.{Heard}
 use Rattle.synod.specs.Core.{Core}
 use Rattle.synod.specs.Node.{is_heard}
@@ -11,8 +11,8 @@ use Rattle.synod.proofs.node.NodeCore.ready_promise.Goals as goal
 pub returns-then-from-nodes-clause-ready : goal.returns-then-from-nodes-clause-ready
 returns-then-from-nodes-clause-ready g c =
     let role = ap (λ (core : Core g.row.V.Denot). core.node.role) (sym c.self.view_is) ∙ sym c.role.ensures ∙ c.in-Preparing.is in
-    let maps = length-map c.pages.result.now (λ (m : SlotsView (List (Report g.row.V.Denot))). m.entries) in
-    let had = ap (λ (ps : List (List (Option (List (Report g.row.V.Denot))))). length ps) c.pages.ensures.pages in
+    let maps = length-map c.pages.result.now (λ (m : SlotsView (List (SlotReport g.row.V.Denot))). m.entries) in
+    let had = ap (λ (ps : List (List (Option (List (SlotReport g.row.V.Denot))))). length ps) c.pages.ensures.pages in
     let all = ap (λ (core : Core g.row.V.Denot). length core.node.pages) c.self.view_is in
     let heard : is_heard c.args.self.now.node.heard c.args.from ≡ false =
     ap (λ (core : Core g.row.V.Denot). is_heard core.node.heard c.args.from) (sym c.self.view_is)

@@ -1,5 +1,5 @@
 use Rattle.std.proofs.Common.{◌≡◌, ◌∙◌, ℕ, arith, ap, sym, subst, None, List, Option}
-use Rattle.synod.specs.declared.packet.Report.{Report}
+use Rattle.synod.specs.declared.packet.SlotReport.{SlotReport}
 use Rattle.synod.specs.Node.{Stepped, page_of}
 use Rattle.synod.specs.Core.{Core, assembled}
 use Rattle.synod.specs.PagesHad.{entries_of}
@@ -14,7 +14,7 @@ pub ready_proposal-requires-2-clause-node : goal.ready_proposal-requires-2-claus
 ready_proposal-requires-2-clause-node g c =
     let same = ap (λ (core : Core g.row.V.Denot). core.node) c.self.view_is in
     let none : page_of c.self.inside.proposer.state.pages c.args.heard.node c.args.page ≡ None =
-    ap (λ (ps : List (List (Option (List (Report g.row.V.Denot))))). page_of ps c.args.heard.node c.args.page) (sym c.pages.ensures.pages)
+    ap (λ (ps : List (List (Option (List (SlotReport g.row.V.Denot))))). page_of ps c.args.heard.node c.args.page) (sym c.pages.ensures.pages)
     ∙ none_is c.get.result (page_of (entries_of c.pages.result.now) c.args.heard.node c.args.page) _ c.is_some.result c.get.ensures c.is_some.ensures c.if-is_some.false in
     subst (λ (step : Stepped g.row.V.Denot). IsNode step.node)
     (hear_step (assembled c.self.inside.me c.self.inside.weights c.self.inside.record.kept c.self.inside.proposer.state c.self.inside.learner.state) c.args.self.now.node same c.room_to_hear-2.new.self.state (c.room_to_hear-2.ensures.state ∙ c.room_for_page.ensures.state) c.args.page c.args.reports.now c.in_ok-reports.reports c.in_ok-reports.ensures c.new-2.result.items c.new-2.ensures.items c.args.heard none)
@@ -24,7 +24,7 @@ pub returns-clause-ready : goal.returns-clause-ready
 returns-clause-ready g c =
     let same = ap (λ (core : Core g.row.V.Denot). core.node) c.self.view_is in
     let none : page_of c.self.inside.proposer.state.pages c.args.heard.node c.args.page ≡ None =
-    ap (λ (ps : List (List (Option (List (Report g.row.V.Denot))))). page_of ps c.args.heard.node c.args.page) (sym c.pages.ensures.pages)
+    ap (λ (ps : List (List (Option (List (SlotReport g.row.V.Denot))))). page_of ps c.args.heard.node c.args.page) (sym c.pages.ensures.pages)
     ∙ none_is c.get.result (page_of (entries_of c.pages.result.now) c.args.heard.node c.args.page) _ c.is_some.result c.get.ensures c.is_some.ensures c.if-is_some.false in
     (c.ready_proposal-2.ensures.0, c.ready_proposal-2.ensures.1 ∙ sym (hear_step (assembled c.self.inside.me c.self.inside.weights c.self.inside.record.kept c.self.inside.proposer.state c.self.inside.learner.state) c.args.self.now.node same c.room_to_hear-2.new.self.state (c.room_to_hear-2.ensures.state ∙ c.room_for_page.ensures.state) c.args.page c.args.reports.now c.in_ok-reports.reports c.in_ok-reports.ensures c.new-2.result.items c.new-2.ensures.items c.args.heard none))
 

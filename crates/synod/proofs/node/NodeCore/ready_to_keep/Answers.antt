@@ -1,5 +1,5 @@
 use Rattle.std.proofs.Common.{◌≡◌, ◌∙◌, arith, ap, sym, subst, None, List, Option}
-use Rattle.synod.specs.declared.packet.Report.{Report}
+use Rattle.synod.specs.declared.packet.SlotReport.{SlotReport}
 use Rattle.synod.specs.Node.{Stepped, page_of}
 use Rattle.synod.specs.Core.{Core, assembled}
 use Rattle.synod.specs.PagesHad.{entries_of}
@@ -13,7 +13,7 @@ pub ready_proposal-requires-clause-node : goal.ready_proposal-requires-clause-no
 ready_proposal-requires-clause-node g c =
     let same = ap (λ (core : Core g.row.V.Denot). core.node) c.self.view_is in
     let none : page_of c.self.inside.proposer.state.pages c.args.node c.args.page ≡ None =
-    ap (λ (ps : List (List (Option (List (Report g.row.V.Denot))))). page_of ps c.args.node c.args.page) (sym c.pages.ensures.pages)
+    ap (λ (ps : List (List (Option (List (SlotReport g.row.V.Denot))))). page_of ps c.args.node c.args.page) (sym c.pages.ensures.pages)
     ∙ none_is c.get.result (page_of (entries_of c.pages.result.now) c.args.node c.args.page) _ c.is_some.result c.get.ensures c.is_some.ensures c.if-is_some.false in
     subst (λ (step : Stepped g.row.V.Denot). IsNode step.node)
     (keep_step (assembled c.self.inside.me c.self.inside.weights c.self.inside.record.kept c.self.inside.proposer.state c.self.inside.learner.state) c.args.self.now.node same c.room_for_page.new.self.state (c.room_for_page.ensures.state) c.args.page c.args.reports.now c.in_ok-reports.reports c.in_ok-reports.ensures c.new.result.items c.new.ensures.items c.args.node none)
@@ -23,7 +23,7 @@ pub returns-clause-ready : goal.returns-clause-ready
 returns-clause-ready g c =
     let same = ap (λ (core : Core g.row.V.Denot). core.node) c.self.view_is in
     let none : page_of c.self.inside.proposer.state.pages c.args.node c.args.page ≡ None =
-    ap (λ (ps : List (List (Option (List (Report g.row.V.Denot))))). page_of ps c.args.node c.args.page) (sym c.pages.ensures.pages)
+    ap (λ (ps : List (List (Option (List (SlotReport g.row.V.Denot))))). page_of ps c.args.node c.args.page) (sym c.pages.ensures.pages)
     ∙ none_is c.get.result (page_of (entries_of c.pages.result.now) c.args.node c.args.page) _ c.is_some.result c.get.ensures c.is_some.ensures c.if-is_some.false in
     (c.ready_proposal.ensures.0, c.ready_proposal.ensures.1 ∙ sym (keep_step (assembled c.self.inside.me c.self.inside.weights c.self.inside.record.kept c.self.inside.proposer.state c.self.inside.learner.state) c.args.self.now.node same c.room_for_page.new.self.state (c.room_for_page.ensures.state) c.args.page c.args.reports.now c.in_ok-reports.reports c.in_ok-reports.ensures c.new.result.items c.new.ensures.items c.args.node none))
 

@@ -1,18 +1,18 @@
 use Rattle.std.proofs.Common.{◌∙◌, ap, sym, subst, arith, length, List, Option}
 use Rattle.std.specs.List.{AllByRecursion}
-use Rattle.synod.specs.declared.packet.Report.{Report}
+use Rattle.synod.specs.declared.packet.SlotReport.{SlotReport}
 use Rattle.synod.specs.Node.{Stepped}
 use Rattle.synod.specs.Core.{Core, assembled}
 use Rattle.synod.specs.PagesHad.{entries_of}
 use Rattle.synod.specs.Step.{IsNode, ArePages}
-use Rattle.synod.proofs.StepKeeps.{reports_with_page}
+use Rattle.synod.proofs.PageKeeps.{reports_with_page}
 use Rattle.synod.proofs.LeadLemmas.{lead_step}
 use Rattle.synod.proofs.node.NodeCore.ready_to_lead.Goals as goal
 
 pub lead_posts-requires-clause-reports : goal.lead_posts-requires-clause-reports
 lead_posts-requires-clause-reports g c =
     reports_with_page (entries_of c.pages.result.now) c.args.node c.args.page c.args.reports.now c.args.heard.now
-    (subst (λ (ps : List (List (Option (List (Report g.row.V.Denot))))). AllByRecursion (AllByRecursion ArePages) ps) (sym c.pages.ensures.pages) c.self.invariant.pages) c.requires.each
+    (subst (λ (ps : List (List (Option (List (SlotReport g.row.V.Denot))))). AllByRecursion (AllByRecursion ArePages) ps) (sym c.pages.ensures.pages) c.self.invariant.pages) c.requires.each
 
 pub ready_proposal-requires-clause-node : goal.ready_proposal-requires-clause-node
 ready_proposal-requires-clause-node g c =

@@ -13,8 +13,8 @@ pub groups_apart-requires-clause-named : goal.groups_apart-requires-clause-named
 groups_apart-requires-clause-named c =
     subst (AreOver c.args.pairs.now.names) (sym (ap (λ s. images_at s c.self.inside.images) c.as_slice.ensures.symbols ∙ ap (λ v. v.images) c.self.view_is)) c.requires.over
 
-pub returns : goal.returns
-returns c =
-    c.groups_apart.ensures
+pub returns-clause-apart : goal.returns-clause-apart
+returns-clause-apart c =
+    c.groups_apart.ensures.apart
     ∙ ap (λ σ. are_groups_apart c.args.pairs.now.statements (images_of_names c.args.pairs.now.names σ) (map (decode c.args.pairs.now.names) c.args.groups.now))
     (ap (λ s. images_at s c.self.inside.images) c.as_slice.ensures.symbols ∙ ap (λ v. v.images) c.self.view_is)

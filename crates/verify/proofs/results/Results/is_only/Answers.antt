@@ -1,11 +1,11 @@
 use Rattle.std.proofs.Common.{◌≡◌, ℕ, ◌↔◌, ◌∷◌, [], List, length, map, get_or, IsTrue, Bool, arith, sym, ap, ◌∙◌}
 use Rattle.subst.specs.Places.{seen_at}
-use Rattle.subst.specs.declared.place.Place.{Place}
+use Rattle.subst.specs.declared.place.ExpressionPlace.{ExpressionPlace}
 use Rattle.verify.proofs.results.Results.is_only.Goals as goal
 use Rattle.std.specs.Prelude.{bytes_eq}
 use Rattle.std.proofs.lemmas.Slice.Eq.{bytes_eq-Decides}
 
-only_iff : (xs ds r e : List ℕ) (stack : List Place) (all : List (List ℕ)) (p : Place) (b : Bool) → length stack ≡ 1 → p ≡ get_or stack 0 p → r ≡ seen_at ds p → ds ≡ xs → map (seen_at xs) stack ≡ all → b ≡ bytes_eq r e
+only_iff : (xs ds r e : List ℕ) (stack : List ExpressionPlace) (all : List (List ℕ)) (p : ExpressionPlace) (b : Bool) → length stack ≡ 1 → p ≡ get_or stack 0 p → r ≡ seen_at ds p → ds ≡ xs → map (seen_at xs) stack ≡ all → b ≡ bytes_eq r e
     → IsTrue b ↔ (all ≡ e ∷ [])
 only_iff xs ds r e [] all p b l at q d v t = absurd (omega (arith, l))
 only_iff xs ds r e (x ∷ y ∷ stack) all p b l at q d v t = absurd (omega (arith, l))

@@ -2,7 +2,7 @@ use Rattle.std.specs.Prelude.{◌≡◌, ℕ, ◌-◌, ◌≤◌, Bool, List, Re
 use Rattle.std.specs.declared.alloc.AllocError.{AllocError}
 use Rattle.std.proofs.Common.{arith, ap, subst}
 use Rattle.std.proofs.lemmas.List.{length-map}
-use Rattle.subst.specs.declared.place.Place.{Place}
+use Rattle.subst.specs.declared.place.ExpressionPlace.{ExpressionPlace}
 use Rattle.subst.specs.Places.{seen_at, images_at, AreWithin}
 use Rattle.entries.specs.declared.citation.Hypothesis.{Hypothesis}
 use Rattle.verify.specs.Fits.{Reads}
@@ -12,10 +12,10 @@ use Rattle.verify.proofs.PlaceLemmas.{last-within, last-count, seen_eq, kept-rea
 use Rattle.verify.proofs.ReadingLemmas.{reads-seen}
 use Rattle.verify.proofs.results.Results.read_images.Goals as goal
 
-few_of : (xs : List ℕ) (s : List Place) (stack : List (List ℕ)) (r : ℕ) → map (seen_at xs) s ≡ stack → r ≤ length stack → r ≤ length s
+few_of : (xs : List ℕ) (s : List ExpressionPlace) (stack : List (List ℕ)) (r : ℕ) → map (seen_at xs) s ≡ stack → r ≤ length stack → r ≤ length s
 few_of xs s stack r e h = let a = ap length e in let b = length-map s (seen_at xs) in omega (arith, a, b, h)
 
-reads-result : (r : Result Bool AllocError) (xs ds heads : List ℕ) (hs : List Hypothesis) (places : List Place) (images : List (ℕ × Place)) (rs : List (List ℕ)) → ds ≡ xs → length places ≡ length hs → AreWithin (length xs) places
+reads-result : (r : Result Bool AllocError) (xs ds heads : List ℕ) (hs : List Hypothesis) (places : List ExpressionPlace) (images : List (ℕ × ExpressionPlace)) (rs : List (List ℕ)) → ds ≡ xs → length places ≡ length hs → AreWithin (length xs) places
     → map (seen_at xs) places ≡ rs → IfOk r (λ ok. ReadsAll ok (length hs) ds heads hs places images) → IfOk r (λ ok. Reads ok heads hs rs (images_at xs images))
 reads-result (Err e) xs ds heads hs places images rs d count within seen h = tt
 reads-result (Ok ok) xs ds heads hs places images rs d count within seen h =

@@ -1,11 +1,11 @@
 use Rattle.std.proofs.Common.{◌≡◌, ℕ, ◌<◌, ◌≤◌, List, length, get_or, arith, refl, sym, subst}
-use Rattle.subst.specs.declared.place.Place.{Place}
+use Rattle.subst.specs.declared.place.ExpressionPlace.{ExpressionPlace}
 use Rattle.subst.specs.Places.{AreWithin}
 use Rattle.subst.proofs.PlaceLemmas.{within-at}
 use Rattle.verify.proofs.PlaceLemmas.{kept-recall, recall-seen, recall-heavy}
 use Rattle.verify.proofs.results.Results.recall.Goals as goal
 
-saved_at : (n k : ℕ) (ps : List Place) (p : Place) → AreWithin n ps → k < length ps → p ≡ get_or ps k p → (p.start ≤ p.end) × (p.end ≤ n)
+saved_at : (n k : ℕ) (ps : List ExpressionPlace) (p : ExpressionPlace) → AreWithin n ps → k < length ps → p ≡ get_or ps k p → (p.start ≤ p.end) × (p.end ≤ n)
 saved_at n k ps p w less at = subst (λ q. (q.start ≤ q.end) × (q.end ≤ n)) (sym at) (within-at n k ps p w less)
 
 pub overflow_sub-len : goal.overflow_sub-len

@@ -6,7 +6,7 @@ use Rattle.entries.proofs.PlaceLemmas.{packed-push, items-push}
 use Rattle.entries.proofs.RecordLemmas.{places-length}
 use Rattle.entries.proofs.AddedLemmas.{on-ok, on-err, ok-weaker}
 use Rattle.entries.proofs.CutLemmas.{packed-back}
-use Rattle.entries.proofs.entries.Entries.push.Goals as goal
+use Rattle.entries.proofs.entries.Entries.push_parts.Goals as goal
 
 pub invariant_of-self : goal.invariant_of-self
 invariant_of-self c =

@@ -1,7 +1,7 @@
 use Rattle.std.proofs.Common.{sym}
 use Rattle.names.proofs.CodesLemmas.{code-name, added-name}
 use Rattle.names.proofs.CodesLemmas.{unknown-number}
-use Rattle.names.proofs.names.Names.code.Goals as goal
+use Rattle.names.proofs.names.NameTable.code.Goals as goal
 
 pub add-requires : goal.add-requires
 add-requires c = unknown-number c.args.self.now c.args.name.now c.in-None.ensures

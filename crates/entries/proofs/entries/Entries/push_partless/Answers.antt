@@ -1,12 +1,12 @@
 use Rattle.std.proofs.Common.{◌∙◌, ap, sym, arith}
 use Rattle.std.specs.Prelude.{◌++◌, ◌∷◌, []}
-use Rattle.entries.specs.Entries.{plain}
+use Rattle.entries.specs.Entries.{made, partless}
 use Rattle.entries.specs.Records.{places_of}
 use Rattle.entries.proofs.PlaceLemmas.{packed-push, items-push}
 use Rattle.entries.proofs.RecordLemmas.{places-length}
 use Rattle.entries.proofs.AddedLemmas.{on-ok, on-err, ok-weaker}
 use Rattle.entries.proofs.CutLemmas.{packed-back}
-use Rattle.entries.proofs.entries.Entries.push_plain.Goals as goal
+use Rattle.entries.proofs.entries.Entries.push_partless.Goals as goal
 
 pub invariant_of-self : goal.invariant_of-self
 invariant_of-self c =
@@ -23,7 +23,7 @@ invariant_of-self-else-is_err c =
     let b = c.self.inside.buffers in
     let done = sym c.is_err.ensures.value ∙ c.if-is_err.false in
     let l = places-length b c.self.inside.records.items in
-    packed-push b c.add_plain-added.new.buffers (places_of b c.self.inside.records.items) (places_of c.add_plain-added.new.buffers c.add_plain-added.new.records.items) (plain c.args.head c.args.codes.now)
+    packed-push b c.add_plain-added.new.buffers (places_of b c.self.inside.records.items) (places_of c.add_plain-added.new.buffers c.add_plain-added.new.records.items) (made c.args.head c.args.codes.now (partless c.args.whole))
     c.self.invariant c.add_plain-added.ensures.grows (on-ok c.add_plain-added.result _ done c.add_plain-added.ensures.added) (omega (arith, l, c.len-count.ensures))
 
 pub returns-else-is_err-clause-added : goal.returns-else-is_err-clause-added
@@ -33,5 +33,5 @@ returns-else-is_err-clause-added c =
     let m = c.add_plain-added.new.buffers in
     let qs = c.add_plain-added.new.records.items in
     ok-weaker c.add_plain-added.result _ _
-    (λ a. items-push b m (places_of b rs) (places_of m qs) (plain c.args.head c.args.codes.now) c.self.invariant c.add_plain-added.ensures.grows a
-    ∙ ap (λ es. es ++ plain c.args.head c.args.codes.now ∷ []) c.self.view_is) c.add_plain-added.ensures.added
+    (λ a. items-push b m (places_of b rs) (places_of m qs) (made c.args.head c.args.codes.now (partless c.args.whole)) c.self.invariant c.add_plain-added.ensures.grows a
+    ∙ ap (λ es. es ++ made c.args.head c.args.codes.now (partless c.args.whole) ∷ []) c.self.view_is) c.add_plain-added.ensures.added

@@ -1,13 +1,13 @@
-//! Labels among the tokens of a proof.
+//! Labels among words.
 ghost use Rattle.std.specs.Prelude.{◌≡◌};
 ghost use Rattle.std.specs.List.{list_all};
 ghost use Rattle.mm_lex.specs.Alphabet.{is_label, is_label_byte};
 
-/// Whether a token is a label: some bytes, each a letter, a digit, `.`, `-` or `_`.
-pub(crate) fn is_label(token: &[u8]) -> bool
-    ensures { result ≡ is_label token.now }
+/// Whether the word is a label: some bytes, each a letter, a digit, `.`, `-` or `_` (Metamath book, section 4.1.1).
+pub fn is_label(word: &[u8]) -> bool
+    ensures { result ≡ is_label word.now }
 {
-    !token.is_empty() && are_label_bytes(token)
+    !word.is_empty() && are_label_bytes(word)
 }
 
 fn are_label_bytes(bytes: &[u8]) -> bool

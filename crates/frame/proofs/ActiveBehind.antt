@@ -1,0 +1,126 @@
+-- What is active behind a statement.
+use Rattle.std.specs.Prelude.{◌≡◌, ℕ, zero, suc, ◌+◌, ◌-◌, Bool, true, false, not, cond, ◌&&◌, ◌||◌, List, [], ◌∷◌, ◌++◌, Option, Some, None, refl}
+use Rattle.std.specs.List.{list_any}
+use Rattle.std.proofs.Common.{sym, ◌∙◌, ap, subst, arith}
+use Rattle.std.proofs.lemmas.Slice.Eq.{bytes_eq-Decides}
+use Rattle.mm_lex.specs.Alphabet.{Name, name_eq}
+use Rattle.mm_read.specs.declared.stmt.Stmt.{Stmt}
+use Rattle.mm_read.specs.declared.stmt.Stmt.TheVariants.{Open, Close, Const, Var, Disj, Float, Ess, Axiom, Prove}
+use Rattle.mm_read.specs.Statements.{Database}
+use Rattle.scope.specs.Active.{stays_open, active_from}
+
+-- no variable has two `$f` among the hypotheses
+abbrev pub IsElsewhere : Name → List (Option Name) → Type 0
+IsElsewhere x [] = Unit {0}
+IsElsewhere x (None ∷ vs) = IsElsewhere x vs
+IsElsewhere x (Some y ∷ vs) = (name_eq y x ≡ false) × IsElsewhere x vs
+
+abbrev pub AreOnce : List (Option Name) → Type 0
+AreOnce [] = Unit {0}
+AreOnce (None ∷ vs) = AreOnce vs
+AreOnce (Some x ∷ vs) = IsElsewhere x vs × AreOnce vs
+
+-- ---- tests
+
+pub or-left : (a b : Bool) → a ≡ true → (a || b) ≡ true
+or-left true b h = refl
+or-left false b h = cc
+
+pub or-right : (a b : Bool) → b ≡ true → (a || b) ≡ true
+or-right true b h = refl
+or-right false b h = h
+
+pub and-both : (a b : Bool) → (a && b) ≡ true → (a ≡ true) × (b ≡ true)
+and-both true b h = (refl, h)
+and-both false b h = cc
+
+pub not-true : (a : Bool) → not a ≡ true → a ≡ false
+not-true true h = cc
+not-true false h = refl
+
+pub not-both : (a : Bool) → a ≡ true → a ≡ false → ⊥
+not-both a p q = let e : true ≡ false = sym p ∙ q in cc
+
+pub equal : (x y : Name) → name_eq x y ≡ true → x ≡ y
+equal x y h = (bytes_eq-Decides x y).0 h
+
+pub same : (x y : Name) → x ≡ y → name_eq x y ≡ true
+same x y h = (bytes_eq-Decides x y).1 h
+
+-- ---- what is active
+
+-- a statement that passes the test, and is active behind S
+pub record Stands (S : Database) (q : Stmt → Bool) : Type 0 where
+  pub front : Database
+  pub stmt : Stmt
+  pub rest : Database
+  pub whole : S ≡ front ++ stmt ∷ rest
+  pub stays : stays_open 0 rest ≡ true
+  pub passes : q stmt ≡ true
+
+pub active-stands : (q : Stmt → Bool) (n : ℕ) (S : Database) → list_any (λ p. q p.1) (active_from n S) ≡ true → Stands S q
+active-stands q n [] h = cc
+active-stands q n (s ∷ S) h = by (active-stands q (n + 1) S) (stays_open 0 S) refl h
+  where
+    later : Stands S q → Stands (s ∷ S) q
+    later r =
+        record { front = s ∷ r.front; stmt = r.stmt; rest = r.rest; whole = ap (λ t. s ∷ t) r.whole; stays = r.stays; passes = r.passes }
+
+    here : (list_any (λ p. q p.1) (active_from (n + 1) S) ≡ true → Stands S q) → stays_open 0 S ≡ true → (b : Bool) → q s ≡ b → (b || list_any (λ p. q p.1) (active_from (n + 1) S)) ≡ true → Stands (s ∷ S) q
+    here more opens true passes e = record { front = []; stmt = s; rest = S; whole = refl; stays = opens; passes = passes }
+    here more opens false passes e = later (more e)
+
+    by : (list_any (λ p. q p.1) (active_from (n + 1) S) ≡ true → Stands S q) → (b : Bool) → stays_open 0 S ≡ b → list_any (λ p. q p.1) (cond b ((n, s) ∷ active_from (n + 1) S) (active_from (n + 1) S)) ≡ true → Stands (s ∷ S) q
+    by more true opens e = here more opens (q s) refl e
+    by more false opens e = later (more e)
+
+pub stands-active : (q : Stmt → Bool) (n : ℕ) (front : Database) (s : Stmt) (rest : Database) → stays_open 0 rest ≡ true → q s ≡ true → list_any (λ p. q p.1) (active_from n (front ++ s ∷ rest)) ≡ true
+stands-active q n [] s rest opens passes =
+    ap (λ b. list_any (λ p. q p.1) (cond b ((n, s) ∷ active_from (n + 1) rest) (active_from (n + 1) rest))) opens ∙ or-left (q s) (list_any (λ p. q p.1) (active_from (n + 1) rest)) passes
+stands-active q n (t ∷ front) s rest opens passes = by (stands-active q (n + 1) front s rest opens passes) (stays_open 0 (front ++ s ∷ rest))
+  where
+    by : (list_any (λ p. q p.1) (active_from (n + 1) (front ++ s ∷ rest)) ≡ true) → (b : Bool) → list_any (λ p. q p.1) (cond b ((n, t) ∷ active_from (n + 1) (front ++ s ∷ rest)) (active_from (n + 1) (front ++ s ∷ rest))) ≡ true
+    by more true = or-right (q t) (list_any (λ p. q p.1) (active_from (n + 1) (front ++ s ∷ rest))) more
+    by more false = more
+
+pub open_front : (d : ℕ) (T U : Database) → stays_open d (T ++ U) ≡ true → stays_open d T ≡ true
+open_front d [] U h = refl
+open_front d (Open ∷ T) U h = open_front (suc d) T U h
+open_front zero (Close ∷ T) U h = cc
+open_front (suc d) (Close ∷ T) U h = open_front d T U h
+open_front d (Const ws ∷ T) U h = open_front d T U h
+open_front d (Var ws ∷ T) U h = open_front d T U h
+open_front d (Disj ws ∷ T) U h = open_front d T U h
+open_front d (Float l c v ∷ T) U h = open_front d T U h
+open_front d (Ess l e ∷ T) U h = open_front d T U h
+open_front d (Axiom l e ∷ T) U h = open_front d T U h
+open_front d (Prove l e p ∷ T) U h = open_front d T U h
+
+open_deeper : (d : ℕ) (U : Database) → stays_open 0 U ≡ true → stays_open d U ≡ true
+open_deeper d U h = let z : 0 + d ≡ d = omega arith in subst (λ n. stays_open n U ≡ true) z (by 0 d U h)
+  where
+    by : (c e : ℕ) (T : Database) → stays_open c T ≡ true → stays_open (c + e) T ≡ true
+    by c e [] k = refl
+    by c e (Open ∷ T) k = let w : suc c + e ≡ suc (c + e) = omega arith in subst (λ n. stays_open n T ≡ true) w (by (suc c) e T k)
+    by zero e (Close ∷ T) k = cc
+    by (suc c) e (Close ∷ T) k = let w : suc c + e ≡ suc (c + e) = omega arith in subst (λ n. stays_open n (Close ∷ T) ≡ true) (sym w) (by c e T k)
+    by c e (Const ws ∷ T) k = by c e T k
+    by c e (Var ws ∷ T) k = by c e T k
+    by c e (Disj ws ∷ T) k = by c e T k
+    by c e (Float l v w ∷ T) k = by c e T k
+    by c e (Ess l x ∷ T) k = by c e T k
+    by c e (Axiom l x ∷ T) k = by c e T k
+    by c e (Prove l x p ∷ T) k = by c e T k
+
+pub open_both : (d : ℕ) (T U : Database) → stays_open d T ≡ true → stays_open 0 U ≡ true → stays_open d (T ++ U) ≡ true
+open_both d [] U h k = open_deeper d U k
+open_both d (Open ∷ T) U h k = open_both (suc d) T U h k
+open_both zero (Close ∷ T) U h k = cc
+open_both (suc d) (Close ∷ T) U h k = open_both d T U h k
+open_both d (Const ws ∷ T) U h k = open_both d T U h k
+open_both d (Var ws ∷ T) U h k = open_both d T U h k
+open_both d (Disj ws ∷ T) U h k = open_both d T U h k
+open_both d (Float l c v ∷ T) U h k = open_both d T U h k
+open_both d (Ess l e ∷ T) U h k = open_both d T U h k
+open_both d (Axiom l e ∷ T) U h k = open_both d T U h k
+open_both d (Prove l e p ∷ T) U h k = open_both d T U h k

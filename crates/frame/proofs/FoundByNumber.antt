@@ -1,0 +1,210 @@
+-- Names told apart, places of numbers, and statements by their kinds.
+use Rattle.std.specs.Prelude.{◌≡◌, ℕ, zero, suc, ◌+◌, ◌-◌, ◌<◌, ◌≤◌, Bool, true, false, cond, ◌==◌, ◌||◌, List, [], ◌∷◌, ◌++◌, length, map, take, get_or, slice_get, Option, Some, None, refl}
+use Rattle.std.specs.List.{list_any}
+use Rattle.std.proofs.Common.{sym, ◌∙◌, ap, subst, arith}
+use Rattle.std.proofs.lemmas.Slice.Eq.{bytes_eq-Decides}
+use Rattle.mm_lex.specs.Alphabet.{Name, name_eq, has_name}
+use Rattle.mm_read.specs.declared.stmt.Stmt.{Stmt}
+use Rattle.mm_read.specs.Statements.{Database}
+use Rattle.scope.specs.Active.{expr_of, is_assertion}
+use Rattle.scope.specs.Legal.{IsLegal}
+use Rattle.names.specs.Codes.{name_at, decode, AreDistinct}
+use Rattle.frame.specs.FrameOf.{is_hypothesis, variable_of, is_some_name, has_place}
+use Rattle.frame.specs.Below.{AreBelow}
+use Rattle.frame.specs.Cited.{head_of, IsHead, IsOf}
+use Rattle.entries.specs.declared.kind.Kind.{Kind}
+use Rattle.entries.specs.declared.kind.Kind.TheVariants.{Open, Close, Const, Var, Disj, Float, Ess, Axiom, Prove}
+use Rattle.entries.specs.Entries.{Entry}
+use Rattle.frame.specs.StoredEntries.{stmt_by}
+use Rattle.frame.specs.StoredCounts.{AreNumbered, HasTwo}
+use Rattle.frame.specs.StoredParts.{variable_by, asked_by}
+use Rattle.frame.specs.Places.{is_code, place_from}
+use Rattle.frame.proofs.LegalLabels.{AllKept}
+
+-- ---- lists
+
+pub map-back : {A B : Type 0} (f : A → B) (xs : List A) (k : ℕ) (y : B) → slice_get (map f xs) k ≡ Some y → (x : A) × (slice_get xs k ≡ Some x) × (y ≡ f x)
+map-back f [] k y h = cc
+map-back f (x ∷ xs) zero y h = (x, refl, cc)
+map-back f (x ∷ xs) (suc k) y h = map-back f xs k y h
+
+pub map-at : {A B : Type 0} (f : A → B) (xs : List A) (k : ℕ) (x : A) → slice_get xs k ≡ Some x → slice_get (map f xs) k ≡ Some (f x)
+map-at f [] k x h = cc
+map-at f (y ∷ xs) zero x h = let e : y ≡ x = cc in ap (λ v. Some (f v)) e
+map-at f (y ∷ xs) (suc k) x h = map-at f xs k x h
+
+pub take-at : {A : Type 0} (n : ℕ) (xs : List A) (k : ℕ) (x : A) → slice_get (take n xs) k ≡ Some x → (k < n) × (slice_get xs k ≡ Some x)
+take-at zero xs k x h = cc
+take-at (suc n) [] k x h = cc
+take-at (suc n) (y ∷ xs) zero x h = (omega arith, h)
+take-at (suc n) (y ∷ xs) (suc k) x h = let r = take-at n xs k x h in (let l = r.0 in omega (arith, l), r.1)
+
+take-take : {A : Type 0} (k n : ℕ) (xs : List A) → k ≤ n → take k (take n xs) ≡ take k xs
+take-take zero n xs h = refl
+take-take (suc k) zero xs h = absurd (omega (arith, h))
+take-take (suc k) (suc n) [] h = refl
+take-take (suc k) (suc n) (x ∷ xs) h = ap (λ r. x ∷ r) (take-take k n xs (omega (arith, h)))
+
+some-same : {A : Type 0} {o : Option A} {x y : A} → o ≡ Some x → o ≡ Some y → x ≡ y
+some-same {x = x} {y = y} p q = let e : Some x ≡ Some y = sym p ∙ q in cc
+
+pub middle : {A : Type 0} (xs : List A) (x : A) (ys : List A) → slice_get (xs ++ x ∷ ys) (length xs) ≡ Some x
+middle [] x ys = refl
+middle (y ∷ xs) x ys = middle xs x ys
+
+-- a front of legal statements is legal
+pub kept-front : (all : Database) (n : ℕ) → AllKept all → AllKept (take n all)
+kept-front all n legal zero t h = cc
+kept-front all n legal (suc k) t h =
+    let r = take-at n all k t h in
+    let l = r.0 in
+    let one : suc k - 1 ≡ k = omega arith in
+    subst (λ D. IsLegal D t) (ap (λ j. take j all) one ∙ (sym (take-take k n all (omega (arith, l))) ∙ ap (λ j. take j (take n all)) (sym one))) (legal (suc k) t r.1)
+
+-- ---- names told apart
+
+eq-refl : (x : Name) → name_eq x x ≡ true
+eq-refl x = (bytes_eq-Decides x x).1 refl
+
+has-at : (names : List Name) (j : ℕ) → j < length names → has_name (name_at names j) names ≡ true
+has-at [] j h = absurd (omega (arith, h))
+has-at (x ∷ names) zero h = ap (λ b. b || list_any (name_eq x) names) (eq-refl x)
+has-at (x ∷ names) (suc j) h = or-right (name_eq (name_at names j) x) (list_any (name_eq (name_at names j)) names) (has-at names j (omega (arith, h)))
+  where
+    or-right : (p q : Bool) → q ≡ true → (p || q) ≡ true
+    or-right true q h = refl
+    or-right false q h = h
+
+pub name_at-injective : (names : List Name) (i j : ℕ) → AreDistinct names → i < length names → j < length names → name_at names i ≡ name_at names j → i ≡ j
+name_at-injective [] i j d h k e = absurd (omega (arith, h))
+name_at-injective (x ∷ names) zero zero d h k e = refl
+name_at-injective (x ∷ names) zero (suc j) d h k e =
+    let there = has-at names j (omega (arith, k)) in
+    let here : has_name x names ≡ true = ap (λ y. has_name y names) e ∙ there in
+    let f : false ≡ true = sym d.0 ∙ here in cc
+name_at-injective (x ∷ names) (suc i) zero d h k e =
+    let there = has-at names i (omega (arith, h)) in
+    let here : has_name x names ≡ true = ap (λ y. has_name y names) (sym e) ∙ there in
+    let f : false ≡ true = sym d.0 ∙ here in cc
+name_at-injective (x ∷ names) (suc i) (suc j) d h k e = ap suc (name_at-injective names i j d.1 (omega (arith, h)) (omega (arith, k)) e)
+
+-- ---- places
+
+abbrev pub option_name : List Name → Option ℕ → Option Name
+option_name names None = None
+option_name names (Some c) = Some (name_at names c)
+
+abbrev pub OptionBelow : ℕ → Option ℕ → Type 0
+OptionBelow n None = Unit {0}
+OptionBelow n (Some c) = c < n
+
+abbrev pub OptionsBelow : ℕ → List (Option ℕ) → Type 0
+OptionsBelow n [] = Unit {0}
+OptionsBelow n (v ∷ vs) = OptionBelow n v × OptionsBelow n vs
+
+is_code-same : (c : ℕ) (v : Option ℕ) → is_code c v ≡ true → v ≡ Some c
+is_code-same c None h = cc
+is_code-same c (Some x) h = let e : c ≡ x = grind (arith, h) in ap Some (sym e)
+
+pub place-found : (k : ℕ) (vs : List (Option ℕ)) (c r : ℕ) → place_from k vs c ≡ Some r → (j : ℕ) × (r ≡ k + j) × (j < length vs) × (get_or vs j None ≡ Some c)
+place-found k [] c r h = cc
+place-found k (v ∷ vs) c r h = by (is_code c v) refl (place-found (k + 1) vs c r) h
+  where
+    by : (b : Bool) → is_code c v ≡ b → (place_from (k + 1) vs c ≡ Some r → (j : ℕ) × (r ≡ k + 1 + j) × (j < length vs) × (get_or vs j None ≡ Some c)) → cond b (Some k) (place_from (k + 1) vs c) ≡ Some r
+        → (j : ℕ) × (r ≡ k + j) × (j < length (v ∷ vs)) × (get_or (v ∷ vs) j None ≡ Some c)
+    by true e more q = (0, (let same : k ≡ r = cc in omega (arith, same)), omega arith, is_code-same c v e)
+    by false e more q = let r' = more q in (suc r'.0, (let x = r'.1 in omega (arith, x)), (let x = r'.2 in omega (arith, x)), r'.3)
+
+pub place-none : (names : List Name) (k : ℕ) (vs : List (Option ℕ)) (c : ℕ) → AreDistinct names → OptionsBelow (length names) vs → c < length names → place_from k vs c ≡ None → has_place (map (option_name names) vs) (name_at names c) ≡ false
+place-none names k [] c d b l h = refl
+place-none names k (v ∷ vs) c d b l h = by (is_code c v) refl (place-none names (k + 1) vs c d b.1 l) h
+  where
+    not-some : (u : Option ℕ) → OptionBelow (length names) u → is_code c u ≡ false → is_some_name (name_at names c) (option_name names u) ≡ false
+    not-some None low f = refl
+    not-some (Some y) low f = test (name_eq (name_at names c) (name_at names y)) refl
+      where
+        test : (t : Bool) → name_eq (name_at names c) (name_at names y) ≡ t → t ≡ false
+        test false e = refl
+        test true e =
+            let same : c ≡ y = name_at-injective names c y d l low ((bytes_eq-Decides (name_at names c) (name_at names y)).0 e) in
+            let t : (c == y) ≡ true = grind (arith, same) in
+            let bad : true ≡ false = sym t ∙ f in cc
+
+    by : (t : Bool) → is_code c v ≡ t → (place_from (k + 1) vs c ≡ None → has_place (map (option_name names) vs) (name_at names c) ≡ false) → cond t (Some k) (place_from (k + 1) vs c) ≡ None
+        → has_place (map (option_name names) (v ∷ vs)) (name_at names c) ≡ false
+    by true e more q = cc
+    by false e more q =
+        ap (λ t. t || has_place (map (option_name names) vs) (name_at names c)) (not-some v b.0 e) ∙ more q
+
+pub has-some : (names : List Name) (vs : List (Option ℕ)) (j c : ℕ) → get_or vs j None ≡ Some c → has_place (map (option_name names) vs) (name_at names c) ≡ true
+has-some names [] j c h = cc
+has-some names (v ∷ vs) zero c h =
+    ap (λ o. is_some_name (name_at names c) (option_name names o) || has_place (map (option_name names) vs) (name_at names c)) h
+    ∙ ap (λ b. b || has_place (map (option_name names) vs) (name_at names c)) (eq-refl (name_at names c))
+has-some names (v ∷ vs) (suc j) c h = or-right (is_some_name (name_at names c) (option_name names v)) (has_place (map (option_name names) vs) (name_at names c)) (has-some names vs j c h)
+  where
+    or-right : (p q : Bool) → q ≡ true → (p || q) ≡ true
+    or-right true q h = refl
+    or-right false q h = h
+
+-- ---- statements by their kinds
+
+-- the variable of a `$f` by its number and by its name
+pub variable-named : (names : List Name) (kind : Kind) (label : Name) (codes : List ℕ) → HasTwo kind codes → variable_of (stmt_by kind label (decode names codes)) ≡ option_name names (variable_by kind codes)
+variable-named names Open label codes two = refl
+variable-named names Close label codes two = refl
+variable-named names Const label codes two = refl
+variable-named names Var label codes two = refl
+variable-named names Disj label codes two = refl
+variable-named names Ess label codes two = refl
+variable-named names Axiom label codes two = refl
+variable-named names Prove label codes two = refl
+variable-named names Float label [] two = absurd (omega (arith, two))
+variable-named names Float label (x ∷ []) two = absurd (omega (arith, two))
+variable-named names Float label (x ∷ y ∷ codes) two = refl
+
+pub variable-below : (n : ℕ) (kind : Kind) (codes : List ℕ) → AreBelow n codes → OptionBelow n (variable_by kind codes)
+variable-below n Open codes b = tt
+variable-below n Close codes b = tt
+variable-below n Const codes b = tt
+variable-below n Var codes b = tt
+variable-below n Disj codes b = tt
+variable-below n Ess codes b = tt
+variable-below n Axiom codes b = tt
+variable-below n Prove codes b = tt
+variable-below n Float [] b = tt
+variable-below n Float (x ∷ []) b = tt
+variable-below n Float (x ∷ y ∷ codes) b = b.1.0
+
+pub numbered-at : (n m : ℕ) (es : List Entry) (k : ℕ) (e : Entry) → AreNumbered n m es → slice_get es k ≡ Some e → AreBelow n e.symbols × HasTwo e.kind e.symbols
+numbered-at n m [] k e a h = cc
+numbered-at n m (x ∷ es) zero e a h = let same : x ≡ e = cc in subst (λ v. AreBelow n v.symbols × HasTwo v.kind v.symbols) same (a.0, a.3)
+numbered-at n m (x ∷ es) (suc k) e a h = numbered-at n m es k e a.2 h
+
+pub own-expr : (names : List Name) (kind : Kind) (label : Name) (codes : List ℕ) → is_assertion (stmt_by kind label (decode names codes)) ≡ true → expr_of (stmt_by kind label (decode names codes)) ≡ decode names codes
+own-expr names Axiom label codes h = refl
+own-expr names Prove label codes h = refl
+own-expr names Open label codes h = cc
+own-expr names Close label codes h = cc
+own-expr names Const label codes h = cc
+own-expr names Var label codes h = cc
+own-expr names Disj label codes h = cc
+own-expr names Float label codes h = cc
+own-expr names Ess label codes h = cc
+
+-- a hypothesis by its kind
+pub asked-kind : (names : List Name) (kind : Kind) (label : Name) (codes : List ℕ) (p : ℕ) (S : Database) (s : Stmt) → AreBelow (length names) codes → HasTwo kind codes
+    → is_hypothesis S s (stmt_by kind label (decode names codes)) ≡ true
+    → IsHead names (head_of codes) (expr_of (stmt_by kind label (decode names codes))) × IsOf names p (stmt_by kind label (decode names codes)) (asked_by p kind codes)
+asked-kind names Float label [] p S s b two h = absurd (omega (arith, two))
+asked-kind names Float label (x ∷ []) p S s b two h = absurd (omega (arith, two))
+asked-kind names Float label (x ∷ y ∷ codes) p S s b two h = ((b.0, refl), (b.1.0, refl))
+asked-kind names Ess label [] p S s b two h = (refl, refl)
+asked-kind names Ess label (x ∷ codes) p S s b two h = ((b.0, refl), refl)
+asked-kind names Open label codes p S s b two h = cc
+asked-kind names Close label codes p S s b two h = cc
+asked-kind names Const label codes p S s b two h = cc
+asked-kind names Var label codes p S s b two h = cc
+asked-kind names Disj label codes p S s b two h = cc
+asked-kind names Axiom label codes p S s b two h = cc
+asked-kind names Prove label codes p S s b two h = cc

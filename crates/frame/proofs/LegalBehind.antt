@@ -1,0 +1,190 @@
+-- What a legal statement keeps of what stands before it; a constant is never a variable.
+use Rattle.std.specs.Prelude.{◌≡◌, suc, ◌+◌, ◌-◌, Bool, true, false, not, cond, ◌&&◌, ◌||◌, List, [], ◌∷◌, ◌++◌, length, take, Some, None, slice_get, refl}
+use Rattle.std.specs.List.{list_any, list_all, find}
+use Rattle.std.proofs.Common.{sym, ◌∙◌, ap, subst, arith}
+use Rattle.std.proofs.lemmas.List.Folds.{list_any-append}
+use Rattle.mm_lex.specs.Alphabet.{Name, name_eq, has_name}
+use Rattle.mm_read.specs.declared.stmt.Stmt.{Stmt}
+use Rattle.mm_read.specs.declared.stmt.Stmt.TheVariants.{Open, Close, Const, Var, Disj, Float, Ess, Axiom, Prove}
+use Rattle.mm_read.specs.Statements.{Database}
+use Rattle.scope.specs.declared.rule.Rule.{Rule}
+use Rattle.scope.specs.declared.rule.Rule.TheVariants.{G1, G2, G3, G4, G5, G6, G7, G8, G9, G10}
+use Rattle.scope.specs.Active.{stmt_at, before, constants, variables, is_variable, is_constant, was_symbol}
+use Rattle.scope.specs.Legal.{IsLegal, keeps, all_different}
+use Rattle.frame.proofs.LegalLabels.{AllKept}
+use Rattle.frame.proofs.ActiveBehind.{or-left, or-right, and-both, not-true, not-both, equal, same, active-stands}
+
+-- ---- what a legal statement keeps
+
+find-none : {A : Type 0} (p : A → Bool) (x : A) (xs : List A) → find p (x ∷ xs) ≡ None → (p x ≡ false) × (find p xs ≡ None)
+find-none p x xs h = by (p x) refl h
+  where
+    by : (b : Bool) → p x ≡ b → cond b (Some x) (find p xs) ≡ None → (p x ≡ false) × (find p xs ≡ None)
+    by true e k = cc
+    by false e k = (e, k)
+
+kept : (S : Database) (s : Stmt) (rule : Rule) → not (keeps S s rule) ≡ false → keeps S s rule ≡ true
+kept S s rule h = by (keeps S s rule) h
+  where
+    by : (b : Bool) → not b ≡ false → b ≡ true
+    by true e = refl
+    by false e = cc
+
+pub record Keeps (S : Database) (s : Stmt) : Type 0 where
+  pub g2 : keeps S s G2 ≡ true
+  pub g3 : keeps S s G3 ≡ true
+  pub g5 : keeps S s G5 ≡ true
+  pub g6 : keeps S s G6 ≡ true
+  pub g7 : keeps S s G7 ≡ true
+  pub g9 : keeps S s G9 ≡ true
+
+pub legal-keeps : (S : Database) (s : Stmt) → IsLegal S s → Keeps S s
+legal-keeps S s h =
+    let p : Rule → Bool = λ rule. not (keeps S s rule) in
+    let r1 = find-none p G1 (G2 ∷ G3 ∷ G4 ∷ G5 ∷ G6 ∷ G7 ∷ G8 ∷ G9 ∷ G10 ∷ []) h in
+    let r2 = find-none p G2 (G3 ∷ G4 ∷ G5 ∷ G6 ∷ G7 ∷ G8 ∷ G9 ∷ G10 ∷ []) r1.1 in
+    let r3 = find-none p G3 (G4 ∷ G5 ∷ G6 ∷ G7 ∷ G8 ∷ G9 ∷ G10 ∷ []) r2.1 in
+    let r4 = find-none p G4 (G5 ∷ G6 ∷ G7 ∷ G8 ∷ G9 ∷ G10 ∷ []) r3.1 in
+    let r5 = find-none p G5 (G6 ∷ G7 ∷ G8 ∷ G9 ∷ G10 ∷ []) r4.1 in
+    let r6 = find-none p G6 (G7 ∷ G8 ∷ G9 ∷ G10 ∷ []) r5.1 in
+    let r7 = find-none p G7 (G8 ∷ G9 ∷ G10 ∷ []) r6.1 in
+    let r8 = find-none p G8 (G9 ∷ G10 ∷ []) r7.1 in
+    let r9 = find-none p G9 (G10 ∷ []) r8.1 in
+    record { g2 = kept S s G2 r2.0; g3 = kept S s G3 r3.0; g5 = kept S s G5 r5.0; g6 = kept S s G6 r6.0; g7 = kept S s G7 r7.0; g9 = kept S s G9 r9.0 }
+
+-- the statement in the middle of kept ones is legal behind those before it
+pub stands-at : (A : Database) (t : Stmt) (B : Database) → slice_get (A ++ t ∷ B) (length A) ≡ Some t
+stands-at [] t B = refl
+stands-at (a ∷ A) t B = stands-at A t B
+
+before-at : (A : Database) (t : Stmt) (B : Database) → take (length A) (A ++ t ∷ B) ≡ A
+before-at [] t B = refl
+before-at (a ∷ A) t B = ap (λ r. a ∷ r) (before-at A t B)
+
+pub kept-legal : (S A : Database) (t : Stmt) (B : Database) → AllKept S → S ≡ A ++ t ∷ B → IsLegal A t
+kept-legal S A t B all whole =
+    let at : stmt_at S (suc (length A)) ≡ Some t = ap (λ v. slice_get v (length A)) whole ∙ stands-at A t B in
+    let one : suc (length A) - 1 ≡ length A = omega arith in
+    let cut : before S (suc (length A)) ≡ A = ap (λ n. take n S) one ∙ (ap (take (length A)) whole ∙ before-at A t B) in
+    subst (λ D. IsLegal D t) cut (all (suc (length A)) t at)
+
+-- ---- a constant is never a variable
+
+lists : Name → Stmt → Bool
+lists x s = has_name x (variables s)
+
+is_var : (t : Stmt) (x : Name) → has_name x (variables t) ≡ true → (ws : List Name) × (t ≡ Var ws)
+is_var (Var ws) x h = (ws, refl)
+is_var Open x h = cc
+is_var Close x h = cc
+is_var (Const ws) x h = cc
+is_var (Disj ws) x h = cc
+is_var (Float l c v) x h = cc
+is_var (Ess l e) x h = cc
+is_var (Axiom l e) x h = cc
+is_var (Prove l e p) x h = cc
+
+is_const : (t : Stmt) (x : Name) → has_name x (constants t) ≡ true → (ws : List Name) × (t ≡ Const ws)
+is_const (Const ws) x h = (ws, refl)
+is_const Open x h = cc
+is_const Close x h = cc
+is_const (Var ws) x h = cc
+is_const (Disj ws) x h = cc
+is_const (Float l c v) x h = cc
+is_const (Ess l e) x h = cc
+is_const (Axiom l e) x h = cc
+is_const (Prove l e p) x h = cc
+
+-- each element of a list that passes
+pub all-has : (p : Name → Bool) (xs : List Name) (x : Name) → list_all p xs ≡ true → has_name x xs ≡ true → p x ≡ true
+all-has p [] x a h = cc
+all-has p (y ∷ xs) x a h = by (all-has p xs x (and-both (p y) (list_all p xs) a).1) (name_eq x y) refl h
+  where
+    by : (has_name x xs ≡ true → p x ≡ true) → (b : Bool) → name_eq x y ≡ b → (b || has_name x xs) ≡ true → p x ≡ true
+    by more true e k = ap p (equal x y e) ∙ (and-both (p y) (list_all p xs) a).0
+    by more false e k = more k
+
+-- where a list has an element that passes, it can be cut there
+pub record Cut (S : Database) (q : Stmt → Bool) : Type 0 where
+  pub front : Database
+  pub stmt : Stmt
+  pub rest : Database
+  pub whole : S ≡ front ++ stmt ∷ rest
+  pub passes : q stmt ≡ true
+
+cut : (q : Stmt → Bool) (S : Database) → list_any q S ≡ true → Cut S q
+cut q [] h = cc
+cut q (s ∷ S) h = by (cut q S) (q s) refl h
+  where
+    by : (list_any q S ≡ true → Cut S q) → (b : Bool) → q s ≡ b → (b || list_any q S) ≡ true → Cut (s ∷ S) q
+    by more true e k = record { front = []; stmt = s; rest = S; whole = refl; passes = e }
+    by more false e k = let r = more k in record { front = s ∷ r.front; stmt = r.stmt; rest = r.rest; whole = ap (λ t. s ∷ t) r.whole; passes = r.passes }
+
+any-middle : (q : Stmt → Bool) (A : Database) (t : Stmt) (B : Database) → q t ≡ true → list_any q (A ++ t ∷ B) ≡ true
+any-middle q A t B h = list_any-append q A (t ∷ B) ∙ or-right (list_any q A) (q t || list_any q B) (or-left (q t) (list_any q B) h)
+
+-- a legal `$v` lists no constant that stands before it
+var-fresh : (A : Database) (ws : List Name) (x : Name) → IsLegal A (Var ws) → has_name x ws ≡ true → is_constant A x ≡ false
+var-fresh A ws x legal h =
+    let g : (list_all (λ y. not (is_variable A y || is_constant A y || Rattle.scope.specs.Active.was_label A y)) ws && all_different ws) ≡ true = (legal-keeps A (Var ws) legal).g3 in
+    let each = and-both (list_all (λ y. not (is_variable A y || is_constant A y || Rattle.scope.specs.Active.was_label A y)) ws) (all_different ws) g in
+    middle (is_variable A x) (is_constant A x) (Rattle.scope.specs.Active.was_label A x) (not-true (is_variable A x || is_constant A x || Rattle.scope.specs.Active.was_label A x) (all-has (λ y. not (is_variable A y || is_constant A y || Rattle.scope.specs.Active.was_label A y)) ws x each.0 h))
+  where
+    middle : (a b c : Bool) → (a || b || c) ≡ false → b ≡ false
+    middle true b c k = cc
+    middle false true c k = cc
+    middle false false c k = refl
+
+-- a legal `$c` lists no symbol that stands before it
+const-fresh : (A : Database) (ws : List Name) (x : Name) → IsLegal A (Const ws) → has_name x ws ≡ true → was_symbol A x ≡ false
+const-fresh A ws x legal h =
+    let g : (list_all (λ y. not (was_symbol A y || Rattle.scope.specs.Active.was_label A y)) ws && all_different ws) ≡ true = (legal-keeps A (Const ws) legal).g2 in
+    let each = and-both (list_all (λ y. not (was_symbol A y || Rattle.scope.specs.Active.was_label A y)) ws) (all_different ws) g in
+    first (was_symbol A x) (Rattle.scope.specs.Active.was_label A x) (not-true (was_symbol A x || Rattle.scope.specs.Active.was_label A x) (all-has (λ y. not (was_symbol A y || Rattle.scope.specs.Active.was_label A y)) ws x each.0 h))
+  where
+    first : (a c : Bool) → (a || c) ≡ false → a ≡ false
+    first true c k = cc
+    first false c k = refl
+
+-- two cuts of one list: one before the other, or the same
+pub data Order (A : Database) (t : Stmt) (B C : Database) (u : Stmt) (D : Database) : Type 0 where
+  earlier : (M : Database) → C ≡ A ++ t ∷ M → B ≡ M ++ u ∷ D → Order A t B C u D
+  at_one : t ≡ u → A ≡ C → B ≡ D → Order A t B C u D
+  later : (M : Database) → A ≡ C ++ u ∷ M → D ≡ M ++ t ∷ B → Order A t B C u D
+
+pub order : (A : Database) (t : Stmt) (B C : Database) (u : Stmt) (D : Database) → A ++ t ∷ B ≡ C ++ u ∷ D → Order A t B C u D
+order [] t B [] u D e = at_one (cc) refl (cc)
+order [] t B (c ∷ C) u D e = let h : t ≡ c = cc in earlier C (ap (λ v. v ∷ C) (sym h)) (cc)
+order (a ∷ A) t B [] u D e = let h : a ≡ u = cc in later A (ap (λ v. v ∷ A) h) (cc)
+order (a ∷ A) t B (c ∷ C) u D e = let h : a ≡ c = cc in let r : A ++ t ∷ B ≡ C ++ u ∷ D = cc in more h (order A t B C u D r)
+  where
+    more : a ≡ c → Order A t B C u D → Order (a ∷ A) t B (c ∷ C) u D
+    more h (earlier M p q) = earlier M (ap (λ v. v ∷ C) (sym h) ∙ ap (λ v. a ∷ v) p) q
+    more h (at_one x p q) = at_one x (ap (λ v. v ∷ A) h ∙ ap (λ v. c ∷ v) p) q
+    more h (later M p q) = later M (ap (λ v. v ∷ A) h ∙ ap (λ v. c ∷ v) p) q
+
+no_variable : (S : Database) (x : Name) (A : Database) (t : Stmt) (B C : Database) (u : Stmt) (D : Database) → AllKept S → S ≡ A ++ t ∷ B → S ≡ C ++ u ∷ D
+    → has_name x (constants t) ≡ true → has_name x (variables u) ≡ true → Order A t B C u D → ⊥
+no_variable S x A t B C u D all p q const var (earlier M e f) =
+    let v = is_var u x var in
+    let legal : IsLegal C (Var v.0) = subst (IsLegal C) v.1 (kept-legal S C u D all q) in
+    not-both (is_constant C x) (ap (λ w. is_constant w x) e ∙ any-middle (λ s. has_name x (constants s)) A t M const) (var-fresh C v.0 x legal (sym (ap (λ s. has_name x (variables s)) v.1) ∙ var))
+no_variable S x A t B C u D all p q const var (at_one same e f) =
+    let v = is_var u x var in
+    let k = is_const t x const in
+    let bad : Const k.0 ≡ Var v.0 = sym k.1 ∙ (same ∙ v.1) in cc
+no_variable S x A t B C u D all p q const var (later M e f) =
+    let k = is_const t x const in
+    let legal : IsLegal A (Const k.0) = subst (IsLegal A) k.1 (kept-legal S A t B all p) in
+    not-both (was_symbol A x) (ap (λ w. was_symbol w x) e ∙ any-middle (λ s. has_name x (constants s) || has_name x (variables s)) C u M (or-right (has_name x (constants u)) (has_name x (variables u)) var))
+    (const-fresh A k.0 x legal (sym (ap (λ s. has_name x (constants s)) k.1) ∙ const))
+
+pub constant-no_variable : (S : Database) (x : Name) → AllKept S → is_constant S x ≡ true → is_variable S x ≡ false
+constant-no_variable S x all h = by (is_variable S x) refl
+  where
+    by : (b : Bool) → is_variable S x ≡ b → b ≡ false
+    by false e = refl
+    by true e =
+        let k = cut (λ s. has_name x (constants s)) S h in
+        let v = active-stands (λ s. has_name x (variables s)) 1 S e in
+        absurd (no_variable S x k.front k.stmt k.rest v.front v.stmt v.rest all k.whole v.whole k.passes v.passes (order k.front k.stmt k.rest v.front v.stmt v.rest (sym k.whole ∙ v.whole)))

@@ -1,0 +1,230 @@
+-- The parts of the storage with one more statement: numbers, labels, positions, symbols.
+use Rattle.std.specs.Prelude.{◌≡◌, ℕ, zero, suc, ◌+◌, ◌-◌, ◌<◌, ◌≤◌, Bool, true, false, cond, not, ◌&&◌, ◌||◌, ◌==◌, nat_lt, ◌⊎◌, List, [], ◌∷◌, ◌++◌, length, map, take, slice_get, Option, Some, None, refl}
+use Rattle.std.specs.List.{list_any}
+use Rattle.std.proofs.Common.{sym, ◌∙◌, ap, subst, arith, inl, inr}
+use Rattle.std.proofs.lemmas.List.{take-append-le}
+use Rattle.std.proofs.lemmas.Bool.{cases_lt}
+use Rattle.std.proofs.Math.Seq.{take-length}
+use Rattle.mm_lex.specs.Alphabet.{Name, has_name}
+use Rattle.mm_read.specs.declared.stmt.Stmt.{Stmt}
+use Rattle.mm_read.specs.declared.stmt.Stmt.TheVariants as stmt
+use Rattle.mm_read.specs.Statements.{Database}
+use Rattle.scope.specs.Active.{before, label_of, was_label, has_label, stays_open, is_close, is_open, count}
+use Rattle.scope.specs.Legal.{IsLegal}
+use Rattle.scope.specs.declared.rule.Rule.TheVariants.{G10}
+use Rattle.names.specs.Codes.{name_at, decode}
+use Rattle.frame.specs.Below.{AreBelow}
+use Rattle.entries.specs.declared.links.Links.{Links}
+use Rattle.entries.specs.declared.kind.Kind.{Kind}
+use Rattle.entries.specs.declared.kind.Kind.TheVariants.{Open, Close, Const, Var, Disj, Float, Ess, Axiom, Prove}
+use Rattle.entries.specs.Entries.{Entry}
+use Rattle.frame.specs.declared.storage.Symbol.{Symbol}
+use Rattle.frame.specs.StoredEntries.{stmt_by, stmt_of, labels_of, positions_from, option_list, option_position, AreAllLegal, symbol_of, ReadsAs, floats, declares, second_is, is_float_kind, is_var_kind, last_from}
+use Rattle.frame.specs.StoredCounts.{IsLabelBelow, HasTwo, AreNumbered, AreZero, AreZeroBehind, zero_symbol}
+use Rattle.frame.specs.Stored.{AreKept}
+use Rattle.entries.specs.Spans.{Extends}
+use Rattle.frame.proofs.NumberLemmas.{decode-extends, name_at-extends, below-more}
+use Rattle.frame.proofs.OpenLemmas.{stays_open-push, stays_open-close}
+
+-- ---- what was entered stands for what it stood for
+
+pub stmt-more : (names names' labels labels' : List Name) (e : Entry) → Extends names names' → Extends labels labels' → AreBelow (length names) e.symbols → IsLabelBelow e.kind e.label (length labels)
+    → stmt_of names' labels' e ≡ stmt_of names labels e
+stmt-more names names' labels labels' e p q below label =
+    ap (stmt_by e.kind (name_at labels' e.label)) (decode-extends names names' e.symbols p below) ∙ by e.kind label
+  where
+    by : (kind : Kind) → IsLabelBelow kind e.label (length labels) → stmt_by kind (name_at labels' e.label) (decode names e.symbols) ≡ stmt_by kind (name_at labels e.label) (decode names e.symbols)
+    by Open h = refl
+    by Close h = refl
+    by Const h = refl
+    by Var h = refl
+    by Disj h = refl
+    by Float h = ap (λ x. stmt_by Float x (decode names e.symbols)) (name_at-extends labels labels' e.label q h)
+    by Ess h = ap (λ x. stmt_by Ess x (decode names e.symbols)) (name_at-extends labels labels' e.label q h)
+    by Axiom h = ap (λ x. stmt_by Axiom x (decode names e.symbols)) (name_at-extends labels labels' e.label q h)
+    by Prove h = ap (λ x. stmt_by Prove x (decode names e.symbols)) (name_at-extends labels labels' e.label q h)
+
+pub statements-more : (names names' labels labels' : List Name) (es : List Entry) → Extends names names' → Extends labels labels' → AreNumbered (length names) (length labels) es
+    → map (stmt_of names' labels') es ≡ map (stmt_of names labels) es
+statements-more names names' labels labels' [] p q h = refl
+statements-more names names' labels labels' (e ∷ es) p q h =
+    ap (λ s. s ∷ map (stmt_of names' labels') es) (stmt-more names names' labels labels' e p q h.0 h.1)
+    ∙ ap (λ r. stmt_of names labels e ∷ r) (statements-more names names' labels labels' es p q h.2)
+
+pub map-push : {A B : Type 0} (f : A → B) (xs : List A) (x : A) → map f (xs ++ x ∷ []) ≡ map f xs ++ f x ∷ []
+map-push f [] x = refl
+map-push f (y ∷ xs) x = ap (λ r. f y ∷ r) (map-push f xs x)
+
+label-more : (kind : Kind) (l m n : ℕ) → m ≤ n → IsLabelBelow kind l m → IsLabelBelow kind l n
+label-more Open l m n le h = tt
+label-more Close l m n le h = tt
+label-more Const l m n le h = tt
+label-more Var l m n le h = tt
+label-more Disj l m n le h = tt
+label-more Float l m n le h = omega (arith, le, h)
+label-more Ess l m n le h = omega (arith, le, h)
+label-more Axiom l m n le h = omega (arith, le, h)
+label-more Prove l m n le h = omega (arith, le, h)
+
+pub numbered-push : (n n' m m' : ℕ) (es : List Entry) (e : Entry) → n ≤ n' → m ≤ m' → AreNumbered n m es → AreBelow n' e.symbols → IsLabelBelow e.kind e.label m' → HasTwo e.kind e.symbols → AreNumbered n' m' (es ++ e ∷ [])
+numbered-push n n' m m' [] e le le' h b l t = (b, l, tt, t)
+numbered-push n n' m m' (d ∷ es) e le le' h b l t =
+    (below-more n n' d.symbols le h.0, label-more d.kind d.label m m' le' h.1, numbered-push n n' m m' es e le le' h.2 b l t, h.3)
+
+-- ---- labels and positions
+
+pub labels_of-push : (S : Database) (s : Stmt) → labels_of (S ++ s ∷ []) ≡ labels_of S ++ option_list (label_of s) []
+labels_of-push [] s = refl
+labels_of-push (t ∷ S) s = ap (option_list (label_of t)) (labels_of-push S s) ∙ by (label_of t)
+  where
+    by : (o : Option Name) → option_list o (labels_of S ++ option_list (label_of s) []) ≡ option_list o (labels_of S) ++ option_list (label_of s) []
+    by None = refl
+    by (Some x) = refl
+
+pub positions_from-push : (at : ℕ) (S : Database) (s : Stmt) → positions_from at (S ++ s ∷ []) ≡ positions_from at S ++ option_position (label_of s) (at + length S) []
+positions_from-push at [] s = ap (λ n. option_position (label_of s) n []) (place at)
+  where
+    place : (n : ℕ) → n ≡ n + 0
+    place n = omega arith
+positions_from-push at (t ∷ S) s =
+    ap (option_position (label_of t) at) (positions_from-push (at + 1) S s ∙ ap (λ n. positions_from (at + 1) S ++ option_position (label_of s) n []) (place at (length S))) ∙ by (label_of t)
+  where
+    place : (a n : ℕ) → a + 1 + n ≡ a + suc n
+    place a n = omega arith
+
+    by : (o : Option Name) → option_position o at (positions_from (at + 1) S ++ option_position (label_of s) (at + suc (length S)) []) ≡ option_position o at (positions_from (at + 1) S) ++ option_position (label_of s) (at + suc (length S)) []
+    by None = refl
+    by (Some x) = refl
+
+has-option : (o : Option Name) (x : Name) (ls : List Name) → has_name x (option_list o ls) ≡ (has_label x o || has_name x ls)
+has-option None x ls = refl
+has-option (Some y) x ls = refl
+
+pub has-labels_of : (S : Database) (x : Name) → has_name x (labels_of S) ≡ was_label S x
+has-labels_of [] x = refl
+has-labels_of (s ∷ S) x = has-option (label_of s) x (labels_of S) ∙ ap (λ b. has_label x (label_of s) || b) (has-labels_of S x)
+
+-- ---- the statements
+
+pub get-push : {A : Type 0} (xs : List A) (x y : A) (i : ℕ) → slice_get (xs ++ x ∷ []) i ≡ Some y → ((i < length xs) × (slice_get xs i ≡ Some y)) ⊎ ((i ≡ length xs) × (x ≡ y))
+get-push [] x y zero h = let e : x ≡ y = cc in inr (refl, e)
+get-push [] x y (suc i) h = cc
+get-push (z ∷ xs) x y zero h = let e : z ≡ y = cc in inl (omega arith, h)
+get-push (z ∷ xs) x y (suc i) h = step (get-push xs x y i h)
+  where
+    step : ((i < length xs) × (slice_get xs i ≡ Some y)) ⊎ ((i ≡ length xs) × (x ≡ y)) → ((suc i < length (z ∷ xs)) × (slice_get xs i ≡ Some y)) ⊎ ((suc i ≡ length (z ∷ xs)) × (x ≡ y))
+    step (inl p) = let a = p.0 in inl (omega (arith, a), p.1)
+    step (inr p) = inr (ap suc p.0, p.1)
+
+pub take-whole : {A : Type 0} (xs : List A) (x : A) → take (length xs) (xs ++ x ∷ []) ≡ xs
+take-whole xs x = take-append-le (length xs) xs (x ∷ []) (omega arith) ∙ take-length xs
+
+pub legal-push : (S : Database) (s : Stmt) → AreAllLegal S → IsLegal S s → AreAllLegal (S ++ s ∷ [])
+legal-push S s all own zero r h = cc
+legal-push S s all own (suc j) r h = by (get-push S s r j h)
+  where
+    back : suc j - 1 ≡ j
+    back = omega arith
+
+    by : ((j < length S) × (slice_get S j ≡ Some r)) ⊎ ((j ≡ length S) × (s ≡ r)) → IsLegal (before (S ++ s ∷ []) (suc j)) r
+    by (inl p) =
+        let same : before (S ++ s ∷ []) (suc j) ≡ before S (suc j) =
+        ap (λ n. take n (S ++ s ∷ [])) back ∙ (take-append-le j S (s ∷ []) (omega (arith, p.0)) ∙ ap (λ n. take n S) (sym back)) in
+        subst (λ B. IsLegal B r) (sym same) (all (suc j) r p.1)
+    by (inr p) =
+        let same : before (S ++ s ∷ []) (suc j) ≡ S = ap (λ n. take n (S ++ s ∷ [])) (back ∙ p.0) ∙ take-whole S s in
+        subst (λ B. IsLegal B r) (sym same) (subst (IsLegal S) p.1 own)
+
+last-rule : (b : Bool) → cond (not b) (Some G10) None ≡ None → b ≡ true
+last-rule true h = refl
+last-rule false h = cc
+
+lt-of : (m n : ℕ) → nat_lt m n ≡ true → m < n
+lt-of m n h = grind (arith, h)
+
+pub stays-push : (S : Database) (s : Stmt) → stays_open 0 S ≡ true → IsLegal S s → stays_open 0 (S ++ s ∷ []) ≡ true
+stays-push S stmt.Close h l = stays_open-close S (lt-of (count is_close S) (count is_open S) (last-rule (nat_lt (count is_close S) (count is_open S)) l)) h
+stays-push S stmt.Open h l = stays_open-push S stmt.Open refl h
+stays-push S (stmt.Const n) h l = stays_open-push S (stmt.Const n) refl h
+stays-push S (stmt.Var n) h l = stays_open-push S (stmt.Var n) refl h
+stays-push S (stmt.Disj n) h l = stays_open-push S (stmt.Disj n) refl h
+stays-push S (stmt.Float a b c) h l = stays_open-push S (stmt.Float a b c) refl h
+stays-push S (stmt.Ess a b) h l = stays_open-push S (stmt.Ess a b) refl h
+stays-push S (stmt.Axiom a b) h l = stays_open-push S (stmt.Axiom a b) refl h
+stays-push S (stmt.Prove a b c) h l = stays_open-push S (stmt.Prove a b c) refl h
+
+-- ---- a number that no entry has
+
+above-second : (n c : ℕ) (codes : List ℕ) → AreBelow n codes → n ≤ c → second_is c codes ≡ false
+above-second n c [] h le = refl
+above-second n c (x ∷ []) h le = refl
+above-second n c (x ∷ y ∷ codes) h le = let a = h.1.0 in let l : y < c = omega (arith, a, le) in grind (arith, l)
+
+above-any : (n c : ℕ) (codes : List ℕ) → AreBelow n codes → n ≤ c → list_any (λ x. c == x) codes ≡ false
+above-any n c [] h le = refl
+above-any n c (x ∷ codes) h le =
+    let a = h.0 in
+    let l : x < c = omega (arith, a, le) in
+    let f : (c == x) ≡ false = grind (arith, l) in
+    ap (λ b. b || list_any (λ y. c == y) codes) f ∙ above-any n c codes h.1 le
+
+and-no : (b : Bool) → (b && false) ≡ false
+and-no true = refl
+and-no false = refl
+
+none-from : (test : Entry → Bool) (found at : ℕ) (es : List Entry) → ((e : Entry) (k : ℕ) → slice_get es k ≡ Some e → test e ≡ false) → last_from test found at es ≡ found
+none-from test found at [] h = refl
+none-from test found at (e ∷ es) h =
+    ap (λ b. last_from test (cond b at found) (at + 1) es) (h e 0 refl) ∙ none-from test found (at + 1) es (λ d k g. h d (suc k) g)
+
+pub numbered-at : (n m : ℕ) (es : List Entry) → AreNumbered n m es → (k : ℕ) (e : Entry) → slice_get es k ≡ Some e → AreBelow n e.symbols
+numbered-at n m [] h k e g = cc
+numbered-at n m (d ∷ es) h zero e g = let same : d ≡ e = cc in subst (λ x. AreBelow n x.symbols) same h.0
+numbered-at n m (d ∷ es) h (suc k) e g = numbered-at n m es h.2 k e g
+
+pub symbol_of-above : (n m : ℕ) (es : List Entry) (c : ℕ) → AreNumbered n m es → n ≤ c → symbol_of es c ≡ zero_symbol
+symbol_of-above n m es c h le =
+    symbol-by
+    (none-from (floats c) 0 1 es (λ e k g. ap (λ b. is_float_kind e.kind && b) (above-second n c e.symbols (numbered-at n m es h k e g) le) ∙ and-no (is_float_kind e.kind)))
+    (none-from (declares c) 0 1 es (λ e k g. ap (λ b. is_var_kind e.kind && b) (above-any n c e.symbols (numbered-at n m es h k e g) le) ∙ and-no (is_var_kind e.kind)))
+  where
+    symbol-by : {a b : ℕ} → a ≡ 0 → b ≡ 0 → ◌≡◌ {A = Symbol} (record { float = a; variable = b }) zero_symbol
+    symbol-by p q = cc
+
+get-zero : (old more : List Symbol) (c : ℕ) → AreZero more → length old ≤ c → c < length (old ++ more) → slice_get (old ++ more) c ≡ Some zero_symbol
+get-zero [] [] c z le lt = absurd (omega (arith, lt))
+get-zero [] (x ∷ more) zero z le lt = ap Some z.0
+get-zero [] (x ∷ more) (suc c) z le lt = get-zero [] more c z.1 (omega arith) (omega (arith, lt))
+get-zero (x ∷ old) more zero z le lt = absurd (omega (arith, le))
+get-zero (x ∷ old) more (suc c) z le lt = get-zero old more c z (omega (arith, le)) (omega (arith, lt))
+
+get-front : {A : Type 0} (old more : List A) (c : ℕ) (x : A) → slice_get old c ≡ Some x → slice_get (old ++ more) c ≡ Some x
+get-front [] more c x h = cc
+get-front (y ∷ old) more zero x h = h
+get-front (y ∷ old) more (suc c) x h = get-front old more c x h
+
+pub get-less : (i : ℕ) (S : Database) (k : ℕ) (s : Stmt) → slice_get (take i S) k ≡ Some s → slice_get S k ≡ Some s
+get-less zero [] k s g = g
+get-less zero (t ∷ S) k s g = cc
+get-less (suc i) [] k s g = g
+get-less (suc i) (t ∷ S) zero s g = g
+get-less (suc i) (t ∷ S) (suc k) s g = get-less i S k s g
+
+pub label-at : (n m : ℕ) (es : List Entry) → AreNumbered n m es → (k : ℕ) (e : Entry) → slice_get es k ≡ Some e → IsLabelBelow e.kind e.label m
+label-at n m [] h k e g = cc
+label-at n m (d ∷ es) h zero e g = let same : d ≡ e = cc in subst (λ x. IsLabelBelow x.kind x.label m) same h.1
+label-at n m (d ∷ es) h (suc k) e g = label-at n m es h.2 k e g
+
+-- the symbols and more that nothing declares read as before
+pub still-reads : (names labels : List Name) (positions : List ℕ) (symbols : List Symbol) (replaced : List ℕ) (entries : List Entry) (links : Links) (between : List Symbol)
+    → AreKept names labels positions symbols replaced entries links → AreZeroBehind symbols between → ReadsAs between (symbol_of entries)
+still-reads names labels positions symbols replaced entries links between k z c lt = by (cases_lt c (length names))
+  where
+    by : (c < length names) ⊎ (length names ≤ c) → slice_get between c ≡ Some (symbol_of entries c)
+    by (inl l) = ap (λ r. slice_get r c) z.1 ∙ get-front symbols z.0 c (symbol_of entries c) (k.symbols_kept c l)
+    by (inr ge) =
+        let size : length between ≡ length (symbols ++ z.0) = ap length z.1 in
+        let a = k.count in
+        ap (λ r. slice_get r c) z.1
+        ∙ (get-zero symbols z.0 c z.2 (omega (arith, a, ge)) (omega (arith, size, lt))
+        ∙ ap Some (sym (symbol_of-above (length names) (length labels) entries c k.coded ge)))

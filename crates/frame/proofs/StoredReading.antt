@@ -1,0 +1,153 @@
+-- Reading an entry of the storage, and the position of a label.
+use Rattle.std.specs.Prelude.{◌≡◌, ℕ, zero, suc, ◌+◌, ◌-◌, ◌<◌, ◌≤◌, Bool, true, false, ◌||◌, List, [], ◌∷◌, length, map, get_or, slice_get, Option, Some, None, refl}
+use Rattle.std.proofs.Common.{sym, ◌∙◌, ap, subst, arith}
+use Rattle.mm_lex.specs.Alphabet.{Name}
+use Rattle.mm_read.specs.declared.stmt.Stmt.{Stmt}
+use Rattle.mm_read.specs.Statements.{Database}
+use Rattle.scope.specs.Active.{stmt_at, label_of, expr_of, is_assertion, was_label, has_label}
+use Rattle.names.specs.Codes.{name_at, decode}
+use Rattle.frame.specs.Citations.{is_hypothesis_kind}
+use Rattle.std.proofs.lemmas.Slice.Eq.{bytes_eq-Decides}
+use Rattle.entries.specs.declared.kind.Kind.{Kind}
+use Rattle.entries.specs.declared.kind.Kind.TheVariants.{Open, Close, Const, Var, Disj, Float, Ess, Axiom, Prove}
+use Rattle.entries.specs.Entries.{Entry}
+use Rattle.frame.specs.StoredEntries.{stmt_by, stmt_of, labels_of, positions_from, option_list, option_position}
+use Rattle.frame.specs.StoredCounts.{HasTwo, AreNumbered}
+
+-- ---- reading an entry
+
+pub get-stmt : (names labels : List Name) (es : List Entry) (i : ℕ) (e : Entry) → slice_get es i ≡ Some e → slice_get (map (stmt_of names labels) es) i ≡ Some (stmt_of names labels e)
+get-stmt names labels [] i e h = cc
+get-stmt names labels (d ∷ es) zero e h = let same : d ≡ e = cc in ap (λ x. Some (stmt_of names labels x)) same
+get-stmt names labels (d ∷ es) (suc i) e h = get-stmt names labels es i e h
+
+pub get-index : {A : Type 0} (xs : List A) (i : ℕ) (x : A) → i < length xs → x ≡ get_or xs i x → slice_get xs i ≡ Some x
+get-index [] i x h e = absurd (omega (arith, h))
+get-index (y ∷ xs) zero x h e = ap Some (sym e)
+get-index (y ∷ xs) (suc i) x h e = get-index xs i x (omega (arith, h)) e
+
+pub stmt-at-suc : (S : Database) (at : ℕ) → 1 ≤ at → stmt_at S at ≡ slice_get S (at - 1)
+stmt-at-suc S zero h = absurd (omega (arith, h))
+stmt-at-suc S (suc n) h = ap (slice_get S) (back n)
+  where
+    back : (k : ℕ) → k ≡ suc k - 1
+    back k = omega arith
+
+pub two-of : (n m : ℕ) (es : List Entry) → AreNumbered n m es → (k : ℕ) (e : Entry) → slice_get es k ≡ Some e → HasTwo e.kind e.symbols
+two-of n m [] h k e g = cc
+two-of n m (d ∷ es) h zero e g = let same : d ≡ e = cc in subst (λ x. HasTwo x.kind x.symbols) same h.3
+two-of n m (d ∷ es) h (suc k) e g = two-of n m es h.2 k e g
+
+two-names : (names : List Name) (codes : List ℕ) → length codes ≡ 2 → decode names codes ≡ name_at (decode names codes) 0 ∷ name_at (decode names codes) 1 ∷ []
+two-names names [] h = absurd (omega (arith, h))
+two-names names (x ∷ []) h = absurd (omega (arith, h))
+two-names names (x ∷ y ∷ []) h = refl
+two-names names (x ∷ y ∷ z ∷ codes) h = absurd (omega (arith, h))
+
+-- the kinds of statements that have an expression
+abbrev pub HasExpr : Kind → Type 0
+HasExpr Float = Unit {0}
+HasExpr Ess = Unit {0}
+HasExpr Axiom = Unit {0}
+HasExpr Prove = Unit {0}
+HasExpr kind = ⊥
+
+pub entry-expr : (names labels : List Name) (e : Entry) → HasExpr e.kind → HasTwo e.kind e.symbols → decode names e.symbols ≡ expr_of (stmt_of names labels e)
+entry-expr names labels e = by e.kind
+  where
+    by : (kind : Kind) → HasExpr kind → HasTwo kind e.symbols → decode names e.symbols ≡ expr_of (stmt_by kind (name_at labels e.label) (decode names e.symbols))
+    by Float h t = two-names names e.symbols t
+    by Ess h t = refl
+    by Axiom h t = refl
+    by Prove h t = refl
+    by Open h t = absurd h
+    by Close h t = absurd h
+    by Const h t = absurd h
+    by Var h t = absurd h
+    by Disj h t = absurd h
+
+-- a statement without an expression
+abbrev pub HasNone : Kind → Type 0
+HasNone Float = ⊥
+HasNone Ess = ⊥
+HasNone Axiom = ⊥
+HasNone Prove = ⊥
+HasNone kind = Unit {0}
+
+pub entry-none : (names labels : List Name) (e : Entry) → HasNone e.kind → (expr_of (stmt_of names labels e) ≡ []) × (is_hypothesis_kind (stmt_of names labels e) ≡ false) × (is_assertion (stmt_of names labels e) ≡ false)
+entry-none names labels e = by e.kind
+  where
+    by : (kind : Kind) → HasNone kind → (expr_of (stmt_by kind (name_at labels e.label) (decode names e.symbols)) ≡ []) × (is_hypothesis_kind (stmt_by kind (name_at labels e.label) (decode names e.symbols)) ≡ false) × (is_assertion (stmt_by kind (name_at labels e.label) (decode names e.symbols)) ≡ false)
+    by Open h = (refl, refl, refl)
+    by Close h = (refl, refl, refl)
+    by Const h = (refl, refl, refl)
+    by Var h = (refl, refl, refl)
+    by Disj h = (refl, refl, refl)
+    by Float h = absurd h
+    by Ess h = absurd h
+    by Axiom h = absurd h
+    by Prove h = absurd h
+
+pub none-of : (kind : Kind) → (kind ≡ Float → ⊥) → (kind ≡ Ess → ⊥) → (kind ≡ Axiom → ⊥) → (kind ≡ Prove → ⊥) → HasNone kind
+none-of Float a b c d = a refl
+none-of Ess a b c d = b refl
+none-of Axiom a b c d = c refl
+none-of Prove a b c d = d refl
+none-of Open a b c d = tt
+none-of Close a b c d = tt
+none-of Const a b c d = tt
+none-of Var a b c d = tt
+none-of Disj a b c d = tt
+
+-- ---- the position of a label
+
+shift : (a i : ℕ) → a + 1 + i ≡ a + suc i
+shift a i = omega arith
+
+abbrev IsThere : Database → List ℕ → ℕ → ℕ → Name → Type 0
+IsThere S ps at n x = (i : ℕ) × (s : Stmt) × (slice_get S i ≡ Some s) × (label_of s ≡ Some x) × (get_or ps n 0 ≡ at + i)
+
+place-step : (at : ℕ) (s : Stmt) (S : Database) (x : Name) (o : Option Name) → label_of s ≡ o → (n : ℕ) → n < length (option_list o (labels_of S)) → name_at (option_list o (labels_of S)) n ≡ x
+    → ((m : ℕ) → m < length (labels_of S) → name_at (labels_of S) m ≡ x → IsThere S (positions_from (at + 1) S) (at + 1) m x)
+    → IsThere (s ∷ S) (option_position o at (positions_from (at + 1) S)) at n x
+place-step at s S x None has n lt is rest = let r = rest n lt is in (suc r.0, r.1, r.2, r.3, r.4 ∙ shift at r.0)
+place-step at s S x (Some y) has zero lt is rest = (0, s, refl, has ∙ ap Some is, omega arith)
+place-step at s S x (Some y) has (suc n) lt is rest = let r = rest n (omega (arith, lt)) is in (suc r.0, r.1, r.2, r.3, r.4 ∙ shift at r.0)
+
+pub label-place : (at : ℕ) (S : Database) (x : Name) (n : ℕ) → n < length (labels_of S) → name_at (labels_of S) n ≡ x
+    → (i : ℕ) × (s : Stmt) × (slice_get S i ≡ Some s) × (label_of s ≡ Some x) × (get_or (positions_from at S) n 0 ≡ at + i)
+label-place at [] x n h e = absurd (omega (arith, h))
+label-place at (s ∷ S) x n h e = place-step at s S x (label_of s) refl n h e (λ m. label-place (at + 1) S x m)
+
+-- a label that no statement carries
+pub label-none : (S : Database) (x : Name) → was_label S x ≡ false → (i : ℕ) (s : Stmt) → slice_get S i ≡ Some s → label_of s ≡ Some x → ⊥
+label-none [] x h i s g l = cc
+label-none (t ∷ S) x h zero s g l =
+    let same : t ≡ s = cc in
+    let own : has_label x (label_of t) ≡ true = ap (λ r. has_label x (label_of r)) same ∙ (ap (has_label x) l ∙ (bytes_eq-Decides x x).1 refl) in
+    let bad : true ≡ false = sym (ap (λ b. b || was_label S x) own) ∙ h in cc
+label-none (t ∷ S) x h (suc i) s g l = label-none S x (or-right-false (has_label x (label_of t)) (was_label S x) h) i s g l
+  where
+    or-right-false : (a b : Bool) → (a || b) ≡ false → b ≡ false
+    or-right-false true b e = cc
+    or-right-false false b e = e
+
+-- the kinds of assertions
+abbrev pub IsCitable : Kind → Type 0
+IsCitable Axiom = Unit {0}
+IsCitable Prove = Unit {0}
+IsCitable kind = ⊥
+
+pub entry-assertion : (names labels : List Name) (e : Entry) → IsCitable e.kind → is_assertion (stmt_of names labels e) ≡ true
+entry-assertion names labels e = by e.kind
+  where
+    by : (kind : Kind) → IsCitable kind → is_assertion (stmt_by kind (name_at labels e.label) (decode names e.symbols)) ≡ true
+    by Axiom h = refl
+    by Prove h = refl
+    by Open h = absurd h
+    by Close h = absurd h
+    by Const h = absurd h
+    by Var h = absurd h
+    by Disj h = absurd h
+    by Float h = absurd h
+    by Ess h = absurd h

@@ -1,0 +1,127 @@
+-- The constant of an active `$f` is no variable, and a variable that is used has an active `$f`.
+use Rattle.std.specs.Prelude.{◌≡◌, ◌+◌, ◌-◌, Bool, true, false, not, ◌&&◌, ◌||◌, [], ◌∷◌, ◌++◌, refl}
+use Rattle.std.specs.List.{list_any}
+use Rattle.std.proofs.Common.{◌∙◌, ap, append_assoc}
+use Rattle.std.proofs.lemmas.List.Folds.{list_any-append}
+use Rattle.mm_lex.specs.Alphabet.{Name, has_name}
+use Rattle.mm_read.specs.declared.stmt.Stmt.{Stmt}
+use Rattle.mm_read.specs.declared.stmt.Stmt.TheVariants.{Open, Close, Const, Var, Disj, Float, Ess, Axiom, Prove}
+use Rattle.mm_read.specs.Statements.{Expr, Database}
+use Rattle.scope.specs.Active.{stays_open, active, constants, variables, expr_of, is_assertion, is_essential, is_variable, is_constant, is_float_of, has_float}
+use Rattle.scope.specs.Legal.{IsLegal, starts_with_constant}
+use Rattle.frame.specs.FrameOf.{is_used}
+use Rattle.frame.specs.Bound.{IsFirstFixed}
+use Rattle.frame.proofs.LegalLabels.{AllKept}
+use Rattle.frame.proofs.ActiveBehind.{or-left, and-both, not-both, active-stands, stands-active, open_both}
+use Rattle.frame.proofs.LegalBehind.{legal-keeps, kept-legal, all-has, constant-no_variable}
+
+-- ---- the four facts
+
+-- what is active behind A is active behind A, t and B, where t and B close nothing of A
+still-active : (q : Stmt → Bool) (S A : Database) (t : Stmt) (B : Database) → S ≡ A ++ t ∷ B → stays_open 0 (t ∷ B) ≡ true → list_any (λ p. q p.1) (active A) ≡ true → list_any (λ p. q p.1) (active S) ≡ true
+still-active q S A t B whole stays h =
+    let r = active-stands q 1 A h in
+    let longer : S ≡ r.front ++ r.stmt ∷ (r.rest ++ t ∷ B) = whole ∙ (ap (λ w. w ++ t ∷ B) r.whole ∙ append_assoc r.front (r.stmt ∷ r.rest) (t ∷ B)) in
+    ap (λ w. list_any (λ p. q p.1) (active w)) longer ∙ stands-active q 1 r.front r.stmt (r.rest ++ t ∷ B) (open_both 0 r.rest (t ∷ B) r.stays stays) r.passes
+
+constant-front : (S A : Database) (t : Stmt) (B : Database) (x : Name) → S ≡ A ++ t ∷ B → is_constant A x ≡ true → is_constant S x ≡ true
+constant-front S A t B x whole h =
+    ap (λ w. is_constant w x) whole ∙ (list_any-append (λ s. has_name x (constants s)) A (t ∷ B) ∙ or-left (is_constant A x) _ h)
+
+-- the constant of an active `$f` is no variable, and its variable is one
+pub float-kinds : (S A : Database) (l c x : Name) (B : Database) → AllKept S → S ≡ A ++ Float l c x ∷ B → stays_open 0 B ≡ true → (is_variable S c ≡ false) × (is_variable S x ≡ true)
+float-kinds S A l c x B all whole stays =
+    let legal = kept-legal S A (Float l c x) B all whole in
+    let k = legal-keeps A (Float l c x) legal in
+    let g6 : is_constant A c ≡ true = k.g6 in
+    let g7 : (is_variable A x && not (has_float A x)) ≡ true = k.g7 in (
+      constant-no_variable S c all (constant-front S A (Float l c x) B c whole g6),
+      still-active (λ s. has_name x (variables s)) S A (Float l c x) B whole stays (and-both (is_variable A x) (not (has_float A x)) g7).0,
+    )
+
+-- an expression begins with a constant, so with no variable
+fixed : (S A B : Database) (t : Stmt) (e : Expr) → AllKept S → S ≡ A ++ t ∷ B → starts_with_constant A e ≡ true → IsFirstFixed S e
+fixed S A B t [] all whole h = tt
+fixed S A B t (x ∷ e) all whole h = constant-no_variable S x all (constant-front S A t B x whole h)
+
+pub first-fixed : (S A : Database) (t : Stmt) (B : Database) → AllKept S → S ≡ A ++ t ∷ B → IsFirstFixed S (expr_of t)
+first-fixed S A (Float l c x) B all whole = fixed S A B (Float l c x) (c ∷ x ∷ []) all whole (legal-keeps A (Float l c x) (kept-legal S A (Float l c x) B all whole)).g6
+first-fixed S A (Ess l e) B all whole = fixed S A B (Ess l e) e all whole (legal-keeps A (Ess l e) (kept-legal S A (Ess l e) B all whole)).g6
+first-fixed S A (Axiom l e) B all whole = fixed S A B (Axiom l e) e all whole (legal-keeps A (Axiom l e) (kept-legal S A (Axiom l e) B all whole)).g6
+first-fixed S A (Prove l e p) B all whole = fixed S A B (Prove l e p) e all whole (legal-keeps A (Prove l e p) (kept-legal S A (Prove l e p) B all whole)).g6
+first-fixed S A Open B all whole = tt
+first-fixed S A Close B all whole = tt
+first-fixed S A (Const ws) B all whole = tt
+first-fixed S A (Var ws) B all whole = tt
+first-fixed S A (Disj ws) B all whole = tt
+
+fixed-own : (S : Database) (e : Expr) → AllKept S → starts_with_constant S e ≡ true → IsFirstFixed S e
+fixed-own S [] all h = tt
+fixed-own S (x ∷ e) all h = constant-no_variable S x all h
+
+pub own-fixed : (S : Database) (s : Stmt) → AllKept S → IsLegal S s → IsFirstFixed S (expr_of s)
+own-fixed S (Float l c x) all legal = fixed-own S (c ∷ x ∷ []) all (legal-keeps S (Float l c x) legal).g6
+own-fixed S (Ess l e) all legal = fixed-own S e all (legal-keeps S (Ess l e) legal).g6
+own-fixed S (Axiom l e) all legal = fixed-own S e all (legal-keeps S (Axiom l e) legal).g6
+own-fixed S (Prove l e p) all legal = fixed-own S e all (legal-keeps S (Prove l e p) legal).g6
+own-fixed S Open all legal = tt
+own-fixed S Close all legal = tt
+own-fixed S (Const ws) all legal = tt
+own-fixed S (Var ws) all legal = tt
+own-fixed S (Disj ws) all legal = tt
+
+implied : (a b : Bool) → (not a || b) ≡ true → a ≡ true → b ≡ true
+implied true b h e = h
+implied false b h e = cc
+
+typed-own : (S : Database) (s : Stmt) (x : Name) → IsLegal S s → is_assertion s ≡ true → has_name x (expr_of s) ≡ true → is_variable S x ≡ true → has_float S x ≡ true
+typed-own S (Axiom l e) x legal asserts h v = implied (is_variable S x) (has_float S x) (all-has (λ y. not (is_variable S y) || has_float S y) e x (legal-keeps S (Axiom l e) legal).g9 h) v
+typed-own S (Prove l e p) x legal asserts h v = implied (is_variable S x) (has_float S x) (all-has (λ y. not (is_variable S y) || has_float S y) e x (legal-keeps S (Prove l e p) legal).g9 h) v
+typed-own S Open x legal asserts h v = cc
+typed-own S Close x legal asserts h v = cc
+typed-own S (Const ws) x legal asserts h v = cc
+typed-own S (Var ws) x legal asserts h v = cc
+typed-own S (Disj ws) x legal asserts h v = cc
+typed-own S (Float l c w) x legal asserts h v = cc
+typed-own S (Ess l e) x legal asserts h v = cc
+
+pub is_ess : (t : Stmt) (x : Name) → (is_essential t && has_name x (expr_of t)) ≡ true → (l : Name) × (e : Expr) × (t ≡ Ess l e) × (has_name x e ≡ true)
+is_ess (Ess l e) x h = (l, e, refl, h)
+is_ess Open x h = cc
+is_ess Close x h = cc
+is_ess (Const ws) x h = cc
+is_ess (Var ws) x h = cc
+is_ess (Disj ws) x h = cc
+is_ess (Float l c w) x h = cc
+is_ess (Axiom l e) x h = cc
+is_ess (Prove l e p) x h = cc
+
+-- a variable of a `$e` has a `$f` that is active before it
+pub typed-before : (S A : Database) (l : Name) (e : Expr) (B : Database) (x : Name) → AllKept S → S ≡ A ++ Ess l e ∷ B → has_name x e ≡ true → is_variable S x ≡ true → has_float A x ≡ true
+typed-before S A l e B x all whole h v =
+    let legal = kept-legal S A (Ess l e) B all whole in
+    let k = legal-keeps A (Ess l e) legal in
+    let known : (is_constant A x || is_variable A x) ≡ true = all-has (λ y. is_constant A y || is_variable A y) e x k.g5 h in
+    let var : is_variable A x ≡ true = by (is_constant A x) refl (is_variable A x) known in
+    implied (is_variable A x) (has_float A x) (all-has (λ y. not (is_variable A y) || has_float A y) e x k.g9 h) var
+  where
+    by : (a : Bool) → is_constant A x ≡ a → (b : Bool) → (a || b) ≡ true → b ≡ true
+    by true p b q = absurd (not-both (is_variable S x) v (constant-no_variable S x all (constant-front S A (Ess l e) B x whole p)))
+    by false p b q = q
+
+typed-ess : (S A : Database) (l : Name) (e : Expr) (B : Database) (x : Name) → AllKept S → S ≡ A ++ Ess l e ∷ B → stays_open 0 B ≡ true → has_name x e ≡ true → is_variable S x ≡ true → has_float S x ≡ true
+typed-ess S A l e B x all whole stays h v = still-active (is_float_of x) S A (Ess l e) B whole stays (typed-before S A l e B x all whole h v)
+
+-- a variable that is used has an active `$f`
+pub used-typed : (S : Database) (s : Stmt) (x : Name) → AllKept S → IsLegal S s → is_assertion s ≡ true → is_used S s x ≡ true → is_variable S x ≡ true → has_float S x ≡ true
+used-typed S s x all legal asserts used v = by (has_name x (expr_of s)) refl used
+  where
+    ess : list_any (λ p. is_essential p.1 && has_name x (expr_of p.1)) (active S) ≡ true → has_float S x ≡ true
+    ess h =
+        let r = active-stands (λ t. is_essential t && has_name x (expr_of t)) 1 S h in
+        let e = is_ess r.stmt x r.passes in
+        typed-ess S r.front e.0 e.1 r.rest x all (r.whole ∙ ap (λ t. r.front ++ t ∷ r.rest) e.2) r.stays e.3 v
+
+    by : (b : Bool) → has_name x (expr_of s) ≡ b → (b || list_any (λ p. is_essential p.1 && has_name x (expr_of p.1)) (active S)) ≡ true → has_float S x ≡ true
+    by true h k = typed-own S s x legal asserts h v
+    by false h k = ess k

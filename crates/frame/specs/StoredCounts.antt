@@ -1,0 +1,122 @@
+-- Numbers that stand for names, and what one more entry changes. The code's own form: no public clause cites it.
+use Rattle.std.specs.Prelude.{◌≡◌, ℕ, ◌+◌, ◌<◌, ◌≤◌, ◌^◌, ◌==◌, true, false, ◌&&◌, if◌then◌else◌, List, [], ◌∷◌, ◌++◌, length, map, take, slice_get, Option, Some, None}
+use Rattle.std.specs.List.{list_any}
+use Rattle.mm_lex.specs.Alphabet.{Name, has_name}
+use Rattle.mm_read.specs.declared.stmt.Stmt.{Stmt}
+use Rattle.mm_read.specs.declared.stmt.Stmt.TheVariants as stmt
+use Rattle.scope.specs.Active.{is_open, is_close}
+use Rattle.scope.specs.Symbols.{symbols_of}
+use Rattle.entries.specs.declared.kind.Kind.{Kind}
+use Rattle.entries.specs.declared.kind.Kind.TheVariants.{Open, Close, Const, Var, Disj, Float, Ess, Axiom, Prove}
+use Rattle.entries.specs.Entries.{Entry}
+use Rattle.frame.specs.declared.storage.Symbol.{Symbol}
+use Rattle.frame.specs.declared.storage.Stock.{Stock}
+use Rattle.entries.specs.Spans.{Extends}
+use Rattle.frame.specs.Citations.{is_hypothesis_kind}
+use Rattle.frame.specs.Below.{AreBelow}
+use Rattle.frame.specs.StoredEntries.{stmt_of, numbered, labels_of, is_float_kind, is_var_kind, second_is}
+
+-- ---- numbers that stand for names
+
+-- a label's number has a name, where the kind has a label
+abbrev pub IsLabelBelow : Kind → ℕ → ℕ → Type 0
+IsLabelBelow Float label n = label < n
+IsLabelBelow Ess label n = label < n
+IsLabelBelow Axiom label n = label < n
+IsLabelBelow Prove label n = label < n
+IsLabelBelow kind label n = Unit {0}
+
+-- a `$f` has two symbols
+abbrev pub HasTwo : Kind → List ℕ → Type 0
+HasTwo Float codes = length codes ≡ 2
+HasTwo kind codes = Unit {0}
+
+abbrev pub AreNumbered : ℕ → ℕ → List Entry → Type 0
+AreNumbered n m [] = Unit {0}
+AreNumbered n m (e ∷ es) = AreBelow n e.symbols × IsLabelBelow e.kind e.label m × AreNumbered n m es × HasTwo e.kind e.symbols
+
+-- the entry e keeps the counts of the names and of the labels before it: those entries use no others
+pub record KeepsCounts (names labels : List Name) (entries : List Entry) (i : ℕ) (e : Entry) : Type 0 where
+  pub within : e.names ≤ length names
+  pub rising : (j : ℕ) (d : Entry) → j < i → slice_get entries j ≡ Some d → d.names ≤ e.names
+  pub numbered : AreNumbered e.names e.label (take i entries)
+  pub label_count : e.label ≡ length (labels_of (take i (map (stmt_of names labels) entries)))
+  pub name_count : e.names ≡ length (symbols_of (take i (map (stmt_of names labels) entries)))
+
+-- a statement that neither opens nor closes a block
+abbrev pub IsPlain : Option Stmt → Type 0
+IsPlain None = ⊥
+IsPlain (Some s) = (is_open s ≡ false) × (is_close s ≡ false)
+
+-- a symbol that nothing declares
+abbrev pub zero_symbol : Symbol
+zero_symbol = record { float = 0; variable = 0 }
+
+abbrev pub AreZero : List Symbol → Type 0
+AreZero [] = Unit {0}
+AreZero (x ∷ xs) = (x ≡ zero_symbol) × AreZero xs
+
+-- the list with symbols behind it that nothing declares
+abbrev pub AreZeroBehind : List Symbol → List Symbol → Type 0
+AreZeroBehind old new = (more : List Symbol) × (new ≡ old ++ more) × AreZero more
+
+abbrev pub kind_of : Stmt → Kind
+kind_of stmt.Open = Open
+kind_of stmt.Close = Close
+kind_of (stmt.Const names) = Const
+kind_of (stmt.Var names) = Var
+kind_of (stmt.Disj names) = Disj
+kind_of (stmt.Float label constant variable) = Float
+kind_of (stmt.Ess label expr) = Ess
+kind_of (stmt.Axiom label expr) = Axiom
+kind_of (stmt.Prove label expr proof) = Prove
+
+-- what one more entry makes of the last declarations of a symbol
+abbrev pub with_declared : Kind → List ℕ → ℕ → ℕ → Symbol → Symbol
+with_declared kind codes at c x =
+    record { float = if is_float_kind kind && second_is c codes then at else x.float; variable = if is_var_kind kind && list_any (λ y. c == y) codes then at else x.variable }
+
+abbrev pub with_entry : Entry → ℕ → ℕ → Symbol → Symbol
+with_entry e at c x = with_declared e.kind e.symbols at c x
+
+-- there is room for the numbers of names: fewer than 2^31, and each with its declarations
+pub record HasRoom (k : Stock) : Type 0 where
+  pub count : length k.symbols.items ≡ length k.names
+  pub few : length k.names < 2 ^ 31
+
+-- more names, labels and positions behind those that were there; the entries and the links stay
+pub record Grown (old new : Stock) : Type 0 where
+  pub names : Extends old.names new.names
+  pub symbols : AreZeroBehind old.symbols.items new.symbols.items
+  pub labels : Extends old.labels new.labels
+  pub positions : Extends old.positions.items new.positions.items
+  pub replaced : new.replaced ≡ old.replaced
+  pub entries : new.entries ≡ old.entries
+  pub links : new.links ≡ old.links
+
+-- the storage with more names, labels and positions behind those that were there: cut back it is as before
+pub record IsBehind (old new : Stock) : Type 0 where
+  pub names : Extends old.names new.names
+  pub symbols : AreZeroBehind old.symbols.items new.symbols.items
+  pub labels : Extends old.labels new.labels
+  pub positions : Extends old.positions.items new.positions.items
+  pub replaced : Extends old.replaced.items new.replaced.items
+  pub entries : new.entries ≡ old.entries
+  pub links : new.links ≡ old.links
+
+-- the label, if there is one, is new
+abbrev pub IsFresh : List Name → Option Name → Type 0
+IsFresh labels None = Unit {0}
+IsFresh labels (Some x) = has_name x labels ≡ false
+
+abbrev pub IsLabelled : Kind → Type 0
+IsLabelled Float = Unit {0}
+IsLabelled Ess = Unit {0}
+IsLabelled Axiom = Unit {0}
+IsLabelled Prove = Unit {0}
+IsLabelled kind = ⊥
+
+-- a `$f` or a `$e`
+abbrev pub IsHypothesisAt : Option Stmt → Type 0
+IsHypothesisAt None = ⊥
+IsHypothesisAt (Some s) = is_hypothesis_kind s ≡ true

@@ -1,0 +1,117 @@
+-- What an entry stands for, and what entries say of a symbol's number. The code's own form: no public clause cites it.
+use Rattle.std.specs.Prelude.{◌≡◌, ℕ, ◌+◌, ◌<◌, ◌==◌, Bool, true, false, ◌&&◌, if◌then◌else◌, List, [], ◌∷◌, ◌++◌, length, map, slice_get, Option, Some, None}
+use Rattle.std.specs.List.{list_any}
+use Rattle.mm_lex.specs.Alphabet.{Name}
+use Rattle.mm_read.specs.declared.stmt.Stmt.{Stmt}
+use Rattle.mm_read.specs.declared.stmt.Stmt.TheVariants as stmt
+use Rattle.mm_read.specs.Statements.{Expr, Database}
+use Rattle.scope.specs.Active.{stmt_at, before, label_of}
+use Rattle.scope.specs.Legal.{IsLegal}
+use Rattle.names.specs.Codes.{name_at, decode}
+use Rattle.entries.specs.declared.kind.Kind.{Kind}
+use Rattle.entries.specs.declared.kind.Kind.TheVariants.{Open, Close, Const, Var, Disj, Float, Ess, Axiom, Prove}
+use Rattle.entries.specs.Entries.{Entry}
+use Rattle.frame.specs.declared.storage.Symbol.{Symbol}
+use Rattle.frame.specs.declared.storage.Stock.{Stock}
+use Rattle.frame.specs.Parts.{Numbered}
+
+-- a statement by its kind, its label and its names
+abbrev pub stmt_by : Kind → Name → Expr → Stmt
+stmt_by Open label names = stmt.Open
+stmt_by Close label names = stmt.Close
+stmt_by Const label names = stmt.Const names
+stmt_by Var label names = stmt.Var names
+stmt_by Disj label names = stmt.Disj names
+stmt_by Float label names = stmt.Float label (name_at names 0) (name_at names 1)
+stmt_by Ess label names = stmt.Ess label names
+stmt_by Axiom label names = stmt.Axiom label names
+stmt_by Prove label names = stmt.Prove label names []
+
+abbrev pub stmt_of : List Name → List Name → Entry → Stmt
+stmt_of names labels e = stmt_by e.kind (name_at labels e.label) (decode names e.symbols)
+
+abbrev pub statements_of : Stock → Database
+statements_of k = map (stmt_of k.names k.labels) k.entries
+
+abbrev pub numbered : Stock → Numbered
+numbered k = record { statements = statements_of k; names = k.names }
+
+-- the labels, in order, and where they stand
+abbrev pub option_list : {A : Type 0} → Option A → List A → List A
+option_list None xs = xs
+option_list (Some x) xs = x ∷ xs
+
+abbrev pub labels_of : Database → List Name
+labels_of [] = []
+labels_of (s ∷ S) = option_list (label_of s) (labels_of S)
+
+abbrev pub option_position : {A : Type 0} → Option A → ℕ → List ℕ → List ℕ
+option_position None at ps = ps
+option_position (Some x) at ps = at ∷ ps
+
+abbrev pub positions_from : ℕ → Database → List ℕ
+positions_from at [] = []
+positions_from at (s ∷ S) = option_position (label_of s) at (positions_from (at + 1) S)
+
+-- each statement is legal behind those before it
+abbrev pub AreAllLegal : Database → Type 0
+AreAllLegal S = (j : ℕ) (s : Stmt) → stmt_at S j ≡ Some s → IsLegal (before S j) s
+
+-- ---- what an entry says of a symbol's number
+
+-- a `$f` of it
+abbrev pub is_float_kind : Kind → Bool
+is_float_kind Float = true
+is_float_kind kind = false
+
+abbrev pub is_var_kind : Kind → Bool
+is_var_kind Var = true
+is_var_kind kind = false
+
+abbrev pub second_is : ℕ → List ℕ → Bool
+second_is c [] = false
+second_is c (x ∷ []) = false
+second_is c (x ∷ y ∷ codes) = c == y
+
+abbrev pub floats : ℕ → Entry → Bool
+floats c e = is_float_kind e.kind && second_is c e.symbols
+
+-- a `$v` that has it
+abbrev pub declares : ℕ → Entry → Bool
+declares c e = is_var_kind e.kind && list_any (λ x. c == x) e.symbols
+
+-- the position of the last entry that passes the test, or 0
+abbrev pub last_from : (Entry → Bool) → ℕ → ℕ → List Entry → ℕ
+last_from test found at [] = found
+last_from test found at (e ∷ es) = last_from test (if test e then at else found) (at + 1) es
+
+abbrev pub last_where : (Entry → Bool) → List Entry → ℕ
+last_where test es = last_from test 0 1 es
+
+abbrev pub symbol_of : List Entry → ℕ → Symbol
+symbol_of es c = record { float = last_where (floats c) es; variable = last_where (declares c) es }
+
+-- what the list has at the numbers of symbols
+abbrev pub ReadsAs : List Symbol → (ℕ → Symbol) → Type 0
+ReadsAs symbols x = (c : ℕ) → c < length symbols → slice_get symbols c ≡ Some (x c)
+
+-- ---- what a declaration replaces
+
+abbrev pub replaced_float : (ℕ → Symbol) → List ℕ → List ℕ
+replaced_float x [] = []
+replaced_float x (a ∷ []) = []
+replaced_float x (a ∷ c ∷ codes) = (x c).float ∷ []
+
+-- what a statement of this kind with these symbols replaces, where the last declarations before it are x
+abbrev pub replaced_by : (ℕ → Symbol) → Kind → List ℕ → List ℕ
+replaced_by x Float codes = replaced_float x codes
+replaced_by x Var codes = map (λ c. (x c).variable) codes
+replaced_by x kind codes = []
+
+-- the same for each entry of a list, behind others
+abbrev pub replaced_behind : List Entry → List Entry → List ℕ
+replaced_behind before [] = []
+replaced_behind before (e ∷ es) = replaced_by (symbol_of before) e.kind e.symbols ++ replaced_behind (before ++ e ∷ []) es
+
+abbrev pub replaced_of : List Entry → List ℕ
+replaced_of es = replaced_behind [] es

@@ -1,0 +1,171 @@
+-- Symbols with one space between two: a stretch of bytes is tidy, and the words of tidy bytes.
+use Rattle.std.specs.Prelude.{◌≡◌, ℕ, ◌<◌, zero, suc, Bool, true, false, not, cond, ◌&&◌, ◌||◌, ◌==◌, List, [], ◌∷◌, take, refl}
+use Rattle.std.specs.List.{list_all, slice_split, onto_first}
+use Rattle.std.proofs.Common.{sym, ◌∙◌, ap, arith}
+use Rattle.mm_lex.specs.Alphabet.{Name, is_white, is_visible, is_allowed, starts_white, is_symbol, has_byte, is_empty}
+use Rattle.mm_lex.specs.Tokens.{IsClean}
+use Rattle.mm_lex.specs.Stretch.{stretch, ends_here, ends_between}
+use Rattle.mm_lex.proofs.WordsLemmas.{and_left, and_right, first_part}
+use Rattle.mm_lex.proofs.CuttingMeans.{and_both}
+
+abbrev pub is_space : ℕ → Bool
+is_space c = c == 32
+
+-- a byte of a symbol
+abbrev pub is_symbol_byte : ℕ → Bool
+is_symbol_byte b = is_visible b && not (b == 36)
+
+-- the bytes are those of symbols with one space between two
+abbrev pub is_tidy : List ℕ → Bool
+is_tidy [] = false
+is_tidy (b ∷ []) = is_symbol_byte b
+is_tidy (b ∷ c ∷ bytes) = is_symbol_byte b && cond (is_space c) (is_tidy bytes) (is_tidy (c ∷ bytes))
+
+-- ---- a stretch is tidy
+
+-- a byte that is not white, where symbols do not end
+shown_byte : (b next : ℕ) → is_allowed b ≡ true → is_white b ≡ false → ends_between b next ≡ false → is_symbol_byte b ≡ true
+shown_byte b next h white goes = grind (arith, h, white, goes)
+
+space_byte : (c next : ℕ) → is_space c ≡ true → ends_between c next ≡ false → 36 < next
+space_byte c next e goes = grind (arith, e, goes)
+
+above_dollar : (d next : ℕ) → 36 < d → (ends_between d next ≡ false) × (is_white d ≡ false)
+above_dollar d next h = (grind (arith, h), grind (arith, h))
+
+other_byte : (c next : ℕ) → is_allowed c ≡ true → is_space c ≡ false → ends_between c next ≡ false → is_white c ≡ false
+other_byte c next h e goes = grind (arith, h, e, goes)
+
+tidy_cons : (b c : ℕ) (bytes : List ℕ) (t : Bool) → is_space c ≡ t → is_symbol_byte b ≡ true → cond t (is_tidy bytes) (is_tidy (c ∷ bytes)) ≡ true → is_tidy (b ∷ c ∷ bytes) ≡ true
+tidy_cons b c bytes t e h k = and_both (is_symbol_byte b) _ h (ap (λ u. cond u (is_tidy bytes) (is_tidy (c ∷ bytes))) e ∙ k)
+
+stretch_on : (b : ℕ) (bytes : List ℕ) → ends_here (b ∷ bytes) ≡ false → stretch (b ∷ bytes) ≡ suc (stretch bytes)
+stretch_on b bytes e = rw e refl
+
+stretch_off : (b : ℕ) (bytes : List ℕ) → ends_here (b ∷ bytes) ≡ true → stretch (b ∷ bytes) ≡ zero
+stretch_off b bytes e = rw e refl
+
+-- what follows the first byte of a symbol
+abbrev rest_of : List ℕ → List ℕ
+rest_of bytes = take (stretch bytes) bytes
+
+-- what is to be shown of the bytes from one on that is not white
+abbrev Tidies : ℕ → List ℕ → Type 0
+Tidies b bytes = is_white b ≡ false → ends_here (b ∷ bytes) ≡ false → is_tidy (b ∷ rest_of bytes) ≡ true
+
+last_two : (b c : ℕ) → is_symbol_byte b ≡ true → is_allowed c ≡ true → Tidies c [] → (t : Bool) → ends_here (c ∷ []) ≡ t → is_tidy (b ∷ rest_of (c ∷ [])) ≡ true
+last_two b c shown clean from true e = rw (stretch_off c [] e) shown
+last_two b c shown clean from false e = rw (stretch_on c [] e) (by (is_space c) refl)
+  where
+    by : (u : Bool) → is_space c ≡ u → is_tidy (b ∷ c ∷ []) ≡ true
+    by true k = absurd (omega (arith, space_byte c 32 k e))
+    by false k = tidy_cons b c [] false k shown (from (other_byte c 32 clean k e) e)
+
+goes_next : (d : ℕ) (bytes : List ℕ) → 36 < d → ends_here (d ∷ bytes) ≡ false
+goes_next d [] h = (above_dollar d 32 h).0
+goes_next d (e ∷ bytes) h = (above_dollar d e h).0
+
+two_more : (b c d : ℕ) (bytes : List ℕ) → is_symbol_byte b ≡ true → is_allowed c ≡ true → Tidies c (d ∷ bytes) → Tidies d bytes
+    → (t : Bool) → ends_here (c ∷ d ∷ bytes) ≡ t → is_tidy (b ∷ rest_of (c ∷ d ∷ bytes)) ≡ true
+two_more b c d bytes shown clean from behind true e = rw (stretch_off c (d ∷ bytes) e) shown
+two_more b c d bytes shown clean from behind false e = rw (stretch_on c (d ∷ bytes) e) (by (is_space c) refl)
+  where
+    by : (u : Bool) → is_space c ≡ u → is_tidy (b ∷ c ∷ rest_of (d ∷ bytes)) ≡ true
+    by true k =
+        let high = space_byte c d k e in
+        let on = goes_next d bytes high in
+        tidy_cons b c (rest_of (d ∷ bytes)) true k shown
+        (ap (λ n. is_tidy (take n (d ∷ bytes))) (stretch_on d bytes on) ∙ behind (above_dollar d 32 high).1 on)
+    by false k = tidy_cons b c (rest_of (d ∷ bytes)) false k shown (from (other_byte c d clean k e) e)
+
+tidy_from : (b : ℕ) (bytes : List ℕ) → list_all is_allowed (b ∷ bytes) ≡ true → Tidies b bytes
+tidy_from b [] clean white goes = shown_byte b 32 (and_left (is_allowed b) _ clean) white goes
+tidy_from b (c ∷ []) clean white goes =
+    let next = and_right (is_allowed b) _ clean in
+    last_two b c (shown_byte b c (and_left (is_allowed b) _ clean) white goes) (and_left (is_allowed c) _ next) (tidy_from c [] next) (ends_here (c ∷ [])) refl
+tidy_from b (c ∷ d ∷ bytes) clean white goes =
+    let next = and_right (is_allowed b) _ clean in
+    two_more b c d bytes (shown_byte b c (and_left (is_allowed b) _ clean) white goes) (and_left (is_allowed c) _ next)
+    (tidy_from c (d ∷ bytes) next) (tidy_from d bytes (and_right (is_allowed c) _ next)) (ends_here (c ∷ d ∷ bytes)) refl
+
+pub stretch_tidy : (bytes : List ℕ) → IsClean bytes → starts_white bytes ≡ false → 0 < stretch bytes → is_tidy (take (stretch bytes) bytes) ≡ true
+stretch_tidy [] clean white some = absurd (omega (arith, some))
+stretch_tidy (b ∷ bytes) clean white some = by (ends_here (b ∷ bytes)) refl
+  where
+    by : (t : Bool) → ends_here (b ∷ bytes) ≡ t → is_tidy (take (stretch (b ∷ bytes)) (b ∷ bytes)) ≡ true
+    by true e = absurd (omega (arith, some, stretch_off b bytes e))
+    by false e = rw (stretch_on b bytes e) (tidy_from b bytes clean white e)
+
+-- ---- the words of tidy bytes
+
+pub space_is : (c : ℕ) → is_space c ≡ true → c ≡ 32
+space_is c e = grind (arith, e)
+
+not_space : (b : ℕ) → is_symbol_byte b ≡ true → is_space b ≡ false
+not_space b h = grind (arith, h)
+
+pub not_white : (b : ℕ) → is_symbol_byte b ≡ true → is_white b ≡ false
+not_white b h = grind (arith, h)
+
+-- a byte before a word
+symbol_cons : (b : ℕ) (w : Name) → is_symbol_byte b ≡ true → is_symbol w ≡ true → is_symbol (b ∷ w) ≡ true
+symbol_cons b w h k = by (is_visible b) (b == 36) (list_all is_visible w) (has_byte 36 w) (not (is_empty w)) h k
+  where
+    by : (v d vs ds some : Bool) → (v && not d) ≡ true → (some && vs && not ds) ≡ true → ((v && vs) && not (d || ds)) ≡ true
+    by true false true false true h k = refl
+    by false d vs ds some h k = cc
+    by true true vs ds some h k = cc
+    by true false vs ds false h k = cc
+    by true false false ds true h k = cc
+    by true false true true true h k = cc
+
+symbol_one : (b : ℕ) → is_symbol_byte b ≡ true → is_symbol (b ∷ []) ≡ true
+symbol_one b h = by (is_visible b) (b == 36) h
+  where
+    by : (v d : Bool) → (v && not d) ≡ true → ((v && true) && not (d || false)) ≡ true
+    by true false h = refl
+    by true true h = cc
+    by false d h = cc
+
+abbrev pub split_of : List ℕ → List Name
+split_of bytes = slice_split is_space bytes
+
+pub split_byte : (b : ℕ) (bytes : List ℕ) → is_symbol_byte b ≡ true → split_of (b ∷ bytes) ≡ onto_first b (split_of bytes)
+split_byte b bytes h = rw (not_space b h) refl
+
+pub split_gap : (c : ℕ) (bytes : List ℕ) → is_space c ≡ true → split_of (c ∷ bytes) ≡ [] ∷ split_of bytes
+split_gap c bytes h = rw h refl
+
+-- the first byte, and what follows it
+module _ (b c : ℕ) (bytes : List ℕ) (tidy : is_tidy (b ∷ c ∷ bytes) ≡ true) where
+  pub first_byte : is_symbol_byte b ≡ true
+  first_byte = and_left (is_symbol_byte b) _ tidy
+
+  pub behind_gap : is_space c ≡ true → is_tidy bytes ≡ true
+  behind_gap e = ap (λ u. cond u (is_tidy bytes) (is_tidy (c ∷ bytes))) (sym e) ∙ and_right (is_symbol_byte b) _ tidy
+
+  pub behind_byte : is_space c ≡ false → is_tidy (c ∷ bytes) ≡ true
+  behind_byte e = ap (λ u. cond u (is_tidy bytes) (is_tidy (c ∷ bytes))) (sym e) ∙ and_right (is_symbol_byte b) _ tidy
+
+symbols_onto : (b : ℕ) (parts : List Name) (w : Name) (ws : List Name) → parts ≡ w ∷ ws → is_symbol_byte b ≡ true → list_all is_symbol parts ≡ true → list_all is_symbol (onto_first b parts) ≡ true
+symbols_onto b parts w ws e h k =
+    let these = sym (ap (list_all is_symbol) e) ∙ k in
+    ap (λ r. list_all is_symbol (onto_first b r)) e ∙ and_both (is_symbol (b ∷ w)) _ (symbol_cons b w h (and_left (is_symbol w) _ these)) (and_right (is_symbol w) _ these)
+
+abbrev AreSymbols : List ℕ → Type 0
+AreSymbols bytes = list_all is_symbol (split_of bytes) ≡ true
+
+symbols_step : (b c : ℕ) (bytes : List ℕ) → is_symbol_byte b ≡ true → (t : Bool) → is_space c ≡ t → (t ≡ true → AreSymbols bytes) → (t ≡ false → AreSymbols (c ∷ bytes))
+    → list_all is_symbol (onto_first b (split_of (c ∷ bytes))) ≡ true
+symbols_step b c bytes h true e gap on = ap (λ r. list_all is_symbol (onto_first b r)) (split_gap c bytes e) ∙ and_both _ _ (symbol_one b h) (gap refl)
+symbols_step b c bytes h false e gap on =
+    let p : (x : List ℕ) × (xs : List Name) × (split_of (c ∷ bytes) ≡ x ∷ xs) = first_part (c ∷ bytes) in
+    symbols_onto b (split_of (c ∷ bytes)) p.0 p.1 p.2 h (on refl)
+
+-- each is a symbol
+pub tidy_symbols : (bytes : List ℕ) → is_tidy bytes ≡ true → AreSymbols bytes
+tidy_symbols [] h = cc
+tidy_symbols (b ∷ []) h = ap (list_all is_symbol) (split_byte b [] h) ∙ and_both _ _ (symbol_one b h) refl
+tidy_symbols (b ∷ c ∷ bytes) h =
+    ap (list_all is_symbol) (split_byte b (c ∷ bytes) (first_byte b c bytes h))
+    ∙ symbols_step b c bytes (first_byte b c bytes h) (is_space c) refl (λ e. tidy_symbols bytes (behind_gap b c bytes h e)) (λ e. tidy_symbols (c ∷ bytes) (behind_byte b c bytes h e))
