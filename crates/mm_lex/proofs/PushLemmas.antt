@@ -1,5 +1,5 @@
 -- Words at the end of a buffer.
-use Rattle.std.specs.Prelude.{◌≡◌, ℕ, true, false, ◌==◌, List, [], ◌∷◌, ◌++◌, length, ◌<◌, Result, Ok, Err, is_err, OnOk, refl}
+use Rattle.std.specs.Prelude.{◌≡◌, ℕ, true, false, cond, ◌==◌, List, [], ◌∷◌, ◌++◌, length, ◌<◌, Result, Ok, Err, is_ok, is_err, OnOk, refl}
 use Rattle.std.specs.List.{list_all}
 use Rattle.std.proofs.Common.{◌∙◌, ap, arith, append_assoc}
 use Rattle.std.proofs.lemmas.List.Folds.{list_all-append}
@@ -33,10 +33,10 @@ next-more (a ∷ text) [] new some others e = absurd (no others)
 next-more (a ∷ text) (b ∷ more) new some others e = next (a ∷ text) (b ∷ more) new (ap words_of (e ∙ append_assoc (a ∷ text) (32 ∷ []) (b ∷ more)) ∙ words_of-both a b text more)
 
 module _ {A E : Type 0} (text more new : List ℕ) (len : ℕ) (long : len ≡ length text) where
-  pub more-ok : (r : Result A E) (mid : List ℕ) → false ≡ (len == 0) → false ≡ (length more == 0) → mid ≡ text ++ 32 ∷ [] → OnOk r (new ≡ mid ++ more) → OnOk r (words_of new ≡ words_of text ++ words_of more)
-  more-ok (Ok x) mid h others m e = (next-more text more new (some_by_len text len long h) (some_by_len more (length more) refl others) (e ∙ ap (λ t. t ++ more) m)).0
-  more-ok (Err x) mid h others m e = tt
+  pub more-ok : (r : Result A E) (mid : List ℕ) → false ≡ (len == 0) → false ≡ (length more == 0) → mid ≡ text ++ 32 ∷ [] → new ≡ cond (is_ok r) (mid ++ more) mid → false ≡ is_err r → OnOk r (words_of new ≡ words_of text ++ words_of more)
+  more-ok (Ok x) mid h others m e o = (next-more text more new (some_by_len text len long h) (some_by_len more (length more) refl others) (e ∙ ap (λ t. t ++ more) m)).0
+  more-ok (Err x) mid h others m e o = tt
 
-  pub more-words : (r : Result A E) (mid : List ℕ) → list_all is_word (words_of text) ≡ true → list_all is_word (words_of more) ≡ true → false ≡ (len == 0) → false ≡ (length more == 0) → mid ≡ text ++ 32 ∷ [] → OnOk r (new ≡ mid ++ more) → false ≡ is_err r → list_all is_word (words_of new) ≡ true
+  pub more-words : (r : Result A E) (mid : List ℕ) → list_all is_word (words_of text) ≡ true → list_all is_word (words_of more) ≡ true → false ≡ (len == 0) → false ≡ (length more == 0) → mid ≡ text ++ 32 ∷ [] → new ≡ cond (is_ok r) (mid ++ more) mid → false ≡ is_err r → list_all is_word (words_of new) ≡ true
   more-words (Ok x) mid k w h others m e o = (next-more text more new (some_by_len text len long h) (some_by_len more (length more) refl others) (e ∙ ap (λ t. t ++ more) m)).1 k w
   more-words (Err x) mid k w h others m e o = cc

@@ -1,19 +1,15 @@
-//! A list of words in one buffer, kept inline where it is short.
+//! A list of words in one buffer.
 ghost use Rattle.std.specs.Prelude.{◌≡◌, ◌↔◌, [], ◌∷◌, ◌++◌, ◌==◌, ◌≤◌, length, count_by, IsTrue, IfOk, OnOk, OnErr};
 ghost use Rattle.mm_lex.specs.Words.{spaced, words_of, is_word, AreWords};
 
 use crate::reading::WordIter;
-use smallvec::SmallVec;
 use std::alloc::{AllocError, Global};
 use std::marker::Model;
-
-/// The bytes of a list that stand in the value itself; longer lists take an allocation.
-const INLINE: usize = 16;
 
 /// A list of words in one buffer, with one space between two. Contracts see the list.
 #[derive(Drop)]
 pub struct Words {
-    text: SmallVec<u8, INLINE>,
+    text: Vec<u8>,
 }
 
 impl Model for Words {
@@ -33,15 +29,15 @@ impl Words {
         ensures { result ≡ [] }
     {
         Words {
-            text: SmallVec::new(alloc),
+            text: Vec::new(alloc),
         }
     }
 
-    /// No words, with room for a list whose text has `bytes` bytes. Up to 16 take no memory.
+    /// No words, with room for a list whose text has `bytes` bytes.
     pub fn with_capacity(alloc: Global, bytes: usize) -> Result<Words, AllocError>
         ensures { IfOk result (λ words. words ≡ []) }
     {
-        let text = SmallVec::with_capacity(alloc, bytes)?;
+        let text = Vec::with_capacity(alloc, bytes)?;
         Ok(Words { text })
     }
 
@@ -97,13 +93,13 @@ impl Words {
     pub fn copy(&self, alloc: Global) -> Result<Words, AllocError>
         ensures { IfOk result (λ words. words ≡ self.now) }
     {
-        let text = SmallVec::from_slice(alloc, self.text.as_slice())?;
+        let text = Vec::from_slice(alloc, self.text.as_slice())?;
         Ok(Words { text })
     }
 }
 
 /// Adds the words of another text behind the others.
-fn push_words(text: &mut SmallVec<u8, INLINE>, more: &[u8]) -> Result<(), AllocError>
+fn push_words(text: &mut Vec<u8>, more: &[u8]) -> Result<(), AllocError>
     requires words { AreWords (words_of text.old.items) }
     requires more { AreWords (words_of more.now) }
     ensures ok { OnOk result (words_of text.new.items ≡ words_of text.old.items ++ words_of more.now) }

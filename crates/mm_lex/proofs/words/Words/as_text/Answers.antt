@@ -4,4 +4,4 @@ use Rattle.mm_lex.proofs.WordsLemmas.{spaced-words_of}
 use Rattle.mm_lex.proofs.words.Words.as_text.Goals as goal
 
 pub returns-clause-text : goal.returns-clause-text
-returns-clause-text c = c.as_slice.ensures ∙ (sym (spaced-words_of c.self.inside.text.items) ∙ ap spaced c.self.view_is)
+returns-clause-text c = c.as_slice.ensures.value ∙ (sym (spaced-words_of c.self.inside.text.items) ∙ ap spaced c.self.view_is)
