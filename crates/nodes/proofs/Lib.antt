@@ -1,2 +1,3 @@
 mod ReportLemmas
 mod CountLemmas
+mod DeskLemmas

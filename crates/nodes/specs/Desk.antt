@@ -1,14 +1,19 @@
 -- What a desk answers: what the calls of a cluster answer of the values under the locks.
 -- Source: this project's profile.
 -- The code lets the locks go before it answers, so what is said is said of some such values.
-use Rattle.std.specs.Prelude.{◌≡◌, ℕ, List, Option}
+use Rattle.std.specs.Prelude.{◌≡◌, ◌⊎◌, ℕ, List, Option, Result, Ok, Err}
 use Rattle.library.specs.declared.listed.Listed.{Listed}
 use Rattle.library.specs.declared.verdict.Verdict.{Verdict}
 use Rattle.library.specs.LibraryOf.{status}
 use Rattle.library.specs.Listed.{listed}
 use Rattle.world.specs.declared.carried.Carried.{Carried}
 use Rattle.cluster.specs.declared.compare.Ahead.{Ahead}
-use Rattle.switch.specs.Switch.{Shared}
+use Rattle.net.specs.declared.event.Event.{Event}
+use Rattle.net.specs.declared.fault.StepFault.{StepFault}
+use Rattle.net.specs.declared.fault.StepFault.TheVariants.{Stopped}
+use Rattle.net.specs.World.{World}
+use Rattle.world.specs.Carried.{carried_size}
+use Rattle.switch.specs.Switch.{Shared, world_of, Acts, Restarts}
 use Rattle.cluster.specs.Belongs.{Belongs, IsAhead}
 use Rattle.cluster.specs.Cell.{Cell, IsCell}
 
@@ -36,3 +41,25 @@ pub record IsCompared (j k : ℕ) (ahead : Ahead) : Type 0 where
   pub one_belongs : Belongs one shared
   pub other_belongs : Belongs other shared
   pub compares : IsAhead ahead one.node.library.statements other.node.library.statements
+
+-- What a desk does, each once: an event of the history that the nodes share, as it was at some moment.
+
+-- the event is answered so
+pub record IsPlayed (e : Event Carried) (answer : Result ℕ StepFault) : Type 0 where
+  pub old : Shared Carried
+  pub new : Shared Carried
+  pub world : World Carried
+  pub is_after : world_of carried_size old ≡ Ok world
+  pub acts : Acts carried_size world old new e answer
+
+-- the restart of node k is answered so
+pub record IsRestarted (k : ℕ) (answer : Result ℕ StepFault) : Type 0 where
+  pub old : Shared Carried
+  pub new : Shared Carried
+  pub world : World Carried
+  pub is_after : world_of carried_size old ≡ Ok world
+  pub restarts : Restarts carried_size world old new k answer
+
+-- the fault is that the cluster is stopped, or that of the event
+abbrev pub IsPlayFault : Event Carried → StepFault → Type 0
+IsPlayFault e fault = (fault ≡ Stopped) ⊎ IsPlayed e (Err fault)

@@ -1,6 +1,7 @@
 //! What stands under the switch's lock.
-ghost use Rattle.std.specs.Prelude.{◌≡◌};
+ghost use Rattle.std.specs.Prelude.{◌≡◌, ◌⊎◌, Err, IsOk, MatchResult};
 ghost use Rattle.std.specs.Result.{ForOk};
+ghost use Rattle.net.specs.declared.fault.StepFault.TheVariants.{EventsSpent, NoNode};
 ghost use Rattle.world.specs.Carried.{carried_size};
 ghost use Rattle.switch.specs.Switch.{world_of};
 ghost use Rattle.nodes.specs.Report.{is_own};
@@ -37,7 +38,9 @@ impl<K: Keep<Carried>> Board<K> {
         &mut self,
         alloc: Global,
         answer: Result<u64, StepFault>,
-    ) -> Result<Vec<Hint>, StepFault> {
+    ) -> Result<Vec<Hint>, StepFault>
+        ensures { MatchResult answer (λ _. IsOk result) (λ fault. result ≡ Err fault) }
+    {
         let count = answer?;
         let before = mem::replace(&mut self.posted, count);
         Ok(self.hints(alloc, before, count))
@@ -50,7 +53,9 @@ impl<K: Keep<Carried>> Board<K> {
         alloc: Global,
         others: u64,
         answer: Result<u64, StepFault>,
-    ) -> Result<Vec<Hint>, StepFault> {
+    ) -> Result<Vec<Hint>, StepFault>
+        ensures { MatchResult answer (λ _. IsOk result) (λ fault. result ≡ Err fault) }
+    {
         let count = answer?;
         self.posted = count;
         Ok(self.hints(alloc, count.saturating_sub(others), count))
@@ -75,7 +80,9 @@ impl<K: Keep<Carried>> Board<K> {
     }
 
     /// What an event meets whose node is not there.
-    pub fn without_node(&self) -> StepFault {
+    pub fn without_node(&self) -> StepFault
+        ensures { (result ≡ EventsSpent) ⊎ (result ≡ NoNode) }
+    {
         if self.switch.history().len() as u64 >= MOST_EVENTS {
             StepFault::EventsSpent
         } else {

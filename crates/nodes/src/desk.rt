@@ -1,8 +1,9 @@
 //! What any thread may call.
-ghost use Rattle.std.specs.Prelude.{◌≡◌, ◌≤◌, ◌<◌, ◌⊎◌, ℕ, Ok, Err, IfOk, IfErr, IsOkUnless};
-ghost use Rattle.net.specs.declared.fault.StepFault.TheVariants.{NoNode, Memory, Apart};
+ghost use Rattle.std.specs.Prelude.{◌≡◌, ◌≤◌, ◌<◌, ◌⊎◌, ℕ, Ok, Err, IfOk, IfErr, OnOk, IsErrAnd, IsOkUnless};
+ghost use Rattle.net.specs.declared.event.Event.TheVariants.{Offer, Begin};
+ghost use Rattle.net.specs.declared.fault.StepFault.TheVariants.{NoNode, EventsSpent, Memory, Apart, Stopped};
 ghost use Rattle.cluster.specs.declared.compare.Ahead.TheVariants.{Same};
-ghost use Rattle.nodes.specs.Desk.{IsListed, IsStatus, IsCompared};
+ghost use Rattle.nodes.specs.Desk.{IsListed, IsStatus, IsCompared, IsPlayed, IsPlayFault, IsRestarted};
 
 use crate::shared::Shared;
 use cluster::{Ahead, begin_on, list_on, offer_on, restart_on};
@@ -33,7 +34,10 @@ impl<G: Gate, K: Keep<Carried>> Desk<G, K> {
     /// Offers an entry at node `k`.
     ///
     /// Errors: `Stopped` once the cluster is stopped; else as of `cluster::offer_on`.
-    pub fn submit<R: Wait>(&self, rt: &R, k: u8, entry: Entry) -> Result<(), StepFault> {
+    pub fn submit<R: Wait>(&self, rt: &R, k: u8, entry: Entry) -> Result<(), StepFault>
+        ensures offered { OnOk result ((count : ℕ) × IsPlayed (Offer k (record { 0 = entry })) (Ok count)) }
+        ensures refused { IfErr result (IsPlayFault (Offer k (record { 0 = entry }))) }
+    {
         if self.shared.is_stopped(rt) {
             return Err(StepFault::Stopped);
         }
@@ -49,7 +53,10 @@ impl<G: Gate, K: Keep<Carried>> Desk<G, K> {
     /// Node `k` begins a ballot.
     ///
     /// Errors: `Stopped` once the cluster is stopped; else as of `cluster::begin_on`.
-    pub fn begin<R: Wait>(&self, rt: &R, k: u8) -> Result<(), StepFault> {
+    pub fn begin<R: Wait>(&self, rt: &R, k: u8) -> Result<(), StepFault>
+        ensures begun { OnOk result ((count : ℕ) × IsPlayed (Begin k) (Ok count)) }
+        ensures refused { IfErr result (IsPlayFault (Begin k)) }
+    {
         if self.shared.is_stopped(rt) {
             return Err(StepFault::Stopped);
         }
@@ -64,9 +71,13 @@ impl<G: Gate, K: Keep<Carried>> Desk<G, K> {
 
     /// Node `k` restarts with what its keep has.
     ///
-    /// Errors: `Stopped` once the cluster is stopped; `EventsSpent` and then `NoNode` where there is no such node; else as of
-    /// `cluster::restart_on`.
-    pub fn restart<R: Wait>(&self, rt: &R, k: u8) -> Result<(), StepFault> {
+    /// Errors: `Stopped` once the cluster is stopped; `EventsSpent` and then `NoNode` where there is no such node; `Apart` where the
+    /// cell is not of its node; else as of `cluster::restart_on`.
+    pub fn restart<R: Wait>(&self, rt: &R, k: u8) -> Result<(), StepFault>
+        ensures restarted { OnOk result ((count : ℕ) × IsRestarted k (Ok count)) }
+        ensures refused { k < self.now → IfErr result (λ fault. (fault ≡ Stopped) ⊎ (fault ≡ Apart) ⊎ IsRestarted k (Err fault)) }
+        ensures no_node { self.now ≤ k → IsErrAnd result (λ fault. (fault ≡ Stopped) ⊎ (fault ≡ EventsSpent) ⊎ (fault ≡ NoNode)) }
+    {
         if self.shared.is_stopped(rt) {
             return Err(StepFault::Stopped);
         }
@@ -76,6 +87,9 @@ impl<G: Gate, K: Keep<Carried>> Desk<G, K> {
                 return Err(self.shared.board.lock(rt).without_node());
             };
             let mut cell = lock.lock(rt);
+            if cell.at() != k {
+                return Err(StepFault::Apart);
+            }
             let mut board = self.shared.board.lock(rt);
             let answer = restart_on(&mut cell, &mut board.switch);
             board.asked(self.shared.alloc, others, answer)?
