@@ -1,6 +1,6 @@
-//! What the tests share: a statement added to a scope and its frames, and the items of its proof.
-ghost use Rattle.std.specs.Prelude.{◌≡◌, ◌∷◌, ◌++◌, [], OnSome};
-ghost use Rattle.mm_read.specs.Statements.{IsShaped};
+//! What the tests share: the book's first example, statements added to a scope and its frames, and the items of a proof.
+ghost use Rattle.std.specs.Prelude.{◌≡◌, ◌∷◌, ◌++◌, [], OnSome, IfSome};
+ghost use Rattle.mm_read.specs.Statements.{IsShaped, AreShaped, Database};
 ghost use Rattle.scope.specs.Active.{bare};
 
 use frame::Frames;
@@ -9,6 +9,23 @@ use mm_read::Stmt;
 use proof_code::{CodeFault, Items, is_compressed, normal, packed};
 use scope::{Scope, Steps};
 use std::alloc::Global;
+
+/// The book's first example.
+pub const NORMAL: &[u8] =
+    b"$c 0 + = -> ( ) term wff |- $. $v t r s P Q $. tt $f term t $. tr $f term r $. \
+    ts $f term s $. wp $f wff P $. wq $f wff Q $. tze $a term 0 $. tpl $a term ( t + r ) $. \
+    weq $a wff t = r $. wim $a wff ( P -> Q ) $. a1 $a |- ( t = r -> ( t = s -> r = s ) ) $. \
+    a2 $a |- ( t + 0 ) = t $. ${ min $e |- P $. maj $e |- ( P -> Q ) $. mp $a |- Q $. $} \
+    th1 $p |- t = t $= tt tze tpl tt weq tt tt weq tt a2 tt tze tpl tt weq tt tze tpl tt weq tt tt weq \
+    wim tt a2 tt tze tpl tt tt a1 mp mp $.";
+
+/// The same with its proof compressed.
+pub const PACKED: &[u8] =
+    b"$c 0 + = -> ( ) term wff |- $. $v t r s P Q $. tt $f term t $. tr $f term r $. \
+    ts $f term s $. wp $f wff P $. wq $f wff Q $. tze $a term 0 $. tpl $a term ( t + r ) $. \
+    weq $a wff t = r $. wim $a wff ( P -> Q ) $. a1 $a |- ( t = r -> ( t = s -> r = s ) ) $. \
+    a2 $a |- ( t + 0 ) = t $. ${ min $e |- P $. maj $e |- ( P -> Q ) $. mp $a |- Q $. $} \
+    th1 $p |- t = t $= ( tze tpl weq a2 wim a1 mp ) ABCZADZAADZAEZJJKFLIAAGHH $.";
 
 /// Adds the statement, where it is legal next.
 pub fn push(scope: &mut Scope, frames: &mut Frames, stmt: &Stmt) -> Option<()>
@@ -23,6 +40,24 @@ pub fn push(scope: &mut Scope, frames: &mut Frames, stmt: &Stmt) -> Option<()>
     }
     frames.push(scope, stmt, &mut steps).ok()?;
     scope.add(stmt, &mut steps).ok()
+}
+
+/// Adds the statements, where each is legal next, and lends the last.
+pub fn push_all<'a>(
+    scope: &mut Scope,
+    frames: &mut Frames,
+    statements: &'a [Stmt],
+) -> Option<&'a Stmt>
+    requires shaped { AreShaped statements.now }
+    requires same { scope.old.statements ≡ frames.old.statements }
+    ensures { IfSome result (λ last. (S : Database) × (frames.new.statements ≡ S ++ bare last.now ∷ [])) }
+{
+    let mut last = None;
+    for stmt in statements {
+        push(scope, frames, stmt)?;
+        last = Some(stmt);
+    }
+    last
 }
 
 /// The items that the tokens write behind these mandatory labels.

@@ -3,29 +3,13 @@ ghost use Rattle.std.specs.Prelude.{◌≡◌, ◌∷◌, ◌++◌, []};
 ghost use Rattle.mm_read.specs.Statements.{AreShaped, Database};
 ghost use Rattle.scope.specs.Active.{bare};
 
-use crate::database::{items_of, push};
+use crate::database::{NORMAL, PACKED, items_of, push_all};
 use frame::Frames;
 use mm_lex::Words;
 use mm_read::{Stmt, read};
 use scope::Scope;
 use std::alloc::Global;
 use verify::{Answer, Tree, TreeFault, check, derivation};
-
-/// The book's first example.
-const NORMAL: &[u8] =
-    b"$c 0 + = -> ( ) term wff |- $. $v t r s P Q $. tt $f term t $. tr $f term r $. \
-    ts $f term s $. wp $f wff P $. wq $f wff Q $. tze $a term 0 $. tpl $a term ( t + r ) $. \
-    weq $a wff t = r $. wim $a wff ( P -> Q ) $. a1 $a |- ( t = r -> ( t = s -> r = s ) ) $. \
-    a2 $a |- ( t + 0 ) = t $. ${ min $e |- P $. maj $e |- ( P -> Q ) $. mp $a |- Q $. $} \
-    th1 $p |- t = t $= tt tze tpl tt weq tt tt weq tt a2 tt tze tpl tt weq tt tze tpl tt weq tt tt weq \
-    wim tt a2 tt tze tpl tt tt a1 mp mp $.";
-
-const PACKED: &[u8] =
-    b"$c 0 + = -> ( ) term wff |- $. $v t r s P Q $. tt $f term t $. tr $f term r $. \
-    ts $f term s $. wp $f wff P $. wq $f wff Q $. tze $a term 0 $. tpl $a term ( t + r ) $. \
-    weq $a wff t = r $. wim $a wff ( P -> Q ) $. a1 $a |- ( t = r -> ( t = s -> r = s ) ) $. \
-    a2 $a |- ( t + 0 ) = t $. ${ min $e |- P $. maj $e |- ( P -> Q ) $. mp $a |- Q $. $} \
-    th1 $p |- t = t $= ( tze tpl weq a2 wim a1 mp ) ABCZADZAADZAEZJJKFLIAAGHH $.";
 
 /// What met no memory is answered when it is asked again: run with each allocation refused in turn.
 #[test]
@@ -69,12 +53,8 @@ fn nodes_in(
     requires shaped { AreShaped statements.now }
     requires same { scope.old.statements ≡ frames.old.statements }
 {
-    let mut nodes = None;
-    for stmt in statements {
-        push(scope, frames, stmt)?;
-        nodes = nodes_at(alloc, frames, stmt, mandatory);
-    }
-    nodes
+    let last = push_all(scope, frames, statements)?;
+    nodes_at(alloc, frames, last, mandatory)
 }
 
 /// The same of the statement that was pushed last.

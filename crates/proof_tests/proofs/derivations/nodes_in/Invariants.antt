@@ -1,5 +1,0 @@
-use Rattle.std.proofs.Common.{◌≡◌}
-use Rattle.proof_tests.proofs.derivations.nodes_in.Given as goal
-
-abbrev pub invariant-loop-stmt : goal.invariant-loop-stmt
-invariant-loop-stmt l = l.scope.statements ≡ l.frames.statements

@@ -1,0 +1,153 @@
+//! Steps of proofs with recalls: each once, the essential ones alone, and none of a proof that is wrong.
+ghost use Rattle.std.specs.Prelude.{◌≡◌, ◌≤◌, ◌∷◌, ◌++◌, [], length};
+ghost use Rattle.mm_read.specs.Statements.{AreShaped, Database};
+ghost use Rattle.scope.specs.Active.{bare};
+ghost use Rattle.verify.specs.Right.{IsRight};
+
+use crate::database::{PACKED, items_of, push_all};
+use frame::Frames;
+use mm_lex::Words;
+use mm_read::{Stmt, read};
+use proof_code::Items;
+use scope::Scope;
+use std::alloc::Global;
+use steps::{ProofTable, essential_table, proof_table};
+use verify::{Answer, check};
+
+/// A text, whether the essential steps alone are wanted, and of each step what it cites, by position, and how many it takes.
+struct Row {
+    text: &'static [u8],
+    is_essential: bool,
+    steps: &'static [(usize, usize)],
+}
+
+/// The same proof with its last letter wrong.
+const WRONG: &[u8] =
+    b"$c 0 + = -> ( ) term wff |- $. $v t r s P Q $. tt $f term t $. tr $f term r $. \
+    ts $f term s $. wp $f wff P $. wq $f wff Q $. tze $a term 0 $. tpl $a term ( t + r ) $. \
+    weq $a wff t = r $. wim $a wff ( P -> Q ) $. a1 $a |- ( t = r -> ( t = s -> r = s ) ) $. \
+    a2 $a |- ( t + 0 ) = t $. ${ min $e |- P $. maj $e |- ( P -> Q ) $. mp $a |- Q $. $} \
+    th1 $p |- t = t $= ( tze tpl weq a2 wim a1 mp ) ABCZADZAADZAEZJJKFLIAAGHF $.";
+
+const ROWS: [Row; 3] = [
+    Row {
+        text: PACKED,
+        is_essential: false,
+        steps: &[
+            (3, 0),
+            (8, 0),
+            (9, 2),
+            (10, 2),
+            (10, 2),
+            (13, 1),
+            (11, 2),
+            (12, 3),
+            (17, 4),
+            (17, 4),
+        ],
+    },
+    Row {
+        text: PACKED,
+        is_essential: true,
+        steps: &[(13, 0), (12, 0), (17, 2), (17, 2)],
+    },
+    Row {
+        text: WRONG,
+        is_essential: false,
+        steps: &[],
+    },
+];
+
+/// What met no memory is answered when it is asked again: run with each allocation refused in turn.
+#[test]
+fn steps_after_a_refused_growth(rt: HostRuntime) {
+    for row in ROWS {
+        let mut shown = shows(rt.alloc(), &row);
+        if shown.is_none() {
+            shown = shows(rt.alloc(), &row);
+        }
+        assert_eq!(rt; shown, Some(true));
+    }
+}
+
+/// Whether the last proof has the steps of the row, none where it is wrong; nothing where there is no memory.
+fn shows(alloc: Global, row: &Row) -> Option<bool> {
+    match (read(alloc, row.text), read(alloc, b"$c tt $.")) {
+        (Ok(statements), Ok(labels)) => match labels.first() {
+            Some(Stmt::Const(mandatory)) => {
+                last_shows(alloc, statements.as_slice(), mandatory, row)
+            }
+            _ => None,
+        },
+        _ => None,
+    }
+}
+
+/// The same of these statements, where the last theorem has these mandatory labels.
+fn last_shows(
+    alloc: Global,
+    statements: &[Stmt],
+    mandatory: &Words,
+    row: &Row,
+) -> Option<bool>
+    requires { AreShaped statements.now }
+{
+    let mut scope = Scope::new(alloc);
+    let mut frames = Frames::new(alloc);
+    let last = push_all(&mut scope, &mut frames, statements)?;
+    shows_at(alloc, &frames, last, mandatory, row)
+}
+
+/// The same of the statement that was pushed last.
+fn shows_at(
+    alloc: Global,
+    frames: &Frames,
+    stmt: &Stmt,
+    mandatory: &Words,
+    row: &Row,
+) -> Option<bool>
+    requires { (S : Database) × (frames.now.statements ≡ S ++ bare stmt.now ∷ []) }
+{
+    let Stmt::Prove { proof, .. } = stmt else {
+        return None;
+    };
+    let at = frames.len();
+    let items = items_of(alloc, proof, mandatory).ok()?;
+    match check(alloc, frames, at, &items).ok()? {
+        Answer::Proved => table_shows(alloc, frames, at, &items, row),
+        Answer::Wrong => Some(row.steps.is_empty()),
+    }
+}
+
+/// The same of the items of a right proof.
+fn table_shows(
+    alloc: Global,
+    frames: &Frames,
+    at: usize,
+    items: &Items,
+    row: &Row,
+) -> Option<bool>
+    requires right { IsRight frames.now.statements at items.now }
+    requires at { (1 ≤ at) × (at ≤ length frames.now.statements) }
+{
+    let steps = proof_table(alloc, frames, at, items).ok()?;
+    if row.is_essential {
+        let essential = essential_table(alloc, frames, at, &steps).ok()?;
+        return Some(has_steps(&essential, row.steps));
+    }
+    Some(has_steps(&steps, row.steps))
+}
+
+/// Whether the steps of the table cite these positions and take so many steps each.
+fn has_steps(table: &ProofTable, steps: &[(usize, usize)]) -> bool {
+    if table.len() != steps.len() {
+        return false;
+    }
+    for place in 0..table.len() {
+        let (position, takes) = steps[place];
+        if table.position(place) != position || table.taken(place).len() != takes {
+            return false;
+        }
+    }
+    true
+}
