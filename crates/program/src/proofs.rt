@@ -1,12 +1,16 @@
 //! The command `proof`: the steps of a proof as lines, as a picture or as a page.
+ghost use Rattle.std.specs.Prelude.{◌≤◌, length};
+ghost use Rattle.steps.specs.Rows.{AreRows};
+
 use crate::database::fault_line;
 use crate::streams::print;
 use commands::ProofForm;
+use frame::Frames;
 use library::{AskFault, Library};
 use proof_pages::{Theorem, WriteFault, write_dot, write_page, write_plain};
 use std::alloc::{AllocError, Global};
 use std::io::Write;
-use steps::{essential_table, proof_table};
+use steps::{ProofTable, essential_table, proof_table};
 
 /// What is wanted of a proof.
 #[derive(Drop)]
@@ -71,16 +75,17 @@ fn write_proof<O: Write>(
     let (at, items) = library.items(wanted.label)?;
     let frames = library.frames();
     let steps = proof_table(alloc, frames, at, &items)?;
-    let essential = essential_table(alloc, frames, at, &steps)?;
-    let listed = if wanted.is_essential {
-        &essential
-    } else {
-        &steps
-    };
     match wanted.form {
-        ProofForm::Steps => write_plain(alloc, output, frames, listed)?,
-        ProofForm::Picture => write_dot(alloc, output, frames, wanted.label, listed)?,
+        ProofForm::Steps => {
+            let listed = listed(alloc, frames, at, steps, wanted.is_essential)?;
+            write_plain(alloc, output, frames, &listed)?
+        }
+        ProofForm::Picture => {
+            let listed = listed(alloc, frames, at, steps, wanted.is_essential)?;
+            write_dot(alloc, output, frames, wanted.label, &listed)?
+        }
         ProofForm::Page => {
+            let essential = essential_table(alloc, frames, at, &steps)?;
             let axioms = library.trace(wanted.label)?;
             let users = library.usage(wanted.label, false)?;
             let theorem = Theorem {
@@ -96,4 +101,22 @@ fn write_proof<O: Write>(
         }
     }
     Ok(())
+}
+
+/// The steps that are listed: all, or the essential ones alone.
+fn listed(
+    alloc: Global,
+    frames: &Frames,
+    at: usize,
+    steps: ProofTable,
+    is_essential: bool,
+) -> Result<ProofTable, AllocError>
+    requires at { (1 ≤ at) × (at ≤ length frames.now.statements) }
+    requires rows { AreRows frames.now.statements at frames.now.names steps }
+{
+    if is_essential {
+        essential_table(alloc, frames, at, &steps)
+    } else {
+        Ok(steps)
+    }
 }

@@ -1,13 +1,29 @@
-use Rattle.scope.specs.Active.{bare}
+use Rattle.std.specs.Prelude.{◌≡◌, ℕ, ◌≤◌, length}
+use Rattle.mm_read.specs.declared.stmt.Stmt.{Stmt}
+use Rattle.mm_read.specs.Statements.{Database}
+use Rattle.scope.specs.Active.{bare, bares}
+use Rattle.verify.specs.Right.{IsProvable}
 use Rattle.verify.proofs.MandatoryLemmas.{place_of}
 use Rattle.library.proofs.ItemsLemmas.{provable-bare}
 use Rattle.program.proofs.proofs.write_proof.Goals as goal
 
+within : (S F : Database) (at : ℕ) (s : Stmt) → F ≡ bares S → IsProvable S at s → (1 ≤ at) × (at ≤ length F)
+within S F at s same p = let provable = provable-bare S F at s same p in place_of F at (bare s) provable.stands
+
+pub listed-requires-clause-at : goal.listed-requires-clause-at
+listed-requires-clause-at g c =
+    let named = c.in_ok-at.ensures.items.named in
+    within c.args.library.now.replica.statements c.frames-frames.result.now.statements c.in_ok-at.at named.stmt c.frames-frames.ensures.same named.provable
+
+pub listed-in-Picture-requires-clause-at : goal.listed-in-Picture-requires-clause-at
+listed-in-Picture-requires-clause-at g c =
+    let named = c.in_ok-at.ensures.items.named in
+    within c.args.library.now.replica.statements c.frames-frames.result.now.statements c.in_ok-at.at named.stmt c.frames-frames.ensures.same named.provable
+
 pub essential_table-requires-clause-at : goal.essential_table-requires-clause-at
 essential_table-requires-clause-at g c =
     let named = c.in_ok-at.ensures.items.named in
-    let provable = provable-bare c.args.library.now.replica.statements c.frames-frames.result.now.statements c.in_ok-at.at named.stmt c.frames-frames.ensures.same named.provable in
-    place_of c.frames-frames.result.now.statements c.in_ok-at.at (bare named.stmt) provable.stands
+    within c.args.library.now.replica.statements c.frames-frames.result.now.statements c.in_ok-at.at named.stmt c.frames-frames.ensures.same named.provable
 
 pub write_page-requires : goal.write_page-requires
 write_page-requires g c =
