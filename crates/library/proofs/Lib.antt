@@ -3,6 +3,7 @@ pub mod AskedLemmas
 pub mod TraceLemmas
 pub mod WalkLemmas
 pub mod UsersLemmas
+pub mod MayCiteLemmas
 pub mod MarksLemmas
 pub mod FrontLemmas
 pub mod LaterLemmas

@@ -56,7 +56,7 @@ module _ (tokens mandatory : List Name) (r : Result (List Item) CodeFault) (foun
 
 -- ---- proofs
 
-same-statement : (S : Database) (at : ℕ) (s r : Stmt) → IsProvable S at s → IsProvable S at r → s ≡ r
+pub same-statement : (S : Database) (at : ℕ) (s r : Stmt) → IsProvable S at s → IsProvable S at r → s ≡ r
 same-statement S at s r p q = let e : Some s ≡ Some r = sym p.stands ∙ q.stands in cc
 
 module _ (S F : Database) (at : ℕ) (s : Stmt) (same : F ≡ bares S) (provable : IsProvable S at s) where

@@ -1,16 +1,19 @@
 -- Which positions a walk down from a `$p` has marked.
 -- Source: none; for the private functions of `uses`.
 -- The marks are a list with one place for each position, the first for position 1.
-use Rattle.std.specs.Prelude.{◌≡◌, ◌↔◌, ◌⊎◌, ℕ, zero, suc, ◌<◌, ◌≤◌, Bool, true, false, List, [], ◌∷◌, ◌++◌, length, cond, ◌&&◌, Option, Some, None, slice_get, slice_index_or, slice_set}
-use Rattle.mm_lex.specs.Alphabet.{Name}
+use Rattle.std.specs.Prelude.{◌≡◌, ◌↔◌, ◌⊎◌, ℕ, zero, suc, ◌<◌, ◌≤◌, Bool, true, false, List, [], ◌∷◌, ◌++◌, length, cond, ◌&&◌, if◌then◌else◌, Option, Some, None, slice_get, slice_index_or, slice_set}
+use Rattle.std.specs.List.{list_any}
+use Rattle.mm_lex.specs.Alphabet.{Name, name_eq, has_name}
 use Rattle.mm_read.specs.declared.stmt.Stmt.{Stmt}
 use Rattle.mm_read.specs.declared.stmt.Stmt.TheVariants.{Axiom}
 use Rattle.mm_read.specs.Statements.{Database}
-use Rattle.scope.specs.Active.{stmt_at}
+use Rattle.scope.specs.Active.{before, stmt_at}
+use Rattle.frame.specs.FrameOf.{hypotheses}
 use Rattle.frame.specs.Citations.{Carries}
 use Rattle.frame.specs.Reading.{IsPosition}
 use Rattle.proof_code.specs.declared.item.Item.{Item}
 use Rattle.proof_code.specs.declared.item.Item.TheVariants.{Cite}
+use Rattle.proof_code.specs.Writes.{finish}
 use Rattle.verify.specs.Proves.{label_or_none}
 use Rattle.library.specs.Uses.{Cites}
 
@@ -103,3 +106,17 @@ pub record NotesUser (S : Database) (all : Bool) (at : ℕ) (old new : List Bool
   pub meets : found ≡ true ↔ ProofMeets S at old
   pub marks : new ≡ mark (cond (found && all) (Some at) None) old
   pub labels : after ≡ before ++ cond found (label_or_none (stmt_at S at) ∷ []) []
+
+-- the tokens before `)`: those that a compressed proof lists, behind `(`, or all of a normal one
+abbrev pub listed_in : List Name → List Name
+listed_in [] = []
+listed_in (token ∷ tokens) = if name_eq token finish then [] else token ∷ listed_in tokens
+
+-- none of them is the label of a statement that is marked
+abbrev pub ListsNone : Database → List Name → List Bool → Type 0
+ListsNone S tokens marks = (a : ℕ) (s : Stmt) (label : Name) → IsMarked marks a → Carries S a s label → has_name label (listed_in tokens) ≡ false
+
+-- nor is a mandatory hypothesis of the statement s at a position marked
+pub record MeetsNothing (S : Database) (at : ℕ) (s : Stmt) (tokens : List Name) (marks : List Bool) : Type 0 where
+  pub mandatory : list_any (λ position. is_marked marks (Some position)) (hypotheses (before S at) s) ≡ false
+  pub lists : ListsNone S tokens marks

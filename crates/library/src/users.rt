@@ -1,16 +1,18 @@
 //! Who uses a statement: the `$p` that cite it, and those that cite one which rests on it.
-ghost use Rattle.std.specs.Prelude.{◌≡◌, ℕ, ◌≤◌, ◌↔◌, true, length, IfOk, OnOk};
+ghost use Rattle.std.specs.Prelude.{◌≡◌, ℕ, ◌≤◌, ◌↔◌, true, false, Some, length, IfOk, OnOk};
 ghost use Rattle.std.specs.List.{list_any};
-ghost use Rattle.scope.specs.Active.{bares};
+ghost use Rattle.mm_read.specs.declared.stmt.Stmt.{Stmt as Statement};
+ghost use Rattle.scope.specs.Active.{bares, stmt_at};
+ghost use Rattle.frame.specs.FrameOf.{HasAssertion};
 ghost use Rattle.frame.specs.Reading.{HasLabelsOnce};
 ghost use Rattle.library.specs.Good.{Good};
 ghost use Rattle.library.specs.Uses.{IsUser, AreLabelsOf};
-ghost use Rattle.library.specs.Marks.{place_of, is_marked, ItemsMeet, NotesUser};
+ghost use Rattle.library.specs.Marks.{place_of, is_marked, ItemsMeet, ListsNone, MeetsNothing, NotesUser};
 
 use crate::items::items_of;
 use crate::uses::{mark_position, place_of, places_of};
 use frame::Frames;
-use mm_lex::Word;
+use mm_lex::{Word, Words};
 use mm_read::Stmt;
 use proof_code::Items;
 use std::alloc::{AllocError, Global};
@@ -68,6 +70,9 @@ fn note_user(
     let Stmt::Prove { label, proof, .. } = &statements[at - 1] else {
         return Ok(());
     };
+    if !may_meet(alloc, frames, at, proof, sought)? {
+        return Ok(());
+    }
     let Some(items) = items_of(alloc, frames, statements, at, proof)? else {
         return Ok(());
     };
@@ -76,6 +81,50 @@ fn note_user(
         mark_position(sought, if all { Some(at) } else { None });
     }
     Ok(())
+}
+
+/// Whether the `$p` at a position has a marked one among its mandatory hypotheses, or its tokens list the label of one. Where
+/// neither is so its letters need not be read.
+fn may_meet(
+    alloc: Global,
+    frames: &Frames,
+    at: usize,
+    tokens: &Words,
+    marks: &[bool],
+) -> Result<bool, AllocError>
+    requires assertion { (s : Statement) × HasAssertion frames.now.statements at s }
+    requires once { HasLabelsOnce frames.now.statements }
+    ensures { IfOk result (λ found. found ≡ false → (s : Statement) → stmt_at frames.now.statements at ≡ Some s → MeetsNothing frames.now.statements at s tokens.now marks.now) }
+{
+    let mut mandatory = Vec::new(alloc);
+    frames.mandatory(at, &mut mandatory)?;
+    Ok(has_marked(&mandatory, marks) || lists_marked(frames, tokens, marks))
+}
+
+/// Whether one of the positions is marked.
+fn has_marked(positions: &[u32], marks: &[bool]) -> bool
+    ensures { result ≡ list_any (λ position. is_marked marks.now (Some position)) positions.now }
+{
+    positions
+        .iter()
+        .any(|position| is_marked(marks, Some(*position as usize)))
+}
+
+/// Whether a token before `)` is the label of a statement that is marked.
+fn lists_marked(frames: &Frames, tokens: &Words, marks: &[bool]) -> bool
+    requires once { HasLabelsOnce frames.now.statements }
+    ensures { result ≡ false → ListsNone frames.now.statements tokens.now marks.now }
+{
+    let mut left = tokens.iter();
+    while let Some(token) = left.next() {
+        if token == b")".as_slice() {
+            return false;
+        }
+        if is_marked(marks, frames.position(token)) {
+            return true;
+        }
+    }
+    false
 }
 
 /// Whether an item cites a statement that is marked.
