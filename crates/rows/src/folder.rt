@@ -1,8 +1,7 @@
 //! The rows of all files, one after another.
 use crate::files::{row_files, text_of};
 use crate::judging::judge;
-use crate::parse::{Unread, parse_rows};
-use crate::row::Row;
+use cases::{Row, Unread, parse_rows};
 use std::io;
 use std::rt::Files;
 use std::sync::Wait;

@@ -1,7 +1,8 @@
 //! Whether a row holds.
-use crate::row::{Choice, Cut, Faults, Row, Way};
-use crate::streams::{FailingReader, FailingWriter};
-use crate::wanted::{Printed, Wanted, difference, status_of};
+use cases::{
+    Choice, Cut, FailingReader, FailingWriter, Faults, Printed, Row, Wanted, Way, difference,
+    status_of,
+};
 use program::run;
 use std::alloc::{AllocError, Global};
 use std::io::Read;

@@ -1,17 +1,12 @@
 //! Runs the rows of a folder: each is a command line, an input, and what the program prints of it.
 //!
-//! Reading order: `row` (what a row says), `texts` and `parse` (how it is written), `streams` (readers and writers that fail), `wanted`
-//! and `judging` (whether it holds), `files` and `folder` (`run_files`).
+//! What a row says and how it is written stands in the crate `cases`. Reading order: `judging` (whether a row holds), `files` and
+//! `folder` (`run_files`).
 #![tactic(auto)]
 
 mod files;
 mod folder;
 mod judging;
-mod parse;
-mod row;
-mod streams;
-mod texts;
-mod wanted;
 
 use folder::run_files;
 use std::process::ExitCode;

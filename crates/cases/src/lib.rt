@@ -1,0 +1,18 @@
+//! Rows: what a row says, how it is written, and whether what was printed is what it wants.
+//!
+//! The crate above uses `parse_rows` and `difference`, and runs what a row names in between.
+//!
+//! Reading order: `row` (what a row says), `texts` and `parse` (how it is written), `streams` (readers and writers that fail), `wanted`
+//! (whether it holds).
+#![tactic(auto)]
+
+mod parse;
+mod row;
+mod streams;
+mod texts;
+mod wanted;
+
+pub use parse::{Unread, parse_rows};
+pub use row::{Choice, Cut, Faults, Row, Way};
+pub use streams::{FailingReader, FailingWriter};
+pub use wanted::{Printed, Wanted, difference, status_of};
