@@ -2,14 +2,17 @@
 //!
 //! The crate above uses `parse_words`, whose answer is an enum of this crate. No other crate knows how a command line is read.
 //!
-//! Reading order: `request` (what can be asked), `weights` (of a command line), `grammar` (its commands and options), `parse`.
+//! Reading order: `request` (what can be asked), `worker_count` and `weights` (numbers of a command line), `grammar` (its commands and
+//! options), `parse`.
 #![tactic(auto)]
 
 mod grammar;
 mod parse;
 mod request;
 mod weights;
+mod worker_count;
 
 pub use grammar::VERSION_LINE;
 pub use parse::parse_words;
 pub use request::{ProofForm, Question, Request, WordsFault};
+pub use worker_count::{MOST_WORKERS, WorkerCount};

@@ -4,12 +4,12 @@ ghost use Rattle.std.specs.Prelude.{◌≤◌, IfSome};
 use crate::grammar::commands;
 use crate::request::{ProofForm, Question, Request, WordsFault};
 use crate::weights::parse_weights;
+use crate::worker_count::WorkerCount;
 use clap::error::ErrorKind;
 use clap::{ArgMatches, Error};
 use numbers::parse_number;
 use std::alloc::{AllocError, Global};
 use synod::{MOST_NODES, Weights};
-use verify_pool::Workers;
 
 /// What these words ask for, which come without the program's own name.
 ///
@@ -177,7 +177,7 @@ fn node_count(text: &str) -> Option<u8>
 }
 
 /// The workers that the options give.
-fn workers(alloc: Global, options: &ArgMatches) -> Result<Workers, Error> {
+fn workers(alloc: Global, options: &ArgMatches) -> Result<WorkerCount, Error> {
     match options.get_str("workers").and_then(worker_count) {
         Some(workers) => Ok(workers),
         None => Err(commands(alloc)?.error(
@@ -188,6 +188,6 @@ fn workers(alloc: Global, options: &ArgMatches) -> Result<Workers, Error> {
 }
 
 /// The count of workers that the text writes.
-fn worker_count(text: &str) -> Option<Workers> {
-    Workers::new(parse_number(text.as_bytes())?)
+fn worker_count(text: &str) -> Option<WorkerCount> {
+    WorkerCount::new(parse_number(text.as_bytes())?)
 }

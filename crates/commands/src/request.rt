@@ -1,7 +1,7 @@
 //! What a command line asks for.
+use crate::worker_count::WorkerCount;
 use std::alloc::AllocError;
 use synod::Weights;
-use verify_pool::Workers;
 
 /// What a command line asks for.
 #[derive(Drop)]
@@ -22,7 +22,7 @@ pub enum Request<'a> {
         /// As of `play`.
         weights: Option<Weights>,
         /// How many threads check the proofs of one entry.
-        workers: Workers,
+        workers: WorkerCount,
     },
 }
 

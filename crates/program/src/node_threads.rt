@@ -5,6 +5,7 @@ ghost use Rattle.synod.specs.Record.{new_kept};
 ghost use Rattle.net.specs.declared.fault.StepFault.TheVariants.{Memory};
 
 use cluster::MemoryKeep;
+use commands::WorkerCount;
 use net::StepFault;
 use nodes::{Clear, Cluster, Desk, start};
 use std::alloc::{AllocError, Global};
@@ -30,7 +31,7 @@ pub fn start_nodes<R: Threads + Wait + Copy + Send + Sync + Drop + 'static>(
     rt: &R,
     alloc: Global,
     weights: Weights,
-    workers: Workers,
+    workers: WorkerCount,
 ) -> Result<Nodes, StepFault>
     ensures nodes { IfOk result (λ nodes. nodes ≡ length weights) }
     ensures only_memory { IsOkUnless result Memory }
@@ -41,7 +42,15 @@ pub fn start_nodes<R: Threads + Wait + Copy + Send + Sync + Drop + 'static>(
     };
     let weathers = vec![in alloc; Clear; usize::from(count)]?;
     let keeps = keeps(alloc, count)?;
-    start(rt, alloc, weights, workers, gate, weathers, keeps)
+    start(
+        rt,
+        alloc,
+        weights,
+        Workers::of(workers.count),
+        gate,
+        weathers,
+        keeps,
+    )
 }
 
 /// So many keeps of new nodes.

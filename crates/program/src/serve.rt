@@ -9,6 +9,7 @@ use crate::answers::{ANSWER_ROOM, answer_bytes};
 use crate::node_threads::{Nodes, NodesDesk, start_nodes, stop_nodes};
 use crate::script_input::{print_unread, read_script};
 use crate::streams::{print, print_no_memory};
+use commands::WorkerCount;
 use library::Verdict;
 use net::StepFault;
 use printed::{push_decided, push_list};
@@ -19,7 +20,6 @@ use std::sync::Wait;
 use std::thread;
 use std::thread::Threads;
 use synod::Weights;
-use verify_pool::Workers;
 
 /// How often `settle` asks.
 const MOST_ASKS: u32 = 10_000_000;
@@ -30,7 +30,7 @@ pub fn serve<R: Threads + Wait + Copy + Send + Sync + Drop + 'static, I: Read, O
     rt: &R,
     alloc: Global,
     weights: Weights,
-    workers: Workers,
+    workers: WorkerCount,
     input: &mut I,
     output: &mut O,
 ) -> u8 {
