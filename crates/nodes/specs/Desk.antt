@@ -10,10 +10,10 @@ use Rattle.world.specs.declared.carried.Carried.{Carried}
 use Rattle.cluster.specs.declared.compare.Ahead.{Ahead}
 use Rattle.net.specs.declared.event.Event.{Event}
 use Rattle.net.specs.declared.fault.StepFault.{StepFault}
-use Rattle.net.specs.declared.fault.StepFault.TheVariants.{Stopped}
+use Rattle.net.specs.declared.fault.StepFault.TheVariants.{Apart, Stopped}
 use Rattle.net.specs.World.{World}
 use Rattle.world.specs.Carried.{carried_size}
-use Rattle.switch.specs.Switch.{Shared, world_of, Acts, Restarts}
+use Rattle.switch.specs.Switch.{Shared, ArePlaces, world_of, Acts, Restarts}
 use Rattle.cluster.specs.Belongs.{Belongs, IsAhead}
 use Rattle.cluster.specs.Cell.{Cell, IsCell}
 
@@ -42,7 +42,7 @@ pub record IsCompared (j k : ℕ) (ahead : Ahead) : Type 0 where
   pub other_belongs : Belongs other shared
   pub compares : IsAhead ahead one.node.library.statements other.node.library.statements
 
--- What a desk does, each once: an event of the history that the nodes share, as it was at some moment.
+-- What a desk does: one event after a history that is taken, in which each node has its place.
 
 -- the event is answered so
 pub record IsPlayed (e : Event Carried) (answer : Result ℕ StepFault) : Type 0 where
@@ -50,6 +50,7 @@ pub record IsPlayed (e : Event Carried) (answer : Result ℕ StepFault) : Type 0
   pub new : Shared Carried
   pub world : World Carried
   pub is_after : world_of carried_size old ≡ Ok world
+  pub places : ArePlaces carried_size world old.places
   pub acts : Acts carried_size world old new e answer
 
 -- the restart of node k is answered so
@@ -58,8 +59,13 @@ pub record IsRestarted (k : ℕ) (answer : Result ℕ StepFault) : Type 0 where
   pub new : Shared Carried
   pub world : World Carried
   pub is_after : world_of carried_size old ≡ Ok world
+  pub places : ArePlaces carried_size world old.places
   pub restarts : Restarts carried_size world old new k answer
 
 -- the fault is that the cluster is stopped, or that of the event
 abbrev pub IsPlayFault : Event Carried → StepFault → Type 0
 IsPlayFault e fault = (fault ≡ Stopped) ⊎ IsPlayed e (Err fault)
+
+-- the fault is that the cluster is stopped, that the cell is not of its node, or that of the restart
+abbrev pub IsRestartFault : ℕ → StepFault → Type 0
+IsRestartFault k fault = (fault ≡ Stopped) ⊎ (fault ≡ Apart) ⊎ IsRestarted k (Err fault)

@@ -1,12 +1,15 @@
 //! What stands under the switch's lock.
 ghost use Rattle.std.specs.Prelude.{◌≡◌, ◌⊎◌, Err, IsOk, MatchResult};
 ghost use Rattle.std.specs.Result.{ForOk};
+ghost use Rattle.net.specs.declared.event.Event.TheVariants.{Offer, Begin};
 ghost use Rattle.net.specs.declared.fault.StepFault.TheVariants.{EventsSpent, NoNode};
 ghost use Rattle.world.specs.Carried.{carried_size};
 ghost use Rattle.switch.specs.Switch.{world_of};
+ghost use Rattle.nodes.specs.Desk.{IsPlayed, IsRestarted};
 ghost use Rattle.nodes.specs.Report.{is_own};
 
-use cluster::Switch;
+use cluster::{NodeCell, Switch, begin_on, offer_on, restart_on};
+use library::Entry;
 use net::{Event, MOST_EVENTS, StepFault};
 use std::alloc::Global;
 use std::mem;
@@ -31,6 +34,36 @@ impl<K: Keep<Carried>> Board<K> {
     /// A switch that has posted nothing yet.
     pub fn new(switch: Switch<Carried, K>) -> Self {
         Board { switch, posted: 0 }
+    }
+
+    /// An entry is offered to node `k`.
+    ///
+    /// Errors: as of `cluster::offer_on`.
+    pub fn offer(&mut self, k: u8, entry: Entry) -> Result<u64, StepFault>
+        ensures { IsPlayed (Offer k (record { 0 = entry })) result }
+    {
+        let _places = self.switch.history();
+        offer_on(&mut self.switch, k, entry)
+    }
+
+    /// Node `k` begins a ballot.
+    ///
+    /// Errors: as of `cluster::begin_on`.
+    pub fn begin(&mut self, k: u8) -> Result<u64, StepFault>
+        ensures { IsPlayed (Begin k) result }
+    {
+        let _places = self.switch.history();
+        begin_on(&mut self.switch, k)
+    }
+
+    /// The node of that cell restarts.
+    ///
+    /// Errors: as of `cluster::restart_on`.
+    pub fn restart(&mut self, cell: &mut NodeCell) -> Result<u64, StepFault>
+        ensures { IsRestarted cell.old.at result }
+    {
+        let _places = self.switch.history();
+        restart_on(cell, &mut self.switch)
     }
 
     /// The hints of the packets posted by an event that was answered so, all packets being counted.

@@ -3,10 +3,10 @@ ghost use Rattle.std.specs.Prelude.{◌≡◌, ◌≤◌, ◌<◌, ◌⊎◌, �
 ghost use Rattle.net.specs.declared.event.Event.TheVariants.{Offer, Begin};
 ghost use Rattle.net.specs.declared.fault.StepFault.TheVariants.{NoNode, EventsSpent, Memory, Apart, Stopped};
 ghost use Rattle.cluster.specs.declared.compare.Ahead.TheVariants.{Same};
-ghost use Rattle.nodes.specs.Desk.{IsListed, IsStatus, IsCompared, IsPlayed, IsPlayFault, IsRestarted};
+ghost use Rattle.nodes.specs.Desk.{IsListed, IsStatus, IsCompared, IsPlayed, IsPlayFault, IsRestarted, IsRestartFault};
 
 use crate::shared::Shared;
-use cluster::{Ahead, begin_on, list_on, offer_on, restart_on};
+use cluster::{Ahead, list_on};
 use library::{Entry, Listed, Verdict};
 use net::StepFault;
 use std::marker::Model;
@@ -43,7 +43,7 @@ impl<G: Gate, K: Keep<Carried>> Desk<G, K> {
         }
         let hints = {
             let mut board = self.shared.board.lock(rt);
-            let answer = offer_on(&mut board.switch, k, entry);
+            let answer = board.offer(k, entry);
             board.posts(self.shared.alloc, answer)?
         };
         self.shared.send(rt, &hints);
@@ -62,7 +62,7 @@ impl<G: Gate, K: Keep<Carried>> Desk<G, K> {
         }
         let hints = {
             let mut board = self.shared.board.lock(rt);
-            let answer = begin_on(&mut board.switch, k);
+            let answer = board.begin(k);
             board.posts(self.shared.alloc, answer)?
         };
         self.shared.send(rt, &hints);
@@ -75,7 +75,7 @@ impl<G: Gate, K: Keep<Carried>> Desk<G, K> {
     /// cell is not of its node; else as of `cluster::restart_on`.
     pub fn restart<R: Wait>(&self, rt: &R, k: u8) -> Result<(), StepFault>
         ensures restarted { OnOk result ((count : ℕ) × IsRestarted k (Ok count)) }
-        ensures refused { k < self.now → IfErr result (λ fault. (fault ≡ Stopped) ⊎ (fault ≡ Apart) ⊎ IsRestarted k (Err fault)) }
+        ensures refused { k < self.now → IfErr result (IsRestartFault k) }
         ensures no_node { self.now ≤ k → IsErrAnd result (λ fault. (fault ≡ Stopped) ⊎ (fault ≡ EventsSpent) ⊎ (fault ≡ NoNode)) }
     {
         if self.shared.is_stopped(rt) {
@@ -91,7 +91,7 @@ impl<G: Gate, K: Keep<Carried>> Desk<G, K> {
                 return Err(StepFault::Apart);
             }
             let mut board = self.shared.board.lock(rt);
-            let answer = restart_on(&mut cell, &mut board.switch);
+            let answer = board.restart(&mut cell);
             board.asked(self.shared.alloc, others, answer)?
         };
         self.shared.send(rt, &hints);
