@@ -10,15 +10,17 @@ use mm_lex::Words;
 use mm_read::{Stmt, read};
 use proof_code::Items;
 use scope::Scope;
-use std::alloc::Global;
+use std::alloc::{AllocError, Global};
 use steps::{ProofTable, essential_table, proof_table};
 use verify::{Answer, check};
 
-/// A text, whether the essential steps alone are wanted, and of each step what it cites, by position, and how many it takes.
+/// A text, whether the essential steps alone are wanted, and of each step what it cites, by position, and the steps that it
+/// takes, by place.
+#[derive(Drop)]
 struct Row {
     text: &'static [u8],
     is_essential: bool,
-    steps: &'static [(usize, usize)],
+    steps: &'static [(usize, &'static [usize])],
 }
 
 /// The same proof with its last letter wrong.
@@ -34,22 +36,22 @@ const ROWS: [Row; 3] = [
         text: PACKED,
         is_essential: false,
         steps: &[
-            (3, 0),
-            (8, 0),
-            (9, 2),
-            (10, 2),
-            (10, 2),
-            (13, 1),
-            (11, 2),
-            (12, 3),
-            (17, 4),
-            (17, 4),
+            (3, &[]),
+            (8, &[]),
+            (9, &[0, 1]),
+            (10, &[2, 0]),
+            (10, &[0, 0]),
+            (13, &[0]),
+            (11, &[3, 4]),
+            (12, &[2, 0, 0]),
+            (17, &[3, 6, 5, 7]),
+            (17, &[3, 4, 5, 8]),
         ],
     },
     Row {
         text: PACKED,
         is_essential: true,
-        steps: &[(13, 0), (12, 0), (17, 2), (17, 2)],
+        steps: &[(13, &[]), (12, &[]), (17, &[0, 1]), (17, &[0, 2])],
     },
     Row {
         text: WRONG,
@@ -84,12 +86,7 @@ fn shows(alloc: Global, row: &Row) -> Option<bool> {
 }
 
 /// The same of these statements, where the last theorem has these mandatory labels.
-fn last_shows(
-    alloc: Global,
-    statements: &[Stmt],
-    mandatory: &Words,
-    row: &Row,
-) -> Option<bool>
+fn last_shows(alloc: Global, statements: &[Stmt], mandatory: &Words, row: &Row) -> Option<bool>
     requires { AreShaped statements.now }
 {
     let mut scope = Scope::new(alloc);
@@ -113,9 +110,10 @@ fn shows_at(
     };
     let at = frames.len();
     let items = items_of(alloc, proof, mandatory).ok()?;
-    match check(alloc, frames, at, &items).ok()? {
-        Answer::Proved => table_shows(alloc, frames, at, &items, row),
-        Answer::Wrong => Some(row.steps.is_empty()),
+    match check(alloc, frames, at, &items) {
+        Ok(Answer::Proved) => table_shows(alloc, frames, at, &items, row).ok(),
+        Ok(Answer::Wrong) => Some(row.steps.is_empty()),
+        Err(_) => None,
     }
 }
 
@@ -126,26 +124,26 @@ fn table_shows(
     at: usize,
     items: &Items,
     row: &Row,
-) -> Option<bool>
+) -> Result<bool, AllocError>
     requires right { IsRight frames.now.statements at items.now }
     requires at { (1 ≤ at) × (at ≤ length frames.now.statements) }
 {
-    let steps = proof_table(alloc, frames, at, items).ok()?;
+    let steps = proof_table(alloc, frames, at, items)?;
     if row.is_essential {
-        let essential = essential_table(alloc, frames, at, &steps).ok()?;
-        return Some(has_steps(&essential, row.steps));
+        let essential = essential_table(alloc, frames, at, &steps)?;
+        return Ok(has_steps(&essential, row.steps));
     }
-    Some(has_steps(&steps, row.steps))
+    Ok(has_steps(&steps, row.steps))
 }
 
-/// Whether the steps of the table cite these positions and take so many steps each.
-fn has_steps(table: &ProofTable, steps: &[(usize, usize)]) -> bool {
+/// Whether the steps of the table cite these positions and take these steps.
+fn has_steps(table: &ProofTable, steps: &[(usize, &[usize])]) -> bool {
     if table.len() != steps.len() {
         return false;
     }
     for place in 0..table.len() {
-        let (position, takes) = steps[place];
-        if table.position(place) != position || table.taken(place).len() != takes {
+        let (position, taken) = steps[place];
+        if table.position(place) != position || table.taken(place) != taken {
             return false;
         }
     }
