@@ -15,8 +15,8 @@ listed-requires-clause-at g c =
     let named = c.in_ok-at.ensures.items.named in
     within c.args.library.now.replica.statements c.frames-frames.result.now.statements c.in_ok-at.at named.stmt c.frames-frames.ensures.same named.provable
 
-pub listed-in-Picture-requires-clause-at : goal.listed-in-Picture-requires-clause-at
-listed-in-Picture-requires-clause-at g c =
+pub listed-requires-in-Picture-clause-at : goal.listed-requires-in-Picture-clause-at
+listed-requires-in-Picture-clause-at g c =
     let named = c.in_ok-at.ensures.items.named in
     within c.args.library.now.replica.statements c.frames-frames.result.now.statements c.in_ok-at.at named.stmt c.frames-frames.ensures.same named.provable
 
