@@ -13,7 +13,7 @@ use Rattle.verify.specs.Proves.{mandatory_labels, label_or_none}
 use Rattle.verify.specs.Right.{IsProvable}
 use Rattle.verify.specs.declared.table.Entry.TheVariants.{Hypothesis, Nothing}
 use Rattle.verify.specs.Table.{IsEntry}
-use Rattle.verify.proofs.MandatoryLemmas.{place_of, mandatory-entries}
+use Rattle.verify.proofs.MandatoryEntries.{place_of, mandatory-entries}
 
 get-map : (ps : List ℕ) (k d : ℕ) → k < length ps → get_or (map Hypothesis ps) k Nothing ≡ Hypothesis (get_or ps k d)
 get-map [] k d h = absurd (omega (arith, h))

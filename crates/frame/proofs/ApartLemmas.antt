@@ -16,7 +16,7 @@ use Rattle.frame.specs.Links.{is_disj}
 use Rattle.frame.specs.Disjoint.{are_apart}
 use Rattle.frame.specs.Below.{AreBelow}
 use Rattle.frame.specs.Covers.{is_listed, are_listed, does_cover, are_covered, do_share, is_pair_apart, is_variable_apart, is_symbol_apart, are_marked}
-use Rattle.frame.proofs.PairsLemmas.{has-decode}
+use Rattle.frame.proofs.KindWalk.{has-decode}
 
 pub or_left : (a b : Bool) → a ≡ true → (a || b) ≡ true
 or_left true b h = refl

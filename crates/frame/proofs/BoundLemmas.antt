@@ -21,7 +21,7 @@ use Rattle.frame.proofs.TypedVariables.{first-fixed, own-fixed, float-kinds}
 use Rattle.frame.proofs.PlacesLemmas.{is_flt, used-has-place, mandatory-place, variables-once}
 use Rattle.frame.proofs.GroupsLemmas.{has-filter}
 use Rattle.frame.proofs.FoundByNumber.{map-back, map-at, take-at, middle, kept-front}
-use Rattle.frame.proofs.KeptLemmas.{IsHyp, AreHyps, hyps}
+use Rattle.frame.proofs.PlacedHypotheses.{IsHyp, AreHyps, hyps}
 
 and-both : (a b : Bool) → (a && b) ≡ true → (a ≡ true) × (b ≡ true)
 and-both true b h = (refl, h)

@@ -14,6 +14,7 @@ pub mod StoredReading
 pub mod ExtendLemmas
 pub mod CutLemmas
 pub mod CollectLemmas
+pub mod KindWalk
 pub mod PairsLemmas
 pub mod ApartLemmas
 pub mod MakeLemmas
@@ -27,6 +28,7 @@ pub mod LegalBehind
 pub mod TypedVariables
 pub mod PlacesLemmas
 pub mod FoundByNumber
+pub mod PlacedHypotheses
 pub mod KeptLemmas
 pub mod BoundLemmas
 pub mod GatherLemmas

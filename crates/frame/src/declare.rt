@@ -10,7 +10,7 @@ ghost use Rattle.frame.specs.Stored.{AreStored};
 ghost use Rattle.frame.specs.StoredEntries.{statements_of};
 ghost use Rattle.frame.specs.StoredCounts.{with_declared, kind_of};
 
-use crate::reading::links_at;
+use crate::at_position::links_at;
 use crate::storage::{Stock, Symbol};
 use entries::{Kind, Links};
 use names::NameTable;

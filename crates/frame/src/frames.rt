@@ -17,7 +17,7 @@ use crate::gathered::Gathered;
 use crate::hypotheses::{gather_at, label_at, mandatory_at};
 use crate::meaning::Meaning;
 use crate::pairs::Pairs;
-use crate::reading::{cited_at, expr_at, gathered_at, meaning_at};
+use crate::at_position::{cited_at, expr_at, gathered_at, meaning_at};
 use crate::storage::Stock;
 use entries::{Cited, Entries, Links};
 use mm_read::Stmt;

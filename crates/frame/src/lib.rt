@@ -4,7 +4,7 @@
 //! what a citation means at a statement, the parts of an assertion, and the variables that are kept apart.
 //! `frame` gathers the `Frame` of one assertion from what is active.
 //! Reading order: `storage`, `shape`, `places`, `draft`; `numbers`, `declare`, `undo`, `mandatory`, `make`, `enter`, `plain`,
-//! `extend` (one statement more); `reading`, `hypotheses`, `meaning`, `gathered`, `pairs`, `apart`, `frames` (what is asked);
+//! `extend` (one statement more); `at_position`, `hypotheses`, `meaning`, `gathered`, `pairs`, `apart`, `frames` (what is asked);
 //! `assertion`, `one_frame`; `laws`.
 #![tactic(auto)]
 
@@ -26,7 +26,7 @@ mod one_frame;
 mod pairs;
 mod places;
 mod plain;
-mod reading;
+mod at_position;
 mod shape;
 mod storage;
 mod undo;

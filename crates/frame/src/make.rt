@@ -14,7 +14,7 @@ ghost use Rattle.frame.specs.StoredEntries.{statements_of};
 use crate::draft::Draft;
 use crate::mandatory::{add_essentials, are_few, put_floats};
 use crate::places::Places;
-use crate::reading::links_at;
+use crate::at_position::links_at;
 use crate::storage::Stock;
 use entries::span::between;
 use entries::{BufferPart, EntryRef, Hypothesis, Kind, NO_HEAD};

@@ -8,7 +8,7 @@ ghost use Rattle.frame.specs.StoredHypotheses.{Ascends, IsLooked, inserted, with
 ghost use Rattle.frame.specs.StoredEntries.{floats, last_where, statements_of};
 
 use crate::places::Places;
-use crate::reading::{is_active_at, links_at};
+use crate::at_position::{is_active_at, links_at};
 use crate::storage::Stock;
 use std::alloc::AllocError;
 

@@ -8,7 +8,7 @@ ghost use Rattle.frame.specs.FrameOf.{is_pair};
 ghost use Rattle.frame.specs.Stored.{AreStored};
 ghost use Rattle.frame.specs.StoredEntries.{statements_of};
 
-use crate::reading::{is_active_at, links_at};
+use crate::at_position::{is_active_at, links_at};
 use crate::storage::Stock;
 use std::marker::Model;
 

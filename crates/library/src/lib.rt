@@ -3,7 +3,7 @@
 //! The crate above uses one contract: an application makes the step of `specs/LibraryOf` with its verdict, and want of
 //! memory decides nothing.
 //!
-//! Reading order: `submission`, `charter`, `entry` (what a log holds), `verdict`; `library`; `reading` (a text and its charter),
+//! Reading order: `submission`, `charter`, `entry` (what a log holds), `verdict`; `library`; `entry_text` (a text and its charter),
 //! `base` (all or nothing), `entering` (the rules), `unproved` (the proofs), `verdicts`; `asked` (traces, uses, items and trees), `items`,
 //! `uses`, `users`; `listed`; `laws`.
 #![tactic(auto)]
@@ -17,7 +17,7 @@ mod items;
 mod laws;
 mod library;
 mod listed;
-mod reading;
+mod entry_text;
 mod submission;
 mod unproved;
 mod users;

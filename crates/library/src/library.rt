@@ -13,7 +13,7 @@ ghost use Rattle.library.specs.Unproved.{FindsLeast};
 use crate::base::Base;
 use crate::charter::Names;
 use crate::entry::Entry;
-use crate::reading::{may_declare, read_text};
+use crate::entry_text::{may_declare, read_text};
 use crate::submission::Submission;
 use crate::unproved::Proofs;
 use crate::verdict::{Cause, Verdict};

@@ -3,7 +3,7 @@
 //! `tokens` gives the places of a text's tokens, its comments taken out. `next_token`, `symbols` and
 //! `count_tokens` go from place to place without a list of them, and tell the faults of comments as they
 //! meet them. `Word` and `Words` keep words compactly. Reading order:
-//! `span`, `fault`, `lanes`, `run`, `comment`, `scan`; `word`, `words`, `reading`; `walk`, `stretch`,
+//! `span`, `fault`, `lanes`, `run`, `comment`, `scan`; `word`, `words`, `word_iter`; `walk`, `stretch`,
 //! `symbol_list`; `label`; `laws`.
 #![tactic(auto)]
 
@@ -12,7 +12,7 @@ mod fault;
 mod label;
 mod lanes;
 mod laws;
-mod reading;
+mod word_iter;
 mod run;
 mod scan;
 mod span;
@@ -25,7 +25,7 @@ mod words;
 pub use fault::LexFault;
 pub use label::is_label;
 pub use laws::{one_answer, one_cut};
-pub use reading::WordIter;
+pub use word_iter::WordIter;
 pub use scan::{first_bad_byte, tokens};
 pub use span::Span;
 pub use symbol_list::{is_symbol, symbols};

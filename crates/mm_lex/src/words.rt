@@ -2,7 +2,7 @@
 ghost use Rattle.std.specs.Prelude.{◌≡◌, ◌↔◌, [], ◌∷◌, ◌++◌, ◌==◌, ◌≤◌, length, count_by, IsTrue, IfOk, OnOk, OnErr};
 ghost use Rattle.mm_lex.specs.Words.{spaced, words_of, is_word, AreWords};
 
-use crate::reading::WordIter;
+use crate::word_iter::WordIter;
 use std::alloc::{AllocError, Global};
 use std::marker::Model;
 

@@ -21,4 +21,6 @@ pub mod LogsGrow
 pub mod HistoryLemmas
 mod Rows
 pub mod TakenLemmas
-pub mod DueLemmas
+pub mod EventsDue
+pub mod StepsDue
+pub mod DueTaken

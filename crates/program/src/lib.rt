@@ -3,13 +3,13 @@
 //! Reading order: `command_line` (`run`, what a command line does), `streams` (what is read and written), `database` (what is asked of one),
 //! `proofs` (the steps of a proof) and `refusal` (a database that is refused);
 //! `play`, with `script_input` (its lines, which crate `scripts` reads) and `answers` (what a line prints); `serve`, with
-//! `node_threads`.
+//! `served_nodes`.
 #![tactic(auto)]
 
 mod answers;
 mod command_line;
 mod database;
-mod node_threads;
+mod served_nodes;
 mod play;
 mod proofs;
 mod refusal;

@@ -6,7 +6,7 @@ ghost use Rattle.nodes.specs.Desk.{IsListed, IsStatus};
 ghost use Rattle.printed.specs.Printed.{list_text};
 
 use crate::answers::{ANSWER_ROOM, answer_bytes};
-use crate::node_threads::{Nodes, NodesDesk, start_nodes, stop_nodes};
+use crate::served_nodes::{Nodes, NodesDesk, start_nodes, stop_nodes};
 use crate::script_input::{print_unread, read_script};
 use crate::streams::{print, print_no_memory};
 use commands::WorkerCount;
@@ -23,6 +23,9 @@ use synod::Weights;
 
 /// How often `settle` asks.
 const MOST_ASKS: u32 = 10_000_000;
+
+/// How often `settle` lets other threads go on between two asks, at most: who asks takes the node's lock.
+const MOST_TURNS: u32 = 16;
 
 /// Reads a script, starts the nodes, prints what each line answers, and stops the nodes; the answer is the exit status. Every
 /// thread is joined, also where an answer cannot be written.
@@ -156,12 +159,19 @@ fn settled<R: Wait>(rt: &R, desk: &NodesDesk, at: EntryAt) -> Result<Option<Verd
     ensures no_node { desk.now ≤ at.node → result ≡ Err NoNode }
     ensures only_apart { at.node < desk.now → IsOkUnless result Apart }
 {
-    for _ask in 1..MOST_ASKS {
+    for ask in 1..MOST_ASKS {
         let verdict = status(rt, desk, at)?;
         if verdict.is_some() {
             return Ok(verdict);
         }
-        thread::yield_now();
+        give_turns(ask.min(MOST_TURNS));
     }
     status(rt, desk, at)
+}
+
+/// Lets other threads go on, so often.
+fn give_turns(turns: u32) {
+    for _turn in 0..turns {
+        thread::yield_now();
+    }
 }

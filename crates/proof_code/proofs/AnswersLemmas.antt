@@ -17,7 +17,8 @@ use Rattle.proof_code.specs.Text.{with_number, numbers_from}
 use Rattle.proof_code.specs.Writes.{finish, question_mark, is_unfinished, WritesRow, WritesCompressed, WritesNormal, IsMalformed}
 use Rattle.proof_code.proofs.LettersLemmas.{and_parts}
 use Rattle.proof_code.proofs.WritesLemmas.{joined}
-use Rattle.proof_code.proofs.RowLemmas.{RowIsRead, read-WritesRow, item_of-cite}
+use Rattle.proof_code.proofs.RowLemmas.{RowIsRead, read-WritesRow}
+use Rattle.proof_code.proofs.RowOfNumbers.{item_of-cite}
 use Rattle.proof_code.proofs.TextLemmas.{list_any-spaced, list_any-joined}
 
 -- ---- what writes items has no `?`

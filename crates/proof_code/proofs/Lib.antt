@@ -1,4 +1,6 @@
 pub mod LettersLemmas
+pub mod NumbersOfRow
+pub mod RowOfNumbers
 pub mod RowLemmas
 pub mod PlacesLemmas
 pub mod HeaderLemmas

@@ -10,11 +10,12 @@ ghost use Rattle.scope.specs.Active.{before, stmt_at};
 ghost use Rattle.reasons.specs.Run.{CitesTo, held};
 ghost use Rattle.reasons.specs.FirstFault.{FailsAt};
 ghost use Rattle.reasons.specs.Concluded.{IsBelow, IsConcluded};
+ghost use Rattle.reasons.specs.declared.state.TheConstants.{WEIGHT_LIMIT};
 
 use crate::clash::find_clash;
 use crate::images::{Image, apply, read_images};
 use crate::reason::Fault;
-use crate::state::{LIMIT, State};
+use crate::state::{WEIGHT_LIMIT, State};
 use entries::{Cited, Hypothesis};
 use frame::{Frames, Gathered, Meaning};
 use std::alloc::{AllocError, Global};
@@ -29,13 +30,13 @@ pub fn cite(
 ) -> Result<Option<Fault>, AllocError>
     requires place { (1 ≤ at) × (at ≤ length frames.now.statements) }
     requires symbols { AreSymbols (length frames.now.names) state.old.stack.items }
-    requires weight { state.old.weight ≤ 67108864 }
+    requires weight { state.old.weight ≤ WEIGHT_LIMIT }
     ensures told { (s : Statement) → stmt_at frames.now.statements statement ≡ Some s
         → IfOk result (λ r. MatchOption r
         (CitesTo frames.now.statements at statement s (held frames.now.names state.old) (held frames.now.names state.new))
         (FailsAt frames.now.statements frames.now.names at (held frames.now.names state.old) statement s)) }
     ensures symbols { AreSymbols (length frames.now.names) state.new.stack.items }
-    ensures weight { state.new.weight ≤ 67108864 }
+    ensures weight { state.new.weight ≤ WEIGHT_LIMIT }
     ensures marked { state.new.marked.items ≡ state.old.marked.items }
 {
     match frames.meaning(at, statement) {
@@ -63,9 +64,9 @@ fn cite_assertion(
     requires earlier { a < at }
     requires assertion { (s : Statement) × HasAssertion frames.now.statements a s }
     requires symbols { AreSymbols (length frames.now.names) state.old.stack.items }
-    requires weight { state.old.weight ≤ 67108864 }
+    requires weight { state.old.weight ≤ WEIGHT_LIMIT }
     ensures symbols { AreSymbols (length frames.now.names) state.new.stack.items }
-    ensures weight { state.new.weight ≤ 67108864 }
+    ensures weight { state.new.weight ≤ WEIGHT_LIMIT }
     ensures told { (s : Statement) → stmt_at frames.now.statements a ≡ Some s
         → IfOk result (λ r. MatchOption r
         (CitesTo frames.now.statements at a s (held frames.now.names state.old) (held frames.now.names state.new))
@@ -96,9 +97,9 @@ fn cite_parts(
     requires mandatory { (s : Statement) → stmt_at frames.now.statements a ≡ Some s → mandatory.now ≡ hypotheses (before frames.now.statements a) s }
     requires cited { (s : Statement) → stmt_at frames.now.statements a ≡ Some s → IsCited frames.now.statements frames.now.names a s cited.now }
     requires symbols { AreSymbols (length frames.now.names) state.old.stack.items }
-    requires weight { state.old.weight ≤ 67108864 }
+    requires weight { state.old.weight ≤ WEIGHT_LIMIT }
     ensures symbols { AreSymbols (length frames.now.names) state.new.stack.items }
-    ensures weight { state.new.weight ≤ 67108864 }
+    ensures weight { state.new.weight ≤ WEIGHT_LIMIT }
     ensures told { (s : Statement) → stmt_at frames.now.statements a ≡ Some s
         → IfOk result (λ r. MatchOption r
         (CitesTo frames.now.statements at a s (held frames.now.names state.old) (held frames.now.names state.new))
@@ -124,7 +125,7 @@ fn cite_parts(
         mandatory,
         cited,
         &state.stack[base..],
-        LIMIT - state.weight,
+        WEIGHT_LIMIT - state.weight,
     )? {
         Concluded::Wrong(fault) => Ok(Some(fault)),
         Concluded::Right(result) => {
@@ -211,7 +212,7 @@ fn find_other(
     for k in 0..results.len() {
         let hypothesis = mandatory[k] as usize;
         let result = results[k].as_slice();
-        let Some(asked) = apply(alloc, images, frames.expr(hypothesis), LIMIT)? else {
+        let Some(asked) = apply(alloc, images, frames.expr(hypothesis), WEIGHT_LIMIT)? else {
             return Err(AllocError);
         };
         if asked.as_slice() != result {

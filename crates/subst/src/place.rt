@@ -1,6 +1,7 @@
 //! Where symbols lie in a buffer.
 ghost use Rattle.std.specs.Prelude.{◌≡◌, ◌≤◌, length};
 ghost use Rattle.subst.specs.Places.{seen_at};
+ghost use Rattle.subst.specs.declared.buffer.TheConstants.{SYMBOLS_LIMIT};
 
 /// Where symbols lie.
 #[derive(Clone, Copy, Drop)]
@@ -19,7 +20,7 @@ pub fn symbols_at(symbols: &[u32], place: ExpressionPlace) -> &[u32]
 
 /// The place between two that are within the bound of a buffer.
 pub fn place_between(start: usize, end: usize) -> ExpressionPlace
-    requires { (start ≤ 67108864) × (end ≤ 67108864) }
+    requires { (start ≤ SYMBOLS_LIMIT) × (end ≤ SYMBOLS_LIMIT) }
     ensures { (result.start ≡ start) × (result.end ≡ end) }
 {
     ExpressionPlace {

@@ -1,7 +1,10 @@
 mod KeepLemmas
 pub mod SeatsLemmas
 mod SwitchLemmas
-mod EventLemmas
+mod CallLemmas
+mod DispatchLemmas
+mod LoadLemmas
 mod ReviveLemmas
+mod ReviveRefused
 mod BelongsLemmas
 mod TieLemmas

@@ -1,5 +1,5 @@
 -- The restart of a node that is down: what is owed is taken first.
-use Rattle.std.proofs.Common.{◌≡◌, ℕ, ◌+◌, ◌<◌, ◌≤◌, true, false, List, [], ◌∷◌, ◌++◌, length, get_or, set, slice_get, inl, inr, Option, Some, None, Result, Ok, Err, refl, ap, sym, ◌∙◌, subst, arith, append-nil, length-append}
+use Rattle.std.proofs.Common.{◌≡◌, ℕ, ◌+◌, ◌<◌, ◌≤◌, true, List, [], ◌∷◌, ◌++◌, length, get_or, set, slice_get, inl, inr, Option, Some, None, Result, Ok, Err, refl, ap, sym, ◌∙◌, subst, arith, append-nil, length-append}
 use Rattle.std.specs.List.{AllByRecursion}
 use Rattle.std.specs.Option.{option_map}
 use Rattle.std.specs.Result.{ForOk}
@@ -16,22 +16,21 @@ use Rattle.net.specs.declared.event.TheConstants.{MOST_EVENTS}
 use Rattle.net.specs.declared.event.Event.{Event}
 use Rattle.net.specs.declared.event.Event.TheVariants.{Restart}
 use Rattle.net.specs.declared.fault.StepFault.{StepFault}
-use Rattle.net.specs.declared.fault.StepFault.TheVariants.{Memory, Device, EventsSpent}
-use Rattle.std.specs.Prelude.{OnOk, IsOkUnless}
-use Rattle.net.specs.World.{World, stepped, at_node, packets_after}
+use Rattle.net.specs.declared.fault.StepFault.TheVariants.{Memory, Device}
+use Rattle.net.specs.World.{World, packets_after}
 use Rattle.net.specs.Agree.{IsAfter}
-use Rattle.net.specs.Taken.{Taken, with_event, world_of as world_of_taken}
+use Rattle.net.specs.Taken.{Taken, world_of as world_of_taken}
 use Rattle.net.specs.KeptPart.{kept_part}
 use Rattle.net.specs.Due.{Work, steps, restarts, Due, NetView, HasRoom, IsDue, IsReadyAt, IsOfEvent, IsEventAt, ComesTo, IsTaken, posts_of, step_of, loads, loads_due}
 use Rattle.net.proofs.Lists.{at_place, at_set, set_twice}
-use Rattle.net.proofs.DueLemmas.{comes_restart}
-use Rattle.net.proofs.TakenLemmas.{set_same, next_is}
+use Rattle.net.proofs.EventsDue.{comes_restart}
+use Rattle.net.proofs.TakenLemmas.{set_same}
 use Rattle.switch.specs.Seat.{Standing, up, down, Seated, owed_in, change_owed, posts_owed, IsRecordOf, IsWithOrWithout, Fails}
-use Rattle.switch.specs.Switch.{Place, Shared, event_owed, standing_seen, place_of, places_of, IsOwing, IsSeat, IsSwitch, CanTakeOwed, TakesOwed, world_of, change_due, is_down_at, is_down_place, events_due, with_place, RevivesAt, ActsDown}
+use Rattle.switch.specs.Switch.{Place, Shared, event_owed, standing_seen, place_of, places_of, IsOwing, IsSeat, IsSwitch, CanTakeOwed, TakesOwed, world_of, change_due, is_down_at, events_due, with_place, RevivesAt, ActsDown}
 use Rattle.switch.proofs.KeepLemmas.{with_either, either_twice}
-use Rattle.switch.proofs.SeatsLemmas.{places_of-set, place_at, place_past, seat_in, down_at}
+use Rattle.switch.proofs.SeatsLemmas.{places_of-set, place_at, seat_in, down_at}
 use Rattle.switch.proofs.SwitchLemmas.{shared, core_node, own_number, own_weights, other_seat, at, node_is, committed, change_told, changes}
-use Rattle.switch.proofs.EventLemmas.{shared_is, of_world, node_there}
+use Rattle.switch.proofs.CallLemmas.{shared_is, of_world}
 
 -- The switch before, seats and net being as they are when the keep is called.
 module _ {V : Type 0} (size : V → ℕ) (net : NetView V) (seats : List (Seated V)) (h : IsSwitch size net seats) (now : Shared V) (seen : shared net seats ≡ now)
@@ -49,7 +48,7 @@ module _ {V : Type 0} (size : V → ℕ) (net : NetView V) (seats : List (Seated
   is_j : j ≡ k
   is_j = let both : Some j ≡ Some d1.at = at_e.node in let same : j ≡ d1.at = cc in same ∙ sym is_at
 
-  found : slice_get seats k ≡ Some seat
+  pub found : slice_get seats k ≡ Some seat
   found = at_place seats k seat low_k is
 
   node_k : slice_get w.nodes k ≡ Some d.core.node
@@ -61,7 +60,7 @@ module _ {V : Type 0} (size : V → ℕ) (net : NetView V) (seats : List (Seated
   is_down : (o : Option (Due V)) × (seat.standing ≡ down o)
   is_down = down_at seats k seat found (ap (λ (i : ℕ). is_down_at (places_of seats) (Some i)) (sym is_j) ∙ ap (λ (s : Shared V). is_down_at s.places (Some j)) seen ∙ test)
 
-  abbrev o : Option (Due V)
+  abbrev pub o : Option (Due V)
   o = is_down.0
 
   owed_is : owed_in seat.standing ≡ o
@@ -105,10 +104,10 @@ module _ {V : Type 0} (size : V → ℕ) (net : NetView V) (seats : List (Seated
 
   -- a call of the keep failed
   module _ (new : Seated V) (fails : Fails seat (change_owed (owed_in seat.standing)) seat.standing new) where
-    either : IsWithOrWithout seat.kept (change_owed o) new.kept
+    pub either : IsWithOrWithout seat.kept (change_owed o) new.kept
     either = subst (λ (p : Option (Due V)). IsWithOrWithout seat.kept (change_owed p) new.kept) owed_is fails.kept
 
-    stands : new.standing ≡ down o
+    pub stands : new.standing ≡ down o
     stands = ap (λ (s : Seated V). s.standing) fails.rest ∙ is_down.1
 
     pub stays_down : IsSwitch size net (set seats k new)
@@ -307,37 +306,3 @@ module _ {V : Type 0} (size : V → ℕ) (net : NetView V) (seats : List (Seated
                   ∙ ap (λ (i : ℕ). set (places_of seats) j (let p : Place V = record { kept = new.kept; failures = i; standing = standing_seen new.standing } in p)) (ap (λ (s : Seated V). s.failures) repaired)
                   ∙ ap (λ (s : Standing (Due V)). set (places_of seats) j (let p : Place V = record { kept = new.kept; failures = seat.failures; standing = standing_seen s } in p)) new_up);
             }
-
--- no two events are left
-pub revive_spent : {V : Type 0} (size : V → ℕ) (net : NetView V) (seats : List (Seated V)) (h : IsSwitch size net seats) (now : Shared V) (seen : shared net seats ≡ now) (j : ℕ) → MOST_EVENTS < length net.taken.events + 2
-    → ForOk (world_of size now) (λ x. (place : Place V) → slice_get now.places j ≡ Some place → (e : Option (Event V)) → place.standing ≡ down e → ActsDown size x now now j place e (Err EventsSpent))
-revive_spent {V} size net seats h now seen j spent = of_world size net seats h now seen (λ s x. (place : Place V) → slice_get s.places j ≡ Some place → (e : Option (Event V)) → place.standing ≡ down e → ActsDown size x s s j place e (Err EventsSpent))
-    (λ place found e stands. record { spent = λ more. (refl, refl); revived = λ room. absurd (omega (arith, spent, room)) })
-
--- the restart was not made ready: there is no memory
-pub revive_unready : {V : Type 0} (size : V → ℕ) (net : NetView V) (seats : List (Seated V)) (h : IsSwitch size net seats) (now : Shared V) (seen : shared net seats ≡ now) (j : ℕ) → is_down_at now.places (Some j) ≡ true
-    → length net.taken.events + 2 ≤ MOST_EVENTS → (fault : StepFault) (r : Result (Due V) StepFault) → r ≡ Err fault → (new : Shared V) → new ≡ shared net seats → OnOk (world_of_taken size (with_event net.taken (Restart j))) (IsOkUnless r Memory)
-    → ForOk (world_of size now) (λ x. (place : Place V) → slice_get now.places j ≡ Some place → (e : Option (Event V)) → place.standing ≡ down e → ActsDown size x now new j place e (Err fault))
-revive_unready {V} size net seats h now seen j test room fault r is_err new same memory =
-    of_world size net seats h now seen (λ s x. (place : Place V) → slice_get s.places j ≡ Some place → (e : Option (Event V)) → place.standing ≡ down e → ActsDown size x s new j place e (Err fault))
-    (λ place found e stands. record {
-      spent = λ spent. absurd (omega (arith, spent, room));
-      revived = λ le. inl (is_memory, record { kept = place.kept; either = inl refl; rest = same ∙ sym (kept_place place found) });
-    }) where
-      kept_place : (place : Place V) → slice_get (places_of seats) j ≡ Some place → with_place (shared net seats) j record { kept = place.kept; failures = place.failures; standing = place.standing } ≡ shared net seats
-      kept_place place found = ap (λ (ps : List (Place V)). let s : Shared V = record { weights = net.taken.weights; history = net.taken.events; places = ps } in s) (set_same (places_of seats) j place found)
-
-      down_seat : (o : Option (Seated V)) → slice_get seats j ≡ o → (seat : Seated V) × (slice_get seats j ≡ Some seat)
-      down_seat (Some seat) is = (seat, is)
-      down_seat None none =
-          let no : false ≡ true = sym (ap (λ (p : Option (Place V)). is_down_place p) (place_past seats j none)) ∙ ap (λ (s : Shared V). is_down_at s.places (Some j)) seen ∙ test in cc
-
-      happens_ok : (n : Node V) → slice_get h.world.world.nodes j ≡ Some n → world_of_taken size (with_event net.taken (Restart j)) ≡ Ok (stepped h.world.world j (restarted n))
-      happens_ok n at_n = next_is size net.taken net.cores net.packets h.world (omega (arith, room)) (Restart j) ∙ ap (λ (o : Option (Node V)). at_node h.world.world j (λ n. Ok (restarted n)) o) at_n
-
-      is_memory : fault ≡ Memory
-      is_memory =
-          let seat = down_seat (slice_get seats j) refl in
-          let n = node_there size net seats h now seen j seat.0 seat.1 in
-          let told : IsOkUnless r Memory = subst (λ (x : Result (World V) StepFault). OnOk x (IsOkUnless r Memory)) (happens_ok n.0 n.1) memory in
-          subst (λ (a : Result (Due V) StepFault). IsOkUnless a Memory) is_err told

@@ -21,7 +21,8 @@ use Rattle.net.proofs.EveryEvent.{if_taken, node_at, holds_after}
 use Rattle.net.proofs.TwoMoments.{world_lasts}
 use Rattle.net.proofs.KeptPartLemmas.{Happens, event_moves}
 use Rattle.net.proofs.TakenLemmas.{taken_count, happens-not_spent, events_within, rooms_stay, makes, nodes_of-set}
-use Rattle.net.proofs.DueLemmas.{nodes_found, nodes_still, due_still, posts_same}
+use Rattle.net.proofs.EventsDue.{nodes_found, nodes_still, due_still}
+use Rattle.net.proofs.DueTaken.{posts_same}
 use Rattle.switch.specs.Seat.{Standing, up, down, Seated, IsRecordOf}
 use Rattle.switch.specs.Switch.{Shared, places_of, new_seats, IsOwing, IsSeat, IsSwitch}
 use Rattle.switch.proofs.SeatsLemmas.{each_after, new_at, count_seats}

@@ -14,7 +14,8 @@ use Rattle.switch.specs.Switch.{Place, Shared, standing_seen, place_of, places_o
 use Rattle.switch.specs.Belonging.{StaysBelonging, StaysAtRestart}
 use Rattle.switch.proofs.SeatsLemmas.{place_at, place_past}
 use Rattle.switch.proofs.SwitchLemmas.{shared, at}
-use Rattle.switch.proofs.EventLemmas.{places_are, after_is, node_there, node_seen, up_test, up_acts}
+use Rattle.switch.proofs.CallLemmas.{places_are, after_is, node_there, node_seen}
+use Rattle.switch.proofs.DispatchLemmas.{up_test, up_acts}
 use Rattle.switch.proofs.BelongsLemmas.{up_stays, restart_stays}
 
 no_restart : {V : Type 0} (e : Event V) → due e ≡ Some e → (j : ℕ) → e ≢ Restart j

@@ -12,8 +12,11 @@ pub mod ReadingLemmas
 pub mod FittingLemmas
 pub mod TableLemmas
 pub mod StepLemmas
+pub mod SavedLists
 pub mod KnownLemmas
-pub mod MandatoryLemmas
+pub mod MandatoryEntries
+pub mod ListedLabels
+pub mod ListedAdded
 pub mod ProvesLemmas
 pub mod Unique
 pub mod GrowthLemmas

@@ -14,8 +14,9 @@ use std::thread::Threads;
 
 /// The index, from 0, of the least job that is not right; none where each is right.
 ///
-/// The jobs are dealt out to the workers in turn, each worker runs on a thread of its own where one can be made, and
-/// passes `Place::Job(index)` of the gate before the job of that index. A worker stops at its first job that is not right.
+/// The jobs are dealt out in turn to the workers, of whom no more take part than there are jobs. Each worker runs on a
+/// thread of its own where one can be made, and passes `Place::Job(index)` of the gate before the job of that index. A
+/// worker stops at its first job that is not right.
 /// Errors: a growth was refused. Cost: that of the jobs, over the workers.
 pub fn judge_all<W: Work + Sync, G: Gate + Sync, R: Threads + Sync>(
     rt: &R,
@@ -26,7 +27,22 @@ pub fn judge_all<W: Work + Sync, G: Gate + Sync, R: Threads + Sync>(
 ) -> Result<Option<usize>, AllocError>
     ensures { IfOk result (IsLeast (W.right work.now) (W.count work.now)) }
 {
-    let answers = judge_stripes(rt, alloc, work, workers.count(), gate)?;
+    let workers = workers.count().min(work.count().max(1));
+    judge_by(rt, alloc, work, workers, gate)
+}
+
+/// The same by so many workers.
+fn judge_by<W: Work + Sync, G: Gate + Sync, R: Threads + Sync>(
+    rt: &R,
+    alloc: Global,
+    work: &W,
+    workers: usize,
+    gate: &G,
+) -> Result<Option<usize>, AllocError>
+    requires { (1 ≤ workers) × (workers ≤ 16) }
+    ensures { IfOk result (IsLeast (W.right work.now) (W.count work.now)) }
+{
+    let answers = judge_stripes(rt, alloc, work, workers, gate)?;
     let mut least = None;
     for answer in &answers {
         least = earlier(least, (*answer)?);

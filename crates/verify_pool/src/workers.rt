@@ -1,6 +1,6 @@
 //! How many threads judge side by side.
 
-ghost use Rattle.std.specs.Prelude.{◌≡◌, ℕ, ◌≤◌, ◌<◌, ◌⊎◌, MatchOption};
+ghost use Rattle.std.specs.Prelude.{◌≡◌, ℕ, ◌≤◌};
 ghost use Rattle.verify_pool.specs.declared.workers.TheConstants.{MOST_WORKERS};
 
 use std::marker::Model;
@@ -27,18 +27,6 @@ impl Model for Workers {
 }
 
 impl Workers {
-    /// So many workers, where they are 1 to 16.
-    pub fn new(count: u64) -> Option<Workers>
-        ensures { MatchOption result ((count ≡ 0) ⊎ (MOST_WORKERS < count)) (λ workers. workers ≡ count) }
-    {
-        if count == 0 || count > MOST_WORKERS as u64 {
-            return None;
-        }
-        Some(Workers {
-            count: count as usize,
-        })
-    }
-
     /// So many workers, of which a caller knows that they are 1 to 16.
     pub fn of(count: usize) -> Workers
         requires { (1 ≤ count) × (count ≤ MOST_WORKERS) }

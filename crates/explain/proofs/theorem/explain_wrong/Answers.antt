@@ -1,6 +1,6 @@
 use Rattle.std.proofs.Common.{subst}
 use Rattle.proof_code.specs.Writes.{Writes}
-use Rattle.verify.proofs.MandatoryLemmas.{place_of}
+use Rattle.verify.proofs.MandatoryEntries.{place_of}
 use Rattle.explain.proofs.RunLemmas.{proves}
 use Rattle.explain.proofs.theorem.explain_wrong.Goals as goal
 

@@ -9,7 +9,7 @@ use Rattle.frame.specs.StoredEntries.{statements_of, stmt_of}
 use Rattle.frame.specs.Covers.{does_cover}
 use Rattle.frame.proofs.WalkLemmas.{last-within}
 use Rattle.frame.proofs.StoredOneMore.{numbered-at}
-use Rattle.frame.proofs.PairsLemmas.{IsSought, sought-here, sought-found, sought-step, sought-over, read-here, any-kind, entry-disj}
+use Rattle.frame.proofs.KindWalk.{IsSought, sought-here, sought-found, sought-step, sought-over, read-here, any-kind, entry-disj}
 use Rattle.frame.proofs.ApartLemmas.{covers-told, covers-other}
 use Rattle.entries.specs.Entries.{seen}
 use Rattle.frame.proofs.apart.is_covered.Goals as goal

@@ -5,7 +5,7 @@ use Rattle.frame.specs.Links.{is_disj}
 use Rattle.frame.specs.StoredEntries.{statements_of}
 use Rattle.frame.specs.Covers.{does_cover}
 use Rattle.frame.specs.declared.apart.TheConstants.{PLACES}
-use Rattle.frame.proofs.PairsLemmas.{IsSought}
+use Rattle.frame.proofs.KindWalk.{IsSought}
 use Rattle.frame.proofs.apart.is_covered.Given as goal
 
 abbrev pub invariant-loop-last : goal.invariant-loop-last

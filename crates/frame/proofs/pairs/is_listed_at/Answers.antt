@@ -10,7 +10,7 @@ use Rattle.frame.specs.Links.{is_var}
 use Rattle.frame.specs.StoredEntries.{statements_of, stmt_of}
 use Rattle.frame.proofs.WalkLemmas.{last-within}
 use Rattle.frame.proofs.StoredOneMore.{numbered-at}
-use Rattle.frame.proofs.PairsLemmas.{IsSought, sought-here, sought-found, sought-step, sought-over, read-here, any-kind, has-decode, entry-var, other-var}
+use Rattle.frame.proofs.KindWalk.{IsSought, sought-here, sought-found, sought-step, sought-over, read-here, any-kind, has-decode, entry-var, other-var}
 use Rattle.entries.specs.Entries.{seen}
 use Rattle.frame.proofs.pairs.is_listed_at.Goals as goal
 

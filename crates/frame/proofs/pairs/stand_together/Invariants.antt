@@ -5,7 +5,7 @@ use Rattle.scope.specs.Active.{separated}
 use Rattle.names.specs.Codes.{name_at}
 use Rattle.frame.specs.Links.{is_disj}
 use Rattle.frame.specs.StoredEntries.{statements_of}
-use Rattle.frame.proofs.PairsLemmas.{IsSought}
+use Rattle.frame.proofs.KindWalk.{IsSought}
 use Rattle.frame.proofs.pairs.stand_together.Given as goal
 
 abbrev pub invariant-loop-last : goal.invariant-loop-last

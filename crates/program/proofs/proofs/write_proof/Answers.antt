@@ -3,7 +3,7 @@ use Rattle.mm_read.specs.declared.stmt.Stmt.{Stmt}
 use Rattle.mm_read.specs.Statements.{Database}
 use Rattle.scope.specs.Active.{bare, bares}
 use Rattle.verify.specs.Right.{IsProvable}
-use Rattle.verify.proofs.MandatoryLemmas.{place_of}
+use Rattle.verify.proofs.MandatoryEntries.{place_of}
 use Rattle.library.proofs.ItemsLemmas.{provable-bare}
 use Rattle.program.proofs.proofs.write_proof.Goals as goal
 

@@ -1,6 +1,6 @@
 use Rattle.std.proofs.Common.{sym, subst}
 use Rattle.steps.specs.Drafted.{ArePositions}
-use Rattle.verify.proofs.MandatoryLemmas.{place_of}
+use Rattle.verify.proofs.MandatoryEntries.{place_of}
 use Rattle.steps.proofs.ReachedLemmas.{reached-start, reached-can, reached-next, reached-steps, reached-last}
 use Rattle.steps.proofs.UnfoldLemmas.{unfolds}
 use Rattle.steps.proofs.table.proof_table.Goals as goal

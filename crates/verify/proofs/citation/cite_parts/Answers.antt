@@ -14,7 +14,7 @@ use Rattle.verify.specs.Machine.{Results}
 use Rattle.verify.specs.Places.{below, top, Adds}
 use Rattle.verify.proofs.AskedLemmas.{asked-lengths, asked-different, asked-standing}
 use Rattle.verify.proofs.CitingLemmas.{read-over}
-use Rattle.verify.proofs.KnownLemmas.{saved-same}
+use Rattle.verify.proofs.SavedLists.{saved-same}
 use Rattle.verify.proofs.Named.{all-drop, length-top}
 use Rattle.verify.proofs.StepLemmas.{assertion-few, assertion-untyped, assertion-unfit, assertion-clash, assertion-result}
 use Rattle.verify.proofs.TableLemmas.{has_with}

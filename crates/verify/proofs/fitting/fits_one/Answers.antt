@@ -5,7 +5,7 @@ use Rattle.frame.specs.Substitution.{code_apply, images_of_names}
 use Rattle.subst.specs.Places.{seen_at, images_at}
 use Rattle.verify.specs.Fits.{IsStanding, FitsOne}
 use Rattle.verify.proofs.FittingLemmas.{essential-iff}
-use Rattle.verify.proofs.MandatoryLemmas.{place_of}
+use Rattle.verify.proofs.MandatoryEntries.{place_of}
 use Rattle.verify.proofs.fitting.fits_one.Goals as goal
 
 pub expr-expr-requires : goal.expr-expr-requires

@@ -5,7 +5,7 @@ use Rattle.verify.specs.Right.{IsRight}
 use Rattle.subst.proofs.FindingsLemmas.{known-none}
 use Rattle.verify.proofs.KnownLemmas.{start-known, start-behind}
 use Rattle.verify.proofs.StepLemmas.{Reached, reached-start, reached-step, wrong-step, right-end, wrong-end, items-more, items-rest, all-taken}
-use Rattle.verify.proofs.MandatoryLemmas.{place_of}
+use Rattle.verify.proofs.MandatoryEntries.{place_of}
 use Rattle.verify.proofs.run.run.Goals as goal
 
 pub loop-number-init : goal.loop-number-init

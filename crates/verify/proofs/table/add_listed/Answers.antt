@@ -2,7 +2,9 @@ use Rattle.std.proofs.Common.{◌<◌, ◌∙◌, not, length, arith, sym, ap, s
 use Rattle.std.specs.List.Sorted.{IsNonDecreasing}
 use Rattle.scope.specs.Active.{before}
 use Rattle.verify.specs.Table.{is_hypothesis_among}
-use Rattle.verify.proofs.MandatoryLemmas.{place_of, hypotheses-rise, word-left, one-added, one-shared}
+use Rattle.verify.proofs.MandatoryEntries.{place_of}
+use Rattle.verify.proofs.ListedLabels.{hypotheses-rise}
+use Rattle.verify.proofs.ListedAdded.{word-left, one-added, one-shared}
 use Rattle.verify.proofs.table.add_listed.Goals as goal
 
 pub unreachable-requires : goal.unreachable-requires

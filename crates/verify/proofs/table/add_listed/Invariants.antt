@@ -1,4 +1,4 @@
-use Rattle.verify.proofs.MandatoryLemmas.{AreAdded}
+use Rattle.verify.proofs.ListedAdded.{AreAdded}
 use Rattle.verify.proofs.table.add_listed.Given as goal
 
 abbrev pub invariant-loop : goal.invariant-loop

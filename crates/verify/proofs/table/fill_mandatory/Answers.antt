@@ -1,7 +1,7 @@
 use Rattle.std.proofs.Common.{arith, map, ap, ◌∙◌}
 use Rattle.std.proofs.lemmas.List.{take_all}
 use Rattle.verify.specs.declared.table.Entry.TheVariants.{Hypothesis}
-use Rattle.verify.proofs.MandatoryLemmas.{mandatory-entries}
+use Rattle.verify.proofs.MandatoryEntries.{mandatory-entries}
 use Rattle.verify.proofs.table.fill_mandatory.Goals as goal
 
 pub returns-clause-entries : goal.returns-clause-entries

@@ -2,7 +2,7 @@ use Rattle.std.proofs.Common.{sym, ◌∙◌, ap, arith}
 use Rattle.std.proofs.lemmas.List.Sorted.{searched}
 use Rattle.verify.specs.declared.table.Entry.TheVariants.{Hypothesis}
 use Rattle.verify.specs.Table.{is_hypothesis_among}
-use Rattle.verify.proofs.MandatoryLemmas.{found-is, none-is}
+use Rattle.verify.proofs.ListedLabels.{found-is, none-is}
 use Rattle.verify.proofs.table.is_among.Goals as goal
 
 pub returns-in-Ok : goal.returns-in-Ok

@@ -9,7 +9,7 @@ use Rattle.frame.specs.FrameOf.{is_pair}
 use Rattle.frame.specs.Parts.{Numbered}
 use Rattle.frame.specs.StoredEntries.{statements_of}
 use Rattle.names.proofs.CodesLemmas.{list_any-map}
-use Rattle.frame.proofs.PairsLemmas.{same-number}
+use Rattle.frame.proofs.KindWalk.{same-number}
 use Rattle.frame.proofs.pairs.Pairs.has.Goals as goal
 
 pub returns-then-x-y : goal.returns-then-x-y

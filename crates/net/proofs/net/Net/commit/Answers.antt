@@ -3,7 +3,7 @@ use Rattle.synod.specs.declared.packet.Packet.{Packet}
 use Rattle.net.specs.declared.event.Event.{Event}
 use Rattle.net.specs.Due.{NetView, Work, posts_of, work_of}
 use Rattle.net.proofs.TakenLemmas.{packets_shown}
-use Rattle.net.proofs.DueLemmas.{taken_in, commit_world, commit_taken}
+use Rattle.net.proofs.DueTaken.{taken_in, commit_world, commit_taken}
 use Rattle.net.proofs.net.Net.commit.Goals as goal
 
 pub invariant_of-self : goal.invariant_of-self

@@ -5,7 +5,9 @@ use Rattle.net.specs.declared.fault.StepFault.TheVariants.{EventsSpent, Memory}
 use Rattle.net.specs.World.{World}
 use Rattle.net.specs.Due.{Due, NetView}
 use Rattle.net.proofs.TakenLemmas.{events_within, spent_met}
-use Rattle.net.proofs.DueLemmas.{due_still, gives_due, not_moved, still_more}
+use Rattle.net.proofs.EventsDue.{due_still}
+use Rattle.net.proofs.DueTaken.{gives_due}
+use Rattle.net.proofs.StepsDue.{not_moved, still_more}
 use Rattle.net.proofs.net.Net.ready.Goals as goal
 
 pub ready_at_node-requires : goal.ready_at_node-requires

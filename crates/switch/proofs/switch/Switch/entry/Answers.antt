@@ -1,4 +1,4 @@
-use Rattle.switch.proofs.EventLemmas.{told_no_node, told_node, told_place}
+use Rattle.switch.proofs.DispatchLemmas.{told_no_node, told_node, told_place}
 use Rattle.switch.proofs.switch.Switch.entry.Goals as goal
 
 pub returns-clause-no_node : goal.returns-clause-no_node

@@ -1,4 +1,4 @@
-use Rattle.switch.proofs.EventLemmas.{places_are}
+use Rattle.switch.proofs.CallLemmas.{places_are}
 use Rattle.switch.proofs.switch.Switch.history.Goals as goal
 
 pub returns-clause-places : goal.returns-clause-places

@@ -5,7 +5,7 @@ use Rattle.switch.specs.Seat.{Seated}
 use Rattle.switch.specs.Switch.{places_of}
 use Rattle.switch.proofs.SeatsLemmas.{places_new}
 use Rattle.switch.proofs.SwitchLemmas.{starts}
-use Rattle.switch.proofs.EventLemmas.{shared_is}
+use Rattle.switch.proofs.CallLemmas.{shared_is}
 use Rattle.switch.proofs.switch.Switch.new.Goals as goal
 
 pub invariant_of-result : goal.invariant_of-result

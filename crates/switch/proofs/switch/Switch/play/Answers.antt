@@ -2,7 +2,8 @@ use Rattle.std.proofs.Common.{Option, Some, refl, ap, sym, subst, ◌∙◌, ari
 use Rattle.net.specs.declared.event.Event.{Event}
 use Rattle.net.specs.Due.{Due, IsTaken}
 use Rattle.switch.proofs.SwitchLemmas.{still_switch}
-use Rattle.switch.proofs.EventLemmas.{still_shared, ready_fails, in_seats, node_seen, down_acts, call_failed, call_played}
+use Rattle.switch.proofs.CallLemmas.{still_shared, ready_fails, node_seen}
+use Rattle.switch.proofs.DispatchLemmas.{in_seats, down_acts, call_failed, call_played}
 use Rattle.switch.proofs.TieLemmas.{answers, is_up_now, call_acts}
 use Rattle.switch.proofs.switch.Switch.play.Goals as goal
 

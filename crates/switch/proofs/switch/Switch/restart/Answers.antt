@@ -1,5 +1,5 @@
 use Rattle.std.proofs.Common.{sym, ◌∙◌}
-use Rattle.switch.proofs.EventLemmas.{restarts_down, restarts_up}
+use Rattle.switch.proofs.DispatchLemmas.{restarts_down, restarts_up}
 use Rattle.switch.proofs.switch.Switch.restart.Goals as goal
 
 pub returns-then-is_down-clause-restarts : goal.returns-then-is_down-clause-restarts

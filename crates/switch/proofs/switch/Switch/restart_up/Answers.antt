@@ -5,7 +5,9 @@ use Rattle.net.specs.declared.event.Event.TheVariants.{Restart}
 use Rattle.net.specs.Due.{Due, IsDue, IsTaken, loads_due}
 use Rattle.switch.specs.Seat.{Seated}
 use Rattle.switch.proofs.SwitchLemmas.{still_switch}
-use Rattle.switch.proofs.EventLemmas.{still_shared, ready_fails, in_seats, kept_is, call_failed, call_played, load_change, loaded_change, loaded_due, restarts_up}
+use Rattle.switch.proofs.CallLemmas.{still_shared, ready_fails}
+use Rattle.switch.proofs.DispatchLemmas.{in_seats, kept_is, call_failed, call_played, restarts_up}
+use Rattle.switch.proofs.LoadLemmas.{load_change, loaded_change, loaded_due}
 use Rattle.switch.proofs.TieLemmas.{answers, up_err, call_stays_restart}
 use Rattle.switch.proofs.switch.Switch.restart_up.Goals as goal
 

@@ -5,10 +5,13 @@ use Rattle.synod.specs.declared.packet.Packet.{Packet}
 use Rattle.net.specs.Due.{Due, HasRoom, IsDue, IsTaken, posts_of}
 use Rattle.switch.specs.Seat.{Seated, owed_in, posts_owed}
 use Rattle.switch.proofs.SeatsLemmas.{same_at}
-use Rattle.net.proofs.DueLemmas.{due_still, still_more}
+use Rattle.net.proofs.EventsDue.{due_still}
+use Rattle.net.proofs.StepsDue.{still_more}
 use Rattle.switch.proofs.SwitchLemmas.{still_switch}
-use Rattle.switch.proofs.EventLemmas.{still_shared, in_seats, restarts_down}
-use Rattle.switch.proofs.ReviveLemmas.{no_memory, stays_down, stays_acts, can_take_owed, low_m, due_m, room_m, revived, revived_acts, revive_spent, revive_unready}
+use Rattle.switch.proofs.CallLemmas.{still_shared}
+use Rattle.switch.proofs.DispatchLemmas.{in_seats, restarts_down}
+use Rattle.switch.proofs.ReviveLemmas.{no_memory, stays_down, stays_acts, can_take_owed, low_m, due_m, room_m, revived, revived_acts}
+use Rattle.switch.proofs.ReviveRefused.{revive_spent, revive_unready}
 use Rattle.switch.proofs.TieLemmas.{answers, answers_memory, down_err, call_stays_restart}
 use Rattle.switch.proofs.switch.Switch.revive.Goals as goal
 

@@ -1,6 +1,0 @@
-use Rattle.std.proofs.Common.{◌≡◌, ◌+◌, drop}
-use Rattle.library.specs.Charters.{first_declaration}
-use Rattle.library.proofs.reading.first_declaration.Given as goal
-
-abbrev pub invariant-loop-index : goal.invariant-loop-index
-invariant-loop-index l = first_declaration 1 l.statements ≡ first_declaration (l.index + 1) (drop l.index l.statements)

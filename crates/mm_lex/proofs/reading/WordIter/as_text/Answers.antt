@@ -1,7 +1,0 @@
-use Rattle.std.proofs.Common.{◌∙◌, ap, sym}
-use Rattle.mm_lex.specs.Words.{spaced}
-use Rattle.mm_lex.proofs.WordsLemmas.{spaced-words_of}
-use Rattle.mm_lex.proofs.reading.WordIter.as_text.Goals as goal
-
-pub returns-clause-text : goal.returns-clause-text
-returns-clause-text c = sym (spaced-words_of c.self.inside.text.now) ∙ ap spaced c.self.view_is

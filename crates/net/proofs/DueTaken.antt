@@ -1,0 +1,112 @@
+-- A due event is taken, and the clauses of an answer.
+use Rattle.std.proofs.Common.{◌≡◌, ℕ, ◌<◌, ◌≤◌, List, [], ◌∷◌, ◌++◌, length, get_or, set, slice_get, Some, None, Result, Ok, Err, true, false, if◌then◌else◌, refl, ap, sym, ◌∙◌, subst, arith, append-nil}
+use Rattle.std.specs.Prelude.{IfOk, IfErr, IsOk, OnOk, is_ok}
+use Rattle.std.specs.declared.alloc.AllocError.{AllocError}
+use Rattle.std.proofs.lemmas.Option.{slice_get_within}
+use Rattle.std.specs.List.{AllByRecursion}
+use Rattle.synod.specs.declared.packet.Packet.{Packet}
+use Rattle.synod.specs.Packets.{IsPost}
+use Rattle.synod.specs.Node.{Node, Stepped}
+use Rattle.synod.specs.Core.{Core}
+use Rattle.net.specs.declared.event.TheConstants.{MOST_EVENTS}
+use Rattle.net.specs.declared.event.Event.{Event}
+use Rattle.net.specs.declared.fault.StepFault.{StepFault}
+use Rattle.net.specs.declared.fault.StepFault.TheVariants.{Memory}
+use Rattle.net.specs.World.{World, stepped, happens_at}
+use Rattle.net.specs.Taken.{Taken, AreOfWorld}
+use Rattle.net.specs.Due.{Work, steps, restarts, Due, posts_of, step_of, IsReadyAt, NetView, IsDue, IsTaken, Gives}
+use Rattle.net.proofs.Lists.{all_append, at_place}
+use Rattle.net.proofs.TakenLemmas.{makes}
+use Rattle.net.proofs.EventsDue.{nodes_found}
+
+-- A due event is taken.
+
+-- its posts are those of the step
+pub posts_same : {V : Type 0} (c : Core V) (w : Work V) → IsReadyAt c w → posts_of w ≡ (step_of w c.node).posts
+posts_same c (steps made) h = refl
+posts_same c (restarts posts None) h = h
+posts_same c (restarts posts (Some kept)) h = h.0
+
+pub taken_in : {A : Type 0} (r : Result (Unit {0}) AllocError) (old more new : List A) → IsOk r → new ≡ (if is_ok r then old ++ more else old) → new ≡ old ++ more
+taken_in (Ok done) old more new ok e = e
+taken_in (Err fault) old more new ok e = let no : false ≡ true = ok in cc
+
+module _ {V : Type 0} (size : V → ℕ) (view now : NetView V) (seen : view ≡ now) (h : AreOfWorld size view.taken view.cores view.packets) (low : length now.taken.events < MOST_EVENTS) (due : Due V) (ready : IsDue size now due)
+    (k : ℕ) (is_at : k ≡ due.at) (core new : Core V) (is : core ≡ get_or view.cores k core) (work : Work V) (is_work : work ≡ due.work) (node : new.node ≡ (step_of work core.node).node) where
+  due_view : IsDue size view due
+  due_view = subst (λ (n : NetView V). IsDue size n due) (sym seen) ready
+
+  core_is : slice_get view.cores due.at ≡ Some core
+  core_is = at_place view.cores due.at core (slice_get_within view.cores due.at due_view.core due_view.at) (is ∙ ap (λ (i : ℕ). get_or view.cores i core) is_at)
+
+  same_core : due_view.core ≡ core
+  same_core = let both : Some due_view.core ≡ Some core = sym due_view.at ∙ core_is in cc
+
+  abbrev step : Stepped V
+  step = step_of due.work due_view.core.node
+
+  new_node : new.node ≡ step.node
+  new_node = node ∙ ap (λ (w : Work V). (step_of w core.node).node) is_work ∙ ap (λ (c : Core V). (step_of due.work c.node).node) (sym same_core)
+
+  happens_is : happens_at size h.world due.event ≡ Ok (stepped h.world due.at step)
+  happens_is =
+      (due_view.comes h.world [] (h.posted ∙ sym (append-nil view.packets))
+      (ap (λ (ns : List (Node V)). slice_get ns due.at) h.nodes ∙ nodes_found view.cores due.at due_view.core due_view.at)).happens
+
+  pub can_index : k < length view.cores
+  can_index = let low_at = slice_get_within view.cores due.at due_view.core due_view.at in omega (arith, low_at, is_at)
+
+  pub ready_here : IsReadyAt core work
+  ready_here = subst (λ (w : Work V). IsReadyAt core w) (sym is_work) (subst (λ (c : Core V). IsReadyAt c due.work) same_core due_view.ready)
+
+  module _ (packets : List (Packet V)) (events : List (Event V)) (added : packets ≡ view.packets ++ posts_of work) (pushed : events ≡ view.taken.events ++ due.event ∷ []) where
+    packets_are : packets ≡ view.packets ++ posts_of due.work
+    packets_are = added ∙ ap (λ (w : Work V). view.packets ++ posts_of w) is_work
+
+    pub commit_world : AreOfWorld size (record { weights = view.taken.weights; events = events }) (set view.cores k new) packets
+    commit_world =
+        let made = makes size view.taken view.cores view.packets h (subst (λ (n : NetView V). length n.taken.events < MOST_EVENTS) (sym seen) low) due.event due.at new step happens_is packets new_node
+        (packets_are ∙ ap (λ (ps : List (Packet V)). view.packets ++ ps) (posts_same due_view.core due.work due_view.ready))
+        (subst (λ (ps : List (Packet V)). AllByRecursion (IsPost (length view.taken.weights)) ps) (sym packets_are) (all_append (IsPost (length view.taken.weights)) view.packets (posts_of due.work) h.posts due_view.posts)) in
+        subst (λ (i : ℕ). AreOfWorld size (record { weights = view.taken.weights; events = events }) (set view.cores i new) packets) (sym is_at)
+        (subst (λ (es : List (Event V)). AreOfWorld size (record { weights = view.taken.weights; events = es }) (set view.cores due.at new) packets) (sym pushed) made)
+
+    pub commit_taken : (packet_room event_room : ℕ) → view.packet_room ≤ packet_room → view.event_room ≤ event_room
+        → IsTaken now (record { taken = record { weights = view.taken.weights; events = events }; cores = set view.cores k new; packets = packets; packet_room = packet_room; event_room = event_room }) due
+    commit_taken packet_room event_room p e =
+        let next : NetView V = record { taken = record { weights = view.taken.weights; events = events }; cores = set view.cores k new; packets = packets; packet_room = packet_room; event_room = event_room } in
+        subst (λ (n : NetView V). IsTaken n next due) seen record {
+          was = due_view.core;
+          at = due_view.at;
+          core = new;
+          node = new_node;
+          cores = ap (λ (i : ℕ). set view.cores i new) is_at;
+          taken = ap (λ (es : List (Event V)). let t : Taken V = record { weights = view.taken.weights; events = es } in t) pushed;
+          packets = packets_are;
+          packet_room = p;
+          event_room = e;
+        }
+
+-- The clauses of an answer.
+
+module _ {V : Type 0} (size : V → ℕ) (net : NetView V) (e : Event V) where
+  pub gives_due : (r : Result (World V) StepFault) (result : Result (Due V) StepFault) → Gives size net e r result → IfOk result (IsDue size net)
+  gives_due (Ok w) (Ok due) h = h.0
+  gives_due (Err met) (Ok due) h = elim h [ ]
+  gives_due r (Err fault) h = tt
+
+  pub gives_event : (r : Result (World V) StepFault) (due : Due V) → Gives size net e r (Ok due) → due.event ≡ e
+  gives_event (Ok w) due h = h.1
+  gives_event (Err met) due h = elim h [ ]
+
+  pub gives_none : (r : Result (World V) StepFault) (due : Due V) (P : StepFault → Type 0) → Gives size net e r (Ok due) → IfErr r P
+  gives_none (Ok w) due P h = tt
+  gives_none (Err met) due P h = elim h [ ]
+
+  pub gives_met : (r : Result (World V) StepFault) (fault : StepFault) → Gives size net e r (Err fault) → IfErr r (λ met. fault ≡ met)
+  gives_met (Ok w) fault h = tt
+  gives_met (Err met) fault h = h
+
+  pub gives_memory : (r : Result (World V) StepFault) (fault : StepFault) → Gives size net e r (Err fault) → OnOk r (fault ≡ Memory)
+  gives_memory (Ok w) fault h = h
+  gives_memory (Err met) fault h = tt

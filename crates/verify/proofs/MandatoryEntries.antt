@@ -1,0 +1,143 @@
+-- The mandatory hypotheses of a statement, as entries of a table.
+use Rattle.std.specs.Prelude.{◌≡◌, ℕ, zero, suc, ◌+◌, ◌-◌, ◌<◌, ◌≤◌, Bool, true, ◌&&◌, nat_le, nat_lt, List, [], ◌∷◌, ◌++◌, length, map, take, drop, get_or, slice_get, Some, unwrap_or, refl}
+use Rattle.std.proofs.Common.{sym, ◌∙◌, ap, subst, arith, length-append}
+use Rattle.std.proofs.lemmas.Bool.Decides.{nat_tests}
+use Rattle.std.proofs.lemmas.List.{take-append-drop, length-take-le, length-map}
+use Rattle.std.proofs.lemmas.Option.{slice_get_within}
+use Rattle.mm_lex.specs.Alphabet.{Name}
+use Rattle.mm_read.specs.declared.stmt.Stmt.{Stmt}
+use Rattle.mm_read.specs.declared.stmt.Stmt.TheVariants.{Open, Close, Const, Var, Disj, Float, Ess, Axiom, Prove}
+use Rattle.mm_read.specs.Statements.{Database}
+use Rattle.scope.specs.Active.{before, is_assertion, is_provable, label_of, stays_open, stmt_at}
+use Rattle.frame.specs.Citations.{Carries, IsHypothesis, is_hypothesis_kind}
+use Rattle.frame.specs.FrameOf.{HasAssertion, hypotheses, is_hypothesis}
+use Rattle.frame.proofs.PlacedHypotheses.{IsHyp, AreHyps, hyps}
+use Rattle.verify.specs.declared.table.Entry.{Entry}
+use Rattle.verify.specs.declared.table.Entry.TheVariants.{Hypothesis, Nothing}
+use Rattle.verify.specs.Proves.{label_or_none, mandatory_labels}
+use Rattle.verify.specs.Right.{IsProvable}
+use Rattle.verify.specs.Table.{IsEntry, AreEntries}
+
+pub place_of : (S : Database) (at : ℕ) (s : Stmt) → stmt_at S at ≡ Some s → (1 ≤ at) × (at ≤ length S)
+place_of S zero s h = cc
+place_of S (suc n) s h = let w = slice_get_within S n s h in (omega arith, omega (arith, w))
+
+pub provable-assertion : (s : Stmt) → is_provable s ≡ true → is_assertion s ≡ true
+provable-assertion (Prove label expr proof) h = refl
+provable-assertion (Axiom label expr) h = refl
+provable-assertion Open h = cc
+provable-assertion Close h = cc
+provable-assertion (Const names) h = cc
+provable-assertion (Var names) h = cc
+provable-assertion (Disj names) h = cc
+provable-assertion (Float label constant variable) h = cc
+provable-assertion (Ess label expr) h = cc
+
+pub has-provable : (S : Database) (at : ℕ) (s : Stmt) → IsProvable S at s → HasAssertion S at s
+has-provable S at s p = (p.stands, provable-assertion s p.provable)
+
+-- ---- one hypothesis
+
+hypothesis-kind : (S : Database) (s t : Stmt) → is_hypothesis S s t ≡ true → is_hypothesis_kind t ≡ true
+hypothesis-kind S s (Ess label expr) h = refl
+hypothesis-kind S s (Float label constant variable) h = refl
+hypothesis-kind S s Open h = cc
+hypothesis-kind S s Close h = cc
+hypothesis-kind S s (Const names) h = cc
+hypothesis-kind S s (Var names) h = cc
+hypothesis-kind S s (Disj names) h = cc
+hypothesis-kind S s (Axiom label expr) h = cc
+hypothesis-kind S s (Prove label expr proof) h = cc
+
+has-label : (t : Stmt) → is_hypothesis_kind t ≡ true → label_of t ≡ Some (unwrap_or (label_of t) [])
+has-label (Ess label expr) h = refl
+has-label (Float label constant variable) h = refl
+has-label Open h = cc
+has-label Close h = cc
+has-label (Const names) h = cc
+has-label (Var names) h = cc
+has-label (Disj names) h = cc
+has-label (Axiom label expr) h = cc
+has-label (Prove label expr proof) h = cc
+
+pub one-kind : (t : Stmt) → is_hypothesis_kind t ≡ true → is_assertion t ≡ true → ⊥
+one-kind (Ess label expr) h a = cc
+one-kind (Float label constant variable) h a = cc
+one-kind Open h a = cc
+one-kind Close h a = cc
+one-kind (Const names) h a = cc
+one-kind (Var names) h a = cc
+one-kind (Disj names) h a = cc
+one-kind (Axiom label expr) h a = cc
+one-kind (Prove label expr proof) h a = cc
+
+get-middle : (front : Database) (t : Stmt) (rest more : Database) → slice_get ((front ++ t ∷ rest) ++ more) (length front) ≡ Some t
+get-middle [] t rest more = refl
+get-middle (x ∷ front) t rest more = get-middle front t rest more
+
+between-middle : (front : Database) (t : Stmt) (rest more : Database) (n : ℕ) → n ≡ length rest → take n (drop (suc (length front)) ((front ++ t ∷ rest) ++ more)) ≡ rest
+between-middle [] t rest more n e = front-of rest n e
+  where
+    front-of : (r : Database) (n : ℕ) → n ≡ length r → take n (r ++ more) ≡ r
+    front-of [] n e = ap (λ k. take k more) e
+    front-of (x ∷ r) zero e = absurd (omega (arith, e))
+    front-of (x ∷ r) (suc n) e = ap (λ u. x ∷ u) (front-of r n (omega (arith, e)))
+between-middle (x ∷ front) t rest more n e = between-middle front t rest more n e
+
+-- a mandatory hypothesis is an active one, and carries its label
+pub record IsMandatory (S : Database) (at p : ℕ) : Type 0 where
+  pub stmt : Stmt
+  pub carries : Carries S p stmt (label_or_none (stmt_at S p))
+  pub active : IsHypothesis S at p stmt
+
+and-true : (a b c : Bool) → a ≡ true → b ≡ true → c ≡ true → (a && b && c) ≡ true
+and-true a b c p q r = rw (p, q, r) refl
+
+mandatory-is : (S : Database) (at : ℕ) (s : Stmt) (p : ℕ) → 1 ≤ at → at ≤ length S → IsHyp (before S at) s p → IsMandatory S at p
+mandatory-is S at s p low high h =
+    let whole : S ≡ (h.front ++ h.stmt ∷ h.rest) ++ drop (at - 1) S = sym (take-append-drop (at - 1) S) ∙ ap (λ u. u ++ drop (at - 1) S) h.whole in
+    let stands : stmt_at S p ≡ Some h.stmt = ap (stmt_at S) h.at ∙ (ap (λ u. slice_get u (length h.front)) whole ∙ get-middle h.front h.stmt h.rest (drop (at - 1) S)) in
+    let kind : is_hypothesis_kind h.stmt ≡ true = hypothesis-kind (before S at) s h.stmt h.is in
+    let long : at - 1 ≡ length h.front + suc (length h.rest) = sym (length-take-le (at - 1) S (omega (arith, high))) ∙ (ap length h.whole ∙ length-append h.front (h.stmt ∷ h.rest)) in
+    let between : take (at - 1 - p) (drop p S) ≡ h.rest =
+    ap (λ k. take (at - 1 - k) (drop k S)) h.at ∙ (ap (λ u. take (at - 1 - suc (length h.front)) (drop (suc (length h.front)) u)) whole ∙ between-middle h.front h.stmt h.rest (drop (at - 1) S) (at - 1 - suc (length h.front)) (omega (arith, long))) in
+    let first : nat_le 1 p ≡ true = let e = h.at in grind (arith, nat_tests) in
+    let earlier : p < at = let e = h.at in omega (arith, long, e) in
+    let test : nat_lt p at ≡ true = grind (arith, nat_tests) in
+    record {
+      stmt = h.stmt;
+      carries = record { stands = stands; carried = has-label h.stmt kind ∙ ap (λ o. Some (label_or_none o)) (sym stands) };
+      active = record { stands = stands; kind = kind; active = and-true (nat_le 1 p) (nat_lt p at) (stays_open 0 (take (at - 1 - p) (drop p S))) first test (ap (stays_open 0) between ∙ h.stays) };
+    }
+
+abbrev pub AreMandatory : Database → ℕ → List ℕ → Type 0
+AreMandatory S at [] = Unit {0}
+AreMandatory S at (p ∷ ps) = IsMandatory S at p × AreMandatory S at ps
+
+all-mandatory : (S : Database) (at : ℕ) (s : Stmt) (ps : List ℕ) → 1 ≤ at → at ≤ length S → AreHyps (before S at) s ps → AreMandatory S at ps
+all-mandatory S at s [] low high h = tt
+all-mandatory S at s (p ∷ ps) low high h = (mandatory-is S at s p low high h.0, all-mandatory S at s ps low high h.1)
+
+abbrev pub labels_at : Database → List ℕ → List Name
+labels_at S ps = map (λ i. label_or_none (stmt_at S i)) ps
+
+pub mandatory-of : (S : Database) (at : ℕ) (s : Stmt) → IsProvable S at s → AreMandatory S at (hypotheses (before S at) s)
+mandatory-of S at s p =
+    let place = place_of S at s p.stands in
+    all-mandatory S at s (hypotheses (before S at) s) place.0 place.1 (hyps (before S at) s)
+
+-- ---- their entries
+
+entry-each : (S : Database) (at : ℕ) (ps : List ℕ) → AreMandatory S at ps → (k : ℕ) → k < length (labels_at S ps) → IsEntry S at (get_or (labels_at S ps) k []) (get_or (map Hypothesis ps) k Nothing)
+entry-each S at [] h k less = absurd (omega (arith, less))
+entry-each S at (p ∷ ps) h zero less = (h.0.stmt, h.0.carries, h.0.active)
+entry-each S at (p ∷ ps) h (suc k) less = entry-each S at ps h.1 k (omega (arith, less))
+
+pub mandatory-entries : (S : Database) (at : ℕ) (s : Stmt) (ps : List ℕ) (table : List Entry) → IsProvable S at s → ps ≡ hypotheses (before S at) s → table ≡ map Hypothesis ps → AreEntries S at (mandatory_labels S at s) table
+mandatory-entries S at s ps table p are filled =
+    let hs : List ℕ = hypotheses (before S at) s in
+    subst (AreEntries S at (labels_at S (hypotheses (before S at) s))) (sym (filled ∙ ap (map Hypothesis) are))
+    (record {
+      count = length-map (hypotheses (before S at) s) Hypothesis ∙ sym (length-map (hypotheses (before S at) s) (λ i. label_or_none (stmt_at S i)));
+      each = entry-each S at (hypotheses (before S at) s) (mandatory-of S at s p);
+    })

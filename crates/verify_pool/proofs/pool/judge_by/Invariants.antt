@@ -1,0 +1,10 @@
+use Rattle.std.proofs.Common.{ℕ, ◌<◌, IfSome}
+use Rattle.verify_pool.specs.Least.{IsWrongAt}
+use Rattle.verify_pool.specs.Stripes.{IsStripeRightBefore}
+use Rattle.verify_pool.proofs.pool.judge_by.Given as goal
+
+abbrev pub invariant-loop-answer : goal.invariant-loop-answer
+invariant-loop-answer g l = record {
+  before : (stripe : ℕ) → stripe < l.answer-index → IsStripeRightBefore (g.W.Work.right l.fn.work) (g.W.Work.count l.fn.work) stripe l.fn.workers l.least;
+  wrong : IfSome l.least (IsWrongAt (g.W.Work.right l.fn.work) (g.W.Work.count l.fn.work));
+}
