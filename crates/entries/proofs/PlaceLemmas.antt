@@ -3,7 +3,7 @@
 use Rattle.std.specs.Prelude.{◌≡◌, ℕ, zero, suc, ◌+◌, ◌-◌, ◌<◌, ◌≤◌, ◌^◌, List, [], ◌∷◌, ◌++◌, length, map, take, slice_get, Some, refl, ◌⊎◌}
 use Rattle.std.proofs.Common.{◌∙◌, ap, sym, subst, arith, inl, inr}
 use Rattle.std.proofs.lemmas.List.{length-append, length-take-le, map-append, take-append-le}
-use Rattle.std.proofs.lemmas.Option.{slice_get_within}
+use Rattle.std.proofs.lemmas.Option.{slice_get_within, same_Some}
 use Rattle.std.proofs.Math.Seq.{take-append_seam}
 use Rattle.entries.specs.declared.sizes.Sizes.{Sizes}
 use Rattle.entries.specs.declared.record.Buffers.{Buffers}
@@ -14,19 +14,16 @@ use Rattle.entries.proofs.SpanLemmas.{range-extends, extends-length, extends-tak
 
 -- ---- within
 
-some-same : {A : Type 0} {x y : A} → Some x ≡ Some y → x ≡ y
-some-same e = cc
-
 pub within-at : (n : Sizes) (rs : List Place) (i : ℕ) (r : Place) → AreWithin n rs → slice_get rs i ≡ Some r → IsWithin n r
 within-at n [] zero r h e = absurd (cc)
 within-at n [] (suc i) r h e = absurd (cc)
-within-at n (q ∷ rs) zero r h e = subst (IsWithin n) (some-same e) h.0
+within-at n (q ∷ rs) zero r h e = subst (IsWithin n) (same_Some _ _ e) h.0
 within-at n (q ∷ rs) (suc i) r h e = within-at n rs i r h.1 e
 
 pub groups-at : (b : Buffers) (rs : List Place) (i : ℕ) (r : Place) → HaveGroups b rs → slice_get rs i ≡ Some r → HasGroups b r
 groups-at b [] zero r h e = absurd (cc)
 groups-at b [] (suc i) r h e = absurd (cc)
-groups-at b (q ∷ rs) zero r h e = subst (HasGroups b) (some-same e) h.0
+groups-at b (q ∷ rs) zero r h e = subst (HasGroups b) (same_Some _ _ e) h.0
 groups-at b (q ∷ rs) (suc i) r h e = groups-at b rs i r h.1 e
 
 -- sizes that are no less
@@ -103,7 +100,7 @@ more-grown b c g = record { numbers = extends-length b.numbers.items c.numbers.i
 -- ---- one more statement
 
 get-push : {A : Type 0} (xs : List A) (x y : A) (i : ℕ) → slice_get (xs ++ x ∷ []) i ≡ Some y → ((i < length xs) × (slice_get xs i ≡ Some y)) ⊎ ((i ≡ length xs) × (x ≡ y))
-get-push [] x y zero e = inr (refl, some-same e)
+get-push [] x y zero e = inr (refl, same_Some _ _ e)
 get-push [] x y (suc i) e = absurd (cc)
 get-push (z ∷ xs) x y zero e = inl (omega arith, e)
 get-push (z ∷ xs) x y (suc i) e = lift (get-push xs x y i e)

@@ -2,7 +2,7 @@
 use Rattle.std.specs.Prelude.{◌≡◌, ℕ, suc, ◌+◌, ◌-◌, ◌<◌, ◌≤◌, Bool, true, false, List, length, map, drop, slice_get, slice_range, Some, option_map, refl}
 use Rattle.std.proofs.Common.{◌∙◌, ap, sym, subst, arith}
 use Rattle.std.proofs.lemmas.List.{length-map}
-use Rattle.std.proofs.lemmas.Option.{slice_get-map}
+use Rattle.std.proofs.lemmas.Option.{slice_get-map, same_Some}
 use Rattle.entries.specs.declared.record.Record.{Record}
 use Rattle.entries.specs.declared.record.Row.{Row}
 use Rattle.entries.specs.declared.record.Buffers.{Buffers}
@@ -12,9 +12,6 @@ use Rattle.entries.specs.Records.{Place, row_by, own_row, place_by, place_of, pl
 use Rattle.entries.proofs.PlaceLemmas.{within-at, groups-at}
 use Rattle.entries.proofs.RecordLemmas.{rows-of, rows_after, places-get, places-length, end-by}
 use Rattle.entries.proofs.AddedLemmas.{range-none}
-
-some-same : {A : Type 0} {x y : A} → Some x ≡ Some y → x ≡ y
-some-same e = cc
 
 pub index-in : (b : Buffers) (rs : List Record) (es : List Entry) (i : ℕ) → map (entry_of b) (places_of b rs) ≡ es → i < length es → i < length rs
 index-in b rs es i v h = let n = length-map (places_of b rs) (entry_of b) in let m = places-length b rs in let l = ap length v in omega arith
@@ -85,7 +82,7 @@ module _ (b : Buffers) (rs : List Record) (es : List Entry) (i : ℕ) (r : Recor
   reads-place = reads-by r.has_row b r (end_of b (drop (suc i) rs)) own-place (groups-at b (places_of b rs) i place p.grouped (places-get b rs i r here))
 
   pub reads : (e : Entry) → slice_get es i ≡ Some e → IsReading b (own_row b.rows.items r) e.assertion
-  reads e h = subst (λ (x : Entry). IsReading b (own_row b.rows.items r) x.assertion) (some-same (sym (is-entry b rs es i r v here) ∙ h)) reads-place
+  reads e h = subst (λ (x : Entry). IsReading b (own_row b.rows.items r) x.assertion) (same_Some _ _ (sym (is-entry b rs es i r v here) ∙ h)) reads-place
 
   pub reads-some : (a : Assertion) × IsReading b (own_row b.rows.items r) a
   reads-some = ((entry_of b place).assertion, reads-place)

@@ -1,15 +1,12 @@
 -- Records and rows: the places that they tell stay when more is added behind them, and go where they are cut.
 use Rattle.std.specs.Prelude.{◌≡◌, ℕ, zero, suc, ◌+◌, ◌<◌, ◌≤◌, Bool, true, false, List, [], ◌∷◌, ◌++◌, length, take, drop, slice_get, get_or, Some, None, refl, ◌⊎◌}
 use Rattle.std.proofs.Common.{◌∙◌, ap, sym, arith, inl, inr}
-use Rattle.std.proofs.lemmas.Option.{slice_get-get_or, get_or_from_slice_get, slice_get_cases}
+use Rattle.std.proofs.lemmas.Option.{slice_get-get_or, get_or_from_slice_get, slice_get_cases, same_Some}
 use Rattle.entries.specs.declared.record.Record.{Record}
 use Rattle.entries.specs.declared.record.Row.{Row}
 use Rattle.entries.specs.declared.record.Buffers.{Buffers}
 use Rattle.entries.specs.Spans.{Extends}
 use Rattle.entries.specs.Records.{head_of, no_row, hypotheses_by, groups_by, hypotheses_at, groups_at, row_place, plain_place, place_by, place_of, end_of, from_by, places_of, sizes_of, AreWithin, Begins}
-
-some-same : {A : Type 0} {x y : A} → Some x ≡ Some y → x ≡ y
-some-same e = cc
 
 -- ---- one place
 
@@ -92,7 +89,7 @@ places-length b (r ∷ rs) = ap suc (places-length b rs)
 pub places-get : (b : Buffers) (rs : List Record) (i : ℕ) (r : Record) → slice_get rs i ≡ Some r → slice_get (places_of b rs) i ≡ Some (place_of b r (end_of b (drop (suc i) rs)))
 places-get b [] zero r e = absurd (cc)
 places-get b [] (suc i) r e = absurd (cc)
-places-get b (q ∷ rs) zero r e = ap (λ (x : Record). Some (place_of b x (end_of b rs))) (some-same e)
+places-get b (q ∷ rs) zero r e = ap (λ (x : Record). Some (place_of b x (end_of b rs))) (same_Some _ _ e)
 places-get b (q ∷ rs) (suc i) r e = places-get b rs i r e
 
 pub end-by : (b : Buffers) (k : ℕ) (rs : List Record) → end_of b (drop k rs) ≡ from_by (length b.numbers.items) (slice_get rs k)
@@ -124,7 +121,7 @@ places-take b c (suc n) (q ∷ rs) r g st h f w =
   where
     end-take : (m : ℕ) (qs : List Record) → slice_get qs m ≡ Some r → end_of b (take m qs) ≡ end_of c qs
     end-take zero [] e = absurd (cc)
-    end-take zero (x ∷ qs) e = f ∙ ap (λ (y : Record). y.from) (sym (some-same e))
+    end-take zero (x ∷ qs) e = f ∙ ap (λ (y : Record). y.from) (sym (same_Some _ _ e))
     end-take (suc m) [] e = absurd (cc)
     end-take (suc m) (x ∷ qs) e = refl
 

@@ -3,6 +3,7 @@ use Rattle.std.specs.Prelude.{◌≡◌, ◌≢◌, ℕ, ◌+◌, ◌-◌, ◌*�
 use Rattle.std.specs.Option.{option_map}
 use Rattle.std.proofs.Common.{sym, ◌∙◌, ap, subst, arith, append_assoc, append-nil, length-append, inl, inr}
 use Rattle.std.proofs.lemmas.List.Folds.{list_all-append}
+use Rattle.std.proofs.lemmas.Bool.{or_left, or_right, le-leb}
 use Rattle.mm_lex.specs.Alphabet.{Name}
 use Rattle.proof_code.specs.declared.item.Item.{Item}
 use Rattle.proof_code.specs.Letters.{IsNumber, is_first, is_last, number_from}
@@ -16,7 +17,7 @@ use Rattle.explain.specs.declared.why.LetterBreak.{LetterBreak}
 use Rattle.explain.specs.declared.why.LetterFault.{LetterFault}
 use Rattle.explain.specs.Breaks.{marks_in, IsEnd, place_in, IsAllowed, IsOther, IsOver, BeginsWith, Breaks, IsLetterBreak}
 use Rattle.explain.specs.Reading.{zeros, IsReadTo}
-use Rattle.explain.proofs.NumberLemmas.{at-append, not-empty, marks-zeros, zeros-number, zeros-mark, before-push, over, last-over, or-left, or-right, first-false, last-true, le-true, zero-or}
+use Rattle.explain.proofs.NumberLemmas.{at-append, not-empty, marks-zeros, zeros-number, zeros-mark, before-push, over, last-over, first-false, last-true, zero-or}
 
 -- ---- nothing read yet
 
@@ -160,7 +161,7 @@ module _ (labels : ℕ) (letters : List ℕ) (index limit digits begin : ℕ) (r
         last = last-true letter low high
 
         fits : nat_le (20 * digits + (letter - 64)) limit ≡ true
-        fits = le-true (20 * digits + (letter - 64)) limit within
+        fits = le-leb (20 * digits + (letter - 64)) limit within
 
         step : (text : List ℕ) → numbers_from limit digits (letter ∷ text) ≡ option_map (λ more. (20 * digits + (letter - 64)) ∷ more) (numbers_from limit 0 text)
         step text = rw (first, last, fits) refl
@@ -210,12 +211,12 @@ module _ (labels : ℕ) (letters : List ℕ) (index limit digits begin : ℕ) (r
 
     pub word-over : 65 ≤ letter → letter ≤ 84 → limit < 20 * digits + (letter - 64) → BeginsWith (IsOver limit r.begun) r.rest
     word-over low high h =
-        breaks-here (IsOver limit r.begun) (or-right (is_first letter) (is_last letter) (last-true letter low high), λ word n is. last-over limit digits letter word n (first-false letter high) h (counted word n is))
+        breaks-here (IsOver limit r.begun) (or_right (is_first letter) (is_last letter) (last-true letter low high), λ word n is. last-over limit digits letter word n (first-false letter high) h (counted word n is))
 
     pub begun-over : (digits' : ℕ) → 85 ≤ letter → letter ≤ 89 → digits' ≡ 5 * digits + (letter - 84) → limit ≤ 20 * digits' → BeginsWith (IsOver limit r.begun) r.rest
     begun-over digits' low high is h =
         breaks-here (IsOver limit r.begun) (
-          or-left (is_first letter) (is_last letter) first,
+          or_left (is_first letter) (is_last letter) first,
           λ word n placed.
               over limit (5 * digits + (letter - 84)) word n (omega (arith, h, is)) (sym (goes word) ∙ counted word n placed),
         )

@@ -1,5 +1,5 @@
 -- Numbers of letters, marks among numbers, and letters by their bounds.
-use Rattle.std.specs.Prelude.{◌≡◌, ◌≢◌, ◌⊎◌, ℕ, zero, suc, ◌+◌, ◌-◌, ◌*◌, ◌<◌, ◌≤◌, Bool, true, false, cond, ◌&&◌, ◌||◌, nat_lt, nat_le, List, [], ◌∷◌, ◌++◌, length, Option, Some, None, slice_get, slice_index_or, refl}
+use Rattle.std.specs.Prelude.{◌≡◌, ◌≢◌, ◌⊎◌, ℕ, zero, suc, ◌+◌, ◌-◌, ◌*◌, ◌<◌, ◌≤◌, Bool, true, false, cond, ◌&&◌, nat_lt, List, [], ◌∷◌, ◌++◌, length, Option, Some, None, slice_get, slice_index_or, refl}
 use Rattle.std.specs.Option.{option_map}
 use Rattle.std.proofs.Common.{sym, ◌∙◌, ap, arith, append_assoc, inl, inr}
 use Rattle.std.proofs.lemmas.Bool.Decides.{nat_tests}
@@ -77,13 +77,6 @@ last-over limit digits letter word n first h e = by (is_last letter && is_empty 
     by true e = let same : 20 * digits + (letter - 64) ≡ n = same_Some (20 * digits + (letter - 64)) n e in omega (arith, h, same)
     by false e = absurd (none-some n e)
 
-pub or-left : (a b : Bool) → a ≡ true → (a || b) ≡ true
-or-left a b h = ap (λ t. t || b) h
-
-pub or-right : (a b : Bool) → b ≡ true → (a || b) ≡ true
-or-right true b h = refl
-or-right false b h = h
-
 -- ---- letters and tests
 
 pub first-false : (c : ℕ) → c ≤ 84 → is_first c ≡ false
@@ -91,9 +84,6 @@ first-false c high = grind (arith, nat_tests)
 
 pub last-true : (c : ℕ) → 65 ≤ c → c ≤ 84 → is_last c ≡ true
 last-true c low high = grind (arith, nat_tests)
-
-pub le-true : (a b : ℕ) → a ≤ b → nat_le a b ≡ true
-le-true a b h = grind (arith, nat_tests)
 
 pub zero-or : (n : ℕ) → (n ≡ 0) ⊎ (n ≢ 0)
 zero-or zero = inl refl

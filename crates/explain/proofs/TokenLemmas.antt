@@ -1,9 +1,10 @@
 -- Tokens that write no items.
-use Rattle.std.specs.Prelude.{◌≡◌, ℕ, ◌+◌, Bool, true, false, not, bytes_eq, ◌&&◌, ◌||◌, List, [], ◌∷◌, ◌++◌, length, map, refl}
+use Rattle.std.specs.Prelude.{◌≡◌, ℕ, ◌+◌, Bool, true, false, not, bytes_eq, ◌||◌, List, [], ◌∷◌, ◌++◌, length, map, refl}
 use Rattle.std.specs.List.{list_all, list_any}
 use Rattle.std.proofs.Common.{sym, ◌∙◌, ap, subst, arith, append_assoc, append-nil, length-append, inl, inr, true≢false}
 use Rattle.std.proofs.lemmas.List.Folds.{list_any-append}
 use Rattle.std.proofs.lemmas.Slice.Eq.{bytes_eq-Decides}
+use Rattle.std.proofs.lemmas.Bool.{or_parts, not-false, and_from, or_from, not-true}
 use Rattle.mm_lex.specs.Alphabet.{Name, has_name, is_label}
 use Rattle.proof_code.specs.declared.item.Item.{Item}
 use Rattle.proof_code.specs.declared.item.Item.TheVariants.{Cite}
@@ -44,34 +45,20 @@ module _ (t : Name → Bool) where
 
 -- ---- what passes
 
-or-false : (a b : Bool) → (a || b) ≡ false → (a ≡ false) × (b ≡ false)
-or-false true b h = cc
-or-false false b h = (refl, h)
-
-not-false : (a : Bool) → not a ≡ false → a ≡ true
-not-false true h = refl
-not-false false h = cc
-
-both : (a b : Bool) → a ≡ true → b ≡ true → (a && b) ≡ true
-both a b p q = rw (p, q) refl
-
-neither : (a b : Bool) → a ≡ false → b ≡ false → (a || b) ≡ false
-neither a b p q = rw (p, q) refl
-
 all-labels : (mandatory words : List Name) → list_any (fails mandatory test.NotLabel) words ≡ false → list_all is_label words ≡ true
 all-labels mandatory [] h = refl
 all-labels mandatory (w ∷ words) h =
-    let p = or-false (not (is_label w)) (list_any (fails mandatory test.NotLabel) words) h in
-    both (is_label w) (list_all is_label words) (not-false (is_label w) p.0) (all-labels mandatory words p.1)
+    let p = or_parts (not (is_label w)) (list_any (fails mandatory test.NotLabel) words) h in
+    and_from (is_label w) (list_all is_label words) (not-false (is_label w) p.0) (all-labels mandatory words p.1)
 
 listed-labels : (mandatory words : List Name) → list_any (fails mandatory test.NotListed) words ≡ false
     → (list_all is_label words ≡ true) × (list_any (λ label. has_name label mandatory) words ≡ false)
 listed-labels mandatory [] h = (refl, refl)
 listed-labels mandatory (w ∷ words) h =
-    let p = or-false (not (is_label w) || has_name w mandatory) (list_any (fails mandatory test.NotListed) words) h in
-    let q = or-false (not (is_label w)) (has_name w mandatory) p.0 in
+    let p = or_parts (not (is_label w) || has_name w mandatory) (list_any (fails mandatory test.NotListed) words) h in
+    let q = or_parts (not (is_label w)) (has_name w mandatory) p.0 in
     let more = listed-labels mandatory words p.1 in
-    (both (is_label w) (list_all is_label words) (not-false (is_label w) q.0) more.0, neither (has_name w mandatory) (list_any (λ label. has_name label mandatory) words) q.1 more.1)
+    (and_from (is_label w) (list_all is_label words) (not-false (is_label w) q.0) more.0, or_from (has_name w mandatory) (list_any (λ label. has_name label mandatory) words) q.1 more.1)
 
 -- ---- tokens that write
 
@@ -89,10 +76,6 @@ writes-compressed tokens mandatory index rest items f c l row =
     inl (c, (f, record { listed = l.first.front; rest = rest; whole = l.whole ∙ ap (λ w. begin ∷ w) l.first.whole; labels = p.0; apart = p.1; letters = row }))
 
 -- ---- what the broken rule is
-
-not-true : (a : Bool) → not a ≡ true → a ≡ false
-not-true false h = refl
-not-true true h = cc
 
 pub not-label-normal : (tokens mandatory words : List Name) (token : ℕ) (word : Name) (rest : List Name) → words ≡ tokens → is_compressed tokens ≡ false
     → IsFirst (fails mandatory test.NotLabel) words token word rest → IsNotLabel tokens mandatory token

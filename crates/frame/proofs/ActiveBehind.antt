@@ -1,8 +1,9 @@
 -- What is active behind a statement.
-use Rattle.std.specs.Prelude.{◌≡◌, ℕ, zero, suc, ◌+◌, ◌-◌, Bool, true, false, not, cond, ◌&&◌, ◌||◌, List, [], ◌∷◌, ◌++◌, Option, Some, None, refl}
+use Rattle.std.specs.Prelude.{◌≡◌, ℕ, zero, suc, ◌+◌, ◌-◌, Bool, true, false, cond, ◌||◌, List, [], ◌∷◌, ◌++◌, Option, Some, None, refl}
 use Rattle.std.specs.List.{list_any}
 use Rattle.std.proofs.Common.{sym, ◌∙◌, ap, subst, arith}
 use Rattle.std.proofs.lemmas.Slice.Eq.{bytes_eq-Decides}
+use Rattle.std.proofs.lemmas.Bool.{or_left, or_right}
 use Rattle.mm_lex.specs.Alphabet.{Name, name_eq}
 use Rattle.mm_read.specs.declared.stmt.Stmt.{Stmt}
 use Rattle.mm_read.specs.declared.stmt.Stmt.TheVariants.{Open, Close, Const, Var, Disj, Float, Ess, Axiom, Prove}
@@ -21,22 +22,6 @@ AreOnce (None ∷ vs) = AreOnce vs
 AreOnce (Some x ∷ vs) = IsElsewhere x vs × AreOnce vs
 
 -- ---- tests
-
-pub or-left : (a b : Bool) → a ≡ true → (a || b) ≡ true
-or-left true b h = refl
-or-left false b h = cc
-
-pub or-right : (a b : Bool) → b ≡ true → (a || b) ≡ true
-or-right true b h = refl
-or-right false b h = h
-
-pub and-both : (a b : Bool) → (a && b) ≡ true → (a ≡ true) × (b ≡ true)
-and-both true b h = (refl, h)
-and-both false b h = cc
-
-pub not-true : (a : Bool) → not a ≡ true → a ≡ false
-not-true true h = cc
-not-true false h = refl
 
 pub not-both : (a : Bool) → a ≡ true → a ≡ false → ⊥
 not-both a p q = let e : true ≡ false = sym p ∙ q in cc
@@ -76,11 +61,11 @@ active-stands q n (s ∷ S) h = by (active-stands q (n + 1) S) (stays_open 0 S) 
 
 pub stands-active : (q : Stmt → Bool) (n : ℕ) (front : Database) (s : Stmt) (rest : Database) → stays_open 0 rest ≡ true → q s ≡ true → list_any (λ p. q p.1) (active_from n (front ++ s ∷ rest)) ≡ true
 stands-active q n [] s rest opens passes =
-    ap (λ b. list_any (λ p. q p.1) (cond b ((n, s) ∷ active_from (n + 1) rest) (active_from (n + 1) rest))) opens ∙ or-left (q s) (list_any (λ p. q p.1) (active_from (n + 1) rest)) passes
+    ap (λ b. list_any (λ p. q p.1) (cond b ((n, s) ∷ active_from (n + 1) rest) (active_from (n + 1) rest))) opens ∙ or_left (q s) (list_any (λ p. q p.1) (active_from (n + 1) rest)) passes
 stands-active q n (t ∷ front) s rest opens passes = by (stands-active q (n + 1) front s rest opens passes) (stays_open 0 (front ++ s ∷ rest))
   where
     by : (list_any (λ p. q p.1) (active_from (n + 1) (front ++ s ∷ rest)) ≡ true) → (b : Bool) → list_any (λ p. q p.1) (cond b ((n, t) ∷ active_from (n + 1) (front ++ s ∷ rest)) (active_from (n + 1) (front ++ s ∷ rest))) ≡ true
-    by more true = or-right (q t) (list_any (λ p. q p.1) (active_from (n + 1) (front ++ s ∷ rest))) more
+    by more true = or_right (q t) (list_any (λ p. q p.1) (active_from (n + 1) (front ++ s ∷ rest))) more
     by more false = more
 
 pub open_front : (d : ℕ) (T U : Database) → stays_open d (T ++ U) ≡ true → stays_open d T ≡ true

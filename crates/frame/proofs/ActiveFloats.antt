@@ -2,6 +2,7 @@
 use Rattle.std.specs.Prelude.{◌≡◌, ℕ, zero, suc, ◌+◌, ◌-◌, ◌<◌, ◌≤◌, true, false, not, ◌&&◌, ◌⊎◌, nat_lt, List, [], ◌∷◌, ◌++◌, length, take, drop, slice_get, Some, refl}
 use Rattle.std.proofs.Common.{sym, ◌∙◌, ap, arith, inl, inr, length-append}
 use Rattle.std.proofs.lemmas.Slice.Eq.{bytes_eq-Decides}
+use Rattle.std.proofs.lemmas.Bool.{and_parts}
 use Rattle.mm_lex.specs.Alphabet.{Name, has_name}
 use Rattle.mm_read.specs.declared.stmt.Stmt.{Stmt}
 use Rattle.mm_read.specs.declared.stmt.Stmt.TheVariants as stmt
@@ -14,7 +15,6 @@ use Rattle.frame.proofs.LegalLabels.{AllKept}
 use Rattle.frame.proofs.ActiveBehind.{stands-active, open_front}
 use Rattle.frame.proofs.LegalBehind.{kept-legal, legal-keeps, Order, earlier, at_one, later, order}
 use Rattle.frame.proofs.FoundByNumber.{middle}
-use Rattle.frame.proofs.NamedCodes.{and-both}
 
 -- ---- cuts
 
@@ -59,7 +59,7 @@ one-float S A m l x B k m' l' all whole stays at_k lt =
     by (earlier M p q) =
         let legal = kept-legal S (take k S) (stmt.Float m' l' x) (drop (suc k) S) all (cut-at S k (stmt.Float m' l' x) at_k) in
         let g : (is_variable (take k S) x && not (has_float (take k S) x)) ≡ true = (legal-keeps (take k S) (stmt.Float m' l' x) legal).g7 in
-        let none = and-both (is_variable (take k S) x) (not (has_float (take k S) x)) g in
+        let none = and_parts (is_variable (take k S) x) (not (has_float (take k S) x)) g in
         let inside : stays_open 0 M ≡ true = open_front 0 M (stmt.Float m' l' x ∷ drop (suc k) S) (ap (stays_open 0) (sym q) ∙ stays) in
         let has : has_float (take k S) x ≡ true = ap (λ D. has_float D x) p ∙ stands-active (is_float_of x) 1 A (stmt.Float m l x) M inside ((bytes_eq-Decides x x).1 refl) in
         let bad : true ≡ false = sym none.1 ∙ ap not has in cc

@@ -2,7 +2,7 @@
 use Rattle.std.specs.Prelude.{◌≡◌, ℕ, ◌+◌, ◌<◌, ◌%◌, Bool, true, false, not, ◌||◌, ◌&&◌, ◌==◌, take, List, [], ◌∷◌, zero, suc, length, map, get_or, slice_index_or, slice_set, refl}
 use Rattle.std.specs.List.{list_all, list_any}
 use Rattle.std.proofs.Common.{sym, ◌∙◌, ap, arith, true≢false}
-use Rattle.std.proofs.lemmas.Bool.{and_parts, and_from}
+use Rattle.std.proofs.lemmas.Bool.{and_parts, and_from, or_left, or_right, or_from}
 use Rattle.std.proofs.lemmas.List.Folds.{list_all-map, list_all_more, list_all_at, list_any_more}
 use Rattle.mm_lex.specs.Alphabet.{Name, name_eq, has_name}
 use Rattle.mm_read.specs.declared.stmt.Stmt.{Stmt}
@@ -17,14 +17,6 @@ use Rattle.frame.specs.Disjoint.{are_apart}
 use Rattle.frame.specs.Below.{AreBelow}
 use Rattle.frame.specs.Covers.{is_listed, are_listed, does_cover, are_covered, do_share, is_pair_apart, is_variable_apart, is_symbol_apart, are_marked}
 use Rattle.frame.proofs.KindWalk.{has-decode}
-
-pub or_left : (a b : Bool) → a ≡ true → (a || b) ≡ true
-or_left true b h = refl
-or_left false b h = cc
-
-pub or_right : (a b : Bool) → b ≡ true → (a || b) ≡ true
-or_right true b h = refl
-or_right false b h = h
 
 -- ---- a list that a loop goes through
 
@@ -45,10 +37,6 @@ pub stays_none : {A B : Type 0} (p : B → Bool) (f : A → B) (xs : List A) (i 
 stays_none p f xs i d h before here =
     sym (list_any-map f p (take (i + 1) xs)) ∙ (list_any_more (λ x. p (f x)) xs i d h
     ∙ or_from (list_any (λ x. p (f x)) (take i xs)) (p (f (get_or xs i d))) (list_any-map f p (take i xs) ∙ before) here)
-  where
-    or_from : (a b : Bool) → a ≡ false → b ≡ false → (a || b) ≡ false
-    or_from true b h e = cc
-    or_from false b h e = e
 
 pub below-at : (n : ℕ) (xs : List ℕ) (i d : ℕ) → AreBelow n xs → i < length xs → get_or xs i d < n
 below-at n [] i d b h = absurd (omega (arith, h))

@@ -3,6 +3,7 @@ use Rattle.std.specs.Prelude.{◌≡◌, ℕ, zero, suc, ◌+◌, ◌-◌, ◌<�
 use Rattle.std.specs.List.{list_any, list_all}
 use Rattle.std.proofs.Common.{sym, ◌∙◌, ap, subst, arith, append-nil}
 use Rattle.std.proofs.lemmas.Slice.Eq.{bytes_eq-Decides}
+use Rattle.std.proofs.lemmas.Bool.{and_parts, or_left, or_right}
 use Rattle.mm_lex.specs.Alphabet.{Name, name_eq, has_name}
 use Rattle.mm_read.specs.declared.stmt.Stmt.{Stmt}
 use Rattle.mm_read.specs.declared.stmt.Stmt.TheVariants.{Open, Close, Const, Var, Disj, Float, Ess, Axiom, Prove}
@@ -22,18 +23,6 @@ use Rattle.frame.proofs.PlacesLemmas.{is_flt, used-has-place, mandatory-place, v
 use Rattle.frame.proofs.GroupsLemmas.{has-filter}
 use Rattle.frame.proofs.FoundByNumber.{map-back, map-at, take-at, middle, kept-front}
 use Rattle.frame.proofs.PlacedHypotheses.{IsHyp, AreHyps, hyps}
-
-and-both : (a b : Bool) → (a && b) ≡ true → (a ≡ true) × (b ≡ true)
-and-both true b h = (refl, h)
-and-both false b h = cc
-
-or-left : (a b : Bool) → a ≡ true → (a || b) ≡ true
-or-left true b h = refl
-or-left false b h = cc
-
-or-right : (a b : Bool) → b ≡ true → (a || b) ≡ true
-or-right true b h = refl
-or-right false b h = h
 
 some-same : {A : Type 0} {o : Option A} {x y : A} → o ≡ Some x → o ≡ Some y → x ≡ y
 some-same {x = x} {y = y} p q = let e : Some x ≡ Some y = sym p ∙ q in cc
@@ -124,7 +113,7 @@ module _ (S : Database) (a : ℕ) (s : Stmt) (legal : AllKept S) (is : HasAssert
 
   essential-used : (p : ℕ) (h : IsHyp T s p) (label : Name) (e : Expr) (x : Name) → h.stmt ≡ Ess label e → has_name x e ≡ true → is_used T s x ≡ true
   essential-used p h label e x shape has =
-      or-right (has_name x (expr_of s)) (list_any (λ q. is_essential q.1 && has_name x (expr_of q.1)) (active T))
+      or_right (has_name x (expr_of s)) (list_any (λ q. is_essential q.1 && has_name x (expr_of q.1)) (active T))
       (ap (λ D. list_any (λ q. is_essential q.1 && has_name x (expr_of q.1)) (active D)) h.whole
       ∙ stands-active (λ t. is_essential t && has_name x (expr_of t)) 1 h.front h.stmt h.rest h.stays (ap (λ t. is_essential t && has_name x (expr_of t)) shape ∙ has))
 
@@ -132,7 +121,7 @@ module _ (S : Database) (a : ℕ) (s : Stmt) (legal : AllKept S) (is : HasAssert
   group-float k g x h has =
       let r = filter-back separates (map (filter (is_mandatory T s)) (frame_of.groups T)) k g h in
       let b = map-back (filter (is_mandatory T s)) (frame_of.groups T) r.0 g r.1 in
-      let m = (and-both (has_name x b.0) (is_mandatory T s x) (sym (has-filter (is_mandatory T s) x b.0) ∙ (ap (has_name x) (sym b.2) ∙ has))).1 in
+      let m = (and_parts (has_name x b.0) (is_mandatory T s x) (sym (has-filter (is_mandatory T s) x b.0) ∙ (ap (has_name x) (sym b.2) ∙ has))).1 in
       place-float x hs (hyps T s) (sym (mandatory-place T s x front-legal own-legal is.1) ∙ m)
 
   variable-is : (k p : ℕ) (label constant x : Name) → slice_get hs k ≡ Some p → stmt_at S p ≡ Some (Float label constant x) → is_variable T x ≡ true
@@ -156,7 +145,7 @@ module _ (S : Database) (a : ℕ) (s : Stmt) (legal : AllKept S) (is : HasAssert
 
   pub bound : IsBound S a s
   bound = record {
-    own = λ x has var. used-float x (or-left (has_name x (expr_of s)) _ has) var;
+    own = λ x has var. used-float x (or_left (has_name x (expr_of s)) _ has) var;
     essential = λ k p label e x h g has var.
         let w = hyp-at hs (hyps T s) k p h in
         used-float x (essential-used p w label e x (some-same (there p w).0 g) has) var;
@@ -175,7 +164,7 @@ image-own S a [] c p h = refl
 image-own S a (q ∷ σ) c p h = by (image-own S a σ c parts.1 h) (name_eq c q.0) refl
   where
     parts : (is_variable (before S a) q.0 ≡ true) × (list_all (λ r. is_variable (before S a) r.0) σ ≡ true)
-    parts = and-both (is_variable (before S a) q.0) (list_all (λ r. is_variable (before S a) r.0) σ) p
+    parts = and_parts (is_variable (before S a) q.0) (list_all (λ r. is_variable (before S a) r.0) σ) p
 
     by : (image σ c ≡ c ∷ []) → (b : Bool) → name_eq c q.0 ≡ b → cond b q.1 (image σ c) ≡ c ∷ []
     by own true e =
@@ -200,10 +189,10 @@ module _ (S : Database) (a : ℕ) (s : Stmt) (b : IsBound S a s) (σ τ : Images
   same-applied [] h = refl
   same-applied (x ∷ e) h =
       let here : image σ x ≡ image τ x = by (is_variable (before S a) x) refl in
-      ap (λ r. r ++ applied σ e) here ∙ ap (λ r. image τ x ++ r) (same-applied e (λ y has. h y (or-right (name_eq y x) (has_name y e) has)))
+      ap (λ r. r ++ applied σ e) here ∙ ap (λ r. image τ x ++ r) (same-applied e (λ y has. h y (or_right (name_eq y x) (has_name y e) has)))
     where
       by : (t : Bool) → is_variable (before S a) x ≡ t → image σ x ≡ image τ x
-      by true v = one-image x (h x (or-left (name_eq x x) (has_name x e) ((bytes_eq-Decides x x).1 refl)) v)
+      by true v = one-image x (h x (or_left (name_eq x x) (has_name x e) ((bytes_eq-Decides x x).1 refl)) v)
       by false v = image-own S a σ x p v ∙ sym (image-own S a τ x q v)
 
 pub bound-single : (S : Database) (at : ℕ) → ((a : ℕ) (s : Stmt) → HasAssertion S a s → IsBound S a s) → IsSingle S at

@@ -2,6 +2,7 @@
 use Rattle.std.specs.Prelude.{◌≡◌, ℕ, suc, ◌+◌, ◌-◌, ◌<◌, Bool, true, false, ◌&&◌, ◌||◌, ◌⊎◌, List, [], ◌∷◌, ◌++◌, length, map, filter, take, drop, slice_get, Some, refl}
 use Rattle.std.specs.List.{list_any}
 use Rattle.std.proofs.Common.{sym, ◌∙◌, ap, subst, arith, inl, inr, append_assoc}
+use Rattle.std.proofs.lemmas.Bool.{or_left, or_right, and_parts}
 use Rattle.mm_lex.specs.Alphabet.{Name, has_name}
 use Rattle.mm_read.specs.declared.stmt.Stmt.{Stmt}
 use Rattle.mm_read.specs.declared.stmt.Stmt.TheVariants as stmt
@@ -24,7 +25,7 @@ use Rattle.frame.proofs.PlacesLemmas.{active-rest}
 use Rattle.frame.proofs.FoundByNumber.{map-back, map-at, middle, numbered-at}
 use Rattle.frame.proofs.AscendingLists.{In, same-lists}
 use Rattle.frame.proofs.ActivePositions.{LastAt, NoneOf, last-is, IsFloatOf, SomeFloat, floats-in, in-floats, ascends-floats, SomeEssential, essentials-in, in-essentials, ascends-essentials, IsActiveAt, active-members, members-active, ascends-active}
-use Rattle.frame.proofs.NamedCodes.{or-left, or-right, and-both, not-both, coded, has-code, code-low, floats-is, is-floats}
+use Rattle.frame.proofs.NamedCodes.{not-both, coded, has-code, code-low, floats-is, is-floats}
 use Rattle.frame.proofs.ActiveFloats.{cut-at, length-cut, rest-active, one-float, hyp-kind, ess-hyp, float-in-kind, float-of-kind, stays-behind, take-front, one-place}
 
 -- ---- what is found is what is meant
@@ -140,11 +141,11 @@ module _ (es : List Entry) (names labels : List Name) (m : ℕ) (S : Database)
         ∙ ap (λ D. floats_in D (expr_of h.stmt)) (ap (take (length h.front)) h.whole ∙ take-front h.front h.stmt h.rest))))
 
     used-own : (x : Name) → has_name x (expr_of s) ≡ true → is_used S s x ≡ true
-    used-own x h = or-left (has_name x (expr_of s)) _ h
+    used-own x h = or_left (has_name x (expr_of s)) _ h
 
     used-ess : (r : ℕ) (h : IsActiveAt S is_essential r) (x : Name) → has_name x (expr_of h.stmt) ≡ true → is_used S s x ≡ true
     used-ess r h x has =
-        or-right (has_name x (expr_of s)) (list_any (λ q. is_essential q.1 && has_name x (expr_of q.1)) (active S))
+        or_right (has_name x (expr_of s)) (list_any (λ q. is_essential q.1 && has_name x (expr_of q.1)) (active S))
         (ap (λ D. list_any (λ q. is_essential q.1 && has_name x (expr_of q.1)) (active D)) h.whole
         ∙ stands-active (λ t. is_essential t && has_name x (expr_of t)) 1 h.front h.stmt h.rest h.stays
         (ap (λ b. b && has_name x (expr_of h.stmt)) h.passes ∙ has))
@@ -217,7 +218,7 @@ module _ (es : List Entry) (names labels : List Name) (m : ℕ) (S : Database)
 
         by : IsActiveAt S (is_hypothesis S s) p → (is_essential h.stmt ≡ true) ⊎ ((u : Name) × (l : Name) × (x : Name) × (h.stmt ≡ stmt.Float u l x) × (is_mandatory S s x ≡ true)) → In p (collected es S codes)
         by k (inl e) = through (record { essential = p; among = members is_essential p h.front h.stmt h.rest h.whole h.at h.stays e; way = inl refl })
-        by k (inr f) = let m = and-both (is_variable S f.2) (is_used S s f.2) f.4 in used m.0 (has_name f.2 (expr_of s)) refl m.1
+        by k (inr f) = let m = and_parts (is_variable S f.2) (is_used S s f.2) f.4 in used m.0 (has_name f.2 (expr_of s)) refl m.1
           where
             cut : S ≡ h.front ++ stmt.Float f.0 f.1 f.2 ∷ h.rest
             cut = h.whole ∙ ap (λ t. h.front ++ t ∷ h.rest) f.3
@@ -232,7 +233,7 @@ module _ (es : List Entry) (names labels : List Name) (m : ℕ) (S : Database)
               where
                 found : Stands S (λ t. is_essential t && has_name f.2 (expr_of t)) → In p (collected es S codes)
                 found r =
-                    let two = and-both (is_essential r.stmt) (has_name f.2 (expr_of r.stmt)) r.passes in
+                    let two = and_parts (is_essential r.stmt) (has_name f.2 (expr_of r.stmt)) r.passes in
                     let a : IsActiveAt S is_essential (suc (length r.front)) = record { front = r.front; stmt = r.stmt; rest = r.rest; whole = r.whole; at = refl; stays = r.stays; passes = two.0 } in
                     through (record {
                       essential = suc (length r.front);

@@ -1,6 +1,6 @@
 -- The storage with its first statements alone.
-use Rattle.std.specs.Prelude.{◌≡◌, ℕ, zero, suc, ◌+◌, ◌-◌, ◌<◌, ◌≤◌, true, List, [], ◌∷◌, ◌++◌, length, map, take, drop, slice_get, Option, Some, None, refl}
-use Rattle.std.proofs.Common.{sym, ◌∙◌, ap, subst, arith}
+use Rattle.std.specs.Prelude.{◌≡◌, ℕ, zero, suc, ◌+◌, ◌-◌, ◌<◌, true, List, [], ◌∷◌, ◌++◌, length, map, take, drop, slice_get, Option, Some, None, refl}
+use Rattle.std.proofs.Common.{sym, ◌∙◌, ap, subst, arith, take-take}
 use Rattle.std.proofs.lemmas.List.{length-take-le, take-map, take-append-drop, take_at}
 use Rattle.mm_lex.specs.Alphabet.{Name}
 use Rattle.mm_read.specs.declared.stmt.Stmt.{Stmt}
@@ -27,12 +27,6 @@ use Rattle.frame.proofs.StoredTaken.{length-positions}
 
 pub front-extends : {A : Type 0} (n : ℕ) (xs : List A) → Extends (take n xs) xs
 front-extends n xs = (drop n xs, sym (take-append-drop n xs))
-
-take-take : {A : Type 0} (i n : ℕ) (xs : List A) → i ≤ n → take i (take n xs) ≡ take i xs
-take-take zero n xs le = refl
-take-take (suc i) zero xs le = absurd (omega (arith, le))
-take-take (suc i) (suc n) [] le = refl
-take-take (suc i) (suc n) (x ∷ xs) le = ap (λ r. x ∷ r) (take-take i n xs (omega (arith, le)))
 
 get-take : {A : Type 0} (n : ℕ) (xs : List A) (i : ℕ) (x : A) → slice_get (take n xs) i ≡ Some x → (i < n) × (slice_get xs i ≡ Some x)
 get-take zero [] i x g = cc

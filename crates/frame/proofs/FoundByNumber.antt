@@ -1,8 +1,9 @@
 -- Names told apart, places of numbers, and statements by their kinds.
-use Rattle.std.specs.Prelude.{◌≡◌, ℕ, zero, suc, ◌+◌, ◌-◌, ◌<◌, ◌≤◌, Bool, true, false, cond, ◌==◌, ◌||◌, List, [], ◌∷◌, ◌++◌, length, map, take, get_or, slice_get, Option, Some, None, refl}
+use Rattle.std.specs.Prelude.{◌≡◌, ℕ, zero, suc, ◌+◌, ◌-◌, ◌<◌, Bool, true, false, cond, ◌==◌, ◌||◌, List, [], ◌∷◌, ◌++◌, length, map, take, get_or, slice_get, Option, Some, None, refl}
 use Rattle.std.specs.List.{list_any}
-use Rattle.std.proofs.Common.{sym, ◌∙◌, ap, subst, arith}
+use Rattle.std.proofs.Common.{sym, ◌∙◌, ap, subst, arith, take-take}
 use Rattle.std.proofs.lemmas.Slice.Eq.{bytes_eq-Decides}
+use Rattle.std.proofs.lemmas.Bool.{or_right}
 use Rattle.mm_lex.specs.Alphabet.{Name, name_eq, has_name}
 use Rattle.mm_read.specs.declared.stmt.Stmt.{Stmt}
 use Rattle.mm_read.specs.Statements.{Database}
@@ -39,12 +40,6 @@ take-at (suc n) [] k x h = cc
 take-at (suc n) (y ∷ xs) zero x h = (omega arith, h)
 take-at (suc n) (y ∷ xs) (suc k) x h = let r = take-at n xs k x h in (let l = r.0 in omega (arith, l), r.1)
 
-take-take : {A : Type 0} (k n : ℕ) (xs : List A) → k ≤ n → take k (take n xs) ≡ take k xs
-take-take zero n xs h = refl
-take-take (suc k) zero xs h = absurd (omega (arith, h))
-take-take (suc k) (suc n) [] h = refl
-take-take (suc k) (suc n) (x ∷ xs) h = ap (λ r. x ∷ r) (take-take k n xs (omega (arith, h)))
-
 some-same : {A : Type 0} {o : Option A} {x y : A} → o ≡ Some x → o ≡ Some y → x ≡ y
 some-same {x = x} {y = y} p q = let e : Some x ≡ Some y = sym p ∙ q in cc
 
@@ -69,11 +64,7 @@ eq-refl x = (bytes_eq-Decides x x).1 refl
 has-at : (names : List Name) (j : ℕ) → j < length names → has_name (name_at names j) names ≡ true
 has-at [] j h = absurd (omega (arith, h))
 has-at (x ∷ names) zero h = ap (λ b. b || list_any (name_eq x) names) (eq-refl x)
-has-at (x ∷ names) (suc j) h = or-right (name_eq (name_at names j) x) (list_any (name_eq (name_at names j)) names) (has-at names j (omega (arith, h)))
-  where
-    or-right : (p q : Bool) → q ≡ true → (p || q) ≡ true
-    or-right true q h = refl
-    or-right false q h = h
+has-at (x ∷ names) (suc j) h = or_right (name_eq (name_at names j) x) (list_any (name_eq (name_at names j)) names) (has-at names j (omega (arith, h)))
 
 pub name_at-injective : (names : List Name) (i j : ℕ) → AreDistinct names → i < length names → j < length names → name_at names i ≡ name_at names j → i ≡ j
 name_at-injective [] i j d h k e = absurd (omega (arith, h))
@@ -141,11 +132,7 @@ has-some names [] j c h = cc
 has-some names (v ∷ vs) zero c h =
     ap (λ o. is_some_name (name_at names c) (option_name names o) || has_place (map (option_name names) vs) (name_at names c)) h
     ∙ ap (λ b. b || has_place (map (option_name names) vs) (name_at names c)) (eq-refl (name_at names c))
-has-some names (v ∷ vs) (suc j) c h = or-right (is_some_name (name_at names c) (option_name names v)) (has_place (map (option_name names) vs) (name_at names c)) (has-some names vs j c h)
-  where
-    or-right : (p q : Bool) → q ≡ true → (p || q) ≡ true
-    or-right true q h = refl
-    or-right false q h = h
+has-some names (v ∷ vs) (suc j) c h = or_right (is_some_name (name_at names c) (option_name names v)) (has_place (map (option_name names) vs) (name_at names c)) (has-some names vs j c h)
 
 -- ---- statements by their kinds
 

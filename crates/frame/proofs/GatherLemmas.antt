@@ -1,6 +1,6 @@
 -- The mandatory hypotheses of an assertion that keeps its own `$f` alone: with those of the `$e` that are active there.
-use Rattle.std.specs.Prelude.{◌≡◌, ℕ, zero, suc, ◌+◌, ◌-◌, ◌<◌, ◌≤◌, Bool, true, false, cond, List, [], ◌∷◌, ◌++◌, length, map, filter, take, drop, slice_get, Option, Some, None, IfSome, refl}
-use Rattle.std.proofs.Common.{sym, ◌∙◌, ap, subst, arith}
+use Rattle.std.specs.Prelude.{◌≡◌, ℕ, zero, suc, ◌+◌, ◌-◌, ◌<◌, Bool, true, false, cond, List, [], ◌∷◌, ◌++◌, length, map, filter, take, drop, slice_get, Option, Some, None, IfSome, refl}
+use Rattle.std.proofs.Common.{sym, ◌∙◌, ap, subst, arith, take-take}
 use Rattle.std.proofs.lemmas.List.{take-map, take-append-drop}
 use Rattle.mm_lex.specs.Alphabet.{Name}
 use Rattle.mm_read.specs.declared.stmt.Stmt.{Stmt}
@@ -29,12 +29,6 @@ use Rattle.frame.proofs.ActivePositions.{ascends-active}
 pub some-map : {A : Type 0} (o : Option A) (P Q : A → Type 0) → ((x : A) → P x → Q x) → IfSome o P → IfSome o Q
 some-map (Some x) P Q f p = f x p
 some-map None P Q f p = p
-
-take-take : {A : Type 0} (k n : ℕ) (xs : List A) → k ≤ n → take k (take n xs) ≡ take k xs
-take-take zero n xs h = refl
-take-take (suc k) zero xs h = absurd (omega (arith, h))
-take-take (suc k) (suc n) [] h = refl
-take-take (suc k) (suc n) (x ∷ xs) h = ap (λ r. x ∷ r) (take-take k n xs (omega (arith, h)))
 
 numbered-front : (n m i : ℕ) (es : List Entry) → AreNumbered n m es → AreNumbered n m (take i es)
 numbered-front n m zero [] h = tt

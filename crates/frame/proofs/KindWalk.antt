@@ -4,6 +4,8 @@ use Rattle.std.specs.List.{list_any}
 use Rattle.std.proofs.Common.{sym, ◌∙◌, ap, arith}
 use Rattle.std.proofs.lemmas.List.Folds.{list_any-append}
 use Rattle.std.proofs.lemmas.Slice.Eq.{bytes_eq-Decides}
+use Rattle.std.proofs.lemmas.Bool.{or_right}
+use Rattle.std.proofs.lemmas.Option.{same_Some}
 use Rattle.mm_lex.specs.Alphabet.{Name, name_eq, has_name}
 use Rattle.mm_read.specs.declared.stmt.Stmt.{Stmt}
 use Rattle.mm_read.specs.declared.stmt.Stmt.TheVariants as stmt
@@ -14,7 +16,6 @@ use Rattle.frame.specs.Below.{AreBelow}
 use Rattle.frame.specs.Links.{actives, last_active, is_var, is_disj}
 use Rattle.frame.proofs.OpenLemmas.{IsNoClose}
 use Rattle.frame.proofs.WalkLemmas.{IsBack, walk-back, walk-over}
-use Rattle.frame.proofs.WalkLemmas.{some-same}
 use Rattle.frame.proofs.StoredReading.{get-stmt}
 use Rattle.entries.specs.declared.kind.Kind.{Kind}
 use Rattle.entries.specs.declared.kind.Kind.TheVariants.{Open, Close, Const, Var, Disj, Float, Ess, Axiom, Prove}
@@ -77,10 +78,6 @@ or-false : (a : Bool) → (a || false) ≡ a
 or-false true = refl
 or-false false = refl
 
-or-right : (a b : Bool) → b ≡ true → (a || b) ≡ true
-or-right true b h = refl
-or-right false b h = h
-
 last-any : (g : ℕ × Stmt → Bool) (q : ℕ × Stmt) (b : Bool) → g q ≡ b → list_any g (q ∷ []) ≡ b
 last-any g q true h = ap (λ t. t || false) h
 last-any g q false h = ap (λ t. t || false) h
@@ -91,7 +88,7 @@ module _ (kind : Stmt → Bool) (g : ℕ × Stmt → Bool) (S : Database) (at p 
 
   pub sought-found : (s : Stmt) → IsBack kind S m p s → g (p, s) ≡ true → list_any g (actives kind (take (at - 1) S)) ≡ true
   sought-found s b h =
-      sym w.same ∙ (ap (list_any g) b.list ∙ (list_any-append g (actives kind (take (p - 1) S)) ((p, s) ∷ []) ∙ or-right (list_any g (actives kind (take (p - 1) S))) (list_any g ((p, s) ∷ [])) (last-any g (p, s) true h)))
+      sym w.same ∙ (ap (list_any g) b.list ∙ (list_any-append g (actives kind (take (p - 1) S)) ((p, s) ∷ []) ∙ or_right (list_any g (actives kind (take (p - 1) S))) (list_any g ((p, s) ∷ [])) (last-any g (p, s) true h)))
 
   pub sought-step : (s : Stmt) → IsBack kind S m p s → g (p, s) ≡ false → IsSought kind g S at (last_active kind (take (p - 1) S)) (p - 1)
   sought-step s b h =
@@ -155,4 +152,4 @@ pub read-here : (kind : Stmt → Bool) (g : ℕ × Stmt → Bool) (names labels 
     → slice_get es (p - 1) ≡ Some e → (s : Stmt) × IsRead kind names labels es p m e s
 read-here kind g names labels es at p m e n w some got =
     let b = sought-here kind g (map (stmt_of names labels) es) at p m n w some in
-    (b.0, record { entry = got; is = some-same (sym (get-stmt names labels es (p - 1) e got) ∙ b.1.stands); back = b.1 })
+    (b.0, record { entry = got; is = same_Some _ _ (sym (get-stmt names labels es (p - 1) e got) ∙ b.1.stands); back = b.1 })

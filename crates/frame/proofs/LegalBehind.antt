@@ -3,6 +3,7 @@ use Rattle.std.specs.Prelude.{◌≡◌, suc, ◌+◌, ◌-◌, Bool, true, fals
 use Rattle.std.specs.List.{list_any, list_all, find}
 use Rattle.std.proofs.Common.{sym, ◌∙◌, ap, subst, arith}
 use Rattle.std.proofs.lemmas.List.Folds.{list_any-append}
+use Rattle.std.proofs.lemmas.Bool.{or_left, or_right, and_parts, not-true}
 use Rattle.mm_lex.specs.Alphabet.{Name, name_eq, has_name}
 use Rattle.mm_read.specs.declared.stmt.Stmt.{Stmt}
 use Rattle.mm_read.specs.declared.stmt.Stmt.TheVariants.{Open, Close, Const, Var, Disj, Float, Ess, Axiom, Prove}
@@ -12,7 +13,7 @@ use Rattle.scope.specs.declared.rule.Rule.TheVariants.{G1, G2, G3, G4, G5, G6, G
 use Rattle.scope.specs.Active.{stmt_at, before, constants, variables, is_variable, is_constant, was_symbol}
 use Rattle.scope.specs.Legal.{IsLegal, keeps, all_different}
 use Rattle.frame.proofs.LegalLabels.{AllKept}
-use Rattle.frame.proofs.ActiveBehind.{or-left, or-right, and-both, not-true, not-both, equal, same, active-stands}
+use Rattle.frame.proofs.ActiveBehind.{not-both, equal, same, active-stands}
 
 -- ---- what a legal statement keeps
 
@@ -98,10 +99,10 @@ is_const (Prove l e p) x h = cc
 -- each element of a list that passes
 pub all-has : (p : Name → Bool) (xs : List Name) (x : Name) → list_all p xs ≡ true → has_name x xs ≡ true → p x ≡ true
 all-has p [] x a h = cc
-all-has p (y ∷ xs) x a h = by (all-has p xs x (and-both (p y) (list_all p xs) a).1) (name_eq x y) refl h
+all-has p (y ∷ xs) x a h = by (all-has p xs x (and_parts (p y) (list_all p xs) a).1) (name_eq x y) refl h
   where
     by : (has_name x xs ≡ true → p x ≡ true) → (b : Bool) → name_eq x y ≡ b → (b || has_name x xs) ≡ true → p x ≡ true
-    by more true e k = ap p (equal x y e) ∙ (and-both (p y) (list_all p xs) a).0
+    by more true e k = ap p (equal x y e) ∙ (and_parts (p y) (list_all p xs) a).0
     by more false e k = more k
 
 -- where a list has an element that passes, it can be cut there
@@ -121,13 +122,13 @@ cut q (s ∷ S) h = by (cut q S) (q s) refl h
     by more false e k = let r = more k in record { front = s ∷ r.front; stmt = r.stmt; rest = r.rest; whole = ap (λ t. s ∷ t) r.whole; passes = r.passes }
 
 any-middle : (q : Stmt → Bool) (A : Database) (t : Stmt) (B : Database) → q t ≡ true → list_any q (A ++ t ∷ B) ≡ true
-any-middle q A t B h = list_any-append q A (t ∷ B) ∙ or-right (list_any q A) (q t || list_any q B) (or-left (q t) (list_any q B) h)
+any-middle q A t B h = list_any-append q A (t ∷ B) ∙ or_right (list_any q A) (q t || list_any q B) (or_left (q t) (list_any q B) h)
 
 -- a legal `$v` lists no constant that stands before it
 var-fresh : (A : Database) (ws : List Name) (x : Name) → IsLegal A (Var ws) → has_name x ws ≡ true → is_constant A x ≡ false
 var-fresh A ws x legal h =
     let g : (list_all (λ y. not (is_variable A y || is_constant A y || Rattle.scope.specs.Active.was_label A y)) ws && all_different ws) ≡ true = (legal-keeps A (Var ws) legal).g3 in
-    let each = and-both (list_all (λ y. not (is_variable A y || is_constant A y || Rattle.scope.specs.Active.was_label A y)) ws) (all_different ws) g in
+    let each = and_parts (list_all (λ y. not (is_variable A y || is_constant A y || Rattle.scope.specs.Active.was_label A y)) ws) (all_different ws) g in
     middle (is_variable A x) (is_constant A x) (Rattle.scope.specs.Active.was_label A x) (not-true (is_variable A x || is_constant A x || Rattle.scope.specs.Active.was_label A x) (all-has (λ y. not (is_variable A y || is_constant A y || Rattle.scope.specs.Active.was_label A y)) ws x each.0 h))
   where
     middle : (a b c : Bool) → (a || b || c) ≡ false → b ≡ false
@@ -139,7 +140,7 @@ var-fresh A ws x legal h =
 const-fresh : (A : Database) (ws : List Name) (x : Name) → IsLegal A (Const ws) → has_name x ws ≡ true → was_symbol A x ≡ false
 const-fresh A ws x legal h =
     let g : (list_all (λ y. not (was_symbol A y || Rattle.scope.specs.Active.was_label A y)) ws && all_different ws) ≡ true = (legal-keeps A (Const ws) legal).g2 in
-    let each = and-both (list_all (λ y. not (was_symbol A y || Rattle.scope.specs.Active.was_label A y)) ws) (all_different ws) g in
+    let each = and_parts (list_all (λ y. not (was_symbol A y || Rattle.scope.specs.Active.was_label A y)) ws) (all_different ws) g in
     first (was_symbol A x) (Rattle.scope.specs.Active.was_label A x) (not-true (was_symbol A x || Rattle.scope.specs.Active.was_label A x) (all-has (λ y. not (was_symbol A y || Rattle.scope.specs.Active.was_label A y)) ws x each.0 h))
   where
     first : (a c : Bool) → (a || c) ≡ false → a ≡ false
@@ -176,7 +177,7 @@ no_variable S x A t B C u D all p q const var (at_one same e f) =
 no_variable S x A t B C u D all p q const var (later M e f) =
     let k = is_const t x const in
     let legal : IsLegal A (Const k.0) = subst (IsLegal A) k.1 (kept-legal S A t B all p) in
-    not-both (was_symbol A x) (ap (λ w. was_symbol w x) e ∙ any-middle (λ s. has_name x (constants s) || has_name x (variables s)) C u M (or-right (has_name x (constants u)) (has_name x (variables u)) var))
+    not-both (was_symbol A x) (ap (λ w. was_symbol w x) e ∙ any-middle (λ s. has_name x (constants s) || has_name x (variables s)) C u M (or_right (has_name x (constants u)) (has_name x (variables u)) var))
     (const-fresh A k.0 x legal (sym (ap (λ s. has_name x (constants s)) k.1) ∙ const))
 
 pub constant-no_variable : (S : Database) (x : Name) → AllKept S → is_constant S x ≡ true → is_variable S x ≡ false

@@ -2,6 +2,7 @@
 use Rattle.std.specs.Prelude.{◌≡◌, ℕ, zero, suc, ◌-◌, ◌<◌, Bool, true, false, not, cond, ◌||◌, List, [], ◌∷◌, length, take, Option, Some, None, slice_get, refl}
 use Rattle.std.proofs.Common.{sym, ◌∙◌, ap, arith}
 use Rattle.std.proofs.lemmas.Slice.Eq.{bytes_eq-Decides}
+use Rattle.std.proofs.lemmas.Bool.{or_left, or_right}
 use Rattle.mm_lex.specs.Alphabet.{Name}
 use Rattle.mm_read.specs.declared.stmt.Stmt.{Stmt}
 use Rattle.mm_read.specs.declared.stmt.Stmt.TheVariants.{Open, Close, Const, Var, Disj, Float, Ess, Axiom, Prove}
@@ -45,22 +46,14 @@ fresh S (Disj ws) label h e = cc
 has_own : (s : Stmt) (label : Name) → label_of s ≡ Some label → has_label label (label_of s) ≡ true
 has_own s label e = ap (has_label label) e ∙ (bytes_eq-Decides label label).1 refl
 
-or-left : (a b : Bool) → a ≡ true → (a || b) ≡ true
-or-left true b h = refl
-or-left false b h = cc
-
-or-right : (a b : Bool) → b ≡ true → (a || b) ≡ true
-or-right true b h = refl
-or-right false b h = h
-
 was_there : (S : Database) (n k : ℕ) (s : Stmt) (label : Name) → k < n → slice_get S k ≡ Some s → label_of s ≡ Some label → was_label (take n S) label ≡ true
 was_there [] n k s label h e l = cc
 was_there (x ∷ S) zero k s label h e l = absurd (omega (arith, h))
 was_there (x ∷ S) (suc n) zero s label h e l =
     let same : x ≡ s = cc in
-    or-left (has_label label (label_of x)) (was_label (take n S) label) (ap (λ v. has_label label (label_of v)) same ∙ has_own s label l)
+    or_left (has_label label (label_of x)) (was_label (take n S) label) (ap (λ v. has_label label (label_of v)) same ∙ has_own s label l)
 was_there (x ∷ S) (suc n) (suc k) s label h e l =
-    or-right (has_label label (label_of x)) (was_label (take n S) label) (was_there S n k s label (omega (arith, h)) e l)
+    or_right (has_label label (label_of x)) (was_label (take n S) label) (was_there S n k s label (omega (arith, h)) e l)
 
 no_later : (S : Database) → AllKept S → (i j : ℕ) (s r : Stmt) (label : Name) → Carries S i s label → Carries S j r label → i < j → ⊥
 no_later S kept zero j s r label p q h = let e = p.stands in cc

@@ -3,6 +3,7 @@ use Rattle.std.specs.Prelude.{◌≡◌, ℕ, zero, suc, ◌+◌, ◌-◌, ◌<�
 use Rattle.std.proofs.Common.{sym, ◌∙◌, ap, subst, arith, inl, inr, append_assoc, append-nil, length-append}
 use Rattle.std.proofs.Math.Seq.{take-append_seam}
 use Rattle.std.proofs.lemmas.List.{drop-append-le, length-take-le}
+use Rattle.std.proofs.lemmas.Bool.{eqb-true}
 use Rattle.mm_read.specs.declared.stmt.Stmt.{Stmt}
 use Rattle.mm_read.specs.declared.stmt.Stmt.TheVariants.{Open, Close}
 use Rattle.mm_read.specs.Statements.{Database}
@@ -104,9 +105,6 @@ same-block E X s T e o c whole low = both (last_active is_open X == last_active 
     both false true f g = g refl
     both false false f g = refl
 
-    eq-true : (m n : ℕ) → (m == n) ≡ true → m ≡ n
-    eq-true m n h = grind (arith, h)
-
     rest-stays : (t : Stmt) → is_open t ≡ false → is_close t ≡ false → stays_open 0 (t ∷ T) ≡ true → stays_open 0 T ≡ true
     rest-stays Open a b h = cc
     rest-stays Close a b h = cc
@@ -121,7 +119,7 @@ same-block E X s T e o c whole low = both (last_active is_open X == last_active 
     there h = by (split_last is_open X) (split_last is_open E)
       where
         same : last_active is_open X ≡ last_active is_open E
-        same = eq-true (last_active is_open X) (last_active is_open E) h
+        same = eqb-true (last_active is_open X) (last_active is_open E) h
 
         by : ((at : ℕ) → actives_from is_open at X ≡ []) ⊎ ((A : Database) × (r : Stmt) × (B : Database) × IsLast is_open X A r B)
             → ((at : ℕ) → actives_from is_open at E ≡ []) ⊎ ((A : Database) × (r : Stmt) × (B : Database) × IsLast is_open E A r B)

@@ -2,13 +2,13 @@
 use Rattle.std.specs.Prelude.{◌≡◌, ℕ, zero, suc, ◌+◌, ◌<◌, ◌≤◌, Bool, true, false, cond, ◌==◌, nat_lt, List, [], ◌∷◌, ◌++◌, length, get_or, Option, Some, None, is_some, refl}
 use Rattle.std.specs.List.{insert}
 use Rattle.std.proofs.Common.{sym, ◌∙◌, ap, subst, arith, inl, inr}
+use Rattle.std.proofs.lemmas.Option.{same_Some}
 use Rattle.mm_read.specs.Statements.{Database}
 use Rattle.scope.specs.Active.{is_active}
 use Rattle.entries.specs.Entries.{Entry}
 use Rattle.frame.specs.Places.{place_of}
 use Rattle.frame.specs.StoredHypotheses.{inserted, AreAbove, Ascends, IsLooked, with_float}
 use Rattle.frame.specs.StoredEntries.{floats, last_where}
-use Rattle.frame.proofs.WalkLemmas.{some-same}
 use Rattle.frame.proofs.MarkLemmas.{IsNewPlace, place-push}
 use Rattle.frame.proofs.CollectLemmas.{inserted-here, inserted-before, inserted-after}
 use Rattle.frame.proofs.AscendingLists.{ascends-inserted}
@@ -128,7 +128,7 @@ module _ (es : List Entry) (S : Database) where
     where
       by : (d k : ℕ) → IsNewPlace 0 looked (Some c) d k → with_float es S d (with_float es S c xs) ≡ with_float es S c xs
       by d k (inl p) = float-stays d c xs (l.has d k p)
-      by d k (inr p) = let same : c ≡ d = some-same p.1 in subst (λ x. with_float es S x (with_float es S c xs) ≡ with_float es S c xs) same (float-twice c xs)
+      by d k (inr p) = let same : c ≡ d = same_Some _ _ p.1 in subst (λ x. with_float es S x (with_float es S c xs) ≡ with_float es S c xs) same (float-twice c xs)
 
   pub looked-known : (looked : List (Option ℕ)) (c : ℕ) (xs : List ℕ) (o : Option ℕ) → IsLooked es S looked xs → o ≡ place_of looked c → is_some o ≡ true → with_float es S c xs ≡ xs
   looked-known looked c xs None l e h = cc

@@ -46,11 +46,6 @@ hypothesis-at es [] k h l = absurd (omega (arith, l))
 hypothesis-at es (p ∷ ps) zero h l = h.0
 hypothesis-at es (p ∷ ps) (suc k) h l = hypothesis-at es ps k h.1 (omega (arith, l))
 
-pub get-below : {A : Type 0} (xs : List A) (i : ℕ) (x : A) → slice_get xs i ≡ Some x → i < length xs
-get-below [] i x h = cc
-get-below (y ∷ xs) zero x h = omega arith
-get-below (y ∷ xs) (suc i) x h = let r = get-below xs i x h in omega (arith, r)
-
 map-snoc : {A B : Type 0} (f : A → B) (xs : List A) (x : A) → map f (xs ++ x ∷ []) ≡ map f xs ++ f x ∷ []
 map-snoc f [] x = refl
 map-snoc f (y ∷ xs) x = ap (λ r. f y ∷ r) (map-snoc f xs x)

@@ -1,8 +1,8 @@
 -- A table that has the place of each number of a list that has one.
 use Rattle.std.specs.Prelude.{◌≡◌, ℕ, zero, suc, ◌+◌, ◌<◌, ◌≤◌, Bool, true, false, cond, ◌⊎◌, List, [], ◌∷◌, ◌++◌, length, slice_get, not, is_some, Option, Some, None, refl}
 use Rattle.std.proofs.Common.{sym, ◌∙◌, ap, subst, arith, inl, inr}
+use Rattle.std.proofs.lemmas.Option.{same_Some}
 use Rattle.frame.specs.Places.{is_code, place_from, place_of, AreMarked}
-use Rattle.frame.proofs.WalkLemmas.{some-same}
 
 code-is : (c : ℕ) (v : Option ℕ) → is_code c v ≡ true → v ≡ Some c
 code-is c None h = cc
@@ -25,7 +25,7 @@ place-stands k (v ∷ vs) c r h = by (is_code c v) refl (place-stands (k + 1) vs
 pub has-place : (k : ℕ) (vs : List (Option ℕ)) (c i : ℕ) → slice_get vs i ≡ Some (Some c) → (r : ℕ) × (place_from k vs c ≡ Some r)
 has-place k [] c i h = cc
 has-place k (v ∷ vs) c zero h =
-    let e : v ≡ Some c = some-same h in
+    let e : v ≡ Some c = same_Some _ _ h in
     (k, ap (λ b. cond b (Some k) (place_from (k + 1) vs c)) (ap (is_code c) e ∙ is-code c))
 has-place k (v ∷ vs) c (suc i) h = by (is_code c v) refl (has-place (k + 1) vs c i h)
   where
@@ -42,7 +42,7 @@ within (w ∷ vs) (suc k) v s = let r = within vs k v s in omega (arith, r)
 pub place-marked : (table : List ℕ) (vs : List (Option ℕ)) (c k : ℕ) (v : Option ℕ) → AreMarked table vs → slice_get table c ≡ Some k → slice_get vs k ≡ Some v → is_code c v ≡ true → place_of vs c ≡ Some k
 place-marked table vs c k v m h s t =
     let p = has-place 0 vs c k (s ∙ ap Some (code-is c v t)) in
-    let same : k ≡ p.0 = some-same (sym h ∙ m c p.0 p.1) in
+    let same : k ≡ p.0 = same_Some _ _ (sym h ∙ m c p.0 p.1) in
     p.1 ∙ ap Some (sym same)
 
 no-place : (vs : List (Option ℕ)) (c : ℕ) → ((r : ℕ) → place_of vs c ≡ Some r → slice_get vs r ≡ Some (Some c) → ⊥) → place_of vs c ≡ None
@@ -57,13 +57,13 @@ no-place vs c never = by (place_of vs c) refl
 
 -- and else the number has no place
 pub place-elsewhere : (table : List ℕ) (vs : List (Option ℕ)) (c k : ℕ) → AreMarked table vs → slice_get table c ≡ Some k → length vs ≤ k → place_of vs c ≡ None
-place-elsewhere table vs c k m h l = no-place vs c (λ r p s. let w = within vs r (Some c) s in let same : k ≡ r = some-same (sym h ∙ m c r p) in omega (arith, w, same, l))
+place-elsewhere table vs c k m h l = no-place vs c (λ r p s. let w = within vs r (Some c) s in let same : k ≡ r = same_Some _ _ (sym h ∙ m c r p) in omega (arith, w, same, l))
 
 pub place-other : (table : List ℕ) (vs : List (Option ℕ)) (c k : ℕ) (v : Option ℕ) → AreMarked table vs → slice_get table c ≡ Some k → slice_get vs k ≡ Some v → is_code c v ≡ false → place_of vs c ≡ None
 place-other table vs c k v m h g f =
     no-place vs c (λ r p s.
-    let same : k ≡ r = some-same (sym h ∙ m c r p) in
-    let w : v ≡ Some c = some-same (sym g ∙ (ap (slice_get vs) same ∙ s)) in
+    let same : k ≡ r = same_Some _ _ (sym h ∙ m c r p) in
+    let w : v ≡ Some c = same_Some _ _ (sym g ∙ (ap (slice_get vs) same ∙ s)) in
     let t : is_code c v ≡ true = ap (is_code c) w ∙ is-code c in
     let bad : true ≡ false = sym t ∙ f in cc)
 
@@ -83,7 +83,7 @@ pub place-push : (k : ℕ) (vs : List (Option ℕ)) (v : Option ℕ) (c r : ℕ)
 place-push k [] v c r h = by (is_code c v) refl h
   where
     by : (b : Bool) → is_code c v ≡ b → cond b (Some k) None ≡ Some r → IsNewPlace k [] v c r
-    by true e q = let same : k ≡ r = some-same q in inr (refl, code-is c v e, omega (arith, same))
+    by true e q = let same : k ≡ r = same_Some _ _ q in inr (refl, code-is c v e, omega (arith, same))
     by false e q = cc
 place-push k (w ∷ vs) v c r h = by (is_code c w) refl h (place-push (k + 1) vs v c r)
   where
@@ -115,7 +115,7 @@ marked-new table new vs c m noted others none = λ d r h. by d r (place-push 0 v
     by : (d r : ℕ) → (place_of vs d ≡ Some r) ⊎ ((place_of vs d ≡ None) × (Some c ≡ Some d) × (r ≡ 0 + length vs)) → slice_get new d ≡ Some r
     by d r (inl p) = others d r (λ e. let bad = sym (ap (place_of vs) e ∙ none) ∙ p in cc) (m d r p)
     by d r (inr p) =
-        let same : c ≡ d = some-same p.1 in let at = p.2 in let n : length vs ≡ r = omega (arith, at) in
+        let same : c ≡ d = same_Some _ _ p.1 in let at = p.2 in let n : length vs ≡ r = omega (arith, at) in
         subst (λ x. slice_get new x ≡ Some r) same (noted ∙ ap Some n)
 
 -- the table changes at a number that has no place

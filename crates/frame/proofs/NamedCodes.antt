@@ -2,6 +2,7 @@
 use Rattle.std.specs.Prelude.{◌≡◌, ℕ, ◌-◌, ◌<◌, Bool, true, false, ◌&&◌, ◌||◌, List, [], ◌∷◌, length, refl}
 use Rattle.std.proofs.Common.{sym, ◌∙◌, ap, arith, inl, inr}
 use Rattle.std.proofs.lemmas.Slice.Eq.{bytes_eq-Decides}
+use Rattle.std.proofs.lemmas.Bool.{or_left, or_right, and_parts}
 use Rattle.mm_lex.specs.Alphabet.{Name, name_eq, has_name}
 use Rattle.mm_read.specs.declared.stmt.Stmt.TheVariants as stmt
 use Rattle.names.specs.Codes.{name_at, decode, AreDistinct}
@@ -15,18 +16,6 @@ use Rattle.frame.proofs.FoundByNumber.{name_at-injective}
 use Rattle.frame.proofs.AscendingLists.{In}
 
 -- ---- names
-
-pub or-left : (a b : Bool) → a ≡ true → (a || b) ≡ true
-or-left true b h = refl
-or-left false b h = cc
-
-pub or-right : (a b : Bool) → b ≡ true → (a || b) ≡ true
-or-right true b h = refl
-or-right false b h = h
-
-pub and-both : (a b : Bool) → (a && b) ≡ true → (a ≡ true) × (b ≡ true)
-and-both true b h = (refl, h)
-and-both false b h = cc
 
 pub not-both : (a : Bool) → a ≡ true → a ≡ false → ⊥
 not-both a p q = let e : true ≡ false = sym p ∙ q in cc
@@ -47,8 +36,8 @@ coded names (c ∷ codes) x h = by (name_eq x (name_at names c)) refl (coded nam
 
 pub has-code : (names : List Name) (codes : List ℕ) (c : ℕ) → In c codes → has_name (name_at names c) (decode names codes) ≡ true
 has-code names [] c i = absurd i
-has-code names (d ∷ codes) c (inl e) = or-left (name_eq (name_at names c) (name_at names d)) (has_name (name_at names c) (decode names codes)) ((bytes_eq-Decides (name_at names c) (name_at names d)).1 (ap (name_at names) e))
-has-code names (d ∷ codes) c (inr i) = or-right (name_eq (name_at names c) (name_at names d)) (has_name (name_at names c) (decode names codes)) (has-code names codes c i)
+has-code names (d ∷ codes) c (inl e) = or_left (name_eq (name_at names c) (name_at names d)) (has_name (name_at names c) (decode names codes)) ((bytes_eq-Decides (name_at names c) (name_at names d)).1 (ap (name_at names) e))
+has-code names (d ∷ codes) c (inr i) = or_right (name_eq (name_at names c) (name_at names d)) (has_name (name_at names c) (decode names codes)) (has-code names codes c i)
 
 pub code-low : (n c : ℕ) (codes : List ℕ) → AreBelow n codes → In c codes → c < n
 code-low n c [] b i = absurd i
@@ -58,7 +47,7 @@ code-low n c (d ∷ codes) b (inr i) = code-low n c codes b.1 i
 -- a `$f` of a number
 pub floats-is : (names : List Name) (c : ℕ) (x : Entry) (label : Name) → floats c x ≡ true → (l : Name) × (stmt_by x.kind label (decode names x.symbols) ≡ stmt.Float label l (name_at names c))
 floats-is names c x label h =
-    let r = and-both (is_float_kind x.kind) (second_is c x.symbols) h in
+    let r = and_parts (is_float_kind x.kind) (second_is c x.symbols) h in
     let k = by x.kind r.0 in
     let w = second x.symbols r.1 in
     (name_at (decode names x.symbols) 0, ap (λ q. stmt_by q label (decode names x.symbols)) k ∙ ap (stmt.Float label (name_at (decode names x.symbols) 0)) w)

@@ -1,9 +1,9 @@
 -- Numbers and the names that they stand for, as both grow.
-use Rattle.std.specs.Prelude.{◌≡◌, ℕ, zero, suc, ◌<◌, ◌≤◌, Bool, true, false, ◌||◌, ◌⊎◌, List, [], ◌∷◌, ◌++◌, length, take, refl}
+use Rattle.std.specs.Prelude.{◌≡◌, ℕ, zero, suc, ◌<◌, ◌≤◌, true, false, ◌||◌, ◌⊎◌, List, [], ◌∷◌, ◌++◌, length, take, refl}
 use Rattle.std.proofs.Common.{sym, ◌∙◌, ap, arith, inl, inr, append-nil, append_assoc, length-append}
 use Rattle.std.proofs.Math.Seq.{take-append_seam}
 use Rattle.std.proofs.lemmas.Slice.Eq.{bytes_eq-Decides}
-use Rattle.std.proofs.lemmas.Bool.{cases_lt}
+use Rattle.std.proofs.lemmas.Bool.{cases_lt, or_right}
 use Rattle.mm_lex.specs.Alphabet.{Name, name_eq, has_name}
 use Rattle.names.specs.Codes.{name_at, decode, with_name, with_names, AreNamed}
 use Rattle.frame.specs.Below.{AreBelow}
@@ -66,11 +66,7 @@ stand-step old new words rest codes c x p below e h =
 pub has-name : (names : List Name) (x : Name) (n : ℕ) → n < length names → name_at names n ≡ x → has_name x names ≡ true
 has-name [] x n h e = absurd (omega (arith, h))
 has-name (y ∷ names) x zero h e = ap (λ b. b || has_name x names) ((bytes_eq-Decides x y).1 (sym e))
-has-name (y ∷ names) x (suc n) h e = or-right (name_eq x y) (has_name x names) (has-name names x n (omega (arith, h)) e)
-  where
-    or-right : (a b : Bool) → b ≡ true → (a || b) ≡ true
-    or-right true b h = refl
-    or-right false b h = h
+has-name (y ∷ names) x (suc n) h e = or_right (name_eq x y) (has_name x names) (has-name names x n (omega (arith, h)) e)
 
 -- a name that was not there gets the number behind the others
 pub fresh-number : (old new : List Name) (x : Name) (n : ℕ) → has_name x old ≡ false → (n < length new) × (name_at new n ≡ x) → (n < length old → new ≡ old) → length old ≤ n
@@ -94,8 +90,4 @@ pub first-named : (names words rest : List Name) (x : Name) → AreNamed names w
 first-named names words rest x h is = h x (ap (has_name x) is ∙ ap (λ b. b || has_name x rest) ((bytes_eq-Decides x x).1 refl))
 
 pub rest-named : (names words rest : List Name) (x : Name) → AreNamed names words → words ≡ x ∷ rest → AreNamed names rest
-rest-named names words rest x h is y k = h y (ap (has_name y) is ∙ or-right (name_eq y x) (has_name y rest) k)
-  where
-    or-right : (a b : Bool) → b ≡ true → (a || b) ≡ true
-    or-right true b e = refl
-    or-right false b e = e
+rest-named names words rest x h is y k = h y (ap (has_name y) is ∙ or_right (name_eq y x) (has_name y rest) k)

@@ -2,6 +2,7 @@
 use Rattle.std.specs.Prelude.{◌≡◌, ℕ, zero, suc, ◌<◌, ◌≤◌, Bool, true, false, cond, ◌&&◌, ◌||◌, List, [], ◌∷◌, ◌++◌, map, filter, length, refl, Some, None, is_some, nat_lt}
 use Rattle.std.specs.List.{list_any, flat_map, position_or_len}
 use Rattle.std.proofs.Common.{◌∙◌, ap, sym, arith, ◌⊎◌, inl, inr}
+use Rattle.std.proofs.lemmas.Bool.{or_right}
 use Rattle.mm_lex.specs.Alphabet.{Name, name_eq, has_name}
 use Rattle.mm_read.specs.declared.stmt.Stmt.{Stmt}
 use Rattle.mm_read.specs.declared.stmt.Stmt.TheVariants.{Open, Close, Const, Var, Disj, Float, Ess, Axiom, Prove}
@@ -20,11 +21,7 @@ use Rattle.frame.specs.OneFrame.{AreMandatory, is_in_essential, asks, asked, amo
 has-at : (names : List Name) (n : ℕ) → n < length names → has_name (name_at names n) names ≡ true
 has-at [] n h = absurd (omega arith)
 has-at (x ∷ names) zero h = ap (λ b. b || has_name x names) (name_same x)
-has-at (x ∷ names) (suc n) h = or-true (name_eq (name_at names n) x) (has_name (name_at names n) names) (has-at names n (omega arith))
-  where
-    or-true : (a b : Bool) → b ≡ true → (a || b) ≡ true
-    or-true true b h = refl
-    or-true false b h = h
+has-at (x ∷ names) (suc n) h = or_right (name_eq (name_at names n) x) (has_name (name_at names n) names) (has-at names n (omega arith))
 
 or-false : (a : Bool) → (a || false) ≡ a
 or-false true = refl

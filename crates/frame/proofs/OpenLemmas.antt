@@ -1,6 +1,7 @@
 -- What stays open when statements are put behind others.
 use Rattle.std.specs.Prelude.{◌≡◌, ℕ, zero, suc, ◌+◌, ◌<◌, ◌≤◌, Bool, true, false, cond, ◌⊎◌, List, [], ◌∷◌, ◌++◌, length, filter, refl}
 use Rattle.std.proofs.Common.{sym, ◌∙◌, ap, arith, inl, inr, append_assoc, append-nil, add-zero}
+use Rattle.std.proofs.lemmas.Bool.{false_from_ne_true}
 use Rattle.mm_read.specs.declared.stmt.Stmt.{Stmt}
 use Rattle.mm_read.specs.declared.stmt.Stmt.TheVariants.{Open, Close}
 use Rattle.mm_read.specs.Statements.{Database}
@@ -178,16 +179,12 @@ closed-tail : (s : Stmt) (T : Database) → AreClosed (s ∷ T) → AreClosed T
 closed-tail Open T c = c.1
 closed-tail s T c = c
 
-false-by : (b : Bool) → (b ≡ true → ⊥) → b ≡ false
-false-by true h = absurd (h refl)
-false-by false h = refl
-
 -- nothing that was closed before is active behind one more `$}`
 pub closed-nothing : (kind : Stmt → Bool) (at : ℕ) (T : Database) → IsNoClose kind → AreClosed T → actives_from kind at (T ++ Close ∷ []) ≡ []
 closed-nothing kind at [] n c = ap (λ b. cond b ((at, Close) ∷ []) []) n
 closed-nothing kind at (s ∷ T) n c =
     let shut : stays_open 0 (T ++ Close ∷ []) ≡ false =
-    false-by (stays_open 0 (T ++ Close ∷ [])) (λ o. let x : stays_open 0 (Close ∷ []) ≡ true = closed-rest 0 T (Close ∷ []) (closed-tail s T c) o in cc) in
+    false_from_ne_true (stays_open 0 (T ++ Close ∷ [])) (λ o. let x : stays_open 0 (Close ∷ []) ≡ true = closed-rest 0 T (Close ∷ []) (closed-tail s T c) o in cc) in
     ap (λ b. filter (λ p. kind p.1) (cond b ((at, s) ∷ active_from (at + 1) (T ++ Close ∷ [])) (active_from (at + 1) (T ++ Close ∷ [])))) shut
     ∙ closed-nothing kind (at + 1) T n (closed-tail s T c)
 
@@ -214,7 +211,7 @@ close-actives kind S A s B n l =
     let cut : S ++ Close ∷ [] ≡ A ++ Open ∷ (B ++ Close ∷ []) =
     ap (λ r. r ++ Close ∷ []) (l.cut ∙ ap (λ t. A ++ t ∷ B) (is-open s l.of_kind)) ∙ append_assoc A (Open ∷ B) (Close ∷ []) in
     let shut : stays_open 0 (B ++ Close ∷ []) ≡ false =
-    false-by (stays_open 0 (B ++ Close ∷ [])) (λ o. let x : stays_open 0 (Close ∷ []) ≡ true = closed-rest 0 B (Close ∷ []) closed o in cc) in
+    false_from_ne_true (stays_open 0 (B ++ Close ∷ [])) (λ o. let x : stays_open 0 (Close ∷ []) ≡ true = closed-rest 0 B (Close ∷ []) closed o in cc) in
     ap (actives kind) cut
     ∙ (actives-append kind 1 A (Open ∷ (B ++ Close ∷ [])) (closes-stay B l.stays)
     ∙ (ap (λ r. actives kind A ++ r)

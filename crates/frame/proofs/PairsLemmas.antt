@@ -2,6 +2,7 @@
 use Rattle.std.specs.Prelude.{◌≡◌, ℕ, zero, suc, ◌+◌, ◌-◌, ◌<◌, ◌≤◌, Bool, true, false, cond, ◌&&◌, ◌||◌, ◌==◌, ◌⊎◌, List, [], ◌∷◌, ◌++◌, length, map, take, drop, slice_get, Some, refl}
 use Rattle.std.specs.List.{list_any}
 use Rattle.std.proofs.Common.{sym, ◌∙◌, ap, subst, arith, inl, inr}
+use Rattle.std.proofs.lemmas.Bool.{or_from}
 use Rattle.mm_lex.specs.Alphabet.{Name, name_eq, has_name}
 use Rattle.mm_read.specs.declared.stmt.Stmt.{Stmt}
 use Rattle.mm_read.specs.Statements.{Database}
@@ -96,13 +97,10 @@ pub unnamed-none : (names labels : List Name) (m n : ℕ) (x : Name) (es : List 
 unnamed-none names labels m n x es none a =
     any-none (λ p. has_name x (variables p.1)) 1 (take n (map (stmt_of names labels) es)) (λ k s g q. one k s (get-less n (map (stmt_of names labels) es) k s g))
   where
-    both : (a b : Bool) → a ≡ false → b ≡ false → (a || b) ≡ false
-    both true b h e = cc
-    both false b h e = e
 
     in_none : (codes : List ℕ) → AreBelow (length names) codes → has_name x (decode names codes) ≡ false
     in_none [] b = refl
-    in_none (c ∷ codes) b = both (name_eq x (name_at names c)) (has_name x (decode names codes)) (not-has names c x none b.0) (in_none codes b.1)
+    in_none (c ∷ codes) b = or_from (name_eq x (name_at names c)) (has_name x (decode names codes)) (not-has names c x none b.0) (in_none codes b.1)
 
     by : (e : Entry) → AreBelow (length names) e.symbols → (t : Bool) → is_var (stmt_of names labels e) ≡ t → has_name x (variables (stmt_of names labels e)) ≡ false
     by e b true h = ap (has_name x) (entry-var names labels e h) ∙ in_none e.symbols b

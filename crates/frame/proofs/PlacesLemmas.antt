@@ -2,6 +2,7 @@
 use Rattle.std.specs.Prelude.{◌≡◌, ℕ, zero, suc, ◌+◌, ◌-◌, Bool, true, false, not, cond, ◌&&◌, ◌||◌, List, [], ◌∷◌, ◌++◌, length, map, filter, take, drop, Option, Some, None, slice_get, refl}
 use Rattle.std.specs.List.{list_any}
 use Rattle.std.proofs.Common.{sym, ◌∙◌, ap, subst, arith, append_assoc, length-append}
+use Rattle.std.proofs.lemmas.Bool.{or_left, or_right, and_parts, not-true}
 use Rattle.mm_lex.specs.Alphabet.{Name, name_eq}
 use Rattle.mm_read.specs.declared.stmt.Stmt.{Stmt}
 use Rattle.mm_read.specs.declared.stmt.Stmt.TheVariants.{Open, Close, Const, Var, Disj, Float, Ess, Axiom, Prove}
@@ -10,7 +11,7 @@ use Rattle.scope.specs.Active.{stmt_at, stays_open, active, active_from, is_acti
 use Rattle.scope.specs.Legal.{IsLegal}
 use Rattle.frame.specs.FrameOf.{is_used, is_mandatory, is_hypothesis, variable_of, variable_at, variables_of, is_some_name, has_place}
 use Rattle.frame.proofs.LegalLabels.{AllKept}
-use Rattle.frame.proofs.ActiveBehind.{IsElsewhere, AreOnce, or-left, or-right, and-both, not-true, not-both, equal, stands-active, open_front}
+use Rattle.frame.proofs.ActiveBehind.{IsElsewhere, AreOnce, not-both, equal, stands-active, open_front}
 use Rattle.frame.proofs.LegalBehind.{legal-keeps, stands-at, kept-legal}
 use Rattle.frame.proofs.TypedVariables.{float-kinds, used-typed}
 
@@ -80,7 +81,7 @@ mandatory-listed S s x (p ∷ L) m h = by (mandatory-listed S s x L m) (is_float
   where
     kept_on : list_any (is_some_name x) (map (λ q. variable_of q.1) (filter (λ q. is_hypothesis S s q.1) L)) ≡ true → (b : Bool)
         → list_any (is_some_name x) (map (λ q. variable_of q.1) (cond b (p ∷ filter (λ q. is_hypothesis S s q.1) L) (filter (λ q. is_hypothesis S s q.1) L))) ≡ true
-    kept_on more true = or-right (is_some_name x (variable_of p.1)) _ more
+    kept_on more true = or_right (is_some_name x (variable_of p.1)) _ more
     kept_on more false = more
 
     by : (list_any (λ q. is_float_of x q.1) L ≡ true → list_any (is_some_name x) (map (λ q. variable_of q.1) (filter (λ q. is_hypothesis S s q.1) L)) ≡ true) → (b : Bool) → is_float_of x p.1 ≡ b
@@ -89,7 +90,7 @@ mandatory-listed S s x (p ∷ L) m h = by (mandatory-listed S s x L m) (is_float
     by more true e k =
         let f = float-head S s p.1 x m e in
         ap (λ b. list_any (is_some_name x) (map (λ q. variable_of q.1) (cond b (p ∷ filter (λ q. is_hypothesis S s q.1) L) (filter (λ q. is_hypothesis S s q.1) L)))) f.0
-        ∙ or-left (is_some_name x (variable_of p.1)) _ f.1
+        ∙ or_left (is_some_name x (variable_of p.1)) _ f.1
     by more false e k = kept_on (more k) (is_hypothesis S s p.1)
 
 listed : (S : Database) (s : Stmt) → variables_of S s ≡ map (λ p. variable_of p.1) (filter (λ p. is_hypothesis S s p.1) (active S))
@@ -110,7 +111,7 @@ mandatory-place S s x all legal asserts = by (is_mandatory S s x) (has_place (va
     by false false f h = refl
 
     there : is_mandatory S s x ≡ true → has_place (variables_of S s) x ≡ true
-    there m = let p = and-both (is_variable S x) (is_used S s x) m in used-has-place S s x all legal asserts p.1 p.0
+    there m = let p = and_parts (is_variable S x) (is_used S s x) m in used-has-place S s x all legal asserts p.1 p.0
 
     back : has_place (variables_of S s) x ≡ true → is_mandatory S s x ≡ true
     back h = place-mandatory S s x (active S) (ap (λ vs. has_place vs x) (sym (listed S s)) ∙ h)
@@ -141,7 +142,7 @@ differs A l c x M t y stays legal is = by (name_eq y x) refl
         fresh : (m : Name) × (d : Name) × (t ≡ Float m d y) → has_float (A ++ Float l c x ∷ M) y ≡ false
         fresh (m, d, e) =
             let k : (is_variable (A ++ Float l c x ∷ M) y && not (has_float (A ++ Float l c x ∷ M) y)) ≡ true = (legal-keeps (A ++ Float l c x ∷ M) (Float m d y) (subst (IsLegal (A ++ Float l c x ∷ M)) e legal)).g7 in
-            not-true (has_float (A ++ Float l c x ∷ M) y) (and-both (is_variable (A ++ Float l c x ∷ M) y) (not (has_float (A ++ Float l c x ∷ M) y)) k).1
+            not-true (has_float (A ++ Float l c x ∷ M) y) (and_parts (is_variable (A ++ Float l c x ∷ M) y) (not (has_float (A ++ Float l c x ∷ M) y)) k).1
 
     by : (b : Bool) → name_eq y x ≡ b → b ≡ false
     by false e = refl
@@ -207,7 +208,7 @@ cut-at (s ∷ S) (suc n) t h = ap (λ w. s ∷ w) (cut-at S n t h)
 -- a statement that is active behind S, and those after it close nothing of it
 pub active-rest : (S : Database) (n : ℕ) → is_active S (suc n) (length S + 1) ≡ true → stays_open 0 (drop (suc n) S) ≡ true
 active-rest S n h =
-    let parts = and-both (Rattle.std.specs.Prelude.nat_le 1 (suc n) && Rattle.std.specs.Prelude.nat_lt (suc n) (length S + 1)) (stays_open 0 (take (length S + 1 - 1 - suc n) (drop (suc n) S))) h in
+    let parts = and_parts (Rattle.std.specs.Prelude.nat_le 1 (suc n) && Rattle.std.specs.Prelude.nat_lt (suc n) (length S + 1)) (stays_open 0 (take (length S + 1 - 1 - suc n) (drop (suc n) S))) h in
     let l = Rattle.std.proofs.Common.length-drop (suc n) S in
     ap (stays_open 0) (sym (Rattle.std.proofs.lemmas.List.take_all (length S + 1 - 1 - suc n) (drop (suc n) S) (omega (arith, l)))) ∙ parts.1
 

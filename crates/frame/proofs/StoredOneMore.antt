@@ -3,7 +3,7 @@ use Rattle.std.specs.Prelude.{◌≡◌, ℕ, zero, suc, ◌+◌, ◌-◌, ◌<�
 use Rattle.std.specs.List.{list_any}
 use Rattle.std.proofs.Common.{sym, ◌∙◌, ap, subst, arith, inl, inr}
 use Rattle.std.proofs.lemmas.List.{take-append-le}
-use Rattle.std.proofs.lemmas.Bool.{cases_lt}
+use Rattle.std.proofs.lemmas.Bool.{cases_lt, ltb-true}
 use Rattle.std.proofs.Math.Seq.{take-length}
 use Rattle.mm_lex.specs.Alphabet.{Name, has_name}
 use Rattle.mm_read.specs.declared.stmt.Stmt.{Stmt}
@@ -139,11 +139,8 @@ last-rule : (b : Bool) → cond (not b) (Some G10) None ≡ None → b ≡ true
 last-rule true h = refl
 last-rule false h = cc
 
-lt-of : (m n : ℕ) → nat_lt m n ≡ true → m < n
-lt-of m n h = grind (arith, h)
-
 pub stays-push : (S : Database) (s : Stmt) → stays_open 0 S ≡ true → IsLegal S s → stays_open 0 (S ++ s ∷ []) ≡ true
-stays-push S stmt.Close h l = stays_open-close S (lt-of (count is_close S) (count is_open S) (last-rule (nat_lt (count is_close S) (count is_open S)) l)) h
+stays-push S stmt.Close h l = stays_open-close S (ltb-true (count is_close S) (count is_open S) (last-rule (nat_lt (count is_close S) (count is_open S)) l)) h
 stays-push S stmt.Open h l = stays_open-push S stmt.Open refl h
 stays-push S (stmt.Const n) h l = stays_open-push S (stmt.Const n) refl h
 stays-push S (stmt.Var n) h l = stays_open-push S (stmt.Var n) refl h

@@ -4,6 +4,7 @@ use Rattle.std.specs.List.{list_all}
 use Rattle.std.proofs.Common.{sym, ◌∙◌, ap, subst, arith, inl, inr, ◌⊎◌, append-nil, append_assoc}
 use Rattle.std.proofs.Math.Seq.{take-append_seam}
 use Rattle.std.proofs.lemmas.List.{take-append-drop}
+use Rattle.std.proofs.lemmas.Bool.{or_right, or_left, not-false, and_parts}
 use Rattle.mm_lex.specs.Alphabet.{Name, name_eq, has_name}
 use Rattle.mm_read.specs.declared.stmt.Stmt.{Stmt}
 use Rattle.mm_read.specs.declared.stmt.Stmt.TheVariants.{Open, Close, Const, Var, Disj, Float, Ess, Axiom, Prove}
@@ -26,14 +27,6 @@ use Rattle.entries.specs.Spans.{Extends}
 or_cases : (a b : Bool) → (a || b) ≡ true → (a ≡ true) ⊎ (b ≡ true)
 or_cases true b h = inl refl
 or_cases false b h = inr h
-
-or_right : (a b : Bool) → b ≡ true → (a || b) ≡ true
-or_right true b h = refl
-or_right false b h = h
-
-or_left : (a b : Bool) → a ≡ true → (a || b) ≡ true
-or_left true b h = refl
-or_left false b h = cc
 
 -- ---- as statements come
 
@@ -104,14 +97,10 @@ fifth false false false true e rest h = cc
 fifth false false false false true rest h = cc
 fifth false false false false false rest h = refl
 
-not_not : (b : Bool) → not b ≡ false → b ≡ true
-not_not true h = refl
-not_not false h = cc
-
 -- G5
 expr-named : (S : Database) (s : Stmt) (e : Expr) → keeps S s G5 ≡ list_all (λ x. is_constant S x || is_variable S x) e → IsLegal S s → AreNamed (symbols_of S) e
 expr-named S s e is h x k =
-    let keeps_five = not_not (keeps S s G5) (fifth (not (keeps S s G1)) (not (keeps S s G2)) (not (keeps S s G3)) (not (keeps S s G4)) (not (keeps S s G5)) _ h) in
+    let keeps_five = not-false (keeps S s G5) (fifth (not (keeps S s G1)) (not (keeps S s G2)) (not (keeps S s G3)) (not (keeps S s G4)) (not (keeps S s G5)) _ h) in
     either-named S x (all-has (λ y. is_constant S y || is_variable S y) x e (sym is ∙ keeps_five) k)
 
 -- G8
@@ -163,12 +152,7 @@ symbols_by-bare (Prove label expr proof) = refl
 
 codes-below : (n : ℕ) (codes : List ℕ) → list_all (λ c. nat_lt c n) codes ≡ true → AreBelow n codes
 codes-below n [] h = tt
-codes-below n (c ∷ codes) h = let p = both (nat_lt c n) (list_all (λ d. nat_lt d n) codes) h in let lt = p.0 in (grind (arith, lt), codes-below n codes p.1)
-  where
-    both : (a b : Bool) → (a && b) ≡ true → (a ≡ true) × (b ≡ true)
-    both true true e = (refl, refl)
-    both true false e = cc
-    both false b e = cc
+codes-below n (c ∷ codes) h = let p = and_parts (nat_lt c n) (list_all (λ d. nat_lt d n) codes) h in let lt = p.0 in (grind (arith, lt), codes-below n codes p.1)
 
 pub noted-numbers : (S : Database) (names : List Name) (s : Stmt) (codes : List ℕ) → names ≡ symbols_of S → AreOfLast (S ++ bare s ∷ []) codes
     → AreNumbersOf (with_names names (symbols_by s)) s codes

@@ -3,6 +3,7 @@ use Rattle.std.specs.Prelude.{◌≡◌, ◌+◌, ◌-◌, Bool, true, false, no
 use Rattle.std.specs.List.{list_any}
 use Rattle.std.proofs.Common.{◌∙◌, ap, append_assoc}
 use Rattle.std.proofs.lemmas.List.Folds.{list_any-append}
+use Rattle.std.proofs.lemmas.Bool.{or_left, and_parts}
 use Rattle.mm_lex.specs.Alphabet.{Name, has_name}
 use Rattle.mm_read.specs.declared.stmt.Stmt.{Stmt}
 use Rattle.mm_read.specs.declared.stmt.Stmt.TheVariants.{Open, Close, Const, Var, Disj, Float, Ess, Axiom, Prove}
@@ -12,7 +13,7 @@ use Rattle.scope.specs.Legal.{IsLegal, starts_with_constant}
 use Rattle.frame.specs.FrameOf.{is_used}
 use Rattle.frame.specs.Bound.{IsFirstFixed}
 use Rattle.frame.proofs.LegalLabels.{AllKept}
-use Rattle.frame.proofs.ActiveBehind.{or-left, and-both, not-both, active-stands, stands-active, open_both}
+use Rattle.frame.proofs.ActiveBehind.{not-both, active-stands, stands-active, open_both}
 use Rattle.frame.proofs.LegalBehind.{legal-keeps, kept-legal, all-has, constant-no_variable}
 
 -- ---- the four facts
@@ -26,7 +27,7 @@ still-active q S A t B whole stays h =
 
 constant-front : (S A : Database) (t : Stmt) (B : Database) (x : Name) → S ≡ A ++ t ∷ B → is_constant A x ≡ true → is_constant S x ≡ true
 constant-front S A t B x whole h =
-    ap (λ w. is_constant w x) whole ∙ (list_any-append (λ s. has_name x (constants s)) A (t ∷ B) ∙ or-left (is_constant A x) _ h)
+    ap (λ w. is_constant w x) whole ∙ (list_any-append (λ s. has_name x (constants s)) A (t ∷ B) ∙ or_left (is_constant A x) _ h)
 
 -- the constant of an active `$f` is no variable, and its variable is one
 pub float-kinds : (S A : Database) (l c x : Name) (B : Database) → AllKept S → S ≡ A ++ Float l c x ∷ B → stays_open 0 B ≡ true → (is_variable S c ≡ false) × (is_variable S x ≡ true)
@@ -36,7 +37,7 @@ float-kinds S A l c x B all whole stays =
     let g6 : is_constant A c ≡ true = k.g6 in
     let g7 : (is_variable A x && not (has_float A x)) ≡ true = k.g7 in (
       constant-no_variable S c all (constant-front S A (Float l c x) B c whole g6),
-      still-active (λ s. has_name x (variables s)) S A (Float l c x) B whole stays (and-both (is_variable A x) (not (has_float A x)) g7).0,
+      still-active (λ s. has_name x (variables s)) S A (Float l c x) B whole stays (and_parts (is_variable A x) (not (has_float A x)) g7).0,
     )
 
 -- an expression begins with a constant, so with no variable

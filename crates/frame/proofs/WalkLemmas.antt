@@ -1,17 +1,15 @@
 -- Walking back from one open block to the one round it, until it opened before a given statement.
-use Rattle.std.specs.Prelude.{◌≡◌, ℕ, zero, suc, ◌+◌, ◌-◌, ◌<◌, ◌≤◌, Bool, true, false, ◌==◌, ◌&&◌, nat_le, nat_lt, ◌⊎◌, List, [], ◌∷◌, ◌++◌, length, take, drop, slice_get, Some, refl}
+use Rattle.std.specs.Prelude.{◌≡◌, ℕ, zero, suc, ◌+◌, ◌-◌, ◌<◌, ◌≤◌, Bool, true, false, ◌==◌, ◌&&◌, nat_lt, ◌⊎◌, List, [], ◌∷◌, ◌++◌, length, take, drop, slice_get, Some, refl}
 use Rattle.std.proofs.Common.{sym, ◌∙◌, ap, subst, arith, inl, inr}
 use Rattle.std.proofs.lemmas.List.{length-take-le, take-take, drop-take, take-append-drop}
-use Rattle.std.proofs.lemmas.Bool.{cases_lt}
+use Rattle.std.proofs.lemmas.Bool.{cases_lt, le-leb, lt-ltb}
+use Rattle.std.proofs.lemmas.Option.{same_Some}
 use Rattle.mm_read.specs.declared.stmt.Stmt.{Stmt}
 use Rattle.mm_read.specs.Statements.{Database}
 use Rattle.scope.specs.Active.{stays_open, is_open, is_close, is_active}
 use Rattle.frame.specs.Links.{actives, last_active}
 use Rattle.frame.proofs.LinksLemmas.{IsLastAt, last-cases, before-block, same-block}
 use Rattle.frame.proofs.OpenLemmas.{stays_open-front, IsNoClose}
-
-pub some-same : {A : Type 0} {r t : A} → Some r ≡ Some t → r ≡ t
-some-same e = cc
 
 pub get-take : {A : Type 0} (i m : ℕ) (S : List A) → i < m → slice_get (take m S) i ≡ slice_get S i
 get-take i zero S h = absurd (omega (arith, h))
@@ -66,18 +64,12 @@ walk-step S i at p m w h = by (last-cases is_open (take m S) refl)
           same = ap (λ r. stays_open 0 (drop i r)) (sym (take-take (p - 1) m S (omega (arith, le)))) ∙ (sym (before-block (take m S) p q.0 i l h) ∙ w.same);
         }
 
-le-true : (m n : ℕ) → m ≤ n → nat_le m n ≡ true
-le-true m n h = grind (arith, h)
-
-lt-true : (m n : ℕ) → m < n → nat_lt m n ≡ true
-lt-true m n h = grind (arith, h)
-
 -- what is active at `at` is what stays open behind it
 pub active-stays : (S : Database) (i at : ℕ) → 1 ≤ i → i < at → is_active S i at ≡ stays_open 0 (drop i (take (at - 1) S))
 active-stays S i at one h =
     let cut : at - 1 ≡ i + (at - 1 - i) = omega (arith, h) in
-    ap (λ b. b && nat_lt i at && stays_open 0 (take (at - 1 - i) (drop i S))) (le-true 1 i one)
-    ∙ (ap (λ b. b && stays_open 0 (take (at - 1 - i) (drop i S))) (lt-true i at h)
+    ap (λ b. b && nat_lt i at && stays_open 0 (take (at - 1 - i) (drop i S))) (le-leb 1 i one)
+    ∙ (ap (λ b. b && stays_open 0 (take (at - 1 - i) (drop i S))) (lt-ltb i at h)
     ∙ ap (stays_open 0) (sym (ap (λ m. drop i (take m S)) cut ∙ drop-take i (at - 1 - i) S)))
 
 pub walk-end : (S : Database) (i at p m : ℕ) (s : Stmt) → IsWalk S i at p m → p ≤ i → 1 ≤ i → i < at → slice_get S (i - 1) ≡ Some s → is_open s ≡ false → is_close s ≡ false → stays_open 0 S ≡ true
@@ -119,7 +111,7 @@ walk-end S i at p m s w h one lt get o c whole =
             by (inr ge) =
                 let same : n ≡ i = omega (arith, le, ge) in
                 let there : slice_get (take m S) (i - 1) ≡ Some r = ap (λ k. slice_get (take m S) (k - 1)) (sym same) ∙ l.stands in
-                let eq : r ≡ s = some-same (sym there ∙ g) in
+                let eq : r ≡ s = same_Some _ _ (sym there ∙ g) in
                 let bad : true ≡ false = sym l.of_kind ∙ (ap is_open eq ∙ o) in cc
 
 -- ---- from one active statement of a kind to the one before it

@@ -3,7 +3,7 @@ use Rattle.std.specs.Prelude.{◌≡◌, ℕ, zero, suc, ◌+◌, ◌-◌, ◌<�
 use Rattle.std.proofs.Common.{sym, ◌∙◌, ap, subst, arith, append_assoc, length-append}
 use Rattle.std.proofs.lemmas.Bool.Decides.{nat_tests}
 use Rattle.std.proofs.lemmas.List.{take-append-le, drop-append-le, length-drop, take-append-drop}
-use Rattle.std.proofs.lemmas.Option.{slice_get-map, slice_get-get_or}
+use Rattle.std.proofs.lemmas.Option.{slice_get-map, slice_get-get_or, slice_get_within}
 use Rattle.mm_read.specs.declared.stmt.Stmt.{Stmt}
 use Rattle.mm_read.specs.declared.stmt.Stmt.TheVariants.{Open, Close, Const, Var, Disj, Float, Ess, Axiom, Prove}
 use Rattle.mm_read.specs.Statements.{Database}
@@ -15,11 +15,6 @@ get-front : {A : Type 0} (xs ys : List A) (n : ℕ) → n < length xs → slice_
 get-front [] ys n h = absurd (omega (arith, h))
 get-front (x ∷ xs) ys zero h = refl
 get-front (x ∷ xs) ys (suc n) h = get-front xs ys n (omega (arith, h))
-
-get-within : {A : Type 0} (xs : List A) (n : ℕ) (x : A) → slice_get xs n ≡ Some x → n < length xs
-get-within [] n x h = cc
-get-within (y ∷ xs) zero x h = omega arith
-get-within (y ∷ xs) (suc n) x h = let m = get-within xs n x h in omega (arith, m)
 
 get-behind : {A : Type 0} (xs ys : List A) (n : ℕ) → slice_get (xs ++ ys) (length xs + n) ≡ slice_get ys n
 get-behind [] ys n = let e : 0 + n ≡ n = omega arith in ap (slice_get ys) e
@@ -35,7 +30,7 @@ stmt_at-behind S T n = let e : length S + suc n ≡ suc (length S + n) = omega a
 -- where a statement stands
 pub stands-within : (S : Database) (i : ℕ) (s : Stmt) → stmt_at S i ≡ Some s → (1 ≤ i) × (i ≤ length S)
 stands-within S zero s h = cc
-stands-within S (suc n) s h = let m = get-within S n s h in (omega arith, omega (arith, m))
+stands-within S (suc n) s h = let m = slice_get_within S n s h in (omega arith, omega (arith, m))
 
 pub stands-later : (S T : Database) (i : ℕ) (s : Stmt) → stmt_at S i ≡ Some s → stmt_at (S ++ T) i ≡ Some s
 stands-later S T i s h = stmt_at-front S T i (stands-within S i s h).1 ∙ h

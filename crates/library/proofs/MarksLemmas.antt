@@ -2,7 +2,7 @@
 use Rattle.std.specs.Prelude.{◌≡◌, ◌↔◌, ◌||◌, ◌⊎◌, ℕ, zero, suc, ◌-◌, ◌<◌, ◌≤◌, Bool, true, false, cond, nat_lt, List, [], ◌∷◌, ◌++◌, length, map, get_or, slice_set, Option, Some, None, slice_get, refl}
 use Rattle.std.specs.List.{list_any}
 use Rattle.std.proofs.Common.{sym, ◌∙◌, ap, subst, arith, length-append, Bor, inl, inr}
-use Rattle.std.proofs.lemmas.Bool.{cases_eq}
+use Rattle.std.proofs.lemmas.Bool.{cases_eq, or_right}
 use Rattle.std.proofs.lemmas.Bool.Decides.{nat_tests}
 use Rattle.std.proofs.lemmas.List.{map-append, length-set, get_or-set_same, get_or-set_other}
 use Rattle.mm_lex.specs.Alphabet.{Name}
@@ -225,11 +225,7 @@ module _ (S : Database) (labels : List Name) (places : List (Option ℕ)) (are :
       let hit : Hits marks n ≡ true = ap (is_marked marks) at ∙ marked-is marks a m in
       ap (λ b. b || list_any (Hits marks) ns) hit
   meets-whole marks (n ∷ ns) a m label cited c (suc place) e =
-      either (Hits marks n) (list_any (Hits marks) ns) (meets-whole marks ns a m label cited c place e)
-    where
-      either : (b d : Bool) → d ≡ true → (b || d) ≡ true
-      either true d h = refl
-      either false d h = h
+      or_right (Hits marks n) (list_any (Hits marks) ns) (meets-whole marks ns a m label cited c place e)
 
   pub meets-items : (numbers : List ℕ) (items : List Item) (marks : List Bool) (found : Bool) → items_of labels numbers ≡ items → found ≡ list_any (Hits marks) numbers → found ≡ true ↔ ItemsMeet S items marks
   meets-items numbers items marks found same is =

@@ -1,8 +1,9 @@
 -- What a proof cites is a mandatory hypothesis, or what a token before `)` names.
-use Rattle.std.specs.Prelude.{◌≡◌, ◌⊎◌, ℕ, zero, suc, ◌+◌, ◌<◌, Bool, true, false, IsTrue, ◌||◌, ◌&&◌, if◌then◌else◌, List, [], ◌∷◌, ◌++◌, length, map, get_or, Option, Some, None, slice_get, refl}
+use Rattle.std.specs.Prelude.{◌≡◌, ◌⊎◌, ℕ, zero, suc, ◌+◌, ◌<◌, Bool, true, false, IsTrue, ◌||◌, if◌then◌else◌, List, [], ◌∷◌, ◌++◌, length, map, get_or, Option, Some, None, slice_get, refl}
 use Rattle.std.specs.List.{list_all, list_any}
 use Rattle.std.proofs.Common.{sym, ◌∙◌, ap, subst, arith, inl, inr, true≢false, append-nil}
 use Rattle.std.proofs.lemmas.Slice.Eq.{bytes_eq-Decides}
+use Rattle.std.proofs.lemmas.Bool.{or_right, and_parts}
 use Rattle.mm_lex.specs.Alphabet.{Name, name_eq, has_name, is_label}
 use Rattle.mm_read.specs.declared.stmt.Stmt.{Stmt}
 use Rattle.mm_read.specs.declared.stmt.Stmt.TheVariants.{Open, Close, Const, Var, Disj, Float, Ess, Axiom, Prove}
@@ -36,14 +37,10 @@ get-map f [] k y e = absurd (let h = e in cc)
 get-map f (x ∷ xs) zero y e = (x, refl, let h = e in cc)
 get-map f (x ∷ xs) (suc k) y e = get-map f xs k y e
 
-or-true : (a b : Bool) → b ≡ true → (a || b) ≡ true
-or-true true b h = refl
-or-true false b h = h
-
 any-at : {A : Type 0} (p : A → Bool) (xs : List A) (k : ℕ) (x : A) → slice_get xs k ≡ Some x → p x ≡ true → list_any p xs ≡ true
 any-at p [] k x e h = absurd (let f = e in cc)
 any-at p (y ∷ xs) zero x e h = let same : y ≡ x = (let f = e in cc) in ap (λ b. b || list_any p xs) (ap p same ∙ h)
-any-at p (y ∷ xs) (suc k) x e h = or-true (p y) (list_any p xs) (any-at p xs k x e h)
+any-at p (y ∷ xs) (suc k) x e h = or_right (p y) (list_any p xs) (any-at p xs k x e h)
 
 name-same : (x : Name) → name_eq x x ≡ true
 name-same x = (bytes_eq-Decides x x).1 refl
@@ -70,10 +67,6 @@ no-finish label is = by (name_eq label finish) refl
     by true e = absurd (true≢false (sym is ∙ ap is_label ((bytes_eq-Decides label finish).0 e)))
     by false e = refl
 
-and-parts : (a b : Bool) → (a && b) ≡ true → (a ≡ true) × (b ≡ true)
-and-parts true b h = (refl, h)
-and-parts false b h = absurd (let e = h in cc)
-
 listed-more : (token : Name) (tokens : List Name) → name_eq token finish ≡ false → listed_in (token ∷ tokens) ≡ token ∷ listed_in tokens
 listed-more token tokens e = ap (λ t. if t then [] else token ∷ listed_in tokens) e
 
@@ -81,12 +74,12 @@ listed-more token tokens e = ap (λ t. if t then [] else token ∷ listed_in tok
 labels-listed : (labels rest : List Name) → list_all is_label labels ≡ true → (k : ℕ) (label : Name) → slice_get labels k ≡ Some label → has_name label (listed_in (labels ++ rest)) ≡ true
 labels-listed [] rest are k label e = absurd (let h = e in cc)
 labels-listed (token ∷ labels) rest are k label e =
-    let both = and-parts (is_label token) (list_all is_label labels) are in
+    let both = and_parts (is_label token) (list_all is_label labels) are in
     subst (λ ns. has_name label ns ≡ true) (sym (listed-more token (labels ++ rest) (no-finish token both.0))) (by k e (λ i e. labels-listed labels rest both.1 i label e))
   where
     by : (k : ℕ) → slice_get (token ∷ labels) k ≡ Some label → ((i : ℕ) → slice_get labels i ≡ Some label → has_name label (listed_in (labels ++ rest)) ≡ true) → has_name label (token ∷ listed_in (labels ++ rest)) ≡ true
     by zero e behind = let same : token ≡ label = (let h = e in cc) in ap (λ b. b || has_name label (listed_in (labels ++ rest))) (ap (name_eq label) same ∙ name-same label)
-    by (suc k) e behind = or-true (name_eq label token) (has_name label (listed_in (labels ++ rest))) (behind k e)
+    by (suc k) e behind = or_right (name_eq label token) (has_name label (listed_in (labels ++ rest))) (behind k e)
 
 -- what an item cites is a mandatory label or stands before `)`
 cited-label : (tokens mandatory : List Name) (items : List Item) → Writes tokens mandatory items → (place : ℕ) (label : Name) → slice_get items place ≡ Some (Cite label)
@@ -98,7 +91,7 @@ cited-label tokens mandatory items (inl packed) place label e =
       | inl there ↦ inl there
       | inr listed ↦ inr (subst (λ ts. has_name label (listed_in ts) ≡ true) (sym w.whole)
           (subst (λ ns. has_name label ns ≡ true) (sym (listed-more begin (w.listed ++ finish ∷ w.rest) refl))
-          (or-true (name_eq label begin) (has_name label (listed_in (w.listed ++ finish ∷ w.rest))) (labels-listed w.listed (finish ∷ w.rest) w.labels listed.0 label listed.1))))
+          (or_right (name_eq label begin) (has_name label (listed_in (w.listed ++ finish ∷ w.rest))) (labels-listed w.listed (finish ∷ w.rest) w.labels listed.0 label listed.1))))
     ]
 cited-label tokens mandatory items (inr plain) place label e =
     let w = plain.1.1 in

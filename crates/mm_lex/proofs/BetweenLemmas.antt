@@ -3,6 +3,7 @@ use Rattle.std.specs.Prelude.{◌≡◌, ℕ, ◌≤◌, true, List, [], ◌∷�
 use Rattle.std.proofs.Common.{sym, ◌∙◌, ap, arith, subst, append_assoc}
 use Rattle.std.proofs.lemmas.List.{append-nil, map-append}
 use Rattle.std.proofs.Math.Seq.{drop-length}
+use Rattle.std.proofs.lemmas.Bool.{and_from}
 use Rattle.mm_lex.specs.declared.span.Span.{Span}
 use Rattle.mm_lex.specs.declared.fault.LexFault.{LexFault}
 use Rattle.mm_lex.specs.declared.fault.LexFault.TheVariants.{Text, Comment, Memory}
@@ -12,7 +13,7 @@ use Rattle.mm_lex.specs.Faults.{StopsAt}
 use Rattle.mm_lex.specs.Comments.{runs_behind, IsClosedAt}
 use Rattle.mm_lex.specs.Between.{HasBetween, AreBehind, StopsBehind, FailsBehind}
 use Rattle.mm_lex.proofs.Cutting.{Outcome, prepend, scan, scan_cut, scan-cut, scan-stops}
-use Rattle.mm_lex.proofs.CuttingMeans.{and_both, with_plain, with_comment, cuts_as, no_runs, cut-scan, stops-scan}
+use Rattle.mm_lex.proofs.CuttingMeans.{with_plain, with_comment, cuts_as, no_runs, cut-scan, stops-scan}
 use Rattle.mm_lex.proofs.WordsLemmas.{and_left, and_right}
 
 -- the runs behind comments
@@ -88,7 +89,7 @@ module _ {text : List ℕ} where
   module _ (from : ℕ) (s : Span) (run : runs_behind text from ≡ s ∷ runs_behind text s.end) (is : IsRunAt text s) (later : from ≤ s.start) where
     -- one token
     pub between_token : is_plain (word text s) ≡ true → HasBetween text from s.end (word text s ∷ [])
-    between_token plain = between_plain from s.end (s ∷ []) (omega (arith, later, is.some)) is.within run (and_both _ _ plain refl)
+    between_token plain = between_plain from s.end (s ∷ []) (omega (arith, later, is.some)) is.within run (and_from _ _ plain refl)
 
     -- a comment
     pub between_comment : word text s ≡ opener → (end : ℕ) → IsClosedAt text s.end end → HasBetween text from end []

@@ -1,16 +1,13 @@
 -- What the scan of a list of runs gives, it gives by right: a cut, or the fault at its offset.
-use Rattle.std.specs.Prelude.{◌≡◌, ℕ, Bool, true, false, ◌&&◌, ◌⊎◌, List, [], ◌∷◌, ◌++◌, flat_map, Option, Some, None, Ok, Err, refl}
+use Rattle.std.specs.Prelude.{◌≡◌, ℕ, Bool, true, false, ◌⊎◌, List, [], ◌∷◌, ◌++◌, flat_map, Option, Some, None, Ok, Err, refl}
 use Rattle.std.proofs.Common.{sym, ◌∙◌, ap, inl, inr, append_assoc}
 use Rattle.std.proofs.lemmas.Slice.Eq.{bytes_eq-Decides}
+use Rattle.std.proofs.lemmas.Bool.{and_from}
 use Rattle.mm_lex.specs.declared.span.Span.{Span}
 use Rattle.mm_lex.specs.Alphabet.{name_eq, word}
 use Rattle.mm_lex.specs.Tokens.{opener, closer, is_plain, AllPlain, Part, part_spans, Cuts}
 use Rattle.mm_lex.specs.Faults.{StopsAt}
 use Rattle.mm_lex.proofs.Cutting.{Outcome, prepend, outside, inside, scan}
-
-pub and_both : (a b : Bool) → a ≡ true → b ≡ true → (a && b) ≡ true
-and_both true b h k = k
-and_both false b h k = h
 
 module _ (text : List ℕ) where
   abbrev opens : Span → Bool
@@ -33,7 +30,7 @@ module _ (text : List ℕ) where
     first = s ∷ cut.first;
     parts = cut.parts;
     whole = ap (λ r. s ∷ r) cut.whole;
-    plain = and_both (is_plain (word text s)) _ is cut.plain;
+    plain = and_from (is_plain (word text s)) _ is cut.plain;
     comments = cut.comments;
     outside = ap (λ r. s ∷ r) cut.outside;
   }
@@ -209,7 +206,7 @@ module _ (text : List ℕ) where
       end = m.end;
       rest = m.rest;
       whole = ap (λ r. s ∷ r) m.whole;
-      plain = and_both _ _ is m.plain;
+      plain = and_from _ _ is m.plain;
       ends = m.ends;
       cut = m.cut;
     }
@@ -218,17 +215,17 @@ module _ (text : List ℕ) where
       at = m.at;
       rest = m.rest;
       whole = ap (λ r. s ∷ r) m.whole;
-      plain = and_both _ _ is m.plain;
+      plain = and_from _ _ is m.plain;
       opens_again = m.opens_again;
       place = m.place;
     })
-    skipped is from (Err offset) (inr (inl m)) = inr (inl (and_both _ _ is m.0, m.1))
+    skipped is from (Err offset) (inr (inl m)) = inr (inl (and_from _ _ is m.0, m.1))
     skipped is from (Err offset) (inr (inr m)) = inr (inr (record {
       inner = s ∷ m.inner;
       end = m.end;
       rest = m.rest;
       whole = ap (λ r. s ∷ r) m.whole;
-      plain = and_both _ _ is m.plain;
+      plain = and_from _ _ is m.plain;
       ends = m.ends;
       stops = m.stops;
     }))

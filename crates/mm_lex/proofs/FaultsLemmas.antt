@@ -4,6 +4,7 @@ use Rattle.std.specs.List.{list_all, position, position_or_len}
 use Rattle.std.proofs.Common.{cond, ltb-true, sym, ◌∙◌, ap, arith, get_or}
 use Rattle.std.proofs.lemmas.List.Sums.{passes_at_first}
 use Rattle.std.proofs.Math.Seq.{take-length}
+use Rattle.std.proofs.lemmas.Bool.{not-true}
 use Rattle.mm_lex.specs.Alphabet.{is_allowed}
 use Rattle.mm_lex.specs.Tokens.{IsClean}
 use Rattle.mm_lex.specs.Faults.{IsFirstBadByte}
@@ -17,10 +18,6 @@ twice_not : (t : Bool) → t ≡ not (not t)
 twice_not true = refl
 twice_not false = refl
 
-not_true : (t : Bool) → not t ≡ true → t ≡ false
-not_true true h = cc
-not_true false h = refl
-
 allowed_before : (text : List ℕ) → list_all is_allowed (take (position_or_len is_bad text) text) ≡ true
 allowed_before text = all_before is_bad is_allowed (λ b. twice_not (is_allowed b)) text
 
@@ -28,7 +25,7 @@ pub IsFirstBadByte-found : (text : List ℕ) (offset : ℕ) → Some offset ≡ 
 IsFirstBadByte-found text offset found =
     let here = found_at is_bad text offset found in record {
       inside = here.1;
-      bad = not_true (is_allowed (get_or text offset 0)) (rw here.0 (passes_at_first is_bad text 0 (omega (arith, here.0, here.1))));
+      bad = not-true (is_allowed (get_or text offset 0)) (rw here.0 (passes_at_first is_bad text 0 (omega (arith, here.0, here.1))));
       before = rw here.0 (allowed_before text);
     }
 

@@ -4,6 +4,7 @@ use Rattle.std.specs.List.{list_all}
 use Rattle.std.proofs.Common.{sym, ◌∙◌, ap, arith, append_assoc}
 use Rattle.std.proofs.lemmas.List.{append-nil}
 use Rattle.std.proofs.lemmas.List.Folds.{list_all-append}
+use Rattle.std.proofs.lemmas.Bool.{and_from}
 use Rattle.mm_lex.specs.declared.span.Span.{Span}
 use Rattle.mm_lex.specs.Alphabet.{Name, starts_white, word, is_symbol}
 use Rattle.mm_lex.specs.Words.{words_of, AreWords}
@@ -12,7 +13,6 @@ use Rattle.mm_lex.specs.Comments.{runs_behind}
 use Rattle.mm_lex.specs.Stretch.{stretch}
 use Rattle.mm_lex.specs.Between.{AreBehind, IsTokenBehind}
 use Rattle.mm_lex.specs.SymbolList.{AddsSymbols, EndsSymbols}
-use Rattle.mm_lex.proofs.CuttingMeans.{and_both}
 use Rattle.mm_lex.proofs.LanesLemmas.{clean-drop}
 use Rattle.mm_lex.proofs.SymbolsLemmas.{IsFrontOf, stretch_front, symbols_words}
 use Rattle.mm_lex.proofs.BetweenLemmas.{between_none, between_on, between_as, between_plain, between_runs, behind_on, behind_as}
@@ -27,7 +27,7 @@ module _ {text : List ℕ} where
     more = adds.more ++ on.more;
     whole = on.whole ∙ (ap (λ r. r ++ on.more) adds.whole ∙ append_assoc old adds.more on.more);
     between = between_on adds.between on.between;
-    symbols = list_all-append is_symbol adds.more on.more ∙ and_both _ _ adds.symbols on.symbols;
+    symbols = list_all-append is_symbol adds.more on.more ∙ and_from _ _ adds.symbols on.symbols;
   }
 
   -- white bytes
@@ -41,7 +41,7 @@ module _ {text : List ℕ} where
     more = w ∷ [];
     whole = e;
     between = between_as (ap (λ v. v ∷ []) (sym same)) is.between;
-    symbols = and_both _ _ symbol refl;
+    symbols = and_from _ _ symbol refl;
   }
 
   -- the symbols of a list that was empty

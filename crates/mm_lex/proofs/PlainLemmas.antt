@@ -3,12 +3,12 @@ use Rattle.std.specs.Prelude.{◌≡◌, ℕ, ◌+◌, ◌-◌, ◌<◌, ◌≤�
 use Rattle.std.proofs.Common.{sym, ◌∙◌, ap, arith, get_or, subst, eqb, eq-eqb}
 use Rattle.std.proofs.lemmas.List.{append-nil, get_or-take, get_or-drop, length-take, length-drop, take-append-drop, drop-drop}
 use Rattle.std.proofs.Math.Seq.{drop-length}
+use Rattle.std.proofs.lemmas.Bool.{and_from}
 use Rattle.memchr.specs.Find.{Nowhere, NoneBefore, Passes, is_byte}
 use Rattle.mm_lex.specs.declared.span.Span.{Span}
 use Rattle.mm_lex.specs.Alphabet.{Name, is_white, starts_white, with_byte, runs_from, word}
 use Rattle.mm_lex.specs.Tokens.{is_plain, AllPlain}
 use Rattle.mm_lex.specs.Comments.{runs_behind, PassesPlain}
-use Rattle.mm_lex.proofs.CuttingMeans.{and_both}
 
 -- ---- where the runs stand
 
@@ -75,7 +75,7 @@ plain_spans : (text : List ℕ) (low high : ℕ) → high ≤ length text → ((
     → (spans : List Span) → AllBetween low high spans → AllPlain text spans
 plain_spans text low high within none [] are = refl
 plain_spans text low high within none (s ∷ spans) are =
-    and_both _ _ (plain_span text low high within none s are.0) (plain_spans text low high within none spans are.1)
+    and_from _ _ (plain_span text low high within none s are.0) (plain_spans text low high within none spans are.1)
 
 -- ---- bytes cut off behind a white byte
 

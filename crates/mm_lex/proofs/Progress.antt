@@ -6,6 +6,7 @@ use Rattle.std.proofs.lemmas.List.{append-nil, length-take, length-drop}
 use Rattle.std.proofs.lemmas.List.Elements.{All-push}
 use Rattle.std.proofs.lemmas.List.Folds.{list_all-append}
 use Rattle.std.proofs.lemmas.Slice.Eq.{bytes_eq-Decides}
+use Rattle.std.proofs.lemmas.Bool.{and_from}
 use Rattle.mm_lex.specs.declared.span.Span.{Span}
 use Rattle.mm_lex.specs.Alphabet.{Name, is_white, is_visible, is_allowed, runs, word, IsRunAt}
 use Rattle.mm_lex.specs.Words.{is_word}
@@ -14,14 +15,14 @@ use Rattle.mm_lex.specs.Faults.{IsCommentFault}
 use Rattle.mm_lex.specs.Comments.{runs_behind, PassesPlain, IsClosedAt, IsNestedAt}
 use Rattle.mm_lex.proofs.WordsLemmas.{and_left, and_right}
 use Rattle.mm_lex.proofs.Cutting.{Outcome, prepend, prepend-append, scan, opens, closes, scan_opener, scan_closer, scan_plain, scan_nested, scan_closing, scan_all_inside, is_opener, is_closer, closer_no_opener, scan-stops}
-use Rattle.mm_lex.proofs.CuttingMeans.{cut-scan, stops-scan, plain, and_both}
+use Rattle.mm_lex.proofs.CuttingMeans.{cut-scan, stops-scan, plain}
 
 -- ---- a run of a clean text is a word
 
 list_all-take : (p : ℕ → Bool) (n : ℕ) (xs : List ℕ) → list_all p xs ≡ true → list_all p (take n xs) ≡ true
 list_all-take p zero xs h = refl
 list_all-take p (suc n) [] h = refl
-list_all-take p (suc n) (x ∷ xs) h = and_both (p x) _ (and_left (p x) _ h) (list_all-take p n xs (and_right (p x) _ h))
+list_all-take p (suc n) (x ∷ xs) h = and_from (p x) _ (and_left (p x) _ h) (list_all-take p n xs (and_right (p x) _ h))
 
 list_all-drop : (p : ℕ → Bool) (n : ℕ) (xs : List ℕ) → list_all p xs ≡ true → list_all p (drop n xs) ≡ true
 list_all-drop p zero xs h = h
@@ -36,7 +37,7 @@ visible_byte false false h k = cc
 all_visible : (bytes : Name) → list_all is_allowed bytes ≡ true → list_all (λ b. not (is_white b)) bytes ≡ true → list_all is_visible bytes ≡ true
 all_visible [] h k = refl
 all_visible (b ∷ bytes) h k =
-    and_both (is_visible b) _ (visible_byte (is_visible b) (is_white b) (and_left (is_allowed b) _ h) (and_left (not (is_white b)) _ k))
+    and_from (is_visible b) _ (visible_byte (is_visible b) (is_white b) (and_left (is_allowed b) _ h) (and_left (not (is_white b)) _ k))
     (all_visible bytes (and_right (is_allowed b) _ h) (and_right (not (is_white b)) _ k))
 
 some_word : (bytes : Name) → 0 < length bytes → list_all is_visible bytes ≡ true → is_word bytes ≡ true
@@ -65,12 +66,12 @@ passes_on {text} {from} {at} {end} so more = record {
   later = omega (arith, so.later, more.later);
   within = more.within;
   whole = so.whole ∙ (ap (λ r. so.passed ++ r) more.whole ∙ sym (append_assoc so.passed more.passed (runs_behind text end)));
-  plain = list_all-append (λ s. is_plain (word text s)) so.passed more.passed ∙ and_both _ _ so.plain more.plain;
+  plain = list_all-append (λ s. is_plain (word text s)) so.passed more.passed ∙ and_from _ _ so.plain more.plain;
 }
 
 all_plain-push : (text : List ℕ) (xs : List Span) (s : Span) → AllPlain text xs → is_plain (word text s) ≡ true → AllPlain text (xs ++ s ∷ [])
-all_plain-push text [] s h k = and_both _ _ k refl
-all_plain-push text (x ∷ xs) s h k = and_both (is_plain (word text x)) _ (and_left (is_plain (word text x)) _ h) (all_plain-push text xs s (and_right (is_plain (word text x)) _ h) k)
+all_plain-push text [] s h k = and_from _ _ k refl
+all_plain-push text (x ∷ xs) s h k = and_from (is_plain (word text x)) _ (and_left (is_plain (word text x)) _ h) (all_plain-push text xs s (and_right (is_plain (word text x)) _ h) k)
 
 module _ {text : List ℕ} {from at : ℕ} (so : PassesPlain text from at) where
   module _ (s : Span) (run : runs_behind text at ≡ s ∷ runs_behind text s.end) (is : IsRunAt text s) (later : at ≤ s.start) where

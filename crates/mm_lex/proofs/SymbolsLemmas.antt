@@ -3,13 +3,13 @@ use Rattle.std.specs.Prelude.{◌≡◌, ℕ, ◌+◌, ◌-◌, ◌<◌, ◌≤�
 use Rattle.std.specs.List.{list_all, onto_first}
 use Rattle.std.proofs.Common.{sym, ◌∙◌, ap, arith}
 use Rattle.std.proofs.lemmas.List.{take-append-drop, drop-drop, length-take-le, length-drop}
+use Rattle.std.proofs.lemmas.Bool.{and_from}
 use Rattle.mm_lex.specs.declared.span.Span.{Span}
 use Rattle.mm_lex.specs.Alphabet.{Name, is_white, is_visible, starts_white, with_byte, runs_from, word, is_symbol, has_byte}
 use Rattle.mm_lex.specs.Words.{words_of, is_word}
 use Rattle.mm_lex.specs.Tokens.{is_plain, AllPlain, IsClean, words}
 use Rattle.mm_lex.specs.Stretch.{stretch}
 use Rattle.mm_lex.proofs.WordsLemmas.{and_left, and_right}
-use Rattle.mm_lex.proofs.CuttingMeans.{and_both}
 use Rattle.mm_lex.proofs.PlainLemmas.{append_step}
 use Rattle.mm_lex.proofs.TidyLemmas.{is_space, is_symbol_byte, is_tidy, stretch_tidy, space_is, not_white, split_of, split_byte, split_gap, first_byte, behind_gap, behind_byte, tidy_symbols}
 
@@ -125,12 +125,12 @@ symbol_plain (b ∷ w) h = rw (no_dollar b (has_byte 36 w) (and_right (list_all 
 
 pub symbols_words : (ws : List Name) → list_all is_symbol ws ≡ true → list_all is_word ws ≡ true
 symbols_words [] h = refl
-symbols_words (w ∷ ws) h = and_both _ _ (symbol_word w (and_left (is_symbol w) _ h)) (symbols_words ws (and_right (is_symbol w) _ h))
+symbols_words (w ∷ ws) h = and_from _ _ (symbol_word w (and_left (is_symbol w) _ h)) (symbols_words ws (and_right (is_symbol w) _ h))
 
 symbols_plain : (text : List ℕ) (spans : List Span) → list_all is_symbol (words text spans) ≡ true → AllPlain text spans
 symbols_plain text [] h = refl
 symbols_plain text (s ∷ spans) h =
-    and_both _ _ (symbol_plain (word text s) (and_left (is_symbol (word text s)) _ h)) (symbols_plain text spans (and_right (is_symbol (word text s)) _ h))
+    and_from _ _ (symbol_plain (word text s) (and_left (is_symbol (word text s)) _ h)) (symbols_plain text spans (and_right (is_symbol (word text s)) _ h))
 
 -- the runs at the front are these, and their words are symbols
 pub record IsFrontOf (text : List ℕ) (at n : ℕ) (bytes : List ℕ) : Type 0 where

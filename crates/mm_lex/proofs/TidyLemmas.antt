@@ -2,11 +2,11 @@
 use Rattle.std.specs.Prelude.{◌≡◌, ℕ, ◌<◌, zero, suc, Bool, true, false, not, cond, ◌&&◌, ◌||◌, ◌==◌, List, [], ◌∷◌, take, refl}
 use Rattle.std.specs.List.{list_all, slice_split, onto_first}
 use Rattle.std.proofs.Common.{sym, ◌∙◌, ap, arith}
+use Rattle.std.proofs.lemmas.Bool.{and_from}
 use Rattle.mm_lex.specs.Alphabet.{Name, is_white, is_visible, is_allowed, starts_white, is_symbol, has_byte, is_empty}
 use Rattle.mm_lex.specs.Tokens.{IsClean}
 use Rattle.mm_lex.specs.Stretch.{stretch, ends_here, ends_between}
 use Rattle.mm_lex.proofs.WordsLemmas.{and_left, and_right, first_part}
-use Rattle.mm_lex.proofs.CuttingMeans.{and_both}
 
 abbrev pub is_space : ℕ → Bool
 is_space c = c == 32
@@ -37,7 +37,7 @@ other_byte : (c next : ℕ) → is_allowed c ≡ true → is_space c ≡ false �
 other_byte c next h e goes = grind (arith, h, e, goes)
 
 tidy_cons : (b c : ℕ) (bytes : List ℕ) (t : Bool) → is_space c ≡ t → is_symbol_byte b ≡ true → cond t (is_tidy bytes) (is_tidy (c ∷ bytes)) ≡ true → is_tidy (b ∷ c ∷ bytes) ≡ true
-tidy_cons b c bytes t e h k = and_both (is_symbol_byte b) _ h (ap (λ u. cond u (is_tidy bytes) (is_tidy (c ∷ bytes))) e ∙ k)
+tidy_cons b c bytes t e h k = and_from (is_symbol_byte b) _ h (ap (λ u. cond u (is_tidy bytes) (is_tidy (c ∷ bytes))) e ∙ k)
 
 stretch_on : (b : ℕ) (bytes : List ℕ) → ends_here (b ∷ bytes) ≡ false → stretch (b ∷ bytes) ≡ suc (stretch bytes)
 stretch_on b bytes e = rw e refl
@@ -150,14 +150,14 @@ module _ (b c : ℕ) (bytes : List ℕ) (tidy : is_tidy (b ∷ c ∷ bytes) ≡ 
 symbols_onto : (b : ℕ) (parts : List Name) (w : Name) (ws : List Name) → parts ≡ w ∷ ws → is_symbol_byte b ≡ true → list_all is_symbol parts ≡ true → list_all is_symbol (onto_first b parts) ≡ true
 symbols_onto b parts w ws e h k =
     let these = sym (ap (list_all is_symbol) e) ∙ k in
-    ap (λ r. list_all is_symbol (onto_first b r)) e ∙ and_both (is_symbol (b ∷ w)) _ (symbol_cons b w h (and_left (is_symbol w) _ these)) (and_right (is_symbol w) _ these)
+    ap (λ r. list_all is_symbol (onto_first b r)) e ∙ and_from (is_symbol (b ∷ w)) _ (symbol_cons b w h (and_left (is_symbol w) _ these)) (and_right (is_symbol w) _ these)
 
 abbrev AreSymbols : List ℕ → Type 0
 AreSymbols bytes = list_all is_symbol (split_of bytes) ≡ true
 
 symbols_step : (b c : ℕ) (bytes : List ℕ) → is_symbol_byte b ≡ true → (t : Bool) → is_space c ≡ t → (t ≡ true → AreSymbols bytes) → (t ≡ false → AreSymbols (c ∷ bytes))
     → list_all is_symbol (onto_first b (split_of (c ∷ bytes))) ≡ true
-symbols_step b c bytes h true e gap on = ap (λ r. list_all is_symbol (onto_first b r)) (split_gap c bytes e) ∙ and_both _ _ (symbol_one b h) (gap refl)
+symbols_step b c bytes h true e gap on = ap (λ r. list_all is_symbol (onto_first b r)) (split_gap c bytes e) ∙ and_from _ _ (symbol_one b h) (gap refl)
 symbols_step b c bytes h false e gap on =
     let p : (x : List ℕ) × (xs : List Name) × (split_of (c ∷ bytes) ≡ x ∷ xs) = first_part (c ∷ bytes) in
     symbols_onto b (split_of (c ∷ bytes)) p.0 p.1 p.2 h (on refl)
@@ -165,7 +165,7 @@ symbols_step b c bytes h false e gap on =
 -- each is a symbol
 pub tidy_symbols : (bytes : List ℕ) → is_tidy bytes ≡ true → AreSymbols bytes
 tidy_symbols [] h = cc
-tidy_symbols (b ∷ []) h = ap (list_all is_symbol) (split_byte b [] h) ∙ and_both _ _ (symbol_one b h) refl
+tidy_symbols (b ∷ []) h = ap (list_all is_symbol) (split_byte b [] h) ∙ and_from _ _ (symbol_one b h) refl
 tidy_symbols (b ∷ c ∷ bytes) h =
     ap (list_all is_symbol) (split_byte b (c ∷ bytes) (first_byte b c bytes h))
     ∙ symbols_step b c bytes (first_byte b c bytes h) (is_space c) refl (λ e. tidy_symbols bytes (behind_gap b c bytes h e)) (λ e. tidy_symbols (c ∷ bytes) (behind_byte b c bytes h e))

@@ -2,7 +2,7 @@
 -- token of a statement begins or ends a comment.
 use Rattle.std.specs.Prelude.{◌≡◌, ℕ, ◌+◌, ◌-◌, Bool, true, false, not, ◌&&◌, ◌||◌, cond, List, [], ◌∷◌, ◌++◌, length, take, map, codes}
 use Rattle.std.specs.List.{list_all}
-use Rattle.std.proofs.Common.{sym, ◌∙◌, ap, arith, refl, true≢false, append_assoc, length-append}
+use Rattle.std.proofs.Common.{sym, ◌∙◌, ap, arith, refl, true≢false, append_assoc, length-append, append-nil}
 use Rattle.std.proofs.Math.Seq.{take-append_seam, drop-append_seam}
 use Rattle.std.proofs.lemmas.Bool.{and_parts, and_from}
 use Rattle.std.proofs.lemmas.Bool.Decides.{nat_tests}
@@ -17,7 +17,6 @@ use Rattle.mm_read.specs.Statements.{Database, is_shaped, are_symbols, has_two, 
 use Rattle.mm_read.specs.Export.{export_of}
 use Rattle.mm_read.specs.Laws as laws
 use Rattle.mm_read.proofs.StatementsLemmas.{symbol_plain, label_plain, symbols_of, plain_is_no_key}
-use Rattle.mm_read.proofs.ShapeFaults.{append-nil}
 
 -- ---- the runs of words with a white byte behind each
 

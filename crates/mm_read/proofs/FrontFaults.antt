@@ -1,16 +1,16 @@
 -- Where the tokens behind others stop being a statement, the machine of `Places` stops.
-use Rattle.std.specs.Prelude.{◌≡◌, ℕ, ◌+◌, ◌-◌, ◌<◌, ◌⊎◌, zero, suc, Bool, true, false, ◌||◌, cond, List, [], ◌∷◌, ◌++◌, length, Some, None, codes}
+use Rattle.std.specs.Prelude.{◌≡◌, ℕ, ◌+◌, ◌-◌, ◌<◌, ◌⊎◌, zero, suc, true, false, cond, List, [], ◌∷◌, ◌++◌, length, Some, None, codes}
 use Rattle.std.specs.List.{list_all}
 use Rattle.std.specs.Option.{option_and_then}
-use Rattle.std.proofs.Common.{sym, ◌∙◌, ap, arith, refl, inl, inr, subst, append_assoc, length-append}
-use Rattle.std.proofs.lemmas.Bool.{and_parts}
+use Rattle.std.proofs.Common.{sym, ◌∙◌, ap, arith, refl, inl, inr, subst, append_assoc, length-append, append-nil}
+use Rattle.std.proofs.lemmas.Bool.{and_parts, or_parts}
 use Rattle.mm_lex.specs.Alphabet.{Name, name_eq, has_name, is_symbol, is_label}
 use Rattle.mm_read.specs.declared.keyword.Keyword.{Keyword}
 use Rattle.mm_read.specs.declared.keyword.Keyword.TheVariants.{Open, Close, Const, Var, Disj, Float, Ess, Axiom, Prove, Other}
 use Rattle.mm_read.specs.Reads.{IsShapeFault}
 use Rattle.mm_read.specs.Front.{IsKeyword, StopsList, EndsNoList}
 use Rattle.mm_read.proofs.Places.{Place, between, labelled, listing, floating, proving, step, go, go-append}
-use Rattle.mm_read.proofs.ShapeFaults.{stops_at, ends_inside, append-nil}
+use Rattle.mm_read.proofs.ShapeFaults.{stops_at, ends_inside}
 
 -- ---- the machine stops
 
@@ -121,13 +121,9 @@ go-floating_two c v e f = rw (e, f) refl
 
 -- ---- at a keyword
 
-either_false : (a b : Bool) → (a || b) ≡ false → (a ≡ false) × (b ≡ false)
-either_false true b e = cc
-either_false false b e = (refl, e)
-
 -- what is none of the keywords is none of them
 no_keyword : (t k : Name) (ks : List Name) → has_name t (k ∷ ks) ≡ false → (name_eq t k ≡ false) × (has_name t ks ≡ false)
-no_keyword t k ks e = either_false (name_eq t k) (has_name t ks) e
+no_keyword t k ks e = or_parts (name_eq t k) (has_name t ks) e
 
 pub key_after_label : (k : Keyword) (t : Name) → IsKeyword k t → (k ≡ Float → ⊥) → (k ≡ Ess → ⊥) → (k ≡ Axiom → ⊥) → (k ≡ Prove → ⊥) → step labelled t ≡ None
 key_after_label Open t is no_float no_ess no_axiom no_prove = ap (step labelled) is

@@ -1,12 +1,12 @@
 -- Statement by statement from place to place: what stands between two places writes a statement, and the statements so far.
 use Rattle.std.specs.Prelude.{◌≡◌, ℕ, ◌+◌, ◌<◌, true, List, [], ◌∷◌, ◌++◌, length, codes, Result, Ok, Err, IfOk, IfErr, refl}
 use Rattle.std.specs.List.{list_all}
-use Rattle.std.proofs.Common.{sym, ◌∙◌, ap, arith, length-append}
+use Rattle.std.proofs.Common.{sym, ◌∙◌, ap, arith, length-append, append-nil}
+use Rattle.std.proofs.lemmas.Bool.{and_from}
 use Rattle.mm_lex.specs.Alphabet.{Name, is_symbol, is_label}
 use Rattle.mm_lex.specs.Tokens.{IsClean}
 use Rattle.mm_lex.specs.Between.{HasBetween, AreBehind, CountBehind}
 use Rattle.mm_lex.proofs.BetweenLemmas.{between_on, between_as, behind_on, behind_as, behind_unique}
-use Rattle.mm_lex.proofs.CuttingMeans.{and_both}
 use Rattle.mm_read.specs.declared.stmt.Stmt.{Stmt}
 use Rattle.mm_read.specs.declared.stmt.Stmt.TheVariants.{Float, Ess, Axiom, Prove}
 use Rattle.mm_read.specs.Statements.{Database, are_symbols, is_shaped, stmt_tokens, spelled}
@@ -14,7 +14,6 @@ use Rattle.mm_read.specs.Reads.{Reads}
 use Rattle.mm_read.specs.Next.{IsNext, IsOneMore, AreBefore}
 use Rattle.mm_read.proofs.StatementsLemmas.{append_middle}
 use Rattle.mm_read.proofs.StatementByStatement.{spelled-append, shaped-append}
-use Rattle.mm_read.proofs.ShapeFaults.{append-nil}
 
 module _ {text : List ℕ} where
   -- tokens before a keyword that is this word
@@ -39,12 +38,12 @@ module _ {text : List ℕ} where
     pub essential_next : {next : ℕ} {expr : List Name} → HasBetween text from at (old ∷ codes "$e" ∷ []) → HasBetween text at next (expr ++ codes "$." ∷ []) → are_symbols expr ≡ true
         → IsNext text from (Ess label expr) next
     essential_next {expr = expr} has list symbols =
-        listed_next (Ess label expr) later has list (ap (λ l. l ∷ codes "$e" ∷ (expr ++ codes "$." ∷ [])) same) (and_both _ _ (ap is_label same ∙ is) symbols)
+        listed_next (Ess label expr) later has list (ap (λ l. l ∷ codes "$e" ∷ (expr ++ codes "$." ∷ [])) same) (and_from _ _ (ap is_label same ∙ is) symbols)
 
     pub axiom_next : {next : ℕ} {expr : List Name} → HasBetween text from at (old ∷ codes "$a" ∷ []) → HasBetween text at next (expr ++ codes "$." ∷ []) → are_symbols expr ≡ true
         → IsNext text from (Axiom label expr) next
     axiom_next {expr = expr} has list symbols =
-        listed_next (Axiom label expr) later has list (ap (λ l. l ∷ codes "$a" ∷ (expr ++ codes "$." ∷ [])) same) (and_both _ _ (ap is_label same ∙ is) symbols)
+        listed_next (Axiom label expr) later has list (ap (λ l. l ∷ codes "$a" ∷ (expr ++ codes "$." ∷ [])) same) (and_from _ _ (ap is_label same ∙ is) symbols)
 
     -- `$f`
     pub floating_next : {after behind next : ℕ} {constant variable : Name} → HasBetween text from at (old ∷ codes "$f" ∷ []) → HasBetween text at after (constant ∷ [])
@@ -53,7 +52,7 @@ module _ {text : List ℕ} where
     floating_next {constant = constant} {variable = variable} has first second last c v =
         listed_next (Float label constant variable) later has (between_on first (between_on second last))
         (ap (λ l. l ∷ codes "$f" ∷ constant ∷ variable ∷ codes "$." ∷ []) same)
-        (and_both _ _ (and_both _ _ (ap is_label same ∙ is) c) v)
+        (and_from _ _ (and_from _ _ (ap is_label same ∙ is) c) v)
 
     -- `$p`
     pub provable_next : {after next : ℕ} {expr proof : List Name} → HasBetween text from at (old ∷ codes "$p" ∷ []) → HasBetween text at after (expr ++ codes "$=" ∷ [])
@@ -62,7 +61,7 @@ module _ {text : List ℕ} where
         listed_next (Prove label expr proof) later has (between_on first list)
         (ap (λ l. l ∷ codes "$p" ∷ (expr ++ codes "$=" ∷ (proof ++ codes "$." ∷ []))) same
         ∙ ap (λ r. old ∷ codes "$p" ∷ r) (sym (append_middle expr (codes "$=") [] (proof ++ codes "$." ∷ []))))
-        (and_both _ _ (and_both _ _ (ap is_label same ∙ is) symbols) steps)
+        (and_from _ _ (and_from _ _ (ap is_label same ∙ is) symbols) steps)
 
   -- `${` and `$}`
   pub bare_next : {from at : ℕ} {word : Name} (s : Stmt) (key : Name) → word ≡ key → from < at → HasBetween text from at (word ∷ []) → stmt_tokens s ≡ key ∷ [] → is_shaped s ≡ true
@@ -73,7 +72,7 @@ module _ {text : List ℕ} where
 
   pub before_more : {at next : ℕ} {old new : Database} → AreBefore text at old → IsOneMore text at next old new → AreBefore text next new
   before_more {old = old} are more = record {
-    shaped = ap (list_all is_shaped) more.whole ∙ shaped-append old (more.statement ∷ []) are.shaped (and_both _ _ more.next_is.shaped refl);
+    shaped = ap (list_all is_shaped) more.whole ∙ shaped-append old (more.statement ∷ []) are.shaped (and_from _ _ more.next_is.shaped refl);
     between = between_as (ap (λ r. spelled old ++ r) (sym (append-nil (stmt_tokens more.statement))) ∙ (sym (spelled-append old (more.statement ∷ [])) ∙ ap spelled (sym more.whole)))
         (between_on are.between more.next_is.between);
   }

@@ -1,7 +1,7 @@
 -- The parts of a statement behind a place: what stands there when a part does not.
-use Rattle.std.specs.Prelude.{◌≡◌, ℕ, Bool, ◌+◌, ◌<◌, ◌≤◌, ◌⊎◌, true, false, List, [], ◌∷◌, ◌++◌, length, nat_le, Option, Some, None}
+use Rattle.std.specs.Prelude.{◌≡◌, ℕ, Bool, ◌+◌, ◌<◌, ◌≤◌, ◌⊎◌, true, false, List, [], ◌∷◌, ◌++◌, length, Option, Some, None}
 use Rattle.std.specs.List.{list_all}
-use Rattle.std.proofs.Common.{sym, ◌∙◌, arith, refl, subst, append_assoc, length-append, leb-false}
+use Rattle.std.proofs.Common.{sym, ◌∙◌, arith, refl, subst, append_assoc, length-append}
 use Rattle.std.proofs.lemmas.List.{append-nil}
 use Rattle.mm_lex.specs.declared.span.Span.{Span}
 use Rattle.mm_lex.specs.Alphabet.{Name, name_eq, is_symbol, word}
@@ -10,9 +10,6 @@ use Rattle.mm_lex.specs.SymbolList.{EndsSymbols, IsListEnd}
 use Rattle.mm_lex.proofs.BetweenLemmas.{behind_rest, behind_unique}
 use Rattle.mm_lex.proofs.FewLemmas.{between_few, behind_few}
 use Rattle.mm_read.specs.Front.{IsListStop, StartsOtherwise}
-
-pub short_list : (least n : ℕ) → nat_le least n ≡ false → n < least
-short_list least n e = leb-false least n e
 
 -- no more symbols stand in a list than bytes
 pub list_few : (text : List ℕ) (at : ℕ) (ws : List Name) (stop : Option Span) → at ≤ length text → IsListEnd text at ws stop → length ws + at ≤ length text

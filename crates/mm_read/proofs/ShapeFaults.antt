@@ -2,7 +2,7 @@
 use Rattle.std.specs.Prelude.{◌≡◌, ℕ, ◌+◌, ◌-◌, ◌<◌, ◌≤◌, zero, suc, Bool, true, false, ◌⊎◌, List, [], ◌∷◌, ◌++◌, length, take, Option, Some, None}
 use Rattle.std.specs.List.{list_all}
 use Rattle.std.specs.Option.{option_and_then}
-use Rattle.std.proofs.Common.{sym, ◌∙◌, ap, arith, refl, subst, inl, inr, append_assoc, ltb-true, ltb-false, nat_lt}
+use Rattle.std.proofs.Common.{sym, ◌∙◌, ap, arith, refl, subst, inl, inr, append_assoc, ltb-true, ltb-false, nat_lt, append-nil}
 use Rattle.std.proofs.lemmas.List.{take_all}
 use Rattle.std.proofs.Math.Seq.{take-append_seam, take-append-add}
 use Rattle.mm_lex.specs.Alphabet.{Name}
@@ -11,10 +11,6 @@ use Rattle.mm_read.specs.Reads.{CanGoOn, IsShapeFault}
 use Rattle.mm_read.specs.Laws as laws
 use Rattle.mm_read.proofs.Places.{Place, between, labelled, listing, floating, proving, step, go, go-append, go_back, can_go_on}
 use Rattle.mm_read.proofs.PlacesOver.{go-spelled}
-
-pub append-nil : {A : Type 0} (xs : List A) → xs ++ [] ≡ xs
-append-nil [] = refl
-append-nil (x ∷ xs) = ap (λ r. x ∷ r) (append-nil xs)
 
 -- the machine goes on over the beginning of a list of statements
 module _ (xs rest : List Name) (S : Database) (shaped : list_all is_shaped S ≡ true) (whole : spelled S ≡ xs ++ rest) where

@@ -2,22 +2,14 @@
 use Rattle.std.specs.Prelude.{◌≡◌, ℕ, ◌≤◌, Bool, true, false, not, ◌&&◌, ◌||◌, ◌==◌, List, [], ◌∷◌, ◌++◌, length}
 use Rattle.std.specs.List.{list_all}
 use Rattle.std.proofs.Common.{sym, ◌∙◌, ap, arith, true≢false, refl}
-use Rattle.std.proofs.lemmas.Bool.{and_parts}
+use Rattle.std.proofs.lemmas.Bool.{and_parts, not-true}
 use Rattle.std.proofs.lemmas.Slice.Eq.{bytes_eq-Decides}
 use Rattle.mm_lex.specs.Alphabet.{Name, name_eq, is_empty, is_symbol, is_label, is_label_byte, has_byte, is_visible}
 use Rattle.mm_read.specs.Statements.{are_symbols, has_two}
 
-pub not_true : (a : Bool) → not a ≡ true → a ≡ false
-not_true true h = cc
-not_true false h = refl
-
-pub not_false : (a : Bool) → not a ≡ false → a ≡ true
-not_false true h = refl
-not_false false h = cc
-
 -- a symbol has no `$`
 pub symbol_plain : (w : Name) → is_symbol w ≡ true → has_byte 36 w ≡ false
-symbol_plain w h = not_true (has_byte 36 w) (and_parts (not (is_empty w) && list_all is_visible w) (not (has_byte 36 w)) h).1
+symbol_plain w h = not-true (has_byte 36 w) (and_parts (not (is_empty w) && list_all is_visible w) (not (has_byte 36 w)) h).1
 
 label_byte : (c : ℕ) → is_label_byte c ≡ true → (c == 36) ≡ false
 label_byte c h = by (c == 36) refl

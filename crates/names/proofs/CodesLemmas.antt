@@ -4,6 +4,7 @@ use Rattle.std.specs.List.{list_any, position_or_len, prefix_len}
 use Rattle.std.proofs.Common.{sym, ◌∙◌, ap, true≢false, arith, length-append}
 use Rattle.std.proofs.lemmas.List.Quantifiers.{position-Some}
 use Rattle.std.proofs.lemmas.Slice.Eq.{bytes_eq-Decides}
+use Rattle.std.proofs.lemmas.Bool.{or_right}
 use Rattle.mm_lex.specs.Alphabet.{Name, name_eq, has_name}
 use Rattle.names.specs.Codes.{name_at, code_of, AreDistinct, number_in}
 
@@ -37,11 +38,7 @@ later_step false r n h e = grind (arith, e)
 pub has-at : (names : List Name) (x : Name) (n : ℕ) → n < length names → name_at names n ≡ x → has_name x names ≡ true
 has-at [] x n h e = absurd (omega (arith, h))
 has-at (y ∷ names) x zero h e = ap (λ b. b || has_name x names) (ap (name_eq x) e ∙ name_same x)
-has-at (y ∷ names) x (suc n) h e = or-right (name_eq x y) (has_name x names) (has-at names x n (omega (arith, h)) e)
-  where
-    or-right : (a b : Bool) → b ≡ true → (a || b) ≡ true
-    or-right true b h = refl
-    or-right false b h = h
+has-at (y ∷ names) x (suc n) h e = or_right (name_eq x y) (has_name x names) (has-at names x n (omega (arith, h)) e)
 
 place-at : (names : List Name) (x : Name) (n : ℕ) → AreDistinct names → n < length names → name_at names n ≡ x → position_or_len (name_eq x) names ≡ n
 place-at [] x n d h e = absurd (omega (arith, h))

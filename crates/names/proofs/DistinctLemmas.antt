@@ -1,7 +1,8 @@
 -- Names that stay apart: one more put last, or the first ones alone.
-use Rattle.std.specs.Prelude.{◌≡◌, ℕ, zero, suc, ◌+◌, ◌<◌, ◌≤◌, Bool, true, false, ◌||◌, List, [], ◌∷◌, ◌++◌, length, take, drop, refl}
+use Rattle.std.specs.Prelude.{◌≡◌, ℕ, zero, suc, ◌+◌, ◌<◌, ◌≤◌, false, List, [], ◌∷◌, ◌++◌, length, take, drop, refl}
 use Rattle.std.proofs.Common.{sym, ◌∙◌, ap, arith, length-append, add-one}
 use Rattle.std.proofs.lemmas.List.{take-append-drop}
+use Rattle.std.proofs.lemmas.Bool.{or_parts, or_from}
 use Rattle.mm_lex.specs.Alphabet.{Name, name_eq, has_name}
 use Rattle.names.specs.Codes.{name_at, AreDistinct}
 use Rattle.names.proofs.CodesLemmas.{name_eq-comm}
@@ -21,21 +22,13 @@ name_at-take n names k h = sym (name_at-more (take n names) (drop n names) k h) 
 pub length-take-below : (n : ℕ) (names : List Name) → length (take n names) ≤ length names
 length-take-below n names = let l = length-append (take n names) (drop n names) in let e = ap length (take-append-drop n names) in omega (arith, l, e)
 
-or_false : (a b : Bool) → (a || b) ≡ false → (a ≡ false) × (b ≡ false)
-or_false true b h = cc
-or_false false b h = (refl, h)
-
-false_or : (a b : Bool) → a ≡ false → b ≡ false → (a || b) ≡ false
-false_or true b p q = cc
-false_or false b p q = q
-
 has-take : (n : ℕ) (names : List Name) (x : Name) → has_name x names ≡ false → has_name x (take n names) ≡ false
 has-take zero [] x h = refl
 has-take zero (y ∷ names) x h = refl
 has-take (suc n) [] x h = refl
 has-take (suc n) (y ∷ names) x h =
-    let p = or_false (name_eq x y) (has_name x names) h in
-    false_or (name_eq x y) (has_name x (take n names)) p.0 (has-take n names x p.1)
+    let p = or_parts (name_eq x y) (has_name x names) h in
+    or_from (name_eq x y) (has_name x (take n names)) p.0 (has-take n names x p.1)
 
 pub distinct-take : (n : ℕ) (names : List Name) → AreDistinct names → AreDistinct (take n names)
 distinct-take zero [] d = tt
@@ -44,15 +37,15 @@ distinct-take (suc n) [] d = tt
 distinct-take (suc n) (y ∷ names) d = (has-take n names y d.0, distinct-take n names d.1)
 
 has-push : (names : List Name) (x y : Name) → has_name y names ≡ false → name_eq y x ≡ false → has_name y (names ++ x ∷ []) ≡ false
-has-push [] x y p q = false_or (name_eq y x) false q refl
+has-push [] x y p q = or_from (name_eq y x) false q refl
 has-push (z ∷ names) x y p q =
-    let r = or_false (name_eq y z) (has_name y names) p in
-    false_or (name_eq y z) (has_name y (names ++ x ∷ [])) r.0 (has-push names x y r.1 q)
+    let r = or_parts (name_eq y z) (has_name y names) p in
+    or_from (name_eq y z) (has_name y (names ++ x ∷ [])) r.0 (has-push names x y r.1 q)
 
 pub distinct-push : (names : List Name) (x : Name) → AreDistinct names → has_name x names ≡ false → AreDistinct (names ++ x ∷ [])
 distinct-push [] x d h = (refl, tt)
 distinct-push (y ∷ names) x d h =
-    let p = or_false (name_eq x y) (has_name x names) h in
+    let p = or_parts (name_eq x y) (has_name x names) h in
     (has-push names x y d.0 (name_eq-comm y x ∙ p.0), distinct-push names x d.1 p.1)
 
 pub take-name : (names : List Name) (i : ℕ) → i < length names → take (i + 1) names ≡ take i names ++ name_at names i ∷ []

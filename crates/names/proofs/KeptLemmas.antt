@@ -3,6 +3,7 @@ use Rattle.std.specs.Prelude.{◌≡◌, ◌≢◌, ℕ, zero, suc, ◌+◌, ◌
 use Rattle.std.proofs.Common.{sym, ◌∙◌, ap, subst, arith, inl, inr, slice_set, length-append, true≢false}
 use Rattle.std.proofs.lemmas.Bool.{cases_lt, cases_eq}
 use Rattle.std.proofs.lemmas.List.{length-set, get_or-set_same, get_or-set_other}
+use Rattle.std.proofs.lemmas.Option.{same_Some}
 use Rattle.mm_lex.specs.Alphabet.{Name, has_name}
 use Rattle.names.specs.Codes.{name_at, AreDistinct}
 use Rattle.names.specs.Keys.{AreBytes, key_of}
@@ -14,12 +15,9 @@ use Rattle.names.specs.Table.{IsHeld, IsKept, AreKept, AreFewer, AreHeld, AreFou
 use Rattle.names.proofs.CodesLemmas.{code-at, has-at}
 use Rattle.names.proofs.DistinctLemmas.{name_at-more, name_at-last, name_at-take, length-take-below}
 
-some-same : {A : Type 0} {x y : A} → Some x ≡ Some y → x ≡ y
-some-same e = cc
-
 -- names of two numbers are two
 pub names-apart : (names : List Name) (j k : ℕ) → AreDistinct names → j < length names → k < length names → j ≢ k → name_at names j ≢ name_at names k
-names-apart names j k d p q ne e = ne (some-same (sym (code-at names (name_at names k) j d p e) ∙ code-at names (name_at names k) k d q refl))
+names-apart names j k d p q ne e = ne (same_Some _ _ (sym (code-at names (name_at names k) j d p e) ∙ code-at names (name_at names k) k d q refl))
 
 -- a name that is none of them
 pub none-is : (names : List Name) (x : Name) (k : ℕ) → has_name x names ≡ false → k < length names → name_at names k ≢ x

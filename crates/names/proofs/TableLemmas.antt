@@ -4,7 +4,7 @@ use Rattle.std.proofs.Common.{sym, ◌∙◌, ap, subst, arith, inl, inr, slice_
 use Rattle.std.proofs.lemmas.Bool.{cases_lt}
 use Rattle.std.specs.Prelude.{unwrap_or, replicate}
 use Rattle.std.proofs.lemmas.List.{length-set, length-replicate, get_or-replicate}
-use Rattle.std.proofs.lemmas.Option.{slice_get_within, unwrap_or-slice_get}
+use Rattle.std.proofs.lemmas.Option.{slice_get_within, unwrap_or-slice_get, same_Some}
 use Rattle.mm_lex.specs.Alphabet.{Name}
 use Rattle.names.specs.Codes.{name_at, code_of}
 use Rattle.names.specs.declared.table.Slot.{Slot}
@@ -16,11 +16,8 @@ use Rattle.names.specs.Keys.{key_of}
 use Rattle.names.specs.Table.{half_of, slot_of, place_of, slot_at, IsTaken, IsHeld, AreHeld, AreFound, AreUnused, IsFree, IsPassed}
 use Rattle.names.proofs.CodesLemmas.{code-absent}
 
-some-same : {A : Type 0} {x y : A} → Some x ≡ Some y → x ≡ y
-some-same e = cc
-
 same-slot : (slots : List Slot) (key step : ℕ) (s t : Slot) → slot_at slots key step s → slot_at slots key step t → s ≡ t
-same-slot slots key step s t a b = some-same (sym a ∙ b)
+same-slot slots key step s t a b = same_Some _ _ (sym a ∙ b)
 
 pub passed-one : (slots : List Slot) (names : List Name) (name : Name) (key step : ℕ) (t : Slot) → slot_at slots key step t → t.number ≢ NO_NAME → (t.half ≡ half_of key → t.number < length names → name_at names t.number ≢ name)
     → IsPassed slots names name key step
@@ -103,7 +100,7 @@ taken-set slots at new key step ne taken s g = by (cases_lt place at) (cases_lt 
         let here : slice_get (slice_set slots at new) at ≡ Some s = ap (slice_get (slice_set slots at new)) (sym same) ∙ g' in
         let w = slice_get_within (slice_set slots at new) at s here in
         let l = length-set slots at new in
-        let e : new ≡ s = some-same (sym (get-set_same slots at new (omega (arith, w, l))) ∙ here) in
+        let e : new ≡ s = same_Some _ _ (sym (get-set_same slots at new (omega (arith, w, l))) ∙ here) in
         λ z. ne (ap (λ (u : Slot). u.number) e ∙ z)
 
 held-set : (slots : List Slot) (at : ℕ) (new : Slot) (key k : ℕ) → ((s : Slot) → slice_get slots at ≡ Some s → s.number ≡ NO_NAME) → new.number ≢ NO_NAME → k ≢ NO_NAME

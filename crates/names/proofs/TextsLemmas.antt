@@ -3,11 +3,9 @@ use Rattle.std.specs.Prelude.{◌≡◌, ℕ, zero, suc, ◌+◌, ◌-◌, ◌<�
 use Rattle.std.proofs.Common.{◌∙◌, ap, sym, subst, arith}
 use Rattle.std.proofs.lemmas.List.{length-drop, length-take-le, take-append-le, drop-append-le, take-append-drop, take_all}
 use Rattle.std.proofs.Math.Seq.{drop-append_seam}
+use Rattle.std.proofs.lemmas.Option.{same_Some}
 use Rattle.names.specs.Codes.{name_at}
 use Rattle.names.specs.Texts.{cut, start_of, AreLaid}
-
-some-same : {A : Type 0} {x y : A} → Some x ≡ Some y → x ≡ y
-some-same e = cc
 
 pub cut-length : (xs : List ℕ) (from : ℕ) (ends : List ℕ) → length (cut xs from ends) ≡ length ends
 cut-length xs from [] = refl
@@ -25,7 +23,7 @@ laid-start n from (to ∷ ends) (suc i) l = let r = laid-start n to ends i l.1 i
 
 pub laid-in : (n from : ℕ) (ends : List ℕ) (i to : ℕ) → AreLaid n from ends → slice_get ends i ≡ Some to → (start_of from ends i ≤ to) × (to ≤ n)
 laid-in n from [] i to l h = cc
-laid-in n from (t ∷ ends) zero to l h = subst (λ x. (from ≤ x) × (x ≤ n)) (some-same h) (l.0, laid-behind n t ends l.1)
+laid-in n from (t ∷ ends) zero to l h = subst (λ x. (from ≤ x) × (x ≤ n)) (same_Some _ _ h) (l.0, laid-behind n t ends l.1)
 laid-in n from (t ∷ ends) (suc i) to l h = laid-in n t ends i to l.1 h
 
 pub start-within : (n from : ℕ) (ends : List ℕ) (i : ℕ) → AreLaid n from ends → start_of from ends i ≤ n
@@ -40,12 +38,12 @@ start-first from (to ∷ ends) = refl
 
 pub start-next : (from : ℕ) (ends : List ℕ) (i to : ℕ) → slice_get ends i ≡ Some to → start_of from ends (suc i) ≡ to
 start-next from [] i to h = cc
-start-next from (t ∷ ends) zero to h = start-first t ends ∙ some-same h
+start-next from (t ∷ ends) zero to h = start-first t ends ∙ same_Some _ _ h
 start-next from (t ∷ ends) (suc i) to h = start-next t ends i to h
 
 pub text-at : (xs : List ℕ) (from : ℕ) (ends : List ℕ) (i to : ℕ) → slice_get ends i ≡ Some to → slice_range xs (start_of from ends i) to ≡ name_at (cut xs from ends) i
 text-at xs from [] i to h = cc
-text-at xs from (t ∷ ends) zero to h = ap (slice_range xs from) (sym (some-same h))
+text-at xs from (t ∷ ends) zero to h = ap (slice_range xs from) (sym (same_Some _ _ h))
 text-at xs from (t ∷ ends) (suc i) to h = text-at xs t ends i to h
 
 range-more : (xs more : List ℕ) (from to : ℕ) → from ≤ to → to ≤ length xs → slice_range (xs ++ more) from to ≡ slice_range xs from to

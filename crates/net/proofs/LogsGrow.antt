@@ -1,5 +1,5 @@
 -- A log only grows: a step of a node learns at an empty slot alone, and forgets nothing but at a restart.
-use Rattle.std.proofs.Common.{◌≡◌, ◌≢◌, ℕ, zero, suc, ◌-◌, ◌^◌, ◌==◌, ◌&&◌, not, nat_lt, Bool, true, false, List, [], ◌∷◌, ◌++◌, length, Option, Some, None, Result, Ok, Err, refl, ap, sym, ◌∙◌, subst, slice_get, if◌then◌else◌}
+use Rattle.std.proofs.Common.{◌≡◌, ◌≢◌, ℕ, zero, suc, ◌-◌, ◌^◌, ◌==◌, ◌&&◌, not, nat_lt, Bool, true, false, List, [], ◌∷◌, ◌++◌, length, Option, Some, None, Result, Ok, Err, refl, ap, sym, ◌∙◌, subst, slice_get, if◌then◌else◌, append-nil}
 use Rattle.std.proofs.Common.{arith}
 use Rattle.std.proofs.lemmas.Bool.Decides.{nat_tests}
 use Rattle.slots.specs.declared.slots.TheConstants.{SLOTS}
@@ -50,10 +50,6 @@ abbrev LogGrowsOnOk : {V : Type 0} → Node V → Result (Stepped V) Refusal →
 LogGrowsOnOk n (Ok step) = LogGrows n step
 LogGrowsOnOk n (Err refusal) = Unit {0}
 
-all_of : {A : Type 0} (xs : List A) → xs ++ [] ≡ xs
-all_of [] = refl
-all_of (x ∷ xs) = ap (λ ys. x ∷ ys) (all_of xs)
-
 either : {V : Type 0} (n : Node V) (one other : Stepped V) (t : Bool) → LogGrows n one → LogGrows n other → LogGrows n (if t then one else other)
 either n one other true h k = h
 either n one other false h k = k
@@ -64,7 +60,7 @@ either_ok n one other false h k = k
 
 module _ {V : Type 0} (n : Node V) where
   same : IsBeginningOf (log_of n) (log_of n)
-  same = ([], all_of (log_of n))
+  same = ([], append-nil (log_of n))
 
   offer_waits_grows : (v : V) → LogGrowsOnOk n (offer_waits n v)
   offer_waits_grows v = either_ok n (Err LogFull) (if nat_lt (length n.waiting) MOST_WAITING then Ok (waits n v) else Err Busy) (log_length n == SLOTS) tt
@@ -122,7 +118,7 @@ module _ {V : Type 0} (n : Node V) where
 -- The logs of a world: that of the node of an event grows, and each other stays.
 
 same_log : {A : Type 0} (xs ys : List A) → ys ≡ xs → IsBeginningOf xs ys
-same_log xs ys is = ([], all_of xs ∙ sym is)
+same_log xs ys is = ([], append-nil xs ∙ sym is)
 
 module _ {V : Type 0} (w : World V) (j k : ℕ) where
   other_log : (step : Stepped V) → j ≢ k → log (stepped w j step) k ≡ log w k

@@ -6,6 +6,7 @@ use Rattle.names.proofs.CodesLemmas.{name_same, same_name, name_eq-comm, has-at,
 use Rattle.names.proofs.AddedLemmas.{has_name-append}
 use Rattle.std.specs.Prelude.{slice_index_or, ◌≤◌, ◌⊎◌}
 use Rattle.std.proofs.Common.{inl, inr}
+use Rattle.std.proofs.lemmas.Bool.{or_parts, or_right}
 use Rattle.scope.specs.Legal.{all_different}
 use Rattle.offence.specs.Offends.{IsTwice}
 use Rattle.offence.specs.Marks.{marked}
@@ -39,16 +40,12 @@ or_comm true false = refl
 or_comm false true = refl
 or_comm false false = refl
 
-or_false : (a b : Bool) → (a || b) ≡ false → (a ≡ false) × (b ≡ false)
-or_false true b h = cc
-or_false false b h = (refl, h)
-
 -- a name that has no code, and one that has
 pub marked-absent : (w : Name) (v : Bool) (names : List Name) (marks : List Bool) → has_name w names ≡ false → marked (λ x. name_eq x w) v names marks ≡ marks
 marked-absent w v [] marks h = refl
 marked-absent w v (x ∷ names) [] h = refl
 marked-absent w v (x ∷ names) (m ∷ marks) h =
-    let parts : (name_eq w x ≡ false) × (has_name w names ≡ false) = or_false (name_eq w x) (has_name w names) h in
+    let parts : (name_eq w x ≡ false) × (has_name w names ≡ false) = or_parts (name_eq w x) (has_name w names) h in
     ap (λ b. cond b v m ∷ marked (λ x. name_eq x w) v names marks) (name_eq-comm x w ∙ parts.0) ∙ ap (λ l. m ∷ l) (marked-absent w v names marks parts.1)
 
 at_place : (w : Name) (v : Bool) (names : List Name) (marks : List Bool) (n : ℕ) → AreDistinct names → n < length names → name_at names n ≡ w → length marks ≡ length names
@@ -117,10 +114,6 @@ mark_is t names marks w n c e = let at = code-name names w n c in ap (λ m. slic
 
 -- ---- names with a code
 
-or-true : (a b : Bool) → b ≡ true → (a || b) ≡ true
-or-true true b h = refl
-or-true false b h = h
-
 low_or_not : (n m : ℕ) → (n < m) ⊎ (m ≤ n)
 low_or_not n zero = inr (omega arith)
 low_or_not zero (suc m) = inl (omega arith)
@@ -150,7 +143,7 @@ pub coded_first : (old new rest : List Name) (x w : Name) (n : ℕ) → (n < len
 coded_first old new rest x w n at same more h = by (has_name x rest) refl
   where
     by : (b : Bool) → has_name x rest ≡ b → (has_name x new || has_name x rest) ≡ true
-    by true e = or-true (has_name x new) (has_name x rest) e
+    by true e = or_right (has_name x new) (has_name x rest) e
     by false e = ap (λ b. b || has_name x rest) (coded old new x w n at same more (ap (λ b. has_name x old || b) (sym (no (name_eq x w) (has_name x rest) e)) ∙ h))
       where
         no : (a b : Bool) → b ≡ false → (a || b) ≡ a
@@ -168,7 +161,7 @@ pub first_coded : (names left rest : List Name) (w : Name) → AreNamed names le
 first_coded names left rest w named e = named w (ap (has_name w) e ∙ ap (λ b. b || has_name w rest) (name_same w))
 
 pub rest_coded : (names left rest : List Name) (w : Name) → AreNamed names left → left ≡ w ∷ rest → AreNamed names rest
-rest_coded names left rest w named e = λ x h. named x (ap (has_name x) e ∙ or-true (name_eq x w) (has_name x rest) h)
+rest_coded names left rest w named e = λ x h. named x (ap (has_name x) e ∙ or_right (name_eq x w) (has_name x rest) h)
 
 -- ---- the first that stands twice
 

@@ -5,6 +5,7 @@ use Rattle.std.proofs.lemmas.Result.{IfOk-weaker}
 use Rattle.scope.specs.declared.rule.Rule.{Rule}
 use Rattle.offence.specs.declared.symbols.Test.{Test}
 use Rattle.std.specs.List.{list_any, list_all}
+use Rattle.std.proofs.lemmas.Bool.{and_from}
 use Rattle.mm_lex.specs.Alphabet.{Name, has_name}
 use Rattle.mm_read.specs.declared.stmt.Stmt.{Stmt}
 use Rattle.mm_read.specs.declared.stmt.Stmt.TheVariants.{Open, Close, Const, Var, Disj, Float, Ess, Axiom, Prove}
@@ -60,9 +61,6 @@ some_witness Q R P not on (Some w) told = on w told
 contradict : {b : Bool} → b ≡ true → b ≡ false → ⊥
 contradict t f = true≢false (sym t ∙ f)
 
-both_true : (a b : Bool) → a ≡ true → b ≡ true → (a && b) ≡ true
-both_true a b e f = ap (λ y. y && b) e ∙ f
-
 -- of what stands twice
 by_twice : {E : Type 0} (names : List Name) (r : Result (Option Witness) E) (P : Witness → Type 0) → (all_different names ≡ true → ⊥) → ((j k : ℕ) → IsTwice names j k → P (Twice j k))
     → IfOk r (λ found. MatchOption found (all_different names ≡ true) (IsRepeated names)) → IfOk r (λ found. IsSomeAnd found P)
@@ -98,14 +96,14 @@ pub G2_twice : {E : Type 0} (S : Database) (names : List Name) (r : Result (Opti
     → keeps S (Const names) G2 ≡ false → IfOk r (λ found. IsSomeAnd found (Offends S (Const names) G2))
 G2_twice S names r none told broken =
     by_twice names r (Offends S (Const names) G2)
-    (λ differ. contradict (both_true _ _ (none_all (fails S test.Named) (λ x. not (was_symbol S x || was_label S x)) (λ x. ap not (named_is S x)) names none) differ) broken) (λ j k h. h) told
+    (λ differ. contradict (and_from _ _ (none_all (fails S test.Named) (λ x. not (was_symbol S x || was_label S x)) (λ x. ap not (named_is S x)) names none) differ) broken) (λ j k h. h) told
 
 pub G3_twice : {E : Type 0} (S : Database) (names : List Name) (r : Result (Option Witness) E) → list_any (fails S test.Taken) names ≡ false
     → IfOk r (λ found. MatchOption found (all_different names ≡ true) (IsRepeated names))
     → keeps S (Var names) G3 ≡ false → IfOk r (λ found. IsSomeAnd found (Offends S (Var names) G3))
 G3_twice S names r none told broken =
     by_twice names r (Offends S (Var names) G3)
-    (λ differ. contradict (both_true _ _ (none_all (fails S test.Taken) (λ x. not (is_variable S x || is_constant S x || was_label S x)) same names none) differ) broken) (λ j k h. h) told
+    (λ differ. contradict (and_from _ _ (none_all (fails S test.Taken) (λ x. not (is_variable S x || is_constant S x || was_label S x)) same names none) differ) broken) (λ j k h. h) told
   where
     same : (x : Name) → not (is_variable S x || is_constant S x || was_label S x) ≡ not (fails S test.Taken x)
     same x = ap not (or_left (is_variable S x) (is_constant S x) (was_label S x) ∙ ap (λ b. is_variable S x || b) (fixed_is S x))
@@ -119,7 +117,7 @@ pub G8_twice : {E : Type 0} (S : Database) (names : List Name) (r : Result (Opti
     → keeps S (Disj names) G8 ≡ false → IfOk r (λ found. IsSomeAnd found (Offends S (Disj names) G8))
 G8_twice S names r none told broken =
     by_twice names r (Offends S (Disj names) G8)
-    (λ differ. contradict (both_true _ _ differ (none_all (fails S test.Inactive) (is_variable S) (λ x. not_not (is_variable S x)) names none)) broken) (λ j k h. h) told
+    (λ differ. contradict (and_from _ _ differ (none_all (fails S test.Inactive) (is_variable S) (λ x. not_not (is_variable S x)) names none)) broken) (λ j k h. h) told
 
 keeps_label : (S : Database) (s : Stmt) → keeps S s G4 ≡ is_fresh_label S (label_of s)
 keeps_label S Open = refl

@@ -5,6 +5,7 @@ use Rattle.std.specs.Option.{option_map}
 use Rattle.std.proofs.Common.{sym, ◌∙◌, ap, arith, true≢false, append_assoc, length-append}
 use Rattle.std.proofs.lemmas.List.Folds.{list_any-append}
 use Rattle.std.proofs.lemmas.Option.{none-some}
+use Rattle.std.proofs.lemmas.Bool.{and_parts}
 use Rattle.mm_lex.specs.Alphabet.{Name, has_byte, is_label, is_label_byte}
 use Rattle.mm_lex.specs.Words.{spaced}
 use Rattle.proof_code.specs.declared.item.Item.{Item}
@@ -15,7 +16,6 @@ use Rattle.proof_code.specs.Letters.{is_first, is_last}
 use Rattle.proof_code.specs.Numbers.{item_of, items_of}
 use Rattle.proof_code.specs.Text.{with_number, numbers_from}
 use Rattle.proof_code.specs.Writes.{finish, question_mark, is_unfinished, WritesRow, WritesCompressed, WritesNormal, IsMalformed}
-use Rattle.proof_code.proofs.LettersLemmas.{and_parts}
 use Rattle.proof_code.proofs.WritesLemmas.{joined}
 use Rattle.proof_code.proofs.RowLemmas.{RowIsRead, read-WritesRow}
 use Rattle.proof_code.proofs.RowOfNumbers.{item_of-cite}

@@ -1,5 +1,5 @@
 -- The listed labels, read from left to right.
-use Rattle.std.specs.Prelude.{◌≡◌, ℕ, zero, suc, ◌+◌, ◌-◌, ◌≤◌, Bool, true, false, cond, not, ◌&&◌, ◌||◌, IsTrue, List, [], ◌∷◌, ◌++◌, length, take, flat_map, Option, Some, None, IsSomeAnd, refl}
+use Rattle.std.specs.Prelude.{◌≡◌, ℕ, zero, suc, ◌+◌, ◌-◌, ◌≤◌, Bool, true, false, cond, not, ◌&&◌, IsTrue, List, [], ◌∷◌, ◌++◌, length, take, flat_map, Option, Some, None, IsSomeAnd, refl}
 use Rattle.std.specs.List.{list_all, list_any}
 use Rattle.std.specs.Option.{option_map}
 use Rattle.std.proofs.Common.{sym, ◌∙◌, ap, subst, arith, true≢false, append_assoc, length-append}
@@ -7,11 +7,11 @@ use Rattle.std.proofs.lemmas.List.{length_push}
 use Rattle.std.proofs.lemmas.Option.{none-some, same_Some}
 use Rattle.std.proofs.lemmas.List.{append-nil}
 use Rattle.std.proofs.lemmas.Slice.Eq.{bytes_eq-Decides}
+use Rattle.std.proofs.lemmas.Bool.{or_parts, not-true, or_from, and_from, and_parts}
 use Rattle.mm_lex.specs.Alphabet.{Name, name_eq, has_name, is_label, is_label_byte}
 use Rattle.mm_lex.specs.Words.{spaced, is_word, AreWords}
 use Rattle.proof_code.specs.Text.{Header, with_label, header_of}
 use Rattle.proof_code.specs.Writes.{finish}
-use Rattle.proof_code.proofs.LettersLemmas.{and_parts}
 
 pub is_label-word : (word : Name) → is_word word ≡ true → is_label word ≡ list_all is_label_byte word
 is_label-word [] h = cc
@@ -136,22 +136,8 @@ pub record IsHeader (mandatory tokens : List Name) (header : Header) : Type 0 wh
   pub labels : list_all is_label header.listed ≡ true
   pub apart : list_any (λ label. has_name label mandatory) header.listed ≡ false
 
-or_false : (a b : Bool) → (a || b) ≡ false → (a ≡ false) × (b ≡ false)
-or_false true b h = cc
-or_false false b h = (refl, h)
-
-not_false : (a : Bool) → not a ≡ true → a ≡ false
-not_false true h = cc
-not_false false h = refl
-
 false_not : (a b : Bool) → a ≡ true → b ≡ false → (a && not b) ≡ true
 false_not a b ea eb = rw (ea, eb) refl
-
-false_or : (a b : Bool) → a ≡ false → b ≡ false → (a || b) ≡ false
-false_or a b ea eb = rw (ea, eb) refl
-
-both : (a b : Bool) → a ≡ true → b ≡ true → (a && b) ≡ true
-both a b ea eb = rw (ea, eb) refl
 
 some_header : (o : Option Header) (label : Name) (header : Header) → option_map (with_label label) o ≡ Some header → (more : Header) × (o ≡ Some more) × (with_label label more ≡ header)
 some_header None label header h = absurd (none-some header h)
@@ -178,8 +164,8 @@ header-read mandatory (token ∷ tokens) header h =
         let P : Header → Type 0 = λ header. IsHeader mandatory (token ∷ tokens) header in
         subst P got.2 (record {
           whole = ap (λ ts. token ∷ ts) more.whole;
-          labels = both (is_label token) (list_all is_label got.0.listed) parts.0 more.labels;
-          apart = false_or (has_name token mandatory) (list_any (λ label. has_name label mandatory) got.0.listed) (not_false (has_name token mandatory) parts.1) more.apart;
+          labels = and_from (is_label token) (list_all is_label got.0.listed) parts.0 more.labels;
+          apart = or_from (has_name token mandatory) (list_any (λ label. has_name label mandatory) got.0.listed) (not-true (has_name token mandatory) parts.1) more.apart;
         })
     by ih false e false test h = absurd (none-some header h)
 
@@ -189,7 +175,7 @@ pub read-header : (mandatory listed rest : List Name) → list_all is_label list
 read-header mandatory [] rest labels apart = refl
 read-header mandatory (label ∷ listed) rest labels apart =
     let is : (is_label label ≡ true) × (list_all is_label listed ≡ true) = and_parts (is_label label) (list_all is_label listed) labels in
-    let off : (has_name label mandatory ≡ false) × (list_any (λ label. has_name label mandatory) listed ≡ false) = or_false (has_name label mandatory) (list_any (λ label. has_name label mandatory) listed) apart in
+    let off : (has_name label mandatory ≡ false) × (list_any (λ label. has_name label mandatory) listed ≡ false) = or_parts (has_name label mandatory) (list_any (λ label. has_name label mandatory) listed) apart in
     let goes_on : name_eq label finish ≡ false = by (name_eq label finish) refl is.0 in
     let test : (is_label label && not (has_name label mandatory)) ≡ true = false_not (is_label label) (has_name label mandatory) is.0 off.0 in
     rw (goes_on, test) (ap (option_map (with_label label)) (read-header mandatory listed rest is.1 off.1))

@@ -9,9 +9,9 @@ use Rattle.std.specs.HashSet.{HashSet, contains}
 use Rattle.std.specs.declared.hash.FoldHasher.{FoldHasher}
 use Rattle.std.specs.declared.hash.BuildHasherDefault.{BuildHasherDefault}
 use Rattle.std.specs.Borrow.{Bor}
+use Rattle.std.proofs.lemmas.Bool.{and_parts}
 use Rattle.mm_lex.specs.Alphabet.{Name, name_eq, has_name}
 use Rattle.proof_code.specs.Kinds.{kind_of, are_marked, AreNames}
-use Rattle.proof_code.proofs.LettersLemmas.{and_parts}
 
 -- a label of a kind that is not marked is none of these
 pub has_name-unmarked : (kinds : List Bool) (label : Name) (labels : List Name) → are_marked kinds labels ≡ true → slice_index_or kinds (kind_of label) false ≡ false → has_name label labels ≡ false

@@ -5,6 +5,7 @@ use Rattle.std.specs.Option.{option_map}
 use Rattle.std.proofs.Common.{sym, ◌∙◌, ap, subst, arith, true≢false}
 use Rattle.std.proofs.lemmas.Option.{slice_get-map, none-some, same_Some}
 use Rattle.std.proofs.lemmas.Bool.Decides.{nat_tests}
+use Rattle.std.proofs.lemmas.Bool.{and_parts}
 use Rattle.mm_lex.specs.Alphabet.{Name}
 use Rattle.proof_code.specs.Letters.{first_letters, last_letters, words_of_size, words_below, IsNumber, is_last, is_first, number_from, number_of}
 
@@ -157,10 +158,6 @@ first_bounds c h = (grind (arith, nat_tests), grind (arith, nat_tests))
 
 pub last_bounds : (c : ℕ) → is_last c ≡ true → (65 ≤ c) × (c ≤ 84)
 last_bounds c h = (grind (arith, nat_tests), grind (arith, nat_tests))
-
-pub and_parts : (a b : Bool) → (a && b) ≡ true → (a ≡ true) × (b ≡ true)
-and_parts true b h = (refl, h)
-and_parts false b h = cc
 
 ends_here : (t : Bool) (x : Option ℕ) (m : ℕ) → cond t x None ≡ Some m → t ≡ true
 ends_here true x m h = refl

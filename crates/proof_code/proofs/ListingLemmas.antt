@@ -7,12 +7,12 @@ use Rattle.std.proofs.lemmas.Bool.Decides.{nat_tests}
 use Rattle.std.proofs.lemmas.List.{append-nil, drop_more}
 use Rattle.std.proofs.lemmas.Option.{same_Some}
 use Rattle.std.proofs.lemmas.Slice.Eq.{bytes_eq-Decides}
+use Rattle.std.proofs.lemmas.Bool.{and_parts}
 use Rattle.mm_lex.specs.Alphabet.{Name, name_eq, is_visible, is_label, is_label_byte}
 use Rattle.mm_lex.specs.Words.{spaced, is_word}
 use Rattle.proof_code.specs.Listing.{class_of, letters_from, more_labels, behind_none, counted}
 use Rattle.proof_code.specs.Text.{Header, with_label, header_of}
 use Rattle.proof_code.specs.Writes.{finish}
-use Rattle.proof_code.proofs.LettersLemmas.{and_parts}
 use Rattle.proof_code.proofs.TextLemmas.{not_space}
 
 -- ---- the classes of bytes

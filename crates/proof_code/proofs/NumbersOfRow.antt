@@ -5,6 +5,7 @@ use Rattle.std.proofs.Common.{sym, ◌∙◌, ap, subst, arith, append_assoc}
 use Rattle.std.proofs.lemmas.Option.{none-some, same_Some, slice_get-get_or}
 use Rattle.std.proofs.lemmas.Bool.Decides.{nat_tests}
 use Rattle.std.proofs.lemmas.List.{append-nil}
+use Rattle.std.proofs.lemmas.Bool.{and_parts}
 use Rattle.mm_lex.specs.Alphabet.{Name, is_empty}
 use Rattle.proof_code.specs.declared.item.Item.{Item}
 use Rattle.proof_code.specs.declared.item.Item.TheVariants.{Cite, Recall}
@@ -12,7 +13,7 @@ use Rattle.proof_code.specs.Letters.{IsNumber, is_first, is_last, number_from, n
 use Rattle.proof_code.specs.Numbers.{item_of, items_of}
 use Rattle.proof_code.specs.Text.{with_number, numbers_from}
 use Rattle.proof_code.specs.Writes.{mark, AreItems}
-use Rattle.proof_code.proofs.LettersLemmas.{placed-number_of, first_bounds, last_bounds, and_parts}
+use Rattle.proof_code.proofs.LettersLemmas.{placed-number_of, first_bounds, last_bounds}
 
 abbrev pub joined : List Name → List ℕ
 joined row = flat_map (λ word. word) row

@@ -5,6 +5,7 @@ use Rattle.std.proofs.Common.{sym, ◌∙◌, ap, subst, arith, true≢false, le
 use Rattle.std.proofs.lemmas.Bool.Decides.{nat_tests}
 use Rattle.std.proofs.lemmas.List.{drop_more, append-nil}
 use Rattle.std.proofs.lemmas.Option.{none-some, same_Some}
+use Rattle.std.proofs.lemmas.Bool.{and_parts}
 use Rattle.mm_lex.specs.Alphabet.{Name}
 use Rattle.mm_lex.specs.Words.{spaced, is_word}
 use Rattle.proof_code.specs.declared.item.Item.{Item}
@@ -14,7 +15,7 @@ use Rattle.proof_code.specs.Reading.{before_rest, Goes, share_label, IsHeading}
 use Rattle.proof_code.specs.Text.{Header, header_of, letters_of, starts_with_mark, numbers_from}
 use Rattle.proof_code.specs.Writes.{begin, finish, WritesCompressed}
 use Rattle.proof_code.proofs.HeaderLemmas.{IsHeader, header-read, read-header}
-use Rattle.proof_code.proofs.LettersLemmas.{is_first-true, and_parts}
+use Rattle.proof_code.proofs.LettersLemmas.{is_first-true}
 use Rattle.proof_code.proofs.RowLemmas.{numbers_from-first, RowIsRead, WritesRow-read, read-WritesRow}
 use Rattle.proof_code.proofs.TextLemmas.{letters_of-spaced}
 use Rattle.proof_code.proofs.WritesLemmas.{joined, written_behind, starts_with_mark-spaced}

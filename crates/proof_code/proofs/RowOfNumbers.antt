@@ -16,9 +16,6 @@ use Rattle.proof_code.proofs.NumbersOfRow.{joined}
 
 -- ---- complete: a row's numbers are read
 
-and_true : (a b : Bool) → a ≡ true → b ≡ true → (a && b) ≡ true
-and_true a b ea eb = rw (ea, eb) refl
-
 -- the letters of one word and what follows
 numbers_from-word : (limit d number : ℕ) (word : Name) (rest : List ℕ) → number_from d word ≡ Some number → numbers_from limit d (word ++ rest) ≡ with_number limit number (numbers_from limit 0 rest)
 numbers_from-word limit d number [] rest h = absurd (none-some number h)

@@ -4,10 +4,10 @@ use Rattle.std.specs.List.{list_all, list_any}
 use Rattle.std.proofs.Common.{sym, ◌∙◌, ap, arith, true≢false, length-append}
 use Rattle.std.proofs.lemmas.List.{append-nil}
 use Rattle.std.proofs.lemmas.List.Folds.{list_any-append}
+use Rattle.std.proofs.lemmas.Bool.{and_parts}
 use Rattle.mm_lex.specs.Alphabet.{Name, is_visible, has_byte}
 use Rattle.mm_lex.specs.Words.{spaced, is_word}
 use Rattle.proof_code.specs.Text.{letters_of}
-use Rattle.proof_code.proofs.LettersLemmas.{and_parts}
 
 pub not_space : (b : ℕ) → is_visible b ≡ true → (b == 32) ≡ false
 not_space b h = by (b == 32) refl

@@ -1,6 +1,5 @@
 -- One item of the run, and all of them.
-use Rattle.std.proofs.Common.{◌≡◌, ℕ, zero, suc, ◌+◌, ◌-◌, ◌<◌, ◌≤◌, true, false, cond, List, [], ◌∷◌, ◌++◌, length, take, get_or, arith, refl, sym, ◌∙◌, ap, subst, Some, None, Option, slice_get, IfOk, MatchOption, Result, Ok, Err, add-one}
-use Rattle.std.specs.Prelude.{nat_lt}
+use Rattle.std.proofs.Common.{◌≡◌, ℕ, zero, suc, ◌+◌, ◌-◌, ◌<◌, ◌≤◌, cond, List, [], ◌∷◌, ◌++◌, length, take, get_or, arith, refl, sym, ◌∙◌, ap, subst, Some, None, Option, slice_get, IfOk, MatchOption, Result, Ok, Err, add-one}
 use Rattle.std.specs.declared.alloc.AllocError.{AllocError}
 use Rattle.std.specs.Global.{Vec}
 use Rattle.mm_lex.specs.Alphabet.{Name}
@@ -27,6 +26,7 @@ use Rattle.reasons.specs.declared.state.TheConstants.{WEIGHT_LIMIT}
 use Rattle.reasons.proofs.RunLemmas.{pushed_to}
 use Rattle.reasons.proofs.NamedLemmas.{decode-same}
 use Rattle.std.proofs.lemmas.List.{length-map}
+use Rattle.std.proofs.lemmas.Bool.{lt-ltb, le-ltb}
 use Rattle.names.specs.Codes.{name_at}
 
 -- ---- positions of labels
@@ -53,19 +53,13 @@ found-more S (y ∷ done) (q ∷ positions) x p h is = (h.0, found-more S done p
 -- ---- what a number means
 
 pub cite_item : (labels : List Name) (number k : ℕ) → number ≡ suc k → k < length labels → item_of labels number ≡ Cite (get_or labels k [])
-cite_item labels number k e l = ap (item_of labels) e ∙ ap (λ b. cond b (Cite (get_or labels k [])) (Recall (suc (k - length labels)))) (below k (length labels) l)
-  where
-    below : (m n : ℕ) → m < n → nat_lt m n ≡ true
-    below m n l = grind (arith, l)
+cite_item labels number k e l = ap (item_of labels) e ∙ ap (λ b. cond b (Cite (get_or labels k [])) (Recall (suc (k - length labels)))) (lt-ltb k (length labels) l)
 
 pub recall_item : (labels : List Name) (number : ℕ) → length labels < number → item_of labels number ≡ Recall (suc (number - length labels - 1))
 recall_item labels zero l = absurd (omega (arith, l))
 recall_item labels (suc n) l =
     let same : n - length labels ≡ suc n - length labels - 1 = omega (arith, l) in
-    ap (λ b. cond b (Cite (get_or labels n [])) (Recall (suc (n - length labels)))) (not_below n (length labels) (omega (arith, l))) ∙ ap (λ k. Recall (suc k)) same
-  where
-    not_below : (m n : ℕ) → n ≤ m → nat_lt m n ≡ false
-    not_below m n l = grind (arith, l)
+    ap (λ b. cond b (Cite (get_or labels n [])) (Recall (suc (n - length labels)))) (le-ltb n (length labels) (omega (arith, l))) ∙ ap (λ k. Recall (suc k)) same
 
 named-at : (names : List Name) (vs : List (Vec ℕ)) (k : ℕ) (v : Vec ℕ) → slice_get vs k ≡ Some v → slice_get (named names vs) k ≡ Some (decode names v.items)
 named-at names [] k v e = cc
@@ -149,17 +143,17 @@ pub end_told : (S : Database) (names : List Name) (at : ℕ) (s : Stmt) (items :
     → AreDistinct names → AreSymbols (length names) stack → AreBelow (length names) says → decode names says ≡ expr_of s → stack ≡ st.stack.items → RunsWell S at items (held names st)
     → IfOk res (λ r. MatchOption r (IsAlone says stack) (IsEndFault says stack))
     → IfOk res (λ r. MatchOption r (RunsTo S at items (expr_of s)) (IsFirstFault S names at s items))
-end_told S names at s items st says stack (Err e) distinct low below is same runs told = tt
-end_told S names at s items st says [] (Ok None) distinct low below is same runs told = absurd told
-end_told S names at s items st says (e ∷ []) (Ok None) distinct low below is same runs told =
+end_told S names at s items st says stack (Err e) distinct low lt-ltb is same runs told = tt
+end_told S names at s items st says [] (Ok None) distinct low lt-ltb is same runs told = absurd told
+end_told S names at s items st says (e ∷ []) (Ok None) distinct low lt-ltb is same runs told =
     (held names st, runs, ap (named names) (sym same) ∙ ap (λ x. x ∷ []) (ap (decode names) told ∙ is))
-end_told S names at s items st says (e ∷ f ∷ stack) (Ok None) distinct low below is same runs told = absurd told
-end_told S names at s items st says stack (Ok (Some (reason.Item k fault))) distinct low below is same runs told = absurd told
-end_told S names at s items st says stack (Ok (Some (reason.Results count))) distinct low below is same runs told =
+end_told S names at s items st says (e ∷ f ∷ stack) (Ok None) distinct low lt-ltb is same runs told = absurd told
+end_told S names at s items st says stack (Ok (Some (reason.Item k fault))) distinct low lt-ltb is same runs told = absurd told
+end_told S names at s items st says stack (Ok (Some (reason.Results count))) distinct low lt-ltb is same runs told =
     (held names st, runs, told.0 ∙ (ap length same ∙ sym (length-map st.stack.items (λ v. decode names v.items))), told.1)
-end_told S names at s items st says stack (Ok (Some (reason.Theorem proved))) distinct low below is same runs told = (
+end_told S names at s items st says stack (Ok (Some (reason.Theorem proved))) distinct low lt-ltb is same runs told = (
   held names st,
   runs,
   ap (named names) (sym same ∙ told.1) ∙ ap (λ (xs : List ℕ). decode names xs ∷ []) (sym told.2),
-  λ equal. told.3 (decode-same names told.0.items says distinct (subst (λ l. AreSymbols (length names) l) told.1 low).0 below (ap (decode names) (sym told.2) ∙ (equal ∙ sym is))),
+  λ equal. told.3 (decode-same names told.0.items says distinct (subst (λ l. AreSymbols (length names) l) told.1 low).0 lt-ltb (ap (decode names) (sym told.2) ∙ (equal ∙ sym is))),
 )

@@ -1,10 +1,11 @@
 -- Each kind of legal statement keeps what a scope keeps.
-use Rattle.std.specs.Prelude.{◌≡◌, ℕ, ◌==◌, Bool, true, false, not, ◌||◌, List, [], ◌∷◌, ◌++◌, cond, Some, None, is_some, refl}
+use Rattle.std.specs.Prelude.{◌≡◌, ℕ, ◌==◌, Bool, true, false, ◌||◌, List, [], ◌∷◌, ◌++◌, cond, Some, None, is_some, refl}
 use Rattle.std.proofs.Common.{Result, Ok, Err, OnOk}
 use Rattle.std.specs.Result.{is_err}
 use Rattle.std.specs.List.{list_any}
 use Rattle.std.proofs.Common.{◌∙◌, ap, sym, subst, true≢false}
 use Rattle.std.proofs.lemmas.List.{append-nil, append_assoc, map-append}
+use Rattle.std.proofs.lemmas.Bool.{not-true}
 use Rattle.mm_lex.specs.Alphabet.{Name, name_eq, has_name}
 use Rattle.mm_read.specs.declared.stmt.Stmt.{Stmt}
 use Rattle.mm_read.specs.declared.stmt.Stmt.TheVariants.{Open, Close, Const, Var, Disj, Float, Ess, Axiom, Prove}
@@ -117,11 +118,7 @@ module _ (S M : Database) (names : Declared) (vs ts : List ℕ) (blocks : List S
   pub float-apart : (l c v : Name) → broken_rule S (Float l c v) ≡ None → list_any (λ n. n == number_in (declared_names names) v) ts ≡ false
   float-apart l c v legal =
       ap (λ s. list_any (λ n. n == number_in (declared_names names) v) s) (k.typed_are ∙ ap (λ ns. numbers_in ns (typed_variables S)) (sym k.named))
-      ∙ (numbers-has (declared_names names) v (typed_variables S) (float-known l c v legal) ∙ (sym (has_float-typed S v) ∙ not_true (has_float S v) (legal-float S l c v legal).1))
-    where
-      not_true : (b : Bool) → not b ≡ true → b ≡ false
-      not_true true h = cc
-      not_true false h = refl
+      ∙ (numbers-has (declared_names names) v (typed_variables S) (float-known l c v legal) ∙ (sym (has_float-typed S v) ∙ not-true (has_float S v) (legal-float S l c v legal).1))
 
   pub accept-float : (l c v : Name) → broken_rule S (Float l c v) ≡ None
       → IsKept (S ++ Float l c v ∷ []) M (with_kind names Label l) vs (ts ++ number_in (declared_names names) v ∷ []) blocks mark m

@@ -1,6 +1,7 @@
 -- Names and their kinds, as two lists.
 use Rattle.std.specs.Prelude.{◌≡◌, ℕ, zero, suc, ◌<◌, Bool, true, false, ◌||◌, cond, List, [], ◌∷◌, ◌++◌, length, take, Option, Some, None, slice_get, refl}
 use Rattle.std.proofs.Common.{sym, ◌∙◌, ap, arith}
+use Rattle.std.proofs.lemmas.Bool.{or_parts}
 use Rattle.mm_lex.specs.Alphabet.{Name, name_eq, has_name}
 use Rattle.names.specs.Codes.{name_at}
 use Rattle.scope.specs.Kinds.{declared_names, kind_in, with_their}
@@ -16,9 +17,6 @@ pub length-seen : (names : List Name) (kinds : List Kind) → length kinds ≡ l
 length-seen [] kinds h = refl
 length-seen (x ∷ names) [] h = absurd (omega (arith, h))
 length-seen (x ∷ names) (k ∷ kinds) h = ap suc (length-seen names kinds (omega (arith, h)))
-
-some-same : {A : Type 0} {x y : A} → Some x ≡ Some y → x ≡ y
-some-same e = cc
 
 -- the kind at the first place of the name, where no earlier one is the name
 pub kind-at : (names : List Name) (kinds : List Kind) (x : Name) (n : ℕ) (k : Kind) → n < length names → name_at names n ≡ x → ((m : ℕ) → m < n → name_at names m ≡ x → ⊥) → slice_get kinds n ≡ Some k
@@ -42,12 +40,8 @@ pub kind-none : (names : List Name) (kinds : List Kind) (x : Name) → has_name 
 kind-none [] kinds x h = refl
 kind-none (y ∷ names) [] x h = refl
 kind-none (y ∷ names) (l ∷ kinds) x h =
-    let p = or_false (name_eq x y) (has_name x names) h in
+    let p = or_parts (name_eq x y) (has_name x names) h in
     ap (λ b. cond b (Some l) (kind_in (with_their names kinds) x)) p.0 ∙ kind-none names kinds x p.1
-  where
-    or_false : (a b : Bool) → (a || b) ≡ false → (a ≡ false) × (b ≡ false)
-    or_false true b h = cc
-    or_false false b h = (refl, h)
 
 -- a name with no kind is not among them
 pub none-kind : (names : List Name) (kinds : List Kind) (x : Name) → length kinds ≡ length names → kind_in (with_their names kinds) x ≡ None → has_name x names ≡ false

@@ -2,6 +2,7 @@
 use Rattle.std.specs.Prelude.{◌≡◌, Bool, true, false, not, cond, ◌||◌, ◌&&◌, nat_lt, List, [], ◌∷◌, Option, Some, None, refl}
 use Rattle.std.specs.List.{list_all}
 use Rattle.std.proofs.Common.{◌∙◌, ap, sym}
+use Rattle.std.proofs.lemmas.Bool.{and_parts}
 use Rattle.mm_lex.specs.Alphabet.{Name}
 use Rattle.mm_read.specs.declared.stmt.Stmt.{Stmt}
 use Rattle.mm_read.specs.declared.stmt.Stmt.TheVariants.{Open, Close, Const, Var, Disj, Float, Ess, Axiom, Prove}
@@ -17,11 +18,6 @@ first_rule : (b : Bool) (r : Rule) (rest : Option Rule) → cond (not b) (Some r
 first_rule true r rest h = (refl, h)
 first_rule false r rest h = cc
 
-both : (a b : Bool) → (a && b) ≡ true → (a ≡ true) × (b ≡ true)
-both true true h = (refl, refl)
-both true false h = cc
-both false b h = cc
-
 or_comm : (a b : Bool) → (a || b) ≡ (b || a)
 or_comm true true = refl
 or_comm true false = refl
@@ -30,11 +26,11 @@ or_comm false false = refl
 
 pub legal-constants : (S : Database) (xs : List Name) → broken_rule S (Const xs) ≡ None
     → (list_all (λ x. not (was_symbol S x || was_label S x)) xs ≡ true) × (all_different xs ≡ true)
-legal-constants S xs h = both _ _ (first_rule _ _ _ (first_rule _ _ _ h).1).0
+legal-constants S xs h = and_parts _ _ (first_rule _ _ _ (first_rule _ _ _ h).1).0
 
 pub legal-variables : (S : Database) (xs : List Name) → broken_rule S (Var xs) ≡ None
     → (list_all (λ x. not (is_variable S x || is_constant S x || was_label S x)) xs ≡ true) × (all_different xs ≡ true)
-legal-variables S xs h = both _ _ (first_rule _ _ _ h).0
+legal-variables S xs h = and_parts _ _ (first_rule _ _ _ h).0
 
 pub legal-close : (S : Database) → broken_rule S Close ≡ None → nat_lt (count is_close S) (count is_open S) ≡ true
 legal-close S h = (first_rule _ _ _ h).0
@@ -67,7 +63,7 @@ legal-label S (Prove label expr proof) l e h = ap (λ x. not (was_symbol S x || 
 
 pub legal-float : (S : Database) (label constant variable : Name) → broken_rule S (Float label constant variable) ≡ None → (is_variable S variable ≡ true) × (not (has_float S variable) ≡ true)
 legal-float S label constant variable h =
-    both (is_variable S variable) (not (has_float S variable))
+    and_parts (is_variable S variable) (not (has_float S variable))
     (by (not (was_label S label || was_symbol S label)) (list_all (λ x. is_constant S x || is_variable S x) (constant ∷ variable ∷ [])) (is_constant S constant) (is_variable S variable && not (has_float S variable)) h)
   where
     by : (a b c d : Bool) → cond (not a) (Some G4) (cond (not b) (Some G5) (cond (not c) (Some G6) (cond (not d) (Some G7) None))) ≡ None → d ≡ true

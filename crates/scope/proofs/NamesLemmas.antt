@@ -3,6 +3,7 @@ use Rattle.std.specs.Prelude.{◌≡◌, ℕ, ◌+◌, Bool, true, false, not, c
 use Rattle.std.specs.List.{list_all, flat_map}
 use Rattle.std.proofs.Common.{sym, ◌∙◌, ap, subst, arith, true≢false, ◌⊎◌, inl, inr, append_assoc}
 use Rattle.std.proofs.lemmas.List.{append-nil, map-append}
+use Rattle.std.proofs.lemmas.Bool.{or_left, or_right}
 use Rattle.mm_lex.specs.Alphabet.{Name, name_eq, has_name}
 use Rattle.mm_read.specs.declared.stmt.Stmt.{Stmt}
 use Rattle.mm_read.specs.declared.stmt.Stmt.TheVariants.{Open, Close, Const, Var, Disj, Float, Ess, Axiom, Prove}
@@ -13,7 +14,7 @@ use Rattle.scope.specs.Numbering.{names_from, names_of, declared_by}
 use Rattle.scope.specs.Kinds.{Declared, declared_names, kind_in, with_kind, with_kinds}
 use Rattle.scope.specs.declared.numbering.Kind.{Kind}
 use Rattle.names.proofs.CodesLemmas.{name_same, same_name}
-use Rattle.names.proofs.AddedLemmas.{or_left, or_right, or_cases, has_name-append, with_names-more, has-more, has-with_names}
+use Rattle.names.proofs.AddedLemmas.{or_cases, has_name-append, with_names-more, has-more, has-with_names}
 
 -- ---- names are only added at the end
 

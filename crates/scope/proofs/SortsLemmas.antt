@@ -3,7 +3,7 @@ use Rattle.std.specs.Prelude.{◌≡◌, ℕ, suc, ◌+◌, ◌==◌, Bool, true
 use Rattle.std.specs.List.{list_any, position_or_len, prefix_len, flat_map}
 use Rattle.std.proofs.Common.{sym, ◌∙◌, ap, arith, true≢false, take, ◌<◌, append_assoc, length-append}
 use Rattle.std.proofs.lemmas.List.{take_at, length_push}
-use Rattle.std.proofs.lemmas.Bool.Decides.{nat_tests}
+use Rattle.std.proofs.lemmas.Bool.{eqb-true, eq-eqb}
 use Rattle.mm_lex.specs.Alphabet.{Name, name_eq, has_name}
 use Rattle.mm_read.specs.declared.stmt.Stmt.{Stmt}
 use Rattle.mm_read.specs.declared.stmt.Stmt.TheVariants.{Open, Close, Const, Var, Disj, Float, Ess, Axiom, Prove}
@@ -68,11 +68,8 @@ was_symbol-either (s ∷ S) x =
 
 -- ---- numbers found
 
-equal_numbers : (m n : ℕ) → (m == n) ≡ true → m ≡ n
-equal_numbers m n e = grind (arith, nat_tests)
-
 numbers_apart : (m n : ℕ) (b : Bool) → (m == n) ≡ b → (m ≡ n → ⊥) → b ≡ false
-numbers_apart m n true e differ = absurd (differ (equal_numbers m n e))
+numbers_apart m n true e differ = absurd (differ (eqb-true m n e))
 numbers_apart m n false e differ = refl
 
 -- the number of a name is among the numbers of names exactly where the name is among them
@@ -80,11 +77,9 @@ pub numbers-has : (names : List Name) (x : Name) (xs : List Name) → has_name x
 numbers-has names x [] h = refl
 numbers-has names x (y ∷ xs) h = ap (λ b. b || list_any (λ n. n == number_in names x) (numbers_in names xs)) (one (name_eq x y) refl) ∙ ap (λ r. name_eq x y || r) (numbers-has names x xs h)
   where
-    same : (m n : ℕ) → m ≡ n → (m == n) ≡ true
-    same m n e = grind (arith, nat_tests)
 
     one : (b : Bool) → name_eq x y ≡ b → (number_in names y == number_in names x) ≡ b
-    one true e = same (number_in names y) (number_in names x) (ap (number_in names) (sym (same_name x y e)))
+    one true e = eq-eqb (number_in names y) (number_in names x) (ap (number_in names) (sym (same_name x y e)))
     one false e = numbers_apart (number_in names y) (number_in names x) _ refl (λ k. true≢false (sym (number_in-same x y names h (sym k)) ∙ (name_eq-comm y x ∙ e)))
 
 -- ---- sorts

@@ -1,10 +1,11 @@
 -- How the stacks of a scope follow a statement that opens or closes no block, a `${` and a `$}`.
-use Rattle.std.specs.Prelude.{◌≡◌, ℕ, zero, suc, ◌+◌, ◌≤◌, ◌==◌, Bool, true, false, cond, ◌||◌, nat_lt, List, [], ◌∷◌, ◌++◌, length, take, refl}
+use Rattle.std.specs.Prelude.{◌≡◌, ℕ, zero, suc, ◌+◌, ◌≤◌, Bool, true, false, cond, ◌||◌, nat_lt, List, [], ◌∷◌, ◌++◌, length, take, refl}
 use Rattle.std.specs.List.{flat_map}
 use Rattle.std.proofs.Common.{◌∙◌, ap, sym, subst, arith, append_assoc, true≢false}
 use Rattle.std.proofs.lemmas.List.{append-nil, map-append, take-append-le, take-map, same_from_push}
 use Rattle.std.proofs.lemmas.Grind.{flat_map-append}
 use Rattle.std.proofs.lemmas.Bool.Decides.{nat_tests}
+use Rattle.std.proofs.lemmas.Bool.{eqb-true}
 use Rattle.mm_lex.specs.Alphabet.{Name, has_name}
 use Rattle.mm_read.specs.declared.stmt.Stmt.{Stmt}
 use Rattle.mm_read.specs.declared.stmt.Stmt.TheVariants.{Open, Close}
@@ -138,13 +139,11 @@ later-close : (S M T : Database) → S ≡ M ++ T → is_closed M ≡ true → s
 later-close S M T e closed below all some =
     below-deficit 0 (T ++ Close ∷ []) (omega (arith, deficit-close T, no_deficit T below, balance))
   where
-    same : (a b : ℕ) → (a == b) ≡ true → a ≡ b
-    same a b h = grind (arith, nat_tests)
 
     balance : 1 ≤ left_open T
     balance = omega (
       arith,
-      same (count is_open M) (count is_close M) closed,
+      eqb-true (count is_open M) (count is_close M) closed,
       count-left_open T,
       no_deficit T below,
       count-left_open S,

@@ -3,6 +3,7 @@ use Rattle.std.specs.Prelude.{◌≡◌, ℕ, zero, suc, ◌<◌, Bool, true, fa
 use Rattle.std.specs.List.{list_any}
 use Rattle.std.proofs.Common.{sym, ◌∙◌, ap, arith, ◌≢◌, ◌⊎◌, inl, inr, true≢false, slice_set}
 use Rattle.std.proofs.lemmas.Bool.Decides.{nat_tests}
+use Rattle.std.proofs.lemmas.Bool.{or_right, eqb-true}
 
 -- it stands there, so it is among them
 pub member : (xs : List ℕ) (k n : ℕ) → slice_get xs k ≡ Some n → list_any (λ m. m == n) xs ≡ true
@@ -11,22 +12,16 @@ member (x ∷ xs) zero n h = found x n xs (cc h)
   where
     found : (x n : ℕ) (xs : List ℕ) → x ≡ n → ((x == n) || list_any (λ m. m == n) xs) ≡ true
     found x n xs e = grind (arith, nat_tests)
-member (x ∷ xs) (suc k) n h = or_true (x == n) (list_any (λ m. m == n) xs) (member xs k n h)
-  where
-    or_true : (a b : Bool) → b ≡ true → (a || b) ≡ true
-    or_true true b e = refl
-    or_true false b e = e
+member (x ∷ xs) (suc k) n h = or_right (x == n) (list_any (λ m. m == n) xs) (member xs k n h)
 
 -- it stands nowhere, so it is not among them
 pub no_member : (xs : List ℕ) (n : ℕ) → ((k : ℕ) → slice_get xs k ≡ Some n → ⊥) → list_any (λ m. m == n) xs ≡ false
 no_member [] n none = refl
 no_member (x ∷ xs) n none = by (x == n) refl (no_member xs n (λ k h. none (suc k) h))
   where
-    same : (x n : ℕ) → (x == n) ≡ true → x ≡ n
-    same x n e = grind (arith, nat_tests)
 
     by : (b : Bool) → (x == n) ≡ b → list_any (λ m. m == n) xs ≡ false → (b || list_any (λ m. m == n) xs) ≡ false
-    by true e rest = absurd (none 0 (ap Some (same x n e)))
+    by true e rest = absurd (none 0 (ap Some (eqb-true x n e)))
     by false e rest = rest
 
 -- what stands there is not what is absent

@@ -4,7 +4,7 @@ use Rattle.std.specs.List.{list_all}
 use Rattle.std.proofs.Common.{◌∙◌, ap, sym, subst, arith, true≢false}
 use Rattle.std.proofs.lemmas.List.{append-nil, append_assoc, map-append, same_from_push}
 use Rattle.std.proofs.lemmas.List.Folds.{list_all-append}
-use Rattle.std.proofs.lemmas.Bool.Decides.{nat_tests}
+use Rattle.std.proofs.lemmas.Bool.{or_right, lt-ltb}
 use Rattle.mm_lex.specs.Alphabet.{Name, name_eq, has_name}
 use Rattle.mm_read.specs.declared.stmt.Stmt.{Stmt}
 use Rattle.mm_read.specs.declared.stmt.Stmt.TheVariants.{Open, Close, Const, Var, Disj, Float, Ess, Axiom, Prove}
@@ -81,10 +81,6 @@ declared_symbols-with_kinds names kind (x ∷ xs) own free =
         not_label Variable e = refl
     or_free None false h = refl
 
-    or_right : (a b : Bool) → b ≡ true → (a || b) ≡ true
-    or_right true b h = refl
-    or_right false b h = h
-
     later : (y : Name) → has_name y xs ≡ true → is_label_kind (kind_in (with_kind names kind x) y) ≡ false
     later y h =
         ap is_label_kind (kind_in-with_kinds names y kind (x ∷ []))
@@ -134,16 +130,13 @@ noted-more symbols xs x n old None is more noted = tt
 noted-more symbols xs x n None (Some new) is more noted = cc
 noted-more symbols xs x n (Some old) (Some new) is more noted =
     let same : new ≡ old ++ n ∷ [] = some_same new (old ++ n ∷ []) more in
-    let below : nat_lt n (length symbols) ≡ true = lt_true n (length symbols) is.0 in (
+    let below : nat_lt n (length symbols) ≡ true = lt-ltb n (length symbols) is.0 in (
       ap (list_all (λ m. nat_lt m (length symbols))) same ∙ (list_all-append (λ m. nat_lt m (length symbols)) old (n ∷ []) ∙ (ap (λ b. b && (nat_lt n (length symbols) && true)) noted.0 ∙ ap (λ b. b && true) below)),
       ap (decode symbols) same ∙ (map-append (name_at symbols) old (n ∷ []) ∙ (ap (λ r. r ++ name_at symbols n ∷ []) noted.1 ∙ ap (λ y. xs ++ y ∷ []) is.1)),
     )
   where
     some_same : (a b : List ℕ) → Some a ≡ Some b → a ≡ b
     some_same a b e = cc
-
-    lt_true : (a b : ℕ) → a < b → nat_lt a b ≡ true
-    lt_true a b h = grind (arith, nat_tests)
 
 -- what was noted stands for the first of the symbols, and the rest is to come
 abbrev pub AreDone : List Name → Expr → Expr → Option (List ℕ) → Type 0

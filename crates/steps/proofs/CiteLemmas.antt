@@ -2,6 +2,7 @@
 use Rattle.std.specs.Prelude.{◌≡◌, ℕ, zero, suc, ◌-◌, ◌<◌, ◌≤◌, List, [], ◌∷◌, ◌++◌, length, map, drop, get_or, slice_get, Some, refl}
 use Rattle.std.proofs.Common.{sym, ◌∙◌, ap, subst, arith, inl, inr}
 use Rattle.std.proofs.lemmas.List.{length-map}
+use Rattle.std.proofs.lemmas.Option.{get_or_from_slice_get}
 use Rattle.mm_lex.specs.Alphabet.{Name}
 use Rattle.mm_read.specs.declared.stmt.Stmt.{Stmt}
 use Rattle.mm_read.specs.Statements.{Expr, Database}
@@ -35,7 +36,6 @@ use Rattle.steps.specs.Rows.{Row, no_row, expr_in, Follows, from_hypothesis, fro
 use Rattle.steps.specs.StepTable as table
 use Rattle.steps.specs.Drafted.{row_of, rows_of, codes_in, progress_of, IsDraft, IsTied, GivesHypothesis, GivesAssertion}
 use Rattle.steps.specs.declared.draft.Draft.{Draft}
-use Rattle.steps.proofs.RowLemmas.{some-get}
 use Rattle.steps.proofs.PlacingLemmas.{found-draft, found-placed, found-tied, made-draft, made-placed, made-tied}
 
 top-map : {A B : Type 0} (f : A → B) (n : ℕ) (xs : List A) → top n (map f xs) ≡ map f (top n xs)
@@ -52,7 +52,7 @@ codes-named S at names rows (k ∷ ks) are b = (one rows k are b.0, codes-named 
     there (r ∷ rs) (suc k) h = there rs k (omega (arith, h))
 
     one : (rs : List Row) (k : ℕ) → AreRows S at names rs → k < length rs → AreBelow (length names) (get_or rs k no_row).expr
-    one rs k are h = let r = there rs k h in subst (λ x. AreBelow (length names) x.expr) (sym (some-get rs k r.0 no_row r.1)) ((are k r.0 r.1).named)
+    one rs k are h = let r = there rs k h in subst (λ x. AreBelow (length names) x.expr) (sym (get_or_from_slice_get rs k r.0 no_row r.1)) ((are k r.0 r.1).named)
 
 -- the citation is noted, and the results of the run are the expressions of the rows
 abbrev IsNoted : Database → ℕ → List Name → Draft → Name → Draft → State → Type 0

@@ -2,6 +2,7 @@
 use Rattle.std.specs.Prelude.{◌≡◌, ℕ, zero, suc, ◌-◌, ◌<◌, List, [], ◌∷◌, ◌++◌, length, map, get_or, slice_get, Option, Some, None, refl}
 use Rattle.std.proofs.Common.{sym, ◌∙◌, ap, subst, arith, length-append}
 use Rattle.std.proofs.lemmas.List.{length-map}
+use Rattle.std.proofs.lemmas.Option.{slice_get-get_or}
 use Rattle.mm_lex.specs.Alphabet.{Name}
 use Rattle.mm_read.specs.declared.stmt.Stmt.{Stmt}
 use Rattle.mm_read.specs.Statements.{Expr, Database}
@@ -13,7 +14,6 @@ use Rattle.frame.specs.declared.meaning.Meaning.TheVariants.{Nothing}
 use Rattle.proof_code.specs.declared.item.Item.TheVariants.{Recall, Mark}
 use Rattle.verify.specs.Machine.{State, Cites, of_hypothesis, of_assertion, with_result, with_mark}
 use Rattle.verify.proofs.Decide.{append_cut}
-use Rattle.verify.proofs.AskedLemmas.{get-some}
 use Rattle.verify.proofs.PlaceLemmas.{map-snoc, get-map}
 use Rattle.verify.proofs.PlanLemmas.{below-snoc}
 use Rattle.subst.proofs.NumbersApartLemmas.{below-at}
@@ -112,7 +112,7 @@ module _ (S : Database) (at : ℕ) (names : List Name) (d : Draft) (is : IsDraft
         let one : e ≡ f p = get-map f d.saved.items k e (ap (λ s. slice_get s k) tied.saved ∙ saved) p ∙ ap f (sym is_p) in (
           (
             p,
-            get-some d.saved.items k p there ∙ ap Some (sym is_p),
+            slice_get-get_or d.saved.items k p there ∙ ap Some (sym is_p),
             ap (λ r. let v : Progress = record { steps = steps_of r; stack = new.stack.items; saved = new.saved.items } in v) (same_rows new p same_placed same_symbols same_known)
                 ∙ (ap (λ s. let v : Progress = record { steps = steps_of (rows_of d); stack = s; saved = new.saved.items } in v) stack
                 ∙ ap (λ s. let v : Progress = record { steps = steps_of (rows_of d); stack = d.stack.items ++ p ∷ []; saved = s } in v) same_saved),

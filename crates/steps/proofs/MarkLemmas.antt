@@ -2,12 +2,12 @@
 use Rattle.std.specs.Prelude.{◌≡◌, ◌⊎◌, ℕ, zero, suc, ◌-◌, ◌<◌, ◌≤◌, Bool, true, false, List, [], ◌∷◌, ◌++◌, length, take, drop, replicate, get_or, slice_get, slice_set, Some, refl}
 use Rattle.std.proofs.Common.{sym, ◌∙◌, ap, subst, arith, append-nil, inl, inr}
 use Rattle.std.proofs.lemmas.List.{drop_all, take_all}
+use Rattle.std.proofs.lemmas.Option.{slice_get_within}
 use Rattle.mm_read.specs.Statements.{Database}
 use Rattle.frame.specs.Below.{AreBelow}
 use Rattle.steps.specs.StepTable.{Step}
 use Rattle.steps.specs.Essential.{essential_of, IsIn, IsEssential, is_last, is_taken}
 use Rattle.steps.specs.Marked.{HasMark, mark_last, mark_each, MarksMore, AreMarkedFrom, AreMarks}
-use Rattle.steps.proofs.RowLemmas.{some-low}
 use Rattle.steps.proofs.SoundLemmas.{below-some}
 
 pub from-or-at : (p j : ℕ) → p ≤ j → (j ≡ p) ⊎ (suc p ≤ j)
@@ -97,7 +97,7 @@ module _ (S : Database) (steps : List Step) where
     count = count;
     sound = λ k h. is_last (only k h);
     last = last;
-    closed = λ j k step from h at in_it. (let l = some-low steps j step at in absurd (omega (arith, l, from)));
+    closed = λ j k step from h at in_it. (let l = slice_get_within steps j step at in absurd (omega (arith, l, from)));
   }
 
   -- no steps

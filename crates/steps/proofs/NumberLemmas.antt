@@ -3,13 +3,13 @@ use Rattle.std.specs.Prelude.{◌≡◌, ◌⊎◌, ℕ, zero, suc, ◌+◌, ◌
 use Rattle.std.proofs.Common.{sym, ◌∙◌, ap, subst, arith, length-append, inl, inr}
 use Rattle.std.proofs.lemmas.List.{length-map}
 use Rattle.std.specs.List.Sorted.{IsStrictlyIncreasing}
+use Rattle.std.proofs.lemmas.Option.{slice_get-get_or, get_or_from_slice_get}
 use Rattle.mm_read.specs.Statements.{Database}
-use Rattle.verify.proofs.AskedLemmas.{get-some}
 use Rattle.verify.proofs.PlaceLemmas.{map-snoc}
 use Rattle.steps.specs.Rows.{Row, no_row, steps_of}
 use Rattle.steps.specs.Essential.{essential_of, IsEssential, is_taken, IsRenumbered, AreEssential}
 use Rattle.steps.specs.Marked.{HasMark, AreMarks, marked_before, number_of, AreNumbers, kept_row}
-use Rattle.steps.proofs.RowLemmas.{some-front, some-more, some-last, some-get, step-at}
+use Rattle.steps.proofs.RowLemmas.{some-front, some-more, some-last, step-at}
 use Rattle.steps.proofs.MarkLemmas.{from-or-at}
 
 either : (b : Bool) → (b ≡ true) ⊎ (b ≡ false)
@@ -95,8 +95,8 @@ module _ (marks : List Bool) where
           → get_or (marked_before marks i) n 0 < get_or (marked_before marks i) (n + 1) 0
       by n (inl l) within = l
       by n (inr l) within =
-          let a = has-number i n (get_or (marked_before marks i) n 0) (get-some (marked_before marks i) n 0 (omega (arith, within))) in
-          let b = has-number i (n + 1) (get_or (marked_before marks i) (n + 1) 0) (get-some (marked_before marks i) (n + 1) 0 within) in
+          let a = has-number i n (get_or (marked_before marks i) n 0) (slice_get-get_or (marked_before marks i) n 0 (omega (arith, within))) in
+          let b = has-number i (n + 1) (get_or (marked_before marks i) (n + 1) 0) (slice_get-get_or (marked_before marks i) (n + 1) 0 within) in
           let m = longer (get_or (marked_before marks i) (n + 1) 0) (get_or (marked_before marks i) n 0) l in
           let x = a.2 in
           let y = b.2 in
@@ -108,11 +108,11 @@ module _ (marks : List Bool) where
       each : (j : ℕ) → (j < k) ⊎ (k ≤ j) → suc j ≤ k + 1 → get_or (numbers ++ n ∷ []) j 0 ≡ number_of marks j
       each j (inl less) l =
           let c = are.count in
-          some-get (numbers ++ n ∷ []) j (get_or numbers j 0) 0 (some-more numbers n j (get_or numbers j 0) (get-some numbers j 0 (omega (arith, c, less)))) ∙ are.each j (omega (arith, less))
+          get_or_from_slice_get (numbers ++ n ∷ []) j (get_or numbers j 0) 0 (some-more numbers n j (get_or numbers j 0) (slice_get-get_or numbers j 0 (omega (arith, c, less)))) ∙ are.each j (omega (arith, less))
       each j (inr from) l =
           let c = are.count in
           let s : j ≡ length numbers = omega (arith, c, from, l) in
-          some-get (numbers ++ n ∷ []) j n 0 (ap (slice_get (numbers ++ n ∷ [])) s ∙ some-last numbers n) ∙ (e ∙ ap (number_of marks) (let r : k ≡ j = omega (arith, from, l) in r))
+          get_or_from_slice_get (numbers ++ n ∷ []) j n 0 (ap (slice_get (numbers ++ n ∷ [])) s ∙ some-last numbers n) ∙ (e ∙ ap (number_of marks) (let r : k ≡ j = omega (arith, from, l) in r))
 
 some-map : {A B : Type 0} (f : A → B) (xs : List A) (n : ℕ) (x : A) → slice_get xs n ≡ Some x → slice_get (map f xs) n ≡ Some (f x)
 some-map f [] n x h = cc
@@ -148,7 +148,7 @@ module _ (S : Database) (rows : List Row) (marks : List Bool) (are : AreMarks S 
       by (inr l) = let f = past marks k l in cc
 
   step-of : (k : ℕ) → k < length rows → slice_get (steps_of rows) k ≡ Some (get_or rows k no_row).step
-  step-of k l = step-at rows k (get_or rows k no_row) (get-some rows k no_row l)
+  step-of k l = step-at rows k (get_or rows k no_row) (slice_get-get_or rows k no_row l)
 
   numbered : (k : ℕ) → HasMark marks k → (i x : ℕ) → slice_get (essential_of S (get_or rows k no_row).step) i ≡ Some x → slice_get kept (number_of marks x) ≡ Some x
   numbered k h i x e =
@@ -171,7 +171,7 @@ module _ (S : Database) (rows : List Row) (marks : List Bool) (are : AreMarks S 
     exact = λ k. (λ h. (are.exact k).0 (has-number marks (length rows) h.0 k h.1).1, λ h. let m = (are.exact k).1 h in (number_of marks k, stands-at marks (length rows) k (within k m) m));
     count = ap length rows-are ∙ length-map kept (kept_row S rows marks);
     each = λ m k h. subst (IsRenumbered S kept (get_or rows k no_row))
-        (sym (ap (λ v. get_or v m no_row) rows-are ∙ some-get (map (kept_row S rows marks) kept) m (kept_row S rows marks k) no_row (some-map (kept_row S rows marks) kept m k h)))
+        (sym (ap (λ v. get_or v m no_row) rows-are ∙ get_or_from_slice_get (map (kept_row S rows marks) kept) m (kept_row S rows marks k) no_row (some-map (kept_row S rows marks) kept m k h)))
         (renumbered k (has-number marks (length rows) m k h).1);
   }
     where

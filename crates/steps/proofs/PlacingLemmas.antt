@@ -2,6 +2,7 @@
 use Rattle.std.specs.Prelude.{◌≡◌, ℕ, ◌+◌, ◌<◌, ◌≤◌, List, [], ◌∷◌, ◌++◌, length, map, slice_get, Some}
 use Rattle.std.proofs.Common.{sym, ◌∙◌, ap, subst, arith, length-append}
 use Rattle.std.proofs.lemmas.List.{length-map}
+use Rattle.std.proofs.lemmas.Option.{get_or_from_slice_get, slice_get_within}
 use Rattle.mm_lex.specs.Alphabet.{Name}
 use Rattle.mm_read.specs.Statements.{Expr, Database}
 use Rattle.names.specs.Codes.{decode}
@@ -16,7 +17,7 @@ use Rattle.steps.specs.Rows.{Row, no_row, steps_of, expr_in, Follows, AreRows}
 use Rattle.steps.specs.Drafted as drafted
 use Rattle.steps.specs.Drafted.{row_of, rows_of, codes_in, key_of, progress_of, IsDraft, IsTied, Finds, GivesHypothesis, GivesAssertion}
 use Rattle.steps.specs.declared.draft.Draft.{Draft}
-use Rattle.steps.proofs.RowLemmas.{rows-more, buffer-snoc, row-at, some-get, some-low, exprs-front, rows-snoc, known-snoc, weaken}
+use Rattle.steps.proofs.RowLemmas.{rows-more, buffer-snoc, row-at, exprs-front, rows-snoc, known-snoc, weaken}
 
 module _ (S : Database) (at : ℕ) (names : List Name) (legal : AreLegal S names) (d new : Draft) (is : IsDraft S at names d) where
   abbrev rows : List Row
@@ -39,7 +40,7 @@ module _ (S : Database) (at : ℕ) (names : List Name) (legal : AreLegal S names
     at_step = is.known.there step finds.place finds.found
 
     found_low : finds.place < length d.placed.items
-    found_low = let l = some-low (steps_of rows) finds.place step at_step in let m = length-map rows (λ r. r.step) in let n = count in omega (arith, l, m, n)
+    found_low = let l = slice_get_within (steps_of rows) finds.place step at_step in let m = length-map rows (λ r. r.step) in let n = count in omega (arith, l, m, n)
 
     pub found-draft : IsDraft S at names new
     found-draft =
@@ -57,7 +58,7 @@ module _ (S : Database) (at : ℕ) (names : List Name) (legal : AreLegal S names
     pub found-tied : (st : State) (b : List Expr) → IsTied names d st → map (expr_in names rows) rest ≡ b → IsTied names new (with_result st b f)
     found-tied st b tied front =
         let r = row-at rows finds.place step at_step in
-        let e : expr_in names rows finds.place ≡ f = ap (λ x. decode names x.expr) (some-get rows finds.place r.0 no_row r.1) ∙ gives r.0 r.2 ((is.rows finds.place r.0 r.1).follows) in
+        let e : expr_in names rows finds.place ≡ f = ap (λ x. decode names x.expr) (get_or_from_slice_get rows finds.place r.0 no_row r.1) ∙ gives r.0 r.2 ((is.rows finds.place r.0 r.1).follows) in
         record {
           stack = ap (λ x. map (expr_in names x) new.stack.items) same_rows ∙ (ap (map (expr_in names rows)) finds.stack ∙ (map-snoc (expr_in names rows) rest finds.place ∙ (ap (λ x. x ++ expr_in names rows finds.place ∷ []) front ∙ ap (λ x. b ++ x ∷ []) e)));
           saved = ap (λ x. map (expr_in names x) new.saved.items) same_rows ∙ (ap (map (expr_in names rows)) finds.saved ∙ tied.saved);

@@ -2,6 +2,7 @@
 use Rattle.std.specs.Prelude.{◌≡◌, ℕ, zero, suc, ◌+◌, ◌<◌, Bool, true, false, if◌then◌else◌, List, [], ◌∷◌, ◌++◌, length, drop, get_or, Some, refl}
 use Rattle.std.proofs.Common.{sym, ◌∙◌, ap, subst, arith, append_assoc}
 use Rattle.std.proofs.lemmas.List.{length-map}
+use Rattle.std.proofs.lemmas.Option.{slice_get-get_or}
 use Rattle.mm_lex.specs.Alphabet.{Name}
 use Rattle.mm_read.specs.declared.stmt.Stmt.{Stmt}
 use Rattle.mm_read.specs.declared.stmt.Stmt.TheVariants as stmt
@@ -13,7 +14,7 @@ use Rattle.frame.specs.Below.{AreBelow}
 use Rattle.frame.specs.Cited.{IsOf, AreAsked}
 use Rattle.frame.specs.FrameOf.{HasAssertion, hypotheses}
 use Rattle.frame.specs.Citations.{IsHypothesis}
-use Rattle.verify.proofs.AskedLemmas.{get-some, asked-lengths}
+use Rattle.verify.proofs.AskedLemmas.{asked-lengths}
 use Rattle.verify.proofs.Decide.{some_same, length-premises, not_both}
 use Rattle.steps.specs.Rows.{Row, no_row, expr_in, Follows, from_hypothesis, from_assertion, AreRows}
 use Rattle.steps.specs.Essential.{is_premise, for_premises, mandatory, essential_of}
@@ -126,9 +127,9 @@ module _ (S : Database) (at : ℕ) (names : List Name) (rows : List Row) (row : 
   never-nothing nothing = something nothing follows
 
 pub follows-at : (S : Database) (at : ℕ) (names : List Name) (rows : List Row) (k : ℕ) → AreRows S at names rows → k < length rows → Follows S at names rows (get_or rows k no_row)
-follows-at S at names rows k are l = (are k (get_or rows k no_row) (get-some rows k no_row l)).follows
+follows-at S at names rows k are l = (are k (get_or rows k no_row) (slice_get-get_or rows k no_row l)).follows
 
 pub premises-below : (S : Database) (at : ℕ) (names : List Name) (rows : List Row) (k : ℕ) → AreRows S at names rows → k < length rows → AreBelow k (essential_of S (get_or rows k no_row).step)
 premises-below S at names rows k are l =
     let step = (get_or rows k no_row).step in
-    premises-low S k (mandatory S step.position (stmt_at S step.position)) step.taken ((are k (get_or rows k no_row) (get-some rows k no_row l)).earlier)
+    premises-low S k (mandatory S step.position (stmt_at S step.position)) step.taken ((are k (get_or rows k no_row) (slice_get-get_or rows k no_row l)).earlier)

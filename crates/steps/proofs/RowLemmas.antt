@@ -1,11 +1,12 @@
 -- A row more: what stood before stands.
-use Rattle.std.specs.Prelude.{◌≡◌, ◌≢◌, ℕ, zero, suc, ◌<◌, ◌≤◌, ◌⊎◌, List, [], ◌∷◌, ◌++◌, length, map, get_or, slice_get, Some, None, refl}
+use Rattle.std.specs.Prelude.{◌≡◌, ◌≢◌, ℕ, zero, suc, ◌≤◌, ◌⊎◌, List, [], ◌∷◌, ◌++◌, length, map, slice_get, Some, None, refl}
 use Rattle.std.proofs.Common.{sym, ◌∙◌, ap, subst, arith, inl, inr, true≢false, true, false, Bool}
 use Rattle.std.specs.BTreeMap.{BTreeMap}
 use Rattle.std.specs.Str.{bytes_eq}
 use Rattle.std.specs.declared.vec.Vec.{Vec}
 use Rattle.std.specs.declared.alloc.Global.{Global}
 use Rattle.std.proofs.lemmas.Slice.Eq.{bytes_eq-Decides}
+use Rattle.std.proofs.lemmas.Option.{slice_get_within}
 use Rattle.mm_lex.specs.Alphabet.{Name}
 use Rattle.mm_read.specs.Statements.{Database}
 use Rattle.names.specs.Codes.{decode}
@@ -65,16 +66,6 @@ pub some-last : {A : Type 0} (xs : List A) (x : A) → slice_get (xs ++ x ∷ []
 some-last [] x = refl
 some-last (z ∷ xs) x = some-last xs x
 
-pub some-low : {A : Type 0} (xs : List A) (k : ℕ) (y : A) → slice_get xs k ≡ Some y → k < length xs
-some-low [] k y h = cc
-some-low (z ∷ xs) zero y h = omega arith
-some-low (z ∷ xs) (suc k) y h = let r = some-low xs k y h in omega (arith, r)
-
-pub some-get : {A : Type 0} (xs : List A) (k : ℕ) (y d : A) → slice_get xs k ≡ Some y → get_or xs k d ≡ y
-some-get [] k y d h = cc
-some-get (z ∷ xs) zero y d h = cc
-some-get (z ∷ xs) (suc k) y d h = some-get xs k y d h
-
 -- the row of a step
 pub row-at : (rows : List Row) (k : ℕ) (step : Step) → slice_get (steps_of rows) k ≡ Some step → (row : Row) × (slice_get rows k ≡ Some row) × (row.step ≡ step)
 row-at [] k step h = cc
@@ -107,7 +98,7 @@ module _ (S : Database) (at : ℕ) (names : List Name) where
       by : (k : ℕ) (r : Row) → (slice_get rows k ≡ Some r) ⊎ ((k ≡ length rows) × (r ≡ row)) → IsRow S at names (rows ++ row ∷ []) k r
       by k r (inl e) =
           let is = are k r e in
-          let l = some-low rows k r e in
+          let l = slice_get_within rows k r e in
           record { earlier = is.earlier; follows = follows-more rows row r (weaken k (length rows) r.step.taken (omega (arith, l)) is.earlier) is.follows; named = is.named }
       by k r (inr (e, same)) =
           subst (λ x. IsRow S at names (rows ++ row ∷ []) k x) (sym same)

@@ -1,6 +1,7 @@
 -- What holds of the steps of items, whatever the items are.
 use Rattle.std.specs.Prelude.{◌≡◌, ℕ, zero, suc, ◌-◌, ◌<◌, ◌⊎◌, List, [], ◌∷◌, ◌++◌, length, slice_get, Some, refl}
 use Rattle.std.proofs.Common.{sym, ◌∙◌, ap, subst, arith, length-append, inl, inr}
+use Rattle.std.proofs.lemmas.Option.{slice_get_within}
 use Rattle.mm_lex.specs.Alphabet.{Name}
 use Rattle.mm_read.specs.Statements.{Database}
 use Rattle.frame.specs.Below.{AreBelow}
@@ -8,7 +9,7 @@ use Rattle.proof_code.specs.declared.item.Item.{Item}
 use Rattle.proof_code.specs.declared.item.Item.TheVariants.{Cite, Recall, Mark}
 use Rattle.verify.proofs.PlanLemmas.{below-snoc}
 use Rattle.steps.specs.StepTable.{Step, Progress, progress, IsPlaced, stands, comes_last, Makes, of_hypothesis, of_assertion, Notes, NotesAll, AreSteps}
-use Rattle.steps.proofs.RowLemmas.{some-front, some-more, some-last, some-low, weaken}
+use Rattle.steps.proofs.RowLemmas.{some-front, some-more, some-last, weaken}
 
 pub record IsSound (p : Progress) : Type 0 where
   pub stack_below : AreBelow (length p.steps) p.stack
@@ -38,7 +39,7 @@ module _ (p q : Progress) (is : IsSound p) (below : List ℕ) (step : Step) (n :
     (waits : (k x : ℕ) → slice_get p.stack k ≡ Some x → (slice_get below k ≡ Some x) ⊎ ((j : ℕ) × (slice_get step.taken j ≡ Some x))) (stack : q.stack ≡ below ++ n ∷ []) (saved : q.saved ≡ p.saved) where
   stood : slice_get p.steps n ≡ Some step → q.steps ≡ p.steps → IsSound q
   stood h same = record {
-    stack_below = subst (λ s. AreBelow (length s) q.stack) (sym same) (subst (AreBelow (length p.steps)) (sym stack) (below-snoc (length p.steps) below n low (some-low p.steps n step h)));
+    stack_below = subst (λ s. AreBelow (length s) q.stack) (sym same) (subst (AreBelow (length p.steps)) (sym stack) (below-snoc (length p.steps) below n low (slice_get_within p.steps n step h)));
     saved_below = subst (λ s. AreBelow (length s) q.saved) (sym same) (subst (AreBelow (length p.steps)) (sym saved) is.saved_below);
     ordered = λ k s e. is.ordered k s (ap (λ v. slice_get v k) (sym same) ∙ e);
     once = λ j k s e f. is.once j k s (ap (λ v. slice_get v j) (sym same) ∙ e) (ap (λ v. slice_get v k) (sym same) ∙ f);
@@ -52,7 +53,7 @@ module _ (p q : Progress) (is : IsSound p) (below : List ℕ) (step : Step) (n :
           by (inl b) = ((is.last m e).0, ap (λ v. slice_get v (is.last m e).0) stack ∙ some-more below n (is.last m e).0 m b)
           by (inr t) =
               let x = below-some n step.taken t.0 m (is.ordered n step h) t.1 in
-              let y = some-low p.steps n step h in
+              let y = slice_get_within p.steps n step h in
               absurd (omega (arith, x, y, e))
 
   added : ((k : ℕ) → slice_get p.steps k ≡ Some step → ⊥) → n ≡ length p.steps → q.steps ≡ p.steps ++ step ∷ [] → IsSound q

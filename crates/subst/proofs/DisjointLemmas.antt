@@ -2,7 +2,7 @@
 use Rattle.std.specs.Prelude.{◌≡◌, Bool, true, false, not, ◌&&◌, ◌||◌, List, [], ◌∷◌, refl}
 use Rattle.std.specs.List.{list_all, list_any}
 use Rattle.std.proofs.Common.{sym, ◌∙◌, ap, true≢false}
-use Rattle.std.proofs.lemmas.Bool.{and_parts, and_from}
+use Rattle.std.proofs.lemmas.Bool.{and_parts, and_from, not-true, or_left, or_right}
 use Rattle.mm_lex.specs.Alphabet.{Name, name_eq, has_name}
 use Rattle.mm_read.specs.Statements.{Expr, Database}
 use Rattle.scope.specs.Active.{is_variable}
@@ -11,7 +11,7 @@ use Rattle.scope.proofs.MarkLemmas.{all-has}
 use Rattle.frame.specs.FrameOf.{groups, is_pair, together}
 use Rattle.frame.specs.Substitution.{Images, image}
 use Rattle.frame.specs.Disjoint.{are_apart, is_group_apart, are_groups_apart}
-use Rattle.frame.proofs.ApartLemmas.{or_left, or_right, all-from, pair_at, apart-from}
+use Rattle.frame.proofs.ApartLemmas.{all-from, pair_at, apart-from}
 use Rattle.subst.specs.Laws.{PairClause, KeepApart}
 use Rattle.subst.specs.Images.{is_image_apart}
 
@@ -112,10 +112,6 @@ pub pair_clause : PairClause
 pair_clause S σ lists = (
   λ h x y t.
       let p = and_parts (not (name_eq x y)) (list_any (λ names. has_name x names && has_name y names) lists) t in
-      apart-keeps S (image σ x) (image σ y) (group-apart S σ lists x y h p.1 (not_true (name_eq x y) p.0)),
+      apart-keeps S (image σ x) (image σ y) (group-apart S σ lists x y h p.1 (not-true (name_eq x y) p.0)),
   λ k. groups-from S σ lists (λ x y t. keeps-apart S (image σ x) (image σ y) (k x y t)),
 )
-  where
-    not_true : (b : Bool) → not b ≡ true → b ≡ false
-    not_true true h = cc
-    not_true false h = refl

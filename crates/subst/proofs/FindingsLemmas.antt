@@ -1,11 +1,11 @@
 -- What was found of the symbols of a proof, and how more of it is noted.
-use Rattle.std.specs.Prelude.{◌≡◌, ℕ, zero, suc, ◌+◌, ◌*◌, ◌%◌, ◌^◌, ◌<◌, ◌≤◌, ◌⊎◌, min, Bool, true, false, not, ◌||◌, ◌&&◌, List, [], ◌∷◌, length, map, take, get_or, slice_set, refl}
+use Rattle.std.specs.Prelude.{◌≡◌, ℕ, suc, ◌+◌, ◌*◌, ◌%◌, ◌^◌, ◌<◌, ◌≤◌, ◌⊎◌, min, Bool, true, false, not, ◌||◌, ◌&&◌, List, [], ◌∷◌, length, map, take, get_or, slice_set, refl}
 use Rattle.std.specs.Int.{bit_at}
 use Rattle.std.specs.List.{list_all}
 use Rattle.std.proofs.Common.{sym, ◌∙◌, ap, subst, arith, inl, inr, bit_and, bit_or, w64}
 use Rattle.std.proofs.lemmas.Bool.{cases_eq, and_from}
 use Rattle.std.proofs.lemmas.Nat.Bits.{bit_at_and, bit_at_set_same, bit_at_set_other, bit_at-zero, bit_at-lt}
-use Rattle.std.proofs.lemmas.List.{get_or-set_same, get_or-set_other, length-set}
+use Rattle.std.proofs.lemmas.List.{get_or-set_same, get_or-set_other, length-set, get_or_default}
 use Rattle.std.proofs.lemmas.List.Folds.{list_all-map}
 use Rattle.scope.specs.Active.{is_variable}
 use Rattle.names.specs.Codes.{name_at, decode}
@@ -15,11 +15,6 @@ use Rattle.frame.specs.Parts.{Numbered}
 use Rattle.frame.proofs.ApartLemmas.{pair_constant, pair_variable}
 use Rattle.subst.specs.declared.findings.Variable.{Variable}
 use Rattle.subst.specs.Findings.{Found, variable_at, no_variable, IsKnown, IsAt, Grows, IsNoted, AreNoted}
-
-pub get-default : {A : Type 0} (xs : List A) (k : ℕ) (d e : A) → k < length xs → get_or xs k d ≡ get_or xs k e
-get-default [] k d e h = absurd (omega (arith, h))
-get-default (x ∷ xs) zero d e h = refl
-get-default (x ∷ xs) (suc k) d e h = get-default xs k d e (omega (arith, h))
 
 pub grows-own : (f : Found) → Grows f f
 grows-own f = record { each = λ j x at. at }
@@ -183,7 +178,7 @@ known-put v f i j x y apart variables constants same known first second pair row
     (known-set v f i j x y known first second pair))
 
 pub row-read : (f : Found) (variables : List Variable) (constants : List ℕ) (i : ℕ) (r d : Variable) → record { variables = variables; constants = constants } ≡ f → i < length f.variables → r ≡ get_or variables i d → r ≡ variable_at f i
-row-read f variables constants i r d same h e = e ∙ (get-default variables i d no_variable there ∙ ap (λ (g : Found). variable_at g i) same)
+row-read f variables constants i r d same h e = e ∙ (get_or_default variables i d no_variable there ∙ ap (λ (g : Found). variable_at g i) same)
   where
     there : i < length variables
     there = let n = ap (λ (g : Found). length g.variables) same in omega (arith, n, h)

@@ -2,7 +2,7 @@
 use Rattle.std.specs.Prelude.{◌≡◌, ℕ, zero, suc, ◌+◌, ◌<◌, Bool, true, false, not, ◌||◌, ◌&&◌, ◌==◌, List, [], ◌∷◌, length, map, take, drop, get_or, slice_get, Some, refl}
 use Rattle.std.specs.List.{list_all, list_any, position_or_len}
 use Rattle.std.proofs.Common.{sym, ◌∙◌, ap, subst, arith}
-use Rattle.std.proofs.lemmas.Bool.{lt-ltb}
+use Rattle.std.proofs.lemmas.Bool.{lt-ltb, and_from}
 use Rattle.std.proofs.lemmas.List.Folds.{list_all-map, list_all_at, list_all_more}
 use Rattle.std.proofs.lemmas.Option.{get_or_from_slice_get, slice_get_within}
 use Rattle.std.proofs.lemmas.Slice.Eq.{bytes_eq-Decides}
@@ -42,11 +42,7 @@ group-stops p groups i g h e =
 
 pub group-goes_on : (p : List ℕ → Bool) (groups : List (List ℕ)) (i : ℕ) (g : List ℕ) → slice_get groups i ≡ Some g → list_all p (take i groups) ≡ true → p g ≡ true → list_all p (take (i + 1) groups) ≡ true
 group-goes_on p groups i g h before here =
-    list_all_more p groups i [] (slice_get_within groups i g h) ∙ both _ _ before (ap p (get_or_from_slice_get groups i g [] h) ∙ here)
-  where
-    both : (a b : Bool) → a ≡ true → b ≡ true → (a && b) ≡ true
-    both true b h e = e
-    both false b h e = cc
+    list_all_more p groups i [] (slice_get_within groups i g h) ∙ and_from _ _ before (ap p (get_or_from_slice_get groups i g [] h) ∙ here)
 
 pub differ : (k l : ℕ) → (k ≡ l → ⊥) → (k == l) ≡ false
 differ k l ne = grind (arith, ne)

@@ -2,7 +2,7 @@
 use Rattle.std.specs.Prelude.{◌≡◌, ℕ, zero, suc, Bool, true, false, cond, not, nat_lt, ◌||◌, ◌+◌, List, [], ◌∷◌, ◌++◌, length, Some, None, refl}
 use Rattle.std.specs.List.{list_all, position_or_len}
 use Rattle.std.proofs.Common.{sym, ◌∙◌, ap, arith}
-use Rattle.std.proofs.lemmas.Bool.{and_parts, ltb-true, lt-ltb}
+use Rattle.std.proofs.lemmas.Bool.{and_parts, ltb-true, lt-ltb, or_parts}
 use Rattle.mm_lex.specs.Alphabet.{Name, name_eq, has_name}
 use Rattle.names.specs.Codes.{name_at, decode, code_of, AreDistinct}
 use Rattle.names.proofs.CodesLemmas.{name_same, name_eq-comm}
@@ -10,18 +10,14 @@ use Rattle.frame.specs.Substitution.{CodeImages, code_image, code_apply, image, 
 use Rattle.names.proofs.CodesLemmas.{found-number, unknown-number}
 use Rattle.subst.specs.Laws.{SubstitutionOverNames}
 
-or_false : (a b : Bool) → (a || b) ≡ false → (a ≡ false) × (b ≡ false)
-or_false true b h = cc
-or_false false b h = (refl, h)
-
 tail_lt : (n m : ℕ) → nat_lt (suc n) (suc m) ≡ true → nat_lt n m ≡ true
 tail_lt n m h = lt-ltb n m (omega (arith, ltb-true (suc n) (suc m) h))
 
 -- a name that does not stand among the names is not the one at a place
 not_at : (x : Name) (names : List Name) (n : ℕ) → has_name x names ≡ false → nat_lt n (length names) ≡ true → name_eq x (name_at names n) ≡ false
 not_at x [] n h k = absurd (omega (arith, ltb-true n 0 k))
-not_at x (y ∷ names) zero h k = (or_false (name_eq x y) (has_name x names) h).0
-not_at x (y ∷ names) (suc n) h k = not_at x names n (or_false (name_eq x y) (has_name x names) h).1 (tail_lt n (length names) k)
+not_at x (y ∷ names) zero h k = (or_parts (name_eq x y) (has_name x names) h).0
+not_at x (y ∷ names) (suc n) h k = not_at x names n (or_parts (name_eq x y) (has_name x names) h).1 (tail_lt n (length names) k)
 
 pub decode-append : (names : List Name) (a b : List ℕ) → decode names (a ++ b) ≡ decode names a ++ decode names b
 decode-append names [] b = refl

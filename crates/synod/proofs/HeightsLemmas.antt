@@ -1,6 +1,6 @@
 -- The highest report of a slot, the reports being gone through from the first on, and one above the greatest slot.
 use Rattle.std.proofs.Common.{◌≡◌, ◌≢◌, ℕ, zero, suc, ◌+◌, ◌-◌, ◌<◌, ◌≤◌, max, min, Bool, true, false, ◌==◌, List, [], ◌∷◌, ◌++◌, length, take, drop, drop-cons, add-one, Option, Some, None, refl, ap, sym, ◌∙◌, subst, arith, if◌then◌else◌, append_assoc, append-nil, get_or, set, length-set, slice_index_or, eqb-true, le_of_suc-le-suc, ◌⊎◌, inl, inr, drop_of_length-le, length-take-le}
-use Rattle.std.proofs.lemmas.List.{get_or-set_same, get_or-set_other}
+use Rattle.std.proofs.lemmas.List.{get_or-set_same, get_or-set_other, get_or_default}
 use Rattle.std.proofs.lemmas.Bool.Decides.{nat_tests}
 use Rattle.std.specs.List.{AllByRecursion}
 use Rattle.std.specs.Borrow.{Bor}
@@ -100,13 +100,8 @@ module _ {V : Type 0} (first : ℕ) (table : List (Option (Bor (SlotReport V))))
 
 -- What the table has at a place.
 
-get_or-default : {A : Type 0} (xs : List A) (i : ℕ) (d e : A) → i < length xs → get_or xs i d ≡ get_or xs i e
-get_or-default [] i d e low = absurd (omega arith)
-get_or-default (x ∷ xs) zero d e low = refl
-get_or-default (x ∷ xs) (suc i) d e low = get_or-default xs i d e (le_of_suc-le-suc low)
-
 pub table_at : {V : Type 0} (table : List (Option (Bor (SlotReport V)))) (place : ℕ) (item : Option (Bor (SlotReport V))) → place < length table → item ≡ get_or table place item → slice_index_or table place None ≡ item
-table_at table place item low is = get_or-default table place None item low ∙ sym is
+table_at table place item low is = get_or_default table place None item low ∙ sym is
 
 pub joined-under : {V : Type 0} (q r : SlotReport V) → is_under q.ballot r.ballot ≡ true → joined_with (Some q) r ≡ Some r
 joined-under {V} q r e = ap (λ (t : Bool). let o : Option (SlotReport V) = if t then Some r else Some q in o) e

@@ -1,5 +1,5 @@
 -- The log read from the slots below the first gap.
-use Rattle.std.proofs.Common.{◌≡◌, ◌∙◌, ℕ, zero, suc, ◌+◌, ◌<◌, ◌≤◌, List, [], ◌∷◌, ◌++◌, length, take, Option, Some, None, refl, ap, sym, arith, add-one, le_of_suc-le-suc}
+use Rattle.std.proofs.Common.{◌≡◌, ◌∙◌, ℕ, zero, suc, ◌+◌, ◌<◌, List, [], ◌∷◌, ◌++◌, take, Option, Some, None, refl, ap, sym, arith, add-one, le_of_suc-le-suc}
 use Rattle.std.specs.List.{slice_get}
 use Rattle.slots.specs.FiniteMap.{entry_at, entries_to_gap, front_of}
 
@@ -8,11 +8,6 @@ gap_entry [] s h = absurd (omega arith)
 gap_entry (None ∷ xs) s h = absurd (omega arith)
 gap_entry (Some x ∷ xs) zero h = refl
 gap_entry (Some x ∷ xs) (suc s) h = gap_entry xs s (le_of_suc-le-suc h)
-
-pub get_past : {T : Type 0} (xs : List T) (s : ℕ) → length xs ≤ s → slice_get xs s ≡ None
-get_past [] s h = refl
-get_past (x ∷ xs) zero h = absurd (omega arith)
-get_past (x ∷ xs) (suc s) h = get_past xs s (le_of_suc-le-suc h)
 
 take_next : {T : Type 0} (xs : List T) (i : ℕ) (x : T) → slice_get xs i ≡ Some x → take (suc i) xs ≡ take i xs ++ x ∷ []
 take_next [] i x h = cc

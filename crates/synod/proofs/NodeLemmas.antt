@@ -1,9 +1,9 @@
 -- What a node keeps, told of what contracts see of it.
-use Rattle.std.proofs.Common.{◌≡◌, ℕ, ◌^◌, ◌<◌, nat_lt, Bool, true, List, length, Result, Ok, Err, refl, subst, sym, ap, arith, if◌then◌else◌}
-use Rattle.std.proofs.lemmas.Bool.Decides.{nat_tests}
+use Rattle.std.proofs.Common.{◌≡◌, ℕ, ◌^◌, ◌<◌, Bool, List, length, Result, Ok, Err, refl, subst, sym, ap, if◌then◌else◌}
 use Rattle.std.specs.List.{AllByRecursion}
 use Rattle.std.specs.Result.{IfOk}
 use Rattle.std.specs.declared.alloc.AllocError.{AllocError}
+use Rattle.std.proofs.lemmas.Bool.{lt-ltb}
 use Rattle.synod.specs.declared.refusal.Refusal.{Refusal}
 use Rattle.synod.specs.declared.refusal.Refusal.TheVariants.{RoundsSpent, Memory}
 use Rattle.synod.specs.Packets.{IsPost, to_others}
@@ -20,13 +20,10 @@ use Rattle.synod.proofs.NodeKeeps.{KeepsOnOk, keeps_begun, keeps_reloaded}
 pub node_of_parts : {V : Type 0} (me : ℕ) (weights : List ℕ) (r : RecordView V) (p : ProposerView V) (l : LearnerView V) (core : Core V) → core_of me weights r p l ≡ core → IsNode (assembled me weights r.kept p.state l.state) → IsNode core.node
 node_of_parts {V} me weights r p l core is node = subst (λ (c : Core V). IsNode c.node) is node
 
-below : (a b : ℕ) → a < b → nat_lt a b ≡ true
-below a b h = grind (arith, nat_tests)
-
 pub begins_keeps : {V : Type 0} (n : Node V) → IsNode n → next_round n < 2 ^ 64 → Keeps (length n.weights) (begins n)
 begins_keeps {V} n is low =
     let P : Result (Stepped V) Refusal → Type 0 = λ r. KeepsOnOk (length n.weights) r in
-    let e : begun n ≡ Ok (begins n) = ap (λ (b : Bool). if b then Ok (begins n) else Err RoundsSpent) (below (next_round n) (2 ^ 64) low) in
+    let e : begun n ≡ Ok (begins n) = ap (λ (b : Bool). if b then Ok (begins n) else Err RoundsSpent) (lt-ltb (next_round n) (2 ^ 64) low) in
     subst P e (keeps_begun n is)
 
 -- the posts of a step that is made

@@ -2,6 +2,7 @@
 use Rattle.std.specs.Prelude.{◌≡◌, ℕ, zero, suc, ◌<◌, Bool, true, false, nat_eq, List, [], ◌∷◌, length, get_or, slice_get, Some, ◌⊎◌, refl}
 use Rattle.std.proofs.Common.{sym, ◌∙◌, ap, subst, arith, inl, inr}
 use Rattle.std.proofs.lemmas.Bool.Decides.{nat_tests}
+use Rattle.std.proofs.lemmas.Option.{slice_get_within}
 use Rattle.mm_lex.specs.Alphabet.{Name}
 use Rattle.mm_read.specs.declared.stmt.Stmt.{Stmt}
 use Rattle.mm_read.specs.declared.stmt.Stmt.TheVariants as stmt
@@ -17,21 +18,6 @@ use Rattle.verify.specs.Fits.{AreDifferent, IsStanding, AreStanding}
 use Rattle.verify.proofs.Decide.{some_same}
 
 -- ---- lists
-
-pub get-some : {A : Type 0} (xs : List A) (k : ℕ) (d : A) → k < length xs → slice_get xs k ≡ Some (get_or xs k d)
-get-some [] k d h = absurd (omega (arith, h))
-get-some (x ∷ xs) zero d h = refl
-get-some (x ∷ xs) (suc k) d h = get-some xs k d (omega (arith, h))
-
-pub some-get : {A : Type 0} (xs : List A) (k : ℕ) (x d : A) → slice_get xs k ≡ Some x → get_or xs k d ≡ x
-some-get [] k x d h = cc
-some-get (y ∷ xs) zero x d h = cc
-some-get (y ∷ xs) (suc k) x d h = some-get xs k x d h
-
-pub some-within : {A : Type 0} (xs : List A) (k : ℕ) (x : A) → slice_get xs k ≡ Some x → k < length xs
-some-within [] k x h = cc
-some-within (y ∷ xs) zero x h = omega arith
-some-within (y ∷ xs) (suc k) x h = let r = some-within xs k x h in omega (arith, r)
 
 pub lists-same : {A : Type 0} (xs ys : List A) (d : A) → length xs ≡ length ys → ((k : ℕ) → k < length xs → get_or xs k d ≡ get_or ys k d) → xs ≡ ys
 lists-same [] [] d l h = refl
@@ -151,8 +137,8 @@ module _ (S : Database) (names : List Name) where
       one : (j k x : ℕ) → slice_get hs j ≡ Some (Float x) → slice_get hs k ≡ Some (Float x) → j ≡ k
       one j k x p q =
           let lens = asked-lengths (hypotheses (before S a) s) heads hs asked in
-          let jn = some-within hs j (Float x) p in
-          let kn = some-within hs k (Float x) q in
+          let jn = slice_get_within hs j (Float x) p in
+          let kn = slice_get_within hs k (Float x) q in
           let ja = asked-at (hypotheses (before S a) s) heads hs j asked (let l = lens.1 in omega (arith, jn, l)) in
           let ka = asked-at (hypotheses (before S a) s) heads hs k asked (let l = lens.1 in omega (arith, kn, l)) in
           let f = float-at ja.position ja.head x (subst (IsAsked S names ja.position ja.head) (some_same ja.kind p) ja.asked) in

@@ -4,6 +4,7 @@ use Rattle.std.specs.Prelude.{◌≡◌, ℕ, zero, suc, ◌<◌, Bool, true, fa
 use Rattle.std.proofs.Common.{sym, ◌∙◌, ap, subst, arith, inl, inr, true≢false, append-nil}
 use Rattle.std.proofs.lemmas.Bool.{lt-ltb}
 use Rattle.std.proofs.lemmas.List.{length-map}
+use Rattle.std.proofs.lemmas.Option.{get_or_from_slice_get, slice_get_within}
 use Rattle.mm_lex.specs.Alphabet.{Name}
 use Rattle.mm_read.specs.declared.stmt.Stmt.{Stmt}
 use Rattle.mm_read.specs.declared.stmt.Stmt.TheVariants as stmt
@@ -25,7 +26,7 @@ use Rattle.frame.specs.Cited.{head_of, IsHead, IsAsked, AreAsked}
 use Rattle.verify.specs.Fits.{IsTyped, AreRead, FitsOne, DoFit}
 use Rattle.verify.proofs.Decide.{some_same}
 use Rattle.verify.proofs.Named.{name_at-injective, all-at}
-use Rattle.verify.proofs.AskedLemmas.{At, asked-lengths, asked-at, float-at, essential-at, float-number, float-find, some-get, some-within, lists-same}
+use Rattle.verify.proofs.AskedLemmas.{At, asked-lengths, asked-at, float-at, essential-at, float-number, float-find, lists-same}
 use Rattle.verify.proofs.ImageLemmas.{apply-members, groups-members, only, only-all, image-only, image-fixed}
 
 -- ---- lists of numbers and of names
@@ -64,7 +65,7 @@ module _ (S : Database) (names : List Name) (a : ℕ) (s : Stmt) (distinct : Are
   at k h = asked-at S names ps heads hs k asked (let l = lens.1 in omega (arith, h, l, count))
 
   within : (k : ℕ) (h : Hypothesis) → slice_get hs k ≡ Some h → k < length rs
-  within k h e = let r = some-within hs k h e in omega (arith, r, count)
+  within k h e = let r = slice_get_within hs k h e in omega (arith, r, count)
 
   -- the expression at a position where a statement stands
   expr-stands : (p : ℕ) (r : Stmt) → stmt_at S p ≡ Some r → expr_at S p ≡ expr_of r
@@ -143,7 +144,7 @@ module _ (S : Database) (names : List Name) (a : ℕ) (s : Stmt) (distinct : Are
               let f = float-at S names d.position d.head x asked in
               let fixed : V f.constant ≡ false = bound.first k d.position (stmt.Float f.label f.constant f.variable) d.listed f.stands in
               let typed = read.typed k x kind in
-              let head : head_of (get_or rs k []) ≡ d.head = typed.first ∙ some-get heads k d.head 0 d.first in
+              let head : head_of (get_or rs k []) ≡ d.head = typed.first ∙ get_or_from_slice_get heads k d.head 0 d.first in
               ap (applied τ) (expr-stands d.position (stmt.Float f.label f.constant f.variable) f.stands)
               ∙ (apply-τ (f.constant ∷ f.variable ∷ [])
               ∙ (ap (λ e. e ++ (image N f.variable ++ [])) (image-constant f.constant fixed)
@@ -202,7 +203,7 @@ module _ (S : Database) (names : List Name) (a : ℕ) (s : Stmt) (distinct : Are
     pub premise-typed : (k x : ℕ) → slice_get hs k ≡ Some (Float x) → IsTyped (get_or heads k 0) (get_or rs k [])
     premise-typed k x kind =
         let d = at k (within k (Float x) kind) in
-        record { some = some-length (get_or rs k []) (premise-some k x kind); first = one-head k d ∙ sym (some-get heads k d.head 0 d.first) }
+        record { some = some-length (get_or rs k []) (premise-some k x kind); first = one-head k d ∙ sym (get_or_from_slice_get heads k d.head 0 d.first) }
       where
         some-length : (e : List ℕ) → (e ≡ [] → ⊥) → 0 < length e
         some-length [] none = absurd (none refl)
@@ -223,7 +224,7 @@ module _ (S : Database) (names : List Name) (a : ℕ) (s : Stmt) (distinct : Are
         where
           float : HasFloat S ps y → image (images_of_names names ρ) y ≡ image σ y
           float f =
-              let d = at f.place (let l = lens.1 in let m = some-within ps f.place f.position f.listed in omega (arith, l, m, count)) in
+              let d = at f.place (let l = lens.1 in let m = slice_get_within ps f.place f.position f.listed in omega (arith, l, m, count)) in
               let same : d.position ≡ f.position = some_same d.listed f.listed in
               let x = float-number S names d.position d.head d.hypothesis f.label f.constant y d.asked (ap (stmt_at S) same ∙ f.stands) in
               float-agrees f.place x.0 y (d.kind ∙ ap Some x.1) x.2 x.3

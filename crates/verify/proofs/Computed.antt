@@ -1,8 +1,9 @@
 -- Derivations and proofs found by computation, each with the proof that it is one.
 use Rattle.std.specs.Prelude.{◌≡◌, ℕ, zero, suc, ◌+◌, ◌<◌, ◌≤◌, Bool, true, false, nat_lt, nat_le, List, [], ◌∷◌, ◌++◌, length, Option, Some, None, slice_get, refl, is_some}
 use Rattle.std.specs.List.{list_all}
-use Rattle.std.proofs.Common.{sym, ◌∙◌, ap, subst, arith, append_assoc, append-nil, add_assoc, true≢false}
+use Rattle.std.proofs.Common.{sym, ◌∙◌, ap, subst, append_assoc, append-nil, add_assoc, true≢false}
 use Rattle.std.proofs.lemmas.Slice.Eq.{bytes_eq-Decides}
+use Rattle.std.proofs.lemmas.Bool.{ltb-true, leb-true}
 use Rattle.mm_lex.specs.Alphabet.{Name, name_eq}
 use Rattle.mm_read.specs.declared.stmt.Stmt.{Stmt}
 use Rattle.mm_read.specs.declared.stmt.Stmt.TheVariants.{Float}
@@ -33,17 +34,11 @@ abbrev pub look : {A : Type 0} → (o : Option A) → Option ((x : A) × (o ≡ 
 look None = None
 look (Some x) = Some (x, refl)
 
-pub lt_from : (m n : ℕ) → nat_lt m n ≡ true → m < n
-lt_from m n h = grind (arith, h)
-
-pub le_from : (m n : ℕ) → nat_le m n ≡ true → m ≤ n
-le_from m n h = grind (arith, h)
-
 abbrev pub below : (m n : ℕ) → Option (m < n)
-below m n = bind (test (nat_lt m n)) (λ h. Some (lt_from m n h))
+below m n = bind (test (nat_lt m n)) (λ h. Some (ltb-true m n h))
 
 abbrev pub at_most : (m n : ℕ) → Option (m ≤ n)
-at_most m n = bind (test (nat_le m n)) (λ h. Some (le_from m n h))
+at_most m n = bind (test (nat_le m n)) (λ h. Some (leb-true m n h))
 
 abbrev pub same_name : (x y : Name) → Option (x ≡ y)
 same_name x y = bind (test (name_eq x y)) (λ h. Some ((bytes_eq-Decides x y).0 h))

@@ -1,6 +1,7 @@
 -- What the code knows at each exit of an item, as a fact of the machine over derivations.
-use Rattle.std.specs.Prelude.{◌≡◌, ℕ, suc, ◌-◌, ◌<◌, ◌≤◌, Bool, true, false, cond, nat_lt, List, [], ◌∷◌, ◌++◌, length, map, get_or, Result, Ok, Err, IfOk, refl}
+use Rattle.std.specs.Prelude.{◌≡◌, ℕ, suc, ◌-◌, ◌<◌, ◌≤◌, Bool, true, false, cond, List, [], ◌∷◌, ◌++◌, length, map, get_or, Result, Ok, Err, IfOk, refl}
 use Rattle.std.proofs.Common.{sym, ◌∙◌, ap, subst, arith, length-append}
+use Rattle.std.proofs.lemmas.Bool.{lt-ltb, le-ltb}
 use Rattle.mm_lex.specs.Alphabet.{Name}
 use Rattle.mm_read.specs.declared.stmt.Stmt.{Stmt}
 use Rattle.mm_read.specs.Statements.{Database}
@@ -21,16 +22,10 @@ use Rattle.verify.specs.Right.{IsRight, Derives}
 use Rattle.verify.proofs.Unique.{apart_kinds, grows_append, grows_same, grows_by_same, yields}
 
 pub item-cite : (labels : List Name) (n k : ℕ) → n ≡ suc k → k < length labels → item_of labels n ≡ Cite (get_or labels k [])
-item-cite labels n k e h = ap (item_of labels) e ∙ ap (λ b. cond b (Cite (get_or labels k [])) (Recall (suc (k - length labels)))) (lt k (length labels) h)
-  where
-    lt : (m r : ℕ) → m < r → nat_lt m r ≡ true
-    lt m r h = grind (arith, h)
+item-cite labels n k e h = ap (item_of labels) e ∙ ap (λ b. cond b (Cite (get_or labels k [])) (Recall (suc (k - length labels)))) (lt-ltb k (length labels) h)
 
 pub item-recall : (labels : List Name) (n k : ℕ) → n ≡ suc k → length labels ≤ k → item_of labels n ≡ Recall (suc (k - length labels))
-item-recall labels n k e h = ap (item_of labels) e ∙ ap (λ b. cond b (Cite (get_or labels k [])) (Recall (suc (k - length labels)))) (ge k (length labels) h)
-  where
-    ge : (m r : ℕ) → r ≤ m → nat_lt m r ≡ false
-    ge m r h = grind (arith, h)
+item-recall labels n k e h = ap (item_of labels) e ∙ ap (λ b. cond b (Cite (get_or labels k [])) (Recall (suc (k - length labels)))) (le-ltb k (length labels) h)
 
 module _ (S : Database) (at : ℕ) (label : Name) where
   -- an assertion takes as many derivations as it has hypotheses

@@ -4,6 +4,7 @@ use Rattle.std.proofs.Common.{sym, ◌∙◌, ap, subst, arith, true≢false, le
 use Rattle.std.proofs.lemmas.Bool.Decides.{nat_tests}
 use Rattle.std.proofs.lemmas.List.{drop-append-le}
 use Rattle.std.specs.declared.alloc.AllocError.{AllocError}
+use Rattle.std.proofs.lemmas.Option.{get_or_from_slice_get, slice_get-get_or}
 use Rattle.mm_lex.specs.Alphabet.{Name}
 use Rattle.mm_read.specs.declared.stmt.Stmt.{Stmt}
 use Rattle.mm_read.specs.Statements.{Database}
@@ -25,7 +26,7 @@ use Rattle.verify.proofs.Named.{all-drop, all-get}
 use Rattle.verify.proofs.PlaceLemmas.{map-drop, results-same}
 use Rattle.verify.proofs.StepLemmas.{hypothesis-result, nothing-goes, mark-result, cite-number, recall-number}
 use Rattle.verify.proofs.TableLemmas.{get-front}
-use Rattle.verify.proofs.SavedLists.{drop-set, length-set, get-set, get-set-other, all-set, all-snoc, all-none, drop-none, length-none, get-none, get-drop, get-of, get-there}
+use Rattle.verify.proofs.SavedLists.{drop-set, length-set, get-set, get-set-other, all-set, all-snoc, all-none, drop-none, length-none, get-none, get-drop}
 
 -- ---- results behind those of the labels
 
@@ -148,11 +149,11 @@ module _ (S : Database) (names : List Name) (at : ℕ) where
         e = get_or old.saved k []
 
         there : slice_get old.saved k ≡ Some (get_or old.saved k [])
-        there = let enough = known.given.enough in get-there old.saved k [] (omega (arith, within, enough))
+        there = let enough = known.given.enough in slice_get-get_or old.saved k [] (omega (arith, within, enough))
 
         adds : (r : Result Bool AllocError) → IfOk r (λ ok. Recalls ok old new (suc k)) → IfOk r (λ ok. Adds ok (behind (length table) old) (behind (length table) new) old.stack (get_or old.saved k []))
         adds (Err x) h = tt
-        adds (Ok true) h = ap (behind (length table)) (h.2 ∙ ap (with_result old old.stack) (sym (get-of old.saved k h.0 [] h.1)))
+        adds (Ok true) h = ap (behind (length table)) (h.2 ∙ ap (with_result old old.stack) (sym (get_or_from_slice_get old.saved k h.0 [] h.1)))
         adds (Ok false) h = h (get_or old.saved k []) there
 
         by : (entry : Entry) → IsEntry S at (get_or labels k []) entry → IsGiven S names entry (get_or old.saved k []) → IfOk r (λ ok. Goes ok S at names (Cite (get_or labels k [])) (behind (length table) old) (behind (length table) new))

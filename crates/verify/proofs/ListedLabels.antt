@@ -6,6 +6,7 @@ use Rattle.std.proofs.Common.{sym, ◌∙◌, ap, subst, arith, true≢false}
 use Rattle.std.proofs.lemmas.Bool.Decides.{nat_tests}
 use Rattle.std.proofs.lemmas.List.Folds.{list_any-append}
 use Rattle.std.proofs.lemmas.Slice.Eq.{bytes_eq-Decides}
+use Rattle.std.proofs.lemmas.Bool.{or_right}
 use Rattle.mm_lex.specs.Alphabet.{Name, name_eq, has_name}
 use Rattle.mm_read.specs.declared.stmt.Stmt.{Stmt}
 use Rattle.mm_read.specs.Statements.{Database}
@@ -134,11 +135,7 @@ hypotheses-rise S s = non-decreasing 1 (hypotheses S s) (rises-active (λ p. is_
 some-at : (ps : List ℕ) (x k : ℕ) → k < length ps → get_or ps k 0 ≡ x → list_any (λ p. p == x) ps ≡ true
 some-at [] x k h e = absurd (omega (arith, h))
 some-at (p ∷ ps) x zero h e = let t : (p == x) ≡ true = grind (arith, nat_tests) in ap (λ b. b || list_any (λ p. p == x) ps) t
-some-at (p ∷ ps) x (suc k) h e = or-true (p == x) (list_any (λ p. p == x) ps) (some-at ps x k (omega (arith, h)) e)
-  where
-    or-true : (a b : Bool) → b ≡ true → (a || b) ≡ true
-    or-true true b q = refl
-    or-true false b q = q
+some-at (p ∷ ps) x (suc k) h e = or_right (p == x) (list_any (λ p. p == x) ps) (some-at ps x k (omega (arith, h)) e)
 
 pub none-is : (ps : List ℕ) (x : ℕ) → ((k : ℕ) → k < length ps → get_or ps k 0 ≡ x → ⊥) → list_any (λ p. p == x) ps ≡ false
 none-is [] x h = refl

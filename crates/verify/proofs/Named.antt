@@ -1,9 +1,10 @@
 -- Steps over codes are steps over the names that they stand for.
-use Rattle.std.specs.Prelude.{◌≡◌, ℕ, zero, suc, ◌+◌, ◌-◌, ◌<◌, ◌≤◌, Bool, true, false, ◌||◌, List, [], ◌∷◌, ◌++◌, length, map, take, drop, get_or, slice_get, Some, refl}
+use Rattle.std.specs.Prelude.{◌≡◌, ℕ, zero, suc, ◌+◌, ◌-◌, ◌<◌, ◌≤◌, Bool, true, false, List, [], ◌∷◌, ◌++◌, length, map, take, drop, get_or, slice_get, Some, refl}
 use Rattle.std.proofs.Common.{sym, ◌∙◌, ap, subst, arith, length-append, length-drop}
 use Rattle.std.specs.List.{list_any}
 use Rattle.std.proofs.lemmas.Slice.Eq.{bytes_eq-Decides}
 use Rattle.std.proofs.lemmas.List.{length-map, take-append-drop}
+use Rattle.std.proofs.lemmas.Bool.{or_left, or_right}
 use Rattle.mm_lex.specs.Alphabet.{Name, name_eq}
 use Rattle.mm_lex.specs.Alphabet.{has_name}
 use Rattle.mm_read.specs.declared.stmt.Stmt.{Stmt}
@@ -123,16 +124,8 @@ module _ (names : List Name) where
 
 has-at : (names : List Name) (j : ℕ) → j < length names → has_name (name_at names j) names ≡ true
 has-at [] j h = absurd (omega (arith, h))
-has-at (x ∷ names) zero h = or-left (name_eq x x) (list_any (name_eq x) names) ((bytes_eq-Decides x x).1 refl)
-  where
-    or-left : (a b : Bool) → a ≡ true → (a || b) ≡ true
-    or-left true b h = refl
-    or-left false b h = cc
-has-at (x ∷ names) (suc j) h = or-right (name_eq (name_at names j) x) (list_any (name_eq (name_at names j)) names) (has-at names j (omega (arith, h)))
-  where
-    or-right : (a b : Bool) → b ≡ true → (a || b) ≡ true
-    or-right true b h = refl
-    or-right false b h = h
+has-at (x ∷ names) zero h = or_left (name_eq x x) (list_any (name_eq x) names) ((bytes_eq-Decides x x).1 refl)
+has-at (x ∷ names) (suc j) h = or_right (name_eq (name_at names j) x) (list_any (name_eq (name_at names j)) names) (has-at names j (omega (arith, h)))
 
 pub name_at-injective : (names : List Name) (i j : ℕ) → AreDistinct names → i < length names → j < length names → name_at names i ≡ name_at names j → i ≡ j
 name_at-injective [] i j d h k e = absurd (omega (arith, h))

@@ -1,7 +1,8 @@
 -- From a compressed proof that was read to whether its tokens write a right proof.
-use Rattle.std.specs.Prelude.{◌≡◌, ℕ, zero, suc, Bool, true, false, not, List, [], ◌∷◌, ◌++◌, length, take, Result, Ok, Err, IfOk, refl}
+use Rattle.std.specs.Prelude.{◌≡◌, ℕ, zero, suc, Bool, true, false, not, List, [], ◌∷◌, ◌++◌, length, take, Result, Ok, Err, IfOk}
 use Rattle.std.proofs.Common.{sym, ◌∙◌, ap, subst, inl, inr, true≢false}
 use Rattle.std.proofs.lemmas.List.{length-map}
+use Rattle.std.proofs.lemmas.Bool.{not-false, not-true}
 use Rattle.mm_lex.specs.Alphabet.{Name}
 use Rattle.mm_read.specs.declared.stmt.Stmt.{Stmt}
 use Rattle.mm_read.specs.Statements.{Database}
@@ -46,10 +47,6 @@ module _ (S : Database) (at : ℕ) (s : Stmt) (tokens : List Name) (provable : I
     pub one-listed : (b : Bool) → b ≡ false → b ≡ not (share_label (mandatory_labels S at s) (take count words)) → Proves S at tokens → ⊥
     one-listed b e is p =
         heading.shared (mandatory_labels S at s) (ap (share_label (mandatory_labels S at s)) (sym listed-is) ∙ not-false (share_label (mandatory_labels S at s) (take count words)) (sym is ∙ e)) p.items (written-by p.items (written-of p))
-      where
-        not-false : (a : Bool) → not a ≡ false → a ≡ true
-        not-false true h = refl
-        not-false false h = cc
 
     -- none is: the items of the numbers decide
     pub read-proves : {E : Type 0} (b : Bool) → b ≡ true → b ≡ not (share_label (mandatory_labels S at s) (take count words)) → length (mandatory_labels S at s) ≡ m
@@ -57,9 +54,6 @@ module _ (S : Database) (at : ℕ) (s : Stmt) (tokens : List Name) (provable : I
         → IfOk r (λ answer. Says answer (Proves S at tokens))
     read-proves {E = E} b e is long r says = by r says
       where
-        not-true : (a : Bool) → not a ≡ true → a ≡ false
-        not-true true h = cc
-        not-true false h = refl
 
         apart : share_label (mandatory_labels S at s) heading.listed ≡ false
         apart = ap (share_label (mandatory_labels S at s)) (sym listed-is) ∙ not-true (share_label (mandatory_labels S at s) (take count words)) (sym is ∙ e)

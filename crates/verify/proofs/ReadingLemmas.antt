@@ -3,6 +3,7 @@ use Rattle.std.specs.Prelude.{◌≡◌, ℕ, zero, suc, ◌+◌, ◌-◌, ◌<�
 use Rattle.std.specs.Map.{lookup}
 use Rattle.std.proofs.Common.{sym, ◌∙◌, ap, subst, arith}
 use Rattle.std.proofs.lemmas.Bool.Decides.{nat_tests}
+use Rattle.std.proofs.lemmas.Option.{slice_get_within}
 use Rattle.frame.specs.Cited.{head_of}
 use Rattle.frame.specs.Substitution.{code_image}
 use Rattle.subst.specs.declared.place.ExpressionPlace.{ExpressionPlace}
@@ -14,7 +15,6 @@ use Rattle.entries.specs.declared.citation.Hypothesis.TheVariants.{Float, Essent
 use Rattle.verify.specs.Fits.{AreDifferent, IsTyped, Reads}
 use Rattle.verify.specs.ReadPlaces.{tail_of, BeginsWith, ReadsOne, ReadTo, ReadsAll}
 use Rattle.verify.proofs.Decide.{some_same}
-use Rattle.verify.proofs.AskedLemmas.{some-within}
 
 module _ (symbols heads : List ℕ) (hs : List Hypothesis) (places : List ExpressionPlace) (different : AreDifferent hs) (i : ℕ) (p : ExpressionPlace) (at_place : slice_get places i ≡ Some p) where
   earlier : (k : ℕ) → k < i + 1 → (nat_lt k i ≡ false) → k ≡ i
@@ -148,12 +148,12 @@ pub reads-seen : (ok : Bool) (symbols heads : List ℕ) (hs : List Hypothesis) (
 reads-seen true symbols heads hs places images count within r = record { typed = typed; image = image; own = λ x none. image-none symbols images x (r.own x (λ k less. none k)) }
   where
     there : (k x : ℕ) → slice_get hs k ≡ Some (Float x) → (p : ExpressionPlace) × (slice_get places k ≡ Some p)
-    there k x kind = let less = some-within hs k (Float x) kind in place-there places k (omega (arith, less, count))
+    there k x kind = let less = slice_get_within hs k (Float x) kind in place-there places k (omega (arith, less, count))
 
     typed : (k x : ℕ) → slice_get hs k ≡ Some (Float x) → IsTyped (get_or heads k 0) (get_or (map (seen_at symbols) places) k [])
     typed k x kind =
         let p = there k x kind in
-        let begun = r.begun k x p.0 (some-within hs k (Float x) kind) kind p.1 in
+        let begun = r.begun k x p.0 (slice_get_within hs k (Float x) kind) kind p.1 in
         let w = within-get (length symbols) k places p.0 within p.1 in
         subst (IsTyped (get_or heads k 0)) (sym (get-seen symbols places k p.0 p.1)) (begun-typed symbols (get_or heads k 0) p.0 w.1 begun)
 
@@ -161,7 +161,7 @@ reads-seen true symbols heads hs places images count within r = record { typed =
     image k x kind =
         let p = there k x kind in
         let w = within-get (length symbols) k places p.0 within p.1 in
-        image-some symbols images x (tail_of p.0) (r.placed k x p.0 (some-within hs k (Float x) kind) kind p.1)
+        image-some symbols images x (tail_of p.0) (r.placed k x p.0 (slice_get_within hs k (Float x) kind) kind p.1)
         ∙ (tail-range symbols p.0 w.0 ∙ ap (drop 1) (sym (get-seen symbols places k p.0 p.1)))
 reads-seen false symbols heads hs places images count within r =
     let w = within-get (length symbols) r.0 places r.2 within r.4 in

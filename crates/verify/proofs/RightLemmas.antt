@@ -1,7 +1,8 @@
 -- What is answered of a right proof.
-use Rattle.std.specs.Prelude.{◌≡◌, ℕ, ◌≤◌, ◌<◌, ◌⊎◌, min, List, [], ◌∷◌, length, map, get_or, slice_get, Some, Result, Ok, Err, IfOk, refl}
+use Rattle.std.specs.Prelude.{◌≡◌, ℕ, ◌≤◌, ◌<◌, ◌⊎◌, min, List, [], length, map, get_or, Some, Result, Ok, Err, IfOk, refl}
 use Rattle.std.proofs.Common.{sym, ◌∙◌, ap, subst, arith, inl, inr}
 use Rattle.std.proofs.lemmas.List.{length-map}
+use Rattle.std.proofs.lemmas.Option.{slice_get-get_or}
 use Rattle.mm_read.specs.Statements.{Database}
 use Rattle.frame.specs.Reading.{HasLabelsOnce}
 use Rattle.proof_code.specs.declared.item.Item.{Item}
@@ -59,14 +60,9 @@ root S at once items p k d right is grown at_root =
 pub extents-length : (ns : List Node) (extents : List Extent) → extents ≡ map extent_of (built ns) → length extents ≡ length ns
 extents-length ns extents e = let a = ap length e in let b = length-map (built ns) extent_of in let c = length-built' ns in omega (arith, a, b, c)
 
-get-slice : {A : Type 0} (xs : List A) (k : ℕ) (d : A) → k < length xs → slice_get xs k ≡ Some (get_or xs k d)
-get-slice [] k d h = absurd (omega (arith, h))
-get-slice (x ∷ xs) Rattle.std.specs.Prelude.zero d h = refl
-get-slice (x ∷ xs) (Rattle.std.specs.Prelude.suc k) d h = get-slice xs k d (omega (arith, h))
-
 -- what the extent says of it
 pub extent-is : (ns : List Node) (extents : List Extent) (k : ℕ) (e d : Extent) → extents ≡ map extent_of (built ns) → k < length extents → e ≡ get_or extents k d → e ≡ extent_of (pick (built ns) k)
-extent-is ns extents k e d is h at = child-extent extents (built ns) k e is (get-slice extents k d h ∙ ap Some (sym at))
+extent-is ns extents k e d is h at = child-extent extents (built ns) k e is (slice_get-get_or extents k d h ∙ ap Some (sym at))
 
 pub small-of : (t : Derivation) (e : Extent) → e ≡ extent_of t → (e.nodes ≤ 65536) × (e.depth ≤ 1024) → IsSmall t
 small-of t e is h =

@@ -1,5 +1,5 @@
 -- Lists of results that are saved by number.
-use Rattle.std.specs.Prelude.{◌≡◌, ℕ, zero, suc, ◌+◌, ◌-◌, ◌<◌, ◌≤◌, Bool, true, false, IsTrue, List, [], ◌∷◌, ◌++◌, length, drop, get_or, replicate, slice_get, slice_set, Some, Result, Ok, Err, IfOk, refl}
+use Rattle.std.specs.Prelude.{◌≡◌, ℕ, zero, suc, ◌+◌, ◌-◌, ◌<◌, ◌≤◌, Bool, true, false, IsTrue, List, [], ◌∷◌, ◌++◌, length, drop, get_or, replicate, slice_get, slice_set, Result, Ok, Err, IfOk, refl}
 use Rattle.std.proofs.Common.{sym, ◌∙◌, ap, arith, true≢false}
 use Rattle.std.specs.declared.alloc.AllocError.{AllocError}
 use Rattle.frame.specs.Below.{AreBelow, AllBelow}
@@ -62,16 +62,6 @@ get-drop zero k xs h = ap (slice_get xs) (let e : k - 0 ≡ k = omega arith in e
 get-drop (suc n) k [] h = refl
 get-drop (suc n) zero (x ∷ xs) h = absurd (omega (arith, h))
 get-drop (suc n) (suc k) (x ∷ xs) h = ap (slice_get (drop n xs)) (let e : suc k - suc n ≡ k - n = omega arith in e) ∙ get-drop n k xs (omega (arith, h))
-
-pub get-of : {A : Type 0} (xs : List A) (k : ℕ) (x d : A) → slice_get xs k ≡ Some x → get_or xs k d ≡ x
-get-of [] k x d h = cc
-get-of (y ∷ xs) zero x d h = cc
-get-of (y ∷ xs) (suc k) x d h = get-of xs k x d h
-
-pub get-there : {A : Type 0} (xs : List A) (k : ℕ) (d : A) → k < length xs → slice_get xs k ≡ Some (get_or xs k d)
-get-there [] k d h = absurd (omega (arith, h))
-get-there (y ∷ xs) zero d h = refl
-get-there (y ∷ xs) (suc k) d h = get-there xs k d (omega (arith, h))
 
 -- it is added, and nothing else changes
 pub saved-same : (old new : Results ℕ) (stack : List (List ℕ)) (e : List ℕ) (r : Result Bool AllocError) → IfOk r (λ ok. Adds ok old new stack e) → IfOk r (λ ok. IsTrue ok → new.saved ≡ old.saved)

@@ -2,6 +2,7 @@
 use Rattle.std.specs.Prelude.{◌≡◌, ℕ, zero, suc, ◌+◌, ◌-◌, ◌<◌, ◌≤◌, Bool, true, false, cond, nat_lt, List, [], ◌∷◌, ◌++◌, length, map, take, drop, get_or, Some, Result, Ok, Err, IfOk, refl}
 use Rattle.std.proofs.Common.{sym, ◌∙◌, ap, subst, arith}
 use Rattle.std.specs.declared.alloc.AllocError.{AllocError}
+use Rattle.std.proofs.lemmas.Bool.{lt-ltb, le-ltb}
 use Rattle.mm_lex.specs.Alphabet.{Name}
 use Rattle.mm_read.specs.declared.stmt.Stmt.{Stmt}
 use Rattle.mm_read.specs.Statements.{Expr, Database}
@@ -90,16 +91,10 @@ module _ (S : Database) (names : List Name) (at : ℕ) (legal : AreLegal S names
   -- ---- the number of an item
 
   item-low : (labels : List Name) (k n : ℕ) → n ≡ suc k → k < length labels → item_of labels n ≡ Cite (get_or labels k [])
-  item-low labels k n e h = ap (item_of labels) e ∙ ap (λ b. cond b (Cite (get_or labels k [])) (Recall (suc (k - length labels)))) (let b : nat_lt k (length labels) ≡ true = lt-true k (length labels) h in b)
-    where
-      lt-true : (m r : ℕ) → m < r → nat_lt m r ≡ true
-      lt-true m r h = grind (arith, h)
+  item-low labels k n e h = ap (item_of labels) e ∙ ap (λ b. cond b (Cite (get_or labels k [])) (Recall (suc (k - length labels)))) (let b : nat_lt k (length labels) ≡ true = lt-ltb k (length labels) h in b)
 
   item-high : (labels : List Name) (k n : ℕ) → n ≡ suc k → length labels ≤ k → item_of labels n ≡ Recall (suc (k - length labels))
-  item-high labels k n e h = ap (item_of labels) e ∙ ap (λ b. cond b (Cite (get_or labels k [])) (Recall (suc (k - length labels)))) (lt-false k (length labels) h)
-    where
-      lt-false : (m r : ℕ) → r ≤ m → nat_lt m r ≡ false
-      lt-false m r h = grind (arith, h)
+  item-high labels k n e h = ap (item_of labels) e ∙ ap (λ b. cond b (Cite (get_or labels k [])) (Recall (suc (k - length labels)))) (le-ltb k (length labels) h)
 
   pub cite-number : (old new : Results ℕ) (r : Result Bool AllocError) (labels : List Name) (label : Name) (n k : ℕ) → n ≡ suc k → k < length labels → label ≡ get_or labels k []
       → IfOk r (λ ok. Goes ok S at names (Cite label) old new) → IfOk r (λ ok. Goes ok S at names (item_of labels n) old new)
@@ -156,11 +151,6 @@ items-rest labels (n ∷ numbers) (suc i) h =
     let e : suc i + 1 ≡ suc (i + 1) = omega arith in
     ap (λ r. item_of labels n ∷ r) (items-rest labels numbers i (omega (arith, h)))
     ∙ ap (λ k. map (item_of labels) (take (suc i) (n ∷ numbers)) ++ item_of labels (get_or numbers i 0) ∷ map (item_of labels) (drop k (n ∷ numbers))) (sym e)
-
-pub get-default : {A : Type 0} (xs : List A) (k : ℕ) (d e : A) → k < length xs → get_or xs k d ≡ get_or xs k e
-get-default [] k d e h = absurd (omega (arith, h))
-get-default (x ∷ xs) zero d e h = refl
-get-default (x ∷ xs) (suc k) d e h = get-default xs k d e (omega (arith, h))
 
 pub all-taken : {A B : Type 0} (f : A → B) (xs : List A) (n : ℕ) → length xs ≤ n → map f (take n xs) ≡ map f xs
 all-taken f [] zero h = refl

@@ -1,6 +1,7 @@
 -- What a label names, found once.
 use Rattle.std.specs.Prelude.{◌≡◌, ℕ, zero, suc, ◌<◌, Bool, true, false, nat_lt, List, [], ◌∷◌, ◌++◌, length, map, get_or, Some, refl}
 use Rattle.std.proofs.Common.{sym, ◌∙◌, ap, subst, arith, length-append, Bor}
+use Rattle.std.proofs.lemmas.List.{get_or_default}
 use Rattle.mm_lex.specs.Alphabet.{Name}
 use Rattle.mm_read.specs.declared.stmt.Stmt.{Stmt}
 use Rattle.mm_read.specs.Statements.{Database}
@@ -14,7 +15,6 @@ use Rattle.verify.specs.declared.table.Entry.TheVariants.{Nothing}
 use Rattle.verify.specs.Table.{IsEntry, AreEntries}
 use Rattle.verify.proofs.Decide.{some_same}
 use Rattle.verify.proofs.PlaceLemmas.{map-snoc}
-use Rattle.verify.proofs.StepLemmas.{get-default}
 
 pub get-front : {A : Type 0} (xs ys : List A) (k : ℕ) (d : A) → k < length xs → get_or (xs ++ ys) k d ≡ get_or xs k d
 get-front [] ys k d h = absurd (omega (arith, h))
@@ -71,4 +71,4 @@ table-more S at labels label table table' entry are grown is =
 pub entry_at : (S : Database) (at : ℕ) (labels : List Name) (table : List Entry) (k : ℕ) (d : Entry) → AreEntries S at labels table → k < length table → IsEntry S at (get_or labels k []) (get_or table k d)
 entry_at S at labels table k d are h =
     let c = are.count in
-    subst (IsEntry S at (get_or labels k [])) (get-default table k Nothing d h) (are.each k (omega (arith, h, c)))
+    subst (IsEntry S at (get_or labels k [])) (get_or_default table k Nothing d h) (are.each k (omega (arith, h, c)))

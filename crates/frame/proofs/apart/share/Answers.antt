@@ -1,7 +1,8 @@
-use Rattle.std.proofs.Common.{◌≡◌, ◌∙◌, sym, ap, length, get_or, true, false, Bool, refl}
+use Rattle.std.proofs.Common.{◌≡◌, ◌∙◌, sym, ap, length, get_or, true, false}
 use Rattle.std.specs.Prelude.{◌&&◌, ◌==◌, slice_index_or}
 use Rattle.std.specs.List.{list_any}
 use Rattle.std.proofs.lemmas.List.Folds.{list_any_at}
+use Rattle.std.proofs.lemmas.Bool.{and_right}
 use Rattle.mm_lex.specs.Alphabet.{has_name}
 use Rattle.scope.specs.Active.{is_variable}
 use Rattle.names.specs.Codes.{name_at, decode}
@@ -34,14 +35,10 @@ loop-symbol-preserved c =
     let left = c.args.left.now in
     let none : (is_variable v.statements (name_at v.names x) && list_any (λ y. x == y) left) ≡ false =
     elim c.else-marked-place.branch [
-      | else-marked-place-via-then-marked-place+then-variable+else-contains w ↦ and_false (is_variable v.statements (name_at v.names x)) (list_any (λ y. x == y) left) (sym w.contains.ensures ∙ w.if-contains.false)
+      | else-marked-place-via-then-marked-place+then-variable+else-contains w ↦ and_right (is_variable v.statements (name_at v.names x)) (list_any (λ y. x == y) left) (sym w.contains.ensures ∙ w.if-contains.false)
       | else-marked-place-via-then-marked-place+else-variable w ↦ ap (λ t. t && list_any (λ y. x == y) left) (sym w.variable.ensures ∙ w.if-variable.false)
-      | else-marked-place-via-else-marked-place w ↦ and_false (is_variable v.statements (name_at v.names x)) (list_any (λ y. x == y) left)
+      | else-marked-place-via-else-marked-place w ↦ and_right (is_variable v.statements (name_at v.names x)) (list_any (λ y. x == y) left)
           (unmarked-none PLACES c.mark.new.marked left x c.mark.ensures.marked (ap (λ n. slice_index_or c.mark.new.marked n false) (sym c.place.ensures.place) ∙ w.if-marked-place.false))
     ] in
     stays_none (λ u. is_variable v.statements u && has_name u (decode v.names left)) (name_at v.names) c.args.right.now c.loop-symbol.symbol-index 0 c.loop-symbol-test.true c.loop-symbol.invariant
     (shared v.statements v.names left x c.requires.distinct low c.requires.left ∙ none)
-  where
-    and_false : (a b : Bool) → b ≡ false → (a && b) ≡ false
-    and_false true b h = h
-    and_false false b h = refl

@@ -1,10 +1,9 @@
 use Rattle.std.proofs.Common.{◌≡◌, ◌∙◌, ◌-◌, ap, sym, subst, arith}
 use Rattle.std.specs.Prelude.{slice_get, IfSome}
 use Rattle.entries.specs.Entries.{AreWhole}
-use Rattle.std.proofs.lemmas.Option.{slice_get_within}
+use Rattle.std.proofs.lemmas.Option.{slice_get_within, same_Some}
 use Rattle.frame.specs.Cited.{IsCited}
 use Rattle.frame.specs.StoredEntries.{statements_of}
-use Rattle.frame.proofs.WalkLemmas.{some-same}
 use Rattle.frame.proofs.CitedLemmas.{is-there, there-cited}
 use Rattle.frame.proofs.GatherLemmas.{some-map}
 use Rattle.frame.proofs.at_position.cited_at.Goals as goal
@@ -24,7 +23,7 @@ returns c = λ s h.
     let w = t.2 in
     let back : c.args.a - 1 ≡ t.0 = omega (arith, w.place) in
     let here = ap (slice_get k.entries) back ∙ w.here in
-    let same : c.requires.assertion.0 ≡ s = some-same (sym c.requires.assertion.1.0 ∙ h) in
+    let same : c.requires.assertion.0 ≡ s = same_Some _ _ (sym c.requires.assertion.1.0 ∙ h) in
     subst (λ r. IfSome c.cited.result (IsCited (statements_of k) k.names c.args.a r)) same
     (some-map c.cited.result (AreWhole t.1) (IsCited (statements_of k) k.names c.args.a c.requires.assertion.0)
     (λ x p. there-cited k c.args.a t.0 c.requires.assertion.0 t.1 x c.requires.stored c.requires.distinct c.requires.assertion.1.1 w p) (c.cited.ensures t.1 here))

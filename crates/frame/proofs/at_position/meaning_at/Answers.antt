@@ -2,10 +2,10 @@ use Rattle.std.proofs.lemmas.Bool.{false≢true}
 use Rattle.std.proofs.Common.{◌≡◌, ◌∙◌, ap, sym, subst, arith}
 use Rattle.std.proofs.lemmas.List.{length-map}
 use Rattle.std.specs.Prelude.{Some, true, false, IsTrue, Bool, ◌-◌, ◌≤◌}
+use Rattle.std.proofs.lemmas.Option.{same_Some}
 use Rattle.scope.specs.Active.{stmt_at, is_assertion}
 use Rattle.frame.specs.Citations.{is_hypothesis_kind}
 use Rattle.frame.specs.StoredEntries.{statements_of, stmt_of}
-use Rattle.frame.proofs.WalkLemmas.{some-same}
 use Rattle.frame.proofs.StoredReading.{IsCitable, get-stmt, stmt-at-suc, entry-none, none-of, entry-assertion}
 use Rattle.entries.specs.Entries.{seen}
 use Rattle.frame.proofs.at_position.meaning_at.Goals as goal
@@ -43,7 +43,7 @@ returns-in_default c = λ s h.
     let g = c.entry.ensures.1 in
     let at : stmt_at (statements_of k) c.args.i ≡ Some (stmt_of k.names k.labels e) = stmt-at-suc (statements_of k) c.args.i one ∙ get-stmt k.names k.labels k.entries (c.args.i - 1) e g in
     let none = entry-none k.names k.labels e (none-of e.kind c.in_default.not-Float c.in_default.not-Ess c.in_default.not-Axiom c.in_default.not-Prove) in
-    let same : stmt_of k.names k.labels e ≡ s = some-same (sym at ∙ h) in (
+    let same : stmt_of k.names k.labels e ≡ s = same_Some _ _ (sym at ∙ h) in (
       λ q. clash (is_hypothesis_kind s) (sym (ap is_hypothesis_kind same) ∙ none.1) q.kind,
       λ lt t. clash (is_assertion s) (sym (ap is_assertion same) ∙ none.2) t,
     )

@@ -1,9 +1,9 @@
 use Rattle.std.proofs.Common.{◌≡◌, ◌∙◌, sym, subst}
+use Rattle.std.proofs.lemmas.Option.{same_Some}
 use Rattle.frame.specs.Drafts.{drafted}
 use Rattle.frame.specs.Cited.{AreListsOf}
 use Rattle.frame.specs.StoredHypotheses.{AreHypotheses}
 use Rattle.frame.specs.StoredEntries.{statements_of}
-use Rattle.frame.proofs.WalkLemmas.{some-same}
 use Rattle.frame.proofs.CollectLemmas.{on-ok-weaker}
 use Rattle.frame.proofs.CitedLemmas.{is-there}
 use Rattle.frame.proofs.GatherLemmas.{mandatory-are, spread-lists}
@@ -24,7 +24,7 @@ returns-clause-gathered c =
     let t = is-there k c.args.a s c.requires.stored c.requires.assertion.1 in
     on-ok-weaker c.spread.result _ _
     (λ p r h.
-    let same : s ≡ r = some-same (sym c.requires.assertion.1.0 ∙ h) in
+    let same : s ≡ r = same_Some _ _ (sym c.requires.assertion.1.0 ∙ h) in
     subst (AreListsOf (statements_of k) k.names c.args.a (drafted c.spread.new.draft)) same
     (spread-lists k c.args.a t.0 s t.1 c.requires.stored c.requires.distinct c.requires.assertion.1.1 t.2 c.mandatory_at.new.list.items (drafted c.spread.new.draft) p (c.in_ok-mandatory_at.ensures s c.requires.assertion.1.0)))
     c.spread.ensures.spread

@@ -1,11 +1,11 @@
 use Rattle.std.proofs.Common.{◌≡◌, ◌∙◌, ◌-◌, ap, sym, subst, arith, take}
 use Rattle.std.specs.Prelude.{◌++◌, slice_get}
+use Rattle.std.proofs.lemmas.Option.{same_Some}
 use Rattle.scope.specs.Active.{is_essential, before}
 use Rattle.frame.specs.FrameOf.{hypotheses}
 use Rattle.frame.specs.Links.{actives}
 use Rattle.frame.specs.StoredHypotheses.{Ascends, with_essentials}
 use Rattle.frame.specs.StoredEntries.{statements_of}
-use Rattle.frame.proofs.WalkLemmas.{some-same}
 use Rattle.frame.proofs.CollectLemmas.{on-ok-weaker}
 use Rattle.frame.proofs.CitedLemmas.{is-there}
 use Rattle.frame.proofs.GatherLemmas.{mandatory-whole, mandatory-own, own-ascends}
@@ -29,7 +29,7 @@ returns-then-is_whole c = λ s h.
     let here = ap (slice_get k.entries) back ∙ t.2.here in
     let whole = sym (c.is_whole.ensures t.1 here) ∙ c.if-is_whole.true in
     let list = c.in_ok-extend_from_slice.ensures.items ∙ (ap (λ xs. xs ++ c.hypotheses.result.now) c.requires.empty ∙ c.hypotheses.ensures t.1 here) in
-    let same : c.requires.assertion.0 ≡ s = some-same (sym c.requires.assertion.1.0 ∙ h) in
+    let same : c.requires.assertion.0 ≡ s = same_Some _ _ (sym c.requires.assertion.1.0 ∙ h) in
     list ∙ (mandatory-whole k c.args.a t.0 c.requires.assertion.0 t.1 c.requires.stored c.requires.distinct c.requires.assertion.1.1 t.2 whole ∙ ap (hypotheses (before (statements_of k) c.args.a)) same)
 
 pub returns-else-is_whole : goal.returns-else-is_whole
@@ -40,7 +40,7 @@ returns-else-is_whole c = λ s h.
     let here = ap (slice_get k.entries) back ∙ t.2.here in
     let own = sym (c.is_whole.ensures t.1 here) ∙ c.if-is_whole.false in
     let list = c.in_ok-extend_from_slice.ensures.items ∙ (ap (λ xs. xs ++ c.hypotheses.result.now) c.requires.empty ∙ c.hypotheses.ensures t.1 here) in
-    let same : c.requires.assertion.0 ≡ s = some-same (sym c.requires.assertion.1.0 ∙ h) in
+    let same : c.requires.assertion.0 ≡ s = same_Some _ _ (sym c.requires.assertion.1.0 ∙ h) in
     on-ok-weaker c.add_essentials.result _ _
     (λ e. e ∙ (ap (with_essentials k.entries (actives is_essential (take (c.args.a - 1) (statements_of k)))) list
     ∙ (mandatory-own k c.args.a t.0 c.requires.assertion.0 t.1 c.requires.stored c.requires.distinct c.requires.assertion.1.1 t.2 own ∙ ap (hypotheses (before (statements_of k) c.args.a)) same)))

@@ -1,12 +1,12 @@
 use Rattle.std.proofs.Common.{◌≡◌, ◌∙◌, ◌-◌, ap, sym, subst, arith, get_or, length}
 use Rattle.std.specs.Prelude.{◌++◌, ◌∷◌, []}
-use Rattle.frame.proofs.WalkLemmas.{some-same}
+use Rattle.std.proofs.lemmas.Option.{slice_get_within}
 use Rattle.entries.specs.Entries.{seen}
 use Rattle.frame.specs.Cited.{head_of}
 use Rattle.frame.specs.StoredCounts.{HasTwo}
 use Rattle.frame.specs.StoredParts.{asked_by, asked_at, head_at, option_asked, option_symbols}
 use Rattle.frame.proofs.StoredReading.{two-of}
-use Rattle.frame.proofs.MakeLemmas.{hypothesis-at, get-below, map-more}
+use Rattle.frame.proofs.MakeLemmas.{hypothesis-at, map-more}
 use Rattle.frame.proofs.make.describe.Goals as goal
 
 pub overflow_sub-position : goal.overflow_sub-position
@@ -21,7 +21,7 @@ entry-entry-requires c =
     let k = c.args.stock.now in
     let i = c.loop-position.position-index in
     let h = hypothesis-at k.entries c.args.hypotheses.now i c.requires.hypotheses (omega arith) in
-    let b = get-below k.entries (get_or c.args.hypotheses.now i 0 - 1) h.0 h.2 in
+    let b = slice_get_within k.entries (get_or c.args.hypotheses.now i 0 - 1) h.0 h.2 in
     omega (arith, b)
 
 pub hypothesis-requires : goal.hypothesis-requires

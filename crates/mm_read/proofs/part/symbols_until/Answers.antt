@@ -1,9 +1,10 @@
 use Rattle.std.proofs.Common.{◌≡◌, ◌∙◌, ap, sym, arith, subst, inl, inr, ◌+◌, ◌≤◌, length}
+use Rattle.std.proofs.lemmas.Bool.{leb-false}
 use Rattle.mm_lex.specs.Alphabet.{name_eq}
 use Rattle.mm_lex.specs.Between.{AreBehind}
 use Rattle.mm_lex.specs.SymbolList.{EndsSymbols, IsListEnd}
 use Rattle.mm_read.specs.Front.{IsListStop}
-use Rattle.mm_read.proofs.PartLemmas.{stops_at_end, stops_otherwise, list_few, short_list}
+use Rattle.mm_read.proofs.PartLemmas.{stops_at_end, stops_otherwise, list_few}
 use Rattle.mm_read.proofs.part.symbols_until.Goals as goal
 use Rattle.mm_read.proofs.part.symbols_until.Goals.{in-Some+else-eq, else-eq-via-then-eq+else-has_least, else-eq-via-else-eq, in_default}
 
@@ -21,7 +22,7 @@ returns-clause-fault c =
           let s = w.in-Some.span in
           let ends : EndsSymbols text at ws s = subst (IsListEnd text at ws) w.in-Some.is c.in_ok-words.ensures.end in
           elim w.else-eq.branch [
-            | else-eq-via-then-eq+else-has_least v ↦ stops_otherwise at ws c.in_ok-words.ensures.symbols number least end s ends (inl (short_list least (length ws) (sym v.if-has_least.ensures)))
+            | else-eq-via-then-eq+else-has_least v ↦ stops_otherwise at ws c.in_ok-words.ensures.symbols number least end s ends (inl (leb-false least (length ws) (sym v.if-has_least.ensures)))
             | else-eq-via-else-eq v ↦ stops_otherwise at ws c.in_ok-words.ensures.symbols number least end s ends (inr (ap (λ w. name_eq w end) (sym w.token.ensures) ∙ sym v.if-eq.ensures))
           ]
       | in_default w ↦

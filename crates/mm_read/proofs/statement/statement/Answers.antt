@@ -1,7 +1,7 @@
 use Rattle.std.proofs.Common.{◌∙◌, ap, sym, refl, arith, codes, ◌∷◌, []}
 use Rattle.std.proofs.lemmas.Result.{err_from_is_err_and}
+use Rattle.std.proofs.lemmas.Bool.{and_from}
 use Rattle.mm_lex.proofs.BetweenLemmas.{between_as}
-use Rattle.mm_lex.proofs.CuttingMeans.{and_both}
 use Rattle.mm_read.specs.declared.stmt.Stmt.TheVariants.{Const, Var, Disj}
 use Rattle.mm_read.proofs.StatementsLemmas.{are_symbols_of, has_two_of}
 use Rattle.mm_read.proofs.Places.{between, step}
@@ -43,7 +43,7 @@ returns-in_ok-variables-in-Disj-clause-found c = λ from later has.
     let list = c.in_ok-variables-in-Disj.ensures in
     let ws = c.in_ok-variables-in-Disj.variables in
     keyed_next (codes "$d") (sym c.token-word.ensures ∙ c.in-Disj.ensures) later has list.between (Disj ws) refl
-    (and_both _ _ (are_symbols_of ws list.symbols (omega (arith, list.many))) (has_two_of ws list.many))
+    (and_from _ _ (are_symbols_of ws list.symbols (omega (arith, list.many))) (has_two_of ws list.many))
 
 pub returns-in-Other-clause-found : goal.returns-in-Other-clause-found
 returns-in-Other-clause-found c =

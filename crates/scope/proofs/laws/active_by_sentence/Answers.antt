@@ -1,5 +1,6 @@
 use Rattle.std.proofs.Common.{◌≡◌, ℕ, ◌≤◌, ◌<◌, Bool, true, false, ◌&&◌, nat_le, nat_lt, arith, ap, ◌∙◌, refl}
 use Rattle.std.proofs.lemmas.Bool.Decides.{nat_tests}
+use Rattle.std.proofs.lemmas.Bool.{ltb-true, le-leb, lt-ltb}
 use Rattle.mm_read.specs.Statements.{Database}
 use Rattle.scope.specs.Active.{is_active, stays_open}
 use Rattle.scope.specs.Laws.{NeverCloses, between}
@@ -15,24 +16,15 @@ parts false b c h = cc
 at_least : (i : ℕ) → nat_le 1 i ≡ true → 1 ≤ i
 at_least i h = grind (arith, nat_tests)
 
-below : (i j : ℕ) → nat_lt i j ≡ true → i < j
-below i j h = grind (arith, nat_tests)
-
-le_true : (i j : ℕ) → i ≤ j → nat_le i j ≡ true
-le_true i j h = grind (arith, nat_tests)
-
-lt_true : (i j : ℕ) → i < j → nat_lt i j ≡ true
-lt_true i j h = grind (arith, nat_tests)
-
 there : (S : Database) (i j : ℕ) → is_active S i j ≡ true → (1 ≤ i) × (i < j) × NeverCloses 0 (between S i j)
 there S i j h =
     let p = parts (nat_le 1 i) (nat_lt i j) (stays_open 0 (between S i j)) h in
-    (at_least i p.0, below i j p.1, stays_open-means 0 (between S i j) p.2)
+    (at_least i p.0, ltb-true i j p.1, stays_open-means 0 (between S i j) p.2)
 
 back : (S : Database) (i j : ℕ) → (1 ≤ i) × (i < j) × NeverCloses 0 (between S i j) → is_active S i j ≡ true
 back S i j h =
-    ap (λ b. b && nat_lt i j && stays_open 0 (between S i j)) (le_true 1 i h.0)
-    ∙ (ap (λ b. b && stays_open 0 (between S i j)) (lt_true i j h.1) ∙ means-stays_open 0 (between S i j) h.2)
+    ap (λ b. b && nat_lt i j && stays_open 0 (between S i j)) (le-leb 1 i h.0)
+    ∙ (ap (λ b. b && stays_open 0 (between S i j)) (lt-ltb i j h.1) ∙ means-stays_open 0 (between S i j) h.2)
 
 pub returns : goal.returns
 returns c S i j = (there S i j, back S i j)

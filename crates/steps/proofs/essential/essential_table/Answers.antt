@@ -1,8 +1,7 @@
 use Rattle.std.proofs.Common.{◌≡◌, ◌+◌, ◌<◌, ◌∷◌, ◌++◌, [], true, false, ap, sym, ◌∙◌, subst, arith, length, length-append, map}
 use Rattle.std.specs.Prelude.{get_or}
-use Rattle.std.proofs.lemmas.List.{length-map}
+use Rattle.std.proofs.lemmas.List.{length-map, get_or_default}
 use Rattle.frame.specs.Below.{AreBelow}
-use Rattle.verify.proofs.StepLemmas.{get-default}
 use Rattle.steps.specs.Rows.{no_row}
 use Rattle.steps.specs.Essential.{essential_of}
 use Rattle.steps.specs.Marked.{marked_before, number_of, AreNumbers, kept_row}
@@ -46,7 +45,7 @@ loop-place-preserved c =
             ∙ (ap (λ v. map (λ k. get_or v k 0) w.deref.result.now) w.deref-then-index.ensures.value
             ∙ (ap (map (λ k. get_or c.push.new.self.items k 0)) premises
             ∙ numbers-are marks (place + 1) c.push.new.self.items ks numbers (λ i x e. (let b = below-some place ks i x low e in omega (arith, b))))) in
-            kept-more marks f place c.loop-place.kept c.if-index.kept (get-default marks place false true (omega (arith, within, count, steps)) ∙ sym (subst (λ b. b ≡ get_or marks place b) w.if-index.true c.index.ensures)) is (w.kept-is ∙ (w.in_ok-push-2.ensures ∙ ap (λ r. c.loop-place.kept ++ r ∷ []) (row-same _ _ _ _ _ _ w.position.ensures taken w.expr.ensures)))
+            kept-more marks f place c.loop-place.kept c.if-index.kept (get_or_default marks place false true (omega (arith, within, count, steps)) ∙ sym (subst (λ b. b ≡ get_or marks place b) w.if-index.true c.index.ensures)) is (w.kept-is ∙ (w.in_ok-push-2.ensures ∙ ap (λ r. c.loop-place.kept ++ r ∷ []) (row-same _ _ _ _ _ _ w.position.ensures taken w.expr.ensures)))
         | else-index w ↦ subst (λ r. r ≡ map f (marked_before marks (place + 1))) (sym w.kept-is) (kept-same marks f place c.loop-place.kept (sym (subst (λ b. b ≡ get_or marks place b) w.if-index.false c.index.ensures)) is)
       ],
     )

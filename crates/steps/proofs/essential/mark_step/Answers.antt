@@ -1,8 +1,8 @@
 use Rattle.std.proofs.Common.{◌≡◌, ap, sym, ◌∙◌, subst, arith, length}
 use Rattle.std.specs.Prelude.{get_or}
 use Rattle.std.proofs.lemmas.List.{length-map}
+use Rattle.std.proofs.lemmas.Option.{slice_get-get_or}
 use Rattle.frame.specs.Below.{AreBelow}
-use Rattle.verify.proofs.AskedLemmas.{get-some}
 use Rattle.steps.specs.Rows.{no_row, steps_of}
 use Rattle.steps.specs.Essential.{essential_of}
 use Rattle.steps.specs.Marked.{MarksMore, mark_each}
@@ -38,5 +38,5 @@ returns-in_ok-premises c =
     let low = premises-below S c.args.at c.args.frames.now.names rows c.args.place c.requires.rows c.requires.place in
     let premises : c.deref.result.now ≡ essential_of S step = c.deref.ensures.value ∙ c.in_ok-premises.ensures in
     let new : c.mark_all.new.marks ≡ mark_each (essential_of S step) old = c.mark_all.ensures ∙ ap (λ ks. mark_each ks old) premises in
-    marked-on S (steps_of rows) c.args.place step old c.mark_all.new.marks c.requires.marks c.if-marks-place.true (step-at rows c.args.place (get_or rows c.args.place no_row) (get-some rows c.args.place no_row c.requires.place)) low
+    marked-on S (steps_of rows) c.args.place step old c.mark_all.new.marks c.requires.marks c.if-marks-place.true (step-at rows c.args.place (get_or rows c.args.place no_row) (slice_get-get_or rows c.args.place no_row c.requires.place)) low
     (subst (λ v. MarksMore old v (essential_of S step)) (sym new) (each-more (essential_of S step) old (weaken c.args.place (length old) (essential_of S step) (omega (arith, l, m, n)) low)))

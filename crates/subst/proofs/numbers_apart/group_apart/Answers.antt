@@ -1,5 +1,6 @@
 use Rattle.std.proofs.Common.{◌≡◌, ◌+◌, ◌&&◌, ◌-◌, true, false, Bool, ℕ, List, length, take, drop, get_or, arith, refl, sym, ap, subst, ◌∙◌, length-drop}
 use Rattle.std.proofs.lemmas.List.{drop_all, take_all}
+use Rattle.std.proofs.lemmas.Bool.{and_left}
 use Rattle.frame.specs.Below.{AreBelow}
 use Rattle.subst.specs.Places.{images_at}
 use Rattle.subst.specs.Apart.{image_named, is_number_apart}
@@ -20,10 +21,6 @@ both : (a b : Bool) → a ≡ true → (a && b) ≡ b
 both true b e = refl
 both false b e = cc
 
-neither : (a b : Bool) → a ≡ false → (a && b) ≡ false
-neither true b e = cc
-neither false b e = refl
-
 pub returns-then-not-number_apart-clause-apart : goal.returns-then-not-number_apart-clause-apart
 returns-then-not-number_apart-clause-apart c =
     let D = c.args.pairs.now.statements in
@@ -31,7 +28,7 @@ returns-then-not-number_apart-clause-apart c =
     let i = c.loop-index.index in
     let here = sym c.number_apart.ensures.apart ∙ c.if-not-number_apart.true in
     sym (group-by_rest D rs c.args.group.now ∙ (sym c.loop-index.invariant.1 ∙ (rest-at D rs c.args.group.now i 0 c.loop-index-test.true
-    ∙ neither _ _ (ap (λ g. is_number_apart D rs g (get_or c.args.group.now i 0)) (sym (rest-of (i + 1) c.args.group.now)) ∙ here))))
+    ∙ and_left _ _ (ap (λ g. is_number_apart D rs g (get_or c.args.group.now i 0)) (sym (rest-of (i + 1) c.args.group.now)) ∙ here))))
 
 pub loop-index-preserved : goal.loop-index-preserved
 loop-index-preserved c =

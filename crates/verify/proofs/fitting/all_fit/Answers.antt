@@ -1,5 +1,6 @@
 use Rattle.std.specs.Prelude.{◌≡◌, ℕ, ◌+◌, ◌<◌, ◌↔◌, nat_lt, Bool, true, false, IsTrue, List, [], length, map, get_or, slice_get, Some, refl}
 use Rattle.std.proofs.Common.{sym, ◌∙◌, ap, subst, arith}
+use Rattle.std.proofs.lemmas.Option.{slice_get-get_or, get_or_from_slice_get, slice_get_within}
 use Rattle.names.specs.Codes.{decode}
 use Rattle.frame.specs.Below.{AreBelow}
 use Rattle.frame.specs.Substitution.{images_of_names}
@@ -7,7 +8,6 @@ use Rattle.subst.specs.Places.{seen_at, images_at}
 use Rattle.subst.proofs.PlaceLemmas.{within-at, seen-get}
 use Rattle.entries.specs.declared.citation.Hypothesis.{Hypothesis}
 use Rattle.verify.specs.Fits.{FitsOne}
-use Rattle.verify.proofs.AskedLemmas.{get-some, some-get, some-within}
 use Rattle.verify.proofs.CitingLemmas.{get-decode}
 use Rattle.verify.proofs.FittingLemmas.{standing-at}
 use Rattle.verify.proofs.Named.{all-at}
@@ -30,7 +30,7 @@ more P hs k d less before here j h lt at = split (nat_lt j k) refl
     split true e = before j h (grind (arith, e)) at
     split false e =
         let same : k ≡ j = grind (arith, e, lt) in
-        subst (λ n. P n h) same (subst (P k) (some-get hs k h d (ap (slice_get hs) same ∙ at)) here)
+        subst (λ n. P n h) same (subst (P k) (get_or_from_slice_get hs k h d (ap (slice_get hs) same ∙ at)) here)
 
 pub fits_one-requires-clause-standing : goal.fits_one-requires-clause-standing
 fits_one-requires-clause-standing c = standing-at c.args.frames.now.statements c.args.hypotheses.now c.loop-k.k _ c.requires.standing c.loop-k-test.true
@@ -53,7 +53,7 @@ returns-then-not-fits_one c =
       λ f. absurd (unfit c.fits_one.result _ c.if-not-fits_one.true c.fits_one.ensures
           (subst (FitsOne S σ (get_or c.args.hypotheses.now k _))
           (get-decode names (map (seen_at c.args.symbols.now) c.args.places.now) k ∙ ap (decode names) (seen-get c.args.symbols.now k c.args.places.now _ (let s = c.requires.same in let t = c.loop-k-test.true in omega (arith, s, t))))
-          (f.each k _ (get-some c.args.hypotheses.now k _ c.loop-k-test.true)))),
+          (f.each k _ (slice_get-get_or c.args.hypotheses.now k _ c.loop-k-test.true)))),
     )
 
 pub loop-k-preserved : goal.loop-k-preserved
@@ -69,6 +69,6 @@ loop-k-preserved c =
 
 pub returns : goal.returns
 returns c = (
-  λ t. record { each = λ j h at. c.loop-k.invariant j h (let w = some-within c.args.hypotheses.now j h at in let e = c.loop-k-test.false in omega (arith, w, e)) at },
+  λ t. record { each = λ j h at. c.loop-k.invariant j h (let w = slice_get_within c.args.hypotheses.now j h at in let e = c.loop-k-test.false in omega (arith, w, e)) at },
   λ f. refl,
 )

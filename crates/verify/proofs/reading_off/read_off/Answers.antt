@@ -1,9 +1,9 @@
 use Rattle.std.proofs.Common.{◌<◌, length, arith, subst, get_or}
+use Rattle.std.proofs.lemmas.Option.{slice_get-get_or}
 use Rattle.subst.proofs.PlaceLemmas.{within-at}
 use Rattle.subst.specs.declared.place.ExpressionPlace.{ExpressionPlace}
 use Rattle.entries.specs.declared.citation.Hypothesis.TheVariants.{Float}
 use Rattle.verify.specs.ReadPlaces.{ReadsOne}
-use Rattle.verify.proofs.AskedLemmas.{get-some}
 use Rattle.verify.proofs.ReadingLemmas.{read-next, read-inside}
 use Rattle.verify.proofs.reading_off.read_off.Goals as goal
 
@@ -16,7 +16,7 @@ loop-k-preserved c =
     let less = c.loop-k-test.true in
     let there : k < length places = (let s = c.requires.same in omega (arith, s, less)) in
     let one = subst (λ v. ReadsOne v c.args.symbols.now (get_or c.args.heads.now k 0) (get_or hs k (Float 0)) (get_or places k none) c.loop-k.images c.read_one.new.images) c.if-not-branch.false c.in_ok-read_one.ensures.ok in (
-      read-next c.args.symbols.now c.args.heads.now hs places c.requires.different k (get_or places k none) (get-some places k none there) (get_or hs k (Float 0)) c.loop-k.images c.read_one.new.images (get-some hs k (Float 0) less) c.loop-k.invariant.0 one,
+      read-next c.args.symbols.now c.args.heads.now hs places c.requires.different k (get_or places k none) (slice_get-get_or places k none there) (get_or hs k (Float 0)) c.loop-k.images c.read_one.new.images (slice_get-get_or hs k (Float 0) less) c.loop-k.invariant.0 one,
       λ n w. read-inside n (get_or c.args.heads.now k 0) c.args.symbols.now (get_or hs k (Float 0)) (get_or places k none) c.loop-k.images c.read_one.new.images (c.loop-k.invariant.1 n w) (within-at n k places none w there) one,
     )
 

@@ -1,8 +1,8 @@
 use Rattle.std.proofs.Common.{◌≡◌, sym, ap, subst, ◌∙◌, arith}
 use Rattle.std.specs.Prelude.{◌++◌, ◌∷◌, [], Some, None, length}
+use Rattle.std.proofs.lemmas.Option.{same_Some}
 use Rattle.frame.specs.Places.{place_of, AreMarked}
 use Rattle.frame.proofs.MarkLemmas.{marked-same, marked-new, none-is, some-is}
-use Rattle.frame.proofs.WalkLemmas.{some-same}
 use Rattle.frame.proofs.places.Places.push.Goals as goal
 use Rattle.frame.proofs.places.Places.push.Goals.{in-Some+then-is_none+in_ok-at+in_ok-note, in-Some+else-is_none, in_default}
 
@@ -21,7 +21,7 @@ invariant_of-self-2 c =
           subst (λ s. AreMarked s.table.items (s.list.items ++ c.match-code.code ∷ [])) (sym w.self-inside-is)
           (marked-same k.table.items k.list.items c.match-code.code c.self.invariant (λ d e free.
           some-is w.place.result w.is_none.result w.is_none.ensures w.if-is_none.false
-          (w.place.ensures.place ∙ (ap (λ vs. place_of vs w.in-Some.number) (sym c.self.view_is) ∙ (ap (place_of k.list.items) (some-same (sym w.code-is ∙ e)) ∙ free)))))
+          (w.place.ensures.place ∙ (ap (λ vs. place_of vs w.in-Some.number) (sym c.self.view_is) ∙ (ap (place_of k.list.items) (same_Some _ _ (sym w.code-is ∙ e)) ∙ free)))))
       | in_default w ↦
           subst (λ s. AreMarked s.table.items (s.list.items ++ c.match-code.code ∷ [])) (sym w.self-inside-is)
           (marked-same k.table.items k.list.items c.match-code.code c.self.invariant (λ d e free. w.in_default.not-Some d (sym w.code-is ∙ e)))

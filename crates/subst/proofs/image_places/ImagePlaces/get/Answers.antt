@@ -2,6 +2,7 @@ use Rattle.std.proofs.Common.{◌≡◌, ℕ, ◌<◌, ◌==◌, List, length, g
 use Rattle.std.specs.Prelude.{nat_eq, cond, Some, None}
 use Rattle.std.specs.Map.{lookup}
 use Rattle.std.proofs.lemmas.Bool.Decides.{nat_tests}
+use Rattle.std.proofs.lemmas.Bool.{eq-eqb}
 use Rattle.subst.specs.declared.place.ExpressionPlace.{ExpressionPlace}
 use Rattle.subst.specs.declared.image_places.Slot.{Slot}
 use Rattle.subst.specs.Slots.{placed}
@@ -15,9 +16,6 @@ found round slots x s b h is test =
     ap (λ t. cond t (Some s.place) None) (sym test)
     ∙ (ap (λ r. cond (r.round == round) (Some r.place) None) is ∙ sym (placed-slot round slots x ∙ slot-at round slots x s h))
 
-same : (m n : ℕ) → m ≡ n → (m == n) ≡ true
-same m n e = grind (arith, nat_tests, e)
-
 other : (m n : ℕ) → (m ≡ n → ⊥) → (m == n) ≡ false
 other m n e = grind (arith, nat_tests, e)
 
@@ -28,7 +26,7 @@ returns-then-index-len c =
 
 pub returns-then-slot-self : goal.returns-then-slot-self
 returns-then-slot-self c =
-    found c.self.inside.round c.self.inside.slots.items c.args.symbol c.index-slot.result.now true (omega (arith, c.if-index-len.false, c.len.ensures)) c.index-slot.ensures (same _ _ c.if-slot-self.true)
+    found c.self.inside.round c.self.inside.slots.items c.args.symbol c.index-slot.result.now true (omega (arith, c.if-index-len.false, c.len.ensures)) c.index-slot.ensures (eq-eqb _ _ c.if-slot-self.true)
     ∙ ap (λ (ps : List (ℕ × ExpressionPlace)). lookup (nat_eq c.args.symbol) ps) c.self.view_is
 
 pub returns-else-slot-self : goal.returns-else-slot-self

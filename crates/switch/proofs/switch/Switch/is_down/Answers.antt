@@ -1,5 +1,6 @@
 use Rattle.std.proofs.Common.{ℕ, List, Option, Some, length, get_or, ap, sym, ◌∙◌, arith}
-use Rattle.net.proofs.Lists.{at_place, none_past}
+use Rattle.std.proofs.lemmas.Option.{slice_get_past}
+use Rattle.net.proofs.Lists.{at_place}
 use Rattle.switch.specs.Seat.{Seated}
 use Rattle.switch.specs.Switch.{Place, Shared, is_down_at, is_down_place}
 use Rattle.switch.proofs.SeatsLemmas.{place_at, place_past}
@@ -18,7 +19,7 @@ returns-in-Some-get g c =
 pub returns-in-None : goal.returns-in-None
 returns-in-None g c =
     let count = ap (λ (seats : List (Seated g.row.V.Denot)). length seats) c.deref.ensures.value in
-    let none = none_past c.self.inside.seats.items c.in-Some.k (omega (arith, count, c.in-None.ensures.lookup.3)) in
+    let none = slice_get_past c.self.inside.seats.items c.in-Some.k (omega (arith, count, c.in-None.ensures.lookup.3)) in
     sym (ap (λ (o : Option (Place g.row.V.Denot)). is_down_place o) (place_past c.self.inside.seats.items c.in-Some.k none))
     ∙ ap (λ (s : Shared g.row.V.Denot). is_down_at s.places (Some c.in-Some.k)) c.self.view_is
     ∙ ap (λ (o : Option ℕ). is_down_at c.args.self.now.places o) (sym c.in-Some.is)

@@ -1,9 +1,10 @@
 use Rattle.std.proofs.Common.{◌≡◌, ◌∙◌, ap, sym, arith}
 use Rattle.std.specs.List.{slice_get}
+use Rattle.std.proofs.lemmas.Option.{slice_get_past}
 use Rattle.slots.specs.FiniteMap.{entry_at, entries_to_gap}
 use Rattle.synod.specs.Core.{Core}
 use Rattle.synod.specs.Log.{log_of}
-use Rattle.synod.proofs.LogLemmas.{gap_entry, get_past}
+use Rattle.synod.proofs.LogLemmas.{gap_entry}
 use Rattle.synod.proofs.node.NodeCore.entry.Goals as goal
 
 pub returns-then-slot-front-clause-entry : goal.returns-then-slot-front-clause-entry
@@ -16,4 +17,4 @@ returns-then-slot-front-clause-entry g c =
 pub returns-else-slot-front-clause-entry : goal.returns-else-slot-front-clause-entry
 returns-else-slot-front-clause-entry g c =
     ap (λ (core : Core g.row.V.Denot). slice_get (log_of core.node) c.args.slot) (sym c.self.view_is)
-    ∙ get_past (entries_to_gap c.self.inside.learner.state.learned) c.args.slot (omega (arith, c.front.ensures.front, c.if-slot-front.false))
+    ∙ slice_get_past (entries_to_gap c.self.inside.learner.state.learned) c.args.slot (omega (arith, c.front.ensures.front, c.if-slot-front.false))
