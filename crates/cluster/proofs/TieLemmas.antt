@@ -1,5 +1,5 @@
 -- What a call leaves of the tie between cells and switch, and what the tie gives.
-use Rattle.std.proofs.Common.{◌≡◌, ℕ, zero, suc, ◌<◌, Bool, true, false, List, [], ◌∷◌, ◌++◌, length, slice_get, Option, Some, None, Result, Ok, Err, refl, ap, sym, ◌∙◌, subst, arith, append_assoc, le_of_suc-le-suc}
+use Rattle.std.proofs.Common.{◌≡◌, ℕ, suc, ◌<◌, Bool, true, false, List, [], ◌∷◌, ◌++◌, length, slice_get, Option, Some, None, Result, Ok, Err, refl, ap, sym, ◌∙◌, subst, arith, append_assoc}
 use Rattle.std.specs.Prelude.{IsOk, IsSome, MatchOption, option_map}
 use Rattle.std.specs.Borrow.{Bor}
 use Rattle.std.specs.Result.{ForOk}
@@ -15,6 +15,7 @@ use Rattle.world.specs.Carried.{carried_size}
 use Rattle.world.specs.Replicas.{NodeLibrary}
 use Rattle.cluster.specs.Cell.{Cell, new_cell, AddsEntry, TakesOver}
 use Rattle.cluster.specs.Belongs.{Belongs}
+use Rattle.library.proofs.FrontLemmas.{get-front}
 
 -- What a switch shows of a log.
 
@@ -119,11 +120,6 @@ all_found {A} (x ∷ xs) (y ∷ ys) each =
     let rest = all_found xs ys (λ i low. each (suc i) (omega (arith, low))) in
     (rest.0, ap (λ (z : A). z ∷ (xs ++ rest.0)) (sym same) ∙ ap (λ (zs : List A). y ∷ zs) rest.1)
 
-found_in : {A : Type 0} (xs rest : List A) (i : ℕ) → i < length xs → slice_get (xs ++ rest) i ≡ slice_get xs i
-found_in [] rest i low = absurd (omega arith)
-found_in (x ∷ xs) rest zero low = refl
-found_in (x ∷ xs) rest (suc i) low = found_in xs rest i (le_of_suc-le-suc low)
-
 -- an entry of the beginning is that of the list
 pub found_at : {A : Type 0} (xs ys : List A) (i : ℕ) → i < length xs → IsBeginningOf xs ys → slice_get ys i ≡ slice_get xs i
-found_at {A} xs ys i low h = ap (λ (zs : List A). slice_get zs i) (sym h.1) ∙ found_in xs h.0 i low
+found_at {A} xs ys i low h = ap (λ (zs : List A). slice_get zs i) (sym h.1) ∙ get-front xs h.0 i low

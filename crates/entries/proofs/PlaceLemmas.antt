@@ -99,7 +99,7 @@ more-grown b c g = record { numbers = extends-length b.numbers.items c.numbers.i
 
 -- ---- one more statement
 
-get-push : {A : Type 0} (xs : List A) (x y : A) (i : ℕ) → slice_get (xs ++ x ∷ []) i ≡ Some y → ((i < length xs) × (slice_get xs i ≡ Some y)) ⊎ ((i ≡ length xs) × (x ≡ y))
+pub get-push : {A : Type 0} (xs : List A) (x y : A) (i : ℕ) → slice_get (xs ++ x ∷ []) i ≡ Some y → ((i < length xs) × (slice_get xs i ≡ Some y)) ⊎ ((i ≡ length xs) × (x ≡ y))
 get-push [] x y zero e = inr (refl, same_Some _ _ e)
 get-push [] x y (suc i) e = absurd (cc)
 get-push (z ∷ xs) x y zero e = inl (omega arith, e)

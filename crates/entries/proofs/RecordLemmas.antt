@@ -43,7 +43,7 @@ head-of b r end = by r.has_row
     by true = refl
     by false = refl
 
-get-more : {A : Type 0} (zs more : List A) (k : ℕ) (x : A) → slice_get zs k ≡ Some x → slice_get (zs ++ more) k ≡ Some x
+pub get-more : {A : Type 0} (zs more : List A) (k : ℕ) (x : A) → slice_get zs k ≡ Some x → slice_get (zs ++ more) k ≡ Some x
 get-more [] more zero x e = absurd (cc)
 get-more [] more (suc k) x e = absurd (cc)
 get-more (z ∷ zs) more zero x e = e

@@ -1,5 +1,5 @@
 -- Letters read up to one of them, and what the next one does.
-use Rattle.std.specs.Prelude.{◌≡◌, ◌≢◌, ℕ, ◌+◌, ◌-◌, ◌*◌, ◌<◌, ◌≤◌, Bool, true, false, ◌&&◌, nat_le, List, [], ◌∷◌, ◌++◌, length, Option, Some, None, slice_get, refl}
+use Rattle.std.specs.Prelude.{◌≡◌, ◌≢◌, ℕ, ◌+◌, ◌-◌, ◌*◌, ◌<◌, ◌≤◌, Bool, true, false, ◌&&◌, nat_le, List, [], ◌∷◌, ◌++◌, length, Some, slice_get, refl}
 use Rattle.std.specs.Option.{option_map}
 use Rattle.std.proofs.Common.{sym, ◌∙◌, ap, subst, arith, append_assoc, append-nil, length-append, inl, inr}
 use Rattle.std.proofs.lemmas.List.Folds.{list_all-append}
@@ -11,13 +11,13 @@ use Rattle.proof_code.specs.Numbers.{items_of}
 use Rattle.proof_code.specs.Reading.{before_rest}
 use Rattle.proof_code.specs.Text.{numbers_from, starts_with_mark}
 use Rattle.proof_code.specs.Writes.{WritesRow}
-use Rattle.proof_code.proofs.LettersLemmas.{is_first-true, number_of-placed, placed-number_of, first_bounds, last_bounds}
+use Rattle.proof_code.proofs.LettersLemmas.{is_first-true, number_of-placed, placed-number_of, first_bounds, last_bounds, is_first-false, is_last-true}
 use Rattle.proof_code.proofs.RowLemmas.{WritesRow-read}
 use Rattle.explain.specs.declared.why.LetterBreak.{LetterBreak}
 use Rattle.explain.specs.declared.why.LetterFault.{LetterFault}
 use Rattle.explain.specs.Breaks.{marks_in, IsEnd, place_in, IsAllowed, IsOther, IsOver, BeginsWith, Breaks, IsLetterBreak}
 use Rattle.explain.specs.Reading.{zeros, IsReadTo}
-use Rattle.explain.proofs.NumberLemmas.{at-append, not-empty, marks-zeros, zeros-number, zeros-mark, before-push, over, last-over, first-false, last-true, zero-or}
+use Rattle.explain.proofs.NumberLemmas.{at-append, not-empty, marks-zeros, zeros-number, zeros-mark, before-push, over, last-over, zero-or}
 
 -- ---- nothing read yet
 
@@ -42,10 +42,6 @@ read-none labels letters starts = record {
   small = omega arith;
   room = λ e. absurd (e refl);
 }
-  where
-    none : (o : Option (List ℕ)) → o ≡ before_rest [] o
-    none None = refl
-    none (Some xs) = refl
 
 module _ (labels : ℕ) (letters : List ℕ) (index limit digits begin : ℕ) (r : IsReadTo labels letters index limit digits begin) where
   -- the letters before the word write items
@@ -155,10 +151,10 @@ module _ (labels : ℕ) (letters : List ℕ) (index limit digits begin : ℕ) (r
         done (20 * digits + (letter - 64)) limit step (r.limit_is ∙ ap (λ z. labels + z) (sym zs)) (let f = r.few in omega (arith, zs, f))
       where
         first : is_first letter ≡ false
-        first = first-false letter high
+        first = is_first-false letter high
 
         last : is_last letter ≡ true
-        last = last-true letter low high
+        last = is_last-true letter low high
 
         fits : nat_le (20 * digits + (letter - 64)) limit ≡ true
         fits = le-leb (20 * digits + (letter - 64)) limit within
@@ -211,7 +207,7 @@ module _ (labels : ℕ) (letters : List ℕ) (index limit digits begin : ℕ) (r
 
     pub word-over : 65 ≤ letter → letter ≤ 84 → limit < 20 * digits + (letter - 64) → BeginsWith (IsOver limit r.begun) r.rest
     word-over low high h =
-        breaks-here (IsOver limit r.begun) (or_right (is_first letter) (is_last letter) (last-true letter low high), λ word n is. last-over limit digits letter word n (first-false letter high) h (counted word n is))
+        breaks-here (IsOver limit r.begun) (or_right (is_first letter) (is_last letter) (is_last-true letter low high), λ word n is. last-over limit digits letter word n (is_first-false letter high) h (counted word n is))
 
     pub begun-over : (digits' : ℕ) → 85 ≤ letter → letter ≤ 89 → digits' ≡ 5 * digits + (letter - 84) → limit ≤ 20 * digits' → BeginsWith (IsOver limit r.begun) r.rest
     begun-over digits' low high is h =

@@ -2,7 +2,6 @@
 use Rattle.std.specs.Prelude.{◌≡◌, ◌≢◌, ◌⊎◌, ℕ, zero, suc, ◌+◌, ◌-◌, ◌*◌, ◌<◌, ◌≤◌, Bool, true, false, cond, ◌&&◌, nat_lt, List, [], ◌∷◌, ◌++◌, length, Option, Some, None, slice_get, slice_index_or, refl}
 use Rattle.std.specs.Option.{option_map}
 use Rattle.std.proofs.Common.{sym, ◌∙◌, ap, arith, append_assoc, inl, inr}
-use Rattle.std.proofs.lemmas.Bool.Decides.{nat_tests}
 use Rattle.std.proofs.lemmas.Option.{none-some, same_Some}
 use Rattle.mm_lex.specs.Alphabet.{Name, is_empty}
 use Rattle.proof_code.specs.declared.item.Item.TheVariants.{Cite, Recall}
@@ -78,12 +77,6 @@ last-over limit digits letter word n first h e = by (is_last letter && is_empty 
     by false e = absurd (none-some n e)
 
 -- ---- letters and tests
-
-pub first-false : (c : ℕ) → c ≤ 84 → is_first c ≡ false
-first-false c high = grind (arith, nat_tests)
-
-pub last-true : (c : ℕ) → 65 ≤ c → c ≤ 84 → is_last c ≡ true
-last-true c low high = grind (arith, nat_tests)
 
 pub zero-or : (n : ℕ) → (n ≡ 0) ⊎ (n ≢ 0)
 zero-or zero = inl refl

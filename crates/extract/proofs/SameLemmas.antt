@@ -1,11 +1,11 @@
 -- Statements and lists that a test found the same.
-use Rattle.std.specs.Prelude.{◌≡◌, ℕ, zero, suc, ◌&&◌, ◌||◌, ◌+◌, ◌<◌, ◌≤◌, Bool, true, false, List, [], ◌∷◌, ◌++◌, length, map, take, get_or, refl}
+use Rattle.std.specs.Prelude.{◌≡◌, ℕ, zero, suc, ◌||◌, ◌+◌, ◌<◌, ◌≤◌, Bool, true, false, List, [], ◌∷◌, ◌++◌, length, map, take, get_or, refl}
 use Rattle.std.specs.List.{list_all, list_any}
 use Rattle.std.proofs.Common.{sym, ◌∙◌, ap, arith, take_all}
 use Rattle.std.proofs.lemmas.List.{map_more}
 use Rattle.mm_lex.specs.Alphabet.{Name, name_eq, has_name}
 use Rattle.mm_lex.specs.Words.{spaced, words_of, is_word}
-use Rattle.mm_lex.proofs.WordsLemmas.{words_of-spaced}
+use Rattle.mm_lex.proofs.WordsLemmas.{words_of-spaced, and_left, and_right}
 use Rattle.mm_read.specs.declared.stmt.Stmt.{Stmt}
 use Rattle.mm_read.specs.Statements.{Database, is_shaped}
 
@@ -35,15 +35,7 @@ maps-all f g xs ys n p q e = ap (map f) (sym (take_all n xs p)) ∙ (e ∙ ap (m
 
 -- ---- shapes
 
-and-first : (a b : Bool) → (a && b) ≡ true → a ≡ true
-and-first true b h = refl
-and-first false b h = h
-
-and-second : (a b : Bool) → (a && b) ≡ true → b ≡ true
-and-second true b h = h
-and-second false b h = absurd (let e = h in cc)
-
 pub shaped-at : (S : Database) (n : ℕ) (s : Stmt) → list_all is_shaped S ≡ true → n < length S → s ≡ get_or S n s → is_shaped s ≡ true
 shaped-at [] n s h less is = absurd (omega (arith, less))
-shaped-at (t ∷ S) zero s h less is = ap is_shaped is ∙ and-first (is_shaped t) (list_all is_shaped S) h
-shaped-at (t ∷ S) (suc n) s h less is = shaped-at S n s (and-second (is_shaped t) (list_all is_shaped S) h) (omega (arith, less)) is
+shaped-at (t ∷ S) zero s h less is = ap is_shaped is ∙ and_left (is_shaped t) (list_all is_shaped S) h
+shaped-at (t ∷ S) (suc n) s h less is = shaped-at S n s (and_right (is_shaped t) (list_all is_shaped S) h) (omega (arith, less)) is

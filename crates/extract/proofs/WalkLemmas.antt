@@ -2,7 +2,7 @@
 use Rattle.std.specs.Prelude.{◌≡◌, ℕ, zero, suc, ◌+◌, ◌-◌, ◌<◌, ◌≤◌, true, false, List, [], ◌∷◌, ◌++◌, length, map, take, get_or, slice_get, Some, Result, Ok, Err, IfOk, refl}
 use Rattle.std.proofs.Common.{sym, ◌∙◌, ap, subst, arith, inl, inr, take_all}
 use Rattle.std.proofs.lemmas.Bool.{cases_eq}
-use Rattle.std.proofs.lemmas.List.{take_more, take-map, map-append}
+use Rattle.std.proofs.lemmas.List.{take_more, take-map}
 use Rattle.mm_lex.specs.Alphabet.{Name}
 use Rattle.mm_read.specs.declared.stmt.Stmt.{Stmt}
 use Rattle.mm_read.specs.declared.stmt.Stmt.TheVariants.{Open, Close, Const, Var, Disj, Float, Ess, Axiom, Prove}
@@ -13,6 +13,7 @@ use Rattle.frame.specs.FrameOf.{hypotheses, mandatory_groups, together}
 use Rattle.frame.proofs.GroupsLemmas.{groups-pairs}
 use Rattle.extract.specs.Kept.{IsPart, nothing, takes, leaves, IsKept}
 use Rattle.extract.specs.Walk.{wanted, AreKept, IsSameFrame, IsWalked}
+use Rattle.library.proofs.EnteringLemmas.{taken-more}
 
 -- ---- what holds of an answer
 
@@ -54,9 +55,6 @@ get-some (t ∷ S) (suc n) s d less e = get-some S n s d (omega (arith, less)) e
 
 longer : (S : Database) (n : ℕ) (s : Stmt) → n < length S → s ≡ get_or S n s → take (n + 1) S ≡ take n S ++ s ∷ []
 longer S n s less is = take_more S n s less ∙ ap (λ r. take n S ++ r ∷ []) (sym is)
-
-bares-longer : (S : Database) (n : ℕ) (s : Stmt) → n < length S → s ≡ get_or S n s → bares (take (n + 1) S) ≡ bares (take n S) ++ bare s ∷ []
-bares-longer S n s less is = ap bares (longer S n s less is) ∙ map-append bare (take n S) (s ∷ [])
 
 before-is : (S : Database) (n : ℕ) → before (bares S) (suc n) ≡ bares (take n S)
 before-is S n = ap (λ m. take m (bares S)) (let e : suc n - 1 ≡ n = omega arith in e) ∙ take-map bare n S
@@ -111,7 +109,7 @@ module _ (S T : Database) (labels : List Name) (n k : ℕ) (W P : Database) (w :
   pub walk-past : (s : Stmt) (W' : Database) → n < length S → s ≡ get_or S n s → wanted labels s ≡ false → W' ≡ W ++ bare s ∷ [] → IsWalked S T labels (n + 1) k W' P
   walk-past s W' less is unwanted grown =
       record {
-        whole_is = grown ∙ (ap (λ A. A ++ bare s ∷ []) w.whole_is ∙ sym (bares-longer S n s less is));
+        whole_is = grown ∙ (ap (λ A. A ++ bare s ∷ []) w.whole_is ∙ sym (taken-more S n s less is));
         part_is = w.part_is;
         part_of = subst (IsPart (take k T)) (sym (longer S n s less is)) (part-leave (take k T) (take n S) s w.part_of);
         kept = kept-more S T labels n s w.kept (get-some S n s s less is) (λ want. let f : true ≡ false = sym want ∙ unwanted in absurd (cc));
@@ -123,8 +121,8 @@ module _ (S T : Database) (labels : List Name) (n k : ℕ) (W P : Database) (w :
       let g = get-within T k s met in
       subst (λ m. IsWalked S T labels (n + 1) m W' P') (sym at)
       (record {
-        whole_is = grown-whole ∙ (ap (λ A. A ++ bare s ∷ []) w.whole_is ∙ sym (bares-longer S n s less is));
-        part_is = grown-part ∙ (ap (λ A. A ++ bare s ∷ []) w.part_is ∙ sym (bares-longer T k s g.0 g.1));
+        whole_is = grown-whole ∙ (ap (λ A. A ++ bare s ∷ []) w.whole_is ∙ sym (taken-more S n s less is));
+        part_is = grown-part ∙ (ap (λ A. A ++ bare s ∷ []) w.part_is ∙ sym (taken-more T k s g.0 g.1));
         part_of = subst (λ U. IsPart U (take (n + 1) S)) (sym (longer T k s g.0 g.1)) (subst (IsPart (take k T ++ s ∷ [])) (sym (longer S n s less is)) (part-take (take k T) (take n S) s w.part_of));
         kept = kept-more S T labels n s w.kept (get-some S n s s less is) (λ want label c. kept-here s met (wanted-assertion labels s want) (agrees want) label c);
       })

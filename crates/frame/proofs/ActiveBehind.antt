@@ -1,7 +1,7 @@
 -- What is active behind a statement.
 use Rattle.std.specs.Prelude.{◌≡◌, ℕ, zero, suc, ◌+◌, ◌-◌, Bool, true, false, cond, ◌||◌, List, [], ◌∷◌, ◌++◌, Option, Some, None, refl}
 use Rattle.std.specs.List.{list_any}
-use Rattle.std.proofs.Common.{sym, ◌∙◌, ap, subst, arith}
+use Rattle.std.proofs.Common.{sym, ◌∙◌, ap}
 use Rattle.std.proofs.lemmas.Slice.Eq.{bytes_eq-Decides}
 use Rattle.std.proofs.lemmas.Bool.{or_left, or_right}
 use Rattle.mm_lex.specs.Alphabet.{Name, name_eq}
@@ -9,6 +9,7 @@ use Rattle.mm_read.specs.declared.stmt.Stmt.{Stmt}
 use Rattle.mm_read.specs.declared.stmt.Stmt.TheVariants.{Open, Close, Const, Var, Disj, Float, Ess, Axiom, Prove}
 use Rattle.mm_read.specs.Statements.{Database}
 use Rattle.scope.specs.Active.{stays_open, active_from}
+use Rattle.frame.proofs.OpenLemmas.{stays_open-any}
 
 -- no variable has two `$f` among the hypotheses
 abbrev pub IsElsewhere : Name → List (Option Name) → Type 0
@@ -25,9 +26,6 @@ AreOnce (Some x ∷ vs) = IsElsewhere x vs × AreOnce vs
 
 pub not-both : (a : Bool) → a ≡ true → a ≡ false → ⊥
 not-both a p q = let e : true ≡ false = sym p ∙ q in cc
-
-pub equal : (x y : Name) → name_eq x y ≡ true → x ≡ y
-equal x y h = (bytes_eq-Decides x y).0 h
 
 pub same : (x y : Name) → x ≡ y → name_eq x y ≡ true
 same x y h = (bytes_eq-Decides x y).1 h
@@ -68,37 +66,8 @@ stands-active q n (t ∷ front) s rest opens passes = by (stands-active q (n + 1
     by more true = or_right (q t) (list_any (λ p. q p.1) (active_from (n + 1) (front ++ s ∷ rest))) more
     by more false = more
 
-pub open_front : (d : ℕ) (T U : Database) → stays_open d (T ++ U) ≡ true → stays_open d T ≡ true
-open_front d [] U h = refl
-open_front d (Open ∷ T) U h = open_front (suc d) T U h
-open_front zero (Close ∷ T) U h = cc
-open_front (suc d) (Close ∷ T) U h = open_front d T U h
-open_front d (Const ws ∷ T) U h = open_front d T U h
-open_front d (Var ws ∷ T) U h = open_front d T U h
-open_front d (Disj ws ∷ T) U h = open_front d T U h
-open_front d (Float l c v ∷ T) U h = open_front d T U h
-open_front d (Ess l e ∷ T) U h = open_front d T U h
-open_front d (Axiom l e ∷ T) U h = open_front d T U h
-open_front d (Prove l e p ∷ T) U h = open_front d T U h
-
-open_deeper : (d : ℕ) (U : Database) → stays_open 0 U ≡ true → stays_open d U ≡ true
-open_deeper d U h = let z : 0 + d ≡ d = omega arith in subst (λ n. stays_open n U ≡ true) z (by 0 d U h)
-  where
-    by : (c e : ℕ) (T : Database) → stays_open c T ≡ true → stays_open (c + e) T ≡ true
-    by c e [] k = refl
-    by c e (Open ∷ T) k = let w : suc c + e ≡ suc (c + e) = omega arith in subst (λ n. stays_open n T ≡ true) w (by (suc c) e T k)
-    by zero e (Close ∷ T) k = cc
-    by (suc c) e (Close ∷ T) k = let w : suc c + e ≡ suc (c + e) = omega arith in subst (λ n. stays_open n (Close ∷ T) ≡ true) (sym w) (by c e T k)
-    by c e (Const ws ∷ T) k = by c e T k
-    by c e (Var ws ∷ T) k = by c e T k
-    by c e (Disj ws ∷ T) k = by c e T k
-    by c e (Float l v w ∷ T) k = by c e T k
-    by c e (Ess l x ∷ T) k = by c e T k
-    by c e (Axiom l x ∷ T) k = by c e T k
-    by c e (Prove l x p ∷ T) k = by c e T k
-
 pub open_both : (d : ℕ) (T U : Database) → stays_open d T ≡ true → stays_open 0 U ≡ true → stays_open d (T ++ U) ≡ true
-open_both d [] U h k = open_deeper d U k
+open_both d [] U h k = stays_open-any d U k
 open_both d (Open ∷ T) U h k = open_both (suc d) T U h k
 open_both zero (Close ∷ T) U h k = cc
 open_both (suc d) (Close ∷ T) U h k = open_both d T U h k

@@ -12,9 +12,10 @@ use Rattle.frame.specs.FrameOf.{is_mandatory, is_hypothesis}
 use Rattle.entries.specs.declared.kind.Kind.TheVariants.{Open, Close, Const, Var, Disj, Float, Ess, Axiom, Prove}
 use Rattle.frame.specs.StoredParts.{is_float_in}
 use Rattle.frame.proofs.LegalLabels.{AllKept}
-use Rattle.frame.proofs.ActiveBehind.{stands-active, open_front}
+use Rattle.frame.proofs.ActiveBehind.{stands-active}
 use Rattle.frame.proofs.LegalBehind.{kept-legal, legal-keeps, Order, earlier, at_one, later, order}
 use Rattle.frame.proofs.FoundByNumber.{middle}
+use Rattle.frame.proofs.OpenLemmas.{stays_open-front}
 
 -- ---- cuts
 
@@ -60,7 +61,7 @@ one-float S A m l x B k m' l' all whole stays at_k lt =
         let legal = kept-legal S (take k S) (stmt.Float m' l' x) (drop (suc k) S) all (cut-at S k (stmt.Float m' l' x) at_k) in
         let g : (is_variable (take k S) x && not (has_float (take k S) x)) ≡ true = (legal-keeps (take k S) (stmt.Float m' l' x) legal).g7 in
         let none = and_parts (is_variable (take k S) x) (not (has_float (take k S) x)) g in
-        let inside : stays_open 0 M ≡ true = open_front 0 M (stmt.Float m' l' x ∷ drop (suc k) S) (ap (stays_open 0) (sym q) ∙ stays) in
+        let inside : stays_open 0 M ≡ true = stays_open-front 0 M (stmt.Float m' l' x ∷ drop (suc k) S) (ap (stays_open 0) (sym q) ∙ stays) in
         let has : has_float (take k S) x ≡ true = ap (λ D. has_float D x) p ∙ stands-active (is_float_of x) 1 A (stmt.Float m l x) M inside ((bytes_eq-Decides x x).1 refl) in
         let bad : true ≡ false = sym none.1 ∙ ap not has in cc
 
@@ -120,10 +121,6 @@ stays-behind (stmt.Var ws) B h k = cc
 stays-behind (stmt.Disj ws) B h k = cc
 stays-behind (stmt.Axiom m w) B h k = cc
 stays-behind (stmt.Prove m w r) B h k = cc
-
-pub take-front : (A : Database) (t : Stmt) (B : Database) → take (length A) (A ++ t ∷ B) ≡ A
-take-front [] t B = refl
-take-front (a ∷ A) t B = ap (λ r. a ∷ r) (take-front A t B)
 
 -- the active `$f` of a variable is one
 pub one-place : (S A : Database) (m l x : Name) (B A' : Database) (m' l' : Name) (B' : Database) → AllKept S → S ≡ A ++ stmt.Float m l x ∷ B → stays_open 0 B ≡ true

@@ -17,6 +17,7 @@ use Rattle.frame.specs.Disjoint.{are_apart}
 use Rattle.frame.specs.Below.{AreBelow}
 use Rattle.frame.specs.Covers.{is_listed, are_listed, does_cover, are_covered, do_share, is_pair_apart, is_variable_apart, is_symbol_apart, are_marked}
 use Rattle.frame.proofs.KindWalk.{has-decode}
+use Rattle.scope.proofs.ActiveLemmas.{or_false_right}
 
 -- ---- a list that a loop goes through
 
@@ -54,7 +55,7 @@ repeat-passes p f (y ∷ xs) x h k =
     by true e k rest = let same : x ≡ y = grind (arith, e) in ap (λ n. p (f n)) same ∙ (and_parts (p (f y)) (list_all p (map f xs)) h).0
     by false e k rest = rest k
 
-all-true : {A : Type 0} (p : A → Bool) (xs : List A) → ((x : A) → p x ≡ true) → list_all p xs ≡ true
+pub all-true : {A : Type 0} (p : A → Bool) (xs : List A) → ((x : A) → p x ≡ true) → list_all p xs ≡ true
 all-true p [] h = refl
 all-true p (x ∷ xs) h = ap (λ b. b && list_all p xs) (h x) ∙ all-true p xs h
 
@@ -90,15 +91,11 @@ any-has p (y ∷ xs) h = by (p y) refl h (any-has p xs)
 
 pub none-has : (p : Name → Bool) (xs : List Name) → list_any p xs ≡ false → (x : Name) → has_name x xs ≡ true → p x ≡ false
 none-has p [] h x k = cc
-none-has p (y ∷ xs) h x k = by (name_eq x y) refl k (λ in_xs. none-has p xs (right (p y) (list_any p xs) h) x in_xs)
+none-has p (y ∷ xs) h x k = by (name_eq x y) refl k (λ in_xs. none-has p xs (or_false_right (p y) (list_any p xs) h) x in_xs)
   where
     left : (a b : Bool) → (a || b) ≡ false → a ≡ false
     left true b e = cc
     left false b e = refl
-
-    right : (a b : Bool) → (a || b) ≡ false → b ≡ false
-    right true b e = cc
-    right false b e = e
 
     by : (b : Bool) → name_eq x y ≡ b → (b || has_name x xs) ≡ true → (has_name x xs ≡ true → p x ≡ false) → p x ≡ false
     by true e k rest = ap p (same_name x y e) ∙ left (p y) (list_any p xs) h

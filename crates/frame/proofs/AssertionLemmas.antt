@@ -82,7 +82,7 @@ hypotheses-of names labels es q kinds = all (active S) (active-are Stands 1 S (�
         step true e r = (one p.0 p.1 h.0 e, r)
         step false e r = r
 
-hypothesis-kinds : (S : Database) (s t : Stmt) → is_hypothesis S s t ≡ true → is_hypothesis_kind t ≡ true
+pub hypothesis-kinds : (S : Database) (s t : Stmt) → is_hypothesis S s t ≡ true → is_hypothesis_kind t ≡ true
 hypothesis-kinds S s (stmt.Float l c x) h = refl
 hypothesis-kinds S s (stmt.Ess l e) h = refl
 hypothesis-kinds S s stmt.Open h = cc

@@ -21,11 +21,8 @@ use Rattle.frame.proofs.ActiveBehind.{stands-active, IsElsewhere, AreOnce}
 use Rattle.frame.proofs.TypedVariables.{first-fixed, own-fixed, float-kinds}
 use Rattle.frame.proofs.PlacesLemmas.{is_flt, used-has-place, mandatory-place, variables-once}
 use Rattle.frame.proofs.GroupsLemmas.{has-filter}
-use Rattle.frame.proofs.FoundByNumber.{map-back, map-at, take-at, middle, kept-front}
+use Rattle.frame.proofs.FoundByNumber.{map-back, map-at, take-at, middle, kept-front, some-same}
 use Rattle.frame.proofs.PlacedHypotheses.{IsHyp, AreHyps, hyps}
-
-some-same : {A : Type 0} {o : Option A} {x y : A} → o ≡ Some x → o ≡ Some y → x ≡ y
-some-same {x = x} {y = y} p q = let e : Some x ≡ Some y = sym p ∙ q in cc
 
 -- ---- lists
 

@@ -1,5 +1,5 @@
 -- Collecting positions: the loops' steps.
-use Rattle.std.specs.Prelude.{◌≡◌, ℕ, zero, suc, ◌+◌, ◌-◌, ◌<◌, ◌≤◌, Bool, true, false, cond, ◌==◌, ◌&&◌, nat_lt, ◌⊎◌, List, [], ◌∷◌, ◌++◌, length, map, drop, get_or, slice_get, Some, Result, Ok, Err, OnOk, refl}
+use Rattle.std.specs.Prelude.{◌≡◌, ℕ, zero, suc, ◌+◌, ◌-◌, ◌<◌, ◌≤◌, Bool, true, false, cond, ◌==◌, nat_lt, ◌⊎◌, List, [], ◌∷◌, ◌++◌, length, map, drop, get_or, slice_get, Some, Result, Ok, Err, OnOk, refl}
 use Rattle.std.proofs.Common.{sym, ◌∙◌, ap, subst, arith, inl, inr}
 use Rattle.mm_read.specs.declared.stmt.Stmt.{Stmt}
 use Rattle.mm_read.specs.Statements.{Database}
@@ -12,6 +12,8 @@ use Rattle.entries.specs.Entries.{Entry}
 use Rattle.frame.specs.StoredHypotheses.{inserted, with_float, with_floats, with_all, with_essentials, kept_at}
 use Rattle.frame.specs.StoredEntries.{floats, last_from, last_where, stmt_by, stmt_of, is_float_kind}
 use Rattle.frame.specs.StoredCounts.{IsPlain}
+use Rattle.scope.proofs.ActiveLemmas.{place}
+use Rattle.mm_lex.proofs.WordsLemmas.{and_left}
 
 pub inserted-here : (p q : ℕ) (qs : List ℕ) → p ≡ q → inserted p (q ∷ qs) ≡ q ∷ qs
 inserted-here p q qs e = let t : (p == q) ≡ true = grind (arith, e) in ap (λ b. cond b (q ∷ qs) (cond (nat_lt p q) (p ∷ q ∷ qs) (q ∷ inserted p qs))) t
@@ -54,9 +56,6 @@ last-is test found at (e ∷ es) p one h = by (last-is test (cond (test e) at fo
         → (p ≡ found) ⊎ ((i : ℕ) × (d : Entry) × (slice_get (e ∷ es) i ≡ Some d) × (test d ≡ true) × (p ≡ at + i))
     by (inl q) = here (test e) refl q
     by (inr r) = let k = r.0 in inr (suc k, r.1, r.2, r.3, r.4 ∙ place at k)
-      where
-        place : (a n : ℕ) → a + 1 + n ≡ a + suc n
-        place a n = omega arith
 
 float-plain : (names labels : List Name) (e : Entry) → is_float_kind e.kind ≡ true → IsPlain (Some (stmt_of names labels e))
 float-plain names labels e = by e.kind
@@ -71,10 +70,6 @@ float-plain names labels e = by e.kind
     by Ess h = cc
     by Axiom h = cc
     by Prove h = cc
-
-and-first : (a b : Bool) → (a && b) ≡ true → a ≡ true
-and-first true b h = refl
-and-first false b h = cc
 
 -- it stands in the list, and opens or closes no block
 pub float-stands : (names labels : List Name) (es : List Entry) (c p : ℕ) → p ≡ last_where (floats c) es → (p ≡ 0 → ⊥)
@@ -97,7 +92,7 @@ float-stands names labels es c p h some = by (last-is (floats c) 0 1 es p (omega
         let k = r.0 in let at = r.4 in let lt = get-below es k r.1 r.2 in
         let back : p - 1 ≡ k = omega (arith, at) in
         let there : slice_get (map (stmt_of names labels) es) (p - 1) ≡ Some (stmt_of names labels r.1) = ap (slice_get (map (stmt_of names labels) es)) back ∙ get-map es k r.1 r.2 in
-        (omega (arith, at), omega (arith, at, lt), subst IsPlain (sym there) (float-plain names labels r.1 (and-first (is_float_kind r.1.kind) _ r.3)))
+        (omega (arith, at), omega (arith, at, lt), subst IsPlain (sym there) (float-plain names labels r.1 (and_left (is_float_kind r.1.kind) _ r.3)))
 
 pub float-none : (es : List Entry) (S : Database) (c : ℕ) (list : List ℕ) → last_where (floats c) es ≡ 0 → with_float es S c list ≡ list
 float-none es S c list z =

@@ -19,14 +19,15 @@ use Rattle.frame.specs.StoredCounts.{AreNumbered, HasTwo}
 use Rattle.frame.specs.StoredHypotheses.{with_floats, collected, kept_at, option_kept}
 use Rattle.frame.specs.StoredParts.{is_float_in, floats_in}
 use Rattle.frame.proofs.LegalLabels.{AllKept}
-use Rattle.frame.proofs.ActiveBehind.{Stands, active-stands, stands-active, open_both}
+use Rattle.frame.proofs.ActiveBehind.{Stands, active-stands, stands-active, open_both, not-both}
 use Rattle.frame.proofs.TypedVariables.{float-kinds, is_ess, typed-before}
 use Rattle.frame.proofs.PlacesLemmas.{active-rest}
 use Rattle.frame.proofs.FoundByNumber.{map-back, map-at, middle, numbered-at}
 use Rattle.frame.proofs.AscendingLists.{In, same-lists}
 use Rattle.frame.proofs.ActivePositions.{LastAt, NoneOf, last-is, IsFloatOf, SomeFloat, floats-in, in-floats, ascends-floats, SomeEssential, essentials-in, in-essentials, ascends-essentials, IsActiveAt, active-members, members-active, ascends-active}
-use Rattle.frame.proofs.NamedCodes.{not-both, coded, has-code, code-low, floats-is, is-floats}
-use Rattle.frame.proofs.ActiveFloats.{cut-at, length-cut, rest-active, one-float, hyp-kind, ess-hyp, float-in-kind, float-of-kind, stays-behind, take-front, one-place}
+use Rattle.frame.proofs.NamedCodes.{coded, has-code, code-low, floats-is, is-floats}
+use Rattle.frame.proofs.ActiveFloats.{cut-at, length-cut, rest-active, one-float, hyp-kind, ess-hyp, float-in-kind, float-of-kind, stays-behind, one-place}
+use Rattle.frame.proofs.LegalBehind.{before-at}
 
 -- ---- what is found is what is meant
 
@@ -138,7 +139,7 @@ module _ (es : List Entry) (names labels : List Name) (m : ℕ) (S : Database)
         ap (λ k. option_kept (slice_get es k)) one ∙ (ap option_kept x.found
         ∙ (kept (length h.front) x.entry x.found (sym (ap is_essential x.is) ∙ h.passes)
         ∙ (ap (λ t. floats_in (take (length h.front) S) (expr_of t)) (sym x.is)
-        ∙ ap (λ D. floats_in D (expr_of h.stmt)) (ap (take (length h.front)) h.whole ∙ take-front h.front h.stmt h.rest))))
+        ∙ ap (λ D. floats_in D (expr_of h.stmt)) (ap (take (length h.front)) h.whole ∙ before-at h.front h.stmt h.rest))))
 
     used-own : (x : Name) → has_name x (expr_of s) ≡ true → is_used S s x ≡ true
     used-own x h = or_left (has_name x (expr_of s)) _ h

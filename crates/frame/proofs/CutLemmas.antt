@@ -20,8 +20,10 @@ use Rattle.frame.specs.StoredParts.{has_parts, IsKeptAs}
 use Rattle.frame.proofs.SymbolsLemmas.{symbols_of-front}
 use Rattle.frame.proofs.AssertionLemmas.{kept-moved}
 use Rattle.frame.proofs.OpenLemmas.{stays_open-front}
-use Rattle.frame.proofs.StoredOneMore.{statements-more, stmt-more, numbered-at, label-at}
+use Rattle.frame.proofs.StoredOneMore.{statements-more, stmt-more, numbered-at}
 use Rattle.frame.proofs.StoredTaken.{length-positions}
+use Rattle.scope.proofs.ActiveLemmas.{place}
+use Rattle.frame.proofs.LabelLemmas.{label-below-at}
 
 -- ---- the front of a list
 
@@ -59,8 +61,6 @@ positions_from-append at [] B = ap (λ n. positions_from n B) (place at)
 positions_from-append at (s ∷ A) B =
     ap (option_position (label_of s) at) (positions_from-append (at + 1) A B ∙ ap (λ n. positions_from (at + 1) A ++ positions_from n B) (place at (length A))) ∙ by (label_of s)
   where
-    place : (a n : ℕ) → a + 1 + n ≡ a + suc n
-    place a n = omega arith
 
     by : (o : Option Name) → option_position o at (positions_from (at + 1) A ++ positions_from (at + suc (length A)) B) ≡ option_position o at (positions_from (at + 1) A) ++ positions_from (at + suc (length A)) B
     by None = refl
@@ -171,7 +171,7 @@ module _ (names labels : List Name) (positions : List ℕ) (symbols : List Symbo
       let lt = q.0 in
       let here = ap (λ r. slice_get r i) (sym p.entries_cut) ∙ h in
       let same : stmt_of names labels d ≡ stmt_of names' labels' d =
-      stmt-more names' names labels' labels d names-front labels-extend (numbered-at (length names') (length labels') (take n entries) numbered i d here) (label-at (length names') (length labels') (take n entries) numbered i d here) in
+      stmt-more names' names labels' labels d names-front labels-extend (numbered-at (length names') (length labels') (take n entries) numbered i d here) (label-below-at (length names') (length labels') (take n entries) numbered i d here) in
       subst (λ es. IsKeptAs es (take i (map (stmt_of names' labels') entries')) (stmt_of names' labels' d) d.assertion) (sym p.entries_cut)
       (subst (λ T. IsKeptAs (take n entries) T (stmt_of names' labels' d) d.assertion) (sym (front-of i lt))
       (subst (λ t. IsKeptAs (take n entries) (take i S) t d.assertion) same

@@ -7,6 +7,8 @@ use Rattle.entries.specs.Entries.{Entry}
 use Rattle.frame.specs.declared.storage.Symbol.{Symbol}
 use Rattle.frame.specs.StoredEntries.{floats, declares, last_from, symbol_of}
 use Rattle.frame.specs.StoredCounts.{with_entry}
+use Rattle.scope.proofs.ActiveLemmas.{place}
+use Rattle.scope.proofs.DeclaredLemmas.{or_false}
 
 pub below-at : (n : ℕ) (codes : List ℕ) (k : ℕ) → AreBelow n codes → k < length codes → get_or codes k 0 < n
 below-at n [] k h l = absurd (omega (arith, l))
@@ -16,10 +18,6 @@ below-at n (c ∷ codes) (suc k) h l = below-at n codes k h.1 (omega (arith, l))
 pub or-true : (a : Bool) → (a || true) ≡ true
 or-true true = refl
 or-true false = refl
-
-pub or-false : (a : Bool) → (a || false) ≡ a
-or-false true = refl
-or-false false = refl
 
 pub any-take-more : (p : ℕ → Bool) (xs : List ℕ) (i : ℕ) → i < length xs → list_any p (take (i + 1) xs) ≡ (list_any p (take i xs) || p (get_or xs i 0))
 any-take-more p [] i h = absurd (omega (arith, h))
@@ -53,10 +51,10 @@ note-step (y ∷ xs) zero zero at r x any g e =
     ap (λ n. Some (record { float = n; variable = at })) f ∙ ap (λ b. Some (noted x at b)) (sym (or-true any))
 note-step (y ∷ xs) zero (suc c) at r x any g e =
     let no : nat_eq (suc c) zero ≡ false = grind arith in
-    g ∙ ap (λ b. Some (noted x at b)) (sym (ap (λ b. any || b) no ∙ or-false any))
+    g ∙ ap (λ b. Some (noted x at b)) (sym (ap (λ b. any || b) no ∙ or_false any))
 note-step (y ∷ xs) (suc k) zero at r x any g e =
     let no : nat_eq zero (suc k) ≡ false = grind arith in
-    g ∙ ap (λ b. Some (noted x at b)) (sym (ap (λ b. any || b) no ∙ or-false any))
+    g ∙ ap (λ b. Some (noted x at b)) (sym (ap (λ b. any || b) no ∙ or_false any))
 note-step (y ∷ xs) (suc k) (suc c) at r x any g e =
     let same : nat_eq c k ≡ nat_eq (suc c) (suc k) = grind arith in
     note-step xs k c at r x any g e ∙ ap (λ b. Some (noted x at (any || b))) same
@@ -69,9 +67,6 @@ last_from-push test found at [] e = ap (λ n. cond (test e) n found) (place at)
 last_from-push test found at (d ∷ es) e =
     last_from-push test (cond (test d) at found) (at + 1) es e
     ∙ ap (λ n. cond (test e) n (last_from test (cond (test d) at found) (at + 1) es)) (place at (length es))
-  where
-    place : (a n : ℕ) → a + 1 + n ≡ a + suc n
-    place a n = omega arith
 
 -- the last declarations behind one more entry
 pub symbol_of-push : (es : List Entry) (e : Entry) (c : ℕ) → symbol_of (es ++ e ∷ []) c ≡ with_entry e (1 + length es) c (symbol_of es c)

@@ -22,10 +22,7 @@ use Rattle.frame.specs.Stored.{AreStored, AreNumbersOf, Entered, IsHead, IsKeptO
 use Rattle.frame.specs.StoredParts.{floats_in, kept_with, has_parts}
 use Rattle.frame.specs.StoredCounts.{kind_of, IsLabelBelow, HasTwo}
 use Rattle.frame.proofs.SymbolsLemmas.{symbols_by-bare}
-
-name_at-last : (names : List Name) (x : Name) → name_at (names ++ x ∷ []) (length names) ≡ x
-name_at-last [] x = refl
-name_at-last (y ∷ names) x = name_at-last names x
+use Rattle.names.proofs.DistinctLemmas.{name_at-last}
 
 pub ok-both : {T E : Type 0} (r : Result T E) (P Q R : Type 0) → (P → Q → R) → OnOk r P → OnOk r Q → OnOk r R
 ok-both (Ok x) P Q R f p q = f p q
@@ -89,7 +86,7 @@ kind_of-bare (stmt.Ess label expr) = refl
 kind_of-bare (stmt.Axiom label expr) = refl
 kind_of-bare (stmt.Prove label expr proof) = refl
 
-label_of-bare : (s : Stmt) → label_of (bare s) ≡ label_of s
+pub label_of-bare : (s : Stmt) → label_of (bare s) ≡ label_of s
 label_of-bare stmt.Open = refl
 label_of-bare stmt.Close = refl
 label_of-bare (stmt.Const names) = refl

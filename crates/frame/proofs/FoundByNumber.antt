@@ -21,6 +21,7 @@ use Rattle.frame.specs.StoredCounts.{AreNumbered, HasTwo}
 use Rattle.frame.specs.StoredParts.{variable_by, asked_by}
 use Rattle.frame.specs.Places.{is_code, place_from}
 use Rattle.frame.proofs.LegalLabels.{AllKept}
+use Rattle.names.proofs.CodesLemmas.{name_same}
 
 -- ---- lists
 
@@ -40,7 +41,7 @@ take-at (suc n) [] k x h = cc
 take-at (suc n) (y ∷ xs) zero x h = (omega arith, h)
 take-at (suc n) (y ∷ xs) (suc k) x h = let r = take-at n xs k x h in (let l = r.0 in omega (arith, l), r.1)
 
-some-same : {A : Type 0} {o : Option A} {x y : A} → o ≡ Some x → o ≡ Some y → x ≡ y
+pub some-same : {A : Type 0} {o : Option A} {x y : A} → o ≡ Some x → o ≡ Some y → x ≡ y
 some-same {x = x} {y = y} p q = let e : Some x ≡ Some y = sym p ∙ q in cc
 
 pub middle : {A : Type 0} (xs : List A) (x : A) (ys : List A) → slice_get (xs ++ x ∷ ys) (length xs) ≡ Some x
@@ -58,12 +59,9 @@ kept-front all n legal (suc k) t h =
 
 -- ---- names told apart
 
-eq-refl : (x : Name) → name_eq x x ≡ true
-eq-refl x = (bytes_eq-Decides x x).1 refl
-
-has-at : (names : List Name) (j : ℕ) → j < length names → has_name (name_at names j) names ≡ true
+pub has-at : (names : List Name) (j : ℕ) → j < length names → has_name (name_at names j) names ≡ true
 has-at [] j h = absurd (omega (arith, h))
-has-at (x ∷ names) zero h = ap (λ b. b || list_any (name_eq x) names) (eq-refl x)
+has-at (x ∷ names) zero h = ap (λ b. b || list_any (name_eq x) names) (name_same x)
 has-at (x ∷ names) (suc j) h = or_right (name_eq (name_at names j) x) (list_any (name_eq (name_at names j)) names) (has-at names j (omega (arith, h)))
 
 pub name_at-injective : (names : List Name) (i j : ℕ) → AreDistinct names → i < length names → j < length names → name_at names i ≡ name_at names j → i ≡ j
@@ -93,7 +91,7 @@ abbrev pub OptionsBelow : ℕ → List (Option ℕ) → Type 0
 OptionsBelow n [] = Unit {0}
 OptionsBelow n (v ∷ vs) = OptionBelow n v × OptionsBelow n vs
 
-is_code-same : (c : ℕ) (v : Option ℕ) → is_code c v ≡ true → v ≡ Some c
+pub is_code-same : (c : ℕ) (v : Option ℕ) → is_code c v ≡ true → v ≡ Some c
 is_code-same c None h = cc
 is_code-same c (Some x) h = let e : c ≡ x = grind (arith, h) in ap Some (sym e)
 
@@ -131,7 +129,7 @@ pub has-some : (names : List Name) (vs : List (Option ℕ)) (j c : ℕ) → get_
 has-some names [] j c h = cc
 has-some names (v ∷ vs) zero c h =
     ap (λ o. is_some_name (name_at names c) (option_name names o) || has_place (map (option_name names) vs) (name_at names c)) h
-    ∙ ap (λ b. b || has_place (map (option_name names) vs) (name_at names c)) (eq-refl (name_at names c))
+    ∙ ap (λ b. b || has_place (map (option_name names) vs) (name_at names c)) (name_same (name_at names c))
 has-some names (v ∷ vs) (suc j) c h = or_right (is_some_name (name_at names c) (option_name names v)) (has_place (map (option_name names) vs) (name_at names c)) (has-some names vs j c h)
 
 -- ---- statements by their kinds

@@ -21,6 +21,8 @@ use Rattle.entries.specs.declared.kind.Kind.{Kind}
 use Rattle.entries.specs.declared.kind.Kind.TheVariants.{Open, Close, Const, Var, Disj, Float, Ess, Axiom, Prove}
 use Rattle.entries.specs.Entries.{Entry}
 use Rattle.frame.specs.StoredEntries.{stmt_by, stmt_of}
+use Rattle.scope.proofs.ActiveLemmas.{or_false_right}
+use Rattle.scope.proofs.DeclaredLemmas.{or_false}
 
 -- ---- numbers are the same where their names are
 
@@ -31,11 +33,7 @@ not-has (y ∷ names) zero x h l = left (name_eq x y) (has_name x names) h
     left : (a b : Bool) → (a || b) ≡ false → a ≡ false
     left true b e = cc
     left false b e = refl
-not-has (y ∷ names) (suc n) x h l = not-has names n x (right (name_eq x y) (has_name x names) h) (omega (arith, l))
-  where
-    right : (a b : Bool) → (a || b) ≡ false → b ≡ false
-    right true b e = cc
-    right false b e = e
+not-has (y ∷ names) (suc n) x h l = not-has names n x (or_false_right (name_eq x y) (has_name x names) h) (omega (arith, l))
 
 eq-flip : (x y : Name) → name_eq y x ≡ false → name_eq x y ≡ false
 eq-flip x y h = by (name_eq x y) refl
@@ -74,10 +72,6 @@ pub record IsSought (kind : Stmt → Bool) (g : ℕ × Stmt → Bool) (S : Datab
   pub last : p ≡ last_active kind (take m S)
   pub same : list_any g (actives kind (take m S)) ≡ list_any g (actives kind (take (at - 1) S))
 
-or-false : (a : Bool) → (a || false) ≡ a
-or-false true = refl
-or-false false = refl
-
 last-any : (g : ℕ × Stmt → Bool) (q : ℕ × Stmt) (b : Bool) → g q ≡ b → list_any g (q ∷ []) ≡ b
 last-any g q true h = ap (λ t. t || false) h
 last-any g q false h = ap (λ t. t || false) h
@@ -97,7 +91,7 @@ module _ (kind : Stmt → Bool) (g : ℕ × Stmt → Bool) (S : Database) (at p 
         high = omega (arith, a, c);
         last = refl;
         same = sym (ap (list_any g) b.list ∙ (list_any-append g (actives kind (take (p - 1) S)) ((p, s) ∷ [])
-            ∙ (ap (λ t. list_any g (actives kind (take (p - 1) S)) || t) (last-any g (p, s) false h) ∙ or-false (list_any g (actives kind (take (p - 1) S)))))) ∙ w.same;
+            ∙ (ap (λ t. list_any g (actives kind (take (p - 1) S)) || t) (last-any g (p, s) false h) ∙ or_false (list_any g (actives kind (take (p - 1) S)))))) ∙ w.same;
       }
 
   pub sought-over : p ≡ 0 → list_any g (actives kind (take (at - 1) S)) ≡ false

@@ -13,7 +13,8 @@ use Rattle.scope.specs.declared.rule.Rule.TheVariants.{G1, G2, G3, G4, G5, G6, G
 use Rattle.scope.specs.Active.{stmt_at, before, constants, variables, is_variable, is_constant, was_symbol}
 use Rattle.scope.specs.Legal.{IsLegal, keeps, all_different}
 use Rattle.frame.proofs.LegalLabels.{AllKept}
-use Rattle.frame.proofs.ActiveBehind.{not-both, equal, same, active-stands}
+use Rattle.frame.proofs.ActiveBehind.{not-both, same, active-stands}
+use Rattle.mm_read.proofs.Places.{same as equal}
 
 -- ---- what a legal statement keeps
 
@@ -58,7 +59,7 @@ pub stands-at : (A : Database) (t : Stmt) (B : Database) → slice_get (A ++ t �
 stands-at [] t B = refl
 stands-at (a ∷ A) t B = stands-at A t B
 
-before-at : (A : Database) (t : Stmt) (B : Database) → take (length A) (A ++ t ∷ B) ≡ A
+pub before-at : (A : Database) (t : Stmt) (B : Database) → take (length A) (A ++ t ∷ B) ≡ A
 before-at [] t B = refl
 before-at (a ∷ A) t B = ap (λ r. a ∷ r) (before-at A t B)
 

@@ -10,6 +10,7 @@ use Rattle.mm_read.specs.Statements.{Database}
 use Rattle.scope.specs.Active.{stays_open, active_from, is_open, is_close}
 use Rattle.frame.specs.Links.{actives_from, actives, last_position, last_active}
 use Rattle.frame.proofs.OpenLemmas.{StaysOpen, IsLast, IsNoClose, no_close, split_last, last-actives, last-position, last_position-push, actives-append, stays_open-any, stays_open-append, none-open, closed-rest, close-actives, close-outside}
+use Rattle.frame.proofs.LegalBehind.{stands-at}
 
 -- none is active, or the last one ends the list of those that were active before it
 pub record IsLastAt (kind : Stmt → Bool) (S : Database) (p : ℕ) (s : Stmt) : Type 0 where
@@ -19,10 +20,6 @@ pub record IsLastAt (kind : Stmt → Bool) (S : Database) (p : ℕ) (s : Stmt) :
   pub of_kind : kind s ≡ true
   pub stays : stays_open 0 (drop p S) ≡ true
   pub list : actives kind S ≡ actives kind (take (p - 1) S) ++ (p, s) ∷ []
-
-get-seam : (A : Database) (s : Stmt) (B : Database) → slice_get (A ++ s ∷ B) (length A) ≡ Some s
-get-seam [] s B = refl
-get-seam (a ∷ A) s B = get-seam A s B
 
 drop-seam : (A : Database) (s : Stmt) (B : Database) → drop (1 + length A) (A ++ s ∷ B) ≡ B
 drop-seam [] s B = refl
@@ -37,7 +34,7 @@ at-last kind S A s B n l =
     record {
       above = omega arith;
       within = omega (arith, ap length l.cut, length-append A (s ∷ B));
-      stands = ap (slice_get S) back ∙ (ap (λ r. slice_get r (length A)) l.cut ∙ get-seam A s B);
+      stands = ap (slice_get S) back ∙ (ap (λ r. slice_get r (length A)) l.cut ∙ stands-at A s B);
       of_kind = l.of_kind;
       stays = ap (λ r. stays_open 0 (drop (1 + length A) r)) l.cut ∙ (ap (stays_open 0) (drop-seam A s B) ∙ l.stays);
       list = last-actives kind S A s B l (no_close kind s n l.of_kind)

@@ -16,6 +16,7 @@ use Rattle.entries.specs.Entries.{Entry}
 use Rattle.frame.specs.StoredParts.{is_placed, placed, variable_at, option_variable, variable_by, symbols_at, has_two, groups_by}
 use Rattle.frame.specs.StoredHypotheses.{is_hypothesis_entry, AreHypotheses}
 use Rattle.frame.specs.StoredEntries.{statements_of}
+use Rattle.frame.proofs.StoredOneMore.{map-push}
 
 -- ---- one symbol more
 
@@ -46,19 +47,15 @@ hypothesis-at es [] k h l = absurd (omega (arith, l))
 hypothesis-at es (p ∷ ps) zero h l = h.0
 hypothesis-at es (p ∷ ps) (suc k) h l = hypothesis-at es ps k h.1 (omega (arith, l))
 
-map-snoc : {A B : Type 0} (f : A → B) (xs : List A) (x : A) → map f (xs ++ x ∷ []) ≡ map f xs ++ f x ∷ []
-map-snoc f [] x = refl
-map-snoc f (y ∷ xs) x = ap (λ r. f y ∷ r) (map-snoc f xs x)
-
 pub variables-more : (es : List Entry) (ps : List ℕ) (found new : List (Option ℕ)) (i : ℕ) (e : Entry) → i < length ps → slice_get es (get_or ps i 0 - 1) ≡ Some e → found ≡ map (variable_at es) (take i ps)
     → new ≡ found ++ variable_by e.kind e.symbols ∷ [] → new ≡ map (variable_at es) (take (i + 1) ps)
 variables-more es ps found new i e h g f n =
     n ∙ (ap (λ r. r ++ variable_by e.kind e.symbols ∷ []) f ∙ (ap (λ o. map (variable_at es) (take i ps) ++ option_variable o ∷ []) (sym g)
-    ∙ (sym (map-snoc (variable_at es) (take i ps) (get_or ps i 0)) ∙ ap (map (variable_at es)) (sym (take-more ps i h)))))
+    ∙ (sym (map-push (variable_at es) (take i ps) (get_or ps i 0)) ∙ ap (map (variable_at es)) (sym (take-more ps i h)))))
 
 pub map-more : {A : Type 0} (f : ℕ → A) (ps : List ℕ) (found new : List A) (i : ℕ) → i < length ps → found ≡ map f (take i ps) → new ≡ found ++ f (get_or ps i 0) ∷ [] → new ≡ map f (take (i + 1) ps)
 map-more f ps found new i h e n =
-    n ∙ (ap (λ r. r ++ f (get_or ps i 0) ∷ []) e ∙ (sym (map-snoc f (take i ps) (get_or ps i 0)) ∙ ap (map f) (sym (take-more ps i h))))
+    n ∙ (ap (λ r. r ++ f (get_or ps i 0) ∷ []) e ∙ (sym (map-push f (take i ps) (get_or ps i 0)) ∙ ap (map f) (sym (take-more ps i h))))
 
 -- ---- the groups, from the last `$d` back
 

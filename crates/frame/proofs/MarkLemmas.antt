@@ -3,10 +3,7 @@ use Rattle.std.specs.Prelude.{◌≡◌, ℕ, zero, suc, ◌+◌, ◌<◌, ◌�
 use Rattle.std.proofs.Common.{sym, ◌∙◌, ap, subst, arith, inl, inr}
 use Rattle.std.proofs.lemmas.Option.{same_Some}
 use Rattle.frame.specs.Places.{is_code, place_from, place_of, AreMarked}
-
-code-is : (c : ℕ) (v : Option ℕ) → is_code c v ≡ true → v ≡ Some c
-code-is c None h = cc
-code-is c (Some x) h = let e : x ≡ c = grind (arith, h) in ap Some e
+use Rattle.frame.proofs.FoundByNumber.{is_code-same}
 
 is-code : (c : ℕ) → is_code c (Some c) ≡ true
 is-code c = grind arith
@@ -18,7 +15,7 @@ place-stands k (v ∷ vs) c r h = by (is_code c v) refl (place-stands (k + 1) vs
   where
     by : (b : Bool) → is_code c v ≡ b → (place_from (k + 1) vs c ≡ Some r → (i : ℕ) × (r ≡ k + 1 + i) × (slice_get vs i ≡ Some (Some c))) → cond b (Some k) (place_from (k + 1) vs c) ≡ Some r
         → (i : ℕ) × (r ≡ k + i) × (slice_get (v ∷ vs) i ≡ Some (Some c))
-    by true e more q = let same : k ≡ r = cc in (0, omega (arith, same), ap Some (code-is c v e))
+    by true e more q = let same : k ≡ r = cc in (0, omega (arith, same), ap Some (is_code-same c v e))
     by false e more q = let m = more q in let n = m.0 in let at = m.1 in (suc n, omega (arith, at), m.2)
 
 -- a number that stands somewhere has a place
@@ -41,7 +38,7 @@ within (w ∷ vs) (suc k) v s = let r = within vs k v s in omega (arith, r)
 -- what the table says of a number is its place, if the number stands there
 pub place-marked : (table : List ℕ) (vs : List (Option ℕ)) (c k : ℕ) (v : Option ℕ) → AreMarked table vs → slice_get table c ≡ Some k → slice_get vs k ≡ Some v → is_code c v ≡ true → place_of vs c ≡ Some k
 place-marked table vs c k v m h s t =
-    let p = has-place 0 vs c k (s ∙ ap Some (code-is c v t)) in
+    let p = has-place 0 vs c k (s ∙ ap Some (is_code-same c v t)) in
     let same : k ≡ p.0 = same_Some _ _ (sym h ∙ m c p.0 p.1) in
     p.1 ∙ ap Some (sym same)
 
@@ -83,7 +80,7 @@ pub place-push : (k : ℕ) (vs : List (Option ℕ)) (v : Option ℕ) (c r : ℕ)
 place-push k [] v c r h = by (is_code c v) refl h
   where
     by : (b : Bool) → is_code c v ≡ b → cond b (Some k) None ≡ Some r → IsNewPlace k [] v c r
-    by true e q = let same : k ≡ r = same_Some _ _ q in inr (refl, code-is c v e, omega (arith, same))
+    by true e q = let same : k ≡ r = same_Some _ _ q in inr (refl, is_code-same c v e, omega (arith, same))
     by false e q = cc
 place-push k (w ∷ vs) v c r h = by (is_code c w) refl h (place-push (k + 1) vs v c r)
   where

@@ -17,9 +17,6 @@ use Rattle.frame.proofs.AscendingLists.{In}
 
 -- ---- names
 
-pub not-both : (a : Bool) → a ≡ true → a ≡ false → ⊥
-not-both a p q = let e : true ≡ false = sym p ∙ q in cc
-
 -- a name of decoded numbers is that of one of them
 pub record Coded (names : List Name) (codes : List ℕ) (x : Name) : Type 0 where
   pub code : ℕ

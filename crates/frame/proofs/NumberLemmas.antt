@@ -1,6 +1,6 @@
 -- Numbers and the names that they stand for, as both grow.
-use Rattle.std.specs.Prelude.{◌≡◌, ℕ, zero, suc, ◌<◌, ◌≤◌, true, false, ◌||◌, ◌⊎◌, List, [], ◌∷◌, ◌++◌, length, take, refl}
-use Rattle.std.proofs.Common.{sym, ◌∙◌, ap, arith, inl, inr, append-nil, append_assoc, length-append}
+use Rattle.std.specs.Prelude.{◌≡◌, ℕ, ◌<◌, ◌≤◌, true, false, ◌||◌, ◌⊎◌, List, [], ◌∷◌, ◌++◌, length, take, refl}
+use Rattle.std.proofs.Common.{sym, ◌∙◌, ap, arith, inl, inr, append-nil, append_assoc}
 use Rattle.std.proofs.Math.Seq.{take-append_seam}
 use Rattle.std.proofs.lemmas.Slice.Eq.{bytes_eq-Decides}
 use Rattle.std.proofs.lemmas.Bool.{cases_lt, or_right}
@@ -10,6 +10,9 @@ use Rattle.frame.specs.Below.{AreBelow}
 use Rattle.frame.specs.declared.storage.Symbol.{Symbol}
 use Rattle.entries.specs.Spans.{Extends}
 use Rattle.frame.specs.StoredCounts.{AreZero, AreZeroBehind}
+use Rattle.names.proofs.DistinctLemmas.{name_at-more}
+use Rattle.entries.proofs.SpanLemmas.{extends-length}
+use Rattle.names.proofs.CodesLemmas.{has-at}
 
 pub extends-trans : {A : Type 0} (a b c : List A) → Extends a b → Extends b c → Extends a c
 extends-trans a b c p q = (p.0 ++ q.0, q.1 ∙ (ap (λ r. r ++ q.0) p.1 ∙ append_assoc a p.0 q.0))
@@ -25,11 +28,6 @@ zero-append (x ∷ a) b p q = (p.0, zero-append a b p.1 q)
 pub zero-trans : (a b c : List Symbol) → AreZeroBehind a b → AreZeroBehind b c → AreZeroBehind a c
 zero-trans a b c p q = (p.0 ++ q.0, q.1 ∙ (ap (λ r. r ++ q.0) p.1 ∙ append_assoc a p.0 q.0), zero-append p.0 q.0 p.2 q.2)
 
-pub name_at-more : (names more : List Name) (n : ℕ) → n < length names → name_at (names ++ more) n ≡ name_at names n
-name_at-more [] more n h = absurd (omega (arith, h))
-name_at-more (x ∷ names) more zero h = refl
-name_at-more (x ∷ names) more (suc n) h = name_at-more names more n (omega (arith, h))
-
 pub decode-more : (names more : List Name) (codes : List ℕ) → AreBelow (length names) codes → decode (names ++ more) codes ≡ decode names codes
 decode-more names more [] h = refl
 decode-more names more (c ∷ codes) h =
@@ -41,9 +39,6 @@ decode-extends names new codes p h = ap (λ r. decode r codes) p.1 ∙ decode-mo
 pub below-more : (n m : ℕ) (codes : List ℕ) → n ≤ m → AreBelow n codes → AreBelow m codes
 below-more n m [] le h = tt
 below-more n m (c ∷ codes) le h = let a = h.0 in (omega (arith, a, le), below-more n m codes le h.1)
-
-pub extends-length : {A : Type 0} (a b : List A) → Extends a b → length a ≤ length b
-extends-length a b p = omega (arith, ap length p.1, length-append a p.0)
 
 pub below-extends : (names new : List Name) (codes : List ℕ) → Extends names new → AreBelow (length names) codes → AreBelow (length new) codes
 below-extends names new codes p h = below-more (length names) (length new) codes (extends-length names new p) h
@@ -63,17 +58,12 @@ stand-step old new words rest codes c x p below e h =
     ap (λ r. r ++ rest) (decode-push new codes c ∙ (ap (λ r. r ++ name_at new c ∷ []) (decode-extends old new codes p below) ∙ ap (λ y. decode old codes ++ y ∷ []) e))
     ∙ (append_assoc (decode old codes) (x ∷ []) rest ∙ h)
 
-pub has-name : (names : List Name) (x : Name) (n : ℕ) → n < length names → name_at names n ≡ x → has_name x names ≡ true
-has-name [] x n h e = absurd (omega (arith, h))
-has-name (y ∷ names) x zero h e = ap (λ b. b || has_name x names) ((bytes_eq-Decides x y).1 (sym e))
-has-name (y ∷ names) x (suc n) h e = or_right (name_eq x y) (has_name x names) (has-name names x n (omega (arith, h)) e)
-
 -- a name that was not there gets the number behind the others
 pub fresh-number : (old new : List Name) (x : Name) (n : ℕ) → has_name x old ≡ false → (n < length new) × (name_at new n ≡ x) → (n < length old → new ≡ old) → length old ≤ n
 fresh-number old new x n f p k = by (cases_lt n (length old))
   where
     by : (n < length old) ⊎ (length old ≤ n) → length old ≤ n
-    by (inl lt) = let t : true ≡ false = sym (has-name old x n lt (ap (λ r. name_at r n) (sym (k lt)) ∙ p.1)) ∙ f in cc
+    by (inl lt) = let t : true ≡ false = sym (has-at old x n lt (ap (λ r. name_at r n) (sym (k lt)) ∙ p.1)) ∙ f in cc
     by (inr ge) = ge
 
 pub name_at-extends : (names new : List Name) (n : ℕ) → Extends names new → n < length names → name_at new n ≡ name_at names n

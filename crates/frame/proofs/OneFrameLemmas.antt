@@ -2,7 +2,6 @@
 use Rattle.std.specs.Prelude.{◌≡◌, ℕ, zero, suc, ◌<◌, ◌≤◌, Bool, true, false, cond, ◌&&◌, ◌||◌, List, [], ◌∷◌, ◌++◌, map, filter, length, refl, Some, None, is_some, nat_lt}
 use Rattle.std.specs.List.{list_any, flat_map, position_or_len}
 use Rattle.std.proofs.Common.{◌∙◌, ap, sym, arith, ◌⊎◌, inl, inr}
-use Rattle.std.proofs.lemmas.Bool.{or_right}
 use Rattle.mm_lex.specs.Alphabet.{Name, name_eq, has_name}
 use Rattle.mm_read.specs.declared.stmt.Stmt.{Stmt}
 use Rattle.mm_read.specs.declared.stmt.Stmt.TheVariants.{Open, Close, Const, Var, Disj, Float, Ess, Axiom, Prove}
@@ -11,24 +10,17 @@ use Rattle.scope.specs.Active.{active, separated, expr_of, is_essential, is_vari
 use Rattle.names.specs.Codes.{name_at, code_of}
 use Rattle.scope.specs.Standing.{stands_at, standing_of}
 use Rattle.scope.specs.declared.standing.Standing.{Standing}
-use Rattle.names.proofs.CodesLemmas.{name_same, same_name}
+use Rattle.names.proofs.CodesLemmas.{same_name}
 use Rattle.names.proofs.AddedLemmas.{has_name-append}
 use Rattle.frame.specs.Parts.{FrameParts}
 use Rattle.frame.specs.FrameOf.{is_mandatory, is_hypothesis, hypotheses, mandatory_groups, separates}
 use Rattle.names.proofs.CodesLemmas.{lt-list_any}
 use Rattle.frame.specs.OneFrame.{AreMandatory, is_in_essential, asks, asked, among, groups_among}
-
-has-at : (names : List Name) (n : ℕ) → n < length names → has_name (name_at names n) names ≡ true
-has-at [] n h = absurd (omega arith)
-has-at (x ∷ names) zero h = ap (λ b. b || has_name x names) (name_same x)
-has-at (x ∷ names) (suc n) h = or_right (name_eq (name_at names n) x) (has_name (name_at names n) names) (has-at names n (omega arith))
-
-or-false : (a : Bool) → (a || false) ≡ a
-or-false true = refl
-or-false false = refl
+use Rattle.frame.proofs.FoundByNumber.{has-at}
+use Rattle.scope.proofs.DeclaredLemmas.{or_false}
 
 known : (names : List Name) (x y : Name) (b : Bool) → name_eq x y ≡ b → has_name y names ≡ true → has_name x names ≡ (has_name x names || b)
-known names x y false e h = sym (or-false (has_name x names))
+known names x y false e h = sym (or_false (has_name x names))
 known names x y true e h =
     let has : has_name x names ≡ true = ap (λ z. has_name z names) (same_name x y e) ∙ h in
     has ∙ ap (λ b. b || true) (sym has)
@@ -39,9 +31,9 @@ noted-known old new x name n low at same =
     ap (has_name x) same ∙ known old x name (name_eq x name) refl (ap (λ z. has_name z old) (sym (ap (λ z. name_at z n) (sym same) ∙ at)) ∙ has-at old n low)
 
 noted-new : (old : List Name) (x name : Name) → has_name x (old ++ name ∷ []) ≡ (has_name x old || name_eq x name)
-noted-new old x name = has_name-append x old (name ∷ []) ∙ ap (λ b. has_name x old || b) (or-false (name_eq x name))
+noted-new old x name = has_name-append x old (name ∷ []) ∙ ap (λ b. has_name x old || b) (or_false (name_eq x name))
 
-low-or-not : (n m : ℕ) → (n < m) ⊎ (m ≤ n)
+pub low-or-not : (n m : ℕ) → (n < m) ⊎ (m ≤ n)
 low-or-not n zero = inr (omega arith)
 low-or-not zero (suc m) = inl (omega arith)
 low-or-not (suc n) (suc m) = elim (low-or-not n m) [ inl h ↦ inl (omega (arith, h)) | inr h ↦ inr (omega (arith, h)) ]
@@ -65,7 +57,7 @@ noted-step S x symbol u r is = by (name_eq x symbol) refl
     bools false false r h = cc
 
     flat : (u v r : Bool) → ((u || false) || (v && r)) ≡ (u || (v && r))
-    flat u v r = ap (λ b. b || (v && r)) (or-false u)
+    flat u v r = ap (λ b. b || (v && r)) (or_false u)
 
     by : (b : Bool) → name_eq x symbol ≡ b → ((u || b) || (is_variable S x && r)) ≡ (u || (is_variable S x && (b || r)))
     by true e = bools u (is_variable S x) r (ap (is_variable S) (same_name x symbol e) ∙ is)

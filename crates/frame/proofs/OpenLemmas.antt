@@ -7,6 +7,7 @@ use Rattle.mm_read.specs.declared.stmt.Stmt.TheVariants.{Open, Close}
 use Rattle.mm_read.specs.Statements.{Database}
 use Rattle.scope.specs.Active.{stays_open, active_from, is_open, is_close, count}
 use Rattle.frame.specs.Links.{actives_from, actives, last_position, last_active}
+use Rattle.scope.proofs.ActiveLemmas.{cond-append, place}
 
 -- with one more block open it stays open too
 pub stays_open-deeper : (d : ℕ) (S : Database) → stays_open d S ≡ true → stays_open (suc d) S ≡ true
@@ -38,10 +39,6 @@ stays_open-front zero (Close ∷ A) U h = h
 stays_open-front (suc d) (Close ∷ A) U h = stays_open-front d A U h
 stays_open-front d (s ∷ A) U h = stays_open-front d A U h
 
-cond-append : {A : Type 0} (b : Bool) (x : A) (xs ys : List A) → cond b (x ∷ (xs ++ ys)) (xs ++ ys) ≡ cond b (x ∷ xs) xs ++ ys
-cond-append true x xs ys = refl
-cond-append false x xs ys = refl
-
 -- what is active in front of such a list is active behind it
 pub active_from-append : (at : ℕ) (A U : Database) → StaysOpen U → active_from at (A ++ U) ≡ active_from at A ++ active_from (at + length A) U
 active_from-append at [] U h = ap (λ n. active_from n U) (sym (add-zero at))
@@ -50,9 +47,6 @@ active_from-append at (s ∷ A) U h =
     ∙ (ap (λ r. cond (stays_open 0 A) ((at, s) ∷ r) r) (active_from-append (at + 1) A U h)
     ∙ (cond-append (stays_open 0 A) (at, s) (active_from (at + 1) A) (active_from (at + 1 + length A) U)
     ∙ ap (λ n. cond (stays_open 0 A) ((at, s) ∷ active_from (at + 1) A) (active_from (at + 1) A) ++ active_from n U) (place at (length A))))
-  where
-    place : (a n : ℕ) → a + 1 + n ≡ a + suc n
-    place a n = omega arith
 
 pub filter-append : {A : Type 0} (p : A → Bool) (xs ys : List A) → filter p (xs ++ ys) ≡ filter p xs ++ filter p ys
 filter-append p [] ys = refl

@@ -14,7 +14,7 @@ use Rattle.frame.proofs.WalkLemmas.{cut-here, get-take, active-stays}
 use Rattle.frame.proofs.ActiveBehind.{stands-active}
 use Rattle.frame.proofs.CollectLemmas.{last-is}
 use Rattle.frame.proofs.StoredReading.{get-stmt}
-use Rattle.frame.proofs.StoredOneMore.{numbered-at}
+use Rattle.frame.proofs.StoredOneMore.{numbered-at, get-less}
 use Rattle.frame.proofs.AssertionLemmas.{get-entry}
 use Rattle.entries.specs.declared.kind.Kind.{Kind}
 use Rattle.entries.specs.declared.kind.Kind.TheVariants.{Open, Close, Const, Var, Disj, Float, Ess, Axiom, Prove}
@@ -22,6 +22,7 @@ use Rattle.entries.specs.Entries.{Entry}
 use Rattle.frame.specs.StoredEntries.{stmt_by, stmt_of, declares, is_var_kind, last_from, last_where}
 use Rattle.frame.specs.StoredCounts.{AreNumbered, IsPlain}
 use Rattle.frame.proofs.KindWalk.{not-has, has-decode, entry-var, other-var}
+use Rattle.mm_lex.proofs.WordsLemmas.{and_left}
 
 -- ---- the last `$v` of a symbol
 
@@ -71,13 +72,6 @@ any-none g at (s ∷ S) h = by (stays_open 0 S) (any-none g (at + 1) S (λ k t e
     by : (b : Bool) → list_any g (active_from (at + 1) S) ≡ false → g (at, s) ≡ false → list_any g (cond b ((at, s) ∷ active_from (at + 1) S) (active_from (at + 1) S)) ≡ false
     by true r e = ap (λ t. t || list_any g (active_from (at + 1) S)) e ∙ r
     by false r e = r
-
-get-less : (i : ℕ) (S : Database) (k : ℕ) (s : Stmt) → slice_get (take i S) k ≡ Some s → slice_get S k ≡ Some s
-get-less zero [] k s g = g
-get-less zero (t ∷ S) k s g = cc
-get-less (suc i) [] k s g = g
-get-less (suc i) (t ∷ S) zero s g = g
-get-less (suc i) (t ∷ S) (suc k) s g = get-less i S k s g
 
 -- no `$v` has it
 pub declared-none : (names labels : List Name) (m x n : ℕ) (es : List Entry) → AreDistinct names → x < length names → AreNumbered (length names) m es → last_where (declares x) es ≡ 0
@@ -138,9 +132,6 @@ declared-active names labels m x p at es d l a h some lt act = by (last-is (decl
 pub var-plain : (names labels : List Name) (x p : ℕ) (es : List Entry) → p ≡ last_where (declares x) es → (p ≡ 0 → ⊥) → (1 ≤ p) × IsPlain (slice_get (map (stmt_of names labels) es) (p - 1))
 var-plain names labels x p es h some = by (last-is (declares x) 0 1 es p (omega arith) (sym h))
   where
-    first : (a b : Bool) → (a && b) ≡ true → a ≡ true
-    first true b e = refl
-    first false b e = cc
 
     plain : (kind : Kind) (l : Name) (ws : List Name) → is_var_kind kind ≡ true → IsPlain (Some (stmt_by kind l ws))
     plain Var l ws e = (refl, refl)
@@ -158,4 +149,4 @@ var-plain names labels x p es h some = by (last-is (declares x) 0 1 es p (omega 
     by (inr r) =
         let at = r.4 in
         let back : p - 1 ≡ r.0 = omega (arith, at) in
-        (omega (arith, at), subst IsPlain (sym (ap (slice_get (map (stmt_of names labels) es)) back ∙ get-stmt names labels es r.0 r.1 r.2)) (plain r.1.kind _ _ (first (is_var_kind r.1.kind) _ r.3)))
+        (omega (arith, at), subst IsPlain (sym (ap (slice_get (map (stmt_of names labels) es)) back ∙ get-stmt names labels es r.0 r.1 r.2)) (plain r.1.kind _ _ (and_left (is_var_kind r.1.kind) _ r.3)))

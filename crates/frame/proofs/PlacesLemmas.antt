@@ -11,9 +11,12 @@ use Rattle.scope.specs.Active.{stmt_at, stays_open, active, active_from, is_acti
 use Rattle.scope.specs.Legal.{IsLegal}
 use Rattle.frame.specs.FrameOf.{is_used, is_mandatory, is_hypothesis, variable_of, variable_at, variables_of, is_some_name, has_place}
 use Rattle.frame.proofs.LegalLabels.{AllKept}
-use Rattle.frame.proofs.ActiveBehind.{IsElsewhere, AreOnce, not-both, equal, stands-active, open_front}
+use Rattle.frame.proofs.ActiveBehind.{IsElsewhere, AreOnce, not-both, stands-active}
 use Rattle.frame.proofs.LegalBehind.{legal-keeps, stands-at, kept-legal}
 use Rattle.frame.proofs.TypedVariables.{float-kinds, used-typed}
+use Rattle.frame.proofs.ActiveFloats.{cut-at}
+use Rattle.mm_read.proofs.Places.{same}
+use Rattle.frame.proofs.OpenLemmas.{stays_open-front}
 
 -- ---- places
 
@@ -40,7 +43,7 @@ variables-listed S A (s ∷ T) n r whole at =
 
 -- the head of a list of statements by position, where one holds a place for x
 place-head : (S : Database) (s t : Stmt) (x : Name) → is_hypothesis S s t ≡ true → is_some_name x (variable_of t) ≡ true → is_mandatory S s x ≡ true
-place-head S s (Float l c y) x h e = ap (is_mandatory S s) (equal x y e) ∙ h
+place-head S s (Float l c y) x h e = ap (is_mandatory S s) (same x y e) ∙ h
 place-head S s (Ess l w) x h e = cc
 place-head S s Open x h e = cc
 place-head S s Close x h e = cc
@@ -64,7 +67,7 @@ place-mandatory S s x (p ∷ L) h = by (place-mandatory S s x L) (is_hypothesis 
     by more false e k = more k
 
 float-head : (S : Database) (s t : Stmt) (x : Name) → is_mandatory S s x ≡ true → is_float_of x t ≡ true → (is_hypothesis S s t ≡ true) × (is_some_name x (variable_of t) ≡ true)
-float-head S s (Float l c y) x m e = (ap (is_mandatory S s) (sym (equal x y e)) ∙ m, e)
+float-head S s (Float l c y) x m e = (ap (is_mandatory S s) (sym (same x y e)) ∙ m, e)
 float-head S s (Ess l w) x m e = cc
 float-head S s Open x m e = cc
 float-head S s Close x m e = cc
@@ -160,7 +163,7 @@ elsewhere S A l c x M (t ∷ B) n r all whole stays =
     = sym (append_assoc (A ++ Float l c x ∷ M) (t ∷ []) B) ∙ ap (λ w. w ++ B) (append_assoc A (Float l c x ∷ M) (t ∷ [])) in
     let more = elsewhere S A l c x (M ++ t ∷ []) B (n + 1) r all (whole ∙ longer) (ap (stays_open 0) (append_assoc M (t ∷ []) B) ∙ stays) in
     let legal = kept-legal S (A ++ Float l c x ∷ M) t B all whole in
-    by more (λ y e. differs A l c x M t y (open_front 0 M (t ∷ B) stays) legal e) (stays_open 0 B)
+    by more (λ y e. differs A l c x M t y (stays_open-front 0 M (t ∷ B) stays) legal e) (stays_open 0 B)
   where
     by : IsElsewhere x (map (λ p. variable_of p.1) (filter r (active_from (n + 1) B))) → ((y : Name) → variable_of t ≡ Some y → name_eq y x ≡ false) → (b : Bool)
         → IsElsewhere x (map (λ p. variable_of p.1) (filter r (cond b ((n, t) ∷ active_from (n + 1) B) (active_from (n + 1) B))))
@@ -199,11 +202,6 @@ pub variables-once : (S : Database) (s : Stmt) → AllKept S → AreOnce (variab
 variables-once S s all = subst AreOnce (sym (listed S s)) (once-from S [] S 1 (λ p. is_hypothesis S s p.1) all refl)
 
 -- ---- by position
-
-cut-at : (S : Database) (n : ℕ) (t : Stmt) → slice_get S n ≡ Some t → S ≡ take n S ++ t ∷ drop (suc n) S
-cut-at [] n t h = cc
-cut-at (s ∷ S) zero t h = let e : s ≡ t = cc in ap (λ u. u ∷ S) e
-cut-at (s ∷ S) (suc n) t h = ap (λ w. s ∷ w) (cut-at S n t h)
 
 -- a statement that is active behind S, and those after it close nothing of it
 pub active-rest : (S : Database) (n : ℕ) → is_active S (suc n) (length S + 1) ≡ true → stays_open 0 (drop (suc n) S) ≡ true

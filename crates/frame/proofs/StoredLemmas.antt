@@ -19,12 +19,14 @@ use Rattle.frame.specs.StoredCounts.{IsLabelBelow, HasTwo, AreNumbered, AreZeroB
 use Rattle.frame.specs.Stored.{AreKept}
 use Rattle.entries.specs.Spans.{Extends}
 use Rattle.frame.specs.StoredParts.{has_parts, IsKeptAs}
-use Rattle.frame.proofs.SymbolsLemmas.{symbols_of-push}
-use Rattle.frame.proofs.NumberLemmas.{extends-length}
 use Rattle.frame.proofs.DeclareLemmas.{symbol_of-push}
 use Rattle.frame.proofs.UndoLemmas.{replaced_of-push}
 use Rattle.frame.proofs.AssertionLemmas.{kept-more, kept-moved}
-use Rattle.frame.proofs.StoredOneMore.{stmt-more, statements-more, map-push, numbered-push, labels_of-push, positions_from-push, get-push, take-whole, legal-push, stays-push, numbered-at, label-at, still-reads}
+use Rattle.frame.proofs.StoredOneMore.{stmt-more, statements-more, map-push, numbered-push, labels_of-push, positions_from-push, take-whole, legal-push, stays-push, numbered-at, still-reads}
+use Rattle.scope.proofs.SymbolsLemmas.{symbols_of-append}
+use Rattle.entries.proofs.SpanLemmas.{extends-length}
+use Rattle.entries.proofs.PlaceLemmas.{get-push}
+use Rattle.frame.proofs.LabelLemmas.{label-below-at}
 
 -- ---- one more statement
 
@@ -96,7 +98,7 @@ module _ (names labels : List Name) (positions : List ℕ) (symbols : List Symbo
       by (inl q) =
           let here : take i (map (stmt_of names' labels') entries') ≡ take i (map (stmt_of names labels) entries) =
           ap (take i) pushed-statements ∙ take-append-le i (map (stmt_of names labels) entries) (s ∷ []) (omega (arith, q.0, len)) in
-          let same : stmt_of names' labels' d ≡ stmt_of names labels d = stmt-more names names' labels labels' d p.names_more labels-extend (numbered-at (length names) (length labels) entries k.coded i d q.1) (label-at (length names) (length labels) entries k.coded i d q.1) in
+          let same : stmt_of names' labels' d ≡ stmt_of names labels d = stmt-more names names' labels labels' d p.names_more labels-extend (numbered-at (length names) (length labels) entries k.coded i d q.1) (label-below-at (length names) (length labels) entries k.coded i d q.1) in
           subst (λ es. IsKeptAs es (take i (map (stmt_of names' labels') entries')) (stmt_of names' labels' d) d.assertion) (sym p.entries_more)
           (subst (λ T. IsKeptAs (entries ++ e ∷ []) T (stmt_of names' labels' d) d.assertion) (sym here)
           (subst (λ t. IsKeptAs (entries ++ e ∷ []) (take i (map (stmt_of names labels) entries)) t d.assertion) (sym same)
@@ -163,7 +165,7 @@ module _ (names labels : List Name) (positions : List ℕ) (symbols : List Symbo
     linked = linked';
     stays = ap (stays_open 0) pushed-statements ∙ stays-push (map (stmt_of names labels) entries) s k.stays p.legal;
     legal = subst AreAllLegal (sym pushed-statements) (legal-push (map (stmt_of names labels) entries) s k.legal p.legal);
-    names_kept = p.names_made ∙ (ap (λ r. with_names r (symbols_by s)) k.names_kept ∙ (sym (symbols_of-push (map (stmt_of names labels) entries) s) ∙ ap symbols_of (sym pushed-statements)));
+    names_kept = p.names_made ∙ (ap (λ r. with_names r (symbols_by s)) k.names_kept ∙ (sym (symbols_of-append (map (stmt_of names labels) entries) s) ∙ ap symbols_of (sym pushed-statements)));
     labels_kept = p.labels_more ∙ (ap (λ r. r ++ option_list (label_of s) []) k.labels_kept ∙ (sym (labels_of-push (map (stmt_of names labels) entries) s) ∙ ap labels_of (sym pushed-statements)));
     positions_kept = p.positions_more ∙ (ap (λ r. r ++ option_position (label_of s) (length entries + 1) []) k.positions_kept
         ∙ (ap (λ n. positions_from 1 (map (stmt_of names labels) entries) ++ option_position (label_of s) n []) (omega (arith, len))

@@ -25,6 +25,9 @@ use Rattle.frame.specs.Stored.{AreKept}
 use Rattle.entries.specs.Spans.{Extends}
 use Rattle.frame.proofs.NumberLemmas.{decode-extends, name_at-extends, below-more}
 use Rattle.frame.proofs.OpenLemmas.{stays_open-push, stays_open-close}
+use Rattle.entries.proofs.RecordLemmas.{get-more}
+use Rattle.scope.proofs.ActiveLemmas.{place}
+use Rattle.entries.proofs.PlaceLemmas.{get-push}
 
 -- ---- what was entered stands for what it stood for
 
@@ -89,8 +92,6 @@ positions_from-push at [] s = ap (λ n. option_position (label_of s) n []) (plac
 positions_from-push at (t ∷ S) s =
     ap (option_position (label_of t) at) (positions_from-push (at + 1) S s ∙ ap (λ n. positions_from (at + 1) S ++ option_position (label_of s) n []) (place at (length S))) ∙ by (label_of t)
   where
-    place : (a n : ℕ) → a + 1 + n ≡ a + suc n
-    place a n = omega arith
 
     by : (o : Option Name) → option_position o at (positions_from (at + 1) S ++ option_position (label_of s) (at + suc (length S)) []) ≡ option_position o at (positions_from (at + 1) S) ++ option_position (label_of s) (at + suc (length S)) []
     by None = refl
@@ -105,16 +106,6 @@ has-labels_of [] x = refl
 has-labels_of (s ∷ S) x = has-option (label_of s) x (labels_of S) ∙ ap (λ b. has_label x (label_of s) || b) (has-labels_of S x)
 
 -- ---- the statements
-
-pub get-push : {A : Type 0} (xs : List A) (x y : A) (i : ℕ) → slice_get (xs ++ x ∷ []) i ≡ Some y → ((i < length xs) × (slice_get xs i ≡ Some y)) ⊎ ((i ≡ length xs) × (x ≡ y))
-get-push [] x y zero h = let e : x ≡ y = cc in inr (refl, e)
-get-push [] x y (suc i) h = cc
-get-push (z ∷ xs) x y zero h = let e : z ≡ y = cc in inl (omega arith, h)
-get-push (z ∷ xs) x y (suc i) h = step (get-push xs x y i h)
-  where
-    step : ((i < length xs) × (slice_get xs i ≡ Some y)) ⊎ ((i ≡ length xs) × (x ≡ y)) → ((suc i < length (z ∷ xs)) × (slice_get xs i ≡ Some y)) ⊎ ((suc i ≡ length (z ∷ xs)) × (x ≡ y))
-    step (inl p) = let a = p.0 in inl (omega (arith, a), p.1)
-    step (inr p) = inr (ap suc p.0, p.1)
 
 pub take-whole : {A : Type 0} (xs : List A) (x : A) → take (length xs) (xs ++ x ∷ []) ≡ xs
 take-whole xs x = take-append-le (length xs) xs (x ∷ []) (omega arith) ∙ take-length xs
@@ -165,7 +156,7 @@ above-any n c (x ∷ codes) h le =
     let f : (c == x) ≡ false = grind (arith, l) in
     ap (λ b. b || list_any (λ y. c == y) codes) f ∙ above-any n c codes h.1 le
 
-and-no : (b : Bool) → (b && false) ≡ false
+pub and-no : (b : Bool) → (b && false) ≡ false
 and-no true = refl
 and-no false = refl
 
@@ -195,11 +186,6 @@ get-zero [] (x ∷ more) (suc c) z le lt = get-zero [] more c z.1 (omega arith) 
 get-zero (x ∷ old) more zero z le lt = absurd (omega (arith, le))
 get-zero (x ∷ old) more (suc c) z le lt = get-zero old more c z (omega (arith, le)) (omega (arith, lt))
 
-get-front : {A : Type 0} (old more : List A) (c : ℕ) (x : A) → slice_get old c ≡ Some x → slice_get (old ++ more) c ≡ Some x
-get-front [] more c x h = cc
-get-front (y ∷ old) more zero x h = h
-get-front (y ∷ old) more (suc c) x h = get-front old more c x h
-
 pub get-less : (i : ℕ) (S : Database) (k : ℕ) (s : Stmt) → slice_get (take i S) k ≡ Some s → slice_get S k ≡ Some s
 get-less zero [] k s g = g
 get-less zero (t ∷ S) k s g = cc
@@ -207,18 +193,13 @@ get-less (suc i) [] k s g = g
 get-less (suc i) (t ∷ S) zero s g = g
 get-less (suc i) (t ∷ S) (suc k) s g = get-less i S k s g
 
-pub label-at : (n m : ℕ) (es : List Entry) → AreNumbered n m es → (k : ℕ) (e : Entry) → slice_get es k ≡ Some e → IsLabelBelow e.kind e.label m
-label-at n m [] h k e g = cc
-label-at n m (d ∷ es) h zero e g = let same : d ≡ e = cc in subst (λ x. IsLabelBelow x.kind x.label m) same h.1
-label-at n m (d ∷ es) h (suc k) e g = label-at n m es h.2 k e g
-
 -- the symbols and more that nothing declares read as before
 pub still-reads : (names labels : List Name) (positions : List ℕ) (symbols : List Symbol) (replaced : List ℕ) (entries : List Entry) (links : Links) (between : List Symbol)
     → AreKept names labels positions symbols replaced entries links → AreZeroBehind symbols between → ReadsAs between (symbol_of entries)
 still-reads names labels positions symbols replaced entries links between k z c lt = by (cases_lt c (length names))
   where
     by : (c < length names) ⊎ (length names ≤ c) → slice_get between c ≡ Some (symbol_of entries c)
-    by (inl l) = ap (λ r. slice_get r c) z.1 ∙ get-front symbols z.0 c (symbol_of entries c) (k.symbols_kept c l)
+    by (inl l) = ap (λ r. slice_get r c) z.1 ∙ get-more symbols z.0 c (symbol_of entries c) (k.symbols_kept c l)
     by (inr ge) =
         let size : length between ≡ length (symbols ++ z.0) = ap length z.1 in
         let a = k.count in

@@ -1,5 +1,5 @@
 -- Reading an entry of the storage, and the position of a label.
-use Rattle.std.specs.Prelude.{◌≡◌, ℕ, zero, suc, ◌+◌, ◌-◌, ◌<◌, ◌≤◌, Bool, true, false, ◌||◌, List, [], ◌∷◌, length, map, get_or, slice_get, Option, Some, None, refl}
+use Rattle.std.specs.Prelude.{◌≡◌, ℕ, zero, suc, ◌+◌, ◌-◌, ◌<◌, ◌≤◌, true, false, ◌||◌, List, [], ◌∷◌, length, map, get_or, slice_get, Option, Some, None, refl}
 use Rattle.std.proofs.Common.{sym, ◌∙◌, ap, subst, arith}
 use Rattle.mm_lex.specs.Alphabet.{Name}
 use Rattle.mm_read.specs.declared.stmt.Stmt.{Stmt}
@@ -13,6 +13,7 @@ use Rattle.entries.specs.declared.kind.Kind.TheVariants.{Open, Close, Const, Var
 use Rattle.entries.specs.Entries.{Entry}
 use Rattle.frame.specs.StoredEntries.{stmt_by, stmt_of, labels_of, positions_from, option_list, option_position}
 use Rattle.frame.specs.StoredCounts.{HasTwo, AreNumbered}
+use Rattle.scope.proofs.ActiveLemmas.{place, or_false_right}
 
 -- ---- reading an entry
 
@@ -101,18 +102,15 @@ none-of Disj a b c d = tt
 
 -- ---- the position of a label
 
-shift : (a i : ℕ) → a + 1 + i ≡ a + suc i
-shift a i = omega arith
-
 abbrev IsThere : Database → List ℕ → ℕ → ℕ → Name → Type 0
 IsThere S ps at n x = (i : ℕ) × (s : Stmt) × (slice_get S i ≡ Some s) × (label_of s ≡ Some x) × (get_or ps n 0 ≡ at + i)
 
 place-step : (at : ℕ) (s : Stmt) (S : Database) (x : Name) (o : Option Name) → label_of s ≡ o → (n : ℕ) → n < length (option_list o (labels_of S)) → name_at (option_list o (labels_of S)) n ≡ x
     → ((m : ℕ) → m < length (labels_of S) → name_at (labels_of S) m ≡ x → IsThere S (positions_from (at + 1) S) (at + 1) m x)
     → IsThere (s ∷ S) (option_position o at (positions_from (at + 1) S)) at n x
-place-step at s S x None has n lt is rest = let r = rest n lt is in (suc r.0, r.1, r.2, r.3, r.4 ∙ shift at r.0)
+place-step at s S x None has n lt is rest = let r = rest n lt is in (suc r.0, r.1, r.2, r.3, r.4 ∙ place at r.0)
 place-step at s S x (Some y) has zero lt is rest = (0, s, refl, has ∙ ap Some is, omega arith)
-place-step at s S x (Some y) has (suc n) lt is rest = let r = rest n (omega (arith, lt)) is in (suc r.0, r.1, r.2, r.3, r.4 ∙ shift at r.0)
+place-step at s S x (Some y) has (suc n) lt is rest = let r = rest n (omega (arith, lt)) is in (suc r.0, r.1, r.2, r.3, r.4 ∙ place at r.0)
 
 pub label-place : (at : ℕ) (S : Database) (x : Name) (n : ℕ) → n < length (labels_of S) → name_at (labels_of S) n ≡ x
     → (i : ℕ) × (s : Stmt) × (slice_get S i ≡ Some s) × (label_of s ≡ Some x) × (get_or (positions_from at S) n 0 ≡ at + i)
@@ -126,11 +124,7 @@ label-none (t ∷ S) x h zero s g l =
     let same : t ≡ s = cc in
     let own : has_label x (label_of t) ≡ true = ap (λ r. has_label x (label_of r)) same ∙ (ap (has_label x) l ∙ (bytes_eq-Decides x x).1 refl) in
     let bad : true ≡ false = sym (ap (λ b. b || was_label S x) own) ∙ h in cc
-label-none (t ∷ S) x h (suc i) s g l = label-none S x (or-right-false (has_label x (label_of t)) (was_label S x) h) i s g l
-  where
-    or-right-false : (a b : Bool) → (a || b) ≡ false → b ≡ false
-    or-right-false true b e = cc
-    or-right-false false b e = e
+label-none (t ∷ S) x h (suc i) s g l = label-none S x (or_false_right (has_label x (label_of t)) (was_label S x) h) i s g l
 
 -- the kinds of assertions
 abbrev pub IsCitable : Kind → Type 0

@@ -1,7 +1,7 @@
 -- The declared symbols: as statements come, and that no other symbol stands in a legal statement.
 use Rattle.std.specs.Prelude.{◌≡◌, ℕ, ◌<◌, Bool, true, false, not, cond, ◌&&◌, ◌||◌, nat_lt, IsTrue, List, [], ◌∷◌, ◌++◌, length, take, drop, Option, Some, None, refl}
 use Rattle.std.specs.List.{list_all}
-use Rattle.std.proofs.Common.{sym, ◌∙◌, ap, subst, arith, inl, inr, ◌⊎◌, append-nil, append_assoc}
+use Rattle.std.proofs.Common.{sym, ◌∙◌, ap, subst, arith, inl, inr, append-nil, append_assoc}
 use Rattle.std.proofs.Math.Seq.{take-append_seam}
 use Rattle.std.proofs.lemmas.List.{take-append-drop}
 use Rattle.std.proofs.lemmas.Bool.{or_right, or_left, not-false, and_parts}
@@ -15,7 +15,7 @@ use Rattle.scope.specs.declared.rule.Rule.{Rule}
 use Rattle.scope.specs.declared.rule.Rule.TheVariants.{G1, G2, G3, G4, G5, G8}
 use Rattle.names.specs.Codes.{name_at, decode, with_name, with_names, AreNamed, AreDistinct}
 use Rattle.scope.specs.Symbols.{symbols_by, symbols_in, symbols_from, symbols_of, AreOfLast}
-use Rattle.names.proofs.AddedLemmas.{with_names-more, has-more, has-with_names, has_name-append}
+use Rattle.names.proofs.AddedLemmas.{with_names-more, has-more, has-with_names, has_name-append, or_cases}
 use Rattle.scope.proofs.NamesLemmas.{active-was}
 use Rattle.names.proofs.CodesLemmas.{has-at, name_eq-comm}
 use Rattle.scope.proofs.SortsLemmas.{is_variable-active, was_symbol-either}
@@ -23,16 +23,9 @@ use Rattle.scope.proofs.MarkLemmas.{all-has}
 use Rattle.frame.specs.Below.{AreBelow}
 use Rattle.frame.specs.Stored.{AreNumbersOf}
 use Rattle.entries.specs.Spans.{Extends}
-
-or_cases : (a b : Bool) → (a || b) ≡ true → (a ≡ true) ⊎ (b ≡ true)
-or_cases true b h = inl refl
-or_cases false b h = inr h
+use Rattle.scope.proofs.SymbolsLemmas.{symbols_from-append, symbols_of-append}
 
 -- ---- as statements come
-
-symbols_from-append : (names : List Name) (S T : Database) → symbols_from names (S ++ T) ≡ symbols_from (symbols_from names S) T
-symbols_from-append names [] T = refl
-symbols_from-append names (s ∷ S) T = symbols_from-append (with_names names (symbols_by s)) S T
 
 symbols_from-more : (names : List Name) (S : Database) → Extends names (symbols_from names S)
 symbols_from-more names [] = ([], sym (append-nil names))
@@ -40,9 +33,6 @@ symbols_from-more names (s ∷ S) =
     let one = with_names-more names (symbols_by s) in
     let rest = symbols_from-more (with_names names (symbols_by s)) S in
     (one.0 ++ rest.0, rest.1 ∙ (ap (λ ns. ns ++ rest.0) one.1 ∙ append_assoc names one.0 rest.0))
-
-pub symbols_of-push : (S : Database) (s : Stmt) → symbols_of (S ++ s ∷ []) ≡ with_names (symbols_of S) (symbols_by s)
-symbols_of-push S s = symbols_from-append [] S (s ∷ [])
 
 -- the symbols of the first statements are the first of all
 pub symbols_of-front : (n : ℕ) (S : Database) → take (length (symbols_of (take n S))) (symbols_of S) ≡ symbols_of (take n S)
@@ -159,7 +149,7 @@ pub noted-numbers : (S : Database) (names : List Name) (s : Stmt) (codes : List 
 noted-numbers S names s codes kept noted =
     let last = noted S (bare s) refl in
     let same : symbols_of (S ++ bare s ∷ []) ≡ with_names names (symbols_by s) =
-    symbols_of-push S (bare s) ∙ (ap (with_names (symbols_of S)) (symbols_by-bare s) ∙ ap (λ ns. with_names ns (symbols_by s)) (sym kept)) in
+    symbols_of-append S (bare s) ∙ (ap (with_names (symbols_of S)) (symbols_by-bare s) ∙ ap (λ ns. with_names ns (symbols_by s)) (sym kept)) in
     record {
       below = codes-below (length (with_names names (symbols_by s))) codes (subst (λ ns. IsTrue (list_all (λ c. nat_lt c (length ns)) codes)) same last.0);
       stand = ap (λ ns. decode ns codes) (sym same) ∙ (last.1 ∙ symbols_in-bare s);

@@ -5,9 +5,8 @@ use Rattle.mm_lex.specs.Alphabet.{Name}
 use Rattle.mm_lex.specs.declared.fault.LexFault.{LexFault}
 use Rattle.mm_lex.specs.declared.fault.LexFault.TheVariants as lex
 use Rattle.mm_lex.specs.Faults.{IsLexFault}
-use Rattle.mm_lex.specs.Tokens.{words}
 use Rattle.mm_lex.proofs.FaultsLemmas.{IsClean-no_fault}
-use Rattle.mm_lex.proofs.TokensLemmas.{AreTokens-unique, AreTokens-no_comment_fault}
+use Rattle.mm_lex.proofs.TokensLemmas.{AreTokens-no_comment_fault}
 use Rattle.mm_read.specs.declared.stmt.Stmt.{Stmt}
 use Rattle.mm_read.specs.Statements.{Database, spelled}
 use Rattle.mm_read.specs.Reads.{Reads, HasTokens, IsNoDatabase}
@@ -27,14 +26,12 @@ use Rattle.library.specs.Good.{Good}
 use Rattle.library.specs.Causes.{IsReadable, IsAllowed, IsFirstUnproved, IsCause}
 use Rattle.library.proofs.GoodLemmas.{provable-behind}
 use Rattle.library.proofs.RulesLemmas.{legal-text}
+use Rattle.mm_read.proofs.OneReading.{same_tokens}
 
 -- ---- what a text reads as
 
-pub one-tokens : (text : List ℕ) (a b : List Name) → HasTokens text a → HasTokens text b → a ≡ b
-one-tokens text a b p q = sym p.2 ∙ (ap (words text) (AreTokens-unique text p.0 q.0 p.1 q.1) ∙ q.2)
-
 pub one-reading : (text : List ℕ) (S T : Database) → Reads text S → Reads text T → S ≡ T
-one-reading text S T p q = one_spelling S T p.shaped q.shaped (one-tokens text (spelled S) (spelled T) p.tokens q.tokens)
+one-reading text S T p q = one_spelling S T p.shaped q.shaped (same_tokens text (spelled S) (spelled T) p.tokens q.tokens)
 
 fault-or-tokens : (text : List ℕ) (tokens : List Name) (fault : LexFault) → IsLexFault text fault → fault ≢ lex.Memory → HasTokens text tokens → ⊥
 fault-or-tokens text tokens (lex.Text offset) is other has = IsClean-no_fault text offset has.1.0 is
@@ -42,7 +39,7 @@ fault-or-tokens text tokens (lex.Comment offset) is other has = AreTokens-no_com
 fault-or-tokens text tokens lex.Memory is other has = other refl
 
 none-or-reading : (text : List ℕ) (tokens : List Name) (T : Database) → HasTokens text tokens → IsNoDatabase tokens → Reads text T → ⊥
-none-or-reading text tokens T has none reads = none T reads.shaped (one-tokens text (spelled T) tokens reads.tokens has)
+none-or-reading text tokens T has none reads = none T reads.shaped (same_tokens text (spelled T) tokens reads.tokens has)
 
 -- ---- the least `$p` that is not proved
 

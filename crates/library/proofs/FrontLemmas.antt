@@ -7,11 +7,13 @@ use Rattle.std.proofs.lemmas.Option.{slice_get-map, slice_get-get_or, slice_get_
 use Rattle.mm_read.specs.declared.stmt.Stmt.{Stmt}
 use Rattle.mm_read.specs.declared.stmt.Stmt.TheVariants.{Open, Close, Const, Var, Disj, Float, Ess, Axiom, Prove}
 use Rattle.mm_read.specs.Statements.{Database}
-use Rattle.scope.specs.Active.{stmt_at, before, bare, bares, label_of, is_active, stays_open, active_from}
+use Rattle.scope.specs.Active.{stmt_at, before, bare, bares, is_active, stays_open, active_from}
 use Rattle.frame.specs.FrameOf.{hypotheses, is_hypothesis}
 use Rattle.frame.specs.Citations.{is_hypothesis_kind}
+use Rattle.frame.proofs.AssertionLemmas.{hypothesis-kinds}
+use Rattle.verify_pool.proofs.JobsLemmas.{stmt_stays}
 
-get-front : {A : Type 0} (xs ys : List A) (n : ℕ) → n < length xs → slice_get (xs ++ ys) n ≡ slice_get xs n
+pub get-front : {A : Type 0} (xs ys : List A) (n : ℕ) → n < length xs → slice_get (xs ++ ys) n ≡ slice_get xs n
 get-front [] ys n h = absurd (omega (arith, h))
 get-front (x ∷ xs) ys zero h = refl
 get-front (x ∷ xs) ys (suc n) h = get-front xs ys n (omega (arith, h))
@@ -31,9 +33,6 @@ stmt_at-behind S T n = let e : length S + suc n ≡ suc (length S + n) = omega a
 pub stands-within : (S : Database) (i : ℕ) (s : Stmt) → stmt_at S i ≡ Some s → (1 ≤ i) × (i ≤ length S)
 stands-within S zero s h = cc
 stands-within S (suc n) s h = let m = slice_get_within S n s h in (omega arith, omega (arith, m))
-
-pub stands-later : (S T : Database) (i : ℕ) (s : Stmt) → stmt_at S i ≡ Some s → stmt_at (S ++ T) i ≡ Some s
-stands-later S T i s h = stmt_at-front S T i (stands-within S i s h).1 ∙ h
 
 pub before-front : (S T : Database) (i : ℕ) → i ≤ length S → before (S ++ T) i ≡ before S i
 before-front S T i h = take-append-le (i - 1) S T (omega (arith, h))
@@ -96,17 +95,6 @@ abbrev pub AreHypothesesAt : Database → List ℕ → Type 0
 AreHypothesesAt S [] = Unit {0}
 AreHypothesesAt S (p ∷ ps) = IsHypothesisAt S p × AreHypothesesAt S ps
 
-hypothesis-kind : (S : Database) (s t : Stmt) → is_hypothesis S s t ≡ true → is_hypothesis_kind t ≡ true
-hypothesis-kind S s (Ess label expr) h = refl
-hypothesis-kind S s (Float label constant variable) h = refl
-hypothesis-kind S s Open h = cc
-hypothesis-kind S s Close h = cc
-hypothesis-kind S s (Const names) h = cc
-hypothesis-kind S s (Var names) h = cc
-hypothesis-kind S s (Disj names) h = cc
-hypothesis-kind S s (Axiom label expr) h = cc
-hypothesis-kind S s (Prove label expr proof) h = cc
-
 abbrev OthersAt : Database → Database → Database → Stmt → ℕ → Type 0
 OthersAt S whole A s n = AreHypothesesAt whole (map (λ p. p.0) (filter (λ p. is_hypothesis S s p.1) (active_from n A)))
 
@@ -136,14 +124,14 @@ stands-from S whole (t ∷ A) s front same = by (stands-from S whole A s (front 
             one : (b : Bool) → is_hypothesis S s t ≡ b
                 → AreHypothesesAt whole (map (λ p. p.0) (cond b ((1 + length front, t) ∷ filter (λ p. is_hypothesis S s p.1) (active_from (1 + length front + 1) A)) (filter (λ p. is_hypothesis S s p.1) (active_from (1 + length front + 1) A))))
             one false e = rest
-            one true e = (record { stmt = t; stands = here; kind = hypothesis-kind S s t e }, rest)
+            one true e = (record { stmt = t; stands = here; kind = hypothesis-kinds S s t e }, rest)
 
 pub hypotheses-stand : (S : Database) (s : Stmt) → AreHypothesesAt S (hypotheses S s)
 hypotheses-stand S s = stands-from S S S s [] refl
 
 pub hypotheses-later : (S T : Database) (ps : List ℕ) → AreHypothesesAt S ps → AreHypothesesAt (S ++ T) ps
 hypotheses-later S T [] h = tt
-hypotheses-later S T (p ∷ ps) h = (record { stmt = h.0.stmt; stands = stands-later S T p h.0.stmt h.0.stands; kind = h.0.kind }, hypotheses-later S T ps h.1)
+hypotheses-later S T (p ∷ ps) h = (record { stmt = h.0.stmt; stands = stmt_stays S T p h.0.stmt h.0.stands; kind = h.0.kind }, hypotheses-later S T ps h.1)
 
 pub hypotheses-at : (S : Database) (at : ℕ) (s : Stmt) → AreHypothesesAt S (hypotheses (before S at) s)
 hypotheses-at S at s =
@@ -171,17 +159,6 @@ hypotheses-bare S (Float label constant variable) = refl
 hypotheses-bare S (Ess label expr) = refl
 hypotheses-bare S (Axiom label expr) = refl
 hypotheses-bare S (Prove label expr proof) = refl
-
-pub label_of-bare : (s : Stmt) → label_of (bare s) ≡ label_of s
-label_of-bare Open = refl
-label_of-bare Close = refl
-label_of-bare (Const names) = refl
-label_of-bare (Var names) = refl
-label_of-bare (Disj names) = refl
-label_of-bare (Float label constant variable) = refl
-label_of-bare (Ess label expr) = refl
-label_of-bare (Axiom label expr) = refl
-label_of-bare (Prove label expr proof) = refl
 
 pub kind-bare : (s : Stmt) → is_hypothesis_kind (bare s) ≡ is_hypothesis_kind s
 kind-bare Open = refl

@@ -10,11 +10,12 @@ use Rattle.proof_code.specs.Writes.{Writes}
 use Rattle.verify.specs.Proves.{mandatory_labels, label_or_none}
 use Rattle.verify.specs.Right.{IsProvable, IsRight}
 use Rattle.library.specs.Good.{IsProved}
-use Rattle.library.proofs.FrontLemmas.{stmt_at-front, stmt_at-behind, stands-within, stands-later, before-front, map-within, hypotheses-within}
+use Rattle.library.proofs.FrontLemmas.{stmt_at-front, stmt_at-behind, stands-within, before-front, map-within, hypotheses-within}
 use Rattle.library.proofs.LaterLemmas.{right-later, before-short}
+use Rattle.verify_pool.proofs.JobsLemmas.{stmt_stays}
 
 pub provable-later : (S T : Database) (at : ℕ) (s : Stmt) → IsProvable S at s → IsProvable (S ++ T) at s
-provable-later S T at s p = record { stands = stands-later S T at s p.stands; provable = p.provable }
+provable-later S T at s p = record { stands = stmt_stays S T at s p.stands; provable = p.provable }
 
 -- a `$p` of the whole is one of the first statements or one of the others
 pub provable-where : (S T : Database) (at : ℕ) (s : Stmt) → IsProvable (S ++ T) at s

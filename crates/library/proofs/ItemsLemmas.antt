@@ -11,7 +11,8 @@ use Rattle.frame.specs.FrameOf.{hypotheses}
 use Rattle.frame.specs.Citations.{is_hypothesis_kind}
 use Rattle.verify.specs.Proves.{mandatory_labels, label_or_none}
 use Rattle.verify.specs.Right.{IsProvable}
-use Rattle.library.proofs.FrontLemmas.{stands-within, stmt_at-bares, hypotheses-bare, label_of-bare, kind-bare, hypotheses-at, one-hypothesis, stands-index}
+use Rattle.library.proofs.FrontLemmas.{stands-within, stmt_at-bares, hypotheses-bare, kind-bare, hypotheses-at, one-hypothesis, stands-index}
+use Rattle.frame.proofs.EnterLemmas.{label_of-bare}
 
 bare-assertion : (s : Stmt) → is_provable s ≡ true → is_assertion (bare s) ≡ true
 bare-assertion (Prove label expr proof) h = refl
@@ -52,7 +53,7 @@ pub record IsHypothesisOf (S : Database) (p : ℕ) : Type 0 where
   pub positive : 1 ≤ p
   pub within : p ≤ length S
 
-unbare : (o : Option Stmt) (t : Stmt) → option_map bare o ≡ Some t → (s : Stmt) × (o ≡ Some s) × (bare s ≡ t)
+pub unbare : (o : Option Stmt) (t : Stmt) → option_map bare o ≡ Some t → (s : Stmt) × (o ≡ Some s) × (bare s ≡ t)
 unbare None t h = absurd (let e = h in cc)
 unbare (Some s) t h = (s, refl, let e = h in cc)
 

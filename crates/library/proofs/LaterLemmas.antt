@@ -16,14 +16,15 @@ use Rattle.verify.specs.Derivations.{Derivation, Derivations, hyp, apply, none, 
 use Rattle.verify.specs.Concludes.{Concludes, ConcludeAll}
 use Rattle.verify.specs.Spells.{Spells, SpellsAll, cites_hypothesis, cites_assertion, recalls, marks, spells_none, spells_more}
 use Rattle.verify.specs.Right.{IsRight}
-use Rattle.library.proofs.FrontLemmas.{stmt_at-front, stands-within, stands-later, before-front, active-later, map-within, hypotheses-within}
+use Rattle.library.proofs.FrontLemmas.{stmt_at-front, stands-within, before-front, active-later, map-within, hypotheses-within}
+use Rattle.verify_pool.proofs.JobsLemmas.{stmt_stays}
 
 pub before-short : (S : Database) (a : ℕ) → length (before S a) ≤ length S
 before-short S a = let l = length-take (a - 1) S in omega (arith, l)
 
 module _ (S T : Database) where
   carries-later : (i : ℕ) (s : Stmt) (label : Name) → Carries S i s label → Carries (S ++ T) i s label
-  carries-later i s label c = record { stands = stands-later S T i s c.stands; carried = c.carried }
+  carries-later i s label c = record { stands = stmt_stays S T i s c.stands; carried = c.carried }
 
   premises-front : (a : ℕ) (s : Stmt) (σ : Images) → a ≤ length S → premises (S ++ T) a s σ ≡ premises S a s σ
   premises-front a s σ within =
@@ -34,14 +35,14 @@ module _ (S T : Database) where
 
   module _ (at : ℕ) (within : at ≤ length S) where
     hypothesis-later : (i : ℕ) (s : Stmt) → IsHypothesis S at i s → IsHypothesis (S ++ T) at i s
-    hypothesis-later i s h = record { stands = stands-later S T i s h.stands; kind = h.kind; active = active-later S T i at within h.active }
+    hypothesis-later i s h = record { stands = stmt_stays S T i s h.stands; kind = h.kind; active = active-later S T i at within h.active }
 
     instance-later : (a : ℕ) (s : Stmt) (σ : Images) → IsInstance S at a s σ → IsInstance (S ++ T) at a s σ
     instance-later a s σ h =
         let here = sym (before-front S T a (stands-within S a s h.stands).1) in
         record {
           earlier = h.earlier;
-          stands = stands-later S T a s h.stands;
+          stands = stmt_stays S T a s h.stands;
           assertion = h.assertion;
           of_variables = subst (λ U. IsTrue (list_all (λ p. is_variable U p.0) σ)) here h.of_variables;
           apart = subst (λ U. IsTrue (are_groups_apart U σ (mandatory_groups (before (S ++ T) a) s))) (sym (before-front S T at within))
@@ -90,7 +91,7 @@ module _ (S T : Database) where
         stmt = d.stmt;
         after = d.after;
         weight = d.weight;
-        stands = stands-later S T at d.stmt d.stands;
+        stands = stmt_stays S T at d.stmt d.stands;
         spelled = spells-later d.spelled;
         concludes = concludes-later t _ d.concludes;
         light = d.light;

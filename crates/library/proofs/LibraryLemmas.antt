@@ -1,5 +1,5 @@
 -- The library of a log is one, it only grows, and it is good.
-use Rattle.std.specs.Prelude.{◌≡◌, ℕ, Bool, true, false, IsTrue, List, [], ◌∷◌, ◌++◌, length, Option, Some, None, refl}
+use Rattle.std.specs.Prelude.{◌≡◌, ℕ, IsTrue, List, [], ◌∷◌, ◌++◌, length, Option, Some, None, refl}
 use Rattle.std.proofs.Common.{sym, ◌∙◌, ap, subst, append-nil, append_assoc}
 use Rattle.mm_read.specs.declared.stmt.Stmt.{Stmt}
 use Rattle.mm_read.specs.Statements.{Database}
@@ -13,6 +13,7 @@ use Rattle.library.specs.Charters.{may_declare}
 use Rattle.library.specs.Good.{Good}
 use Rattle.library.specs.LibraryOf.{Replica, empty, status_of, decided_with, Decides, AppliesAt, Applies, Runs, IsLibraryOf}
 use Rattle.library.proofs.CausesLemmas.{one-verdict, one-reading}
+use Rattle.frame.proofs.ActiveBehind.{not-both}
 
 -- ---- one verdict and one replica
 
@@ -30,9 +31,6 @@ text-replica old new other submission Added p q =
 text-replica old new other submission (Refused cause) p q = p.1 ∙ sym q.1
 text-replica old new other submission Nothing p q = absurd p
 text-replica old new other submission Repeat p q = absurd p
-
-not-both : (b : Bool) → b ≡ true → b ≡ false → ⊥
-not-both b p q = absurd (let e : true ≡ false = sym p ∙ q in cc)
 
 pub decides-one : (old new other : Replica) (entry : Entry) (v w : Verdict) → Decides old entry v new → Decides old entry w other → (v ≡ w) × (new ≡ other)
 decides-one old new other (Text submission) v w p q =

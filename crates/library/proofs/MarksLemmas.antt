@@ -15,20 +15,9 @@ use Rattle.proof_code.specs.declared.item.Item.TheVariants.{Cite, Recall}
 use Rattle.proof_code.specs.Numbers.{item_of, items_of}
 use Rattle.library.specs.Marks.{IsMarked, is_marked, mark, place_of, mark_items, ArePlaces, ItemsCite, ItemsMeet, MarksItems}
 use Rattle.library.proofs.FrontLemmas.{stands-within}
+use Rattle.verify.proofs.TableLemmas.{get-front, get-last}
 
 -- ---- the positions of labels
-
-get-front : {A : Type 0} (xs ys : List A) (k : ℕ) (d : A) → k < length xs → get_or (xs ++ ys) k d ≡ get_or xs k d
-get-front [] ys k d h = absurd (omega (arith, h))
-get-front (x ∷ xs) ys zero d h = refl
-get-front (x ∷ xs) ys (suc k) d h = get-front xs ys k d (omega (arith, h))
-
-get-last : {A : Type 0} (xs : List A) (x : A) (k : ℕ) (d : A) → k ≡ length xs → get_or (xs ++ x ∷ []) k d ≡ x
-get-last {A} xs x k d e = ap (λ n. get_or (xs ++ x ∷ []) n d) e ∙ at_end xs
-  where
-    at_end : (ys : List A) → get_or (ys ++ x ∷ []) (length ys) d ≡ x
-    at_end [] = refl
-    at_end (y ∷ ys) = at_end ys
 
 get-past : {A : Type 0} (xs : List A) (k : ℕ) (d : A) → length xs ≤ k → get_or xs k d ≡ d
 get-past [] k d h = refl

@@ -1,5 +1,5 @@
 -- What a proof cites stands before it, and what citations lead to is what a walk down has marked.
-use Rattle.std.specs.Prelude.{◌≡◌, ◌⊎◌, ℕ, zero, suc, ◌-◌, ◌<◌, ◌≤◌, Bool, true, false, List, [], ◌∷◌, ◌++◌, length, get_or, Option, Some, None, option_map, slice_get, slice_set, replicate, take, drop, Result, Ok, Err, OnOk, refl}
+use Rattle.std.specs.Prelude.{◌≡◌, ◌⊎◌, ℕ, zero, suc, ◌-◌, ◌<◌, ◌≤◌, Bool, true, false, List, [], ◌∷◌, ◌++◌, length, get_or, Some, option_map, slice_get, slice_set, replicate, take, drop, Result, Ok, Err, OnOk, refl}
 use Rattle.std.proofs.Common.{sym, ◌∙◌, ap, subst, arith, inl, inr, append-nil, take_all}
 use Rattle.std.proofs.lemmas.Bool.{cases_eq}
 use Rattle.std.proofs.lemmas.List.{drop_all, length-set, length-replicate, get_or-set_same, get_or-set_other}
@@ -20,17 +20,16 @@ use Rattle.verify.specs.Right.{IsProvable, IsRight}
 use Rattle.library.specs.Good.{Good}
 use Rattle.library.specs.Uses.{HasItems, Cites}
 use Rattle.library.specs.Marks.{IsMarked, ItemsCite, MarksItems, MarksCited, Reaches, starts, leads, AreReached}
-use Rattle.library.proofs.FrontLemmas.{stmt_at-bares, label_of-bare, active-below}
+use Rattle.library.proofs.FrontLemmas.{stmt_at-bares, active-below}
 use Rattle.library.proofs.MarksLemmas.{marked-within}
+use Rattle.library.proofs.ProvingLemmas.{same-statement}
+use Rattle.library.proofs.ItemsLemmas.{unbare}
+use Rattle.frame.proofs.EnterLemmas.{label_of-bare}
 
 -- ---- labels, with proofs and without
 
 pub carries-bare : (S : Database) (a : ℕ) (s : Stmt) (label : Name) → Carries S a s label → Carries (bares S) a (bare s) label
 carries-bare S a s label c = record { stands = stmt_at-bares S a ∙ ap (option_map bare) c.stands; carried = label_of-bare s ∙ c.carried }
-
-unbare : (o : Option Stmt) (t : Stmt) → option_map bare o ≡ Some t → (s : Stmt) × (o ≡ Some s) × (bare s ≡ t)
-unbare None t h = absurd (let e = h in cc)
-unbare (Some s) t h = (s, refl, let e = h in cc)
 
 pub carries-whole : (S : Database) (a : ℕ) (s : Stmt) (label : Name) → Carries (bares S) a s label → (t : Stmt) × Carries S a t label
 carries-whole S a s label c =
@@ -38,9 +37,6 @@ carries-whole S a s label c =
     (u.0, record { stands = u.1; carried = sym (label_of-bare u.0) ∙ (ap label_of u.2 ∙ c.carried) })
 
 -- ---- a proof has one list of items
-
-same-statement : (S : Database) (at : ℕ) (s r : Stmt) → IsProvable S at s → IsProvable S at r → s ≡ r
-same-statement S at s r p q = let e : Some s ≡ Some r = sym p.stands ∙ q.stands in cc
 
 pub one-items : (S : Database) (at : ℕ) (items other : List Item) → HasItems S at items → HasItems S at other → items ≡ other
 one-items S at items other p q =

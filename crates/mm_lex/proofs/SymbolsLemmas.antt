@@ -23,7 +23,7 @@ record Runs (text : List ℕ) (at : ℕ) (bytes : List ℕ) : Type 0 where
   some : at < end
   are : words text (record { start = at; end = end } ∷ spans) ≡ split_of bytes
 
-white_run : (at c : ℕ) (bytes : List ℕ) → is_white c ≡ true → runs_from at (c ∷ bytes) ≡ runs_from (at + 1) bytes
+pub white_run : (at c : ℕ) (bytes : List ℕ) → is_white c ≡ true → runs_from at (c ∷ bytes) ≡ runs_from (at + 1) bytes
 white_run at c bytes e = rw e refl
 
 shown_run : (at b : ℕ) (bytes : List ℕ) → is_white b ≡ false → runs_from at (b ∷ bytes) ≡ with_byte at (starts_white bytes) (runs_from (at + 1) bytes)

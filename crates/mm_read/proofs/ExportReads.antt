@@ -17,6 +17,7 @@ use Rattle.mm_read.specs.Statements.{Database, is_shaped, are_symbols, has_two, 
 use Rattle.mm_read.specs.Export.{export_of}
 use Rattle.mm_read.specs.Laws as laws
 use Rattle.mm_read.proofs.StatementsLemmas.{symbol_plain, label_plain, symbols_of, plain_is_no_key}
+use Rattle.mm_lex.proofs.SymbolsLemmas.{white_run}
 
 -- ---- the runs of words with a white byte behind each
 
@@ -29,9 +30,6 @@ label_byte_visible b h = grind (arith, nat_tests, h)
 abbrev span_of : ℕ → ℕ → Span
 span_of start end = record { start = start; end = end }
 
-runs-white : (at b : ℕ) (text : List ℕ) → is_white b ≡ true → runs_from at (b ∷ text) ≡ runs_from (at + 1) text
-runs-white at b text h = ap (λ t. cond t (runs_from (at + 1) text) (with_byte at (starts_white text) (runs_from (at + 1) text))) h
-
 runs-visible : (at c : ℕ) (text : List ℕ) → is_visible c ≡ true → runs_from at (c ∷ text) ≡ with_byte at (starts_white text) (runs_from (at + 1) text)
 runs-visible at c text h = ap (λ t. cond t (runs_from (at + 1) text) (with_byte at (starts_white text) (runs_from (at + 1) text))) (visible_not_white c h)
 
@@ -40,7 +38,7 @@ runs-word : (at : ℕ) (w : Name) (b : ℕ) (text : List ℕ) → is_word w ≡ 
 runs-word at [] b text h k = absurd (true≢false (sym h))
 runs-word at (c ∷ []) b text h k =
     runs-visible at c (b ∷ text) (and_parts (is_visible c) true h).0
-    ∙ (ap (λ t. with_byte at t (runs_from (at + 1) (b ∷ text))) k ∙ ap (λ r. span_of at (at + 1) ∷ r) (runs-white (at + 1) b text k))
+    ∙ (ap (λ t. with_byte at t (runs_from (at + 1) (b ∷ text))) k ∙ ap (λ r. span_of at (at + 1) ∷ r) (white_run (at + 1) b text k))
 runs-word at (c ∷ d ∷ w) b text h k =
     let parts : (is_visible c ≡ true) × (list_all is_visible (d ∷ w) ≡ true) = and_parts (is_visible c) (list_all is_visible (d ∷ w)) h in
     let next : (is_visible d ≡ true) × (list_all is_visible w ≡ true) = and_parts (is_visible d) (list_all is_visible w) parts.1 in

@@ -18,7 +18,7 @@ use Rattle.mm_read.proofs.OneSpelling.{one_spelling}
 use Rattle.mm_read.proofs.ShapeFaults.{one_shape_fault}
 
 -- the tokens of a text are one list
-same_tokens : (text : List ℕ) (ts us : List Name) → HasTokens text ts → HasTokens text us → ts ≡ us
+pub same_tokens : (text : List ℕ) (ts us : List Name) → HasTokens text ts → HasTokens text us → ts ≡ us
 same_tokens text ts us has also = sym has.2 ∙ (ap (words text) (AreTokens-unique text has.0 also.0 has.1 also.1) ∙ also.2)
 
 module _ (text : List ℕ) (clean : IsClean text) where

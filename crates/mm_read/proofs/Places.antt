@@ -107,7 +107,7 @@ prove_follows label tokens h (ws, proof, S, all, all_proof, many, hS, e) =
 
 -- ---- a step back
 
-same : (t k : Name) → name_eq t k ≡ true → t ≡ k
+pub same : (t k : Name) → name_eq t k ≡ true → t ≡ k
 same t k h = (bytes_eq-Decides t k).0 h
 
 -- a place that is one of two, by a test

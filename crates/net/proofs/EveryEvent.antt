@@ -17,7 +17,7 @@ use Rattle.net.specs.declared.fault.StepFault.TheVariants.{EventsSpent}
 use Rattle.net.specs.Chosen.{Vote}
 use Rattle.net.specs.World.{World, start, nodes_from, stepped, answered, votes_after, at_node, delivered, happens_at, happens, all_happen, after, offers_of}
 use Rattle.net.specs.Agree.{IsAfter}
-use Rattle.net.proofs.Lists.{all_more, all_append, all_in, in_slice_get}
+use Rattle.net.proofs.Lists.{all_more, all_in, in_slice_get}
 use Rattle.net.proofs.Ledger.{Ledger, IsSound}
 use Rattle.net.proofs.LedgerGrows.{Grows}
 use Rattle.net.proofs.Invariant.{NodeHolds, NodesHold, SaysTrue, IsTrue, WorldHolds, node_lasts, truth_lasts}
@@ -26,6 +26,7 @@ use Rattle.net.proofs.AcceptorSteps.{prepare_continues, accept_continues}
 use Rattle.net.proofs.LearnerSteps.{accepted_continues, ask_continues, told_continues}
 use Rattle.net.proofs.ProposerSteps.{IfStep, begin_continues, offer_continues, nack_continues}
 use Rattle.net.proofs.PromiseSteps.{promise_continues}
+use Rattle.synod.proofs.NodeKeeps.{all_append}
 
 module _ {V : Type 0} {offers : List V} {l : Ledger V} (n : Node V) (sound : IsSound n.weights offers l) (holds : NodeHolds n.weights offers l n.me n) where
   body_continues : (p : ℕ) (body : Body V) → SaysTrue n.weights l p body → Continues n.weights offers n.me l (on_body n p body)

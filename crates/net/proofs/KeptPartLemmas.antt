@@ -1,5 +1,5 @@
 -- The law of the kept part: each step makes its one change of the kept part of its node and of no other node's, and a restart makes none.
-use Rattle.std.proofs.Common.{◌≡◌, ◌≢◌, ℕ, zero, suc, ◌==◌, List, [], ◌∷◌, ◌++◌, Option, Some, None, Result, Ok, Err, refl, ap, sym, ◌∙◌, subst, set, slice_get}
+use Rattle.std.proofs.Common.{◌≡◌, ◌≢◌, ℕ, ◌==◌, List, [], ◌∷◌, ◌++◌, Option, Some, None, Result, Ok, Err, refl, ap, sym, ◌∙◌, subst, slice_get}
 use Rattle.std.specs.Option.{option_map}
 use Rattle.synod.specs.declared.packet.Packet.{Packet}
 use Rattle.synod.specs.declared.change.Change.{Change}
@@ -18,18 +18,7 @@ use Rattle.net.specs.KeptPart.{kept_part, node_of, change_answered, change_at, c
 use Rattle.net.specs.Laws.{KeptPartSurvives}
 use Rattle.net.proofs.EveryEvent.{IfTaken, if_taken, spent_or}
 use Rattle.net.proofs.TwoMoments.{all_happen-append, later_events}
-
-pub slice_get-set : {A : Type 0} (xs : List A) (i : ℕ) (x y : A) → slice_get xs i ≡ Some y → slice_get (set xs i x) i ≡ Some x
-slice_get-set [] i x y e = cc
-slice_get-set (z ∷ xs) zero x y e = refl
-slice_get-set (z ∷ xs) (suc i) x y e = slice_get-set xs i x y e
-
-pub slice_get-set_other : {A : Type 0} (xs : List A) (i k : ℕ) (x : A) → i ≢ k → slice_get (set xs i x) k ≡ slice_get xs k
-slice_get-set_other [] i k x other = refl
-slice_get-set_other (z ∷ xs) zero zero x other = absurd (other refl)
-slice_get-set_other (z ∷ xs) zero (suc k) x other = refl
-slice_get-set_other (z ∷ xs) (suc i) zero x other = refl
-slice_get-set_other (z ∷ xs) (suc i) (suc k) x other = slice_get-set_other xs i k x (λ e. other (ap suc e))
+use Rattle.net.proofs.Lists.{at_set, at_set_other}
 
 abbrev changed_part : {V : Type 0} → Option (Change V) → Option (Kept V) → Option (Kept V)
 changed_part change kept = option_map (λ kept. changed_by kept change) kept
@@ -42,14 +31,14 @@ pub record Moves {V : Type 0} (w : World V) (j k : ℕ) (change : Option (Change
 module _ {V : Type 0} (w : World V) (j k : ℕ) where
   own_part : (n : Node V) (step : Stepped V) → slice_get w.nodes j ≡ Some n → kept_of step.node ≡ changed_by (kept_of n) step.change → kept_part (stepped w j step) j ≡ changed_part step.change (kept_part w j)
   own_part n step is_node changes =
-      ap (λ (o : Option (Node V)). option_map kept_of o) (slice_get-set w.nodes j step.node n is_node)
+      ap (λ (o : Option (Node V)). option_map kept_of o) (at_set w.nodes j step.node n is_node)
       ∙ ap (λ (kept : Kept V). let o : Option (Kept V) = Some kept in o) changes
       ∙ ap (λ (o : Option (Node V)). changed_part step.change (option_map kept_of o)) (sym is_node)
 
   moves_answered : (n : Node V) → slice_get w.nodes j ≡ Some n → (r : Result (Stepped V) Refusal) → ChangesKeptOnOk n r → IfTaken (answered w j r) (Moves w j k (change_answered r))
   moves_answered n is_node (Ok step) changes = record {
     own = λ e. subst (λ (k : ℕ). kept_part (stepped w j step) k ≡ changed_part step.change (kept_part w k)) e (own_part n step is_node changes);
-    other = λ other. ap (λ (o : Option (Node V)). option_map kept_of o) (slice_get-set_other w.nodes j k step.node other);
+    other = λ other. ap (λ (o : Option (Node V)). option_map kept_of o) (at_set_other w.nodes j k step.node other);
   }
   moves_answered n is_node (Err refusal) changes = tt
 

@@ -9,10 +9,6 @@ pub all_more : {A : Type 0} (P Q : A → Type 0) (xs : List A) → ((x : A) → 
 all_more P Q [] more h = tt
 all_more P Q (x ∷ xs) more h = (more x h.0, all_more P Q xs more h.1)
 
-pub all_append : {A : Type 0} (P : A → Type 0) (xs ys : List A) → AllByRecursion P xs → AllByRecursion P ys → AllByRecursion P (xs ++ ys)
-all_append P [] ys h k = k
-all_append P (x ∷ xs) ys h k = (h.0, all_append P xs ys h.1 k)
-
 pub all_in : {A : Type 0} (P : A → Type 0) (xs : List A) (x : A) → In x xs → AllByRecursion P xs → P x
 all_in P [] x i h = elim i [ ]
 all_in P (y ∷ ys) x (inl e) h = subst P e h.0

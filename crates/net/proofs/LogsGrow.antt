@@ -32,7 +32,7 @@ use Rattle.net.specs.World.{World, stepped, answered, at_node, delivered, happen
 use Rattle.net.specs.Agree.{IsBeginningOf}
 use Rattle.net.specs.Laws.{LogsOnlyGrow, RestartEmptiesLog}
 use Rattle.net.proofs.EveryEvent.{IfTaken, if_taken, spent_or}
-use Rattle.net.proofs.KeptPartLemmas.{slice_get-set, slice_get-set_other}
+use Rattle.net.proofs.Lists.{at_set, at_set_other}
 
 -- an entry at an empty slot lengthens the log or leaves it
 log-put : {T : Type 0} (xs : List (Option T)) (s : ℕ) (v : T) → entry_at xs s ≡ None → IsBeginningOf (entries_to_gap xs) (entries_to_gap (put_at xs s v))
@@ -122,11 +122,11 @@ same_log xs ys is = ([], append-nil xs ∙ sym is)
 
 module _ {V : Type 0} (w : World V) (j k : ℕ) where
   other_log : (step : Stepped V) → j ≢ k → log (stepped w j step) k ≡ log w k
-  other_log step other = ap (λ (o : Option (Node V)). log_at o) (slice_get-set_other w.nodes j k step.node other)
+  other_log step other = ap (λ (o : Option (Node V)). log_at o) (at_set_other w.nodes j k step.node other)
 
   own_log : (n : Node V) (step : Stepped V) → slice_get w.nodes j ≡ Some n → LogGrows n step → IsBeginningOf (log w j) (log (stepped w j step) j)
   own_log n step is grows =
-      (grows.0, ap (λ (o : Option (Node V)). log_at o ++ grows.0) is ∙ grows.1 ∙ ap (λ (o : Option (Node V)). log_at o) (sym (slice_get-set w.nodes j step.node n is)))
+      (grows.0, ap (λ (o : Option (Node V)). log_at o ++ grows.0) is ∙ grows.1 ∙ ap (λ (o : Option (Node V)). log_at o) (sym (at_set w.nodes j step.node n is)))
 
   either_log : (n : Node V) (step : Stepped V) → slice_get w.nodes j ≡ Some n → LogGrows n step → (t : Bool) → (j == k) ≡ t → IsBeginningOf (log w k) (log (stepped w j step) k)
   either_log n step is grows true test = let e : j ≡ k = grind (arith, nat_tests) in subst (λ (i : ℕ). IsBeginningOf (log w i) (log (stepped w j step) i)) e (own_log n step is grows)
@@ -161,7 +161,7 @@ module _ {V : Type 0} (size : V → ℕ) (w : World V) (k : ℕ) where
 
   emptied : (o : Option (Node V)) → slice_get w.nodes k ≡ o → IfTaken (at_node w k (λ n. Ok (restarted n)) o) (λ x. log x k ≡ [])
   emptied None is = tt
-  emptied (Some n) is = ap (λ (o : Option (Node V)). log_at o) (slice_get-set w.nodes k (restarted n).node n is)
+  emptied (Some n) is = ap (λ (o : Option (Node V)). log_at o) (at_set w.nodes k (restarted n).node n is)
 
 pub logs_only_grow : {V : Type 0} → LogsOnlyGrow V
 logs_only_grow size weights events e k w x is_after happened other = if_taken (λ x. IsBeginningOf (log w k) (log x k)) (happens size w e) x happened (log_grows size w k e other)

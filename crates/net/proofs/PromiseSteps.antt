@@ -22,7 +22,6 @@ use Rattle.synod.proofs.BallotsLemmas.{same_true}
 use Rattle.synod.proofs.KnownLemmas.{page_either, other_pages}
 use Rattle.synod.proofs.PromisePages.{pages-all, joined-all, all_had-front}
 use Rattle.synod.proofs.ReportsLemmas.{first_to_top}
-use Rattle.net.proofs.Lists.{all_append}
 use Rattle.net.proofs.Ledger.{Promised, Ledger, IsFree, IsBegun, IsBrought, IsSound}
 use Rattle.net.proofs.LedgerGrows.{Grows, grows_both, begun_lasts, free_lasts}
 use Rattle.net.proofs.LedgerSteps.{with_proposals, AllProposedBelow, each_free, each_proposed_more, batch}
@@ -30,6 +29,8 @@ use Rattle.net.proofs.Invariant.{IsPage, IsHeard, IsPreparing, RoleHolds, NodeHo
 use Rattle.net.proofs.StepsContinue.{Continues, same_ledger, true_accepts}
 use Rattle.net.proofs.QuorumHeard.{AllHeard, IsQuorumHeard, fills_grounded, fills_brought, free_above, reported_from}
 use Rattle.net.proofs.ProposerSteps.{after_batch}
+use Rattle.synod.proofs.PageKeeps.{length-fills}
+use Rattle.synod.proofs.NodeKeeps.{all_append}
 
 all_take : {A : Type 0} (P : A → Type 0) (i : ℕ) (xs : List A) → AllByRecursion P xs → AllByRecursion P (take i xs)
 all_take P zero xs h = tt
@@ -44,10 +45,6 @@ all_drop P (suc i) (x ∷ xs) h = all_drop P i xs h.1
 all_offered : {V : Type 0} (offers vs : List V) → AllByRecursion (λ v. In v offers) vs → AllByRecursion (IsBrought offers) (map (λ v. Some v) vs)
 all_offered offers [] h = tt
 all_offered offers (v ∷ vs) h = (h.0, all_offered offers vs h.1)
-
-length-fills : {V : Type 0} (reports : List (SlotReport V)) (s count : ℕ) → length (fills reports s count) ≡ count
-length-fills reports s zero = refl
-length-fills reports s (suc count) = ap suc (length-fills reports (suc s) count)
 
 module _ {V : Type 0} {offers : List V} {l : Ledger V} (n : Node V) (sound : IsSound n.weights offers l) (holds : NodeHolds n.weights offers l n.me n) where
   abbrev Goes : Stepped V → Type 0

@@ -17,12 +17,12 @@ use Rattle.synod.specs.Ballots.{is_under}
 use Rattle.synod.specs.Node.{Node, Stepped, unchanged, page_of, no_pages}
 use Rattle.synod.specs.Log.{log_length}
 use Rattle.synod.specs.Proposer.{waits, takes_slot, offer_as, offered, next_round, next_ballot, begins, begun, is_at, idles, on_nack}
-use Rattle.net.proofs.Lists.{all_append}
 use Rattle.net.proofs.Ledger.{Begun, begun_as, Ledger, IsSound}
 use Rattle.net.proofs.LedgerGrows.{Grows, with_begun, grows-with_begun, begun_lasts, free_lasts}
 use Rattle.net.proofs.LedgerSteps.{begun_sound, with_proposals, each_free, batch}
 use Rattle.net.proofs.Invariant.{IsLeading, RoleHolds, NodeHolds, AcceptorHolds, LearnerHolds}
 use Rattle.net.proofs.StepsContinue.{Continues, same_ledger, true_to_all}
+use Rattle.synod.proofs.NodeKeeps.{all_append}
 
 -- where a step is answered
 abbrev pub IfStep : {V : Type 0} → Result (Stepped V) Refusal → (Stepped V → Type 0) → Type 0

@@ -8,11 +8,11 @@ use Rattle.synod.specs.declared.ballot.Ballot.{Ballot}
 use Rattle.synod.specs.Packets.{packet, to_all_from, to_all, to_others_from, accepts}
 use Rattle.synod.specs.Node.{Stepped}
 use Rattle.net.specs.World.{votes_after}
-use Rattle.net.proofs.Lists.{all_append}
 use Rattle.net.proofs.Ledger.{Ledger, IsSound}
 use Rattle.net.proofs.LedgerGrows.{Grows, grows_none}
 use Rattle.net.proofs.LedgerSteps.{EachProposed}
 use Rattle.net.proofs.Invariant.{NodeHolds, SaysTrue, IsTrue}
+use Rattle.synod.proofs.NodeKeeps.{all_append}
 
 -- node k made the step
 pub record Continues {V : Type 0} (ws : List ℕ) (offers : List V) (k : ℕ) (l : Ledger V) (step : Stepped V) : Type 0 where

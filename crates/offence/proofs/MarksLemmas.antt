@@ -34,12 +34,6 @@ marked-none p v none [] marks = refl
 marked-none p v none (x ∷ names) [] = refl
 marked-none p v none (x ∷ names) (m ∷ marks) = ap (λ b. cond b v m ∷ marked p v names marks) (none x) ∙ ap (λ l. m ∷ l) (marked-none p v none names marks)
 
-pub or_comm : (a b : Bool) → (a || b) ≡ (b || a)
-or_comm true true = refl
-or_comm true false = refl
-or_comm false true = refl
-or_comm false false = refl
-
 -- a name that has no code, and one that has
 pub marked-absent : (w : Name) (v : Bool) (names : List Name) (marks : List Bool) → has_name w names ≡ false → marked (λ x. name_eq x w) v names marks ≡ marks
 marked-absent w v [] marks h = refl

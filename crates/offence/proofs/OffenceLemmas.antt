@@ -18,8 +18,9 @@ use Rattle.offence.specs.declared.witness.Witness.TheVariants.{Statement, Symbol
 use Rattle.offence.specs.declared.search.Part.TheVariants as part
 use Rattle.offence.specs.declared.symbols.Test.TheVariants as test
 use Rattle.offence.specs.Search.{meets, fails}
-use Rattle.offence.proofs.MarksLemmas.{or_comm}
 use Rattle.offence.specs.Offends.{Offends, Among, IsTwice, IsRepeated, IsSymbolOf, IsLabelOf, typed_expr}
+use Rattle.mm_lex.proofs.FaultsLemmas.{twice_not}
+use Rattle.scope.proofs.LegalLemmas.{or_comm}
 
 -- ---- lists and tests
 
@@ -108,16 +109,12 @@ G3_twice S names r none told broken =
     same : (x : Name) → not (is_variable S x || is_constant S x || was_label S x) ≡ not (fails S test.Taken x)
     same x = ap not (or_left (is_variable S x) (is_constant S x) (was_label S x) ∙ ap (λ b. is_variable S x || b) (fixed_is S x))
 
-not_not : (b : Bool) → b ≡ not (not b)
-not_not true = refl
-not_not false = refl
-
 pub G8_twice : {E : Type 0} (S : Database) (names : List Name) (r : Result (Option Witness) E) → list_any (fails S test.Inactive) names ≡ false
     → IfOk r (λ found. MatchOption found (all_different names ≡ true) (IsRepeated names))
     → keeps S (Disj names) G8 ≡ false → IfOk r (λ found. IsSomeAnd found (Offends S (Disj names) G8))
 G8_twice S names r none told broken =
     by_twice names r (Offends S (Disj names) G8)
-    (λ differ. contradict (and_from _ _ differ (none_all (fails S test.Inactive) (is_variable S) (λ x. not_not (is_variable S x)) names none)) broken) (λ j k h. h) told
+    (λ differ. contradict (and_from _ _ differ (none_all (fails S test.Inactive) (is_variable S) (λ x. twice_not (is_variable S x)) names none)) broken) (λ j k h. h) told
 
 keeps_label : (S : Database) (s : Stmt) → keeps S s G4 ≡ is_fresh_label S (label_of s)
 keeps_label S Open = refl
@@ -159,7 +156,7 @@ pub G5_is : {E : Type 0} (S : Database) (s : Stmt) (expr : Expr) (r : Result (Op
     → keeps S s G5 ≡ false → IfOk r (λ found. IsSomeAnd found (Offends S s G5))
 G5_is S s expr r is =
     by_symbol S s G5 test.Unknown (λ x. is_constant S x || is_variable S x) expr r (keeps_expr S s ∙ ap (list_all (λ x. is_constant S x || is_variable S x)) is)
-    (λ x. not_not (is_constant S x || is_variable S x))
+    (λ x. twice_not (is_constant S x || is_variable S x))
     (λ k h. record { name = h.name; stands = ap (λ e. slice_get e k) is ∙ h.stands; is = neither (is_constant S h.name) (is_variable S h.name) h.is })
   where
     neither : (a b : Bool) → not (a || b) ≡ true → (a ≡ false) × (b ≡ false)

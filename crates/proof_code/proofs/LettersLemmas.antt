@@ -22,7 +22,7 @@ count_below (suc n) = count_below n + count_of_size n
 abbrev row : ℕ → ℕ → List (Option ℕ)
 row from count = map Some (range_with_len from count)
 
-map-append : {A B : Type 0} (f : A → B) (xs ys : List A) → map f (xs ++ ys) ≡ map f xs ++ map f ys
+pub map-append : {A B : Type 0} (f : A → B) (xs ys : List A) → map f (xs ++ ys) ≡ map f xs ++ map f ys
 map-append f [] ys = refl
 map-append f (x ∷ xs) ys = ap (λ r. f x ∷ r) (map-append f xs ys)
 
@@ -39,10 +39,10 @@ row-get a zero k x h = absurd (none-some x h)
 row-get a (suc m) zero x h = sym (same_Some (Some a) x h) ∙ ap Some (omega arith)
 row-get a (suc m) (suc k) x h = row-get (a + 1) m k x h ∙ ap Some (omega arith)
 
-is_last-true : (c : ℕ) → 65 ≤ c → c ≤ 84 → is_last c ≡ true
+pub is_last-true : (c : ℕ) → 65 ≤ c → c ≤ 84 → is_last c ≡ true
 is_last-true c low high = grind (arith, nat_tests)
 
-is_first-false : (c : ℕ) → c ≤ 84 → is_first c ≡ false
+pub is_first-false : (c : ℕ) → c ≤ 84 → is_first c ≡ false
 is_first-false c high = grind (arith, nat_tests)
 
 -- the words of one letter, from a letter on

@@ -27,7 +27,7 @@ abbrev pub IsRead : ℕ → List ℕ → ℕ → ℕ → List ℕ → ℕ → Ty
 IsRead labels text limit digits numbers index =
     numbers_from labels 0 (letters_of text) ≡ before_rest numbers (numbers_from limit digits (letters_of (drop index text)))
 
-before-none : (o : Option (List ℕ)) → o ≡ before_rest [] o
+pub before-none : (o : Option (List ℕ)) → o ≡ before_rest [] o
 before-none None = refl
 before-none (Some xs) = refl
 

@@ -24,21 +24,14 @@ use Rattle.scope.specs.Active.{before}
 use Rattle.frame.specs.FrameOf.{hypotheses}
 use Rattle.reasons.specs.Images.{images_read, named_images, AreVariables}
 use Rattle.reasons.specs.Faults.{asks, AllFit, IsOther, BeginsOther, IsOtherConstant, StartsOther, IsFloat, IsSaid, IsMismatch}
-use Rattle.reasons.proofs.NamedLemmas.{decode-same, number-same, apply_same}
+use Rattle.reasons.proofs.NamedLemmas.{decode-same, apply_same}
+use Rattle.frame.proofs.StoredOneMore.{map-push}
+use Rattle.frame.proofs.FoundByNumber.{map-at, name_at-injective}
 
 take-map : {A B : Type 0} (f : A → B) (n : ℕ) (xs : List A) → take n (map f xs) ≡ map f (take n xs)
 take-map f zero xs = refl
 take-map f (suc n) [] = refl
 take-map f (suc n) (x ∷ xs) = ap (λ r. f x ∷ r) (take-map f n xs)
-
-map-last : {A B : Type 0} (f : A → B) (xs : List A) (x : A) → map f (xs ++ x ∷ []) ≡ map f xs ++ f x ∷ []
-map-last f [] x = refl
-map-last f (y ∷ xs) x = ap (λ r. f y ∷ r) (map-last f xs x)
-
-slice_get-map : {A B : Type 0} (f : A → B) (xs : List A) (k : ℕ) (x : A) → slice_get xs k ≡ Some x → slice_get (map f xs) k ≡ Some (f x)
-slice_get-map f [] k x e = cc
-slice_get-map f (y ∷ xs) zero x e = let same : y ≡ x = cc in ap (λ z. Some (f z)) same
-slice_get-map f (y ∷ xs) (suc k) x e = slice_get-map f xs k x e
 
 -- the expression of the statement that stands there
 pub expr_is : (S : Database) (p : ℕ) (s : Stmt) → stmt_at S p ≡ Some s → expr_at S p ≡ expr_of s
@@ -48,14 +41,14 @@ module _ (S : Database) (names : List Name) (σ : Images) (ps : List ℕ) (resul
     (within : k < length ps) (inside : k < length results) (here : r ≡ get_or results k r)
     (before : AllFit S σ (take k ps) (take k (named names results))) where
   result_is : slice_get (named names results) k ≡ Some (decode names r.items)
-  result_is = slice_get-map (λ v. decode names v.items) results k r (slice_get_read results (length results) k r refl inside here)
+  result_is = map-at (λ v. decode names v.items) results k r (slice_get_read results (length results) k r refl inside here)
 
   last_is : take (k + 1) (named names results) ≡ take k (named names results) ++ decode names r.items ∷ []
   last_is =
       take-map (λ v. decode names v.items) (k + 1) results
       ∙ (ap (λ n. map (λ v. decode names v.items) (take n results)) (add-one k)
       ∙ (ap (λ l. map (λ v. decode names v.items) l) (take-suc results k r inside ∙ ap (λ v. take k results ++ v ∷ []) (sym here))
-      ∙ (map-last (λ v. decode names v.items) (take k results) r
+      ∙ (map-push (λ v. decode names v.items) (take k results) r
       ∙ ap (λ l. l ++ decode names r.items ∷ []) (sym (take-map (λ v. decode names v.items) k results)))))
 
   -- one hypothesis more has its result
@@ -63,7 +56,7 @@ module _ (S : Database) (names : List Name) (σ : Images) (ps : List ℕ) (resul
   fit_more e =
       ap (λ n. map (asks S σ) (take n ps)) (add-one k)
       ∙ (ap (λ l. map (asks S σ) l) (take-suc ps k 0 within)
-      ∙ (map-last (asks S σ) (take k ps) (get_or ps k 0)
+      ∙ (map-push (asks S σ) (take k ps) (get_or ps k 0)
       ∙ (ap (λ l. l ++ asks S σ (get_or ps k 0) ∷ []) before
       ∙ (ap (λ x. take k (named names results) ++ x ∷ []) e ∙ sym last_is))))
 
@@ -82,7 +75,7 @@ module _ (S : Database) (names : List Name) (σ : Images) (ps : List ℕ) (resul
 module _ (S : Database) (names : List Name) (distinct : AreDistinct names) (p head : ℕ) (kind : Hypothesis) (is : IsAsked S names p head kind) where
   begins_other : (c : Name) (e : List ℕ) → head < length names → name_at names head ≡ c → AreBelow (length names) e → StartsOther head e → BeginsOther c (decode names e)
   begins_other c [] h n below starts = tt
-  begins_other c (x ∷ e) h n below starts = λ same. starts (number-same names x head distinct below.0 h (same ∙ sym n))
+  begins_other c (x ∷ e) h n below starts = λ same. starts (name_at-injective names x head distinct below.0 h (same ∙ sym n))
 
   pub other_constant : (e : List ℕ) → AreBelow (length names) e → IsFloat kind → StartsOther head e → IsOtherConstant (stmt_at S p) (decode names e)
   other_constant e below float starts = subst (λ o. IsOtherConstant o (decode names e)) (sym is.stands) (by is.stmt kind is.first is.is float)

@@ -12,11 +12,6 @@ use Rattle.frame.specs.Cited.{AreAsked, IsAsked}
 use Rattle.std.proofs.lemmas.Option.{slice_get_within}
 use Rattle.reasons.specs.Kept.{AreSymbols}
 
-pub below-at : (n : ℕ) (xs : List ℕ) (i d : ℕ) → AreBelow n xs → i < length xs → get_or xs i d < n
-below-at n [] i d h l = absurd (omega (arith, l))
-below-at n (x ∷ xs) zero d h l = h.0
-below-at n (x ∷ xs) (suc i) d h l = below-at n xs i d h.1 (omega (arith, l))
-
 pub below-append : (n : ℕ) (xs ys : List ℕ) → AreBelow n xs → AreBelow n ys → AreBelow n (xs ++ ys)
 below-append n [] ys h k = k
 below-append n (x ∷ xs) ys h k = (h.0, below-append n xs ys h.1 k)

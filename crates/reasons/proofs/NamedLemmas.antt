@@ -8,7 +8,6 @@ use Rattle.mm_read.specs.declared.stmt.Stmt.TheVariants as stmt
 use Rattle.mm_read.specs.Statements.{Database}
 use Rattle.scope.specs.Active.{stmt_at}
 use Rattle.names.specs.Codes.{name_at, decode, AreDistinct}
-use Rattle.names.proofs.CodesLemmas.{name_same}
 use Rattle.entries.specs.declared.citation.Hypothesis.{Hypothesis}
 use Rattle.entries.specs.declared.citation.Hypothesis.TheVariants.{Float, Essential}
 use Rattle.frame.specs.Below.{AreBelow}
@@ -18,6 +17,7 @@ use Rattle.frame.proofs.KindWalk.{same-number}
 use Rattle.reasons.specs.declared.images.Image.{Image}
 use Rattle.reasons.specs.Kept.{codes, code_images, named}
 use Rattle.reasons.specs.Images.{image_at, images_read, code_at, codes_read, named_images, AreVariables}
+use Rattle.frame.proofs.FoundByNumber.{name_at-injective}
 
 decode-append : (names : List Name) (xs ys : List ℕ) → decode names (xs ++ ys) ≡ decode names xs ++ decode names ys
 decode-append names [] ys = refl
@@ -98,11 +98,6 @@ images_are S names (p ∷ ps) (x ∷ heads) (h ∷ hs) (e ∷ es) asked =
 
 -- ---- numbers that stand for the same names are the same
 
-pub number-same : (names : List Name) (x y : ℕ) → AreDistinct names → x < length names → y < length names → name_at names x ≡ name_at names y → x ≡ y
-number-same names x y d h k e =
-    let eq : nat_eq x y ≡ true = same-number names x y d h k ∙ (ap (λ n. name_eq n (name_at names y)) e ∙ name_same (name_at names y)) in
-    grind (arith, eq)
-
 pub decode-same : (names : List Name) (xs ys : List ℕ) → AreDistinct names → AreBelow (length names) xs → AreBelow (length names) ys → decode names xs ≡ decode names ys → xs ≡ ys
 decode-same names [] [] d h k e = refl
 decode-same names [] (y ∷ ys) d h k e = cc
@@ -110,7 +105,7 @@ decode-same names (x ∷ xs) [] d h k e = cc
 decode-same names (x ∷ xs) (y ∷ ys) d h k e =
     let first : name_at names x ≡ name_at names y = cc in
     let rest : decode names xs ≡ decode names ys = cc in
-    ap (λ z. z ∷ xs) (number-same names x y d h.0 k.0 first) ∙ ap (λ zs. y ∷ zs) (decode-same names xs ys d h.1 k.1 rest)
+    ap (λ z. z ∷ xs) (name_at-injective names x y d h.0 k.0 first) ∙ ap (λ zs. y ∷ zs) (decode-same names xs ys d h.1 k.1 rest)
 
 -- ---- reading one result more
 

@@ -19,7 +19,7 @@ stays_open-append zero (Close ∷ S) s h = refl
 stays_open-append (suc d) (Close ∷ S) s h = stays_open-append d S s h
 stays_open-append d (t ∷ S) s h = stays_open-append d S s h
 
-cond-append : {A : Type 0} (b : Bool) (x : A) (xs ys : List A) → cond b (x ∷ (xs ++ ys)) (xs ++ ys) ≡ cond b (x ∷ xs) xs ++ ys
+pub cond-append : {A : Type 0} (b : Bool) (x : A) (xs ys : List A) → cond b (x ∷ (xs ++ ys)) (xs ++ ys) ≡ cond b (x ∷ xs) xs ++ ys
 cond-append true x xs ys = refl
 cond-append false x xs ys = refl
 
@@ -129,7 +129,7 @@ split_open (p ∷ es) = by (has_open es) (split_open es)
     by true e = ap (λ r. p ∷ r) e
     by false e = refl
 
-or_false_right : (a b : Bool) → (a || b) ≡ false → b ≡ false
+pub or_false_right : (a b : Bool) → (a || b) ≡ false → b ≡ false
 or_false_right true b h = cc
 or_false_right false b h = h
 
@@ -186,7 +186,7 @@ closed_stays S h = by (stays_open 0 (S ++ Close ∷ [])) refl
     by true k = absurd (omega (arith, no_deficit (S ++ Close ∷ []) k, deficit-close S, some_deficit S h))
     by false k = refl
 
-place : (a n : ℕ) → a + 1 + n ≡ a + suc n
+pub place : (a n : ℕ) → a + 1 + n ≡ a + suc n
 place a n = omega arith
 
 close_step : (b o : Bool) (p : ℕ × Stmt) (q : ℕ × Stmt) (r later : List (ℕ × Stmt)) → has_open r ≡ o → later ≡ before_open r ++ q ∷ []

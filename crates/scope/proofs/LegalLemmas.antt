@@ -18,7 +18,7 @@ first_rule : (b : Bool) (r : Rule) (rest : Option Rule) → cond (not b) (Some r
 first_rule true r rest h = (refl, h)
 first_rule false r rest h = cc
 
-or_comm : (a b : Bool) → (a || b) ≡ (b || a)
+pub or_comm : (a b : Bool) → (a || b) ≡ (b || a)
 or_comm true true = refl
 or_comm true false = refl
 or_comm false true = refl

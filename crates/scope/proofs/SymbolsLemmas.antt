@@ -88,7 +88,7 @@ declared_symbols-with_kinds names kind (x ∷ xs) own free =
 
 -- ---- the symbols of one statement more
 
-symbols_from-append : (symbols : List Name) (S T : Database) → symbols_from symbols (S ++ T) ≡ symbols_from (symbols_from symbols S) T
+pub symbols_from-append : (symbols : List Name) (S T : Database) → symbols_from symbols (S ++ T) ≡ symbols_from (symbols_from symbols S) T
 symbols_from-append symbols [] T = refl
 symbols_from-append symbols (s ∷ S) T = symbols_from-append (with_names symbols (symbols_by s)) S T
 

@@ -26,9 +26,9 @@ use Rattle.verify.specs.Places.{below, top}
 use Rattle.verify.proofs.AskedLemmas.{asked-lengths, asked-different}
 use Rattle.verify.proofs.CitationLemmas.{Meets, meets-step}
 use Rattle.verify.proofs.CitingLemmas.{read-over}
-use Rattle.verify.proofs.Decide.{some_same, append_cut, length-premises, not_both}
+use Rattle.verify.proofs.Decide.{append_cut, length-premises, not_both}
 use Rattle.verify.proofs.ImageLemmas.{apply-below}
-use Rattle.verify.proofs.Named.{map-append, halves, length-top}
+use Rattle.verify.proofs.Named.{halves, length-top}
 use Rattle.verify.proofs.PlaceLemmas.{map-drop}
 use Rattle.verify.proofs.PlanLemmas.{below-take}
 use Rattle.steps.specs.StepTable.{Step, IsPlaced, stands, comes_last, of_hypothesis as makes_hypothesis, of_assertion as makes_assertion, Notes}
@@ -37,6 +37,8 @@ use Rattle.steps.specs.StepTable as table
 use Rattle.steps.specs.Drafted.{row_of, rows_of, codes_in, progress_of, IsDraft, IsTied, GivesHypothesis, GivesAssertion}
 use Rattle.steps.specs.declared.draft.Draft.{Draft}
 use Rattle.steps.proofs.PlacingLemmas.{found-draft, found-placed, found-tied, made-draft, made-placed, made-tied}
+use Rattle.frame.proofs.FoundByNumber.{some-same}
+use Rattle.proof_code.proofs.LettersLemmas.{map-append}
 
 top-map : {A B : Type 0} (f : A → B) (n : ℕ) (xs : List A) → top n (map f xs) ≡ map f (top n xs)
 top-map f n xs = ap (λ l. drop (l - n) (map f xs)) (length-map xs f) ∙ sym (map-drop f (length xs - n) xs)
@@ -67,16 +69,16 @@ module _ (S : Database) (at : ℕ) (names : List Name) (legal : AreLegal S names
 
     hypothesis-same : (row : Row) → row.step ≡ h_step → Follows S at names (rows_of d) row → decode names row.expr ≡ expr_of s
     hypothesis-same r e (from_hypothesis t active' none is') =
-        is' ∙ ap expr_of (some_same (subst (λ x. stmt_at S x.position ≡ Some t) e active'.stands) active.stands)
+        is' ∙ ap expr_of (some-same (subst (λ x. stmt_at S x.position ≡ Some t) e active'.stands) active.stands)
     hypothesis-same r e (from_assertion t σ fits takes is') =
-        let same : t ≡ s = some_same (subst (λ x. stmt_at S x.position ≡ Some t) e fits.stands) active.stands in
+        let same : t ≡ s = some-same (subst (λ x. stmt_at S x.position ≡ Some t) e fits.stands) active.stands in
         absurd (not_both s active.kind (ap is_assertion (sym same) ∙ fits.assertion))
 
     -- what the run gives is the hypothesis
     run-hypothesis : (b : List Expr) (f : Expr) → Cites S at label st.stack b f → (st.stack ≡ b) × (f ≡ expr_of s)
-    run-hypothesis b f (of_hypothesis j t carries' active' same whole) = (whole, same ∙ ap expr_of (some_same (carries'.stands) (ap (stmt_at S) (legal.once j i t s label carries' carries) ∙ carries.stands)))
+    run-hypothesis b f (of_hypothesis j t carries' active' same whole) = (whole, same ∙ ap expr_of (some-same (carries'.stands) (ap (stmt_at S) (legal.once j i t s label carries' carries) ∙ carries.stands)))
     run-hypothesis b f (of_assertion a t σ carries' fits whole gives) =
-        let same : t ≡ s = some_same carries'.stands (ap (stmt_at S) (legal.once a i t s label carries' carries) ∙ carries.stands) in
+        let same : t ≡ s = some-same carries'.stands (ap (stmt_at S) (legal.once a i t s label carries' carries) ∙ carries.stands) in
         absurd (not_both s active.kind (ap is_assertion (sym same) ∙ fits.assertion))
 
     hypothesis-draft' : (new : Draft) → GivesHypothesis d new i codes → IsDraft S at names new
@@ -158,11 +160,11 @@ module _ (S : Database) (at : ℕ) (names : List Name) (legal : AreLegal S names
 
     instance' : (b : List Expr) (f : Expr) → Cites S at label st.stack b f → (σ : Images) × IsInstance S at a s σ × (st.stack ≡ b ++ premises S a s σ) × (f ≡ applied σ (expr_of s))
     instance' b f (of_hypothesis i t carries' active same whole) =
-        let e : t ≡ s = some_same carries'.stands (ap (stmt_at S) (legal.once i a t s label carries' carries) ∙ carries.stands) in
+        let e : t ≡ s = some-same carries'.stands (ap (stmt_at S) (legal.once i a t s label carries' carries) ∙ carries.stands) in
         absurd (not_both t active.kind (ap is_assertion e ∙ has.1))
     instance' b f (of_assertion a' t σ carries' fits whole gives) =
         let i : a' ≡ a = legal.once a' a t s label carries' carries in
-        let e : t ≡ s = some_same carries'.stands (ap (stmt_at S) i ∙ carries.stands) in (
+        let e : t ≡ s = some-same carries'.stands (ap (stmt_at S) i ∙ carries.stands) in (
           σ,
           subst (λ u. IsInstance S at a u σ) e (subst (λ m. IsInstance S at m t σ) i fits),
           whole ∙ (ap (λ m. b ++ premises S m t σ) i ∙ ap (λ u. b ++ premises S a u σ) e),
@@ -187,11 +189,11 @@ module _ (S : Database) (at : ℕ) (names : List Name) (legal : AreLegal S names
 
     assertion-same : (row : Row) → row.step ≡ a_step → Follows S at names rows' row → decode names row.expr ≡ run.1
     assertion-same r e (from_hypothesis t active none is') =
-        let same : t ≡ s = some_same (subst (λ x. stmt_at S x.position ≡ Some t) e active.stands) has.0 in
+        let same : t ≡ s = some-same (subst (λ x. stmt_at S x.position ≡ Some t) e active.stands) has.0 in
         absurd (not_both t active.kind (ap is_assertion same ∙ has.1))
     assertion-same r e (from_assertion t σ fits takes is') =
         let fits1 : IsInstance S at a t σ = subst (λ x. IsInstance S at x.position t σ) e fits in
-        let same : t ≡ s = some_same fits1.stands has.0 in
+        let same : t ≡ s = some-same fits1.stands has.0 in
         let fits2 = subst (λ u. IsInstance S at a u σ) same fits1 in
         let takes1 : map (expr_in names rows') (top n d.stack.items) ≡ premises S a t σ = subst (λ x. map (expr_in names rows') x.taken ≡ premises S x.position t σ) e takes in
         let takes2 = takes1 ∙ ap (λ u. premises S a u σ) same in

@@ -14,13 +14,14 @@ use Rattle.frame.specs.declared.meaning.Meaning.TheVariants.{Nothing}
 use Rattle.proof_code.specs.declared.item.Item.TheVariants.{Recall, Mark}
 use Rattle.verify.specs.Machine.{State, Cites, of_hypothesis, of_assertion, with_result, with_mark}
 use Rattle.verify.proofs.Decide.{append_cut}
-use Rattle.verify.proofs.PlaceLemmas.{map-snoc, get-map}
-use Rattle.verify.proofs.PlanLemmas.{below-snoc}
-use Rattle.subst.proofs.NumbersApartLemmas.{below-at}
+use Rattle.verify.proofs.PlaceLemmas.{get-map}
 use Rattle.steps.specs.StepTable.{Progress}
 use Rattle.steps.specs.Rows.{steps_of, expr_in, AreRows}
 use Rattle.steps.specs.Drafted.{row_of, rows_of, AreInBuffer, AreKnown, IsDraft, IsTied, ArePositions, CanDo, IsDone}
 use Rattle.steps.specs.declared.draft.Draft.{Draft}
+use Rattle.frame.proofs.StoredOneMore.{map-push}
+use Rattle.frame.proofs.NumberLemmas.{below-push}
+use Rattle.frame.proofs.ApartLemmas.{below-at}
 
 -- the last of a list
 front-last : (xs : List ℕ) (d : ℕ) → 0 < length xs → (b : List ℕ) × (xs ≡ b ++ get_or xs (length xs - 1) d ∷ [])
@@ -64,13 +65,13 @@ module _ (S : Database) (at : ℕ) (names : List Name) (d : Draft) (is : IsDraft
       pub marked-draft : IsDraft S at names new
       marked-draft =
           let low : p < length d.placed.items = subst (λ k. k < length d.placed.items) (sym last) (below-at (length d.placed.items) d.stack.items (length d.stack.items - 1) p is.stack_below (omega (arith, some))) in
-          draft-same (subst (AreBelow (length d.placed.items)) (sym same_stack) is.stack_below) (subst (AreBelow (length d.placed.items)) (sym saved) (below-snoc (length d.placed.items) d.saved.items p is.saved_below low))
+          draft-same (subst (AreBelow (length d.placed.items)) (sym same_stack) is.stack_below) (subst (AreBelow (length d.placed.items)) (sym saved) (below-push (length d.placed.items) d.saved.items p is.saved_below low))
 
       pub marked-done : IsDone S at names d Mark new
       marked-done st next tied (b, e, whole, goes) =
           let w = front-last d.stack.items p some in
           let split : d.stack.items ≡ w.0 ++ p ∷ [] = w.1 ∙ ap (λ k. w.0 ++ k ∷ []) (sym last) in
-          let both : map f w.0 ++ f p ∷ [] ≡ b ++ e ∷ [] = sym (map-snoc f w.0 p) ∙ (ap (map f) (sym split) ∙ (tied.stack ∙ whole)) in
+          let both : map f w.0 ++ f p ∷ [] ≡ b ++ e ∷ [] = sym (map-push f w.0 p) ∙ (ap (map f) (sym split) ∙ (tied.stack ∙ whole)) in
           let cut = append_cut (map f w.0) b (f p ∷ []) (e ∷ []) both refl in
           let one : f p ≡ e = (let x = cut.1 in cc) in (
             (
@@ -82,7 +83,7 @@ module _ (S : Database) (at : ℕ) (names : List Name) (d : Draft) (is : IsDraft
                   ∙ ap (λ s. let v : Progress = record { steps = steps_of (rows_of d); stack = d.stack.items; saved = s } in v) saved),
             ),
             subst (IsTied names new) (sym goes)
-                (tied-same (with_mark st e) (ap (map f) same_stack ∙ tied.stack) (ap (map f) saved ∙ (map-snoc f d.saved.items p ∙ (ap (λ r. r ++ f p ∷ []) tied.saved ∙ ap (λ x. st.saved ++ x ∷ []) one)))),
+                (tied-same (with_mark st e) (ap (map f) same_stack ∙ tied.stack) (ap (map f) saved ∙ (map-push f d.saved.items p ∙ (ap (λ r. r ++ f p ∷ []) tied.saved ∙ ap (λ x. st.saved ++ x ∷ []) one)))),
           )
 
   -- ---- a recall
@@ -104,7 +105,7 @@ module _ (S : Database) (at : ℕ) (names : List Name) (d : Draft) (is : IsDraft
     pub recalled-draft : IsDraft S at names new
     recalled-draft =
         let low : p < length d.placed.items = subst (λ j. j < length d.placed.items) (sym is_p) (below-at (length d.placed.items) d.saved.items k p is.saved_below there) in
-        draft-same new p same_placed same_symbols same_known (subst (AreBelow (length d.placed.items)) (sym stack) (below-snoc (length d.placed.items) d.stack.items p is.stack_below low))
+        draft-same new p same_placed same_symbols same_known (subst (AreBelow (length d.placed.items)) (sym stack) (below-push (length d.placed.items) d.stack.items p is.stack_below low))
         (subst (AreBelow (length d.placed.items)) (sym same_saved) is.saved_below)
 
     pub recalled-done : IsDone S at names d (Recall (suc k)) new
@@ -119,7 +120,7 @@ module _ (S : Database) (at : ℕ) (names : List Name) (d : Draft) (is : IsDraft
           ),
           subst (IsTied names new) (sym goes)
               (tied-same new p same_placed same_symbols same_known (with_result st st.stack e)
-              (ap (map f) stack ∙ (map-snoc f d.stack.items p ∙ (ap (λ r. r ++ f p ∷ []) tied.stack ∙ ap (λ x. st.stack ++ x ∷ []) (sym one)))) (ap (map f) same_saved ∙ tied.saved)),
+              (ap (map f) stack ∙ (map-push f d.stack.items p ∙ (ap (λ r. r ++ f p ∷ []) tied.stack ∙ ap (λ x. st.stack ++ x ∷ []) (sym one)))) (ap (map f) same_saved ∙ tied.saved)),
         )
 
 -- what may be cited is not nothing
@@ -143,7 +144,3 @@ position-there S labels positions k o d are h e =
     default [] k h = absurd (omega (arith, h))
     default (p ∷ ps) zero h = refl
     default (p ∷ ps) (suc k) h = default ps k (omega (arith, h))
-
-pub back : (n : ℕ) → (n ≡ 0 → ⊥) → n ≡ suc (n - 1)
-back zero h = absurd (h refl)
-back (suc n) h = omega arith

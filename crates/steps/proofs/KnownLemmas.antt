@@ -1,6 +1,5 @@
 -- A map from lists of numbers has for each list but the one that was set what it had before.
-use Rattle.std.specs.Prelude.{◌≡◌, ◌≢◌, Bool, true, false, List, ℕ, Option, refl}
-use Rattle.std.proofs.Common.{sym, ◌∙◌}
+use Rattle.std.specs.Prelude.{◌≡◌, ◌≢◌, Bool, List, ℕ, Option}
 use Rattle.std.specs.declared.vec.Vec.{Vec}
 use Rattle.std.specs.declared.alloc.Global.{Global}
 use Rattle.std.specs.BTreeMap.{BTreeMap, UpdatesBy}
@@ -8,21 +7,12 @@ use Rattle.std.specs.Map.{KeepsOthers, IsKeyTest, AreApart, lookup}
 use Rattle.std.specs.Cmp.{eq_by_cmp_equiv}
 use Rattle.std.specs.Cmp.Lexicographic.{slice_cmp, nat_list_cmp_total}
 use Rattle.std.specs.Ordering.{nat_cmp, is_eq}
-use Rattle.std.specs.Str.{bytes_eq}
-use Rattle.std.proofs.lemmas.Map.Text.{is_eq-slice_cmp}
-use Rattle.std.proofs.lemmas.Slice.Eq.{bytes_eq-Decides}
 use Rattle.steps.specs.Drafted.{place_of}
+use Rattle.names.proofs.OverflowLemmas.{apart}
 
 keeps : {K X : Type 0} (eq : K → K → Bool) (test : K → Bool) (old new : List (K × X)) → KeepsOthers eq test old new → (other : K → Bool) → IsKeyTest eq other → AreApart test other → lookup other new ≡ lookup other old
 unfolding KeepsOthers
 keeps eq test old new h = h
-
-apart : (xs ys zs : List ℕ) → ys ≢ xs → is_eq (slice_cmp nat_cmp xs zs) ≡ true → is_eq (slice_cmp nat_cmp ys zs) ≡ false
-apart xs ys zs ne e = by (is_eq (slice_cmp nat_cmp ys zs)) (sym (is_eq-slice_cmp ys zs))
-  where
-    by : (b : Bool) → bytes_eq ys zs ≡ b → b ≡ false
-    by false p = refl
-    by true p = absurd (ne ((bytes_eq-Decides ys zs).0 p ∙ sym ((bytes_eq-Decides xs zs).0 (sym (is_eq-slice_cmp xs zs) ∙ e))))
 
 pub others-same : (xs : List ℕ) (m n : BTreeMap (Vec ℕ Global) ℕ) (w : Option ℕ) → UpdatesBy (λ a b. slice_cmp nat_cmp a.items b.items) (λ k. slice_cmp nat_cmp xs k.items) m n w
     → (ys : List ℕ) → ys ≢ xs → place_of n ys ≡ place_of m ys

@@ -8,7 +8,7 @@ use Rattle.frame.specs.Below.{AreBelow}
 use Rattle.steps.specs.StepTable.{Step}
 use Rattle.steps.specs.Essential.{essential_of, IsIn, IsEssential, is_last, is_taken}
 use Rattle.steps.specs.Marked.{HasMark, mark_last, mark_each, MarksMore, AreMarkedFrom, AreMarks}
-use Rattle.steps.proofs.SoundLemmas.{below-some}
+use Rattle.verify.proofs.PlanLemmas.{below-get}
 
 pub from-or-at : (p j : ℕ) → p ≤ j → (j ≡ p) ⊎ (suc p ≤ j)
 from-or-at zero zero h = inl refl
@@ -163,7 +163,7 @@ module _ (S : Database) (steps : List Step) where
           let same : s ≡ step = cc in
           (more.each k).1 (inr (subst (λ x. IsIn k (essential_of S x)) same in_it))
       by j k s (inr l) (inl h) at' in_it = (more.each k).1 (inl (m.closed j k s l h at' in_it))
-      by j k s (inr l) (inr h) at' in_it = let x = below-some p (essential_of S step) h.0 j low h.1 in absurd (omega (arith, x, l))
+      by j k s (inr l) (inr h) at' in_it = let x = below-get p (essential_of S step) h.0 j low h.1 in absurd (omega (arith, x, l))
 
   -- all steps were looked at
   module _ (marks : List Bool) (m : AreMarkedFrom S steps 0 marks) where

@@ -5,25 +5,18 @@ use Rattle.std.proofs.lemmas.List.{length-map}
 use Rattle.std.specs.List.Sorted.{IsStrictlyIncreasing}
 use Rattle.std.proofs.lemmas.Option.{slice_get-get_or, get_or_from_slice_get}
 use Rattle.mm_read.specs.Statements.{Database}
-use Rattle.verify.proofs.PlaceLemmas.{map-snoc}
 use Rattle.steps.specs.Rows.{Row, no_row, steps_of}
 use Rattle.steps.specs.Essential.{essential_of, IsEssential, is_taken, IsRenumbered, AreEssential}
 use Rattle.steps.specs.Marked.{HasMark, AreMarks, marked_before, number_of, AreNumbers, kept_row}
 use Rattle.steps.proofs.RowLemmas.{some-front, some-more, some-last, step-at}
 use Rattle.steps.proofs.MarkLemmas.{from-or-at}
+use Rattle.frame.proofs.OneFrameLemmas.{low-or-not}
+use Rattle.frame.proofs.FoundByNumber.{map-at}
+use Rattle.frame.proofs.StoredOneMore.{map-push}
 
 either : (b : Bool) → (b ≡ true) ⊎ (b ≡ false)
 either true = inl refl
 either false = inr refl
-
-less-or-from : (a b : ℕ) → (a < b) ⊎ (b ≤ a)
-less-or-from a zero = inr (omega arith)
-less-or-from zero (suc b) = inl (omega arith)
-less-or-from (suc a) (suc b) = on (less-or-from a b)
-  where
-    on : (a < b) ⊎ (b ≤ a) → (suc a < suc b) ⊎ (suc b ≤ suc a)
-    on (inl l) = inl (omega (arith, l))
-    on (inr l) = inr (omega (arith, l))
 
 module _ (marks : List Bool) where
   abbrev next : ℕ → Bool → List ℕ
@@ -69,7 +62,7 @@ module _ (marks : List Bool) where
   pub kept-more : (f : ℕ → Row) (k : ℕ) (old new : List Row) → HasMark marks k → old ≡ map f (marked_before marks k) → new ≡ old ++ f k ∷ [] → new ≡ map f (marked_before marks (k + 1))
   kept-more f k old new h is e =
       let one : k + 1 ≡ suc k = omega arith in
-      e ∙ (ap (λ r. r ++ f k ∷ []) is ∙ (sym (map-snoc f (marked_before marks k) k) ∙ (ap (map f) (sym (before-marked k h)) ∙ ap (λ i. map f (marked_before marks i)) (sym one))))
+      e ∙ (ap (λ r. r ++ f k ∷ []) is ∙ (sym (map-push f (marked_before marks k) k) ∙ (ap (map f) (sym (before-marked k h)) ∙ ap (λ i. map f (marked_before marks i)) (sym one))))
 
   pub kept-same : (f : ℕ → Row) (k : ℕ) (old : List Row) → get_or marks k false ≡ false → old ≡ map f (marked_before marks k) → old ≡ map f (marked_before marks (k + 1))
   kept-same f k old h is =
@@ -89,7 +82,7 @@ module _ (marks : List Bool) where
       by before (inr s) = let r = before (omega (arith, s)) in let t = one-longer i (either (get_or marks i false)) in omega (arith, r, t)
 
   pub in-order : (i : ℕ) → IsStrictlyIncreasing (marked_before marks i)
-  in-order i = λ n within. by n (less-or-from (get_or (marked_before marks i) n 0) (get_or (marked_before marks i) (n + 1) 0)) within
+  in-order i = λ n within. by n (low-or-not (get_or (marked_before marks i) n 0) (get_or (marked_before marks i) (n + 1) 0)) within
     where
       by : (n : ℕ) → (get_or (marked_before marks i) n 0 < get_or (marked_before marks i) (n + 1) 0) ⊎ (get_or (marked_before marks i) (n + 1) 0 ≤ get_or (marked_before marks i) n 0) → n + 1 < length (marked_before marks i)
           → get_or (marked_before marks i) n 0 < get_or (marked_before marks i) (n + 1) 0
@@ -103,7 +96,7 @@ module _ (marks : List Bool) where
           absurd (omega (arith, m, x, y))
 
   pub numbers-more : (k n : ℕ) (numbers : List ℕ) → AreNumbers marks k numbers → n ≡ number_of marks k → AreNumbers marks (k + 1) (numbers ++ n ∷ [])
-  numbers-more k n numbers are e = record { count = (let l = length-append numbers (n ∷ []) in let c = are.count in omega (arith, l, c)); each = λ j l. each j (less-or-from j k) l }
+  numbers-more k n numbers are e = record { count = (let l = length-append numbers (n ∷ []) in let c = are.count in omega (arith, l, c)); each = λ j l. each j (low-or-not j k) l }
     where
       each : (j : ℕ) → (j < k) ⊎ (k ≤ j) → suc j ≤ k + 1 → get_or (numbers ++ n ∷ []) j 0 ≡ number_of marks j
       each j (inl less) l =
@@ -113,11 +106,6 @@ module _ (marks : List Bool) where
           let c = are.count in
           let s : j ≡ length numbers = omega (arith, c, from, l) in
           get_or_from_slice_get (numbers ++ n ∷ []) j n 0 (ap (slice_get (numbers ++ n ∷ [])) s ∙ some-last numbers n) ∙ (e ∙ ap (number_of marks) (let r : k ≡ j = omega (arith, from, l) in r))
-
-some-map : {A B : Type 0} (f : A → B) (xs : List A) (n : ℕ) (x : A) → slice_get xs n ≡ Some x → slice_get (map f xs) n ≡ Some (f x)
-some-map f [] n x h = cc
-some-map f (y ∷ xs) zero x h = let e : y ≡ x = cc in ap (λ z. Some (f z)) e
-some-map f (y ∷ xs) (suc n) x h = some-map f xs n x h
 
 maps-each : {A B : Type 0} (f g : A → B) (xs : List A) → ((i : ℕ) (x : A) → slice_get xs i ≡ Some x → f x ≡ g x) → map f xs ≡ map g xs
 maps-each f g [] h = refl
@@ -136,7 +124,7 @@ module _ (S : Database) (rows : List Row) (marks : List Bool) (are : AreMarks S 
   kept = marked_before marks (length rows)
 
   within : (k : ℕ) → HasMark marks k → k < length rows
-  within k h = by (less-or-from k (length marks))
+  within k h = by (low-or-not k (length marks))
     where
       past : (xs : List Bool) (k : ℕ) → length xs ≤ k → get_or xs k false ≡ false
       past [] k l = refl
@@ -171,7 +159,7 @@ module _ (S : Database) (rows : List Row) (marks : List Bool) (are : AreMarks S 
     exact = λ k. (λ h. (are.exact k).0 (has-number marks (length rows) h.0 k h.1).1, λ h. let m = (are.exact k).1 h in (number_of marks k, stands-at marks (length rows) k (within k m) m));
     count = ap length rows-are ∙ length-map kept (kept_row S rows marks);
     each = λ m k h. subst (IsRenumbered S kept (get_or rows k no_row))
-        (sym (ap (λ v. get_or v m no_row) rows-are ∙ get_or_from_slice_get (map (kept_row S rows marks) kept) m (kept_row S rows marks k) no_row (some-map (kept_row S rows marks) kept m k h)))
+        (sym (ap (λ v. get_or v m no_row) rows-are ∙ get_or_from_slice_get (map (kept_row S rows marks) kept) m (kept_row S rows marks k) no_row (map-at (kept_row S rows marks) kept m k h)))
         (renumbered k (has-number marks (length rows) m k h).1);
   }
     where

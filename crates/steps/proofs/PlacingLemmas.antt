@@ -9,15 +9,15 @@ use Rattle.names.specs.Codes.{decode}
 use Rattle.frame.specs.Below.{AreBelow}
 use Rattle.frame.specs.Reading.{AreLegal}
 use Rattle.verify.specs.Machine.{State, with_result}
-use Rattle.verify.proofs.PlaceLemmas.{map-snoc}
-use Rattle.verify.proofs.PlanLemmas.{below-snoc}
 use Rattle.verify.proofs.TableLemmas.{get-last}
 use Rattle.steps.specs.StepTable.{Step, IsPlaced, stands, comes_last}
 use Rattle.steps.specs.Rows.{Row, no_row, steps_of, expr_in, Follows, AreRows}
 use Rattle.steps.specs.Drafted as drafted
 use Rattle.steps.specs.Drafted.{row_of, rows_of, codes_in, key_of, progress_of, IsDraft, IsTied, Finds, GivesHypothesis, GivesAssertion}
 use Rattle.steps.specs.declared.draft.Draft.{Draft}
-use Rattle.steps.proofs.RowLemmas.{rows-more, buffer-snoc, row-at, exprs-front, rows-snoc, known-snoc, weaken}
+use Rattle.steps.proofs.RowLemmas.{rows-more, buffer-snoc, row-at, exprs-front, rows-snoc, known-snoc}
+use Rattle.frame.proofs.StoredOneMore.{map-push}
+use Rattle.frame.proofs.NumberLemmas.{below-push, below-more}
 
 module _ (S : Database) (at : ℕ) (names : List Name) (legal : AreLegal S names) (d new : Draft) (is : IsDraft S at names d) where
   abbrev rows : List Row
@@ -48,7 +48,7 @@ module _ (S : Database) (at : ℕ) (names : List Name) (legal : AreLegal S names
           inside = subst (λ s. drafted.AreInBuffer (length s) new.placed.items) (sym finds.symbols) (subst (drafted.AreInBuffer (length d.symbols)) (sym finds.placed) is.inside);
           rows = subst (AreRows S at names) (sym same_rows) is.rows;
           known = subst (λ m. drafted.AreKnown m (steps_of (rows_of new))) (sym finds.known) (subst (λ r. drafted.AreKnown d.known (steps_of r)) (sym same_rows) is.known);
-          stack_below = subst (λ ps. AreBelow (length ps) new.stack.items) (sym finds.placed) (subst (AreBelow (length d.placed.items)) (sym finds.stack) (below-snoc (length d.placed.items) rest finds.place low found_low));
+          stack_below = subst (λ ps. AreBelow (length ps) new.stack.items) (sym finds.placed) (subst (AreBelow (length d.placed.items)) (sym finds.stack) (below-push (length d.placed.items) rest finds.place low found_low));
           saved_below = subst (λ ps. AreBelow (length ps) new.saved.items) (sym finds.placed) (subst (AreBelow (length d.placed.items)) (sym finds.saved) is.saved_below);
         }
 
@@ -60,7 +60,7 @@ module _ (S : Database) (at : ℕ) (names : List Name) (legal : AreLegal S names
         let r = row-at rows finds.place step at_step in
         let e : expr_in names rows finds.place ≡ f = ap (λ x. decode names x.expr) (get_or_from_slice_get rows finds.place r.0 no_row r.1) ∙ gives r.0 r.2 ((is.rows finds.place r.0 r.1).follows) in
         record {
-          stack = ap (λ x. map (expr_in names x) new.stack.items) same_rows ∙ (ap (map (expr_in names rows)) finds.stack ∙ (map-snoc (expr_in names rows) rest finds.place ∙ (ap (λ x. x ++ expr_in names rows finds.place ∷ []) front ∙ ap (λ x. b ++ x ∷ []) e)));
+          stack = ap (λ x. map (expr_in names x) new.stack.items) same_rows ∙ (ap (map (expr_in names rows)) finds.stack ∙ (map-push (expr_in names rows) rest finds.place ∙ (ap (λ x. x ++ expr_in names rows finds.place ∷ []) front ∙ ap (λ x. b ++ x ∷ []) e)));
           saved = ap (λ x. map (expr_in names x) new.saved.items) same_rows ∙ (ap (map (expr_in names rows)) finds.saved ∙ tied.saved);
         }
 
@@ -77,7 +77,7 @@ module _ (S : Database) (at : ℕ) (names : List Name) (legal : AreLegal S names
         ∙ rows-more d.symbols e new.symbols d.placed.items makes.made step is.inside makes.symbols makes.start makes.end makes.is_position makes.is_taken
 
     more_steps : steps_of (rows_of new) ≡ steps_of rows ++ step ∷ []
-    more_steps = ap steps_of more_rows ∙ map-snoc (λ r. r.step) rows row
+    more_steps = ap steps_of more_rows ∙ map-push (λ r. r.step) rows row
 
     steps_count : length (steps_of rows) ≡ length d.placed.items
     steps_count = length-map rows (λ r. r.step) ∙ count
@@ -98,8 +98,8 @@ module _ (S : Database) (at : ℕ) (names : List Name) (legal : AreLegal S names
           known = subst (drafted.AreKnown new.known) (sym more_steps)
               (known-snoc d.known new.known (steps_of rows) step is.known makes.fresh (makes.own ∙ ap Some (sym steps_count)) makes.others);
           stack_below = subst (AreBelow (length new.placed.items)) (sym makes.stack)
-              (below-snoc (length new.placed.items) rest (length d.placed.items) (weaken _ _ rest (let l = longer in omega (arith, l)) low) (let l = longer in omega (arith, l)));
-          saved_below = subst (AreBelow (length new.placed.items)) (sym makes.saved) (weaken _ _ d.saved.items (let l = longer in omega (arith, l)) is.saved_below);
+              (below-push (length new.placed.items) rest (length d.placed.items) (below-more _ _ rest (let l = longer in omega (arith, l)) low) (let l = longer in omega (arith, l)));
+          saved_below = subst (AreBelow (length new.placed.items)) (sym makes.saved) (below-more _ _ d.saved.items (let l = longer in omega (arith, l)) is.saved_below);
         }
 
     pub made-placed : IsPlaced (steps_of rows) step (steps_of (rows_of new)) (length d.placed.items)
@@ -109,7 +109,7 @@ module _ (S : Database) (at : ℕ) (names : List Name) (legal : AreLegal S names
     made-tied st b f tied front ends =
         record {
           stack = ap (λ x. map (expr_in names x) new.stack.items) more_rows ∙ (ap (map (expr_in names (rows ++ row ∷ []))) makes.stack
-              ∙ (map-snoc (expr_in names (rows ++ row ∷ [])) rest (length d.placed.items)
+              ∙ (map-push (expr_in names (rows ++ row ∷ [])) rest (length d.placed.items)
               ∙ (ap (λ x. x ++ expr_in names (rows ++ row ∷ []) (length d.placed.items) ∷ []) (exprs-front names rows row rest (rows_below rest low) ∙ front)
               ∙ ap (λ x. b ++ x ∷ []) (ap (λ x. decode names x.expr) (get-last rows row (length d.placed.items) no_row (sym count)) ∙ ends))));
           saved = ap (λ x. map (expr_in names x) new.saved.items) more_rows ∙ (ap (map (expr_in names (rows ++ row ∷ []))) makes.saved

@@ -4,9 +4,9 @@ use Rattle.std.proofs.Common.{sym, ◌∙◌, subst, arith, length-append, Bor}
 use Rattle.mm_lex.specs.Alphabet.{Name}
 use Rattle.mm_read.specs.Statements.{Database}
 use Rattle.frame.specs.Reading.{IsPosition}
-use Rattle.verify.proofs.PlaceLemmas.{map-snoc}
 use Rattle.verify.proofs.TableLemmas.{get-front, get-last}
 use Rattle.steps.specs.Drafted.{ArePositions}
+use Rattle.frame.proofs.StoredOneMore.{map-push}
 
 snoc : (S : Database) (ls : List Name) (label : Name) (ps : List (Option ℕ)) (p : Option ℕ) → ArePositions S ls ps → IsPosition S label p → ArePositions S (ls ++ label ∷ []) (ps ++ p ∷ [])
 snoc S ls label ps p a is = record { count = counted; each = λ k h. each k h (nat_lt k (length ls)) refl }
@@ -30,5 +30,5 @@ snoc S ls label ps p a is = record { count = counted; each = λ k h. each k h (n
 pub positions-more : (S : Database) (labels : List (Bor Name)) (label : Bor Name) (ps ps' : List (Option ℕ)) (p : Option ℕ) → ArePositions S (map (λ l. l.now) labels) ps
     → ps' ≡ ps ++ p ∷ [] → IsPosition S label.now p → ArePositions S (map (λ l. l.now) (labels ++ label ∷ [])) ps'
 positions-more S labels label ps ps' p are grown is =
-    subst (λ ls. ArePositions S ls ps') (sym (map-snoc (λ l. l.now) labels label))
+    subst (λ ls. ArePositions S ls ps') (sym (map-push (λ l. l.now) labels label))
     (subst (ArePositions S (map (λ l. l.now) labels ++ label.now ∷ [])) (sym grown) (snoc S (map (λ l. l.now) labels) label.now ps p are is))

@@ -15,10 +15,11 @@ use Rattle.frame.specs.Cited.{IsOf, AreAsked}
 use Rattle.frame.specs.FrameOf.{HasAssertion, hypotheses}
 use Rattle.frame.specs.Citations.{IsHypothesis}
 use Rattle.verify.proofs.AskedLemmas.{asked-lengths}
-use Rattle.verify.proofs.Decide.{some_same, length-premises, not_both}
+use Rattle.verify.proofs.Decide.{length-premises, not_both}
 use Rattle.steps.specs.Rows.{Row, no_row, expr_in, Follows, from_hypothesis, from_assertion, AreRows}
 use Rattle.steps.specs.Essential.{is_premise, for_premises, mandatory, essential_of}
 use Rattle.steps.specs.Marked.{taken_by}
+use Rattle.frame.proofs.FoundByNumber.{some-same}
 
 -- the parts of the assertion tell which hypotheses are `$e`
 pub premises-by : (S : Database) (names : List Name) (ps heads : List ℕ) (hs : List Hypothesis) (taken : List ℕ) → AreAsked S names ps heads hs → for_premises S ps taken ≡ taken_by hs taken
@@ -94,11 +95,11 @@ premises-low S n (p ∷ ps) (k ∷ taken) b = by (premises-low S n ps taken b.1)
 module _ (S : Database) (at : ℕ) (names : List Name) (rows : List Row) (row : Row) (follows : Follows S at names rows row) (position : ℕ) (is : position ≡ row.step.position) where
   -- a step that cites an assertion
   takes-all : (s : Stmt) → HasAssertion S position s → Follows S at names rows row → length row.step.taken ≡ length (hypotheses (before S position) s)
-  takes-all s has (from_hypothesis t active none e) = absurd (not_both t active.kind (ap is_assertion (some_same active.stands (ap (stmt_at S) (sym is) ∙ has.0)) ∙ has.1))
+  takes-all s has (from_hypothesis t active none e) = absurd (not_both t active.kind (ap is_assertion (some-same active.stands (ap (stmt_at S) (sym is) ∙ has.0)) ∙ has.1))
   takes-all s has (from_assertion t σ fits takes e) =
       sym (length-map row.step.taken (expr_in names rows))
       ∙ (ap length takes ∙ (length-premises S row.step.position t σ
-      ∙ (ap (λ u. length (hypotheses (before S row.step.position) u)) (some_same fits.stands (ap (stmt_at S) (sym is) ∙ has.0))
+      ∙ (ap (λ u. length (hypotheses (before S row.step.position) u)) (some-same fits.stands (ap (stmt_at S) (sym is) ∙ has.0))
       ∙ ap (λ p. length (hypotheses (before S p) s)) (sym is))))
 
   pub asks-all : (s : Stmt) (heads : List ℕ) (hs : List Hypothesis) → HasAssertion S position s → AreAsked S names (hypotheses (before S position) s) heads hs → length row.step.taken ≡ length hs
@@ -113,7 +114,7 @@ module _ (S : Database) (at : ℕ) (names : List Name) (rows : List Row) (row : 
   takes-none : (s : Stmt) → IsHypothesis S at position s → Follows S at names rows row → [] ≡ essential_of S row.step
   takes-none s active (from_hypothesis t active' none e) =
       sym (ap (for_premises S (mandatory S row.step.position (stmt_at S row.step.position))) none ∙ premises-none S (mandatory S row.step.position (stmt_at S row.step.position)))
-  takes-none s active (from_assertion t σ fits takes e) = absurd (not_both s active.kind (ap is_assertion (some_same active.stands (ap (stmt_at S) is ∙ fits.stands)) ∙ fits.assertion))
+  takes-none s active (from_assertion t σ fits takes e) = absurd (not_both s active.kind (ap is_assertion (some-same active.stands (ap (stmt_at S) is ∙ fits.stands)) ∙ fits.assertion))
 
   pub none-essential : (s : Stmt) → IsHypothesis S at position s → [] ≡ essential_of S row.step
   none-essential s active = takes-none s active follows

@@ -12,7 +12,6 @@ use Rattle.proof_code.specs.Numbers.{item_of, items_of}
 use Rattle.verify.specs.Machine.{State, start, Steps, Runs}
 use Rattle.verify.specs.Right.{IsRight}
 use Rattle.verify.proofs.Complete.{conclude_same}
-use Rattle.verify.proofs.Decide.{some_same}
 use Rattle.verify.proofs.LawsHold.{spellings_run}
 use Rattle.verify.proofs.StepLemmas.{items-more, all-taken}
 use Rattle.steps.specs.StepTable.{progress, NotesAll, AreSteps}
@@ -20,6 +19,7 @@ use Rattle.steps.specs.Rows.{steps_of, expr_in}
 use Rattle.steps.specs.Drafted.{row_of, rows_of, progress_of, IsTied, CanDo, IsDone}
 use Rattle.steps.specs.declared.draft.Draft.{Draft}
 use Rattle.steps.proofs.SoundLemmas.{notes-sound, notes-snoc, nothing-sound, root-last}
+use Rattle.frame.proofs.FoundByNumber.{some-same}
 
 drop-more : (labels : List Name) (xs : List ℕ) (i : ℕ) → i < length xs → map (item_of labels) (drop i xs) ≡ item_of labels (get_or xs i 0) ∷ map (item_of labels) (drop (i + 1) xs)
 drop-more labels [] i h = absurd (omega (arith, h))
@@ -110,4 +110,4 @@ module _ (S : Database) (at : ℕ) (names : List Name) where
         let l : length (steps_of (rows_of d)) ≡ suc n.0 = reached-steps.last in
         let m = length-map (rows_of d) (λ x. x.step) in
         let e : length (rows_of d) - 1 ≡ n.0 = omega (arith, l, m) in
-        ap (expr_in names (rows_of d)) e ∙ (n.2 ∙ ap expr_of (some_same r.stands stands))
+        ap (expr_in names (rows_of d)) e ∙ (n.2 ∙ ap expr_of (some-same r.stands stands))

@@ -12,12 +12,13 @@ use Rattle.mm_read.specs.Statements.{Database}
 use Rattle.names.specs.Codes.{decode}
 use Rattle.frame.specs.Below.{AreBelow}
 use Rattle.subst.proofs.PlaceLemmas.{seen-more, seen-last}
-use Rattle.verify.proofs.PlaceLemmas.{map-snoc}
 use Rattle.verify.proofs.TableLemmas.{get-front}
 use Rattle.steps.specs.declared.draft.PlacedStep.{PlacedStep}
 use Rattle.steps.specs.StepTable.{Step}
 use Rattle.steps.specs.Rows.{Row, row, no_row, steps_of, expr_in, Follows, from_hypothesis, from_assertion, IsRow, AreRows}
 use Rattle.steps.specs.Drafted.{row_of, key_of, place_of, AreKnown, AreInBuffer}
+use Rattle.frame.proofs.NumberLemmas.{below-more}
+use Rattle.frame.proofs.StoredOneMore.{map-push}
 
 -- ---- one buffer
 
@@ -30,7 +31,7 @@ rows-kept xs e (p ∷ ps) b =
 pub rows-more : (xs e zs : List ℕ) (ps : List PlacedStep) (p : PlacedStep) (step : Step) → AreInBuffer (length xs) ps → zs ≡ xs ++ e → p.place.start ≡ length xs → p.place.end ≡ length zs
     → p.position ≡ step.position → p.taken.items ≡ step.taken → map (row_of zs) (ps ++ p ∷ []) ≡ map (row_of xs) ps ++ (let r : Row = record { step = step; expr = e } in r) ∷ []
 rows-more xs e zs ps p step b same start end position taken =
-    map-snoc (row_of zs) ps p
+    map-push (row_of zs) ps p
     ∙ (ap (λ r. r ++ row_of zs p ∷ []) (ap (λ s. map (row_of s) ps) same ∙ rows-kept xs e ps b)
     ∙ ap (λ r. map (row_of xs) ps ++ r ∷ [])
     (ap (λ s. let r : Row = record { step = record { position = p.position; taken = p.taken.items }; expr = s } in r) (seen-last xs e zs p.place same start end)
@@ -83,10 +84,6 @@ exprs-front names rows row (k ∷ ks) b =
     ap (λ r. decode names r.expr ∷ map (expr_in names (rows ++ row ∷ [])) ks) (get-front rows (row ∷ []) k no_row b.0)
     ∙ ap (λ r. expr_in names rows k ∷ r) (exprs-front names rows row ks b.1)
 
-pub weaken : (n m : ℕ) (ks : List ℕ) → n ≤ m → AreBelow n ks → AreBelow m ks
-weaken n m [] h b = tt
-weaken n m (k ∷ ks) h b = (let e = b.0 in omega (arith, e, h), weaken n m ks h b.1)
-
 module _ (S : Database) (at : ℕ) (names : List Name) where
   follows-more : (rows : List Row) (new row : Row) → AreBelow (length rows) row.step.taken → Follows S at names rows row → Follows S at names (rows ++ new ∷ []) row
   follows-more rows new row b (from_hypothesis s active none is) = from_hypothesis s active none is
@@ -99,7 +96,7 @@ module _ (S : Database) (at : ℕ) (names : List Name) where
       by k r (inl e) =
           let is = are k r e in
           let l = slice_get_within rows k r e in
-          record { earlier = is.earlier; follows = follows-more rows row r (weaken k (length rows) r.step.taken (omega (arith, l)) is.earlier) is.follows; named = is.named }
+          record { earlier = is.earlier; follows = follows-more rows row r (below-more k (length rows) r.step.taken (omega (arith, l)) is.earlier) is.follows; named = is.named }
       by k r (inr (e, same)) =
           subst (λ x. IsRow S at names (rows ++ row ∷ []) k x) (sym same)
           (record { earlier = subst (λ n. AreBelow n row.step.taken) (sym e) earlier; follows = follows-more rows row row earlier follows; named = low })

@@ -7,9 +7,10 @@ use Rattle.mm_read.specs.Statements.{Database}
 use Rattle.frame.specs.Below.{AreBelow}
 use Rattle.proof_code.specs.declared.item.Item.{Item}
 use Rattle.proof_code.specs.declared.item.Item.TheVariants.{Cite, Recall, Mark}
-use Rattle.verify.proofs.PlanLemmas.{below-snoc}
+use Rattle.verify.proofs.PlanLemmas.{below-get}
 use Rattle.steps.specs.StepTable.{Step, Progress, progress, IsPlaced, stands, comes_last, Makes, of_hypothesis, of_assertion, Notes, NotesAll, AreSteps}
-use Rattle.steps.proofs.RowLemmas.{some-front, some-more, some-last, weaken}
+use Rattle.steps.proofs.RowLemmas.{some-front, some-more, some-last}
+use Rattle.frame.proofs.NumberLemmas.{below-push, below-more}
 
 pub record IsSound (p : Progress) : Type 0 where
   pub stack_below : AreBelow (length p.steps) p.stack
@@ -21,11 +22,6 @@ pub record IsSound (p : Progress) : Type 0 where
 pub below-split : (n : ℕ) (xs ys : List ℕ) → AreBelow n (xs ++ ys) → AreBelow n xs × AreBelow n ys
 below-split n [] ys b = (tt, b)
 below-split n (x ∷ xs) ys b = let r = below-split n xs ys b.1 in ((b.0, r.0), r.1)
-
-pub below-some : (n : ℕ) (xs : List ℕ) (k x : ℕ) → AreBelow n xs → slice_get xs k ≡ Some x → x < n
-below-some n [] k x b h = cc
-below-some n (y ∷ xs) zero x b h = let e : y ≡ x = cc in subst (λ v. v < n) e b.0
-below-some n (y ∷ xs) (suc k) x b h = below-some n xs k x b.1 h
 
 -- a place of two lists one behind the other
 some-split : (xs ys : List ℕ) (k x : ℕ) → slice_get (xs ++ ys) k ≡ Some x → (slice_get xs k ≡ Some x) ⊎ ((j : ℕ) × (slice_get ys j ≡ Some x))
@@ -39,7 +35,7 @@ module _ (p q : Progress) (is : IsSound p) (below : List ℕ) (step : Step) (n :
     (waits : (k x : ℕ) → slice_get p.stack k ≡ Some x → (slice_get below k ≡ Some x) ⊎ ((j : ℕ) × (slice_get step.taken j ≡ Some x))) (stack : q.stack ≡ below ++ n ∷ []) (saved : q.saved ≡ p.saved) where
   stood : slice_get p.steps n ≡ Some step → q.steps ≡ p.steps → IsSound q
   stood h same = record {
-    stack_below = subst (λ s. AreBelow (length s) q.stack) (sym same) (subst (AreBelow (length p.steps)) (sym stack) (below-snoc (length p.steps) below n low (slice_get_within p.steps n step h)));
+    stack_below = subst (λ s. AreBelow (length s) q.stack) (sym same) (subst (AreBelow (length p.steps)) (sym stack) (below-push (length p.steps) below n low (slice_get_within p.steps n step h)));
     saved_below = subst (λ s. AreBelow (length s) q.saved) (sym same) (subst (AreBelow (length p.steps)) (sym saved) is.saved_below);
     ordered = λ k s e. is.ordered k s (ap (λ v. slice_get v k) (sym same) ∙ e);
     once = λ j k s e f. is.once j k s (ap (λ v. slice_get v j) (sym same) ∙ e) (ap (λ v. slice_get v k) (sym same) ∙ f);
@@ -52,7 +48,7 @@ module _ (p q : Progress) (is : IsSound p) (below : List ℕ) (step : Step) (n :
           by : (slice_get below (is.last m e).0 ≡ Some m) ⊎ ((j : ℕ) × (slice_get step.taken j ≡ Some m)) → (i : ℕ) × (slice_get q.stack i ≡ Some m)
           by (inl b) = ((is.last m e).0, ap (λ v. slice_get v (is.last m e).0) stack ∙ some-more below n (is.last m e).0 m b)
           by (inr t) =
-              let x = below-some n step.taken t.0 m (is.ordered n step h) t.1 in
+              let x = below-get n step.taken t.0 m (is.ordered n step h) t.1 in
               let y = slice_get_within p.steps n step h in
               absurd (omega (arith, x, y, e))
 
@@ -60,8 +56,8 @@ module _ (p q : Progress) (is : IsSound p) (below : List ℕ) (step : Step) (n :
   added fresh place more =
       let len : length q.steps ≡ suc (length p.steps) = (let l = length-append p.steps (step ∷ []) in let m = ap length more in omega (arith, l, m)) in
       record {
-        stack_below = subst (AreBelow (length q.steps)) (sym stack) (below-snoc (length q.steps) below n (weaken _ _ below (omega (arith, len)) low) (omega (arith, len, place)));
-        saved_below = subst (AreBelow (length q.steps)) (sym saved) (weaken _ _ p.saved (omega (arith, len)) is.saved_below);
+        stack_below = subst (AreBelow (length q.steps)) (sym stack) (below-push (length q.steps) below n (below-more _ _ below (omega (arith, len)) low) (omega (arith, len, place)));
+        saved_below = subst (AreBelow (length q.steps)) (sym saved) (below-more _ _ p.saved (omega (arith, len)) is.saved_below);
         ordered = λ k s e. ordered k s (some-front p.steps step k s (ap (λ v. slice_get v k) (sym more) ∙ e));
         once = λ j k s e f. once j k s (some-front p.steps step j s (ap (λ v. slice_get v j) (sym more) ∙ e)) (some-front p.steps step k s (ap (λ v. slice_get v k) (sym more) ∙ f));
         last = λ m e. (length below, ap (λ v. slice_get v (length below)) stack ∙ (some-last below n ∙ ap Some (let r : n ≡ m = omega (arith, len, place, e) in r)));
@@ -94,7 +90,7 @@ module _ (S : Database) (at : ℕ) where
 
   recalls : (p : Progress) (n : ℕ) → IsSound p → n < length p.steps → IsSound (progress p.steps (p.stack ++ n ∷ []) p.saved)
   recalls p n is low = record {
-    stack_below = below-snoc (length p.steps) p.stack n is.stack_below low;
+    stack_below = below-push (length p.steps) p.stack n is.stack_below low;
     saved_below = is.saved_below;
     ordered = is.ordered;
     once = is.once;
@@ -104,7 +100,7 @@ module _ (S : Database) (at : ℕ) where
   marks : (p : Progress) (n : ℕ) → IsSound p → n < length p.steps → IsSound (progress p.steps p.stack (p.saved ++ n ∷ []))
   marks p n is low = record {
     stack_below = is.stack_below;
-    saved_below = below-snoc (length p.steps) p.saved n is.saved_below low;
+    saved_below = below-push (length p.steps) p.saved n is.saved_below low;
     ordered = is.ordered;
     once = is.once;
     last = is.last;
@@ -113,7 +109,7 @@ module _ (S : Database) (at : ℕ) where
   pub note-sound : (p q : Progress) (item : Item) → IsSound p → Notes S at p item q → IsSound q
   note-sound p q (Cite label) is h = cites p q label is h
   note-sound p q (Recall zero) is h = absurd h.1
-  note-sound p q (Recall (suc k)) is h = subst IsSound (sym h.2) (recalls p h.0 is (below-some (length p.steps) p.saved k h.0 is.saved_below h.1))
+  note-sound p q (Recall (suc k)) is h = subst IsSound (sym h.2) (recalls p h.0 is (below-get (length p.steps) p.saved k h.0 is.saved_below h.1))
   note-sound p q Mark is h = subst IsSound (sym h.3) (marks p h.1 is (below-split (length p.steps) h.0 (h.1 ∷ []) (subst (AreBelow (length p.steps)) h.2 is.stack_below)).1.0)
 
   pub notes-sound : (items : List Item) (p q : Progress) → IsSound p → NotesAll S at p items q → IsSound q

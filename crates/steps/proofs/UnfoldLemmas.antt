@@ -17,13 +17,13 @@ use Rattle.verify.specs.Plan.{pick}
 use Rattle.verify.specs.Right.{IsRight, Derives}
 use Rattle.verify.proofs.Decide.{not_both}
 use Rattle.verify.proofs.GrowthLemmas.{leaves}
-use Rattle.verify.proofs.Named.{map-append}
-use Rattle.verify.proofs.PlaceLemmas.{map-snoc}
 use Rattle.verify.proofs.PlanLemmas.{map-pick}
 use Rattle.verify.proofs.TableLemmas.{get-front, get-last}
 use Rattle.steps.specs.StepTable.{Step, Progress, progress, IsPlaced, stands, comes_last, Makes, of_hypothesis, of_assertion, Notes, NotesAll, AreSteps}
 use Rattle.steps.specs.Unfolded.{has_assertion, citation_over, unfolded_behind, unfolded, last_unfolded}
 use Rattle.steps.proofs.SoundLemmas.{IsSound, note-sound, nothing-sound, below-split}
+use Rattle.proof_code.proofs.LettersLemmas.{map-append}
+use Rattle.frame.proofs.StoredOneMore.{map-push}
 
 module _ (S : Database) where
   -- ---- a list of steps, one by one
@@ -101,7 +101,7 @@ module _ (S : Database) where
       let us = unfolded S p.steps in
       ap (λ s. trees (map (pick (unfolded S s)) q.stack) (map (pick (unfolded S s)) q.saved)) same
       ∙ trees-same _ _ _ _
-      (ap (map (pick us)) stack ∙ (map-snoc (pick us) below n ∙ ap (λ t. map (pick us) below ++ t ∷ []) (unfolded-at p.steps n step h (is.ordered n step h))))
+      (ap (map (pick us)) stack ∙ (map-push (pick us) below n ∙ ap (λ t. map (pick us) below ++ t ∷ []) (unfolded-at p.steps n step h (is.ordered n step h))))
       (ap (map (pick us)) saved)
   cites-over p q below step n is low (comes_last fresh place more) stack saved =
       let us = unfolded S p.steps in
@@ -111,7 +111,7 @@ module _ (S : Database) where
       ap (λ vs. trees (map (pick vs) q.stack) (map (pick vs) q.saved)) grown
       ∙ trees-same _ _ _ _
       (ap (map (pick (us ++ t ∷ []))) stack
-      ∙ (map-snoc (pick (us ++ t ∷ [])) below n
+      ∙ (map-push (pick (us ++ t ∷ [])) below n
       ∙ (ap (λ r. r ++ pick (us ++ t ∷ []) n ∷ []) (map-pick us (t ∷ []) below (subst (λ k. AreBelow k below) (sym len) low))
       ∙ ap (λ x. map (pick us) below ++ x ∷ []) (get-last us t n (hyp 0) (place ∙ sym len)))))
       (ap (map (pick (us ++ t ∷ []))) saved ∙ map-pick us (t ∷ []) p.saved (subst (λ k. AreBelow k p.saved) (sym len) is.saved_below))
@@ -154,14 +154,14 @@ module _ (S : Database) where
         let us = unfolded S p.steps in (
           pick us h.0,
           some-map (pick us) p.saved k h.0 h.1,
-          ap seen h.2 ∙ ap (λ s. trees s (map (pick us) p.saved)) (map-snoc (pick us) p.stack h.0),
+          ap seen h.2 ∙ ap (λ s. trees s (map (pick us) p.saved)) (map-push (pick us) p.stack h.0),
         )
     note-grows p q Mark is h =
         let us = unfolded S p.steps in (
           map (pick us) h.0,
           pick us h.1,
-          ap (map (pick us)) h.2 ∙ map-snoc (pick us) h.0 h.1,
-          ap seen h.3 ∙ ap (trees (map (pick us) p.stack)) (map-snoc (pick us) p.saved h.1),
+          ap (map (pick us)) h.2 ∙ map-push (pick us) h.0 h.1,
+          ap seen h.3 ∙ ap (trees (map (pick us) p.stack)) (map-push (pick us) p.saved h.1),
         )
 
     notes-grow : (items : List Item) (p q : Progress) → IsSound p → NotesAll S at p items q → GrowsBy S at (seen p) items (seen q)

@@ -5,25 +5,20 @@ use Rattle.std.proofs.Common.{sym, ◌∙◌, ap, subst, arith}
 use Rattle.std.proofs.lemmas.Bool.{lt-ltb, and_from}
 use Rattle.std.proofs.lemmas.List.Folds.{list_all-map, list_all_at, list_all_more}
 use Rattle.std.proofs.lemmas.Option.{get_or_from_slice_get, slice_get_within}
-use Rattle.std.proofs.lemmas.Slice.Eq.{bytes_eq-Decides}
 use Rattle.mm_lex.specs.Alphabet.{Name, name_eq, has_name}
 use Rattle.mm_read.specs.Statements.{Expr, Database}
 use Rattle.scope.specs.Active.{is_variable}
 use Rattle.names.specs.Codes.{name_at, decode, AreDistinct}
-use Rattle.names.proofs.CodesLemmas.{name_same, same_name}
+use Rattle.names.proofs.CodesLemmas.{name_same, same_name, name_eq-comm}
 use Rattle.frame.specs.FrameOf.{is_pair, groups}
 use Rattle.frame.specs.Substitution.{CodeImages, image, images_of_names}
 use Rattle.frame.specs.Disjoint.{are_apart, is_group_apart, are_groups_apart}
 use Rattle.frame.specs.Below.{AreBelow, AllBelow}
 use Rattle.subst.specs.Apart.{image_named, are_two_apart, is_number_apart, are_numbers_apart}
 use Rattle.subst.proofs.SubstitutionLemmas.{place-of, image-decode}
+use Rattle.frame.proofs.ApartLemmas.{all-true}
 
 -- ---- lists
-
-pub below-at : (n : ℕ) (xs : List ℕ) (i d : ℕ) → AreBelow n xs → i < length xs → get_or xs i d < n
-below-at n [] i d b h = absurd (omega (arith, h))
-below-at n (x ∷ xs) zero d b h = b.0
-below-at n (x ∷ xs) (suc i) d b h = below-at n xs i d b.1 (omega (arith, h))
 
 pub below-drop : (n i : ℕ) (xs : List ℕ) → AreBelow n xs → AreBelow n (drop i xs)
 below-drop n zero xs b = b
@@ -46,10 +41,6 @@ group-goes_on p groups i g h before here =
 
 pub differ : (k l : ℕ) → (k ≡ l → ⊥) → (k == l) ≡ false
 differ k l ne = grind (arith, ne)
-
-all-true : {A : Type 0} (p : A → Bool) (xs : List A) → ((x : A) → p x ≡ true) → list_all p xs ≡ true
-all-true p [] h = refl
-all-true p (x ∷ xs) h = ap (λ b. b && list_all p xs) (h x) ∙ all-true p xs h
 
 all-same : {A : Type 0} (p q : A → Bool) (xs : List A) → ((x : A) → p x ≡ q x) → list_all p xs ≡ list_all q xs
 all-same p q [] h = refl
@@ -75,18 +66,9 @@ any-same p q (x ∷ xs) h = ap (λ b. b || list_any p xs) (h x) ∙ ap (λ b. q 
 
 -- ---- the pair clause has no order
 
-name_eq-swap : (x y : Name) → name_eq x y ≡ name_eq y x
-name_eq-swap x y = split (name_eq x y) (name_eq y x) refl refl
-  where
-    split : (a b : Bool) → name_eq x y ≡ a → name_eq y x ≡ b → a ≡ b
-    split true true p q = refl
-    split false false p q = refl
-    split true false p q = let e : name_eq y x ≡ true = (bytes_eq-Decides y x).1 (sym ((bytes_eq-Decides x y).0 p)) in let f : true ≡ false = sym e ∙ q in cc
-    split false true p q = let e : name_eq x y ≡ true = (bytes_eq-Decides x y).1 (sym ((bytes_eq-Decides y x).0 q)) in let f : true ≡ false = sym e ∙ p in cc
-
 pair-swap : (D : Database) (x y : Name) → is_pair D x y ≡ is_pair D y x
 pair-swap D x y =
-    ap (λ b. not b && list_any (λ names. has_name x names && has_name y names) (groups D)) (name_eq-swap x y)
+    ap (λ b. not b && list_any (λ names. has_name x names && has_name y names) (groups D)) (name_eq-comm x y)
     ∙ ap (λ b. not (name_eq y x) && b) (any-same (λ names. has_name x names && has_name y names) (λ names. has_name y names && has_name x names) (groups D) (λ names. and-swap (has_name x names) (has_name y names)))
   where
     and-swap : (a b : Bool) → (a && b) ≡ (b && a)

@@ -16,7 +16,7 @@ use Rattle.net.specs.Agree.{IsAfter}
 use Rattle.net.specs.Taken.{Taken, nodes_of, AreOfWorld, with_event}
 use Rattle.net.specs.KeptPart.{change_of, kept_part}
 use Rattle.net.specs.Due.{Work, steps, restarts, Due, change_in, posts_of, step_of, IsEventAt, NetView, AreStill, IsStill, IsDue, IsTaken}
-use Rattle.net.proofs.Lists.{all_append, at_set, at_set_other}
+use Rattle.net.proofs.Lists.{at_set, at_set_other}
 use Rattle.net.proofs.EveryEvent.{if_taken, node_at, holds_after}
 use Rattle.net.proofs.TwoMoments.{world_lasts}
 use Rattle.net.proofs.KeptPartLemmas.{Happens, event_moves}
@@ -26,6 +26,7 @@ use Rattle.net.proofs.DueTaken.{posts_same}
 use Rattle.switch.specs.Seat.{Standing, up, down, Seated, IsRecordOf}
 use Rattle.switch.specs.Switch.{Shared, places_of, new_seats, IsOwing, IsSeat, IsSwitch}
 use Rattle.switch.proofs.SeatsLemmas.{each_after, new_at, count_seats}
+use Rattle.synod.proofs.NodeKeeps.{all_append}
 
 abbrev pub shared : {V : Type 0} → NetView V → List (Seated V) → Shared V
 shared net seats = record { weights = net.taken.weights; history = net.taken.events; places = places_of seats }

@@ -15,7 +15,7 @@ use Rattle.entries.specs.declared.citation.Hypothesis.TheVariants.{Float, Essent
 use Rattle.frame.specs.Bound.{IsBound}
 use Rattle.frame.specs.Cited.{IsHead, IsOf, IsAsked, AreAsked}
 use Rattle.verify.specs.Fits.{AreDifferent, IsStanding, AreStanding}
-use Rattle.verify.proofs.Decide.{some_same}
+use Rattle.frame.proofs.FoundByNumber.{some-same}
 
 -- ---- lists
 
@@ -141,8 +141,8 @@ module _ (S : Database) (names : List Name) where
           let kn = slice_get_within hs k (Float x) q in
           let ja = asked-at (hypotheses (before S a) s) heads hs j asked (let l = lens.1 in omega (arith, jn, l)) in
           let ka = asked-at (hypotheses (before S a) s) heads hs k asked (let l = lens.1 in omega (arith, kn, l)) in
-          let f = float-at ja.position ja.head x (subst (IsAsked S names ja.position ja.head) (some_same ja.kind p) ja.asked) in
-          let g = float-at ka.position ka.head x (subst (IsAsked S names ka.position ka.head) (some_same ka.kind q) ka.asked) in
+          let f = float-at ja.position ja.head x (subst (IsAsked S names ja.position ja.head) (some-same ja.kind p) ja.asked) in
+          let g = float-at ka.position ka.head x (subst (IsAsked S names ka.position ka.head) (some-same ka.kind q) ka.asked) in
           bound.once j k ja.position ka.position f.label f.constant g.label g.constant f.variable ja.listed ka.listed f.stands
           (g.stands ∙ ap (λ v. Some (stmt.Float g.label g.constant v)) (sym g.named ∙ f.named))
 

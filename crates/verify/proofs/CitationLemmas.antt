@@ -24,9 +24,11 @@ use Rattle.verify.specs.Machine.{Results, Cites, of_hypothesis, of_assertion}
 use Rattle.verify.specs.Places.{below, top, Adds}
 use Rattle.verify.proofs.AskedLemmas.{asked-lengths}
 use Rattle.verify.proofs.CitingLemmas.{of_variables, apply-τ, apart-τ, premises-read, premise-typed, fits-agree, conclusion-agrees, apart-agrees, read-over}
-use Rattle.verify.proofs.Decide.{append_cut, length-premises, some_same, not_both}
+use Rattle.verify.proofs.Decide.{append_cut, length-premises, not_both}
 use Rattle.verify.proofs.ImageLemmas.{only, apply-below, are-codes}
-use Rattle.verify.proofs.Named.{map-append, named-result, result-named, all-take, all-drop, halves, length-top}
+use Rattle.verify.proofs.Named.{named-result, result-named, all-take, all-drop, halves, length-top}
+use Rattle.frame.proofs.FoundByNumber.{some-same}
+use Rattle.proof_code.proofs.LettersLemmas.{map-append}
 
 -- what the code finds wherever the citation can give f
 pub record Meets (S : Database) (names : List Name) (at a : ℕ) (c : Cited) (stack : List (List ℕ)) (f : Expr) : Type 0 where
@@ -99,11 +101,11 @@ module _ (S : Database) (names : List Name) (at a : ℕ) (s : Stmt) (c : Cited) 
   pub meets-step : (old : Results ℕ) (label : Name) (b : List Expr) (f : Expr) → AreNamed names old → Carries S a s label → HasAssertion S a s
       → Cites S at label (map (decode names) old.stack) b f → Meets S names at a c old.stack f
   meets-step old label b f an carries has (of_hypothesis i t carries' active same whole) =
-      let e : t ≡ s = some_same carries'.stands (ap (stmt_at S) (legal.once i a t s label carries' carries) ∙ carries.stands) in
+      let e : t ≡ s = some-same carries'.stands (ap (stmt_at S) (legal.once i a t s label carries' carries) ∙ carries.stands) in
       absurd (not_both t active.kind (ap is_assertion e ∙ has.1))
   meets-step old label b f an carries has (of_assertion a' t σ carries' fits whole gives) =
       let i : a' ≡ a = legal.once a' a t s label carries' carries in
-      let e : t ≡ s = some_same carries'.stands (ap (stmt_at S) i ∙ carries.stands) in
+      let e : t ≡ s = some-same carries'.stands (ap (stmt_at S) i ∙ carries.stands) in
       meets old σ b f an (subst (λ u. IsInstance S at a u σ) e (subst (λ m. IsInstance S at m t σ) i fits))
       (whole ∙ (ap (λ m. b ++ premises S m t σ) i ∙ ap (λ u. b ++ premises S a u σ) e)) (gives ∙ ap (λ u. applied σ (expr_of u)) e)
 

@@ -24,10 +24,10 @@ use Rattle.entries.specs.declared.citation.Hypothesis.TheVariants.{Float, Essent
 use Rattle.frame.specs.Bound.{IsBound, HasFloat, IsFirstFixed}
 use Rattle.frame.specs.Cited.{head_of, IsHead, IsAsked, AreAsked}
 use Rattle.verify.specs.Fits.{IsTyped, AreRead, FitsOne, DoFit}
-use Rattle.verify.proofs.Decide.{some_same}
-use Rattle.verify.proofs.Named.{name_at-injective, all-at}
+use Rattle.verify.proofs.Named.{all-at}
 use Rattle.verify.proofs.AskedLemmas.{At, asked-lengths, asked-at, float-at, essential-at, float-number, float-find, lists-same}
 use Rattle.verify.proofs.ImageLemmas.{apply-members, groups-members, only, only-all, image-only, image-fixed}
+use Rattle.frame.proofs.FoundByNumber.{some-same, name_at-injective}
 
 -- ---- lists of numbers and of names
 
@@ -93,7 +93,7 @@ module _ (S : Database) (names : List Name) (a : ℕ) (s : Stmt) (distinct : Are
             image-named names ρ y n e
             ∙ (ap (decode names) (read.own n (λ k is.
             (let d = at k (within k (Float n) is) in
-            let f = float-at S names d.position d.head n (subst (IsAsked S names d.position d.head) (some_same d.kind is) d.asked) in
+            let f = float-at S names d.position d.head n (subst (IsAsked S names d.position d.head) (some-same d.kind is) d.asked) in
             let v : V f.variable ≡ true = bound.variable k d.position f.label f.constant f.variable d.listed f.stands in
             true≢false (sym v ∙ (ap V (sym f.named ∙ c.1) ∙ none)))))
             ∙ ap (λ z. z ∷ []) c.1)
@@ -181,7 +181,7 @@ module _ (S : Database) (names : List Name) (a : ℕ) (s : Stmt) (distinct : Are
     premise-some : (k x : ℕ) → slice_get hs k ≡ Some (Float x) → get_or rs k [] ≡ [] → ⊥
     premise-some k x kind none =
         let d = at k (within k (Float x) kind) in
-        let asked' = subst (IsAsked S names d.position d.head) (some_same d.kind kind) d.asked in
+        let asked' = subst (IsAsked S names d.position d.head) (some-same d.kind kind) d.asked in
         let f = float-at S names d.position d.head x asked' in
         let e : [] ≡ f.constant ∷ image σ f.variable = ap (decode names) (sym none) ∙ float-premise k d x asked' in cc
 
@@ -213,7 +213,7 @@ module _ (S : Database) (names : List Name) (a : ℕ) (s : Stmt) (distinct : Are
       float-agrees : (k x : ℕ) (v : Name) → slice_get hs k ≡ Some (Float x) → x < length names → name_at names x ≡ v → image (images_of_names names ρ) v ≡ image σ v
       float-agrees k x v kind lows named =
           let d = at k (within k (Float x) kind) in
-          let asked' = subst (IsAsked S names d.position d.head) (some_same d.kind kind) d.asked in
+          let asked' = subst (IsAsked S names d.position d.head) (some-same d.kind kind) d.asked in
           let f = float-at S names d.position d.head x asked' in
           image-float ρ read k x v kind lows named
           ∙ (sym (drop-decode names (get_or rs k [])) ∙ (ap (drop 1) (float-premise k d x asked') ∙ ap (image σ) (sym f.named ∙ named)))
@@ -225,7 +225,7 @@ module _ (S : Database) (names : List Name) (a : ℕ) (s : Stmt) (distinct : Are
           float : HasFloat S ps y → image (images_of_names names ρ) y ≡ image σ y
           float f =
               let d = at f.place (let l = lens.1 in let m = slice_get_within ps f.place f.position f.listed in omega (arith, l, m, count)) in
-              let same : d.position ≡ f.position = some_same d.listed f.listed in
+              let same : d.position ≡ f.position = some-same d.listed f.listed in
               let x = float-number S names d.position d.head d.hypothesis f.label f.constant y d.asked (ap (stmt_at S) same ∙ f.stands) in
               float-agrees f.place x.0 y (d.kind ∙ ap Some x.1) x.2 x.3
 
@@ -240,7 +240,7 @@ module _ (S : Database) (names : List Name) (a : ℕ) (s : Stmt) (distinct : Are
           one k (Float x) kind = tt
           one k (Essential q) kind =
               let d = at k (within k (Essential q) kind) in
-              let f = essential-at S names d.position d.head q (subst (IsAsked S names d.position d.head) (some_same d.kind kind) d.asked) in
+              let f = essential-at S names d.position d.head q (subst (IsAsked S names d.position d.head) (some-same d.kind kind) d.asked) in
               get-decode names rs k
               ∙ (premise-at k d.position d.listed
               ∙ (ap (applied σ) (expr-stands d.position (stmt.Ess f.label f.expr) f.stands)

@@ -1,5 +1,5 @@
 -- Where items spell a derivation, the machine runs over them and leaves its conclusion on top, whatever lies below.
-use Rattle.std.specs.Prelude.{◌≡◌, ℕ, zero, suc, ◌+◌, List, [], ◌∷◌, ◌++◌, length, Option, Some, slice_get, refl}
+use Rattle.std.specs.Prelude.{◌≡◌, ℕ, zero, suc, ◌+◌, List, [], ◌∷◌, ◌++◌, length, Some, slice_get, refl}
 use Rattle.std.proofs.Common.{sym, ◌∙◌, ap, subst, append_assoc, append-nil, add_assoc, add-zero}
 use Rattle.mm_lex.specs.Alphabet.{Name}
 use Rattle.mm_read.specs.declared.stmt.Stmt.{Stmt}
@@ -15,9 +15,7 @@ use Rattle.verify.specs.Spells.{Spells, SpellsAll, cites_hypothesis, cites_asser
 use Rattle.verify.specs.Machine.{State, of_hypothesis, of_assertion, Runs}
 use Rattle.frame.specs.Reading.{IsSingle}
 use Rattle.verify.proofs.Sound.{AllConclude, conclude_snoc}
-
-some_same : {A : Type 0} {o : Option A} {x y : A} → o ≡ Some x → o ≡ Some y → x ≡ y
-some_same {x = x} {y = y} p q = let e : Some x ≡ Some y = sym p ∙ q in cc
+use Rattle.frame.proofs.FoundByNumber.{some-same}
 
 module _ (S : Database) (at : ℕ) (single : IsSingle S at) where
   pub conclude_instance : (a : ℕ) (s r : Stmt) (σ τ : Images) → s ≡ r → IsInstance S at a s σ → IsInstance S at a r τ → premises S a s σ ≡ premises S a r τ
@@ -29,9 +27,9 @@ module _ (S : Database) (at : ℕ) (single : IsSingle S at) where
   mutual
     -- a derivation concludes one expression
     pub conclude_same : (t : Derivation) (e f : Expr) → Concludes S at t e → Concludes S at t f → e ≡ f
-    conclude_same (hyp i) e f p q = p.2 ∙ (ap expr_of (some_same p.1.stands q.1.stands) ∙ sym q.2)
+    conclude_same (hyp i) e f p q = p.2 ∙ (ap expr_of (some-same p.1.stands q.1.stands) ∙ sym q.2)
     conclude_same (apply a kids) e f p q =
-        p.4 ∙ (conclude_instance a p.0 q.0 p.1 q.1 (some_same p.2.stands q.2.stands) p.2 q.2 (conclude_all_same kids (premises S a p.0 p.1) (premises S a q.0 q.1) p.3 q.3) ∙ sym q.4)
+        p.4 ∙ (conclude_instance a p.0 q.0 p.1 q.1 (some-same p.2.stands q.2.stands) p.2 q.2 (conclude_all_same kids (premises S a p.0 p.1) (premises S a q.0 q.1) p.3 q.3) ∙ sym q.4)
 
     pub conclude_all_same : (kids : Derivations) (es fs : List Expr) → ConcludeAll S at kids es → ConcludeAll S at kids fs → es ≡ fs
     conclude_all_same none [] [] p q = refl
@@ -138,7 +136,7 @@ module _ (S : Database) (at : ℕ) (single : IsSingle S at) where
         concludes = ends;
         kept = r.kept;
         leads = cite_assertion_leads a ends.0 ends.1 label front items saved r.saved' r.results e front_weight weight
-            (subst (λ v. Carries S a v label) (some_same carries.stands ends.2.stands) carries) ends.2
+            (subst (λ v. Carries S a v label) (some-same carries.stands ends.2.stands) carries) ends.2
             (conclude_all_same kids r.results (premises S a ends.0 ends.1) r.conclude ends.3) ends.4 r.leads whole weighs;
       }
 
@@ -170,7 +168,7 @@ module _ (S : Database) (at : ℕ) (single : IsSingle S at) where
     pub complete : {marked after : List Derivation} {items : List Item} {t : Derivation} {weight : ℕ} → Spells S at marked items t after weight
         → (saved : List Expr) → AllConclude S at marked saved → Result marked items t after weight saved
     complete (cites_hypothesis {i = i} {label = label} s e carries active ends) saved kept =
-        record { result = e; saved' = saved; concludes = ends; kept = kept; leads = cite_hypothesis_leads i s label saved e carries active (ends.2 ∙ ap expr_of (some_same ends.1.stands active.stands)) }
+        record { result = e; saved' = saved; concludes = ends; kept = kept; leads = cite_hypothesis_leads i s label saved e carries active (ends.2 ∙ ap expr_of (some-same ends.1.stands active.stands)) }
     complete {marked} {after} {items} {weight = weight} (cites_assertion {a = a} {kids = kids} s e label front front_weight carries citable ends all whole weighs) saved kept =
         cited marked after items front a kids front_weight weight s e label saved carries ends (complete_all all saved kept) whole weighs
     complete {marked} {t = t} (recalls {k = k} e found ends) saved kept = recalled marked k t e saved found ends kept

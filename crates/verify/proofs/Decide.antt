@@ -1,5 +1,5 @@
 -- The machine has one way to go, so that a run that cannot go on refutes the proof.
-use Rattle.std.specs.Prelude.{◌≡◌, ℕ, zero, suc, ◌+◌, ◌<◌, ◌≤◌, true, List, [], ◌∷◌, ◌++◌, length, map, Option, Some, refl}
+use Rattle.std.specs.Prelude.{◌≡◌, ℕ, zero, suc, ◌+◌, ◌<◌, ◌≤◌, true, List, [], ◌∷◌, ◌++◌, length, map, Some, refl}
 use Rattle.std.proofs.Common.{sym, ◌∙◌, ap, subst, arith, append-nil, length-append}
 use Rattle.mm_lex.specs.Alphabet.{Name}
 use Rattle.mm_read.specs.declared.stmt.Stmt.{Stmt}
@@ -18,9 +18,7 @@ use Rattle.frame.specs.Reading.{IsSingle, HasLabelsOnce}
 use Rattle.verify.proofs.Sound.{Spelled, sound}
 use Rattle.verify.specs.Derivations.{Derivation}
 use Rattle.verify.proofs.Complete.{state, Result, complete, conclude_instance, conclude_same}
-
-pub some_same : {A : Type 0} {o : Option A} {x y : A} → o ≡ Some x → o ≡ Some y → x ≡ y
-some_same {x = x} {y = y} p q = let e : Some x ≡ Some y = sym p ∙ q in cc
+use Rattle.frame.proofs.FoundByNumber.{some-same}
 
 pub append_cut : {A : Type 0} (b c x y : List A) → b ++ x ≡ c ++ y → length x ≡ length y → (b ≡ c) × (x ≡ y)
 append_cut [] [] x y e l = (refl, e)
@@ -53,7 +51,7 @@ not_both (Prove l e pr) p q = cc
 module _ (S : Database) (at : ℕ) (single : IsSingle S at) (once : HasLabelsOnce S) where
   -- one label, one statement
   carried_same : (i j : ℕ) (s r : Stmt) (label : Name) → Carries S i s label → Carries S j r label → s ≡ r
-  carried_same i j s r label p q = some_same p.stands (ap (stmt_at S) (once i j s r label p q) ∙ q.stands)
+  carried_same i j s r label p q = some-same p.stands (ap (stmt_at S) (once i j s r label p q) ∙ q.stands)
 
   assertions_same : (a a' : ℕ) (s s' : Stmt) (σ τ : Images) (stack b b' : List Expr) (e e' : Expr) → a ≡ a' → s ≡ s' → IsInstance S at a s σ → IsInstance S at a' s' τ
       → stack ≡ b ++ premises S a s σ → stack ≡ b' ++ premises S a' s' τ → e ≡ applied σ (expr_of s) → e' ≡ applied τ (expr_of s') → (b ≡ b') × (e ≡ e')
@@ -82,7 +80,7 @@ module _ (S : Database) (at : ℕ) (single : IsSingle S at) (once : HasLabelsOnc
 
   saved_same : (saved : List Expr) (k : ℕ) (e e' : Expr) → IsSaved saved k e → IsSaved saved k e' → e ≡ e'
   saved_same saved zero e e' p q = absurd p
-  saved_same saved (suc k) e e' p q = some_same p q
+  saved_same saved (suc k) e e' p q = some-same p q
 
   pub steps_same : (st x y : State) (item : Item) → Steps S at st item x → Steps S at st item y → x ≡ y
   steps_same st x y (Cite label) p q = let r = cites_same label st.stack p.0 q.0 p.1 q.1 p.2 q.2 in result_same st x y p.0 q.0 p.1 q.1 p.3 q.3 r.0 r.1
@@ -121,7 +119,7 @@ module _ (S : Database) (at : ℕ) (single : IsSingle S at) (once : HasLabelsOnc
       record {
         end = state S at single (r.result ∷ []) r.saved' (0 + d.weight);
         runs = r.leads.runs [] 0;
-        one = ap (λ e. e ∷ []) (conclude_same' t r.result (expr_of d.stmt) r.concludes d.concludes ∙ ap expr_of (some_same d.stands stands));
+        one = ap (λ e. e ∷ []) (conclude_same' t r.result (expr_of d.stmt) r.concludes d.concludes ∙ ap expr_of (some-same d.stands stands));
         light = omega (arith, d.light);
       }
     where

@@ -16,10 +16,10 @@ use Rattle.verify.specs.Derivations.{Derivation, hyp, apply, from_list}
 use Rattle.verify.specs.Spells.{IsCitable}
 use Rattle.verify.specs.Growth.{Trees, trees, with_tree, Builds, a_hypothesis, an_assertion, GrowsBy, Grew, GrowsMark, GrowsRecall}
 use Rattle.verify.specs.Places.{below, top}
-use Rattle.verify.proofs.Decide.{some_same}
 use Rattle.verify.proofs.Named.{halves, length-top}
 use Rattle.verify.specs.Right.{IsRight, Derives}
 use Rattle.verify.proofs.Unique.{apart_kinds, grows_append, grows_same, grows_by_same, yields}
+use Rattle.frame.proofs.FoundByNumber.{some-same}
 
 pub item-cite : (labels : List Name) (n k : ℕ) → n ≡ suc k → k < length labels → item_of labels n ≡ Cite (get_or labels k [])
 item-cite labels n k e h = ap (item_of labels) e ∙ ap (λ b. cond b (Cite (get_or labels k [])) (Recall (suc (k - length labels)))) (lt-ltb k (length labels) h)
@@ -34,7 +34,7 @@ module _ (S : Database) (at : ℕ) (label : Name) where
   builds-takes once a s carries citable stack b t (a_hypothesis i r p active same whole) = absurd (apart_kinds S at once i a r s label p active carries citable)
   builds-takes once a s carries citable stack b t (an_assertion d r kids q citable' many whole same) =
       let n : d ≡ a = once d a r s label q carries in
-      let v : r ≡ s = some_same q.stands (ap (stmt_at S) n ∙ carries.stands) in
+      let v : r ≡ s = some-same q.stands (ap (stmt_at S) n ∙ carries.stands) in
       let m : length kids ≡ length (hypotheses (before S a) s) = many ∙ (ap (λ k. length (hypotheses (before S k) r)) n ∙ ap (λ w. length (hypotheses (before S a) w)) v) in
       let l = ap length whole in
       let l' = length-append b kids in

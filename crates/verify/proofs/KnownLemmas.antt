@@ -21,12 +21,12 @@ use Rattle.verify.specs.Machine.{Results, State, with_result}
 use Rattle.verify.specs.Places.{Adds, Gives, Marks, Recalls}
 use Rattle.verify.specs.Goes.{named, AreNamed, Goes, behind, IsGiven, AreGiven, AreKnown, GoesOn}
 use Rattle.verify.specs.Table.{IsEntry, AreEntries}
-use Rattle.verify.proofs.Decide.{some_same}
 use Rattle.verify.proofs.Named.{all-drop, all-get}
 use Rattle.verify.proofs.PlaceLemmas.{map-drop, results-same}
 use Rattle.verify.proofs.StepLemmas.{hypothesis-result, nothing-goes, mark-result, cite-number, recall-number}
 use Rattle.verify.proofs.TableLemmas.{get-front}
 use Rattle.verify.proofs.SavedLists.{drop-set, length-set, get-set, get-set-other, all-set, all-snoc, all-none, drop-none, length-none, get-none, get-drop}
+use Rattle.frame.proofs.FoundByNumber.{some-same}
 
 -- ---- results behind those of the labels
 
@@ -99,7 +99,7 @@ module _ (S : Database) (names : List Name) (at : ℕ) where
               let enough = known.given.enough in
               subst (λ n. IsGiven S names (get_or table n Nothing) (get_or (slice_set old.saved k e) n [])) one
               (subst (λ v. IsGiven S names v (get_or (slice_set old.saved k e) k [])) (sym is)
-              (λ some t stands. ap (decode names) (get-set k old.saved e [] (omega (arith, within, enough))) ∙ (same ∙ ap expr_of (some_same active.stands stands))))
+              (λ some t stands. ap (decode names) (get-set k old.saved e [] (omega (arith, within, enough))) ∙ (same ∙ ap expr_of (some-same active.stands stands))))
           by j less false t =
               let other : k ≡ j → ⊥ = λ q. (let x : nat_eq k j ≡ true = grind (arith, nat_tests) in true≢false (sym x ∙ t)) in
               subst (IsGiven S names (get_or table j Nothing)) (sym (get-set-other k j old.saved e [] other)) (known.given.each j less)

@@ -14,9 +14,9 @@ use Rattle.verify.specs.declared.table.Entry.{Entry}
 use Rattle.verify.specs.Proves.{mandatory_labels}
 use Rattle.verify.specs.Right.{IsProvable}
 use Rattle.verify.specs.Table.{is_hypothesis_among, IsEntry, AreEntries}
-use Rattle.verify.proofs.Decide.{some_same}
 use Rattle.verify.proofs.TableLemmas.{entries-more}
 use Rattle.verify.proofs.ListedLabels.{shared-more}
+use Rattle.frame.proofs.FoundByNumber.{some-same}
 
 -- ---- the listed labels, one after another
 
@@ -67,10 +67,10 @@ module _ (S : Database) (at : ℕ) (words left : List Name) (n : ℕ) (old table
         entries = λ front are.
             subst (λ ls. AreEntries S at ls more) (append_assoc front (take n words) (label ∷ []) ∙ ap (λ ls. front ++ ls) (sym taken))
             (subst (AreEntries S at ((front ++ take n words) ++ label ∷ [])) (sym grown) (entries-more S at (front ++ take n words) label table entry (added.entries front are) is));
-        apart = λ r q. shared-now r q ∙ (ap (λ u. is_hypothesis_among (hypotheses (before S at) u) entry) (some_same q.stands p.stands) ∙ other);
+        apart = λ r q. shared-now r q ∙ (ap (λ u. is_hypothesis_among (hypotheses (before S at) u) entry) (some-same q.stands p.stands) ∙ other);
       }
 
       pub one-shared : (s : Stmt) → IsProvable S at s → is_hypothesis_among (hypotheses (before S at) s) entry ≡ true → (count : ℕ) → n + 1 ≤ count → (r : Stmt) → IsProvable S at r
           → share_label (mandatory_labels S at r) (take count words) ≡ true
       one-shared s p one count far r q =
-          any-more (λ l. has_name l (mandatory_labels S at r)) words (n + 1) count far (shared-now r q ∙ (ap (λ u. is_hypothesis_among (hypotheses (before S at) u) entry) (some_same q.stands p.stands) ∙ one))
+          any-more (λ l. has_name l (mandatory_labels S at r)) words (n + 1) count far (shared-now r q ∙ (ap (λ u. is_hypothesis_among (hypotheses (before S at) u) entry) (some-same q.stands p.stands) ∙ one))

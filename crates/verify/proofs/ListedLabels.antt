@@ -20,8 +20,10 @@ use Rattle.verify.specs.declared.table.Entry.TheVariants.{Hypothesis, Assertion,
 use Rattle.verify.specs.Proves.{label_or_none, mandatory_labels}
 use Rattle.verify.specs.Right.{IsProvable}
 use Rattle.verify.specs.Table.{is_hypothesis_among, IsEntry}
-use Rattle.verify.proofs.Decide.{some_same}
-use Rattle.verify.proofs.MandatoryEntries.{one-kind, IsMandatory, AreMandatory, labels_at, mandatory-of}
+use Rattle.verify.proofs.MandatoryEntries.{IsMandatory, AreMandatory, labels_at, mandatory-of}
+use Rattle.scope.proofs.DeclaredLemmas.{or_false}
+use Rattle.frame.proofs.FoundByNumber.{some-same}
+use Rattle.verify.proofs.Decide.{not_both}
 
 -- ---- a listed label
 
@@ -46,7 +48,7 @@ one-test S at label (Hypothesis i) p once is m =
     (λ t.
     let one : p ≡ i = grind (arith, nat_tests) in
     let there : Carries S p is.0 label = subst (λ k. Carries S k is.0 label) (sym one) is.1 in
-    let equal : Some label ≡ Some (label_or_none (stmt_at S p)) = sym there.carried ∙ (ap label_of (some_same there.stands m.carries.stands) ∙ m.carries.carried) in
+    let equal : Some label ≡ Some (label_or_none (stmt_at S p)) = sym there.carried ∙ (ap label_of (some-same there.stands m.carries.stands) ∙ m.carries.carried) in
     (bytes_eq-Decides label (label_or_none (stmt_at S p))).1 (let q : label ≡ label_or_none (stmt_at S p) = cc in q))
 one-test S at label (Assertion a) p once is m =
     same-test (name_eq label (label_or_none (stmt_at S p))) false
@@ -54,8 +56,8 @@ one-test S at label (Assertion a) p once is m =
     let same : label ≡ label_or_none (stmt_at S p) = (bytes_eq-Decides label (label_or_none (stmt_at S p))).0 t in
     let there : Carries S a is.0 (label_or_none (stmt_at S p)) = subst (Carries S a is.0) same is.1 in
     let one : p ≡ a = once p a m.stmt is.0 (label_or_none (stmt_at S p)) m.carries there in
-    let stmt : m.stmt ≡ is.0 = some_same m.carries.stands (ap (stmt_at S) one ∙ there.stands) in
-    absurd (one-kind is.0 (ap is_hypothesis_kind (sym stmt) ∙ m.active.kind) is.2.assertion))
+    let stmt : m.stmt ≡ is.0 = some-same m.carries.stands (ap (stmt_at S) one ∙ there.stands) in
+    absurd (not_both is.0 (ap is_hypothesis_kind (sym stmt) ∙ m.active.kind) is.2.assertion))
     (λ f. absurd (true≢false (sym f)))
 one-test S at label Nothing p once is m =
     same-test (name_eq label (label_or_none (stmt_at S p))) false
@@ -88,11 +90,7 @@ pub shared-more : (S : Database) (at : ℕ) (s : Stmt) (listed : List Name) (lab
     → share_label (mandatory_labels S at s) (listed ++ label ∷ []) ≡ (share_label (mandatory_labels S at s) listed || is_hypothesis_among (hypotheses (before S at) s) e)
 shared-more S at s listed label e once p is =
     list_any-append (λ l. has_name l (mandatory_labels S at s)) listed (label ∷ [])
-    ∙ ap (λ b. share_label (mandatory_labels S at s) listed || b) (or-false (has_name label (mandatory_labels S at s)) ∙ label-among S at s label e once p is)
-  where
-    or-false : (b : Bool) → (b || false) ≡ b
-    or-false true = refl
-    or-false false = refl
+    ∙ ap (λ b. share_label (mandatory_labels S at s) listed || b) (or_false (has_name label (mandatory_labels S at s)) ∙ label-among S at s label e once p is)
 
 -- ---- their positions rise
 

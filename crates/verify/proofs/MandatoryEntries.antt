@@ -10,13 +10,14 @@ use Rattle.mm_read.specs.declared.stmt.Stmt.TheVariants.{Open, Close, Const, Var
 use Rattle.mm_read.specs.Statements.{Database}
 use Rattle.scope.specs.Active.{before, is_assertion, is_provable, label_of, stays_open, stmt_at}
 use Rattle.frame.specs.Citations.{Carries, IsHypothesis, is_hypothesis_kind}
-use Rattle.frame.specs.FrameOf.{HasAssertion, hypotheses, is_hypothesis}
+use Rattle.frame.specs.FrameOf.{HasAssertion, hypotheses}
 use Rattle.frame.proofs.PlacedHypotheses.{IsHyp, AreHyps, hyps}
 use Rattle.verify.specs.declared.table.Entry.{Entry}
 use Rattle.verify.specs.declared.table.Entry.TheVariants.{Hypothesis, Nothing}
 use Rattle.verify.specs.Proves.{label_or_none, mandatory_labels}
 use Rattle.verify.specs.Right.{IsProvable}
 use Rattle.verify.specs.Table.{IsEntry, AreEntries}
+use Rattle.frame.proofs.AssertionLemmas.{hypothesis-kinds}
 
 pub place_of : (S : Database) (at : ℕ) (s : Stmt) → stmt_at S at ≡ Some s → (1 ≤ at) × (at ≤ length S)
 place_of S zero s h = cc
@@ -38,17 +39,6 @@ has-provable S at s p = (p.stands, provable-assertion s p.provable)
 
 -- ---- one hypothesis
 
-hypothesis-kind : (S : Database) (s t : Stmt) → is_hypothesis S s t ≡ true → is_hypothesis_kind t ≡ true
-hypothesis-kind S s (Ess label expr) h = refl
-hypothesis-kind S s (Float label constant variable) h = refl
-hypothesis-kind S s Open h = cc
-hypothesis-kind S s Close h = cc
-hypothesis-kind S s (Const names) h = cc
-hypothesis-kind S s (Var names) h = cc
-hypothesis-kind S s (Disj names) h = cc
-hypothesis-kind S s (Axiom label expr) h = cc
-hypothesis-kind S s (Prove label expr proof) h = cc
-
 has-label : (t : Stmt) → is_hypothesis_kind t ≡ true → label_of t ≡ Some (unwrap_or (label_of t) [])
 has-label (Ess label expr) h = refl
 has-label (Float label constant variable) h = refl
@@ -59,17 +49,6 @@ has-label (Var names) h = cc
 has-label (Disj names) h = cc
 has-label (Axiom label expr) h = cc
 has-label (Prove label expr proof) h = cc
-
-pub one-kind : (t : Stmt) → is_hypothesis_kind t ≡ true → is_assertion t ≡ true → ⊥
-one-kind (Ess label expr) h a = cc
-one-kind (Float label constant variable) h a = cc
-one-kind Open h a = cc
-one-kind Close h a = cc
-one-kind (Const names) h a = cc
-one-kind (Var names) h a = cc
-one-kind (Disj names) h a = cc
-one-kind (Axiom label expr) h a = cc
-one-kind (Prove label expr proof) h a = cc
 
 get-middle : (front : Database) (t : Stmt) (rest more : Database) → slice_get ((front ++ t ∷ rest) ++ more) (length front) ≡ Some t
 get-middle [] t rest more = refl
@@ -97,7 +76,7 @@ mandatory-is : (S : Database) (at : ℕ) (s : Stmt) (p : ℕ) → 1 ≤ at → a
 mandatory-is S at s p low high h =
     let whole : S ≡ (h.front ++ h.stmt ∷ h.rest) ++ drop (at - 1) S = sym (take-append-drop (at - 1) S) ∙ ap (λ u. u ++ drop (at - 1) S) h.whole in
     let stands : stmt_at S p ≡ Some h.stmt = ap (stmt_at S) h.at ∙ (ap (λ u. slice_get u (length h.front)) whole ∙ get-middle h.front h.stmt h.rest (drop (at - 1) S)) in
-    let kind : is_hypothesis_kind h.stmt ≡ true = hypothesis-kind (before S at) s h.stmt h.is in
+    let kind : is_hypothesis_kind h.stmt ≡ true = hypothesis-kinds (before S at) s h.stmt h.is in
     let long : at - 1 ≡ length h.front + suc (length h.rest) = sym (length-take-le (at - 1) S (omega (arith, high))) ∙ (ap length h.whole ∙ length-append h.front (h.stmt ∷ h.rest)) in
     let between : take (at - 1 - p) (drop p S) ≡ h.rest =
     ap (λ k. take (at - 1 - k) (drop k S)) h.at ∙ (ap (λ u. take (at - 1 - suc (length h.front)) (drop (suc (length h.front)) u)) whole ∙ between-middle h.front h.stmt h.rest (drop (at - 1) S) (at - 1 - suc (length h.front)) (omega (arith, long))) in

@@ -1,12 +1,8 @@
 -- Steps over codes are steps over the names that they stand for.
-use Rattle.std.specs.Prelude.{◌≡◌, ℕ, zero, suc, ◌+◌, ◌-◌, ◌<◌, ◌≤◌, Bool, true, false, List, [], ◌∷◌, ◌++◌, length, map, take, drop, get_or, slice_get, Some, refl}
+use Rattle.std.specs.Prelude.{◌≡◌, ℕ, zero, suc, ◌+◌, ◌-◌, ◌≤◌, Bool, true, false, List, [], ◌∷◌, ◌++◌, length, map, take, drop, get_or, slice_get, Some, refl}
 use Rattle.std.proofs.Common.{sym, ◌∙◌, ap, subst, arith, length-append, length-drop}
-use Rattle.std.specs.List.{list_any}
-use Rattle.std.proofs.lemmas.Slice.Eq.{bytes_eq-Decides}
 use Rattle.std.proofs.lemmas.List.{length-map, take-append-drop}
-use Rattle.std.proofs.lemmas.Bool.{or_left, or_right}
-use Rattle.mm_lex.specs.Alphabet.{Name, name_eq}
-use Rattle.mm_lex.specs.Alphabet.{has_name}
+use Rattle.mm_lex.specs.Alphabet.{Name}
 use Rattle.mm_read.specs.declared.stmt.Stmt.{Stmt}
 use Rattle.mm_read.specs.Statements.{Expr, Database}
 use Rattle.scope.specs.Active.{expr_of}
@@ -17,15 +13,10 @@ use Rattle.verify.specs.Machine.{Results, Cites, of_hypothesis, IsSaved, with_re
 use Rattle.verify.specs.Places.{below, top, Adds, Marks, Recalls}
 use Rattle.frame.specs.Below.{AreBelow, AllBelow}
 use Rattle.verify.specs.Goes.{named, AreNamed, Goes}
-use Rattle.verify.proofs.PlaceLemmas.{results-same, map-snoc}
-
-pub map-append : {A B : Type 0} (f : A → B) (xs ys : List A) → map f (xs ++ ys) ≡ map f xs ++ map f ys
-map-append f [] ys = refl
-map-append f (x ∷ xs) ys = ap (λ r. f x ∷ r) (map-append f xs ys)
-
-all-snoc : (n : ℕ) (es : List (List ℕ)) (e : List ℕ) → AllBelow n es → AreBelow n e → AllBelow n (es ++ e ∷ [])
-all-snoc n [] e p q = (q, tt)
-all-snoc n (x ∷ es) e p q = (p.0, all-snoc n es e p.1 q)
+use Rattle.verify.proofs.PlaceLemmas.{results-same}
+use Rattle.frame.proofs.FoundByNumber.{name_at-injective}
+use Rattle.verify.proofs.SavedLists.{all-snoc}
+use Rattle.frame.proofs.StoredOneMore.{map-push}
 
 pub all-take : (n k : ℕ) (es : List (List ℕ)) → AllBelow n es → AllBelow n (take k es)
 all-take n zero es p = tt
@@ -46,12 +37,12 @@ module _ (names : List Name) where
   pub named-result : (st : Results ℕ) (b : List (List ℕ)) (e : List ℕ) → named names (with_result st b e) ≡ with_result (named names st) (map (decode names) b) (decode names e)
   named-result st b e =
       results-same (map (decode names) (b ++ e ∷ [])) (map (decode names) b ++ decode names e ∷ []) (map (decode names) st.saved) (map (decode names) st.saved) (st.weight + length e) (st.weight + length (decode names e))
-      (map-snoc (decode names) b e) refl (ap (λ n. st.weight + n) (sym (length-map e (name_at names))))
+      (map-push (decode names) b e) refl (ap (λ n. st.weight + n) (sym (length-map e (name_at names))))
 
   named-mark : (st : Results ℕ) (e : List ℕ) → named names (with_mark st e) ≡ with_mark (named names st) (decode names e)
   named-mark st e =
       results-same (map (decode names) st.stack) (map (decode names) st.stack) (map (decode names) (st.saved ++ e ∷ [])) (map (decode names) st.saved ++ decode names e ∷ []) st.weight st.weight
-      refl (map-snoc (decode names) st.saved e) refl
+      refl (map-push (decode names) st.saved e) refl
 
   pub result-named : (st : Results ℕ) (b : List (List ℕ)) (e : List ℕ) → AreNamed names st → AllBelow (length names) b → AreBelow (length names) e → AreNamed names (with_result st b e)
   result-named st b e a p q = record { stack_named = all-snoc (length names) b e p q; saved_named = a.saved_named }
@@ -95,7 +86,7 @@ module _ (names : List Name) where
 
     pub goes-mark : (ok : Bool) (old new : Results ℕ) → AreNamed names old → Marks ok old new → Goes ok S at names Mark old new
     goes-mark true old new a m = (
-      (map (decode names) m.0, decode names m.1, ap (map (decode names)) m.2 ∙ map-snoc (decode names) m.0 m.1, ap (named names) m.3 ∙ named-mark old m.1),
+      (map (decode names) m.0, decode names m.1, ap (map (decode names)) m.2 ∙ map-push (decode names) m.0 m.1, ap (named names) m.3 ∙ named-mark old m.1),
       subst (AreNamed names) (sym m.3) (record { stack_named = a.stack_named; saved_named = all-snoc (length names) old.saved m.1 a.saved_named (last-named m.0 m.1 (subst (AllBelow (length names)) m.2 a.stack_named)) }),
     )
       where
@@ -121,24 +112,6 @@ module _ (names : List Name) where
         omega (arith, r, len, w)
 
 -- ---- codes with names are told apart by them
-
-has-at : (names : List Name) (j : ℕ) → j < length names → has_name (name_at names j) names ≡ true
-has-at [] j h = absurd (omega (arith, h))
-has-at (x ∷ names) zero h = or_left (name_eq x x) (list_any (name_eq x) names) ((bytes_eq-Decides x x).1 refl)
-has-at (x ∷ names) (suc j) h = or_right (name_eq (name_at names j) x) (list_any (name_eq (name_at names j)) names) (has-at names j (omega (arith, h)))
-
-pub name_at-injective : (names : List Name) (i j : ℕ) → AreDistinct names → i < length names → j < length names → name_at names i ≡ name_at names j → i ≡ j
-name_at-injective [] i j d h k e = absurd (omega (arith, h))
-name_at-injective (x ∷ names) zero zero d h k e = refl
-name_at-injective (x ∷ names) zero (suc j) d h k e =
-    let there = has-at names j (omega (arith, k)) in
-    let here : has_name x names ≡ true = ap (λ y. has_name y names) e ∙ there in
-    let f : false ≡ true = sym d.0 ∙ here in cc
-name_at-injective (x ∷ names) (suc i) zero d h k e =
-    let there = has-at names i (omega (arith, h)) in
-    let here : has_name x names ≡ true = ap (λ y. has_name y names) (sym e) ∙ there in
-    let f : false ≡ true = sym d.0 ∙ here in cc
-name_at-injective (x ∷ names) (suc i) (suc j) d h k e = ap suc (name_at-injective names i j d.1 (omega (arith, h)) (omega (arith, k)) e)
 
 pub decode-injective : (names : List Name) (a b : List ℕ) → AreDistinct names → AreBelow (length names) a → AreBelow (length names) b → decode names a ≡ decode names b → a ≡ b
 decode-injective names [] [] d p q e = refl

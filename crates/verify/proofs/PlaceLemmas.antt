@@ -9,10 +9,7 @@ use Rattle.subst.proofs.ImagePlacesLemmas.{inside-more, inside-none}
 use Rattle.verify.specs.Machine.{Results, with_result, IsSaved}
 use Rattle.verify.specs.Places.{seen, AreKept, below, top}
 use Rattle.verify.specs.Right.{weight_limit}
-
-pub map-snoc : {A B : Type 0} (f : A → B) (xs : List A) (x : A) → map f (xs ++ x ∷ []) ≡ map f xs ++ f x ∷ []
-map-snoc f [] x = refl
-map-snoc f (y ∷ xs) x = ap (λ r. f y ∷ r) (map-snoc f xs x)
+use Rattle.frame.proofs.StoredOneMore.{map-push}
 
 pub map-take : {A B : Type 0} (f : A → B) (k : ℕ) (xs : List A) → map f (take k xs) ≡ take k (map f xs)
 map-take f zero xs = refl
@@ -52,7 +49,7 @@ pub added-seen : (xs ys zs : List ℕ) (stack rest saved stack' : List Expressio
     → seen zs stack' saved v ≡ with_result (seen xs stack saved w) (map (seen_at xs) rest) ys
 added-seen xs ys zs stack rest saved stack' w v p k r e low high whole weighs =
     results-same (map (seen_at zs) stack') (map (seen_at xs) rest ++ ys ∷ []) (map (seen_at zs) saved) (map (seen_at xs) saved) v (w + length ys)
-    (ap (map (seen_at zs)) whole ∙ (map-snoc (seen_at zs) rest p
+    (ap (map (seen_at zs)) whole ∙ (map-push (seen_at zs) rest p
     ∙ (ap (λ r. r ++ seen_at zs p ∷ []) (ap (λ s. map (seen_at s) rest) e ∙ map-seen-more xs ys rest r)
     ∙ ap (λ s. map (seen_at xs) rest ++ s ∷ []) (seen-last xs ys zs p e low high))))
     (ap (λ s. map (seen_at s) saved) e ∙ map-seen-more xs ys saved k)
@@ -149,7 +146,7 @@ recall-seen xs stack stack' saved w v k d p a less at whole weighs =
       seen_at xs p,
       get-map-some (seen_at xs) saved k d less ∙ ap (λ q. Some (seen_at xs q)) (sym at),
       results-same (map (seen_at xs) stack') (map (seen_at xs) stack ++ seen_at xs p ∷ []) (map (seen_at xs) saved) (map (seen_at xs) saved) v (w + length (seen_at xs p))
-          (ap (map (seen_at xs)) whole ∙ map-snoc (seen_at xs) stack p) refl (weighs ∙ ap (λ n. w + n) (sym len)),
+          (ap (map (seen_at xs)) whole ∙ map-push (seen_at xs) stack p) refl (weighs ∙ ap (λ n. w + n) (sym len)),
     )
 
 -- a saved result that is too heavy

@@ -3,15 +3,17 @@ use Rattle.std.specs.Prelude.{◌≡◌, ℕ, zero, suc, ◌+◌, ◌-◌, ◌<�
 use Rattle.std.proofs.Common.{sym, ◌∙◌, ap, subst, arith, length-append}
 use Rattle.std.proofs.lemmas.List.{length-map}
 use Rattle.frame.specs.Below.{AreBelow}
-use Rattle.subst.proofs.NumbersApartLemmas.{below-at}
 use Rattle.verify.specs.declared.plan.Node.{Node}
 use Rattle.verify.specs.declared.plan.Plan.{Plan}
 use Rattle.verify.specs.Derivations.{Derivation, hyp}
 use Rattle.verify.specs.Growth.{trees, with_tree, GrowsMark, GrowsRecall}
 use Rattle.verify.specs.Places.{below, top}
 use Rattle.verify.specs.Plan.{pick, derive, built_from, built, IsAfter, AreOrdered, trees_of, IsPlan}
-use Rattle.verify.proofs.PlaceLemmas.{map-snoc, map-take, map-drop}
+use Rattle.verify.proofs.PlaceLemmas.{map-take, map-drop, get-map-some}
 use Rattle.verify.proofs.TableLemmas.{get-front, get-last}
+use Rattle.frame.proofs.NumberLemmas.{below-more, below-push}
+use Rattle.frame.proofs.ApartLemmas.{below-at}
+use Rattle.frame.proofs.StoredOneMore.{map-push}
 
 pub built-snoc : (ts : List Derivation) (ns : List Node) (n : Node) → built_from ts (ns ++ n ∷ []) ≡ built_from ts ns ++ derive (built_from ts ns) n ∷ []
 built-snoc ts [] n = refl
@@ -27,23 +29,10 @@ length-built ts (n ∷ ns) =
 pub length-built' : (ns : List Node) → length (built ns) ≡ length ns
 length-built' ns = let r = length-built [] ns in omega (arith, r)
 
-pub below-weaken : (n m : ℕ) (xs : List ℕ) → n ≤ m → AreBelow n xs → AreBelow m xs
-below-weaken n m [] h b = tt
-below-weaken n m (x ∷ xs) h b = (let l = b.0 in omega (arith, l, h), below-weaken n m xs h b.1)
-
-pub below-snoc : (n : ℕ) (xs : List ℕ) (x : ℕ) → AreBelow n xs → x < n → AreBelow n (xs ++ x ∷ [])
-below-snoc n [] x b h = (h, tt)
-below-snoc n (y ∷ xs) x b h = (b.0, below-snoc n xs x b.1 h)
-
 pub below-take : (n k : ℕ) (xs : List ℕ) → AreBelow n xs → AreBelow n (take k xs)
 below-take n zero xs b = tt
 below-take n (suc k) [] b = tt
 below-take n (suc k) (x ∷ xs) b = (b.0, below-take n k xs b.1)
-
-pub below-drop : (n k : ℕ) (xs : List ℕ) → AreBelow n xs → AreBelow n (drop k xs)
-below-drop n zero xs b = b
-below-drop n (suc k) [] b = tt
-below-drop n (suc k) (x ∷ xs) b = below-drop n k xs b.1
 
 pub map-pick : (ts us : List Derivation) (ks : List ℕ) → AreBelow (length ts) ks → map (pick (ts ++ us)) ks ≡ map (pick ts) ks
 map-pick ts us [] b = refl
@@ -63,8 +52,8 @@ added-plan old new n rest is behind_kids low nodes stack saved =
     let longer : length old.nodes.items ≤ length new.nodes.items = omega (arith, l, m) in
     record {
       ordered = subst (AreOrdered 0) (sym nodes) (ordered-snoc 0 old.nodes.items n is.ordered (let e : 0 + length old.nodes.items ≡ length old.nodes.items = omega arith in subst (λ j. IsAfter j n) (sym e) behind_kids));
-      stack_below = subst (AreBelow (length new.nodes.items)) (sym stack) (below-snoc (length new.nodes.items) rest (length old.nodes.items) (below-weaken _ _ rest longer low) (omega (arith, l, m)));
-      saved_below = subst (AreBelow (length new.nodes.items)) (sym saved) (below-weaken _ _ old.saved.items longer is.saved_below);
+      stack_below = subst (AreBelow (length new.nodes.items)) (sym stack) (below-push (length new.nodes.items) rest (length old.nodes.items) (below-more _ _ rest longer low) (omega (arith, l, m)));
+      saved_below = subst (AreBelow (length new.nodes.items)) (sym saved) (below-more _ _ old.saved.items longer is.saved_below);
     }
 
 trees-same : (a b c d : List Derivation) → a ≡ b → c ≡ d → trees a c ≡ trees b d
@@ -79,7 +68,7 @@ added-trees old new n rest is low nodes stack saved =
     let len : length ts ≡ length old.nodes.items = length-built' old.nodes.items in
     trees-same _ _ _ _
     (ap (λ us. map (pick us) new.stack.items) grown ∙ (ap (map (pick (ts ++ derive ts n ∷ []))) stack
-    ∙ (map-snoc (pick (ts ++ derive ts n ∷ [])) rest (length old.nodes.items)
+    ∙ (map-push (pick (ts ++ derive ts n ∷ [])) rest (length old.nodes.items)
     ∙ (ap (λ r. r ++ pick (ts ++ derive ts n ∷ []) (length old.nodes.items) ∷ []) (map-pick ts (derive ts n ∷ []) rest (subst (λ k. AreBelow k rest) (sym len) low))
     ∙ ap (λ t. map (pick ts) rest ++ t ∷ []) (get-last ts (derive ts n) (length old.nodes.items) (hyp 0) (sym len))))))
     (ap (λ us. map (pick us) new.saved.items) grown ∙ (ap (map (pick (ts ++ derive ts n ∷ []))) saved
@@ -87,7 +76,7 @@ added-trees old new n rest is low nodes stack saved =
 
 -- ---- marks and recalls
 
-below-get : (n : ℕ) (xs : List ℕ) (i x : ℕ) → AreBelow n xs → slice_get xs i ≡ Some x → x < n
+pub below-get : (n : ℕ) (xs : List ℕ) (i x : ℕ) → AreBelow n xs → slice_get xs i ≡ Some x → x < n
 below-get n [] i x b h = cc
 below-get n (y ∷ xs) zero x b h = let e : y ≡ x = cc in subst (λ v. v < n) e b.0
 below-get n (y ∷ xs) (suc i) x b h = below-get n xs i x b.1 h
@@ -107,7 +96,7 @@ marked-plan old new k is at nodes stack saved =
     record {
       ordered = subst (AreOrdered 0) (sym nodes) is.ordered;
       stack_below = subst (λ ns. AreBelow (length ns) new.stack.items) (sym nodes) (subst (AreBelow (length old.nodes.items)) (sym stack) is.stack_below);
-      saved_below = subst (λ ns. AreBelow (length ns) new.saved.items) (sym nodes) (subst (AreBelow (length old.nodes.items)) (sym saved) (below-snoc _ old.saved.items k is.saved_below (below-get _ old.stack.items _ k is.stack_below at)));
+      saved_below = subst (λ ns. AreBelow (length ns) new.saved.items) (sym nodes) (subst (AreBelow (length old.nodes.items)) (sym saved) (below-push _ old.saved.items k is.saved_below (below-get _ old.stack.items _ k is.stack_below at)));
     }
 
 pub marked-grew : (old new : Plan) (k : ℕ) → slice_get old.stack.items (length old.stack.items - 1) ≡ Some k
@@ -116,9 +105,9 @@ marked-grew old new k at nodes stack saved =
     let ts = built old.nodes.items in (
       map (pick ts) (take (length old.stack.items - 1) old.stack.items),
       pick ts k,
-      ap (map (pick ts)) (last-cut old.stack.items k at) ∙ map-snoc (pick ts) (take (length old.stack.items - 1) old.stack.items) k,
+      ap (map (pick ts)) (last-cut old.stack.items k at) ∙ map-push (pick ts) (take (length old.stack.items - 1) old.stack.items) k,
       trees-same _ _ _ _ (ap (λ ns. map (pick (built ns)) new.stack.items) nodes ∙ ap (map (pick ts)) stack)
-          (ap (λ ns. map (pick (built ns)) new.saved.items) nodes ∙ (ap (map (pick ts)) saved ∙ map-snoc (pick ts) old.saved.items k)),
+          (ap (λ ns. map (pick (built ns)) new.saved.items) nodes ∙ (ap (map (pick ts)) saved ∙ map-push (pick ts) old.saved.items k)),
     )
 
 pub recalled-plan : (old new : Plan) (i k d : ℕ) → IsPlan old → i < length old.saved.items → k ≡ get_or old.saved.items i d
@@ -126,14 +115,9 @@ pub recalled-plan : (old new : Plan) (i k d : ℕ) → IsPlan old → i < length
 recalled-plan old new i k d is lt at nodes stack saved =
     record {
       ordered = subst (AreOrdered 0) (sym nodes) is.ordered;
-      stack_below = subst (λ ns. AreBelow (length ns) new.stack.items) (sym nodes) (subst (AreBelow (length old.nodes.items)) (sym stack) (below-snoc _ old.stack.items k is.stack_below (subst (λ v. v < length old.nodes.items) (sym at) (below-at _ old.saved.items i d is.saved_below lt))));
+      stack_below = subst (λ ns. AreBelow (length ns) new.stack.items) (sym nodes) (subst (AreBelow (length old.nodes.items)) (sym stack) (below-push _ old.stack.items k is.stack_below (subst (λ v. v < length old.nodes.items) (sym at) (below-at _ old.saved.items i d is.saved_below lt))));
       saved_below = subst (λ ns. AreBelow (length ns) new.saved.items) (sym nodes) (subst (AreBelow (length old.nodes.items)) (sym saved) is.saved_below);
     }
-
-get-map-at : {A B : Type 0} (f : A → B) (xs : List A) (i : ℕ) (d : A) → i < length xs → slice_get (map f xs) i ≡ Some (f (get_or xs i d))
-get-map-at f [] i d h = absurd (omega (arith, h))
-get-map-at f (x ∷ xs) zero d h = refl
-get-map-at f (x ∷ xs) (suc i) d h = get-map-at f xs i d (omega (arith, h))
 
 pub recalled-grew : (old new : Plan) (n k d : ℕ) → (n ≡ 0 → ⊥) → n ≤ length old.saved.items → k ≡ get_or old.saved.items (n - 1) d
     → new.nodes.items ≡ old.nodes.items → new.stack.items ≡ old.stack.items ++ k ∷ [] → new.saved.items ≡ old.saved.items → GrowsRecall true n (trees_of old) (trees_of new)
@@ -143,8 +127,8 @@ recalled-grew old new (suc i) k d nz le at nodes stack saved =
     let one : suc i - 1 ≡ i = omega arith in
     let at' : k ≡ get_or old.saved.items i d = at ∙ ap (λ m. get_or old.saved.items m d) one in (
       pick ts k,
-      get-map-at (pick ts) old.saved.items i d (omega (arith, le)) ∙ ap (λ v. Some (pick ts v)) (sym at'),
-      trees-same _ _ _ _ (ap (λ ns. map (pick (built ns)) new.stack.items) nodes ∙ (ap (map (pick ts)) stack ∙ map-snoc (pick ts) old.stack.items k))
+      get-map-some (pick ts) old.saved.items i d (omega (arith, le)) ∙ ap (λ v. Some (pick ts v)) (sym at'),
+      trees-same _ _ _ _ (ap (λ ns. map (pick (built ns)) new.stack.items) nodes ∙ (ap (map (pick ts)) stack ∙ map-push (pick ts) old.stack.items k))
           (ap (λ ns. map (pick (built ns)) new.saved.items) nodes ∙ ap (map (pick ts)) saved),
     )
 

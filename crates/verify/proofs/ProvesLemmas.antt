@@ -18,7 +18,7 @@ use Rattle.verify.specs.declared.answer.Answer.{Answer}
 use Rattle.verify.specs.declared.answer.Answer.TheVariants.{Proved, Wrong}
 use Rattle.verify.specs.Proves.{label_or_none, mandatory_labels, Proves}
 use Rattle.verify.specs.Right.{IsProvable, IsRight, Says}
-use Rattle.verify.proofs.Decide.{some_same}
+use Rattle.frame.proofs.FoundByNumber.{some-same}
 
 take-front : (xs ys : List Name) (n : ℕ) → length xs ≡ n → take n (xs ++ ys) ≡ xs
 take-front [] ys n e = ap (λ k. take k ys) (sym e)
@@ -30,7 +30,7 @@ module _ (S : Database) (at : ℕ) (s : Stmt) (tokens : List Name) (provable : I
   written-by items w = elim w [ inl p ↦ p.1.1 | inr p ↦ absurd (true≢false (sym compressed ∙ p.0)) ]
 
   written-of : (p : Proves S at tokens) → Writes tokens (mandatory_labels S at s) p.items
-  written-of p = subst (λ t. Writes tokens (mandatory_labels S at t) p.items) (some_same p.provable.stands provable.stands) p.written
+  written-of p = subst (λ t. Writes tokens (mandatory_labels S at t) p.items) (some-same p.provable.stands provable.stands) p.written
 
   pub many : (hs : List ℕ) → hs ≡ hypotheses (before S at) s → length (mandatory_labels S at s) ≡ length hs
   many hs are = length-map (hypotheses (before S at) s) (λ i. label_or_none (stmt_at S i)) ∙ ap length (sym are)

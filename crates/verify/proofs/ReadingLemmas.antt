@@ -14,7 +14,7 @@ use Rattle.entries.specs.declared.citation.Hypothesis.{Hypothesis}
 use Rattle.entries.specs.declared.citation.Hypothesis.TheVariants.{Float, Essential}
 use Rattle.verify.specs.Fits.{AreDifferent, IsTyped, Reads}
 use Rattle.verify.specs.ReadPlaces.{tail_of, BeginsWith, ReadsOne, ReadTo, ReadsAll}
-use Rattle.verify.proofs.Decide.{some_same}
+use Rattle.frame.proofs.FoundByNumber.{some-same}
 
 module _ (symbols heads : List ℕ) (hs : List Hypothesis) (places : List ExpressionPlace) (different : AreDifferent hs) (i : ℕ) (p : ExpressionPlace) (at_place : slice_get places i ≡ Some p) where
   earlier : (k : ℕ) → k < i + 1 → (nat_lt k i ≡ false) → k ≡ i
@@ -35,7 +35,7 @@ module _ (symbols heads : List ℕ) (hs : List Hypothesis) (places : List Expres
         by true e = r.begun k y q (grind (arith, nat_tests, e)) kind' at
         by false e =
             let one : k ≡ i = earlier k h e in
-            let same : p ≡ q = some_same at_place (ap (slice_get places) (sym one) ∙ at) in
+            let same : p ≡ q = some-same at_place (ap (slice_get places) (sym one) ∙ at) in
             subst (λ v. BeginsWith symbols (get_or heads k 0) v) same (subst (λ n. BeginsWith symbols (get_or heads n 0) p) (sym one) low)
 
     float-placed : (k y : ℕ) (q : ExpressionPlace) → k < i + 1 → slice_get hs k ≡ Some (Float y) → slice_get places k ≡ Some q → lookup (nat_eq y) new ≡ Some (tail_of q)
@@ -44,7 +44,7 @@ module _ (symbols heads : List ℕ) (hs : List Hypothesis) (places : List Expres
         by : (b : Bool) → nat_eq y x ≡ b → (t : Bool) → nat_lt k i ≡ t → cond b (Some (tail_of p)) (lookup (nat_eq y) old) ≡ Some (tail_of q)
         by true e t f =
             let one : k ≡ i = different.each k i x (kind' ∙ ap (λ n. Some (Float n)) (same_number y e)) kind in
-            let same : p ≡ q = some_same at_place (ap (slice_get places) (sym one) ∙ at) in
+            let same : p ≡ q = some-same at_place (ap (slice_get places) (sym one) ∙ at) in
             ap (λ v. Some (tail_of v)) same
         by false e true f = r.placed k y q (grind (arith, nat_tests, f)) kind' at
         by false e false f =

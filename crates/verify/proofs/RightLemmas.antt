@@ -20,8 +20,8 @@ use Rattle.verify.specs.Extents.{extent_of}
 use Rattle.verify.proofs.Unique.{spelled_once}
 use Rattle.verify.proofs.GrowthLemmas.{leaves, only-number}
 use Rattle.verify.proofs.PlanLemmas.{length-built'}
-use Rattle.subst.proofs.NumbersApartLemmas.{below-at}
 use Rattle.verify.proofs.SizeLemmas.{child-extent}
+use Rattle.frame.proofs.ApartLemmas.{below-at}
 
 derives-same : (S : Database) (at : ℕ) → HasLabelsOnce S → (items : List Item) (t u : Derivation) → Derives S at items t → Derives S at items u → t ≡ u
 derives-same S at once items t u p q = spelled_once S at once [] p.after q.after items t u p.weight q.weight p.spelled q.spelled

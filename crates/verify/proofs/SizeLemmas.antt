@@ -7,8 +7,8 @@ use Rattle.verify.specs.declared.plan.Node.{Node}
 use Rattle.verify.specs.Derivations.{Derivation, from_list, node_count, nodes_in, depth, depth_in}
 use Rattle.verify.specs.Plan.{pick, derive, built, IsAfter, AreOrdered}
 use Rattle.verify.specs.Extents.{extent_of}
-use Rattle.verify.proofs.PlaceLemmas.{map-snoc}
 use Rattle.verify.proofs.PlanLemmas.{built-snoc, length-built'}
+use Rattle.frame.proofs.StoredOneMore.{map-push}
 
 take-more : {A : Type 0} (xs : List A) (i : ℕ) (d : A) → i < length xs → take (i + 1) xs ≡ take i xs ++ get_or xs i d ∷ []
 take-more [] i d h = absurd (omega (arith, h))
@@ -56,7 +56,7 @@ so-far-step ts kids extents i nodes deep nodes' deep' e far is h at p q =
     let x : e ≡ extent_of (pick ts k) = child-extent extents ts k e is at in
     let en : e.nodes ≡ min (node_count (pick ts k)) 65537 = ap (λ v. v.nodes) x in
     let ed : e.depth ≡ min (depth (pick ts k)) 1025 = ap (λ v. v.depth) x in
-    let more : map (pick ts) (take (i + 1) kids) ≡ map (pick ts) (take i kids) ++ pick ts k ∷ [] = ap (map (pick ts)) (take-more kids i 0 h) ∙ map-snoc (pick ts) (take i kids) k in
+    let more : map (pick ts) (take (i + 1) kids) ≡ map (pick ts) (take i kids) ++ pick ts k ∷ [] = ap (map (pick ts)) (take-more kids i 0 h) ∙ map-push (pick ts) (take i kids) k in
     let n : nodes_in (from_list (map (pick ts) (take (i + 1) kids))) ≡ nodes_in (from_list (map (pick ts) (take i kids))) + node_count (pick ts k) = ap (λ v. nodes_in (from_list v)) more ∙ nodes_in-snoc (map (pick ts) (take i kids)) (pick ts k) in
     let d : depth_in (from_list (map (pick ts) (take (i + 1) kids))) ≡ max (depth_in (from_list (map (pick ts) (take i kids)))) (depth (pick ts k)) = ap (λ v. depth_in (from_list v)) more ∙ depth_in-snoc (map (pick ts) (take i kids)) (pick ts k) in
     let a = far.counted in
@@ -79,7 +79,7 @@ pub measured-more : (ns : List Node) (i : ℕ) (d : Node) (extents extents' : Li
     → extents' ≡ map extent_of (built (take (i + 1) ns))
 measured-more ns i d extents extents' e h so is grown =
     grown ∙ (ap (λ v. v ++ e ∷ []) so ∙ (ap (λ v. map extent_of (built (take i ns)) ++ v ∷ []) is
-    ∙ (sym (map-snoc extent_of (built (take i ns)) (derive (built (take i ns)) (get_or ns i d))) ∙ ap (map extent_of) (sym (built-more ns i d h)))))
+    ∙ (sym (map-push extent_of (built (take i ns)) (derive (built (take i ns)) (get_or ns i d))) ∙ ap (map extent_of) (sym (built-more ns i d h)))))
 
 pub measured-length : (ns : List Node) (i : ℕ) (extents : List Extent) → i ≤ length ns → extents ≡ map extent_of (built (take i ns)) → length extents ≡ i
 measured-length ns i extents h so =

@@ -28,8 +28,9 @@ use Rattle.verify.specs.Spells.{IsCitable}
 use Rattle.verify.specs.Right.{IsRight, weight_limit}
 use Rattle.verify.proofs.Named.{goes-recall, goes-mark, goes-hypothesis, decode-injective}
 use Rattle.verify.proofs.CitationLemmas.{Meets, goes-assertion, goes-heavy, goes-not}
-use Rattle.verify.proofs.Decide.{cites_same, some_same, refuted_at_end, refuted_at_step, accepts_right}
+use Rattle.verify.proofs.Decide.{cites_same, refuted_at_end, refuted_at_step, accepts_right}
 use Rattle.verify.proofs.Complete.{runs_append}
+use Rattle.frame.proofs.FoundByNumber.{some-same}
 
 module _ (S : Database) (names : List Name) (at : ℕ) (legal : AreLegal S names) where
   module _ (old new : Results ℕ) (an : AreNamed names old) where
@@ -70,7 +71,7 @@ module _ (S : Database) (names : List Name) (at : ℕ) (legal : AreLegal S names
           → IfOk r (λ ok. Adds ok old new old.stack e) → IfOk r (λ ok. Goes ok S at names (Cite label) old new)
       hypothesis-result (Err f) e t active same codes adds = tt
       hypothesis-result (Ok ok) e t active same codes adds =
-          let q : t ≡ s = some_same active.stands carries.stands in
+          let q : t ≡ s = some-same active.stands carries.stands in
           goes-hypothesis names S at ok old new label i t e an codes same (subst (λ u. Carries S i u label) (sym q) carries) active
           (λ b f p. (cites_same S at (legal.single at) legal.once label (map (decode names) old.stack) b (map (decode names) old.stack) f (expr_of t) p
           (of_hypothesis i t (subst (λ u. Carries S i u label) (sym q) carries) active refl refl)).1) adds

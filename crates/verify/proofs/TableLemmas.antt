@@ -13,8 +13,8 @@ use Rattle.verify.specs.Spells.{IsCitable}
 use Rattle.verify.specs.declared.table.Entry.{Entry}
 use Rattle.verify.specs.declared.table.Entry.TheVariants.{Nothing}
 use Rattle.verify.specs.Table.{IsEntry, AreEntries}
-use Rattle.verify.proofs.Decide.{some_same}
-use Rattle.verify.proofs.PlaceLemmas.{map-snoc}
+use Rattle.frame.proofs.FoundByNumber.{some-same}
+use Rattle.frame.proofs.StoredOneMore.{map-push}
 
 pub get-front : {A : Type 0} (xs ys : List A) (k : ℕ) (d : A) → k < length xs → get_or (xs ++ ys) k d ≡ get_or xs k d
 get-front [] ys k d h = absurd (omega (arith, h))
@@ -39,7 +39,7 @@ nothing S at i s label once carries none j t carries' =
 
 -- the assertion that carries the label
 pub has_with : (S : Database) (a : ℕ) (s t : Stmt) (label : Name) → Carries S a s label → HasAssertion S a t → HasAssertion S a s
-has_with S a s t label carries has = (carries.stands, ap is_assertion (some_same carries.stands has.0) ∙ has.1)
+has_with S a s t label carries has = (carries.stands, ap is_assertion (some-same carries.stands has.0) ∙ has.1)
 
 -- one more label
 pub entries-more : (S : Database) (at : ℕ) (ls : List Name) (label : Name) (es : List Entry) (entry : Entry) → AreEntries S at ls es → IsEntry S at label entry → AreEntries S at (ls ++ label ∷ []) (es ++ entry ∷ [])
@@ -64,7 +64,7 @@ entries-more S at ls label es entry a is = record { count = counted; each = λ k
 pub table-more : (S : Database) (at : ℕ) (labels : List (Bor Name)) (label : Bor Name) (table table' : List Entry) (entry : Entry) → AreEntries S at (map (λ l. l.now) labels) table
     → table' ≡ table ++ entry ∷ [] → IsEntry S at label.now entry → AreEntries S at (map (λ l. l.now) (labels ++ label ∷ [])) table'
 table-more S at labels label table table' entry are grown is =
-    subst (λ ls. AreEntries S at ls table') (sym (map-snoc (λ l. l.now) labels label))
+    subst (λ ls. AreEntries S at ls table') (sym (map-push (λ l. l.now) labels label))
     (subst (AreEntries S at (map (λ l. l.now) labels ++ label.now ∷ [])) (sym grown) (entries-more S at (map (λ l. l.now) labels) label.now table entry are is))
 
 -- what a place of the table names

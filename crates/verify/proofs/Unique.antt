@@ -14,7 +14,8 @@ use Rattle.frame.specs.Citations.{IsHypothesis, premises, Carries}
 use Rattle.verify.specs.Spells.{IsCitable, Spells, SpellsAll, cites_hypothesis, cites_assertion, recalls, marks, spells_none, spells_more}
 use Rattle.frame.specs.Reading.{HasLabelsOnce}
 use Rattle.verify.specs.Growth.{Trees, trees, Builds, a_hypothesis, an_assertion, IsKept, Grows, GrowsBy}
-use Rattle.verify.proofs.Decide.{append_cut, length-premises, some_same, not_both}
+use Rattle.verify.proofs.Decide.{append_cut, length-premises, not_both}
+use Rattle.frame.proofs.FoundByNumber.{some-same}
 
 abbrev pub to_list : Derivations → List Derivation
 to_list none = []
@@ -42,7 +43,7 @@ module _ (S : Database) (at : ℕ) where
   yields-cite : (marked after : List Derivation) (items front : List Item) (a : ℕ) (kids : Derivations) (s : Stmt) (e : Expr) (label : Name)
       → Carries S a s label → IsCitable S at a s → Concludes S at (apply a kids) e → Yields marked front (to_list kids) after → items ≡ front ++ Cite label ∷ [] → Yields marked items (apply a kids ∷ []) after
   yields-cite marked after items front a kids s e label carries citable ends y whole =
-      let same : ends.0 ≡ s = some_same ends.2.stands carries.stands in
+      let same : ends.0 ≡ s = some-same ends.2.stands carries.stands in
       let many : length (to_list kids) ≡ length (hypotheses (before S a) s) = count-kids kids (premises S a ends.0 ends.1) ends.3 ∙ (length-premises S a ends.0 ends.1 ∙ ap (λ u. length (hypotheses (before S a) u)) same) in
       record {
         grows = λ below.
@@ -87,7 +88,7 @@ module _ (S : Database) (at : ℕ) where
 
   module _ (once : HasLabelsOnce S) where
     pub apart_kinds : (i a : ℕ) (s r : Stmt) (label : Name) → Carries S i s label → IsHypothesis S at i s → Carries S a r label → IsCitable S at a r → ⊥
-    apart_kinds i a s r label p h q f = not_both s h.kind (ap is_assertion (some_same p.stands (ap (stmt_at S) (once i a s r label p q) ∙ q.stands)) ∙ f.assertion)
+    apart_kinds i a s r label p h q f = not_both s h.kind (ap is_assertion (some-same p.stands (ap (stmt_at S) (once i a s r label p q) ∙ q.stands)) ∙ f.assertion)
 
     builds_same : (label : Name) (stack b c : List Derivation) (t u : Derivation) → Builds S at label stack b t → Builds S at label stack c u → (b ≡ c) × (t ≡ u)
     builds_same label stack b c t u (a_hypothesis i s p active same whole) (a_hypothesis j r q active' same' whole') = (sym whole ∙ whole', same ∙ (ap (λ n. hyp n) (once i j s r label p q) ∙ sym same'))
@@ -95,13 +96,13 @@ module _ (S : Database) (at : ℕ) where
     builds_same label stack b c t u (an_assertion a r kids q citable many whole' same') (a_hypothesis i s p active same whole) = absurd (apart_kinds i a s r label p active q citable)
     builds_same label stack b c t u (an_assertion a s kids p citable many whole same) (an_assertion d r kids' q citable' many' whole' same') =
         let n : a ≡ d = once a d s r label p q in
-        let v : s ≡ r = some_same p.stands (ap (stmt_at S) n ∙ q.stands) in
+        let v : s ≡ r = some-same p.stands (ap (stmt_at S) n ∙ q.stands) in
         let cut = append_cut b c kids kids' (sym whole ∙ whole') (many ∙ (ap (λ k. length (hypotheses (before S k) s)) n ∙ (ap (λ w. length (hypotheses (before S d) w)) v ∙ sym many'))) in
         (cut.0, same ∙ (ap (λ k. apply k (from_list kids)) n ∙ (ap (λ ks. apply d (from_list ks)) cut.1 ∙ sym same')))
 
     kept_same : (saved : List Derivation) (k : ℕ) (t u : Derivation) → IsKept saved k t → IsKept saved k u → t ≡ u
     kept_same saved zero t u p q = absurd p
-    kept_same saved (suc k) t u p q = some_same p q
+    kept_same saved (suc k) t u p q = some-same p q
 
     pub grows_same : (st x y : Trees) (item : Item) → Grows S at st item x → Grows S at st item y → x ≡ y
     grows_same st x y (Cite label) p q =

@@ -23,7 +23,7 @@ get_added [] x y (suc k) e = absurd (none-some y e)
 get_added (z ∷ xs) x y zero e = inl e
 get_added (z ∷ xs) x y (suc k) e = get_added xs x y k e
 
-stmt_stays : (S more : Database) (at : ℕ) (s : Stmt) → stmt_at S at ≡ Some s → stmt_at (S ++ more) at ≡ Some s
+pub stmt_stays : (S more : Database) (at : ℕ) (s : Stmt) → stmt_at S at ≡ Some s → stmt_at (S ++ more) at ≡ Some s
 stmt_stays S more zero s e = absurd (none-some s e)
 stmt_stays S more (suc n) s e = get_stays S more n s e
 

@@ -19,9 +19,9 @@ use Rattle.world.specs.Replicas.{NodeLibrary, Replicas, new_library, new_librari
 use Rattle.net.proofs.EveryEvent.{if_taken}
 use Rattle.net.proofs.TwoMoments.{all_happen-append}
 use Rattle.net.proofs.TakenLemmas.{after-push}
-use Rattle.net.proofs.KeptPartLemmas.{slice_get-set_other}
 use Rattle.net.proofs.LogsGrow.{log_grows}
 use Rattle.world.proofs.EntriesLemmas.{all_carried-append, entries_begin}
+use Rattle.net.proofs.Lists.{at_set_other}
 
 -- A library and its log.
 
@@ -112,7 +112,7 @@ module _ (taken : Taken Carried) (w x : World Carried) (was : world_of carried_s
       → ((other : NodeLibrary) → slice_get libraries k ≡ Some other → IsOfLog (log_entries taken k) other) → (t : Bool) → (n == k) ≡ t → IsOfLog (log_entries (with_event taken e) k) node
   at_restart libraries n k restart node old got each false test =
       let other : n ≢ k = grind (arith, nat_tests) in
-      stays_of_log k node (restart_other k e n restart other) (each node (sym (slice_get-set_other libraries n k new_library other) ∙ got))
+      stays_of_log k node (restart_other k e n restart other) (each node (sym (at_set_other libraries n k new_library other) ∙ got))
   at_restart libraries n k restart node old got each true test =
       let same : n ≡ k = grind (arith, nat_tests) in
       let new : node ≡ new_library = set_new libraries k new_library node (subst (λ (i : ℕ). slice_get (set libraries i new_library) k ≡ Some node) same got) in
@@ -172,7 +172,7 @@ applied_are_replicas old k next h here = record {
       subst (λ (l : NodeLibrary). IsOfLog (log_entries old.taken j) l) (sym new) (subst (λ (i : ℕ). IsOfLog (log_entries old.taken i) next) same here)
   at_node j node got false test =
       let other : k ≢ j = grind (arith, nat_tests) in
-      h.of_logs j node (sym (slice_get-set_other old.libraries k j next other) ∙ got)
+      h.of_logs j node (sym (at_set_other old.libraries k j next other) ∙ got)
 
 -- A run on new libraries leaves them new.
 

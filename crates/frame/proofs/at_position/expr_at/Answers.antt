@@ -13,7 +13,7 @@ use Rattle.entries.specs.Entries.{seen}
 use Rattle.frame.proofs.at_position.expr_at.Goals as goal
 
 -- the entry read is that of the statement
-is-entry : (names labels : List Name) (es : List Entry) (at : ℕ) (e : Entry) (s : Stmt) → 1 ≤ at → slice_get es (at - 1) ≡ Some e → stmt_at (map (stmt_of names labels) es) at ≡ Some s → stmt_of names labels e ≡ s
+pub is-entry : (names labels : List Name) (es : List Entry) (at : ℕ) (e : Entry) (s : Stmt) → 1 ≤ at → slice_get es (at - 1) ≡ Some e → stmt_at (map (stmt_of names labels) es) at ≡ Some s → stmt_of names labels e ≡ s
 is-entry names labels es at e s one g h = same_Some _ _ (sym (get-stmt names labels es (at - 1) e g) ∙ (sym (stmt-at-suc (map (stmt_of names labels) es) at one) ∙ h))
 
 pub returns-in-Float-clause-same : goal.returns-in-Float-clause-same

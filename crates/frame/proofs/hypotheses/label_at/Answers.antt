@@ -1,20 +1,12 @@
-use Rattle.std.proofs.Common.{◌≡◌, ◌∙◌, ap, sym, length}
+use Rattle.std.proofs.Common.{◌∙◌, ap, sym, length}
 use Rattle.std.proofs.lemmas.List.{length-map}
-use Rattle.std.specs.Prelude.{slice_get, Some, ◌≤◌, ◌-◌, List, ℕ, map}
-use Rattle.std.proofs.lemmas.Option.{same_Some}
-use Rattle.mm_lex.specs.Alphabet.{Name}
-use Rattle.mm_read.specs.declared.stmt.Stmt.{Stmt}
-use Rattle.scope.specs.Active.{stmt_at, label_of}
-use Rattle.entries.specs.Entries.{Entry}
+use Rattle.std.specs.Prelude.{Some, ◌-◌}
+use Rattle.scope.specs.Active.{label_of}
 use Rattle.frame.specs.StoredEntries.{stmt_of}
-use Rattle.frame.proofs.StoredReading.{get-stmt, stmt-at-suc}
 use Rattle.frame.proofs.LabelLemmas.{label-below-at, label-below, label-is, label-none}
 use Rattle.entries.specs.Entries.{seen}
 use Rattle.frame.proofs.hypotheses.label_at.Goals as goal
-
--- the entry read is that of the statement
-is-entry : (names labels : List Name) (es : List Entry) (at : ℕ) (e : Entry) (s : Stmt) → 1 ≤ at → slice_get es (at - 1) ≡ Some e → stmt_at (map (stmt_of names labels) es) at ≡ Some s → stmt_of names labels e ≡ s
-is-entry names labels es at e s one g h = same_Some _ _ (sym (get-stmt names labels es (at - 1) e g) ∙ (sym (stmt-at-suc (map (stmt_of names labels) es) at one) ∙ h))
+use Rattle.frame.proofs.at_position.expr_at.Answers.{is-entry}
 
 pub name-requires : goal.name-requires
 name-requires c =

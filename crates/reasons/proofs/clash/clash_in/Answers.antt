@@ -6,10 +6,10 @@ use Rattle.reasons.specs.Kept.{code_images}
 use Rattle.reasons.specs.Images.{named_images}
 use Rattle.reasons.specs.Clashes.{IsClashWith, is_other_apart}
 use Rattle.std.specs.List.{list_all}
-use Rattle.reasons.proofs.KeptLemmas.{below-at}
 use Rattle.reasons.proofs.ClashLemmas.{has_at, all_step}
 use Rattle.reasons.proofs.BesideLemmas.{image_within, image_beside, lies_behind, front_length}
 use Rattle.reasons.proofs.clash.clash_in.Goals as goal
+use Rattle.frame.proofs.ApartLemmas.{below-at}
 
 pub clash_beside-requires-clause-first : goal.clash_beside-requires-clause-first
 clash_beside-requires-clause-first c = below-at (length c.args.pairs.now.names) c.args.group.now c.loop-first.first-index 0 c.requires.group c.loop-first-test.true

@@ -12,10 +12,10 @@ use Rattle.reasons.specs.Clashes.{AreShared, is_other_apart}
 use Rattle.reasons.proofs.NamedLemmas.{image_same}
 use Rattle.reasons.proofs.ClashLemmas.{has_at, all_step, numbers_differ}
 use Rattle.frame.specs.Below.{AreBelow}
-use Rattle.reasons.proofs.KeptLemmas.{below-at}
 use Rattle.reasons.proofs.ImagesLemmas.{image-below}
 use Rattle.reasons.proofs.clash.clash_with.Goals as goal
 use Rattle.reasons.proofs.clash.clash_with.Goals.{then-code-first+in_default, else-code-first}
+use Rattle.frame.proofs.ApartLemmas.{below-at}
 
 pub shared-requires-clause-left : goal.shared-requires-clause-left
 shared-requires-clause-left c =

@@ -3,9 +3,9 @@ use Rattle.scope.specs.Active.{is_variable}
 use Rattle.names.specs.Codes.{name_at, decode}
 use Rattle.frame.specs.FrameOf.{is_pair}
 use Rattle.reasons.specs.Clashes.{is_kept}
-use Rattle.reasons.proofs.KeptLemmas.{below-at}
 use Rattle.reasons.proofs.ClashLemmas.{all_of, has_at, kept_by}
 use Rattle.reasons.proofs.clash.not_with.Goals as goal
+use Rattle.frame.proofs.ApartLemmas.{below-at}
 
 pub variable-requires-in-loop-other : goal.variable-requires-in-loop-other
 variable-requires-in-loop-other c = below-at (length c.args.pairs.now.names) c.args.right.now c.loop-other.other-index 0 c.requires.right c.loop-other-test.true

@@ -1,7 +1,7 @@
 use Rattle.std.proofs.Common.{length}
-use Rattle.reasons.proofs.KeptLemmas.{below-at}
 use Rattle.reasons.proofs.ClashLemmas.{has_at}
 use Rattle.reasons.proofs.clash.shared.Goals as goal
+use Rattle.frame.proofs.ApartLemmas.{below-at}
 
 pub not_with-requires-clause-one : goal.not_with-requires-clause-one
 not_with-requires-clause-one c = below-at (length c.args.pairs.now.names) c.args.left.now c.loop-one.one-index 0 c.requires.left c.loop-one-test.true

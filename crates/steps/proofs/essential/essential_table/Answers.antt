@@ -5,12 +5,13 @@ use Rattle.frame.specs.Below.{AreBelow}
 use Rattle.steps.specs.Rows.{no_row}
 use Rattle.steps.specs.Essential.{essential_of}
 use Rattle.steps.specs.Marked.{marked_before, number_of, AreNumbers, kept_row}
-use Rattle.steps.proofs.RowLemmas.{weaken, row-same}
-use Rattle.steps.proofs.SoundLemmas.{below-some}
+use Rattle.steps.proofs.RowLemmas.{row-same}
 use Rattle.steps.proofs.PremiseLemmas.{premises-below}
 use Rattle.steps.proofs.NumberLemmas.{numbers-more, numbers-are, kept-more, kept-same, are-essential}
 use Rattle.steps.proofs.essential.essential_table.Goals as goal
 use Rattle.steps.proofs.essential.essential_table.Goals.{then-index+in_ok-premises+in_ok-taken+in_ok-push-2, else-index}
+use Rattle.frame.proofs.NumberLemmas.{below-more}
+use Rattle.verify.proofs.PlanLemmas.{below-get}
 
 pub renumbered-requires : goal.renumbered-requires
 renumbered-requires c =
@@ -19,7 +20,7 @@ renumbered-requires c =
     let count = c.loop-place.invariant.0.count in
     let longer = ap length (c.deref-then-index.ensures.value ∙ c.in_ok-push.ensures.items) in
     let more = length-append c.loop-place.numbers.items (c.len.result ∷ []) in
-    subst (AreBelow (length c.deref-then-index.result.now)) (sym (c.deref.ensures.value ∙ c.in_ok-premises.ensures)) (weaken place (length c.deref-then-index.result.now) _ (omega (arith, count, longer, more)) low)
+    subst (AreBelow (length c.deref-then-index.result.now)) (sym (c.deref.ensures.value ∙ c.in_ok-premises.ensures)) (below-more place (length c.deref-then-index.result.now) _ (omega (arith, count, longer, more)) low)
 
 pub loop-place-preserved : goal.loop-place-preserved
 loop-place-preserved c =
@@ -44,7 +45,7 @@ loop-place-preserved c =
             w.in_ok-taken.ensures
             ∙ (ap (λ v. map (λ k. get_or v k 0) w.deref.result.now) w.deref-then-index.ensures.value
             ∙ (ap (map (λ k. get_or c.push.new.self.items k 0)) premises
-            ∙ numbers-are marks (place + 1) c.push.new.self.items ks numbers (λ i x e. (let b = below-some place ks i x low e in omega (arith, b))))) in
+            ∙ numbers-are marks (place + 1) c.push.new.self.items ks numbers (λ i x e. (let b = below-get place ks i x low e in omega (arith, b))))) in
             kept-more marks f place c.loop-place.kept c.if-index.kept (get_or_default marks place false true (omega (arith, within, count, steps)) ∙ sym (subst (λ b. b ≡ get_or marks place b) w.if-index.true c.index.ensures)) is (w.kept-is ∙ (w.in_ok-push-2.ensures ∙ ap (λ r. c.loop-place.kept ++ r ∷ []) (row-same _ _ _ _ _ _ w.position.ensures taken w.expr.ensures)))
         | else-index w ↦ subst (λ r. r ≡ map f (marked_before marks (place + 1))) (sym w.kept-is) (kept-same marks f place c.loop-place.kept (sym (subst (λ b. b ≡ get_or marks place b) w.if-index.false c.index.ensures)) is)
       ],

@@ -2,11 +2,11 @@ use Rattle.std.proofs.Common.{◌∙◌, ap, subst}
 use Rattle.std.proofs.lemmas.Result.{on_ok_weaker}
 use Rattle.scope.specs.Active.{expr_of}
 use Rattle.frame.specs.Citations.{IsHypothesis}
-use Rattle.verify.proofs.Decide.{some_same}
 use Rattle.verify.proofs.TableLemmas.{has_with}
 use Rattle.steps.proofs.CiteLemmas.{many, typed, heads-count, different, assertion-draft, assertion-done, hypothesis-draft, hypothesis-done}
 use Rattle.steps.proofs.ItemLemmas.{never-nothing}
 use Rattle.steps.proofs.noting.cite.Goals as goal
+use Rattle.frame.proofs.FoundByNumber.{some-same}
 
 pub cite_parts-requires-clause-many : goal.cite_parts-requires-clause-many
 cite_parts-requires-clause-many c =
@@ -51,7 +51,7 @@ returns-in-Hypothesis-clause-draft c =
     let p = c.requires.can in
     let q = p.3 in
     let h = c.in-Hypothesis.ensures in
-    let same = some_same h.1.stands p.2.stands in
+    let same = some-same h.1.stands p.2.stands in
     on_ok_weaker c.cite_hypothesis.result
     (λ gives. hypothesis-draft c.args.frames.now.statements c.args.at c.args.frames.now.names c.requires.legal c.args.draft.now c.requires.draft p.0 q.0 q.2 c.args.position p.1 c.in-Hypothesis.expr.now p.2
     (subst (IsHypothesis c.args.frames.now.statements c.args.at c.args.position) same h.1) (h.2 ∙ ap expr_of same) h.3 c.cite_hypothesis.new.draft gives)
@@ -62,7 +62,7 @@ returns-in-Hypothesis-clause-done c =
     let h = c.in-Hypothesis.ensures in
     on_ok_weaker c.cite_hypothesis.result
     (λ gives label s carries st next tied run.
-    let same = some_same h.1.stands carries.stands in
+    let same = some-same h.1.stands carries.stands in
     hypothesis-done c.args.frames.now.statements c.args.at c.args.frames.now.names c.requires.legal c.args.draft.now c.requires.draft label st tied c.args.position s c.in-Hypothesis.expr.now carries
     (subst (IsHypothesis c.args.frames.now.statements c.args.at c.args.position) same h.1) (h.2 ∙ ap expr_of same) h.3 c.cite_hypothesis.new.draft gives next run)
     c.cite_hypothesis.ensures

@@ -4,8 +4,9 @@ use Rattle.proof_code.specs.declared.item.Item.TheVariants.{Recall}
 use Rattle.proof_code.specs.Numbers.{item_of}
 use Rattle.verify.proofs.GrowthLemmas.{item-cite, item-recall}
 use Rattle.steps.specs.Drafted.{CanDo, IsDone}
-use Rattle.steps.proofs.ItemLemmas.{position-there, back}
+use Rattle.steps.proofs.ItemLemmas.{position-there}
 use Rattle.steps.proofs.noting.note.Goals as goal
+use Rattle.verify.proofs.citation.step.Answers.{suc_back}
 
 pub returns-then-number-eq0-clause-done : goal.returns-then-number-eq0-clause-done
 returns-then-number-eq0-clause-done c =
@@ -20,7 +21,7 @@ returns-then-index-positions-clause-done c =
     let n = are.count in
     let h = c.if-index-positions.true in
     subst (λ i. IsDone c.args.frames.now.statements c.args.at c.args.frames.now.names c.args.draft.now i c.recall.new.draft)
-    (sym (item-recall labels c.args.number (c.args.number - 1) (back c.args.number c.if-number-eq0.false) (omega (arith, n, h)) ∙ ap (λ l. Recall (suc (c.args.number - 1 - l))) (sym n))) done)
+    (sym (item-recall labels c.args.number (c.args.number - 1) (suc_back c.args.number c.if-number-eq0.false) (omega (arith, n, h)) ∙ ap (λ l. Recall (suc (c.args.number - 1 - l))) (sym n))) done)
     c.recall.ensures.done
 
 pub cite-requires-clause-can : goal.cite-requires-clause-can
@@ -33,7 +34,7 @@ cite-requires-clause-can c =
       label,
       at_place.0,
       at_place.1,
-      subst (CanDo c.args.frames.now.statements c.args.at c.args.frames.now.names c.args.draft.now) (item-cite p.0 c.args.number (c.args.number - 1) (back c.args.number c.if-number-eq0.false) (omega (arith, n, h))) p.2,
+      subst (CanDo c.args.frames.now.statements c.args.at c.args.frames.now.names c.args.draft.now) (item-cite p.0 c.args.number (c.args.number - 1) (suc_back c.args.number c.if-number-eq0.false) (omega (arith, n, h))) p.2,
     )
 
 pub returns-clause-done : goal.returns-clause-done
@@ -44,6 +45,6 @@ returns-clause-done c =
     let n = are.count in
     let at_place = position-there c.args.frames.now.statements labels c.args.positions.now (c.args.number - 1) _ None are h (sym c.in-Some.is) in
     subst (λ i. IsDone c.args.frames.now.statements c.args.at c.args.frames.now.names c.args.draft.now i c.cite.new.draft)
-    (sym (item-cite labels c.args.number (c.args.number - 1) (back c.args.number c.if-number-eq0.false) (omega (arith, n, h))))
+    (sym (item-cite labels c.args.number (c.args.number - 1) (suc_back c.args.number c.if-number-eq0.false) (omega (arith, n, h))))
     (done (get_or labels (c.args.number - 1) []) at_place.0 at_place.1))
     c.cite.ensures.done

@@ -4,7 +4,7 @@ use Rattle.verify.proofs.KnownLemmas.{mark-on, has-on, recall-on, cite-on}
 use Rattle.verify.proofs.TableLemmas.{entry_at}
 use Rattle.verify.proofs.citation.step.Goals as goal
 
-suc_back : (n : ℕ) → (n ≡ 0 → ⊥) → n ≡ suc (n - 1)
+pub suc_back : (n : ℕ) → (n ≡ 0 → ⊥) → n ≡ suc (n - 1)
 suc_back n h = omega (arith, h)
 
 pub cite-requires-clause-entry : goal.cite-requires-clause-entry

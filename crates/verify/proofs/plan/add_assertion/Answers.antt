@@ -5,8 +5,9 @@ use Rattle.verify.specs.Derivations.{apply, from_list}
 use Rattle.verify.specs.Growth.{with_tree}
 use Rattle.verify.specs.Places.{below}
 use Rattle.verify.specs.Plan.{pick, built, trees_of}
-use Rattle.verify.proofs.PlanLemmas.{added-plan, added-trees, below-take, below-drop, kids-top, rest-below}
+use Rattle.verify.proofs.PlanLemmas.{added-plan, added-trees, below-take, kids-top, rest-below}
 use Rattle.verify.proofs.plan.add_assertion.Goals as goal
+use Rattle.subst.proofs.NumbersApartLemmas.{below-drop}
 
 pub returns-clause-plan : goal.returns-clause-plan
 returns-clause-plan c =

@@ -1,11 +1,8 @@
-use Rattle.std.proofs.Common.{◌≡◌, ℕ, ◌-◌, [], get_or, arith}
-use Rattle.std.specs.Prelude.{suc}
+use Rattle.std.proofs.Common.{◌-◌, [], get_or, arith}
 use Rattle.verify.proofs.GrowthLemmas.{mark-grows, recall-grows, cite-grows}
 use Rattle.verify.proofs.TableLemmas.{entry_at}
 use Rattle.verify.proofs.plan.grow.Goals as goal
-
-suc_back : (n : ℕ) → (n ≡ 0 → ⊥) → n ≡ suc (n - 1)
-suc_back n h = omega (arith, h)
+use Rattle.verify.proofs.citation.step.Answers.{suc_back}
 
 pub cite-requires-clause-entry : goal.cite-requires-clause-entry
 cite-requires-clause-entry c = (

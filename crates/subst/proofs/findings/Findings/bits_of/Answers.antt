@@ -1,10 +1,10 @@
 use Rattle.std.proofs.Common.{arith, sym, ◌+◌, subst, length, get_or, refl}
 use Rattle.subst.specs.declared.findings.Finding.TheVariants.{Constant}
 use Rattle.subst.specs.Findings.{IsAt, IsFinding, AreNoted}
-use Rattle.subst.proofs.NumbersApartLemmas.{below-at}
 use Rattle.subst.proofs.FindingsLemmas.{noted-constant, noted-variable, is-constant}
 use Rattle.subst.proofs.findings.Findings.bits_of.Goals as goal
 use Rattle.subst.proofs.findings.Findings.bits_of.Goals.{in-At, in_default}
+use Rattle.frame.proofs.ApartLemmas.{below-at}
 
 pub look-requires-clause-named : goal.look-requires-clause-named
 look-requires-clause-named c = below-at (length c.args.pairs.now.names) c.args.image.now c.loop-symbol.symbol-index 0 c.requires.image c.loop-symbol-test.true

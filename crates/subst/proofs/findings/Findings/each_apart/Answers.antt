@@ -1,11 +1,10 @@
 use Rattle.std.proofs.Common.{◌≡◌, bit_and, arith, sym, ◌∙◌, ap, subst, length, get_or, refl}
 use Rattle.names.specs.Codes.{name_at, decode}
 use Rattle.frame.specs.Covers.{is_symbol_apart}
-use Rattle.frame.proofs.ApartLemmas.{stops, goes_on, symbol_constant, symbol_variable}
+use Rattle.frame.proofs.ApartLemmas.{stops, goes_on, symbol_constant, symbol_variable, below-at}
 use Rattle.subst.specs.declared.findings.Finding.TheVariants.{Constant}
 use Rattle.subst.specs.Findings.{IsKnown, IsAt, IsFinding, AreNoted, variable_at}
 use Rattle.subst.specs.declared.findings.Variable.{Variable}
-use Rattle.subst.proofs.NumbersApartLemmas.{below-at}
 use Rattle.subst.proofs.FindingsLemmas.{grows-twice, noted-grows, covered, row-read, is-variable, is-constant}
 use Rattle.subst.proofs.findings.Findings.each_apart.Goals as goal
 use Rattle.subst.proofs.findings.Findings.each_apart.Goals.{in-At+else-not-covered, else-not-covered-via-then-not-covered+in_ok-variable_apart+else-not-branch, else-not-covered-via-else-not-covered, in_default}

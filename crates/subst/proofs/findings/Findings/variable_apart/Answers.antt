@@ -1,10 +1,9 @@
 use Rattle.std.proofs.Common.{arith, sym, ◌∙◌, ap, subst, length, get_or, refl}
 use Rattle.names.specs.Codes.{name_at}
 use Rattle.frame.specs.Covers.{is_pair_apart}
-use Rattle.frame.proofs.ApartLemmas.{stops, goes_on, pair_constant, pair_variable}
+use Rattle.frame.proofs.ApartLemmas.{stops, goes_on, pair_constant, pair_variable, below-at}
 use Rattle.subst.specs.declared.findings.Finding.TheVariants.{Constant}
 use Rattle.subst.specs.Findings.{IsKnown, IsAt, IsFinding, Grows}
-use Rattle.subst.proofs.NumbersApartLemmas.{below-at}
 use Rattle.subst.proofs.FindingsLemmas.{grows-twice, is-variable, is-constant}
 use Rattle.subst.proofs.findings.Findings.variable_apart.Goals as goal
 use Rattle.subst.proofs.findings.Findings.variable_apart.Goals.{in-At+else-not-two_apart, in_default}

@@ -1,13 +1,13 @@
 use Rattle.std.proofs.Common.{◌≡◌, ℕ, ◌<◌, ◌==◌, List, length, get_or, true, false, Bool, sym, ◌∙◌, ap, arith}
 use Rattle.std.specs.Prelude.{nat_eq, cond, Some, None}
 use Rattle.std.specs.Map.{lookup}
-use Rattle.std.proofs.lemmas.Bool.Decides.{nat_tests}
 use Rattle.std.proofs.lemmas.Bool.{eq-eqb}
 use Rattle.subst.specs.declared.place.ExpressionPlace.{ExpressionPlace}
 use Rattle.subst.specs.declared.image_places.Slot.{Slot}
 use Rattle.subst.specs.Slots.{placed}
 use Rattle.subst.proofs.SlotLemmas.{placed-slot, slot-none, slot-at}
 use Rattle.subst.proofs.image_places.ImagePlaces.get.Goals as goal
+use Rattle.subst.proofs.NumbersApartLemmas.{differ}
 
 -- a slot of this round, and one of another
 found : (round : ℕ) (slots : List Slot) (x : ℕ) (s : Slot) (b : Bool) → x < length slots → s ≡ get_or slots x s → (s.round == round) ≡ b
@@ -15,9 +15,6 @@ found : (round : ℕ) (slots : List Slot) (x : ℕ) (s : Slot) (b : Bool) → x 
 found round slots x s b h is test =
     ap (λ t. cond t (Some s.place) None) (sym test)
     ∙ (ap (λ r. cond (r.round == round) (Some r.place) None) is ∙ sym (placed-slot round slots x ∙ slot-at round slots x s h))
-
-other : (m n : ℕ) → (m ≡ n → ⊥) → (m == n) ≡ false
-other m n e = grind (arith, nat_tests, e)
 
 pub returns-then-index-len : goal.returns-then-index-len
 returns-then-index-len c =
@@ -31,5 +28,5 @@ returns-then-slot-self c =
 
 pub returns-else-slot-self : goal.returns-else-slot-self
 returns-else-slot-self c =
-    found c.self.inside.round c.self.inside.slots.items c.args.symbol c.index-slot.result.now false (omega (arith, c.if-index-len.false, c.len.ensures)) c.index-slot.ensures (other _ _ c.if-slot-self.false)
+    found c.self.inside.round c.self.inside.slots.items c.args.symbol c.index-slot.result.now false (omega (arith, c.if-index-len.false, c.len.ensures)) c.index-slot.ensures (differ _ _ c.if-slot-self.false)
     ∙ ap (λ (ps : List (ℕ × ExpressionPlace)). lookup (nat_eq c.args.symbol) ps) c.self.view_is
