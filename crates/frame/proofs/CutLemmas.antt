@@ -61,7 +61,6 @@ positions_from-append at [] B = ap (λ n. positions_from n B) (place at)
 positions_from-append at (s ∷ A) B =
     ap (option_position (label_of s) at) (positions_from-append (at + 1) A B ∙ ap (λ n. positions_from (at + 1) A ++ positions_from n B) (place at (length A))) ∙ by (label_of s)
   where
-
     by : (o : Option Name) → option_position o at (positions_from (at + 1) A ++ positions_from (at + suc (length A)) B) ≡ option_position o at (positions_from (at + 1) A) ++ positions_from (at + suc (length A)) B
     by None = refl
     by (Some x) = refl

@@ -91,7 +91,6 @@ pub unnamed-none : (names labels : List Name) (m n : ℕ) (x : Name) (es : List 
 unnamed-none names labels m n x es none a =
     any-none (λ p. has_name x (variables p.1)) 1 (take n (map (stmt_of names labels) es)) (λ k s g q. one k s (get-less n (map (stmt_of names labels) es) k s g))
   where
-
     in_none : (codes : List ℕ) → AreBelow (length names) codes → has_name x (decode names codes) ≡ false
     in_none [] b = refl
     in_none (c ∷ codes) b = or_from (name_eq x (name_at names c)) (has_name x (decode names codes)) (not-has names c x none b.0) (in_none codes b.1)
@@ -132,7 +131,6 @@ declared-active names labels m x p at es d l a h some lt act = by (last-is (decl
 pub var-plain : (names labels : List Name) (x p : ℕ) (es : List Entry) → p ≡ last_where (declares x) es → (p ≡ 0 → ⊥) → (1 ≤ p) × IsPlain (slice_get (map (stmt_of names labels) es) (p - 1))
 var-plain names labels x p es h some = by (last-is (declares x) 0 1 es p (omega arith) (sym h))
   where
-
     plain : (kind : Kind) (l : Name) (ws : List Name) → is_var_kind kind ≡ true → IsPlain (Some (stmt_by kind l ws))
     plain Var l ws e = (refl, refl)
     plain Disj l ws e = cc

@@ -92,7 +92,6 @@ positions_from-push at [] s = ap (λ n. option_position (label_of s) n []) (plac
 positions_from-push at (t ∷ S) s =
     ap (option_position (label_of t) at) (positions_from-push (at + 1) S s ∙ ap (λ n. positions_from (at + 1) S ++ option_position (label_of s) n []) (place at (length S))) ∙ by (label_of t)
   where
-
     by : (o : Option Name) → option_position o at (positions_from (at + 1) S ++ option_position (label_of s) (at + suc (length S)) []) ≡ option_position o at (positions_from (at + 1) S) ++ option_position (label_of s) (at + suc (length S)) []
     by None = refl
     by (Some x) = refl

@@ -10,8 +10,8 @@ ghost use Rattle.frame.specs.Stored.{AreStored};
 ghost use Rattle.frame.specs.StoredEntries.{statements_of};
 ghost use Rattle.frame.specs.declared.apart.TheConstants.{PLACES};
 
-use crate::pairs::{Pairs, contains};
 use crate::at_position::links_at;
+use crate::pairs::{Pairs, contains};
 use crate::storage::Stock;
 
 /// From so many symbols on a list is long: then it is looked at by tables.

@@ -11,13 +11,13 @@ ghost use Rattle.frame.specs.Reading.{IsMeaning, IsPosition, AreLegal};
 ghost use Rattle.frame.specs.Cited.{IsCited, IsGathered};
 ghost use Rattle.entries.specs.Spans.{Extends};
 
+use crate::at_position::{cited_at, expr_at, gathered_at, meaning_at};
 use crate::draft::Draft;
 use crate::extend::{cut, extend, roll_back};
 use crate::gathered::Gathered;
 use crate::hypotheses::{gather_at, label_at, mandatory_at};
 use crate::meaning::Meaning;
 use crate::pairs::Pairs;
-use crate::at_position::{cited_at, expr_at, gathered_at, meaning_at};
 use crate::storage::Stock;
 use entries::{Cited, Entries, Links};
 use mm_read::Stmt;

@@ -10,6 +10,7 @@
 
 mod apart;
 mod assertion;
+mod at_position;
 mod declare;
 mod draft;
 mod enter;
@@ -26,7 +27,6 @@ mod one_frame;
 mod pairs;
 mod places;
 mod plain;
-mod at_position;
 mod shape;
 mod storage;
 mod undo;

@@ -11,10 +11,10 @@ ghost use Rattle.frame.specs.StoredCounts.{HasTwo};
 ghost use Rattle.frame.specs.StoredParts.{asked_at, asked_by, head_at, has_two, variable_at, variable_by, symbols_at, groups_by, placed};
 ghost use Rattle.frame.specs.StoredEntries.{statements_of};
 
+use crate::at_position::links_at;
 use crate::draft::Draft;
 use crate::mandatory::{add_essentials, are_few, put_floats};
 use crate::places::Places;
-use crate::at_position::links_at;
 use crate::storage::Stock;
 use entries::span::between;
 use entries::{BufferPart, EntryRef, Hypothesis, Kind, NO_HEAD};

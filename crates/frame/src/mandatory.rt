@@ -7,8 +7,8 @@ ghost use Rattle.frame.specs.Stored.{AreStored};
 ghost use Rattle.frame.specs.StoredHypotheses.{Ascends, IsLooked, inserted, with_all, with_float, with_floats, with_essentials};
 ghost use Rattle.frame.specs.StoredEntries.{floats, last_where, statements_of};
 
-use crate::places::Places;
 use crate::at_position::{is_active_at, links_at};
+use crate::places::Places;
 use crate::storage::Stock;
 use std::alloc::AllocError;
 

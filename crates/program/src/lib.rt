@@ -9,12 +9,12 @@
 mod answers;
 mod command_line;
 mod database;
-mod served_nodes;
 mod play;
 mod proofs;
 mod refusal;
 mod script_input;
 mod serve;
+mod served_nodes;
 mod streams;
 
 pub use command_line::run;

@@ -6,8 +6,8 @@ ghost use Rattle.nodes.specs.Desk.{IsListed, IsStatus};
 ghost use Rattle.printed.specs.Printed.{list_text};
 
 use crate::answers::{ANSWER_ROOM, answer_bytes};
-use crate::served_nodes::{Nodes, NodesDesk, start_nodes, stop_nodes};
 use crate::script_input::{print_unread, read_script};
+use crate::served_nodes::{Nodes, NodesDesk, start_nodes, stop_nodes};
 use crate::streams::{print, print_no_memory};
 use commands::WorkerCount;
 use library::Verdict;

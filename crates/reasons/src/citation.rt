@@ -15,7 +15,7 @@ ghost use Rattle.reasons.specs.declared.state.TheConstants.{WEIGHT_LIMIT};
 use crate::clash::find_clash;
 use crate::images::{Image, apply, read_images};
 use crate::reason::Fault;
-use crate::state::{WEIGHT_LIMIT, State};
+use crate::state::{State, WEIGHT_LIMIT};
 use entries::{Cited, Hypothesis};
 use frame::{Frames, Gathered, Meaning};
 use std::alloc::{AllocError, Global};

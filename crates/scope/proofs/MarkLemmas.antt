@@ -107,7 +107,6 @@ pub all-has : (p : Name → Bool) (x : Name) (xs : List Name) → list_all p xs 
 all-has p x [] h k = cc
 all-has p x (y ∷ xs) h k = by (name_eq x y) refl (and_parts (p y) (list_all p xs) h) k (all-has p x xs)
   where
-
     by : (b : Bool) → name_eq x y ≡ b → (p y ≡ true) × (list_all p xs ≡ true) → (b || has_name x xs) ≡ true → (list_all p xs ≡ true → has_name x xs ≡ true → p x ≡ true) → p x ≡ true
     by true e h k rest = ap p (same_name x y e) ∙ h.0
     by false e h k rest = rest h.1 k
@@ -150,7 +149,6 @@ can_push-names names active (w ∷ ws) known differ apart =
     ∙ (ap (λ s. can_push s (numbers_in names ws)) (sym (map-append (number_in names) active (w ∷ [])))
     ∙ can_push-names names (active ++ w ∷ []) ws (λ x h. known x (later x h)) d.1 (λ x h. has_name-append x active (w ∷ []) ∙ (ap (λ b. b || (name_eq x w || false)) (apart x (later x h)) ∙ or_false (name_eq x w) ∙ other x h d.0)))
   where
-
     later : (x : Name) → has_name x ws ≡ true → (name_eq x w || has_name x ws) ≡ true
     later x h = by (name_eq x w) h
       where

@@ -77,7 +77,6 @@ pub numbers-has : (names : List Name) (x : Name) (xs : List Name) → has_name x
 numbers-has names x [] h = refl
 numbers-has names x (y ∷ xs) h = ap (λ b. b || list_any (λ n. n == number_in names x) (numbers_in names xs)) (one (name_eq x y) refl) ∙ ap (λ r. name_eq x y || r) (numbers-has names x xs h)
   where
-
     one : (b : Bool) → name_eq x y ≡ b → (number_in names y == number_in names x) ≡ b
     one true e = eq-eqb (number_in names y) (number_in names x) (ap (number_in names) (sym (same_name x y e)))
     one false e = numbers_apart (number_in names y) (number_in names x) _ refl (λ k. true≢false (sym (number_in-same x y names h (sym k)) ∙ (name_eq-comm y x ∙ e)))

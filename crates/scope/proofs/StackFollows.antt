@@ -139,7 +139,6 @@ later-close : (S M T : Database) → S ≡ M ++ T → is_closed M ≡ true → s
 later-close S M T e closed below all some =
     below-deficit 0 (T ++ Close ∷ []) (omega (arith, deficit-close T, no_deficit T below, balance))
   where
-
     balance : 1 ≤ left_open T
     balance = omega (
       arith,

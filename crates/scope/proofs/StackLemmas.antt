@@ -19,7 +19,6 @@ pub no_member : (xs : List ℕ) (n : ℕ) → ((k : ℕ) → slice_get xs k ≡ 
 no_member [] n none = refl
 no_member (x ∷ xs) n none = by (x == n) refl (no_member xs n (λ k h. none (suc k) h))
   where
-
     by : (b : Bool) → (x == n) ≡ b → list_any (λ m. m == n) xs ≡ false → (b || list_any (λ m. m == n) xs) ≡ false
     by true e rest = absurd (none 0 (ap Some (eqb-true x n e)))
     by false e rest = rest

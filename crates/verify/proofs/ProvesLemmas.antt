@@ -54,7 +54,6 @@ module _ (S : Database) (at : ℕ) (s : Stmt) (tokens : List Name) (provable : I
         → IfOk r (λ answer. Says answer (Proves S at tokens))
     read-proves {E = E} b e is long r says = by r says
       where
-
         apart : share_label (mandatory_labels S at s) heading.listed ≡ false
         apart = ap (share_label (mandatory_labels S at s)) (sym listed-is) ∙ not-true (share_label (mandatory_labels S at s) (take count words)) (sym is ∙ e)
 
