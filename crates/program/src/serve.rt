@@ -24,9 +24,6 @@ use synod::Weights;
 /// How often `settle` asks.
 const MOST_ASKS: u32 = 10_000_000;
 
-/// How often `settle` lets other threads go on between two asks, at most: who asks takes the node's lock.
-const MOST_TURNS: u32 = 16;
-
 /// Reads a script, starts the nodes, prints what each line answers, and stops the nodes; the answer is the exit status. Every
 /// thread is joined, also where an answer cannot be written.
 pub fn serve<R: Threads + Wait + Copy + Send + Sync + Drop + 'static, I: Read, O: Write>(
@@ -159,19 +156,12 @@ fn settled<R: Wait>(rt: &R, desk: &NodesDesk, at: EntryAt) -> Result<Option<Verd
     ensures no_node { desk.now ≤ at.node → result ≡ Err NoNode }
     ensures only_apart { at.node < desk.now → IsOkUnless result Apart }
 {
-    for ask in 1..MOST_ASKS {
+    for _ask in 1..MOST_ASKS {
         let verdict = status(rt, desk, at)?;
         if verdict.is_some() {
             return Ok(verdict);
         }
-        give_turns(ask.min(MOST_TURNS));
-    }
-    status(rt, desk, at)
-}
-
-/// Lets other threads go on, so often.
-fn give_turns(turns: u32) {
-    for _turn in 0..turns {
         thread::yield_now();
     }
+    status(rt, desk, at)
 }

@@ -37,9 +37,9 @@ means labels marks (suc n) word row items some within is rest = by (nat_lt n (le
 -- ---- sound: the numbers read are those of a row
 
 -- the letters `before` of a word that is begun come to `digits`
-record Begun (before : Name) (digits : ℕ) : Type 0 where
-  counts : (word : Name) → number_of (before ++ word) ≡ number_from digits word
-  none : digits ≡ 0 → before ≡ []
+pub record Begun (before : Name) (digits : ℕ) : Type 0 where
+  pub counts : (word : Name) → number_of (before ++ word) ≡ number_from digits word
+  pub none : digits ≡ 0 → before ≡ []
 
 pub begun-none : Begun [] 0
 begun-none = record { counts = λ word. refl; none = λ e. refl }
@@ -53,9 +53,9 @@ begun-more before digits letter begun first =
     }
 
 pub record ReadRow (labels : List Name) (marks : ℕ) (before : Name) (letters : List ℕ) (numbers : List ℕ) : Type 0 where
-  row : List Name
-  whole : before ++ letters ≡ joined row
-  means : AreItems labels marks row (items_of labels numbers)
+  pub row : List Name
+  pub whole : before ++ letters ≡ joined row
+  pub means : AreItems labels marks row (items_of labels numbers)
 
 option_map-some : {A B : Type 0} (f : A → B) (o : Option A) (y : B) → option_map f o ≡ Some y → (x : A) × (o ≡ Some x) × (f x ≡ y)
 option_map-some f None y h = absurd (none-some y h)

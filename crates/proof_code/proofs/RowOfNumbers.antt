@@ -38,9 +38,9 @@ numbers_from-word limit d number (letter ∷ word) rest h = by (numbers_from-wor
 
 -- the numbers of a row, and its items from them
 pub record RowRead (labels : List Name) (limit : ℕ) (letters : List ℕ) (items : List Item) : Type 0 where
-  numbers : List ℕ
-  read : numbers_from limit 0 letters ≡ Some numbers
-  are : items_of labels numbers ≡ items
+  pub numbers : List ℕ
+  pub read : numbers_from limit 0 letters ≡ Some numbers
+  pub are : items_of labels numbers ≡ items
 
 with_number-within : (limit number : ℕ) (numbers : List ℕ) (rest : Option (List ℕ)) → number ≤ limit → rest ≡ Some numbers → with_number limit number rest ≡ Some (number ∷ numbers)
 with_number-within limit number numbers rest within e =
