@@ -1,6 +1,7 @@
 -- Reading an entry of the storage, and the position of a label.
 use Rattle.std.specs.Prelude.{◌≡◌, ℕ, zero, suc, ◌+◌, ◌-◌, ◌<◌, ◌≤◌, true, false, ◌||◌, List, [], ◌∷◌, length, map, get_or, slice_get, Option, Some, None, refl}
 use Rattle.std.proofs.Common.{sym, ◌∙◌, ap, subst, arith}
+use Rattle.std.proofs.lemmas.Option.{same_Some}
 use Rattle.mm_lex.specs.Alphabet.{Name}
 use Rattle.mm_read.specs.declared.stmt.Stmt.{Stmt}
 use Rattle.mm_read.specs.Statements.{Database}
@@ -145,3 +146,7 @@ entry-assertion names labels e = by e.kind
     by Disj h = absurd h
     by Float h = absurd h
     by Ess h = absurd h
+
+-- the entry read is that of the statement
+pub is-entry : (names labels : List Name) (es : List Entry) (at : ℕ) (e : Entry) (s : Stmt) → 1 ≤ at → slice_get es (at - 1) ≡ Some e → stmt_at (map (stmt_of names labels) es) at ≡ Some s → stmt_of names labels e ≡ s
+is-entry names labels es at e s one g h = same_Some _ _ (sym (get-stmt names labels es (at - 1) e g) ∙ (sym (stmt-at-suc (map (stmt_of names labels) es) at one) ∙ h))

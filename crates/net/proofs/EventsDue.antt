@@ -84,18 +84,18 @@ still_same (c ∷ cs) = (refl, same_room c, still_same cs)
 
 pub still_set : {V : Type 0} (cs : List (Core V)) (k : ℕ) (c d : Core V) → c ≡ get_or cs k c → d.node ≡ c.node → HasAtLeast c d → AreStill cs (set cs k d)
 still_set [] k c d is node room = tt
-pub still_set {V} (x ∷ cs) zero c d is node room = (node ∙ ap (λ (y : Core V). y.node) is, subst (λ (y : Core V). HasAtLeast y d) is room, still_same cs)
+still_set {V} (x ∷ cs) zero c d is node room = (node ∙ ap (λ (y : Core V). y.node) is, subst (λ (y : Core V). HasAtLeast y d) is room, still_same cs)
 still_set (x ∷ cs) (suc k) c d is node room = (refl, same_room x, still_set cs k c d is node room)
 
 pub nodes_still : {V : Type 0} (cs ds : List (Core V)) → AreStill cs ds → nodes_of ds ≡ nodes_of cs
 nodes_still [] [] h = refl
-pub nodes_still {V} (c ∷ cs) (d ∷ ds) h = ap (λ (n : Node V). n ∷ nodes_of ds) h.0 ∙ ap (λ (ns : List (Node V)). c.node ∷ ns) (nodes_still cs ds h.2)
+nodes_still {V} (c ∷ cs) (d ∷ ds) h = ap (λ (n : Node V). n ∷ nodes_of ds) h.0 ∙ ap (λ (ns : List (Node V)). c.node ∷ ns) (nodes_still cs ds h.2)
 nodes_still [] (d ∷ ds) h = elim h [ ]
 nodes_still (c ∷ cs) [] h = elim h [ ]
 
 pub nodes_found : {V : Type 0} (cs : List (Core V)) (k : ℕ) (c : Core V) → slice_get cs k ≡ Some c → slice_get (nodes_of cs) k ≡ Some c.node
 nodes_found [] k c at = cc
-pub nodes_found {V} (x ∷ cs) zero c at = let same : x ≡ c = cc in ap (λ (y : Core V). let o : Option (Node V) = Some y.node in o) same
+nodes_found {V} (x ∷ cs) zero c at = let same : x ≡ c = cc in ap (λ (y : Core V). let o : Option (Node V) = Some y.node in o) same
 nodes_found (x ∷ cs) (suc k) c at = nodes_found cs k c at
 
 -- the one at a place

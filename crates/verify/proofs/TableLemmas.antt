@@ -1,5 +1,5 @@
 -- What a label names, found once.
-use Rattle.std.specs.Prelude.{◌≡◌, ℕ, zero, suc, ◌<◌, Bool, true, false, nat_lt, List, [], ◌∷◌, ◌++◌, length, map, get_or, Some, refl}
+use Rattle.std.specs.Prelude.{◌≡◌, ℕ, zero, suc, ◌-◌, ◌<◌, Bool, true, false, nat_lt, List, [], ◌∷◌, ◌++◌, length, map, get_or, Some, refl}
 use Rattle.std.proofs.Common.{sym, ◌∙◌, ap, subst, arith, length-append, Bor}
 use Rattle.std.proofs.lemmas.List.{get_or_default}
 use Rattle.mm_lex.specs.Alphabet.{Name}
@@ -72,3 +72,7 @@ pub entry_at : (S : Database) (at : ℕ) (labels : List Name) (table : List Entr
 entry_at S at labels table k d are h =
     let c = are.count in
     subst (IsEntry S at (get_or labels k [])) (get_or_default table k Nothing d h) (are.each k (omega (arith, h, c)))
+
+-- a number that is not zero is that behind the one before it
+pub suc_back : (n : ℕ) → (n ≡ 0 → ⊥) → n ≡ suc (n - 1)
+suc_back n h = omega (arith, h)

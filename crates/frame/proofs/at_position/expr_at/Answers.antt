@@ -1,20 +1,15 @@
 use Rattle.std.proofs.Common.{◌≡◌, ◌∙◌, ap, sym, subst, length}
 use Rattle.std.proofs.lemmas.List.{length-map}
 use Rattle.std.specs.Prelude.{slice_get, Some, ◌≤◌, ◌-◌, List, ℕ, map}
-use Rattle.std.proofs.lemmas.Option.{same_Some}
 use Rattle.mm_lex.specs.Alphabet.{Name}
 use Rattle.mm_read.specs.declared.stmt.Stmt.{Stmt}
 use Rattle.scope.specs.Active.{stmt_at, expr_of}
 use Rattle.entries.specs.Entries.{Entry}
 use Rattle.frame.specs.StoredEntries.{stmt_of}
-use Rattle.frame.proofs.StoredReading.{HasExpr, get-stmt, stmt-at-suc, two-of, entry-expr, entry-none, none-of}
+use Rattle.frame.proofs.StoredReading.{HasExpr, get-stmt, stmt-at-suc, two-of, entry-expr, entry-none, none-of, is-entry}
 use Rattle.frame.proofs.StoredOneMore.{numbered-at}
 use Rattle.entries.specs.Entries.{seen}
 use Rattle.frame.proofs.at_position.expr_at.Goals as goal
-
--- the entry read is that of the statement
-pub is-entry : (names labels : List Name) (es : List Entry) (at : ℕ) (e : Entry) (s : Stmt) → 1 ≤ at → slice_get es (at - 1) ≡ Some e → stmt_at (map (stmt_of names labels) es) at ≡ Some s → stmt_of names labels e ≡ s
-is-entry names labels es at e s one g h = same_Some _ _ (sym (get-stmt names labels es (at - 1) e g) ∙ (sym (stmt-at-suc (map (stmt_of names labels) es) at one) ∙ h))
 
 pub returns-in-Float-clause-same : goal.returns-in-Float-clause-same
 returns-in-Float-clause-same c = λ s h.

@@ -3,10 +3,10 @@ use Rattle.std.proofs.lemmas.List.{length-map}
 use Rattle.std.specs.Prelude.{Some, ◌-◌}
 use Rattle.scope.specs.Active.{label_of}
 use Rattle.frame.specs.StoredEntries.{stmt_of}
+use Rattle.frame.proofs.StoredReading.{is-entry}
 use Rattle.frame.proofs.LabelLemmas.{label-below-at, label-below, label-is, label-none}
 use Rattle.entries.specs.Entries.{seen}
 use Rattle.frame.proofs.hypotheses.label_at.Goals as goal
-use Rattle.frame.proofs.at_position.expr_at.Answers.{is-entry}
 
 pub name-requires : goal.name-requires
 name-requires c =

@@ -6,7 +6,7 @@ use Rattle.verify.proofs.GrowthLemmas.{item-cite, item-recall}
 use Rattle.steps.specs.Drafted.{CanDo, IsDone}
 use Rattle.steps.proofs.ItemLemmas.{position-there}
 use Rattle.steps.proofs.noting.note.Goals as goal
-use Rattle.verify.proofs.citation.step.Answers.{suc_back}
+use Rattle.verify.proofs.TableLemmas.{suc_back}
 
 pub returns-then-number-eq0-clause-done : goal.returns-then-number-eq0-clause-done
 returns-then-number-eq0-clause-done c =

@@ -1,11 +1,8 @@
 use Rattle.std.proofs.Common.{◌≡◌, ℕ, ◌-◌, [], get_or, arith, refl}
 use Rattle.std.specs.Prelude.{suc}
 use Rattle.verify.proofs.KnownLemmas.{mark-on, has-on, recall-on, cite-on}
-use Rattle.verify.proofs.TableLemmas.{entry_at}
+use Rattle.verify.proofs.TableLemmas.{entry_at, suc_back}
 use Rattle.verify.proofs.citation.step.Goals as goal
-
-pub suc_back : (n : ℕ) → (n ≡ 0 → ⊥) → n ≡ suc (n - 1)
-suc_back n h = omega (arith, h)
 
 pub cite-requires-clause-entry : goal.cite-requires-clause-entry
 cite-requires-clause-entry c = (
