@@ -1,6 +1,6 @@
 -- The table of the classes of bytes.
-use Rattle.std.specs.Prelude.{◌≡◌, ℕ, zero, suc, ◌+◌, ◌<◌, ◌≤◌, Bool, true, false, cond, ◌==◌, List, [], ◌∷◌, length, get_or, refl}
-use Rattle.std.proofs.Common.{sym, ◌∙◌, ap, arith}
+use Rattle.std.specs.Prelude.{◌≡◌, ℕ, zero, suc, ◌+◌, ◌<◌, ◌≤◌, Bool, true, false, cond, ◌==◌, List, [], ◌∷◌, get_or, refl}
+use Rattle.std.proofs.Common.{◌∙◌, ap, arith}
 use Rattle.mm_lex.specs.Alphabet.{is_label_byte}
 use Rattle.proof_code.specs.Listing.{class_of}
 use Rattle.proof_code.specs.declared.listing.TheConstants.{CLASSES}

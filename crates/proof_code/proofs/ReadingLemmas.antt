@@ -1,5 +1,5 @@
 -- A compressed proof that is read with no mandatory label at hand.
-use Rattle.std.specs.Prelude.{◌≡◌, ℕ, zero, suc, ◌+◌, ◌-◌, ◌*◌, ◌<◌, ◌≤◌, true, false, cond, ◌==◌, nat_le, List, [], ◌∷◌, ◌++◌, length, drop, slice_index_or, Option, Some, None, IsSomeAnd, refl}
+use Rattle.std.specs.Prelude.{◌≡◌, ℕ, zero, suc, ◌+◌, ◌-◌, ◌*◌, ◌<◌, ◌≤◌, Bool, true, false, cond, ◌==◌, ◌^◌, nat_le, List, [], ◌∷◌, ◌++◌, length, drop, slice_index_or, Option, Some, None, IsSomeAnd, refl}
 use Rattle.std.specs.List.{list_all}
 use Rattle.std.proofs.Common.{sym, ◌∙◌, ap, subst, arith, true≢false, length-append}
 use Rattle.std.proofs.lemmas.Bool.Decides.{nat_tests}
@@ -11,7 +11,7 @@ use Rattle.mm_lex.specs.Words.{spaced, is_word}
 use Rattle.proof_code.specs.declared.item.Item.{Item}
 use Rattle.proof_code.specs.Letters.{is_first, is_last}
 use Rattle.proof_code.specs.Numbers.{items_of}
-use Rattle.proof_code.specs.Reading.{before_rest, Goes, share_label, IsHeading}
+use Rattle.proof_code.specs.Reading.{before_rest, Goes, IsLetter, share_label, IsHeading}
 use Rattle.proof_code.specs.Text.{Header, header_of, letters_of, starts_with_mark, numbers_from}
 use Rattle.proof_code.specs.Writes.{begin, finish, WritesCompressed}
 use Rattle.proof_code.proofs.HeaderLemmas.{IsHeader, header-read, read-header}
@@ -63,19 +63,39 @@ module _ (labels : ℕ) (text : List ℕ) (limit digits : ℕ) (numbers : List �
       left end ∙ ap (λ t. before_rest numbers (cond t (Some []) None)) test
 
 -- a letter U to Y with which the word comes to more than the limit
-pub over-first : (limit digits letter : ℕ) → 85 ≤ letter → letter ≤ 89 → limit < 5 * digits + (letter - 84) → (text : List ℕ) → numbers_from limit digits (letters_of (letter ∷ text)) ≡ None
+over-first : (limit digits letter : ℕ) → 85 ≤ letter → letter ≤ 89 → limit < 5 * digits + (letter - 84) → (text : List ℕ) → numbers_from limit digits (letters_of (letter ∷ text)) ≡ None
 over-first limit digits letter low high over text =
     let visible : (letter == 32) ≡ false = grind (arith, nat_tests) in
     rw visible (numbers_from-first limit digits letter (letters_of text) (is_first-true letter low high) (omega arith))
 
 -- a letter A to T with which it does
-pub over-last : (limit digits letter : ℕ) → 65 ≤ letter → letter ≤ 84 → limit < 20 * digits + (letter - 64) → (text : List ℕ) → numbers_from limit digits (letters_of (letter ∷ text)) ≡ None
+over-last : (limit digits letter : ℕ) → 65 ≤ letter → letter ≤ 84 → limit < 20 * digits + (letter - 64) → (text : List ℕ) → numbers_from limit digits (letters_of (letter ∷ text)) ≡ None
 over-last limit digits letter low high over text =
     let visible : (letter == 32) ≡ false = grind (arith, nat_tests) in
     let first : is_first letter ≡ false = grind (arith, nat_tests) in
     let last : is_last letter ≡ true = grind (arith, nat_tests) in
     let test : nat_le (20 * digits + (letter - 64)) limit ≡ false = grind (arith, nat_tests) in
     rw (visible, first, last, test) refl
+
+-- a letter A to Z with which it does: a mark does so behind digits
+pub over_limit : (limit digits letter value : ℕ) (ends : Bool) → IsLetter letter digits value ends → 65 ≤ letter → letter ≤ 90 → limit < value → (text : List ℕ) → numbers_from limit digits (letters_of (letter ∷ text)) ≡ None
+over_limit limit digits letter value ends is low high over text = by (nat_le letter 84) refl (letter == 90) refl
+  where
+    by : (s : Bool) → nat_le letter 84 ≡ s → (t : Bool) → (letter == 90) ≡ t → numbers_from limit digits (letters_of (letter ∷ text)) ≡ None
+    by true e t f =
+        let last : letter ≤ 84 = grind (arith, nat_tests) in
+        let value_is : value ≡ 20 * digits + (letter - 64) = (is.last last).0 in
+        over-last limit digits letter low last (omega arith) text
+    by false e false f =
+        let first : 85 ≤ letter = grind (arith, nat_tests) in
+        let before : letter ≤ 89 = grind (arith, nat_tests) in
+        let value_is : value ≡ 5 * digits + (letter - 84) = (is.first first before).0 in
+        over-first limit digits letter first before (omega arith) text
+    by false e true f =
+        let mark : letter ≡ 90 = grind (arith, nat_tests) in
+        let value_is : value ≡ 2 ^ 32 * digits = (is.mark mark).0 in
+        let test : (digits == 0) ≡ false = grind (arith, nat_tests) in
+        rw (mark, test) refl
 
 -- ---- the whole proof
 

@@ -1,7 +1,45 @@
 //! The letters of a compressed proof, read where there is room for a number for each.
+//!
+//! Which letter comes next cannot be foreseen, so no branch depends on it: what a letter is chooses values alone, and the
+//! one test of each is whether a number is over the limit.
 ghost use Rattle.std.specs.Prelude.{◌≡◌, ◌+◌, ◌^◌, ◌<◌, ◌≤◌, ◌∷◌, ℕ, List, length, take, None, Some, IfNone, IfSome};
 ghost use Rattle.proof_code.specs.Text.{letters_of, numbers_from};
-ghost use Rattle.proof_code.specs.Reading.{Goes};
+ghost use Rattle.proof_code.specs.Reading.{Goes, IsLetter};
+
+/// How often the digits before a mark count: no mark stands behind digits, and one that does comes to more than any limit.
+const BEYOND: usize = 1 << 32;
+
+/// What a letter makes of the digits before it.
+#[derive(Clone, Copy)]
+struct Letter {
+    /// What they come to with it; a mark comes to 0, and behind digits to more than any limit.
+    value: usize,
+    /// Whether it ends a number, as a mark does.
+    ends: bool,
+}
+
+/// What a letter A to Z makes of the digits before it.
+#[inline(always)]
+fn letter_behind(byte: u8, digits: usize) -> Letter
+    requires first { 65 ≤ byte }
+    requires last { byte ≤ 90 }
+    requires small { digits < 2 ^ 32 }
+    ensures { IsLetter byte digits result.value result.ends }
+{
+    let letter = usize::from(byte - 64);
+    let ends = byte < b'U' || byte > b'Y';
+    let last = if byte < b'Z' {
+        20 * digits + letter
+    } else {
+        BEYOND * digits
+    };
+    let value = if ends {
+        last
+    } else {
+        5 * digits + (letter - 20)
+    };
+    Letter { value, ends }
+}
 
 /// What stands between two bytes of the letters.
 #[derive(Clone, Copy)]
@@ -17,8 +55,8 @@ impl Word {
     /// Goes over one byte, and tells how many numbers are written then; `None` where the letters write nothing with it,
     /// whatever follows.
     ///
-    /// A number is written at `count` for each letter, and counts where the letter ends a word: so what the next letter
-    /// is makes no difference to the way taken.
+    /// What the word comes to is written at `count` for each letter, and counts where the letter ends a number. Only a mark
+    /// comes to 0.
     #[inline(always)]
     fn read(&mut self, byte: u8, numbers: &mut [u32], count: usize) -> Option<usize>
         requires room { count < length numbers.old }
@@ -28,43 +66,17 @@ impl Word {
         ensures limit { self.new.limit ≤ self.old.limit + 1 }
         ensures count { IfSome result (λ more. more ≤ count + 1) }
     {
-        if byte < b'A' {
+        if byte < b'A' || byte > b'Z' {
             return if byte == b' ' { Some(count) } else { None };
         }
-        if byte > b'Y' {
-            return self.mark(byte, numbers, count);
-        }
-        let letter = usize::from(byte - 64);
-        let step = letter.saturating_sub(20);
-        let five = 5 * self.digits;
-        let ends = letter <= 20;
-        let more = five + step;
-        let last = 4 * five + letter;
-        let number = if ends { last } else { more };
-        if number > self.limit {
+        let letter = letter_behind(byte, self.digits);
+        if letter.value > self.limit {
             return None;
         }
-        numbers[count] = number as u32;
-        self.digits = if ends { 0 } else { more };
-        Some(count + usize::from(ends))
-    }
-
-    /// Goes over a byte behind the letters U to Y: a mark is written as 0.
-    fn mark(&mut self, byte: u8, numbers: &mut [u32], count: usize) -> Option<usize>
-        requires room { count < length numbers.old }
-        requires small { self.old.limit + 1 < 2 ^ 32 }
-        requires behind { 90 ≤ byte }
-        ensures some { IfSome result (λ more. Goes self.old.limit self.old.digits byte (take count numbers.old) self.new.limit self.new.digits (take more numbers.new)) }
-        ensures none { IfNone result ((text : List ℕ) → numbers_from self.old.limit self.old.digits (letters_of (byte ∷ text)) ≡ None) }
-        ensures limit { self.new.limit ≤ self.old.limit + 1 }
-        ensures count { IfSome result (λ more. more ≤ count + 1) }
-    {
-        if byte > b'Z' || self.digits != 0 {
-            return None;
-        }
-        self.limit += 1;
-        numbers[count] = 0;
-        Some(count + 1)
+        numbers[count] = letter.value as u32;
+        self.digits = if letter.ends { 0 } else { letter.value };
+        self.limit += usize::from(letter.value == 0);
+        Some(count + usize::from(letter.ends))
     }
 }
 

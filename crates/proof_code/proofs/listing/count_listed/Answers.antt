@@ -1,7 +1,7 @@
-use Rattle.std.proofs.Common.{arith, ap, sym, ◌∙◌, ◌+◌, subst}
+use Rattle.std.proofs.Common.{arith, ◌+◌, subst}
 use Rattle.std.specs.Prelude.{◌≡◌, ◌==◌, true, drop}
 use Rattle.proof_code.specs.Listing.{more_labels, counted}
-use Rattle.proof_code.proofs.ListingLemmas.{counted-more, counted-end}
+use Rattle.proof_code.proofs.ListingLemmas.{counted-more}
 use Rattle.proof_code.proofs.listing.count_listed.Goals as goal
 
 pub loop-index-preserved : goal.loop-index-preserved
