@@ -5,6 +5,7 @@ pub mod WalkLemmas
 pub mod UsersLemmas
 pub mod MayCiteLemmas
 pub mod MarksLemmas
+pub mod MeetingLemmas
 pub mod FrontLemmas
 pub mod LaterLemmas
 pub mod GoodLemmas

@@ -24,31 +24,32 @@ get-past [] k d h = refl
 get-past (x ∷ xs) zero d h = absurd (omega (arith, h))
 get-past (x ∷ xs) (suc k) d h = get-past xs k d (omega (arith, h))
 
+-- one more place
+pub places-end : (S : Database) (ls : List Name) (es : List (Option ℕ)) (label : Name) (o : Option ℕ) → ArePlaces S ls es → IsPosition S label o → ArePlaces S (ls ++ label ∷ []) (es ++ o ∷ [])
+places-end S ls es label o a is = record { count = counted; each = λ k h. each k h (nat_lt k (length ls)) refl }
+  where
+    counted : length (es ++ o ∷ []) ≡ length (ls ++ label ∷ [])
+    counted = let p = length-append es (o ∷ []) in let q = length-append ls (label ∷ []) in let c = a.count in omega (arith, p, q, c)
+
+    each : (k : ℕ) → k < length (ls ++ label ∷ []) → (b : Bool) → nat_lt k (length ls) ≡ b → IsPosition S (get_or (ls ++ label ∷ []) k []) (get_or (es ++ o ∷ []) k None)
+    each k h true q =
+        let lt : k < length ls = grind (arith, q) in
+        let c = a.count in
+        subst (λ l. IsPosition S l (get_or (es ++ o ∷ []) k None)) (sym (get-front ls (label ∷ []) k [] lt))
+        (subst (IsPosition S (get_or ls k [])) (sym (get-front es (o ∷ []) k None (omega (arith, lt, c)))) (a.each k lt))
+    each k h false q =
+        let p = length-append ls (label ∷ []) in
+        let same : k ≡ length ls = grind (arith, q, h, p) in
+        let c = a.count in
+        subst (λ l. IsPosition S l (get_or (es ++ o ∷ []) k None)) (sym (get-last ls label k [] same))
+        (subst (IsPosition S label) (sym (get-last es o k None (same ∙ sym c))) is)
+
 -- one more label
 pub places-more : (S : Database) (labels : List (Bor Name)) (label : Bor Name) (places places' : List (Option ℕ)) (o : Option ℕ) → ArePlaces S (map (λ l. l.now) labels) places
     → places' ≡ places ++ o ∷ [] → IsPosition S label.now o → ArePlaces S (map (λ l. l.now) (labels ++ label ∷ [])) places'
 places-more S labels label places places' o are grown is =
     subst (λ ls. ArePlaces S ls places') (sym (map-append (λ l. l.now) labels (label ∷ [])))
-    (subst (ArePlaces S (map (λ l. l.now) labels ++ label.now ∷ [])) (sym grown) (more (map (λ l. l.now) labels) places are))
-  where
-    more : (ls : List Name) (es : List (Option ℕ)) → ArePlaces S ls es → ArePlaces S (ls ++ label.now ∷ []) (es ++ o ∷ [])
-    more ls es a = record { count = counted; each = λ k h. each k h (nat_lt k (length ls)) refl }
-      where
-        counted : length (es ++ o ∷ []) ≡ length (ls ++ label.now ∷ [])
-        counted = let p = length-append es (o ∷ []) in let q = length-append ls (label.now ∷ []) in let c = a.count in omega (arith, p, q, c)
-
-        each : (k : ℕ) → k < length (ls ++ label.now ∷ []) → (b : Bool) → nat_lt k (length ls) ≡ b → IsPosition S (get_or (ls ++ label.now ∷ []) k []) (get_or (es ++ o ∷ []) k None)
-        each k h true q =
-            let lt : k < length ls = grind (arith, q) in
-            let c = a.count in
-            subst (λ l. IsPosition S l (get_or (es ++ o ∷ []) k None)) (sym (get-front ls (label.now ∷ []) k [] lt))
-            (subst (IsPosition S (get_or ls k [])) (sym (get-front es (o ∷ []) k None (omega (arith, lt, c)))) (a.each k lt))
-        each k h false q =
-            let p = length-append ls (label.now ∷ []) in
-            let same : k ≡ length ls = grind (arith, q, h, p) in
-            let c = a.count in
-            subst (λ l. IsPosition S l (get_or (es ++ o ∷ []) k None)) (sym (get-last ls label.now k [] same))
-            (subst (IsPosition S label.now) (sym (get-last es o k None (same ∙ sym c))) is)
+    (subst (ArePlaces S (map (λ l. l.now) labels ++ label.now ∷ [])) (sym grown) (places-end S (map (λ l. l.now) labels) places label.now o are is))
 
 -- ---- one mark
 

@@ -1,7 +1,7 @@
 -- What a proof cites is a mandatory hypothesis, or what a token before `)` names.
-use Rattle.std.specs.Prelude.{◌≡◌, ◌⊎◌, ℕ, zero, suc, ◌+◌, ◌<◌, Bool, true, false, IsTrue, ◌||◌, if◌then◌else◌, List, [], ◌∷◌, ◌++◌, length, map, get_or, Option, Some, None, slice_get, refl}
+use Rattle.std.specs.Prelude.{◌≡◌, ◌⊎◌, ℕ, zero, suc, ◌+◌, Bool, true, false, ◌||◌, if◌then◌else◌, List, [], ◌∷◌, ◌++◌, map, Option, Some, None, slice_get, refl}
 use Rattle.std.specs.List.{list_all, list_any}
-use Rattle.std.proofs.Common.{sym, ◌∙◌, ap, subst, arith, inl, inr, true≢false, append-nil}
+use Rattle.std.proofs.Common.{sym, ◌∙◌, ap, subst, inl, inr, true≢false, append-nil}
 use Rattle.std.proofs.lemmas.Slice.Eq.{bytes_eq-Decides}
 use Rattle.std.proofs.lemmas.Bool.{or_right, and_parts}
 use Rattle.mm_lex.specs.Alphabet.{Name, name_eq, has_name, is_label}
@@ -14,11 +14,10 @@ use Rattle.frame.specs.Citations.{Carries, is_hypothesis_kind}
 use Rattle.frame.specs.Reading.{HasLabelsOnce, IsPosition}
 use Rattle.proof_code.specs.declared.item.Item.{Item}
 use Rattle.proof_code.specs.declared.item.Item.TheVariants.{Cite, Recall, Mark}
-use Rattle.proof_code.specs.Writes.{AreItems, Writes, WritesCompressed, begin, finish}
+use Rattle.proof_code.specs.Writes.{AreItems, Writes, begin, finish}
 use Rattle.verify.specs.Proves.{label_or_none, mandatory_labels}
 use Rattle.verify.specs.Right.{IsProvable}
-use Rattle.library.specs.Uses.{HasItems, Cites}
-use Rattle.library.specs.Marks.{IsMarked, is_marked, listed_in, ListsNone, MeetsNothing, ProofMeets, NotesUser}
+use Rattle.library.specs.Marks.{IsMarked, is_marked, listed_in, ListsSome, MeetsNothing, ProofMeets, NotesUser}
 use Rattle.library.proofs.FrontLemmas.{IsHypothesisAt, AreHypothesesAt, hypotheses-at, hypotheses-bare}
 use Rattle.library.proofs.ItemsLemmas.{stands-bare}
 use Rattle.library.proofs.ProvingLemmas.{same-statement}
@@ -82,7 +81,7 @@ labels-listed (token ∷ labels) rest are k label e =
     by (suc k) e behind = or_right (name_eq label token) (has_name label (listed_in (labels ++ rest))) (behind k e)
 
 -- what an item cites is a mandatory label or stands before `)`
-cited-label : (tokens mandatory : List Name) (items : List Item) → Writes tokens mandatory items → (place : ℕ) (label : Name) → slice_get items place ≡ Some (Cite label)
+pub cited-label : (tokens mandatory : List Name) (items : List Item) → Writes tokens mandatory items → (place : ℕ) (label : Name) → slice_get items place ≡ Some (Cite label)
     → ((k : ℕ) × (slice_get mandatory k ≡ Some label)) ⊎ (has_name label (listed_in tokens) ≡ true)
 cited-label tokens mandatory items (inl packed) place label e =
     let w = packed.1.1 in
@@ -137,12 +136,38 @@ module _ (F : Database) (once : HasLabelsOnce F) (marks : List Bool) where
       ∙ (ap (has_name label) (listed-more token rest (ap (name_eq token) (sym is) ∙ goes_on))
       ∙ ap (λ b. b || has_name label (listed_in rest)) (other-label token place p none a s label m c)))
 
+  marked-of : (a : ℕ) → is_marked marks (Some a) ≡ true → IsMarked marks a
+  marked-of zero h = absurd (true≢false (sym h))
+  marked-of (suc k) h = h
+
+  -- a token that names something marked
+  pub lists-some : (tokens left rest : List Name) (token closing : Name) (place : Option ℕ) → left ≡ token ∷ rest → closing ≡ finish → name_eq token closing ≡ false → IsPosition F token place → is_marked marks place ≡ true
+      → ((a : ℕ) (s : Stmt) (label : Name) → IsMarked marks a → Carries F a s label → has_name label (listed_in tokens) ≡ has_name label (listed_in left))
+      → ListsSome F tokens marks
+  lists-some tokens left rest token closing place split is goes_on p one so_far = by place p one
+    where
+      by : (place : Option ℕ) → IsPosition F token place → is_marked marks place ≡ true → ListsSome F tokens marks
+      by None p one = absurd (true≢false (sym one))
+      by (Some a) p one =
+          let marked = marked-of a one in
+          record {
+            position = a;
+            stmt = p.0;
+            label = token;
+            marked = marked;
+            carries = p.1;
+            listed = so_far a p.0 token marked p.1
+                ∙ (ap (λ ts. has_name token (listed_in ts)) split
+                ∙ (ap (has_name token) (listed-more token rest (ap (name_eq token) (sym is) ∙ goes_on))
+                ∙ ap (λ b. b || has_name token (listed_in rest)) (name-same token)));
+          }
+
 hypothesis-there : (S : Database) (ps : List ℕ) (k i : ℕ) → slice_get ps k ≡ Some i → AreHypothesesAt S ps → IsHypothesisAt S i
 hypothesis-there S [] k i e h = absurd (let f = e in cc)
 hypothesis-there S (p ∷ ps) zero i e h = let same : p ≡ i = (let f = e in cc) in subst (IsHypothesisAt S) same h.0
 hypothesis-there S (p ∷ ps) (suc k) i e h = hypothesis-there S ps k i e h.1
 
-kind-labelled : (t : Stmt) → is_hypothesis_kind t ≡ true → label_of t ≡ Some (label_or_none (Some t))
+pub kind-labelled : (t : Stmt) → is_hypothesis_kind t ≡ true → label_of t ≡ Some (label_or_none (Some t))
 kind-labelled (Float label constant variable) h = refl
 kind-labelled (Ess label expr) h = refl
 kind-labelled Open h = absurd (let e = h in cc)

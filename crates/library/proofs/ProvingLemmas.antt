@@ -19,7 +19,7 @@ use Rattle.library.proofs.ItemsLemmas.{provable-bare}
 
 -- ---- items
 
-both : {P : Type 0} (b : Bool) → b ≡ true → b ≡ false → P
+pub both : {P : Type 0} (b : Bool) → b ≡ true → b ≡ false → P
 both b p q = absurd (let e : true ≡ false = sym p ∙ q in cc)
 
 -- what was found of the items
@@ -73,7 +73,7 @@ module _ (S F : Database) (at : ℕ) (s : Stmt) (same : F ≡ bares S) (provable
       none p.items (written-same p.stmt p.items (same-statement S at s p.stmt provable p.provable) p.written)
 
   -- a frame looks at no proof
-  labels-bare : (t : Stmt) → t ≡ bare s → mandatory_labels F at t ≡ mandatory_labels (bares S) at s
+  pub labels-bare : (t : Stmt) → t ≡ bare s → mandatory_labels F at t ≡ mandatory_labels (bares S) at s
   labels-bare t e =
       ap (mandatory_labels F at) e
       ∙ (ap (map (λ i. label_or_none (stmt_at F i))) (hypotheses-bare (before F at) s)

@@ -243,13 +243,6 @@ not-provable (Disj names) other h = let e = h in cc
 not-provable (Float label constant variable) other h = let e = h in cc
 not-provable (Ess label expr) other h = let e = h in cc
 
--- what was found of the proof
-pub notes-proof : (S F : Database) (all : Bool) (at : ℕ) (items : List Item) (old new : List Bool) (before after : List Name) (found : Bool) → F ≡ bares S → HasItems S at items
-    → (found ≡ true ↔ ItemsMeet F items old) → new ≡ mark (cond (found && all) (Some at) None) old → after ≡ before ++ cond found (label_or_none (stmt_at S at) ∷ []) [] → NotesUser S all at old new before after
-notes-proof S F all at items old new before after found same has meets marks labels =
-    let both = proof-meets S F same at old items has in
-    record { found = found; meets = ((λ e. both.0 (meets.0 e)), λ m. meets.1 (both.1 m)); marks = marks; labels = labels }
-
 -- one position of the walk, whose marks were lent
 pub search-step : (S F : Database) (all : Bool) (a p : ℕ) (marks lent marks' marks'' : List Bool) (labels labels' : List Name) → F ≡ bares S → Good S → HasLabelsOnce F → p < length S → lent ≡ marks
     → (length marks' ≡ length marks → marks'' ≡ marks') → IsSearched S all a p marks labels → NotesUser S all (p + 1) lent marks' labels labels' → IsSearched S all a (p + 1) marks'' labels'

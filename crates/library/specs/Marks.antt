@@ -1,7 +1,7 @@
 -- Which positions a walk down from a `$p` has marked.
 -- Source: none; for the private functions of `uses`.
 -- The marks are a list with one place for each position, the first for position 1.
-use Rattle.std.specs.Prelude.{◌≡◌, ◌↔◌, ◌⊎◌, ℕ, zero, suc, ◌<◌, ◌≤◌, Bool, true, false, List, [], ◌∷◌, ◌++◌, length, cond, ◌&&◌, if◌then◌else◌, Option, Some, None, slice_get, slice_index_or, slice_set}
+use Rattle.std.specs.Prelude.{◌≡◌, ◌↔◌, ◌⊎◌, ℕ, zero, suc, ◌<◌, ◌≤◌, Bool, true, false, List, [], ◌∷◌, ◌++◌, length, map, cond, ◌&&◌, if◌then◌else◌, Option, Some, None, slice_get, slice_index_or, slice_set}
 use Rattle.std.specs.List.{list_any}
 use Rattle.mm_lex.specs.Alphabet.{Name, name_eq, has_name}
 use Rattle.mm_read.specs.declared.stmt.Stmt.{Stmt}
@@ -13,7 +13,7 @@ use Rattle.frame.specs.Citations.{Carries}
 use Rattle.frame.specs.Reading.{IsPosition}
 use Rattle.proof_code.specs.declared.item.Item.{Item}
 use Rattle.proof_code.specs.declared.item.Item.TheVariants.{Cite}
-use Rattle.proof_code.specs.Writes.{finish}
+use Rattle.proof_code.specs.Writes.{finish, WritesCompressed}
 use Rattle.verify.specs.Proves.{label_or_none}
 use Rattle.library.specs.Uses.{Cites}
 
@@ -48,6 +48,12 @@ mark_items places (number ∷ numbers) marks = mark_items places numbers (mark (
 pub record ArePlaces (S : Database) (labels : List Name) (places : List (Option ℕ)) : Type 0 where
   pub count : length places ≡ length labels
   pub each : (k : ℕ) → k < length labels → IsPosition S (slice_index_or labels k []) (slice_index_or places k None)
+
+-- for each label, whether what it names is marked
+pub record AreWanted (S : Database) (labels : List Name) (marks wanted : List Bool) : Type 0 where
+  pub places : List (Option ℕ)
+  pub named : ArePlaces S labels places
+  pub tests : wanted ≡ map (is_marked marks) places
 
 -- an item cites the statement at a
 pub record ItemsCite (S : Database) (items : List Item) (a : ℕ) : Type 0 where
@@ -96,6 +102,11 @@ axioms_in (s ∷ S) (false ∷ marks) = axioms_in S marks
 abbrev pub ItemsMeet : Database → List Item → List Bool → Type 0
 ItemsMeet S items marks = (a : ℕ) × IsMarked marks a × ItemsCite S items a
 
+-- where the tokens of a compressed proof write items under these labels, it was found whether one cites a statement that is marked
+abbrev pub TellsMeeting : Database → List Name → List Name → List Bool → Bool → Type 0
+TellsMeeting S mandatory tokens marks found =
+    (other : List Item) → WritesCompressed tokens mandatory other → (items : List Item) × WritesCompressed tokens mandatory items × (found ≡ true ↔ ItemsMeet S items marks)
+
 -- the same of the proof of the statement at a position
 abbrev pub ProofMeets : Database → ℕ → List Bool → Type 0
 ProofMeets S at marks = (a : ℕ) × IsMarked marks a × Cites S at a
@@ -116,7 +127,16 @@ listed_in (token ∷ tokens) = if name_eq token finish then [] else token ∷ li
 abbrev pub ListsNone : Database → List Name → List Bool → Type 0
 ListsNone S tokens marks = (a : ℕ) (s : Stmt) (label : Name) → IsMarked marks a → Carries S a s label → has_name label (listed_in tokens) ≡ false
 
--- nor is a mandatory hypothesis of the statement s at a position marked
+-- one of them is
+pub record ListsSome (S : Database) (tokens : List Name) (marks : List Bool) : Type 0 where
+  pub position : ℕ
+  pub stmt : Stmt
+  pub label : Name
+  pub marked : IsMarked marks position
+  pub carries : Carries S position stmt label
+  pub listed : has_name label (listed_in tokens) ≡ true
+
+-- neither one of them, nor a mandatory hypothesis of the statement s at a position, is marked
 pub record MeetsNothing (S : Database) (at : ℕ) (s : Stmt) (tokens : List Name) (marks : List Bool) : Type 0 where
   pub mandatory : list_any (λ position. is_marked marks (Some position)) (hypotheses (before S at) s) ≡ false
   pub lists : ListsNone S tokens marks

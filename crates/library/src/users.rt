@@ -1,20 +1,23 @@
 //! Who uses a statement: the `$p` that cite it, and those that cite one which rests on it.
-ghost use Rattle.std.specs.Prelude.{◌≡◌, ℕ, ◌≤◌, ◌↔◌, true, false, Some, length, IfOk, OnOk};
+ghost use Rattle.std.specs.Prelude.{◌≡◌, ℕ, ◌≤◌, ◌↔◌, ◌++◌, List, true, false, Some, length, map, take, IfOk, IsTrue, OnOk};
 ghost use Rattle.std.specs.List.{list_any};
+ghost use Rattle.mm_lex.specs.Alphabet.{Name};
 ghost use Rattle.mm_read.specs.declared.stmt.Stmt.{Stmt as Statement};
-ghost use Rattle.scope.specs.Active.{bares, stmt_at};
+ghost use Rattle.scope.specs.Active.{bares, proof_of, stmt_at};
 ghost use Rattle.frame.specs.FrameOf.{HasAssertion};
 ghost use Rattle.frame.specs.Reading.{HasLabelsOnce};
+ghost use Rattle.proof_code.specs.Writes.{is_compressed};
+ghost use Rattle.verify.specs.Proves.{mandatory_labels};
+ghost use Rattle.verify.specs.Right.{IsProvable};
 ghost use Rattle.library.specs.Good.{Good};
 ghost use Rattle.library.specs.Uses.{IsUser, AreLabelsOf};
-ghost use Rattle.library.specs.Marks.{place_of, is_marked, ItemsMeet, ListsNone, MeetsNothing, NotesUser};
+ghost use Rattle.library.specs.Marks.{is_marked, AreWanted, ItemsMeet, ProofMeets, TellsMeeting, ListsNone, ListsSome, MeetsNothing, NotesUser};
 
-use crate::items::items_of;
-use crate::uses::{mark_position, place_of, places_of};
+use crate::uses::mark_position;
 use frame::Frames;
 use mm_lex::{Word, Words};
 use mm_read::Stmt;
-use proof_code::Items;
+use proof_code::{Heading, Reader, is_compressed};
 use std::alloc::{AllocError, Global};
 
 /// The labels of the `$p` that cite the statement at a position, each once, in order; with `all` of those too that cite one
@@ -37,9 +40,10 @@ pub(crate) fn users(
     let mut sought = vec![in alloc; false; statements.len()]?;
     sought[at - 1] = true;
     let mut labels = Vec::new(alloc);
+    let mut search = Search::new(alloc);
     for index in at..statements.len() {
         note_user(
-            alloc,
+            &mut search,
             frames,
             statements,
             index + 1,
@@ -54,7 +58,7 @@ pub(crate) fn users(
 /// Adds the label of the statement at a position, where it is a `$p` whose proof cites what is sought; with `all` it is sought
 /// from then on.
 fn note_user(
-    alloc: Global,
+    search: &mut Search,
     frames: &Frames,
     statements: &[Stmt],
     at: usize,
@@ -64,44 +68,150 @@ fn note_user(
 ) -> Result<(), AllocError>
     requires same { frames.now.statements ≡ bares statements.now }
     requires once { HasLabelsOnce frames.now.statements }
+    requires good { Good statements.now }
     requires place { (1 ≤ at) × (at ≤ length statements.now) }
     ensures { OnOk result (NotesUser statements.now all at sought.old sought.new labels.old.items labels.new.items) }
 {
     let Stmt::Prove { label, proof, .. } = &statements[at - 1] else {
         return Ok(());
     };
-    if !may_meet(alloc, frames, at, proof, sought)? {
+    if !search.may_meet(frames, at, proof, sought)? {
         return Ok(());
     }
-    let Some(items) = items_of(alloc, frames, statements, at, proof)? else {
-        return Ok(());
-    };
-    if meets(alloc, frames, &items, sought)? {
-        labels.push(label.copy(alloc)?)?;
+    if search.meets(frames, statements, at, proof, sought)? {
+        labels.push(label.copy(search.alloc)?)?;
         mark_position(sought, if all { Some(at) } else { None });
     }
     Ok(())
 }
 
-/// Whether the `$p` at a position has a marked one among its mandatory hypotheses, or its tokens list the label of one. Where
-/// neither is so its letters need not be read.
-fn may_meet(
+/// Reads proofs, one after another, for what they cite, and keeps its buffers.
+#[derive(Drop)]
+struct Search {
     alloc: Global,
-    frames: &Frames,
-    at: usize,
-    tokens: &Words,
-    marks: &[bool],
-) -> Result<bool, AllocError>
-    requires assertion { (s : Statement) × HasAssertion frames.now.statements at s }
-    requires once { HasLabelsOnce frames.now.statements }
-    ensures { IfOk result (λ found. found ≡ false → (s : Statement) → stmt_at frames.now.statements at ≡ Some s → MeetsNothing frames.now.statements at s tokens.now marks.now) }
-{
-    let mut mandatory = Vec::new(alloc);
-    frames.mandatory(at, &mut mandatory)?;
-    Ok(has_marked(&mandatory, marks) || lists_marked(frames, tokens, marks))
+    reader: Reader,
+    /// The positions of a proof's mandatory hypotheses.
+    mandatory: Vec<u32>,
+    /// For each label of a proof, the mandatory ones first, whether what it names is marked.
+    wanted: Vec<bool>,
 }
 
-/// Whether one of the positions is marked.
+impl Search {
+    /// A search with empty buffers. Takes no memory.
+    fn new(alloc: Global) -> Search {
+        Search {
+            alloc,
+            reader: Reader::new(alloc),
+            mandatory: Vec::new(alloc),
+            wanted: Vec::new(alloc),
+        }
+    }
+
+    /// Whether the `$p` at a position has a marked one among its mandatory hypotheses, or its tokens list the label of one.
+    /// Where neither is so its letters need not be read.
+    fn may_meet(
+        &mut self,
+        frames: &Frames,
+        at: usize,
+        tokens: &Words,
+        marks: &[bool],
+    ) -> Result<bool, AllocError>
+        requires assertion { (s : Statement) × HasAssertion frames.now.statements at s }
+        requires once { HasLabelsOnce frames.now.statements }
+        ensures { IfOk result (λ found. found ≡ false → (s : Statement) → stmt_at frames.now.statements at ≡ Some s → MeetsNothing frames.now.statements at s tokens.now marks.now) }
+    {
+        self.mandatory.clear();
+        frames.mandatory(at, &mut self.mandatory)?;
+        Ok(has_marked(&self.mandatory, marks) || lists_marked(frames, tokens, marks))
+    }
+
+    /// Whether the proof of the `$p` at a position, whose tokens these are, cites a statement that is marked. A normal proof
+    /// cites what it lists.
+    fn meets(
+        &mut self,
+        frames: &Frames,
+        statements: &[Stmt],
+        at: usize,
+        tokens: &Words,
+        marks: &[bool],
+    ) -> Result<bool, AllocError>
+        requires same { frames.now.statements ≡ bares statements.now }
+        requires once { HasLabelsOnce frames.now.statements }
+        requires good { Good statements.now }
+        requires provable { (s : Statement) × IsProvable statements.now at s × (proof_of s ≡ tokens.now) }
+        ensures { IfOk result (λ found. found ≡ true ↔ ProofMeets statements.now at marks.now) }
+    {
+        if is_compressed(tokens) {
+            self.compressed_meets(frames, at, tokens, marks)
+        } else {
+            Ok(lists_marked(frames, tokens, marks))
+        }
+    }
+
+    /// The same for a compressed proof, whose mandatory hypotheses are known by their positions. Where the tokens write no
+    /// items any answer will do.
+    fn compressed_meets(
+        &mut self,
+        frames: &Frames,
+        at: usize,
+        tokens: &Words,
+        marks: &[bool],
+    ) -> Result<bool, AllocError>
+        requires assertion { (s : Statement) × HasAssertion frames.now.statements at s }
+        requires once { HasLabelsOnce frames.now.statements }
+        requires compressed { IsTrue (is_compressed tokens.now) }
+        ensures { IfOk result (λ found. (s : Statement) → stmt_at frames.now.statements at ≡ Some s
+            → TellsMeeting frames.now.statements (mandatory_labels frames.now.statements at s) tokens.now marks.now found) }
+    {
+        self.mandatory.clear();
+        frames.mandatory(at, &mut self.mandatory)?;
+        let count = self.mandatory.as_slice().len();
+        let Some(heading) = self.reader.read(tokens, count)? else {
+            return Ok(false);
+        };
+        test_mandatory(&self.mandatory, marks, &mut self.wanted)?;
+        test_listed(frames, heading, marks, &mut self.wanted)?;
+        Ok(has_marked(self.reader.numbers(), &self.wanted))
+    }
+}
+
+/// Fills the list with whether each of the positions is marked.
+fn test_mandatory(
+    positions: &[u32],
+    marks: &[bool],
+    wanted: &mut Vec<bool>,
+) -> Result<(), AllocError>
+    ensures { OnOk result (wanted.new.items ≡ map (λ position. is_marked marks.now (Some position)) positions.now) }
+{
+    wanted.clear();
+    for position in positions {
+        wanted.push(is_marked(marks, Some(*position as usize)))?;
+    }
+    Ok(())
+}
+
+/// Adds whether what each of the listed labels names is marked.
+fn test_listed(
+    frames: &Frames,
+    heading: Heading<'_>,
+    marks: &[bool],
+    wanted: &mut Vec<bool>,
+) -> Result<(), AllocError>
+    requires { heading.count ≤ length heading.words }
+    ensures { OnOk result ((front : List Name) → AreWanted frames.now.statements front marks.now wanted.old.items
+        → AreWanted frames.now.statements (front ++ take heading.entry.count heading.entry.words) marks.now wanted.new.items) }
+{
+    let mut words = heading.words;
+    for _ in 0..heading.count {
+        let Some(label) = words.next() else {
+            unreachable!();
+        };
+        wanted.push(is_marked(marks, frames.position(label)))?;
+    }
+    Ok(())
+}
+
+/// Whether one of the positions is marked; or one of the numbers of a proof, where what its labels name is tested.
 fn has_marked(positions: &[u32], marks: &[bool]) -> bool
     ensures { result ≡ list_any (λ position. is_marked marks.now (Some position)) positions.now }
 {
@@ -113,7 +223,8 @@ fn has_marked(positions: &[u32], marks: &[bool]) -> bool
 /// Whether a token before `)` is the label of a statement that is marked.
 fn lists_marked(frames: &Frames, tokens: &Words, marks: &[bool]) -> bool
     requires once { HasLabelsOnce frames.now.statements }
-    ensures { result ≡ false → ListsNone frames.now.statements tokens.now marks.now }
+    ensures none { result ≡ false → ListsNone frames.now.statements tokens.now marks.now }
+    ensures some { result ≡ true → ListsSome frames.now.statements tokens.now marks.now }
 {
     let mut left = tokens.iter();
     while let Some(token) = left.next() {
@@ -125,25 +236,6 @@ fn lists_marked(frames: &Frames, tokens: &Words, marks: &[bool]) -> bool
         }
     }
     false
-}
-
-/// Whether an item cites a statement that is marked.
-fn meets(alloc: Global, frames: &Frames, items: &Items, marks: &[bool]) -> Result<bool, AllocError>
-    requires once { HasLabelsOnce frames.now.statements }
-    ensures { IfOk result (λ found. found ≡ true ↔ ItemsMeet frames.now.statements items.now marks.now) }
-{
-    let parts = items.parts();
-    let places = places_of(alloc, frames, parts.labels)?;
-    Ok(any_marked(parts.numbers, &places, marks))
-}
-
-/// Whether one of the items of these numbers cites a statement that is marked.
-fn any_marked(numbers: &[u32], places: &[Option<usize>], marks: &[bool]) -> bool
-    ensures { result ≡ list_any (λ number. is_marked marks.now (place_of places.now number)) numbers.now }
-{
-    numbers
-        .iter()
-        .any(|number| is_marked(marks, place_of(places, *number)))
 }
 
 /// Whether the position is one of those that are marked.

@@ -131,7 +131,7 @@ fn mark_cited(
 }
 
 /// The position of what each of the labels names.
-pub(crate) fn places_of(
+fn places_of(
     alloc: Global,
     frames: &Frames,
     labels: &Words,
@@ -146,7 +146,7 @@ pub(crate) fn places_of(
 }
 
 /// The position that an item cites, by its number.
-pub(crate) fn place_of(places: &[Option<usize>], number: u32) -> Option<usize>
+fn place_of(places: &[Option<usize>], number: u32) -> Option<usize>
     ensures { result ≡ place_of places.now number }
 {
     let number = number as usize;

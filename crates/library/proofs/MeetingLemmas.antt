@@ -1,0 +1,219 @@
+-- Whether a compressed proof cites what is marked, from its numbers and from a test of each of its labels.
+use Rattle.std.specs.Prelude.{◌≡◌, ◌↔◌, ℕ, zero, suc, ◌+◌, ◌<◌, Bool, true, false, ◌||◌, if◌then◌else◌, List, [], ◌∷◌, ◌++◌, length, map, get_or, slice_index_or, take, drop, Option, Some, None, option_map, slice_get, Result, Ok, Err, IfOk, refl}
+use Rattle.std.specs.List.{list_any}
+use Rattle.std.proofs.Common.{true≢false, sym, ◌∙◌, ap, subst, arith, append_assoc, inl, inr}
+use Rattle.std.proofs.lemmas.Option.{slice_get-map}
+use Rattle.std.proofs.lemmas.Slice.Eq.{bytes_eq-Decides}
+use Rattle.std.proofs.lemmas.List.{map-append, length-map, length-drop, take_more, drop_more}
+use Rattle.mm_lex.specs.Alphabet.{Name, name_eq, has_name}
+use Rattle.mm_read.specs.declared.stmt.Stmt.{Stmt}
+use Rattle.mm_read.specs.Statements.{Database}
+use Rattle.scope.specs.Active.{bare, bares, before, stmt_at, proof_of}
+use Rattle.frame.specs.FrameOf.{hypotheses}
+use Rattle.frame.specs.Reading.{HasLabelsOnce, IsPosition}
+use Rattle.proof_code.specs.declared.item.Item.{Item}
+use Rattle.proof_code.specs.declared.item.Item.TheVariants.{Cite}
+use Rattle.proof_code.specs.Numbers.{items_of}
+use Rattle.proof_code.specs.Reading.{IsHeading, share_label}
+use Rattle.proof_code.specs.Writes.{finish, Writes, WritesCompressed, WritesPacked, WritesPlain, is_compressed}
+use Rattle.verify.specs.Proves.{label_or_none, mandatory_labels}
+use Rattle.verify.specs.Right.{IsProvable}
+use Rattle.library.specs.Good.{Good, IsProved}
+use Rattle.library.specs.Marks.{is_marked, place_of, ArePlaces, AreWanted, ItemsMeet, ProofMeets, TellsMeeting, listed_in, ListsNone, ListsSome}
+use Rattle.library.proofs.FrontLemmas.{AreHypothesesAt, hypotheses-at}
+use Rattle.library.proofs.ItemsLemmas.{stands-bare}
+use Rattle.library.proofs.MarksLemmas.{places-end, meets-items}
+use Rattle.library.proofs.MayCiteLemmas.{kind-labelled, cited-label}
+use Rattle.library.proofs.ProvingLemmas.{both, same-statement, labels-bare}
+use Rattle.library.proofs.UsersLemmas.{proof-meets}
+use Rattle.library.proofs.WalkLemmas.{has-items}
+
+-- ---- the tests of labels
+
+module _ (S : Database) (marks : List Bool) where
+  wanted-end : (labels : List Name) (wanted : List Bool) (label : Name) (o : Option ℕ) → AreWanted S labels marks wanted → IsPosition S label o → AreWanted S (labels ++ label ∷ []) marks (wanted ++ is_marked marks o ∷ [])
+  wanted-end labels wanted label o w is =
+      record {
+        places = w.places ++ o ∷ [];
+        named = places-end S labels w.places label o w.named is;
+        tests = ap (λ bs. bs ++ is_marked marks o ∷ []) w.tests ∙ sym (map-append (is_marked marks) w.places (o ∷ []));
+      }
+
+  named-all : (ps : List ℕ) → AreHypothesesAt S ps → (k : ℕ) → k < length (map (λ i. label_or_none (stmt_at S i)) ps) → IsPosition S (get_or (map (λ i. label_or_none (stmt_at S i)) ps) k []) (get_or (map (λ i. Some i) ps) k None)
+  named-all [] h k less = absurd (omega (arith, less))
+  named-all (p ∷ ps) h zero less =
+      let one = h.0 in
+      (one.stmt, record { stands = one.stands; carried = kind-labelled one.stmt one.kind ∙ ap (λ o. Some (label_or_none o)) (sym one.stands) })
+  named-all (p ∷ ps) h (suc k) less = named-all ps h.1 k (omega (arith, less))
+
+  tests-all : (ps : List ℕ) → map (λ p. is_marked marks (Some p)) ps ≡ map (is_marked marks) (map (λ i. Some i) ps)
+  tests-all [] = refl
+  tests-all (p ∷ ps) = ap (λ bs. is_marked marks (Some p) ∷ bs) (tests-all ps)
+
+  hypotheses-wanted : (ps : List ℕ) → AreHypothesesAt S ps → AreWanted S (map (λ i. label_or_none (stmt_at S i)) ps) marks (map (λ p. is_marked marks (Some p)) ps)
+  hypotheses-wanted ps h =
+      record {
+        places = map (λ i. Some i) ps;
+        named = record { count = length-map ps (λ i. Some i) ∙ sym (length-map ps (λ i. label_or_none (stmt_at S i))); each = named-all ps h };
+        tests = tests-all ps;
+      }
+
+  -- the mandatory hypotheses of the assertion s
+  pub mandatory-wanted : (at : ℕ) (s : Stmt) (positions : List ℕ) (wanted : List Bool) → positions ≡ hypotheses (before S at) s → wanted ≡ map (λ p. is_marked marks (Some p)) positions
+      → AreWanted S (mandatory_labels S at s) marks wanted
+  mandatory-wanted at s positions wanted are is =
+      subst (AreWanted S (mandatory_labels S at s) marks) (sym (is ∙ ap (map (λ p. is_marked marks (Some p))) are))
+      (hypotheses-wanted (hypotheses (before S at) s) (hypotheses-at S at s))
+
+  -- the first n of the words are tested
+  pub record AreTested (words left : List Name) (n : ℕ) (old wanted : List Bool) : Type 0 where
+    pub rest : drop n words ≡ left
+    pub tests : (front : List Name) → AreWanted S front marks old → AreWanted S (front ++ take n words) marks wanted
+
+  module _ (words left : List Name) (n : ℕ) (old wanted : List Bool) (tested : AreTested words left n old wanted) (within : n < length words) where
+    pub word-left : left ≡ [] → ⊥
+    word-left none = let l = length-drop n words in let e = ap length (tested.rest ∙ none) in omega (arith, within, l, e)
+
+    pub one-tested : (label : Name) (rest : List Name) (o : Option ℕ) (test : Bool) (more : List Bool) → left ≡ label ∷ rest → IsPosition S label o → test ≡ is_marked marks o → more ≡ wanted ++ test ∷ [] → AreTested words rest (n + 1) old more
+    one-tested label rest o test more first is same grown =
+        record {
+          rest = let e = at_drop in let behind : drop (n + 1) words ≡ rest = cc in behind;
+          tests = λ front w.
+              subst (λ ls. AreWanted S ls marks more) (append_assoc front (take n words) (label ∷ []) ∙ ap (λ ls. front ++ ls) (sym taken))
+              (subst (AreWanted S ((front ++ take n words) ++ label ∷ []) marks) (sym (grown ∙ ap (λ b. wanted ++ b ∷ []) same)) (wanted-end (front ++ take n words) wanted label o (tested.tests front w) is));
+        }
+      where
+        at_drop : slice_index_or words n [] ∷ drop (n + 1) words ≡ label ∷ rest
+        at_drop = sym (drop_more words n [] within) ∙ (tested.rest ∙ first)
+
+        taken : take (n + 1) words ≡ take n words ++ label ∷ []
+        taken = take_more words n [] within ∙ ap (λ l. take n words ++ l ∷ []) (let e = at_drop in let same : slice_index_or words n [] ≡ label = cc in same)
+
+-- ---- what a heading lists
+
+take-front : (xs ys : List Name) → take (length xs) (xs ++ ys) ≡ xs
+take-front [] ys = refl
+take-front (x ∷ xs) ys = ap (λ rest. x ∷ rest) (take-front xs ys)
+
+module _ (tokens words : List Name) (mandatory count : ℕ) (numbers : List ℕ) (h : IsHeading tokens mandatory words count numbers) where
+  listed-is : take count words ≡ h.listed
+  listed-is = ap (λ n. take n words) (sym h.many) ∙ (ap (take (length h.listed)) h.whole ∙ take-front h.listed (finish ∷ h.rest))
+
+  -- ---- what the numbers cite
+
+  test-at : (marks : List Bool) (places : List (Option ℕ)) (n : ℕ) → get_or (map (is_marked marks) places) n false ≡ is_marked marks (get_or places n None)
+  test-at marks [] n = refl
+  test-at marks (o ∷ places) zero = refl
+  test-at marks (o ∷ places) (suc n) = test-at marks places n
+
+  number-tested : (marks wanted : List Bool) (places : List (Option ℕ)) → wanted ≡ map (is_marked marks) places → (n : ℕ) → is_marked wanted (Some n) ≡ is_marked marks (place_of places n)
+  number-tested marks wanted places tests zero = refl
+  number-tested marks wanted places tests (suc n) = ap (λ bs. get_or bs n false) tests ∙ test-at marks places n
+
+  any-same : (f g : ℕ → Bool) → ((n : ℕ) → f n ≡ g n) → (ns : List ℕ) → list_any f ns ≡ list_any g ns
+  any-same f g same [] = refl
+  any-same f g same (n ∷ ns) = ap (λ b. b || list_any f ns) (same n) ∙ ap (λ b. g n || b) (any-same f g same ns)
+
+  pub tells-heading : (S : Database) (labels : List Name) (marks wanted : List Bool) (found : Bool) → HasLabelsOnce S → length labels ≡ mandatory → AreWanted S (labels ++ take count words) marks wanted
+      → found ≡ list_any (λ n. is_marked wanted (Some n)) numbers → TellsMeeting S labels tokens marks found
+  tells-heading S labels marks wanted found once long w is = λ other written. by other written (share_label labels h.listed) refl
+    where
+      by : (other : List Item) → WritesCompressed tokens labels other → (b : Bool) → share_label labels h.listed ≡ b
+          → (items : List Item) × WritesCompressed tokens labels items × (found ≡ true ↔ ItemsMeet S items marks)
+      by other written true q = absurd (h.shared labels q other written)
+      by other written false q = (
+        items_of (labels ++ h.listed) numbers,
+        h.apart labels long q,
+        meets-items S (labels ++ h.listed) w.places (subst (λ ls. ArePlaces S (labels ++ ls) w.places) listed-is w.named) once numbers (items_of (labels ++ h.listed) numbers) marks found refl
+            (is ∙ any-same (λ n. is_marked wanted (Some n)) (λ n. is_marked marks (place_of w.places n)) (number-tested marks wanted w.places w.tests) numbers),
+      )
+
+pub tells-nothing : (S : Database) (tokens labels : List Name) (mandatory : ℕ) (marks : List Bool) (found : Bool) → length labels ≡ mandatory
+    → ((labels : List Name) → length labels ≡ mandatory → (items : List Item) → WritesCompressed tokens labels items → ⊥) → TellsMeeting S labels tokens marks found
+tells-nothing S tokens labels mandatory marks found long none = λ other written. absurd (none labels long other written)
+
+pub labels-long : (S : Database) (at : ℕ) (s : Stmt) (positions : List ℕ) → positions ≡ hypotheses (before S at) s → length (mandatory_labels S at s) ≡ length positions
+labels-long S at s positions are = length-map (hypotheses (before S at) s) (λ i. label_or_none (stmt_at S i)) ∙ ap length (sym are)
+
+-- ---- normal proofs
+
+listed-there : (label : Name) (tokens : List Name) → has_name label (listed_in tokens) ≡ true → (k : ℕ) × (slice_get tokens k ≡ Some label)
+listed-there label [] h = absurd (true≢false (sym h))
+listed-there label (token ∷ tokens) h = closes (name_eq token finish) refl (listed-there label tokens)
+  where
+    closes : (b : Bool) → name_eq token finish ≡ b → (has_name label (listed_in tokens) ≡ true → (k : ℕ) × (slice_get tokens k ≡ Some label)) → (k : ℕ) × (slice_get (token ∷ tokens) k ≡ Some label)
+    closes true q later = absurd (true≢false (sym h ∙ ap (λ b. has_name label (if b then [] else token ∷ listed_in tokens)) q))
+    closes false q later = names (name_eq label token) refl (sym (ap (λ b. has_name label (if b then [] else token ∷ listed_in tokens)) q) ∙ h)
+      where
+        names : (b : Bool) → name_eq label token ≡ b → (name_eq label token || has_name label (listed_in tokens)) ≡ true → (k : ℕ) × (slice_get (token ∷ tokens) k ≡ Some label)
+        names true r any = (0, ap Some (sym ((bytes_eq-Decides label token).0 r)))
+        names false r any = let there = later (sym (ap (λ b. b || has_name label (listed_in tokens)) r) ∙ any) in (suc there.0, there.1)
+
+module _ (F : Database) (tokens : List Name) (items : List Item) (marks : List Bool) where
+  some-cited : WritesPlain tokens items → ListsSome F tokens marks → ItemsMeet F items marks
+  some-cited w one =
+      let there = listed-there one.label tokens one.listed in (
+        one.position,
+        one.marked,
+        record {
+          place = there.0;
+          label = one.label;
+          cited = one.stmt;
+          cites = ap (λ is. slice_get is there.0) w.1.cites ∙ (slice_get-map (λ token. Cite token) tokens there.0 ∙ ap (option_map (λ token. Cite token)) there.1);
+          carries = one.carries;
+        },
+      )
+
+  none-cited : is_compressed tokens ≡ false → WritesPlain tokens items → ItemsMeet F items marks → ListsNone F tokens marks → ⊥
+  none-cited plain w m none =
+      let c = m.2 in
+      elim (cited-label tokens [] items (inr (plain, w)) c.place c.label c.cites) [
+        | inl there ↦ (let h = there.1 in cc)
+        | inr listed ↦ true≢false (sym listed ∙ none m.0 c.cited c.label m.1 c.carries)
+      ]
+
+-- ---- the `$p` of good statements
+
+module _ (S F : Database) (same : F ≡ bares S) (good : Good S) (at : ℕ) (s : Stmt) (tokens : List Name) (provable : IsProvable S at s) (e : proof_of s ≡ tokens) (marks : List Bool) where
+  written-here : (p : IsProved S at) → Writes tokens (mandatory_labels (bares S) at s) p.items
+  written-here p =
+      subst (λ t. Writes t (mandatory_labels (bares S) at s) p.items) e
+      (subst (λ r. Writes (proof_of r) (mandatory_labels (bares S) at r) p.items) (sym (same-statement S at s p.stmt provable p.provable)) p.written)
+
+  packed-here : (items : List Item) → is_compressed tokens ≡ true → Writes tokens (mandatory_labels (bares S) at s) items → WritesPacked tokens (mandatory_labels (bares S) at s) items
+  packed-here items compressed written = elim written [ inl packed ↦ packed.1 | inr plain ↦ both (is_compressed tokens) compressed plain.0 ]
+
+  pub told-meets : is_compressed tokens ≡ true → (found : Bool) → ((r : Stmt) → stmt_at F at ≡ Some r → TellsMeeting F (mandatory_labels F at r) tokens marks found) → found ≡ true ↔ ProofMeets S at marks
+  told-meets compressed found told =
+      let p = good.proved at s provable in
+      let written = written-here p in
+      let labels = mandatory_labels (bares S) at s in
+      let packed = packed-here p.items compressed written in
+      let tells : TellsMeeting F labels tokens marks found =
+      subst (λ ls. TellsMeeting F ls tokens marks found) (labels-bare S F at s same provable (bare s) refl) (told (bare s) (stands-bare S F at s same provable)) in
+      let m = tells p.items packed.1 in
+      let has = has-items S at s tokens m.0 provable e (inl (compressed, (packed.0, m.1))) in
+      let meets = proof-meets S F same at marks m.0 has in
+      ((λ f. meets.0 (m.2.0 f)), λ q. m.2.1 (meets.1 q))
+
+  plain-here : (items : List Item) → is_compressed tokens ≡ false → Writes tokens (mandatory_labels (bares S) at s) items → WritesPlain tokens items
+  plain-here items plain written = elim written [ inl packed ↦ both (is_compressed tokens) packed.0 plain | inr w ↦ w.1 ]
+
+  -- what the tokens of a normal proof list is what it cites
+  pub listed-meets : is_compressed tokens ≡ false → (found : Bool) → (found ≡ false → ListsNone F tokens marks) → (found ≡ true → ListsSome F tokens marks) → found ≡ true ↔ ProofMeets S at marks
+  listed-meets plain found none some =
+      let p = good.proved at s provable in
+      let written = written-here p in
+      let meets = proof-meets S F same at marks p.items (has-items S at s tokens p.items provable e written) in
+      let w = plain-here p.items plain written in (
+        (λ f. meets.0 (some-cited F tokens p.items marks w (some f))),
+        λ q. by found refl (none-cited F tokens p.items marks plain w (meets.1 q)) none,
+      )
+    where
+      by : (b : Bool) → found ≡ b → (ListsNone F tokens marks → ⊥) → (found ≡ false → ListsNone F tokens marks) → found ≡ true
+      by true f not none = f
+      by false f not none = absurd (not (none f))
+
+pub if-map : {A E : Type 0} {P Q : A → Type 0} (r : Result A E) → ((a : A) → P a → Q a) → IfOk r P → IfOk r Q
+if-map (Ok a) f p = f a p
+if-map (Err x) f p = p
