@@ -26,10 +26,10 @@ pub shared_is : {V : Type 0} (ws us : List ℕ) (hs gs : List (Event V)) (some o
 shared_is ws us hs gs some others weights history places = cc
 
 pub still_shared : {V : Type 0} (a b : NetView V) (seats : List (Seated V)) → IsStill a b → shared b seats ≡ shared a seats
-pub still_shared {V} a b seats still = ap (λ (t : Taken V). let s : Shared V = record { weights = t.weights; history = t.events; places = places_of seats } in s) still.taken
+still_shared {V} a b seats still = ap (λ (t : Taken V). let s : Shared V = record { weights = t.weights; history = t.events; places = places_of seats } in s) still.taken
 
 module _ {V : Type 0} (size : V → ℕ) (net : NetView V) (seats : List (Seated V)) (h : IsSwitch size net seats) (now : Shared V) (seen : shared net seats ≡ now) where
-  abbrev pub w : World V
+  abbrev w : World V
   w = h.world.world
 
   abbrev old : Shared V

@@ -48,7 +48,7 @@ module _ {V : Type 0} (size : V → ℕ) (net : NetView V) (seats : List (Seated
   is_j : j ≡ k
   is_j = let both : Some j ≡ Some d1.at = at_e.node in let same : j ≡ d1.at = cc in same ∙ sym is_at
 
-  pub found : slice_get seats k ≡ Some seat
+  found : slice_get seats k ≡ Some seat
   found = at_place seats k seat low_k is
 
   node_k : slice_get w.nodes k ≡ Some d.core.node
@@ -60,7 +60,7 @@ module _ {V : Type 0} (size : V → ℕ) (net : NetView V) (seats : List (Seated
   is_down : (o : Option (Due V)) × (seat.standing ≡ down o)
   is_down = down_at seats k seat found (ap (λ (i : ℕ). is_down_at (places_of seats) (Some i)) (sym is_j) ∙ ap (λ (s : Shared V). is_down_at s.places (Some j)) seen ∙ test)
 
-  abbrev pub o : Option (Due V)
+  abbrev o : Option (Due V)
   o = is_down.0
 
   owed_is : owed_in seat.standing ≡ o
@@ -104,10 +104,10 @@ module _ {V : Type 0} (size : V → ℕ) (net : NetView V) (seats : List (Seated
 
   -- a call of the keep failed
   module _ (new : Seated V) (fails : Fails seat (change_owed (owed_in seat.standing)) seat.standing new) where
-    pub either : IsWithOrWithout seat.kept (change_owed o) new.kept
+    either : IsWithOrWithout seat.kept (change_owed o) new.kept
     either = subst (λ (p : Option (Due V)). IsWithOrWithout seat.kept (change_owed p) new.kept) owed_is fails.kept
 
-    pub stands : new.standing ≡ down o
+    stands : new.standing ≡ down o
     stands = ap (λ (s : Seated V). s.standing) fails.rest ∙ is_down.1
 
     pub stays_down : IsSwitch size net (set seats k new)

@@ -18,7 +18,6 @@ use Rattle.switch.specs.Switch.{Place, Shared, places_of, IsSwitch, world_of, is
 use Rattle.switch.proofs.SeatsLemmas.{place_past}
 use Rattle.switch.proofs.SwitchLemmas.{shared}
 use Rattle.switch.proofs.CallLemmas.{of_world, node_there}
-use Rattle.switch.proofs.ReviveLemmas.{found, o, either, stands, revived}
 
 -- no two events are left
 pub revive_spent : {V : Type 0} (size : V → ℕ) (net : NetView V) (seats : List (Seated V)) (h : IsSwitch size net seats) (now : Shared V) (seen : shared net seats ≡ now) (j : ℕ) → MOST_EVENTS < length net.taken.events + 2
