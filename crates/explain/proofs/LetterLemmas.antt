@@ -17,6 +17,7 @@ use Rattle.explain.specs.declared.why.LetterBreak.{LetterBreak}
 use Rattle.explain.specs.declared.why.LetterFault.{LetterFault}
 use Rattle.explain.specs.Breaks.{marks_in, IsEnd, place_in, IsAllowed, IsOther, IsOver, BeginsWith, Breaks, IsLetterBreak}
 use Rattle.explain.specs.Reading.{zeros, IsReadTo}
+use Rattle.proof_code.proofs.ReadingLemmas.{before-none}
 use Rattle.explain.proofs.NumberLemmas.{at-append, not-empty, marks-zeros, zeros-number, zeros-mark, before-push, over, last-over, zero-or}
 
 -- ---- nothing read yet
