@@ -1,7 +1,8 @@
 -- Whether a compressed proof cites what is marked, from its numbers and from a test of each of its labels.
-use Rattle.std.specs.Prelude.{◌≡◌, ◌↔◌, ℕ, zero, suc, ◌+◌, ◌<◌, Bool, true, false, ◌||◌, if◌then◌else◌, List, [], ◌∷◌, ◌++◌, length, map, get_or, slice_index_or, take, drop, Option, Some, None, option_map, slice_get, Result, Ok, Err, IfOk, refl}
+use Rattle.std.specs.Prelude.{◌≡◌, ◌↔◌, ℕ, zero, suc, ◌+◌, ◌-◌, ◌<◌, ◌≤◌, nat_lt, cond, Bool, true, false, ◌||◌, if◌then◌else◌, List, [], ◌∷◌, ◌++◌, length, map, get_or, slice_index_or, take, drop, Option, Some, None, option_map, slice_get, Result, Ok, Err, IfOk, refl}
 use Rattle.std.specs.List.{list_any}
-use Rattle.std.proofs.Common.{true≢false, sym, ◌∙◌, ap, subst, arith, append_assoc, inl, inr}
+use Rattle.std.proofs.Common.{true≢false, length-append, sym, ◌∙◌, ap, subst, arith, append_assoc, inl, inr}
+use Rattle.std.proofs.lemmas.Bool.Decides.{nat_tests}
 use Rattle.std.proofs.lemmas.Option.{slice_get-map}
 use Rattle.std.proofs.lemmas.Slice.Eq.{bytes_eq-Decides}
 use Rattle.std.proofs.lemmas.List.{map-append, length-map, length-drop, take_more, drop_more}
@@ -12,14 +13,14 @@ use Rattle.scope.specs.Active.{bare, bares, before, stmt_at, proof_of}
 use Rattle.frame.specs.FrameOf.{hypotheses}
 use Rattle.frame.specs.Reading.{HasLabelsOnce, IsPosition}
 use Rattle.proof_code.specs.declared.item.Item.{Item}
-use Rattle.proof_code.specs.declared.item.Item.TheVariants.{Cite}
-use Rattle.proof_code.specs.Numbers.{items_of}
+use Rattle.proof_code.specs.declared.item.Item.TheVariants.{Cite, Recall}
+use Rattle.proof_code.specs.Numbers.{item_of, items_of}
 use Rattle.proof_code.specs.Reading.{IsHeading, share_label}
 use Rattle.proof_code.specs.Writes.{finish, Writes, WritesCompressed, WritesPacked, WritesPlain, is_compressed}
 use Rattle.verify.specs.Proves.{label_or_none, mandatory_labels}
 use Rattle.verify.specs.Right.{IsProvable}
 use Rattle.library.specs.Good.{Good, IsProved}
-use Rattle.library.specs.Marks.{is_marked, place_of, ArePlaces, AreWanted, ItemsMeet, ProofMeets, TellsMeeting, listed_in, ListsNone, ListsSome}
+use Rattle.library.specs.Marks.{is_marked, place_of, AreWanted, ItemsMeet, ProofMeets, TellsMeeting, listed_in, ListsNone, ListsSome}
 use Rattle.library.proofs.FrontLemmas.{AreHypothesesAt, hypotheses-at}
 use Rattle.library.proofs.ItemsLemmas.{stands-bare}
 use Rattle.library.proofs.MarksLemmas.{places-end, meets-items}
@@ -89,6 +90,80 @@ module _ (S : Database) (marks : List Bool) where
         taken : take (n + 1) words ≡ take n words ++ label ∷ []
         taken = take_more words n [] within ∙ ap (λ l. take n words ++ l ∷ []) (let e = at_drop in let same : slice_index_or words n [] ≡ label = cc in same)
 
+-- ---- what the numbers cite
+
+test-at : (marks : List Bool) (places : List (Option ℕ)) (n : ℕ) → get_or (map (is_marked marks) places) n false ≡ is_marked marks (get_or places n None)
+test-at marks [] n = refl
+test-at marks (o ∷ places) zero = refl
+test-at marks (o ∷ places) (suc n) = test-at marks places n
+
+number-tested : (marks wanted : List Bool) (places : List (Option ℕ)) → wanted ≡ map (is_marked marks) places → (n : ℕ) → is_marked wanted (Some n) ≡ is_marked marks (place_of places n)
+number-tested marks wanted places tests zero = refl
+number-tested marks wanted places tests (suc n) = ap (λ bs. get_or bs n false) tests ∙ test-at marks places n
+
+any-same : (f g : ℕ → Bool) → ((n : ℕ) → f n ≡ g n) → (ns : List ℕ) → list_any f ns ≡ list_any g ns
+any-same f g same [] = refl
+any-same f g same (n ∷ ns) = ap (λ b. b || list_any f ns) (same n) ∙ ap (λ b. g n || b) (any-same f g same ns)
+
+pub tested-meets : (S : Database) (labels : List Name) (marks wanted : List Bool) (numbers : List ℕ) (found : Bool) → HasLabelsOnce S → AreWanted S labels marks wanted → found ≡ list_any (λ n. is_marked wanted (Some n)) numbers
+    → found ≡ true ↔ ItemsMeet S (items_of labels numbers) marks
+tested-meets S labels marks wanted numbers found once w is =
+    meets-items S labels w.places w.named once numbers (items_of labels numbers) marks found refl
+    (is ∙ any-same (λ n. is_marked wanted (Some n)) (λ n. is_marked marks (place_of w.places n)) (number-tested marks wanted w.places w.tests) numbers)
+
+get-front : (xs ys : List Name) (k : ℕ) → k < length xs → get_or (xs ++ ys) k [] ≡ get_or xs k []
+get-front [] ys k h = absurd (omega (arith, h))
+get-front (x ∷ xs) ys zero h = refl
+get-front (x ∷ xs) ys (suc k) h = get-front xs ys k (omega (arith, h))
+
+-- what a number cites, it cites where more labels stand behind
+item-front : (labels rest : List Name) (n : ℕ) (label : Name) → item_of labels n ≡ Cite label → item_of (labels ++ rest) n ≡ Cite label
+item-front labels rest zero label e = absurd (let f = e in cc)
+item-front labels rest (suc n) label e = by (nat_lt n (length labels)) refl
+  where
+    by : (b : Bool) → nat_lt n (length labels) ≡ b → item_of (labels ++ rest) (suc n) ≡ Cite label
+    by true q =
+        let less : n < length labels = grind (arith, q) in
+        let l = length-append labels rest in
+        let further : nat_lt n (length (labels ++ rest)) ≡ true = grind (arith, nat_tests) in
+        ap (λ b. cond b (Cite (get_or (labels ++ rest) n [])) (Recall (suc (n - length (labels ++ rest))))) further
+        ∙ (ap Cite (get-front labels rest n less)
+        ∙ (sym (ap (λ b. cond b (Cite (get_or labels n [])) (Recall (suc (n - length labels)))) q) ∙ e))
+    by false q = absurd (let f : Recall (suc (n - length labels)) ≡ Cite label = sym (ap (λ b. cond b (Cite (get_or labels n [])) (Recall (suc (n - length labels)))) q) ∙ e in cc)
+
+front-meets : (S : Database) (labels rest : List Name) (marks : List Bool) (numbers : List ℕ) → ItemsMeet S (items_of labels numbers) marks → ItemsMeet S (items_of (labels ++ rest) numbers) marks
+front-meets S labels rest marks numbers m =
+    let c = m.2 in
+    (m.0, m.1, record { place = c.place; label = c.label; cited = c.cited; cites = by numbers c.place c.cites; carries = c.carries })
+  where
+    by : (ns : List ℕ) (k : ℕ) → slice_get (items_of labels ns) k ≡ Some (Cite m.2.label) → slice_get (items_of (labels ++ rest) ns) k ≡ Some (Cite m.2.label)
+    by [] k e = e
+    by (n ∷ ns) zero e = ap Some (item-front labels rest n m.2.label (let f = e in let g : item_of labels n ≡ Cite m.2.label = cc in g))
+    by (n ∷ ns) (suc k) e = by ns k e
+
+take-split : (words : List Name) (n m : ℕ) → n ≤ m → (rest : List Name) × (take m words ≡ take n words ++ rest)
+take-split words zero m h = (take m words, refl)
+take-split words (suc n) zero h = absurd (omega (arith, h))
+take-split [] (suc n) (suc m) h = ([], refl)
+take-split (x ∷ words) (suc n) (suc m) h = let r = take-split words n m (omega (arith, h)) in (r.0, ap (λ l. x ∷ l) r.1)
+
+-- the numbers meet by the first n labels, so they meet by all
+pub early-meets : (S : Database) (marks : List Bool) (words left : List Name) (n count : ℕ) (old wanted : List Bool) (numbers : List ℕ) → AreTested S marks words left n old wanted → n ≤ count → HasLabelsOnce S
+    → true ≡ list_any (λ n. is_marked wanted (Some n)) numbers → (front : List Name) → AreWanted S front marks old → true ≡ true ↔ ItemsMeet S (items_of (front ++ take count words) numbers) marks
+early-meets S marks words left n count old wanted numbers tested less once any front w =
+    let r = take-split words n count less in
+    let m = (tested-meets S (front ++ take n words) marks wanted numbers true once (tested.tests front w) any).0 refl in
+    let all : ItemsMeet S (items_of (front ++ take count words) numbers) marks =
+    subst (λ ls. ItemsMeet S (items_of ls numbers) marks) (append_assoc front (take n words) r.0 ∙ ap (λ ls. front ++ ls) (sym r.1))
+    (front-meets S (front ++ take n words) r.0 marks numbers m) in
+    ((λ e. all), λ m. refl)
+
+pub late-meets : (S : Database) (marks : List Bool) (words left : List Name) (n count : ℕ) (old wanted : List Bool) (numbers : List ℕ) (found : Bool) → AreTested S marks words left n old wanted → n ≡ count → HasLabelsOnce S
+    → found ≡ list_any (λ n. is_marked wanted (Some n)) numbers → (front : List Name) → AreWanted S front marks old → found ≡ true ↔ ItemsMeet S (items_of (front ++ take count words) numbers) marks
+late-meets S marks words left n count old wanted numbers found tested same once any front w =
+    subst (λ k. found ≡ true ↔ ItemsMeet S (items_of (front ++ take k words) numbers) marks) same
+    (tested-meets S (front ++ take n words) marks wanted numbers found once (tested.tests front w) any)
+
 -- ---- what a heading lists
 
 take-front : (xs ys : List Name) → take (length xs) (xs ++ ys) ≡ xs
@@ -99,24 +174,9 @@ module _ (tokens words : List Name) (mandatory count : ℕ) (numbers : List ℕ)
   listed-is : take count words ≡ h.listed
   listed-is = ap (λ n. take n words) (sym h.many) ∙ (ap (take (length h.listed)) h.whole ∙ take-front h.listed (finish ∷ h.rest))
 
-  -- ---- what the numbers cite
-
-  test-at : (marks : List Bool) (places : List (Option ℕ)) (n : ℕ) → get_or (map (is_marked marks) places) n false ≡ is_marked marks (get_or places n None)
-  test-at marks [] n = refl
-  test-at marks (o ∷ places) zero = refl
-  test-at marks (o ∷ places) (suc n) = test-at marks places n
-
-  number-tested : (marks wanted : List Bool) (places : List (Option ℕ)) → wanted ≡ map (is_marked marks) places → (n : ℕ) → is_marked wanted (Some n) ≡ is_marked marks (place_of places n)
-  number-tested marks wanted places tests zero = refl
-  number-tested marks wanted places tests (suc n) = ap (λ bs. get_or bs n false) tests ∙ test-at marks places n
-
-  any-same : (f g : ℕ → Bool) → ((n : ℕ) → f n ≡ g n) → (ns : List ℕ) → list_any f ns ≡ list_any g ns
-  any-same f g same [] = refl
-  any-same f g same (n ∷ ns) = ap (λ b. b || list_any f ns) (same n) ∙ ap (λ b. g n || b) (any-same f g same ns)
-
-  pub tells-heading : (S : Database) (labels : List Name) (marks wanted : List Bool) (found : Bool) → HasLabelsOnce S → length labels ≡ mandatory → AreWanted S (labels ++ take count words) marks wanted
-      → found ≡ list_any (λ n. is_marked wanted (Some n)) numbers → TellsMeeting S labels tokens marks found
-  tells-heading S labels marks wanted found once long w is = λ other written. by other written (share_label labels h.listed) refl
+  pub tells-heading : (S : Database) (labels : List Name) (marks : List Bool) (found : Bool) → length labels ≡ mandatory
+      → (found ≡ true ↔ ItemsMeet S (items_of (labels ++ take count words) numbers) marks) → TellsMeeting S labels tokens marks found
+  tells-heading S labels marks found long meets = λ other written. by other written (share_label labels h.listed) refl
     where
       by : (other : List Item) → WritesCompressed tokens labels other → (b : Bool) → share_label labels h.listed ≡ b
           → (items : List Item) × WritesCompressed tokens labels items × (found ≡ true ↔ ItemsMeet S items marks)
@@ -124,8 +184,7 @@ module _ (tokens words : List Name) (mandatory count : ℕ) (numbers : List ℕ)
       by other written false q = (
         items_of (labels ++ h.listed) numbers,
         h.apart labels long q,
-        meets-items S (labels ++ h.listed) w.places (subst (λ ls. ArePlaces S (labels ++ ls) w.places) listed-is w.named) once numbers (items_of (labels ++ h.listed) numbers) marks found refl
-            (is ∙ any-same (λ n. is_marked wanted (Some n)) (λ n. is_marked marks (place_of w.places n)) (number-tested marks wanted w.places w.tests) numbers),
+        subst (λ ls. found ≡ true ↔ ItemsMeet S (items_of (labels ++ ls) numbers) marks) listed-is meets,
       )
 
 pub tells-nothing : (S : Database) (tokens labels : List Name) (mandatory : ℕ) (marks : List Bool) (found : Bool) → length labels ≡ mandatory

@@ -6,6 +6,7 @@ ghost use Rattle.mm_read.specs.declared.stmt.Stmt.{Stmt as Statement};
 ghost use Rattle.scope.specs.Active.{bares, proof_of, stmt_at};
 ghost use Rattle.frame.specs.FrameOf.{HasAssertion};
 ghost use Rattle.frame.specs.Reading.{HasLabelsOnce};
+ghost use Rattle.proof_code.specs.Numbers.{items_of};
 ghost use Rattle.proof_code.specs.Writes.{is_compressed};
 ghost use Rattle.verify.specs.Proves.{mandatory_labels};
 ghost use Rattle.verify.specs.Right.{IsProvable};
@@ -170,8 +171,13 @@ impl Search {
             return Ok(false);
         };
         test_mandatory(&self.mandatory, marks, &mut self.wanted)?;
-        test_listed(frames, heading, marks, &mut self.wanted)?;
-        Ok(has_marked(self.reader.numbers(), &self.wanted))
+        listed_meet(
+            frames,
+            heading,
+            self.reader.numbers(),
+            marks,
+            &mut self.wanted,
+        )
     }
 }
 
@@ -190,25 +196,36 @@ fn test_mandatory(
     Ok(())
 }
 
-/// Adds whether what each of the listed labels names is marked.
-fn test_listed(
+/// Whether one of the numbers cites what is marked, by a list with a test of each mandatory label, to which those of the listed
+/// labels are added. The first of them that is marked is mostly cited, so the numbers are tried there once before the end.
+fn listed_meet(
     frames: &Frames,
     heading: Heading<'_>,
+    numbers: &[u32],
     marks: &[bool],
     wanted: &mut Vec<bool>,
-) -> Result<(), AllocError>
-    requires { heading.count ≤ length heading.words }
-    ensures { OnOk result ((front : List Name) → AreWanted frames.now.statements front marks.now wanted.old.items
-        → AreWanted frames.now.statements (front ++ take heading.entry.count heading.entry.words) marks.now wanted.new.items) }
+) -> Result<bool, AllocError>
+    requires once { HasLabelsOnce frames.now.statements }
+    requires listed { heading.count ≤ length heading.words }
+    ensures { IfOk result (λ found. (front : List Name) → AreWanted frames.now.statements front marks.now wanted.old.items
+        → found ≡ true ↔ ItemsMeet frames.now.statements (items_of (front ++ take heading.entry.count heading.entry.words) numbers.now) marks.now) }
 {
     let mut words = heading.words;
+    let mut tried = false;
     for _ in 0..heading.count {
         let Some(label) = words.next() else {
             unreachable!();
         };
-        wanted.push(is_marked(marks, frames.position(label)))?;
+        let marked = is_marked(marks, frames.position(label));
+        wanted.push(marked)?;
+        if marked && !tried {
+            if has_marked(numbers, wanted) {
+                return Ok(true);
+            }
+            tried = true;
+        }
     }
-    Ok(())
+    Ok(has_marked(numbers, wanted))
 }
 
 /// Whether one of the positions is marked; or one of the numbers of a proof, where what its labels name is tested.

@@ -1,8 +1,8 @@
-use Rattle.std.proofs.Common.{◌∙◌, false, Some, ap}
-use Rattle.std.specs.List.{list_any}
+use Rattle.std.proofs.Common.{◌≡◌, ◌↔◌, ◌++◌, ◌∙◌, true, false, take, subst}
+use Rattle.proof_code.specs.Numbers.{items_of}
 use Rattle.verify.specs.Proves.{mandatory_labels}
-use Rattle.library.specs.Marks.{is_marked}
-use Rattle.library.proofs.MeetingLemmas.{labels-long, mandatory-wanted, tells-heading, tells-nothing}
+use Rattle.library.specs.Marks.{ItemsMeet}
+use Rattle.library.proofs.MeetingLemmas.{if-map, labels-long, mandatory-wanted, tells-heading, tells-nothing}
 use Rattle.library.proofs.users.Search.compressed_meets.Goals as goal
 
 pub returns-in_default : goal.returns-in_default
@@ -11,14 +11,15 @@ returns-in_default c = λ s stands.
     (labels-long c.args.frames.now.statements c.args.at s c.as_slice-count.result.now (c.as_slice-count.ensures.value ∙ c.in_ok-mandatory.ensures s stands)) (rw c.in_default.is at c.in_ok-heading.ensures)
 
 pub returns : goal.returns
-returns c = λ s stands.
+returns c =
     let F = c.args.frames.now.statements in
     let marks = c.args.marks.now in
+    if-map c.listed_meet.result
+    (λ found told. λ s stands.
     let labels = mandatory_labels F c.args.at s in
-    tells-heading c.args.tokens.now _ _ _ _ (rw c.in-Some.is at c.in_ok-heading.ensures) F labels marks c.test_listed.new.wanted.items c.has_marked.result c.requires.once
+    tells-heading c.args.tokens.now _ _ _ _ (rw c.in-Some.is at c.in_ok-heading.ensures) F labels marks found
     (labels-long F c.args.at s c.as_slice-count.result.now (c.as_slice-count.ensures.value ∙ c.in_ok-mandatory.ensures s stands))
-    (c.in_ok-test_listed.ensures labels
-    (mandatory-wanted F marks c.args.at s c.deref.result.now c.test_mandatory.new.wanted.items (c.deref.ensures.value ∙ c.in_ok-mandatory.ensures s stands) c.in_ok-test_mandatory.ensures))
-    (c.has_marked.ensures
-    ∙ (ap (λ tests. list_any (λ n. is_marked tests (Some n)) c.numbers.result.now) c.deref-2.ensures.value
-    ∙ ap (list_any (λ n. is_marked c.test_listed.new.wanted.items (Some n))) c.numbers.ensures))
+    (subst (λ ns. found ≡ true ↔ ItemsMeet F (items_of (labels ++ take c.in-Some.heading.count c.in-Some.heading.words) ns) marks) c.numbers.ensures
+    (told labels
+    (mandatory-wanted F marks c.args.at s c.deref.result.now c.test_mandatory.new.wanted.items (c.deref.ensures.value ∙ c.in_ok-mandatory.ensures s stands) c.in_ok-test_mandatory.ensures))))
+    c.listed_meet.ensures
