@@ -1,5 +1,6 @@
 pub mod Alphabet
 pub mod Words
+pub mod WordBytes
 pub mod Tokens
 pub mod Faults
 pub mod Comments

@@ -1,38 +1,48 @@
 //! One word, kept inline where it is short.
 ghost use Rattle.std.specs.Prelude.{◌≡◌, IsTrue, IfOk};
 ghost use Rattle.mm_lex.specs.Words.{is_word};
+ghost use Rattle.mm_lex.specs.WordBytes.{bytes_of, AreCounted};
 
-use smallvec::SmallVec;
 use std::alloc::{AllocError, Global};
 use std::marker::Model;
 
-/// The bytes of a word that stand in the value itself; longer words take an allocation.
-const INLINE: usize = 16;
+/// How many bytes may stand in the value itself.
+const INLINE: usize = 22;
+
+/// The bytes of a word.
+#[derive(Drop)]
+enum WordBytes {
+    /// The first `len` of these.
+    Inline { len: u8, bytes: [u8; INLINE] },
+    /// All of these: one pointer, so that a word is no larger for it.
+    Heap(Box<Vec<u8>>),
+}
 
 /// A word: at least one byte, each from 0x21 to 0x7E. Contracts see its bytes.
 #[derive(Drop)]
 pub struct Word {
-    bytes: SmallVec<u8, INLINE>,
+    bytes: WordBytes,
 }
 
 impl Model for Word {
     ghost use Rattle.std.specs.Prelude.{ℕ, List, IsTrue};
     ghost use Rattle.mm_lex.specs.Words.{is_word};
+    ghost use Rattle.mm_lex.specs.WordBytes.{bytes_of, AreCounted};
 
     ghost Value = { List ℕ };
 
-    ghost view = { λ a. a.bytes.items };
+    ghost view = { λ a. bytes_of a.bytes };
 
-    ghost invariant = { λ a. IsTrue (is_word a.bytes.items) };
+    ghost invariant = { λ a. AreCounted a.bytes × IsTrue (is_word (bytes_of a.bytes)) };
 }
 
 impl Word {
-    /// The word with these bytes. A word of at most 16 bytes takes no memory.
+    /// The word with these bytes. A word of at most 22 bytes takes no memory.
     pub fn new(alloc: Global, bytes: &[u8]) -> Result<Word, AllocError>
         requires { IsTrue (is_word bytes.now) }
         ensures { IfOk result (λ word. word ≡ bytes.now) }
     {
-        let bytes = SmallVec::from_slice(alloc, bytes)?;
+        let bytes = keep(alloc, bytes)?;
         Ok(Word { bytes })
     }
 
@@ -41,7 +51,10 @@ impl Word {
         ensures bytes { result.now ≡ self.now }
         ensures word { IsTrue (is_word self.now) }
     {
-        self.bytes.as_slice()
+        match &self.bytes {
+            WordBytes::Inline { len, bytes } => &bytes[..*len as usize],
+            WordBytes::Heap(bytes) => bytes.as_slice(),
+        }
     }
 
     /// The same word again.
@@ -50,4 +63,22 @@ impl Word {
     {
         Word::new(alloc, self.as_bytes())
     }
+}
+
+/// A copy of the bytes.
+fn keep(alloc: Global, bytes: &[u8]) -> Result<WordBytes, AllocError>
+    ensures bytes { IfOk result (λ kept. bytes_of kept ≡ bytes.now) }
+    ensures counted { IfOk result AreCounted }
+{
+    let len = bytes.len();
+    if len > INLINE {
+        let all = Vec::from_slice(alloc, bytes)?;
+        return Ok(WordBytes::Heap(Box::new(alloc, all)?));
+    }
+    let mut inline = [0; INLINE];
+    inline[..len].copy_from_slice(bytes);
+    Ok(WordBytes::Inline {
+        len: len as u8,
+        bytes: inline,
+    })
 }

@@ -132,11 +132,11 @@ impl NameTable {
         Ok(code)
     }
 
-    /// Makes a new table where three quarters of this one are taken.
+    /// Makes a new table where seven eighths of this one are taken.
     fn make_room(&mut self, alloc: Global) -> Result<(), AllocError>
         ensures { self.new ≡ self.old }
     {
-        if self.taken >= self.slots.len() / 4 * 3 {
+        if self.taken >= self.slots.len() / 8 * 7 {
             self.slots = table(alloc, &self.texts, &mut self.kept)?;
             self.taken = self.texts.len();
         }
