@@ -11,6 +11,7 @@ use outline::{outline_text, push_number};
 use printed::{push_assertions, push_labels, push_tree};
 use std::alloc::{AllocError, Global};
 use std::io::{Read, Write};
+use std::mem::forget;
 use std::thread::Threads;
 use verify_pool::{OpenGate, Workers};
 
@@ -69,7 +70,7 @@ pub fn ask<R: Threads + Sync, I: Read, O: Write, F: Write>(
     }
 }
 
-/// The same about a text.
+/// The same about a text. The library is left to the end of the process, which takes all of it at once.
 fn ask_text<R: Threads + Sync, O: Write, F: Write>(
     rt: &R,
     alloc: Global,
@@ -79,7 +80,9 @@ fn ask_text<R: Threads + Sync, O: Write, F: Write>(
     faults: &mut F,
 ) -> u8 {
     let mut library = Library::new(alloc);
-    ask_library(rt, alloc, question, text, &mut library, output, faults)
+    let status = ask_library(rt, alloc, question, text, &mut library, output, faults);
+    forget(library);
+    status
 }
 
 /// The same, where the library is empty.
