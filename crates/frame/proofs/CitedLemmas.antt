@@ -4,7 +4,7 @@ use Rattle.std.proofs.Common.{sym, ◌∙◌, ap, subst, arith}
 use Rattle.mm_lex.specs.Alphabet.{Name}
 use Rattle.mm_read.specs.declared.stmt.Stmt.{Stmt}
 use Rattle.scope.specs.Active.{expr_of, is_assertion}
-use Rattle.names.specs.Codes.{name_at, decode, AreDistinct}
+use Rattle.names.specs.Codes.{name_at, decode}
 use Rattle.frame.specs.FrameOf.{HasAssertion}
 use Rattle.entries.specs.declared.citation.Cited.{Cited}
 use Rattle.entries.specs.Entries.{Entry, Assertion, AreWhole}
@@ -18,6 +18,7 @@ use Rattle.frame.specs.Reading.{AreLegal}
 use Rattle.frame.specs.StoredEntries.{stmt_by, stmt_of, statements_of}
 use Rattle.frame.specs.Stored.{AreStored}
 use Rattle.frame.specs.StoredParts.{IsKeptAs, has_parts}
+use Rattle.frame.proofs.SymbolsLemmas.{stored-distinct}
 use Rattle.frame.proofs.AssertionLemmas.{get-entry}
 use Rattle.frame.proofs.FoundByNumber.{own-expr, numbered-at}
 use Rattle.frame.proofs.KeptLemmas.{lists-at, lists-cited}
@@ -60,24 +61,24 @@ there-expr k a i s e stored asserts t = (
 )
 
 -- lists of which all is said are those of the assertion
-pub there-lists : (k : Stock) (a i : ℕ) (s : Stmt) (e : Entry) (d : Assertion) → AreStored k → AreDistinct k.names → is_assertion s ≡ true → IsThere k a i s e
+pub there-lists : (k : Stock) (a i : ℕ) (s : Stmt) (e : Entry) (d : Assertion) → AreStored k → is_assertion s ≡ true → IsThere k a i s e
     → IsKeptAs k.entries (take i (statements_of k)) (stmt_of k.names k.labels e) d → d.whole ≡ true → AreListsOf (statements_of k) k.names a d s
-there-lists k a i s e d stored distinct asserts t kept whole =
+there-lists k a i s e d stored asserts t kept whole =
     subst (λ n. AreListsOf (statements_of k) k.names n d s) (sym t.place)
     (subst (λ x. AreListsOf (statements_of k) k.names (i + 1) d x) t.is
-    (lists-at k.entries k.names k.labels (length k.labels) i e d distinct stored.coded stored.legal t.here (ap is_assertion t.is ∙ asserts) kept whole))
+    (lists-at k.entries k.names k.labels (length k.labels) i e d (stored-distinct k stored) stored.coded stored.legal t.here (ap is_assertion t.is ∙ asserts) kept whole))
 
-pub there-cited : (k : Stock) (a i : ℕ) (s : Stmt) (e : Entry) (c : Cited) → AreStored k → AreDistinct k.names → is_assertion s ≡ true → IsThere k a i s e → AreWhole e c → IsCited (statements_of k) k.names a s c
-there-cited k a i s e c stored distinct asserts t w =
+pub there-cited : (k : Stock) (a i : ℕ) (s : Stmt) (e : Entry) (c : Cited) → AreStored k → is_assertion s ≡ true → IsThere k a i s e → AreWhole e c → IsCited (statements_of k) k.names a s c
+there-cited k a i s e c stored asserts t w =
     let x = there-expr k a i s e stored asserts t in
-    lists-cited (statements_of k) k.names a s e.assertion e.symbols (there-lists k a i s e e.assertion stored distinct asserts t t.kept w.whole) x.0 x.1 c w.heads w.hypotheses w.conclusion w.groups
+    lists-cited (statements_of k) k.names a s e.assertion e.symbols (there-lists k a i s e e.assertion stored asserts t t.kept w.whole) x.0 x.1 c w.heads w.hypotheses w.conclusion w.groups
 
-pub all-legal : (k : Stock) → AreStored k → AreDistinct k.names → AreLegal (statements_of k) k.names
-all-legal k stored distinct =
+pub all-legal : (k : Stock) → AreStored k → AreLegal (statements_of k) k.names
+all-legal k stored =
     let each : (a : ℕ) (s : Stmt) → HasAssertion (statements_of k) a s → IsBound (statements_of k) a s = λ a s h. bound (statements_of k) a s stored.legal h in
     record {
       once = legal-labels (statements_of k) stored.legal;
       single = λ at. bound-single (statements_of k) at each;
       bound = each;
-      distinct = distinct;
+      distinct = stored-distinct k stored;
     }

@@ -18,6 +18,7 @@ use Rattle.frame.specs.Stored.{AreStored}
 use Rattle.frame.specs.StoredHypotheses.{AreHypotheses, IsSpread, Ascends, inserted, option_kept, kept_at, with_all, with_essentials, with_floats, collected}
 use Rattle.frame.specs.StoredParts.{kept_with, variable_at, symbols_at, groups_by, floats_in, is_float_in}
 use Rattle.frame.specs.StoredCounts.{AreNumbered}
+use Rattle.frame.proofs.SymbolsLemmas.{stored-distinct}
 use Rattle.frame.proofs.LegalLabels.{AllKept}
 use Rattle.frame.proofs.AssertionLemmas.{AllAre, active-are, get-entry, get-more, hypotheses-are}
 use Rattle.frame.proofs.EnterLemmas.{essentials-kept, not-essential}
@@ -92,7 +93,7 @@ gathered-hypotheses es names labels m i s codes distinct numbered legal low stan
 
 -- ---- an assertion that is there
 
-module _ (k : Stock) (a i : ℕ) (s : Stmt) (e : Entry) (stored : AreStored k) (distinct : AreDistinct k.names) (asserts : is_assertion s ≡ true) (t : IsThere k a i s e) where
+module _ (k : Stock) (a i : ℕ) (s : Stmt) (e : Entry) (stored : AreStored k) (asserts : is_assertion s ≡ true) (t : IsThere k a i s e) where
   abbrev S : Database
   S = statements_of k
 
@@ -120,7 +121,7 @@ module _ (k : Stock) (a i : ℕ) (s : Stmt) (e : Entry) (stored : AreStored k) (
       let stand : decode k.names e.symbols ≡ expr_of (stmt_of k.names k.labels e) = x.0 ∙ ap expr_of (sym t.is) in
       ap (λ n. with_essentials k.entries (actives is_essential (take n S)) e.assertion.hypotheses) back
       ∙ (ap (with_essentials k.entries (actives is_essential (take i S))) (floats w)
-      ∙ (gathered-hypotheses k.entries k.names k.labels (length k.labels) i (stmt_of k.names k.labels e) e.symbols distinct stored.coded stored.legal x.1 stand (essentials-kept k stored) ∙ at-own))
+      ∙ (gathered-hypotheses k.entries k.names k.labels (length k.labels) i (stmt_of k.names k.labels e) e.symbols (stored-distinct k stored) stored.coded stored.legal x.1 stand (essentials-kept k stored) ∙ at-own))
 
   pub mandatory-are : AreHypotheses k.entries (hypotheses (take (a - 1) S) s)
   mandatory-are =
@@ -137,7 +138,7 @@ module _ (k : Stock) (a i : ℕ) (s : Stmt) (e : Entry) (stored : AreStored k) (
   -- what is said of its hypotheses, and its groups
   pub spread-lists : (ps : List ℕ) (d : Assertion) → IsSpread k.entries (take (a - 1) S) ps d → ps ≡ hypotheses (take (a - 1) S) s → AreListsOf S k.names a d s
   spread-lists ps d p h =
-      there-lists k a i s e d stored distinct asserts t
+      there-lists k a i s e d stored asserts t
       (record {
         hypotheses_kept = p.same ∙ (h ∙ (sym at-own ∙ ap (λ b. kept_with b (take i S) (stmt_of k.names k.labels e)) (sym p.is_whole)));
         asked_kept = p.described.asked_made;

@@ -18,10 +18,13 @@ use Rattle.scope.specs.Symbols.{symbols_by, symbols_in, symbols_from, symbols_of
 use Rattle.names.proofs.AddedLemmas.{with_names-more, has-more, has-with_names, has_name-append, or_cases}
 use Rattle.scope.proofs.NamesLemmas.{active-was}
 use Rattle.names.proofs.CodesLemmas.{has-at, name_eq-comm}
+use Rattle.names.proofs.DistinctLemmas.{distinct-with_names}
 use Rattle.scope.proofs.SortsLemmas.{is_variable-active, was_symbol-either}
 use Rattle.scope.proofs.MarkLemmas.{all-has}
 use Rattle.frame.specs.Below.{AreBelow}
-use Rattle.frame.specs.Stored.{AreNumbersOf}
+use Rattle.frame.specs.declared.storage.Stock.{Stock}
+use Rattle.frame.specs.Stored.{AreNumbersOf, AreStored}
+use Rattle.frame.specs.StoredEntries.{statements_of}
 use Rattle.entries.specs.Spans.{Extends}
 use Rattle.scope.proofs.SymbolsLemmas.{symbols_from-append, symbols_of-append}
 
@@ -33,6 +36,14 @@ symbols_from-more names (s ∷ S) =
     let one = with_names-more names (symbols_by s) in
     let rest = symbols_from-more (with_names names (symbols_by s)) S in
     (one.0 ++ rest.0, rest.1 ∙ (ap (λ ns. ns ++ rest.0) one.1 ∙ append_assoc names one.0 rest.0))
+
+-- the declared symbols are told apart, and so are the names of a storage
+pub stored-distinct : (k : Stock) → AreStored k → AreDistinct k.names
+stored-distinct k stored = subst AreDistinct (sym stored.names_kept) (by [] (statements_of k) tt)
+  where
+    by : (names : List Name) (S : Database) → AreDistinct names → AreDistinct (symbols_from names S)
+    by names [] d = d
+    by names (s ∷ S) d = by (with_names names (symbols_by s)) S (distinct-with_names names (symbols_by s) d)
 
 -- the symbols of the first statements are the first of all
 pub symbols_of-front : (n : ℕ) (S : Database) → take (length (symbols_of (take n S))) (symbols_of S) ≡ symbols_of (take n S)

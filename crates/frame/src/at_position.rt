@@ -2,7 +2,7 @@
 ghost use Rattle.std.specs.Prelude.{◌≡◌, ◌+◌, ◌-◌, ◌<◌, ◌≤◌, Some, IfSome, false, length, take, slice_get};
 ghost use Rattle.mm_read.specs.declared.stmt.Stmt.{Stmt as Statement};
 ghost use Rattle.scope.specs.Active.{is_active, is_open, is_close, stmt_at, expr_of};
-ghost use Rattle.names.specs.Codes.{decode, AreDistinct};
+ghost use Rattle.names.specs.Codes.{decode};
 ghost use Rattle.frame.specs.Below.{AreBelow};
 ghost use Rattle.frame.specs.FrameOf.{HasAssertion};
 ghost use Rattle.frame.specs.Reading.{IsMeaning};
@@ -99,7 +99,6 @@ fn hypothesis_at(stock: &Stock, at: usize, i: usize) -> Meaning<'_>
 /// The parts of the assertion at a position, where they are kept whole.
 pub fn cited_at(stock: &Stock, a: usize) -> Option<Cited<'_>>
     requires stored { AreStored stock.now }
-    requires distinct { AreDistinct stock.now.names }
     requires assertion { (s : Statement) × HasAssertion (statements_of stock.now) a s }
     ensures { (s : Statement) → stmt_at (statements_of stock.now) a ≡ Some s → IfSome result (IsCited (statements_of stock.now) stock.now.names a s) }
 {

@@ -30,11 +30,10 @@ pub fn name_label(
     ensures labels_err { OnErr result (labels.new ≡ labels.old) }
     ensures positions_err { OnErr result (positions.new.items ≡ positions.old.items) }
 {
-    let count = labels.len();
-    labels.add(alloc, label)?;
+    let number = labels.add(alloc, label)?;
     let added = positions.push(at);
     if added.is_err() {
-        labels.truncate(count);
+        labels.truncate(number);
         return Err(AllocError);
     }
     Ok(())

@@ -125,7 +125,6 @@ fn keep(stock: &Stock, draft: &mut Draft, is_own: bool) -> Result<(), AllocError
     ensures draft { OnOk result (IsDraft draft.new) }
     ensures symbols { draft.new.symbols.items ≡ draft.old.symbols.items }
 {
-    stock.names.distinct();
     parts(stock, draft, is_own)
 }
 

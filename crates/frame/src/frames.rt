@@ -83,6 +83,15 @@ impl Frames {
         self.stock.entries.len()
     }
 
+    /// Makes room for so many more labels, where there is memory for it: statements that carry them are then added
+    /// faster.
+    pub fn reserve(&mut self, labels: usize)
+        ensures { self.new ≡ self.old }
+    {
+        self.stock.labels.reserve(self.alloc, labels);
+        let _ = self.stock.positions.reserve(labels);
+    }
+
     /// Adds a statement that is legal behind those that are here.
     ///
     /// Where a growth is refused, everything is as before. One step is counted, whatever is answered.
@@ -200,7 +209,6 @@ impl Frames {
         ensures statements { result.statements ≡ before self.now.statements at }
         ensures names { result.names ≡ self.now.names }
     {
-        self.stock.names.distinct();
         Pairs {
             stock: &self.stock,
             at,
@@ -212,7 +220,6 @@ impl Frames {
         requires { (s : Statement) × HasAssertion self.now.statements a s }
         ensures { (s : Statement) → stmt_at self.now.statements a ≡ Some s → IfSome result (IsCited self.now.statements self.now.names a s) }
     {
-        self.stock.names.distinct();
         cited_at(&self.stock, a)
     }
 
@@ -223,7 +230,6 @@ impl Frames {
         requires { (s : Statement) × HasAssertion self.now.statements a s }
         ensures { OnOk result (IsGathered self.now.statements self.now.names a gathered.new) }
     {
-        self.stock.names.distinct();
         let made = gather_at(&self.stock, a, &mut gathered.draft);
         if made.is_err() {
             gathered.draft.clear();
@@ -246,7 +252,6 @@ impl Frames {
         requires empty { list.old.items ≡ [] }
         ensures { (s : Statement) → stmt_at self.now.statements a ≡ Some s → OnOk result (list.new.items ≡ hypotheses (before self.now.statements a) s) }
     {
-        self.stock.names.distinct();
         mandatory_at(&self.stock, a, list)
     }
 
@@ -275,7 +280,6 @@ impl Frames {
     pub fn legal(&self)
         ensures { AreLegal self.now.statements self.now.names }
     {
-        let names = &self.stock.names;
-        names.distinct();
+        let _stock = &self.stock;
     }
 }

@@ -2,7 +2,6 @@
 ghost use Rattle.std.specs.Prelude.{◌≡◌, ◌≤◌, Some, [], length, option_map, OnOk};
 ghost use Rattle.mm_read.specs.declared.stmt.Stmt.{Stmt as Statement};
 ghost use Rattle.scope.specs.Active.{before, stmt_at, label_of};
-ghost use Rattle.names.specs.Codes.{AreDistinct};
 ghost use Rattle.frame.specs.FrameOf.{HasAssertion, hypotheses};
 ghost use Rattle.frame.specs.Cited.{IsGathered};
 ghost use Rattle.frame.specs.Drafts.{IsDraft, drafted};
@@ -20,7 +19,6 @@ use std::alloc::AllocError;
 /// Adds the mandatory hypotheses of the assertion at a position to a list, which has none.
 pub fn mandatory_at(stock: &Stock, a: usize, list: &mut Vec<u32>) -> Result<(), AllocError>
     requires stored { AreStored stock.now }
-    requires distinct { AreDistinct stock.now.names }
     requires assertion { (s : Statement) × HasAssertion (statements_of stock.now) a s }
     requires empty { list.old.items ≡ [] }
     ensures { (s : Statement) → stmt_at (statements_of stock.now) a ≡ Some s → OnOk result (list.new.items ≡ hypotheses (before (statements_of stock.now) a) s) }
@@ -36,7 +34,6 @@ pub fn mandatory_at(stock: &Stock, a: usize, list: &mut Vec<u32>) -> Result<(), 
 /// Makes the lists of the assertion at a position.
 pub fn gather_at(stock: &Stock, a: usize, draft: &mut Draft) -> Result<(), AllocError>
     requires stored { AreStored stock.now }
-    requires distinct { AreDistinct stock.now.names }
     requires assertion { (s : Statement) × HasAssertion (statements_of stock.now) a s }
     ensures gathered { OnOk result (IsGathered (statements_of stock.now) stock.now.names a (drafted draft.new)) }
     ensures draft { OnOk result (IsDraft draft.new) }

@@ -1,7 +1,7 @@
 //! Numbers of the symbols of a statement.
 ghost use Rattle.std.specs.Prelude.{◌≡◌, ◌+◌, ◌<◌, ◌^◌, [], ◌∷◌, ◌++◌, length, Some, IfOk, OnOk, OnErr, IfSome, true, ℕ, slice_get};
 ghost use Rattle.mm_lex.specs.Alphabet.{Name, has_name};
-ghost use Rattle.names.specs.Codes.{name_at, decode, with_name, with_names, code_of, AreDistinct, AreNamed};
+ghost use Rattle.names.specs.Codes.{name_at, decode, with_name, with_names, code_of, AreNamed};
 ghost use Rattle.scope.specs.Symbols.{symbols_in};
 ghost use Rattle.frame.specs.Below.{AreBelow};
 ghost use Rattle.frame.specs.Stored.{AreNumbersOf};
@@ -35,7 +35,6 @@ fn declared_number(
 {
     let count = names.len();
     let code = names.code(alloc, word)?;
-    names.distinct();
     if code < count {
         return Ok(code as u32);
     }

@@ -12,7 +12,7 @@ ghost use Rattle.library.specs.Judging.{Begins, IsPlaced, IsUnproved, Extends};
 ghost use Rattle.library.specs.Unproved.{FindsLeast};
 
 use crate::asked::{AskFault, items_at, proof_at, trace_at, tree_at, usage_of};
-use crate::entering::enter;
+use crate::entering::{enter, make_room};
 use crate::items::is_unfinished;
 use crate::unproved::{Proofs, least_unproved};
 use crate::verdict::Cause;
@@ -202,6 +202,7 @@ fn judge<F: Fn(&Proofs<'_>) -> Result<Option<usize>, AllocError>>(
     ensures marked { scope.new.marked ≡ scope.old.marked }
     ensures counted { steps.new.count ≤ steps.old.count + 2 * length (drop front statements.now) }
 {
+    make_room(scope, frames, &statements[front..]);
     match enter(scope, frames, &statements[front..], steps)? {
         None => {}
         Some((statement, rule)) => return Ok(Some(Cause::Rule { statement, rule })),

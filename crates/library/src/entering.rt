@@ -1,8 +1,8 @@
 //! The statements of a text behind those that stand: scope and frames take them, up to the first that breaks a rule.
-ghost use Rattle.std.specs.Prelude.{◌≡◌, ℕ, ◌+◌, ◌*◌, ◌≤◌, ◌∷◌, [], ◌++◌, length, Some, None, IfOk, IfErr, IsTrue};
+ghost use Rattle.std.specs.Prelude.{◌≡◌, ℕ, ◌+◌, ◌*◌, ◌≤◌, ◌∷◌, [], ◌++◌, length, Some, None, IfOk, IfErr, IsTrue, is_some};
 ghost use Rattle.mm_read.specs.Statements.{IsShaped, AreShaped};
 ghost use Rattle.scope.specs.declared.rule.Rule.{Rule as BrokenRule};
-ghost use Rattle.scope.specs.Active.{bare, bares, is_closed};
+ghost use Rattle.scope.specs.Active.{bare, bares, is_closed, label_of};
 ghost use Rattle.scope.specs.Legal.{IsLegal, broken_rule, first_broken};
 ghost use Rattle.library.specs.Judging.{Begins};
 
@@ -10,6 +10,29 @@ use frame::Frames;
 use mm_read::Stmt;
 use scope::{Rule, Scope, Steps};
 use std::alloc::AllocError;
+
+/// Makes room for the labels of the statements, where there is memory for it.
+pub(crate) fn make_room(scope: &mut Scope, frames: &mut Frames, statements: &[Stmt])
+    ensures scope { scope.new ≡ scope.old }
+    ensures frames { frames.new ≡ frames.old }
+{
+    let labels = statements.iter().filter(|statement| has_label(statement)).count();
+    scope.reserve(labels);
+    frames.reserve(labels);
+}
+
+/// Whether the statement carries a label.
+fn has_label(statement: &Stmt) -> bool
+    ensures { result ≡ is_some (label_of statement.now) }
+{
+    match statement {
+        Stmt::Float { .. } => true,
+        Stmt::Ess { .. } => true,
+        Stmt::Axiom { .. } => true,
+        Stmt::Prove { .. } => true,
+        _ => false,
+    }
+}
 
 /// Adds the statements to the frames and the scope, up to the first that breaks a rule, and answers its number, counted
 /// from 1, and its least rule. A block that is open at the end breaks G10 one above the last statement.

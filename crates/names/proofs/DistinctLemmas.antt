@@ -1,10 +1,10 @@
 -- Names that stay apart: one more put last, or the first ones alone.
-use Rattle.std.specs.Prelude.{◌≡◌, ℕ, zero, suc, ◌+◌, ◌<◌, ◌≤◌, false, List, [], ◌∷◌, ◌++◌, length, take, drop, refl}
+use Rattle.std.specs.Prelude.{◌≡◌, ℕ, zero, suc, ◌+◌, ◌<◌, ◌≤◌, Bool, true, false, cond, List, [], ◌∷◌, ◌++◌, length, take, drop, refl}
 use Rattle.std.proofs.Common.{sym, ◌∙◌, ap, arith, length-append, add-one}
 use Rattle.std.proofs.lemmas.List.{take-append-drop}
 use Rattle.std.proofs.lemmas.Bool.{or_parts, or_from}
 use Rattle.mm_lex.specs.Alphabet.{Name, name_eq, has_name}
-use Rattle.names.specs.Codes.{name_at, AreDistinct}
+use Rattle.names.specs.Codes.{name_at, with_name, with_names, AreDistinct}
 use Rattle.names.proofs.CodesLemmas.{name_eq-comm}
 
 pub name_at-more : (names more : List Name) (n : ℕ) → n < length names → name_at (names ++ more) n ≡ name_at names n
@@ -47,6 +47,15 @@ distinct-push [] x d h = (refl, tt)
 distinct-push (y ∷ names) x d h =
     let p = or_parts (name_eq x y) (has_name x names) h in
     (has-push names x y d.0 (name_eq-comm y x ∙ p.0), distinct-push names x d.1 p.1)
+
+-- names that are given codes one after another stay apart
+pub distinct-with_names : (names xs : List Name) → AreDistinct names → AreDistinct (with_names names xs)
+distinct-with_names names [] d = d
+distinct-with_names names (x ∷ xs) d = distinct-with_names (with_name names x) xs (by (has_name x names) refl)
+  where
+    by : (b : Bool) → has_name x names ≡ b → AreDistinct (cond b names (names ++ x ∷ []))
+    by true h = d
+    by false h = distinct-push names x d h
 
 pub take-name : (names : List Name) (i : ℕ) → i < length names → take (i + 1) names ≡ take i names ++ name_at names i ∷ []
 take-name names i h = ap (λ n. take n names) (add-one i) ∙ by names i h

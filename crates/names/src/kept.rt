@@ -63,6 +63,14 @@ impl Kept {
         Ok(())
     }
 
+    /// Makes room for the keys of so many more names, where there is memory for it.
+    pub(crate) fn reserve(&mut self, more: usize)
+        ensures keys { self.new.keys.items ≡ self.old.keys.items }
+        ensures overflow { self.new.overflow ≡ self.old.overflow }
+    {
+        let _ = self.keys.reserve(more);
+    }
+
     /// Puts a name into the overflow.
     pub(crate) fn set_apart(
         &mut self,

@@ -1,5 +1,5 @@
 //! Names by number, and the number of each name.
-ghost use Rattle.std.specs.Prelude.{◌≡◌, ◌<◌, ◌≤◌, ◌^◌, [], ◌∷◌, ◌++◌, length, take, IfOk, OnOk, OnErr, false};
+ghost use Rattle.std.specs.Prelude.{◌≡◌, ◌<◌, ◌≤◌, ◌^◌, [], ◌∷◌, ◌++◌, length, take, IfOk, IfSome, OnOk, OnErr, false};
 ghost use Rattle.mm_lex.specs.Alphabet.{has_name};
 ghost use Rattle.names.specs.Codes.{name_at, code_of, AreDistinct};
 
@@ -54,7 +54,7 @@ impl NameTable {
     {
         let texts = self.texts.copy(alloc)?;
         let mut kept = Kept::of(alloc, &texts)?;
-        let slots = table(alloc, &texts, &mut kept)?;
+        let slots = table(alloc, &texts, &mut kept, 0)?;
         let taken = texts.len();
         Ok(NameTable {
             texts,
@@ -73,7 +73,9 @@ impl NameTable {
 
     /// The code of a name that has one. Cost: one pass over the name, and few looks at the table.
     pub fn find(&self, name: &[u8]) -> Option<usize>
-        ensures { result ≡ code_of self.now name.now }
+        ensures code { result ≡ code_of self.now name.now }
+        ensures fits { IfSome result (λ n. n < 2 ^ 32) }
+        ensures distinct { AreDistinct self.now }
     {
         let slots = self.slots.as_slice();
         search(slots, &self.kept, &self.texts, name)
@@ -92,6 +94,7 @@ impl NameTable {
         ensures name { IfOk result (λ n. (n < length self.new) × (name_at self.new n ≡ name.now)) }
         ensures known { IfOk result (λ n. n < length self.old → self.new ≡ self.old) }
         ensures fresh { IfOk result (λ n. length self.old ≤ n → self.new ≡ self.old ++ name.now ∷ []) }
+        ensures distinct { AreDistinct self.new }
         ensures err { OnErr result (self.new ≡ self.old) }
     {
         match self.find(name) {
@@ -107,10 +110,11 @@ impl NameTable {
     pub fn add(&mut self, alloc: Global, name: &[u8]) -> Result<usize, AllocError>
         requires { has_name name.now self.old ≡ false }
         ensures code { IfOk result (λ n. n ≡ length self.old) }
+        ensures fits { IfOk result (λ n. n < 2 ^ 32) }
         ensures ok { OnOk result (self.new ≡ self.old ++ name.now ∷ []) }
         ensures err { OnErr result (self.new ≡ self.old) }
     {
-        self.make_room(alloc)?;
+        self.make_room(alloc, 1)?;
         let code = self.texts.len();
         if code >= NO_NAME as usize {
             return Err(AllocError);
@@ -132,12 +136,21 @@ impl NameTable {
         Ok(code)
     }
 
-    /// Makes a new table where seven eighths of this one are taken.
-    fn make_room(&mut self, alloc: Global) -> Result<(), AllocError>
+    /// Makes room for so many more names, where there is memory for it: no new table is made while they come.
+    pub fn reserve(&mut self, alloc: Global, more: usize)
         ensures { self.new ≡ self.old }
     {
-        if self.taken >= self.slots.len() / 8 * 7 {
-            self.slots = table(alloc, &self.texts, &mut self.kept)?;
+        self.texts.reserve(more);
+        self.kept.reserve(more);
+        let _ = self.make_room(alloc, more);
+    }
+
+    /// Makes a new table where more than seven eighths of this one would be taken with so many more.
+    fn make_room(&mut self, alloc: Global, more: usize) -> Result<(), AllocError>
+        ensures { self.new ≡ self.old }
+    {
+        if self.taken.saturating_add(more) > self.slots.len() / 8 * 7 {
+            self.slots = table(alloc, &self.texts, &mut self.kept, more)?;
             self.taken = self.texts.len();
         }
         Ok(())
@@ -152,19 +165,5 @@ impl NameTable {
         }
         self.kept.truncate(&self.texts, len);
         self.texts.truncate(len);
-    }
-
-    /// There are fewer than 2^32 names.
-    pub fn few(&self)
-        ensures { length self.now < 2 ^ 32 }
-    {
-        let _texts = &self.texts;
-    }
-
-    /// The names are told apart.
-    pub fn distinct(&self)
-        ensures { AreDistinct self.now }
-    {
-        let _texts = &self.texts;
     }
 }

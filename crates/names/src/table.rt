@@ -173,8 +173,13 @@ pub(crate) fn free_place(slots: &[Slot], key: u64) -> Option<usize>
     None
 }
 
-/// New slots for the texts, with room for as many again. A text that stands apart stays there.
-pub(crate) fn table(alloc: Global, texts: &Texts, kept: &mut Kept) -> Result<Vec<Slot>, AllocError>
+/// New slots for the texts, with room for as many again, and for `more`. A text that stands apart stays there.
+pub(crate) fn table(
+    alloc: Global,
+    texts: &Texts,
+    kept: &mut Kept,
+    more: usize,
+) -> Result<Vec<Slot>, AllocError>
     requires few { length texts.now < 2 ^ 32 }
     requires distinct { AreDistinct texts.now }
     requires kept { AreKept kept.old texts.now }
@@ -182,7 +187,7 @@ pub(crate) fn table(alloc: Global, texts: &Texts, kept: &mut Kept) -> Result<Vec
     ensures fewer { AreFewer kept.old kept.new }
     ensures held { IfOk result (λ slots. AreHeld (length texts.now) slots.items kept.new texts.now) }
 {
-    let mut slots = free_slots(alloc, slots_for(texts.len()))?;
+    let mut slots = free_slots(alloc, slots_for(texts.len(), more))?;
     for number in 0..texts.len() {
         settle(alloc, &mut slots, texts, kept, number)?;
     }
@@ -229,8 +234,10 @@ fn free_slots(alloc: Global, count: usize) -> Result<Vec<Slot>, AllocError>
     Ok(slots)
 }
 
-/// The length of a table for so many texts, which then take at most half of it.
-fn slots_for(count: usize) -> usize {
-    let wanted = count.saturating_mul(2).max(FIRST_SLOTS);
+/// The length of a table of which so many texts and as many again, or `more` where that is more, take at most seven
+/// eighths.
+fn slots_for(count: usize, more: usize) -> usize {
+    let texts = count.saturating_add(count.max(more));
+    let wanted = texts.saturating_add(texts.div_ceil(7)).max(FIRST_SLOTS);
     wanted.checked_next_power_of_two().unwrap_or(wanted)
 }

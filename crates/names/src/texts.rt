@@ -75,6 +75,13 @@ impl Texts {
         Ok(())
     }
 
+    /// Makes room for so many more, where there is memory for it, but for their bytes.
+    pub(crate) fn reserve(&mut self, more: usize)
+        ensures { self.new ≡ self.old }
+    {
+        let _ = self.ends.reserve(more);
+    }
+
     /// Keeps the first `len` texts.
     pub(crate) fn truncate(&mut self, len: usize)
         ensures { self.new ≡ take len self.old }

@@ -155,7 +155,6 @@ fn mark_word(names: &NameTable, word: &[u8], mark: bool, marks: &mut [bool])
     requires { length marks.old ≡ length names.now }
     ensures { marks.new ≡ marked (λ x. name_eq x word.now) mark names.now marks.old }
 {
-    names.distinct();
     match names.find(word) {
         Some(code) => marks[code] = mark,
         None => {}

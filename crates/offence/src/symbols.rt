@@ -91,14 +91,14 @@ fn first_marked<'a>(
     ensures { (t : Name → Bool) → marks.now ≡ map t names.now
         → MatchOption result (list_any t words.entry.now ≡ false) (λ r. IsSymbolAt words.entry.now t r.0 r.1.now) }
 {
-    let _count = words.len();
     let mut left = words.iter();
-    let mut index = 0usize;
-    while let Some(name) = left.next() {
+    for index in 0..words.len() {
+        let Some(name) = left.next() else {
+            return None;
+        };
         if mark_of(names, marks, name) {
             return Some((index, name));
         }
-        index += 1;
     }
     None
 }
@@ -126,11 +126,9 @@ fn is_variable(earlier: &[Stmt], name: &[u8]) -> bool
 pub(crate) fn twice(alloc: Global, words: &Words) -> Result<Option<Witness>, AllocError>
     ensures { IfOk result (λ found. MatchOption found (all_different words.now ≡ true) (IsRepeated words.now)) }
 {
-    let _count = words.len();
     let mut names = NameTable::new(alloc);
-    let mut left = words.iter();
-    let mut index = 0usize;
-    while let Some(word) = left.next() {
+    for word in words.iter() {
+        let index = names.len();
         let first = names.code(alloc, word)?;
         if first < index {
             return Ok(Some(Witness::Twice {
@@ -138,8 +136,6 @@ pub(crate) fn twice(alloc: Global, words: &Words) -> Result<Option<Witness>, All
                 second: index,
             }));
         }
-        index += 1;
     }
-    names.distinct();
     Ok(None)
 }

@@ -65,6 +65,13 @@ impl Judge {
         }
     }
 
+    /// Makes room for so many more names, where there is memory for it.
+    pub(crate) fn reserve(&mut self, more: usize)
+        ensures { self.new ≡ self.old }
+    {
+        self.names.reserve(self.alloc, more);
+    }
+
     /// Marks the statements accepted so far. It takes no memory.
     pub(crate) fn mark(&mut self)
         requires { IsTrue (is_closed self.old.statements) }

@@ -65,10 +65,8 @@ impl Numbering {
 
     /// How many names there are.
     pub(crate) fn len(&self) -> usize
-        ensures len { result ≡ length self.now }
-        ensures fits { result ≤ 2 ^ 32 }
+        ensures { result ≡ length self.now }
     {
-        self.names.few();
         self.names.len()
     }
 
@@ -77,7 +75,6 @@ impl Numbering {
         ensures number { option_map (λ p. p.0) result ≡ code_of (declared_names self.now) name.now }
         ensures kind { option_map (λ p. p.1) result ≡ kind_in self.now name.now }
     {
-        self.names.few();
         match self.names.find(name) {
             Some(number) => Some((
                 number as u32,
@@ -115,16 +112,22 @@ impl Numbering {
         ensures ok { OnOk result (self.new ≡ self.old ++ (name.now, kind) ∷ []) }
         ensures err { OnErr result (self.new ≡ self.old) }
     {
-        self.names.few();
-        let number = self.names.len();
+        let number = self.names.add(alloc, name)?;
         let before = symbol_count(self.entries.as_slice());
-        self.names.add(alloc, name)?;
         let pushed = self.entries.push(Entry { kind, before });
         if pushed.is_err() {
             self.names.truncate(number);
             return Err(AllocError);
         }
         Ok(())
+    }
+
+    /// Makes room for so many more names, where there is memory for it.
+    pub(crate) fn reserve(&mut self, alloc: Global, more: usize)
+        ensures { self.new ≡ self.old }
+    {
+        self.names.reserve(alloc, more);
+        let _ = self.entries.reserve(more);
     }
 
     /// Keeps the first `len` names.

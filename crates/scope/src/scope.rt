@@ -104,6 +104,14 @@ impl Scope {
         }
     }
 
+    /// Makes room for so many more labels, where there is memory for it: statements that carry them are then added
+    /// faster.
+    pub fn reserve(&mut self, labels: usize)
+        ensures { self.new ≡ self.old }
+    {
+        self.judge.reserve(labels);
+    }
+
     /// Marks the statements accepted so far. It takes no memory.
     pub fn mark(&mut self)
         requires { IsTrue (is_closed self.old.statements) }

@@ -26,4 +26,4 @@ returns c = λ s h.
     let same : c.requires.assertion.0 ≡ s = same_Some _ _ (sym c.requires.assertion.1.0 ∙ h) in
     subst (λ r. IfSome c.cited.result (IsCited (statements_of k) k.names c.args.a r)) same
     (some-map c.cited.result (AreWhole t.1) (IsCited (statements_of k) k.names c.args.a c.requires.assertion.0)
-    (λ x p. there-cited k c.args.a t.0 c.requires.assertion.0 t.1 x c.requires.stored c.requires.distinct c.requires.assertion.1.1 w p) (c.cited.ensures t.1 here))
+    (λ x p. there-cited k c.args.a t.0 c.requires.assertion.0 t.1 x c.requires.stored c.requires.assertion.1.1 w p) (c.cited.ensures t.1 here))

@@ -9,6 +9,7 @@ use Rattle.frame.specs.Drafts.{drafted}
 use Rattle.frame.proofs.CollectedLemmas.{collected-hypotheses, found-floats}
 use Rattle.frame.proofs.AssertionLemmas.{hypotheses-are, floats-are, parts-kept}
 use Rattle.frame.proofs.EnterLemmas.{ok-given, essentials-kept}
+use Rattle.frame.proofs.SymbolsLemmas.{stored-distinct}
 use Rattle.frame.proofs.enter.keep.Goals as goal
 
 pub parts-requires-clause-hypotheses : goal.parts-requires-clause-hypotheses
@@ -17,7 +18,7 @@ parts-requires-clause-hypotheses c =
     let s = c.requires.next.0 in
     let n = c.requires.next.1 in
     subst (AreHypotheses k.entries)
-    (sym (collected-hypotheses k.entries k.names k.labels (length k.labels) (statements_of k) refl c.distinct.ensures c.requires.stored.coded c.requires.stored.legal s c.args.draft.now.symbols.items c.requires.codes n.stand
+    (sym (collected-hypotheses k.entries k.names k.labels (length k.labels) (statements_of k) refl (stored-distinct k c.requires.stored) c.requires.stored.coded c.requires.stored.legal s c.args.draft.now.symbols.items c.requires.codes n.stand
     (essentials-kept k c.requires.stored)))
     (hypotheses-are k.names k.labels k.entries s)
 
@@ -25,7 +26,7 @@ pub parts-requires-clause-floats : goal.parts-requires-clause-floats
 parts-requires-clause-floats c =
     let k = c.args.stock.now in
     subst (AreHypotheses k.entries)
-    (sym (found-floats k.entries k.names k.labels (length k.labels) (statements_of k) refl c.distinct.ensures c.requires.stored.coded c.requires.stored.legal c.args.draft.now.symbols.items c.requires.codes))
+    (sym (found-floats k.entries k.names k.labels (length k.labels) (statements_of k) refl (stored-distinct k c.requires.stored) c.requires.stored.coded c.requires.stored.legal c.args.draft.now.symbols.items c.requires.codes))
     (floats-are k.names k.labels k.entries (decode k.names c.args.draft.now.symbols.items))
 
 pub returns-clause-kept : goal.returns-clause-kept
@@ -33,8 +34,8 @@ returns-clause-kept c = λ s n.
     let k = c.args.stock.now in
     ok-given c.parts.result (is_essential s ≡ true) _ _ _
     (λ parts own. parts-kept k.entries (statements_of k) s c.args.draft.now.symbols.items (drafted c.parts.new.draft)
-    (collected-hypotheses k.entries k.names k.labels (length k.labels) (statements_of k) refl c.distinct.ensures c.requires.stored.coded c.requires.stored.legal s c.args.draft.now.symbols.items c.requires.codes n.stand
+    (collected-hypotheses k.entries k.names k.labels (length k.labels) (statements_of k) refl (stored-distinct k c.requires.stored) c.requires.stored.coded c.requires.stored.legal s c.args.draft.now.symbols.items c.requires.codes n.stand
     (essentials-kept k c.requires.stored))
-    (found-floats k.entries k.names k.labels (length k.labels) (statements_of k) refl c.distinct.ensures c.requires.stored.coded c.requires.stored.legal c.args.draft.now.symbols.items c.requires.codes
+    (found-floats k.entries k.names k.labels (length k.labels) (statements_of k) refl (stored-distinct k c.requires.stored) c.requires.stored.coded c.requires.stored.legal c.args.draft.now.symbols.items c.requires.codes
     ∙ ap (floats_in (statements_of k)) n.stand)
     own parts) c.parts.ensures.parts (λ e. c.parts.ensures.own (n.own e))

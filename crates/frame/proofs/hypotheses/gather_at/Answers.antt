@@ -15,7 +15,7 @@ spread-requires-clause-hypotheses c =
     let s = c.requires.assertion.0 in
     let t = is-there k c.args.a s c.requires.stored c.requires.assertion.1 in
     subst (AreHypotheses k.entries) (sym (c.in_ok-mandatory_at.ensures s c.requires.assertion.1.0))
-    (mandatory-are k c.args.a t.0 s t.1 c.requires.stored c.requires.distinct c.requires.assertion.1.1 t.2)
+    (mandatory-are k c.args.a t.0 s t.1 c.requires.stored c.requires.assertion.1.1 t.2)
 
 pub returns-clause-gathered : goal.returns-clause-gathered
 returns-clause-gathered c =
@@ -26,5 +26,5 @@ returns-clause-gathered c =
     (λ p r h.
     let same : s ≡ r = same_Some _ _ (sym c.requires.assertion.1.0 ∙ h) in
     subst (AreListsOf (statements_of k) k.names c.args.a (drafted c.spread.new.draft)) same
-    (spread-lists k c.args.a t.0 s t.1 c.requires.stored c.requires.distinct c.requires.assertion.1.1 t.2 c.mandatory_at.new.list.items (drafted c.spread.new.draft) p (c.in_ok-mandatory_at.ensures s c.requires.assertion.1.0)))
+    (spread-lists k c.args.a t.0 s t.1 c.requires.stored c.requires.assertion.1.1 t.2 c.mandatory_at.new.list.items (drafted c.spread.new.draft) p (c.in_ok-mandatory_at.ensures s c.requires.assertion.1.0)))
     c.spread.ensures.spread

@@ -19,7 +19,7 @@ add_essentials-requires-clause-ascends c =
     let here = ap (slice_get k.entries) back ∙ t.2.here in
     let own = sym (c.is_whole.ensures t.1 here) ∙ c.if-is_whole.false in
     let list = c.in_ok-extend_from_slice.ensures.items ∙ (ap (λ xs. xs ++ c.hypotheses.result.now) c.requires.empty ∙ c.hypotheses.ensures t.1 here) in
-    subst Ascends (sym list) (own-ascends k c.args.a t.0 c.requires.assertion.0 t.1 c.requires.stored c.requires.distinct c.requires.assertion.1.1 t.2 own)
+    subst Ascends (sym list) (own-ascends k c.args.a t.0 c.requires.assertion.0 t.1 c.requires.stored c.requires.assertion.1.1 t.2 own)
 
 pub returns-then-is_whole : goal.returns-then-is_whole
 returns-then-is_whole c = λ s h.
@@ -30,7 +30,7 @@ returns-then-is_whole c = λ s h.
     let whole = sym (c.is_whole.ensures t.1 here) ∙ c.if-is_whole.true in
     let list = c.in_ok-extend_from_slice.ensures.items ∙ (ap (λ xs. xs ++ c.hypotheses.result.now) c.requires.empty ∙ c.hypotheses.ensures t.1 here) in
     let same : c.requires.assertion.0 ≡ s = same_Some _ _ (sym c.requires.assertion.1.0 ∙ h) in
-    list ∙ (mandatory-whole k c.args.a t.0 c.requires.assertion.0 t.1 c.requires.stored c.requires.distinct c.requires.assertion.1.1 t.2 whole ∙ ap (hypotheses (before (statements_of k) c.args.a)) same)
+    list ∙ (mandatory-whole k c.args.a t.0 c.requires.assertion.0 t.1 c.requires.stored c.requires.assertion.1.1 t.2 whole ∙ ap (hypotheses (before (statements_of k) c.args.a)) same)
 
 pub returns-else-is_whole : goal.returns-else-is_whole
 returns-else-is_whole c = λ s h.
@@ -43,5 +43,5 @@ returns-else-is_whole c = λ s h.
     let same : c.requires.assertion.0 ≡ s = same_Some _ _ (sym c.requires.assertion.1.0 ∙ h) in
     on-ok-weaker c.add_essentials.result _ _
     (λ e. e ∙ (ap (with_essentials k.entries (actives is_essential (take (c.args.a - 1) (statements_of k)))) list
-    ∙ (mandatory-own k c.args.a t.0 c.requires.assertion.0 t.1 c.requires.stored c.requires.distinct c.requires.assertion.1.1 t.2 own ∙ ap (hypotheses (before (statements_of k) c.args.a)) same)))
+    ∙ (mandatory-own k c.args.a t.0 c.requires.assertion.0 t.1 c.requires.stored c.requires.assertion.1.1 t.2 own ∙ ap (hypotheses (before (statements_of k) c.args.a)) same)))
     c.add_essentials.ensures

@@ -9,5 +9,5 @@ returns-then-code-count-clause-made c =
 
 pub returns-clause-made : goal.returns-clause-made
 returns-clause-made c =
-    with-fresh c.args.names.now c.code.new.self c.args.word.now c.distinct.ensures
+    with-fresh c.args.names.now c.code.new.self c.args.word.now c.in_ok-code.ensures.distinct
     (c.in_ok-code.ensures.fresh (omega (arith, c.if-code-count.false, c.len-count.ensures)))

@@ -4,7 +4,7 @@ use Rattle.offence.proofs.MarksLemmas.{mark_is}
 use Rattle.offence.proofs.marks.mark_of.Goals as goal
 
 pub returns-in-Some : goal.returns-in-Some
-returns-in-Some c t e = mark_is t c.args.names.now c.args.marks.now c.args.name.now c.in-Some.code (sym c.in-Some.ensures) e
+returns-in-Some c t e = mark_is t c.args.names.now c.args.marks.now c.args.name.now c.in-Some.code (sym c.in-Some.ensures.code) e
 
 pub returns-in-None : goal.returns-in-None
-returns-in-None c t e = absurd (true≢false (sym c.requires.named ∙ unknown-number c.args.names.now c.args.name.now c.in-None.ensures))
+returns-in-None c t e = absurd (true≢false (sym c.requires.named ∙ unknown-number c.args.names.now c.args.name.now c.in-None.ensures.code))

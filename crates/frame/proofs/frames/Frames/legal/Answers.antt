@@ -5,4 +5,4 @@ use Rattle.frame.proofs.CitedLemmas.{all-legal}
 use Rattle.frame.proofs.frames.Frames.legal.Goals as goal
 
 pub returns : goal.returns
-returns c = subst (λ (v : Numbered). AreLegal v.statements v.names) c.self.view_is (all-legal c.self.inside.stock c.self.invariant c.distinct.ensures)
+returns c = subst (λ (v : Numbered). AreLegal v.statements v.names) c.self.view_is (all-legal c.self.inside.stock c.self.invariant)

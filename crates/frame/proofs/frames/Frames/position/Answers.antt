@@ -49,17 +49,17 @@ pub returns-in_err-number : goal.returns-in_err-number
 returns-in_err-number c =
     let k = c.self.inside.stock in
     is-none c.args.self.now.statements c.args.label.now c.from_residual.result c.from_residual.ensures
-    (none (statements_of k) c.args.self.now.statements k.labels c.args.label.now (ap (λ v. v.statements) c.self.view_is) c.self.invariant.labels_kept (sym c.in_err-number.ensures))
+    (none (statements_of k) c.args.self.now.statements k.labels c.args.label.now (ap (λ v. v.statements) c.self.view_is) c.self.invariant.labels_kept (sym c.in_err-number.ensures.code))
 
 pub index-requires : goal.index-requires
 index-requires c =
     let k = c.self.inside.stock in
-    let b = below (statements_of k) k.labels k.positions.items c.args.label.now c.in_ok-number.number c.self.invariant.labels_kept c.self.invariant.positions_kept (sym c.in_ok-number.ensures) in
+    let b = below (statements_of k) k.labels k.positions.items c.args.label.now c.in_ok-number.number c.self.invariant.labels_kept c.self.invariant.positions_kept (sym c.in_ok-number.ensures.code) in
     omega (arith, b, k.positions.ok.0)
 
 pub returns : goal.returns
 returns c =
     let k = c.self.inside.stock in
-    let b = below (statements_of k) k.labels k.positions.items c.args.label.now c.in_ok-number.number c.self.invariant.labels_kept c.self.invariant.positions_kept (sym c.in_ok-number.ensures) in
+    let b = below (statements_of k) k.labels k.positions.items c.args.label.now c.in_ok-number.number c.self.invariant.labels_kept c.self.invariant.positions_kept (sym c.in_ok-number.ensures.code) in
     found (statements_of k) c.args.self.now.statements k.labels k.positions.items c.args.label.now c.in_ok-number.number c.index.result.now (ap (λ v. v.statements) c.self.view_is)
-    c.self.invariant.labels_kept c.self.invariant.positions_kept (sym c.in_ok-number.ensures) (get_or_read k.positions.items _ _ b c.index.ensures 0)
+    c.self.invariant.labels_kept c.self.invariant.positions_kept (sym c.in_ok-number.ensures.code) (get_or_read k.positions.items _ _ b c.index.ensures 0)

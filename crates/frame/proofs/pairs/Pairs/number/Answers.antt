@@ -10,4 +10,4 @@ returns-in-None-clause-unnamed c =
     let k = c.self.inside.stock.now in
     ap (λ (v : Numbered). is_variable v.statements c.args.name.now) (sym c.self.view_is)
     ∙ unnamed-none k.names k.labels (length k.labels) (c.self.inside.at - 1) c.args.name.now k.entries
-    (unknown-number k.names c.args.name.now c.in-None.ensures) c.self.invariant.0.coded
+    (unknown-number k.names c.args.name.now c.in-None.ensures.code) c.self.invariant.0.coded

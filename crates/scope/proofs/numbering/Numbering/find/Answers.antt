@@ -17,18 +17,18 @@ declared names kinds seen l v = ap declared_names (sym v) ∙ names-seen names k
 
 pub overflow_cast-result : goal.overflow_cast-result
 overflow_cast-result c =
-    let p = code-name c.self.inside.names c.args.name.now c.in-Some.number (sym c.in-Some.ensures) in
-    omega (arith, p.0, c.few.ensures)
+    let p = code-name c.self.inside.names c.args.name.now c.in-Some.number (sym c.in-Some.ensures.code) in
+    omega (arith, p.0, c.in-Some.ensures.fits)
 
 pub returns-in-Some-clause-number : goal.returns-in-Some-clause-number
-returns-in-Some-clause-number c = c.in-Some.ensures ∙ ap (λ names. code_of names c.args.name.now) (sym (declared c.self.inside.names (kinds_of c.self.inside.entries.items) c.args.self.now (kinds-length c.self.inside.names c.self.inside.entries.items c.self.invariant.0) c.self.view_is))
+returns-in-Some-clause-number c = c.in-Some.ensures.code ∙ ap (λ names. code_of names c.args.name.now) (sym (declared c.self.inside.names (kinds_of c.self.inside.entries.items) c.args.self.now (kinds-length c.self.inside.names c.self.inside.entries.items c.self.invariant.0) c.self.view_is))
 
 pub returns-in-None-clause-number : goal.returns-in-None-clause-number
-returns-in-None-clause-number c = c.in-None.ensures ∙ ap (λ names. code_of names c.args.name.now) (sym (declared c.self.inside.names (kinds_of c.self.inside.entries.items) c.args.self.now (kinds-length c.self.inside.names c.self.inside.entries.items c.self.invariant.0) c.self.view_is))
+returns-in-None-clause-number c = c.in-None.ensures.code ∙ ap (λ names. code_of names c.args.name.now) (sym (declared c.self.inside.names (kinds_of c.self.inside.entries.items) c.args.self.now (kinds-length c.self.inside.names c.self.inside.entries.items c.self.invariant.0) c.self.view_is))
 
 pub returns-in-Some-clause-kind : goal.returns-in-Some-clause-kind
 returns-in-Some-clause-kind c =
-    let h = sym c.in-Some.ensures in
+    let h = sym c.in-Some.ensures.code in
     let p = code-name c.self.inside.names c.args.name.now c.in-Some.number h in
     sym (ap (λ names. kind_in names c.args.name.now) (sym c.self.view_is)
     ∙ kind-at c.self.inside.names (kinds_of c.self.inside.entries.items) c.args.name.now c.in-Some.number c.entry_at.result.kind p.0 p.1 (code-first c.self.inside.names c.args.name.now c.in-Some.number h)
@@ -37,4 +37,4 @@ returns-in-Some-clause-kind c =
 pub returns-in-None-clause-kind : goal.returns-in-None-clause-kind
 returns-in-None-clause-kind c =
     sym (ap (λ names. kind_in names c.args.name.now) (sym c.self.view_is)
-    ∙ kind-none c.self.inside.names (kinds_of c.self.inside.entries.items) c.args.name.now (unknown-number c.self.inside.names c.args.name.now c.in-None.ensures))
+    ∙ kind-none c.self.inside.names (kinds_of c.self.inside.entries.items) c.args.name.now (unknown-number c.self.inside.names c.args.name.now c.in-None.ensures.code))

@@ -1,11 +1,8 @@
-use Rattle.std.proofs.Common.{◌∙◌, ap, sym, arith, length}
+use Rattle.std.proofs.Common.{◌∙◌, ap, sym, length}
 use Rattle.scope.proofs.KindsLemmas.{length-seen}
 use Rattle.scope.specs.Entries.{kinds_of}
 use Rattle.scope.proofs.EntriesLemmas.{kinds-length}
 use Rattle.scope.proofs.numbering.Numbering.len.Goals as goal
 
-pub returns-clause-len : goal.returns-clause-len
-returns-clause-len c = c.len.ensures ∙ (sym (length-seen c.self.inside.names (kinds_of c.self.inside.entries.items) (kinds-length c.self.inside.names c.self.inside.entries.items c.self.invariant.0)) ∙ ap length c.self.view_is)
-
-pub returns-clause-fits : goal.returns-clause-fits
-returns-clause-fits c = omega (arith, c.len.ensures, c.few.ensures)
+pub returns : goal.returns
+returns c = c.len.ensures ∙ (sym (length-seen c.self.inside.names (kinds_of c.self.inside.entries.items) (kinds-length c.self.inside.names c.self.inside.entries.items c.self.invariant.0)) ∙ ap length c.self.view_is)
