@@ -24,7 +24,7 @@ pub returns-then-is_err-clause-same_names : goal.returns-then-is_err-clause-same
 returns-then-is_err-clause-same_names c =
     let more = with_kinds-more c.args.names.now Variable c.args.symbols.now in
     let back : c.truncate.new.self ≡ c.args.names.now =
-    c.truncate.ensures ∙ (ap (take c.len-len.result) (c.in_ok-declare_all.ensures.ok ∙ more.1) ∙ take_at c.args.names.now more.0 c.len-len.result (sym c.len-len.ensures.len)) in
+    c.truncate.ensures ∙ (ap (take c.len-len.result) (c.in_ok-declare_all.ensures.ok ∙ more.1) ∙ take_at c.args.names.now more.0 c.len-len.result (sym c.len-len.ensures)) in
     on_err c.push_all-pushed.result back
   where
     on_err : {A B : Type 0} {P : Type 0} (r : Result A B) → P → OnErr r P

@@ -14,6 +14,6 @@ invariant_of-self c =
     record {
       kept = subst (λ (M : Database). IsKept S M a.names a.variables a.typed a.blocks.items c.sizes-self-inside.result c.len-self-inside.result) (sym c.same-self-inside.ensures)
           (kept-mark S a.marked.statements a.names a.variables a.typed a.blocks.items a.mark c.sizes-self-inside.result a.marked_names c.len-self-inside.result closed
-          (c.sizes-self-inside.ensures ∙ ap (λ v. sizes_of (active v.statements)) (sym c.self.view_is)) c.len-self-inside.ensures.len c.self.invariant.kept);
+          (c.sizes-self-inside.ensures ∙ ap (λ v. sizes_of (active v.statements)) (sym c.self.view_is)) c.len-self-inside.ensures c.self.invariant.kept);
       stands = subst (λ (M : Database). IsStanding S M a.standing.items a.count a.count) (sym c.same-self-inside.ensures) (standing-mark S a.marked.statements a.standing.items a.count a.marked_count c.self.invariant.stands);
     }
