@@ -63,7 +63,7 @@ impl<V: Value> NodeCore<V> {
         requires { me < length weights }
         ensures { result.node ≡ new_node me weights }
     {
-        let _ = weights.count();
+        prove!(me < weights.count());
         NodeCore {
             alloc,
             me,
