@@ -16,7 +16,10 @@ pub(crate) fn make_room(scope: &mut Scope, frames: &mut Frames, statements: &[St
     ensures scope { scope.new ≡ scope.old }
     ensures frames { frames.new ≡ frames.old }
 {
-    let labels = statements.iter().filter(|statement| has_label(statement)).count();
+    let labels = statements
+        .iter()
+        .filter(|statement| has_label(statement))
+        .count();
     scope.reserve(labels);
     frames.reserve(labels);
 }
