@@ -1,5 +1,5 @@
 //! A text read by halves, each half of a large one by a thread of its own.
-ghost use Rattle.std.specs.Prelude.{◌≡◌, ℕ, ◌≤◌, ◌⊎◌, ◌++◌, IfOk, IfErr, IfSome, IsErrAnd, MatchResult};
+ghost use Rattle.std.specs.Prelude.{◌≡◌, ℕ, ◌⊎◌, ◌++◌, IfOk, IfErr, IfSome, IsErrAnd, MatchResult};
 ghost use Rattle.std.specs.Thread.{IsSync};
 ghost use Rattle.mm_lex.specs.Faults.{IsFirstBadByte, IsCommentFault};
 ghost use Rattle.mm_read.specs.Statements.{Database};
@@ -24,7 +24,6 @@ pub fn read_by<R: Threads + Sync>(
     text: &[u8],
     workers: usize,
 ) -> Result<Vec<Stmt>, ReadFault>
-    requires { (1 ≤ workers) × (workers ≤ 16) }
     ensures found { IfOk result (λ statements. Reads text.now statements.items) }
     ensures fault { IfErr result (IsReadFault text.now) }
 

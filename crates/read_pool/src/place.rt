@@ -11,19 +11,20 @@ pub(crate) const STRETCH: usize = 1 << 20;
 pub(crate) fn place_near(text: &[u8], near: usize) -> usize
     ensures { IsPlace text.now result }
 {
-    let mut found = None;
-    for at in near..text
+    let end = text
         .len()
         .saturating_sub(2)
-        .min(near.saturating_add(STRETCH))
-    {
+        .min(near.saturating_add(STRETCH));
+    let mut found = None;
+    for at in near..end {
         match &text[at..at + 2] {
             b"$." if found.is_none() => found = end_at(text, at + 2),
             b"$)" => found = None,
-            b"$(" => match found {
-                Some(place) => return place,
-                None => {}
-            },
+            b"$(" => {
+                if let Some(place) = found {
+                    return place;
+                }
+            }
             _ => {}
         }
     }
