@@ -1,10 +1,12 @@
 -- What judging statements behind others finds: the least rule broken, or else the least `$p` that is not proved.
 -- Source: this project's profile; Metamath, 4.2 and appendix B.
 -- The code adds the statements to a scope and to frames, and goes back where it finds a fault.
-use Rattle.std.specs.Prelude.{◌≡◌, ℕ, ◌+◌, ◌<◌, ◌≤◌, IsTrue, IsFalse, true, false, List, ◌++◌, length, Option, Some, None, Result, Ok, Err, Vec}
+use Rattle.std.specs.Prelude.{◌≡◌, ℕ, ◌+◌, ◌<◌, ◌≤◌, IsTrue, IsFalse, true, false, List, ◌++◌, length, Option, Some, None, Result, Ok, Err, IfOk, IfErr, Vec}
 use Rattle.std.specs.declared.alloc.Global.{Global}
 use Rattle.mm_read.specs.declared.stmt.Stmt.{Stmt}
+use Rattle.mm_read.specs.declared.fault.ReadFault.{ReadFault}
 use Rattle.mm_read.specs.Statements.{Database, AreShaped}
+use Rattle.mm_read.specs.Reads.{Reads, IsReadFault}
 use Rattle.scope.specs.Accepted.{Accepted}
 use Rattle.scope.specs.Active.{bares, is_closed, proof_of}
 use Rattle.scope.specs.Legal.{first_broken}
@@ -96,6 +98,12 @@ JudgesCharter old author names Repeat new = ⊥
 abbrev pub Judges : Database → Option (List ℕ) → Entry → Verdict → Database → Option (List ℕ) → Type 0
 Judges L charter (Text submission) verdict L' charter' = JudgesText L charter submission verdict L' × (charter' ≡ charter)
 Judges L charter (Charter author serial names) verdict L' charter' = JudgesCharter charter author names verdict charter' × (L' ≡ L)
+
+-- what is returned of a text are the statements that it writes, or a fault that it has
+abbrev pub ReadsTexts : (List ℕ → Result (Vec Stmt Global) ReadFault → Type 0) → Type 0
+ReadsTexts returns =
+    (text : List ℕ) (r : Result (Vec Stmt Global) ReadFault) → returns text r
+    → IfOk r (λ statements. Reads text statements.items) × IfErr r (IsReadFault text)
 
 -- the statements of a text that may be judged, or the cause why not, whatever stands before them
 abbrev pub IsReading : Option (List ℕ) → Submission → Result (Vec Stmt Global) Cause → Type 0

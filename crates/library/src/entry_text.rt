@@ -1,30 +1,34 @@
 //! What a text reads as, and what the charter that is there forbids its author.
-ghost use Rattle.std.specs.Prelude.{◌≡◌, IfOk};
+ghost use Rattle.std.specs.Prelude.{◌≡◌, IfErr, IfOk};
+ghost use Rattle.std.specs.Fn.{FnReturnsAt};
+ghost use Rattle.mm_read.specs.Reads.{Reads, IsReadFault};
 ghost use Rattle.library.specs.Charters.{first_declaration, forbidden, is_declaration, may_declare};
-ghost use Rattle.library.specs.Judging.{IsReading};
+ghost use Rattle.library.specs.Judging.{IsReading, ReadsTexts};
 
 use crate::charter::Names;
 use crate::submission::{MOST_BYTES, Submission};
 use crate::verdict::Cause;
-use mm_read::{ReadFault, Stmt, read};
-use std::alloc::{AllocError, Global};
+use mm_read::{ReadFault, Stmt};
+use std::alloc::AllocError;
 
 /// The statements of the text, where it is within the limit, reads, and the charter forbids its author none of them;
-/// else the cause why it is refused, whatever stands before it.
+/// else the cause why it is refused, whatever stands before it. `read` answers of a text the statements that it writes.
 ///
-/// Errors: a growth was refused. Cost: the size of the text.
-pub(crate) fn read_text(
-    alloc: Global,
+/// Errors: a growth was refused. Cost: that of `read`, and the number of statements.
+pub(crate) fn read_text<T: Fn(&[u8]) -> Result<Vec<Stmt>, ReadFault>>(
     charter: &Option<Names>,
     submission: &Submission,
+    read: &T,
 ) -> Result<Result<Vec<Stmt>, Cause>, AllocError>
+    requires callable { T.IsAlwaysCallable read.now }
+    requires reads { ReadsTexts (FnReturnsAt T.Fn read.now) }
     ensures { IfOk result (IsReading charter.now submission.now) }
 {
     let text = submission.text.as_slice();
     if text.len() > MOST_BYTES {
         return Ok(Err(Cause::TooLong));
     }
-    match read(alloc, text) {
+    match statements_of(text, read) {
         Ok(statements) => match forbidden(charter, submission.author, &statements) {
             Some(statement) => Ok(Err(Cause::NotChartered { statement })),
             None => Ok(Ok(statements)),
@@ -33,6 +37,19 @@ pub(crate) fn read_text(
         Err(ReadFault::Shape { .. }) => Ok(Err(Cause::Shape)),
         Err(ReadFault::Memory) => Err(AllocError),
     }
+}
+
+/// What `read` answers of the text.
+fn statements_of<T: Fn(&[u8]) -> Result<Vec<Stmt>, ReadFault>>(
+    text: &[u8],
+    read: &T,
+) -> Result<Vec<Stmt>, ReadFault>
+    requires callable { T.IsAlwaysCallable read.now }
+    requires reads { ReadsTexts (FnReturnsAt T.Fn read.now) }
+    ensures found { IfOk result (λ statements. Reads text.now statements.items) }
+    ensures fault { IfErr result (IsReadFault text.now) }
+{
+    read(text)
 }
 
 /// Whether the author may declare constants and axioms: where a charter is there, it names him.

@@ -7,7 +7,7 @@ ghost use Rattle.library.specs.Good.{Good};
 ghost use Rattle.library.specs.LibraryOf.{Applies, empty, status};
 ghost use Rattle.library.specs.Ledger.{IsDecision};
 ghost use Rattle.library.specs.Kept.{IsWithinSteps, IsWithinEntry, IsWithinText};
-ghost use Rattle.library.specs.Judging.{Judges, JudgesText, JudgesCharter};
+ghost use Rattle.library.specs.Judging.{Judges, JudgesText, JudgesCharter, ReadsTexts};
 ghost use Rattle.library.specs.Unproved.{FindsLeast};
 
 use crate::base::Base;
@@ -18,7 +18,8 @@ use crate::submission::Submission;
 use crate::unproved::Proofs;
 use crate::verdict::{Cause, Verdict};
 use crate::verdicts::Verdicts;
-use mm_read::Stmt;
+use mm_read::{ReadFault, Stmt, read};
+use read_pool::read_by;
 use scope::Steps;
 use std::alloc::{AllocError, Global};
 use std::marker::Model;
@@ -69,13 +70,17 @@ impl Library {
         ensures counted { IsWithinSteps self.old.replica (option_map (λ e. e.now) next.entry) self.old.steps self.new.steps }
     {
         let alloc = self.alloc;
-        self.apply_by(next, &|proofs: &Proofs<'_>| judge_here(alloc, proofs))
+        self.apply_by(
+            next,
+            &|text: &[u8]| read(alloc, text),
+            &|proofs: &Proofs<'_>| judge_here(alloc, proofs),
+        )
     }
 
-    /// Applies the next entry as `apply` does, its proofs checked by some workers side by side. Each passes the gate before
-    /// each proof; the jobs are the `$p` of the text, in order. No answer depends on the number of workers.
+    /// Applies the next entry as `apply` does, its text read and its proofs checked by some workers side by side. Each passes
+    /// the gate before each proof; the jobs are the `$p` of the text, in order. No answer depends on the number of workers.
     ///
-    /// Errors and steps: those of `apply`. Cost: that of the entry's own text, its proofs over the workers.
+    /// Errors and steps: those of `apply`. Cost: that of the entry's own text, a large text and its proofs over the workers.
     pub fn apply_with<G: Gate + Sync, R: Threads + Sync>(
         &mut self,
         rt: &R,
@@ -88,18 +93,22 @@ impl Library {
         ensures counted { IsWithinSteps self.old.replica (option_map (λ e. e.now) next.entry) self.old.steps self.new.steps }
     {
         let alloc = self.alloc;
+        let count = workers.count();
         self.apply_by(
             next,
+            &|text: &[u8]| read_by(rt, alloc, text, count),
             &|proofs: &Proofs<'_>| judge_all(rt, alloc, proofs, workers, gate),
         )
     }
 
-    /// Applies the next entry, where `least` answers of proofs the index of the least that is not right.
-    fn apply_by<F: Fn(&Proofs<'_>) -> Result<Option<usize>, AllocError>>(
-        &mut self,
-        next: Option<&Entry>,
-        least: &F,
-    ) -> Result<Verdict, AllocError>
+    /// Applies the next entry, where `read` answers of a text the statements that it writes, and `least` of proofs the
+    /// index of the least that is not right.
+    fn apply_by<
+        T: Fn(&[u8]) -> Result<Vec<Stmt>, ReadFault>,
+        F: Fn(&Proofs<'_>) -> Result<Option<usize>, AllocError>,
+    >(&mut self, next: Option<&Entry>, read: &T, least: &F) -> Result<Verdict, AllocError>
+        requires readable { T.IsAlwaysCallable read.now }
+        requires reads { ReadsTexts (FnReturnsAt T.Fn read.now) }
         requires callable { F.IsAlwaysCallable least.now }
         requires finds { FindsLeast (FnReturnsAt F.Fn least.now) }
         ensures step { IfOk result (λ verdict. Applies self.old.replica (option_map (λ e. e.now) next.entry) verdict self.new.replica) }
@@ -115,11 +124,11 @@ impl Library {
         }
         self.verdicts.reserve()?;
         let verdict = judge(
-            self.alloc,
             &mut self.base,
             &mut self.charter,
             entry,
             &mut self.steps,
+            read,
             least,
         )?;
         self.verdicts.push(entry.author(), entry.serial(), verdict);
@@ -164,14 +173,19 @@ impl Library {
 }
 
 /// The verdict on an entry that was not decided before, and what it changes.
-fn judge<F: Fn(&Proofs<'_>) -> Result<Option<usize>, AllocError>>(
-    alloc: Global,
+fn judge<
+    T: Fn(&[u8]) -> Result<Vec<Stmt>, ReadFault>,
+    F: Fn(&Proofs<'_>) -> Result<Option<usize>, AllocError>,
+>(
     base: &mut Base,
     charter: &mut Option<Names>,
     entry: &Entry,
     steps: &mut Steps,
+    read: &T,
     least: &F,
 ) -> Result<Verdict, AllocError>
+    requires readable { T.IsAlwaysCallable read.now }
+    requires reads { ReadsTexts (FnReturnsAt T.Fn read.now) }
     requires callable { F.IsAlwaysCallable least.now }
     requires finds { FindsLeast (FnReturnsAt F.Fn least.now) }
     ensures judged { IfOk result (λ verdict. Judges base.old charter.old entry.now verdict base.new charter.new) }
@@ -180,27 +194,32 @@ fn judge<F: Fn(&Proofs<'_>) -> Result<Option<usize>, AllocError>>(
     ensures counted { IsWithinEntry entry.now steps.old.count steps.new.count }
 {
     match entry {
-        Entry::Text(submission) => judge_text(alloc, base, charter, submission, steps, least),
+        Entry::Text(submission) => judge_text(base, charter, submission, steps, read, least),
         Entry::Charter { author, names, .. } => judge_charter(charter, *author, names),
     }
 }
 
 /// The verdict on a text that was not decided before, whose statements are added where they are good.
-fn judge_text<F: Fn(&Proofs<'_>) -> Result<Option<usize>, AllocError>>(
-    alloc: Global,
+fn judge_text<
+    T: Fn(&[u8]) -> Result<Vec<Stmt>, ReadFault>,
+    F: Fn(&Proofs<'_>) -> Result<Option<usize>, AllocError>,
+>(
     base: &mut Base,
     charter: &Option<Names>,
     submission: &Submission,
     steps: &mut Steps,
+    read: &T,
     least: &F,
 ) -> Result<Verdict, AllocError>
+    requires readable { T.IsAlwaysCallable read.now }
+    requires reads { ReadsTexts (FnReturnsAt T.Fn read.now) }
     requires callable { F.IsAlwaysCallable least.now }
     requires finds { FindsLeast (FnReturnsAt F.Fn least.now) }
     ensures judged { IfOk result (λ verdict. JudgesText base.old charter.now submission.now verdict base.new) }
     ensures base { OnErr result (base.new ≡ base.old) }
     ensures counted { IsWithinText submission.now steps.old.count steps.new.count }
 {
-    match read_text(alloc, charter, submission)? {
+    match read_text(charter, submission, read)? {
         Ok(statements) => match base.extend(statements, steps, least)? {
             None => Ok(Verdict::Added),
             Some(cause) => Ok(Verdict::Refused(cause)),

@@ -10,5 +10,6 @@ pub mod PartLemmas
 pub mod StatementByStatement
 pub mod OneReading
 pub mod ExportReads
+pub mod JoinedReads
 mod Rows
 pub mod NextLemmas

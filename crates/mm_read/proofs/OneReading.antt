@@ -79,3 +79,17 @@ module _ (text : List ℕ) (offset : ℕ) (bad : IsFirstBadByte text offset) whe
 
   pub bad_no_comment : {P : Type 0} (at : ℕ) → IsCommentFault text at → P
   bad_no_comment at is = absurd (IsClean-no_fault text offset is.0 bad)
+
+-- a text that writes statements writes these alone, and has no fault
+module _ (text : List ℕ) (T : Database) (reads : Reads text T) where
+  pub one_reading : (S : Database) → Reads text S → T ≡ S
+  one_reading S also = one_spelling T S reads.shaped also.shaped (same_tokens text (spelled T) (spelled S) reads.tokens also.tokens)
+
+  pub read_no_bad_byte : {P : Type 0} (offset : ℕ) → IsFirstBadByte text offset → P
+  read_no_bad_byte offset is = bad_no_tokens text offset is (spelled T) reads.tokens
+
+  pub read_no_comment_fault : {P : Type 0} (offset : ℕ) → IsCommentFault text offset → P
+  read_no_comment_fault offset is = absurd (no_comment_fault text reads.tokens.1.0 (spelled T) offset reads.tokens is)
+
+  pub read_no_shape_fault : {P : Type 0} (token : ℕ) → HasShapeFault text token → P
+  read_no_shape_fault token has = absurd (has.2.none T reads.shaped (same_tokens text (spelled T) has.0 reads.tokens has.1))

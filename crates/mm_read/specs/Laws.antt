@@ -1,8 +1,8 @@
 -- The laws of reading and writing.
 -- Source: Metamath, 4.1; they make "the statements of a text" one thing.
 -- The code meets them; they speak of the definitions alone.
-use Rattle.std.specs.Prelude.{◌≡◌, ℕ, ◌⊎◌, List}
-use Rattle.mm_lex.specs.Alphabet.{Name}
+use Rattle.std.specs.Prelude.{◌≡◌, ℕ, ◌⊎◌, Bool, true, ◌||◌, IsTrue, List, [], ◌∷◌, ◌++◌}
+use Rattle.mm_lex.specs.Alphabet.{Name, is_white, starts_white}
 use Rattle.mm_read.specs.Statements.{Database, AreShaped, spelled}
 use Rattle.mm_read.specs.Reads.{Reads, IsShapeFault}
 use Rattle.mm_read.specs.Export.{export_of}
@@ -23,3 +23,13 @@ OneShapeFault = (tokens : List Name) (t u : ℕ) → IsShapeFault tokens t → I
 -- the export form of statements reads as these statements
 abbrev pub ExportReads : Type 0
 ExportReads = (S : Database) → AreShaped S → Reads (export_of S) S
+
+-- no word goes on from the one text into the other: the one is empty or ends white, or the other is empty or begins white
+abbrev pub is_apart : List ℕ → List ℕ → Bool
+is_apart [] other = true
+is_apart (b ∷ []) other = is_white b || starts_white other
+is_apart (b ∷ c ∷ text) other = is_apart (c ∷ text) other
+
+-- a text behind another writes what the one and then what the other writes
+abbrev pub JoinedReads : Type 0
+JoinedReads = (text other : List ℕ) (S T : Database) → Reads text S → Reads other T → IsTrue (is_apart text other) → Reads (text ++ other) (S ++ T)

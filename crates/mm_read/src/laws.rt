@@ -1,5 +1,5 @@
 //! The laws of reading and writing, each a call that does nothing.
-ghost use Rattle.mm_read.specs.Laws.{OneSpelling, SpelledOrFaulty, OneShapeFault, ExportReads};
+ghost use Rattle.mm_read.specs.Laws.{OneSpelling, SpelledOrFaulty, OneShapeFault, ExportReads, JoinedReads};
 
 /// Each list of tokens is spelled by at most one list of statements.
 pub fn one_spelling()
@@ -19,4 +19,9 @@ pub fn one_shape_fault()
 /// The export form of statements reads as these statements.
 pub fn export_reads()
     ensures { ExportReads }
+{}
+
+/// A text behind another writes what the one and then what the other writes, where no word goes on from the one into the other.
+pub fn joined_reads()
+    ensures { JoinedReads }
 {}

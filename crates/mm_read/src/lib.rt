@@ -17,6 +17,6 @@ mod stmt;
 
 pub use export::{push_line, push_line_with_proof, spell};
 pub use fault::ReadFault;
-pub use laws::{export_reads, one_shape_fault, one_spelling, spelled_or_faulty};
+pub use laws::{export_reads, joined_reads, one_shape_fault, one_spelling, spelled_or_faulty};
 pub use parse::read;
 pub use stmt::Stmt;

@@ -1,6 +1,8 @@
-//! Tests of calls on words that no command reaches: places of tokens, and the items that proof tokens write.
+//! Tests of calls that no command reaches, or not as far: places of tokens, the items that proof tokens write, and texts that are cut.
 #![tactic(auto)]
 
+#[cfg(test)]
+mod cut_texts;
 #[cfg(test)]
 mod proof_tokens;
 #[cfg(test)]

@@ -1,0 +1,219 @@
+-- A text behind another writes what the one and then what the other writes, where no word goes on from the one into the
+-- other: the runs of both are those of the one and then those of the other, runs with the same words are cut at the same
+-- comments, and a cut may stand behind another.
+use Rattle.std.specs.Prelude.{◌≡◌, ℕ, ◌+◌, ◌-◌, ◌<◌, suc, Bool, true, false, ◌||◌, if◌then◌else◌, List, [], ◌∷◌, ◌++◌, length, take, drop, Option, Some, None, Ok, Err, refl}
+use Rattle.std.specs.List.{list_all}
+use Rattle.std.proofs.Common.{sym, ◌∙◌, ap, arith, subst, true≢false}
+use Rattle.std.proofs.Math.Seq.{drop-append_seam}
+use Rattle.std.proofs.lemmas.Bool.{and_from}
+use Rattle.std.proofs.lemmas.Grind.{flat_map-append}
+use Rattle.std.proofs.lemmas.List.{append-nil, drop-drop, map-append}
+use Rattle.std.proofs.lemmas.List.Folds.{list_all-append}
+use Rattle.mm_lex.specs.declared.span.Span.{Span}
+use Rattle.mm_lex.specs.Alphabet.{Name, name_eq, is_white, is_allowed, starts_white, with_byte, runs, runs_from, word}
+use Rattle.mm_lex.specs.Tokens.{opener, closer, Cuts, words}
+use Rattle.mm_lex.proofs.PlainLemmas.{append_step}
+use Rattle.mm_lex.proofs.Cutting.{Outcome, outside, inside, prepend, scan, scan-cut}
+use Rattle.mm_lex.proofs.CuttingMeans.{cuts_as, cut-scan}
+use Rattle.mm_lex.proofs.BetweenLemmas.{cuts_join}
+use Rattle.mm_read.specs.Statements.{is_shaped, stmt_tokens, spelled}
+use Rattle.mm_read.specs.Reads.{HasTokens}
+use Rattle.mm_read.specs.Laws.{is_apart}
+use Rattle.mm_read.specs.Laws as laws
+
+-- ---- the runs of both texts
+
+last_byte : (at b : ℕ) (other : List ℕ) (t : Bool) → is_white b ≡ t → (t || starts_white other) ≡ true
+    → runs_from at (b ∷ other) ≡ runs_from at (b ∷ []) ++ runs_from (at + 1) other
+last_byte at b other true e h = rw e refl
+last_byte at b other false e h = rw (e, h) refl
+
+runs-apart : (at : ℕ) (text other : List ℕ) → is_apart text other ≡ true → runs_from at (text ++ other) ≡ runs_from at text ++ runs_from (at + length text) other
+runs-apart at [] other h = let same : at ≡ at + 0 = omega arith in ap (λ n. runs_from n other) same
+runs-apart at (b ∷ []) other h = last_byte at b other (is_white b) refl h
+runs-apart at (b ∷ c ∷ text) other h = append_step at b c text other (is_white b) refl (runs-apart (at + 1) (c ∷ text) other h)
+
+-- ---- the words of runs, by the bytes alone
+
+abbrev with_first : ℕ → Bool → List Name → List Name
+with_first b true ws = (b ∷ []) ∷ ws
+with_first b false [] = (b ∷ []) ∷ []
+with_first b false (w ∷ ws) = (b ∷ w) ∷ ws
+
+abbrev run_words : List ℕ → List Name
+run_words [] = []
+run_words (b ∷ bytes) = if is_white b then run_words bytes else with_first b (starts_white bytes) (run_words bytes)
+
+-- the first of these spans stands there
+abbrev StartsAt : ℕ → List Span → Type 0
+StartsAt at [] = Unit {0}
+StartsAt at (s ∷ spans) = (s.start ≡ at) × (at < s.end)
+
+-- .. or ends behind it
+abbrev EndsBehind : ℕ → List Span → Type 0
+EndsBehind at [] = Unit {0}
+EndsBehind at (s ∷ spans) = at < s.end
+
+with-starts : (at : ℕ) (t : Bool) (spans : List Span) → EndsBehind (at + 1) spans → StartsAt at (with_byte at t spans)
+with-starts at true spans later = (refl, omega arith)
+with-starts at false [] later = (refl, omega arith)
+with-starts at false (s ∷ spans) later = (refl, omega (arith, later))
+
+ends_behind : (at : ℕ) (spans : List Span) → StartsAt at spans → EndsBehind at spans
+ends_behind at [] starts = tt
+ends_behind at (s ∷ spans) starts = starts.1
+
+ends_earlier : (at : ℕ) (spans : List Span) → EndsBehind (at + 1) spans → EndsBehind at spans
+ends_earlier at [] later = tt
+ends_earlier at (s ∷ spans) later = omega (arith, later)
+
+ends_step : (at b : ℕ) (bytes : List ℕ) (t : Bool) → is_white b ≡ t → EndsBehind (at + 1) (runs_from (at + 1) bytes) → EndsBehind at (runs_from at (b ∷ bytes))
+ends_step at b bytes true e later = rw e (ends_earlier at (runs_from (at + 1) bytes) later)
+ends_step at b bytes false e later =
+    rw e (ends_behind at (with_byte at (starts_white bytes) (runs_from (at + 1) bytes)) (with-starts at (starts_white bytes) (runs_from (at + 1) bytes) later))
+
+runs-end : (at : ℕ) (bytes : List ℕ) → EndsBehind at (runs_from at bytes)
+runs-end at [] = tt
+runs-end at (b ∷ bytes) = ends_step at b bytes (is_white b) refl (runs-end (at + 1) bytes)
+
+runs-start : (at : ℕ) (bytes : List ℕ) → starts_white bytes ≡ false → StartsAt at (runs_from at bytes)
+runs-start at [] h = absurd (true≢false h)
+runs-start at (b ∷ bytes) h = rw h (with-starts at (starts_white bytes) (runs_from (at + 1) bytes) (runs-end (at + 1) bytes))
+
+abbrev span_of : ℕ → ℕ → Span
+span_of start end = record { start = start; end = end }
+
+module _ (text : List ℕ) (at b : ℕ) (bytes : List ℕ) (here : drop at text ≡ b ∷ bytes) where
+  behind : drop (at + 1) text ≡ bytes
+  behind = sym (drop-drop 1 at text ∙ ap (λ n. drop n text) (omega arith)) ∙ ap (drop 1) here
+
+  word-one : word text (span_of at (at + 1)) ≡ b ∷ []
+  word-one = let one : at + 1 - at ≡ 1 = omega arith in ap (λ n. take n (drop at text)) one ∙ ap (take 1) here
+
+  word-more : (s : Span) → s.start ≡ at + 1 → at + 1 < s.end → word text (span_of at s.end) ≡ b ∷ word text s
+  word-more s starts long =
+      let one : s.end - at ≡ suc (s.end - (at + 1)) = omega (arith, long) in
+      ap (λ n. take n (drop at text)) one
+      ∙ (ap (take (suc (s.end - (at + 1)))) here
+      ∙ (ap (λ r. b ∷ take (s.end - (at + 1)) r) (sym behind) ∙ ap (λ n. b ∷ take (s.end - n) (drop n text)) (sym starts)))
+
+  words-with : (t : Bool) (spans : List Span) → (t ≡ false → StartsAt (at + 1) spans) → words text (with_byte at t spans) ≡ with_first b t (words text spans)
+  words-with true spans starts = ap (λ w. w ∷ words text spans) word-one
+  words-with false [] starts = ap (λ w. w ∷ []) word-one
+  words-with false (s ∷ spans) starts = ap (λ w. w ∷ words text spans) (word-more s (starts refl).0 (starts refl).1)
+
+  words-step : (t : Bool) → is_white b ≡ t → (rest : List ℕ) → words text (runs_from (at + 1) rest) ≡ run_words rest
+      → words text (runs_from at (b ∷ rest)) ≡ run_words (b ∷ rest)
+  words-step true e rest k = rw e k
+  words-step false e rest k =
+      rw e (words-with (starts_white rest) (runs_from (at + 1) rest) (λ h. runs-start (at + 1) rest h) ∙ ap (with_first b (starts_white rest)) k)
+
+words-runs : (text more : List ℕ) (at : ℕ) (bytes : List ℕ) → drop at text ≡ bytes ++ more → words text (runs_from at bytes) ≡ run_words bytes
+words-runs text more at [] here = refl
+words-runs text more at (b ∷ bytes) here =
+    words-step text at b (bytes ++ more) here (is_white b) refl bytes (words-runs text more (at + 1) bytes (behind text at b (bytes ++ more) here))
+
+-- ---- runs with the same words
+
+module _ (text other : List ℕ) where
+  -- the same tokens, or faults
+  abbrev Alike : Outcome → Outcome → Type 0
+  Alike (Ok ts) (Ok us) = words text ts ≡ words other us
+  Alike (Ok ts) (Err m) = ⊥
+  Alike (Err m) (Ok us) = ⊥
+  Alike (Err m) (Err n) = Unit {0}
+
+  module _ (s u : Span) (same : word text s ≡ word other u) where
+    alike_more : (r t : Outcome) → Alike r t → Alike (prepend (s ∷ []) r) (prepend (u ∷ []) t)
+    alike_more (Ok ts) (Ok us) are = ap (λ w. w ∷ words text ts) same ∙ ap (λ ws. word other u ∷ ws) are
+    alike_more (Ok ts) (Err m) are = are
+    alike_more (Err m) (Ok us) are = are
+    alike_more (Err m) (Err n) are = tt
+
+    alike_outside : (a b : Bool) (r t r' t' : Outcome) → Alike r t → Alike r' t' → Alike (outside a b s r r') (outside a b u t t')
+    alike_outside true b r t r' t' opened rest = opened
+    alike_outside false true r t r' t' opened rest = tt
+    alike_outside false false r t r' t' opened rest = alike_more r' t' rest
+
+    alike_inside : (a b : Bool) (r t r' t' : Outcome) → Alike r t → Alike r' t' → Alike (inside a b s r r') (inside a b u t t')
+    alike_inside true b r t r' t' closed rest = tt
+    alike_inside false true r t r' t' closed rest = closed
+    alike_inside false false r t r' t' closed rest = rest
+
+  -- a comment is open in both, or in none
+  abbrev BothOpen : Option ℕ → Option ℕ → Type 0
+  BothOpen None None = Unit {0}
+  BothOpen (Some m) (Some n) = Unit {0}
+  BothOpen None (Some n) = ⊥
+  BothOpen (Some m) None = ⊥
+
+  scans_alike : (spans others : List Span) (from at : Option ℕ) → BothOpen from at → words text spans ≡ words other others
+      → Alike (scan text spans from) (scan other others at)
+  scans_alike [] [] None None state same = refl
+  scans_alike [] [] (Some m) (Some n) state same = tt
+  scans_alike [] [] None (Some n) state same = absurd state
+  scans_alike [] [] (Some m) None state same = absurd state
+  scans_alike [] (u ∷ others) from at state same = cc
+  scans_alike (s ∷ spans) [] from at state same = cc
+  scans_alike (s ∷ spans) (u ∷ others) None None state same =
+      let first : word text s ≡ word other u = cc in
+      let rest : words text spans ≡ words other others = cc in
+      subst (λ w. Alike (scan text (s ∷ spans) None) (outside (name_eq w opener) (name_eq w closer) u (scan other others (Some u.start)) (scan other others None))) first
+      (alike_outside s u first (name_eq (word text s) opener) (name_eq (word text s) closer) _ _ _ _
+      (scans_alike spans others (Some s.start) (Some u.start) tt rest) (scans_alike spans others None None tt rest))
+  scans_alike (s ∷ spans) (u ∷ others) (Some m) (Some n) state same =
+      let first : word text s ≡ word other u = cc in
+      let rest : words text spans ≡ words other others = cc in
+      subst (λ w. Alike (scan text (s ∷ spans) (Some m)) (inside (name_eq w opener) (name_eq w closer) u (scan other others None) (scan other others (Some n)))) first
+      (alike_inside s u first (name_eq (word text s) opener) (name_eq (word text s) closer) _ _ _ _
+      (scans_alike spans others None None tt rest) (scans_alike spans others (Some m) (Some n) tt rest))
+  scans_alike (s ∷ spans) (u ∷ others) None (Some n) state same = absurd state
+  scans_alike (s ∷ spans) (u ∷ others) (Some m) None state same = absurd state
+
+  -- these spans are cut, and the tokens that are left are these words
+  abbrev IsCutTo : List Span → List Name → Type 0
+  IsCutTo others ws = (us : List Span) × Cuts other others us × (words other us ≡ ws)
+
+  same_cut : (spans tokens others : List Span) → Cuts text spans tokens → words text spans ≡ words other others → IsCutTo others (words text tokens)
+  same_cut spans tokens others cut same =
+      by (scan other others None) refl (subst (λ r. Alike r (scan other others None)) (scan-cut text spans tokens cut) (scans_alike spans others None None tt same))
+    where
+      by : (r : Outcome) → scan other others None ≡ r → Alike (Ok tokens) r → IsCutTo others (words text tokens)
+      by (Ok us) e are = (us, cut-scan other others us e, sym are)
+      by (Err n) e are = absurd are
+
+-- ---- together
+
+module _ (text other : List ℕ) (apart : is_apart text other ≡ true) where
+  abbrev both : List ℕ
+  both = text ++ other
+
+  abbrev later : List Span
+  later = runs_from (length text) other
+
+  front : words text (runs text) ≡ words both (runs text)
+  front = words-runs text [] 0 text (sym (append-nil text)) ∙ sym (words-runs both other 0 text refl)
+
+  back : words other (runs other) ≡ words both later
+  back =
+      words-runs other [] 0 other (sym (append-nil other))
+      ∙ sym (words-runs both [] (length text) other (drop-append_seam text other ∙ sym (append-nil other)))
+
+  whole : runs both ≡ runs text ++ later
+  whole = let none : 0 + length text ≡ length text = omega arith in runs-apart 0 text other apart ∙ ap (λ n. runs text ++ runs_from n other) none
+
+  joined_tokens : (ts us : List Name) → HasTokens text ts → HasTokens other us → HasTokens both (ts ++ us)
+  joined_tokens ts us has also =
+      let one : IsCutTo text both (runs text) (words text has.0) = same_cut text both (runs text) has.0 (runs text) has.1.1 front in
+      let two : IsCutTo other both later (words other also.0) = same_cut other both (runs other) also.0 later also.1.1 back in
+      let clean : list_all is_allowed both ≡ true = list_all-append is_allowed text other ∙ and_from (list_all is_allowed text) (list_all is_allowed other) has.1.0 also.1.0 in
+      let cut : Cuts both (runs both) (one.0 ++ two.0) = cuts_as both (runs both) (runs text ++ later) (one.0 ++ two.0) whole (cuts_join (runs text) one.0 later two.0 one.1 two.1) in
+      let first : words both one.0 ≡ ts = one.2 ∙ has.2 in
+      let second : words both two.0 ≡ us = two.2 ∙ also.2 in
+      (one.0 ++ two.0, (clean, cut), map-append (word both) one.0 two.0 ∙ (ap (λ r. r ++ words both two.0) first ∙ ap (λ r. ts ++ r) second))
+
+pub joined_reads : laws.JoinedReads
+joined_reads text other S T reads also apart = record {
+  shaped = list_all-append is_shaped S T ∙ and_from (list_all is_shaped S) (list_all is_shaped T) reads.shaped also.shaped;
+  tokens = subst (HasTokens (text ++ other)) (sym (flat_map-append stmt_tokens S T)) (joined_tokens text other apart (spelled S) (spelled T) reads.tokens also.tokens);
+}

@@ -1,0 +1,11 @@
+use Rattle.std.proofs.Common.{◌+◌, ◌*◌}
+use Rattle.read_pool.proofs.halves.+halves.Given as goal
+
+abbrev pub decreases-read_parts : goal.decreases-read_parts
+decreases-read_parts g l = 2 * l.parts
+
+abbrev pub decreases-first : goal.decreases-first
+decreases-first g l = 2 * l.fewer + 1
+
+abbrev pub decreases-second : goal.decreases-second
+decreases-second g l = 2 * l.others + 1

@@ -1,0 +1,87 @@
+//! A text read by halves, each half of a large one by a thread of its own.
+ghost use Rattle.std.specs.Prelude.{◌≡◌, ℕ, ◌⊎◌, ◌++◌, IfOk, IfErr, IfSome, IsErrAnd, MatchResult};
+ghost use Rattle.std.specs.Thread.{IsSync};
+ghost use Rattle.mm_lex.specs.Faults.{IsFirstBadByte, IsCommentFault};
+ghost use Rattle.mm_read.specs.Statements.{Database};
+ghost use Rattle.mm_read.specs.Reads.{Reads, HasShapeFault, IsReadFault};
+ghost use Rattle.read_pool.specs.Both.{AreBoth};
+
+use crate::place::{STRETCH, place_near};
+use mm_lex::LexFault;
+use mm_read::{ReadFault, Stmt, read};
+use std::alloc::Global;
+use std::thread::{Threads, join};
+
+/// The statements that the text writes, as `mm_read::read` answers them, read by so many workers.
+///
+/// A large text is cut into as many parts as there are workers, each of a MiB or more, where a statement seems to end. Where
+/// a part does not read, or a growth is refused, the calling thread reads the whole text; so no answer depends on the
+/// workers or on the places.
+/// Errors: those of `read`. Cost: the size of the text, over the workers; twice that of `read` where the text is refused.
+pub fn read_by<R: Threads + Sync>(
+    rt: &R,
+    alloc: Global,
+    text: &[u8],
+    workers: usize,
+) -> Result<Vec<Stmt>, ReadFault>
+    ensures found { IfOk result (λ statements. Reads text.now statements.items) }
+    ensures fault { IfErr result (IsReadFault text.now) }
+
+    // The statements are those that the text writes, or a growth was refused.
+    ensures statements { (S : Database) → Reads text.now S
+        → MatchResult result (λ statements. statements.items ≡ S) (λ fault. fault ≡ ReadFault.Memory) }
+
+    // A fault of the tokens is answered also where every growth is refused.
+    ensures text_fault { (offset : ℕ) → IsFirstBadByte text.now offset
+        → result ≡ Err (ReadFault.Text (LexFault.Text offset)) }
+    ensures comment_fault { (offset : ℕ) → IsCommentFault text.now offset
+        → result ≡ Err (ReadFault.Text (LexFault.Comment offset)) }
+    ensures shape { (token : ℕ) → HasShapeFault text.now token
+        → IsErrAnd result (λ fault. (fault ≡ ReadFault.Shape token) ⊎ (fault ≡ ReadFault.Memory)) }
+{
+    let parts = workers.min(text.len() / STRETCH);
+    if parts > 1 {
+        if let Some(statements) = read_parts(rt, alloc, text, parts) {
+            return Ok(statements);
+        }
+    }
+    read(alloc, text)
+}
+
+/// The statements that the text writes, read in so many parts; none where a part does not read or a growth was refused.
+#[cycle(halves)]
+fn read_parts<R: Threads + Sync>(
+    rt: &R,
+    alloc: Global,
+    text: &[u8],
+    parts: usize,
+) -> Option<Vec<Stmt>>
+    ensures { IfSome result (λ statements. Reads text.now statements.items) }
+{
+    if parts < 2 {
+        return read(alloc, text).ok();
+    }
+    let fewer = parts / 2;
+    let others = parts - fewer;
+    let (front, back) = text.split_at(place_near(text, text.len() / parts * fewer));
+    let first = move || -> Option<Vec<Stmt>>
+        requires { IsSync R.row }
+        ensures { IfSome result (λ statements. Reads front.entry.now statements.items) }
+    { read_parts(rt, alloc, front, fewer) };
+    let second = move || -> Option<Vec<Stmt>>
+        requires { IsSync R.row }
+        ensures { IfSome result (λ statements. Reads back.entry.now statements.items) }
+    { read_parts(rt, alloc, back, others) };
+    let (first, second) = join(rt, first, second);
+    both(first, second)
+}
+
+/// The statements of the one list and then those of the other; none where a list is wanting or the growth was refused.
+fn both(first: Option<Vec<Stmt>>, second: Option<Vec<Stmt>>) -> Option<Vec<Stmt>>
+    ensures { IfSome result (λ statements. AreBoth first second statements.items) }
+{
+    let mut statements = first?;
+    let mut more = second?;
+    statements.append(&mut more).ok()?;
+    Some(statements)
+}

@@ -1,0 +1,44 @@
+//! Where a text may be cut.
+ghost use Rattle.std.specs.Prelude.{◌+◌, ◌<◌, ◌≤◌, drop, length, IfSome, IsTrue};
+ghost use Rattle.mm_lex.specs.Alphabet.{starts_white};
+ghost use Rattle.read_pool.specs.Place.{IsPlace};
+
+/// How many bytes are looked through for a place, and the least that make a part.
+pub(crate) const STRETCH: usize = 1 << 20;
+
+/// A place at `near` or behind it that no word goes over: the end of a `$.` that seems to stand outside of comments, since
+/// no `$)` follows it before a `$(`. Where no such place is found it is the end of the text.
+pub(crate) fn place_near(text: &[u8], near: usize) -> usize
+    ensures { IsPlace text.now result }
+{
+    let end = text
+        .len()
+        .saturating_sub(2)
+        .min(near.saturating_add(STRETCH));
+    let mut found = None;
+    for at in near..end {
+        match &text[at..at + 2] {
+            b"$." if found.is_none() => found = end_at(text, at + 2),
+            b"$)" => found = None,
+            b"$(" => {
+                if let Some(place) = found {
+                    return place;
+                }
+            }
+            _ => {}
+        }
+    }
+    found.unwrap_or(text.len())
+}
+
+/// This place, where a white byte stands there.
+fn end_at(text: &[u8], at: usize) -> Option<usize>
+    requires { at < length text.now }
+    ensures { IfSome result (IsPlace text.now) }
+{
+    if text[at].is_ascii_whitespace() {
+        Some(at)
+    } else {
+        None
+    }
+}

@@ -1,0 +1,56 @@
+//! A text that is cut is read as by one thread, also where a `$.` stands in a comment.
+use mm_read::ReadFault;
+use read_pool::read_by;
+use std::alloc::{AllocError, Global};
+use std::thread::Threads;
+
+/// One statement.
+const LINE: &[u8] = b"$( $c b $. $) $c a $.\n";
+
+/// So many make a text of more than four MiB, which is cut into four parts at most.
+const LINES: usize = 200_000;
+
+#[test]
+fn cut_texts_read_alike(rt: HostRuntime) {
+    for workers in [1usize, 2, 3, 16] {
+        assert!(rt; reads(&rt, rt.alloc(), workers), "{workers}");
+        assert!(rt; is_refused(&rt, rt.alloc(), workers), "{workers}");
+    }
+}
+
+fn reads<R: Threads + Sync>(rt: &R, alloc: Global, workers: usize) -> bool {
+    let Ok(text) = lines(alloc) else {
+        return false;
+    };
+    match read_by(rt, alloc, &text, workers) {
+        Ok(statements) => statements.len() == LINES,
+        Err(_) => false,
+    }
+}
+
+/// The last statement has no end.
+fn is_refused<R: Threads + Sync>(rt: &R, alloc: Global, workers: usize) -> bool {
+    let Ok(mut text) = lines(alloc) else {
+        return false;
+    };
+    if text.extend_from_slice(b"$c").is_err() {
+        return false;
+    }
+    match read_by(rt, alloc, &text, workers) {
+        Ok(_) => false,
+        Err(fault) => {
+            fault
+                == ReadFault::Shape {
+                    token: 3 * LINES + 2,
+                }
+        }
+    }
+}
+
+fn lines(alloc: Global) -> Result<Vec<u8>, AllocError> {
+    let mut text = Vec::new(alloc);
+    for _ in 0..LINES {
+        text.extend_from_slice(LINE)?;
+    }
+    Ok(text)
+}
