@@ -1,5 +1,5 @@
 -- What was found of the symbols of a proof, and how more of it is noted.
-use Rattle.std.specs.Prelude.{◌≡◌, ℕ, zero, suc, ◌+◌, ◌*◌, ◌%◌, ◌^◌, ◌<◌, ◌≤◌, ◌⊎◌, Bool, true, false, not, ◌||◌, ◌&&◌, List, [], ◌∷◌, ◌++◌, length, map, get_or, slice_set, refl}
+use Rattle.std.specs.Prelude.{◌≡◌, ℕ, zero, suc, ◌+◌, ◌*◌, ◌%◌, ◌^◌, ◌<◌, ◌≤◌, ◌⊎◌, Bool, true, false, not, ◌||◌, ◌&&◌, List, [], ◌∷◌, ◌++◌, length, map, get_or, slice_set, Result, Ok, Err, is_ok, is_err, if◌then◌else◌, refl}
 use Rattle.std.specs.Int.{bit_at, bit_not}
 use Rattle.std.specs.List.{list_all}
 use Rattle.std.proofs.Common.{sym, ◌∙◌, ap, subst, arith, inl, inr, bit_and, bit_or, w64, length-append}
@@ -201,6 +201,32 @@ module _ (v : Numbered) (f : Found) (known : IsKnown v f) (x : ℕ) (room : leng
     pair = λ i j h b. (let o = old i j h b in kept-grown v f with_variable i j grows-variable o.0 (known.within i j o.0 o.1) ∙ known.pair i j o.0 o.1);
   }
 
+-- ---- what was pushed
+
+pub pushed : {T E A : Type 0} (r : Result T E) (x a b : A) → is_err r ≡ false → x ≡ (if is_ok r then a else b) → x ≡ a
+pushed (Ok t) x a b e h = h
+pushed (Err f) x a b e h = cc
+
+pub symbol-added : (v : Numbered) (f : Found) (symbols new : List Symbol) (variables : List Variable) (s : Symbol) → record { symbols = symbols; variables = variables } ≡ f → IsKnown v f → AreBits v f s.bit (IsSame s.number)
+    → new ≡ symbols ++ s ∷ [] → IsKnown v (record { symbols = new; variables = variables })
+symbol-added v f symbols new variables s same known own is =
+    subst (λ (ss : List Symbol). IsKnown v (record { symbols = ss; variables = variables })) (sym is)
+    (known-symbol v (record { symbols = symbols; variables = variables }) (subst (IsKnown v) (sym same) known) s (subst (λ (g : Found). AreBits v g s.bit (IsSame s.number)) (sym same) own))
+
+pub variable-added : (v : Numbered) (symbols : List Symbol) (old new : List Variable) (x place : ℕ) → place ≡ length old → place < 64 → new ≡ old ++ record { symbol = x; apart = 0 } ∷ []
+    → AreBits v (record { symbols = symbols; variables = new }) (1 * 2 ^ place % 2 ^ 64) (IsSame x)
+variable-added v symbols old new x place count low is =
+    bits-variable v (record { symbols = symbols; variables = new }) x place low
+    (record {
+      there = (let n = ap (λ (xs : List Variable). length xs) is ∙ count-more old row in omega (arith, n, count));
+      same =
+          ap (λ (xs : List Variable). (get_or xs place no_variable).symbol) is
+          ∙ (ap (λ m. (get_or (old ++ row ∷ []) m no_variable).symbol) count ∙ ap (λ (r : Variable). r.symbol) (get-last old row no_variable));
+    })
+  where
+    row : Variable
+    row = record { symbol = x; apart = 0 }
+
 -- ---- variables that were found to be kept apart
 
 module _ (v : Numbered) (f : Found) (known : IsKnown v f) (i : ℕ) (there : i < length f.variables) (row : Variable) (symbol : row.symbol ≡ (variable_at f i).symbol) where
@@ -255,30 +281,46 @@ module _ (v : Numbered) (f : Found) (known : IsKnown v f) (i : ℕ) (there : i <
 pub row-covered : (v : Numbered) (f : Found) (i bits : ℕ) → IsKnown v f → i < length f.variables → bit_and bits (variable_at f i).apart ≡ bits → IsRowApart v f i bits
 row-covered v f i bits known there all = record { each = λ j b. known.pair i j there (and-all bits (variable_at f i).apart j all b) }
 
-module _ (v : Numbered) (f : Found) (i bits : ℕ) (known : IsKnown v f) (there : i < length f.variables) (fits : bits < 2 ^ 64) (small : (variable_at f i).apart < 2 ^ 64) where
+module _ (v : Numbered) (f : Found) (i bits : ℕ) where
   abbrev new_bits : ℕ
   new_bits = bit_and bits (bit_not w64 (variable_at f i).apart)
 
   pub places-new : HavePlaces f bits → HavePlaces f new_bits
   places-new h = record { each = λ j b. h.each j (and-left bits (bit_not w64 (variable_at f i).apart) j b) }
 
-  pub row-all : IsRowApart v f i new_bits → IsRowApart v f i bits
-  row-all new = record { each = λ j b. by j (and-not bits (variable_at f i).apart j fits small b) }
+  pub row-new : IsRowApart v f i bits → IsRowApart v f i new_bits
+  row-new all = record { each = λ j b. all.each j (and-left bits (bit_not w64 (variable_at f i).apart) j b) }
+
+  pub row-all : IsKnown v f → i < length f.variables → bits < 2 ^ 64 → (variable_at f i).apart < 2 ^ 64 → IsRowApart v f i new_bits → IsRowApart v f i bits
+  row-all known there fits small new = record { each = λ j b. by j (and-not bits (variable_at f i).apart j fits small b) }
     where
       by : (j : ℕ) → (bit_at (variable_at f i).apart j ≡ 1) ⊎ (bit_at new_bits j ≡ 1) → is_kept v f i j ≡ true
       by j (inl old) = known.pair i j there old
       by j (inr more) = new.each j more
 
-  pub row-new : IsRowApart v f i bits → IsRowApart v f i new_bits
-  row-new all = record { each = λ j b. all.each j (and-left bits (bit_not w64 (variable_at f i).apart) j b) }
+-- what may be noted of a row
+row-good : (v : Numbered) (f : Found) (i bits : ℕ) → IsKnown v f → i < length f.variables → HavePlaces f bits → IsRowApart v f i bits
+    → (j : ℕ) → bit_at (bit_or (variable_at f i).apart bits) j ≡ 1 → (j < length f.variables) × (is_kept v f i j ≡ true)
+row-good v f i bits known there places all j b = by (or-either (variable_at f i).apart bits j b)
+  where
+    by : (bit_at (variable_at f i).apart j ≡ 1) ⊎ (bit_at bits j ≡ 1) → (j < length f.variables) × (is_kept v f i j ≡ true)
+    by (inl old) = (known.within i j there old, known.pair i j there old)
+    by (inr more) = (places.each j more, all.each j more)
 
-  -- what may be noted
-  pub row-good : HavePlaces f bits → IsRowApart v f i bits → (j : ℕ) → bit_at (bit_or (variable_at f i).apart bits) j ≡ 1 → (j < length f.variables) × (is_kept v f i j ≡ true)
-  row-good places all j b = by (or-either (variable_at f i).apart bits j b)
-    where
-      by : (bit_at (variable_at f i).apart j ≡ 1) ⊎ (bit_at bits j ≡ 1) → (j < length f.variables) × (is_kept v f i j ≡ true)
-      by (inl old) = (known.within i j there old, known.pair i j there old)
-      by (inr more) = (places.each j more, all.each j more)
+-- a row that was read, with what was found
+pub known-noted : (v : Numbered) (f : Found) (i bits : ℕ) (symbols : List Symbol) (variables : List Variable) (r : Variable) → record { symbols = symbols; variables = variables } ≡ f → IsKnown v f → i < length f.variables
+    → HavePlaces f bits → r ≡ variable_at f i → IsRowApart v f i bits
+    → IsKnown v (record { symbols = symbols; variables = slice_set variables i (record { symbol = r.symbol; apart = bit_or r.apart bits }) })
+known-noted v f i bits symbols variables r same known there places row all =
+    subst (λ (q : Variable). IsKnown v (record { symbols = symbols; variables = slice_set variables i (record { symbol = q.symbol; apart = bit_or q.apart bits }) })) (sym row)
+    (subst (λ (h : Found). IsKnown v (record { symbols = h.symbols; variables = slice_set h.variables i (record { symbol = (variable_at f i).symbol; apart = bit_or (variable_at f i).apart bits }) })) (sym same)
+    (known-row v f known i there (record { symbol = (variable_at f i).symbol; apart = bit_or (variable_at f i).apart bits }) refl (row-good v f i bits known there places all)))
+
+pub row-read : (f : Found) (symbols : List Symbol) (variables : List Variable) (i : ℕ) (r d : Variable) → record { symbols = symbols; variables = variables } ≡ f → i < length f.variables → r ≡ get_or variables i d → r ≡ variable_at f i
+row-read f symbols variables i r d same h e = e ∙ (get_or_default variables i d no_variable there ∙ ap (λ (g : Found). variable_at g i) same)
+  where
+    there : i < length variables
+    there = let n = ap (λ (g : Found). length g.variables) same in omega (arith, n, h)
 
 -- what is told of places that stay
 pub row-back : (v : Numbered) (f g : Found) (i bits : ℕ) → Grows f g → i < length f.variables → HavePlaces f bits → IsRowApart v g i bits → IsRowApart v f i bits

@@ -10,8 +10,8 @@ loop-symbol-init c = (c.requires.known, grows-own c.args.self.now, bits-start c.
 pub look-requires-clause-named : goal.look-requires-clause-named
 look-requires-clause-named c = below-at (length c.args.pairs.now.names) c.args.image.now c.loop-symbol.symbol-index 0 c.requires.image c.loop-symbol-test.true
 
-pub returns-in_err-look-clause-grows : goal.returns-in_err-look-clause-grows
-returns-in_err-look-clause-grows c = grows-twice _ _ _ c.loop-symbol.invariant.1 c.look.ensures.grows
+pub returns-in_err-bits-clause-grows : goal.returns-in_err-bits-clause-grows
+returns-in_err-bits-clause-grows c = grows-twice _ _ _ c.loop-symbol.invariant.1 c.look.ensures.grows
 
 pub loop-symbol-preserved : goal.loop-symbol-preserved
 loop-symbol-preserved c =
@@ -21,5 +21,5 @@ loop-symbol-preserved c =
     let n = c.loop-symbol.symbol-index in (
       c.look.ensures.known,
       grows-twice _ _ _ c.loop-symbol.invariant.1 c.look.ensures.grows,
-      bits-more v f c.loop-symbol.bits _ n xs (bits-grown v c.loop-symbol.self f c.loop-symbol.bits (IsAmong n xs) c.look.ensures.grows c.loop-symbol.invariant.2) c.in_ok-look.ensures.bits,
+      bits-more v f c.loop-symbol.bits _ n xs (bits-grown v c.loop-symbol.self f c.loop-symbol.bits (IsAmong n xs) c.look.ensures.grows c.loop-symbol.invariant.2) c.in_ok-bits.ensures.bits,
     )

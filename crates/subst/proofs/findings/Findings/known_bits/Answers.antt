@@ -10,4 +10,4 @@ loop-symbol-preserved c =
     let xs = c.args.image.now in
     let n = c.loop-symbol.symbol-index in
     bits-more c.args.pairs.now c.args.self.now c.loop-symbol.bits _ n xs c.loop-symbol.invariant
-    (listed-bits c.args.pairs.now c.args.self.now (get_or xs n 0) _ c.requires c.in_ok-known.ensures)
+    (listed-bits c.args.pairs.now c.args.self.now (get_or xs n 0) _ c.requires c.in_ok-bits.ensures)
