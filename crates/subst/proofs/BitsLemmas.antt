@@ -1,5 +1,5 @@
 -- Places as the bits of a word.
-use Rattle.std.specs.Prelude.{◌≡◌, ℕ, ◌+◌, ◌-◌, ◌*◌, ◌%◌, ◌^◌, ◌<◌, ◌≤◌, ◌⊎◌, min, max, refl}
+use Rattle.std.specs.Prelude.{◌≡◌, ℕ, ◌*◌, ◌%◌, ◌^◌, ◌<◌, ◌≤◌, ◌⊎◌}
 use Rattle.std.specs.Int.{bit_at, bit_not}
 use Rattle.std.proofs.Common.{sym, ◌∙◌, ap, subst, arith, inl, inr, bit_and, bit_or, w64}
 use Rattle.std.proofs.lemmas.Bool.{cases_eq, cases_lt}
@@ -95,9 +95,6 @@ pub record IsTaken (P : ℕ → Type 0) (word rest : ℕ) : Type 0 where
   pub only : (j : ℕ) → bit_at rest j ≡ 1 → bit_at word j ≡ 1
   pub done : (j : ℕ) → bit_at word j ≡ 1 → (bit_at rest j ≡ 1) ⊎ P j
 
-pub taken-start : (P : ℕ → Type 0) (word : ℕ) → IsTaken P word word
-taken-start P word = record { only = λ j b. b; done = λ j b. inl b }
-
 pub taken-more : (P : ℕ → Type 0) (word rest less k : ℕ) → IsTaken P word rest → P k → ((j : ℕ) → bit_at less j ≡ 1 → bit_at rest j ≡ 1)
     → ((j : ℕ) → bit_at rest j ≡ 1 → (j ≡ k) ⊎ (bit_at less j ≡ 1)) → IsTaken P word less
 taken-more P word rest less k taken here only others = record { only = λ j b. taken.only j (only j b); done = λ j b. by j (taken.done j b) }
@@ -109,10 +106,3 @@ taken-more P word rest less k taken here only others = record { only = λ j b. t
     by : (j : ℕ) → (bit_at rest j ≡ 1) ⊎ P j → (bit_at less j ≡ 1) ⊎ P j
     by j (inl left) = or-here j (others j left)
     by j (inr passed) = inr passed
-
-pub taken-end : (P : ℕ → Type 0) (word rest : ℕ) → IsTaken P word rest → rest ≡ 0 → (j : ℕ) → bit_at word j ≡ 1 → P j
-taken-end P word rest taken none j b = by (taken.done j b)
-  where
-    by : (bit_at rest j ≡ 1) ⊎ P j → P j
-    by (inl left) = absurd (zero-none j (ap (λ n. bit_at n j) (sym none) ∙ left))
-    by (inr passed) = passed

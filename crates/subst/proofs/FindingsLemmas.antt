@@ -1,14 +1,11 @@
 -- What was found of the symbols of a proof, and how more of it is noted.
-use Rattle.std.specs.Prelude.{◌≡◌, ℕ, zero, suc, ◌+◌, ◌*◌, ◌%◌, ◌^◌, ◌<◌, ◌≤◌, ◌⊎◌, Bool, true, false, not, ◌||◌, ◌&&◌, List, [], ◌∷◌, ◌++◌, length, map, get_or, slice_set, Result, Ok, Err, is_ok, is_err, if◌then◌else◌, refl}
+use Rattle.std.specs.Prelude.{◌≡◌, ℕ, zero, suc, ◌+◌, ◌*◌, ◌%◌, ◌^◌, ◌<◌, ◌≤◌, ◌⊎◌, Bool, true, false, not, ◌||◌, ◌&&◌, List, [], ◌∷◌, ◌++◌, length, get_or, slice_set, Result, Ok, Err, is_ok, is_err, if◌then◌else◌, refl}
 use Rattle.std.specs.Int.{bit_at, bit_not}
 use Rattle.std.specs.List.{list_all}
-use Rattle.std.proofs.Common.{sym, ◌∙◌, ap, subst, arith, inl, inr, bit_and, bit_or, w64, length-append}
+use Rattle.std.proofs.Common.{sym, ◌∙◌, ap, subst, arith, inl, inr, bit_and, bit_or, w64}
 use Rattle.std.proofs.lemmas.Bool.{cases_eq, cases_lt, and_from, and_parts}
-use Rattle.std.proofs.lemmas.Nat.Bits.{bit_at-zero}
 use Rattle.std.proofs.lemmas.List.{get_or-set_same, get_or-set_other, length-set, get_or_default}
 use Rattle.std.proofs.lemmas.List.Folds.{list_all-map}
-use Rattle.mm_lex.specs.Alphabet.{Name}
-use Rattle.mm_read.specs.Statements.{Database}
 use Rattle.scope.specs.Active.{is_variable}
 use Rattle.names.specs.Codes.{name_at, decode}
 use Rattle.frame.specs.Covers.{is_symbol_apart}
@@ -59,13 +56,6 @@ places-grown f g bits grows h = record { each = λ j b. there-grown f g j grows 
 -- no symbol has no bit
 pub bits-none : (v : Numbered) (f : Found) (P : ℕ → Type 0) → ((x : ℕ) → P x → ⊥) → AreBits v f 0 P
 bits-none v f P none = record { each = λ x p. absurd (none x p); only = λ j b. absurd (zero-none j b) }
-
--- nor has one that is no variable
-pub bits-constant : (v : Numbered) (f : Found) (x : ℕ) → is_variable v.statements (name_at v.names x) ≡ false → AreBits v f 0 (IsSame x)
-bits-constant v f x none = record {
-  each = λ y same. inl (ap (λ m. is_variable v.statements (name_at v.names m)) same ∙ none);
-  only = λ j b. absurd (zero-none j b);
-}
 
 -- a variable has the bit of its place
 pub bits-variable : (v : Numbered) (f : Found) (x k : ℕ) → k < 64 → IsAt f k x → AreBits v f (1 * 2 ^ k % 2 ^ 64) (IsSame x)
@@ -153,53 +143,6 @@ module _ (v : Numbered) (f : Found) (known : IsKnown v f) where
     where
       same-places : Grows f (record { symbols = f.symbols ++ s ∷ []; variables = f.variables })
       same-places = record { each = λ j x at. record { there = at.there; same = at.same } }
-
--- ---- a variable more
-
-module _ (v : Numbered) (f : Found) (known : IsKnown v f) (x : ℕ) (room : length f.variables < 64) where
-  abbrev added : Variable
-  added = record { symbol = x; apart = 0 }
-
-  abbrev pub with_variable : Found
-  with_variable = record { symbols = f.symbols; variables = f.variables ++ added ∷ [] }
-
-  front : (j : ℕ) → j < length f.variables → variable_at with_variable j ≡ variable_at f j
-  front j h = get-front f.variables added no_variable j h
-
-  pub grows-variable : Grows f with_variable
-  grows-variable = record {
-    each = λ j y at. record {
-      there = (let n = count-more f.variables added in let low = at.there in omega (arith, n, low));
-      same = ap (λ (r : Variable). r.symbol) (front j at.there) ∙ at.same;
-    };
-  }
-
-  pub at-variable : IsAt with_variable (length f.variables) x
-  at-variable = record {
-    there = (let n = count-more f.variables added in omega (arith, n));
-    same = ap (λ (r : Variable). r.symbol) (get-last f.variables added no_variable);
-  }
-
-  -- a row of the variables that has a bit is an old one
-  old : (i j : ℕ) → i < length with_variable.variables → bit_at (variable_at with_variable i).apart j ≡ 1 → (i < length f.variables) × (bit_at (variable_at f i).apart j ≡ 1)
-  old i j h b = by (cases_lt i (length f.variables))
-    where
-      by : (i < length f.variables) ⊎ (length f.variables ≤ i) → (i < length f.variables) × (bit_at (variable_at f i).apart j ≡ 1)
-      by (inl low) = (low, ap (λ (r : Variable). bit_at r.apart j) (sym (front i low)) ∙ b)
-      by (inr high) =
-          let n = count-more f.variables added in
-          let last : length f.variables ≡ i = omega (arith, n, high, h) in
-          absurd (zero-none j (sym (ap (λ (r : Variable). bit_at r.apart j) (get-last f.variables added no_variable)) ∙ (ap (λ m. bit_at (variable_at with_variable m).apart j) last ∙ b)))
-
-  pub known-variable : x < length v.names → is_variable v.statements (name_at v.names x) ≡ true → IsKnown v with_variable
-  known-variable low var = record {
-    few = (let n = count-more f.variables added in omega (arith, n, room));
-    symbol = λ j h. bits-grown v f with_variable _ _ grows-variable (known.symbol j h);
-    named = each-more (λ (r : Variable). r.symbol < length v.names) f.variables added no_variable known.named low;
-    variable = each-more (λ (r : Variable). is_variable v.statements (name_at v.names r.symbol) ≡ true) f.variables added no_variable known.variable var;
-    within = λ i j h b. (let o = old i j h b in let there = known.within i j o.0 o.1 in let n = count-more f.variables added in omega (arith, there, n));
-    pair = λ i j h b. (let o = old i j h b in kept-grown v f with_variable i j grows-variable o.0 (known.within i j o.0 o.1) ∙ known.pair i j o.0 o.1);
-  }
 
 -- ---- what was pushed
 

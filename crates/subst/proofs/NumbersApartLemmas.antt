@@ -168,9 +168,6 @@ module _ (D : Database) (image_of : ℕ → Expr) (group : List ℕ) where
   pub record ArePairwise (n : ℕ) : Type 0 where
     pub each : (a b : ℕ) → a < b → b < n → two a b ≡ true
 
-  pub pairwise-start : ArePairwise 0
-  pairwise-start = record { each = λ a b h l. absurd (omega (arith, l)) }
-
   pub pairwise-more : (n : ℕ) → ArePairwise n → ((a : ℕ) → a < n → two a n ≡ true) → ArePairwise (n + 1)
   pairwise-more n front next = record { each = λ a b h l. by a b h l (cases_eq b n) }
     where

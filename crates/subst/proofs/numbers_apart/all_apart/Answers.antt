@@ -5,7 +5,7 @@ use Rattle.subst.specs.Places.{images_at}
 use Rattle.subst.specs.Apart.{image_named, are_two_apart}
 use Rattle.subst.specs.Findings.{AreBits, IsAmong}
 use Rattle.subst.proofs.FindingsLemmas.{bits-grown, places-of, places-grown}
-use Rattle.subst.proofs.NumbersApartLemmas.{IsInImages, images-more, next-apart, next-clash, pairwise-start, pairwise-more, pairwise-end, repeat-apart}
+use Rattle.subst.proofs.NumbersApartLemmas.{IsInImages, images-more, next-apart, next-clash, pairwise-more, pairwise-end, repeat-apart}
 use Rattle.subst.proofs.numbers_apart.all_apart.Goals as goal
 use Rattle.subst.proofs.numbers_apart.all_apart.Goals.{else-not-words_apart-via-then-not-words_apart+else-not-contains, else-not-words_apart-via-else-not-words_apart}
 

@@ -1,5 +1,4 @@
 use Rattle.std.proofs.Common.{sym, ◌∙◌}
-use Rattle.subst.specs.declared.findings.Symbol.{Symbol}
 use Rattle.subst.specs.Findings.{IsKnown}
 use Rattle.subst.proofs.FindingsLemmas.{pushed, symbol-added}
 use Rattle.subst.proofs.findings.Findings.add_symbol.Goals as goal

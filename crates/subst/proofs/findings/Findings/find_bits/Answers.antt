@@ -1,4 +1,4 @@
-use Rattle.std.proofs.Common.{get_or, length}
+use Rattle.std.proofs.Common.{length}
 use Rattle.frame.proofs.ApartLemmas.{below-at}
 use Rattle.subst.specs.Findings.{IsAmong}
 use Rattle.subst.proofs.FindingsLemmas.{grows-own, grows-twice, bits-grown, bits-start, bits-more}

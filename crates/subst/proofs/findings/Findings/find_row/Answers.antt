@@ -1,7 +1,7 @@
-use Rattle.std.proofs.Common.{◌<◌, ◌^◌, ap, sym, subst, rules, bit_and, w64}
+use Rattle.std.proofs.Common.{◌<◌, ◌^◌, sym, subst, rules, bit_and, w64}
 use Rattle.std.specs.Int.{bit_not}
 use Rattle.subst.specs.declared.findings.Variable.{Variable}
-use Rattle.subst.specs.Findings.{HavePlaces, IsRowApart, variable_at}
+use Rattle.subst.specs.Findings.{HavePlaces, IsRowApart}
 use Rattle.subst.proofs.FindingsLemmas.{row-read, places-new, row-all, row-new, known-noted}
 use Rattle.subst.proofs.findings.Findings.find_row.Goals as goal
 
