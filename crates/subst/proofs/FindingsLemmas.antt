@@ -1,20 +1,21 @@
 -- What was found of the symbols of a proof, and how more of it is noted.
-use Rattle.std.specs.Prelude.{◌≡◌, ℕ, suc, ◌+◌, ◌*◌, ◌%◌, ◌^◌, ◌<◌, ◌≤◌, ◌⊎◌, min, Bool, true, false, not, ◌||◌, ◌&&◌, List, [], ◌∷◌, length, map, take, get_or, slice_set, refl}
-use Rattle.std.specs.Int.{bit_at}
+use Rattle.std.specs.Prelude.{◌≡◌, ℕ, zero, suc, ◌+◌, ◌*◌, ◌%◌, ◌^◌, ◌<◌, ◌≤◌, ◌⊎◌, Bool, true, false, not, ◌||◌, ◌&&◌, List, [], ◌∷◌, ◌++◌, length, get_or, slice_set, Result, Ok, Err, is_ok, is_err, if◌then◌else◌, refl}
+use Rattle.std.specs.Int.{bit_at, bit_not}
 use Rattle.std.specs.List.{list_all}
 use Rattle.std.proofs.Common.{sym, ◌∙◌, ap, subst, arith, inl, inr, bit_and, bit_or, w64}
-use Rattle.std.proofs.lemmas.Bool.{cases_eq, and_from}
-use Rattle.std.proofs.lemmas.Nat.Bits.{bit_at_and, bit_at_set_same, bit_at_set_other, bit_at-zero, bit_at-lt}
+use Rattle.std.proofs.lemmas.Bool.{cases_eq, cases_lt, and_from, and_parts}
 use Rattle.std.proofs.lemmas.List.{get_or-set_same, get_or-set_other, length-set, get_or_default}
 use Rattle.std.proofs.lemmas.List.Folds.{list_all-map}
 use Rattle.scope.specs.Active.{is_variable}
 use Rattle.names.specs.Codes.{name_at, decode}
-use Rattle.frame.specs.Covers.{is_variable_apart, is_pair_apart}
+use Rattle.frame.specs.Covers.{is_symbol_apart}
+use Rattle.frame.specs.Disjoint.{are_apart}
 use Rattle.frame.specs.FrameOf.{is_pair}
 use Rattle.frame.specs.Parts.{Numbered}
-use Rattle.frame.proofs.ApartLemmas.{pair_constant, pair_variable}
+use Rattle.subst.specs.declared.findings.Symbol.{Symbol}
 use Rattle.subst.specs.declared.findings.Variable.{Variable}
-use Rattle.subst.specs.Findings.{Found, variable_at, no_variable, IsKnown, IsAt, Grows, IsNoted, AreNoted}
+use Rattle.subst.specs.Findings.{Found, symbol_at, no_symbol, variable_at, no_variable, variable_name, is_kept, IsKnown, IsAt, IsListed, Grows, IsNoted, AreBits, IsSame, IsAmong, HavePlaces, IsRowApart, AreWordsApart}
+use Rattle.subst.proofs.BitsLemmas.{zero-none, one-own, one-only, or-left, or-right, or-either, and-left, and-all, and-not}
 
 pub grows-own : (f : Found) → Grows f f
 grows-own f = record { each = λ j x at. at }
@@ -22,176 +23,359 @@ grows-own f = record { each = λ j x at. at }
 pub grows-twice : (f g h : Found) → Grows f g → Grows g h → Grows f h
 grows-twice f g h a b = record { each = λ j x at. b.each j x (a.each j x at) }
 
--- ---- variables that are noted
+own-place : (f : Found) (j : ℕ) → j < length f.variables → IsAt f j (variable_at f j).symbol
+own-place f j h = record { there = h; same = refl }
 
-noted-same : (v : Numbered) (f g : Found) (bits more x : ℕ) → Grows f g → ((j : ℕ) → bit_at bits j ≡ 1 → bit_at more j ≡ 1) → IsNoted v f bits x → IsNoted v g more x
-noted-same v f g bits more x grows keep (inl none) = inl none
-noted-same v f g bits more x grows keep (inr n) = inr (n.0, grows.each n.0 x n.1, keep n.0 n.2)
+pub there-grown : (f g : Found) (j : ℕ) → Grows f g → j < length f.variables → j < length g.variables
+there-grown f g j grows h = (grows.each j (variable_at f j).symbol (own-place f j h)).there
 
-pub noted-grows : (v : Numbered) (f g : Found) (bits n : ℕ) (xs : List ℕ) → Grows f g → AreNoted v f bits n xs → AreNoted v g bits n xs
-noted-grows v f g bits n xs grows noted = record { each = λ k h. noted-same v f g bits bits (get_or xs k 0) grows (λ j b. b) (noted.each k h) }
+-- a variable that stays has its name
+pub kept-grown : (v : Numbered) (f g : Found) (i j : ℕ) → Grows f g → i < length f.variables → j < length f.variables → is_kept v g i j ≡ is_kept v f i j
+kept-grown v f g i j grows hi hj =
+    ap (λ m. is_pair v.statements (name_at v.names m) (variable_name v g j)) (grows.each i (variable_at f i).symbol (own-place f i hi)).same
+    ∙ ap (λ m. is_pair v.statements (variable_name v f i) (name_at v.names m)) (grows.each j (variable_at f j).symbol (own-place f j hj)).same
 
-noted-more : (v : Numbered) (f g : Found) (bits more n : ℕ) (xs : List ℕ) → Grows f g → ((j : ℕ) → bit_at bits j ≡ 1 → bit_at more j ≡ 1)
-    → AreNoted v f bits n xs → IsNoted v g more (get_or xs n 0) → AreNoted v g more (n + 1) xs
-noted-more v f g bits more n xs grows keep noted one = record { each = λ k h. by k h (cases_eq k n) }
+-- ---- bits of symbols
+
+noted-more : (v : Numbered) (f g : Found) (bits more x : ℕ) → Grows f g → ((j : ℕ) → bit_at bits j ≡ 1 → bit_at more j ≡ 1) → IsNoted v f bits x → IsNoted v g more x
+noted-more v f g bits more x grows keep (inl none) = inl none
+noted-more v f g bits more x grows keep (inr n) = inr (n.0, grows.each n.0 x n.1, keep n.0 n.2)
+
+pub bits-grown : (v : Numbered) (f g : Found) (bits : ℕ) (P : ℕ → Type 0) → Grows f g → AreBits v f bits P → AreBits v g bits P
+bits-grown v f g bits P grows b = record {
+  each = λ x p. noted-more v f g bits bits x grows (λ j h. h) (b.each x p);
+  only = λ j h. (let o = b.only j h in (o.0, o.1, grows.each j o.0 o.2));
+}
+
+pub places-of : (v : Numbered) (f : Found) (bits : ℕ) (P : ℕ → Type 0) → AreBits v f bits P → HavePlaces f bits
+places-of v f bits P b = record { each = λ j h. (b.only j h).2.there }
+
+pub places-grown : (f g : Found) (bits : ℕ) → Grows f g → HavePlaces f bits → HavePlaces g bits
+places-grown f g bits grows h = record { each = λ j b. there-grown f g j grows (h.each j b) }
+
+-- no symbol has no bit
+pub bits-none : (v : Numbered) (f : Found) (P : ℕ → Type 0) → ((x : ℕ) → P x → ⊥) → AreBits v f 0 P
+bits-none v f P none = record { each = λ x p. absurd (none x p); only = λ j b. absurd (zero-none j b) }
+
+-- a variable has the bit of its place
+pub bits-variable : (v : Numbered) (f : Found) (x k : ℕ) → k < 64 → IsAt f k x → AreBits v f (1 * 2 ^ k % 2 ^ 64) (IsSame x)
+bits-variable v f x k low at = record {
+  each = λ y same. inr (k, subst (IsAt f k) (sym same) at, one-own k low);
+  only = λ j b. (x, refl, subst (λ n. IsAt f n x) (sym (one-only k j low b)) at);
+}
+
+-- the symbols of both
+pub bits-joined : (v : Numbered) (f : Found) (a b : ℕ) (P Q R : ℕ → Type 0) → AreBits v f a P → AreBits v f b Q
+    → ((x : ℕ) → R x → P x ⊎ Q x) → ((x : ℕ) → P x → R x) → ((x : ℕ) → Q x → R x) → AreBits v f (bit_or a b) R
+bits-joined v f a b P Q R first second split left right = record {
+  each = λ x r. from x (split x r);
+  only = λ j h. found j (or-either a b j h);
+}
   where
-    by : (k : ℕ) → k < n + 1 → (k ≡ n) ⊎ (k ≡ n → ⊥) → IsNoted v g more (get_or xs k 0)
-    by k h (inl same) = subst (λ m. IsNoted v g more (get_or xs m 0)) (sym same) one
-    by k h (inr other) = noted-same v f g bits more (get_or xs k 0) grows keep (noted.each k (omega (arith, h, other)))
+    from : (x : ℕ) → P x ⊎ Q x → IsNoted v f (bit_or a b) x
+    from x (inl p) = noted-more v f f a (bit_or a b) x (grows-own f) (or-left a b) (first.each x p)
+    from x (inr q) = noted-more v f f b (bit_or a b) x (grows-own f) (or-right a b) (second.each x q)
 
-pub noted-constant : (v : Numbered) (f g : Found) (bits n x : ℕ) (xs : List ℕ) → Grows f g → AreNoted v f bits n xs → get_or xs n 0 ≡ x
-    → is_variable v.statements (name_at v.names x) ≡ false → AreNoted v g bits (n + 1) xs
-noted-constant v f g bits n x xs grows noted is none =
-    noted-more v f g bits bits n xs grows (λ j b. b) noted (inl (ap (λ m. is_variable v.statements (name_at v.names m)) is ∙ none))
+    found : (j : ℕ) → (bit_at a j ≡ 1) ⊎ (bit_at b j ≡ 1) → (x : ℕ) × R x × IsAt f j x
+    found j (inl h) = let o = first.only j h in (o.0, left o.0 o.1, o.2)
+    found j (inr h) = let o = second.only j h in (o.0, right o.0 o.1, o.2)
 
-bits-set : (bits k j : ℕ) → k < 64 → bit_at bits j ≡ 1 → bit_at (bit_or bits (1 * 2 ^ k % 2 ^ 64)) j ≡ 1
-bits-set bits k j h b = by (cases_eq j k)
+-- one symbol more of an image
+pub bits-more : (v : Numbered) (f : Found) (a b n : ℕ) (xs : List ℕ) → AreBits v f a (IsAmong n xs) → AreBits v f b (IsSame (get_or xs n 0)) → AreBits v f (bit_or a b) (IsAmong (n + 1) xs)
+bits-more v f a b n xs first second =
+    bits-joined v f a b (IsAmong n xs) (IsSame (get_or xs n 0)) (IsAmong (n + 1) xs) first second
+    (λ x r. split x r (cases_eq r.0 n))
+    (λ x p. (let low = p.1 in (p.0, omega (arith, low), p.2)))
+    (λ x q. (n, omega arith, sym q))
   where
-    by : (j ≡ k) ⊎ (j ≡ k → ⊥) → bit_at (bit_or bits (1 * 2 ^ k % 2 ^ 64)) j ≡ 1
-    by (inl same) = ap (bit_at (bit_or bits (1 * 2 ^ k % 2 ^ 64))) same ∙ bit_at_set_same w64 bits k h
-    by (inr other) = bit_at_set_other w64 bits k h j other ∙ b
+    split : (x : ℕ) (r : IsAmong (n + 1) xs x) → (r.0 ≡ n) ⊎ (r.0 ≡ n → ⊥) → IsAmong n xs x ⊎ IsSame (get_or xs n 0) x
+    split x r (inl same) = inr (sym r.2 ∙ ap (λ m. get_or xs m 0) same)
+    split x r (inr other) = let low = r.1 in inl (r.0, omega (arith, low, other), r.2)
 
-pub noted-variable : (v : Numbered) (f g : Found) (bits n x k : ℕ) (xs : List ℕ) → Grows f g → AreNoted v f bits n xs → get_or xs n 0 ≡ x
-    → k < 64 → IsAt g k x → AreNoted v g (bit_or bits (1 * 2 ^ k % 2 ^ 64)) (n + 1) xs
-noted-variable v f g bits n x k xs grows noted is few at =
-    noted-more v f g bits (bit_or bits (1 * 2 ^ k % 2 ^ 64)) n xs grows (λ j b. bits-set bits k j few b) noted
-    (inr (k, subst (IsAt g k) (sym is) at, bit_at_set_same w64 bits k few))
+pub bits-start : (v : Numbered) (f : Found) (xs : List ℕ) → AreBits v f 0 (IsAmong 0 xs)
+bits-start v f xs = bits-none v f (IsAmong 0 xs) (λ x p. (let low = p.1 in omega (arith, low)))
 
--- ---- a variable that is kept apart from all that are noted
+-- what a symbol that stands among those found has
+pub listed-bits : (v : Numbered) (f : Found) (x bit : ℕ) → IsKnown v f → IsListed f x bit → AreBits v f bit (IsSame x)
+listed-bits v f x bit known at =
+    subst (λ b. AreBits v f b (IsSame x)) at.own
+    (subst (λ y. AreBits v f (symbol_at f at.place).bit (IsSame y)) at.same (known.symbol at.place at.there))
 
-all-at : (p : ℕ → Bool) (xs : List ℕ) → ((k : ℕ) → k < length xs → p (get_or xs k 0) ≡ true) → list_all p xs ≡ true
-all-at p [] h = refl
-all-at p (x ∷ xs) h = and_from (p x) (list_all p xs) (h 0 (omega arith)) (all-at p xs (λ k l. h (suc k) (omega (arith, l))))
+-- ---- lists that grow
 
-pub covered : (v : Numbered) (f : Found) (bits i x : ℕ) (xs : List ℕ) → IsKnown v f → IsAt f i x → AreNoted v f bits (length xs) xs → bit_and bits (variable_at f i).apart ≡ bits
-    → is_variable_apart v.statements (name_at v.names x) (decode v.names xs) ≡ true
-covered v f bits i x xs known at noted all =
-    list_all-map (is_pair_apart v.statements (name_at v.names x)) (name_at v.names) xs
-    ∙ all-at (λ y. is_pair_apart v.statements (name_at v.names x) (name_at v.names y)) xs (λ k h. by (get_or xs k 0) (noted.each k h))
+get-front : {A : Type 0} (xs : List A) (x d : A) (j : ℕ) → j < length xs → get_or (xs ++ x ∷ []) j d ≡ get_or xs j d
+get-front [] x d j h = absurd (omega (arith, h))
+get-front (y ∷ xs) x d zero h = refl
+get-front (y ∷ xs) x d (suc j) h = get-front xs x d j (omega (arith, h))
+
+get-last : {A : Type 0} (xs : List A) (x d : A) → get_or (xs ++ x ∷ []) (length xs) d ≡ x
+get-last [] x d = refl
+get-last (y ∷ xs) x d = get-last xs x d
+
+count-more : {A : Type 0} (xs : List A) (x : A) → length (xs ++ x ∷ []) ≡ length xs + 1
+count-more [] x = refl
+count-more (y ∷ xs) x = let e = count-more xs x in omega (arith, e)
+
+-- what is true of each element, and of one more
+each-more : {A : Type 0} (P : A → Type 0) (xs : List A) (x d : A) → ((j : ℕ) → j < length xs → P (get_or xs j d)) → P x → (j : ℕ) → j < length (xs ++ x ∷ []) → P (get_or (xs ++ x ∷ []) j d)
+each-more P xs x d each own j h = by (cases_lt j (length xs))
   where
-    has : (j : ℕ) → bit_at bits j ≡ 1 → bit_at (variable_at f i).apart j ≡ 1
-    has j b =
-        let e = sym (bit_at_and bits (variable_at f i).apart j) ∙ (ap (λ n. bit_at n j) all ∙ b) in
-        let low = bit_at-lt (variable_at f i).apart j in
-        omega (arith, e, low, b)
+    by : (j < length xs) ⊎ (length xs ≤ j) → P (get_or (xs ++ x ∷ []) j d)
+    by (inl low) = subst P (sym (get-front xs x d j low)) (each j low)
+    by (inr high) =
+        let n = count-more xs x in
+        let last : length xs ≡ j = omega (arith, n, high, h) in
+        subst P (sym (get-last xs x d) ∙ ap (λ m. get_or (xs ++ x ∷ []) m d) last) own
 
-    by : (y : ℕ) → IsNoted v f bits y → is_pair_apart v.statements (name_at v.names x) (name_at v.names y) ≡ true
-    by y (inl none) = pair_constant v.statements (name_at v.names x) (name_at v.names y) none
-    by y (inr n) =
-        pair_variable v.statements (name_at v.names x) (name_at v.names y) (ap (λ m. is_variable v.statements (name_at v.names m)) (sym n.1.same) ∙ known.variable n.0 n.1.there)
-        ∙ (ap (λ m. is_pair v.statements (name_at v.names m) (name_at v.names y)) (sym at.same)
-        ∙ (ap (λ m. is_pair v.statements (name_at v.names (variable_at f i).symbol) (name_at v.names m)) (sym n.1.same)
-        ∙ known.pair i n.0 at.there (has n.0 n.2)))
+-- ---- a symbol more
+
+module _ (v : Numbered) (f : Found) (known : IsKnown v f) where
+  pub known-symbol : (s : Symbol) → AreBits v f s.bit (IsSame s.number) → IsKnown v (record { symbols = f.symbols ++ s ∷ []; variables = f.variables })
+  known-symbol s own = record {
+    few = known.few;
+    symbol = λ j h. (let e = each-more (λ t. AreBits v f t.bit (IsSame t.number)) f.symbols s no_symbol known.symbol own j h in
+        bits-grown v f (record { symbols = f.symbols ++ s ∷ []; variables = f.variables }) _ _ same-places e);
+    named = known.named;
+    variable = known.variable;
+    within = known.within;
+    pair = known.pair;
+  }
+    where
+      same-places : Grows f (record { symbols = f.symbols ++ s ∷ []; variables = f.variables })
+      same-places = record { each = λ j x at. record { there = at.there; same = at.same } }
+
+-- ---- what was pushed
+
+pub pushed : {T E A : Type 0} (r : Result T E) (x a b : A) → is_err r ≡ false → x ≡ (if is_ok r then a else b) → x ≡ a
+pushed (Ok t) x a b e h = h
+pushed (Err f) x a b e h = cc
+
+pub symbol-added : (v : Numbered) (f : Found) (symbols new : List Symbol) (variables : List Variable) (s : Symbol) → record { symbols = symbols; variables = variables } ≡ f → IsKnown v f → AreBits v f s.bit (IsSame s.number)
+    → new ≡ symbols ++ s ∷ [] → IsKnown v (record { symbols = new; variables = variables })
+symbol-added v f symbols new variables s same known own is =
+    subst (λ (ss : List Symbol). IsKnown v (record { symbols = ss; variables = variables })) (sym is)
+    (known-symbol v (record { symbols = symbols; variables = variables }) (subst (IsKnown v) (sym same) known) s (subst (λ (g : Found). AreBits v g s.bit (IsSame s.number)) (sym same) own))
+
+pub variable-added : (v : Numbered) (symbols : List Symbol) (old new : List Variable) (x place : ℕ) → place ≡ length old → place < 64 → new ≡ old ++ record { symbol = x; apart = 0 } ∷ []
+    → AreBits v (record { symbols = symbols; variables = new }) (1 * 2 ^ place % 2 ^ 64) (IsSame x)
+variable-added v symbols old new x place count low is =
+    bits-variable v (record { symbols = symbols; variables = new }) x place low
+    (record {
+      there = (let n = ap (λ (xs : List Variable). length xs) is ∙ count-more old row in omega (arith, n, count));
+      same =
+          ap (λ (xs : List Variable). (get_or xs place no_variable).symbol) is
+          ∙ (ap (λ m. (get_or (old ++ row ∷ []) m no_variable).symbol) count ∙ ap (λ (r : Variable). r.symbol) (get-last old row no_variable));
+    })
+  where
+    row : Variable
+    row = record { symbol = x; apart = 0 }
+
+-- ---- variables that were found to be kept apart
+
+module _ (v : Numbered) (f : Found) (known : IsKnown v f) (i : ℕ) (there : i < length f.variables) (row : Variable) (symbol : row.symbol ≡ (variable_at f i).symbol) where
+  abbrev pub with_row : Found
+  with_row = record { symbols = f.symbols; variables = slice_set f.variables i row }
+
+  here : variable_at with_row i ≡ row
+  here = get_or-set_same f.variables i row no_variable there
+
+  others : (k : ℕ) → (k ≡ i → ⊥) → variable_at with_row k ≡ variable_at f k
+  others k other = get_or-set_other f.variables i k row no_variable other
+
+  symbols : (k : ℕ) → (variable_at with_row k).symbol ≡ (variable_at f k).symbol
+  symbols k = by (cases_eq k i)
+    where
+      by : (k ≡ i) ⊎ (k ≡ i → ⊥) → (variable_at with_row k).symbol ≡ (variable_at f k).symbol
+      by (inl same) = ap (λ n. (variable_at with_row n).symbol) same ∙ (ap (λ (r : Variable). r.symbol) here ∙ (symbol ∙ ap (λ n. (variable_at f n).symbol) (sym same)))
+      by (inr other) = ap (λ (r : Variable). r.symbol) (others k other)
+
+  count : length with_row.variables ≡ length f.variables
+  count = length-set f.variables i row
+
+  within : (k : ℕ) → k < length with_row.variables → k < length f.variables
+  within k h = omega (arith, h, count)
+
+  pub grows-row : Grows f with_row
+  grows-row = record { each = λ j x at. record { there = (let low = at.there in omega (arith, low, count)); same = symbols j ∙ at.same } }
+
+  module _ (good : (j : ℕ) → bit_at row.apart j ≡ 1 → (j < length f.variables) × (is_kept v f i j ≡ true)) where
+    told : (k l : ℕ) → k < length f.variables → bit_at (variable_at with_row k).apart l ≡ 1 → (l < length f.variables) × (is_kept v f k l ≡ true)
+    told k l h b = by (cases_eq k i)
+      where
+        by : (k ≡ i) ⊎ (k ≡ i → ⊥) → (l < length f.variables) × (is_kept v f k l ≡ true)
+        by (inl same) =
+            subst (λ n. (l < length f.variables) × (is_kept v f n l ≡ true)) (sym same)
+            (good l (ap (λ (r : Variable). bit_at r.apart l) (sym here) ∙ (ap (λ n. bit_at (variable_at with_row n).apart l) (sym same) ∙ b)))
+        by (inr other) =
+            let bit : bit_at (variable_at f k).apart l ≡ 1 = ap (λ (r : Variable). bit_at r.apart l) (sym (others k other)) ∙ b in
+            (known.within k l h bit, known.pair k l h bit)
+
+    pub known-row : IsKnown v with_row
+    known-row = record {
+      few = (let a = known.few in omega (arith, a, count));
+      symbol = λ j h. bits-grown v f with_row _ _ grows-row (known.symbol j h);
+      named = λ j h. subst (λ m. m < length v.names) (sym (symbols j)) (known.named j (within j h));
+      variable = λ j h. ap (λ m. is_variable v.statements (name_at v.names m)) (symbols j) ∙ known.variable j (within j h);
+      within = λ k l h b. (let t = told k l (within k h) b in let m = t.0 in omega (arith, m, count));
+      pair = λ k l h b. (let t = told k l (within k h) b in kept-grown v f with_row k l grows-row (within k h) t.0 ∙ t.1);
+    }
+
+-- a row that has all its bits
+pub row-covered : (v : Numbered) (f : Found) (i bits : ℕ) → IsKnown v f → i < length f.variables → bit_and bits (variable_at f i).apart ≡ bits → IsRowApart v f i bits
+row-covered v f i bits known there all = record { each = λ j b. known.pair i j there (and-all bits (variable_at f i).apart j all b) }
+
+module _ (v : Numbered) (f : Found) (i bits : ℕ) where
+  abbrev new_bits : ℕ
+  new_bits = bit_and bits (bit_not w64 (variable_at f i).apart)
+
+  pub places-new : HavePlaces f bits → HavePlaces f new_bits
+  places-new h = record { each = λ j b. h.each j (and-left bits (bit_not w64 (variable_at f i).apart) j b) }
+
+  pub row-new : IsRowApart v f i bits → IsRowApart v f i new_bits
+  row-new all = record { each = λ j b. all.each j (and-left bits (bit_not w64 (variable_at f i).apart) j b) }
+
+  pub row-all : IsKnown v f → i < length f.variables → bits < 2 ^ 64 → (variable_at f i).apart < 2 ^ 64 → IsRowApart v f i new_bits → IsRowApart v f i bits
+  row-all known there fits small new = record { each = λ j b. by j (and-not bits (variable_at f i).apart j fits small b) }
+    where
+      by : (j : ℕ) → (bit_at (variable_at f i).apart j ≡ 1) ⊎ (bit_at new_bits j ≡ 1) → is_kept v f i j ≡ true
+      by j (inl old) = known.pair i j there old
+      by j (inr more) = new.each j more
+
+-- what may be noted of a row
+row-good : (v : Numbered) (f : Found) (i bits : ℕ) → IsKnown v f → i < length f.variables → HavePlaces f bits → IsRowApart v f i bits
+    → (j : ℕ) → bit_at (bit_or (variable_at f i).apart bits) j ≡ 1 → (j < length f.variables) × (is_kept v f i j ≡ true)
+row-good v f i bits known there places all j b = by (or-either (variable_at f i).apart bits j b)
+  where
+    by : (bit_at (variable_at f i).apart j ≡ 1) ⊎ (bit_at bits j ≡ 1) → (j < length f.variables) × (is_kept v f i j ≡ true)
+    by (inl old) = (known.within i j there old, known.pair i j there old)
+    by (inr more) = (places.each j more, all.each j more)
+
+-- a row that was read, with what was found
+pub known-noted : (v : Numbered) (f : Found) (i bits : ℕ) (symbols : List Symbol) (variables : List Variable) (r : Variable) → record { symbols = symbols; variables = variables } ≡ f → IsKnown v f → i < length f.variables
+    → HavePlaces f bits → r ≡ variable_at f i → IsRowApart v f i bits
+    → IsKnown v (record { symbols = symbols; variables = slice_set variables i (record { symbol = r.symbol; apart = bit_or r.apart bits }) })
+known-noted v f i bits symbols variables r same known there places row all =
+    subst (λ (q : Variable). IsKnown v (record { symbols = symbols; variables = slice_set variables i (record { symbol = q.symbol; apart = bit_or q.apart bits }) })) (sym row)
+    (subst (λ (h : Found). IsKnown v (record { symbols = h.symbols; variables = slice_set h.variables i (record { symbol = (variable_at f i).symbol; apart = bit_or (variable_at f i).apart bits }) })) (sym same)
+    (known-row v f known i there (record { symbol = (variable_at f i).symbol; apart = bit_or (variable_at f i).apart bits }) refl (row-good v f i bits known there places all)))
+
+pub row-read : (f : Found) (symbols : List Symbol) (variables : List Variable) (i : ℕ) (r d : Variable) → record { symbols = symbols; variables = variables } ≡ f → i < length f.variables → r ≡ get_or variables i d → r ≡ variable_at f i
+row-read f symbols variables i r d same h e = e ∙ (get_or_default variables i d no_variable there ∙ ap (λ (g : Found). variable_at g i) same)
+  where
+    there : i < length variables
+    there = let n = ap (λ (g : Found). length g.variables) same in omega (arith, n, h)
+
+-- what is told of places that stay
+pub row-back : (v : Numbered) (f g : Found) (i bits : ℕ) → Grows f g → i < length f.variables → HavePlaces f bits → IsRowApart v g i bits → IsRowApart v f i bits
+row-back v f g i bits grows there places row = record { each = λ j b. sym (kept-grown v f g i j grows there (places.each j b)) ∙ row.each j b }
+
+pub row-on : (v : Numbered) (f g : Found) (i bits : ℕ) → Grows f g → i < length f.variables → HavePlaces f bits → IsRowApart v f i bits → IsRowApart v g i bits
+row-on v f g i bits grows there places row = record { each = λ j b. kept-grown v f g i j grows there (places.each j b) ∙ row.each j b }
+
+-- ---- two words
 
 -- what a symbol at a place is
 pub is-variable : (v : Numbered) (f : Found) (j x : ℕ) → IsKnown v f → IsAt f j x → is_variable v.statements (name_at v.names x) ≡ true
 is-variable v f j x known at = ap (λ m. is_variable v.statements (name_at v.names m)) (sym at.same) ∙ known.variable j at.there
 
-pub is-constant : (v : Numbered) (f : Found) (j x : ℕ) → IsKnown v f → j < length f.constants → get_or f.constants j 0 ≡ x → is_variable v.statements (name_at v.names x) ≡ false
-is-constant v f j x known h is = ap (λ m. is_variable v.statements (name_at v.names m)) (sym is) ∙ known.constant j h
+abbrev pub is_good : Numbered → ℕ → ℕ → Bool
+is_good v x y = not (is_variable v.statements (name_at v.names x)) || not (is_variable v.statements (name_at v.names y)) || is_pair v.statements (name_at v.names x) (name_at v.names y)
 
--- ---- two variables that were found to be kept apart
+at-names : (v : Numbered) (f : Found) (i j x y : ℕ) → IsAt f i x → IsAt f j y → is_kept v f i j ≡ is_pair v.statements (name_at v.names x) (name_at v.names y)
+at-names v f i j x y first second =
+    ap (λ m. is_pair v.statements (name_at v.names m) (variable_name v f j)) first.same
+    ∙ ap (λ m. is_pair v.statements (name_at v.names x) (name_at v.names m)) second.same
 
-module _ (v : Numbered) (f : Found) (i j x y : ℕ) (known : IsKnown v f) (first : IsAt f i x) (second : IsAt f j y)
-    (apart : is_pair v.statements (name_at v.names x) (name_at v.names y) ≡ true) where
-  abbrev row : Variable
-  row = record { symbol = x; apart = bit_or (variable_at f i).apart (1 * 2 ^ j % 2 ^ 64) }
-
-  abbrev after : Found
-  after = record { variables = slice_set f.variables i row; constants = f.constants }
-
-  low : j < 64
-  low = let a = known.few in let b = second.there in omega (arith, a, b)
-
-  here : variable_at after i ≡ row
-  here = get_or-set_same f.variables i row no_variable first.there
-
-  there : (k : ℕ) → (k ≡ i → ⊥) → variable_at after k ≡ variable_at f k
-  there k other = get_or-set_other f.variables i k row no_variable other
-
-  symbols : (k : ℕ) → (variable_at after k).symbol ≡ (variable_at f k).symbol
-  symbols k = by (cases_eq k i)
+module _ (v : Numbered) (f : Found) (known : IsKnown v f) (left right : ℕ) (P Q : ℕ → Type 0) (ls : AreBits v f left P) (rs : AreBits v f right Q) where
+  pub good-from : AreWordsApart v f left right → (x y : ℕ) → P x → Q y → is_good v x y ≡ true
+  good-from apart x y p q = by (ls.each x p) (rs.each y q)
     where
-      by : (k ≡ i) ⊎ (k ≡ i → ⊥) → (variable_at after k).symbol ≡ (variable_at f k).symbol
-      by (inl same) = ap (λ n. (variable_at after n).symbol) same ∙ (ap (λ (r : Variable). r.symbol) here ∙ (sym first.same ∙ ap (λ n. (variable_at f n).symbol) (sym same)))
-      by (inr other) = ap (λ (r : Variable). r.symbol) (there k other)
+      first : (a b c : Bool) → a ≡ false → (not a || not b || c) ≡ true
+      first true b c h = cc
+      first false b c h = refl
 
-  count : length after.variables ≡ length f.variables
-  count = length-set f.variables i row
+      second : (a b c : Bool) → b ≡ false → (not a || not b || c) ≡ true
+      second true true c h = cc
+      second true false c h = refl
+      second false b c h = refl
 
-  within : (k : ℕ) → k < length after.variables → k < length f.variables
-  within k h = omega (arith, h, count)
+      third : (a b c : Bool) → c ≡ true → (not a || not b || c) ≡ true
+      third true true c h = h
+      third true false c h = refl
+      third false b c h = refl
 
-  is_pair_at : (k l : ℕ) → is_pair v.statements (name_at v.names (variable_at f k).symbol) (name_at v.names (variable_at f l).symbol) ≡ true
-      → is_pair v.statements (name_at v.names (variable_at after k).symbol) (name_at v.names (variable_at after l).symbol) ≡ true
-  is_pair_at k l h =
-      ap (λ m. is_pair v.statements (name_at v.names m) (name_at v.names (variable_at after l).symbol)) (symbols k)
-      ∙ (ap (λ m. is_pair v.statements (name_at v.names (variable_at f k).symbol) (name_at v.names m)) (symbols l) ∙ h)
+      by : IsNoted v f left x → IsNoted v f right y → is_good v x y ≡ true
+      by (inl none) other = first _ _ _ none
+      by (inr one) (inl none) = second _ _ _ none
+      by (inr one) (inr two) = third _ _ _ (sym (at-names v f one.0 two.0 x y one.1 two.1) ∙ (apart.each one.0 one.2).each two.0 two.2)
 
-  own : is_pair v.statements (name_at v.names (variable_at f i).symbol) (name_at v.names (variable_at f j).symbol) ≡ true
-  own =
-      ap (λ m. is_pair v.statements (name_at v.names m) (name_at v.names (variable_at f j).symbol)) first.same
-      ∙ (ap (λ m. is_pair v.statements (name_at v.names x) (name_at v.names m)) second.same ∙ apart)
-
-  -- a bit of the row that was set before, or is the new one
-  either : (l : ℕ) → bit_at row.apart l ≡ 1 → (l ≡ j) ⊎ (bit_at (variable_at f i).apart l ≡ 1)
-  either l b = by (cases_eq l j)
+  pub words-from : ((x y : ℕ) → P x → Q y → is_good v x y ≡ true) → AreWordsApart v f left right
+  words-from good = record { each = λ i a. record { each = λ j b. by i j (ls.only i a) (rs.only j b) } }
     where
-      by : (l ≡ j) ⊎ (l ≡ j → ⊥) → (l ≡ j) ⊎ (bit_at (variable_at f i).apart l ≡ 1)
-      by (inl same) = inl same
-      by (inr other) = inr (sym (bit_at_set_other w64 (variable_at f i).apart j low l other) ∙ b)
+      last : (a b c : Bool) → a ≡ true → b ≡ true → (not a || not b || c) ≡ true → c ≡ true
+      last true true c p q h = h
+      last true false c p q h = cc
+      last false b c p q h = cc
 
-  -- what each bit says
-  told : (k l : ℕ) → k < length f.variables → bit_at (variable_at after k).apart l ≡ 1
-      → (l < length f.variables) × (is_pair v.statements (name_at v.names (variable_at f k).symbol) (name_at v.names (variable_at f l).symbol) ≡ true)
-  told k l h b = by (cases_eq k i)
+      by : (i j : ℕ) → (x : ℕ) × P x × IsAt f i x → (y : ℕ) × Q y × IsAt f j y → is_kept v f i j ≡ true
+      by i j o u =
+          at-names v f i j o.0 u.0 o.2 u.2
+          ∙ last _ _ _ (is-variable v f i o.0 known o.2) (is-variable v f j u.0 known u.2) (good o.0 u.0 o.1 u.1)
+
+-- ---- two images
+
+pub all-at : (p : ℕ → Bool) (xs : List ℕ) → ((k : ℕ) → k < length xs → p (get_or xs k 0) ≡ true) → list_all p xs ≡ true
+all-at p [] h = refl
+all-at p (x ∷ xs) h = and_from (p x) (list_all p xs) (h 0 (omega arith)) (all-at p xs (λ k l. h (suc k) (omega (arith, l))))
+
+pub at-all : (p : ℕ → Bool) (xs : List ℕ) (k : ℕ) → list_all p xs ≡ true → k < length xs → p (get_or xs k 0) ≡ true
+at-all p [] k h l = absurd (omega (arith, l))
+at-all p (x ∷ xs) zero h l = (and_parts (p x) (list_all p xs) h).0
+at-all p (x ∷ xs) (suc k) h l = at-all p xs k (and_parts (p x) (list_all p xs) h).1 (omega (arith, l))
+
+module _ (v : Numbered) (xs ys : List ℕ) where
+  good_rows : are_apart v.statements (decode v.names xs) (decode v.names ys) ≡ list_all (λ x. list_all (is_good v x) ys) xs
+  good_rows =
+      list_all-map (is_symbol_apart v.statements (decode v.names ys)) (name_at v.names) xs
+      ∙ rows xs
     where
-      new : (l ≡ j) ⊎ (bit_at (variable_at f i).apart l ≡ 1)
-          → (l < length f.variables) × (is_pair v.statements (name_at v.names (variable_at f i).symbol) (name_at v.names (variable_at f l).symbol) ≡ true)
-      new (inl same) = (subst (λ n. n < length f.variables) (sym same) second.there, subst (λ n. is_pair v.statements (name_at v.names (variable_at f i).symbol) (name_at v.names (variable_at f n).symbol) ≡ true) (sym same) own)
-      new (inr old) = (known.within i l first.there old, known.pair i l first.there old)
+      rows : (zs : List ℕ) → list_all (λ x. is_symbol_apart v.statements (decode v.names ys) (name_at v.names x)) zs ≡ list_all (λ x. list_all (is_good v x) ys) zs
+      rows [] = refl
+      rows (z ∷ zs) =
+          ap (λ b. b && list_all (λ x. is_symbol_apart v.statements (decode v.names ys) (name_at v.names x)) zs)
+          (list_all-map (λ w. not (is_variable v.statements (name_at v.names z)) || not (is_variable v.statements w) || is_pair v.statements (name_at v.names z) w) (name_at v.names) ys)
+          ∙ ap (λ b. list_all (is_good v z) ys && b) (rows zs)
 
-      by : (k ≡ i) ⊎ (k ≡ i → ⊥) → (l < length f.variables) × (is_pair v.statements (name_at v.names (variable_at f k).symbol) (name_at v.names (variable_at f l).symbol) ≡ true)
-      by (inl same) =
-          let bit : bit_at row.apart l ≡ 1 = ap (λ (r : Variable). bit_at r.apart l) (sym here) ∙ (ap (λ n. bit_at (variable_at after n).apart l) (sym same) ∙ b) in
-          subst (λ n. (l < length f.variables) × (is_pair v.statements (name_at v.names (variable_at f n).symbol) (name_at v.names (variable_at f l).symbol) ≡ true)) (sym same) (new (either l bit))
-      by (inr other) =
-          let bit : bit_at (variable_at f k).apart l ≡ 1 = ap (λ (r : Variable). bit_at r.apart l) (sym (there k other)) ∙ b in
-          (known.within k l h bit, known.pair k l h bit)
+  pub apart-from_good : ((x y : ℕ) → IsAmong (length xs) xs x → IsAmong (length ys) ys y → is_good v x y ≡ true) → are_apart v.statements (decode v.names xs) (decode v.names ys) ≡ true
+  apart-from_good good = good_rows ∙ all-at (λ x. list_all (is_good v x) ys) xs (λ k h. all-at (is_good v (get_or xs k 0)) ys (λ l g. good (get_or xs k 0) (get_or ys l 0) (k, h, refl) (l, g, refl)))
 
-  pub known-set : IsKnown v after
-  known-set = record {
-    few = (let a = known.few in omega (arith, a, count));
-    variable = λ k h. ap (λ m. is_variable v.statements (name_at v.names m)) (symbols k) ∙ known.variable k (within k h);
-    constant = known.constant;
-    within = λ k l h b. (let t = told k l (within k h) b in let m = t.0 in omega (arith, m, count));
-    pair = λ k l h b. is_pair_at k l (told k l (within k h) b).1;
-  }
+  pub good-at : are_apart v.statements (decode v.names xs) (decode v.names ys) ≡ true → (x y : ℕ) → IsAmong (length xs) xs x → IsAmong (length ys) ys y → is_good v x y ≡ true
+  good-at apart x y p q =
+      ap (λ z. is_good v z y) (sym p.2) ∙ (ap (λ z. is_good v (get_or xs p.0 0) z) (sym q.2)
+      ∙ at-all (is_good v (get_or xs p.0 0)) ys q.0 (at-all (λ z. list_all (is_good v z) ys) xs p.0 (sym good_rows ∙ apart) p.1) q.1)
 
--- the same of a row that was read
-pub known-put : (v : Numbered) (f : Found) (i j x y apart : ℕ) (variables : List Variable) (constants : List ℕ) → record { variables = variables; constants = constants } ≡ f → IsKnown v f → IsAt f i x → IsAt f j y
-    → is_pair v.statements (name_at v.names x) (name_at v.names y) ≡ true → apart ≡ (variable_at f i).apart
-    → IsKnown v (record { variables = slice_set variables i (record { symbol = x; apart = bit_or apart (1 * 2 ^ j % 2 ^ 64) }); constants = constants })
-known-put v f i j x y apart variables constants same known first second pair row =
-    subst (λ n. IsKnown v (record { variables = slice_set variables i (record { symbol = x; apart = bit_or n (1 * 2 ^ j % 2 ^ 64) }); constants = constants })) (sym row)
-    (subst (λ (h : Found). IsKnown v (record { variables = slice_set h.variables i (record { symbol = x; apart = bit_or (variable_at f i).apart (1 * 2 ^ j % 2 ^ 64) }); constants = h.constants })) (sym same)
-    (known-set v f i j x y known first second pair))
-
-pub row-read : (f : Found) (variables : List Variable) (constants : List ℕ) (i : ℕ) (r d : Variable) → record { variables = variables; constants = constants } ≡ f → i < length f.variables → r ≡ get_or variables i d → r ≡ variable_at f i
-row-read f variables constants i r d same h e = e ∙ (get_or_default variables i d no_variable there ∙ ap (λ (g : Found). variable_at g i) same)
+-- the words tell whether the images are apart
+pub words-tell : (v : Numbered) (f : Found) (left right : ℕ) (xs ys : List ℕ) → IsKnown v f → AreBits v f left (IsAmong (length xs) xs) → AreBits v f right (IsAmong (length ys) ys)
+    → (b : Bool) → (b ≡ true → AreWordsApart v f left right) → (b ≡ false → AreWordsApart v f left right → ⊥) → b ≡ are_apart v.statements (decode v.names xs) (decode v.names ys)
+words-tell v f left right xs ys known ls rs true holds fails =
+    sym (apart-from_good v xs ys (good-from v f known left right (IsAmong (length xs) xs) (IsAmong (length ys) ys) ls rs (holds refl)))
+words-tell v f left right xs ys known ls rs false holds fails = by (are_apart v.statements (decode v.names xs) (decode v.names ys)) refl
   where
-    there : i < length variables
-    there = let n = ap (λ (g : Found). length g.variables) same in omega (arith, n, h)
+    by : (b : Bool) → are_apart v.statements (decode v.names xs) (decode v.names ys) ≡ b → false ≡ are_apart v.statements (decode v.names xs) (decode v.names ys)
+    by true h = absurd (fails refl (words-from v f known left right (IsAmong (length xs) xs) (IsAmong (length ys) ys) ls rs (good-at v xs ys h)))
+    by false h = sym h
 
--- nothing is found yet
-pub known-none : (v : Numbered) (f : Found) → f.variables ≡ [] → f.constants ≡ [] → IsKnown v f
-known-none v f vs cs =
+-- ---- nothing found
+
+pub known-none : (v : Numbered) (f : Found) → f.symbols ≡ [] → f.variables ≡ [] → IsKnown v f
+known-none v f ss vs =
     let n = ap (λ (xs : List Variable). length xs) vs in
-    let m = ap (λ (xs : List ℕ). length xs) cs in
+    let m = ap (λ (xs : List Symbol). length xs) ss in
     record {
       few = omega (arith, n);
+      symbol = λ j h. absurd (omega (arith, h, m));
+      named = λ j h. absurd (omega (arith, h, n));
       variable = λ j h. absurd (omega (arith, h, n));
-      constant = λ j h. absurd (omega (arith, h, m));
       within = λ i j h b. absurd (omega (arith, h, n));
       pair = λ i j h b. absurd (omega (arith, h, n));
     }

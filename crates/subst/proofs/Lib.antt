@@ -8,4 +8,5 @@ pub mod SubstitutionLemmas
 pub mod DisjointLemmas
 pub mod NumbersApartLemmas
 mod Rows
+mod BitsLemmas
 pub mod FindingsLemmas

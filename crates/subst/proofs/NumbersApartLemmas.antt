@@ -1,8 +1,8 @@
 -- The images of each two numbers of a group, each two compared once.
-use Rattle.std.specs.Prelude.{◌≡◌, ℕ, zero, suc, ◌+◌, ◌<◌, Bool, true, false, not, ◌||◌, ◌&&◌, ◌==◌, List, [], ◌∷◌, length, map, take, drop, get_or, slice_get, Some, refl}
+use Rattle.std.specs.Prelude.{◌≡◌, ℕ, zero, suc, ◌+◌, ◌<◌, ◌≤◌, ◌⊎◌, Bool, true, false, not, ◌||◌, ◌&&◌, ◌==◌, List, [], ◌∷◌, length, map, take, drop, get_or, slice_get, Some, refl}
 use Rattle.std.specs.List.{list_all, list_any, position_or_len}
-use Rattle.std.proofs.Common.{sym, ◌∙◌, ap, subst, arith}
-use Rattle.std.proofs.lemmas.Bool.{lt-ltb, and_from}
+use Rattle.std.proofs.Common.{sym, ◌∙◌, ap, subst, arith, inl, inr, bit_or}
+use Rattle.std.proofs.lemmas.Bool.{lt-ltb, and_from, or_right, cases_eq, cases_order}
 use Rattle.std.proofs.lemmas.List.Folds.{list_all-map, list_all_at, list_all_more}
 use Rattle.std.proofs.lemmas.Option.{get_or_from_slice_get, slice_get_within}
 use Rattle.mm_lex.specs.Alphabet.{Name, name_eq, has_name}
@@ -11,10 +11,13 @@ use Rattle.scope.specs.Active.{is_variable}
 use Rattle.names.specs.Codes.{name_at, decode, AreDistinct}
 use Rattle.names.proofs.CodesLemmas.{name_same, same_name, name_eq-comm}
 use Rattle.frame.specs.FrameOf.{is_pair, groups}
-use Rattle.frame.specs.Substitution.{CodeImages, image, images_of_names}
+use Rattle.frame.specs.Parts.{Numbered}
+use Rattle.frame.specs.Substitution.{CodeImages, code_image, image, images_of_names}
 use Rattle.frame.specs.Disjoint.{are_apart, is_group_apart, are_groups_apart}
 use Rattle.frame.specs.Below.{AreBelow, AllBelow}
 use Rattle.subst.specs.Apart.{image_named, are_two_apart, is_number_apart, are_numbers_apart}
+use Rattle.subst.specs.Findings.{Found, IsKnown, IsAmong, AreBits, AreWordsApart}
+use Rattle.subst.proofs.FindingsLemmas.{bits-joined, good-from, words-from, apart-from_good, good-at, all-at, at-all}
 use Rattle.subst.proofs.SubstitutionLemmas.{place-of, image-decode}
 use Rattle.frame.proofs.ApartLemmas.{all-true}
 
@@ -130,6 +133,119 @@ module _ (D : Database) (image_of : ℕ → Expr) where
   pub rest-at : (group : List ℕ) (i d : ℕ) → i < length group
       → is_rest_apart (drop i group) ≡ (is_number_apart D image_of (drop (i + 1) group) (get_or group i d) && is_rest_apart (drop (i + 1) group))
   rest-at group i d h = ap is_rest_apart (drop-at group i d h)
+
+-- ---- each held against those before it
+
+any-at : (p : ℕ → Bool) (n : ℕ) (xs : List ℕ) → list_any p (take n xs) ≡ true → (c : ℕ) × (c < n) × (p (get_or xs c 0) ≡ true)
+any-at p zero xs h = cc
+any-at p (suc n) [] h = cc
+any-at p (suc n) (x ∷ xs) h = by (p x) refl h (any-at p n xs)
+  where
+    by : (b : Bool) → p x ≡ b → (b || list_any p (take n xs)) ≡ true → (list_any p (take n xs) ≡ true → (c : ℕ) × (c < n) × (p (get_or xs c 0) ≡ true))
+        → (c : ℕ) × (c < suc n) × (p (get_or (x ∷ xs) c 0) ≡ true)
+    by true e h rest = (0, omega arith, e)
+    by false e h rest = let r = rest h in let low = r.1 in (suc r.0, omega (arith, low), r.2)
+
+none-at : (p : ℕ → Bool) (n : ℕ) (xs : List ℕ) (c : ℕ) → list_any p (take n xs) ≡ false → c < n → c < length xs → p (get_or xs c 0) ≡ false
+none-at p zero xs c h low there = absurd (omega (arith, low))
+none-at p (suc n) [] c h low there = absurd (omega (arith, there))
+none-at p (suc n) (x ∷ xs) zero h low there = neither (p x) (list_any p (take n xs)) h
+  where
+    neither : (a b : Bool) → (a || b) ≡ false → a ≡ false
+    neither true b e = cc
+    neither false b e = refl
+none-at p (suc n) (x ∷ xs) (suc c) h low there = none-at p n xs c (other (p x) (list_any p (take n xs)) h) (omega (arith, low)) (omega (arith, there))
+  where
+    other : (a b : Bool) → (a || b) ≡ false → b ≡ false
+    other true b e = cc
+    other false b e = e
+
+module _ (D : Database) (image_of : ℕ → Expr) (group : List ℕ) where
+  abbrev two : ℕ → ℕ → Bool
+  two a b = are_two_apart D image_of (get_or group a 0) (get_or group b 0)
+
+  -- the images of each two of the first n numbers are apart
+  pub record ArePairwise (n : ℕ) : Type 0 where
+    pub each : (a b : ℕ) → a < b → b < n → two a b ≡ true
+
+  pub pairwise-more : (n : ℕ) → ArePairwise n → ((a : ℕ) → a < n → two a n ≡ true) → ArePairwise (n + 1)
+  pairwise-more n front next = record { each = λ a b h l. by a b h l (cases_eq b n) }
+    where
+      by : (a b : ℕ) → a < b → b < n + 1 → (b ≡ n) ⊎ (b ≡ n → ⊥) → two a b ≡ true
+      by a b h l (inl same) = ap (two a) same ∙ next a (omega (arith, h, same))
+      by a b h l (inr other) = front.each a b h (omega (arith, l, other))
+
+  any-two : (n a b : ℕ) → ArePairwise n → a < n → b < n → two a b ≡ true
+  any-two n a b all ha hb = by (cases_order a b)
+    where
+      by : (a ≡ b) ⊎ ((a < b) ⊎ (b < a)) → two a b ≡ true
+      by (inl same) = ap (two a) (sym same) ∙ ap (λ t. t || are_apart D (image_of (get_or group a 0)) (image_of (get_or group a 0))) (eq-own (get_or group a 0))
+      by (inr (inl less)) = all.each a b less hb
+      by (inr (inr more)) = two-swap D image_of (get_or group a 0) (get_or group b 0) ∙ all.each b a more ha
+
+  -- a number that stood before
+  pub repeat-apart : (n : ℕ) → ArePairwise n → list_any (λ l. get_or group n 0 == l) (take n group) ≡ true → (a : ℕ) → a < n → two a n ≡ true
+  repeat-apart n all found a h =
+      let r = any-at (λ l. get_or group n 0 == l) n group found in
+      let same : get_or group n 0 ≡ get_or group r.0 0 = (let e = r.2 in grind (arith, e)) in
+      ap (are_two_apart D image_of (get_or group a 0)) same ∙ any-two n a r.0 all h r.1
+
+  pub pairwise-end : (n : ℕ) → length group ≤ n → ArePairwise n → are_numbers_apart D image_of group ≡ true
+  pairwise-end n long all =
+      all-at (is_number_apart D image_of group) group
+      (λ a h. all-at (are_two_apart D image_of (get_or group a 0)) group (λ b l. any-two n a b all (omega (arith, h, long)) (omega (arith, l, long))))
+
+  -- two that are not one
+  numbers-at : are_numbers_apart D image_of group ≡ true → (a b : ℕ) → a < length group → b < length group → (get_or group b 0 == get_or group a 0) ≡ false
+      → are_apart D (image_of (get_or group a 0)) (image_of (get_or group b 0)) ≡ true
+  numbers-at all a b h l differ =
+      other (get_or group a 0 == get_or group b 0) _ (eq-swap (get_or group a 0) (get_or group b 0) ∙ differ)
+      (at-all (are_two_apart D image_of (get_or group a 0)) group b (at-all (is_number_apart D image_of group) group a all h) l)
+    where
+      other : (p q : Bool) → p ≡ false → (p || q) ≡ true → q ≡ true
+      other true q e k = cc
+      other false q e k = k
+
+-- x stands in one of the images of the first n numbers
+abbrev pub IsInImages : CodeImages → List ℕ → ℕ → ℕ → Type 0
+IsInImages σ group n x = (a : ℕ) × (a < n) × IsAmong (length (code_image σ (get_or group a 0))) (code_image σ (get_or group a 0)) x
+
+module _ (v : Numbered) (f : Found) (known : IsKnown v f) (σ : CodeImages) (group : List ℕ) (n before bits : ℕ) (first : AreBits v f before (IsInImages σ group n))
+    (own : AreBits v f bits (IsAmong (length (code_image σ (get_or group n 0))) (code_image σ (get_or group n 0)))) where
+  abbrev last_image : List ℕ
+  last_image = code_image σ (get_or group n 0)
+
+  pub images-more : AreBits v f (bit_or before bits) (IsInImages σ group (n + 1))
+  images-more =
+      bits-joined v f before bits (IsInImages σ group n) (IsAmong (length last_image) last_image) (IsInImages σ group (n + 1)) first own
+      (λ x r. split x r (cases_eq r.0 n))
+      (λ x p. (let low = p.1 in (p.0, omega (arith, low), p.2)))
+      (λ x q. (n, omega arith, q))
+    where
+      split : (x : ℕ) (r : IsInImages σ group (n + 1) x) → (r.0 ≡ n) ⊎ (r.0 ≡ n → ⊥) → IsInImages σ group n x ⊎ IsAmong (length last_image) last_image x
+      split x r (inl same) = inr (subst (λ m. IsAmong (length (code_image σ (get_or group m 0))) (code_image σ (get_or group m 0)) x) same r.2)
+      split x r (inr other) = let low = r.1 in inl (r.0, omega (arith, low, other), r.2)
+
+  -- words that are apart
+  pub next-apart : AreWordsApart v f before bits → (a : ℕ) → a < n → are_two_apart v.statements (image_named v.names σ) (get_or group a 0) (get_or group n 0) ≡ true
+  next-apart apart a h =
+      or_right (get_or group a 0 == get_or group n 0) _
+      (apart-from_good v (code_image σ (get_or group a 0)) last_image
+      (λ x y p q. good-from v f known before bits (IsInImages σ group n) (IsAmong (length last_image) last_image) first own apart x y (a, h, p) q))
+
+  -- words that are not
+  pub next-clash : n < length group → list_any (λ l. get_or group n 0 == l) (take n group) ≡ false → (AreWordsApart v f before bits → ⊥) → are_numbers_apart v.statements (image_named v.names σ) group ≡ false
+  next-clash there none clash = by (are_numbers_apart v.statements (image_named v.names σ) group) refl
+    where
+      differ : (a : ℕ) → a < n → (get_or group n 0 == get_or group a 0) ≡ false
+      differ a h = none-at (λ l. get_or group n 0 == l) n group a none h (omega (arith, h, there))
+
+      by : (b : Bool) → are_numbers_apart v.statements (image_named v.names σ) group ≡ b → are_numbers_apart v.statements (image_named v.names σ) group ≡ false
+      by false all = all
+      by true all =
+          absurd (clash (words-from v f known before bits (IsInImages σ group n) (IsAmong (length last_image) last_image) first own
+          (λ x y p q. good-at v (code_image σ (get_or group p.0 0)) last_image
+          (numbers-at v.statements (image_named v.names σ) group all p.0 n (let low = p.1 in omega (arith, low, there)) there (differ p.0 p.1)) x y p.2 q)))
 
 -- ---- numbers for names
 

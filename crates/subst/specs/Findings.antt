@@ -1,19 +1,25 @@
 -- What was found of the symbols of one proof.
 -- Metamath, 4.2.6: each two variables, one from each of two images, stand together in an active `$d`.
--- The code numbers the variables of a proof, and keeps of each, as bits, those from which it was found to be kept apart.
-use Rattle.std.specs.Prelude.{◌≡◌, ℕ, ◌<◌, ◌≤◌, ◌⊎◌, true, false, List, length, get_or}
+-- The code gives the variables of a proof places, and keeps of each, as bits, those from which it was found to be kept apart.
+use Rattle.std.specs.Prelude.{◌≡◌, ℕ, ◌<◌, ◌≤◌, ◌⊎◌, Bool, true, false, List, length, get_or}
 use Rattle.std.specs.Int.{bit_at}
+use Rattle.mm_lex.specs.Alphabet.{Name}
 use Rattle.scope.specs.Active.{is_variable}
 use Rattle.names.specs.Codes.{name_at}
 use Rattle.frame.specs.FrameOf.{is_pair}
 use Rattle.frame.specs.Parts.{Numbered}
+use Rattle.subst.specs.declared.findings.Symbol.{Symbol}
 use Rattle.subst.specs.declared.findings.Variable.{Variable}
-use Rattle.subst.specs.declared.findings.Finding.{Finding}
-use Rattle.subst.specs.declared.findings.Finding.TheVariants.{Constant, At}
 
 pub record Found : Type 0 where
+  pub symbols : List Symbol
   pub variables : List Variable
-  pub constants : List ℕ
+
+abbrev pub no_symbol : Symbol
+no_symbol = record { number = 0; bit = 0 }
+
+abbrev pub symbol_at : Found → ℕ → Symbol
+symbol_at f j = get_or f.symbols j no_symbol
 
 abbrev pub no_variable : Variable
 no_variable = record { symbol = 0; apart = 0 }
@@ -21,23 +27,17 @@ no_variable = record { symbol = 0; apart = 0 }
 abbrev pub variable_at : Found → ℕ → Variable
 variable_at f j = get_or f.variables j no_variable
 
--- what was found is so
-pub record IsKnown (v : Numbered) (f : Found) : Type 0 where
-  pub few : length f.variables ≤ 64
-  pub variable : (j : ℕ) → j < length f.variables → is_variable v.statements (name_at v.names (variable_at f j).symbol) ≡ true
-  pub constant : (j : ℕ) → j < length f.constants → is_variable v.statements (name_at v.names (get_or f.constants j 0)) ≡ false
-  pub within : (i j : ℕ) → i < length f.variables → bit_at (variable_at f i).apart j ≡ 1 → j < length f.variables
-  pub pair : (i j : ℕ) → i < length f.variables → bit_at (variable_at f i).apart j ≡ 1
-      → is_pair v.statements (name_at v.names (variable_at f i).symbol) (name_at v.names (variable_at f j).symbol) ≡ true
+abbrev pub variable_name : Numbered → Found → ℕ → Name
+variable_name v f j = name_at v.names (variable_at f j).symbol
+
+-- the variables at these places are kept apart
+abbrev pub is_kept : Numbered → Found → ℕ → ℕ → Bool
+is_kept v f i j = is_pair v.statements (variable_name v f i) (variable_name v f j)
 
 -- the variable x stands at this place
 pub record IsAt (f : Found) (j x : ℕ) : Type 0 where
   pub there : j < length f.variables
   pub same : (variable_at f j).symbol ≡ x
-
-abbrev pub IsFinding : Found → ℕ → Finding → Type 0
-IsFinding f x Constant = (j : ℕ) × (j < length f.constants) × (get_or f.constants j 0 ≡ x)
-IsFinding f x (At j) = IsAt f j x
 
 -- each variable stays at its place
 pub record Grows (old new : Found) : Type 0 where
@@ -47,6 +47,42 @@ pub record Grows (old new : Found) : Type 0 where
 abbrev pub IsNoted : Numbered → Found → ℕ → ℕ → Type 0
 IsNoted v f bits x = (is_variable v.statements (name_at v.names x) ≡ false) ⊎ ((j : ℕ) × IsAt f j x × (bit_at bits j ≡ 1))
 
--- the first n symbols are so
-pub record AreNoted (v : Numbered) (f : Found) (bits n : ℕ) (xs : List ℕ) : Type 0 where
-  pub each : (k : ℕ) → k < n → IsNoted v f bits (get_or xs k 0)
+-- the bits are those of the variables among these symbols
+pub record AreBits (v : Numbered) (f : Found) (bits : ℕ) (IsOne : ℕ → Type 0) : Type 0 where
+  pub each : (x : ℕ) → IsOne x → IsNoted v f bits x
+  pub only : (j : ℕ) → bit_at bits j ≡ 1 → (x : ℕ) × IsOne x × IsAt f j x
+
+abbrev pub IsSame : ℕ → ℕ → Type 0
+IsSame x y = y ≡ x
+
+-- one of the first n symbols
+abbrev pub IsAmong : ℕ → List ℕ → ℕ → Type 0
+IsAmong n xs x = (k : ℕ) × (k < n) × (get_or xs k 0 ≡ x)
+
+-- what was found is so
+pub record IsKnown (v : Numbered) (f : Found) : Type 0 where
+  pub few : length f.variables ≤ 64
+  pub symbol : (j : ℕ) → j < length f.symbols → AreBits v f (symbol_at f j).bit (IsSame (symbol_at f j).number)
+  pub named : (j : ℕ) → j < length f.variables → (variable_at f j).symbol < length v.names
+  pub variable : (j : ℕ) → j < length f.variables → is_variable v.statements (variable_name v f j) ≡ true
+  pub within : (i j : ℕ) → i < length f.variables → bit_at (variable_at f i).apart j ≡ 1 → j < length f.variables
+  pub pair : (i j : ℕ) → i < length f.variables → bit_at (variable_at f i).apart j ≡ 1 → is_kept v f i j ≡ true
+
+-- the symbol x stands among those found, with this bit
+pub record IsListed (f : Found) (x bit : ℕ) : Type 0 where
+  pub place : ℕ
+  pub there : place < length f.symbols
+  pub same : (symbol_at f place).number ≡ x
+  pub own : (symbol_at f place).bit ≡ bit
+
+-- each bit is that of a variable
+pub record HavePlaces (f : Found) (bits : ℕ) : Type 0 where
+  pub each : (j : ℕ) → bit_at bits j ≡ 1 → j < length f.variables
+
+-- the variable at a place is kept apart from each of these
+pub record IsRowApart (v : Numbered) (f : Found) (i bits : ℕ) : Type 0 where
+  pub each : (j : ℕ) → bit_at bits j ≡ 1 → is_kept v f i j ≡ true
+
+-- each of the variables is kept apart from each of the others
+pub record AreWordsApart (v : Numbered) (f : Found) (left right : ℕ) : Type 0 where
+  pub each : (i : ℕ) → bit_at left i ≡ 1 → IsRowApart v f i right

@@ -3,17 +3,24 @@ ghost use Rattle.std.specs.Prelude.{◌≡◌, ◌<◌, [], length, true, false,
 ghost use Rattle.names.specs.Codes.{name_at, decode};
 ghost use Rattle.scope.specs.Active.{is_variable};
 ghost use Rattle.frame.specs.Below.{AreBelow};
-ghost use Rattle.frame.specs.Covers.{is_variable_apart};
-ghost use Rattle.frame.specs.FrameOf.{is_pair};
 ghost use Rattle.frame.specs.Disjoint.{are_apart};
-ghost use Rattle.subst.specs.Findings.{IsKnown, IsAt, IsFinding, Grows, AreNoted};
+ghost use Rattle.subst.specs.Findings.{IsKnown, IsAt, IsListed, Grows, IsSame, IsAmong, AreBits, HavePlaces, IsRowApart, AreWordsApart};
 
+use crate::bits::{lowest, without};
 use frame::Pairs;
 use std::alloc::Global;
 use std::marker::Model;
 
 /// The most variables that are noted. What stands behind them is looked at anew each time.
 const MOST: usize = 64;
+
+/// A symbol of the proof.
+#[derive(Clone, Copy, Drop)]
+pub struct Symbol {
+    number: u32,
+    /// The bit of its place among the variables; no bit where it is none.
+    bit: u64,
+}
 
 /// A variable of the proof.
 #[derive(Clone, Copy, Drop)]
@@ -24,24 +31,15 @@ pub struct Variable {
     apart: u64,
 }
 
-/// What a symbol was found to be.
-#[derive(Clone, Copy)]
-enum Finding {
-    /// No variable.
-    Constant,
-    /// The variable at this place.
-    At(usize),
-}
-
 /// What was found of the symbols of one proof.
 ///
-/// A hint tells where a symbol may stand among the variables or among the others, which tell whether it does; so hints
-/// are never cleared. Contracts see the variables and the others.
+/// A hint tells where a symbol may stand among those found, which tell whether it does; so hints are never cleared.
+/// Contracts see the symbols and the variables.
 #[derive(Drop)]
 pub struct Findings {
     hints: Vec<u32>,
+    symbols: Vec<Symbol>,
     variables: Vec<Variable>,
-    constants: Vec<u32>,
 }
 
 impl Model for Findings {
@@ -49,7 +47,7 @@ impl Model for Findings {
 
     ghost Value = { Found };
 
-    ghost view = { λ a. record { variables = a.variables.items; constants = a.constants.items } };
+    ghost view = { λ a. record { symbols = a.symbols.items; variables = a.variables.items } };
 }
 
 impl Findings {
@@ -57,67 +55,125 @@ impl Findings {
     pub fn new(alloc: Global) -> Findings {
         Findings {
             hints: Vec::new(alloc),
+            symbols: Vec::new(alloc),
             variables: Vec::new(alloc),
-            constants: Vec::new(alloc),
         }
     }
 
     /// Takes away what was found; the memory stays.
     pub fn clear(&mut self)
+        ensures symbols { self.new.symbols ≡ [] }
         ensures variables { self.new.variables ≡ [] }
-        ensures constants { self.new.constants ≡ [] }
     {
+        self.symbols.clear();
         self.variables.clear();
-        self.constants.clear();
     }
 
-    /// What the symbol was found to be.
+    /// The bit of a symbol, where it was found.
     #[inline(always)]
-    fn known(&self, symbol: u32) -> Option<Finding>
-        ensures { IfSome result (IsFinding self.now symbol) }
+    fn known(&self, symbol: u32) -> Option<u64>
+        ensures { IfSome result (IsListed self.now symbol) }
     {
         let index = symbol as usize;
         if index >= self.hints.len() {
             return None;
         }
         let place = self.hints[index] as usize;
-        if place < self.constants.len() && self.constants[place] == symbol {
-            return Some(Finding::Constant);
+        if place >= self.symbols.len() {
+            return None;
         }
-        if place < self.variables.len() && self.variables[place].symbol == symbol {
-            return Some(Finding::At(place));
+        let listed = self.symbols[place];
+        if listed.number == symbol {
+            Some(listed.bit)
+        } else {
+            None
         }
-        None
     }
 
-    /// What the symbol is, which was not known. None where there is no room for it.
+    /// The bits of an image whose symbols were all found.
+    #[inline(always)]
+    fn known_bits(&self, pairs: &Pairs<'_>, image: &[u32]) -> Option<u64>
+        requires { IsKnown pairs.now self.now }
+        ensures { IfSome result (λ bits. AreBits pairs.now self.now bits (IsAmong (length image.now) image.now)) }
+    {
+        let _statement = pairs;
+        let mut bits = 0;
+        for symbol in image {
+            bits |= self.known(*symbol)?;
+        }
+        Some(bits)
+    }
+
+    /// The bits of an image. None where there is no room for its symbols.
     #[cold]
     #[inline(never)]
-    fn find(&mut self, pairs: &Pairs<'_>, symbol: u32) -> Option<Finding>
+    fn find_bits(&mut self, pairs: &Pairs<'_>, image: &[u32]) -> Option<u64>
+        requires known { IsKnown pairs.now self.old }
+        requires image { AreBelow (length pairs.now.names) image.now }
+        ensures known { IsKnown pairs.now self.new }
+        ensures grows { Grows self.old self.new }
+        ensures bits { IfSome result (λ bits. AreBits pairs.now self.new bits (IsAmong (length image.now) image.now)) }
+    {
+        let mut bits = 0;
+        for symbol in image {
+            bits |= self.look(pairs, *symbol)?;
+        }
+        Some(bits)
+    }
+
+    /// The bit of a symbol. None where there is no room for it.
+    fn look(&mut self, pairs: &Pairs<'_>, symbol: u32) -> Option<u64>
         requires known { IsKnown pairs.now self.old }
         requires named { symbol < length pairs.now.names }
         ensures known { IsKnown pairs.now self.new }
         ensures grows { Grows self.old self.new }
-        ensures found { IfSome result (IsFinding self.new symbol) }
+        ensures bits { IfSome result (λ bit. AreBits pairs.now self.new bit (IsSame symbol)) }
+    {
+        match self.known(symbol) {
+            Some(bit) => Some(bit),
+            None => self.find(pairs, symbol),
+        }
+    }
+
+    /// The bit of a symbol that was not found yet. None where there is no room for it.
+    fn find(&mut self, pairs: &Pairs<'_>, symbol: u32) -> Option<u64>
+        requires known { IsKnown pairs.now self.old }
+        requires named { symbol < length pairs.now.names }
+        ensures known { IsKnown pairs.now self.new }
+        ensures grows { Grows self.old self.new }
+        ensures bits { IfSome result (λ bit. AreBits pairs.now self.new bit (IsSame symbol)) }
     {
         let index = symbol as usize;
         if index >= self.hints.len() && self.hints.resize(index + 1, 0).is_err() {
             return None;
         }
+        let bit = self.new_bit(pairs, symbol)?;
+        self.add_symbol(pairs, symbol, bit)
+    }
+
+    /// The bit of a symbol that was not found yet: a variable is given a place. None where there is none left.
+    fn new_bit(&mut self, pairs: &Pairs<'_>, symbol: u32) -> Option<u64>
+        requires known { IsKnown pairs.now self.old }
+        requires named { symbol < length pairs.now.names }
+        ensures known { IsKnown pairs.now self.new }
+        ensures grows { Grows self.old self.new }
+        ensures bits { IfSome result (λ bit. AreBits pairs.now self.new bit (IsSame symbol)) }
+    {
         if pairs.variable(symbol) {
             self.add_variable(pairs, symbol)
         } else {
-            self.add_constant(pairs, symbol)
+            Some(0)
         }
     }
 
-    /// Notes a symbol that is a variable. None where there is no room for it.
-    fn add_variable(&mut self, pairs: &Pairs<'_>, symbol: u32) -> Option<Finding>
+    /// Gives a variable a place. None where there is none left.
+    fn add_variable(&mut self, pairs: &Pairs<'_>, symbol: u32) -> Option<u64>
         requires known { IsKnown pairs.now self.old }
+        requires named { symbol < length pairs.now.names }
         requires variable { is_variable pairs.now.statements (name_at pairs.now.names symbol) ≡ true }
         ensures known { IsKnown pairs.now self.new }
         ensures grows { Grows self.old self.new }
-        ensures found { IfSome result (IsFinding self.new symbol) }
+        ensures bits { IfSome result (λ bit. AreBits pairs.now self.new bit (IsSame symbol)) }
     {
         let _statement = pairs;
         let place = self.variables.len();
@@ -125,143 +181,132 @@ impl Findings {
         if place >= MOST || self.variables.push(variable).is_err() {
             return None;
         }
-        self.hint(symbol, place as u32);
-        Some(Finding::At(place))
+        Some(1u64 << place)
     }
 
-    /// Notes a symbol that is no variable. None where there is no room for it.
-    fn add_constant(&mut self, pairs: &Pairs<'_>, symbol: u32) -> Option<Finding>
+    /// Notes a symbol with its bit. None where there is no room for it.
+    fn add_symbol(&mut self, pairs: &Pairs<'_>, number: u32, bit: u64) -> Option<u64>
         requires known { IsKnown pairs.now self.old }
-        requires constant { is_variable pairs.now.statements (name_at pairs.now.names symbol) ≡ false }
+        requires bit { AreBits pairs.now self.old bit (IsSame number) }
         ensures known { IsKnown pairs.now self.new }
         ensures grows { Grows self.old self.new }
-        ensures found { IfSome result (IsFinding self.new symbol) }
+        ensures bits { IfSome result (λ bit. AreBits pairs.now self.new bit (IsSame number)) }
     {
         let _statement = pairs;
-        let Ok(place) = u32::try_from(self.constants.len()) else {
+        let Ok(place) = u32::try_from(self.symbols.len()) else {
             return None;
         };
-        if self.constants.push(symbol).is_err() {
+        if self.symbols.push(Symbol { number, bit }).is_err() {
             return None;
         }
-        self.hint(symbol, place);
-        Some(Finding::Constant)
-    }
-
-    /// Tells where the symbol stands.
-    fn hint(&mut self, symbol: u32, place: u32)
-        ensures { self.new ≡ self.old }
-    {
-        if let Some(hint) = self.hints.get_mut(symbol as usize) {
+        if let Some(hint) = self.hints.get_mut(number as usize) {
             *hint = place;
         }
+        Some(bit)
     }
 
-    /// What the symbol is. None where there is no room for it.
+    /// The variables of an image, as the bits of their places. None where there is no room for its symbols.
+    pub(crate) fn bits_of(&mut self, pairs: &Pairs<'_>, image: &[u32]) -> Option<u64>
+        requires known { IsKnown pairs.now self.old }
+        requires image { AreBelow (length pairs.now.names) image.now }
+        ensures known { IsKnown pairs.now self.new }
+        ensures grows { Grows self.old self.new }
+        ensures bits { IfSome result (λ bits. AreBits pairs.now self.new bits (IsAmong (length image.now) image.now)) }
+    {
+        match self.known_bits(pairs, image) {
+            Some(bits) => Some(bits),
+            None => self.find_bits(pairs, image),
+        }
+    }
+
+    /// Whether each variable of the one word is kept apart from each of the other.
+    pub(crate) fn words_apart(&mut self, pairs: &Pairs<'_>, left: u64, right: u64) -> bool
+        requires known { IsKnown pairs.now self.old }
+        requires left { HavePlaces self.old left }
+        requires right { HavePlaces self.old right }
+        ensures known { IsKnown pairs.now self.new }
+        ensures grows { Grows self.old self.new }
+        ensures apart { result ≡ true → AreWordsApart pairs.now self.old left right }
+        ensures clash { result ≡ false → AreWordsApart pairs.now self.old left right → ⊥ }
+    {
+        let mut rest = left;
+        while rest != 0 {
+            let place = lowest(rest);
+            if !self.row_apart(pairs, place, right) {
+                return false;
+            }
+            rest = without(rest, place);
+        }
+        true
+    }
+
+    /// Whether the variable at the place is kept apart from each of these.
     #[inline(always)]
-    fn look(&mut self, pairs: &Pairs<'_>, symbol: u32) -> Option<Finding>
+    fn row_apart(&mut self, pairs: &Pairs<'_>, place: usize, bits: u64) -> bool
         requires known { IsKnown pairs.now self.old }
-        requires named { symbol < length pairs.now.names }
+        requires place { place < length self.old.variables }
+        requires bits { HavePlaces self.old bits }
         ensures known { IsKnown pairs.now self.new }
         ensures grows { Grows self.old self.new }
-        ensures found { IfSome result (IsFinding self.new symbol) }
+        ensures apart { result ≡ true → IsRowApart pairs.now self.old place bits }
+        ensures clash { result ≡ false → IsRowApart pairs.now self.old place bits → ⊥ }
     {
-        match self.known(symbol) {
-            Some(finding) => Some(finding),
-            None => self.find(pairs, symbol),
-        }
+        bits & self.variables[place].apart == bits || self.find_row(pairs, place, bits)
     }
 
-    /// The variables of an image, as the bits of their places.
-    fn bits_of(&mut self, pairs: &Pairs<'_>, image: &[u32]) -> Option<u64>
+    /// Whether the variable at the place is kept apart from each of these, which is noted.
+    #[cold]
+    #[inline(never)]
+    fn find_row(&mut self, pairs: &Pairs<'_>, place: usize, bits: u64) -> bool
         requires known { IsKnown pairs.now self.old }
-        requires image { AreBelow (length pairs.now.names) image.now }
-        ensures known { IsKnown pairs.now self.new }
-        ensures noted { IfSome result (λ bits. AreNoted pairs.now self.new bits (length image.now) image.now) }
-    {
-        let mut bits = 0u64;
-        for symbol in image {
-            if let Finding::At(place) = self.look(pairs, *symbol)? {
-                bits |= 1 << place;
-            }
-        }
-        Some(bits)
-    }
-
-    /// Whether the variable x, which stands at that place, is kept apart from each variable of the image.
-    fn variable_apart(
-        &mut self,
-        pairs: &Pairs<'_>,
-        x: u32,
-        place: usize,
-        image: &[u32],
-    ) -> Option<bool>
-        requires known { IsKnown pairs.now self.old }
-        requires named { x < length pairs.now.names }
-        requires place { IsAt self.old place x }
-        requires image { AreBelow (length pairs.now.names) image.now }
+        requires place { place < length self.old.variables }
+        requires bits { HavePlaces self.old bits }
         ensures known { IsKnown pairs.now self.new }
         ensures grows { Grows self.old self.new }
-        ensures apart { IfSome result (λ apart. apart ≡ is_variable_apart pairs.now.statements (name_at pairs.now.names x) (decode pairs.now.names image.now)) }
+        ensures apart { result ≡ true → IsRowApart pairs.now self.old place bits }
+        ensures clash { result ≡ false → IsRowApart pairs.now self.old place bits → ⊥ }
     {
-        for symbol in image {
-            if let Finding::At(other) = self.look(pairs, *symbol)? {
-                if !self.two_apart(pairs, x, place, *symbol, other) {
-                    return Some(false);
-                }
-            }
-        }
-        Some(true)
-    }
-
-    /// Whether x and y, which stand at these places, are kept apart.
-    fn two_apart(&mut self, pairs: &Pairs<'_>, x: u32, place: usize, y: u32, other: usize) -> bool
-        requires known { IsKnown pairs.now self.old }
-        requires named { (x < length pairs.now.names) × (y < length pairs.now.names) }
-        requires first { IsAt self.old place x }
-        requires second { IsAt self.old other y }
-        ensures known { IsKnown pairs.now self.new }
-        ensures grows { Grows self.old self.new }
-        ensures apart { result ≡ is_pair pairs.now.statements (name_at pairs.now.names x) (name_at pairs.now.names y) }
-    {
-        let apart = self.variables[place].apart;
-        if (apart >> other) & 1 == 1 {
-            return true;
-        }
-        if !pairs.has(x, y) {
+        let row = self.variables[place];
+        if !self.are_pairs(pairs, place, bits & !row.apart) {
             return false;
         }
         self.variables[place] = Variable {
-            symbol: x,
-            apart: apart | 1 << other,
+            symbol: row.symbol,
+            apart: row.apart | bits,
         };
         true
     }
 
-    /// Whether each variable of the one image is kept apart from each of the other, whose bits these are.
-    fn each_apart(
-        &mut self,
-        pairs: &Pairs<'_>,
-        left: &[u32],
-        right: &[u32],
-        bits: u64,
-    ) -> Option<bool>
+    /// Whether the variable at the place and each of these stand together in an active `$d`.
+    fn are_pairs(&self, pairs: &Pairs<'_>, place: usize, bits: u64) -> bool
+        requires known { IsKnown pairs.now self.now }
+        requires place { place < length self.now.variables }
+        requires bits { HavePlaces self.now bits }
+        ensures apart { result ≡ true → IsRowApart pairs.now self.now place bits }
+        ensures clash { result ≡ false → IsRowApart pairs.now self.now place bits → ⊥ }
+    {
+        let mut rest = bits;
+        while rest != 0 {
+            let other = lowest(rest);
+            if !pairs.has(self.variables[place].symbol, self.variables[other].symbol) {
+                return false;
+            }
+            rest = without(rest, other);
+        }
+        true
+    }
+
+    /// Whether the images are apart. None where there is no room for their symbols.
+    fn images_apart(&mut self, pairs: &Pairs<'_>, left: &[u32], right: &[u32]) -> Option<bool>
         requires known { IsKnown pairs.now self.old }
         requires left { AreBelow (length pairs.now.names) left.now }
         requires right { AreBelow (length pairs.now.names) right.now }
-        requires noted { AreNoted pairs.now self.old bits (length right.now) right.now }
         ensures known { IsKnown pairs.now self.new }
         ensures apart { IfSome result (λ apart. apart ≡ are_apart pairs.now.statements (decode pairs.now.names left.now) (decode pairs.now.names right.now)) }
     {
-        for symbol in left {
-            if let Finding::At(place) = self.look(pairs, *symbol)? {
-                let covered = bits & self.variables[place].apart == bits;
-                if !covered && !self.variable_apart(pairs, *symbol, place, right)? {
-                    return Some(false);
-                }
-            }
-        }
-        Some(true)
+        let first = self.bits_of(pairs, left)?;
+        let second = self.bits_of(pairs, right)?;
+        Some(self.words_apart(pairs, first, second))
     }
 
     /// Whether each variable of the one image and each of the other are different and stand together in an active `$d`.
@@ -275,10 +320,7 @@ impl Findings {
         ensures known { IsKnown pairs.now self.new }
         ensures apart { result ≡ are_apart pairs.now.statements (decode pairs.now.names left.now) (decode pairs.now.names right.now) }
     {
-        let Some(bits) = self.bits_of(pairs, right) else {
-            return pairs.apart(left, right);
-        };
-        match self.each_apart(pairs, left, right, bits) {
+        match self.images_apart(pairs, left, right) {
             Some(apart) => apart,
             None => pairs.apart(left, right),
         }

@@ -5,10 +5,11 @@
 //! with a buffer of its own, and `apply` puts all its images in at once.
 //! Symbols are numbers; that this is substitution over the names that they stand for is a law.
 //! Reading order: `place`, `image_places`, `copies`, `filling`, `matching`, `buffer`, `images`, `substitute`, `apart`,
-//! `findings`, `numbers_apart`, `laws`.
+//! `bits`, `findings`, `numbers_apart`, `laws`.
 #![tactic(auto)]
 
 mod apart;
+mod bits;
 mod buffer;
 mod copies;
 mod filling;

@@ -1,6 +1,7 @@
 //! Images of numbers that are kept apart.
 
-ghost use Rattle.std.specs.Prelude.{◌≡◌, ◌<◌, ◌∷◌, [], length, map};
+ghost use Rattle.std.specs.Prelude.{◌≡◌, ◌≤◌, ◌<◌, ◌∷◌, [], ◌==◌, length, map, IfSome};
+ghost use Rattle.std.specs.List.{list_any};
 ghost use Rattle.names.specs.Codes.{decode, AreDistinct};
 ghost use Rattle.frame.specs.Below.{AllBelow, AreBelow};
 ghost use Rattle.frame.specs.Disjoint.{are_groups_apart};
@@ -80,8 +81,8 @@ fn number_apart(
     true
 }
 
-/// Whether the images of each two numbers of the group are apart. Each two are compared once.
-fn group_apart(
+/// Whether the images of each two numbers of the group are apart. Each two are held against each other by themselves.
+fn each_two_apart(
     pairs: &Pairs<'_>,
     findings: &mut Findings,
     symbols: &[u32],
@@ -103,10 +104,69 @@ fn group_apart(
     true
 }
 
+/// Whether the number stands in the list.
+fn contains(numbers: &[u32], k: u32) -> bool
+    ensures { result ≡ list_any (λ l. k == l) numbers.now }
+{
+    numbers.iter().any(|l| k == *l)
+}
+
+/// Whether the images of each two numbers of the group are apart. Each image is read once, and its variables are held
+/// against those of all images before it. None where there is no room for its symbols.
+fn all_apart(
+    pairs: &Pairs<'_>,
+    findings: &mut Findings,
+    symbols: &[u32],
+    images: &ImagePlaces,
+    group: &[u32],
+) -> Option<bool>
+    requires known { IsKnown pairs.now findings.old }
+    requires named { AreOver pairs.now.names (images_at symbols.now images.now) }
+    requires inside { AreInside (length symbols.now) images.now }
+    requires below { AreBelow (length pairs.now.names) group.now }
+    ensures known { IsKnown pairs.now findings.new }
+    ensures apart { IfSome result (λ apart. apart ≡ are_numbers_apart pairs.now.statements (image_named pairs.now.names (images_at symbols.now images.now)) group.now) }
+{
+    let mut before = 0;
+    for (index, k) in group.iter().enumerate() {
+        let own = [*k];
+        let image = image_or(symbols, images, *k, &own);
+        let bits = findings.bits_of(pairs, image)?;
+        if !findings.words_apart(pairs, before, bits) && !contains(&group[..index], *k) {
+            return Some(false);
+        }
+        before |= bits;
+    }
+    Some(true)
+}
+
+/// Whether the images of each two numbers of the group are apart.
+fn group_apart(
+    pairs: &Pairs<'_>,
+    findings: &mut Findings,
+    symbols: &[u32],
+    images: &ImagePlaces,
+    group: &[u32],
+) -> bool
+    requires known { IsKnown pairs.now findings.old }
+    requires named { AreOver pairs.now.names (images_at symbols.now images.now) }
+    requires inside { AreInside (length symbols.now) images.now }
+    requires below { AreBelow (length pairs.now.names) group.now }
+    ensures known { IsKnown pairs.now findings.new }
+    ensures apart { result ≡ are_numbers_apart pairs.now.statements (image_named pairs.now.names (images_at symbols.now images.now)) group.now }
+{
+    match all_apart(pairs, findings, symbols, images, group) {
+        Some(apart) => apart,
+        None => each_two_apart(pairs, findings, symbols, images, group),
+    }
+}
+
 /// Whether the images of each two numbers of each group are apart at the statement of the pairs. The images lie in the
 /// symbols. What is found of these is noted, and asked for again in the same proof.
 ///
-/// Cost: for each two numbers of a group that of `Findings::apart`.
+/// Cost: the symbols of the images of a group, its variables for each of its numbers, and for each two that are new to
+/// each other that of `Pairs::has`; where the proof has more than 64 variables, or memory is refused, for each two
+/// numbers of a group that of `Findings::apart`.
 /// Source: Metamath, 4.2.6.
 pub fn groups_apart(
     pairs: &Pairs<'_>,

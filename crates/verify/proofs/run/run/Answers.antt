@@ -13,7 +13,7 @@ loop-number-init c = (
   c.requires.legal,
   start-known c.args.frames.now.statements c.args.frames.now.names c.args.at c.args.table.now c.start.new.self.results c.in_ok-start.ensures,
   λ labels are. reached-start c.args.frames.now.statements c.args.frames.now.names c.args.at c.requires.legal (behind (length c.args.table.now) c.start.new.self.results) (start-behind (length c.args.table.now) c.start.new.self.results c.in_ok-start.ensures),
-  known-none _ _ c.clear.ensures.variables c.clear.ensures.constants,
+  known-none _ _ c.clear.ensures.symbols c.clear.ensures.variables,
 )
 
 -- what the step did

@@ -1,14 +1,17 @@
-use Rattle.std.proofs.Common.{arith, ap, ◌∙◌, sym, ◌<◌, get_or, length, List, ℕ}
+use Rattle.std.proofs.Common.{arith, ap, ◌∙◌, sym, ◌<◌, length}
 use Rattle.std.proofs.lemmas.List.{get_or_default}
-use Rattle.subst.specs.Findings.{Found}
+use Rattle.subst.specs.declared.findings.Symbol.{Symbol}
+use Rattle.subst.specs.Findings.{Found, symbol_at, no_symbol}
 use Rattle.subst.proofs.findings.Findings.known.Goals as goal
 
-pub returns-then-index-symbol : goal.returns-then-index-symbol
-returns-then-index-symbol c =
-    let constants = ap (λ (f : Found). f.constants) c.self.view_is in
-    let count = ap (λ (f : Found). length f.constants) c.self.view_is in
-    let low : c.index.result.now < length c.self.inside.constants.items = omega (arith, c.if-place-len.true, c.len-2.ensures) in (
-      c.index.result.now,
-      omega (arith, count, low),
-      ap (λ (xs : List ℕ). get_or xs c.index.result.now 0) (sym constants) ∙ (get_or_default c.self.inside.constants.items c.index.result.now 0 _ low ∙ (sym c.index-then-place-len.ensures ∙ c.if-index-symbol.true)),
-    )
+pub returns-then-listed-symbol : goal.returns-then-listed-symbol
+returns-then-listed-symbol c =
+    let count = ap (λ (f : Found). length f.symbols) c.self.view_is in
+    let low : c.index.result.now < length c.self.inside.symbols.items = omega (arith, c.if-place-len.false, c.len-2.ensures) in
+    let read = c.index-listed.ensures ∙ (get_or_default c.self.inside.symbols.items c.index.result.now _ no_symbol low ∙ ap (λ (f : Found). symbol_at f c.index.result.now) c.self.view_is) in
+    record {
+      place = c.index.result.now;
+      there = omega (arith, count, low);
+      same = ap (λ (s : Symbol). s.number) (sym read) ∙ c.if-listed-symbol.true;
+      own = ap (λ (s : Symbol). s.bit) (sym read);
+    }

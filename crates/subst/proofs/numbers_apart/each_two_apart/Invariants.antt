@@ -3,7 +3,7 @@ use Rattle.subst.specs.Places.{images_at}
 use Rattle.subst.specs.Findings.{IsKnown}
 use Rattle.subst.specs.Apart.{image_named}
 use Rattle.subst.proofs.NumbersApartLemmas.{is_rest_apart}
-use Rattle.subst.proofs.numbers_apart.group_apart.Given as goal
+use Rattle.subst.proofs.numbers_apart.each_two_apart.Given as goal
 
 -- what is left decides
 abbrev pub invariant-loop-index : goal.invariant-loop-index

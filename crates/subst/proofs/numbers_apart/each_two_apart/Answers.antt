@@ -1,11 +1,11 @@
-use Rattle.std.proofs.Common.{◌≡◌, ◌+◌, ◌&&◌, ◌-◌, true, false, Bool, length, get_or, arith, refl, sym, ap, subst, ◌∙◌}
+use Rattle.std.proofs.Common.{◌≡◌, ◌+◌, ◌&&◌, true, false, Bool, length, get_or, arith, refl, sym, ap, subst, ◌∙◌}
 use Rattle.std.proofs.lemmas.List.{drop_all}
 use Rattle.std.proofs.lemmas.Bool.{and_left}
 use Rattle.frame.specs.Below.{AreBelow}
 use Rattle.subst.specs.Places.{images_at}
 use Rattle.subst.specs.Apart.{image_named, is_number_apart}
 use Rattle.subst.proofs.NumbersApartLemmas.{below-drop, is_rest_apart, group-by_rest, rest-at}
-use Rattle.subst.proofs.numbers_apart.group_apart.Goals as goal
+use Rattle.subst.proofs.numbers_apart.each_two_apart.Goals as goal
 use Rattle.mm_lex.proofs.WordsLemmas.{take-rest}
 use Rattle.frame.proofs.ApartLemmas.{below-at}
 

@@ -1,0 +1,12 @@
+use Rattle.std.proofs.Common.{rules}
+use Rattle.subst.proofs.BitsLemmas.{cleared-less, cleared-others, and-left}
+use Rattle.subst.proofs.bits.without.Goals as goal
+
+pub returns-clause-less : goal.returns-clause-less
+returns-clause-less c = cleared-less c.args.word c.args.place c.requires.low c.requires.set
+
+pub returns-clause-only : goal.returns-clause-only
+returns-clause-only c = λ j b. and-left c.args.word _ j b
+
+pub returns-clause-others : goal.returns-clause-others
+returns-clause-others c = λ j b. cleared-others c.args.word c.args.place j c.requires.low (search rules) b
