@@ -31,5 +31,5 @@ loop-event-preserved c = record {
   taken = step_taken c.loop-event.world c.step.new.self (carried c.in-Some.event) c.step.result c.in_default.ensures.taken c.in_default.is c.step.ensures.refused;
 }
 
-pub returns-after-loop-event-clause-headline : goal.returns-after-loop-event-clause-headline
-returns-after-loop-event-clause-headline c = headline_holds _ c.loop-event.invariant.taken
+pub returns-clause-headline : goal.returns-clause-headline
+returns-clause-headline c = headline_holds _ c.loop-event.invariant.taken
