@@ -22,6 +22,7 @@ use Rattle.frame.proofs.AssertionLemmas.{get-entry}
 use Rattle.frame.proofs.FoundByNumber.{own-expr, numbered-at}
 use Rattle.frame.proofs.KeptLemmas.{lists-at, lists-cited}
 use Rattle.frame.proofs.BoundLemmas.{bound, bound-single}
+use Rattle.frame.proofs.SymbolsLemmas.{symbols-distinct}
 use Rattle.frame.proofs.LegalLabels.{legal-labels}
 
 parts-kind : (names labels : List Name) (e : Entry) → is_assertion (stmt_of names labels e) ≡ true → has_parts e.kind ≡ true
@@ -72,12 +73,12 @@ there-cited k a i s e c stored distinct asserts t w =
     let x = there-expr k a i s e stored asserts t in
     lists-cited (statements_of k) k.names a s e.assertion e.symbols (there-lists k a i s e e.assertion stored distinct asserts t t.kept w.whole) x.0 x.1 c w.heads w.hypotheses w.conclusion w.groups
 
-pub all-legal : (k : Stock) → AreStored k → AreDistinct k.names → AreLegal (statements_of k) k.names
-all-legal k stored distinct =
+pub all-legal : (k : Stock) → AreStored k → AreLegal (statements_of k) k.names
+all-legal k stored =
     let each : (a : ℕ) (s : Stmt) → HasAssertion (statements_of k) a s → IsBound (statements_of k) a s = λ a s h. bound (statements_of k) a s stored.legal h in
     record {
       once = legal-labels (statements_of k) stored.legal;
       single = λ at. bound-single (statements_of k) at each;
       bound = each;
-      distinct = distinct;
+      distinct = subst AreDistinct (sym stored.names_kept) (symbols-distinct (statements_of k));
     }

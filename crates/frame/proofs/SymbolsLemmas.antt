@@ -18,6 +18,7 @@ use Rattle.scope.specs.Symbols.{symbols_by, symbols_in, symbols_from, symbols_of
 use Rattle.names.proofs.AddedLemmas.{with_names-more, has-more, has-with_names, has_name-append, or_cases}
 use Rattle.scope.proofs.NamesLemmas.{active-was}
 use Rattle.names.proofs.CodesLemmas.{has-at, name_eq-comm}
+use Rattle.names.proofs.DistinctLemmas.{distinct-push}
 use Rattle.scope.proofs.SortsLemmas.{is_variable-active, was_symbol-either}
 use Rattle.scope.proofs.MarkLemmas.{all-has}
 use Rattle.frame.specs.Below.{AreBelow}
@@ -33,6 +34,25 @@ symbols_from-more names (s ∷ S) =
     let one = with_names-more names (symbols_by s) in
     let rest = symbols_from-more (with_names names (symbols_by s)) S in
     (one.0 ++ rest.0, rest.1 ∙ (ap (λ ns. ns ++ rest.0) one.1 ∙ append_assoc names one.0 rest.0))
+
+distinct-with_name : (names : List Name) (x : Name) → AreDistinct names → AreDistinct (with_name names x)
+distinct-with_name names x d = by (has_name x names) refl
+  where
+    by : (b : Bool) → has_name x names ≡ b → AreDistinct (cond b names (names ++ x ∷ []))
+    by true e = d
+    by false e = distinct-push names x d e
+
+distinct-with_names : (names xs : List Name) → AreDistinct names → AreDistinct (with_names names xs)
+distinct-with_names names [] d = d
+distinct-with_names names (x ∷ xs) d = distinct-with_names (with_name names x) xs (distinct-with_name names x d)
+
+distinct-from : (names : List Name) (S : Database) → AreDistinct names → AreDistinct (symbols_from names S)
+distinct-from names [] d = d
+distinct-from names (s ∷ S) d = distinct-from (with_names names (symbols_by s)) S (distinct-with_names names (symbols_by s) d)
+
+-- no two numbers stand for one symbol
+pub symbols-distinct : (S : Database) → AreDistinct (symbols_of S)
+symbols-distinct S = distinct-from [] S tt
 
 -- the symbols of the first statements are the first of all
 pub symbols_of-front : (n : ℕ) (S : Database) → take (length (symbols_of (take n S))) (symbols_of S) ≡ symbols_of (take n S)
