@@ -1,5 +1,5 @@
 //! Which rule of proof code tokens break.
-ghost use Rattle.std.specs.Prelude.{◌≡◌, ◌++◌, ◌<◌, ◌^◌, List, length, false, IsTrue, IsFalse, IfOk, MatchOption};
+ghost use Rattle.std.specs.Prelude.{◌≡◌, ◌++◌, ◌<◌, ◌≤◌, ◌^◌, List, length, false, IsTrue, IsFalse, IfOk, MatchOption};
 ghost use Rattle.std.specs.List.{list_any, list_all};
 ghost use Rattle.mm_lex.specs.Alphabet.{is_label, has_name};
 ghost use Rattle.proof_code.specs.declared.item.Item.{Item};
@@ -35,7 +35,9 @@ pub(crate) fn code_break(
     requires { (items : List Item) → ¬ Writes tokens.now mandatory.now items }
     ensures { IfOk result (IsBreak tokens.now mandatory.now) }
 {
-    let _count = tokens.len();
+    if tokens.len() > MOST {
+        return Err(AllocError);
+    }
     if let Some((token, _)) = first_of(&mut tokens.iter(), mandatory, Test::Unfinished) {
         return Ok(CodeBreak::Unfinished { token });
     }
@@ -56,10 +58,11 @@ fn compressed_break(
 ) -> Result<CodeBreak, AllocError>
     requires compressed { IsTrue (is_compressed tokens.now) }
     requires finished { IsFalse (is_unfinished tokens.now) }
+    requires few { length tokens.now ≤ 2 ^ 30 }
     requires none { (items : List Item) → ¬ Writes tokens.now mandatory.now items }
     ensures { IfOk result (IsBreak tokens.now mandatory.now) }
 {
-    if tokens.len() > MOST || mandatory.len() > MOST {
+    if mandatory.len() > MOST {
         return Err(AllocError);
     }
     let mut words = tokens.iter();

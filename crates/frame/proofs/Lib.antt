@@ -40,4 +40,5 @@ pub mod CollectedLemmas
 pub mod LookedLemmas
 pub mod OneFrameLemmas
 pub mod LabelLemmas
+pub mod PositionLemmas
 mod Rows

@@ -1,7 +1,7 @@
 -- What a verifier reads of a database by position.
 -- Metamath, 4.2: labels name one statement each; what may be cited at a statement.
 -- The code answers by numbers; these words say which statements and names they stand for.
-use Rattle.std.specs.Prelude.{◌≡◌, ℕ, ◌<◌, true, List, length, Option, Some, None}
+use Rattle.std.specs.Prelude.{◌≡◌, ℕ, ◌<◌, true, List, [], length, get_or, Option, Some, None}
 use Rattle.mm_lex.specs.Alphabet.{Name}
 use Rattle.mm_read.specs.declared.stmt.Stmt.{Stmt}
 use Rattle.mm_read.specs.Statements.{Database}
@@ -25,6 +25,11 @@ IsMeaning S names at i Nothing = (s : Stmt) → stmt_at S i ≡ Some s → (IsHy
 abbrev pub IsPosition : Database → Name → Option ℕ → Type 0
 IsPosition S label (Some i) = (s : Stmt) × Carries S i s label
 IsPosition S label None = (i : ℕ) (s : Stmt) → Carries S i s label → ⊥
+
+-- the positions of the statements with these labels
+pub record ArePositions (S : Database) (labels : List Name) (positions : List (Option ℕ)) : Type 0 where
+  pub count : length positions ≡ length labels
+  pub each : (k : ℕ) → k < length labels → IsPosition S (get_or labels k []) (get_or positions k None)
 
 -- no two statements carry one label
 abbrev pub HasLabelsOnce : Database → Type 0

@@ -1,5 +1,5 @@
 //! The statements of a database by position.
-ghost use Rattle.std.specs.Prelude.{◌≡◌, ℕ, ◌+◌, ◌≤◌, [], ◌∷◌, ◌++◌, Some, OnOk, OnErr, IfSome, length, take, option_map};
+ghost use Rattle.std.specs.Prelude.{◌≡◌, ℕ, ◌+◌, ◌≤◌, [], ◌∷◌, ◌++◌, Some, IfOk, OnOk, OnErr, IfSome, length, take, option_map};
 ghost use Rattle.mm_read.specs.declared.stmt.Stmt.{Stmt as Statement};
 ghost use Rattle.scope.specs.Active.{bare, before, stmt_at, expr_of, label_of};
 ghost use Rattle.scope.specs.Legal.{IsLegal};
@@ -7,7 +7,7 @@ ghost use Rattle.names.specs.Codes.{decode, name_at};
 ghost use Rattle.scope.specs.Symbols.{symbols_of, AreOfLast};
 ghost use Rattle.frame.specs.Below.{AreBelow};
 ghost use Rattle.frame.specs.FrameOf.{HasAssertion, hypotheses};
-ghost use Rattle.frame.specs.Reading.{IsMeaning, IsPosition, AreLegal};
+ghost use Rattle.frame.specs.Reading.{IsMeaning, IsPosition, ArePositions, AreLegal};
 ghost use Rattle.frame.specs.Cited.{IsCited, IsGathered};
 ghost use Rattle.entries.specs.Spans.{Extends};
 
@@ -20,6 +20,7 @@ use crate::meaning::Meaning;
 use crate::pairs::Pairs;
 use crate::storage::Stock;
 use entries::{Cited, Entries, Links};
+use mm_lex::Words;
 use mm_read::Stmt;
 use names::NameTable;
 use scope::{Scope, Steps};
@@ -186,6 +187,20 @@ impl Frames {
         Some(self.stock.positions[number] as usize)
     }
 
+    /// The position of the statement with each label.
+    ///
+    /// Errors: a growth was refused. Cost: that of looking each label up.
+    pub fn positions(&self, labels: &Words) -> Result<Vec<Option<usize>>, AllocError>
+        ensures found { IfOk result (λ positions. ArePositions self.now.statements labels.now positions.items) }
+        ensures legal { AreLegal self.now.statements self.now.names }
+    {
+        let mut positions = Vec::new(self.alloc);
+        for label in labels.iter() {
+            positions.push(self.position(label))?;
+        }
+        Ok(positions)
+    }
+
     /// The expression of the statement at a position, by numbers; nothing where it has none.
     pub fn expr(&self, at: usize) -> &[u32]
         requires { (1 ≤ at) × (at ≤ length self.now.statements) }
@@ -208,6 +223,7 @@ impl Frames {
         requires { (1 ≤ at) × (at ≤ length self.now.statements) }
         ensures statements { result.statements ≡ before self.now.statements at }
         ensures names { result.names ≡ self.now.names }
+        ensures legal { AreLegal self.now.statements self.now.names }
     {
         Pairs {
             stock: &self.stock,
@@ -250,7 +266,8 @@ impl Frames {
     pub fn mandatory(&self, a: usize, list: &mut Vec<u32>) -> Result<(), AllocError>
         requires assertion { (s : Statement) × HasAssertion self.now.statements a s }
         requires empty { list.old.items ≡ [] }
-        ensures { (s : Statement) → stmt_at self.now.statements a ≡ Some s → OnOk result (list.new.items ≡ hypotheses (before self.now.statements a) s) }
+        ensures listed { (s : Statement) → stmt_at self.now.statements a ≡ Some s → OnOk result (list.new.items ≡ hypotheses (before self.now.statements a) s) }
+        ensures legal { AreLegal self.now.statements self.now.names }
     {
         mandatory_at(&self.stock, a, list)
     }
@@ -273,13 +290,5 @@ impl Frames {
         } else {
             &[]
         }
-    }
-
-    /// The statements are legal: no two carry one label, what an assertion takes determines what it gives,
-    /// each variable that it uses is that of one mandatory `$f`, and the names are told apart.
-    pub fn legal(&self)
-        ensures { AreLegal self.now.statements self.now.names }
-    {
-        let _stock = &self.stock;
     }
 }

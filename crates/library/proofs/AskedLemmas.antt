@@ -15,7 +15,16 @@ use Rattle.library.specs.declared.asked.AskFault.TheVariants.{NoLabel, NotProvab
 use Rattle.library.specs.Good.{Good}
 use Rattle.library.specs.Uses.{HasItems, IsUser, AreLabelsOf}
 use Rattle.library.specs.Asked.{HasNoLabel, NamesNoProof, NamesProof, IsNoProof, IsUsage, SpellsTree, IsTreeOf}
+use Rattle.frame.proofs.LegalLabels.{legal-labels}
+use Rattle.library.proofs.RulesLemmas.{legal-each}
 use Rattle.library.proofs.WalkLemmas.{carries-bare, carries-whole, one-items}
+
+-- no two of good statements carry one label
+pub labels-once : (S : Database) → Good S → HasLabelsOnce (bares S)
+labels-once S good i j s r label p q =
+    let one = carries-whole S i s label p in
+    let other = carries-whole S j r label q in
+    legal-labels S (legal-each S good.legal) i j one.0 other.0 label one.1 other.1
 
 module _ (S F : Database) (same : F ≡ bares S) where
   pub named : (label : Name) (at : ℕ) → (s : Stmt) × Carries F at s label → (t : Stmt) × Carries S at t label

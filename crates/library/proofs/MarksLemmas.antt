@@ -1,21 +1,20 @@
 -- The positions of labels, and the marks of what items cite.
-use Rattle.std.specs.Prelude.{◌≡◌, ◌↔◌, ◌||◌, ◌⊎◌, ℕ, zero, suc, ◌-◌, ◌<◌, ◌≤◌, Bool, true, false, cond, nat_lt, List, [], ◌∷◌, ◌++◌, length, map, get_or, slice_set, Option, Some, None, slice_get, refl}
+use Rattle.std.specs.Prelude.{◌≡◌, ◌↔◌, ◌||◌, ◌⊎◌, ℕ, zero, suc, ◌-◌, ◌<◌, ◌≤◌, Bool, true, false, cond, nat_lt, List, [], ◌∷◌, length, get_or, slice_set, Option, Some, None, slice_get, refl}
 use Rattle.std.specs.List.{list_any}
-use Rattle.std.proofs.Common.{sym, ◌∙◌, ap, subst, arith, length-append, Bor, inl, inr}
+use Rattle.std.proofs.Common.{sym, ◌∙◌, ap, subst, arith, inl, inr}
 use Rattle.std.proofs.lemmas.Bool.{cases_eq, or_right}
 use Rattle.std.proofs.lemmas.Bool.Decides.{nat_tests}
-use Rattle.std.proofs.lemmas.List.{map-append, length-set, get_or-set_same, get_or-set_other}
+use Rattle.std.proofs.lemmas.List.{length-set, get_or-set_same, get_or-set_other}
 use Rattle.mm_lex.specs.Alphabet.{Name}
 use Rattle.mm_read.specs.declared.stmt.Stmt.{Stmt}
 use Rattle.mm_read.specs.Statements.{Database}
 use Rattle.frame.specs.Citations.{Carries}
-use Rattle.frame.specs.Reading.{IsPosition, HasLabelsOnce}
+use Rattle.frame.specs.Reading.{IsPosition, ArePositions, HasLabelsOnce}
 use Rattle.proof_code.specs.declared.item.Item.{Item}
 use Rattle.proof_code.specs.declared.item.Item.TheVariants.{Cite, Recall}
 use Rattle.proof_code.specs.Numbers.{item_of, items_of}
-use Rattle.library.specs.Marks.{IsMarked, is_marked, mark, place_of, mark_items, ArePlaces, ItemsCite, ItemsMeet, MarksItems}
+use Rattle.library.specs.Marks.{IsMarked, is_marked, mark, place_of, mark_items, ItemsCite, ItemsMeet, MarksItems}
 use Rattle.library.proofs.FrontLemmas.{stands-within}
-use Rattle.verify.proofs.TableLemmas.{get-front, get-last}
 
 -- ---- the positions of labels
 
@@ -23,33 +22,6 @@ get-past : {A : Type 0} (xs : List A) (k : ℕ) (d : A) → length xs ≤ k → 
 get-past [] k d h = refl
 get-past (x ∷ xs) zero d h = absurd (omega (arith, h))
 get-past (x ∷ xs) (suc k) d h = get-past xs k d (omega (arith, h))
-
--- one more place
-pub places-end : (S : Database) (ls : List Name) (es : List (Option ℕ)) (label : Name) (o : Option ℕ) → ArePlaces S ls es → IsPosition S label o → ArePlaces S (ls ++ label ∷ []) (es ++ o ∷ [])
-places-end S ls es label o a is = record { count = counted; each = λ k h. each k h (nat_lt k (length ls)) refl }
-  where
-    counted : length (es ++ o ∷ []) ≡ length (ls ++ label ∷ [])
-    counted = let p = length-append es (o ∷ []) in let q = length-append ls (label ∷ []) in let c = a.count in omega (arith, p, q, c)
-
-    each : (k : ℕ) → k < length (ls ++ label ∷ []) → (b : Bool) → nat_lt k (length ls) ≡ b → IsPosition S (get_or (ls ++ label ∷ []) k []) (get_or (es ++ o ∷ []) k None)
-    each k h true q =
-        let lt : k < length ls = grind (arith, q) in
-        let c = a.count in
-        subst (λ l. IsPosition S l (get_or (es ++ o ∷ []) k None)) (sym (get-front ls (label ∷ []) k [] lt))
-        (subst (IsPosition S (get_or ls k [])) (sym (get-front es (o ∷ []) k None (omega (arith, lt, c)))) (a.each k lt))
-    each k h false q =
-        let p = length-append ls (label ∷ []) in
-        let same : k ≡ length ls = grind (arith, q, h, p) in
-        let c = a.count in
-        subst (λ l. IsPosition S l (get_or (es ++ o ∷ []) k None)) (sym (get-last ls label k [] same))
-        (subst (IsPosition S label) (sym (get-last es o k None (same ∙ sym c))) is)
-
--- one more label
-pub places-more : (S : Database) (labels : List (Bor Name)) (label : Bor Name) (places places' : List (Option ℕ)) (o : Option ℕ) → ArePlaces S (map (λ l. l.now) labels) places
-    → places' ≡ places ++ o ∷ [] → IsPosition S label.now o → ArePlaces S (map (λ l. l.now) (labels ++ label ∷ [])) places'
-places-more S labels label places places' o are grown is =
-    subst (λ ls. ArePlaces S ls places') (sym (map-append (λ l. l.now) labels (label ∷ [])))
-    (subst (ArePlaces S (map (λ l. l.now) labels ++ label.now ∷ [])) (sym grown) (places-end S (map (λ l. l.now) labels) places label.now o are is))
 
 -- ---- one mark
 
@@ -88,7 +60,7 @@ mark-whole ms (suc k) h w = get_or-set_same ms k true false (omega (arith, w))
 
 -- ---- the items of numbers
 
-module _ (S : Database) (labels : List Name) (places : List (Option ℕ)) (are : ArePlaces S labels places) (once : HasLabelsOnce S) where
+module _ (S : Database) (labels : List Name) (places : List (Option ℕ)) (are : ArePositions S labels places) (once : HasLabelsOnce S) where
   -- an item that cites a statement
   record CitesOne (item : Item) (a : ℕ) : Type 0 where
     pub label : Name

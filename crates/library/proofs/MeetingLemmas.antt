@@ -23,7 +23,8 @@ use Rattle.library.specs.Good.{Good, IsProved}
 use Rattle.library.specs.Marks.{is_marked, place_of, AreWanted, ItemsMeet, ProofMeets, TellsMeeting, listed_in, ListsNone, ListsSome}
 use Rattle.library.proofs.FrontLemmas.{AreHypothesesAt, hypotheses-at}
 use Rattle.library.proofs.ItemsLemmas.{stands-bare}
-use Rattle.library.proofs.MarksLemmas.{places-end, meets-items}
+use Rattle.frame.proofs.PositionLemmas.{positions-end}
+use Rattle.library.proofs.MarksLemmas.{meets-items}
 use Rattle.library.proofs.MayCiteLemmas.{kind-labelled, cited-label}
 use Rattle.library.proofs.ProvingLemmas.{both, same-statement, labels-bare}
 use Rattle.library.proofs.UsersLemmas.{proof-meets}
@@ -36,7 +37,7 @@ module _ (S : Database) (marks : List Bool) where
   wanted-end labels wanted label o w is =
       record {
         places = w.places ++ o ∷ [];
-        named = places-end S labels w.places label o w.named is;
+        named = positions-end S labels w.places label o w.named is;
         tests = ap (λ bs. bs ++ is_marked marks o ∷ []) w.tests ∙ sym (map-append (is_marked marks) w.places (o ∷ []));
       }
 

@@ -1,12 +1,12 @@
 -- The rules over two lists, one behind the other.
-use Rattle.std.specs.Prelude.{◌≡◌, ℕ, ◌+◌, [], ◌∷◌, ◌++◌, map, Option, Some, None, refl}
-use Rattle.std.proofs.Common.{sym, ◌∙◌, ap, append_assoc, append-nil}
+use Rattle.std.specs.Prelude.{◌≡◌, ℕ, zero, suc, ◌+◌, ◌-◌, [], ◌∷◌, ◌++◌, map, take, slice_get, Option, Some, None, refl}
+use Rattle.std.proofs.Common.{sym, ◌∙◌, ap, subst, arith, append_assoc, append-nil}
 use Rattle.std.proofs.lemmas.List.{map-append}
 use Rattle.mm_read.specs.declared.stmt.Stmt.{Stmt}
 use Rattle.mm_read.specs.declared.stmt.Stmt.TheVariants.{Open, Close, Const, Var, Disj, Float, Ess, Axiom, Prove}
 use Rattle.mm_read.specs.Statements.{Database}
 use Rattle.scope.specs.declared.rule.Rule.{Rule}
-use Rattle.scope.specs.Active.{bare, bares}
+use Rattle.scope.specs.Active.{bare, bares, before, stmt_at}
 use Rattle.scope.specs.Legal.{broken_rule, end_rule, first_broken, or_later, numbered, AllLegal, IsLegal}
 use Rattle.scope.proofs.BareLemmas.{broken_rule-bares, end_rule-bares}
 
@@ -52,6 +52,20 @@ legal-more L T legal h = none-join 1 1 [] L T (none-split 1 1 [] L [] (ap (first
 
 pub legal-text : (L T : Database) → AllLegal (L ++ T) → first_broken 1 L T ≡ None
 legal-text L T legal = (none-split 1 1 [] L T legal).1
+
+legal-behind : (L T : Database) (i : ℕ) (s : Stmt) → AreLegal L T → slice_get T i ≡ Some s → IsLegal (L ++ take i T) s
+legal-behind L [] i s legal stands = cc
+legal-behind L (x ∷ T) zero s legal stands =
+    let same : x ≡ s = cc in
+    subst (λ U. IsLegal U s) (sym (append-nil L)) (subst (IsLegal L) same legal.0)
+legal-behind L (x ∷ T) (suc i) s legal stands = subst (λ U. IsLegal U s) (append_assoc L (x ∷ []) (take i T)) (legal-behind (L ++ x ∷ []) T i s legal.1 stands)
+
+-- each statement of a legal list is legal behind those before it
+pub legal-each : (S : Database) → AllLegal S → (j : ℕ) (s : Stmt) → stmt_at S j ≡ Some s → IsLegal (before S j) s
+legal-each S legal zero s stands = cc
+legal-each S legal (suc i) s stands =
+    let same : i ≡ suc i - 1 = omega arith in
+    subst (λ n. IsLegal (take n S) s) same (legal-behind [] S i s (none-split 1 1 [] S [] (ap (first_broken 1 []) (append-nil S) ∙ legal)).0 stands)
 
 -- what is broken behind statements does not hang on their proofs
 pub broken-bares : (S U : Database) → bares S ≡ bares U → (s : Stmt) → broken_rule S s ≡ broken_rule U s

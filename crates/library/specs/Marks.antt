@@ -1,7 +1,7 @@
 -- Which positions a walk down from a `$p` has marked.
 -- Source: none; for the private functions of `uses`.
 -- The marks are a list with one place for each position, the first for position 1.
-use Rattle.std.specs.Prelude.{◌≡◌, ◌↔◌, ◌⊎◌, ℕ, zero, suc, ◌<◌, ◌≤◌, Bool, true, false, List, [], ◌∷◌, ◌++◌, length, map, cond, ◌&&◌, if◌then◌else◌, Option, Some, None, slice_get, slice_index_or, slice_set}
+use Rattle.std.specs.Prelude.{◌≡◌, ◌↔◌, ◌⊎◌, ℕ, zero, suc, ◌≤◌, Bool, true, false, List, [], ◌∷◌, ◌++◌, length, map, cond, ◌&&◌, if◌then◌else◌, Option, Some, None, slice_get, slice_index_or, slice_set}
 use Rattle.std.specs.List.{list_any}
 use Rattle.mm_lex.specs.Alphabet.{Name, name_eq, has_name}
 use Rattle.mm_read.specs.declared.stmt.Stmt.{Stmt}
@@ -10,7 +10,7 @@ use Rattle.mm_read.specs.Statements.{Database}
 use Rattle.scope.specs.Active.{before, stmt_at}
 use Rattle.frame.specs.FrameOf.{hypotheses}
 use Rattle.frame.specs.Citations.{Carries}
-use Rattle.frame.specs.Reading.{IsPosition}
+use Rattle.frame.specs.Reading.{ArePositions}
 use Rattle.proof_code.specs.declared.item.Item.{Item}
 use Rattle.proof_code.specs.declared.item.Item.TheVariants.{Cite}
 use Rattle.proof_code.specs.Writes.{finish, WritesCompressed}
@@ -44,15 +44,10 @@ abbrev pub mark_items : List (Option ℕ) → List ℕ → List Bool → List Bo
 mark_items places [] marks = marks
 mark_items places (number ∷ numbers) marks = mark_items places numbers (mark (place_of places number) marks)
 
--- the position of what each label names
-pub record ArePlaces (S : Database) (labels : List Name) (places : List (Option ℕ)) : Type 0 where
-  pub count : length places ≡ length labels
-  pub each : (k : ℕ) → k < length labels → IsPosition S (slice_index_or labels k []) (slice_index_or places k None)
-
 -- for each label, whether what it names is marked
 pub record AreWanted (S : Database) (labels : List Name) (marks wanted : List Bool) : Type 0 where
   pub places : List (Option ℕ)
-  pub named : ArePlaces S labels places
+  pub named : ArePositions S labels places
   pub tests : wanted ≡ map (is_marked marks) places
 
 -- an item cites the statement at a

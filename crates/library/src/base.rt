@@ -72,7 +72,6 @@ impl Base {
         ensures same { result.now.statements ≡ bares self.now }
         ensures once { HasLabelsOnce result.now.statements }
     {
-        self.frames.legal();
         &self.frames
     }
 

@@ -6,11 +6,11 @@ ghost use Rattle.verify.specs.Right.{IsProvable};
 ghost use Rattle.frame.specs.Reading.{HasLabelsOnce};
 ghost use Rattle.library.specs.Good.{Good};
 ghost use Rattle.library.specs.Uses.{Uses, AreLabelsOf};
-ghost use Rattle.library.specs.Marks.{ArePlaces, place_of, mark, MarksItems, MarksCited, AreReached, axiom_label, axioms_in};
+ghost use Rattle.library.specs.Marks.{place_of, mark, MarksItems, MarksCited, AreReached, axiom_label, axioms_in};
 
 use crate::items::items_of;
 use frame::Frames;
-use mm_lex::{Word, Words};
+use mm_lex::Word;
 use mm_read::Stmt;
 use proof_code::Items;
 use std::alloc::{AllocError, Global};
@@ -107,42 +107,22 @@ fn mark_proof(
         return Ok(());
     };
     match items_of(alloc, frames, statements, at, proof)? {
-        Some(items) => mark_cited(alloc, frames, &items, marks),
+        Some(items) => mark_cited(frames, &items, marks),
         None => Ok(()),
     }
 }
 
 /// Marks what the items cite.
-fn mark_cited(
-    alloc: Global,
-    frames: &Frames,
-    items: &Items,
-    marks: &mut [bool],
-) -> Result<(), AllocError>
+fn mark_cited(frames: &Frames, items: &Items, marks: &mut [bool]) -> Result<(), AllocError>
     requires once { HasLabelsOnce frames.now.statements }
     ensures { OnOk result (MarksItems frames.now.statements items.now marks.old marks.new) }
 {
     let parts = items.parts();
-    let places = places_of(alloc, frames, parts.labels)?;
+    let places = frames.positions(parts.labels)?;
     for number in parts.numbers {
         mark_position(marks, place_of(&places, *number));
     }
     Ok(())
-}
-
-/// The position of what each of the labels names.
-fn places_of(
-    alloc: Global,
-    frames: &Frames,
-    labels: &Words,
-) -> Result<Vec<Option<usize>>, AllocError>
-    ensures { IfOk result (λ places. ArePlaces frames.now.statements labels.now places.items) }
-{
-    let mut places = Vec::new(alloc);
-    for label in labels.iter() {
-        places.push(frames.position(label))?;
-    }
-    Ok(places)
 }
 
 /// The position that an item cites, by its number.

@@ -9,7 +9,7 @@ use Rattle.scope.specs.Active.{expr_of}
 use Rattle.names.specs.Codes.{decode, AreDistinct}
 use Rattle.frame.specs.Below.{AreBelow}
 use Rattle.frame.specs.Citations.{Carries}
-use Rattle.frame.specs.Reading.{IsPosition}
+use Rattle.frame.specs.Reading.{IsPosition, ArePositions}
 use Rattle.proof_code.specs.declared.item.Item.{Item}
 use Rattle.proof_code.specs.declared.item.Item.TheVariants.{Cite, Recall}
 use Rattle.proof_code.specs.Numbers.{item_of, items_of}
@@ -21,7 +21,7 @@ use Rattle.reasons.specs.declared.reason.Reason.TheVariants as reason
 use Rattle.reasons.specs.Kept.{named, AreSymbols}
 use Rattle.reasons.specs.Steps.{IsRecalled, FailsToRecall}
 use Rattle.reasons.specs.Run.{Held, held, CitesTo, Steps, Runs}
-use Rattle.reasons.specs.FirstFault.{FailsAt, FailsCited, Fails, RunsWell, RunsTo, IsFirstFault, AreFound, IsAlone, IsEndFault}
+use Rattle.reasons.specs.FirstFault.{FailsAt, FailsCited, Fails, RunsWell, RunsTo, IsFirstFault, IsAlone, IsEndFault}
 use Rattle.reasons.specs.declared.state.TheConstants.{WEIGHT_LIMIT}
 use Rattle.reasons.proofs.RunLemmas.{pushed_to}
 use Rattle.reasons.proofs.NamedLemmas.{decode-same}
@@ -31,24 +31,11 @@ use Rattle.names.specs.Codes.{name_at}
 
 -- ---- positions of labels
 
-pub found-length : (S : Database) (labels : List Name) (positions : List (Option ℕ)) → AreFound S labels positions → length labels ≡ length positions
-found-length S [] [] h = refl
-found-length S [] (p ∷ positions) h = absurd h
-found-length S (x ∷ labels) [] h = absurd h
-found-length S (x ∷ labels) (p ∷ positions) h = ap suc (found-length S labels positions h.1)
+pub found-length : (S : Database) (labels : List Name) (positions : List (Option ℕ)) → ArePositions S labels positions → length labels ≡ length positions
+found-length S labels positions are = sym are.count
 
-pub found-at : (S : Database) (labels : List Name) (positions : List (Option ℕ)) (k : ℕ) → AreFound S labels positions → k < length positions → IsPosition S (get_or labels k []) (get_or positions k None)
-found-at S [] [] k h l = absurd (omega (arith, l))
-found-at S [] (p ∷ positions) k h l = absurd h
-found-at S (x ∷ labels) [] k h l = absurd h
-found-at S (x ∷ labels) (p ∷ positions) zero h l = h.0
-found-at S (x ∷ labels) (p ∷ positions) (suc k) h l = found-at S labels positions k h.1 (omega (arith, l))
-
-pub found-more : (S : Database) (done : List Name) (positions : List (Option ℕ)) (x : Name) (p : Option ℕ) → AreFound S done positions → IsPosition S x p → AreFound S (done ++ x ∷ []) (positions ++ p ∷ [])
-found-more S [] [] x p h is = (is, tt)
-found-more S [] (q ∷ positions) x p h is = absurd h
-found-more S (y ∷ done) [] x p h is = absurd h
-found-more S (y ∷ done) (q ∷ positions) x p h is = (h.0, found-more S done positions x p h.1 is)
+pub found-at : (S : Database) (labels : List Name) (positions : List (Option ℕ)) (k : ℕ) → ArePositions S labels positions → k < length positions → IsPosition S (get_or labels k []) (get_or positions k None)
+found-at S labels positions k are less = are.each k (let c = are.count in omega (arith, less, c))
 
 -- ---- what a number means
 

@@ -1,7 +1,7 @@
 -- The first fault of the run over the items of a proof: what fails at an item, or at the end, where all before it goes well.
 -- Source: Metamath, 4.2.6 and appendix B; the limit is this project's.
 -- The code stops at it.
-use Rattle.std.specs.Prelude.{◌≡◌, ◌≢◌, ℕ, ◌+◌, ◌-◌, ◌<◌, ◌≤◌, true, List, [], ◌∷◌, ◌++◌, length, take, Option, Some, slice_get}
+use Rattle.std.specs.Prelude.{◌≡◌, ◌≢◌, ℕ, ◌+◌, ◌-◌, ◌<◌, ◌≤◌, true, List, [], ◌∷◌, ◌++◌, length, take, Some, slice_get}
 use Rattle.std.specs.Global.{Vec}
 use Rattle.mm_lex.specs.Alphabet.{Name}
 use Rattle.mm_read.specs.declared.stmt.Stmt.{Stmt}
@@ -10,7 +10,6 @@ use Rattle.scope.specs.Active.{before, expr_of, is_assertion}
 use Rattle.names.specs.Codes.{decode}
 use Rattle.frame.specs.FrameOf.{hypotheses}
 use Rattle.frame.specs.Citations.{Carries, IsHypothesis}
-use Rattle.frame.specs.Reading.{IsPosition}
 use Rattle.proof_code.specs.declared.item.Item.{Item}
 use Rattle.proof_code.specs.declared.item.Item.TheVariants.{Cite, Recall, Mark}
 use Rattle.reasons.specs.declared.reason.Fault.{Fault}
@@ -83,12 +82,6 @@ IsFirstFault S names at s items (reason.Item k fault) =
 IsFirstFault S names at s items (reason.Results count) = (h : Held) × RunsWell S at items h × (count ≡ length h.stack) × (count ≢ 1)
 IsFirstFault S names at s items (reason.Theorem proved) =
     (h : Held) × RunsWell S at items h × (h.stack ≡ decode names proved.items ∷ []) × (decode names proved.items ≢ expr_of s)
-
--- the positions of the statements with these labels
-abbrev pub AreFound : Database → List Name → List (Option ℕ) → Type 0
-AreFound S [] [] = Unit {0}
-AreFound S (x ∷ labels) (p ∷ positions) = IsPosition S x p × AreFound S labels positions
-AreFound S labels positions = ⊥
 
 -- the one result on the stack, by number, is what the theorem says, or it is not
 abbrev pub IsAlone : List ℕ → List (Vec ℕ) → Type 0

@@ -4,6 +4,7 @@ ghost use Rattle.mm_read.specs.declared.stmt.Stmt.{Stmt as Statement};
 ghost use Rattle.frame.specs.Below.{AreBelow};
 ghost use Rattle.frame.specs.FrameOf.{HasAssertion, hypotheses};
 ghost use Rattle.frame.specs.Cited.{IsCited};
+ghost use Rattle.frame.specs.Reading.{AreLegal};
 ghost use Rattle.reasons.specs.Kept.{AreSymbols, AreImages, CountIs, named};
 ghost use Rattle.reasons.specs.Faults.{IsSaid, IsMismatch, FitsAll, AreReadOff};
 ghost use Rattle.scope.specs.Active.{before, stmt_at};
@@ -91,6 +92,7 @@ fn cite_parts(
     cited: &Cited<'_>,
     state: &mut State,
 ) -> Result<Option<Fault>, AllocError>
+    requires legal { AreLegal frames.now.statements frames.now.names }
     requires place { (1 ≤ at) × (at ≤ length frames.now.statements) }
     requires earlier { a < at }
     requires assertion { (s : Statement) × HasAssertion frames.now.statements a s }
@@ -106,7 +108,6 @@ fn cite_parts(
         (FailsAt frames.now.statements frames.now.names at (held frames.now.names state.old) a s)) }
     ensures marked { state.new.marked.items ≡ state.old.marked.items }
 {
-    frames.legal();
     let there = state.stack.len();
     let takes = mandatory.len();
     if there < takes {
@@ -155,6 +156,7 @@ fn conclude(
     results: &[Vec<u32>],
     room: usize,
 ) -> Result<Concluded, AllocError>
+    requires legal { AreLegal frames.now.statements frames.now.names }
     requires place { (1 ≤ at) × (at ≤ length frames.now.statements) }
     requires earlier { a < at }
     requires assertion { (s : Statement) × HasAssertion frames.now.statements a s }
@@ -166,7 +168,6 @@ fn conclude(
     ensures told { (s : Statement) → stmt_at frames.now.statements a ≡ Some s
         → IfOk result (IsConcluded frames.now.statements frames.now.names at a s (named frames.now.names results.now) room) }
 {
-    frames.legal();
     let images = read_images(alloc, cited.hypotheses, results)?;
     if let Some(fault) = find_other(alloc, frames, a, mandatory, cited, results, &images)? {
         return Ok(Concluded::Wrong(fault));
@@ -198,6 +199,7 @@ fn find_other(
     results: &[Vec<u32>],
     images: &[Image],
 ) -> Result<Option<Fault>, AllocError>
+    requires legal { AreLegal frames.now.statements frames.now.names }
     requires assertion { (s : Statement) × HasAssertion frames.now.statements a s }
     requires mandatory { (s : Statement) → stmt_at frames.now.statements a ≡ Some s → mandatory.now ≡ hypotheses (before frames.now.statements a) s }
     requires cited { (s : Statement) → stmt_at frames.now.statements a ≡ Some s → IsCited frames.now.statements frames.now.names a s cited.now }
@@ -208,7 +210,6 @@ fn find_other(
     ensures { (s : Statement) → stmt_at frames.now.statements a ≡ Some s
         → IfOk result (λ r. MatchOption r (FitsAll frames.now a s results.now) (IsMismatch frames.now.statements frames.now.names a s (named frames.now.names results.now))) }
 {
-    frames.legal();
     for k in 0..results.len() {
         let hypothesis = mandatory[k] as usize;
         let result = results[k].as_slice();

@@ -3,17 +3,17 @@ ghost use Rattle.std.specs.Prelude.{◌≡◌, ◌≤◌, List, length, IfOk, Ma
 ghost use Rattle.mm_lex.specs.Alphabet.{Name};
 ghost use Rattle.mm_read.specs.declared.stmt.Stmt.{Stmt as Statement};
 ghost use Rattle.scope.specs.Active.{stmt_at, expr_of};
+ghost use Rattle.frame.specs.Reading.{ArePositions};
 ghost use Rattle.proof_code.specs.Numbers.{item_of};
 ghost use Rattle.reasons.specs.Kept.{AreSymbols};
 ghost use Rattle.reasons.specs.Run.{Steps, held};
-ghost use Rattle.reasons.specs.FirstFault.{Fails, RunsTo, IsFirstFault, AreFound, IsAlone, IsEndFault};
+ghost use Rattle.reasons.specs.FirstFault.{Fails, RunsTo, IsFirstFault, IsAlone, IsEndFault};
 ghost use Rattle.reasons.specs.declared.state.TheConstants.{WEIGHT_LIMIT};
 
 use crate::citation::cite;
 use crate::reason::{Fault, Reason};
 use crate::state::State;
 use frame::Frames;
-use mm_lex::Words;
 use proof_code::Items;
 use std::alloc::{AllocError, Global};
 
@@ -31,9 +31,8 @@ pub fn first_fault(
     ensures { (s : Statement) → stmt_at frames.now.statements at ≡ Some s
         → IfOk result (λ r. MatchOption r (RunsTo frames.now.statements at items.now (expr_of s)) (IsFirstFault frames.now.statements frames.now.names at s items.now)) }
 {
-    frames.legal();
     let parts = items.parts();
-    let positions = positions_of(alloc, frames, parts.labels)?;
+    let positions = frames.positions(parts.labels)?;
     let numbers = parts.numbers;
     let mut state = State::new(alloc);
     for (item, number) in numbers.iter().enumerate() {
@@ -52,21 +51,6 @@ pub fn first_fault(
     end(alloc, frames.expr(at), state.stack.as_slice())
 }
 
-/// The position of the statement with each label.
-fn positions_of(
-    alloc: Global,
-    frames: &Frames,
-    labels: &Words,
-) -> Result<Vec<Option<usize>>, AllocError>
-    ensures { IfOk result (λ positions. AreFound frames.now.statements labels.now positions.items) }
-{
-    let mut positions = Vec::new(alloc);
-    for label in labels.iter() {
-        positions.push(frames.position(label))?;
-    }
-    Ok(positions)
-}
-
 /// One item: 0 marks, a number up to the count of the labels cites, a greater one recalls.
 fn step(
     alloc: Global,
@@ -80,7 +64,7 @@ fn step(
     requires symbols { AreSymbols (length frames.now.names) state.old.stack.items }
     requires marked { AreSymbols (length frames.now.names) state.old.marked.items }
     requires weight { state.old.weight ≤ WEIGHT_LIMIT }
-    ensures told { (labels : List Name) → AreFound frames.now.statements labels positions.now
+    ensures told { (labels : List Name) → ArePositions frames.now.statements labels positions.now
         → IfOk result (λ r. MatchOption r
         (Steps frames.now.statements at (held frames.now.names state.old) (item_of labels number) (held frames.now.names state.new))
         (Fails frames.now.statements frames.now.names at (held frames.now.names state.old) (item_of labels number))) }

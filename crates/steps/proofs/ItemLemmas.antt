@@ -9,7 +9,7 @@ use Rattle.mm_read.specs.Statements.{Expr, Database}
 use Rattle.scope.specs.Active.{stmt_at}
 use Rattle.frame.specs.Below.{AreBelow}
 use Rattle.frame.specs.Citations.{Carries, IsHypothesis}
-use Rattle.frame.specs.Reading.{IsMeaning, IsPosition, AreLegal}
+use Rattle.frame.specs.Reading.{IsMeaning, IsPosition, ArePositions, AreLegal}
 use Rattle.frame.specs.declared.meaning.Meaning.TheVariants.{Nothing}
 use Rattle.proof_code.specs.declared.item.Item.TheVariants.{Recall, Mark}
 use Rattle.verify.specs.Machine.{State, Cites, of_hypothesis, of_assertion, with_result, with_mark}
@@ -17,7 +17,7 @@ use Rattle.verify.proofs.Decide.{append_cut}
 use Rattle.verify.proofs.PlaceLemmas.{get-map}
 use Rattle.steps.specs.StepTable.{Progress}
 use Rattle.steps.specs.Rows.{steps_of, expr_in, AreRows}
-use Rattle.steps.specs.Drafted.{row_of, rows_of, AreInBuffer, AreKnown, IsDraft, IsTied, ArePositions, CanDo, IsDone}
+use Rattle.steps.specs.Drafted.{row_of, rows_of, AreInBuffer, AreKnown, IsDraft, IsTied, CanDo, IsDone}
 use Rattle.steps.specs.declared.draft.Draft.{Draft}
 use Rattle.frame.proofs.StoredOneMore.{map-push}
 use Rattle.frame.proofs.NumberLemmas.{below-push}

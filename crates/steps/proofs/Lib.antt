@@ -5,7 +5,6 @@ pub mod RowLemmas
 pub mod PlacingLemmas
 pub mod CiteLemmas
 pub mod ItemLemmas
-pub mod PositionLemmas
 pub mod SoundLemmas
 pub mod ReachedLemmas
 pub mod PremiseLemmas

@@ -9,7 +9,7 @@ use Rattle.names.specs.Codes.{decode}
 use Rattle.frame.specs.Below.{AreBelow}
 use Rattle.frame.specs.Reading.{AreLegal}
 use Rattle.verify.specs.Machine.{State, with_result}
-use Rattle.verify.proofs.TableLemmas.{get-last}
+use Rattle.frame.proofs.PositionLemmas.{get-last}
 use Rattle.steps.specs.StepTable.{Step, IsPlaced, stands, comes_last}
 use Rattle.steps.specs.Rows.{Row, no_row, steps_of, expr_in, Follows, AreRows}
 use Rattle.steps.specs.Drafted as drafted

@@ -12,7 +12,7 @@ use Rattle.mm_read.specs.Statements.{Database}
 use Rattle.names.specs.Codes.{decode}
 use Rattle.frame.specs.Below.{AreBelow}
 use Rattle.subst.proofs.PlaceLemmas.{seen-more, seen-last}
-use Rattle.verify.proofs.TableLemmas.{get-front}
+use Rattle.frame.proofs.PositionLemmas.{get-front}
 use Rattle.steps.specs.declared.draft.PlacedStep.{PlacedStep}
 use Rattle.steps.specs.StepTable.{Step}
 use Rattle.steps.specs.Rows.{Row, row, no_row, steps_of, expr_in, Follows, from_hypothesis, from_assertion, IsRow, AreRows}

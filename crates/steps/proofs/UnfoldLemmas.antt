@@ -18,7 +18,7 @@ use Rattle.verify.specs.Right.{IsRight, Derives}
 use Rattle.verify.proofs.Decide.{not_both}
 use Rattle.verify.proofs.GrowthLemmas.{leaves}
 use Rattle.verify.proofs.PlanLemmas.{map-pick}
-use Rattle.verify.proofs.TableLemmas.{get-front, get-last}
+use Rattle.frame.proofs.PositionLemmas.{get-front, get-last}
 use Rattle.steps.specs.StepTable.{Step, Progress, progress, IsPlaced, stands, comes_last, Makes, of_hypothesis, of_assertion, Notes, NotesAll, AreSteps}
 use Rattle.steps.specs.Unfolded.{has_assertion, citation_over, unfolded_behind, unfolded, last_unfolded}
 use Rattle.steps.proofs.SoundLemmas.{IsSound, note-sound, nothing-sound, below-split}

@@ -1,7 +1,7 @@
 -- What the code keeps of a table while it goes over the items.
 -- Source: this project's form of a table of steps.
 -- The code keeps all expressions in one buffer, and finds a step by its position and those that it takes.
-use Rattle.std.specs.Prelude.{◌≡◌, ◌≢◌, ℕ, zero, suc, ◌<◌, ◌≤◌, ◌⊎◌, List, [], ◌∷◌, ◌++◌, length, map, get_or, Option, Some, None, slice_get}
+use Rattle.std.specs.Prelude.{◌≡◌, ◌≢◌, ℕ, zero, suc, ◌≤◌, ◌⊎◌, List, [], ◌∷◌, ◌++◌, length, map, get_or, Option, Some, None, slice_get}
 use Rattle.std.specs.BTreeMap.{BTreeMap, get_by}
 use Rattle.std.specs.Cmp.Lexicographic.{slice_cmp}
 use Rattle.std.specs.Ordering.{nat_cmp}
@@ -10,7 +10,6 @@ use Rattle.std.specs.declared.alloc.Global.{Global}
 use Rattle.mm_lex.specs.Alphabet.{Name}
 use Rattle.mm_read.specs.Statements.{Database}
 use Rattle.frame.specs.Below.{AreBelow}
-use Rattle.frame.specs.Reading.{IsPosition}
 use Rattle.frame.specs.Substitution.{CodeImages, code_apply}
 use Rattle.entries.specs.declared.citation.Cited.{Cited}
 use Rattle.proof_code.specs.declared.item.Item.{Item}
@@ -63,11 +62,6 @@ pub record IsDraft (S : Database) (at : ℕ) (names : List Name) (d : Draft) : T
 pub record IsTied (names : List Name) (d : Draft) (st : State) : Type 0 where
   pub stack : map (expr_in names (rows_of d)) d.stack.items ≡ st.stack
   pub saved : map (expr_in names (rows_of d)) d.saved.items ≡ st.saved
-
--- where the statement of each label stands, if there is one
-pub record ArePositions (S : Database) (labels : List Name) (positions : List (Option ℕ)) : Type 0 where
-  pub count : length positions ≡ length labels
-  pub each : (k : ℕ) → k < length labels → IsPosition S (get_or labels k []) (get_or positions k None)
 
 -- a run does the item
 abbrev pub CanDo : Database → ℕ → List Name → Draft → Item → Type 0

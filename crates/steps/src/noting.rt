@@ -6,31 +6,15 @@ ghost use Rattle.scope.specs.Active.{stmt_at};
 ghost use Rattle.frame.specs.Citations.{Carries};
 ghost use Rattle.frame.specs.Cited.{IsCited};
 ghost use Rattle.frame.specs.FrameOf.{HasAssertion};
-ghost use Rattle.frame.specs.Reading.{AreLegal};
+ghost use Rattle.frame.specs.Reading.{ArePositions, AreLegal};
 ghost use Rattle.proof_code.specs.declared.item.Item.TheVariants.{Cite, Recall, Mark};
 ghost use Rattle.proof_code.specs.Numbers.{item_of};
-ghost use Rattle.steps.specs.Drafted.{IsDraft, ArePositions, CanDo, IsDone};
+ghost use Rattle.steps.specs.Drafted.{IsDraft, CanDo, IsDone};
 
 use crate::draft::{Draft, cite_hypothesis, cite_parts};
 use entries::Cited;
 use frame::{Frames, Gathered, Meaning};
-use mm_lex::Words;
 use std::alloc::{AllocError, Global};
-
-/// Where the statement of each label stands, if there is one.
-pub fn positions_of(
-    alloc: Global,
-    frames: &Frames,
-    labels: &Words,
-) -> Result<Vec<Option<usize>>, AllocError>
-    ensures { IfOk result (λ positions. ArePositions frames.now.statements labels.now positions.items) }
-{
-    let mut positions = Vec::new(alloc);
-    for label in labels.iter() {
-        positions.push(frames.position(label))?;
-    }
-    Ok(positions)
-}
 
 /// The parts of the assertion at a position, by lists that are made for it where they are long.
 pub fn cited_at<'a>(

@@ -8,7 +8,7 @@ ghost use Rattle.steps.specs.Rows.{no_row, row, steps_of, expr_in, AreRows};
 ghost use Rattle.steps.specs.Unfolded.{last_unfolded};
 
 use crate::draft::{Draft, PlacedStep};
-use crate::noting::{note, positions_of};
+use crate::noting::note;
 use frame::{Frames, Gathered};
 use proof_code::Items;
 use std::alloc::{AllocError, Global};
@@ -117,9 +117,8 @@ pub fn proof_table(
         → expr_in frames.now.names table (length table - 1) ≡ expr_of s) }
     ensures derives { IfOk result (λ table. Derives frames.now.statements at items.now (last_unfolded frames.now.statements (steps_of table))) }
 {
-    frames.legal();
     let parts = items.parts();
-    let positions = positions_of(alloc, frames, parts.labels)?;
+    let positions = frames.positions(parts.labels)?;
     let mut gathered = Gathered::new(alloc);
     let mut draft = Draft::new(alloc);
     for number in parts.numbers {

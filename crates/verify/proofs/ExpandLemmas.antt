@@ -9,7 +9,7 @@ use Rattle.verify.specs.declared.plan.Node.TheVariants.{Hyp, Apply}
 use Rattle.verify.specs.Derivations.{Derivation, hyp, apply, from_list}
 use Rattle.verify.specs.Plan.{pick, derive, built, built_from, IsAfter, AreOrdered}
 use Rattle.verify.proofs.PlanLemmas.{length-built', map-pick}
-use Rattle.verify.proofs.TableLemmas.{get-front, get-last}
+use Rattle.frame.proofs.PositionLemmas.{get-front, get-last}
 use Rattle.verify.proofs.SizeLemmas.{node-after, built-more}
 use Rattle.frame.proofs.ApartLemmas.{below-at}
 

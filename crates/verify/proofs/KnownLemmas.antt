@@ -24,7 +24,7 @@ use Rattle.verify.specs.Table.{IsEntry, AreEntries}
 use Rattle.verify.proofs.Named.{all-drop, all-get}
 use Rattle.verify.proofs.PlaceLemmas.{map-drop, results-same}
 use Rattle.verify.proofs.StepLemmas.{hypothesis-result, nothing-goes, mark-result, cite-number, recall-number}
-use Rattle.verify.proofs.TableLemmas.{get-front}
+use Rattle.frame.proofs.PositionLemmas.{get-front}
 use Rattle.verify.proofs.SavedLists.{drop-set, length-set, get-set, get-set-other, all-set, all-snoc, all-none, drop-none, length-none, get-none, get-drop}
 use Rattle.frame.proofs.FoundByNumber.{some-same}
 

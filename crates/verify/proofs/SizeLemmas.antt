@@ -9,13 +9,7 @@ use Rattle.verify.specs.Plan.{pick, derive, built, IsAfter, AreOrdered}
 use Rattle.verify.specs.Extents.{extent_of}
 use Rattle.verify.proofs.PlanLemmas.{built-snoc, length-built'}
 use Rattle.frame.proofs.StoredOneMore.{map-push}
-
-take-more : {A : Type 0} (xs : List A) (i : ℕ) (d : A) → i < length xs → take (i + 1) xs ≡ take i xs ++ get_or xs i d ∷ []
-take-more [] i d h = absurd (omega (arith, h))
-take-more (x ∷ xs) zero d h = refl
-take-more (x ∷ xs) (suc i) d h =
-    let e : suc i + 1 ≡ suc (i + 1) = omega arith in
-    ap (λ n. take n (x ∷ xs)) e ∙ ap (λ r. x ∷ r) (take-more xs i d (omega (arith, h)))
+use Rattle.verify.proofs.TableLemmas.{take-more}
 
 nodes_in-snoc : (ts : List Derivation) (t : Derivation) → nodes_in (from_list (ts ++ t ∷ [])) ≡ nodes_in (from_list ts) + node_count t
 nodes_in-snoc [] t = omega arith

@@ -1,6 +1,6 @@
 -- What a label names, found once.
-use Rattle.std.specs.Prelude.{◌≡◌, ℕ, zero, suc, ◌-◌, ◌<◌, Bool, true, false, nat_lt, List, [], ◌∷◌, ◌++◌, length, map, get_or, Some, refl}
-use Rattle.std.proofs.Common.{sym, ◌∙◌, ap, subst, arith, length-append, Bor}
+use Rattle.std.specs.Prelude.{◌≡◌, ℕ, zero, suc, ◌+◌, ◌-◌, ◌<◌, Bool, true, false, nat_lt, List, [], ◌∷◌, ◌++◌, length, take, get_or, Option, Some, None, refl}
+use Rattle.std.proofs.Common.{sym, ◌∙◌, ap, subst, arith, length-append}
 use Rattle.std.proofs.lemmas.List.{get_or_default}
 use Rattle.mm_lex.specs.Alphabet.{Name}
 use Rattle.mm_read.specs.declared.stmt.Stmt.{Stmt}
@@ -8,25 +8,20 @@ use Rattle.mm_read.specs.Statements.{Database}
 use Rattle.scope.specs.Active.{stmt_at, is_assertion}
 use Rattle.frame.specs.Citations.{Carries, IsHypothesis}
 use Rattle.frame.specs.FrameOf.{HasAssertion}
-use Rattle.frame.specs.Reading.{HasLabelsOnce}
+use Rattle.frame.specs.Reading.{HasLabelsOnce, IsPosition, ArePositions}
 use Rattle.verify.specs.Spells.{IsCitable}
 use Rattle.verify.specs.declared.table.Entry.{Entry}
 use Rattle.verify.specs.declared.table.Entry.TheVariants.{Nothing}
 use Rattle.verify.specs.Table.{IsEntry, AreEntries}
 use Rattle.frame.proofs.FoundByNumber.{some-same}
-use Rattle.frame.proofs.StoredOneMore.{map-push}
+use Rattle.frame.proofs.PositionLemmas.{get-front, get-last}
 
-pub get-front : {A : Type 0} (xs ys : List A) (k : ℕ) (d : A) → k < length xs → get_or (xs ++ ys) k d ≡ get_or xs k d
-get-front [] ys k d h = absurd (omega (arith, h))
-get-front (x ∷ xs) ys zero d h = refl
-get-front (x ∷ xs) ys (suc k) d h = get-front xs ys k d (omega (arith, h))
-
-pub get-last : {A : Type 0} (xs : List A) (x : A) (k : ℕ) (d : A) → k ≡ length xs → get_or (xs ++ x ∷ []) k d ≡ x
-get-last {A} xs x k d e = ap (λ n. get_or (xs ++ x ∷ []) n d) e ∙ at_end xs
-  where
-    at_end : (ys : List A) → get_or (ys ++ x ∷ []) (length ys) d ≡ x
-    at_end [] = refl
-    at_end (y ∷ ys) = at_end ys
+pub take-more : {A : Type 0} (xs : List A) (i : ℕ) (d : A) → i < length xs → take (i + 1) xs ≡ take i xs ++ get_or xs i d ∷ []
+take-more [] i d h = absurd (omega (arith, h))
+take-more (x ∷ xs) zero d h = refl
+take-more (x ∷ xs) (suc i) d h =
+    let e : suc i + 1 ≡ suc (i + 1) = omega arith in
+    ap (λ n. take n (x ∷ xs)) e ∙ ap (λ r. x ∷ r) (take-more xs i d (omega (arith, h)))
 
 -- the one statement with the label may not be cited
 pub nothing : (S : Database) (at i : ℕ) (s : Stmt) (label : Name) → HasLabelsOnce S → Carries S i s label
@@ -61,11 +56,15 @@ entries-more S at ls label es entry a is = record { count = counted; each = λ k
         subst (λ l. IsEntry S at l (get_or (es ++ entry ∷ []) k Nothing)) (sym (get-last ls label k [] same))
         (subst (IsEntry S at label) (sym (get-last es entry k Nothing (same ∙ sym c))) is)
 
-pub table-more : (S : Database) (at : ℕ) (labels : List (Bor Name)) (label : Bor Name) (table table' : List Entry) (entry : Entry) → AreEntries S at (map (λ l. l.now) labels) table
-    → table' ≡ table ++ entry ∷ [] → IsEntry S at label.now entry → AreEntries S at (map (λ l. l.now) (labels ++ label ∷ [])) table'
-table-more S at labels label table table' entry are grown is =
-    subst (λ ls. AreEntries S at ls table') (sym (map-push (λ l. l.now) labels label))
-    (subst (AreEntries S at (map (λ l. l.now) labels ++ label.now ∷ [])) (sym grown) (entries-more S at (map (λ l. l.now) labels) label.now table entry are is))
+-- one more entry, by the position of the next label
+pub table-more : (S : Database) (at : ℕ) (labels : List Name) (positions : List (Option ℕ)) (i : ℕ) (d : Option ℕ) (table table' : List Entry) (entry : Entry) → ArePositions S labels positions → i < length positions
+    → AreEntries S at (take i labels) table → table' ≡ table ++ entry ∷ [] → ((label : Name) → IsPosition S label (get_or positions i d) → IsEntry S at label entry) → AreEntries S at (take (i + 1) labels) table'
+table-more S at labels positions i d table table' entry are less front grown is =
+    let c = are.count in
+    let within : i < length labels = omega (arith, less, c) in
+    let here = subst (IsPosition S (get_or labels i [])) (get_or_default positions i None d less) (are.each i within) in
+    subst (λ ls. AreEntries S at ls table') (sym (take-more labels i [] within))
+    (subst (AreEntries S at (take i labels ++ get_or labels i [] ∷ [])) (sym grown) (entries-more S at (take i labels) (get_or labels i []) table entry front (is (get_or labels i []) here)))
 
 -- what a place of the table names
 pub entry_at : (S : Database) (at : ℕ) (labels : List Name) (table : List Entry) (k : ℕ) (d : Entry) → AreEntries S at labels table → k < length table → IsEntry S at (get_or labels k []) (get_or table k d)

@@ -50,7 +50,6 @@ impl Checker {
         requires { (s : Statement) × IsProvable frames.now.statements at s }
         ensures { IfOk result (λ answer. Says answer (IsRight frames.now.statements at items.now)) }
     {
-        frames.legal();
         let parts = items.parts();
         fill_table(frames, at, parts.labels, &mut self.table)?;
         run(
@@ -98,7 +97,6 @@ impl Checker {
         requires compressed { IsTrue (is_compressed tokens.now) }
         ensures { IfOk result (λ answer. Says answer (Proves frames.now.statements at tokens.now)) }
     {
-        frames.legal();
         fill_mandatory(frames, at, &mut self.mandatory, &mut self.table)?;
         let count = self.mandatory.as_slice().len();
         let Some(heading) = self.reader.read(tokens, count)? else {

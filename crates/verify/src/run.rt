@@ -3,7 +3,6 @@
 ghost use Rattle.std.specs.Prelude.{◌≡◌, List, IfOk};
 ghost use Rattle.mm_lex.specs.Alphabet.{Name};
 ghost use Rattle.mm_read.specs.declared.stmt.Stmt.{Stmt as Statement};
-ghost use Rattle.frame.specs.Reading.{AreLegal};
 ghost use Rattle.proof_code.specs.Numbers.{items_of};
 ghost use Rattle.verify.specs.Right.{IsProvable, IsRight, Says};
 ghost use Rattle.verify.specs.Table.{AreEntries};
@@ -27,7 +26,6 @@ pub fn run(
     findings: &mut Findings,
     results: &mut Results,
 ) -> Result<Answer, AllocError>
-    requires legal { AreLegal frames.now.statements frames.now.names }
     requires provable { (s : Statement) × IsProvable frames.now.statements at s }
     requires entries { (labels : List Name) × AreEntries frames.now.statements at labels table.now }
     ensures { (labels : List Name) → AreEntries frames.now.statements at labels table.now

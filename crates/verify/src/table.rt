@@ -9,7 +9,7 @@ ghost use Rattle.verify.specs.Proves.{mandatory_labels};
 ghost use Rattle.verify.specs.Right.{IsProvable};
 ghost use Rattle.scope.specs.Active.{before};
 ghost use Rattle.frame.specs.FrameOf.{hypotheses};
-ghost use Rattle.frame.specs.Reading.{AreLegal};
+ghost use Rattle.frame.specs.Reading.{IsPosition, AreLegal};
 ghost use Rattle.verify.specs.Table.{is_hypothesis_among, IsEntry, AreEntries};
 
 use frame::{Frames, Meaning};
@@ -28,13 +28,13 @@ pub enum Entry {
     Nothing,
 }
 
-/// What the label names at the statement.
-fn look_up(frames: &Frames, at: usize, label: &[u8]) -> Entry
+/// What a label names at the statement, by the position of the statement that has the label.
+fn entry_of(frames: &Frames, at: usize, position: Option<usize>) -> Entry
     requires legal { AreLegal frames.now.statements frames.now.names }
     requires place { (1 ≤ at) × (at ≤ length frames.now.statements) }
-    ensures { IsEntry frames.now.statements at label.now result }
+    ensures { (label : Name) → IsPosition frames.now.statements label position → IsEntry frames.now.statements at label result }
 {
-    let Some(position) = frames.position(label) else {
+    let Some(position) = position else {
         return Entry::Nothing;
     };
     match frames.meaning(at, position) {
@@ -51,13 +51,14 @@ pub fn fill_table(
     labels: &Words,
     table: &mut Vec<Entry>,
 ) -> Result<(), AllocError>
-    requires legal { AreLegal frames.now.statements frames.now.names }
     requires place { (1 ≤ at) × (at ≤ length frames.now.statements) }
-    ensures { OnOk result (AreEntries frames.now.statements at labels.now table.new.items) }
+    ensures entries { OnOk result (AreEntries frames.now.statements at labels.now table.new.items) }
+    ensures legal { AreLegal frames.now.statements frames.now.names }
 {
+    let positions = frames.positions(labels)?;
     table.clear();
-    for label in labels.iter() {
-        table.push(look_up(frames, at, label))?;
+    for position in positions.as_slice() {
+        table.push(entry_of(frames, at, *position))?;
     }
     Ok(())
 }
@@ -73,6 +74,7 @@ pub fn fill_mandatory(
     ensures mandatory { OnOk result ((s : Statement) → IsProvable frames.now.statements at s → mandatory.new.items ≡ hypotheses (before frames.now.statements at) s) }
     ensures entries { OnOk result ((s : Statement) → IsProvable frames.now.statements at s
         → AreEntries frames.now.statements at (mandatory_labels frames.now.statements at s) table.new.items) }
+    ensures legal { AreLegal frames.now.statements frames.now.names }
 {
     mandatory.clear();
     frames.mandatory(at, mandatory)?;
@@ -119,7 +121,7 @@ pub fn add_listed(
         let Some(label) = words.next() else {
             unreachable!();
         };
-        let entry = look_up(frames, at, label);
+        let entry = entry_of(frames, at, frames.position(label));
         if is_among(entry, mandatory) {
             return Ok(false);
         }

@@ -2,6 +2,7 @@
 
 ghost use Rattle.std.specs.Prelude.{◌≡◌, ℕ, ◌<◌, ◌⊎◌, [], IfOk, MatchOption, length};
 ghost use Rattle.mm_read.specs.declared.stmt.Stmt.{Stmt as Statement};
+ghost use Rattle.frame.specs.Reading.{HasLabelsOnce};
 ghost use Rattle.verify.specs.Derivations.{Derivation, derivation_of};
 ghost use Rattle.verify.specs.Right.{IsProvable, IsRight, Derives, IsSmall};
 ghost use Rattle.verify.specs.Growth.{Trees, trees, GrowsBy};
@@ -37,7 +38,6 @@ pub fn derivation(
         → (result ≡ Err TreeFault.TooLarge) ⊎ (result ≡ Err TreeFault.Memory) }
     ensures only_large { result ≡ Err TreeFault.TooLarge → (t : Derivation) × Derives frames.now.statements at items.now t × (¬ IsSmall t) }
 {
-    frames.legal();
     match check(alloc, frames, at, items)? {
         Answer::Proved => right_derivation(alloc, frames, at, items),
         Answer::Wrong => Err(TreeFault::Wrong),
@@ -52,12 +52,12 @@ fn right_derivation(
     items: &Items,
 ) -> Result<Tree, TreeFault>
     requires right { IsRight frames.now.statements at items.now }
+    ensures once { HasLabelsOnce frames.now.statements }
     ensures tree { IfOk result (λ tree. Derives frames.now.statements at items.now (derivation_of tree)) }
     ensures small { IfOk result (λ tree. IsSmall (derivation_of tree)) }
     ensures never { result ≡ Err TreeFault.Wrong → ⊥ }
     ensures large { result ≡ Err TreeFault.TooLarge → (t : Derivation) × Derives frames.now.statements at items.now t × (¬ IsSmall t) }
 {
-    frames.legal();
     let plan = plan_of(alloc, frames, at, items)?;
     let root = plan.stack[0];
     let extents = measure(alloc, &plan.nodes)?;
@@ -71,10 +71,10 @@ fn right_derivation(
 /// The plan that the items of a right proof make.
 fn plan_of(alloc: Global, frames: &Frames, at: usize, items: &Items) -> Result<Plan, AllocError>
     requires { IsRight frames.now.statements at items.now }
+    ensures once { HasLabelsOnce frames.now.statements }
     ensures plan { IfOk result IsPlan }
     ensures grown { IfOk result (λ plan. GrowsBy frames.now.statements at (trees [] []) items.now (trees_of plan)) }
 {
-    frames.legal();
     let parts = items.parts();
     let mut table = Vec::new(alloc);
     fill_table(frames, at, parts.labels, &mut table)?;

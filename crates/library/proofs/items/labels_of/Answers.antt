@@ -7,7 +7,7 @@ mandatory-requires-clause-assertion c = has-assertion _ _ _ c.requires.provable.
 
 pub hypothesis_label-requires : goal.hypothesis_label-requires
 hypothesis_label-requires c =
-    let h = hypothesis-of _ _ _ c.requires.provable.0 _ c.loop-position.position-index _ 0 c.requires.same c.requires.provable.1 (λ x h. c.as_slice-position-items.ensures.value ∙ c.in_ok-mandatory.ensures x h) c.loop-position-test.true refl in
+    let h = hypothesis-of _ _ _ c.requires.provable.0 _ c.loop-position.position-index _ 0 c.requires.same c.requires.provable.1 (λ x h. c.as_slice-position-items.ensures.value ∙ c.in_ok-mandatory.ensures.listed x h) c.loop-position-test.true refl in
     record { place = (h.positive, h.within); kind = kind-of _ _ h }
 
 pub loop-position-preserved : goal.loop-position-preserved
@@ -17,5 +17,5 @@ loop-position-preserved c =
 
 pub returns : goal.returns
 returns c = λ s provable.
-    labels-all c.args.statements.now c.args.frames.now.statements c.args.at s c.as_slice-position-items.result.now c.loop-position.position-index c.loop-position.labels c.requires.same provable (λ x h. c.as_slice-position-items.ensures.value ∙ c.in_ok-mandatory.ensures x h)
+    labels-all c.args.statements.now c.args.frames.now.statements c.args.at s c.as_slice-position-items.result.now c.loop-position.position-index c.loop-position.labels c.requires.same provable (λ x h. c.as_slice-position-items.ensures.value ∙ c.in_ok-mandatory.ensures.listed x h)
     (let over = c.loop-position-test.false in take_all _ _ (omega (arith, over))) c.loop-position.invariant

@@ -29,7 +29,7 @@ returns-in-Wrong-clause-told c s e =
     let counted = count_is names base c.deref.result.now (length (hypotheses (before S c.args.a) s))
     (let all = ap length c.deref.ensures.value in let same = ap length (c.requires.mandatory s e) in (omega (arith, all, same), omega (arith, all, same))) in
     wrong_fails S names c.args.at c.args.a s (held names c.args.state.now) (named names (take base c.deref.result.now)) (named names (take (length c.deref.result.now - base) (drop base c.deref.result.now)))
-    c.in-Wrong.fault c.requires.weight whole counted c.requires.earlier has (c.legal.ensures.bound c.args.a s has).variable
+    c.in-Wrong.fault c.requires.weight whole counted c.requires.earlier has (c.requires.legal.bound c.args.a s has).variable
     (rw c.in-Wrong.is at (c.in_ok-fault.ensures.told s e))
 
 pub returns-in-Right-clause-told : goal.returns-in-Right-clause-told
@@ -42,4 +42,4 @@ returns-in-Right-clause-told c s e =
     pushed_told S names c.args.at c.args.a s c.args.state.now _ c.push.new.self c.in-Right.result (named names (take base c.deref.result.now)) c.push.result c.push.ensures.pushed
     (ap (named names) (c.truncate.ensures.items ∙ ap (λ (l : List (Vec ℕ)). take base l) (sym c.deref.ensures.value))) refl refl
     (gives_is S c.args.at c.args.a s (named names (take (length c.deref.result.now - base) (drop base c.deref.result.now))) (named names c.args.state.now.stack.items) (named names (take base c.deref.result.now))
-    (decode names c.in-Right.result.items) c.requires.earlier has (c.legal.ensures.bound c.args.a s has).variable told.0 whole told.1)
+    (decode names c.in-Right.result.items) c.requires.earlier has (c.requires.legal.bound c.args.a s has).variable told.0 whole told.1)

@@ -60,7 +60,7 @@ find_clash-requires-clause-variables c =
     subst (λ ns. AreVariables (length ns) (code_images c.as_slice.result.now)) (sym c.active_pairs-pairs.ensures.names) (subst (λ σ. AreVariables (length names) σ) (sym is) are.1)
 
 pub find_clash-requires-clause-distinct : goal.find_clash-requires-clause-distinct
-find_clash-requires-clause-distinct c = subst (λ ns. AreDistinct ns) (sym c.active_pairs-pairs.ensures.names) c.legal.ensures.distinct
+find_clash-requires-clause-distinct c = subst (λ ns. AreDistinct ns) (sym c.active_pairs-pairs.ensures.names) c.requires.legal.distinct
 
 pub returns-in-Some-clause-told : goal.returns-in-Some-clause-told
 returns-in-Some-clause-told c s e =
@@ -96,7 +96,7 @@ returns-in-Some-2-clause-told c s e =
         fit = rw c.in_default.is at (c.in_ok-fault.ensures s e);
         apart = apart_moved c.active_pairs-pairs.ensures.statements pn images groups (rw c.in_default-clash.is at c.in_ok-clash.ensures);
       },
-      ap (decode names) told.0 ∙ conclusion_is names c.legal.ensures.distinct (code_images c.as_slice-2.result.now) variables (images_read S ps (named names c.args.results.now)) (ap (named_images names) is-2 ∙ read)
+      ap (decode names) told.0 ∙ conclusion_is names c.requires.legal.distinct (code_images c.as_slice-2.result.now) variables (images_read S ps (named names c.args.results.now)) (ap (named_images names) is-2 ∙ read)
           c.args.cited.now.conclusion.now cited.conclusion_below (expr_of s) cited.conclusion,
       told.1,
     )
@@ -118,6 +118,6 @@ returns-clause-told c s e =
         fit = rw c.in_default.is at (c.in_ok-fault.ensures s e);
         apart = apart_moved c.active_pairs-pairs.ensures.statements pn images groups (rw c.in_default-clash.is at c.in_ok-clash.ensures);
       },
-      subst (λ n. c.args.room < n) (conclusion_length names c.legal.ensures.distinct (code_images c.as_slice-2.result.now) variables (images_read S ps (named names c.args.results.now)) (ap (named_images names) is-2 ∙ read)
+      subst (λ n. c.args.room < n) (conclusion_length names c.requires.legal.distinct (code_images c.as_slice-2.result.now) variables (images_read S ps (named names c.args.results.now)) (ap (named_images names) is-2 ∙ read)
           c.args.cited.now.conclusion.now cited.conclusion_below (expr_of s) cited.conclusion) told,
     )

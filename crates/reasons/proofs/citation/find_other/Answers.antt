@@ -59,7 +59,7 @@ loop-k-preserved c =
     let all = subst (λ ps. AreAsked S names ps c.args.cited.now.heads.now c.args.cited.now.hypotheses.now) (sym same) cited.asked in
     let asked = asked-at S names hyps c.args.cited.now.heads.now c.args.cited.now.hypotheses.now c.loop-k.k d all within in
     let told = rw c.in-Some.is at c.in_ok-asked.ensures in
-    let is = asked_is S names c.legal.ensures.distinct (code_images c.args.images.now) (c.requires.read s e).1 (get_or hyps c.loop-k.k 0) asked.stmt asked.stands
+    let is = asked_is S names c.requires.legal.distinct (code_images c.args.images.now) (c.requires.read s e).1 (get_or hyps c.loop-k.k 0) asked.stmt asked.stands
     c.expr.result.now (c.expr.ensures.same asked.stmt asked.stands) c.expr.ensures.codes c.in-Some.asked.items told.0 in
     fit_more S names (named_images names (code_images c.args.images.now)) hyps c.args.results.now c.loop-k.k c.index-results-k.result within c.loop-k-test.true c.index-results-k.is
     c.loop-k.invariant (sym is ∙ ap (decode names) (sym c.as_slice.ensures.value ∙ (not_ne c.ne.result c.as_slice.result.now c.as_slice-result.result.now c.ne.ensures c.if-ne.false ∙ c.as_slice-result.ensures.value)))
@@ -75,12 +75,12 @@ returns-then-ne c s e =
     let all = subst (λ ps. AreAsked S names ps c.args.cited.now.heads.now c.args.cited.now.hypotheses.now) (sym same) cited.asked in
     let asked = asked-at S names hyps c.args.cited.now.heads.now c.args.cited.now.hypotheses.now c.loop-k.k d all within in
     let told = rw c.in-Some.is at c.in_ok-asked.ensures in
-    let is = asked_is S names c.legal.ensures.distinct (code_images c.args.images.now) (c.requires.read s e).1 (get_or hyps c.loop-k.k 0) asked.stmt asked.stands
+    let is = asked_is S names c.requires.legal.distinct (code_images c.args.images.now) (c.requires.read s e).1 (get_or hyps c.loop-k.k 0) asked.stmt asked.stands
     c.expr.result.now (c.expr.ensures.same asked.stmt asked.stands) c.expr.ensures.codes c.in-Some.asked.items told.0 in
     let low = subst (λ xs. AreBelow n xs) (sym told.0) (apply-below n c.args.images.now c.expr.result.now c.requires.images c.expr.ensures.codes) in
     let below = symbols-at n c.args.results.now c.loop-k.k c.index-results-k.result c.requires.symbols c.loop-k-test.true c.index-results-k.is in
     let other = other_here S names (named_images names (code_images c.args.images.now)) hyps c.args.results.now c.loop-k.k c.index-results-k.result within c.loop-k-test.true c.index-results-k.is
-    c.loop-k.invariant c.in-Some.asked.items c.legal.ensures.distinct low below is
+    c.loop-k.invariant c.in-Some.asked.items c.requires.legal.distinct low below is
     (λ same_items. is_ne c.ne.result c.as_slice.result.now c.as_slice-result.result.now c.ne.ensures c.if-ne.true (c.as_slice-result.ensures.value ∙ (same_items ∙ sym c.as_slice.ensures.value))) in
     let copied = c.in_ok-result.ensures.items ∙ c.as_slice-result.ensures.value in
     let rs = named names c.args.results.now in
@@ -92,5 +92,5 @@ returns-then-ne c s e =
     let third = subst (λ xs. IsOther S read ps rs c.loop-k.k p (decode names c.in-Some.asked.items) (decode names xs)) (sym copied) second in
     mismatch_is S names c.args.a s rs (get_or c.args.cited.now.hypotheses.now c.loop-k.k d) (get_or c.args.cited.now.heads.now c.loop-k.k 0) p c.loop-k.k c.in-Some.asked c.in_ok-result.result c.other.result
     c.other.ensures third
-    (λ float starts. other_constant S names c.legal.ensures.distinct p (get_or c.args.cited.now.heads.now c.loop-k.k 0) (get_or c.args.cited.now.hypotheses.now c.loop-k.k d) asked
+    (λ float starts. other_constant S names c.requires.legal.distinct p (get_or c.args.cited.now.heads.now c.loop-k.k 0) (get_or c.args.cited.now.hypotheses.now c.loop-k.k d) asked
     c.in_ok-result.result.items (subst (λ xs. AreBelow n xs) (sym copied) below) float starts)

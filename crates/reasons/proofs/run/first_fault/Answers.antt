@@ -3,7 +3,7 @@ use Rattle.proof_code.specs.declared.item.Item.{Item}
 use Rattle.proof_code.specs.Numbers.{items_of, item_of}
 use Rattle.reasons.specs.Kept.{AreSymbols}
 use Rattle.reasons.specs.Run.{held, nothing, Runs}
-use Rattle.reasons.specs.FirstFault.{AreFound}
+use Rattle.frame.specs.Reading.{ArePositions}
 use Rattle.reasons.proofs.StateLemmas.{take_whole}
 use Rattle.reasons.proofs.ItemLemmas.{runs_more, take-items, item-at, items-more, end_told}
 use Rattle.reasons.proofs.run.first_fault.Goals as goal
@@ -13,7 +13,7 @@ loop-item-preserved c =
     let S = c.args.frames.now.statements in let names = c.args.frames.now.names in
     let run = c.loop-item.invariant.runs in let labels = run.0 in
     let numbers = c.parts-parts.result.numbers.now in let k = c.loop-item.item in
-    let found = subst (λ l. AreFound S labels l) (sym c.as_slice.ensures.value) run.1 in
+    let found = subst (λ l. ArePositions S labels l) (sym c.as_slice.ensures.value) run.1 in
     let steps = rw c.in_default.is at (c.in_ok-fault.ensures.told labels found) in
     record {
       symbols = c.in_ok-fault.ensures.symbols;
@@ -33,7 +33,7 @@ returns-in-Some c s e =
     let S = c.args.frames.now.statements in let names = c.args.frames.now.names in
     let run = c.loop-item.invariant.runs in let labels = run.0 in
     let numbers = c.parts-parts.result.numbers.now in let k = c.loop-item.item in
-    let found = subst (λ l. AreFound S labels l) (sym c.as_slice.ensures.value) run.1 in
+    let found = subst (λ l. ArePositions S labels l) (sym c.as_slice.ensures.value) run.1 in
     let fails = rw c.in-Some.is at (c.in_ok-fault.ensures.told labels found) in
     let items : List Item = c.args.items.now in (
       held names c.loop-item.state,
@@ -53,7 +53,7 @@ returns c s e =
     let numbers = c.parts-parts.result.numbers.now in let k = c.loop-item.item in
     let all : k ≡ length numbers = omega arith in
     let whole = ap (items_of labels) (take_whole numbers k all) ∙ run.2 in
-    end_told S names c.args.at s c.args.items.now c.loop-item.state c.expr.result.now c.as_slice-2.result.now c.end.result c.legal.ensures.distinct
+    end_told S names c.args.at s c.args.items.now c.loop-item.state c.expr.result.now c.as_slice-2.result.now c.end.result c.in_ok-positions.ensures.legal.distinct
     (subst (λ l. AreSymbols (length names) l) (sym c.as_slice-2.ensures.value) c.loop-item.invariant.symbols)
     c.expr.ensures.codes (c.expr.ensures.same s e) c.as_slice-2.ensures.value
     (record {

@@ -1,5 +1,5 @@
 use Rattle.std.proofs.Common.{sym, subst}
-use Rattle.steps.specs.Drafted.{ArePositions}
+use Rattle.frame.specs.Reading.{ArePositions}
 use Rattle.verify.proofs.MandatoryEntries.{place_of}
 use Rattle.steps.proofs.ReachedLemmas.{reached-start, reached-can, reached-next, reached-steps, reached-last}
 use Rattle.steps.proofs.UnfoldLemmas.{unfolds}
@@ -7,13 +7,13 @@ use Rattle.steps.proofs.table.proof_table.Goals as goal
 
 pub loop-number-init : goal.loop-number-init
 loop-number-init c = (
-  c.legal.ensures,
+  c.in_ok-positions.ensures.legal,
   c.new-draft.ensures.draft c.args.frames.now.statements c.args.at c.args.frames.now.names,
   (
     c.parts-parts.result.labels.now,
-    c.in_ok-positions.ensures,
+    c.in_ok-positions.ensures.found,
     c.parts-parts.ensures,
-    reached-start c.args.frames.now.statements c.args.at c.args.frames.now.names c.legal.ensures c.parts-parts.result.labels.now c.parts-parts.result.numbers.now c.args.items.now c.new-draft.result c.parts-parts.ensures c.requires
+    reached-start c.args.frames.now.statements c.args.at c.args.frames.now.names c.in_ok-positions.ensures.legal c.parts-parts.result.labels.now c.parts-parts.result.numbers.now c.args.items.now c.new-draft.result c.parts-parts.ensures c.requires
         c.new-draft.ensures.empty.0 c.new-draft.ensures.empty.1 c.new-draft.ensures.empty.2,
   ),
 )
@@ -59,4 +59,4 @@ pub returns-clause-derives : goal.returns-clause-derives
 returns-clause-derives c =
     let i = c.loop-number.invariant.2 in
     let are = reached-steps c.args.frames.now.statements c.args.at c.args.frames.now.names i.0 c.parts-parts.result.numbers.now c.args.items.now c.loop-number.number-index _ i.2 c.loop-number-test.false i.3 in
-    unfolds c.args.frames.now.statements c.args.at c.legal.ensures.once c.args.items.now _ c.requires are
+    unfolds c.args.frames.now.statements c.args.at c.in_ok-positions.ensures.legal.once c.args.items.now _ c.requires are

@@ -10,9 +10,9 @@ use Rattle.verify.proofs.run.run.Goals as goal
 
 pub loop-number-init : goal.loop-number-init
 loop-number-init c = (
-  c.requires.legal,
+  c.active_pairs-pairs.ensures.legal,
   start-known c.args.frames.now.statements c.args.frames.now.names c.args.at c.args.table.now c.start.new.self.results c.in_ok-start.ensures,
-  λ labels are. reached-start c.args.frames.now.statements c.args.frames.now.names c.args.at c.requires.legal (behind (length c.args.table.now) c.start.new.self.results) (start-behind (length c.args.table.now) c.start.new.self.results c.in_ok-start.ensures),
+  λ labels are. reached-start c.args.frames.now.statements c.args.frames.now.names c.args.at c.active_pairs-pairs.ensures.legal (behind (length c.args.table.now) c.start.new.self.results) (start-behind (length c.args.table.now) c.start.new.self.results c.in_ok-start.ensures),
   known-none _ _ c.clear.ensures.symbols c.clear.ensures.variables,
 )
 

@@ -12,8 +12,8 @@ unreachable-requires c =
     let within : c.loop.counter < length c.args.heading.words = let a = c.requires.listed in let b = c.loop-test.true in omega (arith, a, b) in
     word-left _ _ _ _ _ _ _ c.loop.invariant within c.in_default.ensures.steps.0
 
-pub look_up-entry-requires-clause-place : goal.look_up-entry-requires-clause-place
-look_up-entry-requires-clause-place c = place_of c.args.frames.now.statements c.args.at c.requires.provable.0 c.requires.provable.1.stands
+pub entry_of-entry-requires-clause-place : goal.entry_of-entry-requires-clause-place
+entry_of-entry-requires-clause-place c = place_of c.args.frames.now.statements c.args.at c.requires.provable.0 c.requires.provable.1.stands
 
 pub is_among-requires : goal.is_among-requires
 is_among-requires c =
@@ -23,15 +23,15 @@ is_among-requires c =
 pub returns-then-is_among-clause-apart : goal.returns-then-is_among-clause-apart
 returns-then-is_among-clause-apart c = λ s provable.
     let within : c.loop.counter < length c.args.heading.words = let a = c.requires.listed in let b = c.loop-test.true in omega (arith, a, b) in
-    ap not (sym (one-shared _ _ _ _ _ _ _ c.loop.invariant within c.in-Some.label.now c.next.new.self c.in-Some.ensures.steps c.look_up-entry.result c.requires.legal.once c.look_up-entry.ensures
+    ap not (sym (one-shared _ _ _ _ _ _ _ c.loop.invariant within c.in-Some.label.now c.next.new.self c.in-Some.ensures.steps c.entry_of-entry.result c.requires.legal.once (c.entry_of-entry.ensures c.in-Some.label.now c.position.ensures)
     c.requires.provable.0 c.requires.provable.1
-    (ap (λ hs. is_hypothesis_among hs c.look_up-entry.result) (sym (c.requires.mandatory c.requires.provable.0 c.requires.provable.1)) ∙ sym c.if-is_among.ensures)
+    (ap (λ hs. is_hypothesis_among hs c.entry_of-entry.result) (sym (c.requires.mandatory c.requires.provable.0 c.requires.provable.1)) ∙ sym c.if-is_among.ensures)
     c.args.heading.count (let b = c.loop-test.true in omega (arith, b)) s provable))
 
 pub loop-preserved : goal.loop-preserved
 loop-preserved c =
     let within : c.loop.counter < length c.args.heading.words = let a = c.requires.listed in let b = c.loop-test.true in omega (arith, a, b) in
-    one-added _ _ _ _ _ _ _ c.loop.invariant within c.in-Some.label.now c.next.new.self c.in-Some.ensures.steps c.look_up-entry.result c.requires.legal.once c.look_up-entry.ensures
+    one-added _ _ _ _ _ _ _ c.loop.invariant within c.in-Some.label.now c.next.new.self c.in-Some.ensures.steps c.entry_of-entry.result c.requires.legal.once (c.entry_of-entry.ensures c.in-Some.label.now c.position.ensures)
     c.requires.provable.0 c.requires.provable.1
-    (ap (λ hs. is_hypothesis_among hs c.look_up-entry.result) (sym (c.requires.mandatory c.requires.provable.0 c.requires.provable.1)) ∙ sym c.if-is_among.ensures)
+    (ap (λ hs. is_hypothesis_among hs c.entry_of-entry.result) (sym (c.requires.mandatory c.requires.provable.0 c.requires.provable.1)) ∙ sym c.if-is_among.ensures)
     c.push.new.self.items c.in_ok-push.ensures.items

@@ -6,11 +6,11 @@ use Rattle.verify.proofs.RightLemmas.{root, some-number, extents-length, extent-
 use Rattle.verify.proofs.tree_from_items.right_derivation.Goals as goal
 
 pub index-root-requires : goal.index-root-requires
-index-root-requires c = let h = some-number c.args.frames.now.statements c.args.at c.legal.ensures.once c.args.items.now c.in_ok-plan.plan c.requires.right c.in_ok-plan.ensures.grown in omega (arith, h)
+index-root-requires c = let h = some-number c.args.frames.now.statements c.args.at c.in_ok-plan.ensures.once c.args.items.now c.in_ok-plan.plan c.requires.right c.in_ok-plan.ensures.grown in omega (arith, h)
 
 pub index-requires : goal.index-requires
 index-requires c =
-    let r = (root c.args.frames.now.statements c.args.at c.legal.ensures.once c.args.items.now c.in_ok-plan.plan c.index-root.result.now c.index-root.result.now c.requires.right c.in_ok-plan.ensures.plan c.in_ok-plan.ensures.grown c.index-root.ensures) in
+    let r = (root c.args.frames.now.statements c.args.at c.in_ok-plan.ensures.once c.args.items.now c.in_ok-plan.plan c.index-root.result.now c.index-root.result.now c.requires.right c.in_ok-plan.ensures.plan c.in_ok-plan.ensures.grown c.index-root.ensures) in
     let there = r.there in
     let l = extents-length c.deref.result.now c.in_ok-extents.extents.items c.in_ok-extents.ensures in
     let e = ap length c.deref.ensures.value in
@@ -18,14 +18,14 @@ index-requires c =
 
 pub expand-requires-clause-there : goal.expand-requires-clause-there
 expand-requires-clause-there c =
-    let r = (root c.args.frames.now.statements c.args.at c.legal.ensures.once c.args.items.now c.in_ok-plan.plan c.index-root.result.now c.index-root.result.now c.requires.right c.in_ok-plan.ensures.plan c.in_ok-plan.ensures.grown c.index-root.ensures) in
+    let r = (root c.args.frames.now.statements c.args.at c.in_ok-plan.ensures.once c.args.items.now c.in_ok-plan.plan c.index-root.result.now c.index-root.result.now c.requires.right c.in_ok-plan.ensures.plan c.in_ok-plan.ensures.grown c.index-root.ensures) in
     let there = r.there in
     let e = ap length c.deref-2.ensures.value in
     omega (arith, there, e)
 
 pub returns-then-not-is_small-clause-large : goal.returns-then-not-is_small-clause-large
 returns-then-not-is_small-clause-large c = λ same.
-    let r = (root c.args.frames.now.statements c.args.at c.legal.ensures.once c.args.items.now c.in_ok-plan.plan c.index-root.result.now c.index-root.result.now c.requires.right c.in_ok-plan.ensures.plan c.in_ok-plan.ensures.grown c.index-root.ensures) in
+    let r = (root c.args.frames.now.statements c.args.at c.in_ok-plan.ensures.once c.args.items.now c.in_ok-plan.plan c.index-root.result.now c.index-root.result.now c.requires.right c.in_ok-plan.ensures.plan c.in_ok-plan.ensures.grown c.index-root.ensures) in
     let l = extents-length c.deref.result.now c.in_ok-extents.extents.items c.in_ok-extents.ensures in
     let e = ap length c.deref.ensures.value in
     let h = r.there in
@@ -35,12 +35,12 @@ returns-then-not-is_small-clause-large c = λ same.
 
 pub returns-clause-tree : goal.returns-clause-tree
 returns-clause-tree c =
-    let r = (root c.args.frames.now.statements c.args.at c.legal.ensures.once c.args.items.now c.in_ok-plan.plan c.index-root.result.now c.index-root.result.now c.requires.right c.in_ok-plan.ensures.plan c.in_ok-plan.ensures.grown c.index-root.ensures) in
+    let r = (root c.args.frames.now.statements c.args.at c.in_ok-plan.ensures.once c.args.items.now c.in_ok-plan.plan c.index-root.result.now c.index-root.result.now c.requires.right c.in_ok-plan.ensures.plan c.in_ok-plan.ensures.grown c.index-root.ensures) in
     subst (Derives c.args.frames.now.statements c.args.at c.args.items.now) (sym (c.in_ok-tree.ensures ∙ (ap (λ ns. pick (built ns) c.index-root.result.now) c.deref-2.ensures.value ∙ r.stands))) r.derives
 
 pub returns-clause-small : goal.returns-clause-small
 returns-clause-small c =
-    let r = (root c.args.frames.now.statements c.args.at c.legal.ensures.once c.args.items.now c.in_ok-plan.plan c.index-root.result.now c.index-root.result.now c.requires.right c.in_ok-plan.ensures.plan c.in_ok-plan.ensures.grown c.index-root.ensures) in
+    let r = (root c.args.frames.now.statements c.args.at c.in_ok-plan.ensures.once c.args.items.now c.in_ok-plan.plan c.index-root.result.now c.index-root.result.now c.requires.right c.in_ok-plan.ensures.plan c.in_ok-plan.ensures.grown c.index-root.ensures) in
     let l = extents-length c.deref.result.now c.in_ok-extents.extents.items c.in_ok-extents.ensures in
     let e = ap length c.deref.ensures.value in
     let h = r.there in

@@ -1,6 +1,12 @@
 use Rattle.std.proofs.Common.{ap, sym, subst, ◌≤◌, length}
+use Rattle.frame.specs.Parts.{Numbered}
+use Rattle.frame.specs.Reading.{AreLegal}
+use Rattle.frame.proofs.CitedLemmas.{all-legal}
 use Rattle.frame.proofs.SymbolsLemmas.{stored-distinct}
 use Rattle.frame.proofs.frames.Frames.active_pairs.Goals as goal
+
+pub returns-clause-legal : goal.returns-clause-legal
+returns-clause-legal c = subst (λ (v : Numbered). AreLegal v.statements v.names) c.self.view_is (all-legal c.self.inside.stock c.self.invariant)
 
 pub invariant_of-result : goal.invariant_of-result
 invariant_of-result c = (

@@ -1,8 +1,0 @@
-use Rattle.std.proofs.Common.{subst}
-use Rattle.frame.specs.Parts.{Numbered}
-use Rattle.frame.specs.Reading.{AreLegal}
-use Rattle.frame.proofs.CitedLemmas.{all-legal}
-use Rattle.frame.proofs.frames.Frames.legal.Goals as goal
-
-pub returns : goal.returns
-returns c = subst (λ (v : Numbered). AreLegal v.statements v.names) c.self.view_is (all-legal c.self.inside.stock c.self.invariant)

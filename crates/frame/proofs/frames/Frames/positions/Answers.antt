@@ -1,0 +1,17 @@
+use Rattle.std.proofs.Common.{subst}
+use Rattle.frame.specs.Parts.{Numbered}
+use Rattle.frame.specs.Reading.{AreLegal}
+use Rattle.frame.proofs.CitedLemmas.{all-legal}
+use Rattle.frame.proofs.PositionLemmas.{positions-more}
+use Rattle.frame.proofs.frames.Frames.positions.Goals as goal
+
+pub loop-label-preserved : goal.loop-label-preserved
+loop-label-preserved c =
+    positions-more c.args.self.now.statements c.loop-label.yielded c.in-Some.label c.loop-label.positions.items c.push.new.self.items c.position.result
+    c.loop-label.invariant c.in_ok-push.ensures.items c.position.ensures
+
+pub returns-in_err-push-clause-legal : goal.returns-in_err-push-clause-legal
+returns-in_err-push-clause-legal c = subst (λ (v : Numbered). AreLegal v.statements v.names) c.self.view_is (all-legal c.self.inside.stock c.self.invariant)
+
+pub returns-clause-legal : goal.returns-clause-legal
+returns-clause-legal c = subst (λ (v : Numbered). AreLegal v.statements v.names) c.self.view_is (all-legal c.self.inside.stock c.self.invariant)
