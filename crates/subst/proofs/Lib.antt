@@ -10,3 +10,4 @@ pub mod NumbersApartLemmas
 mod Rows
 mod BitsLemmas
 pub mod FindingsLemmas
+pub mod WordsApartLemmas

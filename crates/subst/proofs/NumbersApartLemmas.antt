@@ -17,7 +17,8 @@ use Rattle.frame.specs.Disjoint.{are_apart, is_group_apart, are_groups_apart}
 use Rattle.frame.specs.Below.{AreBelow, AllBelow}
 use Rattle.subst.specs.Apart.{image_named, are_two_apart, is_number_apart, are_numbers_apart}
 use Rattle.subst.specs.Findings.{Found, IsKnown, IsAmong, AreBits, AreWordsApart}
-use Rattle.subst.proofs.FindingsLemmas.{bits-joined, good-from, words-from, apart-from_good, good-at, all-at, at-all}
+use Rattle.subst.proofs.FindingsLemmas.{bits-joined}
+use Rattle.subst.proofs.WordsApartLemmas.{good-from, words-from, apart-from_good, good-at, all-at, at-all}
 use Rattle.subst.proofs.SubstitutionLemmas.{place-of, image-decode}
 use Rattle.frame.proofs.ApartLemmas.{all-true}
 

@@ -1,6 +1,7 @@
 use Rattle.std.proofs.Common.{length}
 use Rattle.subst.specs.Findings.{IsAmong}
-use Rattle.subst.proofs.FindingsLemmas.{bits-grown, words-tell}
+use Rattle.subst.proofs.FindingsLemmas.{bits-grown}
+use Rattle.subst.proofs.WordsApartLemmas.{words-tell}
 use Rattle.subst.proofs.findings.Findings.images_apart.Goals as goal
 
 pub returns-clause-apart : goal.returns-clause-apart
