@@ -3,8 +3,7 @@
 
 use crate::fuse::{Fuse, entry, restart_first, three};
 use cluster::{
-    Ahead, NodeCell, Switch, apply_on, begin_on, compare_on, deliver_on, list_on,
-    offer_on, take_on,
+    Ahead, NodeCell, Switch, apply_on, begin_on, compare_on, deliver_on, list_on, offer_on, take_on,
 };
 use net::StepFault;
 use std::alloc::Global;
