@@ -1,9 +1,8 @@
 //! Which of two cells of one switch is ahead.
-ghost use Rattle.std.specs.Prelude.{◌≡◌, None, IfSome};
 ghost use Rattle.net.specs.Agree.{Agree};
 ghost use Rattle.cluster.specs.Belongs.{Belongs, IsAhead};
 
-use crate::cell::{NodeCell, belongs};
+use crate::cell::NodeCell;
 use library::Library;
 use switch::Switch;
 use synod::Keep;
@@ -20,27 +19,20 @@ pub enum Ahead {
     Second,
 }
 
-/// Which of two cells of one switch has the library with more statements: their logs agree, and so do their libraries. None where
-/// one of them is not of that switch. It takes no memory.
-///
-/// Cost: that of `belongs` for both.
+/// Which of two cells of one switch has the library with more statements: their logs agree, and so do their libraries. It takes
+/// no memory.
 pub fn compare_on<K: Keep<Carried>>(
     one: &NodeCell,
     other: &NodeCell,
     switch: &Switch<Carried, K>,
-) -> Option<Ahead>
-    ensures one { IfSome result (λ _. Belongs one.now switch.now) }
-    ensures other { IfSome result (λ _. Belongs other.now switch.now) }
-    ensures ahead { IfSome result (λ ahead. IsAhead ahead one.now.node.library.statements other.now.node.library.statements) }
-    ensures none { result ≡ None → Belongs one.now switch.now → Belongs other.now switch.now → ⊥ }
+) -> Ahead
+    requires one { Belongs one.now switch.now }
+    requires other { Belongs other.now switch.now }
+    ensures { IsAhead result one.now.node.library.statements other.now.node.library.statements }
 {
-    if !belongs(one, switch) {
-        return None;
-    }
-    if !belongs(other, switch) {
-        return None;
-    }
-    Some(ahead_of(one.library(), other.library()))
+    // Their nodes are the switch's, whose history is taken.
+    prove!(switch.entry(one.at(), 0).is_ok());
+    ahead_of(one.library(), other.library())
 }
 
 /// Which of two libraries has more statements, where those of the one begin those of the other.

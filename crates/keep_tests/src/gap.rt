@@ -3,7 +3,8 @@
 
 use crate::fuse::{Fuse, entry, restart_first, three};
 use cluster::{
-    Ahead, NodeCell, Switch, apply_on, begin_on, compare_on, deliver_on, list_on, offer_on, take_on,
+    Ahead, NodeCell, Switch, apply_on, begin_on, belongs, compare_on, deliver_on, list_on,
+    offer_on, take_on,
 };
 use net::StepFault;
 use std::alloc::Global;
@@ -107,12 +108,21 @@ fn settle(cell: &mut NodeCell, switch: &Switch<Carried, Fuse>) -> Result<(), Ste
 fn all_agree(switch: &Switch<Carried, Fuse>, cells: &[NodeCell]) -> bool {
     for one in cells {
         for other in cells {
-            if compare_on(one, other, switch) != Some(counted(one, other)) {
+            if ahead(one, other, switch) != Some(counted(one, other)) {
                 return false;
             }
         }
     }
     true
+}
+
+/// Which of two cells is ahead, where both are of the switch.
+fn ahead(one: &NodeCell, other: &NodeCell, switch: &Switch<Carried, Fuse>) -> Option<Ahead> {
+    if belongs(one, switch) && belongs(other, switch) {
+        Some(compare_on(one, other, switch))
+    } else {
+        None
+    }
 }
 
 /// Whose library has more statements, counted.

@@ -1,10 +1,11 @@
 //! The locks that the threads share.
-ghost use Rattle.std.specs.Prelude.{◌≡◌, ◌≤◌, ◌<◌, ℕ, Err, IsOk, IfOk, IsOkUnless, vec_len};
+ghost use Rattle.std.specs.Prelude.{◌≡◌, ◌≤◌, ◌<◌, ℕ, Err, IsOk, IfOk, IsOkUnless, IsTrue, vec_len};
+ghost use Rattle.cluster.specs.Belongs.{Belongs};
 ghost use Rattle.net.specs.declared.fault.StepFault.TheVariants.{NoNode, Apart};
 ghost use Rattle.nodes.specs.Desk.{IsCompared};
 
 use crate::board::{Board, Hint};
-use cluster::{Ahead, NodeCell, apply_on_with, compare_on, deliver_on, take_on};
+use cluster::{Ahead, NodeCell, Switch, apply_on_with, belongs, compare_on, deliver_on, take_on};
 use crossbeam_channel::Sender;
 use net::StepFault;
 use slots::SLOTS;
@@ -102,14 +103,19 @@ impl<G: Gate, K: Keep<Carried>> Shared<G, K> {
         let one = self.cell(low)?.lock(rt);
         let other = self.cell(high)?.lock(rt);
         let board = self.board.lock(rt);
-        if one.at() != low || other.at() != high {
-            return Err(StepFault::Apart);
-        }
-        match compare_on(&one, &other, &board.switch) {
-            Some(ahead) => Ok(ahead),
-            None => Err(StepFault::Apart),
+        if is_at(&one, low, &board.switch) && is_at(&other, high, &board.switch) {
+            Ok(compare_on(&one, &other, &board.switch))
+        } else {
+            Err(StepFault::Apart)
         }
     }
+}
+
+/// Whether the cell is node `k`'s, and of that switch: two locks share no fact, so it is tested where both are taken.
+fn is_at<K: Keep<Carried>>(cell: &NodeCell, k: u8, switch: &Switch<Carried, K>) -> bool
+    ensures { IsTrue result → (cell.now.at ≡ k) × Belongs cell.now switch.now }
+{
+    cell.at() == k && belongs(cell, switch)
 }
 
 /// Takes over all that the node's log has.
