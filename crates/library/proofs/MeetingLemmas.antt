@@ -37,7 +37,7 @@ module _ (S : Database) (marks : List Bool) where
   wanted-end labels wanted label o w is =
       record {
         places = w.places ++ o ∷ [];
-        named = positions-end S labels w.places label o w.named is;
+        named = positions-end S labels label w.places o w.named is;
         tests = ap (λ bs. bs ++ is_marked marks o ∷ []) w.tests ∙ sym (map-append (is_marked marks) w.places (o ∷ []));
       }
 
