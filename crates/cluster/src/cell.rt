@@ -9,7 +9,7 @@ ghost use Rattle.net.specs.World.{World, log};
 ghost use Rattle.world.specs.Carried.{carried_size};
 ghost use Rattle.world.specs.Replicas.{AppliesNext};
 ghost use Rattle.net.specs.declared.event.Event.TheVariants.{Offer};
-ghost use Rattle.switch.specs.Switch.{world_of, new_places, Acts, Restarts};
+ghost use Rattle.switch.specs.Switch.{ArePlaces, world_of, new_places, Acts, Restarts};
 ghost use Rattle.switch.specs.Belonging.{OthersStay, StaysBelonging};
 ghost use Rattle.cluster.specs.Belongs.{Belongs, EachBelongs};
 ghost use Rattle.cluster.specs.Cells.{new_cells};
@@ -87,7 +87,8 @@ impl NodeCell {
 ///
 /// Cost: the size of the entries taken over.
 pub fn belongs<K: Keep<Carried>>(cell: &NodeCell, switch: &Switch<Carried, K>) -> bool
-    ensures { IsTrue result ↔ Belongs cell.now switch.now }
+    ensures belongs { IsTrue result ↔ Belongs cell.now switch.now }
+    ensures taken { IsOk (world_of carried_size switch.now) }
 {
     begins_log(switch, cell.at, &cell.entries)
 }
@@ -101,6 +102,7 @@ pub fn offer_on<K: Keep<Carried>>(
     entry: Entry,
 ) -> Result<u64, StepFault>
     ensures taken { IsOk (world_of carried_size switch.old) }
+    ensures places { ForOk (world_of carried_size switch.old) (λ world. ArePlaces carried_size world switch.old.places) }
     ensures acts { ForOk (world_of carried_size switch.old) (λ world. Acts carried_size world switch.old switch.new (Offer k (record { 0 = entry })) result) }
     ensures belonging { StaysBelonging carried_size switch.old switch.new }
 {
@@ -200,6 +202,7 @@ pub fn restart_on<K: Keep<Carried>>(
     switch: &mut Switch<Carried, K>,
 ) -> Result<u64, StepFault>
     ensures taken { IsOk (world_of carried_size switch.old) }
+    ensures places { ForOk (world_of carried_size switch.old) (λ world. ArePlaces carried_size world switch.old.places) }
     ensures restarts { ForOk (world_of carried_size switch.old) (λ world. Restarts carried_size world switch.old switch.new cell.old.at result) }
     ensures fresh { OnOk result (cell.new ≡ new_cell cell.old.at) }
     ensures stays { OnErr result (cell.new ≡ cell.old) }

@@ -1,7 +1,9 @@
 //! Which of two cells of one switch is ahead.
+ghost use Rattle.net.specs.Agree.{Agree};
 ghost use Rattle.cluster.specs.Belongs.{Belongs, IsAhead};
 
 use crate::cell::NodeCell;
+use library::Library;
 use switch::Switch;
 use synod::Keep;
 use world::Carried;
@@ -28,9 +30,18 @@ pub fn compare_on<K: Keep<Carried>>(
     requires other { Belongs other.now switch.now }
     ensures { IsAhead result one.now.node.library.statements other.now.node.library.statements }
 {
-    let _taken = switch.history();
-    let first = one.library().statements().len();
-    let second = other.library().statements().len();
+    // Their nodes are the switch's, whose history is taken.
+    prove!(switch.entry(one.at(), 0).is_ok());
+    ahead_of(one.library(), other.library())
+}
+
+/// Which of two libraries has more statements, where those of the one begin those of the other.
+fn ahead_of(one: &Library, other: &Library) -> Ahead
+    requires { Agree one.now.replica.statements other.now.replica.statements }
+    ensures { IsAhead result one.now.replica.statements other.now.replica.statements }
+{
+    let first = one.statements().len();
+    let second = other.statements().len();
     if first > second {
         Ahead::First
     } else if first < second {

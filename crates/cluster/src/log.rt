@@ -1,5 +1,5 @@
 //! Whether entries begin a node's log.
-ghost use Rattle.std.specs.Prelude.{◌≡◌, ◌↔◌, ◌≤◌, ◌<◌, Some, length, slice_get, option_map, IsTrue};
+ghost use Rattle.std.specs.Prelude.{◌≡◌, ◌↔◌, ◌≤◌, ◌<◌, Some, length, slice_get, option_map, IsTrue, IsOk};
 ghost use Rattle.slots.specs.declared.slots.TheConstants.{SLOTS};
 ghost use Rattle.net.specs.World.{log_after};
 ghost use Rattle.net.specs.Agree.{IsBeginningOf};
@@ -21,7 +21,8 @@ pub(crate) fn begins_log<K: Keep<Carried>>(
     entries: &[Option<Carried>],
 ) -> bool
     requires { length entries.now ≤ SLOTS }
-    ensures { IsTrue result ↔ BeginsLog carried_size switch.now k entries.now }
+    ensures begins { IsTrue result ↔ BeginsLog carried_size switch.now k entries.now }
+    ensures taken { IsOk (world_of carried_size switch.now) }
 {
     if switch.entry(k, 0).is_ok() {
         begins(switch, k, entries)

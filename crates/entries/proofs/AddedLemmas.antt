@@ -13,8 +13,8 @@ use Rattle.entries.specs.declared.record.Row.{Row}
 use Rattle.entries.specs.declared.record.Buffers.{Buffers}
 use Rattle.entries.specs.declared.sizes.Sizes.{Sizes}
 use Rattle.entries.specs.Entries.{AreShapedParts, assertion_of, made, partless}
-use Rattle.entries.specs.Spans.{AreSpansIn, Extends, cut}
-use Rattle.entries.specs.Records.{head_of, no_row, hypotheses_by, groups_by, groups_at, row_place, plain_place, place_by, place_of, places_of, entry_of, ArePacked, Grows, Begins, IsRowOf, IsAdded}
+use Rattle.entries.specs.Stored.Spans.{AreSpansIn, Extends, cut}
+use Rattle.entries.specs.Stored.Records.{head_of, no_row, hypotheses_by, groups_by, groups_at, row_place, plain_place, place_by, place_of, places_of, entry_of, ArePacked, Grows, Begins, IsRowOf, IsAdded}
 use Rattle.entries.proofs.SpanLemmas.{range-behind, extends-length, extends-refl}
 use Rattle.entries.proofs.RecordLemmas.{places-push}
 

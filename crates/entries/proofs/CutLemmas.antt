@@ -6,7 +6,7 @@ use Rattle.std.proofs.lemmas.Option.{slice_get-get_or}
 use Rattle.entries.specs.declared.record.Record.{Record}
 use Rattle.entries.specs.declared.record.Buffers.{Buffers}
 use Rattle.entries.specs.declared.sizes.Sizes.{Sizes}
-use Rattle.entries.specs.Records.{Place, no_row, hypotheses_by, groups_by, hypotheses_at, groups_at, place_by, place_of, places_of, end_of, entry_of, sizes_of, start_of, IsWithin, ArePacked, Grows, Begins}
+use Rattle.entries.specs.Stored.Records.{Place, no_row, hypotheses_by, groups_by, hypotheses_at, groups_at, place_by, place_of, places_of, end_of, entry_of, sizes_of, start_of, IsWithin, ArePacked, Grows, Begins}
 use Rattle.entries.proofs.SpanLemmas.{take-extends}
 use Rattle.entries.proofs.PlaceLemmas.{IsCut, within-at, within-more, more-grown, groups-same, entries-same, packed-cut, items-cut, cut-grows}
 use Rattle.entries.proofs.RecordLemmas.{rows-of, rows_after, rows_from-of, from-of, places-get, places-take, places-equal}

@@ -8,8 +8,8 @@ use Rattle.std.proofs.Math.Seq.{take-append_seam}
 use Rattle.entries.specs.declared.sizes.Sizes.{Sizes}
 use Rattle.entries.specs.declared.record.Buffers.{Buffers}
 use Rattle.entries.specs.Entries.{Entry}
-use Rattle.entries.specs.Spans.{AreSpansIn, Extends}
-use Rattle.entries.specs.Records.{Place, entry_of, sizes_of, start_of, IsWithin, AreWithin, HasGroups, HaveGroups, ArePacked, Grows, IsAdded}
+use Rattle.entries.specs.Stored.Spans.{AreSpansIn, Extends}
+use Rattle.entries.specs.Stored.Records.{Place, entry_of, sizes_of, start_of, IsWithin, AreWithin, HasGroups, HaveGroups, ArePacked, Grows, IsAdded}
 use Rattle.entries.proofs.SpanLemmas.{range-extends, extends-length, extends-take}
 
 -- ---- within

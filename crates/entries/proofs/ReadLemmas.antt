@@ -7,8 +7,8 @@ use Rattle.entries.specs.declared.record.Record.{Record}
 use Rattle.entries.specs.declared.record.Row.{Row}
 use Rattle.entries.specs.declared.record.Buffers.{Buffers}
 use Rattle.entries.specs.Entries.{Entry, Assertion}
-use Rattle.entries.specs.Spans.{AreSpansIn, cut}
-use Rattle.entries.specs.Records.{Place, row_by, own_row, place_by, place_of, places_of, end_of, from_by, symbols_by, entry_of, sizes_of, IsWithin, HasGroups, ArePacked}
+use Rattle.entries.specs.Stored.Spans.{AreSpansIn, cut}
+use Rattle.entries.specs.Stored.Records.{Place, row_by, own_row, place_by, place_of, places_of, end_of, from_by, symbols_by, entry_of, sizes_of, IsWithin, HasGroups, ArePacked}
 use Rattle.entries.proofs.PlaceLemmas.{within-at, groups-at}
 use Rattle.entries.proofs.RecordLemmas.{rows-of, rows_after, places-get, places-length, end-by}
 use Rattle.entries.proofs.AddedLemmas.{range-none}

@@ -5,8 +5,8 @@ use Rattle.std.proofs.lemmas.Option.{slice_get-get_or, get_or_from_slice_get, sl
 use Rattle.entries.specs.declared.record.Record.{Record}
 use Rattle.entries.specs.declared.record.Row.{Row}
 use Rattle.entries.specs.declared.record.Buffers.{Buffers}
-use Rattle.entries.specs.Spans.{Extends}
-use Rattle.entries.specs.Records.{head_of, no_row, hypotheses_by, groups_by, hypotheses_at, groups_at, row_place, plain_place, place_by, place_of, end_of, from_by, places_of, sizes_of, AreWithin, Begins}
+use Rattle.entries.specs.Stored.Spans.{Extends}
+use Rattle.entries.specs.Stored.Records.{head_of, no_row, hypotheses_by, groups_by, hypotheses_at, groups_at, row_place, plain_place, place_by, place_of, end_of, from_by, places_of, sizes_of, AreWithin, Begins}
 
 -- ---- one place
 

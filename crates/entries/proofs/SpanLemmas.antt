@@ -5,7 +5,7 @@ use Rattle.std.proofs.lemmas.List.{length-append, length-drop, length-take-le, t
 use Rattle.std.proofs.Math.Seq.{take-append_seam, drop-append_seam}
 use Rattle.std.proofs.lemmas.Option.{same_Some}
 use Rattle.entries.specs.declared.span.BufferPart.{BufferPart}
-use Rattle.entries.specs.Spans.{cut, AreSpansIn, Extends}
+use Rattle.entries.specs.Stored.Spans.{cut, AreSpansIn, Extends}
 
 pub span-in : (n : ℕ) (spans : List BufferPart) (i : ℕ) (s : BufferPart) → AreSpansIn n spans → slice_get spans i ≡ Some s → (s.from ≤ s.to) × (s.to ≤ n)
 span-in n [] zero s h e = absurd (cc)

@@ -9,7 +9,7 @@ use Rattle.entries.specs.declared.kind.Kind.{Kind}
 use Rattle.entries.specs.declared.head.Head.{Head}
 use Rattle.entries.specs.declared.parts.AssertionParts.{AssertionParts}
 use Rattle.entries.specs.declared.entry.EntryRef.{EntryRef}
-use Rattle.entries.specs.Spans.{cut, AreSpansIn}
+use Rattle.entries.specs.Stored.Spans.{cut, AreSpansIn}
 
 -- hypotheses by position, what each is and its first symbol, and groups of variables; of most statements all lists are empty.
 -- Whether these are whole, or only what the statement adds to what is active.

@@ -1,3 +1,2 @@
-pub mod Spans
 pub mod Entries
-pub mod Records
+pub mod Stored

@@ -1,8 +1,8 @@
 //! The statements of a database as numbers, by position.
 ghost use Rattle.std.specs.Prelude.{◌≡◌, ◌≤◌, ◌<◌, ◌+◌, ◌^◌, ◌++◌, ◌∷◌, [], length, take, slice_get, Some, OnOk, OnErr, IfOk, IfSome, true};
 ghost use Rattle.entries.specs.Entries.{Entry, IsEntry, AreWhole, AreShapedParts, assertion_of, made, partless, plain};
-ghost use Rattle.entries.specs.Records.{IsAdded, IsRowOf, ArePacked, Grows, AreEnds, places_of};
-ghost use Rattle.entries.specs.Spans.{Extends};
+ghost use Rattle.entries.specs.Stored.Records.{IsAdded, IsRowOf, ArePacked, Grows, AreEnds, places_of};
+ghost use Rattle.entries.specs.Stored.Spans.{Extends};
 
 use crate::citation::Cited;
 use crate::entry::EntryRef;
@@ -31,7 +31,7 @@ impl Model for Entries {
 
     ghost Value = { List Entry };
 
-    ghost use Rattle.entries.specs.Records.{entry_of, places_of, ArePacked};
+    ghost use Rattle.entries.specs.Stored.Records.{entry_of, places_of, ArePacked};
 
     ghost view = { λ a. map (entry_of a.buffers) (places_of a.buffers a.records.items) };
 

@@ -1,6 +1,6 @@
 //! Lists of numbers, one behind the other.
 ghost use Rattle.std.specs.Prelude.{◌≡◌, ◌<◌, length, slice_get, Some};
-ghost use Rattle.entries.specs.Spans.{cut, AreSpansIn};
+ghost use Rattle.entries.specs.Stored.Spans.{cut, AreSpansIn};
 
 use crate::span::{BufferPart, item, part};
 use std::marker::Model;
@@ -17,7 +17,7 @@ impl<'a> Model for Groups<'a> {
 
     ghost Value = { List (List ℕ) };
 
-    ghost use Rattle.entries.specs.Spans.{cut, AreSpansIn};
+    ghost use Rattle.entries.specs.Stored.Spans.{cut, AreSpansIn};
 
     ghost view = { λ a. cut a.places.now a.spans.now };
 

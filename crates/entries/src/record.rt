@@ -1,6 +1,6 @@
 //! How a statement is kept: where its parts stand in buffers that all share.
 ghost use Rattle.std.specs.Prelude.{◌≡◌, ◌<◌, ◌+◌, true, length, slice_get};
-ghost use Rattle.entries.specs.Records.{head_of, own_row, rowless, from_by, symbols_by};
+ghost use Rattle.entries.specs.Stored.Records.{head_of, own_row, rowless, from_by, symbols_by};
 
 use crate::citation::Hypothesis;
 use crate::head::Head;

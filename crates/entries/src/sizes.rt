@@ -1,6 +1,6 @@
 //! How long the buffers are.
 ghost use Rattle.std.specs.Prelude.{◌≡◌, take};
-ghost use Rattle.entries.specs.Records.{sizes_of, hypotheses_at, groups_at};
+ghost use Rattle.entries.specs.Stored.Records.{sizes_of, hypotheses_at, groups_at};
 
 use crate::record::{Buffers, Record};
 

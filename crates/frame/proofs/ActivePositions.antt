@@ -5,8 +5,8 @@ use Rattle.mm_read.specs.declared.stmt.Stmt.{Stmt}
 use Rattle.mm_read.specs.Statements.{Database}
 use Rattle.scope.specs.Active.{stays_open, active_from, is_active}
 use Rattle.entries.specs.Entries.{Entry}
-use Rattle.frame.specs.StoredEntries.{floats, last_from, last_where}
-use Rattle.frame.specs.StoredHypotheses.{inserted, AreAbove, Ascends, with_float, with_floats, with_all, with_essentials, kept_at}
+use Rattle.frame.specs.Stored.Entries.{floats, last_from, last_where}
+use Rattle.frame.specs.Stored.Hypotheses.{inserted, AreAbove, Ascends, with_float, with_floats, with_all, with_essentials, kept_at}
 use Rattle.frame.proofs.AscendingLists.{In, inserted-in, in-inserted, ascends-inserted}
 
 -- ---- the last entry that passes a test

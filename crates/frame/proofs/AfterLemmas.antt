@@ -9,7 +9,7 @@ use Rattle.entries.specs.declared.links.Links.{Links}
 use Rattle.entries.specs.declared.kind.Kind.{Kind}
 use Rattle.entries.specs.declared.kind.Kind.TheVariants.{Open, Close, Var, Disj, Ess}
 use Rattle.frame.specs.Links.{links_of, last_active, is_var, is_disj}
-use Rattle.frame.specs.StoredCounts.{kind_of}
+use Rattle.frame.specs.Stored.Counts.{kind_of}
 use Rattle.frame.proofs.LinksLemmas.{last-push, last-close}
 
 abbrev pub opens : Kind → Bool

@@ -15,9 +15,9 @@ use Rattle.frame.specs.Below.{AreBelow}
 use Rattle.frame.specs.Cited.{AreListsOf, IsCited}
 use Rattle.frame.specs.Bound.{IsBound}
 use Rattle.frame.specs.Reading.{AreLegal}
-use Rattle.frame.specs.StoredEntries.{stmt_by, stmt_of, statements_of}
-use Rattle.frame.specs.Stored.{AreStored}
-use Rattle.frame.specs.StoredParts.{IsKeptAs, has_parts}
+use Rattle.frame.specs.Stored.Entries.{stmt_by, stmt_of, statements_of}
+use Rattle.frame.specs.Stored.Whole.{AreStored}
+use Rattle.frame.specs.Stored.Parts.{IsKeptAs, has_parts}
 use Rattle.frame.proofs.SymbolsLemmas.{stored-distinct}
 use Rattle.frame.proofs.AssertionLemmas.{get-entry}
 use Rattle.frame.proofs.FoundByNumber.{own-expr, numbered-at}

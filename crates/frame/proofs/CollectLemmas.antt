@@ -9,9 +9,9 @@ use Rattle.names.specs.Codes.{name_at, decode}
 use Rattle.entries.specs.declared.kind.Kind.{Kind}
 use Rattle.entries.specs.declared.kind.Kind.TheVariants.{Open, Close, Const, Var, Disj, Float, Ess, Axiom, Prove}
 use Rattle.entries.specs.Entries.{Entry}
-use Rattle.frame.specs.StoredHypotheses.{inserted, with_float, with_floats, with_all, with_essentials, kept_at}
-use Rattle.frame.specs.StoredEntries.{floats, last_from, last_where, stmt_by, stmt_of, is_float_kind}
-use Rattle.frame.specs.StoredCounts.{IsPlain}
+use Rattle.frame.specs.Stored.Hypotheses.{inserted, with_float, with_floats, with_all, with_essentials, kept_at}
+use Rattle.frame.specs.Stored.Entries.{floats, last_from, last_where, stmt_by, stmt_of, is_float_kind}
+use Rattle.frame.specs.Stored.Counts.{IsPlain}
 use Rattle.scope.proofs.ActiveLemmas.{place}
 use Rattle.mm_lex.proofs.WordsLemmas.{and_left}
 

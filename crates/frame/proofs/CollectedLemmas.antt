@@ -14,10 +14,10 @@ use Rattle.frame.specs.Below.{AreBelow}
 use Rattle.entries.specs.declared.kind.Kind.TheVariants.{Float}
 use Rattle.entries.specs.Entries.{Entry}
 use Rattle.frame.specs.Links.{actives}
-use Rattle.frame.specs.StoredEntries.{stmt_of, floats, last_from, last_where}
-use Rattle.frame.specs.StoredCounts.{AreNumbered, HasTwo}
-use Rattle.frame.specs.StoredHypotheses.{with_floats, collected, kept_at, option_kept}
-use Rattle.frame.specs.StoredParts.{is_float_in, floats_in}
+use Rattle.frame.specs.Stored.Entries.{stmt_of, floats, last_from, last_where}
+use Rattle.frame.specs.Stored.Counts.{AreNumbered, HasTwo}
+use Rattle.frame.specs.Stored.Hypotheses.{with_floats, collected, kept_at, option_kept}
+use Rattle.frame.specs.Stored.Parts.{is_float_in, floats_in}
 use Rattle.frame.proofs.LegalLabels.{AllKept}
 use Rattle.frame.proofs.ActiveBehind.{Stands, active-stands, stands-active, open_both, not-both}
 use Rattle.frame.proofs.TypedVariables.{float-kinds, is_ess, typed-before}

@@ -5,8 +5,8 @@ use Rattle.std.proofs.Common.{sym, ◌∙◌, ap, arith}
 use Rattle.frame.specs.Below.{AreBelow}
 use Rattle.entries.specs.Entries.{Entry}
 use Rattle.frame.specs.declared.storage.Symbol.{Symbol}
-use Rattle.frame.specs.StoredEntries.{floats, declares, last_from, symbol_of}
-use Rattle.frame.specs.StoredCounts.{with_entry}
+use Rattle.frame.specs.Stored.Entries.{floats, declares, last_from, symbol_of}
+use Rattle.frame.specs.Stored.Counts.{with_entry}
 use Rattle.scope.proofs.ActiveLemmas.{place}
 use Rattle.scope.proofs.DeclaredLemmas.{or_false}
 

@@ -11,16 +11,16 @@ use Rattle.scope.specs.Symbols.{symbols_by, symbols_in}
 use Rattle.frame.specs.Below.{AreBelow}
 use Rattle.entries.specs.declared.head.Head.{Head}
 use Rattle.frame.specs.declared.draft.Draft.{Draft}
-use Rattle.entries.specs.Spans.{AreSpansIn}
+use Rattle.entries.specs.Stored.Spans.{AreSpansIn}
 use Rattle.entries.specs.Entries.{Assertion, Entry}
 use Rattle.entries.specs.declared.kind.Kind.{Kind}
 use Rattle.entries.specs.declared.kind.Kind.TheVariants.{Open, Close, Const, Var, Disj, Float, Ess, Axiom, Prove}
-use Rattle.frame.specs.Drafts.{IsDraft, IsPartless}
+use Rattle.frame.specs.Stored.Drafts.{IsDraft, IsPartless}
 use Rattle.frame.specs.declared.storage.Stock.{Stock}
-use Rattle.frame.specs.StoredEntries.{stmt_by, stmt_of, statements_of, option_list, option_position}
-use Rattle.frame.specs.Stored.{AreStored, AreNumbersOf, Entered, IsHead, IsKeptOf, IsNext}
-use Rattle.frame.specs.StoredParts.{floats_in, kept_with, has_parts}
-use Rattle.frame.specs.StoredCounts.{kind_of, IsLabelBelow, HasTwo}
+use Rattle.frame.specs.Stored.Entries.{stmt_by, stmt_of, statements_of, option_list, option_position}
+use Rattle.frame.specs.Stored.Whole.{AreStored, AreNumbersOf, Entered, IsHead, IsKeptOf, IsNext}
+use Rattle.frame.specs.Stored.Parts.{floats_in, kept_with, has_parts}
+use Rattle.frame.specs.Stored.Counts.{kind_of, IsLabelBelow, HasTwo}
 use Rattle.frame.proofs.SymbolsLemmas.{symbols_by-bare}
 use Rattle.names.proofs.DistinctLemmas.{name_at-last}
 

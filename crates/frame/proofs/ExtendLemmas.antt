@@ -9,9 +9,9 @@ use Rattle.frame.specs.declared.storage.Stock.{Stock}
 use Rattle.frame.specs.declared.storage.Symbol.{Symbol}
 use Rattle.entries.specs.Entries.{Entry}
 use Rattle.frame.specs.Links.{links_of}
-use Rattle.frame.specs.Stored.{AreStored, Entered}
-use Rattle.frame.specs.StoredCounts.{Grown, HasRoom, IsBehind, with_declared}
-use Rattle.frame.specs.StoredEntries.{ReadsAs, replaced_by, statements_of, symbol_of}
+use Rattle.frame.specs.Stored.Whole.{AreStored, Entered}
+use Rattle.frame.specs.Stored.Counts.{Grown, HasRoom, IsBehind, with_declared}
+use Rattle.frame.specs.Stored.Entries.{ReadsAs, replaced_by, statements_of, symbol_of}
 use Rattle.frame.proofs.StoredLemmas.{IsPushed}
 use Rattle.frame.proofs.StoredOneMore.{still-reads}
 

@@ -13,11 +13,11 @@ use Rattle.frame.specs.Links.{actives, is_disj}
 use Rattle.frame.specs.Cited.{AreListsOf}
 use Rattle.frame.specs.declared.storage.Stock.{Stock}
 use Rattle.entries.specs.Entries.{Entry, Assertion}
-use Rattle.frame.specs.StoredEntries.{stmt_of, statements_of}
-use Rattle.frame.specs.Stored.{AreStored}
-use Rattle.frame.specs.StoredHypotheses.{AreHypotheses, IsSpread, Ascends, inserted, option_kept, kept_at, with_all, with_essentials, with_floats, collected}
-use Rattle.frame.specs.StoredParts.{kept_with, variable_at, symbols_at, groups_by, floats_in, is_float_in}
-use Rattle.frame.specs.StoredCounts.{AreNumbered}
+use Rattle.frame.specs.Stored.Entries.{stmt_of, statements_of}
+use Rattle.frame.specs.Stored.Whole.{AreStored}
+use Rattle.frame.specs.Stored.Hypotheses.{AreHypotheses, IsSpread, Ascends, inserted, option_kept, kept_at, with_all, with_essentials, with_floats, collected}
+use Rattle.frame.specs.Stored.Parts.{kept_with, variable_at, symbols_at, groups_by, floats_in, is_float_in}
+use Rattle.frame.specs.Stored.Counts.{AreNumbered}
 use Rattle.frame.proofs.SymbolsLemmas.{stored-distinct}
 use Rattle.frame.proofs.LegalLabels.{AllKept}
 use Rattle.frame.proofs.AssertionLemmas.{AllAre, active-are, get-entry, get-more, hypotheses-are}

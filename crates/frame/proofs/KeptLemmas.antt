@@ -16,10 +16,10 @@ use Rattle.entries.specs.declared.kind.Kind.{Kind}
 use Rattle.entries.specs.declared.kind.Kind.TheVariants.{Open, Close, Const, Var, Disj, Float, Ess, Axiom, Prove}
 use Rattle.entries.specs.Entries.{Entry, Assertion}
 use Rattle.frame.specs.Links.{actives, actives_from, is_disj}
-use Rattle.frame.specs.StoredEntries.{stmt_by, stmt_of, AreAllLegal}
-use Rattle.frame.specs.StoredCounts.{AreNumbered, HasTwo}
-use Rattle.frame.specs.StoredParts.{variable_at, is_placed, placed, symbols_at, option_symbols, has_two, groups_by, head_at, asked_by, option_asked, asked_at, kept_with, IsKeptAs}
-use Rattle.frame.specs.Places.{place_of}
+use Rattle.frame.specs.Stored.Entries.{stmt_by, stmt_of, AreAllLegal}
+use Rattle.frame.specs.Stored.Counts.{AreNumbered, HasTwo}
+use Rattle.frame.specs.Stored.Parts.{variable_at, is_placed, placed, symbols_at, option_symbols, has_two, groups_by, head_at, asked_by, option_asked, asked_at, kept_with, IsKeptAs}
+use Rattle.frame.specs.Stored.Places.{place_of}
 use Rattle.frame.proofs.LegalLabels.{AllKept}
 use Rattle.frame.proofs.PlacesLemmas.{mandatory-place}
 use Rattle.frame.proofs.FoundByNumber.{map-back, map-at, take-at, middle, kept-front, option_name, OptionBelow, OptionsBelow, place-found, place-none, has-some, variable-named, variable-below, numbered-at, asked-kind}
@@ -83,7 +83,7 @@ module _ (es : List Entry) (names labels : List Name) (m a : ℕ) (e : Entry) (d
       let x = entry-at p h in
       ap (frame_of.variable_at front_of) h.at ∙ (ap frame_of.option_variable there ∙ (ap variable_of x.same
       ∙ (variable-named names x.entry.kind (name_at labels x.entry.label) x.entry.symbols x.two
-      ∙ sym (ap (λ o. option_name names (Rattle.frame.specs.StoredParts.option_variable o)) x.found))))
+      ∙ sym (ap (λ o. option_name names (Rattle.frame.specs.Stored.Parts.option_variable o)) x.found))))
 
   variables-there : (ps : List ℕ) → AreHyps front_of own ps → map (frame_of.variable_at front_of) ps ≡ map (option_name names) (map (variable_at es) ps)
   variables-there [] h = refl
@@ -93,7 +93,7 @@ module _ (es : List Entry) (names labels : List Name) (m a : ℕ) (e : Entry) (d
   places-below [] h = tt
   places-below (p ∷ ps) h =
       let x = entry-at p h.0 in
-      (subst (λ o. OptionBelow (length names) (Rattle.frame.specs.StoredParts.option_variable o)) (sym x.found) (variable-below (length names) x.entry.kind x.entry.symbols x.codes), places-below ps h.1)
+      (subst (λ o. OptionBelow (length names) (Rattle.frame.specs.Stored.Parts.option_variable o)) (sym x.found) (variable-below (length names) x.entry.kind x.entry.symbols x.codes), places-below ps h.1)
 
   hyps-are : d.hypotheses ≡ hypotheses front_of own
   hyps-are = kept.hypotheses_kept ∙ ap (λ b. kept_with b front_of own) whole

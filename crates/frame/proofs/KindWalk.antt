@@ -20,7 +20,7 @@ use Rattle.frame.proofs.StoredReading.{get-stmt}
 use Rattle.entries.specs.declared.kind.Kind.{Kind}
 use Rattle.entries.specs.declared.kind.Kind.TheVariants.{Open, Close, Const, Var, Disj, Float, Ess, Axiom, Prove}
 use Rattle.entries.specs.Entries.{Entry}
-use Rattle.frame.specs.StoredEntries.{stmt_by, stmt_of}
+use Rattle.frame.specs.Stored.Entries.{stmt_by, stmt_of}
 use Rattle.scope.proofs.ActiveLemmas.{or_false_right}
 use Rattle.scope.proofs.DeclaredLemmas.{or_false}
 

@@ -7,9 +7,9 @@ use Rattle.names.specs.Codes.{name_at, decode}
 use Rattle.entries.specs.Entries.{Entry}
 use Rattle.entries.specs.declared.kind.Kind.{Kind}
 use Rattle.entries.specs.declared.kind.Kind.TheVariants.{Open, Close, Const, Var, Disj, Float, Ess, Axiom, Prove}
-use Rattle.frame.specs.Labels.{is_label_kind}
-use Rattle.frame.specs.StoredEntries.{stmt_by, stmt_of}
-use Rattle.frame.specs.StoredCounts.{AreNumbered, IsLabelBelow}
+use Rattle.frame.specs.Stored.Labels.{is_label_kind}
+use Rattle.frame.specs.Stored.Entries.{stmt_by, stmt_of}
+use Rattle.frame.specs.Stored.Counts.{AreNumbered, IsLabelBelow}
 
 pub label-below-at : (n m : ℕ) (es : List Entry) → AreNumbered n m es → (k : ℕ) (e : Entry) → slice_get es k ≡ Some e → IsLabelBelow e.kind e.label m
 label-below-at n m [] h k e g = cc

@@ -2,7 +2,7 @@
 use Rattle.std.specs.Prelude.{◌≡◌, ℕ, zero, suc, ◌+◌, ◌<◌, ◌≤◌, Bool, true, false, cond, ◌⊎◌, List, [], ◌∷◌, ◌++◌, length, slice_get, not, is_some, Option, Some, None, refl}
 use Rattle.std.proofs.Common.{sym, ◌∙◌, ap, subst, arith, inl, inr}
 use Rattle.std.proofs.lemmas.Option.{same_Some}
-use Rattle.frame.specs.Places.{is_code, place_from, place_of, AreMarked}
+use Rattle.frame.specs.Stored.Places.{is_code, place_from, place_of, AreMarked}
 use Rattle.frame.proofs.FoundByNumber.{is_code-same}
 
 is-code : (c : ℕ) → is_code c (Some c) ≡ true

@@ -8,8 +8,8 @@ use Rattle.mm_lex.specs.Alphabet.{Name, name_eq, has_name}
 use Rattle.names.specs.Codes.{name_at, decode, with_name, with_names, AreNamed}
 use Rattle.frame.specs.Below.{AreBelow}
 use Rattle.frame.specs.declared.storage.Symbol.{Symbol}
-use Rattle.entries.specs.Spans.{Extends}
-use Rattle.frame.specs.StoredCounts.{AreZero, AreZeroBehind}
+use Rattle.entries.specs.Stored.Spans.{Extends}
+use Rattle.frame.specs.Stored.Counts.{AreZero, AreZeroBehind}
 use Rattle.names.proofs.DistinctLemmas.{name_at-more}
 use Rattle.entries.proofs.SpanLemmas.{extends-length}
 use Rattle.names.proofs.CodesLemmas.{has-at}

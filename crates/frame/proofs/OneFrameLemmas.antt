@@ -15,7 +15,7 @@ use Rattle.names.proofs.AddedLemmas.{has_name-append}
 use Rattle.frame.specs.Parts.{FrameParts}
 use Rattle.frame.specs.FrameOf.{is_mandatory, is_hypothesis, hypotheses, mandatory_groups, separates}
 use Rattle.names.proofs.CodesLemmas.{lt-list_any}
-use Rattle.frame.specs.OneFrame.{AreMandatory, is_in_essential, asks, asked, among, groups_among}
+use Rattle.frame.specs.Stored.OneFrame.{AreMandatory, is_in_essential, asks, asked, among, groups_among}
 use Rattle.frame.proofs.FoundByNumber.{has-at}
 use Rattle.scope.proofs.DeclaredLemmas.{or_false}
 

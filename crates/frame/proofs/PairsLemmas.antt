@@ -19,8 +19,8 @@ use Rattle.frame.proofs.AssertionLemmas.{get-entry}
 use Rattle.entries.specs.declared.kind.Kind.{Kind}
 use Rattle.entries.specs.declared.kind.Kind.TheVariants.{Open, Close, Const, Var, Disj, Float, Ess, Axiom, Prove}
 use Rattle.entries.specs.Entries.{Entry}
-use Rattle.frame.specs.StoredEntries.{stmt_by, stmt_of, declares, is_var_kind, last_from, last_where}
-use Rattle.frame.specs.StoredCounts.{AreNumbered, IsPlain}
+use Rattle.frame.specs.Stored.Entries.{stmt_by, stmt_of, declares, is_var_kind, last_from, last_where}
+use Rattle.frame.specs.Stored.Counts.{AreNumbered, IsPlain}
 use Rattle.frame.proofs.KindWalk.{not-has, has-decode, entry-var, other-var}
 use Rattle.mm_lex.proofs.WordsLemmas.{and_left}
 

@@ -14,11 +14,11 @@ use Rattle.entries.specs.declared.links.Links.{Links}
 use Rattle.entries.specs.Entries.{Entry}
 use Rattle.frame.specs.declared.storage.Symbol.{Symbol}
 use Rattle.frame.specs.Links.{links_of}
-use Rattle.frame.specs.StoredEntries.{stmt_of, labels_of, positions_from, option_list, option_position, AreAllLegal, symbol_of, replaced_by, replaced_of, numbered}
-use Rattle.frame.specs.StoredCounts.{IsLabelBelow, HasTwo, AreNumbered, AreZeroBehind, with_entry, KeepsCounts}
-use Rattle.frame.specs.Stored.{AreKept}
-use Rattle.entries.specs.Spans.{Extends}
-use Rattle.frame.specs.StoredParts.{has_parts, IsKeptAs}
+use Rattle.frame.specs.Stored.Entries.{stmt_of, labels_of, positions_from, option_list, option_position, AreAllLegal, symbol_of, replaced_by, replaced_of, numbered}
+use Rattle.frame.specs.Stored.Counts.{IsLabelBelow, HasTwo, AreNumbered, AreZeroBehind, with_entry, KeepsCounts}
+use Rattle.frame.specs.Stored.Whole.{AreKept}
+use Rattle.entries.specs.Stored.Spans.{Extends}
+use Rattle.frame.specs.Stored.Parts.{has_parts, IsKeptAs}
 use Rattle.frame.proofs.DeclareLemmas.{symbol_of-push}
 use Rattle.frame.proofs.UndoLemmas.{replaced_of-push}
 use Rattle.frame.proofs.AssertionLemmas.{kept-more, kept-moved}

@@ -23,9 +23,9 @@ use Rattle.scope.proofs.SortsLemmas.{is_variable-active, was_symbol-either}
 use Rattle.scope.proofs.MarkLemmas.{all-has}
 use Rattle.frame.specs.Below.{AreBelow}
 use Rattle.frame.specs.declared.storage.Stock.{Stock}
-use Rattle.frame.specs.Stored.{AreNumbersOf, AreStored}
-use Rattle.frame.specs.StoredEntries.{statements_of}
-use Rattle.entries.specs.Spans.{Extends}
+use Rattle.frame.specs.Stored.Whole.{AreNumbersOf, AreStored}
+use Rattle.frame.specs.Stored.Entries.{statements_of}
+use Rattle.entries.specs.Stored.Spans.{Extends}
 use Rattle.scope.proofs.SymbolsLemmas.{symbols_from-append, symbols_of-append}
 
 -- ---- as statements come

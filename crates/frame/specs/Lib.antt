@@ -10,13 +10,4 @@ pub mod Bound
 pub mod Reading
 pub mod Links
 pub mod Laws
-pub mod Places
-pub mod Drafts
-pub mod StoredEntries
-pub mod StoredCounts
-pub mod StoredParts
-pub mod StoredHypotheses
 pub mod Stored
-pub mod Labels
-pub mod OneFrame
-pub mod Plain

@@ -1,72 +1,12 @@
--- The storage of a database. The code's own form: no public clause cites it.
-use Rattle.std.specs.Prelude.{◌≡◌, ℕ, ◌+◌, ◌<◌, ◌^◌, Bool, true, List, [], ◌++◌, length, map, take, slice_get, Some}
-use Rattle.mm_lex.specs.Alphabet.{Name}
-use Rattle.mm_read.specs.declared.stmt.Stmt.{Stmt}
-use Rattle.scope.specs.Active.{label_of, expr_of, is_essential, stays_open}
-use Rattle.names.specs.Codes.{decode, with_names}
-use Rattle.scope.specs.Symbols.{symbols_by, symbols_in, symbols_of}
-use Rattle.entries.specs.declared.links.Links.{Links}
-use Rattle.entries.specs.declared.head.Head.{Head}
-use Rattle.entries.specs.Entries.{Entry}
-use Rattle.entries.specs.Entries.{Assertion}
-use Rattle.frame.specs.declared.storage.Symbol.{Symbol}
-use Rattle.frame.specs.declared.storage.Stock.{Stock}
-use Rattle.frame.specs.Below.{AreBelow}
-use Rattle.frame.specs.Links.{links_of}
-use Rattle.frame.specs.StoredEntries.{stmt_of, statements_of, option_list, labels_of, option_position, positions_from, AreAllLegal, symbol_of, replaced_of}
-use Rattle.frame.specs.StoredCounts.{IsLabelBelow, HasTwo, AreNumbered, KeepsCounts, kind_of}
-use Rattle.frame.specs.StoredParts.{IsKeptAs, has_parts}
-
--- the storage of a database
-pub record AreKept (names labels : List Name) (positions : List ℕ) (symbols : List Symbol) (replaced : List ℕ) (entries : List Entry) (links : Links) : Type 0 where
-  pub last : links ≡ links_of (map (stmt_of names labels) entries)
-  pub linked : (i : ℕ) (e : Entry) → slice_get entries i ≡ Some e → e.links ≡ links_of (take i (map (stmt_of names labels) entries))
-  pub stays : stays_open 0 (map (stmt_of names labels) entries) ≡ true
-  pub legal : AreAllLegal (map (stmt_of names labels) entries)
-  pub names_kept : names ≡ symbols_of (map (stmt_of names labels) entries)
-  pub labels_kept : labels ≡ labels_of (map (stmt_of names labels) entries)
-  pub positions_kept : positions ≡ positions_from 1 (map (stmt_of names labels) entries)
-  pub coded : AreNumbered (length names) (length labels) entries
-  pub symbols_kept : (c : ℕ) → c < length names → slice_get symbols c ≡ Some (symbol_of entries c)
-  pub replaced_kept : replaced ≡ replaced_of entries
-  pub counts_kept : (i : ℕ) (e : Entry) → slice_get entries i ≡ Some e → KeepsCounts names labels entries i e
-  pub count : length symbols ≡ length names
-  pub few : length names < 2 ^ 31
-  pub parts_kept : (i : ℕ) (e : Entry) → slice_get entries i ≡ Some e → has_parts e.kind ≡ true → IsKeptAs entries (take i (map (stmt_of names labels) entries)) (stmt_of names labels e) e.assertion
-
-abbrev pub AreStored : Stock → Type 0
-AreStored k = AreKept k.names k.labels k.positions.items k.symbols.items k.replaced.items k.entries k.links
-
--- what is noted of the statement that comes next
-pub record IsHead (k : Stock) (s : Stmt) (h : Head) : Type 0 where
-  pub kind : h.kind ≡ kind_of s
-  pub label : h.label ≡ length k.labels
-  pub names : h.names ≡ length k.names
-  pub links : h.links ≡ k.links
-
--- the entry is the statement: its numbers are among those of the storage, which has its label and position
-pub record Entered (old new : Stock) (s : Stmt) (e : Entry) : Type 0 where
-  pub stands : stmt_of new.names new.labels e ≡ s
-  pub symbols : AreBelow (length new.names) e.symbols
-  pub label : IsLabelBelow e.kind e.label (length new.labels)
-  pub names_before : e.names ≡ length old.names
-  pub labels_before : e.label ≡ length old.labels
-  pub two : HasTwo e.kind e.symbols
-  pub names : new.names ≡ with_names old.names (symbols_by s)
-  pub labels : new.labels ≡ old.labels ++ option_list (label_of s) []
-  pub positions : new.positions.items ≡ old.positions.items ++ option_position (label_of s) (length old.entries + 1) []
-  pub links : e.links ≡ old.links
-  pub kept : has_parts e.kind ≡ true → IsKeptAs old.entries (statements_of old) s e.assertion
-
--- the numbers stand for the symbols of the statement
-pub record AreNumbersOf (names : List Name) (s : Stmt) (codes : List ℕ) : Type 0 where
-  pub below : AreBelow (length names) codes
-  pub stand : decode names codes ≡ symbols_in s
-
--- the symbols are those of the assertion s or, where it is one, of the `$e` s
-pub record IsNext (k : Stock) (is_own : Bool) (codes : List ℕ) (s : Stmt) : Type 0 where
-  pub own : is_essential s ≡ true → is_own ≡ true
-  pub stand : decode k.names codes ≡ expr_of s
-
-abbrev pub IsKeptOf : Stock → Stmt → Assertion → Type 0
-IsKeptOf k s d = IsKeptAs k.entries (statements_of k) s d
+-- How a database is kept: entries, counts and parts, what is found out before a statement is kept, and the whole storage.
+-- No public clause cites it.
+pub mod Entries
+pub mod Counts
+pub mod Parts
+pub mod Hypotheses
+pub mod Labels
+pub mod Drafts
+pub mod OneFrame
+pub mod Places
+pub mod Plain
+pub mod Whole

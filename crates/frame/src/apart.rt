@@ -6,8 +6,8 @@ ghost use Rattle.names.specs.Codes.{name_at, decode, AreDistinct};
 ghost use Rattle.frame.specs.Below.{AreBelow};
 ghost use Rattle.frame.specs.Disjoint.{are_apart};
 ghost use Rattle.frame.specs.Covers.{are_listed, are_covered, do_share, are_marked, is_variable_apart};
-ghost use Rattle.frame.specs.Stored.{AreStored};
-ghost use Rattle.frame.specs.StoredEntries.{statements_of};
+ghost use Rattle.frame.specs.Stored.Whole.{AreStored};
+ghost use Rattle.frame.specs.Stored.Entries.{statements_of};
 ghost use Rattle.frame.specs.declared.apart.TheConstants.{PLACES};
 
 use crate::at_position::links_at;

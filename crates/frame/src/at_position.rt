@@ -7,11 +7,11 @@ ghost use Rattle.frame.specs.Below.{AreBelow};
 ghost use Rattle.frame.specs.FrameOf.{HasAssertion};
 ghost use Rattle.frame.specs.Reading.{IsMeaning};
 ghost use Rattle.frame.specs.Cited.{IsCited, IsGathered};
-ghost use Rattle.frame.specs.Drafts.{IsDraft, drafted};
+ghost use Rattle.frame.specs.Stored.Drafts.{IsDraft, drafted};
 ghost use Rattle.frame.specs.Links.{last_active, links_of};
-ghost use Rattle.frame.specs.Stored.{AreStored};
-ghost use Rattle.frame.specs.StoredEntries.{statements_of};
-ghost use Rattle.frame.specs.StoredCounts.{IsPlain, IsHypothesisAt};
+ghost use Rattle.frame.specs.Stored.Whole.{AreStored};
+ghost use Rattle.frame.specs.Stored.Entries.{statements_of};
+ghost use Rattle.frame.specs.Stored.Counts.{IsPlain, IsHypothesisAt};
 
 use crate::draft::Draft;
 use crate::meaning::Meaning;

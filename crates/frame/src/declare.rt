@@ -6,9 +6,9 @@ ghost use Rattle.mm_read.specs.declared.stmt.Stmt.{Stmt as Statement};
 ghost use Rattle.frame.specs.Below.{AreBelow};
 ghost use Rattle.frame.specs.Links.{links_of};
 ghost use Rattle.frame.specs.declared.storage.Symbol.{Symbol as Declared};
-ghost use Rattle.frame.specs.Stored.{AreStored};
-ghost use Rattle.frame.specs.StoredEntries.{statements_of};
-ghost use Rattle.frame.specs.StoredCounts.{with_declared, kind_of};
+ghost use Rattle.frame.specs.Stored.Whole.{AreStored};
+ghost use Rattle.frame.specs.Stored.Entries.{statements_of};
+ghost use Rattle.frame.specs.Stored.Counts.{with_declared, kind_of};
 
 use crate::at_position::links_at;
 use crate::storage::{Stock, Symbol};

@@ -1,7 +1,7 @@
 //! What is found out about a statement before it is kept.
 ghost use Rattle.std.specs.Prelude.{◌≡◌, []};
 ghost use Rattle.entries.specs.Entries.{AreShapedParts, assertion_of};
-ghost use Rattle.frame.specs.Drafts.{IsDraft, IsPartless, drafted};
+ghost use Rattle.frame.specs.Stored.Drafts.{IsDraft, IsPartless, drafted};
 
 use crate::places::Places;
 use entries::{AssertionParts, BufferPart, Hypothesis};

@@ -7,11 +7,11 @@ ghost use Rattle.names.specs.Codes.{with_names, AreNamed};
 ghost use Rattle.scope.specs.Symbols.{symbols_by, symbols_in};
 ghost use Rattle.entries.specs.declared.head.Head.{Head as Before};
 ghost use Rattle.frame.specs.Below.{AreBelow};
-ghost use Rattle.frame.specs.Drafts.{IsPartless, IsDraft, drafted, made};
-ghost use Rattle.frame.specs.Stored.{AreNumbersOf, Entered, AreStored, IsHead, IsNext, IsKeptOf};
-ghost use Rattle.frame.specs.StoredCounts.{Grown, IsFresh, HasRoom, kind_of};
-ghost use Rattle.frame.specs.StoredEntries.{option_list, option_position, statements_of};
-ghost use Rattle.frame.specs.StoredParts.{has_parts};
+ghost use Rattle.frame.specs.Stored.Drafts.{IsPartless, IsDraft, drafted, made};
+ghost use Rattle.frame.specs.Stored.Whole.{AreNumbersOf, Entered, AreStored, IsHead, IsNext, IsKeptOf};
+ghost use Rattle.frame.specs.Stored.Counts.{Grown, IsFresh, HasRoom, kind_of};
+ghost use Rattle.frame.specs.Stored.Entries.{option_list, option_position, statements_of};
+ghost use Rattle.frame.specs.Stored.Parts.{has_parts};
 
 use crate::declare::name_label;
 use crate::draft::Draft;

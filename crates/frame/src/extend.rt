@@ -4,10 +4,10 @@ ghost use Rattle.scope.specs.Active.{bare};
 ghost use Rattle.scope.specs.Legal.{IsLegal};
 ghost use Rattle.names.specs.Codes.{with_names};
 ghost use Rattle.scope.specs.Symbols.{symbols_by};
-ghost use Rattle.frame.specs.Stored.{AreNumbersOf, AreStored};
-ghost use Rattle.frame.specs.StoredCounts.{IsBehind};
-ghost use Rattle.entries.specs.Spans.{Extends};
-ghost use Rattle.frame.specs.StoredEntries.{statements_of};
+ghost use Rattle.frame.specs.Stored.Whole.{AreNumbersOf, AreStored};
+ghost use Rattle.frame.specs.Stored.Counts.{IsBehind};
+ghost use Rattle.entries.specs.Stored.Spans.{Extends};
+ghost use Rattle.frame.specs.Stored.Entries.{statements_of};
 
 use crate::declare::{declare, links_after};
 use crate::draft::Draft;

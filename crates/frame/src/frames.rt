@@ -9,7 +9,7 @@ ghost use Rattle.frame.specs.Below.{AreBelow};
 ghost use Rattle.frame.specs.FrameOf.{HasAssertion, hypotheses};
 ghost use Rattle.frame.specs.Reading.{IsMeaning, IsPosition, ArePositions, AreLegal};
 ghost use Rattle.frame.specs.Cited.{IsCited, IsGathered};
-ghost use Rattle.entries.specs.Spans.{Extends};
+ghost use Rattle.entries.specs.Stored.Spans.{Extends};
 
 use crate::at_position::{cited_at, expr_at, gathered_at, meaning_at};
 use crate::draft::Draft;
@@ -43,8 +43,8 @@ impl Model for Frames {
 
     ghost Value = { Numbered };
 
-    ghost use Rattle.frame.specs.StoredEntries.{numbered};
-    ghost use Rattle.frame.specs.Stored.{AreStored};
+    ghost use Rattle.frame.specs.Stored.Entries.{numbered};
+    ghost use Rattle.frame.specs.Stored.Whole.{AreStored};
 
     ghost view = { λ a. numbered a.stock };
 

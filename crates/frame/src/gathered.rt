@@ -16,7 +16,7 @@ impl Model for Gathered {
 
     ghost Value = { Assertion };
 
-    ghost use Rattle.frame.specs.Drafts.{IsDraft, drafted};
+    ghost use Rattle.frame.specs.Stored.Drafts.{IsDraft, drafted};
 
     ghost view = { λ a. drafted a.draft };
 

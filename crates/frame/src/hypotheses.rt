@@ -4,10 +4,10 @@ ghost use Rattle.mm_read.specs.declared.stmt.Stmt.{Stmt as Statement};
 ghost use Rattle.scope.specs.Active.{before, stmt_at, label_of};
 ghost use Rattle.frame.specs.FrameOf.{HasAssertion, hypotheses};
 ghost use Rattle.frame.specs.Cited.{IsGathered};
-ghost use Rattle.frame.specs.Drafts.{IsDraft, drafted};
-ghost use Rattle.frame.specs.Labels.{is_label_kind};
-ghost use Rattle.frame.specs.Stored.{AreStored};
-ghost use Rattle.frame.specs.StoredEntries.{statements_of};
+ghost use Rattle.frame.specs.Stored.Drafts.{IsDraft, drafted};
+ghost use Rattle.frame.specs.Stored.Labels.{is_label_kind};
+ghost use Rattle.frame.specs.Stored.Whole.{AreStored};
+ghost use Rattle.frame.specs.Stored.Entries.{statements_of};
 
 use crate::draft::Draft;
 use crate::make::spread;

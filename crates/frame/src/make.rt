@@ -1,15 +1,15 @@
 //! The hypotheses that are kept with a statement, what they are, and what is kept apart.
 ghost use Rattle.std.specs.Prelude.{◌≡◌, ◌+◌, ◌-◌, ◌<◌, ◌≤◌, ◌++◌, ◌∷◌, [], true, false, if◌then◌else◌, length, map, take, OnOk};
-ghost use Rattle.entries.specs.Spans.{cut, AreSpansIn};
+ghost use Rattle.entries.specs.Stored.Spans.{cut, AreSpansIn};
 ghost use Rattle.frame.specs.Below.{AreBelow};
 ghost use Rattle.frame.specs.Cited.{head_of};
-ghost use Rattle.frame.specs.Drafts.{IsPartless, IsUndescribed, IsDraft, drafted};
+ghost use Rattle.frame.specs.Stored.Drafts.{IsPartless, IsUndescribed, IsDraft, drafted};
 ghost use Rattle.frame.specs.Links.{actives, is_disj};
-ghost use Rattle.frame.specs.Stored.{AreStored};
-ghost use Rattle.frame.specs.StoredHypotheses.{AreHypotheses, AreParts, IsSpread, collected, with_floats};
-ghost use Rattle.frame.specs.StoredCounts.{HasTwo};
-ghost use Rattle.frame.specs.StoredParts.{asked_at, asked_by, head_at, has_two, variable_at, variable_by, symbols_at, groups_by, placed};
-ghost use Rattle.frame.specs.StoredEntries.{statements_of};
+ghost use Rattle.frame.specs.Stored.Whole.{AreStored};
+ghost use Rattle.frame.specs.Stored.Hypotheses.{AreHypotheses, AreParts, IsSpread, collected, with_floats};
+ghost use Rattle.frame.specs.Stored.Counts.{HasTwo};
+ghost use Rattle.frame.specs.Stored.Parts.{asked_at, asked_by, head_at, has_two, variable_at, variable_by, symbols_at, groups_by, placed};
+ghost use Rattle.frame.specs.Stored.Entries.{statements_of};
 
 use crate::at_position::links_at;
 use crate::draft::Draft;

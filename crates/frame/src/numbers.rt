@@ -4,9 +4,9 @@ ghost use Rattle.mm_lex.specs.Alphabet.{Name, has_name};
 ghost use Rattle.names.specs.Codes.{name_at, decode, with_name, with_names, code_of, AreNamed};
 ghost use Rattle.scope.specs.Symbols.{symbols_in};
 ghost use Rattle.frame.specs.Below.{AreBelow};
-ghost use Rattle.frame.specs.Stored.{AreNumbersOf};
-ghost use Rattle.entries.specs.Spans.{Extends};
-ghost use Rattle.frame.specs.StoredCounts.{zero_symbol, AreZeroBehind};
+ghost use Rattle.frame.specs.Stored.Whole.{AreNumbersOf};
+ghost use Rattle.entries.specs.Stored.Spans.{Extends};
+ghost use Rattle.frame.specs.Stored.Counts.{zero_symbol, AreZeroBehind};
 
 use crate::storage::Symbol;
 use mm_lex::Words;

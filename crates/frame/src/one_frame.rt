@@ -4,7 +4,7 @@ ghost use Rattle.mm_lex.specs.Alphabet.{Name, name_eq, has_name};
 ghost use Rattle.scope.specs.Active.{is_assertion, is_variable, expr_of};
 ghost use Rattle.scope.specs.Standing.{standing_of};
 ghost use Rattle.frame.specs.FrameOf.{frame_of, hypotheses, mandatory_groups, separates};
-ghost use Rattle.frame.specs.OneFrame.{AreNoted, AreMandatory, among, asked, asks, groups_among};
+ghost use Rattle.frame.specs.Stored.OneFrame.{AreNoted, AreMandatory, among, asked, asks, groups_among};
 
 use crate::assertion::Frame;
 use mm_lex::Words;

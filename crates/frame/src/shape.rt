@@ -1,7 +1,7 @@
 //! What is read off a statement.
 ghost use Rattle.std.specs.Prelude.{◌≡◌, option_map};
 ghost use Rattle.scope.specs.Active.{bare, label_of, is_assertion, is_essential};
-ghost use Rattle.frame.specs.StoredCounts.{kind_of};
+ghost use Rattle.frame.specs.Stored.Counts.{kind_of};
 
 use entries::Kind;
 use mm_lex::Word;

@@ -3,9 +3,9 @@ ghost use Rattle.std.specs.Prelude.{◌≡◌, ℕ, ◌<◌, ◌≤◌, ◌==◌
 ghost use Rattle.std.specs.List.{list_any};
 ghost use Rattle.frame.specs.Below.{AreBelow};
 ghost use Rattle.frame.specs.declared.storage.Symbol.{Symbol as Declared};
-ghost use Rattle.frame.specs.StoredCounts.{AreNumbered, HasTwo, with_declared};
-ghost use Rattle.entries.specs.Spans.{Extends};
-ghost use Rattle.frame.specs.StoredEntries.{ReadsAs, replaced_by, replaced_of, symbol_of};
+ghost use Rattle.frame.specs.Stored.Counts.{AreNumbered, HasTwo, with_declared};
+ghost use Rattle.entries.specs.Stored.Spans.{Extends};
+ghost use Rattle.frame.specs.Stored.Entries.{ReadsAs, replaced_by, replaced_of, symbol_of};
 
 use crate::storage::Symbol;
 use entries::{Entries, Kind};

@@ -10,7 +10,7 @@ use Rattle.mm_lex.specs.Alphabet.{Name, starts_white, word, is_symbol}
 use Rattle.mm_lex.specs.Words.{words_of, AreWords}
 use Rattle.mm_lex.specs.Tokens.{IsClean, words}
 use Rattle.mm_lex.specs.Comments.{runs_behind}
-use Rattle.mm_lex.specs.Stretch.{stretch}
+use Rattle.mm_lex.specs.Stored.Stretch.{stretch}
 use Rattle.mm_lex.specs.Between.{AreBehind, IsTokenBehind}
 use Rattle.mm_lex.specs.SymbolList.{AddsSymbols, EndsSymbols}
 use Rattle.mm_lex.proofs.LanesLemmas.{clean-drop}

@@ -5,7 +5,7 @@ use Rattle.mm_lex.specs.Alphabet.{is_label, is_symbol}
 use Rattle.mm_lex.specs.Words.{spaced, words_of}
 use Rattle.mm_lex.specs.Tokens.{AreTokens}
 use Rattle.mm_lex.specs.Faults.{IsFirstBadByte, IsCommentFault}
-use Rattle.mm_lex.specs.Stretch.{stretch}
+use Rattle.mm_lex.specs.Stored.Stretch.{stretch}
 
 -- `$. $( hi $) p`: a comment goes
 comment_goes : AreTokens (codes "$. $( hi $) p") (record { start = 0; end = 2 } ∷ record { start = 12; end = 13 } ∷ [])

@@ -7,7 +7,7 @@ use Rattle.std.specs.Int.Count.{count_trailing_zeros}
 use Rattle.std.proofs.lemmas.Simd.{trailing_mask_l, leading_from_mask_l, mask_l-mod, length-zip2}
 use Rattle.std.proofs.lemmas.List.{length-drop, drop-drop}
 use Rattle.std.proofs.lemmas.List.Sums.{prefix_len-le-length}
-use Rattle.mm_lex.specs.Stretch.{stretch, ends_here, ends_between, lanes_end}
+use Rattle.mm_lex.specs.Stored.Stretch.{stretch, ends_here, ends_between, lanes_end}
 
 -- ---- one lane
 

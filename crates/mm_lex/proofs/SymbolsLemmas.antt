@@ -8,7 +8,7 @@ use Rattle.mm_lex.specs.declared.span.Span.{Span}
 use Rattle.mm_lex.specs.Alphabet.{Name, is_white, is_visible, starts_white, with_byte, runs_from, word, is_symbol, has_byte}
 use Rattle.mm_lex.specs.Words.{words_of, is_word}
 use Rattle.mm_lex.specs.Tokens.{is_plain, AllPlain, IsClean, words}
-use Rattle.mm_lex.specs.Stretch.{stretch}
+use Rattle.mm_lex.specs.Stored.Stretch.{stretch}
 use Rattle.mm_lex.proofs.WordsLemmas.{and_left, and_right}
 use Rattle.mm_lex.proofs.PlainLemmas.{append_step}
 use Rattle.mm_lex.proofs.TidyLemmas.{is_space, is_symbol_byte, is_tidy, stretch_tidy, space_is, not_white, split_of, split_byte, split_gap, first_byte, behind_gap, behind_byte, tidy_symbols}

@@ -5,7 +5,7 @@ use Rattle.std.proofs.Common.{sym, ◌∙◌, ap, arith}
 use Rattle.std.proofs.lemmas.Bool.{and_from}
 use Rattle.mm_lex.specs.Alphabet.{Name, is_white, is_visible, is_allowed, starts_white, is_symbol, has_byte, is_empty}
 use Rattle.mm_lex.specs.Tokens.{IsClean}
-use Rattle.mm_lex.specs.Stretch.{stretch, ends_here, ends_between}
+use Rattle.mm_lex.specs.Stored.Stretch.{stretch, ends_here, ends_between}
 use Rattle.mm_lex.proofs.WordsLemmas.{and_left, and_right, first_part}
 
 abbrev pub is_space : ℕ → Bool

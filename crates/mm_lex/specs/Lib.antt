@@ -1,10 +1,9 @@
 pub mod Alphabet
 pub mod Words
-pub mod WordBytes
 pub mod Tokens
 pub mod Faults
 pub mod Comments
 pub mod Between
-pub mod Stretch
 pub mod SymbolList
 pub mod Laws
+pub mod Stored

@@ -1,7 +1,7 @@
 //! How far a text goes on as symbols with one space between two, found many bytes at a time.
 ghost use Rattle.std.specs.Prelude.{◌≡◌, ◌+◌, ◌-◌, ◌<◌, ◌≤◌, not, length, take, drop};
 ghost use Rattle.std.specs.List.{prefix_len};
-ghost use Rattle.mm_lex.specs.Stretch.{stretch, ends_here, lanes_end};
+ghost use Rattle.mm_lex.specs.Stored.Stretch.{stretch, ends_here, lanes_end};
 
 use std::simd::prelude::*;
 

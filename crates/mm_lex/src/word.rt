@@ -1,7 +1,7 @@
 //! One word, kept inline where it is short.
 ghost use Rattle.std.specs.Prelude.{◌≡◌, IsTrue, IfOk};
 ghost use Rattle.mm_lex.specs.Words.{is_word};
-ghost use Rattle.mm_lex.specs.WordBytes.{bytes_of, AreCounted};
+ghost use Rattle.mm_lex.specs.Stored.WordBytes.{bytes_of, AreCounted};
 
 use std::alloc::{AllocError, Global};
 use std::marker::Model;
@@ -27,7 +27,7 @@ pub struct Word {
 impl Model for Word {
     ghost use Rattle.std.specs.Prelude.{ℕ, List, IsTrue};
     ghost use Rattle.mm_lex.specs.Words.{is_word};
-    ghost use Rattle.mm_lex.specs.WordBytes.{bytes_of, AreCounted};
+    ghost use Rattle.mm_lex.specs.Stored.WordBytes.{bytes_of, AreCounted};
 
     ghost Value = { List ℕ };
 

@@ -6,12 +6,12 @@ use Rattle.std.proofs.lemmas.List.{length-set, get_or-set_same, get_or-set_other
 use Rattle.std.proofs.lemmas.Option.{same_Some}
 use Rattle.mm_lex.specs.Alphabet.{Name, has_name}
 use Rattle.names.specs.Codes.{name_at, AreDistinct}
-use Rattle.names.specs.Keys.{AreBytes, key_of}
-use Rattle.names.specs.Overflow.{number_of}
+use Rattle.names.specs.Stored.Keys.{AreBytes, key_of}
+use Rattle.names.specs.Stored.Overflow.{number_of}
 use Rattle.names.specs.declared.keys.TheConstants.{APART}
 use Rattle.names.specs.declared.kept.Kept.{Kept}
 use Rattle.names.specs.declared.table.Slot.{Slot}
-use Rattle.names.specs.Table.{IsHeld, IsKept, AreKept, AreFewer, AreHeld, AreFound, IsTable}
+use Rattle.names.specs.Stored.Table.{IsHeld, IsKept, AreKept, AreFewer, AreHeld, AreFound, IsTable}
 use Rattle.names.proofs.CodesLemmas.{code-at, has-at}
 use Rattle.names.proofs.DistinctLemmas.{name_at-more, name_at-last, name_at-take, length-take-below}
 

@@ -3,7 +3,7 @@ use Rattle.std.specs.Prelude.{◌≡◌, ℕ, zero, suc, ◌+◌, ◌-◌, ◌*�
 use Rattle.std.proofs.Common.{sym, ◌∙◌, ap, subst, arith}
 use Rattle.mm_lex.specs.Alphabet.{Name}
 use Rattle.names.specs.declared.keys.TheConstants.{LONG}
-use Rattle.names.specs.Keys.{AreBytes, digits, ends, front_and_back, picked, hint_of, key_of}
+use Rattle.names.specs.Stored.Keys.{AreBytes, digits, ends, front_and_back, picked, hint_of, key_of}
 
 -- the first digit and the others
 digit-same : (a b m n : ℕ) → a < 256 → b < 256 → a + 256 * m ≡ b + 256 * n → (a ≡ b) × (m ≡ n)

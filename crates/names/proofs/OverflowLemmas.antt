@@ -14,8 +14,8 @@ use Rattle.std.proofs.lemmas.Map.Lookups.{exact_unsigned}
 use Rattle.std.proofs.lemmas.Map.Text.{is_eq-slice_cmp}
 use Rattle.std.proofs.lemmas.Slice.Eq.{bytes_eq-Decides}
 use Rattle.mm_lex.specs.Alphabet.{Name}
-use Rattle.names.specs.Keys.{AreBytes, key_of}
-use Rattle.names.specs.Overflow.{number_of}
+use Rattle.names.specs.Stored.Keys.{AreBytes, key_of}
+use Rattle.names.specs.Stored.Overflow.{number_of}
 use Rattle.names.specs.declared.keys.TheConstants.{LONG}
 use Rattle.names.specs.declared.overflow.Overflow.{Overflow}
 use Rattle.names.proofs.KeysLemmas.{key-same}

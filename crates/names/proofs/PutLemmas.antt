@@ -3,13 +3,13 @@ use Rattle.std.specs.Prelude.{◌≡◌, ◌≢◌, ℕ, ◌+◌, ◌<◌, ◌�
 use Rattle.std.proofs.Common.{sym, ◌∙◌, ap, subst, arith, slice_set, length-append}
 use Rattle.mm_lex.specs.Alphabet.{Name, has_name}
 use Rattle.names.specs.Codes.{name_at, AreDistinct}
-use Rattle.names.specs.Keys.{AreBytes, key_of}
-use Rattle.names.specs.Overflow.{number_of}
+use Rattle.names.specs.Stored.Keys.{AreBytes, key_of}
+use Rattle.names.specs.Stored.Overflow.{number_of}
 use Rattle.names.specs.declared.keys.TheConstants.{APART}
 use Rattle.names.specs.declared.kept.Kept.{Kept}
 use Rattle.names.specs.declared.table.Slot.{Slot}
 use Rattle.names.specs.declared.table.TheConstants.{NO_NAME}
-use Rattle.names.specs.Table.{slot_of, IsFree, AreHeld, IsTable}
+use Rattle.names.specs.Stored.Table.{slot_of, IsFree, AreHeld, IsTable}
 use Rattle.names.proofs.DistinctLemmas.{distinct-push, distinct-take, length-take-below, name_at-last}
 use Rattle.names.proofs.TableLemmas.{put-held}
 use Rattle.names.proofs.KeptLemmas.{table-same, held-same, held-more, held-take, kept-push, kept-push_apart, kept-take, held-passed}

@@ -11,9 +11,9 @@ use Rattle.names.specs.declared.table.Slot.{Slot}
 use Rattle.names.specs.declared.table.TheConstants.{NO_NAME, REACH}
 use Rattle.names.specs.declared.kept.Kept.{Kept}
 use Rattle.names.specs.declared.overflow.Overflow.{Overflow}
-use Rattle.names.specs.Overflow.{number_of}
-use Rattle.names.specs.Keys.{key_of}
-use Rattle.names.specs.Table.{half_of, slot_of, place_of, slot_at, IsTaken, IsHeld, AreHeld, AreFound, AreUnused, IsFree, IsPassed}
+use Rattle.names.specs.Stored.Overflow.{number_of}
+use Rattle.names.specs.Stored.Keys.{key_of}
+use Rattle.names.specs.Stored.Table.{half_of, slot_of, place_of, slot_at, IsTaken, IsHeld, AreHeld, AreFound, AreUnused, IsFree, IsPassed}
 use Rattle.names.proofs.CodesLemmas.{code-absent}
 
 same-slot : (slots : List Slot) (key step : ℕ) (s t : Slot) → slot_at slots key step s → slot_at slots key step t → s ≡ t

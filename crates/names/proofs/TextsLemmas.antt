@@ -5,7 +5,7 @@ use Rattle.std.proofs.lemmas.List.{length-drop, length-take-le, take-append-le, 
 use Rattle.std.proofs.Math.Seq.{drop-append_seam}
 use Rattle.std.proofs.lemmas.Option.{same_Some}
 use Rattle.names.specs.Codes.{name_at}
-use Rattle.names.specs.Texts.{cut, start_of, AreLaid}
+use Rattle.names.specs.Stored.Texts.{cut, start_of, AreLaid}
 
 pub cut-length : (xs : List ℕ) (from : ℕ) (ends : List ℕ) → length (cut xs from ends) ≡ length ends
 cut-length xs from [] = refl

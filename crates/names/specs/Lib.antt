@@ -1,5 +1,2 @@
 pub mod Codes
-pub mod Keys
-pub mod Overflow
-pub mod Table
-pub mod Texts
+pub mod Stored

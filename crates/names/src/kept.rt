@@ -2,9 +2,9 @@
 ghost use Rattle.std.specs.Prelude.{◌≡◌, ◌≢◌, ℕ, ◌<◌, ◌≤◌, ◌^◌, length, get_or, slice_set, Some, IfOk, OnOk, OnErr, true};
 ghost use Rattle.mm_lex.specs.Alphabet.{Name};
 ghost use Rattle.names.specs.Codes.{name_at, AreDistinct};
-ghost use Rattle.names.specs.Keys.{AreBytes, key_of};
-ghost use Rattle.names.specs.Overflow.{number_of};
-ghost use Rattle.names.specs.Table.{AreKept};
+ghost use Rattle.names.specs.Stored.Keys.{AreBytes, key_of};
+ghost use Rattle.names.specs.Stored.Overflow.{number_of};
+ghost use Rattle.names.specs.Stored.Table.{AreKept};
 ghost use Rattle.names.specs.declared.keys.TheConstants.{APART};
 
 use crate::keys::{APART, key};

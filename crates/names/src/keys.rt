@@ -1,6 +1,6 @@
 //! A name as a number of 64 bits, by which most names are told apart.
 ghost use Rattle.std.specs.Prelude.{◌≡◌, ◌≢◌, ◌+◌, ◌*◌, ◌^◌, ◌<◌, ◌≤◌, length};
-ghost use Rattle.names.specs.Keys.{AreBytes, digits, picked, mixed, hint_of, key_of};
+ghost use Rattle.names.specs.Stored.Keys.{AreBytes, digits, picked, mixed, hint_of, key_of};
 
 /// From this length on the key of a name is a hint. A shorter name shares its key with no other.
 pub(crate) const LONG: usize = 8;

@@ -26,7 +26,7 @@ pub struct NameTable {
 impl Model for NameTable {
     ghost use Rattle.std.specs.Prelude.{ℕ, List, length, ◌<◌, ◌^◌};
     ghost use Rattle.names.specs.Codes.{AreDistinct};
-    ghost use Rattle.names.specs.Table.{IsTable};
+    ghost use Rattle.names.specs.Stored.Table.{IsTable};
 
     ghost Value = { List (List ℕ) };
 

@@ -1,8 +1,8 @@
 //! Names that found no place in the table.
 ghost use Rattle.std.specs.Prelude.{◌≡◌, ◌≢◌, IsTrue, None, Some, OnOk};
 ghost use Rattle.mm_lex.specs.Alphabet.{Name};
-ghost use Rattle.names.specs.Keys.{AreBytes};
-ghost use Rattle.names.specs.Overflow.{number_of};
+ghost use Rattle.names.specs.Stored.Keys.{AreBytes};
+ghost use Rattle.names.specs.Stored.Overflow.{number_of};
 
 use crate::keys::{LONG, key};
 use std::alloc::{AllocError, Global};

@@ -1,9 +1,9 @@
 //! The table in which the numbers of names are found.
 ghost use Rattle.std.specs.Prelude.{◌≡◌, ◌≢◌, ◌+◌, ◌⊎◌, ℕ, ◌<◌, ◌≤◌, ◌^◌, [], length, get_or, IfOk, OnOk, IfSome, None, true, false};
 ghost use Rattle.names.specs.Codes.{name_at, code_of, AreDistinct};
-ghost use Rattle.names.specs.Keys.{key_of};
-ghost use Rattle.names.specs.Overflow.{number_of};
-ghost use Rattle.names.specs.Table.{half_of, slot_of, place_of, slot_at, AreFound, AreKept, AreFewer, AreHeld, AreUnused, IsFree};
+ghost use Rattle.names.specs.Stored.Keys.{key_of};
+ghost use Rattle.names.specs.Stored.Overflow.{number_of};
+ghost use Rattle.names.specs.Stored.Table.{half_of, slot_of, place_of, slot_at, AreFound, AreKept, AreFewer, AreHeld, AreUnused, IsFree};
 ghost use Rattle.names.specs.declared.keys.TheConstants.{APART};
 ghost use Rattle.names.specs.declared.table.TheConstants.{REACH};
 

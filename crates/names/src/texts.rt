@@ -1,7 +1,7 @@
 //! Texts by number, one behind the other in one buffer.
 ghost use Rattle.std.specs.Prelude.{◌≡◌, ◌+◌, ◌<◌, ◌≤◌, [], ◌∷◌, ◌++◌, take, length, slice_get, Some, IfOk, OnOk, OnErr};
 ghost use Rattle.names.specs.Codes.{name_at};
-ghost use Rattle.names.specs.Texts.{cut, start_of, AreLaid};
+ghost use Rattle.names.specs.Stored.Texts.{cut, start_of, AreLaid};
 
 use std::alloc::{AllocError, Global};
 use std::marker::Model;
@@ -15,7 +15,7 @@ pub struct Texts {
 
 impl Model for Texts {
     ghost use Rattle.std.specs.Prelude.{ℕ, List, length};
-    ghost use Rattle.names.specs.Texts.{cut, AreLaid};
+    ghost use Rattle.names.specs.Stored.Texts.{cut, AreLaid};
 
     ghost Value = { List (List ℕ) };
 

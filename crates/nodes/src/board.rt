@@ -42,7 +42,6 @@ impl<K: Keep<Carried>> Board<K> {
     pub fn offer(&mut self, k: u8, entry: Entry) -> Result<u64, StepFault>
         ensures { IsPlayed (Offer k (record { 0 = entry })) result }
     {
-        let _places = self.switch.history();
         offer_on(&mut self.switch, k, entry)
     }
 
@@ -52,7 +51,6 @@ impl<K: Keep<Carried>> Board<K> {
     pub fn begin(&mut self, k: u8) -> Result<u64, StepFault>
         ensures { IsPlayed (Begin k) result }
     {
-        let _places = self.switch.history();
         begin_on(&mut self.switch, k)
     }
 
@@ -62,7 +60,6 @@ impl<K: Keep<Carried>> Board<K> {
     pub fn restart(&mut self, cell: &mut NodeCell) -> Result<u64, StepFault>
         ensures { IsRestarted cell.old.at result }
     {
-        let _places = self.switch.history();
         restart_on(cell, &mut self.switch)
     }
 

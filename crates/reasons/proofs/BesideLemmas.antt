@@ -14,7 +14,7 @@ use Rattle.frame.specs.Substitution.{CodeImages, image, code_image, code_apply}
 use Rattle.reasons.specs.Images.{named_images, AreVariables}
 use Rattle.reasons.specs.Clashes.{is_kept, is_other_apart, AreBeside}
 use Rattle.reasons.specs.declared.images.Image.{Image}
-use Rattle.reasons.specs.Kept.{AreImages, code_images}
+use Rattle.reasons.specs.Stored.Kept.{AreImages, code_images}
 use Rattle.reasons.proofs.NamedLemmas.{image_same}
 use Rattle.reasons.proofs.ImagesLemmas.{apply-below}
 

@@ -19,7 +19,7 @@ use Rattle.frame.specs.Substitution.{Images, CodeImages, code_apply, apply as ap
 use Rattle.frame.specs.Citations.{expr_at, option_expr}
 use Rattle.reasons.specs.declared.reason.Fault.{Fault}
 use Rattle.reasons.specs.declared.reason.Fault.TheVariants.{Unknown, Inactive, Later, Few, Constant, Expression, Together, Heavy, Unmarked}
-use Rattle.reasons.specs.Kept.{named}
+use Rattle.reasons.specs.Stored.Kept.{named}
 use Rattle.scope.specs.Active.{before}
 use Rattle.frame.specs.FrameOf.{hypotheses}
 use Rattle.reasons.specs.Images.{images_read, named_images, AreVariables}

@@ -5,7 +5,7 @@ use Rattle.std.proofs.Math.Seq.{drop-cons}
 use Rattle.frame.specs.Below.{AreBelow}
 use Rattle.frame.specs.Substitution.{code_image, code_apply}
 use Rattle.reasons.specs.declared.images.Image.{Image}
-use Rattle.reasons.specs.Kept.{code_images, AreImages}
+use Rattle.reasons.specs.Stored.Kept.{code_images, AreImages}
 use Rattle.reasons.proofs.KeptLemmas.{below-append}
 
 -- the entry at i decides where it is for the symbol ..

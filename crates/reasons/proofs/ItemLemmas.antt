@@ -18,7 +18,7 @@ use Rattle.reasons.specs.declared.reason.Fault.{Fault}
 use Rattle.reasons.specs.declared.reason.Fault.TheVariants.{Unknown, Inactive, Later, Few, Constant, Expression, Together, Heavy, Unmarked}
 use Rattle.reasons.specs.declared.reason.Reason.{Reason}
 use Rattle.reasons.specs.declared.reason.Reason.TheVariants as reason
-use Rattle.reasons.specs.Kept.{named, AreSymbols}
+use Rattle.reasons.specs.Stored.Kept.{named, AreSymbols}
 use Rattle.reasons.specs.Steps.{IsRecalled, FailsToRecall}
 use Rattle.reasons.specs.Run.{Held, held, CitesTo, Steps, Runs}
 use Rattle.reasons.specs.FirstFault.{FailsAt, FailsCited, Fails, RunsWell, RunsTo, IsFirstFault, IsAlone, IsEndFault}

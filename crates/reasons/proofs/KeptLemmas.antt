@@ -10,7 +10,7 @@ use Rattle.scope.specs.Active.{stmt_at}
 use Rattle.entries.specs.declared.citation.Hypothesis.{Hypothesis}
 use Rattle.frame.specs.Cited.{AreAsked, IsAsked}
 use Rattle.std.proofs.lemmas.Option.{slice_get_within}
-use Rattle.reasons.specs.Kept.{AreSymbols}
+use Rattle.reasons.specs.Stored.Kept.{AreSymbols}
 
 pub below-append : (n : ℕ) (xs ys : List ℕ) → AreBelow n xs → AreBelow n ys → AreBelow n (xs ++ ys)
 below-append n [] ys h k = k

@@ -15,7 +15,7 @@ use Rattle.frame.specs.Cited.{AreAsked, IsOf}
 use Rattle.frame.specs.Substitution.{CodeImages, code_image, code_apply, image, apply}
 use Rattle.frame.proofs.KindWalk.{same-number}
 use Rattle.reasons.specs.declared.images.Image.{Image}
-use Rattle.reasons.specs.Kept.{codes, code_images, named}
+use Rattle.reasons.specs.Stored.Kept.{codes, code_images, named}
 use Rattle.reasons.specs.Images.{image_at, images_read, code_at, codes_read, named_images, AreVariables}
 use Rattle.frame.proofs.FoundByNumber.{name_at-injective}
 

@@ -17,7 +17,7 @@ use Rattle.frame.specs.Citations.{IsHypothesis}
 use Rattle.reasons.specs.declared.state.State.{State}
 use Rattle.reasons.specs.declared.reason.Fault.{Fault}
 use Rattle.reasons.specs.declared.reason.Fault.TheVariants.{Unknown, Inactive, Later, Few, Constant, Expression, Together, Heavy, Unmarked}
-use Rattle.reasons.specs.Kept.{named}
+use Rattle.reasons.specs.Stored.Kept.{named}
 use Rattle.reasons.specs.Images.{image_at, images_read}
 use Rattle.reasons.specs.Steps.{IsPushed}
 use Rattle.reasons.specs.Concluded.{AreTaken, images_of, IsWrong}

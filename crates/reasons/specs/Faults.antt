@@ -18,7 +18,7 @@ use Rattle.reasons.specs.declared.reason.Fault.{Fault}
 use Rattle.reasons.specs.declared.reason.Fault.TheVariants.{Constant, Expression}
 use Rattle.frame.specs.Parts.{Numbered}
 use Rattle.reasons.specs.declared.images.Image.{Image}
-use Rattle.reasons.specs.Kept.{named, code_images}
+use Rattle.reasons.specs.Stored.Kept.{named, code_images}
 use Rattle.reasons.specs.Images.{images_read, named_images, AreVariables}
 
 -- what the hypothesis at p asks for, the images put in

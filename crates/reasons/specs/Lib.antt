@@ -1,4 +1,3 @@
-pub mod Kept
 pub mod Images
 pub mod Clashes
 pub mod Faults
@@ -6,3 +5,4 @@ pub mod Steps
 pub mod Concluded
 pub mod Run
 pub mod FirstFault
+pub mod Stored

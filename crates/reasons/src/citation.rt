@@ -5,7 +5,7 @@ ghost use Rattle.frame.specs.Below.{AreBelow};
 ghost use Rattle.frame.specs.FrameOf.{HasAssertion, hypotheses};
 ghost use Rattle.frame.specs.Cited.{IsCited};
 ghost use Rattle.frame.specs.Reading.{AreLegal};
-ghost use Rattle.reasons.specs.Kept.{AreSymbols, AreImages, CountIs, named};
+ghost use Rattle.reasons.specs.Stored.Kept.{AreSymbols, AreImages, CountIs, named};
 ghost use Rattle.reasons.specs.Faults.{IsSaid, IsMismatch, FitsAll, AreReadOff};
 ghost use Rattle.scope.specs.Active.{before, stmt_at};
 ghost use Rattle.reasons.specs.Run.{CitesTo, held};

@@ -5,7 +5,7 @@ ghost use Rattle.names.specs.Codes.{AreDistinct, name_at, decode};
 ghost use Rattle.frame.specs.Below.{AreBelow, AllBelow};
 ghost use Rattle.frame.specs.Disjoint.{are_apart, is_group_apart, are_groups_apart};
 ghost use Rattle.frame.specs.Substitution.{code_image};
-ghost use Rattle.reasons.specs.Kept.{AreImages, code_images};
+ghost use Rattle.reasons.specs.Stored.Kept.{AreImages, code_images};
 ghost use Rattle.reasons.specs.Images.{named_images, AreVariables};
 ghost use Rattle.reasons.specs.Clashes.{IsClash, IsClashIn, IsClashWith, is_kept, is_other_apart, IsUnpairedIn, AreShared, AreBeside};
 

@@ -2,7 +2,7 @@
 ghost use Rattle.std.specs.Prelude.{◌≡◌, ℕ, ◌<◌, ◌≤◌, ◌+◌, ◌^◌, ◌∷◌, [], length, drop, IfOk, MatchOption};
 ghost use Rattle.frame.specs.Below.{AreBelow};
 ghost use Rattle.frame.specs.Substitution.{code_image, code_apply};
-ghost use Rattle.reasons.specs.Kept.{codes, AreSymbols, AreImages, code_images};
+ghost use Rattle.reasons.specs.Stored.Kept.{codes, AreSymbols, AreImages, code_images};
 ghost use Rattle.reasons.specs.Images.{codes_read};
 
 use entries::Hypothesis;

@@ -5,7 +5,7 @@ ghost use Rattle.mm_read.specs.declared.stmt.Stmt.{Stmt as Statement};
 ghost use Rattle.scope.specs.Active.{stmt_at, expr_of};
 ghost use Rattle.frame.specs.Reading.{ArePositions};
 ghost use Rattle.proof_code.specs.Numbers.{item_of};
-ghost use Rattle.reasons.specs.Kept.{AreSymbols};
+ghost use Rattle.reasons.specs.Stored.Kept.{AreSymbols};
 ghost use Rattle.reasons.specs.Run.{Steps, held};
 ghost use Rattle.reasons.specs.FirstFault.{Fails, RunsTo, IsFirstFault, IsAlone, IsEndFault};
 ghost use Rattle.reasons.specs.declared.state.TheConstants.{WEIGHT_LIMIT};

@@ -19,7 +19,7 @@ pub struct State {
 
 impl State {
     ghost use Rattle.frame.specs.Below.{AreBelow};
-    ghost use Rattle.reasons.specs.Kept.{AreSymbols};
+    ghost use Rattle.reasons.specs.Stored.Kept.{AreSymbols};
     ghost use Rattle.reasons.specs.Steps.{IsPushed, IsMarkedOf, IsRecalled, FailsToRecall};
 
     /// Nothing yet.

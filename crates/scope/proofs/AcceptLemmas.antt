@@ -15,7 +15,7 @@ use Rattle.scope.specs.Legal.{broken_rule}
 use Rattle.names.specs.Codes.{with_names, numbers_in, number_in, AreNamed}
 use Rattle.scope.specs.Numbering.{names_of, can_push}
 use Rattle.scope.specs.Kinds.{Declared, declared_names, kind_in, with_kind, with_kinds, is_label_kind, IsLabelled}
-use Rattle.scope.specs.Kept.{IsKept}
+use Rattle.scope.specs.Stored.Kept.{IsKept}
 use Rattle.scope.specs.Symbols.{symbols_of, symbols_by}
 use Rattle.scope.specs.declared.sizes.Sizes.{Sizes}
 use Rattle.scope.specs.declared.numbering.Kind.{Kind}

@@ -11,7 +11,7 @@ use Rattle.scope.specs.Active.{count, constants, variables, label_of, has_label}
 use Rattle.names.specs.Codes.{with_names}
 use Rattle.scope.specs.Numbering.{names_of, declared_by}
 use Rattle.scope.specs.Kinds.{Declared, declared_names, kind_in, Tells, TellsAll, with_kinds, is_label_kind, is_constant_kind, is_variable_kind}
-use Rattle.scope.specs.Kept.{IsMarked}
+use Rattle.scope.specs.Stored.Kept.{IsMarked}
 use Rattle.scope.specs.declared.sizes.Sizes.{Sizes}
 use Rattle.scope.specs.declared.numbering.Kind.{Kind}
 use Rattle.scope.specs.declared.numbering.Kind.TheVariants.{Label, Constant, Variable}

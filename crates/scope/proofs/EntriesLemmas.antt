@@ -3,7 +3,7 @@ use Rattle.std.specs.Prelude.{◌≡◌, ℕ, zero, suc, ◌+◌, ◌-◌, ◌�
 use Rattle.std.proofs.Common.{◌∙◌, ap, sym, arith}
 use Rattle.std.proofs.lemmas.List.{length-map}
 use Rattle.mm_lex.specs.Alphabet.{Name}
-use Rattle.scope.specs.Entries.{kinds_of, behind, AreCounted, count_behind}
+use Rattle.scope.specs.Stored.Entries.{kinds_of, behind, AreCounted, count_behind}
 use Rattle.scope.specs.Kinds.{declared_symbols, symbols_before, with_their, is_symbol_kind}
 use Rattle.scope.specs.declared.numbering.Entry.{Entry}
 use Rattle.scope.specs.declared.numbering.Kind.{Kind}

@@ -14,7 +14,7 @@ use Rattle.scope.specs.Legal.{all_different}
 use Rattle.names.specs.Codes.{numbers_in, number_in, AreNamed}
 use Rattle.scope.specs.Numbering.{names_of, can_push}
 use Rattle.scope.specs.Kinds.{Declared, declared_symbols, kind_in, TellsAll, is_label_kind, is_constant_kind}
-use Rattle.scope.specs.Kept.{sizes_of, blocks_of, IsKept}
+use Rattle.scope.specs.Stored.Kept.{sizes_of, blocks_of, IsKept}
 use Rattle.scope.specs.declared.sizes.Sizes.{Sizes}
 use Rattle.scope.specs.declared.numbering.Kind.{Kind}
 use Rattle.scope.proofs.ActiveLemmas.{active_from-later, below-deficit, no_deficit, deficit, deficit-append, left_open}

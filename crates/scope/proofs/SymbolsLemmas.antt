@@ -12,7 +12,7 @@ use Rattle.mm_read.specs.Statements.{Database, Expr}
 use Rattle.scope.specs.Active.{bare}
 use Rattle.names.specs.Codes.{name_at, decode, with_name, with_names, AreCodes}
 use Rattle.scope.specs.Kinds.{Declared, declared_names, declared_symbols, symbols_before, kind_in, with_kind, with_kinds, is_label_kind, is_symbol_kind}
-use Rattle.scope.specs.Noted.{IsNumberOf, AreNoted, IsAppended, IsOfLast}
+use Rattle.scope.specs.Stored.Noted.{IsNumberOf, AreNoted, IsAppended, IsOfLast}
 use Rattle.scope.specs.Symbols.{symbols_by, symbols_from, symbols_of, symbols_in}
 use Rattle.scope.specs.declared.numbering.Kind.{Kind}
 use Rattle.scope.specs.declared.numbering.Kind.TheVariants.{Label, Constant, Variable}

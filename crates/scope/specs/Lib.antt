@@ -4,9 +4,7 @@ pub mod Accepted
 pub mod Numbering
 pub mod Kinds
 pub mod Standing
-pub mod Kept
 pub mod Sorts
 pub mod Laws
 pub mod Symbols
-pub mod Entries
-pub mod Noted
+pub mod Stored

@@ -4,7 +4,7 @@ ghost use Rattle.std.specs.List.{list_all, list_any};
 ghost use Rattle.mm_lex.specs.Alphabet.{has_name};
 ghost use Rattle.mm_read.specs.declared.stmt.Stmt.TheVariants as shape;
 ghost use Rattle.scope.specs.Active.{bare, active};
-ghost use Rattle.scope.specs.Kept.{sizes_of};
+ghost use Rattle.scope.specs.Stored.Kept.{sizes_of};
 ghost use Rattle.scope.specs.Kinds.{Declared, declared_names, kind_in, with_kind, with_kinds, IsLabelled};
 ghost use Rattle.scope.specs.Legal.{IsLegal};
 ghost use Rattle.scope.specs.declared.numbering.Kind.TheVariants as shape_kind;

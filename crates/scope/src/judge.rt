@@ -30,7 +30,7 @@ pub(crate) struct Judge {
 
 impl Model for Judge {
     ghost use Rattle.scope.specs.Accepted.{Accepted};
-    ghost use Rattle.scope.specs.Kept.{IsScope};
+    ghost use Rattle.scope.specs.Stored.Kept.{IsScope};
 
     ghost Value = { Accepted };
 

@@ -6,7 +6,7 @@ ghost use Rattle.mm_read.specs.Statements.{Expr};
 ghost use Rattle.mm_read.specs.declared.stmt.Stmt.TheVariants as stmt;
 ghost use Rattle.scope.specs.Active.{bare, active_variables, typed_variables, is_constant, is_variable, was_label, was_symbol, is_closed, count, is_open, is_close};
 ghost use Rattle.scope.specs.Legal.{all_different, are_typed, starts_with_constant, broken_rule};
-ghost use Rattle.scope.specs.Noted.{IsNumberOf, AreNoted, IsOfLast};
+ghost use Rattle.scope.specs.Stored.Noted.{IsNumberOf, AreNoted, IsOfLast};
 ghost use Rattle.scope.specs.Sorts.{IsSort, is_symbol_sort, sort_by, sorts_rule};
 ghost use Rattle.names.specs.Codes.{numbers_in};
 ghost use Rattle.scope.specs.Numbering.{names_of};

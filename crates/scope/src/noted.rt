@@ -1,6 +1,6 @@
 //! The numbers of a statement's symbols, noted while it is judged.
 ghost use Rattle.std.specs.Prelude.{◌≡◌, None, Some, [], IfSome, is_some};
-ghost use Rattle.scope.specs.Noted.{IsAppended};
+ghost use Rattle.scope.specs.Stored.Noted.{IsAppended};
 
 use std::alloc::Global;
 use std::marker::Model;

@@ -23,7 +23,7 @@ pub struct Scope {
 
 impl Model for Scope {
     ghost use Rattle.scope.specs.Accepted.{Accepted};
-    ghost use Rattle.scope.specs.Noted.{IsOfLast};
+    ghost use Rattle.scope.specs.Stored.Noted.{IsOfLast};
 
     ghost Value = { Accepted };
 

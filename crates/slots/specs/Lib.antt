@@ -1,2 +1,2 @@
 pub mod FiniteMap
-pub mod Pages
+pub mod Stored

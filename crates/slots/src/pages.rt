@@ -1,7 +1,7 @@
 //! Pages, one behind the other, seen as one list of slots.
 ghost use Rattle.std.specs.Prelude.{◌≡◌, ◌<◌, ◌*◌, ◌++◌, [], Some, None, IfOk, OnOk, OnErr, length, slice_set, replicate, MatchOption};
 ghost use Rattle.slots.specs.FiniteMap.{entry_at};
-ghost use Rattle.slots.specs.Pages.{joined, AreWhole};
+ghost use Rattle.slots.specs.Stored.Pages.{joined, AreWhole};
 
 use crate::page::{PAGE_SLOTS, Page};
 use std::alloc::{AllocError, Global};
@@ -16,7 +16,7 @@ pub struct Pages<T> {
 
 impl<T> Model for Pages<T> {
     ghost use Rattle.std.specs.Prelude.{List, Option};
-    ghost use Rattle.slots.specs.Pages.{joined, AreWhole};
+    ghost use Rattle.slots.specs.Stored.Pages.{joined, AreWhole};
 
     ghost Value = { List (Option T) };
 

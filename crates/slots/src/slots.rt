@@ -21,7 +21,7 @@ pub struct Slots<T> {
 impl<T> Model for Slots<T> {
     ghost use Rattle.std.specs.Prelude.{length};
     ghost use Rattle.slots.specs.FiniteMap.{SlotsView, trimmed};
-    ghost use Rattle.slots.specs.Pages.{AreSlots};
+    ghost use Rattle.slots.specs.Stored.Pages.{AreSlots};
 
     ghost Value = { SlotsView T };
 

@@ -34,7 +34,7 @@ use Rattle.verify.proofs.PlanLemmas.{below-take}
 use Rattle.steps.specs.StepTable.{Step, IsPlaced, stands, comes_last, of_hypothesis as makes_hypothesis, of_assertion as makes_assertion, Notes}
 use Rattle.steps.specs.Rows.{Row, no_row, expr_in, Follows, from_hypothesis, from_assertion, AreRows}
 use Rattle.steps.specs.StepTable as table
-use Rattle.steps.specs.Drafted.{row_of, rows_of, codes_in, progress_of, IsDraft, IsTied, GivesHypothesis, GivesAssertion}
+use Rattle.steps.specs.Stored.Drafted.{row_of, rows_of, codes_in, progress_of, IsDraft, IsTied, GivesHypothesis, GivesAssertion}
 use Rattle.steps.specs.declared.draft.Draft.{Draft}
 use Rattle.steps.proofs.PlacingLemmas.{found-draft, found-placed, found-tied, made-draft, made-placed, made-tied}
 use Rattle.frame.proofs.FoundByNumber.{some-same}

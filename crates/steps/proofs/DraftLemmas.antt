@@ -5,7 +5,7 @@ use Rattle.frame.specs.Below.{AreBelow}
 use Rattle.subst.specs.Places.{seen_at, AreWithin}
 use Rattle.steps.specs.declared.draft.PlacedStep.{PlacedStep}
 use Rattle.steps.specs.Rows.{no_row}
-use Rattle.steps.specs.Drafted.{row_of, place_in, AreInBuffer}
+use Rattle.steps.specs.Stored.Drafted.{row_of, place_in, AreInBuffer}
 
 pub place-get : (ps : List PlacedStep) (k : ℕ) (d : PlacedStep) → k < length ps → (get_or ps k d).place ≡ place_in ps k
 place-get [] k d h = absurd (omega (arith, h))

@@ -17,7 +17,7 @@ use Rattle.verify.proofs.Decide.{append_cut}
 use Rattle.verify.proofs.PlaceLemmas.{get-map}
 use Rattle.steps.specs.StepTable.{Progress}
 use Rattle.steps.specs.Rows.{steps_of, expr_in, AreRows}
-use Rattle.steps.specs.Drafted.{row_of, rows_of, AreInBuffer, AreKnown, IsDraft, IsTied, CanDo, IsDone}
+use Rattle.steps.specs.Stored.Drafted.{row_of, rows_of, AreInBuffer, AreKnown, IsDraft, IsTied, CanDo, IsDone}
 use Rattle.steps.specs.declared.draft.Draft.{Draft}
 use Rattle.frame.proofs.StoredOneMore.{map-push}
 use Rattle.frame.proofs.NumberLemmas.{below-push}

@@ -7,7 +7,7 @@ use Rattle.mm_read.specs.Statements.{Database}
 use Rattle.frame.specs.Below.{AreBelow}
 use Rattle.steps.specs.StepTable.{Step}
 use Rattle.steps.specs.Essential.{essential_of, IsIn, IsEssential, is_last, is_taken}
-use Rattle.steps.specs.Marked.{HasMark, mark_last, mark_each, MarksMore, AreMarkedFrom, AreMarks}
+use Rattle.steps.specs.Stored.Marked.{HasMark, mark_last, mark_each, MarksMore, AreMarkedFrom, AreMarks}
 use Rattle.verify.proofs.PlanLemmas.{below-get}
 
 pub from-or-at : (p j : ℕ) → p ≤ j → (j ≡ p) ⊎ (suc p ≤ j)

@@ -7,7 +7,7 @@ use Rattle.std.proofs.lemmas.Option.{slice_get-get_or, get_or_from_slice_get}
 use Rattle.mm_read.specs.Statements.{Database}
 use Rattle.steps.specs.Rows.{Row, no_row, steps_of}
 use Rattle.steps.specs.Essential.{essential_of, IsEssential, is_taken, IsRenumbered, AreEssential}
-use Rattle.steps.specs.Marked.{HasMark, AreMarks, marked_before, number_of, AreNumbers, kept_row}
+use Rattle.steps.specs.Stored.Marked.{HasMark, AreMarks, marked_before, number_of, AreNumbers, kept_row}
 use Rattle.steps.proofs.RowLemmas.{some-front, some-more, some-last, step-at}
 use Rattle.steps.proofs.MarkLemmas.{from-or-at}
 use Rattle.frame.proofs.OneFrameLemmas.{low-or-not}

@@ -12,8 +12,8 @@ use Rattle.verify.specs.Machine.{State, with_result}
 use Rattle.frame.proofs.PositionLemmas.{get-last}
 use Rattle.steps.specs.StepTable.{Step, IsPlaced, stands, comes_last}
 use Rattle.steps.specs.Rows.{Row, no_row, steps_of, expr_in, Follows, AreRows}
-use Rattle.steps.specs.Drafted as drafted
-use Rattle.steps.specs.Drafted.{row_of, rows_of, codes_in, key_of, progress_of, IsDraft, IsTied, Finds, GivesHypothesis, GivesAssertion}
+use Rattle.steps.specs.Stored.Drafted as drafted
+use Rattle.steps.specs.Stored.Drafted.{row_of, rows_of, codes_in, key_of, progress_of, IsDraft, IsTied, Finds, GivesHypothesis, GivesAssertion}
 use Rattle.steps.specs.declared.draft.Draft.{Draft}
 use Rattle.steps.proofs.RowLemmas.{rows-more, buffer-snoc, row-at, exprs-front, rows-snoc, known-snoc}
 use Rattle.frame.proofs.StoredOneMore.{map-push}

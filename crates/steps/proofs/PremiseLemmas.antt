@@ -18,7 +18,7 @@ use Rattle.verify.proofs.AskedLemmas.{asked-lengths}
 use Rattle.verify.proofs.Decide.{length-premises, not_both}
 use Rattle.steps.specs.Rows.{Row, no_row, expr_in, Follows, from_hypothesis, from_assertion, AreRows}
 use Rattle.steps.specs.Essential.{is_premise, for_premises, mandatory, essential_of}
-use Rattle.steps.specs.Marked.{taken_by}
+use Rattle.steps.specs.Stored.Marked.{taken_by}
 use Rattle.frame.proofs.FoundByNumber.{some-same}
 
 -- the parts of the assertion tell which hypotheses are `$e`

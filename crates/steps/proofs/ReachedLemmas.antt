@@ -16,7 +16,7 @@ use Rattle.verify.proofs.LawsHold.{spellings_run}
 use Rattle.verify.proofs.StepLemmas.{items-more, all-taken}
 use Rattle.steps.specs.StepTable.{progress, NotesAll, AreSteps}
 use Rattle.steps.specs.Rows.{steps_of, expr_in}
-use Rattle.steps.specs.Drafted.{row_of, rows_of, progress_of, IsTied, CanDo, IsDone}
+use Rattle.steps.specs.Stored.Drafted.{row_of, rows_of, progress_of, IsTied, CanDo, IsDone}
 use Rattle.steps.specs.declared.draft.Draft.{Draft}
 use Rattle.steps.proofs.SoundLemmas.{notes-sound, notes-snoc, nothing-sound, root-last}
 use Rattle.frame.proofs.FoundByNumber.{some-same}

@@ -16,7 +16,7 @@ use Rattle.frame.proofs.PositionLemmas.{get-front}
 use Rattle.steps.specs.declared.draft.PlacedStep.{PlacedStep}
 use Rattle.steps.specs.StepTable.{Step}
 use Rattle.steps.specs.Rows.{Row, row, no_row, steps_of, expr_in, Follows, from_hypothesis, from_assertion, IsRow, AreRows}
-use Rattle.steps.specs.Drafted.{row_of, key_of, place_of, AreKnown, AreInBuffer}
+use Rattle.steps.specs.Stored.Drafted.{row_of, key_of, place_of, AreKnown, AreInBuffer}
 use Rattle.frame.proofs.NumberLemmas.{below-more}
 use Rattle.frame.proofs.StoredOneMore.{map-push}
 

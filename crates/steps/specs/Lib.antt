@@ -1,7 +1,6 @@
 pub mod StepTable
 pub mod Rows
 pub mod Essential
-pub mod Marked
 pub mod Unfolded
-pub mod Drafted
 pub mod Laws
+pub mod Stored

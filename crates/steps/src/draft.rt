@@ -6,7 +6,7 @@ ghost use Rattle.entries.specs.declared.citation.Hypothesis.TheVariants.{Float};
 ghost use Rattle.frame.specs.Below.{AreBelow};
 ghost use Rattle.verify.specs.Fits.{AreDifferent, IsTyped};
 ghost use Rattle.verify.specs.Places.{top};
-ghost use Rattle.steps.specs.Drafted.{IsDraft, AreHeld, Adds, GivesHypothesis, GivesAssertion, place_in, codes_in};
+ghost use Rattle.steps.specs.Stored.Drafted.{IsDraft, AreHeld, Adds, GivesHypothesis, GivesAssertion, place_in, codes_in};
 
 use crate::concluding::conclude;
 use crate::known::{find, keep, key};

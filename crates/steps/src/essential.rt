@@ -3,7 +3,7 @@ ghost use Rattle.std.specs.Prelude.{◌≡◌, suc, ◌<◌, ◌≤◌, IfOk, On
 ghost use Rattle.frame.specs.Below.{AreBelow};
 ghost use Rattle.steps.specs.Rows.{no_row, steps_of, AreRows};
 ghost use Rattle.steps.specs.Essential.{essential_of, AreEssential};
-ghost use Rattle.steps.specs.Marked.{taken_by, mark_each, mark_last, AreMarkedFrom, AreMarks};
+ghost use Rattle.steps.specs.Stored.Marked.{taken_by, mark_each, mark_last, AreMarkedFrom, AreMarks};
 
 use crate::noting::cited_at;
 use crate::table::ProofTable;

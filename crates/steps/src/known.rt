@@ -1,6 +1,6 @@
 //! Steps found again, by what they cite and what they take.
 ghost use Rattle.std.specs.Prelude.{◌≡◌, ◌≢◌, ℕ, ◌∷◌, List, None, Some, IfOk, OnOk};
-ghost use Rattle.steps.specs.Drafted.{place_of};
+ghost use Rattle.steps.specs.Stored.Drafted.{place_of};
 
 use std::alloc::{AllocError, Global};
 use std::collections::BTreeMap;

@@ -9,7 +9,7 @@ ghost use Rattle.frame.specs.FrameOf.{HasAssertion};
 ghost use Rattle.frame.specs.Reading.{ArePositions, AreLegal};
 ghost use Rattle.proof_code.specs.declared.item.Item.TheVariants.{Cite, Recall, Mark};
 ghost use Rattle.proof_code.specs.Numbers.{item_of};
-ghost use Rattle.steps.specs.Drafted.{IsDraft, CanDo, IsDone};
+ghost use Rattle.steps.specs.Stored.Drafted.{IsDraft, CanDo, IsDone};
 
 use crate::draft::{Draft, cite_hypothesis, cite_parts};
 use entries::Cited;

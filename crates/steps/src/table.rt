@@ -25,7 +25,7 @@ pub struct ProofTable {
 impl Model for ProofTable {
     ghost use Rattle.std.specs.Prelude.{List, length, map};
     ghost use Rattle.steps.specs.Rows.{Row};
-    ghost use Rattle.steps.specs.Drafted.{row_of, AreInBuffer};
+    ghost use Rattle.steps.specs.Stored.Drafted.{row_of, AreInBuffer};
 
     ghost Value = { List Row };
 

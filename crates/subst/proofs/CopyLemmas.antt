@@ -8,7 +8,7 @@ use lib.Lanes.{chunk, put_chunk}
 use Rattle.frame.specs.Substitution.{code_image, code_apply}
 use Rattle.subst.specs.declared.place.ExpressionPlace.{ExpressionPlace}
 use Rattle.subst.specs.Places.{seen_at, images_at, AreInside}
-use Rattle.subst.specs.Written.{IsWritten, LacksRoom}
+use Rattle.subst.specs.Stored.Written.{IsWritten, LacksRoom}
 use Rattle.subst.proofs.ApplyLemmas.{apply-take, len-take, len-within}
 use Rattle.subst.proofs.PlaceLemmas.{length-seen}
 use Rattle.subst.proofs.ImagePlacesLemmas.{image-more}

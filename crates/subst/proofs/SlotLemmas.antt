@@ -5,7 +5,7 @@ use Rattle.std.proofs.Common.{sym, ◌∙◌, ap, arith}
 use Rattle.std.proofs.lemmas.Bool.Decides.{nat_tests}
 use Rattle.subst.specs.declared.place.ExpressionPlace.{ExpressionPlace}
 use Rattle.subst.specs.declared.image_places.Slot.{Slot}
-use Rattle.subst.specs.Slots.{placed, AreUpTo}
+use Rattle.subst.specs.Stored.Slots.{placed, AreUpTo}
 
 abbrev pub slot_of : ℕ → List Slot → ℕ → Option ExpressionPlace
 slot_of round [] x = None

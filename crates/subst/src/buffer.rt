@@ -2,7 +2,7 @@
 ghost use Rattle.std.specs.Prelude.{◌≡◌, [], ◌++◌, ◌+◌, ◌≤◌, ◌↔◌, length, take, IfOk, OnOk, OnErr, IsTrue};
 ghost use Rattle.frame.specs.Substitution.{code_apply};
 ghost use Rattle.subst.specs.Places.{images_at, AreInside};
-ghost use Rattle.subst.specs.Written.{Appends};
+ghost use Rattle.subst.specs.Stored.Written.{Appends};
 
 use crate::copies::put_expr;
 use crate::filling::{fill_growing, make_room};

@@ -1,7 +1,7 @@
 //! Symbols copied within one buffer, eight at once.
 ghost use Rattle.std.specs.Prelude.{◌≡◌, ◌+◌, ◌≤◌, ◌++◌, ◌∷◌, [], length, take, drop, IfSome, IfNone};
 ghost use Rattle.subst.specs.Places.{seen_at};
-ghost use Rattle.subst.specs.Written.{IsWritten, LacksRoom};
+ghost use Rattle.subst.specs.Stored.Written.{IsWritten, LacksRoom};
 
 use crate::place::ExpressionPlace;
 use std::simd::prelude::*;

@@ -2,7 +2,7 @@
 ghost use Rattle.std.specs.Prelude.{◌≡◌, ◌+◌, ◌<◌, ◌≤◌, length, take, IfOk, IfSome, IfNone, OnOk};
 ghost use Rattle.frame.specs.Substitution.{code_image, code_apply};
 ghost use Rattle.subst.specs.Places.{images_at, AreInside};
-ghost use Rattle.subst.specs.Written.{IsWritten, LacksRoom};
+ghost use Rattle.subst.specs.Stored.Written.{IsWritten, LacksRoom};
 
 use crate::copies::{LANES, copy_place, put_symbol};
 use crate::image_places::ImagePlaces;

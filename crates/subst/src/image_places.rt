@@ -32,7 +32,7 @@ pub struct ImagePlaces {
 impl Model for ImagePlaces {
     ghost use Rattle.std.specs.Prelude.{ℕ, ◌≤◌, List};
     ghost use Rattle.subst.specs.declared.place.ExpressionPlace.{ExpressionPlace};
-    ghost use Rattle.subst.specs.Slots.{placed, AreUpTo};
+    ghost use Rattle.subst.specs.Stored.Slots.{placed, AreUpTo};
 
     ghost Value = { List (ℕ × ExpressionPlace) };
 

@@ -28,7 +28,7 @@ use Rattle.net.proofs.TakenLemmas.{set_same}
 use Rattle.switch.specs.Seat.{Standing, up, down, Seated, owed_in, change_owed, posts_owed, IsRecordOf, IsWithOrWithout, Fails}
 use Rattle.switch.specs.Switch.{Place, Shared, event_owed, standing_seen, place_of, places_of, IsOwing, IsSeat, IsSwitch, CanTakeOwed, TakesOwed, world_of, change_due, is_down_at, events_due, with_place, RevivesAt, ActsDown}
 use Rattle.switch.proofs.KeepLemmas.{with_either, either_twice}
-use Rattle.switch.proofs.SeatsLemmas.{places_of-set, place_at, seat_in, down_at}
+use Rattle.switch.proofs.SeatsLemmas.{places_of-set, place_at, seat_in, down_at, few_due, posts_then}
 use Rattle.switch.proofs.SwitchLemmas.{shared, core_node, own_number, own_weights, other_seat, at, node_is, committed, change_told, changes}
 use Rattle.switch.proofs.CallLemmas.{shared_is, of_world}
 
@@ -204,10 +204,6 @@ module _ {V : Type 0} (size : V → ℕ) (net : NetView V) (seats : List (Seated
     kept_m : new.kept ≡ kept_of core_m.0.node
     kept_m = subst (λ (s : Standing (Due V)). IsRecordOf core_m.0.node s new.kept) new_up (hm.each k core_m.0.node new node_m new_at).fits
 
-    few_due : (x : Option (Event V)) → length (events_due x) ≤ 1
-    few_due None = omega arith
-    few_due (Some x) = omega arith
-
     pub low_m : length m.taken.events < MOST_EVENTS
     low_m =
         let count = ap (λ (es : List (Event V)). length es) mid.2 in
@@ -234,10 +230,6 @@ module _ {V : Type 0} (size : V → ℕ) (net : NetView V) (seats : List (Seated
     step_then : (work : Work V) (kept : Kept V) → IsOfEvent (Restart j) work → kept ≡ new.kept → restarted core_m.0.node ≡ step_of (loads work kept) core_m.0.node
     step_then (steps made) kept q same = elim q [ ]
     step_then (restarts posts loaded) kept q same = ap (λ (x : Kept V). reloaded core_m.0.node x) (sym (same ∙ kept_m))
-
-    posts_then : (work : Work V) (kept : Kept V) → posts_of (loads work kept) ≡ posts_of work
-    posts_then (steps made) kept = refl
-    posts_then (restarts posts loaded) kept = refl
 
     module _ (kept : Kept V) (same_kept : kept ≡ changed_by seat.kept (change_owed (owed_in seat.standing))) where
       is_new_kept : kept ≡ new.kept

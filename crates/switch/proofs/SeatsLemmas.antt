@@ -1,14 +1,14 @@
 -- Seats and their places, one after another and one by one.
-use Rattle.std.proofs.Common.{◌≡◌, ◌≢◌, ℕ, zero, suc, ◌+◌, ◌<◌, ◌==◌, Bool, true, false, List, [], ◌∷◌, ◌++◌, length, get_or, remove, set, slice_get, slice_index_or, Option, Some, None, refl, ap, sym, ◌∙◌, subst, arith, append_assoc, append-nil, le_of_suc-le-suc}
+use Rattle.std.proofs.Common.{◌≡◌, ◌≢◌, ℕ, zero, suc, ◌+◌, ◌<◌, ◌≤◌, ◌==◌, Bool, true, false, List, [], ◌∷◌, ◌++◌, length, get_or, remove, set, slice_get, slice_index_or, Option, Some, None, refl, ap, sym, ◌∙◌, subst, arith, append_assoc, append-nil, le_of_suc-le-suc}
 use Rattle.std.specs.List.{AllByRecursion}
 use Rattle.std.proofs.lemmas.Bool.Decides.{nat_tests}
 use Rattle.synod.specs.Record.{Kept, new_kept}
 use Rattle.synod.specs.Node.{Node}
 use Rattle.net.specs.declared.event.Event.{Event}
-use Rattle.net.specs.Due.{Due}
+use Rattle.net.specs.Due.{Work, steps, restarts, Due, posts_of, loads}
 use Rattle.net.proofs.Lists.{at_set, at_set_other}
 use Rattle.switch.specs.Seat.{Standing, up, down, Seated}
-use Rattle.switch.specs.Switch.{Place, standing_seen, place_of, places_of, new_places, new_seats, is_down, is_down_place, is_down_at}
+use Rattle.switch.specs.Switch.{Place, standing_seen, place_of, places_of, new_places, new_seats, is_down, is_down_place, is_down_at, events_due}
 
 pub places_of-set : {V : Type 0} (seats : List (Seated V)) (k : ℕ) (seat : Seated V) → places_of (set seats k seat) ≡ set (places_of seats) k (place_of seat)
 places_of-set [] k seat = refl
@@ -116,3 +116,13 @@ new_at {V} kept failures (keep ∷ keeps) h zero seat at =
     let same : first ≡ seat = cc in
     (ap (λ (s : Seated V). s.kept) (sym same) ∙ h.0, ap (λ (s : Seated V). s.standing) (sym same))
 new_at kept failures (keep ∷ keeps) h (suc k) seat at = new_at kept failures keeps h.1 k seat at
+
+-- at most one event is owed
+pub few_due : {V : Type 0} (x : Option (Event V)) → length (events_due x) ≤ 1
+few_due None = omega arith
+few_due (Some x) = omega arith
+
+-- a record that is loaded changes no posts
+pub posts_then : {V : Type 0} (work : Work V) (kept : Kept V) → posts_of (loads work kept) ≡ posts_of work
+posts_then (steps made) kept = refl
+posts_then (restarts posts loaded) kept = refl

@@ -2,7 +2,7 @@
 ghost use Rattle.std.specs.Prelude.{◌≡◌, Some, IsOk};
 ghost use Rattle.std.specs.Result.{ForOk};
 ghost use Rattle.net.specs.declared.event.Event.TheVariants.{Offer, Begin, Deliver};
-ghost use Rattle.switch.specs.Switch.{Acts, due, world_of};
+ghost use Rattle.switch.specs.Switch.{Acts, ArePlaces, due, world_of};
 ghost use Rattle.switch.specs.Belonging.{StaysBelonging};
 
 use crate::switch::Switch;
@@ -15,6 +15,7 @@ impl<V: Value, K: Keep<V>> Switch<V, K> {
     fn play(&mut self, event: Event<V>) -> Result<u64, StepFault>
         requires { due event ≡ Some event }
         ensures taken { IsOk (world_of V.bytes self.old) }
+        ensures places { ForOk (world_of V.bytes self.old) (λ world. ArePlaces V.bytes world self.old.places) }
         ensures acts { ForOk (world_of V.bytes self.old) (λ world. Acts V.bytes world self.old self.new event result) }
         ensures belonging { StaysBelonging V.bytes self.old self.new }
     {
@@ -32,6 +33,7 @@ impl<V: Value, K: Keep<V>> Switch<V, K> {
     /// Errors: as of `begin_on`.
     pub fn offer(&mut self, k: u8, value: V) -> Result<u64, StepFault>
         ensures taken { IsOk (world_of V.bytes self.old) }
+        ensures places { ForOk (world_of V.bytes self.old) (λ world. ArePlaces V.bytes world self.old.places) }
         ensures acts { ForOk (world_of V.bytes self.old) (λ world. Acts V.bytes world self.old self.new (Offer k value) result) }
         ensures belonging { StaysBelonging V.bytes self.old self.new }
     {
@@ -45,6 +47,7 @@ impl<V: Value, K: Keep<V>> Switch<V, K> {
 /// the order of `StepFault`; else `Memory`, with nothing changed, or `Device`, where its keep failed: the node is then down.
 pub fn begin_on<V: Value, K: Keep<V>>(switch: &mut Switch<V, K>, k: u8) -> Result<u64, StepFault>
     ensures taken { IsOk (world_of V.bytes switch.old) }
+    ensures places { ForOk (world_of V.bytes switch.old) (λ world. ArePlaces V.bytes world switch.old.places) }
     ensures acts { ForOk (world_of V.bytes switch.old) (λ world. Acts V.bytes world switch.old switch.new (Begin k) result) }
     ensures belonging { StaysBelonging V.bytes switch.old switch.new }
 {

@@ -4,7 +4,7 @@ ghost use Rattle.std.specs.Result.{ForOk};
 ghost use Rattle.net.specs.declared.event.Event.{Event};
 ghost use Rattle.net.specs.declared.event.Event.TheVariants.{Restart};
 ghost use Rattle.switch.specs.Seat.{down};
-ghost use Rattle.switch.specs.Switch.{Place, is_down_at, world_of, ActsUp, ActsDown, Restarts, CanTakeOwed, TakesOwed};
+ghost use Rattle.switch.specs.Switch.{Place, ArePlaces, is_down_at, world_of, ActsUp, ActsDown, Restarts, CanTakeOwed, TakesOwed};
 ghost use Rattle.switch.specs.Belonging.{StaysAtRestart};
 
 use crate::switch::Switch;
@@ -15,6 +15,7 @@ impl<V: Value, K: Keep<V>> Switch<V, K> {
     /// Node `k` restarts, with the record that its keep has. It answers the count of the packets posted so far.
     pub fn restart(&mut self, k: u8) -> Result<u64, StepFault>
         ensures taken { IsOk (world_of V.bytes self.old) }
+        ensures places { ForOk (world_of V.bytes self.old) (λ world. ArePlaces V.bytes world self.old.places) }
         ensures restarts { ForOk (world_of V.bytes self.old) (λ world. Restarts V.bytes world self.old self.new k result) }
         ensures belonging { StaysAtRestart V.bytes k self.old self.new result }
     {

@@ -48,12 +48,14 @@ impl<V: Value, K: Keep<V>> Switch<V, K> {
 
     /// Whether there is such a node and it is down.
     pub(crate) fn is_down(&self, node: Option<u8>) -> bool
-        ensures { result ≡ is_down_at self.now.places node }
+        ensures down { result ≡ is_down_at self.now.places node }
+        ensures places { ForOk (world_of V.bytes self.now) (λ world. ArePlaces V.bytes world self.now.places) }
     {
+        let seats = self.seats.as_slice();
         let Some(k) = node else {
             return false;
         };
-        match self.seats.get(k as usize) {
+        match seats.get(k as usize) {
             Some(seat) => seat.is_down(),
             None => false,
         }
@@ -66,6 +68,7 @@ impl<V: Value, K: Keep<V>> Switch<V, K> {
         ensures no_node { ForOk (world_of V.bytes self.now) (λ world. slice_get world.nodes k ≡ None → result ≡ Err NoNode) }
         ensures node { ForOk (world_of V.bytes self.now) (λ world. IsSome (slice_get world.nodes k) → IsOk result) }
         ensures place { IsOk result ↔ k < length self.now.places }
+        ensures taken { IsOk (world_of V.bytes self.now) }
     {
         self.net.entry(k, slot)
     }

@@ -12,7 +12,7 @@ use Rattle.synod.specs.Record.{RecordView, HasRoomFor}
 use Rattle.synod.specs.Node.{Node, Stepped}
 use Rattle.synod.specs.declared.refusal.Refusal.{Refusal}
 use Rattle.synod.specs.Core.{Core, ProposerView, LearnerView, core_of}
-use Rattle.synod.specs.PagesHad.{rooms_of}
+use Rattle.synod.specs.Stored.PagesHad.{rooms_of}
 use Rattle.synod.specs.Plans.{HasRoomToPropose, HasRoomToLearn}
 use Rattle.synod.specs.Rooms.{RoomsGrow, HasAtLeast}
 use Rattle.synod.specs.Step.{IsNode}

@@ -1,5 +1,4 @@
 pub mod Weights
-pub mod Places
 pub mod Ballots
 pub mod Packets
 pub mod Pages
@@ -12,9 +11,9 @@ pub mod Learner
 pub mod Step
 pub mod Refusals
 pub mod Core
-pub mod PagesHad
 pub mod Plans
 pub mod Said
 pub mod Rooms
 pub mod Ready
 pub mod Heights
+pub mod Stored

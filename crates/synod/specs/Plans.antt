@@ -9,7 +9,7 @@ use Rattle.synod.specs.declared.proposer.Proposal.TheVariants.{Wait, Propose, Be
 use Rattle.synod.specs.declared.learner.Lesson.{Lesson}
 use Rattle.synod.specs.declared.learner.Lesson.TheVariants.{Count, Choose, Learn}
 use Rattle.synod.specs.Core.{Proposing, ProposerView, Learning, LearnerView}
-use Rattle.synod.specs.PagesHad.{entries_of, put_page}
+use Rattle.synod.specs.Stored.PagesHad.{entries_of, put_page}
 
 abbrev pub proposed : {V : Type 0} → Proposing V → Option (Proposal V) → Proposing V
 proposed p None = p

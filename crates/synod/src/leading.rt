@@ -8,7 +8,7 @@ ghost use Rattle.std.specs.Option.{option_copied};
 ghost use Rattle.synod.specs.Proposer.{above_all, top_reported, highest_at, reported_value, fills, all_reports};
 ghost use Rattle.synod.specs.Pages.{joined_pages};
 ghost use Rattle.synod.specs.Node.{pages_from};
-ghost use Rattle.synod.specs.PagesHad.{pages_with};
+ghost use Rattle.synod.specs.Stored.PagesHad.{pages_with};
 ghost use Rattle.synod.specs.Heights.{all_of, AreHighest, some_of, IsLead};
 
 use crate::ballot::Ballot;

@@ -4,7 +4,7 @@ ghost use Rattle.slots.specs.declared.slots.TheConstants.{SLOTS};
 ghost use Rattle.slots.specs.FiniteMap.{entry_at, put_at, front_of};
 ghost use Rattle.synod.specs.declared.packet.SlotReport.{SlotReport};
 ghost use Rattle.synod.specs.Node.{no_pages, pages_from, page_of, with_page};
-ghost use Rattle.synod.specs.PagesHad.{entries_of, rooms_of, put_page};
+ghost use Rattle.synod.specs.Stored.PagesHad.{entries_of, rooms_of, put_page};
 ghost use Rattle.synod.specs.Rooms.{RoomsGrow};
 
 use crate::packet::Reports;
@@ -134,7 +134,7 @@ pub struct PagesWith<'a, V> {
 }
 
 impl<V: Drop> PagesWith<'_, V> {
-    ghost use Rattle.synod.specs.PagesHad.{pages_with};
+    ghost use Rattle.synod.specs.Stored.PagesHad.{pages_with};
 
     /// The page of a node, where it was had or is the one delivered.
     pub(crate) fn get(&self, node: u8, page: u32) -> Option<&Reports<V>>

@@ -100,7 +100,7 @@ pub struct Proposer<V> {
 impl<V> Model for Proposer<V> {
     ghost use Rattle.std.specs.Prelude.{vec_capacity};
     ghost use Rattle.synod.specs.Core.{ProposerView};
-    ghost use Rattle.synod.specs.PagesHad.{entries_of, rooms_of};
+    ghost use Rattle.synod.specs.Stored.PagesHad.{entries_of, rooms_of};
 
     ghost Value = { ProposerView V };
 
@@ -116,7 +116,7 @@ impl<V: Drop> Proposer<V> {
     ghost use Rattle.std.specs.Prelude.{[]};
     ghost use Rattle.synod.specs.declared.proposer.Role.TheVariants.{Idle};
     ghost use Rattle.slots.specs.declared.slots.TheConstants.{SLOTS};
-    ghost use Rattle.synod.specs.PagesHad.{entries_of, rooms_of};
+    ghost use Rattle.synod.specs.Stored.PagesHad.{entries_of, rooms_of};
     ghost use Rattle.synod.specs.Plans.{proposed, HasRoomToPropose};
     ghost use Rattle.synod.specs.Rooms.{RoomsGrow};
 

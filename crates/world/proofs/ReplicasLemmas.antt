@@ -148,6 +148,14 @@ ok_unless_met : (r : Result (World Carried) StepFault) (count : ℕ) → IfErr r
 ok_unless_met (Ok w) count h = refl
 ok_unless_met (Err fault) count h = cc
 
+-- the events after a step that is taken
+pub step_taken : {A : Type 0} (old new : Replicas) (e : Event Carried) (result : Result A StepFault) (answer : A) → new ≡ then_event old e → result ≡ Ok answer
+    → IfErr (world_of carried_size (with_event old.taken e)) (λ fault. result ≡ Err fault) → IsOk (world_of carried_size new.taken)
+step_taken old new e result answer becomes ok refused = subst (λ (r : Replicas). IsOk (world_of carried_size r.taken)) (sym becomes) (met (world_of carried_size (with_event old.taken e)) refused) where
+  met : (r : Result (World Carried) StepFault) → IfErr r (λ fault. result ≡ Err fault) → IsOk r
+  met (Ok w) h = refl
+  met (Err fault) h = cc
+
 -- what a step leaves
 pub step_keeps : (old : Replicas) (e : Event Carried) (taken : Taken Carried) (libraries : List NodeLibrary) (restarted : Option ℕ) (count : ℕ) → AreReplicas old
     → taken ≡ with_event old.taken e → restarted ≡ restarts e → libraries ≡ given_up old.libraries restarted

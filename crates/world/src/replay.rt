@@ -33,6 +33,5 @@ pub fn run(
             return Err((world.history().len() as u32, fault));
         }
     }
-    let _taken = world.history();
     Ok(world)
 }

@@ -1,23 +1,18 @@
-use Rattle.std.proofs.Common.{length, ap, ◌∙◌, arith}
+use Rattle.std.proofs.Common.{ap, sym, subst}
 use Rattle.mm_read.specs.Statements.{Database}
 use Rattle.library.specs.LibraryOf.{Replica}
-use Rattle.cluster.proofs.CompareLemmas.{cells_agree, is_first, is_second, are_same}
+use Rattle.net.specs.Agree.{Agree}
+use Rattle.cluster.specs.Belongs.{IsAhead}
+use Rattle.cluster.proofs.CompareLemmas.{cells_agree}
 use Rattle.cluster.proofs.compare.compare_on.Goals as goal
 
-pub returns-then-first-second : goal.returns-then-first-second
-returns-then-first-second g c =
-    let first = ap (λ (ss : Database). length ss) (c.statements-first.ensures.statements ∙ ap (λ (r : Replica). r.statements) c.library.ensures.library) in
-    let second = ap (λ (ss : Database). length ss) (c.statements-second.ensures.statements ∙ ap (λ (r : Replica). r.statements) c.library-2.ensures.library) in
-    is_first c.args.one.now.node.library.statements c.args.other.now.node.library.statements (cells_agree c.args.one.now c.args.other.now c.args.switch.now c.history-taken.ensures.taken c.requires.one c.requires.other c.library.ensures.of_entries c.library-2.ensures.of_entries) (omega (arith, first, second, c.if-first-second.true))
+pub ahead_of-requires : goal.ahead_of-requires
+ahead_of-requires g c =
+    subst (λ (ss : Database). Agree c.library.result.now.replica.statements ss) (ap (λ (r : Replica). r.statements) (sym c.library-2.ensures.library))
+    (subst (λ (ss : Database). Agree ss c.args.other.now.node.library.statements) (ap (λ (r : Replica). r.statements) (sym c.library.ensures.library))
+    (cells_agree c.args.one.now c.args.other.now c.args.switch.now c.entry.ensures.taken c.requires.one c.requires.other c.library.ensures.of_entries c.library-2.ensures.of_entries))
 
-pub returns-then-first-second-2 : goal.returns-then-first-second-2
-returns-then-first-second-2 g c =
-    let first = ap (λ (ss : Database). length ss) (c.statements-first.ensures.statements ∙ ap (λ (r : Replica). r.statements) c.library.ensures.library) in
-    let second = ap (λ (ss : Database). length ss) (c.statements-second.ensures.statements ∙ ap (λ (r : Replica). r.statements) c.library-2.ensures.library) in
-    is_second c.args.one.now.node.library.statements c.args.other.now.node.library.statements (cells_agree c.args.one.now c.args.other.now c.args.switch.now c.history-taken.ensures.taken c.requires.one c.requires.other c.library.ensures.of_entries c.library-2.ensures.of_entries) (omega (arith, first, second, c.if-first-second-2.true))
-
-pub returns-else-first-second-2 : goal.returns-else-first-second-2
-returns-else-first-second-2 g c =
-    let first = ap (λ (ss : Database). length ss) (c.statements-first.ensures.statements ∙ ap (λ (r : Replica). r.statements) c.library.ensures.library) in
-    let second = ap (λ (ss : Database). length ss) (c.statements-second.ensures.statements ∙ ap (λ (r : Replica). r.statements) c.library-2.ensures.library) in
-    are_same c.args.one.now.node.library.statements c.args.other.now.node.library.statements (cells_agree c.args.one.now c.args.other.now c.args.switch.now c.history-taken.ensures.taken c.requires.one c.requires.other c.library.ensures.of_entries c.library-2.ensures.of_entries) (omega (arith, first, second, c.if-first-second.false)) (omega (arith, first, second, c.if-first-second-2.false))
+pub returns : goal.returns
+returns g c =
+    subst (λ (ss : Database). IsAhead c.ahead_of.result c.args.one.now.node.library.statements ss) (ap (λ (r : Replica). r.statements) c.library-2.ensures.library)
+    (subst (λ (ss : Database). IsAhead c.ahead_of.result ss c.library-2.result.now.replica.statements) (ap (λ (r : Replica). r.statements) c.library.ensures.library) c.ahead_of.ensures)

@@ -1,14 +1,14 @@
 use Rattle.std.proofs.Common.{◌≡◌, ◌∙◌, sym, true, false}
 use Rattle.cluster.proofs.log.begins_log.Goals as goal
 
-pub returns-then-is_ok : goal.returns-then-is_ok
-returns-then-is_ok g c = (
+pub returns-then-is_ok-clause-begins : goal.returns-then-is_ok-clause-begins
+returns-then-is_ok-clause-begins g c = (
   λ yes. record { node = c.entry.ensures.place.0 (sym c.is_ok.ensures.value ∙ c.if-is_ok.true); begins = c.begins.ensures.0 yes },
   λ b. c.begins.ensures.1 b.begins,
 )
 
-pub returns-else-is_ok : goal.returns-else-is_ok
-returns-else-is_ok g c = (
+pub returns-else-is_ok-clause-begins : goal.returns-else-is_ok-clause-begins
+returns-else-is_ok-clause-begins g c = (
   λ yes. (let no : false ≡ true = yes in cc),
   λ b. (let ok = c.entry.ensures.place.1 b.node in let no : false ≡ true = sym c.if-is_ok.false ∙ c.is_ok.ensures.value ∙ ok in cc),
 )

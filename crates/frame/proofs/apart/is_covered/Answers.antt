@@ -5,7 +5,7 @@ use Rattle.mm_read.specs.declared.stmt.Stmt.{Stmt}
 use Rattle.scope.specs.Active.{active, before, separated}
 use Rattle.names.specs.Codes.{decode}
 use Rattle.frame.specs.Links.{is_disj}
-use Rattle.frame.specs.StoredEntries.{statements_of, stmt_of}
+use Rattle.frame.specs.Stored.Entries.{statements_of, stmt_of}
 use Rattle.frame.specs.Covers.{does_cover}
 use Rattle.frame.proofs.WalkLemmas.{last-within}
 use Rattle.frame.proofs.StoredOneMore.{numbered-at}

@@ -2,7 +2,7 @@ use Rattle.std.specs.Prelude.{◌≡◌, ℕ, length}
 use Rattle.scope.specs.Active.{before}
 use Rattle.names.specs.Codes.{decode}
 use Rattle.frame.specs.Links.{is_disj}
-use Rattle.frame.specs.StoredEntries.{statements_of}
+use Rattle.frame.specs.Stored.Entries.{statements_of}
 use Rattle.frame.specs.Covers.{does_cover}
 use Rattle.frame.specs.declared.apart.TheConstants.{PLACES}
 use Rattle.frame.proofs.KindWalk.{IsSought}

@@ -1,7 +1,7 @@
 use Rattle.std.proofs.Common.{◌∙◌, ap, refl}
-use Rattle.entries.specs.Spans.{cut}
-use Rattle.frame.specs.Drafts.{drafted}
-use Rattle.frame.specs.StoredEntries.{statements_of}
+use Rattle.entries.specs.Stored.Spans.{cut}
+use Rattle.frame.specs.Stored.Drafts.{drafted}
+use Rattle.frame.specs.Stored.Entries.{statements_of}
 use Rattle.frame.proofs.KeptLemmas.{lists-cited}
 use Rattle.frame.proofs.at_position.gathered_at.Goals as goal
 

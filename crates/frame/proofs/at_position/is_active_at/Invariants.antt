@@ -1,5 +1,5 @@
 use Rattle.std.proofs.Common.{ℕ}
-use Rattle.frame.specs.StoredEntries.{statements_of}
+use Rattle.frame.specs.Stored.Entries.{statements_of}
 use Rattle.frame.proofs.WalkLemmas.{IsWalk}
 use Rattle.frame.proofs.at_position.is_active_at.Given as goal
 

@@ -2,9 +2,9 @@ use Rattle.std.proofs.Common.{◌+◌, ◌∙◌, ◌++◌, ap, sym, subst, leng
 use Rattle.scope.specs.Active.{bare, label_of}
 use Rattle.names.specs.Codes.{with_names, AreNamed}
 use Rattle.scope.specs.Symbols.{symbols_by, symbols_in}
-use Rattle.frame.specs.Drafts.{drafted}
-use Rattle.frame.specs.Stored.{AreNumbersOf, IsKeptOf}
-use Rattle.frame.specs.StoredEntries.{option_list, option_position, statements_of}
+use Rattle.frame.specs.Stored.Drafts.{drafted}
+use Rattle.frame.specs.Stored.Whole.{AreNumbersOf, IsKeptOf}
+use Rattle.frame.specs.Stored.Entries.{option_list, option_position, statements_of}
 use Rattle.frame.proofs.SymbolsLemmas.{legal-named}
 use Rattle.frame.proofs.EnterLemmas.{entered-statement, ok-both}
 use Rattle.frame.proofs.enter.enter.Goals as goal

@@ -2,10 +2,10 @@ use Rattle.std.specs.Prelude.{true}
 use Rattle.scope.specs.Active.{is_essential}
 use Rattle.std.proofs.Common.{◌≡◌, ◌∙◌, ap, sym, subst, refl, length}
 use Rattle.names.specs.Codes.{decode}
-use Rattle.frame.specs.StoredEntries.{statements_of}
-use Rattle.frame.specs.StoredHypotheses.{AreHypotheses}
-use Rattle.frame.specs.StoredParts.{floats_in}
-use Rattle.frame.specs.Drafts.{drafted}
+use Rattle.frame.specs.Stored.Entries.{statements_of}
+use Rattle.frame.specs.Stored.Hypotheses.{AreHypotheses}
+use Rattle.frame.specs.Stored.Parts.{floats_in}
+use Rattle.frame.specs.Stored.Drafts.{drafted}
 use Rattle.frame.proofs.CollectedLemmas.{collected-hypotheses, found-floats}
 use Rattle.frame.proofs.AssertionLemmas.{hypotheses-are, floats-are, parts-kept}
 use Rattle.frame.proofs.EnterLemmas.{ok-given, essentials-kept}

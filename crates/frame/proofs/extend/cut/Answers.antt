@@ -1,7 +1,7 @@
 use Rattle.std.proofs.Common.{◌≡◌, ◌∙◌, ap, sym, subst, arith, refl, length, take}
 use Rattle.std.proofs.Math.Seq.{take-length}
-use Rattle.frame.specs.StoredCounts.{AreNumbered}
-use Rattle.frame.specs.StoredEntries.{ReadsAs, replaced_of, symbol_of}
+use Rattle.frame.specs.Stored.Counts.{AreNumbered}
+use Rattle.frame.specs.Stored.Entries.{ReadsAs, replaced_of, symbol_of}
 use Rattle.entries.specs.Entries.{seen}
 use Rattle.frame.proofs.CutLemmas.{IsCut, kept-cut, cut-statements, names-front}
 use Rattle.frame.proofs.extend.cut.Goals as goal

@@ -3,9 +3,9 @@ use Rattle.std.specs.Prelude.{◌++◌, ◌∷◌, []}
 use Rattle.scope.specs.Active.{bare}
 use Rattle.entries.specs.Entries.{assertion_of, made as made_of}
 use Rattle.frame.specs.Below.{AreBelow}
-use Rattle.frame.specs.Drafts.{made}
-use Rattle.frame.specs.StoredEntries.{statements_of}
-use Rattle.frame.specs.StoredCounts.{kind_of, HasTwo}
+use Rattle.frame.specs.Stored.Drafts.{made}
+use Rattle.frame.specs.Stored.Entries.{statements_of}
+use Rattle.frame.specs.Stored.Counts.{kind_of, HasTwo}
 use Rattle.frame.proofs.ExtendLemmas.{is-pushed}
 use Rattle.frame.proofs.StoredLemmas.{kept-pushed, pushed-statements}
 use Rattle.frame.proofs.StoredTaken.{legal-bare, legal-fresh}

@@ -1,9 +1,9 @@
 use Rattle.std.proofs.Common.{◌≡◌, ◌∙◌, sym, subst}
 use Rattle.std.proofs.lemmas.Option.{same_Some}
-use Rattle.frame.specs.Drafts.{drafted}
+use Rattle.frame.specs.Stored.Drafts.{drafted}
 use Rattle.frame.specs.Cited.{AreListsOf}
-use Rattle.frame.specs.StoredHypotheses.{AreHypotheses}
-use Rattle.frame.specs.StoredEntries.{statements_of}
+use Rattle.frame.specs.Stored.Hypotheses.{AreHypotheses}
+use Rattle.frame.specs.Stored.Entries.{statements_of}
 use Rattle.frame.proofs.CollectLemmas.{on-ok-weaker}
 use Rattle.frame.proofs.CitedLemmas.{is-there}
 use Rattle.frame.proofs.GatherLemmas.{mandatory-are, spread-lists}

@@ -4,8 +4,8 @@ use Rattle.std.proofs.lemmas.Option.{same_Some}
 use Rattle.scope.specs.Active.{is_essential, before}
 use Rattle.frame.specs.FrameOf.{hypotheses}
 use Rattle.frame.specs.Links.{actives}
-use Rattle.frame.specs.StoredHypotheses.{Ascends, with_essentials}
-use Rattle.frame.specs.StoredEntries.{statements_of}
+use Rattle.frame.specs.Stored.Hypotheses.{Ascends, with_essentials}
+use Rattle.frame.specs.Stored.Entries.{statements_of}
 use Rattle.frame.proofs.CollectLemmas.{on-ok-weaker}
 use Rattle.frame.proofs.CitedLemmas.{is-there}
 use Rattle.frame.proofs.GatherLemmas.{mandatory-whole, mandatory-own, own-ascends}

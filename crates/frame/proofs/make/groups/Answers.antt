@@ -1,9 +1,9 @@
 use Rattle.std.proofs.Common.{◌≡◌, ◌-◌, ap, sym, subst, arith, take, refl, length}
 use Rattle.std.proofs.lemmas.List.{length-map, length-take-le}
 use Rattle.frame.specs.Links.{actives, is_disj}
-use Rattle.entries.specs.Spans.{cut, AreSpansIn}
-use Rattle.frame.specs.StoredEntries.{statements_of, stmt_of}
-use Rattle.frame.specs.StoredParts.{placed, symbols_at, option_symbols, has_two}
+use Rattle.entries.specs.Stored.Spans.{cut, AreSpansIn}
+use Rattle.frame.specs.Stored.Entries.{statements_of, stmt_of}
+use Rattle.frame.specs.Stored.Parts.{placed, symbols_at, option_symbols, has_two}
 use Rattle.entries.specs.Entries.{seen}
 use Rattle.frame.proofs.WalkLemmas.{walk-back, walk-over, last-within}
 use Rattle.frame.proofs.MakeLemmas.{AreGroups, groups-step, groups-start, groups-end}

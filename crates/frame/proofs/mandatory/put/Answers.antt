@@ -2,7 +2,7 @@ use Rattle.std.proofs.Common.{◌≡◌, ◌∙◌, sym, subst}
 use Rattle.std.specs.Prelude.{Ok, Err}
 use Rattle.std.specs.List.{insert}
 use Rattle.std.proofs.lemmas.List.Sorted.{searched}
-use Rattle.frame.specs.StoredHypotheses.{Ascends, inserted}
+use Rattle.frame.specs.Stored.Hypotheses.{Ascends, inserted}
 use Rattle.frame.proofs.LookedLemmas.{ascends-order, put-here, put-at}
 use Rattle.frame.proofs.mandatory.put.Goals as goal
 

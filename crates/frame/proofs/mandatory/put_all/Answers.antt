@@ -1,5 +1,5 @@
 use Rattle.std.proofs.Common.{◌∙◌, ◌+◌, ap, sym, subst, arith, drop}
-use Rattle.frame.specs.StoredHypotheses.{Ascends, with_all}
+use Rattle.frame.specs.Stored.Hypotheses.{Ascends, with_all}
 use Rattle.frame.proofs.CollectLemmas.{all-step}
 use Rattle.frame.proofs.AscendingLists.{ascends-inserted}
 use Rattle.frame.proofs.mandatory.put_all.Goals as goal

@@ -1,5 +1,5 @@
 use Rattle.std.proofs.Common.{◌≡◌, drop}
-use Rattle.frame.specs.StoredHypotheses.{Ascends, with_all}
+use Rattle.frame.specs.Stored.Hypotheses.{Ascends, with_all}
 use Rattle.frame.proofs.mandatory.put_all.Given as goal
 
 abbrev pub invariant-loop-position : goal.invariant-loop-position

@@ -1,7 +1,7 @@
 use Rattle.std.proofs.Common.{sym, subst}
 use Rattle.std.specs.Prelude.{◌++◌, ◌∷◌, [], Some}
-use Rattle.frame.specs.StoredEntries.{statements_of}
-use Rattle.frame.specs.StoredHypotheses.{IsLooked}
+use Rattle.frame.specs.Stored.Entries.{statements_of}
+use Rattle.frame.specs.Stored.Hypotheses.{IsLooked}
 use Rattle.frame.proofs.CollectLemmas.{on-ok-weaker}
 use Rattle.frame.proofs.LookedLemmas.{looked-push}
 use Rattle.frame.proofs.mandatory.put_float.Goals as goal

@@ -1,6 +1,6 @@
 use Rattle.std.proofs.Common.{◌≡◌, drop}
-use Rattle.frame.specs.StoredEntries.{statements_of}
-use Rattle.frame.specs.StoredHypotheses.{with_floats, IsLooked}
+use Rattle.frame.specs.Stored.Entries.{statements_of}
+use Rattle.frame.specs.Stored.Hypotheses.{with_floats, IsLooked}
 use Rattle.frame.proofs.mandatory.put_floats.Given as goal
 
 abbrev pub invariant-loop-code : goal.invariant-loop-code

@@ -2,7 +2,7 @@ use Rattle.std.proofs.Common.{◌≡◌, ◌+◌, ◌∙◌, ap, sym, arith, len
 use Rattle.std.specs.Prelude.{true, false}
 use Rattle.std.proofs.lemmas.List.{length-map}
 use Rattle.scope.specs.Active.{is_active}
-use Rattle.frame.specs.StoredEntries.{statements_of, stmt_of}
+use Rattle.frame.specs.Stored.Entries.{statements_of, stmt_of}
 use Rattle.frame.proofs.CollectLemmas.{float-stands, float-some, on-ok-weaker}
 use Rattle.frame.proofs.mandatory.put_last.Goals as goal
 

@@ -1,8 +1,8 @@
 use Rattle.std.proofs.Common.{◌≡◌, ◌<◌, ◌^◌, ◌++◌, length}
 use Rattle.names.specs.Codes.{decode, with_names}
 use Rattle.frame.specs.Below.{AreBelow}
-use Rattle.entries.specs.Spans.{Extends}
-use Rattle.frame.specs.StoredCounts.{AreZeroBehind}
+use Rattle.entries.specs.Stored.Spans.{Extends}
+use Rattle.frame.specs.Stored.Counts.{AreZeroBehind}
 use Rattle.frame.proofs.numbers.declared_numbers.Given as goal
 
 abbrev pub invariant-loop-word : goal.invariant-loop-word

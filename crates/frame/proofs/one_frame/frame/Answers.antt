@@ -1,5 +1,5 @@
 use Rattle.std.proofs.Common.{◌∙◌, ap}
-use Rattle.frame.specs.OneFrame.{AreMandatory, asked, groups_among}
+use Rattle.frame.specs.Stored.OneFrame.{AreMandatory, asked, groups_among}
 use Rattle.frame.proofs.OneFrameLemmas.{asked-hypotheses, groups-mandatory, same-parts}
 use Rattle.frame.proofs.one_frame.frame.Goals as goal
 

@@ -1,6 +1,6 @@
 use Rattle.std.proofs.Common.{◌≡◌, ◌++◌}
 use Rattle.mm_lex.specs.Words.{AreWords}
-use Rattle.frame.specs.OneFrame.{among}
+use Rattle.frame.specs.Stored.OneFrame.{among}
 use Rattle.frame.proofs.one_frame.group.Given as goal
 
 abbrev pub invariant-loop-name : goal.invariant-loop-name

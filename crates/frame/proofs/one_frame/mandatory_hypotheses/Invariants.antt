@@ -1,5 +1,5 @@
 use Rattle.std.proofs.Common.{◌≡◌, ◌++◌, drop}
-use Rattle.frame.specs.OneFrame.{asked}
+use Rattle.frame.specs.Stored.OneFrame.{asked}
 use Rattle.frame.proofs.one_frame.mandatory_hypotheses.Given as goal
 
 abbrev pub invariant-loop-entry : goal.invariant-loop-entry

@@ -3,7 +3,7 @@ use Rattle.std.specs.List.{list_any}
 use Rattle.mm_lex.specs.Alphabet.{Name, has_name}
 use Rattle.scope.specs.Active.{is_variable}
 use Rattle.frame.specs.FrameOf.{is_mandatory}
-use Rattle.frame.specs.OneFrame.{is_in_essential}
+use Rattle.frame.specs.Stored.OneFrame.{is_in_essential}
 use Rattle.frame.proofs.one_frame.mandatory_variables.Given as goal
 
 abbrev pub invariant-loop-entry : goal.invariant-loop-entry

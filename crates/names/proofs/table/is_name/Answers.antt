@@ -1,6 +1,6 @@
 use Rattle.std.proofs.Common.{◌∙◌, sym, arith, rules}
 use Rattle.names.specs.Codes.{name_at}
-use Rattle.names.specs.Keys.{AreBytes}
+use Rattle.names.specs.Stored.Keys.{AreBytes}
 use Rattle.names.proofs.KeysLemmas.{key-same}
 use Rattle.names.proofs.table.is_name.Goals as goal
 

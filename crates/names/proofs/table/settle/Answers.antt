@@ -1,8 +1,8 @@
 use Rattle.std.proofs.Common.{◌≡◌, ◌≢◌, ◌∙◌, ap, sym, subst, arith, get_or, ℕ, ◌+◌, List, Some, slice_set}
 use Rattle.std.proofs.lemmas.List.{get_or_read}
-use Rattle.names.specs.Keys.{AreBytes}
-use Rattle.names.specs.Overflow.{number_of}
-use Rattle.names.specs.Table.{IsFree, AreHeld, AreKept, AreFewer}
+use Rattle.names.specs.Stored.Keys.{AreBytes}
+use Rattle.names.specs.Stored.Overflow.{number_of}
+use Rattle.names.specs.Stored.Table.{IsFree, AreHeld, AreKept, AreFewer}
 use Rattle.names.proofs.TableLemmas.{put-held}
 use Rattle.names.proofs.KeptLemmas.{either, on-ok, held-passed, kept-apart, kept-failed, fewer-apart, held-apart}
 use Rattle.names.proofs.table.settle.Goals as goal

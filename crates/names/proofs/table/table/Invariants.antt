@@ -1,4 +1,4 @@
-use Rattle.names.specs.Table.{AreKept, AreFewer, AreHeld}
+use Rattle.names.specs.Stored.Table.{AreKept, AreFewer, AreHeld}
 use Rattle.names.proofs.table.table.Given as goal
 
 abbrev pub invariant-loop-number : goal.invariant-loop-number

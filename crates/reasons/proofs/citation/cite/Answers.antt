@@ -1,6 +1,6 @@
 use Rattle.std.proofs.Common.{◌∙◌, sym, ap, subst, refl, length}
 use Rattle.names.specs.Codes.{decode}
-use Rattle.reasons.specs.Kept.{named}
+use Rattle.reasons.specs.Stored.Kept.{named}
 use Rattle.reasons.specs.Run.{of_hypothesis}
 use Rattle.reasons.proofs.RunLemmas.{hypothesis_is, pushed_told}
 use Rattle.frame.specs.Below.{AreBelow}

@@ -5,7 +5,7 @@ use Rattle.names.specs.Codes.{decode}
 use Rattle.frame.specs.FrameOf.{hypotheses}
 use Rattle.reasons.specs.Run.{held}
 use Rattle.reasons.proofs.RunLemmas.{assertion_is, count_is, stack_split, wrong_fails, pushed_told, gives_is}
-use Rattle.reasons.specs.Kept.{named}
+use Rattle.reasons.specs.Stored.Kept.{named}
 use Rattle.reasons.proofs.KeptLemmas.{symbols-drop, symbols-take, symbols-same}
 use Rattle.reasons.proofs.citation.cite_parts.Goals as goal
 

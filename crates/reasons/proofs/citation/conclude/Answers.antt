@@ -3,7 +3,7 @@ use Rattle.scope.specs.Active.{before, expr_of}
 use Rattle.names.specs.Codes.{AreDistinct, decode}
 use Rattle.frame.specs.Below.{AreBelow, AllBelow}
 use Rattle.frame.specs.FrameOf.{hypotheses}
-use Rattle.reasons.specs.Kept.{AreImages, codes, code_images, named}
+use Rattle.reasons.specs.Stored.Kept.{AreImages, codes, code_images, named}
 use Rattle.reasons.specs.Images.{named_images, images_read, AreVariables}
 use Rattle.reasons.proofs.KeptLemmas.{asked-kinds}
 use Rattle.reasons.proofs.ImagesLemmas.{apply-below}

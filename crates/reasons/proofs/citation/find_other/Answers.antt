@@ -7,7 +7,7 @@ use Rattle.reasons.proofs.KeptLemmas.{asked-at, asked-heads, asked-kinds, positi
 use Rattle.names.specs.Codes.{decode}
 use Rattle.frame.specs.Below.{AreBelow}
 use Rattle.frame.specs.Cited.{AreAsked}
-use Rattle.reasons.specs.Kept.{code_images, named}
+use Rattle.reasons.specs.Stored.Kept.{code_images, named}
 use Rattle.reasons.specs.Images.{named_images, images_read}
 use Rattle.reasons.specs.Faults.{IsOther}
 use Rattle.reasons.proofs.KeptLemmas.{symbols-at}

@@ -1,5 +1,5 @@
 use Rattle.std.proofs.Common.{take}
-use Rattle.reasons.specs.Kept.{named, code_images}
+use Rattle.reasons.specs.Stored.Kept.{named, code_images}
 use Rattle.reasons.specs.Images.{named_images}
 use Rattle.reasons.specs.Faults.{AllFit}
 use Rattle.reasons.proofs.citation.find_other.Given as goal

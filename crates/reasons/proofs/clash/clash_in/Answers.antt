@@ -2,7 +2,7 @@ use Rattle.std.proofs.Common.{◌∙◌, ◌+◌, length, get_or, sym, ap, subst
 use Rattle.mm_lex.specs.Alphabet.{has_name}
 use Rattle.names.specs.Codes.{decode}
 use Rattle.frame.specs.Substitution.{code_image}
-use Rattle.reasons.specs.Kept.{code_images}
+use Rattle.reasons.specs.Stored.Kept.{code_images}
 use Rattle.reasons.specs.Images.{named_images}
 use Rattle.reasons.specs.Clashes.{IsClashWith, is_other_apart}
 use Rattle.std.specs.List.{list_all}

@@ -3,7 +3,7 @@ use Rattle.std.specs.List.{list_all}
 use Rattle.names.specs.Codes.{decode}
 use Rattle.frame.specs.Disjoint.{is_group_apart}
 use Rattle.frame.specs.Substitution.{code_apply}
-use Rattle.reasons.specs.Kept.{code_images}
+use Rattle.reasons.specs.Stored.Kept.{code_images}
 use Rattle.reasons.specs.Images.{named_images}
 use Rattle.reasons.specs.Clashes.{is_other_apart}
 use Rattle.reasons.proofs.clash.clash_in.Given as goal

@@ -1,7 +1,7 @@
 use Rattle.std.proofs.Common.{◌∙◌, length, arith}
 use Rattle.names.specs.Codes.{decode}
 use Rattle.frame.specs.Disjoint.{is_group_apart}
-use Rattle.reasons.specs.Kept.{code_images}
+use Rattle.reasons.specs.Stored.Kept.{code_images}
 use Rattle.reasons.specs.Images.{named_images}
 use Rattle.reasons.proofs.KeptLemmas.{all-at}
 use Rattle.reasons.proofs.ClashLemmas.{clash_is, groups_step, groups_end}

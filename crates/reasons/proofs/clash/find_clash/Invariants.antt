@@ -1,7 +1,7 @@
 use Rattle.std.proofs.Common.{◌≡◌, drop, map}
 use Rattle.names.specs.Codes.{decode}
 use Rattle.frame.specs.Disjoint.{are_groups_apart}
-use Rattle.reasons.specs.Kept.{code_images}
+use Rattle.reasons.specs.Stored.Kept.{code_images}
 use Rattle.reasons.specs.Images.{named_images}
 use Rattle.reasons.proofs.clash.find_clash.Given as goal
 

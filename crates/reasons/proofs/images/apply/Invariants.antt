@@ -1,6 +1,6 @@
 use Rattle.std.proofs.Common.{◌≡◌, ◌≤◌, ◌++◌, drop, length}
 use Rattle.frame.specs.Substitution.{code_apply}
-use Rattle.reasons.specs.Kept.{code_images}
+use Rattle.reasons.specs.Stored.Kept.{code_images}
 use Rattle.reasons.proofs.images.apply.Given as goal
 
 abbrev pub invariant-loop-symbol : goal.invariant-loop-symbol

@@ -1,6 +1,6 @@
 use Rattle.std.proofs.Common.{◌≡◌, drop}
 use Rattle.frame.specs.Substitution.{code_image}
-use Rattle.reasons.specs.Kept.{code_images}
+use Rattle.reasons.specs.Stored.Kept.{code_images}
 use Rattle.reasons.proofs.images.image_of.Given as goal
 
 abbrev pub invariant-loop-image : goal.invariant-loop-image

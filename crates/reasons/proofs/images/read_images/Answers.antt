@@ -1,6 +1,6 @@
 use Rattle.std.proofs.Common.{◌≡◌, ◌<◌, ◌∙◌, subst, sym, ap, refl, drop, ◌+◌, ◌++◌, length, List, ℕ, arith}
 use Rattle.frame.specs.Below.{AreBelow}
-use Rattle.reasons.specs.Kept.{codes, code_images, AreImages}
+use Rattle.reasons.specs.Stored.Kept.{codes, code_images, AreImages}
 use Rattle.reasons.specs.Images.{codes_read}
 use Rattle.reasons.proofs.KeptLemmas.{symbols-at, below-drop}
 use Rattle.reasons.proofs.ImagesLemmas.{images-push}

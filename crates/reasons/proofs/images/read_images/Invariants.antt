@@ -1,5 +1,5 @@
 use Rattle.std.proofs.Common.{◌≡◌, ℕ, ◌++◌, drop}
-use Rattle.reasons.specs.Kept.{codes, AreSymbols, AreImages, code_images}
+use Rattle.reasons.specs.Stored.Kept.{codes, AreSymbols, AreImages, code_images}
 use Rattle.reasons.specs.Images.{codes_read}
 use Rattle.reasons.proofs.images.read_images.Given as goal
 

@@ -1,7 +1,7 @@
 use Rattle.std.proofs.Common.{◌≡◌, ◌∙◌, sym, ap, subst, get_or, length, take, slice_get, List, arith}
 use Rattle.proof_code.specs.declared.item.Item.{Item}
 use Rattle.proof_code.specs.Numbers.{items_of, item_of}
-use Rattle.reasons.specs.Kept.{AreSymbols}
+use Rattle.reasons.specs.Stored.Kept.{AreSymbols}
 use Rattle.reasons.specs.Run.{held, nothing, Runs}
 use Rattle.frame.specs.Reading.{ArePositions}
 use Rattle.reasons.proofs.StateLemmas.{take_whole}

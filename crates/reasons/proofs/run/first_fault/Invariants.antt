@@ -1,7 +1,7 @@
 use Rattle.std.proofs.Common.{◌≡◌, ◌≤◌, List, length, take}
 use Rattle.mm_lex.specs.Alphabet.{Name}
 use Rattle.proof_code.specs.Numbers.{items_of}
-use Rattle.reasons.specs.Kept.{AreSymbols}
+use Rattle.reasons.specs.Stored.Kept.{AreSymbols}
 use Rattle.reasons.specs.Run.{nothing, held, Runs}
 use Rattle.frame.specs.Reading.{ArePositions}
 use Rattle.reasons.specs.declared.state.TheConstants.{WEIGHT_LIMIT}

@@ -1,5 +1,5 @@
 use Rattle.std.proofs.Common.{arith, ◌≡◌, ◌+◌}
-use Rattle.scope.specs.Entries.{count_behind}
+use Rattle.scope.specs.Stored.Entries.{count_behind}
 use Rattle.scope.specs.declared.numbering.Kind.TheVariants.{Label, Constant, Variable}
 use Rattle.scope.proofs.EntriesLemmas.{last-behind, count-below}
 use Rattle.scope.proofs.numbering.symbol_count.Goals as goal

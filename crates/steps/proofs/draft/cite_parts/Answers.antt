@@ -5,7 +5,7 @@ use Rattle.subst.specs.Places.{seen_at, AreWithin}
 use Rattle.subst.proofs.NumbersApartLemmas.{below-drop}
 use Rattle.verify.specs.Fits.{IsTyped, AreRead}
 use Rattle.verify.specs.Places.{top}
-use Rattle.steps.specs.Drafted.{place_in, place_of}
+use Rattle.steps.specs.Stored.Drafted.{place_in, place_of}
 use Rattle.steps.proofs.DraftLemmas.{places-within, exprs-seen}
 use Rattle.steps.proofs.draft.cite_parts.Goals as goal
 

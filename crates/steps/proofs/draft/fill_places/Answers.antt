@@ -1,5 +1,5 @@
 use Rattle.std.proofs.Common.{◌∷◌, ◌++◌, [], map, take, sym, ◌∙◌, ap}
-use Rattle.steps.specs.Drafted.{place_in}
+use Rattle.steps.specs.Stored.Drafted.{place_in}
 use Rattle.steps.proofs.DraftLemmas.{map-more}
 use Rattle.steps.proofs.draft.fill_places.Goals as goal
 use Rattle.frame.proofs.DeclareLemmas.{below-at}

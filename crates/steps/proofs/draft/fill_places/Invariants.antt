@@ -1,5 +1,5 @@
 use Rattle.std.proofs.Common.{◌≡◌, map, take}
-use Rattle.steps.specs.Drafted.{place_in}
+use Rattle.steps.specs.Stored.Drafted.{place_in}
 use Rattle.steps.proofs.draft.fill_places.Given as goal
 
 abbrev pub invariant-loop-number : goal.invariant-loop-number

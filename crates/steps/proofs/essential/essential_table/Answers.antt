@@ -4,7 +4,7 @@ use Rattle.std.proofs.lemmas.List.{length-map, get_or_default}
 use Rattle.frame.specs.Below.{AreBelow}
 use Rattle.steps.specs.Rows.{no_row}
 use Rattle.steps.specs.Essential.{essential_of}
-use Rattle.steps.specs.Marked.{marked_before, number_of, AreNumbers, kept_row}
+use Rattle.steps.specs.Stored.Marked.{marked_before, number_of, AreNumbers, kept_row}
 use Rattle.steps.proofs.RowLemmas.{row-same}
 use Rattle.steps.proofs.PremiseLemmas.{premises-below}
 use Rattle.steps.proofs.NumberLemmas.{numbers-more, numbers-are, kept-more, kept-same, are-essential}

@@ -1,5 +1,5 @@
 use Rattle.std.proofs.Common.{◌≡◌, map}
-use Rattle.steps.specs.Marked.{marked_before, AreNumbers, kept_row}
+use Rattle.steps.specs.Stored.Marked.{marked_before, AreNumbers, kept_row}
 use Rattle.steps.proofs.essential.essential_table.Given as goal
 
 -- the marked rows before this place

@@ -5,7 +5,7 @@ use Rattle.std.proofs.lemmas.Option.{slice_get-get_or}
 use Rattle.frame.specs.Below.{AreBelow}
 use Rattle.steps.specs.Rows.{no_row, steps_of}
 use Rattle.steps.specs.Essential.{essential_of}
-use Rattle.steps.specs.Marked.{MarksMore, mark_each}
+use Rattle.steps.specs.Stored.Marked.{MarksMore, mark_each}
 use Rattle.steps.proofs.RowLemmas.{step-at}
 use Rattle.steps.proofs.PremiseLemmas.{premises-below}
 use Rattle.steps.proofs.MarkLemmas.{marked-on, each-more}

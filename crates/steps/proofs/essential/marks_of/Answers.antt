@@ -1,7 +1,7 @@
 use Rattle.std.proofs.Common.{◌≡◌, ap, sym, ◌∙◌, subst, arith, length}
 use Rattle.std.proofs.lemmas.List.{length-map}
 use Rattle.steps.specs.Rows.{steps_of}
-use Rattle.steps.specs.Marked.{mark_last, AreMarkedFrom}
+use Rattle.steps.specs.Stored.Marked.{mark_last, AreMarkedFrom}
 use Rattle.steps.proofs.MarkLemmas.{marked-last, marks-exact}
 use Rattle.steps.proofs.essential.marks_of.Goals as goal
 

@@ -1,5 +1,5 @@
 use Rattle.steps.specs.Rows.{steps_of}
-use Rattle.steps.specs.Marked.{AreMarkedFrom}
+use Rattle.steps.specs.Stored.Marked.{AreMarkedFrom}
 use Rattle.steps.proofs.essential.marks_of.Given as goal
 
 -- the steps from here on were looked at

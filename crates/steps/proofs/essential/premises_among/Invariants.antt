@@ -1,5 +1,5 @@
 use Rattle.std.proofs.Common.{◌≡◌, ◌++◌, drop}
-use Rattle.steps.specs.Marked.{taken_by}
+use Rattle.steps.specs.Stored.Marked.{taken_by}
 use Rattle.steps.proofs.essential.premises_among.Given as goal
 
 abbrev pub invariant-loop-k : goal.invariant-loop-k

@@ -3,7 +3,7 @@ use Rattle.std.proofs.lemmas.Result.{on_ok_weaker}
 use Rattle.proof_code.specs.declared.item.Item.TheVariants.{Recall}
 use Rattle.proof_code.specs.Numbers.{item_of}
 use Rattle.verify.proofs.GrowthLemmas.{item-cite, item-recall}
-use Rattle.steps.specs.Drafted.{CanDo, IsDone}
+use Rattle.steps.specs.Stored.Drafted.{CanDo, IsDone}
 use Rattle.steps.proofs.ItemLemmas.{position-there}
 use Rattle.steps.proofs.noting.note.Goals as goal
 use Rattle.verify.proofs.TableLemmas.{suc_back}

@@ -2,7 +2,7 @@ use Rattle.std.proofs.Common.{◌≡◌, List}
 use Rattle.mm_lex.specs.Alphabet.{Name}
 use Rattle.frame.specs.Reading.{ArePositions, AreLegal}
 use Rattle.proof_code.specs.Numbers.{items_of}
-use Rattle.steps.specs.Drafted.{IsDraft}
+use Rattle.steps.specs.Stored.Drafted.{IsDraft}
 use Rattle.steps.proofs.ReachedLemmas.{Reached}
 use Rattle.steps.proofs.table.proof_table.Given as goal
 

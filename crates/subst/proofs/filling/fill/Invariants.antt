@@ -1,7 +1,7 @@
 use Rattle.std.proofs.Common.{◌≡◌, length, take}
 use Rattle.frame.specs.Substitution.{code_apply}
 use Rattle.subst.specs.Places.{images_at}
-use Rattle.subst.specs.Written.{IsWritten}
+use Rattle.subst.specs.Stored.Written.{IsWritten}
 use Rattle.subst.proofs.filling.fill.Given as goal
 
 abbrev pub invariant-loop-symbol : goal.invariant-loop-symbol

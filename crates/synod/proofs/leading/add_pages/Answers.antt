@@ -2,7 +2,7 @@ use Rattle.std.proofs.Common.{◌≡◌, ℕ, suc, ◌+◌, ◌-◌, ◌++◌, L
 use Rattle.synod.specs.declared.packet.SlotReport.{SlotReport}
 use Rattle.synod.specs.Pages.{joined_pages}
 use Rattle.synod.specs.Node.{pages_from}
-use Rattle.synod.specs.PagesHad.{pages_with}
+use Rattle.synod.specs.Stored.PagesHad.{pages_with}
 use Rattle.synod.specs.Heights.{all_of}
 use Rattle.synod.proofs.HeightsLemmas.{joined-gap, add_next}
 use Rattle.synod.proofs.leading.add_pages.Goals as goal

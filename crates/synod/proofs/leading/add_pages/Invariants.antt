@@ -1,7 +1,7 @@
 use Rattle.std.proofs.Common.{◌≡◌, ◌-◌, ◌++◌, drop}
 use Rattle.synod.specs.Pages.{joined_pages}
 use Rattle.synod.specs.Node.{pages_from}
-use Rattle.synod.specs.PagesHad.{pages_with}
+use Rattle.synod.specs.Stored.PagesHad.{pages_with}
 use Rattle.synod.specs.Heights.{all_of}
 use Rattle.synod.proofs.leading.add_pages.Given as goal
 

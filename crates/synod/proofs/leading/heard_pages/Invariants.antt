@@ -1,5 +1,5 @@
 use Rattle.std.proofs.Common.{◌≡◌, ◌++◌, drop}
-use Rattle.synod.specs.PagesHad.{pages_with}
+use Rattle.synod.specs.Stored.PagesHad.{pages_with}
 use Rattle.synod.specs.Proposer.{all_reports}
 use Rattle.synod.specs.Heights.{all_of}
 use Rattle.synod.proofs.leading.heard_pages.Given as goal

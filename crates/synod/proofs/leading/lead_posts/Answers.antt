@@ -1,7 +1,7 @@
 use Rattle.std.proofs.Common.{◌-◌, List, length, ap, ◌∙◌, arith}
 use Rattle.synod.specs.declared.packet.SlotReport.{SlotReport}
 use Rattle.synod.specs.Proposer.{top_reported, all_reports}
-use Rattle.synod.specs.PagesHad.{pages_with}
+use Rattle.synod.specs.Stored.PagesHad.{pages_with}
 use Rattle.synod.specs.Heights.{all_of}
 use Rattle.synod.proofs.PageKeeps.{top_low}
 use Rattle.synod.proofs.HeightsLemmas.{take_min, is_lead}

@@ -7,7 +7,8 @@ use Rattle.world.specs.Carried.{carried, all_carried, carried_size}
 use Rattle.world.specs.Replicas.{Replicas}
 use Rattle.net.proofs.HistoryLemmas.{taken_front, stops_there}
 use Rattle.world.proofs.EntriesLemmas.{all_carried-append}
-use Rattle.world.proofs.ReplicasLemmas.{run_goes_on}
+use Rattle.world.proofs.HeadlineLemmas.{headline_holds}
+use Rattle.world.proofs.ReplicasLemmas.{run_goes_on, step_taken}
 use Rattle.world.proofs.replay.run.Goals as goal
 
 pub returns-in-Err-step-clause-stops : goal.returns-in-Err-step-clause-stops
@@ -27,4 +28,8 @@ loop-event-preserved c = record {
   can = tt;
   finite = tt;
   world = run_goes_on c.args.weights c.loop-event.yielded c.in-Some.event c.loop-event.world c.step.new.self c.loop-event.invariant.world c.in_default.ensures.taken;
+  taken = step_taken c.loop-event.world c.step.new.self (carried c.in-Some.event) c.step.result c.in_default.ensures.taken c.in_default.is c.step.ensures.refused;
 }
+
+pub returns-clause-headline : goal.returns-clause-headline
+returns-clause-headline c = headline_holds _ c.loop-event.invariant.taken

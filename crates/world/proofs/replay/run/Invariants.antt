@@ -1,5 +1,7 @@
 use Rattle.std.proofs.Common.{◌≡◌}
-use Rattle.world.specs.Carried.{all_carried}
+use Rattle.std.specs.Prelude.{IsOk}
+use Rattle.net.specs.Taken.{world_of}
+use Rattle.world.specs.Carried.{carried_size, all_carried}
 use Rattle.world.specs.Replicas.{new_libraries}
 use Rattle.world.proofs.replay.run.Given as goal
 
@@ -9,4 +11,5 @@ invariant-loop-event l = record {
   finite : (goal.iterator-loop-event).is_finite l.event-iterator;
   -- the world is that of the events so far, with every library new
   world : l.world ≡ record { taken = record { weights = l.fn.weights; events = all_carried l.yielded }; libraries = new_libraries l.fn.weights };
+  taken : IsOk (world_of carried_size l.world.taken);
 }

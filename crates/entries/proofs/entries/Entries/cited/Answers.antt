@@ -1,8 +1,8 @@
 use Rattle.std.proofs.Common.{◌≡◌, ◌<◌, ◌-◌, length, slice_get, sym, ap, ◌∙◌, arith, subst}
 use Rattle.std.specs.Prelude.{slice_range, Some}
 use Rattle.entries.specs.Entries.{Entry, seen}
-use Rattle.entries.specs.Records.{own_row}
-use Rattle.entries.specs.Spans.{cut, AreSpansIn}
+use Rattle.entries.specs.Stored.Records.{own_row}
+use Rattle.entries.specs.Stored.Spans.{cut, AreSpansIn}
 use Rattle.entries.proofs.SpanLemmas.{part-of, length-range}
 use Rattle.entries.proofs.ReadLemmas.{IsReading, index-in, has-row, reads, reads-some}
 use Rattle.entries.proofs.entries.Entries.cited.Goals as goal

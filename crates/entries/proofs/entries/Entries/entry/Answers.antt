@@ -1,6 +1,6 @@
 use Rattle.std.proofs.Common.{◌≡◌, ◌+◌, ◌<◌, length, slice_get, Some, sym, ap, ◌∙◌, arith, subst}
 use Rattle.std.specs.Prelude.{suc, drop, slice_range}
-use Rattle.entries.specs.Records.{entry_of, own_row, place_of, end_of, from_by, symbols_by}
+use Rattle.entries.specs.Stored.Records.{entry_of, own_row, place_of, end_of, from_by, symbols_by}
 use Rattle.entries.specs.declared.head.Head.{Head}
 use Rattle.entries.proofs.RecordLemmas.{from-of, head-of}
 use Rattle.entries.proofs.ReadLemmas.{index-in, is-entry, has-row, own-place, symbols-there}

@@ -1,5 +1,5 @@
 use Rattle.std.proofs.Common.{◌≡◌, ◌<◌, length, slice_get, sym, ap, ◌∙◌, arith, subst}
-use Rattle.entries.specs.Records.{own_row}
+use Rattle.entries.specs.Stored.Records.{own_row}
 use Rattle.entries.proofs.SpanLemmas.{part-of}
 use Rattle.entries.proofs.ReadLemmas.{IsReading, index-in, has-row, reads, reads-some}
 use Rattle.entries.proofs.entries.Entries.hypotheses.Goals as goal

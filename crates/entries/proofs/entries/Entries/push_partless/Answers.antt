@@ -1,7 +1,7 @@
 use Rattle.std.proofs.Common.{◌∙◌, ap, sym, arith}
 use Rattle.std.specs.Prelude.{◌++◌, ◌∷◌, []}
 use Rattle.entries.specs.Entries.{made, partless}
-use Rattle.entries.specs.Records.{places_of}
+use Rattle.entries.specs.Stored.Records.{places_of}
 use Rattle.entries.proofs.PlaceLemmas.{packed-push, items-push}
 use Rattle.entries.proofs.RecordLemmas.{places-length}
 use Rattle.entries.proofs.AddedLemmas.{on-ok, on-err, ok-weaker}

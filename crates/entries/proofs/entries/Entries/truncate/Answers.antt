@@ -2,7 +2,7 @@ use Rattle.std.proofs.Common.{◌∙◌, ap, sym, subst, take, arith}
 use Rattle.std.specs.Prelude.{slice_get, map, length}
 use Rattle.std.proofs.lemmas.List.{length-map}
 use Rattle.std.proofs.Math.Seq.{take_all}
-use Rattle.entries.specs.Records.{ArePacked, entry_of, places_of}
+use Rattle.entries.specs.Stored.Records.{ArePacked, entry_of, places_of}
 use Rattle.entries.proofs.RecordLemmas.{places-length}
 use Rattle.entries.proofs.PlaceLemmas.{IsCut}
 use Rattle.entries.proofs.CutLemmas.{packed-shorter, items-shorter}

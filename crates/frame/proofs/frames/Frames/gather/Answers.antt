@@ -1,6 +1,6 @@
 use Rattle.std.proofs.Common.{subst}
 use Rattle.std.specs.Prelude.{OnOk}
-use Rattle.frame.specs.Drafts.{drafted}
+use Rattle.frame.specs.Stored.Drafts.{drafted}
 use Rattle.frame.specs.Cited.{IsGathered}
 use Rattle.frame.specs.Parts.{Numbered}
 use Rattle.frame.proofs.frames.Frames.gather.Goals as goal

@@ -1,6 +1,6 @@
 use Rattle.std.proofs.Common.{◌∙◌, ap, sym, subst}
 use Rattle.scope.specs.Active.{stmt_at}
-use Rattle.frame.specs.Drafts.{drafted}
+use Rattle.frame.specs.Stored.Drafts.{drafted}
 use Rattle.frame.specs.Cited.{IsCited, IsGathered}
 use Rattle.frame.specs.Parts.{Numbered}
 use Rattle.frame.proofs.frames.Frames.gathered.Goals as goal

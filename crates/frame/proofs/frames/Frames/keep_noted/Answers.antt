@@ -2,8 +2,8 @@ use Rattle.std.proofs.Common.{◌∙◌, ◌++◌, ◌∷◌, [], ap, sym, subst
 use Rattle.std.proofs.lemmas.Option.{IfSome_then}
 use Rattle.scope.specs.Active.{bare}
 use Rattle.scope.specs.Symbols.{AreOfLast}
-use Rattle.frame.specs.StoredCounts.{IsBehind}
-use Rattle.frame.specs.StoredEntries.{statements_of}
+use Rattle.frame.specs.Stored.Counts.{IsBehind}
+use Rattle.frame.specs.Stored.Entries.{statements_of}
 use Rattle.frame.proofs.SymbolsLemmas.{noted-numbers}
 use Rattle.frame.proofs.StoredTaken.{back-stored, on-err}
 use Rattle.frame.proofs.frames.Frames.keep_noted.Goals as goal

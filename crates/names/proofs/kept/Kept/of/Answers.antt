@@ -1,8 +1,8 @@
 use Rattle.std.proofs.Common.{◌≡◌, ◌∙◌, ap, sym, subst, arith, ◌<◌, length, take, rules}
 use Rattle.std.proofs.lemmas.List.{length-take-le, take_all}
 use Rattle.names.specs.Codes.{name_at}
-use Rattle.names.specs.Keys.{AreBytes, key_of}
-use Rattle.names.specs.Table.{AreKept}
+use Rattle.names.specs.Stored.Keys.{AreBytes, key_of}
+use Rattle.names.specs.Stored.Table.{AreKept}
 use Rattle.names.proofs.DistinctLemmas.{take-name}
 use Rattle.names.proofs.KeptLemmas.{kept-push}
 use Rattle.names.proofs.kept.Kept.of.Goals as goal

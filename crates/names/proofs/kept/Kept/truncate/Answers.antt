@@ -1,6 +1,6 @@
 use Rattle.std.proofs.Common.{◌≡◌, ◌≢◌, ◌∙◌, sym, subst, arith, ℕ, ◌<◌, length, rules}
 use Rattle.names.specs.Codes.{name_at}
-use Rattle.names.specs.Overflow.{number_of}
+use Rattle.names.specs.Stored.Overflow.{number_of}
 use Rattle.names.specs.declared.kept.Kept.{Kept}
 use Rattle.names.proofs.KeptLemmas.{names-apart}
 use Rattle.names.proofs.kept.Kept.truncate.Goals as goal

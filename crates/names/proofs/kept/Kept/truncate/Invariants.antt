@@ -1,6 +1,6 @@
 use Rattle.std.proofs.Common.{◌≡◌, ℕ, ◌<◌}
 use Rattle.names.specs.Codes.{name_at}
-use Rattle.names.specs.Overflow.{number_of}
+use Rattle.names.specs.Stored.Overflow.{number_of}
 use Rattle.names.proofs.kept.Kept.truncate.Given as goal
 
 abbrev pub invariant-loop-number : goal.invariant-loop-number

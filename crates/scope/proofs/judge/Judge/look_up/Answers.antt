@@ -7,7 +7,7 @@ use Rattle.scope.specs.Numbering.{names_of}
 use Rattle.mm_lex.specs.Alphabet.{Name}
 use Rattle.mm_read.specs.Statements.{Database}
 use Rattle.scope.specs.Kinds.{Declared, declared_names, declared_symbols, symbols_before, is_symbol_kind, kind_in, Tells}
-use Rattle.scope.specs.Noted.{IsNumberOf}
+use Rattle.scope.specs.Stored.Noted.{IsNumberOf}
 use Rattle.scope.specs.Symbols.{symbols_of}
 use Rattle.names.proofs.CodesLemmas.{code-name, code-first}
 use Rattle.scope.proofs.SymbolsLemmas.{symbol-at}

@@ -1,6 +1,6 @@
 use Rattle.std.proofs.Common.{◌≡◌, ◌∙◌, ap, sym, subst, true}
 use Rattle.scope.specs.Active.{is_closed, active}
-use Rattle.scope.specs.Kept.{IsKept, sizes_of}
+use Rattle.scope.specs.Stored.Kept.{IsKept, sizes_of}
 use Rattle.mm_read.specs.Statements.{Database}
 use Rattle.scope.specs.Standing.{IsStanding}
 use Rattle.scope.proofs.StandingLemmas.{standing-mark}

@@ -8,7 +8,7 @@ use Rattle.scope.specs.declared.numbering.Kind.{Kind}
 use Rattle.names.proofs.CodesLemmas.{code-name, code-first}
 use Rattle.names.proofs.CodesLemmas.{unknown-number}
 use Rattle.scope.proofs.KindsLemmas.{names-seen, kind-at, kind-none}
-use Rattle.scope.specs.Entries.{kinds_of}
+use Rattle.scope.specs.Stored.Entries.{kinds_of}
 use Rattle.scope.proofs.EntriesLemmas.{kinds-length}
 use Rattle.scope.proofs.numbering.Numbering.find.Goals as goal
 

@@ -1,6 +1,6 @@
 use Rattle.std.proofs.Common.{◌∙◌, ap, sym, length}
 use Rattle.scope.proofs.KindsLemmas.{length-seen}
-use Rattle.scope.specs.Entries.{kinds_of}
+use Rattle.scope.specs.Stored.Entries.{kinds_of}
 use Rattle.scope.proofs.EntriesLemmas.{kinds-length}
 use Rattle.scope.proofs.numbering.Numbering.len.Goals as goal
 

@@ -1,6 +1,6 @@
 use Rattle.std.proofs.Common.{◌∙◌, ap, sym, arith, length}
 use Rattle.std.specs.Prelude.{slice_get}
-use Rattle.scope.specs.Entries.{kinds_of}
+use Rattle.scope.specs.Stored.Entries.{kinds_of}
 use Rattle.scope.specs.Kinds.{symbols_before}
 use Rattle.scope.proofs.KindsLemmas.{length-seen}
 use Rattle.scope.proofs.EntriesLemmas.{kinds-length, count-at}

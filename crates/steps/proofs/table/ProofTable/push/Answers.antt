@@ -1,5 +1,5 @@
 use Rattle.std.proofs.Common.{◌++◌, ◌∷◌, [], arith, length, length-append, map, sym, ◌∙◌, ap, subst, refl}
-use Rattle.steps.specs.Drafted.{AreInBuffer, row_of}
+use Rattle.steps.specs.Stored.Drafted.{AreInBuffer, row_of}
 use Rattle.steps.specs.Rows.{row}
 use Rattle.steps.proofs.RowLemmas.{rows-more, buffer-snoc, buffer-weaken}
 use Rattle.steps.proofs.table.ProofTable.push.Goals as goal

@@ -3,7 +3,7 @@ use Rattle.std.proofs.Common.{arith, ◌∙◌, ap, subst}
 use Rattle.frame.specs.Substitution.{code_apply}
 use Rattle.subst.specs.declared.place.ExpressionPlace.{ExpressionPlace}
 use Rattle.subst.specs.Places.{images_at}
-use Rattle.subst.specs.Written.{IsWritten}
+use Rattle.subst.specs.Stored.Written.{IsWritten}
 use Rattle.subst.proofs.buffer.Buffer.add_applied.Goals as goal
 
 some_of : (o : Option ℕ) (e : ℕ) (P : ℕ → Type 0) → o ≡ Some e → IfSome o P → P e

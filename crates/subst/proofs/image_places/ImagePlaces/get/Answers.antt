@@ -4,7 +4,7 @@ use Rattle.std.specs.Map.{lookup}
 use Rattle.std.proofs.lemmas.Bool.{eq-eqb}
 use Rattle.subst.specs.declared.place.ExpressionPlace.{ExpressionPlace}
 use Rattle.subst.specs.declared.image_places.Slot.{Slot}
-use Rattle.subst.specs.Slots.{placed}
+use Rattle.subst.specs.Stored.Slots.{placed}
 use Rattle.subst.proofs.SlotLemmas.{placed-slot, slot-none, slot-at}
 use Rattle.subst.proofs.image_places.ImagePlaces.get.Goals as goal
 use Rattle.subst.proofs.NumbersApartLemmas.{differ}

@@ -2,7 +2,7 @@ use Rattle.std.proofs.Common.{◌≡◌, ◌∙◌, ℕ, arith, ap, sym, subst, 
 use Rattle.synod.specs.declared.packet.SlotReport.{SlotReport}
 use Rattle.synod.specs.Node.{Stepped, page_of}
 use Rattle.synod.specs.Core.{Core, assembled}
-use Rattle.synod.specs.PagesHad.{entries_of}
+use Rattle.synod.specs.Stored.PagesHad.{entries_of}
 use Rattle.synod.specs.Step.{IsNode}
 use Rattle.synod.proofs.AcceptedLemmas.{none_is}
 use Rattle.synod.proofs.GatherLemmas.{hear_step}

@@ -3,7 +3,7 @@ use Rattle.std.specs.List.{AllByRecursion}
 use Rattle.synod.specs.declared.packet.SlotReport.{SlotReport}
 use Rattle.synod.specs.Node.{Stepped}
 use Rattle.synod.specs.Core.{Core, assembled}
-use Rattle.synod.specs.PagesHad.{entries_of}
+use Rattle.synod.specs.Stored.PagesHad.{entries_of}
 use Rattle.synod.specs.Step.{IsNode, ArePages}
 use Rattle.synod.proofs.PageKeeps.{reports_with_page}
 use Rattle.synod.proofs.LeadLemmas.{lead_step}

@@ -3,7 +3,7 @@ use Rattle.std.proofs.lemmas.List.{map-append, take_more}
 use Rattle.slots.specs.FiniteMap.{SlotsView}
 use Rattle.synod.specs.declared.packet.SlotReport.{SlotReport}
 use Rattle.synod.specs.Node.{no_pages}
-use Rattle.synod.specs.PagesHad.{entries_of}
+use Rattle.synod.specs.Stored.PagesHad.{entries_of}
 use Rattle.synod.proofs.pages.PagesHad.of_nodes.Goals as goal
 
 pub loop-weight-preserved : goal.loop-weight-preserved

@@ -3,7 +3,7 @@ use Rattle.std.proofs.lemmas.List.{length-map}
 use Rattle.slots.specs.FiniteMap.{SlotsView}
 use Rattle.synod.specs.declared.packet.SlotReport.{SlotReport}
 use Rattle.synod.specs.Node.{page_of}
-use Rattle.synod.specs.PagesHad.{entries_of, pages_with}
+use Rattle.synod.specs.Stored.PagesHad.{entries_of, pages_with}
 use Rattle.synod.proofs.AcceptedLemmas.{none_is}
 use Rattle.synod.proofs.PagesWithLemmas.{page_new, page_other, match_stays}
 use Rattle.synod.proofs.pages.PagesWith.get.Goals as goal

@@ -1,6 +1,6 @@
 use Rattle.std.specs.Prelude.{◌≡◌, ℕ, ◌+◌, ◌-◌, ◌≤◌, ◌∷◌, ◌++◌, [], Bool, true, false, List, length, refl}
 use Rattle.std.proofs.Common.{arith, ap, ◌∙◌, length-append}
-use Rattle.subst.specs.Written.{Appends}
+use Rattle.subst.specs.Stored.Written.{Appends}
 use Rattle.verify.specs.Right.{weight_limit}
 use Rattle.verify.proofs.PlaceLemmas.{apply-kept, apply-seen, apply-cut}
 use Rattle.verify.proofs.results.Results.apply.Goals as goal

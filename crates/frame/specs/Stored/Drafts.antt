@@ -2,7 +2,7 @@
 -- The code's own form: no public clause cites it.
 use Rattle.std.specs.Prelude.{◌≡◌, false, [], length}
 use Rattle.entries.specs.Entries.{Assertion, Entry, made as made_of}
-use Rattle.entries.specs.Spans.{cut, AreSpansIn}
+use Rattle.entries.specs.Stored.Spans.{cut, AreSpansIn}
 use Rattle.entries.specs.declared.head.Head.{Head}
 use Rattle.frame.specs.declared.draft.Draft.{Draft}
 

@@ -9,8 +9,8 @@ use Rattle.names.specs.declared.table.TheConstants.{NO_NAME, REACH, FACTOR, HALV
 use Rattle.names.specs.declared.keys.TheConstants.{APART}
 use Rattle.names.specs.declared.kept.Kept.{Kept}
 use Rattle.names.specs.declared.overflow.Overflow.{Overflow}
-use Rattle.names.specs.Keys.{AreBytes, key_of}
-use Rattle.names.specs.Overflow.{number_of}
+use Rattle.names.specs.Stored.Keys.{AreBytes, key_of}
+use Rattle.names.specs.Stored.Overflow.{number_of}
 
 -- the lower half of a key
 abbrev pub half_of : ℕ → ℕ

@@ -10,7 +10,7 @@ use Rattle.entries.specs.declared.sizes.Sizes.{Sizes}
 use Rattle.entries.specs.declared.head.Head.{Head}
 use Rattle.entries.specs.declared.parts.AssertionParts.{AssertionParts}
 use Rattle.entries.specs.Entries.{Entry}
-use Rattle.entries.specs.Spans.{cut, AreSpansIn, Extends}
+use Rattle.entries.specs.Stored.Spans.{cut, AreSpansIn, Extends}
 
 -- a statement's head, and where its parts stand: numbers one part behind the other, each up to its end
 pub record Place : Type 0 where

@@ -6,7 +6,7 @@ use Rattle.std.specs.BTreeMap.{get_by}
 use Rattle.std.specs.Cmp.Lexicographic.{slice_cmp}
 use Rattle.std.specs.Ordering.{nat_cmp}
 use Rattle.mm_lex.specs.Alphabet.{Name}
-use Rattle.names.specs.Keys.{key_of}
+use Rattle.names.specs.Stored.Keys.{key_of}
 use Rattle.names.specs.declared.keys.TheConstants.{LONG}
 use Rattle.names.specs.declared.overflow.Overflow.{Overflow}
 

@@ -12,7 +12,7 @@ use Rattle.entries.specs.declared.kind.Kind.{Kind}
 use Rattle.entries.specs.declared.kind.Kind.TheVariants.{Float, Ess, Axiom, Prove}
 use Rattle.entries.specs.Entries.{Entry}
 use Rattle.entries.specs.Entries.{Assertion}
-use Rattle.frame.specs.Places.{place_of}
+use Rattle.frame.specs.Stored.Places.{place_of}
 use Rattle.frame.specs.Cited.{head_of}
 use Rattle.frame.specs.Links.{actives, is_disj}
 

@@ -1,0 +1,5 @@
+-- How names are kept: keys, the table of slots, what stands apart from it, and the texts. No public clause cites it.
+pub mod Keys
+pub mod Overflow
+pub mod Table
+pub mod Texts
