@@ -9,7 +9,6 @@ use Rattle.std.specs.List.{AllByRecursion}
 use Rattle.synod.specs.Core.{Core}
 use Rattle.synod.specs.Packets.{IsPost}
 use Rattle.synod.specs.Step.{reloaded}
-use Rattle.switch.proofs.SwitchLemmas.{at}
 
 -- a restart makes no change of the kept part
 pub load_change : {V : Type 0} (j : ℕ) (work : Work V) → IsOfEvent (Restart j) work → change_in work ≡ None
