@@ -25,6 +25,7 @@ In-contains x [] i = elim i [ ]
 In-contains x (y ∷ xs) (inl e) = (0, omega arith, e)
 In-contains x (y ∷ xs) (inr i) = let h = In-contains x xs i in (suc h.0, omega (arith, h.1), h.2)
 
+-- what stands at a place of a list is in it
 in_at : {A : Type 0} (x : A) (xs : List A) (k : ℕ) → k < length xs → slice_index_or xs k x ≡ x → In x xs
 in_at x [] k u e = absurd (omega arith)
 in_at x (y ∷ xs) zero u e = inl e

@@ -2,6 +2,7 @@
 use Rattle.std.proofs.Common.{◌≡◌, ℕ, zero, suc, List, [], ◌∷◌, Option, Some, None, ◌⊎◌, inl, inr, refl, ap, slice_get}
 use Rattle.slots.specs.FiniteMap.{entry_at, put_at, entries_to_gap}
 
+-- the two cases at a slot, told of the slot after it
 one_on : {P Q : Type 0} {t s : ℕ} → ((t ≡ s) × P) ⊎ Q → ((suc t ≡ suc s) × P) ⊎ Q
 one_on (inl h) = inl (ap suc h.0, h.1)
 one_on (inr q) = inr q
@@ -17,6 +18,7 @@ put_either (x ∷ xs) zero (suc t) v = inr refl
 put_either (x ∷ xs) (suc s) zero v = inr refl
 put_either (x ∷ xs) (suc s) (suc t) v = one_on (put_either xs s t v)
 
+-- after a write at s the entry at s is the one written
 pub put_same : {T : Type 0} (xs : List (Option T)) (s : ℕ) (v : T) → entry_at (put_at xs s v) s ≡ Some v
 put_same [] zero v = refl
 put_same [] (suc s) v = put_same [] s v

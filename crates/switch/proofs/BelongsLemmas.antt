@@ -25,6 +25,7 @@ use Rattle.switch.specs.Seat.{Standing, up, down}
 use Rattle.switch.specs.Switch.{Place, Shared, world_of, with_place, with_event, IsPlaceOf, ArePlaces, is_down, is_down_place, due, change_due, events_due, FailsAt, TakesAt, ActsUp, RevivesAt, ActsDown, Restarts}
 use Rattle.switch.specs.Belonging.{BeginsLog, StaysBelonging, StaysAtRestart}
 
+-- what begins a beginning of a list begins the list
 then_begins : {A : Type 0} (xs ys zs : List A) → IsBeginningOf xs ys → IsBeginningOf ys zs → IsBeginningOf xs zs
 then_begins xs ys zs h k = (h.0 ++ k.0, sym (append_assoc xs h.0 k.0) ∙ ap (λ ws. ws ++ k.0) h.1 ∙ k.1)
 
@@ -36,6 +37,7 @@ pub record IsOfNode {V : Type 0} (w : World V) (e : Event V) : Type 0 where
   pub there : IsSome (slice_get w.nodes k)
 
 module _ {V : Type 0} (size : V → ℕ) (w : World V) where
+  -- where an event of node k is taken, node k is there
   there_at : (e : Event V) (k : ℕ) → node_of w e ≡ Some k → (make : Node V → Result (Stepped V) Refusal) (o : Option (Node V)) → slice_get w.nodes k ≡ o → IfTaken (at_node w k make o) (λ x. IsOfNode w e)
   there_at e k is make None none = tt
   there_at e k is make (Some n) some = anyway (at_node w k make (Some n)) where
@@ -43,16 +45,19 @@ module _ {V : Type 0} (size : V → ℕ) (w : World V) where
     anyway (Ok x) = record { k = k; node = is; there = ap (λ (o : Option (Node V)). let t : Bool = elim o as (λ p. Bool) [ None ↦ false | Some m ↦ true ] in t) some }
     anyway (Err fault) = tt
 
+  -- where a delivery is taken, the node that the packet is addressed to is there
   there_delivered : (number : ℕ) (o : Option (Packet V)) → slice_get w.packets number ≡ o → IfTaken (delivered w o) (λ x. IsOfNode w (Deliver number))
   there_delivered number None none = tt
   there_delivered number (Some p) some = there_at (Deliver number) p.to (ap (λ (o : Option (Packet V)). option_map (λ p. p.to) o) some) (λ n. Ok (on_packet n p)) (slice_get w.nodes p.to) refl
 
+  -- the same of each event, the limit of events aside
   there_happens_at : (e : Event V) → IfTaken (happens_at size w e) (λ x. IsOfNode w e)
   there_happens_at (Offer k v) = there_at (Offer k v) k refl (λ n. offered size n v) (slice_get w.nodes k) refl
   there_happens_at (Begin k) = there_at (Begin k) k refl begun (slice_get w.nodes k) refl
   there_happens_at (Deliver number) = there_delivered number (slice_get w.packets number) refl
   there_happens_at (Restart k) = there_at (Restart k) k refl (λ n. Ok (restarted n)) (slice_get w.nodes k) refl
 
+  -- the node of an event that happens is there
   pub node_there : (e : Event V) (x : World V) → happens size w e ≡ Ok x → IsOfNode w e
   node_there e x happened = if_taken (λ (y : World V). IsOfNode w e) (happens size w e) x happened (spent_or (λ (y : World V). IsOfNode w e) (happens_at size w e) (w.taken == MOST_EVENTS) (there_happens_at e))
 
@@ -63,6 +68,7 @@ log_goes_on {V} size w e x happened j other = if_taken (λ (y : World V). IsBegi
 -- What a call leaves.
 
 module _ {V : Type 0} (size : V → ℕ) (old : Shared V) where
+  -- where nothing has changed, what begins a log still begins it
   pub same_stays : (new : Shared V) → new ≡ old → StaysBelonging size old new
   same_stays new is k entries h = subst (λ (s : Shared V). BeginsLog size s k entries) (sym is) h
 
@@ -73,6 +79,7 @@ module _ {V : Type 0} (size : V → ℕ) (old : Shared V) where
     begins = h.begins;
   }
 
+  -- where a call of the keep failed, the history and so each log is as before
   fails_stay : (new : Shared V) (k : ℕ) (place : Place V) (change : Option (Change V)) (left : Standing (Event V)) → FailsAt old new k place change left → StaysBelonging size old new
   fails_stay new k place change left h = place_stays new k (record { kept = h.kept; failures = place.failures + 1; standing = left }) h.rest
 
@@ -87,6 +94,7 @@ module _ {V : Type 0} (size : V → ℕ) (old : Shared V) where
           subst (λ (es : List (Option V)). IsBeginningOf entries es) (sym then) (then_begins entries (log w j) (log x j) (subst (λ (es : List (Option V)). IsBeginningOf entries es) now h.begins) grows);
     }
 
+    -- where the event is taken, and is no restart of node j, what begins the log of j begins the longer one
     taken_stays : (new : Shared V) (k : ℕ) (place : Place V) (change : Option (Change V)) (e : Event V) (x : World V) → happens size w e ≡ Ok x → new ≡ with_event old k place change e
         → (j : ℕ) (entries : List (Option V)) → e ≢ Restart j → BeginsLog size old j entries → BeginsLog size new j entries
     taken_stays new k place change e x happened is j entries other h =
@@ -96,6 +104,7 @@ module _ {V : Type 0} (size : V → ℕ) (old : Shared V) where
         j entries (log_goes_on size w e x happened j other) h
 
     module _ (places : ArePlaces size w old.places) where
+      -- a node that is there has its place
       place_there : (k : ℕ) → IsSome (slice_get w.nodes k) → (place : Place V) × (slice_get old.places k ≡ Some place)
       place_there k there = both (slice_get w.nodes k) (slice_get old.places k) refl there (places k) where
         both : (n : Option (Node V)) (o : Option (Place V)) → slice_get old.places k ≡ o → IsSome n → IsPlaceOf size w n o → (place : Place V) × (slice_get old.places k ≡ Some place)
@@ -105,11 +114,13 @@ module _ {V : Type 0} (size : V → ℕ) (old : Shared V) where
 
       -- an event whose node is not down
       module _ (new : Shared V) (e : Event V) (result : Result ℕ StepFault) (acts : ActsUp size w old new e result) where
+        -- whether the event that happens is taken or its call fails, what begins a log goes on, but at a restart of its node
         takes_stay : (x : World V) → happens size w e ≡ Ok x → (k : ℕ) (place : Place V) (r : Result ℕ StepFault) → TakesAt old new e k place (change_of size w e) x r → (j : ℕ) (entries : List (Option V)) → e ≢ Restart j → BeginsLog size old j entries → BeginsLog size new j entries
         takes_stay x happened k place (Ok count) h j entries other b = taken_stays new k place (change_of size w e) e x happened h.0 j entries other b
         takes_stay x happened k place (Err fault) (inl h) j entries other b = same_stays new h.1 j entries b
         takes_stay x happened k place (Err fault) (inr h) j entries other b = fails_stay new k place (change_of size w e) (down (due e)) h.1 j entries b
 
+        -- the same whether the event happens or meets a fault
         pub up_stays : (j : ℕ) (entries : List (Option V)) → e ≢ Restart j → BeginsLog size old j entries → BeginsLog size new j entries
         up_stays j entries other b = by_world (happens size w e) refl where
           by_world : (r : Result (World V) StepFault) → happens size w e ≡ r → BeginsLog size new j entries
@@ -121,6 +132,7 @@ module _ {V : Type 0} (size : V → ℕ) (old : Shared V) where
 
 -- A restart.
 
+-- the restart of one node is not the restart of another
 other_restart : {V : Type 0} (j k : ℕ) → k ≢ j → let e : Event V = Restart j in e ≢ Restart k
 other_restart {V} j k other = λ same. other (let both : node_number (Restart j) ≡ node_number (Restart k) = ap node_number same in sym both) where
   node_number : Event V → ℕ
@@ -129,6 +141,7 @@ other_restart {V} j k other = λ same. other (let both : node_number (Restart j)
   node_number (Deliver n) = n
   node_number (Restart n) = n
 
+-- what holds anyway holds where the result is an error
 on_err : {A E P : Type 0} (r : Result A E) → P → OnErr r P
 on_err (Ok a) p = tt
 on_err (Err e) p = p
@@ -139,6 +152,7 @@ record Before {V : Type 0} (size : V → ℕ) (ws : List ℕ) (es : List (Event 
   is_after : IsAfter size ws es mid
   happened : happens size mid e ≡ Ok x
 
+-- a history that ends in an event has a world before it, in which the event happens
 before : {V : Type 0} (size : V → ℕ) (ws : List ℕ) (es : List (Event V)) (e : Event V) (x : World V) → IsAfter size ws (es ++ e ∷ []) x → Before size ws es e x
 before {V} size ws es e x is = from (all_happen size es (Ok (start ws))) refl (sym (all_happen-append size es (e ∷ []) (Ok (start ws))) ∙ is) where
   from : (r : Result (World V) StepFault) → all_happen size es (Ok (start ws)) ≡ r → all_happen size (e ∷ []) r ≡ Ok x → Before size ws es e x
@@ -146,6 +160,7 @@ before {V} size ws es e x is = from (all_happen size es (Ok (start ws))) refl (s
   from (Err fault) at last = let no : Err fault ≡ Ok x = last in cc
 
 module _ {V : Type 0} (size : V → ℕ) (old : Shared V) (j : ℕ) (new : Shared V) (result : Result ℕ StepFault) where
+  -- a restart that changes nothing leaves each log
   restart_same : new ≡ old → StaysAtRestart size j old new result
   restart_same is = record {
     others = λ k entries other b. same_stays size old new is k entries b;
@@ -153,6 +168,7 @@ module _ {V : Type 0} (size : V → ℕ) (old : Shared V) (j : ℕ) (new : Share
     nodes = ap (λ (s : Shared V). length s.places) is;
   }
 
+  -- a restart that changes only the place of its node leaves each log
   restart_place : (place : Place V) → new ≡ with_place old j place → StaysAtRestart size j old new result
   restart_place place is = record {
     others = λ k entries other b. place_stays size old new j place is k entries b;
@@ -160,6 +176,7 @@ module _ {V : Type 0} (size : V → ℕ) (old : Shared V) (j : ℕ) (new : Share
     nodes = ap (λ (s : Shared V). length s.places) is ∙ length-set old.places j place;
   }
 
+  -- a restart at which a call of the keep failed leaves each log
   restart_fails : (place : Place V) (change : Option (Change V)) (left : Standing (Event V)) → FailsAt old new j place change left → StaysAtRestart size j old new result
   restart_fails place change left h = restart_place (record { kept = h.kept; failures = place.failures + 1; standing = left }) h.rest
 
@@ -176,6 +193,7 @@ module _ {V : Type 0} (size : V → ℕ) (old : Shared V) (w : World V) (was : w
       let same : j ≡ k = cc in
       restart_fails size old j new (Err fault) place (change_of size w (Restart j)) (down (due (Restart j))) (subst (λ (i : ℕ). FailsAt old new i place (change_of size w (Restart j)) (down (due (Restart j)))) (sym same) h.1)
 
+  -- a restart of a node that is up, whether it happens or meets a fault
   restart_up : (result : Result ℕ StepFault) → ActsUp size w old new (Restart j) result → StaysAtRestart size j old new result
   restart_up result acts = by_world (happens size w (Restart j)) refl where
     by_world : (r : Result (World V) StepFault) → happens size w (Restart j) ≡ r → StaysAtRestart size j old new result
@@ -196,6 +214,7 @@ module _ {V : Type 0} (size : V → ℕ) (old : Shared V) (w : World V) (was : w
       let not : ev ≢ Restart k = λ same. (let both : Some j ≡ Some k = sym (owed ev refl) ∙ ap (λ (e : Event V). node_of w e) same in let number : j ≡ k = cc in other (sym number)) in
       log_goes_on size w ev m happened k not
 
+  -- a restart that takes what is owed first, or finds no memory, or finds that its keep fails
   revived_stays : (place : Place V) (e : Option (Event V)) → ((ev : Event V) → e ≡ Some ev → node_of w ev ≡ Some j) → (r : Result ℕ StepFault) → RevivesAt size w old new j place e r → StaysAtRestart size j old new r
   revived_stays place e owed (Ok count) h = record {
     others = λ k entries other b.
@@ -210,6 +229,7 @@ module _ {V : Type 0} (size : V → ℕ) (old : Shared V) (w : World V) (was : w
   revived_stays place e owed (Err fault) (inl h) = restart_place size old j new (Err fault) (record { kept = h.1.kept; failures = place.failures; standing = place.standing }) h.1.rest
   revived_stays place e owed (Err fault) (inr h) = restart_fails size old j new (Err fault) place (change_due size w e) place.standing h.1
 
+  -- a restart of a node that is up or down, where what its place owes is an event of its own
   pub restart_stays : ((place : Place V) → slice_get old.places j ≡ Some place → (ev : Event V) → place.standing ≡ down (Some ev) → node_of w ev ≡ Some j) → (result : Result ℕ StepFault) → Restarts size w old new j result → StaysAtRestart size j old new result
   restart_stays owed result h = by_place (slice_get old.places j) refl where
     by_room : (place : Place V) (e : Option (Event V)) → ((ev : Event V) → e ≡ Some ev → node_of w ev ≡ Some j) → ActsDown size w old new j place e result → (t : Bool) → nat_lt MOST_EVENTS (length old.history + 2) ≡ t → StaysAtRestart size j old new result

@@ -21,10 +21,12 @@ use Rattle.switch.specs.Switch.{Place, Shared, event_owed, standing_seen, place_
 use Rattle.switch.proofs.SeatsLemmas.{places_of-set, place_at, place_past, seat_in, up_at}
 use Rattle.switch.proofs.SwitchLemmas.{shared, other_seat, committed, node_is, at, happens_is, change_is, change_told, changes}
 
+-- views of a switch with equal parts are equal
 pub shared_is : {V : Type 0} (ws us : List ℕ) (hs gs : List (Event V)) (some others : List (Place V)) → ws ≡ us → hs ≡ gs → some ≡ others
     → let s : Shared V = record { weights = ws; history = hs; places = some } in s ≡ record { weights = us; history = gs; places = others }
 shared_is ws us hs gs some others weights history places = cc
 
+-- a net that is changed in its rooms alone shows the same
 pub still_shared : {V : Type 0} (a b : NetView V) (seats : List (Seated V)) → IsStill a b → shared b seats ≡ shared a seats
 still_shared {V} a b seats still = ap (λ (t : Taken V). let s : Shared V = record { weights = t.weights; history = t.events; places = places_of seats } in s) still.taken
 
@@ -42,9 +44,11 @@ module _ {V : Type 0} (size : V → ℕ) (net : NetView V) (seats : List (Seated
       let same : w ≡ x = cc in
       subst (λ (y : World V). P now y) same (subst (λ (s : Shared V). P s w) seen p)
 
+  -- the world that the switch keeps is the one after the history that is seen
   pub after_is : world_of size now ≡ Ok w
   after_is = ap (λ (s : Shared V). world_of size s) (sym seen) ∙ h.world.is_after
 
+  -- the world after one event more is what the event makes of this one
   next_is : (e : Event V) → world_of_taken size (with_event net.taken e) ≡ happens size w e
   next_is e = after-push size net.taken.weights net.taken.events w e h.world.is_after
 
@@ -54,6 +58,7 @@ module _ {V : Type 0} (size : V → ℕ) (net : NetView V) (seats : List (Seated
 
   -- Each node has its place.
 
+  -- each node has a seat
   pub seat_there : (k : ℕ) (n : Node V) → slice_get w.nodes k ≡ Some n → (seat : Seated V) × (slice_get seats k ≡ Some seat)
   seat_there k n node = seat_in seats k
       (let low = slice_get_within w.nodes k n node in
@@ -62,6 +67,7 @@ module _ {V : Type 0} (size : V → ℕ) (net : NetView V) (seats : List (Seated
       let cores = length-nodes_of net.cores in
       omega (arith, low, count, nodes, cores))
 
+  -- each seat has a node
   pub node_there : (k : ℕ) (seat : Seated V) → slice_get seats k ≡ Some seat → (n : Node V) × (slice_get w.nodes k ≡ Some n)
   node_there k seat is = seat_in w.nodes k
       (let low = slice_get_within seats k seat is in
@@ -70,11 +76,13 @@ module _ {V : Type 0} (size : V → ℕ) (net : NetView V) (seats : List (Seated
       let cores = length-nodes_of net.cores in
       omega (arith, low, count, nodes, cores))
 
+  -- a keep that fits its node fits it with the change that the world tells of the event owed
   record_in : (n : Node V) (k : ℕ) (s : Standing (Due V)) (kept : Kept V) → IsRecordOf n s kept → IsOwing size net k s → IsRecordIn size w n (standing_seen s) kept
   record_in n k up kept fits owing = fits
   record_in n k (down None) kept fits owing = fits
   record_in n k (down (Some o)) kept fits owing = subst (λ (c : Option (Change V)). IsWithOrWithout (kept_of n) c kept) (change_told size net seats h o owing.1) fits
 
+  -- at each number there are a node and its place, or neither
   place_is : (k : ℕ) (o : Option (Node V)) → slice_get w.nodes k ≡ o → (p : Option (Seated V)) → slice_get seats k ≡ p → IsPlaceOf size w (slice_get w.nodes k) (slice_get (places_of seats) k)
   place_is k (Some n) node (Some seat) is =
       subst (λ (o : Option (Node V)). IsPlaceOf size w o (slice_get (places_of seats) k)) (sym node)
@@ -86,12 +94,14 @@ module _ {V : Type 0} (size : V → ℕ) (net : NetView V) (seats : List (Seated
       subst (λ (o : Option (Node V)). IsPlaceOf size w o (slice_get (places_of seats) k)) (sym nowhere)
       (subst (λ (o : Option (Place V)). IsPlaceOf size w None o) (sym (place_past seats k none)) tt)
 
+  -- the places that are seen are those of the world after the history
   pub places_are : ForOk (world_of size now) (λ x. ArePlaces size x now.places)
   places_are = of_world (λ s x. ArePlaces size x s.places) (λ k. place_is k (slice_get w.nodes k) refl (slice_get seats k) refl)
 
   -- An event that was not made ready.
 
   module _ (e : Event V) (fault : StepFault) (r : Result (Due V) StepFault) (is_err : r ≡ Err fault) (new : Shared V) (same : new ≡ old) where
+    -- what is answered is the fault that the event meets, or Memory where it meets none
     not_ready : (x : Result (World V) StepFault) → happens size w e ≡ x → IfErr x (λ met. r ≡ Err met) → OnOk x (IsOkUnless r Memory) → ActsUp size w old new e (Err fault)
     not_ready (Err met) happened refused memory =
         let both : Err met ≡ Err fault = sym refused ∙ is_err in
@@ -107,6 +117,7 @@ module _ {V : Type 0} (size : V → ℕ) (net : NetView V) (seats : List (Seated
           taken = λ x d k node place found. inl (is_memory, same);
         }
 
+    -- the same, as the net answers it: by the world after the events taken and this one
     pub ready_fails : IfErr (world_of_taken size (with_event net.taken e)) (λ met. r ≡ Err met) → OnOk (world_of_taken size (with_event net.taken e)) (IsOkUnless r Memory) → ForOk (world_of size now) (λ x. ActsUp size x now new e (Err fault))
     ready_fails refused memory = of_world (λ s x. ActsUp size x s new e (Err fault))
         (not_ready (happens size w e) refl (subst (λ (x : Result (World V) StepFault). IfErr x (λ met. r ≡ Err met)) (next_is e) refused) (subst (λ (x : Result (World V) StepFault). OnOk x (IsOkUnless r Memory)) (next_is e) memory))
@@ -117,16 +128,20 @@ module _ {V : Type 0} (size : V → ℕ) (net : NetView V) (seats : List (Seated
     abbrev step : Stepped V
     step = step_of d1.work d.core.node
 
+    -- what the event comes to at its node is the step
     at_e : IsEventAt size w d1.at e (Ok step)
     at_e = subst (λ (f : Event V). IsEventAt size w d1.at f (Ok step)) is_e (at size net seats h d1 d)
 
+    -- the world after the event is this one with the step made
     happens_e : happens size w e ≡ Ok (stepped w d1.at step)
     happens_e = ap (λ (f : Event V). happens size w f) (sym is_e) ∙ happens_is size net seats h d1 d low
 
+    -- where the node of the event is not seen as down, its seat is up
     pub is_up_at : is_down_at now.places (node_of w e) ≡ false → seat.standing ≡ up
     is_up_at test = up_at seats d1.at seat is (ap (λ (o : Option ℕ). is_down_at (places_of seats) o) (sym at_e.node) ∙ ap (λ (s : Shared V). is_down_at s.places (node_of w e)) seen ∙ test)
 
     module _ (is_up : seat.standing ≡ up) where
+      -- the record of its keep is the kept part of the node
       pub kept_up : seat.kept ≡ kept_of d.core.node
       kept_up = subst (λ (s : Standing (Due V)). IsRecordOf d.core.node s seat.kept) is_up (h.each d1.at d.core.node seat (node_is size net seats h d1 d) is).fits
 
@@ -149,6 +164,7 @@ module _ {V : Type 0} (size : V → ℕ) (net : NetView V) (seats : List (Seated
 
       -- a call of the keep failed, and o is owed
       module _ (o : Option (Due V)) (change : Option (Change V)) (is_change : change ≡ change_in d1.work) (owes : change_owed o ≡ change) (is_due : event_owed o ≡ due e) (owing : IsOwing size net d1.at (down o)) (new : Seated V) (fails : Fails seat change (down o) new) where
+        -- the seats still make a switch
         pub failed : IsSwitch size net (set seats d1.at new)
         failed = other_seat size net seats h d1.at d.core.node seat new (node_is size net seats h d1 d) is record {
           fits = subst (λ (s : Standing (Due V)). IsRecordOf d.core.node s new.kept) (sym (ap (λ (s : Seated V). s.standing) fails.rest))
@@ -156,6 +172,7 @@ module _ {V : Type 0} (size : V → ℕ) (net : NetView V) (seats : List (Seated
           owing = subst (λ (s : Standing (Due V)). IsOwing size net d1.at s) (sym (ap (λ (s : Seated V). s.standing) fails.rest)) owing;
         }
 
+        -- Device is what an event answers there, and its node is down with what it owes
         pub failed_acts : ForOk (world_of size now) (λ x. ActsUp size x now (shared net (set seats d1.at new)) e (Err Device))
         failed_acts = of_world (λ s x. ActsUp size x s (shared net (set seats d1.at new)) e (Err Device)) (told (shared net (set seats d1.at new)) (Err Device) (inr (
           refl,
@@ -170,14 +187,17 @@ module _ {V : Type 0} (size : V → ℕ) (net : NetView V) (seats : List (Seated
 
       -- the keep has made the change, and the event is taken
       module _ (new : Seated V) (stored : new ≡ record { kept = changed_by seat.kept (change_in d1.work); failures = seat.failures; standing = seat.standing }) (b : NetView V) (t : IsTaken net b d1) where
+        -- the net and the seats make a switch again
         pub played : IsSwitch size b (set seats d1.at new)
         played = committed size net seats h d1 d low b t seat new is
             (ap (λ (s : Seated V). s.kept) stored ∙ ap (λ (k : Kept V). changed_by k (change_in d1.work)) kept_up ∙ sym (changes size net seats h d1 d low))
             (ap (λ (s : Seated V). s.standing) stored ∙ is_up)
 
+        -- its world is the one before with the step made
         world_then : world_of_taken size b.taken ≡ Ok (stepped w d1.at step)
         world_then = ap (λ (x : Taken V). world_of_taken size x) t.taken ∙ next_is d1.event ∙ happens_is size net seats h d1 d low
 
+        -- the count of its packets is what an event answers there
         pub played_acts : (count : ℕ) → count ≡ length (packets_after (world_of_taken size b.taken)) → ForOk (world_of size now) (λ x. ActsUp size x now (shared b (set seats d1.at new)) e (Ok count))
         played_acts count counted = of_world (λ s x. ActsUp size x s (shared b (set seats d1.at new)) e (Ok count)) (told (shared b (set seats d1.at new)) (Ok count) (
           shared_is _ _ _ _ _ _ (ap (λ (x : Taken V). x.weights) t.taken) (ap (λ (x : Taken V). x.events) t.taken ∙ ap (λ (f : Event V). net.taken.events ++ f ∷ []) is_e)

@@ -4,6 +4,7 @@ mod SwitchLemmas
 mod CallLemmas
 mod DispatchLemmas
 mod LoadLemmas
+mod OwedLemmas
 mod ReviveLemmas
 mod ReviveRefused
 mod BelongsLemmas

@@ -1,5 +1,5 @@
 -- The restart of a node that is down: what is owed is taken first.
-use Rattle.std.proofs.Common.{◌≡◌, ℕ, ◌+◌, ◌<◌, ◌≤◌, true, List, [], ◌∷◌, ◌++◌, length, get_or, set, slice_get, inl, inr, Option, Some, None, Result, Ok, Err, refl, ap, sym, ◌∙◌, subst, arith, append-nil, length-append}
+use Rattle.std.proofs.Common.{◌≡◌, ℕ, ◌+◌, ◌<◌, ◌≤◌, true, List, [], ◌∷◌, ◌++◌, length, get_or, set, slice_get, inl, inr, Option, Some, None, Result, Ok, Err, refl, ap, sym, ◌∙◌, subst, arith, length-append}
 use Rattle.std.specs.List.{AllByRecursion}
 use Rattle.std.specs.Option.{option_map}
 use Rattle.std.specs.Result.{ForOk}
@@ -26,11 +26,13 @@ use Rattle.net.proofs.Lists.{at_place, at_set, set_twice}
 use Rattle.net.proofs.EventsDue.{comes_restart}
 use Rattle.net.proofs.TakenLemmas.{set_same}
 use Rattle.switch.specs.Seat.{Standing, up, down, Seated, owed_in, change_owed, posts_owed, IsRecordOf, IsWithOrWithout, Fails}
-use Rattle.switch.specs.Switch.{Place, Shared, event_owed, standing_seen, place_of, places_of, IsOwing, IsSeat, IsSwitch, CanTakeOwed, TakesOwed, world_of, change_due, is_down_at, events_due, with_place, RevivesAt, ActsDown}
-use Rattle.switch.proofs.KeepLemmas.{with_either, either_twice}
-use Rattle.switch.proofs.SeatsLemmas.{places_of-set, place_at, seat_in, down_at, few_due, posts_then}
-use Rattle.switch.proofs.SwitchLemmas.{shared, core_node, own_number, own_weights, other_seat, at, node_is, committed, change_told, changes}
+use Rattle.switch.specs.Switch.{Place, Shared, event_owed, standing_seen, place_of, places_of, IsOwing, IsSeat, IsSwitch, CanTakeOwed, TakesOwed, world_of, is_down_at, events_due, with_place, RevivesAt, ActsDown}
+use Rattle.switch.proofs.KeepLemmas.{either_twice}
+use Rattle.switch.proofs.SeatsLemmas.{places_of-set, place_at, seat_in, down_at, few_due}
+use Rattle.switch.proofs.SwitchLemmas.{shared, core_node, own_number, own_weights, other_seat, at, node_is, committed}
 use Rattle.switch.proofs.CallLemmas.{shared_is, of_world}
+use Rattle.switch.proofs.LoadLemmas.{load_posts}
+use Rattle.switch.proofs.OwedLemmas.{owed_change, can_take, owed_taken}
 
 -- The switch before, seats and net being as they are when the keep is called.
 module _ {V : Type 0} (size : V → ℕ) (net : NetView V) (seats : List (Seated V)) (h : IsSwitch size net seats) (now : Shared V) (seen : shared net seats ≡ now)
@@ -42,39 +44,44 @@ module _ {V : Type 0} (size : V → ℕ) (net : NetView V) (seats : List (Seated
   abbrev old : Shared V
   old = shared net seats
 
+  -- what the restart comes to at its node, as it was made ready
   at_e : IsEventAt size w d1.at (Restart j) (Ok (step_of d1.work d.core.node))
   at_e = subst (λ (f : Event V). IsEventAt size w d1.at f (Ok (step_of d1.work d.core.node))) is_e (at size net seats h d1 d)
 
+  -- the node that restarts is the one whose seat was found
   is_j : j ≡ k
   is_j = let both : Some j ≡ Some d1.at = at_e.node in let same : j ≡ d1.at = cc in same ∙ sym is_at
 
+  -- the seat that was read is the one of this node
   found : slice_get seats k ≡ Some seat
   found = at_place seats k seat low_k is
 
+  -- the world has the node at which the restart is due
   node_k : slice_get w.nodes k ≡ Some d.core.node
   node_k = ap (λ (i : ℕ). slice_get w.nodes i) is_at ∙ node_is size net seats h d1 d
 
+  -- the keep fits this node, and so does what is owed
   own : IsSeat size net k d.core.node seat
   own = h.each k d.core.node seat node_k found
 
+  -- the seat is down, with an event that is owed or none
   is_down : (o : Option (Due V)) × (seat.standing ≡ down o)
   is_down = down_at seats k seat found (ap (λ (i : ℕ). is_down_at (places_of seats) (Some i)) (sym is_j) ∙ ap (λ (s : Shared V). is_down_at s.places (Some j)) seen ∙ test)
 
   abbrev o : Option (Due V)
   o = is_down.0
 
+  -- that is what the seat owes
   owed_is : owed_in seat.standing ≡ o
   owed_is = ap (λ (s : Standing (Due V)). owed_in s) is_down.1
 
+  -- the record of the keep is that of the node, with or without the change that is owed
   fits : IsRecordOf d.core.node (down o) seat.kept
   fits = subst (λ (s : Standing (Due V)). IsRecordOf d.core.node s seat.kept) is_down.1 own.fits
 
+  -- what is owed is due at the node
   owing : IsOwing size net k (down o)
   owing = subst (λ (s : Standing (Due V)). IsOwing size net k s) is_down.1 own.owing
-
-  change_is : (o : Option (Due V)) → IsOwing size net k (down o) → change_owed o ≡ change_due size w (event_owed o)
-  change_is None q = refl
-  change_is (Some due) q = change_told size net seats h due q.1
 
   -- the place that is seen
   of_place : (new : Shared V) (result : Result ℕ StepFault) → RevivesAt size w old new j (place_of seat) (event_owed o) result
@@ -104,106 +111,79 @@ module _ {V : Type 0} (size : V → ℕ) (net : NetView V) (seats : List (Seated
 
   -- a call of the keep failed
   module _ (new : Seated V) (fails : Fails seat (change_owed (owed_in seat.standing)) seat.standing new) where
+    -- its record is the one before, with or without the change that is owed
     either : IsWithOrWithout seat.kept (change_owed o) new.kept
     either = subst (λ (p : Option (Due V)). IsWithOrWithout seat.kept (change_owed p) new.kept) owed_is fails.kept
 
+    -- the seat is down as before
     stands : new.standing ≡ down o
     stands = ap (λ (s : Seated V). s.standing) fails.rest ∙ is_down.1
 
+    -- the seats still make a switch
     pub stays_down : IsSwitch size net (set seats k new)
     stays_down = other_seat size net seats h k d.core.node seat new node_k found record {
       fits = subst (λ (s : Standing (Due V)). IsRecordOf d.core.node s new.kept) (sym stands) (either_twice (kept_of d.core.node) seat.kept new.kept (change_owed o) fits either);
       owing = subst (λ (s : Standing (Due V)). IsOwing size net k s) (sym stands) owing;
     }
 
+    -- Device is what the restart answers there, and the node stays down
     pub stays_acts : ForOk (world_of size now) (λ x. (place : Place V) → slice_get now.places j ≡ Some place → (e : Option (Event V)) → place.standing ≡ down e → ActsDown size x now (shared net (set seats k new)) j place e (Err Device))
     stays_acts = of_place (shared net (set seats k new)) (Err Device) (inr (
       refl,
       record {
         kept = new.kept;
-        either = subst (λ (c : Option (Change V)). IsWithOrWithout seat.kept c new.kept) (change_is o owing) either;
+        either = subst (λ (c : Option (Change V)). IsWithOrWithout seat.kept c new.kept) (owed_change size net seats h k o owing) either;
         rest = ap (λ (ps : List (Place V)). let s : Shared V = record { weights = net.taken.weights; history = net.taken.events; places = ps } in s) (places_of-set seats k new)
             ∙ ap (λ (s : Seated V). with_place old k (place_of s)) fails.rest
             ∙ ap (λ (i : ℕ). with_place old i record { kept = new.kept; failures = seat.failures + 1; standing = standing_seen seat.standing }) (sym is_j);
       },
     ))
 
-  -- what is owed can be taken
-  can_take : (o : Option (Due V)) → IsOwing size net k (down o) → (more : ℕ) → HasRoom net (length (posts_owed o) + more) 2 → CanTakeOwed size net o
-  can_take None q more r = tt
-  can_take (Some due) q more r = (
-    q.1,
-    record { for_packets = (let a = r.for_packets in omega (arith, a)); for_events = (let a = r.for_events in omega (arith, a)) },
-    omega (arith, room),
-  )
-
+  -- what the call found to be owed can be taken, where there is room for its posts and two events
   pub can_take_owed : (owed : Option (Due V)) → owed ≡ owed_in seat.standing → (posts more : ℕ) → posts ≡ length (posts_owed (owed_in seat.standing)) → HasRoom net (posts + more) 2 → CanTakeOwed size net owed
   can_take_owed owed is_owed posts more count r =
       subst (λ (p : Option (Due V)). CanTakeOwed size net p) (sym (is_owed ∙ owed_is))
-      (can_take o owing more (subst (λ (i : ℕ). HasRoom net (i + more) 2) (count ∙ ap (λ (p : Option (Due V)). length (posts_owed p)) owed_is) r))
+      (can_take size net seats h k room o owing more (subst (λ (i : ℕ). HasRoom net (i + more) 2) (count ∙ ap (λ (p : Option (Due V)). length (posts_owed p)) owed_is) r))
 
   -- The keep has made what is owed, and it is taken.
   module _ (new : Seated V) (repaired : new ≡ record { kept = changed_by seat.kept (change_owed (owed_in seat.standing)); failures = seat.failures; standing = up }) (m : NetView V) (owed : Option (Due V)) (is_owed : owed ≡ owed_in seat.standing)
       (takes : TakesOwed net m owed) where
+    -- the record of the keep is the one before with the change that was owed
     new_kept_is : new.kept ≡ changed_by seat.kept (change_owed o)
     new_kept_is = ap (λ (s : Seated V). s.kept) repaired ∙ ap (λ (p : Option (Due V)). changed_by seat.kept (change_owed p)) owed_is
 
+    -- the seat is up
     new_up : new.standing ≡ up
     new_up = ap (λ (s : Seated V). s.standing) repaired
 
+    -- what was taken is what the seat owed
     takes_o : TakesOwed net m o
     takes_o = subst (λ (p : Option (Due V)). TakesOwed net m p) (is_owed ∙ owed_is) takes
 
-    -- the switch and the net then
-    mid_of : (p : Option (Due V)) → IsOwing size net k (down p) → IsRecordOf d.core.node (down p) seat.kept → new.kept ≡ changed_by seat.kept (change_owed p) → TakesOwed net m p
-        → (switch : IsSwitch size m (set seats k new)) × (m.taken.weights ≡ net.taken.weights) × (m.taken.events ≡ net.taken.events ++ events_due (event_owed p)) × (m.packets ≡ net.packets ++ posts_owed p)
-        × (net.packet_room ≤ m.packet_room) × (net.event_room ≤ m.event_room)
-    mid_of None q f kept same =
-        let base : IsSwitch size net (set seats k new) = other_seat size net seats h k d.core.node seat new node_k found record {
-          fits = subst (λ (s : Standing (Due V)). IsRecordOf d.core.node s new.kept) (sym new_up) (kept ∙ with_either (kept_of d.core.node) seat.kept None f);
-          owing = subst (λ (s : Standing (Due V)). IsOwing size net k s) (sym new_up) tt;
-        } in (
-          subst (λ (x : NetView V). IsSwitch size x (set seats k new)) (sym same) base,
-          ap (λ (x : NetView V). x.taken.weights) same,
-          ap (λ (x : NetView V). x.taken.events) same ∙ sym (append-nil net.taken.events),
-          ap (λ (x : NetView V). x.packets) same ∙ sym (append-nil net.packets),
-          (let e = ap (λ (x : NetView V). x.packet_room) same in omega (arith, e)),
-          (let e = ap (λ (x : NetView V). x.event_room) same in omega (arith, e)),
-        )
-    mid_of (Some due) q f kept t =
-        let low : length net.taken.events < MOST_EVENTS = omega (arith, room) in
-        let at_k : slice_get seats due.at ≡ Some seat = ap (λ (i : ℕ). slice_get seats i) q.0 ∙ found in
-        let same_node : d.core.node ≡ q.1.core.node =
-        (let both : Some d.core.node ≡ Some q.1.core.node = sym node_k ∙ ap (λ (i : ℕ). slice_get w.nodes i) (sym q.0) ∙ node_is size net seats h due q.1 in cc) in
-        let stored : new.kept ≡ kept_of (step_of due.work q.1.core.node).node =
-        kept ∙ with_either (kept_of d.core.node) seat.kept (change_owed (Some due)) f ∙ ap (λ (n : Node V). changed_by (kept_of n) (change_owed (Some due))) same_node ∙ sym (changes size net seats h due q.1 low) in (
-          subst (λ (i : ℕ). IsSwitch size m (set seats i new)) q.0 (committed size net seats h due q.1 low m t seat new at_k stored new_up),
-          ap (λ (x : Taken V). x.weights) t.taken,
-          ap (λ (x : Taken V). x.events) t.taken,
-          t.packets,
-          t.packet_room,
-          t.event_room,
-        )
-
     abbrev mid : (switch : IsSwitch size m (set seats k new)) × (m.taken.weights ≡ net.taken.weights) × (m.taken.events ≡ net.taken.events ++ events_due (event_owed o)) × (m.packets ≡ net.packets ++ posts_owed o)
         × (net.packet_room ≤ m.packet_room) × (net.event_room ≤ m.event_room)
-    mid = mid_of o owing fits new_kept_is takes_o
+    mid = owed_taken size net seats h k d.core.node seat new node_k found new_up room m o owing fits new_kept_is takes_o
 
     abbrev hm : IsSwitch size m (set seats k new)
     hm = mid.0
 
+    -- the net still has a node of this number
     core_m : (c : Core V) × (slice_get m.cores k ≡ Some c)
     core_m = seat_in m.cores k (let count = hm.count in let l = length-set seats k new in let low = low_k in omega (arith, count, l, low))
 
+    -- the world after what was owed has this node
     node_m : slice_get hm.world.world.nodes k ≡ Some core_m.0.node
     node_m = core_node size m (set seats k new) hm k core_m.0 core_m.1
 
+    -- its seat is the new one
     new_at : slice_get (set seats k new) k ≡ Some new
     new_at = at_set seats k new seat found
 
+    -- the record of the keep is the kept part of this node
     kept_m : new.kept ≡ kept_of core_m.0.node
     kept_m = subst (λ (s : Standing (Due V)). IsRecordOf core_m.0.node s new.kept) new_up (hm.each k core_m.0.node new node_m new_at).fits
 
+    -- the history has room for the restart behind what was owed
     pub low_m : length m.taken.events < MOST_EVENTS
     low_m =
         let count = ap (λ (es : List (Event V)). length es) mid.2 in
@@ -219,6 +199,7 @@ module _ {V : Type 0} (size : V → ℕ) (net : NetView V) (seats : List (Seated
         ∙ ap (λ (us : List ℕ). to_others k us (Ask 0)) (own_weights size net seats h k d.core.node node_k ∙ sym mid.1)
     asks (restarts posts (Some x)) q r = cc
 
+    -- the restart is ready at this node with the record of its keep loaded
     ready_then : (work : Work V) (kept : Kept V) → IsOfEvent (Restart j) work → posts_of work ≡ to_others k m.taken.weights (Ask 0) → kept ≡ new.kept → IsReadyAt core_m.0 (loads work kept)
     ready_then (steps made) kept q r same = elim q [ ]
     ready_then (restarts posts loaded) kept q r same = (
@@ -227,17 +208,20 @@ module _ {V : Type 0} (size : V → ℕ) (net : NetView V) (seats : List (Seated
       same ∙ kept_m,
     )
 
+    -- the step is that of a restart of this node
     step_then : (work : Work V) (kept : Kept V) → IsOfEvent (Restart j) work → kept ≡ new.kept → restarted core_m.0.node ≡ step_of (loads work kept) core_m.0.node
     step_then (steps made) kept q same = elim q [ ]
     step_then (restarts posts loaded) kept q same = ap (λ (x : Kept V). reloaded core_m.0.node x) (sym (same ∙ kept_m))
 
     module _ (kept : Kept V) (same_kept : kept ≡ changed_by seat.kept (change_owed (owed_in seat.standing))) where
+      -- the record that was loaded is the one that the keep has
       is_new_kept : kept ≡ new.kept
       is_new_kept = same_kept ∙ sym (ap (λ (s : Seated V). s.kept) repaired)
 
       abbrev d2 : Due V
       d2 = loads_due d1 kept
 
+      -- the restart with that record is due at this node
       pub due_m : IsDue size m d2
       due_m = record {
         core = core_m.0;
@@ -246,9 +230,10 @@ module _ {V : Type 0} (size : V → ℕ) (net : NetView V) (seats : List (Seated
         comes = subst (λ (i : ℕ). ComesTo size m.packets i core_m.0.node d1.event (Ok (step_of (loads d1.work kept) core_m.0.node))) (is_j ∙ is_at)
             (subst (λ (f : Event V). ComesTo size m.packets j core_m.0.node f (Ok (step_of (loads d1.work kept) core_m.0.node))) (sym is_e)
             (subst (λ (s : Stepped V). ComesTo size m.packets j core_m.0.node (Restart j) (Ok s)) (step_then d1.work kept kind is_new_kept) (comes_restart size m.packets j core_m.0.node)));
-        posts = subst (λ (ps : List (Packet V)). AllByRecursion (IsPost (length m.taken.weights)) ps) (sym (posts_then d1.work kept)) (subst (λ (us : List ℕ). AllByRecursion (IsPost (length us)) (posts_of d1.work)) (sym mid.1) d.posts);
+        posts = subst (λ (ps : List (Packet V)). AllByRecursion (IsPost (length m.taken.weights)) ps) (sym (load_posts d1.work kept)) (subst (λ (us : List ℕ). AllByRecursion (IsPost (length us)) (posts_of d1.work)) (sym mid.1) d.posts);
       }
 
+      -- there is room for the posts of the restart and one event
       pub room_m : (posts more : ℕ) → posts ≡ length (posts_owed (owed_in seat.standing)) → more ≡ length (posts_of d1.work) → HasRoom net (posts + more) 2 → HasRoom m (length (posts_of d2.work)) 1
       room_m posts more count all r =
           let p = ap (λ (x : Option (Due V)). length (posts_owed x)) owed_is in
@@ -257,7 +242,7 @@ module _ {V : Type 0} (size : V → ℕ) (net : NetView V) (seats : List (Seated
           let e = ap (λ (es : List (Event V)). length es) mid.2 in
           let g = length-append net.taken.events (events_due (event_owed o)) in
           let one = few_due (event_owed o) in
-          let then = ap (λ (ps : List (Packet V)). length ps) (posts_then d1.work kept) in
+          let then = ap (λ (ps : List (Packet V)). length ps) (load_posts d1.work kept) in
           let a = mid.4 in
           let b = mid.5 in
           let r1 = r.for_packets in
@@ -265,17 +250,21 @@ module _ {V : Type 0} (size : V → ℕ) (net : NetView V) (seats : List (Seated
           record { for_packets = omega (arith, p, l, q, then, a, r1, count, all); for_events = omega (arith, e, g, one, b, r2) }
 
       module _ (z : NetView V) (t : IsTaken m z d2) where
+        -- the restart leaves the node the record of its keep as kept part
         kept_then : (work : Work V) (n : Node V) → IsOfEvent (Restart j) work → new.kept ≡ kept_of (step_of (loads work kept) n).node
         kept_then (steps made) n q = elim q [ ]
         kept_then (restarts posts loaded) n q = sym is_new_kept
 
+        -- the same seat, put once more, changes nothing
         seats_same : set (set seats k new) d1.at new ≡ set seats k new
         seats_same = ap (λ (i : ℕ). set (set seats k new) i new) (sym is_at) ∙ set_twice seats k new new
 
+        -- once the restart is taken too, the net and the seats make a switch
         pub revived : IsSwitch size z (set seats k new)
         revived = subst (λ (us : List (Seated V)). IsSwitch size z us) seats_same
             (committed size m (set seats k new) hm d2 due_m low_m z t new new (ap (λ (i : ℕ). slice_get (set seats k new) i) (sym is_at) ∙ new_at) (kept_then d1.work due_m.core.node kind) new_up)
 
+        -- the count of its packets is what the restart answers there, and the node is up
         pub revived_acts : (count : ℕ) → count ≡ length (packets_after (world_of_taken size z.taken))
             → ForOk (world_of size now) (λ x. (place : Place V) → slice_get now.places j ≡ Some place → (e : Option (Event V)) → place.standing ≡ down e → ActsDown size x now (shared z (set seats k new)) j place e (Ok count))
         revived_acts count counted =

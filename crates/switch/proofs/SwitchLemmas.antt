@@ -37,12 +37,14 @@ still_world {V} size a b still h =
     subst (λ (t : Taken V). AreOfWorld size t b.cores b.packets) (sym still.taken)
     (subst (λ (ps : List (Packet V)). AreOfWorld size a.taken b.cores ps) (sym still.packets) (rooms_stay size a.taken a.cores a.packets h b.cores (nodes_still a.cores b.cores still.cores)))
 
+-- nodes that are changed in their rooms alone are as many as before
 still_count : {V : Type 0} (cs ds : List (Core V)) → AreStill cs ds → length ds ≡ length cs
 still_count [] [] h = refl
 still_count (c ∷ cs) (d ∷ ds) h = ap suc (still_count cs ds h.2)
 still_count [] (d ∷ ds) h = elim h [ ]
 still_count (c ∷ cs) [] h = elim h [ ]
 
+-- each node of a world before any event has the kept part of a new node
 new_node_at : {V : Type 0} (weights : List ℕ) (j k : ℕ) (ws : List ℕ) (n : Node V) → slice_get (nodes_from weights j ws) k ≡ Some n → kept_of n ≡ new_kept
 new_node_at weights j k [] n at = cc
 new_node_at {V} weights j zero (w ∷ ws) n at = let same : new_node j weights ≡ n = cc in ap (λ (m : Node V). kept_of m) (sym same)
@@ -71,18 +73,23 @@ module _ {V : Type 0} (size : V → ℕ) (net : NetView V) (seats : List (Seated
   abbrev w : World V
   w = h.world.world
 
+  -- the world counts the events of the history
   pub taken_is : w.taken ≡ length net.taken.events
   taken_is = taken_count size net.taken.weights net.taken.events w h.world.is_after
 
+  -- the history is no longer than the limit of events
   pub within : length net.taken.events ≤ MOST_EVENTS
   within = events_within size net.taken net.taken net.cores net.packets h.world refl
 
+  -- below that limit an event is what its node makes of it
   pub has_room : (e : Event V) → length net.taken.events < MOST_EVENTS → happens size w e ≡ happens_at size w e
   has_room e low = happens-not_spent size w e (let c = taken_is in omega (arith, c, low))
 
+  -- the node of the net at a number is the node of the world there
   pub core_node : (k : ℕ) (c : Core V) → slice_get net.cores k ≡ Some c → slice_get w.nodes k ≡ Some c.node
   core_node k c at = ap (λ (ns : List (Node V)). slice_get ns k) h.world.nodes ∙ nodes_found net.cores k c at
 
+  -- there is one world after the history
   pub same_world : (x : World V) → IsAfter size net.taken.weights net.taken.events x → w ≡ x
   same_world x is = let both : Ok w ≡ Ok x = sym h.world.is_after ∙ is in cc
 
@@ -93,6 +100,7 @@ module _ {V : Type 0} (size : V → ℕ) (net : NetView V) (seats : List (Seated
       (node_at w.weights (offers_of net.taken.events) holds.ledger w.nodes 0 k n at holds.nodes).weights
       ∙ (world_lasts size net.taken.weights [] net.taken.events (start net.taken.weights) w refl h.world.is_after).weights
 
+  -- the node at place k has the number k
   pub own_number : (k : ℕ) (n : Node V) → slice_get w.nodes k ≡ Some n → n.me ≡ k
   own_number k n at =
       let holds = holds_after size net.taken.weights net.taken.events w h.world.is_after in
@@ -100,11 +108,13 @@ module _ {V : Type 0} (size : V → ℕ) (net : NetView V) (seats : List (Seated
 
   -- Rooms alone are others.
 
+  -- what is owed is still due
   still_owing : (b : NetView V) → IsStill net b → (k : ℕ) (s : Standing (Due V)) → IsOwing size net k s → IsOwing size b k s
   still_owing b still k up o = tt
   still_owing b still k (down None) o = tt
   still_owing b still k (down (Some due)) o = (o.0, due_still size net b due still o.1)
 
+  -- the seats still make a switch with the net
   pub still_switch : (b : NetView V) → IsStill net b → IsSwitch size b seats
   still_switch b still =
       let there = still_world size net b still h.world in
@@ -119,6 +129,7 @@ module _ {V : Type 0} (size : V → ℕ) (net : NetView V) (seats : List (Seated
 
   -- One seat is another.
 
+  -- a new seat that fits its node leaves a switch
   pub other_seat : (k : ℕ) (n : Node V) (seat new : Seated V) → slice_get w.nodes k ≡ Some n → slice_get seats k ≡ Some seat → IsSeat size net k n new → IsSwitch size net (set seats k new)
   other_seat k n seat new at is own = record {
     world = h.world;
@@ -133,17 +144,21 @@ module _ {V : Type 0} (size : V → ℕ) (net : NetView V) (seats : List (Seated
     abbrev step : Stepped V
     step = step_of due.work d.core.node
 
+    -- the world has the node at which it is due
     pub node_is : slice_get w.nodes due.at ≡ Some d.core.node
     node_is = core_node due.at d.core d.at
 
+    -- what the event comes to at this node is the step
     pub at : IsEventAt size w due.at due.event (Ok step)
     at = d.comes w [] (h.world.posted ∙ sym (append-nil net.packets)) node_is
 
+    -- the change of what was made ready is that of its step at any node
     change_work : (work : Work V) (n : Node V) → change_in work ≡ (step_of work n).change
     change_work (steps made) n = refl
     change_work (restarts posts None) n = refl
     change_work (restarts posts (Some kept)) n = refl
 
+    -- the change of the due event is that of the step
     pub change_is : change_in due.work ≡ step.change
     change_is = change_work due.work d.core.node
 
@@ -152,9 +167,11 @@ module _ {V : Type 0} (size : V → ℕ) (net : NetView V) (seats : List (Seated
     change_told = change_is ∙ sym at.change
 
     module _ (low : length net.taken.events < MOST_EVENTS) where
+      -- below the limit of events the event happens, and makes the step
       pub happens_is : happens size w due.event ≡ Ok (stepped w due.at step)
       happens_is = has_room due.event low ∙ at.happens
 
+      -- the step leaves the kept part with this change
       pub changes : kept_of step.node ≡ changed_by (kept_of d.core.node) (change_in due.work)
       changes =
           let k = due.at in
@@ -167,15 +184,19 @@ module _ {V : Type 0} (size : V → ℕ) (net : NetView V) (seats : List (Seated
           cc
 
       module _ (b : NetView V) (t : IsTaken net b due) where
+        -- the node that took the event is the one at which it was due
         was_core : t.was ≡ d.core
         was_core = let both : Some t.was ≡ Some d.core = sym t.at ∙ d.at in cc
 
+        -- it is then the node that the step leaves
         node_then : t.core.node ≡ step.node
         node_then = t.node ∙ ap (λ (c : Core V). (step_of due.work c.node).node) was_core
 
+        -- the posts of the step are added to the packets
         posts_are : b.packets ≡ net.packets ++ step.posts
         posts_are = t.packets ∙ ap (λ (ps : List (Packet V)). net.packets ++ ps) (posts_same d.core due.work d.ready)
 
+        -- the nodes and the packets are those of the world with the event
         pub taken_world : AreOfWorld size b.taken b.cores b.packets
         taken_world =
             subst (λ (x : Taken V). AreOfWorld size x b.cores b.packets) (sym t.taken)
@@ -183,6 +204,7 @@ module _ {V : Type 0} (size : V → ℕ) (net : NetView V) (seats : List (Seated
             (makes size net.taken net.cores net.packets h.world low due.event due.at t.core step at.happens b.packets node_then posts_are
             (subst (λ (ps : List (Packet V)). AllByRecursion (IsPost (length net.taken.weights)) ps) (sym t.packets) (all_append (IsPost (length net.taken.weights)) net.packets (posts_of due.work) h.world.posts d.posts))))
 
+        -- the nodes of that world are those before, with one as the step leaves it
         nodes_then : taken_world.world.nodes ≡ set w.nodes due.at step.node
         nodes_then = taken_world.nodes ∙ ap (λ (cs : List (Core V)). nodes_of cs) t.cores ∙ nodes_of-set net.cores due.at t.core
             ∙ ap (λ (n : Node V). set (nodes_of net.cores) due.at n) node_then ∙ ap (λ (ns : List (Node V)). set ns due.at step.node) (sym h.world.nodes)
@@ -197,6 +219,7 @@ module _ {V : Type 0} (size : V → ℕ) (net : NetView V) (seats : List (Seated
           posts = subst (λ (x : Taken V). AllByRecursion (IsPost (length x.weights)) (posts_of other.work)) (sym t.taken) o.posts;
         }
 
+        -- what another node owes is still due
         other_owing : (j : ℕ) → due.at ≢ j → (s : Standing (Due V)) → IsOwing size net j s → IsOwing size b j s
         other_owing j apart up o = tt
         other_owing j apart (down None) o = tt

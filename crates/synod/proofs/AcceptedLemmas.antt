@@ -14,11 +14,13 @@ use Rattle.synod.specs.Ready.{taught_node}
 
 module _ {V : Type 0} (n : Node V) (p : ℕ) (b : Ballot) (s : ℕ) (v : Option V) (tallies : List Tally)
     (none : entry_at n.learned s ≡ None) (counted : tallies ≡ counted_in (tallies_at (entry_at n.tallies s)) b p) where
+  -- the sender is counted at the slot with these tallies
   accepted_counts : on_accepted n p b s v ≡ counts (record n { tallies = put_at n.tallies s tallies }) b s v
   accepted_counts =
       ap (λ (o : Option (Option V)). on_accepted_at o n p b s v) none
       ∙ ap (λ (ts : List Tally). counts (record n { tallies = put_at n.tallies s ts }) b s v) (sym counted)
 
+  -- a quorum chooses the value, and without one the node only has the tallies
   tested : (q : Bool) → is_quorum n.weights (voted_in tallies b) ≡ q
       → on_accepted n p b s v ≡ (if q then chooses (record n { tallies = put_at n.tallies s tallies }) s v else unchanged (record n { tallies = put_at n.tallies s tallies }))
   tested q quorum =
@@ -26,9 +28,11 @@ module _ {V : Type 0} (n : Node V) (p : ℕ) (b : Ballot) (s : ℕ) (v : Option 
       ∙ ap (λ (q : Bool). if q then chooses (record n { tallies = put_at n.tallies s tallies }) s v else unchanged (record n { tallies = put_at n.tallies s tallies }))
       (ap (λ (e : Option (List Tally)). is_quorum n.weights (λ k. voted_in (tallies_at e) b k)) (put_same n.tallies s tallies) ∙ quorum)
 
+  -- without a quorum the node is taught the count
   pub is_counted : is_quorum n.weights (voted_in tallies b) ≡ false → on_accepted n p b s v ≡ answers (taught_node n (Count s tallies)) []
   is_counted quorum = tested false quorum
 
+  -- with a quorum the node is taught the choice, and asks where a gap is left below
   pub is_chosen : is_quorum n.weights (voted_in tallies b) ≡ true → (gap : ℕ) → front_of (put_at n.learned s v) ≡ gap
       → on_accepted n p b s v ≡ answers (taught_node n (Choose s tallies v)) (asks_below n s gap)
   is_chosen quorum gap front =
@@ -40,10 +44,12 @@ module _ {V : Type 0} (n : Node V) (p : ℕ) (b : Ballot) (s : ℕ) (v : Option 
 abbrev pub with_learning : {V : Type 0} → Node V → Learning V → Node V
 with_learning n l = assembled n.me n.weights (kept_of n) (proposing_of n) l
 
+-- what was looked up and not found is not there
 pub none_is : {X Y : Type 0} (r : Option Y) (e : Option X) (Q : Y → Type 0) (b : Bool) → MatchOption r (e ≡ None) Q → b ≡ is_some r → b ≡ false → e ≡ None
 none_is None e Q b none told is_false = none
 none_is (Some y) e Q b some told is_false = cc
 
+-- without a quorum the node is taught the count
 pub count_step : {V : Type 0} (m n : Node V) (same : m ≡ n) (l : Learning V) (room : l ≡ learning_of m) (p : ℕ) (b : Ballot) (s : ℕ) (v : Option V) (tallies : List Tally)
     → entry_at m.learned s ≡ None → tallies ≡ counted_in (tallies_at (entry_at n.tallies s)) b p → is_quorum m.weights (voted_in tallies b) ≡ false
     → (posts : List (Packet V)) → posts ≡ [] → on_accepted n p b s v ≡ answers (taught_node (with_learning m l) (Count s tallies)) posts
@@ -52,6 +58,7 @@ count_step {V} m n same l room p b s v tallies none counted quorum posts no_post
     ∙ is_counted m p b s v tallies none (counted ∙ ap (λ (x : Node V). counted_in (tallies_at (entry_at x.tallies s)) b p) (sym same)) quorum
     ∙ (λ i. answers (taught_node (with_learning m (sym room i)) (Count s tallies)) (sym no_posts i))
 
+-- with a quorum the node is taught the choice of a copy of the value, and asks where a gap is left below
 pub choose_step : {V : Type 0} (m n : Node V) (same : m ≡ n) (l : Learning V) (room : l ≡ learning_of m) (p : ℕ) (b : Ballot) (s : ℕ) (v copy : Option V) (tallies : List Tally)
     → entry_at m.learned s ≡ None → tallies ≡ counted_in (tallies_at (entry_at n.tallies s)) b p → is_quorum m.weights (voted_in tallies b) ≡ true
     → copy ≡ v → (gap : ℕ) → ((w : Option V) → front_of (put_at l.learned s w) ≡ gap) → (posts : List (Packet V)) → posts ≡ asks_below m s gap

@@ -24,12 +24,14 @@ with_proposing n p = assembled n.me n.weights (kept_of n) p (learning_of n)
 
 module _ {V : Type 0} (m n : Node V) (same : m ≡ n) (p : Proposing V) (room : p ≡ proposing_of m) (i : ℕ) (reports copy : List (SlotReport V)) (copied : copy ≡ reports)
     (posts : List (Packet V)) (no_posts : posts ≡ []) where
+  -- the page is kept, and the promise of its sender has more
   pub keep_step : (k : ℕ) → page_of m.pages k i ≡ None → keeps_page n (with_page n.pages k i reports) ≡ answers (proposed_node (with_proposing m p) (Page k i copy)) posts
   keep_step k none =
       ap (λ (x : Node V). keeps_page x (with_page x.pages k i reports)) (sym same)
       ∙ ap (λ (ps : List (List (Option (List (SlotReport V))))). keeps_page m ps) (with_new m.pages k i reports none)
       ∙ (λ j. answers (proposed_node (with_proposing m (sym room j)) (Page k i (sym copied j))) (sym no_posts j))
 
+  -- the page is kept and its sender is heard, and no quorum yet
   pub hear_step : (h : Heard) → page_of m.pages h.node i ≡ None
       → keeps_promise n (with_page n.pages h.node i reports) (n.heard ++ h ∷ []) ≡ answers (proposed_node (with_proposing m p) (HearPage h i copy)) posts
   hear_step h none =
@@ -43,9 +45,11 @@ module _ {V : Type 0} (n : Node V) (k : ℕ) (b : Ballot) (first count : ℕ) (p
   abbrev had_if : Bool → Stepped V
   had_if t = if t then hears n b first pages (n.heard ++ record { node = k; count = count } ∷ []) else keeps_page n pages
 
+  -- where a page of the promise is still missing, the pages are kept
   pub gathers_not_all : front_of (pages_from pages k) < count → gathers n k b first count pages ≡ keeps_page n pages
   gathers_not_all few = let t : all_had (pages_from pages k) count ≡ false = grind (arith, nat_tests) in ap had_if t
 
+  -- where all pages of the promise are had, the sender is heard, and a quorum makes the node lead
   pub gathers_all : count ≤ front_of (pages_from pages k) → (q : Bool) → is_quorum n.weights (is_heard (n.heard ++ record { node = k; count = count } ∷ [])) ≡ q
       → gathers n k b first count pages ≡ (if q then leads_with n b first pages (n.heard ++ record { node = k; count = count } ∷ []) else keeps_promise n pages (n.heard ++ record { node = k; count = count } ∷ []))
   gathers_all all q quorum =
@@ -67,6 +71,7 @@ abbrev asked : {V : Type 0} → Node V → ℕ → Ballot → ℕ → ℕ → �
 asked n k c first page count reports same heard =
     if same && not heard then gathers n k c first count (with_page n.pages k (page - 1) reports) else unchanged n
 
+-- a page of a promise from a number that no node has comes to nothing
 pub promise_of_none : {V : Type 0} (n : Node V) (c : Ballot) (first : ℕ) → n.role ≡ Preparing c first → (k : ℕ) (b : Ballot) (page count : ℕ) (reports : List (SlotReport V)) → length n.pages ≤ k → 1 ≤ count
     → is_same b c ≡ true → is_heard n.heard k ≡ false → on_promise n k b page count reports ≡ unchanged n
 promise_of_none {V} n c first role k b page count reports past some same heard =

@@ -48,6 +48,7 @@ higher-joined x None r = refl
 higher-joined x (Some q) r = higher-joined_if x q r (is_under q.ballot r.ballot) (is_under x.ballot q.ballot) (is_under x.ballot r.ballot)
     (λ a b. under-under x.ballot q.ballot r.ballot b a) (λ a b. not-under x.ballot q.ballot r.ballot b a) refl refl refl
 
+-- one report is gone through before, if it is of the slot
 at_slot : {V : Type 0} (x : SlotReport V) (t : Bool) (o p : Option (SlotReport V)) (r : SlotReport V) → p ≡ joined_with o r → (if t then higher x p else p) ≡ joined_with (if t then higher x o else o) r
 at_slot {V} x true o p r e = ap (λ (q : Option (SlotReport V)). higher x q) e ∙ higher-joined x o r
 at_slot x false o p r e = e
@@ -71,6 +72,7 @@ highest_at-push_other {V} s (x ∷ rs) r other = ap (λ (o : Option (SlotReport 
 -- The table.
 
 module _ {V : Type 0} (first : ℕ) (table : List (Option (Bor (SlotReport V)))) (reports : List (SlotReport V)) (r : SlotReport V) (h : AreHighest first table reports) where
+  -- at place k the table still has the highest, whether the report is of that slot or of another
   kept_at : (k : ℕ) → k < length table → (t : Bool) → (r.slot == (first + k)) ≡ t → (r.slot ≡ first + k → joined_with (option_copied (slice_index_or table k None)) r ≡ option_copied (slice_index_or table k None))
       → option_copied (slice_index_or table k None) ≡ highest_at (first + k) (reports ++ r ∷ [])
   kept_at k low true e keeps =
@@ -83,6 +85,7 @@ module _ {V : Type 0} (first : ℕ) (table : List (Option (Bor (SlotReport V))))
   highest_kept keeps k low = kept_at k low (r.slot == (first + k)) refl (keeps k low)
 
   module _ (place : ℕ) (b : Bor (SlotReport V)) (is : b.now ≡ r) (in_table : place < length table) (at : r.slot ≡ first + place) (takes : joined_with (option_copied (slice_index_or table place None)) r ≡ Some r) where
+    -- at place k the table with the report put in has the highest, whether that is the report's place or another
     set_at : (k : ℕ) → k < length table → (t : Bool) → (k == place) ≡ t → option_copied (slice_index_or (set table place (Some b)) k None) ≡ highest_at (first + k) (reports ++ r ∷ [])
     set_at k low true e =
         let same : k ≡ place = eqb-true _ _ e in
@@ -100,6 +103,7 @@ module _ {V : Type 0} (first : ℕ) (table : List (Option (Bor (SlotReport V))))
 
 -- What the table has at a place.
 
+-- the item that was read at a place is what the table has there
 pub table_at : {V : Type 0} (table : List (Option (Bor (SlotReport V)))) (place : ℕ) (item : Option (Bor (SlotReport V))) → place < length table → item ≡ get_or table place item → slice_index_or table place None ≡ item
 table_at table place item low is = get_or_default table place None item low ∙ sym is
 
@@ -127,6 +131,7 @@ top-above first (r ∷ rs) above e = (λ z. absurd (omega (arith, e, z)), λ n. 
 
 -- The pages and the reports that were gone through, and those to come.
 
+-- the first elements, with the one that follows
 pub take_next : {A : Type 0} (xs : List A) (i : ℕ) (x : A) → x ≡ get_or xs i x → i < length xs → take (i + 1) xs ≡ take i xs ++ x ∷ []
 take_next xs i x is low = ap (λ (j : ℕ). take j xs) (add-one i) ∙ take-suc_get xs i x is low where
   take-suc_get : {A : Type 0} (xs : List A) (i : ℕ) (x : A) → x ≡ get_or xs i x → i < length xs → take (suc i) xs ≡ take i xs ++ x ∷ []
@@ -134,6 +139,7 @@ take_next xs i x is low = ap (λ (j : ℕ). take j xs) (add-one i) ∙ take-suc_
   take-suc_get (y ∷ xs) zero x is low = ap (λ z. z ∷ []) (sym is)
   take-suc_get (y ∷ xs) (suc i) x is low = ap (λ zs. y ∷ zs) (take-suc_get xs i x is (le_of_suc-le-suc low))
 
+-- the elements to come are the one at hand and those behind it
 pub drop_next : {A : Type 0} (xs : List A) (i : ℕ) (x : A) → x ≡ get_or xs i x → i < length xs → drop i xs ≡ x ∷ drop (i + 1) xs
 drop_next {A} xs i x is low = drop-cons xs i x low ∙ ap (λ (z : A). z ∷ drop (suc i) xs) (sym is) ∙ ap (λ (j : ℕ). x ∷ drop j xs) (sym (add-one i))
 
@@ -149,10 +155,12 @@ pub all_left : {A : Type 0} (P : A → Type 0) (xs ys : List A) → AllByRecursi
 all_left P [] ys h = tt
 all_left P (x ∷ xs) ys h = (h.0, all_left P xs ys h.1)
 
+-- what holds of each element of two lists holds of each of the second
 pub all_right : {A : Type 0} (P : A → Type 0) (xs ys : List A) → AllByRecursion P (xs ++ ys) → AllByRecursion P ys
 all_right P [] ys h = h
 all_right P (x ∷ xs) ys h = all_right P xs ys h.1
 
+-- the reports to come are those of the page at hand and of the pages behind it
 pub pages_next : {V : Type 0} (pages : List (Bor (List (SlotReport V)))) (i : ℕ) (page : Bor (List (SlotReport V))) → page ≡ get_or pages i page → i < length pages → all_of (drop i pages) ≡ page.now ++ all_of (drop (i + 1) pages)
 pages_next {V} pages i page is low = ap (λ (ps : List (Bor (List (SlotReport V)))). all_of ps) (drop_next pages i page is low)
 
@@ -160,6 +168,7 @@ pages_next {V} pages i page is low = ap (λ (ps : List (Bor (List (SlotReport V)
 pub highest_of_none : {V : Type 0} (first : ℕ) (table : List (Option (Bor (SlotReport V)))) → ((k : ℕ) → slice_index_or table k None ≡ None) → AreHighest first table []
 highest_of_none {V} first table none k low = ap (λ (o : Option (Bor (SlotReport V))). option_copied o) (none k)
 
+-- a table of nothing, with nothing at one place more
 pub none_push : {A : Type 0} (table more : List (Option A)) → more ≡ table ++ None ∷ [] → ((k : ℕ) → slice_index_or table k None ≡ None) → (k : ℕ) → slice_index_or more k None ≡ None
 none_push {A} table more e none k = ap (λ (xs : List (Option A)). slice_index_or xs k None) e ∙ pushed table none k where
   pushed : {A : Type 0} (table : List (Option A)) → ((k : ℕ) → slice_index_or table k None ≡ None) → (k : ℕ) → slice_index_or (table ++ None ∷ []) k None ≡ None
@@ -168,6 +177,7 @@ none_push {A} table more e none k = ap (λ (xs : List (Option A)). slice_index_o
   pushed (x ∷ table) none zero = none 0
   pushed (x ∷ table) none (suc k) = pushed table (λ j. none (suc j)) k
 
+-- to take as many elements as there are, or more, is to take all
 pub take_past : {A : Type 0} (xs : List A) (i : ℕ) → length xs ≤ i → take i xs ≡ xs
 take_past [] zero h = refl
 take_past [] (suc i) h = refl
@@ -225,6 +235,7 @@ add_next {V} had i n all more page is added =
 
 -- As many of the values as there are slots.
 
+-- to take n of them is to take the lesser of n and their count, and leaves the same
 pub take_min : {A : Type 0} (xs : List A) (n taken : ℕ) → taken ≡ min (length xs) n → (take taken xs ≡ take n xs) × (drop taken xs ≡ drop n xs) × (length (take n xs) ≡ taken)
 take_min {A} xs n taken e = elim (le_or_lt (length xs) n) [
   | inl all ↦

@@ -12,11 +12,13 @@ use Rattle.synod.specs.Proposer.{all_reports, leads_with}
 use Rattle.synod.specs.Ready.{proposed_node}
 use Rattle.synod.specs.Heights.{IsLead}
 
+-- the parts of a lead are those of its step: the next slot, the values left and the posts
 leads_at : {V : Type 0} (m : Node V) (b : Ballot) (first : ℕ) (pages : List (List (Option (List (SlotReport V))))) (heard : List Heard) (posts : List (Packet V)) (next taken : ℕ)
     → IsLead m.me m.weights b first (all_reports pages heard) m.waiting posts next taken → leads_with m b first pages heard ≡ answers (proposed_node m (Lead b next taken)) posts
 leads_at m b first pages heard posts next taken is =
     λ i. answers (assembled m.me m.weights (kept_of m) (record { role = Leading b (sym is.next_is i); pages = []; heard = []; waiting = sym is.left i }) (learning_of m)) (sym is.posted i)
 
+-- the same where room was made in between, and the pages and the waiting values are seen by themselves
 pub lead_step : {V : Type 0} (m n : Node V) (same : m ≡ n) (had : List (List (Option (List (SlotReport V))))) (pages_are : had ≡ m.pages) (values : List V) (waiting_is : values ≡ m.waiting)
     (b : Ballot) (first k i : ℕ) (reports : List (SlotReport V)) (heard : List Heard) (posts : List (Packet V)) (next taken : ℕ)
     → IsLead m.me m.weights b first (all_reports (with_page had k i reports) heard) values posts next taken

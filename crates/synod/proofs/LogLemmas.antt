@@ -3,12 +3,14 @@ use Rattle.std.proofs.Common.{◌≡◌, ◌∙◌, ℕ, zero, suc, ◌+◌, ◌
 use Rattle.std.specs.List.{slice_get}
 use Rattle.slots.specs.FiniteMap.{entry_at, entries_to_gap, front_of}
 
+-- below the first gap the list of entries has the entry of the slot
 pub gap_entry : {T : Type 0} (xs : List (Option T)) (s : ℕ) → s < front_of xs → slice_get (entries_to_gap xs) s ≡ entry_at xs s
 gap_entry [] s h = absurd (omega arith)
 gap_entry (None ∷ xs) s h = absurd (omega arith)
 gap_entry (Some x ∷ xs) zero h = refl
 gap_entry (Some x ∷ xs) (suc s) h = gap_entry xs s (le_of_suc-le-suc h)
 
+-- the first elements, with the one that follows
 take_next : {T : Type 0} (xs : List T) (i : ℕ) (x : T) → slice_get xs i ≡ Some x → take (suc i) xs ≡ take i xs ++ x ∷ []
 take_next [] i x h = cc
 take_next (y ∷ xs) zero x h = cc

@@ -20,6 +20,7 @@ use Rattle.synod.proofs.NodeKeeps.{KeepsOnOk, keeps_begun, keeps_reloaded}
 pub node_of_parts : {V : Type 0} (me : ℕ) (weights : List ℕ) (r : RecordView V) (p : ProposerView V) (l : LearnerView V) (core : Core V) → core_of me weights r p l ≡ core → IsNode (assembled me weights r.kept p.state l.state) → IsNode core.node
 node_of_parts {V} me weights r p l core is node = subst (λ (c : Core V). IsNode c.node) is node
 
+-- a ballot is begun in a round that is not past the last
 pub begins_keeps : {V : Type 0} (n : Node V) → IsNode n → next_round n < 2 ^ 64 → Keeps (length n.weights) (begins n)
 begins_keeps {V} n is low =
     let P : Result (Stepped V) Refusal → Type 0 = λ r. KeepsOnOk (length n.weights) r in

@@ -7,6 +7,7 @@ use Rattle.slots.proofs.MapReads.{put_either, put_same}
 use Rattle.synod.specs.declared.packet.SlotReport.{SlotReport}
 use Rattle.synod.specs.Node.{pages_from, page_of, with_page}
 
+-- what is there is not found to be missing
 had_not : {X : Type 0} (o : Option X) (x : X) → o ≡ Some x → is_some o ≡ false → ⊥
 had_not None x e n = cc
 had_not (Some y) x e n = cc
@@ -23,15 +24,18 @@ module _ {V : Type 0} (pages : List (List (Option (List (SlotReport V))))) (k i 
   pub with_had : is_some (page_of pages k i) ≡ true → with_page pages k i reports ≡ pages
   with_had some = ap with_if some
 
+  -- a new page of one of the nodes is had then
   pub page_new : page_of pages k i ≡ None → k < length pages → page_of (with_page pages k i reports) k i ≡ Some reports
   page_new none within =
       ap (λ (ps : List (List (Option (List (SlotReport V))))). page_of ps k i) (with_new none)
       ∙ ap (λ (m : List (Option (List (SlotReport V)))). entry_at m i) (get_or-set_same pages k (put_at (pages_from pages k) i reports) [] within)
       ∙ put_same (pages_from pages k) i reports
 
+  -- another page of the node, once the page is put
   put_other : (j : ℕ) → j ≢ i → (m : List (Option (List (SlotReport V)))) → entry_at (put_at m i reports) j ≡ entry_at m j
   put_other j other m = elim (put_either m i j reports) [ inl h ↦ absurd (other h.0) | inr h ↦ h ]
 
+  -- a page of another index, of this node or of another, once the page is put
   set_at : (l j : ℕ) → j ≢ i → k < length pages → (l ≡ k) ⊎ (l ≢ k) → page_of (set pages k (put_at (pages_from pages k) i reports)) l j ≡ page_of pages l j
   set_at l j other within (inl same) =
       ap (λ (n : ℕ). page_of (set pages k (put_at (pages_from pages k) i reports)) n j) same
@@ -41,6 +45,7 @@ module _ {V : Type 0} (pages : List (List (Option (List (SlotReport V))))) (k i 
   set_at l j other within (inr apart) =
       ap (λ (m : List (Option (List (SlotReport V)))). entry_at m j) (get_or-set_other pages k l (put_at (pages_from pages k) i reports) [] apart)
 
+  -- another page, whether the page was put or had before
   other_if : (t : Bool) (l j : ℕ) → (l ≢ k) ⊎ (j ≢ i) → k < length pages → page_of (with_if t) l j ≡ page_of pages l j
   other_if true l j other within = refl
   other_if false l j (inl other) within =
@@ -51,6 +56,7 @@ module _ {V : Type 0} (pages : List (List (Option (List (SlotReport V))))) (k i 
   pub page_other : (l j : ℕ) → (l ≢ k) ⊎ (j ≢ i) → k < length pages → page_of (with_page pages k i reports) l j ≡ page_of pages l j
   page_other l j other within = other_if (is_some (page_of pages k i)) l j other within
 
+  -- what was had stays, by whether the page was had before and whether it is the same one
   stays_if : (t : Bool) → is_some (page_of pages k i) ≡ t → (l j : ℕ) (page : List (SlotReport V)) → page_of pages l j ≡ Some page → k < length pages → (l ≡ k) ⊎ (l ≢ k) → (j ≡ i) ⊎ (j ≢ i)
       → page_of (with_page pages k i reports) l j ≡ Some page
   stays_if true e l j page had within a b = ap (λ (ps : List (List (Option (List (SlotReport V))))). page_of ps l j) (with_had e) ∙ had
@@ -64,6 +70,7 @@ module _ {V : Type 0} (pages : List (List (Option (List (SlotReport V))))) (k i 
   pub page_stays : (l j : ℕ) (page : List (SlotReport V)) → page_of pages l j ≡ Some page → k < length pages → page_of (with_page pages k i reports) l j ≡ Some page
   page_stays l j page had within = stays_if (is_some (page_of pages k i)) refl l j page had within (cases_eq l k) (cases_eq j i)
 
+  -- what was looked up and found stays
   pub match_stays : (l j : ℕ) (r : Option (Bor (List (SlotReport V)))) → MatchOption r (page_of pages l j ≡ None) (λ x. page_of pages l j ≡ Some x.now) → (b : Bool) → b ≡ is_some r → b ≡ true → k < length pages
       → MatchOption r (page_of (with_page pages k i reports) l j ≡ None) (λ x. page_of (with_page pages k i reports) l j ≡ Some x.now)
   match_stays l j None had b told some within = cc
@@ -75,6 +82,7 @@ module _ {V : Type 0} (pages : List (List (Option (List (SlotReport V))))) (k i 
       ap (λ (ps : List (List (Option (List (SlotReport V))))). pages_from ps k) (with_new none)
       ∙ get_or-set_same pages k (put_at (pages_from pages k) i reports) [] within
 
+-- what was looked up and found is there
 pub some_is : {X : Type 0} (r : Option (Bor X)) (o : Option X) → MatchOption r (o ≡ None) (λ x. o ≡ Some x.now) → (b : Bool) → b ≡ is_some r → b ≡ true → is_some o ≡ true
 some_is None o had b told some = cc
 some_is {X} (Some x) o had b told some = ap (λ (o : Option X). is_some o) had

@@ -5,6 +5,7 @@ use Rattle.synod.specs.declared.packet.Body.{Body}
 use Rattle.synod.specs.Packets.{packet, to_all_from, to_others_from}
 use Rattle.synod.specs.Said.{to_other}
 
+-- the packet to node i is posted, and those behind it are left
 pub all_next : {V : Type 0} (posts more : List (Packet V)) (me to i : ℕ) (body : Body V) (ws : List ℕ) → more ≡ posts ++ packet me to body ∷ [] → to ≡ i → i < length ws
     → more ++ to_all_from me body (i + 1) (drop (i + 1) ws) ≡ posts ++ to_all_from me body i (drop i ws)
 all_next {V} posts more me to i body ws posted at within =
@@ -16,10 +17,12 @@ all_next {V} posts more me to i body ws posted at within =
     ∙ append_assoc posts (packet me i body ∷ []) rest
     ∙ ap (λ (xs : List (Packet V)). posts ++ xs) (sym left)
 
+-- a packet before the rest, unless it were to its sender
 other_first : {V : Type 0} (me i : ℕ) (body : Body V) (rest : List (Packet V)) (b : Bool) → (if b then [] else (packet me i body ∷ [])) ++ rest ≡ (if b then rest else (packet me i body ∷ rest))
 other_first me i body rest true = refl
 other_first me i body rest false = refl
 
+-- the packet to node i is posted, unless it were to its sender, and those behind it are left
 pub others_next : {V : Type 0} (posts more : List (Packet V)) (me to i : ℕ) (body : Body V) (ws : List ℕ) → more ≡ posts ++ to_other me to body → to ≡ i → i < length ws
     → more ++ to_others_from me body (i + 1) (drop (i + 1) ws) ≡ posts ++ to_others_from me body i (drop i ws)
 others_next {V} posts more me to i body ws posted at within =

@@ -67,10 +67,12 @@ pages_with-last {T} full page = ap (λ (pages : List (List T)). full ++ pages) (
 
 -- The reports, slot by slot.
 
+-- a slot below the first is passed over
 below_if : {V : Type 0} (r : SlotReport V) (rs : List (SlotReport V)) (t : Bool) → t ≡ true → (if t then rs else (r ∷ rs)) ≡ rs
 below_if r rs true e = refl
 below_if r rs false e = cc
 
+-- a slot not below the first is reported
 above_if : {V : Type 0} (r : SlotReport V) (rs : List (SlotReport V)) (t : Bool) → t ≡ false → (if t then rs else (r ∷ rs)) ≡ r ∷ rs
 above_if r rs true e = cc
 above_if r rs false e = refl
@@ -154,6 +156,7 @@ module _ {V : Type 0} (first s : ℕ) (accepted : List (Option (Held V))) (full 
     abbrev here : SlotReport V
     here = record { slot = s; ballot = x.ballot; value = x.value }
 
+    -- the pages of what is gathered, the report of this slot and those to come are all pages
     with_here : pages_with full page (here ∷ rest) ≡ pages_of (reports_from first 0 accepted)
     with_here = ap (λ (rs : List (SlotReport V)). pages_with full page rs) (sym (reports-some first s s accepted x h.from is)) ∙ h.all
 

@@ -21,9 +21,11 @@ pub record IsReport {V : Type 0} (first s : ℕ) (hs : List (Option (Held V))) (
   pub value : r.value ≡ entry.value
   pub from_first : first ≤ r.slot
 
+-- a report of the later entries is one of the list with an entry before them
 next_report : {V : Type 0} {first s : ℕ} {hs : List (Option (Held V))} {r : SlotReport V} (x : Option (Held V)) → IsReport first (suc s) hs r → IsReport first s (x ∷ hs) r
 next_report x h = record { index = suc h.index; entry = h.entry; is_held = h.is_held; slot = omega (arith, h.slot); ballot = h.ballot; value = h.value; from_first = h.from_first }
 
+-- where the first slot has an entry, a report is of that one, unless it is passed over, or of a later one
 here_held : {V : Type 0} (first s : ℕ) (h : Held V) (hs : List (Option (Held V))) (r : SlotReport V) (b : Bool) → nat_lt s first ≡ b
     → In r (if b then reports_from first (suc s) hs else (record { slot = s; ballot = h.ballot; value = h.value } ∷ reports_from first (suc s) hs))
     → (In r (reports_from first (suc s) hs) → IsReport first (suc s) hs r) → IsReport first s (Some h ∷ hs) r
@@ -51,15 +53,18 @@ pub record HasReport {V : Type 0} (s : ℕ) (b : Ballot) (rs : List (SlotReport 
   pub slot : report.slot ≡ s
   pub ballot : report.ballot ≡ b
 
+-- what is reported is reported with one report more
 one_more : {V : Type 0} {slot : ℕ} {b : Ballot} {rs : List (SlotReport V)} (r : SlotReport V) → HasReport slot b rs → HasReport slot b (r ∷ rs)
 one_more r h = record { report = h.report; is_in = inr h.is_in; slot = h.slot; ballot = h.ballot }
 
+-- what is reported of later entries is reported, whether the entry before them is passed over or not
 here_reported : {V : Type 0} (first s : ℕ) (h : Held V) (hs : List (Option (Held V))) (slot : ℕ) (ballot : Ballot) (b : Bool) → nat_lt s first ≡ b
     → HasReport slot ballot (reports_from first (suc s) hs)
     → HasReport slot ballot (if b then reports_from first (suc s) hs else (record { slot = s; ballot = h.ballot; value = h.value } ∷ reports_from first (suc s) hs))
 here_reported first s h hs slot ballot true e m = m
 here_reported first s h hs slot ballot false e m = one_more _ m
 
+-- an entry is reported at its own slot, where that is not below the first that is asked for
 is_here : {V : Type 0} (first s : ℕ) (h : Held V) (rs : List (SlotReport V)) (slot : ℕ) (b : Bool) → nat_lt s first ≡ b → first ≤ slot → s ≡ slot
     → HasReport slot h.ballot (if b then rs else (record { slot = s; ballot = h.ballot; value = h.value } ∷ rs))
 is_here first s h rs slot true e l d = let f = ltb-true _ _ e in absurd (omega arith)
@@ -87,59 +92,69 @@ abbrev pub HighestHolds : {V : Type 0} → ℕ → List (SlotReport V) → Optio
 HighestHolds {V} s rs None = (q : SlotReport V) → In q rs → q.slot ≡ s → ⊥
 HighestHolds s rs (Some r) = IsHighest s rs r
 
-slot_of : {V : Type 0} → SlotReport V → ℕ
-slot_of r = r.slot
-
+-- no report is of the slot, where none was and one of another slot is added
 more_none : {V : Type 0} (s : ℕ) (r : SlotReport V) (rs : List (SlotReport V)) → (r.slot ≡ s → ⊥) → HighestHolds s rs None → HighestHolds s (r ∷ rs) None
 more_none {V} s r rs n h q (inl e) d = n (ap (λ (x : SlotReport V). x.slot) e ∙ d)
 more_none s r rs n h q (inr i) d = h q i d
 
+-- the ballot of the highest is not under any, where the report added is of another slot or no higher
 more_some : {V : Type 0} (s : ℕ) (r : SlotReport V) (rs : List (SlotReport V)) (p : SlotReport V) → (r.slot ≡ s → Upto r.ballot p.ballot) → IsHighest s rs p → (q : SlotReport V) → In q (r ∷ rs) → q.slot ≡ s → Upto q.ballot p.ballot
 more_some {V} s r rs p n h q (inl e) d = subst (λ (x : SlotReport V). Upto x.ballot p.ballot) e (n (ap (λ (x : SlotReport V). x.slot) e ∙ d))
 more_some s r rs p n h q (inr i) d = h.most q i d
 
+-- the highest stays, where the report added is of another slot or no higher
 kept_highest : {V : Type 0} (s : ℕ) (r : SlotReport V) (rs : List (SlotReport V)) (p : SlotReport V) → (r.slot ≡ s → Upto r.ballot p.ballot) → IsHighest s rs p → IsHighest s (r ∷ rs) p
 kept_highest s r rs p n h = record { is_in = inr h.is_in; slot = h.slot; most = more_some s r rs p n h }
 
+-- where no other report is of the slot, no ballot there is over that of the report added
 alone_most : {V : Type 0} (s : ℕ) (r : SlotReport V) (rs : List (SlotReport V)) → HighestHolds s rs None → (q : SlotReport V) → In q (r ∷ rs) → q.slot ≡ s → Upto q.ballot r.ballot
 alone_most {V} s r rs h q (inl e) d = subst (λ (x : SlotReport V). Upto x.ballot r.ballot) e (upto_self r.ballot)
 alone_most s r rs h q (inr i) d = absurd (h q i d)
 
+-- where the highest is up to the report added, no ballot at the slot is over that report's
 over_most : {V : Type 0} (s : ℕ) (r : SlotReport V) (rs : List (SlotReport V)) (p : SlotReport V) → Upto p.ballot r.ballot → IsHighest s rs p → (q : SlotReport V) → In q (r ∷ rs) → q.slot ≡ s → Upto q.ballot r.ballot
 over_most {V} s r rs p u h q (inl e) d = subst (λ (x : SlotReport V). Upto x.ballot r.ballot) e (upto_self r.ballot)
 over_most s r rs p u h q (inr i) d = upto_upto q.ballot p.ballot r.ballot (h.most q i d) u
 
+-- of the report added and the highest of the others, by the test of their ballots
 higher_either : {V : Type 0} (s : ℕ) (r : SlotReport V) (rs : List (SlotReport V)) (p : SlotReport V) (b : Bool) → is_under r.ballot p.ballot ≡ b → r.slot ≡ s → IsHighest s rs p → HighestHolds s (r ∷ rs) (if b then Some p else Some r)
 higher_either s r rs p true e d h = kept_highest s r rs p (λ _. under_is_upto _ _ (under_true _ _ e)) h
 higher_either s r rs p false e d h = record { is_in = inl refl; slot = d; most = over_most s r rs p (under_false _ _ e) h }
 
+-- a report of the slot is added
 higher_holds : {V : Type 0} (s : ℕ) (r : SlotReport V) (rs : List (SlotReport V)) (o : Option (SlotReport V)) → r.slot ≡ s → HighestHolds s rs o → HighestHolds s (r ∷ rs) (higher r o)
 higher_holds s r rs None d h = record { is_in = inl refl; slot = d; most = alone_most s r rs h }
 higher_holds s r rs (Some p) d h = higher_either s r rs p (is_under r.ballot p.ballot) refl d h
 
+-- a report of another slot is added
 other_holds : {V : Type 0} (s : ℕ) (r : SlotReport V) (rs : List (SlotReport V)) (o : Option (SlotReport V)) → (r.slot ≡ s → ⊥) → HighestHolds s rs o → HighestHolds s (r ∷ rs) o
 other_holds s r rs None n h = more_none s r rs n h
 other_holds s r rs (Some p) n h = kept_highest s r rs p (λ d. absurd (n d)) h
 
+-- any report is added, by the test of its slot
 either_holds : {V : Type 0} (s : ℕ) (r : SlotReport V) (rs : List (SlotReport V)) (b : Bool) → (r.slot == s) ≡ b → HighestHolds s rs (highest_at s rs) → HighestHolds s (r ∷ rs) (if b then higher r (highest_at s rs) else highest_at s rs)
 either_holds s r rs true e h = higher_holds s r rs (highest_at s rs) (eqb-true _ _ e) h
 either_holds s r rs false e h = other_holds s r rs (highest_at s rs) (λ d. grind (arith, nat_tests)) h
 
+-- what is found to be the highest report of a slot is the highest, or there is none
 pub highest_holds : {V : Type 0} (s : ℕ) (rs : List (SlotReport V)) → HighestHolds s rs (highest_at s rs)
 highest_holds s [] = λ q i d. elim i [ ]
 highest_holds s (r ∷ rs) = either_holds s r rs (r.slot == s) refl (highest_holds s rs)
 
 -- The top.
 
+-- each report is of a slot below the one above all
 pub above_each : {V : Type 0} (rs : List (SlotReport V)) (r : SlotReport V) → In r rs → r.slot < above_all rs
 above_each [] r i = elim i [ ]
 above_each {V} (q ∷ rs) r (inl e) = subst (λ (x : SlotReport V). x.slot < max (q.slot + 1) (above_all rs)) e (omega arith)
 above_each (q ∷ rs) r (inr i) = let h = above_each rs r i in omega arith
 
+-- each report is of a slot below the top
 pub below_top : {V : Type 0} (first : ℕ) (rs : List (SlotReport V)) (r : SlotReport V) → In r rs → r.slot < top_reported first rs
 below_top first [] r i = elim i [ ]
 below_top first (q ∷ rs) r i = above_each (q ∷ rs) r i
 
+-- the first slot is at most the top, where no report is of a slot below it
 pub first_to_top : {V : Type 0} (first : ℕ) (rs : List (SlotReport V)) → ((r : SlotReport V) → In r rs → first ≤ r.slot) → first ≤ top_reported first rs
 first_to_top first [] h = omega arith
 first_to_top first (q ∷ rs) h = let l = h q (inl refl) in omega arith

@@ -20,9 +20,11 @@ use Rattle.synod.specs.Ready.{Made, Readies, planned, proposer_of, learner_of, C
 
 -- A map of pages has more room.
 
+-- rooms that stay the same are at least what they were
 pub rooms_same : (rooms : List ℕ) → RoomsGrow rooms rooms
 rooms_same rooms = λ k. omega arith
 
+-- where one map has more room, each room is at least what it was
 pub rooms_grow : {T : Type 0} (maps : List (SlotsView T)) (k : ℕ) (m more : SlotsView T) → m ≡ get_or maps k m → m.room ≤ more.room → RoomsGrow (rooms_of maps) (rooms_of (set maps k more))
 rooms_grow {T} maps k m more read grows = λ j. grow_at maps k m more read grows j where
   grow_at : {T : Type 0} (maps : List (SlotsView T)) (k : ℕ) (m more : SlotsView T) → m ≡ get_or maps k m → m.room ≤ more.room → (j : ℕ) → get_or (rooms_of maps) j 0 ≤ get_or (rooms_of (set maps k more)) j 0
@@ -34,6 +36,7 @@ rooms_grow {T} maps k m more read grows = λ j. grow_at maps k m more read grows
 
 -- A part of a node has more room.
 
+-- a node has at least its own room
 pub same_room : {V : Type 0} (c : Core V) → HasAtLeast c c
 same_room c = record {
   accepted = omega arith;
@@ -48,12 +51,15 @@ module _ {V : Type 0} (me : ℕ) (weights : List ℕ) (r : RecordView V) (p : Pr
   abbrev Grows : Core V → Type 0
   Grows new = HasAtLeast now new
 
+  -- what has at least the room of the parts has at least that of the node that is seen
   back : (new : Core V) → HasAtLeast (core_of me weights r p l) new → Grows new
   back new h = subst (λ (c : Core V). HasAtLeast c new) seen h
 
+  -- no part has grown
   pub no_more_room : Grows (core_of me weights r p l)
   no_more_room = back (core_of me weights r p l) (same_room (core_of me weights r p l))
 
+  -- the record has more room
   pub record_room : (more : RecordView V) → r.room ≤ more.room → Grows (core_of me weights more p l)
   record_room more grows = back (core_of me weights more p l) record {
     accepted = grows;
@@ -64,6 +70,7 @@ module _ {V : Type 0} (me : ℕ) (weights : List ℕ) (r : RecordView V) (p : Pr
     learned = omega arith;
   }
 
+  -- the proposer has more room
   pub proposer_room : (more : ProposerView V) → RoomsGrow p.page_rooms more.page_rooms → p.heard_room ≤ more.heard_room → p.waiting_room ≤ more.waiting_room → Grows (core_of me weights r more l)
   proposer_room more pages heard waiting = back (core_of me weights r more l) record {
     accepted = omega arith;
@@ -74,6 +81,7 @@ module _ {V : Type 0} (me : ℕ) (weights : List ℕ) (r : RecordView V) (p : Pr
     learned = omega arith;
   }
 
+  -- the learner has more room
   pub learner_room : (more : LearnerView V) → l.tallies_room ≤ more.tallies_room → l.learned_room ≤ more.learned_room → Grows (core_of me weights r p more)
   learner_room more tallies learned = back (core_of me weights r p more) record {
     accepted = omega arith;
@@ -91,6 +99,7 @@ ready_room core (Err met) made h = elim h [ ]
 
 -- A plan can be followed where there is as much room.
 
+-- as to the change of the record
 more_to_change : {V : Type 0} (room more : ℕ) (change : Option (Change V)) → room ≤ more → HasRoomFor room change → HasRoomFor more change
 more_to_change room more None grows h = tt
 more_to_change room more (Some (Round r)) grows h = tt
@@ -98,6 +107,7 @@ more_to_change room more (Some (Promise b)) grows h = tt
 more_to_change room more (Some (Entry s held)) grows h = omega (arith, grows, h)
 
 module _ {V : Type 0} (c d : Core V) (same : d.node ≡ c.node) (h : HasAtLeast c d) where
+  -- as to what is proposed
   more_to_propose : (proposal : Option (Proposal V)) → HasRoomToPropose (proposer_of c) proposal → HasRoomToPropose (proposer_of d) proposal
   more_to_propose None room = tt
   more_to_propose (Some (Wait v)) room = let count = ap (λ (n : Node V). length n.waiting) same in let more = h.waiting in omega (arith, count, more, room)
@@ -113,12 +123,14 @@ module _ {V : Type 0} (c d : Core V) (same : d.node ≡ c.node) (h : HasAtLeast 
   more_to_propose (Some (Lead b next taken)) room = let count = ap (λ (n : Node V). length n.waiting) same in omega (arith, count, room)
   more_to_propose (Some Idle) room = tt
 
+  -- as to what is learned
   more_to_learn : (lesson : Option (Lesson V)) → HasRoomToLearn (learner_of c) lesson → HasRoomToLearn (learner_of d) lesson
   more_to_learn None room = tt
   more_to_learn (Some (Count s tallies)) room = let more = h.tallies in omega (arith, more, room)
   more_to_learn (Some (Choose s tallies v)) room = let t = h.tallies in let l = h.learned in (omega (arith, t, room.0), omega (arith, l, room.1))
   more_to_learn (Some (Learn s v)) room = let more = h.learned in omega (arith, more, room)
 
+  -- as to all its parts
   pub can_follow : (plan : Plan V) → CanFollow c plan → CanFollow d plan
   can_follow plan can = record {
     change = more_to_change c.accepted_room d.accepted_room plan.change h.accepted can.change;

@@ -20,25 +20,31 @@ only zero (suc k) = false
 only (suc j) zero = false
 only (suc j) (suc k) = only j k
 
+-- one node of three that weigh the same weighs too little
 pub one_of_three_is_none : is_quorum (1 ∷ 1 ∷ 1 ∷ []) (only 0) ≡ false
 one_of_three_is_none = refl
 
+-- a node that weighs three fifths weighs enough alone
 pub a_heavy_node_is_a_quorum : is_quorum (3 ∷ 1 ∷ 1 ∷ []) (only 0) ≡ true
 a_heavy_node_is_a_quorum = refl
 
+-- two of four is not more than half
 pub exactly_half_is_none : is_quorum (2 ∷ 1 ∷ 1 ∷ []) (only 0) ≡ false
 exactly_half_is_none = refl
 
 -- Ballots go by round, and then by node.
 
+-- round 1 of node 2 is under round 2 of node 0
 pub a_round_decides : is_under (record { round = 1; node = 2 }) (record { round = 2; node = 0 }) ≡ true
 a_round_decides = refl
 
+-- in one round node 1 is not under node 0
 pub then_the_node : is_under (record { round = 2; node = 1 }) (record { round = 2; node = 0 }) ≡ false
 then_the_node = refl
 
 -- The highest ballot wins: the first heard of equal ones, and the no-operation where none is reported.
 
+-- two reports of slot 0, none of slot 1, one of slot 2
 pub the_highest_is_proposed : fills {V = ℕ}
     (record { slot = 0; ballot = record { round = 1; node = 0 }; value = Some 7 } ∷ record { slot = 0; ballot = record { round = 2; node = 1 }; value = Some 8 } ∷ record { slot = 2; ballot = record { round = 1; node = 0 }; value = Some 9 } ∷ []) 0 3
     ≡ Some 8 ∷ None ∷ Some 9 ∷ []
@@ -46,46 +52,58 @@ the_highest_is_proposed = refl
 
 -- An acceptor.
 
+-- to a Prepare of round 1 a new node posts a promise of one page
 pub a_higher_ballot_is_promised : (on_prepare (new_node {V = ℕ} 1 (1 ∷ 1 ∷ [])) 0 (record { round = 1; node = 0 }) 0).posts
     ≡ packet 1 0 (Promise (record { round = 1; node = 0 }) 1 1 []) ∷ []
 a_higher_ballot_is_promised = refl
 
+-- to a second Prepare of one ballot a node posts a Nack
 pub the_same_ballot_is_refused : (on_prepare (on_prepare (new_node {V = ℕ} 1 (1 ∷ 1 ∷ [])) 0 (record { round = 1; node = 0 }) 0).node 0 (record { round = 1; node = 0 }) 0).posts
     ≡ packet 1 0 (Nack (record { round = 1; node = 0 }) (record { round = 1; node = 0 })) ∷ []
 the_same_ballot_is_refused = refl
 
+-- a new node that accepts in round 3 has promised that round
 pub an_accept_raises_the_promise : (on_accept (new_node {V = ℕ} 1 (1 ∷ 1 ∷ [])) 0 (record { round = 3; node = 0 }) 1 (Some 7)).node.promise ≡ record { round = 3; node = 0 }
 an_accept_raises_the_promise = refl
 
 -- The pages of a promise: none is one page, and 257 are two.
 
+-- a promise is sent even where nothing was accepted
 pub no_reports_are_one_page : length (pages_of {T = ℕ} []) ≡ 1
 no_reports_are_one_page = refl
 
+-- 257 reports fill a page, and one is left for the next
 pub a_page_has_256 : map (λ (page : List ℕ). length page) (pages_of (replicate 257 0)) ≡ 256 ∷ 1 ∷ []
 a_page_has_256 = refl
 
 -- Offers.
 
+-- with 64 values waiting no more may wait
 pub the_65th_offer_is_busy : offered (λ v. 8) (record (new_node {V = ℕ} 0 (1 ∷ [])) { waiting = replicate 64 7 }) 7 ≡ Err Busy
 the_65th_offer_is_busy = refl
 
+-- a value of one byte too many, at a node where no more may wait
 pub too_long_comes_first : offered (λ v. 67108865) (record (new_node {V = ℕ} 0 (1 ∷ [])) { waiting = replicate 64 7 }) 7 ≡ Err TooLong
 too_long_comes_first = refl
 
+-- a leader whose next slot is the limit has none to give
 pub the_log_is_full : offered (λ v. 8) (record (new_node {V = ℕ} 0 (1 ∷ [])) { role = Leading no_ballot 1048576 }) 7 ≡ Err LogFull
 the_log_is_full = refl
 
 -- Begins.
 
+-- no round is above the greatest number of 64 bits
 pub the_rounds_are_spent : begun (record (new_node {V = ℕ} 0 (1 ∷ [])) { promise = record { round = 18446744073709551615; node = 0 } }) ≡ Err RoundsSpent
 the_rounds_are_spent = refl
 
+-- node 0 of three posts an Ask to nodes 1 and 2
 pub a_restarted_proposer_asks_the_others : (restarted (record (new_node {V = ℕ} 0 (1 ∷ 1 ∷ 1 ∷ [])) { role = Leading no_ballot 1; round = 4 })).posts ≡ packet 0 1 (Ask 0) ∷ packet 0 2 (Ask 0) ∷ []
 a_restarted_proposer_asks_the_others = refl
 
+-- a leader that began round 4 has it afterwards too
 pub a_restart_keeps_the_round : (restarted (record (new_node {V = ℕ} 0 (1 ∷ [])) { role = Leading no_ballot 1; round = 4 })).node.round ≡ 4
 a_restart_keeps_the_round = refl
 
+-- a leader is idle afterwards
 pub a_restart_gives_the_role_up : (restarted (record (new_node {V = ℕ} 0 (1 ∷ [])) { role = Leading no_ballot 1; round = 4 })).node.role ≡ Idle
 a_restart_gives_the_role_up = refl

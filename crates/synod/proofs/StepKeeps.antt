@@ -25,6 +25,7 @@ use Rattle.synod.proofs.NodeKeeps.{either, all_append, posts_accepts, same, with
 use Rattle.synod.proofs.PageKeeps.{reports_low, reports_few, all_cut, pages_few, posts_pages, top_low, reports_heard, all_with_page, length-fills}
 
 module _ {V : Type 0} (n : Node V) (is : IsNode n) where
+  -- a Prepare comes, and is promised or refused
   pub keeps_prepare : (p : ℕ) (b : Ballot) (first : ℕ) → p < length n.weights → Keeps (length n.weights) (on_prepare n p b first)
   keeps_prepare p b first for = either (length n.weights) (promises n p b first) (refuses n p b) (is_under n.promise b) (λ e.
       let reports : List (SlotReport V) = reports_from first 0 n.accepted in
@@ -37,6 +38,7 @@ module _ {V : Type 0} (n : Node V) (is : IsNode n) where
         posts = posts_pages (length n.weights) n.me p b (length pages) 1 pages is.me for (omega arith) (omega arith) (omega (arith, few, low, count.0)) (all_cut IsReport 256 reports (reports_low first 0 n.accepted (omega (arith, low))));
       }) (λ e. refuses_keeps n is p b for)
 
+  -- the sender of an Accepted is counted, if nothing is learned at the slot
   keeps_accepted_at : (o : Option (Option V)) (p : ℕ) (b : Ballot) (s : ℕ) (v : Option V) → s < SLOTS → Keeps (length n.weights) (on_accepted_at o n p b s v)
   keeps_accepted_at (Some u) p b s v low = same n is
   keeps_accepted_at None p b s v low =
@@ -44,12 +46,14 @@ module _ {V : Type 0} (n : Node V) (is : IsNode n) where
       let as_node : IsNode counting = record { weights = is.weights; me = is.me; accepted = is.accepted; learned = is.learned; role = is.role; pages = is.pages } in
       either (length n.weights) (chooses counting s v) (unchanged counting) (is_quorum n.weights (has_voter counting.tallies s b)) (λ e. chooses_keeps counting as_node s v low) (λ e. same counting as_node)
 
+  -- an Accepted comes, for a slot below the limit
   pub keeps_accepted : (p : ℕ) (b : Ballot) (s : ℕ) (v : Option V) → s < SLOTS → Keeps (length n.weights) (on_accepted n p b s v)
   keeps_accepted p b s v low = keeps_accepted_at (entry_at n.learned s) p b s v low
 
   -- A page of a promise.
 
   module _ (b : Ballot) (first : ℕ) (low : first ≤ SLOTS) (role : n.role ≡ Preparing b first) (pages : List (List (Option (List (SlotReport V))))) (each : AllByRecursion (AllByRecursion ArePages) pages) where
+    -- the node leads, and proposes nothing at a slot past the limit
     leads_keep : (heard : List Heard) → Keeps (length n.weights) (leads n b first (all_reports pages heard) (top_reported first (all_reports pages heard)))
     leads_keep heard =
         let reports : List (SlotReport V) = all_reports pages heard in
@@ -66,16 +70,19 @@ module _ {V : Type 0} (n : Node V) (is : IsNode n) where
               (posts_accepts n.me n.weights b top (map (λ v. Some v) taken) is.me (omega (arith, below, fit, as_many)));
         }
 
+    -- a sender is heard, with or without a quorum
     hears_keep : (heard : List Heard) → Keeps (length n.weights) (hears n b first pages heard)
     hears_keep heard = either (length n.weights) (leads n b first (all_reports pages heard) (top_reported first (all_reports pages heard))) (keeps_promise n pages heard) (is_quorum n.weights (is_heard heard))
         (λ e. leads_keep heard)
         (λ e. record { node = with_parts n is n.promise n.round n.accepted n.role pages heard n.learned n.waiting is.accepted is.learned is.role each; posts = tt })
 
+    -- a page that was asked for, whether or not pages of its promise are missing
     gathers_keep : (p count : ℕ) → Keeps (length n.weights) (gathers n p b first count pages)
     gathers_keep p count = either (length n.weights) (hears n b first pages (n.heard ++ record { node = p; count = count } ∷ [])) (keeps_page n pages) (all_had (pages_from pages p) count)
         (λ e. hears_keep (n.heard ++ record { node = p; count = count } ∷ []))
         (λ e. record { node = with_parts n is n.promise n.round n.accepted n.role pages n.heard n.learned n.waiting is.accepted is.learned is.role each; posts = tt })
 
+  -- a Promise comes, by the role of the node
   promise_as : (as_role : Role) (p : ℕ) (b : Ballot) (page count : ℕ) (reports : List (SlotReport V)) → n.role ≡ as_role → IsRole as_role → AllByRecursion IsReport reports
       → Keeps (length n.weights) (on_promise_as as_role n p b page count reports)
   promise_as Idle p b page count reports role low each = same n is
@@ -85,9 +92,11 @@ module _ {V : Type 0} (n : Node V) (is : IsNode n) where
       (λ e. gathers_keep c first low role (with_page n.pages p (page - 1) reports) (all_with_page n.pages p (page - 1) reports (is_some (page_of n.pages p (page - 1))) is.pages each) p count)
       (λ e. same n is)
 
+  -- a Promise comes, of a page that is one of those counted
   pub keeps_promise_page : (p : ℕ) (b : Ballot) (page count : ℕ) (reports : List (SlotReport V)) → IsPage page count reports → Keeps (length n.weights) (on_promise n p b page count reports)
   keeps_promise_page p b page count reports h = promise_as n.role p b page count reports refl is.role h.each
 
+  -- a body within the limits comes from a node
   body_keeps : (p : ℕ) (body : Body V) → p < length n.weights → IsBody body → Keeps (length n.weights) (on_body n p body)
   body_keeps p (Prepare b first) from h = keeps_prepare p b first from
   body_keeps p (Promise b page count reports) from h = keeps_promise_page p b page count reports h
@@ -97,5 +106,6 @@ module _ {V : Type 0} (n : Node V) (is : IsNode n) where
   body_keeps p (Ask s) from h = keeps_ask n is p s from h
   body_keeps p (Told s v) from h = keeps_told n is p s v from h
 
+  -- any packet comes that keeps what a node may take for granted
   pub keeps_packet : (p : Packet V) → IsPacket (length n.weights) p → Keeps (length n.weights) (on_packet n p)
   keeps_packet p h = body_keeps p.from p.body h.sender h.body
