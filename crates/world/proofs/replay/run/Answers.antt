@@ -1,9 +1,13 @@
-use Rattle.std.proofs.Common.{◌≡◌, List, ◌∷◌, ◌++◌, [], ap, sym, ◌∙◌, append_assoc}
+use Rattle.std.proofs.Common.{◌≡◌, List, ◌∷◌, ◌++◌, [], ap, sym, ◌∙◌, subst, append_assoc}
 use Rattle.std.specs.Vec.Iter.{into_iter_items, into_iter_steps}
+use Rattle.std.proofs.lemmas.List.{append-nil, nil_from_length}
 use Rattle.std.proofs.iter.Next.{Yields-more}
 use Rattle.library.specs.declared.entry.Entry.{Entry}
 use Rattle.net.specs.declared.event.Event.{Event}
 use Rattle.world.specs.Carried.{carried, all_carried, carried_size}
+use Rattle.net.specs.Taken.{Taken}
+use Rattle.world.specs.declared.carried.Carried.{Carried}
+use Rattle.world.specs.Headline.{Headline}
 use Rattle.world.specs.Replicas.{Replicas}
 use Rattle.net.proofs.HistoryLemmas.{taken_front, stops_there}
 use Rattle.world.proofs.EntriesLemmas.{all_carried-append}
@@ -28,8 +32,16 @@ loop-event-preserved c = record {
   can = tt;
   finite = tt;
   world = run_goes_on c.args.weights c.loop-event.yielded c.in-Some.event c.loop-event.world c.step.new.self c.loop-event.invariant.world c.in_default.ensures.taken;
-  taken = step_taken c.loop-event.world c.step.new.self (carried c.in-Some.event) c.step.result c.in_default.ensures.taken c.in_default.is c.step.ensures.refused;
+  taken = step_taken c.loop-event.world c.step.new.self (carried c.in-Some.event) c.step.result _ c.in_default.ensures.taken c.in_default.is c.step.ensures.refused;
 }
 
 pub returns-clause-headline : goal.returns-clause-headline
-returns-clause-headline c = headline_holds _ c.loop-event.invariant.taken
+returns-clause-headline c =
+    let it = c.loop-event.event-iterator in
+    let done = c.loop-event.yielded in
+    let none : into_iter_items it ≡ [] = nil_from_length (into_iter_items it) (sym it.rest.ok.0 ∙ c.in-None.ensures.steps.0) in
+    let whole : c.args.events.items ≡ done =
+        sym c.into_iter-event-iterator.ensures.into_iter_gives.0 ∙ (taken_front c.into_iter-event-iterator.result done it c.loop-event.yielded_by
+        ∙ (ap (λ (es : List (Event Entry)). done ++ es) none ∙ append-nil done)) in
+    subst Headline (ap (λ (r : Replicas). r.taken) c.loop-event.invariant.world ∙ ap (λ (es : List (Event Entry)). let t : Taken Carried = record { weights = c.args.weights; events = all_carried es } in t) (sym whole))
+    (headline_holds c.loop-event.world.taken c.loop-event.invariant.taken)
