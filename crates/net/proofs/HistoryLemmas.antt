@@ -9,33 +9,15 @@ use Rattle.net.specs.declared.event.Event.{Event}
 use Rattle.net.specs.declared.fault.StepFault.{StepFault}
 use Rattle.net.specs.declared.fault.StepFault.TheVariants.{Memory}
 use Rattle.net.specs.World.{World, after}
-use Rattle.net.specs.Agree.{IsAfter, ChosenAgree, IsBeginningOf, Agree, LogsAgree}
+use Rattle.net.specs.Agree.{IsAfter, ChosenAgree, LogsAgree}
 use Rattle.net.specs.Taken.{Taken, world_of, with_event}
 use Rattle.net.specs.History.{IsMoment, Agreement, IsMetOrMemory, StopsAt}
+use Rattle.net.proofs.Beginnings.{swapped, beginnings_agree}
 use Rattle.net.proofs.OneValue.{ballots_have_one_value}
 use Rattle.net.proofs.LaterBallots.{later_ballots_keep_chosen}
 use Rattle.net.proofs.ChosenAgree.{chosen_values_agree}
 use Rattle.net.proofs.LogsAgree.{log_entries_are_chosen, logs_of_nodes_agree}
 use Rattle.net.proofs.Offered.{log_entries_were_offered}
-
--- Two beginnings of one list are one the beginning of the other.
-
-begins_more : {A : Type 0} (x y : A) (xs ys : List A) → x ≡ y → Agree xs ys → Agree (x ∷ xs) (y ∷ ys)
-begins_more x y xs ys same (inl h) = inl (h.0, let e = h.1 in cc)
-begins_more x y xs ys same (inr h) = inr (h.0, let e = h.1 in cc)
-
-pub beginnings_agree : {A : Type 0} (xs ys zs : List A) → IsBeginningOf xs zs → IsBeginningOf ys zs → Agree xs ys
-beginnings_agree [] ys zs first second = inl (ys, refl)
-beginnings_agree (x ∷ xs) [] zs first second = inr (x ∷ xs, refl)
-beginnings_agree (x ∷ xs) (y ∷ ys) [] first second = let e = first.1 in cc
-beginnings_agree (x ∷ xs) (y ∷ ys) (z ∷ zs) first second =
-    let e = first.1 in
-    let d = second.1 in
-    begins_more x y xs ys (cc) (beginnings_agree xs ys zs (first.0, (cc)) (second.0, (cc)))
-
-swapped : {A : Type 0} (xs ys : List A) → Agree xs ys → Agree ys xs
-swapped xs ys (inl h) = inr h
-swapped xs ys (inr h) = inl h
 
 -- Any two moments of a history: one comes first.
 

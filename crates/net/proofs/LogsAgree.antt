@@ -1,12 +1,12 @@
 -- Each entry of a log is chosen, since a node learns nothing else; so two logs have one entry at each slot that both have,
 -- and one of them is a beginning of the other.
-use Rattle.std.proofs.Common.{◌≡◌, ℕ, suc, ◌+◌, List, [], ◌∷◌, ◌++◌, Option, Some, None, inl, inr, refl, subst, slice_get}
+use Rattle.std.proofs.Common.{◌≡◌, ℕ, ◌+◌, List, ◌++◌, Option, Some, None, refl, subst, slice_get}
 use Rattle.slots.proofs.MapReads.{before_gap}
 use Rattle.synod.specs.Node.{Node}
 use Rattle.net.specs.Chosen.{Vote, IsChosen}
 use Rattle.net.specs.World.{World, log_at, log}
-use Rattle.net.specs.Agree.{Agree}
 use Rattle.net.specs.Laws.{LogEntriesAreChosen, LogsOfNodesAgree}
+use Rattle.net.proofs.Beginnings.{agree_lists}
 use Rattle.net.proofs.Ledger.{Ledger}
 use Rattle.net.proofs.Invariant.{NodeHolds, WorldHolds}
 use Rattle.net.proofs.EveryEvent.{node_at, holds_after}
@@ -24,17 +24,6 @@ pub log_entries_are_chosen : {V : Type 0} → LogEntriesAreChosen V
 log_entries_are_chosen {V} size ws events w is_after k s v e =
     let h = holds_after size ws events w is_after in
     subst (λ (votes : List (Vote V)). IsChosen w.weights votes s v) h.ever (log_chosen _ w h k s v e)
-
--- Lists that are the same wherever both have an element.
-
-agree_more : {A : Type 0} (x y : A) (xs ys : List A) → x ≡ y → Agree xs ys → Agree (x ∷ xs) (y ∷ ys)
-agree_more x y xs ys same (inl h) = inl (h.0, let e = h.1 in cc)
-agree_more x y xs ys same (inr h) = inr (h.0, let e = h.1 in cc)
-
-agree_lists : {A : Type 0} (xs ys : List A) → ((s : ℕ) (u v : A) → slice_get xs s ≡ Some u → slice_get ys s ≡ Some v → u ≡ v) → Agree xs ys
-agree_lists [] ys same = inl (ys, refl)
-agree_lists (x ∷ xs) [] same = inr (x ∷ xs, refl)
-agree_lists (x ∷ xs) (y ∷ ys) same = agree_more x y xs ys (same 0 x y refl refl) (agree_lists xs ys (λ s u v e d. same (suc s) u v e d))
 
 pub logs_of_nodes_agree : {V : Type 0} → LogsOfNodesAgree V
 logs_of_nodes_agree size ws early late w x first then j k = agree_lists (log w j) (log x k) (λ s u v e d.

@@ -1,5 +1,5 @@
 -- The answer of a call that applies the next entry of a node's log.
-use Rattle.std.proofs.Common.{◌≡◌, ℕ, zero, suc, ◌+◌, ◌<◌, List, [], ◌∷◌, length, set, get_or, slice_get, Option, Some, None, Result, Ok, Err, refl, ap, sym, ◌∙◌, subst, arith, le_of_suc-le-suc}
+use Rattle.std.proofs.Common.{◌≡◌, ℕ, List, set, slice_get, Option, Some, None, Result, Ok, Err, refl, ap, sym, ◌∙◌, subst}
 use Rattle.std.specs.Prelude.{IfOk, IfSome, IsSomeAnd, IsOkUnless, OnErr, MatchOption, option_map}
 use Rattle.std.specs.Borrow.{Bor}
 use Rattle.library.specs.declared.entry.Entry.{Entry}
@@ -20,12 +20,6 @@ pub entry_next : (log : List (Option Carried)) (s t : ℕ) (found : Option (Bor 
     → option_map (λ (e : Bor (Option Carried)). entry_of e.now) found ≡ slice_get (entries_of log) s
 entry_next log s t None at h = sym (ap (λ (i : ℕ). slice_get (entries_of log) i) (sym at) ∙ entries_of-none log t h)
 entry_next log s t (Some e) at h = sym (ap (λ (i : ℕ). slice_get (entries_of log) i) (sym at) ∙ entries_of-get log t e.now h)
-
--- the library at a place of the list
-pub replica_at : (libraries : List NodeLibrary) (k : ℕ) (node : NodeLibrary) → k < length libraries → node ≡ get_or libraries k node → slice_get libraries k ≡ Some node
-replica_at [] k node low is = absurd (omega arith)
-replica_at (l ∷ ls) zero node low is = ap (λ (n : NodeLibrary). let o : Option NodeLibrary = Some n in o) (sym is)
-replica_at (l ∷ ls) (suc k) node low is = replica_at ls k node (le_of_suc-le-suc low) is
 
 -- The answer of a call that applies the next entry at node k: node is its library before, next after.
 

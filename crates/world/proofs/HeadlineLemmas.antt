@@ -1,5 +1,5 @@
 -- The headline: logs of entries agree, the library of a log begins that of a longer one, and each library of a log is good.
-use Rattle.std.proofs.Common.{◌≡◌, ℕ, zero, suc, true, false, List, [], ◌∷◌, ◌++◌, take, Option, Result, Ok, Err, inl, inr, refl, ap, sym, ◌∙◌, subst, append_assoc}
+use Rattle.std.proofs.Common.{◌≡◌, ℕ, zero, suc, true, false, List, [], ◌∷◌, take, Option, Result, Ok, Err, inl, inr, refl, ap, sym, subst}
 use Rattle.std.specs.Prelude.{IsOk}
 use Rattle.library.specs.declared.entry.Entry.{Entry}
 use Rattle.library.specs.LibraryOf.{Replica, IsLibraryOf}
@@ -12,16 +12,14 @@ use Rattle.net.specs.Taken.{Taken, world_of}
 use Rattle.net.specs.History.{Agreement}
 use Rattle.world.specs.Carried.{carried_size, entries_of}
 use Rattle.world.specs.Headline.{Headline, HeadlineHolds}
-use Rattle.net.proofs.HistoryLemmas.{beginnings_agree, agreement_of}
+use Rattle.net.proofs.Beginnings.{then_begins, beginnings_agree}
+use Rattle.net.proofs.HistoryLemmas.{agreement_of}
 use Rattle.world.proofs.EntriesLemmas.{entries_agree}
 
 take_begins : {A : Type 0} (n : ℕ) (xs : List A) → IsBeginningOf (take n xs) xs
 take_begins zero xs = (xs, refl)
 take_begins (suc n) [] = ([], refl)
 take_begins (suc n) (x ∷ xs) = let rest = take_begins n xs in (rest.0, ap (λ ys. x ∷ ys) rest.1)
-
-then_begins : {A : Type 0} (xs ys zs : List A) → IsBeginningOf xs ys → IsBeginningOf ys zs → IsBeginningOf xs zs
-then_begins xs ys zs h k = (h.0 ++ k.0, sym (append_assoc xs h.0 k.0) ∙ ap (λ ws. ws ++ k.0) h.1 ∙ k.1)
 
 -- the first parts of two lists that agree
 takes_agree : {A : Type 0} (m n : ℕ) (xs ys : List A) → Agree xs ys → Agree (take m xs) (take n ys)

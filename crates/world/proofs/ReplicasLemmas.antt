@@ -1,8 +1,9 @@
 -- The libraries of a world: each is that of its log, whatever event comes and whichever entry is applied.
-use Rattle.std.proofs.Common.{◌≡◌, ◌≢◌, ℕ, zero, suc, ◌+◌, ◌<◌, ◌≤◌, ◌==◌, Bool, true, false, List, [], ◌∷◌, ◌++◌, length, take, replicate, set, slice_get, Option, Some, None, Result, Ok, Err, refl, ap, sym, ◌∙◌, subst, arith, add-one, length-append, le_of_suc-le-suc}
+use Rattle.std.proofs.Common.{◌≡◌, ◌≢◌, ℕ, zero, suc, ◌+◌, ◌==◌, Bool, true, false, List, [], ◌∷◌, ◌++◌, length, take, replicate, set, slice_get, Option, Some, None, Result, Ok, Err, refl, ap, sym, ◌∙◌, subst, arith, add-one, length-append}
 use Rattle.std.specs.Prelude.{IsOk, IfErr}
 use Rattle.std.proofs.lemmas.Bool.Decides.{nat_tests}
-use Rattle.std.proofs.lemmas.List.{length-set, length-replicate}
+use Rattle.std.proofs.lemmas.List.{length-set, length-replicate, take-append-le}
+use Rattle.std.proofs.lemmas.Option.{slice_get_within}
 use Rattle.library.specs.declared.entry.Entry.{Entry}
 use Rattle.library.specs.declared.verdict.Verdict.{Verdict}
 use Rattle.library.specs.LibraryOf.{Applies, IsLibraryOf}
@@ -25,20 +26,10 @@ use Rattle.net.proofs.Lists.{at_set_other}
 
 -- A library and its log.
 
-take_within : {A : Type 0} (n : ℕ) (xs more : List A) → n ≤ length xs → take n (xs ++ more) ≡ take n xs
-take_within zero xs more within = refl
-take_within (suc n) [] more within = absurd (omega arith)
-take_within (suc n) (x ∷ xs) more within = ap (λ ys. x ∷ ys) (take_within n xs more (le_of_suc-le-suc within))
-
 take_one_more : {A : Type 0} (n : ℕ) (xs : List A) (x : A) → slice_get xs n ≡ Some x → take (suc n) xs ≡ take n xs ++ x ∷ []
 take_one_more n [] x is = cc
 take_one_more zero (y ∷ xs) x is = let same : y ≡ x = cc in ap (λ z. z ∷ []) same
 take_one_more (suc n) (y ∷ xs) x is = ap (λ ys. y ∷ ys) (take_one_more n xs x is)
-
-get_within : {A : Type 0} (n : ℕ) (xs : List A) (x : A) → slice_get xs n ≡ Some x → n < length xs
-get_within n [] x is = cc
-get_within zero (y ∷ xs) x is = omega arith
-get_within (suc n) (y ∷ xs) x is = let low = get_within n xs x is in omega (arith, low)
 
 pub new_is_of_log : (log : List (Option Entry)) → IsOfLog log new_library
 new_is_of_log log = record { within = omega arith; library = refl }
@@ -48,7 +39,7 @@ pub of_longer : (log longer : List (Option Entry)) (node : NodeLibrary) → IsBe
 of_longer log longer node begins h = record {
   within = let count : length log + length begins.0 ≡ length longer = sym (length-append log begins.0) ∙ ap (λ (es : List (Option Entry)). length es) begins.1 in
       let low = h.within in omega (arith, count, low);
-  library = subst (λ (es : List (Option Entry)). IsLibraryOf es node.library) (sym (take_within node.applied log begins.0 h.within) ∙ ap (λ (es : List (Option Entry)). take node.applied es) begins.1) h.library;
+  library = subst (λ (es : List (Option Entry)). IsLibraryOf es node.library) (sym (take-append-le node.applied log begins.0 h.within) ∙ ap (λ (es : List (Option Entry)). take node.applied es) begins.1) h.library;
 }
 
 -- with the next entry applied
@@ -57,7 +48,7 @@ pub of_log_applied : (log : List (Option Entry)) (node : NodeLibrary) (entry : O
 of_log_applied log node entry verdict next h is applies one_more =
     let up : next.applied ≡ suc node.applied = one_more ∙ add-one node.applied in
     record {
-      within = let low = get_within node.applied log entry is in omega (arith, up, low);
+      within = let low = slice_get_within log node.applied entry is in omega (arith, up, low);
       library = subst (λ (es : List (Option Entry)). IsLibraryOf es next.library) (sym (ap (λ (n : ℕ). take n log) up ∙ take_one_more node.applied log entry is))
           (library-more (take node.applied log) node.library next.library entry verdict h.library applies);
     }
