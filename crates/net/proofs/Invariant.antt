@@ -25,7 +25,7 @@ use Rattle.net.proofs.Ledger.{Begun, begun_as, Promised, Proposal, proposal, Led
 use Rattle.net.proofs.LedgerGrows.{Grows, begun_lasts, chosen_lasts, free_lasts}
 use Rattle.net.proofs.LedgerSteps.{AllProposedBelow}
 
--- The acceptor: its promise is above what it promised and voted, and it holds the highest vote of each slot.
+-- The acceptor: its promise is not below what it promised and voted, and it holds the highest vote of each slot.
 
 pub record IsHeldFrom {V : Type 0} (accepted : List (Option (Held V))) (x : Vote V) : Type 0 where
   pub entry : Held V
