@@ -23,6 +23,7 @@ new_cells-push ws k old new pushed before low =
 
 -- Each of them belongs to a switch of as many nodes.
 
+-- a cell that is found among the new ones is the new one of its number, and a weight stands for it
 new_cell_at : (j k : ℕ) (ws : List ℕ) (c : Cell) → slice_get (new_cells j ws) k ≡ Some c → (c ≡ new_cell (j + k)) × (k < length ws)
 new_cell_at j k [] c at = cc
 new_cell_at j zero (w ∷ ws) c at = let same : new_cell j ≡ c = cc in let e : j ≡ j + 0 = omega arith in (sym same ∙ ap (λ (i : ℕ). new_cell i) e, omega arith)
@@ -31,10 +32,12 @@ new_cell_at j (suc k) (w ∷ ws) c at =
     let e : suc j + k ≡ j + suc k = omega arith in
     (rest.0 ∙ ap (λ (i : ℕ). new_cell i) e, let low = rest.1 in omega (arith, low))
 
+-- there are as many new places as keeps
 pub count_new_places : (V : Type 0) {K : Type 0} (failures : K → ℕ) (keeps : List K) → length (new_places {V = V} failures keeps) ≡ length keeps
 count_new_places V failures [] = refl
 count_new_places V failures (keep ∷ keeps) = ap suc (count_new_places V failures keeps)
 
+-- each new cell is of a switch with as many places: it has no entries yet
 pub new_belong : (ws : List ℕ) (cells : List Cell) (shared : Shared Carried) → cells ≡ new_cells 0 ws → length shared.places ≡ length ws → EachBelongs cells shared
 new_belong ws cells shared are count k c at =
     let is = new_cell_at 0 k ws c (ap (λ (cs : List Cell). slice_get cs k) (sym are) ∙ at) in

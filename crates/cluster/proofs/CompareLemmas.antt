@@ -27,12 +27,14 @@ module _ (s : Shared Carried) (w : World Carried) (is : world_of carried_size s 
   of_log c b h = of_longer (entries_of c.entries) (entries_of (log w c.at)) c.node
       (entries_begin c.entries (log w c.at) (subst (λ (es : List (Option Carried)). IsBeginningOf c.entries es) (ap (λ (r : Result (World Carried) StepFault). log_after r c.at) is) b.begins)) h.of_entries
 
+  -- the statements of two cells of the switch agree, by the headline in its world
   agree_in : (one other : Cell) → Belongs one s → Belongs other s → IsCell one → IsCell other → Agree one.node.library.statements other.node.library.statements
   agree_in one other b d h k =
       let line : Headline taken = headline_holds taken (subst (λ (r : Result (World Carried) StepFault). IsOk r) (sym is) refl) in
       let moment : IsMoment carried_size taken w = record { early = s.history; begins = ([], append-nil s.history); is_after = is } in
       line.libraries_agree w w moment moment one.at other.at one.node.applied other.node.applied one.node.library other.node.library (of_log one b h).library (of_log other d k).library
 
+-- the statements of two cells of one switch agree
 pub cells_agree : (one other : Cell) (s : Shared Carried) → IsOk (world_of carried_size s) → Belongs one s → Belongs other s → IsCell one → IsCell other → Agree one.node.library.statements other.node.library.statements
 cells_agree one other s ok b d h k = from (world_of carried_size s) refl ok where
   from : (r : Result (World Carried) StepFault) → world_of carried_size s ≡ r → IsOk r → Agree one.node.library.statements other.node.library.statements
@@ -42,20 +44,24 @@ cells_agree one other s ok b d h k = from (world_of carried_size s) refl ok wher
 -- What the counts of statements say.
 
 module _ (xs ys : Database) where
+  -- where the first of two lists that agree is longer, the second begins it
   pub is_first : Agree xs ys → length ys < length xs → IsBeginningOf ys xs × (length ys < length xs)
   is_first (inl h) more = let count : length xs + length h.0 ≡ length ys = sym (length-append xs h.0) ∙ ap (λ (zs : Database). length zs) h.1 in absurd (omega (arith, count, more))
   is_first (inr h) more = (h, more)
 
+  -- where the second of two lists that agree is longer, the first begins it
   pub is_second : Agree xs ys → length xs < length ys → IsBeginningOf xs ys × (length xs < length ys)
   is_second (inl h) more = (h, more)
   is_second (inr h) more = let count : length ys + length h.0 ≡ length xs = sym (length-append ys h.0) ∙ ap (λ (zs : Database). length zs) h.1 in absurd (omega (arith, count, more))
 
+-- a beginning that is no shorter than the list is the list
 all_begun : (xs ys : Database) → IsBeginningOf xs ys → length ys ≤ length xs → xs ≡ ys
 all_begun xs ys h few = by_rest h.0 h.1 where
   by_rest : (rest : Database) → xs ++ rest ≡ ys → xs ≡ ys
   by_rest [] is = sym (append-nil xs) ∙ is
   by_rest (s ∷ rest) is = let count : length xs + length (s ∷ rest) ≡ length ys = sym (length-append xs (s ∷ rest)) ∙ ap (λ (zs : Database). length zs) is in absurd (omega (arith, count, few))
 
+-- lists that agree, neither shorter than the other, are the same
 pub are_same : (xs ys : Database) → Agree xs ys → length xs ≤ length ys → length ys ≤ length xs → xs ≡ ys
 are_same xs ys (inl h) few most = all_begun xs ys h most
 are_same xs ys (inr h) few most = sym (all_begun ys xs h few)

@@ -8,17 +8,20 @@ use Rattle.synod.specs.declared.change.Change.TheVariants.{Round, Promise, Entry
 use Rattle.synod.specs.Record.{Kept, changed_by}
 use Rattle.cluster.specs.Entries.{with_entry}
 
+-- a gap in front of entries, one of which was put, is not trimmed away
 put_head : {T : Type 0} (xs : List (Option T)) (s : ℕ) (v : T) → trim_head None (put_at xs s v) ≡ None ∷ put_at xs s v
 put_head [] zero v = refl
 put_head [] (suc s) v = refl
 put_head (x ∷ xs) zero v = refl
 put_head (x ∷ xs) (suc s) v = refl
 
+-- to put an entry past the first slot, that slot may be trimmed before or after
 put_past_head : {T : Type 0} (x : Option T) (xs : List (Option T)) (s : ℕ) (v : T) → put_at (trim_head x xs) (suc s) v ≡ trim_head x (put_at xs s v)
 put_past_head (Some w) xs s v = refl
 put_past_head None [] s v = sym (put_head [] s v)
 put_past_head None (y ∷ ys) s v = sym (put_head (y ∷ ys) s v)
 
+-- an entry put at the first slot stands there before the others, trimmed or not
 put_first : {T : Type 0} (x : Option T) (xs : List (Option T)) (v : T) → put_at (trim_head x xs) zero v ≡ Some v ∷ xs
 put_first (Some w) xs v = refl
 put_first None [] v = refl
@@ -30,14 +33,17 @@ trimmed-put_at [] (suc s) v = ap (λ ys. trim_head None ys) (trimmed-put_at [] s
 trimmed-put_at (x ∷ xs) zero v = sym (put_first x (trimmed xs) v)
 trimmed-put_at (x ∷ xs) (suc s) v = ap (λ ys. trim_head x ys) (trimmed-put_at xs s v) ∙ sym (put_past_head x (trimmed xs) s v)
 
+-- to copy a slot past the first, the first may be trimmed before or after
 with_past_head : {T : Type 0} (x : Option T) (xs : List (Option T)) (s : ℕ) (o : Option T) → with_entry (trim_head x xs) (suc s) o ≡ trim_head x (with_entry xs s o)
 with_past_head x xs s None = refl
 with_past_head x xs s (Some v) = put_past_head x xs s v
 
+-- to copy the first slot gives it alone, trimmed
 with_first : {T : Type 0} (x : Option T) → with_entry [] zero x ≡ trim_head x []
 with_first None = refl
 with_first (Some v) = refl
 
+-- the first slots with the next one copied are the first slots up to it, trimmed
 with_suc : {T : Type 0} (xs : List (Option T)) (s : ℕ) → s < length xs → with_entry (trimmed (take s xs)) s (entry_at xs s) ≡ trimmed (take (suc s) xs)
 with_suc [] s low = absurd (omega arith)
 with_suc (x ∷ xs) zero low = with_first x

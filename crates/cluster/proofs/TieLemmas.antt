@@ -19,11 +19,13 @@ use Rattle.library.proofs.FrontLemmas.{get-front}
 
 -- What a switch shows of a log.
 
+-- what is shown of a slot is the entry of the log there, or none
 pub shown_is : (log : List (Option Carried)) (slot : ℕ) (found : Option (Bor (Option Carried))) → MatchOption found (slice_get log slot ≡ None) (λ (e : Bor (Option Carried)). slice_get log slot ≡ Some e.now)
     → option_map (λ (e : Bor (Option Carried)). e.now) found ≡ slice_get log slot
 shown_is log slot None h = sym h
 shown_is log slot (Some e) h = sym h
 
+-- where a call fails that succeeds if node k is there, the log of node k is empty
 pub none_shown : (s : Shared Carried) (k : ℕ) {A : Type 0} (fault : StepFault) (r : Result A StepFault) → r ≡ Err fault → ForOk (world_of carried_size s) (λ w. IsSome (slice_get w.nodes k) → IsOk r) → log_after (world_of carried_size s) k ≡ []
 none_shown s k {A} fault r is node = by_world (world_of carried_size s) refl where
   by_node : (o : Option (Node Carried)) → (IsSome o → IsOk r) → log_at o ≡ []
@@ -43,20 +45,24 @@ restarted_belongs old new was now is count b = subst (λ (c : Cell). Belongs c n
 
 -- One entry more is taken over.
 
+-- what stands behind a first part is the first element of the rest
 get_past : {A : Type 0} (xs rest : List A) (x : A) → slice_get (xs ++ rest) (length xs) ≡ Some x → (more : List A) × (rest ≡ x ∷ more)
 get_past [] [] x is = cc
 get_past [] (y ∷ more) x is = let same : y ≡ x = cc in (more, ap (λ z. z ∷ more) same)
 get_past (y ∷ xs) rest x is = get_past xs rest x is
 
+-- a beginning of a list with the next element of the list is a beginning
 one_more_begins : {A : Type 0} (xs ys : List A) (x : A) → IsBeginningOf xs ys → slice_get ys (length xs) ≡ Some x → IsBeginningOf (xs ++ x ∷ []) ys
 one_more_begins {A} xs ys x h at =
     let rest = get_past xs h.0 x (ap (λ (zs : List A). slice_get zs (length xs)) h.1 ∙ at) in
     (rest.0, append_assoc xs (x ∷ []) rest.0 ∙ ap (λ (zs : List A). xs ++ zs) (sym rest.1) ∙ h.1)
 
 module _ (s : Shared Carried) (k : ℕ) (old new : List (Option Carried)) (b : BeginsLog carried_size s k old) where
+  -- entries that are the same begin the log
   as_begun : new ≡ old → BeginsLog carried_size s k new
   as_begun is = subst (λ (es : List (Option Carried)). BeginsLog carried_size s k es) (sym is) b
 
+  -- whatever is answered, what is left begins the log
   pub taken_belongs : (next : Option (Option Carried)) (result : Result Bool StepFault) (slot : ℕ) → slot ≡ length old → next ≡ slice_get (log_after (world_of carried_size s) k) slot → AddsEntry old new next result → BeginsLog carried_size s k new
   taken_belongs (Some entry) (Ok true) slot is shows adds = record {
     node = b.node;
@@ -74,6 +80,7 @@ module _ (s : Shared Carried) (k : ℕ) (old new : List (Option Carried)) (b : B
 abbrev cell_of : ℕ → List (Option Carried) → NodeLibrary → Cell
 cell_of k entries node = record { at = k; entries = entries; node = node }
 
+-- an answer that is right of the entries alone is right of their cell
 adds_takes : (k : ℕ) (node : NodeLibrary) (es fs : List (Option Carried)) (next : Option (Option Carried)) (result : Result Bool StepFault) → AddsEntry es fs next result → TakesOver (cell_of k es node) (cell_of k fs node) next result
 adds_takes k node es fs (Some entry) (Ok true) h = ap (λ (gs : List (Option Carried)). cell_of k gs node) h
 adds_takes k node es fs (Some entry) (Ok false) h = elim h [ ]
@@ -83,6 +90,7 @@ adds_takes k node es fs None (Ok false) h = ap (λ (gs : List (Option Carried)).
 adds_takes k node es fs None (Err fault) h = elim h [ ]
 
 module _ (s : Shared Carried) (k : ℕ) (node : NodeLibrary) (es : List (Option Carried)) (now : Cell) (seen : cell_of k es node ≡ now) where
+  -- the cell takes over the next entry of its node's log, as it is shown
   pub takes_over : (fs : List (Option Carried)) (found : Option (Bor (Option Carried))) (slot : ℕ) → slot ≡ length es
       → MatchOption found (slice_get (log_after (world_of carried_size s) k) slot ≡ None) (λ (e : Bor (Option Carried)). slice_get (log_after (world_of carried_size s) k) slot ≡ Some e.now)
       → (result : Result Bool StepFault) → AddsEntry es fs (option_map (λ (e : Bor (Option Carried)). e.now) found) result
@@ -105,12 +113,14 @@ module _ (s : Shared Carried) (k : ℕ) (node : NodeLibrary) (es : List (Option 
       let one : fault ≡ NoNode = cc in
       (ap (λ (f : StepFault). let a : Result Bool StepFault = Err f in a) one, same)
 
+  -- where a call fails that succeeds if the node is there, there is none of which to say more
   pub none_takes : {A : Type 0} (r : Result A StepFault) (fault : StepFault) → r ≡ Err fault → ForOk (world_of carried_size s) (λ w. IsSome (slice_get w.nodes k) → IsOk r) → (P : World Carried → Type 0)
       → ForOk (world_of carried_size s) (λ w. IsSome (slice_get w.nodes now.at) → P w)
   none_takes {A} r fault is node P = λ w d there. (let no : false ≡ true = subst (λ (a : Result A StepFault). IsOk a) is (node w d (subst (λ (c : Cell). IsSome (slice_get w.nodes c.at)) (sym seen) there)) in cc)
 
 -- Entries found one by one.
 
+-- a list begins another that has each of its elements at the same index
 pub all_found : {A : Type 0} (xs ys : List A) → ((i : ℕ) → i < length xs → slice_get ys i ≡ slice_get xs i) → IsBeginningOf xs ys
 all_found [] ys each = (ys, refl)
 all_found (x ∷ xs) [] each = let no : None ≡ Some x = each 0 (omega arith) in cc

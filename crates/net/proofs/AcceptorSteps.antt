@@ -47,6 +47,7 @@ module _ {V : Type 0} {offers : List V} {l : Ledger V} (n : Node V) (sound : IsS
     abbrev made : Promised V
     made = record { node = n.me; ballot = b; first = first; reports = reports_from first 0 n.accepted }
 
+    -- the node has not promised this ballot yet, since it is above all that it promised
     not_twice : (q : Promised V) → In q l.promises → OnePromise made q → ⊥
     not_twice q i same = not_both b b (subst (λ (c : Ballot). Under c b) (sym same.1) (upto_under q.ballot n.promise b (holds.acceptor.promised q i (sym same.0)) under)) (upto_self b)
 
@@ -72,10 +73,12 @@ module _ {V : Type 0} {offers : List V} {l : Ledger V} (n : Node V) (sound : IsS
               (subst (λ (v : Option V). In (vote n.me from.entry.ballot from.index v) l.votes) (sym from.value) voted));
         }
 
+    -- with the new promise, all that the node promised is up to its ballot
     promised_upto : (p : Promised V) → In p (made ∷ l.promises) → p.node ≡ n.me → Upto p.ballot b
     promised_upto p (inl e) mine = subst (λ (p : Promised V). Upto p.ballot b) e (upto_self b)
     promised_upto p (inr i) mine = upto_upto p.ballot n.promise b (holds.acceptor.promised p i mine) (under_is_upto _ _ under)
 
+    -- a promise of a ballot above the one that stands continues the story
     pub promises_continue : (to : ℕ) → In (begun_as b first) l.begun → Continues n.weights offers n.me l (promises n to b first)
     promises_continue to begun =
         let m : Ledger V = with_promise made l in
@@ -101,17 +104,20 @@ module _ {V : Type 0} {offers : List V} {l : Ledger V} (n : Node V) (sound : IsS
           cast = refl;
         }
 
+  -- a Prepare gets a promise or a refusal, by the test, and both continue the story
   prepare_either : (to : ℕ) (b : Ballot) (first : ℕ) → In (begun_as b first) l.begun → (t : Bool) → is_under n.promise b ≡ t
       → Continues n.weights offers n.me l (if t then promises n to b first else refuses n to b)
   prepare_either to b first begun true test = promises_continue b first (under_true _ _ test) to begun
   prepare_either to b first begun false test = same_ledger sound holds (tt, tt) refl
 
+  -- a Prepare of a ballot that was begun continues the story
   pub prepare_continues : (to : ℕ) (b : Ballot) (first : ℕ) → In (begun_as b first) l.begun → Continues n.weights offers n.me l (on_prepare n to b first)
   prepare_continues to b first begun = prepare_either to b first begun (is_under n.promise b) refl
 
   -- An Accept not below the promise.
 
   module _ (b : Ballot) (s : ℕ) (v : Option V) (upto : Upto n.promise b) where
+    -- with the new vote, all that the node voted is up to its ballot
     voted_upto : (x : Vote V) → In x (vote n.me b s v ∷ l.votes) → x.node ≡ n.me → Upto x.ballot b
     voted_upto x (inl e) mine = subst (λ (x : Vote V). Upto x.ballot b) e (upto_self b)
     voted_upto x (inr i) mine = upto_upto x.ballot n.promise b (holds.acceptor.voted x i mine) upto
@@ -124,6 +130,7 @@ module _ {V : Type 0} {offers : List V} {l : Ledger V} (n : Node V) (sound : IsS
       | inr same ↦ record { entry = old.entry; is_held = same ∙ old.is_held; upto = old.upto }
     ]
 
+    -- each entry held, once the new one is put, was voted for
     put_voted : (t : ℕ) (h : Held V) → entry_at (put_at n.accepted s (held b v)) t ≡ Some h → In (vote n.me h.ballot t h.value) (vote n.me b s v ∷ l.votes)
     put_voted t h e = elim (put_either n.accepted s t (held b v)) [
       | inl put ↦ let same : held b v ≡ h = cc (put.1, e) in
@@ -131,6 +138,7 @@ module _ {V : Type 0} {offers : List V} {l : Ledger V} (n : Node V) (sound : IsS
       | inr same ↦ inr (holds.acceptor.held t h (sym same ∙ e))
     ]
 
+    -- a vote for a proposal under a ballot not below the promise continues the story
     pub accepts_continue : In (proposal b s v) l.proposals → Continues n.weights offers n.me l (takes_value n b s v)
     accepts_continue proposed =
         let m : Ledger V = with_vote (vote n.me b s v) l in
@@ -151,10 +159,12 @@ module _ {V : Type 0} {offers : List V} {l : Ledger V} (n : Node V) (sound : IsS
           cast = refl;
         }
 
+  -- an Accept is refused or accepted, by the test, and both continue the story
   accept_either : (to : ℕ) (b : Ballot) (s : ℕ) (v : Option V) → In (proposal b s v) l.proposals → (t : Bool) → is_under b n.promise ≡ t
       → Continues n.weights offers n.me l (if t then refuses n to b else takes_value n b s v)
   accept_either to b s v proposed true test = same_ledger sound holds (tt, tt) refl
   accept_either to b s v proposed false test = accepts_continue b s v (under_false _ _ test) proposed
 
+  -- an Accept of what was proposed continues the story
   pub accept_continues : (to : ℕ) (b : Ballot) (s : ℕ) (v : Option V) → In (proposal b s v) l.proposals → Continues n.weights offers n.me l (on_accept n to b s v)
   accept_continues to b s v proposed = accept_either to b s v proposed (is_under b n.promise) refl

@@ -13,6 +13,7 @@ use Rattle.net.proofs.EveryEvent.{holds_after}
 use Rattle.net.proofs.TwoMoments.{stays_chosen}
 
 module _ {V : Type 0} (ws : List ℕ) (offers : List V) (l : Ledger V) (sound : IsSound ws offers l) where
+  -- two values chosen at one slot are equal, the ballot of the first being up to that of the second
   agree_upto : (b c : Ballot) (s : ℕ) (u v : Option V) → IsChosenAt ws l.votes b s u → IsChosenAt ws l.votes c s v → Upto b c → u ≡ v
   agree_upto b c s u v early late upto =
       let shared = quorums_meet ws early.voters late.voters early.majority late.majority in
@@ -23,12 +24,14 @@ module _ {V : Type 0} (ws : List ℕ) (offers : List V) (l : Ledger V) (sound : 
         | inr same ↦ sound.one_value (proposal b s u) (proposal c s v) first second (same, refl)
       ]
 
+  -- two values chosen at one slot are equal, whichever ballot is higher
   pub chosen_once : (s : ℕ) (u v : Option V) → IsChosen ws l.votes s u → IsChosen ws l.votes s v → u ≡ v
   chosen_once s u v c d = elim (total c.ballot d.ballot) [
     | inl under ↦ agree_upto c.ballot d.ballot s u v c.chosen d.chosen (under_is_upto _ _ under)
     | inr upto ↦ sym (agree_upto d.ballot c.ballot s v u d.chosen c.chosen upto)
   ]
 
+-- values chosen at one slot at two moments are equal
 pub chosen_values_agree : {V : Type 0} → ChosenValuesAgree V
 chosen_values_agree {V} size ws early late w x first then s u v c d =
     let h = holds_after size ws (early ++ late) x then in

@@ -22,6 +22,7 @@ use Rattle.net.proofs.Lists.{at_front}
 -- What an event comes to at its node.
 
 module _ {V : Type 0} (size : V → ℕ) (ps : List (Packet V)) (k : ℕ) (n : Node V) where
+  -- an offer comes to what its node makes of the value
   pub comes_offer : (v : V) → ComesTo size ps k n (Offer k v) (offered size n v)
   comes_offer v = λ w more e is. record {
     happens = ap (λ (o : Option (Node V)). at_node w k (λ n. offered size n v) o) is;
@@ -29,6 +30,7 @@ module _ {V : Type 0} (size : V → ℕ) (ps : List (Packet V)) (k : ℕ) (n : N
     node = refl;
   }
 
+  -- a begin comes to what its node makes of it
   pub comes_begin : ComesTo size ps k n (Begin k) (begun n)
   comes_begin = λ w more e is. record {
     happens = ap (λ (o : Option (Node V)). at_node w k begun o) is;
@@ -36,6 +38,7 @@ module _ {V : Type 0} (size : V → ℕ) (ps : List (Packet V)) (k : ℕ) (n : N
     node = refl;
   }
 
+  -- a restart comes to the restarted node
   pub comes_restart : ComesTo size ps k n (Restart k) (Ok (restarted n))
   comes_restart = λ w more e is. record {
     happens = ap (λ (o : Option (Node V)). at_node w k (λ n. Ok (restarted n)) o) is;
@@ -43,6 +46,7 @@ module _ {V : Type 0} (size : V → ℕ) (ps : List (Packet V)) (k : ℕ) (n : N
     node = refl;
   }
 
+  -- a delivery comes to what the node that its packet is for makes of it
   pub comes_packet : (number : ℕ) (p : Packet V) → slice_get ps number ≡ Some p → p.to ≡ k → ComesTo size ps k n (Deliver number) (Ok (on_packet n p))
   comes_packet number p at to = λ w more e is.
       let got : slice_get w.packets number ≡ Some p = ap (λ (qs : List (Packet V)). slice_get qs number) e ∙ at_front ps more number p at in
@@ -54,10 +58,12 @@ module _ {V : Type 0} (size : V → ℕ) (ps : List (Packet V)) (k : ℕ) (n : N
         node = ap (λ (o : Option (Packet V)). option_map (λ p. p.to) o) got ∙ ap (λ (j : ℕ). let o : Option ℕ = Some j in o) to;
       }
 
+-- where there is no receiver of a packet there is no packet
 pub not_mapped : {V : Type 0} (o : Option (Packet V)) → option_map (λ (p : Packet V). p.to) o ≡ None → o ≡ None
 not_mapped None is = refl
 not_mapped (Some p) is = cc
 
+-- where there is a receiver there is a packet, and it is for that node
 pub mapped : {V : Type 0} (o : Option (Packet V)) (k : ℕ) → option_map (λ (p : Packet V). p.to) o ≡ Some k → (p : Packet V) × (o ≡ Some p) × (p.to ≡ k)
 mapped None k is = cc
 mapped (Some p) k is = (p, refl, let same : p.to ≡ k = cc in same)
@@ -68,6 +74,7 @@ packet_there ps number k at = let p = mapped (slice_get ps number) k at in slice
 
 -- Nodes that stand, with room at least as much.
 
+-- room at least as much, twice, is room at least as much
 pub more_room : {V : Type 0} (a b c : Core V) → HasAtLeast a b → HasAtLeast b c → HasAtLeast a c
 more_room a b c one two = record {
   accepted = let x = one.accepted in let y = two.accepted in omega (arith, x, y);
@@ -78,21 +85,25 @@ more_room a b c one two = record {
   learned = let x = one.learned in let y = two.learned in omega (arith, x, y);
 }
 
+-- cores are as they were where nothing is done
 pub still_same : {V : Type 0} (cs : List (Core V)) → AreStill cs cs
 still_same [] = tt
 still_same (c ∷ cs) = (refl, same_room c, still_same cs)
 
+-- to set a core of the same node, with at least the room, leaves each as it was
 pub still_set : {V : Type 0} (cs : List (Core V)) (k : ℕ) (c d : Core V) → c ≡ get_or cs k c → d.node ≡ c.node → HasAtLeast c d → AreStill cs (set cs k d)
 still_set [] k c d is node room = tt
 still_set {V} (x ∷ cs) zero c d is node room = (node ∙ ap (λ (y : Core V). y.node) is, subst (λ (y : Core V). HasAtLeast y d) is room, still_same cs)
 still_set (x ∷ cs) (suc k) c d is node room = (refl, same_room x, still_set cs k c d is node room)
 
+-- cores that are as they were, but for their room, have the same nodes
 pub nodes_still : {V : Type 0} (cs ds : List (Core V)) → AreStill cs ds → nodes_of ds ≡ nodes_of cs
 nodes_still [] [] h = refl
 nodes_still {V} (c ∷ cs) (d ∷ ds) h = ap (λ (n : Node V). n ∷ nodes_of ds) h.0 ∙ ap (λ (ns : List (Node V)). c.node ∷ ns) (nodes_still cs ds h.2)
 nodes_still [] (d ∷ ds) h = elim h [ ]
 nodes_still (c ∷ cs) [] h = elim h [ ]
 
+-- where a core stands at an index, its node stands there among the nodes
 pub nodes_found : {V : Type 0} (cs : List (Core V)) (k : ℕ) (c : Core V) → slice_get cs k ≡ Some c → slice_get (nodes_of cs) k ≡ Some c.node
 nodes_found [] k c at = cc
 nodes_found {V} (x ∷ cs) zero c at = let same : x ≡ c = cc in ap (λ (y : Core V). let o : Option (Node V) = Some y.node in o) same
@@ -108,11 +119,13 @@ still_at (x ∷ cs) [] h k c at = elim h [ ]
 
 -- What is ready stays so.
 
+-- what a node can do it can do with more room
 pub ready_still : {V : Type 0} (c d : Core V) (w : Work V) → d.node ≡ c.node → HasAtLeast c d → IsReadyAt c w → IsReadyAt d w
 ready_still c d (steps made) same room h = (same ∙ h.0, more_room made.before c d h.1 room)
 ready_still {V} c d (restarts posts None) same room h = h ∙ ap (λ (n : Node V). to_others n.me n.weights (Ask 0)) (sym same)
 ready_still {V} c d (restarts posts (Some kept)) same room h = (h.0 ∙ ap (λ (n : Node V). to_others n.me n.weights (Ask 0)) (sym same), h.1 ∙ ap (λ (n : Node V). kept_of n) (sym same))
 
+-- what is due stays so where nothing has changed but the room
 pub due_still : {V : Type 0} (size : V → ℕ) (a b : NetView V) (due : Due V) → IsStill a b → IsDue size a due → IsDue size b due
 due_still {V} size a b due still h =
     let d = still_at a.cores b.cores still.cores due.at h.core h.at in

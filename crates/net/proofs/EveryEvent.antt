@@ -29,6 +29,7 @@ use Rattle.net.proofs.PromiseSteps.{promise_continues}
 use Rattle.synod.proofs.NodeKeeps.{all_append}
 
 module _ {V : Type 0} {offers : List V} {l : Ledger V} (n : Node V) (sound : IsSound n.weights offers l) (holds : NodeHolds n.weights offers l n.me n) where
+  -- each body that says what is true of its sender continues the story
   body_continues : (p : ℕ) (body : Body V) → SaysTrue n.weights l p body → Continues n.weights offers n.me l (on_body n p body)
   body_continues p (Prepare b first) said = prepare_continues n sound holds p b first said
   body_continues p (Promise b number count reports) said = promise_continues n sound holds p b number count reports said
@@ -50,6 +51,7 @@ module _ {V : Type 0} {offers : List V} {l : Ledger V} (n : Node V) (sound : IsS
 
 -- One node among all.
 
+-- what holds of all nodes holds of the one at an index, by its number
 pub node_at : {V : Type 0} (ws : List ℕ) (offers : List V) (l : Ledger V) (ns : List (Node V)) (k i : ℕ) (n : Node V) → slice_get ns i ≡ Some n → NodesHold ws offers l k ns → NodeHolds ws offers l (k + i) n
 node_at ws offers l [] k i n e h = cc
 node_at {V} ws offers l (m ∷ ns) k zero n e h =
@@ -61,6 +63,7 @@ node_at ws offers l (m ∷ ns) k (suc i) n e h =
     subst (λ (j : ℕ). NodeHolds ws offers l j n) z (node_at ws offers l ns (suc k) i n e h.1)
 
 module _ {V : Type 0} (ws : List ℕ) (offers : List V) (l m : Ledger V) (d : ℕ) (g : Grows d l m) where
+  -- what holds of the nodes numbered above the one that acts lasts
   nodes_above : (ns : List (Node V)) (k : ℕ) → d < k → NodesHold ws offers l k ns → NodesHold ws offers m k ns
   nodes_above [] k above h = tt
   nodes_above (n ∷ ns) k above h = (node_lasts g ws offers k (λ e. let no : ⊥ = omega (arith, e) in no) n h.0, nodes_above ns (suc k) (omega arith) h.1)
@@ -82,6 +85,7 @@ IfTaken (Ok w) P = P w
 IfTaken (Err fault) P = Unit {0}
 
 module _ {V : Type 0} (offers : List V) (w : World V) (h : WorldHolds offers w) where
+  -- the invariant holds of the world after a step that continues the story
   world_after : (k : ℕ) (step : Stepped V) → Continues w.weights offers k h.ledger step → WorldHolds offers (stepped w k step)
   world_after k step next = record {
     ledger = next.ledger;
@@ -93,16 +97,19 @@ module _ {V : Type 0} (offers : List V) (w : World V) (h : WorldHolds offers w) 
   }
 
   module _ (k : ℕ) (n : Node V) (is_node : slice_get w.nodes k ≡ Some n) where
+    -- what the invariant says of node k, as one of the world
     there : NodeHolds w.weights offers h.ledger k n
     there = let z : 0 + k ≡ k = omega arith in subst (λ (j : ℕ). NodeHolds w.weights offers h.ledger j n) z (node_at w.weights offers h.ledger w.nodes 0 k n is_node h.nodes)
 
-    -- by the node's own number and weights
+    -- the ledger is sound by the node's own weights
     own_sound : IsSound n.weights offers h.ledger
     own_sound = subst (λ (ws : List ℕ). IsSound ws offers h.ledger) (sym there.weights) h.sound
 
+    -- what the invariant says of the node, by its own number and weights
     own_holds : NodeHolds n.weights offers h.ledger n.me n
     own_holds = subst (λ (ws : List ℕ). NodeHolds ws offers h.ledger n.me n) (sym there.weights) (subst (λ (j : ℕ). NodeHolds w.weights offers h.ledger j n) (sym there.me) there)
 
+    -- where each step of the node continues the story, the invariant holds after its answer
     answered_holds : (r : Result (Stepped V) Refusal) → IfStep r (λ step. Continues n.weights offers n.me h.ledger step) → IfTaken (answered w k r) (WorldHolds offers)
     answered_holds (Ok step) next = world_after k step (subst (λ (j : ℕ). Continues w.weights offers j h.ledger step) there.me (subst (λ (ws : List ℕ). Continues ws offers n.me h.ledger step) there.weights next))
     answered_holds (Err refusal) next = tt
@@ -114,6 +121,7 @@ module _ {V : Type 0} (offers : List V) (w : World V) (h : WorldHolds offers w) 
   at_node_holds k make continues None e = tt
   at_node_holds k make continues (Some n) e = answered_holds k n e (make n) (continues n (there k n e) (own_sound k n e) (own_holds k n e))
 
+  -- the invariant holds after a delivery, since the packet says what is true
   delivered_holds : (number : ℕ) (o : Option (Packet V)) → slice_get w.packets number ≡ o → IfTaken (delivered w o) (WorldHolds offers)
   delivered_holds number None e = tt
   delivered_holds number (Some p) e =
@@ -122,12 +130,14 @@ module _ {V : Type 0} (offers : List V) (w : World V) (h : WorldHolds offers w) 
       (λ n at sound holds. body_continues n sound holds p.from p.body (subst (λ (ws : List ℕ). SaysTrue ws h.ledger p.from p.body) (sym at.weights) said))
       (slice_get w.nodes p.to) refl
 
+  -- the invariant holds after an event that is taken, where what it offers is among the offers
   happens_at_holds : (size : V → ℕ) (e : Event V) → ((v : V) → In v (offers_of (e ∷ [])) → In v offers) → IfTaken (happens_at size w e) (WorldHolds offers)
   happens_at_holds size (Offer k v) brought = at_node_holds k (λ n. offered size n v) (λ n at sound holds. offer_continues n sound holds size v (brought v (inl refl))) (slice_get w.nodes k) refl
   happens_at_holds size (Begin k) brought = at_node_holds k begun (λ n at sound holds. begin_continues n sound holds) (slice_get w.nodes k) refl
   happens_at_holds size (Deliver number) brought = delivered_holds number (slice_get w.packets number) refl
   happens_at_holds size (Restart k) brought = at_node_holds k (λ n. Ok (restarted n)) (λ n at sound holds. restart_continues n sound holds) (slice_get w.nodes k) refl
 
+-- what holds of the world after an event, if it is taken, holds behind the test of the limit of events
 pub spent_or : {V : Type 0} (P : World V → Type 0) (r : Result (World V) StepFault) (t : Bool) → IfTaken r P → IfTaken (if t then Err EventsSpent else r) P
 spent_or P r true h = tt
 spent_or P r false h = h
@@ -146,6 +156,7 @@ module _ {V : Type 0} (ws : List ℕ) (offers : List V) where
   abbrev empty : Ledger V
   empty = record { begun = []; promises = []; proposals = []; votes = [] }
 
+  -- what is to hold of new nodes holds by a ledger with nothing in it
   all_new : (k : ℕ) (xs : List ℕ) → NodesHold ws offers empty k (nodes_from ws k xs)
   all_new k [] = tt
   all_new k (x ∷ xs) = (
@@ -159,6 +170,7 @@ module _ {V : Type 0} (ws : List ℕ) (offers : List V) where
     all_new (suc k) xs,
   )
 
+  -- the invariant holds before any event
   start_holds : WorldHolds offers (start ws)
   start_holds = record {
     ledger = empty;
@@ -179,10 +191,12 @@ module _ {V : Type 0} (ws : List ℕ) (offers : List V) where
 
 -- The world after any events.
 
+-- what holds of the world after events, if they are taken, holds where they lead to this world
 pub if_taken : {V : Type 0} (P : World V → Type 0) (r : Result (World V) StepFault) (w : World V) → r ≡ Ok w → IfTaken r P → P w
 if_taken P (Ok x) w e h = let same : x ≡ w = cc in subst P same h
 if_taken P (Err fault) w e h = cc
 
+-- where all that the events offer is among the offers, so is what each of them offers
 each_brought : {V : Type 0} (offers : List V) (es : List (Event V)) → ((v : V) → In v (offers_of es) → In v offers) → AllByRecursion (λ e. (v : V) → In v (offers_of (e ∷ [])) → In v offers) es
 each_brought offers [] more = tt
 each_brought offers (Offer k x ∷ es) more = (λ v i. elim i [ inl e ↦ more v (inl e) | inr j ↦ elim j [ ] ], each_brought offers es (λ v i. more v (inr i)))
@@ -190,6 +204,7 @@ each_brought offers (Begin k ∷ es) more = (λ v i. elim i [ ], each_brought of
 each_brought offers (Deliver number ∷ es) more = (λ v i. elim i [ ], each_brought offers es more)
 each_brought offers (Restart k ∷ es) more = (λ v i. elim i [ ], each_brought offers es more)
 
+-- the invariant holds of the world after any events that are taken
 pub holds_after : {V : Type 0} (size : V → ℕ) (ws : List ℕ) (es : List (Event V)) (w : World V) → IsAfter size ws es w → WorldHolds (offers_of es) w
 holds_after size ws es w is_after = if_taken (WorldHolds (offers_of es)) (after size ws es) w is_after
     (all_keep size (WorldHolds (offers_of es)) (λ e. (v : _) → In v (offers_of (e ∷ [])) → In v (offers_of es)) (λ w e brought h. happens_at_holds (offers_of es) w h size e brought)

@@ -9,55 +9,42 @@ use Rattle.net.specs.declared.event.Event.{Event}
 use Rattle.net.specs.declared.fault.StepFault.{StepFault}
 use Rattle.net.specs.declared.fault.StepFault.TheVariants.{Memory}
 use Rattle.net.specs.World.{World, after}
-use Rattle.net.specs.Agree.{IsAfter, ChosenAgree, IsBeginningOf, Agree, LogsAgree}
+use Rattle.net.specs.Agree.{IsAfter, ChosenAgree, LogsAgree}
 use Rattle.net.specs.Taken.{Taken, world_of, with_event}
 use Rattle.net.specs.History.{IsMoment, Agreement, IsMetOrMemory, StopsAt}
+use Rattle.net.proofs.Beginnings.{swapped, beginnings_agree}
 use Rattle.net.proofs.OneValue.{ballots_have_one_value}
 use Rattle.net.proofs.LaterBallots.{later_ballots_keep_chosen}
 use Rattle.net.proofs.ChosenAgree.{chosen_values_agree}
 use Rattle.net.proofs.LogsAgree.{log_entries_are_chosen, logs_of_nodes_agree}
 use Rattle.net.proofs.Offered.{log_entries_were_offered}
 
--- Two beginnings of one list are one the beginning of the other.
-
-begins_more : {A : Type 0} (x y : A) (xs ys : List A) → x ≡ y → Agree xs ys → Agree (x ∷ xs) (y ∷ ys)
-begins_more x y xs ys same (inl h) = inl (h.0, let e = h.1 in cc)
-begins_more x y xs ys same (inr h) = inr (h.0, let e = h.1 in cc)
-
-pub beginnings_agree : {A : Type 0} (xs ys zs : List A) → IsBeginningOf xs zs → IsBeginningOf ys zs → Agree xs ys
-beginnings_agree [] ys zs first second = inl (ys, refl)
-beginnings_agree (x ∷ xs) [] zs first second = inr (x ∷ xs, refl)
-beginnings_agree (x ∷ xs) (y ∷ ys) [] first second = let e = first.1 in cc
-beginnings_agree (x ∷ xs) (y ∷ ys) (z ∷ zs) first second =
-    let e = first.1 in
-    let d = second.1 in
-    begins_more x y xs ys (cc) (beginnings_agree xs ys zs (first.0, (cc)) (second.0, (cc)))
-
-swapped : {A : Type 0} (xs ys : List A) → Agree xs ys → Agree ys xs
-swapped xs ys (inl h) = inr h
-swapped xs ys (inr h) = inl h
-
 -- Any two moments of a history: one comes first.
 
 module _ {V : Type 0} (size : V → ℕ) (taken : Taken V) (w x : World V) (m : IsMoment size taken w) (n : IsMoment size taken x) where
+  -- x comes after the events of a moment of w and those that lead on from there
   later : (first : IsMoment size taken w) (late : List (Event V)) (second : IsMoment size taken x) → first.early ++ late ≡ second.early → IsAfter size taken.weights (first.early ++ late) x
   later first late second e = subst (λ (es : List (Event V)). IsAfter size taken.weights es x) (sym e) second.is_after
 
+  -- w comes after the events of the moment of x and those that lead on from there
   earlier : (late : List (Event V)) → n.early ++ late ≡ m.early → IsAfter size taken.weights (n.early ++ late) w
   earlier late e = subst (λ (es : List (Event V)). IsAfter size taken.weights es w) (sym e) m.is_after
 
+  -- values chosen at one slot at two moments of a history are equal
   pub moments_choose_one : ChosenAgree w x
   moments_choose_one = elim (beginnings_agree m.early n.early taken.events m.begins n.begins) [
     | inl h ↦ chosen_values_agree size taken.weights m.early h.0 w x m.is_after (later m h.0 n h.1)
     | inr h ↦ λ s u v c d. sym (chosen_values_agree size taken.weights n.early h.0 x w n.is_after (earlier h.0 h.1) s v u d c)
   ]
 
+  -- logs at two moments of a history agree
   pub moments_agree : LogsAgree w x
   moments_agree = elim (beginnings_agree m.early n.early taken.events m.begins n.begins) [
     | inl h ↦ logs_of_nodes_agree size taken.weights m.early h.0 w x m.is_after (later m h.0 n h.1)
     | inr h ↦ λ j k. swapped _ _ (logs_of_nodes_agree size taken.weights n.early h.0 x w n.is_after (earlier h.0 h.1) k j)
   ]
 
+-- a history that is taken has all that agreement says
 pub agreement_of : {V : Type 0} (size : V → ℕ) (taken : Taken V) (w : World V) → IsAfter size taken.weights taken.events w → Agreement size taken
 agreement_of size taken w is_after = record {
   is_taken = subst IsOk (sym is_after) refl;
@@ -71,24 +58,29 @@ agreement_of size taken w is_after = record {
 
 -- Where a run stops: done went before, and e is refused.
 
+-- of a list in two parts, as many elements as the first part has are the first part
 taken_before : {A : Type 0} (xs ys zs : List A) → zs ≡ xs ++ ys → take (length xs) zs ≡ xs
 taken_before xs ys zs is = ap (λ ws. take (length xs) ws) is ∙ take-append_seam xs ys
 
+-- of a list with an element between two parts, as many as the first has and one more are that part and the element
 taken_with : {A : Type 0} (xs ys zs : List A) (x : A) → zs ≡ xs ++ x ∷ ys → take (suc (length xs)) zs ≡ xs ++ x ∷ []
 taken_with {A} xs ys zs x is =
     let count : length (xs ++ x ∷ []) ≡ suc (length xs) = omega (arith, length-append xs (x ∷ [])) in
     let whole : zs ≡ (xs ++ x ∷ []) ++ ys = is ∙ sym (append_assoc xs (x ∷ []) ys) in
     ap (λ n. take n zs) (sym count) ∙ taken_before (xs ++ x ∷ []) ys zs whole
 
+-- a first part with an element behind it is shorter than the list
 stands_within : {A : Type 0} (xs ys zs : List A) (x : A) → zs ≡ xs ++ x ∷ ys → length xs < length zs
 stands_within {A} xs ys zs x is =
     let count : length zs ≡ length (xs ++ x ∷ ys) = ap (λ (ws : List A). length ws) is in
     omega (arith, count, length-append xs (x ∷ ys))
 
+-- the two clauses on a fault as one: it is the one met, or Memory where none is
 met_or_memory : {V : Type 0} (r : Result (World V) StepFault) (fault : StepFault) → IfErr r (λ met. fault ≡ met) → OnOk r (fault ≡ Memory) → IsMetOrMemory r fault
 met_or_memory (Ok w) fault met memory = memory
 met_or_memory (Err met) fault is memory = is
 
+-- an answer that is the fault met has that fault
 answered_met : {V : Type 0} (r : Result (World V) StepFault) (fault : StepFault) → IfErr r (λ met. let answer : Result ℕ StepFault = Err fault in answer ≡ Err met) → IfErr r (λ met. fault ≡ met)
 answered_met (Ok w) fault h = tt
 answered_met (Err met) fault h = cc
@@ -98,6 +90,7 @@ pub taken_front : {X A : Type 0} (s : IntoIter X A) (xs : List X) (t : IntoIter 
 taken_front s [] t y = ap into_iter_items y
 taken_front s (x ∷ xs) t y = y.1.0 ∙ ap (λ ys. x ∷ ys) (taken_front y.0 xs t y.2)
 
+-- the run stops at the event behind those taken, with the fault that was answered
 pub stops_there : {V : Type 0} (size : V → ℕ) (weights : List ℕ) (events done rest : List (Event V)) (e : Event V) (old now : Taken V) (shown : List (Event V)) (fault : StepFault)
     → events ≡ done ++ e ∷ rest → old ≡ record { weights = weights; events = done } → now ≡ old → shown ≡ now.events → IsOk (world_of size now)
     → IfErr (world_of size (with_event old e)) (λ met. let answer : Result ℕ StepFault = Err fault in answer ≡ Err met) → OnOk (world_of size (with_event old e)) (fault ≡ Memory)

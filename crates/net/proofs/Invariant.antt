@@ -25,7 +25,7 @@ use Rattle.net.proofs.Ledger.{Begun, begun_as, Promised, Proposal, proposal, Led
 use Rattle.net.proofs.LedgerGrows.{Grows, begun_lasts, chosen_lasts, free_lasts}
 use Rattle.net.proofs.LedgerSteps.{AllProposedBelow}
 
--- The acceptor: its promise is above what it promised and voted, and it holds the highest vote of each slot.
+-- The acceptor: its promise is not below what it promised and voted, and it holds the highest vote of each slot.
 
 pub record IsHeldFrom {V : Type 0} (accepted : List (Option (Held V))) (x : Vote V) : Type 0 where
   pub entry : Held V
@@ -136,14 +136,17 @@ pub record WorldHolds {V : Type 0} (offers : List V) (w : World V) : Type 0 wher
 
 -- Each of these lasts as the ledger grows.
 
+-- what is old or node k's is old, where it is another node's
 not_new : {A : Type 0} {x j k : ℕ} → A ⊎ (x ≡ k) → x ≡ j → j ≢ k → A
 not_new (inl old) e other = old
 not_new (inr d) e other = absurd (other (sym e ∙ d))
 
 module _ {V : Type 0} {k : ℕ} {l m : Ledger V} (g : Grows k l m) where
+  -- a page of a promise stays a page of it
   page_lasts : (j : ℕ) (b : Ballot) (i : ℕ) (page : List (SlotReport V)) → IsPage l j b i page → IsPage m j b i page
   page_lasts j b i page h = record { promise = h.promise; is_in = g.promises.old _ h.is_in; node = h.node; ballot = h.ballot; place = h.place }
 
+  -- what was heard of a node stays all that its promise reports
   heard_lasts : (b : Ballot) (j : ℕ) (reports : List (SlotReport V)) → IsHeard l b j reports → IsHeard m b j reports
   heard_lasts b j reports h = record { promise = h.promise; is_in = g.promises.old _ h.is_in; node = h.node; ballot = h.ballot; all = h.all }
 
@@ -165,6 +168,7 @@ module _ {V : Type 0} {k : ℕ} {l m : Ledger V} (g : Grows k l m) where
     free = λ s le. free_lasts g (h.free s le);
   }
 
+  -- what holds of a proposer lasts where its node began and proposed nothing new
   pub proposer_lasts : (ws : List ℕ) (offers : List V) (j round : ℕ) (role : Role) (pages : List (List (Option (List (SlotReport V))))) (heard : List Heard) (waiting : List V)
       → ((x : Begun) → In x m.begun → x.ballot.node ≡ j → In x l.begun) → ((p : Proposal V) → In p m.proposals → p.ballot.node ≡ j → In p l.proposals)
       → ProposerHolds ws offers l j round role pages heard waiting → ProposerHolds ws offers m j round role pages heard waiting
@@ -174,6 +178,7 @@ module _ {V : Type 0} {k : ℕ} {l m : Ledger V} (g : Grows k l m) where
     offered = h.offered;
   }
 
+  -- what holds of a learner lasts: votes stay, and what is chosen stays chosen
   pub learner_lasts : (ws : List ℕ) (tallies : List (Option (List Tally))) (learned : List (Option (Option V))) → LearnerHolds ws l.votes tallies learned → LearnerHolds ws m.votes tallies learned
   learner_lasts ws tallies learned h = record {
     voters = λ s b j e. let v = h.voters s b j e in record { value = v.value; voted = g.votes.old _ v.voted };
@@ -197,6 +202,7 @@ module _ {V : Type 0} {k : ℕ} {l m : Ledger V} (g : Grows k l m) where
         learner = learner_lasts ws n.tallies n.learned h.learner;
       }
 
+  -- what a body says of its sender stays true
   pub truth_lasts : (ws : List ℕ) (j : ℕ) (body : Body V) → SaysTrue ws l j body → SaysTrue ws m j body
   truth_lasts ws j (Prepare b first) h = g.begun.old _ h
   truth_lasts ws j (Promise b number count page) h = record { promise = h.promise; is_in = g.promises.old _ h.is_in; node = h.node; ballot = h.ballot; counted = h.counted; index = h.index; is_number = h.is_number; place = h.place }

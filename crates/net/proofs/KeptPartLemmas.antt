@@ -29,12 +29,14 @@ pub record Moves {V : Type 0} (w : World V) (j k : ℕ) (change : Option (Change
   pub other : j ≢ k → kept_part x k ≡ kept_part w k
 
 module _ {V : Type 0} (w : World V) (j k : ℕ) where
+  -- a step that makes its change of its node's kept part does so in the world
   own_part : (n : Node V) (step : Stepped V) → slice_get w.nodes j ≡ Some n → kept_of step.node ≡ changed_by (kept_of n) step.change → kept_part (stepped w j step) j ≡ changed_part step.change (kept_part w j)
   own_part n step is_node changes =
       ap (λ (o : Option (Node V)). option_map kept_of o) (at_set w.nodes j step.node n is_node)
       ∙ ap (λ (kept : Kept V). let o : Option (Kept V) = Some kept in o) changes
       ∙ ap (λ (o : Option (Node V)). changed_part step.change (option_map kept_of o)) (sym is_node)
 
+  -- a node's answer makes its change of that node's kept part and of no other
   moves_answered : (n : Node V) → slice_get w.nodes j ≡ Some n → (r : Result (Stepped V) Refusal) → ChangesKeptOnOk n r → IfTaken (answered w j r) (Moves w j k (change_answered r))
   moves_answered n is_node (Ok step) changes = record {
     own = λ e. subst (λ (k : ℕ). kept_part (stepped w j step) k ≡ changed_part step.change (kept_part w k)) e (own_part n step is_node changes);
@@ -42,6 +44,7 @@ module _ {V : Type 0} (w : World V) (j k : ℕ) where
   }
   moves_answered n is_node (Err refusal) changes = tt
 
+  -- what a node makes of itself makes its change of that node's kept part and of no other
   moves_at : (make : Node V → Result (Stepped V) Refusal) → ((n : Node V) → ChangesKeptOnOk n (make n)) → (o : Option (Node V)) → slice_get w.nodes j ≡ o → IfTaken (at_node w j make o) (Moves w j k (change_at make o))
   moves_at make changes None e = tt
   moves_at make changes (Some n) e = moves_answered n e (make n) (changes n)
@@ -52,6 +55,7 @@ pub record Happens {V : Type 0} (size : V → ℕ) (w : World V) (k : ℕ) (e : 
   pub other : node_of w e ≢ Some k → kept_part x k ≡ kept_part w k
 
 module _ {V : Type 0} (size : V → ℕ) (w : World V) (k : ℕ) where
+  -- what is so by the node that made the step is so by the node of the event
   as_happens : (e : Event V) (j : ℕ) → node_of w e ≡ Some j → (r : Result (World V) StepFault) → IfTaken r (Moves w j k (change_of size w e)) → IfTaken r (Happens size w k e)
   as_happens e j is_of (Ok x) h = record {
     own = λ d. h.own (let same : j ≡ k = cc in same);
@@ -59,6 +63,7 @@ module _ {V : Type 0} (size : V → ℕ) (w : World V) (k : ℕ) where
   }
   as_happens e j is_of (Err fault) h = tt
 
+  -- a delivery makes its change of the kept part of the node that it is for, and of no other
   happens_delivered : (number : ℕ) (o : Option (Packet V)) → slice_get w.packets number ≡ o → IfTaken (delivered w o) (Happens size w k (Deliver number))
   happens_delivered number None e = tt
   happens_delivered number (Some p) e =
@@ -66,12 +71,14 @@ module _ {V : Type 0} (size : V → ℕ) (w : World V) (k : ℕ) where
       (subst (λ (o : Option (Packet V)). IfTaken (delivered w (Some p)) (Moves w p.to k (change_delivered w o))) (sym e)
       (moves_at w p.to k (λ n. Ok (on_packet n p)) (λ n. body_kept n p.from p.body) (slice_get w.nodes p.to) refl))
 
+  -- each event makes its change of its node's kept part and of no other
   happens_moves : (e : Event V) → IfTaken (happens_at size w e) (Happens size w k e)
   happens_moves (Offer j v) = as_happens (Offer j v) j refl (happens_at size w (Offer j v)) (moves_at w j k (λ n. offered size n v) (λ n. offered_kept n size v) (slice_get w.nodes j) refl)
   happens_moves (Begin j) = as_happens (Begin j) j refl (happens_at size w (Begin j)) (moves_at w j k begun (λ n. begun_kept n) (slice_get w.nodes j) refl)
   happens_moves (Deliver number) = happens_delivered number (slice_get w.packets number) refl
   happens_moves (Restart j) = as_happens (Restart j) j refl (happens_at size w (Restart j)) (moves_at w j k (λ n. Ok (restarted n)) (λ n. restarted_kept n) (slice_get w.nodes j) refl)
 
+  -- behind the test of the limit, each event makes its change of its node's kept part and of no other
   pub event_moves : (e : Event V) → IfTaken (happens size w e) (Happens size w k e)
   event_moves e = spent_or (Happens size w k e) (happens_at size w e) (w.taken == MOST_EVENTS) (happens_moves e)
 
@@ -81,27 +88,33 @@ abbrev KeptIs : {V : Type 0} → ℕ → Option (Kept V) → World V → Type 0
 KeptIs k kept w = kept_part w k ≡ kept
 
 module _ {V : Type 0} (size : V → ℕ) (k : ℕ) (kept : Option (Kept V)) where
+  -- an event of another node keeps the kept part of node k
   other_keeps : (w : World V) (e : Event V) → KeptIs k kept w → node_of w e ≢ Some k → (r : Result (World V) StepFault) → IfTaken r (Happens size w k e) → IfTaken r (KeptIs k kept)
   other_keeps w e is other (Ok x) h = h.other other ∙ is
   other_keeps w e is other (Err fault) h = tt
 
+  -- events of other nodes keep the kept part of node k
   others_keep : (es : List (Event V)) (r : Result (World V) StepFault) → AreOfOthers size k r es → IfTaken r (KeptIs k kept) → IfTaken (all_happen size es r) (KeptIs k kept)
   others_keep [] r others h = h
   others_keep (e ∷ es) (Err fault) others h = tt
   others_keep (e ∷ es) (Ok w) others h = others_keep es (happens size w e) others.1 (other_keeps w e h others.0 (happens size w e) (event_moves size w k e))
 
+  -- the change of a restart is none
   no_change : (o : Option (Node V)) → changed_part (change_at (λ n. Ok (restarted n)) o) (option_map kept_of o) ≡ option_map kept_of o
   no_change None = refl
   no_change (Some n) = refl
 
+  -- a restart of node k keeps its kept part
   restart_keeps : (w : World V) → KeptIs k kept w → (r : Result (World V) StepFault) → IfTaken r (Happens size w k (Restart k)) → IfTaken r (KeptIs k kept)
   restart_keeps w is (Ok x) h = h.own refl ∙ no_change (slice_get w.nodes k) ∙ is
   restart_keeps w is (Err fault) h = tt
 
+  -- a restart of node k behind other events keeps the kept part that they kept
   then_restart : (r : Result (World V) StepFault) → IfTaken r (KeptIs k kept) → IfTaken (all_happen size (Restart k ∷ []) r) (KeptIs k kept)
   then_restart (Err fault) h = tt
   then_restart (Ok w) h = restart_keeps w h (happens size w (Restart k)) (event_moves size w k (Restart k))
 
+-- after an event of a node and a restart of it, the kept part is the one before with the event's change
 pub kept_part_survives : {V : Type 0} → KeptPartSurvives V
 kept_part_survives {V} size ws events others e k w x y before made is_of of_others after_all =
     let kept : Option (Kept V) = changed_part (change_of size w e) (kept_part w k) in

@@ -14,6 +14,7 @@ use Rattle.net.proofs.OneValue.{proposed_in}
 use Rattle.net.proofs.Ledger.{Proposal, proposal, Ledger, AllGrounded, IsSound}
 
 module _ {V : Type 0} (ws : List ℕ) (offers : List V) (l : Ledger V) (sound : IsSound ws offers l) where
+  -- the value of each of the older proposals is the one chosen at its slot under an earlier ballot
   later_at : (older : List (Proposal V)) → AllGrounded ws l older → ((p : Proposal V) → In p older → In p l.proposals)
       → (p : Proposal V) → In p older → (b : Ballot) (v : Option V) → IsChosenAt ws l.votes b p.slot v → Under b p.ballot → v ≡ p.value
   later_at [] grounded known p i b v = elim i [ ]
@@ -29,9 +30,11 @@ module _ {V : Type 0} (ws : List ℕ) (offers : List V) (l : Ledger V) (sound : 
       ])
   later_at (x ∷ older) grounded known p (inr i) b v = later_at older grounded.1 (λ q j. known q (inr j)) p i b v
 
+  -- the value of each proposal is the one chosen at its slot under an earlier ballot
   pub later_value : (p : Proposal V) → In p l.proposals → (b : Ballot) (v : Option V) → IsChosenAt ws l.votes b p.slot v → Under b p.ballot → v ≡ p.value
   later_value p i b v chosen under = later_at l.proposals sound.grounded (λ q j. j) p i b v chosen under
 
+-- what an Accept proposes under a later ballot is the value chosen there under an earlier
 pub later_ballots_keep_chosen : {V : Type 0} → LaterBallotsKeepChosen V
 later_ballots_keep_chosen {V} size ws events w is_after b c s u v chosen p under =
     let h = holds_after size ws events w is_after in

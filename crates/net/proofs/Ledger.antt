@@ -71,6 +71,7 @@ pub record IsFree {V : Type 0} (ws : List ℕ) (l : Ledger V) (b : Ballot) (s : 
   pub promised : (k : ℕ) → quorum k ≡ true → HasPromised l k b
   pub none : NoneVoted l quorum b s
 
+-- where any value may be proposed, each that is proposed is grounded
 pub free_grounded : {V : Type 0} {ws : List ℕ} {l : Ledger V} {b : Ballot} {s : ℕ} (older : List (Proposal V)) (v : Option V) → IsFree ws l b s → IsGrounded ws l older b s v
 free_grounded older v free = record { quorum = free.quorum; majority = free.majority; promised = free.promised; picks = inl free.none }
 

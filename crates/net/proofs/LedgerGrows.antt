@@ -20,9 +20,11 @@ pub record Grows {V : Type 0} (k : ℕ) (l m : Ledger V) : Type 0 where
   pub proposals : Adds (λ x. x.ballot.node ≡ k) l.proposals m.proposals
   pub votes : Adds (λ x. (x.node ≡ k) × AllPromisedUpto l.promises k x.ballot) l.votes m.votes
 
+-- a ledger that stays as it is has grown by nothing
 pub grows_none : {V : Type 0} (k : ℕ) (l : Ledger V) → Grows k l l
 grows_none k l = record { begun = adds_none; promises = adds_none; proposals = adds_none; votes = adds_none }
 
+-- two growths by one node, one after another, are one
 pub grows_both : {V : Type 0} {k : ℕ} {l m n : Ledger V} → Grows k l m → Grows k m n → Grows k l n
 grows_both g h = record {
   begun = adds_both (λ x e. e) (λ x e. e) g.begun h.begun;
@@ -59,6 +61,7 @@ grows-with_vote x l upto = record { begun = adds_none; promises = adds_none; pro
 
 -- What lasts.
 
+-- what is chosen stays chosen with more votes
 pub chosen_with_more : {V : Type 0} {ws : List ℕ} {s : ℕ} {v : Option V} (old new : List (Vote V)) → ((x : Vote V) → In x old → In x new) → IsChosen ws old s v → IsChosen ws new s v
 chosen_with_more old new more h = record {
   ballot = h.ballot;
@@ -70,6 +73,7 @@ chosen_with_more old new more h = record {
 }
 
 module _ {V : Type 0} {k : ℕ} {l m : Ledger V} (g : Grows k l m) where
+  -- a node that promised a ballot has promised it for good
   pub promised_lasts : {j : ℕ} {b : Ballot} → HasPromised l j b → HasPromised m j b
   promised_lasts h = record { promise = h.promise; is_in = g.promises.old _ h.is_in; node = h.node; ballot = h.ballot }
 
@@ -80,9 +84,11 @@ module _ {V : Type 0} {k : ℕ} {l m : Ledger V} (g : Grows k l m) where
     | inr new ↦ absurd (not_both x.ballot b under (subst (λ (c : Ballot). Upto c x.ballot) h.ballot (new.1 h.promise h.is_in (h.node ∙ new.0))))
   ]
 
+  -- nodes that promised a ballot, and cast no vote below it at a slot, cast none there later
   pub none_lasts : {b : Ballot} {s : ℕ} (quorum : ℕ → Bool) → ((j : ℕ) → quorum j ≡ true → HasPromised l j b) → NoneVoted l quorum b s → NoneVoted m quorum b s
   none_lasts {b} quorum promised none x i q e under = none x (vote_is_old x b (promised x.node q) i under) q e under
 
+  -- where any value may be proposed, any may be later
   pub free_lasts : {ws : List ℕ} {b : Ballot} {s : ℕ} → IsFree ws l b s → IsFree ws m b s
   free_lasts h = record {
     quorum = h.quorum;
@@ -91,6 +97,7 @@ module _ {V : Type 0} {k : ℕ} {l m : Ledger V} (g : Grows k l m) where
     none = none_lasts h.quorum h.promised h.none;
   }
 
+  -- a grounded proposal stays so, with as many older proposals or more
   pub grounded_lasts : {ws : List ℕ} {b : Ballot} {s : ℕ} {v : Option V} (older newer : List (Proposal V)) → ((p : Proposal V) → In p older → In p newer)
       → IsGrounded ws l older b s v → IsGrounded ws m newer b s v
   grounded_lasts {b = b} older newer more h = record {
@@ -108,10 +115,12 @@ module _ {V : Type 0} {k : ℕ} {l m : Ledger V} (g : Grows k l m) where
     ];
   }
 
+  -- each proposal of a list stays grounded on those older than itself
   pub all_grounded_last : (ws : List ℕ) (ps : List (Proposal V)) → AllGrounded ws l ps → AllGrounded ws m ps
   all_grounded_last ws [] h = tt
   all_grounded_last ws (p ∷ ps) h = (grounded_lasts ps ps (λ q i. i) h.0, all_grounded_last ws ps h.1)
 
+  -- a promise stays truthful: its node casts no new vote below its ballot
   pub truthful_lasts : (p : Promised V) → In p l.promises → IsTruthful l p → IsTruthful m p
   truthful_lasts p i h = record {
     begun = g.begun.old _ h.begun;
@@ -119,8 +128,10 @@ module _ {V : Type 0} {k : ℕ} {l m : Ledger V} (g : Grows k l m) where
     backed = λ r j. let b = h.backed r j in record { first = b.first; under = b.under; voted = g.votes.old _ b.voted };
   }
 
+  -- a ballot that was begun stays begun
   pub begun_lasts : (b : Ballot) → IsBegun l b → IsBegun m b
   begun_lasts b h = record { first = h.first; is_in = g.begun.old _ h.is_in }
 
+  -- a value that the votes of the ledger choose stays chosen
   pub chosen_lasts : {ws : List ℕ} {s : ℕ} {v : Option V} → IsChosen ws l.votes s v → IsChosen ws m.votes s v
   chosen_lasts h = chosen_with_more l.votes m.votes (λ x i. g.votes.old x i) h

@@ -9,10 +9,11 @@ use Rattle.net.proofs.Ledger.{Begun, Promised, Proposal, proposal, Ledger, IsGro
 use Rattle.net.proofs.LedgerGrows.{AllPromisedUpto, Grows, grows_none, grows_both, with_begun, with_promise, with_proposal, with_vote, grows-with_begun, grows-with_promise, grows-with_proposal, grows-with_vote, grounded_lasts, all_grounded_last, truthful_lasts, begun_lasts}
 
 module _ {V : Type 0} {ws : List ℕ} {offers : List V} {l : Ledger V} (sound : IsSound ws offers l) where
-  -- the promises of a ledger that grew, and the ballots of its older proposals
+  -- in a ledger that grew each older promise is truthful
   old_truthful : {k : ℕ} {m : Ledger V} → Grows k l m → (p : Promised V) → In p l.promises → IsTruthful m p
   old_truthful g p i = truthful_lasts g p i (sound.truthful p i)
 
+  -- in a ledger that grew the ballot of each older proposal is begun
   old_begun : {k : ℕ} {m : Ledger V} → Grows k l m → (p : Proposal V) → In p l.proposals → IsBegun m p.ballot
   old_begun g p i = begun_lasts g p.ballot (sound.proposed_begun p i)
 
@@ -107,14 +108,17 @@ abbrev pub EachProposed : {V : Type 0} → List (Proposal V) → Ballot → ℕ 
 EachProposed ps b s [] = Unit {0}
 EachProposed ps b s (v ∷ vs) = In (proposal b s v) ps × EachProposed ps b (suc s) vs
 
+-- where any value may be proposed from a slot on, a list of values may be, slot after slot
 pub each_free : {V : Type 0} (ws : List ℕ) (l : Ledger V) (b : Ballot) (s : ℕ) (vs : List (Option V)) → ((t : ℕ) → s ≤ t → IsFree ws l b t) → EachGrounded ws l b s vs
 each_free ws l b s [] free = tt
 each_free ws l b s (v ∷ vs) free = (free_grounded l.proposals v (free s (omega arith)), each_free ws l b (suc s) vs (λ t le. free t (omega arith)))
 
+-- values that were proposed slot after slot are so among more proposals
 pub each_proposed_more : {V : Type 0} (b : Ballot) (ps qs : List (Proposal V)) (s : ℕ) (vs : List (Option V)) → ((p : Proposal V) → In p ps → In p qs) → EachProposed ps b s vs → EachProposed qs b s vs
 each_proposed_more b ps qs s [] more h = tt
 each_proposed_more b ps qs s (v ∷ vs) more h = (more _ h.0, each_proposed_more b ps qs (suc s) vs more h.1)
 
+-- values that may be proposed slot after slot may be so in a ledger that grew
 each_lasts : {V : Type 0} {k : ℕ} {l m : Ledger V} (ws : List ℕ) (b : Ballot) → Grows k l m → (s : ℕ) (vs : List (Option V)) → EachGrounded ws l b s vs → EachGrounded ws m b s vs
 each_lasts ws b g s [] h = tt
 each_lasts {l = l} {m = m} ws b g s (v ∷ vs) h = (grounded_lasts g l.proposals m.proposals g.proposals.old h.0, each_lasts ws b g (suc s) vs h.1)
@@ -129,10 +133,12 @@ pub record IsBatch {V : Type 0} (ws : List ℕ) (offers : List V) (l : Ledger V)
   pub promises : m.promises ≡ l.promises
   pub votes : m.votes ≡ l.votes
 
+-- with a proposal at the slot, all under its ballot are below the slot after
 below_more : {V : Type 0} (l : Ledger V) (b : Ballot) (s : ℕ) (v : Option V) → AllProposedBelow l b s → AllProposedBelow (with_proposal (proposal b s v) l) b (suc s)
 below_more {V} l b s v below p (inl e) d = subst (λ (q : Proposal V). q.slot < suc s) e (omega arith)
 below_more l b s v below p (inr i) d = let u = below p i d in omega arith
 
+-- proposals of these values, slot after slot from s on, leave the ledger sound
 pub batch : {V : Type 0} (ws : List ℕ) (offers : List V) (b : Ballot) (vs : List (Option V)) (s : ℕ) (l : Ledger V) → IsSound ws offers l → IsBegun l b → AllProposedBelow l b s
     → EachGrounded ws l b s vs → AllByRecursion (IsBrought offers) vs → IsBatch ws offers l b s vs (with_proposals b s vs l)
 batch ws offers b [] s l sound begun below each brought = record {

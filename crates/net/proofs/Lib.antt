@@ -1,4 +1,5 @@
 pub mod Lists
+pub mod Beginnings
 mod Ledger
 mod LedgerGrows
 mod LedgerSteps

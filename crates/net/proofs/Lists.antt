@@ -5,15 +5,18 @@ use Rattle.slots.proofs.Lists.{In}
 
 -- Facts of each element.
 
+-- where one fact gives another, a list each of whose elements has the one has the other
 pub all_more : {A : Type 0} (P Q : A → Type 0) (xs : List A) → ((x : A) → P x → Q x) → AllByRecursion P xs → AllByRecursion Q xs
 all_more P Q [] more h = tt
 all_more P Q (x ∷ xs) more h = (more x h.0, all_more P Q xs more h.1)
 
+-- what is so of each element is so of an element that is in the list
 pub all_in : {A : Type 0} (P : A → Type 0) (xs : List A) (x : A) → In x xs → AllByRecursion P xs → P x
 all_in P [] x i h = elim i [ ]
 all_in P (y ∷ ys) x (inl e) h = subst P e h.0
 all_in P (y ∷ ys) x (inr i) h = all_in P ys x i h.1
 
+-- the element at an index is in the list
 pub in_slice_get : {A : Type 0} (xs : List A) (i : ℕ) (x : A) → slice_get xs i ≡ Some x → In x xs
 in_slice_get [] i x e = cc
 in_slice_get (y ∷ ys) zero x e = inl cc
@@ -40,20 +43,25 @@ pub record Adds {A : Type 0} (P : A → Type 0) (xs ys : List A) : Type 0 where
   pub old : (x : A) → In x xs → In x ys
   pub new : (x : A) → In x ys → In x xs ⊎ P x
 
+-- a list adds nothing to itself
 pub adds_none : {A : Type 0} {P : A → Type 0} {xs : List A} → Adds P xs xs
 adds_none = record { old = λ x i. i; new = λ x i. inl i }
 
+-- with one element put in front, each is old, or is as that one
 one_new : {A : Type 0} (P : A → Type 0) (y : A) (xs : List A) → P y → (x : A) → In x (y ∷ xs) → In x xs ⊎ P x
 one_new P y xs p x (inl e) = inr (subst P e p)
 one_new P y xs p x (inr i) = inl i
 
+-- a list with one element put in front adds that one
 pub adds_one : {A : Type 0} {P : A → Type 0} {y : A} {xs : List A} → P y → Adds P xs (y ∷ xs)
 adds_one {A} {P} {y} {xs} p = record { old = λ x i. inr i; new = one_new P y xs p }
 
+-- an alternative, where the first case leads to another and the second case to the second of that
 first_new : {A B P Q : Type 0} → A ⊎ P → (A → B ⊎ Q) → (P → Q) → B ⊎ Q
 first_new (inl a) f g = f a
 first_new (inr p) f g = inr (g p)
 
+-- two additions, one after another, are one, of what follows from the fact of either
 pub adds_both : {A : Type 0} {P Q R : A → Type 0} {xs ys zs : List A} → ((x : A) → P x → R x) → ((x : A) → Q x → R x) → Adds P xs ys → Adds Q ys zs → Adds R xs zs
 adds_both f g a b = record {
   old = λ x i. b.old x (a.old x i);
@@ -62,16 +70,19 @@ adds_both f g a b = record {
 
 -- Lists by index.
 
+-- what is read at an index within the list stands there
 pub at_place : {A : Type 0} (xs : List A) (k : ℕ) (x : A) → k < length xs → x ≡ get_or xs k x → slice_get xs k ≡ Some x
 at_place [] k x low is = absurd (omega arith)
 at_place {A} (y ∷ xs) zero x low is = ap (λ (z : A). let o : Option A = Some z in o) (sym is)
 at_place (y ∷ xs) (suc k) x low is = at_place xs k x (le_of_suc-le-suc low) is
 
+-- what is set at an index that is there stands there
 pub at_set : {A : Type 0} (xs : List A) (k : ℕ) (x y : A) → slice_get xs k ≡ Some y → slice_get (set xs k x) k ≡ Some x
 at_set [] k x y e = cc
 at_set (z ∷ xs) zero x y e = refl
 at_set (z ∷ xs) (suc k) x y e = at_set xs k x y e
 
+-- at each other index what stood there stays
 pub at_set_other : {A : Type 0} (xs : List A) (k j : ℕ) (x : A) → k ≢ j → slice_get (set xs k x) j ≡ slice_get xs j
 at_set_other [] k j x other = refl
 at_set_other (z ∷ xs) zero zero x other = absurd (other refl)
@@ -79,11 +90,13 @@ at_set_other (z ∷ xs) zero (suc j) x other = refl
 at_set_other (z ∷ xs) (suc k) zero x other = refl
 at_set_other (z ∷ xs) (suc k) (suc j) x other = at_set_other xs k j x (λ e. other (ap suc e))
 
+-- of two elements set at one index the later stands
 pub set_twice : {A : Type 0} (xs : List A) (k : ℕ) (x y : A) → set (set xs k x) k y ≡ set xs k y
 set_twice [] k x y = refl
 set_twice (z ∷ xs) zero x y = refl
 set_twice (z ∷ xs) (suc k) x y = ap (λ zs. z ∷ zs) (set_twice xs k x y)
 
+-- an element keeps its index where more comes behind the list
 pub at_front : {A : Type 0} (xs more : List A) (k : ℕ) (x : A) → slice_get xs k ≡ Some x → slice_get (xs ++ more) k ≡ Some x
 at_front [] more k x e = cc
 at_front (y ∷ xs) more zero x e = e

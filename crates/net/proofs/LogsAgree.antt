@@ -1,41 +1,34 @@
 -- Each entry of a log is chosen, since a node learns nothing else; so two logs have one entry at each slot that both have,
 -- and one of them is a beginning of the other.
-use Rattle.std.proofs.Common.{◌≡◌, ℕ, suc, ◌+◌, List, [], ◌∷◌, ◌++◌, Option, Some, None, inl, inr, refl, subst, slice_get}
+use Rattle.std.proofs.Common.{◌≡◌, ℕ, ◌+◌, List, ◌++◌, Option, Some, None, refl, subst, slice_get}
 use Rattle.slots.proofs.MapReads.{before_gap}
 use Rattle.synod.specs.Node.{Node}
 use Rattle.net.specs.Chosen.{Vote, IsChosen}
 use Rattle.net.specs.World.{World, log_at, log}
-use Rattle.net.specs.Agree.{Agree}
 use Rattle.net.specs.Laws.{LogEntriesAreChosen, LogsOfNodesAgree}
+use Rattle.net.proofs.Beginnings.{agree_lists}
 use Rattle.net.proofs.Ledger.{Ledger}
 use Rattle.net.proofs.Invariant.{NodeHolds, WorldHolds}
 use Rattle.net.proofs.EveryEvent.{node_at, holds_after}
 use Rattle.net.proofs.ChosenAgree.{chosen_values_agree}
 
+-- where the invariant holds of a node, if it is there, each entry of its log is chosen
 log_at_chosen : {V : Type 0} (ws : List ℕ) (offers : List V) (l : Ledger V) (k : ℕ) (o : Option (Node V)) → ((n : Node V) → o ≡ Some n → NodeHolds ws offers l k n)
     → (s : ℕ) (v : Option V) → slice_get (log_at o) s ≡ Some v → IsChosen ws l.votes s v
 log_at_chosen ws offers l k None h s v e = cc
 log_at_chosen ws offers l k (Some n) h s v e = (h n refl).learner.chosen s v (before_gap n.learned s v e)
 
+-- an entry of the log of node k is chosen, by the votes of the ledger
 pub log_chosen : {V : Type 0} (offers : List V) (w : World V) (h : WorldHolds offers w) (k s : ℕ) (v : Option V) → slice_get (log w k) s ≡ Some v → IsChosen w.weights h.ledger.votes s v
 log_chosen offers w h k s v e = log_at_chosen w.weights offers h.ledger (0 + k) (slice_get w.nodes k) (λ n d. node_at w.weights offers h.ledger w.nodes 0 k n d h.nodes) s v e
 
+-- an entry of a log is chosen, by the votes ever cast
 pub log_entries_are_chosen : {V : Type 0} → LogEntriesAreChosen V
 log_entries_are_chosen {V} size ws events w is_after k s v e =
     let h = holds_after size ws events w is_after in
     subst (λ (votes : List (Vote V)). IsChosen w.weights votes s v) h.ever (log_chosen _ w h k s v e)
 
--- Lists that are the same wherever both have an element.
-
-agree_more : {A : Type 0} (x y : A) (xs ys : List A) → x ≡ y → Agree xs ys → Agree (x ∷ xs) (y ∷ ys)
-agree_more x y xs ys same (inl h) = inl (h.0, let e = h.1 in cc)
-agree_more x y xs ys same (inr h) = inr (h.0, let e = h.1 in cc)
-
-agree_lists : {A : Type 0} (xs ys : List A) → ((s : ℕ) (u v : A) → slice_get xs s ≡ Some u → slice_get ys s ≡ Some v → u ≡ v) → Agree xs ys
-agree_lists [] ys same = inl (ys, refl)
-agree_lists (x ∷ xs) [] same = inr (x ∷ xs, refl)
-agree_lists (x ∷ xs) (y ∷ ys) same = agree_more x y xs ys (same 0 x y refl refl) (agree_lists xs ys (λ s u v e d. same (suc s) u v e d))
-
+-- the logs of two nodes at two moments agree
 pub logs_of_nodes_agree : {V : Type 0} → LogsOfNodesAgree V
 logs_of_nodes_agree size ws early late w x first then j k = agree_lists (log w j) (log x k) (λ s u v e d.
     chosen_values_agree size ws early late w x first then s u v (log_entries_are_chosen size ws early w first j s u e) (log_entries_are_chosen size ws (early ++ late) x then k s v d))

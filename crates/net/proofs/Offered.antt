@@ -16,6 +16,7 @@ chosen_brought ws offers l sound s v c =
     let some = quorums_meet ws c.chosen.voters c.chosen.voters c.chosen.majority c.chosen.majority in
     sound.brought _ (sound.backed _ (Contains-in _ l.votes (c.chosen.voted some.0 some.1)))
 
+-- each entry of a log is a no-operation or was offered
 pub log_entries_were_offered : {V : Type 0} → LogEntriesWereOffered V
 log_entries_were_offered size ws events w is_after k s v e =
     let h = holds_after size ws events w is_after in

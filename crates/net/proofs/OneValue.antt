@@ -11,11 +11,13 @@ use Rattle.net.proofs.Ledger.{proposal}
 use Rattle.net.proofs.Invariant.{SaysTrue, IsTrue, WorldHolds}
 use Rattle.net.proofs.EveryEvent.{holds_after}
 
+-- what an Accept of the world proposes is in the ledger
 pub proposed_in : {V : Type 0} (offers : List V) (w : World V) (h : WorldHolds offers w) (b : Ballot) (s : ℕ) (v : Option V) → IsProposed w b s v → In (proposal b s v) h.ledger.proposals
 proposed_in offers w h b s v p =
     let said = all_in (IsTrue w.weights h.ledger) w.packets p.0 (Contains-in p.0 w.packets p.1) h.packets in
     subst (λ body. SaysTrue w.weights h.ledger p.0.from body) p.2 said
 
+-- under one ballot one value at most is proposed for a slot
 pub ballots_have_one_value : {V : Type 0} → BallotsHaveOneValue V
 ballots_have_one_value size ws events w is_after b s u v p q =
     let h = holds_after size ws events w is_after in

@@ -32,16 +32,19 @@ use Rattle.net.proofs.ProposerSteps.{after_batch}
 use Rattle.synod.proofs.PageKeeps.{length-fills}
 use Rattle.synod.proofs.NodeKeeps.{all_append}
 
+-- what is so of each element is so of each of the first
 all_take : {A : Type 0} (P : A → Type 0) (i : ℕ) (xs : List A) → AllByRecursion P xs → AllByRecursion P (take i xs)
 all_take P zero xs h = tt
 all_take P (suc i) [] h = tt
 all_take P (suc i) (x ∷ xs) h = (h.0, all_take P i xs h.1)
 
+-- what is so of each element is so of each behind the first
 all_drop : {A : Type 0} (P : A → Type 0) (i : ℕ) (xs : List A) → AllByRecursion P xs → AllByRecursion P (drop i xs)
 all_drop P zero xs h = h
 all_drop P (suc i) [] h = tt
 all_drop P (suc i) (x ∷ xs) h = all_drop P i xs h.1
 
+-- values that were offered are brought, as values to propose
 all_offered : {V : Type 0} (offers vs : List V) → AllByRecursion (λ v. In v offers) vs → AllByRecursion (IsBrought offers) (map (λ v. Some v) vs)
 all_offered offers [] h = tt
 all_offered offers (v ∷ vs) h = (h.0, all_offered offers vs h.1)
@@ -52,6 +55,7 @@ module _ {V : Type 0} {offers : List V} {l : Ledger V} (n : Node V) (sound : IsS
 
   -- A quorum is heard: first the reported slots are filled, and then what waits takes slots.
 
+  -- a node that heard a quorum leads, and this continues the story
   leads_continues : (b : Ballot) (first : ℕ) (pages : List (List (Option (List (SlotReport V))))) (heard : List Heard) → IsPreparing l n.me b first pages heard → is_quorum n.weights (is_heard heard) ≡ true
       → Goes (leads n b first (all_reports pages heard) (top_reported first (all_reports pages heard)))
   leads_continues b first pages heard preparing quorum =
@@ -94,6 +98,7 @@ module _ {V : Type 0} {offers : List V} {l : Ledger V} (n : Node V) (sound : IsS
 
   -- A node that goes on preparing.
 
+  -- what holds of the node holds of it with these pages and nodes heard, as it goes on preparing
   prepares_on : (b : Ballot) (first : ℕ) (pages : List (List (Option (List (SlotReport V))))) (heard : List Heard) → n.role ≡ Preparing b first → IsPreparing l n.me b first pages heard
       → NodeHolds n.weights offers l n.me (record n { pages = pages; heard = heard })
   prepares_on b first pages heard role preparing = record {
@@ -108,6 +113,7 @@ module _ {V : Type 0} {offers : List V} {l : Ledger V} (n : Node V) (sound : IsS
     };
   }
 
+  -- with these nodes heard it leads or goes on preparing, by the test of a quorum; both continue the story
   hears_either : (b : Ballot) (first : ℕ) (pages : List (List (Option (List (SlotReport V))))) (heard : List Heard) → n.role ≡ Preparing b first → IsPreparing l n.me b first pages heard
       → (t : Bool) → is_quorum n.weights (is_heard heard) ≡ t
       → Goes (if t then leads n b first (all_reports pages heard) (top_reported first (all_reports pages heard)) else keeps_promise n pages heard)
@@ -121,6 +127,7 @@ module _ {V : Type 0} {offers : List V} {l : Ledger V} (n : Node V) (sound : IsS
     abbrev had : List (List (Option (List (SlotReport V))))
     had = with_page n.pages p (number - 1) reports
 
+    -- each page had, the new one with the others, is a page of its node's promise
     true_page : (j i : ℕ) (page : List (SlotReport V)) → page_of had j i ≡ Some page → IsPage l j b i page
     true_page j i page e = elim (page_either n.pages p (number - 1) reports j i page e) [
       | inl old ↦ preparing.each_page j i page old
@@ -162,6 +169,7 @@ module _ {V : Type 0} {offers : List V} {l : Ledger V} (n : Node V) (sound : IsS
           all = sym (subst (λ (c : ℕ). joined_pages (pages_from had p) c ≡ promise.reports) (sym packet.counted) joined);
         }
 
+    -- the sender is heard where all its pages are there, else the page is kept; both continue the story
     gathers_either : (t : Bool) → all_had (pages_from had p) count ≡ t → Goes (if t then hears n b first had (n.heard ++ record { node = p; count = count } ∷ []) else keeps_page n had)
     gathers_either true all = hears_either b first had (n.heard ++ record { node = p; count = count } ∷ []) role
         record {
@@ -183,11 +191,13 @@ module _ {V : Type 0} {offers : List V} {l : Ledger V} (n : Node V) (sound : IsS
         })
         tt refl
 
+  -- of a test and the denial of another, what each comes to
   both_true : (s t : Bool) → (s && not t) ≡ true → (s ≡ true) × (t ≡ false)
   both_true true true e = cc
   both_true true false e = (refl, refl)
   both_true false t e = cc
 
+  -- a page is gathered, if it is of the ballot and its sender is not heard, or nothing happens
   comes_either : (p : ℕ) (b : Ballot) (number count : ℕ) (reports : List (SlotReport V)) → IsPagePacket l p b number count reports → (c : Ballot) (first : ℕ) → n.role ≡ Preparing c first
       → IsPreparing l n.me c first n.pages n.heard → (t : Bool) → (is_same b c && not (is_heard n.heard p)) ≡ t
       → Goes (if t then gathers n p c first count (with_page n.pages p (number - 1) reports) else unchanged n)
@@ -197,11 +207,13 @@ module _ {V : Type 0} {offers : List V} {l : Ledger V} (n : Node V) (sound : IsS
       let here : IsPagePacket l p c number count reports = subst (λ (d : Ballot). IsPagePacket l p d number count reports) (same_true b c tests.0) packet in
       gathers_either p c number count reports here first role preparing tests.1 (all_had (pages_from (with_page n.pages p (number - 1) reports) p) count) refl
 
+  -- a page of a promise continues the story in each role
   promise_as : (p : ℕ) (b : Ballot) (number count : ℕ) (reports : List (SlotReport V)) → IsPagePacket l p b number count reports → (role : Role) → n.role ≡ role
       → RoleHolds n.weights l n.me role n.pages n.heard → Goes (on_promise_as role n p b number count reports)
   promise_as p b number count reports packet Idle role h = same_ledger sound holds tt refl
   promise_as p b number count reports packet (Leading c next) role h = same_ledger sound holds tt refl
   promise_as p b number count reports packet (Preparing c first) role h = comes_either p b number count reports packet c first role h (is_same b c && not (is_heard n.heard p)) refl
 
+  -- a Promise that carries a true page continues the story
   pub promise_continues : (p : ℕ) (b : Ballot) (number count : ℕ) (reports : List (SlotReport V)) → IsPagePacket l p b number count reports → Goes (on_promise n p b number count reports)
   promise_continues p b number count reports packet = promise_as p b number count reports packet n.role refl holds.proposer.as_role

@@ -45,21 +45,25 @@ module _ {V : Type 0} {offers : List V} {l : Ledger V} (n : Node V) (sound : IsS
 
   -- A begin: the round is above all rounds that the node began, so the ballot is a new one.
 
+  -- the next ballot was not begun before
   not_begun : (x : Begun) → In x l.begun → next_ballot n ≡ x.ballot → ⊥
   not_begun x i same =
       let round : next_round n ≡ x.ballot.round = ap (λ (b : Ballot). b.round) same in
       let low = holds.proposer.begun x i (sym (ap (λ (b : Ballot). b.node) same)) in
       omega (arith, round, low)
 
+  -- with the next ballot begun, the node began no round above its new one
   begun_upto : (x : Begun) → In x (begun_as (next_ballot n) (log_length n) ∷ l.begun) → x.ballot.node ≡ n.me → x.ballot.round ≤ next_round n
   begun_upto x (inl e) mine = let round : next_round n ≡ x.ballot.round = ap (λ (y : Begun). y.ballot.round) e in omega (arith, round)
   begun_upto x (inr i) mine = let low = holds.proposer.begun x i mine in omega (arith, low)
 
+  -- among no pages of any node none is found
   none_had : (weights : List ℕ) (j i : ℕ) (page : List (SlotReport V)) → page_of (no_pages weights) j i ≡ Some page → ⊥
   none_had [] j i page e = cc
   none_had (w ∷ weights) zero i page e = cc
   none_had (w ∷ weights) (suc j) i page e = none_had weights j i page e
 
+  -- the step that begins the next ballot continues the story
   begins_continue : Goes (begins n)
   begins_continue =
       let x : Begun = begun_as (next_ballot n) (log_length n) in
@@ -90,15 +94,18 @@ module _ {V : Type 0} {offers : List V} {l : Ledger V} (n : Node V) (sound : IsS
         cast = refl;
       }
 
+  -- a begin continues the story, unless the test refuses it
   begin_either : (t : Bool) (refusal : Refusal) → IfStep (if t then Ok (begins n) else Err refusal) Goes
   begin_either true refusal = begins_continue
   begin_either false refusal = tt
 
+  -- a begin, where it is not refused, continues the story
   pub begin_continues : IfStep (begun n) Goes
   begin_continues = begin_either (nat_lt (next_round n) (2 ^ 64)) RoundsSpent
 
   -- An offer: a leader may propose anything from its next slot on.
 
+  -- what holds of the node holds of it as a leader, where the ledger differs in its proposals alone
   pub after_batch : (b : Ballot) (next : ℕ) (m : Ledger V) (pages : List (List (Option (List (SlotReport V))))) (heard : List Heard) (waiting : List V) → m.begun ≡ l.begun → m.promises ≡ l.promises → m.votes ≡ l.votes
       → IsLeading n.weights m n.me b next → AllByRecursion (λ v. In v offers) waiting
       → NodeHolds n.weights offers m n.me (record n { role = Leading b next; pages = pages; heard = heard; waiting = waiting })
@@ -114,6 +121,7 @@ module _ {V : Type 0} {offers : List V} {l : Ledger V} (n : Node V) (sound : IsS
     learner = subst (λ vs. LearnerHolds n.weights vs n.tallies n.learned) (sym votes) holds.learner;
   }
 
+  -- a leader that proposes an offered value at its next slot continues the story
   takes_slot_continues : (v : V) (b : Ballot) (next : ℕ) → In v offers → IsLeading n.weights l n.me b next → Goes (takes_slot n b next v)
   takes_slot_continues v b next brought leading =
       let vs : List (Option V) = Some v ∷ [] in
@@ -131,6 +139,7 @@ module _ {V : Type 0} {offers : List V} {l : Ledger V} (n : Node V) (sound : IsS
         cast = refl;
       }
 
+  -- an offered value that waits continues the story
   waits_continues : (v : V) → In v offers → Goes (waits n v)
   waits_continues v brought = same_ledger sound record {
     me = holds.me;
@@ -144,32 +153,39 @@ module _ {V : Type 0} {offers : List V} {l : Ledger V} (n : Node V) (sound : IsS
     };
   } tt refl
 
+  -- an offer to a node that does not lead waits, which continues the story, or is refused, by two tests
   waits_either : (v : V) → In v offers → (t u : Bool) → IfStep (if t then Err LogFull else if u then Ok (waits n v) else Err Busy) Goes
   waits_either v brought true u = tt
   waits_either v brought false true = waits_continues v brought
   waits_either v brought false false = tt
 
+  -- an offer to a leader takes the next slot, which continues the story, or is refused where none is left
   slot_either : (v : V) (b : Ballot) (next : ℕ) → In v offers → IsLeading n.weights l n.me b next → (t : Bool) → IfStep (if t then Err LogFull else Ok (takes_slot n b next v)) Goes
   slot_either v b next brought leading true = tt
   slot_either v b next brought leading false = takes_slot_continues v b next brought leading
 
+  -- an offer to a node in any role, where it is not refused, continues the story
   offer_as_continues : (v : V) → In v offers → (role : Role) → RoleHolds n.weights l n.me role n.pages n.heard → IfStep (offer_as role n v) Goes
   offer_as_continues v brought Idle h = waits_either v brought (log_length n == SLOTS) (nat_lt (length n.waiting) MOST_WAITING)
   offer_as_continues v brought (Preparing b first) h = waits_either v brought (log_length n == SLOTS) (nat_lt (length n.waiting) MOST_WAITING)
   offer_as_continues v brought (Leading b next) h = slot_either v b next brought h (next == SLOTS)
 
+  -- an answer that continues the story, if it is a step, does so behind the test of the length
   long_either : (r : Result (Stepped V) Refusal) → IfStep r Goes → (t : Bool) → IfStep (if t then Err TooLong else r) Goes
   long_either r h true = tt
   long_either r h false = h
 
+  -- an offer, where it is not refused, continues the story
   pub offer_continues : (size : V → ℕ) (v : V) → In v offers → IfStep (offered size n v) Goes
   offer_continues size v brought = long_either (offer_as n.role n v) (offer_as_continues v brought n.role holds.proposer.as_role) (nat_lt MOST_BYTES (size v))
 
   -- A Nack.
 
+  -- a proposer that gives up or stays, by the test, continues the story
   nack_either : (t : Bool) → Goes (if t then idles n else unchanged n)
   nack_either true = same_ledger sound (as_role Idle tt) tt refl
   nack_either false = same_ledger sound holds tt refl
 
+  -- a Nack continues the story
   pub nack_continues : (b c : Ballot) → Goes (on_nack n b c)
   nack_continues b c = nack_either (is_at n.role b && is_under b c)

@@ -43,6 +43,7 @@ pub record IsReported {V : Type 0} (l : Ledger V) (b : Ballot) (r : SlotReport V
   pub reported : In r promise.reports
 
 module _ {V : Type 0} (l : Ledger V) (b : Ballot) (pages : List (List (Option (List (SlotReport V))))) where
+  -- the first node heard promised the ballot, and its reports stand among all
   first_heard : (h : Heard) (hs : List Heard) (k : ℕ) → IsHeard l b h.node (joined_pages (pages_from pages h.node) h.count) → h.node ≡ k → HeardFrom l b (all_reports pages (h ∷ hs)) k
   first_heard h hs k d same = record {
     promise = d.promise;
@@ -52,6 +53,7 @@ module _ {V : Type 0} (l : Ledger V) (b : Ballot) (pages : List (List (Option (L
     each = λ r i. In-append_left r _ (all_reports pages hs) (subst (λ (rs : List (SlotReport V)). In r rs) d.all i);
   }
 
+  -- what a node among the later ones reports stands among all reports
   later_heard : (h : Heard) (hs : List Heard) (k : ℕ) → HeardFrom l b (all_reports pages hs) k → HeardFrom l b (all_reports pages (h ∷ hs)) k
   later_heard h hs k d = record {
     promise = d.promise;
@@ -61,15 +63,18 @@ module _ {V : Type 0} (l : Ledger V) (b : Ballot) (pages : List (List (Option (L
     each = λ r i. In-append_right r (joined_pages (pages_from pages h.node) h.count) _ (d.each r i);
   }
 
+  -- a node that is heard is the first or one of the later, and its reports stand among all
   heard_either : (h : Heard) (hs : List Heard) (k : ℕ) (t : Bool) → (h.node == k) ≡ t → IsHeard l b h.node (joined_pages (pages_from pages h.node) h.count)
       → (is_heard hs k ≡ true → HeardFrom l b (all_reports pages hs) k) → (t || is_heard hs k) ≡ true → HeardFrom l b (all_reports pages (h ∷ hs)) k
   heard_either h hs k true test d later i = first_heard h hs k d (eqb-true _ _ test)
   heard_either h hs k false test d later i = later_heard h hs k (later i)
 
+  -- each node heard promised the ballot, and its reports stand among all
   heard_from : (heard : List Heard) → AllHeard l b pages heard → (k : ℕ) → is_heard heard k ≡ true → HeardFrom l b (all_reports pages heard) k
   heard_from [] each k i = cc
   heard_from (h ∷ hs) each k i = heard_either h hs k (h.node == k) refl each.0 (heard_from hs each.1 k) i
 
+  -- each report stands in a promise of the ballot
   reported_by : (heard : List Heard) → AllHeard l b pages heard → (r : SlotReport V) → In r (all_reports pages heard) → IsReported l b r
   reported_by [] each r i = elim i [ ]
   reported_by (h ∷ hs) each r i = elim (In-append r (joined_pages (pages_from pages h.node) h.count) (all_reports pages hs) i) [
@@ -94,14 +99,17 @@ module _ {V : Type 0} (ws : List ℕ) (offers : List V) (l : Ledger V) (b : Ball
       let r = (h.sound.truthful d.promise d.is_in).reported x i (sym d.node) (omega (arith, start, from)) (subst (λ (c : Ballot). Under x.ballot c) (sym d.ballot) under) in
       record { report = r.report; is_in = d.each r.report r.is_in; slot = r.slot; upto = r.upto }
 
+  -- each node heard promised the ballot
   all_promised : (k : ℕ) → is_heard heard k ≡ true → HasPromised l k b
   all_promised k i = let d = heard_from l b pages heard h.each k i in record { promise = d.promise; is_in = d.is_in; node = d.node; ballot = d.ballot }
 
+  -- where nothing is reported of a slot, no node heard voted there below the ballot
   none_voted : (s : ℕ) → first ≤ s → ((r : SlotReport V) → In r reports → r.slot ≡ s → ⊥) → NoneVoted l (is_heard heard) b s
   none_voted s from none x i heard_node at_s under =
       let r = vote_reported x i heard_node (omega arith) under in
       none r.report r.is_in (r.slot ∙ at_s)
 
+  -- the highest report of a slot is of a proposal, and no node heard voted higher there below the ballot
   highest_voted : (s : ℕ) → first ≤ s → (r : SlotReport V) → IsHighest s reports r → HighestVoted l l.proposals (is_heard heard) b s r.value
   highest_voted s from r most =
       let t = reported_by l b pages heard h.each r most.is_in in
@@ -115,10 +123,12 @@ module _ {V : Type 0} (ws : List ℕ) (offers : List V) (l : Ledger V) (b : Ball
             upto_upto x.ballot higher.report.ballot r.ballot higher.upto (most.most higher.report higher.is_in (higher.slot ∙ at_s));
       }
 
+  -- at a slot the value of its highest report, or a no-operation where there is none, is grounded
   fill_grounded : (s : ℕ) → first ≤ s → (o : Option (SlotReport V)) → HighestHolds s reports o → IsGrounded ws l l.proposals b s (reported_value o)
   fill_grounded s from None none = record { quorum = is_heard heard; majority = h.quorum; promised = all_promised; picks = inl (none_voted s from none) }
   fill_grounded s from (Some r) most = record { quorum = is_heard heard; majority = h.quorum; promised = all_promised; picks = inr (highest_voted s from r most) }
 
+  -- the values for the slots from s on, by the reports, are each grounded
   pub fills_grounded : (s count : ℕ) → first ≤ s → EachGrounded ws l b s (fills reports s count)
   fills_grounded s zero from = tt
   fills_grounded s (suc count) from = (fill_grounded s from (highest_at s reports) (highest_holds s reports), fills_grounded (suc s) count (omega arith))
@@ -130,6 +140,7 @@ module _ {V : Type 0} (ws : List ℕ) (offers : List V) (l : Ledger V) (b : Ball
       let t = reported_by l b pages heard h.each r most.is_in in
       h.sound.brought _ (h.sound.backed _ ((h.sound.truthful t.promise t.is_in).backed r t.reported).voted)
 
+  -- the values for the slots from s on, by the reports, were each brought
   pub fills_brought : (s count : ℕ) → AllByRecursion (IsBrought offers) (fills reports s count)
   fills_brought s zero = tt
   fills_brought s (suc count) = (fill_brought s (highest_at s reports) (highest_holds s reports), fills_brought (suc s) count)
@@ -143,6 +154,7 @@ module _ {V : Type 0} (ws : List ℕ) (offers : List V) (l : Ledger V) (b : Ball
     none = none_voted s from (λ r i at_s. let low = below_top first reports r i in let no : ⊥ = omega arith in no);
   }
 
+  -- each report is of a slot from the first on
   pub reported_from : (r : SlotReport V) → In r reports → first ≤ r.slot
   reported_from r i =
       let t = reported_by l b pages heard h.each r i in

@@ -31,18 +31,22 @@ same_ledger {k = k} {l = l} sound holds posts none_cast = record { ledger = l; g
 -- A body that is true of its sender is true in each packet.
 
 module _ {V : Type 0} (ws : List ℕ) (l : Ledger V) (me : ℕ) (body : Body V) (true_body : SaysTrue ws l me body) where
+  -- a packet to each node, with a true body, is true
   pub true_to_all : (k : ℕ) (weights : List ℕ) → AllByRecursion (IsTrue ws l) (to_all_from me body k weights)
   true_to_all k [] = tt
   true_to_all k (w ∷ weights) = (true_body, true_to_all (suc k) weights)
 
+  -- true packets stay so with one of the true body before them, or without
   one_other : (t : Bool) (k : ℕ) (ps : List (Packet V)) → AllByRecursion (IsTrue ws l) ps → AllByRecursion (IsTrue ws l) (if t then ps else (packet me k body ∷ ps))
   one_other true k ps h = h
   one_other false k ps h = (true_body, h)
 
+  -- a packet to each node but the sender, with a true body, is true
   pub true_to_others : (k : ℕ) (weights : List ℕ) → AllByRecursion (IsTrue ws l) (to_others_from me body k weights)
   true_to_others k [] = tt
   true_to_others k (w ∷ weights) = one_other (k == me) k (to_others_from me body (suc k) weights) (true_to_others (suc k) weights)
 
+-- Accepts of values that were proposed slot after slot are true
 pub true_accepts : {V : Type 0} (ws : List ℕ) (l : Ledger V) (me : ℕ) (weights : List ℕ) (b : Ballot) (s : ℕ) (vs : List (Option V)) → EachProposed l.proposals b s vs
     → AllByRecursion (IsTrue ws l) (accepts me weights b s vs)
 true_accepts ws l me weights b s [] h = tt

@@ -27,6 +27,7 @@ use Rattle.net.proofs.EventsDue.{comes_offer, comes_begin, comes_restart, comes_
 
 -- A step that a node made ready.
 
+-- the step that a node made ready is ready as the work of its event
 pub made_due : {V : Type 0} (old new : Core V) (k : ℕ) (e f : Event V) (r : Result (Stepped V) Refusal) (made : Made V) → ReadiesStep new r (Ok made) → f ≡ e → IsOfEvent e (steps made) → AllByRecursion (IsPost (length old.node.weights)) made.step.posts
     → Readies old new k e r (Ok (record { at = k; event = f; work = steps made }))
 made_due {V} old new k e f (Ok step) made h same kind posts = record {
@@ -46,12 +47,15 @@ packet_is ps number p q is at = let both : Some p ≡ Some q = sym (at_place ps 
 -- What a node's answer tells of the net, view being what the fields show.
 
 module _ {V : Type 0} (size : V → ℕ) (view now : NetView V) (seen : view ≡ now) (h : AreOfWorld size view.taken view.cores view.packets) (low : length now.taken.events < MOST_EVENTS) where
+  -- the history of the fields has an event left
   still_low : length view.taken.events < MOST_EVENTS
   still_low = subst (λ (n : NetView V). length n.taken.events < MOST_EVENTS) (sym seen) low
 
+  -- what the event comes to in the world is what the history with it comes to
   met_is : (e : Event V) (r : Result (World V) StepFault) → happens_at size h.world e ≡ r → world_of size (with_event now.taken e) ≡ r
   met_is e r is = ap (λ (n : NetView V). world_of size (with_event n.taken e)) (sym seen) ∙ next_is size view.taken view.cores view.packets h still_low e ∙ is
 
+  -- the fault that an event meets in the world is a right answer
   gives_fault : (e : Event V) (fault : StepFault) → happens_at size h.world e ≡ Err fault → (net : NetView V) → Gives size net e (world_of size (with_event now.taken e)) (Err fault)
   gives_fault e fault meets net = subst (λ (r : Result (World V) StepFault). Gives size net e r (Err fault)) (sym (met_is e (Err fault) meets)) refl
 
@@ -63,6 +67,7 @@ module _ {V : Type 0} (size : V → ℕ) (view now : NetView V) (seen : view ≡
   gives_no_packet (Begin k) none net = let no : Some k ≡ None = none in cc
   gives_no_packet (Restart k) none net = let no : Some k ≡ None = none in cc
 
+  -- a delivery of a packet that is there is what the node that it is for makes of it
   delivered_at : (number : ℕ) (p : Packet V) → slice_get view.packets number ≡ Some p → happens_at size h.world (Deliver number) ≡ at_node h.world p.to (λ n. Ok (on_packet n p)) (slice_get h.world.nodes p.to)
   delivered_at number p is = ap (λ (o : Option (Packet V)). delivered h.world o) (ap (λ (ps : List (Packet V)). slice_get ps number) h.posted ∙ is)
 
@@ -71,6 +76,7 @@ module _ {V : Type 0} (size : V → ℕ) (view now : NetView V) (seen : view ≡
       → (net : NetView V) → Gives size net e (world_of size (with_event now.taken e)) (Err NoNode)
   gives_nowhere k e make at past = gives_fault e NoNode (at ∙ ap (λ (o : Option (Node V)). at_node h.world k make o) (no_node_shown size view.taken view.cores view.packets h k past))
 
+  -- for an event of a node past the cores NoNode is a right answer
   pub gives_no_node : (k : ℕ) (e : Event V) → addressed view.packets e ≡ Some k → length view.cores ≤ k → (net : NetView V) → Gives size net e (world_of size (with_event now.taken e)) (Err NoNode)
   gives_no_node k (Offer j v) at past = gives_nowhere j (Offer j v) (λ n. offered size n v) refl (let same : j ≡ k = cc in omega (arith, past, same))
   gives_no_node k (Begin j) at past = gives_nowhere j (Begin j) begun refl (let same : j ≡ k = cc in omega (arith, past, same))
@@ -79,6 +85,7 @@ module _ {V : Type 0} (size : V → ℕ) (view now : NetView V) (seen : view ≡
       gives_nowhere p.0.to (Deliver number) (λ n. Ok (on_packet n p.0)) (delivered_at number p.0 p.1) (let to = p.2 in omega (arith, past, to))
   gives_no_node k (Restart j) at past = gives_nowhere j (Restart j) (λ n. Ok (restarted n)) refl (let same : j ≡ k = cc in omega (arith, past, same))
 
+  -- each packet is a post by the weights of any node that is there
   pub posts_at : (k : ℕ) (core : Core V) → k < length view.cores → core ≡ get_or view.cores k core → AllByRecursion (IsPost (length core.node.weights)) view.packets
   posts_at k core in_cores is = subst (λ (ws : List ℕ). AllByRecursion (IsPost (length ws)) view.packets) (sym (own_weights size view.taken view.cores view.packets h k core in_cores is)) h.posts
 
@@ -87,6 +94,7 @@ module _ {V : Type 0} (size : V → ℕ) (view now : NetView V) (seen : view ≡
     abbrev left : NetView V
     left = record view { cores = set view.cores k new }
 
+    -- what is due at node k is due in the net
     due_here : (e : Event V) (step : Stepped V) → ComesTo size view.packets k core.node e (Ok step) → (due : Due V) → IsDueAt core new k e step due → IsDue size left due
     due_here e step comes due d = record {
       core = new;
@@ -99,6 +107,7 @@ module _ {V : Type 0} (size : V → ℕ) (view now : NetView V) (seen : view ≡
       posts = subst (λ (ws : List ℕ). AllByRecursion (IsPost (length ws)) (posts_of due.work)) (own_weights size view.taken view.cores view.packets h k core in_cores is) d.posts;
     }
 
+    -- an answer that is right by the node's step or refusal is right by the world's
     by_answer : (e : Event V) (r : Result (Stepped V) Refusal) → ComesTo size view.packets k core.node e r → (result : Result (Due V) StepFault) → Readies core new k e r result
         → (met : Result (World V) StepFault) → met ≡ answered h.world k r → Gives size left e met result
     by_answer e (Ok step) comes (Ok due) d met is = subst (λ (x : Result (World V) StepFault). Gives size left e x (Ok due)) (sym is) (due_here e step comes due d, d.event, d.kind)
@@ -106,12 +115,14 @@ module _ {V : Type 0} (size : V → ℕ) (view now : NetView V) (seen : view ≡
     by_answer e (Err refusal) comes (Ok due) d met is = elim d [ ]
     by_answer e (Err refusal) comes (Err fault) d met is = subst (λ (x : Result (World V) StepFault). Gives size left e x (Err fault)) (sym is) d
 
+    -- an answer that is right by what an event comes to at the node is right by the history
     gives_node : (e : Event V) (r : Result (Stepped V) Refusal) → ComesTo size view.packets k core.node e r → (result : Result (Due V) StepFault) → Readies core new k e r result
         → Gives size left e (world_of size (with_event now.taken e)) result
     gives_node e r comes result readies =
         by_answer e r comes result readies (world_of size (with_event now.taken e))
         (met_is e (answered h.world k r) (comes h.world [] (h.posted ∙ sym (append-nil view.packets)) (node_shown size view.taken view.cores view.packets h k core in_cores is)).happens)
 
+    -- for each event of node k, an answer that is right by its state is right by the history
     pub gives_event_here : (e : Event V) → addressed view.packets e ≡ Some k → (result : Result (Due V) StepFault) → ReadiesEvent size view.packets core new k e result → Gives size left e (world_of size (with_event now.taken e)) result
     gives_event_here (Offer j v) at result readies =
         let same : j ≡ k = cc in
@@ -126,6 +137,7 @@ module _ {V : Type 0} (size : V → ℕ) (view now : NetView V) (seen : view ≡
         let same : j ≡ k = cc in
         gives_node (Restart j) (Ok (restarted core.node)) (subst (λ (i : ℕ). ComesTo size view.packets k core.node (Restart i) (Ok (restarted core.node))) (sym same) (comes_restart size view.packets k core.node)) result readies
 
+    -- nothing has changed but that node k may have more room
     pub still_here : HasAtLeast core new → IsStill now left
     still_here room = subst (λ (n : NetView V). IsStill n left) seen record {
       taken = refl;
@@ -135,6 +147,7 @@ module _ {V : Type 0} (size : V → ℕ) (view now : NetView V) (seen : view ≡
       event_room = omega arith;
     }
 
+    -- with more room for node k, nodes and packets are still those of the world
     pub of_world_here : HasAtLeast core new → AreOfWorld size view.taken (set view.cores k new) view.packets
     of_world_here room = rooms_stay size view.taken view.cores view.packets h (set view.cores k new) (nodes_still view.cores (set view.cores k new) (still_set view.cores k core new is same room))
 
@@ -152,9 +165,11 @@ still_room {V} view now packets events packet_room event_room seen same_packets 
       event_room = e;
     }
 
+-- where the fields show the same, nothing has changed
 pub not_moved : {V : Type 0} (view now : NetView V) → view ≡ now → IsStill now view
 not_moved view now seen = still_room view now view.packets view.taken.events view.packet_room view.event_room seen refl refl (omega arith) (omega arith)
 
+-- where nothing has changed twice but the room, nothing has but the room
 pub still_more : {V : Type 0} (a b c : NetView V) → IsStill a b → IsStill b c → IsStill a c
 still_more a b c one two = record {
   taken = two.taken ∙ one.taken;

@@ -67,16 +67,19 @@ nodes_of-set [] k core = refl
 nodes_of-set (c ∷ cores) zero core = refl
 nodes_of-set (c ∷ cores) (suc k) core = ap (λ ns. c.node ∷ ns) (nodes_of-set cores k core)
 
+-- the node of the core that is read at an index stands there among the nodes
 pub nodes_at : {V : Type 0} (cores : List (Core V)) (k : ℕ) (core : Core V) → k < length cores → core ≡ get_or cores k core → slice_get (nodes_of cores) k ≡ Some core.node
 nodes_at [] k core low is = absurd (omega arith)
 nodes_at {V} (c ∷ cores) zero core low is = ap (λ (x : Core V). let o : Option (Node V) = Some x.node in o) (sym is)
 nodes_at (c ∷ cores) (suc k) core low is = nodes_at cores k core (le_of_suc-le-suc low) is
 
+-- past the cores there is no node
 pub nodes_past : {V : Type 0} (cores : List (Core V)) (k : ℕ) → length cores ≤ k → slice_get (nodes_of cores) k ≡ None
 nodes_past [] k past = refl
 nodes_past (c ∷ cores) zero past = absurd (omega arith)
 nodes_past (c ∷ cores) (suc k) past = nodes_past cores k (le_of_suc-le-suc past)
 
+-- to set what stands at an index changes nothing
 pub set_same : {A : Type 0} (xs : List A) (k : ℕ) (x : A) → slice_get xs k ≡ Some x → set xs k x ≡ xs
 set_same [] k x is = refl
 set_same {A} (y ∷ xs) zero x is = let same : y ≡ x = cc in ap (λ (z : A). z ∷ xs) (sym same)
@@ -88,6 +91,7 @@ module _ {V : Type 0} (count : ℕ) (w : World V) (counted : w.taken ≡ count) 
   abbrev Counts : Result (World V) StepFault → Type 0
   Counts r = IfTaken r (λ x. x.taken ≡ count + 1)
 
+  -- what a node makes of itself counts one event more
   counts_at : (k : ℕ) (make : Node V → Result (Stepped V) Refusal) (o : Option (Node V)) → Counts (at_node w k make o)
   counts_at k make None = tt
   counts_at k make (Some n) = counts_answered (make n) where
@@ -95,19 +99,23 @@ module _ {V : Type 0} (count : ℕ) (w : World V) (counted : w.taken ≡ count) 
     counts_answered (Ok step) = ap (λ (i : ℕ). i + 1) counted
     counts_answered (Err refusal) = tt
 
+  -- a delivery counts one event more
   counts_delivered : (o : Option (Packet V)) → Counts (delivered w o)
   counts_delivered None = tt
   counts_delivered (Some p) = counts_at p.to (λ n. Ok (on_packet n p)) (slice_get w.nodes p.to)
 
+  -- each event counts one more
   counts_happens_at : (size : V → ℕ) (e : Event V) → Counts (happens_at size w e)
   counts_happens_at size (Offer k v) = counts_at k (λ n. offered size n v) (slice_get w.nodes k)
   counts_happens_at size (Begin k) = counts_at k begun (slice_get w.nodes k)
   counts_happens_at size (Deliver number) = counts_delivered (slice_get w.packets number)
   counts_happens_at size (Restart k) = counts_at k (λ n. Ok (restarted n)) (slice_get w.nodes k)
 
+  -- each event counts one more, once the limit is tested
   counts_happens : (size : V → ℕ) (e : Event V) → Counts (happens size w e)
   counts_happens size e = spent_or (λ x. x.taken ≡ count + 1) (happens_at size w e) (w.taken == MOST_EVENTS) (counts_happens_at size e)
 
+-- a list of events counts as many more as it has
 counts_all : {V : Type 0} (size : V → ℕ) (count : ℕ) (es : List (Event V)) (r : Result (World V) StepFault) → IfTaken r (λ x. x.taken ≡ count) → IfTaken (all_happen size es r) (λ x. x.taken ≡ count + length es)
 counts_all size count [] (Ok w) h = let e : w.taken ≡ count + 0 = omega (arith, h) in e
 counts_all size count [] (Err fault) h = tt
@@ -116,6 +124,7 @@ counts_all {V} size count (e ∷ es) (Ok w) h =
     let step : (count + 1) + length es ≡ count + suc (length es) = omega arith in
     subst (λ (n : ℕ). IfTaken (all_happen size es (happens size w e)) (λ (x : World V). x.taken ≡ n)) step (counts_all size (count + 1) es (happens size w e) (counts_happens count w h size e))
 
+-- the world after a list of events has counted as many as it has
 pub taken_count : {V : Type 0} (size : V → ℕ) (weights : List ℕ) (es : List (Event V)) (w : World V) → IsAfter size weights es w → w.taken ≡ length es
 taken_count {V} size weights es w is_after = if_taken (λ (x : World V). x.taken ≡ 0 + length es) (after size weights es) w is_after (counts_all size 0 es (Ok (start weights)) refl) ∙ omega arith
 
@@ -124,6 +133,7 @@ taken_count {V} size weights es w is_after = if_taken (λ (x : World V). x.taken
 pub after-push : {V : Type 0} (size : V → ℕ) (weights : List ℕ) (es : List (Event V)) (w : World V) (e : Event V) → IsAfter size weights es w → after size weights (es ++ e ∷ []) ≡ happens size w e
 after-push size weights es w e is_after = all_happen-append size es (e ∷ []) (Ok (start weights)) ∙ ap (λ r. all_happen size (e ∷ []) r) is_after
 
+-- where the test of the limit fails, what an event comes to stays
 not_spent : {V : Type 0} (r : Result (World V) StepFault) (t : Bool) → t ≡ false → (if t then Err EventsSpent else r) ≡ r
 not_spent r true e = cc
 not_spent r false e = refl
@@ -151,13 +161,16 @@ module _ {V : Type 0} (size : V → ℕ) (old : Taken V) (cores : List (Core V))
     posts = h.posts;
   }
 
+  -- the core that is read at a number has the state of that node in the world
   pub node_shown : (k : ℕ) (core : Core V) → k < length cores → core ≡ get_or cores k core → slice_get h.world.nodes k ≡ Some core.node
   node_shown k core in_cores is = ap (λ (ns : List (Node V)). slice_get ns k) h.nodes ∙ nodes_at cores k core in_cores is
 
+  -- past the cores there is no node in the world
   pub no_node_shown : (k : ℕ) → length cores ≤ k → slice_get h.world.nodes k ≡ None
   no_node_shown k past = ap (λ (ns : List (Node V)). slice_get ns k) h.nodes ∙ nodes_past cores k past
 
   module _ (low : length old.events < MOST_EVENTS) where
+    -- where an event is left, the history with one more comes to what the event makes of the world
     pub next_is : (e : Event V) → world_of size (with_event old e) ≡ happens_at size h.world e
     next_is e = after-push size old.weights old.events h.world e h.is_after ∙ happens-not_spent size h.world e (let count = taken_count size old.weights old.events h.world h.is_after in omega (arith, count, low))
 
@@ -175,6 +188,7 @@ module _ {V : Type 0} (size : V → ℕ) (old : Taken V) (cores : List (Core V))
 
 -- Each node has the world's weights.
 
+-- the weights that a node has are those of the history
 pub own_weights : {V : Type 0} (size : V → ℕ) (old : Taken V) (cores : List (Core V)) (packets : List (Packet V)) (h : AreOfWorld size old cores packets) (k : ℕ) (core : Core V) → k < length cores → core ≡ get_or cores k core → core.node.weights ≡ old.weights
 own_weights {V} size old cores packets h k core low is =
     let holds = holds_after size old.weights old.events h.world h.is_after in
@@ -190,21 +204,25 @@ spent_met {V} size old now cores packets h seen e spent =
 
 -- A run has no more events than it may have.
 
+-- where one fact gives another, a world that has the one, if there is one, has the other
 if_more : {V : Type 0} (P Q : World V → Type 0) (r : Result (World V) StepFault) → ((x : World V) → P x → Q x) → IfTaken r P → IfTaken r Q
 if_more P Q (Ok x) more h = more x h
 if_more P Q (Err fault) more h = tt
 
+-- an event leaves the count of events up to the limit
 within_if : {V : Type 0} (size : V → ℕ) (w : World V) (e : Event V) (t : Bool) → (w.taken == MOST_EVENTS) ≡ t → w.taken ≤ MOST_EVENTS → IfTaken (if t then Err EventsSpent else happens_at size w e) (λ x. x.taken ≤ MOST_EVENTS)
 within_if size w e true test low = tt
 within_if {V} size w e false test low =
     let other : w.taken < MOST_EVENTS = grind (arith, nat_tests) in
     if_more (λ (x : World V). x.taken ≡ w.taken + 1) (λ (x : World V). x.taken ≤ MOST_EVENTS) (happens_at size w e) (λ x count. omega (arith, count, other)) (counts_happens_at w.taken w refl size e)
 
+-- events leave the count of events up to the limit
 within_all : {V : Type 0} (size : V → ℕ) (es : List (Event V)) (r : Result (World V) StepFault) → IfTaken r (λ x. x.taken ≤ MOST_EVENTS) → IfTaken (all_happen size es r) (λ x. x.taken ≤ MOST_EVENTS)
 within_all size [] r h = h
 within_all size (e ∷ es) (Err fault) h = tt
 within_all size (e ∷ es) (Ok w) h = within_all size es (happens size w e) (within_if size w e (w.taken == MOST_EVENTS) refl h)
 
+-- a history that is taken has events up to the limit
 pub events_within : {V : Type 0} (size : V → ℕ) (old now : Taken V) (cores : List (Core V)) (packets : List (Packet V)) → AreOfWorld size old cores packets → old ≡ now → length now.events ≤ MOST_EVENTS
 events_within {V} size old now cores packets h seen =
     let most = if_taken (λ (x : World V). x.taken ≤ MOST_EVENTS) (after size old.weights old.events) h.world h.is_after (within_all size old.events (Ok (start old.weights)) (omega arith)) in
@@ -222,6 +240,7 @@ length-nodes_of [] = refl
 length-nodes_of (c ∷ cores) = ap suc (length-nodes_of cores)
 
 module _ {V : Type 0} (size : V → ℕ) (old now : Taken V) (cores : List (Core V)) (packets : List (Packet V)) (h : AreOfWorld size old cores packets) (seen : old ≡ now) where
+  -- the history that is shown leads to the world that the fields are of
   world_is : world_of size now ≡ Ok h.world
   world_is = ap (λ (t : Taken V). world_of size t) (sym seen) ∙ h.is_after
 
@@ -231,10 +250,12 @@ module _ {V : Type 0} (size : V → ℕ) (old now : Taken V) (cores : List (Core
       let lasts = (world_lasts size old.weights [] old.events (start old.weights) h.world refl h.is_after).count in
       sym (length-nodes_of cores) ∙ ap (λ (ns : List (Node V)). length ns) (sym h.nodes) ∙ lasts ∙ length-nodes_from V old.weights 0 old.weights ∙ ap (λ (t : Taken V). length t.weights) seen
 
+  -- the log of the core that is read at a number is that of the node after the history
   pub log_shown : (k : ℕ) (core : Core V) → k < length cores → core ≡ get_or cores k core → log_after (world_of size now) k ≡ log_of core.node
   log_shown k core low at =
       ap (λ (r : Result (World V) StepFault). log_after r k) world_is
       ∙ ap (λ (o : Option (Node V)). log_at o) (ap (λ (ns : List (Node V)). slice_get ns k) h.nodes ∙ nodes_at cores k core low at)
 
+  -- the packets after the history are those that are kept
   pub packets_shown : packets_after (world_of size now) ≡ packets
   packets_shown = ap (λ (r : Result (World V) StepFault). packets_after r) world_is ∙ h.posted

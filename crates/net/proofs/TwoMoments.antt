@@ -24,6 +24,7 @@ pub record Lasts {V : Type 0} (w x : World V) : Type 0 where
   pub count : length x.nodes ≡ length w.nodes
   pub votes : (v : Vote V) → In v w.ever → In v x.ever
 
+-- a change of a node takes no vote out
 votes_stay : {V : Type 0} (k : ℕ) (change : Option (Change V)) (votes : List (Vote V)) (v : Vote V) → In v votes → In v (votes_after k change votes)
 votes_stay k None votes v i = i
 votes_stay k (Some (Round r)) votes v i = i
@@ -31,24 +32,29 @@ votes_stay k (Some (Promise b)) votes v i = i
 votes_stay k (Some (Entry s h)) votes v i = inr i
 
 module _ {V : Type 0} (first w : World V) (h : Lasts first w) where
+  -- weights, the count of nodes and votes last over a node's answer
   lasts_answered : (k : ℕ) (r : Result (Stepped V) Refusal) → IfTaken (answered w k r) (Lasts first)
   lasts_answered k (Ok step) = record { weights = h.weights; count = length-set w.nodes k step.node ∙ h.count; votes = λ v i. votes_stay k step.change w.ever v (h.votes v i) }
   lasts_answered k (Err refusal) = tt
 
+  -- weights, the count of nodes and votes last over what a node makes of itself
   lasts_at : (k : ℕ) (make : Node V → Result (Stepped V) Refusal) (o : Option (Node V)) → IfTaken (at_node w k make o) (Lasts first)
   lasts_at k make None = tt
   lasts_at k make (Some n) = lasts_answered k (make n)
 
+  -- weights, the count of nodes and votes last over a delivery
   lasts_delivered : (o : Option (Packet V)) → IfTaken (delivered w o) (Lasts first)
   lasts_delivered None = tt
   lasts_delivered (Some p) = lasts_at p.to (λ n. Ok (on_packet n p)) (slice_get w.nodes p.to)
 
+  -- weights, the count of nodes and votes last over each event
   lasts_happens : (size : V → ℕ) (e : Event V) → IfTaken (happens_at size w e) (Lasts first)
   lasts_happens size (Offer k v) = lasts_at k (λ n. offered size n v) (slice_get w.nodes k)
   lasts_happens size (Begin k) = lasts_at k begun (slice_get w.nodes k)
   lasts_happens size (Deliver number) = lasts_delivered (slice_get w.packets number)
   lasts_happens size (Restart k) = lasts_at k (λ n. Ok (restarted n)) (slice_get w.nodes k)
 
+-- of each event nothing is asked
 each_event : {V : Type 0} (es : List (Event V)) → AllByRecursion (λ e. Unit {0}) es
 each_event [] = tt
 each_event (e ∷ es) = (tt, each_event es)
@@ -64,9 +70,11 @@ pub later_events : {V : Type 0} (size : V → ℕ) (ws : List ℕ) (early late :
 later_events size ws early late w r first then = ap (λ r. all_happen size late r) (sym first) ∙ sym (all_happen-append size early late (Ok (start ws))) ∙ then
 
 module _ {V : Type 0} (size : V → ℕ) (ws : List ℕ) (early late : List (Event V)) (w x : World V) (first : IsAfter size ws early w) (then : IsAfter size ws (early ++ late) x) where
+  -- weights, the count of nodes and votes last from the earlier moment to the later
   pub world_lasts : Lasts w x
   world_lasts = if_taken (Lasts w) (all_happen size late (Ok w)) x (later_events size ws early late w (Ok x) first then)
       (all_keep size (Lasts w) (λ e. Unit {0}) (λ y e u h. lasts_happens w y h size e) late (each_event late) (Ok w) record { weights = refl; count = refl; votes = λ v i. i })
 
+  -- what is chosen at the earlier moment is chosen at the later
   pub stays_chosen : (s : ℕ) (v : Option V) → IsChosen w.weights w.ever s v → IsChosen x.weights x.ever s v
   stays_chosen s v chosen = subst (λ (ws : List ℕ). IsChosen ws x.ever s v) (sym world_lasts.weights) (chosen_with_more w.ever x.ever world_lasts.votes chosen)

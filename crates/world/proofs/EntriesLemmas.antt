@@ -14,9 +14,11 @@ pub entries_of-append : (vs us : List (Option Carried)) → entries_of (vs ++ us
 entries_of-append [] us = refl
 entries_of-append (v ∷ vs) us = ap (λ es. entry_of v ∷ es) (entries_of-append vs us)
 
+-- a beginning of a log of values is, as entries, a beginning of the log of entries
 pub entries_begin : (vs us : List (Option Carried)) → IsBeginningOf vs us → IsBeginningOf (entries_of vs) (entries_of us)
 entries_begin vs us h = (entries_of h.0, sym (entries_of-append vs h.0) ∙ ap (λ ws. entries_of ws) h.1)
 
+-- logs of values that agree do so as logs of entries
 pub entries_agree : (vs us : List (Option Carried)) → Agree vs us → Agree (entries_of vs) (entries_of us)
 entries_agree vs us (inl h) = inl (entries_begin vs us h)
 entries_agree vs us (inr h) = inr (entries_begin us vs h)

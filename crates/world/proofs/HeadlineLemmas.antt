@@ -1,5 +1,5 @@
 -- The headline: logs of entries agree, the library of a log begins that of a longer one, and each library of a log is good.
-use Rattle.std.proofs.Common.{◌≡◌, ℕ, zero, suc, true, false, List, [], ◌∷◌, ◌++◌, take, Option, Result, Ok, Err, inl, inr, refl, ap, sym, ◌∙◌, subst, append_assoc}
+use Rattle.std.proofs.Common.{◌≡◌, ℕ, zero, suc, true, false, List, [], ◌∷◌, take, Option, Result, Ok, Err, inl, inr, refl, ap, sym, subst}
 use Rattle.std.specs.Prelude.{IsOk}
 use Rattle.library.specs.declared.entry.Entry.{Entry}
 use Rattle.library.specs.LibraryOf.{Replica, IsLibraryOf}
@@ -12,28 +12,29 @@ use Rattle.net.specs.Taken.{Taken, world_of}
 use Rattle.net.specs.History.{Agreement}
 use Rattle.world.specs.Carried.{carried_size, entries_of}
 use Rattle.world.specs.Headline.{Headline, HeadlineHolds}
-use Rattle.net.proofs.HistoryLemmas.{beginnings_agree, agreement_of}
+use Rattle.net.proofs.Beginnings.{then_begins, beginnings_agree}
+use Rattle.net.proofs.HistoryLemmas.{agreement_of}
 use Rattle.world.proofs.EntriesLemmas.{entries_agree}
 
+-- the first elements of a list are a beginning of it
 take_begins : {A : Type 0} (n : ℕ) (xs : List A) → IsBeginningOf (take n xs) xs
 take_begins zero xs = (xs, refl)
 take_begins (suc n) [] = ([], refl)
 take_begins (suc n) (x ∷ xs) = let rest = take_begins n xs in (rest.0, ap (λ ys. x ∷ ys) rest.1)
-
-then_begins : {A : Type 0} (xs ys zs : List A) → IsBeginningOf xs ys → IsBeginningOf ys zs → IsBeginningOf xs zs
-then_begins xs ys zs h k = (h.0 ++ k.0, sym (append_assoc xs h.0 k.0) ∙ ap (λ ws. ws ++ k.0) h.1 ∙ k.1)
 
 -- the first parts of two lists that agree
 takes_agree : {A : Type 0} (m n : ℕ) (xs ys : List A) → Agree xs ys → Agree (take m xs) (take n ys)
 takes_agree m n xs ys (inl h) = beginnings_agree (take m xs) (take n ys) ys (then_begins (take m xs) xs ys (take_begins m xs) h) (take_begins n ys)
 takes_agree m n xs ys (inr h) = beginnings_agree (take m xs) (take n ys) xs (take_begins m xs) (then_begins (take n ys) ys xs (take_begins n ys) h)
 
+-- the statements of the libraries of two logs that agree do so
 statements_agree : (xs ys : List (Option Entry)) (one other : Replica) → Agree xs ys → IsLibraryOf xs one → IsLibraryOf ys other → Agree one.statements other.statements
 statements_agree xs ys one other (inl h) p q =
     let more = library-begins xs h.0 one other p (subst (λ (es : List (Option Entry)). IsLibraryOf es other) (sym h.1) q) in inl (more.0, sym more.1)
 statements_agree xs ys one other (inr h) p q =
     let more = library-begins ys h.0 other one q (subst (λ (es : List (Option Entry)). IsLibraryOf es one) (sym h.1) p) in inr (more.0, sym more.1)
 
+-- the headline of a history on which there is agreement
 pub headline_of : (taken : Taken Carried) → Agreement carried_size taken → Headline taken
 headline_of taken agreement = record {
   agreement = agreement;
@@ -46,6 +47,7 @@ headline_of taken agreement = record {
       record { stmt = proved.right.1.stmt; derivation = proved.right.0; stands = proved.right.1.stands; concludes = proved.right.1.concludes };
 }
 
+-- the headline of each history that is taken
 pub headline_holds : HeadlineHolds
 headline_holds taken is = from_world (world_of carried_size taken) refl is where
   from_world : (r : Result (World Carried) StepFault) → world_of carried_size taken ≡ r → IsOk r → Headline taken

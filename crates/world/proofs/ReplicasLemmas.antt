@@ -1,8 +1,9 @@
 -- The libraries of a world: each is that of its log, whatever event comes and whichever entry is applied.
-use Rattle.std.proofs.Common.{◌≡◌, ◌≢◌, ℕ, zero, suc, ◌+◌, ◌<◌, ◌≤◌, ◌==◌, Bool, true, false, List, [], ◌∷◌, ◌++◌, length, take, replicate, set, slice_get, Option, Some, None, Result, Ok, Err, refl, ap, sym, ◌∙◌, subst, arith, add-one, length-append, le_of_suc-le-suc}
+use Rattle.std.proofs.Common.{◌≡◌, ◌≢◌, ℕ, zero, suc, ◌+◌, ◌==◌, Bool, true, false, List, [], ◌∷◌, ◌++◌, length, take, replicate, set, slice_get, Option, Some, None, Result, Ok, Err, refl, ap, sym, ◌∙◌, subst, arith, add-one, length-append}
 use Rattle.std.specs.Prelude.{IsOk, IfErr}
 use Rattle.std.proofs.lemmas.Bool.Decides.{nat_tests}
-use Rattle.std.proofs.lemmas.List.{length-set, length-replicate}
+use Rattle.std.proofs.lemmas.List.{length-set, length-replicate, take-append-le}
+use Rattle.std.proofs.lemmas.Option.{slice_get_within}
 use Rattle.library.specs.declared.entry.Entry.{Entry}
 use Rattle.library.specs.declared.verdict.Verdict.{Verdict}
 use Rattle.library.specs.LibraryOf.{Applies, IsLibraryOf}
@@ -25,21 +26,13 @@ use Rattle.net.proofs.Lists.{at_set_other}
 
 -- A library and its log.
 
-take_within : {A : Type 0} (n : ℕ) (xs more : List A) → n ≤ length xs → take n (xs ++ more) ≡ take n xs
-take_within zero xs more within = refl
-take_within (suc n) [] more within = absurd (omega arith)
-take_within (suc n) (x ∷ xs) more within = ap (λ ys. x ∷ ys) (take_within n xs more (le_of_suc-le-suc within))
-
+-- the first elements of a list and the next one are one more of the first
 take_one_more : {A : Type 0} (n : ℕ) (xs : List A) (x : A) → slice_get xs n ≡ Some x → take (suc n) xs ≡ take n xs ++ x ∷ []
 take_one_more n [] x is = cc
 take_one_more zero (y ∷ xs) x is = let same : y ≡ x = cc in ap (λ z. z ∷ []) same
 take_one_more (suc n) (y ∷ xs) x is = ap (λ ys. y ∷ ys) (take_one_more n xs x is)
 
-get_within : {A : Type 0} (n : ℕ) (xs : List A) (x : A) → slice_get xs n ≡ Some x → n < length xs
-get_within n [] x is = cc
-get_within zero (y ∷ xs) x is = omega arith
-get_within (suc n) (y ∷ xs) x is = let low = get_within n xs x is in omega (arith, low)
-
+-- a new library is that of no entries of a log
 pub new_is_of_log : (log : List (Option Entry)) → IsOfLog log new_library
 new_is_of_log log = record { within = omega arith; library = refl }
 
@@ -48,7 +41,7 @@ pub of_longer : (log longer : List (Option Entry)) (node : NodeLibrary) → IsBe
 of_longer log longer node begins h = record {
   within = let count : length log + length begins.0 ≡ length longer = sym (length-append log begins.0) ∙ ap (λ (es : List (Option Entry)). length es) begins.1 in
       let low = h.within in omega (arith, count, low);
-  library = subst (λ (es : List (Option Entry)). IsLibraryOf es node.library) (sym (take_within node.applied log begins.0 h.within) ∙ ap (λ (es : List (Option Entry)). take node.applied es) begins.1) h.library;
+  library = subst (λ (es : List (Option Entry)). IsLibraryOf es node.library) (sym (take-append-le node.applied log begins.0 h.within) ∙ ap (λ (es : List (Option Entry)). take node.applied es) begins.1) h.library;
 }
 
 -- with the next entry applied
@@ -57,13 +50,14 @@ pub of_log_applied : (log : List (Option Entry)) (node : NodeLibrary) (entry : O
 of_log_applied log node entry verdict next h is applies one_more =
     let up : next.applied ≡ suc node.applied = one_more ∙ add-one node.applied in
     record {
-      within = let low = get_within node.applied log entry is in omega (arith, up, low);
+      within = let low = slice_get_within log node.applied entry is in omega (arith, up, low);
       library = subst (λ (es : List (Option Entry)). IsLibraryOf es next.library) (sym (ap (λ (n : ℕ). take n log) up ∙ take_one_more node.applied log entry is))
           (library-more (take node.applied log) node.library next.library entry verdict h.library applies);
     }
 
 -- The libraries of all nodes.
 
+-- what is found at an index where an element was set is that element
 set_new : {A : Type 0} (xs : List A) (i : ℕ) (y z : A) → slice_get (set xs i y) i ≡ Some z → z ≡ y
 set_new [] i y z got = cc
 set_new (v ∷ xs) zero y z got = cc
@@ -74,6 +68,7 @@ get-replicate zero k x y is = cc
 get-replicate (suc n) zero x y is = cc
 get-replicate (suc n) (suc k) x y is = get-replicate n k x y is
 
+-- new libraries, one a node, are those of their logs
 pub new_are_replicas : (taken : Taken Carried) (nodes : ℕ) → nodes ≡ length taken.weights → (libraries : List NodeLibrary) → libraries ≡ replicate nodes new_library → AreReplicas (record { taken = taken; libraries = libraries })
 new_are_replicas taken nodes count libraries new = subst (λ (ls : List NodeLibrary). AreReplicas (record { taken = taken; libraries = ls })) (sym new) record {
   one_each = length-replicate nodes new_library ∙ count;
@@ -82,12 +77,14 @@ new_are_replicas taken nodes count libraries new = subst (λ (ls : List NodeLibr
 
 -- One event more.
 
+-- an event that restarts node n is no restart of another node
 restart_other : (k : ℕ) (e : Event Carried) (n : ℕ) → restarts e ≡ Some n → n ≢ k → e ≢ Restart k
 restart_other k (Offer j v) n is other = cc
 restart_other k (Begin j) n is other = cc
 restart_other k (Deliver number) n is other = cc
 restart_other k (Restart j) n is other = λ same. other (let a : j ≡ n = cc in let b : j ≡ k = cc in sym a ∙ b)
 
+-- an event that restarts no node is no restart of node k
 no_restart : (k : ℕ) (e : Event Carried) → restarts e ≡ None → e ≢ Restart k
 no_restart k (Offer j v) is = λ same. let no = same in cc
 no_restart k (Begin j) is = λ same. let no = same in cc
@@ -95,15 +92,18 @@ no_restart k (Deliver number) is = λ same. let no = same in cc
 no_restart k (Restart j) is = λ same. cc
 
 module _ (taken : Taken Carried) (w x : World Carried) (was : world_of carried_size taken ≡ Ok w) (e : Event Carried) (is : world_of carried_size (with_event taken e) ≡ Ok x) where
+  -- the event leads from the world before it to the one after it
   happened : happens carried_size w e ≡ Ok x
   happened = sym (after-push carried_size taken.weights taken.events w e was) ∙ is
 
+  -- an event but a restart of node k leaves the log of its entries a beginning of the new one
   log_longer : (k : ℕ) → e ≢ Restart k → IsBeginningOf (log_entries taken k) (log_entries (with_event taken e) k)
   log_longer k other =
       let grows = if_taken (λ (y : World Carried). IsBeginningOf (log w k) (log y k)) (happens carried_size w e) x happened (log_grows carried_size w k e other) in
       let longer = entries_begin (log w k) (log x k) grows in
       (longer.0, ap (λ (r : Result (World Carried) StepFault). entries_of (log_after r k) ++ longer.0) was ∙ longer.1 ∙ ap (λ (r : Result (World Carried) StepFault). entries_of (log_after r k)) (sym is))
 
+  -- an event but a restart of node k leaves a library that of the log of node k
   stays_of_log : (k : ℕ) (node : NodeLibrary) → e ≢ Restart k → IsOfLog (log_entries taken k) node → IsOfLog (log_entries (with_event taken e) k) node
   stays_of_log k node other h = of_longer (log_entries taken k) (log_entries (with_event taken e) k) node (log_longer k other) h
 
@@ -118,11 +118,13 @@ module _ (taken : Taken Carried) (w x : World Carried) (was : world_of carried_s
       let new : node ≡ new_library = set_new libraries k new_library node (subst (λ (i : ℕ). slice_get (set libraries i new_library) k ≡ Some node) same got) in
       subst (λ (l : NodeLibrary). IsOfLog (log_entries (with_event taken e) k) l) (sym new) (new_is_of_log (log_entries (with_event taken e) k))
 
+  -- each library, the one of a node that restarts given up, is that of its log after the event
   keeps_each : (libraries : List NodeLibrary) → ((k : ℕ) (node : NodeLibrary) → slice_get libraries k ≡ Some node → IsOfLog (log_entries taken k) node)
       → (o : Option ℕ) → restarts e ≡ o → (k : ℕ) (node : NodeLibrary) → slice_get (given_up libraries o) k ≡ Some node → IsOfLog (log_entries (with_event taken e) k) node
   keeps_each libraries each None none k node got = stays_of_log k node (no_restart k e none) (each k node got)
   keeps_each libraries each (Some n) restart k node got = at_restart libraries n k restart node node got (each k) (n == k) refl
 
+-- there are as many libraries where one is given up
 as_many : (libraries : List NodeLibrary) (o : Option ℕ) → length (given_up libraries o) ≡ length libraries
 as_many libraries None = refl
 as_many libraries (Some k) = length-set libraries k new_library
@@ -134,6 +136,7 @@ ok_before taken e is = before (world_of carried_size taken) (subst IsOk (all_hap
   before (Ok w) h = refl
   before (Err fault) h = h
 
+-- an event that is taken leaves each library that of its log
 then_are_replicas : (old : Replicas) (e : Event Carried) → IsOk (world_of carried_size (with_event old.taken e)) → AreReplicas old → AreReplicas (then_event old e)
 then_are_replicas old e is h = both (world_of carried_size old.taken) refl (world_of carried_size (with_event old.taken e)) refl (ok_before old.taken e is) is where
   both : (r : Result (World Carried) StepFault) → world_of carried_size old.taken ≡ r → (s : Result (World Carried) StepFault) → world_of carried_size (with_event old.taken e) ≡ s → IsOk r → IsOk s → AreReplicas (then_event old e)
@@ -144,6 +147,7 @@ then_are_replicas old e is h = both (world_of carried_size old.taken) refl (worl
   both (Err fault) at s then ok done = let no : false ≡ true = ok in cc
   both (Ok w) at (Err fault) then ok done = let no : false ≡ true = done in cc
 
+-- where a count was answered and no fault is met by it, the events are taken
 ok_unless_met : (r : Result (World Carried) StepFault) (count : ℕ) → IfErr r (λ fault. let answer : Result ℕ StepFault = Ok count in answer ≡ Err fault) → IsOk r
 ok_unless_met (Ok w) count h = refl
 ok_unless_met (Err fault) count h = cc
@@ -168,6 +172,7 @@ step_keeps old e taken libraries restarted count h is restarts_is given refused 
 
 -- One entry applied at node k.
 
+-- where the library of node k is set to one of its log, each is still that of its log
 pub applied_are_replicas : (old : Replicas) (k : ℕ) (next : NodeLibrary) → AreReplicas old → IsOfLog (log_entries old.taken k) next → AreReplicas (record { taken = old.taken; libraries = set old.libraries k next })
 applied_are_replicas old k next h here = record {
   one_each = length-set old.libraries k next ∙ h.one_each;
@@ -184,6 +189,7 @@ applied_are_replicas old k next h here = record {
 
 -- A run on new libraries leaves them new.
 
+-- new libraries, where one is given up, are new libraries
 new_given_up : (n : ℕ) (o : Option ℕ) → given_up (replicate n new_library) o ≡ replicate n new_library
 new_given_up n None = refl
 new_given_up n (Some k) = set_again n k where
@@ -192,6 +198,7 @@ new_given_up n (Some k) = set_again n k where
   set_again (suc m) zero = refl
   set_again (suc m) (suc i) = ap (λ ls. new_library ∷ ls) (set_again m i)
 
+-- the replicas of a run, with one event more, have new libraries as before
 pub run_goes_on : (weights : List ℕ) (done : List (Event Entry)) (e : Event Entry) (old new : Replicas) → old ≡ record { taken = record { weights = weights; events = all_carried done }; libraries = new_libraries weights }
     → new ≡ then_event old (carried e) → new ≡ record { taken = record { weights = weights; events = all_carried (done ++ e ∷ []) }; libraries = new_libraries weights }
 run_goes_on weights done e old new was is =

@@ -1,0 +1,33 @@
+-- Lists that agree: one is a beginning of the other.
+use Rattle.std.proofs.Common.{◌≡◌, ℕ, suc, List, [], ◌∷◌, ◌++◌, Some, inl, inr, refl, ap, sym, ◌∙◌, slice_get, append_assoc}
+use Rattle.net.specs.Agree.{IsBeginningOf, Agree}
+
+-- a beginning of a beginning is one
+pub then_begins : {A : Type 0} (xs ys zs : List A) → IsBeginningOf xs ys → IsBeginningOf ys zs → IsBeginningOf xs zs
+then_begins xs ys zs h k = (h.0 ++ k.0, sym (append_assoc xs h.0 k.0) ∙ ap (λ ws. ws ++ k.0) h.1 ∙ k.1)
+
+-- lists that agree do so in the other order
+pub swapped : {A : Type 0} (xs ys : List A) → Agree xs ys → Agree ys xs
+swapped xs ys (inl h) = inr h
+swapped xs ys (inr h) = inl h
+
+-- lists that agree do so with equal elements in front
+agree_more : {A : Type 0} (x y : A) (xs ys : List A) → x ≡ y → Agree xs ys → Agree (x ∷ xs) (y ∷ ys)
+agree_more x y xs ys same (inl h) = inl (h.0, let e = h.1 in cc)
+agree_more x y xs ys same (inr h) = inr (h.0, let e = h.1 in cc)
+
+-- lists agree that are the same wherever both have an element
+pub agree_lists : {A : Type 0} (xs ys : List A) → ((s : ℕ) (u v : A) → slice_get xs s ≡ Some u → slice_get ys s ≡ Some v → u ≡ v) → Agree xs ys
+agree_lists [] ys same = inl (ys, refl)
+agree_lists (x ∷ xs) [] same = inr (x ∷ xs, refl)
+agree_lists (x ∷ xs) (y ∷ ys) same = agree_more x y xs ys (same 0 x y refl refl) (agree_lists xs ys (λ s u v e d. same (suc s) u v e d))
+
+-- two beginnings of one list agree
+pub beginnings_agree : {A : Type 0} (xs ys zs : List A) → IsBeginningOf xs zs → IsBeginningOf ys zs → Agree xs ys
+beginnings_agree [] ys zs first second = inl (ys, refl)
+beginnings_agree (x ∷ xs) [] zs first second = inr (x ∷ xs, refl)
+beginnings_agree (x ∷ xs) (y ∷ ys) [] first second = let e = first.1 in cc
+beginnings_agree (x ∷ xs) (y ∷ ys) (z ∷ zs) first second =
+    let e = first.1 in
+    let d = second.1 in
+    agree_more x y xs ys (cc) (beginnings_agree xs ys zs (first.0, (cc)) (second.0, (cc)))
