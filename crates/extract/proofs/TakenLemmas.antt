@@ -19,6 +19,7 @@ use Rattle.extract.proofs.WalkLemmas.{part-whole}
 
 -- ---- each label
 
+-- labels with which nothing is wrong: what holds of each assertion that they name holds of each of them
 every : (S : Database) (P : Name → Type 0) (earlier labels : List Name) → AreRight S earlier labels → ((label : Name) → NamesAssertion S label → has_name label labels ≡ true → P label) → AllByRecursion P labels
 every S P earlier [] right holds = tt
 every S P earlier (label ∷ labels) right holds =

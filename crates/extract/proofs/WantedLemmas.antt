@@ -117,9 +117,11 @@ module _ (S F : Database) (same : F ≡ bares S) (once : HasLabelsOnce F) where
   -- the same of labels that are seen as names
 
   module _ {A : Type 0} (f : A → Name) (xs : List A) (n : ℕ) (x : A) (label : Name) (less : n < length xs) (e : label ≡ f (get_or xs n x)) (p : IsPassed S (map f xs) n) where
+    -- the place is one of the names
     inside : n < length (map f xs)
     inside = subst (λ m. n < m) (sym (length-map f xs)) less
 
+    -- the first names are those of the first elements
     front : map f (take n xs) ≡ take n (map f xs)
     front = sym (take-map f n xs)
 

@@ -7,6 +7,7 @@ use Rattle.mm_lex.specs.Alphabet.{Name, name_eq, has_name}
 use Rattle.names.specs.Codes.{with_name, with_names, number_in, numbers_in, AreNamed}
 use Rattle.names.proofs.CodesLemmas.{name_same, same_name}
 
+-- where one or the other holds, the one that does
 pub or_cases : (a b : Bool) → (a || b) ≡ true → (a ≡ true) ⊎ (b ≡ true)
 or_cases true b h = inl refl
 or_cases false b h = inr h

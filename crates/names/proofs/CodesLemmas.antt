@@ -27,10 +27,12 @@ name_eq-comm x y = by (name_eq x y) (name_eq y x) refl refl
     by true false p q = absurd (true≢false (sym (name_same x) ∙ (ap (λ z. name_eq z x) (same_name x y p) ∙ q)))
     by false true p q = absurd (true≢false (sym (name_same y) ∙ (ap (λ z. name_eq z y) (same_name y x q) ∙ p)))
 
+-- a search for the first that passes, where the first does
 first_step : (b : Bool) (r : ℕ) → b ≡ true → cond (not b) (1 + r) 0 ≡ 0
 first_step true r h = refl
 first_step false r h = cc
 
+-- .. and where it does not
 later_step : (b : Bool) (r n : ℕ) → b ≡ false → r ≡ n → cond (not b) (1 + r) 0 ≡ suc n
 later_step true r n h e = cc
 later_step false r n h e = grind (arith, e)
@@ -90,6 +92,7 @@ added-name old new x n e h =
     last [] y = refl
     last (z ∷ names) y = last names y
 
+-- one element more: the search ends before the end where this one passes, or it did before
 pub lt_step : (b : Bool) (r l : ℕ) (q : Bool) → nat_lt r l ≡ q → nat_lt (cond (not b) (1 + r) 0) (suc l) ≡ (b || q)
 lt_step true r l q h = grind (arith)
 lt_step false r l true h = grind (arith, h)
@@ -99,10 +102,12 @@ pub lt-list_any : {A : Type 0} (p : A → Bool) (xs : List A) → nat_lt (positi
 lt-list_any p [] = refl
 lt-list_any p (x ∷ xs) = lt_step (p x) (prefix_len (λ a. not (p a)) xs) (length xs) (list_any p xs) (lt-list_any p xs)
 
+-- what a test gave in place of nothing passed the test
 some_cond : {A : Type 0} (b : Bool) (x y : A) → cond b (Some x) None ≡ Some y → (b ≡ true) × (x ≡ y)
 some_cond true x y h = (refl, cc)
 some_cond false x y h = cc
 
+-- where it gave nothing, the test failed
 none_cond : {A : Type 0} (b : Bool) (x : A) → cond b (Some x) None ≡ None → b ≡ false
 none_cond true x h = cc
 none_cond false x h = refl
