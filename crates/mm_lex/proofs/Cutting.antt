@@ -38,7 +38,7 @@ scan text (s ∷ spans) None =
 scan text (s ∷ spans) (Some offset) =
     inside (name_eq (word text s) opener) (name_eq (word text s) closer) s (scan text spans None) (scan text spans (Some offset))
 
-prepend-nil : (r : Outcome) → prepend [] r ≡ r
+pub prepend-nil : (r : Outcome) → prepend [] r ≡ r
 prepend-nil (Ok rest) = refl
 prepend-nil (Err offset) = refl
 

@@ -1,5 +1,5 @@
 -- How far the code has read: what the scan of the whole text gives, by what is left of it.
-use Rattle.std.specs.Prelude.{◌≡◌, ℕ, ◌-◌, ◌<◌, ◌≤◌, suc, zero, Bool, true, false, not, cond, ◌||◌, List, [], ◌∷◌, ◌++◌, length, take, drop, Some, None, Ok, Err, refl}
+use Rattle.std.specs.Prelude.{◌≡◌, ℕ, ◌-◌, ◌<◌, ◌≤◌, Bool, true, false, not, cond, ◌||◌, List, [], ◌∷◌, ◌++◌, length, take, drop, Some, None, Ok, Err, refl}
 use Rattle.std.specs.List.{list_all, All}
 use Rattle.std.proofs.Common.{sym, ◌∙◌, ap, arith, append_assoc, true≢false, min}
 use Rattle.std.proofs.lemmas.List.{append-nil, length-take, length-drop}
@@ -14,20 +14,11 @@ use Rattle.mm_lex.specs.Tokens.{opener, closer, is_plain, AllPlain, IsClean, Are
 use Rattle.mm_lex.specs.Faults.{IsCommentFault}
 use Rattle.mm_lex.specs.Comments.{runs_behind, PassesPlain, IsClosedAt, IsNestedAt}
 use Rattle.mm_lex.proofs.WordsLemmas.{and_left, and_right}
-use Rattle.mm_lex.proofs.Cutting.{Outcome, prepend, prepend-append, scan, opens, closes, scan_opener, scan_closer, scan_plain, scan_nested, scan_closing, scan_all_inside, is_opener, is_closer, closer_no_opener, scan-stops}
+use Rattle.mm_lex.proofs.LanesLemmas.{clean-take, clean-drop}
+use Rattle.mm_lex.proofs.Cutting.{prepend, prepend-nil, prepend-append, scan, opens, closes, scan_opener, scan_closer, scan_plain, scan_nested, scan_closing, scan_all_inside, is_opener, is_closer, closer_no_opener, scan-stops}
 use Rattle.mm_lex.proofs.CuttingMeans.{cut-scan, stops-scan, plain}
 
 -- ---- a run of a clean text is a word
-
-list_all-take : (p : ℕ → Bool) (n : ℕ) (xs : List ℕ) → list_all p xs ≡ true → list_all p (take n xs) ≡ true
-list_all-take p zero xs h = refl
-list_all-take p (suc n) [] h = refl
-list_all-take p (suc n) (x ∷ xs) h = and_from (p x) _ (and_left (p x) _ h) (list_all-take p n xs (and_right (p x) _ h))
-
-list_all-drop : (p : ℕ → Bool) (n : ℕ) (xs : List ℕ) → list_all p xs ≡ true → list_all p (drop n xs) ≡ true
-list_all-drop p zero xs h = h
-list_all-drop p (suc n) [] h = refl
-list_all-drop p (suc n) (x ∷ xs) h = list_all-drop p n xs (and_right (p x) _ h)
 
 -- an allowed byte that is not white is visible
 visible_byte : (v w : Bool) → (v || w) ≡ true → not w ≡ true → v ≡ true
@@ -54,7 +45,7 @@ IsWordAt-run text s clean is =
     record {
       some = is.some;
       within = is.within;
-      word = some_word (word text s) some (all_visible (word text s) (list_all-take is_allowed (s.end - s.start) (drop s.start text) (list_all-drop is_allowed s.start text clean)) is.visible);
+      word = some_word (word text s) some (all_visible (word text s) (clean-take (s.end - s.start) (drop s.start text) (clean-drop s.start text clean)) is.visible);
     }
 
 -- ---- inside of a comment
@@ -136,11 +127,7 @@ runs_start text = refl
 
 -- nothing is read, and no growth was refused
 pub cut_start : (text : List ℕ) → Cut text [] false 0
-cut_start text = record { tokens = []; within = omega arith; whole = sym (prepend-none (scan text (runs text) None)); kept = λ e. refl; words = λ k d h. absurd (omega (arith, h)) }
-  where
-    prepend-none : (r : Outcome) → prepend [] r ≡ r
-    prepend-none (Ok rest) = refl
-    prepend-none (Err offset) = refl
+cut_start text = record { tokens = []; within = omega arith; whole = sym (prepend-nil (scan text (runs text) None)); kept = λ e. refl; words = λ k d h. absurd (omega (arith, h)) }
 
 -- a token more is kept, where no growth was refused before or now
 kept_push : (refused r : Bool) (spans tokens : List Span) (s : Span) → (refused ≡ false → spans ≡ tokens) → (refused ≡ true → r ≡ true)

@@ -6,8 +6,8 @@ use Rattle.std.specs.Option.{option_and_then}
 use Rattle.std.proofs.Common.{sym, ◌∙◌, ap, arith, refl, subst}
 use Rattle.std.proofs.lemmas.Bool.{and_parts}
 use Rattle.std.proofs.lemmas.Option.{option_and_then_some}
-use Rattle.std.proofs.lemmas.Slice.Eq.{bytes_eq-Decides}
 use Rattle.mm_lex.specs.Alphabet.{Name, name_eq, is_symbol, is_label}
+pub use Rattle.mm_lex.proofs.NameLemmas.{same_name as same}
 use Rattle.mm_read.specs.declared.stmt.Stmt.{Stmt}
 use Rattle.mm_read.specs.declared.stmt.Stmt.TheVariants.{Open, Close, Const, Var, Disj, Float, Ess, Axiom, Prove}
 use Rattle.mm_read.specs.Statements.{Database, AreShaped, is_shaped, stmt_tokens, spelled}
@@ -108,9 +108,6 @@ prove_follows label tokens h (ws, proof, S, all, all_proof, many, hS, e) =
     (ap (λ r. label ∷ codes "$p" ∷ r) (append_middle ws (codes "$=") (proof ++ codes "$." ∷ []) (spelled S) ∙ (ap (λ r. ws ++ codes "$=" ∷ r) (append_middle proof (codes "$.") [] (spelled S)) ∙ e)))
 
 -- ---- a step back
-
-pub same : (t k : Name) → name_eq t k ≡ true → t ≡ k
-same t k h = (bytes_eq-Decides t k).0 h
 
 -- a place that is one of two, by a test
 chosen : {P : Type 0} (b : Bool) (q p : Place) (o : Option Place) → cond b (Some q) o ≡ Some p → (b ≡ true → q ≡ p → P) → (o ≡ Some p → P) → P

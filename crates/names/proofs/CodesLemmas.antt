@@ -3,20 +3,14 @@ use Rattle.std.specs.Prelude.{◌≡◌, ℕ, zero, suc, ◌+◌, ◌<◌, Bool,
 use Rattle.std.specs.List.{list_any, position_or_len, prefix_len}
 use Rattle.std.proofs.Common.{sym, ◌∙◌, ap, true≢false, arith, length-append}
 use Rattle.std.proofs.lemmas.List.Quantifiers.{position-Some}
-use Rattle.std.proofs.lemmas.Slice.Eq.{bytes_eq-Decides}
 use Rattle.std.proofs.lemmas.Bool.{or_right}
 use Rattle.mm_lex.specs.Alphabet.{Name, name_eq, has_name}
+pub use Rattle.mm_lex.proofs.NameLemmas.{name_same, same_name}
 use Rattle.names.specs.Codes.{name_at, code_of, AreDistinct, number_in}
 
 pub list_any-map : {A B : Type 0} (f : A → B) (p : B → Bool) (xs : List A) → list_any (λ a. p (f a)) xs ≡ list_any p (map f xs)
 list_any-map f p [] = refl
 list_any-map f p (x ∷ xs) = ap (λ r. p (f x) || r) (list_any-map f p xs)
-
-pub name_same : (x : Name) → name_eq x x ≡ true
-name_same x = (bytes_eq-Decides x x).1 refl
-
-pub same_name : (x y : Name) → name_eq x y ≡ true → x ≡ y
-same_name x y h = (bytes_eq-Decides x y).0 h
 
 pub name_eq-comm : (x y : Name) → name_eq x y ≡ name_eq y x
 name_eq-comm x y = by (name_eq x y) (name_eq y x) refl refl

@@ -2,11 +2,12 @@
 use Rattle.std.proofs.Common.{◌≡◌, ℕ, zero, suc, ◌<◌, Bool, true, false, cond, not, ◌&&◌, ◌||◌, List, [], ◌∷◌, ◌++◌, map, replicate, length, slice_set, slice_get, refl, sym, ◌∙◌, ap, arith, append-nil, Some, true≢false}
 use Rattle.mm_lex.specs.Alphabet.{Name, name_eq, has_name}
 use Rattle.names.specs.Codes.{name_at, code_of, AreDistinct, AreNamed}
-use Rattle.names.proofs.CodesLemmas.{name_same, same_name, name_eq-comm, has-at, code-name}
+use Rattle.mm_lex.proofs.NameLemmas.{name_same, same_name}
+use Rattle.names.proofs.CodesLemmas.{name_eq-comm, has-at, code-name}
 use Rattle.names.proofs.AddedLemmas.{has_name-append}
-use Rattle.std.specs.Prelude.{slice_index_or, ◌≤◌, ◌⊎◌}
+use Rattle.std.specs.Prelude.{slice_index_or, ◌≤◌}
 use Rattle.std.proofs.Common.{inl, inr}
-use Rattle.std.proofs.lemmas.Bool.{or_parts, or_right}
+use Rattle.std.proofs.lemmas.Bool.{or_parts, or_right, cases_lt}
 use Rattle.scope.specs.Legal.{all_different}
 use Rattle.offence.specs.Offends.{IsTwice}
 use Rattle.offence.specs.Marks.{marked}
@@ -111,18 +112,13 @@ mark_is t names marks w n c e = let at = code-name names w n c in ap (λ m. slic
 
 -- ---- names with a code
 
-low_or_not : (n m : ℕ) → (n < m) ⊎ (m ≤ n)
-low_or_not n zero = inr (omega arith)
-low_or_not zero (suc m) = inl (omega arith)
-low_or_not (suc n) (suc m) = elim (low_or_not n m) [ inl h ↦ inl (omega (arith, h)) | inr h ↦ inr (omega (arith, h)) ]
-
 -- a name that is given a code has one, and the others keep theirs
 coded : (old new : List Name) (x w : Name) (n : ℕ) → (n < length new) × (name_at new n ≡ w) → (n < length old → new ≡ old) → (length old ≤ n → new ≡ old ++ w ∷ [])
     → (has_name x old || name_eq x w) ≡ true → has_name x new ≡ true
 coded old new x w n at same more h = by (name_eq x w) refl
   where
     kept : has_name x old ≡ true → has_name x new ≡ true
-    kept k = elim (low_or_not n (length old)) [
+    kept k = elim (cases_lt n (length old)) [
       | inl low ↦ ap (has_name x) (same low) ∙ k
       | inr high ↦ ap (has_name x) (more high) ∙ (has_name-append x old (w ∷ []) ∙ ap (λ b. b || has_name x (w ∷ [])) k)
     ]
