@@ -159,7 +159,7 @@ module _ (text : List ℕ) where
   -- ---- one run more
 
   module _ (s : Span) (spans : List Span) where
-    -- a `$(` outside of comments: what the scan gives inside it means, it means of the whole
+    -- a `$(` outside of comments: what the scan gives in the comment has its meaning for the whole
     opened : word text s ≡ opener → (r : Outcome) → Meaning spans (Some s.start) r → Meaning (s ∷ spans) None r
     opened is (Ok tokens) m =
         cuts_as _ _ tokens (ap (λ r. s ∷ r) m.whole) (with_comment s m.end m.inner m.rest tokens is m.plain m.ends m.cut)
@@ -205,7 +205,7 @@ module _ (text : List ℕ) where
         inl (record { before = []; tokens = []; at = s; rest = spans; whole = refl; cut = no_runs; closes = (bytes_eq-Decides _ _).0 f; place = refl })
     out_step false false e f r t m k = passed (plain s e f) t k
 
-    -- a `$)` inside of a comment: what the scan gives behind it, inside of a comment it means of the whole
+    -- a `$)` inside of a comment: what the scan gives behind it has its meaning for the whole
     closed : word text s ≡ closer → (from : ℕ) (r : Outcome) → Meaning spans None r → Meaning (s ∷ spans) (Some from) r
     closed is from (Ok tokens) m = record { inner = []; end = s; rest = spans; whole = refl; plain = refl; ends = is; cut = m }
     closed is from (Err offset) m = inr (inr (record { inner = []; end = s; rest = spans; whole = refl; plain = refl; ends = is; stops = m }))

@@ -14,7 +14,7 @@ use Rattle.mm_lex.proofs.WordsLemmas.{and_left, and_right}
 abbrev pub is_bad : ℕ → Bool
 is_bad b = not (is_allowed b)
 
--- a Boolean denied twice
+-- a Boolean denied twice is itself
 pub twice_not : (t : Bool) → t ≡ not (not t)
 twice_not true = refl
 twice_not false = refl

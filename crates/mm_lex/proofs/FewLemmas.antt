@@ -21,7 +21,7 @@ byte_few at b bytes true e = rw e (omega arith)
 byte_few at b bytes false e = rw e (with_few at (starts_white bytes) (runs_from (at + 1) bytes))
 
 module _ (text : List ℕ) where
-  -- .. in the text: from one place to the next at most one run is lost
+  -- .. so behind a place at most one run more than behind the next
   one_few : (at : ℕ) → at < length text → length (runs_behind text at) ≤ 1 + length (runs_behind text (at + 1))
   one_few at inside =
       let b = get_or text at 0 in
@@ -30,7 +30,7 @@ module _ (text : List ℕ) where
       let here : drop at text ≡ b ∷ drop (at + 1) text = drop-cons text at 0 inside ∙ ap (λ r. b ∷ r) rest in
       subst (λ bytes. length (runs_from at bytes) ≤ 1 + length (runs_behind text (at + 1))) (sym here) (byte_few at b (drop (at + 1) text) (is_white b) refl)
 
-  -- between two places begin at most as many runs as there are bytes
+  -- behind a place stand at most as many runs more than behind a later one as bytes between the two
   runs_few : (n at : ℕ) → at + n ≤ length text → length (runs_behind text at) ≤ n + length (runs_behind text (at + n))
   runs_few zero at within = let same : at + 0 ≡ at = omega arith in rw same (omega arith)
   runs_few (suc n) at within =

@@ -38,7 +38,7 @@ found_none p xs = by (nat_lt (position_or_len p xs) (length xs)) refl
     by true e h = cc
     by false e h = omega (arith, ltb-false _ _ e, position_or_len-le p xs)
 
--- a count from the left of a sum
+-- one and a number are its successor
 one_more : (n : ℕ) → 1 + n ≡ suc n
 one_more n = omega arith
 

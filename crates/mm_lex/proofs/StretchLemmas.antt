@@ -14,7 +14,7 @@ use Rattle.mm_lex.specs.Stored.Stretch.{stretch, ends_here, ends_between, lanes_
 abbrev set : Bool → ℕ
 set t = cond t 255 0
 
--- the top bit of one lane, joined of four tests, is their truth table
+-- the top bit of one lane tells its tests: low, `$`, or a space with what is up to `$` behind it
 lane : (low dollar space next : Bool) → top 7 (bit_or (bit_or (set low) (set dollar)) (bit_and (set space) (set next))) ≡ (low || dollar || (space && next))
 lane true true true true = refl
 lane true true true false = refl
@@ -64,7 +64,7 @@ map-same [] = refl
 map-same (m ∷ ms) = ap (λ r. m ∷ r) (map-same ms)
 
 module _ (xs ys : List ℕ) (long : length xs ≡ 16) (other : length ys ≡ 16) where
-  -- sixteen answers
+  -- the answers of the lanes are sixteen
   ends_len : length (lanes_end xs ys) ≡ 16
   ends_len = length-zip2 ends_between xs ys (omega (arith, long, other)) ∙ long
 

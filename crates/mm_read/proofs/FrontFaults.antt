@@ -19,7 +19,7 @@ abbrev pub Stuck : Place → List Name → Type 0
 Stuck p [] = Unit {0}
 Stuck p (t ∷ rest) = step p t ≡ None
 
--- tokens that the machine goes over, not back to a statement's begin, and then one at which it stops, or none
+-- inside of a statement, where no token is left or the next one stops the machine: the fault is there
 pub stuck : (tokens done rest : List Name) (p : Place) → tokens ≡ done ++ rest → go between done ≡ Some p → (p ≡ between → ⊥) → Stuck p rest → IsShapeFault tokens (length done + 1)
 stuck tokens done [] p whole e inside stop = subst (λ ts. IsShapeFault ts (length done + 1)) (sym (whole ∙ append-nil done)) (ends_inside done p e inside)
 stuck tokens done (t ∷ rest) p whole e inside stop = subst (λ ts. IsShapeFault ts (length done + 1)) (sym whole) (stops_at done rest t p e stop)
@@ -75,12 +75,12 @@ fewer : (least : ℕ) (ws : List Name) {P : Type 0} → (length ws < least) ⊎ 
 fewer least ws (inl few) = inl (omega (arith, few))
 fewer least ws (inr other) = inr other
 
--- behind symbols of a list up to `$.`
+-- what ends no list up to `$.`
 listing_stuck : (least : ℕ) (ws rest : List Name) → EndsNoList least (codes "$.") ws rest → Stuck (listing (least - length ws)) rest
 listing_stuck least ws [] why = tt
 listing_stuck least ws (t ∷ rest) why = step-listing_none (least - length ws) t why.0 (fewer least ws why.1)
 
--- behind symbols of an expression up to `$=`
+-- what ends no expression up to `$=`
 proving_stuck : (least : ℕ) (ws rest : List Name) → EndsNoList least (codes "$=") ws rest → Stuck (proving (least - length ws)) rest
 proving_stuck least ws [] why = tt
 proving_stuck least ws (t ∷ rest) why = step-proving_none (least - length ws) t why.0 (fewer least ws why.1)

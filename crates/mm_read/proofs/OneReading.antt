@@ -78,7 +78,7 @@ module _ (text : List ℕ) (clean : IsClean text) where
 
 -- a text with a bad byte has no tokens
 module _ (text : List ℕ) (offset : ℕ) (bad : IsFirstBadByte text offset) where
-  -- none at all
+  -- whatever list they are said to be
   pub bad_no_tokens : {P : Type 0} (ts : List Name) → HasTokens text ts → P
   bad_no_tokens ts has = absurd (IsClean-no_fault text offset has.1.0 bad)
 

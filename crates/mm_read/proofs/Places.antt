@@ -220,7 +220,7 @@ unfolding symbols
 length-symbols zero = refl
 length-symbols (suc n) = omega (arith, length-symbols n)
 
--- the tokens by which each place is left
+-- each place is left by some tokens
 leaves : (q : Place) → (tokens : List Name) × CanFollow q tokens
 leaves between = ([], ([], refl, refl))
 leaves labelled = (codes "$a" ∷ codes "a" ∷ codes "$." ∷ [], λ label h. (Axiom label (codes "a" ∷ []) ∷ [], rw h refl, refl))
