@@ -1,7 +1,8 @@
 -- Statements and lists that a test found the same.
-use Rattle.std.specs.Prelude.{◌≡◌, ℕ, zero, suc, ◌||◌, ◌+◌, ◌<◌, ◌≤◌, Bool, true, false, List, [], ◌∷◌, ◌++◌, length, map, take, get_or, refl}
+use Rattle.std.specs.Prelude.{◌≡◌, ℕ, zero, suc, ◌||◌, ◌+◌, ◌<◌, ◌≤◌, true, List, [], ◌∷◌, ◌++◌, length, map, take, get_or}
 use Rattle.std.specs.List.{list_all, list_any}
 use Rattle.std.proofs.Common.{sym, ◌∙◌, ap, arith, take_all}
+use Rattle.std.proofs.lemmas.Bool.{or_right}
 use Rattle.std.proofs.lemmas.List.{map_more}
 use Rattle.mm_lex.specs.Alphabet.{Name, name_eq, has_name}
 use Rattle.mm_lex.specs.Words.{spaced, words_of, is_word}
@@ -17,11 +18,7 @@ same-words xs ys p q e = sym (words_of-spaced xs p) ∙ (ap words_of e ∙ words
 pub among-here : {A : Type 0} (f : A → Name) (xs : List A) (name : Name) (n : ℕ) (d : A) → n < length xs → name_eq name (f (get_or xs n d)) ≡ true → has_name name (map f xs) ≡ true
 among-here f [] name n d less here = absurd (omega (arith, less))
 among-here f (x ∷ xs) name zero d less here = ap (λ b. b || list_any (name_eq name) (map f xs)) here
-among-here f (x ∷ xs) name (suc n) d less here = or-second (name_eq name (f x)) (among-here f xs name n d (omega (arith, less)) here)
-  where
-    or-second : (b : Bool) {d : Bool} → d ≡ true → (b || d) ≡ true
-    or-second true h = refl
-    or-second false h = h
+among-here f (x ∷ xs) name (suc n) d less here = or_right (name_eq name (f x)) (has_name name (map f xs)) (among-here f xs name n d (omega (arith, less)) here)
 
 -- ---- lists
 

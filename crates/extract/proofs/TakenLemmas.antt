@@ -1,13 +1,14 @@
 -- What is taken out is an extract: the part where it was found to be one, and else the whole.
-use Rattle.std.specs.Prelude.{◌≡◌, ◌||◌, ℕ, Bool, true, false, List, [], ◌∷◌, ◌++◌, length, Some, Result, Ok, Err, IfOk, refl}
+use Rattle.std.specs.Prelude.{◌≡◌, ◌||◌, ℕ, true, List, [], ◌∷◌, ◌++◌, length, Some, Result, Ok, Err, IfOk, refl}
 use Rattle.std.specs.List.{list_any, AllByRecursion}
 use Rattle.std.proofs.Common.{◌∙◌, ap, subst}
+use Rattle.std.proofs.lemmas.Bool.{or_right}
 use Rattle.mm_lex.specs.Alphabet.{Name, name_eq, has_name}
 use Rattle.mm_read.specs.declared.stmt.Stmt.{Stmt}
 use Rattle.mm_read.specs.declared.stmt.Stmt.TheVariants.{Open, Close, Const, Var, Disj, Float, Ess, Axiom, Prove}
 use Rattle.mm_read.specs.Statements.{Database}
 use Rattle.mm_read.specs.Reads.{Reads}
-use Rattle.names.proofs.CodesLemmas.{name_same}
+use Rattle.mm_lex.proofs.NameLemmas.{name_same}
 use Rattle.scope.specs.Active.{label_of, is_assertion}
 use Rattle.library.specs.Good.{Good}
 use Rattle.library.proofs.FrontLemmas.{stands-within}
@@ -19,14 +20,11 @@ use Rattle.extract.proofs.WalkLemmas.{part-whole}
 
 -- ---- each label
 
+-- labels with which nothing is wrong: what holds of each assertion that they name holds of each of them
 every : (S : Database) (P : Name → Type 0) (earlier labels : List Name) → AreRight S earlier labels → ((label : Name) → NamesAssertion S label → has_name label labels ≡ true → P label) → AllByRecursion P labels
 every S P earlier [] right holds = tt
 every S P earlier (label ∷ labels) right holds =
-    (holds label right.0.0 (ap (λ b. b || list_any (name_eq label) labels) (name_same label)), every S P (earlier ++ label ∷ []) labels right.1 (λ l a h. holds l a (or-second (name_eq l label) h)))
-  where
-    or-second : (b : Bool) {d : Bool} → d ≡ true → (b || d) ≡ true
-    or-second true h = refl
-    or-second false h = h
+    (holds label right.0.0 (ap (λ b. b || list_any (name_eq label) labels) (name_same label)), every S P (earlier ++ label ∷ []) labels right.1 (λ l a h. holds l a (or_right (name_eq l label) (has_name l labels) h)))
 
 wanted-is : (labels : List Name) (s : Stmt) (label : Name) → is_assertion s ≡ true → label_of s ≡ Some label → has_name label labels ≡ true → wanted labels s ≡ true
 wanted-is labels (Axiom l expr) label kind is h = ap (λ x. has_name x labels) (let same : l ≡ label = (let e = is in cc) in same) ∙ h

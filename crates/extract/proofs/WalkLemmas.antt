@@ -53,6 +53,7 @@ get-some [] n s d less e = absurd (omega (arith, less))
 get-some (t ∷ S) zero s d less e = ap Some (sym e)
 get-some (t ∷ S) (suc n) s d less e = get-some S n s d (omega (arith, less)) e
 
+-- the first statements and the next one are one more
 longer : (S : Database) (n : ℕ) (s : Stmt) → n < length S → s ≡ get_or S n s → take (n + 1) S ≡ take n S ++ s ∷ []
 longer S n s less is = take_more S n s less ∙ ap (λ r. take n S ++ r ∷ []) (sym is)
 

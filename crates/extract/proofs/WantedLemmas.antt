@@ -1,7 +1,7 @@
 -- Labels of which nothing is wrong, and the first of which something is.
-use Rattle.std.specs.Prelude.{◌≡◌, ℕ, ◌+◌, zero, suc, ◌<◌, ◌≤◌, true, false, List, [], ◌∷◌, ◌++◌, length, map, take, drop, get_or, option_map, Some, refl}
-use Rattle.std.proofs.Common.{sym, ◌∙◌, ap, subst, arith, inl, inr, append_assoc, append-nil, take_all}
-use Rattle.std.proofs.lemmas.List.{take_more, drop_more, drop_all, take-map, take-append-drop}
+use Rattle.std.specs.Prelude.{◌≡◌, ℕ, ◌+◌, ◌<◌, ◌≤◌, true, false, List, [], ◌∷◌, ◌++◌, length, map, take, drop, get_or, option_map, Some, refl}
+use Rattle.std.proofs.Common.{sym, ◌∙◌, ap, subst, inl, inr, append_assoc, append-nil, take_all}
+use Rattle.std.proofs.lemmas.List.{length-map, get_or-map, take_more, drop_more, drop_all, take-map, take-append-drop}
 use Rattle.mm_lex.specs.Alphabet.{Name}
 use Rattle.mm_read.specs.declared.stmt.Stmt.{Stmt}
 use Rattle.mm_read.specs.declared.stmt.Stmt.TheVariants.{Open, Close, Const, Var, Disj, Float, Ess, Axiom, Prove}
@@ -17,17 +17,8 @@ use Rattle.extract.specs.Wanted.{NamesAssertion, NamesHypothesis, IsWrong, IsRig
 
 -- ---- a label of the list
 
-map-at : {A B : Type 0} (f : A → B) (xs : List A) (n : ℕ) (a : A) (b : B) → n < length xs → f (get_or xs n a) ≡ get_or (map f xs) n b
-map-at f [] n a b less = absurd (omega (arith, less))
-map-at f (x ∷ xs) zero a b less = refl
-map-at f (x ∷ xs) (suc n) a b less = map-at f xs n a b (omega (arith, less))
-
 label-at : {A : Type 0} (f : A → Name) (xs : List A) (n : ℕ) (x : A) (label : Name) → n < length xs → label ≡ f (get_or xs n x) → label ≡ get_or (map f xs) n label
-label-at f xs n x label less e = e ∙ map-at f xs n x label less
-
-length-map : {A B : Type 0} (f : A → B) (xs : List A) → length (map f xs) ≡ length xs
-length-map f [] = refl
-length-map f (x ∷ xs) = ap suc (length-map f xs)
+label-at f xs n x label less e = e ∙ sym (get_or-map f xs n x label less)
 
 -- ---- one label more
 
@@ -117,9 +108,11 @@ module _ (S F : Database) (same : F ≡ bares S) (once : HasLabelsOnce F) where
   -- the same of labels that are seen as names
 
   module _ {A : Type 0} (f : A → Name) (xs : List A) (n : ℕ) (x : A) (label : Name) (less : n < length xs) (e : label ≡ f (get_or xs n x)) (p : IsPassed S (map f xs) n) where
+    -- the place is one of the names
     inside : n < length (map f xs)
-    inside = subst (λ m. n < m) (sym (length-map f xs)) less
+    inside = subst (λ m. n < m) (sym (length-map xs f)) less
 
+    -- the first names are those of the first elements
     front : map f (take n xs) ≡ take n (map f xs)
     front = sym (take-map f n xs)
 

@@ -23,11 +23,13 @@ outer ps = flat_map (λ (p : Part). p.after) ps
 module _ {text : List ℕ} where
   -- ---- a cut behind another
 
+  -- plain runs before a cut are tokens before its tokens
   plain_cut : (front spans tokens : List Span) → AllPlain text front → Cuts text spans tokens → Cuts text (front ++ spans) (front ++ tokens)
   plain_cut [] spans tokens are cut = cut
   plain_cut (s ∷ front) spans tokens are cut =
       with_plain text s (front ++ spans) (front ++ tokens) (and_left (is_plain (word text s)) _ are) (plain_cut front spans tokens (and_right (is_plain (word text s)) _ are) cut)
 
+  -- plain runs and whole comments before a cut
   parts_cut : (first : List Span) (ps : List Part) (spans tokens : List Span) → AllPlain text first → AreParts text ps → Cuts text spans tokens
       → Cuts text (first ++ (flat_map part_spans ps ++ spans)) (first ++ (outer ps ++ tokens))
   parts_cut first [] spans tokens plain are cut = plain_cut first spans tokens plain cut
@@ -40,6 +42,7 @@ module _ {text : List ℕ} where
       = cuts_as text _ _ _ whole (with_comment text p.begin p.end p.inside _ _ are.0.begins are.0.inside are.0.ends inner) in
       plain_cut first _ _ plain (subst (λ ts. Cuts text (flat_map part_spans (p ∷ ps) ++ spans) ts) (sym (append_assoc p.after (outer ps) tokens)) these)
 
+  -- the cuts of two lists of runs, one behind the other, are one cut
   pub cuts_join : (a t b u : List Span) → Cuts text a t → Cuts text b u → Cuts text (a ++ b) (t ++ u)
   cuts_join a t b u cut more =
       let rest = flat_map part_spans cut.parts in
@@ -105,6 +108,7 @@ module _ {text : List ℕ} where
 
   -- ---- behind a place
 
+  -- no token behind a place where no run is left
   pub none_behind : (at : ℕ) → runs_behind text at ≡ [] → AreBehind text at []
   none_behind at none = ([], cuts_as text (runs_behind text at) [] [] none (no_runs text), refl)
 
@@ -114,6 +118,7 @@ module _ {text : List ℕ} where
       let all : at ≡ length text = omega (arith, end, within) in
       none_behind at (ap (runs_behind text) all ∙ ap (λ r. runs_from (length text) r) (drop-length text))
 
+  -- the same tokens behind a place, by another list of words
   pub behind_as : (at : ℕ) {ws vs : List Name} → ws ≡ vs → AreBehind text at ws → AreBehind text at vs
   behind_as at e are = subst (λ ws. AreBehind text at ws) e are
 
@@ -130,14 +135,17 @@ module _ {text : List ℕ} where
       map-append (word text) has.tokens are.0 ∙ (ap (λ r. r ++ words text are.0) has.are ∙ ap (λ r. ws ++ r) are.2),
     )
 
+    -- where the comments stop behind the later place, they stop behind the earlier one
     pub stops_on : (offset : ℕ) → StopsAt text (runs_behind text at) offset → StopsAt text (runs_behind text from) offset
     stops_on offset is = stops-scan text (runs_behind text from) offset (between_scan ∙ ap (prepend has.tokens) (scan-stops text (runs_behind text at) offset is))
 
+    -- a fault behind the later place is one behind the earlier, where no growth was refused
     pub stops_behind : (fault : LexFault) → StopsBehind text at fault → StopsBehind text from fault
     stops_behind (Text offset) is = is
     stops_behind (Comment offset) is = stops_on offset is
     stops_behind Memory is = is
 
+    -- .. and where one may have been
     pub fails_behind : (fault : LexFault) → FailsBehind text at fault → FailsBehind text from fault
     fails_behind (Text offset) is = is
     fails_behind (Comment offset) is = stops_on offset is
@@ -161,6 +169,7 @@ module _ {text : List ℕ} where
         by (Err offset) e =
             let other : ◌≡◌ {A = Outcome} (Ok are.0) (Err offset) = sym all ∙ (between_scan ∙ ap (prepend has.tokens) e) in cc
 
+  -- the words behind a place are one list
   pub behind_unique : (at : ℕ) {ws vs : List Name} → AreBehind text at ws → AreBehind text at vs → ws ≡ vs
   behind_unique at are also =
       let a = scan-cut text (runs_behind text at) are.0 are.1 in
@@ -168,11 +177,13 @@ module _ {text : List ℕ} where
       let same : are.0 ≡ also.0 = cc in
       sym are.2 ∙ (ap (words text) same ∙ also.2)
 
+  -- a place with tokens behind it has no fault of comments behind it
   pub behind_no_stop : (at offset : ℕ) {ws : List Name} → AreBehind text at ws → StopsAt text (runs_behind text at) offset → ⊥
   behind_no_stop at offset are is =
       let a = scan-cut text (runs_behind text at) are.0 are.1 in
       let b = scan-stops text (runs_behind text at) offset is in cc
 
+-- a fault of the comments is one also where a growth may have been refused
 pub stops_fail : (text : List ℕ) (at : ℕ) (fault : LexFault) → StopsBehind text at fault → FailsBehind text at fault
 stops_fail text at (Text offset) is = is
 stops_fail text at (Comment offset) is = is

@@ -38,7 +38,7 @@ scan text (s ∷ spans) None =
 scan text (s ∷ spans) (Some offset) =
     inside (name_eq (word text s) opener) (name_eq (word text s) closer) s (scan text spans None) (scan text spans (Some offset))
 
-prepend-nil : (r : Outcome) → prepend [] r ≡ r
+pub prepend-nil : (r : Outcome) → prepend [] r ≡ r
 prepend-nil (Ok rest) = refl
 prepend-nil (Err offset) = refl
 
@@ -46,10 +46,12 @@ pub prepend-append : (xs ys : List Span) (r : Outcome) → prepend xs (prepend y
 prepend-append xs ys (Ok rest) = ap Ok (sym (append_assoc xs ys rest))
 prepend-append xs ys (Err offset) = refl
 
+-- a plain run does not open a comment
 no_opener : (a b : Bool) → not (a || b) ≡ true → a ≡ false
 no_opener true b h = cc
 no_opener false b h = refl
 
+-- .. nor closes one
 no_closer : (a b : Bool) → not (a || b) ≡ true → b ≡ false
 no_closer true b h = cc
 no_closer false true h = cc
@@ -62,40 +64,51 @@ module _ (text : List ℕ) where
   abbrev pub closes : Span → Bool
   closes s = name_eq (word text s) closer
 
+  -- whether a run of the text is plain
   plain_test : Span → Bool
   plain_test s = is_plain (word text s)
 
   -- ---- one run
 
+  -- outside of a comment, at a `$(`: the comment begins
   pub scan_opener : (s : Span) (spans : List Span) → opens s ≡ true → scan text (s ∷ spans) None ≡ scan text spans (Some s.start)
   scan_opener s spans e = rw e refl
 
+  -- outside, at a `$)`: the scan stops there
   pub scan_closer : (s : Span) (spans : List Span) → opens s ≡ false → closes s ≡ true → scan text (s ∷ spans) None ≡ Err s.start
   scan_closer s spans e f = rw (e, f) refl
 
+  -- outside, at a plain run: a token
   pub scan_plain : (s : Span) (spans : List Span) → opens s ≡ false → closes s ≡ false → scan text (s ∷ spans) None ≡ prepend (s ∷ []) (scan text spans None)
   scan_plain s spans e f = rw (e, f) refl
 
+  -- inside of a comment, at a `$(`: the scan stops there
   pub scan_nested : (s : Span) (spans : List Span) (offset : ℕ) → opens s ≡ true → scan text (s ∷ spans) (Some offset) ≡ Err s.start
   scan_nested s spans offset e = rw e refl
 
+  -- inside, at a `$)`: the comment ends
   pub scan_closing : (s : Span) (spans : List Span) (offset : ℕ) → opens s ≡ false → closes s ≡ true → scan text (s ∷ spans) (Some offset) ≡ scan text spans None
   scan_closing s spans offset e f = rw (e, f) refl
 
+  -- inside, at a plain run: it is passed over
   pub scan_inside : (s : Span) (spans : List Span) (offset : ℕ) → opens s ≡ false → closes s ≡ false → scan text (s ∷ spans) (Some offset) ≡ scan text spans (Some offset)
   scan_inside s spans offset e f = rw (e, f) refl
 
+  -- a run with the word `$(` passes the test for it
   pub is_opener : (s : Span) → word text s ≡ opener → opens s ≡ true
   is_opener s e = ap (λ w. name_eq w opener) e
 
+  -- a run with the word `$)` passes the test for it
   pub is_closer : (s : Span) → word text s ≡ closer → closes s ≡ true
   is_closer s e = ap (λ w. name_eq w closer) e
 
+  -- a `$)` is no `$(`
   pub closer_no_opener : (s : Span) → word text s ≡ closer → opens s ≡ false
   closer_no_opener s e = ap (λ w. name_eq w opener) e
 
   -- ---- many runs
 
+  -- plain runs outside of comments are all tokens
   pub scan_all_plain : (xs ys : List Span) → AllPlain text xs → scan text (xs ++ ys) None ≡ prepend xs (scan text ys None)
   scan_all_plain [] ys h = sym (prepend-nil (scan text ys None))
   scan_all_plain (s ∷ xs) ys h =
@@ -104,6 +117,7 @@ module _ (text : List ℕ) where
       scan_plain s (xs ++ ys) (no_opener (opens s) (closes s) here) (no_closer (opens s) (closes s) here)
       ∙ (ap (prepend (s ∷ [])) (scan_all_plain xs ys rest) ∙ prepend-append (s ∷ []) xs (scan text ys None))
 
+  -- plain runs inside of a comment are passed over
   pub scan_all_inside : (xs ys : List Span) (offset : ℕ) → AllPlain text xs → scan text (xs ++ ys) (Some offset) ≡ scan text ys (Some offset)
   scan_all_inside [] ys offset h = refl
   scan_all_inside (s ∷ xs) ys offset h =
@@ -113,6 +127,7 @@ module _ (text : List ℕ) where
 
   -- ---- a cut, and then other runs
 
+  -- a comment with the plain runs behind it leaves these runs
   scan_part : (p : Part) (ys : List Span) → IsPart text p → scan text (part_spans p ++ ys) None ≡ prepend p.after (scan text ys None)
   scan_part p ys is =
       scan_opener p.begin ((p.inside ++ (p.end ∷ p.after)) ++ ys) (is_opener p.begin is.begins)
@@ -121,6 +136,7 @@ module _ (text : List ℕ) where
       ∙ (scan_closing p.end (p.after ++ ys) p.begin.start (closer_no_opener p.end is.ends) (is_closer p.end is.ends)
       ∙ scan_all_plain p.after ys is.after)))
 
+  -- .. and a list of comments those behind each
   scan_parts : (ps : List Part) (ys : List Span) → AreParts text ps → scan text (flat_map part_spans ps ++ ys) None ≡ prepend (flat_map (λ (p : Part). p.after) ps) (scan text ys None)
   scan_parts [] ys h = sym (prepend-nil (scan text ys None))
   scan_parts (p ∷ ps) ys h =
@@ -129,6 +145,7 @@ module _ (text : List ℕ) where
       ∙ (ap (prepend p.after) (scan_parts ps ys h.1)
       ∙ prepend-append p.after (flat_map (λ (p : Part). p.after) ps) (scan text ys None)))
 
+  -- runs that are cut leave their tokens, and the scan goes on behind them
   pub scan_cut : (spans tokens ys : List Span) → Cuts text spans tokens → scan text (spans ++ ys) None ≡ prepend tokens (scan text ys None)
   scan_cut spans tokens ys cut =
       let rest = flat_map part_spans cut.parts in
@@ -145,6 +162,7 @@ module _ (text : List ℕ) where
   scan-cut spans tokens cut =
       ap (λ r. scan text r None) (sym (append-nil spans)) ∙ (scan_cut spans tokens [] cut ∙ ap Ok (append-nil tokens))
 
+  -- a `$)` outside of comments is where the scan stops
   stray : (spans : List Span) (offset : ℕ) → IsStrayCloser text spans offset → scan text spans None ≡ Err offset
   stray spans offset is =
       ap (λ r. scan text r None) is.whole
@@ -152,6 +170,7 @@ module _ (text : List ℕ) where
       ∙ (ap (prepend is.tokens) (scan_closer is.at is.rest (closer_no_opener is.at is.closes) (is_closer is.at is.closes))
       ∙ ap Err is.place))
 
+  -- a `$(` inside of a comment is where it stops
   nested : (spans : List Span) (offset : ℕ) → IsNestedOpener text spans offset → scan text spans None ≡ Err offset
   nested spans offset is =
       ap (λ r. scan text r None) is.whole
@@ -161,6 +180,7 @@ module _ (text : List ℕ) where
       ∙ scan_nested is.at is.rest is.outer.start (is_opener is.at is.opens_again)))
       ∙ ap Err is.place))
 
+  -- it stops at the `$(` of a comment that is never closed
   unclosed : (spans : List Span) (offset : ℕ) → IsUnclosed text spans offset → scan text spans None ≡ Err offset
   unclosed spans offset is =
       ap (λ r. scan text r None) is.whole

@@ -16,11 +16,13 @@ module _ (text : List ℕ) where
   abbrev closes : Span → Bool
   closes s = name_eq (word text s) closer
 
+  -- a run that neither opens nor closes a comment is plain
   pub plain : (s : Span) → opens s ≡ false → closes s ≡ false → is_plain (word text s) ≡ true
   plain s e f = rw (e, f) refl
 
   -- ---- cuts
 
+  -- no runs are cut into no tokens
   pub no_runs : Cuts text [] []
   no_runs = record { first = []; parts = []; whole = refl; plain = refl; comments = tt; outside = refl }
 
@@ -49,6 +51,7 @@ module _ (text : List ℕ) where
         outside = cut.outside;
       }
 
+  -- a cut of the same runs by another list
   pub cuts_as : (spans same tokens : List Span) → spans ≡ same → Cuts text same tokens → Cuts text spans tokens
   cuts_as spans same tokens e cut = record {
     first = cut.first;
@@ -65,6 +68,7 @@ module _ (text : List ℕ) where
   abbrev IsFront : List Span → List Span → Type 0
   IsFront front out = (spans tokens : List Span) → Cuts text spans tokens → Cuts text (front ++ spans) (out ++ tokens)
 
+  -- a fault of the runs behind such a front is one of the whole
   behind : (front out : List Span) → IsFront front out → (spans : List Span) (offset : ℕ) → StopsAt text spans offset → StopsAt text (front ++ spans) offset
   behind front out is_front spans offset (inl is) = inl (record {
     before = front ++ is.before;
@@ -102,9 +106,11 @@ module _ (text : List ℕ) where
     place = is.place;
   }))
 
+  -- a plain run is a front, with itself as token
   plain_front : (s : Span) → is_plain (word text s) ≡ true → IsFront (s ∷ []) (s ∷ [])
   plain_front s is spans tokens cut = with_plain s spans tokens is cut
 
+  -- a whole comment is a front without tokens
   comment_front : (begin end : Span) (inner : List Span) → word text begin ≡ opener → AllPlain text inner → word text end ≡ closer → IsFront (begin ∷ (inner ++ end ∷ [])) []
   comment_front begin end inner is_begin are is_end spans tokens cut =
       cuts_as _ _ tokens (ap (λ r. begin ∷ r) (append_assoc inner (end ∷ []) spans)) (with_comment begin end inner spans tokens is_begin are is_end cut)
@@ -153,6 +159,7 @@ module _ (text : List ℕ) where
   -- ---- one run more
 
   module _ (s : Span) (spans : List Span) where
+    -- a `$(` outside of comments: what the scan gives in the comment has its meaning for the whole
     opened : word text s ≡ opener → (r : Outcome) → Meaning spans (Some s.start) r → Meaning (s ∷ spans) None r
     opened is (Ok tokens) m =
         cuts_as _ _ tokens (ap (λ r. s ∷ r) m.whole) (with_comment s m.end m.inner m.rest tokens is m.plain m.ends m.cut)
@@ -185,10 +192,12 @@ module _ (text : List ℕ) where
         let whole : s ∷ spans ≡ (s ∷ (m.inner ++ m.end ∷ [])) ++ m.rest = ap (λ r. s ∷ r) (m.whole ∙ sym (append_assoc m.inner (m.end ∷ []) m.rest)) in
         rw whole (behind (s ∷ (m.inner ++ m.end ∷ [])) [] (comment_front s m.end m.inner is m.plain m.ends) m.rest offset m.stops)
 
+    -- a plain run outside of comments is one token more
     passed : is_plain (word text s) ≡ true → (r : Outcome) → Meaning spans None r → Meaning (s ∷ spans) None (prepend (s ∷ []) r)
     passed is (Ok tokens) m = with_plain s spans tokens is m
     passed is (Err offset) m = behind (s ∷ []) (s ∷ []) (plain_front s is) spans offset m
 
+    -- one run more outside of comments, by what it is
     out_step : (a b : Bool) → opens s ≡ a → closes s ≡ b → (r t : Outcome) → Meaning spans (Some s.start) r → Meaning spans None t
         → Meaning (s ∷ spans) None (outside a b s r t)
     out_step true b e f r t m k = opened ((bytes_eq-Decides _ _).0 e) r m
@@ -196,10 +205,12 @@ module _ (text : List ℕ) where
         inl (record { before = []; tokens = []; at = s; rest = spans; whole = refl; cut = no_runs; closes = (bytes_eq-Decides _ _).0 f; place = refl })
     out_step false false e f r t m k = passed (plain s e f) t k
 
+    -- a `$)` inside of a comment: what the scan gives behind it has its meaning for the whole
     closed : word text s ≡ closer → (from : ℕ) (r : Outcome) → Meaning spans None r → Meaning (s ∷ spans) (Some from) r
     closed is from (Ok tokens) m = record { inner = []; end = s; rest = spans; whole = refl; plain = refl; ends = is; cut = m }
     closed is from (Err offset) m = inr (inr (record { inner = []; end = s; rest = spans; whole = refl; plain = refl; ends = is; stops = m }))
 
+    -- a plain run inside of a comment changes nothing
     skipped : is_plain (word text s) ≡ true → (from : ℕ) (r : Outcome) → Meaning spans (Some from) r → Meaning (s ∷ spans) (Some from) r
     skipped is from (Ok tokens) m = record {
       inner = s ∷ m.inner;
@@ -230,6 +241,7 @@ module _ (text : List ℕ) where
       stops = m.stops;
     }))
 
+    -- one run more inside of a comment, by what it is
     in_step : (from : ℕ) (a b : Bool) → opens s ≡ a → closes s ≡ b → (r t : Outcome) → Meaning spans None r → Meaning spans (Some from) t
         → Meaning (s ∷ spans) (Some from) (inside a b s r t)
     in_step from true b e f r t m k =
@@ -237,6 +249,7 @@ module _ (text : List ℕ) where
     in_step from false true e f r t m k = closed ((bytes_eq-Decides _ _).0 f) from r m
     in_step from false false e f r t m k = skipped (plain s e f) from t k
 
+  -- what the scan gives has its meaning, outside of a comment and inside of one
   means : (spans : List Span) (from : Option ℕ) → Meaning spans from (scan text spans from)
   means [] None = no_runs
   means [] (Some from) = inr (inl (refl, refl))

@@ -14,10 +14,12 @@ use Rattle.mm_lex.proofs.WordsLemmas.{and_left, and_right}
 abbrev pub is_bad : ℕ → Bool
 is_bad b = not (is_allowed b)
 
+-- a Boolean denied twice is itself
 pub twice_not : (t : Bool) → t ≡ not (not t)
 twice_not true = refl
 twice_not false = refl
 
+-- the bytes before the first bad one are allowed
 allowed_before : (text : List ℕ) → list_all is_allowed (take (position_or_len is_bad text) text) ≡ true
 allowed_before text = all_before is_bad is_allowed (λ b. twice_not (is_allowed b)) text
 
@@ -38,6 +40,7 @@ IsClean-none text none =
 first_step : (b : ℕ) (xs : List ℕ) (n : ℕ) → is_allowed b ≡ true → position_or_len is_bad xs ≡ n → position_or_len is_bad (b ∷ xs) ≡ suc n
 first_step b xs n e k = rw e (let more : 1 + position_or_len is_bad xs ≡ suc n = omega (arith, k) in more)
 
+-- a bad byte behind allowed ones is the first that is bad
 first_is : (text : List ℕ) (offset : ℕ) → offset < length text → is_allowed (get_or text offset 0) ≡ false → list_all is_allowed (take offset text) ≡ true → position_or_len is_bad text ≡ offset
 first_is [] offset inside bad before = absurd (omega (arith, inside))
 first_is (b ∷ text) zero inside bad before = rw bad refl
@@ -47,6 +50,7 @@ first_is (b ∷ text) (suc offset) inside bad before =
 pub IsFirstBadByte-place : (text : List ℕ) (offset : ℕ) → IsFirstBadByte text offset → position_or_len is_bad text ≡ offset
 IsFirstBadByte-place text offset is = first_is text offset is.inside is.bad is.before
 
+-- in a clean text the search for a bad byte goes to the end
 clean_is : (text : List ℕ) → list_all is_allowed text ≡ true → position_or_len is_bad text ≡ length text
 clean_is [] h = refl
 clean_is (b ∷ text) h = first_step b text (length text) (and_left _ _ h) (clean_is text (and_right _ _ h))

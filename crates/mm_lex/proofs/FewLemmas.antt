@@ -9,16 +9,19 @@ use Rattle.mm_lex.specs.Tokens.{Part, part_spans, Cuts}
 use Rattle.mm_lex.specs.Comments.{runs_behind}
 use Rattle.mm_lex.specs.Between.{HasBetween, AreBehind}
 
+-- a visible byte before runs makes at most one run more
 with_few : (at : ℕ) (t : Bool) (spans : List Span) → length (with_byte at t spans) ≤ 1 + length spans
 with_few at true spans = omega arith
 with_few at false [] = omega arith
 with_few at false (s ∷ spans) = omega arith
 
+-- a byte more, white or visible, makes at most one run more
 byte_few : (at b : ℕ) (bytes : List ℕ) (t : Bool) → is_white b ≡ t → length (runs_from at (b ∷ bytes)) ≤ 1 + length (runs_from (at + 1) bytes)
 byte_few at b bytes true e = rw e (omega arith)
 byte_few at b bytes false e = rw e (with_few at (starts_white bytes) (runs_from (at + 1) bytes))
 
 module _ (text : List ℕ) where
+  -- .. so behind a place at most one run more than behind the next
   one_few : (at : ℕ) → at < length text → length (runs_behind text at) ≤ 1 + length (runs_behind text (at + 1))
   one_few at inside =
       let b = get_or text at 0 in
@@ -27,6 +30,7 @@ module _ (text : List ℕ) where
       let here : drop at text ≡ b ∷ drop (at + 1) text = drop-cons text at 0 inside ∙ ap (λ r. b ∷ r) rest in
       subst (λ bytes. length (runs_from at bytes) ≤ 1 + length (runs_behind text (at + 1))) (sym here) (byte_few at b (drop (at + 1) text) (is_white b) refl)
 
+  -- behind a place stand at most as many runs more than behind a later one as bytes between the two
   runs_few : (n at : ℕ) → at + n ≤ length text → length (runs_behind text at) ≤ n + length (runs_behind text (at + n))
   runs_few zero at within = let same : at + 0 ≡ at = omega arith in rw same (omega arith)
   runs_few (suc n) at within =
@@ -35,6 +39,7 @@ module _ (text : List ℕ) where
       let rest = runs_few n (at + 1) (omega (arith, within)) in
       subst (λ k. length (runs_behind text at) ≤ suc n + length (runs_behind text k)) same (omega (arith, first, rest))
 
+  -- the runs behind comments are no more than all runs of these parts
   parts_few : (ps : List Part) → length (flat_map (λ (p : Part). p.after) ps) ≤ length (flat_map part_spans ps)
   parts_few [] = omega arith
   parts_few (p ∷ ps) =
@@ -46,6 +51,7 @@ module _ (text : List ℕ) where
         length-append p.inside (p.end ∷ p.after),
       )
 
+  -- a cut leaves no more tokens than there are runs
   cuts_few : (spans tokens : List Span) → Cuts text spans tokens → length tokens ≤ length spans
   cuts_few spans tokens cut =
       omega (
@@ -57,6 +63,7 @@ module _ (text : List ℕ) where
         length-append cut.first (flat_map (λ (p : Part). p.after) cut.parts),
       )
 
+  -- the tokens between two places are no more than the bytes there
   pub between_few : (from at : ℕ) (ws : List Name) → HasBetween text from at ws → length ws + from ≤ at
   between_few from at ws has =
       let same : from + (at - from) ≡ at = omega (arith, has.later) in
@@ -73,6 +80,7 @@ module _ (text : List ℕ) where
         has.later,
       )
 
+  -- the tokens behind a place are no more than the bytes left
   pub behind_few : (at : ℕ) (ws : List Name) → at ≤ length text → AreBehind text at ws → length ws + at ≤ length text
   behind_few at ws within are =
       let same : at + (length text - at) ≡ length text = omega (arith, within) in

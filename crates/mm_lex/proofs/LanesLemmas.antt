@@ -35,6 +35,7 @@ pub clean-take : (n : ℕ) (text : List ℕ) → IsClean text → IsClean (take 
 clean-take n text clean =
     and_left (list_all is_allowed (take n text)) (list_all is_allowed (drop n text)) (sym (list_all-append is_allowed (take n text) (drop n text)) ∙ (ap (list_all is_allowed) (take-append-drop n text) ∙ clean))
 
+-- in a clean text the first byte up to the space is the first white one
 pub low_is_white : (text : List ℕ) → IsClean text → position_or_len is_low text ≡ position_or_len is_white text
 low_is_white [] clean = refl
 low_is_white (b ∷ text) clean =
@@ -53,6 +54,7 @@ is_high-shown b h = by (is_high b) (is_white b) refl refl
     by false true e k = refl
     by false false e k = absurd (grind (arith, h, e, k))
 
+-- .. and the first byte above the space the first that is not white
 pub high_is_shown : (text : List ℕ) → IsClean text → position_or_len is_high text ≡ position_or_len (λ b. not (is_white b)) text
 high_is_shown [] clean = refl
 high_is_shown (b ∷ text) clean =
@@ -67,9 +69,11 @@ pub mask_of_low : (xs : List ℕ) → length xs ≡ 16
 mask_of_low xs long = bitmask_splat w8 leb xs 16 32 long (omega arith)
 
 module _ (xs : List ℕ) (long : length xs ≡ 16) (m : ℕ) (of_low : m ≡ mask_l (map is_low xs)) (some : m ≡ 0 → ⊥) where
+  -- a mask that is not 0 has a bit set
   is_some : 0 < mask_l (map is_low xs)
   is_some = omega (arith, some, of_low)
 
+  -- the lowest bit of the mask is the place of the first byte up to the space
   pub lowest_low : count_trailing_zeros 64 m ≡ position_or_len is_low xs
   lowest_low = ap (count_trailing_zeros 64) of_low ∙ trailing_mask_l is_low 64 xs (omega (arith, long)) is_some
 
@@ -81,9 +85,11 @@ mask_of_high xs long =
     ∙ mask_l-mod (map is_high xs) 64 (omega (arith, length-map xs is_high, long))
 
 module _ (xs : List ℕ) (long : length xs ≡ 16) (m : ℕ) (of_high : m ≡ mask_l (map is_high xs)) where
+  -- the lowest bit of the mask is the place of the first byte above the space
   pub lowest_high : (m ≡ 0 → ⊥) → count_trailing_zeros 64 m ≡ position_or_len is_high xs
   lowest_high some = ap (count_trailing_zeros 64) of_high ∙ trailing_mask_l is_high 64 xs (omega (arith, long)) (omega (arith, some, of_high))
 
+  -- where the mask is 0, none of the sixteen is above the space
   pub none_high : m ≡ 0 → 16 ≡ position_or_len is_high xs
   none_high none = sym (leading_from_mask_l is_high xs (sym of_high ∙ none) ∙ long)
 
@@ -106,12 +112,15 @@ module _ (text : List ℕ) (at : ℕ) (clean : IsClean text) (room : at + 16 ≤
   abbrev next : List ℕ
   next = take 16 (drop at text)
 
+  -- the next bytes are sixteen
   next_len : length next ≡ 16
   next_len = length-take-le 16 (drop at text) (omega (arith, length-drop at text))
 
+  -- the count is how many of them come before the first white one
   next_white : count ≡ prefix_len (λ b. not (is_white b)) next
   next_white = counted ∙ low_is_white next (clean-take 16 (drop at text) (clean-drop at text clean))
 
+  -- the bytes before a white one, counted in the next sixteen and, where none is white there, behind them
   parts : prefix_len (λ b. not (is_white b)) (drop at text)
       ≡ cond (eqb (prefix_len (λ b. not (is_white b)) next) (length next)) (length next + prefix_len (λ b. not (is_white b)) (drop 16 (drop at text))) (prefix_len (λ b. not (is_white b)) next)
   parts = ap (prefix_len (λ b. not (is_white b))) (sym (take-append-drop 16 (drop at text))) ∙ prefix_len-append (λ b. not (is_white b)) next (drop 16 (drop at text))

@@ -18,6 +18,7 @@ use Rattle.mm_lex.proofs.SymbolsLemmas.{IsFrontOf, stretch_front, symbols_words}
 use Rattle.mm_lex.proofs.BetweenLemmas.{between_none, between_on, between_as, between_plain, between_runs, behind_on, behind_as}
 
 module _ {text : List ℕ} where
+  -- no symbols between a place and itself
   pub adds_none : (at : ℕ) (words : List Name) → at ≤ length text → AddsSymbols text at at words words
   adds_none at words within = record { more = []; whole = sym (append-nil words); between = between_none at within; symbols = refl }
 
@@ -46,9 +47,11 @@ module _ {text : List ℕ} where
 
   -- the symbols of a list that was empty
   module _ {from at : ℕ} {words : List Name} (adds : AddsSymbols text from at [] words) where
+    -- all its words are symbols
     pub all_symbols : list_all is_symbol words ≡ true
     all_symbols = ap (list_all is_symbol) adds.whole ∙ adds.symbols
 
+    -- the list ends with a token that is no symbol
     pub ends_with : (s : Span) → IsTokenBehind text at s → is_symbol (word text s) ≡ false → EndsSymbols text from words s
     ends_with s is other = record {
       token = is.token;
@@ -57,6 +60,7 @@ module _ {text : List ℕ} where
       other = other;
     }
 
+    -- .. or with the text, where no token is behind the place
     pub ends_text : AreBehind text at [] → AreBehind text from words
     ends_text none = behind_as from (append-nil adds.more ∙ sym adds.whole) (behind_on adds.between none)
 
@@ -64,21 +68,26 @@ module _ (text : List ℕ) where
   -- a stretch
   module _ (start end n : ℕ) (clean : IsClean text) (shown : starts_white (drop start text) ≡ false) (is : n ≡ stretch (drop start text)) (some : 0 < n)
       (same : end ≡ start + n) (within : end ≤ length text) (white : starts_white (drop end text) ≡ true) where
+    -- the runs of the stretch, whose words are symbols
     front : IsFrontOf text start n (take n (drop start text))
     front = stretch_front text start n (clean-drop start text clean) shown is some (omega (arith, same, within)) (ap (λ k. starts_white (drop k text)) (sym same) ∙ white)
 
+    -- the stretch is as long as the piece that is copied
     width : end - start ≡ n
     width = omega (arith, same)
 
     abbrev piece : List ℕ
     piece = take (end - start) (drop start text)
 
+    -- the words of the bytes up to the end of the stretch are those of the piece
     piece_is : words_of (take n (drop start text)) ≡ words_of piece
     piece_is = ap (λ k. words_of (take k (drop start text))) (sym width)
 
+    -- the words of the piece are words
     pub stretch_words : AreWords (words_of piece)
     stretch_words = symbols_words (words_of piece) (ap (list_all is_symbol) (sym piece_is) ∙ front.symbols)
 
+    -- the piece adds its words to the symbols read so far
     pub stretch_adds : (old new : List Name) → new ≡ old ++ words_of piece → AddsSymbols text start end old new
     stretch_adds old new e = record {
       more = words_of piece;

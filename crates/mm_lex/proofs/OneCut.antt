@@ -16,9 +16,11 @@ module _ (text : List ℕ) where
     front : xs ≡ ys
     back : rs ≡ ss
 
+  -- a plain run is not one that is not plain
   unmarked : (s t : Span) → s ≡ t → is_plain (word text s) ≡ true → is_plain (word text t) ≡ false → ⊥
   unmarked s t e h k = true≢false (sym h ∙ (ap (λ u. is_plain (word text u)) e ∙ k))
 
+  -- a list is split in one way into plain runs and what begins with a marked one
   same_split : (xs ys rs ss : List Span) → AllPlain text xs → AllPlain text ys → BeginsMarked rs → BeginsMarked ss → xs ++ rs ≡ ys ++ ss → SameSplit xs ys rs ss
   same_split [] [] rs ss h k m n e = record { front = refl; back = e }
   same_split [] (y ∷ ys) [] ss h k m n e = cc
@@ -33,16 +35,20 @@ module _ (text : List ℕ) where
       let more = same_split xs ys rs ss (and_right _ _ h) (and_right _ _ k) m n rest in
       record { front = let front = more.front in cc; back = more.back }
 
+  -- a `$(` is not plain
   marked_opener : (s : Span) → word text s ≡ opener → is_plain (word text s) ≡ false
   marked_opener s e = ap is_plain e
 
+  -- a `$)` is not plain
   marked_closer : (s : Span) → word text s ≡ closer → is_plain (word text s) ≡ false
   marked_closer s e = ap is_plain e
 
+  -- what comes behind the first runs begins with a `$(`, or is nothing
   marked_parts : (ps : List Part) → AreParts text ps → BeginsMarked (flat_map part_spans ps)
   marked_parts [] are = tt
   marked_parts (p ∷ ps) are = marked_opener p.begin are.0.begins
 
+  -- two comments with the runs behind them are one where their four parts are
   same_part : (p q : Part) → p.begin ≡ q.begin → p.inside ≡ q.inside → p.end ≡ q.end → p.after ≡ q.after → p ≡ q
   same_part p q b i e a =
       ap (λ x. record { begin = x; inside = p.inside; end = p.end; after = p.after }) b
@@ -50,6 +56,7 @@ module _ (text : List ℕ) where
       ∙ (ap (λ x. record { begin = q.begin; inside = q.inside; end = x; after = p.after }) e
       ∙ ap (λ x. record { begin = q.begin; inside = q.inside; end = q.end; after = x }) a))
 
+  -- one list of runs is one list of comments with what is behind each
   same_parts : (ps qs : List Part) → AreParts text ps → AreParts text qs → flat_map part_spans ps ≡ flat_map part_spans qs → ps ≡ qs
   same_parts [] [] are also e = refl
   same_parts [] (q ∷ qs) are also e = cc
@@ -70,6 +77,7 @@ module _ (text : List ℕ) where
       let afters = outer.front in
       let same : p ≡ q = same_part p q begins insides ends afters in cc
 
+  -- two cuts of the same runs have the same first runs and the same comments
   pub same_first : (spans a b : List Span) (cut : Cuts text spans a) (other : Cuts text spans b) → (cut.first ≡ other.first) × (cut.parts ≡ other.parts)
   same_first spans a b cut other =
       let split = same_split cut.first other.first (flat_map part_spans cut.parts) (flat_map part_spans other.parts) cut.plain other.plain

@@ -1,5 +1,5 @@
 -- How far the code has read: what the scan of the whole text gives, by what is left of it.
-use Rattle.std.specs.Prelude.{◌≡◌, ℕ, ◌-◌, ◌<◌, ◌≤◌, suc, zero, Bool, true, false, not, cond, ◌||◌, List, [], ◌∷◌, ◌++◌, length, take, drop, Some, None, Ok, Err, refl}
+use Rattle.std.specs.Prelude.{◌≡◌, ℕ, ◌-◌, ◌<◌, ◌≤◌, Bool, true, false, not, cond, ◌||◌, List, [], ◌∷◌, ◌++◌, length, take, drop, Some, None, Ok, Err, refl}
 use Rattle.std.specs.List.{list_all, All}
 use Rattle.std.proofs.Common.{sym, ◌∙◌, ap, arith, append_assoc, true≢false, min}
 use Rattle.std.proofs.lemmas.List.{append-nil, length-take, length-drop}
@@ -14,32 +14,26 @@ use Rattle.mm_lex.specs.Tokens.{opener, closer, is_plain, AllPlain, IsClean, Are
 use Rattle.mm_lex.specs.Faults.{IsCommentFault}
 use Rattle.mm_lex.specs.Comments.{runs_behind, PassesPlain, IsClosedAt, IsNestedAt}
 use Rattle.mm_lex.proofs.WordsLemmas.{and_left, and_right}
-use Rattle.mm_lex.proofs.Cutting.{Outcome, prepend, prepend-append, scan, opens, closes, scan_opener, scan_closer, scan_plain, scan_nested, scan_closing, scan_all_inside, is_opener, is_closer, closer_no_opener, scan-stops}
+use Rattle.mm_lex.proofs.LanesLemmas.{clean-take, clean-drop}
+use Rattle.mm_lex.proofs.Cutting.{prepend, prepend-nil, prepend-append, scan, opens, closes, scan_opener, scan_closer, scan_plain, scan_nested, scan_closing, scan_all_inside, is_opener, is_closer, closer_no_opener, scan-stops}
 use Rattle.mm_lex.proofs.CuttingMeans.{cut-scan, stops-scan, plain}
 
 -- ---- a run of a clean text is a word
 
-list_all-take : (p : ℕ → Bool) (n : ℕ) (xs : List ℕ) → list_all p xs ≡ true → list_all p (take n xs) ≡ true
-list_all-take p zero xs h = refl
-list_all-take p (suc n) [] h = refl
-list_all-take p (suc n) (x ∷ xs) h = and_from (p x) _ (and_left (p x) _ h) (list_all-take p n xs (and_right (p x) _ h))
-
-list_all-drop : (p : ℕ → Bool) (n : ℕ) (xs : List ℕ) → list_all p xs ≡ true → list_all p (drop n xs) ≡ true
-list_all-drop p zero xs h = h
-list_all-drop p (suc n) [] h = refl
-list_all-drop p (suc n) (x ∷ xs) h = list_all-drop p n xs (and_right (p x) _ h)
-
+-- an allowed byte that is not white is visible
 visible_byte : (v w : Bool) → (v || w) ≡ true → not w ≡ true → v ≡ true
 visible_byte true w h k = refl
 visible_byte false true h k = cc
 visible_byte false false h k = cc
 
+-- allowed bytes of which none is white are all visible
 all_visible : (bytes : Name) → list_all is_allowed bytes ≡ true → list_all (λ b. not (is_white b)) bytes ≡ true → list_all is_visible bytes ≡ true
 all_visible [] h k = refl
 all_visible (b ∷ bytes) h k =
     and_from (is_visible b) _ (visible_byte (is_visible b) (is_white b) (and_left (is_allowed b) _ h) (and_left (not (is_white b)) _ k))
     (all_visible bytes (and_right (is_allowed b) _ h) (and_right (not (is_white b)) _ k))
 
+-- visible bytes, at least one, are a word
 some_word : (bytes : Name) → 0 < length bytes → list_all is_visible bytes ≡ true → is_word bytes ≡ true
 some_word [] some h = absurd (omega (arith, some))
 some_word (b ∷ bytes) some h = h
@@ -51,11 +45,12 @@ IsWordAt-run text s clean is =
     record {
       some = is.some;
       within = is.within;
-      word = some_word (word text s) some (all_visible (word text s) (list_all-take is_allowed (s.end - s.start) (drop s.start text) (list_all-drop is_allowed s.start text clean)) is.visible);
+      word = some_word (word text s) some (all_visible (word text s) (clean-take (s.end - s.start) (drop s.start text) (clean-drop s.start text clean)) is.visible);
     }
 
 -- ---- inside of a comment
 
+-- from a place to itself no run is passed
 pub inside_start : (text : List ℕ) (from : ℕ) → from ≤ length text → PassesPlain text from from
 inside_start text from within = record { passed = []; later = omega arith; within = within; whole = refl; plain = refl }
 
@@ -75,9 +70,11 @@ all_plain-push text (x ∷ xs) s h k = and_from (is_plain (word text x)) _ (and_
 
 module _ {text : List ℕ} {from at : ℕ} (so : PassesPlain text from at) where
   module _ (s : Span) (run : runs_behind text at ≡ s ∷ runs_behind text s.end) (is : IsRunAt text s) (later : at ≤ s.start) where
+    -- the runs from the start of the comment's inside: those passed, this one, and those behind it
     inside_whole : runs_behind text from ≡ so.passed ++ s ∷ runs_behind text s.end
     inside_whole = so.whole ∙ ap (λ r. so.passed ++ r) run
 
+    -- the comment ends with this run, a `$)`
     pub inside_closed : word text s ≡ closer → IsClosedAt text from s.end
     inside_closed closes = record {
       inside = so.passed;
@@ -89,6 +86,7 @@ module _ {text : List ℕ} {from at : ℕ} (so : PassesPlain text from at) where
       closes = closes;
     }
 
+    -- a comment opens again at this run, a `$(`
     pub inside_nested : word text s ≡ opener → IsNestedAt text from s.start
     inside_nested opens = record {
       inside = so.passed;
@@ -100,6 +98,7 @@ module _ {text : List ℕ} {from at : ℕ} (so : PassesPlain text from at) where
       place = refl;
     }
 
+    -- a plain run is passed
     pub inside_more : is_plain (word text s) ≡ true → PassesPlain text from s.end
     inside_more is_plain = record {
       passed = so.passed ++ s ∷ [];
@@ -109,6 +108,7 @@ module _ {text : List ℕ} {from at : ℕ} (so : PassesPlain text from at) where
       plain = all_plain-push text so.passed s so.plain is_plain;
     }
 
+  -- where no run is left, all runs inside are plain
   pub inside_unclosed : runs_behind text at ≡ [] → AllPlain text (runs_behind text from)
   inside_unclosed none = rw (so.whole ∙ (ap (λ r. so.passed ++ r) none ∙ append-nil so.passed)) so.plain
 
@@ -121,27 +121,28 @@ pub record Cut (text : List ℕ) (spans : List Span) (refused : Bool) (at : ℕ)
   pub kept : refused ≡ false → spans ≡ tokens
   pub words : All (IsWordAt text) spans
 
+-- the runs behind the first place are all runs
 runs_start : (text : List ℕ) → runs_behind text 0 ≡ runs text
 runs_start text = refl
 
+-- nothing is read, and no growth was refused
 pub cut_start : (text : List ℕ) → Cut text [] false 0
-cut_start text = record { tokens = []; within = omega arith; whole = sym (prepend-none (scan text (runs text) None)); kept = λ e. refl; words = λ k d h. absurd (omega (arith, h)) }
-  where
-    prepend-none : (r : Outcome) → prepend [] r ≡ r
-    prepend-none (Ok rest) = refl
-    prepend-none (Err offset) = refl
+cut_start text = record { tokens = []; within = omega arith; whole = sym (prepend-nil (scan text (runs text) None)); kept = λ e. refl; words = λ k d h. absurd (omega (arith, h)) }
 
+-- a token more is kept, where no growth was refused before or now
 kept_push : (refused r : Bool) (spans tokens : List Span) (s : Span) → (refused ≡ false → spans ≡ tokens) → (refused ≡ true → r ≡ true)
     → r ≡ false → cond r spans (spans ++ s ∷ []) ≡ tokens ++ s ∷ []
 kept_push true r spans tokens s kept stays e = absurd (true≢false (sym (stays refl) ∙ e))
 kept_push false r spans tokens s kept stays e = rw e (ap (λ t. t ++ s ∷ []) (kept refl))
 
+-- a span more, pushed or refused, and all are places of words
 words_push : (text : List ℕ) (r : Bool) (spans : List Span) (s : Span) → All (IsWordAt text) spans → IsWordAt text s → All (IsWordAt text) (cond r spans (spans ++ s ∷ []))
 words_push text true spans s are is = are
 words_push text false spans s are is = All-push (IsWordAt text) spans s are is
 
 module _ {text : List ℕ} {spans : List Span} {refused : Bool} {at : ℕ} (so : Cut text spans refused at) where
   module _ (s : Span) (run : runs_behind text at ≡ s ∷ runs_behind text s.end) where
+    -- the scan of the text, as far as this run
     here : scan text (runs text) None ≡ prepend so.tokens (scan text (s ∷ runs_behind text s.end) None)
     here = so.whole ∙ ap (λ r. prepend so.tokens (scan text r None)) run
 
@@ -156,12 +157,14 @@ module _ {text : List ℕ} {spans : List Span} {refused : Bool} {at : ℕ} (so :
       words = rw e (words_push text r spans s so.words (IsWordAt-run text s clean is));
     }
 
+    -- a `$)` outside of comments: the scan of the text stops here
     pub stops_closer : closes text s ≡ true → scan text (runs text) None ≡ Err s.start
     stops_closer closed =
         let unopened = closer_no_opener text s ((bytes_eq-Decides _ _).0 closed) in
         here ∙ ap (prepend so.tokens) (scan_closer text s (runs_behind text s.end) unopened closed)
 
     module _ (yes : opens text s ≡ true) where
+      -- a `$(`: the scan goes on inside of a comment that began here
       opened : scan text (runs text) None ≡ prepend so.tokens (scan text (runs_behind text s.end) (Some s.start))
       opened = here ∙ ap (prepend so.tokens) (scan_opener text s (runs_behind text s.end) yes)
 
@@ -177,6 +180,7 @@ module _ {text : List ℕ} {spans : List Span} {refused : Bool} {at : ℕ} (so :
         words = so.words;
       }
 
+      -- a `$(` inside of that comment: the scan of the text stops at it
       pub stops_nested : (offset : ℕ) → IsNestedAt text s.end offset → scan text (runs text) None ≡ Err offset
       stops_nested offset is =
           opened ∙ (ap (prepend so.tokens) (ap (λ r. scan text r (Some s.start)) is.whole
@@ -184,11 +188,13 @@ module _ {text : List ℕ} {spans : List Span} {refused : Bool} {at : ℕ} (so :
           ∙ scan_nested text is.at is.rest s.start (is_opener text is.at is.opens_again)))
           ∙ ap Err is.place)
 
+      -- a comment that is never closed: the scan of the text stops at its begin
       pub stops_unclosed : AllPlain text (runs_behind text s.end) → scan text (runs text) None ≡ Err s.start
       stops_unclosed plain =
           opened ∙ ap (prepend so.tokens) (ap (λ r. scan text r (Some s.start)) (sym (append-nil (runs_behind text s.end)))
           ∙ scan_all_inside text (runs_behind text s.end) [] s.start plain)
 
+  -- where no run is left, the scan of the text gives the tokens read
   pub cut_end : runs_behind text at ≡ [] → scan text (runs text) None ≡ Ok so.tokens
   cut_end none = so.whole ∙ (ap (λ r. prepend so.tokens (scan text r None)) none ∙ ap Ok (append-nil so.tokens))
 
@@ -200,8 +206,10 @@ AreTokens-scan text tokens clean e = (clean, cut-scan text (runs text) tokens e)
 pub IsCommentFault-scan : (text : List ℕ) (offset : ℕ) → IsClean text → scan text (runs text) None ≡ Err offset → IsCommentFault text offset
 IsCommentFault-scan text offset clean e = (clean, stops-scan text (runs text) offset e)
 
+-- where the scan stops is the one comment fault
 pub same_fault : (text : List ℕ) (a b : ℕ) → scan text (runs text) None ≡ Err a → IsCommentFault text b → a ≡ b
 same_fault text a b e is = let f = scan-stops text (runs text) b is.1 in cc
 
+-- where the scan gives tokens, there is no comment fault
 pub no_fault : (text : List ℕ) (tokens : List Span) (offset : ℕ) → scan text (runs text) None ≡ Ok tokens → IsCommentFault text offset → ⊥
 no_fault text tokens offset e is = let f = scan-stops text (runs text) offset is.1 in cc

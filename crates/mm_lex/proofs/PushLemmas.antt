@@ -18,6 +18,7 @@ AreWords-both ws vs h k = list_all-append is_word ws vs ∙ rw (h, k) refl
 abbrev Next : List ℕ → List ℕ → List ℕ → Type 0
 Next text more new = (words_of new ≡ words_of text ++ words_of more) × (list_all is_word (words_of text) ≡ true → list_all is_word (words_of more) ≡ true → list_all is_word (words_of new) ≡ true)
 
+-- what holds of a text's words joined with another's: where both are words, all are
 next : (text more new : List ℕ) → words_of new ≡ words_of text ++ words_of more → Next text more new
 next text more new e = (e, λ h k. ap (list_all is_word) e ∙ AreWords-both (words_of text) (words_of more) h k)
 

@@ -25,9 +25,11 @@ comment_goes = (
 longer_is_plain : AreTokens (codes "$(x") (record { start = 0; end = 3 } ∷ [])
 longer_is_plain = (refl, record { first = record { start = 0; end = 3 } ∷ []; parts = []; whole = refl; plain = refl; comments = tt; outside = refl })
 
+-- a byte above 0x7E is a text fault
 bad_byte : IsFirstBadByte (128 ∷ []) 0
 bad_byte = record { inside = omega arith; bad = refl; before = refl }
 
+-- `$( $( $)`: the second `$(` is the fault
 nested : IsCommentFault (codes "$( $( $)") 3
 nested = (
   refl,
@@ -47,6 +49,7 @@ nested = (
   })),
 )
 
+-- `$( a`: the `$(` is the fault
 unclosed : IsCommentFault (codes "$( a") 0
 unclosed = (
   refl,
@@ -63,6 +66,7 @@ unclosed = (
   })),
 )
 
+-- `a $)`: the `$)` is the fault
 stray : IsCommentFault (codes "a $)") 2
 stray = (
   refl,
@@ -103,15 +107,19 @@ bad_byte_inside = record { inside = omega arith; bad = refl; before = refl }
 
 -- ---- names and words
 
+-- a label has no `+`, and at least one byte
 labels : (is_label (codes "ax-1.b_2") ≡ true) × (is_label (codes "a+b") ≡ false) × (is_label [] ≡ false)
 labels = (refl, refl, refl)
 
+-- a symbol has no `$` and no space
 symbols : (is_symbol (codes "|-") ≡ true) × (is_symbol (codes "$a") ≡ false) × (is_symbol (codes "a b") ≡ false)
 symbols = (refl, refl, refl)
 
+-- the words of a buffer with a space in it, and of an empty one
 words_in_a_buffer : (words_of (codes "wff P") ≡ codes "wff" ∷ codes "P" ∷ []) × (words_of [] ≡ [])
 words_in_a_buffer = (refl, refl)
 
+-- two words have a space between them
 words_with_a_space : spaced (codes "wff" ∷ codes "P" ∷ []) ≡ codes "wff P"
 words_with_a_space = refl
 
@@ -119,11 +127,14 @@ words_with_a_space = refl
 up_to_keyword : stretch (codes "ab c $.") ≡ 4
 up_to_keyword = refl
 
+-- one byte before two spaces
 up_to_spaces : stretch (codes "a  b") ≡ 1
 up_to_spaces = refl
 
+-- three before a `$`
 up_to_dollar : stretch (codes "a b$c") ≡ 3
 up_to_dollar = refl
 
+-- all three, where the text ends
 up_to_end : stretch (codes "a b") ≡ 3
 up_to_end = refl

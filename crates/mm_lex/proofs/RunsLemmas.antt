@@ -22,6 +22,7 @@ unwrap_or-position p xs = by (nat_lt (position_or_len p xs) (length xs)) refl
     by true e = refl
     by false e = omega (arith, ltb-false _ _ e, position_or_len-le p xs)
 
+-- what a search finds is the first place that passes, inside the list
 pub found_at : (p : ℕ → Bool) (xs : List ℕ) (n : ℕ) → Some n ≡ position p xs → (n ≡ position_or_len p xs) × (n < length xs)
 found_at p xs n = by (nat_lt (position_or_len p xs) (length xs)) refl
   where
@@ -29,6 +30,7 @@ found_at p xs n = by (nat_lt (position_or_len p xs) (length xs)) refl
     by true e h = let same : n ≡ position_or_len p xs = cc in (same, omega (arith, same, ltb-true _ _ e))
     by false e h = cc
 
+-- where it finds nothing, it has come to the end
 pub found_none : (p : ℕ → Bool) (xs : List ℕ) → None ≡ position p xs → position_or_len p xs ≡ length xs
 found_none p xs = by (nat_lt (position_or_len p xs) (length xs)) refl
   where
@@ -36,9 +38,11 @@ found_none p xs = by (nat_lt (position_or_len p xs) (length xs)) refl
     by true e h = cc
     by false e h = omega (arith, ltb-false _ _ e, position_or_len-le p xs)
 
+-- one and a number are its successor
 one_more : (n : ℕ) → 1 + n ≡ suc n
 one_more n = omega arith
 
+-- one element more before those that fail the test
 before_step : (p q : ℕ → Bool) (b : ℕ) (xs : List ℕ) (n : ℕ) (t : Bool) → q b ≡ not t → list_all q (take n xs) ≡ true
     → list_all q (take (cond (not t) (1 + n) 0) (b ∷ xs)) ≡ true
 before_step p q b xs n true e k = refl
@@ -54,6 +58,7 @@ all_before p q same (b ∷ xs) = before_step p q b xs (position_or_len p xs) (p 
 abbrev pub is_shown : ℕ → Bool
 is_shown b = not (is_white b)
 
+-- one byte more before the white bytes that are passed over
 white_step : (at b : ℕ) (bytes : List ℕ) (n : ℕ) (t : Bool) → is_white b ≡ t → runs_from (at + 1) bytes ≡ runs_from (at + 1 + n) (drop n bytes)
     → runs_from at (b ∷ bytes) ≡ runs_from (at + cond (not (not t)) (1 + n) 0) (drop (cond (not (not t)) (1 + n) 0) (b ∷ bytes))
 white_step at b bytes n true e k =
@@ -75,6 +80,7 @@ pub record BeginsShown (bytes : List ℕ) : Type 0 where
   pub whole : bytes ≡ first ∷ rest
   pub shown : is_white first ≡ false
 
+-- one byte more before what begins with a byte that is not white
 shown_step : (b : ℕ) (bytes : List ℕ) (n : ℕ) (t : Bool) → is_white b ≡ t → (n < length bytes → BeginsShown (drop n bytes))
     → cond (not (not t)) (1 + n) 0 < length (b ∷ bytes) → BeginsShown (drop (cond (not (not t)) (1 + n) 0) (b ∷ bytes))
 shown_step b bytes n true e k inside =
@@ -82,6 +88,7 @@ shown_step b bytes n true e k inside =
     rw cut (k (omega (arith, inside)))
 shown_step b bytes n false e k inside = record { first = b; rest = bytes; whole = refl; shown = e }
 
+-- behind the white bytes of a list stands a byte that is not white, where the list goes on
 pub begins_shown : (bytes : List ℕ) → position_or_len is_shown bytes < length bytes → BeginsShown (drop (position_or_len is_shown bytes) bytes)
 begins_shown [] inside = absurd (omega (arith, inside))
 begins_shown (b ∷ bytes) inside =
@@ -92,6 +99,7 @@ begins_shown (b ∷ bytes) inside =
 abbrev span_of : ℕ → ℕ → Span
 span_of start end = record { start = start; end = end }
 
+-- one byte more before a run: it begins the run, or is one alone before a white byte
 run_step : (at b c : ℕ) (bytes : List ℕ) (n : ℕ) (t : Bool) → is_white c ≡ t
     → (t ≡ false → runs_from (at + 1) (c ∷ bytes) ≡ span_of (at + 1) (at + 1 + (1 + n)) ∷ runs_from (at + 1 + (1 + n)) (drop (1 + n) (c ∷ bytes)))
     → with_byte at t (runs_from (at + 1) (c ∷ bytes))
@@ -114,6 +122,7 @@ runs_from-run at b (c ∷ bytes) e =
 module _ (text : List ℕ) (at white visible : ℕ) (within : at ≤ length text)
     (blanks : white ≡ position_or_len is_shown (drop at text))
     (shown : visible ≡ position_or_len is_white (drop white (drop at text))) where
+  -- how many bytes are left
   rest_len : length (drop at text) + at ≡ length text
   rest_len = omega (arith, length-drop at text)
 
@@ -125,9 +134,11 @@ module _ (text : List ℕ) (at white visible : ℕ) (within : at ≤ length text
       here ∙ (ap (λ n. runs_from (at + n) (drop n (drop at text))) (sym blanks) ∙ ap (runs_from (at + white)) gone)
 
   module _ (inside : white < length (drop at text)) where
+    -- behind the white bytes stands a byte that is not white
     begins : BeginsShown (drop white (drop at text))
     begins = let k : position_or_len is_shown (drop at text) < length (drop at text) = omega (arith, blanks) in rw blanks (begins_shown (drop at text) k)
 
+    -- the run is this byte and those up to the next white one
     visible_is : visible ≡ 1 + position_or_len is_white begins.rest
     visible_is =
         let e : position_or_len is_white (begins.first ∷ begins.rest) ≡ 1 + position_or_len is_white begins.rest = rw begins.shown refl in
@@ -158,11 +169,13 @@ module _ (text : List ℕ) (at white visible : ℕ) (within : at ≤ length text
 -- ---- to the next byte that is not white
 
 module _ (text : List ℕ) (at white : ℕ) (within : at ≤ length text) (blanks : white ≡ position_or_len is_shown (drop at text)) where
+  -- the runs are the same behind the white bytes
   pub pass_white : runs_from at (drop at text) ≡ runs_from (at + white) (drop (at + white) text)
   pass_white =
       runs_from-white at (drop at text)
       ∙ (ap (λ n. runs_from (at + n) (drop n (drop at text))) (sym blanks) ∙ ap (runs_from (at + white)) (drop-drop white at text))
 
+  -- what is then left does not start white, where anything is left
   pub shown_behind : at + white < length text → starts_white (drop (at + white) text) ≡ false
   shown_behind inside =
       let k : position_or_len is_shown (drop at text) < length (drop at text) = omega (arith, blanks, inside, length-drop at text) in

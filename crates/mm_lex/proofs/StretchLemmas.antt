@@ -14,6 +14,7 @@ use Rattle.mm_lex.specs.Stored.Stretch.{stretch, ends_here, ends_between, lanes_
 abbrev set : Bool → ℕ
 set t = cond t 255 0
 
+-- the top bit of one lane tells its tests: low, `$`, or a space with what is up to `$` behind it
 lane : (low dollar space next : Bool) → top 7 (bit_or (bit_or (set low) (set dollar)) (bit_and (set space) (set next))) ≡ (low || dollar || (space && next))
 lane true true true true = refl
 lane true true true false = refl
@@ -48,6 +49,7 @@ compared n xs ys =
     zip2 bit_or (zip2 bit_or (zip2 below xs (replicate n 32)) (zip2 same xs (replicate n 36)))
     (zip2 bit_and (zip2 up_to xs (replicate n 32)) (zip2 up_to ys (replicate n 36)))
 
+-- the top bits of all lanes tell where symbols end
 compared_is : (n : ℕ) (xs ys : List ℕ) → length xs ≡ n → length ys ≡ n → map (top 7) (compared n xs ys) ≡ lanes_end xs ys
 compared_is zero [] ys e f = refl
 compared_is zero (x ∷ xs) ys e f = absurd (omega (arith, e))
@@ -62,23 +64,28 @@ map-same [] = refl
 map-same (m ∷ ms) = ap (λ r. m ∷ r) (map-same ms)
 
 module _ (xs ys : List ℕ) (long : length xs ≡ 16) (other : length ys ≡ 16) where
+  -- the answers of the lanes are sixteen
   ends_len : length (lanes_end xs ys) ≡ 16
   ends_len = length-zip2 ends_between xs ys (omega (arith, long, other)) ∙ long
 
+  -- the mask of the vectors is that of the answers
   mask_is : mask_l (map (top 7) (compared 16 xs ys)) % 2 ^ 64 ≡ mask_l (map (λ b. b) (lanes_end xs ys))
   mask_is =
       ap (λ ms. mask_l ms % 2 ^ 64) (compared_is 16 xs ys long other)
       ∙ (mask_l-mod (lanes_end xs ys) 64 (omega (arith, ends_len)) ∙ ap mask_l (sym (map-same (lanes_end xs ys))))
 
+  -- where the mask is 0, the symbols end at none of the sixteen
   pub none_set : mask_l (map (top 7) (compared 16 xs ys)) % 2 ^ 64 ≡ 0 → 16 ≡ prefix_len not (lanes_end xs ys)
   none_set e = sym (leading_from_mask_l (λ b. b) (lanes_end xs ys) (sym mask_is ∙ e) ∙ ends_len)
 
+  -- else its lowest bit is the first place where they end
   pub first_set : (mask_l (map (top 7) (compared 16 xs ys)) % 2 ^ 64 ≡ 0 → ⊥)
       → count_trailing_zeros 64 (mask_l (map (top 7) (compared 16 xs ys)) % 2 ^ 64) ≡ prefix_len not (lanes_end xs ys)
   first_set some =
       ap (count_trailing_zeros 64) mask_is
       ∙ trailing_mask_l (λ b. b) 64 (lanes_end xs ys) (omega (arith, ends_len)) (omega (arith, some, mask_is))
 
+  -- no more than sixteen bytes come before that place
   pub few_set : prefix_len not (lanes_end xs ys) ≤ 16
   few_set = omega (arith, prefix_len-le-length not (lanes_end xs ys), ends_len)
 
@@ -90,11 +97,13 @@ lanes_count k xs = prefix_len not (lanes_end (take k xs) (take k (drop 1 xs)))
 abbrev Counts : ℕ → List ℕ → ℕ → Type 0
 Counts k xs n = (n < k → stretch xs ≡ n) × (k ≤ n → stretch xs ≡ k + stretch (drop k xs))
 
+-- one byte more in the lanes: the stretch ends in them, or goes on behind them
 counts_step : (t : Bool) (k s n r : ℕ) → (n < k → s ≡ n) × (k ≤ n → s ≡ k + r)
     → (cond (not t) (1 + n) 0 < suc k → cond t zero (suc s) ≡ cond (not t) (1 + n) 0) × (suc k ≤ cond (not t) (1 + n) 0 → cond t zero (suc s) ≡ suc k + r)
 counts_step true k s n r h = (λ lt. refl, λ le. absurd (omega (arith, le)))
 counts_step false k s n r h = (λ lt. omega (arith, h.0 (omega (arith, lt))), λ le. omega (arith, h.1 (omega (arith, le))))
 
+-- the count in the first lanes is the stretch, where it ends there; else the stretch goes on behind them
 counts : (k : ℕ) (xs : List ℕ) → k < length xs → Counts k xs (lanes_count k xs)
 counts zero xs room = (λ lt. absurd (omega (arith, lt)), λ le. omega arith)
 counts (suc k) [] room = absurd (omega (arith, room))
@@ -105,12 +114,15 @@ counts (suc k) (b ∷ c ∷ xs) room =
 -- ---- the bytes behind those seen
 
 module _ (text : List ℕ) (at : ℕ) (room : at + 16 < length text) (seen : stretch text ≡ at + stretch (drop at text)) (count : ℕ) (counted : count ≡ lanes_count 16 (drop at text)) where
+  -- .. in sixteen lanes of the text
   both : Counts 16 (drop at text) count
   both = rw counted (counts 16 (drop at text) (omega (arith, room, length-drop at text)))
 
+  -- where the symbols end in the lanes, the stretch of the text ends there
   pub stretch_ends : count < 16 → stretch text ≡ at + count
   stretch_ends few = omega (arith, seen, both.0 few)
 
+  -- where they do not, it goes on behind the lanes
   pub stretch_goes_on : count ≡ 16 → stretch text ≡ at + count + stretch (drop (at + count) text)
   stretch_goes_on all =
       let rest : drop 16 (drop at text) ≡ drop (at + count) text = drop-drop 16 at text ∙ ap (λ n. drop (at + n) text) (sym all) in
@@ -119,18 +131,22 @@ module _ (text : List ℕ) (at : ℕ) (room : at + 16 < length text) (seen : str
 
 -- ---- one byte more
 
+-- a stretch that does not end here has one byte and more
 one_step : (t : Bool) (s : ℕ) → t ≡ false → cond t zero (suc s) ≡ suc s
 one_step true s e = cc
 one_step false s e = refl
 
+-- where symbols do not end at the first byte, the stretch is that byte and the stretch behind it
 stretch_byte : (xs : List ℕ) → 0 < length xs → ends_here xs ≡ false → stretch xs ≡ suc (stretch (drop 1 xs))
 stretch_byte [] some e = absurd (omega (arith, some))
 stretch_byte (b ∷ xs) some e = one_step (ends_here (b ∷ xs)) (stretch xs) e
 
+-- where they end at the first byte, there is no stretch
 pub stretch_none : (xs : List ℕ) → ends_here xs ≡ true → stretch xs ≡ 0
 stretch_none [] e = refl
 stretch_none (b ∷ xs) e = rw e refl
 
+-- where they do not end at the next byte of the text, it is passed
 pub stretch_one : (text : List ℕ) (at : ℕ) → at < length text → stretch text ≡ at + stretch (drop at text) → ends_here (drop at text) ≡ false
     → stretch text ≡ at + 1 + stretch (drop (at + 1) text)
 stretch_one text at inside seen e =

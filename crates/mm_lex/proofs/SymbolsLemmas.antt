@@ -23,9 +23,11 @@ record Runs (text : List ℕ) (at : ℕ) (bytes : List ℕ) : Type 0 where
   some : at < end
   are : words text (record { start = at; end = end } ∷ spans) ≡ split_of bytes
 
+-- a white byte first begins no run
 pub white_run : (at c : ℕ) (bytes : List ℕ) → is_white c ≡ true → runs_from at (c ∷ bytes) ≡ runs_from (at + 1) bytes
 white_run at c bytes e = rw e refl
 
+-- a byte that is not white begins a run, or lengthens the one behind it
 shown_run : (at b : ℕ) (bytes : List ℕ) → is_white b ≡ false → runs_from at (b ∷ bytes) ≡ with_byte at (starts_white bytes) (runs_from (at + 1) bytes)
 shown_run at b bytes e = rw e refl
 
@@ -36,20 +38,24 @@ behind_one text at b bytes e = let next : drop (1 + at) text ≡ drop (at + 1) t
     plus : (at : ℕ) → drop 1 (drop at text) ≡ drop (1 + at) text
     plus at = drop-drop 1 at text ∙ ap (λ n. drop n text) (omega arith)
 
+-- the word of a span of one byte
 word_one : (text : List ℕ) (at b : ℕ) (bytes : List ℕ) → drop at text ≡ b ∷ bytes → word text (record { start = at; end = at + 1 }) ≡ b ∷ []
 word_one text at b bytes e = let one : at + 1 - at ≡ 1 = omega arith in ap (λ n. take n (drop at text)) one ∙ ap (take 1) e
 
+-- the word of a longer span has its first byte before the word of the span one shorter
 word_more : (text : List ℕ) (at end b : ℕ) (bytes : List ℕ) → drop at text ≡ b ∷ bytes → at + 1 < end
     → word text (record { start = at; end = end }) ≡ b ∷ word text (record { start = at + 1; end = end })
 word_more text at end b bytes e long =
     let one : end - at ≡ suc (end - (at + 1)) = omega (arith, long) in
     ap (λ n. take n (drop at text)) one ∙ (ap (take (suc (end - (at + 1)))) e ∙ ap (λ r. b ∷ take (end - (at + 1)) r) (sym (behind_one text at b bytes e)))
 
+-- tidy bytes begin with a byte of a symbol
 head_byte : (c : ℕ) (bytes : List ℕ) → is_tidy (c ∷ bytes) ≡ true → is_symbol_byte c ≡ true
 head_byte c [] h = h
 head_byte c (d ∷ bytes) h = and_left (is_symbol_byte c) _ h
 
 module _ (text more : List ℕ) where
+  -- a byte before others: behind it stands a gap and the next word, or the rest of its own word
   runs_step : (at b c : ℕ) (bytes : List ℕ) → drop at text ≡ b ∷ c ∷ (bytes ++ more) → is_tidy (b ∷ c ∷ bytes) ≡ true → (t : Bool) → is_space c ≡ t
       → (t ≡ true → Runs text (at + 1 + 1) bytes) → (t ≡ false → Runs text (at + 1) (c ∷ bytes)) → Runs text at (b ∷ c ∷ bytes)
   runs_step at b c bytes e h true k gap on =
@@ -76,6 +82,7 @@ module _ (text more : List ℕ) where
             ∙ (ap (onto_first b) rest.are ∙ sym (split_byte b (c ∷ bytes) shown));
       }
 
+  -- the runs of tidy bytes, wherever they stand in a text, have the words of these bytes
   tidy_runs : (at : ℕ) (bytes : List ℕ) → drop at text ≡ bytes ++ more → is_tidy bytes ≡ true → Runs text at bytes
   tidy_runs at [] e h = cc
   tidy_runs at (b ∷ []) e h = record {
@@ -93,10 +100,12 @@ module _ (text more : List ℕ) where
 
 -- ---- runs before a white byte
 
+-- one byte before what starts white: no run of it goes on there
 no_more_runs : (at b : ℕ) (more : List ℕ) (t : Bool) → is_white b ≡ t → starts_white more ≡ true → runs_from at (b ∷ more) ≡ runs_from at (b ∷ []) ++ runs_from (at + 1) more
 no_more_runs at b more true e white = rw e refl
 no_more_runs at b more false e white = rw (e, white) refl
 
+-- the runs of bytes before what starts white, and then the runs of that
 runs_before_white : (at : ℕ) (bytes more : List ℕ) → starts_white more ≡ true → runs_from at (bytes ++ more) ≡ runs_from at bytes ++ runs_from (at + length bytes) more
 runs_before_white at [] more white = let same : at ≡ at + 0 = omega arith in ap (λ n. runs_from n more) same
 runs_before_white at (b ∷ []) more white = no_more_runs at b more (is_white b) refl white
@@ -108,10 +117,12 @@ words_of-some : (bytes : List ℕ) → is_tidy bytes ≡ true → words_of bytes
 words_of-some [] h = cc
 words_of-some (b ∷ bytes) h = refl
 
+-- a symbol is a word
 symbol_word : (w : Name) → is_symbol w ≡ true → is_word w ≡ true
 symbol_word [] h = cc
 symbol_word (b ∷ w) h = and_left (list_all is_visible (b ∷ w)) _ h
 
+-- a symbol is plain, for it has no `$`
 symbol_plain : (w : Name) → is_symbol w ≡ true → is_plain w ≡ true
 symbol_plain [] h = cc
 symbol_plain (b ∷ w) h = rw (no_dollar b (has_byte 36 w) (and_right (list_all is_visible (b ∷ w)) _ h)) refl
@@ -123,10 +134,12 @@ symbol_plain (b ∷ w) h = rw (no_dollar b (has_byte 36 w) (and_right (list_all 
         by true h = cc
         by false h = refl
 
+-- symbols are words
 pub symbols_words : (ws : List Name) → list_all is_symbol ws ≡ true → list_all is_word ws ≡ true
 symbols_words [] h = refl
 symbols_words (w ∷ ws) h = and_from _ _ (symbol_word w (and_left (is_symbol w) _ h)) (symbols_words ws (and_right (is_symbol w) _ h))
 
+-- runs whose words are symbols are plain
 symbols_plain : (text : List ℕ) (spans : List Span) → list_all is_symbol (words text spans) ≡ true → AllPlain text spans
 symbols_plain text [] h = refl
 symbols_plain text (s ∷ spans) h =
@@ -140,6 +153,7 @@ pub record IsFrontOf (text : List ℕ) (at n : ℕ) (bytes : List ℕ) : Type 0 
   pub symbols : list_all is_symbol (words_of bytes) ≡ true
   pub plain : AllPlain text spans
 
+-- the bytes of a stretch that ends before white are a front of symbols
 pub stretch_front : (text : List ℕ) (at n : ℕ) → IsClean (drop at text) → starts_white (drop at text) ≡ false → n ≡ stretch (drop at text) → 0 < n
     → at + n ≤ length text → starts_white (drop (at + n) text) ≡ true → IsFrontOf text at n (take n (drop at text))
 stretch_front text at n clean shown e some within white =

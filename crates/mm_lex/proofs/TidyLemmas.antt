@@ -27,21 +27,27 @@ is_tidy (b ∷ c ∷ bytes) = is_symbol_byte b && cond (is_space c) (is_tidy byt
 shown_byte : (b next : ℕ) → is_allowed b ≡ true → is_white b ≡ false → ends_between b next ≡ false → is_symbol_byte b ≡ true
 shown_byte b next h white goes = grind (arith, h, white, goes)
 
+-- behind a space, where symbols do not end, stands a byte above `$`
 space_byte : (c next : ℕ) → is_space c ≡ true → ends_between c next ≡ false → 36 < next
 space_byte c next e goes = grind (arith, e, goes)
 
+-- at a byte above `$` symbols do not end, and it is not white
 above_dollar : (d next : ℕ) → 36 < d → (ends_between d next ≡ false) × (is_white d ≡ false)
 above_dollar d next h = (grind (arith, h), grind (arith, h))
 
+-- a byte other than a space, where symbols do not end, is not white
 other_byte : (c next : ℕ) → is_allowed c ≡ true → is_space c ≡ false → ends_between c next ≡ false → is_white c ≡ false
 other_byte c next h e goes = grind (arith, h, e, goes)
 
+-- a byte of a symbol before tidy bytes, with or without one space between
 tidy_cons : (b c : ℕ) (bytes : List ℕ) (t : Bool) → is_space c ≡ t → is_symbol_byte b ≡ true → cond t (is_tidy bytes) (is_tidy (c ∷ bytes)) ≡ true → is_tidy (b ∷ c ∷ bytes) ≡ true
 tidy_cons b c bytes t e h k = and_from (is_symbol_byte b) _ h (ap (λ u. cond u (is_tidy bytes) (is_tidy (c ∷ bytes))) e ∙ k)
 
+-- where symbols do not end at the first byte, it belongs to the stretch
 stretch_on : (b : ℕ) (bytes : List ℕ) → ends_here (b ∷ bytes) ≡ false → stretch (b ∷ bytes) ≡ suc (stretch bytes)
 stretch_on b bytes e = rw e refl
 
+-- where they end at the first byte, the stretch is empty
 stretch_off : (b : ℕ) (bytes : List ℕ) → ends_here (b ∷ bytes) ≡ true → stretch (b ∷ bytes) ≡ zero
 stretch_off b bytes e = rw e refl
 
@@ -53,6 +59,7 @@ rest_of bytes = take (stretch bytes) bytes
 abbrev Tidies : ℕ → List ℕ → Type 0
 Tidies b bytes = is_white b ≡ false → ends_here (b ∷ bytes) ≡ false → is_tidy (b ∷ rest_of bytes) ≡ true
 
+-- at the last two bytes, the first of a symbol: their stretch is tidy
 last_two : (b c : ℕ) → is_symbol_byte b ≡ true → is_allowed c ≡ true → Tidies c [] → (t : Bool) → ends_here (c ∷ []) ≡ t → is_tidy (b ∷ rest_of (c ∷ [])) ≡ true
 last_two b c shown clean from true e = rw (stretch_off c [] e) shown
 last_two b c shown clean from false e = rw (stretch_on c [] e) (by (is_space c) refl)
@@ -61,10 +68,12 @@ last_two b c shown clean from false e = rw (stretch_on c [] e) (by (is_space c) 
     by true k = absurd (omega (arith, space_byte c 32 k e))
     by false k = tidy_cons b c [] false k shown (from (other_byte c 32 clean k e) e)
 
+-- symbols do not end at a byte above `$`, whatever follows
 goes_next : (d : ℕ) (bytes : List ℕ) → 36 < d → ends_here (d ∷ bytes) ≡ false
 goes_next d [] h = (above_dollar d 32 h).0
 goes_next d (e ∷ bytes) h = (above_dollar d e h).0
 
+-- at three bytes or more: what holds from the next one and from the one behind it, holds from here
 two_more : (b c d : ℕ) (bytes : List ℕ) → is_symbol_byte b ≡ true → is_allowed c ≡ true → Tidies c (d ∷ bytes) → Tidies d bytes
     → (t : Bool) → ends_here (c ∷ d ∷ bytes) ≡ t → is_tidy (b ∷ rest_of (c ∷ d ∷ bytes)) ≡ true
 two_more b c d bytes shown clean from behind true e = rw (stretch_off c (d ∷ bytes) e) shown
@@ -78,6 +87,7 @@ two_more b c d bytes shown clean from behind false e = rw (stretch_on c (d ∷ b
         (ap (λ n. is_tidy (take n (d ∷ bytes))) (stretch_on d bytes on) ∙ behind (above_dollar d 32 high).1 on)
     by false k = tidy_cons b c (rest_of (d ∷ bytes)) false k shown (from (other_byte c d clean k e) e)
 
+-- the stretch from a byte that is not white is tidy
 tidy_from : (b : ℕ) (bytes : List ℕ) → list_all is_allowed (b ∷ bytes) ≡ true → Tidies b bytes
 tidy_from b [] clean white goes = shown_byte b 32 (and_left (is_allowed b) _ clean) white goes
 tidy_from b (c ∷ []) clean white goes =
@@ -88,6 +98,7 @@ tidy_from b (c ∷ d ∷ bytes) clean white goes =
     two_more b c d bytes (shown_byte b c (and_left (is_allowed b) _ clean) white goes) (and_left (is_allowed c) _ next)
     (tidy_from c (d ∷ bytes) next) (tidy_from d bytes (and_right (is_allowed c) _ next)) (ends_here (c ∷ d ∷ bytes)) refl
 
+-- a stretch of a clean text that does not start white is tidy
 pub stretch_tidy : (bytes : List ℕ) → IsClean bytes → starts_white bytes ≡ false → 0 < stretch bytes → is_tidy (take (stretch bytes) bytes) ≡ true
 stretch_tidy [] clean white some = absurd (omega (arith, some))
 stretch_tidy (b ∷ bytes) clean white some = by (ends_here (b ∷ bytes)) refl
@@ -98,12 +109,15 @@ stretch_tidy (b ∷ bytes) clean white some = by (ends_here (b ∷ bytes)) refl
 
 -- ---- the words of tidy bytes
 
+-- the test for a space tells the byte
 pub space_is : (c : ℕ) → is_space c ≡ true → c ≡ 32
 space_is c e = grind (arith, e)
 
+-- a byte of a symbol is no space
 not_space : (b : ℕ) → is_symbol_byte b ≡ true → is_space b ≡ false
 not_space b h = grind (arith, h)
 
+-- a byte of a symbol is not white
 pub not_white : (b : ℕ) → is_symbol_byte b ≡ true → is_white b ≡ false
 not_white b h = grind (arith, h)
 
@@ -119,6 +133,7 @@ symbol_cons b w h k = by (is_visible b) (b == 36) (list_all is_visible w) (has_b
     by true false false ds true h k = cc
     by true false true true true h k = cc
 
+-- a byte of a symbol alone is a symbol
 symbol_one : (b : ℕ) → is_symbol_byte b ≡ true → is_symbol (b ∷ []) ≡ true
 symbol_one b h = by (is_visible b) (b == 36) h
   where
@@ -130,23 +145,29 @@ symbol_one b h = by (is_visible b) (b == 36) h
 abbrev pub split_of : List ℕ → List Name
 split_of bytes = slice_split is_space bytes
 
+-- a byte of a symbol goes to the first word
 pub split_byte : (b : ℕ) (bytes : List ℕ) → is_symbol_byte b ≡ true → split_of (b ∷ bytes) ≡ onto_first b (split_of bytes)
 split_byte b bytes h = rw (not_space b h) refl
 
+-- a space begins another word
 pub split_gap : (c : ℕ) (bytes : List ℕ) → is_space c ≡ true → split_of (c ∷ bytes) ≡ [] ∷ split_of bytes
 split_gap c bytes h = rw h refl
 
 -- the first byte, and what follows it
 module _ (b c : ℕ) (bytes : List ℕ) (tidy : is_tidy (b ∷ c ∷ bytes) ≡ true) where
+  -- the first is a byte of a symbol
   pub first_byte : is_symbol_byte b ≡ true
   first_byte = and_left (is_symbol_byte b) _ tidy
 
+  -- behind a space the bytes are tidy
   pub behind_gap : is_space c ≡ true → is_tidy bytes ≡ true
   behind_gap e = ap (λ u. cond u (is_tidy bytes) (is_tidy (c ∷ bytes))) (sym e) ∙ and_right (is_symbol_byte b) _ tidy
 
+  -- behind another byte they are tidy with it
   pub behind_byte : is_space c ≡ false → is_tidy (c ∷ bytes) ≡ true
   behind_byte e = ap (λ u. cond u (is_tidy bytes) (is_tidy (c ∷ bytes))) (sym e) ∙ and_right (is_symbol_byte b) _ tidy
 
+-- a byte of a symbol put to the first of some symbols leaves symbols
 symbols_onto : (b : ℕ) (parts : List Name) (w : Name) (ws : List Name) → parts ≡ w ∷ ws → is_symbol_byte b ≡ true → list_all is_symbol parts ≡ true → list_all is_symbol (onto_first b parts) ≡ true
 symbols_onto b parts w ws e h k =
     let these = sym (ap (list_all is_symbol) e) ∙ k in
@@ -155,6 +176,7 @@ symbols_onto b parts w ws e h k =
 abbrev AreSymbols : List ℕ → Type 0
 AreSymbols bytes = list_all is_symbol (split_of bytes) ≡ true
 
+-- .. and before bytes that are split into symbols, or before a space and such bytes
 symbols_step : (b c : ℕ) (bytes : List ℕ) → is_symbol_byte b ≡ true → (t : Bool) → is_space c ≡ t → (t ≡ true → AreSymbols bytes) → (t ≡ false → AreSymbols (c ∷ bytes))
     → list_all is_symbol (onto_first b (split_of (c ∷ bytes))) ≡ true
 symbols_step b c bytes h true e gap on = ap (λ r. list_all is_symbol (onto_first b r)) (split_gap c bytes e) ∙ and_from _ _ (symbol_one b h) (gap refl)

@@ -23,6 +23,7 @@ AreTokens-no_comment_fault text tokens offset is fault = no_fault text tokens of
 pub IsCommentFault-unique : (text : List ℕ) (a b : ℕ) → IsCommentFault text a → IsCommentFault text b → a ≡ b
 IsCommentFault-unique text a b is also = same_fault text a b (scan-stops text (runs text) a is.1) also
 
+-- each text has tokens, a text fault or a comment fault
 pub some_answer : (text : List ℕ) → SomeAnswer text
 some_answer text = by (position is_bad text) refl
   where

@@ -25,10 +25,12 @@ first_step : (t : Bool) (b : ℕ) (parts : List Name) → (x : List ℕ) × (xs 
 first_step true b parts p = ([], parts, refl)
 first_step false b parts p = (b ∷ p.0, p.1, ap (onto_first b) p.2)
 
+-- each text has a first part
 pub first_part : (text : List ℕ) → (x : List ℕ) × (xs : List Name) × (slice_split is_space text ≡ x ∷ xs)
 first_part [] = ([], [], refl)
 first_part (b ∷ text) = first_step (is_space b) b (slice_split is_space text) (first_part text)
 
+-- parts behind stay, with one byte more before the first
 split_step : (t : Bool) (b : ℕ) (parts more : List Name) (x : List ℕ) (xs : List Name) → parts ≡ x ∷ xs
     → cond t ([] ∷ (parts ++ more)) (onto_first b (parts ++ more)) ≡ cond t ([] ∷ parts) (onto_first b parts) ++ more
 split_step true b parts more x xs e = refl
@@ -42,14 +44,17 @@ slice_split-space (b ∷ text) more =
     ap (λ r. cond (is_space b) ([] ∷ r) (onto_first b r)) (slice_split-space text more)
     ∙ split_step (is_space b) b (slice_split is_space text) (slice_split is_space more) p.0 p.1 p.2
 
+-- of two that hold, the first
 pub and_left : (a b : Bool) → (a && b) ≡ true → a ≡ true
 and_left true b h = refl
 and_left false b h = cc
 
+-- of two that hold, the second
 pub and_right : (a b : Bool) → (a && b) ≡ true → b ≡ true
 and_right true b h = h
 and_right false b h = cc
 
+-- a visible byte is no space
 visible_no_space : (b : ℕ) → is_visible b ≡ true → is_space b ≡ false
 visible_no_space b h = by (is_space b) refl
   where
@@ -57,6 +62,7 @@ visible_no_space b h = by (is_space b) refl
     by true e = let is : b ≡ 32 = grind (arith, e) in absurd (true≢false (sym h ∙ ap is_visible is))
     by false e = refl
 
+-- visible bytes alone are one part
 split_visible : (w : Name) → list_all is_visible w ≡ true → slice_split is_space w ≡ w ∷ []
 split_visible [] h = refl
 split_visible (b ∷ w) h =
@@ -77,6 +83,7 @@ pub AreWords-push : (ws : List Name) (w : Name) → list_all is_word ws ≡ true
 AreWords-push [] w h k = rw k refl
 AreWords-push (v ∷ ws) w h k = rw (and_left (is_word v) (list_all is_word ws) h) (AreWords-push ws w (and_right (is_word v) (list_all is_word ws) h) k)
 
+-- a text whose length is not 0 has a byte
 pub some_by_len : (text : List ℕ) (len : ℕ) → len ≡ length text → false ≡ (len == 0) → 0 < length text
 some_by_len [] len e h = absurd (no h e)
   where
@@ -86,6 +93,7 @@ some_by_len (b ∷ text) len e h = omega arith
 
 -- ---- the words of a buffer, one after another
 
+-- one byte more, where no space stands
 whole_step : (t : Bool) (b : ℕ) (text : List ℕ) → cond (not t) (1 + position_or_len is_space text) 0 ≡ length (b ∷ text)
     → (position_or_len is_space text ≡ length text → slice_split is_space text ≡ text ∷ [])
     → cond t ([] ∷ slice_split is_space text) (onto_first b (slice_split is_space text)) ≡ (b ∷ text) ∷ []
@@ -115,6 +123,7 @@ words_of-first (b ∷ text) inside k =
 
 -- where the search for a space ends
 module _ (text : List ℕ) where
+  -- a space there: the word before it, and the words behind it
   pub at_position : (n : ℕ) → Some n ≡ position is_space text → list_all is_word (words_of text) ≡ true → words_of text ≡ take n text ∷ words_of (drop (n + 1) text)
   at_position n = by (nat_lt (position_or_len is_space text) (length text)) refl
     where
@@ -122,6 +131,7 @@ module _ (text : List ℕ) where
       by true e h k = let same : n ≡ position_or_len is_space text = cc in rw same (words_of-first text (ltb-true _ _ e) k)
       by false e h k = cc
 
+  -- no space: one word
   pub no_position : None ≡ position is_space text → 0 < length text → words_of text ≡ text ∷ []
   no_position = by (nat_lt (position_or_len is_space text) (length text)) refl
     where
@@ -146,6 +156,7 @@ split_word : (w : Name) → is_word w ≡ true → slice_split is_space w ≡ w 
 split_word [] h = cc
 split_word (b ∷ w) h = split_visible (b ∷ w) h
 
+-- words with a space between two are split into these words
 split_spaced : (w : Name) (ws : List Name) → is_word w ≡ true → list_all is_word ws ≡ true → slice_split is_space (spaced (w ∷ ws)) ≡ w ∷ ws
 split_spaced w [] h k = split_word w h
 split_spaced w (v ∷ ws) h k =
@@ -153,6 +164,7 @@ split_spaced w (v ∷ ws) h k =
     ∙ (ap (λ r. r ++ slice_split is_space (spaced (v ∷ ws))) (split_word w h)
     ∙ ap (λ r. w ∷ r) (split_spaced v ws (and_left _ _ k) (and_right _ _ k)))
 
+-- the words of a buffer that has a word are its parts
 same_words : (w : Name) (ws : List Name) → is_word w ≡ true → slice_split is_space (spaced (w ∷ ws)) ≡ w ∷ ws → words_of (spaced (w ∷ ws)) ≡ w ∷ ws
 same_words [] ws h e = cc
 same_words (b ∷ w) [] h e = e

@@ -7,7 +7,7 @@ ghost use Rattle.mm_lex.specs.Tokens.{IsClean};
 use std::simd::prelude::*;
 
 /// How many bytes are looked at together.
-const LANES: usize = 16;
+pub(crate) const LANES: usize = 16;
 
 /// How many bytes a text without a bad byte begins with that are not white.
 pub(crate) fn count_visible(text: &[u8]) -> usize

@@ -3,10 +3,8 @@ ghost use Rattle.std.specs.Prelude.{◌≡◌, ◌+◌, ◌-◌, ◌<◌, ◌≤
 ghost use Rattle.std.specs.List.{prefix_len};
 ghost use Rattle.mm_lex.specs.Stored.Stretch.{stretch, ends_here, lanes_end};
 
+use crate::lanes::LANES;
 use std::simd::prelude::*;
-
-/// How many bytes are looked at together.
-const LANES: usize = 16;
 
 /// How many bytes a text begins with that are symbols with one space between two.
 pub(crate) fn count_spaced(text: &[u8]) -> usize

@@ -18,12 +18,14 @@ use Rattle.mm_read.proofs.PlacesOver.{go-label, go-proving}
 use Rattle.mm_read.proofs.ShapeFaults.{stops_at}
 use Rattle.mm_read.proofs.FrontFaults.{Stuck, stuck, list_stops, expr_stops, step-floating_symbol, step-floating_end, go-floating_one, go-floating_two}
 
+-- behind a label and its keyword the machine is at the place of that keyword
 goes_on : (label : Name) → is_label label ≡ true → (k : Name) (p : Place) (ws : List Name) → step labelled k ≡ Some p → go between (label ∷ k ∷ ws) ≡ go p ws
 goes_on label is_one k p ws e = go-label label (k ∷ ws) is_one ∙ ap (option_and_then (λ q. go q ws)) e
 
 module _ (text : List ℕ) where
   -- ---- from a place back to an earlier one
 
+  -- a fault behind a place, after the tokens up to it, is one behind the earlier place
   pub fault_back : {from at : ℕ} {ws : List Name} (before : List Name) → HasBetween text from at ws → (fault : ReadFault) → IsFaultAfter text (before ++ ws) at fault
       → IsFaultAfter text before from fault
   fault_back before has (Text fault) is = stops_behind has fault is
@@ -51,6 +53,7 @@ module _ (text : List ℕ) where
         let r : (us : List Name) × AreBehind text end us × (tokens ≡ t ∷ us) = behind_rest has are in
         stuck (done ++ tokens) done tokens p refl goes inside (subst (Stuck p) (sym r.2) stop)
 
+    -- why no token of this kind stands there is why no statement does, where no other kind fits
     pub token_after : (number : ℕ) (fits : Name → Bool) (fault : ReadFault) → number ≡ length done + 1 → ((t : Name) → fits t ≡ false → step p t ≡ None)
         → IsTokenFault text at number fits fault → IsFaultAfter text done at fault
     token_after number fits (Text fault) long stop is = is
@@ -65,11 +68,13 @@ module _ (text : List ℕ) where
   -- ---- in a list
 
   module _ (at : ℕ) (done : List Name) (number least : ℕ) (long : number ≡ length done + 1) where
+    -- why no list up to `$.` stands there is why no statement does
     pub list_after : go between done ≡ Some (listing least) → (fault : ReadFault) → IsListFault text at number least (codes "$.") fault → IsFaultAfter text done at fault
     list_after goes (Text fault) is = is
     list_after goes (Shape token) is = λ tokens are. list_stops done tokens number least long token goes (is.stops tokens are)
     list_after goes Memory is = tt
 
+    -- .. and why none up to `$=` does
     pub expr_after : go between done ≡ Some (proving least) → (fault : ReadFault) → IsListFault text at number least (codes "$=") fault → IsFaultAfter text done at fault
     expr_after goes (Text fault) is = is
     expr_after goes (Shape token) is = λ tokens are. expr_stops done tokens number least long token goes (is.stops tokens are)
@@ -78,9 +83,11 @@ module _ (text : List ℕ) where
   -- ---- behind a label
 
   module _ (at : ℕ) (label : Name) (is_one : is_label label ≡ true) where
+    -- a label with nothing behind it: the second token is missing
     pub label_alone : AreBehind text at [] → IsFaultAfter text (label ∷ []) at (Shape 2)
     label_alone none = none_after at (label ∷ []) labelled (go-label label [] is_one) (λ bad. cc) none
 
+    -- a label with another token behind it than a keyword of labelled statements
     pub label_before : {end : ℕ} (t : Name) → HasBetween text at end (t ∷ []) → step labelled t ≡ None → IsFaultAfter text (label ∷ []) at (Shape 2)
     label_before t has stop = other_after at (label ∷ []) labelled (go-label label [] is_one) (λ bad. cc) t has stop
 
@@ -93,6 +100,7 @@ module _ (text : List ℕ) where
     constant_fault fault is =
         token_after at (label ∷ codes "$f" ∷ []) (floating 2) (goes_on label is_one (codes "$f") (floating 2) [] refl) (λ bad. cc) 3 is_symbol fault refl (λ t e. step-floating_symbol 1 t e) is
 
+    -- the constant is read, and no variable stands behind it
     pub variable_fault : {after : ℕ} (c : Name) → is_symbol c ≡ true → HasBetween text at after (c ∷ []) → (fault : ReadFault) → IsTokenFault text after 4 is_symbol fault
         → IsFaultAfter text (label ∷ codes "$f" ∷ []) at fault
     variable_fault {after} c symbol has fault is =
@@ -100,6 +108,7 @@ module _ (text : List ℕ) where
         (token_after after (label ∷ codes "$f" ∷ c ∷ []) (floating 1) (goes_on label is_one (codes "$f") (floating 2) (c ∷ []) refl ∙ go-floating_one c symbol) (λ bad. cc) 4 is_symbol fault refl
         (λ t e. step-floating_symbol 0 t e) is)
 
+    -- both symbols are read, and no `$.` stands behind them
     pub end_fault : {after behind : ℕ} (c v : Name) → is_symbol c ≡ true → is_symbol v ≡ true → HasBetween text at after (c ∷ []) → HasBetween text after behind (v ∷ [])
         → (fault : ReadFault) → IsTokenFault text behind 5 (λ w. name_eq w (codes "$.")) fault → IsFaultAfter text (label ∷ codes "$f" ∷ []) at fault
     end_fault {after} {behind} c v symbol other has next fault is =
@@ -112,6 +121,7 @@ module _ (text : List ℕ) where
     expr_fault fault is = expr_after at (label ∷ codes "$p" ∷ []) 3 1 refl (goes_on label is_one (codes "$p") (proving 1) [] refl) fault is
 
     module _ {after : ℕ} (expr : List Name) (symbols : list_all is_symbol expr ≡ true) (many : 1 ≤ length expr) (has : HasBetween text at after (expr ++ codes "$=" ∷ [])) where
+      -- the expression is read, and the tokens of the proof stop before a `$.`
       pub proof_fault : (token : ℕ) → IsListStop text after 1 0 (codes "$.") token → IsFaultAfter text (label ∷ codes "$p" ∷ []) at (Shape (3 + length expr + token))
       proof_fault token is =
           let done = label ∷ codes "$p" ∷ (expr ++ codes "$=" ∷ []) in
@@ -131,9 +141,11 @@ module _ (text : List ℕ) where
 
 -- ---- at the first token
 
+-- a first token at which no statement begins
 pub first_misfit : (text : List ℕ) (at : ℕ) (t : Name) → step between t ≡ None → IsFaultAfter text (t ∷ []) at (Shape 1)
 first_misfit text at t stop = λ tokens are. stops_at [] tokens t between refl stop
 
+-- `$c`, `$v` and `$d`: why no list stands behind the keyword
 pub keyed_list : (text : List ℕ) (at : ℕ) (t k : Name) (least : ℕ) → t ≡ k → step between k ≡ Some (listing least) → (fault : ReadFault)
     → IsListFault text at 2 least (codes "$.") fault → IsFaultAfter text (t ∷ []) at fault
 keyed_list text at t k least same e fault is =

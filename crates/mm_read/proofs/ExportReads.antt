@@ -21,9 +21,11 @@ use Rattle.mm_lex.proofs.SymbolsLemmas.{white_run}
 
 -- ---- the runs of words with a white byte behind each
 
+-- no visible byte is white
 visible_not_white : (b : ℕ) → is_visible b ≡ true → is_white b ≡ false
 visible_not_white b h = grind (arith, nat_tests, h)
 
+-- a byte of a label is visible
 label_byte_visible : (b : ℕ) → is_label_byte b ≡ true → is_visible b ≡ true
 label_byte_visible b h = grind (arith, nat_tests, h)
 
@@ -102,10 +104,12 @@ visible_allowed (b ∷ w) h =
     let parts : (is_visible b ≡ true) × (list_all is_visible w ≡ true) = and_parts (is_visible b) (list_all is_visible w) h in
     and_from (is_allowed b) (list_all is_allowed w) (ap (λ t. t || is_white b) parts.0) (visible_allowed w parts.1)
 
+-- the bytes of a word are visible
 word_visible : (w : Name) → is_word w ≡ true → list_all is_visible w ≡ true
 word_visible [] h = refl
 word_visible (b ∷ w) h = h
 
+-- a white byte is allowed
 white_allowed : (b : ℕ) → is_white b ≡ true → is_allowed b ≡ true
 white_allowed b h = grind (arith, nat_tests, h)
 
@@ -120,11 +124,13 @@ clean-laid (p ∷ laid) h =
 
 -- ---- the export form is so laid
 
+-- words with a space behind each, and a line feed behind the last
 laid_line : List Name → Laid
 laid_line [] = []
 laid_line (w ∷ []) = (w, 10) ∷ []
 laid_line (w ∷ v ∷ ws) = (w, 32) ∷ laid_line (v ∷ ws)
 
+-- a line for each statement
 laid_of : Database → Laid
 laid_of [] = []
 laid_of (s ∷ S) = laid_line (stmt_tokens s) ++ laid_of S
@@ -153,36 +159,43 @@ line-is_laid (w ∷ v ∷ ws) more h k =
 abbrev is_token : Name → Bool
 is_token w = is_word w && is_plain w
 
+-- a word without `$` begins and ends no comment
 plain_plain : (w : Name) → has_byte 36 w ≡ false → is_plain w ≡ true
 plain_plain w h = rw (plain_is_no_key w (codes "$(") h refl, plain_is_no_key w (codes "$)") h refl) refl
 
+-- visible bytes, at least one, are a word
 visible_word : (w : Name) → not (is_empty w) ≡ true → list_all is_visible w ≡ true → is_word w ≡ true
 visible_word [] some h = some
 visible_word (b ∷ w) some h = h
 
+-- a symbol is such a token
 symbol_token : (w : Name) → is_symbol w ≡ true → is_token w ≡ true
 symbol_token w h =
     let parts : ((not (is_empty w) && list_all is_visible w) ≡ true) × (not (has_byte 36 w) ≡ true) = and_parts (not (is_empty w) && list_all is_visible w) (not (has_byte 36 w)) h in
     let own : (not (is_empty w) ≡ true) × (list_all is_visible w ≡ true) = and_parts (not (is_empty w)) (list_all is_visible w) parts.0 in
     and_from (is_word w) (is_plain w) (visible_word w own.0 own.1) (plain_plain w (symbol_plain w h))
 
+-- bytes of a label are visible
 label_visible : (w : Name) → list_all is_label_byte w ≡ true → list_all is_visible w ≡ true
 label_visible [] h = refl
 label_visible (b ∷ w) h =
     let parts : (is_label_byte b ≡ true) × (list_all is_label_byte w ≡ true) = and_parts (is_label_byte b) (list_all is_label_byte w) h in
     and_from (is_visible b) (list_all is_visible w) (label_byte_visible b parts.0) (label_visible w parts.1)
 
+-- a label is such a token
 label_token : (w : Name) → is_label w ≡ true → is_token w ≡ true
 label_token w h =
     let parts : (not (is_empty w) ≡ true) × (list_all is_label_byte w ≡ true) = and_parts (not (is_empty w)) (list_all is_label_byte w) h in
     and_from (is_word w) (is_plain w) (visible_word w parts.0 (label_visible w parts.1)) (plain_plain w (label_plain w h))
 
+-- symbols are such tokens
 symbol_tokens : (ws : List Name) → list_all is_symbol ws ≡ true → list_all is_token ws ≡ true
 symbol_tokens [] h = refl
 symbol_tokens (w ∷ ws) h =
     let parts : (is_symbol w ≡ true) × (list_all is_symbol ws ≡ true) = and_parts (is_symbol w) (list_all is_symbol ws) h in
     and_from (is_token w) (list_all is_token ws) (symbol_token w parts.0) (symbol_tokens ws parts.1)
 
+-- symbols, and such tokens behind them
 then_tokens : (ws rest : List Name) → list_all is_symbol ws ≡ true → list_all is_token rest ≡ true → list_all is_token (ws ++ rest) ≡ true
 then_tokens ws rest h k = list_all-append is_token ws rest ∙ and_from (list_all is_token ws) (list_all is_token rest) (symbol_tokens ws h) k
 
@@ -224,6 +237,7 @@ all_words (w ∷ ws) h =
 
 -- ---- together
 
+-- a statement has a first token, and others behind it
 first_token : (s : Stmt) → (w : Name) × (ws : List Name) × (stmt_tokens s ≡ w ∷ ws)
 first_token Open = (codes "${", [], refl)
 first_token Close = (codes "$}", [], refl)
@@ -257,9 +271,11 @@ export-is_laid (s ∷ S) h =
     let parts : (is_shaped s ≡ true) × (list_all is_shaped S ≡ true) = and_parts (is_shaped s) (list_all is_shaped S) h in
     line-is_laid (stmt_tokens s) (laid_of S) (all_words (stmt_tokens s) (stmt-tokens s parts.0)).0 (export-is_laid S parts.1)
 
+-- the runs of the export form have the words of the statements
 export_words : (S : Database) → list_all is_shaped S ≡ true → words (export_of S) (runs (export_of S)) ≡ spelled S
 export_words S h = ap (λ text. words text (runs text)) (sym (export-laid S)) ∙ (words-laid (laid_of S) [] (export-is_laid S h) ∙ words-export S)
 
+-- the law: what is exported reads as the statements
 pub export_reads : laws.ExportReads
 export_reads S h = record {
   shaped = h;

@@ -23,6 +23,7 @@ use Rattle.mm_read.specs.Laws as laws
 
 -- ---- the runs of both texts
 
+-- the last byte of the one text, where it is white or the other starts white
 last_byte : (at b : ℕ) (other : List ℕ) (t : Bool) → is_white b ≡ t → (t || starts_white other) ≡ true
     → runs_from at (b ∷ other) ≡ runs_from at (b ∷ []) ++ runs_from (at + 1) other
 last_byte at b other true e h = rw e refl
@@ -59,14 +60,17 @@ with-starts at true spans later = (refl, omega arith)
 with-starts at false [] later = (refl, omega arith)
 with-starts at false (s ∷ spans) later = (refl, omega (arith, later))
 
+-- a first span that stands there ends behind it
 ends_behind : (at : ℕ) (spans : List Span) → StartsAt at spans → EndsBehind at spans
 ends_behind at [] starts = tt
 ends_behind at (s ∷ spans) starts = starts.1
 
+-- what ends behind a place ends behind the one before
 ends_earlier : (at : ℕ) (spans : List Span) → EndsBehind (at + 1) spans → EndsBehind at spans
 ends_earlier at [] later = tt
 ends_earlier at (s ∷ spans) later = omega (arith, later)
 
+-- one byte more before runs: the first of them ends behind it
 ends_step : (at b : ℕ) (bytes : List ℕ) (t : Bool) → is_white b ≡ t → EndsBehind (at + 1) (runs_from (at + 1) bytes) → EndsBehind at (runs_from at (b ∷ bytes))
 ends_step at b bytes true e later = rw e (ends_earlier at (runs_from (at + 1) bytes) later)
 ends_step at b bytes false e later =
@@ -84,6 +88,7 @@ abbrev span_of : ℕ → ℕ → Span
 span_of start end = record { start = start; end = end }
 
 module _ (text : List ℕ) (at b : ℕ) (bytes : List ℕ) (here : drop at text ≡ b ∷ bytes) where
+  -- the bytes behind the first
   behind : drop (at + 1) text ≡ bytes
   behind = sym (drop-drop 1 at text ∙ ap (λ n. drop n text) (omega arith)) ∙ ap (drop 1) here
 
@@ -124,17 +129,20 @@ module _ (text other : List ℕ) where
   Alike (Err m) (Err n) = Unit {0}
 
   module _ (s u : Span) (same : word text s ≡ word other u) where
+    -- a token more, the same word in both texts
     alike_more : (r t : Outcome) → Alike r t → Alike (prepend (s ∷ []) r) (prepend (u ∷ []) t)
     alike_more (Ok ts) (Ok us) are = ap (λ w. w ∷ words text ts) same ∙ ap (λ ws. word other u ∷ ws) are
     alike_more (Ok ts) (Err m) are = are
     alike_more (Err m) (Ok us) are = are
     alike_more (Err m) (Err n) are = tt
 
+    -- outside of a comment both texts answer alike, whatever the run is
     alike_outside : (a b : Bool) (r t r' t' : Outcome) → Alike r t → Alike r' t' → Alike (outside a b s r r') (outside a b u t t')
     alike_outside true b r t r' t' opened rest = opened
     alike_outside false true r t r' t' opened rest = tt
     alike_outside false false r t r' t' opened rest = alike_more r' t' rest
 
+    -- .. and inside of one
     alike_inside : (a b : Bool) (r t r' t' : Outcome) → Alike r t → Alike r' t' → Alike (inside a b s r r') (inside a b u t t')
     alike_inside true b r t r' t' closed rest = tt
     alike_inside false true r t r' t' closed rest = closed
@@ -147,6 +155,7 @@ module _ (text other : List ℕ) where
   BothOpen None (Some n) = ⊥
   BothOpen (Some m) None = ⊥
 
+  -- runs with the same words are scanned alike
   scans_alike : (spans others : List Span) (from at : Option ℕ) → BothOpen from at → words text spans ≡ words other others
       → Alike (scan text spans from) (scan other others at)
   scans_alike [] [] None None state same = refl
@@ -174,6 +183,7 @@ module _ (text other : List ℕ) where
   abbrev IsCutTo : List Span → List Name → Type 0
   IsCutTo others ws = (us : List Span) × Cuts other others us × (words other us ≡ ws)
 
+  -- where the runs of the one text are cut, those of the other are, into the same words
   same_cut : (spans tokens others : List Span) → Cuts text spans tokens → words text spans ≡ words other others → IsCutTo others (words text tokens)
   same_cut spans tokens others cut same =
       by (scan other others None) refl (subst (λ r. Alike r (scan other others None)) (scan-cut text spans tokens cut) (scans_alike spans others None None tt same))
@@ -191,17 +201,21 @@ module _ (text other : List ℕ) (apart : is_apart text other ≡ true) where
   abbrev later : List Span
   later = runs_from (length text) other
 
+  -- the words of the one text's runs are the same in both texts joined
   front : words text (runs text) ≡ words both (runs text)
   front = words-runs text [] 0 text (sym (append-nil text)) ∙ sym (words-runs both other 0 text refl)
 
+  -- .. and those of the other's, moved behind it
   back : words other (runs other) ≡ words both later
   back =
       words-runs other [] 0 other (sym (append-nil other))
       ∙ sym (words-runs both [] (length text) other (drop-append_seam text other ∙ sym (append-nil other)))
 
+  -- the runs of both texts are those of the one and those of the other behind it
   whole : runs both ≡ runs text ++ later
   whole = let none : 0 + length text ≡ length text = omega arith in runs-apart 0 text other apart ∙ ap (λ n. runs text ++ runs_from n other) none
 
+  -- the tokens of both texts are those of the one and then those of the other
   joined_tokens : (ts us : List Name) → HasTokens text ts → HasTokens other us → HasTokens both (ts ++ us)
   joined_tokens ts us has also =
       let one : IsCutTo text both (runs text) (words text has.0) = same_cut text both (runs text) has.0 (runs text) has.1.1 front in
@@ -212,6 +226,7 @@ module _ (text other : List ℕ) (apart : is_apart text other ≡ true) where
       let second : words both two.0 ≡ us = two.2 ∙ also.2 in
       (one.0 ++ two.0, (clean, cut), map-append (word both) one.0 two.0 ∙ (ap (λ r. r ++ words both two.0) first ∙ ap (λ r. ts ++ r) second))
 
+-- the law: a text behind another reads as what both read as
 pub joined_reads : laws.JoinedReads
 joined_reads text other S T reads also apart = record {
   shaped = list_all-append is_shaped S T ∙ and_from (list_all is_shaped S) (list_all is_shaped T) reads.shaped also.shaped;

@@ -34,12 +34,13 @@ module _ {text : List ℕ} where
   keyed_next key e later has list s is shaped = listed_next s later (between_as (ap (λ w. w ∷ []) e) has) list is shaped
 
   module _ {from at : ℕ} (label old : Name) (same : label ≡ old) (is : is_label old ≡ true) (later : from < at) where
-    -- `$e` and `$a`
+    -- `$e` ..
     pub essential_next : {next : ℕ} {expr : List Name} → HasBetween text from at (old ∷ codes "$e" ∷ []) → HasBetween text at next (expr ++ codes "$." ∷ []) → are_symbols expr ≡ true
         → IsNext text from (Ess label expr) next
     essential_next {expr = expr} has list symbols =
         listed_next (Ess label expr) later has list (ap (λ l. l ∷ codes "$e" ∷ (expr ++ codes "$." ∷ [])) same) (and_from _ _ (ap is_label same ∙ is) symbols)
 
+    -- .. and `$a`
     pub axiom_next : {next : ℕ} {expr : List Name} → HasBetween text from at (old ∷ codes "$a" ∷ []) → HasBetween text at next (expr ++ codes "$." ∷ []) → are_symbols expr ≡ true
         → IsNext text from (Axiom label expr) next
     axiom_next {expr = expr} has list symbols =
@@ -70,6 +71,7 @@ module _ {text : List ℕ} where
 
   -- ---- the statements so far
 
+  -- a statement more stands before the later place
   pub before_more : {at next : ℕ} {old new : Database} → AreBefore text at old → IsOneMore text at next old new → AreBefore text next new
   before_more {old = old} are more = record {
     shaped = ap (list_all is_shaped) more.whole ∙ shaped-append old (more.statement ∷ []) are.shaped (and_from _ _ more.next_is.shaped refl);
@@ -90,10 +92,12 @@ count_before text at S are n m rest all =
     let same : spelled S ++ rest.0 ≡ all.0 = behind_unique 0 whole all.1 in
     omega (arith, ap length same, length-append (spelled S) rest.0, rest.2, all.2)
 
+-- what holds of a value that was answered gives what is to hold
 pub on_ok : {A E : Type 0} {P Q : A → Type 0} (r : Result A E) → ((x : A) → P x → Q x) → IfOk r P → IfOk r Q
 on_ok (Ok x) f h = f x h
 on_ok (Err x) f h = tt
 
+-- .. and of an error
 pub on_err : {A E : Type 0} {P Q : E → Type 0} (r : Result A E) → ((x : E) → P x → Q x) → IfErr r P → IfErr r Q
 on_err (Ok x) f h = tt
 on_err (Err x) f h = f x h

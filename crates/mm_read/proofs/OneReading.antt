@@ -22,12 +22,15 @@ pub same_tokens : (text : List ℕ) (ts us : List Name) → HasTokens text ts �
 same_tokens text ts us has also = sym has.2 ∙ (ap (words text) (AreTokens-unique text has.0 also.0 has.1 also.1) ∙ also.2)
 
 module _ (text : List ℕ) (clean : IsClean text) where
+  -- the tokens behind the first place are the text's
   all_tokens : (ts : List Name) → AreBehind text 0 ts → HasTokens text ts
   all_tokens ts are = (are.0, (clean, are.1), are.2)
 
+  -- a text with tokens has no fault of comments
   no_comment_fault : (ts : List Name) (offset : ℕ) → HasTokens text ts → IsCommentFault text offset → ⊥
   no_comment_fault ts offset has is = AreTokens-no_comment_fault text has.0 offset has.1 is
 
+  -- what a clean text is refused for is a fault of it
   pub fault_is : (fault : ReadFault) → IsFaultOf text fault → IsReadFault text fault
   fault_is (Text (lex.Text offset)) is = absurd is
   fault_is (Text (lex.Comment offset)) is = ((clean, is), λ e. cc)
@@ -35,6 +38,7 @@ module _ (text : List ℕ) (clean : IsClean text) where
   fault_is (Shape token) is = (is.0, all_tokens is.0 is.1, is.2)
   fault_is Memory is = tt
 
+  -- a clean text has no bad byte
   pub no_bad_byte : {P : Type 0} (offset : ℕ) → IsFirstBadByte text offset → P
   no_bad_byte offset is = absurd (IsClean-no_fault text offset clean is)
 
@@ -74,22 +78,28 @@ module _ (text : List ℕ) (clean : IsClean text) where
 
 -- a text with a bad byte has no tokens
 module _ (text : List ℕ) (offset : ℕ) (bad : IsFirstBadByte text offset) where
+  -- whatever list they are said to be
   pub bad_no_tokens : {P : Type 0} (ts : List Name) → HasTokens text ts → P
   bad_no_tokens ts has = absurd (IsClean-no_fault text offset has.1.0 bad)
 
+  -- .. nor a fault of comments, which is one of a clean text
   pub bad_no_comment : {P : Type 0} (at : ℕ) → IsCommentFault text at → P
   bad_no_comment at is = absurd (IsClean-no_fault text offset is.0 bad)
 
 -- a text that writes statements writes these alone, and has no fault
 module _ (text : List ℕ) (T : Database) (reads : Reads text T) where
+  -- the statements are one list
   pub one_reading : (S : Database) → Reads text S → T ≡ S
   one_reading S also = one_spelling T S reads.shaped also.shaped (same_tokens text (spelled T) (spelled S) reads.tokens also.tokens)
 
+  -- each byte is allowed
   pub read_no_bad_byte : {P : Type 0} (offset : ℕ) → IsFirstBadByte text offset → P
   read_no_bad_byte offset is = bad_no_tokens text offset is (spelled T) reads.tokens
 
+  -- no comment is at fault
   pub read_no_comment_fault : {P : Type 0} (offset : ℕ) → IsCommentFault text offset → P
   read_no_comment_fault offset is = absurd (no_comment_fault text reads.tokens.1.0 (spelled T) offset reads.tokens is)
 
+  -- no token fits nowhere
   pub read_no_shape_fault : {P : Type 0} (token : ℕ) → HasShapeFault text token → P
   read_no_shape_fault token has = absurd (has.2.none T reads.shaped (same_tokens text (spelled T) has.0 reads.tokens has.1))

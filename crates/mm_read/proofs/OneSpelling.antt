@@ -101,18 +101,22 @@ front-written (Prove label expr proof) rest h =
 
 -- ---- one list of statements
 
+-- the first of a pair, where there is one
 first_of_option : {A B : Type 0} → A → Option (A × B) → A
 first_of_option x None = x
 first_of_option x (Some p) = p.0
 
+-- .. and the second
 second_of_option : {A B : Type 0} → B → Option (A × B) → B
 second_of_option x None = x
 second_of_option x (Some p) = p.1
 
+-- pairs that are one have the same first and the same second
 some_pair : {A B : Type 0} (a c : A) (b d : B) → ◌≡◌ {A = Option (A × B)} (Some (a, b)) (Some (c, d)) → (a ≡ c) × (b ≡ d)
 unfolding first_of_option second_of_option
 some_pair a c b d e = (ap (first_of_option a) e, ap (second_of_option b) e)
 
+-- a statement has a token
 pub none_spelled : (s : Stmt) (S : Database) → is_shaped s ≡ true → spelled (s ∷ S) ≡ [] → ⊥
 none_spelled s S h e = none (sym (front-written s (spelled S) h) ∙ ap front e)
   where
@@ -125,6 +129,7 @@ same_front s t rest more hs ht e =
     let both : ◌≡◌ {A = Option (Stmt × List Name)} (Some (s, rest)) (Some (t, more)) = sym (front-written s rest hs) ∙ (ap front e ∙ front-written t more ht) in
     some_pair s t rest more both
 
+-- the law: what spells the same tokens is one list of statements
 pub one_spelling : laws.OneSpelling
 one_spelling [] [] hs ht e = refl
 one_spelling [] (t ∷ T) hs ht e = absurd (none_spelled t T (and_parts (is_shaped t) (list_all is_shaped T) ht).0 (sym e))

@@ -19,9 +19,11 @@ list_few text at ws None within all = behind_few text at ws within all
 module _ {text : List ℕ} (at : ℕ) where
   -- ---- one token
 
+  -- no token is left
   pub starts_none : (fits : Name → Bool) → AreBehind text at [] → (tokens : List Name) → AreBehind text at tokens → StartsOtherwise fits tokens
   starts_none fits none tokens are = subst (StartsOtherwise fits) (behind_unique at none are) tt
 
+  -- the next token is of another kind
   pub starts_other : (fits : Name → Bool) (s : Span) → IsTokenBehind text at s → fits (word text s) ≡ false → (tokens : List Name) → AreBehind text at tokens → StartsOtherwise fits tokens
   starts_other fits s is other tokens are =
       let r : (us : List Name) × AreBehind text s.end us × (tokens ≡ word text s ∷ us) = behind_rest is.between are in

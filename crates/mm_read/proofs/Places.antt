@@ -6,8 +6,8 @@ use Rattle.std.specs.Option.{option_and_then}
 use Rattle.std.proofs.Common.{sym, ◌∙◌, ap, arith, refl, subst}
 use Rattle.std.proofs.lemmas.Bool.{and_parts}
 use Rattle.std.proofs.lemmas.Option.{option_and_then_some}
-use Rattle.std.proofs.lemmas.Slice.Eq.{bytes_eq-Decides}
 use Rattle.mm_lex.specs.Alphabet.{Name, name_eq, is_symbol, is_label}
+pub use Rattle.mm_lex.proofs.NameLemmas.{same_name as same}
 use Rattle.mm_read.specs.declared.stmt.Stmt.{Stmt}
 use Rattle.mm_read.specs.declared.stmt.Stmt.TheVariants.{Open, Close, Const, Var, Disj, Float, Ess, Axiom, Prove}
 use Rattle.mm_read.specs.Statements.{Database, AreShaped, is_shaped, stmt_tokens, spelled}
@@ -91,6 +91,7 @@ labelled_follows make label k tokens shaped tokens_of (ws, S, all, many, hS, e) 
     add (make ws) S (label ∷ k ∷ tokens) (shaped ws all many) hS
     (ap (λ r. r ++ spelled S) (tokens_of ws) ∙ ap (λ r. label ∷ k ∷ r) (append_middle ws (codes "$.") [] (spelled S) ∙ e))
 
+-- `$f` behind a label, with two symbols
 float_follows : (label : Name) (tokens : List Name) → is_label label ≡ true → CanFollow (floating 2) tokens → CanFollow between (label ∷ codes "$f" ∷ tokens)
 float_follows label tokens h ([], S, all, two, hS, e) = absurd (omega (arith, two))
 float_follows label tokens h (c ∷ [], S, all, two, hS, e) = absurd (omega (arith, two))
@@ -100,6 +101,7 @@ float_follows label tokens h (c ∷ v ∷ [], S, all, two, hS, e) =
     add (Float label c v) S (label ∷ codes "$f" ∷ tokens) (rw (h, c_parts.0) v_parts.0) hS (ap (λ r. label ∷ codes "$f" ∷ r) e)
 float_follows label tokens h (c ∷ v ∷ u ∷ ws, S, all, two, hS, e) = absurd (omega (arith, two))
 
+-- `$p` behind a label, with an expression and a proof
 prove_follows : (label : Name) (tokens : List Name) → is_label label ≡ true → CanFollow (proving 1) tokens → CanFollow between (label ∷ codes "$p" ∷ tokens)
 prove_follows label tokens h (ws, proof, S, all, all_proof, many, hS, e) =
     add (Prove label ws proof) S (label ∷ codes "$p" ∷ tokens) (rw (h, are_symbols_of ws all many) all_proof) hS
@@ -107,14 +109,12 @@ prove_follows label tokens h (ws, proof, S, all, all_proof, many, hS, e) =
 
 -- ---- a step back
 
-pub same : (t k : Name) → name_eq t k ≡ true → t ≡ k
-same t k h = (bytes_eq-Decides t k).0 h
-
 -- a place that is one of two, by a test
 chosen : {P : Type 0} (b : Bool) (q p : Place) (o : Option Place) → cond b (Some q) o ≡ Some p → (b ≡ true → q ≡ p → P) → (o ≡ Some p → P) → P
 chosen true q p o e then_so else_so = then_so refl cc
 chosen false q p o e then_so else_so = else_so e
 
+-- a test that fails leads to no place
 no_place : {P : Type 0} (p : Place) → ◌≡◌ {A = Option Place} None (Some p) → P
 no_place p e = absurd (none e)
   where
@@ -134,30 +134,39 @@ module _ (t : Name) (p : Place) (tokens : List Name) (after : CanFollow p tokens
   symbol r q o e written = chosen (is_symbol t) q p o e (λ is at. written is (subst (λ x. CanFollow x tokens) (sym at) after))
 
 module _ (t : Name) (tokens : List Name) (is : is_symbol t ≡ true) where
+  -- one symbol more, of those that a list needs
   listing_more : (n : ℕ) → CanFollow (listing n) tokens → CanFollow (listing (suc n)) (t ∷ tokens)
   listing_more n (ws, S, all, many, hS, e) = (t ∷ ws, S, rw is all, omega (arith, many), hS, ap (λ r. t ∷ r) e)
 
+  -- one symbol more, of a list that needs none
   listing_any : CanFollow (listing 0) tokens → CanFollow (listing 0) (t ∷ tokens)
   listing_any (ws, S, all, many, hS, e) = (t ∷ ws, S, rw is all, omega arith, hS, ap (λ r. t ∷ r) e)
 
+  -- one symbol more of a `$f`
   floating_more : (n : ℕ) → CanFollow (floating n) tokens → CanFollow (floating (suc n)) (t ∷ tokens)
   floating_more n (ws, S, all, many, hS, e) = (t ∷ ws, S, rw is all, omega (arith, many), hS, ap (λ r. t ∷ r) e)
 
+  -- one symbol more, of those that an expression needs
   proving_more : (n : ℕ) → CanFollow (proving n) tokens → CanFollow (proving (suc n)) (t ∷ tokens)
   proving_more n (ws, proof, S, all, all_proof, many, hS, e) = (t ∷ ws, proof, S, rw is all, all_proof, omega (arith, many), hS, ap (λ r. t ∷ r) e)
 
+  -- one symbol more, of an expression that needs none
   proving_any : CanFollow (proving 0) tokens → CanFollow (proving 0) (t ∷ tokens)
   proving_any (ws, proof, S, all, all_proof, many, hS, e) = (t ∷ ws, proof, S, rw is all, all_proof, omega arith, hS, ap (λ r. t ∷ r) e)
 
+-- `$.` ends a list, and statements follow
 list_ends : (tokens : List Name) → CanFollow between tokens → CanFollow (listing 0) (codes "$." ∷ tokens)
 list_ends tokens (S, hS, e) = ([], S, refl, omega arith, hS, ap (λ r. codes "$." ∷ r) e)
 
+-- `$.` ends a `$f`
 float_ends : (tokens : List Name) → CanFollow between tokens → CanFollow (floating 0) (codes "$." ∷ tokens)
 float_ends tokens (S, hS, e) = ([], S, refl, refl, hS, ap (λ r. codes "$." ∷ r) e)
 
+-- `$=` ends an expression, and a proof follows
 proof_begins : (tokens : List Name) → CanFollow (listing 0) tokens → CanFollow (proving 0) (codes "$=" ∷ tokens)
 proof_begins tokens (proof, S, all, many, hS, e) = ([], proof, S, refl, all, omega arith, hS, ap (λ r. codes "$=" ∷ r) e)
 
+-- what can follow behind a token can follow before it, with the token in front
 back : (q : Place) (t : Name) (p : Place) (tokens : List Name) → step q t ≡ Some p → CanFollow p tokens → CanFollow q (t ∷ tokens)
 back between t p tokens e after =
     keyword t p tokens after between (codes "${") between _ e (λ (S, hS, is). add Open S (codes "${" ∷ tokens) refl hS (ap (λ r. codes "${" ∷ r) is)) (λ e1.
@@ -196,6 +205,7 @@ go_back q (t ∷ xs) p tokens e after =
 
 -- ---- every place can be left
 
+-- as many symbols as asked for
 symbols : ℕ → List Name
 symbols zero = []
 symbols (suc n) = codes "a" ∷ symbols n
@@ -210,6 +220,7 @@ unfolding symbols
 length-symbols zero = refl
 length-symbols (suc n) = omega (arith, length-symbols n)
 
+-- each place is left by some tokens
 leaves : (q : Place) → (tokens : List Name) × CanFollow q tokens
 leaves between = ([], ([], refl, refl))
 leaves labelled = (codes "$a" ∷ codes "a" ∷ codes "$." ∷ [], λ label h. (Axiom label (codes "a" ∷ []) ∷ [], rw h refl, refl))

@@ -51,10 +51,12 @@ go-proving (suc n) (w ∷ ws) tokens h many =
     let parts : (is_symbol w ≡ true) × (list_all is_symbol ws ≡ true) = and_parts (is_symbol w) (list_all is_symbol ws) h in
     ap (λ b. option_and_then (λ p. go p (ws ++ tokens)) (cond b (Some (proving n)) None)) parts.0 ∙ go-proving n ws tokens parts.1 (omega (arith, many))
 
+-- one or more symbols are at least one
 many_of : (ws : List Name) → are_symbols ws ≡ true → 1 ≤ length ws
 many_of [] h = absurd (true≢false (sym h))
 many_of (w ∷ ws) h = omega arith
 
+-- two or more are at least two
 two_of : (ws : List Name) → has_two ws ≡ true → 2 ≤ length ws
 two_of [] h = absurd (true≢false (sym h))
 two_of (w ∷ []) h = absurd (true≢false (sym h))

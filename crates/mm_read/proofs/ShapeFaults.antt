@@ -14,15 +14,18 @@ use Rattle.mm_read.proofs.PlacesOver.{go-spelled}
 
 -- the machine goes on over the beginning of a list of statements
 module _ (xs rest : List Name) (S : Database) (shaped : list_all is_shaped S ≡ true) (whole : spelled S ≡ xs ++ rest) where
+  -- behind what it went over, the rest brings it to where statements may begin
   goes_over : option_and_then (λ p. go p rest) (go between xs) ≡ Some between
   goes_over = sym (go-append between xs rest) ∙ (ap (go between) (sym whole ∙ sym (append-nil (spelled S))) ∙ go-spelled S [] shaped)
 
+  -- so it does not stop there
   no_stop : go between xs ≡ None → ⊥
   no_stop e = none (sym goes_over ∙ ap (option_and_then (λ p. go p rest)) e)
     where
       none : ◌≡◌ {A = Option Place} (Some between) None → ⊥
       none bad = cc
 
+-- a token behind those that are done, or before the rest
 one_more : (done rest : List Name) (t : Name) → (done ++ t ∷ []) ++ rest ≡ done ++ t ∷ rest
 one_more done rest t = append_assoc done (t ∷ []) rest
 
@@ -62,6 +65,7 @@ ends_inside done p e inside = record {
 abbrev Answer : List Name → Type 0
 Answer tokens = ((S : Database) × AreShaped S × (spelled S ≡ tokens)) ⊎ ((token : ℕ) × IsShapeFault tokens token)
 
+-- where the tokens end: statements, or a fault one behind the last
 at_end : (done : List Name) (p : Place) → go between done ≡ Some p → Answer done
 at_end done between e = let back = go_back between done between [] e ([], refl, refl) in inl (back.0, back.1, back.2 ∙ append-nil done)
 at_end done labelled e = inr (length done + 1, ends_inside done labelled e (λ bad. cc))
@@ -69,6 +73,7 @@ at_end done (listing n) e = inr (length done + 1, ends_inside done (listing n) e
 at_end done (floating n) e = inr (length done + 1, ends_inside done (floating n) e (λ bad. cc))
 at_end done (proving n) e = inr (length done + 1, ends_inside done (proving n) e (λ bad. cc))
 
+-- token by token: the machine ends, or stops at the fault
 walk : (rest done : List Name) (p : Place) → go between done ≡ Some p → Answer (done ++ rest)
 walk [] done p e = subst Answer (sym (append-nil done)) (at_end done p e)
 walk (t ∷ rest) done p e = by (λ q is. walk rest (done ++ t ∷ []) q is) (step p t) refl
@@ -80,6 +85,7 @@ walk (t ∷ rest) done p e = by (λ q is. walk rest (done ++ t ∷ []) q is) (st
     by on None is = inr (length done + 1, stops_at done rest t p e is)
     by on (Some q) is = subst Answer (one_more done rest t) (on q (more (Some q) is))
 
+-- the law: tokens spell statements or have a shape fault
 pub spelled_or_faulty : laws.SpelledOrFaulty
 spelled_or_faulty tokens = walk tokens [] between refl
 
@@ -89,6 +95,7 @@ spelled_or_faulty tokens = walk tokens [] between refl
 pub goes_on_before : (xs ys : List Name) → CanGoOn (xs ++ ys) → CanGoOn xs
 goes_on_before xs ys on = record { statements = on.statements; rest = ys ++ on.rest; shaped = on.shaped; whole = on.whole ∙ append_assoc xs ys on.rest }
 
+-- the first elements of a list begin with fewer of them
 take_split : {A : Type 0} (t u : ℕ) (xs : List A) → t ≤ u → (ys : List A) × (take u xs ≡ take t xs ++ ys)
 take_split zero u xs h = (take u xs, refl)
 take_split (suc t) zero xs h = absurd (omega (arith, h))
@@ -113,6 +120,7 @@ not_earlier tokens t u a b earlier = by_here a.here
     by_here (inl stop) = stop on
     by_here (inr is) = past is b.here
 
+-- the law: tokens have one shape fault
 pub one_shape_fault : laws.OneShapeFault
 one_shape_fault tokens t u a b = by (nat_lt t u) (nat_lt u t) refl refl
   where

@@ -66,6 +66,7 @@ fault_within tokens token fault = by fault.here
     by (inr end) = omega (arith, end)
 
 module _ (S : Database) (shaped : list_all is_shaped S ≡ true) (rest : List Name) where
+  -- what can go on can go on behind statements
   forth : (ts : List Name) → CanGoOn ts → CanGoOn (spelled S ++ ts)
   forth ts on = record {
     statements = S ++ on.statements;
@@ -74,6 +75,7 @@ module _ (S : Database) (shaped : list_all is_shaped S ≡ true) (rest : List Na
     whole = spelled-append S on.statements ∙ (ap (λ r. spelled S ++ r) on.whole ∙ sym (append_assoc (spelled S) ts on.rest));
   }
 
+  -- what can go on behind statements can go on without them
   back : (ts : List Name) → CanGoOn (spelled S ++ ts) → CanGoOn ts
   back ts on =
       let found : (U : Database) × (list_all is_shaped U ≡ true) × (spelled U ≡ ts ++ on.rest) = cut S on.statements (ts ++ on.rest) shaped on.shaped (on.whole ∙ append_assoc (spelled S) ts on.rest) in

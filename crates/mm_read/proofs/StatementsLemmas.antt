@@ -11,6 +11,7 @@ use Rattle.mm_read.specs.Statements.{are_symbols, has_two}
 pub symbol_plain : (w : Name) → is_symbol w ≡ true → has_byte 36 w ≡ false
 symbol_plain w h = not-true (has_byte 36 w) (and_parts (not (is_empty w) && list_all is_visible w) (not (has_byte 36 w)) h).1
 
+-- no byte of a label is a `$`
 label_byte : (c : ℕ) → is_label_byte c ≡ true → (c == 36) ≡ false
 label_byte c h = by (c == 36) refl
   where
@@ -18,6 +19,7 @@ label_byte c h = by (c == 36) refl
     by true e = let is : c ≡ 36 = grind (arith, e) in absurd (true≢false (sym h ∙ ap is_label_byte is))
     by false e = refl
 
+-- bytes of a label have no `$`
 label_bytes : (w : Name) → list_all is_label_byte w ≡ true → has_byte 36 w ≡ false
 label_bytes [] h = refl
 label_bytes (c ∷ w) h =
@@ -42,6 +44,7 @@ pub are_symbols_of : (ws : List Name) → list_all is_symbol ws ≡ true → 1 �
 are_symbols_of [] h n = absurd (omega (arith, n))
 are_symbols_of (w ∷ ws) h n = h
 
+-- two or more symbols, by their number
 pub has_two_of : (ws : List Name) → 2 ≤ length ws → has_two ws ≡ true
 has_two_of [] n = absurd (omega (arith, n))
 has_two_of (w ∷ []) n = absurd (omega (arith, n))

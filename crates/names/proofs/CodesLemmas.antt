@@ -3,20 +3,14 @@ use Rattle.std.specs.Prelude.{◌≡◌, ℕ, zero, suc, ◌+◌, ◌<◌, Bool,
 use Rattle.std.specs.List.{list_any, position_or_len, prefix_len}
 use Rattle.std.proofs.Common.{sym, ◌∙◌, ap, true≢false, arith, length-append}
 use Rattle.std.proofs.lemmas.List.Quantifiers.{position-Some}
-use Rattle.std.proofs.lemmas.Slice.Eq.{bytes_eq-Decides}
 use Rattle.std.proofs.lemmas.Bool.{or_right}
 use Rattle.mm_lex.specs.Alphabet.{Name, name_eq, has_name}
+pub use Rattle.mm_lex.proofs.NameLemmas.{name_same, same_name}
 use Rattle.names.specs.Codes.{name_at, code_of, AreDistinct, number_in}
 
 pub list_any-map : {A B : Type 0} (f : A → B) (p : B → Bool) (xs : List A) → list_any (λ a. p (f a)) xs ≡ list_any p (map f xs)
 list_any-map f p [] = refl
 list_any-map f p (x ∷ xs) = ap (λ r. p (f x) || r) (list_any-map f p xs)
-
-pub name_same : (x : Name) → name_eq x x ≡ true
-name_same x = (bytes_eq-Decides x x).1 refl
-
-pub same_name : (x y : Name) → name_eq x y ≡ true → x ≡ y
-same_name x y h = (bytes_eq-Decides x y).0 h
 
 pub name_eq-comm : (x y : Name) → name_eq x y ≡ name_eq y x
 name_eq-comm x y = by (name_eq x y) (name_eq y x) refl refl
@@ -27,10 +21,12 @@ name_eq-comm x y = by (name_eq x y) (name_eq y x) refl refl
     by true false p q = absurd (true≢false (sym (name_same x) ∙ (ap (λ z. name_eq z x) (same_name x y p) ∙ q)))
     by false true p q = absurd (true≢false (sym (name_same y) ∙ (ap (λ z. name_eq z y) (same_name y x q) ∙ p)))
 
+-- a search for the first that passes, where the first does
 first_step : (b : Bool) (r : ℕ) → b ≡ true → cond (not b) (1 + r) 0 ≡ 0
 first_step true r h = refl
 first_step false r h = cc
 
+-- .. and where it does not
 later_step : (b : Bool) (r n : ℕ) → b ≡ false → r ≡ n → cond (not b) (1 + r) 0 ≡ suc n
 later_step true r n h e = cc
 later_step false r n h e = grind (arith, e)
@@ -90,6 +86,7 @@ added-name old new x n e h =
     last [] y = refl
     last (z ∷ names) y = last names y
 
+-- one element more: the search ends before the end where this one passes, or it did before
 pub lt_step : (b : Bool) (r l : ℕ) (q : Bool) → nat_lt r l ≡ q → nat_lt (cond (not b) (1 + r) 0) (suc l) ≡ (b || q)
 lt_step true r l q h = grind (arith)
 lt_step false r l true h = grind (arith, h)
@@ -99,10 +96,12 @@ pub lt-list_any : {A : Type 0} (p : A → Bool) (xs : List A) → nat_lt (positi
 lt-list_any p [] = refl
 lt-list_any p (x ∷ xs) = lt_step (p x) (prefix_len (λ a. not (p a)) xs) (length xs) (list_any p xs) (lt-list_any p xs)
 
+-- what a test gave in place of nothing passed the test
 some_cond : {A : Type 0} (b : Bool) (x y : A) → cond b (Some x) None ≡ Some y → (b ≡ true) × (x ≡ y)
 some_cond true x y h = (refl, cc)
 some_cond false x y h = cc
 
+-- where it gave nothing, the test failed
 none_cond : {A : Type 0} (b : Bool) (x : A) → cond b (Some x) None ≡ None → b ≡ false
 none_cond true x h = cc
 none_cond false x h = refl

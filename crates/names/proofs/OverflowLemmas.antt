@@ -20,10 +20,12 @@ use Rattle.names.specs.declared.keys.TheConstants.{LONG}
 use Rattle.names.specs.declared.overflow.Overflow.{Overflow}
 use Rattle.names.proofs.KeysLemmas.{key-same}
 
+-- an update keeps what is looked up by another key
 pub keeps : {K X : Type 0} (eq : K → K → Bool) (test : K → Bool) (old new : List (K × X)) → KeepsOthers eq test old new → (other : K → Bool) → IsKeyTest eq other → AreApart test other → lookup other new ≡ lookup other old
 unfolding KeepsOthers
 keeps eq test old new h = h
 
+-- what compares equal to the one text does not to another
 pub apart : (xs ys zs : List ℕ) → ys ≢ xs → is_eq (slice_cmp nat_cmp xs zs) ≡ true → is_eq (slice_cmp nat_cmp ys zs) ≡ false
 apart xs ys zs ne e = by (is_eq (slice_cmp nat_cmp ys zs)) (sym (is_eq-slice_cmp ys zs))
   where

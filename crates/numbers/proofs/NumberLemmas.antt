@@ -6,6 +6,7 @@ use Rattle.std.proofs.lemmas.Bool.{lt-ltb, le-ltb}
 use Rattle.std.proofs.lemmas.List.{drop_all}
 use Rattle.numbers.specs.Numbers.{number_from}
 
+-- a test that leads to nothing on both arms
 none_then : (b : Bool) (x : Option ℕ) → (b ≡ true → x ≡ None) → (if b then x else None) ≡ None
 none_then true x h = h refl
 none_then false x h = refl

@@ -2,11 +2,12 @@
 use Rattle.std.proofs.Common.{◌≡◌, ℕ, zero, suc, ◌<◌, Bool, true, false, cond, not, ◌&&◌, ◌||◌, List, [], ◌∷◌, ◌++◌, map, replicate, length, slice_set, slice_get, refl, sym, ◌∙◌, ap, arith, append-nil, Some, true≢false}
 use Rattle.mm_lex.specs.Alphabet.{Name, name_eq, has_name}
 use Rattle.names.specs.Codes.{name_at, code_of, AreDistinct, AreNamed}
-use Rattle.names.proofs.CodesLemmas.{name_same, same_name, name_eq-comm, has-at, code-name}
+use Rattle.mm_lex.proofs.NameLemmas.{name_same, same_name}
+use Rattle.names.proofs.CodesLemmas.{name_eq-comm, has-at, code-name}
 use Rattle.names.proofs.AddedLemmas.{has_name-append}
-use Rattle.std.specs.Prelude.{slice_index_or, ◌≤◌, ◌⊎◌}
+use Rattle.std.specs.Prelude.{slice_index_or, ◌≤◌}
 use Rattle.std.proofs.Common.{inl, inr}
-use Rattle.std.proofs.lemmas.Bool.{or_parts, or_right}
+use Rattle.std.proofs.lemmas.Bool.{or_parts, or_right, cases_lt}
 use Rattle.scope.specs.Legal.{all_different}
 use Rattle.offence.specs.Offends.{IsTwice}
 use Rattle.offence.specs.Marks.{marked}
@@ -42,6 +43,7 @@ marked-absent w v (x ∷ names) (m ∷ marks) h =
     let parts : (name_eq w x ≡ false) × (has_name w names ≡ false) = or_parts (name_eq w x) (has_name w names) h in
     ap (λ b. cond b v m ∷ marked (λ x. name_eq x w) v names marks) (name_eq-comm x w ∙ parts.0) ∙ ap (λ l. m ∷ l) (marked-absent w v names marks parts.1)
 
+-- the mark of one name is set at the place where the name stands
 at_place : (w : Name) (v : Bool) (names : List Name) (marks : List Bool) (n : ℕ) → AreDistinct names → n < length names → name_at names n ≡ w → length marks ≡ length names
     → marked (λ x. name_eq x w) v names marks ≡ slice_set marks n v
 at_place w v [] marks n d h e l = absurd (omega (arith, h))
@@ -71,6 +73,7 @@ pub map-same : (f g : Name → Bool) → ((x : Name) → f x ≡ g x) → (names
 map-same f g same [] = refl
 map-same f g same (x ∷ names) = ap (λ b. b ∷ map f names) (same x) ∙ ap (λ l. g x ∷ l) (map-same f g same names)
 
+-- marks that are all alike, as a map
 all_alike : (b : Bool) (names : List Name) → replicate (length names) b ≡ map (λ (x : Name). b) names
 all_alike b [] = refl
 all_alike b (x ∷ names) = ap (λ l. b ∷ l) (all_alike b names)
@@ -98,6 +101,7 @@ marked-three p q r v names marks =
 
 -- ---- reading a mark
 
+-- the mark at a name's code is what the test says of the name
 pub mark_is : (t : Name → Bool) (names : List Name) (marks : List Bool) (w : Name) (n : ℕ) → code_of names w ≡ Some n → marks ≡ map t names → slice_index_or marks n false ≡ t w
 mark_is t names marks w n c e = let at = code-name names w n c in ap (λ m. slice_index_or m n false) e ∙ (read names n at.0 ∙ ap t at.1)
   where
@@ -108,18 +112,13 @@ mark_is t names marks w n c e = let at = code-name names w n c in ap (λ m. slic
 
 -- ---- names with a code
 
-low_or_not : (n m : ℕ) → (n < m) ⊎ (m ≤ n)
-low_or_not n zero = inr (omega arith)
-low_or_not zero (suc m) = inl (omega arith)
-low_or_not (suc n) (suc m) = elim (low_or_not n m) [ inl h ↦ inl (omega (arith, h)) | inr h ↦ inr (omega (arith, h)) ]
-
 -- a name that is given a code has one, and the others keep theirs
 coded : (old new : List Name) (x w : Name) (n : ℕ) → (n < length new) × (name_at new n ≡ w) → (n < length old → new ≡ old) → (length old ≤ n → new ≡ old ++ w ∷ [])
     → (has_name x old || name_eq x w) ≡ true → has_name x new ≡ true
 coded old new x w n at same more h = by (name_eq x w) refl
   where
     kept : has_name x old ≡ true → has_name x new ≡ true
-    kept k = elim (low_or_not n (length old)) [
+    kept k = elim (cases_lt n (length old)) [
       | inl low ↦ ap (has_name x) (same low) ∙ k
       | inr high ↦ ap (has_name x) (more high) ∙ (has_name-append x old (w ∷ []) ∙ ap (λ b. b || has_name x (w ∷ [])) k)
     ]
@@ -132,6 +131,7 @@ coded old new x w n at same more h = by (name_eq x w) refl
     by true e = has-at new x n at.0 (at.1 ∙ sym (same_name x w e))
     by false e = kept (or_no (has_name x old) ∙ (ap (λ b. has_name x old || b) (sym e) ∙ h))
 
+-- a name that has a code or is still to get one does so also when the next has got its own
 pub coded_first : (old new rest : List Name) (x w : Name) (n : ℕ) → (n < length new) × (name_at new n ≡ w) → (n < length old → new ≡ old) → (length old ≤ n → new ≡ old ++ w ∷ [])
     → (has_name x old || has_name x (w ∷ rest)) ≡ true → (has_name x new || has_name x rest) ≡ true
 coded_first old new rest x w n at same more h = by (has_name x rest) refl
@@ -144,6 +144,7 @@ coded_first old new rest x w n at same more h = by (has_name x rest) refl
         no true b e = refl
         no false b e = e
 
+-- where none is left, each has a code
 pub all_coded : (names words rest : List Name) (x : Name) → rest ≡ [] → (has_name x names || has_name x rest) ≡ true → has_name x names ≡ true
 all_coded names words rest x e h = or_no (has_name x names) ∙ (ap (λ r. has_name x names || has_name x r) (sym e) ∙ h)
   where
@@ -151,23 +152,28 @@ all_coded names words rest x e h = or_no (has_name x names) ∙ (ap (λ r. has_n
     or_no true = refl
     or_no false = refl
 
+-- the next of the names that have codes has one
 pub first_coded : (names left rest : List Name) (w : Name) → AreNamed names left → left ≡ w ∷ rest → has_name w names ≡ true
 first_coded names left rest w named e = named w (ap (has_name w) e ∙ ap (λ b. b || has_name w rest) (name_same w))
 
+-- the others of them have codes too
 pub rest_coded : (names left rest : List Name) (w : Name) → AreNamed names left → left ≡ w ∷ rest → AreNamed names rest
 rest_coded names left rest w named e = λ x h. named x (ap (has_name x) e ∙ or_right (name_eq x w) (has_name x rest) h)
 
 -- ---- the first that stands twice
 
+-- an element of the first of two lists, by its place
 got_before : (X ys : List Name) (n : ℕ) → n < length X → slice_get (X ++ ys) n ≡ Some (name_at X n)
 got_before [] ys n h = absurd (omega (arith, h))
 got_before (x ∷ X) ys zero h = refl
 got_before (x ∷ X) ys (suc n) h = got_before X ys n (omega (arith, h))
 
+-- the first element behind a list, by the length of that list
 got_behind : (X rest : List Name) (w : Name) → slice_get (X ++ w ∷ rest) (length X) ≡ Some w
 got_behind [] rest w = refl
 got_behind (x ∷ X) rest w = got_behind X rest w
 
+-- a name that is met again, at a place of those before it, stands twice
 pub again : (X rest words : List Name) (w : Name) (first second : ℕ) → X ++ (w ∷ rest) ≡ words → second ≡ length X → first < second → name_at X first ≡ w → IsTwice words first second
 again X rest words w first second split count low is = (
   low,
@@ -178,10 +184,12 @@ again X rest words w first second split count low is = (
   },
 )
 
+-- distinct names are all different
 differ : (names : List Name) → AreDistinct names → all_different names ≡ true
 differ [] d = refl
 differ (x ∷ names) d = ap (λ b. not b && all_different names) d.0 ∙ differ names d.1
 
+-- where none is left and none was met again, the names are all different
 pub none_again : (names left words : List Name) → names ++ left ≡ words → left ≡ [] → AreDistinct names → all_different words ≡ true
 none_again names left words split e d =
     ap all_different (sym split ∙ (ap (λ r. names ++ r) e ∙ append-nil names)) ∙ differ names d

@@ -24,6 +24,7 @@ use Rattle.scope.proofs.LegalLemmas.{or_comm}
 
 -- ---- lists and tests
 
+-- where no element fails a test, each passes it
 none_all : {A : Type 0} (t p : A → Bool) → ((x : A) → p x ≡ not (t x)) → (xs : List A) → list_any t xs ≡ false → list_all p xs ≡ true
 none_all t p same [] h = refl
 none_all t p same (x ∷ xs) h = by (t x) refl (list_any t xs) refl (none_all t p same xs)
@@ -33,6 +34,7 @@ none_all t p same (x ∷ xs) h = by (t x) refl (list_any t xs) refl (none_all t 
     by false e true f rest = absurd (true≢false (sym (ap (λ y. y || list_any t xs) e ∙ f) ∙ h))
     by false e false f rest = ap (λ y. y && list_all p xs) (same x ∙ ap not e) ∙ rest f
 
+-- one of a list passes the one test or the other where one passes either
 any_or : {A : Type 0} (p q r : A → Bool) → ((x : A) → r x ≡ (p x || q x)) → (xs : List A) → (list_any p xs || list_any q xs) ≡ list_any r xs
 any_or p q r same [] = refl
 any_or p q r same (x ∷ xs) = swap (p x) (q x) (list_any p xs) (list_any q xs) ∙ (ap (λ b. b || (list_any p xs || list_any q xs)) (sym (same x)) ∙ ap (λ b. r x || b) (any_or p q r same xs))
@@ -43,22 +45,27 @@ any_or p q r same (x ∷ xs) = swap (p x) (q x) (list_any p xs) (list_any q xs) 
     swap false true false d = refl
     swap false false c d = refl
 
+-- the brackets of three tests moved to the right
 or_left : (a b c : Bool) → ((a || b) || c) ≡ (a || (b || c))
 or_left true b c = refl
 or_left false b c = refl
 
+-- a statement carries or declares the name where it was a symbol or a label before
 named_is : (S : Database) (x : Name) → (was_symbol S x || was_label S x) ≡ list_any (meets part.Named x) S
 named_is S x = any_or (λ s. has_name x (constants s) || has_name x (variables s)) (λ s. has_label x (label_of s)) (meets part.Named x) (λ s. or_comm (has_label x (label_of s)) (has_name x (constants s) || has_name x (variables s))) S
 
+-- .. and as label or constant where it is a constant or was a label before
 fixed_is : (S : Database) (x : Name) → (is_constant S x || was_label S x) ≡ list_any (meets part.Fixed x) S
 fixed_is S x = any_or (λ s. has_name x (constants s)) (λ s. has_label x (label_of s)) (meets part.Fixed x) (λ s. or_comm (has_label x (label_of s)) (has_name x (constants s))) S
 
 -- ---- witnesses
 
+-- where a search must not come back empty, what it finds is a witness
 some_witness : (Q : Type 0) (R P : Witness → Type 0) → (Q → ⊥) → ((w : Witness) → R w → P w) → (found : Option Witness) → MatchOption found Q R → IsSomeAnd found P
 some_witness Q R P not on None told = absurd (not told)
 some_witness Q R P not on (Some w) told = on w told
 
+-- a test does not both hold and fail
 contradict : {b : Bool} → b ≡ true → b ≡ false → ⊥
 contradict t f = true≢false (sym t ∙ f)
 
@@ -92,6 +99,7 @@ by_symbol S s rule t pass expr r keeps_is same is told broken =
     on (Earlier k i) h = absurd h
     on (Label i) h = absurd h
 
+-- of G2, where no constant is an earlier name: one stands twice
 pub G2_twice : {E : Type 0} (S : Database) (names : List Name) (r : Result (Option Witness) E) → list_any (fails S test.Named) names ≡ false
     → IfOk r (λ found. MatchOption found (all_different names ≡ true) (IsRepeated names))
     → keeps S (Const names) G2 ≡ false → IfOk r (λ found. IsSomeAnd found (Offends S (Const names) G2))
@@ -99,6 +107,7 @@ G2_twice S names r none told broken =
     by_twice names r (Offends S (Const names) G2)
     (λ differ. contradict (and_from _ _ (none_all (fails S test.Named) (λ x. not (was_symbol S x || was_label S x)) (λ x. ap not (named_is S x)) names none) differ) broken) (λ j k h. h) told
 
+-- of G3, where no variable is an earlier constant or label or an active variable: one stands twice
 pub G3_twice : {E : Type 0} (S : Database) (names : List Name) (r : Result (Option Witness) E) → list_any (fails S test.Taken) names ≡ false
     → IfOk r (λ found. MatchOption found (all_different names ≡ true) (IsRepeated names))
     → keeps S (Var names) G3 ≡ false → IfOk r (λ found. IsSomeAnd found (Offends S (Var names) G3))
@@ -109,6 +118,7 @@ G3_twice S names r none told broken =
     same : (x : Name) → not (is_variable S x || is_constant S x || was_label S x) ≡ not (fails S test.Taken x)
     same x = ap not (or_left (is_variable S x) (is_constant S x) (was_label S x) ∙ ap (λ b. is_variable S x || b) (fixed_is S x))
 
+-- of G8, where each is an active variable: one stands twice
 pub G8_twice : {E : Type 0} (S : Database) (names : List Name) (r : Result (Option Witness) E) → list_any (fails S test.Inactive) names ≡ false
     → IfOk r (λ found. MatchOption found (all_different names ≡ true) (IsRepeated names))
     → keeps S (Disj names) G8 ≡ false → IfOk r (λ found. IsSomeAnd found (Offends S (Disj names) G8))
@@ -116,6 +126,7 @@ G8_twice S names r none told broken =
     by_twice names r (Offends S (Disj names) G8)
     (λ differ. contradict (and_from _ _ differ (none_all (fails S test.Inactive) (is_variable S) (λ x. twice_not (is_variable S x)) names none)) broken) (λ j k h. h) told
 
+-- G4 looks at the label alone
 keeps_label : (S : Database) (s : Stmt) → keeps S s G4 ≡ is_fresh_label S (label_of s)
 keeps_label S Open = refl
 keeps_label S Close = refl
@@ -127,6 +138,7 @@ keeps_label S (Ess l e) = refl
 keeps_label S (Axiom l e) = refl
 keeps_label S (Prove l e p) = refl
 
+-- the witness of G4 is the statement that has the label
 pub G4_is : (S : Database) (s : Stmt) (x : Name) (r : Option Witness) → label_of s ≡ Some x → MatchOption r (list_any (meets part.Named x) S ≡ false) (IsLabelOf S x)
     → keeps S s G4 ≡ false → IsSomeAnd r (Offends S s G4)
 G4_is S s x r is told broken =
@@ -140,6 +152,7 @@ G4_is S s x r is told broken =
     on (Earlier k i) h = absurd h
     on (Label i) h = (x, is, h)
 
+-- G5 looks at the expression alone
 keeps_expr : (S : Database) (s : Stmt) → keeps S s G5 ≡ list_all (λ x. is_constant S x || is_variable S x) (expr_of s)
 keeps_expr S Open = refl
 keeps_expr S Close = refl
@@ -151,6 +164,7 @@ keeps_expr S (Ess l e) = refl
 keeps_expr S (Axiom l e) = refl
 keeps_expr S (Prove l e p) = refl
 
+-- the witness of G5 is the symbol that is neither constant nor active variable
 pub G5_is : {E : Type 0} (S : Database) (s : Stmt) (expr : Expr) (r : Result (Option Witness) E) → expr_of s ≡ expr
     → IfOk r (λ found. MatchOption found (list_any (fails S test.Unknown) expr ≡ false) (IsSymbolOf expr (fails S test.Unknown)))
     → keeps S s G5 ≡ false → IfOk r (λ found. IsSomeAnd found (Offends S s G5))
@@ -164,6 +178,7 @@ G5_is S s expr r is =
     neither false true h = cc
     neither false false h = (refl, refl)
 
+-- G9 looks at the expression of a `$e`, `$a` or `$p` alone
 keeps_typed : (S : Database) (s : Stmt) → keeps S s G9 ≡ are_typed S (typed_expr s)
 keeps_typed S Open = refl
 keeps_typed S Close = refl
@@ -175,6 +190,7 @@ keeps_typed S (Ess l e) = refl
 keeps_typed S (Axiom l e) = refl
 keeps_typed S (Prove l e p) = refl
 
+-- the witness of G9 is the variable that has no active `$f`
 pub G9_is : {E : Type 0} (S : Database) (s : Stmt) (expr : Expr) (r : Result (Option Witness) E) → typed_expr s ≡ expr
     → IfOk r (λ found. MatchOption found (list_any (fails S test.Untyped) expr ≡ false) (IsSymbolOf expr (fails S test.Untyped)))
     → keeps S s G9 ≡ false → IfOk r (λ found. IsSomeAnd found (Offends S s G9))

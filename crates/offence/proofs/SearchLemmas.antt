@@ -47,9 +47,11 @@ stays_open-closed (suc d) (Axiom l e ∷ S) = stays_open-closed (suc d) S
 stays_open-closed zero (Prove l e p ∷ S) = stays_open-closed zero S
 stays_open-closed (suc d) (Prove l e p ∷ S) = stays_open-closed (suc d) S
 
+-- nothing is closed where the count is 0
 zero_closed : (n : ℕ) → nat_le n 0 ≡ (n == 0)
 zero_closed n = grind arith
 
+-- one statement back closes at most one block more
 step : (n : ℕ) (s : Stmt) → closed_by s n ≤ suc n
 step n Open = omega arith
 step n Close = omega arith
@@ -61,23 +63,29 @@ step n (Ess l e) = omega arith
 step n (Axiom l e) = omega arith
 step n (Prove l e p) = omega arith
 
+-- one statement back, the closed blocks and the places still ahead stay within their bound
 pub closed_few : (n i h k : ℕ) (s : Stmt) → h ≡ i + 1 → n + h ≤ k → closed_by s n + i ≤ k
 closed_few n i h k s e few = omega (arith, step n s, e, few)
 
 module _ (S : Database) (i h : ℕ) (s : Stmt) (closed : ℕ) (t : Stmt → Bool) (inside : i < length S) (here : s ≡ get_or S i s) (next : h ≡ i + 1)
     (behind : closed ≡ closed_behind (drop h S)) where
+  -- the next place as the successor of this one
   after_is : suc i ≡ h
   after_is = omega (arith, next)
 
+  -- the statements from this one on are this one and those behind it
   opened : drop i S ≡ s ∷ drop h S
   opened = drop-cons S i s inside ∙ (ap (λ x. x ∷ drop (suc i) S) (sym here) ∙ ap (λ k. s ∷ drop k S) after_is)
 
+  -- the statement is active where nothing behind it closes its block
   stays : stays_open 0 (drop h S) ≡ (closed == 0)
   stays = stays_open-closed 0 (drop h S) ∙ (zero_closed (closed_behind (drop h S)) ∙ ap (λ n. n == 0) (sym behind))
 
+  -- the count of closed blocks with this statement
   pub closed_on : closed_by s closed ≡ closed_behind (drop i S)
   closed_on = ap (closed_by s) behind ∙ ap closed_behind (sym opened)
 
+  -- a statement that has it, where no block is closed behind, is active and has it
   pub found_active : (closed == 0 && t s) ≡ true → IsActiveAt S (i + 1) t
   found_active h =
       let parts : ((closed == 0) ≡ true) × (t s ≡ true) = and_parts (closed == 0) (t s) h in
@@ -102,6 +110,7 @@ module _ (S : Database) (i h : ℕ) (s : Stmt) (closed : ℕ) (t : Stmt → Bool
       by true es = refl
       by false es = refl
 
+  -- where neither those behind nor this one have it, none has from here on
   pub none_back : list_any (λ p. t p.1) (active_from (h + 1) (drop h S)) ≡ false → (closed == 0 && t s) ≡ false → list_any (λ p. t p.1) (active_from (i + 1) (drop i S)) ≡ false
   none_back none not = active_back ∙ (ap (λ b. b || list_any (λ p. t p.1) (active_from (h + 1) (drop h S))) not ∙ none)
 
@@ -110,9 +119,11 @@ all_gone : (S : Database) → drop (length S) S ≡ []
 all_gone [] = refl
 all_gone (s ∷ S) = all_gone S
 
+-- none is active at the end
 pub none_active : (t : (ℕ × Stmt) → Bool) (S : Database) → list_any t (active_from (length S + 1) (drop (length S) S)) ≡ false
 none_active t S = ap (λ T. list_any t (active_from (length S + 1) T)) (all_gone S)
 
+-- nothing is closed at the end
 pub none_closed : (S : Database) → closed_behind (drop (length S) S) ≡ 0
 none_closed S = ap closed_behind (all_gone S)
 
@@ -126,10 +137,12 @@ rest_is t xs i x inside is =
     ap (list_any t) (drop-cons xs i x inside)
     ∙ (ap (λ y. t y || list_any t (drop (suc i) xs)) (sym is) ∙ ap (λ k. t x || list_any t (drop k xs)) (sym (add-one i)))
 
+-- where the first fails the test, what is behind it decides
 pub rest_decides : {A : Type 0} (t : A → Bool) (xs : List A) (i : ℕ) (x : A) → i < length xs → x ≡ get_or xs i x → t x ≡ false
     → list_any t (drop i xs) ≡ list_any t (drop (i + 1) xs)
 rest_decides t xs i x inside is not = rest_is t xs i x inside is ∙ ap (λ b. b || list_any t (drop (i + 1) xs)) not
 
+-- past the end nothing passes
 pub rest_empty : {A : Type 0} (t : A → Bool) (xs : List A) (i : ℕ) → length xs ≤ i → list_any t (drop i xs) ≡ false
 rest_empty t [] zero h = refl
 rest_empty t [] (suc i) h = refl
@@ -146,6 +159,7 @@ behind xs rest i x e = go xs i e ∙ ap (λ k. drop k xs) (sym (add-one i))
     go (y ∷ ys) zero e = cc
     go (y ∷ ys) (suc i) e = go ys i e
 
+-- the first of the rest is the element at that place
 pub first_is : {A : Type 0} (xs rest : List A) (i : ℕ) (x : A) → x ∷ rest ≡ drop i xs → slice_get xs i ≡ Some x
 first_is [] rest zero x e = cc
 first_is [] rest (suc i) x e = cc
@@ -158,6 +172,7 @@ any_at t [] i x e h = cc
 any_at t (y ∷ ys) zero x e h = let same : y ≡ x = cc in ap (λ z. t z || list_any t ys) same ∙ ap (λ b. b || list_any t ys) h
 any_at t (y ∷ ys) (suc i) x e h = ap (λ b. t y || b) (any_at t ys i x e h) ∙ or-true (t y)
 
+-- an active statement that has it is one of the active
 pub any_active : (t : Stmt → Bool) (n : ℕ) (S : Database) (i : ℕ) (s : Stmt) → slice_get S i ≡ Some s → t s ≡ true → stays_open 0 (drop (suc i) S) ≡ true
     → list_any (λ p. t p.1) (active_from n S) ≡ true
 any_active t n [] i s e h kept = cc
@@ -185,10 +200,12 @@ IsActiveAt-any S i t is =
     let at = stmt_index S i is.at.stmt is.at.stands in
     any_active t 1 S at.0 is.at.stmt at.2 is.at.passes (ap (λ k. stays_open 0 (drop k S)) (sym at.1) ∙ is.stays)
 
+-- a search that finds one, or tells that there is none, answers the test
 pub some_told : (r : Option ℕ) (b : Bool) (P : ℕ → Type 0) → MatchOption r (b ≡ false) P → ((i : ℕ) → P i → b ≡ true) → is_some r ≡ b
 some_told None b P none some = sym none
 some_told (Some i) b P h some = sym (some i h)
 
+-- a denial, from the other side
 pub not_back : (a b : Bool) → b ≡ not a → a ≡ not b
 not_back true b e = sym (ap not e)
 not_back false b e = sym (ap not e)

@@ -21,12 +21,14 @@ lines_from-push number (t ∷ S) s =
     ap (λ r. outline_line number t ++ r) (lines_from-push (number + 1) S s ∙ ap (λ n. lines_from (number + 1) S ++ outline_line n s) same)
     ∙ sym (append_assoc (outline_line number t) (lines_from (number + 1) S) (outline_line (number + length (t ∷ S)) s))
 
+-- a decimal digit is a visible byte
 digit_visible : (d : ℕ) → d < 10 → is_visible (48 + d) ≡ true
 digit_visible d small =
     let low : leb 33 (48 + d) ≡ true = le-leb 33 (48 + d) (omega arith) in
     let high : leb (48 + d) 126 ≡ true = le-leb (48 + d) 126 (omega arith) in
     rw (low, high) refl
 
+-- a word with a visible byte behind it is a word
 word_more : (w : Name) (b : ℕ) → is_word w ≡ true → is_visible b ≡ true → is_word (w ++ b ∷ []) ≡ true
 word_more [] b h k = cc
 word_more (c ∷ w) b h k = list_all-append is_visible (c ∷ w) (b ∷ []) ∙ rw (h, k) refl

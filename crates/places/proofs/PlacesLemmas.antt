@@ -26,9 +26,11 @@ plain_goes_on w plain =
     let c : name_eq w (codes "$}") ≡ false = plain_is_no_key w (codes "$}") plain refl in
     grind (arith, a, b, c)
 
+-- a symbol ends no statement
 symbol_goes_on : (w : Name) → is_symbol w ≡ true → ends w ≡ false
 symbol_goes_on w h = plain_goes_on w (symbol_plain w h)
 
+-- a label ends no statement
 label_goes_on : (w : Name) → is_label w ≡ true → ends w ≡ false
 label_goes_on w h = plain_goes_on w (label_plain w h)
 
@@ -47,6 +49,7 @@ pass_symbols n (x ∷ xs) ws h =
 
 -- the last token of a statement ends it
 module _ (n : ℕ) (ws : List Name) where
+  -- a token that ends a statement is passed with it
   past_end : (w : Name) → ends w ≡ true → behind_ends (suc n) (w ∷ ws) ≡ suc (behind_ends n ws)
   past_end w e = ap (λ b. suc (behind_ends (cond b n (suc n)) ws)) e
 
@@ -58,6 +61,7 @@ module _ (n : ℕ) (ws : List Name) where
       let last = past_end (codes "$.") refl in
       ap (behind_ends (suc n)) whole ∙ omega (arith, passed, last, length-append xs (codes "$." ∷ []))
 
+  -- a label and a keyword before what ends the statement
   past_labelled : (label k : Name) (rest : List Name) → is_label label ≡ true → ends k ≡ false → behind_ends (suc n) (rest ++ ws) ≡ length rest + behind_ends n ws
       → behind_ends (suc n) (label ∷ k ∷ (rest ++ ws)) ≡ length (label ∷ k ∷ rest) + behind_ends n ws
   past_labelled label k rest is goes e =
@@ -65,6 +69,7 @@ module _ (n : ℕ) (ws : List Name) where
       let two = pass_one n k (rest ++ ws) goes in
       omega (arith, one, two, e)
 
+  -- an expression, `$=`, and a proof up to its `$.`
   past_proof : (expr proof : List Name) → list_all is_symbol expr ≡ true → list_all is_symbol proof ≡ true
       → behind_ends (suc n) ((expr ++ codes "$=" ∷ (proof ++ codes "$." ∷ [])) ++ ws) ≡ length (expr ++ codes "$=" ∷ (proof ++ codes "$." ∷ [])) + behind_ends n ws
   past_proof expr proof h p =
@@ -113,6 +118,7 @@ past_statements (suc n) (s ∷ S) h within =
 
 -- ---- the search for it
 
+-- the words behind a place are that of its token and those behind it
 words_drop : (text : List ℕ) (spans : List Span) (i : ℕ) (d : Span) → i < length spans → words text (drop i spans) ≡ word text (get_or spans i d) ∷ words text (drop (suc i) spans)
 words_drop text spans i d h = ap (words text) (drop-cons spans i d h)
 
@@ -145,6 +151,7 @@ room_for (suc n) (r ∷ S) s e =
     let rest = room_for n S s e in
     omega (arith, rest, length-append (stmt_tokens r) (spelled S), length-append (stmt_tokens r) (spelled (take n S)))
 
+-- there is a token at that index, and it is the statement's
 some_place : (text : List ℕ) (spans : List Span) (S : Database) (statement token : ℕ) → AreTokens text spans → words text spans ≡ spelled S
     → (i : ℕ) → i ≡ index_of S statement token → i < length spans → (place : Option Span) → place ≡ slice_get spans i → IsSomeAnd place (IsPlaceOf text S statement token)
 some_place text spans S statement token are written i at h None e = absurd (bad (e ∙ slice_get-get_or spans i (record { start = 0; end = 0 }) h))

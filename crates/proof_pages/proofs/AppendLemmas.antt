@@ -4,6 +4,7 @@ use Rattle.std.specs.Result.{is_ok}
 use Rattle.std.proofs.Common.{◌∙◌, ap}
 use Rattle.std.proofs.lemmas.List.{append_assoc}
 
+-- one part is added behind another
 pub joined : (a b c x y : List ℕ) → b ≡ a ++ x → c ≡ b ++ y → c ≡ a ++ (x ++ y)
 joined a b c x y h k = k ∙ (ap (λ s. s ++ y) h ∙ append_assoc a x y)
 

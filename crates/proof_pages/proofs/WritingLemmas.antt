@@ -7,19 +7,23 @@ use Rattle.steps.specs.Rows.{Row, no_row}
 use Rattle.proof_pages.specs.StepLines.{texts_from}
 use Rattle.proof_pages.specs.Writing.{Wrote}
 
+-- a writer to which nothing is written
 pub appends_none : (a : Option (List ℕ)) → Appends a a []
 appends_none None = tt
 appends_none (Some xs) = sym (append-nil xs)
 
+-- what is written after what was written before
 pub appends_on : (a b c : Option (List ℕ)) (x y : List ℕ) → Appends a b x → Appends b c y → Appends a c (x ++ y)
 appends_on None b c x y h k = tt
 appends_on (Some xs) None c x y h k = absurd h
 appends_on (Some xs) (Some ys) None x y h k = absurd k
 appends_on (Some xs) (Some ys) (Some zs) x y h k = k ∙ (ap (λ s. s ++ y) h ∙ append_assoc xs x y)
 
+-- nothing is written, and the text is what is held back
 pub wrote_none : (a : Option (List ℕ)) (text : List ℕ) → Wrote a a text text
 wrote_none a text = record { done = []; written = appends_none a; whole = refl }
 
+-- a text, and more behind it, part of which may be written
 pub wrote_on : (a b c : Option (List ℕ)) (held text later more : List ℕ) → Wrote a b held text → Wrote b c later (held ++ more) → Wrote a c later (text ++ more)
 wrote_on a b c held text later more w v = record {
   done = w.done ++ v.done;
@@ -27,6 +31,7 @@ wrote_on a b c held text later more w v = record {
   whole = append_assoc w.done v.done later ∙ (ap (λ s. w.done ++ s) v.whole ∙ (sym (append_assoc w.done held more) ∙ ap (λ s. s ++ more) w.whole));
 }
 
+-- what is held back is written: the text is written
 pub wrote_all : (a b c : Option (List ℕ)) (held text : List ℕ) → Wrote a b held text → Appends b c held → Appends a c text
 wrote_all a b c held text w h = subst (λ s. Appends a c s) w.whole (appends_on a b c w.done held w.written h)
 
@@ -37,6 +42,7 @@ texts-more f place (x ∷ rows) r =
     ∙ (sym (append_assoc (f place x) (texts_from f (suc place) rows) (f (suc place + length rows) r))
     ∙ ap (λ n. f place x ++ texts_from f (suc place) rows ++ f n r) (let e : suc place + length rows ≡ place + suc (length rows) = omega arith in e))
 
+-- the texts of the rows up to the next one are those before it and its own
 pub texts_grow : (f : ℕ → Row → List ℕ) (rows : List Row) (i : ℕ) → i < length rows → texts_from f 0 (take (i + 1) rows) ≡ texts_from f 0 (take i rows) ++ f i (get_or rows i no_row)
 texts_grow f rows i h =
     ap (λ rs. texts_from f 0 rs) (take_more rows i no_row h)

@@ -8,6 +8,7 @@ use Rattle.std.proofs.lemmas.Bool.{ltb-true, ltb-false}
 use Rattle.scripts.specs.Pieces.{split_at}
 
 module _ (p : ℕ → Bool) (x : ℕ) (xs : List ℕ) where
+  -- one byte more, that does not pass either
   whole_more : (b : Bool) → p x ≡ b → length (x ∷ xs) ≤ cond (not b) (1 + position_or_len p xs) 0 → (length xs ≤ position_or_len p xs → slice_split p xs ≡ xs ∷ [])
       → slice_split p (x ∷ xs) ≡ (x ∷ xs) ∷ []
   whole_more true e far rest = absurd (omega arith)
@@ -18,6 +19,7 @@ whole : (p : ℕ → Bool) (bytes : List ℕ) → length bytes ≤ position_or_l
 whole p [] far = refl
 whole p (x ∷ xs) far = whole_more p x xs (p x) refl far (whole p xs)
 
+-- up to a separator that is found stands the first piece, and behind it the others
 pub split_found : (separator : ℕ) (bytes : List ℕ) (end : ℕ) → position (λ b. b == separator) bytes ≡ Some end
     → split_at separator bytes ≡ take end bytes ∷ split_at separator (take (length bytes - (end + 1)) (drop (end + 1) bytes))
 split_found separator bytes end found = by (nat_lt at (length bytes)) refl found
@@ -37,6 +39,7 @@ split_found separator bytes end found = by (nat_lt at (length bytes)) refl found
         ∙ (ap (λ n. take n bytes ∷ split_at separator (drop (n + 1) bytes)) same ∙ ap (λ r. take end bytes ∷ split_at separator r) (sym rest))
     by false outside e = absurd (cc)
 
+-- where no separator is found, all is one piece
 pub split_whole : (separator : ℕ) (bytes : List ℕ) → position (λ b. b == separator) bytes ≡ None → split_at separator bytes ≡ bytes ∷ []
 split_whole separator bytes none = by (nat_lt at (length bytes)) refl none
   where

@@ -16,6 +16,7 @@ abbrev pub behind : {L : Type 0} → List L → Result (List L) ℕ → Result (
 behind front (Ok lines) = Ok (front ++ lines)
 behind front (Err bad) = Err bad
 
+-- lines behind none are these lines
 none_behind : {L : Type 0} (r : Result (List L) ℕ) → r ≡ behind [] r
 none_behind (Ok lines) = refl
 none_behind (Err bad) = refl
@@ -44,6 +45,7 @@ is_read_none said script kept rest none all = record {
   few = omega (arith, ap length all, length-slice_split (λ b. b == LINE_FEED) script, count_by-le-length (λ b. b == LINE_FEED) script);
 }
 
+-- a line more in front is one line before those behind
 line_behind : {L : Type 0} (front : List L) (x : L) (r : Result (List L) ℕ) (number : ℕ)
     → behind front (with_line number (Some x) r) ≡ behind (front ++ x ∷ []) r
 line_behind front x (Ok lines) number = ap Ok (sym (append_assoc front (x ∷ []) lines))
@@ -51,9 +53,11 @@ line_behind front x (Err bad) number = refl
 
 module _ {L : Type 0} {said : List ℕ → Option L} {script : List ℕ} {kept : List L} {wanting : Bool} {number : ℕ} {rest : List (List ℕ)}
     (so : IsRead said script kept wanting number rest) (line : List ℕ) (left : List (List ℕ)) (is : rest ≡ line ∷ left) where
+  -- the lines read, with this one, and those left are at most one more than the bytes
   few_more : (number + 1) + length left ≤ length script + 1
   few_more = let n = ap length is in let f = so.few in omega arith
 
+  -- what the script says, by the next line and those left
   says_so : script_of said script ≡ behind so.front (script_from said (number + 1) (line ∷ left))
   says_so = so.says ∙ ap (λ r. behind so.front (script_from said (number + 1) r)) is
 
