@@ -32,6 +32,7 @@ any-append p (t ∷ S) s = ap (λ b. p t || b) (any-append p S s) ∙ or_assoc (
     or_assoc true b c = refl
     or_assoc false b c = refl
 
+-- nothing is added to a test by one that fails
 pub or_false : (b : Bool) → (b || false) ≡ b
 or_false true = refl
 or_false false = refl

@@ -75,6 +75,7 @@ none-at : (ps : List ℕ) → list_any (λ p. false) ps ≡ false
 none-at [] = refl
 none-at (p ∷ ps) = none-at ps
 
+-- the code looks for a position where the entry is a hypothesis, and nowhere else
 among : (ps : List ℕ) (e : Entry) → list_any (λ p. is_at p e) ps ≡ is_hypothesis_among ps e
 among ps (Hypothesis i) = refl
 among ps (Assertion a) = none-at ps
