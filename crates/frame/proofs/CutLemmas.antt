@@ -107,6 +107,7 @@ module _ (names labels : List Name) (positions : List ℕ) (symbols : List Symbo
   abbrev pub S : Database
   S = map (stmt_of names labels) entries
 
+  -- the entry behind the first n knows how many names and labels there were
   counts : KeepsCounts names labels entries n e
   counts = k.counts_kept n e p.at
 
@@ -128,6 +129,7 @@ module _ (names labels : List Name) (positions : List ℕ) (symbols : List Symbo
   labels-count : length labels' ≡ e.label
   labels-count = ap length labels-are ∙ sym counts.label_count
 
+  -- the first entries use no other names and labels
   numbered : AreNumbered (length names') (length labels') (take n entries)
   numbered =
       subst (λ a. AreNumbered a (length labels') (take n entries)) (sym names-count)
@@ -141,14 +143,17 @@ module _ (names labels : List Name) (positions : List ℕ) (symbols : List Symbo
   front-of : (i : ℕ) → i < n → take i (map (stmt_of names' labels') entries') ≡ take i S
   front-of i lt = ap (take i) cut-statements ∙ take-take i n S (omega (arith, lt))
 
+  -- an entry that is left is one of the first n
   there : (i : ℕ) (d : Entry) → slice_get entries' i ≡ Some d → (i < n) × (slice_get entries i ≡ Some d)
   there i d h = get-take n entries i d (ap (λ r. slice_get r i) (sym p.entries_cut) ∙ h)
 
+  -- each symbol that is left tells what is left of its declarations
   symbols'' : (c : ℕ) → c < length names' → slice_get symbols' c ≡ Some (symbol_of entries' c)
   symbols'' c lt =
       let a = names-count in let b = p.between_count in let d = k.count in let w = counts.within in
       ap (λ r. slice_get r c) p.symbols_cut ∙ (get-front e.names between c (omega (arith, lt, a)) ∙ p.declared c (omega (arith, lt, a, b, d, w)))
 
+  -- an entry that is left keeps the counts before it
   counts' : (i : ℕ) (d : Entry) → slice_get entries' i ≡ Some d → KeepsCounts names' labels' entries' i d
   counts' i d h =
       let q = there i d h in
@@ -164,6 +169,7 @@ module _ (names labels : List Name) (positions : List ℕ) (symbols : List Symbo
         name_count = c.name_count ∙ ap (λ T. length (symbols_of T)) (sym (front-of i lt));
       }
 
+  -- an assertion that is left is kept as it was
   parts' : (i : ℕ) (d : Entry) → slice_get entries' i ≡ Some d → has_parts d.kind ≡ true → IsKeptAs entries' (take i (map (stmt_of names' labels') entries')) (stmt_of names' labels' d) d.assertion
   parts' i d h a =
       let q = there i d h in

@@ -44,6 +44,7 @@ take-at (suc n) (y ∷ xs) (suc k) x h = let r = take-at n xs k x h in (let l = 
 pub some-same : {A : Type 0} {o : Option A} {x y : A} → o ≡ Some x → o ≡ Some y → x ≡ y
 some-same {x = x} {y = y} p q = let e : Some x ≡ Some y = sym p ∙ q in cc
 
+-- the element behind a front stands at the front's length
 pub middle : {A : Type 0} (xs : List A) (x : A) (ys : List A) → slice_get (xs ++ x ∷ ys) (length xs) ≡ Some x
 middle [] x ys = refl
 middle (y ∷ xs) x ys = middle xs x ys

@@ -97,15 +97,18 @@ module _ (k : Stock) (a i : ℕ) (s : Stmt) (e : Entry) (stored : AreStored k) (
   abbrev S : Database
   S = statements_of k
 
+  -- the place of its entry, from the position
   back : a - 1 ≡ i
   back = let q = t.place in omega (arith, q)
 
+  -- the statement that its entry stands for
   own : Stmt
   own = stmt_of k.names k.labels e
 
   at-own : hypotheses (take i S) (stmt_of k.names k.labels e) ≡ hypotheses (take (a - 1) S) s
   at-own = ap (λ n. hypotheses (take n S) (stmt_of k.names k.labels e)) (sym back) ∙ ap (hypotheses (take (a - 1) S)) t.is
 
+  -- where its parts are not whole, its hypotheses are the `$f` of its own variables
   floats : e.assertion.whole ≡ false → e.assertion.hypotheses ≡ floats_in (take i S) (expr_of (stmt_of k.names k.labels e))
   floats w = t.kept.hypotheses_kept ∙ ap (λ b. kept_with b (take i S) (stmt_of k.names k.labels e)) w
 

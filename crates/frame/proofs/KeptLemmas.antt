@@ -101,9 +101,11 @@ module _ (es : List Entry) (names labels : List Name) (m a : ℕ) (e : Entry) (d
   own-hyps : AreHyps front_of own d.hypotheses
   own-hyps = subst (AreHyps front_of own) (sym hyps-are) (hyps front_of own)
 
+  -- its variables by name are those of its places
   named : variables_of front_of own ≡ map (option_name names) places
   named = ap (map (frame_of.variable_at front_of)) (sym hyps-are) ∙ variables-there d.hypotheses own-hyps
 
+  -- its places have names
   below : OptionsBelow (length names) places
   below = places-below d.hypotheses own-hyps
 

@@ -19,6 +19,7 @@ use Rattle.frame.specs.Stored.OneFrame.{AreMandatory, is_in_essential, asks, ask
 use Rattle.frame.proofs.FoundByNumber.{has-at}
 use Rattle.scope.proofs.DeclaredLemmas.{or_false}
 
+-- one more test, for a name that stands among the names already, changes nothing
 known : (names : List Name) (x y : Name) (b : Bool) → name_eq x y ≡ b → has_name y names ≡ true → has_name x names ≡ (has_name x names || b)
 known names x y false e h = sym (or_false (has_name x names))
 known names x y true e h =
