@@ -138,7 +138,7 @@ items-push b c rs qs e p g a =
 
 -- ---- fewer statements
 
-take-get : {A : Type 0} (n i : ℕ) (xs : List A) (x : A) → slice_get (take n xs) i ≡ Some x → (i < n) × (slice_get xs i ≡ Some x)
+pub take-get : {A : Type 0} (n i : ℕ) (xs : List A) (x : A) → slice_get (take n xs) i ≡ Some x → (i < n) × (slice_get xs i ≡ Some x)
 take-get zero zero xs x e = absurd (cc)
 take-get zero (suc i) xs x e = absurd (cc)
 take-get (suc n) zero [] x e = absurd (cc)

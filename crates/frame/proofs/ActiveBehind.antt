@@ -11,12 +11,13 @@ use Rattle.mm_read.specs.Statements.{Database}
 use Rattle.scope.specs.Active.{stays_open, active_from}
 use Rattle.frame.proofs.OpenLemmas.{stays_open-any}
 
--- no variable has two `$f` among the hypotheses
+-- x is none of the variables
 abbrev pub IsElsewhere : Name → List (Option Name) → Type 0
 IsElsewhere x [] = Unit {0}
 IsElsewhere x (None ∷ vs) = IsElsewhere x vs
 IsElsewhere x (Some y ∷ vs) = (name_eq y x ≡ false) × IsElsewhere x vs
 
+-- no variable has two `$f` among the hypotheses
 abbrev pub AreOnce : List (Option Name) → Type 0
 AreOnce [] = Unit {0}
 AreOnce (None ∷ vs) = AreOnce vs

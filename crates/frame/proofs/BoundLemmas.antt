@@ -21,7 +21,8 @@ use Rattle.frame.proofs.ActiveBehind.{stands-active, IsElsewhere, AreOnce}
 use Rattle.frame.proofs.TypedVariables.{first-fixed, own-fixed, float-kinds}
 use Rattle.frame.proofs.PlacesLemmas.{is_flt, used-has-place, mandatory-place, variables-once}
 use Rattle.frame.proofs.GroupsLemmas.{has-filter}
-use Rattle.frame.proofs.FoundByNumber.{map-back, map-at, take-at, middle, kept-front, some-same}
+use Rattle.entries.proofs.PlaceLemmas.{take-get}
+use Rattle.frame.proofs.FoundByNumber.{map-back, map-at, middle, kept-front, some-same}
 use Rattle.frame.proofs.PlacedHypotheses.{IsHyp, AreHyps, hyps}
 
 -- ---- lists
@@ -81,7 +82,7 @@ module _ (S : Database) (a : ℕ) (s : Stmt) (legal : AllKept S) (is : HasAssert
   there : (p : ℕ) (h : IsHyp T s p) → (stmt_at S p ≡ Some h.stmt) × (variable_at T p ≡ variable_of h.stmt)
   there p h =
       let here : slice_get T (length h.front) ≡ Some h.stmt = ap (λ w. slice_get w (length h.front)) h.whole ∙ middle h.front h.stmt h.rest in
-      let t = take-at (a - 1) S (length h.front) h.stmt here in
+      let t = take-get (a - 1) (length h.front) S h.stmt here in
       (ap (stmt_at S) h.at ∙ t.1, ap (variable_at T) h.at ∙ ap option_variable here)
 
   -- the variable at a place is that of the `$f` there

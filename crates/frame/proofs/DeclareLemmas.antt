@@ -2,6 +2,7 @@
 use Rattle.std.specs.Prelude.{◌≡◌, ℕ, zero, suc, ◌+◌, ◌<◌, Bool, true, false, cond, ◌||◌, nat_eq, List, [], ◌∷◌, ◌++◌, length, take, get_or, slice_get, slice_set, Some, refl}
 use Rattle.std.specs.List.{list_any}
 use Rattle.std.proofs.Common.{sym, ◌∙◌, ap, arith}
+use Rattle.std.proofs.Math.Bool.{or-true}
 use Rattle.frame.specs.Below.{AreBelow}
 use Rattle.entries.specs.Entries.{Entry}
 use Rattle.frame.specs.declared.storage.Symbol.{Symbol}
@@ -14,10 +15,6 @@ pub below-at : (n : ℕ) (codes : List ℕ) (k : ℕ) → AreBelow n codes → k
 below-at n [] k h l = absurd (omega (arith, l))
 below-at n (c ∷ codes) zero h l = h.0
 below-at n (c ∷ codes) (suc k) h l = below-at n codes k h.1 (omega (arith, l))
-
-pub or-true : (a : Bool) → (a || true) ≡ true
-or-true true = refl
-or-true false = refl
 
 pub any-take-more : (p : ℕ → Bool) (xs : List ℕ) (i : ℕ) → i < length xs → list_any p (take (i + 1) xs) ≡ (list_any p (take i xs) || p (get_or xs i 0))
 any-take-more p [] i h = absurd (omega (arith, h))

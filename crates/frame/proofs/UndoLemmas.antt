@@ -4,6 +4,7 @@ use Rattle.std.specs.List.{list_any}
 use Rattle.std.proofs.Common.{sym, ◌∙◌, ap, arith, append-nil, append_assoc, length-append}
 use Rattle.std.proofs.lemmas.List.{take_all}
 use Rattle.std.proofs.lemmas.Option.{get_or_from_slice_get}
+use Rattle.std.proofs.Math.Bool.{or-true}
 use Rattle.std.proofs.Math.Seq.{drop-append_seam}
 use Rattle.entries.specs.Entries.{Entry}
 use Rattle.entries.specs.declared.kind.Kind.{Kind}
@@ -12,7 +13,7 @@ use Rattle.frame.specs.declared.storage.Symbol.{Symbol}
 use Rattle.entries.specs.Stored.Spans.{Extends}
 use Rattle.frame.specs.Stored.Entries.{ReadsAs, replaced_by, replaced_behind, replaced_of, symbol_of, is_float_kind, is_var_kind, second_is}
 use Rattle.frame.specs.Stored.Counts.{with_declared}
-use Rattle.frame.proofs.DeclareLemmas.{noted, or-true}
+use Rattle.frame.proofs.DeclareLemmas.{noted}
 use Rattle.scope.proofs.DeclaredLemmas.{or_false}
 
 -- ---- one entry more

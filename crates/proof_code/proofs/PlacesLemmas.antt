@@ -3,7 +3,7 @@ use Rattle.std.specs.Prelude.{◌≡◌, ℕ, zero, suc, ◌+◌, ◌/◌, ◌<�
 use Rattle.std.specs.Option.{option_map}
 use Rattle.std.proofs.Common.{rules, sym, ◌∙◌, ap, arith, append_assoc}
 use Rattle.std.proofs.lemmas.Bool.Decides.{nat_tests}
-use Rattle.std.proofs.lemmas.List.{drop_more, append-nil}
+use Rattle.std.proofs.lemmas.List.{drop_more, drop_all, append-nil}
 use Rattle.proof_code.specs.declared.letters.Place.{Place}
 use Rattle.proof_code.specs.declared.letters.Step.TheVariants.{Quiet, Number, Broken}
 use Rattle.proof_code.specs.Text.{letters_of, numbers_from}
@@ -80,16 +80,10 @@ module _ (labels : ℕ) (text numbers : List ℕ) (kept : Bool) (place new : Pla
   pub broken_byte : Reads place (slice_index_or text index 0) Broken new → numbers_from labels 0 (letters_of text) ≡ None
   broken_byte reads = none-by_test (numbers_from labels 0 (letters_of text)) (read.decides ∙ ap is_some (ap (numbers_at place) left ∙ reads (drop (index + 1) text)))
 
-drop-end : {A : Type 0} (xs : List A) (n : ℕ) → length xs ≤ n → drop n xs ≡ []
-drop-end [] zero h = refl
-drop-end [] (suc n) h = refl
-drop-end (x ∷ xs) zero h = absurd (omega (arith, h))
-drop-end (x ∷ xs) (suc n) h = drop-end xs n (omega arith)
-
 module _ (labels : ℕ) (text numbers : List ℕ) (kept : Bool) (place : Place) (index : ℕ) (read : IsReadTo labels text numbers kept place index) (end : length text ≤ index) where
   -- at the end of the text the digits alone decide
   nothing_left : numbers_at place (drop index text) ≡ cond (place.digits == 0) (Some []) None
-  nothing_left = ap (numbers_at place) (drop-end text index end)
+  nothing_left = ap (numbers_at place) (drop_all index text end)
 
   -- a word that is begun and not ended leaves no numbers
   pub cut_word : (place.digits ≡ 0 → ⊥) → numbers_from labels 0 (letters_of text) ≡ None

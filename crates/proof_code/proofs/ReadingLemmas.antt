@@ -3,7 +3,7 @@ use Rattle.std.specs.Prelude.{◌≡◌, ℕ, zero, suc, ◌+◌, ◌-◌, ◌*�
 use Rattle.std.specs.List.{list_all}
 use Rattle.std.proofs.Common.{sym, ◌∙◌, ap, subst, arith, true≢false, length-append}
 use Rattle.std.proofs.lemmas.Bool.Decides.{nat_tests}
-use Rattle.std.proofs.lemmas.List.{drop_more, append-nil}
+use Rattle.std.proofs.lemmas.List.{drop_more, drop_all, append-nil}
 use Rattle.std.proofs.lemmas.Option.{none-some, same_Some}
 use Rattle.std.proofs.lemmas.Bool.{and_parts}
 use Rattle.mm_lex.specs.Alphabet.{Name}
@@ -18,7 +18,7 @@ use Rattle.proof_code.proofs.HeaderLemmas.{IsHeader, header-read, read-header}
 use Rattle.proof_code.proofs.LettersLemmas.{is_first-true}
 use Rattle.proof_code.proofs.RowLemmas.{numbers_from-first, RowIsRead, WritesRow-read, read-WritesRow}
 use Rattle.proof_code.proofs.TextLemmas.{letters_of-spaced}
-use Rattle.proof_code.proofs.WritesLemmas.{joined, written_behind, starts_with_mark-spaced}
+use Rattle.proof_code.proofs.WritesLemmas.{joined, written_behind, starts_with_mark-spaced, some_and}
 
 -- ---- the letters
 
@@ -43,15 +43,9 @@ module _ (labels : ℕ) (text : List ℕ) (limit digits : ℕ) (numbers : List �
   read-broken within none =
       read ∙ ap (before_rest numbers) (ap (λ rest. numbers_from limit digits (letters_of rest)) (drop_more text index 0 within) ∙ none (drop (index + 1) text))
 
-  drop-end : {A : Type 0} (xs : List A) (n : ℕ) → length xs ≤ n → drop n xs ≡ []
-  drop-end [] zero h = refl
-  drop-end [] (suc n) h = refl
-  drop-end (x ∷ xs) zero h = absurd (omega (arith, h))
-  drop-end (x ∷ xs) (suc n) h = drop-end xs n (omega arith)
-
   -- at the end of the text the digits decide, behind the numbers kept
   left : length text ≤ index → numbers_from labels 0 (letters_of text) ≡ before_rest numbers (cond (digits == 0) (Some []) None)
-  left end = read ∙ ap (λ rest. before_rest numbers (numbers_from limit digits (letters_of rest))) (drop-end text index end)
+  left end = read ∙ ap (λ rest. before_rest numbers (numbers_from limit digits (letters_of rest))) (drop_all index text end)
 
   pub read-all : length text ≤ index → digits ≡ 0 → numbers_from labels 0 (letters_of text) ≡ Some numbers
   read-all end none =
@@ -110,11 +104,6 @@ pub without_header : (tokens before : List Name) → tokens ≡ begin ∷ before
 without_header tokens before starts none labels items w =
     let same : before ≡ w.listed ++ finish ∷ w.rest = cc (starts, w.whole) in
     none-some (record { listed = w.listed; rest = w.rest }) (sym none ∙ (ap (header_of []) same ∙ read-header [] w.listed w.rest w.labels (none_shared w.listed)))
-
--- what is said of a value that there is
-some_and : {A : Type 0} (o : Option A) (P : A → Type 0) → IsSomeAnd o P → (x : A) × (o ≡ Some x) × P x
-some_and None P h = absurd h
-some_and (Some x) P h = (x, refl, h)
 
 -- what reading the header tells: the text of what is left, and how many labels there are
 abbrev pub Counted : List Name → List ℕ → ℕ → Type 0

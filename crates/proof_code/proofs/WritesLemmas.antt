@@ -60,7 +60,7 @@ starts_with_mark-spaced ((b ∷ word) ∷ []) h = refl
 starts_with_mark-spaced ((b ∷ word) ∷ next ∷ words) h = refl
 
 -- what is said of a value that there is
-some_and : {A : Type 0} (o : Option A) (P : A → Type 0) → IsSomeAnd o P → (x : A) × (o ≡ Some x) × P x
+pub some_and : {A : Type 0} (o : Option A) (P : A → Type 0) → IsSomeAnd o P → (x : A) × (o ≡ Some x) × P x
 some_and None P h = absurd h
 some_and (Some x) P h = (x, refl, h)
 

@@ -1,6 +1,7 @@
 -- The machine has one way to go, so that a run that cannot go on refutes the proof.
 use Rattle.std.specs.Prelude.{◌≡◌, ℕ, zero, suc, ◌+◌, ◌<◌, ◌≤◌, true, List, [], ◌∷◌, ◌++◌, length, map, Some, refl}
 use Rattle.std.proofs.Common.{sym, ◌∙◌, ap, subst, arith, append-nil, length-append}
+use Rattle.std.proofs.lemmas.List.{length-map}
 use Rattle.mm_lex.specs.Alphabet.{Name}
 use Rattle.mm_read.specs.declared.stmt.Stmt.{Stmt}
 use Rattle.mm_read.specs.declared.stmt.Stmt.TheVariants.{Open, Close, Const, Var, Disj, Float, Ess, Axiom, Prove}
@@ -31,12 +32,8 @@ append_cut {A} (u ∷ b) (v ∷ c) x y e l =
     let r = append_cut b c x y tails l in
     (ap (λ w. w ∷ b) heads ∙ ap (λ w. v ∷ w) r.0, r.1)
 
-length-map' : {A B : Type 0} (f : A → B) (xs : List A) → length (map f xs) ≡ length xs
-length-map' f [] = refl
-length-map' f (x ∷ xs) = ap suc (length-map' f xs)
-
 pub length-premises : (S : Database) (a : ℕ) (s : Stmt) (σ : Images) → length (premises S a s σ) ≡ length (hypotheses (before S a) s)
-length-premises S a s σ = length-map' (λ i. applied σ (expr_at S i)) (hypotheses (before S a) s)
+length-premises S a s σ = length-map (hypotheses (before S a) s) (λ i. applied σ (expr_at S i))
 
 -- no statement is a hypothesis and an assertion
 pub not_both : (s : Stmt) → is_hypothesis_kind s ≡ true → is_assertion s ≡ true → ⊥
