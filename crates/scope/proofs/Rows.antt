@@ -9,7 +9,7 @@ use Rattle.scope.proofs.Databases.{w, demo, row_seven, row_th}
 demo_legal : AllLegal demo
 demo_legal = refl
 
--- row 7 with its second theorem breaks none
+-- nor does the database of row 7
 row_seven_legal : AllLegal (row_seven ++ row_th ∷ Close ∷ [])
 row_seven_legal = refl
 

@@ -58,7 +58,7 @@ module _ (S : Database) (names : List Name) (a : ℕ) (s : Stmt) (distinct : Are
   abbrev ps : List ℕ
   ps = hypotheses (before S a) s
 
-  -- as many first symbols and as many hypotheses as the assertion has
+  -- the first symbols, and what is asked of the results, are as many as the positions
   lens : (length heads ≡ length ps) × (length hs ≡ length ps)
   lens = asked-lengths S names ps heads hs asked
 

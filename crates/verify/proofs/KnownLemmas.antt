@@ -31,7 +31,7 @@ use Rattle.frame.proofs.FoundByNumber.{some-same}
 -- ---- results behind those of the labels
 
 module _ (S : Database) (names : List Name) (at : ℕ) where
-  -- a state without the first n results saved
+  -- a state without the first n saved results
   cut : ℕ → State → State
   cut n st = record { stack = st.stack; saved = drop n st.saved; weight = st.weight }
 

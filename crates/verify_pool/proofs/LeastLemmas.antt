@@ -33,7 +33,7 @@ module _ (S : Database) (jobs : List Job) where
       let job = get_there jobs i wrong.0 in
       record { job = job.0; stands = job.1; bad = λ right. wrong.1 (there_right i job.0 job.1 right) }
 
-  -- so does the index that is answered
+  -- so has the answer, where there is one
   some_bad : (answer : Option ℕ) → IfSome answer (IsWrongAt (IsRightAt S jobs) (length jobs)) → IfSome answer (IsBadAt S jobs)
   some_bad None wrong = wrong
   some_bad (Some i) wrong = bad_at i wrong
