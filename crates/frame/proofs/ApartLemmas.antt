@@ -247,7 +247,7 @@ all-set places marked i (c ∷ codes) h =
     and_from (slice_index_or (slice_set marked i true) (c % places) false) (are_marked places (slice_set marked i true) codes)
     (set_true marked i (c % places) p.0) (all-set places marked i codes p.1)
 
--- with the place of one symbol more, those of one symbol more are marked
+-- once the place of the next symbol is marked, those of one symbol more are
 pub marked_more : (places : ℕ) (marked : List Bool) (codes : List ℕ) (i p d : ℕ) → i < length codes → p ≡ get_or codes i d % places → p < length marked
     → are_marked places marked (take i codes) ≡ true → are_marked places (slice_set marked p true) (take (i + 1) codes) ≡ true
 marked_more places marked codes i p d h e low before =

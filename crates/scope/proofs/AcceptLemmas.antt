@@ -61,7 +61,7 @@ symbols-labelled (Ess label expr) l is = refl
 symbols-labelled (Axiom label expr) l is = refl
 symbols-labelled (Prove label expr proof) l is = refl
 
--- no names need be among the names
+-- of no names each is among the names
 no_names : (names : List Name) → AreNamed names []
 no_names names x h = absurd (true≢false (sym h))
 

@@ -203,7 +203,7 @@ close_step true false p q r later o e =
     e ∙ (ap (λ x. x ++ q ∷ []) (before_open-none r o) ∙ ap (λ c. cond c (p ∷ before_open r) [] ++ q ∷ []) (sym o))
 close_step false o p q r later h e = e
 
--- statements close a block before them, or the `$}` does where none of theirs is open
+-- with a `$}` more, statements close no block before them where they closed none and one of theirs is open
 closes_all : (at : ℕ) (S : Database) → stays_open 0 (S ++ Close ∷ []) ≡ cond (stays_open 0 S) (has_open (active_from at S)) false
 closes_all at S = by (stays_open 0 S) refl
   where

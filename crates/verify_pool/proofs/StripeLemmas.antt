@@ -43,7 +43,7 @@ module _ (right : ℕ → Type 0) (count step : ℕ) where
       (λ q lower turn within is_before. before q lower turn within (first (q + turn * step) is_before))
       (λ turn within is_before. here.before turn within (second (stripe + turn * step) is_before))
 
-  -- an answer that is one of two has a job that is not right where both have one
+  -- an answer that is one of the two has a job that is not right, where each of them has
   pub one_of_two : (least answer both : Option ℕ) → (both ≡ least) ⊎ (both ≡ answer)
       → IfSome least (IsWrongAt right count) → IfSome answer (IsWrongAt right count) → IfSome both (IsWrongAt right count)
   one_of_two least answer both one p q =
