@@ -53,12 +53,14 @@ module _ (b m c : Buffers) (rs qs : List Record) (r : Record) (w : Row) (h : Hea
   rows-more : Extends b.rows.items c.rows.items
   rows-more = (w ∷ [], rows)
 
+  -- the new row begins where the old hypotheses and groups end
   begins : Begins b c
   begins = record {
     hypotheses = ap (hypotheses_by (length c.hypotheses.items)) row-at ∙ row.hypotheses_from;
     groups = ap (groups_by (length c.groups.items)) row-at ∙ row.groups_from;
   }
 
+  -- the place of the new record is that of its row
   placed : place_of c r (length c.numbers.items) ≡ row_place r w
   placed = ap (λ t. place_by t c r (length c.numbers.items)) kind ∙ ap (row_place r) (get_or_from_slice_get c.rows.items r.row w no_row row-there)
 

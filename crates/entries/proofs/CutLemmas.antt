@@ -35,9 +35,11 @@ module _ (b c : Buffers) (rs : List Record) (n : ℕ) (r : Record) (s : Sizes) (
   abbrev place : Place
   place = place_of c r end
 
+  -- the place of the first statement that is cut away
   there : slice_get (places_of c rs) n ≡ Some place
   there = places-get c rs n r here
 
+  -- its parts stand in order within the long buffers
   own : IsWithin (sizes_of c) place
   own = within-at (sizes_of c) (places_of c rs) n place p.within there
 
@@ -69,6 +71,7 @@ module _ (b c : Buffers) (rs : List Record) (n : ℕ) (r : Record) (s : Sizes) (
       let e = ap length is-cut.rows in let f = rows_from-of c r end in
       let l = length-take-le place.rows_from c.rows.items (omega (arith, own.rows, own.rows_end)) in omega arith
 
+  -- the rows cut away begin where the hypotheses and groups that are left end
   begins : Begins b c
   begins = record {
     hypotheses =
@@ -81,6 +84,7 @@ module _ (b c : Buffers) (rs : List Record) (n : ℕ) (r : Record) (s : Sizes) (
         ap (groups_at c) rows-length ∙ (sym (start-groups c r end rows-in) ∙ sym (e ∙ l));
   }
 
+  -- the records that are left have the places that they had
   taken : places_of b (take n rs) ≡ take n (places_of c rs)
   taken =
       let left = packed-cut b c (places_of c rs) n place p there is-cut in

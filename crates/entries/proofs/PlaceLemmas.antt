@@ -138,7 +138,7 @@ items-push b c rs qs e p g a =
 
 -- ---- fewer statements
 
-take-get : {A : Type 0} (n i : ℕ) (xs : List A) (x : A) → slice_get (take n xs) i ≡ Some x → (i < n) × (slice_get xs i ≡ Some x)
+pub take-get : {A : Type 0} (n i : ℕ) (xs : List A) (x : A) → slice_get (take n xs) i ≡ Some x → (i < n) × (slice_get xs i ≡ Some x)
 take-get zero zero xs x e = absurd (cc)
 take-get zero (suc i) xs x e = absurd (cc)
 take-get (suc n) zero [] x e = absurd (cc)
@@ -178,12 +178,15 @@ cut-sizes b c r k w = record {
 }
 
 module _ (b c : Buffers) (rs : List Place) (n : ℕ) (r : Place) (p : ArePacked c rs) (here : slice_get rs n ≡ Some r) (k : IsCut b c (start_of r)) where
+  -- the parts of the first statement that is cut away stand in order
   own : IsWithin (sizes_of c) r
   own = within-at (sizes_of c) rs n r p.within here
 
+  -- the statements before it lie within what is left
   fits : AreWithin (sizes_of b) (take n rs)
   fits = within-more (start_of r) (sizes_of b) (take n rs) (cut-sizes b c r k own) (p.ordered n r here)
 
+  -- what is asked of the hypotheses is cut where they are
   pairs : length b.asked.items ≡ length b.hypotheses.items
   pairs =
       let q = p.paired in

@@ -81,6 +81,7 @@ module _ (b : Buffers) (rs : List Record) (es : List Entry) (i : ℕ) (r : Recor
   reads-place : IsReading b (own_row b.rows.items r) (entry_of b place).assertion
   reads-place = reads-by r.has_row b r (end_of b (drop (suc i) rs)) own-place (groups-at b (places_of b rs) i place p.grouped (places-get b rs i r here))
 
+  -- the row read for a record tells the parts of the entry at its index
   pub reads : (e : Entry) → slice_get es i ≡ Some e → IsReading b (own_row b.rows.items r) e.assertion
   reads e h = subst (λ (x : Entry). IsReading b (own_row b.rows.items r) x.assertion) (same_Some _ _ (sym (is-entry b rs es i r v here) ∙ h)) reads-place
 

@@ -11,12 +11,13 @@ use Rattle.mm_read.specs.Statements.{Database}
 use Rattle.scope.specs.Active.{stays_open, active_from}
 use Rattle.frame.proofs.OpenLemmas.{stays_open-any}
 
--- no variable has two `$f` among the hypotheses
+-- x is none of the variables
 abbrev pub IsElsewhere : Name → List (Option Name) → Type 0
 IsElsewhere x [] = Unit {0}
 IsElsewhere x (None ∷ vs) = IsElsewhere x vs
 IsElsewhere x (Some y ∷ vs) = (name_eq y x ≡ false) × IsElsewhere x vs
 
+-- no variable has two `$f` among the hypotheses
 abbrev pub AreOnce : List (Option Name) → Type 0
 AreOnce [] = Unit {0}
 AreOnce (None ∷ vs) = AreOnce vs
@@ -27,6 +28,7 @@ AreOnce (Some x ∷ vs) = IsElsewhere x vs × AreOnce vs
 pub not-both : (a : Bool) → a ≡ true → a ≡ false → ⊥
 not-both a p q = let e : true ≡ false = sym p ∙ q in cc
 
+-- the test for equal names holds of equal names
 pub same : (x y : Name) → x ≡ y → name_eq x y ≡ true
 same x y h = (bytes_eq-Decides x y).1 h
 
@@ -66,6 +68,7 @@ stands-active q n (t ∷ front) s rest opens passes = by (stands-active q (n + 1
     by more true = or_right (q t) (list_any (λ p. q p.1) (active_from (n + 1) (front ++ s ∷ rest))) more
     by more false = more
 
+-- two lists that close no block before them, one behind the other, close none either
 pub open_both : (d : ℕ) (T U : Database) → stays_open d T ≡ true → stays_open 0 U ≡ true → stays_open d (T ++ U) ≡ true
 open_both d [] U h k = stays_open-any d U k
 open_both d (Open ∷ T) U h k = open_both (suc d) T U h k

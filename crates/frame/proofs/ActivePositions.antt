@@ -82,7 +82,7 @@ module _ (es : List Entry) (S : Database) where
       by false e false f (inl j) = j
       by false e false f (inr j) = let bad : true ≡ false = sym j.stands ∙ (ap (λ n. is_active S n (length S + 1)) j.last ∙ f) in cc
 
-  ascends-float : (c : ℕ) (list : List ℕ) → Ascends list → Ascends (with_float es S c list)
+  pub ascends-float : (c : ℕ) (list : List ℕ) → Ascends list → Ascends (with_float es S c list)
   ascends-float c list a = by (last_where (floats c) es == 0) (is_active S (last_where (floats c) es) (length S + 1))
     where
       by : (b d : Bool) → Ascends (cond b list (cond d (inserted (last_where (floats c) es) list) list))

@@ -59,15 +59,19 @@ pub all-true : {A : Type 0} (p : A → Bool) (xs : List A) → ((x : A) → p x 
 all-true p [] h = refl
 all-true p (x ∷ xs) h = ap (λ b. b && list_all p xs) (h x) ∙ all-true p xs h
 
+-- a variable is apart from an expression as a symbol where it is so as a variable
 pub symbol_variable : (S : Database) (u : Name) (f : Expr) → is_variable S u ≡ true → is_symbol_apart S f u ≡ is_variable_apart S u f
 symbol_variable S u f e = ap (λ b. list_all (λ v. not b || not (is_variable S v) || is_pair S u v) f) e
 
+-- a symbol that is no variable is apart from each expression
 pub symbol_constant : (S : Database) (u : Name) (f : Expr) → is_variable S u ≡ false → is_symbol_apart S f u ≡ true
 symbol_constant S u f e = ap (λ b. list_all (λ v. not b || not (is_variable S v) || is_pair S u v) f) e ∙ all-true (λ v. true) f (λ v. refl)
 
+-- a variable is apart from a symbol that is none
 pub pair_constant : (S : Database) (u v : Name) → is_variable S v ≡ false → is_pair_apart S u v ≡ true
 pair_constant S u v e = ap (λ b. not b || is_pair S u v) e
 
+-- two variables are apart where they are a pair
 pub pair_variable : (S : Database) (u v : Name) → is_variable S v ≡ true → is_pair_apart S u v ≡ is_pair S u v
 pair_variable S u v e = ap (λ b. not b || is_pair S u v) e
 
@@ -107,6 +111,7 @@ module _ (S : Database) where
   abbrev is_good : Name → Name → Bool
   is_good u v = not (is_variable S u) || not (is_variable S v) || is_pair S u v
 
+  -- a disjunction whose first two parts fail holds by the third
   third : (a b c : Bool) → a ≡ true → b ≡ true → (not a || not b || c) ≡ true → c ≡ true
   third true true c p q h = h
   third true false c p q h = cc
@@ -132,6 +137,7 @@ module _ (S : Database) where
       by u v in_e in_f true false p q = refl
       by u v in_e in_f true true p q = k u v p q in_e in_f
 
+  -- no active `$d` keeps a symbol apart from itself
   pub same_no_pair : (u : Name) → is_pair S u u ≡ false
   same_no_pair u = ap (λ t. not t && list_any (λ names. has_name u names && has_name u names) (groups S)) (name_same u)
 
@@ -191,9 +197,11 @@ pub listed_there : (S : Database) (names : List Name) (codes : List ℕ) (x : �
 listed_there S names codes x d l b h =
     or_right (not (is_variable S (name_at names x))) (has_name (name_at names x) (decode names codes)) (sym (has-decode names x codes d l b) ∙ h)
 
+-- a symbol that is no variable counts as listed
 pub listed_constant : (S : Database) (list : List Name) (u : Name) → is_variable S u ≡ false → is_listed S list u ≡ true
 listed_constant S list u h = ap (λ b. not b || has_name u list) h
 
+-- a variable whose number is not among those of the list is not listed
 pub unlisted : (S : Database) (names : List Name) (codes : List ℕ) (x : ℕ) → AreDistinct names → x < length names → AreBelow (length names) codes
     → is_variable S (name_at names x) ≡ true → list_any (λ y. x == y) codes ≡ false → is_listed S (decode names codes) (name_at names x) ≡ false
 unlisted S names codes x d l b var none =
@@ -226,6 +234,7 @@ set_true (m ∷ marked) zero (suc j) h = h
 set_true (m ∷ marked) (suc i) zero h = h
 set_true (m ∷ marked) (suc i) (suc j) h = set_true marked i j h
 
+-- the place that is written is marked
 set_here : (marked : List Bool) (i : ℕ) → i < length marked → slice_index_or (slice_set marked i true) i false ≡ true
 set_here [] i h = absurd (omega (arith, h))
 set_here (m ∷ marked) zero h = refl
@@ -238,6 +247,7 @@ all-set places marked i (c ∷ codes) h =
     and_from (slice_index_or (slice_set marked i true) (c % places) false) (are_marked places (slice_set marked i true) codes)
     (set_true marked i (c % places) p.0) (all-set places marked i codes p.1)
 
+-- once the place of the next symbol is marked, those of one symbol more are
 pub marked_more : (places : ℕ) (marked : List Bool) (codes : List ℕ) (i p d : ℕ) → i < length codes → p ≡ get_or codes i d % places → p < length marked
     → are_marked places marked (take i codes) ≡ true → are_marked places (slice_set marked p true) (take (i + 1) codes) ≡ true
 marked_more places marked codes i p d h e low before =

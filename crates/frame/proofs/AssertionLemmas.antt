@@ -155,6 +155,7 @@ module _ (names labels : List Name) (es more : List Entry) (s : Stmt) (d : Asser
   abbrev front : Database
   front = map (stmt_of names labels) es
 
+  -- what is kept before the statement are hypotheses among its entries
   there : d.hypotheses ≡ kept_with d.whole front s → AreHypotheses es d.hypotheses
   there h = subst (AreHypotheses es) (sym h) (kept-are names labels es d.whole s)
 

@@ -21,7 +21,8 @@ use Rattle.frame.proofs.ActiveBehind.{stands-active, IsElsewhere, AreOnce}
 use Rattle.frame.proofs.TypedVariables.{first-fixed, own-fixed, float-kinds}
 use Rattle.frame.proofs.PlacesLemmas.{is_flt, used-has-place, mandatory-place, variables-once}
 use Rattle.frame.proofs.GroupsLemmas.{has-filter}
-use Rattle.frame.proofs.FoundByNumber.{map-back, map-at, take-at, middle, kept-front, some-same}
+use Rattle.entries.proofs.PlaceLemmas.{take-get}
+use Rattle.frame.proofs.FoundByNumber.{map-back, map-at, middle, kept-front, some-same}
 use Rattle.frame.proofs.PlacedHypotheses.{IsHyp, AreHyps, hyps}
 
 -- ---- lists
@@ -77,10 +78,11 @@ module _ (S : Database) (a : ℕ) (s : Stmt) (legal : AllKept S) (is : HasAssert
   hyp-at (q ∷ ps) w zero p h = let same : q ≡ p = cc in subst (IsHyp T s) same w.0
   hyp-at (q ∷ ps) w (suc k) p h = hyp-at ps w.1 k p h
 
+  -- a hypothesis of the assertion stands in the whole database, and its variable is read before the assertion
   there : (p : ℕ) (h : IsHyp T s p) → (stmt_at S p ≡ Some h.stmt) × (variable_at T p ≡ variable_of h.stmt)
   there p h =
       let here : slice_get T (length h.front) ≡ Some h.stmt = ap (λ w. slice_get w (length h.front)) h.whole ∙ middle h.front h.stmt h.rest in
-      let t = take-at (a - 1) S (length h.front) h.stmt here in
+      let t = take-get (a - 1) (length h.front) S h.stmt here in
       (ap (stmt_at S) h.at ∙ t.1, ap (variable_at T) h.at ∙ ap option_variable here)
 
   -- the variable at a place is that of the `$f` there
@@ -140,6 +142,7 @@ module _ (S : Database) (a : ℕ) (s : Stmt) (legal : AllKept S) (is : HasAssert
       let shape : w.stmt ≡ r = some-same (there p w).0 g in
       subst (λ t. IsFirstFixed T (expr_of t)) shape (first-fixed T w.front w.stmt w.rest front-legal w.whole)
 
+  -- each variable of the assertion has a mandatory `$f`, and one alone, and its expressions begin with no variable
   pub bound : IsBound S a s
   bound = record {
     own = λ x has var. used-float x (or_left (has_name x (expr_of s)) _ has) var;

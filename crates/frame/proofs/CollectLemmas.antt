@@ -1,5 +1,5 @@
 -- Collecting positions: the loops' steps.
-use Rattle.std.specs.Prelude.{◌≡◌, ℕ, zero, suc, ◌+◌, ◌-◌, ◌<◌, ◌≤◌, Bool, true, false, cond, ◌==◌, nat_lt, ◌⊎◌, List, [], ◌∷◌, ◌++◌, length, map, drop, get_or, slice_get, Some, Result, Ok, Err, OnOk, refl}
+use Rattle.std.specs.Prelude.{◌≡◌, ℕ, zero, suc, ◌+◌, ◌-◌, ◌<◌, ◌≤◌, Bool, true, false, cond, ◌==◌, nat_lt, ◌⊎◌, List, [], ◌∷◌, ◌++◌, length, map, drop, get_or, slice_get, Some, refl}
 use Rattle.std.proofs.Common.{sym, ◌∙◌, ap, subst, arith, inl, inr}
 use Rattle.mm_read.specs.declared.stmt.Stmt.{Stmt}
 use Rattle.mm_read.specs.Statements.{Database}
@@ -124,7 +124,3 @@ pub index-is : {A : Type 0} (xs : List A) (i : ℕ) (x y : A) → slice_get xs i
 index-is [] i x y h e = cc
 index-is (z ∷ xs) zero x y h e = let same : z ≡ y = cc in e ∙ same
 index-is (z ∷ xs) (suc i) x y h e = index-is xs i x y h e
-
-pub on-ok-weaker : {T E : Type 0} (r : Result T E) (P Q : Type 0) → (P → Q) → OnOk r P → OnOk r Q
-on-ok-weaker (Ok x) P Q f h = f h
-on-ok-weaker (Err x) P Q f h = tt

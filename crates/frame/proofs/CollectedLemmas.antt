@@ -46,6 +46,7 @@ module _ (es : List Entry) (names labels : List Name) (m : ℕ) (S : Database)
       let n = numbered-at (length names) m es (length A) b.0 numbered b.1 in
       record { entry = b.0; found = b.1; is = b.2; below = n.0; two = n.1 }
 
+  -- an active statement that passes the test is among the positions of those that do
   members : (q : Stmt → Bool) (p : ℕ) (A : Database) (t : Stmt) (B : Database) → S ≡ A ++ t ∷ B → p ≡ suc (length A) → stays_open 0 B ≡ true → q t ≡ true → In p (map (λ y. y.0) (filter (λ y. q y.1) (active S)))
   members q p A t B cut at_p stays h =
       let e : 1 + length A ≡ p = omega (arith, at_p) in
@@ -100,6 +101,7 @@ module _ (es : List Entry) (names labels : List Name) (m : ℕ) (S : Database)
           equal : last_from (floats c) 0 1 es ≡ 1 + k.place → k.place ≡ length A → p ≡ last_where (floats c) es
           equal is same_place = let e : p ≡ 1 + k.place = omega (arith, at_p, same_place) in e ∙ sym is
 
+  -- the same where the variable of the `$f` is known by its name
   last_float : (p c : ℕ) (A B : Database) (u l x : Name) → S ≡ A ++ stmt.Float u l x ∷ B → p ≡ suc (length A) → stays_open 0 B ≡ true → c < length names → name_at names c ≡ x → IsFloatOf es S c p
   last_float p c A B u l x cut at_p stays small e = is-float p c A B u l (cut ∙ ap (λ y. A ++ stmt.Float u l y ∷ B) (sym e)) at_p stays small
 

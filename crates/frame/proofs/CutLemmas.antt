@@ -17,6 +17,9 @@ use Rattle.frame.specs.Stored.Counts.{AreNumbered, KeepsCounts}
 use Rattle.frame.specs.Stored.Whole.{AreKept}
 use Rattle.entries.specs.Stored.Spans.{Extends}
 use Rattle.frame.specs.Stored.Parts.{has_parts, IsKeptAs}
+use Rattle.entries.proofs.SpanLemmas.{extends-take}
+use Rattle.entries.proofs.PlaceLemmas.{take-get}
+use Rattle.frame.proofs.WalkLemmas.{get-take}
 use Rattle.frame.proofs.SymbolsLemmas.{symbols_of-front}
 use Rattle.frame.proofs.AssertionLemmas.{kept-moved}
 use Rattle.frame.proofs.OpenLemmas.{stays_open-front}
@@ -24,24 +27,6 @@ use Rattle.frame.proofs.StoredOneMore.{statements-more, stmt-more, numbered-at}
 use Rattle.frame.proofs.StoredTaken.{length-positions}
 use Rattle.scope.proofs.ActiveLemmas.{place}
 use Rattle.frame.proofs.LabelLemmas.{label-below-at}
-
--- ---- the front of a list
-
-pub front-extends : {A : Type 0} (n : ℕ) (xs : List A) → Extends (take n xs) xs
-front-extends n xs = (drop n xs, sym (take-append-drop n xs))
-
-get-take : {A : Type 0} (n : ℕ) (xs : List A) (i : ℕ) (x : A) → slice_get (take n xs) i ≡ Some x → (i < n) × (slice_get xs i ≡ Some x)
-get-take zero [] i x g = cc
-get-take zero (y ∷ xs) i x g = cc
-get-take (suc n) [] i x g = cc
-get-take (suc n) (y ∷ xs) zero x g = (omega arith, g)
-get-take (suc n) (y ∷ xs) (suc i) x g = let r = get-take n xs i x g in let lt = r.0 in (omega (arith, lt), r.1)
-
-get-front : {A : Type 0} (n : ℕ) (xs : List A) (i : ℕ) → i < n → slice_get (take n xs) i ≡ slice_get xs i
-get-front zero xs i lt = absurd (omega (arith, lt))
-get-front (suc n) [] i lt = refl
-get-front (suc n) (x ∷ xs) zero lt = refl
-get-front (suc n) (x ∷ xs) (suc i) lt = get-front n xs i (omega (arith, lt))
 
 -- ---- labels and positions
 
@@ -80,7 +65,7 @@ positions-front n S =
 legal-front : (n : ℕ) (S : Database) → AreAllLegal S → AreAllLegal (take n S)
 legal-front n S all zero s h = cc
 legal-front n S all (suc j) s h =
-    let g = get-take n S j s h in
+    let g = take-get n j S s h in
     let lt = g.0 in
     let same : before (take n S) (suc j) ≡ before S (suc j) = take-take (suc j - 1) n S (omega (arith, lt)) in
     subst (λ B. IsLegal B s) (sym same) (all (suc j) s g.1)
@@ -107,14 +92,15 @@ module _ (names labels : List Name) (positions : List ℕ) (symbols : List Symbo
   abbrev pub S : Database
   S = map (stmt_of names labels) entries
 
+  -- the entry behind the first n knows how many names and labels there were
   counts : KeepsCounts names labels entries n e
   counts = k.counts_kept n e p.at
 
   pub names-front : Extends names' names
-  names-front = subst (λ r. Extends r names) (sym p.names_cut) (front-extends e.names names)
+  names-front = subst (λ r. Extends r names) (sym p.names_cut) (extends-take e.names names)
 
   labels-extend : Extends labels' labels
-  labels-extend = subst (λ r. Extends r labels) (sym p.labels_cut) (front-extends e.label labels)
+  labels-extend = subst (λ r. Extends r labels) (sym p.labels_cut) (extends-take e.label labels)
 
   names-count : length names' ≡ e.names
   names-count = ap length p.names_cut ∙ length-take-le e.names names counts.within
@@ -128,6 +114,7 @@ module _ (names labels : List Name) (positions : List ℕ) (symbols : List Symbo
   labels-count : length labels' ≡ e.label
   labels-count = ap length labels-are ∙ sym counts.label_count
 
+  -- the first entries use no other names and labels
   numbered : AreNumbered (length names') (length labels') (take n entries)
   numbered =
       subst (λ a. AreNumbered a (length labels') (take n entries)) (sym names-count)
@@ -141,14 +128,17 @@ module _ (names labels : List Name) (positions : List ℕ) (symbols : List Symbo
   front-of : (i : ℕ) → i < n → take i (map (stmt_of names' labels') entries') ≡ take i S
   front-of i lt = ap (take i) cut-statements ∙ take-take i n S (omega (arith, lt))
 
+  -- an entry that is left is one of the first n
   there : (i : ℕ) (d : Entry) → slice_get entries' i ≡ Some d → (i < n) × (slice_get entries i ≡ Some d)
-  there i d h = get-take n entries i d (ap (λ r. slice_get r i) (sym p.entries_cut) ∙ h)
+  there i d h = take-get n i entries d (ap (λ r. slice_get r i) (sym p.entries_cut) ∙ h)
 
+  -- each symbol that is left tells what is left of its declarations
   symbols'' : (c : ℕ) → c < length names' → slice_get symbols' c ≡ Some (symbol_of entries' c)
   symbols'' c lt =
       let a = names-count in let b = p.between_count in let d = k.count in let w = counts.within in
-      ap (λ r. slice_get r c) p.symbols_cut ∙ (get-front e.names between c (omega (arith, lt, a)) ∙ p.declared c (omega (arith, lt, a, b, d, w)))
+      ap (λ r. slice_get r c) p.symbols_cut ∙ (get-take c e.names between (omega (arith, lt, a)) ∙ p.declared c (omega (arith, lt, a, b, d, w)))
 
+  -- an entry that is left keeps the counts before it
   counts' : (i : ℕ) (d : Entry) → slice_get entries' i ≡ Some d → KeepsCounts names' labels' entries' i d
   counts' i d h =
       let q = there i d h in
@@ -164,6 +154,7 @@ module _ (names labels : List Name) (positions : List ℕ) (symbols : List Symbo
         name_count = c.name_count ∙ ap (λ T. length (symbols_of T)) (sym (front-of i lt));
       }
 
+  -- an assertion that is left is kept as it was
   parts' : (i : ℕ) (d : Entry) → slice_get entries' i ≡ Some d → has_parts d.kind ≡ true → IsKeptAs entries' (take i (map (stmt_of names' labels') entries')) (stmt_of names' labels' d) d.assertion
   parts' i d h a =
       let q = there i d h in

@@ -2,22 +2,18 @@
 use Rattle.std.specs.Prelude.{◌≡◌, ℕ, zero, suc, ◌+◌, ◌<◌, Bool, true, false, cond, ◌||◌, nat_eq, List, [], ◌∷◌, ◌++◌, length, take, get_or, slice_get, slice_set, Some, refl}
 use Rattle.std.specs.List.{list_any}
 use Rattle.std.proofs.Common.{sym, ◌∙◌, ap, arith}
+use Rattle.std.proofs.Math.Bool.{or-true, or-false}
 use Rattle.frame.specs.Below.{AreBelow}
 use Rattle.entries.specs.Entries.{Entry}
 use Rattle.frame.specs.declared.storage.Symbol.{Symbol}
 use Rattle.frame.specs.Stored.Entries.{floats, declares, last_from, symbol_of}
 use Rattle.frame.specs.Stored.Counts.{with_entry}
 use Rattle.scope.proofs.ActiveLemmas.{place}
-use Rattle.scope.proofs.DeclaredLemmas.{or_false}
 
 pub below-at : (n : ℕ) (codes : List ℕ) (k : ℕ) → AreBelow n codes → k < length codes → get_or codes k 0 < n
 below-at n [] k h l = absurd (omega (arith, l))
 below-at n (c ∷ codes) zero h l = h.0
 below-at n (c ∷ codes) (suc k) h l = below-at n codes k h.1 (omega (arith, l))
-
-pub or-true : (a : Bool) → (a || true) ≡ true
-or-true true = refl
-or-true false = refl
 
 pub any-take-more : (p : ℕ → Bool) (xs : List ℕ) (i : ℕ) → i < length xs → list_any p (take (i + 1) xs) ≡ (list_any p (take i xs) || p (get_or xs i 0))
 any-take-more p [] i h = absurd (omega (arith, h))
@@ -51,10 +47,10 @@ note-step (y ∷ xs) zero zero at r x any g e =
     ap (λ n. Some (record { float = n; variable = at })) f ∙ ap (λ b. Some (noted x at b)) (sym (or-true any))
 note-step (y ∷ xs) zero (suc c) at r x any g e =
     let no : nat_eq (suc c) zero ≡ false = grind arith in
-    g ∙ ap (λ b. Some (noted x at b)) (sym (ap (λ b. any || b) no ∙ or_false any))
+    g ∙ ap (λ b. Some (noted x at b)) (sym (ap (λ b. any || b) no ∙ or-false any))
 note-step (y ∷ xs) (suc k) zero at r x any g e =
     let no : nat_eq zero (suc k) ≡ false = grind arith in
-    g ∙ ap (λ b. Some (noted x at b)) (sym (ap (λ b. any || b) no ∙ or_false any))
+    g ∙ ap (λ b. Some (noted x at b)) (sym (ap (λ b. any || b) no ∙ or-false any))
 note-step (y ∷ xs) (suc k) (suc c) at r x any g e =
     let same : nat_eq c k ≡ nat_eq (suc c) (suc k) = grind arith in
     note-step xs k c at r x any g e ∙ ap (λ b. Some (noted x at (any || b))) same

@@ -28,10 +28,6 @@ pub ok-both : {T E : Type 0} (r : Result T E) (P Q R : Type 0) → (P → Q → 
 ok-both (Ok x) P Q R f p q = f p q
 ok-both (Err e) P Q R f p q = tt
 
-pub ok-map : {T E : Type 0} (r : Result T E) (P Q : Type 0) → (P → Q) → OnOk r P → OnOk r Q
-ok-map (Ok x) P Q f p = f p
-ok-map (Err e) P Q f p = tt
-
 pub ok-given : {T E : Type 0} (r : Result T E) (A P Q R : Type 0) → (P → (A → Q) → R) → OnOk r P → (A → OnOk r Q) → OnOk r R
 ok-given (Ok x) A P Q R f p q = f p q
 ok-given (Err e) A P Q R f p q = tt

@@ -20,6 +20,7 @@ use Rattle.frame.specs.Stored.Entries.{stmt_by}
 use Rattle.frame.specs.Stored.Counts.{AreNumbered, HasTwo}
 use Rattle.frame.specs.Stored.Parts.{variable_by, asked_by}
 use Rattle.frame.specs.Stored.Places.{is_code, place_from}
+use Rattle.entries.proofs.PlaceLemmas.{take-get}
 use Rattle.frame.proofs.LegalLabels.{AllKept}
 use Rattle.names.proofs.CodesLemmas.{name_same}
 
@@ -35,15 +36,10 @@ map-at f [] k x h = cc
 map-at f (y ∷ xs) zero x h = let e : y ≡ x = cc in ap (λ v. Some (f v)) e
 map-at f (y ∷ xs) (suc k) x h = map-at f xs k x h
 
-pub take-at : {A : Type 0} (n : ℕ) (xs : List A) (k : ℕ) (x : A) → slice_get (take n xs) k ≡ Some x → (k < n) × (slice_get xs k ≡ Some x)
-take-at zero xs k x h = cc
-take-at (suc n) [] k x h = cc
-take-at (suc n) (y ∷ xs) zero x h = (omega arith, h)
-take-at (suc n) (y ∷ xs) (suc k) x h = let r = take-at n xs k x h in (let l = r.0 in omega (arith, l), r.1)
-
 pub some-same : {A : Type 0} {o : Option A} {x y : A} → o ≡ Some x → o ≡ Some y → x ≡ y
 some-same {x = x} {y = y} p q = let e : Some x ≡ Some y = sym p ∙ q in cc
 
+-- the element behind a front stands at the front's length
 pub middle : {A : Type 0} (xs : List A) (x : A) (ys : List A) → slice_get (xs ++ x ∷ ys) (length xs) ≡ Some x
 middle [] x ys = refl
 middle (y ∷ xs) x ys = middle xs x ys
@@ -52,7 +48,7 @@ middle (y ∷ xs) x ys = middle xs x ys
 pub kept-front : (all : Database) (n : ℕ) → AllKept all → AllKept (take n all)
 kept-front all n legal zero t h = cc
 kept-front all n legal (suc k) t h =
-    let r = take-at n all k t h in
+    let r = take-get n k all t h in
     let l = r.0 in
     let one : suc k - 1 ≡ k = omega arith in
     subst (λ D. IsLegal D t) (ap (λ j. take j all) one ∙ (sym (take-take k n all (omega (arith, l))) ∙ ap (λ j. take j (take n all)) (sym one))) (legal (suc k) t r.1)

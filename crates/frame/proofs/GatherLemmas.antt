@@ -23,7 +23,8 @@ use Rattle.frame.proofs.LegalLabels.{AllKept}
 use Rattle.frame.proofs.AssertionLemmas.{AllAre, active-are, get-entry, get-more, hypotheses-are}
 use Rattle.frame.proofs.EnterLemmas.{essentials-kept, not-essential}
 use Rattle.frame.proofs.CitedLemmas.{IsThere, there-expr, there-lists}
-use Rattle.frame.proofs.FoundByNumber.{kept-front, take-at}
+use Rattle.entries.proofs.PlaceLemmas.{take-get}
+use Rattle.frame.proofs.FoundByNumber.{kept-front}
 use Rattle.frame.proofs.CollectedLemmas.{found-floats, collected-hypotheses}
 use Rattle.frame.proofs.ActivePositions.{ascends-active}
 
@@ -81,7 +82,7 @@ gathered-hypotheses es names labels m i s codes distinct numbered legal low stan
     let all : AllKept T = subst AllKept is (kept-front S i legal) in
     let here : (k : ℕ) (x : Entry) → slice_get few k ≡ Some x → is_essential (stmt_of names labels x) ≡ true → x.assertion.hypotheses ≡ floats_in (take k T) (expr_of (stmt_of names labels x))
     = λ k x h e.
-    let t = take-at i es k x h in
+    let t = take-get i k es x h in
     kept k x t.1 e ∙ ap (λ D. floats_in D (expr_of (stmt_of names labels x))) (sym (take-take k i S (omega (arith, t.0))) ∙ ap (take k) is) in
     let own : with_floats few T codes [] ≡ floats_in T (expr_of s) = found-floats few names labels m T refl distinct n all codes low ∙ ap (floats_in T) stand in
     let found : with_essentials few (actives is_essential T) (floats_in T (expr_of s)) ≡ hypotheses T s
@@ -97,15 +98,18 @@ module _ (k : Stock) (a i : ℕ) (s : Stmt) (e : Entry) (stored : AreStored k) (
   abbrev S : Database
   S = statements_of k
 
+  -- the place of its entry, from the position
   back : a - 1 ≡ i
   back = let q = t.place in omega (arith, q)
 
+  -- the statement that its entry stands for
   own : Stmt
   own = stmt_of k.names k.labels e
 
   at-own : hypotheses (take i S) (stmt_of k.names k.labels e) ≡ hypotheses (take (a - 1) S) s
   at-own = ap (λ n. hypotheses (take n S) (stmt_of k.names k.labels e)) (sym back) ∙ ap (hypotheses (take (a - 1) S)) t.is
 
+  -- where its parts are not whole, its hypotheses are the `$f` of its own variables
   floats : e.assertion.whole ≡ false → e.assertion.hypotheses ≡ floats_in (take i S) (expr_of (stmt_of k.names k.labels e))
   floats w = t.kept.hypotheses_kept ∙ ap (λ b. kept_with b (take i S) (stmt_of k.names k.labels e)) w
 

@@ -2,11 +2,11 @@
 use Rattle.std.specs.Prelude.{◌≡◌, Bool, true, false, cond, not, ◌&&◌, ◌||◌, List, [], ◌∷◌, map, filter, refl}
 use Rattle.std.specs.List.{list_any}
 use Rattle.std.proofs.Common.{sym, ◌∙◌, ap}
+use Rattle.std.proofs.Math.Bool.{and-false}
 use Rattle.std.proofs.lemmas.Slice.Eq.{bytes_eq-Decides}
 use Rattle.mm_lex.specs.Alphabet.{Name, name_eq, has_name}
 use Rattle.frame.specs.FrameOf.{groups, separates, is_mandatory}
 use Rattle.frame.specs.Laws.{GroupsArePairs}
-use Rattle.frame.proofs.StoredOneMore.{and-no}
 
 -- a name is in the filtered list where it is in the list and passes
 pub has-filter : (m : Name → Bool) (x : Name) (l : List Name) → has_name x (filter m l) ≡ (has_name x l && m x)
@@ -20,7 +20,7 @@ has-filter m x (y ∷ l) = by (name_eq x y) refl (m y) refl (has-filter m x l)
         ap (λ t. has_name x (cond t (y ∷ filter m l) (filter m l))) b ∙ (ap (λ t. t || has_name x (filter m l)) e ∙ sym (ap (λ t. (t || has_name x l) && m x) e ∙ same))
     by true e false b r =
         let same : m x ≡ false = ap m ((bytes_eq-Decides x y).0 e) ∙ b in
-        ap (λ t. has_name x (cond t (y ∷ filter m l) (filter m l))) b ∙ (r ∙ (ap (λ t. has_name x l && t) same ∙ (and-no (has_name x l) ∙ sym (ap (λ t. (t || has_name x l) && m x) e ∙ same))))
+        ap (λ t. has_name x (cond t (y ∷ filter m l) (filter m l))) b ∙ (r ∙ (ap (λ t. has_name x l && t) same ∙ (and-false (has_name x l) ∙ sym (ap (λ t. (t || has_name x l) && m x) e ∙ same))))
     by false e true b r = ap (λ t. has_name x (cond t (y ∷ filter m l) (filter m l))) b ∙ (ap (λ t. t || has_name x (filter m l)) e ∙ (r ∙ sym (ap (λ t. (t || has_name x l) && m x) e)))
     by false e false b r = ap (λ t. has_name x (cond t (y ∷ filter m l) (filter m l))) b ∙ (r ∙ sym (ap (λ t. (t || has_name x l) && m x) e))
 

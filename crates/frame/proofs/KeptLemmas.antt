@@ -22,7 +22,8 @@ use Rattle.frame.specs.Stored.Parts.{variable_at, is_placed, placed, symbols_at,
 use Rattle.frame.specs.Stored.Places.{place_of}
 use Rattle.frame.proofs.LegalLabels.{AllKept}
 use Rattle.frame.proofs.PlacesLemmas.{mandatory-place}
-use Rattle.frame.proofs.FoundByNumber.{map-back, map-at, take-at, middle, kept-front, option_name, OptionBelow, OptionsBelow, place-found, place-none, has-some, variable-named, variable-below, numbered-at, asked-kind}
+use Rattle.entries.proofs.PlaceLemmas.{take-get}
+use Rattle.frame.proofs.FoundByNumber.{map-back, map-at, middle, kept-front, option_name, OptionBelow, OptionsBelow, place-found, place-none, has-some, variable-named, variable-below, numbered-at, asked-kind}
 use Rattle.frame.proofs.PlacedHypotheses.{IsHyp, AreHyps, hyps}
 
 -- ---- the assertion
@@ -65,7 +66,7 @@ module _ (es : List Entry) (names labels : List Name) (m a : ℕ) (e : Entry) (d
   entry-at : (p : ℕ) (h : IsHyp front_of own p) → IsEntryAt p h
   entry-at p h =
       let there : slice_get front_of (length h.front) ≡ Some h.stmt = ap (λ w. slice_get w (length h.front)) h.whole ∙ middle h.front h.stmt h.rest in
-      let t = take-at (a - 1) all (length h.front) h.stmt there in
+      let t = take-get (a - 1) (length h.front) all h.stmt there in
       let b = map-back (stmt_of names labels) es (length h.front) h.stmt t.1 in
       let one : p - 1 ≡ length h.front = (let q = h.at in omega (arith, q)) in
       let n = numbered-at (length names) m es (length h.front) b.0 numbered b.1 in
@@ -74,7 +75,7 @@ module _ (es : List Entry) (names labels : List Name) (m a : ℕ) (e : Entry) (d
   stands-there : (p : ℕ) (h : IsHyp front_of own p) → stmt_at all p ≡ Some h.stmt
   stands-there p h =
       let there : slice_get front_of (length h.front) ≡ Some h.stmt = ap (λ w. slice_get w (length h.front)) h.whole ∙ middle h.front h.stmt h.rest in
-      let t = take-at (a - 1) all (length h.front) h.stmt there in
+      let t = take-get (a - 1) (length h.front) all h.stmt there in
       ap (stmt_at all) h.at ∙ t.1
 
   variable-there : (p : ℕ) (h : IsHyp front_of own p) → frame_of.variable_at front_of p ≡ option_name names (variable_at es p)
@@ -101,9 +102,11 @@ module _ (es : List Entry) (names labels : List Name) (m a : ℕ) (e : Entry) (d
   own-hyps : AreHyps front_of own d.hypotheses
   own-hyps = subst (AreHyps front_of own) (sym hyps-are) (hyps front_of own)
 
+  -- its variables by name are those of its places
   named : variables_of front_of own ≡ map (option_name names) places
   named = ap (map (frame_of.variable_at front_of)) (sym hyps-are) ∙ variables-there d.hypotheses own-hyps
 
+  -- its places have names
   below : OptionsBelow (length names) places
   below = places-below d.hypotheses own-hyps
 
@@ -168,7 +171,7 @@ module _ (es : List Entry) (names labels : List Name) (m a : ℕ) (e : Entry) (d
       found : (x : Entry) × (slice_get es (n - 1) ≡ Some x) × (t ≡ stmt_of names labels x)
       found =
           let there : slice_get front_of (length A) ≡ Some t = ap (λ w. slice_get w (length A)) whole ∙ middle A t T in
-          let u = take-at (a - 1) all (length A) t there in
+          let u = take-get (a - 1) (length A) all t there in
           let b = map-back (stmt_of names labels) es (length A) t u.1 in
           let one : n - 1 ≡ length A = omega (arith, at_n) in
           (b.0, ap (slice_get es) one ∙ b.1, b.2)

@@ -2,6 +2,7 @@
 use Rattle.std.specs.Prelude.{◌≡◌, ℕ, zero, suc, ◌-◌, ◌<◌, ◌≤◌, Bool, true, false, cond, ◌||◌, ◌==◌, nat_eq, List, [], ◌∷◌, length, map, take, filter, slice_get, Some, refl}
 use Rattle.std.specs.List.{list_any}
 use Rattle.std.proofs.Common.{sym, ◌∙◌, ap, arith}
+use Rattle.std.proofs.Math.Bool.{or-false}
 use Rattle.std.proofs.lemmas.List.Folds.{list_any-append}
 use Rattle.std.proofs.lemmas.Slice.Eq.{bytes_eq-Decides}
 use Rattle.std.proofs.lemmas.Bool.{or_right}
@@ -22,7 +23,6 @@ use Rattle.entries.specs.declared.kind.Kind.TheVariants.{Open, Close, Const, Var
 use Rattle.entries.specs.Entries.{Entry}
 use Rattle.frame.specs.Stored.Entries.{stmt_by, stmt_of}
 use Rattle.scope.proofs.ActiveLemmas.{or_false_right}
-use Rattle.scope.proofs.DeclaredLemmas.{or_false}
 
 -- ---- numbers are the same where their names are
 
@@ -91,7 +91,7 @@ module _ (kind : Stmt → Bool) (g : ℕ × Stmt → Bool) (S : Database) (at p 
         high = omega (arith, a, c);
         last = refl;
         same = sym (ap (list_any g) b.list ∙ (list_any-append g (actives kind (take (p - 1) S)) ((p, s) ∷ [])
-            ∙ (ap (λ t. list_any g (actives kind (take (p - 1) S)) || t) (last-any g (p, s) false h) ∙ or_false (list_any g (actives kind (take (p - 1) S)))))) ∙ w.same;
+            ∙ (ap (λ t. list_any g (actives kind (take (p - 1) S)) || t) (last-any g (p, s) false h) ∙ or-false (list_any g (actives kind (take (p - 1) S)))))) ∙ w.same;
       }
 
   pub sought-over : p ≡ 0 → list_any g (actives kind (take (at - 1) S)) ≡ false

@@ -25,6 +25,7 @@ find-none p x xs h = by (p x) refl h
     by true e k = cc
     by false e k = (e, k)
 
+-- a rule that is not broken is kept
 kept : (S : Database) (s : Stmt) (rule : Rule) → not (keeps S s rule) ≡ false → keeps S s rule ≡ true
 kept S s rule h = by (keeps S s rule) h
   where
@@ -72,9 +73,11 @@ kept-legal S A t B all whole =
 
 -- ---- a constant is never a variable
 
+-- the statement declares x as a variable
 lists : Name → Stmt → Bool
 lists x s = has_name x (variables s)
 
+-- a statement that does so is a `$v`
 is_var : (t : Stmt) (x : Name) → has_name x (variables t) ≡ true → (ws : List Name) × (t ≡ Var ws)
 is_var (Var ws) x h = (ws, refl)
 is_var Open x h = cc
@@ -86,6 +89,7 @@ is_var (Ess l e) x h = cc
 is_var (Axiom l e) x h = cc
 is_var (Prove l e p) x h = cc
 
+-- a statement that declares x as a constant is a `$c`
 is_const : (t : Stmt) (x : Name) → has_name x (constants t) ≡ true → (ws : List Name) × (t ≡ Const ws)
 is_const (Const ws) x h = (ws, refl)
 is_const Open x h = cc
@@ -114,6 +118,7 @@ pub record Cut (S : Database) (q : Stmt → Bool) : Type 0 where
   pub whole : S ≡ front ++ stmt ∷ rest
   pub passes : q stmt ≡ true
 
+-- a list with a statement that passes can be cut there
 cut : (q : Stmt → Bool) (S : Database) → list_any q S ≡ true → Cut S q
 cut q [] h = cc
 cut q (s ∷ S) h = by (cut q S) (q s) refl h
@@ -154,6 +159,7 @@ pub data Order (A : Database) (t : Stmt) (B C : Database) (u : Stmt) (D : Databa
   at_one : t ≡ u → A ≡ C → B ≡ D → Order A t B C u D
   later : (M : Database) → A ≡ C ++ u ∷ M → D ≡ M ++ t ∷ B → Order A t B C u D
 
+-- two cuts of one list have an order
 pub order : (A : Database) (t : Stmt) (B C : Database) (u : Stmt) (D : Database) → A ++ t ∷ B ≡ C ++ u ∷ D → Order A t B C u D
 order [] t B [] u D e = at_one (cc) refl (cc)
 order [] t B (c ∷ C) u D e = let h : t ≡ c = cc in earlier C (ap (λ v. v ∷ C) (sym h)) (cc)
@@ -165,6 +171,7 @@ order (a ∷ A) t B (c ∷ C) u D e = let h : a ≡ c = cc in let r : A ++ t ∷
     more h (at_one x p q) = at_one x (ap (λ v. v ∷ A) h ∙ ap (λ v. c ∷ v) p) q
     more h (later M p q) = later M (ap (λ v. v ∷ A) h ∙ ap (λ v. c ∷ v) p) q
 
+-- of two legal statements none declares as a constant what the other declares as a variable
 no_variable : (S : Database) (x : Name) (A : Database) (t : Stmt) (B C : Database) (u : Stmt) (D : Database) → AllKept S → S ≡ A ++ t ∷ B → S ≡ C ++ u ∷ D
     → has_name x (constants t) ≡ true → has_name x (variables u) ≡ true → Order A t B C u D → ⊥
 no_variable S x A t B C u D all p q const var (earlier M e f) =

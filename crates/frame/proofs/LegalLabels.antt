@@ -18,6 +18,7 @@ use Rattle.frame.specs.Reading.{HasLabelsOnce}
 abbrev pub AllKept : Database → Type 0
 AllKept S = (j : ℕ) (s : Stmt) → stmt_at S j ≡ Some s → IsLegal (before S j) s
 
+-- where no rule is broken, the fourth is not
 fourth : (a b c d : Bool) (rest : Option Rule) → cond a (Some G1) (cond b (Some G2) (cond c (Some G3) (cond d (Some G4) rest))) ≡ None → d ≡ false
 fourth true b c d rest h = cc
 fourth false true c d rest h = cc
@@ -25,13 +26,16 @@ fourth false false true d rest h = cc
 fourth false false false true rest h = cc
 fourth false false false false rest h = refl
 
+-- a legal statement keeps G4
 keeps_label : (S : Database) (s : Stmt) → IsLegal S s → not (keeps S s G4) ≡ false
 keeps_label S s h = fourth (not (keeps S s G1)) (not (keeps S s G2)) (not (keeps S s G3)) (not (keeps S s G4)) _ h
 
+-- what is neither of two is not the first
 not_or : (a b : Bool) → not (not (a || b)) ≡ false → a ≡ false
 not_or true b h = cc
 not_or false b h = refl
 
+-- the label of a legal statement was not used before it
 pub fresh : (S : Database) (s : Stmt) (label : Name) → IsLegal S s → label_of s ≡ Some label → was_label S label ≡ false
 fresh S (Float l c v) label h e = let same : l ≡ label = cc in ap (was_label S) (sym same) ∙ not_or (was_label S l) (was_symbol S l) (keeps_label S (Float l c v) h)
 fresh S (Ess l x) label h e = let same : l ≡ label = cc in ap (was_label S) (sym same) ∙ not_or (was_label S l) (was_symbol S l) (keeps_label S (Ess l x) h)
@@ -43,9 +47,11 @@ fresh S (Const ws) label h e = cc
 fresh S (Var ws) label h e = cc
 fresh S (Disj ws) label h e = cc
 
+-- a statement with a label has that label by the test
 has_own : (s : Stmt) (label : Name) → label_of s ≡ Some label → has_label label (label_of s) ≡ true
 has_own s label e = ap (has_label label) e ∙ (bytes_eq-Decides label label).1 refl
 
+-- a label that a statement carries was used from then on
 was_there : (S : Database) (n k : ℕ) (s : Stmt) (label : Name) → k < n → slice_get S k ≡ Some s → label_of s ≡ Some label → was_label (take n S) label ≡ true
 was_there [] n k s label h e l = cc
 was_there (x ∷ S) zero k s label h e l = absurd (omega (arith, h))
@@ -55,6 +61,7 @@ was_there (x ∷ S) (suc n) zero s label h e l =
 was_there (x ∷ S) (suc n) (suc k) s label h e l =
     or_right (has_label label (label_of x)) (was_label (take n S) label) (was_there S n k s label (omega (arith, h)) e l)
 
+-- no later statement carries the label again
 no_later : (S : Database) → AllKept S → (i j : ℕ) (s r : Stmt) (label : Name) → Carries S i s label → Carries S j r label → i < j → ⊥
 no_later S kept zero j s r label p q h = let e = p.stands in cc
 no_later S kept (suc i) j s r label p q h =

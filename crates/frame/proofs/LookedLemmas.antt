@@ -12,6 +12,7 @@ use Rattle.frame.specs.Stored.Entries.{floats, last_where}
 use Rattle.frame.proofs.MarkLemmas.{IsNewPlace, place-push}
 use Rattle.frame.proofs.CollectLemmas.{inserted-here, inserted-before, inserted-after}
 use Rattle.frame.proofs.AscendingLists.{ascends-inserted}
+use Rattle.frame.proofs.ActivePositions.{ascends-float}
 
 -- ---- where a position goes
 
@@ -109,14 +110,6 @@ module _ (es : List Entry) (S : Database) where
       by false true = inserted-twice (last_where (floats c) es) xs
       by false false = refl
 
-  float-ascends : (c : ℕ) (xs : List ℕ) → Ascends xs → Ascends (with_float es S c xs)
-  float-ascends c xs a = by (last_where (floats c) es == 0) (is_active S (last_where (floats c) es) (length S + 1))
-    where
-      by : (b t : Bool) → Ascends (cond b xs (cond t (inserted (last_where (floats c) es) xs) xs))
-      by true t = a
-      by false true = ascends-inserted (last_where (floats c) es) xs a
-      by false false = a
-
   pub looked-none : (looked : List (Option ℕ)) (xs : List ℕ) → looked ≡ [] → xs ≡ [] → IsLooked es S looked xs
   looked-none looked xs e f = subst (λ l. IsLooked es S l xs) (sym e) (subst (IsLooked es S []) (sym f) (record { ascends = tt; has = λ c k h. cc }))
 
@@ -124,7 +117,7 @@ module _ (es : List Entry) (S : Database) where
   looked-inserted looked q xs l = record { ascends = ascends-inserted q xs l.ascends; has = λ c k h. float-inserted c q xs (l.has c k h) }
 
   pub looked-push : (looked : List (Option ℕ)) (c : ℕ) (xs : List ℕ) → IsLooked es S looked xs → IsLooked es S (looked ++ Some c ∷ []) (with_float es S c xs)
-  looked-push looked c xs l = record { ascends = float-ascends c xs l.ascends; has = λ d k h. by d k (place-push 0 looked (Some c) d k h) }
+  looked-push looked c xs l = record { ascends = ascends-float es S c xs l.ascends; has = λ d k h. by d k (place-push 0 looked (Some c) d k h) }
     where
       by : (d k : ℕ) → IsNewPlace 0 looked (Some c) d k → with_float es S d (with_float es S c xs) ≡ with_float es S c xs
       by d k (inl p) = float-stays d c xs (l.has d k p)

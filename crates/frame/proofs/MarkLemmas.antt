@@ -30,6 +30,7 @@ has-place k (v ∷ vs) c (suc i) h = by (is_code c v) refl (has-place (k + 1) vs
     by true e m = (k, refl)
     by false e m = m
 
+-- an index with an element is below the length
 within : (vs : List (Option ℕ)) (k : ℕ) (v : Option ℕ) → slice_get vs k ≡ Some v → k < length vs
 within [] k v s = cc
 within (w ∷ vs) zero v s = omega arith

@@ -23,6 +23,7 @@ pub record Coded (names : List Name) (codes : List ℕ) (x : Name) : Type 0 wher
   pub among : In code codes
   pub name : name_at names code ≡ x
 
+-- a name that stands among decoded numbers has such a number
 pub coded : (names : List Name) (codes : List ℕ) (x : Name) → has_name x (decode names codes) ≡ true → Coded names codes x
 coded names [] x h = cc
 coded names (c ∷ codes) x h = by (name_eq x (name_at names c)) refl (coded names codes x) h

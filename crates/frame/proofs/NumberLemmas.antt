@@ -1,6 +1,6 @@
 -- Numbers and the names that they stand for, as both grow.
 use Rattle.std.specs.Prelude.{◌≡◌, ℕ, ◌<◌, ◌≤◌, true, false, ◌||◌, ◌⊎◌, List, [], ◌∷◌, ◌++◌, length, take, refl}
-use Rattle.std.proofs.Common.{sym, ◌∙◌, ap, arith, inl, inr, append-nil, append_assoc}
+use Rattle.std.proofs.Common.{sym, ◌∙◌, ap, arith, inl, inr, append_assoc}
 use Rattle.std.proofs.Math.Seq.{take-append_seam}
 use Rattle.std.proofs.lemmas.Slice.Eq.{bytes_eq-Decides}
 use Rattle.std.proofs.lemmas.Bool.{cases_lt, or_right}
@@ -13,9 +13,6 @@ use Rattle.frame.specs.Stored.Counts.{AreZero, AreZeroBehind}
 use Rattle.names.proofs.DistinctLemmas.{name_at-more}
 use Rattle.entries.proofs.SpanLemmas.{extends-length}
 use Rattle.names.proofs.CodesLemmas.{has-at}
-
-pub extends-trans : {A : Type 0} (a b c : List A) → Extends a b → Extends b c → Extends a c
-extends-trans a b c p q = (p.0 ++ q.0, q.1 ∙ (ap (λ r. r ++ q.0) p.1 ∙ append_assoc a p.0 q.0))
 
 -- cut back to where it began, the list is as before
 pub take-extends : {A : Type 0} (a b : List A) → Extends a b → take (length a) b ≡ a
@@ -71,9 +68,6 @@ name_at-extends names new n p h = ap (λ r. name_at r n) p.1 ∙ name_at-more na
 
 pub made-step : (names rest words done : List Name) (x : Name) → with_names names words ≡ done → words ≡ x ∷ rest → with_names (with_name names x) rest ≡ done
 made-step names rest words done x h is = ap (with_names names) (sym is) ∙ h
-
-pub extends-same : {A : Type 0} (xs : List A) → Extends xs xs
-extends-same xs = ([], sym (append-nil xs))
 
 -- a loop's step over names that have numbers
 pub first-named : (names words rest : List Name) (x : Name) → AreNamed names words → words ≡ x ∷ rest → has_name x names ≡ true

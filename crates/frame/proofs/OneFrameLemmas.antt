@@ -2,6 +2,7 @@
 use Rattle.std.specs.Prelude.{◌≡◌, ℕ, zero, suc, ◌<◌, ◌≤◌, Bool, true, false, cond, ◌&&◌, ◌||◌, List, [], ◌∷◌, ◌++◌, map, filter, length, refl, Some, None, is_some, nat_lt}
 use Rattle.std.specs.List.{list_any, flat_map, position_or_len}
 use Rattle.std.proofs.Common.{◌∙◌, ap, sym, arith, ◌⊎◌, inl, inr}
+use Rattle.std.proofs.Math.Bool.{or-false}
 use Rattle.mm_lex.specs.Alphabet.{Name, name_eq, has_name}
 use Rattle.mm_read.specs.declared.stmt.Stmt.{Stmt}
 use Rattle.mm_read.specs.declared.stmt.Stmt.TheVariants.{Open, Close, Const, Var, Disj, Float, Ess, Axiom, Prove}
@@ -17,10 +18,10 @@ use Rattle.frame.specs.FrameOf.{is_mandatory, is_hypothesis, hypotheses, mandato
 use Rattle.names.proofs.CodesLemmas.{lt-list_any}
 use Rattle.frame.specs.Stored.OneFrame.{AreMandatory, is_in_essential, asks, asked, among, groups_among}
 use Rattle.frame.proofs.FoundByNumber.{has-at}
-use Rattle.scope.proofs.DeclaredLemmas.{or_false}
 
+-- one more test, for a name that stands among the names already, changes nothing
 known : (names : List Name) (x y : Name) (b : Bool) → name_eq x y ≡ b → has_name y names ≡ true → has_name x names ≡ (has_name x names || b)
-known names x y false e h = sym (or_false (has_name x names))
+known names x y false e h = sym (or-false (has_name x names))
 known names x y true e h =
     let has : has_name x names ≡ true = ap (λ z. has_name z names) (same_name x y e) ∙ h in
     has ∙ ap (λ b. b || true) (sym has)
@@ -31,7 +32,7 @@ noted-known old new x name n low at same =
     ap (has_name x) same ∙ known old x name (name_eq x name) refl (ap (λ z. has_name z old) (sym (ap (λ z. name_at z n) (sym same) ∙ at)) ∙ has-at old n low)
 
 noted-new : (old : List Name) (x name : Name) → has_name x (old ++ name ∷ []) ≡ (has_name x old || name_eq x name)
-noted-new old x name = has_name-append x old (name ∷ []) ∙ ap (λ b. has_name x old || b) (or_false (name_eq x name))
+noted-new old x name = has_name-append x old (name ∷ []) ∙ ap (λ b. has_name x old || b) (or-false (name_eq x name))
 
 pub low-or-not : (n m : ℕ) → (n < m) ⊎ (m ≤ n)
 low-or-not n zero = inr (omega arith)
@@ -57,7 +58,7 @@ noted-step S x symbol u r is = by (name_eq x symbol) refl
     bools false false r h = cc
 
     flat : (u v r : Bool) → ((u || false) || (v && r)) ≡ (u || (v && r))
-    flat u v r = ap (λ b. b || (v && r)) (or_false u)
+    flat u v r = ap (λ b. b || (v && r)) (or-false u)
 
     by : (b : Bool) → name_eq x symbol ≡ b → ((u || b) || (is_variable S x && r)) ≡ (u || (is_variable S x && (b || r)))
     by true e = bools u (is_variable S x) r (ap (is_variable S) (same_name x symbol e) ∙ is)

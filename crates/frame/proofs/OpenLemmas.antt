@@ -89,6 +89,7 @@ stays-from kind S A Open B l c = λ d. stays_open-any (suc d) B l.stays
 stays-from kind S A Close B l c = cc
 stays-from kind S A s B l c = λ d. stays_open-any d B l.stays
 
+-- the last of a kind is active alone from its own position on
 own_active : (kind : Stmt → Bool) (at : ℕ) (s : Stmt) (B : Database) → stays_open 0 B ≡ true → kind s ≡ true → actives_from kind (at + 1) B ≡ [] → actives_from kind at (s ∷ B) ≡ (at, s) ∷ []
 own_active kind at s B o k e =
     ap (λ b. filter (λ p. kind p.1) (cond b ((at, s) ∷ active_from (at + 1) B) (active_from (at + 1) B))) o
@@ -135,12 +136,15 @@ none-open at (Open ∷ S) h = let r = not-nil-open (stays_open 0 S) at (active_f
 none-open at (Close ∷ S) h = none-open (at + 1) S (not-nil-other (stays_open 0 S) at Close (active_from (at + 1) S) refl h)
 none-open at (s ∷ S) h = none-open (at + 1) S (not-nil-other (stays_open 0 S) at s (active_from (at + 1) S) refl h)
 
+-- a depth with two blocks more, counted in two ways
 deeper : (k d : ℕ) → suc (suc k + d) ≡ suc (suc k) + d
 deeper k d = omega arith
 
+-- the same from right to left
 deeper' : (k d : ℕ) → suc (suc k) + d ≡ suc (suc k + d)
 deeper' k d = omega arith
 
+-- one block more than so many
 one : (d : ℕ) → suc d ≡ suc 0 + d
 one d = omega arith
 
@@ -165,6 +169,7 @@ mutual
 abbrev pub IsNoClose : (Stmt → Bool) → Type 0
 IsNoClose kind = kind Close ≡ false
 
+-- a statement of a kind that no `$}` has is no `$}`
 pub no_close : (kind : Stmt → Bool) (s : Stmt) → IsNoClose kind → kind s ≡ true → is_close s ≡ false
 no_close kind Close n k = let f : true ≡ false = sym k ∙ n in cc
 no_close kind s n k = refl

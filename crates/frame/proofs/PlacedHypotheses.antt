@@ -37,5 +37,6 @@ hyps-from S s A (t ∷ T) n whole at_n =
         one true h = (record { front = A; stmt = t; rest = T; whole = whole; at = at_n; stays = e; is = h }, more)
         one false h = more
 
+-- each mandatory hypothesis stands at its position, and is active there
 pub hyps : (S : Database) (s : Stmt) → AreHyps S s (hypotheses S s)
 hyps S s = hyps-from S s [] S 1 refl refl

@@ -96,6 +96,7 @@ mandatory-listed S s x (p ∷ L) m h = by (mandatory-listed S s x L m) (is_float
         ∙ or_left (is_some_name x (variable_of p.1)) _ f.1
     by more false e k = kept_on (more k) (is_hypothesis S s p.1)
 
+-- the variables of the hypotheses by position are those of the hypotheses themselves
 listed : (S : Database) (s : Stmt) → variables_of S s ≡ map (λ p. variable_of p.1) (filter (λ p. is_hypothesis S s p.1) (active S))
 listed S s = variables-listed S [] S 1 (λ p. is_hypothesis S s p.1) refl refl
 
@@ -121,6 +122,7 @@ mandatory-place S s x all legal asserts = by (is_mandatory S s x) (has_place (va
 
 -- ---- each variable has one place
 
+-- a statement that has a variable is a `$f` of it
 pub is_flt : (t : Stmt) (y : Name) → variable_of t ≡ Some y → (l c : Name) × (t ≡ Float l c y)
 is_flt (Float l c w) y h = let e : w ≡ y = cc in (l, c, ap (Float l c) e)
 is_flt (Ess l w) y h = cc
@@ -155,6 +157,7 @@ once-more : (x : Name) (o : Option Name) (vs : List (Option Name)) → ((y : Nam
 once-more x None vs f h = h
 once-more x (Some y) vs f h = (f y refl, h)
 
+-- behind an active `$f` of x no other active `$f` is of x
 elsewhere : (S A : Database) (l c x : Name) (M B : Database) (n : ℕ) (r : (ℕ × Stmt) → Bool) → AllKept S → S ≡ (A ++ Float l c x ∷ M) ++ B → stays_open 0 (M ++ B) ≡ true
     → IsElsewhere x (map (λ p. variable_of p.1) (filter r (active_from n B)))
 elsewhere S A l c x M [] n r all whole stays = tt

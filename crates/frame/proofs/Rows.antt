@@ -5,29 +5,38 @@ use Rattle.frame.specs.FrameOf.{frame_of, is_pair}
 use Rattle.scope.specs.Active.{before}
 use Rattle.scope.proofs.Databases.{w, demo_before, demo_mp, demo, rows_front, row_ax, row_seven, row_th}
 
+-- `mp` takes the `$f` of P and Q and both `$e`
 mp_frame : frame_of demo_before demo_mp ≡ record { hypotheses = 6 ∷ 7 ∷ 15 ∷ 16 ∷ []; groups = []; conclusion = w (codes "|- Q") }
 mp_frame = refl
 
+-- `a1` takes the `$f` of its three variables
 a1_frame : frame_of (before demo 12) (Axiom (codes "a1") (w (codes "|- ( t = r -> ( t = s -> r = s ) )"))) ≡ record { hypotheses = 3 ∷ 4 ∷ 5 ∷ []; groups = []; conclusion = w (codes "|- ( t = r -> ( t = s -> r = s ) )") }
 a1_frame = refl
 
+-- `tze` takes nothing
 tze_frame : frame_of (before demo 8) (Axiom (codes "tze") (w (codes "term 0"))) ≡ record { hypotheses = []; groups = []; conclusion = w (codes "term 0") }
 tze_frame = refl
 
+-- `ax` takes the `$f` of x and y, and keeps the two apart
 ax_frame : frame_of rows_front row_ax ≡ record { hypotheses = 3 ∷ 4 ∷ []; groups = w (codes "x y") ∷ []; conclusion = w (codes "|- x R y") }
 ax_frame = refl
 
+-- the dummy z has no part in the frame of `th`
 th_frame : frame_of row_seven row_th ≡ record { hypotheses = 3 ∷ []; groups = []; conclusion = w (codes "|- R x") }
 th_frame = refl
 
+-- a pair has no order
 ax_pair : is_pair rows_front (codes "y") (codes "x") ≡ true
 ax_pair = refl
 
+-- x alone is no pair
 no_pair_with_itself : is_pair rows_front (codes "x") (codes "x") ≡ false
 no_pair_with_itself = refl
 
+-- the `$d` of a closed block is not active any more
 th_pairs : is_pair row_seven (codes "x") (codes "y") ≡ false
 th_pairs = refl
 
+-- the `$d` of the open block keeps the dummy from x
 th_dummy : is_pair row_seven (codes "z") (codes "x") ≡ true
 th_dummy = refl

@@ -69,9 +69,11 @@ module _ (names labels : List Name) (positions : List ℕ) (symbols : List Symbo
       ∙ (ap (λ r. r ++ stmt_of names' labels' e ∷ []) (statements-more names names' labels labels' entries p.names_more labels-extend k.coded)
       ∙ ap (λ t. map (stmt_of names labels) entries ++ t ∷ []) p.stands))
 
+  -- as many statements as entries
   len : length (map (stmt_of names labels) entries) ≡ length entries
   len = length-map entries (stmt_of names labels)
 
+  -- each entry has the links of the statements before it
   linked' : (i : ℕ) (d : Entry) → slice_get entries' i ≡ Some d → d.links ≡ links_of (take i (map (stmt_of names' labels') entries'))
   linked' i d h = by (get-push entries e d i (ap (λ r. slice_get r i) (sym p.entries_more) ∙ h))
     where
@@ -82,12 +84,14 @@ module _ (names labels : List Name) (positions : List ℕ) (symbols : List Symbo
           ap (λ x. x.links) (sym q.1) ∙ (p.entry_links ∙ (k.last
           ∙ ap links_of (sym (ap (take i) pushed-statements ∙ (ap (λ n. take n (map (stmt_of names labels) entries ++ s ∷ [])) (q.0 ∙ sym len) ∙ take-whole (map (stmt_of names labels) entries) s)))))
 
+  -- each symbol tells its declarations, the new statement's with them
   symbols'' : (c : ℕ) → c < length names' → slice_get symbols' c ≡ Some (symbol_of entries' c)
   symbols'' c lt =
       let n = p.count in
       p.noted c (symbol_of entries c) (still-reads names labels positions symbols replaced entries links between k p.symbols_more c (omega (arith, lt, n)))
       ∙ ap Some (ap (λ n. with_entry e n c (symbol_of entries c)) (omega arith) ∙ (sym (symbol_of-push entries e c) ∙ ap (λ r. symbol_of r c) (sym p.entries_more)))
 
+  -- each assertion is kept as what it is, the new one too
   parts' : (i : ℕ) (d : Entry) → slice_get entries' i ≡ Some d → has_parts d.kind ≡ true → IsKeptAs entries' (take i (map (stmt_of names' labels') entries')) (stmt_of names' labels' d) d.assertion
   parts' i d h a = by (get-push entries e d i (ap (λ r. slice_get r i) (sym p.entries_more) ∙ h))
     where
@@ -118,6 +122,7 @@ module _ (names labels : List Name) (positions : List ℕ) (symbols : List Symbo
   whole-before : take (length entries) entries' ≡ entries
   whole-before = ap (take (length entries)) p.entries_more ∙ take-whole entries e
 
+  -- each entry keeps the counts before it, the new one too
   counts' : (i : ℕ) (d : Entry) → slice_get entries' i ≡ Some d → KeepsCounts names' labels' entries' i d
   counts' i d h = by (get-push entries e d i (ap (λ r. slice_get r i) (sym p.entries_more) ∙ h))
     where

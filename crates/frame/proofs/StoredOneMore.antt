@@ -2,6 +2,7 @@
 use Rattle.std.specs.Prelude.{◌≡◌, ℕ, zero, suc, ◌+◌, ◌-◌, ◌<◌, ◌≤◌, Bool, true, false, cond, not, ◌&&◌, ◌||◌, ◌==◌, nat_lt, ◌⊎◌, List, [], ◌∷◌, ◌++◌, length, map, take, slice_get, Option, Some, None, refl}
 use Rattle.std.specs.List.{list_any}
 use Rattle.std.proofs.Common.{sym, ◌∙◌, ap, subst, arith, inl, inr}
+use Rattle.std.proofs.Math.Bool.{and-false}
 use Rattle.std.proofs.lemmas.List.{take-append-le}
 use Rattle.std.proofs.lemmas.Bool.{cases_lt, ltb-true}
 use Rattle.std.proofs.Math.Seq.{take-length}
@@ -155,10 +156,6 @@ above-any n c (x ∷ codes) h le =
     let f : (c == x) ≡ false = grind (arith, l) in
     ap (λ b. b || list_any (λ y. c == y) codes) f ∙ above-any n c codes h.1 le
 
-pub and-no : (b : Bool) → (b && false) ≡ false
-and-no true = refl
-and-no false = refl
-
 none-from : (test : Entry → Bool) (found at : ℕ) (es : List Entry) → ((e : Entry) (k : ℕ) → slice_get es k ≡ Some e → test e ≡ false) → last_from test found at es ≡ found
 none-from test found at [] h = refl
 none-from test found at (e ∷ es) h =
@@ -172,8 +169,8 @@ numbered-at n m (d ∷ es) h (suc k) e g = numbered-at n m es h.2 k e g
 pub symbol_of-above : (n m : ℕ) (es : List Entry) (c : ℕ) → AreNumbered n m es → n ≤ c → symbol_of es c ≡ zero_symbol
 symbol_of-above n m es c h le =
     symbol-by
-    (none-from (floats c) 0 1 es (λ e k g. ap (λ b. is_float_kind e.kind && b) (above-second n c e.symbols (numbered-at n m es h k e g) le) ∙ and-no (is_float_kind e.kind)))
-    (none-from (declares c) 0 1 es (λ e k g. ap (λ b. is_var_kind e.kind && b) (above-any n c e.symbols (numbered-at n m es h k e g) le) ∙ and-no (is_var_kind e.kind)))
+    (none-from (floats c) 0 1 es (λ e k g. ap (λ b. is_float_kind e.kind && b) (above-second n c e.symbols (numbered-at n m es h k e g) le) ∙ and-false (is_float_kind e.kind)))
+    (none-from (declares c) 0 1 es (λ e k g. ap (λ b. is_var_kind e.kind && b) (above-any n c e.symbols (numbered-at n m es h k e g) le) ∙ and-false (is_var_kind e.kind)))
   where
     symbol-by : {a b : ℕ} → a ≡ 0 → b ≡ 0 → ◌≡◌ {A = Symbol} (record { float = a; variable = b }) zero_symbol
     symbol-by p q = cc

@@ -1,5 +1,5 @@
 -- Legality looks at no proof, and taken back everything is as before.
-use Rattle.std.specs.Prelude.{◌≡◌, ℕ, suc, ◌+◌, ◌-◌, true, List, [], ◌∷◌, length, map, take, Option, Some, None, Result, Ok, Err, OnErr, is_err, refl}
+use Rattle.std.specs.Prelude.{◌≡◌, ℕ, suc, ◌+◌, ◌-◌, true, List, [], ◌∷◌, length, map, take, Option, Some, None, refl}
 use Rattle.std.proofs.Common.{sym, ◌∙◌, ap}
 use Rattle.mm_lex.specs.Alphabet.{Name, has_name}
 use Rattle.mm_read.specs.declared.stmt.Stmt.{Stmt}
@@ -45,10 +45,6 @@ length-option (Some x) at ps ls h = ap suc h
 pub length-positions : (at : ℕ) (S : Database) → length (positions_from at S) ≡ length (labels_of S)
 length-positions at [] = refl
 length-positions at (s ∷ S) = length-option (label_of s) at (positions_from (at + 1) S) (labels_of S) (length-positions (at + 1) S)
-
-pub on-err : {T E : Type 0} (r : Result T E) (P : Type 0) → is_err r ≡ true → OnErr r P → P
-on-err (Ok x) P h k = cc
-on-err (Err x) P h k = k
 
 -- what was left behind, and what it was cut to
 pub record IsTakenBack (old mid new : Stock) : Type 0 where

@@ -54,6 +54,7 @@ symbols_of-front n S =
 
 -- ---- what stands in a legal statement
 
+-- what a statement declares as a constant or a variable is among the symbols that it declares
 declares : (s : Stmt) (x : Name) → (has_name x (constants s) || has_name x (variables s)) ≡ true → has_name x (symbols_by s) ≡ true
 declares (Const names) x h = first (has_name x names) h
   where
@@ -90,6 +91,7 @@ either-named S x h = elim (or_cases (is_constant S x) (is_variable S x) h) [
   | inr k ↦ variable-named S x k
 ]
 
+-- where no rule is broken, the fifth is not
 fifth : (a b c d e : Bool) (rest : Option Rule) → cond a (Some G1) (cond b (Some G2) (cond c (Some G3) (cond d (Some G4) (cond e (Some G5) rest)))) ≡ None → e ≡ false
 fifth true b c d e rest h = cc
 fifth false true c d e rest h = cc

@@ -71,6 +71,7 @@ own-fixed S (Const ws) all legal = tt
 own-fixed S (Var ws) all legal = tt
 own-fixed S (Disj ws) all legal = tt
 
+-- what follows from a test that holds
 implied : (a b : Bool) → (not a || b) ≡ true → a ≡ true → b ≡ true
 implied true b h e = h
 implied false b h e = cc
@@ -86,6 +87,7 @@ typed-own S (Disj ws) x legal asserts h v = cc
 typed-own S (Float l c w) x legal asserts h v = cc
 typed-own S (Ess l e) x legal asserts h v = cc
 
+-- a statement that passes as an `$e` with x is an `$e`, and x stands in its expression
 pub is_ess : (t : Stmt) (x : Name) → (is_essential t && has_name x (expr_of t)) ≡ true → (l : Name) × (e : Expr) × (t ≡ Ess l e) × (has_name x e ≡ true)
 is_ess (Ess l e) x h = (l, e, refl, h)
 is_ess Open x h = cc

@@ -4,6 +4,7 @@ use Rattle.std.specs.List.{list_any}
 use Rattle.std.proofs.Common.{sym, ◌∙◌, ap, arith, append-nil, append_assoc, length-append}
 use Rattle.std.proofs.lemmas.List.{take_all}
 use Rattle.std.proofs.lemmas.Option.{get_or_from_slice_get}
+use Rattle.std.proofs.Math.Bool.{or-true, or-false}
 use Rattle.std.proofs.Math.Seq.{drop-append_seam}
 use Rattle.entries.specs.Entries.{Entry}
 use Rattle.entries.specs.declared.kind.Kind.{Kind}
@@ -12,8 +13,7 @@ use Rattle.frame.specs.declared.storage.Symbol.{Symbol}
 use Rattle.entries.specs.Stored.Spans.{Extends}
 use Rattle.frame.specs.Stored.Entries.{ReadsAs, replaced_by, replaced_behind, replaced_of, symbol_of, is_float_kind, is_var_kind, second_is}
 use Rattle.frame.specs.Stored.Counts.{with_declared}
-use Rattle.frame.proofs.DeclareLemmas.{noted, or-true}
-use Rattle.scope.proofs.DeclaredLemmas.{or_false}
+use Rattle.frame.proofs.DeclareLemmas.{noted}
 
 -- ---- one entry more
 
@@ -58,7 +58,7 @@ restore-step xs k c v r y x any g e h = get-set xs k c (record { float = r.float
         let f : r.float ≡ y.float = ap (λ s. s.float) (read-at xs k r (noted y (x c) any) (ap (slice_get xs) (sym c-is) ∙ g) e) in
         ap (λ n. Some (record { float = n; variable = v })) f
         ∙ (ap (λ n. Some (record { float = y.float; variable = n })) (h ∙ ap x (sym c-is)) ∙ ap (λ b. Some (noted y (x c) b)) (sym (or-true any)))
-    by false other = ap (λ b. Some (noted y (x c) b)) (sym (or_false any))
+    by false other = ap (λ b. Some (noted y (x c) b)) (sym (or-false any))
 
 pub restored-variables : (old new : List Symbol) (kind : Kind) (codes olds : List ℕ) (x : ℕ → Symbol) (at : ℕ) → kind ≡ Var → olds ≡ replaced_by x kind codes
     → ((y : ℕ → ℕ) → olds ≡ map y codes → (c : ℕ) (s : Symbol) → slice_get old c ≡ Some s → slice_get new c ≡ Some (noted s (y c) (list_any (λ k. nat_eq c k) codes)))

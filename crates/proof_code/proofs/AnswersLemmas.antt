@@ -23,6 +23,7 @@ use Rattle.proof_code.proofs.TextLemmas.{list_any-spaced, list_any-joined}
 
 -- ---- what writes items has no `?`
 
+-- the bytes of a label have no `?` among them
 no_question : (label : Name) → list_all is_label_byte label ≡ true → has_byte question_mark label ≡ false
 no_question [] h = refl
 no_question (b ∷ label) h =
@@ -33,10 +34,12 @@ no_question (b ∷ label) h =
     other true e is = let same : b ≡ question_mark = grind (arith, e) in absurd (true≢false (sym is ∙ ap is_label_byte same))
     other false e is = e
 
+-- a label has no `?`
 label_no_question : (label : Name) → is_label label ≡ true → has_byte question_mark label ≡ false
 label_no_question [] h = refl
 label_no_question (b ∷ label) h = no_question (b ∷ label) h
 
+-- labels alone are never unfinished
 labels_finished : (labels : List Name) → list_all is_label labels ≡ true → is_unfinished labels ≡ false
 labels_finished [] h = refl
 labels_finished (label ∷ labels) h =
@@ -70,6 +73,7 @@ letters_finished limit digits (letter ∷ letters) h =
     by ih true e h = let same : letter ≡ question_mark = grind (arith, e) in ap (λ l. numbers_from limit digits (l ∷ letters)) same
     by ih false e h = rest (ih h) (is_first letter) (is_last letter) ((letter == 90) && (digits == 0))
 
+-- tokens whose letters are a row of words and marks have no `?`
 row_finished : (labels : List Name) (rest : List Name) (items : List Item) → WritesRow labels (joined rest) items → is_unfinished rest ≡ false
 row_finished labels rest items w = by (is_unfinished rest) refl (read-WritesRow labels (joined rest) items w)
   where
@@ -77,9 +81,11 @@ row_finished labels rest items w = by (is_unfinished rest) refl (read-WritesRow 
     by true e read = absurd (none-some read.numbers (sym (letters_finished (length labels) 0 (joined rest) (list_any-joined question_mark rest ∙ e)) ∙ read.read))
     by false e read = refl
 
+-- a normal proof that writes items has no `?`
 pub normal_finished : (tokens : List Name) (items : List Item) → WritesNormal tokens items → is_unfinished tokens ≡ false
 normal_finished tokens items w = labels_finished tokens w.labels
 
+-- a compressed proof that writes items has no `?`
 pub compressed_finished : (tokens mandatory : List Name) (items : List Item) → WritesCompressed tokens mandatory items → is_unfinished tokens ≡ false
 compressed_finished tokens mandatory items w =
     ap is_unfinished w.whole ∙ (list_any-append (has_byte question_mark) w.listed (finish ∷ w.rest)
@@ -99,6 +105,7 @@ module _ (tokens : List Name) (Written : List Item → Type 0) (finished : (item
   pub written_unfinished : (result : Result (List Item) CodeFault) → (result ≡ Err Unfinished → ⊥) → (items : List Item) → Written items → (result ≡ Err Unfinished) ↔ IsTrue (is_unfinished tokens)
   written_unfinished result other items w = (λ e. absurd (other e), λ u. absurd (true≢false (sym u ∙ finished items w)))
 
+  -- nor Malformed, which is said of tokens that write none
   pub written_malformed : (result : Result (List Item) CodeFault) → (result ≡ Err Malformed → ⊥) → (items : List Item) → Written items → (result ≡ Err Malformed) ↔ IsMalformed tokens (Finished tokens Written)
   written_malformed result other items w = (λ e. absurd (other e), λ m. absurd (m.1 items (finished items w, w)))
 
@@ -110,6 +117,7 @@ fault_unfinished tokens fault h = by (is_unfinished tokens) h
     by true h = (λ e. refl, λ t. ap Err h)
     by false h = (λ e. cc, λ t. cc)
 
+-- where no items are written, the answer is Malformed just where there is no `?`
 pub fault_malformed : (tokens : List Name) (Written : List Item → Type 0) (fault : CodeFault) → fault ≡ cond (is_unfinished tokens) Unfinished Malformed → ((items : List Item) → Written items → ⊥)
     → (◌≡◌ {A = Result (List Item) CodeFault} (Err fault) (Err Malformed)) ↔ IsMalformed tokens (Finished tokens Written)
 fault_malformed tokens Written fault h none = by (is_unfinished tokens) refl h
@@ -127,6 +135,7 @@ cites_all tokens result labels h = ((map (λ token. Cite token) tokens, record {
     by (Ok items) h = record { labels = labels; cites = h }
     by (Err e) h = tt
 
+-- a token that is no label keeps a normal proof from writing items
 pub no_labels : (tokens : List Name) → list_all is_label tokens ≡ false → (items : List Item) → WritesNormal tokens items → ⊥
 no_labels tokens some items w = true≢false (sym w.labels ∙ some)
 

@@ -15,6 +15,7 @@ tabulated-at f i zero k d h = absurd (omega (arith, h))
 tabulated-at f i (suc n) zero d h = ap f (let e : i ≡ i + 0 = omega arith in e)
 tabulated-at f i (suc n) (suc k) d h = tabulated-at f (suc i) n k d (omega (arith, h)) ∙ ap f (let e : suc i + k ≡ i + suc k = omega arith in e)
 
+-- the constant table lists the class of each of the 256 bytes
 table_is : CLASSES ≡ tabulated class_of 0 256
 table_is = refl
 

@@ -32,6 +32,7 @@ with_labels-more listed label (Some header) = ap (λ l. Some (record { listed = 
 abbrev pub ended : List Name → List ℕ
 ended labels = flat_map (λ label. label ++ 32 ∷ []) labels
 
+-- the length of a label with a space behind it and a text after that
 one_ended : (label : Name) (text : List ℕ) → length ((label ++ 32 ∷ []) ++ text) ≡ length label + 1 + length text
 one_ended label text = omega (arith, length-append (label ++ 32 ∷ []) text, length-append label (32 ∷ []))
 
@@ -74,6 +75,7 @@ pub record IsListedTo (mandatory before words : List Name) (end count : ℕ) : T
   pub decides : header_of mandatory before ≡ with_labels listed (header_of mandatory words)
   pub visible : AreWords words
 
+-- at the outset no label is read
 pub listed_none : (mandatory before : List Name) → AreWords before → IsListedTo mandatory before before 0 0
 listed_none mandatory before visible = record {
   listed = [];
@@ -86,12 +88,15 @@ listed_none mandatory before visible = record {
 }
 
 module _ (mandatory before words : List Name) (end count : ℕ) (read : IsListedTo mandatory before words end count) (word : Name) (rest : List Name) (first : words ≡ word ∷ rest) where
+  -- the next word is a word
   pub word_visible : IsTrue (is_word word)
   word_visible = (and_parts (is_word word) (list_all is_word rest) (sym (ap (list_all is_word) first) ∙ read.visible)).0
 
+  -- the header is that of what is left, with the labels read put before
   now_at : header_of mandatory before ≡ with_labels read.listed (header_of mandatory (word ∷ rest))
   now_at = read.decides ∙ ap (λ ws. with_labels read.listed (header_of mandatory ws)) first
 
+  -- the words are the labels read, this word and the others
   before_at : before ≡ read.listed ++ word ∷ rest
   before_at = read.whole ∙ ap (λ ws. read.listed ++ ws) first
 
@@ -108,10 +113,12 @@ module _ (mandatory before words : List Name) (end count : ℕ) (read : IsListed
       let cut : take last text ≡ spaced read.listed = ap (take last) of ∙ (ap (λ n. take n (spaced before)) at ∙ (ap (λ e. take (e - 1) (spaced before)) (sym read.bytes) ∙ (ap (λ ws. take (length (ended read.listed) - 1) (spaced ws)) before_at ∙ take-ended read.listed word rest))) in
       rw whole (refl, ap length none ∙ read.long, ap spaced none ∙ sym cut)
 
+  -- a word that is neither `)` nor a label of its own leaves no header
   pub not_listed : name_eq word finish ≡ false → (is_label word && not (has_name word mandatory)) ≡ false → header_of mandatory before ≡ None
   not_listed is test = now_at ∙ (ap (λ t. with_labels read.listed (cond t (Some (record { listed = []; rest = rest })) (cond (is_label word && not (has_name word mandatory)) (option_map (with_label word) (header_of mandatory rest)) None))) is
       ∙ ap (λ t. with_labels read.listed (cond t (option_map (with_label word) (header_of mandatory rest)) None)) test)
 
+  -- a label that is not mandatory is read with the space behind it
   pub listed_more : name_eq word finish ≡ false → (is_label word && not (has_name word mandatory)) ≡ true → IsListedTo mandatory before rest (end + (length word + 1)) (count + 1)
   listed_more is test = record {
     listed = read.listed ++ word ∷ [];
@@ -125,6 +132,7 @@ module _ (mandatory before words : List Name) (end count : ℕ) (read : IsListed
     visible = (and_parts (is_word word) (list_all is_word rest) (sym (ap (list_all is_word) first) ∙ read.visible)).1;
   }
 
+-- without a `)` there is no header
 pub nothing_ends : (mandatory before words : List Name) (end count : ℕ) → IsListedTo mandatory before words end count → words ≡ [] → header_of mandatory before ≡ None
 nothing_ends mandatory before words end count read none = read.decides ∙ ap (λ ws. with_labels read.listed (header_of mandatory ws)) none
 
@@ -136,9 +144,11 @@ pub record IsHeader (mandatory tokens : List Name) (header : Header) : Type 0 wh
   pub labels : list_all is_label header.listed ≡ true
   pub apart : list_any (λ label. has_name label mandatory) header.listed ≡ false
 
+-- a test that holds and one that does not
 false_not : (a b : Bool) → a ≡ true → b ≡ false → (a && not b) ≡ true
 false_not a b ea eb = rw (ea, eb) refl
 
+-- a header with a label put before comes from one without that label
 some_header : (o : Option Header) (label : Name) (header : Header) → option_map (with_label label) o ≡ Some header → (more : Header) × (o ≡ Some more) × (with_label label more ≡ header)
 some_header None label header h = absurd (none-some header h)
 some_header (Some more) label header h = (more, refl, same_Some (with_label label more) header h)

@@ -48,9 +48,11 @@ pub record AreMarkedTo (labels left : List Name) (kinds : List Bool) : Type 0 wh
   pub whole : labels ≡ done ++ left
   pub marked : are_marked kinds done ≡ true
 
+-- at the outset no kind need be marked
 pub marked_none : (labels left : List Name) (kinds : List Bool) → left ≡ labels → AreMarkedTo labels left kinds
 marked_none labels left kinds e = record { done = []; whole = sym e; marked = refl }
 
+-- the kind of one more label is marked
 pub marked_more : (labels left rest : List Name) (label : Name) (k : ℕ) (kinds : List Bool) → AreMarkedTo labels left kinds → left ≡ label ∷ rest → k ≡ kind_of label → k < length kinds → AreMarkedTo labels rest (slice_set kinds k true)
 marked_more labels left rest label k kinds m first is within = record {
   done = m.done ++ label ∷ [];
@@ -59,6 +61,7 @@ marked_more labels left rest label k kinds m first is within = record {
       ∙ rw (are_marked-set kinds k m.done m.marked) (ap (λ t. t && true) (ap (λ j. slice_index_or (slice_set kinds k true) j false) (sym is) ∙ set-same kinds k within));
 }
 
+-- where no label is left, the kinds of all are marked
 pub marked_all : (labels left : List Name) (kinds : List Bool) → AreMarkedTo labels left kinds → left ≡ [] → are_marked kinds labels ≡ true
 marked_all labels left kinds m none = ap (are_marked kinds) (m.whole ∙ (ap (λ ws. m.done ++ ws) none ∙ append-nil m.done)) ∙ m.marked
 
@@ -78,9 +81,11 @@ bytes_eq-sym a b = by (bytes_eq a b) refl (bytes_eq b a) refl
     by false e true f = absurd (true≢false (sym ((bytes_eq-Decides a b).1 (sym ((bytes_eq-Decides b a).0 f))) ∙ e))
     by false e false f = refl
 
+-- an empty set names no label
 pub names_none : (labels left : List Name) (names : HashSet (Bor Name) (BuildHasherDefault FoldHasher)) → left ≡ labels → names.keys ≡ [] → NamesTo labels left names
 names_none labels left names e empty = record { done = []; whole = sym e; named = λ label. ap (list_any (λ key. bytes_eq label.now key.now)) empty }
 
+-- one more label comes into the set
 pub names_more : (labels left rest : List Name) (label : Bor Name) (old new : HashSet (Bor Name) (BuildHasherDefault FoldHasher)) → NamesTo labels left old → left ≡ label.now ∷ rest
     → ((q : Bor Name) → contains (λ a b. bytes_eq a.now b.now) new q ≡ cond (bytes_eq label.now q.now) true (contains (λ a b. bytes_eq a.now b.now) old q)) → NamesTo labels rest new
 names_more labels left rest label old new m first updates = record {
@@ -96,9 +101,11 @@ names_more labels left rest label old new m first updates = record {
     turn false true = refl
     turn false false = refl
 
+-- where no label is left, the set has just the names of the labels
 pub names_all : (labels left : List Name) (names : HashSet (Bor Name) (BuildHasherDefault FoldHasher)) → NamesTo labels left names → left ≡ [] → AreNames names labels
 names_all labels left names m none label = m.named label ∙ ap (has_name label.now) (sym (m.whole ∙ (ap (λ ws. m.done ++ ws) none ∙ append-nil m.done)))
 
+-- what holds where a call succeeds, where it has not failed
 pub on_ok : {A E : Type 0} (r : Result A E) (P : Type 0) → OnOk r P → false ≡ is_err r → P
 on_ok (Ok x) P h e = h
 on_ok (Err x) P h e = cc

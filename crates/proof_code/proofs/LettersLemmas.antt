@@ -153,12 +153,15 @@ range-at a n c low high = range-from a n (c - a) (omega arith) ∙ ap Some (omeg
     range-from a (suc n) zero h = ap Some (omega arith)
     range-from a (suc n) (suc k) h = range-from (a + 1) n k (omega arith) ∙ ap Some (omega arith)
 
+-- a letter that stands before the end of a word lies between U and Y
 pub first_bounds : (c : ℕ) → is_first c ≡ true → (85 ≤ c) × (c ≤ 89)
 first_bounds c h = (grind (arith, nat_tests), grind (arith, nat_tests))
 
+-- a letter that ends a word lies between A and T
 pub last_bounds : (c : ℕ) → is_last c ≡ true → (65 ≤ c) × (c ≤ 84)
 last_bounds c h = (grind (arith, nat_tests), grind (arith, nat_tests))
 
+-- where there is a number, the test before it held
 ends_here : (t : Bool) (x : Option ℕ) (m : ℕ) → cond t x None ≡ Some m → t ≡ true
 ends_here true x m h = refl
 ends_here false x m h = cc

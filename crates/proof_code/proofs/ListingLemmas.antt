@@ -141,6 +141,7 @@ more-twice n None = refl
 more-twice n (Some f) = ap (λ k. Some (k, f.1)) (let e : n + (1 + f.0) ≡ n + 1 + f.0 = omega arith in e)
 
 module _ (text : List ℕ) (i count last : ℕ) (same : counted true text ≡ more_labels count (counted (last == 1) (drop i text))) (within : i < length text) where
+  -- the next byte is the first of what is left to count
   at_drop : counted true text ≡ more_labels count (counted (last == 1) (slice_index_or text i 0 ∷ drop (i + 1) text))
   at_drop = same ∙ ap (λ r. more_labels count (counted (last == 1) r)) (drop_more text i 0 within)
 

@@ -20,6 +20,7 @@ joined row = flat_map (λ word. word) row
 
 -- ---- what a number within the limit means
 
+-- a word whose number is within the labels and the marks means the item of that number
 pub means : (labels : List Name) (marks number : ℕ) (word : Name) (row : List Name) (items : List Item)
     → 1 ≤ number → number ≤ length labels + marks → IsNumber word number → AreItems labels marks row items → AreItems labels marks (word ∷ row) (item_of labels number ∷ items)
 means labels marks zero word row items some within is rest = absurd (omega arith)
@@ -106,6 +107,7 @@ read_mark labels marks limit digits before letter letters numbers is begun test 
       means = (refl, read.means);
     })
 
+-- letters that give numbers are a row, and its items are those of the numbers
 pub read_row : (labels : List Name) (marks limit digits : ℕ) (before : Name) (letters numbers : List ℕ) → limit ≡ length labels + marks → Begun before digits
     → numbers_from limit digits letters ≡ Some numbers → ReadRow labels marks before letters numbers
 read_row labels marks limit digits before [] numbers is begun h = by digits begun.none (digits == 0) refl h

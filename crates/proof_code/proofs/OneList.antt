@@ -28,14 +28,17 @@ abbrev behind_first : List Name → List Name
 behind_first [] = []
 behind_first (token ∷ tokens) = tokens
 
+-- a compressed proof begins with `(`
 begins_so : (tokens : List Name) → is_compressed tokens ≡ true → tokens ≡ begin ∷ behind_first tokens
 begins_so [] h = cc
 begins_so (token ∷ tokens) h = ap (λ t. t ∷ tokens) ((bytes_eq-Decides token begin).0 h)
 
+-- to decide by whether there is a header
 by_header : {P : Type 0} (o : Option Header) → (o ≡ None → P) → ((header : Header) → o ≡ Some header → P) → P
 by_header None none some = none refl
 by_header (Some header) none some = some header refl
 
+-- a compressed proof writes one list
 one_compressed : (tokens mandatory : List Name) (a b : List Item) → is_compressed tokens ≡ true → WritesCompressed tokens mandatory a → WritesCompressed tokens mandatory b → a ≡ b
 one_compressed tokens mandatory a b compressed wa wb =
     let starts : tokens ≡ begin ∷ behind_first tokens = begins_so tokens compressed in
@@ -44,6 +47,7 @@ one_compressed tokens mandatory a b compressed wa wb =
     (λ header read. one_row (mandatory ++ header.listed) (joined header.rest) a b
     (row_behind tokens mandatory (behind_first tokens) header starts read a wa) (row_behind tokens mandatory (behind_first tokens) header starts read b wb))
 
+-- tokens of either kind write one list
 pub one_list : (tokens mandatory : List Name) (a b : List Item) → Writes tokens mandatory a → Writes tokens mandatory b → a ≡ b
 one_list tokens mandatory a b (inl wa) (inl wb) = one_compressed tokens mandatory a b wa.0 wa.1.1 wb.1.1
 one_list tokens mandatory a b (inl wa) (inr wb) = absurd (true≢false (sym wa.0 ∙ wb.0))
@@ -55,6 +59,7 @@ one_list tokens mandatory a b (inr wa) (inr wb) = wa.1.1.cites ∙ sym wb.1.1.ci
 abbrev Written : (List Item → Type 0) → Type 0
 Written Writes = ((items : List Item) × Writes items) ⊎ ((items : List Item) → Writes items → ⊥)
 
+-- a normal proof writes items where all its tokens are labels, else none
 normal_or_not : (tokens : List Name) → Written (WritesNormal tokens)
 normal_or_not tokens = by (list_all is_label tokens) refl
   where
@@ -62,6 +67,7 @@ normal_or_not tokens = by (list_all is_label tokens) refl
     by true e = inl (map (λ token. Cite token) tokens, record { labels = e; cites = refl })
     by false e = inr (λ items w. true≢false (sym w.labels ∙ e))
 
+-- letters are a row of words and marks, or none
 row_or_not : (labels : List Name) (letters : List ℕ) → Written (WritesRow labels letters)
 row_or_not labels letters = by (starts_with_mark letters) refl (numbers_from (length labels) 0 letters) refl
   where
@@ -70,6 +76,7 @@ row_or_not labels letters = by (starts_with_mark letters) refl (numbers_from (le
     by false e None r = inr (λ items w. let read : RowIsRead labels letters items = read-WritesRow labels letters items w in none-some read.numbers (sym r ∙ read.read))
     by false e (Some numbers) r = inl (items_of labels numbers, WritesRow-read labels letters numbers e r)
 
+-- a compressed proof writes items or none, by its header and its row
 compressed_or_not : (tokens mandatory : List Name) → is_compressed tokens ≡ true → Written (WritesCompressed tokens mandatory)
 compressed_or_not tokens mandatory compressed =
     let starts : tokens ≡ begin ∷ behind_first tokens = begins_so tokens compressed in
@@ -81,6 +88,7 @@ compressed_or_not tokens mandatory compressed =
     by header read starts (inl w) = inl (w.0, written_behind tokens mandatory (behind_first tokens) header starts read w.0 w.1)
     by header read starts (inr none) = inr (λ items w. none items (row_behind tokens mandatory (behind_first tokens) header starts read items w))
 
+-- tokens that write items have no `?`
 finished : (tokens mandatory : List Name) (items : List Item) → Writes tokens mandatory items → is_unfinished tokens ≡ false
 finished tokens mandatory items (inl w) = w.1.0
 finished tokens mandatory items (inr w) = w.1.0
@@ -88,6 +96,7 @@ finished tokens mandatory items (inr w) = w.1.0
 abbrev Answer : List Name → List Name → Type 0
 Answer tokens mandatory = ((items : List Item) × Writes tokens mandatory items) ⊎ IsTrue (is_unfinished tokens) ⊎ IsMalformed tokens (Writes tokens mandatory)
 
+-- the answer to a compressed proof without a `?`
 packed_answer : (tokens mandatory : List Name) → is_unfinished tokens ≡ false → is_compressed tokens ≡ true → Written (WritesCompressed tokens mandatory) → Answer tokens mandatory
 packed_answer tokens mandatory u c (inl w) = inl (w.0, inl (c, (u, w.1)))
 packed_answer tokens mandatory u c (inr none) = inr (inr (u, no_items))
@@ -96,6 +105,7 @@ packed_answer tokens mandatory u c (inr none) = inr (inr (u, no_items))
     no_items items (inl w) = none items w.1.1
     no_items items (inr w) = true≢false (sym c ∙ w.0)
 
+-- the answer to a normal proof without a `?`
 plain_answer : (tokens mandatory : List Name) → is_unfinished tokens ≡ false → is_compressed tokens ≡ false → Written (WritesNormal tokens) → Answer tokens mandatory
 plain_answer tokens mandatory u c (inl w) = inl (w.0, inr (c, (u, w.1)))
 plain_answer tokens mandatory u c (inr none) = inr (inr (u, no_items))
@@ -104,6 +114,7 @@ plain_answer tokens mandatory u c (inr none) = inr (inr (u, no_items))
     no_items items (inl w) = true≢false (sym w.0 ∙ c)
     no_items items (inr w) = none items w.1.1
 
+-- each proof has an answer
 some_answer : (tokens mandatory : List Name) → Answer tokens mandatory
 some_answer tokens mandatory = by (is_unfinished tokens) refl (is_compressed tokens) refl
   where
@@ -112,6 +123,7 @@ some_answer tokens mandatory = by (is_unfinished tokens) refl (is_compressed tok
     by false u true c = packed_answer tokens mandatory u c (compressed_or_not tokens mandatory c)
     by false u false c = plain_answer tokens mandatory u c (normal_or_not tokens)
 
+-- each proof has one answer alone
 pub one_answer : (tokens mandatory : List Name) → OneAnswer tokens mandatory
 one_answer tokens mandatory = record {
   some = some_answer tokens mandatory;

@@ -3,7 +3,7 @@ use Rattle.std.specs.Prelude.{◌≡◌, ℕ, zero, suc, ◌+◌, ◌/◌, ◌<�
 use Rattle.std.specs.Option.{option_map}
 use Rattle.std.proofs.Common.{rules, sym, ◌∙◌, ap, arith, append_assoc}
 use Rattle.std.proofs.lemmas.Bool.Decides.{nat_tests}
-use Rattle.std.proofs.lemmas.List.{drop_more, append-nil}
+use Rattle.std.proofs.lemmas.List.{drop_more, drop_all, append-nil}
 use Rattle.proof_code.specs.declared.letters.Place.{Place}
 use Rattle.proof_code.specs.declared.letters.Step.TheVariants.{Quiet, Number, Broken}
 use Rattle.proof_code.specs.Text.{letters_of, numbers_from}
@@ -40,6 +40,7 @@ some-by_test : {A : Type 0} (o : Option A) → is_some o ≡ true → IsSome o
 some-by_test None h = cc
 some-by_test (Some x) h = search rules
 
+-- at the first byte nothing is read, and the limit is the count of the labels
 pub at_first : (labels : ℕ) (text numbers : List ℕ) (kept : Bool) (place : Place) → place.limit ≡ labels → place.digits ≡ 0 → numbers ≡ [] → IsReadTo labels text numbers kept place 0
 at_first labels text numbers kept place limit digits none =
     let same : numbers_from labels 0 (letters_of text) ≡ numbers_at place text = ap (λ l. numbers_from l 0 (letters_of text)) (sym limit) ∙ ap (λ d. numbers_from place.limit d (letters_of text)) (sym digits) in
@@ -50,9 +51,11 @@ at_first labels text numbers kept place limit digits none =
     }
 
 module _ (labels : ℕ) (text numbers : List ℕ) (kept : Bool) (place new : Place) (index : ℕ) (read : IsReadTo labels text numbers kept place index) (within : index < length text) where
+  -- the byte at the index is the first of those that are left
   left : drop index text ≡ slice_index_or text index 0 ∷ drop (index + 1) text
   left = drop_more text index 0 within
 
+  -- a byte that ends no number leaves the numbers as they are
   pub quiet_byte : Reads place (slice_index_or text index 0) Quiet new → new.limit ≤ place.limit + 1 → IsReadTo labels text numbers kept new (index + 1)
   quiet_byte reads limit =
       let same : numbers_at place (drop index text) ≡ numbers_at new (drop (index + 1) text) = ap (numbers_at place) left ∙ reads (drop (index + 1) text) in
@@ -62,6 +65,7 @@ module _ (labels : ℕ) (text numbers : List ℕ) (kept : Bool) (place new : Pla
         room = omega (arith, limit, read.room);
       }
 
+  -- a byte that ends a number puts it behind those before, if all are still kept
   pub number_byte : (number : ℕ) (more : List ℕ) (still : Bool) → Reads place (slice_index_or text index 0) (Number number) new → new.limit ≤ place.limit + 1
       → (still ≡ true → kept ≡ true) → (still ≡ true → more ≡ numbers ++ number ∷ []) → IsReadTo labels text more still new (index + 1)
   number_byte number more still reads limit keeps pushed =
@@ -72,32 +76,32 @@ module _ (labels : ℕ) (text numbers : List ℕ) (kept : Bool) (place new : Pla
         room = omega (arith, limit, read.room);
       }
 
+  -- a byte that breaks the letters leaves them without numbers
   pub broken_byte : Reads place (slice_index_or text index 0) Broken new → numbers_from labels 0 (letters_of text) ≡ None
   broken_byte reads = none-by_test (numbers_from labels 0 (letters_of text)) (read.decides ∙ ap is_some (ap (numbers_at place) left ∙ reads (drop (index + 1) text)))
 
-drop-end : {A : Type 0} (xs : List A) (n : ℕ) → length xs ≤ n → drop n xs ≡ []
-drop-end [] zero h = refl
-drop-end [] (suc n) h = refl
-drop-end (x ∷ xs) zero h = absurd (omega (arith, h))
-drop-end (x ∷ xs) (suc n) h = drop-end xs n (omega arith)
-
 module _ (labels : ℕ) (text numbers : List ℕ) (kept : Bool) (place : Place) (index : ℕ) (read : IsReadTo labels text numbers kept place index) (end : length text ≤ index) where
+  -- at the end of the text the digits alone decide
   nothing_left : numbers_at place (drop index text) ≡ cond (place.digits == 0) (Some []) None
-  nothing_left = ap (numbers_at place) (drop-end text index end)
+  nothing_left = ap (numbers_at place) (drop_all index text end)
 
+  -- a word that is begun and not ended leaves no numbers
   pub cut_word : (place.digits ≡ 0 → ⊥) → numbers_from labels 0 (letters_of text) ≡ None
   cut_word some =
       let test : (place.digits == 0) ≡ false = grind (arith, nat_tests) in
       none-by_test (numbers_from labels 0 (letters_of text)) (read.decides ∙ ap is_some (nothing_left ∙ ap (λ t. cond t (Some []) None) test))
 
+  -- between words the rest writes the empty list
   whole : place.digits ≡ 0 → numbers_at place (drop index text) ≡ Some []
   whole none =
       let test : (place.digits == 0) ≡ true = grind (arith, nat_tests) in
       nothing_left ∙ ap (λ t. cond t (Some []) None) test
 
+  -- letters that end between words write numbers
   pub read_all : place.digits ≡ 0 → IsSome (numbers_from labels 0 (letters_of text))
   read_all none = some-by_test (numbers_from labels 0 (letters_of text)) (read.decides ∙ ap is_some (whole none))
 
+  -- they write the numbers that were kept, where all were
   pub all_kept : place.digits ≡ 0 → kept ≡ true → numbers_from labels 0 (letters_of text) ≡ Some numbers
   all_kept none kept = read.stand kept ∙ (ap (after numbers) (whole none) ∙ ap Some (append-nil numbers))
 

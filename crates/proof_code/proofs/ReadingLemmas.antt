@@ -3,7 +3,7 @@ use Rattle.std.specs.Prelude.{◌≡◌, ℕ, zero, suc, ◌+◌, ◌-◌, ◌*�
 use Rattle.std.specs.List.{list_all}
 use Rattle.std.proofs.Common.{sym, ◌∙◌, ap, subst, arith, true≢false, length-append}
 use Rattle.std.proofs.lemmas.Bool.Decides.{nat_tests}
-use Rattle.std.proofs.lemmas.List.{drop_more, append-nil}
+use Rattle.std.proofs.lemmas.List.{drop_more, drop_all, append-nil}
 use Rattle.std.proofs.lemmas.Option.{none-some, same_Some}
 use Rattle.std.proofs.lemmas.Bool.{and_parts}
 use Rattle.mm_lex.specs.Alphabet.{Name}
@@ -18,7 +18,7 @@ use Rattle.proof_code.proofs.HeaderLemmas.{IsHeader, header-read, read-header}
 use Rattle.proof_code.proofs.LettersLemmas.{is_first-true}
 use Rattle.proof_code.proofs.RowLemmas.{numbers_from-first, RowIsRead, WritesRow-read, read-WritesRow}
 use Rattle.proof_code.proofs.TextLemmas.{letters_of-spaced}
-use Rattle.proof_code.proofs.WritesLemmas.{joined, written_behind, starts_with_mark-spaced}
+use Rattle.proof_code.proofs.WritesLemmas.{joined, written_behind, starts_with_mark-spaced, some_and}
 
 -- ---- the letters
 
@@ -43,14 +43,9 @@ module _ (labels : ℕ) (text : List ℕ) (limit digits : ℕ) (numbers : List �
   read-broken within none =
       read ∙ ap (before_rest numbers) (ap (λ rest. numbers_from limit digits (letters_of rest)) (drop_more text index 0 within) ∙ none (drop (index + 1) text))
 
-  drop-end : {A : Type 0} (xs : List A) (n : ℕ) → length xs ≤ n → drop n xs ≡ []
-  drop-end [] zero h = refl
-  drop-end [] (suc n) h = refl
-  drop-end (x ∷ xs) zero h = absurd (omega (arith, h))
-  drop-end (x ∷ xs) (suc n) h = drop-end xs n (omega arith)
-
+  -- at the end of the text the digits decide, behind the numbers kept
   left : length text ≤ index → numbers_from labels 0 (letters_of text) ≡ before_rest numbers (cond (digits == 0) (Some []) None)
-  left end = read ∙ ap (λ rest. before_rest numbers (numbers_from limit digits (letters_of rest))) (drop-end text index end)
+  left end = read ∙ ap (λ rest. before_rest numbers (numbers_from limit digits (letters_of rest))) (drop_all index text end)
 
   pub read-all : length text ≤ index → digits ≡ 0 → numbers_from labels 0 (letters_of text) ≡ Some numbers
   read-all end none =
@@ -99,6 +94,7 @@ over_limit limit digits letter value ends is low high over text = by (nat_le let
 
 -- ---- the whole proof
 
+-- no listed label is one of no mandatory labels
 none_shared : (listed : List Name) → share_label [] listed ≡ false
 none_shared [] = refl
 none_shared (label ∷ listed) = none_shared listed
@@ -109,24 +105,23 @@ without_header tokens before starts none labels items w =
     let same : before ≡ w.listed ++ finish ∷ w.rest = cc (starts, w.whole) in
     none-some (record { listed = w.listed; rest = w.rest }) (sym none ∙ (ap (header_of []) same ∙ read-header [] w.listed w.rest w.labels (none_shared w.listed)))
 
-some_and : {A : Type 0} (o : Option A) (P : A → Type 0) → IsSomeAnd o P → (x : A) × (o ≡ Some x) × P x
-some_and None P h = absurd h
-some_and (Some x) P h = (x, refl, h)
-
 -- what reading the header tells: the text of what is left, and how many labels there are
 abbrev pub Counted : List Name → List ℕ → ℕ → Type 0
 Counted before letters count = IsSomeAnd (header_of [] before) (λ header. (spaced header.rest ≡ letters) × (length header.listed ≡ count))
 
 module _ (tokens before : List Name) (letters : List ℕ) (count : ℕ) (starts : tokens ≡ begin ∷ before) (visible : list_all is_word tokens ≡ true) (found : Counted before letters count) where
+  -- the header that was read, with what was told of it
   got : (header : Header) × (header_of [] before ≡ Some header) × ((spaced header.rest ≡ letters) × (length header.listed ≡ count))
   got = some_and (header_of [] before) (λ header. (spaced header.rest ≡ letters) × (length header.listed ≡ count)) found
 
   abbrev header : Header
   header = got.0
 
+  -- it has the parts of the definition
   is : IsHeader [] before header
   is = header-read [] before header got.1
 
+  -- what follows the `)` are words
   rest_visible : list_all is_word header.rest ≡ true
   rest_visible =
       let all : list_all is_word (header.listed ++ finish ∷ header.rest) ≡ true = sym (ap (λ ws. list_all is_word (begin ∷ ws)) is.whole) ∙ (sym (ap (list_all is_word) starts) ∙ visible) in
@@ -139,15 +134,19 @@ module _ (tokens before : List Name) (letters : List ℕ) (count : ℕ) (starts 
       same_Some (record { listed = w.listed; rest = w.rest }) header (sym (read-header [] w.listed w.rest w.labels (none_shared w.listed)) ∙ (sym (ap (header_of []) same) ∙ got.1))
 
   module _ (mandatory limit : ℕ) (limit_is : limit ≡ mandatory + count) where
+    -- the bytes of the letters are those of the words behind the `)`, joined
     letters_are : letters_of letters ≡ joined header.rest
     letters_are = ap letters_of (sym got.2.0) ∙ letters_of-spaced header.rest rest_visible
 
+    -- they begin with a mark where the joined words do
     first_is : starts_with_mark letters ≡ starts_with_mark (joined header.rest)
     first_is = ap starts_with_mark (sym got.2.0) ∙ starts_with_mark-spaced header.rest rest_visible
 
+    -- the limit counts the mandatory labels and the listed ones
     numbered : (labels : List Name) → length labels ≡ mandatory → length (labels ++ header.listed) ≡ limit
     numbered labels long = omega (arith, length-append labels header.listed, got.2.1, limit_is, long)
 
+    -- whatever is written behind the header is read as a row
     is_row : (labels : List Name) (items : List Item) → WritesCompressed tokens labels items → RowIsRead (labels ++ header.listed) (joined header.rest) items
     is_row labels items w =
         let P : Header → Type 0 = λ header. Rattle.proof_code.specs.Writes.WritesRow (labels ++ header.listed) (joined header.rest) items in

@@ -72,6 +72,7 @@ word_read labels marks limit number word row item items is within of more = reco
   are = ap (λ i. i ∷ items_of labels more.numbers) of ∙ ap (λ (items : List Item). item ∷ items) more.are;
 }
 
+-- the numbers of a row's words are read, where the limit counts the labels and the marks before
 pub row_read : (labels : List Name) (marks limit : ℕ) (row : List Name) (items : List Item) → limit ≡ length labels + marks → AreItems labels marks row items → RowRead labels limit (joined row) items
 row_read labels marks limit [] [] is m = record { numbers = []; read = refl; are = refl }
 row_read labels marks limit [] (item ∷ items) is m = absurd m

@@ -10,50 +10,65 @@ use Rattle.proof_code.specs.Writes.{is_unfinished, is_compressed, WritesPlain, W
 
 -- ---- the order of the words (Metamath, appendix B)
 
+-- A is the first word
 first_word : IsNumber (codes "A") 1
 first_word = refl
 
+-- T is the last word of one letter
 last_of_one_letter : IsNumber (codes "T") 20
 last_of_one_letter = refl
 
+-- UA follows T
 first_of_two_letters : IsNumber (codes "UA") 21
 first_of_two_letters = refl
 
+-- behind U stand the next twenty words
 last_behind_u : IsNumber (codes "UT") 40
 last_behind_u = refl
 
+-- VA follows UT
 first_behind_v : IsNumber (codes "VA") 41
 first_behind_v = refl
 
+-- there are a hundred words of two letters
 last_of_two_letters : IsNumber (codes "YT") 120
 last_of_two_letters = refl
 
+-- UUA follows YT
 first_of_three_letters : IsNumber (codes "UUA") 121
 first_of_three_letters = refl
 
+-- there are five hundred words of three letters
 last_of_three_letters : IsNumber (codes "YYT") 620
 last_of_three_letters = refl
 
+-- the formula gives the same as the order
 formula_of_three_letters : number_of (codes "YYT") ≡ Some 620
 formula_of_three_letters = refl
 
+-- a word must end with one of A to T
 cut_word_has_no_number : number_of (codes "U") ≡ None
 cut_word_has_no_number = refl
 
 -- ---- letters
 
+-- a space between two words and one inside a word are alike
 spaces_cut_letters_anywhere : numbers_from 130 0 (letters_of (codes "TU AYTU UA")) ≡ Some (20 ∷ 21 ∷ 120 ∷ 121 ∷ [])
 spaces_cut_letters_anywhere = refl
 
+-- the word is 131, one more than the limit
 word_past_the_limit : numbers_from 130 0 (codes "UUK") ≡ None
 word_past_the_limit = refl
 
+-- with one label, a mark lets B recall its result
 mark_gives_one_number_more : numbers_from 1 0 (codes "AZB") ≡ Some (1 ∷ 0 ∷ 2 ∷ [])
 mark_gives_one_number_more = refl
 
+-- before its mark the recall is over the limit
 recall_before_its_mark : numbers_from 1 0 (codes "ABZ") ≡ None
 recall_before_its_mark = refl
 
+-- a Z may not stand behind a U
 mark_inside_a_word : numbers_from 130 0 (codes "AUZA") ≡ None
 mark_inside_a_word = refl
 
@@ -82,11 +97,14 @@ compressed = (
 numbers_over_labels : items_of (codes "a" ∷ codes "b" ∷ []) (1 ∷ 2 ∷ 0 ∷ 2 ∷ 3 ∷ []) ≡ Cite (codes "a") ∷ Cite (codes "b") ∷ Mark ∷ Cite (codes "b") ∷ Recall 1 ∷ []
 numbers_over_labels = refl
 
+-- two labels cite, each the statement that it names
 normal : WritesPlain (words_of (codes "tt tze")) (Cite (codes "tt") ∷ Cite (codes "tze") ∷ [])
 normal = (refl, record { labels = refl; cites = refl })
 
+-- a `?` among the letters leaves the proof unfinished
 question_mark_is_unfinished : is_unfinished (words_of (codes "( ) A?")) ≡ true
 question_mark_is_unfinished = refl
 
+-- a proof that begins with `(` is compressed
 parenthesis_is_compressed : is_compressed (words_of (codes "( ) A")) ≡ true
 parenthesis_is_compressed = refl

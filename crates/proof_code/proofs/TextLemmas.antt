@@ -9,6 +9,7 @@ use Rattle.mm_lex.specs.Alphabet.{Name, is_visible, has_byte}
 use Rattle.mm_lex.specs.Words.{spaced, is_word}
 use Rattle.proof_code.specs.Text.{letters_of}
 
+-- a byte that one can see is no space
 pub not_space : (b : ℕ) → is_visible b ≡ true → (b == 32) ≡ false
 not_space b h = by (b == 32) refl
   where
@@ -22,6 +23,7 @@ letters_of-visible (b ∷ word) text h =
     let parts : (is_visible b ≡ true) × (list_all is_visible word ≡ true) = and_parts (is_visible b) (list_all is_visible word) h in
     rw (not_space b parts.0) (ap (λ r. b ∷ r) (letters_of-visible word text parts.1))
 
+-- each byte of a word can be seen
 visible : (word : Name) → is_word word ≡ true → list_all is_visible word ≡ true
 visible [] h = cc
 visible (b ∷ word) h = h
@@ -35,6 +37,7 @@ letters_of-spaced (word ∷ next ∷ words) h =
     let parts : (is_word word ≡ true) × (list_all is_word (next ∷ words) ≡ true) = and_parts (is_word word) (list_all is_word (next ∷ words)) h in
     letters_of-visible word (32 ∷ spaced (next ∷ words)) (visible word parts.0) ∙ ap (λ r. word ++ r) (letters_of-spaced (next ∷ words) parts.1)
 
+-- a word is not empty
 some_byte : (word : Name) → is_word word ≡ true → 1 ≤ length word
 some_byte [] h = cc
 some_byte (b ∷ word) h = omega arith

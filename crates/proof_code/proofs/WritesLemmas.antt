@@ -37,6 +37,7 @@ row_behind tokens mandatory before header begins read items w =
     let P : Header → Type 0 = λ header. WritesRow (mandatory ++ header.listed) (joined header.rest) items in
     subst P is w.letters
 
+-- a row behind the header that is read is written by the whole proof
 pub written_behind : (tokens mandatory before : List Name) (header : Header) → tokens ≡ begin ∷ before → header_of mandatory before ≡ Some header → (items : List Item)
     → WritesRow (mandatory ++ header.listed) (joined header.rest) items → WritesCompressed tokens mandatory items
 written_behind tokens mandatory before header begins read items row =
@@ -58,10 +59,12 @@ starts_with_mark-spaced ([] ∷ words) h = absurd (true≢false (sym h))
 starts_with_mark-spaced ((b ∷ word) ∷ []) h = refl
 starts_with_mark-spaced ((b ∷ word) ∷ next ∷ words) h = refl
 
-some_and : {A : Type 0} (o : Option A) (P : A → Type 0) → IsSomeAnd o P → (x : A) × (o ≡ Some x) × P x
+-- what is said of a value that there is
+pub some_and : {A : Type 0} (o : Option A) (P : A → Type 0) → IsSomeAnd o P → (x : A) × (o ≡ Some x) × P x
 some_and None P h = absurd h
 some_and (Some x) P h = (x, refl, h)
 
+-- a value that there is
 some_is : {A : Type 0} (o : Option A) → IsSome o → (x : A) × (o ≡ Some x)
 some_is None h = cc
 some_is (Some x) h = (x, refl)
@@ -78,12 +81,14 @@ record IsFound (mandatory before words : List Name) (many : ℕ) (text : List �
   count : length header.listed ≡ many
   text_is : spaced header.listed ≡ text
 
+-- what was found, with the header that it is found in
 is_found : (mandatory before words : List Name) (many : ℕ) (text : List ℕ) → Found mandatory before words many text → IsFound mandatory before words many text
 is_found mandatory before words many text found =
     let got : (header : Header) × (header_of mandatory before ≡ Some header) × ((header.rest ≡ words) × (length header.listed ≡ many) × (spaced header.listed ≡ text)) =
     some_and (header_of mandatory before) (λ header. (header.rest ≡ words) × (length header.listed ≡ many) × (spaced header.listed ≡ text)) found in
     record { header = got.0; read = got.1; rest = got.2.0; count = got.2.1; text_is = got.2.2 }
 
+-- the first token of a compressed proof, taken off, is `(`
 pub begins : (iter tokens before : List Name) (r : Option (Bor (List ℕ))) → MatchOption r ((iter ≡ []) × (before ≡ [])) (λ x. iter ≡ x.now ∷ before) → iter ≡ tokens → is_compressed tokens ≡ true → tokens ≡ begin ∷ before
 begins iter tokens before None steps is compressed = absurd (true≢false (sym compressed ∙ ap is_compressed (sym is ∙ steps.0)))
 begins iter tokens before (Some x) steps is compressed =
@@ -91,15 +96,18 @@ begins iter tokens before (Some x) steps is compressed =
     first ∙ ap (λ t. t ∷ before) ((bytes_eq-Decides x.now begin).0 (sym (ap is_compressed first) ∙ compressed))
 
 module _ (tokens mandatory before words : List Name) (many : ℕ) (text : List ℕ) (starts : tokens ≡ begin ∷ before) (visible : list_all is_word tokens ≡ true) (found : Found mandatory before words many text) where
+  -- the header that was read, with its labels and what is left
   at : IsFound mandatory before words many text
   at = is_found mandatory before words many text found
 
+  -- the listed labels are words, and so is what follows the `)`
   parts : (list_all is_word at.header.listed ≡ true) × (list_all is_word at.header.rest ≡ true)
   parts =
       let whole : before ≡ at.header.listed ++ finish ∷ at.header.rest = (header-read mandatory before at.header at.read).whole in
       let all : list_all is_word (at.header.listed ++ finish ∷ at.header.rest) ≡ true = sym (ap (λ ws. list_all is_word (begin ∷ ws)) whole) ∙ (sym (ap (list_all is_word) starts) ∙ visible) in
       and_parts (list_all is_word at.header.listed) (list_all is_word at.header.rest) (sym (list_all-append is_word at.header.listed (finish ∷ at.header.rest)) ∙ all)
 
+  -- the listed labels are the words of their text
   listed_words : at.header.listed ≡ words_of text
   listed_words = sym (words_of-spaced at.header.listed parts.0) ∙ ap words_of at.text_is
 
@@ -107,16 +115,20 @@ module _ (tokens mandatory before words : List Name) (many : ℕ) (text : List �
   pub listed_visible : list_all is_word (words_of text) ≡ true
   listed_visible = sym (ap (list_all is_word) listed_words) ∙ parts.0
 
+  -- the mandatory labels and the listed ones, counted
   limit : length (mandatory ++ at.header.listed) ≡ length mandatory + many
   limit = length-append mandatory at.header.listed ∙ ap (λ n. length mandatory + n) at.count
 
   module _ (letters : List ℕ) (labels : ℕ) (are : letters ≡ spaced words) (numbered : labels ≡ length mandatory + many) where
+    -- the bytes of the letters are those of the words behind the `)`, joined
     letters_are : letters_of letters ≡ joined at.header.rest
     letters_are = ap letters_of (are ∙ ap spaced (sym at.rest)) ∙ letters_of-spaced at.header.rest parts.1
 
+    -- they begin with a mark where the joined words do
     first_is : starts_with_mark letters ≡ starts_with_mark (joined at.header.rest)
     first_is = ap starts_with_mark (are ∙ ap spaced (sym at.rest)) ∙ starts_with_mark-spaced at.header.rest parts.1
 
+    -- whatever is written behind the header is read as a row
     is_row : (items : List Item) → WritesCompressed tokens mandatory items → RowIsRead (mandatory ++ at.header.listed) (joined at.header.rest) items
     is_row items w = read-WritesRow (mandatory ++ at.header.listed) (joined at.header.rest) items (row_behind tokens mandatory before at.header starts at.read items w)
 
@@ -124,6 +136,7 @@ module _ (tokens mandatory before words : List Name) (many : ℕ) (text : List �
     pub mark_first : starts_with_mark letters ≡ true → (items : List Item) → WritesCompressed tokens mandatory items → ⊥
     mark_first h items w = true≢false (sym h ∙ (first_is ∙ (is_row items w).starts))
 
+    -- the letters give the numbers of the row, with its labels for a limit
     numbers_are : numbers_from labels 0 (letters_of letters) ≡ numbers_from (length (mandatory ++ at.header.listed)) 0 (joined at.header.rest)
     numbers_are = ap (λ l. numbers_from labels 0 l) letters_are ∙ ap (λ l. numbers_from l 0 (joined at.header.rest)) (numbered ∙ sym limit)
 
@@ -131,6 +144,7 @@ module _ (tokens mandatory before words : List Name) (many : ℕ) (text : List �
     pub no_numbers : numbers_from labels 0 (letters_of letters) ≡ None → (items : List Item) → WritesCompressed tokens mandatory items → ⊥
     no_numbers h items w = none-some (is_row items w).numbers (sym h ∙ (numbers_are ∙ (is_row items w).read))
 
+    -- letters that give numbers, and begin with no mark, write the items of those numbers
     written : (numbers : List ℕ) → starts_with_mark letters ≡ false → numbers_from labels 0 (letters_of letters) ≡ Some numbers
         → WritesCompressed tokens mandatory (items_of (mandatory ++ words_of text) numbers)
     written numbers first h =

@@ -61,6 +61,7 @@ symbols-labelled (Ess label expr) l is = refl
 symbols-labelled (Axiom label expr) l is = refl
 symbols-labelled (Prove label expr proof) l is = refl
 
+-- of no names each is among the names
 no_names : (names : List Name) → AreNamed names []
 no_names names x h = absurd (true≢false (sym h))
 
@@ -170,6 +171,7 @@ bare-rule S (Float label constant variable) = refl
 bare-rule S (Ess label expr) = refl
 bare-rule S (Axiom label expr) = refl
 
+-- what holds where a call succeeds, where it has not failed
 pub ok_of : {A B : Type 0} {P : Type 0} (r : Result A B) → is_err r ≡ false → OnOk r P → P
 ok_of (Ok x) h p = p
 ok_of (Err e) h p = cc

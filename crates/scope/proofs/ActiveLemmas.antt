@@ -57,9 +57,11 @@ below-deficit zero (Close ∷ S) h = absurd (omega arith)
 below-deficit (suc d) (Close ∷ S) h = below-deficit d S (omega arith)
 below-deficit d (s ∷ S) h = below-deficit d S h
 
+-- statements that close no block before them have no `$}` too many
 pub no_deficit : (S : Database) → stays_open 0 S ≡ true → deficit S ≡ 0
 no_deficit S h = omega (arith, deficit-below 0 S h)
 
+-- others have one at least
 pub some_deficit : (S : Database) → stays_open 0 S ≡ false → 1 ≤ deficit S
 some_deficit S h = by (deficit S) refl
   where
@@ -121,6 +123,7 @@ abbrev pub from_open : List (ℕ × Stmt) → List (ℕ × Stmt)
 from_open [] = []
 from_open (p ∷ es) = cond (has_open es) (from_open es) (p ∷ es)
 
+-- what is active stands before the last open block, or from its start on
 pub split_open : (es : List (ℕ × Stmt)) → es ≡ before_open es ++ from_open es
 split_open [] = refl
 split_open (p ∷ es) = by (has_open es) (split_open es)
@@ -129,6 +132,7 @@ split_open (p ∷ es) = by (has_open es) (split_open es)
     by true e = ap (λ r. p ∷ r) e
     by false e = refl
 
+-- a disjunction that does not hold has no right part that holds
 pub or_false_right : (a b : Bool) → (a || b) ≡ false → b ≡ false
 or_false_right true b h = cc
 or_false_right false b h = h
@@ -179,6 +183,7 @@ closes at S h = by (has_open (active_from at S)) refl
     by true o = below-deficit 0 (S ++ Close ∷ []) (omega (arith, deficit-close S, no_deficit S h, open-left at S o))
     by false o = no (stays_open 0 (S ++ Close ∷ [])) refl (none-left at S o)
 
+-- a `$}` more leaves a block closed that was closed
 closed_stays : (S : Database) → stays_open 0 S ≡ false → stays_open 0 (S ++ Close ∷ []) ≡ false
 closed_stays S h = by (stays_open 0 (S ++ Close ∷ [])) refl
   where
@@ -186,9 +191,11 @@ closed_stays S h = by (stays_open 0 (S ++ Close ∷ [])) refl
     by true k = absurd (omega (arith, no_deficit (S ++ Close ∷ []) k, deficit-close S, some_deficit S h))
     by false k = refl
 
+-- a position moved on by one, in two ways
 pub place : (a n : ℕ) → a + 1 + n ≡ a + suc n
 place a n = omega arith
 
+-- one statement before those that a `$}` leaves: it is left where its block is still open
 close_step : (b o : Bool) (p : ℕ × Stmt) (q : ℕ × Stmt) (r later : List (ℕ × Stmt)) → has_open r ≡ o → later ≡ before_open r ++ q ∷ []
     → cond (cond b o false) (p ∷ later) later ≡ before_open (cond b (p ∷ r) r) ++ q ∷ []
 close_step true true p q r later o e = ap (λ x. p ∷ x) e ∙ ap (λ c. cond c (p ∷ before_open r) [] ++ q ∷ []) (sym o)
@@ -196,6 +203,7 @@ close_step true false p q r later o e =
     e ∙ (ap (λ x. x ++ q ∷ []) (before_open-none r o) ∙ ap (λ c. cond c (p ∷ before_open r) [] ++ q ∷ []) (sym o))
 close_step false o p q r later h e = e
 
+-- with a `$}` more, statements close no block before them where they closed none and one of theirs is open
 closes_all : (at : ℕ) (S : Database) → stays_open 0 (S ++ Close ∷ []) ≡ cond (stays_open 0 S) (has_open (active_from at S)) false
 closes_all at S = by (stays_open 0 S) refl
   where
@@ -237,6 +245,7 @@ active_from-later at (s ∷ S) T h =
 
 -- ---- the test is the sentence: no beginning has more `$}` than `${`, of which `d` more are open
 
+-- no statements close no block
 none_closed : (d : ℕ) (S : Database) → count is_close (take 0 S) ≤ count is_open (take 0 S) + d
 none_closed d [] = omega arith
 none_closed d (s ∷ S) = omega arith

@@ -55,27 +55,35 @@ any-active q h at (s ∷ S) =
     by false e = e
 
 module _ (S : Database) where
+  -- as many blocks are opened
   opens : count is_open (bares S) ≡ count is_open S
   opens = count-bares is_open (bare-same is_open (λ l e p. refl)) S
 
+  -- as many are closed
   closes : count is_close (bares S) ≡ count is_close S
   closes = count-bares is_close (bare-same is_close (λ l e p. refl)) S
 
+  -- the same names were declared as symbols
   symbols : (x : Name) → was_symbol (bares S) x ≡ was_symbol S x
   symbols x = any-bares (λ s. has_name x (constants s) || has_name x (variables s)) (bare-same (λ s. has_name x (constants s) || has_name x (variables s)) (λ l e p. refl)) S
 
+  -- the same names were used as labels
   labels : (x : Name) → was_label (bares S) x ≡ was_label S x
   labels x = any-bares (λ s. has_label x (label_of s)) (bare-same (λ s. has_label x (label_of s)) (λ l e p. refl)) S
 
+  -- the constants are the same
   are_constants : (x : Name) → is_constant (bares S) x ≡ is_constant S x
   are_constants x = any-bares (λ s. has_name x (constants s)) (bare-same (λ s. has_name x (constants s)) (λ l e p. refl)) S
 
+  -- the active variables are the same
   are_variables : (x : Name) → is_variable (bares S) x ≡ is_variable S x
   are_variables x = any-active (λ s. has_name x (variables s)) (bare-same (λ s. has_name x (variables s)) (λ l e p. refl)) 1 S
 
+  -- the same variables have an active `$f`
   floats : (x : Name) → has_float (bares S) x ≡ has_float S x
   floats x = any-active (is_float_of x) (bare-same (is_float_of x) (λ l e p. refl)) 1 S
 
+  -- an axiom breaks the same rule behind them
   labelled : (label : Name) (expr : Expr) → broken_rule (bares S) (Axiom label expr) ≡ broken_rule S (Axiom label expr)
   labelled label [] = λ j.
       cond (not (not (labels label j || symbols label j))) (Some G4) None

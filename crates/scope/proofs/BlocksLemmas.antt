@@ -50,6 +50,7 @@ open-left_open S h = by (count is_open S) (count is_close S) (left_open S) (omeg
     by : (a b l : ℕ) → a ≡ b + l → nat_lt b a ≡ not (l == 0)
     by a b l e = grind (arith, nat_tests)
 
+-- where no block is open there are no starts of blocks
 no_blocks : (pre es : List (ℕ × Stmt)) → has_open es ≡ false → blocks_from pre es ≡ []
 no_blocks pre [] h = refl
 no_blocks pre (p ∷ es) h = by (is_open p.1) h (no_blocks (pre ++ p ∷ []) es)

@@ -2,6 +2,7 @@
 use Rattle.std.specs.Prelude.{◌≡◌, ℕ, ◌+◌, ◌≤◌, Bool, true, false, ◌||◌, List, [], ◌∷◌, ◌++◌, length, Option, Some, None, refl}
 use Rattle.std.specs.List.{list_any}
 use Rattle.std.proofs.Common.{◌∙◌, ap, sym, subst, arith, true≢false, length-append}
+use Rattle.std.proofs.Math.Bool.{or-false}
 use Rattle.std.proofs.lemmas.List.{length-map}
 use Rattle.mm_lex.specs.Alphabet.{Name, name_eq, has_name}
 use Rattle.mm_read.specs.declared.stmt.Stmt.{Stmt}
@@ -32,10 +33,6 @@ any-append p (t ∷ S) s = ap (λ b. p t || b) (any-append p S s) ∙ or_assoc (
     or_assoc true b c = refl
     or_assoc false b c = refl
 
-pub or_false : (b : Bool) → (b || false) ≡ b
-or_false true = refl
-or_false false = refl
-
 -- the three tests after one more statement, from what it adds to each
 tells-step : (S : Database) (s : Stmt) (x : Name) (k k' : Option Kind) → Tells S x k
     → (is_label_kind k || has_label x (label_of s)) ≡ is_label_kind k' → (is_constant_kind k || has_name x (constants s)) ≡ is_constant_kind k'
@@ -49,9 +46,9 @@ tells-step S s x k k' t l c v = record {
 pub tells-nothing : (S : Database) (s : Stmt) (names : Declared) → ((x : Name) → has_label x (label_of s) ≡ false) → constants s ≡ [] → variables s ≡ [] → TellsAll S names → TellsAll (S ++ s ∷ []) names
 tells-nothing S s names l c v told x =
     tells-step S s x (kind_in names x) (kind_in names x) (told x)
-    (ap (λ b. is_label_kind (kind_in names x) || b) (l x) ∙ or_false (is_label_kind (kind_in names x)))
-    (ap (λ xs. is_constant_kind (kind_in names x) || has_name x xs) c ∙ or_false (is_constant_kind (kind_in names x)))
-    (ap (λ xs. is_variable_kind (kind_in names x) || has_name x xs) v ∙ or_false (is_variable_kind (kind_in names x)))
+    (ap (λ b. is_label_kind (kind_in names x) || b) (l x) ∙ or-false (is_label_kind (kind_in names x)))
+    (ap (λ xs. is_constant_kind (kind_in names x) || has_name x xs) c ∙ or-false (is_constant_kind (kind_in names x)))
+    (ap (λ xs. is_variable_kind (kind_in names x) || has_name x xs) v ∙ or-false (is_variable_kind (kind_in names x)))
 
 pub tells-constants : (S : Database) (names : Declared) (xs : List Name) → ((x : Name) → has_name x xs ≡ true → kind_in names x ≡ None) → TellsAll S names → TellsAll (S ++ Const xs ∷ []) (with_kinds names Constant xs)
 tells-constants S names xs fresh told x =
@@ -64,7 +61,7 @@ tells-constants S names xs fresh told x =
       where
         clash : (k : Kind) → Some k ≡ None → ⊥
         clash k e = cc
-    by (Some k) false p q t = tells-step S (Const xs) x (Some k) (Some k) t (or_false (is_label_kind (Some k))) (ap (λ b. is_constant_kind (Some k) || b) q ∙ or_false (is_constant_kind (Some k))) (or_false (is_variable_kind (Some k)))
+    by (Some k) false p q t = tells-step S (Const xs) x (Some k) (Some k) t (or-false (is_label_kind (Some k))) (ap (λ b. is_constant_kind (Some k) || b) q ∙ or-false (is_constant_kind (Some k))) (or-false (is_variable_kind (Some k)))
 
 pub tells-variables : (S : Database) (names : Declared) (xs : List Name) → ((x : Name) → has_name x xs ≡ true → (is_label_kind (kind_in names x) ≡ false) × (is_constant_kind (kind_in names x) ≡ false)) → TellsAll S names → TellsAll (S ++ Var xs ∷ []) (with_kinds names Variable xs)
 tells-variables S names xs free told x =
@@ -76,7 +73,7 @@ tells-variables S names xs free told x =
     by (Some Label) true p q t = absurd (true≢false (sym (ap is_label_kind p) ∙ (free x q).0))
     by (Some Constant) true p q t = absurd (true≢false (sym (ap is_constant_kind p) ∙ (free x q).1))
     by (Some Variable) true p q t = tells-step S (Var xs) x (Some Variable) (Some Variable) t refl refl refl
-    by (Some k) false p q t = tells-step S (Var xs) x (Some k) (Some k) t (or_false (is_label_kind (Some k))) (or_false (is_constant_kind (Some k))) (ap (λ b. is_variable_kind (Some k) || b) q ∙ or_false (is_variable_kind (Some k)))
+    by (Some k) false p q t = tells-step S (Var xs) x (Some k) (Some k) t (or-false (is_label_kind (Some k))) (or-false (is_constant_kind (Some k))) (ap (λ b. is_variable_kind (Some k) || b) q ∙ or-false (is_variable_kind (Some k)))
 
 pub tells-label : (S : Database) (s : Stmt) (names : Declared) (l : Name) → label_of s ≡ Some l → constants s ≡ [] → variables s ≡ [] → kind_in names l ≡ None → TellsAll S names → TellsAll (S ++ s ∷ []) (with_kinds names Label (l ∷ []))
 tells-label S s names l labelled c v fresh told x =
@@ -87,10 +84,10 @@ tells-label S s names l labelled c v fresh told x =
     has = ap (has_label x) labelled
 
     with_c : (k : Option Kind) → (is_constant_kind k || has_name x (constants s)) ≡ is_constant_kind k
-    with_c k = ap (λ xs. is_constant_kind k || has_name x xs) c ∙ or_false (is_constant_kind k)
+    with_c k = ap (λ xs. is_constant_kind k || has_name x xs) c ∙ or-false (is_constant_kind k)
 
     with_v : (k : Option Kind) → (is_variable_kind k || has_name x (variables s)) ≡ is_variable_kind k
-    with_v k = ap (λ xs. is_variable_kind k || has_name x xs) v ∙ or_false (is_variable_kind k)
+    with_v k = ap (λ xs. is_variable_kind k || has_name x xs) v ∙ or-false (is_variable_kind k)
 
     clash : (k : Kind) → Some k ≡ None → ⊥
     clash k e = cc
@@ -99,7 +96,7 @@ tells-label S s names l labelled c v fresh told x =
     by None true p q t = tells-step S s x None (Some Label) t (has ∙ q) (with_c None) (with_v None)
     by None false p q t = tells-step S s x None None t (has ∙ q) (with_c None) (with_v None)
     by (Some k) true p q t = absurd (clash k (sym p ∙ (ap (kind_in names) (same_name x l q) ∙ fresh)))
-    by (Some k) false p q t = tells-step S s x (Some k) (Some k) t (ap (λ b. is_label_kind (Some k) || b) (has ∙ q) ∙ or_false (is_label_kind (Some k))) (with_c (Some k)) (with_v (Some k))
+    by (Some k) false p q t = tells-step S s x (Some k) (Some k) t (ap (λ b. is_label_kind (Some k) || b) (has ∙ q) ∙ or-false (is_label_kind (Some k))) (with_c (Some k)) (with_v (Some k))
 
 -- ---- the names of one statement more
 

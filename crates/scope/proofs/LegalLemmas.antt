@@ -14,10 +14,12 @@ use Rattle.scope.specs.declared.legal.Sort.{Sort}
 use Rattle.scope.specs.declared.rule.Rule.{Rule}
 use Rattle.scope.specs.declared.rule.Rule.TheVariants.{G4, G5, G6, G7}
 
+-- where no rule is broken, the first is kept and so are the rest
 first_rule : (b : Bool) (r : Rule) (rest : Option Rule) → cond (not b) (Some r) rest ≡ None → (b ≡ true) × (rest ≡ None)
 first_rule true r rest h = (refl, h)
 first_rule false r rest h = cc
 
+-- a disjunction the other way round
 pub or_comm : (a b : Bool) → (a || b) ≡ (b || a)
 or_comm true true = refl
 or_comm true false = refl
@@ -35,6 +37,7 @@ legal-variables S xs h = and_parts _ _ (first_rule _ _ _ h).0
 pub legal-close : (S : Database) → broken_rule S Close ≡ None → nat_lt (count is_close S) (count is_open S) ≡ true
 legal-close S h = (first_rule _ _ _ h).0
 
+-- neither a label nor a symbol, in the other order
 fresh : (S : Database) (l : Name) → not (was_label S l || was_symbol S l) ≡ true → not (was_symbol S l || was_label S l) ≡ true
 fresh S l h = ap not (or_comm (was_symbol S l) (was_label S l)) ∙ h
 

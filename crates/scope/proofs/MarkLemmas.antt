@@ -2,6 +2,7 @@
 use Rattle.std.specs.Prelude.{◌≡◌, ℕ, ◌+◌, ◌==◌, Bool, true, false, not, ◌||◌, ◌&&◌, List, [], ◌∷◌, ◌++◌, length, take, Option, Some, None, is_some, refl}
 use Rattle.std.specs.List.{list_any, list_all, flat_map}
 use Rattle.std.proofs.Common.{◌∙◌, ap, sym, subst, arith, true≢false}
+use Rattle.std.proofs.Math.Bool.{or-false}
 use Rattle.std.proofs.lemmas.List.{append-nil, map-append, take-map, take-take, take_all, take_at, length-map, nil_from_length}
 use Rattle.std.proofs.lemmas.Grind.{flat_map-append}
 use Rattle.std.proofs.lemmas.Bool.Decides.{nat_tests}
@@ -23,7 +24,6 @@ use Rattle.names.proofs.AddedLemmas.{numbers_in-more, has_name-append}
 use Rattle.names.proofs.CodesLemmas.{name_same, same_name}
 use Rattle.scope.proofs.NamesLemmas.{names_of-later, active-named}
 use Rattle.scope.proofs.SortsLemmas.{numbers-has, fresh-kind}
-use Rattle.scope.proofs.DeclaredLemmas.{or_false}
 
 -- ---- marking, and going back to the mark
 
@@ -147,7 +147,7 @@ can_push-names names active (w ∷ ws) known differ apart =
     let first : list_any (λ m. m == number_in names w) (numbers_in names active) ≡ false = numbers-has names w active (known w own) ∙ apart w own in
     ap (λ b. not b && can_push (numbers_in names active ++ number_in names w ∷ []) (numbers_in names ws)) first
     ∙ (ap (λ s. can_push s (numbers_in names ws)) (sym (map-append (number_in names) active (w ∷ [])))
-    ∙ can_push-names names (active ++ w ∷ []) ws (λ x h. known x (later x h)) d.1 (λ x h. has_name-append x active (w ∷ []) ∙ (ap (λ b. b || (name_eq x w || false)) (apart x (later x h)) ∙ or_false (name_eq x w) ∙ other x h d.0)))
+    ∙ can_push-names names (active ++ w ∷ []) ws (λ x h. known x (later x h)) d.1 (λ x h. has_name-append x active (w ∷ []) ∙ (ap (λ b. b || (name_eq x w || false)) (apart x (later x h)) ∙ or-false (name_eq x w) ∙ other x h d.0)))
   where
     later : (x : Name) → has_name x ws ≡ true → (name_eq x w || has_name x ws) ≡ true
     later x h = by (name_eq x w) h

@@ -53,6 +53,7 @@ active-was at (s ∷ S) x h = by (stays_open 0 S) h (active-was (at + 1) S x)
     by true k rest = both (or_cases (has_name x (variables s)) _ (sym (has_name-append x (variables s) _) ∙ k)) rest
     by false k rest = first (inr (rest k))
 
+-- the names of a `$v` are declared by it
 declares : (s : Stmt) (x : Name) → has_name x (variables s) ≡ true → has_name x (declared_by s) ≡ true
 declares (Var names) x h = h
 declares Open x h = cc

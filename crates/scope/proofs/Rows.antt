@@ -5,30 +5,39 @@ use Rattle.scope.specs.declared.rule.Rule.TheVariants.{G1, G2, G3, G4, G10}
 use Rattle.scope.specs.Legal.{first_broken, AllLegal}
 use Rattle.scope.proofs.Databases.{w, demo, row_seven, row_th}
 
+-- D breaks no rule
 demo_legal : AllLegal demo
 demo_legal = refl
 
+-- nor does the database of row 7
 row_seven_legal : AllLegal (row_seven ++ row_th ∷ Close ∷ [])
 row_seven_legal = refl
 
+-- a `$c` inside a block
 inner_constant : first_broken 1 [] (Open ∷ Const (w (codes "a")) ∷ []) ≡ Some (2, G1)
 inner_constant = refl
 
+-- a `$}` without an open block
 stray_close : first_broken 1 [] (Close ∷ []) ≡ Some (1, G10)
 stray_close = refl
 
+-- an open block at the end counts as one statement more
 open_at_end : first_broken 1 [] (Open ∷ Var (w (codes "x")) ∷ []) ≡ Some (3, G10)
 open_at_end = refl
 
+-- a symbol twice in one `$c`
 twice : first_broken 1 [] (Const (w (codes "a a")) ∷ []) ≡ Some (1, G2)
 twice = refl
 
+-- a label used twice
 label_again : first_broken 1 [] (Const (w (codes "|-")) ∷ Axiom (codes "p") (w (codes "|-")) ∷ Axiom (codes "p") (w (codes "|-")) ∷ []) ≡ Some (3, G4)
 label_again = refl
 
+-- a label that is a constant
 label_is_symbol : first_broken 1 [] (Const (w (codes "o |-")) ∷ Axiom (codes "o") (w (codes "|-")) ∷ []) ≡ Some (2, G4)
 label_is_symbol = refl
 
+-- a variable declared again while it is active
 variable_again : first_broken 1 (Var (w (codes "x")) ∷ []) (Var (w (codes "x")) ∷ []) ≡ Some (1, G3)
 variable_again = refl
 

@@ -30,6 +30,7 @@ any-variables (p ∷ es) x = ap (λ b. has_name x (variables p.1) || b) (any-var
 pub is_variable-active : (S : Database) (x : Name) → is_variable S x ≡ has_name x (active_variables S)
 is_variable-active S x = any-variables (active S) x
 
+-- the variable of a `$f` is the one that it types, and other statements type none
 types : (s : Stmt) (x : Name) → is_float_of x s ≡ has_name x (typed_by s)
 types Open x = refl
 types Close x = refl
@@ -68,6 +69,7 @@ was_symbol-either (s ∷ S) x =
 
 -- ---- numbers found
 
+-- a test for equality fails on different numbers
 numbers_apart : (m n : ℕ) (b : Bool) → (m == n) ≡ b → (m ≡ n → ⊥) → b ≡ false
 numbers_apart m n true e differ = absurd (differ (eqb-true m n e))
 numbers_apart m n false e differ = refl
@@ -83,6 +85,7 @@ numbers-has names x (y ∷ xs) h = ap (λ b. b || list_any (λ n. n == number_in
 
 -- ---- sorts
 
+-- what was never declared as a variable is no active one
 not_active : (S : Database) (x : Name) → was_variable S x ≡ false → is_variable S x ≡ false
 not_active S x h = by (is_variable S x) refl
   where
@@ -155,6 +158,7 @@ pub first-more : {A : Type 0} (xs rest ws : List A) (w : A) (i : ℕ) → xs ++ 
 first-more xs rest ws w i e h =
     ap (take (i + 1)) (sym e ∙ sym (append_assoc xs (w ∷ []) rest)) ∙ take_at (xs ++ w ∷ []) rest (i + 1) (length_push xs w ∙ ap (λ n. n + 1) h)
 
+-- fewer than two names are all different
 pub short_differ : (xs : List Name) → length xs < 2 → all_different xs ≡ true
 short_differ [] h = refl
 short_differ (x ∷ []) h = refl

@@ -42,6 +42,7 @@ set_other (x ∷ xs) (suc i) v zero k ne h = h
 set_other (x ∷ xs) zero v (suc n) k ne h = h
 set_other (x ∷ xs) (suc i) v (suc n) k ne h = set_other xs i v n k (λ e. ne (ap suc e)) h
 
+-- a write is read back
 pub set_same : (xs : List ℕ) (i v : ℕ) → i < length xs → slice_get (slice_set xs i v) i ≡ Some v
 set_same [] i v h = absurd (omega arith)
 set_same (x ∷ xs) zero v h = refl

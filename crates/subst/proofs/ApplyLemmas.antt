@@ -3,6 +3,7 @@ use Rattle.std.specs.Prelude.{◌≡◌, ℕ, zero, suc, ◌+◌, ◌≤◌, ◌
 use Rattle.std.proofs.Common.{sym, ◌∙◌, ap, arith, add-one, append_assoc, append-nil, length-append}
 use Rattle.frame.specs.Substitution.{CodeImages, code_image, code_apply}
 
+-- one symbol more is put in behind those before it
 more_taken : (σ : CodeImages) (e : List ℕ) (i : ℕ) → i < length e
     → code_apply σ (take (suc i) e) ≡ code_apply σ (take i e) ++ code_image σ (get_or e i 0)
 more_taken σ [] i h = absurd (omega arith)

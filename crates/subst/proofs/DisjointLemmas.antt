@@ -47,9 +47,11 @@ module _ (S : Database) where
       by true same h = true≢false (sym var ∙ (ap (is_variable S) (same_name u x same) ∙ none))
       by false same h = cc
 
+  -- a constant as an image is apart from each other image
   pub constant_left : (x : Name) (f : Expr) → is_variable S x ≡ false → are_apart S (x ∷ []) f ≡ true
   constant_left x f none = apart-from S (x ∷ []) f (λ u v p q in_e in_f. absurd (no_variable x u none p in_e))
 
+  -- the same from the right
   pub constant_right : (e : Expr) (y : Name) → is_variable S y ≡ false → are_apart S e (y ∷ []) ≡ true
   constant_right e y none = apart-from S e (y ∷ []) (λ u v p q in_e in_f. absurd (no_variable y v none q in_f))
 
@@ -108,6 +110,7 @@ module _ (S : Database) (σ : Images) where
           let p = and_parts (not (name_eq x y)) (list_any (both x y) lists) t in
           and_from (not (name_eq x y)) (both x y names || list_any (both x y) lists) p.0 (or_right (both x y names) (list_any (both x y) lists) p.1)
 
+-- groups are apart where both sentences hold of each two of their variables, and only there
 pub pair_clause : PairClause
 pair_clause S σ lists = (
   λ h x y t.

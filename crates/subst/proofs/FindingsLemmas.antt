@@ -142,6 +142,7 @@ module _ (v : Numbered) (f : Found) (known : IsKnown v f) where
 
 -- ---- what was pushed
 
+-- what is kept where a push succeeds, where it has not failed
 pub pushed : {T E A : Type 0} (r : Result T E) (x a b : A) → is_err r ≡ false → x ≡ (if is_ok r then a else b) → x ≡ a
 pushed (Ok t) x a b e h = h
 pushed (Err f) x a b e h = cc
@@ -172,12 +173,15 @@ module _ (v : Numbered) (f : Found) (known : IsKnown v f) (i : ℕ) (there : i <
   abbrev pub with_row : Found
   with_row = record { symbols = f.symbols; variables = slice_set f.variables i row }
 
+  -- the new row stands at its place
   here : variable_at with_row i ≡ row
   here = get_or-set_same f.variables i row no_variable there
 
+  -- the other places have their old rows
   others : (k : ℕ) → (k ≡ i → ⊥) → variable_at with_row k ≡ variable_at f k
   others k other = get_or-set_other f.variables i k row no_variable other
 
+  -- each place keeps its symbol
   symbols : (k : ℕ) → (variable_at with_row k).symbol ≡ (variable_at f k).symbol
   symbols k = by (cases_eq k i)
     where
@@ -185,9 +189,11 @@ module _ (v : Numbered) (f : Found) (known : IsKnown v f) (i : ℕ) (there : i <
       by (inl same) = ap (λ n. (variable_at with_row n).symbol) same ∙ (ap (λ (r : Variable). r.symbol) here ∙ (symbol ∙ ap (λ n. (variable_at f n).symbol) (sym same)))
       by (inr other) = ap (λ (r : Variable). r.symbol) (others k other)
 
+  -- there are as many variables as before
   count : length with_row.variables ≡ length f.variables
   count = length-set f.variables i row
 
+  -- and no new places
   within : (k : ℕ) → k < length with_row.variables → k < length f.variables
   within k h = omega (arith, h, count)
 
@@ -195,6 +201,7 @@ module _ (v : Numbered) (f : Found) (known : IsKnown v f) (i : ℕ) (there : i <
   grows-row = record { each = λ j x at. record { there = (let low = at.there in omega (arith, low, count)); same = symbols j ∙ at.same } }
 
   module _ (good : (j : ℕ) → bit_at row.apart j ≡ 1 → (j < length f.variables) × (is_kept v f i j ≡ true)) where
+    -- each bit of a row tells a variable that is kept apart, where the new row's do
     told : (k l : ℕ) → k < length f.variables → bit_at (variable_at with_row k).apart l ≡ 1 → (l < length f.variables) × (is_kept v f k l ≡ true)
     told k l h b = by (cases_eq k i)
       where

@@ -6,6 +6,7 @@ use Rattle.std.proofs.lemmas.Slice.Eq.{bytes_eq-Decides}
 use Rattle.frame.specs.Substitution.{CodeImages, code_image, code_apply}
 use Rattle.subst.proofs.ApplyLemmas.{apply-take}
 
+-- symbols that begin with an image are the image and the rest
 strips : (rest image : List ℕ) → bytes_eq (take (length image) rest) image ≡ true → rest ≡ image ++ drop (length image) rest
 strips rest image h = sym (take-append-drop (length image) rest) ∙ ap (λ s. s ++ drop (length image) rest) ((bytes_eq-Decides (take (length image) rest) image).0 h)
 

@@ -43,6 +43,7 @@ pub group-goes_on : (p : List ℕ → Bool) (groups : List (List ℕ)) (i : ℕ)
 group-goes_on p groups i g h before here =
     list_all_more p groups i [] (slice_get_within groups i g h) ∙ and_from _ _ before (ap p (get_or_from_slice_get groups i g [] h) ∙ here)
 
+-- a test for equality fails on different numbers
 pub differ : (k l : ℕ) → (k ≡ l → ⊥) → (k == l) ≡ false
 differ k l ne = grind (arith, ne)
 

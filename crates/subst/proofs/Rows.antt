@@ -5,12 +5,15 @@ use Rattle.scope.proofs.Databases.{w, row_seven}
 use Rattle.frame.specs.Substitution.{apply, code_apply}
 use Rattle.frame.specs.Disjoint.{are_apart, are_groups_apart}
 
+-- x and y in one another's place, put in at once
 swapped : apply ((codes "x", w (codes "y")) ∷ (codes "y", w (codes "x")) ∷ []) (w (codes "|- x R y")) ≡ w (codes "|- y R x")
 swapped = refl
 
+-- the same with numbers for the symbols
 swapped_numbers : code_apply ((4, 5 ∷ []) ∷ (5, 4 ∷ []) ∷ []) (0 ∷ 4 ∷ 3 ∷ 5 ∷ []) ≡ 0 ∷ 5 ∷ 3 ∷ 4 ∷ []
 swapped_numbers = refl
 
+-- an empty image leaves nothing in the place of x
 empty_image : apply ((codes "x", []) ∷ []) (w (codes "|- ( x )")) ≡ w (codes "|- ( )")
 empty_image = refl
 
@@ -18,12 +21,15 @@ empty_image = refl
 outside_the_block : are_apart (before row_seven 10) (w (codes "x")) (w (codes "z")) ≡ false
 outside_the_block = refl
 
+-- a `$d` in an open block keeps x and z apart
 inside_the_block : are_apart row_seven (w (codes "x")) (w (codes "z")) ≡ true
 inside_the_block = refl
 
+-- a variable is never apart from itself
 shared_variable : are_apart row_seven (w (codes "x")) (w (codes "x")) ≡ false
 shared_variable = refl
 
+-- a constant in both images is no hindrance
 shared_constant : are_apart row_seven (w (codes "R")) (w (codes "R")) ≡ true
 shared_constant = refl
 

@@ -24,6 +24,7 @@ before round k (s ∷ slots) x h = by (s.round == round) (before round (suc k) s
     by true rest = ap (λ b. cond b (Some s.place) (lookup (nat_eq x) (placed round (suc k) slots))) other ∙ rest
     by false rest = rest
 
+-- the table, numbered from k on, gives the symbol k + x what the slot at x says
 from : (round k : ℕ) (slots : List Slot) (x : ℕ) → lookup (nat_eq (k + x)) (placed round k slots) ≡ slot_of round slots x
 from round k [] x = refl
 from round k (s ∷ slots) zero = by (s.round == round)

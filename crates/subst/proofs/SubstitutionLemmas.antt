@@ -10,6 +10,7 @@ use Rattle.frame.specs.Substitution.{CodeImages, code_image, code_apply, image, 
 use Rattle.names.proofs.CodesLemmas.{found-number, unknown-number}
 use Rattle.subst.specs.Laws.{SubstitutionOverNames}
 
+-- one less on both sides keeps a number below the other
 tail_lt : (n m : ℕ) → nat_lt (suc n) (suc m) ≡ true → nat_lt n m ≡ true
 tail_lt n m h = lt-ltb n m (omega (arith, ltb-true (suc n) (suc m) h))
 
@@ -80,6 +81,7 @@ image-decode names σ n d h =
     ∙ (ap (λ b. cond b (decode names (code_image σ (0 + position_or_len (name_eq (name_at names n)) names))) (name_at names n ∷ [])) p.0
     ∙ ap (λ m. decode names (code_image σ m)) same))
 
+-- images of numbers put in, then read as names, are images of names put in
 pub substitution_over_names : SubstitutionOverNames
 substitution_over_names names σ [] d codes = refl
 substitution_over_names names σ (x ∷ e) d codes =

@@ -74,6 +74,7 @@ at-all p (x ∷ xs) zero h l = (and_parts (p x) (list_all p xs) h).0
 at-all p (x ∷ xs) (suc k) h l = at-all p xs k (and_parts (p x) (list_all p xs) h).1 (omega (arith, l))
 
 module _ (v : Numbered) (xs ys : List ℕ) where
+  -- two images are apart where each symbol of the one is good with each of the other
   good_rows : are_apart v.statements (decode v.names xs) (decode v.names ys) ≡ list_all (λ x. list_all (is_good v x) ys) xs
   good_rows =
       list_all-map (is_symbol_apart v.statements (decode v.names ys)) (name_at v.names) xs

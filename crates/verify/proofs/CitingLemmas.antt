@@ -58,12 +58,15 @@ module _ (S : Database) (names : List Name) (a : ℕ) (s : Stmt) (distinct : Are
   abbrev ps : List ℕ
   ps = hypotheses (before S a) s
 
+  -- the first symbols, and what is asked of the results, are as many as the positions
   lens : (length heads ≡ length ps) × (length hs ≡ length ps)
   lens = asked-lengths S names ps heads hs asked
 
+  -- what is asked of the hypothesis at an index
   at : (k : ℕ) → k < length rs → At S names ps heads hs k
   at k h = asked-at S names ps heads hs k asked (let l = lens.1 in omega (arith, h, l, count))
 
+  -- a hypothesis of the assertion has a result
   within : (k : ℕ) (h : Hypothesis) → slice_get hs k ≡ Some h → k < length rs
   within k h e = let r = slice_get_within hs k h e in omega (arith, r, count)
 
@@ -122,6 +125,7 @@ module _ (S : Database) (names : List Name) (a : ℕ) (s : Stmt) (distinct : Are
         by true e = refl
         by false e = sym (image-constant y e)
 
+    -- the images that were read are of the assertion's variables alone
     pub of_variables : OfVariables S a τ
     of_variables = only-all V N
 
@@ -165,6 +169,7 @@ module _ (S : Database) (names : List Name) (a : ℕ) (s : Stmt) (distinct : Are
     premise-at : (k p : ℕ) → slice_get ps k ≡ Some p → decode names (get_or rs k []) ≡ applied σ (expr_at S p)
     premise-at k p listed = sym (get-decode names rs k) ∙ (ap (λ v. get_or v k []) (sym whole) ∙ get-map-of (λ i. applied σ (expr_at S i)) ps k p [] listed)
 
+    -- a symbol that is no variable of the assertion stays as it is
     fixed : (y : Name) → V y ≡ false → image σ y ≡ y ∷ []
     fixed y none = image-fixed V σ y of_vars none
 

@@ -18,6 +18,7 @@ use Rattle.verify.proofs.Sound.{AllConclude, conclude_snoc}
 use Rattle.frame.proofs.FoundByNumber.{some-same}
 
 module _ (S : Database) (at : ℕ) (single : IsSingle S at) where
+  -- two instances of one assertion that take the same results conclude the same
   pub conclude_instance : (a : ℕ) (s r : Stmt) (σ τ : Images) → s ≡ r → IsInstance S at a s σ → IsInstance S at a r τ → premises S a s σ ≡ premises S a r τ
       → applied σ (expr_of s) ≡ applied τ (expr_of r)
   conclude_instance a s r σ τ same p q e =
@@ -41,6 +42,7 @@ module _ (S : Database) (at : ℕ) (single : IsSingle S at) where
 
   -- ---- runs
 
+  -- a run over the first items and a run over the rest make one run
   pub runs_append : (front rest : List Item) (st mid end : State) → Runs S at st front mid → Runs S at mid rest end → Runs S at st (front ++ rest) end
   runs_append [] rest st mid end p q = subst (λ r. Runs S at r rest end) (sym p) q
   runs_append (item ∷ front) rest st mid end p q = (p.0, p.1, runs_append front rest p.0 mid end p.2 q)
@@ -66,10 +68,12 @@ module _ (S : Database) (at : ℕ) (single : IsSingle S at) where
     pub kept : AllConclude S at after saved'
     pub leads : Leads saved items results saved' weight
 
+  -- the citation of an active hypothesis leads to its expression
   cite_hypothesis_leads : (i : ℕ) (s : Stmt) (label : Name) (saved : List Expr) (e : Expr) → Carries S i s label → IsHypothesis S at i s → e ≡ expr_of s → Leads saved (Cite label ∷ []) (e ∷ []) saved (length e)
   cite_hypothesis_leads i s label saved e carries active same =
       record { runs = λ below w. (state (below ++ e ∷ []) saved (w + length e), (below, e, of_hypothesis i s carries active same refl, refl), refl) }
 
+  -- items that lead to the premises lead, with the citation behind them, to the conclusion
   cite_assertion_leads : (a : ℕ) (s : Stmt) (σ : Images) (label : Name) (front items : List Item) (saved saved' es : List Expr) (e : Expr) (front_weight weight : ℕ)
       → Carries S a s label → IsInstance S at a s σ → es ≡ premises S a s σ → e ≡ applied σ (expr_of s) → Leads saved front es saved' front_weight
       → items ≡ front ++ Cite label ∷ [] → weight ≡ front_weight + length e → Leads saved items (e ∷ []) saved' weight
@@ -83,9 +87,11 @@ module _ (S : Database) (at : ℕ) (single : IsSingle S at) where
             (state (below ++ e ∷ []) saved' (w + front_weight + length e), (below, e, of_assertion a s σ carries fits (ap (λ r. below ++ r) same) gives, refl), refl)));
       }
 
+  -- a recall leads to the result that was saved
   recall_leads : (k : ℕ) (saved : List Expr) (e : Expr) → slice_get saved k ≡ Some e → Leads saved (Recall (suc k) ∷ []) (e ∷ []) saved (length e)
   recall_leads k saved e found = record { runs = λ below w. (state (below ++ e ∷ []) saved (w + length e), (e, found, refl), refl) }
 
+  -- a mark saves the result on top and adds no weight
   mark_leads : (front items : List Item) (saved saved' : List Expr) (e : Expr) (weight : ℕ) → Leads saved front (e ∷ []) saved' weight → items ≡ front ++ Mark ∷ [] → Leads saved items (e ∷ []) (saved' ++ e ∷ []) weight
   mark_leads front items saved saved' e weight leads whole =
       record {
@@ -96,9 +102,11 @@ module _ (S : Database) (at : ℕ) (single : IsSingle S at) where
             (state (below ++ e ∷ []) (saved' ++ e ∷ []) (w + weight), (below, e, refl, refl), refl));
       }
 
+  -- no items lead to no results
   none_leads : (saved : List Expr) → Leads saved [] [] saved 0
   none_leads saved = record { runs = λ below w. ap (λ r. state r saved w) (sym (append-nil below)) ∙ ap (λ r. state (below ++ []) saved r) (sym (add-zero w)) }
 
+  -- the items of a first result and those of the others lead to all of them
   more_leads : (first rest items : List Item) (saved middle saved' : List Expr) (e : Expr) (es : List Expr) (first_weight rest_weight weight : ℕ)
       → Leads saved first (e ∷ []) middle first_weight → Leads middle rest es saved' rest_weight → items ≡ first ++ rest → weight ≡ first_weight + rest_weight
       → Leads saved items (e ∷ es) saved' weight
@@ -120,12 +128,14 @@ module _ (S : Database) (at : ℕ) (single : IsSingle S at) where
   saved_result (u ∷ ts) (e ∷ es) zero t p h = (e, refl, subst (λ r. Concludes S at r e) (cc) p.0)
   saved_result (u ∷ ts) (e ∷ es) (suc k) t p h = saved_result ts es k t p.1 h
 
+  -- a recall spells a saved derivation again, and leads to its conclusion
   recalled : (marked : List Derivation) (k : ℕ) (t : Derivation) (e : Expr) (saved : List Expr) → slice_get marked k ≡ Some t → Concludes S at t e → AllConclude S at marked saved
       → Result marked (Recall (suc k) ∷ []) t marked (length e) saved
   recalled marked k t e saved found ends kept =
       let r = saved_result marked saved k t kept found in
       record { result = e; saved' = saved; concludes = ends; kept = kept; leads = recall_leads k saved e (r.1 ∙ ap Some (conclude_same t r.0 e r.2 ends)) }
 
+  -- a citation behind the items of its children leads to what the assertion concludes
   cited : (marked after : List Derivation) (items front : List Item) (a : ℕ) (kids : Derivations) (front_weight weight : ℕ) (s : Stmt) (e : Expr) (label : Name) (saved : List Expr)
       → Carries S a s label → Concludes S at (apply a kids) e → Results marked front kids after front_weight saved
       → items ≡ front ++ Cite label ∷ [] → weight ≡ front_weight + length e → Result marked items (apply a kids) after weight saved
@@ -140,6 +150,7 @@ module _ (S : Database) (at : ℕ) (single : IsSingle S at) where
             (conclude_all_same kids r.results (premises S a ends.0 ends.1) r.conclude ends.3) ends.4 r.leads whole weighs;
       }
 
+  -- a mark behind the items of a derivation leads to its conclusion, and saves it
   marked_result : (marked before after : List Derivation) (items front : List Item) (t : Derivation) (weight : ℕ) (saved : List Expr)
       → Result marked front t before weight saved → items ≡ front ++ Mark ∷ [] → after ≡ before ++ t ∷ [] → Result marked items t after weight saved
   marked_result marked before after items front t weight saved r whole added =
@@ -151,6 +162,7 @@ module _ (S : Database) (at : ℕ) (single : IsSingle S at) where
         leads = mark_leads front items saved r.saved' r.result weight r.leads whole;
       }
 
+  -- the items of a first derivation and those of the others lead to their conclusions
   more_results : (marked middle after : List Derivation) (items first rest : List Item) (t : Derivation) (kids : Derivations) (first_weight rest_weight weight : ℕ) (saved : List Expr)
       → (r : Result marked first t middle first_weight saved) → Results middle rest kids after rest_weight r.saved'
       → items ≡ first ++ rest → weight ≡ first_weight + rest_weight → Results marked items (more t kids) after weight saved

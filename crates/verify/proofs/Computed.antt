@@ -43,6 +43,7 @@ at_most m n = bind (test (nat_le m n)) (λ h. Some (leb-true m n h))
 abbrev pub same_name : (x y : Name) → Option (x ≡ y)
 same_name x y = bind (test (name_eq x y)) (λ h. Some ((bytes_eq-Decides x y).0 h))
 
+-- lists with the same first and the same rest
 pub cons_same : {A : Type 0} {x y : A} {xs ys : List A} → x ≡ y → xs ≡ ys → x ∷ xs ≡ y ∷ ys
 cons_same {x = x} {ys = ys} p q = ap (λ r. x ∷ r) q ∙ ap (λ r. r ∷ ys) p
 

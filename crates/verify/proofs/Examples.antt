@@ -24,12 +24,15 @@ swapped =
 abbrev swapped_tree : Derivation
 swapped_tree = apply 5 (more (hyp 4) (more (hyp 3) none))
 
+-- the result of `wx`
 swapped_x : Concludes swapped 6 (hyp 3) (w (codes "wff x"))
 swapped_x = (Float (codes "wx") (codes "wff") (codes "x"), record { stands = refl; kind = refl; active = refl }, refl)
 
+-- the result of `wy`
 swapped_y : Concludes swapped 6 (hyp 4) (w (codes "wff y"))
 swapped_y = (Float (codes "wy") (codes "wff") (codes "y"), record { stands = refl; kind = refl; active = refl }, refl)
 
+-- the images of x and y stand in one another's place
 swapped_concludes : Concludes swapped 6 swapped_tree (w (codes "|- y R x"))
 swapped_concludes = (
   Axiom (codes "ax") (w (codes "|- x R y")),
@@ -39,6 +42,7 @@ swapped_concludes = (
   refl,
 )
 
+-- the items spell that derivation, in the order of the hypotheses
 swapped_right : IsRight swapped 6 (Cite (codes "wy") ∷ Cite (codes "wx") ∷ Cite (codes "ax") ∷ [])
 swapped_right = (
   swapped_tree,
@@ -61,8 +65,10 @@ swapped_right = (
   },
 )
 
+-- the assertion and its two hypotheses
 counts : node_count swapped_tree ≡ 3
 counts = refl
 
+-- the hypotheses lie below the assertion
 deep : depth swapped_tree ≡ 2
 deep = refl

@@ -27,6 +27,7 @@ built-front ns i =
     let r = built-grows (built (take i ns)) (drop i ns) in
     (r.0, ap built (sym (take-append-drop i ns)) ∙ (built-append [] (take i ns) (drop i ns) ∙ r.1))
 
+-- a node stands for what it makes of the nodes before it
 pub picked : (ns : List Node) (i : ℕ) (d : Node) → i < length ns → pick (built ns) i ≡ derive (built (take i ns)) (get_or ns i d)
 picked ns i d h =
     let f = built-front ns (i + 1) in

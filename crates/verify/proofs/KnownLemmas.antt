@@ -31,6 +31,7 @@ use Rattle.frame.proofs.FoundByNumber.{some-same}
 -- ---- results behind those of the labels
 
 module _ (S : Database) (names : List Name) (at : ℕ) where
+  -- a state without the first n saved results
   cut : ℕ → State → State
   cut n st = record { stack = st.stack; saved = drop n st.saved; weight = st.weight }
 
@@ -68,6 +69,7 @@ module _ (S : Database) (names : List Name) (at : ℕ) where
   assertion-on table label old new (Ok false) k goes same = (cite-behind (length table) false label old new goes, λ e. absurd (true≢false (sym e)))
 
   module _ (legal : AreLegal S names) (table : List Entry) (old new : Results ℕ) (known : AreKnown S names table old) where
+    -- behind the results of the labels, codes stand for names
     below_named : AreNamed names (behind (length table) old)
     below_named = behind-named (length table) old known.are_named
 

@@ -49,9 +49,11 @@ module _ (S : Database) (at : ℕ) (words left : List Name) (n : ℕ) (old table
   word-left none = let l = length-drop n words in let e = ap length (added.rest ∙ none) in omega (arith, within, l, e)
 
   module _ (label : Name) (rest : List Name) (first : left ≡ label ∷ rest) where
+    -- the word at the index is the label that comes next
     at_drop : slice_index_or words n [] ∷ drop (n + 1) words ≡ label ∷ rest
     at_drop = sym (drop_more words n [] within) ∙ (added.rest ∙ first)
 
+    -- one more word is taken, and it is that label
     taken : take (n + 1) words ≡ take n words ++ label ∷ []
     taken = take_more words n [] within ∙ ap (λ l. take n words ++ l ∷ []) (let e = at_drop in let same : slice_index_or words n [] ≡ label = cc in same)
 

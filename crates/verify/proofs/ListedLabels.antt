@@ -3,6 +3,7 @@ use Rattle.std.specs.Prelude.{◌≡◌, ℕ, zero, suc, ◌+◌, ◌-◌, ◌<�
 use Rattle.std.specs.List.{list_any}
 use Rattle.std.specs.List.Sorted.{IsNonDecreasing}
 use Rattle.std.proofs.Common.{sym, ◌∙◌, ap, subst, arith, true≢false}
+use Rattle.std.proofs.Math.Bool.{or-false}
 use Rattle.std.proofs.lemmas.Bool.Decides.{nat_tests}
 use Rattle.std.proofs.lemmas.List.Folds.{list_any-append}
 use Rattle.std.proofs.lemmas.Slice.Eq.{bytes_eq-Decides}
@@ -21,7 +22,6 @@ use Rattle.verify.specs.Proves.{label_or_none, mandatory_labels}
 use Rattle.verify.specs.Right.{IsProvable}
 use Rattle.verify.specs.Table.{is_hypothesis_among, IsEntry}
 use Rattle.verify.proofs.MandatoryEntries.{IsMandatory, AreMandatory, labels_at, mandatory-of}
-use Rattle.scope.proofs.DeclaredLemmas.{or_false}
 use Rattle.frame.proofs.FoundByNumber.{some-same}
 use Rattle.verify.proofs.Decide.{not_both}
 
@@ -75,6 +75,7 @@ none-at : (ps : List ℕ) → list_any (λ p. false) ps ≡ false
 none-at [] = refl
 none-at (p ∷ ps) = none-at ps
 
+-- the code looks for a position where the entry is a hypothesis, and nowhere else
 among : (ps : List ℕ) (e : Entry) → list_any (λ p. is_at p e) ps ≡ is_hypothesis_among ps e
 among ps (Hypothesis i) = refl
 among ps (Assertion a) = none-at ps
@@ -90,7 +91,7 @@ pub shared-more : (S : Database) (at : ℕ) (s : Stmt) (listed : List Name) (lab
     → share_label (mandatory_labels S at s) (listed ++ label ∷ []) ≡ (share_label (mandatory_labels S at s) listed || is_hypothesis_among (hypotheses (before S at) s) e)
 shared-more S at s listed label e once p is =
     list_any-append (λ l. has_name l (mandatory_labels S at s)) listed (label ∷ [])
-    ∙ ap (λ b. share_label (mandatory_labels S at s) listed || b) (or_false (has_name label (mandatory_labels S at s)) ∙ label-among S at s label e once p is)
+    ∙ ap (λ b. share_label (mandatory_labels S at s) listed || b) (or-false (has_name label (mandatory_labels S at s)) ∙ label-among S at s label e once p is)
 
 -- ---- their positions rise
 

@@ -19,6 +19,7 @@ use Rattle.verify.specs.Right.{IsProvable}
 use Rattle.verify.specs.Table.{IsEntry, AreEntries}
 use Rattle.frame.proofs.AssertionLemmas.{hypothesis-kinds}
 
+-- where a statement stands, the position is within the database
 pub place_of : (S : Database) (at : ℕ) (s : Stmt) → stmt_at S at ≡ Some s → (1 ≤ at) × (at ≤ length S)
 place_of S zero s h = cc
 place_of S (suc n) s h = let w = slice_get_within S n s h in (omega arith, omega (arith, w))

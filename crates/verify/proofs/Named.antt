@@ -129,6 +129,7 @@ all-at n (suc k) (e ∷ es) p = all-at n k es p.1
 
 -- ---- the citation of an assertion
 
+-- the last r elements and those below them
 pub halves : {A : Type 0} (r : ℕ) (xs : List A) → xs ≡ below r xs ++ top r xs
 halves r xs = sym (take-append-drop (length xs - r) xs)
 

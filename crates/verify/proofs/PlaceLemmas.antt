@@ -215,6 +215,7 @@ last-seen xs k r s e =
     ap (map (seen_at xs)) (rest-of k s) ∙ (map-drop (seen_at xs) k s
     ∙ ap (λ n. drop n (map (seen_at xs) s)) (e ∙ ap (λ n. n - r) (sym (length-map s (seen_at xs)))))
 
+-- the same, for copies of the buffer and of the places
 pub seen_eq : (xs ds : List ℕ) (s e : List ExpressionPlace) (all : List (List ℕ)) (k r : ℕ) → ds ≡ xs → e ≡ s → map (seen_at xs) s ≡ all → k ≡ length s - r → map (seen_at ds) (take (length e - k) (drop k e)) ≡ top r all
 seen_eq xs ds s e all k r p q v l =
     ap (λ w. map (seen_at ds) (take (length w - k) (drop k w))) q ∙ (ap (λ w. map (seen_at w) (take (length s - k) (drop k s))) p ∙ (last-seen xs k r s l ∙ ap (top r) v))

@@ -32,6 +32,7 @@ module _ (S : Database) (at : ℕ) (s : Stmt) (tokens : List Name) (provable : I
   written-of : (p : Proves S at tokens) → Writes tokens (mandatory_labels S at s) p.items
   written-of p = subst (λ t. Writes tokens (mandatory_labels S at t) p.items) (some-same p.provable.stands provable.stands) p.written
 
+  -- as many mandatory labels as mandatory hypotheses
   pub many : (hs : List ℕ) → hs ≡ hypotheses (before S at) s → length (mandatory_labels S at s) ≡ length hs
   many hs are = length-map (hypotheses (before S at) s) (λ i. label_or_none (stmt_at S i)) ∙ ap length (sym are)
 

@@ -17,14 +17,17 @@ use Rattle.verify.specs.ReadPlaces.{tail_of, BeginsWith, ReadsOne, ReadTo, Reads
 use Rattle.frame.proofs.FoundByNumber.{some-same}
 
 module _ (symbols heads : List ℕ) (hs : List Hypothesis) (places : List ExpressionPlace) (different : AreDifferent hs) (i : ℕ) (p : ExpressionPlace) (at_place : slice_get places i ≡ Some p) where
+  -- an index up to i that is not below i is i
   earlier : (k : ℕ) → k < i + 1 → (nat_lt k i ≡ false) → k ≡ i
   earlier k h e = grind (arith, nat_tests, h, e)
 
   module _ (x : ℕ) (kind : slice_get hs i ≡ Some (Float x)) (old new : List (ℕ × ExpressionPlace)) (r : ReadTo i symbols heads hs places old) (low : BeginsWith symbols (get_or heads i 0) p)
       (set : (y : ℕ) → lookup (nat_eq y) new ≡ cond (nat_eq y x) (Some (tail_of p)) (lookup (nat_eq y) old)) where
+    -- the variable that the test takes for x is x
     same_number : (y : ℕ) → nat_eq y x ≡ true → y ≡ x
     same_number y e = grind (arith, nat_tests, e)
 
+    -- and x passes the test
     number_same : (y : ℕ) → y ≡ x → nat_eq y x ≡ true
     number_same y e = grind (arith, nat_tests, e)
 
@@ -64,6 +67,7 @@ module _ (symbols heads : List ℕ) (hs : List Hypothesis) (places : List Expres
     float-next = record { begun = float-begun; placed = float-placed; own = float-own }
 
   module _ (q : ℕ) (kind : slice_get hs i ≡ Some (Essential q)) (old : List (ℕ × ExpressionPlace)) (r : ReadTo i symbols heads hs places old) where
+    -- the `$f` up to an `$e` stand before it
     before : (k x : ℕ) → k < i + 1 → slice_get hs k ≡ Some (Float x) → k < i
     before k x h kind' = by (nat_lt k i) refl
       where

@@ -46,6 +46,7 @@ some-number S at once items p right grown =
     let l = leaves S at once items (trees_of p) right grown in
     (only-number (pick (built p.nodes.items)) p.stack.items l.0 l.2).0
 
+-- the one number on the stack is that of the derivation spelled
 pub root : (S : Database) (at : ℕ) → HasLabelsOnce S → (items : List Item) (p : Plan) (k d : ℕ) → IsRight S at items → IsPlan p → GrowsBy S at (trees [] []) items (trees_of p) → k ≡ get_or p.stack.items 0 d → IsRoot S at items p k
 root S at once items p k d right is grown at_root =
     let l = leaves S at once items (trees_of p) right grown in

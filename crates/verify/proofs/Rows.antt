@@ -15,6 +15,7 @@ use Rattle.verify.proofs.Computed.{prove, found}
 abbrev cites : String → List Item
 cites text = map (λ l. Cite l) (w (codes text))
 
+-- row 4, by going through the items
 row_four : IsRight swapped 6 (map (λ l. Cite l) (w (codes "wy wx ax")))
 row_four = found (prove swapped 6 (map (λ l. Cite l) (w (codes "wy wx ax")))) refl
 
@@ -40,6 +41,7 @@ abbrev weighed : {S : Database} {at : ℕ} {items : List Item} → Option (IsRig
 weighed None = (0, 0)
 weighed (Some r) = (r.1.weight, node_count r.0)
 
+-- row 2 weighs 166, and its derivation has 34 nodes
 demo_normal_weight : weighed (prove (bares demo) 19 (cites "tt tze tpl tt weq tt tt weq tt a2 tt tze tpl tt weq tt tze tpl tt weq tt tt weq wim tt a2 tt tze tpl tt tt a1 mp mp")) ≡ (166, 34)
 demo_normal_weight = refl
 
@@ -47,6 +49,7 @@ demo_normal_weight = refl
 abbrev demo_packed : List Item
 demo_packed = cites "tt tze tpl" ++ Mark ∷ (cites "tt weq" ++ Mark ∷ (cites "tt tt weq" ++ Mark ∷ (cites "tt a2" ++ Mark ∷ Recall 2 ∷ Recall 2 ∷ Recall 3 ∷ (cites "wim" ++ Recall 4 ∷ Recall 1 ∷ cites "tt tt a1 mp mp"))))
 
+-- with marks the same derivation weighs 132
 demo_packed_weight : weighed (prove (bares demo) 19 demo_packed) ≡ (132, 34)
 demo_packed_weight = refl
 
@@ -54,9 +57,11 @@ demo_packed_weight = refl
 row_six_open : is_none (prove (before row_seven 10 ++ Prove (codes "th") (w (codes "|- x R z")) [] ∷ []) 10 (cites "wx wz ax")) ≡ true
 row_six_open = refl
 
+-- with a `$d` of x and z in a block at the theorem
 row_six_kept : is_some (prove (before row_seven 10 ++ Open ∷ Disj (w (codes "x z")) ∷ Prove (codes "th") (w (codes "|- x R z")) [] ∷ []) 12 (cites "wx wz ax")) ≡ true
 row_six_kept = refl
 
+-- which is no use where both images have x
 row_six_same : is_none (prove (before row_seven 10 ++ Open ∷ Disj (w (codes "x z")) ∷ Prove (codes "th") (w (codes "|- x R x")) [] ∷ []) 12 (cites "wx wx ax")) ≡ true
 row_six_same = refl
 
@@ -68,5 +73,6 @@ row_seven_alone = refl
 row_four_wrong : is_none (prove (before swapped 6 ++ Prove (codes "th") (w (codes "|- x R x")) [] ∷ []) 6 (cites "wy wx ax")) ≡ true
 row_four_wrong = refl
 
+-- a `$p` may not cite itself
 itself : is_none (prove (Const (w (codes "|- o")) ∷ Prove (codes "th") (w (codes "|- o")) [] ∷ []) 2 (cites "th")) ≡ true
 itself = refl

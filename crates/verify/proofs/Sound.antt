@@ -24,6 +24,7 @@ module _ (S : Database) (at : ℕ) where
 
   -- ---- derivations one behind the other
 
+  -- derivations that are spelled behind others are spelled with them
   pub spells_joined : {marked between after : List Derivation} {front rest items : List Item} {kids more_kids : Derivations} {front_weight rest_weight weight : ℕ}
       → SpellsAll S at marked front kids between front_weight → SpellsAll S at between rest more_kids after rest_weight
       → items ≡ front ++ rest → weight ≡ front_weight + rest_weight → SpellsAll S at marked items (joined kids more_kids) after weight
@@ -47,6 +48,7 @@ module _ (S : Database) (at : ℕ) where
     pub whole : items ≡ front ++ rest
     pub weighs : weight ≡ front_weight + rest_weight
 
+  -- where derivations are spelled with others behind them, the items can be cut between the two
   pub spells_cut : {marked after : List Derivation} {items : List Item} {more_kids : Derivations} {weight : ℕ} (kids : Derivations)
       → SpellsAll S at marked items (joined kids more_kids) after weight → Cut marked items kids more_kids after weight
   spells_cut {marked} {items = items} {weight = weight} none p =
@@ -65,11 +67,13 @@ module _ (S : Database) (at : ℕ) where
         weighs = f ∙ (ap (λ r. first_weight + r) c.weighs ∙ sym (add_assoc first_weight c.front_weight c.rest_weight));
       }
 
+  -- one derivation as a list of one
   pub spells_one : {marked after : List Derivation} {items : List Item} {t : Derivation} {weight : ℕ}
       → Spells S at marked items t after weight → SpellsAll S at marked items (more t none) after weight
   spells_one {after = after} {items = items} {weight = weight} p =
       spells_more items [] after weight 0 p spells_none (sym (append-nil items)) (sym (add-zero weight))
 
+  -- a list of one as one derivation
   pub spells_alone : {marked after : List Derivation} {items : List Item} {t : Derivation} {weight : ℕ}
       → SpellsAll S at marked items (more t none) after weight → Spells S at marked items t after weight
   spells_alone {marked = marked} {after = after} {items = items} {t = t} {weight = weight} (spells_more first others middle first_weight others_weight one spells_none e f) =
@@ -85,6 +89,7 @@ module _ (S : Database) (at : ℕ) where
     pub of_first : ConcludeAll S at first xs
     pub of_second : ConcludeAll S at second ys
 
+  -- derivations that conclude two lists of expressions are those of the one and those of the other
   pub conclude_cut : (kids : Derivations) (xs ys : List Expr) → ConcludeAll S at kids (xs ++ ys) → Parted kids xs ys
   conclude_cut kids [] ys p = record { first = none; second = kids; whole = refl; of_first = tt; of_second = p }
   conclude_cut none (x ∷ xs) ys p = absurd p
@@ -92,12 +97,14 @@ module _ (S : Database) (at : ℕ) where
       let c = conclude_cut kids xs ys p.1 in
       record { first = more t c.first; second = c.second; whole = ap (λ r. more t r) c.whole; of_first = (p.0, c.of_first); of_second = c.of_second }
 
+  -- together, two lists of derivations conclude what each of them does
   pub conclude_joined : (kids more_kids : Derivations) (xs ys : List Expr) → ConcludeAll S at kids xs → ConcludeAll S at more_kids ys → ConcludeAll S at (joined kids more_kids) (xs ++ ys)
   conclude_joined none more_kids [] ys p q = q
   conclude_joined none more_kids (x ∷ xs) ys p q = absurd p
   conclude_joined (more t kids) more_kids [] ys p q = absurd p
   conclude_joined (more t kids) more_kids (x ∷ xs) ys p q = (p.0, conclude_joined kids more_kids xs ys p.1 q)
 
+  -- one more derivation that was saved, with its conclusion
   pub conclude_snoc : (ts : List Derivation) (t : Derivation) (es : List Expr) (e : Expr) → AllConclude ts es → Concludes S at t e → AllConclude (ts ++ t ∷ []) (es ++ e ∷ [])
   conclude_snoc [] t [] e p q = (q, tt)
   conclude_snoc [] t (x ∷ es) e p q = absurd p
@@ -145,6 +152,7 @@ module _ (S : Database) (at : ℕ) where
       (subst (λ w. Spells S at b.marked more_items t b.marked w) (sym (zero-add (length e))) one)
       (subst (ConcludeAll S at b.kids) same b.concluded) last b.kept refl (sym (add-zero st.weight))
 
+  -- a citation leaves a result with a derivation: the hypothesis, or the assertion over the results that it took
   backed_cite : (items : List Item) (st : State) (label : Name) (below : List Expr) (e : Expr) → Backed items st → Cites S at label st.stack below e
       → Backed (items ++ Cite label ∷ []) (with_result st below e)
   backed_cite items st label below e b (of_hypothesis i s carries active same whole) =
@@ -160,16 +168,19 @@ module _ (S : Database) (at : ℕ) where
       (ap (λ r. r ++ Cite label ∷ []) cut.whole ∙ append_assoc cut.front cut.rest (Cite label ∷ []))
       cut.weighs
 
+  -- a recalled result has the derivation that was saved for it
   backed_recall : (items : List Item) (st : State) (k : ℕ) (e : Expr) → Backed items st → IsSaved st.saved k e → Backed (items ++ Recall k ∷ []) (with_result st st.stack e)
   backed_recall items st zero e b h = absurd h
   backed_recall items st (suc k) e b h =
       let d = saved_derivation b.marked st.saved k e b.kept h in
       backed_new items (Recall (suc k) ∷ []) st b d.0 st.stack e (recalls e d.1 d.2) refl d.2
 
+  -- derivations of one expression are one
   marked_last : (t : Derivation) (kids : Derivations) (e : Expr) (es : List Expr) → ConcludeAll S at (more t kids) (e ∷ []) → kids ≡ none
   marked_last t none e es p = refl
   marked_last t (more u kids) e es p = absurd p.1
 
+  -- a mark saves the one derivation of the last result, where the items are cut before it
   backed_mark_cut : (items : List Item) (st : State) (below : List Expr) (e : Expr) (kids lasts : Derivations) (marked : List Derivation) (c : Cut [] items kids lasts marked st.weight)
       → ConcludeAll S at kids below → ConcludeAll S at lasts (e ∷ []) → AllConclude marked st.saved → st.stack ≡ below ++ e ∷ [] → Backed (items ++ Mark ∷ []) (with_mark st e)
   backed_mark_cut items st below e kids none marked c p q kept whole = absurd q
@@ -183,6 +194,7 @@ module _ (S : Database) (at : ℕ) where
         kept = conclude_snoc marked t st.saved e kept q.0;
       }
 
+  -- a mark saves the derivation of the result on top
   backed_mark : (items : List Item) (st : State) (below : List Expr) (e : Expr) → Backed items st → st.stack ≡ below ++ e ∷ [] → Backed (items ++ Mark ∷ []) (with_mark st e)
   backed_mark items st below e b whole =
       let parted : Parted b.kids below (e ∷ []) = conclude_cut b.kids below (e ∷ []) (subst (ConcludeAll S at b.kids) whole b.concluded) in
@@ -190,17 +202,20 @@ module _ (S : Database) (at : ℕ) where
       (spells_cut parted.first (subst (λ k. SpellsAll S at [] items k b.marked st.weight) parted.whole b.spelled))
       parted.of_first parted.of_second b.kept whole
 
+  -- a step leaves each result with a derivation
   pub backed_step : (items : List Item) (st st' : State) (item : Item) → Backed items st → Steps S at st item st' → Backed (items ++ item ∷ []) st'
   backed_step items st st' (Cite label) b p = subst (Backed (items ++ Cite label ∷ [])) (sym p.3) (backed_cite items st label p.0 p.1 b p.2)
   backed_step items st st' (Recall k) b p = subst (Backed (items ++ Recall k ∷ [])) (sym p.2) (backed_recall items st k p.0 b p.1)
   backed_step items st st' Mark b p = subst (Backed (items ++ Mark ∷ [])) (sym p.3) (backed_mark items st p.0 p.1 b p.2)
 
+  -- so does a run
   pub backed_run : (items more_items : List Item) (st st' : State) → Backed items st → Runs S at st more_items st' → Backed (items ++ more_items) st'
   backed_run items [] st st' b p = subst (λ is. Backed is st') (sym (append-nil items)) (subst (Backed items) p b)
   backed_run items (item ∷ more_items) st st' b p =
       subst (λ is. Backed is st') (append_assoc items (item ∷ []) more_items)
       (backed_run (items ++ item ∷ []) more_items p.0 st' (backed_step items st p.0 item b p.1) p.2)
 
+  -- at the start there are no results
   pub backed_start : Backed [] start
   backed_start = record { kids = none; marked = []; spelled = spells_none; concluded = tt; kept = tt }
 
@@ -211,6 +226,7 @@ module _ (S : Database) (at : ℕ) where
     pub spelled : Spells S at [] items tree after weight
     pub concludes : Concludes S at tree e
 
+  -- the derivation of one result alone
   one_of : (items : List Item) (st : State) (e : Expr) (kids : Derivations) (marked : List Derivation) → SpellsAll S at [] items kids marked st.weight → ConcludeAll S at kids (e ∷ []) → Spelled items e st.weight
   one_of items st e none marked p q = absurd q
   one_of items st e (more t (more u kids)) marked p q = absurd q.1

@@ -38,6 +38,7 @@ module _ (S : Database) (names : List Name) (at : ℕ) (legal : AreLegal S names
       abbrev n : ℕ
       n = length c.hypotheses.now
 
+      -- a citation whose results do not meet the assertion has no step
       not_cited : ((f : Expr) → Meets S names at a c old.stack f → ⊥) → Goes false S at names (Cite label) old new
       not_cited none = goes-not S names at a s c legal bound is old new label an carries has none
 

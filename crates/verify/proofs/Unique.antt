@@ -26,6 +26,7 @@ from-to none = refl
 from-to (more t kids) = ap (λ r. more t r) (from-to kids)
 
 module _ (S : Database) (at : ℕ) where
+  -- what grows over the first items and then over the rest grows over all
   pub grows_append : (front rest : List Item) (st mid end : Trees) → GrowsBy S at st front mid → GrowsBy S at mid rest end → GrowsBy S at st (front ++ rest) end
   grows_append [] rest st mid end p q = subst (λ r. GrowsBy S at r rest end) (sym p) q
   grows_append (item ∷ front) rest st mid end p q = (p.0, p.1, grows_append front rest p.0 mid end p.2 q)
@@ -87,9 +88,11 @@ module _ (S : Database) (at : ℕ) where
         yields-more marked middle after items first rest t (to_list kids) (yields one) (yields_all all) whole
 
   module _ (once : HasLabelsOnce S) where
+    -- a label of an active hypothesis is not that of an assertion which can be cited
     pub apart_kinds : (i a : ℕ) (s r : Stmt) (label : Name) → Carries S i s label → IsHypothesis S at i s → Carries S a r label → IsCitable S at a r → ⊥
     apart_kinds i a s r label p h q f = not_both s h.kind (ap is_assertion (some-same p.stands (ap (stmt_at S) (once i a s r label p q) ∙ q.stands)) ∙ f.assertion)
 
+    -- a citation builds one derivation
     builds_same : (label : Name) (stack b c : List Derivation) (t u : Derivation) → Builds S at label stack b t → Builds S at label stack c u → (b ≡ c) × (t ≡ u)
     builds_same label stack b c t u (a_hypothesis i s p active same whole) (a_hypothesis j r q active' same' whole') = (sym whole ∙ whole', same ∙ (ap (λ n. hyp n) (once i j s r label p q) ∙ sym same'))
     builds_same label stack b c t u (a_hypothesis i s p active same whole) (an_assertion a r kids q citable many whole' same') = absurd (apart_kinds i a s r label p active q citable)
@@ -100,10 +103,12 @@ module _ (S : Database) (at : ℕ) where
         let cut = append_cut b c kids kids' (sym whole ∙ whole') (many ∙ (ap (λ k. length (hypotheses (before S k) s)) n ∙ (ap (λ w. length (hypotheses (before S d) w)) v ∙ sym many'))) in
         (cut.0, same ∙ (ap (λ k. apply k (from_list kids)) n ∙ (ap (λ ks. apply d (from_list ks)) cut.1 ∙ sym same')))
 
+    -- one saved derivation by its number
     kept_same : (saved : List Derivation) (k : ℕ) (t u : Derivation) → IsKept saved k t → IsKept saved k u → t ≡ u
     kept_same saved zero t u p q = absurd p
     kept_same saved (suc k) t u p q = some-same p q
 
+    -- an item makes a stack of derivations grow in one way
     pub grows_same : (st x y : Trees) (item : Item) → Grows S at st item x → Grows S at st item y → x ≡ y
     grows_same st x y (Cite label) p q =
         let r = builds_same label st.stack p.0 q.0 p.1 q.1 p.2 q.2 in
@@ -114,6 +119,7 @@ module _ (S : Database) (at : ℕ) where
         last_same : (b c : List Derivation) (t u : Derivation) → b ++ t ∷ [] ≡ c ++ u ∷ [] → t ≡ u
         last_same b c t u h = let r : t ∷ [] ≡ u ∷ [] = (append_cut b c (t ∷ []) (u ∷ []) h refl).1 in cc
 
+    -- so do items one after another
     pub grows_by_same : (items : List Item) (st x y : Trees) → GrowsBy S at st items x → GrowsBy S at st items y → x ≡ y
     grows_by_same [] st x y p q = sym p ∙ q
     grows_by_same (item ∷ items) st x y p q = grows_by_same items p.0 x y p.2 (subst (λ r. GrowsBy S at r items y) (sym (grows_same st p.0 q.0 item p.1 q.1)) q.2)

@@ -3,6 +3,7 @@ use Rattle.std.proofs.Common.{◌≡◌, inl, inr, Some, None, arith, refl, ap}
 use Rattle.std.proofs.lemmas.Bool.{cases_lt}
 use Rattle.verify_pool.specs.Laws.{OneAnswer}
 
+-- two answers for one list of jobs are equal, as neither can be before the other
 pub one_answer : OneAnswer
 one_answer S jobs None None p q = refl
 one_answer S jobs None (Some j) p q = absurd (q.bad.bad (p.before j q.bad.job tt q.bad.stands))

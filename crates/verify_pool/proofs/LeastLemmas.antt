@@ -9,30 +9,36 @@ use Rattle.verify_pool.specs.declared.job.Job.{Job}
 use Rattle.verify_pool.specs.Least.{IsWrongAt, IsLeast}
 use Rattle.verify_pool.specs.Jobs.{IsRightJob, IsRightAt, IsBadAt, LeastBad}
 
+-- an index below the length has an element
 get_there : {X : Type 0} (xs : List X) (k : ℕ) → k < length xs → (x : X) × (slice_get xs k ≡ Some x)
 get_there [] k less = absurd (omega (arith, less))
 get_there (x ∷ xs) zero less = (x, refl)
 get_there (x ∷ xs) (suc k) less = get_there xs k (omega (arith, less))
 
 module _ (S : Database) (jobs : List Job) where
+  -- an index is right where the job that stands there is
   there_right : (k : ℕ) (job : Job) → slice_get jobs k ≡ Some job → IsRightJob S job → IsRightAt S jobs k
   there_right k job stands right other e = subst (IsRightJob S) (same_Some job other (sym stands ∙ e)) right
 
+  -- what is said of the job is said of its index
   pub job_judged : {E : Type 0} (k : ℕ) (job : Job) (r : Result Answer E) → slice_get jobs k ≡ Some job
       → IfOk r (λ answer. Says answer (IsRightJob S job)) → IfOk r (λ answer. Says answer (IsRightAt S jobs k))
   job_judged k job (Ok Proved) stands h = there_right k job stands h
   job_judged k job (Ok Wrong) stands h = λ right. h (right job stands)
   job_judged k job (Err e) stands h = h
 
+  -- an index that is not right has a job that is not right
   bad_at : (i : ℕ) → IsWrongAt (IsRightAt S jobs) (length jobs) i → IsBadAt S jobs i
   bad_at i wrong =
       let job = get_there jobs i wrong.0 in
       record { job = job.0; stands = job.1; bad = λ right. wrong.1 (there_right i job.0 job.1 right) }
 
+  -- so has the answer, where there is one
   some_bad : (answer : Option ℕ) → IfSome answer (IsWrongAt (IsRightAt S jobs) (length jobs)) → IfSome answer (IsBadAt S jobs)
   some_bad None wrong = wrong
   some_bad (Some i) wrong = bad_at i wrong
 
+  -- the least index that is not right is that of the least job that is not right
   pub least_bad : {E : Type 0} (r : Result (Option ℕ) E) → IfOk r (IsLeast (IsRightAt S jobs) (length jobs)) → IfOk r (λ least. LeastBad S jobs least)
   least_bad (Ok answer) least = record {
     before = λ k job before stands. least.before k (slice_get_within jobs k job stands) before job stands;

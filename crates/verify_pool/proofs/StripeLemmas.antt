@@ -13,10 +13,12 @@ turn_not_after first step turn other i place below =
       | inr earlier ↦ omega (arith, mul-le other step turn step earlier (omega arith))
     ]
 
+-- one step on is the next turn
 pub next_turn : (first step turn i : ℕ) → i ≡ first + turn * step → i + step ≡ first + (turn + 1) * step
 next_turn first step turn i place = rw (add-one, suc-mul) (omega arith)
 
 module _ (right : ℕ → Type 0) (count step : ℕ) where
+  -- where a job is right, its stripe is right up to the next turn
   pub stripe_goes_on : (first turn i : ℕ) → i ≡ first + turn * step → right i
       → IsStripeRightBefore right count first step (Some i) → IsStripeRightBefore right count first step (Some (i + step))
   stripe_goes_on first turn i place here before other within below =
@@ -27,6 +29,7 @@ module _ (right : ℕ → Type 0) (count step : ℕ) where
             subst right same here
       ]
 
+  -- past the last job the whole stripe is right
   pub stripe_ends : (first i : ℕ) → count ≤ i
       → IsStripeRightBefore right count first step (Some i) → IsStripeRightBefore right count first step None
   stripe_ends first i end before turn within below = before turn within (omega arith)
@@ -40,6 +43,7 @@ module _ (right : ℕ → Type 0) (count step : ℕ) where
       (λ q lower turn within is_before. before q lower turn within (first (q + turn * step) is_before))
       (λ turn within is_before. here.before turn within (second (stripe + turn * step) is_before))
 
+  -- an answer that is one of the two has a job that is not right, where each of them has
   pub one_of_two : (least answer both : Option ℕ) → (both ≡ least) ⊎ (both ≡ answer)
       → IfSome least (IsWrongAt right count) → IfSome answer (IsWrongAt right count) → IfSome both (IsWrongAt right count)
   one_of_two least answer both one p q =

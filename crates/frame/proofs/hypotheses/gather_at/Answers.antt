@@ -4,7 +4,7 @@ use Rattle.frame.specs.Stored.Drafts.{drafted}
 use Rattle.frame.specs.Cited.{AreListsOf}
 use Rattle.frame.specs.Stored.Hypotheses.{AreHypotheses}
 use Rattle.frame.specs.Stored.Entries.{statements_of}
-use Rattle.frame.proofs.CollectLemmas.{on-ok-weaker}
+use Rattle.entries.proofs.AddedLemmas.{ok-weaker}
 use Rattle.frame.proofs.CitedLemmas.{is-there}
 use Rattle.frame.proofs.GatherLemmas.{mandatory-are, spread-lists}
 use Rattle.frame.proofs.hypotheses.gather_at.Goals as goal
@@ -22,7 +22,7 @@ returns-clause-gathered c =
     let k = c.args.stock.now in
     let s = c.requires.assertion.0 in
     let t = is-there k c.args.a s c.requires.stored c.requires.assertion.1 in
-    on-ok-weaker c.spread.result _ _
+    ok-weaker c.spread.result _ _
     (λ p r h.
     let same : s ≡ r = same_Some _ _ (sym c.requires.assertion.1.0 ∙ h) in
     subst (AreListsOf (statements_of k) k.names c.args.a (drafted c.spread.new.draft)) same

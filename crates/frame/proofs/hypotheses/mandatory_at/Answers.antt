@@ -6,7 +6,7 @@ use Rattle.frame.specs.FrameOf.{hypotheses}
 use Rattle.frame.specs.Links.{actives}
 use Rattle.frame.specs.Stored.Hypotheses.{Ascends, with_essentials}
 use Rattle.frame.specs.Stored.Entries.{statements_of}
-use Rattle.frame.proofs.CollectLemmas.{on-ok-weaker}
+use Rattle.entries.proofs.AddedLemmas.{ok-weaker}
 use Rattle.frame.proofs.CitedLemmas.{is-there}
 use Rattle.frame.proofs.GatherLemmas.{mandatory-whole, mandatory-own, own-ascends}
 use Rattle.frame.proofs.hypotheses.mandatory_at.Goals as goal
@@ -41,7 +41,7 @@ returns-else-is_whole c = λ s h.
     let own = sym (c.is_whole.ensures t.1 here) ∙ c.if-is_whole.false in
     let list = c.in_ok-extend_from_slice.ensures.items ∙ (ap (λ xs. xs ++ c.hypotheses.result.now) c.requires.empty ∙ c.hypotheses.ensures t.1 here) in
     let same : c.requires.assertion.0 ≡ s = same_Some _ _ (sym c.requires.assertion.1.0 ∙ h) in
-    on-ok-weaker c.add_essentials.result _ _
+    ok-weaker c.add_essentials.result _ _
     (λ e. e ∙ (ap (with_essentials k.entries (actives is_essential (take (c.args.a - 1) (statements_of k)))) list
     ∙ (mandatory-own k c.args.a t.0 c.requires.assertion.0 t.1 c.requires.stored c.requires.assertion.1.1 t.2 own ∙ ap (hypotheses (before (statements_of k) c.args.a)) same)))
     c.add_essentials.ensures

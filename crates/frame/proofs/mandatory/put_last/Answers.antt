@@ -3,7 +3,8 @@ use Rattle.std.specs.Prelude.{true, false}
 use Rattle.std.proofs.lemmas.List.{length-map}
 use Rattle.scope.specs.Active.{is_active}
 use Rattle.frame.specs.Stored.Entries.{statements_of, stmt_of}
-use Rattle.frame.proofs.CollectLemmas.{float-stands, float-some, on-ok-weaker}
+use Rattle.frame.proofs.CollectLemmas.{float-stands, float-some}
+use Rattle.entries.proofs.AddedLemmas.{ok-weaker}
 use Rattle.frame.proofs.mandatory.put_last.Goals as goal
 
 pub is_active_at-requires-clause-place : goal.is_active_at-requires-clause-place
@@ -24,7 +25,7 @@ returns-then-is_active_at c =
     let n = length-map k.entries (stmt_of k.names k.labels) in
     let length-is : length (statements_of k) + 1 ≡ c.len.result + 1 = omega (arith, n, c.len.ensures) in
     let active = ap (λ m. is_active (statements_of k) c.args.float m) length-is ∙ (sym c.is_active_at.ensures ∙ c.if-is_active_at.true) in
-    on-ok-weaker c.put.result _ _
+    ok-weaker c.put.result _ _
     (λ e. e ∙ sym (float-some k.entries (statements_of k) c.args.code c.args.float c.args.list.now.items true c.requires.last (λ z. omega (arith, z, c.requires.some)) active)) c.put.ensures
 
 pub returns-else-is_active_at : goal.returns-else-is_active_at

@@ -2,7 +2,8 @@ use Rattle.std.proofs.Common.{◌∙◌, ap, sym, subst, rules}
 use Rattle.names.specs.Codes.{decode, with_names}
 use Rattle.std.specs.Prelude.{◌++◌, length}
 use Rattle.frame.specs.Below.{AreBelow}
-use Rattle.frame.proofs.NumberLemmas.{extends-trans, zero-trans, below-extends, below-push, stand-step, made-step}
+use Rattle.entries.proofs.SpanLemmas.{extends-trans}
+use Rattle.frame.proofs.NumberLemmas.{zero-trans, below-extends, below-push, stand-step, made-step}
 use Rattle.frame.proofs.numbers.declared_numbers.Goals as goal
 
 pub returns-in_err-code-clause-symbols : goal.returns-in_err-code-clause-symbols

@@ -1,7 +1,8 @@
 use Rattle.std.proofs.Common.{◌∙◌, ◌++◌, ap, sym, subst, rules, length}
 use Rattle.names.specs.Codes.{decode}
 use Rattle.frame.specs.Below.{AreBelow}
-use Rattle.frame.proofs.NumberLemmas.{below-push, stand-step, extends-same, first-named, rest-named}
+use Rattle.entries.proofs.SpanLemmas.{extends-refl}
+use Rattle.frame.proofs.NumberLemmas.{below-push, stand-step, first-named, rest-named}
 use Rattle.frame.proofs.numbers.list_numbers.Goals as goal
 
 pub number-requires-clause-named : goal.number-requires-clause-named
@@ -17,6 +18,6 @@ loop-word-preserved c =
     record {
       codes = subst (AreBelow (length names)) (sym pushed) (below-push (length names) c.loop-word.codes.items c.number.result i.codes own.below);
       stand = ap (λ v. decode names v ++ c.next.new.self) pushed
-          ∙ stand-step names names c.args.words.now c.next.new.self c.loop-word.codes.items c.number.result _ (extends-same names) i.codes own.name (search rules);
+          ∙ stand-step names names c.args.words.now c.next.new.self c.loop-word.codes.items c.number.result _ (extends-refl names) i.codes own.name (search rules);
       named = rest-named names c.loop-word.word-iterator c.next.new.self c.in-Some.word.now i.named (search rules);
     }

@@ -5,7 +5,8 @@ use Rattle.scope.specs.Symbols.{AreOfLast}
 use Rattle.frame.specs.Stored.Counts.{IsBehind}
 use Rattle.frame.specs.Stored.Entries.{statements_of}
 use Rattle.frame.proofs.SymbolsLemmas.{noted-numbers}
-use Rattle.frame.proofs.StoredTaken.{back-stored, on-err}
+use Rattle.frame.proofs.StoredTaken.{back-stored}
+use Rattle.entries.proofs.AddedLemmas.{on-err}
 use Rattle.frame.proofs.frames.Frames.keep_noted.Goals as goal
 
 pub invariant_of-self : goal.invariant_of-self
