@@ -1,5 +1,5 @@
 -- Whether a compressed proof cites what is marked, from its numbers and from a test of each of its labels.
-use Rattle.std.specs.Prelude.{◌≡◌, ◌↔◌, ℕ, zero, suc, ◌+◌, ◌-◌, ◌<◌, ◌≤◌, nat_lt, cond, Bool, true, false, ◌||◌, if◌then◌else◌, List, [], ◌∷◌, ◌++◌, length, map, get_or, slice_index_or, take, drop, Option, Some, None, option_map, slice_get, Result, Ok, Err, IfOk, refl}
+use Rattle.std.specs.Prelude.{◌≡◌, ◌↔◌, ℕ, zero, suc, ◌+◌, ◌-◌, ◌<◌, ◌≤◌, nat_lt, cond, Bool, true, false, ◌||◌, if◌then◌else◌, List, [], ◌∷◌, ◌++◌, length, map, get_or, slice_index_or, take, drop, Option, Some, None, option_map, slice_get, refl}
 use Rattle.std.specs.List.{list_any}
 use Rattle.std.proofs.Common.{true≢false, length-append, sym, ◌∙◌, ap, subst, arith, append_assoc, inl, inr}
 use Rattle.std.proofs.lemmas.Bool.Decides.{nat_tests}
@@ -23,10 +23,11 @@ use Rattle.library.specs.Good.{Good, IsProved}
 use Rattle.library.specs.Marks.{is_marked, place_of, AreWanted, ItemsMeet, ProofMeets, TellsMeeting, listed_in, ListsNone, ListsSome}
 use Rattle.library.proofs.FrontLemmas.{AreHypothesesAt, hypotheses-at}
 use Rattle.library.proofs.ItemsLemmas.{stands-bare}
+use Rattle.frame.proofs.ActiveBehind.{not-both}
 use Rattle.frame.proofs.PositionLemmas.{positions-end}
 use Rattle.library.proofs.MarksLemmas.{meets-items}
 use Rattle.library.proofs.MayCiteLemmas.{kind-labelled, cited-label}
-use Rattle.library.proofs.ProvingLemmas.{both, same-statement, labels-bare}
+use Rattle.library.proofs.ProvingLemmas.{same-statement, labels-bare}
 use Rattle.library.proofs.UsersLemmas.{proof-meets}
 use Rattle.library.proofs.WalkLemmas.{has-items}
 
@@ -241,7 +242,7 @@ module _ (S F : Database) (same : F ≡ bares S) (good : Good S) (at : ℕ) (s :
       (subst (λ r. Writes (proof_of r) (mandatory_labels (bares S) at r) p.items) (sym (same-statement S at s p.stmt provable p.provable)) p.written)
 
   packed-here : (items : List Item) → is_compressed tokens ≡ true → Writes tokens (mandatory_labels (bares S) at s) items → WritesPacked tokens (mandatory_labels (bares S) at s) items
-  packed-here items compressed written = elim written [ inl packed ↦ packed.1 | inr plain ↦ both (is_compressed tokens) compressed plain.0 ]
+  packed-here items compressed written = elim written [ inl packed ↦ packed.1 | inr plain ↦ absurd (not-both (is_compressed tokens) compressed plain.0) ]
 
   pub told-meets : is_compressed tokens ≡ true → (found : Bool) → ((r : Stmt) → stmt_at F at ≡ Some r → TellsMeeting F (mandatory_labels F at r) tokens marks found) → found ≡ true ↔ ProofMeets S at marks
   told-meets compressed found told =
@@ -257,7 +258,7 @@ module _ (S F : Database) (same : F ≡ bares S) (good : Good S) (at : ℕ) (s :
       ((λ f. meets.0 (m.2.0 f)), λ q. m.2.1 (meets.1 q))
 
   plain-here : (items : List Item) → is_compressed tokens ≡ false → Writes tokens (mandatory_labels (bares S) at s) items → WritesPlain tokens items
-  plain-here items plain written = elim written [ inl packed ↦ both (is_compressed tokens) packed.0 plain | inr w ↦ w.1 ]
+  plain-here items plain written = elim written [ inl packed ↦ absurd (not-both (is_compressed tokens) packed.0 plain) | inr w ↦ w.1 ]
 
   -- what the tokens of a normal proof list is what it cites
   pub listed-meets : is_compressed tokens ≡ false → (found : Bool) → (found ≡ false → ListsNone F tokens marks) → (found ≡ true → ListsSome F tokens marks) → found ≡ true ↔ ProofMeets S at marks
@@ -273,7 +274,3 @@ module _ (S F : Database) (same : F ≡ bares S) (good : Good S) (at : ℕ) (s :
       by : (b : Bool) → found ≡ b → (ListsNone F tokens marks → ⊥) → (found ≡ false → ListsNone F tokens marks) → found ≡ true
       by true f not none = f
       by false f not none = absurd (not (none f))
-
-pub if-map : {A E : Type 0} {P Q : A → Type 0} (r : Result A E) → ((a : A) → P a → Q a) → IfOk r P → IfOk r Q
-if-map (Ok a) f p = f a p
-if-map (Err x) f p = p

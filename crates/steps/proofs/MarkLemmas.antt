@@ -167,6 +167,7 @@ module _ (S : Database) (steps : List Step) where
 
   -- all steps were looked at
   module _ (marks : List Bool) (m : AreMarkedFrom S steps 0 marks) where
+    -- each essential step is marked
     reached : {k : ℕ} → IsEssential S steps k → HasMark marks k
     reached {k} (is_last e) = m.last k e
     reached {k} (is_taken j step is at in_it) = m.closed j k step (omega arith) (reached is) at in_it

@@ -84,6 +84,7 @@ module _ (S : Database) (at : ℕ) (names : List Name) where
 
   -- all were done
   module _ (labels : List Name) (numbers : List ℕ) (items : List Item) (i : ℕ) (d : Draft) (same : items_of labels numbers ≡ items) (h : length numbers ≤ i) (r : Reached labels numbers i d) where
+    -- the run is at its end
     over : r.state ≡ r.end
     over = subst (λ is. Runs S at r.state is r.end) (ap (map (item_of labels)) (drop-end numbers i h)) r.rest
 
@@ -93,6 +94,7 @@ module _ (S : Database) (at : ℕ) (names : List Name) where
     one-left : map (expr_in names (rows_of d)) d.stack.items ≡ expr_of r.stmt ∷ []
     one-left = r.tied.stack ∙ (ap (λ s. s.stack) over ∙ r.ends)
 
+    -- a stack of one expression is one place, whose row has it
     root : (xs : List ℕ) (e : Expr) → map (expr_in names (rows_of d)) xs ≡ e ∷ [] → (n : ℕ) × (xs ≡ n ∷ []) × (expr_in names (rows_of d) n ≡ e)
     root [] e q = cc
     root (x ∷ []) e q = (x, refl, (let p : expr_in names (rows_of d) x ≡ e = cc in p))
