@@ -154,7 +154,7 @@ pub record Extended {E : Type 0} (L T new : Database) (r : Result (Option Cause)
   pub judged : IfOk r (λ found. Extends L T found new)
   pub same : OnErr r (new ≡ L)
 
-take-front : {A : Type 0} (xs ys : List A) → take (length xs) (xs ++ ys) ≡ xs
+pub take-front : {A : Type 0} (xs ys : List A) → take (length xs) (xs ++ ys) ≡ xs
 take-front xs ys = take-append-le (length xs) xs ys (omega arith) ∙ take_all (length xs) xs (omega arith)
 
 drop-front : {A : Type 0} (xs ys : List A) → drop (length xs) (xs ++ ys) ≡ ys

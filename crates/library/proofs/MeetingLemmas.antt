@@ -5,7 +5,7 @@ use Rattle.std.proofs.Common.{true≢false, length-append, sym, ◌∙◌, ap, s
 use Rattle.std.proofs.lemmas.Bool.Decides.{nat_tests}
 use Rattle.std.proofs.lemmas.Option.{slice_get-map}
 use Rattle.std.proofs.lemmas.Slice.Eq.{bytes_eq-Decides}
-use Rattle.std.proofs.lemmas.List.{map-append, length-map, length-drop, take_more, drop_more}
+use Rattle.std.proofs.lemmas.List.{map-append, length-map, length-drop, take_more, drop_more, get_or_append_left}
 use Rattle.mm_lex.specs.Alphabet.{Name, name_eq, has_name}
 use Rattle.mm_read.specs.declared.stmt.Stmt.{Stmt}
 use Rattle.mm_read.specs.Statements.{Database}
@@ -21,6 +21,7 @@ use Rattle.verify.specs.Proves.{label_or_none, mandatory_labels}
 use Rattle.verify.specs.Right.{IsProvable}
 use Rattle.library.specs.Good.{Good, IsProved}
 use Rattle.library.specs.Marks.{is_marked, place_of, AreWanted, ItemsMeet, ProofMeets, TellsMeeting, listed_in, ListsNone, ListsSome}
+use Rattle.library.proofs.BaseLemmas.{take-front}
 use Rattle.library.proofs.FrontLemmas.{AreHypothesesAt, hypotheses-at}
 use Rattle.library.proofs.ItemsLemmas.{stands-bare}
 use Rattle.frame.proofs.ActiveBehind.{not-both}
@@ -113,11 +114,6 @@ tested-meets S labels marks wanted numbers found once w is =
     meets-items S labels w.places w.named once numbers (items_of labels numbers) marks found refl
     (is ∙ any-same (λ n. is_marked wanted (Some n)) (λ n. is_marked marks (place_of w.places n)) (number-tested marks wanted w.places w.tests) numbers)
 
-get-front : (xs ys : List Name) (k : ℕ) → k < length xs → get_or (xs ++ ys) k [] ≡ get_or xs k []
-get-front [] ys k h = absurd (omega (arith, h))
-get-front (x ∷ xs) ys zero h = refl
-get-front (x ∷ xs) ys (suc k) h = get-front xs ys k (omega (arith, h))
-
 -- what a number cites, it cites where more labels stand behind
 item-front : (labels rest : List Name) (n : ℕ) (label : Name) → item_of labels n ≡ Cite label → item_of (labels ++ rest) n ≡ Cite label
 item-front labels rest zero label e = absurd (let f = e in cc)
@@ -129,7 +125,7 @@ item-front labels rest (suc n) label e = by (nat_lt n (length labels)) refl
         let l = length-append labels rest in
         let further : nat_lt n (length (labels ++ rest)) ≡ true = grind (arith, nat_tests) in
         ap (λ b. cond b (Cite (get_or (labels ++ rest) n [])) (Recall (suc (n - length (labels ++ rest))))) further
-        ∙ (ap Cite (get-front labels rest n less)
+        ∙ (ap Cite (get_or_append_left labels rest [] n less)
         ∙ (sym (ap (λ b. cond b (Cite (get_or labels n [])) (Recall (suc (n - length labels)))) q) ∙ e))
     by false q = absurd (let f : Recall (suc (n - length labels)) ≡ Cite label = sym (ap (λ b. cond b (Cite (get_or labels n [])) (Recall (suc (n - length labels)))) q) ∙ e in cc)
 
@@ -167,10 +163,6 @@ late-meets S marks words left n count old wanted numbers found tested same once 
     (tested-meets S (front ++ take n words) marks wanted numbers found once (tested.tests front w) any)
 
 -- ---- what a heading lists
-
-take-front : (xs ys : List Name) → take (length xs) (xs ++ ys) ≡ xs
-take-front [] ys = refl
-take-front (x ∷ xs) ys = ap (λ rest. x ∷ rest) (take-front xs ys)
 
 module _ (tokens words : List Name) (mandatory count : ℕ) (numbers : List ℕ) (h : IsHeading tokens mandatory words count numbers) where
   listed-is : take count words ≡ h.listed
