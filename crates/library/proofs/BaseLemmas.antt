@@ -191,7 +191,7 @@ module _ (L T whole new : Database) (front : ℕ) (scope scope' scope'' : Accept
   placed-here : (found : Option Cause) → IsPlaced (take front whole) (drop front whole) scope' frames' found → IsPlaced L T scope' frames' found
   placed-here found p = subst (λ U. IsPlaced U T scope' frames' found) first-part (subst (λ U. IsPlaced (take front whole) U scope' frames' found) last-part p)
 
-  -- once all were judged, the text stands whole or is gone back from, and the rest is as these statements need it
+  -- a text that was judged stands whole or is gone back from, and scope and frames are those of what stands
   pub extended : {E : Type 0} (r : Result (Option Cause) E) → IfOk r (λ found. IsPlaced (take front whole) (drop front whole) scope' frames' found) → (r ≡ Ok None → Stays) → ((r ≡ Ok None → ⊥) → Back)
       → Extended L T new r scope'' frames''
   extended (Ok None) placed kept back =

@@ -30,7 +30,7 @@ wrong_is S names at a s rs room Heavy h = absurd h
 wrong_is S names at a s rs room Unmarked h = absurd h
 
 module _ {T S : Database} {ns names : List Name} {σ τ : Images} {gs hs : List (List Name)} (same : T ≡ S) (named : ns ≡ names) (images : σ ≡ τ) (lists : gs ≡ hs) where
-  -- a clash is one of equal statements, names, images and lists
+  -- a clash stays one where statements, names, images and lists are equal
   pub clash_moved : (c : Clash) → IsClash T ns σ gs c → IsClash S names τ hs c
   clash_moved c is =
       subst (λ l. IsClash S names τ l c) lists
@@ -38,7 +38,7 @@ module _ {T S : Database} {ns names : List Name} {σ τ : Images} {gs hs : List 
       (subst (λ n. IsClash S n σ gs c) named
       (subst (λ D. IsClash D ns σ gs c) same is)))
 
-  -- images apart over some lists are so over equal statements, images and lists
+  -- what is kept apart stays so where statements, images and lists are equal
   pub apart_moved : are_groups_apart T σ gs ≡ true → are_groups_apart S τ hs ≡ true
   apart_moved is =
       sym (ap (λ D. are_groups_apart D σ gs) same ∙ (ap (λ i. are_groups_apart S i gs) images ∙ ap (λ l. are_groups_apart S τ l) lists)) ∙ is
