@@ -1,23 +1,19 @@
 -- From what a reader of proof code answers to the items that the tokens write.
-use Rattle.std.specs.Prelude.{◌≡◌, ◌⊎◌, ◌↔◌, Bool, true, false, IsTrue, List, Option, Some, None, Result, Ok, Err, IfOk, MatchOption}
-use Rattle.std.proofs.Common.{sym, ◌∙◌, subst, inl, inr}
+use Rattle.std.specs.Prelude.{◌≡◌, ◌⊎◌, ◌↔◌, true, IsTrue, List, Option, Some, None, Result, Ok, Err, IfOk, MatchOption}
+use Rattle.std.proofs.Common.{subst, inl, inr}
 use Rattle.mm_lex.specs.Alphabet.{Name}
 use Rattle.proof_code.specs.declared.item.Item.{Item}
 use Rattle.proof_code.specs.declared.fault.CodeFault.{CodeFault}
 use Rattle.proof_code.specs.declared.fault.CodeFault.TheVariants.{Unfinished, Malformed}
 use Rattle.proof_code.specs.Writes.{Writes, WritesPacked, IsMalformed, is_compressed, is_unfinished}
-
-both : {P : Type 0} (b : Bool) → b ≡ true → b ≡ false → P
-both b p q = absurd (let e : true ≡ false = sym p ∙ q in cc)
+use Rattle.frame.proofs.ActiveBehind.{not-both}
+use Rattle.proof_code.proofs.OneList.{one_answer}
 
 abbrev Found : List Name → List Name → Option (List Item) → Type 0
 Found tokens mandatory found = MatchOption found ((other : List Item) → ¬ Writes tokens mandatory other) (λ items. Writes tokens mandatory items)
 
 abbrev Written : Result (List Item) CodeFault → Option (List Item) → Type 0
 Written r found = MatchOption found ((r ≡ Err Unfinished) ⊎ (r ≡ Err Malformed)) (λ items. r ≡ Ok items)
-
-not-unfinished : (tokens mandatory : List Name) (other : List Item) → is_unfinished tokens ≡ true → Writes tokens mandatory other → ⊥
-not-unfinished tokens mandatory other h w = elim w [ inl p ↦ both (is_unfinished tokens) h p.1.0 | inr p ↦ both (is_unfinished tokens) h p.1.0 ]
 
 module _ {E : Type 0} (tokens mandatory : List Name) (r : Result (List Item) CodeFault) (result : Result (Option (List Item)) E) (w : IfOk result (λ found. Written r found))
     (unfinished : (r ≡ Err Unfinished) ↔ IsTrue (is_unfinished tokens)) where
@@ -26,9 +22,9 @@ module _ {E : Type 0} (tokens mandatory : List Name) (r : Result (List Item) Cod
   packed-found compressed items malformed = by result w
     where
       malformed-none : r ≡ Err Malformed → (other : List Item) → Writes tokens mandatory other → ⊥
-      malformed-none e other q = elim q [ inl p ↦ (malformed.0 e).1 other p.1 | inr p ↦ both (is_compressed tokens) compressed p.0 ]
+      malformed-none e other q = elim q [ inl p ↦ (malformed.0 e).1 other p.1 | inr p ↦ not-both (is_compressed tokens) compressed p.0 ]
 
       by : (result : Result (Option (List Item)) E) → IfOk result (λ found. Written r found) → IfOk result (λ found. Found tokens mandatory found)
       by (Ok (Some items')) e = inl (compressed, subst (λ q. IfOk q (λ is. WritesPacked tokens mandatory is)) e items)
-      by (Ok None) e = elim e [ inl u ↦ (λ other. not-unfinished tokens mandatory other (unfinished.0 u)) | inr m ↦ malformed-none m ]
+      by (Ok None) e = elim e [ inl u ↦ (λ other w. (one_answer tokens mandatory).finished other w (unfinished.0 u)) | inr m ↦ malformed-none m ]
       by (Err x) e = tt

@@ -51,15 +51,18 @@ module _ (labels : ℕ) (letters : List ℕ) (index limit digits begin : ℕ) (r
     front-starts [] more e = refl
     front-starts (x ∷ front) more e = sym (ap starts_with_mark e) ∙ r.starts
 
+    -- the letters before the word that is begun write the items of the numbers read
     writes : WritesRow names r.front (items_of names r.numbers)
     writes =
         let read : numbers_from labels 0 r.front ≡ Some r.numbers =
         ap (numbers_from labels 0) (sym (append-nil r.front)) ∙ (r.reads [] ∙ ap Some (append-nil r.numbers)) in
         WritesRow-read names r.front r.numbers (front-starts r.front (r.begun ++ r.rest) r.whole) (ap (λ n. numbers_from n 0 r.front) count ∙ read)
 
+    -- the greatest number allowed is the count of the labels and of the marks so far
     greatest : limit ≡ length names + marks_in (items_of names r.numbers)
     greatest = r.limit_is ∙ (ap (λ n. n + zeros r.numbers) (sym count) ∙ ap (λ z. length names + z) (sym (marks-zeros names r.numbers)))
 
+    -- the letters begun go on to a word whose number is allowed, or there are none
     allowed : IsAllowed limit r.begun
     allowed = elim (zero-or digits) [ inl e ↦ inl (r.empty e) | inr e ↦ inr (65 ∷ [], 20 * digits + 1, placed-number_of (r.begun ++ 65 ∷ []) (20 * digits + 1) (r.counts (65 ∷ [])), let q = r.room e in omega (arith, q)) ]
 
@@ -84,9 +87,11 @@ module _ (labels : ℕ) (letters : List ℕ) (index limit digits begin : ℕ) (r
     pub all-read : letters ≡ r.front → (items : List Item) × WritesRow names letters items
     all-read e = (items_of names r.numbers, subst (λ l. WritesRow names l (items_of names r.numbers)) (sym e) writes)
 
+  -- the letters are those that are read, and the rest behind them
   split : letters ≡ (r.front ++ r.begun) ++ r.rest
   split = r.whole ∙ sym (append_assoc r.front r.begun r.rest)
 
+  -- as many letters are read as the index says
   long : length (r.front ++ r.begun) ≡ index
   long = length-append r.front r.begun ∙ r.at_index
 
@@ -95,6 +100,7 @@ module _ (labels : ℕ) (letters : List ℕ) (index limit digits begin : ℕ) (r
   drop-end xs [] i e h = refl
   drop-end xs (y ∷ ys) i e h = absurd (let l = length-append xs (y ∷ ys) in omega (arith, e, h, l))
 
+  -- where the index is the end of the letters, none are left
   pub ended : length letters ≤ index → r.rest ≡ []
   ended h = drop-end (r.front ++ r.begun) r.rest index long (subst (λ l. length l ≤ index) split h)
 
@@ -108,6 +114,7 @@ module _ (labels : ℕ) (letters : List ℕ) (index limit digits begin : ℕ) (r
   some-begun h e = h (r.some e)
 
   module _ (letter : ℕ) (here : slice_get letters index ≡ Some letter) where
+    -- the letter at the index is the first of the rest
     next : (more : List ℕ) × (r.rest ≡ letter ∷ more)
     next = at-append (r.front ++ r.begun) r.rest index letter long (sym (ap (λ l. slice_get l index) split) ∙ here)
 

@@ -27,6 +27,7 @@ labels-once S good i j s r label p q =
     legal-labels S (legal-each S good.legal) i j one.0 other.0 label one.1 other.1
 
 module _ (S F : Database) (same : F ≡ bares S) where
+  -- a statement that carries a label without its proof carries it with its proof
   pub named : (label : Name) (at : ℕ) → (s : Stmt) × Carries F at s label → (t : Stmt) × Carries S at t label
   named label at c = carries-whole S at c.0 label (subst (λ U. Carries U at c.0 label) same c.1)
 

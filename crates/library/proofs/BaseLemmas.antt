@@ -51,9 +51,11 @@ module _ (S : Database) (front : ℕ) (within : front ≤ length S) where
   abbrev T : Database
   T = drop front S
 
+  -- the first statements and those behind them are all
   whole : L ++ T ≡ S
   whole = take-append-drop front S
 
+  -- the first statements are as many as lie in front
   count : length L ≡ front
   count = length-take-le front S within
 
@@ -152,7 +154,7 @@ pub record Extended {E : Type 0} (L T new : Database) (r : Result (Option Cause)
   pub judged : IfOk r (λ found. Extends L T found new)
   pub same : OnErr r (new ≡ L)
 
-take-front : {A : Type 0} (xs ys : List A) → take (length xs) (xs ++ ys) ≡ xs
+pub take-front : {A : Type 0} (xs ys : List A) → take (length xs) (xs ++ ys) ≡ xs
 take-front xs ys = take-append-le (length xs) xs ys (omega arith) ∙ take_all (length xs) xs (omega arith)
 
 drop-front : {A : Type 0} (xs ys : List A) → drop (length xs) (xs ++ ys) ≡ ys
@@ -189,6 +191,7 @@ module _ (L T whole new : Database) (front : ℕ) (scope scope' scope'' : Accept
   placed-here : (found : Option Cause) → IsPlaced (take front whole) (drop front whole) scope' frames' found → IsPlaced L T scope' frames' found
   placed-here found p = subst (λ U. IsPlaced U T scope' frames' found) first-part (subst (λ U. IsPlaced (take front whole) U scope' frames' found) last-part p)
 
+  -- a text that was judged stands whole or is gone back from, and scope and frames are those of what stands
   pub extended : {E : Type 0} (r : Result (Option Cause) E) → IfOk r (λ found. IsPlaced (take front whole) (drop front whole) scope' frames' found) → (r ≡ Ok None → Stays) → ((r ≡ Ok None → ⊥) → Back)
       → Extended L T new r scope'' frames''
   extended (Ok None) placed kept back =

@@ -182,6 +182,7 @@ module _ (L : Database) (charter : Option (List ℕ)) (submission : Submission) 
     shapeless : v ≡ Refused Shape → IsShapeless → Reason v
     late : (T : Database) → IsReadable submission.text T → Late T v → Reason v
 
+  -- each verdict on a text is reached at one of these stages
   reason : (v : Verdict) → IsVerdict v → Reason v
   reason Added p = late p.0 p.1.readable (p.1.allowed, p.2)
   reason (Refused TooLong) p = long refl p

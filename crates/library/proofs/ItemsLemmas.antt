@@ -53,6 +53,7 @@ pub record IsHypothesisOf (S : Database) (p : ℕ) : Type 0 where
   pub positive : 1 ≤ p
   pub within : p ≤ length S
 
+-- a statement without its proof is some statement's
 pub unbare : (o : Option Stmt) (t : Stmt) → option_map bare o ≡ Some t → (s : Stmt) × (o ≡ Some s) × (bare s ≡ t)
 unbare None t h = absurd (let e = h in cc)
 unbare (Some s) t h = (s, refl, let e = h in cc)

@@ -63,6 +63,7 @@ applies-determined old new other (Some entry) v w p q = applies-at-one (status_o
 abbrev pub Grows : Replica → Replica → Type 0
 Grows old new = (more : Database) × (new.statements ≡ old.statements ++ more)
 
+-- statements that stay the same grow by nothing
 stays : (old new : Replica) → new.statements ≡ old.statements → Grows old new
 stays old new e = ([], e ∙ sym (append-nil old.statements))
 

@@ -4,7 +4,7 @@ use Rattle.std.specs.List.{list_any}
 use Rattle.std.proofs.Common.{sym, ◌∙◌, ap, subst, arith, inl, inr}
 use Rattle.std.proofs.lemmas.Bool.{cases_eq, or_right}
 use Rattle.std.proofs.lemmas.Bool.Decides.{nat_tests}
-use Rattle.std.proofs.lemmas.List.{length-set, get_or-set_same, get_or-set_other}
+use Rattle.std.proofs.lemmas.List.{length-set, get_or-set_same, get_or-set_other, get_or_past}
 use Rattle.mm_lex.specs.Alphabet.{Name}
 use Rattle.mm_read.specs.declared.stmt.Stmt.{Stmt}
 use Rattle.mm_read.specs.Statements.{Database}
@@ -16,13 +16,6 @@ use Rattle.proof_code.specs.Numbers.{item_of, items_of}
 use Rattle.library.specs.Marks.{IsMarked, is_marked, mark, place_of, mark_items, ItemsCite, ItemsMeet, MarksItems}
 use Rattle.library.proofs.FrontLemmas.{stands-within}
 
--- ---- the positions of labels
-
-get-past : {A : Type 0} (xs : List A) (k : ℕ) (d : A) → length xs ≤ k → get_or xs k d ≡ d
-get-past [] k d h = refl
-get-past (x ∷ xs) zero d h = absurd (omega (arith, h))
-get-past (x ∷ xs) (suc k) d h = get-past xs k d (omega (arith, h))
-
 -- ---- one mark
 
 mark-within : (ms : List Bool) (k : ℕ) → get_or ms k false ≡ true → k < length ms
@@ -33,6 +26,10 @@ mark-within (m ∷ ms) (suc k) h = let w = mark-within ms k h in omega (arith, w
 pub marked-within : (ms : List Bool) (a : ℕ) → IsMarked ms a → (1 ≤ a) × (a ≤ length ms)
 marked-within ms zero h = absurd h
 marked-within ms (suc k) h = let w = mark-within ms k h in (omega arith, omega (arith, w))
+
+pub marked-is : (marks : List Bool) (a : ℕ) → IsMarked marks a → is_marked marks (Some a) ≡ true
+marked-is marks zero h = absurd h
+marked-is marks (suc k) h = h
 
 pub mark-count : (o : Option ℕ) (ms : List Bool) → length (mark o ms) ≡ length ms
 mark-count None ms = refl
@@ -93,7 +90,7 @@ module _ (S : Database) (labels : List Name) (places : List (Option ℕ)) (are :
       by false q =
           let more : length labels ≤ n = grind (arith, q) in
           let c = are.count in
-          let none : get_or places n None ≡ None = get-past places n None (omega (arith, more, c)) in
+          let none : get_or places n None ≡ None = get_or_past places n None (omega (arith, more, c)) in
           absurd (let f : None ≡ Some a = sym none ∙ e in cc)
 
   position-is : (label : Name) (o : Option ℕ) (a : ℕ) (s : Stmt) → IsPosition S label o → Carries S a s label → o ≡ Some a
@@ -158,10 +155,6 @@ module _ (S : Database) (labels : List Name) (places : List (Option ℕ)) (are :
   marked-some marks None h = absurd (let e = h in cc)
   marked-some marks (Some zero) h = absurd (let e = h in cc)
   marked-some marks (Some (suc k)) h = (suc k, refl, h)
-
-  marked-is : (marks : List Bool) (a : ℕ) → IsMarked marks a → is_marked marks (Some a) ≡ true
-  marked-is marks zero h = absurd h
-  marked-is marks (suc k) h = h
 
   abbrev Hits : List Bool → ℕ → Bool
   Hits marks number = is_marked marks (place_of places number)

@@ -20,6 +20,7 @@ use Rattle.verify.specs.Right.{IsProvable}
 use Rattle.library.specs.Marks.{IsMarked, is_marked, listed_in, ListsSome, MeetsNothing, ProofMeets, NotesUser}
 use Rattle.library.proofs.FrontLemmas.{IsHypothesisAt, AreHypothesesAt, hypotheses-at, hypotheses-bare}
 use Rattle.library.proofs.ItemsLemmas.{stands-bare}
+use Rattle.library.proofs.MarksLemmas.{marked-is}
 use Rattle.library.proofs.ProvingLemmas.{same-statement}
 use Rattle.library.proofs.WalkLemmas.{carries-bare}
 
@@ -97,17 +98,9 @@ cited-label tokens mandatory items (inr plain) place label e =
     let at = get-map (λ token. Cite token) tokens place (Cite label) (ap (λ is. slice_get is place) (sym w.cites) ∙ e) in
     let token = at.0 in
     let same : token ≡ label = (let h = at.2 in cc) in
-    inr (subst (λ ts. has_name label (listed_in ts) ≡ true) (append-none tokens) (labels-listed tokens [] w.labels place label (at.1 ∙ ap Some same)))
-  where
-    append-none : (ns : List Name) → ns ++ [] ≡ ns
-    append-none [] = refl
-    append-none (n ∷ ns) = ap (λ rest. n ∷ rest) (append-none ns)
+    inr (subst (λ ts. has_name label (listed_in ts) ≡ true) (append-nil tokens) (labels-listed tokens [] w.labels place label (at.1 ∙ ap Some same)))
 
 -- ---- a proof that meets nothing that is marked
-
-marked-is : (marks : List Bool) (a : ℕ) → IsMarked marks a → is_marked marks (Some a) ≡ true
-marked-is marks zero m = absurd m
-marked-is marks (suc k) m = m
 
 -- ---- the tokens, one after another
 

@@ -1,11 +1,11 @@
 -- Whether a compressed proof cites what is marked, from its numbers and from a test of each of its labels.
-use Rattle.std.specs.Prelude.{◌≡◌, ◌↔◌, ℕ, zero, suc, ◌+◌, ◌-◌, ◌<◌, ◌≤◌, nat_lt, cond, Bool, true, false, ◌||◌, if◌then◌else◌, List, [], ◌∷◌, ◌++◌, length, map, get_or, slice_index_or, take, drop, Option, Some, None, option_map, slice_get, Result, Ok, Err, IfOk, refl}
+use Rattle.std.specs.Prelude.{◌≡◌, ◌↔◌, ℕ, zero, suc, ◌+◌, ◌-◌, ◌<◌, ◌≤◌, nat_lt, cond, Bool, true, false, ◌||◌, if◌then◌else◌, List, [], ◌∷◌, ◌++◌, length, map, get_or, slice_index_or, take, drop, Option, Some, None, option_map, slice_get, refl}
 use Rattle.std.specs.List.{list_any}
 use Rattle.std.proofs.Common.{true≢false, length-append, sym, ◌∙◌, ap, subst, arith, append_assoc, inl, inr}
 use Rattle.std.proofs.lemmas.Bool.Decides.{nat_tests}
 use Rattle.std.proofs.lemmas.Option.{slice_get-map}
 use Rattle.std.proofs.lemmas.Slice.Eq.{bytes_eq-Decides}
-use Rattle.std.proofs.lemmas.List.{map-append, length-map, length-drop, take_more, drop_more}
+use Rattle.std.proofs.lemmas.List.{map-append, length-map, length-drop, take_more, drop_more, get_or_append_left}
 use Rattle.mm_lex.specs.Alphabet.{Name, name_eq, has_name}
 use Rattle.mm_read.specs.declared.stmt.Stmt.{Stmt}
 use Rattle.mm_read.specs.Statements.{Database}
@@ -21,12 +21,14 @@ use Rattle.verify.specs.Proves.{label_or_none, mandatory_labels}
 use Rattle.verify.specs.Right.{IsProvable}
 use Rattle.library.specs.Good.{Good, IsProved}
 use Rattle.library.specs.Marks.{is_marked, place_of, AreWanted, ItemsMeet, ProofMeets, TellsMeeting, listed_in, ListsNone, ListsSome}
+use Rattle.library.proofs.BaseLemmas.{take-front}
 use Rattle.library.proofs.FrontLemmas.{AreHypothesesAt, hypotheses-at}
 use Rattle.library.proofs.ItemsLemmas.{stands-bare}
+use Rattle.frame.proofs.ActiveBehind.{not-both}
 use Rattle.frame.proofs.PositionLemmas.{positions-end}
 use Rattle.library.proofs.MarksLemmas.{meets-items}
 use Rattle.library.proofs.MayCiteLemmas.{kind-labelled, cited-label}
-use Rattle.library.proofs.ProvingLemmas.{both, same-statement, labels-bare}
+use Rattle.library.proofs.ProvingLemmas.{same-statement, labels-bare}
 use Rattle.library.proofs.UsersLemmas.{proof-meets}
 use Rattle.library.proofs.WalkLemmas.{has-items}
 
@@ -112,11 +114,6 @@ tested-meets S labels marks wanted numbers found once w is =
     meets-items S labels w.places w.named once numbers (items_of labels numbers) marks found refl
     (is ∙ any-same (λ n. is_marked wanted (Some n)) (λ n. is_marked marks (place_of w.places n)) (number-tested marks wanted w.places w.tests) numbers)
 
-get-front : (xs ys : List Name) (k : ℕ) → k < length xs → get_or (xs ++ ys) k [] ≡ get_or xs k []
-get-front [] ys k h = absurd (omega (arith, h))
-get-front (x ∷ xs) ys zero h = refl
-get-front (x ∷ xs) ys (suc k) h = get-front xs ys k (omega (arith, h))
-
 -- what a number cites, it cites where more labels stand behind
 item-front : (labels rest : List Name) (n : ℕ) (label : Name) → item_of labels n ≡ Cite label → item_of (labels ++ rest) n ≡ Cite label
 item-front labels rest zero label e = absurd (let f = e in cc)
@@ -128,7 +125,7 @@ item-front labels rest (suc n) label e = by (nat_lt n (length labels)) refl
         let l = length-append labels rest in
         let further : nat_lt n (length (labels ++ rest)) ≡ true = grind (arith, nat_tests) in
         ap (λ b. cond b (Cite (get_or (labels ++ rest) n [])) (Recall (suc (n - length (labels ++ rest))))) further
-        ∙ (ap Cite (get-front labels rest n less)
+        ∙ (ap Cite (get_or_append_left labels rest [] n less)
         ∙ (sym (ap (λ b. cond b (Cite (get_or labels n [])) (Recall (suc (n - length labels)))) q) ∙ e))
     by false q = absurd (let f : Recall (suc (n - length labels)) ≡ Cite label = sym (ap (λ b. cond b (Cite (get_or labels n [])) (Recall (suc (n - length labels)))) q) ∙ e in cc)
 
@@ -166,10 +163,6 @@ late-meets S marks words left n count old wanted numbers found tested same once 
     (tested-meets S (front ++ take n words) marks wanted numbers found once (tested.tests front w) any)
 
 -- ---- what a heading lists
-
-take-front : (xs ys : List Name) → take (length xs) (xs ++ ys) ≡ xs
-take-front [] ys = refl
-take-front (x ∷ xs) ys = ap (λ rest. x ∷ rest) (take-front xs ys)
 
 module _ (tokens words : List Name) (mandatory count : ℕ) (numbers : List ℕ) (h : IsHeading tokens mandatory words count numbers) where
   listed-is : take count words ≡ h.listed
@@ -241,7 +234,7 @@ module _ (S F : Database) (same : F ≡ bares S) (good : Good S) (at : ℕ) (s :
       (subst (λ r. Writes (proof_of r) (mandatory_labels (bares S) at r) p.items) (sym (same-statement S at s p.stmt provable p.provable)) p.written)
 
   packed-here : (items : List Item) → is_compressed tokens ≡ true → Writes tokens (mandatory_labels (bares S) at s) items → WritesPacked tokens (mandatory_labels (bares S) at s) items
-  packed-here items compressed written = elim written [ inl packed ↦ packed.1 | inr plain ↦ both (is_compressed tokens) compressed plain.0 ]
+  packed-here items compressed written = elim written [ inl packed ↦ packed.1 | inr plain ↦ absurd (not-both (is_compressed tokens) compressed plain.0) ]
 
   pub told-meets : is_compressed tokens ≡ true → (found : Bool) → ((r : Stmt) → stmt_at F at ≡ Some r → TellsMeeting F (mandatory_labels F at r) tokens marks found) → found ≡ true ↔ ProofMeets S at marks
   told-meets compressed found told =
@@ -257,7 +250,7 @@ module _ (S F : Database) (same : F ≡ bares S) (good : Good S) (at : ℕ) (s :
       ((λ f. meets.0 (m.2.0 f)), λ q. m.2.1 (meets.1 q))
 
   plain-here : (items : List Item) → is_compressed tokens ≡ false → Writes tokens (mandatory_labels (bares S) at s) items → WritesPlain tokens items
-  plain-here items plain written = elim written [ inl packed ↦ both (is_compressed tokens) packed.0 plain | inr w ↦ w.1 ]
+  plain-here items plain written = elim written [ inl packed ↦ absurd (not-both (is_compressed tokens) packed.0 plain) | inr w ↦ w.1 ]
 
   -- what the tokens of a normal proof list is what it cites
   pub listed-meets : is_compressed tokens ≡ false → (found : Bool) → (found ≡ false → ListsNone F tokens marks) → (found ≡ true → ListsSome F tokens marks) → found ≡ true ↔ ProofMeets S at marks
@@ -273,7 +266,3 @@ module _ (S F : Database) (same : F ≡ bares S) (good : Good S) (at : ℕ) (s :
       by : (b : Bool) → found ≡ b → (ListsNone F tokens marks → ⊥) → (found ≡ false → ListsNone F tokens marks) → found ≡ true
       by true f not none = f
       by false f not none = absurd (not (none f))
-
-pub if-map : {A E : Type 0} {P Q : A → Type 0} (r : Result A E) → ((a : A) → P a → Q a) → IfOk r P → IfOk r Q
-if-map (Ok a) f p = f a p
-if-map (Err x) f p = p

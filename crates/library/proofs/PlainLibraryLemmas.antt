@@ -110,6 +110,7 @@ module _ (S : Database) (ds : List Decided) where
 
 -- ---- logs
 
+-- a library without a charter is its statements and what was decided
 whole : (replica : Replica) → replica.charter ≡ None → replica ≡ bare_of replica.statements replica.decided
 whole replica e = ap (λ charter. record replica { charter = charter }) e
 

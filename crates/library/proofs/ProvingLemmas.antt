@@ -1,5 +1,5 @@
 -- From the verifier's answer to whether a `$p` is proved.
-use Rattle.std.specs.Prelude.{◌≡◌, ℕ, zero, suc, ◌+◌, ◌-◌, ◌<◌, ◌≤◌, ◌⊎◌, ◌↔◌, refl, Bool, true, false, IsTrue, List, map, Option, Some, None, Result, Ok, Err, IfOk, MatchOption}
+use Rattle.std.specs.Prelude.{◌≡◌, ℕ, zero, suc, ◌+◌, ◌-◌, ◌<◌, ◌≤◌, ◌⊎◌, ◌↔◌, refl, true, false, IsTrue, List, map, Option, Some, None, Result, Ok, Err, IfOk, MatchOption}
 use Rattle.std.proofs.Common.{sym, ◌∙◌, ap, subst, inl, inr, arith}
 use Rattle.mm_lex.specs.Alphabet.{Name}
 use Rattle.mm_read.specs.declared.stmt.Stmt.{Stmt}
@@ -14,13 +14,12 @@ use Rattle.verify.specs.declared.answer.Answer.TheVariants.{Proved, Wrong}
 use Rattle.verify.specs.Proves.{label_or_none, mandatory_labels, Proves}
 use Rattle.verify.specs.Right.{IsProvable, IsRight, Says}
 use Rattle.library.specs.Judging.{StandsProved}
+use Rattle.frame.proofs.ActiveBehind.{not-both}
+use Rattle.proof_code.proofs.OneList.{one_answer}
 use Rattle.library.proofs.FrontLemmas.{hypotheses-bare}
 use Rattle.library.proofs.ItemsLemmas.{provable-bare}
 
 -- ---- items
-
-pub both : {P : Type 0} (b : Bool) → b ≡ true → b ≡ false → P
-both b p q = absurd (let e : true ≡ false = sym p ∙ q in cc)
 
 -- what was found of the items
 abbrev pub Found : List Name → List Name → Option (List Item) → Type 0
@@ -29,30 +28,27 @@ Found tokens mandatory found = MatchOption found ((other : List Item) → ¬ Wri
 abbrev Written : Result (List Item) CodeFault → Option (List Item) → Type 0
 Written r found = MatchOption found ((r ≡ Err Unfinished) ⊎ (r ≡ Err Malformed)) (λ items. r ≡ Ok items)
 
-not-unfinished : (tokens mandatory : List Name) (other : List Item) → is_unfinished tokens ≡ true → Writes tokens mandatory other → ⊥
-not-unfinished tokens mandatory other h w = elim w [ inl p ↦ both (is_unfinished tokens) h p.1.0 | inr p ↦ both (is_unfinished tokens) h p.1.0 ]
-
 module _ (tokens mandatory : List Name) (r : Result (List Item) CodeFault) (found : Option (List Item)) (w : Written r found)
     (unfinished : (r ≡ Err Unfinished) ↔ IsTrue (is_unfinished tokens)) where
   pub packed-found : is_compressed tokens ≡ true → IfOk r (λ items. WritesPacked tokens mandatory items) → (r ≡ Err Malformed) ↔ IsMalformed tokens (WritesPacked tokens mandatory) → Found tokens mandatory found
   packed-found compressed items malformed = by found w
     where
       malformed-none : r ≡ Err Malformed → (other : List Item) → Writes tokens mandatory other → ⊥
-      malformed-none e other q = elim q [ inl p ↦ (malformed.0 e).1 other p.1 | inr p ↦ both (is_compressed tokens) compressed p.0 ]
+      malformed-none e other q = elim q [ inl p ↦ (malformed.0 e).1 other p.1 | inr p ↦ not-both (is_compressed tokens) compressed p.0 ]
 
       by : (found : Option (List Item)) → Written r found → Found tokens mandatory found
       by (Some items') e = inl (compressed, subst (λ q. IfOk q (λ is. WritesPacked tokens mandatory is)) e items)
-      by None e = elim e [ inl u ↦ (λ other. not-unfinished tokens mandatory other (unfinished.0 u)) | inr m ↦ malformed-none m ]
+      by None e = elim e [ inl u ↦ (λ other w. (one_answer tokens mandatory).finished other w (unfinished.0 u)) | inr m ↦ malformed-none m ]
 
   pub normal-found : is_compressed tokens ≡ false → IfOk r (λ items. WritesPlain tokens items) → (r ≡ Err Malformed) ↔ IsMalformed tokens (WritesPlain tokens) → Found tokens mandatory found
   normal-found plain items malformed = by found w
     where
       malformed-none : r ≡ Err Malformed → (other : List Item) → Writes tokens mandatory other → ⊥
-      malformed-none e other q = elim q [ inl p ↦ both (is_compressed tokens) p.0 plain | inr p ↦ (malformed.0 e).1 other p.1 ]
+      malformed-none e other q = elim q [ inl p ↦ not-both (is_compressed tokens) p.0 plain | inr p ↦ (malformed.0 e).1 other p.1 ]
 
       by : (found : Option (List Item)) → Written r found → Found tokens mandatory found
       by (Some items') e = inr (plain, subst (λ q. IfOk q (λ is. WritesPlain tokens is)) e items)
-      by None e = elim e [ inl u ↦ (λ other. not-unfinished tokens mandatory other (unfinished.0 u)) | inr m ↦ malformed-none m ]
+      by None e = elim e [ inl u ↦ (λ other w. (one_answer tokens mandatory).finished other w (unfinished.0 u)) | inr m ↦ malformed-none m ]
 
 -- ---- proofs
 
@@ -128,3 +124,7 @@ pub if-found : {E : Type 0} (tokens : List Name) (labels : Stmt → List Name) (
     → ((found : Option (List Item)) → W found → (s : Stmt) → P s → Found tokens (labels s) found) → IfOk r W → IfOk r (λ found. (s : Stmt) → P s → Found tokens (labels s) found)
 if-found tokens labels P (Ok found) h w = h found w
 if-found tokens labels P (Err x) h w = w
+
+pub if-map : {A E : Type 0} {P Q : A → Type 0} (r : Result A E) → ((a : A) → P a → Q a) → IfOk r P → IfOk r Q
+if-map (Ok a) f p = f a p
+if-map (Err x) f p = p

@@ -1,7 +1,7 @@
 -- Verdicts, worked out.
 use Rattle.std.specs.Prelude.{◌≡◌, ℕ, zero, suc, ◌+◌, ◌<◌, Bool, true, false, List, [], ◌∷◌, ◌++◌, codes, refl, length, Option, Some, None}
 use Rattle.std.specs.List.{list_all}
-use Rattle.std.proofs.Common.{sym, ◌∙◌, ap, arith, inl, inr, lit≤, append-nil}
+use Rattle.std.proofs.Common.{true≢false, sym, ◌∙◌, ap, arith, inl, inr, lit≤, append-nil}
 use Rattle.mm_lex.specs.Alphabet.{Name, is_allowed, runs, word}
 use Rattle.mm_lex.specs.Tokens.{is_plain, words}
 use Rattle.mm_read.specs.declared.stmt.Stmt.{Stmt}
@@ -38,6 +38,7 @@ by_author author text = record { author = author; serial = 1; text = text }
 abbrev taken_twice : Database
 taken_twice = Const (w (codes "|-")) ∷ Axiom (codes "p") (w (codes "|-")) ∷ Axiom (codes "p") (w (codes "|-")) ∷ []
 
+-- a label that is used twice breaks G4 at its second statement
 label_taken : IsCause [] None (by_author 7 (codes "$c |- $. p $a |- $. p $a |- $.")) (Rule 3 G4)
 label_taken = (taken_twice, record { readable = record { short = lit≤ tt; read = plain_reads _ taken_twice refl refl refl refl }; allowed = refl }, refl)
 
@@ -60,15 +61,15 @@ abbrev is_provable_here : Option Stmt → Bool
 is_provable_here None = false
 is_provable_here (Some s) = is_provable s
 
-different : true ≡ false → ⊥
-different e = absurd (let f : true ≡ false = e in cc)
-
+-- tokens that write items have no byte `?`
 writes_finished : (tokens mandatory : List Name) (items : _) → Writes tokens mandatory items → is_unfinished tokens ≡ false
 writes_finished tokens mandatory items h = elim h [ inl p ↦ p.1.0 | inr p ↦ p.1.0 ]
 
+-- a `$p` with `?` for its proof is not proved
 not_proved : IsProved doubted 2 → ⊥
-not_proved p = different (ap is_doubted p.provable.stands ∙ writes_finished _ _ _ p.written)
+not_proved p = true≢false (ap is_doubted p.provable.stands ∙ writes_finished _ _ _ p.written)
 
+-- it is refused as unfinished, by its number in the text
 unfinished : IsCause [] None (by_author 7 (codes "$c |- o $. th $p |- o $= ? $.")) (Unfinished 2)
 unfinished = (
   Prove (codes "th") (w (codes "|- o")) (w (codes "?")),
@@ -82,8 +83,8 @@ unfinished = (
 )
   where
     earlier : (m : ℕ) (r : Stmt) → m < 2 → IsProvable doubted m r → IsProved ([] ++ doubted) (length {A = Stmt} [] + m)
-    earlier zero r below p = absurd (different (ap is_none_here p.stands))
-    earlier (suc zero) r below p = absurd (different (sym p.provable ∙ sym (ap is_provable_here p.stands)))
+    earlier zero r below p = absurd (true≢false (ap is_none_here p.stands))
+    earlier (suc zero) r below p = absurd (true≢false (sym p.provable ∙ sym (ap is_provable_here p.stands)))
     earlier (suc (suc m)) r below p = absurd (past below)
       where
         past : suc (suc m) < 2 → ⊥
@@ -94,6 +95,7 @@ unfinished = (
 abbrev one_charter : Replica
 one_charter = record { statements = []; decided = record { author = 7; serial = 2; verdict = Added } ∷ []; charter = Some (7 ∷ 9 ∷ []) }
 
+-- the empty text is added, and adds no statement
 empty_text_added : Applies empty (Some (Text (by_author 7 []))) Added (record { statements = []; decided = record { author = 7; serial = 1; verdict = Added } ∷ []; charter = None })
 empty_text_added = ([], record { readable = record { short = lit≤ tt; read = plain_reads [] [] refl refl refl refl }; allowed = refl }, good-empty, refl)
 
@@ -106,6 +108,7 @@ other_charter_refused : Applies one_charter (Some (Charter 8 1 (8 ∷ []))) (Ref
     (record one_charter { decided = one_charter.decided ++ record { author = 8; serial = 1; verdict = Refused (NotChartered 0) } ∷ [] })
 other_charter_refused = (refl, refl, refl)
 
+-- so a charter of an author that the one before names is added
 named_charter_added : Applies one_charter (Some (Charter 9 1 (8 ∷ []))) Added
     (record { statements = []; decided = one_charter.decided ++ record { author = 9; serial = 1; verdict = Added } ∷ []; charter = Some (8 ∷ []) })
 named_charter_added = (refl, refl)
@@ -114,23 +117,29 @@ named_charter_added = (refl, refl)
 repeated_number : Applies one_charter (Some (Charter 7 2 (8 ∷ []))) Repeat one_charter
 repeated_number = (refl, refl)
 
+-- a text under the number of its author's charter is a repeat
 repeated_text : Applies one_charter (Some (Text (record { author = 7; serial = 2; text = codes "$c a $." }))) Repeat one_charter
 repeated_text = (refl, refl)
 
+-- an entry without an operation changes nothing
 no_operation : Applies one_charter None Nothing one_charter
 no_operation = (refl, refl)
 
 -- ---- charters
 
+-- authors in rising order
 rising : is_rising (1 ∷ 5 ∷ 6 ∷ []) ≡ true
 rising = refl
 
+-- an author that stands twice is not in rising order
 twice_the_same : is_rising (1 ∷ 5 ∷ 5 ∷ []) ≡ false
 twice_the_same = refl
 
+-- to an author whom the charter names nothing is forbidden
 named_author : forbidden (Some (7 ∷ 9 ∷ [])) 9 taken_twice ≡ None
 named_author = refl
 
+-- without a charter nothing is forbidden to anyone
 no_charter : forbidden None 8 taken_twice ≡ None
 no_charter = refl
 
@@ -138,5 +147,6 @@ no_charter = refl
 variables_and_proofs : forbidden (Some (7 ∷ [])) 8 (Var (w (codes "x")) ∷ Prove (codes "th") (w (codes "|- o")) (w (codes "?")) ∷ []) ≡ None
 variables_and_proofs = refl
 
+-- a forbidden `$a` is told by its number in the text
 second_statement : forbidden (Some (7 ∷ [])) 8 (Var (w (codes "x")) ∷ Axiom (codes "p") (w (codes "|-")) ∷ []) ≡ Some 2
 second_statement = refl

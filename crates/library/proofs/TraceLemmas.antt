@@ -1,5 +1,5 @@
 -- The labels of the `$a` that are marked are those of the `$a` that a proof uses.
-use Rattle.std.specs.Prelude.{◌≡◌, ℕ, zero, suc, ◌+◌, ◌<◌, ◌≤◌, Bool, true, false, cond, List, [], ◌∷◌, ◌++◌, length, map, drop, get_or, Some, slice_get, refl, Result, Ok, Err, IfOk}
+use Rattle.std.specs.Prelude.{◌≡◌, ℕ, zero, suc, ◌+◌, ◌<◌, ◌≤◌, Bool, true, false, cond, List, [], ◌∷◌, ◌++◌, length, map, drop, get_or, Some, slice_get, refl}
 use Rattle.std.proofs.Common.{sym, ◌∙◌, ap, subst, arith, append_assoc, append-nil}
 use Rattle.std.proofs.lemmas.List.{drop_more, drop_all}
 use Rattle.mm_lex.specs.Alphabet.{Name}
@@ -57,6 +57,7 @@ rises-below : (a b : ℕ) (ns : List ℕ) → a ≤ b → Rises b ns → Rises a
 rises-below a b [] h r = tt
 rises-below a b (n ∷ ns) h r = (let l = r.0 in omega (arith, h, l), r.1)
 
+-- the positions of the `$a` that are marked rise
 rising : (n : ℕ) (S : Database) (ms : List Bool) → Rises n (positions (suc n) S ms)
 rising n [] ms = tt
 rising n (s ∷ S) [] = tt
@@ -83,6 +84,7 @@ chosen-later n s S m ms a c =
 in-later : (n a : ℕ) (ns : List ℕ) → IsIn a ns → IsIn a (n ∷ ns)
 in-later n a ns i = (suc i.0, i.1)
 
+-- each of these positions is that of an `$a` that is marked
 chosen : (n : ℕ) (S : Database) (ms : List Bool) (a : ℕ) → IsIn a (positions n S ms) → IsChosen n S ms a
 chosen n [] ms a i = absurd (let e = i.1 in cc)
 chosen n (s ∷ S) [] a i = absurd (let e = i.1 in cc)
@@ -193,10 +195,6 @@ are-used S j s ms labels provable reached is =
 
     back : (a : ℕ) → Uses S j a → IsIn a (positions 1 S ms)
     back a u = there a u.1.stmt ((reached a).1 (rests-reaches S j j a starts u.0)) u.1.stands u.1.kind
-
-pub used-ok : {A E : Type 0} {P Q : A → Type 0} (r : Result A E) → ((a : A) → P a → Q a) → IfOk r P → IfOk r Q
-used-ok (Ok a) f p = f a p
-used-ok (Err e) f p = p
 
 -- a statement that is not marked adds nothing
 pub listed-skip : (S : Database) (ms : List Bool) (labels labels' whole : List Name) (i : ℕ) → i < length S → i < length ms → get_or ms i false ≡ false

@@ -44,6 +44,7 @@ abbrev pub Upto : (ℕ → Type 0) → ℕ → ℕ → Type 0
 Upto P p j = (j ≤ p) × P j
 
 module _ (S : Database) (P : ℕ → Type 0) (p : ℕ) (labels : List Name) (are : AreLabelsOf S (Upto P p) labels) where
+  -- each position listed so far is below the next
   below : (k : ℕ) → IsIn k are.positions → k < suc p
   below k i = let h = ((are.passing k).0 i).0 in omega (arith, h)
 

@@ -140,6 +140,7 @@ pub record IsWalked (S : Database) (j p : ℕ) (ms : List Bool) : Type 0 where
   pub sound : (a : ℕ) → IsMarked ms a → Reaches S j a
   pub closed : (b a : ℕ) → p < b → IsMarked ms b → Cites S b a → IsMarked ms a
 
+-- of cleared marks none is set
 pub clear : (n k : ℕ) → get_or (replicate n false) k false ≡ false
 clear zero k = refl
 clear (suc n) zero = refl

@@ -1,5 +1,5 @@
 -- Images that are held against one all at once.
-use Rattle.std.proofs.Common.{◌≡◌, ℕ, zero, suc, ◌+◌, ◌-◌, ◌<◌, ◌≤◌, Bool, true, ◌&&◌, ◌||◌, List, [], ◌∷◌, ◌++◌, length, take, drop, get_or, arith, subst, refl, sym, ◌∙◌, ap, add-one, length-append}
+use Rattle.std.proofs.Common.{◌≡◌, ℕ, zero, suc, ◌+◌, ◌-◌, ◌<◌, ◌≤◌, Bool, true, ◌&&◌, ◌||◌, List, [], ◌∷◌, ◌++◌, length, take, drop, get_or, arith, subst, refl, sym, ◌∙◌, ap, add-one, length-append, length-drop, take_all}
 use Rattle.std.proofs.lemmas.Bool.{and_parts}
 use Rattle.std.proofs.lemmas.List.{map-append}
 use Rattle.std.proofs.Math.Bool.{or-true}
@@ -17,6 +17,7 @@ use Rattle.reasons.specs.declared.images.Image.{Image}
 use Rattle.reasons.specs.Stored.Kept.{AreImages, code_images}
 use Rattle.reasons.proofs.NamedLemmas.{image_same}
 use Rattle.reasons.proofs.ImagesLemmas.{apply-below}
+use Rattle.reasons.proofs.KeptLemmas.{below-drop}
 
 -- ---- their numbers
 
@@ -25,18 +26,15 @@ below-take n zero xs h = tt
 below-take n (suc k) [] h = tt
 below-take n (suc k) (y ∷ xs) h = (h.0, below-take n k xs h.1)
 
-below-rest : (n k : ℕ) (xs : List ℕ) → AreBelow n xs → AreBelow n (drop k xs)
-below-rest n zero xs h = h
-below-rest n (suc k) [] h = tt
-below-rest n (suc k) (y ∷ xs) h = below-rest n k xs h.1
-
+-- the images before that of a variable have numbers that stand for names
 pub below_front : (n : ℕ) (images : List Image) (group : List ℕ) (x : ℕ) (before behind : List ℕ) → AreImages n images → AreBelow n group → AreBeside (code_images images) group x before behind → AreBelow n before
 below_front n images group x before behind h below b =
     subst (λ e. AreBelow n e) (sym b.front) (apply-below n images (take b.place group) h (below-take n b.place group below))
 
+-- and so have the images behind it
 pub below_rest : (n : ℕ) (images : List Image) (group : List ℕ) (x : ℕ) (before behind : List ℕ) → AreImages n images → AreBelow n group → AreBeside (code_images images) group x before behind → AreBelow n behind
 below_rest n images group x before behind h below b =
-    subst (λ e. AreBelow n e) (sym b.rest) (apply-below n images (drop (suc b.place) group) h (below-rest n (suc b.place) group below))
+    subst (λ e. AreBelow n e) (sym b.rest) (apply-below n images (drop (suc b.place) group) h (below-drop n (suc b.place) group below))
 
 -- ---- apart from a whole is apart from its parts
 
@@ -80,9 +78,11 @@ module _ (S : Database) (names : List Name) (distinct : AreDistinct names) (σ :
       let parts : (p (name_at names y) ≡ true) × (list_all p (decode names (take k group)) ≡ true) = and_parts (p (name_at names y)) (list_all p (decode names (take k group))) front in
       ap (λ b. b && list_all p (decode names group)) parts.0 ∙ beside_all p group k (omega (arith, h)) parts.1 here rest
 
+  -- a variable needs not be kept apart from itself
   itself : (y : Name) → is_other_apart S (named_images names σ) y y ≡ true
   itself y = ap (λ c. c || are_apart S (image (named_images names σ) y) (image (named_images names σ) y)) (name_same y)
 
+  -- an image apart from those before it and those behind it is apart from the image of each other variable
   pub apart_beside : (group before behind image : List ℕ) → AreBelow (length names) group → image ≡ code_image σ x → AreBeside σ group x before behind
       → are_apart S (decode names image) (decode names before) ≡ true → are_apart S (decode names image) (decode names behind) ≡ true
       → list_all (is_other_apart S (named_images names σ) (name_at names x)) (decode names group) ≡ true
@@ -92,28 +92,32 @@ module _ (S : Database) (names : List Name) (distinct : AreDistinct names) (σ :
       (ap (λ e. are_apart S (decode names e) (decode names (code_apply σ (take b.place group)))) (sym is) ∙ (ap (λ e. are_apart S (decode names image) (decode names e)) (sym b.front) ∙ front)))
       (ap (λ y. is_other_apart S (named_images names σ) (name_at names x) (name_at names y)) b.here
       ∙ itself (name_at names x))
-      (all_others (drop (suc b.place) group) (below-rest (length names) (suc b.place) group below)
+      (all_others (drop (suc b.place) group) (below-drop (length names) (suc b.place) group below)
       (ap (λ e. are_apart S (decode names e) (decode names (code_apply σ (drop (suc b.place) group)))) (sym is) ∙ (ap (λ e. are_apart S (decode names image) (decode names e)) (sym b.rest) ∙ rest)))
 
 -- ---- where the images lie
 
+-- a front that ends in the second of two lists is the first and a front of the second
 take_past : (xs ys : List ℕ) (n m : ℕ) → m ≡ length xs + n → take m (xs ++ ys) ≡ xs ++ take n ys
 take_past [] ys n m e = let same : m ≡ n = omega (arith, e) in ap (λ k. take k ys) same
 take_past (x ∷ xs) ys n zero e = absurd (omega (arith, e))
 take_past (x ∷ xs) ys n (suc m) e = ap (λ l. x ∷ l) (take_past xs ys n m (omega (arith, e)))
 
+-- what is left behind such a front is left of the second list
 drop_past : (xs ys : List ℕ) (n m : ℕ) → m ≡ length xs + n → drop m (xs ++ ys) ≡ drop n ys
 drop_past [] ys n m e = let same : m ≡ n = omega (arith, e) in ap (λ k. drop k ys) same
 drop_past (x ∷ xs) ys n zero e = absurd (omega (arith, e))
 drop_past (x ∷ xs) ys n (suc m) e = drop_past xs ys n m (omega (arith, e))
 
 module _ (σ : CodeImages) where
+  -- an image, behind those before it, ends within the images of all
   lies_within : (group : List ℕ) (k : ℕ) → k < length group → length (code_apply σ (take k group)) + length (code_image σ (get_or group k 0)) ≤ length (code_apply σ group)
   lies_within [] k h = absurd (omega (arith, h))
   lies_within (y ∷ group) zero h = omega (arith, length-append (code_image σ y) (code_apply σ group))
   lies_within (y ∷ group) (suc k) h =
       omega (arith, lies_within group k (omega (arith, h)), length-append (code_image σ y) (code_apply σ group), length-append (code_image σ y) (code_apply σ (take k group)))
 
+  -- the images with one more are longer by that image
   pub lies_behind : (group : List ℕ) (k : ℕ) → k < length group → length (code_apply σ (take (k + 1) group)) ≡ length (code_apply σ (take k group)) + length (code_image σ (get_or group k 0))
   lies_behind group k h = ap (λ n. length (code_apply σ (take n group))) (add-one k) ∙ go group k h
     where
@@ -123,6 +127,7 @@ module _ (σ : CodeImages) where
       go (y ∷ group) (suc k) h =
           omega (arith, go group k (omega (arith, h)), length-append (code_image σ y) (code_apply σ (take (suc k) group)), length-append (code_image σ y) (code_apply σ (take k group)))
 
+  -- up to where an image begins stand the images before it
   pub cut_before : (group : List ℕ) (k : ℕ) → take (length (code_apply σ (take k group))) (code_apply σ group) ≡ code_apply σ (take k group)
   cut_before group zero = refl
   cut_before [] (suc k) = refl
@@ -131,6 +136,7 @@ module _ (σ : CodeImages) where
       (length-append (code_image σ y) (code_apply σ (take k group)))
       ∙ ap (λ e. code_image σ y ++ e) (cut_before group k)
 
+  -- from where an image ends stand the images behind it
   pub cut_behind : (group : List ℕ) (k : ℕ) → k < length group
       → drop (length (code_apply σ (take k group)) + length (code_image σ (get_or group k 0))) (code_apply σ group) ≡ code_apply σ (drop (suc k) group)
   cut_behind [] k h = absurd (omega (arith, h))
@@ -146,22 +152,7 @@ pub image_within : (σ : CodeImages) (group joined : List ℕ) (k start len : �
     → len ≡ length (code_image σ (get_or group k 0)) → start + len ≤ length joined
 image_within σ group joined k start len whole h s l = omega (arith, lies_within σ group k h, ap length whole, s, l)
 
-pub front_length : (xs : List ℕ) (n : ℕ) → n ≤ length xs → length (take n xs) ≡ n
-front_length xs zero h = refl
-front_length [] (suc n) h = absurd (omega (arith, h))
-front_length (x ∷ xs) (suc n) h = ap suc (front_length xs n (omega (arith, h)))
-
-take_whole : (xs : List ℕ) (n : ℕ) → length xs ≤ n → take n xs ≡ xs
-take_whole [] zero h = refl
-take_whole [] (suc n) h = refl
-take_whole (x ∷ xs) zero h = absurd (omega (arith, h))
-take_whole (x ∷ xs) (suc n) h = ap (λ l. x ∷ l) (take_whole xs n (omega (arith, h)))
-
-rest_short : (xs : List ℕ) (n : ℕ) → length (drop n xs) ≤ length xs - n
-rest_short xs zero = omega arith
-rest_short [] (suc n) = omega arith
-rest_short (x ∷ xs) (suc n) = omega (arith, rest_short xs n)
-
+-- what stands before and behind an image are the images of the variables beside its own
 pub image_beside : (σ : CodeImages) (group joined : List ℕ) (k start end : ℕ) → joined ≡ code_apply σ group → k < length group → start ≡ length (code_apply σ (take k group))
     → end ≡ start + length (code_image σ (get_or group k 0)) → AreBeside σ group (get_or group k 0) (take start joined) (take (length joined - end) (drop end joined))
 image_beside σ group joined k start end whole h s l = record {
@@ -169,7 +160,7 @@ image_beside σ group joined k start end whole h s l = record {
   within = h;
   here = refl;
   front = ap (λ n. take n joined) s ∙ (ap (take (length (code_apply σ (take k group)))) whole ∙ cut_before σ group k);
-  rest = take_whole (drop end joined) (length joined - end) (rest_short joined end)
+  rest = take_all (length joined - end) (drop end joined) (let left = length-drop end joined in omega (arith, left))
       ∙ (ap (λ n. drop n joined) (l ∙ ap (λ n. n + length (code_image σ (get_or group k 0))) s)
       ∙ (ap (drop (length (code_apply σ (take k group)) + length (code_image σ (get_or group k 0)))) whole ∙ cut_behind σ group k h));
 }

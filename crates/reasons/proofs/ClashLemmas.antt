@@ -19,16 +19,19 @@ module _ (names : List Name) (p : Name → Bool) (xs : List ℕ) (i : ℕ) where
       ap (λ l. list_all p (decode names l)) (drop-cons xs i 0 inside)
       ∙ (ap (λ b. b && list_all p (decode names (drop (suc i) xs))) e ∙ ap (λ k. list_all p (decode names (drop k xs))) (sym (add-one i)))
 
+-- behind the last symbol nothing is left to test
 pub all_end : (names : List Name) (p : Name → Bool) (xs : List ℕ) (i : ℕ) → length xs ≤ i → list_all p (decode names (drop i xs)) ≡ true
 all_end names p [] zero h = refl
 all_end names p [] (suc i) h = refl
 all_end names p (x ∷ xs) zero h = absurd (omega (arith, h))
 all_end names p (x ∷ xs) (suc i) h = all_end names p xs i (omega (arith, h))
 
+-- what every name passes the names of a list pass
 pub all_of : (p : Name → Bool) (xs : List Name) → ((x : Name) → p x ≡ true) → list_all p xs ≡ true
 all_of p [] h = refl
 all_of p (x ∷ xs) h = ap (λ b. b && list_all p xs) (h x) ∙ all_of p xs h
 
+-- the name of each number of a list is among the names of the list
 pub has_at : (names : List Name) (xs : List ℕ) (i : ℕ) → i < length xs → has_name (name_at names (get_or xs i 0)) (decode names xs) ≡ true
 has_at names [] i h = absurd (omega (arith, h))
 has_at names (x ∷ xs) zero h = ap (λ b. b || has_name (name_at names x) (decode names xs)) (name_same (name_at names x))
@@ -36,12 +39,14 @@ has_at names (x ∷ xs) (suc i) h =
     let y = name_at names (get_or xs i 0) in
     ap (λ b. name_eq y (name_at names x) || b) (has_at names xs i (omega (arith, h))) ∙ or-true (name_eq y (name_at names x))
 
+-- two symbols are kept apart where the first is no variable
 pub kept_by : (a b c : Bool) → a ≡ false → (not a || not b || c) ≡ true
 kept_by a b c e = ap (λ x. not x || not b || c) e ∙ left (not b) c
   where
     left : (b c : Bool) → (true || b || c) ≡ true
     left b c = refl
 
+-- numbers that are not equal are told apart by the test
 pub numbers_differ : (m n : ℕ) → (n ≡ m → ⊥) → nat_eq m n ≡ false
 numbers_differ m n h = by (nat_eq m n) refl
   where
@@ -52,6 +57,7 @@ numbers_differ m n h = by (nat_eq m n) refl
 -- ---- the lists
 
 module _ {A : Type 0} (p : List Name → Bool) (f : A → List Name) where
+  -- a list that passes leaves the test to those behind it
   pub groups_step : (xs : List A) (k : ℕ) (x : A) → slice_get xs k ≡ Some x → p (f x) ≡ true → list_all p (map f (drop k xs)) ≡ list_all p (map f (drop (k + 1) xs))
   groups_step xs k x e h = go xs k e ∙ ap (λ n. list_all p (map f (drop n xs))) (sym (add-one k))
     where
@@ -60,17 +66,20 @@ module _ {A : Type 0} (p : List Name → Bool) (f : A → List Name) where
       go (y ∷ xs) zero e = let same : y ≡ x = cc in ap (λ b. b && list_all p (map f xs)) (ap (λ z. p (f z)) same ∙ h)
       go (y ∷ xs) (suc k) e = go xs k e
 
+  -- behind the last list nothing is left to test
   pub groups_end : (xs : List A) (k : ℕ) → length xs ≤ k → list_all p (map f (drop k xs)) ≡ true
   groups_end [] zero h = refl
   groups_end [] (suc k) h = refl
   groups_end (x ∷ xs) zero h = absurd (omega (arith, h))
   groups_end (x ∷ xs) (suc k) h = groups_end xs k (omega (arith, h))
 
+-- where one list passes, some list does
 any_group : {A : Type 0} (t : List Name → Bool) (f : A → List Name) (xs : List A) (k : ℕ) (x : A) → slice_get xs k ≡ Some x → t (f x) ≡ true → list_any t (map f xs) ≡ true
 any_group t f [] k x e h = cc
 any_group t f (y ∷ xs) zero x e h = let same : y ≡ x = cc in ap (λ b. b || list_any t (map f xs)) (ap (λ z. t (f z)) same ∙ h)
 any_group t f (y ∷ xs) (suc k) x e h = ap (λ b. t (f y) || b) (any_group t f xs k x e h) ∙ or-true (t (f y))
 
+-- a clash in one of the lists is a clash of the whole
 pub clash_is : (S : Database) (names : List Name) (σ : Images) (groups : List (List ℕ)) (k : ℕ) (group : List ℕ) (c : Clash) → slice_get groups k ≡ Some group
     → IsClashIn S names σ (decode names group) c → IsClash S names σ (map (decode names) groups) c
 clash_is S names σ groups k group c e is =

@@ -30,6 +30,7 @@ wrong_is S names at a s rs room Heavy h = absurd h
 wrong_is S names at a s rs room Unmarked h = absurd h
 
 module _ {T S : Database} {ns names : List Name} {σ τ : Images} {gs hs : List (List Name)} (same : T ≡ S) (named : ns ≡ names) (images : σ ≡ τ) (lists : gs ≡ hs) where
+  -- a clash stays one where statements, names, images and lists are equal
   pub clash_moved : (c : Clash) → IsClash T ns σ gs c → IsClash S names τ hs c
   clash_moved c is =
       subst (λ l. IsClash S names τ l c) lists
@@ -37,6 +38,7 @@ module _ {T S : Database} {ns names : List Name} {σ τ : Images} {gs hs : List 
       (subst (λ n. IsClash S n σ gs c) named
       (subst (λ D. IsClash D ns σ gs c) same is)))
 
+  -- what is kept apart stays so where statements, images and lists are equal
   pub apart_moved : are_groups_apart T σ gs ≡ true → are_groups_apart S τ hs ≡ true
   apart_moved is =
       sym (ap (λ D. are_groups_apart D σ gs) same ∙ (ap (λ i. are_groups_apart S i gs) images ∙ ap (λ l. are_groups_apart S τ l) lists)) ∙ is
@@ -44,8 +46,10 @@ module _ {T S : Database} {ns names : List Name} {σ τ : Images} {gs hs : List 
 -- the conclusion by number
 module _ (names : List Name) (distinct : AreDistinct names) (σ : CodeImages) (variables : AreVariables (length names) σ) (τ : Images) (images : named_images names σ ≡ τ)
     (e : List ℕ) (below : AreBelow (length names) e) (expr : Expr) (is : decode names e ≡ expr) where
+  -- with the images put in, it is named as the expression with its images put in
   pub conclusion_is : decode names (code_apply σ e) ≡ applied τ expr
   conclusion_is = apply_same names distinct σ e variables below ∙ (ap (λ i. applied i (decode names e)) images ∙ ap (λ x. applied τ x) is)
 
+  -- it has as many symbols by number as by name
   pub conclusion_length : length (code_apply σ e) ≡ length (applied τ expr)
   conclusion_length = sym (length-map (code_apply σ e) (name_at names)) ∙ ap length conclusion_is

@@ -40,9 +40,11 @@ expr_is S p s e = ap option_expr e
 module _ (S : Database) (names : List Name) (σ : Images) (ps : List ℕ) (results : List (Vec ℕ)) (k : ℕ) (r : Vec ℕ)
     (within : k < length ps) (inside : k < length results) (here : r ≡ get_or results k r)
     (before : AllFit S σ (take k ps) (take k (named names results))) where
+  -- this result stands among the results by name
   result_is : slice_get (named names results) k ≡ Some (decode names r.items)
   result_is = map-at (λ v. decode names v.items) results k r (slice_get_read results (length results) k r refl inside here)
 
+  -- the results by name up to this one are those before it, and it
   last_is : take (k + 1) (named names results) ≡ take k (named names results) ++ decode names r.items ∷ []
   last_is =
       take-map (λ v. decode names v.items) (k + 1) results
@@ -73,10 +75,12 @@ module _ (S : Database) (names : List Name) (σ : Images) (ps : List ℕ) (resul
 
 -- what is said of it
 module _ (S : Database) (names : List Name) (distinct : AreDistinct names) (p head : ℕ) (kind : Hypothesis) (is : IsAsked S names p head kind) where
+  -- an expression that does not begin with this number does not begin with its name
   begins_other : (c : Name) (e : List ℕ) → head < length names → name_at names head ≡ c → AreBelow (length names) e → StartsOther head e → BeginsOther c (decode names e)
   begins_other c [] h n below starts = tt
   begins_other c (x ∷ e) h n below starts = λ same. starts (name_at-injective names x head distinct below.0 h (same ∙ sym n))
 
+  -- the result for a `$f` that begins with another number begins with another constant
   pub other_constant : (e : List ℕ) → AreBelow (length names) e → IsFloat kind → StartsOther head e → IsOtherConstant (stmt_at S p) (decode names e)
   other_constant e below float starts = subst (λ o. IsOtherConstant o (decode names e)) (sym is.stands) (by is.stmt kind is.first is.is float)
     where
@@ -141,6 +145,7 @@ not_ne b xs ys e f = (bytes_eq-Decides xs ys).0 (by (bytes_eq xs ys) (sym e ∙ 
     by true h = refl
     by false h = cc
 
+-- lists of which the test says that they differ are not equal
 pub is_ne : (b : Bool) (xs ys : List ℕ) → b ≡ not (bytes_eq xs ys) → b ≡ true → ys ≡ xs → ⊥
 is_ne b xs ys e f same = by (bytes_eq xs ys) (sym e ∙ f) ((bytes_eq-Decides xs ys).1 (sym same))
   where

@@ -39,9 +39,11 @@ found-at S labels positions k are less = are.each k (let c = are.count in omega 
 
 -- ---- what a number means
 
+-- a number up to the count of the labels cites one of them
 pub cite_item : (labels : List Name) (number k : ℕ) → number ≡ suc k → k < length labels → item_of labels number ≡ Cite (get_or labels k [])
 cite_item labels number k e l = ap (item_of labels) e ∙ ap (λ b. cond b (Cite (get_or labels k [])) (Recall (suc (k - length labels)))) (lt-ltb k (length labels) l)
 
+-- a greater number recalls
 pub recall_item : (labels : List Name) (number : ℕ) → length labels < number → item_of labels number ≡ Recall (suc (number - length labels - 1))
 recall_item labels zero l = absurd (omega (arith, l))
 recall_item labels (suc n) l =
@@ -94,6 +96,7 @@ cited_fails S names at h i s label (Together b x y u v) carries fails = (i, s, c
 cited_fails S names at h i s label Heavy carries fails = (i, s, carries, fails)
 cited_fails S names at h i s label Unmarked carries fails = absurd fails
 
+-- what is told of the statement that carries the label is told of the item
 pub cite_told : (S : Database) (names : List Name) (at i : ℕ) (s : Stmt) (label : Name) (old new : State) (item : Item) (res : Result (Option Fault) AllocError) → item ≡ Cite label → Carries S i s label
     → IfOk res (λ r. MatchOption r (CitesTo S at i s (held names old) (held names new)) (FailsAt S names at (held names old) i s))
     → IfOk res (λ r. MatchOption r (Steps S at (held names old) item (held names new)) (Fails S names at (held names old) item))
@@ -103,6 +106,7 @@ cite_told S names at i s label old new item (Ok (Some f)) is carries told = subs
 
 -- ---- all items
 
+-- a run goes on by one more step
 pub runs_more : (S : Database) (at : ℕ) (h g k : Held) (items : List Item) (item : Item) → Runs S at h items g → Steps S at g item k → Runs S at h (items ++ item ∷ []) k
 runs_more S at h g k [] item runs steps = (k, subst (λ x. Steps S at x item k) (sym runs) steps, refl)
 runs_more S at h g k (i ∷ items) item runs steps = (runs.0, runs.1, runs_more S at runs.0 g k items item runs.2 steps)

@@ -90,5 +90,6 @@ pub symbols-if : (n : ℕ) (old new : List (Vec ℕ)) (v : Vec ℕ) (b : Bool) �
 symbols-if n old new v true e h k = symbols-push n old new v e h k
 symbols-if n old new v false e h k = symbols-same n old new e h
 
+-- a count that fails the test for 0 is above it
 pub not_empty : (b : Bool) (n : ℕ) → b ≡ (n == 0) → b ≡ false → 0 < n
 not_empty b n e f = let none : (n == 0) ≡ false = sym e ∙ f in grind (arith, none)

@@ -34,6 +34,7 @@ named-append names (p ∷ σ) τ = ap (λ r. (name_at names p.0, decode names p.
 -- ---- putting images in, by number and by name
 
 module _ (names : List Name) (distinct : AreDistinct names) where
+  -- the image of a number, named, is the image of its name
   pub image_same : (σ : CodeImages) (x : ℕ) → AreVariables (length names) σ → x < length names → decode names (code_image σ x) ≡ image (named_images names σ) (name_at names x)
   image_same [] x h l = refl
   image_same (p ∷ σ) x h l = by (nat_eq x p.0) refl (image_same σ x h.1 l)
@@ -46,6 +47,7 @@ module _ (names : List Name) (distinct : AreDistinct names) where
       by true e rest = ap (λ b. decode names (cond b p.1 (code_image σ x))) e ∙ sym (ap (λ b. cond b (decode names p.1) (image (named_images names σ) (name_at names x))) (sym same ∙ e))
       by false e rest = ap (λ b. decode names (cond b p.1 (code_image σ x))) e ∙ (rest ∙ sym (ap (λ b. cond b (decode names p.1) (image (named_images names σ) (name_at names x))) (sym same ∙ e)))
 
+  -- with images put in by number, a list is named as its names with the named images put in
   pub apply_same : (σ : CodeImages) (e : List ℕ) → AreVariables (length names) σ → AreBelow (length names) e → decode names (code_apply σ e) ≡ apply (named_images names σ) (decode names e)
   apply_same σ [] h l = refl
   apply_same σ (x ∷ e) h l =
@@ -54,6 +56,7 @@ module _ (names : List Name) (distinct : AreDistinct names) where
 
 -- ---- the images that are read
 
+-- what one hypothesis reads off a result is the same by number and by name
 image_is : (S : Database) (names : List Name) (p : ℕ) (s : Stmt) (h : Hypothesis) (e : List ℕ) → stmt_at S p ≡ Some s → IsOf names p s h
     → (named_images names (code_at h e) ≡ image_at (stmt_at S p) (decode names e)) × AreVariables (length names) (code_at h e)
 image_is S names p (stmt.Float l c v) (Float x) e stands is =
@@ -80,6 +83,7 @@ variables-append : (n : ℕ) (σ τ : CodeImages) → AreVariables n σ → AreV
 variables-append n [] τ h k = k
 variables-append n (p ∷ σ) τ h k = (h.0, variables-append n σ τ h.1 k)
 
+-- what all hypotheses read off the results is the same by number and by name
 pub images_are : (S : Database) (names : List Name) (ps heads : List ℕ) (hs : List Hypothesis) (es : List (List ℕ)) → AreAsked S names ps heads hs
     → (named_images names (codes_read hs es) ≡ images_read S ps (map (decode names) es)) × AreVariables (length names) (codes_read hs es)
 images_are S names [] [] [] es asked = (refl, tt)
@@ -109,6 +113,7 @@ decode-same names (x ∷ xs) (y ∷ ys) d h k e =
 
 -- ---- reading one result more
 
+-- what is left to read is what this result gives, and what those behind it give
 read_step : (kinds : List Hypothesis) (results : List (Vec ℕ)) (k : ℕ) (h : Hypothesis) → k < length kinds → k < length results
     → get_or kinds k (Float 0) ≡ h → (r : Vec ℕ) → r ≡ get_or results k r
     → codes_read (drop k kinds) (codes (drop k results)) ≡ code_at h r.items ++ codes_read (drop (suc k) kinds) (codes (drop (suc k) results))
@@ -118,6 +123,7 @@ read_step (x ∷ kinds) (y ∷ results) zero h within inside is r here =
     ap (λ z. code_at z y.items ++ codes_read kinds (codes results)) is ∙ ap (λ (v : Vec ℕ). code_at h v.items ++ codes_read kinds (codes results)) (sym here)
 read_step (x ∷ kinds) (y ∷ results) (suc k) h within inside is r here = read_step kinds results k h (omega (arith, within)) (omega (arith, inside)) is r here
 
+-- with the result of a `$f` added, the images read and those left to read are the same whole
 pub read_more : (kinds : List Hypothesis) (results : List (Vec ℕ)) (k x : ℕ) (old new : List Image) (image : Image) (whole : CodeImages) → k < length kinds → k < length results
     → get_or kinds k (Float 0) ≡ Float x → (r : Vec ℕ) → r ≡ get_or results k r → image.variable ≡ x → image.symbols.items ≡ drop 1 r.items → new ≡ old ++ image ∷ []
     → code_images old ++ codes_read (drop k kinds) (codes (drop k results)) ≡ whole
@@ -137,6 +143,7 @@ read_more kinds results k x old new image whole within inside is r here variable
     map-append [] image = refl
     map-append (y ∷ old) image = ap (λ l. (y.variable, y.symbols.items) ∷ l) (map-append old image)
 
+-- the result of a `$e` gives no image
 pub read_skip : (kinds : List Hypothesis) (results : List (Vec ℕ)) (k : ℕ) (images : List Image) (whole : CodeImages) → k < length kinds → k < length results
     → ((x : ℕ) → get_or kinds k (Float 0) ≡ Float x → ⊥)
     → code_images images ++ codes_read (drop k kinds) (codes (drop k results)) ≡ whole

@@ -1,5 +1,5 @@
 -- From what the code keeps to the run over expressions.
-use Rattle.std.proofs.Common.{◌≡◌, ℕ, zero, suc, ◌+◌, ◌-◌, ◌<◌, ◌≤◌, Bool, true, List, [], ◌∷◌, ◌++◌, length, take, drop, arith, refl, sym, ◌∙◌, ap, subst, Some, None, Option, slice_get, IfOk, MatchOption, Result, Ok, Err, length-take, length-drop, ◌&&◌}
+use Rattle.std.proofs.Common.{◌≡◌, ℕ, zero, suc, ◌+◌, ◌-◌, ◌<◌, ◌≤◌, Bool, true, List, [], ◌∷◌, ◌++◌, length, take, drop, arith, refl, sym, ◌∙◌, ap, subst, Some, None, Option, slice_get, IfOk, MatchOption, Result, Ok, Err, length-take, length-drop, take_all, ◌&&◌}
 use Rattle.std.specs.declared.alloc.AllocError.{AllocError}
 use Rattle.std.specs.Prelude.{IsTrue}
 use Rattle.std.specs.Global.{Vec}
@@ -30,19 +30,15 @@ named-append names [] ys = refl
 named-append names (x ∷ xs) ys = ap (λ l. decode names x.items ∷ l) (named-append names xs ys)
 
 module _ {A : Type 0} where
-  take_whole : (xs : List A) (n : ℕ) → n ≡ length xs → take n xs ≡ xs
-  take_whole [] zero e = refl
-  take_whole [] (suc n) e = refl
-  take_whole (x ∷ xs) zero e = absurd (omega (arith, e))
-  take_whole (x ∷ xs) (suc n) e = ap (λ l. x ∷ l) (take_whole xs n (omega (arith, e)))
-
+  -- of a list that is empty nothing is taken
   none_taken : (k : ℕ) (xs : List A) → xs ≡ [] → take k xs ≡ []
   none_taken zero xs e = refl
   none_taken (suc k) [] e = refl
   none_taken (suc k) (x ∷ xs) e = cc
 
+  -- what is taken from the front and all that is left are the list
   take_drop : (n : ℕ) (xs : List A) → take n xs ++ take (length xs - n) (drop n xs) ≡ xs
-  take_drop zero xs = take_whole xs (length xs - 0) (omega arith)
+  take_drop zero xs = take_all (length xs - 0) xs (omega arith)
   take_drop (suc n) [] = none_taken (0 - suc n) [] refl
   take_drop (suc n) (x ∷ xs) =
       let less : suc (length xs) - suc n ≡ length xs - n = omega arith in
@@ -87,15 +83,18 @@ gives_is S at a s rs stack below e earlier stands variable taken whole is =
     })
     (whole ∙ ap (λ r. below ++ r) (sym taken.fit)) is
 
+-- what is held, as a function of its parts
 make : List Expr → List Expr → ℕ → Held
 make stack marked weight = record { stack = stack; marked = marked; weight = weight }
 
+-- a state with these results, marked results and weight, by name, holds them
 pub held_is : (names : List Name) (st : State) (stack marked : List Expr) (weight : ℕ) → named names st.stack.items ≡ stack → named names st.marked.items ≡ marked → st.weight ≡ weight
     → held names st ≡ record { stack = stack; marked = marked; weight = weight }
 unfolding make
 held_is names st stack marked weight a b c =
     ap (λ x. make x (named names st.marked.items) st.weight) a ∙ (ap (λ x. make stack x st.weight) b ∙ ap (λ x. make stack marked x) c)
 
+-- a state in which a result was pushed holds what was held, with this result on what stays
 pub pushed_to : (names : List Name) (old mid new : State) (v : Vec ℕ) (below : List Expr) → named names mid.stack.items ≡ below → mid.marked.items ≡ old.marked.items → mid.weight ≡ old.weight
     → IsPushed mid new v → held names new ≡ with_result (held names old) below (decode names v.items)
 pushed_to names old mid new v below stays marked weight is =
@@ -142,17 +141,20 @@ wrong_fails S names at a s h below rs Heavy light whole count earlier stands var
     }
 wrong_fails S names at a s h below rs Unmarked light whole count earlier stands variable wrong = absurd wrong
 
+-- a statement that stands where an assertion stands is an assertion
 pub assertion_is : (S : Database) (a : ℕ) (r s : Stmt) → HasAssertion S a r → stmt_at S a ≡ Some s → HasAssertion S a s
 assertion_is S a r s has e = (e, subst (λ t. IsTrue (is_assertion t)) (some_same r s (sym has.0 ∙ e)) has.1)
   where
     some_same : (r s : Stmt) → Some r ≡ Some s → r ≡ s
     some_same r s h = cc
 
+-- the results that are taken are as many by name
 pub count_is : (names : List Name) (base : ℕ) (xs : List (Vec ℕ)) (n : ℕ) → (length xs - base ≡ n) × (base ≤ length xs) → length (named names (take (length xs - base) (drop base xs))) ≡ n
 count_is names base xs n h =
     length-map (take (length xs - base) (drop base xs)) (λ v. decode names v.items)
     ∙ (length-take (length xs - base) (drop base xs) ∙ (let long = length-drop base xs in let all = h.0 in let low = h.1 in omega (arith, long, all, low)))
 
+-- a statement that stands where a hypothesis stands is that hypothesis, and has its expression
 pub hypothesis_is : (S : Database) (names : List Name) (at i : ℕ) (r s : Stmt) (e : List ℕ) → IsHypothesis S at i r → decode names e ≡ expr_of r → stmt_at S i ≡ Some s
     → (IsHypothesis S at i s) × (decode names e ≡ expr_of s)
 hypothesis_is S names at i r s e is same stands = subst (λ t. (IsHypothesis S at i t) × (decode names e ≡ expr_of t)) (some_same r s (sym is.stands ∙ stands)) (is, same)

@@ -1,8 +1,8 @@
 -- Marks and recalls.
-use Rattle.std.proofs.Common.{◌≡◌, ℕ, zero, suc, ◌+◌, ◌-◌, ◌<◌, Bool, false, not, cond, List, [], ◌∷◌, ◌++◌, length, take, get_or, arith, refl, sym, ◌∙◌, ap, subst, Some, None, Option, slice_get, IfOk, MatchOption, Result, Ok, Err}
+use Rattle.std.proofs.Common.{◌≡◌, ℕ, suc, ◌+◌, ◌-◌, ◌<◌, Bool, false, not, cond, List, [], ◌∷◌, ◌++◌, length, take, get_or, arith, sym, ◌∙◌, ap, subst, Some, None, Option, slice_get, IfOk, MatchOption, Result, Ok, Err}
 use Rattle.std.specs.declared.alloc.AllocError.{AllocError}
 use Rattle.std.specs.Prelude.{bytes_eq}
-use Rattle.std.proofs.Common.{true≢false}
+use Rattle.std.proofs.Common.{true≢false, take_all}
 use Rattle.std.proofs.lemmas.Slice.Eq.{bytes_eq-Decides}
 use Rattle.std.specs.Global.{Vec}
 use Rattle.std.proofs.Math.Seq.{take-suc}
@@ -13,21 +13,18 @@ use Rattle.reasons.specs.declared.reason.Fault.TheVariants.{Heavy}
 use Rattle.reasons.specs.Steps.{IsPushed, IsRecalled, FailsToRecall}
 
 module _ {A : Type 0} where
-  pub take_whole : (xs : List A) (n : ℕ) → n ≡ length xs → take n xs ≡ xs
-  take_whole [] zero e = refl
-  take_whole [] (suc n) e = refl
-  take_whole (x ∷ xs) zero e = absurd (omega (arith, e))
-  take_whole (x ∷ xs) (suc n) e = ap (λ l. x ∷ l) (take_whole xs n (omega (arith, e)))
-
+  -- a list that is not empty is what stands before its last element, and that
   pub last_split : (xs : List A) (x : A) → 0 < length xs → x ≡ get_or xs (length xs - 1) x → xs ≡ take (length xs - 1) xs ++ x ∷ []
   last_split xs x some is =
       let all : suc (length xs - 1) ≡ length xs = omega arith in
       let inside : length xs - 1 < length xs = omega arith in
-      sym (take_whole xs (suc (length xs - 1)) all) ∙ (take-suc xs (length xs - 1) x inside ∙ ap (λ y. take (length xs - 1) xs ++ y ∷ []) (sym is))
+      sym (take_all (suc (length xs - 1)) xs (omega (arith, all))) ∙ (take-suc xs (length xs - 1) x inside ∙ ap (λ y. take (length xs - 1) xs ++ y ∷ []) (sym is))
 
+  -- where the growth was not refused, the element is added
   pub added : (new old : List A) (x : A) (b r : Bool) → b ≡ not r → r ≡ false → new ≡ cond b (old ++ x ∷ []) old → new ≡ old ++ x ∷ []
   added new old x b r n f e = e ∙ ap (λ c. cond c (old ++ x ∷ []) old) (n ∙ ap not f)
 
+-- what is told of the push of a copy is told of the recall
 pub recalled_told : (old new : State) (index : ℕ) (one copy : Vec ℕ) (res : Result (Option Fault) AllocError)
     → IfOk res (λ r. MatchOption r (IsPushed old new copy) (λ f. (f ≡ Heavy) × (WEIGHT_LIMIT < old.weight + length copy.items)))
     → slice_get old.marked.items index ≡ Some one → copy.items ≡ one.items
@@ -37,10 +34,12 @@ recalled_told old new index one copy (Ok None) told there same = record { marked
 recalled_told old new index one copy (Ok (Some f)) told there same =
     subst (λ fault. FailsToRecall old index fault) (sym told.0) (one, there, subst (λ (xs : List ℕ). WEIGHT_LIMIT < old.weight + length xs) same told.1)
 
+-- a list of one element is its first element alone
 pub single : {A : Type 0} (xs : List A) (x : A) → length xs ≡ 1 → x ≡ get_or xs 0 x → xs ≡ x ∷ []
 single [] x e is = absurd (omega (arith, e))
 single (y ∷ []) x e is = ap (λ z. z ∷ []) (sym is)
 single (y ∷ z ∷ xs) x e is = absurd (omega (arith, e))
 
+-- lists of which the test says that they are not equal differ
 pub differ : (b : Bool) (xs ys : List ℕ) → b ≡ bytes_eq xs ys → b ≡ false → xs ≡ ys → ⊥
 differ b xs ys e f same = true≢false (sym ((bytes_eq-Decides xs ys).1 same) ∙ (sym e ∙ f))

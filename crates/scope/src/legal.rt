@@ -1,4 +1,4 @@
-//! The rules of a statement, each as a test.
+//! The rules of a statement, by a function for each shape of statement.
 ghost use Rattle.std.specs.Prelude.{◌≡◌, ◌==◌, Bool, true, false, not, ◌&&◌, ◌||◌, nat_lt, take, Some, None, IfOk, ◌++◌, ◌∷◌, [], is_some, if◌then◌else◌};
 ghost use Rattle.std.specs.List.{list_all, list_any};
 ghost use Rattle.mm_lex.specs.Alphabet.{has_name};

@@ -129,7 +129,7 @@ impl<T: Drop> Slots<T> {
         self.top
     }
 
-    /// Gives all entries up, and the room with them.
+    /// Gives all entries up.
     pub fn clear(&mut self)
         ensures entries { self.new.entries ≡ [] }
     {

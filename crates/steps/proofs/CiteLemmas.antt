@@ -114,15 +114,19 @@ module _ (S : Database) (at : ℕ) (names : List Name) (legal : AreLegal S names
     abbrev results : Results ℕ
     results = record { stack = map (codes_in d) d.stack.items; saved = map (codes_in d) d.saved.items; weight = st.weight }
 
+    -- each variable of the assertion is that of one mandatory `$f`
     bound : IsBound S a s
     bound = legal.bound a s has
 
+    -- there are as many rows as placed steps
     count' : length rows' ≡ length d.placed.items
     count' = length-map d.placed.items (row_of d.symbols)
 
+    -- a place of a placed step is one of a row
     in_rows : (ks : List ℕ) → AreBelow (length d.placed.items) ks → AreBelow (length rows') ks
     in_rows ks b = subst (λ m. AreBelow m ks) (sym count') b
 
+    -- the codes on the stack and those that are saved have names
     are_named : AreNamed names results
     are_named = record { stack_named = codes-named S at names rows' d.stack.items is.rows (in_rows d.stack.items is.stack_below); saved_named = codes-named S at names rows' d.saved.items is.rows (in_rows d.saved.items is.saved_below) }
 
@@ -130,18 +134,22 @@ module _ (S : Database) (at : ℕ) (names : List Name) (legal : AreLegal S names
     map-map [] = refl
     map-map (k ∷ ks) = ap (λ r. expr_in names rows' k ∷ r) (map-map ks)
 
+    -- the run cites over what the codes of the rows stand for
     cites' : Cites S at label (map (decode names) results.stack) run.0 run.1
     cites' = subst (λ x. Cites S at label x run.0 run.1) (sym (map-map d.stack.items ∙ tied.stack)) run.2
 
+    -- so the codes on the stack meet what the assertion asks
     meets' : Meets S names at a c results.stack run.1
     meets' = meets-step S names at a s c legal bound cited results label run.0 run.1 are_named carries has cites'
 
+    -- the stack has a step for each mandatory hypothesis
     pub many : n ≤ length d.stack.items
     many = let m = meets'.many in let l = length-map d.stack.items (codes_in d) in omega (arith, m, l)
 
     top-codes : top n results.stack ≡ map (codes_in d) (top n d.stack.items)
     top-codes = top-map (codes_in d) n d.stack.items
 
+    -- the code for a `$f` begins with the symbol that it asks for
     pub typed : (k x : ℕ) → slice_get c.hypotheses.now k ≡ Some (Float x) → IsTyped (get_or c.heads.now k 0) (get_or (map (codes_in d) (top n d.stack.items)) k [])
     typed k x kind = subst (λ es. IsTyped (get_or c.heads.now k 0) (get_or es k [])) top-codes (meets'.typed k x kind)
 
@@ -158,6 +166,7 @@ module _ (S : Database) (at : ℕ) (names : List Name) (legal : AreLegal S names
       takes : map (expr_in names rows') (top n d.stack.items) ≡ premises S a s images
       gives : run.1 ≡ applied images (expr_of s)
 
+    -- what cites this label is an instance of this assertion
     instance' : (b : List Expr) (f : Expr) → Cites S at label st.stack b f → (σ : Images) × IsInstance S at a s σ × (st.stack ≡ b ++ premises S a s σ) × (f ≡ applied σ (expr_of s))
     instance' b f (of_hypothesis i t carries' active same whole) =
         let e : t ≡ s = some-same carries'.stands (ap (stmt_at S) (legal.once i a t s label carries' carries) ∙ carries.stands) in
@@ -171,6 +180,7 @@ module _ (S : Database) (at : ℕ) (names : List Name) (legal : AreLegal S names
           gives ∙ ap (λ u. applied σ (expr_of u)) e,
         )
 
+    -- the instance of the run, with the steps that it leaves and those that it takes
     instance : Instance
     instance =
         let r = instance' run.0 run.1 run.2 in
@@ -181,9 +191,11 @@ module _ (S : Database) (at : ℕ) (names : List Name) (legal : AreLegal S names
         let cut = append_cut (map f (below n stack)) run.0 (map f (top n stack)) (premises S a s r.0) whole lens in
         record { images = r.0; fits = r.1; front = cut.0; takes = cut.1; gives = r.3 }
 
+    -- the steps that stay on the stack are in the table
     low_rest : AreBelow (length d.placed.items) (below n d.stack.items)
     low_rest = below-take (length d.placed.items) (length d.stack.items - n) d.stack.items is.stack_below
 
+    -- the steps that are taken are in the table
     low_top : AreBelow (length d.placed.items) (top n d.stack.items)
     low_top = below-drop (length d.placed.items) (length d.stack.items - n) d.stack.items is.stack_below
 
@@ -220,6 +232,7 @@ module _ (S : Database) (at : ℕ) (names : List Name) (legal : AreLegal S names
     assertion-draft new (inl finds) = found-draft S at names legal d new is a_step (below n d.stack.items) run.1 finds low_rest assertion-same
     assertion-draft new (inr (ρ, read, makes)) = made-draft S at names legal d new is a_step (below n d.stack.items) (code_apply ρ c.conclusion.now) makes low_rest low_top (made-follows ρ read) (made-coded ρ read)
 
+    -- a step found or made notes the citation, with what the run gives
     done' : (new : Draft) → GivesAssertion d new a c → IsNoted S at names d label new (with_result st run.0 run.1)
     done' new (inl finds) = (
       (below n d.stack.items, a_step, finds.place, makes-step, found-placed S at names legal d new is a_step (below n d.stack.items) run.1 finds low_rest assertion-same, finds.stack, finds.saved),
@@ -237,5 +250,6 @@ module _ (S : Database) (at : ℕ) (names : List Name) (legal : AreLegal S names
     pub heads-count : length c.heads.now ≡ n
     heads-count = let l = asked-lengths S names (hypotheses (before S a) s) c.heads.now c.hypotheses.now cited.asked in l.0 ∙ sym l.1
 
+    -- no two of its `$f` are of one variable
     pub different : AreDifferent c.hypotheses.now
     different = asked-different S names a s c.heads.now c.hypotheses.now bound cited.asked

@@ -10,6 +10,7 @@ use Rattle.verify.specs.ReadPlaces.{ReadsAll}
 use Rattle.verify.proofs.ReadingLemmas.{reads-seen}
 
 module _ (xs ys heads : List ℕ) (hs : List Hypothesis) (places : List ExpressionPlace) (images : List (ℕ × ExpressionPlace)) (same : ys ≡ xs) (count : length places ≡ length hs) (within : AreWithin (length xs) places) where
+  -- what is read off by places is read off the results that stand there
   seen : (b : Bool) → ReadsAll b (length hs) ys heads hs places images → Reads b heads hs (map (seen_at xs) places) (images_at xs images)
   seen b r = reads-seen b xs heads hs places images count within (subst (λ s. ReadsAll b (length hs) s heads hs places images) same r)
 

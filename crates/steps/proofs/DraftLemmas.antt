@@ -17,6 +17,7 @@ map-more f [] i h = absurd (omega (arith, h))
 map-more f (x ∷ xs) zero h = refl
 map-more f (x ∷ xs) (suc i) h = let e : suc i + 1 ≡ suc (i + 1) = omega arith in ap (λ k. map f (take k (x ∷ xs))) e ∙ ap (λ r. f x ∷ r) (map-more f xs i (omega (arith, h)))
 
+-- the expression of each placed step lies in the buffer
 pub in_buffer : (n : ℕ) (ps : List PlacedStep) (k : ℕ) → AreInBuffer n ps → k < length ps → let p = place_in ps k in (p.start ≤ p.end) × (p.end ≤ n)
 in_buffer n [] k b h = absurd (omega (arith, h))
 in_buffer n (p ∷ ps) zero b h = (b.0, b.1)

@@ -46,6 +46,7 @@ module _ (S : Database) (at : ℕ) (names : List Name) (d : Draft) (is : IsDraft
       omega (arith, l, m, a)
 
   module _ (new : Draft) (p : ℕ) (same_placed : new.placed.items ≡ d.placed.items) (same_symbols : new.symbols ≡ d.symbols) (same_known : new.known ≡ d.known) where
+    -- a draft with the same steps and symbols has the same rows
     same_rows : rows_of new ≡ rows_of d
     same_rows = ap (λ s. map (row_of s) new.placed.items) same_symbols ∙ ap (map (row_of d.symbols)) same_placed
 

@@ -10,6 +10,7 @@ use Rattle.std.specs.Ordering.{nat_cmp, is_eq}
 use Rattle.steps.specs.Stored.Drafted.{place_of}
 use Rattle.names.proofs.OverflowLemmas.{apart}
 
+-- a look-up by a test that is apart from the one set finds what it found before
 keeps : {K X : Type 0} (eq : K → K → Bool) (test : K → Bool) (old new : List (K × X)) → KeepsOthers eq test old new → (other : K → Bool) → IsKeyTest eq other → AreApart test other → lookup other new ≡ lookup other old
 unfolding KeepsOthers
 keeps eq test old new h = h

@@ -1,7 +1,7 @@
 -- The marks of the essential steps, from the last step to the first.
 use Rattle.std.specs.Prelude.{◌≡◌, ◌⊎◌, ℕ, zero, suc, ◌-◌, ◌<◌, ◌≤◌, Bool, true, false, List, [], ◌∷◌, ◌++◌, length, take, drop, replicate, get_or, slice_get, slice_set, Some, refl}
 use Rattle.std.proofs.Common.{sym, ◌∙◌, ap, subst, arith, append-nil, inl, inr}
-use Rattle.std.proofs.lemmas.List.{drop_all, take_all}
+use Rattle.std.proofs.lemmas.List.{drop_all, take_all, length-set, length-replicate}
 use Rattle.std.proofs.lemmas.Option.{slice_get_within}
 use Rattle.mm_read.specs.Statements.{Database}
 use Rattle.frame.specs.Below.{AreBelow}
@@ -21,11 +21,6 @@ from-or-at (suc p) (suc j) h = on (from-or-at p j (omega (arith, h)))
     on (inr l) = inr (omega (arith, l))
 
 -- ---- one mark
-
-length-set : (m : List Bool) (x : ℕ) → length (slice_set m x true) ≡ length m
-length-set [] x = refl
-length-set (b ∷ m) zero = refl
-length-set (b ∷ m) (suc x) = ap suc (length-set m x)
 
 set-keeps : (m : List Bool) (x k : ℕ) → HasMark m k → HasMark (slice_set m x true) k
 set-keeps [] x k h = cc
@@ -53,7 +48,7 @@ set-only (b ∷ m) (suc x) (suc k) h = on (set-only m x k h)
 -- ---- marks one after another
 
 more-first : (x : ℕ) (ks : List ℕ) (m new : List Bool) → x < length m → MarksMore (slice_set m x true) new ks → MarksMore m new (x ∷ ks)
-more-first x ks m new low more = record { count = more.count ∙ length-set m x; each = λ k. (λ h. only k ((more.each k).0 h), λ o. (more.each k).1 (there k o)) }
+more-first x ks m new low more = record { count = more.count ∙ length-set m x true; each = λ k. (λ h. only k ((more.each k).0 h), λ o. (more.each k).1 (there k o)) }
   where
     marked : (k : ℕ) → HasMark m k ⊎ (k ≡ x) → HasMark m k ⊎ IsIn k (x ∷ ks)
     marked k (inl h) = inl h
@@ -74,7 +69,7 @@ each-more [] m b = record { count = refl; each = λ k. (λ h. inl h, λ o. none 
     none : (k : ℕ) → HasMark m k ⊎ IsIn k [] → HasMark m k
     none k (inl h) = h
     none k (inr h) = let e = h.1 in cc
-each-more (x ∷ ks) m b = more-first x ks m (mark_each ks (slice_set m x true)) b.0 (each-more ks (slice_set m x true) (subst (λ n. AreBelow n ks) (sym (length-set m x)) b.1))
+each-more (x ∷ ks) m b = more-first x ks m (mark_each ks (slice_set m x true)) b.0 (each-more ks (slice_set m x true) (subst (λ n. AreBelow n ks) (sym (length-set m x true)) b.1))
 
 -- a list that was lent, and comes back whole
 pub lent-whole : (n : ℕ) (s old : List Bool) → length s ≡ length old → n ≡ length old → take n (s ++ drop (length s) old) ≡ s
@@ -85,10 +80,6 @@ no-mark : (n k : ℕ) → get_or (replicate n false) k false ≡ false
 no-mark zero k = refl
 no-mark (suc n) zero = refl
 no-mark (suc n) (suc k) = no-mark n k
-
-length-none : (n : ℕ) → length (replicate n false) ≡ n
-length-none zero = refl
-length-none (suc n) = ap suc (length-none n)
 
 module _ (S : Database) (steps : List Step) where
   -- the last is marked
@@ -102,7 +93,7 @@ module _ (S : Database) (steps : List Step) where
 
   -- no steps
   marked-none : (marks : List Bool) → length steps ≡ 0 → marks ≡ replicate (length steps) false → AreMarkedFrom S steps (length steps) marks
-  marked-none marks empty is = marked-start marks (ap length is ∙ length-none (length steps)) (λ k h. absurd (bare k h)) (λ k e. absurd (omega (arith, empty, e)))
+  marked-none marks empty is = marked-start marks (ap length is ∙ length-replicate (length steps) false) (λ k h. absurd (bare k h)) (λ k e. absurd (omega (arith, empty, e)))
     where
       bare : (k : ℕ) → HasMark marks k → ⊥
       bare k h = let e : get_or marks k false ≡ false = ap (λ m. get_or m k false) is ∙ no-mark (length steps) k in cc
@@ -112,7 +103,7 @@ module _ (S : Database) (steps : List Step) where
 
   -- the last step alone
   marked-one : (marks : List Bool) → 0 < length steps → marks ≡ slice_set (replicate (length steps) false) (length steps - 1) true → AreMarkedFrom S steps (length steps) marks
-  marked-one marks some is = marked-start marks (ap length is ∙ (length-set none (length steps - 1) ∙ length-none (length steps))) (λ k h. only k (set-only none (length steps - 1) k (ap (λ m. get_or m k false) (sym is) ∙ h))) last
+  marked-one marks some is = marked-start marks (ap length is ∙ (length-set none (length steps - 1) true ∙ length-replicate (length steps) false)) (λ k h. only k (set-only none (length steps - 1) k (ap (λ m. get_or m k false) (sym is) ∙ h))) last
     where
       only : (k : ℕ) → HasMark none k ⊎ (k ≡ length steps - 1) → length steps ≡ suc k
       only k (inl h) = let e = no-mark (length steps) k in cc
@@ -121,7 +112,7 @@ module _ (S : Database) (steps : List Step) where
       last : (k : ℕ) → length steps ≡ suc k → HasMark marks k
       last k e =
           let at : k ≡ length steps - 1 = omega (arith, e) in
-          let l = length-none (length steps) in
+          let l = length-replicate (length steps) false in
           ap (λ m. get_or m k false) is ∙ (ap (λ i. get_or (slice_set none (length steps - 1) true) i false) at ∙ set-there none (length steps - 1) (omega (arith, l, some)))
 
   pub marked-last : (marks : List Bool) → marks ≡ mark_last (length steps) → AreMarkedFrom S steps (length steps) marks
@@ -167,6 +158,7 @@ module _ (S : Database) (steps : List Step) where
 
   -- all steps were looked at
   module _ (marks : List Bool) (m : AreMarkedFrom S steps 0 marks) where
+    -- each essential step is marked
     reached : {k : ℕ} → IsEssential S steps k → HasMark marks k
     reached {k} (is_last e) = m.last k e
     reached {k} (is_taken j step is at in_it) = m.closed j k step (omega arith) (reached is) at in_it

@@ -14,6 +14,7 @@ use Rattle.frame.proofs.OneFrameLemmas.{low-or-not}
 use Rattle.frame.proofs.FoundByNumber.{map-at}
 use Rattle.frame.proofs.StoredOneMore.{map-push}
 
+-- a Boolean is true or false
 either : (b : Bool) → (b ≡ true) ⊎ (b ≡ false)
 either true = inl refl
 either false = inr refl
@@ -42,6 +43,7 @@ module _ (marks : List Bool) where
   abbrev IsNumbered : ℕ → ℕ → ℕ → Type 0
   IsNumbered i n k = (k < i) × HasMark marks k × (n ≡ number_of marks k)
 
+  -- what is numbered before i is numbered before the next
   wider : (i n k : ℕ) → IsNumbered i n k → IsNumbered (suc i) n k
   wider i n k r = (let l = r.0 in omega (arith, l), r.1, r.2)
 
@@ -73,6 +75,7 @@ module _ (marks : List Bool) where
   one-longer i (inl t) = let e = ap length (before-marked i t) in let m = length-append (marked_before marks i) (i ∷ []) in omega (arith, e, m)
   one-longer i (inr f) = let e = ap length (before-other i f) in omega (arith, e)
 
+  -- a later place has no smaller number
   longer : (j i : ℕ) → j ≤ i → number_of marks j ≤ number_of marks i
   longer j zero l = let e : j ≡ 0 = omega (arith, l) in subst (λ x. number_of marks x ≤ 0) (sym e) (omega arith)
   longer j (suc i) l = by (longer j i) (from-or-at j (suc i) l)
@@ -123,6 +126,7 @@ module _ (S : Database) (rows : List Row) (marks : List Bool) (are : AreMarks S 
   abbrev kept : List ℕ
   kept = marked_before marks (length rows)
 
+  -- a marked place is the place of a row
   within : (k : ℕ) → HasMark marks k → k < length rows
   within k h = by (low-or-not k (length marks))
     where
@@ -138,12 +142,14 @@ module _ (S : Database) (rows : List Row) (marks : List Bool) (are : AreMarks S 
   step-of : (k : ℕ) → k < length rows → slice_get (steps_of rows) k ≡ Some (get_or rows k no_row).step
   step-of k l = step-at rows k (get_or rows k no_row) (slice_get-get_or rows k no_row l)
 
+  -- what a marked step takes for a `$e` is kept, at its number
   numbered : (k : ℕ) → HasMark marks k → (i x : ℕ) → slice_get (essential_of S (get_or rows k no_row).step) i ≡ Some x → slice_get kept (number_of marks x) ≡ Some x
   numbered k h i x e =
       let taken : IsEssential S (steps_of rows) x = is_taken k (get_or rows k no_row).step ((are.exact k).0 h) (step-of k (within k h)) (i, e) in
       let m = (are.exact x).1 taken in
       stands-at marks (length rows) x (within x m) m
 
+  -- the row that is written for a marked place is its row, numbered anew
   renumbered : (k : ℕ) → HasMark marks k → IsRenumbered S kept (get_or rows k no_row) (kept_row S rows marks k)
   renumbered k h = record {
     position = refl;

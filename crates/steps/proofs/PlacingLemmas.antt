@@ -23,9 +23,11 @@ module _ (S : Database) (at : ℕ) (names : List Name) (legal : AreLegal S names
   abbrev rows : List Row
   rows = rows_of d
 
+  -- there are as many rows as placed steps
   count : length rows ≡ length d.placed.items
   count = length-map d.placed.items (row_of d.symbols)
 
+  -- a place of a placed step is one of a row
   rows_below : (ks : List ℕ) → AreBelow (length d.placed.items) ks → AreBelow (length rows) ks
   rows_below ks b = subst (λ n. AreBelow n ks) (sym count) b
 
@@ -33,12 +35,15 @@ module _ (S : Database) (at : ℕ) (names : List Name) (legal : AreLegal S names
 
   module _ (step : Step) (rest : List ℕ) (f : Expr) (finds : Finds d new step rest) (low : AreBelow (length d.placed.items) rest)
       (gives : (row : Row) → row.step ≡ step → Follows S at names rows row → decode names row.expr ≡ f) where
+    -- where the step was found, the rows stay
     same_rows : rows_of new ≡ rows
     same_rows = ap (λ s. map (row_of s) new.placed.items) finds.symbols ∙ ap (map (row_of d.symbols)) finds.placed
 
+    -- it stands where it was found
     at_step : slice_get (steps_of rows) finds.place ≡ Some step
     at_step = is.known.there step finds.place finds.found
 
+    -- the place where it was found is in the table
     found_low : finds.place < length d.placed.items
     found_low = let l = slice_get_within (steps_of rows) finds.place step at_step in let m = length-map rows (λ r. r.step) in let n = count in omega (arith, l, m, n)
 
@@ -71,20 +76,25 @@ module _ (S : Database) (at : ℕ) (names : List Name) (legal : AreLegal S names
     abbrev row : Row
     row = record { step = step; expr = e }
 
+    -- the rows are those before, and the new one
     more_rows : rows_of new ≡ rows ++ row ∷ []
     more_rows =
         ap (map (row_of new.symbols)) makes.placed
         ∙ rows-more d.symbols e new.symbols d.placed.items makes.made step is.inside makes.symbols makes.start makes.end makes.is_position makes.is_taken
 
+    -- the steps are those before, and the new one
     more_steps : steps_of (rows_of new) ≡ steps_of rows ++ step ∷ []
     more_steps = ap steps_of more_rows ∙ map-push (λ r. r.step) rows row
 
+    -- there are as many steps as were placed
     steps_count : length (steps_of rows) ≡ length d.placed.items
     steps_count = length-map rows (λ r. r.step) ∙ count
 
+    -- one step more is placed
     longer : length new.placed.items ≡ length d.placed.items + 1
     longer = ap length makes.placed ∙ length-append d.placed.items (makes.made ∷ [])
 
+    -- the new step stood nowhere
     fresh : (k : ℕ) → slice_get (steps_of rows) k ≡ Some step → ⊥
     fresh k h = let x = is.known.all step k h in let y = makes.fresh in cc
 

@@ -1,7 +1,7 @@
 -- How far the items were noted, and that the rest of them runs through.
 use Rattle.std.specs.Prelude.{◌≡◌, ℕ, zero, suc, ◌-◌, ◌+◌, ◌<◌, ◌≤◌, List, [], ◌∷◌, length, map, take, drop, get_or, Some, refl}
 use Rattle.std.proofs.Common.{sym, ◌∙◌, ap, subst, arith}
-use Rattle.std.proofs.lemmas.List.{length-map}
+use Rattle.std.proofs.lemmas.List.{length-map, drop_all}
 use Rattle.mm_lex.specs.Alphabet.{Name}
 use Rattle.mm_read.specs.declared.stmt.Stmt.{Stmt}
 use Rattle.mm_read.specs.Statements.{Expr, Database}
@@ -25,12 +25,6 @@ drop-more : (labels : List Name) (xs : List ℕ) (i : ℕ) → i < length xs →
 drop-more labels [] i h = absurd (omega (arith, h))
 drop-more labels (x ∷ xs) zero h = refl
 drop-more labels (x ∷ xs) (suc i) h = let e : suc i + 1 ≡ suc (i + 1) = omega arith in drop-more labels xs i (omega (arith, h)) ∙ ap (λ k. item_of labels (get_or xs i 0) ∷ map (item_of labels) (drop k (x ∷ xs))) (sym e)
-
-drop-end : (xs : List ℕ) (i : ℕ) → length xs ≤ i → drop i xs ≡ []
-drop-end [] zero h = refl
-drop-end [] (suc i) h = refl
-drop-end (x ∷ xs) zero h = absurd (omega (arith, h))
-drop-end (x ∷ xs) (suc i) h = drop-end xs i (omega (arith, h))
 
 module _ (S : Database) (at : ℕ) (names : List Name) where
   pub record Reached (labels : List Name) (numbers : List ℕ) (i : ℕ) (d : Draft) : Type 0 where
@@ -84,8 +78,9 @@ module _ (S : Database) (at : ℕ) (names : List Name) where
 
   -- all were done
   module _ (labels : List Name) (numbers : List ℕ) (items : List Item) (i : ℕ) (d : Draft) (same : items_of labels numbers ≡ items) (h : length numbers ≤ i) (r : Reached labels numbers i d) where
+    -- the run is at its end
     over : r.state ≡ r.end
-    over = subst (λ is. Runs S at r.state is r.end) (ap (map (item_of labels)) (drop-end numbers i h)) r.rest
+    over = subst (λ is. Runs S at r.state is r.end) (ap (map (item_of labels)) (drop_all i numbers h)) r.rest
 
     noted-all : NotesAll S at (progress [] [] []) items (progress_of d)
     noted-all = subst (λ is. NotesAll S at (progress [] [] []) is (progress_of d)) (all-taken (item_of labels) numbers i h ∙ same) r.noted
@@ -93,6 +88,7 @@ module _ (S : Database) (at : ℕ) (names : List Name) where
     one-left : map (expr_in names (rows_of d)) d.stack.items ≡ expr_of r.stmt ∷ []
     one-left = r.tied.stack ∙ (ap (λ s. s.stack) over ∙ r.ends)
 
+    -- a stack of one expression is one place, whose row has it
     root : (xs : List ℕ) (e : Expr) → map (expr_in names (rows_of d)) xs ≡ e ∷ [] → (n : ℕ) × (xs ≡ n ∷ []) × (expr_in names (rows_of d) n ≡ e)
     root [] e q = cc
     root (x ∷ []) e q = (x, refl, (let p : expr_in names (rows_of d) x ≡ e = cc in p))

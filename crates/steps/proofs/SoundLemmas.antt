@@ -33,6 +33,7 @@ some-split (y ∷ xs) ys (suc k) x h = some-split xs ys k x h
 
 module _ (p q : Progress) (is : IsSound p) (below : List ℕ) (step : Step) (n : ℕ) (low : AreBelow (length p.steps) below) (low_taken : AreBelow (length p.steps) step.taken)
     (waits : (k x : ℕ) → slice_get p.stack k ≡ Some x → (slice_get below k ≡ Some x) ⊎ ((j : ℕ) × (slice_get step.taken j ≡ Some x))) (stack : q.stack ≡ below ++ n ∷ []) (saved : q.saved ≡ p.saved) where
+  -- with a step that stood already all stays sound
   stood : slice_get p.steps n ≡ Some step → q.steps ≡ p.steps → IsSound q
   stood h same = record {
     stack_below = subst (λ s. AreBelow (length s) q.stack) (sym same) (subst (AreBelow (length p.steps)) (sym stack) (below-push (length p.steps) below n low (slice_get_within p.steps n step h)));
@@ -52,6 +53,7 @@ module _ (p q : Progress) (is : IsSound p) (below : List ℕ) (step : Step) (n :
               let y = slice_get_within p.steps n step h in
               absurd (omega (arith, x, y, e))
 
+  -- with a new step behind all others all stays sound
   added : ((k : ℕ) → slice_get p.steps k ≡ Some step → ⊥) → n ≡ length p.steps → q.steps ≡ p.steps ++ step ∷ [] → IsSound q
   added fresh place more =
       let len : length q.steps ≡ suc (length p.steps) = (let l = length-append p.steps (step ∷ []) in let m = ap length more in omega (arith, l, m)) in
@@ -73,11 +75,13 @@ module _ (p q : Progress) (is : IsSound p) (below : List ℕ) (step : Step) (n :
       once j k s (inr (e, same)) (inl f) = absurd (fresh k (f ∙ ap Some same))
       once j k s (inr (e, same)) (inr (f, same')) = e ∙ sym f
 
+  -- so it does with a step that is placed, either way
   pub cited : IsPlaced p.steps step q.steps n → IsSound q
   cited (stands h same) = stood h same
   cited (comes_last fresh place more) = added fresh place more
 
 module _ (S : Database) (at : ℕ) where
+  -- after a citation all is sound
   cites : (p q : Progress) (label : Name) → IsSound p → Notes S at p (Cite label) q → IsSound q
   cites p q label is (below, step, n, makes, placed, stack, saved) = by makes
     where
@@ -88,6 +92,7 @@ module _ (S : Database) (at : ℕ) where
           let b = below-split (length p.steps) below step.taken (subst (AreBelow (length p.steps)) whole is.stack_below) in
           cited p q is below step n b.0 b.1 (λ k x h. some-split below step.taken k x (ap (λ v. slice_get v k) (sym whole) ∙ h)) stack saved placed
 
+  -- after a recall all is sound
   recalls : (p : Progress) (n : ℕ) → IsSound p → n < length p.steps → IsSound (progress p.steps (p.stack ++ n ∷ []) p.saved)
   recalls p n is low = record {
     stack_below = below-push (length p.steps) p.stack n is.stack_below low;
@@ -97,6 +102,7 @@ module _ (S : Database) (at : ℕ) where
     last = λ m e. let r = is.last m e in (r.0, some-more p.stack n r.0 m r.1);
   }
 
+  -- after a mark all is sound
   marks : (p : Progress) (n : ℕ) → IsSound p → n < length p.steps → IsSound (progress p.steps p.stack (p.saved ++ n ∷ []))
   marks p n is low = record {
     stack_below = is.stack_below;

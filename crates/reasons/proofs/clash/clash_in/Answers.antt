@@ -1,4 +1,4 @@
-use Rattle.std.proofs.Common.{◌∙◌, ◌+◌, length, get_or, sym, ap, subst, arith}
+use Rattle.std.proofs.Common.{◌∙◌, ◌+◌, length, get_or, sym, ap, subst, arith, length-take-le}
 use Rattle.mm_lex.specs.Alphabet.{has_name}
 use Rattle.names.specs.Codes.{decode}
 use Rattle.frame.specs.Substitution.{code_image}
@@ -7,7 +7,7 @@ use Rattle.reasons.specs.Images.{named_images}
 use Rattle.reasons.specs.Clashes.{IsClashWith, is_other_apart}
 use Rattle.std.specs.List.{list_all}
 use Rattle.reasons.proofs.ClashLemmas.{has_at, all_step}
-use Rattle.reasons.proofs.BesideLemmas.{image_within, image_beside, lies_behind, front_length}
+use Rattle.reasons.proofs.BesideLemmas.{image_within, image_beside, lies_behind}
 use Rattle.reasons.proofs.clash.clash_in.Goals as goal
 use Rattle.frame.proofs.ApartLemmas.{below-at}
 
@@ -26,7 +26,7 @@ slice_bounds-before-end c =
     let told = rw c.in-Some.is at c.in_ok-written.ensures in
     let w = image_within (code_images c.args.images.now) c.args.group.now c.in-Some.written.items c.loop-first.first-index c.loop-first.start (length c.image_or-image.result.now) told.0 c.loop-first-test.true c.loop-first.invariant.start (ap length c.image_or-image.ensures) in
     let long = ap length c.as_slice-joined.ensures.value in
-    let front = front_length c.as_slice-joined.result.now c.loop-first.start (omega (arith, w, long)) in
+    let front = length-take-le c.loop-first.start c.as_slice-joined.result.now (omega (arith, w, long)) in
     omega (arith, w, long, front)
 
 pub slice_bounds-behind-start : goal.slice_bounds-behind-start

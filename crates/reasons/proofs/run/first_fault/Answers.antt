@@ -1,10 +1,9 @@
-use Rattle.std.proofs.Common.{◌≡◌, ◌∙◌, sym, ap, subst, get_or, length, take, slice_get, List, arith}
+use Rattle.std.proofs.Common.{◌≡◌, ◌∙◌, sym, ap, subst, get_or, length, take, slice_get, List, arith, take_all}
 use Rattle.proof_code.specs.declared.item.Item.{Item}
 use Rattle.proof_code.specs.Numbers.{items_of, item_of}
 use Rattle.reasons.specs.Stored.Kept.{AreSymbols}
 use Rattle.reasons.specs.Run.{held, nothing, Runs}
 use Rattle.frame.specs.Reading.{ArePositions}
-use Rattle.reasons.proofs.StateLemmas.{take_whole}
 use Rattle.reasons.proofs.ItemLemmas.{runs_more, take-items, item-at, items-more, end_told}
 use Rattle.reasons.proofs.run.first_fault.Goals as goal
 
@@ -52,7 +51,7 @@ returns c s e =
     let run = c.loop-item.invariant.runs in let labels = run.0 in
     let numbers = c.parts-parts.result.numbers.now in let k = c.loop-item.item in
     let all : k ≡ length numbers = omega arith in
-    let whole = ap (items_of labels) (take_whole numbers k all) ∙ run.2 in
+    let whole = ap (items_of labels) (take_all k numbers (omega (arith, all))) ∙ run.2 in
     end_told S names c.args.at s c.args.items.now c.loop-item.state c.expr.result.now c.as_slice-2.result.now c.end.result c.in_ok-positions.ensures.legal.distinct
     (subst (λ l. AreSymbols (length names) l) (sym c.as_slice-2.ensures.value) c.loop-item.invariant.symbols)
     c.expr.ensures.codes (c.expr.ensures.same s e) c.as_slice-2.ensures.value

@@ -2,7 +2,8 @@ use Rattle.std.proofs.Common.{◌≡◌, ◌↔◌, ◌++◌, ◌∙◌, true, f
 use Rattle.proof_code.specs.Numbers.{items_of}
 use Rattle.verify.specs.Proves.{mandatory_labels}
 use Rattle.library.specs.Marks.{ItemsMeet}
-use Rattle.library.proofs.MeetingLemmas.{if-map, labels-long, mandatory-wanted, tells-heading, tells-nothing}
+use Rattle.library.proofs.MeetingLemmas.{labels-long, mandatory-wanted, tells-heading, tells-nothing}
+use Rattle.library.proofs.ProvingLemmas.{if-map}
 use Rattle.library.proofs.users.Search.compressed_meets.Goals as goal
 
 pub returns-in_default : goal.returns-in_default

@@ -1,6 +1,7 @@
 use Rattle.std.proofs.Common.{◌∙◌, sym}
 use Rattle.library.proofs.ItemsLemmas.{has-assertion}
-use Rattle.library.proofs.MeetingLemmas.{told-meets, listed-meets, if-map}
+use Rattle.library.proofs.MeetingLemmas.{told-meets, listed-meets}
+use Rattle.library.proofs.ProvingLemmas.{if-map}
 use Rattle.library.proofs.users.Search.meets.Goals as goal
 
 pub compressed_meets-requires-clause-assertion : goal.compressed_meets-requires-clause-assertion
