@@ -9,11 +9,8 @@ ghost use Rattle.explain.specs.Breaks.{IsFirst, IsBreak, fails, joined};
 use crate::letters::letter_break;
 use crate::why::CodeBreak;
 use mm_lex::{WordIter, Words, is_label};
-use proof_code::is_compressed;
+use proof_code::{MOST_LETTERS, is_compressed};
 use std::alloc::{AllocError, Global};
-
-/// The most tokens and the most letters of one proof; more are answered as want of memory.
-const MOST: usize = 1 << 30;
 
 /// What may be wrong with a token of a proof.
 #[derive(Clone, Copy, Drop)]
@@ -35,7 +32,7 @@ pub(crate) fn code_break(
     requires { (items : List Item) → ¬ Writes tokens.now mandatory.now items }
     ensures { IfOk result (IsBreak tokens.now mandatory.now) }
 {
-    if tokens.len() > MOST {
+    if tokens.len() > MOST_LETTERS {
         return Err(AllocError);
     }
     if let Some((token, _)) = first_of(&mut tokens.iter(), mandatory, Test::Unfinished) {
@@ -62,7 +59,7 @@ fn compressed_break(
     requires none { (items : List Item) → ¬ Writes tokens.now mandatory.now items }
     ensures { IfOk result (IsBreak tokens.now mandatory.now) }
 {
-    if mandatory.len() > MOST {
+    if mandatory.len() > MOST_LETTERS {
         return Err(AllocError);
     }
     let mut words = tokens.iter();
@@ -72,7 +69,7 @@ fn compressed_break(
     };
     if word == b")".as_slice() {
         let letters = join(alloc, &mut words)?;
-        if letters.len() > MOST {
+        if letters.len() > MOST_LETTERS {
             return Err(AllocError);
         }
         return match letter_break(letters.as_slice(), mandatory.len() + listed) {

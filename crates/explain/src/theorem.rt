@@ -1,5 +1,5 @@
 //! The reason why a `$p` is not proved.
-ghost use Rattle.std.specs.Prelude.{◌≡◌, ◌⊎◌, List, Ok, Err, IfOk, IfSome, IsTrue, MatchOption};
+ghost use Rattle.std.specs.Prelude.{◌≡◌, List, IfOk, IfSome, IsTrue, MatchOption};
 ghost use Rattle.std.specs.List.{list_all};
 ghost use Rattle.mm_lex.specs.Alphabet.{is_visible};
 ghost use Rattle.mm_lex.specs.Words.{is_word};
@@ -14,7 +14,7 @@ use crate::code::code_break;
 use crate::why::WhyUnproved;
 use frame::Frames;
 use mm_lex::Words;
-use proof_code::{CodeFault, Items, is_compressed, normal, packed};
+use proof_code::{Items, is_compressed, normal, packed, written};
 use reasons::first_fault;
 use std::alloc::{AllocError, Global};
 use verify::{Answer, Checker};
@@ -68,19 +68,6 @@ fn items_of(alloc: Global, tokens: &Words, mandatory: &Words) -> Result<Option<I
         written(packed(alloc, tokens, mandatory))
     } else {
         written(normal(alloc, tokens))
-    }
-}
-
-/// The items, or none where the tokens write none.
-fn written(items: Result<Items, CodeFault>) -> Result<Option<Items>, AllocError>
-    ensures { IfOk result (λ found. MatchOption found
-        ((items ≡ Err CodeFault.Unfinished) ⊎ (items ≡ Err CodeFault.Malformed)) (λ found. items ≡ Ok found)) }
-{
-    match items {
-        Ok(items) => Ok(Some(items)),
-        Err(CodeFault::Unfinished) => Ok(None),
-        Err(CodeFault::Malformed) => Ok(None),
-        Err(CodeFault::Memory) => Err(AllocError),
     }
 }
 

@@ -3,7 +3,7 @@ ghost use Rattle.std.specs.Prelude.{◌≡◌, option_map};
 ghost use Rattle.scope.specs.Active.{stmt_at};
 
 use crate::cited::{is_marked, mark, named};
-use crate::wanted::is_assertion;
+use frame::is_assertion;
 use library::Library;
 use mm_lex::Words;
 use mm_read::Stmt;

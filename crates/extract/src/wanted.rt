@@ -8,7 +8,7 @@ ghost use Rattle.extract.specs.declared.fault.ExtractFault.{ExtractFault as Faul
 ghost use Rattle.extract.specs.Wanted.{AreRight, IsFirstWrong, IsJudged};
 
 use crate::fault::ExtractFault;
-use frame::Frames;
+use frame::{Frames, is_assertion};
 use mm_read::Stmt;
 
 /// What is wrong with the first label that is no assertion's, or that stands before; none where nothing is. Takes no memory.
@@ -64,13 +64,6 @@ fn is_assertion_at(statements: &[Stmt], at: usize) -> bool
     ensures { (s : Statement) → stmt_at statements.now at ≡ Some s → result ≡ is_assertion s }
 {
     is_assertion(&statements[at - 1])
-}
-
-/// Whether it is a `$a` or a `$p`.
-pub(crate) fn is_assertion(statement: &Stmt) -> bool
-    ensures { result ≡ is_assertion statement.now }
-{
-    matches!(statement, Stmt::Axiom { .. } | Stmt::Prove { .. })
 }
 
 /// Whether the label stands among these.

@@ -38,3 +38,4 @@ pub use laws::groups_are_pairs;
 pub use meaning::Meaning;
 pub use one_frame::frame;
 pub use pairs::Pairs;
+pub use shape::is_assertion;

@@ -1,5 +1,5 @@
 //! The items that the tokens of a proof write.
-ghost use Rattle.std.specs.Prelude.{◌≡◌, ℕ, ◌<◌, ◌≤◌, ◌⊎◌, Some, None, Ok, Err, map, length, IfOk, MatchOption, IsTrue};
+ghost use Rattle.std.specs.Prelude.{◌≡◌, ℕ, ◌<◌, ◌≤◌, Some, None, map, length, IfOk, MatchOption, IsTrue};
 ghost use Rattle.std.specs.List.{list_any};
 ghost use Rattle.mm_lex.specs.Words.{is_word};
 ghost use Rattle.mm_read.specs.declared.stmt.Stmt.{Stmt as Statement};
@@ -13,7 +13,7 @@ ghost use Rattle.verify.specs.Right.{IsProvable};
 use frame::Frames;
 use mm_lex::Words;
 use mm_read::Stmt;
-use proof_code::{CodeFault, Items, is_compressed, normal, packed};
+use proof_code::{Items, is_compressed, normal, packed, written};
 use std::alloc::{AllocError, Global};
 
 /// The items that the tokens of the `$p` at a position write; none where they write none.
@@ -35,19 +35,6 @@ pub(crate) fn items_of(
         written(packed(alloc, tokens, &labels))
     } else {
         written(normal(alloc, tokens))
-    }
-}
-
-/// The items, or none where the tokens write none.
-fn written(items: Result<Items, CodeFault>) -> Result<Option<Items>, AllocError>
-    ensures { IfOk result (λ found. MatchOption found
-        ((items ≡ Err CodeFault.Unfinished) ⊎ (items ≡ Err CodeFault.Malformed)) (λ found. items ≡ Ok found)) }
-{
-    match items {
-        Ok(items) => Ok(Some(items)),
-        Err(CodeFault::Unfinished) => Ok(None),
-        Err(CodeFault::Malformed) => Ok(None),
-        Err(CodeFault::Memory) => Err(AllocError),
     }
 }
 
@@ -91,7 +78,7 @@ pub(crate) fn is_unfinished(statement: &Stmt) -> bool
     ensures { result ≡ is_unfinished (proof_of statement.now) }
 {
     match statement {
-        Stmt::Prove { proof, .. } => proof.iter().any(|token| token.contains(&b'?')),
+        Stmt::Prove { proof, .. } => proof_code::is_unfinished(proof),
         _ => false,
     }
 }

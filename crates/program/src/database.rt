@@ -44,7 +44,7 @@ pub fn print_outline<I: Read, O: Write, F: Write>(
 }
 
 /// Prints why a text was not read; the answer is the exit status.
-fn print_failure<O: Write>(output: &mut O, failure: ReadFailure) -> u8 {
+pub(crate) fn print_failure<O: Write>(output: &mut O, failure: ReadFailure) -> u8 {
     match failure {
         ReadFailure::Input => print(output, b"refused Input\n", 1),
         ReadFailure::Memory => print_no_memory(output),

@@ -1,5 +1,6 @@
 //! The script of a command, from its input.
-use crate::streams::{ReadFailure, print, print_no_memory, read_all};
+use crate::database::print_failure;
+use crate::streams::{ReadFailure, print, read_all};
 use scripts::{Line, ScriptFault, parse_script};
 use std::alloc::Global;
 use std::io::{Read, Write};
@@ -31,8 +32,8 @@ pub fn read_script<L: Line, I: Read>(alloc: Global, input: &mut I) -> Result<Vec
 /// Prints why there is no script to run; the answer is the exit status.
 pub fn print_unread<O: Write>(output: &mut O, unread: Unread) -> u8 {
     match unread {
-        Unread::Input => print(output, b"refused Input\n", 1),
-        Unread::Memory => print_no_memory(output),
+        Unread::Input => print_failure(output, ReadFailure::Input),
+        Unread::Memory => print_failure(output, ReadFailure::Memory),
         Unread::BadLine { number } => {
             if writeln!(output, "bad line {number}").is_err() {
                 return 1;

@@ -1,8 +1,10 @@
 //! Why tokens write no items.
-ghost use Rattle.std.specs.Prelude.{◌≡◌, if◌then◌else◌};
+ghost use Rattle.std.specs.Prelude.{◌≡◌, ◌⊎◌, Ok, Err, if◌then◌else◌, IfOk, MatchOption};
 ghost use Rattle.proof_code.specs.Writes.{is_unfinished};
 
+use crate::items::Items;
 use mm_lex::Words;
+use std::alloc::AllocError;
 
 /// Why tokens write no items.
 #[derive(Clone, Copy, Debug, Drop, PartialEq, Eq)]
@@ -15,13 +17,33 @@ pub enum CodeFault {
     Memory,
 }
 
+/// Whether some token has the byte `?`.
+pub fn is_unfinished(tokens: &Words) -> bool
+    ensures { result ≡ is_unfinished tokens.now }
+{
+    tokens.as_text().contains(&b'?')
+}
+
 /// Why tokens that write no items do not.
 pub(crate) fn code_fault(tokens: &Words) -> CodeFault
     ensures { result ≡ (if is_unfinished tokens.now then CodeFault.Unfinished else CodeFault.Malformed) }
 {
-    if tokens.as_text().contains(&b'?') {
+    if is_unfinished(tokens) {
         CodeFault::Unfinished
     } else {
         CodeFault::Malformed
+    }
+}
+
+/// The items, or none where the tokens write none.
+pub fn written(items: Result<Items, CodeFault>) -> Result<Option<Items>, AllocError>
+    ensures { IfOk result (λ found. MatchOption found
+        ((items ≡ Err CodeFault.Unfinished) ⊎ (items ≡ Err CodeFault.Malformed)) (λ found. items ≡ Ok found)) }
+{
+    match items {
+        Ok(items) => Ok(Some(items)),
+        Err(CodeFault::Unfinished) => Ok(None),
+        Err(CodeFault::Malformed) => Ok(None),
+        Err(CodeFault::Memory) => Err(AllocError),
     }
 }

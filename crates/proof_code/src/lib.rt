@@ -24,9 +24,9 @@ mod numbers;
 mod reader;
 
 pub use compressed_proof::{is_compressed, packed};
-pub use fault::CodeFault;
+pub use fault::{CodeFault, is_unfinished, written};
 pub use item::Item;
 pub use items::{Items, Parts};
 pub use laws::{numbers_by_formula, one_answer, one_list_of_items};
 pub use normal_proof::normal;
-pub use reader::{Heading, Reader};
+pub use reader::{Heading, MOST_LETTERS, Reader};

@@ -14,7 +14,7 @@ use std::alloc::{AllocError, Global};
 use std::marker::Model;
 
 /// The most labels and the most letters of one proof; more are answered as want of memory.
-const MOST: usize = 1 << 30;
+pub const MOST_LETTERS: usize = 1 << 30;
 
 /// Reads compressed proofs, one after another. Contracts see the numbers of the last one.
 #[derive(Drop)]
@@ -85,7 +85,7 @@ impl Reader {
         if starts_with_mark(letters) {
             return Ok(None);
         }
-        if mandatory > MOST || count > MOST || letters.len() > MOST {
+        if mandatory > MOST_LETTERS || count > MOST_LETTERS || letters.len() > MOST_LETTERS {
             return Err(AllocError);
         }
         match self.read_letters(letters, mandatory + count)? {

@@ -22,7 +22,7 @@ use Rattle.reasons.specs.Stored.Kept.{named, AreSymbols}
 use Rattle.reasons.specs.Steps.{IsRecalled, FailsToRecall}
 use Rattle.reasons.specs.Run.{Held, held, CitesTo, Steps, Runs}
 use Rattle.reasons.specs.FirstFault.{FailsAt, FailsCited, Fails, RunsWell, RunsTo, IsFirstFault, IsAlone, IsEndFault}
-use Rattle.reasons.specs.declared.state.TheConstants.{WEIGHT_LIMIT}
+use Rattle.subst.specs.declared.buffer.TheConstants.{SYMBOLS_LIMIT}
 use Rattle.reasons.proofs.RunLemmas.{pushed_to}
 use Rattle.reasons.proofs.NamedLemmas.{decode-same}
 use Rattle.std.proofs.lemmas.List.{length-map}
@@ -75,7 +75,7 @@ recall_told S names at old new index item (Ok (Some Unmarked)) is told =
     subst (λ i. Fails S names at (held names old) i Unmarked) (sym is) (λ e h. none-at names old.marked.items index e told h)
 recall_told S names at old new index item (Ok (Some Heavy)) is told =
     subst (λ i. Fails S names at (held names old) i Heavy) (sym is)
-    (decode names told.0.items, named-at names old.marked.items index told.0 told.1, subst (λ n. WEIGHT_LIMIT < old.weight + n) (sym (length-map told.0.items (name_at names))) told.2)
+    (decode names told.0.items, named-at names old.marked.items index told.0 told.1, subst (λ n. SYMBOLS_LIMIT < old.weight + n) (sym (length-map told.0.items (name_at names))) told.2)
 recall_told S names at old new index item (Ok (Some Unknown)) is told = absurd told
 recall_told S names at old new index item (Ok (Some (Inactive i))) is told = absurd told
 recall_told S names at old new index item (Ok (Some (Later i))) is told = absurd told

@@ -23,7 +23,7 @@ use Rattle.reasons.specs.Steps.{IsPushed}
 use Rattle.reasons.specs.Concluded.{AreTaken, images_of, IsWrong}
 use Rattle.reasons.specs.Run.{Held, held, Gives, of_assertion, with_result, CitesTo}
 use Rattle.reasons.specs.FirstFault.{FailsAt}
-use Rattle.reasons.specs.declared.state.TheConstants.{WEIGHT_LIMIT}
+use Rattle.subst.specs.declared.buffer.TheConstants.{SYMBOLS_LIMIT}
 
 pub named-append : (names : List Name) (xs ys : List (Vec ℕ)) → named names (xs ++ ys) ≡ named names xs ++ named names ys
 named-append names [] ys = refl
@@ -105,7 +105,7 @@ pushed_to names old mid new v below stays marked weight is =
 
 -- what a push comes to
 pub pushed_told : (S : Database) (names : List Name) (at i : ℕ) (s : Stmt) (old mid new : State) (v : Vec ℕ) (below : List Expr) (res : Result (Option Fault) AllocError)
-    → IfOk res (λ r. MatchOption r (IsPushed mid new v) (λ f. (f ≡ Heavy) × (WEIGHT_LIMIT < mid.weight + length v.items)))
+    → IfOk res (λ r. MatchOption r (IsPushed mid new v) (λ f. (f ≡ Heavy) × (SYMBOLS_LIMIT < mid.weight + length v.items)))
     → named names mid.stack.items ≡ below → mid.marked.items ≡ old.marked.items → mid.weight ≡ old.weight → Gives S at i s (held names old).stack below (decode names v.items)
     → IfOk res (λ r. MatchOption r (CitesTo S at i s (held names old) (held names new)) (FailsAt S names at (held names old) i s))
 pushed_told S names at i s old mid new v below (Err e) told stays marked weight gives = tt
@@ -121,10 +121,10 @@ pushed_told S names at i s old mid new v below (Ok (Some f)) told stays marked w
     })
 
 -- wrong results are a fault
-pub wrong_fails : (S : Database) (names : List Name) (at a : ℕ) (s : Stmt) (h : Held) (below rs : List Expr) (fault : Fault) → h.weight ≤ WEIGHT_LIMIT → h.stack ≡ below ++ rs
+pub wrong_fails : (S : Database) (names : List Name) (at a : ℕ) (s : Stmt) (h : Held) (below rs : List Expr) (fault : Fault) → h.weight ≤ SYMBOLS_LIMIT → h.stack ≡ below ++ rs
     → length rs ≡ length (hypotheses (before S a) s) → a < at → HasAssertion S a s
     → ((k p : ℕ) (l c x : Name) → slice_get (hypotheses (before S a) s) k ≡ Some p → stmt_at S p ≡ Some (stmt.Float l c x) → is_variable (before S a) x ≡ true)
-    → IsWrong S names at a s rs (WEIGHT_LIMIT - h.weight) fault → FailsAt S names at h a s fault
+    → IsWrong S names at a s rs (SYMBOLS_LIMIT - h.weight) fault → FailsAt S names at h a s fault
 wrong_fails S names at a s h below rs Unknown light whole count earlier stands variable wrong = absurd wrong
 wrong_fails S names at a s h below rs (Inactive i) light whole count earlier stands variable wrong = absurd wrong
 wrong_fails S names at a s h below rs (Later i) light whole count earlier stands variable wrong = absurd wrong

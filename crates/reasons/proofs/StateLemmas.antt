@@ -7,7 +7,7 @@ use Rattle.std.proofs.lemmas.Slice.Eq.{bytes_eq-Decides}
 use Rattle.std.specs.Global.{Vec}
 use Rattle.std.proofs.Math.Seq.{take-suc}
 use Rattle.reasons.specs.declared.state.State.{State}
-use Rattle.reasons.specs.declared.state.TheConstants.{WEIGHT_LIMIT}
+use Rattle.subst.specs.declared.buffer.TheConstants.{SYMBOLS_LIMIT}
 use Rattle.reasons.specs.declared.reason.Fault.{Fault}
 use Rattle.reasons.specs.declared.reason.Fault.TheVariants.{Heavy}
 use Rattle.reasons.specs.Steps.{IsPushed, IsRecalled, FailsToRecall}
@@ -26,13 +26,13 @@ module _ {A : Type 0} where
 
 -- what is told of the push of a copy is told of the recall
 pub recalled_told : (old new : State) (index : ℕ) (one copy : Vec ℕ) (res : Result (Option Fault) AllocError)
-    → IfOk res (λ r. MatchOption r (IsPushed old new copy) (λ f. (f ≡ Heavy) × (WEIGHT_LIMIT < old.weight + length copy.items)))
+    → IfOk res (λ r. MatchOption r (IsPushed old new copy) (λ f. (f ≡ Heavy) × (SYMBOLS_LIMIT < old.weight + length copy.items)))
     → slice_get old.marked.items index ≡ Some one → copy.items ≡ one.items
     → IfOk res (λ r. MatchOption r (IsRecalled old new index) (FailsToRecall old index))
 recalled_told old new index one copy (Err e) told there same = tt
 recalled_told old new index one copy (Ok None) told there same = record { marked_one = one; copy = copy; there = there; same = same; pushed = told }
 recalled_told old new index one copy (Ok (Some f)) told there same =
-    subst (λ fault. FailsToRecall old index fault) (sym told.0) (one, there, subst (λ (xs : List ℕ). WEIGHT_LIMIT < old.weight + length xs) same told.1)
+    subst (λ fault. FailsToRecall old index fault) (sym told.0) (one, there, subst (λ (xs : List ℕ). SYMBOLS_LIMIT < old.weight + length xs) same told.1)
 
 -- a list of one element is its first element alone
 pub single : {A : Type 0} (xs : List A) (x : A) → length xs ≡ 1 → x ≡ get_or xs 0 x → xs ≡ x ∷ []

@@ -16,7 +16,7 @@ use Rattle.reasons.specs.declared.reason.Fault.{Fault}
 use Rattle.reasons.specs.declared.reason.Fault.TheVariants.{Unknown, Inactive, Later, Few, Constant, Expression, Together, Heavy, Unmarked}
 use Rattle.reasons.specs.declared.reason.Reason.{Reason}
 use Rattle.reasons.specs.declared.reason.Reason.TheVariants as reason
-use Rattle.reasons.specs.declared.state.TheConstants.{WEIGHT_LIMIT}
+use Rattle.subst.specs.declared.buffer.TheConstants.{SYMBOLS_LIMIT}
 use Rattle.reasons.specs.Concluded.{IsWrong}
 use Rattle.reasons.specs.Run.{Held, nothing, Gives, IsMarked, Runs}
 
@@ -26,14 +26,14 @@ pub record AreWrong (S : Database) (names : List Name) (at : ℕ) (h : Held) (a 
   pub results : List Expr
   pub whole : h.stack ≡ below ++ results
   pub count : length results ≡ length (hypotheses (before S a) s)
-  pub wrong : IsWrong S names at a s results (WEIGHT_LIMIT - h.weight) fault
+  pub wrong : IsWrong S names at a s results (SYMBOLS_LIMIT - h.weight) fault
 
 -- it gives a result that makes the proof too heavy
 pub record IsHeavy (S : Database) (at : ℕ) (h : Held) (i : ℕ) (s : Stmt) : Type 0 where
   pub below : List Expr
   pub result : Expr
   pub gives : Gives S at i s h.stack below result
-  pub heavy : WEIGHT_LIMIT < h.weight + length result
+  pub heavy : SYMBOLS_LIMIT < h.weight + length result
 
 -- what fails where the statement s at i is cited
 abbrev pub FailsAt : Database → List Name → ℕ → Held → ℕ → Stmt → Fault → Type 0
@@ -54,7 +54,7 @@ FailsCited S names at h label fault = (i : ℕ) × (s : Stmt) × Carries S i s l
 
 abbrev pub FailsRecalled : Held → ℕ → Fault → Type 0
 FailsRecalled h k Unmarked = (e : Expr) → IsMarked h.marked k e → ⊥
-FailsRecalled h k Heavy = (e : Expr) × IsMarked h.marked k e × (WEIGHT_LIMIT < h.weight + length e)
+FailsRecalled h k Heavy = (e : Expr) × IsMarked h.marked k e × (SYMBOLS_LIMIT < h.weight + length e)
 FailsRecalled h k fault = ⊥
 
 abbrev pub FailsMarked : Held → Fault → Type 0
@@ -69,7 +69,7 @@ Fails S names at h Mark fault = FailsMarked h fault
 -- the items run to this, within the limit
 pub record RunsWell (S : Database) (at : ℕ) (items : List Item) (h : Held) : Type 0 where
   pub runs : Runs S at nothing items h
-  pub light : h.weight ≤ WEIGHT_LIMIT
+  pub light : h.weight ≤ SYMBOLS_LIMIT
 
 -- the items run to the expression alone
 abbrev pub RunsTo : Database → ℕ → List Item → Expr → Type 0

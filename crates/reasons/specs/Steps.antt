@@ -6,7 +6,7 @@ use Rattle.reasons.specs.declared.reason.Fault.{Fault}
 use Rattle.reasons.specs.declared.reason.Fault.TheVariants.{Unmarked, Heavy}
 use Rattle.std.specs.Global.{Vec}
 use Rattle.reasons.specs.declared.state.State.{State}
-use Rattle.reasons.specs.declared.state.TheConstants.{WEIGHT_LIMIT}
+use Rattle.subst.specs.declared.buffer.TheConstants.{SYMBOLS_LIMIT}
 
 -- one result more
 pub record IsPushed (old new : State) (expr : Vec ℕ) : Type 0 where
@@ -36,5 +36,5 @@ pub record IsRecalled (old new : State) (index : ℕ) : Type 0 where
 -- there is none, or it is too long
 abbrev pub FailsToRecall : State → ℕ → Fault → Type 0
 FailsToRecall old index Unmarked = length old.marked.items ≤ index
-FailsToRecall old index Heavy = (e : Vec ℕ) × (slice_get old.marked.items index ≡ Some e) × (WEIGHT_LIMIT < old.weight + length e.items)
+FailsToRecall old index Heavy = (e : Vec ℕ) × (slice_get old.marked.items index ≡ Some e) × (SYMBOLS_LIMIT < old.weight + length e.items)
 FailsToRecall old index fault = ⊥

@@ -11,15 +11,16 @@ ghost use Rattle.scope.specs.Active.{before, stmt_at};
 ghost use Rattle.reasons.specs.Run.{CitesTo, held};
 ghost use Rattle.reasons.specs.FirstFault.{FailsAt};
 ghost use Rattle.reasons.specs.Concluded.{IsBelow, IsConcluded};
-ghost use Rattle.reasons.specs.declared.state.TheConstants.{WEIGHT_LIMIT};
+ghost use Rattle.subst.specs.declared.buffer.TheConstants.{SYMBOLS_LIMIT};
 
 use crate::clash::find_clash;
 use crate::images::{Image, apply, read_images};
 use crate::reason::Fault;
-use crate::state::{State, WEIGHT_LIMIT};
+use crate::state::State;
 use entries::{Cited, Hypothesis};
 use frame::{Frames, Gathered, Meaning};
 use std::alloc::{AllocError, Global};
+use subst::SYMBOLS_LIMIT;
 
 /// Cites the statement at a position: what it gives stands in place of what it takes.
 pub fn cite(
@@ -31,13 +32,13 @@ pub fn cite(
 ) -> Result<Option<Fault>, AllocError>
     requires place { (1 ≤ at) × (at ≤ length frames.now.statements) }
     requires symbols { AreSymbols (length frames.now.names) state.old.stack.items }
-    requires weight { state.old.weight ≤ WEIGHT_LIMIT }
+    requires weight { state.old.weight ≤ SYMBOLS_LIMIT }
     ensures told { (s : Statement) → stmt_at frames.now.statements statement ≡ Some s
         → IfOk result (λ r. MatchOption r
         (CitesTo frames.now.statements at statement s (held frames.now.names state.old) (held frames.now.names state.new))
         (FailsAt frames.now.statements frames.now.names at (held frames.now.names state.old) statement s)) }
     ensures symbols { AreSymbols (length frames.now.names) state.new.stack.items }
-    ensures weight { state.new.weight ≤ WEIGHT_LIMIT }
+    ensures weight { state.new.weight ≤ SYMBOLS_LIMIT }
     ensures marked { state.new.marked.items ≡ state.old.marked.items }
 {
     match frames.meaning(at, statement) {
@@ -65,9 +66,9 @@ fn cite_assertion(
     requires earlier { a < at }
     requires assertion { (s : Statement) × HasAssertion frames.now.statements a s }
     requires symbols { AreSymbols (length frames.now.names) state.old.stack.items }
-    requires weight { state.old.weight ≤ WEIGHT_LIMIT }
+    requires weight { state.old.weight ≤ SYMBOLS_LIMIT }
     ensures symbols { AreSymbols (length frames.now.names) state.new.stack.items }
-    ensures weight { state.new.weight ≤ WEIGHT_LIMIT }
+    ensures weight { state.new.weight ≤ SYMBOLS_LIMIT }
     ensures told { (s : Statement) → stmt_at frames.now.statements a ≡ Some s
         → IfOk result (λ r. MatchOption r
         (CitesTo frames.now.statements at a s (held frames.now.names state.old) (held frames.now.names state.new))
@@ -99,9 +100,9 @@ fn cite_parts(
     requires mandatory { (s : Statement) → stmt_at frames.now.statements a ≡ Some s → mandatory.now ≡ hypotheses (before frames.now.statements a) s }
     requires cited { (s : Statement) → stmt_at frames.now.statements a ≡ Some s → IsCited frames.now.statements frames.now.names a s cited.now }
     requires symbols { AreSymbols (length frames.now.names) state.old.stack.items }
-    requires weight { state.old.weight ≤ WEIGHT_LIMIT }
+    requires weight { state.old.weight ≤ SYMBOLS_LIMIT }
     ensures symbols { AreSymbols (length frames.now.names) state.new.stack.items }
-    ensures weight { state.new.weight ≤ WEIGHT_LIMIT }
+    ensures weight { state.new.weight ≤ SYMBOLS_LIMIT }
     ensures told { (s : Statement) → stmt_at frames.now.statements a ≡ Some s
         → IfOk result (λ r. MatchOption r
         (CitesTo frames.now.statements at a s (held frames.now.names state.old) (held frames.now.names state.new))
@@ -126,7 +127,7 @@ fn cite_parts(
         mandatory,
         cited,
         &state.stack[base..],
-        WEIGHT_LIMIT - state.weight,
+        SYMBOLS_LIMIT - state.weight,
     )? {
         Concluded::Wrong(fault) => Ok(Some(fault)),
         Concluded::Right(result) => {
@@ -213,7 +214,7 @@ fn find_other(
     for k in 0..results.len() {
         let hypothesis = mandatory[k] as usize;
         let result = results[k].as_slice();
-        let Some(asked) = apply(alloc, images, frames.expr(hypothesis), WEIGHT_LIMIT)? else {
+        let Some(asked) = apply(alloc, images, frames.expr(hypothesis), SYMBOLS_LIMIT)? else {
             return Err(AllocError);
         };
         if asked.as_slice() != result {

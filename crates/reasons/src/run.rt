@@ -8,7 +8,7 @@ ghost use Rattle.proof_code.specs.Numbers.{item_of};
 ghost use Rattle.reasons.specs.Stored.Kept.{AreSymbols};
 ghost use Rattle.reasons.specs.Run.{Steps, held};
 ghost use Rattle.reasons.specs.FirstFault.{Fails, RunsTo, IsFirstFault, IsAlone, IsEndFault};
-ghost use Rattle.reasons.specs.declared.state.TheConstants.{WEIGHT_LIMIT};
+ghost use Rattle.subst.specs.declared.buffer.TheConstants.{SYMBOLS_LIMIT};
 
 use crate::citation::cite;
 use crate::reason::{Fault, Reason};
@@ -63,14 +63,14 @@ fn step(
     requires place { (1 ≤ at) × (at ≤ length frames.now.statements) }
     requires symbols { AreSymbols (length frames.now.names) state.old.stack.items }
     requires marked { AreSymbols (length frames.now.names) state.old.marked.items }
-    requires weight { state.old.weight ≤ WEIGHT_LIMIT }
+    requires weight { state.old.weight ≤ SYMBOLS_LIMIT }
     ensures told { (labels : List Name) → ArePositions frames.now.statements labels positions.now
         → IfOk result (λ r. MatchOption r
         (Steps frames.now.statements at (held frames.now.names state.old) (item_of labels number) (held frames.now.names state.new))
         (Fails frames.now.statements frames.now.names at (held frames.now.names state.old) (item_of labels number))) }
     ensures symbols { AreSymbols (length frames.now.names) state.new.stack.items }
     ensures marked { AreSymbols (length frames.now.names) state.new.marked.items }
-    ensures weight { state.new.weight ≤ WEIGHT_LIMIT }
+    ensures weight { state.new.weight ≤ SYMBOLS_LIMIT }
 {
     if number == 0 {
         return state.mark(alloc);

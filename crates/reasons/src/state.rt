@@ -1,15 +1,14 @@
 //! What a run keeps.
 ghost use Rattle.std.specs.Prelude.{◌≡◌, ℕ, ◌<◌, ◌≤◌, ◌+◌, [], length, IfOk, OnErr, MatchOption};
 ghost use Rattle.reasons.specs.declared.reason.Fault.TheVariants.{Heavy, Unmarked};
-ghost use Rattle.reasons.specs.declared.state.TheConstants.{WEIGHT_LIMIT};
+ghost use Rattle.subst.specs.declared.buffer.TheConstants.{SYMBOLS_LIMIT};
 
 use crate::reason::Fault;
 use std::alloc::{AllocError, Global};
+use subst::SYMBOLS_LIMIT;
 
-/// The limit of the weight of a proof: the sum of the lengths of what its citations and recalls give.
-pub const WEIGHT_LIMIT: usize = 67_108_864;
-
-/// The results that wait, the last on top, the marked ones, and the weight so far.
+/// The results that wait, the last on top, the marked ones, and the weight so far: the sum of the lengths of what its
+/// citations and recalls give, at most `SYMBOLS_LIMIT`.
 #[derive(Drop)]
 pub struct State {
     pub stack: Vec<Vec<u32>>,
@@ -37,16 +36,16 @@ impl State {
 
     /// Adds a result, unless it makes the proof too heavy.
     pub fn push(&mut self, expr: Vec<u32>) -> Result<Option<Fault>, AllocError>
-        requires { self.old.weight ≤ WEIGHT_LIMIT }
+        requires { self.old.weight ≤ SYMBOLS_LIMIT }
         ensures pushed { IfOk result (λ r. MatchOption r (IsPushed self.old self.new expr)
-            (λ f. (f ≡ Heavy) × (WEIGHT_LIMIT < self.old.weight + length expr.items))) }
-        ensures weight { self.new.weight ≤ WEIGHT_LIMIT }
+            (λ f. (f ≡ Heavy) × (SYMBOLS_LIMIT < self.old.weight + length expr.items))) }
+        ensures weight { self.new.weight ≤ SYMBOLS_LIMIT }
         ensures stack { OnErr result (self.new.stack.items ≡ self.old.stack.items) }
         ensures marked { self.new.marked.items ≡ self.old.marked.items }
         ensures symbols { (n : ℕ) → AreSymbols n self.old.stack.items → AreBelow n expr.items → AreSymbols n self.new.stack.items }
     {
         let len = expr.len();
-        if len > WEIGHT_LIMIT - self.weight {
+        if len > SYMBOLS_LIMIT - self.weight {
             return Ok(Some(Fault::Heavy));
         }
         if self.stack.push(expr).is_err() {
@@ -77,8 +76,8 @@ impl State {
 
     /// Adds a marked result again, by its index from 0.
     pub fn recall(&mut self, alloc: Global, index: usize) -> Result<Option<Fault>, AllocError>
-        requires { self.old.weight ≤ WEIGHT_LIMIT }
-        ensures weight { self.new.weight ≤ WEIGHT_LIMIT }
+        requires { self.old.weight ≤ SYMBOLS_LIMIT }
+        ensures weight { self.new.weight ≤ SYMBOLS_LIMIT }
         ensures marked { self.new.marked.items ≡ self.old.marked.items }
         ensures symbols { (n : ℕ) → AreSymbols n self.old.stack.items → AreSymbols n self.old.marked.items → AreSymbols n self.new.stack.items }
         ensures told { IfOk result (λ r. MatchOption r (IsRecalled self.old self.new index) (FailsToRecall self.old index)) }

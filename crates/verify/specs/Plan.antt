@@ -1,12 +1,12 @@
 -- A derivation planned: its nodes by number, each after those of its children.
 -- A recalled derivation stands in a tree again; a plan has its nodes once.
 -- The code makes a plan first, measures it, and makes the tree where it is small.
-use Rattle.std.specs.Prelude.{ℕ, ◌+◌, Bool, ◌&&◌, nat_le, List, [], ◌∷◌, ◌++◌, length, map, get_or}
+use Rattle.std.specs.Prelude.{ℕ, ◌+◌, List, [], ◌∷◌, ◌++◌, length, map, get_or}
 use Rattle.frame.specs.Below.{AreBelow}
 use Rattle.verify.specs.declared.plan.Node.{Node}
 use Rattle.verify.specs.declared.plan.Plan.{Plan}
 use Rattle.verify.specs.declared.plan.Node.TheVariants.{Hyp, Apply}
-use Rattle.verify.specs.Derivations.{Derivation, hyp, apply, from_list, node_count, depth}
+use Rattle.verify.specs.Derivations.{Derivation, hyp, apply, from_list}
 use Rattle.verify.specs.Growth.{Trees, trees}
 
 -- the derivation with this number
@@ -49,7 +49,3 @@ pub record IsPlan (p : Plan) : Type 0 where
   pub ordered : AreOrdered 0 p.nodes.items
   pub stack_below : AreBelow (length p.nodes.items) p.stack.items
   pub saved_below : AreBelow (length p.nodes.items) p.saved.items
-
--- whether a derivation is within the limits
-abbrev pub is_small : Derivation → Bool
-is_small t = nat_le (node_count t) 65536 && nat_le (depth t) 1024

@@ -15,6 +15,13 @@ use Rattle.verify.specs.Spells.{Spells}
 abbrev pub weight_limit : ℕ
 weight_limit = 67108864
 
+-- how many nodes a derivation that is given out has at most, and how deep it lies
+abbrev pub most_nodes : ℕ
+most_nodes = 65536
+
+abbrev pub most_depth : ℕ
+most_depth = 1024
+
 -- a `$p` stands there
 pub record IsProvable (S : Database) (at : ℕ) (s : Stmt) : Type 0 where
   pub stands : stmt_at S at ≡ Some s
@@ -39,4 +46,4 @@ Says Proved P = P
 Says Wrong P = ¬ P
 
 abbrev pub IsSmall : Derivation → Type 0
-IsSmall t = (node_count t ≤ 65536) × (depth t ≤ 1024)
+IsSmall t = (node_count t ≤ most_nodes) × (depth t ≤ most_depth)

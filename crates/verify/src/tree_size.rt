@@ -5,6 +5,7 @@ ghost use Rattle.frame.specs.Below.{AreBelow};
 ghost use Rattle.verify.specs.Derivations.{Derivation};
 ghost use Rattle.verify.specs.Plan.{built, derive, pick, IsAfter, AreOrdered};
 ghost use Rattle.verify.specs.Extents.{extent_of, extent_above};
+ghost use Rattle.verify.specs.Right.{most_nodes, most_depth};
 
 use crate::plan::Node;
 use std::alloc::{AllocError, Global};
@@ -74,7 +75,7 @@ pub fn measure(alloc: Global, nodes: &[Node]) -> Result<Vec<Extent>, AllocError>
 impl Extent {
     /// Whether the derivation is within the limits.
     pub fn is_small(&self) -> bool
-        ensures { IsTrue result ↔ ((self.now.nodes ≤ 65536) × (self.now.depth ≤ 1024)) }
+        ensures { IsTrue result ↔ ((self.now.nodes ≤ most_nodes) × (self.now.depth ≤ most_depth)) }
     {
         self.nodes <= MOST_NODES && self.depth <= MOST_DEPTH
     }

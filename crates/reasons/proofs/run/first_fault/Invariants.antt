@@ -4,14 +4,14 @@ use Rattle.proof_code.specs.Numbers.{items_of}
 use Rattle.reasons.specs.Stored.Kept.{AreSymbols}
 use Rattle.reasons.specs.Run.{nothing, held, Runs}
 use Rattle.frame.specs.Reading.{ArePositions}
-use Rattle.reasons.specs.declared.state.TheConstants.{WEIGHT_LIMIT}
+use Rattle.subst.specs.declared.buffer.TheConstants.{SYMBOLS_LIMIT}
 use Rattle.reasons.proofs.run.first_fault.Given as goal
 
 abbrev pub invariant-loop-item : goal.invariant-loop-item
 invariant-loop-item l = record {
   symbols : AreSymbols (length l.frames.names) l.state.stack.items;
   marked : AreSymbols (length l.frames.names) l.state.marked.items;
-  weight : l.state.weight ≤ WEIGHT_LIMIT;
+  weight : l.state.weight ≤ SYMBOLS_LIMIT;
   runs : (labels : List Name) × ArePositions l.frames.statements labels l.positions.items × (items_of labels l.numbers ≡ l.fn.items)
       × Runs l.frames.statements l.at nothing (items_of labels (take l.item l.numbers)) (held l.frames.names l.state);
 }

@@ -41,7 +41,7 @@ returns-clause-headline c =
     let done = c.loop-event.yielded in
     let none : into_iter_items it ≡ [] = nil_from_length (into_iter_items it) (sym it.rest.ok.0 ∙ c.in-None.ensures.steps.0) in
     let whole : c.args.events.items ≡ done =
-        sym c.into_iter-event-iterator.ensures.into_iter_gives.0 ∙ (taken_front c.into_iter-event-iterator.result done it c.loop-event.yielded_by
-        ∙ (ap (λ (es : List (Event Entry)). done ++ es) none ∙ append-nil done)) in
+    sym c.into_iter-event-iterator.ensures.into_iter_gives.0 ∙ (taken_front c.into_iter-event-iterator.result done it c.loop-event.yielded_by
+    ∙ (ap (λ (es : List (Event Entry)). done ++ es) none ∙ append-nil done)) in
     subst Headline (ap (λ (r : Replicas). r.taken) c.loop-event.invariant.world ∙ ap (λ (es : List (Event Entry)). let t : Taken Carried = record { weights = c.args.weights; events = all_carried es } in t) (sym whole))
     (headline_holds c.loop-event.world.taken c.loop-event.invariant.taken)
