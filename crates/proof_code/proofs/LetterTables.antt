@@ -17,12 +17,15 @@ digit_of i = cond (nat_le i 19) (i + 1) (cond (nat_le i 24) (i - 19) 0)
 abbrev ends_of : ℕ → Bool
 ends_of i = cond (nat_le i 19) true (cond (nat_le i 24) false true)
 
+-- how often each letter counts the digits before it
 factors_are : FACTORS ≡ tabulated factor_of 0 26
 factors_are = refl
 
+-- how much each letter counts itself
 digits_are : DIGITS ≡ tabulated digit_of 0 26
 digits_are = refl
 
+-- which letters end a number
 ends_are : ENDS ≡ tabulated ends_of 0 26
 ends_are = refl
 
