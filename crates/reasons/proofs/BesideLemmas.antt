@@ -78,7 +78,7 @@ module _ (S : Database) (names : List Name) (distinct : AreDistinct names) (σ :
       let parts : (p (name_at names y) ≡ true) × (list_all p (decode names (take k group)) ≡ true) = and_parts (p (name_at names y)) (list_all p (decode names (take k group))) front in
       ap (λ b. b && list_all p (decode names group)) parts.0 ∙ beside_all p group k (omega (arith, h)) parts.1 here rest
 
-  -- a variable needs not be kept apart from itself
+  -- a variable need not be kept apart from itself
   itself : (y : Name) → is_other_apart S (named_images names σ) y y ≡ true
   itself y = ap (λ c. c || are_apart S (image (named_images names σ) y) (image (named_images names σ) y)) (name_same y)
 
