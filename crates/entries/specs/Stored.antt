@@ -1,3 +1,3 @@
--- How the statements are kept in a few buffers. No public clause cites it.
+-- How the statements are kept in a few buffers. Public clauses cite `Extends`, `AreSpansIn` and `cut` of it alone.
 pub mod Spans
 pub mod Records

@@ -1,3 +1,3 @@
--- How images are kept by number, and symbols behind others in a buffer. No public clause cites it.
+-- How images are kept by number, and symbols behind others in a buffer. Public clauses cite `Appends` of it alone.
 pub mod Slots
 pub mod Written

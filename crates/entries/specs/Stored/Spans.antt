@@ -1,5 +1,5 @@
 -- Lists that stand in one buffer, one behind the other.
--- The code's own form: no public clause cites it.
+-- The code's own form; public clauses cite `Extends`, `AreSpansIn` and `cut` alone.
 use Rattle.std.specs.Prelude.{◌≡◌, ℕ, ◌≤◌, List, [], ◌∷◌, ◌++◌, map, slice_range}
 use Rattle.entries.specs.declared.span.BufferPart.{BufferPart}
 
