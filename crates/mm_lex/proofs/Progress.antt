@@ -1,5 +1,5 @@
 -- How far the code has read: what the scan of the whole text gives, by what is left of it.
-use Rattle.std.specs.Prelude.{◌≡◌, ℕ, ◌-◌, ◌<◌, ◌≤◌, Bool, true, false, not, cond, ◌||◌, List, [], ◌∷◌, ◌++◌, length, take, drop, Some, None, Ok, Err, refl}
+use Rattle.std.specs.Prelude.{◌≡◌, ℕ, ◌-◌, ◌<◌, ◌≤◌, Bool, true, false, not, cond, ◌||◌, List, [], ◌∷◌, ◌++◌, length, drop, Some, None, Ok, Err, refl}
 use Rattle.std.specs.List.{list_all, All}
 use Rattle.std.proofs.Common.{sym, ◌∙◌, ap, arith, append_assoc, true≢false, min}
 use Rattle.std.proofs.lemmas.List.{append-nil, length-take, length-drop}
