@@ -1,7 +1,7 @@
 -- Two parts of a text that is cut at a place write the statements of the whole.
 use Rattle.std.specs.Prelude.{◌≡◌, ℕ, true, ◌||◌, List, [], ◌∷◌, ◌++◌, take, drop, Option, Some, None, IfSome, Vec}
 use Rattle.std.specs.declared.alloc.Global.{Global}
-use Rattle.std.proofs.Common.{sym, ◌∙◌, ap, subst}
+use Rattle.std.proofs.Common.{refl, sym, ◌∙◌, ap, subst}
 use Rattle.std.proofs.Math.Bool.{or-true}
 use Rattle.std.proofs.lemmas.List.{take-append-drop}
 use Rattle.mm_lex.specs.Alphabet.{is_white, starts_white}
