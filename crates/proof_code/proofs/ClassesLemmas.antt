@@ -6,11 +6,11 @@ use Rattle.proof_code.specs.Listing.{class_of}
 use Rattle.proof_code.specs.declared.listing.TheConstants.{CLASSES}
 
 -- the values of f from i on, n of them
-abbrev pub tabulated : {A : Type 0} → (ℕ → A) → ℕ → ℕ → List A
+abbrev tabulated : (ℕ → ℕ) → ℕ → ℕ → List ℕ
 tabulated f i zero = []
 tabulated f i (suc n) = f i ∷ tabulated f (suc i) n
 
-pub tabulated-at : {A : Type 0} (f : ℕ → A) (i n k : ℕ) (d : A) → k < n → get_or (tabulated f i n) k d ≡ f (i + k)
+tabulated-at : (f : ℕ → ℕ) (i n k d : ℕ) → k < n → get_or (tabulated f i n) k d ≡ f (i + k)
 tabulated-at f i zero k d h = absurd (omega (arith, h))
 tabulated-at f i (suc n) zero d h = ap f (let e : i ≡ i + 0 = omega arith in e)
 tabulated-at f i (suc n) (suc k) d h = tabulated-at f (suc i) n k d (omega (arith, h)) ∙ ap f (let e : suc i + k ≡ i + suc k = omega arith in e)

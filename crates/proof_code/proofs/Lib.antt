@@ -10,7 +10,6 @@ pub mod AnswersLemmas
 pub mod OneList
 pub mod KindsLemmas
 mod ClassesLemmas
-mod LetterTables
 pub mod ListingLemmas
 pub mod ReadingLemmas
 mod Rows

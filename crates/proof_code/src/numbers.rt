@@ -1,30 +1,13 @@
 //! The letters of a compressed proof, read where there is room for a number for each.
 //!
-//! Which letter comes next cannot be foreseen, so no branch depends on it: tables tell what a letter does, and the one test
-//! of each is whether a number is over the limit.
+//! Which letter comes next cannot be foreseen, so no branch depends on it: what a letter is chooses values alone, and the
+//! one test of each is whether a number is over the limit.
 ghost use Rattle.std.specs.Prelude.{◌≡◌, ◌+◌, ◌^◌, ◌<◌, ◌≤◌, ◌∷◌, ℕ, List, length, take, None, Some, IfNone, IfSome};
 ghost use Rattle.proof_code.specs.Text.{letters_of, numbers_from};
 ghost use Rattle.proof_code.specs.Reading.{Goes, IsLetter};
 
 /// How often the digits before a mark count: no mark stands behind digits, and one that does comes to more than any limit.
 const BEYOND: usize = 1 << 32;
-
-/// How often the digits before each letter A to Z count: 20 times before A to T, 5 times before U to Y.
-const FACTORS: [usize; 26] = [
-    20, 20, 20, 20, 20, 20, 20, 20, 20, 20, 20, 20, 20, 20, 20, 20, 20, 20, 20, 20, 5, 5, 5, 5, 5,
-    BEYOND,
-];
-
-/// What each letter A to Z counts itself: A to T 1 to 20, U to Y 1 to 5, a mark nothing.
-const DIGITS: [usize; 26] = [
-    1, 2, 3, 4, 5, 6, 7, 8, 9, 10, 11, 12, 13, 14, 15, 16, 17, 18, 19, 20, 1, 2, 3, 4, 5, 0,
-];
-
-/// Whether each letter A to Z ends a number, as a mark does.
-const ENDS: [bool; 26] = [
-    true, true, true, true, true, true, true, true, true, true, true, true, true, true, true, true,
-    true, true, true, true, false, false, false, false, false, true,
-];
 
 /// What a letter makes of the digits before it.
 #[derive(Clone, Copy)]
@@ -43,11 +26,19 @@ fn letter_behind(byte: u8, digits: usize) -> Letter
     requires small { digits < 2 ^ 32 }
     ensures { IsLetter byte digits result.value result.ends }
 {
-    let index = usize::from(byte - 65);
-    Letter {
-        value: FACTORS[index] * digits + DIGITS[index],
-        ends: ENDS[index],
-    }
+    let letter = usize::from(byte - 64);
+    let ends = byte < b'U' || byte > b'Y';
+    let last = if byte < b'Z' {
+        20 * digits + letter
+    } else {
+        BEYOND * digits
+    };
+    let value = if ends {
+        last
+    } else {
+        5 * digits + (letter - 20)
+    };
+    Letter { value, ends }
 }
 
 /// What stands between two bytes of the letters.
