@@ -6,13 +6,13 @@
 //! (whether it holds).
 #![tactic(auto)]
 
-mod parse;
+mod failing_streams;
 mod row;
-mod streams;
-mod texts;
-mod wanted;
+mod row_parser;
+mod row_texts;
+mod wanted_output;
 
-pub use parse::{Unread, parse_rows};
+pub use failing_streams::{FailingReader, FailingWriter};
 pub use row::{Choice, Cut, Faults, Row, Way};
-pub use streams::{FailingReader, FailingWriter};
-pub use wanted::{Printed, Wanted, difference, status_of};
+pub use row_parser::{Unread, parse_rows};
+pub use wanted_output::{Printed, Wanted, difference, status_of};

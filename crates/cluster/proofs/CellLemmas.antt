@@ -9,7 +9,7 @@ use Rattle.world.specs.declared.carried.Carried.{Carried}
 use Rattle.net.specs.declared.fault.StepFault.{StepFault}
 use Rattle.world.specs.Carried.{entry_of, entries_of}
 use Rattle.world.specs.Replicas.{NodeLibrary, AppliesNext}
-use Rattle.world.proofs.EntriesLemmas.{entries_begin, entries_of-get, entries_of-none}
+use Rattle.world.proofs.EntryLogs.{entries_begin, entries_of-get, entries_of-none}
 use Rattle.world.proofs.ReplicasLemmas.{of_longer, of_log_applied}
 use Rattle.cluster.specs.Cell.{Cell, IsCell, AddsEntry, next_entry}
 

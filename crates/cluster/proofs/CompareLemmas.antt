@@ -11,7 +11,7 @@ use Rattle.net.specs.History.{IsMoment}
 use Rattle.world.specs.Carried.{carried_size, entries_of}
 use Rattle.world.specs.Replicas.{IsOfLog}
 use Rattle.world.specs.Headline.{Headline}
-use Rattle.world.proofs.EntriesLemmas.{entries_begin}
+use Rattle.world.proofs.EntryLogs.{entries_begin}
 use Rattle.world.proofs.HeadlineLemmas.{headline_holds}
 use Rattle.world.proofs.ReplicasLemmas.{of_longer}
 use Rattle.switch.specs.Switch.{Shared, world_of}

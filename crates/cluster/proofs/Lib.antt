@@ -1,5 +1,5 @@
 mod CellsLemmas
-mod EntriesLemmas
+mod LongerRecordLemmas
 mod CellLemmas
-mod TieLemmas
+mod CellTieLemmas
 mod CompareLemmas

@@ -1,4 +1,4 @@
 pub mod Cell
 pub mod Cells
 pub mod Belongs
-pub mod Entries
+pub mod LongerRecord

@@ -3,7 +3,7 @@ ghost use Rattle.std.specs.Prelude.{◌≡◌, ◌<◌, Ok, Err, Some, None, OnO
 ghost use Rattle.slots.specs.FiniteMap.{entry_at, trimmed};
 ghost use Rattle.slots.specs.declared.slots.TheConstants.{SLOTS};
 ghost use Rattle.synod.specs.Record.{new_kept, HasRoomFor};
-ghost use Rattle.cluster.specs.Entries.{with_entry};
+ghost use Rattle.cluster.specs.LongerRecord.{with_entry};
 
 use scope::Steps;
 use slots::SLOTS;

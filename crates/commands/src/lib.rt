@@ -6,13 +6,13 @@
 //! options), `parse`.
 #![tactic(auto)]
 
+mod command_words;
 mod grammar;
-mod parse;
 mod request;
 mod weights;
 mod worker_count;
 
+pub use command_words::parse_words;
 pub use grammar::VERSION_LINE;
-pub use parse::parse_words;
 pub use request::{ProofForm, Question, Request, WordsFault};
 pub use worker_count::{MOST_WORKERS, WorkerCount};

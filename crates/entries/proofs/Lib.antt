@@ -1,6 +1,6 @@
 pub mod SpanLemmas
-pub mod PlaceLemmas
-pub mod RecordLemmas
-pub mod AddedLemmas
-pub mod CutLemmas
+pub mod BufferPlaceLemmas
+pub mod StatementRecordLemmas
+pub mod AddedStatement
+pub mod CutBuffers
 pub mod ReadLemmas

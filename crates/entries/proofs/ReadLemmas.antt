@@ -3,15 +3,15 @@ use Rattle.std.specs.Prelude.{◌≡◌, ℕ, suc, ◌+◌, ◌-◌, ◌<◌, �
 use Rattle.std.proofs.Common.{◌∙◌, ap, sym, subst, arith}
 use Rattle.std.proofs.lemmas.List.{length-map}
 use Rattle.std.proofs.lemmas.Option.{slice_get-map, same_Some}
-use Rattle.entries.specs.declared.record.Record.{Record}
-use Rattle.entries.specs.declared.record.Row.{Row}
-use Rattle.entries.specs.declared.record.Buffers.{Buffers}
+use Rattle.entries.specs.declared.statement_record.Record.{Record}
+use Rattle.entries.specs.declared.statement_record.Row.{Row}
+use Rattle.entries.specs.declared.statement_record.Buffers.{Buffers}
 use Rattle.entries.specs.Entries.{Entry, Assertion}
 use Rattle.entries.specs.Stored.Spans.{AreSpansIn, cut}
 use Rattle.entries.specs.Stored.Records.{Place, row_by, own_row, place_by, place_of, places_of, end_of, from_by, symbols_by, entry_of, sizes_of, IsWithin, HasGroups, ArePacked}
-use Rattle.entries.proofs.PlaceLemmas.{within-at, groups-at}
-use Rattle.entries.proofs.RecordLemmas.{rows-of, rows_after, places-get, places-length, end-by}
-use Rattle.entries.proofs.AddedLemmas.{range-none}
+use Rattle.entries.proofs.BufferPlaceLemmas.{within-at, groups-at}
+use Rattle.entries.proofs.StatementRecordLemmas.{rows-of, rows_after, places-get, places-length, end-by}
+use Rattle.entries.proofs.AddedStatement.{range-none}
 
 pub index-in : (b : Buffers) (rs : List Record) (es : List Entry) (i : ℕ) → map (entry_of b) (places_of b rs) ≡ es → i < length es → i < length rs
 index-in b rs es i v h = let n = length-map (places_of b rs) (entry_of b) in let m = places-length b rs in let l = ap length v in omega arith

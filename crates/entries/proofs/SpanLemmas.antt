@@ -4,7 +4,7 @@ use Rattle.std.proofs.Common.{◌∙◌, ap, sym, subst, arith, append-nil, appe
 use Rattle.std.proofs.lemmas.List.{length-append, length-drop, length-take-le, take-append-le, drop-append-le, take-append-drop, reverse-append}
 use Rattle.std.proofs.Math.Seq.{take-append_seam, drop-append_seam}
 use Rattle.std.proofs.lemmas.Option.{same_Some}
-use Rattle.entries.specs.declared.span.BufferPart.{BufferPart}
+use Rattle.entries.specs.declared.buffer_part.BufferPart.{BufferPart}
 use Rattle.entries.specs.Stored.Spans.{cut, AreSpansIn, Extends}
 
 pub span-in : (n : ℕ) (spans : List BufferPart) (i : ℕ) (s : BufferPart) → AreSpansIn n spans → slice_get spans i ≡ Some s → (s.from ≤ s.to) × (s.to ≤ n)

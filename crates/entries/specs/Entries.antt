@@ -2,13 +2,13 @@
 -- Metamath, 4.2.6 and 4.2.7: an assertion is cited by what it asks of its hypotheses. What the numbers mean is said in `frame`.
 -- The code keeps the lists of all statements in a few buffers.
 use Rattle.std.specs.Prelude.{◌≡◌, ℕ, Bool, true, false, List, [], length, slice_get, Some}
-use Rattle.entries.specs.declared.citation.Hypothesis.{Hypothesis}
-use Rattle.entries.specs.declared.citation.Cited.{Cited}
+use Rattle.entries.specs.declared.cited_parts.Hypothesis.{Hypothesis}
+use Rattle.entries.specs.declared.cited_parts.Cited.{Cited}
 use Rattle.entries.specs.declared.links.Links.{Links}
 use Rattle.entries.specs.declared.kind.Kind.{Kind}
 use Rattle.entries.specs.declared.head.Head.{Head}
 use Rattle.entries.specs.declared.parts.AssertionParts.{AssertionParts}
-use Rattle.entries.specs.declared.entry.EntryRef.{EntryRef}
+use Rattle.entries.specs.declared.entry_ref.EntryRef.{EntryRef}
 use Rattle.entries.specs.Stored.Spans.{cut, AreSpansIn}
 
 -- hypotheses by position, what each is and its first symbol, and groups of variables; of most statements all lists are empty.

@@ -4,14 +4,14 @@ ghost use Rattle.entries.specs.Entries.{Entry, IsEntry, AreWhole, AreShapedParts
 ghost use Rattle.entries.specs.Stored.Records.{IsAdded, IsRowOf, ArePacked, Grows, AreEnds, places_of};
 ghost use Rattle.entries.specs.Stored.Spans.{Extends};
 
-use crate::citation::Cited;
-use crate::entry::EntryRef;
+use crate::buffer_part::{item, part, place};
+use crate::cited_parts::Cited;
+use crate::entry_ref::EntryRef;
 use crate::groups::Groups;
 use crate::head::Head;
 use crate::parts::AssertionParts;
-use crate::record::{Buffers, Record, Row, record_of, row_of, symbols_end};
 use crate::sizes::{cut, sizes_before, sizes_now};
-use crate::span::{item, part, place};
+use crate::statement_record::{Buffers, Record, Row, record_of, row_of, symbols_end};
 use std::alloc::{AllocError, Global};
 use std::marker::Model;
 

@@ -2,7 +2,7 @@
 ghost use Rattle.std.specs.Prelude.{◌≡◌, ◌<◌, length, slice_get, Some};
 ghost use Rattle.entries.specs.Stored.Spans.{cut, AreSpansIn};
 
-use crate::span::{BufferPart, item, part};
+use crate::buffer_part::{BufferPart, item, part};
 use std::marker::Model;
 
 /// Lists of numbers in one buffer. Contracts see the list of the lists.

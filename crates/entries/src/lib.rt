@@ -5,24 +5,24 @@
 //! Reading order: `kind`, `links`, `head`, `span`, `groups`, `citation`, `parts`, `entry`; `record`, `sizes`, `entries`.
 #![tactic(auto)]
 
-mod citation;
+pub mod buffer_part;
+mod cited_parts;
 mod entries;
-mod entry;
+mod entry_ref;
 mod groups;
 mod head;
 mod kind;
 mod links;
 mod parts;
-mod record;
 mod sizes;
-pub mod span;
+mod statement_record;
 
-pub use citation::{Cited, Hypothesis, NO_HEAD};
+pub use buffer_part::BufferPart;
+pub use cited_parts::{Cited, Hypothesis, NO_HEAD};
 pub use entries::Entries;
-pub use entry::EntryRef;
+pub use entry_ref::EntryRef;
 pub use groups::Groups;
 pub use head::Head;
 pub use kind::Kind;
 pub use links::Links;
 pub use parts::AssertionParts;
-pub use span::BufferPart;

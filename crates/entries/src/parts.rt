@@ -1,6 +1,6 @@
 //! The parts of a statement that is added.
-use crate::citation::Hypothesis;
-use crate::span::BufferPart;
+use crate::buffer_part::BufferPart;
+use crate::cited_parts::Hypothesis;
 
 /// A statement's symbols, and the parts of an assertion. Most other statements have none.
 #[derive(Clone, Copy, Drop)]

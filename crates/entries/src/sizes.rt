@@ -2,7 +2,7 @@
 ghost use Rattle.std.specs.Prelude.{◌≡◌, take};
 ghost use Rattle.entries.specs.Stored.Records.{sizes_of, hypotheses_at, groups_at};
 
-use crate::record::{Buffers, Record};
+use crate::statement_record::{Buffers, Record};
 
 /// How many items the buffers have.
 #[derive(Clone, Copy, Drop)]

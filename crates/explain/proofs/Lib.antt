@@ -1,6 +1,6 @@
-pub mod RunLemmas
-pub mod LabelLemmas
-pub mod ItemsLemmas
-pub mod NumberLemmas
+pub mod ProvingRunLemmas
+pub mod MandatoryLabelLemmas
+pub mod ReadItemsLemmas
+pub mod LetterNumberLemmas
 pub mod LetterLemmas
 pub mod TokenLemmas

@@ -1,3 +1,3 @@
 pub mod Breaks
-pub mod Reading
+pub mod LettersBefore
 pub mod Why

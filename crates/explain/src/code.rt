@@ -6,7 +6,7 @@ ghost use Rattle.proof_code.specs.declared.item.Item.{Item};
 ghost use Rattle.proof_code.specs.Writes.{Writes, is_compressed, is_unfinished};
 ghost use Rattle.explain.specs.Breaks.{IsFirst, IsBreak, fails, joined};
 
-use crate::letters::letter_break;
+use crate::broken_letters::letter_break;
 use crate::why::CodeBreak;
 use mm_lex::{WordIter, Words, is_label};
 use proof_code::{MOST_LETTERS, is_compressed};

@@ -4,10 +4,10 @@
 //! fault of the run over the items that they write. It runs only after a refusal. Read `why`, `theorem`, `code`, `letters`.
 #![tactic(auto)]
 
+mod broken_letters;
 mod code;
-mod letters;
-mod theorem;
+mod proof_fault;
 mod why;
 
-pub use theorem::explain;
+pub use proof_fault::explain;
 pub use why::{CodeBreak, LetterBreak, LetterFault, WhyUnproved};

@@ -1,8 +1,8 @@
 //! Which rule of proof code the tokens of a proof break, in words.
 
-use crate::items::{Spot, letter_spot};
-use crate::page::Page;
+use crate::item_spots::{Spot, letter_spot};
 use crate::theorem::Theorem;
+use crate::written_lines::Page;
 use explain::{CodeBreak, LetterFault};
 use mm_lex::Words;
 use proof_code::is_compressed;

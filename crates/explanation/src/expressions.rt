@@ -1,6 +1,6 @@
 //! Expressions by numbers, written as their symbols.
 
-use crate::page::Page;
+use crate::written_lines::Page;
 use frame::Frames;
 
 /// Behind so many symbols an expression is cut.

@@ -5,18 +5,18 @@
 //! `shape`, `rules` with `symbols`; `proof` with `theorem`, `judged`, `items`, `step_fault`, `expressions` and `code_break`.
 #![tactic(auto)]
 
+mod broken_rule;
 mod code_break;
+mod explained_refusal;
 mod expressions;
-mod items;
+mod item_spots;
 mod judged;
-mod page;
 mod proof;
-mod refusal;
-mod rules;
-mod shape;
+mod shape_fault;
+mod statement_symbols;
 mod step_fault;
-mod symbols;
 mod text_fault;
 mod theorem;
+mod written_lines;
 
-pub use refusal::{DatabaseFault, explain_refusal};
+pub use explained_refusal::{DatabaseFault, explain_refusal};

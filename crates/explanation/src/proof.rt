@@ -6,12 +6,12 @@ ghost use Rattle.verify.specs.Right.{IsProvable};
 
 use crate::code_break::explain_break;
 use crate::expressions::push_expression;
-use crate::items::{spot_of, step_of};
+use crate::item_spots::{spot_of, step_of};
 use crate::judged::enter;
-use crate::page::Page;
+use crate::statement_symbols::word_at;
 use crate::step_fault::push_fault;
-use crate::symbols::word_at;
 use crate::theorem::Theorem;
+use crate::written_lines::Page;
 use explain::{WhyUnproved, explain};
 use frame::Frames;
 use mm_read::{ReadFault, Stmt, read};

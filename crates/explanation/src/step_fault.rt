@@ -1,8 +1,8 @@
 //! What fails at a step of a proof, in words.
 
 use crate::expressions::push_expression;
-use crate::page::Page;
 use crate::theorem::Theorem;
+use crate::written_lines::Page;
 use frame::Frames;
 use reasons::Fault;
 

@@ -1,7 +1,7 @@
 //! Bytes and comments at fault.
-ghost use Rattle.mm_lex.specs.Faults.{IsCommentFault};
+ghost use Rattle.mm_lex.specs.TextFaults.{IsCommentFault};
 
-use crate::page::Page;
+use crate::written_lines::Page;
 use mm_lex::{LexFault, tokens};
 use places::{CommentFault, comment_fault};
 use std::alloc::Global;

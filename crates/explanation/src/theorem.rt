@@ -3,9 +3,9 @@ ghost use Rattle.std.specs.Prelude.{IfSome};
 ghost use Rattle.mm_read.specs.declared.stmt.Stmt.{Stmt as Statement};
 ghost use Rattle.verify.specs.Right.{IsProvable};
 
-use crate::items::Spot;
-use crate::page::Page;
-use crate::symbols::label_of;
+use crate::item_spots::Spot;
+use crate::statement_symbols::label_of;
+use crate::written_lines::Page;
 use mm_lex::Words;
 use mm_read::Stmt;
 use places::place_of;

@@ -1,4 +1,4 @@
 pub mod WantedLemmas
-pub mod WalkLemmas
+pub mod SideBySideLemmas
 pub mod SameLemmas
-pub mod TakenLemmas
+pub mod TakenOutLemmas

@@ -8,7 +8,7 @@ use Rattle.mm_read.specs.declared.stmt.Stmt.TheVariants.{Open, Close, Const, Var
 use Rattle.mm_read.specs.Statements.{Database}
 use Rattle.scope.specs.Active.{bare, bares, stmt_at, is_assertion}
 use Rattle.frame.specs.FrameOf.{HasAssertion}
-use Rattle.frame.specs.Reading.{HasLabelsOnce}
+use Rattle.frame.specs.AtPosition.{HasLabelsOnce}
 use Rattle.library.proofs.AskedLemmas.{one-place}
 use Rattle.library.proofs.FrontLemmas.{stmt_at-bares}
 use Rattle.extract.specs.declared.fault.ExtractFault.{ExtractFault}

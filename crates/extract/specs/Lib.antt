@@ -1,4 +1,4 @@
 pub mod Wanted
-pub mod Kept
+pub mod Selected
 pub mod Walk
 pub mod Extract

@@ -5,7 +5,7 @@ ghost use Rattle.extract.specs.Wanted.{AreRight, IsFirstWrong};
 ghost use Rattle.extract.specs.Extract.{AreExtract, IsExtract};
 
 use crate::choice::choose;
-use crate::compare::is_extract;
+use crate::comparison::is_extract;
 use crate::fault::ExtractFault;
 use crate::wanted::first_wrong;
 use bytes::Bytes;

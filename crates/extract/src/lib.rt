@@ -9,7 +9,7 @@
 
 mod choice;
 mod cited;
-mod compare;
+mod comparison;
 mod extraction;
 mod fault;
 mod wanted;

@@ -3,7 +3,7 @@ ghost use Rattle.std.specs.Prelude.{◌≡◌, ◌≤◌, [], map, length, Some,
 ghost use Rattle.mm_lex.specs.Alphabet.{name_eq, has_name};
 ghost use Rattle.mm_read.specs.declared.stmt.Stmt.{Stmt as Statement};
 ghost use Rattle.scope.specs.Active.{bares, stmt_at, is_assertion};
-ghost use Rattle.frame.specs.Reading.{HasLabelsOnce};
+ghost use Rattle.frame.specs.AtPosition.{HasLabelsOnce};
 ghost use Rattle.extract.specs.declared.fault.ExtractFault.{ExtractFault as Fault};
 ghost use Rattle.extract.specs.Wanted.{AreRight, IsFirstWrong, IsJudged};
 

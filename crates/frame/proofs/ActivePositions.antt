@@ -5,7 +5,7 @@ use Rattle.mm_read.specs.declared.stmt.Stmt.{Stmt}
 use Rattle.mm_read.specs.Statements.{Database}
 use Rattle.scope.specs.Active.{stays_open, active_from, is_active}
 use Rattle.entries.specs.Entries.{Entry}
-use Rattle.frame.specs.Stored.Entries.{floats, last_from, last_where}
+use Rattle.frame.specs.Stored.EntryMeanings.{floats, last_from, last_where}
 use Rattle.frame.specs.Stored.Hypotheses.{inserted, AreAbove, Ascends, with_float, with_floats, with_all, with_essentials, kept_at}
 use Rattle.frame.proofs.AscendingLists.{In, inserted-in, in-inserted, ascends-inserted}
 

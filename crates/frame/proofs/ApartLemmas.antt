@@ -10,7 +10,7 @@ use Rattle.mm_read.specs.Statements.{Expr, Database}
 use Rattle.scope.specs.Active.{is_variable, active, separated}
 use Rattle.names.specs.Codes.{name_at, decode, AreDistinct}
 use Rattle.names.proofs.CodesLemmas.{name_same, same_name, list_any-map}
-use Rattle.scope.proofs.MarkLemmas.{all-has}
+use Rattle.scope.proofs.GoingBackLemmas.{all-has}
 use Rattle.frame.specs.FrameOf.{is_pair, groups}
 use Rattle.frame.specs.Links.{is_disj}
 use Rattle.frame.specs.Disjoint.{are_apart}

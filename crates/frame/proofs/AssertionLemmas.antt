@@ -15,9 +15,9 @@ use Rattle.frame.specs.Cited.{head_of}
 use Rattle.entries.specs.declared.kind.Kind.{Kind}
 use Rattle.entries.specs.declared.kind.Kind.TheVariants.{Open, Close, Const, Var, Disj, Float, Ess, Axiom, Prove}
 use Rattle.entries.specs.Entries.{Entry, Assertion}
-use Rattle.frame.specs.Stored.Entries.{stmt_by, stmt_of}
+use Rattle.frame.specs.Stored.EntryMeanings.{stmt_by, stmt_of}
 use Rattle.frame.specs.Stored.Hypotheses.{AreHypotheses, AreParts, is_hypothesis_entry, with_floats, collected}
-use Rattle.frame.specs.Stored.Parts.{IsKeptAs, kept_with, is_float_in, floats_in, variable_at, option_variable, option_asked, symbols_at, option_symbols, groups_by}
+use Rattle.frame.specs.Stored.AssertionParts.{IsKeptAs, kept_with, is_float_in, floats_in, variable_at, option_variable, option_asked, symbols_at, option_symbols, groups_by}
 
 pub get-entry : (names labels : List Name) (es : List Entry) (i : ℕ) (s : Stmt) → slice_get (map (stmt_of names labels) es) i ≡ Some s → (e : Entry) × (slice_get es i ≡ Some e) × (stmt_of names labels e ≡ s)
 get-entry names labels [] i s h = cc

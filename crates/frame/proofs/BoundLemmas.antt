@@ -15,13 +15,13 @@ use Rattle.frame.specs.FrameOf as frame_of
 use Rattle.frame.specs.Substitution.{Images, image, apply as applied}
 use Rattle.frame.specs.Citations.{OfVariables, premises, expr_at, option_expr}
 use Rattle.frame.specs.Bound.{HasFloat, IsFirstFixed, IsBound}
-use Rattle.frame.specs.Reading.{IsSingle}
+use Rattle.frame.specs.AtPosition.{IsSingle}
 use Rattle.frame.proofs.LegalLabels.{AllKept}
 use Rattle.frame.proofs.ActiveBehind.{stands-active, IsElsewhere, AreOnce}
 use Rattle.frame.proofs.TypedVariables.{first-fixed, own-fixed, float-kinds}
-use Rattle.frame.proofs.PlacesLemmas.{is_flt, used-has-place, mandatory-place, variables-once}
+use Rattle.frame.proofs.VariablePlaceLemmas.{is_flt, used-has-place, mandatory-place, variables-once}
 use Rattle.frame.proofs.GroupsLemmas.{has-filter}
-use Rattle.entries.proofs.PlaceLemmas.{take-get}
+use Rattle.entries.proofs.BufferPlaceLemmas.{take-get}
 use Rattle.frame.proofs.FoundByNumber.{map-back, map-at, middle, kept-front, some-same}
 use Rattle.frame.proofs.PlacedHypotheses.{IsHyp, AreHyps, hyps}
 

@@ -6,7 +6,7 @@ use Rattle.mm_read.specs.declared.stmt.Stmt.{Stmt}
 use Rattle.scope.specs.Active.{expr_of, is_assertion}
 use Rattle.names.specs.Codes.{name_at, decode}
 use Rattle.frame.specs.FrameOf.{HasAssertion}
-use Rattle.entries.specs.declared.citation.Cited.{Cited}
+use Rattle.entries.specs.declared.cited_parts.Cited.{Cited}
 use Rattle.entries.specs.Entries.{Entry, Assertion, AreWhole}
 use Rattle.entries.specs.declared.kind.Kind.{Kind}
 use Rattle.entries.specs.declared.kind.Kind.TheVariants.{Open, Close, Const, Var, Disj, Float, Ess, Axiom, Prove}
@@ -14,14 +14,14 @@ use Rattle.frame.specs.declared.storage.Stock.{Stock}
 use Rattle.frame.specs.Below.{AreBelow}
 use Rattle.frame.specs.Cited.{AreListsOf, IsCited}
 use Rattle.frame.specs.Bound.{IsBound}
-use Rattle.frame.specs.Reading.{AreLegal}
-use Rattle.frame.specs.Stored.Entries.{stmt_by, stmt_of, statements_of}
+use Rattle.frame.specs.AtPosition.{AreLegal}
+use Rattle.frame.specs.Stored.EntryMeanings.{stmt_by, stmt_of, statements_of}
 use Rattle.frame.specs.Stored.Whole.{AreStored}
-use Rattle.frame.specs.Stored.Parts.{IsKeptAs, has_parts}
-use Rattle.frame.proofs.SymbolsLemmas.{stored-distinct}
+use Rattle.frame.specs.Stored.AssertionParts.{IsKeptAs, has_parts}
+use Rattle.frame.proofs.DeclaredSymbolLemmas.{stored-distinct}
 use Rattle.frame.proofs.AssertionLemmas.{get-entry}
 use Rattle.frame.proofs.FoundByNumber.{own-expr, numbered-at}
-use Rattle.frame.proofs.KeptLemmas.{lists-at, lists-cited}
+use Rattle.frame.proofs.KeptStatementLemmas.{lists-at, lists-cited}
 use Rattle.frame.proofs.BoundLemmas.{bound, bound-single}
 use Rattle.frame.proofs.LegalLabels.{legal-labels}
 

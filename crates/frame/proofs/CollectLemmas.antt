@@ -10,7 +10,7 @@ use Rattle.entries.specs.declared.kind.Kind.{Kind}
 use Rattle.entries.specs.declared.kind.Kind.TheVariants.{Open, Close, Const, Var, Disj, Float, Ess, Axiom, Prove}
 use Rattle.entries.specs.Entries.{Entry}
 use Rattle.frame.specs.Stored.Hypotheses.{inserted, with_float, with_floats, with_all, with_essentials, kept_at}
-use Rattle.frame.specs.Stored.Entries.{floats, last_from, last_where, stmt_by, stmt_of, is_float_kind}
+use Rattle.frame.specs.Stored.EntryMeanings.{floats, last_from, last_where, stmt_by, stmt_of, is_float_kind}
 use Rattle.frame.specs.Stored.Counts.{IsPlain}
 use Rattle.scope.proofs.ActiveLemmas.{place}
 use Rattle.mm_lex.proofs.WordsLemmas.{and_left}

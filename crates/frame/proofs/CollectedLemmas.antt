@@ -14,14 +14,14 @@ use Rattle.frame.specs.Below.{AreBelow}
 use Rattle.entries.specs.declared.kind.Kind.TheVariants.{Float}
 use Rattle.entries.specs.Entries.{Entry}
 use Rattle.frame.specs.Links.{actives}
-use Rattle.frame.specs.Stored.Entries.{stmt_of, floats, last_from, last_where}
+use Rattle.frame.specs.Stored.EntryMeanings.{stmt_of, floats, last_from, last_where}
 use Rattle.frame.specs.Stored.Counts.{AreNumbered, HasTwo}
 use Rattle.frame.specs.Stored.Hypotheses.{with_floats, collected, kept_at, option_kept}
-use Rattle.frame.specs.Stored.Parts.{is_float_in, floats_in}
+use Rattle.frame.specs.Stored.AssertionParts.{is_float_in, floats_in}
 use Rattle.frame.proofs.LegalLabels.{AllKept}
 use Rattle.frame.proofs.ActiveBehind.{Stands, active-stands, stands-active, open_both, not-both}
 use Rattle.frame.proofs.TypedVariables.{float-kinds, is_ess, typed-before}
-use Rattle.frame.proofs.PlacesLemmas.{active-rest}
+use Rattle.frame.proofs.VariablePlaceLemmas.{active-rest}
 use Rattle.frame.proofs.FoundByNumber.{map-back, map-at, middle, numbered-at}
 use Rattle.frame.proofs.AscendingLists.{In, same-lists}
 use Rattle.frame.proofs.ActivePositions.{LastAt, NoneOf, last-is, IsFloatOf, SomeFloat, floats-in, in-floats, ascends-floats, SomeEssential, essentials-in, in-essentials, ascends-essentials, IsActiveAt, active-members, members-active, ascends-active}

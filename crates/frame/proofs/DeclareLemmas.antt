@@ -6,7 +6,7 @@ use Rattle.std.proofs.Math.Bool.{or-true, or-false}
 use Rattle.frame.specs.Below.{AreBelow}
 use Rattle.entries.specs.Entries.{Entry}
 use Rattle.frame.specs.declared.storage.Symbol.{Symbol}
-use Rattle.frame.specs.Stored.Entries.{floats, declares, last_from, symbol_of}
+use Rattle.frame.specs.Stored.EntryMeanings.{floats, declares, last_from, symbol_of}
 use Rattle.frame.specs.Stored.Counts.{with_entry}
 use Rattle.scope.proofs.ActiveLemmas.{place}
 

@@ -17,11 +17,11 @@ use Rattle.entries.specs.declared.kind.Kind.{Kind}
 use Rattle.entries.specs.declared.kind.Kind.TheVariants.{Open, Close, Const, Var, Disj, Float, Ess, Axiom, Prove}
 use Rattle.frame.specs.Stored.Drafts.{IsDraft, IsPartless}
 use Rattle.frame.specs.declared.storage.Stock.{Stock}
-use Rattle.frame.specs.Stored.Entries.{stmt_by, stmt_of, statements_of, option_list, option_position}
+use Rattle.frame.specs.Stored.EntryMeanings.{stmt_by, stmt_of, statements_of, option_list, option_position}
 use Rattle.frame.specs.Stored.Whole.{AreStored, AreNumbersOf, Entered, IsHead, IsKeptOf, IsNext}
-use Rattle.frame.specs.Stored.Parts.{floats_in, kept_with, has_parts}
+use Rattle.frame.specs.Stored.AssertionParts.{floats_in, kept_with, has_parts}
 use Rattle.frame.specs.Stored.Counts.{kind_of, IsLabelBelow, HasTwo}
-use Rattle.frame.proofs.SymbolsLemmas.{symbols_by-bare}
+use Rattle.frame.proofs.DeclaredSymbolLemmas.{symbols_by-bare}
 use Rattle.names.proofs.DistinctLemmas.{name_at-last}
 
 pub ok-both : {T E : Type 0} (r : Result T E) (P Q R : Type 0) → (P → Q → R) → OnOk r P → OnOk r Q → OnOk r R

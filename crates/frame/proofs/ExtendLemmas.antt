@@ -11,7 +11,7 @@ use Rattle.entries.specs.Entries.{Entry}
 use Rattle.frame.specs.Links.{links_of}
 use Rattle.frame.specs.Stored.Whole.{AreStored, Entered}
 use Rattle.frame.specs.Stored.Counts.{Grown, HasRoom, IsBehind, with_declared}
-use Rattle.frame.specs.Stored.Entries.{ReadsAs, replaced_by, statements_of, symbol_of}
+use Rattle.frame.specs.Stored.EntryMeanings.{ReadsAs, replaced_by, statements_of, symbol_of}
 use Rattle.frame.proofs.StoredLemmas.{IsPushed}
 use Rattle.frame.proofs.StoredOneMore.{still-reads}
 

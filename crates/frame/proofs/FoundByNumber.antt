@@ -16,11 +16,11 @@ use Rattle.frame.specs.Cited.{head_of, IsHead, IsOf}
 use Rattle.entries.specs.declared.kind.Kind.{Kind}
 use Rattle.entries.specs.declared.kind.Kind.TheVariants.{Open, Close, Const, Var, Disj, Float, Ess, Axiom, Prove}
 use Rattle.entries.specs.Entries.{Entry}
-use Rattle.frame.specs.Stored.Entries.{stmt_by}
+use Rattle.frame.specs.Stored.EntryMeanings.{stmt_by}
 use Rattle.frame.specs.Stored.Counts.{AreNumbered, HasTwo}
-use Rattle.frame.specs.Stored.Parts.{variable_by, asked_by}
-use Rattle.frame.specs.Stored.Places.{is_code, place_from}
-use Rattle.entries.proofs.PlaceLemmas.{take-get}
+use Rattle.frame.specs.Stored.AssertionParts.{variable_by, asked_by}
+use Rattle.frame.specs.Stored.NumberPlaces.{is_code, place_from}
+use Rattle.entries.proofs.BufferPlaceLemmas.{take-get}
 use Rattle.frame.proofs.LegalLabels.{AllKept}
 use Rattle.names.proofs.CodesLemmas.{name_same}
 

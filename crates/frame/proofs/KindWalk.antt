@@ -16,12 +16,12 @@ use Rattle.names.specs.Codes.{name_at, decode, AreDistinct}
 use Rattle.frame.specs.Below.{AreBelow}
 use Rattle.frame.specs.Links.{actives, last_active, is_var, is_disj}
 use Rattle.frame.proofs.OpenLemmas.{IsNoClose}
-use Rattle.frame.proofs.WalkLemmas.{IsBack, walk-back, walk-over}
+use Rattle.frame.proofs.BlockWalkLemmas.{IsBack, walk-back, walk-over}
 use Rattle.frame.proofs.StoredReading.{get-stmt}
 use Rattle.entries.specs.declared.kind.Kind.{Kind}
 use Rattle.entries.specs.declared.kind.Kind.TheVariants.{Open, Close, Const, Var, Disj, Float, Ess, Axiom, Prove}
 use Rattle.entries.specs.Entries.{Entry}
-use Rattle.frame.specs.Stored.Entries.{stmt_by, stmt_of}
+use Rattle.frame.specs.Stored.EntryMeanings.{stmt_by, stmt_of}
 use Rattle.scope.proofs.ActiveLemmas.{or_false_right}
 
 -- ---- numbers are the same where their names are

@@ -8,7 +8,7 @@ use Rattle.entries.specs.Entries.{Entry}
 use Rattle.entries.specs.declared.kind.Kind.{Kind}
 use Rattle.entries.specs.declared.kind.Kind.TheVariants.{Open, Close, Const, Var, Disj, Float, Ess, Axiom, Prove}
 use Rattle.frame.specs.Stored.Labels.{is_label_kind}
-use Rattle.frame.specs.Stored.Entries.{stmt_by, stmt_of}
+use Rattle.frame.specs.Stored.EntryMeanings.{stmt_by, stmt_of}
 use Rattle.frame.specs.Stored.Counts.{AreNumbered, IsLabelBelow}
 
 pub label-below-at : (n m : ℕ) (es : List Entry) → AreNumbered n m es → (k : ℕ) (e : Entry) → slice_get es k ≡ Some e → IsLabelBelow e.kind e.label m

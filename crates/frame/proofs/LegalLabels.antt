@@ -12,7 +12,7 @@ use Rattle.scope.specs.declared.rule.Rule.TheVariants.{G1, G2, G3, G4}
 use Rattle.scope.specs.Active.{stmt_at, before, label_of, has_label, was_label, was_symbol}
 use Rattle.scope.specs.Legal.{IsLegal, keeps}
 use Rattle.frame.specs.Citations.{Carries}
-use Rattle.frame.specs.Reading.{HasLabelsOnce}
+use Rattle.frame.specs.AtPosition.{HasLabelsOnce}
 
 -- each statement is legal behind those before it
 abbrev pub AllKept : Database → Type 0

@@ -6,10 +6,10 @@ use Rattle.std.proofs.lemmas.Option.{same_Some}
 use Rattle.mm_read.specs.Statements.{Database}
 use Rattle.scope.specs.Active.{is_active}
 use Rattle.entries.specs.Entries.{Entry}
-use Rattle.frame.specs.Stored.Places.{place_of}
+use Rattle.frame.specs.Stored.NumberPlaces.{place_of}
 use Rattle.frame.specs.Stored.Hypotheses.{inserted, AreAbove, Ascends, IsLooked, with_float}
-use Rattle.frame.specs.Stored.Entries.{floats, last_where}
-use Rattle.frame.proofs.MarkLemmas.{IsNewPlace, place-push}
+use Rattle.frame.specs.Stored.EntryMeanings.{floats, last_where}
+use Rattle.frame.proofs.NumberMarkLemmas.{IsNewPlace, place-push}
 use Rattle.frame.proofs.CollectLemmas.{inserted-here, inserted-before, inserted-after}
 use Rattle.frame.proofs.AscendingLists.{ascends-inserted}
 use Rattle.frame.proofs.ActivePositions.{ascends-float}

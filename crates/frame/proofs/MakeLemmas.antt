@@ -6,16 +6,16 @@ use Rattle.std.proofs.lemmas.List.{length-append, map-append, reverse-append}
 use Rattle.std.proofs.Math.Seq.{take-append_seam}
 use Rattle.indexmap.proofs.ReorderLemmas.{map-reverse}
 use Rattle.mm_read.specs.declared.stmt.Stmt.{Stmt}
-use Rattle.entries.specs.declared.span.BufferPart.{BufferPart}
+use Rattle.entries.specs.declared.buffer_part.BufferPart.{BufferPart}
 use Rattle.entries.specs.Stored.Spans.{cut, AreSpansIn}
 use Rattle.entries.proofs.SpanLemmas.{range-behind, extends-refl, cut-more, cut-push, spans-push}
 use Rattle.entries.specs.declared.links.Links.{Links}
 use Rattle.frame.specs.declared.storage.Stock.{Stock}
 use Rattle.frame.specs.Links.{actives, last_active, is_disj, links_of}
 use Rattle.entries.specs.Entries.{Entry}
-use Rattle.frame.specs.Stored.Parts.{is_placed, placed, variable_at, option_variable, variable_by, symbols_at, has_two, groups_by}
+use Rattle.frame.specs.Stored.AssertionParts.{is_placed, placed, variable_at, option_variable, variable_by, symbols_at, has_two, groups_by}
 use Rattle.frame.specs.Stored.Hypotheses.{is_hypothesis_entry, AreHypotheses}
-use Rattle.frame.specs.Stored.Entries.{statements_of}
+use Rattle.frame.specs.Stored.EntryMeanings.{statements_of}
 use Rattle.frame.proofs.StoredOneMore.{map-push}
 
 -- ---- one symbol more

@@ -10,7 +10,7 @@ use Rattle.frame.specs.Below.{AreBelow}
 use Rattle.entries.specs.declared.kind.Kind.{Kind}
 use Rattle.entries.specs.declared.kind.Kind.TheVariants.{Open, Close, Const, Var, Disj, Float, Ess, Axiom, Prove}
 use Rattle.entries.specs.Entries.{Entry}
-use Rattle.frame.specs.Stored.Entries.{stmt_by, floats, second_is, is_float_kind}
+use Rattle.frame.specs.Stored.EntryMeanings.{stmt_by, floats, second_is, is_float_kind}
 use Rattle.frame.specs.Stored.Counts.{HasTwo}
 use Rattle.frame.proofs.FoundByNumber.{name_at-injective}
 use Rattle.frame.proofs.AscendingLists.{In}

@@ -12,7 +12,7 @@ use Rattle.names.specs.Codes.{name_at, code_of}
 use Rattle.scope.specs.Standing.{stands_at, standing_of}
 use Rattle.scope.specs.declared.standing.Standing.{Standing}
 use Rattle.names.proofs.CodesLemmas.{same_name}
-use Rattle.names.proofs.AddedLemmas.{has_name-append}
+use Rattle.names.proofs.AddedNames.{has_name-append}
 use Rattle.frame.specs.Parts.{FrameParts}
 use Rattle.frame.specs.FrameOf.{is_mandatory, is_hypothesis, hypotheses, mandatory_groups, separates}
 use Rattle.names.proofs.CodesLemmas.{lt-list_any}

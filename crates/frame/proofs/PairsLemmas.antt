@@ -10,7 +10,7 @@ use Rattle.scope.specs.Active.{stays_open, active, active_from, is_active, varia
 use Rattle.names.specs.Codes.{name_at, decode, AreDistinct}
 use Rattle.frame.specs.Below.{AreBelow}
 use Rattle.frame.specs.Links.{is_var}
-use Rattle.frame.proofs.WalkLemmas.{cut-here, get-take, active-stays}
+use Rattle.frame.proofs.BlockWalkLemmas.{cut-here, get-take, active-stays}
 use Rattle.frame.proofs.ActiveBehind.{stands-active}
 use Rattle.frame.proofs.CollectLemmas.{last-is}
 use Rattle.frame.proofs.StoredReading.{get-stmt}
@@ -19,7 +19,7 @@ use Rattle.frame.proofs.AssertionLemmas.{get-entry}
 use Rattle.entries.specs.declared.kind.Kind.{Kind}
 use Rattle.entries.specs.declared.kind.Kind.TheVariants.{Open, Close, Const, Var, Disj, Float, Ess, Axiom, Prove}
 use Rattle.entries.specs.Entries.{Entry}
-use Rattle.frame.specs.Stored.Entries.{stmt_by, stmt_of, declares, is_var_kind, last_from, last_where}
+use Rattle.frame.specs.Stored.EntryMeanings.{stmt_by, stmt_of, declares, is_var_kind, last_from, last_where}
 use Rattle.frame.specs.Stored.Counts.{AreNumbered, IsPlain}
 use Rattle.frame.proofs.KindWalk.{not-has, has-decode, entry-var, other-var}
 use Rattle.mm_lex.proofs.WordsLemmas.{and_left}

@@ -3,7 +3,7 @@ use Rattle.std.specs.Prelude.{◌≡◌, ℕ, zero, suc, ◌<◌, Bool, true, fa
 use Rattle.std.proofs.Common.{sym, ◌∙◌, ap, subst, arith, length-append, Bor}
 use Rattle.mm_lex.specs.Alphabet.{Name}
 use Rattle.mm_read.specs.Statements.{Database}
-use Rattle.frame.specs.Reading.{IsPosition, ArePositions}
+use Rattle.frame.specs.AtPosition.{IsPosition, ArePositions}
 use Rattle.frame.proofs.StoredOneMore.{map-push}
 
 pub get-front : {A : Type 0} (xs ys : List A) (k : ℕ) (d : A) → k < length xs → get_or (xs ++ ys) k d ≡ get_or xs k d

@@ -14,18 +14,18 @@ use Rattle.entries.specs.declared.links.Links.{Links}
 use Rattle.entries.specs.Entries.{Entry}
 use Rattle.frame.specs.declared.storage.Symbol.{Symbol}
 use Rattle.frame.specs.Links.{links_of}
-use Rattle.frame.specs.Stored.Entries.{stmt_of, labels_of, positions_from, option_list, option_position, AreAllLegal, symbol_of, replaced_by, replaced_of, numbered}
+use Rattle.frame.specs.Stored.EntryMeanings.{stmt_of, labels_of, positions_from, option_list, option_position, AreAllLegal, symbol_of, replaced_by, replaced_of, numbered}
 use Rattle.frame.specs.Stored.Counts.{IsLabelBelow, HasTwo, AreNumbered, AreZeroBehind, with_entry, KeepsCounts}
 use Rattle.frame.specs.Stored.Whole.{AreKept}
 use Rattle.entries.specs.Stored.Spans.{Extends}
-use Rattle.frame.specs.Stored.Parts.{has_parts, IsKeptAs}
+use Rattle.frame.specs.Stored.AssertionParts.{has_parts, IsKeptAs}
 use Rattle.frame.proofs.DeclareLemmas.{symbol_of-push}
 use Rattle.frame.proofs.UndoLemmas.{replaced_of-push}
 use Rattle.frame.proofs.AssertionLemmas.{kept-more, kept-moved}
 use Rattle.frame.proofs.StoredOneMore.{stmt-more, statements-more, map-push, numbered-push, labels_of-push, positions_from-push, take-whole, legal-push, stays-push, numbered-at, still-reads}
-use Rattle.scope.proofs.SymbolsLemmas.{symbols_of-append}
+use Rattle.scope.proofs.SymbolNameLemmas.{symbols_of-append}
 use Rattle.entries.proofs.SpanLemmas.{extends-length}
-use Rattle.entries.proofs.PlaceLemmas.{get-push}
+use Rattle.entries.proofs.BufferPlaceLemmas.{get-push}
 use Rattle.frame.proofs.LabelLemmas.{label-below-at}
 
 -- ---- one more statement

@@ -20,15 +20,15 @@ use Rattle.entries.specs.declared.kind.Kind.{Kind}
 use Rattle.entries.specs.declared.kind.Kind.TheVariants.{Open, Close, Const, Var, Disj, Float, Ess, Axiom, Prove}
 use Rattle.entries.specs.Entries.{Entry}
 use Rattle.frame.specs.declared.storage.Symbol.{Symbol}
-use Rattle.frame.specs.Stored.Entries.{stmt_by, stmt_of, labels_of, positions_from, option_list, option_position, AreAllLegal, symbol_of, ReadsAs, floats, declares, second_is, is_float_kind, is_var_kind, last_from}
+use Rattle.frame.specs.Stored.EntryMeanings.{stmt_by, stmt_of, labels_of, positions_from, option_list, option_position, AreAllLegal, symbol_of, ReadsAs, floats, declares, second_is, is_float_kind, is_var_kind, last_from}
 use Rattle.frame.specs.Stored.Counts.{IsLabelBelow, HasTwo, AreNumbered, AreZero, AreZeroBehind, zero_symbol}
 use Rattle.frame.specs.Stored.Whole.{AreKept}
 use Rattle.entries.specs.Stored.Spans.{Extends}
-use Rattle.frame.proofs.NumberLemmas.{decode-extends, name_at-extends, below-more}
+use Rattle.frame.proofs.SymbolNumberLemmas.{decode-extends, name_at-extends, below-more}
 use Rattle.frame.proofs.OpenLemmas.{stays_open-push, stays_open-close}
-use Rattle.entries.proofs.RecordLemmas.{get-more}
+use Rattle.entries.proofs.StatementRecordLemmas.{get-more}
 use Rattle.scope.proofs.ActiveLemmas.{place}
-use Rattle.entries.proofs.PlaceLemmas.{get-push}
+use Rattle.entries.proofs.BufferPlaceLemmas.{get-push}
 
 -- ---- what was entered stands for what it stood for
 

@@ -12,7 +12,7 @@ use Rattle.std.proofs.lemmas.Slice.Eq.{bytes_eq-Decides}
 use Rattle.entries.specs.declared.kind.Kind.{Kind}
 use Rattle.entries.specs.declared.kind.Kind.TheVariants.{Open, Close, Const, Var, Disj, Float, Ess, Axiom, Prove}
 use Rattle.entries.specs.Entries.{Entry}
-use Rattle.frame.specs.Stored.Entries.{stmt_by, stmt_of, labels_of, positions_from, option_list, option_position}
+use Rattle.frame.specs.Stored.EntryMeanings.{stmt_by, stmt_of, labels_of, positions_from, option_list, option_position}
 use Rattle.frame.specs.Stored.Counts.{HasTwo, AreNumbered}
 use Rattle.scope.proofs.ActiveLemmas.{place, or_false_right}
 

@@ -9,10 +9,10 @@ use Rattle.scope.specs.Active.{bare, label_of, count}
 use Rattle.scope.specs.Legal.{IsLegal}
 use Rattle.entries.specs.declared.kind.Kind.TheVariants.{Open, Close, Const, Var, Disj, Float, Ess, Axiom, Prove}
 use Rattle.frame.specs.declared.storage.Stock.{Stock}
-use Rattle.frame.specs.Stored.Entries.{stmt_of, labels_of, positions_from, option_list, option_position, statements_of, numbered}
+use Rattle.frame.specs.Stored.EntryMeanings.{stmt_of, labels_of, positions_from, option_list, option_position, statements_of, numbered}
 use Rattle.frame.specs.Stored.Counts.{IsFresh, IsBehind}
 use Rattle.frame.specs.Stored.Whole.{AreStored}
-use Rattle.frame.proofs.NumberLemmas.{take-extends}
+use Rattle.frame.proofs.SymbolNumberLemmas.{take-extends}
 use Rattle.frame.proofs.LegalLabels.{fresh}
 use Rattle.frame.proofs.StoredOneMore.{has-labels_of}
 use Rattle.frame.proofs.StoredLemmas.{kept-same}

@@ -11,7 +11,7 @@ use Rattle.entries.specs.declared.kind.Kind.{Kind}
 use Rattle.entries.specs.declared.kind.Kind.TheVariants.{Open, Close, Const, Var, Disj, Float, Ess, Axiom, Prove}
 use Rattle.frame.specs.declared.storage.Symbol.{Symbol}
 use Rattle.entries.specs.Stored.Spans.{Extends}
-use Rattle.frame.specs.Stored.Entries.{ReadsAs, replaced_by, replaced_behind, replaced_of, symbol_of, is_float_kind, is_var_kind, second_is}
+use Rattle.frame.specs.Stored.EntryMeanings.{ReadsAs, replaced_by, replaced_behind, replaced_of, symbol_of, is_float_kind, is_var_kind, second_is}
 use Rattle.frame.specs.Stored.Counts.{with_declared}
 use Rattle.frame.proofs.DeclareLemmas.{noted}
 

@@ -8,11 +8,11 @@ use Rattle.mm_read.specs.declared.stmt.Stmt.TheVariants as stmt
 use Rattle.mm_read.specs.Statements.{Expr, Database}
 use Rattle.scope.specs.Active.{stmt_at, before, expr_of}
 use Rattle.names.specs.Codes.{name_at, decode}
-use Rattle.entries.specs.declared.citation.Hypothesis.{Hypothesis}
-use Rattle.entries.specs.declared.citation.Hypothesis.TheVariants.{Float, Essential}
-use Rattle.entries.specs.declared.citation.Cited.{Cited}
+use Rattle.entries.specs.declared.cited_parts.Hypothesis.{Hypothesis}
+use Rattle.entries.specs.declared.cited_parts.Hypothesis.TheVariants.{Float, Essential}
+use Rattle.entries.specs.declared.cited_parts.Cited.{Cited}
 use Rattle.entries.specs.Entries.{Assertion}
-use Rattle.entries.specs.declared.citation.TheConstants.{NO_HEAD}
+use Rattle.entries.specs.declared.cited_parts.TheConstants.{NO_HEAD}
 use Rattle.frame.specs.FrameOf.{hypotheses, mandatory_groups}
 use Rattle.frame.specs.Below.{AreBelow, AllBelow}
 

@@ -7,7 +7,7 @@ pub mod Citations
 pub mod Below
 pub mod Cited
 pub mod Bound
-pub mod Reading
+pub mod AtPosition
 pub mod Links
 pub mod Laws
 pub mod Stored

@@ -5,12 +5,12 @@ ghost use Rattle.scope.specs.Active.{is_active, is_open, is_close, stmt_at, expr
 ghost use Rattle.names.specs.Codes.{decode};
 ghost use Rattle.frame.specs.Below.{AreBelow};
 ghost use Rattle.frame.specs.FrameOf.{HasAssertion};
-ghost use Rattle.frame.specs.Reading.{IsMeaning};
+ghost use Rattle.frame.specs.AtPosition.{IsMeaning};
 ghost use Rattle.frame.specs.Cited.{IsCited, IsGathered};
 ghost use Rattle.frame.specs.Stored.Drafts.{IsDraft, drafted};
 ghost use Rattle.frame.specs.Links.{last_active, links_of};
 ghost use Rattle.frame.specs.Stored.Whole.{AreStored};
-ghost use Rattle.frame.specs.Stored.Entries.{statements_of};
+ghost use Rattle.frame.specs.Stored.EntryMeanings.{statements_of};
 ghost use Rattle.frame.specs.Stored.Counts.{IsPlain, IsHypothesisAt};
 
 use crate::draft::Draft;

@@ -7,7 +7,7 @@ ghost use Rattle.frame.specs.Below.{AreBelow};
 ghost use Rattle.frame.specs.Links.{links_of};
 ghost use Rattle.frame.specs.declared.storage.Symbol.{Symbol as Declared};
 ghost use Rattle.frame.specs.Stored.Whole.{AreStored};
-ghost use Rattle.frame.specs.Stored.Entries.{statements_of};
+ghost use Rattle.frame.specs.Stored.EntryMeanings.{statements_of};
 ghost use Rattle.frame.specs.Stored.Counts.{with_declared, kind_of};
 
 use crate::at_position::links_at;

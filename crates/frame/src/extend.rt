@@ -7,7 +7,7 @@ ghost use Rattle.scope.specs.Symbols.{symbols_by};
 ghost use Rattle.frame.specs.Stored.Whole.{AreNumbersOf, AreStored};
 ghost use Rattle.frame.specs.Stored.Counts.{IsBehind};
 ghost use Rattle.entries.specs.Stored.Spans.{Extends};
-ghost use Rattle.frame.specs.Stored.Entries.{statements_of};
+ghost use Rattle.frame.specs.Stored.EntryMeanings.{statements_of};
 
 use crate::declare::{declare, links_after};
 use crate::draft::Draft;

@@ -7,7 +7,7 @@ ghost use Rattle.names.specs.Codes.{decode, name_at};
 ghost use Rattle.scope.specs.Symbols.{symbols_of, AreOfLast};
 ghost use Rattle.frame.specs.Below.{AreBelow};
 ghost use Rattle.frame.specs.FrameOf.{HasAssertion, hypotheses};
-ghost use Rattle.frame.specs.Reading.{IsMeaning, IsPosition, ArePositions, AreLegal};
+ghost use Rattle.frame.specs.AtPosition.{IsMeaning, IsPosition, ArePositions, AreLegal};
 ghost use Rattle.frame.specs.Cited.{IsCited, IsGathered};
 ghost use Rattle.entries.specs.Stored.Spans.{Extends};
 
@@ -43,7 +43,7 @@ impl Model for Frames {
 
     ghost Value = { Numbered };
 
-    ghost use Rattle.frame.specs.Stored.Entries.{numbered};
+    ghost use Rattle.frame.specs.Stored.EntryMeanings.{numbered};
     ghost use Rattle.frame.specs.Stored.Whole.{AreStored};
 
     ghost view = { λ a. numbered a.stock };

@@ -7,7 +7,7 @@ ghost use Rattle.frame.specs.Cited.{IsGathered};
 ghost use Rattle.frame.specs.Stored.Drafts.{IsDraft, drafted};
 ghost use Rattle.frame.specs.Stored.Labels.{is_label_kind};
 ghost use Rattle.frame.specs.Stored.Whole.{AreStored};
-ghost use Rattle.frame.specs.Stored.Entries.{statements_of};
+ghost use Rattle.frame.specs.Stored.EntryMeanings.{statements_of};
 
 use crate::draft::Draft;
 use crate::make::spread;

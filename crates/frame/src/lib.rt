@@ -8,7 +8,7 @@
 //! `assertion`, `one_frame`; `laws`.
 #![tactic(auto)]
 
-mod apart;
+mod active_apart;
 mod assertion;
 mod at_position;
 mod declare;
@@ -22,13 +22,13 @@ mod laws;
 mod make;
 mod mandatory;
 mod meaning;
-mod numbers;
 mod one_frame;
 mod pairs;
 mod places;
 mod plain;
 mod shape;
 mod storage;
+mod symbol_numbers;
 mod undo;
 
 pub use assertion::Frame;

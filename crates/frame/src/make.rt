@@ -8,15 +8,15 @@ ghost use Rattle.frame.specs.Links.{actives, is_disj};
 ghost use Rattle.frame.specs.Stored.Whole.{AreStored};
 ghost use Rattle.frame.specs.Stored.Hypotheses.{AreHypotheses, AreParts, IsSpread, collected, with_floats};
 ghost use Rattle.frame.specs.Stored.Counts.{HasTwo};
-ghost use Rattle.frame.specs.Stored.Parts.{asked_at, asked_by, head_at, has_two, variable_at, variable_by, symbols_at, groups_by, placed};
-ghost use Rattle.frame.specs.Stored.Entries.{statements_of};
+ghost use Rattle.frame.specs.Stored.AssertionParts.{asked_at, asked_by, head_at, has_two, variable_at, variable_by, symbols_at, groups_by, placed};
+ghost use Rattle.frame.specs.Stored.EntryMeanings.{statements_of};
 
 use crate::at_position::links_at;
 use crate::draft::Draft;
 use crate::mandatory::{add_essentials, are_few, put_floats};
 use crate::places::Places;
 use crate::storage::Stock;
-use entries::span::between;
+use entries::buffer_part::between;
 use entries::{BufferPart, EntryRef, Hypothesis, Kind, NO_HEAD};
 use std::alloc::AllocError;
 

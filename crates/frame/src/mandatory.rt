@@ -5,7 +5,7 @@ ghost use Rattle.frame.specs.Links.{actives};
 ghost use Rattle.frame.specs.Below.{AreBelow};
 ghost use Rattle.frame.specs.Stored.Whole.{AreStored};
 ghost use Rattle.frame.specs.Stored.Hypotheses.{Ascends, IsLooked, inserted, with_all, with_float, with_floats, with_essentials};
-ghost use Rattle.frame.specs.Stored.Entries.{floats, last_where, statements_of};
+ghost use Rattle.frame.specs.Stored.EntryMeanings.{floats, last_where, statements_of};
 
 use crate::at_position::{is_active_at, links_at};
 use crate::places::Places;

@@ -6,7 +6,7 @@ ghost use Rattle.scope.specs.Active.{active, before, is_variable, separated};
 ghost use Rattle.names.specs.Codes.{name_at, code_of, AreDistinct};
 ghost use Rattle.frame.specs.FrameOf.{is_pair};
 ghost use Rattle.frame.specs.Stored.Whole.{AreStored};
-ghost use Rattle.frame.specs.Stored.Entries.{statements_of};
+ghost use Rattle.frame.specs.Stored.EntryMeanings.{statements_of};
 
 use crate::at_position::{is_active_at, links_at};
 use crate::storage::Stock;
@@ -29,7 +29,7 @@ impl<'a> Model for Pairs<'a> {
     ghost use Rattle.std.specs.Prelude.{◌≤◌, length};
     ghost use Rattle.scope.specs.Active.{before};
     ghost use Rattle.names.specs.Codes.{AreDistinct};
-    ghost use Rattle.frame.specs.Stored.Entries.{statements_of};
+    ghost use Rattle.frame.specs.Stored.EntryMeanings.{statements_of};
     ghost use Rattle.frame.specs.Stored.Whole.{AreStored};
 
     ghost view = { λ a. record { statements = before (statements_of a.stock.now) a.at; names = a.stock.now.names } };

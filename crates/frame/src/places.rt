@@ -1,8 +1,8 @@
 //! Numbers of symbols by place, and the place of each.
 ghost use Rattle.std.specs.Prelude.{◌≡◌, ℕ, ◌<◌, ◌++◌, ◌∷◌, [], length, slice_get, Some, OnOk, IfSome};
-ghost use Rattle.frame.specs.Stored.Places.{is_code, place_of};
+ghost use Rattle.frame.specs.Stored.NumberPlaces.{is_code, place_of};
 
-use entries::span::{item, place};
+use entries::buffer_part::{item, place};
 use std::alloc::{AllocError, Global};
 use std::marker::Model;
 
@@ -21,7 +21,7 @@ impl Model for Places {
 
     ghost Value = { List (Option ℕ) };
 
-    ghost use Rattle.frame.specs.Stored.Places.{AreMarked};
+    ghost use Rattle.frame.specs.Stored.NumberPlaces.{AreMarked};
 
     ghost view = { λ a. a.list.items };
 

@@ -8,7 +8,7 @@ ghost use Rattle.frame.specs.Stored.Plain.{ArePlainNumbers};
 ghost use Rattle.frame.specs.Stored.Whole.{AreNumbersOf, AreStored};
 ghost use Rattle.frame.specs.Stored.Counts.{IsBehind};
 ghost use Rattle.entries.specs.Stored.Spans.{Extends};
-ghost use Rattle.frame.specs.Stored.Entries.{statements_of};
+ghost use Rattle.frame.specs.Stored.EntryMeanings.{statements_of};
 
 use crate::declare::{declare, links_after};
 use crate::enter::{enter_label, head};

@@ -5,7 +5,7 @@ ghost use Rattle.frame.specs.Below.{AreBelow};
 ghost use Rattle.frame.specs.declared.storage.Symbol.{Symbol as Declared};
 ghost use Rattle.frame.specs.Stored.Counts.{AreNumbered, HasTwo, with_declared};
 ghost use Rattle.entries.specs.Stored.Spans.{Extends};
-ghost use Rattle.frame.specs.Stored.Entries.{ReadsAs, replaced_by, replaced_of, symbol_of};
+ghost use Rattle.frame.specs.Stored.EntryMeanings.{ReadsAs, replaced_by, replaced_of, symbol_of};
 
 use crate::storage::Symbol;
 use entries::{Entries, Kind};

@@ -6,7 +6,7 @@ use Rattle.mm_read.specs.declared.stmt.Stmt.{Stmt}
 use Rattle.mm_read.specs.Statements.{Database}
 use Rattle.scope.specs.Active.{bare, bares, stmt_at, is_provable}
 use Rattle.frame.specs.Citations.{Carries}
-use Rattle.frame.specs.Reading.{HasLabelsOnce}
+use Rattle.frame.specs.AtPosition.{HasLabelsOnce}
 use Rattle.proof_code.specs.declared.item.Item.{Item}
 use Rattle.verify.specs.Derivations.{Derivation}
 use Rattle.verify.specs.Right.{IsRight, Derives}
@@ -16,8 +16,8 @@ use Rattle.library.specs.Good.{Good}
 use Rattle.library.specs.Uses.{HasItems, IsUser, AreLabelsOf}
 use Rattle.library.specs.Asked.{HasNoLabel, NamesNoProof, NamesProof, IsNoProof, IsUsage, SpellsTree, IsTreeOf}
 use Rattle.frame.proofs.LegalLabels.{legal-labels}
-use Rattle.library.proofs.RulesLemmas.{legal-each}
-use Rattle.library.proofs.WalkLemmas.{carries-bare, carries-whole, one-items}
+use Rattle.library.proofs.JoinedRulesLemmas.{legal-each}
+use Rattle.library.proofs.CitationWalkLemmas.{carries-bare, carries-whole, one-items}
 
 -- no two of good statements carry one label
 pub labels-once : (S : Database) → Good S → HasLabelsOnce (bares S)

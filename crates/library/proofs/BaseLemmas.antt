@@ -18,7 +18,7 @@ use Rattle.library.specs.Causes.{IsFirstUnproved}
 use Rattle.library.specs.Judging.{Begins, StandsProved, IsLeastUnproved, IsFault, IsJudged, IsBase, IsPlaced, IsUnproved, Extends}
 use Rattle.library.proofs.FrontLemmas.{stmt_at-behind, stands-within, stands-index}
 use Rattle.library.proofs.GoodLemmas.{provable-where, provable-behind, proved-later}
-use Rattle.library.proofs.RulesLemmas.{legal-more, first_broken-bares, bare-bare}
+use Rattle.library.proofs.JoinedRulesLemmas.{legal-more, first_broken-bares, bare-bare}
 use Rattle.library.proofs.ProvingLemmas.{AreProved, stands-other}
 
 -- ---- lists

@@ -4,8 +4,8 @@ use Rattle.std.proofs.Common.{sym, ◌∙◌, ap, subst, arith}
 use Rattle.mm_lex.specs.Alphabet.{Name}
 use Rattle.mm_lex.specs.declared.fault.LexFault.{LexFault}
 use Rattle.mm_lex.specs.declared.fault.LexFault.TheVariants as lex
-use Rattle.mm_lex.specs.Faults.{IsLexFault}
-use Rattle.mm_lex.proofs.FaultsLemmas.{IsClean-no_fault}
+use Rattle.mm_lex.specs.TextFaults.{IsLexFault}
+use Rattle.mm_lex.proofs.BadByteLemmas.{IsClean-no_fault}
 use Rattle.mm_lex.proofs.TokensLemmas.{AreTokens-no_comment_fault}
 use Rattle.mm_read.specs.declared.stmt.Stmt.{Stmt}
 use Rattle.mm_read.specs.Statements.{Database, spelled}
@@ -25,7 +25,7 @@ use Rattle.library.specs.Charters.{forbidden}
 use Rattle.library.specs.Good.{Good}
 use Rattle.library.specs.Causes.{IsReadable, IsAllowed, IsFirstUnproved, IsCause}
 use Rattle.library.proofs.GoodLemmas.{provable-behind}
-use Rattle.library.proofs.RulesLemmas.{legal-text}
+use Rattle.library.proofs.JoinedRulesLemmas.{legal-text}
 use Rattle.mm_read.proofs.OneReading.{same_tokens}
 
 -- ---- what a text reads as

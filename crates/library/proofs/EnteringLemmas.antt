@@ -8,7 +8,7 @@ use Rattle.scope.specs.declared.rule.Rule.{Rule}
 use Rattle.scope.specs.Active.{bare, bares}
 use Rattle.scope.specs.Legal.{broken_rule, end_rule, first_broken, numbered}
 use Rattle.library.specs.Judging.{Begins}
-use Rattle.library.proofs.RulesLemmas.{first_broken-taken, first_broken-here}
+use Rattle.library.proofs.JoinedRulesLemmas.{first_broken-taken, first_broken-here}
 
 -- what a result says, once it is known to be one
 pub on-ok : {A E P : Type 0} (r : Result A E) → is_err r ≡ false → OnOk r P → P

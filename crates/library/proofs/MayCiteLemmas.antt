@@ -11,18 +11,18 @@ use Rattle.mm_read.specs.Statements.{Database}
 use Rattle.scope.specs.Active.{bare, bares, before, stmt_at, label_of, proof_of}
 use Rattle.frame.specs.FrameOf.{hypotheses}
 use Rattle.frame.specs.Citations.{Carries, is_hypothesis_kind}
-use Rattle.frame.specs.Reading.{HasLabelsOnce, IsPosition}
+use Rattle.frame.specs.AtPosition.{HasLabelsOnce, IsPosition}
 use Rattle.proof_code.specs.declared.item.Item.{Item}
 use Rattle.proof_code.specs.declared.item.Item.TheVariants.{Cite, Recall, Mark}
 use Rattle.proof_code.specs.Writes.{AreItems, Writes, begin, finish}
 use Rattle.verify.specs.Proves.{label_or_none, mandatory_labels}
 use Rattle.verify.specs.Right.{IsProvable}
-use Rattle.library.specs.Marks.{IsMarked, is_marked, listed_in, ListsSome, MeetsNothing, ProofMeets, NotesUser}
+use Rattle.library.specs.UseMarks.{IsMarked, is_marked, listed_in, ListsSome, MeetsNothing, ProofMeets, NotesUser}
 use Rattle.library.proofs.FrontLemmas.{IsHypothesisAt, AreHypothesesAt, hypotheses-at, hypotheses-bare}
-use Rattle.library.proofs.ItemsLemmas.{stands-bare}
-use Rattle.library.proofs.MarksLemmas.{marked-is}
+use Rattle.library.proofs.WrittenItemsLemmas.{stands-bare}
+use Rattle.library.proofs.UseMarkLemmas.{marked-is}
 use Rattle.library.proofs.ProvingLemmas.{same-statement}
-use Rattle.library.proofs.WalkLemmas.{carries-bare}
+use Rattle.library.proofs.CitationWalkLemmas.{carries-bare}
 
 -- ---- places of lists
 

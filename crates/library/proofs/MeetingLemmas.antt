@@ -11,26 +11,26 @@ use Rattle.mm_read.specs.declared.stmt.Stmt.{Stmt}
 use Rattle.mm_read.specs.Statements.{Database}
 use Rattle.scope.specs.Active.{bare, bares, before, stmt_at, proof_of}
 use Rattle.frame.specs.FrameOf.{hypotheses}
-use Rattle.frame.specs.Reading.{HasLabelsOnce, IsPosition}
+use Rattle.frame.specs.AtPosition.{HasLabelsOnce, IsPosition}
 use Rattle.proof_code.specs.declared.item.Item.{Item}
 use Rattle.proof_code.specs.declared.item.Item.TheVariants.{Cite, Recall}
-use Rattle.proof_code.specs.Numbers.{item_of, items_of}
+use Rattle.proof_code.specs.ItemNumbers.{item_of, items_of}
 use Rattle.proof_code.specs.Reading.{IsHeading, share_label}
 use Rattle.proof_code.specs.Writes.{finish, Writes, WritesCompressed, WritesPacked, WritesPlain, is_compressed}
 use Rattle.verify.specs.Proves.{label_or_none, mandatory_labels}
 use Rattle.verify.specs.Right.{IsProvable}
 use Rattle.library.specs.Good.{Good, IsProved}
-use Rattle.library.specs.Marks.{is_marked, place_of, AreWanted, ItemsMeet, ProofMeets, TellsMeeting, listed_in, ListsNone, ListsSome}
+use Rattle.library.specs.UseMarks.{is_marked, place_of, AreWanted, ItemsMeet, ProofMeets, TellsMeeting, listed_in, ListsNone, ListsSome}
 use Rattle.library.proofs.BaseLemmas.{take-front}
 use Rattle.library.proofs.FrontLemmas.{AreHypothesesAt, hypotheses-at}
-use Rattle.library.proofs.ItemsLemmas.{stands-bare}
+use Rattle.library.proofs.WrittenItemsLemmas.{stands-bare}
 use Rattle.frame.proofs.ActiveBehind.{not-both}
 use Rattle.frame.proofs.PositionLemmas.{positions-end}
-use Rattle.library.proofs.MarksLemmas.{meets-items}
+use Rattle.library.proofs.UseMarkLemmas.{meets-items}
 use Rattle.library.proofs.MayCiteLemmas.{kind-labelled, cited-label}
 use Rattle.library.proofs.ProvingLemmas.{same-statement, labels-bare}
 use Rattle.library.proofs.UsersLemmas.{proof-meets}
-use Rattle.library.proofs.WalkLemmas.{has-items}
+use Rattle.library.proofs.CitationWalkLemmas.{has-items}
 
 -- ---- the tests of labels
 

@@ -17,7 +17,7 @@ use Rattle.library.specs.Judging.{StandsProved}
 use Rattle.frame.proofs.ActiveBehind.{not-both}
 use Rattle.proof_code.proofs.OneList.{one_answer}
 use Rattle.library.proofs.FrontLemmas.{hypotheses-bare}
-use Rattle.library.proofs.ItemsLemmas.{provable-bare}
+use Rattle.library.proofs.WrittenItemsLemmas.{provable-bare}
 
 -- ---- items
 

@@ -10,7 +10,7 @@ use Rattle.scope.specs.Active.{stmt_at, is_provable}
 use Rattle.verify.specs.Proves.{label_or_none}
 use Rattle.verify.specs.Right.{IsProvable}
 use Rattle.library.specs.Uses.{RestsOn, Uses, directly, through, is_axiom, IsAxiomAt, Rises, IsIn, AreLabelsOf}
-use Rattle.library.specs.Marks.{IsMarked, Reaches, starts, leads, AreReached, axiom_label, axioms_in}
+use Rattle.library.specs.UseMarks.{IsMarked, Reaches, starts, leads, AreReached, axiom_label, axioms_in}
 
 -- ---- one more statement
 

@@ -8,15 +8,15 @@ use Rattle.mm_read.specs.declared.stmt.Stmt.{Stmt}
 use Rattle.mm_read.specs.declared.stmt.Stmt.TheVariants.{Open, Close, Const, Var, Disj, Float, Ess, Axiom, Prove}
 use Rattle.mm_read.specs.Statements.{Database}
 use Rattle.scope.specs.Active.{bares, stmt_at, is_provable}
-use Rattle.frame.specs.Reading.{HasLabelsOnce}
+use Rattle.frame.specs.AtPosition.{HasLabelsOnce}
 use Rattle.proof_code.specs.declared.item.Item.{Item}
 use Rattle.verify.specs.Proves.{label_or_none}
 use Rattle.library.specs.Good.{Good}
 use Rattle.library.specs.Uses.{HasItems, Cites, RestsOn, directly, through, IsUser, Rises, IsIn, AreLabelsOf}
-use Rattle.library.specs.Marks.{IsMarked, mark, ItemsMeet, ProofMeets, NotesUser}
+use Rattle.library.specs.UseMarks.{IsMarked, mark, ItemsMeet, ProofMeets, NotesUser}
 use Rattle.library.proofs.FrontLemmas.{stands-within}
-use Rattle.library.proofs.MarksLemmas.{mark-count, mark-kept, mark-sound, mark-whole}
-use Rattle.library.proofs.WalkLemmas.{clear, cites-below, cites-of, cited-of}
+use Rattle.library.proofs.UseMarkLemmas.{mark-count, mark-kept, mark-sound, mark-whole}
+use Rattle.library.proofs.CitationWalkLemmas.{clear, cites-below, cites-of, cited-of}
 
 -- ---- one more label
 

@@ -6,9 +6,9 @@ pub mod Ledger
 pub mod PlainLibraryOf
 pub mod Laws
 pub mod Judging
-pub mod Kept
+pub mod LibraryState
 pub mod Listed
 pub mod Uses
 pub mod Asked
-pub mod Marks
+pub mod UseMarks
 pub mod Unproved

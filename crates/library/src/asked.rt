@@ -5,13 +5,13 @@ ghost use Rattle.scope.specs.Active.{bares, is_provable, stmt_at};
 ghost use Rattle.proof_code.specs.declared.item.Item.{Item};
 ghost use Rattle.verify.specs.Derivations.{Derivation, derivation_of};
 ghost use Rattle.verify.specs.Right.{IsProvable, IsRight, IsSmall};
-ghost use Rattle.frame.specs.Reading.{HasLabelsOnce};
+ghost use Rattle.frame.specs.AtPosition.{HasLabelsOnce};
 ghost use Rattle.library.specs.Good.{Good};
 ghost use Rattle.library.specs.Uses.{HasItems, Uses, IsUser, AreLabelsOf};
 ghost use Rattle.library.specs.Asked.{HasNoLabel, NamesProof, NamesNoProof, IsTrace, IsUsage, IsProofOf, IsTreeOf, IsNoProof, SpellsTree, SpellsLargeTree};
 
-use crate::items::items_of;
 use crate::library::Library;
+use crate::read_items::items_of;
 use crate::users::users;
 use crate::uses::axioms_used;
 use frame::Frames;

@@ -3,7 +3,7 @@ ghost use Rattle.std.specs.Prelude.{◌≡◌, ℕ, ◌+◌, ◌*◌, ◌≤◌,
 ghost use Rattle.std.specs.Fn.{FnReturnsAt};
 ghost use Rattle.mm_read.specs.Statements.{AreShaped};
 ghost use Rattle.scope.specs.Active.{bares, is_closed};
-ghost use Rattle.frame.specs.Reading.{HasLabelsOnce};
+ghost use Rattle.frame.specs.AtPosition.{HasLabelsOnce};
 ghost use Rattle.library.specs.Good.{Good};
 ghost use Rattle.verify.specs.Derivations.{Derivation, derivation_of};
 ghost use Rattle.verify.specs.Right.{IsSmall};
@@ -13,7 +13,7 @@ ghost use Rattle.library.specs.Unproved.{FindsLeast};
 
 use crate::asked::{AskFault, items_at, proof_at, trace_at, tree_at, usage_of};
 use crate::entering::{enter, make_room};
-use crate::items::is_unfinished;
+use crate::read_items::is_unfinished;
 use crate::unproved::{Proofs, least_unproved};
 use crate::verdict::Cause;
 use frame::Frames;

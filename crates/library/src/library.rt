@@ -6,7 +6,7 @@ ghost use Rattle.library.specs.Charters.{AreNames};
 ghost use Rattle.library.specs.Good.{Good};
 ghost use Rattle.library.specs.LibraryOf.{Applies, empty, status};
 ghost use Rattle.library.specs.Ledger.{IsDecision};
-ghost use Rattle.library.specs.Kept.{IsWithinSteps, IsWithinEntry, IsWithinText};
+ghost use Rattle.library.specs.LibraryState.{IsWithinSteps, IsWithinEntry, IsWithinText};
 ghost use Rattle.library.specs.Judging.{Judges, JudgesText, JudgesCharter, ReadsTexts};
 ghost use Rattle.library.specs.Unproved.{FindsLeast};
 
@@ -38,7 +38,7 @@ pub struct Library {
 }
 
 impl Model for Library {
-    ghost use Rattle.library.specs.Kept.{Kept};
+    ghost use Rattle.library.specs.LibraryState.{Kept};
 
     ghost Value = { Kept };
 

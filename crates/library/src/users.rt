@@ -5,14 +5,14 @@ ghost use Rattle.mm_lex.specs.Alphabet.{Name};
 ghost use Rattle.mm_read.specs.declared.stmt.Stmt.{Stmt as Statement};
 ghost use Rattle.scope.specs.Active.{bares, proof_of, stmt_at};
 ghost use Rattle.frame.specs.FrameOf.{HasAssertion};
-ghost use Rattle.frame.specs.Reading.{HasLabelsOnce};
-ghost use Rattle.proof_code.specs.Numbers.{items_of};
+ghost use Rattle.frame.specs.AtPosition.{HasLabelsOnce};
+ghost use Rattle.proof_code.specs.ItemNumbers.{items_of};
 ghost use Rattle.proof_code.specs.Writes.{is_compressed};
 ghost use Rattle.verify.specs.Proves.{mandatory_labels};
 ghost use Rattle.verify.specs.Right.{IsProvable};
 ghost use Rattle.library.specs.Good.{Good};
 ghost use Rattle.library.specs.Uses.{IsUser, AreLabelsOf};
-ghost use Rattle.library.specs.Marks.{is_marked, AreWanted, ItemsMeet, ProofMeets, TellsMeeting, ListsNone, ListsSome, MeetsNothing, NotesUser};
+ghost use Rattle.library.specs.UseMarks.{is_marked, AreWanted, ItemsMeet, ProofMeets, TellsMeeting, ListsNone, ListsSome, MeetsNothing, NotesUser};
 
 use crate::uses::mark_position;
 use frame::Frames;

@@ -3,12 +3,12 @@ ghost use Rattle.std.specs.Prelude.{◌≡◌, ℕ, ◌≤◌, ◌∷◌, ◌++�
 ghost use Rattle.mm_read.specs.declared.stmt.Stmt.{Stmt as Statement};
 ghost use Rattle.scope.specs.Active.{bares};
 ghost use Rattle.verify.specs.Right.{IsProvable};
-ghost use Rattle.frame.specs.Reading.{HasLabelsOnce};
+ghost use Rattle.frame.specs.AtPosition.{HasLabelsOnce};
 ghost use Rattle.library.specs.Good.{Good};
 ghost use Rattle.library.specs.Uses.{Uses, AreLabelsOf};
-ghost use Rattle.library.specs.Marks.{place_of, mark, MarksItems, MarksCited, AreReached, axiom_label, axioms_in};
+ghost use Rattle.library.specs.UseMarks.{place_of, mark, MarksItems, MarksCited, AreReached, axiom_label, axioms_in};
 
-use crate::items::items_of;
+use crate::read_items::items_of;
 use frame::Frames;
 use mm_lex::Word;
 use mm_read::Stmt;

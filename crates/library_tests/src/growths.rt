@@ -1,7 +1,7 @@
 //! Where a growth is refused nothing is decided, and the same text asked again has its verdict: run with each allocation refused
 //! in turn.
-use crate::texts::{entry, verdict_on};
-use crate::workers::by_workers;
+use crate::text_entries::{entry, verdict_on};
+use crate::worker_counts::by_workers;
 use bytes::Bytes;
 use library::{Cause, Library, Verdict};
 use scope::Rule;

@@ -4,6 +4,6 @@
 #[cfg(test)]
 mod growths;
 #[cfg(test)]
-mod texts;
+mod text_entries;
 #[cfg(test)]
-mod workers;
+mod worker_counts;

@@ -3,9 +3,9 @@
 //! What was learned goes to standard output, and the time of each 20,000 slots in milliseconds to standard error.
 #![tactic(auto)]
 
-mod packets;
+mod numbered_values;
 
-use packets::{Number, is_packet};
+use numbered_values::{Number, is_packet};
 use std::alloc::Global;
 use std::collections::VecDeque;
 use std::io;

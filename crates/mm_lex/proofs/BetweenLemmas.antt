@@ -9,7 +9,7 @@ use Rattle.mm_lex.specs.declared.fault.LexFault.{LexFault}
 use Rattle.mm_lex.specs.declared.fault.LexFault.TheVariants.{Text, Comment, Memory}
 use Rattle.mm_lex.specs.Alphabet.{Name, word, runs_from, IsRunAt}
 use Rattle.mm_lex.specs.Tokens.{opener, is_plain, AllPlain, Part, part_spans, AreParts, Cuts, words}
-use Rattle.mm_lex.specs.Faults.{StopsAt}
+use Rattle.mm_lex.specs.TextFaults.{StopsAt}
 use Rattle.mm_lex.specs.Comments.{runs_behind, IsClosedAt}
 use Rattle.mm_lex.specs.Between.{HasBetween, AreBehind, StopsBehind, FailsBehind}
 use Rattle.mm_lex.proofs.Cutting.{Outcome, prepend, scan, scan_cut, scan-cut, scan-stops}

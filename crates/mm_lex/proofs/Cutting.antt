@@ -6,7 +6,7 @@ use Rattle.std.proofs.lemmas.List.{append-nil}
 use Rattle.mm_lex.specs.declared.span.Span.{Span}
 use Rattle.mm_lex.specs.Alphabet.{name_eq, word}
 use Rattle.mm_lex.specs.Tokens.{opener, closer, is_plain, AllPlain, Part, part_spans, IsPart, AreParts, Cuts}
-use Rattle.mm_lex.specs.Faults.{IsStrayCloser, IsNestedOpener, IsUnclosed, StopsAt}
+use Rattle.mm_lex.specs.TextFaults.{IsStrayCloser, IsNestedOpener, IsUnclosed, StopsAt}
 use Rattle.mm_lex.proofs.WordsLemmas.{and_left, and_right}
 
 -- the tokens, or the offset at which the cut stops

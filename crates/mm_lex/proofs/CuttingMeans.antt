@@ -6,7 +6,7 @@ use Rattle.std.proofs.lemmas.Bool.{and_from}
 use Rattle.mm_lex.specs.declared.span.Span.{Span}
 use Rattle.mm_lex.specs.Alphabet.{name_eq, word}
 use Rattle.mm_lex.specs.Tokens.{opener, closer, is_plain, AllPlain, Part, part_spans, Cuts}
-use Rattle.mm_lex.specs.Faults.{StopsAt}
+use Rattle.mm_lex.specs.TextFaults.{StopsAt}
 use Rattle.mm_lex.proofs.Cutting.{Outcome, prepend, outside, inside, scan}
 
 module _ (text : List ℕ) where

@@ -1,7 +1,7 @@
 pub mod NameLemmas
 pub mod WordsLemmas
 pub mod PushLemmas
-pub mod FaultsLemmas
+pub mod BadByteLemmas
 pub mod LanesLemmas
 pub mod RunsLemmas
 pub mod Cutting
@@ -11,9 +11,9 @@ pub mod Progress
 pub mod TokensLemmas
 pub mod StretchLemmas
 pub mod TidyLemmas
-pub mod SymbolsLemmas
+pub mod VisibleRunLemmas
 pub mod BetweenLemmas
-pub mod WalkLemmas
+pub mod NextRunLemmas
 pub mod FewLemmas
 pub mod ListLemmas
 pub mod OneCut

@@ -14,7 +14,7 @@ use Rattle.mm_lex.specs.Stored.Stretch.{stretch}
 use Rattle.mm_lex.specs.Between.{AreBehind, IsTokenBehind}
 use Rattle.mm_lex.specs.SymbolList.{AddsSymbols, EndsSymbols}
 use Rattle.mm_lex.proofs.LanesLemmas.{clean-drop}
-use Rattle.mm_lex.proofs.SymbolsLemmas.{IsFrontOf, stretch_front, symbols_words}
+use Rattle.mm_lex.proofs.VisibleRunLemmas.{IsFrontOf, stretch_front, symbols_words}
 use Rattle.mm_lex.proofs.BetweenLemmas.{between_none, between_on, between_as, between_plain, between_runs, behind_on, behind_as}
 
 module _ {text : List ℕ} where

@@ -11,7 +11,7 @@ use Rattle.mm_lex.specs.declared.span.Span.{Span}
 use Rattle.mm_lex.specs.Alphabet.{Name, is_white, is_visible, is_allowed, runs, word, IsRunAt}
 use Rattle.mm_lex.specs.Words.{is_word}
 use Rattle.mm_lex.specs.Tokens.{opener, closer, is_plain, AllPlain, IsClean, AreTokens, IsWordAt}
-use Rattle.mm_lex.specs.Faults.{IsCommentFault}
+use Rattle.mm_lex.specs.TextFaults.{IsCommentFault}
 use Rattle.mm_lex.specs.Comments.{runs_behind, PassesPlain, IsClosedAt, IsNestedAt}
 use Rattle.mm_lex.proofs.WordsLemmas.{and_left, and_right}
 use Rattle.mm_lex.proofs.LanesLemmas.{clean-take, clean-drop}

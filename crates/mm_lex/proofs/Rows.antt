@@ -4,7 +4,7 @@ use Rattle.std.proofs.Common.{inl, inr, arith}
 use Rattle.mm_lex.specs.Alphabet.{is_label, is_symbol}
 use Rattle.mm_lex.specs.Words.{spaced, words_of}
 use Rattle.mm_lex.specs.Tokens.{AreTokens}
-use Rattle.mm_lex.specs.Faults.{IsFirstBadByte, IsCommentFault}
+use Rattle.mm_lex.specs.TextFaults.{IsFirstBadByte, IsCommentFault}
 use Rattle.mm_lex.specs.Stored.Stretch.{stretch}
 
 -- `$. $( hi $) p`: a comment goes

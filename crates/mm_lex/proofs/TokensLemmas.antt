@@ -5,11 +5,11 @@ use Rattle.std.proofs.Common.{sym, inl, inr}
 use Rattle.mm_lex.specs.declared.span.Span.{Span}
 use Rattle.mm_lex.specs.Alphabet.{runs}
 use Rattle.mm_lex.specs.Tokens.{IsClean, Cuts, AreTokens}
-use Rattle.mm_lex.specs.Faults.{IsCommentFault}
+use Rattle.mm_lex.specs.TextFaults.{IsCommentFault}
 use Rattle.mm_lex.specs.Laws.{SomeAnswer}
 use Rattle.mm_lex.proofs.Cutting.{Outcome, scan, scan-cut, scan-stops}
 use Rattle.mm_lex.proofs.Progress.{AreTokens-scan, IsCommentFault-scan, same_fault, no_fault}
-use Rattle.mm_lex.proofs.FaultsLemmas.{is_bad, IsFirstBadByte-found, IsClean-none}
+use Rattle.mm_lex.proofs.BadByteLemmas.{is_bad, IsFirstBadByte-found, IsClean-none}
 
 pub Cuts-unique : (text : List ℕ) (spans a b : List Span) → Cuts text spans a → Cuts text spans b → a ≡ b
 Cuts-unique text spans a b is also = let e = scan-cut text spans a is in let f = scan-cut text spans b also in cc

@@ -7,7 +7,7 @@ use Rattle.mm_lex.specs.declared.fault.LexFault.{LexFault}
 use Rattle.mm_lex.specs.declared.fault.LexFault.TheVariants.{Text, Comment, Memory}
 use Rattle.mm_lex.specs.Alphabet.{Name, word}
 use Rattle.mm_lex.specs.Tokens.{Cuts, IsWordAt, words}
-use Rattle.mm_lex.specs.Faults.{StopsAt}
+use Rattle.mm_lex.specs.TextFaults.{StopsAt}
 use Rattle.mm_lex.specs.Comments.{runs_behind}
 
 -- between the two places stand the tokens that are these words

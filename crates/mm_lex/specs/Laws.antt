@@ -4,7 +4,7 @@
 use Rattle.std.specs.Prelude.{◌≡◌, ℕ, ◌⊎◌, List}
 use Rattle.mm_lex.specs.declared.span.Span.{Span}
 use Rattle.mm_lex.specs.Tokens.{Cuts, AreTokens}
-use Rattle.mm_lex.specs.Faults.{IsFirstBadByte, IsCommentFault}
+use Rattle.mm_lex.specs.TextFaults.{IsFirstBadByte, IsCommentFault}
 
 -- two cuts of the same runs leave the same tokens, and have the same comments
 abbrev pub OneCut : Type 0

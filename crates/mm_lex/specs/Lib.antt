@@ -1,7 +1,7 @@
 pub mod Alphabet
 pub mod Words
 pub mod Tokens
-pub mod Faults
+pub mod TextFaults
 pub mod Comments
 pub mod Between
 pub mod SymbolList

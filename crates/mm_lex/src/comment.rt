@@ -4,7 +4,7 @@ ghost use Rattle.mm_lex.specs.Alphabet.{is_white};
 ghost use Rattle.mm_lex.specs.Comments.{PassesPlain, EndsComment};
 ghost use Rattle.mm_lex.specs.Tokens.{IsClean};
 
-use crate::run::{is_closer, is_opener, next_run};
+use crate::visible_run::{is_closer, is_opener, next_run};
 use memchr::memchr;
 
 /// How a comment ends.

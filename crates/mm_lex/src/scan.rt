@@ -3,12 +3,12 @@ ghost use Rattle.std.specs.Prelude.{◌≡◌, ℕ, [], ◌∷◌, ◌++◌, not
 ghost use Rattle.std.specs.List.{All, list_all, position};
 ghost use Rattle.mm_lex.specs.Alphabet.{is_allowed};
 ghost use Rattle.mm_lex.specs.Tokens.{AreTokens, IsClean, IsWordAt};
-ghost use Rattle.mm_lex.specs.Faults.{IsFirstBadByte, IsCommentFault, IsLexFault};
+ghost use Rattle.mm_lex.specs.TextFaults.{IsFirstBadByte, IsCommentFault, IsLexFault};
 
 use crate::comment::{CommentEnd, comment_end};
 use crate::fault::LexFault;
-use crate::run::{is_closer, is_opener, next_run};
 use crate::span::Span;
+use crate::visible_run::{is_closer, is_opener, next_run};
 use std::alloc::Global;
 
 /// The tokens of a text, in order, its comments taken out.

@@ -8,9 +8,9 @@ ghost use Rattle.mm_lex.specs.Between.{FailsBehind};
 ghost use Rattle.mm_lex.specs.SymbolList.{AddsSymbols, IsListEnd};
 
 use crate::fault::LexFault;
-use crate::run::pass_white;
 use crate::span::Span;
 use crate::stretch::count_spaced;
+use crate::visible_run::pass_white;
 use crate::walk::next_token;
 use crate::words::Words;
 use memchr::memchr;

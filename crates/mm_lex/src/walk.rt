@@ -5,8 +5,8 @@ ghost use Rattle.mm_lex.specs.Between.{IsNextToken, CountBehind, StopsBehind};
 
 use crate::comment::{CommentEnd, comment_end};
 use crate::fault::LexFault;
-use crate::run::{is_closer, is_opener, next_run};
 use crate::span::Span;
+use crate::visible_run::{is_closer, is_opener, next_run};
 
 /// The next token at `at` or behind it, or none.
 ///

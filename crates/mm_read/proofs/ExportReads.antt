@@ -17,7 +17,7 @@ use Rattle.mm_read.specs.Statements.{Database, is_shaped, are_symbols, has_two, 
 use Rattle.mm_read.specs.Export.{export_of}
 use Rattle.mm_read.specs.Laws as laws
 use Rattle.mm_read.proofs.StatementsLemmas.{symbol_plain, label_plain, symbols_of, plain_is_no_key}
-use Rattle.mm_lex.proofs.SymbolsLemmas.{white_run}
+use Rattle.mm_lex.proofs.VisibleRunLemmas.{white_run}
 
 -- ---- the runs of words with a white byte behind each
 

@@ -5,9 +5,9 @@ use Rattle.std.proofs.Common.{sym, ◌∙◌, ap, refl, subst, inl, inr}
 use Rattle.mm_lex.specs.declared.fault.LexFault.TheVariants as lex
 use Rattle.mm_lex.specs.Alphabet.{Name}
 use Rattle.mm_lex.specs.Tokens.{IsClean, words}
-use Rattle.mm_lex.specs.Faults.{IsFirstBadByte, IsCommentFault}
+use Rattle.mm_lex.specs.TextFaults.{IsFirstBadByte, IsCommentFault}
 use Rattle.mm_lex.specs.Between.{AreBehind}
-use Rattle.mm_lex.proofs.FaultsLemmas.{IsClean-no_fault}
+use Rattle.mm_lex.proofs.BadByteLemmas.{IsClean-no_fault}
 use Rattle.mm_lex.proofs.TokensLemmas.{AreTokens-unique, AreTokens-no_comment_fault, IsCommentFault-unique}
 use Rattle.mm_read.specs.declared.fault.ReadFault.{ReadFault}
 use Rattle.mm_read.specs.declared.fault.ReadFault.TheVariants.{Text, Shape, Memory}

@@ -6,7 +6,7 @@ use Rattle.mm_lex.specs.declared.span.Span.{Span}
 use Rattle.mm_lex.specs.declared.fault.LexFault.{LexFault}
 use Rattle.mm_lex.specs.declared.fault.LexFault.TheVariants as lex
 use Rattle.mm_lex.specs.Alphabet.{Name}
-use Rattle.mm_lex.specs.Faults.{IsLexFault}
+use Rattle.mm_lex.specs.TextFaults.{IsLexFault}
 use Rattle.mm_lex.specs.Tokens.{AreTokens, words}
 use Rattle.mm_read.specs.declared.fault.ReadFault.{ReadFault}
 use Rattle.mm_read.specs.declared.fault.ReadFault.TheVariants.{Text, Shape, Memory}

@@ -1,7 +1,7 @@
 //! The statements of a text.
 ghost use Rattle.std.specs.Prelude.{◌≡◌, ℕ, ◌≤◌, ◌⊎◌, [], IfOk, IfErr, IsErrAnd, MatchResult, length};
 ghost use Rattle.mm_lex.specs.Tokens.{IsClean};
-ghost use Rattle.mm_lex.specs.Faults.{IsFirstBadByte, IsCommentFault};
+ghost use Rattle.mm_lex.specs.TextFaults.{IsFirstBadByte, IsCommentFault};
 ghost use Rattle.mm_lex.specs.Between.{StopsBehind};
 ghost use Rattle.mm_read.specs.Statements.{Database};
 ghost use Rattle.mm_read.specs.Reads.{Reads, HasShapeFault, IsReadFault};

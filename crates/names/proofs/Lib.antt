@@ -1,6 +1,6 @@
 pub mod OverflowLemmas
-pub mod KeptLemmas
-pub mod AddedLemmas
+pub mod KeptKeyLemmas
+pub mod AddedNames
 pub mod CodesLemmas
 pub mod DistinctLemmas
 pub mod KeysLemmas

@@ -12,7 +12,7 @@ use Rattle.names.specs.declared.table.TheConstants.{NO_NAME}
 use Rattle.names.specs.Stored.Table.{slot_of, IsFree, AreHeld, IsTable}
 use Rattle.names.proofs.DistinctLemmas.{distinct-push, distinct-take, length-take-below, name_at-last}
 use Rattle.names.proofs.TableLemmas.{put-held}
-use Rattle.names.proofs.KeptLemmas.{table-same, held-same, held-more, held-take, kept-push, kept-push_apart, kept-take, held-passed}
+use Rattle.names.proofs.KeptKeyLemmas.{table-same, held-same, held-more, held-take, kept-push, kept-push_apart, kept-take, held-passed}
 
 abbrev pub Holds : List Slot → Kept → List Name → Type 0
 Holds slots a names = (length names < 2 ^ 32) × (AreDistinct names × IsTable slots a names)

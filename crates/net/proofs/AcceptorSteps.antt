@@ -9,7 +9,7 @@ use Rattle.synod.specs.declared.packet.SlotReport.{SlotReport}
 use Rattle.synod.specs.declared.packet.Body.TheVariants.{Accepted}
 use Rattle.synod.specs.declared.change.Held.{Held}
 use Rattle.synod.specs.Ballots.{is_under}
-use Rattle.synod.specs.Pages.{pages_of}
+use Rattle.synod.specs.PromisePages.{pages_of}
 use Rattle.synod.specs.Node.{Node}
 use Rattle.synod.specs.Acceptor.{reports_from, promise_pages, promises, refuses, on_prepare, held, takes_value, on_accept}
 use Rattle.synod.proofs.BallotsLemmas.{Under, Upto, upto_self, upto_upto, upto_under, under_is_upto, not_both, under_true, under_false}

@@ -15,7 +15,7 @@ use Rattle.net.specs.declared.fault.StepFault.TheVariants.{Memory}
 use Rattle.net.specs.World.{World, stepped, happens_at}
 use Rattle.net.specs.Taken.{Taken, AreOfWorld}
 use Rattle.net.specs.Due.{Work, steps, restarts, Due, posts_of, step_of, IsReadyAt, NetView, IsDue, IsTaken, Gives}
-use Rattle.net.proofs.Lists.{at_place}
+use Rattle.net.proofs.GrowingLists.{at_place}
 use Rattle.net.proofs.TakenLemmas.{makes}
 use Rattle.net.proofs.EventsDue.{nodes_found}
 use Rattle.synod.proofs.NodeKeeps.{all_append}

@@ -17,7 +17,7 @@ use Rattle.net.specs.World.{answered, at_node, delivered}
 use Rattle.net.specs.KeptPart.{addressed, change_at, change_delivered}
 use Rattle.net.specs.Taken.{Taken, nodes_of}
 use Rattle.net.specs.Due.{Work, steps, restarts, Due, posts_of, step_of, IsReadyAt, ComesTo, NetView, AreStill, IsStill, IsDue}
-use Rattle.net.proofs.Lists.{at_front}
+use Rattle.net.proofs.GrowingLists.{at_front}
 
 -- What an event comes to at its node.
 

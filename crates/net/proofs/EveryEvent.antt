@@ -17,7 +17,7 @@ use Rattle.net.specs.declared.fault.StepFault.TheVariants.{EventsSpent}
 use Rattle.net.specs.Chosen.{Vote}
 use Rattle.net.specs.World.{World, start, nodes_from, stepped, answered, votes_after, at_node, delivered, happens_at, happens, all_happen, after, offers_of}
 use Rattle.net.specs.Agree.{IsAfter}
-use Rattle.net.proofs.Lists.{all_more, all_in, in_slice_get}
+use Rattle.net.proofs.GrowingLists.{all_more, all_in, in_slice_get}
 use Rattle.net.proofs.Ledger.{Ledger, IsSound}
 use Rattle.net.proofs.LedgerGrows.{Grows}
 use Rattle.net.proofs.Invariant.{NodeHolds, NodesHold, SaysTrue, IsTrue, WorldHolds, node_lasts, truth_lasts}

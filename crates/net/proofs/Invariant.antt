@@ -14,13 +14,13 @@ use Rattle.synod.specs.declared.proposer.Heard.{Heard}
 use Rattle.synod.specs.declared.proposer.Role.{Role}
 use Rattle.synod.specs.declared.proposer.Role.TheVariants.{Idle, Preparing, Leading}
 use Rattle.synod.specs.declared.learner.Tally.{Tally}
-use Rattle.synod.specs.Pages.{pages_of, joined_pages}
+use Rattle.synod.specs.PromisePages.{pages_of, joined_pages}
 use Rattle.synod.specs.Node.{Node, pages_from, page_of}
 use Rattle.synod.specs.Learner.{has_voter}
 use Rattle.synod.proofs.BallotsLemmas.{Upto}
 use Rattle.net.specs.Chosen.{Vote, vote, IsChosen}
 use Rattle.net.specs.World.{World}
-use Rattle.net.proofs.Lists.{all_more}
+use Rattle.net.proofs.GrowingLists.{all_more}
 use Rattle.net.proofs.Ledger.{Begun, begun_as, Promised, Proposal, proposal, Ledger, IsFree, IsBegun, IsSound}
 use Rattle.net.proofs.LedgerGrows.{Grows, begun_lasts, chosen_lasts, free_lasts}
 use Rattle.net.proofs.LedgerSteps.{AllProposedBelow}

@@ -8,7 +8,7 @@ use Rattle.synod.specs.Record.{Kept, changed_by}
 use Rattle.synod.specs.Node.{Node, Stepped, kept_of}
 use Rattle.synod.specs.Proposer.{offered, begun}
 use Rattle.synod.specs.Step.{on_packet, restarted}
-use Rattle.synod.proofs.RecordLemmas.{ChangesKeptOnOk, offered_kept, begun_kept, body_kept, restarted_kept}
+use Rattle.synod.proofs.KeptPartLemmas.{ChangesKeptOnOk, offered_kept, begun_kept, body_kept, restarted_kept}
 use Rattle.net.specs.declared.event.TheConstants.{MOST_EVENTS}
 use Rattle.net.specs.declared.event.Event.{Event}
 use Rattle.net.specs.declared.event.Event.TheVariants.{Offer, Begin, Deliver, Restart}
@@ -18,7 +18,7 @@ use Rattle.net.specs.KeptPart.{kept_part, node_of, change_answered, change_at, c
 use Rattle.net.specs.Laws.{KeptPartSurvives}
 use Rattle.net.proofs.EveryEvent.{IfTaken, if_taken, spent_or}
 use Rattle.net.proofs.TwoMoments.{all_happen-append, later_events}
-use Rattle.net.proofs.Lists.{at_set, at_set_other}
+use Rattle.net.proofs.GrowingLists.{at_set, at_set_other}
 
 abbrev changed_part : {V : Type 0} → Option (Change V) → Option (Kept V) → Option (Kept V)
 changed_part change kept = option_map (λ kept. changed_by kept change) kept

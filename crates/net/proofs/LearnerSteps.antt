@@ -12,7 +12,7 @@ use Rattle.synod.specs.Packets.{packet, to_others}
 use Rattle.synod.specs.Node.{Node, unchanged}
 use Rattle.synod.specs.Log.{log_length}
 use Rattle.synod.specs.Learner.{has_voter, counted, learns, chooses, on_accepted, on_accepted_at, on_ask, on_ask_at, on_told, on_told_at}
-use Rattle.synod.proofs.KnownLemmas.{counted_either}
+use Rattle.synod.proofs.KnownVoteLemmas.{counted_either}
 use Rattle.net.specs.Chosen.{vote, IsChosen}
 use Rattle.net.proofs.Ledger.{proposal, Ledger, IsSound}
 use Rattle.net.proofs.Invariant.{HasVoted, NodeHolds, IsTrue}

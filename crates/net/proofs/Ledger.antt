@@ -7,7 +7,7 @@ use Rattle.synod.specs.declared.packet.SlotReport.{SlotReport}
 use Rattle.synod.specs.Weights.{is_quorum}
 use Rattle.synod.proofs.BallotsLemmas.{Under, Upto}
 use Rattle.net.specs.Chosen.{Vote, vote}
-use Rattle.net.proofs.Lists.{Settles}
+use Rattle.net.proofs.GrowingLists.{Settles}
 
 -- a ballot was begun from a slot on
 pub record Begun : Type 0 where

@@ -6,7 +6,7 @@ use Rattle.slots.proofs.Lists.{Contains-in, In-contains}
 use Rattle.synod.specs.declared.ballot.Ballot.{Ballot}
 use Rattle.synod.proofs.BallotsLemmas.{Under, Upto, not_both}
 use Rattle.net.specs.Chosen.{Vote, IsChosen}
-use Rattle.net.proofs.Lists.{Adds, adds_none, adds_one, adds_both}
+use Rattle.net.proofs.GrowingLists.{Adds, adds_none, adds_one, adds_both}
 use Rattle.net.proofs.Ledger.{Begun, Promised, Proposal, Ledger, HasPromised, NoneVoted, IsGrounded, IsFree, AllGrounded, IsTruthful, IsBegun}
 
 -- all that k promised is up to b

@@ -1,4 +1,4 @@
-pub mod Lists
+pub mod GrowingLists
 pub mod Beginnings
 mod Ledger
 mod LedgerGrows

@@ -18,7 +18,7 @@ use Rattle.synod.specs.declared.refusal.Refusal.TheVariants.{Busy, LogFull, Roun
 use Rattle.synod.specs.declared.value.TheConstants.{MOST_BYTES}
 use Rattle.synod.specs.Ballots.{is_under, is_same}
 use Rattle.synod.specs.Weights.{is_quorum}
-use Rattle.synod.specs.Pages.{all_had}
+use Rattle.synod.specs.PromisePages.{all_had}
 use Rattle.synod.specs.Node.{Node, Stepped, unchanged, pages_from, with_page, is_heard}
 use Rattle.synod.specs.Log.{log_of, log_length}
 use Rattle.synod.specs.Acceptor.{promises, refuses, takes_value}
@@ -32,7 +32,7 @@ use Rattle.net.specs.World.{World, stepped, answered, at_node, delivered, happen
 use Rattle.net.specs.Agree.{IsBeginningOf}
 use Rattle.net.specs.Laws.{LogsOnlyGrow, RestartEmptiesLog}
 use Rattle.net.proofs.EveryEvent.{IfTaken, if_taken, spent_or}
-use Rattle.net.proofs.Lists.{at_set, at_set_other}
+use Rattle.net.proofs.GrowingLists.{at_set, at_set_other}
 
 -- an entry at an empty slot lengthens the log or leaves it
 log-put : {T : Type 0} (xs : List (Option T)) (s : ℕ) (v : T) → entry_at xs s ≡ None → IsBeginningOf (entries_to_gap xs) (entries_to_gap (put_at xs s v))

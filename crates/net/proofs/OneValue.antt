@@ -6,7 +6,7 @@ use Rattle.synod.specs.declared.ballot.Ballot.{Ballot}
 use Rattle.net.specs.World.{World}
 use Rattle.net.specs.Agree.{IsProposed}
 use Rattle.net.specs.Laws.{BallotsHaveOneValue}
-use Rattle.net.proofs.Lists.{all_in}
+use Rattle.net.proofs.GrowingLists.{all_in}
 use Rattle.net.proofs.Ledger.{proposal}
 use Rattle.net.proofs.Invariant.{SaysTrue, IsTrue, WorldHolds}
 use Rattle.net.proofs.EveryEvent.{holds_after}

@@ -14,12 +14,12 @@ use Rattle.synod.specs.declared.proposer.Role.{Role}
 use Rattle.synod.specs.declared.proposer.Role.TheVariants.{Idle, Preparing, Leading}
 use Rattle.synod.specs.Ballots.{is_same}
 use Rattle.synod.specs.Weights.{is_quorum}
-use Rattle.synod.specs.Pages.{pages_of, joined_pages, all_had}
+use Rattle.synod.specs.PromisePages.{pages_of, joined_pages, all_had}
 use Rattle.synod.specs.Packets.{accepts}
 use Rattle.synod.specs.Node.{Node, Stepped, unchanged, pages_from, page_of, with_page, is_heard}
 use Rattle.synod.specs.Proposer.{top_reported, fills, all_reports, leads, keeps_page, keeps_promise, hears, gathers, on_promise_as, on_promise}
 use Rattle.synod.proofs.BallotsLemmas.{same_true}
-use Rattle.synod.proofs.KnownLemmas.{page_either, other_pages}
+use Rattle.synod.proofs.KnownVoteLemmas.{page_either, other_pages}
 use Rattle.synod.proofs.PromisePages.{pages-all, joined-all, all_had-front}
 use Rattle.synod.proofs.ReportsLemmas.{first_to_top}
 use Rattle.net.proofs.Ledger.{Promised, Ledger, IsFree, IsBegun, IsBrought, IsSound}

@@ -7,7 +7,7 @@ use Rattle.synod.specs.declared.ballot.Ballot.{Ballot}
 use Rattle.synod.specs.declared.packet.SlotReport.{SlotReport}
 use Rattle.synod.specs.declared.proposer.Heard.{Heard}
 use Rattle.synod.specs.Weights.{is_quorum}
-use Rattle.synod.specs.Pages.{joined_pages}
+use Rattle.synod.specs.PromisePages.{joined_pages}
 use Rattle.synod.specs.Node.{pages_from, is_heard}
 use Rattle.synod.specs.Proposer.{highest_at, reported_value, top_reported, fills, all_reports}
 use Rattle.synod.proofs.BallotsLemmas.{Under, upto_upto}

@@ -21,7 +21,7 @@ use Rattle.net.specs.World.{World, answered, at_node, delivered, happens_at}
 use Rattle.net.specs.KeptPart.{addressed}
 use Rattle.net.specs.Taken.{Taken, AreOfWorld, world_of, with_event}
 use Rattle.net.specs.Due.{steps, Due, posts_of, step_of, IsOfEvent, ComesTo, IsDueAt, Readies, ReadiesEvent, NetView, AreStill, IsStill, IsDue, Gives}
-use Rattle.net.proofs.Lists.{at_place, at_set}
+use Rattle.net.proofs.GrowingLists.{at_place, at_set}
 use Rattle.net.proofs.TakenLemmas.{next_is, node_shown, no_node_shown, own_weights, rooms_stay}
 use Rattle.net.proofs.EventsDue.{comes_offer, comes_begin, comes_restart, comes_packet, not_mapped, mapped, more_room, still_same, still_set, nodes_still}
 

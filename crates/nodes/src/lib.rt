@@ -10,9 +10,9 @@
 
 mod board;
 mod desk;
+mod node_loop;
 mod node_threads;
 mod report;
-mod run;
 mod shared;
 mod weather;
 

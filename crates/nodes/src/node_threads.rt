@@ -8,8 +8,8 @@ ghost use Rattle.nodes.specs.Report.{IsReport};
 
 use crate::board::Board;
 use crate::desk::Desk;
+use crate::node_loop::run_node;
 use crate::report::{Report, count_events};
-use crate::run::run_node;
 use crate::shared::Shared;
 use crate::weather::Weather;
 use cluster::{NodeCell, cells};

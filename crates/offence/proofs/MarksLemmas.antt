@@ -4,7 +4,7 @@ use Rattle.mm_lex.specs.Alphabet.{Name, name_eq, has_name}
 use Rattle.names.specs.Codes.{name_at, code_of, AreDistinct, AreNamed}
 use Rattle.mm_lex.proofs.NameLemmas.{name_same, same_name}
 use Rattle.names.proofs.CodesLemmas.{name_eq-comm, has-at, code-name}
-use Rattle.names.proofs.AddedLemmas.{has_name-append}
+use Rattle.names.proofs.AddedNames.{has_name-append}
 use Rattle.std.specs.Prelude.{slice_index_or, ◌≤◌}
 use Rattle.std.proofs.Common.{inl, inr}
 use Rattle.std.proofs.lemmas.Bool.{or_parts, or_right, cases_lt}

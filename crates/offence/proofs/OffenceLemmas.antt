@@ -3,7 +3,7 @@ use Rattle.std.proofs.Common.{◌≡◌, ℕ, Bool, true, false, not, ◌&&◌, 
 use Rattle.std.specs.Prelude.{IfOk, Result}
 use Rattle.std.proofs.lemmas.Result.{IfOk-weaker}
 use Rattle.scope.specs.declared.rule.Rule.{Rule}
-use Rattle.offence.specs.declared.symbols.Test.{Test}
+use Rattle.offence.specs.declared.symbol_search.Test.{Test}
 use Rattle.std.specs.List.{list_any, list_all}
 use Rattle.std.proofs.lemmas.Bool.{and_from}
 use Rattle.mm_lex.specs.Alphabet.{Name, has_name}
@@ -16,10 +16,10 @@ use Rattle.scope.specs.Legal.{keeps, all_different, is_fresh_label, are_typed}
 use Rattle.offence.specs.declared.witness.Witness.{Witness}
 use Rattle.offence.specs.declared.witness.Witness.TheVariants.{Statement, Symbol, Twice, Earlier, Label}
 use Rattle.offence.specs.declared.search.Part.TheVariants as part
-use Rattle.offence.specs.declared.symbols.Test.TheVariants as test
+use Rattle.offence.specs.declared.symbol_search.Test.TheVariants as test
 use Rattle.offence.specs.Search.{meets, fails}
 use Rattle.offence.specs.Offends.{Offends, Among, IsTwice, IsRepeated, IsSymbolOf, IsLabelOf, typed_expr}
-use Rattle.mm_lex.proofs.FaultsLemmas.{twice_not}
+use Rattle.mm_lex.proofs.BadByteLemmas.{twice_not}
 use Rattle.scope.proofs.LegalLemmas.{or_comm}
 
 -- ---- lists and tests

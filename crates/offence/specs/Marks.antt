@@ -3,8 +3,8 @@
 -- The code looks up each name that the statements have; here each name of the list is tested.
 use Rattle.std.specs.Prelude.{Bool, true, false, cond, List, [], ◌∷◌}
 use Rattle.mm_lex.specs.Alphabet.{Name}
-use Rattle.offence.specs.declared.symbols.Test.{Test}
-use Rattle.offence.specs.declared.symbols.Test.TheVariants.{Unknown, Inactive}
+use Rattle.offence.specs.declared.symbol_search.Test.{Test}
+use Rattle.offence.specs.declared.symbol_search.Test.TheVariants.{Unknown, Inactive}
 
 -- the names that pass the test get this mark, the others keep theirs
 abbrev pub marked : (Name → Bool) → Bool → List Name → List Bool → List Bool

@@ -8,8 +8,8 @@ use Rattle.mm_read.specs.declared.stmt.Stmt.{Stmt}
 use Rattle.mm_read.specs.declared.stmt.Stmt.TheVariants.{Open, Close}
 use Rattle.mm_read.specs.Statements.{Database}
 use Rattle.scope.specs.Active.{stmt_at, stays_open, constants, variables, label_of, has_label, is_float_of, is_constant, is_variable, has_float}
-use Rattle.offence.specs.declared.symbols.Test.{Test}
-use Rattle.offence.specs.declared.symbols.Test.TheVariants.{Named as Again, Taken, Unknown, Inactive, Untyped}
+use Rattle.offence.specs.declared.symbol_search.Test.{Test}
+use Rattle.offence.specs.declared.symbol_search.Test.TheVariants.{Named as Again, Taken, Unknown, Inactive, Untyped}
 use Rattle.offence.specs.declared.search.Part.{Part}
 use Rattle.offence.specs.declared.search.Part.TheVariants.{Named, Fixed, Constant, Variable, Float}
 

@@ -7,7 +7,7 @@
 mod marks;
 mod offence;
 mod search;
-mod symbols;
+mod symbol_search;
 mod witness;
 
 pub use offence::{never_closed, witness_of};

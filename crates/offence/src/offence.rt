@@ -9,7 +9,7 @@ ghost use Rattle.offence.specs.declared.search.Part.TheVariants as part;
 ghost use Rattle.offence.specs.Offends.{IsLabelOf, IsSymbolOf, Offends};
 
 use crate::search::{Part, closed_by, find, find_active};
-use crate::symbols::{Test, first, is_symbol, twice};
+use crate::symbol_search::{Test, first, is_symbol, twice};
 use crate::witness::Witness;
 use mm_lex::{Word, Words};
 use mm_read::Stmt;

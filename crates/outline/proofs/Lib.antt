@@ -1,3 +1,3 @@
 mod OutlineLemmas
-mod RulesLemmas
+mod FirstBrokenLemmas
 mod Rows

@@ -2,7 +2,7 @@
 -- Source: this project's own form; a statement's line is its export form, the rules are those of Metamath, chapter 4.
 -- The code writes the lines as it goes, and keeps a scope; here the lines are joined.
 use Rattle.std.specs.Prelude.{◌≡◌, ℕ, ◌+◌, List, [], ◌∷◌, ◌++◌, length, codes, decimal, Option, Some, None}
-use Rattle.mm_lex.specs.Faults.{IsFirstBadByte, IsCommentFault}
+use Rattle.mm_lex.specs.TextFaults.{IsFirstBadByte, IsCommentFault}
 use Rattle.mm_read.specs.declared.stmt.Stmt.{Stmt}
 use Rattle.mm_read.specs.declared.stmt.Stmt.TheVariants.{Prove}
 use Rattle.mm_read.specs.Statements.{Expr, Database}

@@ -7,12 +7,12 @@
 //! `text` (the outline).
 #![tactic(auto)]
 
-mod numbers;
+mod printed_numbers;
 mod rule_names;
 mod rules;
 mod text;
 
-pub use numbers::push_number;
+pub use printed_numbers::push_number;
 pub use rule_names::printed_rule;
 pub use rules::broken;
 pub use text::outline_text;

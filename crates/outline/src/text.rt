@@ -3,7 +3,7 @@ ghost use Rattle.std.specs.Prelude.{◌≡◌, ◌++◌, length, IfOk, OnOk};
 ghost use Rattle.mm_read.specs.Statements.{IsShaped, AreShaped};
 ghost use Rattle.outline.specs.Outline.{proof_of, outline_line, lines_from, rules_line, outline_of, numbered_line, IsOutline};
 
-use crate::numbers::push_number;
+use crate::printed_numbers::push_number;
 use crate::rule_names::printed_rule;
 use crate::rules::broken;
 use itoa::Buffer;

@@ -5,7 +5,7 @@ use Rattle.mm_lex.specs.declared.span.Span.{Span}
 use Rattle.mm_lex.specs.Tokens.{words}
 use Rattle.mm_lex.specs.Alphabet.{Name, word}
 use Rattle.places.specs.Places.{ends}
-use Rattle.places.specs.Comments.{BeginsStatement}
+use Rattle.places.specs.CommentFaults.{BeginsStatement}
 
 -- behind a token that ends a statement the next statement begins
 pub statement_here : (tokens : List Name) (i : ℕ) → IsTrue (ends (get_or tokens i [])) → BeginsStatement tokens (i + 1) (i + 1)

@@ -1,2 +1,2 @@
 pub mod BeginLemmas
-pub mod PlacesLemmas
+pub mod TokenPlaceLemmas

@@ -1,6 +1,6 @@
 //! What is wrong with a comment.
-ghost use Rattle.mm_lex.specs.Faults.{IsCommentFault};
-ghost use Rattle.places.specs.Comments.{IsCommentCase};
+ghost use Rattle.mm_lex.specs.TextFaults.{IsCommentFault};
+ghost use Rattle.places.specs.CommentFaults.{IsCommentCase};
 
 use mm_lex::{LexFault, count_tokens};
 

@@ -6,9 +6,9 @@
 #![tactic(auto)]
 
 mod comments;
-mod lines;
+mod lines_and_columns;
 mod place;
 
 pub use comments::{CommentFault, comment_fault};
-pub use lines::{Position, line_and_column};
+pub use lines_and_columns::{Position, line_and_column};
 pub use place::{first_token, place_of, place_within, statement_at};

@@ -6,7 +6,7 @@ ghost use Rattle.mm_lex.specs.Tokens.{AreTokens, IsWordAt, words};
 ghost use Rattle.mm_read.specs.Statements.{Database};
 ghost use Rattle.mm_read.specs.Reads.{Reads};
 ghost use Rattle.places.specs.Places.{HasToken, IsPlaceOf, behind_ends, ends};
-ghost use Rattle.places.specs.Comments.{BeginsStatement};
+ghost use Rattle.places.specs.CommentFaults.{BeginsStatement};
 
 use mm_lex::{LexFault, Span, tokens};
 use std::alloc::Global;

@@ -1,8 +1,8 @@
 //! What a command line does.
-use crate::database::{ask, print_outline};
+use crate::database_commands::{ask, print_outline};
+use crate::input_output::{print, print_no_memory};
 use crate::play::play;
 use crate::serve::serve;
-use crate::streams::{print, print_no_memory};
 use commands::{Request, VERSION_LINE, WordsFault, parse_words};
 use std::io::{Read, Write};
 use std::sync::Wait;

@@ -6,16 +6,16 @@
 //! `served_nodes`.
 #![tactic(auto)]
 
-mod answers;
 mod command_line;
-mod database;
+mod database_commands;
+mod input_output;
+mod line_answer;
 mod play;
+mod printed_refusal;
 mod proofs;
-mod refusal;
 mod script_input;
 mod serve;
 mod served_nodes;
-mod streams;
 
 pub use command_line::run;
-pub use streams::{print, print_no_memory};
+pub use input_output::{print, print_no_memory};

@@ -1,7 +1,7 @@
 //! The command `play`: a script drives one world of nodes.
-use crate::answers::{ANSWER_ROOM, answer_bytes};
+use crate::input_output::{print, print_no_memory};
+use crate::line_answer::{ANSWER_ROOM, answer_bytes};
 use crate::script_input::{print_unread, read_script};
-use crate::streams::{print, print_no_memory};
 use net::{Event, StepFault};
 use printed::{push_decided, push_export, push_library, push_log, push_packet, push_posted};
 use scripts::PlayLine;

@@ -2,8 +2,8 @@
 ghost use Rattle.std.specs.Prelude.{◌≤◌, length};
 ghost use Rattle.steps.specs.Rows.{AreRows};
 
-use crate::database::fault_line;
-use crate::streams::print;
+use crate::database_commands::fault_line;
+use crate::input_output::print;
 use commands::ProofForm;
 use frame::Frames;
 use library::{AskFault, Library};

@@ -1,6 +1,6 @@
 //! The script of a command, from its input.
-use crate::database::print_failure;
-use crate::streams::{ReadFailure, print, read_all};
+use crate::database_commands::print_failure;
+use crate::input_output::{ReadFailure, print, read_all};
 use scripts::{Line, ScriptFault, parse_script};
 use std::alloc::Global;
 use std::io::{Read, Write};

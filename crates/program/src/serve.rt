@@ -5,10 +5,10 @@ ghost use Rattle.library.specs.declared.listed.Listed.{Listed};
 ghost use Rattle.nodes.specs.Desk.{IsListed, IsStatus};
 ghost use Rattle.printed.specs.Printed.{list_text};
 
-use crate::answers::{ANSWER_ROOM, answer_bytes};
+use crate::input_output::{print, print_no_memory};
+use crate::line_answer::{ANSWER_ROOM, answer_bytes};
 use crate::script_input::{print_unread, read_script};
 use crate::served_nodes::{Nodes, NodesDesk, start_nodes, stop_nodes};
-use crate::streams::{print, print_no_memory};
 use commands::WorkerCount;
 use library::Verdict;
 use net::StepFault;

@@ -13,11 +13,11 @@ use Rattle.proof_code.specs.declared.fault.CodeFault.{CodeFault}
 use Rattle.proof_code.specs.declared.fault.CodeFault.TheVariants.{Unfinished, Malformed}
 use Rattle.proof_code.specs.declared.item.Item.TheVariants.{Cite}
 use Rattle.proof_code.specs.Letters.{is_first, is_last}
-use Rattle.proof_code.specs.Numbers.{item_of, items_of}
+use Rattle.proof_code.specs.ItemNumbers.{item_of, items_of}
 use Rattle.proof_code.specs.Text.{with_number, numbers_from}
 use Rattle.proof_code.specs.Writes.{finish, question_mark, is_unfinished, WritesRow, WritesCompressed, WritesNormal, IsMalformed}
 use Rattle.proof_code.proofs.WritesLemmas.{joined}
-use Rattle.proof_code.proofs.RowLemmas.{RowIsRead, read-WritesRow}
+use Rattle.proof_code.proofs.LetterItemLemmas.{RowIsRead, read-WritesRow}
 use Rattle.proof_code.proofs.RowOfNumbers.{item_of-cite}
 use Rattle.proof_code.proofs.TextLemmas.{list_any-spaced, list_any-joined}
 

@@ -1,15 +1,15 @@
 pub mod LettersLemmas
 pub mod NumbersOfRow
 pub mod RowOfNumbers
-pub mod RowLemmas
-pub mod PlacesLemmas
+pub mod LetterItemLemmas
+pub mod LetterStepLemmas
 pub mod HeaderLemmas
 pub mod TextLemmas
 pub mod WritesLemmas
 pub mod AnswersLemmas
 pub mod OneList
-pub mod KindsLemmas
+pub mod LabelKindLemmas
 mod ClassesLemmas
 pub mod ListingLemmas
-pub mod ReadingLemmas
+pub mod ReadProofLemmas
 mod Rows

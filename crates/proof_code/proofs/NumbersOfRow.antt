@@ -10,7 +10,7 @@ use Rattle.mm_lex.specs.Alphabet.{Name, is_empty}
 use Rattle.proof_code.specs.declared.item.Item.{Item}
 use Rattle.proof_code.specs.declared.item.Item.TheVariants.{Cite, Recall}
 use Rattle.proof_code.specs.Letters.{IsNumber, is_first, is_last, number_from, number_of}
-use Rattle.proof_code.specs.Numbers.{item_of, items_of}
+use Rattle.proof_code.specs.ItemNumbers.{item_of, items_of}
 use Rattle.proof_code.specs.Text.{with_number, numbers_from}
 use Rattle.proof_code.specs.Writes.{mark, AreItems}
 use Rattle.proof_code.proofs.LettersLemmas.{placed-number_of, first_bounds, last_bounds}

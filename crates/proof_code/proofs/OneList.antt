@@ -8,10 +8,10 @@ use Rattle.mm_lex.specs.Alphabet.{Name, is_label}
 use Rattle.proof_code.specs.declared.item.Item.{Item}
 use Rattle.proof_code.specs.declared.item.Item.TheVariants.{Cite}
 use Rattle.proof_code.specs.Laws.{OneAnswer}
-use Rattle.proof_code.specs.Numbers.{items_of}
+use Rattle.proof_code.specs.ItemNumbers.{items_of}
 use Rattle.proof_code.specs.Text.{Header, header_of, numbers_from, starts_with_mark}
 use Rattle.proof_code.specs.Writes.{begin, is_unfinished, is_compressed, WritesRow, WritesCompressed, WritesNormal, Writes, IsMalformed}
-use Rattle.proof_code.proofs.RowLemmas.{RowIsRead, WritesRow-read, read-WritesRow}
+use Rattle.proof_code.proofs.LetterItemLemmas.{RowIsRead, WritesRow-read, read-WritesRow}
 use Rattle.proof_code.proofs.WritesLemmas.{joined, no_header, row_behind, written_behind}
 
 -- ---- one list

@@ -8,7 +8,7 @@ use Rattle.mm_lex.specs.Alphabet.{Name, is_empty}
 use Rattle.proof_code.specs.declared.item.Item.{Item}
 use Rattle.proof_code.specs.declared.item.Item.TheVariants.{Cite, Recall, Mark}
 use Rattle.proof_code.specs.Letters.{IsNumber, is_first, is_last, number_from}
-use Rattle.proof_code.specs.Numbers.{item_of, items_of}
+use Rattle.proof_code.specs.ItemNumbers.{item_of, items_of}
 use Rattle.proof_code.specs.Text.{with_number, numbers_from}
 use Rattle.proof_code.specs.Writes.{AreItems}
 use Rattle.proof_code.proofs.LettersLemmas.{number_of-placed}

@@ -4,7 +4,7 @@ use Rattle.std.proofs.Common.{arith}
 use Rattle.mm_lex.specs.Words.{words_of}
 use Rattle.proof_code.specs.declared.item.Item.TheVariants.{Cite, Recall, Mark}
 use Rattle.proof_code.specs.Letters.{IsNumber, number_of}
-use Rattle.proof_code.specs.Numbers.{items_of}
+use Rattle.proof_code.specs.ItemNumbers.{items_of}
 use Rattle.proof_code.specs.Text.{letters_of, numbers_from}
 use Rattle.proof_code.specs.Writes.{is_unfinished, is_compressed, WritesPlain, WritesPacked}
 

@@ -10,10 +10,10 @@ use Rattle.mm_lex.specs.Alphabet.{Name}
 use Rattle.mm_lex.specs.Words.{spaced, words_of, is_word}
 use Rattle.mm_lex.proofs.WordsLemmas.{words_of-spaced}
 use Rattle.proof_code.specs.declared.item.Item.{Item}
-use Rattle.proof_code.specs.Numbers.{items_of}
+use Rattle.proof_code.specs.ItemNumbers.{items_of}
 use Rattle.proof_code.specs.Text.{Header, header_of, letters_of, starts_with_mark, numbers_from}
 use Rattle.proof_code.specs.Writes.{begin, finish, is_compressed, WritesRow, WritesCompressed}
-use Rattle.proof_code.proofs.RowLemmas.{RowIsRead, WritesRow-read, read-WritesRow}
+use Rattle.proof_code.proofs.LetterItemLemmas.{RowIsRead, WritesRow-read, read-WritesRow}
 use Rattle.proof_code.proofs.HeaderLemmas.{IsHeader, header-read, read-header}
 use Rattle.proof_code.proofs.TextLemmas.{letters_of-spaced}
 

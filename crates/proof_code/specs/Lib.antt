@@ -1,10 +1,10 @@
 pub mod Letters
 pub mod Writes
-pub mod Numbers
+pub mod ItemNumbers
 pub mod Text
 pub mod Listing
-pub mod Places
-pub mod Kinds
+pub mod LetterSteps
+pub mod LabelKinds
 pub mod Answers
 pub mod Reading
 pub mod Laws

@@ -6,7 +6,7 @@ use Rattle.std.specs.List.{list_any}
 use Rattle.std.specs.Option.{option_map}
 use Rattle.mm_lex.specs.Alphabet.{Name, has_name}
 use Rattle.proof_code.specs.declared.item.Item.{Item}
-use Rattle.proof_code.specs.Numbers.{items_of}
+use Rattle.proof_code.specs.ItemNumbers.{items_of}
 use Rattle.proof_code.specs.Text.{letters_of, numbers_from}
 use Rattle.proof_code.specs.Writes.{finish, WritesCompressed}
 

@@ -1,5 +1,5 @@
 //! Why tokens write no items.
-ghost use Rattle.std.specs.Prelude.{◌≡◌, ◌⊎◌, Ok, Err, if◌then◌else◌, IfOk, MatchOption};
+ghost use Rattle.std.specs.Prelude.{◌≡◌, ◌⊎◌, Ok, Err, if◌then◌else◌, IfOk, OnErr, MatchOption};
 ghost use Rattle.proof_code.specs.Writes.{is_unfinished};
 
 use crate::items::Items;
@@ -35,10 +35,11 @@ pub(crate) fn code_fault(tokens: &Words) -> CodeFault
     }
 }
 
-/// The items, or none where the tokens write none.
+/// The items, or none where the tokens write none. Errors: want of memory, where the reader answered that.
 pub fn written(items: Result<Items, CodeFault>) -> Result<Option<Items>, AllocError>
-    ensures { IfOk result (λ found. MatchOption found
+    ensures found { IfOk result (λ found. MatchOption found
         ((items ≡ Err CodeFault.Unfinished) ⊎ (items ≡ Err CodeFault.Malformed)) (λ found. items ≡ Ok found)) }
+    ensures only_memory { OnErr result (items ≡ Err CodeFault.Memory) }
 {
     match items {
         Ok(items) => Ok(Some(items)),

@@ -5,7 +5,7 @@ ghost use Rattle.mm_lex.specs.Alphabet.{name_eq};
 ghost use Rattle.proof_code.specs.Text.{header_of};
 ghost use Rattle.proof_code.specs.Writes.{finish};
 
-use crate::mandatory::Mandatory;
+use crate::mandatory_labels::Mandatory;
 use mm_lex::{WordIter, Words};
 use std::alloc::{AllocError, Global};
 

@@ -1,6 +1,6 @@
 //! The items of a proof, as a table of labels and one number for each item.
 ghost use Rattle.std.specs.Prelude.{◌≡◌, IfOk, IsOkAnd};
-ghost use Rattle.proof_code.specs.Numbers.{items_of};
+ghost use Rattle.proof_code.specs.ItemNumbers.{items_of};
 
 use mm_lex::Words;
 use std::alloc::AllocError;
@@ -18,7 +18,7 @@ pub struct Items {
 impl Model for Items {
     ghost use Rattle.std.specs.Prelude.{List};
     ghost use Rattle.proof_code.specs.declared.item.Item.{Item};
-    ghost use Rattle.proof_code.specs.Numbers.{items_of};
+    ghost use Rattle.proof_code.specs.ItemNumbers.{items_of};
 
     ghost Value = { List Item };
 

@@ -25,7 +25,7 @@ enum Step {
 }
 
 impl Place {
-    ghost use Rattle.proof_code.specs.Places.{Reads};
+    ghost use Rattle.proof_code.specs.LetterSteps.{Reads};
 
     /// Goes over one byte. A space is passed over.
     #[inline(always)]

@@ -16,11 +16,11 @@ mod header;
 mod item;
 mod items;
 mod laws;
+mod letter_numbers;
 mod letters;
 mod listing;
-mod mandatory;
+mod mandatory_labels;
 mod normal_proof;
-mod numbers;
 mod reader;
 
 pub use compressed_proof::{is_compressed, packed};

@@ -6,9 +6,9 @@ ghost use Rattle.proof_code.specs.Text.{letters_of, numbers_from};
 ghost use Rattle.proof_code.specs.Writes.{is_compressed, WritesCompressed};
 ghost use Rattle.proof_code.specs.Reading.{IsHeading};
 
+use crate::letter_numbers::write_numbers;
 use crate::letters::starts_with_mark;
 use crate::listing::{Listing, count_listed};
-use crate::numbers::write_numbers;
 use mm_lex::{WordIter, Words};
 use std::alloc::{AllocError, Global};
 use std::marker::Model;

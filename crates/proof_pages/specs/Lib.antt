@@ -1,5 +1,5 @@
 pub mod Escapes
 pub mod StepLines
 pub mod Pictures
-pub mod Pages
+pub mod TableRows
 pub mod Writing

@@ -7,16 +7,16 @@
 
 mod colours;
 mod escapes;
-mod lines;
-mod page;
 mod picture;
 mod rows;
+mod step_lines;
 mod style;
+mod theorem_page;
 mod writing;
 
 pub use escapes::{push_html, push_quoted};
-pub use lines::push_step;
-pub use page::{Theorem, write_page};
 pub use picture::push_node;
 pub use rows::push_html_step;
+pub use step_lines::push_step;
+pub use theorem_page::{Theorem, write_page};
 pub use writing::{WriteFault, write_dot, write_plain};

@@ -1,10 +1,10 @@
 //! A step as a row of a table in a page.
 ghost use Rattle.std.specs.Prelude.{◌≡◌, ◌<◌, ◌++◌, length, get_or, flat_map, OnOk};
 ghost use Rattle.steps.specs.Rows.{no_row};
-ghost use Rattle.proof_pages.specs.Pages.{variable_html, coloured, symbol_html, expr_html, link_html, step_html};
+ghost use Rattle.proof_pages.specs.TableRows.{variable_html, coloured, symbol_html, expr_html, link_html, step_html};
 
 use crate::escapes::push_html;
-use crate::lines::{label_at, push_place};
+use crate::step_lines::{label_at, push_place};
 use frame::Frames;
 use outline::push_number;
 use std::alloc::AllocError;

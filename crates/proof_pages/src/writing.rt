@@ -5,8 +5,8 @@ ghost use Rattle.proof_pages.specs.StepLines.{step_line, texts_from};
 ghost use Rattle.proof_pages.specs.Pictures.{picture_text};
 ghost use Rattle.proof_pages.specs.Writing.{Wrote};
 
-use crate::lines::push_step;
 use crate::picture::{push_head, push_node};
+use crate::step_lines::push_step;
 use frame::Frames;
 use std::alloc::{AllocError, Global};
 use std::io::Write;

@@ -3,7 +3,7 @@ ghost use Rattle.std.specs.Prelude.{◌≡◌, ◌∷◌, ◌++◌, []};
 ghost use Rattle.mm_read.specs.Statements.{AreShaped, Database};
 ghost use Rattle.scope.specs.Active.{bare};
 
-use crate::database::{NORMAL, PACKED, items_of, push_all};
+use crate::first_example::{NORMAL, PACKED, items_of, push_all};
 use frame::Frames;
 use mm_lex::Words;
 use mm_read::{Stmt, read};

@@ -2,10 +2,10 @@
 #![tactic(auto)]
 
 #[cfg(test)]
-mod database;
-#[cfg(test)]
 mod derivations;
+#[cfg(test)]
+mod first_example;
 #[cfg(test)]
 mod tables;
 #[cfg(test)]
-mod workers;
+mod worker_counts;

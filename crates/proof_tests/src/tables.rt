@@ -4,7 +4,7 @@ ghost use Rattle.mm_read.specs.Statements.{AreShaped, Database};
 ghost use Rattle.scope.specs.Active.{bare};
 ghost use Rattle.verify.specs.Right.{IsRight};
 
-use crate::database::{PACKED, items_of, push_all};
+use crate::first_example::{PACKED, items_of, push_all};
 use frame::Frames;
 use mm_lex::Words;
 use mm_read::{Stmt, read};

@@ -1,12 +1,12 @@
 //! A text read by halves, each half of a large one by a thread of its own.
 ghost use Rattle.std.specs.Prelude.{◌≡◌, ℕ, ◌⊎◌, ◌++◌, IfOk, IfErr, IfSome, IsErrAnd, MatchResult};
 ghost use Rattle.std.specs.Thread.{IsSync};
-ghost use Rattle.mm_lex.specs.Faults.{IsFirstBadByte, IsCommentFault};
+ghost use Rattle.mm_lex.specs.TextFaults.{IsFirstBadByte, IsCommentFault};
 ghost use Rattle.mm_read.specs.Statements.{Database};
 ghost use Rattle.mm_read.specs.Reads.{Reads, HasShapeFault, IsReadFault};
 ghost use Rattle.read_pool.specs.Both.{AreBoth};
 
-use crate::place::{STRETCH, place_near};
+use crate::cut_place::{STRETCH, place_near};
 use mm_lex::LexFault;
 use mm_read::{ReadFault, Stmt, read};
 use std::alloc::Global;

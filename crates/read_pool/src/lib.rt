@@ -4,7 +4,7 @@
 //! Reading order: `place` (where a text is cut), `halves`.
 #![tactic(auto)]
 
+mod cut_place;
 mod halves;
-mod place;
 
 pub use halves::read_by;

@@ -11,13 +11,13 @@ use Rattle.names.proofs.CodesLemmas.{name_same}
 use Rattle.frame.specs.Below.{AreBelow}
 use Rattle.frame.specs.Disjoint.{are_apart}
 use Rattle.frame.specs.Substitution.{CodeImages, image, code_image, code_apply}
-use Rattle.reasons.specs.Images.{named_images, AreVariables}
+use Rattle.reasons.specs.ReadImages.{named_images, AreVariables}
 use Rattle.reasons.specs.Clashes.{is_kept, is_other_apart, AreBeside}
-use Rattle.reasons.specs.declared.images.Image.{Image}
-use Rattle.reasons.specs.Stored.Kept.{AreImages, code_images}
+use Rattle.reasons.specs.declared.named_images.Image.{Image}
+use Rattle.reasons.specs.Stored.Vectors.{AreImages, code_images}
 use Rattle.reasons.proofs.NamedLemmas.{image_same}
 use Rattle.reasons.proofs.ImagesLemmas.{apply-below}
-use Rattle.reasons.proofs.KeptLemmas.{below-drop}
+use Rattle.reasons.proofs.VectorLemmas.{below-drop}
 
 -- ---- their numbers
 

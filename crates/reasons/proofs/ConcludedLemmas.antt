@@ -11,9 +11,9 @@ use Rattle.frame.specs.Disjoint.{are_groups_apart}
 use Rattle.reasons.specs.declared.clash.Clash.{Clash}
 use Rattle.reasons.specs.declared.reason.Fault.{Fault}
 use Rattle.reasons.specs.declared.reason.Fault.TheVariants.{Unknown, Inactive, Later, Few, Constant, Expression, Together, Heavy, Unmarked}
-use Rattle.reasons.specs.Images.{named_images, AreVariables}
+use Rattle.reasons.specs.ReadImages.{named_images, AreVariables}
 use Rattle.reasons.specs.Clashes.{IsClash}
-use Rattle.reasons.specs.Faults.{IsMismatch}
+use Rattle.reasons.specs.CitationFaults.{IsMismatch}
 use Rattle.reasons.specs.Concluded.{IsWrong}
 use Rattle.reasons.proofs.NamedLemmas.{apply_same}
 

@@ -1,10 +1,10 @@
-pub mod KeptLemmas
+pub mod VectorLemmas
 pub mod StateLemmas
 pub mod ImagesLemmas
 pub mod NamedLemmas
-pub mod FaultsLemmas
+pub mod CitationFaultLemmas
 pub mod ClashLemmas
 pub mod BesideLemmas
 pub mod ConcludedLemmas
-pub mod RunLemmas
-pub mod ItemLemmas
+pub mod KeptRunLemmas
+pub mod RunItemLemmas

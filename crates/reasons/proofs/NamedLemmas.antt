@@ -8,15 +8,15 @@ use Rattle.mm_read.specs.declared.stmt.Stmt.TheVariants as stmt
 use Rattle.mm_read.specs.Statements.{Database}
 use Rattle.scope.specs.Active.{stmt_at}
 use Rattle.names.specs.Codes.{name_at, decode, AreDistinct}
-use Rattle.entries.specs.declared.citation.Hypothesis.{Hypothesis}
-use Rattle.entries.specs.declared.citation.Hypothesis.TheVariants.{Float, Essential}
+use Rattle.entries.specs.declared.cited_parts.Hypothesis.{Hypothesis}
+use Rattle.entries.specs.declared.cited_parts.Hypothesis.TheVariants.{Float, Essential}
 use Rattle.frame.specs.Below.{AreBelow}
 use Rattle.frame.specs.Cited.{AreAsked, IsOf}
 use Rattle.frame.specs.Substitution.{CodeImages, code_image, code_apply, image, apply}
 use Rattle.frame.proofs.KindWalk.{same-number}
-use Rattle.reasons.specs.declared.images.Image.{Image}
-use Rattle.reasons.specs.Stored.Kept.{codes, code_images, named}
-use Rattle.reasons.specs.Images.{image_at, images_read, code_at, codes_read, named_images, AreVariables}
+use Rattle.reasons.specs.declared.named_images.Image.{Image}
+use Rattle.reasons.specs.Stored.Vectors.{codes, code_images, named}
+use Rattle.reasons.specs.ReadImages.{image_at, images_read, code_at, codes_read, named_images, AreVariables}
 use Rattle.frame.proofs.FoundByNumber.{name_at-injective}
 
 decode-append : (names : List Name) (xs ys : List ℕ) → decode names (xs ++ ys) ≡ decode names xs ++ decode names ys

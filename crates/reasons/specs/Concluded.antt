@@ -13,11 +13,11 @@ use Rattle.frame.specs.Substitution.{Images, apply as applied}
 use Rattle.frame.specs.Disjoint.{are_groups_apart}
 use Rattle.reasons.specs.declared.reason.Fault.{Fault}
 use Rattle.reasons.specs.declared.reason.Fault.TheVariants.{Together, Heavy, Constant, Expression}
-use Rattle.reasons.specs.declared.citation.Concluded.{Concluded}
-use Rattle.reasons.specs.declared.citation.Concluded.TheVariants.{Wrong, Right}
-use Rattle.reasons.specs.Images.{images_read}
+use Rattle.reasons.specs.declared.named_citation.Concluded.{Concluded}
+use Rattle.reasons.specs.declared.named_citation.Concluded.TheVariants.{Wrong, Right}
+use Rattle.reasons.specs.ReadImages.{images_read}
 use Rattle.reasons.specs.Clashes.{IsClash}
-use Rattle.reasons.specs.Faults.{AllFit, IsMismatch}
+use Rattle.reasons.specs.CitationFaults.{AllFit, IsMismatch}
 
 -- the images that the results give
 abbrev pub images_of : Database → ℕ → Stmt → List Expr → Images

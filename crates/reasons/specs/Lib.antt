@@ -1,6 +1,6 @@
-pub mod Images
+pub mod ReadImages
 pub mod Clashes
-pub mod Faults
+pub mod CitationFaults
 pub mod Steps
 pub mod Concluded
 pub mod Run

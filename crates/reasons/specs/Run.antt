@@ -11,7 +11,7 @@ use Rattle.frame.specs.Citations.{Carries, IsHypothesis, IsInstance, premises}
 use Rattle.proof_code.specs.declared.item.Item.{Item}
 use Rattle.proof_code.specs.declared.item.Item.TheVariants.{Cite, Recall, Mark}
 use Rattle.reasons.specs.declared.state.State.{State}
-use Rattle.reasons.specs.Stored.Kept.{named}
+use Rattle.reasons.specs.Stored.Vectors.{named}
 
 -- the results that wait, the last on top, the marked ones, and the weight so far
 pub record Held : Type 0 where

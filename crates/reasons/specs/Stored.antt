@@ -1,2 +1,2 @@
 -- How expressions and images are kept as numbers. No public clause cites it.
-pub mod Kept
+pub mod Vectors

@@ -5,11 +5,11 @@ ghost use Rattle.names.specs.Codes.{AreDistinct, name_at, decode};
 ghost use Rattle.frame.specs.Below.{AreBelow, AllBelow};
 ghost use Rattle.frame.specs.Disjoint.{are_apart, is_group_apart, are_groups_apart};
 ghost use Rattle.frame.specs.Substitution.{code_image};
-ghost use Rattle.reasons.specs.Stored.Kept.{AreImages, code_images};
-ghost use Rattle.reasons.specs.Images.{named_images, AreVariables};
+ghost use Rattle.reasons.specs.Stored.Vectors.{AreImages, code_images};
+ghost use Rattle.reasons.specs.ReadImages.{named_images, AreVariables};
 ghost use Rattle.reasons.specs.Clashes.{IsClash, IsClashIn, IsClashWith, is_kept, is_other_apart, IsUnpairedIn, AreShared, AreBeside};
 
-use crate::images::{Image, apply, image_or};
+use crate::named_images::{Image, apply, image_or};
 use entries::Groups;
 use frame::Pairs;
 use std::alloc::{AllocError, Global};

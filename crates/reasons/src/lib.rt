@@ -5,9 +5,9 @@
 //! Read `reason`, `state`, `images`, `clash`, `citation`, `run`.
 #![tactic(auto)]
 
-mod citation;
 mod clash;
-mod images;
+mod named_citation;
+mod named_images;
 mod reason;
 mod run;
 mod state;

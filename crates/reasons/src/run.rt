@@ -3,14 +3,14 @@ ghost use Rattle.std.specs.Prelude.{◌≡◌, ◌≤◌, List, length, IfOk, Ma
 ghost use Rattle.mm_lex.specs.Alphabet.{Name};
 ghost use Rattle.mm_read.specs.declared.stmt.Stmt.{Stmt as Statement};
 ghost use Rattle.scope.specs.Active.{stmt_at, expr_of};
-ghost use Rattle.frame.specs.Reading.{ArePositions};
-ghost use Rattle.proof_code.specs.Numbers.{item_of};
-ghost use Rattle.reasons.specs.Stored.Kept.{AreSymbols};
+ghost use Rattle.frame.specs.AtPosition.{ArePositions};
+ghost use Rattle.proof_code.specs.ItemNumbers.{item_of};
+ghost use Rattle.reasons.specs.Stored.Vectors.{AreSymbols};
 ghost use Rattle.reasons.specs.Run.{Steps, held};
 ghost use Rattle.reasons.specs.FirstFault.{Fails, RunsTo, IsFirstFault, IsAlone, IsEndFault};
 ghost use Rattle.subst.specs.declared.buffer.TheConstants.{SYMBOLS_LIMIT};
 
-use crate::citation::cite;
+use crate::named_citation::cite;
 use crate::reason::{Fault, Reason};
 use crate::state::State;
 use frame::Frames;

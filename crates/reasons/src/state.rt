@@ -18,7 +18,7 @@ pub struct State {
 
 impl State {
     ghost use Rattle.frame.specs.Below.{AreBelow};
-    ghost use Rattle.reasons.specs.Stored.Kept.{AreSymbols};
+    ghost use Rattle.reasons.specs.Stored.Vectors.{AreSymbols};
     ghost use Rattle.reasons.specs.Steps.{IsPushed, IsMarkedOf, IsRecalled, FailsToRecall};
 
     /// Nothing yet.

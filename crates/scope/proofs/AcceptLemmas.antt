@@ -15,19 +15,19 @@ use Rattle.scope.specs.Legal.{broken_rule}
 use Rattle.names.specs.Codes.{with_names, numbers_in, number_in, AreNamed}
 use Rattle.scope.specs.Numbering.{names_of, can_push}
 use Rattle.scope.specs.Kinds.{Declared, declared_names, kind_in, with_kind, with_kinds, is_label_kind, IsLabelled}
-use Rattle.scope.specs.Stored.Kept.{IsKept}
+use Rattle.scope.specs.Stored.Stacks.{IsKept}
 use Rattle.scope.specs.Symbols.{symbols_of, symbols_by}
-use Rattle.scope.specs.declared.sizes.Sizes.{Sizes}
+use Rattle.scope.specs.declared.stack_heights.Sizes.{Sizes}
 use Rattle.scope.specs.declared.numbering.Kind.{Kind}
 use Rattle.scope.specs.declared.numbering.Kind.TheVariants.{Label, Constant, Variable}
-use Rattle.names.proofs.AddedLemmas.{with_names-more, numbers_in-more, has-more, has-with_names, number_in-more}
+use Rattle.names.proofs.AddedNames.{with_names-more, numbers_in-more, has-more, has-with_names, number_in-more}
 use Rattle.names.proofs.CodesLemmas.{same_name}
 use Rattle.scope.proofs.NamesLemmas.{declared_names-with_kinds, active-named}
 use Rattle.scope.proofs.SortsLemmas.{numbers-has, is_variable-active, has_float-typed}
-use Rattle.scope.proofs.SymbolsLemmas.{declared_symbols-label, declared_symbols-with_kinds}
+use Rattle.scope.proofs.SymbolNameLemmas.{declared_symbols-label, declared_symbols-with_kinds}
 use Rattle.scope.proofs.StackFollows.{kept-more}
 use Rattle.scope.proofs.DeclaredLemmas.{tells-nothing, tells-constants, tells-variables, tells-label}
-use Rattle.scope.proofs.MarkLemmas.{all-has, fresh-none, inactive-free, inactive-not, can_push-names}
+use Rattle.scope.proofs.GoingBackLemmas.{all-has, fresh-none, inactive-free, inactive-not, can_push-names}
 use Rattle.scope.proofs.LegalLemmas.{legal-constants, legal-variables, legal-label, legal-float}
 
 pub same-kept : {S S' M : Database} {names names' : Declared} {vs vs' ts ts' : List ℕ} {blocks blocks' : List Sizes} {mark : Sizes} {m : ℕ} → S ≡ S' → names ≡ names' → vs ≡ vs' → ts ≡ ts' → blocks ≡ blocks'

@@ -7,8 +7,8 @@ use Rattle.mm_read.specs.declared.stmt.Stmt.{Stmt}
 use Rattle.mm_read.specs.declared.stmt.Stmt.TheVariants.{Open}
 use Rattle.mm_read.specs.Statements.{Database}
 use Rattle.scope.specs.Active.{count, stays_open, active_from, is_open, is_close, is_closed}
-use Rattle.scope.specs.Stored.Kept.{sizes_of, blocks_from}
-use Rattle.scope.specs.declared.sizes.Sizes.{Sizes}
+use Rattle.scope.specs.Stored.Stacks.{sizes_of, blocks_from}
+use Rattle.scope.specs.declared.stack_heights.Sizes.{Sizes}
 use Rattle.scope.specs.Laws.{has_open, before_open}
 use Rattle.scope.proofs.ActiveLemmas.{left_open, count-left_open, no_deficit}
 

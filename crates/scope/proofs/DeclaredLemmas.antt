@@ -12,8 +12,8 @@ use Rattle.scope.specs.Active.{count, constants, variables, label_of, has_label}
 use Rattle.names.specs.Codes.{with_names}
 use Rattle.scope.specs.Numbering.{names_of, declared_by}
 use Rattle.scope.specs.Kinds.{Declared, declared_names, kind_in, Tells, TellsAll, with_kinds, is_label_kind, is_constant_kind, is_variable_kind}
-use Rattle.scope.specs.Stored.Kept.{IsMarked}
-use Rattle.scope.specs.declared.sizes.Sizes.{Sizes}
+use Rattle.scope.specs.Stored.Stacks.{IsMarked}
+use Rattle.scope.specs.declared.stack_heights.Sizes.{Sizes}
 use Rattle.scope.specs.declared.numbering.Kind.{Kind}
 use Rattle.scope.specs.declared.numbering.Kind.TheVariants.{Label, Constant, Variable}
 use Rattle.names.proofs.CodesLemmas.{same_name}

@@ -2,11 +2,11 @@ pub mod Databases
 pub mod KindsLemmas
 pub mod NamesLemmas
 pub mod SortsLemmas
-pub mod EntriesLemmas
-pub mod SymbolsLemmas
+pub mod KindCountLemmas
+pub mod SymbolNameLemmas
 pub mod DeclaredLemmas
 pub mod StackFollows
-pub mod MarkLemmas
+pub mod GoingBackLemmas
 pub mod StandingLemmas
 pub mod LegalLemmas
 pub mod AcceptLemmas

@@ -14,7 +14,7 @@ use Rattle.scope.specs.Numbering.{names_from, names_of, declared_by}
 use Rattle.scope.specs.Kinds.{Declared, declared_names, kind_in, with_kind, with_kinds}
 use Rattle.scope.specs.declared.numbering.Kind.{Kind}
 use Rattle.names.proofs.CodesLemmas.{name_same, same_name}
-use Rattle.names.proofs.AddedLemmas.{or_cases, has_name-append, with_names-more, has-more, has-with_names}
+use Rattle.names.proofs.AddedNames.{or_cases, has_name-append, with_names-more, has-more, has-with_names}
 
 -- ---- names are only added at the end
 

@@ -17,7 +17,7 @@ use Rattle.scope.specs.declared.numbering.Kind.{Kind}
 use Rattle.scope.specs.declared.numbering.Kind.TheVariants.{Label, Constant, Variable}
 use Rattle.scope.specs.declared.legal.Sort.{Sort}
 use Rattle.scope.specs.declared.legal.Sort.TheVariants as sort
-use Rattle.names.proofs.AddedLemmas.{has_name-append, number_in-same}
+use Rattle.names.proofs.AddedNames.{has_name-append, number_in-same}
 use Rattle.names.proofs.CodesLemmas.{same_name, name_eq-comm}
 use Rattle.scope.proofs.NamesLemmas.{active-was, kind-has}
 

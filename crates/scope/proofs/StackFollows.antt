@@ -15,14 +15,14 @@ use Rattle.names.specs.Codes.{with_names, numbers_in, number_in, AreNamed}
 use Rattle.scope.specs.Numbering.{names_of, declared_by}
 use Rattle.scope.specs.Kinds.{Declared, declared_names, declared_symbols, TellsAll}
 use Rattle.scope.specs.Symbols.{symbols_of, symbols_by}
-use Rattle.scope.specs.Stored.Kept.{sizes_of, blocks_from, blocks_of, IsKept, IsMarked}
-use Rattle.scope.specs.declared.sizes.Sizes.{Sizes}
+use Rattle.scope.specs.Stored.Stacks.{sizes_of, blocks_from, blocks_of, IsKept, IsMarked}
+use Rattle.scope.specs.declared.stack_heights.Sizes.{Sizes}
 use Rattle.scope.specs.Laws.{has_open, before_open}
 use Rattle.scope.proofs.ActiveLemmas.{active_from-append, active_from-close, stays_open-append, flat_map-taken, from_open, split_open, below-deficit, no_deficit, deficit-close, left_open, count-left_open, count-append, none-left}
 use Rattle.scope.proofs.BlocksLemmas.{blocks_from-append, blocks-close}
-use Rattle.names.proofs.AddedLemmas.{numbers_in-more, has-more, has_name-append}
+use Rattle.names.proofs.AddedNames.{numbers_in-more, has-more, has_name-append}
 use Rattle.scope.proofs.NamesLemmas.{names_of-later, active-named}
-use Rattle.scope.proofs.SymbolsLemmas.{symbols_of-append}
+use Rattle.scope.proofs.SymbolNameLemmas.{symbols_of-append}
 use Rattle.scope.proofs.DeclaredLemmas.{tells-nothing, names_of-append, marked-within}
 
 -- ---- a statement that is no bracket

@@ -9,10 +9,10 @@ use Rattle.mm_read.specs.declared.stmt.Stmt.TheVariants.{Open, Close, Const, Var
 use Rattle.mm_read.specs.Statements.{Database}
 use Rattle.scope.specs.Active.{active, active_from, bare, is_open, is_close, count}
 use Rattle.scope.specs.Kinds.{Declared}
-use Rattle.scope.specs.Stored.Kept.{sizes_of, blocks_from, IsKept}
+use Rattle.scope.specs.Stored.Stacks.{sizes_of, blocks_from, IsKept}
 use Rattle.scope.specs.Laws.{before_open}
 use Rattle.scope.specs.Standing.{stands_at, standing_of, IsStanding}
-use Rattle.scope.specs.declared.sizes.Sizes.{Sizes}
+use Rattle.scope.specs.declared.stack_heights.Sizes.{Sizes}
 use Rattle.scope.specs.declared.standing.Standing.{Standing}
 use Rattle.scope.proofs.ActiveLemmas.{active_from-later, flat_map-taken}
 use Rattle.scope.proofs.BlocksLemmas.{blocks-close}

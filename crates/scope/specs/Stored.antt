@@ -1,4 +1,4 @@
 -- How a scope is kept: its stacks and counts, the kinds of names, and what it notes. No public clause cites it.
-pub mod Kept
-pub mod Entries
+pub mod Stacks
+pub mod KindCounts
 pub mod Noted

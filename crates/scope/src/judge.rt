@@ -4,8 +4,8 @@ ghost use Rattle.scope.specs.Active.{is_closed};
 
 use crate::history::History;
 use crate::numbering::Numbering;
-use crate::sizes::Sizes;
 use crate::stack::Stack;
+use crate::stack_heights::Sizes;
 use crate::standing::{Standing, copy_standing};
 use std::alloc::{AllocError, Global};
 use std::marker::Model;
@@ -30,7 +30,7 @@ pub(crate) struct Judge {
 
 impl Model for Judge {
     ghost use Rattle.scope.specs.Accepted.{Accepted};
-    ghost use Rattle.scope.specs.Stored.Kept.{IsScope};
+    ghost use Rattle.scope.specs.Stored.Stacks.{IsScope};
 
     ghost Value = { Accepted };
 

@@ -17,8 +17,8 @@ mod numbering;
 mod reading;
 mod rule;
 mod scope;
-mod sizes;
 mod stack;
+mod stack_heights;
 mod standing;
 mod steps;
 

@@ -1,7 +1,7 @@
 //! Labels and symbols as numbers, in the order of their first declaration.
 ghost use Rattle.std.specs.Prelude.{◌≡◌, ◌<◌, ◌≤◌, ◌^◌, [], ◌∷◌, ◌++◌, take, length, option_map, slice_get, IfOk, IfSome, IfNone, OnOk, OnErr, None, Some};
 ghost use Rattle.names.specs.Codes.{name_at, code_of};
-ghost use Rattle.scope.specs.Stored.Entries.{AreCounted, count_behind};
+ghost use Rattle.scope.specs.Stored.KindCounts.{AreCounted, count_behind};
 ghost use Rattle.scope.specs.Kinds.{declared_names, kind_in, symbols_before};
 
 use names::NameTable;
@@ -32,7 +32,7 @@ pub struct Numbering {
 
 impl Model for Numbering {
     ghost use Rattle.std.specs.Prelude.{ℕ, List, ◌≡◌, length};
-    ghost use Rattle.scope.specs.Stored.Entries.{kinds_of, AreCounted};
+    ghost use Rattle.scope.specs.Stored.KindCounts.{kinds_of, AreCounted};
     ghost use Rattle.scope.specs.Kinds.{with_their};
     ghost use Rattle.scope.specs.declared.numbering.Kind.{Kind};
 

@@ -1,3 +1,3 @@
 mod PiecesLemmas
 mod ScriptsLemmas
-mod NamesLemmas
+mod CharterNameLemmas

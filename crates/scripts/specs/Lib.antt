@@ -1,5 +1,5 @@
 pub mod Pieces
-pub mod Words
+pub mod LineWords
 pub mod Verbs
 pub mod Parsed
 pub mod Offered

@@ -7,9 +7,9 @@ use Rattle.library.specs.declared.charter.TheConstants.{MOST_NAMES}
 use Rattle.library.specs.declared.entry.Entry.TheVariants.{Text, Charter}
 use Rattle.library.specs.Charters.{is_rising}
 use Rattle.scripts.specs.declared.offered.Offered.{Offered}
-use Rattle.scripts.specs.declared.words.TheConstants.{SPACE}
+use Rattle.scripts.specs.declared.line_words.TheConstants.{SPACE}
 use Rattle.numbers.specs.Numbers.{number_of}
-use Rattle.scripts.specs.Words.{◌>>=◌, Words, entry_at}
+use Rattle.scripts.specs.LineWords.{◌>>=◌, Words, entry_at}
 
 -- K AUTHOR SERIAL TEXT: the text is all words behind the serial, with the spaces between them
 abbrev pub text_offered : Words → Option Offered

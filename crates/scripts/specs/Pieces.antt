@@ -3,7 +3,7 @@
 -- The code cuts off one piece after another; here all are listed at once.
 use Rattle.std.specs.Prelude.{ℕ, ◌==◌, List, [], Option, Some, None}
 use Rattle.std.specs.List.{slice_split}
-use Rattle.scripts.specs.declared.words.TheConstants.{SPACE}
+use Rattle.scripts.specs.declared.line_words.TheConstants.{SPACE}
 use Rattle.scripts.specs.declared.lines.TheConstants.{LINE_FEED}
 
 abbrev pub split_at : ℕ → List ℕ → List (List ℕ)

@@ -12,7 +12,7 @@ use Rattle.scripts.specs.declared.play_line.PlayLine.TheVariants.{Offer, Begin, 
 use Rattle.scripts.specs.declared.play_line.PlayLine.TheVariants.{Show, Log, List as ListLine, Status, Export}
 use Rattle.scripts.specs.Pieces.{words_of}
 use Rattle.scripts.specs.Verbs.{verb_at}
-use Rattle.scripts.specs.Words.{◌>>=◌, Words, one_number, one_node, one_entry}
+use Rattle.scripts.specs.LineWords.{◌>>=◌, Words, one_number, one_node, one_entry}
 use Rattle.scripts.specs.Offered.{text_offered, charter_offered}
 
 -- what the words behind a verb ask for

@@ -11,7 +11,7 @@ use Rattle.scripts.specs.declared.serve_line.ServeLine.{ServeLine}
 use Rattle.scripts.specs.declared.serve_line.ServeLine.TheVariants.{Submit, Begin, Restart, List as ListLine, Status, Settle}
 use Rattle.scripts.specs.Pieces.{words_of}
 use Rattle.scripts.specs.Verbs.{verb_at}
-use Rattle.scripts.specs.Words.{◌>>=◌, Words, one_node, one_entry}
+use Rattle.scripts.specs.LineWords.{◌>>=◌, Words, one_node, one_entry}
 use Rattle.scripts.specs.Offered.{text_offered, charter_offered}
 
 -- what the words behind a verb ask for

@@ -6,7 +6,7 @@ use Rattle.std.specs.Str.{bytes_eq}
 use Rattle.scripts.specs.declared.verb.Verb.{Verb}
 use Rattle.scripts.specs.declared.verb.Verb.TheVariants.{Offer, Submit, Charter, Begin, Deliver, Restart, Apply}
 use Rattle.scripts.specs.declared.verb.Verb.TheVariants.{Show, Log, List as ListVerb, Status, Export, Settle}
-use Rattle.scripts.specs.Words.{Words}
+use Rattle.scripts.specs.LineWords.{Words}
 
 -- the verb that the word is
 abbrev pub verb_of : List ℕ → Option Verb

@@ -9,6 +9,7 @@
 
 mod fault;
 mod line;
+mod line_words;
 mod lines;
 mod offered;
 mod pieces;
@@ -18,12 +19,11 @@ mod serve_line;
 #[cfg(test)]
 mod tests;
 mod verb;
-mod words;
 
 pub use fault::{LineFault, ScriptFault};
 pub use line::Line;
+pub use line_words::EntryAt;
 pub use offered::Offered;
 pub use play_line::PlayLine;
 pub use script::parse_script;
 pub use serve_line::ServeLine;
-pub use words::EntryAt;

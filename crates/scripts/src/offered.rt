@@ -5,7 +5,7 @@ ghost use Rattle.scripts.specs.Parsed.{Parses};
 ghost use Rattle.scripts.specs.Offered.{text_offered, charter_offered, names_of, numbers_of, rises};
 
 use crate::fault::LineFault;
-use crate::words::Words;
+use crate::line_words::Words;
 use bytes::Bytes;
 use library::{Entry, MOST_NAMES, Names, Submission};
 use numbers::parse_number;

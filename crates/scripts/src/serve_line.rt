@@ -5,9 +5,9 @@ ghost use Rattle.scripts.specs.ServeLines.{serve_line_of, asked_of_cluster};
 
 use crate::fault::LineFault;
 use crate::line::Line;
+use crate::line_words::{EntryAt, Words};
 use crate::offered::{Offered, parse_charter, parse_text};
 use crate::verb::Verb;
-use crate::words::{EntryAt, Words};
 use std::alloc::Global;
 
 /// A line of a script of `serve`.

@@ -8,34 +8,34 @@ use Rattle.mm_read.specs.declared.stmt.Stmt.{Stmt}
 use Rattle.mm_read.specs.Statements.{Expr, Database}
 use Rattle.scope.specs.Active.{stmt_at, before, expr_of, is_assertion}
 use Rattle.names.specs.Codes.{decode}
-use Rattle.entries.specs.declared.citation.Hypothesis.TheVariants.{Float}
-use Rattle.entries.specs.declared.citation.Cited.{Cited}
+use Rattle.entries.specs.declared.cited_parts.Hypothesis.TheVariants.{Float}
+use Rattle.entries.specs.declared.cited_parts.Cited.{Cited}
 use Rattle.frame.specs.Below.{AreBelow, AllBelow}
 use Rattle.frame.specs.Bound.{IsBound}
 use Rattle.frame.specs.Cited.{IsCited}
 use Rattle.frame.specs.FrameOf.{HasAssertion, hypotheses}
 use Rattle.frame.specs.Citations.{Carries, IsHypothesis, IsInstance, premises}
-use Rattle.frame.specs.Reading.{AreLegal}
+use Rattle.frame.specs.AtPosition.{AreLegal}
 use Rattle.frame.specs.Substitution.{Images, CodeImages, apply as applied, code_apply}
 use Rattle.proof_code.specs.declared.item.Item.TheVariants.{Cite}
 use Rattle.subst.proofs.NumbersApartLemmas.{below-drop}
 use Rattle.verify.specs.Fits.{IsTyped, AreRead, AreDifferent}
 use Rattle.verify.specs.Goes.{AreNamed}
 use Rattle.verify.specs.Machine.{Results, State, Cites, of_hypothesis, of_assertion, Steps, with_result}
-use Rattle.verify.specs.Places.{below, top}
-use Rattle.verify.proofs.AskedLemmas.{asked-lengths, asked-different}
+use Rattle.verify.specs.ResultPlaces.{below, top}
+use Rattle.verify.proofs.MandatoryAsked.{asked-lengths, asked-different}
 use Rattle.verify.proofs.CitationLemmas.{Meets, meets-step}
 use Rattle.verify.proofs.CitingLemmas.{read-over}
 use Rattle.verify.proofs.Decide.{append_cut, length-premises, not_both}
 use Rattle.verify.proofs.ImageLemmas.{apply-below}
 use Rattle.verify.proofs.Named.{halves, length-top}
-use Rattle.verify.proofs.PlaceLemmas.{map-drop}
+use Rattle.verify.proofs.ResultPlaceLemmas.{map-drop}
 use Rattle.verify.proofs.PlanLemmas.{below-take}
 use Rattle.steps.specs.StepTable.{Step, IsPlaced, stands, comes_last, of_hypothesis as makes_hypothesis, of_assertion as makes_assertion, Notes}
 use Rattle.steps.specs.Rows.{Row, no_row, expr_in, Follows, from_hypothesis, from_assertion, AreRows}
 use Rattle.steps.specs.StepTable as table
 use Rattle.steps.specs.Stored.Drafted.{row_of, rows_of, codes_in, progress_of, IsDraft, IsTied, GivesHypothesis, GivesAssertion}
-use Rattle.steps.specs.declared.draft.Draft.{Draft}
+use Rattle.steps.specs.declared.table_draft.Draft.{Draft}
 use Rattle.steps.proofs.PlacingLemmas.{found-draft, found-placed, found-tied, made-draft, made-placed, made-tied}
 use Rattle.frame.proofs.FoundByNumber.{some-same}
 use Rattle.proof_code.proofs.LettersLemmas.{map-append}

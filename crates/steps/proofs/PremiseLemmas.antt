@@ -8,13 +8,13 @@ use Rattle.mm_read.specs.declared.stmt.Stmt.{Stmt}
 use Rattle.mm_read.specs.declared.stmt.Stmt.TheVariants as stmt
 use Rattle.mm_read.specs.Statements.{Database}
 use Rattle.scope.specs.Active.{stmt_at, before, is_assertion}
-use Rattle.entries.specs.declared.citation.Hypothesis.{Hypothesis}
-use Rattle.entries.specs.declared.citation.Hypothesis.TheVariants.{Float, Essential}
+use Rattle.entries.specs.declared.cited_parts.Hypothesis.{Hypothesis}
+use Rattle.entries.specs.declared.cited_parts.Hypothesis.TheVariants.{Float, Essential}
 use Rattle.frame.specs.Below.{AreBelow}
 use Rattle.frame.specs.Cited.{IsOf, AreAsked}
 use Rattle.frame.specs.FrameOf.{HasAssertion, hypotheses}
 use Rattle.frame.specs.Citations.{IsHypothesis}
-use Rattle.verify.proofs.AskedLemmas.{asked-lengths}
+use Rattle.verify.proofs.MandatoryAsked.{asked-lengths}
 use Rattle.verify.proofs.Decide.{length-premises, not_both}
 use Rattle.steps.specs.Rows.{Row, no_row, expr_in, Follows, from_hypothesis, from_assertion, AreRows}
 use Rattle.steps.specs.Essential.{is_premise, for_premises, mandatory, essential_of}

@@ -6,9 +6,9 @@ use Rattle.mm_lex.specs.Alphabet.{Name}
 use Rattle.mm_read.specs.declared.stmt.Stmt.{Stmt}
 use Rattle.mm_read.specs.Statements.{Expr, Database}
 use Rattle.scope.specs.Active.{stmt_at, expr_of}
-use Rattle.frame.specs.Reading.{AreLegal}
+use Rattle.frame.specs.AtPosition.{AreLegal}
 use Rattle.proof_code.specs.declared.item.Item.{Item}
-use Rattle.proof_code.specs.Numbers.{item_of, items_of}
+use Rattle.proof_code.specs.ItemNumbers.{item_of, items_of}
 use Rattle.verify.specs.Machine.{State, start, Steps, Runs}
 use Rattle.verify.specs.Right.{IsRight}
 use Rattle.verify.proofs.Complete.{conclude_same}
@@ -17,7 +17,7 @@ use Rattle.verify.proofs.StepLemmas.{items-more, all-taken}
 use Rattle.steps.specs.StepTable.{progress, NotesAll, AreSteps}
 use Rattle.steps.specs.Rows.{steps_of, expr_in}
 use Rattle.steps.specs.Stored.Drafted.{row_of, rows_of, progress_of, IsTied, CanDo, IsDone}
-use Rattle.steps.specs.declared.draft.Draft.{Draft}
+use Rattle.steps.specs.declared.table_draft.Draft.{Draft}
 use Rattle.steps.proofs.SoundLemmas.{notes-sound, notes-snoc, nothing-sound, root-last}
 use Rattle.frame.proofs.FoundByNumber.{some-same}
 

@@ -9,8 +9,8 @@ use Rattle.proof_code.specs.declared.item.Item.{Item}
 use Rattle.proof_code.specs.declared.item.Item.TheVariants.{Cite, Recall, Mark}
 use Rattle.verify.proofs.PlanLemmas.{below-get}
 use Rattle.steps.specs.StepTable.{Step, Progress, progress, IsPlaced, stands, comes_last, Makes, of_hypothesis, of_assertion, Notes, NotesAll, AreSteps}
-use Rattle.steps.proofs.RowLemmas.{some-front, some-more, some-last}
-use Rattle.frame.proofs.NumberLemmas.{below-push, below-more}
+use Rattle.steps.proofs.DraftRowLemmas.{some-front, some-more, some-last}
+use Rattle.frame.proofs.SymbolNumberLemmas.{below-push, below-more}
 
 pub record IsSound (p : Progress) : Type 0 where
   pub stack_below : AreBelow (length p.steps) p.stack

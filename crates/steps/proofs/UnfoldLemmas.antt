@@ -8,7 +8,7 @@ use Rattle.mm_read.specs.Statements.{Database}
 use Rattle.scope.specs.Active.{stmt_at, is_assertion}
 use Rattle.frame.specs.Below.{AreBelow}
 use Rattle.frame.specs.Citations.{IsHypothesis}
-use Rattle.frame.specs.Reading.{HasLabelsOnce}
+use Rattle.frame.specs.AtPosition.{HasLabelsOnce}
 use Rattle.proof_code.specs.declared.item.Item.{Item}
 use Rattle.proof_code.specs.declared.item.Item.TheVariants.{Cite, Recall, Mark}
 use Rattle.verify.specs.Derivations.{Derivation, hyp, apply, from_list}

@@ -1,8 +1,8 @@
 //! What an assertion concludes from the results that it takes.
 ghost use Rattle.std.specs.Prelude.{◌≡◌, ℕ, ◌++◌, [], List, Some, OnOk, IfOk, length, map, get_or, slice_get};
-ghost use Rattle.entries.specs.declared.citation.Hypothesis.TheVariants.{Float};
+ghost use Rattle.entries.specs.declared.cited_parts.Hypothesis.TheVariants.{Float};
 ghost use Rattle.frame.specs.Substitution.{CodeImages, code_apply};
-ghost use Rattle.subst.specs.Places.{seen_at, AreWithin};
+ghost use Rattle.subst.specs.ExpressionPlaces.{seen_at, AreWithin};
 ghost use Rattle.verify.specs.Fits.{AreDifferent, IsTyped, AreRead};
 
 use entries::Cited;

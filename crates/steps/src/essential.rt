@@ -6,7 +6,7 @@ ghost use Rattle.steps.specs.Essential.{essential_of, AreEssential};
 ghost use Rattle.steps.specs.Stored.Marked.{taken_by, mark_each, mark_last, AreMarkedFrom, AreMarks};
 
 use crate::noting::cited_at;
-use crate::table::ProofTable;
+use crate::steps_table::ProofTable;
 use entries::Hypothesis;
 use frame::{Frames, Gathered, Meaning};
 use std::alloc::{AllocError, Global};

@@ -8,12 +8,12 @@
 #![tactic(auto)]
 
 mod concluding;
-mod draft;
 mod essential;
 mod known;
 pub mod laws;
 mod noting;
-mod table;
+mod steps_table;
+mod table_draft;
 
 pub use essential::essential_table;
-pub use table::{ProofTable, proof_table};
+pub use steps_table::{ProofTable, proof_table};

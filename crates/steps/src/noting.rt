@@ -6,12 +6,12 @@ ghost use Rattle.scope.specs.Active.{stmt_at};
 ghost use Rattle.frame.specs.Citations.{Carries};
 ghost use Rattle.frame.specs.Cited.{IsCited};
 ghost use Rattle.frame.specs.FrameOf.{HasAssertion};
-ghost use Rattle.frame.specs.Reading.{ArePositions, AreLegal};
+ghost use Rattle.frame.specs.AtPosition.{ArePositions, AreLegal};
 ghost use Rattle.proof_code.specs.declared.item.Item.TheVariants.{Cite, Recall, Mark};
-ghost use Rattle.proof_code.specs.Numbers.{item_of};
+ghost use Rattle.proof_code.specs.ItemNumbers.{item_of};
 ghost use Rattle.steps.specs.Stored.Drafted.{IsDraft, CanDo, IsDone};
 
-use crate::draft::{Draft, cite_hypothesis, cite_parts};
+use crate::table_draft::{Draft, cite_hypothesis, cite_parts};
 use entries::Cited;
 use frame::{Frames, Gathered, Meaning};
 use std::alloc::{AllocError, Global};

@@ -6,11 +6,11 @@ use Rattle.std.proofs.Math.Seq.{take-append-add, take-append_seam}
 use Rattle.std.proofs.lemmas.Simd.{take_more_put_chunk, length-chunk}
 use lib.Lanes.{chunk, put_chunk}
 use Rattle.frame.specs.Substitution.{code_image, code_apply}
-use Rattle.subst.specs.declared.place.ExpressionPlace.{ExpressionPlace}
-use Rattle.subst.specs.Places.{seen_at, images_at, AreInside}
+use Rattle.subst.specs.declared.expression_place.ExpressionPlace.{ExpressionPlace}
+use Rattle.subst.specs.ExpressionPlaces.{seen_at, images_at, AreInside}
 use Rattle.subst.specs.Stored.Written.{IsWritten, LacksRoom}
-use Rattle.subst.proofs.ApplyLemmas.{apply-take, len-take, len-within}
-use Rattle.subst.proofs.PlaceLemmas.{length-seen}
+use Rattle.subst.proofs.WrittenImages.{apply-take, len-take, len-within}
+use Rattle.subst.proofs.ExpressionPlaceLemmas.{length-seen}
 use Rattle.subst.proofs.ImagePlacesLemmas.{image-more}
 
 -- two lists that begin alike have the same ranges there

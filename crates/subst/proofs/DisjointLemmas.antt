@@ -7,7 +7,7 @@ use Rattle.mm_lex.specs.Alphabet.{Name, name_eq, has_name}
 use Rattle.mm_read.specs.Statements.{Expr, Database}
 use Rattle.scope.specs.Active.{is_variable}
 use Rattle.names.proofs.CodesLemmas.{name_same, same_name}
-use Rattle.scope.proofs.MarkLemmas.{all-has}
+use Rattle.scope.proofs.GoingBackLemmas.{all-has}
 use Rattle.frame.specs.FrameOf.{groups, is_pair, together}
 use Rattle.frame.specs.Substitution.{Images, image}
 use Rattle.frame.specs.Disjoint.{are_apart, is_group_apart, are_groups_apart}

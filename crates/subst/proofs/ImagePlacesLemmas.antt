@@ -3,9 +3,9 @@ use Rattle.std.specs.Prelude.{◌≡◌, ℕ, ◌≤◌, Bool, true, false, cond
 use Rattle.std.specs.Map.{lookup}
 use Rattle.std.proofs.Common.{sym, ◌∙◌, ap, subst, arith}
 use Rattle.frame.specs.Substitution.{CodeImages, code_image, code_apply}
-use Rattle.subst.specs.declared.place.ExpressionPlace.{ExpressionPlace}
-use Rattle.subst.specs.Places.{seen_at, images_at, AreInside}
-use Rattle.subst.proofs.PlaceLemmas.{seen-more}
+use Rattle.subst.specs.declared.expression_place.ExpressionPlace.{ExpressionPlace}
+use Rattle.subst.specs.ExpressionPlaces.{seen_at, images_at, AreInside}
+use Rattle.subst.proofs.ExpressionPlaceLemmas.{seen-more}
 
 -- the image of a symbol, by the place that was found for it
 abbrev pub by_place : List ℕ → ℕ → Option ExpressionPlace → List ℕ

@@ -1,7 +1,7 @@
-pub mod PlaceLemmas
+pub mod ExpressionPlaceLemmas
 pub mod ImagePlacesLemmas
 mod SlotLemmas
-mod ApplyLemmas
+mod WrittenImages
 mod MatchLemmas
 mod CopyLemmas
 pub mod SubstitutionLemmas

@@ -4,7 +4,7 @@ use Rattle.std.proofs.Common.{sym, ◌∙◌, ap, arith, append_assoc, Bor}
 use Rattle.std.proofs.lemmas.List.{take-append-drop, append_cancel_left}
 use Rattle.std.proofs.lemmas.Slice.Eq.{bytes_eq-Decides}
 use Rattle.frame.specs.Substitution.{CodeImages, code_image, code_apply}
-use Rattle.subst.proofs.ApplyLemmas.{apply-take}
+use Rattle.subst.proofs.WrittenImages.{apply-take}
 
 -- symbols that begin with an image are the image and the rest
 strips : (rest image : List ℕ) → bytes_eq (take (length image) rest) image ≡ true → rest ≡ image ++ drop (length image) rest

@@ -3,7 +3,7 @@ use Rattle.std.specs.Prelude.{◌≡◌, ℕ, zero, suc, ◌+◌, ◌<◌, ◌�
 use Rattle.std.specs.Map.{lookup}
 use Rattle.std.proofs.Common.{sym, ◌∙◌, ap, arith}
 use Rattle.std.proofs.lemmas.Bool.Decides.{nat_tests}
-use Rattle.subst.specs.declared.place.ExpressionPlace.{ExpressionPlace}
+use Rattle.subst.specs.declared.expression_place.ExpressionPlace.{ExpressionPlace}
 use Rattle.subst.specs.declared.image_places.Slot.{Slot}
 use Rattle.subst.specs.Stored.Slots.{placed, AreUpTo}
 

@@ -1,4 +1,4 @@
-pub mod Places
+pub mod ExpressionPlaces
 pub mod Images
 pub mod Apart
 pub mod Findings

@@ -1,7 +1,7 @@
 //! A list of symbols that keeps its bound.
 ghost use Rattle.std.specs.Prelude.{◌≡◌, [], ◌++◌, ◌+◌, ◌≤◌, ◌↔◌, length, take, IfOk, OnOk, OnErr, IsTrue};
 ghost use Rattle.frame.specs.Substitution.{code_apply};
-ghost use Rattle.subst.specs.Places.{images_at, AreInside};
+ghost use Rattle.subst.specs.ExpressionPlaces.{images_at, AreInside};
 ghost use Rattle.subst.specs.Stored.Written.{Appends};
 
 use crate::copies::put_expr;

@@ -1,9 +1,9 @@
 //! Symbols copied within one buffer, eight at once.
 ghost use Rattle.std.specs.Prelude.{◌≡◌, ◌+◌, ◌≤◌, ◌++◌, ◌∷◌, [], length, take, drop, IfSome, IfNone};
-ghost use Rattle.subst.specs.Places.{seen_at};
+ghost use Rattle.subst.specs.ExpressionPlaces.{seen_at};
 ghost use Rattle.subst.specs.Stored.Written.{IsWritten, LacksRoom};
 
-use crate::place::ExpressionPlace;
+use crate::expression_place::ExpressionPlace;
 use std::simd::prelude::*;
 
 /// How many symbols are copied at once, and so how many may be written over behind what is written.

@@ -1,7 +1,7 @@
 //! An expression with the images put in, written behind them in their buffer.
 ghost use Rattle.std.specs.Prelude.{◌≡◌, ◌+◌, ◌<◌, ◌≤◌, length, take, IfOk, IfSome, IfNone, OnOk};
 ghost use Rattle.frame.specs.Substitution.{code_image, code_apply};
-ghost use Rattle.subst.specs.Places.{images_at, AreInside};
+ghost use Rattle.subst.specs.ExpressionPlaces.{images_at, AreInside};
 ghost use Rattle.subst.specs.Stored.Written.{IsWritten, LacksRoom};
 
 use crate::copies::{LANES, copy_place, put_symbol};

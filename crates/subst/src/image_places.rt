@@ -2,7 +2,7 @@
 ghost use Rattle.std.specs.Prelude.{◌≡◌, ℕ, ◌+◌, ◌<◌, ◌++◌, [], ◌==◌, ◌^◌, nat_eq, if◌then◌else◌, length, replicate, Some, OnOk, OnErr};
 ghost use Rattle.std.specs.Map.{lookup};
 
-use crate::place::ExpressionPlace;
+use crate::expression_place::ExpressionPlace;
 use std::alloc::{AllocError, Global};
 use std::marker::Model;
 
@@ -31,7 +31,7 @@ pub struct ImagePlaces {
 
 impl Model for ImagePlaces {
     ghost use Rattle.std.specs.Prelude.{ℕ, ◌≤◌, List};
-    ghost use Rattle.subst.specs.declared.place.ExpressionPlace.{ExpressionPlace};
+    ghost use Rattle.subst.specs.declared.expression_place.ExpressionPlace.{ExpressionPlace};
     ghost use Rattle.subst.specs.Stored.Slots.{placed, AreUpTo};
 
     ghost Value = { List (ℕ × ExpressionPlace) };

@@ -3,8 +3,8 @@ ghost use Rattle.std.specs.Prelude.{◌≡◌, ℕ, [], ◌∷◌, ◌==◌, if�
 ghost use Rattle.frame.specs.Substitution.{code_image};
 
 use crate::buffer::{Buffer, SYMBOLS_LIMIT};
+use crate::expression_place::{place_between, symbols_at};
 use crate::image_places::ImagePlaces;
-use crate::place::{place_between, symbols_at};
 use std::alloc::{AllocError, Global};
 use std::marker::Model;
 
@@ -21,7 +21,7 @@ pub struct Subst {
 
 impl Model for Subst {
     ghost use Rattle.std.specs.Prelude.{ℕ, List, length};
-    ghost use Rattle.subst.specs.Places.{images_at, AreInside};
+    ghost use Rattle.subst.specs.ExpressionPlaces.{images_at, AreInside};
 
     ghost Value = { List (ℕ × List ℕ) };
 

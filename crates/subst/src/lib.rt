@@ -8,10 +8,11 @@
 //! `bits`, `findings`, `numbers_apart`, `laws`.
 #![tactic(auto)]
 
-mod apart;
+mod asked_apart;
 mod bits;
 mod buffer;
 mod copies;
+mod expression_place;
 mod filling;
 mod findings;
 mod image_places;
@@ -19,16 +20,15 @@ mod images;
 mod laws;
 mod matching;
 mod numbers_apart;
-mod place;
 mod substitute;
 
-pub use apart::disjoint;
+pub use asked_apart::disjoint;
 pub use buffer::{Buffer, SYMBOLS_LIMIT, apply_into, has_room};
+pub use expression_place::{ExpressionPlace, place_between, symbols_at};
 pub use findings::Findings;
 pub use image_places::ImagePlaces;
 pub use images::Subst;
 pub use laws::{pair_clause, substitution_over_names};
 pub use matching::matches;
 pub use numbers_apart::groups_apart;
-pub use place::{ExpressionPlace, place_between, symbols_at};
 pub use substitute::apply;

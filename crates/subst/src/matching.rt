@@ -1,10 +1,10 @@
 //! An expression with the images put in, against symbols that stand, without writing it.
 ghost use Rattle.std.specs.Prelude.{◌≡◌, ℕ, ◌∷◌, ◌++◌, ◌↔◌, List, length, IfSome, IfNone, IsTrue};
 ghost use Rattle.frame.specs.Substitution.{code_image, code_apply};
-ghost use Rattle.subst.specs.Places.{images_at, AreInside};
+ghost use Rattle.subst.specs.ExpressionPlaces.{images_at, AreInside};
 
+use crate::expression_place::symbols_at;
 use crate::image_places::ImagePlaces;
-use crate::place::symbols_at;
 
 /// What stands behind a symbol.
 fn behind_symbol(symbol: u32, rest: &[u32]) -> Option<&[u32]>

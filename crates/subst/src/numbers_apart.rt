@@ -7,13 +7,13 @@ ghost use Rattle.frame.specs.Below.{AllBelow, AreBelow};
 ghost use Rattle.frame.specs.Disjoint.{are_groups_apart};
 ghost use Rattle.frame.specs.Substitution.{code_image, images_of_names};
 ghost use Rattle.subst.specs.Images.{AreOver};
-ghost use Rattle.subst.specs.Places.{images_at, AreInside};
+ghost use Rattle.subst.specs.ExpressionPlaces.{images_at, AreInside};
 ghost use Rattle.subst.specs.Findings.{IsKnown};
 ghost use Rattle.subst.specs.Apart.{image_named, are_two_apart, is_number_apart, are_numbers_apart};
 
+use crate::expression_place::symbols_at;
 use crate::findings::Findings;
 use crate::image_places::ImagePlaces;
-use crate::place::symbols_at;
 use entries::Groups;
 use frame::Pairs;
 

@@ -15,7 +15,7 @@ use Rattle.net.specs.World.{World, packets_after}
 use Rattle.net.specs.Taken.{Taken, world_of as world_of_taken}
 use Rattle.net.specs.KeptPart.{node_of}
 use Rattle.net.specs.Due.{Due, NetView, IsDue, IsStill, IsTaken, change_in}
-use Rattle.net.proofs.Lists.{at_place}
+use Rattle.net.proofs.GrowingLists.{at_place}
 use Rattle.std.proofs.lemmas.Option.{slice_get_within}
 use Rattle.net.proofs.TakenLemmas.{length-nodes_of, count_shown}
 use Rattle.switch.specs.Seat.{up, down, Seated, Fails, change_owed}

@@ -22,7 +22,7 @@ use Rattle.net.specs.Agree.{IsAfter}
 use Rattle.net.specs.Taken.{Taken, world_of as world_of_taken}
 use Rattle.net.specs.KeptPart.{kept_part}
 use Rattle.net.specs.Due.{Work, steps, restarts, Due, NetView, HasRoom, IsDue, IsReadyAt, IsOfEvent, IsEventAt, ComesTo, IsTaken, posts_of, step_of, loads, loads_due}
-use Rattle.net.proofs.Lists.{at_place, at_set, set_twice}
+use Rattle.net.proofs.GrowingLists.{at_place, at_set, set_twice}
 use Rattle.net.proofs.EventsDue.{comes_restart}
 use Rattle.net.proofs.TakenLemmas.{set_same}
 use Rattle.switch.specs.Seat.{Standing, up, down, Seated, owed_in, change_owed, posts_owed, IsRecordOf, IsWithOrWithout, Fails}

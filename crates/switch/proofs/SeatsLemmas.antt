@@ -6,7 +6,7 @@ use Rattle.synod.specs.Record.{Kept, new_kept}
 use Rattle.synod.specs.Node.{Node}
 use Rattle.net.specs.declared.event.Event.{Event}
 use Rattle.net.specs.Due.{Due}
-use Rattle.net.proofs.Lists.{at_set, at_set_other}
+use Rattle.net.proofs.GrowingLists.{at_set, at_set_other}
 use Rattle.switch.specs.Seat.{Standing, up, down, Seated}
 use Rattle.switch.specs.Switch.{Place, standing_seen, place_of, places_of, new_places, new_seats, is_down, is_down_place, is_down_at, events_due}
 

@@ -16,7 +16,7 @@ use Rattle.net.specs.Agree.{IsAfter}
 use Rattle.net.specs.Taken.{Taken, nodes_of, AreOfWorld, with_event}
 use Rattle.net.specs.KeptPart.{change_of, kept_part}
 use Rattle.net.specs.Due.{Work, steps, restarts, Due, change_in, posts_of, step_of, IsEventAt, NetView, AreStill, IsStill, IsDue, IsTaken}
-use Rattle.net.proofs.Lists.{at_set, at_set_other}
+use Rattle.net.proofs.GrowingLists.{at_set, at_set_other}
 use Rattle.net.proofs.EveryEvent.{if_taken, node_at, holds_after}
 use Rattle.net.proofs.TwoMoments.{world_lasts}
 use Rattle.net.proofs.KeptPartLemmas.{Happens, event_moves}

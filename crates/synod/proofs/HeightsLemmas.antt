@@ -13,7 +13,7 @@ use Rattle.synod.specs.declared.packet.Body.TheVariants.{Accept}
 use Rattle.synod.specs.Packets.{to_all, accepts}
 use Rattle.synod.specs.Proposer.{higher, highest_at, reported_value, above_all, top_reported, fills}
 use Rattle.slots.specs.FiniteMap.{entry_at}
-use Rattle.synod.specs.Pages.{joined_pages}
+use Rattle.synod.specs.PromisePages.{joined_pages}
 use Rattle.slots.specs.declared.slots.TheConstants.{SLOTS}
 use Rattle.synod.specs.Heights.{all_of, AreHighest, some_of, IsLead}
 

@@ -3,10 +3,10 @@ pub mod BallotsLemmas
 pub mod QuorumLemmas
 pub mod PromisePages
 pub mod ReportsLemmas
-pub mod KnownLemmas
+pub mod KnownVoteLemmas
 pub mod PostsLemmas
 pub mod PagesHadLemmas
-pub mod RecordLemmas
+pub mod KeptPartLemmas
 pub mod NodeKeeps
 pub mod PageKeeps
 pub mod StepKeeps
@@ -16,7 +16,7 @@ pub mod AcceptedLemmas
 pub mod LogLemmas
 pub mod ReportPages
 pub mod PagesWithLemmas
-pub mod GatherLemmas
+pub mod GatheredPages
 pub mod HeightsLemmas
 pub mod LeadLemmas
 pub mod Rows

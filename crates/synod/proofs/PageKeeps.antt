@@ -10,7 +10,7 @@ use Rattle.synod.specs.declared.packet.Body.TheVariants.{Promise}
 use Rattle.synod.specs.declared.change.Held.{Held}
 use Rattle.synod.specs.declared.proposer.Heard.{Heard}
 use Rattle.synod.specs.Packets.{IsReport, IsPost}
-use Rattle.synod.specs.Pages.{onto_first, cut, joined_pages}
+use Rattle.synod.specs.PromisePages.{onto_first, cut, joined_pages}
 use Rattle.synod.specs.Node.{pages_from, page_of, with_page}
 use Rattle.synod.specs.Acceptor.{reports_from, promise_pages}
 use Rattle.synod.specs.Proposer.{above_all, top_reported, fills, all_reports}

@@ -3,7 +3,7 @@ use Rattle.std.proofs.Common.{◌≡◌, ℕ, zero, suc, ◌+◌, ◌-◌, ◌*�
 use Rattle.std.proofs.Common.{slice_get}
 use Rattle.std.proofs.lemmas.Bool.Decides.{nat_tests}
 use Rattle.slots.specs.FiniteMap.{entry_at, front_of}
-use Rattle.synod.specs.Pages.{onto_first, cut, pages_of, joined_pages, all_had}
+use Rattle.synod.specs.PromisePages.{onto_first, cut, pages_of, joined_pages, all_had}
 
 abbrev pub append_all : {T : Type 0} → List (List T) → List T
 append_all [] = []

@@ -10,7 +10,7 @@ use Rattle.synod.specs.declared.packet.Packet.{Packet}
 use Rattle.synod.specs.declared.packet.Body.TheVariants.{Promise}
 use Rattle.synod.specs.declared.change.Held.{Held}
 use Rattle.synod.specs.Packets.{packet}
-use Rattle.synod.specs.Pages.{onto_first, cut, pages_of}
+use Rattle.synod.specs.PromisePages.{onto_first, cut, pages_of}
 use Rattle.synod.specs.Acceptor.{reports_from, promise_pages}
 use Rattle.synod.proofs.PageKeeps.{reports_few, pages_few}
 

@@ -7,7 +7,7 @@ use Rattle.synod.specs.Weights.{is_quorum}
 use Rattle.synod.specs.Ballots.{is_under, no_ballot}
 use Rattle.synod.specs.Packets.{packet}
 use Rattle.synod.specs.Node.{new_node}
-use Rattle.synod.specs.Pages.{pages_of}
+use Rattle.synod.specs.PromisePages.{pages_of}
 use Rattle.synod.specs.Acceptor.{on_prepare, on_accept}
 use Rattle.synod.specs.Proposer.{offered, begun, fills}
 use Rattle.synod.specs.Step.{restarted}

@@ -15,7 +15,7 @@ use Rattle.synod.specs.declared.proposer.Role.TheVariants.{Idle, Preparing, Lead
 use Rattle.synod.specs.Weights.{is_quorum}
 use Rattle.synod.specs.Ballots.{is_under, is_same}
 use Rattle.synod.specs.Packets.{accepts, IsReport, IsPage, IsBody, IsPacket, IsPost}
-use Rattle.synod.specs.Pages.{pages_of, all_had}
+use Rattle.synod.specs.PromisePages.{pages_of, all_had}
 use Rattle.synod.specs.Node.{Node, unchanged, pages_from, page_of, with_page, is_heard}
 use Rattle.synod.specs.Acceptor.{reports_from, promises, refuses, on_prepare}
 use Rattle.synod.specs.Proposer.{top_reported, fills, all_reports, leads, keeps_page, keeps_promise, hears, gathers, on_promise_as, on_promise}

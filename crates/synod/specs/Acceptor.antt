@@ -11,7 +11,7 @@ use Rattle.synod.specs.declared.change.Held.{Held}
 use Rattle.synod.specs.declared.change.Change.TheVariants.{Promise as PromiseChange, Entry}
 use Rattle.synod.specs.Ballots.{is_under}
 use Rattle.synod.specs.Packets.{packet, to_all}
-use Rattle.synod.specs.Pages.{pages_of}
+use Rattle.synod.specs.PromisePages.{pages_of}
 use Rattle.synod.specs.Node.{Node, Stepped, answers}
 
 -- the reports of the slots from first on, where the list begins at slot s

@@ -1,7 +1,7 @@
 pub mod Weights
 pub mod Ballots
 pub mod Packets
-pub mod Pages
+pub mod PromisePages
 pub mod Record
 pub mod Node
 pub mod Log

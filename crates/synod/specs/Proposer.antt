@@ -17,7 +17,7 @@ use Rattle.synod.specs.declared.refusal.Refusal.TheVariants.{Busy, LogFull, Roun
 use Rattle.synod.specs.Weights.{is_quorum}
 use Rattle.synod.specs.Ballots.{is_under, is_same}
 use Rattle.synod.specs.Packets.{to_all, accepts}
-use Rattle.synod.specs.Pages.{all_had, joined_pages}
+use Rattle.synod.specs.PromisePages.{all_had, joined_pages}
 use Rattle.synod.specs.Node.{Node, Stepped, unchanged, answers, pages_from, with_page, no_pages, is_heard}
 use Rattle.synod.specs.Log.{log_length}
 

@@ -1,3 +1,3 @@
 -- How a node keeps the pages that it had and the weights. No public clause cites it.
 pub mod PagesHad
-pub mod Places
+pub mod WeightPlaces

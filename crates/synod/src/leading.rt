@@ -6,15 +6,15 @@ ghost use Rattle.synod.specs.declared.packet.SlotReport.{SlotReport};
 ghost use Rattle.synod.specs.Packets.{IsReport, accepts};
 ghost use Rattle.std.specs.Option.{option_copied};
 ghost use Rattle.synod.specs.Proposer.{above_all, top_reported, highest_at, reported_value, fills, all_reports};
-ghost use Rattle.synod.specs.Pages.{joined_pages};
+ghost use Rattle.synod.specs.PromisePages.{joined_pages};
 ghost use Rattle.synod.specs.Node.{pages_from};
 ghost use Rattle.synod.specs.Stored.PagesHad.{pages_with};
 ghost use Rattle.synod.specs.Heights.{all_of, AreHighest, some_of, IsLead};
 
 use crate::ballot::Ballot;
 use crate::packet::{Packet, SlotReport};
-use crate::pages::PagesWith;
 use crate::posts::{Said, post_to_all};
+use crate::promise_pages::PagesWith;
 use crate::proposer::Heard;
 use crate::value::{Value, copy_value};
 use crate::weights::Weights;

@@ -2,7 +2,7 @@
 ghost use Rattle.std.specs.Prelude.{◌≡◌, ◌≤◌, ◌<◌, IfOk, length};
 ghost use Rattle.slots.specs.declared.slots.TheConstants.{SLOTS};
 ghost use Rattle.synod.specs.declared.packet.TheConstants.{MOST_PAGES};
-ghost use Rattle.synod.specs.Pages.{pages_of};
+ghost use Rattle.synod.specs.PromisePages.{pages_of};
 ghost use Rattle.synod.specs.Acceptor.{reports_from, promise_posts};
 
 use crate::ballot::Ballot;

@@ -3,7 +3,7 @@ ghost use Rattle.std.specs.Prelude.{◌≡◌, ◌<◌, ◌≤◌, ℕ, OnOk, If
 
 use crate::ballot::Ballot;
 use crate::packet::Reports;
-use crate::pages::PagesHad;
+use crate::promise_pages::PagesHad;
 use crate::weights::MOST_NODES;
 use std::alloc::{AllocError, Global};
 use std::marker::Model;

@@ -21,7 +21,7 @@ pub struct Weights {
 
 impl Model for Weights {
     ghost use Rattle.std.specs.Prelude.{List, ℕ, take, length};
-    ghost use Rattle.synod.specs.Stored.Places.{padded, ArePlaces};
+    ghost use Rattle.synod.specs.Stored.WeightPlaces.{padded, ArePlaces};
 
     ghost Value = { List ℕ };
 

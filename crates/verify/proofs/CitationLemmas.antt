@@ -11,18 +11,18 @@ use Rattle.frame.specs.FrameOf.{HasAssertion, mandatory_groups}
 use Rattle.frame.specs.Substitution.{Images, apply as applied, CodeImages, code_apply, images_of_names}
 use Rattle.frame.specs.Disjoint.{are_groups_apart}
 use Rattle.frame.specs.Citations.{Carries, IsInstance, premises}
-use Rattle.frame.specs.Reading.{AreLegal}
+use Rattle.frame.specs.AtPosition.{AreLegal}
 use Rattle.proof_code.specs.declared.item.Item.TheVariants.{Cite}
 use Rattle.subst.proofs.SubstitutionLemmas.{substitution_over_names}
-use Rattle.entries.specs.declared.citation.Hypothesis.TheVariants.{Float}
-use Rattle.entries.specs.declared.citation.Cited.{Cited}
+use Rattle.entries.specs.declared.cited_parts.Hypothesis.TheVariants.{Float}
+use Rattle.entries.specs.declared.cited_parts.Cited.{Cited}
 use Rattle.frame.specs.Bound.{IsBound}
 use Rattle.frame.specs.Cited.{IsCited}
 use Rattle.verify.specs.Fits.{IsTyped, AreRead, DoFit}
 use Rattle.verify.specs.Goes.{named, AreNamed, Goes}
 use Rattle.verify.specs.Machine.{Results, Cites, of_hypothesis, of_assertion}
-use Rattle.verify.specs.Places.{below, top, Adds}
-use Rattle.verify.proofs.AskedLemmas.{asked-lengths}
+use Rattle.verify.specs.ResultPlaces.{below, top, Adds}
+use Rattle.verify.proofs.MandatoryAsked.{asked-lengths}
 use Rattle.verify.proofs.CitingLemmas.{of_variables, apply-τ, apart-τ, premises-read, premise-typed, fits-agree, conclusion-agrees, apart-agrees, read-over}
 use Rattle.verify.proofs.Decide.{append_cut, length-premises, not_both}
 use Rattle.verify.proofs.ImageLemmas.{only, apply-below, are-codes}

@@ -19,13 +19,13 @@ use Rattle.frame.specs.Disjoint.{are_groups_apart}
 use Rattle.frame.specs.Below.{AreBelow, AllBelow}
 use Rattle.subst.specs.Images.{AreOver}
 use Rattle.subst.proofs.SubstitutionLemmas.{image-named, image-unnamed, image-decode}
-use Rattle.entries.specs.declared.citation.Hypothesis.{Hypothesis}
-use Rattle.entries.specs.declared.citation.Hypothesis.TheVariants.{Float, Essential}
+use Rattle.entries.specs.declared.cited_parts.Hypothesis.{Hypothesis}
+use Rattle.entries.specs.declared.cited_parts.Hypothesis.TheVariants.{Float, Essential}
 use Rattle.frame.specs.Bound.{IsBound, HasFloat, IsFirstFixed}
 use Rattle.frame.specs.Cited.{head_of, IsHead, IsAsked, AreAsked}
 use Rattle.verify.specs.Fits.{IsTyped, AreRead, FitsOne, DoFit}
 use Rattle.verify.proofs.Named.{all-at}
-use Rattle.verify.proofs.AskedLemmas.{At, asked-lengths, asked-at, float-at, essential-at, float-number, float-find, lists-same}
+use Rattle.verify.proofs.MandatoryAsked.{At, asked-lengths, asked-at, float-at, essential-at, float-number, float-find, lists-same}
 use Rattle.verify.proofs.ImageLemmas.{apply-members, groups-members, only, only-all, image-only, image-fixed}
 use Rattle.frame.proofs.FoundByNumber.{some-same, name_at-injective}
 

@@ -13,7 +13,7 @@ use Rattle.verify.specs.Concludes.{Concludes, ConcludeAll}
 use Rattle.frame.specs.Citations.{IsHypothesis, IsInstance, premises, Carries}
 use Rattle.verify.specs.Spells.{Spells, SpellsAll, cites_hypothesis, cites_assertion, recalls, marks, spells_none, spells_more}
 use Rattle.verify.specs.Machine.{State, of_hypothesis, of_assertion, Runs}
-use Rattle.frame.specs.Reading.{IsSingle}
+use Rattle.frame.specs.AtPosition.{IsSingle}
 use Rattle.verify.proofs.Sound.{AllConclude, conclude_snoc}
 use Rattle.frame.proofs.FoundByNumber.{some-same}
 

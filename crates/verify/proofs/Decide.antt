@@ -15,7 +15,7 @@ use Rattle.verify.specs.Concludes.{Concludes}
 use Rattle.frame.specs.Citations.{IsHypothesis, IsInstance, premises, is_hypothesis_kind, expr_at, Carries}
 use Rattle.verify.specs.Machine.{State, start, Cites, of_hypothesis, of_assertion, IsSaved, with_result, with_mark, Steps, Runs}
 use Rattle.verify.specs.Right.{IsRight, weight_limit}
-use Rattle.frame.specs.Reading.{IsSingle, HasLabelsOnce}
+use Rattle.frame.specs.AtPosition.{IsSingle, HasLabelsOnce}
 use Rattle.verify.proofs.Sound.{Spelled, sound}
 use Rattle.verify.specs.Derivations.{Derivation}
 use Rattle.verify.proofs.Complete.{state, Result, complete, conclude_instance, conclude_same}

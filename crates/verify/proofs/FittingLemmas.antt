@@ -11,7 +11,7 @@ use Rattle.frame.specs.Citations.{expr_at, option_expr}
 use Rattle.frame.specs.Substitution.{apply as applied, CodeImages, code_apply, images_of_names}
 use Rattle.subst.specs.Images.{AreOver}
 use Rattle.subst.proofs.SubstitutionLemmas.{substitution_over_names}
-use Rattle.entries.specs.declared.citation.Hypothesis.{Hypothesis}
+use Rattle.entries.specs.declared.cited_parts.Hypothesis.{Hypothesis}
 use Rattle.verify.specs.Fits.{IsStanding, AreStanding}
 use Rattle.verify.proofs.ImageLemmas.{apply-below, are-codes}
 use Rattle.verify.proofs.Named.{decode-injective}

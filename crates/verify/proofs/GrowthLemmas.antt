@@ -8,14 +8,14 @@ use Rattle.mm_read.specs.Statements.{Database}
 use Rattle.scope.specs.Active.{stmt_at, before}
 use Rattle.frame.specs.FrameOf.{hypotheses}
 use Rattle.frame.specs.Citations.{Carries, IsHypothesis}
-use Rattle.frame.specs.Reading.{HasLabelsOnce}
+use Rattle.frame.specs.AtPosition.{HasLabelsOnce}
 use Rattle.proof_code.specs.declared.item.Item.{Item}
 use Rattle.proof_code.specs.declared.item.Item.TheVariants.{Cite, Recall}
-use Rattle.proof_code.specs.Numbers.{item_of}
+use Rattle.proof_code.specs.ItemNumbers.{item_of}
 use Rattle.verify.specs.Derivations.{Derivation, hyp, apply, from_list}
 use Rattle.verify.specs.Spells.{IsCitable}
 use Rattle.verify.specs.Growth.{Trees, trees, with_tree, Builds, a_hypothesis, an_assertion, GrowsBy, Grew, GrowsMark, GrowsRecall}
-use Rattle.verify.specs.Places.{below, top}
+use Rattle.verify.specs.ResultPlaces.{below, top}
 use Rattle.verify.proofs.Named.{halves, length-top}
 use Rattle.verify.specs.Right.{IsRight, Derives}
 use Rattle.verify.proofs.Unique.{apart_kinds, grows_append, grows_same, grows_by_same, yields}

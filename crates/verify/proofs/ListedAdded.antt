@@ -8,13 +8,13 @@ use Rattle.mm_read.specs.declared.stmt.Stmt.{Stmt}
 use Rattle.mm_read.specs.Statements.{Database}
 use Rattle.scope.specs.Active.{before}
 use Rattle.frame.specs.FrameOf.{hypotheses}
-use Rattle.frame.specs.Reading.{HasLabelsOnce}
+use Rattle.frame.specs.AtPosition.{HasLabelsOnce}
 use Rattle.proof_code.specs.Reading.{share_label}
-use Rattle.verify.specs.declared.table.Entry.{Entry}
+use Rattle.verify.specs.declared.label_table.Entry.{Entry}
 use Rattle.verify.specs.Proves.{mandatory_labels}
 use Rattle.verify.specs.Right.{IsProvable}
-use Rattle.verify.specs.Table.{is_hypothesis_among, IsEntry, AreEntries}
-use Rattle.verify.proofs.TableLemmas.{entries-more}
+use Rattle.verify.specs.LabelTable.{is_hypothesis_among, IsEntry, AreEntries}
+use Rattle.verify.proofs.LabelTableLemmas.{entries-more}
 use Rattle.verify.proofs.ListedLabels.{shared-more}
 use Rattle.frame.proofs.FoundByNumber.{some-same}
 

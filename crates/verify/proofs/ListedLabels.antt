@@ -14,13 +14,13 @@ use Rattle.mm_read.specs.Statements.{Database}
 use Rattle.scope.specs.Active.{active_from, before, label_of, stays_open, stmt_at}
 use Rattle.frame.specs.Citations.{Carries, is_hypothesis_kind}
 use Rattle.frame.specs.FrameOf.{hypotheses, is_hypothesis}
-use Rattle.frame.specs.Reading.{HasLabelsOnce}
+use Rattle.frame.specs.AtPosition.{HasLabelsOnce}
 use Rattle.proof_code.specs.Reading.{share_label}
-use Rattle.verify.specs.declared.table.Entry.{Entry}
-use Rattle.verify.specs.declared.table.Entry.TheVariants.{Hypothesis, Assertion, Nothing}
+use Rattle.verify.specs.declared.label_table.Entry.{Entry}
+use Rattle.verify.specs.declared.label_table.Entry.TheVariants.{Hypothesis, Assertion, Nothing}
 use Rattle.verify.specs.Proves.{label_or_none, mandatory_labels}
 use Rattle.verify.specs.Right.{IsProvable}
-use Rattle.verify.specs.Table.{is_hypothesis_among, IsEntry}
+use Rattle.verify.specs.LabelTable.{is_hypothesis_among, IsEntry}
 use Rattle.verify.proofs.MandatoryEntries.{IsMandatory, AreMandatory, labels_at, mandatory-of}
 use Rattle.frame.proofs.FoundByNumber.{some-same}
 use Rattle.verify.proofs.Decide.{not_both}

@@ -12,11 +12,11 @@ use Rattle.scope.specs.Active.{before, is_assertion, is_provable, label_of, stay
 use Rattle.frame.specs.Citations.{Carries, IsHypothesis, is_hypothesis_kind}
 use Rattle.frame.specs.FrameOf.{HasAssertion, hypotheses}
 use Rattle.frame.proofs.PlacedHypotheses.{IsHyp, AreHyps, hyps}
-use Rattle.verify.specs.declared.table.Entry.{Entry}
-use Rattle.verify.specs.declared.table.Entry.TheVariants.{Hypothesis, Nothing}
+use Rattle.verify.specs.declared.label_table.Entry.{Entry}
+use Rattle.verify.specs.declared.label_table.Entry.TheVariants.{Hypothesis, Nothing}
 use Rattle.verify.specs.Proves.{label_or_none, mandatory_labels}
 use Rattle.verify.specs.Right.{IsProvable}
-use Rattle.verify.specs.Table.{IsEntry, AreEntries}
+use Rattle.verify.specs.LabelTable.{IsEntry, AreEntries}
 use Rattle.frame.proofs.AssertionLemmas.{hypothesis-kinds}
 
 -- where a statement stands, the position is within the database

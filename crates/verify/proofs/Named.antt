@@ -10,10 +10,10 @@ use Rattle.names.specs.Codes.{name_at, decode, AreDistinct}
 use Rattle.proof_code.specs.declared.item.Item.TheVariants.{Cite, Recall, Mark}
 use Rattle.frame.specs.Citations.{IsHypothesis, Carries}
 use Rattle.verify.specs.Machine.{Results, Cites, of_hypothesis, IsSaved, with_result, with_mark}
-use Rattle.verify.specs.Places.{below, top, Adds, Marks, Recalls}
+use Rattle.verify.specs.ResultPlaces.{below, top, Adds, Marks, Recalls}
 use Rattle.frame.specs.Below.{AreBelow, AllBelow}
 use Rattle.verify.specs.Goes.{named, AreNamed, Goes}
-use Rattle.verify.proofs.PlaceLemmas.{results-same}
+use Rattle.verify.proofs.ResultPlaceLemmas.{results-same}
 use Rattle.frame.proofs.FoundByNumber.{name_at-injective}
 use Rattle.verify.proofs.SavedLists.{all-snoc}
 use Rattle.frame.proofs.StoredOneMore.{map-push}

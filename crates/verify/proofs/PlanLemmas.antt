@@ -7,11 +7,11 @@ use Rattle.verify.specs.declared.plan.Node.{Node}
 use Rattle.verify.specs.declared.plan.Plan.{Plan}
 use Rattle.verify.specs.Derivations.{Derivation, hyp}
 use Rattle.verify.specs.Growth.{trees, with_tree, GrowsMark, GrowsRecall}
-use Rattle.verify.specs.Places.{below, top}
+use Rattle.verify.specs.ResultPlaces.{below, top}
 use Rattle.verify.specs.Plan.{pick, derive, built_from, built, IsAfter, AreOrdered, trees_of, IsPlan}
-use Rattle.verify.proofs.PlaceLemmas.{map-take, map-drop, get-map-some}
+use Rattle.verify.proofs.ResultPlaceLemmas.{map-take, map-drop, get-map-some}
 use Rattle.frame.proofs.PositionLemmas.{get-front, get-last}
-use Rattle.frame.proofs.NumberLemmas.{below-more, below-push}
+use Rattle.frame.proofs.SymbolNumberLemmas.{below-more, below-push}
 use Rattle.frame.proofs.ApartLemmas.{below-at}
 use Rattle.frame.proofs.StoredOneMore.{map-push}
 

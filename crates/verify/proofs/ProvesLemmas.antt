@@ -9,7 +9,7 @@ use Rattle.mm_read.specs.Statements.{Database}
 use Rattle.scope.specs.Active.{before, stmt_at}
 use Rattle.frame.specs.FrameOf.{hypotheses}
 use Rattle.proof_code.specs.declared.item.Item.{Item}
-use Rattle.proof_code.specs.Numbers.{items_of}
+use Rattle.proof_code.specs.ItemNumbers.{items_of}
 use Rattle.proof_code.specs.Reading.{share_label, IsHeading}
 use Rattle.proof_code.specs.Writes.{is_compressed, finish, Writes, WritesCompressed}
 use Rattle.proof_code.proofs.AnswersLemmas.{compressed_finished}

@@ -4,7 +4,7 @@ use Rattle.std.proofs.Common.{sym, ◌∙◌, ap, arith, true≢false}
 use Rattle.std.specs.declared.alloc.AllocError.{AllocError}
 use Rattle.frame.specs.Below.{AreBelow, AllBelow}
 use Rattle.verify.specs.Machine.{Results}
-use Rattle.verify.specs.Places.{Adds}
+use Rattle.verify.specs.ResultPlaces.{Adds}
 
 -- ---- lists
 

@@ -9,7 +9,7 @@ use Rattle.verify.specs.Plan.{pick, derive, built, IsAfter, AreOrdered}
 use Rattle.verify.specs.Extents.{extent_of}
 use Rattle.verify.proofs.PlanLemmas.{built-snoc, length-built'}
 use Rattle.frame.proofs.StoredOneMore.{map-push}
-use Rattle.verify.proofs.TableLemmas.{take-more}
+use Rattle.verify.proofs.LabelTableLemmas.{take-more}
 
 nodes_in-snoc : (ts : List Derivation) (t : Derivation) → nodes_in (from_list (ts ++ t ∷ [])) ≡ nodes_in (from_list ts) + node_count t
 nodes_in-snoc [] t = omega arith

@@ -11,7 +11,7 @@ use Rattle.names.specs.Codes.{decode}
 use Rattle.frame.specs.FrameOf.{HasAssertion}
 use Rattle.proof_code.specs.declared.item.Item.{Item}
 use Rattle.proof_code.specs.declared.item.Item.TheVariants.{Cite, Recall}
-use Rattle.entries.specs.declared.citation.Cited.{Cited}
+use Rattle.entries.specs.declared.cited_parts.Cited.{Cited}
 use Rattle.frame.specs.Citations.{IsHypothesis, Carries}
 use Rattle.verify.specs.Machine.{Results, State, start, Cites, of_hypothesis, of_assertion, Runs}
 use Rattle.frame.specs.Substitution.{CodeImages, code_apply, images_of_names}
@@ -19,11 +19,11 @@ use Rattle.frame.specs.Disjoint.{are_groups_apart}
 use Rattle.frame.specs.Bound.{IsBound}
 use Rattle.frame.specs.Cited.{IsCited}
 use Rattle.verify.specs.Fits.{AreRead, Reads, DoFit}
-use Rattle.verify.specs.Places.{below, top, Adds, Marks, Recalls}
+use Rattle.verify.specs.ResultPlaces.{below, top, Adds, Marks, Recalls}
 use Rattle.frame.specs.Below.{AreBelow, AllBelow}
 use Rattle.verify.specs.Goes.{named, AreNamed, Goes}
-use Rattle.frame.specs.Reading.{AreLegal}
-use Rattle.proof_code.specs.Numbers.{item_of}
+use Rattle.frame.specs.AtPosition.{AreLegal}
+use Rattle.proof_code.specs.ItemNumbers.{item_of}
 use Rattle.verify.specs.Spells.{IsCitable}
 use Rattle.verify.specs.Right.{IsRight, weight_limit}
 use Rattle.verify.proofs.Named.{goes-recall, goes-mark, goes-hypothesis, decode-injective}

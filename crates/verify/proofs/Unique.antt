@@ -12,7 +12,7 @@ use Rattle.verify.specs.Derivations.{Derivation, Derivations, hyp, apply, none, 
 use Rattle.verify.specs.Concludes.{Concludes, ConcludeAll}
 use Rattle.frame.specs.Citations.{IsHypothesis, premises, Carries}
 use Rattle.verify.specs.Spells.{IsCitable, Spells, SpellsAll, cites_hypothesis, cites_assertion, recalls, marks, spells_none, spells_more}
-use Rattle.frame.specs.Reading.{HasLabelsOnce}
+use Rattle.frame.specs.AtPosition.{HasLabelsOnce}
 use Rattle.verify.specs.Growth.{Trees, trees, Builds, a_hypothesis, an_assertion, IsKept, Grows, GrowsBy}
 use Rattle.verify.proofs.Decide.{append_cut, length-premises, not_both}
 use Rattle.frame.proofs.FoundByNumber.{some-same}

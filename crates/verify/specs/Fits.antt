@@ -8,8 +8,8 @@ use Rattle.scope.specs.Active.{stmt_at}
 use Rattle.frame.specs.Substitution.{Images, apply as applied, CodeImages, code_image}
 use Rattle.frame.specs.Citations.{expr_at}
 use Rattle.frame.specs.Cited.{head_of}
-use Rattle.entries.specs.declared.citation.Hypothesis.{Hypothesis}
-use Rattle.entries.specs.declared.citation.Hypothesis.TheVariants.{Float, Essential}
+use Rattle.entries.specs.declared.cited_parts.Hypothesis.{Hypothesis}
+use Rattle.entries.specs.declared.cited_parts.Hypothesis.TheVariants.{Float, Essential}
 
 -- the `$f` are of different variables
 pub record AreDifferent (hs : List Hypothesis) : Type 0 where

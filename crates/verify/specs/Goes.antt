@@ -9,8 +9,8 @@ use Rattle.scope.specs.Active.{stmt_at, expr_of}
 use Rattle.names.specs.Codes.{decode}
 use Rattle.frame.specs.Below.{AllBelow}
 use Rattle.proof_code.specs.declared.item.Item.{Item}
-use Rattle.verify.specs.declared.table.Entry.{Entry}
-use Rattle.verify.specs.declared.table.Entry.TheVariants.{Hypothesis, Assertion, Nothing}
+use Rattle.verify.specs.declared.label_table.Entry.{Entry}
+use Rattle.verify.specs.declared.label_table.Entry.TheVariants.{Hypothesis, Assertion, Nothing}
 use Rattle.verify.specs.Machine.{Results, State, Steps}
 use Rattle.verify.specs.Right.{weight_limit}
 

@@ -6,7 +6,7 @@ use Rattle.mm_read.specs.declared.stmt.Stmt.{Stmt}
 use Rattle.mm_read.specs.Statements.{Expr, Database}
 use Rattle.scope.specs.Active.{stmt_at, before}
 use Rattle.scope.specs.Legal.{IsLegal}
-use Rattle.frame.specs.Reading.{IsSingle}
+use Rattle.frame.specs.AtPosition.{IsSingle}
 use Rattle.proof_code.specs.declared.item.Item.{Item}
 use Rattle.verify.specs.Derivations.{Derivation}
 use Rattle.verify.specs.Concludes.{Concludes}

@@ -3,11 +3,11 @@ pub mod Concludes
 pub mod Spells
 pub mod Right
 pub mod Machine
-pub mod Places
+pub mod ResultPlaces
 pub mod Fits
 pub mod ReadPlaces
 pub mod Goes
-pub mod Table
+pub mod LabelTable
 pub mod Growth
 pub mod Plan
 pub mod Extents

@@ -3,9 +3,9 @@
 -- The code sets one image after another; here are those set so far.
 use Rattle.std.specs.Prelude.{◌≡◌, ℕ, ◌+◌, ◌<◌, ◌==◌, nat_eq, Bool, true, false, if◌then◌else◌, List, get_or, slice_get, Some, None}
 use Rattle.std.specs.Map.{lookup}
-use Rattle.subst.specs.declared.place.ExpressionPlace.{ExpressionPlace}
-use Rattle.entries.specs.declared.citation.Hypothesis.{Hypothesis}
-use Rattle.entries.specs.declared.citation.Hypothesis.TheVariants.{Float, Essential}
+use Rattle.subst.specs.declared.expression_place.ExpressionPlace.{ExpressionPlace}
+use Rattle.entries.specs.declared.cited_parts.Hypothesis.{Hypothesis}
+use Rattle.entries.specs.declared.cited_parts.Hypothesis.TheVariants.{Float, Essential}
 
 -- what stands behind the first symbol
 abbrev pub tail_of : ExpressionPlace → ExpressionPlace

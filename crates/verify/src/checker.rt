@@ -7,9 +7,9 @@ ghost use Rattle.verify.specs.Proves.{Proves};
 ghost use Rattle.verify.specs.Right.{IsProvable, IsRight, Says};
 
 use crate::answer::Answer;
+use crate::label_table::{Entry, add_listed, fill_mandatory, fill_table};
 use crate::results::Results;
 use crate::run::run;
-use crate::table::{Entry, add_listed, fill_mandatory, fill_table};
 use frame::{Frames, Gathered};
 use mm_lex::Words;
 use proof_code::{CodeFault, Items, Reader, is_compressed, normal};

@@ -3,10 +3,10 @@
 ghost use Rattle.std.specs.Prelude.{◌≡◌, ◌≤◌, ◌↔◌, IsTrue, length, map};
 ghost use Rattle.names.specs.Codes.{decode};
 ghost use Rattle.frame.specs.Below.{AllBelow, AreBelow};
-ghost use Rattle.frame.specs.Reading.{AreLegal};
+ghost use Rattle.frame.specs.AtPosition.{AreLegal};
 ghost use Rattle.frame.specs.Substitution.{images_of_names};
 ghost use Rattle.subst.specs.Images.{AreOver};
-ghost use Rattle.subst.specs.Places.{seen_at, images_at, AreWithin, AreInside};
+ghost use Rattle.subst.specs.ExpressionPlaces.{seen_at, images_at, AreWithin, AreInside};
 ghost use Rattle.verify.specs.Fits.{IsStanding, AreStanding, FitsOne, DoFit};
 
 use entries::Hypothesis;

@@ -4,16 +4,16 @@ ghost use Rattle.std.specs.Prelude.{◌≡◌, ℕ, ◌<◌, ◌≤◌, ◌∷�
 ghost use Rattle.mm_lex.specs.Alphabet.{Name};
 ghost use Rattle.mm_read.specs.declared.stmt.Stmt.{Stmt as Statement};
 ghost use Rattle.frame.specs.FrameOf.{HasAssertion};
-ghost use Rattle.frame.specs.Reading.{HasLabelsOnce};
+ghost use Rattle.frame.specs.AtPosition.{HasLabelsOnce};
 ghost use Rattle.proof_code.specs.declared.item.Item.TheVariants.{Cite, Recall, Mark};
-ghost use Rattle.proof_code.specs.Numbers.{item_of};
+ghost use Rattle.proof_code.specs.ItemNumbers.{item_of};
 ghost use Rattle.verify.specs.Derivations.{hyp, apply, from_list};
-ghost use Rattle.verify.specs.Places.{below, top};
+ghost use Rattle.verify.specs.ResultPlaces.{below, top};
 ghost use Rattle.verify.specs.Growth.{trees, with_tree, GrowsMark, GrowsRecall, Grew};
 ghost use Rattle.verify.specs.Plan.{trees_of, IsPlan};
-ghost use Rattle.verify.specs.Table.{IsEntry, AreEntries};
+ghost use Rattle.verify.specs.LabelTable.{IsEntry, AreEntries};
 
-use crate::table::Entry;
+use crate::label_table::Entry;
 use frame::Frames;
 use std::alloc::{AllocError, Global};
 

@@ -1,7 +1,7 @@
 //! Images read off results.
 
 ghost use Rattle.std.specs.Prelude.{◌≡◌, ℕ, ◌≤◌, length, IfOk, OnErr};
-ghost use Rattle.subst.specs.Places.{AreWithin, AreInside};
+ghost use Rattle.subst.specs.ExpressionPlaces.{AreWithin, AreInside};
 ghost use Rattle.verify.specs.Fits.{AreDifferent};
 ghost use Rattle.verify.specs.ReadPlaces.{ReadsOne, ReadsAll};
 

@@ -4,13 +4,13 @@ ghost use Rattle.std.specs.Prelude.{◌≡◌, suc, ◌<◌, ◌≤◌, ◌↔�
 ghost use Rattle.names.specs.Codes.{decode, AreDistinct};
 ghost use Rattle.frame.specs.Below.{AllBelow};
 ghost use Rattle.frame.specs.Disjoint.{are_groups_apart};
-ghost use Rattle.frame.specs.Reading.{AreLegal};
+ghost use Rattle.frame.specs.AtPosition.{AreLegal};
 ghost use Rattle.frame.specs.Substitution.{code_apply, images_of_names};
 ghost use Rattle.subst.specs.Findings.{IsKnown};
 ghost use Rattle.subst.specs.Images.{AreOver};
 ghost use Rattle.verify.specs.Fits.{AreDifferent, AreStanding, Reads, DoFit};
 ghost use Rattle.verify.specs.Machine.{with_result, with_mark, IsSaved};
-ghost use Rattle.verify.specs.Places.{below, top, Adds, Gives, Marks, Recalls};
+ghost use Rattle.verify.specs.ResultPlaces.{below, top, Adds, Gives, Marks, Recalls};
 ghost use Rattle.verify.specs.Right.{weight_limit};
 
 use crate::fitting::all_fit;
@@ -41,7 +41,7 @@ pub struct Results {
 }
 
 impl Model for Results {
-    ghost use Rattle.verify.specs.Places.{Held, held, AreKept};
+    ghost use Rattle.verify.specs.ResultPlaces.{Held, held, AreKept};
 
     ghost Value = { Held };
 

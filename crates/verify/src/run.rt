@@ -3,14 +3,14 @@
 ghost use Rattle.std.specs.Prelude.{◌≡◌, List, IfOk};
 ghost use Rattle.mm_lex.specs.Alphabet.{Name};
 ghost use Rattle.mm_read.specs.declared.stmt.Stmt.{Stmt as Statement};
-ghost use Rattle.proof_code.specs.Numbers.{items_of};
+ghost use Rattle.proof_code.specs.ItemNumbers.{items_of};
 ghost use Rattle.verify.specs.Right.{IsProvable, IsRight, Says};
-ghost use Rattle.verify.specs.Table.{AreEntries};
+ghost use Rattle.verify.specs.LabelTable.{AreEntries};
 
 use crate::answer::Answer;
 use crate::citation::step;
+use crate::label_table::Entry;
 use crate::results::Results;
-use crate::table::Entry;
 use frame::{Frames, Gathered};
 use std::alloc::AllocError;
 use subst::Findings;

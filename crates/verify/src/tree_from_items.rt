@@ -2,7 +2,7 @@
 
 ghost use Rattle.std.specs.Prelude.{◌≡◌, ℕ, ◌<◌, ◌⊎◌, [], IfOk, MatchOption, length};
 ghost use Rattle.mm_read.specs.declared.stmt.Stmt.{Stmt as Statement};
-ghost use Rattle.frame.specs.Reading.{HasLabelsOnce};
+ghost use Rattle.frame.specs.AtPosition.{HasLabelsOnce};
 ghost use Rattle.verify.specs.Derivations.{Derivation, derivation_of};
 ghost use Rattle.verify.specs.Right.{IsProvable, IsRight, Derives, IsSmall};
 ghost use Rattle.verify.specs.Growth.{Trees, trees, GrowsBy};
@@ -10,8 +10,8 @@ ghost use Rattle.verify.specs.Plan.{built, pick, AreOrdered, trees_of, IsPlan};
 
 use crate::answer::{Answer, TreeFault};
 use crate::checker::check;
+use crate::label_table::fill_table;
 use crate::plan::{Node, Plan, grow, new_plan};
-use crate::table::fill_table;
 use crate::tree::Tree;
 use crate::tree_size::measure;
 use frame::Frames;

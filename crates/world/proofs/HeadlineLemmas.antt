@@ -14,7 +14,7 @@ use Rattle.world.specs.Carried.{carried_size, entries_of}
 use Rattle.world.specs.Headline.{Headline, HeadlineHolds}
 use Rattle.net.proofs.Beginnings.{then_begins, beginnings_agree}
 use Rattle.net.proofs.HistoryLemmas.{agreement_of}
-use Rattle.world.proofs.EntriesLemmas.{entries_agree}
+use Rattle.world.proofs.EntryLogs.{entries_agree}
 
 -- the first elements of a list are a beginning of it
 take_begins : {A : Type 0} (n : ℕ) (xs : List A) → IsBeginningOf (take n xs) xs

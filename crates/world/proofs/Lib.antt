@@ -1,4 +1,4 @@
-pub mod EntriesLemmas
+pub mod EntryLogs
 pub mod HeadlineLemmas
 pub mod ReplicasLemmas
-mod ApplyLemmas
+mod AppliedNext

@@ -21,8 +21,8 @@ use Rattle.net.proofs.EveryEvent.{if_taken}
 use Rattle.net.proofs.TwoMoments.{all_happen-append}
 use Rattle.net.proofs.TakenLemmas.{after-push}
 use Rattle.net.proofs.LogsGrow.{log_grows}
-use Rattle.world.proofs.EntriesLemmas.{all_carried-append, entries_begin}
-use Rattle.net.proofs.Lists.{at_set_other}
+use Rattle.world.proofs.EntryLogs.{all_carried-append, entries_begin}
+use Rattle.net.proofs.GrowingLists.{at_set_other}
 
 -- A library and its log.
 

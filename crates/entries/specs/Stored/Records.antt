@@ -2,9 +2,9 @@
 -- The code's own form: no public clause cites it.
 -- So more behind the buffers changes no statement, and the buffers can be cut where a statement begins.
 use Rattle.std.specs.Prelude.{◌≡◌, ℕ, ◌+◌, ◌-◌, ◌<◌, ◌≤◌, ◌^◌, Bool, true, false, List, [], ◌∷◌, length, take, slice_get, slice_range, get_or, Option, Some, None, ◌++◌}
-use Rattle.entries.specs.declared.record.Record.{Record}
-use Rattle.entries.specs.declared.record.Row.{Row}
-use Rattle.entries.specs.declared.record.Buffers.{Buffers}
+use Rattle.entries.specs.declared.statement_record.Record.{Record}
+use Rattle.entries.specs.declared.statement_record.Row.{Row}
+use Rattle.entries.specs.declared.statement_record.Buffers.{Buffers}
 use Rattle.entries.specs.declared.entries.Ends.{Ends}
 use Rattle.entries.specs.declared.sizes.Sizes.{Sizes}
 use Rattle.entries.specs.declared.head.Head.{Head}

@@ -1,7 +1,7 @@
 -- Lists that stand in one buffer, one behind the other.
 -- The code's own form; public clauses cite `Extends`, `AreSpansIn` and `cut` alone.
 use Rattle.std.specs.Prelude.{◌≡◌, ℕ, ◌≤◌, List, [], ◌∷◌, ◌++◌, map, slice_range}
-use Rattle.entries.specs.declared.span.BufferPart.{BufferPart}
+use Rattle.entries.specs.declared.buffer_part.BufferPart.{BufferPart}
 
 -- the parts of a buffer
 abbrev pub cut : {A : Type 0} → List A → List BufferPart → List (List A)

@@ -14,7 +14,7 @@ use Rattle.frame.specs.declared.storage.Stock.{Stock}
 use Rattle.entries.specs.Stored.Spans.{Extends}
 use Rattle.frame.specs.Citations.{is_hypothesis_kind}
 use Rattle.frame.specs.Below.{AreBelow}
-use Rattle.frame.specs.Stored.Entries.{stmt_of, numbered, labels_of, is_float_kind, is_var_kind, second_is}
+use Rattle.frame.specs.Stored.EntryMeanings.{stmt_of, numbered, labels_of, is_float_kind, is_var_kind, second_is}
 
 -- ---- numbers that stand for names
 

@@ -8,10 +8,10 @@ use Rattle.entries.specs.declared.kind.Kind.{Kind}
 use Rattle.entries.specs.declared.kind.Kind.TheVariants.{Float, Ess}
 use Rattle.entries.specs.Entries.{Entry}
 use Rattle.entries.specs.Entries.{Assertion}
-use Rattle.frame.specs.Stored.Places.{place_of}
+use Rattle.frame.specs.Stored.NumberPlaces.{place_of}
 use Rattle.frame.specs.Links.{actives, is_disj}
-use Rattle.frame.specs.Stored.Entries.{floats, last_where}
-use Rattle.frame.specs.Stored.Parts.{variable_at, symbols_at, groups_by, head_at, asked_at}
+use Rattle.frame.specs.Stored.EntryMeanings.{floats, last_where}
+use Rattle.frame.specs.Stored.AssertionParts.{variable_at, symbols_at, groups_by, head_at, asked_at}
 
 -- ---- how the mandatory hypotheses are found: the `$f` of the symbols of the assertion and of the active `$e`, and these
 

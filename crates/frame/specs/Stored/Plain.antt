@@ -5,7 +5,7 @@ use Rattle.mm_lex.specs.Alphabet.{Name}
 use Rattle.mm_read.specs.declared.stmt.Stmt.{Stmt}
 use Rattle.scope.specs.Symbols.{symbols_by}
 use Rattle.frame.specs.Stored.Whole.{AreNumbersOf}
-use Rattle.frame.specs.Stored.Parts.{has_parts}
+use Rattle.frame.specs.Stored.AssertionParts.{has_parts}
 use Rattle.frame.specs.Stored.Counts.{kind_of}
 
 pub record ArePlainNumbers (names : List Name) (s : Stmt) (codes : List ℕ) : Type 0 where

@@ -13,9 +13,9 @@ use Rattle.frame.specs.declared.storage.Symbol.{Symbol}
 use Rattle.frame.specs.declared.storage.Stock.{Stock}
 use Rattle.frame.specs.Below.{AreBelow}
 use Rattle.frame.specs.Links.{links_of}
-use Rattle.frame.specs.Stored.Entries.{stmt_of, statements_of, option_list, labels_of, option_position, positions_from, AreAllLegal, symbol_of, replaced_of}
+use Rattle.frame.specs.Stored.EntryMeanings.{stmt_of, statements_of, option_list, labels_of, option_position, positions_from, AreAllLegal, symbol_of, replaced_of}
 use Rattle.frame.specs.Stored.Counts.{IsLabelBelow, HasTwo, AreNumbered, KeepsCounts, kind_of}
-use Rattle.frame.specs.Stored.Parts.{IsKeptAs, has_parts}
+use Rattle.frame.specs.Stored.AssertionParts.{IsKeptAs, has_parts}
 
 -- the storage of a database
 pub record AreKept (names labels : List Name) (positions : List ℕ) (symbols : List Symbol) (replaced : List ℕ) (entries : List Entry) (links : Links) : Type 0 where

@@ -11,15 +11,15 @@ use Rattle.mm_lex.specs.Alphabet.{Name}
 use Rattle.mm_read.specs.Statements.{Database}
 use Rattle.frame.specs.Below.{AreBelow}
 use Rattle.frame.specs.Substitution.{CodeImages, code_apply}
-use Rattle.entries.specs.declared.citation.Cited.{Cited}
+use Rattle.entries.specs.declared.cited_parts.Cited.{Cited}
 use Rattle.proof_code.specs.declared.item.Item.{Item}
-use Rattle.subst.specs.declared.place.ExpressionPlace.{ExpressionPlace}
-use Rattle.subst.specs.Places.{seen_at}
+use Rattle.subst.specs.declared.expression_place.ExpressionPlace.{ExpressionPlace}
+use Rattle.subst.specs.ExpressionPlaces.{seen_at}
 use Rattle.verify.specs.Fits.{AreRead}
-use Rattle.verify.specs.Places.{below, top}
+use Rattle.verify.specs.ResultPlaces.{below, top}
 use Rattle.verify.specs.Machine.{State, Steps}
-use Rattle.steps.specs.declared.draft.PlacedStep.{PlacedStep}
-use Rattle.steps.specs.declared.draft.Draft.{Draft}
+use Rattle.steps.specs.declared.table_draft.PlacedStep.{PlacedStep}
+use Rattle.steps.specs.declared.table_draft.Draft.{Draft}
 use Rattle.steps.specs.StepTable.{Step, Progress, progress, Notes}
 use Rattle.steps.specs.Rows.{Row, no_row, steps_of, expr_in, AreRows}
 

@@ -2,7 +2,7 @@
 -- Source: this project's form of keeping images.
 -- The code notes with each image the round in which it was set; one of another round counts for nothing.
 use Rattle.std.specs.Prelude.{ℕ, suc, ◌≤◌, ◌==◌, if◌then◌else◌, List, [], ◌∷◌}
-use Rattle.subst.specs.declared.place.ExpressionPlace.{ExpressionPlace}
+use Rattle.subst.specs.declared.expression_place.ExpressionPlace.{ExpressionPlace}
 use Rattle.subst.specs.declared.image_places.Slot.{Slot}
 
 -- the symbols from k on that were set in the round, with their places

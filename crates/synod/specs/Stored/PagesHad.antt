@@ -4,7 +4,7 @@
 use Rattle.std.specs.Prelude.{ℕ, List, Option, map, slice_set}
 use Rattle.slots.specs.FiniteMap.{SlotsView, put_at}
 use Rattle.synod.specs.declared.packet.SlotReport.{SlotReport}
-use Rattle.synod.specs.declared.pages.PagesWith.{PagesWith}
+use Rattle.synod.specs.declared.promise_pages.PagesWith.{PagesWith}
 use Rattle.synod.specs.Node.{pages_from, with_page}
 
 -- the entries of several maps

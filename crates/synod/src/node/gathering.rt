@@ -7,7 +7,7 @@ use crate::ballot::Ballot;
 use crate::leading::lead_posts;
 use crate::node::NodeCore;
 use crate::packet::{Reports, copy_reports};
-use crate::pages::{PagesWith, front_after};
+use crate::promise_pages::{PagesWith, front_after};
 use crate::proposer::{Heard, Proposal, Role, is_heard, marks_of};
 use crate::ready::Ready;
 use crate::value::Value;

@@ -2,7 +2,7 @@ use Rattle.std.proofs.Common.{subst}
 use Rattle.world.specs.Carried.{carried_size}
 use Rattle.cluster.specs.Cell.{Cell}
 use Rattle.switch.specs.Belonging.{OthersStay}
-use Rattle.cluster.proofs.TieLemmas.{restarted_belongs}
+use Rattle.cluster.proofs.CellTieLemmas.{restarted_belongs}
 use Rattle.cluster.proofs.cell.restart_on.Goals as goal
 
 pub returns-in_err-count-clause-belongs : goal.returns-in_err-count-clause-belongs

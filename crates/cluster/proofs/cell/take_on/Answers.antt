@@ -8,7 +8,7 @@ use Rattle.world.specs.declared.carried.Carried.{Carried}
 use Rattle.world.specs.Carried.{carried_size}
 use Rattle.cluster.specs.Cell.{Cell}
 use Rattle.cluster.proofs.CellLemmas.{stays_cell, below_some}
-use Rattle.cluster.proofs.TieLemmas.{shown_is, taken_belongs, takes_over, there_is, none_is, none_takes}
+use Rattle.cluster.proofs.CellTieLemmas.{shown_is, taken_belongs, takes_over, there_is, none_is, none_takes}
 use Rattle.cluster.proofs.cell.take_on.Goals as goal
 
 pub returns-in-Err-clause-no_node : goal.returns-in-Err-clause-no_node

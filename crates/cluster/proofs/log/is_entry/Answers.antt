@@ -3,7 +3,7 @@ use Rattle.net.specs.World.{log_after}
 use Rattle.switch.specs.Switch.{world_of}
 use Rattle.world.specs.declared.carried.Carried.{Carried}
 use Rattle.world.specs.Carried.{carried_size}
-use Rattle.cluster.proofs.TieLemmas.{shown_is, none_shown}
+use Rattle.cluster.proofs.CellTieLemmas.{shown_is, none_shown}
 use Rattle.cluster.proofs.log.is_entry.Goals as goal
 
 pub returns-in-Ok : goal.returns-in-Ok

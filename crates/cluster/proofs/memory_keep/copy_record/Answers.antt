@@ -1,8 +1,8 @@
 use Rattle.std.proofs.Common.{List, Option, ap, ◌∙◌, arith}
 use Rattle.slots.specs.FiniteMap.{entry_at}
 use Rattle.synod.specs.declared.change.Held.{Held}
-use Rattle.cluster.specs.Entries.{with_entry}
-use Rattle.cluster.proofs.EntriesLemmas.{with_next}
+use Rattle.cluster.specs.LongerRecord.{with_entry}
+use Rattle.cluster.proofs.LongerRecordLemmas.{with_next}
 use Rattle.cluster.proofs.memory_keep.copy_record.Goals as goal
 
 pub loop-slot-preserved : goal.loop-slot-preserved

@@ -1,7 +1,7 @@
 use Rattle.std.proofs.Common.{◌∙◌, ap, refl, arith}
 use Rattle.std.specs.Prelude.{◌++◌, ◌∷◌, []}
-use Rattle.entries.specs.declared.record.Buffers.{Buffers}
-use Rattle.entries.proofs.AddedLemmas.{added-row, ok-weaker}
+use Rattle.entries.specs.declared.statement_record.Buffers.{Buffers}
+use Rattle.entries.proofs.AddedStatement.{added-row, ok-weaker}
 use Rattle.entries.proofs.entries.add.Goals as goal
 
 pub returns-clause-added : goal.returns-clause-added

@@ -1,6 +1,6 @@
 use Rattle.std.proofs.Common.{refl, arith}
-use Rattle.entries.specs.declared.record.Buffers.{Buffers}
-use Rattle.entries.proofs.AddedLemmas.{added-plain, ok-weaker}
+use Rattle.entries.specs.declared.statement_record.Buffers.{Buffers}
+use Rattle.entries.proofs.AddedStatement.{added-plain, ok-weaker}
 use Rattle.entries.proofs.entries.add_plain.Goals as goal
 
 pub returns-clause-added : goal.returns-clause-added

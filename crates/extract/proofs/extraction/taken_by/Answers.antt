@@ -1,4 +1,4 @@
-use Rattle.extract.proofs.TakenLemmas.{taken-part, taken-whole}
+use Rattle.extract.proofs.TakenOutLemmas.{taken-part, taken-whole}
 use Rattle.extract.proofs.extraction.taken_by.Goals as goal
 
 pub returns-then-branch : goal.returns-then-branch

@@ -3,9 +3,9 @@ use Rattle.std.specs.Prelude.{slice_get, IfSome}
 use Rattle.entries.specs.Entries.{AreWhole}
 use Rattle.std.proofs.lemmas.Option.{slice_get_within, same_Some}
 use Rattle.frame.specs.Cited.{IsCited}
-use Rattle.frame.specs.Stored.Entries.{statements_of}
+use Rattle.frame.specs.Stored.EntryMeanings.{statements_of}
 use Rattle.frame.proofs.CitedLemmas.{is-there, there-cited}
-use Rattle.frame.proofs.GatherLemmas.{some-map}
+use Rattle.frame.proofs.GatheredHypotheses.{some-map}
 use Rattle.frame.proofs.at_position.cited_at.Goals as goal
 
 pub cited-requires : goal.cited-requires

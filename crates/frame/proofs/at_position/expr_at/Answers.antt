@@ -5,7 +5,7 @@ use Rattle.mm_lex.specs.Alphabet.{Name}
 use Rattle.mm_read.specs.declared.stmt.Stmt.{Stmt}
 use Rattle.scope.specs.Active.{stmt_at, expr_of}
 use Rattle.entries.specs.Entries.{Entry}
-use Rattle.frame.specs.Stored.Entries.{stmt_of}
+use Rattle.frame.specs.Stored.EntryMeanings.{stmt_of}
 use Rattle.frame.proofs.StoredReading.{HasExpr, get-stmt, stmt-at-suc, two-of, entry-expr, entry-none, none-of, is-entry}
 use Rattle.frame.proofs.StoredOneMore.{numbered-at}
 use Rattle.entries.specs.Entries.{seen}

@@ -1,8 +1,8 @@
 use Rattle.std.proofs.Common.{◌∙◌, ap, refl}
 use Rattle.entries.specs.Stored.Spans.{cut}
 use Rattle.frame.specs.Stored.Drafts.{drafted}
-use Rattle.frame.specs.Stored.Entries.{statements_of}
-use Rattle.frame.proofs.KeptLemmas.{lists-cited}
+use Rattle.frame.specs.Stored.EntryMeanings.{statements_of}
+use Rattle.frame.proofs.KeptStatementLemmas.{lists-cited}
 use Rattle.frame.proofs.at_position.gathered_at.Goals as goal
 
 pub returns : goal.returns

@@ -3,9 +3,9 @@ use Rattle.mm_read.specs.declared.stmt.Stmt.{Stmt}
 use Rattle.std.specs.Prelude.{refl, slice_get, Option, Some, None, ℕ, List, true, ◌==◌, nat_eq, ◌≤◌}
 use Rattle.scope.specs.Active.{is_open, is_active, stays_open}
 use Rattle.frame.specs.Links.{last_active}
-use Rattle.frame.specs.Stored.Entries.{statements_of}
+use Rattle.frame.specs.Stored.EntryMeanings.{statements_of}
 use Rattle.frame.specs.Stored.Counts.{IsPlain}
-use Rattle.frame.proofs.WalkLemmas.{IsWalk, walk-start, walk-step, walk-end, walk-place, last-within}
+use Rattle.frame.proofs.BlockWalkLemmas.{IsWalk, walk-start, walk-step, walk-end, walk-place, last-within}
 use Rattle.std.proofs.lemmas.List.{length-take-le}
 use Rattle.frame.proofs.at_position.is_active_at.Goals as goal
 

@@ -1,6 +1,6 @@
 use Rattle.std.proofs.Common.{ℕ}
-use Rattle.frame.specs.Stored.Entries.{statements_of}
-use Rattle.frame.proofs.WalkLemmas.{IsWalk}
+use Rattle.frame.specs.Stored.EntryMeanings.{statements_of}
+use Rattle.frame.proofs.BlockWalkLemmas.{IsWalk}
 use Rattle.frame.proofs.at_position.is_active_at.Given as goal
 
 abbrev pub invariant-loop-block : goal.invariant-loop-block

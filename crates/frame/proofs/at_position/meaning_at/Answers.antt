@@ -5,7 +5,7 @@ use Rattle.std.specs.Prelude.{Some, true, false, IsTrue, Bool, ◌-◌, ◌≤�
 use Rattle.std.proofs.lemmas.Option.{same_Some}
 use Rattle.scope.specs.Active.{stmt_at, is_assertion}
 use Rattle.frame.specs.Citations.{is_hypothesis_kind}
-use Rattle.frame.specs.Stored.Entries.{statements_of, stmt_of}
+use Rattle.frame.specs.Stored.EntryMeanings.{statements_of, stmt_of}
 use Rattle.frame.proofs.StoredReading.{IsCitable, get-stmt, stmt-at-suc, entry-none, none-of, entry-assertion}
 use Rattle.entries.specs.Entries.{seen}
 use Rattle.frame.proofs.at_position.meaning_at.Goals as goal

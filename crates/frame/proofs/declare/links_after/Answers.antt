@@ -1,8 +1,8 @@
 use Rattle.std.proofs.Common.{◌∙◌, ap, sym, arith, refl, ◌+◌}
 use Rattle.std.proofs.lemmas.List.{length-map}
-use Rattle.frame.specs.Stored.Entries.{statements_of, stmt_of}
+use Rattle.frame.specs.Stored.EntryMeanings.{statements_of, stmt_of}
 use Rattle.frame.proofs.AfterLemmas.{links-next, links-close-none, links-close-some}
-use Rattle.frame.proofs.WalkLemmas.{last-within}
+use Rattle.frame.proofs.BlockWalkLemmas.{last-within}
 use Rattle.scope.specs.Active.{is_open}
 use Rattle.frame.proofs.declare.links_after.Goals as goal
 

@@ -4,8 +4,8 @@ use Rattle.names.specs.Codes.{with_names, AreNamed}
 use Rattle.scope.specs.Symbols.{symbols_by, symbols_in}
 use Rattle.frame.specs.Stored.Drafts.{drafted}
 use Rattle.frame.specs.Stored.Whole.{AreNumbersOf, IsKeptOf}
-use Rattle.frame.specs.Stored.Entries.{option_list, option_position, statements_of}
-use Rattle.frame.proofs.SymbolsLemmas.{legal-named}
+use Rattle.frame.specs.Stored.EntryMeanings.{option_list, option_position, statements_of}
+use Rattle.frame.proofs.DeclaredSymbolLemmas.{legal-named}
 use Rattle.frame.proofs.EnterLemmas.{entered-statement, ok-both}
 use Rattle.frame.proofs.enter.enter.Goals as goal
 

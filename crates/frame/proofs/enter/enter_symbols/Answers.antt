@@ -2,7 +2,7 @@ use Rattle.std.proofs.Common.{◌≡◌, ap, subst, IfSome}
 use Rattle.names.specs.Codes.{with_names, AreNamed}
 use Rattle.scope.specs.Symbols.{symbols_by, symbols_in}
 use Rattle.frame.specs.Stored.Whole.{AreNumbersOf}
-use Rattle.frame.proofs.SymbolsLemmas.{no-declaration}
+use Rattle.frame.proofs.DeclaredSymbolLemmas.{no-declaration}
 use Rattle.frame.proofs.enter.enter_symbols.Goals as goal
 
 pub known_numbers-requires : goal.known_numbers-requires

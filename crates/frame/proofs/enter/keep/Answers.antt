@@ -2,14 +2,14 @@ use Rattle.std.specs.Prelude.{true}
 use Rattle.scope.specs.Active.{is_essential}
 use Rattle.std.proofs.Common.{◌≡◌, ◌∙◌, ap, sym, subst, refl, length}
 use Rattle.names.specs.Codes.{decode}
-use Rattle.frame.specs.Stored.Entries.{statements_of}
+use Rattle.frame.specs.Stored.EntryMeanings.{statements_of}
 use Rattle.frame.specs.Stored.Hypotheses.{AreHypotheses}
-use Rattle.frame.specs.Stored.Parts.{floats_in}
+use Rattle.frame.specs.Stored.AssertionParts.{floats_in}
 use Rattle.frame.specs.Stored.Drafts.{drafted}
 use Rattle.frame.proofs.CollectedLemmas.{collected-hypotheses, found-floats}
 use Rattle.frame.proofs.AssertionLemmas.{hypotheses-are, floats-are, parts-kept}
 use Rattle.frame.proofs.EnterLemmas.{ok-given, essentials-kept}
-use Rattle.frame.proofs.SymbolsLemmas.{stored-distinct}
+use Rattle.frame.proofs.DeclaredSymbolLemmas.{stored-distinct}
 use Rattle.frame.proofs.enter.keep.Goals as goal
 
 pub parts-requires-clause-hypotheses : goal.parts-requires-clause-hypotheses

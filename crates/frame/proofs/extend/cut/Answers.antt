@@ -1,9 +1,9 @@
 use Rattle.std.proofs.Common.{◌≡◌, ◌∙◌, ap, sym, subst, arith, refl, length, take}
 use Rattle.std.proofs.Math.Seq.{take-length}
 use Rattle.frame.specs.Stored.Counts.{AreNumbered}
-use Rattle.frame.specs.Stored.Entries.{ReadsAs, replaced_of, symbol_of}
+use Rattle.frame.specs.Stored.EntryMeanings.{ReadsAs, replaced_of, symbol_of}
 use Rattle.entries.specs.Entries.{seen}
-use Rattle.frame.proofs.CutLemmas.{IsCut, kept-cut, cut-statements, names-front}
+use Rattle.frame.proofs.CutStorage.{IsCut, kept-cut, cut-statements, names-front}
 use Rattle.frame.proofs.extend.cut.Goals as goal
 
 pub take_away-requires-clause-numbered : goal.take_away-requires-clause-numbered

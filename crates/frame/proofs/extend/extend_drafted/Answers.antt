@@ -4,7 +4,7 @@ use Rattle.scope.specs.Active.{bare}
 use Rattle.entries.specs.Entries.{assertion_of, made as made_of}
 use Rattle.frame.specs.Below.{AreBelow}
 use Rattle.frame.specs.Stored.Drafts.{made}
-use Rattle.frame.specs.Stored.Entries.{statements_of}
+use Rattle.frame.specs.Stored.EntryMeanings.{statements_of}
 use Rattle.frame.specs.Stored.Counts.{kind_of, HasTwo}
 use Rattle.frame.proofs.ExtendLemmas.{is-pushed}
 use Rattle.frame.proofs.StoredLemmas.{kept-pushed, pushed-statements}

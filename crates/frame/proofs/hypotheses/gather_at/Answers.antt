@@ -3,10 +3,10 @@ use Rattle.std.proofs.lemmas.Option.{same_Some}
 use Rattle.frame.specs.Stored.Drafts.{drafted}
 use Rattle.frame.specs.Cited.{AreListsOf}
 use Rattle.frame.specs.Stored.Hypotheses.{AreHypotheses}
-use Rattle.frame.specs.Stored.Entries.{statements_of}
-use Rattle.entries.proofs.AddedLemmas.{ok-weaker}
+use Rattle.frame.specs.Stored.EntryMeanings.{statements_of}
+use Rattle.entries.proofs.AddedStatement.{ok-weaker}
 use Rattle.frame.proofs.CitedLemmas.{is-there}
-use Rattle.frame.proofs.GatherLemmas.{mandatory-are, spread-lists}
+use Rattle.frame.proofs.GatheredHypotheses.{mandatory-are, spread-lists}
 use Rattle.frame.proofs.hypotheses.gather_at.Goals as goal
 
 pub spread-requires-clause-hypotheses : goal.spread-requires-clause-hypotheses

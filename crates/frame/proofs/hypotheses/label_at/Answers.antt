@@ -2,7 +2,7 @@ use Rattle.std.proofs.Common.{◌∙◌, ap, sym, length}
 use Rattle.std.proofs.lemmas.List.{length-map}
 use Rattle.std.specs.Prelude.{Some, ◌-◌}
 use Rattle.scope.specs.Active.{label_of}
-use Rattle.frame.specs.Stored.Entries.{stmt_of}
+use Rattle.frame.specs.Stored.EntryMeanings.{stmt_of}
 use Rattle.frame.proofs.StoredReading.{is-entry}
 use Rattle.frame.proofs.LabelLemmas.{label-below-at, label-below, label-is, label-none}
 use Rattle.entries.specs.Entries.{seen}

@@ -5,10 +5,10 @@ use Rattle.scope.specs.Active.{is_essential, before}
 use Rattle.frame.specs.FrameOf.{hypotheses}
 use Rattle.frame.specs.Links.{actives}
 use Rattle.frame.specs.Stored.Hypotheses.{Ascends, with_essentials}
-use Rattle.frame.specs.Stored.Entries.{statements_of}
-use Rattle.entries.proofs.AddedLemmas.{ok-weaker}
+use Rattle.frame.specs.Stored.EntryMeanings.{statements_of}
+use Rattle.entries.proofs.AddedStatement.{ok-weaker}
 use Rattle.frame.proofs.CitedLemmas.{is-there}
-use Rattle.frame.proofs.GatherLemmas.{mandatory-whole, mandatory-own, own-ascends}
+use Rattle.frame.proofs.GatheredHypotheses.{mandatory-whole, mandatory-own, own-ascends}
 use Rattle.frame.proofs.hypotheses.mandatory_at.Goals as goal
 
 pub add_essentials-requires-clause-ascends : goal.add_essentials-requires-clause-ascends

@@ -1,5 +1,5 @@
 use Rattle.std.proofs.Common.{arith}
-use Rattle.frame.specs.Stored.Parts.{placed}
+use Rattle.frame.specs.Stored.AssertionParts.{placed}
 use Rattle.frame.proofs.MakeLemmas.{group-added, group-within}
 use Rattle.frame.proofs.make.add_group.Goals as goal
 

@@ -1,5 +1,5 @@
 use Rattle.std.proofs.Common.{◌≡◌, ◌++◌, take}
-use Rattle.frame.specs.Stored.Parts.{placed}
+use Rattle.frame.specs.Stored.AssertionParts.{placed}
 use Rattle.frame.proofs.make.add_placed.Given as goal
 
 abbrev pub invariant-loop-code : goal.invariant-loop-code

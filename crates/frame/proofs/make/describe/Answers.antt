@@ -4,7 +4,7 @@ use Rattle.std.proofs.lemmas.Option.{slice_get_within}
 use Rattle.entries.specs.Entries.{seen}
 use Rattle.frame.specs.Cited.{head_of}
 use Rattle.frame.specs.Stored.Counts.{HasTwo}
-use Rattle.frame.specs.Stored.Parts.{asked_by, asked_at, head_at, option_asked, option_symbols}
+use Rattle.frame.specs.Stored.AssertionParts.{asked_by, asked_at, head_at, option_asked, option_symbols}
 use Rattle.frame.proofs.StoredReading.{two-of}
 use Rattle.frame.proofs.MakeLemmas.{hypothesis-at, map-more}
 use Rattle.frame.proofs.make.describe.Goals as goal

@@ -1,6 +1,6 @@
 use Rattle.std.proofs.Common.{◌≡◌, take}
 use Rattle.std.specs.Prelude.{map}
-use Rattle.frame.specs.Stored.Parts.{asked_at, head_at}
+use Rattle.frame.specs.Stored.AssertionParts.{asked_at, head_at}
 use Rattle.frame.proofs.make.describe.Given as goal
 
 abbrev pub invariant-loop-position : goal.invariant-loop-position

@@ -2,10 +2,10 @@ use Rattle.std.proofs.Common.{◌≡◌, ◌-◌, ap, sym, subst, arith, take, r
 use Rattle.std.proofs.lemmas.List.{length-map, length-take-le}
 use Rattle.frame.specs.Links.{actives, is_disj}
 use Rattle.entries.specs.Stored.Spans.{cut, AreSpansIn}
-use Rattle.frame.specs.Stored.Entries.{statements_of, stmt_of}
-use Rattle.frame.specs.Stored.Parts.{placed, symbols_at, option_symbols, has_two}
+use Rattle.frame.specs.Stored.EntryMeanings.{statements_of, stmt_of}
+use Rattle.frame.specs.Stored.AssertionParts.{placed, symbols_at, option_symbols, has_two}
 use Rattle.entries.specs.Entries.{seen}
-use Rattle.frame.proofs.WalkLemmas.{walk-back, walk-over, last-within}
+use Rattle.frame.proofs.BlockWalkLemmas.{walk-back, walk-over, last-within}
 use Rattle.frame.proofs.MakeLemmas.{AreGroups, groups-step, groups-start, groups-end}
 use Rattle.entries.proofs.SpanLemmas.{spans-reverse}
 use Rattle.frame.proofs.make.groups.Goals as goal

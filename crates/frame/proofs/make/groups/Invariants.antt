@@ -1,7 +1,7 @@
 use Rattle.std.proofs.Common.{◌≡◌, ◌-◌, ◌≤◌, ℕ, length, take}
 use Rattle.frame.specs.Links.{actives, last_active, is_disj}
 use Rattle.entries.specs.Stored.Spans.{cut, AreSpansIn}
-use Rattle.frame.specs.Stored.Entries.{statements_of}
+use Rattle.frame.specs.Stored.EntryMeanings.{statements_of}
 use Rattle.frame.proofs.MakeLemmas.{AreGroups}
 use Rattle.frame.proofs.make.groups.Given as goal
 

@@ -2,7 +2,7 @@ use Rattle.std.proofs.Common.{◌≡◌, ◌∙◌, ap, sym, arith, get_or, ◌-
 use Rattle.std.specs.Prelude.{◌++◌, ◌∷◌, []}
 use Rattle.std.proofs.lemmas.Option.{same_Some, slice_get_within}
 use Rattle.entries.specs.Entries.{seen}
-use Rattle.frame.specs.Stored.Parts.{variable_by}
+use Rattle.frame.specs.Stored.AssertionParts.{variable_by}
 use Rattle.frame.proofs.MakeLemmas.{hypothesis-at, variables-more}
 use Rattle.frame.proofs.make.variables.Goals as goal
 

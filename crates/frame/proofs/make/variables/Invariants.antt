@@ -1,6 +1,6 @@
 use Rattle.std.proofs.Common.{◌≡◌, take}
 use Rattle.std.specs.Prelude.{map}
-use Rattle.frame.specs.Stored.Parts.{variable_at}
+use Rattle.frame.specs.Stored.AssertionParts.{variable_at}
 use Rattle.frame.proofs.make.variables.Given as goal
 
 abbrev pub invariant-loop-position : goal.invariant-loop-position

@@ -1,6 +1,6 @@
 use Rattle.std.proofs.Common.{sym, subst}
 use Rattle.frame.specs.Stored.Hypotheses.{Ascends}
-use Rattle.frame.specs.Stored.Entries.{statements_of}
+use Rattle.frame.specs.Stored.EntryMeanings.{statements_of}
 use Rattle.frame.proofs.ActivePositions.{ascends-floats}
 use Rattle.frame.proofs.make.whole_parts.Goals as goal
 

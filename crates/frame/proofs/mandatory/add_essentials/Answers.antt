@@ -3,8 +3,8 @@ use Rattle.std.proofs.lemmas.List.{length-map, length-take-le}
 use Rattle.scope.specs.Active.{is_essential}
 use Rattle.frame.specs.Links.{actives}
 use Rattle.frame.specs.Stored.Hypotheses.{Ascends, inserted, with_all, with_essentials, kept_at, option_kept}
-use Rattle.frame.specs.Stored.Entries.{statements_of, stmt_of}
-use Rattle.frame.proofs.WalkLemmas.{walk-back, walk-over, last-within}
+use Rattle.frame.specs.Stored.EntryMeanings.{statements_of, stmt_of}
+use Rattle.frame.proofs.BlockWalkLemmas.{walk-back, walk-over, last-within}
 use Rattle.frame.proofs.CollectLemmas.{essentials-step}
 use Rattle.frame.proofs.AscendingLists.{ascends-inserted}
 use Rattle.entries.specs.Entries.{seen}

@@ -2,7 +2,7 @@ use Rattle.std.proofs.Common.{◌≡◌, ◌-◌, ◌≤◌, ℕ, length, take}
 use Rattle.scope.specs.Active.{is_essential}
 use Rattle.frame.specs.Links.{actives, last_active}
 use Rattle.frame.specs.Stored.Hypotheses.{Ascends, with_essentials}
-use Rattle.frame.specs.Stored.Entries.{statements_of}
+use Rattle.frame.specs.Stored.EntryMeanings.{statements_of}
 use Rattle.frame.proofs.mandatory.add_essentials.Given as goal
 
 abbrev pub invariant-loop-essential : goal.invariant-loop-essential

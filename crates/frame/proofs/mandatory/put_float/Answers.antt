@@ -1,8 +1,8 @@
 use Rattle.std.proofs.Common.{sym, subst}
 use Rattle.std.specs.Prelude.{◌++◌, ◌∷◌, [], Some}
-use Rattle.frame.specs.Stored.Entries.{statements_of}
+use Rattle.frame.specs.Stored.EntryMeanings.{statements_of}
 use Rattle.frame.specs.Stored.Hypotheses.{IsLooked}
-use Rattle.entries.proofs.AddedLemmas.{ok-weaker}
+use Rattle.entries.proofs.AddedStatement.{ok-weaker}
 use Rattle.frame.proofs.LookedLemmas.{looked-push}
 use Rattle.frame.proofs.mandatory.put_float.Goals as goal
 

@@ -1,5 +1,5 @@
 use Rattle.std.proofs.Common.{◌≡◌, drop}
-use Rattle.frame.specs.Stored.Entries.{statements_of}
+use Rattle.frame.specs.Stored.EntryMeanings.{statements_of}
 use Rattle.frame.specs.Stored.Hypotheses.{with_floats, IsLooked}
 use Rattle.frame.proofs.mandatory.put_floats.Given as goal
 

@@ -2,9 +2,9 @@ use Rattle.std.proofs.Common.{◌≡◌, ◌+◌, ◌∙◌, ap, sym, arith, len
 use Rattle.std.specs.Prelude.{true, false}
 use Rattle.std.proofs.lemmas.List.{length-map}
 use Rattle.scope.specs.Active.{is_active}
-use Rattle.frame.specs.Stored.Entries.{statements_of, stmt_of}
+use Rattle.frame.specs.Stored.EntryMeanings.{statements_of, stmt_of}
 use Rattle.frame.proofs.CollectLemmas.{float-stands, float-some}
-use Rattle.entries.proofs.AddedLemmas.{ok-weaker}
+use Rattle.entries.proofs.AddedStatement.{ok-weaker}
 use Rattle.frame.proofs.mandatory.put_last.Goals as goal
 
 pub is_active_at-requires-clause-place : goal.is_active_at-requires-clause-place

@@ -3,7 +3,7 @@ use Rattle.mm_lex.specs.Alphabet.{has_name}
 use Rattle.scope.specs.Active.{variables}
 use Rattle.names.specs.Codes.{name_at}
 use Rattle.frame.specs.Links.{is_var}
-use Rattle.frame.specs.Stored.Entries.{statements_of}
+use Rattle.frame.specs.Stored.EntryMeanings.{statements_of}
 use Rattle.frame.proofs.KindWalk.{IsSought}
 use Rattle.frame.proofs.pairs.is_listed_at.Given as goal
 

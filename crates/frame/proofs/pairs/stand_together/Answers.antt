@@ -7,8 +7,8 @@ use Rattle.mm_read.specs.declared.stmt.Stmt.{Stmt}
 use Rattle.scope.specs.Active.{active, before, separated}
 use Rattle.names.specs.Codes.{name_at, decode}
 use Rattle.frame.specs.Links.{is_disj}
-use Rattle.frame.specs.Stored.Entries.{statements_of, stmt_of}
-use Rattle.frame.proofs.WalkLemmas.{last-within}
+use Rattle.frame.specs.Stored.EntryMeanings.{statements_of, stmt_of}
+use Rattle.frame.proofs.BlockWalkLemmas.{last-within}
 use Rattle.frame.proofs.StoredOneMore.{numbered-at}
 use Rattle.frame.proofs.KindWalk.{IsSought, sought-here, sought-found, sought-step, sought-over, read-here, any-kind, has-decode, entry-disj, other-disj}
 use Rattle.entries.specs.Entries.{seen}

@@ -4,7 +4,7 @@ use Rattle.mm_lex.specs.Alphabet.{has_name}
 use Rattle.scope.specs.Active.{separated}
 use Rattle.names.specs.Codes.{name_at}
 use Rattle.frame.specs.Links.{is_disj}
-use Rattle.frame.specs.Stored.Entries.{statements_of}
+use Rattle.frame.specs.Stored.EntryMeanings.{statements_of}
 use Rattle.frame.proofs.KindWalk.{IsSought}
 use Rattle.frame.proofs.pairs.stand_together.Given as goal
 

@@ -4,7 +4,7 @@ use Rattle.scope.specs.Active.{bare}
 use Rattle.names.specs.Codes.{with_names}
 use Rattle.entries.specs.Entries.{plain}
 use Rattle.frame.specs.Stored.Counts.{HasRoom, kind_of}
-use Rattle.frame.specs.Stored.Entries.{statements_of}
+use Rattle.frame.specs.Stored.EntryMeanings.{statements_of}
 use Rattle.frame.proofs.EnterLemmas.{entered-statement}
 use Rattle.frame.proofs.ExtendLemmas.{on-err-same, grown-behind, is-pushed}
 use Rattle.frame.proofs.StoredLemmas.{kept-pushed, pushed-statements}

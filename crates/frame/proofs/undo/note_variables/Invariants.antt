@@ -2,7 +2,7 @@ use Rattle.std.proofs.Common.{◌≡◌, ◌++◌, ℕ, take}
 use Rattle.std.specs.Prelude.{map}
 use Rattle.frame.specs.declared.storage.Symbol.{Symbol}
 use Rattle.entries.specs.Stored.Spans.{Extends}
-use Rattle.frame.specs.Stored.Entries.{ReadsAs}
+use Rattle.frame.specs.Stored.EntryMeanings.{ReadsAs}
 use Rattle.frame.proofs.undo.note_variables.Given as goal
 
 abbrev pub invariant-loop-code : goal.invariant-loop-code

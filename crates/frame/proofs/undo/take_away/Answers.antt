@@ -3,7 +3,7 @@ use Rattle.std.specs.Prelude.{[], ◌∷◌, Some}
 use Rattle.frame.specs.Below.{AreBelow}
 use Rattle.entries.specs.Entries.{seen}
 use Rattle.entries.specs.Stored.Spans.{Extends}
-use Rattle.frame.specs.Stored.Entries.{ReadsAs, replaced_of, symbol_of}
+use Rattle.frame.specs.Stored.EntryMeanings.{ReadsAs, replaced_of, symbol_of}
 use Rattle.frame.proofs.DeclareLemmas.{symbol_of-push}
 use Rattle.frame.proofs.StoredOneMore.{numbered-at}
 use Rattle.frame.proofs.StoredReading.{two-of}

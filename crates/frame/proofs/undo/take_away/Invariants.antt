@@ -1,6 +1,6 @@
 use Rattle.std.proofs.Common.{◌≡◌, ◌≤◌, length}
 use Rattle.entries.specs.Stored.Spans.{Extends}
-use Rattle.frame.specs.Stored.Entries.{ReadsAs, replaced_of, symbol_of}
+use Rattle.frame.specs.Stored.EntryMeanings.{ReadsAs, replaced_of, symbol_of}
 use Rattle.frame.proofs.undo.take_away.Given as goal
 
 abbrev pub invariant-loop-entries : goal.invariant-loop-entries

@@ -1,5 +1,5 @@
 use Rattle.std.proofs.Common.{arith}
-use Rattle.frame.specs.Stored.Entries.{replaced_by}
+use Rattle.frame.specs.Stored.EntryMeanings.{replaced_by}
 use Rattle.frame.proofs.UndoLemmas.{noted-last}
 use Rattle.frame.proofs.undo.take_back.Goals as goal
 

@@ -5,7 +5,7 @@ use Rattle.verify.specs.Proves.{mandatory_labels}
 use Rattle.verify.specs.Right.{IsProvable}
 use Rattle.library.proofs.FrontLemmas.{stands-within, stands-index}
 use Rattle.library.proofs.ProvingLemmas.{Found, stands-none}
-use Rattle.library.proofs.WalkLemmas.{has-items}
+use Rattle.library.proofs.CitationWalkLemmas.{has-items}
 use Rattle.library.proofs.asked.proof_items.Goals as goal
 
 pub unreachable-requires-in-None : goal.unreachable-requires-in-None

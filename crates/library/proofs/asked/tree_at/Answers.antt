@@ -1,5 +1,5 @@
 use Rattle.std.proofs.Common.{inl, inr}
-use Rattle.library.proofs.ItemsLemmas.{provable-bare}
+use Rattle.library.proofs.WrittenItemsLemmas.{provable-bare}
 use Rattle.library.proofs.AskedLemmas.{is-right, derives-these}
 use Rattle.library.proofs.asked.tree_at.Goals as goal
 

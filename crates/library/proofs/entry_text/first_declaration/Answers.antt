@@ -1,5 +1,5 @@
 use Rattle.std.proofs.Common.{sym, ◌∙◌}
-use Rattle.library.proofs.ReadingLemmas.{declared-here}
+use Rattle.library.proofs.ReadTextLemmas.{declared-here}
 use Rattle.library.proofs.entry_text.first_declaration.Goals as goal
 
 pub returns-then-is_declaration : goal.returns-then-is_declaration

@@ -1,6 +1,6 @@
 use Rattle.std.proofs.Common.{refl, subst}
 use Rattle.library.specs.Judging.{IsReading, Extends}
-use Rattle.library.proofs.ApplyLemmas.{within-read, fault-cause}
+use Rattle.library.proofs.JudgedStep.{within-read, fault-cause}
 use Rattle.library.proofs.library.judge_text.Goals as goal
 
 pub returns-in_err-extend-in-Ok-clause-counted : goal.returns-in_err-extend-in-Ok-clause-counted

@@ -1,8 +1,8 @@
 use Rattle.std.proofs.Common.{ap}
 use Rattle.scope.specs.Active.{proof_of, is_provable}
-use Rattle.library.proofs.ItemsLemmas.{has-assertion}
+use Rattle.library.proofs.WrittenItemsLemmas.{has-assertion}
 use Rattle.library.proofs.FrontLemmas.{stands-index}
-use Rattle.library.proofs.WalkLemmas.{cites-no-proof}
+use Rattle.library.proofs.CitationWalkLemmas.{cites-no-proof}
 use Rattle.library.proofs.MayCiteLemmas.{notes-unmet}
 use Rattle.library.proofs.UsersLemmas.{notes-nothing, not-provable}
 use Rattle.library.proofs.users.note_user.Goals as goal

@@ -1,5 +1,5 @@
 use Rattle.std.proofs.Common.{◌≡◌, ◌++◌, drop}
-use Rattle.library.specs.Marks.{axioms_in}
+use Rattle.library.specs.UseMarks.{axioms_in}
 use Rattle.library.proofs.uses.axioms_marked.Given as goal
 
 abbrev pub invariant-loop-index : goal.invariant-loop-index

@@ -1,5 +1,5 @@
 use Rattle.std.proofs.Common.{arith, ap, length, ◌∙◌}
-use Rattle.library.specs.Marks.{axioms_in}
+use Rattle.library.specs.UseMarks.{axioms_in}
 use Rattle.library.proofs.FrontLemmas.{stands-within}
 use Rattle.library.proofs.ProvingLemmas.{if-map}
 use Rattle.library.proofs.TraceLemmas.{are-used}

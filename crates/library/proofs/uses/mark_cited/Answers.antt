@@ -1,7 +1,7 @@
 use Rattle.std.proofs.Common.{sym, ◌∙◌, ap, arith}
 use Rattle.std.proofs.lemmas.List.{drop_all}
-use Rattle.library.specs.Marks.{mark_items}
-use Rattle.library.proofs.MarksLemmas.{marks-items}
+use Rattle.library.specs.UseMarks.{mark_items}
+use Rattle.library.proofs.UseMarkLemmas.{marks-items}
 use Rattle.library.proofs.uses.mark_cited.Goals as goal
 
 pub returns : goal.returns

@@ -1,5 +1,5 @@
 use Rattle.std.proofs.Common.{◌≡◌, drop}
-use Rattle.library.specs.Marks.{mark_items}
+use Rattle.library.specs.UseMarks.{mark_items}
 use Rattle.library.proofs.uses.mark_cited.Given as goal
 
 abbrev pub invariant-loop-number : goal.invariant-loop-number

@@ -4,7 +4,7 @@ use Rattle.verify.specs.Proves.{mandatory_labels}
 use Rattle.verify.specs.Right.{IsProvable}
 use Rattle.library.proofs.FrontLemmas.{stands-index}
 use Rattle.library.proofs.ProvingLemmas.{Found}
-use Rattle.library.proofs.WalkLemmas.{marks-proof, marks-nothing, on-map, has-items, cites-nothing}
+use Rattle.library.proofs.CitationWalkLemmas.{marks-proof, marks-nothing, on-map, has-items, cites-nothing}
 use Rattle.library.proofs.uses.mark_proof.Goals as goal
 
 pub returns-in-Some : goal.returns-in-Some

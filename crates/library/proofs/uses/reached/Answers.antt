@@ -1,6 +1,6 @@
 use Rattle.std.proofs.Common.{ap, ◌-◌, true, slice_set, arith, length, ◌∙◌}
 use Rattle.library.proofs.FrontLemmas.{stands-within}
-use Rattle.library.proofs.WalkLemmas.{walk-start, step-pass, step-proof, lent-whole, walk-end}
+use Rattle.library.proofs.CitationWalkLemmas.{walk-start, step-pass, step-proof, lent-whole, walk-end}
 use Rattle.library.proofs.uses.reached.Goals as goal
 use Rattle.library.proofs.uses.reached.Goals.{then-index+in_ok-mark_proof, else-index}
 

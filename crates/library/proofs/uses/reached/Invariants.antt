@@ -1,4 +1,4 @@
-use Rattle.library.proofs.WalkLemmas.{IsWalked}
+use Rattle.library.proofs.CitationWalkLemmas.{IsWalked}
 use Rattle.library.proofs.uses.reached.Given as goal
 
 abbrev pub invariant-loop-position : goal.invariant-loop-position

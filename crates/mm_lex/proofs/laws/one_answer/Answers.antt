@@ -1,5 +1,5 @@
 use Rattle.mm_lex.proofs.TokensLemmas.{some_answer, AreTokens-unique, AreTokens-no_comment_fault, IsCommentFault-unique}
-use Rattle.mm_lex.proofs.FaultsLemmas.{IsClean-no_fault, IsFirstBadByte-unique}
+use Rattle.mm_lex.proofs.BadByteLemmas.{IsClean-no_fault, IsFirstBadByte-unique}
 use Rattle.mm_lex.proofs.laws.one_answer.Goals as goal
 
 pub returns : goal.returns

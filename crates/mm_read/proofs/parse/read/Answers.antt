@@ -1,6 +1,6 @@
 use Rattle.std.proofs.Common.{ap, Err}
 use Rattle.mm_lex.specs.declared.fault.LexFault.TheVariants as lex
-use Rattle.mm_lex.proofs.FaultsLemmas.{IsFirstBadByte-found, IsFirstBadByte-unique, IsClean-none}
+use Rattle.mm_lex.proofs.BadByteLemmas.{IsFirstBadByte-found, IsFirstBadByte-unique, IsClean-none}
 use Rattle.mm_read.specs.declared.fault.ReadFault.TheVariants.{Text}
 use Rattle.mm_read.specs.Statements.{spelled}
 use Rattle.mm_read.proofs.OneReading.{bad_no_tokens, bad_no_comment, fault_is, no_bad_byte, the_statements, the_comment_fault, the_shape_fault}

@@ -4,7 +4,7 @@ use Rattle.names.specs.Stored.Keys.{AreBytes}
 use Rattle.names.specs.Stored.Overflow.{number_of}
 use Rattle.names.specs.Stored.Table.{IsFree, AreHeld, AreKept, AreFewer}
 use Rattle.names.proofs.TableLemmas.{put-held}
-use Rattle.names.proofs.KeptLemmas.{either, on-ok, held-passed, kept-apart, kept-failed, fewer-apart, held-apart}
+use Rattle.names.proofs.KeptKeyLemmas.{either, on-ok, held-passed, kept-apart, kept-failed, fewer-apart, held-apart}
 use Rattle.names.proofs.table.settle.Goals as goal
 
 pub returns-then-key-eq-APART-clause-held : goal.returns-then-key-eq-APART-clause-held

@@ -1,5 +1,5 @@
 use Rattle.std.proofs.Common.{◌∙◌, sym, arith, true≢false}
-use Rattle.outline.proofs.RulesLemmas.{is_behind_more, breaks, ends_good, ends_open}
+use Rattle.outline.proofs.FirstBrokenLemmas.{is_behind_more, breaks, ends_good, ends_open}
 use Rattle.outline.proofs.rules.broken.Goals as goal
 
 pub loop-index-preserved : goal.loop-index-preserved

@@ -1,4 +1,4 @@
-use Rattle.outline.proofs.RulesLemmas.{IsBehind}
+use Rattle.outline.proofs.FirstBrokenLemmas.{IsBehind}
 use Rattle.outline.proofs.rules.broken.Given as goal
 
 abbrev pub invariant-loop-index : goal.invariant-loop-index

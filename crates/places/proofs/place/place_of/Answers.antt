@@ -1,4 +1,4 @@
-use Rattle.places.proofs.PlacesLemmas.{place_is}
+use Rattle.places.proofs.TokenPlaceLemmas.{place_is}
 use Rattle.places.proofs.place.place_of.Goals as goal
 
 pub returns : goal.returns

@@ -3,7 +3,7 @@ use Rattle.mm_lex.specs.declared.span.Span.{Span}
 use Rattle.mm_lex.specs.Alphabet.{Name}
 use Rattle.mm_lex.specs.Tokens.{words}
 use Rattle.places.specs.Places.{ends}
-use Rattle.places.specs.Comments.{BeginsStatement}
+use Rattle.places.specs.CommentFaults.{BeginsStatement}
 use Rattle.places.proofs.BeginLemmas.{statement_here, statement_on, word_is}
 use Rattle.places.proofs.place.statement_at.Goals as goal
 use Rattle.places.proofs.place.statement_at.Goals.{then-ends, else-ends}

@@ -4,7 +4,7 @@ use Rattle.mm_read.specs.Statements.{Database}
 use Rattle.scope.specs.Active.{bare, bares}
 use Rattle.verify.specs.Right.{IsProvable}
 use Rattle.verify.proofs.MandatoryEntries.{place_of}
-use Rattle.library.proofs.ItemsLemmas.{provable-bare}
+use Rattle.library.proofs.WrittenItemsLemmas.{provable-bare}
 use Rattle.program.proofs.proofs.write_proof.Goals as goal
 
 within : (S F : Database) (at : ℕ) (s : Stmt) → F ≡ bares S → IsProvable S at s → (1 ≤ at) × (at ≤ length F)

@@ -1,5 +1,5 @@
 use Rattle.std.proofs.Common.{arith, ap, refl, ◌∙◌}
-use Rattle.proof_code.proofs.PlacesLemmas.{IsReadTo-same, at_first, quiet_byte, number_byte, broken_byte, cut_word, read_all, all_kept}
+use Rattle.proof_code.proofs.LetterStepLemmas.{IsReadTo-same, at_first, quiet_byte, number_byte, broken_byte, cut_word, read_all, all_kept}
 use Rattle.proof_code.proofs.letters.read_letters.Goals.{in-Quiet, in-Number, then-kept, else-kept}
 use Rattle.proof_code.proofs.letters.read_letters.Goals as goal
 

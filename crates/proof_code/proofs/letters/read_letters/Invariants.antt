@@ -1,4 +1,4 @@
-use Rattle.proof_code.proofs.PlacesLemmas.{IsReadTo}
+use Rattle.proof_code.proofs.LetterStepLemmas.{IsReadTo}
 use Rattle.proof_code.proofs.letters.read_letters.Given as goal
 
 abbrev pub invariant-loop-byte : goal.invariant-loop-byte

@@ -1,6 +1,6 @@
 use Rattle.std.proofs.Common.{◌≡◌, ◌++◌, take}
 use Rattle.std.specs.Prelude.{flat_map}
-use Rattle.proof_pages.specs.Pages.{symbol_html}
+use Rattle.proof_pages.specs.TableRows.{symbol_html}
 use Rattle.proof_pages.proofs.rows.push_html_expr.Given as goal
 
 abbrev pub invariant-loop-symbol : goal.invariant-loop-symbol

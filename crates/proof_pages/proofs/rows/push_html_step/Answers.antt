@@ -6,7 +6,7 @@ use Rattle.verify.specs.Proves.{label_or_none}
 use Rattle.steps.specs.Rows.{no_row}
 use Rattle.proof_pages.specs.Escapes.{html_text}
 use Rattle.proof_pages.specs.StepLines.{number_text}
-use Rattle.proof_pages.specs.Pages.{link_html, expr_html}
+use Rattle.proof_pages.specs.TableRows.{link_html, expr_html}
 use Rattle.proof_pages.proofs.AppendLemmas.{joined, joined-last}
 use Rattle.proof_pages.proofs.rows.push_html_step.Goals as goal
 

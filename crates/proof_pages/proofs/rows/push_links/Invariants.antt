@@ -1,6 +1,6 @@
 use Rattle.std.proofs.Common.{◌≡◌, ◌++◌, take}
 use Rattle.std.specs.Prelude.{flat_map}
-use Rattle.proof_pages.specs.Pages.{link_html}
+use Rattle.proof_pages.specs.TableRows.{link_html}
 use Rattle.proof_pages.proofs.rows.push_links.Given as goal
 
 abbrev pub invariant-loop-place : goal.invariant-loop-place

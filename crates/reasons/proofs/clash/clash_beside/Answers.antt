@@ -1,6 +1,6 @@
 use Rattle.std.proofs.Common.{◌∙◌, length, sym, subst}
 use Rattle.frame.specs.Below.{AreBelow}
-use Rattle.reasons.specs.Stored.Kept.{code_images}
+use Rattle.reasons.specs.Stored.Vectors.{code_images}
 use Rattle.reasons.proofs.ImagesLemmas.{image-below}
 use Rattle.reasons.proofs.BesideLemmas.{apart_beside, below_front, below_rest}
 use Rattle.reasons.proofs.clash.clash_beside.Goals as goal

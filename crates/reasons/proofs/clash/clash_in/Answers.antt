@@ -2,8 +2,8 @@ use Rattle.std.proofs.Common.{◌∙◌, ◌+◌, length, get_or, sym, ap, subst
 use Rattle.mm_lex.specs.Alphabet.{has_name}
 use Rattle.names.specs.Codes.{decode}
 use Rattle.frame.specs.Substitution.{code_image}
-use Rattle.reasons.specs.Stored.Kept.{code_images}
-use Rattle.reasons.specs.Images.{named_images}
+use Rattle.reasons.specs.Stored.Vectors.{code_images}
+use Rattle.reasons.specs.ReadImages.{named_images}
 use Rattle.reasons.specs.Clashes.{IsClashWith, is_other_apart}
 use Rattle.std.specs.List.{list_all}
 use Rattle.reasons.proofs.ClashLemmas.{has_at, all_step}

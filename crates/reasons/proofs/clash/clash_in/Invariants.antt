@@ -3,8 +3,8 @@ use Rattle.std.specs.List.{list_all}
 use Rattle.names.specs.Codes.{decode}
 use Rattle.frame.specs.Disjoint.{is_group_apart}
 use Rattle.frame.specs.Substitution.{code_apply}
-use Rattle.reasons.specs.Stored.Kept.{code_images}
-use Rattle.reasons.specs.Images.{named_images}
+use Rattle.reasons.specs.Stored.Vectors.{code_images}
+use Rattle.reasons.specs.ReadImages.{named_images}
 use Rattle.reasons.specs.Clashes.{is_other_apart}
 use Rattle.reasons.proofs.clash.clash_in.Given as goal
 

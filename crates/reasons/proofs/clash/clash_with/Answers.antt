@@ -6,8 +6,8 @@ use Rattle.frame.specs.Disjoint.{are_apart}
 use Rattle.names.specs.Codes.{name_at, decode}
 use Rattle.frame.specs.Substitution.{image}
 use Rattle.frame.proofs.KindWalk.{same-number}
-use Rattle.reasons.specs.Stored.Kept.{code_images}
-use Rattle.reasons.specs.Images.{named_images}
+use Rattle.reasons.specs.Stored.Vectors.{code_images}
+use Rattle.reasons.specs.ReadImages.{named_images}
 use Rattle.reasons.specs.Clashes.{AreShared, is_other_apart}
 use Rattle.reasons.proofs.NamedLemmas.{image_same}
 use Rattle.reasons.proofs.ClashLemmas.{has_at, all_step, numbers_differ}

@@ -1,8 +1,8 @@
 use Rattle.std.proofs.Common.{◌≡◌, drop}
 use Rattle.std.specs.List.{list_all}
 use Rattle.names.specs.Codes.{name_at, decode}
-use Rattle.reasons.specs.Stored.Kept.{code_images}
-use Rattle.reasons.specs.Images.{named_images}
+use Rattle.reasons.specs.Stored.Vectors.{code_images}
+use Rattle.reasons.specs.ReadImages.{named_images}
 use Rattle.reasons.specs.Clashes.{is_other_apart}
 use Rattle.reasons.proofs.clash.clash_with.Given as goal
 

@@ -1,9 +1,9 @@
 use Rattle.std.proofs.Common.{◌∙◌, length, arith}
 use Rattle.names.specs.Codes.{decode}
 use Rattle.frame.specs.Disjoint.{is_group_apart}
-use Rattle.reasons.specs.Stored.Kept.{code_images}
-use Rattle.reasons.specs.Images.{named_images}
-use Rattle.reasons.proofs.KeptLemmas.{all-at}
+use Rattle.reasons.specs.Stored.Vectors.{code_images}
+use Rattle.reasons.specs.ReadImages.{named_images}
+use Rattle.reasons.proofs.VectorLemmas.{all-at}
 use Rattle.reasons.proofs.ClashLemmas.{clash_is, groups_step, groups_end}
 use Rattle.reasons.proofs.clash.find_clash.Goals as goal
 

@@ -1,8 +1,8 @@
 use Rattle.std.proofs.Common.{◌≡◌, drop, map}
 use Rattle.names.specs.Codes.{decode}
 use Rattle.frame.specs.Disjoint.{are_groups_apart}
-use Rattle.reasons.specs.Stored.Kept.{code_images}
-use Rattle.reasons.specs.Images.{named_images}
+use Rattle.reasons.specs.Stored.Vectors.{code_images}
+use Rattle.reasons.specs.ReadImages.{named_images}
 use Rattle.reasons.proofs.clash.find_clash.Given as goal
 
 abbrev pub invariant-loop-k : goal.invariant-loop-k

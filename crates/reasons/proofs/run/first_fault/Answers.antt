@@ -1,10 +1,10 @@
 use Rattle.std.proofs.Common.{◌≡◌, ◌∙◌, sym, ap, subst, get_or, length, take, slice_get, List, arith, take_all}
 use Rattle.proof_code.specs.declared.item.Item.{Item}
-use Rattle.proof_code.specs.Numbers.{items_of, item_of}
-use Rattle.reasons.specs.Stored.Kept.{AreSymbols}
+use Rattle.proof_code.specs.ItemNumbers.{items_of, item_of}
+use Rattle.reasons.specs.Stored.Vectors.{AreSymbols}
 use Rattle.reasons.specs.Run.{held, nothing, Runs}
-use Rattle.frame.specs.Reading.{ArePositions}
-use Rattle.reasons.proofs.ItemLemmas.{runs_more, take-items, item-at, items-more, end_told}
+use Rattle.frame.specs.AtPosition.{ArePositions}
+use Rattle.reasons.proofs.RunItemLemmas.{runs_more, take-items, item-at, items-more, end_told}
 use Rattle.reasons.proofs.run.first_fault.Goals as goal
 
 pub loop-item-preserved : goal.loop-item-preserved

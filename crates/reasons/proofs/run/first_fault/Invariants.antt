@@ -1,9 +1,9 @@
 use Rattle.std.proofs.Common.{◌≡◌, ◌≤◌, List, length, take}
 use Rattle.mm_lex.specs.Alphabet.{Name}
-use Rattle.proof_code.specs.Numbers.{items_of}
-use Rattle.reasons.specs.Stored.Kept.{AreSymbols}
+use Rattle.proof_code.specs.ItemNumbers.{items_of}
+use Rattle.reasons.specs.Stored.Vectors.{AreSymbols}
 use Rattle.reasons.specs.Run.{nothing, held, Runs}
-use Rattle.frame.specs.Reading.{ArePositions}
+use Rattle.frame.specs.AtPosition.{ArePositions}
 use Rattle.subst.specs.declared.buffer.TheConstants.{SYMBOLS_LIMIT}
 use Rattle.reasons.proofs.run.first_fault.Given as goal
 

@@ -1,10 +1,10 @@
 use Rattle.std.proofs.Common.{◌≡◌, ◌∙◌, sym, ap, subst, suc, ◌-◌, length, get_or, [], arith}
 use Rattle.proof_code.specs.declared.item.Item.TheVariants.{Recall}
-use Rattle.proof_code.specs.Numbers.{item_of}
+use Rattle.proof_code.specs.ItemNumbers.{item_of}
 use Rattle.reasons.specs.declared.reason.Fault.TheVariants.{Unknown}
 use Rattle.reasons.specs.Run.{held}
 use Rattle.reasons.specs.FirstFault.{Fails}
-use Rattle.reasons.proofs.ItemLemmas.{found-length, found-at, recall_told, recall_item, cite_told, cite_item}
+use Rattle.reasons.proofs.RunItemLemmas.{found-length, found-at, recall_told, recall_item, cite_told, cite_item}
 use Rattle.reasons.proofs.run.step.Goals as goal
 
 pub returns-then-number-eq0-clause-marked : goal.returns-then-number-eq0-clause-marked

@@ -1,7 +1,7 @@
 use Rattle.std.proofs.Common.{arith, ◌≡◌, ◌+◌}
-use Rattle.scope.specs.Stored.Entries.{count_behind}
+use Rattle.scope.specs.Stored.KindCounts.{count_behind}
 use Rattle.scope.specs.declared.numbering.Kind.TheVariants.{Label, Constant, Variable}
-use Rattle.scope.proofs.EntriesLemmas.{last-behind, count-below}
+use Rattle.scope.proofs.KindCountLemmas.{last-behind, count-below}
 use Rattle.scope.proofs.numbering.symbol_count.Goals as goal
 
 pub overflow_add-result : goal.overflow_add-result

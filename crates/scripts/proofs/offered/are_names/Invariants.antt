@@ -2,7 +2,7 @@ use Rattle.std.specs.Prelude.{◌≡◌, ◌≤◌, is_some}
 use Rattle.std.proofs.Common.{length}
 use Rattle.library.specs.declared.charter.TheConstants.{MOST_NAMES}
 use Rattle.scripts.specs.Offered.{names_of}
-use Rattle.scripts.proofs.NamesLemmas.{are_names_behind}
+use Rattle.scripts.proofs.CharterNameLemmas.{are_names_behind}
 use Rattle.scripts.proofs.offered.are_names.Given as goal
 
 abbrev pub decreases-loop-word : goal.decreases-loop-word

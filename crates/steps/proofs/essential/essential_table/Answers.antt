@@ -5,12 +5,12 @@ use Rattle.frame.specs.Below.{AreBelow}
 use Rattle.steps.specs.Rows.{no_row}
 use Rattle.steps.specs.Essential.{essential_of}
 use Rattle.steps.specs.Stored.Marked.{marked_before, number_of, AreNumbers, kept_row}
-use Rattle.steps.proofs.RowLemmas.{row-same}
+use Rattle.steps.proofs.DraftRowLemmas.{row-same}
 use Rattle.steps.proofs.PremiseLemmas.{premises-below}
-use Rattle.steps.proofs.NumberLemmas.{numbers-more, numbers-are, kept-more, kept-same, are-essential}
+use Rattle.steps.proofs.MarkedPlaceLemmas.{numbers-more, numbers-are, kept-more, kept-same, are-essential}
 use Rattle.steps.proofs.essential.essential_table.Goals as goal
 use Rattle.steps.proofs.essential.essential_table.Goals.{then-index+in_ok-premises+in_ok-taken+in_ok-push-2, else-index}
-use Rattle.frame.proofs.NumberLemmas.{below-more}
+use Rattle.frame.proofs.SymbolNumberLemmas.{below-more}
 use Rattle.verify.proofs.PlanLemmas.{below-get}
 
 pub renumbered-requires : goal.renumbered-requires

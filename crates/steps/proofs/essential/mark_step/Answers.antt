@@ -6,11 +6,11 @@ use Rattle.frame.specs.Below.{AreBelow}
 use Rattle.steps.specs.Rows.{no_row, steps_of}
 use Rattle.steps.specs.Essential.{essential_of}
 use Rattle.steps.specs.Stored.Marked.{MarksMore, mark_each}
-use Rattle.steps.proofs.RowLemmas.{step-at}
+use Rattle.steps.proofs.DraftRowLemmas.{step-at}
 use Rattle.steps.proofs.PremiseLemmas.{premises-below}
-use Rattle.steps.proofs.MarkLemmas.{marked-on, each-more}
+use Rattle.steps.proofs.EssentialMarkLemmas.{marked-on, each-more}
 use Rattle.steps.proofs.essential.mark_step.Goals as goal
-use Rattle.frame.proofs.NumberLemmas.{below-more}
+use Rattle.frame.proofs.SymbolNumberLemmas.{below-more}
 
 pub bounds-marks-place : goal.bounds-marks-place
 bounds-marks-place c =

@@ -2,7 +2,7 @@ use Rattle.std.proofs.Common.{◌≡◌, ap, sym, ◌∙◌, subst, arith, lengt
 use Rattle.std.proofs.lemmas.List.{length-map}
 use Rattle.steps.specs.Rows.{steps_of}
 use Rattle.steps.specs.Stored.Marked.{mark_last, AreMarkedFrom}
-use Rattle.steps.proofs.MarkLemmas.{marked-last, marks-exact}
+use Rattle.steps.proofs.EssentialMarkLemmas.{marked-last, marks-exact}
 use Rattle.steps.proofs.essential.marks_of.Goals as goal
 
 pub loop-place-init : goal.loop-place-init

@@ -1,5 +1,5 @@
 use Rattle.std.proofs.Common.{Some}
-use Rattle.steps.proofs.KnownLemmas.{others-same}
+use Rattle.steps.proofs.KnownMapLemmas.{others-same}
 use Rattle.steps.proofs.known.keep.Goals as goal
 
 pub returns-clause-others : goal.returns-clause-others

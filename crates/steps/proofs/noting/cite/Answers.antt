@@ -2,9 +2,9 @@ use Rattle.std.proofs.Common.{◌∙◌, ap, subst}
 use Rattle.std.proofs.lemmas.Result.{on_ok_weaker}
 use Rattle.scope.specs.Active.{expr_of}
 use Rattle.frame.specs.Citations.{IsHypothesis}
-use Rattle.verify.proofs.TableLemmas.{has_with}
+use Rattle.verify.proofs.LabelTableLemmas.{has_with}
 use Rattle.steps.proofs.CiteLemmas.{many, typed, heads-count, different, assertion-draft, assertion-done, hypothesis-draft, hypothesis-done}
-use Rattle.steps.proofs.ItemLemmas.{never-nothing}
+use Rattle.steps.proofs.DraftedItemLemmas.{never-nothing}
 use Rattle.steps.proofs.noting.cite.Goals as goal
 use Rattle.frame.proofs.FoundByNumber.{some-same}
 

@@ -1,5 +1,5 @@
 use Rattle.std.proofs.Common.{◌≡◌, ◌-◌, length, get_or, arith, refl, ◌∙◌, ap}
-use Rattle.steps.proofs.ItemLemmas.{mark-some, marked-draft, marked-done}
+use Rattle.steps.proofs.DraftedItemLemmas.{mark-some, marked-draft, marked-done}
 use Rattle.steps.proofs.noting.mark.Goals as goal
 
 pub returns-clause-draft : goal.returns-clause-draft

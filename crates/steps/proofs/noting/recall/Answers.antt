@@ -1,5 +1,5 @@
 use Rattle.std.proofs.Common.{refl}
-use Rattle.steps.proofs.ItemLemmas.{recall-there, recalled-draft, recalled-done}
+use Rattle.steps.proofs.DraftedItemLemmas.{recall-there, recalled-draft, recalled-done}
 use Rattle.steps.proofs.noting.recall.Goals as goal
 
 pub returns-clause-draft : goal.returns-clause-draft

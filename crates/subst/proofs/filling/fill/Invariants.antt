@@ -1,6 +1,6 @@
 use Rattle.std.proofs.Common.{◌≡◌, length, take}
 use Rattle.frame.specs.Substitution.{code_apply}
-use Rattle.subst.specs.Places.{images_at}
+use Rattle.subst.specs.ExpressionPlaces.{images_at}
 use Rattle.subst.specs.Stored.Written.{IsWritten}
 use Rattle.subst.proofs.filling.fill.Given as goal
 

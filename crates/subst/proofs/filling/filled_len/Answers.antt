@@ -1,6 +1,6 @@
 use Rattle.std.proofs.Common.{arith, ◌+◌, ◌<◌, length}
-use Rattle.subst.specs.Places.{images_at}
-use Rattle.subst.proofs.ApplyLemmas.{len-take, len-within}
+use Rattle.subst.specs.ExpressionPlaces.{images_at}
+use Rattle.subst.proofs.WrittenImages.{len-take, len-within}
 use Rattle.subst.proofs.filling.filled_len.Goals as goal
 
 pub returns-then-more-room-clause-none : goal.returns-then-more-room-clause-none

@@ -1,5 +1,5 @@
 use Rattle.std.proofs.Common.{sym, ◌∙◌, ap, length}
-use Rattle.subst.proofs.PlaceLemmas.{length-seen}
+use Rattle.subst.proofs.ExpressionPlaceLemmas.{length-seen}
 use Rattle.subst.proofs.ImagePlacesLemmas.{image-some, image-none}
 use Rattle.subst.proofs.filling.image_len.Goals as goal
 

@@ -1,7 +1,7 @@
 use Rattle.std.proofs.Common.{◌≡◌, ℕ, ◌+◌, ◌<◌, true, sym, subst, ◌∙◌, length, get_or}
 use Rattle.frame.specs.Below.{AreBelow}
 use Rattle.frame.proofs.ApartLemmas.{below-at}
-use Rattle.subst.specs.Places.{images_at}
+use Rattle.subst.specs.ExpressionPlaces.{images_at}
 use Rattle.subst.specs.Apart.{image_named, are_two_apart}
 use Rattle.subst.specs.Findings.{AreBits, IsAmong}
 use Rattle.subst.proofs.FindingsLemmas.{bits-grown, places-of, places-grown}

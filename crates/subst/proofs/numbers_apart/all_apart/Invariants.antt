@@ -1,4 +1,4 @@
-use Rattle.subst.specs.Places.{images_at}
+use Rattle.subst.specs.ExpressionPlaces.{images_at}
 use Rattle.subst.specs.Findings.{IsKnown, AreBits}
 use Rattle.subst.specs.Apart.{image_named}
 use Rattle.subst.proofs.NumbersApartLemmas.{ArePairwise, IsInImages}

@@ -2,7 +2,7 @@ use Rattle.std.proofs.Common.{◌≡◌, ◌+◌, ◌&&◌, true, false, Bool, l
 use Rattle.std.proofs.lemmas.List.{drop_all}
 use Rattle.std.proofs.lemmas.Bool.{and_left}
 use Rattle.frame.specs.Below.{AreBelow}
-use Rattle.subst.specs.Places.{images_at}
+use Rattle.subst.specs.ExpressionPlaces.{images_at}
 use Rattle.subst.specs.Apart.{image_named, is_number_apart}
 use Rattle.subst.proofs.NumbersApartLemmas.{below-drop, is_rest_apart, group-by_rest, rest-at}
 use Rattle.subst.proofs.numbers_apart.each_two_apart.Goals as goal

@@ -1,5 +1,5 @@
 use Rattle.std.proofs.Common.{◌≡◌, drop}
-use Rattle.subst.specs.Places.{images_at}
+use Rattle.subst.specs.ExpressionPlaces.{images_at}
 use Rattle.subst.specs.Findings.{IsKnown}
 use Rattle.subst.specs.Apart.{image_named}
 use Rattle.subst.proofs.NumbersApartLemmas.{is_rest_apart}

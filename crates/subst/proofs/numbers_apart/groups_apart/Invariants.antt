@@ -1,6 +1,6 @@
 use Rattle.std.proofs.Common.{◌≡◌, true, take}
 use Rattle.std.specs.List.{list_all}
-use Rattle.subst.specs.Places.{images_at}
+use Rattle.subst.specs.ExpressionPlaces.{images_at}
 use Rattle.subst.specs.Findings.{IsKnown}
 use Rattle.subst.specs.Apart.{image_named, are_numbers_apart}
 use Rattle.subst.proofs.numbers_apart.groups_apart.Given as goal

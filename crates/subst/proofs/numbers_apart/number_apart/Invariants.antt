@@ -1,5 +1,5 @@
 use Rattle.std.proofs.Common.{◌≡◌, true, take}
-use Rattle.subst.specs.Places.{images_at}
+use Rattle.subst.specs.ExpressionPlaces.{images_at}
 use Rattle.subst.specs.Findings.{IsKnown}
 use Rattle.subst.specs.Apart.{image_named, is_number_apart}
 use Rattle.subst.proofs.numbers_apart.number_apart.Given as goal

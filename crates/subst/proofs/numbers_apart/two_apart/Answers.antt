@@ -3,7 +3,7 @@ use Rattle.std.proofs.Common.{sym, ◌∙◌, ap, length, subst}
 use Rattle.frame.specs.Below.{AreBelow}
 use Rattle.frame.specs.Disjoint.{are_apart}
 use Rattle.names.specs.Codes.{decode}
-use Rattle.subst.specs.Places.{images_at}
+use Rattle.subst.specs.ExpressionPlaces.{images_at}
 use Rattle.subst.specs.Apart.{image_named}
 use Rattle.subst.proofs.NumbersApartLemmas.{differ}
 use Rattle.subst.proofs.numbers_apart.two_apart.Goals as goal

@@ -1,5 +1,5 @@
 use Rattle.std.proofs.Common.{arith, ◌+◌, ◌<◌, length}
-use Rattle.subst.proofs.ApplyLemmas.{len-take, len-within}
+use Rattle.subst.proofs.WrittenImages.{len-take, len-within}
 use Rattle.subst.proofs.substitute.applied_len.Goals as goal
 
 pub returns-then-more-room-clause-none : goal.returns-then-more-room-clause-none

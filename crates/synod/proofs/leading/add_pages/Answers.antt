@@ -1,6 +1,6 @@
 use Rattle.std.proofs.Common.{◌≡◌, ℕ, suc, ◌+◌, ◌-◌, ◌++◌, List, Option, Some, drop, ap, sym, ◌∙◌, arith}
 use Rattle.synod.specs.declared.packet.SlotReport.{SlotReport}
-use Rattle.synod.specs.Pages.{joined_pages}
+use Rattle.synod.specs.PromisePages.{joined_pages}
 use Rattle.synod.specs.Node.{pages_from}
 use Rattle.synod.specs.Stored.PagesHad.{pages_with}
 use Rattle.synod.specs.Heights.{all_of}

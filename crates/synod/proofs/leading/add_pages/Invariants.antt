@@ -1,5 +1,5 @@
 use Rattle.std.proofs.Common.{◌≡◌, ◌-◌, ◌++◌, drop}
-use Rattle.synod.specs.Pages.{joined_pages}
+use Rattle.synod.specs.PromisePages.{joined_pages}
 use Rattle.synod.specs.Node.{pages_from}
 use Rattle.synod.specs.Stored.PagesHad.{pages_with}
 use Rattle.synod.specs.Heights.{all_of}

@@ -1,5 +1,5 @@
 use Rattle.std.proofs.Common.{◌≡◌, refl, arith}
-use Rattle.synod.specs.Pages.{pages_of}
+use Rattle.synod.specs.PromisePages.{pages_of}
 use Rattle.synod.specs.Acceptor.{reports_from}
 use Rattle.synod.proofs.ReportPages.{gathers-first, gathers-gap, gathers-add, gathers-new, gathers-last, pages-within}
 use Rattle.synod.proofs.promise.report_pages.Goals as goal

@@ -1,7 +1,7 @@
 use Rattle.std.proofs.Common.{◌∙◌, subst}
 use Rattle.std.proofs.lemmas.List.{get_or_default}
-use Rattle.verify.specs.Table.{IsEntry}
-use Rattle.verify.proofs.KnownLemmas.{nothing-on, assertion-on, give-on}
+use Rattle.verify.specs.LabelTable.{IsEntry}
+use Rattle.verify.proofs.KnownResultLemmas.{nothing-on, assertion-on, give-on}
 use Rattle.verify.proofs.citation.cite.Goals as goal
 
 pub returns-in-Hypothesis-clause-goes : goal.returns-in-Hypothesis-clause-goes

@@ -8,16 +8,16 @@ use Rattle.frame.specs.Below.{AllBelow}
 use Rattle.frame.specs.Disjoint.{are_groups_apart}
 use Rattle.frame.specs.Substitution.{CodeImages, images_of_names}
 use Rattle.subst.specs.Images.{AreOver}
-use Rattle.entries.specs.declared.citation.Hypothesis.{Hypothesis}
+use Rattle.entries.specs.declared.cited_parts.Hypothesis.{Hypothesis}
 use Rattle.verify.specs.Fits.{Reads, DoFit}
 use Rattle.verify.specs.Machine.{Results}
-use Rattle.verify.specs.Places.{below, top, Adds}
-use Rattle.verify.proofs.AskedLemmas.{asked-lengths, asked-different, asked-standing}
+use Rattle.verify.specs.ResultPlaces.{below, top, Adds}
+use Rattle.verify.proofs.MandatoryAsked.{asked-lengths, asked-different, asked-standing}
 use Rattle.verify.proofs.CitingLemmas.{read-over}
 use Rattle.verify.proofs.SavedLists.{saved-same}
 use Rattle.verify.proofs.Named.{all-drop, length-top}
 use Rattle.verify.proofs.StepLemmas.{assertion-few, assertion-untyped, assertion-unfit, assertion-clash, assertion-result}
-use Rattle.verify.proofs.TableLemmas.{has_with}
+use Rattle.verify.proofs.LabelTableLemmas.{has_with}
 use Rattle.verify.proofs.citation.cite_parts.Goals as goal
 
 -- which of the two it was

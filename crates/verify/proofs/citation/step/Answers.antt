@@ -1,7 +1,7 @@
 use Rattle.std.proofs.Common.{◌≡◌, ℕ, ◌-◌, [], get_or, arith, refl}
 use Rattle.std.specs.Prelude.{suc}
-use Rattle.verify.proofs.KnownLemmas.{mark-on, has-on, recall-on, cite-on}
-use Rattle.verify.proofs.TableLemmas.{entry_at, suc_back}
+use Rattle.verify.proofs.KnownResultLemmas.{mark-on, has-on, recall-on, cite-on}
+use Rattle.verify.proofs.LabelTableLemmas.{entry_at, suc_back}
 use Rattle.verify.proofs.citation.step.Goals as goal
 
 pub cite-requires-clause-entry : goal.cite-requires-clause-entry

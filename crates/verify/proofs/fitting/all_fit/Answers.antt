@@ -4,9 +4,9 @@ use Rattle.std.proofs.lemmas.Option.{slice_get-get_or, get_or_from_slice_get, sl
 use Rattle.names.specs.Codes.{decode}
 use Rattle.frame.specs.Below.{AreBelow}
 use Rattle.frame.specs.Substitution.{images_of_names}
-use Rattle.subst.specs.Places.{seen_at, images_at}
-use Rattle.subst.proofs.PlaceLemmas.{within-at, seen-get}
-use Rattle.entries.specs.declared.citation.Hypothesis.{Hypothesis}
+use Rattle.subst.specs.ExpressionPlaces.{seen_at, images_at}
+use Rattle.subst.proofs.ExpressionPlaceLemmas.{within-at, seen-get}
+use Rattle.entries.specs.declared.cited_parts.Hypothesis.{Hypothesis}
 use Rattle.verify.specs.Fits.{FitsOne}
 use Rattle.verify.proofs.CitingLemmas.{get-decode}
 use Rattle.verify.proofs.FittingLemmas.{standing-at}

@@ -1,8 +1,8 @@
 use Rattle.std.proofs.Common.{◌≡◌, ℕ, ◌<◌, [], map, get_or, slice_get, Some}
 use Rattle.names.specs.Codes.{decode}
 use Rattle.frame.specs.Substitution.{images_of_names}
-use Rattle.subst.specs.Places.{seen_at, images_at}
-use Rattle.entries.specs.declared.citation.Hypothesis.{Hypothesis}
+use Rattle.subst.specs.ExpressionPlaces.{seen_at, images_at}
+use Rattle.entries.specs.declared.cited_parts.Hypothesis.{Hypothesis}
 use Rattle.verify.specs.Fits.{FitsOne}
 use Rattle.verify.proofs.fitting.all_fit.Given as goal
 

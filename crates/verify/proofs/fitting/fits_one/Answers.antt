@@ -2,7 +2,7 @@ use Rattle.std.specs.Prelude.{◌≡◌, ◌↔◌, IsTrue}
 use Rattle.std.proofs.Common.{sym, subst}
 use Rattle.names.specs.Codes.{decode}
 use Rattle.frame.specs.Substitution.{code_apply, images_of_names}
-use Rattle.subst.specs.Places.{seen_at, images_at}
+use Rattle.subst.specs.ExpressionPlaces.{seen_at, images_at}
 use Rattle.verify.specs.Fits.{IsStanding, FitsOne}
 use Rattle.verify.proofs.FittingLemmas.{essential-iff}
 use Rattle.verify.proofs.MandatoryEntries.{place_of}

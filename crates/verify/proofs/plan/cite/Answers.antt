@@ -1,7 +1,7 @@
 use Rattle.std.proofs.Common.{length, arith, ap, subst}
 use Rattle.std.proofs.lemmas.List.{length-map}
 use Rattle.verify.specs.Plan.{pick, built, trees_of}
-use Rattle.verify.specs.Table.{IsEntry}
+use Rattle.verify.specs.LabelTable.{IsEntry}
 use Rattle.verify.proofs.GrowthLemmas.{too-few, assertion-grows, hypothesis-grows}
 use Rattle.verify.proofs.plan.cite.Goals as goal
 

@@ -1,8 +1,8 @@
 use Rattle.std.proofs.Common.{◌-◌, [], get_or, arith}
 use Rattle.verify.proofs.GrowthLemmas.{mark-grows, recall-grows, cite-grows}
-use Rattle.verify.proofs.TableLemmas.{entry_at}
+use Rattle.verify.proofs.LabelTableLemmas.{entry_at}
 use Rattle.verify.proofs.plan.grow.Goals as goal
-use Rattle.verify.proofs.TableLemmas.{suc_back}
+use Rattle.verify.proofs.LabelTableLemmas.{suc_back}
 
 pub cite-requires-clause-entry : goal.cite-requires-clause-entry
 cite-requires-clause-entry c = (

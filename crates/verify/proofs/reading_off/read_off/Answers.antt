@@ -1,10 +1,10 @@
 use Rattle.std.proofs.Common.{◌<◌, length, arith, subst, get_or}
 use Rattle.std.proofs.lemmas.Option.{slice_get-get_or}
-use Rattle.subst.proofs.PlaceLemmas.{within-at}
-use Rattle.subst.specs.declared.place.ExpressionPlace.{ExpressionPlace}
-use Rattle.entries.specs.declared.citation.Hypothesis.TheVariants.{Float}
+use Rattle.subst.proofs.ExpressionPlaceLemmas.{within-at}
+use Rattle.subst.specs.declared.expression_place.ExpressionPlace.{ExpressionPlace}
+use Rattle.entries.specs.declared.cited_parts.Hypothesis.TheVariants.{Float}
 use Rattle.verify.specs.ReadPlaces.{ReadsOne}
-use Rattle.verify.proofs.ReadingLemmas.{read-next, read-inside}
+use Rattle.verify.proofs.ReadImageLemmas.{read-next, read-inside}
 use Rattle.verify.proofs.reading_off.read_off.Goals as goal
 
 pub loop-k-preserved : goal.loop-k-preserved

@@ -1,5 +1,5 @@
 use Rattle.std.proofs.Common.{ℕ}
-use Rattle.subst.specs.Places.{AreWithin, AreInside}
+use Rattle.subst.specs.ExpressionPlaces.{AreWithin, AreInside}
 use Rattle.verify.specs.ReadPlaces.{ReadTo}
 use Rattle.verify.proofs.reading_off.read_off.Given as goal
 

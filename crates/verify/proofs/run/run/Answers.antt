@@ -1,9 +1,9 @@
 use Rattle.std.proofs.Common.{◌≡◌, ◌+◌, Bool, true, false, Result, Ok, IfOk, get_or, length, map, take, drop, arith, sym, subst, refl}
-use Rattle.proof_code.specs.Numbers.{item_of}
+use Rattle.proof_code.specs.ItemNumbers.{item_of}
 use Rattle.verify.specs.Goes.{behind, GoesOn}
 use Rattle.verify.specs.Right.{IsRight}
 use Rattle.subst.proofs.FindingsLemmas.{known-none}
-use Rattle.verify.proofs.KnownLemmas.{start-known, start-behind}
+use Rattle.verify.proofs.KnownResultLemmas.{start-known, start-behind}
 use Rattle.verify.proofs.StepLemmas.{Reached, reached-start, reached-step, wrong-step, right-end, wrong-end, items-more, items-rest, all-taken}
 use Rattle.verify.proofs.MandatoryEntries.{place_of}
 use Rattle.verify.proofs.run.run.Goals as goal

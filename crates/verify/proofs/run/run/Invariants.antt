@@ -1,10 +1,10 @@
 use Rattle.std.proofs.Common.{List, length, map, take}
 use Rattle.mm_lex.specs.Alphabet.{Name}
-use Rattle.frame.specs.Reading.{AreLegal}
-use Rattle.proof_code.specs.Numbers.{item_of}
+use Rattle.frame.specs.AtPosition.{AreLegal}
+use Rattle.proof_code.specs.ItemNumbers.{item_of}
 use Rattle.subst.specs.Findings.{IsKnown}
 use Rattle.verify.specs.Goes.{behind, AreKnown}
-use Rattle.verify.specs.Table.{AreEntries}
+use Rattle.verify.specs.LabelTable.{AreEntries}
 use Rattle.verify.proofs.StepLemmas.{Reached}
 use Rattle.verify.proofs.run.run.Given as goal
 

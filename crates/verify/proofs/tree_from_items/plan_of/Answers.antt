@@ -1,13 +1,13 @@
 use Rattle.std.proofs.Common.{◌≡◌, ℕ, ◌+◌, [], Bool, true, false, List, Result, Ok, IfOk, get_or, map, take, drop, sym, ◌∙◌, subst}
 use Rattle.mm_lex.specs.Alphabet.{Name}
 use Rattle.mm_read.specs.Statements.{Database}
-use Rattle.frame.specs.Reading.{HasLabelsOnce}
-use Rattle.proof_code.specs.Numbers.{item_of}
+use Rattle.frame.specs.AtPosition.{HasLabelsOnce}
+use Rattle.proof_code.specs.ItemNumbers.{item_of}
 use Rattle.verify.specs.Growth.{Trees, trees, GrowsBy, Grew}
 use Rattle.verify.specs.Plan.{trees_of}
 use Rattle.verify.specs.Right.{IsRight}
-use Rattle.verify.specs.Table.{AreEntries}
-use Rattle.verify.specs.declared.table.Entry.{Entry}
+use Rattle.verify.specs.LabelTable.{AreEntries}
+use Rattle.verify.specs.declared.label_table.Entry.{Entry}
 use Rattle.verify.proofs.StepLemmas.{items-more, items-rest}
 use Rattle.verify.proofs.GrowthLemmas.{never-stuck, grows-on}
 use Rattle.verify.proofs.tree_from_items.plan_of.Goals as goal

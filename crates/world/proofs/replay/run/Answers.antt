@@ -10,7 +10,7 @@ use Rattle.world.specs.declared.carried.Carried.{Carried}
 use Rattle.world.specs.Headline.{Headline}
 use Rattle.world.specs.Replicas.{Replicas}
 use Rattle.net.proofs.HistoryLemmas.{taken_front, stops_there}
-use Rattle.world.proofs.EntriesLemmas.{all_carried-append}
+use Rattle.world.proofs.EntryLogs.{all_carried-append}
 use Rattle.world.proofs.HeadlineLemmas.{headline_holds}
 use Rattle.world.proofs.ReplicasLemmas.{run_goes_on, step_taken}
 use Rattle.world.proofs.replay.run.Goals as goal

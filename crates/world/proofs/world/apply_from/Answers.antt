@@ -4,7 +4,7 @@ use Rattle.net.specs.World.{log_after}
 use Rattle.net.specs.Taken.{world_of}
 use Rattle.world.specs.Carried.{carried_size}
 use Rattle.world.specs.Replicas.{AppliesNext}
-use Rattle.world.proofs.ApplyLemmas.{entry_next}
+use Rattle.world.proofs.AppliedNext.{entry_next}
 use Rattle.world.proofs.world.apply_from.Goals as goal
 
 pub returns : goal.returns

@@ -1,7 +1,7 @@
 use Rattle.std.proofs.Common.{◌≡◌, Some, sym, subst}
 use Rattle.slots.specs.FiniteMap.{trimmed}
 use Rattle.synod.specs.Record.{Kept}
-use Rattle.cluster.proofs.EntriesLemmas.{stays_whole}
+use Rattle.cluster.proofs.LongerRecordLemmas.{stays_whole}
 use Rattle.cluster.proofs.memory_keep.MemoryKeepKeep.store.Goals as goal
 
 pub invariant_of-self-2 : goal.invariant_of-self-2

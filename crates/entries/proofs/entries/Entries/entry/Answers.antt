@@ -2,7 +2,7 @@ use Rattle.std.proofs.Common.{◌≡◌, ◌+◌, ◌<◌, length, slice_get, So
 use Rattle.std.specs.Prelude.{suc, drop, slice_range}
 use Rattle.entries.specs.Stored.Records.{entry_of, own_row, place_of, end_of, from_by, symbols_by}
 use Rattle.entries.specs.declared.head.Head.{Head}
-use Rattle.entries.proofs.RecordLemmas.{from-of, head-of}
+use Rattle.entries.proofs.StatementRecordLemmas.{from-of, head-of}
 use Rattle.entries.proofs.ReadLemmas.{index-in, is-entry, has-row, own-place, symbols-there}
 use Rattle.entries.proofs.entries.Entries.entry.Goals as goal
 

@@ -2,7 +2,7 @@ use Rattle.std.proofs.Common.{ap, arith}
 use Rattle.std.specs.Prelude.{length}
 use Rattle.std.proofs.lemmas.List.{length-map}
 use Rattle.entries.specs.Stored.Records.{entry_of, places_of}
-use Rattle.entries.proofs.RecordLemmas.{places-length}
+use Rattle.entries.proofs.StatementRecordLemmas.{places-length}
 use Rattle.entries.proofs.entries.Entries.len.Goals as goal
 
 pub returns-clause-len : goal.returns-clause-len

@@ -2,10 +2,10 @@ use Rattle.std.proofs.Common.{◌∙◌, ap, sym, arith}
 use Rattle.std.specs.Prelude.{◌++◌, ◌∷◌, []}
 use Rattle.entries.specs.Entries.{assertion_of, made}
 use Rattle.entries.specs.Stored.Records.{places_of}
-use Rattle.entries.proofs.PlaceLemmas.{packed-push, items-push}
-use Rattle.entries.proofs.RecordLemmas.{places-length}
-use Rattle.entries.proofs.AddedLemmas.{on-ok, on-err, ok-weaker}
-use Rattle.entries.proofs.CutLemmas.{packed-back}
+use Rattle.entries.proofs.BufferPlaceLemmas.{packed-push, items-push}
+use Rattle.entries.proofs.StatementRecordLemmas.{places-length}
+use Rattle.entries.proofs.AddedStatement.{on-ok, on-err, ok-weaker}
+use Rattle.entries.proofs.CutBuffers.{packed-back}
 use Rattle.entries.proofs.entries.Entries.push_parts.Goals as goal
 
 pub invariant_of-self : goal.invariant_of-self

@@ -3,9 +3,9 @@ use Rattle.std.specs.Prelude.{slice_get, map, length}
 use Rattle.std.proofs.lemmas.List.{length-map}
 use Rattle.std.proofs.Math.Seq.{take_all}
 use Rattle.entries.specs.Stored.Records.{ArePacked, entry_of, places_of}
-use Rattle.entries.proofs.RecordLemmas.{places-length}
-use Rattle.entries.proofs.PlaceLemmas.{IsCut}
-use Rattle.entries.proofs.CutLemmas.{packed-shorter, items-shorter}
+use Rattle.entries.proofs.StatementRecordLemmas.{places-length}
+use Rattle.entries.proofs.BufferPlaceLemmas.{IsCut}
+use Rattle.entries.proofs.CutBuffers.{packed-shorter, items-shorter}
 use Rattle.entries.proofs.entries.Entries.truncate.Goals as goal
 
 pub invariant_of-self : goal.invariant_of-self

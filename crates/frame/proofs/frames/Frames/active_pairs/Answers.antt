@@ -1,8 +1,8 @@
 use Rattle.std.proofs.Common.{ap, sym, subst, ◌≤◌, length}
 use Rattle.frame.specs.Parts.{Numbered}
-use Rattle.frame.specs.Reading.{AreLegal}
+use Rattle.frame.specs.AtPosition.{AreLegal}
 use Rattle.frame.proofs.CitedLemmas.{all-legal}
-use Rattle.frame.proofs.SymbolsLemmas.{stored-distinct}
+use Rattle.frame.proofs.DeclaredSymbolLemmas.{stored-distinct}
 use Rattle.frame.proofs.frames.Frames.active_pairs.Goals as goal
 
 pub returns-clause-legal : goal.returns-clause-legal

@@ -3,10 +3,10 @@ use Rattle.std.proofs.lemmas.Option.{IfSome_then}
 use Rattle.scope.specs.Active.{bare}
 use Rattle.scope.specs.Symbols.{AreOfLast}
 use Rattle.frame.specs.Stored.Counts.{IsBehind}
-use Rattle.frame.specs.Stored.Entries.{statements_of}
-use Rattle.frame.proofs.SymbolsLemmas.{noted-numbers}
+use Rattle.frame.specs.Stored.EntryMeanings.{statements_of}
+use Rattle.frame.proofs.DeclaredSymbolLemmas.{noted-numbers}
 use Rattle.frame.proofs.StoredTaken.{back-stored}
-use Rattle.entries.proofs.AddedLemmas.{on-err}
+use Rattle.entries.proofs.AddedStatement.{on-err}
 use Rattle.frame.proofs.frames.Frames.keep_noted.Goals as goal
 
 pub invariant_of-self : goal.invariant_of-self

@@ -1,6 +1,6 @@
 use Rattle.std.proofs.Common.{subst}
 use Rattle.frame.specs.Parts.{Numbered}
-use Rattle.frame.specs.Reading.{AreLegal}
+use Rattle.frame.specs.AtPosition.{AreLegal}
 use Rattle.frame.proofs.CitedLemmas.{all-legal}
 use Rattle.frame.proofs.frames.Frames.mandatory.Goals as goal
 

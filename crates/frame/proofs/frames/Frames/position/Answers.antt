@@ -7,8 +7,8 @@ use Rattle.mm_read.specs.declared.stmt.Stmt.{Stmt}
 use Rattle.scope.specs.Active.{stmt_at, was_label}
 use Rattle.names.specs.Codes.{code_of, name_at}
 use Rattle.frame.specs.Citations.{Carries}
-use Rattle.frame.specs.Reading.{IsPosition}
-use Rattle.frame.specs.Stored.Entries.{statements_of, labels_of, positions_from}
+use Rattle.frame.specs.AtPosition.{IsPosition}
+use Rattle.frame.specs.Stored.EntryMeanings.{statements_of, labels_of, positions_from}
 use Rattle.names.proofs.CodesLemmas.{code-name}
 use Rattle.names.proofs.CodesLemmas.{unknown-number}
 use Rattle.frame.proofs.StoredReading.{label-place, label-none}

@@ -7,7 +7,7 @@ use Rattle.scope.specs.Active.{active, before, separated}
 use Rattle.names.specs.Codes.{name_at}
 use Rattle.frame.specs.FrameOf.{is_pair}
 use Rattle.frame.specs.Parts.{Numbered}
-use Rattle.frame.specs.Stored.Entries.{statements_of}
+use Rattle.frame.specs.Stored.EntryMeanings.{statements_of}
 use Rattle.names.proofs.CodesLemmas.{list_any-map}
 use Rattle.frame.proofs.KindWalk.{same-number}
 use Rattle.frame.proofs.pairs.Pairs.has.Goals as goal

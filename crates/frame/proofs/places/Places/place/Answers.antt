@@ -1,7 +1,7 @@
 use Rattle.std.proofs.Common.{sym, ap, ◌∙◌, arith}
 use Rattle.std.specs.Prelude.{slice_get}
-use Rattle.frame.specs.Stored.Places.{place_of}
-use Rattle.frame.proofs.MarkLemmas.{place-marked, place-elsewhere, place-other}
+use Rattle.frame.specs.Stored.NumberPlaces.{place_of}
+use Rattle.frame.proofs.NumberMarkLemmas.{place-marked, place-elsewhere, place-other}
 use Rattle.frame.proofs.places.Places.place.Goals as goal
 use Rattle.frame.proofs.places.Places.place.Goals.{else-hint-len-via-then-hint-len+else-stands, else-hint-len-via-else-hint-len}
 

@@ -1,8 +1,8 @@
 use Rattle.std.proofs.Common.{◌≡◌, sym, ap, subst, ◌∙◌, arith}
 use Rattle.std.specs.Prelude.{◌++◌, ◌∷◌, [], Some, None, length}
 use Rattle.std.proofs.lemmas.Option.{same_Some}
-use Rattle.frame.specs.Stored.Places.{place_of, AreMarked}
-use Rattle.frame.proofs.MarkLemmas.{marked-same, marked-new, none-is, some-is}
+use Rattle.frame.specs.Stored.NumberPlaces.{place_of, AreMarked}
+use Rattle.frame.proofs.NumberMarkLemmas.{marked-same, marked-new, none-is, some-is}
 use Rattle.frame.proofs.places.Places.push.Goals as goal
 use Rattle.frame.proofs.places.Places.push.Goals.{in-Some+then-is_none+in_ok-at+in_ok-note, in-Some+else-is_none, in_default}
 

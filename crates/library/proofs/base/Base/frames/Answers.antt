@@ -1,5 +1,5 @@
 use Rattle.std.proofs.Common.{sym, subst}
-use Rattle.frame.specs.Reading.{HasLabelsOnce}
+use Rattle.frame.specs.AtPosition.{HasLabelsOnce}
 use Rattle.library.proofs.AskedLemmas.{labels-once}
 use Rattle.library.proofs.base.Base.frames.Goals as goal
 

@@ -1,7 +1,7 @@
 use Rattle.std.proofs.Common.{◌≡◌, ◌↔◌, ◌++◌, ◌∙◌, true, false, take, subst}
-use Rattle.proof_code.specs.Numbers.{items_of}
+use Rattle.proof_code.specs.ItemNumbers.{items_of}
 use Rattle.verify.specs.Proves.{mandatory_labels}
-use Rattle.library.specs.Marks.{ItemsMeet}
+use Rattle.library.specs.UseMarks.{ItemsMeet}
 use Rattle.library.proofs.MeetingLemmas.{labels-long, mandatory-wanted, tells-heading, tells-nothing}
 use Rattle.library.proofs.ProvingLemmas.{if-map}
 use Rattle.library.proofs.users.Search.compressed_meets.Goals as goal

@@ -1,5 +1,5 @@
 use Rattle.std.proofs.Common.{◌∙◌, sym}
-use Rattle.library.proofs.ItemsLemmas.{has-assertion}
+use Rattle.library.proofs.WrittenItemsLemmas.{has-assertion}
 use Rattle.library.proofs.MeetingLemmas.{told-meets, listed-meets}
 use Rattle.library.proofs.ProvingLemmas.{if-map}
 use Rattle.library.proofs.users.Search.meets.Goals as goal

@@ -4,7 +4,7 @@ use Rattle.names.specs.Codes.{name_at}
 use Rattle.names.specs.Stored.Keys.{AreBytes, key_of}
 use Rattle.names.specs.Stored.Table.{AreKept}
 use Rattle.names.proofs.DistinctLemmas.{take-name}
-use Rattle.names.proofs.KeptLemmas.{kept-push}
+use Rattle.names.proofs.KeptKeyLemmas.{kept-push}
 use Rattle.names.proofs.kept.Kept.of.Goals as goal
 
 pub loop-number-preserved : goal.loop-number-preserved

@@ -5,7 +5,7 @@ use Rattle.names.specs.declared.table.TheConstants.{NO_NAME}
 use Rattle.names.specs.Codes.{name_at}
 use Rattle.names.specs.Stored.Overflow.{number_of}
 use Rattle.names.specs.Stored.Table.{IsFree}
-use Rattle.names.proofs.KeptLemmas.{none-is}
+use Rattle.names.proofs.KeptKeyLemmas.{none-is}
 use Rattle.names.proofs.PutLemmas.{Holds, names-same, names-put, names-set_apart}
 use Rattle.names.proofs.names.NameTable.add.Goals as goal
 

@@ -1,5 +1,5 @@
 use Rattle.std.proofs.Common.{arith}
-use Rattle.proof_code.proofs.PlacesLemmas.{first_over}
+use Rattle.proof_code.proofs.LetterStepLemmas.{first_over}
 use Rattle.proof_code.proofs.letters.Place.read.Goals as goal
 
 pub returns-then-self-clause-reads : goal.returns-then-self-clause-reads

@@ -2,7 +2,7 @@ use Rattle.std.proofs.Common.{◌≡◌, ◌+◌, ◌∷◌, refl, sym}
 use Rattle.proof_code.specs.Writes.{begin}
 use Rattle.proof_code.proofs.ListingLemmas.{listing-none, listing-some}
 use Rattle.proof_code.proofs.WritesLemmas.{begins}
-use Rattle.proof_code.proofs.ReadingLemmas.{without_header, marked_first, unnumbered, heading}
+use Rattle.proof_code.proofs.ReadProofLemmas.{without_header, marked_first, unnumbered, heading}
 use Rattle.proof_code.proofs.reader.Reader.read.Goals as goal
 
 pub returns-in_default : goal.returns-in_default

@@ -1,6 +1,6 @@
 use Rattle.std.proofs.Common.{◌∙◌, sym, subst, refl, take, is_ok, ◌<◌, ◌-◌, length, arith}
 use Rattle.frame.specs.Below.{AreBelow}
-use Rattle.reasons.proofs.KeptLemmas.{symbols-if, symbols-at, symbols-same, not_empty}
+use Rattle.reasons.proofs.VectorLemmas.{symbols-if, symbols-at, symbols-same, not_empty}
 use Rattle.reasons.proofs.StateLemmas.{last_split, added}
 use Rattle.reasons.proofs.state.State.mark.Goals as goal
 

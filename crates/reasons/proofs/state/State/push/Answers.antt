@@ -1,5 +1,5 @@
 use Rattle.std.proofs.Common.{is_ok}
-use Rattle.reasons.proofs.KeptLemmas.{symbols-if}
+use Rattle.reasons.proofs.VectorLemmas.{symbols-if}
 use Rattle.reasons.proofs.state.State.push.Goals as goal
 
 pub returns-clause-symbols : goal.returns-clause-symbols

@@ -2,7 +2,7 @@ use Rattle.std.proofs.Common.{◌∙◌, sym, ap, subst, refl, ◌<◌, length, 
 use Rattle.std.specs.Global.{Vec}
 use Rattle.std.proofs.lemmas.Option.{slice_get_read}
 use Rattle.frame.specs.Below.{AreBelow}
-use Rattle.reasons.proofs.KeptLemmas.{symbols-at, symbols-same}
+use Rattle.reasons.proofs.VectorLemmas.{symbols-at, symbols-same}
 use Rattle.reasons.proofs.StateLemmas.{recalled_told}
 use Rattle.reasons.proofs.state.State.recall.Goals as goal
 

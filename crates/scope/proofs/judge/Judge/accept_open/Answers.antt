@@ -1,6 +1,6 @@
 use Rattle.std.proofs.Common.{◌∙◌, ap, sym, ◌++◌, ◌∷◌, [], refl}
 use Rattle.scope.specs.Active.{bare, active}
-use Rattle.scope.specs.Stored.Kept.{sizes_of}
+use Rattle.scope.specs.Stored.Stacks.{sizes_of}
 use Rattle.scope.proofs.StackFollows.{kept-open}
 use Rattle.scope.proofs.AcceptLemmas.{same-kept}
 use Rattle.std.proofs.lemmas.List.{append-nil}

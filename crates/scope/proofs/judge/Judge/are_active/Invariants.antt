@@ -2,7 +2,7 @@ use Rattle.std.proofs.Common.{◌≡◌}
 use Rattle.std.specs.List.{list_all}
 use Rattle.scope.specs.Active.{is_variable}
 use Rattle.scope.specs.Symbols.{symbols_of}
-use Rattle.scope.proofs.SymbolsLemmas.{AreDone}
+use Rattle.scope.proofs.SymbolNameLemmas.{AreDone}
 use Rattle.scope.proofs.judge.Judge.are_active.Given as goal
 
 abbrev pub invariant-loop-symbol : goal.invariant-loop-symbol

@@ -4,7 +4,7 @@ use Rattle.std.specs.List.{list_all}
 use Rattle.scope.specs.Active.{is_constant, is_variable}
 use Rattle.scope.specs.Legal.{are_typed, starts_with_constant}
 use Rattle.scope.specs.Symbols.{symbols_of}
-use Rattle.scope.proofs.SymbolsLemmas.{AreDone}
+use Rattle.scope.proofs.SymbolNameLemmas.{AreDone}
 use Rattle.scope.proofs.judge.Judge.are_symbols.Given as goal
 
 abbrev pub invariant-loop-symbol : goal.invariant-loop-symbol

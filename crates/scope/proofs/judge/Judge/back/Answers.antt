@@ -1,5 +1,5 @@
 use Rattle.std.proofs.Common.{sym}
-use Rattle.scope.proofs.MarkLemmas.{kept-back}
+use Rattle.scope.proofs.GoingBackLemmas.{kept-back}
 use Rattle.scope.proofs.AcceptLemmas.{same-kept}
 use Rattle.scope.proofs.StandingLemmas.{same-standing, standing-back}
 use Rattle.scope.proofs.judge.Judge.back.Goals as goal

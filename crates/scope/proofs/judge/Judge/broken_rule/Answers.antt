@@ -3,7 +3,7 @@ use Rattle.mm_read.specs.declared.stmt.Stmt.{Stmt}
 use Rattle.mm_read.specs.declared.stmt.Stmt.TheVariants as shape
 use Rattle.scope.specs.Active.{bare}
 use Rattle.scope.specs.Stored.Noted.{IsOfLast}
-use Rattle.scope.proofs.SymbolsLemmas.{of-last}
+use Rattle.scope.proofs.SymbolNameLemmas.{of-last}
 use Rattle.scope.proofs.judge.Judge.broken_rule.Goals as goal
 
 pub returns-in-Disj-clause-noted : goal.returns-in-Disj-clause-noted

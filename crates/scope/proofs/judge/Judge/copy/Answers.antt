@@ -2,7 +2,7 @@ use Rattle.std.proofs.Common.{◌≡◌, ◌∙◌, ap, sym, subst}
 use Rattle.std.specs.List.{flat_map}
 use Rattle.mm_read.specs.Statements.{Database}
 use Rattle.scope.specs.Active.{active}
-use Rattle.scope.specs.Stored.Kept.{IsKept}
+use Rattle.scope.specs.Stored.Stacks.{IsKept}
 use Rattle.scope.specs.Standing.{stands_at, IsStanding}
 use Rattle.scope.proofs.StandingLemmas.{same-standing, stands-again}
 use Rattle.scope.proofs.AcceptLemmas.{same-kept}

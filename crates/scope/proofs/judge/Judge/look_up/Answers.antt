@@ -10,7 +10,7 @@ use Rattle.scope.specs.Kinds.{Declared, declared_names, declared_symbols, symbol
 use Rattle.scope.specs.Stored.Noted.{IsNumberOf}
 use Rattle.scope.specs.Symbols.{symbols_of}
 use Rattle.names.proofs.CodesLemmas.{code-name, code-first}
-use Rattle.scope.proofs.SymbolsLemmas.{symbol-at}
+use Rattle.scope.proofs.SymbolNameLemmas.{symbol-at}
 use Rattle.scope.specs.Sorts.{IsSort, sort_by}
 use Rattle.scope.specs.declared.numbering.Kind.{Kind}
 use Rattle.scope.specs.declared.legal.Sort.{Sort}

@@ -1,10 +1,10 @@
 use Rattle.std.proofs.Common.{◌≡◌, ◌∙◌, ap, sym, subst, true}
 use Rattle.scope.specs.Active.{is_closed, active}
-use Rattle.scope.specs.Stored.Kept.{IsKept, sizes_of}
+use Rattle.scope.specs.Stored.Stacks.{IsKept, sizes_of}
 use Rattle.mm_read.specs.Statements.{Database}
 use Rattle.scope.specs.Standing.{IsStanding}
 use Rattle.scope.proofs.StandingLemmas.{standing-mark}
-use Rattle.scope.proofs.MarkLemmas.{kept-mark}
+use Rattle.scope.proofs.GoingBackLemmas.{kept-mark}
 use Rattle.scope.proofs.judge.Judge.mark.Goals as goal
 
 pub invariant_of-self : goal.invariant_of-self

@@ -3,9 +3,9 @@ use Rattle.std.specs.Prelude.{◌++◌, ◌∷◌, []}
 use Rattle.std.proofs.lemmas.List.{map-append}
 use Rattle.scope.specs.Kinds.{kind_in, with_their}
 use Rattle.scope.proofs.KindsLemmas.{none-kind, their-push}
-use Rattle.scope.specs.Stored.Entries.{kinds_of, AreCounted, count_behind}
+use Rattle.scope.specs.Stored.KindCounts.{kinds_of, AreCounted, count_behind}
 use Rattle.scope.specs.declared.numbering.Entry.{Entry}
-use Rattle.scope.proofs.EntriesLemmas.{kinds-length, counted-push}
+use Rattle.scope.proofs.KindCountLemmas.{kinds-length, counted-push}
 use Rattle.scope.proofs.numbering.Numbering.declare.Goals as goal
 use Rattle.scope.proofs.numbering.Numbering.declare.Goals.{Else-is_err}
 

@@ -8,8 +8,8 @@ use Rattle.scope.specs.declared.numbering.Kind.{Kind}
 use Rattle.names.proofs.CodesLemmas.{code-name, code-first}
 use Rattle.names.proofs.CodesLemmas.{unknown-number}
 use Rattle.scope.proofs.KindsLemmas.{names-seen, kind-at, kind-none}
-use Rattle.scope.specs.Stored.Entries.{kinds_of}
-use Rattle.scope.proofs.EntriesLemmas.{kinds-length}
+use Rattle.scope.specs.Stored.KindCounts.{kinds_of}
+use Rattle.scope.proofs.KindCountLemmas.{kinds-length}
 use Rattle.scope.proofs.numbering.Numbering.find.Goals as goal
 
 declared : (names : List Name) (kinds : List Kind) (seen : Declared) → length kinds ≡ length names → with_their names kinds ≡ seen → declared_names seen ≡ names

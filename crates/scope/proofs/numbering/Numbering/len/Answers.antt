@@ -1,7 +1,7 @@
 use Rattle.std.proofs.Common.{◌∙◌, ap, sym, length}
 use Rattle.scope.proofs.KindsLemmas.{length-seen}
-use Rattle.scope.specs.Stored.Entries.{kinds_of}
-use Rattle.scope.proofs.EntriesLemmas.{kinds-length}
+use Rattle.scope.specs.Stored.KindCounts.{kinds_of}
+use Rattle.scope.proofs.KindCountLemmas.{kinds-length}
 use Rattle.scope.proofs.numbering.Numbering.len.Goals as goal
 
 pub returns : goal.returns

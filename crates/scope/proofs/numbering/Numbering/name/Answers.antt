@@ -2,8 +2,8 @@ use Rattle.std.proofs.Common.{◌∙◌, ap, sym, arith, length}
 use Rattle.names.specs.Codes.{name_at}
 use Rattle.scope.specs.Kinds.{declared_names}
 use Rattle.scope.proofs.KindsLemmas.{length-seen, names-seen}
-use Rattle.scope.specs.Stored.Entries.{kinds_of}
-use Rattle.scope.proofs.EntriesLemmas.{kinds-length}
+use Rattle.scope.specs.Stored.KindCounts.{kinds_of}
+use Rattle.scope.proofs.KindCountLemmas.{kinds-length}
 use Rattle.scope.proofs.numbering.Numbering.name.Goals as goal
 
 pub name-requires : goal.name-requires

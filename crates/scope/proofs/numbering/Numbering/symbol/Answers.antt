@@ -1,9 +1,9 @@
 use Rattle.std.proofs.Common.{◌∙◌, ap, sym, arith, length}
 use Rattle.std.specs.Prelude.{slice_get}
-use Rattle.scope.specs.Stored.Entries.{kinds_of}
+use Rattle.scope.specs.Stored.KindCounts.{kinds_of}
 use Rattle.scope.specs.Kinds.{symbols_before}
 use Rattle.scope.proofs.KindsLemmas.{length-seen}
-use Rattle.scope.proofs.EntriesLemmas.{kinds-length, count-at}
+use Rattle.scope.proofs.KindCountLemmas.{kinds-length, count-at}
 use Rattle.scope.proofs.numbering.Numbering.symbol.Goals as goal
 
 pub entry_at-requires : goal.entry_at-requires

@@ -2,8 +2,8 @@ use Rattle.std.proofs.Common.{◌∙◌, ap, sym, subst, length, take}
 use Rattle.std.proofs.lemmas.List.{take-map}
 use Rattle.scope.specs.Kinds.{with_their}
 use Rattle.scope.proofs.KindsLemmas.{their-take}
-use Rattle.scope.specs.Stored.Entries.{kinds_of, AreCounted}
-use Rattle.scope.proofs.EntriesLemmas.{kinds-length, counted-take, take-same}
+use Rattle.scope.specs.Stored.KindCounts.{kinds_of, AreCounted}
+use Rattle.scope.proofs.KindCountLemmas.{kinds-length, counted-take, take-same}
 use Rattle.scope.proofs.numbering.Numbering.truncate.Goals as goal
 
 pub returns : goal.returns

@@ -1,8 +1,8 @@
 use Rattle.std.specs.Prelude.{◌≡◌, ℕ, ◌<◌, ◌≤◌, ◌++◌, List, Option, Some, None, IfSome, IfNone, length, take}
 use Rattle.std.proofs.Common.{arith, ◌∙◌, ap, subst}
 use Rattle.frame.specs.Substitution.{code_apply}
-use Rattle.subst.specs.declared.place.ExpressionPlace.{ExpressionPlace}
-use Rattle.subst.specs.Places.{images_at}
+use Rattle.subst.specs.declared.expression_place.ExpressionPlace.{ExpressionPlace}
+use Rattle.subst.specs.ExpressionPlaces.{images_at}
 use Rattle.subst.specs.Stored.Written.{IsWritten}
 use Rattle.subst.proofs.buffer.Buffer.add_applied.Goals as goal
 

@@ -2,7 +2,7 @@ use Rattle.std.proofs.Common.{◌≡◌, ℕ, ◌<◌, ◌==◌, List, length, g
 use Rattle.std.specs.Prelude.{nat_eq, cond, Some, None}
 use Rattle.std.specs.Map.{lookup}
 use Rattle.std.proofs.lemmas.Bool.{eq-eqb}
-use Rattle.subst.specs.declared.place.ExpressionPlace.{ExpressionPlace}
+use Rattle.subst.specs.declared.expression_place.ExpressionPlace.{ExpressionPlace}
 use Rattle.subst.specs.declared.image_places.Slot.{Slot}
 use Rattle.subst.specs.Stored.Slots.{placed}
 use Rattle.subst.proofs.SlotLemmas.{placed-slot, slot-none, slot-at}

@@ -1,6 +1,6 @@
 use Rattle.std.proofs.Common.{length, arith, sym, ◌∙◌, ap}
 use Rattle.frame.specs.Substitution.{CodeImages, code_image}
-use Rattle.subst.specs.Places.{seen_at}
+use Rattle.subst.specs.ExpressionPlaces.{seen_at}
 use Rattle.subst.proofs.ImagePlacesLemmas.{image-some, image-none}
 use Rattle.subst.proofs.images.Subst.image.Goals as goal
 

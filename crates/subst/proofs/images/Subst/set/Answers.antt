@@ -1,8 +1,8 @@
 use Rattle.std.specs.Prelude.{◌++◌, length, nat_eq, cond}
 use Rattle.std.proofs.Common.{refl, ◌∙◌, ap}
 use Rattle.frame.specs.Substitution.{CodeImages, code_image}
-use Rattle.subst.specs.Places.{images_at}
-use Rattle.subst.proofs.PlaceLemmas.{seen-last}
+use Rattle.subst.specs.ExpressionPlaces.{images_at}
+use Rattle.subst.proofs.ExpressionPlaceLemmas.{seen-last}
 use Rattle.subst.proofs.ImagePlacesLemmas.{image-set}
 use Rattle.subst.proofs.images.Subst.set.Goals as goal
 

@@ -1,6 +1,6 @@
 use Rattle.std.proofs.Common.{ℕ, List, Option, Some, length, get_or, ap, sym, ◌∙◌, arith}
 use Rattle.std.proofs.lemmas.Option.{slice_get_past}
-use Rattle.net.proofs.Lists.{at_place}
+use Rattle.net.proofs.GrowingLists.{at_place}
 use Rattle.switch.specs.Seat.{Seated}
 use Rattle.switch.specs.Switch.{Place, Shared, is_down_at, is_down_place}
 use Rattle.switch.proofs.SeatsLemmas.{place_at, place_past}

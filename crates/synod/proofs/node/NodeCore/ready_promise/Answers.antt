@@ -5,7 +5,7 @@ use Rattle.synod.specs.declared.packet.SlotReport.{SlotReport}
 use Rattle.synod.specs.declared.proposer.Heard.{Heard}
 use Rattle.synod.specs.Core.{Core}
 use Rattle.synod.specs.Node.{is_heard}
-use Rattle.synod.proofs.GatherLemmas.{promise_of_none}
+use Rattle.synod.proofs.GatheredPages.{promise_of_none}
 use Rattle.synod.proofs.node.NodeCore.ready_promise.Goals as goal
 
 pub returns-then-from-nodes-clause-ready : goal.returns-then-from-nodes-clause-ready

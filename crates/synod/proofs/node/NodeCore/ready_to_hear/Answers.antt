@@ -5,7 +5,7 @@ use Rattle.synod.specs.Core.{Core, assembled}
 use Rattle.synod.specs.Stored.PagesHad.{entries_of}
 use Rattle.synod.specs.Step.{IsNode}
 use Rattle.synod.proofs.AcceptedLemmas.{none_is}
-use Rattle.synod.proofs.GatherLemmas.{hear_step}
+use Rattle.synod.proofs.GatheredPages.{hear_step}
 use Rattle.synod.specs.Rooms.{RoomsGrow}
 use Rattle.synod.proofs.RoomLemmas.{proposer_room}
 use Rattle.synod.proofs.node.NodeCore.ready_to_hear.Goals as goal

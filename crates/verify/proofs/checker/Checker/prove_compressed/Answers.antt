@@ -1,9 +1,9 @@
 use Rattle.std.proofs.Common.{◌++◌, ◌∙◌, take, sym, subst}
 use Rattle.std.specs.Prelude.{IfOk}
-use Rattle.proof_code.specs.Numbers.{items_of}
+use Rattle.proof_code.specs.ItemNumbers.{items_of}
 use Rattle.verify.specs.Proves.{mandatory_labels}
 use Rattle.verify.specs.Right.{IsRight, Says}
-use Rattle.verify.specs.Table.{AreEntries}
+use Rattle.verify.specs.LabelTable.{AreEntries}
 use Rattle.verify.proofs.ProvesLemmas.{unwritten, one-listed, many, read-proves}
 use Rattle.verify.proofs.checker.Checker.prove_compressed.Goals as goal
 

@@ -2,7 +2,7 @@ use Rattle.std.specs.Prelude.{◌≡◌, ℕ, ◌+◌, ◌-◌, ◌≤◌, ◌�
 use Rattle.std.proofs.Common.{arith, ap, ◌∙◌, length-append}
 use Rattle.subst.specs.Stored.Written.{Appends}
 use Rattle.verify.specs.Right.{weight_limit}
-use Rattle.verify.proofs.PlaceLemmas.{apply-kept, apply-seen, apply-cut}
+use Rattle.verify.proofs.ResultPlaceLemmas.{apply-kept, apply-seen, apply-cut}
 use Rattle.verify.proofs.results.Results.apply.Goals as goal
 
 appended : (ok : Bool) (room : ℕ) (old new e : List ℕ) → ok ≡ true → Appends ok room old new e → (new ≡ old ++ e) × (length e ≤ room)

@@ -3,7 +3,7 @@ use Rattle.names.specs.Codes.{decode}
 use Rattle.frame.specs.Disjoint.{are_groups_apart}
 use Rattle.frame.specs.Substitution.{images_of_names}
 use Rattle.subst.specs.Images.{AreOver}
-use Rattle.subst.specs.Places.{images_at, AreInside}
+use Rattle.subst.specs.ExpressionPlaces.{images_at, AreInside}
 use Rattle.verify.proofs.results.Results.are_apart.Goals as goal
 
 pub groups_apart-requires-clause-inside : goal.groups_apart-requires-clause-inside

@@ -3,10 +3,10 @@ use Rattle.names.specs.Codes.{decode}
 use Rattle.frame.specs.Below.{AllBelow}
 use Rattle.frame.specs.Substitution.{images_of_names}
 use Rattle.subst.specs.Images.{AreOver}
-use Rattle.subst.specs.Places.{seen_at, images_at, AreInside}
+use Rattle.subst.specs.ExpressionPlaces.{seen_at, images_at, AreInside}
 use Rattle.verify.specs.Fits.{DoFit}
 use Rattle.verify.proofs.Named.{all-drop}
-use Rattle.verify.proofs.PlaceLemmas.{last-within, seen_eq}
+use Rattle.verify.proofs.ResultPlaceLemmas.{last-within, seen_eq}
 use Rattle.verify.proofs.results.Results.fits.Goals as goal
 
 pub all_fit-requires-clause-within : goal.all_fit-requires-clause-within

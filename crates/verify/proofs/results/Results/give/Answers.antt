@@ -1,5 +1,5 @@
 use Rattle.std.proofs.Common.{arith, refl, ◌∙◌}
-use Rattle.verify.proofs.PlaceLemmas.{given-cut, given-kept, given-seen}
+use Rattle.verify.proofs.ResultPlaceLemmas.{given-cut, given-kept, given-seen}
 use Rattle.verify.proofs.results.Results.give.Goals as goal
 
 pub invariant_of-self-in_err-push : goal.invariant_of-self-in_err-push

@@ -1,6 +1,6 @@
 use Rattle.std.proofs.Common.{◌<◌, [], length, get_or, ap, arith, subst}
 use Rattle.std.proofs.lemmas.Bool.Decides.{nat_tests}
-use Rattle.verify.proofs.PlaceLemmas.{some-saved}
+use Rattle.verify.proofs.ResultPlaceLemmas.{some-saved}
 use Rattle.verify.proofs.results.Results.has.Goals as goal
 
 pub returns-clause-some : goal.returns-clause-some

@@ -1,6 +1,6 @@
 use Rattle.std.proofs.Common.{◌≡◌, ℕ, ◌↔◌, ◌∷◌, [], List, length, map, get_or, IsTrue, Bool, arith, sym, ap, ◌∙◌}
-use Rattle.subst.specs.Places.{seen_at}
-use Rattle.subst.specs.declared.place.ExpressionPlace.{ExpressionPlace}
+use Rattle.subst.specs.ExpressionPlaces.{seen_at}
+use Rattle.subst.specs.declared.expression_place.ExpressionPlace.{ExpressionPlace}
 use Rattle.verify.proofs.results.Results.is_only.Goals as goal
 use Rattle.std.specs.Prelude.{bytes_eq}
 use Rattle.std.proofs.lemmas.Slice.Eq.{bytes_eq-Decides}

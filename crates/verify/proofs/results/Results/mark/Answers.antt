@@ -1,5 +1,5 @@
 use Rattle.std.proofs.Common.{◌-◌, length, slice_get, sym, ap, ◌∙◌}
-use Rattle.verify.proofs.PlaceLemmas.{kept-mark}
+use Rattle.verify.proofs.ResultPlaceLemmas.{kept-mark}
 use Rattle.verify.proofs.results.Results.mark.Goals as goal
 
 pub invariant_of-self-in-Some : goal.invariant_of-self-in-Some

@@ -2,14 +2,14 @@ use Rattle.std.specs.Prelude.{◌≡◌, ℕ, ◌-◌, ◌≤◌, Bool, List, Re
 use Rattle.std.specs.declared.alloc.AllocError.{AllocError}
 use Rattle.std.proofs.Common.{arith, ap, subst}
 use Rattle.std.proofs.lemmas.List.{length-map}
-use Rattle.subst.specs.declared.place.ExpressionPlace.{ExpressionPlace}
-use Rattle.subst.specs.Places.{seen_at, images_at, AreWithin}
-use Rattle.entries.specs.declared.citation.Hypothesis.{Hypothesis}
+use Rattle.subst.specs.declared.expression_place.ExpressionPlace.{ExpressionPlace}
+use Rattle.subst.specs.ExpressionPlaces.{seen_at, images_at, AreWithin}
+use Rattle.entries.specs.declared.cited_parts.Hypothesis.{Hypothesis}
 use Rattle.verify.specs.Fits.{Reads}
-use Rattle.verify.specs.Places.{top}
+use Rattle.verify.specs.ResultPlaces.{top}
 use Rattle.verify.specs.ReadPlaces.{ReadsAll}
-use Rattle.verify.proofs.PlaceLemmas.{last-within, last-count, seen_eq, kept-read}
-use Rattle.verify.proofs.ReadingLemmas.{reads-seen}
+use Rattle.verify.proofs.ResultPlaceLemmas.{last-within, last-count, seen_eq, kept-read}
+use Rattle.verify.proofs.ReadImageLemmas.{reads-seen}
 use Rattle.verify.proofs.results.Results.read_images.Goals as goal
 
 few_of : (xs : List ℕ) (s : List ExpressionPlace) (stack : List (List ℕ)) (r : ℕ) → map (seen_at xs) s ≡ stack → r ≤ length stack → r ≤ length s

@@ -1,8 +1,8 @@
 use Rattle.std.proofs.Common.{◌≡◌, ℕ, ◌<◌, ◌≤◌, List, length, get_or, arith, refl, sym, subst}
-use Rattle.subst.specs.declared.place.ExpressionPlace.{ExpressionPlace}
-use Rattle.subst.specs.Places.{AreWithin}
-use Rattle.subst.proofs.PlaceLemmas.{within-at}
-use Rattle.verify.proofs.PlaceLemmas.{kept-recall, recall-seen, recall-heavy}
+use Rattle.subst.specs.declared.expression_place.ExpressionPlace.{ExpressionPlace}
+use Rattle.subst.specs.ExpressionPlaces.{AreWithin}
+use Rattle.subst.proofs.ExpressionPlaceLemmas.{within-at}
+use Rattle.verify.proofs.ResultPlaceLemmas.{kept-recall, recall-seen, recall-heavy}
 use Rattle.verify.proofs.results.Results.recall.Goals as goal
 
 saved_at : (n k : ℕ) (ps : List ExpressionPlace) (p : ExpressionPlace) → AreWithin n ps → k < length ps → p ≡ get_or ps k p → (p.start ≤ p.end) × (p.end ≤ n)

@@ -1,6 +1,6 @@
 use Rattle.std.proofs.Common.{sym, subst}
-use Rattle.subst.specs.Places.{AreWithin}
-use Rattle.verify.proofs.PlaceLemmas.{within-none, cleared-kept, resized-none, started-seen}
+use Rattle.subst.specs.ExpressionPlaces.{AreWithin}
+use Rattle.verify.proofs.ResultPlaceLemmas.{within-none, cleared-kept, resized-none, started-seen}
 use Rattle.verify.proofs.results.Results.start.Goals as goal
 
 pub invariant_of-self-2 : goal.invariant_of-self-2

@@ -2,8 +2,8 @@ use Rattle.std.proofs.Common.{Option, set, ap, ◌∙◌, subst}
 use Rattle.std.specs.Prelude.{IfOk, IfSome, IsSomeAnd}
 use Rattle.library.specs.declared.verdict.Verdict.{Verdict}
 use Rattle.world.specs.Replicas.{Replicas, next_entry, IsApplied}
-use Rattle.net.proofs.Lists.{at_place}
-use Rattle.world.proofs.ApplyLemmas.{call_applies, call_none, call_keeps}
+use Rattle.net.proofs.GrowingLists.{at_place}
+use Rattle.world.proofs.AppliedNext.{call_applies, call_none, call_keeps}
 use Rattle.world.proofs.world.World.apply_next.Goals as goal
 
 pub invariant_of-self-2 : goal.invariant_of-self-2

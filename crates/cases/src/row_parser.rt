@@ -1,0 +1,194 @@
+//! The rows of a file.
+use crate::row::{Choice, Cut, Faults, Row, Way};
+use crate::row_texts::{LineFault, push_line, push_lines, word_of};
+use numbers::parse_number;
+use std::alloc::{AllocError, Global};
+
+/// Why a file has no rows to run.
+#[derive(Drop)]
+pub enum Unread {
+    /// This line says nothing, or stands where it says nothing.
+    Line(String),
+    /// A growth was refused.
+    Memory,
+}
+
+impl From<AllocError> for Unread {
+    fn from(_error: AllocError) -> Unread {
+        Unread::Memory
+    }
+}
+
+/// The rows of a text. Empty lines and lines that begin with `#` say nothing.
+pub fn parse_rows(alloc: Global, text: &str) -> Result<Vec<Row>, Unread> {
+    let mut rows = Vec::new(alloc);
+    for line in text.split('\n') {
+        if line.is_empty() || line.starts_with('#') {
+            continue;
+        }
+        match read_line(alloc, &mut rows, line) {
+            Ok(()) => {}
+            Err(LineFault::Bad) => return Err(Unread::Line(String::from_str(alloc, line)?)),
+            Err(LineFault::Memory) => return Err(Unread::Memory),
+        }
+    }
+    Ok(rows)
+}
+
+/// Reads a line: it begins a row, or says more of the last one.
+fn read_line(alloc: Global, rows: &mut Vec<Row>, line: &str) -> Result<(), LineFault> {
+    match line.strip_prefix("row ") {
+        Some(sentence) => {
+            let row = new_row(alloc, sentence)?;
+            rows.push(row).map_err(AllocError::from)?;
+            Ok(())
+        }
+        None => match rows.last_mut() {
+            Some(row) => read_more(alloc, row, line),
+            None => Err(LineFault::Bad),
+        },
+    }
+}
+
+/// A row of which nothing is known but what it shows.
+fn new_row(alloc: Global, sentence: &str) -> Result<Row, AllocError> {
+    Ok(Row {
+        sentence: String::from_str(alloc, sentence)?,
+        commands: Vec::new(alloc),
+        input: Vec::new(alloc),
+        output: Vec::new(alloc),
+        choices: Vec::new(alloc),
+        lines: None,
+        faults: Faults::Unsaid,
+        status: None,
+        way: Way::Whole,
+        cuts: Vec::new(alloc),
+    })
+}
+
+/// Reads a line of a row: a mark, and a text behind a space.
+fn read_more(alloc: Global, row: &mut Row, line: &str) -> Result<(), LineFault> {
+    let (mark, text) = line.split_once(' ').unwrap_or((line, ""));
+    match mark {
+        "run" => add_command(alloc, row, text),
+        "status" => set_status(row, text),
+        "lines" => set_lines(row, text),
+        "cut" => set_way(row, Way::Cut, text, ""),
+        "reads" if text == "none" => set_way(row, Way::NoReads, text, "none"),
+        "reads" => set_way(row, Way::FailingReads, text, "fail"),
+        "writes" => set_way(row, Way::FailingWrites, text, "fail"),
+        "!" => add_fault(alloc, row, text),
+        "!~" => set_beginning(alloc, row, text),
+        "</" => add_choice(alloc, row, text, "\\"),
+        "</>" => add_choice_with_answer(alloc, row, text),
+        _ => add_lines(alloc, row, mark, text),
+    }
+}
+
+/// Adds a command line, words between single spaces.
+fn add_command(alloc: Global, row: &mut Row, text: &str) -> Result<(), LineFault> {
+    let mut words = Vec::new(alloc);
+    for word in text.split(' ').filter(|word| !word.is_empty()) {
+        let word = word_of(alloc, word)?;
+        words.push(word).map_err(AllocError::from)?;
+    }
+    row.commands.push(words).map_err(AllocError::from)?;
+    Ok(())
+}
+
+fn set_status(row: &mut Row, text: &str) -> Result<(), LineFault> {
+    let number = parse_number(text.as_bytes()).ok_or(LineFault::Bad)?;
+    let status = u8::try_from(number).map_err(|_error| LineFault::Bad)?;
+    row.status = Some(status);
+    Ok(())
+}
+
+fn set_lines(row: &mut Row, text: &str) -> Result<(), LineFault> {
+    row.lines = Some(parse_number(text.as_bytes()).ok_or(LineFault::Bad)?);
+    Ok(())
+}
+
+/// A way is said before the input and the output.
+fn set_way(row: &mut Row, way: Way, text: &str, wanted: &str) -> Result<(), LineFault> {
+    if text != wanted || !row.input.is_empty() || !row.output.is_empty() || row.way != Way::Whole {
+        return Err(LineFault::Bad);
+    }
+    row.way = way;
+    Ok(())
+}
+
+/// Adds a line of the standard error.
+fn add_fault(alloc: Global, row: &mut Row, text: &str) -> Result<(), LineFault> {
+    match &mut row.faults {
+        Faults::Exactly(told) => push_line(told, text, 0),
+        Faults::Beginning(_) => Err(LineFault::Bad),
+        Faults::Unsaid => {
+            let mut told = Vec::new(alloc);
+            push_line(&mut told, text, 0)?;
+            row.faults = Faults::Exactly(told);
+            Ok(())
+        }
+    }
+}
+
+fn set_beginning(alloc: Global, row: &mut Row, text: &str) -> Result<(), LineFault> {
+    row.faults = Faults::Beginning(word_of(alloc, text)?.into_bytes());
+    Ok(())
+}
+
+/// Adds one of several inputs.
+fn add_choice(alloc: Global, row: &mut Row, text: &str, answer: &str) -> Result<(), LineFault> {
+    let mut choice = Choice {
+        input: Vec::new(alloc),
+        output: Vec::new(alloc),
+    };
+    push_line(&mut choice.input, text, 0)?;
+    push_line(&mut choice.output, answer, 0)?;
+    row.choices.push(choice).map_err(AllocError::from)?;
+    Ok(())
+}
+
+fn add_choice_with_answer(alloc: Global, row: &mut Row, text: &str) -> Result<(), LineFault> {
+    let (text, answer) = text.rsplit_once(" => ").ok_or(LineFault::Bad)?;
+    add_choice(alloc, row, text, answer)
+}
+
+/// Adds lines of the input, of the output or of both. The mark may say how often, behind a `*`.
+fn add_lines(alloc: Global, row: &mut Row, mark: &str, text: &str) -> Result<(), LineFault> {
+    let (mark, times) = match mark.split_once('*') {
+        Some((mark, times)) => (mark, parse_number(times.as_bytes()).ok_or(LineFault::Bad)?),
+        None => (mark, 1),
+    };
+    match mark {
+        "<" => push_lines(&mut row.input, text, times),
+        ">" => push_lines(&mut row.output, text, times),
+        "<>" => {
+            let (text, answer) = text.rsplit_once(" => ").ok_or(LineFault::Bad)?;
+            push_lines(&mut row.input, text, times)?;
+            match row.way {
+                Way::Cut => add_cut(alloc, row, text, answer),
+                _ => push_lines(&mut row.output, answer, times),
+            }
+        }
+        _ => Err(LineFault::Bad),
+    }
+}
+
+/// The answer where the input is cut behind the line that was added last.
+fn add_cut(alloc: Global, row: &mut Row, text: &str, answer: &str) -> Result<(), LineFault> {
+    let behind = row.input.len();
+    let mut output = Vec::new(alloc);
+    push_line(&mut output, answer, 0)?;
+    let has_line_feed = !text.ends_with('\\');
+    let cut = Cut {
+        before_line_feed: if has_line_feed {
+            behind.saturating_sub(1)
+        } else {
+            behind
+        },
+        behind,
+        output,
+    };
+    row.cuts.push(cut).map_err(AllocError::from)?;
+    Ok(())
+}

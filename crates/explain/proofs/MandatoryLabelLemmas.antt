@@ -1,0 +1,50 @@
+-- The labels of the mandatory hypotheses.
+use Rattle.std.specs.Prelude.{◌≡◌, ℕ, zero, suc, ◌+◌, ◌<◌, ◌≤◌, true, List, [], ◌∷◌, ◌++◌, length, map, take, get_or, Some, unwrap_or, refl}
+use Rattle.std.specs.List.{list_all}
+use Rattle.std.proofs.Common.{sym, ◌∙◌, ap, subst, arith}
+use Rattle.std.proofs.lemmas.List.{map_more, length-map}
+use Rattle.mm_lex.specs.Alphabet.{Name, is_visible}
+use Rattle.mm_lex.specs.Words.{is_word}
+use Rattle.mm_read.specs.declared.stmt.Stmt.{Stmt}
+use Rattle.mm_read.specs.Statements.{Database}
+use Rattle.scope.specs.Active.{before, stmt_at, label_of}
+use Rattle.frame.specs.FrameOf.{hypotheses}
+use Rattle.verify.specs.Proves.{mandatory_labels, label_or_none}
+use Rattle.verify.specs.Right.{IsProvable}
+use Rattle.verify.specs.declared.label_table.Entry.TheVariants.{Hypothesis, Nothing}
+use Rattle.verify.specs.LabelTable.{IsEntry}
+use Rattle.verify.proofs.MandatoryEntries.{place_of, mandatory-entries}
+
+get-map : (ps : List ℕ) (k d : ℕ) → k < length ps → get_or (map Hypothesis ps) k Nothing ≡ Hypothesis (get_or ps k d)
+get-map [] k d h = absurd (omega (arith, h))
+get-map (p ∷ ps) zero d h = refl
+get-map (p ∷ ps) (suc k) d h = get-map ps k d (omega (arith, h))
+
+-- the hypothesis at a position stands there
+pub record Stands (S : Database) (p : ℕ) : Type 0 where
+  pub stmt : Stmt
+  pub stands : stmt_at S p ≡ Some stmt
+  pub positive : 1 ≤ p
+  pub within : p ≤ length S
+
+pub stands-at : (S : Database) (at : ℕ) (s : Stmt) (ps : List ℕ) (k p d : ℕ) → IsProvable S at s → ps ≡ hypotheses (before S at) s → k < length ps → p ≡ get_or ps k d → Stands S p
+stands-at S at s ps k p d provable are less is =
+    let entries = mandatory-entries S at s ps (map Hypothesis ps) provable are refl in
+    let inside : k < length (mandatory_labels S at s) = let long = length-map (hypotheses (before S at) s) (λ i. label_or_none (stmt_at S i)) in let same = ap length are in omega (arith, long, same, less) in
+    let one = subst (λ e. IsEntry S at (get_or (mandatory_labels S at s) k []) e) (get-map ps k d less ∙ ap Hypothesis (sym is)) (entries.each k inside) in
+    let place = place_of S p one.0 one.1.stands in
+    record { stmt = one.0; stands = one.1.stands; positive = place.0; within = place.1 }
+
+-- the labels so far, with one more
+pub labels-more : (S : Database) (ps : List ℕ) (k p d : ℕ) (label : Name) (front after : List Name) (h : Stands S p) → k < length ps → p ≡ get_or ps k d → Some label ≡ label_of h.stmt
+    → front ≡ map (λ i. label_or_none (stmt_at S i)) (take k ps) → after ≡ front ++ label ∷ [] → after ≡ map (λ i. label_or_none (stmt_at S i)) (take (k + 1) ps)
+labels-more S ps k p d label front after h less is labelled so_far added =
+    let one : label ≡ label_or_none (stmt_at S p) = sym (ap label_or_none h.stands ∙ ap (λ o. unwrap_or o []) (sym labelled)) in
+    added ∙ (ap (λ r. r ++ label ∷ []) so_far
+    ∙ (ap (λ l. map (λ i. label_or_none (stmt_at S i)) (take k ps) ++ l ∷ []) (one ∙ ap (λ i. label_or_none (stmt_at S i)) is)
+    ∙ sym (map_more (λ i. label_or_none (stmt_at S i)) ps k d less)))
+
+-- bytes that can be seen are a word
+pub word-is : (bytes : List ℕ) → (bytes ≡ [] → ⊥) → list_all is_visible bytes ≡ true → is_word bytes ≡ true
+word-is [] some h = absurd (some refl)
+word-is (b ∷ bytes) some h = h

@@ -1,0 +1,30 @@
+use Rattle.std.proofs.Common.{arith, sym, ◌∙◌}
+use Rattle.std.proofs.lemmas.Option.{slice_get-get_or}
+use Rattle.explain.specs.declared.why.LetterFault.TheVariants.{NotEnded}
+use Rattle.explain.proofs.LetterLemmas.{read-none, all-read, ends-here, broken-at, some-begun, nothing-left}
+use Rattle.explain.proofs.broken_letters.letter_break.Goals as goal
+
+pub loop-i-init : goal.loop-i-init
+loop-i-init c = read-none c.args.labels c.args.letters.now (sym c.begins_with_mark.ensures ∙ c.if-begins_with_mark.false)
+
+pub read-requires-clause-room : goal.read-requires-clause-room
+read-requires-clause-room c =
+    let l = c.loop-i.invariant.limit_is in let f = c.loop-i.invariant.few in let t = c.loop-i-test.true in let q = c.requires in omega (arith, l, f, t, q)
+
+pub read-requires-clause-small : goal.read-requires-clause-small
+read-requires-clause-small c = c.loop-i.invariant.small
+
+pub returns-in-Err : goal.returns-in-Err
+returns-in-Err c = c.in-Err.ensures c.args.labels c.args.letters.now c.loop-i.invariant (slice_get-get_or c.args.letters.now c.loop-i.i 0 c.loop-i-test.true)
+
+pub loop-i-preserved : goal.loop-i-preserved
+loop-i-preserved c = c.in-Ok.ensures c.args.labels c.args.letters.now c.loop-i.invariant (slice_get-get_or c.args.letters.now c.loop-i.i 0 c.loop-i-test.true)
+
+pub returns-then-front-eq0 : goal.returns-then-front-eq0
+returns-then-front-eq0 c names count = all-read _ _ _ _ _ _ c.loop-i.invariant names count (ends-here _ _ _ _ _ _ c.loop-i.invariant (let t = c.loop-i-test.false in omega (arith, t)) c.if-front-eq0.true)
+
+pub returns-else-front-eq0 : goal.returns-else-front-eq0
+returns-else-front-eq0 c names count =
+    let r = c.loop-i.invariant in
+    broken-at _ _ _ _ _ _ r names count c.broken.result NotEnded c.loop-i.front.begin c.broken.ensures.fault c.broken.ensures.letter
+    (some-begun _ _ _ _ _ _ r c.if-front-eq0.false, nothing-left _ _ _ _ _ _ r (let t = c.loop-i-test.false in omega (arith, t))) (sym r.at_begin)

@@ -1,5 +1,0 @@
-use Rattle.explain.specs.Reading.{IsReadTo}
-use Rattle.explain.proofs.letters.letter_break.Given as goal
-
-abbrev pub invariant-loop-i : goal.invariant-loop-i
-invariant-loop-i l = IsReadTo l.labels l.letters l.i l.front.limit l.front.digits l.front.begin

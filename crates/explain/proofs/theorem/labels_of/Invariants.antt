@@ -1,7 +1,0 @@
-use Rattle.std.proofs.Common.{◌≡◌, map, take}
-use Rattle.scope.specs.Active.{stmt_at}
-use Rattle.verify.specs.Proves.{label_or_none}
-use Rattle.explain.proofs.theorem.labels_of.Given as goal
-
-abbrev pub invariant-loop-position : goal.invariant-loop-position
-invariant-loop-position l = l.labels ≡ map (λ i. label_or_none (stmt_at l.frames.statements i)) (take l.position-index l.position-items)

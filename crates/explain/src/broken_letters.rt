@@ -1,0 +1,115 @@
+//! Which rule the letters of a compressed proof break.
+ghost use Rattle.std.specs.Prelude.{◌≡◌, ℕ, ◌+◌, ◌*◌, ◌<◌, ◌≤◌, ◌^◌, List, length, Some, slice_get, MatchOption, MatchResult};
+ghost use Rattle.mm_lex.specs.Alphabet.{Name};
+ghost use Rattle.proof_code.specs.declared.item.Item.{Item};
+ghost use Rattle.proof_code.specs.Text.{starts_with_mark};
+ghost use Rattle.proof_code.specs.Writes.{WritesRow};
+ghost use Rattle.explain.specs.Breaks.{IsLetterBreak};
+ghost use Rattle.explain.specs.LettersBefore.{IsReadTo};
+
+use crate::why::{LetterBreak, LetterFault};
+
+/// What stands before a letter.
+#[derive(Clone, Copy, Drop)]
+pub(crate) struct Front {
+    /// The greatest number that is possible here.
+    limit: usize,
+    /// What the letters U to Y of the word that is begun come to.
+    digits: usize,
+    /// Where that word begins, or the next one.
+    begin: usize,
+}
+
+/// Which rule the letters break, where so many labels are numbered; none where they write items.
+pub(crate) fn letter_break(letters: &[u8], labels: usize) -> Option<LetterBreak>
+    requires { 5 * (labels + length letters.now) + 200 < 2 ^ 64 }
+    ensures { (names : List Name) → length names ≡ labels → MatchOption result ((items : List Item) × WritesRow names letters.now items)
+        (IsLetterBreak names letters.now) }
+{
+    if begins_with_mark(letters) {
+        return Some(LetterBreak {
+            letter: 0,
+            fault: LetterFault::EarlyMark,
+        });
+    }
+    let mut front = Front {
+        limit: labels,
+        digits: 0,
+        begin: 0,
+    };
+    for i in 0..letters.len() {
+        match front.read(i, letters[i]) {
+            Ok(next) => front = next,
+            Err(broken) => return Some(broken),
+        }
+    }
+    if front.digits == 0 {
+        None
+    } else {
+        Some(front.broken(LetterFault::NotEnded))
+    }
+}
+
+/// Whether a mark stands first.
+fn begins_with_mark(letters: &[u8]) -> bool
+    ensures { result ≡ starts_with_mark letters.now }
+{
+    matches!(letters, [b'Z', ..])
+}
+
+impl Front {
+    /// What stands before the next letter, or what this letter breaks.
+    fn read(self, index: usize, letter: u8) -> Result<Front, LetterBreak>
+        requires room { 5 * self.limit + 200 < 2 ^ 64 }
+        requires index { index + 1 < 2 ^ 64 }
+        requires small { 20 * self.digits ≤ self.limit }
+        ensures { (labels : ℕ) (letters : List ℕ) → IsReadTo labels letters index self.limit self.digits self.begin → slice_get letters index ≡ Some letter
+            → MatchResult result (λ next. IsReadTo labels letters (index + 1) next.limit next.digits next.begin)
+            (λ broken. (names : List Name) → length names ≡ labels → IsLetterBreak names letters broken) }
+    {
+        match letter {
+            b'A'..=b'T' => {
+                if 20 * self.digits + usize::from(letter - 64) > self.limit {
+                    return Err(self.broken(LetterFault::TooGreat));
+                }
+                Ok(Front {
+                    digits: 0,
+                    begin: index + 1,
+                    ..self
+                })
+            }
+            b'U'..=b'Y' => {
+                let digits = 5 * self.digits + usize::from(letter - 84);
+                if 20 * digits >= self.limit {
+                    return Err(self.broken(LetterFault::TooGreat));
+                }
+                Ok(Front { digits, ..self })
+            }
+            b'Z' => {
+                if self.digits != 0 {
+                    return Err(self.broken(LetterFault::NotEnded));
+                }
+                Ok(Front {
+                    limit: self.limit + 1,
+                    digits: 0,
+                    begin: index + 1,
+                })
+            }
+            _ => Err(LetterBreak {
+                letter: index,
+                fault: LetterFault::NotLetter,
+            }),
+        }
+    }
+
+    /// The fault of the word that is begun.
+    fn broken(self, fault: LetterFault) -> LetterBreak
+        ensures letter { result.letter ≡ self.begin }
+        ensures fault { result.fault ≡ fault }
+    {
+        LetterBreak {
+            letter: self.begin,
+            fault,
+        }
+    }
+}

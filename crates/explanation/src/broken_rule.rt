@@ -1,0 +1,214 @@
+//! Statements that break a rule.
+use crate::statement_symbols::{label_of, symbol_at, symbols_before};
+use crate::written_lines::Page;
+use mm_read::{ReadFault, Stmt, read};
+use offence::{Witness, never_closed, witness_of};
+use places::place_of;
+use scope::Rule;
+use std::alloc::Global;
+
+/// A rule that a statement of a text breaks.
+#[derive(Clone, Copy)]
+struct Broken<'a> {
+    text: &'a [u8],
+    statements: &'a [Stmt],
+    /// The statement, from 1.
+    statement: usize,
+    rule: Rule,
+}
+
+/// Which rule the statement breaks, by what, and where the other declaration stands.
+pub(crate) fn explain_rule(
+    alloc: Global,
+    page: &mut Page,
+    text: &[u8],
+    statement: usize,
+    rule: Rule,
+) {
+    match read(alloc, text) {
+        Ok(statements) => explain_broken(
+            alloc,
+            page,
+            &Broken {
+                text,
+                statements: statements.as_slice(),
+                statement,
+                rule,
+            },
+        ),
+        Err(ReadFault::Memory) => page.refuse(),
+        Err(_) => {}
+    }
+}
+
+fn explain_broken(alloc: Global, page: &mut Page, broken: &Broken<'_>) {
+    if broken.statement > broken.statements.len() {
+        return explain_open(alloc, page, broken);
+    }
+    explain_statement(alloc, page, broken);
+}
+
+/// A block that is never closed.
+fn explain_open(alloc: Global, page: &mut Page, broken: &Broken<'_>) {
+    let Some(open) = never_closed(broken.statements) else {
+        return;
+    };
+    push_start(alloc, page, broken.text, open, 1);
+    page.push(b"this block is never closed\n");
+}
+
+/// `LINE:COLUMN: ` of a token of a statement.
+pub(crate) fn push_start(
+    alloc: Global,
+    page: &mut Page,
+    text: &[u8],
+    statement: usize,
+    token: usize,
+) {
+    push_token_place(alloc, page, text, statement, token);
+    page.push(b": ");
+}
+
+/// `LINE:COLUMN` of a token of a statement.
+pub(crate) fn push_token_place(
+    alloc: Global,
+    page: &mut Page,
+    text: &[u8],
+    statement: usize,
+    token: usize,
+) {
+    match place_of(alloc, text, statement, token) {
+        Ok(Some(span)) => page.push_place(text, span.start),
+        Ok(None) => {}
+        Err(_) => page.refuse(),
+    }
+}
+
+fn explain_statement(alloc: Global, page: &mut Page, broken: &Broken<'_>) {
+    let Some(index) = broken.statement.checked_sub(1) else {
+        return;
+    };
+    if index >= broken.statements.len() {
+        return;
+    }
+    let (earlier, rest) = broken.statements.split_at(index);
+    let stmt = &rest[0];
+    match witness_of(alloc, earlier, stmt, broken.rule) {
+        Ok(Some(Witness::Statement)) => explain_alone(alloc, page, broken),
+        Ok(Some(Witness::Symbol { symbol })) => explain_symbol(alloc, page, broken, stmt, symbol),
+        Ok(Some(Witness::Twice { first, second })) => {
+            explain_twice(alloc, page, broken, stmt, first, second);
+        }
+        Ok(Some(Witness::Earlier { symbol, statement })) => {
+            explain_earlier(alloc, page, broken, stmt, symbol, statement);
+        }
+        Ok(Some(Witness::Label { statement })) => explain_label(
+            alloc, page, broken, stmt, statement,
+        ),
+        Ok(None) => {}
+        Err(_) => page.refuse(),
+    }
+}
+
+/// A `$c` in a block, or a `$}` that closes none.
+fn explain_alone(alloc: Global, page: &mut Page, broken: &Broken<'_>) {
+    push_start(alloc, page, broken.text, broken.statement, 1);
+    if broken.rule == Rule::G1 {
+        return page.push(
+            b"this $c stands inside a block; constants are declared outside all blocks\n",
+        );
+    }
+    page.push(b"this $} closes no block\n");
+}
+
+/// The place of a symbol of the statement, and the symbol.
+fn push_symbol(alloc: Global, page: &mut Page, broken: &Broken<'_>, stmt: &Stmt, symbol: usize) {
+    let token = symbols_before(stmt).saturating_add(symbol);
+    push_start(alloc, page, broken.text, broken.statement, token);
+    page.push(symbol_at(stmt, symbol));
+}
+
+fn explain_symbol(alloc: Global, page: &mut Page, broken: &Broken<'_>, stmt: &Stmt, symbol: usize) {
+    push_symbol(alloc, page, broken, stmt, symbol);
+    match broken.rule {
+        Rule::G5 => page.push(b" is neither a constant nor an active variable\n"),
+        Rule::G6 => page.push(b" is no constant, and an expression begins with a constant\n"),
+        Rule::G9 => page.push(b" is a variable that has no active $f\n"),
+        _ => page.push(b" is no active variable\n"),
+    }
+}
+
+fn explain_twice(
+    alloc: Global,
+    page: &mut Page,
+    broken: &Broken<'_>,
+    stmt: &Stmt,
+    first: usize,
+    second: usize,
+) {
+    push_symbol(alloc, page, broken, stmt, second);
+    page.push(b" stands twice in this statement\n  first at ");
+    let token = symbols_before(stmt).saturating_add(first);
+    push_token_place(alloc, page, broken.text, broken.statement, token);
+    page.push(b"\n");
+}
+
+fn explain_earlier(
+    alloc: Global,
+    page: &mut Page,
+    broken: &Broken<'_>,
+    stmt: &Stmt,
+    symbol: usize,
+    other: usize,
+) {
+    push_symbol(alloc, page, broken, stmt, symbol);
+    push_other(alloc, page, broken, symbol_at(stmt, symbol), other);
+}
+
+fn explain_label(alloc: Global, page: &mut Page, broken: &Broken<'_>, stmt: &Stmt, other: usize) {
+    push_start(alloc, page, broken.text, broken.statement, 1);
+    page.push(label_of(stmt));
+    push_other(alloc, page, broken, label_of(stmt), other);
+}
+
+/// What the other statement made of the name, and where.
+fn push_other(alloc: Global, page: &mut Page, broken: &Broken<'_>, name: &[u8], other: usize) {
+    let Some(stmt) = broken.statements.get(other.saturating_sub(1)) else {
+        page.push(b"\n");
+        return;
+    };
+    let (words, token) = told(stmt, name);
+    page.push(words);
+    page.push(b"\n  at ");
+    push_token_place(alloc, page, broken.text, other, token);
+    page.push(b"\n");
+}
+
+/// What a statement makes of a name, and the token at which it does.
+fn told(stmt: &Stmt, name: &[u8]) -> (&'static [u8], usize) {
+    match stmt {
+        Stmt::Const(names) => (
+            b" is declared as a constant already",
+            2usize.saturating_add(place_in(names, name)),
+        ),
+        Stmt::Var(names) => (
+            b" is declared as a variable already",
+            2usize.saturating_add(place_in(names, name)),
+        ),
+        Stmt::Float { label, .. } if label.as_bytes() != name => (b" has an active $f already", 1),
+        _ => (b" is a label already", 1),
+    }
+}
+
+/// Where a name stands among these.
+fn place_in(names: &mm_lex::Words, name: &[u8]) -> usize {
+    let mut index = 0usize;
+    let mut left = names.iter();
+    while let Some(other) = left.next() {
+        if other == name {
+            return index;
+        }
+        index = index.saturating_add(1);
+    }
+    0
+}

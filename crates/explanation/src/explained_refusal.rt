@@ -1,0 +1,52 @@
+//! What is explained, and the lines of its explanation.
+
+use crate::broken_rule::explain_rule;
+use crate::proof::explain_proof;
+use crate::shape_fault::explain_shape;
+use crate::text_fault::explain_text;
+use crate::written_lines::Page;
+use scope::Rule;
+use std::alloc::{AllocError, Global};
+
+/// Why a database is refused.
+#[derive(Clone, Copy, Debug, Drop, PartialEq, Eq)]
+pub enum DatabaseFault {
+    /// It has too many bytes.
+    TooLong,
+    /// A byte or a comment is at fault.
+    Text,
+    /// Its tokens are no list of statements.
+    Shape,
+    /// A statement, counted from 1, breaks a rule; one above the last where a block is open at the end.
+    Rule { statement: usize, rule: Rule },
+    /// The proof of a `$p` is wrong.
+    Proof { statement: usize },
+    /// The proof of a `$p` is unfinished.
+    Unfinished { statement: usize },
+}
+
+/// The lines that say why the text is refused; none where it is not refused so.
+///
+/// Cost: that of reading the text and of its statements once more, and of judging the one proof twice.
+pub fn explain_refusal(
+    alloc: Global,
+    text: &[u8],
+    fault: DatabaseFault,
+) -> Result<Vec<u8>, AllocError> {
+    let mut page = Page::new(alloc);
+    push_lines(alloc, &mut page, text, fault);
+    page.into_lines()
+}
+
+fn push_lines(alloc: Global, page: &mut Page, text: &[u8], fault: DatabaseFault) {
+    match fault {
+        DatabaseFault::TooLong => page.push(
+            b"a database may have at most 67108864 bytes, and this one has more\n",
+        ),
+        DatabaseFault::Text => explain_text(alloc, page, text),
+        DatabaseFault::Shape => explain_shape(alloc, page, text),
+        DatabaseFault::Rule { statement, rule } => explain_rule(alloc, page, text, statement, rule),
+        DatabaseFault::Proof { statement } => explain_proof(alloc, page, text, statement),
+        DatabaseFault::Unfinished { statement } => explain_proof(alloc, page, text, statement),
+    }
+}

@@ -1,0 +1,122 @@
+//! Tokens that are no list of statements.
+ghost use Rattle.std.specs.Prelude.{◌≤◌, length};
+ghost use Rattle.std.specs.List.{All};
+ghost use Rattle.mm_lex.specs.Tokens.{IsWordAt};
+
+use crate::written_lines::{Page, word};
+use mm_lex::{LexFault, Span, tokens};
+use mm_read::{ReadFault, read};
+use places::statement_at;
+use std::alloc::Global;
+
+/// Which token fits nowhere, what may stand there, and where its statement begins.
+pub(crate) fn explain_shape(alloc: Global, page: &mut Page, text: &[u8]) {
+    match read(alloc, text) {
+        Err(ReadFault::Shape { token }) => explain_among(alloc, page, text, token),
+        Err(ReadFault::Memory) => page.refuse(),
+        _ => {}
+    }
+}
+
+/// The same of the token that fits nowhere, from 1.
+fn explain_among(alloc: Global, page: &mut Page, text: &[u8], token: usize) {
+    match tokens(alloc, text) {
+        Ok(spans) => explain_misfit(page, text, spans.as_slice(), token.saturating_sub(1)),
+        Err(LexFault::Memory) => page.refuse(),
+        Err(_) => {}
+    }
+}
+
+fn explain_misfit(page: &mut Page, text: &[u8], spans: &[Span], index: usize)
+    requires { All (IsWordAt text.now) spans.now }
+{
+    if index > spans.len() {
+        return;
+    }
+    explain_token(page, text, spans, index);
+}
+
+fn explain_token(page: &mut Page, text: &[u8], spans: &[Span], index: usize)
+    requires words { All (IsWordAt text.now) spans.now }
+    requires within { index ≤ length spans.now }
+{
+    let start = statement_at(text, spans, index);
+    let expected = what_may_stand(text, &spans[start..index]);
+    match spans.get(index) {
+        Some(span) => {
+            page.push_place(text, span.start);
+            page.push(b": ");
+            page.push(expected);
+            page.push(b" may stand here, not ");
+            page.push(word(text, *span));
+        }
+        None => {
+            page.push_place(text, text.len());
+            page.push(b": the database ends here, where ");
+            page.push(expected);
+            page.push(b" may stand");
+        }
+    }
+    page.push(b"\n");
+    if start == index {
+        return;
+    }
+    let Some(first) = spans.get(start) else {
+        return;
+    };
+    page.push(b"  in the statement that begins at ");
+    page.push_place(text, first.start);
+    page.push(b"\n");
+}
+
+/// What may stand behind these tokens of a statement.
+fn what_may_stand(text: &[u8], before: &[Span]) -> &'static [u8] {
+    let Some(first) = before.get(0) else {
+        return b"a label, $c, $v, $d, ${ or $}";
+    };
+    match word(text, *first) {
+        b"$c" => symbols_or_end(before.len(), 2),
+        b"$v" => symbols_or_end(before.len(), 2),
+        b"$d" => symbols_or_end(before.len(), 3),
+        _ => behind_label(text, before),
+    }
+}
+
+/// A symbol, and where there are enough tokens the end too.
+fn symbols_or_end(len: usize, enough: usize) -> &'static [u8] {
+    if len < enough {
+        b"a symbol"
+    } else {
+        b"a symbol or $."
+    }
+}
+
+/// What may stand behind a label and these tokens.
+fn behind_label(text: &[u8], before: &[Span]) -> &'static [u8] {
+    let Some(key) = before.get(1) else {
+        return b"$f, $e, $a or $p";
+    };
+    match word(text, *key) {
+        b"$f" => match before.len() {
+            2 => b"a constant",
+            3 => b"a variable",
+            _ => b"$.",
+        },
+        b"$p" => behind_provable(text, before),
+        _ => symbols_or_end(before.len(), 3),
+    }
+}
+
+/// What may stand behind these tokens of a `$p`.
+fn behind_provable(text: &[u8], before: &[Span]) -> &'static [u8] {
+    for span in before {
+        if word(text, *span) == b"$=".as_slice() {
+            return b"a token of the proof or $.";
+        }
+    }
+    if before.len() < 3 {
+        b"a symbol"
+    } else {
+        b"a symbol or $="
+    }
+}

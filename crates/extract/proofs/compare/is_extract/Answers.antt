@@ -1,6 +1,0 @@
-use Rattle.std.proofs.Common.{map}
-use Rattle.extract.proofs.WalkLemmas.{walk-none}
-use Rattle.extract.proofs.compare.is_extract.Goals as goal
-
-pub loop-index-init : goal.loop-index-init
-loop-index-init c = walk-none c.args.whole.now c.args.part.now (map (λ label. label.now) c.args.labels.now) _ _ c.new.ensures.statements c.new-2.ensures.statements

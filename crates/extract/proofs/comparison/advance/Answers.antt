@@ -1,0 +1,18 @@
+use Rattle.std.proofs.Common.{◌∙◌, sym, map}
+use Rattle.extract.proofs.SideBySideLemmas.{ok-one, ok-both, walk-past, walk-both}
+use Rattle.extract.proofs.comparison.advance.Goals as goal
+
+pub returns-else-wanted : goal.returns-else-wanted
+returns-else-wanted c =
+    ok-one c.accepts.result _ _ c.accepts.ensures
+    (λ yes grown y w. walk-past c.args.whole.now c.args.part.now (map (λ label. label.now) c.args.labels.now) c.args.index c.args.walk.now.next
+    c.args.walk.now.whole.statements c.args.walk.now.part.statements w c.index-whole-index.result _ c.requires.place c.index-whole-index.is
+    (sym c.is_wanted-wanted.ensures ∙ c.if-wanted.false) (grown y))
+
+pub returns : goal.returns
+returns c =
+    ok-both c.pass_both.result _ _ _ c.pass_both.ensures.whole c.pass_both.ensures.part
+    (λ yes whole part y w. walk-both c.args.whole.now c.args.part.now (map (λ label. label.now) c.args.labels.now) c.args.index c.args.walk.now.next
+    c.args.walk.now.whole.statements c.args.walk.now.part.statements w c.index-whole-index.result _ _ _ c.requires.place c.index-whole-index.is
+    (c.is_at.ensures.stands c.if-not-is_at.false) (λ want. c.in_ok-agrees.ensures c.if-not-branch.false (c.is_wanted-wanted.ensures ∙ want))
+    c.pass_both.ensures.next (whole y) (part y))

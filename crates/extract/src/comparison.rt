@@ -1,0 +1,275 @@
+//! Whether some statements are a part of others, and have assertions as these have them.
+ghost use Rattle.std.specs.Prelude.{◌≡◌, ℕ, ◌+◌, ◌<◌, ◌∷◌, ◌++◌, [], map, length, true, IsTrue, IfOk, Some, slice_get};
+ghost use Rattle.mm_read.specs.Statements.{IsShaped, AreShaped};
+ghost use Rattle.scope.specs.Active.{bare, is_assertion, stmt_at};
+ghost use Rattle.extract.specs.Selected.{IsPart};
+ghost use Rattle.extract.specs.Walk.{wanted, AreKept, IsSameFrame, IsWalked};
+
+use crate::wanted::is_among;
+use frame::{Frame, frame};
+use mm_lex::{Word, Words};
+use mm_read::Stmt;
+use scope::{Rule, Scope, Steps};
+use std::alloc::{AllocError, Global};
+
+/// How far both lists were walked.
+#[derive(Drop)]
+struct Walk {
+    /// Behind the statements of the whole that were passed.
+    whole: Scope,
+    /// Behind the statements of the part that were met.
+    part: Scope,
+    /// How many these are.
+    next: usize,
+}
+
+/// Whether the one statements are some of the others, in order, and have each assertion of these labels that the others have with
+/// its hypotheses and pairs.
+///
+/// Errors: a growth was refused. Cost: a pass over the rules of both, and the frames of these assertions.
+pub(crate) fn is_extract(
+    alloc: Global,
+    whole: &[Stmt],
+    part: &[Stmt],
+    labels: &[&str],
+) -> Result<bool, AllocError>
+    requires { AreShaped whole.now }
+    ensures part { IfOk result (λ yes. yes ≡ true → IsPart part.now whole.now) }
+    ensures kept { IfOk result (λ yes. yes ≡ true → AreKept whole.now part.now (map (λ label. label.now) labels.now) (length whole.now)) }
+{
+    let mut walk = Walk {
+        whole: Scope::new(alloc),
+        part: Scope::new(alloc),
+        next: 0,
+    };
+    for index in 0..whole.len() {
+        if !advance(alloc, whole, part, labels, index, &mut walk)? {
+            return Ok(false);
+        }
+    }
+    Ok(walk.next == part.len())
+}
+
+/// Goes on to the next statement of the whole; whether nothing speaks against it.
+fn advance(
+    alloc: Global,
+    whole: &[Stmt],
+    part: &[Stmt],
+    labels: &[&str],
+    index: usize,
+    walk: &mut Walk,
+) -> Result<bool, AllocError>
+    requires shaped { AreShaped whole.now }
+    requires place { index < length whole.now }
+    ensures { IfOk result (λ yes. yes ≡ true
+        → IsWalked whole.now part.now (map (λ label. label.now) labels.now) index walk.old.next walk.old.whole.statements walk.old.part.statements
+        → IsWalked whole.now part.now (map (λ label. label.now) labels.now) (index + 1) walk.new.next walk.new.whole.statements walk.new.part.statements) }
+{
+    let statement = &whole[index];
+    let wanted = is_wanted(statement, labels);
+    if !is_at(part, walk.next, statement) {
+        return if wanted {
+            Ok(false)
+        } else {
+            accepts(&mut walk.whole, statement)
+        };
+    }
+    if !agrees(alloc, whole, part, walk, wanted, statement)? {
+        return Ok(false);
+    }
+    pass_both(walk, statement, walk.next + 1)
+}
+
+/// Passes a statement that comes next in both; whether the scopes go on with it.
+fn pass_both(walk: &mut Walk, statement: &Stmt, next: usize) -> Result<bool, AllocError>
+    requires { IsShaped statement.now }
+    ensures next { walk.new.next ≡ next }
+    ensures whole { IfOk result (λ yes. yes ≡ true → walk.new.whole.statements ≡ walk.old.whole.statements ++ bare statement.now ∷ []) }
+    ensures part { IfOk result (λ yes. yes ≡ true → walk.new.part.statements ≡ walk.old.part.statements ++ bare statement.now ∷ []) }
+{
+    walk.next = next;
+    if !accepts(&mut walk.part, statement)? {
+        return Ok(false);
+    }
+    accepts(&mut walk.whole, statement)
+}
+
+/// Whether the scope goes on with the statement.
+fn accepts(scope: &mut Scope, statement: &Stmt) -> Result<bool, AllocError>
+    requires { IsShaped statement.now }
+    ensures { IfOk result (λ yes. yes ≡ true → scope.new.statements ≡ scope.old.statements ++ bare statement.now ∷ []) }
+{
+    match scope.add(statement, &mut Steps::new()) {
+        Ok(()) => Ok(true),
+        Err(Rule::Memory) => Err(AllocError),
+        Err(_) => Ok(false),
+    }
+}
+
+/// Whether it is an assertion of one of these labels.
+fn is_wanted(statement: &Stmt, labels: &[&str]) -> bool
+    ensures { result ≡ wanted (map (λ label. label.now) labels.now) statement.now }
+{
+    match statement {
+        Stmt::Axiom { label, .. } => is_among(label.as_bytes(), labels),
+        Stmt::Prove { label, .. } => is_among(label.as_bytes(), labels),
+        _ => false,
+    }
+}
+
+/// Whether the statement stands there.
+fn is_at(statements: &[Stmt], index: usize, statement: &Stmt) -> bool
+    ensures stands { result ≡ true → slice_get statements.now index ≡ Some statement.now }
+    ensures within { result ≡ true → index < length statements.now }
+{
+    match statements.get(index) {
+        Some(other) => same_statement(other, statement),
+        None => false,
+    }
+}
+
+/// Whether a statement that comes next in both has the same hypotheses and pairs, where it is an assertion that is wanted.
+fn agrees(
+    alloc: Global,
+    whole: &[Stmt],
+    part: &[Stmt],
+    walk: &Walk,
+    wanted: bool,
+    statement: &Stmt,
+) -> Result<bool, AllocError>
+    requires { wanted ≡ true → IsTrue (is_assertion statement.now) }
+    ensures { IfOk result (λ yes. yes ≡ true → wanted ≡ true → IsSameFrame whole.now part.now walk.now.whole.statements walk.now.part.statements statement.now) }
+{
+    if !wanted {
+        return Ok(true);
+    }
+    let one = frame(alloc, &walk.whole, statement)?;
+    let other = frame(alloc, &walk.part, statement)?;
+    Ok(same_frame(whole, part, &one, &other))
+}
+
+/// Whether two frames have the same statements as hypotheses, and the same lists of variables.
+fn same_frame(whole: &[Stmt], part: &[Stmt], one: &Frame, other: &Frame) -> bool
+    ensures positions { result ≡ true → map (stmt_at whole.now) one.now.hypotheses ≡ map (stmt_at part.now) other.now.hypotheses }
+    ensures groups { result ≡ true → one.now.groups ≡ other.now.groups }
+{
+    same_positions(whole, part, one.hypotheses(), other.hypotheses())
+        && same_groups(one.groups(), other.groups())
+}
+
+/// Whether the same statements stand at these positions.
+fn same_positions(whole: &[Stmt], part: &[Stmt], one: &[usize], other: &[usize]) -> bool
+    ensures { result ≡ true → map (stmt_at whole.now) one.now ≡ map (stmt_at part.now) other.now }
+{
+    if one.len() != other.len() {
+        return false;
+    }
+    for index in 0..one.len() {
+        if !same_place(whole, part, one[index], other[index]) {
+            return false;
+        }
+    }
+    true
+}
+
+/// Whether a statement stands at the one position, and the same at the other.
+fn same_place(whole: &[Stmt], part: &[Stmt], one: usize, other: usize) -> bool
+    ensures { result ≡ true → stmt_at whole.now one ≡ stmt_at part.now other }
+{
+    if one == 0 || other == 0 {
+        return false;
+    }
+    match whole.get(one - 1) {
+        Some(statement) => is_at(part, other - 1, statement),
+        None => false,
+    }
+}
+
+/// Whether the lists of variables are the same.
+fn same_groups(one: &[Words], other: &[Words]) -> bool
+    ensures { result ≡ true → one.now ≡ other.now }
+{
+    if one.len() != other.len() {
+        return false;
+    }
+    for index in 0..one.len() {
+        if !same_words(&one[index], &other[index]) {
+            return false;
+        }
+    }
+    true
+}
+
+/// Whether it is the same statement.
+fn same_statement(one: &Stmt, other: &Stmt) -> bool
+    ensures { result ≡ true → one.now ≡ other.now }
+{
+    match one {
+        Stmt::Open => matches!(other, Stmt::Open),
+        Stmt::Close => matches!(other, Stmt::Close),
+        Stmt::Const(names) => match other {
+            Stmt::Const(others) => same_words(names, others),
+            _ => false,
+        },
+        Stmt::Var(names) => match other {
+            Stmt::Var(others) => same_words(names, others),
+            _ => false,
+        },
+        Stmt::Disj(names) => match other {
+            Stmt::Disj(others) => same_words(names, others),
+            _ => false,
+        },
+        _ => same_labelled(one, other),
+    }
+}
+
+/// The same of statements with labels.
+fn same_labelled(one: &Stmt, other: &Stmt) -> bool
+    ensures { result ≡ true → one.now ≡ other.now }
+{
+    match (one, other) {
+        (
+            Stmt::Float {
+                label: a,
+                constant: b,
+                variable: c,
+            },
+            Stmt::Float {
+                label: d,
+                constant: e,
+                variable: f,
+            },
+        ) => same_word(a, d) && same_word(b, e) && same_word(c, f),
+        (Stmt::Ess { label: a, expr: b }, Stmt::Ess { label: c, expr: d }) => {
+            same_word(a, c) && same_words(b, d)
+        }
+        (Stmt::Axiom { label: a, expr: b }, Stmt::Axiom { label: c, expr: d }) => {
+            same_word(a, c) && same_words(b, d)
+        }
+        (
+            Stmt::Prove {
+                label: a,
+                expr: b,
+                proof: c,
+            },
+            Stmt::Prove {
+                label: d,
+                expr: e,
+                proof: f,
+            },
+        ) => same_word(a, d) && same_words(b, e) && same_words(c, f),
+        _ => false,
+    }
+}
+
+fn same_word(one: &Word, other: &Word) -> bool
+    ensures { result ≡ true → one.now ≡ other.now }
+{
+    one.as_bytes() == other.as_bytes()
+}
+
+fn same_words(one: &Words, other: &Words) -> bool
+    ensures { result ≡ true → one.now ≡ other.now }
+{
+    one.as_text() == other.as_text()
+}

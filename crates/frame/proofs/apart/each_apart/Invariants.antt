@@ -1,7 +1,0 @@
-use Rattle.std.proofs.Common.{◌≡◌, true, take}
-use Rattle.names.specs.Codes.{decode}
-use Rattle.frame.specs.Disjoint.{are_apart}
-use Rattle.frame.proofs.apart.each_apart.Given as goal
-
-abbrev pub invariant-loop-i : goal.invariant-loop-i
-invariant-loop-i l = are_apart l.pairs.statements (decode l.pairs.names (take l.i l.left)) (decode l.pairs.names l.right) ≡ true

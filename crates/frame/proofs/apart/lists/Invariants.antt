@@ -1,7 +1,0 @@
-use Rattle.std.specs.Prelude.{◌≡◌, true, take}
-use Rattle.names.specs.Codes.{decode}
-use Rattle.frame.specs.Covers.{are_listed}
-use Rattle.frame.proofs.apart.lists.Given as goal
-
-abbrev pub invariant-loop-symbol : goal.invariant-loop-symbol
-invariant-loop-symbol l = are_listed l.pairs.statements (decode l.pairs.names l.list) (decode l.pairs.names (take l.symbol-index l.image)) ≡ true

@@ -1,7 +1,0 @@
-use Rattle.std.proofs.Common.{◌≡◌, true, take}
-use Rattle.names.specs.Codes.{name_at, decode}
-use Rattle.frame.specs.Covers.{is_variable_apart}
-use Rattle.frame.proofs.apart.variable_apart.Given as goal
-
-abbrev pub invariant-loop-i : goal.invariant-loop-i
-invariant-loop-i l = is_variable_apart l.pairs.statements (name_at l.pairs.names l.x) (decode l.pairs.names (take l.i l.image)) ≡ true

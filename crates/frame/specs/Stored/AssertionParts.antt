@@ -1,0 +1,99 @@
+-- The parts of an assertion, by numbers. The code's own form: no public clause cites it.
+use Rattle.std.specs.Prelude.{◌≡◌, ℕ, ◌-◌, Bool, true, false, if◌then◌else◌, List, [], ◌∷◌, map, filter, get_or, slice_get, Option, Some, None, is_some}
+use Rattle.mm_lex.specs.Alphabet.{has_name}
+use Rattle.mm_read.specs.declared.stmt.Stmt.{Stmt}
+use Rattle.mm_read.specs.declared.stmt.Stmt.TheVariants as stmt
+use Rattle.mm_read.specs.Statements.{Expr, Database}
+use Rattle.scope.specs.Active.{expr_of, active, is_essential}
+use Rattle.frame.specs.FrameOf.{hypotheses}
+use Rattle.entries.specs.declared.cited_parts.Hypothesis.{Hypothesis}
+use Rattle.entries.specs.declared.cited_parts.Hypothesis.TheVariants as hypothesis
+use Rattle.entries.specs.declared.kind.Kind.{Kind}
+use Rattle.entries.specs.declared.kind.Kind.TheVariants.{Float, Ess, Axiom, Prove}
+use Rattle.entries.specs.Entries.{Entry}
+use Rattle.entries.specs.Entries.{Assertion}
+use Rattle.frame.specs.Stored.NumberPlaces.{place_of}
+use Rattle.frame.specs.Cited.{head_of}
+use Rattle.frame.specs.Links.{actives, is_disj}
+
+-- ---- the parts of an assertion, by numbers
+
+-- the variable of a `$f`, by its number
+abbrev pub variable_by : Kind → List ℕ → Option ℕ
+variable_by Float codes = slice_get codes 1
+variable_by kind codes = None
+
+abbrev pub option_variable : Option Entry → Option ℕ
+option_variable None = None
+option_variable (Some e) = variable_by e.kind e.symbols
+
+-- the variable of the `$f` at a position
+abbrev pub variable_at : List Entry → ℕ → Option ℕ
+variable_at es p = option_variable (slice_get es (p - 1))
+
+-- those that are such a variable
+abbrev pub is_placed : List (Option ℕ) → ℕ → Bool
+is_placed vs c = is_some (place_of vs c)
+
+abbrev pub placed : List (Option ℕ) → List ℕ → List ℕ
+placed vs codes = filter (is_placed vs) codes
+
+abbrev pub option_symbols : Option Entry → List ℕ
+option_symbols None = []
+option_symbols (Some e) = e.symbols
+
+abbrev pub symbols_at : List Entry → ℕ → List ℕ
+symbols_at es p = option_symbols (slice_get es (p - 1))
+
+-- two or more
+abbrev pub has_two : {A : Type 0} → List A → Bool
+has_two [] = false
+has_two (x ∷ []) = false
+has_two (x ∷ y ∷ xs) = true
+
+abbrev pub groups_by : List (Option ℕ) → List (List ℕ) → List (List ℕ)
+groups_by vs lists = filter has_two (map (placed vs) lists)
+
+-- the first symbol of the statement at a position
+abbrev pub head_at : List Entry → ℕ → ℕ
+head_at es p = head_of (symbols_at es p)
+
+-- what the hypothesis at a position is
+abbrev pub asked_by : ℕ → Kind → List ℕ → Hypothesis
+asked_by p Float codes = hypothesis.Float (get_or codes 1 0)
+asked_by p kind codes = hypothesis.Essential p
+
+abbrev pub option_asked : ℕ → Option Entry → Hypothesis
+option_asked p None = hypothesis.Essential p
+option_asked p (Some e) = asked_by p e.kind e.symbols
+
+abbrev pub asked_at : List Entry → ℕ → Hypothesis
+asked_at es p = option_asked p (slice_get es (p - 1))
+
+-- a `$f` of a symbol of the expression
+abbrev pub is_float_in : Expr → Stmt → Bool
+is_float_in e (stmt.Float label constant variable) = has_name variable e
+is_float_in e s = false
+
+-- the active ones, by position
+abbrev pub floats_in : Database → Expr → List ℕ
+floats_in S e = map (λ p. p.0) (filter (λ p. is_float_in e p.1) (active S))
+
+-- the hypotheses that are kept with a statement: all mandatory ones, or the `$f` of its own variables
+abbrev pub kept_with : Bool → Database → Stmt → List ℕ
+kept_with whole S s = if whole then hypotheses S s else floats_in S (expr_of s)
+
+-- the statement s, which stands behind the first statements S, is kept with the parts d
+pub record IsKeptAs (es : List Entry) (S : Database) (s : Stmt) (d : Assertion) : Type 0 where
+  pub hypotheses_kept : d.hypotheses ≡ kept_with d.whole S s
+  pub asked_kept : d.asked ≡ map (asked_at es) d.hypotheses
+  pub heads_kept : d.heads ≡ map (head_at es) d.hypotheses
+  pub groups_kept : d.whole ≡ true → d.groups ≡ groups_by (map (variable_at es) d.hypotheses) (map (λ q. symbols_at es q.0) (actives is_disj S))
+  pub own_kept : is_essential s ≡ true → d.whole ≡ false
+
+-- a statement that is kept with hypotheses
+abbrev pub has_parts : Kind → Bool
+has_parts Ess = true
+has_parts Axiom = true
+has_parts Prove = true
+has_parts kind = false

@@ -1,0 +1,133 @@
+//! The same verdict by any number of workers, and two workers side by side.
+ghost use Rattle.std.specs.Prelude.{◌≤◌};
+
+use crate::text_entries::entry;
+use bytes::Bytes;
+use library::{Cause, Entry, Library, Verdict};
+use std::alloc::Global;
+use std::sync::atomic::{AtomicBool, Ordering};
+use std::thread::Threads;
+use verify_pool::{Gate, OpenGate, Place, Workers};
+
+/// Texts whose proofs several workers share, and the verdict on each.
+const ROWS: [(&[u8], Verdict); 4] = [
+    (TWO, Verdict::Added),
+    (
+        b"$c |- o $. o1 $a |- o $. p $p |- o $= o1 o1 $. q $p |- o $= q $.",
+        Verdict::Refused(Cause::Proof { statement: 3 }),
+    ),
+    (
+        b"$c |- o $. o1 $a |- o $. p $p |- o $= o1 $. q $p |- o $= ? $. r $p |- o $= r $.",
+        Verdict::Refused(Cause::Unfinished { statement: 4 }),
+    ),
+    (
+        b"$c |- o $. a $a |- o $. p $p |- o $= a $. q $p |- o $= ( p ) A $. r $p |- o $= ( ) Z $.",
+        Verdict::Refused(Cause::Proof { statement: 5 }),
+    ),
+];
+
+/// Two right proofs.
+const TWO: &[u8] = b"$c |- o $. a $a |- o $. p $p |- o $= a $. q $p |- o $= p $.";
+
+#[test]
+fn judged_alike_by_workers(rt: HostRuntime) {
+    for (text, verdict) in ROWS {
+        assert!(rt;
+            is_judged_by_each(&rt, rt.alloc(), text, verdict),
+            "{text:?}"
+        );
+    }
+}
+
+fn is_judged_by_each<R: Threads + Sync>(
+    rt: &R,
+    alloc: Global,
+    text: &[u8],
+    verdict: Verdict,
+) -> bool {
+    by_workers(rt, alloc, 1, text, &OpenGate) == Some(verdict)
+        && by_workers(rt, alloc, 2, text, &OpenGate) == Some(verdict)
+        && by_workers(rt, alloc, 3, text, &OpenGate) == Some(verdict)
+        && by_workers(rt, alloc, 16, text, &OpenGate) == Some(verdict)
+}
+
+/// The verdict of a new library by so many workers.
+pub fn by_workers<G: Gate + Sync, R: Threads + Sync>(
+    rt: &R,
+    alloc: Global,
+    workers: usize,
+    text: &[u8],
+    gate: &G,
+) -> Option<Verdict>
+    requires { (1 ≤ workers) × (workers ≤ 16) }
+{
+    let entry = entry(1, Bytes::copy_from_slice(alloc, text).ok()?);
+    let mut library = Library::new(alloc);
+    asked_again(rt, &mut library, &entry, workers, gate)
+}
+
+/// The verdict on the entry, asked once more where a growth is refused.
+fn asked_again<G: Gate + Sync, R: Threads + Sync>(
+    rt: &R,
+    library: &mut Library,
+    entry: &Entry,
+    workers: usize,
+    gate: &G,
+) -> Option<Verdict>
+    requires { (1 ≤ workers) × (workers ≤ 16) }
+{
+    match library.apply_with(rt, Some(entry), Workers::of(workers), gate) {
+        Ok(verdict) => Some(verdict),
+        Err(_) => library
+            .apply_with(rt, Some(entry), Workers::of(workers), gate)
+            .ok(),
+    }
+}
+
+/// Each of the first two proofs waits at the gate for the other, so two workers run side by side.
+#[test]
+fn gate_two_proofs(rt: HostRuntime) {
+    let meeting = Meeting {
+        first_came: AtomicBool::new(false),
+        second_came: AtomicBool::new(false),
+        missed: AtomicBool::new(false),
+    };
+    let verdict = by_workers(&rt, rt.alloc(), 2, TWO, &meeting);
+    assert!(rt; verdict == Some(Verdict::Added));
+    assert!(rt; !meeting.missed.load(Ordering::SeqCst));
+}
+
+/// How often a thread looks whether the other has come.
+const TURNS: u64 = 1_000_000_000;
+
+/// A gate at which the first two proofs meet.
+#[derive(Drop)]
+struct Meeting {
+    first_came: AtomicBool,
+    second_came: AtomicBool,
+    /// Whether one of them waited in vain.
+    missed: AtomicBool,
+}
+
+impl Meeting {
+    /// Tells that the one has come, and waits for the other.
+    fn meet(&self, comes: &AtomicBool, other: &AtomicBool) {
+        comes.store(true, Ordering::SeqCst);
+        for _turn in 0..TURNS {
+            if other.load(Ordering::SeqCst) {
+                return;
+            }
+        }
+        self.missed.store(true, Ordering::SeqCst);
+    }
+}
+
+impl Gate for Meeting {
+    fn pass(&self, place: Place) {
+        match place {
+            Place::Job(0) => self.meet(&self.first_came, &self.second_came),
+            Place::Job(1) => self.meet(&self.second_came, &self.first_came),
+            _ => {}
+        }
+    }
+}

@@ -1,0 +1,60 @@
+-- At the next run: a token, or the place at which the comments are at fault.
+use Rattle.std.specs.Prelude.{◌≡◌, ℕ, ◌≤◌, true, List, [], ◌∷◌, refl}
+use Rattle.std.proofs.Common.{◌∙◌, ap, arith, inl, inr}
+use Rattle.mm_lex.specs.declared.span.Span.{Span}
+use Rattle.mm_lex.specs.Alphabet.{word, IsRunAt}
+use Rattle.mm_lex.specs.Tokens.{opener, closer, is_plain, AllPlain, IsClean}
+use Rattle.mm_lex.specs.TextFaults.{StopsAt}
+use Rattle.mm_lex.specs.Comments.{runs_behind, IsNestedAt}
+use Rattle.mm_lex.specs.Between.{HasBetween, IsTokenBehind}
+use Rattle.mm_lex.proofs.CuttingMeans.{no_runs}
+use Rattle.mm_lex.proofs.Progress.{IsWordAt-run}
+use Rattle.mm_lex.proofs.BetweenLemmas.{between_on, between_token, stops_on}
+
+module _ {text : List ℕ} {at from : ℕ} (has : HasBetween text at from []) (s : Span) (run : runs_behind text from ≡ s ∷ runs_behind text s.end) where
+  -- a plain run is the next token
+  pub next_is : IsClean text → IsRunAt text s → from ≤ s.start → is_plain (word text s) ≡ true → IsTokenBehind text at s
+  next_is clean is later plain = record {
+    token = IsWordAt-run text s clean is;
+    later = omega (arith, has.later, later, is.some);
+    between = between_on has (between_token from s run is later plain);
+  }
+
+  -- a `$)` is where the comments stop
+  pub stops_stray : word text s ≡ closer → StopsAt text (runs_behind text at) s.start
+  stops_stray closes =
+      stops_on has s.start (inl (record { before = []; tokens = []; at = s; rest = runs_behind text s.end; whole = run; cut = no_runs text; closes = closes; place = refl }))
+
+  module _ (opens : word text s ≡ opener) where
+    -- a `$(` inside of the comment that begins at this run is where they stop
+    pub stops_nested : (offset : ℕ) → IsNestedAt text s.end offset → StopsAt text (runs_behind text at) offset
+    stops_nested offset is =
+        stops_on has offset (inr (inl (record {
+          before = [];
+          tokens = [];
+          outer = s;
+          inside = is.inside;
+          at = is.at;
+          rest = is.rest;
+          whole = run ∙ ap (λ r. s ∷ r) is.whole;
+          cut = no_runs text;
+          opens = opens;
+          plain = is.plain;
+          opens_again = is.opens_again;
+          place = is.place;
+        })))
+
+    -- they stop at this run, where the comment that begins with it is never closed
+    pub stops_unclosed : AllPlain text (runs_behind text s.end) → StopsAt text (runs_behind text at) s.start
+    stops_unclosed plain =
+        stops_on has s.start (inr (inr (record {
+          before = [];
+          tokens = [];
+          at = s;
+          inside = runs_behind text s.end;
+          whole = run;
+          cut = no_runs text;
+          opens = opens;
+          plain = plain;
+          place = refl;
+        })))

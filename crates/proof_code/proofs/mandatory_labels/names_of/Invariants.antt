@@ -1,0 +1,5 @@
+use Rattle.proof_code.proofs.LabelKindLemmas.{NamesTo}
+use Rattle.proof_code.proofs.mandatory_labels.names_of.Given as goal
+
+abbrev pub invariant-loop-label : goal.invariant-loop-label
+invariant-loop-label l = NamesTo l.labels l.left l.names

@@ -1,7 +1,0 @@
-use Rattle.std.proofs.Common.{◌≡◌, ◌++◌, take}
-use Rattle.std.specs.Prelude.{flat_map}
-use Rattle.proof_pages.specs.StepLines.{behind_comma}
-use Rattle.proof_pages.proofs.lines.push_others.Given as goal
-
-abbrev pub invariant-loop-place : goal.invariant-loop-place
-invariant-loop-place l = l.text.items ≡ l.initial.text.items ++ flat_map behind_comma (take l.place-index l.places)

@@ -1,0 +1,7 @@
+use Rattle.std.proofs.Common.{◌≡◌, ◌++◌, take}
+use Rattle.std.specs.Prelude.{flat_map}
+use Rattle.proof_pages.specs.StepLines.{symbol_text}
+use Rattle.proof_pages.proofs.step_lines.push_expr.Given as goal
+
+abbrev pub invariant-loop-symbol : goal.invariant-loop-symbol
+invariant-loop-symbol l = l.text.items ≡ l.initial.text.items ++ flat_map (symbol_text l.frames.names) (take l.symbol-index l.expr)

@@ -1,0 +1,18 @@
+use Rattle.std.proofs.Common.{◌++◌}
+use Rattle.std.specs.Prelude.{codes, get_or}
+use Rattle.std.proofs.Common.{ap, ◌∙◌}
+use Rattle.scope.specs.Active.{stmt_at}
+use Rattle.verify.specs.Proves.{label_or_none}
+use Rattle.steps.specs.Rows.{no_row}
+use Rattle.proof_pages.specs.StepLines.{number_text, taken_text, expr_text}
+use Rattle.proof_pages.proofs.AppendLemmas.{joined, joined-last}
+use Rattle.proof_pages.proofs.step_lines.push_step.Goals as goal
+
+pub returns : goal.returns
+returns c =
+    let step2 = joined c.args.text.now.items c.push_place.new.text.items c.extend_from_slice.new.self.items (number_text c.args.place) (codes " ") c.in_ok-push_place.ensures (c.in_ok-extend_from_slice.ensures.items) in
+    let step3 = joined c.args.text.now.items c.extend_from_slice.new.self.items c.push_taken.new.text.items (number_text c.args.place ++ codes " ") (taken_text (get_or c.args.table.now c.args.place no_row).step.taken) step2 (c.in_ok-push_taken.ensures ∙ ap (λ t. c.extend_from_slice.new.self.items ++ taken_text t) c.taken.ensures) in
+    let step4 = joined c.args.text.now.items c.push_taken.new.text.items c.extend_from_slice-2.new.self.items (number_text c.args.place ++ codes " " ++ taken_text (get_or c.args.table.now c.args.place no_row).step.taken) (codes " ") step3 (c.in_ok-extend_from_slice-2.ensures.items) in
+    let step5 = joined c.args.text.now.items c.extend_from_slice-2.new.self.items c.extend_from_slice-3.new.self.items (number_text c.args.place ++ codes " " ++ taken_text (get_or c.args.table.now c.args.place no_row).step.taken ++ codes " ") (label_or_none (stmt_at c.args.frames.now.statements (get_or c.args.table.now c.args.place no_row).step.position)) step4 (c.in_ok-extend_from_slice-3.ensures.items ∙ ap (λ t. c.extend_from_slice-2.new.self.items ++ t) (c.label_at.ensures ∙ ap (λ p. label_or_none (stmt_at c.args.frames.now.statements p)) c.position.ensures)) in
+    let step6 = joined c.args.text.now.items c.extend_from_slice-3.new.self.items c.push_expr.new.text.items (number_text c.args.place ++ codes " " ++ taken_text (get_or c.args.table.now c.args.place no_row).step.taken ++ codes " " ++ label_or_none (stmt_at c.args.frames.now.statements (get_or c.args.table.now c.args.place no_row).step.position)) (expr_text c.args.frames.now.names (get_or c.args.table.now c.args.place no_row).expr) step5 (c.in_ok-push_expr.ensures ∙ ap (λ e. c.extend_from_slice-3.new.self.items ++ expr_text c.args.frames.now.names e) c.expr.ensures) in
+    joined-last c.args.text.now.items c.push_expr.new.text.items c.extend_from_slice-4.new.self.items (number_text c.args.place ++ codes " " ++ taken_text (get_or c.args.table.now c.args.place no_row).step.taken ++ codes " " ++ label_or_none (stmt_at c.args.frames.now.statements (get_or c.args.table.now c.args.place no_row).step.position) ++ expr_text c.args.frames.now.names (get_or c.args.table.now c.args.place no_row).expr) (codes "\n") c.extend_from_slice-4.result step6 c.extend_from_slice-4.ensures.items

@@ -1,0 +1,238 @@
+//! The least bad job by one, two and sixteen workers, and two workers side by side.
+ghost use Rattle.std.specs.Prelude.{◌≡◌, ◌≤◌, ◌∷◌, ◌++◌, [], IsTrue};
+ghost use Rattle.mm_read.specs.Statements.{Database, AreShaped, IsShaped};
+ghost use Rattle.scope.specs.Active.{bare};
+ghost use Rattle.verify_pool.specs.Jobs.{AreJobs};
+
+use crate::first_example::push;
+use frame::Frames;
+use mm_lex::Words;
+use mm_read::{Stmt, read};
+use proof_code::{CodeFault, Items, normal};
+use scope::Scope;
+use std::alloc::Global;
+use std::sync::atomic::{AtomicBool, Ordering};
+use std::thread::Threads;
+use verify_pool::{Gate, Job, OpenGate, Place, Workers, check_all};
+
+/// Texts of normal proofs, and the index of the least that is not right.
+const ROWS: [(&[u8], Option<usize>); 5] = [
+    (TWO, None),
+    (
+        b"$c |- o $. o1 $a |- o $. p $p |- o $= o1 o1 $. q $p |- o $= q $.",
+        Some(0),
+    ),
+    (
+        b"$c |- o $. a $a |- o $. p $p |- o $= a $. q $p |- o $= ? $. r $p |- o $= r $.",
+        Some(1),
+    ),
+    (
+        b"$c |- o $. a $a |- o $. p $p |- o $= a $. q $p |- o $= p $. r $p |- o $= a a $.",
+        Some(2),
+    ),
+    (b"$c |- o $. a $a |- o $.", None),
+];
+
+/// Two right proofs.
+const TWO: &[u8] = b"$c |- o $. a $a |- o $. p $p |- o $= a $. q $p |- o $= p $.";
+
+#[test]
+fn least_bad_job(rt: HostRuntime) {
+    for (text, least) in ROWS {
+        assert!(rt; is_least_by_each(&rt, rt.alloc(), text, least), "{text:?}");
+    }
+}
+
+fn is_least_by_each<R: Threads + Sync>(
+    rt: &R,
+    alloc: Global,
+    text: &[u8],
+    least: Option<usize>,
+) -> bool {
+    answer_of(rt, alloc, text, 1, &OpenGate) == Some(least)
+        && answer_of(rt, alloc, text, 2, &OpenGate) == Some(least)
+        && answer_of(rt, alloc, text, 16, &OpenGate) == Some(least)
+}
+
+/// A second call answers where memory was refused once.
+#[test]
+fn answered_after_a_refused_growth(rt: HostRuntime) {
+    let mut answer = answer_of(&rt, rt.alloc(), TWO, 2, &OpenGate);
+    if answer.is_none() {
+        answer = answer_of(&rt, rt.alloc(), TWO, 2, &OpenGate);
+    }
+    assert_eq!(rt; answer, Some(None));
+}
+
+/// Each of the first two jobs waits at the gate for the other, so two workers run side by side.
+#[test]
+fn gate_two_jobs(rt: HostRuntime) {
+    let meeting = Meeting {
+        first_came: AtomicBool::new(false),
+        second_came: AtomicBool::new(false),
+        missed: AtomicBool::new(false),
+    };
+    let answer = answer_of(&rt, rt.alloc(), TWO, 2, &meeting);
+    assert_eq!(rt; answer, Some(None));
+    assert!(rt; !meeting.missed.load(Ordering::SeqCst));
+}
+
+/// How often a thread looks whether the other has come.
+const TURNS: u64 = 1_000_000_000;
+
+/// A gate at which the first two jobs meet.
+#[derive(Drop)]
+struct Meeting {
+    first_came: AtomicBool,
+    second_came: AtomicBool,
+    /// Whether one of them waited in vain.
+    missed: AtomicBool,
+}
+
+impl Meeting {
+    /// Tells that the one has come, and waits for the other.
+    fn meet(&self, comes: &AtomicBool, other: &AtomicBool) {
+        comes.store(true, Ordering::SeqCst);
+        for _turn in 0..TURNS {
+            if other.load(Ordering::SeqCst) {
+                return;
+            }
+        }
+        self.missed.store(true, Ordering::SeqCst);
+    }
+}
+
+impl Gate for Meeting {
+    fn pass(&self, place: Place) {
+        match place {
+            Place::Job(0) => self.meet(&self.first_came, &self.second_came),
+            Place::Job(1) => self.meet(&self.second_came, &self.first_came),
+            _ => {}
+        }
+    }
+}
+
+/// What is answered of the proofs of a text; nothing where the text is no legal database or there is no memory.
+fn answer_of<G: Gate + Sync, R: Threads + Sync>(
+    rt: &R,
+    alloc: Global,
+    text: &[u8],
+    workers: usize,
+    gate: &G,
+) -> Option<Option<usize>>
+    requires { (1 ≤ workers) × (workers ≤ 16) }
+{
+    match read(alloc, text) {
+        Ok(statements) => judge(rt, alloc, &statements, workers, gate),
+        Err(_) => None,
+    }
+}
+
+/// What is answered of the proofs of these statements.
+fn judge<G: Gate + Sync, R: Threads + Sync>(
+    rt: &R,
+    alloc: Global,
+    statements: &[Stmt],
+    workers: usize,
+    gate: &G,
+) -> Option<Option<usize>>
+    requires shaped { AreShaped statements.now }
+    requires workers { (1 ≤ workers) × (workers ≤ 16) }
+{
+    let mut frames = Frames::new(alloc);
+    let mut jobs = Vec::new(alloc);
+    if push_all(alloc, statements, &mut frames, &mut jobs) {
+        checked_again(rt, alloc, &frames, jobs.as_slice(), workers, gate)
+    } else {
+        None
+    }
+}
+
+/// The least bad of the jobs. Where a growth is refused, it is asked again.
+fn checked_again<G: Gate + Sync, R: Threads + Sync>(
+    rt: &R,
+    alloc: Global,
+    frames: &Frames,
+    jobs: &[Job],
+    workers: usize,
+    gate: &G,
+) -> Option<Option<usize>>
+    requires jobs { AreJobs frames.now.statements jobs.now }
+    requires workers { (1 ≤ workers) × (workers ≤ 16) }
+{
+    match check_all(rt, alloc, frames, jobs, Workers::of(workers), gate) {
+        Ok(answer) => Some(answer),
+        Err(_) => check_all(rt, alloc, frames, jobs, Workers::of(workers), gate).ok(),
+    }
+}
+
+/// Pushes the statements, and adds the jobs of their proofs.
+fn push_all(alloc: Global, statements: &[Stmt], frames: &mut Frames, jobs: &mut Vec<Job>) -> bool
+    requires shaped { AreShaped statements.now }
+    requires none { frames.old.statements ≡ [] }
+    requires jobs { AreJobs frames.old.statements jobs.old.items }
+    ensures { IsTrue result → AreJobs frames.new.statements jobs.new.items }
+{
+    let mut scope = Scope::new(alloc);
+    push_each(alloc, statements, &mut scope, frames, jobs)
+}
+
+fn push_each(
+    alloc: Global,
+    statements: &[Stmt],
+    scope: &mut Scope,
+    frames: &mut Frames,
+    jobs: &mut Vec<Job>,
+) -> bool
+    requires shaped { AreShaped statements.now }
+    requires same { scope.old.statements ≡ frames.old.statements }
+    requires jobs { AreJobs frames.old.statements jobs.old.items }
+    ensures { IsTrue result → AreJobs frames.new.statements jobs.new.items }
+{
+    for stmt in statements {
+        if !push_one(alloc, stmt, scope, frames, jobs) {
+            return false;
+        }
+    }
+    true
+}
+
+fn push_one(
+    alloc: Global,
+    stmt: &Stmt,
+    scope: &mut Scope,
+    frames: &mut Frames,
+    jobs: &mut Vec<Job>,
+) -> bool
+    requires shaped { IsShaped stmt.now }
+    requires same { scope.old.statements ≡ frames.old.statements }
+    requires jobs { AreJobs frames.old.statements jobs.old.items }
+    ensures same { IsTrue result → scope.new.statements ≡ frames.new.statements }
+    ensures jobs { IsTrue result → AreJobs frames.new.statements jobs.new.items }
+{
+    if push(scope, frames, stmt).is_none() {
+        return false;
+    }
+    push_job(alloc, frames, stmt, jobs).is_some()
+}
+
+/// The items of a normal proof, asked once more where there was no memory.
+fn items_again(alloc: Global, tokens: &Words) -> Result<Items, CodeFault> {
+    match normal(alloc, tokens) {
+        Err(CodeFault::Memory) => normal(alloc, tokens),
+        items => items,
+    }
+}
+
+/// Adds the job of the statement that was pushed last, where it is a `$p`.
+fn push_job(alloc: Global, frames: &Frames, stmt: &Stmt, jobs: &mut Vec<Job>) -> Option<()>
+    requires { (S : Database) × (frames.now.statements ≡ S ++ bare stmt.now ∷ []) × AreJobs S jobs.old.items }
+    ensures { AreJobs frames.now.statements jobs.new.items }
+{
+    if let Stmt::Prove { proof, .. } = stmt {
+        let at = frames.len();
+        let code = items_again(alloc, proof).ok();
+        jobs.push(Job { at, code }).ok()?;
+    }
+    Some(())
+}

@@ -1,0 +1,43 @@
+-- The images that the results for the hypotheses of an assertion give to its variables.
+-- Source: Metamath, 4.2.6.
+-- The code reads them by numbers; here they are read off the statements.
+use Rattle.std.specs.Prelude.{ℕ, ◌<◌, List, [], ◌∷◌, ◌++◌, drop, map, Option, Some}
+use Rattle.mm_lex.specs.Alphabet.{Name}
+use Rattle.mm_read.specs.declared.stmt.Stmt.{Stmt}
+use Rattle.mm_read.specs.declared.stmt.Stmt.TheVariants as stmt
+use Rattle.mm_read.specs.Statements.{Expr, Database}
+use Rattle.scope.specs.Active.{stmt_at}
+use Rattle.names.specs.Codes.{name_at, decode}
+use Rattle.entries.specs.declared.cited_parts.Hypothesis.{Hypothesis}
+use Rattle.entries.specs.declared.cited_parts.Hypothesis.TheVariants.{Float, Essential}
+use Rattle.frame.specs.Substitution.{Images, CodeImages}
+
+-- the result for a `$f`, without its constant, is the image of its variable; for another statement it is none
+abbrev pub image_at : Option Stmt → Expr → Images
+image_at (Some (stmt.Float label constant variable)) e = (variable, drop 1 e) ∷ []
+image_at s e = []
+
+-- the images that results give, one for each of the hypotheses
+abbrev pub images_read : Database → List ℕ → List Expr → Images
+images_read S [] rs = []
+images_read S (p ∷ ps) [] = []
+images_read S (p ∷ ps) (e ∷ rs) = image_at (stmt_at S p) e ++ images_read S ps rs
+
+-- the same by numbers
+abbrev pub code_at : Hypothesis → List ℕ → CodeImages
+code_at (Float x) e = (x, drop 1 e) ∷ []
+code_at (Essential q) e = []
+
+abbrev pub codes_read : List Hypothesis → List (List ℕ) → CodeImages
+codes_read [] es = []
+codes_read (h ∷ hs) [] = []
+codes_read (h ∷ hs) (e ∷ es) = code_at h e ++ codes_read hs es
+
+-- images by number as images of names
+abbrev pub named_images : List Name → CodeImages → Images
+named_images names σ = map (λ p. (name_at names p.0, decode names p.1)) σ
+
+-- each variable has a name
+abbrev pub AreVariables : ℕ → CodeImages → Type 0
+AreVariables n [] = Unit {0}
+AreVariables n (p ∷ σ) = (p.0 < n) × AreVariables n σ

@@ -1,0 +1,164 @@
+-- Marking, and going back to the mark; what the rules say of the names to be declared.
+use Rattle.std.specs.Prelude.{◌≡◌, ℕ, ◌+◌, ◌==◌, Bool, true, false, not, ◌||◌, ◌&&◌, List, [], ◌∷◌, ◌++◌, length, take, Option, Some, None, is_some, refl}
+use Rattle.std.specs.List.{list_any, list_all, flat_map}
+use Rattle.std.proofs.Common.{◌∙◌, ap, sym, subst, arith, true≢false}
+use Rattle.std.proofs.Math.Bool.{or-false}
+use Rattle.std.proofs.lemmas.List.{append-nil, map-append, take-map, take-take, take_all, take_at, length-map, nil_from_length}
+use Rattle.std.proofs.lemmas.Grind.{flat_map-append}
+use Rattle.std.proofs.lemmas.Bool.Decides.{nat_tests}
+use Rattle.std.proofs.lemmas.Bool.{and_parts}
+use Rattle.mm_lex.specs.Alphabet.{Name, name_eq, has_name}
+use Rattle.mm_read.specs.declared.stmt.Stmt.{Stmt}
+use Rattle.mm_read.specs.Statements.{Database}
+use Rattle.scope.specs.Active.{stays_open, active_from, active, is_closed, count, variables, typed_by, was_label, was_symbol, is_constant, is_variable}
+use Rattle.scope.specs.Legal.{all_different}
+use Rattle.names.specs.Codes.{numbers_in, number_in, AreNamed}
+use Rattle.scope.specs.Numbering.{names_of, can_push}
+use Rattle.scope.specs.Kinds.{Declared, declared_symbols, kind_in, TellsAll, is_label_kind, is_constant_kind}
+use Rattle.scope.specs.Stored.Stacks.{sizes_of, blocks_of, IsKept}
+use Rattle.scope.specs.declared.stack_heights.Sizes.{Sizes}
+use Rattle.scope.specs.declared.numbering.Kind.{Kind}
+use Rattle.scope.proofs.ActiveLemmas.{active_from-later, below-deficit, no_deficit, deficit, deficit-append, left_open}
+use Rattle.scope.proofs.BlocksLemmas.{length-blocks, closed-left}
+use Rattle.names.proofs.AddedNames.{numbers_in-more, has_name-append}
+use Rattle.names.proofs.CodesLemmas.{name_same, same_name}
+use Rattle.scope.proofs.NamesLemmas.{names_of-later, active-named}
+use Rattle.scope.proofs.SortsLemmas.{numbers-has, fresh-kind}
+
+-- ---- marking, and going back to the mark
+
+pub kept-mark : (S M : Database) (names : Declared) (vs ts : List ℕ) (blocks : List Sizes) (mark sizes : Sizes) (m n : ℕ) → is_closed S ≡ true → sizes ≡ sizes_of (active S) → n ≡ length names
+    → IsKept S M names vs ts blocks mark m → IsKept S S names vs ts blocks sizes n
+kept-mark S M names vs ts blocks mark sizes m n closed height count k = record {
+  named = k.named;
+  told = k.told;
+  symbols = k.symbols;
+  variables_are = k.variables_are;
+  typed_are = k.typed_are;
+  typed_known = k.typed_known;
+  blocks_are = k.blocks_are;
+  never_below = k.never_below;
+  marked = record {
+    later = ([], sym (append-nil S), refl);
+    closed = closed;
+    sizes = height;
+    count = count ∙ (sym (length-map names (λ p. p.0)) ∙ ap length k.named);
+    told = subst (λ (ns : Declared). TellsAll S ns) (sym (ap (λ i. take i names) count ∙ take_all (length names) names (omega arith))) k.told;
+    symbols = ap declared_symbols (ap (λ i. take i names) count ∙ take_all (length names) names (omega arith)) ∙ k.symbols;
+    typed_known = k.typed_known;
+  };
+}
+
+stack-back : (f : ℕ × Stmt → List Name) (S M T : Database) (stack : List ℕ) → S ≡ M ++ T → stays_open 0 T ≡ true → AreNamed (names_of M) (flat_map f (active M))
+    → stack ≡ numbers_in (names_of S) (flat_map f (active S)) → take (length (flat_map f (active M))) stack ≡ numbers_in (names_of M) (flat_map f (active M))
+stack-back f S M T stack e below known is =
+    let more = names_of-later M T in
+    let A : List Name = flat_map f (active M) in
+    let split : flat_map f (active S) ≡ A ++ flat_map f (active_from (1 + length M) T) =
+    ap (λ D. flat_map f (active D)) e ∙ (ap (flat_map f) (active_from-later 1 M T below) ∙ flat_map-append f (active M) (active_from (1 + length M) T)) in
+    ap (take (length A)) is
+    ∙ (take-map (number_in (names_of S)) (length A) (flat_map f (active S))
+    ∙ (ap (λ r. numbers_in (names_of S) (take (length A) r)) split
+    ∙ (ap (numbers_in (names_of S)) (take_at A (flat_map f (active_from (1 + length M) T)) (length A) refl)
+    ∙ (ap (λ ns. numbers_in ns A) (ap names_of e ∙ more.1) ∙ numbers_in-more (names_of M) more.0 A known))))
+
+pub kept-back : (S M : Database) (names : Declared) (vs ts : List ℕ) (blocks : List Sizes) (mark : Sizes) (m : ℕ) → IsKept S M names vs ts blocks mark m
+    → IsKept M M (take m names) (take mark.variables vs) (take mark.typed ts) [] mark m
+kept-back S M names vs ts blocks mark m k =
+    let km = k.marked in
+    let T = km.later.0 in
+    let e : S ≡ M ++ T = km.later.1 in
+    let below : stays_open 0 T ≡ true = km.later.2 in
+    let more = names_of-later M T in
+    let never : stays_open 0 M ≡ true = below-deficit 0 M (omega (arith, deficit-append M T (no_deficit T below), ap deficit e, no_deficit S k.never_below)) in
+    let none : left_open M ≡ 0 = closed_none M never km.closed in
+    record {
+      named = sym (take-map (λ (p : Name × Kind). p.0) m names) ∙ (ap (take m) (k.named ∙ (ap names_of e ∙ more.1)) ∙ (ap (λ i. take i (names_of M ++ more.0)) km.count ∙ take_at (names_of M) more.0 (length (names_of M)) refl));
+      told = km.told;
+      symbols = km.symbols;
+      variables_are = ap (λ z. take z.variables vs) km.sizes ∙ stack-back (λ p. variables p.1) S M T vs e below (active-named M) k.variables_are;
+      typed_are = ap (λ z. take z.typed ts) km.sizes ∙ stack-back (λ p. typed_by p.1) S M T ts e below km.typed_known k.typed_are;
+      typed_known = km.typed_known;
+      blocks_are = sym (nil_from_length (blocks_of M) (length-blocks [] 1 M ∙ none));
+      never_below = never;
+      marked = record {
+        later = ([], sym (append-nil M), refl);
+        closed = km.closed;
+        sizes = km.sizes;
+        count = km.count;
+        told = subst (λ (ns : Declared). TellsAll M ns) (sym (take-take m m names (omega arith))) km.told;
+        symbols = ap declared_symbols (take-take m m names (omega arith)) ∙ km.symbols;
+        typed_known = km.typed_known;
+      };
+    }
+  where
+    closed_none : (M : Database) → stays_open 0 M ≡ true → is_closed M ≡ true → left_open M ≡ 0
+    closed_none M never closed = by (left_open M) refl
+      where
+        same : (a : ℕ) → (a == 0) ≡ true → a ≡ 0
+        same a h = grind (arith, nat_tests)
+
+        by : (l : ℕ) → left_open M ≡ l → l ≡ 0
+        by l e = same l (ap (λ n. n == 0) (sym e) ∙ (sym (closed-left M never) ∙ closed))
+
+-- ---- what the rules say of the names to be declared
+
+pub all-has : (p : Name → Bool) (x : Name) (xs : List Name) → list_all p xs ≡ true → has_name x xs ≡ true → p x ≡ true
+all-has p x [] h k = cc
+all-has p x (y ∷ xs) h k = by (name_eq x y) refl (and_parts (p y) (list_all p xs) h) k (all-has p x xs)
+  where
+    by : (b : Bool) → name_eq x y ≡ b → (p y ≡ true) × (list_all p xs ≡ true) → (b || has_name x xs) ≡ true → (list_all p xs ≡ true → has_name x xs ≡ true → p x ≡ true) → p x ≡ true
+    by true e h k rest = ap p (same_name x y e) ∙ h.0
+    by false e h k rest = rest h.1 k
+
+pub fresh-none : (S : Database) (names : Declared) (x : Name) → TellsAll S names → not (was_symbol S x || was_label S x) ≡ true → kind_in names x ≡ None
+fresh-none S names x told h = by (kind_in names x) (fresh-kind S x (kind_in names x) (told x) ∙ h)
+  where
+    by : (k : Option Kind) → not (is_some k) ≡ true → k ≡ None
+    by None h = refl
+    by (Some k) h = cc
+
+pub inactive-free : (S : Database) (names : Declared) (x : Name) → TellsAll S names → not (is_variable S x || is_constant S x || was_label S x) ≡ true
+    → (is_label_kind (kind_in names x) ≡ false) × (is_constant_kind (kind_in names x) ≡ false)
+inactive-free S names x told h =
+    let p = parts (is_variable S x) (is_constant S x) (was_label S x) h in
+    (sym (told x).label ∙ p.2, sym (told x).constant ∙ p.1)
+  where
+    parts : (a b c : Bool) → not (a || b || c) ≡ true → (a ≡ false) × (b ≡ false) × (c ≡ false)
+    parts false false false h = (refl, refl, refl)
+    parts true b c h = cc
+    parts false true c h = cc
+    parts false false true h = cc
+
+pub inactive-not : (S : Database) (x : Name) → not (is_variable S x || is_constant S x || was_label S x) ≡ true → is_variable S x ≡ false
+inactive-not S x h = by (is_variable S x) (is_constant S x) (was_label S x) h
+  where
+    by : (a b c : Bool) → not (a || b || c) ≡ true → a ≡ false
+    by false b c h = refl
+    by true b c h = cc
+
+-- names that differ from one another and from those on the stack can be put there
+pub can_push-names : (names active ws : List Name) → AreNamed names ws → all_different ws ≡ true → ((x : Name) → has_name x ws ≡ true → has_name x active ≡ false)
+    → can_push (numbers_in names active) (numbers_in names ws) ≡ true
+can_push-names names active [] known differ apart = refl
+can_push-names names active (w ∷ ws) known differ apart =
+    let d = and_parts (not (has_name w ws)) (all_different ws) differ in
+    let own : has_name w (w ∷ ws) ≡ true = ap (λ b. b || has_name w ws) (name_same w) in
+    let first : list_any (λ m. m == number_in names w) (numbers_in names active) ≡ false = numbers-has names w active (known w own) ∙ apart w own in
+    ap (λ b. not b && can_push (numbers_in names active ++ number_in names w ∷ []) (numbers_in names ws)) first
+    ∙ (ap (λ s. can_push s (numbers_in names ws)) (sym (map-append (number_in names) active (w ∷ [])))
+    ∙ can_push-names names (active ++ w ∷ []) ws (λ x h. known x (later x h)) d.1 (λ x h. has_name-append x active (w ∷ []) ∙ (ap (λ b. b || (name_eq x w || false)) (apart x (later x h)) ∙ or-false (name_eq x w) ∙ other x h d.0)))
+  where
+    later : (x : Name) → has_name x ws ≡ true → (name_eq x w || has_name x ws) ≡ true
+    later x h = by (name_eq x w) h
+      where
+        by : (b : Bool) → has_name x ws ≡ true → (b || has_name x ws) ≡ true
+        by true h = refl
+        by false h = h
+
+    other : (x : Name) → has_name x ws ≡ true → not (has_name w ws) ≡ true → name_eq x w ≡ false
+    other x h n = by (name_eq x w) refl
+      where
+        by : (b : Bool) → name_eq x w ≡ b → b ≡ false
+        by true e = absurd (true≢false (sym n ∙ (ap (λ z. not (has_name z ws)) (sym (same_name x w e)) ∙ ap not h)))
+        by false e = refl

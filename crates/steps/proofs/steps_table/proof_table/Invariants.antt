@@ -1,0 +1,17 @@
+use Rattle.std.proofs.Common.{◌≡◌, List}
+use Rattle.mm_lex.specs.Alphabet.{Name}
+use Rattle.frame.specs.AtPosition.{ArePositions, AreLegal}
+use Rattle.proof_code.specs.ItemNumbers.{items_of}
+use Rattle.steps.specs.Stored.Drafted.{IsDraft}
+use Rattle.steps.proofs.ReachedLemmas.{Reached}
+use Rattle.steps.proofs.steps_table.proof_table.Given as goal
+
+-- behind the items so far
+abbrev pub invariant-loop-number : goal.invariant-loop-number
+invariant-loop-number l =
+    AreLegal l.frames.statements l.frames.names
+    × IsDraft l.frames.statements l.at l.frames.names l.draft
+    × ((labels : List Name)
+    × ArePositions l.frames.statements labels l.positions.items
+    × (items_of labels l.number-items ≡ l.items)
+    × Reached l.frames.statements l.at l.frames.names labels l.number-items l.number-index l.draft)

@@ -1,0 +1,72 @@
+use Rattle.std.proofs.Common.{◌≡◌, arith, ◌-◌, [], ◌∷◌, ◌++◌, length, map, drop, take, get_or, inr, sym, ◌∙◌, ap, subst, refl}
+use Rattle.std.proofs.lemmas.Result.{on_ok_weaker}
+use Rattle.frame.specs.Below.{AreBelow}
+use Rattle.subst.specs.ExpressionPlaces.{seen_at, AreWithin}
+use Rattle.subst.proofs.NumbersApartLemmas.{below-drop}
+use Rattle.verify.specs.Fits.{IsTyped, AreRead}
+use Rattle.verify.specs.ResultPlaces.{top}
+use Rattle.steps.specs.Stored.Drafted.{place_in, place_of}
+use Rattle.steps.proofs.DraftLemmas.{places-within, exprs-seen}
+use Rattle.steps.proofs.table_draft.cite_parts.Goals as goal
+
+pub fill_places-requires : goal.fill_places-requires
+fill_places-requires c =
+    let stack = c.args.draft.now.stack.items in
+    let lens : c.len.result ≡ length stack = omega (arith, c.len.ensures) in
+    let taken = c.deref-4.ensures.value ∙ (c.in_ok-taken.ensures.tail ∙ ap (λ l. drop (l - length c.args.cited.now.hypotheses.now) stack) lens) in
+    subst (λ ps. AreBelow (length ps) c.deref-4.result.now) (sym c.deref-3.ensures.value)
+    (subst (AreBelow (length c.args.draft.now.placed.items)) (sym taken) (below-drop _ _ stack c.requires.held.stack_below))
+
+pub conclude-requires-clause-within : goal.conclude-requires-clause-within
+conclude-requires-clause-within c =
+    let d = c.args.draft.now in
+    let stack = d.stack.items in
+    let lens : c.len.result ≡ length stack = omega (arith, c.len.ensures) in
+    let n = length c.args.cited.now.hypotheses.now in
+    let taken = c.deref-4.ensures.value ∙ (c.in_ok-taken.ensures.tail ∙ ap (λ l. drop (l - n) stack) lens) in
+    let places = c.deref-5.ensures.value ∙ (c.in_ok-fill_places.ensures ∙ (ap (λ ps. map (place_in ps) c.deref-4.result.now) c.deref-3.ensures.value ∙ ap (map (place_in d.placed.items)) taken)) in
+    subst (AreWithin (length d.symbols)) (sym places) (places-within (length d.symbols) d.placed.items (top n stack) c.requires.held.inside (below-drop _ _ stack c.requires.held.stack_below))
+
+pub conclude-requires-clause-typed : goal.conclude-requires-clause-typed
+conclude-requires-clause-typed c =
+    λ k x kind.
+    let d = c.args.draft.now in
+    let stack = d.stack.items in
+    let lens : c.len.result ≡ length stack = omega (arith, c.len.ensures) in
+    let n = length c.args.cited.now.hypotheses.now in
+    let taken = c.deref-4.ensures.value ∙ (c.in_ok-taken.ensures.tail ∙ ap (λ l. drop (l - n) stack) lens) in
+    let places = c.deref-5.ensures.value ∙ (c.in_ok-fill_places.ensures ∙ (ap (λ ps. map (place_in ps) c.deref-4.result.now) c.deref-3.ensures.value ∙ ap (map (place_in d.placed.items)) taken)) in
+    let seen = ap (map (seen_at d.symbols)) places ∙ exprs-seen d.symbols d.placed.items (top n stack) (below-drop _ _ stack c.requires.held.stack_below) in
+    subst (λ es. IsTyped (get_or c.args.cited.now.heads.now k 0) (get_or es k [])) (sym seen) (c.requires.typed k x kind)
+
+pub returns : goal.returns
+returns c =
+    let d = c.args.draft.now in
+    let stack = d.stack.items in
+    let lens : c.len.result ≡ length stack = omega (arith, c.len.ensures) in
+    let n = length c.args.cited.now.hypotheses.now in
+    let took = c.in_ok-taken.ensures.tail ∙ ap (λ l. drop (l - n) stack) lens in
+    let kept = c.in_ok-taken.ensures.items ∙ ap (λ l. take (l - n) stack) lens in
+    let key = c.deref-2.ensures.value ∙ (c.in_ok-key.ensures ∙ ap (λ t. c.args.position ∷ t) (c.deref.ensures.value ∙ took)) in
+    let places = c.deref-5.ensures.value ∙ (c.in_ok-fill_places.ensures ∙ (ap (λ ps. map (place_in ps) c.deref-4.result.now) c.deref-3.ensures.value ∙ ap (map (place_in d.placed.items)) (c.deref-4.ensures.value ∙ took))) in
+    let seen = ap (map (seen_at d.symbols)) places ∙ exprs-seen d.symbols d.placed.items (top n stack) (below-drop _ _ stack c.requires.held.stack_below) in
+    let r = c.in_ok-place.ensures.added in
+    on_ok_weaker c.add_step.result
+    (λ h. inr (
+      r.0,
+      subst (λ es. AreRead c.args.cited.now.heads.now c.args.cited.now.hypotheses.now es r.0) seen r.1,
+      record {
+        made = record { position = c.args.position; taken = c.in_ok-taken.taken; place = c.in_ok-place.place };
+        is_position = refl;
+        is_taken = took;
+        fresh = ap (place_of d.known) (sym key) ∙ (sym c.find.ensures ∙ c.in_default.is);
+        symbols = h.symbols ∙ r.2;
+        start = c.in_ok-place.ensures.place.0;
+        end = c.in_ok-place.ensures.place.1 ∙ ap (λ s. length s) (sym h.symbols);
+        placed = h.placed;
+        stack = h.stack ∙ ap (λ b. b ++ length d.placed.items ∷ []) kept;
+        saved = h.saved;
+        own = ap (λ t. place_of c.add_step.new.draft.known (c.args.position ∷ t)) (sym took) ∙ h.own;
+        others = λ x ne. h.others x (λ e. ne (e ∙ ap (λ t. c.args.position ∷ t) took));
+      },
+    )) c.add_step.ensures

@@ -1,0 +1,139 @@
+//! The table of a proof.
+ghost use Rattle.std.specs.Prelude.{◌≡◌, ◌-◌, ◌<◌, ◌∷◌, ◌++◌, [], IfOk, OnOk, length, get_or, Some};
+ghost use Rattle.mm_read.specs.declared.stmt.Stmt.{Stmt as Statement};
+ghost use Rattle.scope.specs.Active.{stmt_at, expr_of};
+ghost use Rattle.verify.specs.Right.{IsRight, Derives};
+ghost use Rattle.steps.specs.StepTable.{AreSteps};
+ghost use Rattle.steps.specs.Rows.{no_row, row, steps_of, expr_in, AreRows};
+ghost use Rattle.steps.specs.Unfolded.{last_unfolded};
+
+use crate::noting::note;
+use crate::table_draft::{Draft, PlacedStep};
+use frame::{Frames, Gathered};
+use proof_code::Items;
+use std::alloc::{AllocError, Global};
+use std::marker::Model;
+use subst::{Buffer, SYMBOLS_LIMIT, place_between, symbols_at};
+
+/// The steps of a proof, none twice, each after those that it takes. Contracts see the list of rows.
+#[derive(Drop)]
+pub struct ProofTable {
+    placed: Vec<PlacedStep>,
+    symbols: Buffer,
+}
+
+impl Model for ProofTable {
+    ghost use Rattle.std.specs.Prelude.{List, length, map};
+    ghost use Rattle.steps.specs.Rows.{Row};
+    ghost use Rattle.steps.specs.Stored.Drafted.{row_of, AreInBuffer};
+
+    ghost Value = { List Row };
+
+    ghost view = { λ a. map (row_of a.symbols) a.placed.items };
+
+    ghost invariant = { λ a. AreInBuffer (length a.symbols) a.placed.items };
+}
+
+impl ProofTable {
+    /// No steps.
+    pub(crate) fn new(alloc: Global) -> ProofTable
+        ensures { result ≡ [] }
+    {
+        ProofTable {
+            placed: Vec::new(alloc),
+            symbols: Buffer::new(alloc),
+        }
+    }
+
+    /// Adds a step with its expression.
+    pub(crate) fn push(
+        &mut self,
+        position: usize,
+        taken: Vec<usize>,
+        expr: &[u32],
+    ) -> Result<(), AllocError>
+        ensures { OnOk result (self.new ≡ self.old ++ row position taken.items expr.now ∷ []) }
+    {
+        let start = self.symbols.len();
+        if expr.len() > SYMBOLS_LIMIT - start {
+            return Err(AllocError);
+        }
+        self.symbols.extend(expr)?;
+        let place = place_between(start, self.symbols.len());
+        self.placed.push(PlacedStep {
+            position,
+            taken,
+            place,
+        })?;
+        Ok(())
+    }
+
+    /// How many steps there are.
+    pub fn len(&self) -> usize
+        ensures { result ≡ length self.now }
+    {
+        self.placed.len()
+    }
+
+    /// What the step at a place, from 0, cites, by position.
+    pub fn position(&self, place: usize) -> usize
+        requires { place < length self.now }
+        ensures { result ≡ (get_or self.now place no_row).step.position }
+    {
+        self.placed[place].position
+    }
+
+    /// The places of the steps whose results it takes, in the order of the hypotheses.
+    pub fn taken(&self, place: usize) -> &[usize]
+        requires { place < length self.now }
+        ensures { result.now ≡ (get_or self.now place no_row).step.taken }
+    {
+        self.placed[place].taken.as_slice()
+    }
+
+    /// The numbers of the symbols of its expression.
+    pub fn expr(&self, place: usize) -> &[u32]
+        requires { place < length self.now }
+        ensures { result.now ≡ (get_or self.now place no_row).expr }
+    {
+        symbols_at(self.symbols.as_slice(), self.placed[place].place)
+    }
+}
+
+/// The steps of the items of a right proof of the `$p` at that position, with what each concludes.
+///
+/// Cost: that of the proof, and of looking each citation up among the steps. There is no limit on the steps.
+/// Source: Metamath, 4.2.6 and appendix B.
+pub fn proof_table(
+    alloc: Global,
+    frames: &Frames,
+    at: usize,
+    items: &Items,
+) -> Result<ProofTable, AllocError>
+    requires { IsRight frames.now.statements at items.now }
+    ensures steps { IfOk result (λ table. AreSteps frames.now.statements at items.now (steps_of table)) }
+    ensures rows { IfOk result (λ table. AreRows frames.now.statements at frames.now.names table) }
+    ensures last { IfOk result (λ table. (s : Statement) → stmt_at frames.now.statements at ≡ Some s
+        → expr_in frames.now.names table (length table - 1) ≡ expr_of s) }
+    ensures derives { IfOk result (λ table. Derives frames.now.statements at items.now (last_unfolded frames.now.statements (steps_of table))) }
+{
+    let parts = items.parts();
+    let positions = frames.positions(parts.labels)?;
+    let mut gathered = Gathered::new(alloc);
+    let mut draft = Draft::new(alloc);
+    for number in parts.numbers {
+        note(
+            alloc,
+            frames,
+            at,
+            &positions,
+            *number,
+            &mut gathered,
+            &mut draft,
+        )?;
+    }
+    Ok(ProofTable {
+        placed: draft.placed,
+        symbols: draft.symbols,
+    })
+}

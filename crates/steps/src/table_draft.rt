@@ -1,0 +1,160 @@
+//! A table while it is made: what a citation adds.
+ghost use Rattle.std.specs.Prelude.{◌≡◌, ℕ, ◌<◌, ◌≤◌, ◌∷◌, [], List, Some, OnOk, length, map, get_or, slice_get};
+ghost use Rattle.mm_lex.specs.Alphabet.{Name};
+ghost use Rattle.mm_read.specs.declared.stmt.Stmt.{Stmt as Statement};
+ghost use Rattle.entries.specs.declared.cited_parts.Hypothesis.TheVariants.{Float};
+ghost use Rattle.frame.specs.Below.{AreBelow};
+ghost use Rattle.verify.specs.Fits.{AreDifferent, IsTyped};
+ghost use Rattle.verify.specs.ResultPlaces.{top};
+ghost use Rattle.steps.specs.Stored.Drafted.{IsDraft, AreHeld, Adds, GivesHypothesis, GivesAssertion, place_in, codes_in};
+
+use crate::concluding::conclude;
+use crate::known::{find, keep, key};
+use entries::Cited;
+use std::alloc::{AllocError, Global};
+use std::collections::BTreeMap;
+use subst::{Buffer, ExpressionPlace, ImagePlaces, SYMBOLS_LIMIT, place_between};
+
+/// A step, and where its expression lies.
+#[derive(Drop)]
+pub struct PlacedStep {
+    /// What is cited, by position.
+    pub position: usize,
+    /// The places in the table of the steps whose results it takes.
+    pub taken: Vec<usize>,
+    /// Where its expression lies.
+    pub place: ExpressionPlace,
+}
+
+/// The steps so far, those of the results that wait and of those that were marked, and buffers.
+#[derive(Drop)]
+pub struct Draft {
+    pub placed: Vec<PlacedStep>,
+    pub symbols: Buffer,
+    pub stack: Vec<usize>,
+    pub saved: Vec<usize>,
+    pub known: BTreeMap<Vec<usize>, usize>,
+    pub images: ImagePlaces,
+    pub places: Vec<ExpressionPlace>,
+}
+
+impl Draft {
+    /// No steps.
+    pub fn new(alloc: Global) -> Draft
+        ensures draft { (S : List Statement) (at : ℕ) (names : List Name) → IsDraft S at names result }
+        ensures empty { (result.placed.items ≡ []) × (result.stack.items ≡ []) × (result.saved.items ≡ []) }
+    {
+        Draft {
+            placed: Vec::new(alloc),
+            symbols: Buffer::new(alloc),
+            stack: Vec::new(alloc),
+            saved: Vec::new(alloc),
+            known: BTreeMap::new(alloc),
+            images: ImagePlaces::new(alloc),
+            places: Vec::new(alloc),
+        }
+    }
+}
+
+/// Adds a step that does not stand yet, and puts its result on top.
+fn add_step(draft: &mut Draft, key: Vec<usize>, step: PlacedStep) -> Result<(), AllocError>
+    requires { key.items ≡ step.position ∷ step.taken.items }
+    ensures { OnOk result (Adds draft.old draft.new step) }
+{
+    let place = draft.placed.len();
+    draft.placed.push(step)?;
+    keep(&mut draft.known, key, place)?;
+    draft.stack.push(place)?;
+    Ok(())
+}
+
+/// Cites a hypothesis.
+pub fn cite_hypothesis(
+    alloc: Global,
+    draft: &mut Draft,
+    position: usize,
+    expr: &[u32],
+) -> Result<(), AllocError>
+    ensures { OnOk result (GivesHypothesis draft.old draft.new position expr.now) }
+{
+    let key = key(alloc, position, &[])?;
+    if let Some(place) = find(&draft.known, &key) {
+        draft.stack.push(place)?;
+        return Ok(());
+    }
+    let start = draft.symbols.len();
+    if expr.len() > SYMBOLS_LIMIT - start {
+        return Err(AllocError);
+    }
+    draft.symbols.extend(expr)?;
+    let place = place_between(start, draft.symbols.len());
+    let taken = Vec::new(alloc);
+    add_step(
+        draft,
+        key,
+        PlacedStep {
+            position,
+            taken,
+            place,
+        },
+    )
+}
+
+/// Where the expression of the step at a place lies.
+fn place_at(placed: &[PlacedStep], number: usize) -> ExpressionPlace
+    requires { number < length placed.now }
+    ensures { result ≡ place_in placed.now number }
+{
+    placed[number].place
+}
+
+/// Fills the list with the places of the expressions of these steps.
+fn fill_places(
+    placed: &[PlacedStep],
+    taken: &[usize],
+    places: &mut Vec<ExpressionPlace>,
+) -> Result<(), AllocError>
+    requires { AreBelow (length placed.now) taken.now }
+    ensures { OnOk result (places.new.items ≡ map (place_in placed.now) taken.now) }
+{
+    places.clear();
+    for number in taken {
+        places.push(place_at(placed, *number))?;
+    }
+    Ok(())
+}
+
+/// Cites an assertion by its parts.
+pub fn cite_parts(
+    alloc: Global,
+    draft: &mut Draft,
+    position: usize,
+    cited: &Cited<'_>,
+) -> Result<(), AllocError>
+    requires held { AreHeld draft.old }
+    requires many { length cited.now.hypotheses.now ≤ length draft.old.stack.items }
+    requires heads { length cited.now.heads.now ≡ length cited.now.hypotheses.now }
+    requires different { AreDifferent cited.now.hypotheses.now }
+    requires typed { (k x : ℕ) → slice_get cited.now.hypotheses.now k ≡ Some (Float x)
+        → IsTyped (get_or cited.now.heads.now k 0) (get_or (map (codes_in draft.old) (top (length cited.now.hypotheses.now) draft.old.stack.items)) k []) }
+    ensures { OnOk result (GivesAssertion draft.old draft.new position cited.now) }
+{
+    let kept = draft.stack.len() - cited.hypotheses.len();
+    let taken = draft.stack.split_off(kept)?;
+    let key = key(alloc, position, &taken)?;
+    if let Some(place) = find(&draft.known, &key) {
+        draft.stack.push(place)?;
+        return Ok(());
+    }
+    fill_places(&draft.placed, &taken, &mut draft.places)?;
+    let place = conclude(&mut draft.symbols, &mut draft.images, cited, &draft.places)?;
+    add_step(
+        draft,
+        key,
+        PlacedStep {
+            position,
+            taken,
+            place,
+        },
+    )
+}

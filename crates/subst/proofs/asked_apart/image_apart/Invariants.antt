@@ -1,0 +1,10 @@
+use Rattle.std.specs.Prelude.{◌≡◌}
+use Rattle.names.specs.Codes.{decode}
+use Rattle.frame.specs.Substitution.{images_of_names}
+use Rattle.subst.specs.Images.{is_image_apart}
+use Rattle.subst.proofs.asked_apart.image_apart.Given as goal
+
+abbrev pub invariant-loop-y : goal.invariant-loop-y
+invariant-loop-y l =
+    is_image_apart l.pairs.statements (images_of_names l.pairs.names l.subst) l.y-iterator l.x (decode l.pairs.names l.image)
+    ≡ is_image_apart l.pairs.statements (images_of_names l.pairs.names l.subst) l.group l.x (decode l.pairs.names l.image)

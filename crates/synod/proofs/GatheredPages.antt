@@ -1,0 +1,80 @@
+-- A page that is new is kept, and its sender may be heard with it.
+use Rattle.std.proofs.Common.{◌≡◌, ◌∙◌, ◌<◌, ◌≤◌, ◌-◌, ◌&&◌, not, ℕ, Bool, true, false, List, [], ◌∷◌, ◌++◌, Option, None, length, ap, sym, arith, if◌then◌else◌}
+use Rattle.std.proofs.lemmas.Bool.Decides.{nat_tests}
+use Rattle.std.proofs.lemmas.List.{get_or_past, set_past}
+use Rattle.slots.specs.FiniteMap.{entry_at, put_at, front_of}
+use Rattle.synod.specs.declared.ballot.Ballot.{Ballot}
+use Rattle.synod.specs.declared.proposer.Role.{Role}
+use Rattle.synod.specs.declared.proposer.Role.TheVariants.{Preparing}
+use Rattle.synod.specs.Ballots.{is_same}
+use Rattle.synod.specs.Weights.{is_quorum}
+use Rattle.synod.specs.PromisePages.{all_had}
+use Rattle.synod.specs.declared.packet.SlotReport.{SlotReport}
+use Rattle.synod.specs.declared.packet.Packet.{Packet}
+use Rattle.synod.specs.declared.proposer.Heard.{Heard}
+use Rattle.synod.specs.declared.proposer.Proposal.TheVariants.{Page, HearPage}
+use Rattle.synod.specs.Node.{Node, Stepped, unchanged, answers, kept_of, pages_from, page_of, with_page, is_heard}
+use Rattle.synod.specs.Core.{Proposing, assembled, proposing_of, learning_of}
+use Rattle.synod.specs.Proposer.{keeps_page, keeps_promise, hears, leads_with, gathers, on_promise_as, on_promise}
+use Rattle.synod.specs.Ready.{proposed_node}
+use Rattle.synod.proofs.PagesWithLemmas.{with_new}
+
+abbrev pub with_proposing : {V : Type 0} → Node V → Proposing V → Node V
+with_proposing n p = assembled n.me n.weights (kept_of n) p (learning_of n)
+
+module _ {V : Type 0} (m n : Node V) (same : m ≡ n) (p : Proposing V) (room : p ≡ proposing_of m) (i : ℕ) (reports copy : List (SlotReport V)) (copied : copy ≡ reports)
+    (posts : List (Packet V)) (no_posts : posts ≡ []) where
+  -- the page is kept, and the promise of its sender has more
+  pub keep_step : (k : ℕ) → page_of m.pages k i ≡ None → keeps_page n (with_page n.pages k i reports) ≡ answers (proposed_node (with_proposing m p) (Page k i copy)) posts
+  keep_step k none =
+      ap (λ (x : Node V). keeps_page x (with_page x.pages k i reports)) (sym same)
+      ∙ ap (λ (ps : List (List (Option (List (SlotReport V))))). keeps_page m ps) (with_new m.pages k i reports none)
+      ∙ (λ j. answers (proposed_node (with_proposing m (sym room j)) (Page k i (sym copied j))) (sym no_posts j))
+
+  -- the page is kept and its sender is heard, and no quorum yet
+  pub hear_step : (h : Heard) → page_of m.pages h.node i ≡ None
+      → keeps_promise n (with_page n.pages h.node i reports) (n.heard ++ h ∷ []) ≡ answers (proposed_node (with_proposing m p) (HearPage h i copy)) posts
+  hear_step h none =
+      ap (λ (x : Node V). keeps_promise x (with_page x.pages h.node i reports) (x.heard ++ h ∷ [])) (sym same)
+      ∙ ap (λ (ps : List (List (Option (List (SlotReport V))))). keeps_promise m ps (m.heard ++ h ∷ [])) (with_new m.pages h.node i reports none)
+      ∙ (λ j. answers (proposed_node (with_proposing m (sym room j)) (HearPage h i (sym copied j))) (sym no_posts j))
+
+-- Which branch a page takes.
+
+module _ {V : Type 0} (n : Node V) (k : ℕ) (b : Ballot) (first count : ℕ) (pages : List (List (Option (List (SlotReport V))))) where
+  abbrev had_if : Bool → Stepped V
+  had_if t = if t then hears n b first pages (n.heard ++ record { node = k; count = count } ∷ []) else keeps_page n pages
+
+  -- where a page of the promise is still missing, the pages are kept
+  pub gathers_not_all : front_of (pages_from pages k) < count → gathers n k b first count pages ≡ keeps_page n pages
+  gathers_not_all few = let t : all_had (pages_from pages k) count ≡ false = grind (arith, nat_tests) in ap had_if t
+
+  -- where all pages of the promise are had, the sender is heard, and a quorum makes the node lead
+  pub gathers_all : count ≤ front_of (pages_from pages k) → (q : Bool) → is_quorum n.weights (is_heard (n.heard ++ record { node = k; count = count } ∷ [])) ≡ q
+      → gathers n k b first count pages ≡ (if q then leads_with n b first pages (n.heard ++ record { node = k; count = count } ∷ []) else keeps_promise n pages (n.heard ++ record { node = k; count = count } ∷ []))
+  gathers_all all q quorum =
+      let t : all_had (pages_from pages k) count ≡ true = grind (arith, nat_tests) in
+      ap had_if t
+      ∙ ap (λ (q : Bool). if q then leads_with n b first pages (n.heard ++ record { node = k; count = count } ∷ []) else keeps_promise n pages (n.heard ++ record { node = k; count = count } ∷ [])) quorum
+
+-- a page of no node comes to nothing
+pub gathers_none : {V : Type 0} (n : Node V) (k i : ℕ) (b : Ballot) (first count : ℕ) (reports : List (SlotReport V)) → length n.pages ≤ k → 1 ≤ count → gathers n k b first count (with_page n.pages k i reports) ≡ unchanged n
+gathers_none {V} n k i b first count reports past some =
+    let none : pages_from n.pages k ≡ [] = get_or_past n.pages k [] past in
+    let no_page : page_of n.pages k i ≡ None = ap (λ (m : List (Option (List (SlotReport V)))). entry_at m i) none in
+    let same : with_page n.pages k i reports ≡ n.pages = with_new n.pages k i reports no_page ∙ set_past n.pages k (put_at (pages_from n.pages k) i reports) past in
+    let front : front_of (pages_from n.pages k) ≡ 0 = ap (λ (m : List (Option (List (SlotReport V)))). front_of m) none in
+    ap (λ (ps : List (List (Option (List (SlotReport V))))). gathers n k b first count ps) same
+    ∙ gathers_not_all n k b first count n.pages (omega (arith, front, some))
+
+abbrev asked : {V : Type 0} → Node V → ℕ → Ballot → ℕ → ℕ → ℕ → List (SlotReport V) → Bool → Bool → Stepped V
+asked n k c first page count reports same heard =
+    if same && not heard then gathers n k c first count (with_page n.pages k (page - 1) reports) else unchanged n
+
+-- a page of a promise from a number that no node has comes to nothing
+pub promise_of_none : {V : Type 0} (n : Node V) (c : Ballot) (first : ℕ) → n.role ≡ Preparing c first → (k : ℕ) (b : Ballot) (page count : ℕ) (reports : List (SlotReport V)) → length n.pages ≤ k → 1 ≤ count
+    → is_same b c ≡ true → is_heard n.heard k ≡ false → on_promise n k b page count reports ≡ unchanged n
+promise_of_none {V} n c first role k b page count reports past some same heard =
+    ap (λ (r : Role). on_promise_as r n k b page count reports) role
+    ∙ (λ i. asked n k c first page count reports (same i) (heard i))
+    ∙ gathers_none n k (page - 1) c first count reports past some

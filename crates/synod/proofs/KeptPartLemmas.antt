@@ -1,0 +1,113 @@
+-- Each step makes of the kept part its one change, or leaves it.
+use Rattle.std.proofs.Common.{◌≡◌, ℕ, ◌-◌, ◌^◌, ◌==◌, ◌&&◌, not, nat_lt, Bool, true, false, List, [], ◌∷◌, ◌++◌, length, Option, Some, None, Result, Ok, Err, refl, if◌then◌else◌}
+use Rattle.slots.specs.FiniteMap.{entry_at}
+use Rattle.synod.specs.declared.ballot.Ballot.{Ballot}
+use Rattle.synod.specs.declared.packet.SlotReport.{SlotReport}
+use Rattle.synod.specs.declared.packet.Body.{Body}
+use Rattle.synod.specs.declared.packet.Body.TheVariants.{Prepare, Promise, Accept, Accepted, Nack, Ask, Told}
+use Rattle.synod.specs.declared.proposer.Heard.{Heard}
+use Rattle.synod.specs.declared.proposer.Role.{Role}
+use Rattle.synod.specs.declared.proposer.Role.TheVariants.{Idle, Preparing, Leading}
+use Rattle.synod.specs.declared.refusal.Refusal.{Refusal}
+use Rattle.synod.specs.declared.refusal.Refusal.TheVariants.{Busy, LogFull, RoundsSpent, TooLong}
+use Rattle.synod.specs.declared.value.TheConstants.{MOST_BYTES}
+use Rattle.synod.specs.declared.proposer.TheConstants.{MOST_WAITING}
+use Rattle.slots.specs.declared.slots.TheConstants.{SLOTS}
+use Rattle.synod.specs.Ballots.{is_under, is_same}
+use Rattle.synod.specs.Weights.{is_quorum}
+use Rattle.synod.specs.PromisePages.{all_had}
+use Rattle.synod.specs.Record.{changed_by}
+use Rattle.synod.specs.Node.{Node, Stepped, kept_of, unchanged, pages_from, with_page, is_heard}
+use Rattle.synod.specs.Acceptor.{promises, refuses, takes_value}
+use Rattle.synod.specs.Proposer.{waits, takes_slot, offer_waits, offer_as, offered, next_round, begins, begun, top_reported, all_reports, leads, keeps_page, keeps_promise, hears, gathers, on_promise_as, is_at, idles}
+use Rattle.synod.specs.Learner.{has_voter, counted, chooses, on_accepted_at, on_ask_at, on_told_at}
+use Rattle.synod.specs.Log.{log_length}
+use Rattle.synod.specs.Step.{on_body, restarted}
+
+-- the step changes the kept part as it says
+abbrev pub ChangesKept : {V : Type 0} → Node V → Stepped V → Type 0
+ChangesKept n step = kept_of step.node ≡ changed_by (kept_of n) step.change
+
+-- the same, where the step is not refused
+abbrev pub ChangesKeptOnOk : {V : Type 0} → Node V → Result (Stepped V) Refusal → Type 0
+ChangesKeptOnOk n (Ok step) = ChangesKept n step
+ChangesKeptOnOk n (Err refusal) = Unit {0}
+
+-- a step of two by a test, each of which changes the kept part as it says
+either : {V : Type 0} (n : Node V) (one other : Stepped V) (t : Bool) → ChangesKept n one → ChangesKept n other → ChangesKept n (if t then one else other)
+either n one other true h k = h
+either n one other false h k = k
+
+-- the same where either may be refused
+either_ok : {V : Type 0} (n : Node V) (one other : Result (Stepped V) Refusal) (t : Bool) → ChangesKeptOnOk n one → ChangesKeptOnOk n other → ChangesKeptOnOk n (if t then one else other)
+either_ok n one other true h k = h
+either_ok n one other false h k = k
+
+module _ {V : Type 0} (n : Node V) where
+  -- an offer to a node that does not lead
+  offer_waits_kept : (v : V) → ChangesKeptOnOk n (offer_waits n v)
+  offer_waits_kept v = either_ok n (Err LogFull) (if nat_lt (length n.waiting) MOST_WAITING then Ok (waits n v) else Err Busy) (log_length n == SLOTS) tt
+      (either_ok n (Ok (waits n v)) (Err Busy) (nat_lt (length n.waiting) MOST_WAITING) refl tt)
+
+  -- an offer, by the role of the node
+  offer_as_kept : (role : Role) (v : V) → ChangesKeptOnOk n (offer_as role n v)
+  offer_as_kept Idle v = offer_waits_kept v
+  offer_as_kept (Preparing b first) v = offer_waits_kept v
+  offer_as_kept (Leading b next) v = either_ok n (Err LogFull) (Ok (takes_slot n b next v)) (next == SLOTS) tt refl
+
+  -- an offer, by the length of the value
+  pub offered_kept : (size : V → ℕ) (v : V) → ChangesKeptOnOk n (offered size n v)
+  offered_kept size v = either_ok n (Err TooLong) (offer_as n.role n v) (nat_lt MOST_BYTES (size v)) tt (offer_as_kept n.role v)
+
+  -- a ballot is begun, or the rounds are spent
+  pub begun_kept : ChangesKeptOnOk n (begun n)
+  begun_kept = either_ok n (Ok (begins n)) (Err RoundsSpent) (nat_lt (next_round n) (2 ^ 64)) refl tt
+
+  abbrev heard_with : ℕ → ℕ → List Heard
+  heard_with p count = n.heard ++ record { node = p; count = count } ∷ []
+
+  -- a sender is heard, with or without a quorum
+  hears_kept : (b : Ballot) (first : ℕ) (pages : List (List (Option (List (SlotReport V))))) (heard : List Heard) → ChangesKept n (hears n b first pages heard)
+  hears_kept b first pages heard = either n (leads n b first (all_reports pages heard) (top_reported first (all_reports pages heard))) (keeps_promise n pages heard) (is_quorum n.weights (is_heard heard)) refl refl
+
+  -- a page that was asked for, whether or not pages of its promise are missing
+  gathers_kept : (p : ℕ) (b : Ballot) (first count : ℕ) (pages : List (List (Option (List (SlotReport V))))) → ChangesKept n (gathers n p b first count pages)
+  gathers_kept p b first count pages = either n (hears n b first pages (heard_with p count)) (keeps_page n pages) (all_had (pages_from pages p) count)
+      (hears_kept b first pages (heard_with p count)) refl
+
+  -- a Promise comes, by the role of the node
+  promise_kept : (role : Role) (p : ℕ) (b : Ballot) (page count : ℕ) (reports : List (SlotReport V)) → ChangesKept n (on_promise_as role n p b page count reports)
+  promise_kept Idle p b page count reports = refl
+  promise_kept (Leading c next) p b page count reports = refl
+  promise_kept (Preparing c first) p b page count reports = either n (gathers n p c first count (with_page n.pages p (page - 1) reports)) (unchanged n) (is_same b c && not (is_heard n.heard p))
+      (gathers_kept p c first count (with_page n.pages p (page - 1) reports)) refl
+
+  -- an Accepted comes, by what is learned at the slot
+  accepted_kept : (o : Option (Option V)) (p : ℕ) (b : Ballot) (s : ℕ) (v : Option V) → ChangesKept n (on_accepted_at o n p b s v)
+  accepted_kept (Some u) p b s v = refl
+  accepted_kept None p b s v = let counting : Node V = record n { tallies = counted n.tallies s b p } in
+      either n (chooses counting s v) (unchanged counting) (is_quorum n.weights (has_voter counting.tallies s b)) refl refl
+
+  -- an Ask comes, by what is learned at the slot
+  ask_kept : (o : Option (Option V)) (p s : ℕ) → ChangesKept n (on_ask_at o n p s)
+  ask_kept None p s = refl
+  ask_kept (Some v) p s = refl
+
+  -- a Told comes, by what is learned at the slot
+  told_kept : (o : Option (Option V)) (p s : ℕ) (v : Option V) → ChangesKept n (on_told_at o n p s v)
+  told_kept (Some u) p s v = refl
+  told_kept None p s v = refl
+
+  -- any packet comes
+  pub body_kept : (p : ℕ) (body : Body V) → ChangesKept n (on_body n p body)
+  body_kept p (Prepare b first) = either n (promises n p b first) (refuses n p b) (is_under n.promise b) refl refl
+  body_kept p (Promise b page count reports) = promise_kept n.role p b page count reports
+  body_kept p (Accept b s v) = either n (refuses n p b) (takes_value n b s v) (is_under b n.promise) refl refl
+  body_kept p (Accepted b s v) = accepted_kept (entry_at n.learned s) p b s v
+  body_kept p (Nack b c) = either n (idles n) (unchanged n) (is_at n.role b && is_under b c) refl refl
+  body_kept p (Ask s) = ask_kept (entry_at n.learned s) p s
+  body_kept p (Told s v) = told_kept (entry_at n.learned s) p s v
+
+  -- a restart comes, and leaves it
+  pub restarted_kept : ChangesKept n (restarted n)
+  restarted_kept = refl

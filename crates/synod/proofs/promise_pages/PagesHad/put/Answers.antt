@@ -1,0 +1,12 @@
+use Rattle.std.proofs.Common.{◌∙◌, ap, List}
+use Rattle.slots.specs.FiniteMap.{SlotsView}
+use Rattle.synod.specs.declared.packet.SlotReport.{SlotReport}
+use Rattle.synod.specs.Stored.PagesHad.{entries_of, put_page}
+use Rattle.synod.proofs.PagesHadLemmas.{entries-put, room-within}
+use Rattle.synod.proofs.promise_pages.PagesHad.put.Goals as goal
+
+pub returns : goal.returns
+returns g c =
+    entries-put c.self.inside.by_node.items c.args.node c.args.page c.args.reports c.index_mut-pages.result.now c.put.new.self c.index_mut-pages.ensures.value c.put.ensures.entries
+    (room-within c.self.inside.by_node.items c.args.node c.args.page (rw c.self.view_is c.requires))
+    ∙ ap (λ (maps : List (SlotsView (List (SlotReport g.row.V.Denot)))). put_page (entries_of maps) c.args.node c.args.page c.args.reports) c.self.view_is

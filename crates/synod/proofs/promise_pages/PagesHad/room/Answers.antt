@@ -1,0 +1,25 @@
+use Rattle.std.proofs.Common.{◌∙◌, ap, subst, set, length, List, arith}
+use Rattle.slots.specs.FiniteMap.{SlotsView}
+use Rattle.synod.specs.declared.packet.SlotReport.{SlotReport}
+use Rattle.synod.specs.Stored.PagesHad.{entries_of, rooms_of}
+use Rattle.synod.specs.Rooms.{RoomsGrow}
+use Rattle.synod.proofs.RoomLemmas.{rooms_grow}
+use Rattle.synod.proofs.PagesHadLemmas.{entries-same, room-after, ok-room}
+use Rattle.synod.proofs.promise_pages.PagesHad.room.Goals as goal
+
+pub returns-clause-ok : goal.returns-clause-ok
+returns-clause-ok g c =
+    let count = ap (λ (maps : List (SlotsView (List (SlotReport g.row.V.Denot)))). length maps) c.self.view_is in
+    ok-room c.room.result c.args.page c.room.new.self.room _ c.room.ensures.ok
+    (room-after c.self.inside.by_node.items c.args.node c.room.new.self (omega (arith, count, c.requires.node)))
+
+pub returns-clause-pages : goal.returns-clause-pages
+returns-clause-pages g c =
+    let count = ap (λ (maps : List (SlotsView (List (SlotReport g.row.V.Denot)))). length maps) c.self.view_is in
+    entries-same c.self.inside.by_node.items c.args.node c.index_mut-pages.result.now c.room.new.self c.index_mut-pages.ensures.value c.room.ensures.entries (omega (arith, count, c.requires.node))
+    ∙ ap (λ (maps : List (SlotsView (List (SlotReport g.row.V.Denot)))). entries_of maps) c.self.view_is
+
+pub returns-clause-rooms : goal.returns-clause-rooms
+returns-clause-rooms g c =
+    subst (λ (maps : List (SlotsView (List (SlotReport g.row.V.Denot)))). RoomsGrow (rooms_of maps) (rooms_of (set c.self.inside.by_node.items c.args.node c.room.new.self))) c.self.view_is
+    (rooms_grow c.self.inside.by_node.items c.args.node c.index_mut-pages.result.now c.room.new.self c.index_mut-pages.ensures.value c.room.ensures.room)

@@ -1,0 +1,24 @@
+use Rattle.std.proofs.Common.{◌∙◌, ap, sym, arith, List, Option}
+use Rattle.std.proofs.lemmas.List.{length-map}
+use Rattle.slots.specs.FiniteMap.{SlotsView, front_of}
+use Rattle.synod.specs.declared.packet.SlotReport.{SlotReport}
+use Rattle.synod.specs.Node.{page_of, pages_from}
+use Rattle.synod.specs.Stored.PagesHad.{entries_of}
+use Rattle.synod.proofs.AcceptedLemmas.{none_is}
+use Rattle.synod.proofs.PagesWithLemmas.{with_had, pages_new, some_is}
+use Rattle.synod.proofs.promise_pages.front_after.Goals as goal
+
+pub returns-then-is_some : goal.returns-then-is_some
+returns-then-is_some g c = λ reports.
+    ap (λ (ps : List (List (Option (List (SlotReport g.row.V.Denot))))). front_of (pages_from ps c.args.node))
+    (with_had (entries_of c.args.pages.now) c.args.node c.args.page reports (some_is c.get.result (page_of (entries_of c.args.pages.now) c.args.node c.args.page) c.get.ensures c.is_some.result c.is_some.ensures c.if-is_some.true))
+    ∙ sym c.front.ensures
+
+pub returns-else-is_some : goal.returns-else-is_some
+returns-else-is_some g c = λ reports.
+    let count = length-map c.args.pages.now (λ (m : SlotsView (List (SlotReport g.row.V.Denot))). m.entries) in
+    ap (λ (m : List (Option (List (SlotReport g.row.V.Denot)))). front_of m)
+    (pages_new (entries_of c.args.pages.now) c.args.node c.args.page reports
+    (none_is c.get.result (page_of (entries_of c.args.pages.now) c.args.node c.args.page) _ c.is_some.result c.get.ensures c.is_some.ensures c.if-is_some.false)
+    (omega (arith, count, c.requires.node)))
+    ∙ c.front_with.ensures reports

@@ -1,0 +1,178 @@
+-- The mandatory hypotheses of an assertion, one place at a time.
+use Rattle.std.specs.Prelude.{◌≡◌, ℕ, zero, suc, ◌<◌, Bool, true, false, nat_eq, List, [], ◌∷◌, length, get_or, slice_get, Some, ◌⊎◌, refl}
+use Rattle.std.proofs.Common.{sym, ◌∙◌, ap, subst, arith, inl, inr}
+use Rattle.std.proofs.lemmas.Bool.Decides.{nat_tests}
+use Rattle.std.proofs.lemmas.Option.{slice_get_within}
+use Rattle.mm_lex.specs.Alphabet.{Name}
+use Rattle.mm_read.specs.declared.stmt.Stmt.{Stmt}
+use Rattle.mm_read.specs.declared.stmt.Stmt.TheVariants as stmt
+use Rattle.mm_read.specs.Statements.{Expr, Database}
+use Rattle.scope.specs.Active.{stmt_at, before, expr_of}
+use Rattle.names.specs.Codes.{name_at}
+use Rattle.frame.specs.FrameOf.{hypotheses}
+use Rattle.entries.specs.declared.cited_parts.Hypothesis.{Hypothesis}
+use Rattle.entries.specs.declared.cited_parts.Hypothesis.TheVariants.{Float, Essential}
+use Rattle.frame.specs.Bound.{IsBound}
+use Rattle.frame.specs.Cited.{IsHead, IsOf, IsAsked, AreAsked}
+use Rattle.verify.specs.Fits.{AreDifferent, IsStanding, AreStanding}
+use Rattle.frame.proofs.FoundByNumber.{some-same}
+
+-- ---- lists
+
+pub lists-same : {A : Type 0} (xs ys : List A) (d : A) → length xs ≡ length ys → ((k : ℕ) → k < length xs → get_or xs k d ≡ get_or ys k d) → xs ≡ ys
+lists-same [] [] d l h = refl
+lists-same [] (y ∷ ys) d l h = absurd (omega (arith, l))
+lists-same (x ∷ xs) [] d l h = absurd (omega (arith, l))
+lists-same (x ∷ xs) (y ∷ ys) d l h =
+    ap (λ z. z ∷ xs) (h zero (omega arith)) ∙ ap (λ zs. y ∷ zs) (lists-same xs ys d (omega (arith, l)) (λ k less. h (suc k) (omega (arith, less))))
+
+-- ---- one place
+
+pub record At (S : Database) (names : List Name) (ps heads : List ℕ) (hs : List Hypothesis) (k : ℕ) : Type 0 where
+  pub position : ℕ
+  pub head : ℕ
+  pub hypothesis : Hypothesis
+  pub listed : slice_get ps k ≡ Some position
+  pub first : slice_get heads k ≡ Some head
+  pub kind : slice_get hs k ≡ Some hypothesis
+  pub asked : IsAsked S names position head hypothesis
+
+module _ (S : Database) (names : List Name) where
+  pub asked-lengths : (ps heads : List ℕ) (hs : List Hypothesis) → AreAsked S names ps heads hs → (length heads ≡ length ps) × (length hs ≡ length ps)
+  asked-lengths [] [] [] a = (refl, refl)
+  asked-lengths [] [] (h ∷ hs) a = absurd a
+  asked-lengths [] (c ∷ heads) [] a = absurd a
+  asked-lengths [] (c ∷ heads) (h ∷ hs) a = absurd a
+  asked-lengths (p ∷ ps) [] [] a = absurd a
+  asked-lengths (p ∷ ps) [] (h ∷ hs) a = absurd a
+  asked-lengths (p ∷ ps) (c ∷ heads) [] a = absurd a
+  asked-lengths (p ∷ ps) (c ∷ heads) (h ∷ hs) a = let r = asked-lengths ps heads hs a.1 in (ap suc r.0, ap suc r.1)
+
+  pub asked-at : (ps heads : List ℕ) (hs : List Hypothesis) (k : ℕ) → AreAsked S names ps heads hs → k < length ps → At S names ps heads hs k
+  asked-at [] heads hs k a h = absurd (omega (arith, h))
+  asked-at (p ∷ ps) [] [] k a h = absurd a
+  asked-at (p ∷ ps) [] (x ∷ hs) k a h = absurd a
+  asked-at (p ∷ ps) (c ∷ heads) [] k a h = absurd a
+  asked-at (p ∷ ps) (c ∷ heads) (x ∷ hs) zero a h = record { position = p; head = c; hypothesis = x; listed = refl; first = refl; kind = refl; asked = a.0 }
+  asked-at (p ∷ ps) (c ∷ heads) (x ∷ hs) (suc k) a h =
+      let r = asked-at ps heads hs k a.1 (omega (arith, h)) in
+      record { position = r.position; head = r.head; hypothesis = r.hypothesis; listed = r.listed; first = r.first; kind = r.kind; asked = r.asked }
+
+  -- what stands at a `$f`, and at a `$e`
+  pub record FloatAt (p head x : ℕ) : Type 0 where
+    pub label : Name
+    pub constant : Name
+    pub variable : Name
+    pub stands : stmt_at S p ≡ Some (stmt.Float label constant variable)
+    pub below : x < length names
+    pub named : name_at names x ≡ variable
+    pub head_below : head < length names
+    pub head_named : name_at names head ≡ constant
+
+  pub record EssentialAt (p head q : ℕ) : Type 0 where
+    pub label : Name
+    pub expr : Expr
+    pub stands : stmt_at S p ≡ Some (stmt.Ess label expr)
+    pub same : q ≡ p
+    pub first : IsHead names head expr
+
+  pub float-at : (p head x : ℕ) → IsAsked S names p head (Float x) → FloatAt p head x
+  float-at p head x a = by a.stmt a.stands a.first a.is
+    where
+      by : (r : Stmt) → stmt_at S p ≡ Some r → IsHead names head (expr_of r) → IsOf names p r (Float x) → FloatAt p head x
+      by (stmt.Float l c v) stands first is = record { label = l; constant = c; variable = v; stands = stands; below = is.0; named = is.1; head_below = first.0; head_named = first.1 }
+      by (stmt.Ess l e) stands first is = absurd is
+      by stmt.Open stands first is = absurd is
+      by stmt.Close stands first is = absurd is
+      by (stmt.Const ws) stands first is = absurd is
+      by (stmt.Var ws) stands first is = absurd is
+      by (stmt.Disj ws) stands first is = absurd is
+      by (stmt.Axiom l e) stands first is = absurd is
+      by (stmt.Prove l e pr) stands first is = absurd is
+
+  pub essential-at : (p head q : ℕ) → IsAsked S names p head (Essential q) → EssentialAt p head q
+  essential-at p head q a = by a.stmt a.stands a.first a.is
+    where
+      by : (r : Stmt) → stmt_at S p ≡ Some r → IsHead names head (expr_of r) → IsOf names p r (Essential q) → EssentialAt p head q
+      by (stmt.Ess l e) stands first is = record { label = l; expr = e; stands = stands; same = is; first = first }
+      by (stmt.Float l c v) stands first is = absurd is
+      by stmt.Open stands first is = absurd is
+      by stmt.Close stands first is = absurd is
+      by (stmt.Const ws) stands first is = absurd is
+      by (stmt.Var ws) stands first is = absurd is
+      by (stmt.Disj ws) stands first is = absurd is
+      by (stmt.Axiom l e) stands first is = absurd is
+      by (stmt.Prove l e pr) stands first is = absurd is
+
+  -- the number of the variable of a `$f`
+  pub float-number : (p head : ℕ) (h : Hypothesis) (l c v : Name) → IsAsked S names p head h → stmt_at S p ≡ Some (stmt.Float l c v)
+      → (x : ℕ) × (h ≡ Float x) × (x < length names) × (name_at names x ≡ v)
+  float-number p head (Float x) l c v a stands =
+      let f = float-at p head x a in
+      let same : Some (stmt.Float f.label f.constant f.variable) ≡ Some (stmt.Float l c v) = sym f.stands ∙ stands in
+      let one : f.variable ≡ v = cc in
+      (x, refl, f.below, f.named ∙ one)
+  float-number p head (Essential q) l c v a stands =
+      let f = essential-at p head q a in
+      let same : Some (stmt.Ess f.label f.expr) ≡ Some (stmt.Float l c v) = sym f.stands ∙ stands in cc
+
+  pub asked-standing : (ps heads : List ℕ) (hs : List Hypothesis) → AreAsked S names ps heads hs → AreStanding S hs
+  asked-standing [] [] [] a = tt
+  asked-standing [] [] (h ∷ hs) a = absurd a
+  asked-standing [] (c ∷ heads) [] a = absurd a
+  asked-standing [] (c ∷ heads) (h ∷ hs) a = absurd a
+  asked-standing (p ∷ ps) [] [] a = absurd a
+  asked-standing (p ∷ ps) [] (h ∷ hs) a = absurd a
+  asked-standing (p ∷ ps) (c ∷ heads) [] a = absurd a
+  asked-standing (p ∷ ps) (c ∷ heads) (h ∷ hs) a = (one h a.0, asked-standing ps heads hs a.1)
+    where
+      one : (h : Hypothesis) → IsAsked S names p c h → IsStanding S h
+      one (Float x) a = tt
+      one (Essential q) a = let f = essential-at p c q a in (stmt.Ess f.label f.expr, ap (stmt_at S) f.same ∙ f.stands)
+
+  -- the `$f` are of different variables
+  pub asked-different : (a : ℕ) (s : Stmt) (heads : List ℕ) (hs : List Hypothesis) → IsBound S a s → AreAsked S names (hypotheses (before S a) s) heads hs → AreDifferent hs
+  asked-different a s heads hs bound asked = record { each = λ j k x p q. one j k x p q }
+    where
+      one : (j k x : ℕ) → slice_get hs j ≡ Some (Float x) → slice_get hs k ≡ Some (Float x) → j ≡ k
+      one j k x p q =
+          let lens = asked-lengths (hypotheses (before S a) s) heads hs asked in
+          let jn = slice_get_within hs j (Float x) p in
+          let kn = slice_get_within hs k (Float x) q in
+          let ja = asked-at (hypotheses (before S a) s) heads hs j asked (let l = lens.1 in omega (arith, jn, l)) in
+          let ka = asked-at (hypotheses (before S a) s) heads hs k asked (let l = lens.1 in omega (arith, kn, l)) in
+          let f = float-at ja.position ja.head x (subst (IsAsked S names ja.position ja.head) (some-same ja.kind p) ja.asked) in
+          let g = float-at ka.position ka.head x (subst (IsAsked S names ka.position ka.head) (some-same ka.kind q) ka.asked) in
+          bound.once j k ja.position ka.position f.label f.constant g.label g.constant f.variable ja.listed ka.listed f.stands
+          (g.stands ∙ ap (λ v. Some (stmt.Float g.label g.constant v)) (sym g.named ∙ f.named))
+
+-- a number is the variable of some `$f`, or of none
+pub float-find : (hs : List Hypothesis) (x : ℕ) → ((k : ℕ) × (slice_get hs k ≡ Some (Float x))) ⊎ ((k : ℕ) → slice_get hs k ≡ Some (Float x) → ⊥)
+float-find [] x = inr (λ k h. cc)
+float-find (Essential q ∷ hs) x = on (float-find hs x)
+  where
+    on : ((k : ℕ) × (slice_get hs k ≡ Some (Float x))) ⊎ ((k : ℕ) → slice_get hs k ≡ Some (Float x) → ⊥)
+        → ((k : ℕ) × (slice_get (Essential q ∷ hs) k ≡ Some (Float x))) ⊎ ((k : ℕ) → slice_get (Essential q ∷ hs) k ≡ Some (Float x) → ⊥)
+    on (inl f) = inl (suc f.0, f.1)
+    on (inr none) = inr other
+      where
+        other : (k : ℕ) → slice_get (Essential q ∷ hs) k ≡ Some (Float x) → ⊥
+        other zero h = cc
+        other (suc k) h = none k h
+float-find (Float y ∷ hs) x = on (nat_eq y x) refl (float-find hs x)
+  where
+    same : nat_eq y x ≡ true → y ≡ x
+    same e = grind (arith, nat_tests, e)
+
+    differ : nat_eq y x ≡ false → y ≡ x → ⊥
+    differ e one = grind (arith, nat_tests, e, one)
+
+    on : (b : Bool) → nat_eq y x ≡ b → ((k : ℕ) × (slice_get hs k ≡ Some (Float x))) ⊎ ((k : ℕ) → slice_get hs k ≡ Some (Float x) → ⊥)
+        → ((k : ℕ) × (slice_get (Float y ∷ hs) k ≡ Some (Float x))) ⊎ ((k : ℕ) → slice_get (Float y ∷ hs) k ≡ Some (Float x) → ⊥)
+    on true e r = inl (zero, ap (λ n. Some (Float n)) (same e))
+    on false e (inl f) = inl (suc f.0, f.1)
+    on false e (inr none) = inr other
+      where
+        other : (k : ℕ) → slice_get (Float y ∷ hs) k ≡ Some (Float x) → ⊥
+        other zero h = let one : y ≡ x = cc in differ e one
+        other (suc k) h = none k h

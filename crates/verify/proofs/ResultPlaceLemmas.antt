@@ -1,0 +1,254 @@
+-- Results in a buffer that grows.
+use Rattle.std.specs.Prelude.{◌≡◌, ℕ, zero, suc, ◌+◌, ◌-◌, ◌<◌, ◌≤◌, List, [], ◌∷◌, ◌++◌, length, map, take, drop, get_or, replicate, slice_get, slice_set, Some, refl}
+use Rattle.std.proofs.Common.{sym, ◌∙◌, ap, subst, arith, length-append, length-drop}
+use Rattle.std.proofs.lemmas.List.{length-map, take_all}
+use Rattle.subst.specs.declared.expression_place.ExpressionPlace.{ExpressionPlace}
+use Rattle.subst.specs.ExpressionPlaces.{seen_at, AreWithin, AreInside}
+use Rattle.subst.proofs.ExpressionPlaceLemmas.{map-seen-more, within-weaken, within-snoc, within-take, within-drop, within-get, within-at, seen-get, length-seen, seen-last}
+use Rattle.subst.proofs.ImagePlacesLemmas.{inside-more, inside-none}
+use Rattle.verify.specs.Machine.{Results, with_result, IsSaved}
+use Rattle.verify.specs.ResultPlaces.{seen, AreKept, below, top}
+use Rattle.verify.specs.Right.{weight_limit}
+use Rattle.frame.proofs.StoredOneMore.{map-push}
+
+pub map-take : {A B : Type 0} (f : A → B) (k : ℕ) (xs : List A) → map f (take k xs) ≡ take k (map f xs)
+map-take f zero xs = refl
+map-take f (suc k) [] = refl
+map-take f (suc k) (x ∷ xs) = ap (λ r. f x ∷ r) (map-take f k xs)
+
+pub map-drop : {A B : Type 0} (f : A → B) (k : ℕ) (xs : List A) → map f (drop k xs) ≡ drop k (map f xs)
+map-drop f zero xs = refl
+map-drop f (suc k) [] = refl
+map-drop f (suc k) (x ∷ xs) = map-drop f k xs
+
+-- how much longer the buffer is, and how heavy
+grown-few : (xs ys zs : List ℕ) (w v : ℕ) → length xs ≤ w → zs ≡ xs ++ ys → v ≡ w + length ys → length zs ≤ v
+grown-few xs ys zs w v few e weighs = omega (arith, ap length e, length-append xs ys, few, weighs)
+
+pub results-same : {A : Type 0} (a b c d : List (List A)) (w v : ℕ) → a ≡ b → c ≡ d → w ≡ v → (let x : Results A = record { stack = a; saved = c; weight = w } in x) ≡ (let y : Results A = record { stack = b; saved = d; weight = v } in y)
+results-same {A} a b c d w v p q r =
+    let f : List (List A) → List (List A) → ℕ → Results A = λ s t n. record { stack = s; saved = t; weight = n } in
+    ap (λ s. f s c w) p ∙ (ap (λ t. f b t w) q ∙ ap (λ n. f b d n) r)
+
+-- a result was written at the end of the buffer, above those of `rest`
+pub added-kept : (xs ys zs : List ℕ) (images : List (ℕ × ExpressionPlace)) (stack rest saved stack' : List ExpressionPlace) (w v : ℕ) (p : ExpressionPlace) → AreKept xs images stack saved w → AreWithin (length xs) rest
+    → zs ≡ xs ++ ys → p.start ≡ length xs → p.end ≡ length zs → stack' ≡ rest ++ p ∷ [] → v ≡ w + length ys → v ≤ weight_limit
+    → AreKept zs images stack' saved v
+added-kept xs ys zs images stack rest saved stack' w v p k r e low high whole weighs light =
+    let longer : length xs ≤ length zs = omega (arith, ap length e, length-append xs ys) in
+    record {
+      images_inside = inside-more (length xs) (length zs) images longer k.images_inside;
+      stack_within = subst (AreWithin (length zs)) (sym whole) (within-snoc (length zs) rest p (within-weaken (length xs) (length zs) rest longer r) (omega (arith, low, high, longer)) (omega (arith, high)));
+      saved_within = within-weaken (length xs) (length zs) saved longer k.saved_within;
+      few = grown-few xs ys zs w v k.few e weighs;
+      light = light;
+    }
+
+pub added-seen : (xs ys zs : List ℕ) (stack rest saved stack' : List ExpressionPlace) (w v : ℕ) (p : ExpressionPlace) → AreWithin (length xs) saved → AreWithin (length xs) rest
+    → zs ≡ xs ++ ys → p.start ≡ length xs → p.end ≡ length zs → stack' ≡ rest ++ p ∷ [] → v ≡ w + length ys
+    → seen zs stack' saved v ≡ with_result (seen xs stack saved w) (map (seen_at xs) rest) ys
+added-seen xs ys zs stack rest saved stack' w v p k r e low high whole weighs =
+    results-same (map (seen_at zs) stack') (map (seen_at xs) rest ++ ys ∷ []) (map (seen_at zs) saved) (map (seen_at xs) saved) v (w + length ys)
+    (ap (map (seen_at zs)) whole ∙ (map-push (seen_at zs) rest p
+    ∙ (ap (λ r. r ++ seen_at zs p ∷ []) (ap (λ s. map (seen_at s) rest) e ∙ map-seen-more xs ys rest r)
+    ∙ ap (λ s. map (seen_at xs) rest ++ s ∷ []) (seen-last xs ys zs p e low high))))
+    (ap (λ s. map (seen_at s) saved) e ∙ map-seen-more xs ys saved k)
+    weighs
+
+-- ---- a place that is changed
+
+within-set : (n k : ℕ) (ps : List ExpressionPlace) (p : ExpressionPlace) → AreWithin n ps → p.start ≤ p.end → p.end ≤ n → AreWithin n (slice_set ps k p)
+within-set n k [] p w low high = tt
+within-set n zero (q ∷ ps) p w low high = (low, high, w.2)
+within-set n (suc k) (q ∷ ps) p w low high = (w.0, w.1, within-set n k ps p w.2 low high)
+
+map-set : {A B : Type 0} (f : A → B) (xs : List A) (k : ℕ) (x : A) → map f (slice_set xs k x) ≡ slice_set (map f xs) k (f x)
+map-set f [] k x = refl
+map-set f (y ∷ xs) zero x = refl
+map-set f (y ∷ xs) (suc k) x = ap (λ r. f y ∷ r) (map-set f xs k x)
+
+-- a result was written at the end of the buffer, and kept
+pub given-cut : (xs ys zs : List ℕ) (images : List (ℕ × ExpressionPlace)) (stack saved stack' saved' : List ExpressionPlace) (w v k : ℕ) (p : ExpressionPlace) → AreKept xs images stack saved w
+    → zs ≡ xs ++ ys → p.start ≡ length xs → p.end ≡ length zs → stack' ≡ stack → saved' ≡ slice_set saved k p → v ≡ w + length ys → v ≤ weight_limit → AreKept zs images stack' saved' v
+given-cut xs ys zs images stack saved stack' saved' w v k p kept e low high same set weighs light =
+    let longer : length xs ≤ length zs = omega (arith, ap length e, length-append xs ys) in
+    record {
+      images_inside = inside-more (length xs) (length zs) images longer kept.images_inside;
+      stack_within = subst (AreWithin (length zs)) (sym same) (within-weaken (length xs) (length zs) stack longer kept.stack_within);
+      saved_within = subst (AreWithin (length zs)) (sym set)
+          (within-set (length zs) k saved p (within-weaken (length xs) (length zs) saved longer kept.saved_within) (omega (arith, low, high, longer)) (omega (arith, high)));
+      few = grown-few xs ys zs w v kept.few e weighs;
+      light = light;
+    }
+
+pub given-kept : (xs ys zs : List ℕ) (images : List (ℕ × ExpressionPlace)) (stack saved stack' saved' : List ExpressionPlace) (w v k : ℕ) (p : ExpressionPlace) → AreKept xs images stack saved w
+    → zs ≡ xs ++ ys → p.start ≡ length xs → p.end ≡ length zs → stack' ≡ stack ++ p ∷ [] → saved' ≡ slice_set saved k p → v ≡ w + length ys → v ≤ weight_limit
+    → AreKept zs images stack' saved' v
+given-kept xs ys zs images stack saved stack' saved' w v k p kept e low high whole set weighs light =
+    let cut = given-cut xs ys zs images stack saved stack saved' w v k p kept e low high refl set weighs light in
+    let added = added-kept xs ys zs images stack stack saved stack' w v p kept kept.stack_within e low high whole weighs light in
+    record { images_inside = cut.images_inside; stack_within = added.stack_within; saved_within = cut.saved_within; few = cut.few; light = light }
+
+pub given-seen : (xs ys zs : List ℕ) (images : List (ℕ × ExpressionPlace)) (stack saved stack' saved' : List ExpressionPlace) (w v k : ℕ) (p : ExpressionPlace) → AreKept xs images stack saved w
+    → zs ≡ xs ++ ys → p.start ≡ length xs → p.end ≡ length zs → stack' ≡ stack ++ p ∷ [] → saved' ≡ slice_set saved k p → v ≡ w + length ys
+    → seen zs stack' saved' v ≡ (let r : Results ℕ = record { stack = map (seen_at xs) stack ++ ys ∷ []; saved = slice_set (map (seen_at xs) saved) k ys; weight = w + length ys } in r)
+given-seen xs ys zs images stack saved stack' saved' w v k p kept e low high whole set weighs =
+    let added = added-seen xs ys zs stack stack saved stack' w v p kept.saved_within kept.stack_within e low high whole weighs in
+    results-same (map (seen_at zs) stack') (map (seen_at xs) stack ++ ys ∷ []) (map (seen_at zs) saved') (slice_set (map (seen_at xs) saved) k ys) v (w + length ys)
+    (ap (λ r. r.stack) added)
+    (ap (map (seen_at zs)) set ∙ (map-set (seen_at zs) saved k p
+    ∙ (ap (λ r. slice_set r k (seen_at zs p)) (ap (λ s. map (seen_at s) saved) e ∙ map-seen-more xs ys saved kept.saved_within)
+    ∙ ap (slice_set (map (seen_at xs) saved) k) (seen-last xs ys zs p e low high))))
+    weighs
+
+-- ---- marked and recalled
+
+pub kept-mark : (xs : List ℕ) (images : List (ℕ × ExpressionPlace)) (stack saved saved' : List ExpressionPlace) (w : ℕ) (p : ExpressionPlace) (k : ℕ) → AreKept xs images stack saved w → slice_get stack k ≡ Some p → saved' ≡ saved ++ p ∷ []
+    → AreKept xs images stack saved' w
+kept-mark xs images stack saved saved' w p k a h e =
+    let b = within-get (length xs) k stack p a.stack_within h in
+    record {
+      images_inside = a.images_inside;
+      stack_within = a.stack_within;
+      saved_within = subst (AreWithin (length xs)) (sym e) (within-snoc (length xs) saved p a.saved_within b.0 b.1);
+      few = a.few;
+      light = a.light;
+    }
+
+pub kept-recall : (xs : List ℕ) (images : List (ℕ × ExpressionPlace)) (stack stack' saved : List ExpressionPlace) (w v : ℕ) (p : ExpressionPlace) → AreKept xs images stack saved w → (p.start ≤ p.end) × (p.end ≤ length xs)
+    → stack' ≡ stack ++ p ∷ [] → w ≤ v → v ≤ weight_limit → AreKept xs images stack' saved v
+kept-recall xs images stack stack' saved w v p a b e more light =
+    let few = a.few in
+    record {
+      images_inside = a.images_inside;
+      stack_within = subst (AreWithin (length xs)) (sym e) (within-snoc (length xs) stack p a.stack_within b.0 b.1);
+      saved_within = a.saved_within;
+      few = omega (arith, few, more);
+      light = light;
+    }
+
+pub get-map : {A B : Type 0} (f : A → B) (xs : List A) (k : ℕ) (y : B) → slice_get (map f xs) k ≡ Some y → (d : A) → y ≡ f (get_or xs k d)
+get-map f [] k y h d = cc
+get-map f (x ∷ xs) zero y h d = cc
+get-map f (x ∷ xs) (suc k) y h d = get-map f xs k y h d
+
+pub get-map-some : {A B : Type 0} (f : A → B) (xs : List A) (k : ℕ) (d : A) → k < length xs → slice_get (map f xs) k ≡ Some (f (get_or xs k d))
+get-map-some f [] k d h = absurd (omega (arith, h))
+get-map-some f (x ∷ xs) zero d h = refl
+get-map-some f (x ∷ xs) (suc k) d h = get-map-some f xs k d (omega (arith, h))
+
+-- a saved result by its index
+pub recall-seen : (xs : List ℕ) (stack stack' saved : List ExpressionPlace) (w v k : ℕ) (d p : ExpressionPlace) → AreWithin (length xs) saved → k < length saved → p ≡ get_or saved k d
+    → stack' ≡ stack ++ p ∷ [] → v ≡ w + (p.end - p.start) → (e : List ℕ) × IsSaved (map (seen_at xs) saved) (suc k) e × (seen xs stack' saved v ≡ with_result (seen xs stack saved w) (map (seen_at xs) stack) e)
+recall-seen xs stack stack' saved w v k d p a less at whole weighs =
+    let b : (p.start ≤ p.end) × (p.end ≤ length xs) = subst (λ q. (q.start ≤ q.end) × (q.end ≤ length xs)) (sym at) (within-at (length xs) k saved d a less) in
+    let len : length (seen_at xs p) ≡ p.end - p.start = length-seen xs p b.0 b.1 in (
+      seen_at xs p,
+      get-map-some (seen_at xs) saved k d less ∙ ap (λ q. Some (seen_at xs q)) (sym at),
+      results-same (map (seen_at xs) stack') (map (seen_at xs) stack ++ seen_at xs p ∷ []) (map (seen_at xs) saved) (map (seen_at xs) saved) v (w + length (seen_at xs p))
+          (ap (map (seen_at xs)) whole ∙ map-push (seen_at xs) stack p) refl (weighs ∙ ap (λ n. w + n) (sym len)),
+    )
+
+-- a saved result that is too heavy
+pub recall-heavy : (xs : List ℕ) (saved : List ExpressionPlace) (w k : ℕ) (d p : ExpressionPlace) → AreWithin (length xs) saved → w ≤ weight_limit → k < length saved → p ≡ get_or saved k d
+    → weight_limit - w < p.end - p.start → (e : List ℕ) → IsSaved (map (seen_at xs) saved) (suc k) e → weight_limit < w + length e
+recall-heavy xs saved w k d p a light less at heavy e h =
+    let b : (p.start ≤ p.end) × (p.end ≤ length xs) = subst (λ q. (q.start ≤ q.end) × (q.end ≤ length xs)) (sym at) (within-at (length xs) k saved d a less) in
+    let len : length (seen_at xs p) ≡ p.end - p.start = length-seen xs p b.0 b.1 in
+    let same : e ≡ seen_at xs p = get-map (seen_at xs) saved k e h d ∙ ap (seen_at xs) (sym at) in
+    omega (arith, ap length same, len, heavy, light)
+
+-- what is saved at an index has symbols where its place has
+pub some-saved : (xs : List ℕ) (saved : List ExpressionPlace) (k : ℕ) (p d : ExpressionPlace) → AreWithin (length xs) saved → k < length saved → p ≡ get_or saved k d → p.start < p.end → 0 < length (get_or (map (seen_at xs) saved) k [])
+some-saved xs saved k p d a within at less =
+    let b = within-at (length xs) k saved d a within in
+    let len = length-seen xs (get_or saved k d) b.0 b.1 in
+    let more : (get_or saved k d).start < (get_or saved k d).end = subst (λ r. r.start < r.end) at less in
+    let same = ap length (seen-get xs k saved d within) in
+    omega (arith, len, more, same)
+
+-- places of no symbols
+pub within-none : (n m : ℕ) → AreWithin m (replicate n (let p : ExpressionPlace = record { start = 0; end = 0 } in p))
+within-none zero m = tt
+within-none (suc n) m = (omega arith, omega arith, within-none n m)
+
+pub seen-none : (n : ℕ) → map (seen_at []) (replicate n (let p : ExpressionPlace = record { start = 0; end = 0 } in p)) ≡ replicate n []
+seen-none zero = refl
+seen-none (suc n) = ap (λ r. [] ∷ r) (seen-none n)
+
+pub cleared-kept : (xs : List ℕ) (images : List (ℕ × ExpressionPlace)) (stack saved : List ExpressionPlace) → xs ≡ [] → images ≡ [] → stack ≡ [] → AreWithin 0 saved → AreKept xs images stack saved 0
+cleared-kept xs images stack saved e i f w = record {
+  images_inside = subst (AreInside (length xs)) (sym i) (inside-none (length xs));
+  stack_within = subst (AreWithin (length xs)) (sym f) tt;
+  saved_within = subst (λ n. AreWithin n saved) (sym (ap length e)) w;
+  few = (let l = ap length e in omega (arith, l));
+  light = omega arith;
+}
+
+pub resized-none : (n m : ℕ) (old new : List ExpressionPlace) → old ≡ [] → m ≡ 0 → new ≡ take n old ++ replicate (n - m) (let p : ExpressionPlace = record { start = 0; end = 0 } in p) → new ≡ replicate n (let p : ExpressionPlace = record { start = 0; end = 0 } in p)
+resized-none n m old new e f g =
+    g ∙ (ap (λ r. take n r ++ replicate (n - m) (let p : ExpressionPlace = record { start = 0; end = 0 } in p)) e
+    ∙ (ap (λ r. r ++ replicate (n - m) (let p : ExpressionPlace = record { start = 0; end = 0 } in p)) (none n)
+    ∙ ap (λ k. replicate k (let p : ExpressionPlace = record { start = 0; end = 0 } in p)) (let q : n - m ≡ n = omega (arith, f) in q)))
+  where
+    none : (k : ℕ) → take k (let r : List ExpressionPlace = [] in r) ≡ []
+    none zero = refl
+    none (suc k) = refl
+
+pub started-seen : (xs : List ℕ) (n : ℕ) (stack saved : List ExpressionPlace) → xs ≡ [] → stack ≡ [] → saved ≡ replicate n (let p : ExpressionPlace = record { start = 0; end = 0 } in p)
+    → seen xs stack saved 0 ≡ (let r : Results ℕ = record { stack = []; saved = replicate n []; weight = 0 } in r)
+started-seen xs n stack saved e f g =
+    results-same (map (seen_at xs) stack) [] (map (seen_at xs) saved) (replicate n []) 0 0
+    (ap (map (seen_at xs)) f) (ap (λ s. map (seen_at s) saved) e ∙ (ap (map (seen_at [])) g ∙ seen-none n)) refl
+
+-- ---- the last results
+
+pub rest-of : {A : Type 0} (k : ℕ) (s : List A) → take (length s - k) (drop k s) ≡ drop k s
+rest-of k s = take_all (length s - k) (drop k s) (let e = length-drop k s in omega (arith, e))
+
+-- the places of the last r results
+pub last-count : {A : Type 0} (k r : ℕ) (s : List A) → r ≤ length s → k ≡ length s - r → length (take (length s - k) (drop k s)) ≡ r
+last-count k r s h e = let a = ap length (rest-of k s) in let b = length-drop k s in omega (arith, a, b, h, e)
+
+pub last-seen : (xs : List ℕ) (k r : ℕ) (s : List ExpressionPlace) → k ≡ length s - r → map (seen_at xs) (take (length s - k) (drop k s)) ≡ top r (map (seen_at xs) s)
+last-seen xs k r s e =
+    ap (map (seen_at xs)) (rest-of k s) ∙ (map-drop (seen_at xs) k s
+    ∙ ap (λ n. drop n (map (seen_at xs) s)) (e ∙ ap (λ n. n - r) (sym (length-map s (seen_at xs)))))
+
+-- the same, for copies of the buffer and of the places
+pub seen_eq : (xs ds : List ℕ) (s e : List ExpressionPlace) (all : List (List ℕ)) (k r : ℕ) → ds ≡ xs → e ≡ s → map (seen_at xs) s ≡ all → k ≡ length s - r → map (seen_at ds) (take (length e - k) (drop k e)) ≡ top r all
+seen_eq xs ds s e all k r p q v l =
+    ap (λ w. map (seen_at ds) (take (length w - k) (drop k w))) q ∙ (ap (λ w. map (seen_at w) (take (length s - k) (drop k s))) p ∙ (last-seen xs k r s l ∙ ap (top r) v))
+
+pub last-within : (n k : ℕ) (s : List ExpressionPlace) → AreWithin n s → AreWithin n (take (length s - k) (drop k s))
+last-within n k s w = within-take n (length s - k) (drop k s) (within-drop n k s w)
+
+pub apply-kept : (xs ys zs : List ℕ) (images : List (ℕ × ExpressionPlace)) (stack saved stack' : List ExpressionPlace) (w v k : ℕ) (p : ExpressionPlace) → AreKept xs images stack saved w
+    → zs ≡ xs ++ ys → p.start ≡ length xs → p.end ≡ length zs → stack' ≡ take k stack ++ p ∷ [] → v ≡ w + length ys → v ≤ weight_limit → AreKept zs images stack' saved v
+apply-kept xs ys zs images stack saved stack' w v k p a e low high whole weighs light =
+    added-kept xs ys zs images stack (take k stack) saved stack' w v p a (within-take (length xs) k stack a.stack_within)
+    e low high whole weighs light
+
+pub apply-seen : (xs ys zs : List ℕ) (images : List (ℕ × ExpressionPlace)) (stack saved stack' : List ExpressionPlace) (w v k r : ℕ) (p : ExpressionPlace) → AreKept xs images stack saved w → k ≡ length stack - r
+    → zs ≡ xs ++ ys → p.start ≡ length xs → p.end ≡ length zs → stack' ≡ take k stack ++ p ∷ [] → v ≡ w + length ys
+    → seen zs stack' saved v ≡ with_result (seen xs stack saved w) (below r (map (seen_at xs) stack)) ys
+apply-seen xs ys zs images stack saved stack' w v k r p a at e low high whole weighs =
+    added-seen xs ys zs stack (take k stack) saved stack' w v p a.saved_within (within-take (length xs) k stack a.stack_within) e low high whole weighs
+    ∙ ap (λ b. with_result (seen xs stack saved w) b ys) (map-take (seen_at xs) k stack ∙ ap (λ n. take n (map (seen_at xs) stack)) (at ∙ ap (λ n. n - r) (sym (length-map stack (seen_at xs)))))
+
+pub apply-cut : (xs zs ys : List ℕ) (images : List (ℕ × ExpressionPlace)) (stack saved stack' : List ExpressionPlace) (w v k : ℕ) → AreKept xs images stack saved w → zs ≡ xs ++ ys → stack' ≡ take k stack
+    → v ≡ w + length ys → v ≤ weight_limit → AreKept zs images stack' saved v
+apply-cut xs zs ys images stack saved stack' w v k a e cut weighs light =
+    let longer : length xs ≤ length zs = omega (arith, ap length e, length-append xs ys) in
+    let few = a.few in
+    record {
+      images_inside = inside-more (length xs) (length zs) images longer a.images_inside;
+      stack_within = subst (AreWithin (length zs)) (sym cut) (within-take (length zs) k stack (within-weaken (length xs) (length zs) stack longer a.stack_within));
+      saved_within = within-weaken (length xs) (length zs) saved longer a.saved_within;
+      few = omega (arith, ap length e, length-append xs ys, few, weighs);
+      light = light;
+    }
+
+-- other images
+pub kept-read : (xs : List ℕ) (images images' : List (ℕ × ExpressionPlace)) (stack saved : List ExpressionPlace) (w : ℕ) → AreKept xs images stack saved w → AreInside (length xs) images' → AreKept xs images' stack saved w
+kept-read xs images images' stack saved w a inside = record { images_inside = inside; stack_within = a.stack_within; saved_within = a.saved_within; few = a.few; light = a.light }

@@ -1,0 +1,6 @@
+use Rattle.std.proofs.Common.{take}
+use Rattle.verify.specs.LabelTable.{AreEntries}
+use Rattle.verify.proofs.label_table.fill_table.Given as goal
+
+abbrev pub invariant-loop-position : goal.invariant-loop-position
+invariant-loop-position l = AreEntries l.frames.statements l.at (take l.position-index l.labels) l.table.items

@@ -1,0 +1,53 @@
+-- Results that lie in one buffer, and images that were read off some of them.
+-- Metamath, 4.2.6: the stack of a proof.
+-- The code keeps where each result lies; here they are lists of symbols.
+use Rattle.std.specs.Prelude.{◌≡◌, ℕ, ◌+◌, ◌-◌, ◌<◌, ◌≤◌, Bool, true, false, List, [], ◌∷◌, ◌++◌, length, map, drop, take, slice_set}
+use Rattle.frame.specs.Substitution.{CodeImages}
+use Rattle.subst.specs.declared.expression_place.ExpressionPlace.{ExpressionPlace}
+use Rattle.subst.specs.ExpressionPlaces.{seen_at, images_at, AreWithin, AreInside}
+use Rattle.verify.specs.Machine.{Results, with_result, with_mark, IsSaved}
+use Rattle.verify.specs.Right.{weight_limit}
+
+-- results and images
+pub record Held : Type 0 where
+  pub results : Results ℕ
+  pub images : CodeImages
+
+abbrev pub seen : List ℕ → List ExpressionPlace → List ExpressionPlace → ℕ → Results ℕ
+seen symbols stack saved weight = record { stack = map (seen_at symbols) stack; saved = map (seen_at symbols) saved; weight = weight }
+
+abbrev pub held : List ℕ → List (ℕ × ExpressionPlace) → List ExpressionPlace → List ExpressionPlace → ℕ → Held
+held symbols images stack saved weight = record { results = seen symbols stack saved weight; images = images_at symbols images }
+
+pub record AreKept (symbols : List ℕ) (images : List (ℕ × ExpressionPlace)) (stack saved : List ExpressionPlace) (weight : ℕ) : Type 0 where
+  pub images_inside : AreInside (length symbols) images
+  pub stack_within : AreWithin (length symbols) stack
+  pub saved_within : AreWithin (length symbols) saved
+  pub few : length symbols ≤ weight
+  pub light : weight ≤ weight_limit
+
+abbrev pub below : {A : Type 0} → ℕ → List A → List A
+below r stack = take (length stack - r) stack
+
+abbrev pub top : {A : Type 0} → ℕ → List A → List A
+top r stack = drop (length stack - r) stack
+
+-- the result is added, or it is too heavy
+abbrev pub Adds : {A : Type 0} → Bool → Results A → Results A → List (List A) → List A → Type 0
+Adds true old new stack e = new ≡ with_result old stack e
+Adds false old new stack e = weight_limit < old.weight + length e
+
+-- the result is added and kept as number k from 0, or it is too heavy
+abbrev pub Gives : {A : Type 0} → Bool → Results A → Results A → ℕ → List A → Type 0
+Gives true old new k e = new ≡ record { stack = old.stack ++ e ∷ []; saved = slice_set old.saved k e; weight = old.weight + length e }
+Gives false old new k e = weight_limit < old.weight + length e
+
+-- the last result was marked, or there is none
+abbrev pub Marks : {A : Type 0} → Bool → Results A → Results A → Type 0
+Marks {A} true old new = (stack : List (List A)) × (e : List A) × (old.stack ≡ stack ++ e ∷ []) × (new ≡ with_mark old e)
+Marks false old new = old.stack ≡ []
+
+-- a saved result was added; or none has that number, or it is too heavy
+abbrev pub Recalls : {A : Type 0} → Bool → Results A → Results A → ℕ → Type 0
+Recalls {A} true old new k = (e : List A) × IsSaved old.saved k e × (new ≡ with_result old old.stack e)
+Recalls {A} false old new k = (e : List A) → IsSaved old.saved k e → weight_limit < old.weight + length e

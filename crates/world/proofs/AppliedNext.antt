@@ -1,0 +1,103 @@
+-- The answer of a call that applies the next entry of a node's log.
+use Rattle.std.proofs.Common.{◌≡◌, ℕ, List, set, slice_get, Option, Some, None, Result, Ok, Err, refl, ap, sym, ◌∙◌, subst}
+use Rattle.std.specs.Prelude.{IfOk, IfSome, IsSomeAnd, IsOkUnless, OnErr, MatchOption, option_map}
+use Rattle.std.specs.Borrow.{Bor}
+use Rattle.library.specs.declared.entry.Entry.{Entry}
+use Rattle.library.specs.declared.verdict.Verdict.{Verdict}
+use Rattle.world.specs.declared.carried.Carried.{Carried}
+use Rattle.net.specs.declared.fault.StepFault.{StepFault}
+use Rattle.net.specs.declared.fault.StepFault.TheVariants.{Memory}
+use Rattle.net.specs.World.{log}
+use Rattle.world.specs.Carried.{entry_of, entries_of}
+use Rattle.world.specs.Replicas.{NodeLibrary, Replicas, log_entries, IsOfLog, AreReplicas, AppliesNext, next_of, next_entry, IsApplied}
+use Rattle.net.proofs.TakenLemmas.{set_same}
+use Rattle.world.proofs.EntryLogs.{entries_of-get, entries_of-none}
+use Rattle.world.proofs.ReplicasLemmas.{of_log_applied, applied_are_replicas}
+
+-- the next entry of a log, as it is shown
+pub entry_next : (log : List (Option Carried)) (s t : ℕ) (found : Option (Bor (Option Carried))) → t ≡ s
+    → MatchOption found (slice_get log t ≡ None) (λ (e : Bor (Option Carried)). slice_get log t ≡ Some e.now)
+    → option_map (λ (e : Bor (Option Carried)). entry_of e.now) found ≡ slice_get (entries_of log) s
+entry_next log s t None at h = sym (ap (λ (i : ℕ). slice_get (entries_of log) i) (sym at) ∙ entries_of-none log t h)
+entry_next log s t (Some e) at h = sym (ap (λ (i : ℕ). slice_get (entries_of log) i) (sym at) ∙ entries_of-get log t e.now h)
+
+-- The answer of a call that applies the next entry at node k: node is its library before, next after.
+
+module _ (old : Replicas) (k : ℕ) (node next : NodeLibrary) (result : Result (Option Verdict) StepFault) (is : slice_get old.libraries k ≡ Some node)
+    (from : AppliesNext node next (slice_get (log_entries old.taken k) node.applied) result) where
+  abbrev becomes : Replicas
+  becomes = record { taken = old.taken; libraries = set old.libraries k next }
+
+  -- the entry next for the library of node k is the next entry of the replicas
+  next_at : slice_get (log_entries old.taken k) node.applied ≡ next_entry old k
+  next_at = sym (ap (λ (o : Option NodeLibrary). next_of (log_entries old.taken k) o) is)
+
+  -- what the library did is right by the next entry of the replicas
+  applies : AppliesNext node next (next_entry old k) result
+  applies = subst (λ (o : Option (Option Entry)). AppliesNext node next o result) next_at from
+
+  -- where the library stays, the replicas do
+  unmoved : next ≡ node → becomes ≡ old
+  unmoved same = ap (λ (ls : List NodeLibrary). let r : Replicas = record { taken = old.taken; libraries = ls } in r) (ap (λ (l : NodeLibrary). set old.libraries k l) same ∙ set_same old.libraries k node is)
+
+  -- an entry that is there, with a verdict on it, is applied at node k
+  applied_at : (o : Option (Option Entry)) (r : Result (Option Verdict) StepFault) → AppliesNext node next o r → IfSome o (λ entry. IfOk r (λ answer. IsSomeAnd answer (λ verdict. IsApplied old k entry verdict becomes)))
+  applied_at None r h = tt
+  applied_at (Some entry) (Err fault) h = tt
+  applied_at (Some entry) (Ok None) h = elim h [ ]
+  applied_at (Some entry) (Ok (Some verdict)) h = record {
+    before = node;
+    library = next.library;
+    was = is;
+    applies = h.0;
+    becomes = ap (λ (n : ℕ). let r : Replicas = record { taken = old.taken; libraries = set old.libraries k (record { applied = n; library = next.library }) } in r) h.1;
+  }
+
+  -- the next entry, with the verdict that is answered, is applied at node k
+  pub call_applies : IfSome (next_entry old k) (λ entry. IfOk result (λ answer. IsSomeAnd answer (λ verdict. IsApplied old k entry verdict becomes)))
+  call_applies = applied_at (next_entry old k) result applies
+
+  -- where there is no entry, none is applied and the replicas stay
+  none_at : (o : Option (Option Entry)) (r : Result (Option Verdict) StepFault) → AppliesNext node next o r → o ≡ None → (r ≡ Ok None) × (becomes ≡ old)
+  none_at None (Ok None) h missing = (refl, unmoved h)
+  none_at None (Ok (Some verdict)) h missing = elim h [ ]
+  none_at None (Err fault) h missing = elim h [ ]
+  none_at (Some entry) r h missing = cc
+
+  -- where there is no next entry, the call answers none and the replicas stay
+  pub call_none : next_entry old k ≡ None → (result ≡ Ok None) × (becomes ≡ old)
+  call_none missing = none_at (next_entry old k) result applies missing
+
+  -- an error is Memory, whether there is an entry or not
+  memory_at : (o : Option (Option Entry)) (r : Result (Option Verdict) StepFault) → AppliesNext node next o r → IsOkUnless r Memory
+  memory_at o (Ok answer) h = tt
+  memory_at None (Err fault) h = elim h [ ]
+  memory_at (Some entry) (Err fault) h = h.0
+
+  -- the call fails for memory alone
+  pub call_memory : IsOkUnless result Memory
+  call_memory = memory_at (next_entry old k) result applies
+
+  -- an error leaves the replicas, whether there is an entry or not
+  same_at : (o : Option (Option Entry)) (r : Result (Option Verdict) StepFault) → AppliesNext node next o r → OnErr r (becomes ≡ old)
+  same_at o (Ok answer) h = tt
+  same_at None (Err fault) h = elim h [ ]
+  same_at (Some entry) (Err fault) h = unmoved h.1
+
+  -- a call that fails leaves the replicas
+  pub call_same : OnErr result (becomes ≡ old)
+  call_same = same_at (next_entry old k) result applies
+
+  -- whatever the answer, the library after it is that of first entries of the log
+  of_log_at : (o : Option (Option Entry)) → slice_get (log_entries old.taken k) node.applied ≡ o → (r : Result (Option Verdict) StepFault) → AppliesNext node next o r → IsOfLog (log_entries old.taken k) node
+      → IsOfLog (log_entries old.taken k) next
+  of_log_at None at (Ok None) h log = subst (λ (l : NodeLibrary). IsOfLog (log_entries old.taken k) l) (sym h) log
+  of_log_at None at (Ok (Some verdict)) h log = elim h [ ]
+  of_log_at None at (Err fault) h log = elim h [ ]
+  of_log_at (Some entry) at (Err fault) h log = subst (λ (l : NodeLibrary). IsOfLog (log_entries old.taken k) l) (sym h.1) log
+  of_log_at (Some entry) at (Ok None) h log = elim h [ ]
+  of_log_at (Some entry) at (Ok (Some verdict)) h log = of_log_applied (log_entries old.taken k) node entry verdict next log at h.0 h.1
+
+  -- the call leaves each library that of its log
+  pub call_keeps : AreReplicas old → AreReplicas becomes
+  call_keeps h = applied_are_replicas old k next h (of_log_at (slice_get (log_entries old.taken k) node.applied) refl result from (h.of_logs k node is))
