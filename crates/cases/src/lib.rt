@@ -2,8 +2,8 @@
 //!
 //! The crate above uses `parse_rows` and `difference`, and runs what a row names in between.
 //!
-//! Reading order: `row` (what a row says), `texts` and `parse` (how it is written), `streams` (readers and writers that fail), `wanted`
-//! (whether it holds).
+//! Reading order: `row` (what a row says), `row_texts` and `row_parser` (how it is written), `failing_streams` (readers and
+//! writers that fail), `wanted_output` (whether it holds).
 #![tactic(auto)]
 
 mod failing_streams;

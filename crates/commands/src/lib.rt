@@ -2,8 +2,8 @@
 //!
 //! The crate above uses `parse_words`, whose answer is an enum of this crate. No other crate knows how a command line is read.
 //!
-//! Reading order: `request` (what can be asked), `worker_count` and `weights` (numbers of a command line), `grammar` (its commands and
-//! options), `parse`.
+//! Reading order: `request` (what can be asked), `worker_count` and `weights` (numbers of a command line), `grammar` (its
+//! commands and options), `command_words`.
 #![tactic(auto)]
 
 mod command_words;

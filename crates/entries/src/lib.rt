@@ -1,8 +1,8 @@
 //! The statements of a database as numbers, by position.
 //!
-//! `Entries` is seen as a list of statements, each with plain lists for its parts; inside, the parts of all stand in a
-//! few buffers. The crate above says which names the numbers stand for.
-//! Reading order: `kind`, `links`, `head`, `span`, `groups`, `citation`, `parts`, `entry`; `record`, `sizes`, `entries`.
+//! `Entries` is seen as a list of statements, each with plain lists for its parts; inside, the parts of all stand in a few
+//! buffers. The crate above says which names the numbers stand for. Reading order: `kind`, `links`, `head`, `buffer_part`,
+//! `groups`, `cited_parts`, `parts`, `entry_ref`; `statement_record`, `sizes`, `entries`.
 #![tactic(auto)]
 
 pub mod buffer_part;

@@ -1,8 +1,9 @@
 //! Why a database is refused, in words, with the place in the text.
 //!
 //! `explain_refusal` writes the lines of an explanation; it runs only after a refusal and looks at the text again. What it says
-//! rests on the clauses of `places`, `offence` and `explain`; the words have no contract. Read `refusal`, `page`, `text_fault`,
-//! `shape`, `rules` with `symbols`; `proof` with `theorem`, `judged`, `items`, `step_fault`, `expressions` and `code_break`.
+//! rests on the clauses of `places`, `offence` and `explain`; the words have no contract. Read `explained_refusal`,
+//! `written_lines`, `text_fault`, `shape_fault`, `broken_rule` with `statement_symbols`; `proof` with `theorem`, `judged`,
+//! `item_spots`, `step_fault`, `expressions` and `code_break`.
 #![tactic(auto)]
 
 mod broken_rule;

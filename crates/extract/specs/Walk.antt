@@ -1,5 +1,5 @@
 -- How far a database and a part of it were walked side by side.
--- Source: none; for the private functions of `compare`.
+-- Source: none; for the private functions of `comparison`.
 -- The code keeps of each the scope behind the statements that were passed.
 use Rattle.std.specs.Prelude.{◌≡◌, ℕ, ◌≤◌, Bool, true, false, List, map, take, Some}
 use Rattle.mm_lex.specs.Alphabet.{Name, has_name}

@@ -4,7 +4,8 @@
 //! assertion with its hypotheses and its mandatory pairs. Which statements are chosen is promised nowhere: the choice is judged by
 //! a library of its own and compared with the whole, and where anything is wanting the whole is given.
 //!
-//! Reading order: `fault`, `wanted` (the labels), `cited` and `choice` (the statements), `compare` (what is kept), `extraction`.
+//! Reading order: `fault`, `wanted` (the labels), `cited` and `choice` (the statements), `comparison` (what is kept),
+//! `extraction`.
 #![tactic(auto)]
 
 mod choice;

@@ -1,11 +1,10 @@
 //! What an assertion asks of who cites it.
 //!
-//! `Frames` keeps the statements of a database by position, and reads off them what a verifier asks:
-//! what a citation means at a statement, the parts of an assertion, and the variables that are kept apart.
-//! `frame` gathers the `Frame` of one assertion from what is active.
-//! Reading order: `storage`, `shape`, `places`, `draft`; `numbers`, `declare`, `undo`, `mandatory`, `make`, `enter`, `plain`,
-//! `extend` (one statement more); `at_position`, `hypotheses`, `meaning`, `gathered`, `pairs`, `apart`, `frames` (what is asked);
-//! `assertion`, `one_frame`; `laws`.
+//! `Frames` keeps the statements of a database by position, and reads off them what a verifier asks: what a citation means at a
+//! statement, the parts of an assertion, and the variables that are kept apart. `frame` gathers the `Frame` of one assertion from
+//! what is active. Reading order: `storage`, `shape`, `places`, `draft`; `symbol_numbers`, `declare`, `undo`, `mandatory`,
+//! `make`, `enter`, `plain`, `extend` (one statement more); `at_position`, `hypotheses`, `meaning`, `gathered`, `pairs`,
+//! `active_apart`, `frames` (what is asked); `assertion`, `one_frame`; `laws`.
 #![tactic(auto)]
 
 mod active_apart;

@@ -3,9 +3,9 @@
 //! The crate above uses one contract: an application makes the step of `specs/LibraryOf` with its verdict, and want of
 //! memory decides nothing.
 //!
-//! Reading order: `submission`, `charter`, `entry` (what a log holds), `verdict`; `library`; `entry_text` (a text and its charter),
-//! `base` (all or nothing), `entering` (the rules), `unproved` (the proofs), `verdicts`; `asked` (traces, uses, items and trees), `items`,
-//! `uses`, `users`; `listed`; `laws`.
+//! Reading order: `submission`, `charter`, `entry` (what a log holds), `verdict`; `library`; `entry_text` (a text and its
+//! charter), `base` (all or nothing), `entering` (the rules), `unproved` (the proofs), `verdicts`; `asked` (traces, uses, items
+//! and trees), `read_items`, `uses`, `users`; `listed`; `laws`.
 #![tactic(auto)]
 
 mod asked;

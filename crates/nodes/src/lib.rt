@@ -4,7 +4,7 @@
 //! history, or applies one entry to its own library. What waits for a lock promises nothing but if it returns; the type of a
 //! `Report` keeps that its counts add up.
 //!
-//! Read `weather`, `board` (what stands under the switch's lock), `shared` (the locks), `run` (a node's thread), then
+//! Read `weather`, `board` (what stands under the switch's lock), `shared` (the locks), `node_loop` (a node's thread), then
 //! `node_threads`, `desk` and `report`.
 #![tactic(auto)]
 

@@ -1,7 +1,8 @@
 //! What in a statement breaks a rule, and which earlier statement it breaks it with.
 //!
-//! `witness_of` gives the witness of a broken rule: which symbol of the statement, and which earlier statement. What a witness says
-//! is `specs/Offends`. It runs over the statements themselves, after a refusal. Read `witness`, `search`, `marks`, `symbols`, `offence`.
+//! `witness_of` gives the witness of a broken rule: which symbol of the statement, and which earlier statement. What a witness
+//! says is `specs/Offends`. It runs over the statements themselves, after a refusal. Read `witness`, `search`, `marks`,
+//! `symbol_search`, `offence`.
 #![tactic(auto)]
 
 mod marks;

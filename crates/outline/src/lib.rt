@@ -3,8 +3,8 @@
 //! The crates above use `outline_text`, which gives exactly the bytes of `specs/Outline`, `broken`, the fault that its last line
 //! tells, and two pieces of what it prints.
 //!
-//! Reading order: `numbers` and `rule_names` (a number and a rule, as they are printed), `rules` (what the rules say of a whole database),
-//! `text` (the outline).
+//! Reading order: `printed_numbers` and `rule_names` (a number and a rule, as they are printed), `rules` (what the rules say of a
+//! whole database), `text` (the outline).
 #![tactic(auto)]
 
 mod printed_numbers;

@@ -2,7 +2,7 @@
 //!
 //! `line_and_column` counts lines and columns up to an offset. `place_of` gives the place of a token of a statement in a text
 //! that reads as statements, `statement_at` the statement in which a token stands. `comment_fault` says what is wrong with a
-//! comment and where that began. Read `lines`, `place`, `comments`.
+//! comment and where that began. Read `lines_and_columns`, `place`, `comments`.
 #![tactic(auto)]
 
 mod comments;

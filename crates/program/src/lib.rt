@@ -1,9 +1,9 @@
 //! What `mmlib` does: a command line, an input and an output to an exit status.
 //!
-//! Reading order: `command_line` (`run`, what a command line does), `streams` (what is read and written), `database` (what is asked of one),
-//! `proofs` (the steps of a proof) and `refusal` (a database that is refused);
-//! `play`, with `script_input` (its lines, which crate `scripts` reads) and `answers` (what a line prints); `serve`, with
-//! `served_nodes`.
+//! Reading order: `command_line` (`run`, what a command line does), `input_output` (what is read and written),
+//! `database_commands` (what is asked of one), `proofs` (the steps of a proof) and `printed_refusal` (a database that is
+//! refused); `play`, with `script_input` (its lines, which crate `scripts` reads) and `line_answer` (what a line prints);
+//! `serve`, with `served_nodes`.
 #![tactic(auto)]
 
 mod command_line;

@@ -5,9 +5,9 @@
 //! list of items, and gives its labels once each and a number for each item. `Reader::read` does so of one compressed
 //! proof after another, for mandatory labels that the caller knows otherwise.
 //!
-//! To read: `item`, `items`, `fault`, then `normal_proof` and `compressed_proof` with its parts `header` (the labels
-//! in parentheses), `mandatory` and `letters` (the numbers); `reader` with `listing` (the labels counted) and
-//! `numbers`; and `laws`.
+//! To read: `item`, `items`, `fault`, then `normal_proof` and `compressed_proof` with its parts `header` (the labels in
+//! parentheses), `mandatory_labels` and `letters` (the numbers); `reader` with `listing` (the labels counted) and
+//! `letter_numbers`; and `laws`.
 #![tactic(auto)]
 
 mod compressed_proof;

@@ -2,7 +2,7 @@
 //!
 //! Every byte of a database goes into a page by `push_html`, and into a picture by `push_quoted`.
 //!
-//! Reading order: `escapes`, `lines`, `picture`, `writing`; `rows`, `colours`, `style`, `page`.
+//! Reading order: `escapes`, `step_lines`, `picture`, `writing`; `rows`, `colours`, `style`, `theorem_page`.
 #![tactic(auto)]
 
 mod colours;

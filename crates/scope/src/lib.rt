@@ -1,10 +1,9 @@
 //! May this statement come next, and what is active behind it: the rules G1 to G10.
 //!
-//! The crate above uses one contract: `Scope::add` accepts exactly the legal next statement, and
-//! else answers the least rule that it breaks. Read `rule`, `standing` and `steps`, then `scope` and
-//! `reading` (what it tells); `judge` is what stands behind it, `legal` decides the rules, `accept` has
-//! what a statement changes; `numbering`, `stack`, `sizes`, `history` and `noted` are the parts, `laws`
-//! what is active.
+//! The crate above uses one contract: `Scope::add` accepts exactly the legal next statement, and else answers the least rule that
+//! it breaks. Read `rule`, `standing` and `steps`, then `scope` and `reading` (what it tells); `judge` is what stands behind it,
+//! `legal` decides the rules, `accept` has what a statement changes; `numbering`, `stack`, `stack_heights`, `history` and `noted`
+//! are the parts, `laws` what is active.
 #![tactic(auto)]
 
 mod accept;

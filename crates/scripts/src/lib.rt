@@ -3,7 +3,7 @@
 //! The crate above uses one contract: `parse_script` gives what the definition of the command's lines reads (`specs/PlayLines` and
 //! `specs/ServeLines`), or the number of the first line that is none of them.
 //!
-//! Reading order: `pieces` (what stands between separators), `words` (of a line), `verb` (the first of them), `offered`
+//! Reading order: `pieces` (what stands between separators), `line_words` (of a line), `verb` (the first of them), `offered`
 //! (entries); `line` (what the lines of a command are), `play_line`, `serve_line`; `lines`, `script` (all lines), `fault`.
 #![tactic(auto)]
 

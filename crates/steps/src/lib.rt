@@ -4,7 +4,8 @@
 //! concludes from those that it takes, in the order in which the items make them; `essential_table` gives of such a table the
 //! steps that a mathematician reads.
 //!
-//! Reading order: `table` (the table, and the call), `noting` (one item), `draft` (one citation), `concluding` (one conclusion), `known` (steps found again), `essential` (the steps that a mathematician reads), `laws`.
+//! Reading order: `steps_table` (the table, and the call), `noting` (one item), `table_draft` (one citation), `concluding` (one
+//! conclusion), `known` (steps found again), `essential` (the steps that a mathematician reads), `laws`.
 #![tactic(auto)]
 
 mod concluding;

@@ -1,11 +1,10 @@
 //! Images put into expressions, all at once.
 //!
-//! A symbol's image is a place in a buffer of symbols (`ExpressionPlace`, `ImagePlaces`, `Buffer`): so a verifier reads images off
-//! its results, matches an expression under them without writing it, and adds one behind them. `Subst` is such a table
-//! with a buffer of its own, and `apply` puts all its images in at once.
-//! Symbols are numbers; that this is substitution over the names that they stand for is a law.
-//! Reading order: `place`, `image_places`, `copies`, `filling`, `matching`, `buffer`, `images`, `substitute`, `apart`,
-//! `bits`, `findings`, `numbers_apart`, `laws`.
+//! A symbol's image is a place in a buffer of symbols (`ExpressionPlace`, `ImagePlaces`, `Buffer`): so a verifier reads images
+//! off its results, matches an expression under them without writing it, and adds one behind them. `Subst` is such a table with a
+//! buffer of its own, and `apply` puts all its images in at once. Symbols are numbers; that this is substitution over the names
+//! that they stand for is a law. Reading order: `expression_place`, `image_places`, `copies`, `filling`, `matching`, `buffer`,
+//! `images`, `substitute`, `asked_apart`, `bits`, `findings`, `numbers_apart`, `laws`.
 #![tactic(auto)]
 
 mod asked_apart;

@@ -4,8 +4,8 @@
 //! step in `specs/Step.antt`, with the packets that it posts and the refusal that it meets. A step is made
 //! ready first, which may find no memory and changes nothing, and then committed, which takes none.
 //!
-//! Reading order: `value`, `weights`, `ballot`, `packet`, `change`, `record`, `keep`; `proposer` with `pages` and `leading`,
-//! `learner`, `promise` and `posts`; `refusal`, `ready`, `node`.
+//! Reading order: `value`, `weights`, `ballot`, `packet`, `change`, `record`, `keep`; `proposer` with `promise_pages` and
+//! `leading`, `learner`, `promise` and `posts`; `refusal`, `ready`, `node`.
 #![tactic(auto)]
 
 mod ballot;
