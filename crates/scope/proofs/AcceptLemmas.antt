@@ -1,33 +1,33 @@
 -- Each kind of legal statement keeps what a scope keeps.
-use Rattle.std.specs.Prelude.{◌≡◌, ℕ, ◌==◌, Bool, true, false, ◌||◌, List, [], ◌∷◌, ◌++◌, cond, Some, None, is_some, refl}
+use Rattle.std.specs.Prelude.{◌≡◌, ℕ, ◌==◌, Bool, true, false, not, ◌||◌, List, [], ◌∷◌, ◌++◌, cond, Some, None, is_some, refl}
 use Rattle.std.proofs.Common.{Result, Ok, Err, OnOk}
 use Rattle.std.specs.Result.{is_err}
 use Rattle.std.specs.List.{list_any}
 use Rattle.std.proofs.Common.{◌∙◌, ap, sym, subst, true≢false}
 use Rattle.std.proofs.lemmas.List.{append-nil, append_assoc, map-append}
-use Rattle.std.proofs.lemmas.Bool.{not-true}
+use Rattle.std.proofs.lemmas.Bool.{not-true, and_parts, or_right}
 use Rattle.mm_lex.specs.Alphabet.{Name, name_eq, has_name}
 use Rattle.mm_read.specs.declared.stmt.Stmt.{Stmt}
 use Rattle.mm_read.specs.declared.stmt.Stmt.TheVariants.{Open, Close, Const, Var, Disj, Float, Ess, Axiom, Prove}
 use Rattle.mm_read.specs.Statements.{Database}
 use Rattle.scope.specs.Active.{bare, label_of, has_float, active_variables, typed_variables}
-use Rattle.scope.specs.Legal.{broken_rule}
+use Rattle.scope.specs.Legal.{broken_rule, all_different}
 use Rattle.names.specs.Codes.{with_names, numbers_in, number_in, AreNamed}
 use Rattle.scope.specs.Numbering.{names_of, can_push}
-use Rattle.scope.specs.Kinds.{Declared, declared_names, kind_in, with_kind, with_kinds, is_label_kind, IsLabelled}
+use Rattle.scope.specs.Kinds.{Declared, declared_names, kind_in, with_kind, with_kinds, AreNew, is_label_kind, IsLabelled}
 use Rattle.scope.specs.Stored.Stacks.{IsKept}
 use Rattle.scope.specs.Symbols.{symbols_of, symbols_by}
 use Rattle.scope.specs.declared.stack_heights.Sizes.{Sizes}
 use Rattle.scope.specs.declared.numbering.Kind.{Kind}
 use Rattle.scope.specs.declared.numbering.Kind.TheVariants.{Label, Constant, Variable}
 use Rattle.names.proofs.AddedNames.{with_names-more, numbers_in-more, has-more, has-with_names, number_in-more}
-use Rattle.names.proofs.CodesLemmas.{same_name}
-use Rattle.scope.proofs.NamesLemmas.{declared_names-with_kinds, active-named}
+use Rattle.names.proofs.CodesLemmas.{same_name, name_same}
+use Rattle.scope.proofs.NamesLemmas.{declared_names-with_kinds, active-named, kind_in-append, or_kind}
 use Rattle.scope.proofs.SortsLemmas.{numbers-has, is_variable-active, has_float-typed}
 use Rattle.scope.proofs.SymbolNameLemmas.{declared_symbols-label, declared_symbols-with_kinds}
 use Rattle.scope.proofs.StackFollows.{kept-more}
 use Rattle.scope.proofs.DeclaredLemmas.{tells-nothing, tells-constants, tells-variables, tells-label}
-use Rattle.scope.proofs.GoingBackLemmas.{all-has, fresh-none, inactive-free, inactive-not, can_push-names}
+use Rattle.scope.proofs.GoingBackLemmas.{all-has, apart_from, fresh-none, inactive-free, inactive-not, can_push-names}
 use Rattle.scope.proofs.LegalLemmas.{legal-constants, legal-variables, legal-label, legal-float}
 
 pub same-kept : {S S' M : Database} {names names' : Declared} {vs vs' ts ts' : List ℕ} {blocks blocks' : List Sizes} {mark : Sizes} {m : ℕ} → S ≡ S' → names ≡ names' → vs ≡ vs' → ts ≡ ts' → blocks ≡ blocks'
@@ -75,6 +75,12 @@ module _ (S M : Database) (names : Declared) (vs ts : List ℕ) (blocks : List S
       (tells-constants S names xs (λ x h. fresh-none S names x k.told (all-has _ x xs l.0 h)) k.told)
       (declared_symbols-with_kinds names Constant xs refl (λ x h. ap is_label_kind (fresh-none S names x k.told (all-has _ x xs l.0 h))) ∙ ap (λ ns. with_names ns xs) k.symbols)
       (no_names (declared_names (with_kinds names Constant xs))) k)
+
+  -- the symbols of a legal `$c` are new
+  pub constants-new : (xs : List Name) → broken_rule S (Const xs) ≡ None → AreNew names xs
+  constants-new xs legal =
+      let l = legal-constants S xs legal in
+      (λ x h. fresh-none S names x k.told (all-has _ x xs l.0 h), l.1)
 
   pub accept-variables : (xs : List Name) → broken_rule S (Var xs) ≡ None
       → IsKept (S ++ Var xs ∷ []) M (with_kinds names Variable xs) (vs ++ numbers_in (declared_names (with_kinds names Variable xs)) xs) ts blocks mark m
@@ -178,3 +184,12 @@ ok_of (Err e) h p = cc
 
 pub with_kind-new : (names : Declared) (kind : Kind) (x : Name) → kind_in names x ≡ None → with_kind names kind x ≡ names ++ (x, kind) ∷ []
 with_kind-new names kind x h = ap (λ k. cond (is_some k) names (names ++ (x, kind) ∷ [])) h
+
+-- of new names those behind the first are new once it is declared
+pub new-rest : (names : Declared) (kind : Kind) (x : Name) (xs : List Name) → AreNew names (x ∷ xs) → AreNew (with_kind names kind x) xs
+new-rest names kind x xs new =
+    let apart = and_parts (not (has_name x xs)) (all_different xs) new.1 in (
+      λ y h. ap (λ ns. kind_in ns y) (with_kind-new names kind x (new.0 x (ap (λ b. b || has_name x xs) (name_same x))))
+          ∙ (kind_in-append names y x kind ∙ (ap (λ k. or_kind k (name_eq y x) kind) (new.0 y (or_right (name_eq y x) (has_name y xs) h)) ∙ ap (λ b. or_kind None b kind) (apart_from x y xs h apart.0))),
+      apart.1,
+    )

@@ -8,7 +8,7 @@ use Rattle.mm_lex.specs.Alphabet.{Name, name_eq, has_name}
 use Rattle.mm_read.specs.declared.stmt.Stmt.{Stmt}
 use Rattle.mm_read.specs.declared.stmt.Stmt.TheVariants.{Const, Var}
 use Rattle.mm_read.specs.Statements.{Database}
-use Rattle.scope.specs.Active.{count, constants, variables, label_of, has_label}
+use Rattle.scope.specs.Active.{constants, variables, label_of, has_label}
 use Rattle.names.specs.Codes.{with_names}
 use Rattle.scope.specs.Numbering.{names_of, declared_by}
 use Rattle.scope.specs.Kinds.{Declared, declared_names, kind_in, Tells, TellsAll, with_kinds, is_label_kind, is_constant_kind, is_variable_kind}

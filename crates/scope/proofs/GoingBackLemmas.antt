@@ -137,6 +137,14 @@ inactive-not S x h = by (is_variable S x) (is_constant S x) (was_label S x) h
     by false b c h = refl
     by true b c h = cc
 
+-- a name of a list is another than one that is not in it
+pub apart_from : (w x : Name) (ws : List Name) → has_name x ws ≡ true → not (has_name w ws) ≡ true → name_eq x w ≡ false
+apart_from w x ws h n = by (name_eq x w) refl
+  where
+    by : (b : Bool) → name_eq x w ≡ b → b ≡ false
+    by true e = absurd (true≢false (sym n ∙ (ap (λ z. not (has_name z ws)) (sym (same_name x w e)) ∙ ap not h)))
+    by false e = refl
+
 -- names that differ from one another and from those on the stack can be put there
 pub can_push-names : (names active ws : List Name) → AreNamed names ws → all_different ws ≡ true → ((x : Name) → has_name x ws ≡ true → has_name x active ≡ false)
     → can_push (numbers_in names active) (numbers_in names ws) ≡ true
@@ -147,7 +155,7 @@ can_push-names names active (w ∷ ws) known differ apart =
     let first : list_any (λ m. m == number_in names w) (numbers_in names active) ≡ false = numbers-has names w active (known w own) ∙ apart w own in
     ap (λ b. not b && can_push (numbers_in names active ++ number_in names w ∷ []) (numbers_in names ws)) first
     ∙ (ap (λ s. can_push s (numbers_in names ws)) (sym (map-append (number_in names) active (w ∷ [])))
-    ∙ can_push-names names (active ++ w ∷ []) ws (λ x h. known x (later x h)) d.1 (λ x h. has_name-append x active (w ∷ []) ∙ (ap (λ b. b || (name_eq x w || false)) (apart x (later x h)) ∙ or-false (name_eq x w) ∙ other x h d.0)))
+    ∙ can_push-names names (active ++ w ∷ []) ws (λ x h. known x (later x h)) d.1 (λ x h. has_name-append x active (w ∷ []) ∙ (ap (λ b. b || (name_eq x w || false)) (apart x (later x h)) ∙ or-false (name_eq x w) ∙ apart_from w x ws h d.0)))
   where
     later : (x : Name) → has_name x ws ≡ true → (name_eq x w || has_name x ws) ≡ true
     later x h = by (name_eq x w) h
@@ -155,10 +163,3 @@ can_push-names names active (w ∷ ws) known differ apart =
         by : (b : Bool) → has_name x ws ≡ true → (b || has_name x ws) ≡ true
         by true h = refl
         by false h = h
-
-    other : (x : Name) → has_name x ws ≡ true → not (has_name w ws) ≡ true → name_eq x w ≡ false
-    other x h n = by (name_eq x w) refl
-      where
-        by : (b : Bool) → name_eq x w ≡ b → b ≡ false
-        by true e = absurd (true≢false (sym n ∙ (ap (λ z. not (has_name z ws)) (sym (same_name x w e)) ∙ ap not h)))
-        by false e = refl

@@ -1,7 +1,7 @@
 -- The names of a list of statements, and their numbers.
-use Rattle.std.specs.Prelude.{◌≡◌, ℕ, ◌+◌, Bool, true, false, not, cond, ◌||◌, ◌&&◌, List, [], ◌∷◌, ◌++◌, Option, Some, None, is_some, refl}
+use Rattle.std.specs.Prelude.{◌≡◌, ℕ, ◌+◌, Bool, true, false, cond, ◌||◌, ◌&&◌, List, [], ◌∷◌, ◌++◌, Option, Some, None, is_some, refl}
 use Rattle.std.specs.List.{list_all, flat_map}
-use Rattle.std.proofs.Common.{sym, ◌∙◌, ap, subst, arith, true≢false, ◌⊎◌, inl, inr, append_assoc}
+use Rattle.std.proofs.Common.{sym, ◌∙◌, ap, true≢false, ◌⊎◌, inl, inr, append_assoc}
 use Rattle.std.proofs.lemmas.List.{append-nil, map-append}
 use Rattle.std.proofs.lemmas.Bool.{or_left, or_right}
 use Rattle.mm_lex.specs.Alphabet.{Name, name_eq, has_name}
@@ -9,7 +9,7 @@ use Rattle.mm_read.specs.declared.stmt.Stmt.{Stmt}
 use Rattle.mm_read.specs.declared.stmt.Stmt.TheVariants.{Open, Close, Const, Var, Disj, Float, Ess, Axiom, Prove}
 use Rattle.mm_read.specs.Statements.{Database}
 use Rattle.scope.specs.Active.{variables, was_variable, active_from, active_variables, stays_open}
-use Rattle.names.specs.Codes.{with_name, with_names, number_in, numbers_in, AreNamed}
+use Rattle.names.specs.Codes.{with_name, with_names, AreNamed}
 use Rattle.scope.specs.Numbering.{names_from, names_of, declared_by}
 use Rattle.scope.specs.Kinds.{Declared, declared_names, kind_in, with_kind, with_kinds}
 use Rattle.scope.specs.declared.numbering.Kind.{Kind}
@@ -106,7 +106,8 @@ or_kind (Some k) new kind = Some k
 or_kind None true kind = Some kind
 or_kind None false kind = None
 
-kind_in-append : (names : Declared) (x y : Name) (kind : Kind) → kind_in (names ++ (y, kind) ∷ []) x ≡ or_kind (kind_in names x) (name_eq x y) kind
+-- the kind of a name, after one is declared
+pub kind_in-append : (names : Declared) (x y : Name) (kind : Kind) → kind_in (names ++ (y, kind) ∷ []) x ≡ or_kind (kind_in names x) (name_eq x y) kind
 kind_in-append [] x y kind = by (name_eq x y)
   where
     by : (b : Bool) → cond b (Some kind) None ≡ or_kind None b kind

@@ -1,6 +1,6 @@
 -- What a look-up says of a symbol.
-use Rattle.std.specs.Prelude.{◌≡◌, ℕ, suc, ◌+◌, ◌==◌, Bool, true, false, not, cond, ◌||◌, ◌&&◌, List, [], ◌∷◌, ◌++◌, length, Option, Some, None, is_some, nat_lt, refl, option_map}
-use Rattle.std.specs.List.{list_any, position_or_len, prefix_len, flat_map}
+use Rattle.std.specs.Prelude.{◌≡◌, ℕ, ◌+◌, ◌==◌, Bool, true, false, not, cond, ◌||◌, ◌&&◌, List, [], ◌∷◌, ◌++◌, length, Option, Some, None, is_some, refl, option_map}
+use Rattle.std.specs.List.{list_any, flat_map}
 use Rattle.std.proofs.Common.{sym, ◌∙◌, ap, arith, true≢false, take, ◌<◌, append_assoc, length-append}
 use Rattle.std.proofs.lemmas.List.{take_at, length_push}
 use Rattle.std.proofs.lemmas.Bool.{eqb-true, eq-eqb}
@@ -10,7 +10,7 @@ use Rattle.mm_read.specs.declared.stmt.Stmt.TheVariants.{Open, Close, Const, Var
 use Rattle.mm_read.specs.Statements.{Database}
 use Rattle.scope.specs.Active.{variables, constants, active, is_float_of, typed_by, is_variable, is_constant, has_float, was_symbol, was_label, was_variable, active_variables, typed_variables}
 use Rattle.scope.specs.Legal.{all_different}
-use Rattle.names.specs.Codes.{number_in, numbers_in, code_of}
+use Rattle.names.specs.Codes.{number_in, numbers_in}
 use Rattle.scope.specs.Kinds.{Tells, Declared, declared_names, kind_in}
 use Rattle.scope.specs.Sorts.{IsSort, sort_by, is_constant_sort, is_variable_sort, is_label_sort, is_inactive_sort}
 use Rattle.scope.specs.declared.numbering.Kind.{Kind}
@@ -185,3 +185,19 @@ some_second (Some p) = refl
 
 pub found-has : (names : Declared) (x : Name) (r : Option (ℕ × Kind)) → option_map (λ (p : ℕ × Kind). p.1) r ≡ kind_in names x → is_some r ≡ has_name x (declared_names names)
 found-has names x r h = some_second r ∙ (ap is_some h ∙ kind-has names x)
+
+-- a truth value whose denial is known
+pub not-denied : (b f value : Bool) → f ≡ not b → f ≡ value → b ≡ not value
+not-denied true f value e h = ap not (sym e ∙ h)
+not-denied false f value e h = ap not (sym e ∙ h)
+
+-- the names seen, after one more
+pub one-seen : (x w : Name) (names : List Name) (same seen : Bool) → same ≡ name_eq w x → seen ≡ has_name x names → cond same true seen ≡ has_name x (names ++ w ∷ [])
+one-seen x w names same seen is was =
+    ap (λ b. cond b true seen) (is ∙ name_eq-comm w x) ∙ (ap (cond (name_eq x w) true) was ∙ (by (name_eq x w) (has_name x names) ∙ sym (has_name-append x names (w ∷ []))))
+  where
+    by : (a b : Bool) → cond a true b ≡ (b || (a || false))
+    by true true = refl
+    by true false = refl
+    by false true = refl
+    by false false = refl

@@ -1,11 +1,11 @@
 //! What a legal statement does to the stacks.
-ghost use Rattle.std.specs.Prelude.{◌≡◌, ◌+◌, ◌<◌, ◌^◌, length, ℕ, List, ◌++◌, ◌∷◌, [], ◌==◌, true, false, None, OnOk, OnErr};
+ghost use Rattle.std.specs.Prelude.{◌≡◌, ◌≢◌, ◌+◌, ◌<◌, ◌^◌, length, ℕ, List, ◌++◌, ◌∷◌, [], ◌==◌, true, false, None, OnOk, OnErr};
 ghost use Rattle.std.specs.List.{list_all, list_any};
 ghost use Rattle.mm_lex.specs.Alphabet.{has_name};
 ghost use Rattle.mm_read.specs.declared.stmt.Stmt.TheVariants as shape;
 ghost use Rattle.scope.specs.Active.{bare, active};
 ghost use Rattle.scope.specs.Stored.Stacks.{sizes_of};
-ghost use Rattle.scope.specs.Kinds.{Declared, declared_names, kind_in, with_kind, with_kinds, IsLabelled};
+ghost use Rattle.scope.specs.Kinds.{Declared, declared_names, kind_in, with_kind, with_kinds, AreNew, IsLabelled};
 ghost use Rattle.scope.specs.Legal.{IsLegal};
 ghost use Rattle.scope.specs.declared.numbering.Kind.TheVariants as shape_kind;
 ghost use Rattle.names.specs.Codes.{number_in, numbers_in, with_names};
@@ -250,17 +250,18 @@ fn declare_label(names: &mut Numbering, alloc: Global, label: &[u8]) -> Result<(
     names.declare(alloc, label, Kind::Label)
 }
 
-/// Gives a kind to a name that has none.
+/// Gives a kind to a name that has none. A variable may have had it before, in a block that is closed.
 fn declare_one(
     names: &mut Numbering,
     alloc: Global,
     name: &[u8],
     kind: Kind,
 ) -> Result<(), AllocError>
+    requires { kind ≢ shape_kind.Variable → kind_in names.old name.now ≡ None }
     ensures ok { OnOk result (names.new ≡ with_kind names.old kind name.now) }
     ensures err { OnErr result (names.new ≡ names.old) }
 {
-    if names.find(name).is_some() {
+    if matches!(kind, Kind::Variable) && names.find(name).is_some() {
         return Ok(());
     }
     names.declare(alloc, name, kind)
@@ -273,6 +274,7 @@ fn declare_all(
     symbols: &Words,
     kind: Kind,
 ) -> Result<(), AllocError>
+    requires { kind ≢ shape_kind.Variable → AreNew names.old symbols.now }
     ensures ok { OnOk result (names.new ≡ with_kinds names.old kind symbols.now) }
     ensures err { OnErr result (names.new ≡ names.old) }
 {
@@ -290,6 +292,7 @@ fn declare_each(
     symbols: &Words,
     kind: Kind,
 ) -> Result<(), AllocError>
+    requires { kind ≢ shape_kind.Variable → AreNew names.old symbols.now }
     ensures ok { OnOk result (names.new ≡ with_kinds names.old kind symbols.now) }
     ensures more { (more : Declared) × (names.new ≡ names.old ++ more) }
 {

@@ -14,11 +14,12 @@ ghost use Rattle.scope.specs.Symbols.{symbols_of};
 
 use crate::judge::Judge;
 use crate::noted::Noted;
-use crate::numbering::{Kind, Numbering};
+use crate::numbering::Kind;
 use crate::rule::Rule;
 use mm_lex::{Word, Words};
 use mm_read::Stmt;
 use std::alloc::{AllocError, Global};
+use std::collections::BTreeSet;
 
 /// Lists of fewer words are compared pair by pair.
 const FEW: usize = 16;
@@ -305,28 +306,27 @@ fn broken_by_sorts(constant: Sort, variable: Sort) -> Option<Rule>
     None
 }
 
-/// Whether no word stands twice in the list. Cost: the size of the list, where memory can be had.
+/// Whether no word stands twice in the list. Cost: where memory can be had, that of putting the list in order.
 fn are_different(alloc: Global, words: &Words) -> bool
     ensures { result ≡ all_different words.now }
 {
     if words.len() < FEW {
         return differ_pair_by_pair(words);
     }
-    match differ_by_table(alloc, words) {
+    match differ_by_order(alloc, words) {
         Ok(differ) => differ,
         Err(AllocError) => differ_pair_by_pair(words),
     }
 }
 
-fn differ_by_table(alloc: Global, words: &Words) -> Result<bool, AllocError>
+fn differ_by_order(alloc: Global, words: &Words) -> Result<bool, AllocError>
     ensures { IfOk result (λ differ. differ ≡ all_different words.now) }
 {
-    let mut seen = Numbering::new(alloc);
+    let mut seen = BTreeSet::new(alloc);
     for word in words.iter() {
-        if seen.find(word).is_some() {
+        if !seen.insert(word)? {
             return Ok(false);
         }
-        seen.declare(alloc, word, Kind::Variable)?;
     }
     Ok(true)
 }
