@@ -43,11 +43,17 @@ head-of b r end = by r.has_row
     by true = refl
     by false = refl
 
+-- an element keeps its place where more stands behind the list
 pub get-more : {A : Type 0} (zs more : List A) (k : ℕ) (x : A) → slice_get zs k ≡ Some x → slice_get (zs ++ more) k ≡ Some x
 get-more [] more zero x e = absurd (cc)
 get-more [] more (suc k) x e = absurd (cc)
 get-more (z ∷ zs) more zero x e = e
 get-more (z ∷ zs) more (suc k) x e = get-more zs more k x e
+
+-- what is added stands at the end
+pub get-last : {A : Type 0} (xs : List A) (x : A) → slice_get (xs ++ x ∷ []) (length xs) ≡ Some x
+get-last [] x = refl
+get-last (z ∷ xs) x = get-last xs x
 
 pub get-extends : {A : Type 0} (xs ys : List A) (k : ℕ) (x : A) → Extends xs ys → slice_get xs k ≡ Some x → slice_get ys k ≡ Some x
 get-extends xs ys k x h e = ap (λ zs. slice_get zs k) h.1 ∙ get-more xs h.0 k x e

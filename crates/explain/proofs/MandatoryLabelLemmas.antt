@@ -8,12 +8,13 @@ use Rattle.mm_lex.specs.Words.{is_word}
 use Rattle.mm_read.specs.declared.stmt.Stmt.{Stmt}
 use Rattle.mm_read.specs.Statements.{Database}
 use Rattle.scope.specs.Active.{before, stmt_at, label_of}
+use Rattle.scope.proofs.StatementPlaces.{stands-within}
 use Rattle.frame.specs.FrameOf.{hypotheses}
 use Rattle.verify.specs.Proves.{mandatory_labels, label_or_none}
 use Rattle.verify.specs.Right.{IsProvable}
 use Rattle.verify.specs.declared.label_table.Entry.TheVariants.{Hypothesis, Nothing}
 use Rattle.verify.specs.LabelTable.{IsEntry}
-use Rattle.verify.proofs.MandatoryEntries.{place_of, mandatory-entries}
+use Rattle.verify.proofs.MandatoryEntries.{mandatory-entries}
 
 get-map : (ps : List ℕ) (k d : ℕ) → k < length ps → get_or (map Hypothesis ps) k Nothing ≡ Hypothesis (get_or ps k d)
 get-map [] k d h = absurd (omega (arith, h))
@@ -32,7 +33,7 @@ stands-at S at s ps k p d provable are less is =
     let entries = mandatory-entries S at s ps (map Hypothesis ps) provable are refl in
     let inside : k < length (mandatory_labels S at s) = let long = length-map (hypotheses (before S at) s) (λ i. label_or_none (stmt_at S i)) in let same = ap length are in omega (arith, long, same, less) in
     let one = subst (λ e. IsEntry S at (get_or (mandatory_labels S at s) k []) e) (get-map ps k d less ∙ ap Hypothesis (sym is)) (entries.each k inside) in
-    let place = place_of S p one.0 one.1.stands in
+    let place = stands-within S p one.0 one.1.stands in
     record { stmt = one.0; stands = one.1.stands; positive = place.0; within = place.1 }
 
 -- the labels so far, with one more

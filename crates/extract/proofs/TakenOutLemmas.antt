@@ -10,8 +10,8 @@ use Rattle.mm_read.specs.Statements.{Database}
 use Rattle.mm_read.specs.Reads.{Reads}
 use Rattle.mm_lex.proofs.NameLemmas.{name_same}
 use Rattle.scope.specs.Active.{label_of, is_assertion}
+use Rattle.scope.proofs.StatementPlaces.{stands-within}
 use Rattle.library.specs.Good.{Good}
-use Rattle.library.proofs.FrontLemmas.{stands-within}
 use Rattle.extract.specs.Wanted.{NamesAssertion, AreRight}
 use Rattle.extract.specs.Selected.{IsPart, IsKept}
 use Rattle.extract.specs.Walk.{wanted, AreKept}

@@ -4,6 +4,7 @@ use Rattle.std.specs.List.{list_all, list_any}
 use Rattle.std.proofs.Common.{sym, ◌∙◌, ap, arith, true≢false}
 use Rattle.std.proofs.lemmas.Bool.{and_parts, and_from, or_left, or_right, or_from}
 use Rattle.std.proofs.lemmas.List.Folds.{list_all-map, list_all_more, list_all_at, list_any_more}
+use Rattle.std.proofs.lemmas.List.{get_or-set_same}
 use Rattle.mm_lex.specs.Alphabet.{Name, name_eq, has_name}
 use Rattle.mm_read.specs.declared.stmt.Stmt.{Stmt}
 use Rattle.mm_read.specs.Statements.{Expr, Database}
@@ -17,6 +18,7 @@ use Rattle.frame.specs.Disjoint.{are_apart}
 use Rattle.frame.specs.Below.{AreBelow}
 use Rattle.frame.specs.Covers.{is_listed, are_listed, does_cover, are_covered, do_share, is_pair_apart, is_variable_apart, is_symbol_apart, are_marked}
 use Rattle.frame.proofs.KindWalk.{has-decode}
+use Rattle.frame.proofs.MarkLemmas.{set_true}
 use Rattle.scope.proofs.ActiveLemmas.{or_false_right}
 
 -- ---- a list that a loop goes through
@@ -226,20 +228,6 @@ unmarked-none places marked (c ∷ codes) x h off =
         absurd (true≢false (sym on ∙ (ap (λ n. slice_index_or marked (n % places) false) (sym same) ∙ off)))
     by false e on rest = rest
 
--- a place more is marked, and the others stay
-set_true : (marked : List Bool) (i j : ℕ) → slice_index_or marked j false ≡ true → slice_index_or (slice_set marked i true) j false ≡ true
-set_true [] i j h = h
-set_true (m ∷ marked) zero zero h = refl
-set_true (m ∷ marked) zero (suc j) h = h
-set_true (m ∷ marked) (suc i) zero h = h
-set_true (m ∷ marked) (suc i) (suc j) h = set_true marked i j h
-
--- the place that is written is marked
-set_here : (marked : List Bool) (i : ℕ) → i < length marked → slice_index_or (slice_set marked i true) i false ≡ true
-set_here [] i h = absurd (omega (arith, h))
-set_here (m ∷ marked) zero h = refl
-set_here (m ∷ marked) (suc i) h = set_here marked i (omega (arith, h))
-
 all-set : (places : ℕ) (marked : List Bool) (i : ℕ) (codes : List ℕ) → are_marked places marked codes ≡ true → are_marked places (slice_set marked i true) codes ≡ true
 all-set places marked i [] h = refl
 all-set places marked i (c ∷ codes) h =
@@ -254,7 +242,7 @@ marked_more places marked codes i p d h e low before =
     list_all_more (λ x. slice_index_or (slice_set marked p true) (x % places) false) codes i d h
     ∙ and_from (are_marked places (slice_set marked p true) (take i codes)) (slice_index_or (slice_set marked p true) (get_or codes i d % places) false)
     (all-set places marked p (take i codes) before)
-    (ap (λ n. slice_index_or (slice_set marked p true) n false) (sym e) ∙ set_here marked p low)
+    (ap (λ n. slice_index_or (slice_set marked p true) n false) (sym e) ∙ get_or-set_same marked p true false low)
 
 -- a `$d` covers where its list does
 pub covers-told : (S : Database) (e f : Expr) (list : List Name) (s : Stmt) (b : Bool) → is_disj s ≡ true → separated s ≡ list

@@ -15,6 +15,7 @@ use Rattle.frame.specs.Cited.{head_of}
 use Rattle.entries.specs.declared.kind.Kind.{Kind}
 use Rattle.entries.specs.declared.kind.Kind.TheVariants.{Open, Close, Const, Var, Disj, Float, Ess, Axiom, Prove}
 use Rattle.entries.specs.Entries.{Entry, Assertion}
+use Rattle.entries.proofs.StatementRecordLemmas.{get-more}
 use Rattle.frame.specs.Stored.EntryMeanings.{stmt_by, stmt_of}
 use Rattle.frame.specs.Stored.Hypotheses.{AreHypotheses, AreParts, is_hypothesis_entry, with_floats, collected}
 use Rattle.frame.specs.Stored.AssertionParts.{IsKeptAs, kept_with, is_float_in, floats_in, variable_at, option_variable, option_asked, symbols_at, option_symbols, groups_by}
@@ -115,11 +116,6 @@ kept-are names labels es true s = hypotheses-are names labels es s
 kept-are names labels es false s = floats-are names labels es (expr_of s)
 
 -- ---- more behind it, or less
-
-pub get-more : (es more : List Entry) (k : ℕ) (e : Entry) → slice_get es k ≡ Some e → slice_get (es ++ more) k ≡ Some e
-get-more [] more k e h = cc
-get-more (d ∷ es) more zero e h = h
-get-more (d ∷ es) more (suc k) e h = get-more es more k e h
 
 -- what is read off the entries at these positions stays
 maps-same : {A : Type 0} (f : ℕ → Option Entry → A) (es more : List Entry) (ps : List ℕ) → AreHypotheses es ps → map (λ p. f p (slice_get es (p - 1))) ps ≡ map (λ p. f p (slice_get (es ++ more) (p - 1))) ps

@@ -73,6 +73,16 @@ name_at-injective (x ∷ names) (suc i) zero d h k e =
     let f : false ≡ true = sym d.0 ∙ here in cc
 name_at-injective (x ∷ names) (suc i) (suc j) d h k e = ap suc (name_at-injective names i j d.1 (omega (arith, h)) (omega (arith, k)) e)
 
+-- numbers that stand for the same names are the same
+pub decode-injective : (names : List Name) (a b : List ℕ) → AreDistinct names → AreBelow (length names) a → AreBelow (length names) b → decode names a ≡ decode names b → a ≡ b
+decode-injective names [] [] d p q e = refl
+decode-injective names [] (y ∷ b) d p q e = cc
+decode-injective names (x ∷ a) [] d p q e = cc
+decode-injective names (x ∷ a) (y ∷ b) d p q e =
+    let heads : name_at names x ≡ name_at names y = cc in
+    let tails : decode names a ≡ decode names b = cc in
+    ap (λ z. z ∷ a) (name_at-injective names x y d p.0 q.0 heads) ∙ ap (λ r. y ∷ r) (decode-injective names a b d p.1 q.1 tails)
+
 -- ---- places
 
 abbrev pub option_name : List Name → Option ℕ → Option Name

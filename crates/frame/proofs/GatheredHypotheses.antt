@@ -20,10 +20,11 @@ use Rattle.frame.specs.Stored.AssertionParts.{kept_with, variable_at, symbols_at
 use Rattle.frame.specs.Stored.Counts.{AreNumbered}
 use Rattle.frame.proofs.DeclaredSymbolLemmas.{stored-distinct}
 use Rattle.frame.proofs.LegalLabels.{AllKept}
-use Rattle.frame.proofs.AssertionLemmas.{AllAre, active-are, get-entry, get-more, hypotheses-are}
+use Rattle.frame.proofs.AssertionLemmas.{AllAre, active-are, get-entry, hypotheses-are}
 use Rattle.frame.proofs.EnterLemmas.{essentials-kept, not-essential}
 use Rattle.frame.proofs.CitedLemmas.{IsThere, there-expr, there-lists}
 use Rattle.entries.proofs.BufferPlaceLemmas.{take-get}
+use Rattle.entries.proofs.StatementRecordLemmas.{get-more}
 use Rattle.frame.proofs.FoundByNumber.{kept-front}
 use Rattle.frame.proofs.CollectedLemmas.{found-floats, collected-hypotheses}
 use Rattle.frame.proofs.ActivePositions.{ascends-active}

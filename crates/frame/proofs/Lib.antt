@@ -1,3 +1,4 @@
+pub mod MarkLemmas
 pub mod NumberMarkLemmas
 pub mod SymbolNumberLemmas
 pub mod OpenLemmas

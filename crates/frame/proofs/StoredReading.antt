@@ -23,11 +23,6 @@ get-stmt names labels [] i e h = cc
 get-stmt names labels (d ∷ es) zero e h = let same : d ≡ e = cc in ap (λ x. Some (stmt_of names labels x)) same
 get-stmt names labels (d ∷ es) (suc i) e h = get-stmt names labels es i e h
 
-pub get-index : {A : Type 0} (xs : List A) (i : ℕ) (x : A) → i < length xs → x ≡ get_or xs i x → slice_get xs i ≡ Some x
-get-index [] i x h e = absurd (omega (arith, h))
-get-index (y ∷ xs) zero x h e = ap Some (sym e)
-get-index (y ∷ xs) (suc i) x h e = get-index xs i x (omega (arith, h)) e
-
 pub stmt-at-suc : (S : Database) (at : ℕ) → 1 ≤ at → stmt_at S at ≡ slice_get S (at - 1)
 stmt-at-suc S zero h = absurd (omega (arith, h))
 stmt-at-suc S (suc n) h = ap (slice_get S) (back n)

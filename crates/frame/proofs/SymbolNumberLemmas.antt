@@ -1,11 +1,10 @@
 -- Numbers and the names that they stand for, as both grow.
-use Rattle.std.specs.Prelude.{◌≡◌, ℕ, ◌<◌, ◌≤◌, true, false, ◌||◌, ◌⊎◌, List, [], ◌∷◌, ◌++◌, length, take, refl}
+use Rattle.std.specs.Prelude.{◌≡◌, ℕ, ◌<◌, ◌≤◌, true, false, ◌⊎◌, List, [], ◌∷◌, ◌++◌, length, take, refl, zero, suc}
 use Rattle.std.proofs.Common.{sym, ◌∙◌, ap, arith, inl, inr, append_assoc}
 use Rattle.std.proofs.Math.Seq.{take-append_seam}
-use Rattle.std.proofs.lemmas.Slice.Eq.{bytes_eq-Decides}
-use Rattle.std.proofs.lemmas.Bool.{cases_lt, or_right}
-use Rattle.mm_lex.specs.Alphabet.{Name, name_eq, has_name}
-use Rattle.names.specs.Codes.{name_at, decode, with_name, with_names, AreNamed}
+use Rattle.std.proofs.lemmas.Bool.{cases_lt}
+use Rattle.mm_lex.specs.Alphabet.{Name, has_name}
+use Rattle.names.specs.Codes.{name_at, decode, with_name, with_names}
 use Rattle.frame.specs.Below.{AreBelow}
 use Rattle.frame.specs.declared.storage.Symbol.{Symbol}
 use Rattle.entries.specs.Stored.Spans.{Extends}
@@ -44,6 +43,17 @@ pub below-push : (n : ℕ) (codes : List ℕ) (c : ℕ) → AreBelow n codes →
 below-push n [] c h l = (l, tt)
 below-push n (x ∷ codes) c h l = (h.0, below-push n codes c h.1 l)
 
+-- numbers below a bound, of two lists together
+pub below-append : (n : ℕ) (xs ys : List ℕ) → AreBelow n xs → AreBelow n ys → AreBelow n (xs ++ ys)
+below-append n [] ys h k = k
+below-append n (x ∷ xs) ys h k = (h.0, below-append n xs ys h.1 k)
+
+-- and of the first of a list
+pub below-take : (n k : ℕ) (xs : List ℕ) → AreBelow n xs → AreBelow n (take k xs)
+below-take n zero xs h = tt
+below-take n (suc k) [] h = tt
+below-take n (suc k) (x ∷ xs) h = (h.0, below-take n k xs h.1)
+
 pub decode-push : (names : List Name) (codes : List ℕ) (c : ℕ) → decode names (codes ++ c ∷ []) ≡ decode names codes ++ name_at names c ∷ []
 decode-push names [] c = refl
 decode-push names (x ∷ codes) c = ap (λ r. name_at names x ∷ r) (decode-push names codes c)
@@ -68,10 +78,3 @@ name_at-extends names new n p h = ap (λ r. name_at r n) p.1 ∙ name_at-more na
 
 pub made-step : (names rest words done : List Name) (x : Name) → with_names names words ≡ done → words ≡ x ∷ rest → with_names (with_name names x) rest ≡ done
 made-step names rest words done x h is = ap (with_names names) (sym is) ∙ h
-
--- a loop's step over names that have numbers
-pub first-named : (names words rest : List Name) (x : Name) → AreNamed names words → words ≡ x ∷ rest → has_name x names ≡ true
-first-named names words rest x h is = h x (ap (has_name x) is ∙ ap (λ b. b || has_name x rest) ((bytes_eq-Decides x x).1 refl))
-
-pub rest-named : (names words rest : List Name) (x : Name) → AreNamed names words → words ≡ x ∷ rest → AreNamed names rest
-rest-named names words rest x h is y k = h y (ap (has_name y) is ∙ or_right (name_eq y x) (has_name y rest) k)

@@ -9,6 +9,7 @@ use Rattle.scope.specs.declared.rule.Rule.{Rule as BrokenRule}
 use Rattle.scope.specs.Accepted.{Accepted}
 use Rattle.scope.specs.Active.{bare, bares, is_closed, is_provable, stmt_at}
 use Rattle.scope.specs.Legal.{first_broken}
+use Rattle.scope.proofs.StatementPlaces.{stands-within}
 use Rattle.frame.specs.Parts.{Numbered}
 use Rattle.verify.specs.Right.{IsProvable}
 use Rattle.library.specs.declared.verdict.Cause.{Cause}
@@ -16,7 +17,7 @@ use Rattle.library.specs.declared.verdict.Cause.TheVariants.{TooLong, Text, Shap
 use Rattle.library.specs.Good.{Good, IsProved}
 use Rattle.library.specs.Causes.{IsFirstUnproved}
 use Rattle.library.specs.Judging.{Begins, StandsProved, IsLeastUnproved, IsFault, IsJudged, IsBase, IsPlaced, IsUnproved, Extends}
-use Rattle.library.proofs.FrontLemmas.{stmt_at-behind, stands-within, stands-index}
+use Rattle.library.proofs.FrontLemmas.{stmt_at-behind, stands-index}
 use Rattle.library.proofs.GoodLemmas.{provable-where, provable-behind, proved-later}
 use Rattle.library.proofs.JoinedRulesLemmas.{legal-more, first_broken-bares, bare-bare}
 use Rattle.library.proofs.ProvingLemmas.{AreProved, stands-other}

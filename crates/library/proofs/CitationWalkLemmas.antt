@@ -1,12 +1,13 @@
 -- What a proof cites stands before it, and what citations lead to is what a walk down has marked.
-use Rattle.std.specs.Prelude.{◌≡◌, ◌⊎◌, ℕ, zero, suc, ◌-◌, ◌<◌, ◌≤◌, Bool, true, false, List, [], ◌∷◌, ◌++◌, length, get_or, Some, option_map, slice_get, slice_set, replicate, take, drop, Result, Ok, Err, OnOk, refl}
-use Rattle.std.proofs.Common.{sym, ◌∙◌, ap, subst, arith, inl, inr, append-nil, take_all}
+use Rattle.std.specs.Prelude.{◌≡◌, ◌⊎◌, ℕ, zero, suc, ◌-◌, ◌<◌, ◌≤◌, Bool, true, false, List, [], ◌∷◌, ◌++◌, length, get_or, Some, option_map, slice_get, slice_set, replicate, Result, Ok, Err, OnOk, refl}
+use Rattle.std.proofs.Common.{sym, ◌∙◌, ap, subst, arith, inl, inr}
 use Rattle.std.proofs.lemmas.Bool.{cases_eq}
-use Rattle.std.proofs.lemmas.List.{drop_all, length-set, length-replicate, get_or-set_same, get_or-set_other}
+use Rattle.std.proofs.lemmas.List.{length-set, length-replicate, get_or-set_same, get_or-set_other}
 use Rattle.mm_lex.specs.Alphabet.{Name}
 use Rattle.mm_read.specs.declared.stmt.Stmt.{Stmt}
 use Rattle.mm_read.specs.Statements.{Database}
 use Rattle.scope.specs.Active.{bare, bares, stmt_at, label_of, proof_of, is_provable}
+use Rattle.scope.proofs.StatementPlaces.{stmt_at-bares}
 use Rattle.frame.specs.Citations.{Carries}
 use Rattle.frame.specs.AtPosition.{HasLabelsOnce}
 use Rattle.proof_code.specs.declared.item.Item.{Item}
@@ -20,11 +21,12 @@ use Rattle.verify.specs.Right.{IsProvable, IsRight}
 use Rattle.library.specs.Good.{Good}
 use Rattle.library.specs.Uses.{HasItems, Cites}
 use Rattle.library.specs.UseMarks.{IsMarked, ItemsCite, MarksItems, MarksCited, Reaches, starts, leads, AreReached}
-use Rattle.library.proofs.FrontLemmas.{stmt_at-bares, active-below}
+use Rattle.library.proofs.FrontLemmas.{active-below}
 use Rattle.library.proofs.UseMarkLemmas.{marked-within}
 use Rattle.library.proofs.ProvingLemmas.{same-statement}
 use Rattle.library.proofs.WrittenItemsLemmas.{unbare}
 use Rattle.frame.proofs.EnterLemmas.{label_of-bare}
+use Rattle.frame.proofs.MarkLemmas.{no-mark}
 
 -- ---- labels, with proofs and without
 
@@ -140,12 +142,6 @@ pub record IsWalked (S : Database) (j p : ℕ) (ms : List Bool) : Type 0 where
   pub sound : (a : ℕ) → IsMarked ms a → Reaches S j a
   pub closed : (b a : ℕ) → p < b → IsMarked ms b → Cites S b a → IsMarked ms a
 
--- of cleared marks none is set
-pub clear : (n k : ℕ) → get_or (replicate n false) k false ≡ false
-clear zero k = refl
-clear (suc n) zero = refl
-clear (suc n) (suc k) = clear n k
-
 pub walk-start : (S : Database) (j : ℕ) (ms : List Bool) → 1 ≤ j → ms ≡ slice_set (replicate j false) (j - 1) true → IsWalked S j j ms
 walk-start S zero ms h is = absurd (omega (arith, h))
 walk-start S (suc n) ms h is =
@@ -164,7 +160,7 @@ walk-start S (suc n) ms h is =
     counted = ap length same ∙ (length-set (replicate (suc n) false) n true ∙ length-replicate (suc n) false)
 
     unset : (k : ℕ) → get_or (replicate (suc n) false) k false ≡ false
-    unset k = clear (suc n) k
+    unset k = no-mark (suc n) k
 
     only : (a : ℕ) → IsMarked ms a → a ≡ suc n
     only zero m = absurd m
@@ -259,8 +255,3 @@ step-proof S F j (suc n) ms lent ms' ms'' bit h same good once lending e is set 
     let marked : get_or ms n false ≡ true = get-any ms n false bit (omega (arith, count, below)) ∙ (sym (is ∙ ap (λ k. get_or ms k bit) less) ∙ set) in
     subst (λ k. IsWalked S j k ms'') (sym less) (subst (IsWalked S j n) (sym e)
     (walk-proof S j n ms ms' good (subst HasLabelsOnce same once) w marked (subst (λ l. MarksCited S (suc n) l ms') lending m)))
-
--- a list that was lent whole, and came back with the same length
-pub lent-whole : (n : ℕ) (s old : List Bool) → length s ≡ length old → n ≡ length old → take n (s ++ drop (length s) old) ≡ s
-lent-whole n s old same all =
-    ap (λ r. take n (s ++ r)) (drop_all (length s) old (omega (arith, same))) ∙ (ap (take n) (append-nil s) ∙ take_all n s (omega (arith, same, all)))

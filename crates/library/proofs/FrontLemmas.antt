@@ -1,13 +1,13 @@
 -- What is read of the first statements of a list stays so when others come behind.
-use Rattle.std.specs.Prelude.{◌≡◌, ℕ, zero, suc, ◌+◌, ◌-◌, ◌<◌, ◌≤◌, Bool, true, false, ◌&&◌, cond, nat_le, nat_lt, List, [], ◌∷◌, ◌++◌, length, map, filter, take, drop, get_or, Some, option_map, slice_get, refl}
+use Rattle.std.specs.Prelude.{◌≡◌, ℕ, zero, suc, ◌+◌, ◌-◌, ◌<◌, ◌≤◌, Bool, true, false, ◌&&◌, cond, nat_le, nat_lt, List, [], ◌∷◌, ◌++◌, length, map, filter, take, drop, get_or, Some, slice_get, refl}
 use Rattle.std.proofs.Common.{sym, ◌∙◌, ap, subst, arith, append_assoc, length-append}
 use Rattle.std.proofs.lemmas.Bool.Decides.{nat_tests}
 use Rattle.std.proofs.lemmas.List.{take-append-le, drop-append-le, length-drop, take-append-drop}
-use Rattle.std.proofs.lemmas.Option.{slice_get-map, slice_get-get_or, slice_get_within}
+use Rattle.std.proofs.lemmas.Option.{slice_get-get_or}
 use Rattle.mm_read.specs.declared.stmt.Stmt.{Stmt}
 use Rattle.mm_read.specs.declared.stmt.Stmt.TheVariants.{Open, Close, Const, Var, Disj, Float, Ess, Axiom, Prove}
 use Rattle.mm_read.specs.Statements.{Database}
-use Rattle.scope.specs.Active.{stmt_at, before, bare, bares, is_active, stays_open, active_from}
+use Rattle.scope.specs.Active.{stmt_at, before, bare, is_active, stays_open, active_from}
 use Rattle.frame.specs.FrameOf.{hypotheses, is_hypothesis}
 use Rattle.frame.specs.Citations.{is_hypothesis_kind}
 use Rattle.frame.proofs.AssertionLemmas.{hypothesis-kinds}
@@ -28,11 +28,6 @@ stmt_at-front S T (suc n) h = get-front S T n (omega (arith, h))
 
 pub stmt_at-behind : (S T : Database) (n : ℕ) → stmt_at (S ++ T) (length S + suc n) ≡ stmt_at T (suc n)
 stmt_at-behind S T n = let e : length S + suc n ≡ suc (length S + n) = omega arith in ap (stmt_at (S ++ T)) e ∙ get-behind S T n
-
--- where a statement stands
-pub stands-within : (S : Database) (i : ℕ) (s : Stmt) → stmt_at S i ≡ Some s → (1 ≤ i) × (i ≤ length S)
-stands-within S zero s h = cc
-stands-within S (suc n) s h = let m = slice_get_within S n s h in (omega arith, omega (arith, m))
 
 pub before-front : (S T : Database) (i : ℕ) → i ≤ length S → before (S ++ T) i ≡ before S i
 before-front S T i h = take-append-le (i - 1) S T (omega (arith, h))
@@ -144,10 +139,6 @@ one-hypothesis S (q ∷ ps) zero p d h less e = subst (IsHypothesisAt S) (sym e)
 one-hypothesis S (q ∷ ps) (suc k) p d h less e = one-hypothesis S ps k p d h.1 (omega (arith, less)) e
 
 -- ---- statements without their proofs
-
-pub stmt_at-bares : (S : Database) (i : ℕ) → stmt_at (bares S) i ≡ option_map bare (stmt_at S i)
-stmt_at-bares S zero = refl
-stmt_at-bares S (suc n) = slice_get-map bare S n
 
 pub hypotheses-bare : (S : Database) (s : Stmt) → hypotheses S (bare s) ≡ hypotheses S s
 hypotheses-bare S Open = refl

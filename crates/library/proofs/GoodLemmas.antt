@@ -5,12 +5,13 @@ use Rattle.std.proofs.lemmas.List.{map-append, length-map}
 use Rattle.mm_read.specs.declared.stmt.Stmt.{Stmt}
 use Rattle.mm_read.specs.Statements.{Database}
 use Rattle.scope.specs.Active.{bare, bares, before, stmt_at, proof_of}
+use Rattle.scope.proofs.StatementPlaces.{stands-within}
 use Rattle.frame.specs.FrameOf.{hypotheses}
 use Rattle.proof_code.specs.Writes.{Writes}
 use Rattle.verify.specs.Proves.{mandatory_labels, label_or_none}
 use Rattle.verify.specs.Right.{IsProvable, IsRight}
 use Rattle.library.specs.Good.{IsProved}
-use Rattle.library.proofs.FrontLemmas.{stmt_at-front, stmt_at-behind, stands-within, before-front, map-within, hypotheses-within}
+use Rattle.library.proofs.FrontLemmas.{stmt_at-front, stmt_at-behind, before-front, map-within, hypotheses-within}
 use Rattle.library.proofs.LaterLemmas.{right-later, before-short}
 use Rattle.verify_pool.proofs.JobsLemmas.{stmt_stays}
 

@@ -7,6 +7,7 @@ use Rattle.mm_lex.specs.Alphabet.{Name}
 use Rattle.mm_read.specs.declared.stmt.Stmt.{Stmt}
 use Rattle.mm_read.specs.Statements.{Expr, Database}
 use Rattle.scope.specs.Active.{before, is_variable}
+use Rattle.scope.proofs.StatementPlaces.{stands-within}
 use Rattle.frame.specs.Substitution.{Images, apply as applied}
 use Rattle.frame.specs.Disjoint.{are_groups_apart}
 use Rattle.frame.specs.FrameOf.{hypotheses, mandatory_groups}
@@ -16,7 +17,7 @@ use Rattle.verify.specs.Derivations.{Derivation, Derivations, hyp, apply, none, 
 use Rattle.verify.specs.Concludes.{Concludes, ConcludeAll}
 use Rattle.verify.specs.Spells.{Spells, SpellsAll, cites_hypothesis, cites_assertion, recalls, marks, spells_none, spells_more}
 use Rattle.verify.specs.Right.{IsRight}
-use Rattle.library.proofs.FrontLemmas.{stmt_at-front, stands-within, before-front, active-later, map-within, hypotheses-within}
+use Rattle.library.proofs.FrontLemmas.{stmt_at-front, before-front, active-later, map-within, hypotheses-within}
 use Rattle.verify_pool.proofs.JobsLemmas.{stmt_stays}
 
 pub before-short : (S : Database) (a : ℕ) → length (before S a) ≤ length S

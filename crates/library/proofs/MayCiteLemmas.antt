@@ -1,10 +1,12 @@
 -- What a proof cites is a mandatory hypothesis, or what a token before `)` names.
 use Rattle.std.specs.Prelude.{◌≡◌, ◌⊎◌, ℕ, zero, suc, ◌+◌, Bool, true, false, ◌||◌, if◌then◌else◌, List, [], ◌∷◌, ◌++◌, map, Option, Some, None, slice_get, refl}
-use Rattle.std.specs.List.{list_all, list_any}
+use Rattle.std.specs.List.{list_all}
 use Rattle.std.proofs.Common.{sym, ◌∙◌, ap, subst, inl, inr, true≢false, append-nil}
 use Rattle.std.proofs.lemmas.Slice.Eq.{bytes_eq-Decides}
 use Rattle.std.proofs.lemmas.Bool.{or_right, and_parts}
+use Rattle.std.proofs.lemmas.Map.Keys.{any_passes_from_place}
 use Rattle.mm_lex.specs.Alphabet.{Name, name_eq, has_name, is_label}
+use Rattle.mm_lex.proofs.NameLemmas.{name_same}
 use Rattle.mm_read.specs.declared.stmt.Stmt.{Stmt}
 use Rattle.mm_read.specs.declared.stmt.Stmt.TheVariants.{Open, Close, Const, Var, Disj, Float, Ess, Axiom, Prove}
 use Rattle.mm_read.specs.Statements.{Database}
@@ -36,14 +38,6 @@ get-map : {A B : Type 0} (f : A → B) (xs : List A) (k : ℕ) (y : B) → slice
 get-map f [] k y e = absurd (let h = e in cc)
 get-map f (x ∷ xs) zero y e = (x, refl, let h = e in cc)
 get-map f (x ∷ xs) (suc k) y e = get-map f xs k y e
-
-any-at : {A : Type 0} (p : A → Bool) (xs : List A) (k : ℕ) (x : A) → slice_get xs k ≡ Some x → p x ≡ true → list_any p xs ≡ true
-any-at p [] k x e h = absurd (let f = e in cc)
-any-at p (y ∷ xs) zero x e h = let same : y ≡ x = (let f = e in cc) in ap (λ b. b || list_any p xs) (ap p same ∙ h)
-any-at p (y ∷ xs) (suc k) x e h = or_right (p y) (list_any p xs) (any-at p xs k x e h)
-
-name-same : (x : Name) → name_eq x x ≡ true
-name-same x = (bytes_eq-Decides x x).1 refl
 
 -- ---- the labels of items
 
@@ -78,7 +72,7 @@ labels-listed (token ∷ labels) rest are k label e =
     subst (λ ns. has_name label ns ≡ true) (sym (listed-more token (labels ++ rest) (no-finish token both.0))) (by k e (λ i e. labels-listed labels rest both.1 i label e))
   where
     by : (k : ℕ) → slice_get (token ∷ labels) k ≡ Some label → ((i : ℕ) → slice_get labels i ≡ Some label → has_name label (listed_in (labels ++ rest)) ≡ true) → has_name label (token ∷ listed_in (labels ++ rest)) ≡ true
-    by zero e behind = let same : token ≡ label = (let h = e in cc) in ap (λ b. b || has_name label (listed_in (labels ++ rest))) (ap (name_eq label) same ∙ name-same label)
+    by zero e behind = let same : token ≡ label = (let h = e in cc) in ap (λ b. b || has_name label (listed_in (labels ++ rest))) (ap (name_eq label) same ∙ name_same label)
     by (suc k) e behind = or_right (name_eq label token) (has_name label (listed_in (labels ++ rest))) (behind k e)
 
 -- what an item cites is a mandatory label or stands before `)`
@@ -152,7 +146,7 @@ module _ (F : Database) (once : HasLabelsOnce F) (marks : List Bool) where
             listed = so_far a p.0 token marked p.1
                 ∙ (ap (λ ts. has_name token (listed_in ts)) split
                 ∙ (ap (has_name token) (listed-more token rest (ap (name_eq token) (sym is) ∙ goes_on))
-                ∙ ap (λ b. b || has_name token (listed_in rest)) (name-same token)));
+                ∙ ap (λ b. b || has_name token (listed_in rest)) (name_same token)));
           }
 
 hypothesis-there : (S : Database) (ps : List ℕ) (k i : ℕ) → slice_get ps k ≡ Some i → AreHypothesesAt S ps → IsHypothesisAt S i
@@ -190,7 +184,7 @@ module _ (S F : Database) (same : F ≡ bares S) (once : HasLabelsOnce F) (at : 
       subst (λ t. Writes t (mandatory_labels (bares S) at s) c.items) e (subst (λ r. Writes (proof_of r) (mandatory_labels (bares S) at r) c.items) (sym one) c.has.written) in
       let carries : Carries F a (bare c.cited) c.label = subst (λ U. Carries U a (bare c.cited) c.label) (sym same) (carries-bare S a c.cited c.label c.carries) in
       elim (cited-label tokens (mandatory_labels (bares S) at s) c.items written c.place c.label c.cites) [
-        | inl mandatory ↦ true≢false (sym (any-at (λ p. is_marked marks (Some p)) (hypotheses (before F at) (bare s)) mandatory.0 a
+        | inl mandatory ↦ true≢false (sym (any_passes_from_place (λ p. is_marked marks (Some p)) (hypotheses (before F at) (bare s)) mandatory.0 a
             (hypothesis-cited mandatory.0 c.label a (bare c.cited) mandatory.1 carries) (marked-is marks a m)) ∙ none.mandatory)
         | inr listed ↦ true≢false (sym listed ∙ none.lists a (bare c.cited) c.label m carries)
       ]

@@ -13,11 +13,11 @@ use Rattle.verify.specs.declared.answer.Answer.{Answer}
 use Rattle.verify.specs.declared.answer.Answer.TheVariants.{Proved, Wrong}
 use Rattle.verify.specs.Proves.{label_or_none, mandatory_labels, Proves}
 use Rattle.verify.specs.Right.{IsProvable, IsRight, Says}
+use Rattle.verify.proofs.RightLemmas.{provable-bare}
 use Rattle.library.specs.Judging.{StandsProved}
 use Rattle.frame.proofs.ActiveBehind.{not-both}
 use Rattle.proof_code.proofs.OneList.{one_answer}
 use Rattle.library.proofs.FrontLemmas.{hypotheses-bare}
-use Rattle.library.proofs.WrittenItemsLemmas.{provable-bare}
 
 -- ---- items
 
@@ -124,7 +124,3 @@ pub if-found : {E : Type 0} (tokens : List Name) (labels : Stmt → List Name) (
     → ((found : Option (List Item)) → W found → (s : Stmt) → P s → Found tokens (labels s) found) → IfOk r W → IfOk r (λ found. (s : Stmt) → P s → Found tokens (labels s) found)
 if-found tokens labels P (Ok found) h w = h found w
 if-found tokens labels P (Err x) h w = w
-
-pub if-map : {A E : Type 0} {P Q : A → Type 0} (r : Result A E) → ((a : A) → P a → Q a) → IfOk r P → IfOk r Q
-if-map (Ok a) f p = f a p
-if-map (Err x) f p = p

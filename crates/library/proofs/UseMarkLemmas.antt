@@ -14,7 +14,7 @@ use Rattle.proof_code.specs.declared.item.Item.{Item}
 use Rattle.proof_code.specs.declared.item.Item.TheVariants.{Cite, Recall}
 use Rattle.proof_code.specs.ItemNumbers.{item_of, items_of}
 use Rattle.library.specs.UseMarks.{IsMarked, is_marked, mark, place_of, mark_items, ItemsCite, ItemsMeet, MarksItems}
-use Rattle.library.proofs.FrontLemmas.{stands-within}
+use Rattle.scope.proofs.StatementPlaces.{stands-within}
 
 -- ---- one mark
 

@@ -8,15 +8,16 @@ use Rattle.mm_read.specs.declared.stmt.Stmt.{Stmt}
 use Rattle.mm_read.specs.declared.stmt.Stmt.TheVariants.{Open, Close, Const, Var, Disj, Float, Ess, Axiom, Prove}
 use Rattle.mm_read.specs.Statements.{Database}
 use Rattle.scope.specs.Active.{bares, stmt_at, is_provable}
+use Rattle.scope.proofs.StatementPlaces.{stands-within}
 use Rattle.frame.specs.AtPosition.{HasLabelsOnce}
+use Rattle.frame.proofs.MarkLemmas.{no-mark}
 use Rattle.proof_code.specs.declared.item.Item.{Item}
 use Rattle.verify.specs.Proves.{label_or_none}
 use Rattle.library.specs.Good.{Good}
 use Rattle.library.specs.Uses.{HasItems, Cites, RestsOn, directly, through, IsUser, Rises, IsIn, AreLabelsOf}
 use Rattle.library.specs.UseMarks.{IsMarked, mark, ItemsMeet, ProofMeets, NotesUser}
-use Rattle.library.proofs.FrontLemmas.{stands-within}
 use Rattle.library.proofs.UseMarkLemmas.{mark-count, mark-kept, mark-sound, mark-whole}
-use Rattle.library.proofs.CitationWalkLemmas.{clear, cites-below, cites-of, cited-of}
+use Rattle.library.proofs.CitationWalkLemmas.{cites-below, cites-of, cited-of}
 
 -- ---- one more label
 
@@ -200,7 +201,7 @@ search-start S all (suc k) marks good once h w is =
 
     unmarked : (b : ℕ) → IsMarked none b → ⊥
     unmarked zero m = m
-    unmarked (suc n) m = let f : false ≡ true = sym (clear (length S) n) ∙ m in absurd (cc)
+    unmarked (suc n) m = let f : false ≡ true = sym (no-mark (length S) n) ∙ m in absurd (cc)
 
     to : (b : ℕ) → IsMarked marks b → IsSought S all (suc k) (suc k) b
     to b m = elim (mark-sound (Some (suc k)) none b (subst (λ ms. IsMarked ms b) same m)) [

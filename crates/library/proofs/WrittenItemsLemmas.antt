@@ -7,11 +7,12 @@ use Rattle.mm_read.specs.declared.stmt.Stmt.{Stmt}
 use Rattle.mm_read.specs.declared.stmt.Stmt.TheVariants.{Open, Close, Const, Var, Disj, Float, Ess, Axiom, Prove}
 use Rattle.mm_read.specs.Statements.{Database}
 use Rattle.scope.specs.Active.{bare, bares, before, stmt_at, label_of, is_assertion, is_provable}
+use Rattle.scope.proofs.StatementPlaces.{stands-within, stmt_at-bares}
 use Rattle.frame.specs.FrameOf.{hypotheses}
 use Rattle.frame.specs.Citations.{is_hypothesis_kind}
 use Rattle.verify.specs.Proves.{mandatory_labels, label_or_none}
 use Rattle.verify.specs.Right.{IsProvable}
-use Rattle.library.proofs.FrontLemmas.{stands-within, stmt_at-bares, hypotheses-bare, kind-bare, hypotheses-at, one-hypothesis, stands-index}
+use Rattle.library.proofs.FrontLemmas.{hypotheses-bare, kind-bare, hypotheses-at, one-hypothesis, stands-index}
 use Rattle.frame.proofs.EnterLemmas.{label_of-bare}
 
 bare-assertion : (s : Stmt) → is_provable s ≡ true → is_assertion (bare s) ≡ true
@@ -30,20 +31,6 @@ stands-bare S F at s same p = ap (λ U. stmt_at U at) same ∙ (stmt_at-bares S 
 
 pub has-assertion : (S F : Database) (at : ℕ) (s : Stmt) → F ≡ bares S → IsProvable S at s → (x : Stmt) × ((stmt_at F at ≡ Some x) × IsTrue (is_assertion x))
 has-assertion S F at s same p = (bare s, (stands-bare S F at s same p, bare-assertion s p.provable))
-
-bare-provable : (s : Stmt) → is_provable s ≡ true → is_provable (bare s) ≡ true
-bare-provable (Prove label expr proof) h = refl
-bare-provable (Axiom label expr) h = cc
-bare-provable Open h = cc
-bare-provable Close h = cc
-bare-provable (Const names) h = cc
-bare-provable (Var names) h = cc
-bare-provable (Disj names) h = cc
-bare-provable (Float label constant variable) h = cc
-bare-provable (Ess label expr) h = cc
-
-pub provable-bare : (S F : Database) (at : ℕ) (s : Stmt) → F ≡ bares S → IsProvable S at s → IsProvable F at (bare s)
-provable-bare S F at s same p = record { stands = stands-bare S F at s same p; provable = bare-provable s p.provable }
 
 -- the `$f` or `$e` at a position of the statements themselves
 pub record IsHypothesisOf (S : Database) (p : ℕ) : Type 0 where

@@ -6,7 +6,7 @@ use Rattle.std.proofs.lemmas.List.Quantifiers.{position-Some}
 use Rattle.std.proofs.lemmas.Bool.{or_right}
 use Rattle.mm_lex.specs.Alphabet.{Name, name_eq, has_name}
 pub use Rattle.mm_lex.proofs.NameLemmas.{name_same, same_name}
-use Rattle.names.specs.Codes.{name_at, code_of, AreDistinct, number_in}
+use Rattle.names.specs.Codes.{name_at, code_of, AreDistinct, number_in, AreNamed}
 
 pub list_any-map : {A B : Type 0} (f : A → B) (p : B → Bool) (xs : List A) → list_any (λ a. p (f a)) xs ≡ list_any p (map f xs)
 list_any-map f p [] = refl
@@ -113,3 +113,11 @@ found-number names x n h =
 
 pub unknown-number : (names : List Name) (x : Name) → None ≡ code_of names x → has_name x names ≡ false
 unknown-number names x h = sym (lt-list_any (name_eq x) names) ∙ none_cond (nat_lt (number_in names x) (length names)) (number_in names x) (sym h)
+
+-- the next of the names that have numbers has one
+pub first-named : (names words rest : List Name) (x : Name) → AreNamed names words → words ≡ x ∷ rest → has_name x names ≡ true
+first-named names words rest x h is = h x (ap (has_name x) is ∙ ap (λ b. b || has_name x rest) (name_same x))
+
+-- and so have the others of them
+pub rest-named : (names words rest : List Name) (x : Name) → AreNamed names words → words ≡ x ∷ rest → AreNamed names rest
+rest-named names words rest x h is y k = h y (ap (has_name y) is ∙ or_right (name_eq y x) (has_name y rest) k)

@@ -2,7 +2,7 @@
 use Rattle.std.proofs.Common.{◌≡◌, ℕ, ◌<◌, ◌≤◌, List, [], ◌∷◌, ◌++◌, length, get_or, set, slice_get, Some, None, Result, Ok, Err, true, false, if◌then◌else◌, refl, ap, sym, ◌∙◌, subst, arith, append-nil}
 use Rattle.std.specs.Prelude.{IfOk, IfErr, IsOk, OnOk, is_ok}
 use Rattle.std.specs.declared.alloc.AllocError.{AllocError}
-use Rattle.std.proofs.lemmas.Option.{slice_get_within}
+use Rattle.std.proofs.lemmas.Option.{slice_get_within, slice_get_read}
 use Rattle.std.specs.List.{AllByRecursion}
 use Rattle.synod.specs.declared.packet.Packet.{Packet}
 use Rattle.synod.specs.Packets.{IsPost}
@@ -15,7 +15,6 @@ use Rattle.net.specs.declared.fault.StepFault.TheVariants.{Memory}
 use Rattle.net.specs.World.{World, stepped, happens_at}
 use Rattle.net.specs.Taken.{Taken, AreOfWorld}
 use Rattle.net.specs.Due.{Work, steps, restarts, Due, posts_of, step_of, IsReadyAt, NetView, IsDue, IsTaken, Gives}
-use Rattle.net.proofs.GrowingLists.{at_place}
 use Rattle.net.proofs.TakenLemmas.{makes}
 use Rattle.net.proofs.EventsDue.{nodes_found}
 use Rattle.synod.proofs.NodeKeeps.{all_append}
@@ -41,7 +40,7 @@ module _ {V : Type 0} (size : V → ℕ) (view now : NetView V) (seen : view ≡
 
   -- the core that is read stands at the number of the due event's node
   core_is : slice_get view.cores due.at ≡ Some core
-  core_is = at_place view.cores due.at core (slice_get_within view.cores due.at due_view.core due_view.at) (is ∙ ap (λ (i : ℕ). get_or view.cores i core) is_at)
+  core_is = slice_get_read view.cores (length view.cores) due.at core refl (slice_get_within view.cores due.at due_view.core due_view.at) (is ∙ ap (λ (i : ℕ). get_or view.cores i core) is_at)
 
   -- the core that is read is the one at which the event is due
   same_core : due_view.core ≡ core

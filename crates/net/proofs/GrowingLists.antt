@@ -1,5 +1,5 @@
 -- Lists: facts of each element, like elements with one answer, and lists that grow.
-use Rattle.std.proofs.Common.{◌≡◌, ◌≢◌, ℕ, zero, suc, ◌<◌, List, [], ◌∷◌, ◌++◌, length, get_or, set, Option, Some, slice_get, ◌⊎◌, inl, inr, refl, ap, sym, ◌∙◌, subst, arith, le_of_suc-le-suc}
+use Rattle.std.proofs.Common.{◌≡◌, ◌≢◌, ℕ, zero, suc, List, [], ◌∷◌, ◌++◌, set, Some, slice_get, ◌⊎◌, inl, inr, refl, ap, sym, ◌∙◌, subst}
 use Rattle.std.specs.List.{AllByRecursion}
 use Rattle.slots.proofs.Lists.{In}
 
@@ -69,12 +69,6 @@ adds_both f g a b = record {
 }
 
 -- Lists by index.
-
--- what is read at an index within the list stands there
-pub at_place : {A : Type 0} (xs : List A) (k : ℕ) (x : A) → k < length xs → x ≡ get_or xs k x → slice_get xs k ≡ Some x
-at_place [] k x low is = absurd (omega arith)
-at_place {A} (y ∷ xs) zero x low is = ap (λ (z : A). let o : Option A = Some z in o) (sym is)
-at_place (y ∷ xs) (suc k) x low is = at_place xs k x (le_of_suc-le-suc low) is
 
 -- what is set at an index that is there stands there
 pub at_set : {A : Type 0} (xs : List A) (k : ℕ) (x y : A) → slice_get xs k ≡ Some y → slice_get (set xs k x) k ≡ Some x

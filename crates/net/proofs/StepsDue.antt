@@ -1,6 +1,6 @@
 -- A step that a node made ready, seen of the whole net.
 use Rattle.std.proofs.Common.{◌≡◌, ℕ, ◌<◌, ◌≤◌, List, [], ◌∷◌, length, get_or, set, slice_get, Option, Some, None, Result, Ok, Err, refl, ap, sym, ◌∙◌, subst, arith, append-nil}
-use Rattle.std.proofs.lemmas.Option.{slice_get_within}
+use Rattle.std.proofs.lemmas.Option.{slice_get_within, slice_get_read}
 use Rattle.std.specs.List.{AllByRecursion}
 use Rattle.synod.specs.declared.packet.Packet.{Packet}
 use Rattle.synod.specs.declared.refusal.Refusal.{Refusal}
@@ -21,7 +21,7 @@ use Rattle.net.specs.World.{World, answered, at_node, delivered, happens_at}
 use Rattle.net.specs.KeptPart.{addressed}
 use Rattle.net.specs.Taken.{Taken, AreOfWorld, world_of, with_event}
 use Rattle.net.specs.Due.{steps, Due, posts_of, step_of, IsOfEvent, ComesTo, IsDueAt, Readies, ReadiesEvent, NetView, AreStill, IsStill, IsDue, Gives}
-use Rattle.net.proofs.GrowingLists.{at_place, at_set}
+use Rattle.net.proofs.GrowingLists.{at_set}
 use Rattle.net.proofs.TakenLemmas.{next_is, node_shown, no_node_shown, own_weights, rooms_stay}
 use Rattle.net.proofs.EventsDue.{comes_offer, comes_begin, comes_restart, comes_packet, not_mapped, mapped, more_room, still_same, still_set, nodes_still}
 
@@ -42,7 +42,7 @@ made_due old new k e f (Err refusal) made h same kind posts = elim h [ ]
 
 -- the packet at a number
 pub packet_is : {V : Type 0} (ps : List (Packet V)) (number : ℕ) (p q : Packet V) → p ≡ get_or ps number p → slice_get ps number ≡ Some q → p ≡ q
-packet_is ps number p q is at = let both : Some p ≡ Some q = sym (at_place ps number p (slice_get_within ps number q at) is) ∙ at in cc
+packet_is ps number p q is at = let both : Some p ≡ Some q = sym (slice_get_read ps (length ps) number p refl (slice_get_within ps number q at) is) ∙ at in cc
 
 -- What a node's answer tells of the net, view being what the fields show.
 
@@ -98,7 +98,7 @@ module _ {V : Type 0} (size : V → ℕ) (view now : NetView V) (seen : view ≡
     due_here : (e : Event V) (step : Stepped V) → ComesTo size view.packets k core.node e (Ok step) → (due : Due V) → IsDueAt core new k e step due → IsDue size left due
     due_here e step comes due d = record {
       core = new;
-      at = ap (λ (i : ℕ). slice_get (set view.cores k new) i) d.at ∙ at_set view.cores k new core (at_place view.cores k core in_cores is);
+      at = ap (λ (i : ℕ). slice_get (set view.cores k new) i) d.at ∙ at_set view.cores k new core (slice_get_read view.cores (length view.cores) k core refl in_cores is);
       ready = d.ready;
       comes = subst (λ (i : ℕ). ComesTo size view.packets i new.node due.event (Ok (step_of due.work new.node))) (sym d.at)
           (subst (λ (f : Event V). ComesTo size view.packets k new.node f (Ok (step_of due.work new.node))) (sym d.event)

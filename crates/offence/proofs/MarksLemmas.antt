@@ -1,7 +1,7 @@
 -- Marks given to names, one test after another, and names that are given codes.
 use Rattle.std.proofs.Common.{◌≡◌, ℕ, zero, suc, ◌<◌, Bool, true, false, cond, not, ◌&&◌, ◌||◌, List, [], ◌∷◌, ◌++◌, map, replicate, length, slice_set, slice_get, refl, sym, ◌∙◌, ap, arith, append-nil, Some, true≢false}
 use Rattle.mm_lex.specs.Alphabet.{Name, name_eq, has_name}
-use Rattle.names.specs.Codes.{name_at, code_of, AreDistinct, AreNamed}
+use Rattle.names.specs.Codes.{name_at, code_of, AreDistinct}
 use Rattle.mm_lex.proofs.NameLemmas.{name_same, same_name}
 use Rattle.names.proofs.CodesLemmas.{name_eq-comm, has-at, code-name}
 use Rattle.names.proofs.AddedNames.{has_name-append}
@@ -151,14 +151,6 @@ all_coded names words rest x e h = or_no (has_name x names) ∙ (ap (λ r. has_n
     or_no : (a : Bool) → a ≡ (a || false)
     or_no true = refl
     or_no false = refl
-
--- the next of the names that have codes has one
-pub first_coded : (names left rest : List Name) (w : Name) → AreNamed names left → left ≡ w ∷ rest → has_name w names ≡ true
-first_coded names left rest w named e = named w (ap (has_name w) e ∙ ap (λ b. b || has_name w rest) (name_same w))
-
--- the others of them have codes too
-pub rest_coded : (names left rest : List Name) (w : Name) → AreNamed names left → left ≡ w ∷ rest → AreNamed names rest
-rest_coded names left rest w named e = λ x h. named x (ap (has_name x) e ∙ or_right (name_eq x w) (has_name x rest) h)
 
 -- ---- the first that stands twice
 

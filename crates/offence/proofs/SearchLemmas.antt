@@ -11,6 +11,7 @@ use Rattle.scope.specs.Active.{stays_open, active_from}
 use Rattle.std.specs.Prelude.{◌==◌}
 use Rattle.std.proofs.lemmas.Bool.{and_parts}
 use Rattle.std.proofs.lemmas.Option.{slice_get_read}
+use Rattle.std.proofs.lemmas.Map.Keys.{any_passes_from_place}
 use Rattle.scope.specs.Active.{stmt_at}
 use Rattle.offence.specs.Search.{closed_by, closed_behind, IsAt, IsActiveAt}
 
@@ -166,12 +167,6 @@ first_is [] rest (suc i) x e = cc
 first_is (y ∷ ys) rest zero x e = let same : x ≡ y = cc in ap Some (sym same)
 first_is (y ∷ ys) rest (suc i) x e = first_is ys rest i x e
 
--- what is found is there
-pub any_at : {A : Type 0} (t : A → Bool) (xs : List A) (i : ℕ) (x : A) → slice_get xs i ≡ Some x → t x ≡ true → list_any t xs ≡ true
-any_at t [] i x e h = cc
-any_at t (y ∷ ys) zero x e h = let same : y ≡ x = cc in ap (λ z. t z || list_any t ys) same ∙ ap (λ b. b || list_any t ys) h
-any_at t (y ∷ ys) (suc i) x e h = ap (λ b. t y || b) (any_at t ys i x e h) ∙ or-true (t y)
-
 -- an active statement that has it is one of the active
 pub any_active : (t : Stmt → Bool) (n : ℕ) (S : Database) (i : ℕ) (s : Stmt) → slice_get S i ≡ Some s → t s ≡ true → stays_open 0 (drop (suc i) S) ≡ true
     → list_any (λ p. t p.1) (active_from n S) ≡ true
@@ -193,7 +188,7 @@ stmt_index S zero s e = cc
 stmt_index S (suc n) s e = (n, refl, e)
 
 pub IsAt-any : (S : Database) (i : ℕ) (t : Stmt → Bool) → IsAt S i t → list_any t S ≡ true
-IsAt-any S i t is = let at = stmt_index S i is.stmt is.stands in any_at t S at.0 is.stmt at.2 is.passes
+IsAt-any S i t is = let at = stmt_index S i is.stmt is.stands in any_passes_from_place t S at.0 is.stmt at.2 is.passes
 
 pub IsActiveAt-any : (S : Database) (i : ℕ) (t : Stmt → Bool) → IsActiveAt S i t → list_any (λ p. t p.1) (active_from 1 S) ≡ true
 IsActiveAt-any S i t is =

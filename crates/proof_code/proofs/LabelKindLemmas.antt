@@ -1,8 +1,8 @@
 -- Labels whose kinds are marked.
 use Rattle.std.specs.Prelude.{◌≡◌, ℕ, zero, suc, ◌<◌, Bool, true, false, ◌||◌, ◌&&◌, List, [], ◌∷◌, ◌++◌, length, slice_index_or, slice_set, bytes_eq, cond, refl, Result, Ok, Err, OnOk, is_err}
 use Rattle.std.specs.List.{list_any}
-use Rattle.std.proofs.Common.{sym, ◌∙◌, ap, arith, true≢false, append_assoc}
-use Rattle.std.proofs.lemmas.List.{append-nil}
+use Rattle.std.proofs.Common.{sym, ◌∙◌, ap, true≢false, append_assoc}
+use Rattle.std.proofs.lemmas.List.{append-nil, get_or-set_same}
 use Rattle.std.proofs.lemmas.List.Folds.{list_all-append, list_any-append}
 use Rattle.std.proofs.lemmas.Slice.Eq.{bytes_eq-Decides}
 use Rattle.std.specs.HashSet.{HashSet, contains}
@@ -23,11 +23,6 @@ has_name-unmarked kinds label (x ∷ labels) h off =
     other : (t : Bool) → name_eq label x ≡ t → slice_index_or kinds (kind_of x) false ≡ true → name_eq label x ≡ false
     other true e on = absurd (true≢false (sym on ∙ (ap (λ l. slice_index_or kinds (kind_of l) false) (sym ((bytes_eq-Decides label x).0 e)) ∙ off)))
     other false e on = e
-
-set-same : (kinds : List Bool) (k : ℕ) → k < length kinds → slice_index_or (slice_set kinds k true) k false ≡ true
-set-same [] k h = absurd (omega (arith, h))
-set-same (x ∷ kinds) zero h = refl
-set-same (x ∷ kinds) (suc k) h = set-same kinds k (omega (arith, h))
 
 set-keeps : (kinds : List Bool) (k j : ℕ) → slice_index_or kinds j false ≡ true → slice_index_or (slice_set kinds k true) j false ≡ true
 set-keeps [] k j h = h
@@ -58,7 +53,7 @@ marked_more labels left rest label k kinds m first is within = record {
   done = m.done ++ label ∷ [];
   whole = m.whole ∙ (ap (λ ws. m.done ++ ws) first ∙ sym (append_assoc m.done (label ∷ []) rest));
   marked = list_all-append (λ label. slice_index_or (slice_set kinds k true) (kind_of label) false) m.done (label ∷ [])
-      ∙ rw (are_marked-set kinds k m.done m.marked) (ap (λ t. t && true) (ap (λ j. slice_index_or (slice_set kinds k true) j false) (sym is) ∙ set-same kinds k within));
+      ∙ rw (are_marked-set kinds k m.done m.marked) (ap (λ t. t && true) (ap (λ j. slice_index_or (slice_set kinds k true) j false) (sym is) ∙ get_or-set_same kinds k true false within));
 }
 
 -- where no label is left, the kinds of all are marked

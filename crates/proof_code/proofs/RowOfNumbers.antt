@@ -1,9 +1,10 @@
 -- A row's numbers are read.
-use Rattle.std.specs.Prelude.{◌≡◌, ℕ, zero, suc, ◌+◌, ◌-◌, ◌*◌, ◌<◌, ◌≤◌, Bool, true, false, cond, ◌&&◌, ◌==◌, nat_lt, nat_le, List, [], ◌∷◌, ◌++◌, length, Option, Some, None, slice_get, refl}
+use Rattle.std.specs.Prelude.{◌≡◌, ℕ, zero, suc, ◌+◌, ◌-◌, ◌*◌, ◌<◌, ◌≤◌, Bool, true, false, cond, ◌&&◌, ◌==◌, nat_lt, nat_le, List, [], ◌∷◌, ◌++◌, length, Option, Some, None, slice_get, refl, get_or}
 use Rattle.std.specs.Option.{option_map}
 use Rattle.std.proofs.Common.{◌∙◌, ap, arith}
 use Rattle.std.proofs.lemmas.Option.{none-some, same_Some, slice_get_within, get_or_from_slice_get}
 use Rattle.std.proofs.lemmas.Bool.Decides.{nat_tests}
+use Rattle.std.proofs.lemmas.Bool.{lt-ltb}
 use Rattle.mm_lex.specs.Alphabet.{Name, is_empty}
 use Rattle.proof_code.specs.declared.item.Item.{Item}
 use Rattle.proof_code.specs.declared.item.Item.TheVariants.{Cite, Recall, Mark}
@@ -55,6 +56,10 @@ item_of-cite labels (suc n) k label is at =
     let within : n < length labels = slice_get_within labels n label here in
     let test : nat_lt n (length labels) ≡ true = grind (arith, nat_tests) in
     rw test (ap Cite (get_or_from_slice_get labels n label [] here))
+
+-- and the label is the one at that place
+pub item-cite : (labels : List Name) (n k : ℕ) → n ≡ suc k → k < length labels → item_of labels n ≡ Cite (get_or labels k [])
+item-cite labels n k e h = ap (item_of labels) e ∙ ap (λ b. cond b (Cite (get_or labels k [])) (Recall (suc (k - length labels)))) (lt-ltb k (length labels) h)
 
 item_of-recall : (labels : List Name) (number k : ℕ) → number ≡ length labels + k → 1 ≤ k → item_of labels number ≡ Recall k
 item_of-recall labels zero k is some = absurd (omega arith)

@@ -11,20 +11,16 @@ use Rattle.names.proofs.CodesLemmas.{name_same}
 use Rattle.frame.specs.Below.{AreBelow}
 use Rattle.frame.specs.Disjoint.{are_apart}
 use Rattle.frame.specs.Substitution.{CodeImages, image, code_image, code_apply}
+use Rattle.frame.proofs.SymbolNumberLemmas.{below-take}
 use Rattle.reasons.specs.ReadImages.{named_images, AreVariables}
 use Rattle.reasons.specs.Clashes.{is_kept, is_other_apart, AreBeside}
 use Rattle.reasons.specs.declared.named_images.Image.{Image}
 use Rattle.reasons.specs.Stored.Vectors.{AreImages, code_images}
 use Rattle.reasons.proofs.NamedLemmas.{image_same}
 use Rattle.reasons.proofs.ImagesLemmas.{apply-below}
-use Rattle.reasons.proofs.VectorLemmas.{below-drop}
+use Rattle.subst.proofs.NumbersApartLemmas.{below-drop}
 
 -- ---- their numbers
-
-below-take : (n k : ℕ) (xs : List ℕ) → AreBelow n xs → AreBelow n (take k xs)
-below-take n zero xs h = tt
-below-take n (suc k) [] h = tt
-below-take n (suc k) (y ∷ xs) h = (h.0, below-take n k xs h.1)
 
 -- the images before that of a variable have numbers that stand for names
 pub below_front : (n : ℕ) (images : List Image) (group : List ℕ) (x : ℕ) (before behind : List ℕ) → AreImages n images → AreBelow n group → AreBeside (code_images images) group x before behind → AreBelow n before

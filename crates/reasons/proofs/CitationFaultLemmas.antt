@@ -24,9 +24,9 @@ use Rattle.scope.specs.Active.{before}
 use Rattle.frame.specs.FrameOf.{hypotheses}
 use Rattle.reasons.specs.ReadImages.{images_read, named_images, AreVariables}
 use Rattle.reasons.specs.CitationFaults.{asks, AllFit, IsOther, BeginsOther, IsOtherConstant, StartsOther, IsFloat, IsSaid, IsMismatch}
-use Rattle.reasons.proofs.NamedLemmas.{decode-same, apply_same}
+use Rattle.reasons.proofs.NamedLemmas.{apply_same}
 use Rattle.frame.proofs.StoredOneMore.{map-push}
-use Rattle.frame.proofs.FoundByNumber.{map-at, name_at-injective}
+use Rattle.frame.proofs.FoundByNumber.{map-at, name_at-injective, decode-injective}
 
 take-map : {A B : Type 0} (f : A → B) (n : ℕ) (xs : List A) → take n (map f xs) ≡ map f (take n xs)
 take-map f zero xs = refl
@@ -69,7 +69,7 @@ module _ (S : Database) (names : List Name) (σ : Images) (ps : List ℕ) (resul
     hypothesis = slice_get-get_or ps k 0 within;
     result = result_is;
     asked_is = is;
-    differ = λ same. differ (decode-same names r.items asked distinct below low same);
+    differ = λ same. differ (decode-injective names r.items asked distinct below low same);
     before = before;
   }
 

@@ -4,9 +4,9 @@ use Rattle.std.specs.Prelude.{nat_eq}
 use Rattle.std.proofs.Math.Seq.{drop-cons}
 use Rattle.frame.specs.Below.{AreBelow}
 use Rattle.frame.specs.Substitution.{code_image, code_apply}
+use Rattle.frame.proofs.SymbolNumberLemmas.{below-append}
 use Rattle.reasons.specs.declared.named_images.Image.{Image}
 use Rattle.reasons.specs.Stored.Vectors.{code_images, AreImages}
-use Rattle.reasons.proofs.VectorLemmas.{below-append}
 
 -- the entry at i decides where it is for the symbol ..
 module _ (images : List Image) (i : ℕ) (x : Image) (symbol : ℕ) (inside : i < length images) (is : x ≡ get_or images i x) where

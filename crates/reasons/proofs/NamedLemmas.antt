@@ -17,11 +17,7 @@ use Rattle.frame.proofs.KindWalk.{same-number}
 use Rattle.reasons.specs.declared.named_images.Image.{Image}
 use Rattle.reasons.specs.Stored.Vectors.{codes, code_images, named}
 use Rattle.reasons.specs.ReadImages.{image_at, images_read, code_at, codes_read, named_images, AreVariables}
-use Rattle.frame.proofs.FoundByNumber.{name_at-injective}
-
-decode-append : (names : List Name) (xs ys : List ℕ) → decode names (xs ++ ys) ≡ decode names xs ++ decode names ys
-decode-append names [] ys = refl
-decode-append names (x ∷ xs) ys = ap (λ r. name_at names x ∷ r) (decode-append names xs ys)
+use Rattle.subst.proofs.SubstitutionLemmas.{decode-append}
 
 decode-drop : (names : List Name) (e : List ℕ) → decode names (drop 1 e) ≡ drop 1 (decode names e)
 decode-drop names [] = refl
@@ -101,15 +97,6 @@ images_are S names (p ∷ ps) (x ∷ heads) (h ∷ hs) (e ∷ es) asked =
     )
 
 -- ---- numbers that stand for the same names are the same
-
-pub decode-same : (names : List Name) (xs ys : List ℕ) → AreDistinct names → AreBelow (length names) xs → AreBelow (length names) ys → decode names xs ≡ decode names ys → xs ≡ ys
-decode-same names [] [] d h k e = refl
-decode-same names [] (y ∷ ys) d h k e = cc
-decode-same names (x ∷ xs) [] d h k e = cc
-decode-same names (x ∷ xs) (y ∷ ys) d h k e =
-    let first : name_at names x ≡ name_at names y = cc in
-    let rest : decode names xs ≡ decode names ys = cc in
-    ap (λ z. z ∷ xs) (name_at-injective names x y d h.0 k.0 first) ∙ ap (λ zs. y ∷ zs) (decode-same names xs ys d h.1 k.1 rest)
 
 -- ---- reading one result more
 

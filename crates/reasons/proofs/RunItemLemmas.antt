@@ -10,6 +10,7 @@ use Rattle.names.specs.Codes.{decode, AreDistinct}
 use Rattle.frame.specs.Below.{AreBelow}
 use Rattle.frame.specs.Citations.{Carries}
 use Rattle.frame.specs.AtPosition.{IsPosition, ArePositions}
+use Rattle.frame.proofs.FoundByNumber.{decode-injective}
 use Rattle.proof_code.specs.declared.item.Item.{Item}
 use Rattle.proof_code.specs.declared.item.Item.TheVariants.{Cite, Recall}
 use Rattle.proof_code.specs.ItemNumbers.{item_of, items_of}
@@ -24,7 +25,6 @@ use Rattle.reasons.specs.Run.{Held, held, CitesTo, Steps, Runs}
 use Rattle.reasons.specs.FirstFault.{FailsAt, FailsCited, Fails, RunsWell, RunsTo, IsFirstFault, IsAlone, IsEndFault}
 use Rattle.subst.specs.declared.buffer.TheConstants.{SYMBOLS_LIMIT}
 use Rattle.reasons.proofs.KeptRunLemmas.{pushed_to}
-use Rattle.reasons.proofs.NamedLemmas.{decode-same}
 use Rattle.std.proofs.lemmas.List.{length-map}
 use Rattle.std.proofs.lemmas.Bool.{lt-ltb, le-ltb}
 use Rattle.names.specs.Codes.{name_at}
@@ -38,10 +38,6 @@ pub found-at : (S : Database) (labels : List Name) (positions : List (Option ℕ
 found-at S labels positions k are less = are.each k (let c = are.count in omega (arith, less, c))
 
 -- ---- what a number means
-
--- a number up to the count of the labels cites one of them
-pub cite_item : (labels : List Name) (number k : ℕ) → number ≡ suc k → k < length labels → item_of labels number ≡ Cite (get_or labels k [])
-cite_item labels number k e l = ap (item_of labels) e ∙ ap (λ b. cond b (Cite (get_or labels k [])) (Recall (suc (k - length labels)))) (lt-ltb k (length labels) l)
 
 -- a greater number recalls
 pub recall_item : (labels : List Name) (number : ℕ) → length labels < number → item_of labels number ≡ Recall (suc (number - length labels - 1))
@@ -146,5 +142,5 @@ end_told S names at s items st says stack (Ok (Some (reason.Theorem proved))) di
   held names st,
   runs,
   ap (named names) (sym same ∙ told.1) ∙ ap (λ (xs : List ℕ). decode names xs ∷ []) (sym told.2),
-  λ equal. told.3 (decode-same names told.0.items says distinct (subst (λ l. AreSymbols (length names) l) told.1 low).0 lt-ltb (ap (decode names) (sym told.2) ∙ (equal ∙ sym is))),
+  λ equal. told.3 (decode-injective names told.0.items says distinct (subst (λ l. AreSymbols (length names) l) told.1 low).0 lt-ltb (ap (decode names) (sym told.2) ∙ (equal ∙ sym is))),
 )

@@ -1,25 +1,13 @@
 -- Numbers below a bound, in lists and in lists of lists.
-use Rattle.std.proofs.Common.{◌≡◌, ℕ, zero, suc, ◌<◌, ◌≤◌, List, [], ◌∷◌, ◌++◌, length, take, drop, get_or, arith, refl, sym, ◌∙◌, ap, subst, Some, slice_get, Bool, true, false, cond}
+use Rattle.std.proofs.Common.{◌≡◌, ℕ, zero, suc, ◌<◌, List, [], ◌∷◌, ◌++◌, length, take, drop, get_or, arith, refl, sym, ◌∙◌, ap, subst, Bool, true, false, cond}
 use Rattle.std.specs.Prelude.{◌==◌}
 use Rattle.std.specs.Global.{Vec}
-use Rattle.frame.specs.Below.{AreBelow, AllBelow}
+use Rattle.frame.specs.Below.{AreBelow}
 use Rattle.mm_lex.specs.Alphabet.{Name}
-use Rattle.mm_read.specs.declared.stmt.Stmt.{Stmt}
 use Rattle.mm_read.specs.Statements.{Database}
-use Rattle.scope.specs.Active.{stmt_at}
 use Rattle.entries.specs.declared.cited_parts.Hypothesis.{Hypothesis}
 use Rattle.frame.specs.Cited.{AreAsked, IsAsked}
-use Rattle.std.proofs.lemmas.Option.{slice_get_within}
 use Rattle.reasons.specs.Stored.Vectors.{AreSymbols}
-
-pub below-append : (n : ℕ) (xs ys : List ℕ) → AreBelow n xs → AreBelow n ys → AreBelow n (xs ++ ys)
-below-append n [] ys h k = k
-below-append n (x ∷ xs) ys h k = (h.0, below-append n xs ys h.1 k)
-
-pub below-drop : (n k : ℕ) (xs : List ℕ) → AreBelow n xs → AreBelow n (drop k xs)
-below-drop n zero xs h = h
-below-drop n (suc k) [] h = tt
-below-drop n (suc k) (x ∷ xs) h = below-drop n k xs h.1
 
 -- lists of vectors
 pub symbols-append : (n : ℕ) (vs ws : List (Vec ℕ)) → AreSymbols n vs → AreSymbols n ws → AreSymbols n (vs ++ ws)
@@ -75,16 +63,6 @@ module _ (S : Database) (names : List Name) where
   asked-at (p ∷ ps) (x ∷ heads) [] k d h l = absurd h
   asked-at (p ∷ ps) (x ∷ heads) (y ∷ hs) zero d h l = h.0
   asked-at (p ∷ ps) (x ∷ heads) (y ∷ hs) (suc k) d h l = asked-at ps heads hs k d h.1 (omega (arith, l))
-
-  -- a position at which a statement stands is one of the list
-  pub position_in : (p : ℕ) (s : Stmt) → stmt_at S p ≡ Some s → (1 ≤ p) × (p ≤ length S)
-  position_in zero s e = cc
-  position_in (suc n) s e = let inside = slice_get_within S n s e in (omega arith, omega (arith, inside))
-
-pub all-at : (n : ℕ) (xs : List (List ℕ)) (k : ℕ) (e : List ℕ) → AllBelow n xs → slice_get xs k ≡ Some e → AreBelow n e
-all-at n [] k e h is = cc
-all-at n (x ∷ xs) zero e h is = let same : x ≡ e = cc in subst (λ y. AreBelow n y) same h.0
-all-at n (x ∷ xs) (suc k) e h is = all-at n xs k e h.1 is
 
 pub symbols-if : (n : ℕ) (old new : List (Vec ℕ)) (v : Vec ℕ) (b : Bool) → new ≡ cond b (old ++ v ∷ []) old → AreSymbols n old → AreBelow n v.items → AreSymbols n new
 symbols-if n old new v true e h k = symbols-push n old new v e h k

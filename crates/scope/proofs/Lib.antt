@@ -14,4 +14,5 @@ pub mod StackLemmas
 pub mod ActiveLemmas
 pub mod BlocksLemmas
 pub mod BareLemmas
+pub mod StatementPlaces
 mod Rows

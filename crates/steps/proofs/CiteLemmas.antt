@@ -30,7 +30,6 @@ use Rattle.verify.proofs.Decide.{append_cut, length-premises, not_both}
 use Rattle.verify.proofs.ImageLemmas.{apply-below}
 use Rattle.verify.proofs.Named.{halves, length-top}
 use Rattle.verify.proofs.ResultPlaceLemmas.{map-drop}
-use Rattle.verify.proofs.PlanLemmas.{below-take}
 use Rattle.steps.specs.StepTable.{Step, IsPlaced, stands, comes_last, of_hypothesis as makes_hypothesis, of_assertion as makes_assertion, Notes}
 use Rattle.steps.specs.Rows.{Row, no_row, expr_in, Follows, from_hypothesis, from_assertion, AreRows}
 use Rattle.steps.specs.StepTable as table
@@ -38,6 +37,7 @@ use Rattle.steps.specs.Stored.Drafted.{row_of, rows_of, codes_in, progress_of, I
 use Rattle.steps.specs.declared.table_draft.Draft.{Draft}
 use Rattle.steps.proofs.PlacingLemmas.{found-draft, found-placed, found-tied, made-draft, made-placed, made-tied}
 use Rattle.frame.proofs.FoundByNumber.{some-same}
+use Rattle.frame.proofs.SymbolNumberLemmas.{below-take}
 use Rattle.proof_code.proofs.LettersLemmas.{map-append}
 
 top-map : {A B : Type 0} (f : A → B) (n : ℕ) (xs : List A) → top n (map f xs) ≡ map f (top n xs)

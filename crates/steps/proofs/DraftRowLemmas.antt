@@ -19,6 +19,7 @@ use Rattle.steps.specs.Rows.{Row, row, no_row, steps_of, expr_in, Follows, from_
 use Rattle.steps.specs.Stored.Drafted.{row_of, key_of, place_of, AreKnown, AreInBuffer}
 use Rattle.frame.proofs.SymbolNumberLemmas.{below-more}
 use Rattle.frame.proofs.StoredOneMore.{map-push}
+use Rattle.entries.proofs.StatementRecordLemmas.{get-last}
 
 -- ---- one buffer
 
@@ -62,10 +63,6 @@ pub some-more : {A : Type 0} (xs : List A) (x : A) (k : ℕ) (y : A) → slice_g
 some-more [] x k y h = cc
 some-more (z ∷ xs) x zero y h = h
 some-more (z ∷ xs) x (suc k) y h = some-more xs x k y h
-
-pub some-last : {A : Type 0} (xs : List A) (x : A) → slice_get (xs ++ x ∷ []) (length xs) ≡ Some x
-some-last [] x = refl
-some-last (z ∷ xs) x = some-last xs x
 
 -- the row of a step
 pub row-at : (rows : List Row) (k : ℕ) (step : Step) → slice_get (steps_of rows) k ≡ Some step → (row : Row) × (slice_get rows k ≡ Some row) × (row.step ≡ step)
@@ -118,7 +115,7 @@ known-snoc old new steps step k fresh own others = record { there = λ s n h. th
         let same : s ≡ step = same-key s step ((bytes_eq-Decides (key_of s) (key_of step)).0 e) in
         let p : Some n ≡ Some (length steps) = sym h ∙ (ap (λ x. place_of new (key_of x)) same ∙ own) in
         let m : n ≡ length steps = cc in
-        ap (slice_get (steps ++ step ∷ [])) m ∙ (some-last steps step ∙ ap Some (sym same))
+        ap (slice_get (steps ++ step ∷ [])) m ∙ (get-last steps step ∙ ap Some (sym same))
     there s n false e h =
         some-more steps step n s (k.there s n (sym (others (key_of s) (λ x. absurd (true≢false (sym ((bytes_eq-Decides (key_of s) (key_of step)).1 x) ∙ e)))) ∙ h))
 

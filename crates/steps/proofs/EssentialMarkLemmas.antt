@@ -1,10 +1,11 @@
 -- The marks of the essential steps, from the last step to the first.
-use Rattle.std.specs.Prelude.{◌≡◌, ◌⊎◌, ℕ, zero, suc, ◌-◌, ◌<◌, ◌≤◌, Bool, true, false, List, [], ◌∷◌, ◌++◌, length, take, drop, replicate, get_or, slice_get, slice_set, Some, refl}
-use Rattle.std.proofs.Common.{sym, ◌∙◌, ap, subst, arith, append-nil, inl, inr}
-use Rattle.std.proofs.lemmas.List.{drop_all, take_all, length-set, length-replicate}
+use Rattle.std.specs.Prelude.{◌≡◌, ◌⊎◌, ℕ, zero, suc, ◌-◌, ◌<◌, ◌≤◌, Bool, true, false, List, [], ◌∷◌, length, replicate, get_or, slice_get, slice_set, Some, refl}
+use Rattle.std.proofs.Common.{sym, ◌∙◌, ap, subst, arith, inl, inr}
+use Rattle.std.proofs.lemmas.List.{length-set, length-replicate, get_or-set_same}
 use Rattle.std.proofs.lemmas.Option.{slice_get_within}
 use Rattle.mm_read.specs.Statements.{Database}
 use Rattle.frame.specs.Below.{AreBelow}
+use Rattle.frame.proofs.MarkLemmas.{no-mark, set_true}
 use Rattle.steps.specs.StepTable.{Step}
 use Rattle.steps.specs.Essential.{essential_of, IsIn, IsEssential, is_last, is_taken}
 use Rattle.steps.specs.Stored.Marked.{HasMark, mark_last, mark_each, MarksMore, AreMarkedFrom, AreMarks}
@@ -21,18 +22,6 @@ from-or-at (suc p) (suc j) h = on (from-or-at p j (omega (arith, h)))
     on (inr l) = inr (omega (arith, l))
 
 -- ---- one mark
-
-set-keeps : (m : List Bool) (x k : ℕ) → HasMark m k → HasMark (slice_set m x true) k
-set-keeps [] x k h = cc
-set-keeps (b ∷ m) zero zero h = refl
-set-keeps (b ∷ m) zero (suc k) h = h
-set-keeps (b ∷ m) (suc x) zero h = h
-set-keeps (b ∷ m) (suc x) (suc k) h = set-keeps m x k h
-
-set-there : (m : List Bool) (x : ℕ) → x < length m → HasMark (slice_set m x true) x
-set-there [] x l = absurd (omega (arith, l))
-set-there (b ∷ m) zero l = refl
-set-there (b ∷ m) (suc x) l = set-there m x (omega (arith, l))
 
 set-only : (m : List Bool) (x k : ℕ) → HasMark (slice_set m x true) k → HasMark m k ⊎ (k ≡ x)
 set-only [] x k h = inl h
@@ -59,8 +48,8 @@ more-first x ks m new low more = record { count = more.count ∙ length-set m x 
     only k (inr h) = inr (suc h.0, h.1)
 
     there : (k : ℕ) → HasMark m k ⊎ IsIn k (x ∷ ks) → HasMark (slice_set m x true) k ⊎ IsIn k ks
-    there k (inl h) = inl (set-keeps m x k h)
-    there k (inr (zero, e)) = let same : x ≡ k = cc in inl (subst (HasMark (slice_set m x true)) same (set-there m x low))
+    there k (inl h) = inl (set_true m x k h)
+    there k (inr (zero, e)) = let same : x ≡ k = cc in inl (subst (HasMark (slice_set m x true)) same (get_or-set_same m x true false low))
     there k (inr (suc i, e)) = inr (i, e)
 
 pub each-more : (ks : List ℕ) (m : List Bool) → AreBelow (length m) ks → MarksMore m (mark_each ks m) ks
@@ -70,16 +59,6 @@ each-more [] m b = record { count = refl; each = λ k. (λ h. inl h, λ o. none 
     none k (inl h) = h
     none k (inr h) = let e = h.1 in cc
 each-more (x ∷ ks) m b = more-first x ks m (mark_each ks (slice_set m x true)) b.0 (each-more ks (slice_set m x true) (subst (λ n. AreBelow n ks) (sym (length-set m x true)) b.1))
-
--- a list that was lent, and comes back whole
-pub lent-whole : (n : ℕ) (s old : List Bool) → length s ≡ length old → n ≡ length old → take n (s ++ drop (length s) old) ≡ s
-lent-whole n s old same all =
-    ap (λ r. take n (s ++ r)) (drop_all (length s) old (omega (arith, same))) ∙ (ap (take n) (append-nil s) ∙ take_all n s (omega (arith, same, all)))
-
-no-mark : (n k : ℕ) → get_or (replicate n false) k false ≡ false
-no-mark zero k = refl
-no-mark (suc n) zero = refl
-no-mark (suc n) (suc k) = no-mark n k
 
 module _ (S : Database) (steps : List Step) where
   -- the last is marked
@@ -113,7 +92,7 @@ module _ (S : Database) (steps : List Step) where
       last k e =
           let at : k ≡ length steps - 1 = omega (arith, e) in
           let l = length-replicate (length steps) false in
-          ap (λ m. get_or m k false) is ∙ (ap (λ i. get_or (slice_set none (length steps - 1) true) i false) at ∙ set-there none (length steps - 1) (omega (arith, l, some)))
+          ap (λ m. get_or m k false) is ∙ (ap (λ i. get_or (slice_set none (length steps - 1) true) i false) at ∙ get_or-set_same none (length steps - 1) true false (omega (arith, l, some)))
 
   pub marked-last : (marks : List Bool) → marks ≡ mark_last (length steps) → AreMarkedFrom S steps (length steps) marks
   marked-last marks is = by (length steps) refl

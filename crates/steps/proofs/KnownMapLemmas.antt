@@ -1,19 +1,13 @@
 -- A map from lists of numbers has for each list but the one that was set what it had before.
-use Rattle.std.specs.Prelude.{◌≡◌, ◌≢◌, Bool, List, ℕ, Option}
+use Rattle.std.specs.Prelude.{◌≡◌, ◌≢◌, List, ℕ, Option}
 use Rattle.std.specs.declared.vec.Vec.{Vec}
 use Rattle.std.specs.declared.alloc.Global.{Global}
 use Rattle.std.specs.BTreeMap.{BTreeMap, UpdatesBy}
-use Rattle.std.specs.Map.{KeepsOthers, IsKeyTest, AreApart, lookup}
 use Rattle.std.specs.Cmp.{eq_by_cmp_equiv}
 use Rattle.std.specs.Cmp.Lexicographic.{slice_cmp, nat_list_cmp_total}
 use Rattle.std.specs.Ordering.{nat_cmp, is_eq}
 use Rattle.steps.specs.Stored.Drafted.{place_of}
-use Rattle.names.proofs.OverflowLemmas.{apart}
-
--- a look-up by a test that is apart from the one set finds what it found before
-keeps : {K X : Type 0} (eq : K → K → Bool) (test : K → Bool) (old new : List (K × X)) → KeepsOthers eq test old new → (other : K → Bool) → IsKeyTest eq other → AreApart test other → lookup other new ≡ lookup other old
-unfolding KeepsOthers
-keeps eq test old new h = h
+use Rattle.names.proofs.OverflowLemmas.{apart, keeps}
 
 pub others-same : (xs : List ℕ) (m n : BTreeMap (Vec ℕ Global) ℕ) (w : Option ℕ) → UpdatesBy (λ a b. slice_cmp nat_cmp a.items b.items) (λ k. slice_cmp nat_cmp xs k.items) m n w
     → (ys : List ℕ) → ys ≢ xs → place_of n ys ≡ place_of m ys

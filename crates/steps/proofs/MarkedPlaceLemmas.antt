@@ -8,11 +8,12 @@ use Rattle.mm_read.specs.Statements.{Database}
 use Rattle.steps.specs.Rows.{Row, no_row, steps_of}
 use Rattle.steps.specs.Essential.{essential_of, IsEssential, is_taken, IsRenumbered, AreEssential}
 use Rattle.steps.specs.Stored.Marked.{HasMark, AreMarks, marked_before, number_of, AreNumbers, kept_row}
-use Rattle.steps.proofs.DraftRowLemmas.{some-front, some-more, some-last, step-at}
+use Rattle.steps.proofs.DraftRowLemmas.{some-front, some-more, step-at}
 use Rattle.steps.proofs.EssentialMarkLemmas.{from-or-at}
 use Rattle.frame.proofs.OneFrameLemmas.{low-or-not}
 use Rattle.frame.proofs.FoundByNumber.{map-at}
 use Rattle.frame.proofs.StoredOneMore.{map-push}
+use Rattle.entries.proofs.StatementRecordLemmas.{get-last}
 
 -- a Boolean is true or false
 either : (b : Bool) → (b ≡ true) ⊎ (b ≡ false)
@@ -36,7 +37,7 @@ module _ (marks : List Bool) where
     where
       by : (suc k ≤ i → slice_get (marked_before marks i) (number_of marks k) ≡ Some k) → (i ≡ k) ⊎ (suc k ≤ i) → (get_or marks i false ≡ true) ⊎ (get_or marks i false ≡ false)
           → slice_get (marked_before marks (suc i)) (number_of marks k) ≡ Some k
-      by before (inl e) o = subst (λ n. slice_get (marked_before marks (suc n)) (number_of marks k) ≡ Some k) (sym e) (ap (λ v. slice_get v (number_of marks k)) (before-marked k h) ∙ some-last (marked_before marks k) k)
+      by before (inl e) o = subst (λ n. slice_get (marked_before marks (suc n)) (number_of marks k) ≡ Some k) (sym e) (ap (λ v. slice_get v (number_of marks k)) (before-marked k h) ∙ get-last (marked_before marks k) k)
       by before (inr s) (inl t) = ap (λ v. slice_get v (number_of marks k)) (before-marked i t) ∙ some-more (marked_before marks i) i (number_of marks k) k (before s)
       by before (inr s) (inr f) = ap (λ v. slice_get v (number_of marks k)) (before-other i f) ∙ before s
 
@@ -108,7 +109,7 @@ module _ (marks : List Bool) where
       each j (inr from) l =
           let c = are.count in
           let s : j ≡ length numbers = omega (arith, c, from, l) in
-          get_or_from_slice_get (numbers ++ n ∷ []) j n 0 (ap (slice_get (numbers ++ n ∷ [])) s ∙ some-last numbers n) ∙ (e ∙ ap (number_of marks) (let r : k ≡ j = omega (arith, from, l) in r))
+          get_or_from_slice_get (numbers ++ n ∷ []) j n 0 (ap (slice_get (numbers ++ n ∷ [])) s ∙ get-last numbers n) ∙ (e ∙ ap (number_of marks) (let r : k ≡ j = omega (arith, from, l) in r))
 
 maps-each : {A B : Type 0} (f g : A → B) (xs : List A) → ((i : ℕ) (x : A) → slice_get xs i ≡ Some x → f x ≡ g x) → map f xs ≡ map g xs
 maps-each f g [] h = refl

@@ -9,8 +9,9 @@ use Rattle.proof_code.specs.declared.item.Item.{Item}
 use Rattle.proof_code.specs.declared.item.Item.TheVariants.{Cite, Recall, Mark}
 use Rattle.verify.proofs.PlanLemmas.{below-get}
 use Rattle.steps.specs.StepTable.{Step, Progress, progress, IsPlaced, stands, comes_last, Makes, of_hypothesis, of_assertion, Notes, NotesAll, AreSteps}
-use Rattle.steps.proofs.DraftRowLemmas.{some-front, some-more, some-last}
+use Rattle.steps.proofs.DraftRowLemmas.{some-front, some-more}
 use Rattle.frame.proofs.SymbolNumberLemmas.{below-push, below-more}
+use Rattle.entries.proofs.StatementRecordLemmas.{get-last}
 
 pub record IsSound (p : Progress) : Type 0 where
   pub stack_below : AreBelow (length p.steps) p.stack
@@ -62,7 +63,7 @@ module _ (p q : Progress) (is : IsSound p) (below : List ℕ) (step : Step) (n :
         saved_below = subst (AreBelow (length q.steps)) (sym saved) (below-more _ _ p.saved (omega (arith, len)) is.saved_below);
         ordered = λ k s e. ordered k s (some-front p.steps step k s (ap (λ v. slice_get v k) (sym more) ∙ e));
         once = λ j k s e f. once j k s (some-front p.steps step j s (ap (λ v. slice_get v j) (sym more) ∙ e)) (some-front p.steps step k s (ap (λ v. slice_get v k) (sym more) ∙ f));
-        last = λ m e. (length below, ap (λ v. slice_get v (length below)) stack ∙ (some-last below n ∙ ap Some (let r : n ≡ m = omega (arith, len, place, e) in r)));
+        last = λ m e. (length below, ap (λ v. slice_get v (length below)) stack ∙ (get-last below n ∙ ap Some (let r : n ≡ m = omega (arith, len, place, e) in r)));
       }
     where
       ordered : (k : ℕ) (s : Step) → (slice_get p.steps k ≡ Some s) ⊎ ((k ≡ length p.steps) × (s ≡ step)) → AreBelow k s.taken

@@ -1,5 +1,5 @@
 -- What begins a log goes on to begin it, whatever event comes, but for a restart of its own node.
-use Rattle.std.proofs.Common.{◌≡◌, ◌≢◌, ℕ, ◌<◌, ◌==◌, Bool, true, false, List, [], ◌∷◌, ◌++◌, length, slice_get, inl, inr, Option, Some, None, Result, Ok, Err, refl, ap, sym, ◌∙◌, subst, arith, append_assoc, append-nil, nat_lt, ◌+◌}
+use Rattle.std.proofs.Common.{◌≡◌, ◌≢◌, ℕ, ◌<◌, ◌==◌, Bool, true, false, List, [], ◌∷◌, ◌++◌, length, slice_get, inl, inr, Option, Some, None, Result, Ok, Err, refl, ap, sym, ◌∙◌, subst, arith, append-nil, nat_lt, ◌+◌}
 use Rattle.std.specs.Prelude.{IsSome, OnErr}
 use Rattle.std.specs.Option.{option_map}
 use Rattle.std.proofs.lemmas.Bool.Decides.{nat_tests}
@@ -21,13 +21,10 @@ use Rattle.net.proofs.EveryEvent.{IfTaken, if_taken, spent_or}
 use Rattle.net.proofs.TwoMoments.{all_happen-append}
 use Rattle.net.proofs.TakenLemmas.{after-push}
 use Rattle.net.proofs.LogsGrow.{log_grows}
+use Rattle.net.proofs.Beginnings.{then_begins}
 use Rattle.switch.specs.Seat.{Standing, up, down}
 use Rattle.switch.specs.Switch.{Place, Shared, world_of, with_place, with_event, IsPlaceOf, ArePlaces, is_down, is_down_place, due, change_due, events_due, FailsAt, TakesAt, ActsUp, RevivesAt, ActsDown, Restarts}
 use Rattle.switch.specs.Belonging.{BeginsLog, StaysBelonging, StaysAtRestart}
-
--- what begins a beginning of a list begins the list
-then_begins : {A : Type 0} (xs ys zs : List A) → IsBeginningOf xs ys → IsBeginningOf ys zs → IsBeginningOf xs zs
-then_begins xs ys zs h k = (h.0 ++ k.0, sym (append_assoc xs h.0 k.0) ∙ ap (λ ws. ws ++ k.0) h.1 ∙ k.1)
 
 -- The node of an event that is taken is there.
 

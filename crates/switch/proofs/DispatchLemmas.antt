@@ -15,8 +15,7 @@ use Rattle.net.specs.World.{World, packets_after}
 use Rattle.net.specs.Taken.{Taken, world_of as world_of_taken}
 use Rattle.net.specs.KeptPart.{node_of}
 use Rattle.net.specs.Due.{Due, NetView, IsDue, IsStill, IsTaken, change_in}
-use Rattle.net.proofs.GrowingLists.{at_place}
-use Rattle.std.proofs.lemmas.Option.{slice_get_within}
+use Rattle.std.proofs.lemmas.Option.{slice_get_within, slice_get_read}
 use Rattle.net.proofs.TakenLemmas.{length-nodes_of, count_shown}
 use Rattle.switch.specs.Seat.{up, down, Seated, Fails, change_owed}
 use Rattle.switch.specs.Switch.{Place, Shared, event_owed, IsOwing, IsSwitch, world_of, is_down_at, due, ActsUp, Acts, ActsDown, Restarts}
@@ -118,7 +117,7 @@ module _ {V : Type 0} (size : V → ℕ) (a b : NetView V) (still : IsStill a b)
   module _ (e : Event V) (is_e : d1.event ≡ e) (few : length a.taken.events < MOST_EVENTS) (seat : Seated V) (is : seat ≡ get_or seats k seat) (up_now : ForOk (world_of size now) (λ x. is_down_at now.places (node_of x e) ≡ false)) where
     -- the seat that was read is the one of the node at which the event is due
     found : slice_get seats d1.at ≡ Some seat
-    found = ap (λ (i : ℕ). slice_get seats i) (sym is_at) ∙ at_place seats k seat in_seats is
+    found = ap (λ (i : ℕ). slice_get seats i) (sym is_at) ∙ slice_get_read seats (length seats) k seat refl in_seats is
 
     -- the history is still below the limit of events
     low : length b.taken.events < MOST_EVENTS

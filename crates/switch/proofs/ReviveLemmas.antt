@@ -4,6 +4,7 @@ use Rattle.std.specs.List.{AllByRecursion}
 use Rattle.std.specs.Option.{option_map}
 use Rattle.std.specs.Result.{ForOk}
 use Rattle.std.proofs.lemmas.List.{length-set}
+use Rattle.std.proofs.lemmas.Option.{slice_get_read}
 use Rattle.synod.specs.declared.packet.Packet.{Packet}
 use Rattle.synod.specs.declared.packet.Body.TheVariants.{Ask}
 use Rattle.synod.specs.declared.change.Change.{Change}
@@ -22,7 +23,7 @@ use Rattle.net.specs.Agree.{IsAfter}
 use Rattle.net.specs.Taken.{Taken, world_of as world_of_taken}
 use Rattle.net.specs.KeptPart.{kept_part}
 use Rattle.net.specs.Due.{Work, steps, restarts, Due, NetView, HasRoom, IsDue, IsReadyAt, IsOfEvent, IsEventAt, ComesTo, IsTaken, posts_of, step_of, loads, loads_due}
-use Rattle.net.proofs.GrowingLists.{at_place, at_set, set_twice}
+use Rattle.net.proofs.GrowingLists.{at_set, set_twice}
 use Rattle.net.proofs.EventsDue.{comes_restart}
 use Rattle.net.proofs.TakenLemmas.{set_same}
 use Rattle.switch.specs.Seat.{Standing, up, down, Seated, owed_in, change_owed, posts_owed, IsRecordOf, IsWithOrWithout, Fails}
@@ -54,7 +55,7 @@ module _ {V : Type 0} (size : V → ℕ) (net : NetView V) (seats : List (Seated
 
   -- the seat that was read is the one of this node
   found : slice_get seats k ≡ Some seat
-  found = at_place seats k seat low_k is
+  found = slice_get_read seats (length seats) k seat refl low_k is
 
   -- the world has the node at which the restart is due
   node_k : slice_get w.nodes k ≡ Some d.core.node

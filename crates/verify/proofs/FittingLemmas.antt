@@ -9,12 +9,12 @@ use Rattle.names.specs.Codes.{decode, AreDistinct}
 use Rattle.frame.specs.Below.{AreBelow}
 use Rattle.frame.specs.Citations.{expr_at, option_expr}
 use Rattle.frame.specs.Substitution.{apply as applied, CodeImages, code_apply, images_of_names}
+use Rattle.frame.proofs.FoundByNumber.{decode-injective}
 use Rattle.subst.specs.Images.{AreOver}
 use Rattle.subst.proofs.SubstitutionLemmas.{substitution_over_names}
 use Rattle.entries.specs.declared.cited_parts.Hypothesis.{Hypothesis}
 use Rattle.verify.specs.Fits.{IsStanding, AreStanding}
 use Rattle.verify.proofs.ImageLemmas.{apply-below, are-codes}
-use Rattle.verify.proofs.Named.{decode-injective}
 
 pub essential-iff : (S : Database) (names : List Name) (ρ : CodeImages) (q : ℕ) (s : Stmt) (r e : List ℕ) (b : Bool) → AreDistinct names → stmt_at S q ≡ Some s → decode names e ≡ expr_of s
     → AreBelow (length names) e → AreOver names ρ → AreBelow (length names) r → IsTrue b ↔ (r ≡ code_apply ρ e) → IsTrue b ↔ (decode names r ≡ applied (images_of_names names ρ) (expr_at S q))

@@ -10,6 +10,7 @@ use Rattle.names.proofs.CodesLemmas.{name_same, same_name}
 use Rattle.frame.specs.Substitution.{Images, image, apply as applied, CodeImages, code_image, code_apply}
 use Rattle.frame.specs.Disjoint.{are_apart, is_group_apart, are_groups_apart}
 use Rattle.frame.specs.Below.{AreBelow}
+use Rattle.frame.proofs.SymbolNumberLemmas.{below-append}
 use Rattle.subst.specs.Images.{AreOver}
 
 all-member : (p q : Name → Bool) (xs : List Name) → ((x : Name) → has_name x xs ≡ true → p x ≡ q x) → list_all p xs ≡ list_all q xs
@@ -82,10 +83,6 @@ image-fixed V (p ∷ σ) y all none = by (V p.0) (name_eq y p.0) refl refl all (
     by false b e f all rest = absurd (true≢false (sym all))
 
 -- ---- numbers with names
-
-below-append : (n : ℕ) (a b : List ℕ) → AreBelow n a → AreBelow n b → AreBelow n (a ++ b)
-below-append n [] b p q = q
-below-append n (x ∷ a) b p q = (p.0, below-append n a b p.1 q)
 
 pub apply-below : (names : List Name) (σ : CodeImages) (e : List ℕ) → AreOver names σ → AreBelow (length names) e → AreBelow (length names) (code_apply σ e)
 apply-below names σ [] o b = tt

@@ -99,7 +99,8 @@ abbrev Rises : ℕ → List ℕ → Type 0
 Rises n [] = Unit {0}
 Rises n (p ∷ ps) = (n ≤ p) × Rises p ps
 
-rises-less : (m n : ℕ) (ps : List ℕ) → m ≤ n → Rises n ps → Rises m ps
+-- numbers that rise from a bound rise from a lower one
+pub rises-less : (m n : ℕ) (ps : List ℕ) → m ≤ n → Rises n ps → Rises m ps
 rises-less m n [] h r = tt
 rises-less m n (p ∷ ps) h r = let a = r.0 in (omega (arith, h, a), r.1)
 

@@ -3,12 +3,12 @@ use Rattle.std.specs.Prelude.{◌≡◌, ℕ, zero, suc, ◌+◌, ◌-◌, ◌<�
 use Rattle.std.proofs.Common.{sym, ◌∙◌, ap, subst, arith, length-append}
 use Rattle.std.proofs.lemmas.Bool.Decides.{nat_tests}
 use Rattle.std.proofs.lemmas.List.{take-append-drop, length-take-le, length-map}
-use Rattle.std.proofs.lemmas.Option.{slice_get_within}
 use Rattle.mm_lex.specs.Alphabet.{Name}
 use Rattle.mm_read.specs.declared.stmt.Stmt.{Stmt}
 use Rattle.mm_read.specs.declared.stmt.Stmt.TheVariants.{Open, Close, Const, Var, Disj, Float, Ess, Axiom, Prove}
 use Rattle.mm_read.specs.Statements.{Database}
 use Rattle.scope.specs.Active.{before, is_assertion, is_provable, label_of, stays_open, stmt_at}
+use Rattle.scope.proofs.StatementPlaces.{stands-within}
 use Rattle.frame.specs.Citations.{Carries, IsHypothesis, is_hypothesis_kind}
 use Rattle.frame.specs.FrameOf.{HasAssertion, hypotheses}
 use Rattle.frame.proofs.PlacedHypotheses.{IsHyp, AreHyps, hyps}
@@ -18,11 +18,6 @@ use Rattle.verify.specs.Proves.{label_or_none, mandatory_labels}
 use Rattle.verify.specs.Right.{IsProvable}
 use Rattle.verify.specs.LabelTable.{IsEntry, AreEntries}
 use Rattle.frame.proofs.AssertionLemmas.{hypothesis-kinds}
-
--- where a statement stands, the position is within the database
-pub place_of : (S : Database) (at : ℕ) (s : Stmt) → stmt_at S at ≡ Some s → (1 ≤ at) × (at ≤ length S)
-place_of S zero s h = cc
-place_of S (suc n) s h = let w = slice_get_within S n s h in (omega arith, omega (arith, w))
 
 pub provable-assertion : (s : Stmt) → is_provable s ≡ true → is_assertion s ≡ true
 provable-assertion (Prove label expr proof) h = refl
@@ -103,7 +98,7 @@ labels_at S ps = map (λ i. label_or_none (stmt_at S i)) ps
 
 pub mandatory-of : (S : Database) (at : ℕ) (s : Stmt) → IsProvable S at s → AreMandatory S at (hypotheses (before S at) s)
 mandatory-of S at s p =
-    let place = place_of S at s p.stands in
+    let place = stands-within S at s p.stands in
     all-mandatory S at s (hypotheses (before S at) s) place.0 place.1 (hyps (before S at) s)
 
 -- ---- their entries

@@ -6,7 +6,7 @@ use Rattle.mm_lex.specs.Alphabet.{Name}
 use Rattle.mm_read.specs.declared.stmt.Stmt.{Stmt}
 use Rattle.mm_read.specs.Statements.{Expr, Database}
 use Rattle.scope.specs.Active.{expr_of}
-use Rattle.names.specs.Codes.{name_at, decode, AreDistinct}
+use Rattle.names.specs.Codes.{name_at, decode}
 use Rattle.proof_code.specs.declared.item.Item.TheVariants.{Cite, Recall, Mark}
 use Rattle.frame.specs.Citations.{IsHypothesis, Carries}
 use Rattle.verify.specs.Machine.{Results, Cites, of_hypothesis, IsSaved, with_result, with_mark}
@@ -14,7 +14,6 @@ use Rattle.verify.specs.ResultPlaces.{below, top, Adds, Marks, Recalls}
 use Rattle.frame.specs.Below.{AreBelow, AllBelow}
 use Rattle.verify.specs.Goes.{named, AreNamed, Goes}
 use Rattle.verify.proofs.ResultPlaceLemmas.{results-same}
-use Rattle.frame.proofs.FoundByNumber.{name_at-injective}
 use Rattle.verify.proofs.SavedLists.{all-snoc}
 use Rattle.frame.proofs.StoredOneMore.{map-push}
 
@@ -112,15 +111,6 @@ module _ (names : List Name) where
         omega (arith, r, len, w)
 
 -- ---- codes with names are told apart by them
-
-pub decode-injective : (names : List Name) (a b : List ℕ) → AreDistinct names → AreBelow (length names) a → AreBelow (length names) b → decode names a ≡ decode names b → a ≡ b
-decode-injective names [] [] d p q e = refl
-decode-injective names [] (y ∷ b) d p q e = cc
-decode-injective names (x ∷ a) [] d p q e = cc
-decode-injective names (x ∷ a) (y ∷ b) d p q e =
-    let heads : name_at names x ≡ name_at names y = cc in
-    let tails : decode names a ≡ decode names b = cc in
-    ap (λ z. z ∷ a) (name_at-injective names x y d p.0 q.0 heads) ∙ ap (λ r. y ∷ r) (decode-injective names a b d p.1 q.1 tails)
 
 pub all-at : (n k : ℕ) (es : List (List ℕ)) → AllBelow n es → AreBelow n (get_or es k [])
 all-at n k [] p = tt

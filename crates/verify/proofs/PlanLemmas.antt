@@ -29,11 +29,6 @@ length-built ts (n ∷ ns) =
 pub length-built' : (ns : List Node) → length (built ns) ≡ length ns
 length-built' ns = let r = length-built [] ns in omega (arith, r)
 
-pub below-take : (n k : ℕ) (xs : List ℕ) → AreBelow n xs → AreBelow n (take k xs)
-below-take n zero xs b = tt
-below-take n (suc k) [] b = tt
-below-take n (suc k) (x ∷ xs) b = (b.0, below-take n k xs b.1)
-
 pub map-pick : (ts us : List Derivation) (ks : List ℕ) → AreBelow (length ts) ks → map (pick (ts ++ us)) ks ≡ map (pick ts) ks
 map-pick ts us [] b = refl
 map-pick ts us (k ∷ ks) b = ap (λ t. t ∷ map (pick (ts ++ us)) ks) (get-front ts us k (hyp 0) b.0) ∙ ap (λ r. pick ts k ∷ r) (map-pick ts us ks b.1)

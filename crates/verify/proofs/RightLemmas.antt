@@ -1,9 +1,10 @@
 -- What is answered of a right proof.
-use Rattle.std.specs.Prelude.{◌≡◌, ℕ, ◌≤◌, ◌<◌, ◌⊎◌, min, List, [], length, map, get_or, Some, Result, Ok, Err, IfOk, refl}
+use Rattle.std.specs.Prelude.{◌≡◌, ℕ, ◌≤◌, ◌<◌, ◌⊎◌, min, List, [], length, map, get_or, Some, Result, Ok, Err, IfOk, refl, option_map}
 use Rattle.std.proofs.Common.{sym, ◌∙◌, ap, subst, arith, inl, inr}
 use Rattle.std.proofs.lemmas.List.{length-map}
 use Rattle.std.proofs.lemmas.Option.{slice_get-get_or}
 use Rattle.mm_read.specs.Statements.{Database}
+use Rattle.mm_read.specs.declared.stmt.Stmt.{Stmt}
 use Rattle.frame.specs.AtPosition.{HasLabelsOnce}
 use Rattle.proof_code.specs.declared.item.Item.{Item}
 use Rattle.verify.specs.declared.answer.TreeFault.{TreeFault}
@@ -13,7 +14,7 @@ use Rattle.verify.specs.declared.tree_size.Extent.{Extent}
 use Rattle.verify.specs.declared.plan.Node.{Node}
 use Rattle.verify.specs.declared.plan.Plan.{Plan}
 use Rattle.verify.specs.Derivations.{Derivation, derivation_of, node_count, depth}
-use Rattle.verify.specs.Right.{IsRight, Derives, IsSmall}
+use Rattle.verify.specs.Right.{IsRight, Derives, IsSmall, IsProvable}
 use Rattle.verify.specs.Growth.{trees, GrowsBy}
 use Rattle.verify.specs.Plan.{pick, built, trees_of, IsPlan}
 use Rattle.verify.specs.Extents.{extent_of}
@@ -22,6 +23,9 @@ use Rattle.verify.proofs.GrowthLemmas.{leaves, only-number}
 use Rattle.verify.proofs.PlanLemmas.{length-built'}
 use Rattle.verify.proofs.SizeLemmas.{child-extent}
 use Rattle.frame.proofs.ApartLemmas.{below-at}
+use Rattle.scope.specs.Active.{bare, bares, stmt_at, is_provable}
+use Rattle.scope.proofs.BareLemmas.{bare-same}
+use Rattle.scope.proofs.StatementPlaces.{stmt_at-bares}
 
 derives-same : (S : Database) (at : ℕ) → HasLabelsOnce S → (items : List Item) (t u : Derivation) → Derives S at items t → Derives S at items u → t ≡ u
 derives-same S at once items t u p q = spelled_once S at once [] p.after q.after items t u p.weight q.weight p.spelled q.spelled
@@ -78,3 +82,10 @@ small-back t e is h =
     let d : e.depth ≡ min (depth t) 1025 = ap (λ v. v.depth) is in
     let a = h.0 in let b = h.1 in
     (omega (arith, n, a), omega (arith, d, b))
+
+-- a `$p` stands among the statements without their proofs
+pub provable-bare : (S F : Database) (at : ℕ) (s : Stmt) → F ≡ bares S → IsProvable S at s → IsProvable F at (bare s)
+provable-bare S F at s same p = record {
+  stands = ap (λ U. stmt_at U at) same ∙ (stmt_at-bares S at ∙ ap (option_map bare) p.stands);
+  provable = bare-same is_provable (λ label expr proof. refl) s ∙ p.provable;
+}

@@ -26,11 +26,11 @@ use Rattle.frame.specs.AtPosition.{AreLegal}
 use Rattle.proof_code.specs.ItemNumbers.{item_of}
 use Rattle.verify.specs.Spells.{IsCitable}
 use Rattle.verify.specs.Right.{IsRight, weight_limit}
-use Rattle.verify.proofs.Named.{goes-recall, goes-mark, goes-hypothesis, decode-injective}
+use Rattle.verify.proofs.Named.{goes-recall, goes-mark, goes-hypothesis}
 use Rattle.verify.proofs.CitationLemmas.{Meets, goes-assertion, goes-heavy, goes-not}
 use Rattle.verify.proofs.Decide.{cites_same, refuted_at_end, refuted_at_step, accepts_right}
 use Rattle.verify.proofs.Complete.{runs_append}
-use Rattle.frame.proofs.FoundByNumber.{some-same}
+use Rattle.frame.proofs.FoundByNumber.{some-same, decode-injective}
 
 module _ (S : Database) (names : List Name) (at : ℕ) (legal : AreLegal S names) where
   module _ (old new : Results ℕ) (an : AreNamed names old) where

@@ -1,5 +1,5 @@
 -- Jobs stay jobs where statements are added behind; the last `$p` is the next job.
-use Rattle.std.proofs.Common.{◌≡◌, ℕ, zero, suc, ◌++◌, ◌⊎◌, inl, inr, List, [], ◌∷◌, length, slice_get, Some, IsTrue, arith, sym, subst, refl, ap, ◌∙◌}
+use Rattle.std.proofs.Common.{◌≡◌, ℕ, zero, suc, ◌++◌, ◌⊎◌, inl, inr, List, [], ◌∷◌, length, slice_get, Some, IsTrue, arith, sym, subst, ap, ◌∙◌}
 use Rattle.std.proofs.lemmas.List.{length-append}
 use Rattle.std.proofs.lemmas.Option.{same_Some, none-some}
 use Rattle.mm_read.specs.declared.stmt.Stmt.{Stmt}
@@ -7,17 +7,7 @@ use Rattle.mm_read.specs.Statements.{Database}
 use Rattle.scope.specs.Active.{stmt_at, is_provable}
 use Rattle.verify_pool.specs.declared.job.Job.{Job}
 use Rattle.verify_pool.specs.Jobs.{IsJob, AreJobs}
-
--- an element keeps its place in a longer list
-get_stays : {X : Type 0} (xs ys : List X) (k : ℕ) (x : X) → slice_get xs k ≡ Some x → slice_get (xs ++ ys) k ≡ Some x
-get_stays [] ys k x e = absurd (none-some x e)
-get_stays (y ∷ xs) ys zero x e = e
-get_stays (y ∷ xs) ys (suc k) x e = get_stays xs ys k x e
-
--- what is added stands at the end
-get_last : {X : Type 0} (xs : List X) (x : X) → slice_get (xs ++ x ∷ []) (length xs) ≡ Some x
-get_last [] x = refl
-get_last (y ∷ xs) x = get_last xs x
+use Rattle.entries.proofs.StatementRecordLemmas.{get-more, get-last}
 
 -- an element of the longer list is one of the old ones or the new one
 get_added : {X : Type 0} (xs : List X) (x y : X) (k : ℕ) → slice_get (xs ++ x ∷ []) k ≡ Some y → (slice_get xs k ≡ Some y) ⊎ (x ≡ y)
@@ -29,7 +19,7 @@ get_added (z ∷ xs) x y (suc k) e = get_added xs x y k e
 -- a statement keeps its position where others come behind
 pub stmt_stays : (S more : Database) (at : ℕ) (s : Stmt) → stmt_at S at ≡ Some s → stmt_at (S ++ more) at ≡ Some s
 stmt_stays S more zero s e = absurd (none-some s e)
-stmt_stays S more (suc n) s e = get_stays S more n s e
+stmt_stays S more (suc n) s e = get-more S more n s e
 
 -- jobs are jobs of the longer database too
 jobs_stay : (S more : Database) (jobs : List Job) → AreJobs S jobs → AreJobs (S ++ more) jobs
@@ -41,7 +31,7 @@ jobs_stay S more jobs are k job stands =
 pub last_is_job : (S : Database) (s : Stmt) (job : Job) → IsTrue (is_provable s) → job.at ≡ length (S ++ s ∷ []) → IsJob (S ++ s ∷ []) job
 last_is_job S s job provable last =
     let at : suc (length S) ≡ job.at = omega (arith, length-append S (s ∷ []), last) in
-    (s, record { stands = subst (λ n. stmt_at (S ++ s ∷ []) n ≡ Some s) at (get_last S s); provable = provable })
+    (s, record { stands = subst (λ n. stmt_at (S ++ s ∷ []) n ≡ Some s) at (get-last S s); provable = provable })
 
 -- jobs with one more are jobs
 job_added : (S : Database) (jobs : List Job) (job : Job) → AreJobs S jobs → IsJob S job → AreJobs S (jobs ++ job ∷ [])

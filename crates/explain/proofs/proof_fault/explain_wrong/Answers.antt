@@ -1,11 +1,11 @@
 use Rattle.std.proofs.Common.{subst}
 use Rattle.proof_code.specs.Writes.{Writes}
-use Rattle.verify.proofs.MandatoryEntries.{place_of}
 use Rattle.explain.proofs.ProvingRunLemmas.{proves}
 use Rattle.explain.proofs.proof_fault.explain_wrong.Goals as goal
+use Rattle.scope.proofs.StatementPlaces.{stands-within}
 
 pub first_fault-requires : goal.first_fault-requires
-first_fault-requires c = place_of c.args.frames.now.statements c.args.at c.requires.provable.0 c.requires.provable.1.stands
+first_fault-requires c = stands-within c.args.frames.now.statements c.args.at c.requires.provable.0 c.requires.provable.1.stands
 
 pub unreachable-requires : goal.unreachable-requires
 unreachable-requires c =

@@ -1,8 +1,9 @@
 use Rattle.std.proofs.Common.{◌∙◌, ◌++◌, ap, sym, subst, rules, length}
 use Rattle.names.specs.Codes.{decode}
+use Rattle.names.proofs.CodesLemmas.{first-named, rest-named}
 use Rattle.frame.specs.Below.{AreBelow}
 use Rattle.entries.proofs.SpanLemmas.{extends-refl}
-use Rattle.frame.proofs.SymbolNumberLemmas.{below-push, stand-step, first-named, rest-named}
+use Rattle.frame.proofs.SymbolNumberLemmas.{below-push, stand-step}
 use Rattle.frame.proofs.symbol_numbers.list_numbers.Goals as goal
 
 pub number-requires-clause-named : goal.number-requires-clause-named

@@ -1,7 +1,7 @@
 use Rattle.std.proofs.Common.{sym, ◌∙◌}
-use Rattle.library.proofs.FrontLemmas.{stands-within}
 use Rattle.library.proofs.AskedLemmas.{named, no-label}
 use Rattle.library.proofs.asked.proof_at.Goals as goal
+use Rattle.scope.proofs.StatementPlaces.{stands-within}
 
 pub returns-in_default : goal.returns-in_default
 returns-in_default c = no-label c.args.statements.now c.args.frames.now.statements c.requires.same c.args.label.now c.in_default.ensures

@@ -1,9 +1,10 @@
 use Rattle.std.proofs.Common.{ap, subst}
 use Rattle.scope.specs.Active.{bares, proof_of, is_provable}
+use Rattle.scope.proofs.StatementPlaces.{stands-within}
 use Rattle.proof_code.specs.Writes.{Writes}
 use Rattle.verify.specs.Proves.{mandatory_labels}
 use Rattle.verify.specs.Right.{IsProvable}
-use Rattle.library.proofs.FrontLemmas.{stands-within, stands-index}
+use Rattle.library.proofs.FrontLemmas.{stands-index}
 use Rattle.library.proofs.ProvingLemmas.{Found, stands-none}
 use Rattle.library.proofs.CitationWalkLemmas.{has-items}
 use Rattle.library.proofs.asked.proof_items.Goals as goal

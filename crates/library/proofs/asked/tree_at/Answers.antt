@@ -1,7 +1,7 @@
 use Rattle.std.proofs.Common.{inl, inr}
-use Rattle.library.proofs.WrittenItemsLemmas.{provable-bare}
 use Rattle.library.proofs.AskedLemmas.{is-right, derives-these}
 use Rattle.library.proofs.asked.tree_at.Goals as goal
+use Rattle.verify.proofs.RightLemmas.{provable-bare}
 
 pub derivation-requires : goal.derivation-requires
 derivation-requires c = (_, provable-bare c.args.statements.now _ c.args.at c.requires.provable.0 c.requires.same c.requires.provable.1)

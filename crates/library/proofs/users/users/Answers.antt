@@ -1,6 +1,6 @@
 use Rattle.std.proofs.Common.{sym, ap, subst, ◌-◌, true, slice_set, arith}
 use Rattle.frame.specs.AtPosition.{HasLabelsOnce}
-use Rattle.library.proofs.CitationWalkLemmas.{lent-whole}
+use Rattle.frame.proofs.MarkLemmas.{lent-whole}
 use Rattle.library.proofs.UsersLemmas.{IsSearched, search-start, search-step, search-end}
 use Rattle.library.proofs.users.users.Goals as goal
 

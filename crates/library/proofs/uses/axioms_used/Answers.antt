@@ -1,9 +1,9 @@
 use Rattle.std.proofs.Common.{arith, ap, length, ◌∙◌}
 use Rattle.library.specs.UseMarks.{axioms_in}
-use Rattle.library.proofs.FrontLemmas.{stands-within}
-use Rattle.library.proofs.ProvingLemmas.{if-map}
 use Rattle.library.proofs.TraceLemmas.{are-used}
 use Rattle.library.proofs.uses.axioms_used.Goals as goal
+use Rattle.scope.proofs.StatementPlaces.{stands-within}
+use Rattle.mm_read.proofs.NextLemmas.{on_ok}
 
 pub axioms_marked-requires : goal.axioms_marked-requires
 axioms_marked-requires c =
@@ -14,6 +14,6 @@ axioms_marked-requires c =
 
 pub returns : goal.returns
 returns c =
-    if-map c.axioms_marked.result
+    on_ok c.axioms_marked.result
     (λ labels is. are-used c.args.statements.now c.args.at c.requires.provable.0 c.in_ok-marks.marks.items labels.items c.requires.provable.1 c.in_ok-marks.ensures.reached (is ∙ ap (axioms_in c.args.statements.now) c.deref.ensures.value))
     c.axioms_marked.ensures

@@ -1,8 +1,9 @@
 use Rattle.std.proofs.Common.{ap, ◌-◌, true, slice_set, arith, length, ◌∙◌}
-use Rattle.library.proofs.FrontLemmas.{stands-within}
-use Rattle.library.proofs.CitationWalkLemmas.{walk-start, step-pass, step-proof, lent-whole, walk-end}
+use Rattle.library.proofs.CitationWalkLemmas.{walk-start, step-pass, step-proof, walk-end}
 use Rattle.library.proofs.uses.reached.Goals as goal
 use Rattle.library.proofs.uses.reached.Goals.{then-index+in_ok-mark_proof, else-index}
+use Rattle.scope.proofs.StatementPlaces.{stands-within}
+use Rattle.frame.proofs.MarkLemmas.{lent-whole}
 
 pub loop-position-init : goal.loop-position-init
 loop-position-init c =

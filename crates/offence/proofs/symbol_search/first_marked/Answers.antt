@@ -1,11 +1,11 @@
 use Rattle.std.proofs.Common.{◌≡◌, ◌∙◌, ◌||◌, sym, ap, arith, ◌∷◌, length, drop}
 use Rattle.std.specs.List.{list_any}
 use Rattle.offence.proofs.SearchLemmas.{behind, first_is}
-use Rattle.offence.proofs.MarksLemmas.{first_coded, rest_coded}
 use Rattle.offence.proofs.symbol_search.first_marked.Goals as goal
+use Rattle.names.proofs.CodesLemmas.{first-named, rest-named}
 
 pub mark_of-requires-clause-named : goal.mark_of-requires-clause-named
-mark_of-requires-clause-named c = first_coded c.args.names.now c.loop-index.left c.next.new.self c.in-Some.name.now c.loop-index.invariant.named c.in-Some.ensures.steps
+mark_of-requires-clause-named c = first-named c.args.names.now c.loop-index.left c.next.new.self c.in-Some.name.now c.loop-index.invariant.named c.in-Some.ensures.steps
 
 pub returns-then-mark_of : goal.returns-then-mark_of
 returns-then-mark_of c = λ t e.
@@ -18,6 +18,6 @@ loop-index-preserved c =
     let split : c.in-Some.name.now ∷ c.next.new.self ≡ drop c.loop-index.index c.args.words.now = sym steps ∙ c.loop-index.invariant.rest in
     record {
       rest = behind c.args.words.now c.next.new.self c.loop-index.index c.in-Some.name.now split;
-      named = rest_coded c.args.names.now c.loop-index.left c.next.new.self c.in-Some.name.now c.loop-index.invariant.named steps;
+      named = rest-named c.args.names.now c.loop-index.left c.next.new.self c.in-Some.name.now c.loop-index.invariant.named steps;
       whole = λ t e. c.loop-index.invariant.whole t e ∙ (ap (list_any t) steps ∙ ap (λ b. b || list_any t c.next.new.self) (sym (c.mark_of.ensures t e) ∙ c.if-mark_of.false));
     }

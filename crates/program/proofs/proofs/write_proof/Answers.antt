@@ -2,13 +2,13 @@ use Rattle.std.specs.Prelude.{◌≡◌, ℕ, ◌≤◌, length}
 use Rattle.mm_read.specs.declared.stmt.Stmt.{Stmt}
 use Rattle.mm_read.specs.Statements.{Database}
 use Rattle.scope.specs.Active.{bare, bares}
+use Rattle.scope.proofs.StatementPlaces.{stands-within}
 use Rattle.verify.specs.Right.{IsProvable}
-use Rattle.verify.proofs.MandatoryEntries.{place_of}
-use Rattle.library.proofs.WrittenItemsLemmas.{provable-bare}
+use Rattle.verify.proofs.RightLemmas.{provable-bare}
 use Rattle.program.proofs.proofs.write_proof.Goals as goal
 
 within : (S F : Database) (at : ℕ) (s : Stmt) → F ≡ bares S → IsProvable S at s → (1 ≤ at) × (at ≤ length F)
-within S F at s same p = let provable = provable-bare S F at s same p in place_of F at (bare s) provable.stands
+within S F at s same p = let provable = provable-bare S F at s same p in stands-within F at (bare s) provable.stands
 
 pub listed-requires-clause-at : goal.listed-requires-clause-at
 listed-requires-clause-at g c =

@@ -1,9 +1,10 @@
 use Rattle.std.proofs.Common.{◌<◌, ◌≤◌, ◌∙◌, ℕ, List, ap, sym, subst, length, get_or, arith}
 use Rattle.scope.specs.Active.{before}
+use Rattle.scope.proofs.StatementPlaces.{stands-within}
 use Rattle.entries.specs.declared.cited_parts.Hypothesis.{Hypothesis}
 use Rattle.entries.specs.declared.cited_parts.Hypothesis.TheVariants.{Float}
 use Rattle.frame.specs.FrameOf.{hypotheses}
-use Rattle.reasons.proofs.VectorLemmas.{asked-at, asked-heads, asked-kinds, position_in}
+use Rattle.reasons.proofs.VectorLemmas.{asked-at, asked-heads, asked-kinds}
 use Rattle.names.specs.Codes.{decode}
 use Rattle.frame.specs.Below.{AreBelow}
 use Rattle.frame.specs.Cited.{AreAsked}
@@ -30,7 +31,7 @@ expr-requires c =
     let same = c.requires.mandatory s e in
     let inside : c.loop-k.k < length ps = let count = c.requires.count s e in omega (arith, count, c.loop-k-test.true) in
     let asked = asked-at S c.args.frames.now.names ps c.args.cited.now.heads.now c.args.cited.now.hypotheses.now c.loop-k.k d cited.asked inside in
-    subst (λ xs. (1 ≤ get_or xs c.loop-k.k 0) × (get_or xs c.loop-k.k 0 ≤ length S)) (sym same) (position_in S c.args.frames.now.names (get_or ps c.loop-k.k 0) asked.stmt asked.stands)
+    subst (λ xs. (1 ≤ get_or xs c.loop-k.k 0) × (get_or xs c.loop-k.k 0 ≤ length S)) (sym same) (stands-within S (get_or ps c.loop-k.k 0) asked.stmt asked.stands)
 
 pub bounds-cited-k : goal.bounds-cited-k
 bounds-cited-k c =

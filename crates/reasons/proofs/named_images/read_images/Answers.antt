@@ -2,11 +2,12 @@ use Rattle.std.proofs.Common.{◌≡◌, ◌<◌, ◌∙◌, subst, sym, ap, ref
 use Rattle.frame.specs.Below.{AreBelow}
 use Rattle.reasons.specs.Stored.Vectors.{codes, code_images, AreImages}
 use Rattle.reasons.specs.ReadImages.{codes_read}
-use Rattle.reasons.proofs.VectorLemmas.{symbols-at, below-drop}
+use Rattle.reasons.proofs.VectorLemmas.{symbols-at}
 use Rattle.reasons.proofs.ImagesLemmas.{images-push}
 use Rattle.reasons.proofs.NamedLemmas.{read_more, read_skip}
 use Rattle.reasons.proofs.named_images.read_images.Goals as goal
 use Rattle.reasons.proofs.named_images.read_images.Goals.{in-Float+in_ok-symbols+in_ok-push, in_default}
+use Rattle.subst.proofs.NumbersApartLemmas.{below-drop}
 
 pub loop-k-preserved : goal.loop-k-preserved
 loop-k-preserved c =

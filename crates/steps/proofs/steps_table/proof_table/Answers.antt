@@ -1,9 +1,9 @@
 use Rattle.std.proofs.Common.{sym, subst}
 use Rattle.frame.specs.AtPosition.{ArePositions}
-use Rattle.verify.proofs.MandatoryEntries.{place_of}
 use Rattle.steps.proofs.ReachedLemmas.{reached-start, reached-can, reached-next, reached-steps, reached-last}
 use Rattle.steps.proofs.UnfoldLemmas.{unfolds}
 use Rattle.steps.proofs.steps_table.proof_table.Goals as goal
+use Rattle.scope.proofs.StatementPlaces.{stands-within}
 
 pub loop-number-init : goal.loop-number-init
 loop-number-init c = (
@@ -21,7 +21,7 @@ loop-number-init c = (
 pub note-requires-clause-place : goal.note-requires-clause-place
 note-requires-clause-place c =
     let r = c.loop-number.invariant.2.3 in
-    place_of c.args.frames.now.statements c.args.at r.stmt r.stands
+    stands-within c.args.frames.now.statements c.args.at r.stmt r.stands
 
 pub note-requires-clause-can : goal.note-requires-clause-can
 note-requires-clause-can c =

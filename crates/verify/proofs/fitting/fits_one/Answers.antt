@@ -5,13 +5,13 @@ use Rattle.frame.specs.Substitution.{code_apply, images_of_names}
 use Rattle.subst.specs.ExpressionPlaces.{seen_at, images_at}
 use Rattle.verify.specs.Fits.{IsStanding, FitsOne}
 use Rattle.verify.proofs.FittingLemmas.{essential-iff}
-use Rattle.verify.proofs.MandatoryEntries.{place_of}
 use Rattle.verify.proofs.fitting.fits_one.Goals as goal
+use Rattle.scope.proofs.StatementPlaces.{stands-within}
 
 pub expr-expr-requires : goal.expr-expr-requires
 expr-expr-requires c =
     let stands = subst (IsStanding c.args.frames.now.statements) c.in-Essential.is c.requires.standing in
-    place_of c.args.frames.now.statements c.in-Essential.position stands.0 stands.1
+    stands-within c.args.frames.now.statements c.in-Essential.position stands.0 stands.1
 
 pub returns-in-Essential : goal.returns-in-Essential
 returns-in-Essential c =

@@ -1,8 +1,8 @@
 use Rattle.std.proofs.Common.{◌<◌, ◌∙◌, not, length, arith, sym, ap, subst}
 use Rattle.std.specs.List.Sorted.{IsNonDecreasing}
 use Rattle.scope.specs.Active.{before}
+use Rattle.scope.proofs.StatementPlaces.{stands-within}
 use Rattle.verify.specs.LabelTable.{is_hypothesis_among}
-use Rattle.verify.proofs.MandatoryEntries.{place_of}
 use Rattle.verify.proofs.ListedLabels.{hypotheses-rise}
 use Rattle.verify.proofs.ListedAdded.{word-left, one-added, one-shared}
 use Rattle.verify.proofs.label_table.add_listed.Goals as goal
@@ -13,7 +13,7 @@ unreachable-requires c =
     word-left _ _ _ _ _ _ _ c.loop.invariant within c.in_default.ensures.steps.0
 
 pub entry_of-entry-requires-clause-place : goal.entry_of-entry-requires-clause-place
-entry_of-entry-requires-clause-place c = place_of c.args.frames.now.statements c.args.at c.requires.provable.0 c.requires.provable.1.stands
+entry_of-entry-requires-clause-place c = stands-within c.args.frames.now.statements c.args.at c.requires.provable.0 c.requires.provable.1.stands
 
 pub is_among-requires : goal.is_among-requires
 is_among-requires c =

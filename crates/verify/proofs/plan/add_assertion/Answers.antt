@@ -1,11 +1,12 @@
 use Rattle.std.proofs.Common.{◌≡◌, length, map, arith, refl, sym, ap, ◌∙◌, ◌++◌, ◌∷◌, [], ◌-◌, take, subst}
 use Rattle.frame.specs.Below.{AreBelow}
+use Rattle.frame.proofs.SymbolNumberLemmas.{below-take}
 use Rattle.verify.specs.declared.plan.Node.TheVariants.{Apply}
 use Rattle.verify.specs.Derivations.{apply, from_list}
 use Rattle.verify.specs.Growth.{with_tree}
 use Rattle.verify.specs.ResultPlaces.{below}
 use Rattle.verify.specs.Plan.{pick, built, trees_of}
-use Rattle.verify.proofs.PlanLemmas.{added-plan, added-trees, below-take, kids-top, rest-below}
+use Rattle.verify.proofs.PlanLemmas.{added-plan, added-trees, kids-top, rest-below}
 use Rattle.verify.proofs.plan.add_assertion.Goals as goal
 use Rattle.subst.proofs.NumbersApartLemmas.{below-drop}
 

@@ -5,8 +5,8 @@ use Rattle.verify.specs.Right.{IsRight}
 use Rattle.subst.proofs.FindingsLemmas.{known-none}
 use Rattle.verify.proofs.KnownResultLemmas.{start-known, start-behind}
 use Rattle.verify.proofs.StepLemmas.{Reached, reached-start, reached-step, wrong-step, right-end, wrong-end, items-more, items-rest, all-taken}
-use Rattle.verify.proofs.MandatoryEntries.{place_of}
 use Rattle.verify.proofs.run.run.Goals as goal
+use Rattle.scope.proofs.StatementPlaces.{stands-within}
 
 pub loop-number-init : goal.loop-number-init
 loop-number-init c = (
@@ -62,4 +62,4 @@ returns-else-is_only c = λ labels are right.
     (subst (IsRight c.args.frames.now.statements c.args.at) (sym (all-taken (item_of labels) c.args.numbers.now c.loop-number.number-index (omega (arith, c.loop-number-test.false)))) right)
 
 pub expr-requires : goal.expr-requires
-expr-requires c = place_of c.args.frames.now.statements c.args.at c.requires.provable.0 c.requires.provable.1.stands
+expr-requires c = stands-within c.args.frames.now.statements c.args.at c.requires.provable.0 c.requires.provable.1.stands

@@ -3,8 +3,8 @@ use Rattle.proof_code.specs.ItemNumbers.{items_of}
 use Rattle.verify.specs.Proves.{mandatory_labels}
 use Rattle.library.specs.UseMarks.{ItemsMeet}
 use Rattle.library.proofs.MeetingLemmas.{labels-long, mandatory-wanted, tells-heading, tells-nothing}
-use Rattle.library.proofs.ProvingLemmas.{if-map}
 use Rattle.library.proofs.users.Search.compressed_meets.Goals as goal
+use Rattle.mm_read.proofs.NextLemmas.{on_ok}
 
 pub returns-in_default : goal.returns-in_default
 returns-in_default c = λ s stands.
@@ -15,7 +15,7 @@ pub returns : goal.returns
 returns c =
     let F = c.args.frames.now.statements in
     let marks = c.args.marks.now in
-    if-map c.listed_meet.result
+    on_ok c.listed_meet.result
     (λ found told. λ s stands.
     let labels = mandatory_labels F c.args.at s in
     tells-heading c.args.tokens.now _ _ _ _ (rw c.in-Some.is at c.in_ok-heading.ensures) F labels marks found

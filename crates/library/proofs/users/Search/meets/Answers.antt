@@ -1,8 +1,8 @@
 use Rattle.std.proofs.Common.{◌∙◌, sym}
 use Rattle.library.proofs.WrittenItemsLemmas.{has-assertion}
 use Rattle.library.proofs.MeetingLemmas.{told-meets, listed-meets}
-use Rattle.library.proofs.ProvingLemmas.{if-map}
 use Rattle.library.proofs.users.Search.meets.Goals as goal
+use Rattle.mm_read.proofs.NextLemmas.{on_ok}
 
 pub compressed_meets-requires-clause-assertion : goal.compressed_meets-requires-clause-assertion
 compressed_meets-requires-clause-assertion c = has-assertion c.args.statements.now c.args.frames.now.statements c.args.at c.requires.provable.0 c.requires.same c.requires.provable.1
@@ -10,7 +10,7 @@ compressed_meets-requires-clause-assertion c = has-assertion c.args.statements.n
 pub returns-then-is_compressed : goal.returns-then-is_compressed
 returns-then-is_compressed c =
     let p = c.requires.provable in
-    if-map c.compressed_meets.result
+    on_ok c.compressed_meets.result
     (told-meets c.args.statements.now c.args.frames.now.statements c.requires.same c.requires.good c.args.at p.0 c.args.tokens.now p.1 p.2 c.args.marks.now (sym c.is_compressed.ensures ∙ c.if-is_compressed.true))
     c.compressed_meets.ensures
 

@@ -1,6 +1,5 @@
-use Rattle.std.proofs.Common.{ℕ, List, Option, Some, length, get_or, ap, sym, ◌∙◌, arith}
-use Rattle.std.proofs.lemmas.Option.{slice_get_past}
-use Rattle.net.proofs.GrowingLists.{at_place}
+use Rattle.std.proofs.Common.{ℕ, List, Option, Some, length, get_or, ap, sym, ◌∙◌, arith, refl}
+use Rattle.std.proofs.lemmas.Option.{slice_get_past, slice_get_read}
 use Rattle.switch.specs.Seat.{Seated}
 use Rattle.switch.specs.Switch.{Place, Shared, is_down_at, is_down_place}
 use Rattle.switch.proofs.SeatsLemmas.{place_at, place_past}
@@ -12,7 +11,7 @@ returns-in-Some-get-clause-down g c =
     let Seats : Type 0 = List (Seated g.row.V.Denot) in
     let count = ap (λ (seats : Seats). length seats) c.as_slice-seats.ensures.value in
     let is = c.in-Some-get.ensures.lookup.1 ∙ ap (λ (seats : Seats). get_or seats c.in-Some.k c.in-Some-get.seat.now) c.as_slice-seats.ensures.value in
-    let at = at_place c.self.inside.seats.items c.in-Some.k c.in-Some-get.seat.now (omega (arith, count, c.in-Some-get.ensures.lookup.3.0)) is in
+    let at = slice_get_read c.self.inside.seats.items (length c.self.inside.seats.items) c.in-Some.k c.in-Some-get.seat.now refl (omega (arith, count, c.in-Some-get.ensures.lookup.3.0)) is in
     c.is_down.ensures ∙ sym (ap (λ (o : Option (Place g.row.V.Denot)). is_down_place o) (place_at c.self.inside.seats.items c.in-Some.k c.in-Some-get.seat.now at))
     ∙ ap (λ (s : Shared g.row.V.Denot). is_down_at s.places (Some c.in-Some.k)) c.self.view_is
     ∙ ap (λ (o : Option ℕ). is_down_at c.args.self.now.places o) (sym c.in-Some.is)

@@ -1,15 +1,15 @@
-use Rattle.std.proofs.Common.{Option, set, ap, ◌∙◌, subst}
+use Rattle.std.proofs.Common.{Option, set, ap, ◌∙◌, subst, length, refl}
 use Rattle.std.specs.Prelude.{IfOk, IfSome, IsSomeAnd}
+use Rattle.std.proofs.lemmas.Option.{slice_get_read}
 use Rattle.library.specs.declared.verdict.Verdict.{Verdict}
 use Rattle.world.specs.Replicas.{Replicas, next_entry, IsApplied}
-use Rattle.net.proofs.GrowingLists.{at_place}
 use Rattle.world.proofs.AppliedNext.{call_applies, call_none, call_keeps}
 use Rattle.world.proofs.world.World.apply_next.Goals as goal
 
 pub invariant_of-self-2 : goal.invariant_of-self-2
 invariant_of-self-2 c =
     call_keeps (record { taken = c.self.inside.net.taken; libraries = c.self.inside.replicas.items }) c.args.k c.in-Some.replica.now c.apply_from.new.replica c.apply_from.result
-    (at_place c.self.inside.replicas.items c.args.k c.in-Some.replica.now c.in-Some.ensures.item.3.0 c.in-Some.ensures.value)
+    (slice_get_read c.self.inside.replicas.items (length c.self.inside.replicas.items) c.args.k c.in-Some.replica.now refl c.in-Some.ensures.item.3.0 c.in-Some.ensures.value)
     c.apply_from.ensures c.self.invariant
 
 pub returns-clause-applied : goal.returns-clause-applied
@@ -17,19 +17,19 @@ returns-clause-applied c =
     subst (λ (old : Replicas). IfSome (next_entry old c.args.k) (λ entry. IfOk c.apply_from.result (λ (answer : Option Verdict). IsSomeAnd answer (λ verdict.
     IsApplied old c.args.k entry verdict (record { taken = c.self.inside.net.taken; libraries = set c.self.inside.replicas.items c.args.k c.apply_from.new.replica }))))) c.self.view_is
     (call_applies (record { taken = c.self.inside.net.taken; libraries = c.self.inside.replicas.items }) c.args.k c.in-Some.replica.now c.apply_from.new.replica c.apply_from.result
-    (at_place c.self.inside.replicas.items c.args.k c.in-Some.replica.now c.in-Some.ensures.item.3.0 c.in-Some.ensures.value)
+    (slice_get_read c.self.inside.replicas.items (length c.self.inside.replicas.items) c.args.k c.in-Some.replica.now refl c.in-Some.ensures.item.3.0 c.in-Some.ensures.value)
     c.apply_from.ensures)
 
 pub returns-clause-none : goal.returns-clause-none
 returns-clause-none c = λ there missing.
     (call_none (record { taken = c.self.inside.net.taken; libraries = c.self.inside.replicas.items }) c.args.k c.in-Some.replica.now c.apply_from.new.replica c.apply_from.result
-    (at_place c.self.inside.replicas.items c.args.k c.in-Some.replica.now c.in-Some.ensures.item.3.0 c.in-Some.ensures.value)
+    (slice_get_read c.self.inside.replicas.items (length c.self.inside.replicas.items) c.args.k c.in-Some.replica.now refl c.in-Some.ensures.item.3.0 c.in-Some.ensures.value)
     c.apply_from.ensures
     (ap (λ (r : Replicas). next_entry r c.args.k) c.self.view_is ∙ missing)).0
 
 pub returns-clause-same : goal.returns-clause-same
 returns-clause-same c = λ missing.
     (call_none (record { taken = c.self.inside.net.taken; libraries = c.self.inside.replicas.items }) c.args.k c.in-Some.replica.now c.apply_from.new.replica c.apply_from.result
-    (at_place c.self.inside.replicas.items c.args.k c.in-Some.replica.now c.in-Some.ensures.item.3.0 c.in-Some.ensures.value)
+    (slice_get_read c.self.inside.replicas.items (length c.self.inside.replicas.items) c.args.k c.in-Some.replica.now refl c.in-Some.ensures.item.3.0 c.in-Some.ensures.value)
     c.apply_from.ensures
     (ap (λ (r : Replicas). next_entry r c.args.k) c.self.view_is ∙ missing)).1 ∙ c.self.view_is

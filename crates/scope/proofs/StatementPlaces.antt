@@ -1,0 +1,17 @@
+-- Where the statements of a database stand.
+use Rattle.std.specs.Prelude.{◌≡◌, ℕ, zero, suc, ◌≤◌, length, Some, option_map, refl}
+use Rattle.std.proofs.Common.{arith}
+use Rattle.std.proofs.lemmas.Option.{slice_get-map, slice_get_within}
+use Rattle.mm_read.specs.declared.stmt.Stmt.{Stmt}
+use Rattle.mm_read.specs.Statements.{Database}
+use Rattle.scope.specs.Active.{bare, bares, stmt_at}
+
+-- a position at which a statement stands is one of the database
+pub stands-within : (S : Database) (i : ℕ) (s : Stmt) → stmt_at S i ≡ Some s → (1 ≤ i) × (i ≤ length S)
+stands-within S zero s h = cc
+stands-within S (suc n) s h = let m = slice_get_within S n s h in (omega arith, omega (arith, m))
+
+-- without proofs the statements stand where they stood
+pub stmt_at-bares : (S : Database) (i : ℕ) → stmt_at (bares S) i ≡ option_map bare (stmt_at S i)
+stmt_at-bares S zero = refl
+stmt_at-bares S (suc n) = slice_get-map bare S n
