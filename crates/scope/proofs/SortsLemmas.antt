@@ -11,7 +11,7 @@ use Rattle.mm_read.specs.Statements.{Database}
 use Rattle.scope.specs.Active.{variables, constants, active, is_float_of, typed_by, is_variable, is_constant, has_float, was_symbol, was_label, was_variable, active_variables, typed_variables}
 use Rattle.scope.specs.Legal.{all_different}
 use Rattle.names.specs.Codes.{number_in, numbers_in}
-use Rattle.scope.specs.Kinds.{Tells, Declared, declared_names, kind_in}
+use Rattle.scope.specs.Kinds.{Tells}
 use Rattle.scope.specs.Sorts.{IsSort, sort_by, is_constant_sort, is_variable_sort, is_label_sort, is_inactive_sort}
 use Rattle.scope.specs.declared.numbering.Kind.{Kind}
 use Rattle.scope.specs.declared.numbering.Kind.TheVariants.{Label, Constant, Variable}
@@ -19,7 +19,7 @@ use Rattle.scope.specs.declared.legal.Sort.{Sort}
 use Rattle.scope.specs.declared.legal.Sort.TheVariants as sort
 use Rattle.names.proofs.AddedNames.{has_name-append, number_in-same}
 use Rattle.names.proofs.CodesLemmas.{same_name, name_eq-comm}
-use Rattle.scope.proofs.NamesLemmas.{active-was, kind-has}
+use Rattle.scope.proofs.NamesLemmas.{active-was}
 
 -- ---- what is active, as lists of names
 
@@ -182,9 +182,6 @@ inactive-sort S x k t =
 pub some_second : {A B : Type 0} (r : Option (A × B)) → is_some r ≡ is_some (option_map (λ (p : A × B). p.1) r)
 some_second None = refl
 some_second (Some p) = refl
-
-pub found-has : (names : Declared) (x : Name) (r : Option (ℕ × Kind)) → option_map (λ (p : ℕ × Kind). p.1) r ≡ kind_in names x → is_some r ≡ has_name x (declared_names names)
-found-has names x r h = some_second r ∙ (ap is_some h ∙ kind-has names x)
 
 -- a truth value whose denial is known
 pub not-denied : (b f value : Bool) → f ≡ not b → f ≡ value → b ≡ not value

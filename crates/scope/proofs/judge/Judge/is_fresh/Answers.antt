@@ -1,13 +1,8 @@
-use Rattle.std.proofs.Common.{◌≡◌, ◌∙◌, ap, sym, not, is_some, Option, None, Some, option_map, ℕ, refl, Bool, true, false, ◌||◌}
+use Rattle.std.proofs.Common.{◌≡◌, ◌∙◌, ap, sym, not, is_some, Bool, true, false, ◌||◌}
 use Rattle.scope.specs.Active.{was_label, was_symbol}
 use Rattle.scope.specs.Kinds.{kind_in}
-use Rattle.scope.specs.declared.numbering.Kind.{Kind}
-use Rattle.scope.proofs.SortsLemmas.{fresh-kind}
+use Rattle.scope.proofs.SortsLemmas.{fresh-kind, some_second}
 use Rattle.scope.proofs.judge.Judge.is_fresh.Goals as goal
-
-some_second : (r : Option (ℕ × Kind)) → is_some r ≡ is_some (option_map (λ p. p.1) r)
-some_second None = refl
-some_second (Some p) = refl
 
 flip : (a b : Bool) → a ≡ not b → b ≡ not a
 flip a true h = ap not (sym h)
