@@ -84,7 +84,7 @@ fn request_of<'a>(alloc: Global, matches: &ArgMatches<'a>) -> Result<Request<'a>
             workers: workers(alloc, options)?,
         }),
         Some((name, options)) => Ok(Request::Ask(question(alloc, name, options)?)),
-        _ => Err(commands(alloc)?.error(ErrorKind::MissingSubcommand, "a command is wanted")?),
+        _ => refused(alloc, ErrorKind::MissingSubcommand, "a command is wanted"),
     }
 }
 
@@ -116,7 +116,7 @@ fn question<'a>(
         "extract" => Ok(Question::Extract {
             labels: labels(alloc, options)?,
         }),
-        _ => Err(commands(alloc)?.error(ErrorKind::MissingSubcommand, "a command is wanted")?),
+        _ => refused(alloc, ErrorKind::MissingSubcommand, "a command is wanted"),
     }
 }
 
@@ -124,7 +124,7 @@ fn question<'a>(
 fn label<'a>(alloc: Global, options: &ArgMatches<'a>) -> Result<&'a str, Error> {
     match options.get_str("label") {
         Some(label) => Ok(label),
-        None => Err(no_label(alloc)?),
+        None => no_label(alloc),
     }
 }
 
@@ -132,12 +132,21 @@ fn label<'a>(alloc: Global, options: &ArgMatches<'a>) -> Result<&'a str, Error> 
 fn labels<'a>(alloc: Global, options: &ArgMatches<'a>) -> Result<Vec<&'a str>, Error> {
     match options.get_strs("labels") {
         Some(labels) => Ok(Vec::from_slice(alloc, labels)?),
-        None => Err(no_label(alloc)?),
+        None => no_label(alloc),
     }
 }
 
-fn no_label(alloc: Global) -> Result<Error, AllocError> {
-    commands(alloc)?.error(ErrorKind::MissingRequiredArgument, "a label is wanted")
+fn no_label<T>(alloc: Global) -> Result<T, Error> {
+    refused(
+        alloc,
+        ErrorKind::MissingRequiredArgument,
+        "a label is wanted",
+    )
+}
+
+/// The error of this kind, with this text.
+fn refused<T>(alloc: Global, kind: ErrorKind, text: &str) -> Result<T, Error> {
+    Err(commands(alloc)?.error(kind, text)?)
 }
 
 /// The form that is asked for.
@@ -154,10 +163,11 @@ fn proof_form(options: &ArgMatches) -> ProofForm {
 /// The weights that the options give.
 fn weights(alloc: Global, options: &ArgMatches) -> Result<Option<Weights>, Error> {
     let Some(nodes) = options.get_str("nodes").and_then(node_count) else {
-        return Err(commands(alloc)?.error(
+        return refused(
+            alloc,
             ErrorKind::InvalidValue,
             "--nodes is a number from 1 to 9",
-        )?);
+        );
     };
     match options.get_str("weights") {
         Some(text) => Ok(parse_weights(text.as_bytes(), nodes)),
@@ -180,10 +190,11 @@ fn node_count(text: &str) -> Option<u8>
 fn workers(alloc: Global, options: &ArgMatches) -> Result<WorkerCount, Error> {
     match options.get_str("workers").and_then(worker_count) {
         Some(workers) => Ok(workers),
-        None => Err(commands(alloc)?.error(
+        None => refused(
+            alloc,
             ErrorKind::InvalidValue,
             "--workers is a number from 1 to 16",
-        )?),
+        ),
     }
 }
 

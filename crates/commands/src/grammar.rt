@@ -24,19 +24,40 @@ pub fn commands<'a>(alloc: Global) -> Result<Command<'a>, AllocError> {
 
 /// The commands on a database as a whole.
 fn with_lists<'a>(alloc: Global, program: Command<'a>) -> Result<Command<'a>, AllocError> {
-    program
-        .subcommand(Command::new(alloc, "outline").about(
-            "Print the statements of the database on standard input, one a line: mmlib outline < set.mm",
-        ))?
-        .subcommand(Command::new(alloc, "check").about(
-            "Check the proofs of the database on standard input: mmlib check < set.mm",
-        ))?
-        .subcommand(Command::new(alloc, "list").about(
-            "Print the assertions of the database on standard input, one a line: mmlib list < set.mm",
-        ))?
-        .subcommand(Command::new(alloc, "export").about(
-            "Print the database on standard input in the export form: mmlib export < set.mm",
-        ))
+    let program = with_list(
+        alloc,
+        program,
+        "outline",
+        "Print the statements of the database on standard input, one a line: mmlib outline < set.mm",
+    )?;
+    let program = with_list(
+        alloc,
+        program,
+        "check",
+        "Check the proofs of the database on standard input: mmlib check < set.mm",
+    )?;
+    let program = with_list(
+        alloc,
+        program,
+        "list",
+        "Print the assertions of the database on standard input, one a line: mmlib list < set.mm",
+    )?;
+    with_list(
+        alloc,
+        program,
+        "export",
+        "Print the database on standard input in the export form: mmlib export < set.mm",
+    )
+}
+
+/// The program with one command more, which takes no option.
+fn with_list<'a>(
+    alloc: Global,
+    program: Command<'a>,
+    name: &'static str,
+    about: &'static str,
+) -> Result<Command<'a>, AllocError> {
+    program.subcommand(Command::new(alloc, name).about(about))
 }
 
 /// The program with one command more.

@@ -4,17 +4,28 @@ use synod::{MOST_NODES, Weights};
 
 /// The weights that the text writes, decimal numbers joined by commas, where they are weights of so many nodes.
 pub fn parse_weights(text: &[u8], nodes: u8) -> Option<Weights> {
-    let mut weights = [0u8; MOST_NODES];
-    let mut count = 0usize;
-    for word in text.split(|byte| *byte == b',') {
-        if count >= MOST_NODES {
-            return None;
-        }
-        weights[count] = u8::try_from(parse_number(word)?).ok()?;
-        count += 1;
-    }
-    if count != nodes as usize {
+    if nodes as usize > MOST_NODES {
         return None;
     }
-    Weights::new(&weights[..count])
+    let mut weights = [0u8; MOST_NODES];
+    let mut rest = Some(text);
+    for place in 0..nodes as usize {
+        let (word, left) = cut(rest?);
+        weights[place] = u8::try_from(parse_number(word)?).ok()?;
+        rest = left;
+    }
+    if rest.is_some() {
+        return None;
+    }
+    Weights::new(&weights[..nodes as usize])
+}
+
+/// What stands before the first comma, and what stands behind it where there is one.
+fn cut(text: &[u8]) -> (&[u8], Option<&[u8]>) {
+    for place in 0..text.len() {
+        if text[place] == b',' {
+            return (&text[..place], Some(&text[place + 1..]));
+        }
+    }
+    (text, None)
 }

@@ -1,146 +1,92 @@
-//! How long each layer takes on the database on standard input.
+//! How long parts of the program take: `measure check` times each layer on the database on standard input, `measure pool` that
+//! database as the first text of a library, and `measure log` the slots of a log. With no argument it runs all three.
 //!
-//! Counts go to standard output, and the times of the phases in milliseconds to standard error. Each phase is made from the
-//! answers of the ones before it.
+//! Counts and verdicts go to standard output, and times in milliseconds to standard error.
 #![tactic(auto)]
 
-ghost use Rattle.std.specs.Prelude.{◌≡◌, [], ◌∷◌, ◌++◌, IsTrue, length};
-ghost use Rattle.mm_read.specs.declared.stmt.Stmt.{Stmt as Statement};
-ghost use Rattle.mm_read.specs.Statements.{AreShaped, IsShaped, Database};
-ghost use Rattle.scope.specs.Active.{bare, is_provable};
-ghost use Rattle.frame.specs.FrameOf.{HasAssertion};
+mod check;
+mod log;
+mod numbered_values;
+mod pool;
 
-use frame::Frames;
-use mm_lex::Words;
-use mm_read::Stmt;
-use scope::{Scope, Steps};
 use std::alloc::Global;
 use std::io::{self, Read};
+use std::rt::Clock;
+use std::thread::Threads;
 use std::time::{Duration, Instant};
-use verify::{Answer, Checker};
+use std::{env, mem};
 
 fn main(rt: HostRuntime) -> io::Result<()> {
-    let alloc = rt.alloc();
-    let start = Instant::now(&rt)?;
-    let mut text = Vec::new(alloc);
-    rt.stdin().read_to_end(&mut text)?;
-    let taken = start.elapsed(&rt)?;
-    let tokens = match mm_lex::tokens(alloc, &text) {
-        Ok(spans) => spans.len(),
-        Err(_) => 0,
-    };
-    let cut = start.elapsed(&rt)?;
-    println!(rt; "tokens {tokens}")?;
-    tell(&rt, "input", Duration::ZERO, taken)?;
-    tell(&rt, "tokens", taken, cut)?;
-    match mm_read::read(alloc, &text) {
-        Ok(statements) => measure_statements(&rt, start, cut, &statements),
-        Err(_) => println!(rt; "does not read"),
-    }
+    let part = wanted(&rt)?;
+    let mut text = Vec::new(rt.alloc());
+    time_parts(&rt, rt.alloc(), part, &mut rt.stdin(), &mut text)
 }
 
-/// The layers above the statements; `read` began at `before`.
-fn measure_statements(
-    rt: &HostRuntime,
-    start: Instant,
-    before: Duration,
-    statements: &[Stmt],
-) -> io::Result<()>
-    requires { AreShaped statements.now }
-{
-    let parsed = start.elapsed(rt)?;
-    let legal = count_legal(rt.alloc(), statements);
-    let judged = start.elapsed(rt)?;
-    let framed = count_framed(rt.alloc(), statements);
-    let kept = start.elapsed(rt)?;
-    let proved = count_proved(rt.alloc(), statements);
-    let verified = start.elapsed(rt)?;
-    let count = statements.len();
-    println!(rt; "statements {count}, legal {legal}, framed {framed}, proved {proved}")?;
-    tell(rt, "read", before, parsed)?;
-    tell(rt, "scope", parsed, judged)?;
-    tell(rt, "scope and frames", judged, kept)?;
-    tell(rt, "all and proofs", kept, verified)
+/// What the first argument asks for.
+#[derive(Clone, Copy)]
+enum Part {
+    All,
+    Check,
+    Pool,
+    Log,
+    Unknown,
 }
 
-/// How many statements a scope accepts, up to the first that breaks a rule.
-fn count_legal(alloc: Global, statements: &[Stmt]) -> usize
-    requires { AreShaped statements.now }
-{
-    let mut scope = Scope::new(alloc);
-    let mut steps = Steps::new();
-    for (index, statement) in statements.iter().enumerate() {
-        if scope.add(statement, &mut steps).is_err() {
-            return index;
+/// The parts that are wanted, one after another; the input goes into the text.
+fn time_parts<R: Threads + Sync + Clock + Print + Eprint, I: Read>(
+    rt: &R,
+    alloc: Global,
+    part: Part,
+    input: &mut I,
+    text: &mut Vec<u8>,
+) -> io::Result<()> {
+    match part {
+        Part::All => {
+            let taken = read_input(rt, input, text)?;
+            check::time_layers(rt, alloc, text, taken)?;
+            pool::time_ways(rt, alloc, mem::replace(text, Vec::new(alloc)))?;
+            log::time_slots(rt, alloc)
         }
-    }
-    statements.len()
-}
-
-/// How many statements a scope accepts and frames keep, up to the first that breaks a rule.
-fn count_framed(alloc: Global, statements: &[Stmt]) -> usize
-    requires { AreShaped statements.now }
-{
-    let mut scope = Scope::new(alloc);
-    let mut frames = Frames::new(alloc);
-    let mut steps = Steps::new();
-    for statement in statements {
-        if !add(&mut scope, &mut frames, statement, &mut steps) {
-            break;
+        Part::Check => {
+            let taken = read_input(rt, input, text)?;
+            check::time_layers(rt, alloc, text, taken)
         }
-    }
-    frames.len()
-}
-
-/// How many provable assertions are proved, up to the first statement that breaks a rule.
-fn count_proved(alloc: Global, statements: &[Stmt]) -> usize
-    requires { AreShaped statements.now }
-{
-    let mut scope = Scope::new(alloc);
-    let mut frames = Frames::new(alloc);
-    let mut checker = Checker::new(alloc);
-    let mut steps = Steps::new();
-    let mut proved = 0usize;
-    for statement in statements {
-        if !add(&mut scope, &mut frames, statement, &mut steps) {
-            break;
+        Part::Pool => {
+            let _taken = read_input(rt, input, text)?;
+            pool::time_ways(rt, alloc, mem::replace(text, Vec::new(alloc)))
         }
-        if let Stmt::Prove { proof, .. } = statement {
-            if is_proved(&mut checker, &frames, statement, proof) {
-                proved = proved.saturating_add(1);
-            }
-        }
-    }
-    proved
-}
-
-/// Whether the statement is legal next, and was added.
-fn add(scope: &mut Scope, frames: &mut Frames, statement: &Stmt, steps: &mut Steps) -> bool
-    requires same { frames.old.statements ≡ scope.old.statements }
-    requires shaped { IsShaped statement.now }
-    ensures same { IsTrue result → frames.new.statements ≡ scope.new.statements }
-    ensures added { IsTrue result → frames.new.statements ≡ frames.old.statements ++ bare statement.now ∷ [] }
-{
-    match scope.add(statement, steps) {
-        Ok(()) => frames.keep_accepted(scope, statement, steps).is_ok(),
-        Err(_) => false,
+        Part::Log => log::time_slots(rt, alloc),
+        Part::Unknown => eprintln!(rt; "measure [check | pool | log]"),
     }
 }
 
-/// Whether the proof of the statement that the frames hold last is right.
-fn is_proved(checker: &mut Checker, frames: &Frames, statement: &Stmt, proof: &Words) -> bool
-    requires last { (S : Database) × (frames.now.statements ≡ S ++ bare statement.now ∷ []) }
-    requires provable { IsTrue (is_provable statement.now) }
-{
-    let _statement = statement;
-    match checker.prove(frames, frames.len(), proof) {
-        Ok(answer) => answer == Answer::Proved,
-        Err(_) => false,
+fn wanted(rt: &HostRuntime) -> io::Result<Part> {
+    let mut words = env::args(rt)?.skip(1);
+    match words.next() {
+        Some(word) => Ok(part_named(word.as_str())),
+        None => Ok(Part::All),
     }
 }
 
-/// Tells how long a phase took.
-fn tell<R: Eprint>(rt: &R, phase: &str, before: Duration, after: Duration) -> io::Result<()> {
-    let spent = after.saturating_sub(before).as_millis();
-    eprintln!(rt; "{phase:>16} {spent:>6} ms")
+fn part_named(word: &str) -> Part {
+    if word == "check" {
+        Part::Check
+    } else if word == "pool" {
+        Part::Pool
+    } else if word == "log" {
+        Part::Log
+    } else {
+        Part::Unknown
+    }
+}
+
+/// Reads the input to its end; how long that took.
+fn read_input<R: Clock, I: Read>(
+    rt: &R,
+    input: &mut I,
+    text: &mut Vec<u8>,
+) -> io::Result<Duration> {
+    let start = Instant::now(rt)?;
+    input.read_to_end(text)?;
+    start.elapsed(rt)
 }

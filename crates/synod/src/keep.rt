@@ -5,7 +5,7 @@ use crate::change::Change;
 use crate::record::Record;
 
 /// A store or a load failed.
-#[derive(Debug, Clone, Copy, PartialEq, Eq)]
+#[derive(Clone, Copy, PartialEq, Eq)]
 pub struct Failed;
 
 /// An acceptor's store. One that finds no memory fails.

@@ -10,7 +10,7 @@ use std::alloc::{AllocError, Global};
 use std::marker::Model;
 
 /// The nodes that accepted at one slot under one ballot: a mark for each node.
-#[derive(Debug, Clone, Copy)]
+#[derive(Clone, Copy)]
 pub struct Tally {
     pub ballot: Ballot,
     pub voters: [bool; MOST_NODES],

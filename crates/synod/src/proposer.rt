@@ -14,7 +14,7 @@ pub const MOST_WAITING: usize = 64;
 /// The role of a proposer.
 ///
 /// Source: Lamport, Paxos Made Simple, 2.2 (its two phases) and 2.4 (a distinguished proposer).
-#[derive(Debug, Clone, Copy, PartialEq, Eq)]
+#[derive(Clone, Copy, PartialEq, Eq)]
 pub enum Role {
     /// At no ballot.
     Idle,
@@ -41,7 +41,7 @@ impl Role {
 }
 
 /// A node that is heard, with the count of its promise's pages.
-#[derive(Debug, Clone, Copy, PartialEq, Eq)]
+#[derive(Clone, Copy, PartialEq, Eq)]
 pub struct Heard {
     pub node: u8,
     pub count: u32,

@@ -3,7 +3,7 @@
 /// Why a node did not take an event. Each leaves it as it was.
 ///
 /// Of several the first in this order is answered: `TooLong`, `LogFull`, `RoundsSpent`, `Busy`, `Memory`.
-#[derive(Debug, Clone, Copy, PartialEq, Eq)]
+#[derive(Clone, Copy, PartialEq, Eq)]
 pub enum Refusal {
     /// 64 values wait.
     Busy = 1,

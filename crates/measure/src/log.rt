@@ -1,14 +1,10 @@
-//! What a slot of the log costs: 100,000 values through one node and through three, in one process and on one thread.
-//!
-//! What was learned goes to standard output, and the time of each 20,000 slots in milliseconds to standard error.
-#![tactic(auto)]
-
-mod numbered_values;
-
-use numbered_values::{Number, is_packet};
+//! What a slot of the log costs: 100,000 values through one node and through three, in one process and on one thread, timed at
+//! each 20,000 slots.
+use crate::numbered_values::{Number, is_packet};
 use std::alloc::Global;
 use std::collections::VecDeque;
 use std::io;
+use std::rt::Clock;
 use std::time::Instant;
 use synod::{NodeCore, Packet, Weights};
 
@@ -16,9 +12,9 @@ const SLOTS: u64 = 100_000;
 
 const STRETCH: u64 = 20_000;
 
-fn main(rt: HostRuntime) -> io::Result<()> {
+pub fn time_slots<R: Clock + Print + Eprint>(rt: &R, alloc: Global) -> io::Result<()> {
     for weights in [[1u8].as_slice(), [1, 1, 1].as_slice()] {
-        let learned = drive(&rt, weights)?;
+        let learned = drive(rt, alloc, weights)?;
         let nodes = weights.len();
         println!(rt; "{nodes} nodes: {learned} learned at node 0")?;
     }
@@ -33,14 +29,28 @@ struct Run {
 }
 
 /// Drives the values through nodes of these weights, node 0 leading; how many node 0 learned.
-fn drive(rt: &HostRuntime, weights: &[u8]) -> io::Result<u64> {
-    let Some(mut run) = new_run(rt.alloc(), weights) else {
-        return Ok(0);
+fn drive<R: Clock + Print + Eprint>(rt: &R, alloc: Global, weights: &[u8]) -> io::Result<u64> {
+    let mut run = Run {
+        nodes: Vec::new(alloc),
+        packets: VecDeque::new(alloc),
     };
+    drive_nodes(rt, alloc, &mut run, weights)
+}
+
+/// The same with a run that has no node yet.
+fn drive_nodes<R: Clock + Print + Eprint>(
+    rt: &R,
+    alloc: Global,
+    run: &mut Run,
+    weights: &[u8],
+) -> io::Result<u64> {
+    if begin(alloc, run, weights).is_none() {
+        return Ok(0);
+    }
     let start = Instant::now(rt)?;
     let mut before = start.elapsed(rt)?;
     for slot in 0..SLOTS {
-        if offer_one(&mut run, slot).is_none() {
+        if offer_one(run, slot).is_none() {
             return Ok(slot);
         }
         if slot % STRETCH == STRETCH - 1 {
@@ -50,24 +60,18 @@ fn drive(rt: &HostRuntime, weights: &[u8]) -> io::Result<u64> {
             before = now;
         }
     }
-    Ok(count_learned(&run))
+    Ok(count_learned(run))
 }
 
-/// Nodes of which node 0 leads.
-fn new_run(alloc: Global, weights: &[u8]) -> Option<Run> {
+/// Makes the nodes, of which node 0 leads.
+fn begin(alloc: Global, run: &mut Run, weights: &[u8]) -> Option<()> {
     let all = Weights::new(weights)?;
-    let mut nodes = Vec::new(alloc);
     for me in 0..all.count() {
-        nodes.push(NodeCore::new(alloc, me, all)).ok()?;
+        run.nodes.push(NodeCore::new(alloc, me, all)).ok()?;
     }
-    let mut run = Run {
-        nodes,
-        packets: VecDeque::new(alloc),
-    };
     let posts = run.nodes.get_mut(0)?.begin().ok()?;
     post(&mut run.packets, posts)?;
-    deliver_all(&mut run)?;
-    Some(run)
+    deliver_all(run)
 }
 
 /// Offers a value to node 0, and delivers all that comes of it.
@@ -80,17 +84,25 @@ fn offer_one(run: &mut Run, value: u64) -> Option<()> {
 /// Delivers the packets, first in first, until none is on its way.
 fn deliver_all(run: &mut Run) -> Option<()> {
     for _ in 0..u64::MAX {
-        let Some(packet) = run.packets.pop_front() else {
-            break;
-        };
-        let node = run.nodes.get_mut(packet.to as usize)?;
-        if !is_packet(&packet, node.nodes()) {
-            return None;
+        match run.packets.pop_front() {
+            Some(packet) => deliver(run, packet)?,
+            None => break,
         }
-        let posts = node.on_packet(&packet).ok()?;
-        post(&mut run.packets, posts)?;
     }
     Some(())
+}
+
+fn deliver(run: &mut Run, packet: Packet<Number>) -> Option<()> {
+    take_in(run, &packet)
+}
+
+fn take_in(run: &mut Run, packet: &Packet<Number>) -> Option<()> {
+    let node = run.nodes.get_mut(packet.to as usize)?;
+    if !is_packet(packet, node.nodes()) {
+        return None;
+    }
+    let posts = node.on_packet(packet).ok()?;
+    post(&mut run.packets, posts)
 }
 
 fn post(packets: &mut VecDeque<Packet<Number>>, posts: Vec<Packet<Number>>) -> Option<()> {

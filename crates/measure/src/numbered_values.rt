@@ -8,7 +8,7 @@ use std::alloc::AllocError;
 use synod::{Body, MOST_PAGES, Packet, SlotReport, Value};
 
 /// A value of eight bytes.
-#[derive(Debug, Clone, Copy, PartialEq, Eq)]
+#[derive(Clone, Copy)]
 pub struct Number(pub u64);
 
 impl Value for Number {
