@@ -4,10 +4,10 @@
 //! Counts and verdicts go to standard output, and times in milliseconds to standard error.
 #![tactic(auto)]
 
-mod check;
-mod log;
+mod layer_times;
 mod numbered_values;
-mod pool;
+mod slot_times;
+mod way_times;
 
 use std::alloc::Global;
 use std::io::{self, Read};
@@ -43,19 +43,19 @@ fn time_parts<R: Threads + Sync + Clock + Print + Eprint, I: Read>(
     match part {
         Part::All => {
             let taken = read_input(rt, input, text)?;
-            check::time_layers(rt, alloc, text, taken)?;
-            pool::time_ways(rt, alloc, mem::replace(text, Vec::new(alloc)))?;
-            log::time_slots(rt, alloc)
+            layer_times::time_layers(rt, alloc, text, taken)?;
+            way_times::time_ways(rt, alloc, mem::replace(text, Vec::new(alloc)))?;
+            slot_times::time_slots(rt, alloc)
         }
         Part::Check => {
             let taken = read_input(rt, input, text)?;
-            check::time_layers(rt, alloc, text, taken)
+            layer_times::time_layers(rt, alloc, text, taken)
         }
         Part::Pool => {
             let _taken = read_input(rt, input, text)?;
-            pool::time_ways(rt, alloc, mem::replace(text, Vec::new(alloc)))
+            way_times::time_ways(rt, alloc, mem::replace(text, Vec::new(alloc)))
         }
-        Part::Log => log::time_slots(rt, alloc),
+        Part::Log => slot_times::time_slots(rt, alloc),
         Part::Unknown => eprintln!(rt; "measure [check | pool | log]"),
     }
 }

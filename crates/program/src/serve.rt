@@ -21,8 +21,11 @@ use std::thread;
 use std::thread::Threads;
 use synod::Weights;
 
-/// How often `settle` asks.
-const MOST_ASKS: u32 = 10_000_000;
+/// How many turns `settle` waits at most.
+const MOST_TURNS: u32 = 10_000_000;
+
+/// It asks once in so many turns, since an ask takes the lock that the node needs for its work.
+const TURNS_AN_ASK: u32 = 64;
 
 /// Reads a script, starts the nodes, prints what each line answers, and stops the nodes; the answer is the exit status. Every
 /// thread is joined, also where an answer cannot be written.
@@ -156,10 +159,12 @@ fn settled<R: Wait>(rt: &R, desk: &NodesDesk, at: EntryAt) -> Result<Option<Verd
     ensures no_node { desk.now ≤ at.node → result ≡ Err NoNode }
     ensures only_apart { at.node < desk.now → IsOkUnless result Apart }
 {
-    for _ask in 1..MOST_ASKS {
-        let verdict = status(rt, desk, at)?;
-        if verdict.is_some() {
-            return Ok(verdict);
+    for turn in 0..MOST_TURNS {
+        if turn % TURNS_AN_ASK == 0 {
+            let verdict = status(rt, desk, at)?;
+            if verdict.is_some() {
+                return Ok(verdict);
+            }
         }
         thread::yield_now();
     }
