@@ -14,5 +14,5 @@ mod wanted_output;
 
 pub use failing_streams::{FailingReader, FailingWriter};
 pub use row::{Choice, Cut, Faults, Row, Way};
-pub use row_parser::{Unread, parse_rows};
+pub use row_parser::{UnreadRows, parse_rows};
 pub use wanted_output::{Printed, Wanted, difference, status_of};

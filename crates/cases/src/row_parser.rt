@@ -1,26 +1,26 @@
 //! The rows of a file.
 use crate::row::{Choice, Cut, Faults, Row, Way};
-use crate::row_texts::{LineFault, push_line, push_lines, word_of};
+use crate::row_texts::{RowFault, push_line, push_lines, word_of};
 use numbers::parse_number;
 use std::alloc::{AllocError, Global};
 
 /// Why a file has no rows to run.
 #[derive(Drop)]
-pub enum Unread {
+pub enum UnreadRows {
     /// This line says nothing, or stands where it says nothing.
     Line(String),
     /// A growth was refused.
     Memory,
 }
 
-impl From<AllocError> for Unread {
-    fn from(_error: AllocError) -> Unread {
-        Unread::Memory
+impl From<AllocError> for UnreadRows {
+    fn from(_error: AllocError) -> UnreadRows {
+        UnreadRows::Memory
     }
 }
 
 /// The rows of a text. Empty lines and lines that begin with `#` say nothing.
-pub fn parse_rows(alloc: Global, text: &str) -> Result<Vec<Row>, Unread> {
+pub fn parse_rows(alloc: Global, text: &str) -> Result<Vec<Row>, UnreadRows> {
     let mut rows = Vec::new(alloc);
     for line in text.split('\n') {
         if line.is_empty() || line.starts_with('#') {
@@ -28,15 +28,15 @@ pub fn parse_rows(alloc: Global, text: &str) -> Result<Vec<Row>, Unread> {
         }
         match read_line(alloc, &mut rows, line) {
             Ok(()) => {}
-            Err(LineFault::Bad) => return Err(Unread::Line(String::from_str(alloc, line)?)),
-            Err(LineFault::Memory) => return Err(Unread::Memory),
+            Err(RowFault::Bad) => return Err(UnreadRows::Line(String::from_str(alloc, line)?)),
+            Err(RowFault::Memory) => return Err(UnreadRows::Memory),
         }
     }
     Ok(rows)
 }
 
 /// Reads a line: it begins a row, or says more of the last one.
-fn read_line(alloc: Global, rows: &mut Vec<Row>, line: &str) -> Result<(), LineFault> {
+fn read_line(alloc: Global, rows: &mut Vec<Row>, line: &str) -> Result<(), RowFault> {
     match line.strip_prefix("row ") {
         Some(sentence) => {
             let row = new_row(alloc, sentence)?;
@@ -45,7 +45,7 @@ fn read_line(alloc: Global, rows: &mut Vec<Row>, line: &str) -> Result<(), LineF
         }
         None => match rows.last_mut() {
             Some(row) => read_more(alloc, row, line),
-            None => Err(LineFault::Bad),
+            None => Err(RowFault::Bad),
         },
     }
 }
@@ -67,7 +67,7 @@ fn new_row(alloc: Global, sentence: &str) -> Result<Row, AllocError> {
 }
 
 /// Reads a line of a row: a mark, and a text behind a space.
-fn read_more(alloc: Global, row: &mut Row, line: &str) -> Result<(), LineFault> {
+fn read_more(alloc: Global, row: &mut Row, line: &str) -> Result<(), RowFault> {
     let (mark, text) = line.split_once(' ').unwrap_or((line, ""));
     match mark {
         "run" => add_command(alloc, row, text),
@@ -86,7 +86,7 @@ fn read_more(alloc: Global, row: &mut Row, line: &str) -> Result<(), LineFault> 
 }
 
 /// Adds a command line, words between single spaces.
-fn add_command(alloc: Global, row: &mut Row, text: &str) -> Result<(), LineFault> {
+fn add_command(alloc: Global, row: &mut Row, text: &str) -> Result<(), RowFault> {
     let mut words = Vec::new(alloc);
     for word in text.split(' ').filter(|word| !word.is_empty()) {
         let word = word_of(alloc, word)?;
@@ -96,32 +96,32 @@ fn add_command(alloc: Global, row: &mut Row, text: &str) -> Result<(), LineFault
     Ok(())
 }
 
-fn set_status(row: &mut Row, text: &str) -> Result<(), LineFault> {
-    let number = parse_number(text.as_bytes()).ok_or(LineFault::Bad)?;
-    let status = u8::try_from(number).map_err(|_error| LineFault::Bad)?;
+fn set_status(row: &mut Row, text: &str) -> Result<(), RowFault> {
+    let number = parse_number(text.as_bytes()).ok_or(RowFault::Bad)?;
+    let status = u8::try_from(number).map_err(|_error| RowFault::Bad)?;
     row.status = Some(status);
     Ok(())
 }
 
-fn set_lines(row: &mut Row, text: &str) -> Result<(), LineFault> {
-    row.lines = Some(parse_number(text.as_bytes()).ok_or(LineFault::Bad)?);
+fn set_lines(row: &mut Row, text: &str) -> Result<(), RowFault> {
+    row.lines = Some(parse_number(text.as_bytes()).ok_or(RowFault::Bad)?);
     Ok(())
 }
 
 /// A way is said before the input and the output.
-fn set_way(row: &mut Row, way: Way, text: &str, wanted: &str) -> Result<(), LineFault> {
+fn set_way(row: &mut Row, way: Way, text: &str, wanted: &str) -> Result<(), RowFault> {
     if text != wanted || !row.input.is_empty() || !row.output.is_empty() || row.way != Way::Whole {
-        return Err(LineFault::Bad);
+        return Err(RowFault::Bad);
     }
     row.way = way;
     Ok(())
 }
 
 /// Adds a line of the standard error.
-fn add_fault(alloc: Global, row: &mut Row, text: &str) -> Result<(), LineFault> {
+fn add_fault(alloc: Global, row: &mut Row, text: &str) -> Result<(), RowFault> {
     match &mut row.faults {
         Faults::Exactly(told) => push_line(told, text, 0),
-        Faults::Beginning(_) => Err(LineFault::Bad),
+        Faults::Beginning(_) => Err(RowFault::Bad),
         Faults::Unsaid => {
             let mut told = Vec::new(alloc);
             push_line(&mut told, text, 0)?;
@@ -131,13 +131,13 @@ fn add_fault(alloc: Global, row: &mut Row, text: &str) -> Result<(), LineFault> 
     }
 }
 
-fn set_beginning(alloc: Global, row: &mut Row, text: &str) -> Result<(), LineFault> {
+fn set_beginning(alloc: Global, row: &mut Row, text: &str) -> Result<(), RowFault> {
     row.faults = Faults::Beginning(word_of(alloc, text)?.into_bytes());
     Ok(())
 }
 
 /// Adds one of several inputs.
-fn add_choice(alloc: Global, row: &mut Row, text: &str, answer: &str) -> Result<(), LineFault> {
+fn add_choice(alloc: Global, row: &mut Row, text: &str, answer: &str) -> Result<(), RowFault> {
     let mut choice = Choice {
         input: Vec::new(alloc),
         output: Vec::new(alloc),
@@ -148,34 +148,34 @@ fn add_choice(alloc: Global, row: &mut Row, text: &str, answer: &str) -> Result<
     Ok(())
 }
 
-fn add_choice_with_answer(alloc: Global, row: &mut Row, text: &str) -> Result<(), LineFault> {
-    let (text, answer) = text.rsplit_once(" => ").ok_or(LineFault::Bad)?;
+fn add_choice_with_answer(alloc: Global, row: &mut Row, text: &str) -> Result<(), RowFault> {
+    let (text, answer) = text.rsplit_once(" => ").ok_or(RowFault::Bad)?;
     add_choice(alloc, row, text, answer)
 }
 
 /// Adds lines of the input, of the output or of both. The mark may say how often, behind a `*`.
-fn add_lines(alloc: Global, row: &mut Row, mark: &str, text: &str) -> Result<(), LineFault> {
+fn add_lines(alloc: Global, row: &mut Row, mark: &str, text: &str) -> Result<(), RowFault> {
     let (mark, times) = match mark.split_once('*') {
-        Some((mark, times)) => (mark, parse_number(times.as_bytes()).ok_or(LineFault::Bad)?),
+        Some((mark, times)) => (mark, parse_number(times.as_bytes()).ok_or(RowFault::Bad)?),
         None => (mark, 1),
     };
     match mark {
         "<" => push_lines(&mut row.input, text, times),
         ">" => push_lines(&mut row.output, text, times),
         "<>" => {
-            let (text, answer) = text.rsplit_once(" => ").ok_or(LineFault::Bad)?;
+            let (text, answer) = text.rsplit_once(" => ").ok_or(RowFault::Bad)?;
             push_lines(&mut row.input, text, times)?;
             match row.way {
                 Way::Cut => add_cut(alloc, row, text, answer),
                 _ => push_lines(&mut row.output, answer, times),
             }
         }
-        _ => Err(LineFault::Bad),
+        _ => Err(RowFault::Bad),
     }
 }
 
 /// The answer where the input is cut behind the line that was added last.
-fn add_cut(alloc: Global, row: &mut Row, text: &str, answer: &str) -> Result<(), LineFault> {
+fn add_cut(alloc: Global, row: &mut Row, text: &str, answer: &str) -> Result<(), RowFault> {
     let behind = row.input.len();
     let mut output = Vec::new(alloc);
     push_line(&mut output, answer, 0)?;

@@ -5,21 +5,21 @@ use std::io::Write;
 
 /// Why a line is not read.
 #[derive(Drop)]
-pub enum LineFault {
+pub enum RowFault {
     /// It says nothing.
     Bad,
     /// A growth was refused.
     Memory,
 }
 
-impl From<AllocError> for LineFault {
-    fn from(_error: AllocError) -> LineFault {
-        LineFault::Memory
+impl From<AllocError> for RowFault {
+    fn from(_error: AllocError) -> RowFault {
+        RowFault::Memory
     }
 }
 
 /// Adds the line so many times; in each `\{K}` and `\{K+S}` stand for the number of that time.
-pub fn push_lines(bytes: &mut Vec<u8>, text: &str, times: u64) -> Result<(), LineFault> {
+pub fn push_lines(bytes: &mut Vec<u8>, text: &str, times: u64) -> Result<(), RowFault> {
     for time in 0..times {
         push_line(bytes, text, time)?;
     }
@@ -27,7 +27,7 @@ pub fn push_lines(bytes: &mut Vec<u8>, text: &str, times: u64) -> Result<(), Lin
 }
 
 /// Adds the line, with a line feed where the text does not end in a backslash.
-pub fn push_line(bytes: &mut Vec<u8>, text: &str, time: u64) -> Result<(), LineFault> {
+pub fn push_line(bytes: &mut Vec<u8>, text: &str, time: u64) -> Result<(), RowFault> {
     match text.strip_suffix("\\") {
         Some(text) => push_text(bytes, text, time),
         None => {
@@ -39,14 +39,14 @@ pub fn push_line(bytes: &mut Vec<u8>, text: &str, time: u64) -> Result<(), LineF
 }
 
 /// A word of a command line.
-pub fn word_of(alloc: Global, text: &str) -> Result<String, LineFault> {
+pub fn word_of(alloc: Global, text: &str) -> Result<String, RowFault> {
     let mut bytes = Vec::new(alloc);
     push_text(&mut bytes, text.strip_suffix("\\").unwrap_or(text), 0)?;
-    String::from_utf8(bytes).map_err(|_error| LineFault::Bad)
+    String::from_utf8(bytes).map_err(|_error| RowFault::Bad)
 }
 
 /// Adds the bytes of a text.
-fn push_text(bytes: &mut Vec<u8>, text: &str, time: u64) -> Result<(), LineFault> {
+fn push_text(bytes: &mut Vec<u8>, text: &str, time: u64) -> Result<(), RowFault> {
     let mut pieces = text.split('\\');
     if let Some(first) = pieces.next() {
         bytes.extend_from_slice(first.as_bytes())?;
@@ -58,7 +58,7 @@ fn push_text(bytes: &mut Vec<u8>, text: &str, time: u64) -> Result<(), LineFault
 }
 
 /// Adds the bytes of what stands behind a backslash.
-fn push_escaped(bytes: &mut Vec<u8>, piece: &str, time: u64) -> Result<(), LineFault> {
+fn push_escaped(bytes: &mut Vec<u8>, piece: &str, time: u64) -> Result<(), RowFault> {
     if let Some(digits) = piece.strip_prefix("x") {
         return push_byte(bytes, digits);
     }
@@ -66,21 +66,21 @@ fn push_escaped(bytes: &mut Vec<u8>, piece: &str, time: u64) -> Result<(), LineF
         .strip_prefix("{")
         .and_then(|rest| rest.split_once('}'))
     else {
-        return Err(LineFault::Bad);
+        return Err(RowFault::Bad);
     };
-    let number = number_at(number, time).ok_or(LineFault::Bad)?;
-    write!(bytes, "{number}").map_err(|_error| LineFault::Memory)?;
+    let number = number_at(number, time).ok_or(RowFault::Bad)?;
+    write!(bytes, "{number}").map_err(|_error| RowFault::Memory)?;
     bytes.extend_from_slice(rest.as_bytes())?;
     Ok(())
 }
 
 /// Adds the byte of two hexadecimal digits, and what stands behind them.
-fn push_byte(bytes: &mut Vec<u8>, digits: &str) -> Result<(), LineFault> {
+fn push_byte(bytes: &mut Vec<u8>, digits: &str) -> Result<(), RowFault> {
     let Some((digits, rest)) = digits.split_at_checked(2) else {
-        return Err(LineFault::Bad);
+        return Err(RowFault::Bad);
     };
     let Ok(byte) = u8::from_str_radix(digits, 16) else {
-        return Err(LineFault::Bad);
+        return Err(RowFault::Bad);
     };
     bytes.extend_from_slice(&[byte])?;
     bytes.extend_from_slice(rest.as_bytes())?;

@@ -8,8 +8,8 @@ use Rattle.std.proofs.Math.Seq.{get_or-append_seam}
 use Rattle.entries.specs.declared.cited_parts.Hypothesis.{Hypothesis}
 use Rattle.entries.specs.declared.head.Head.{Head}
 use Rattle.entries.specs.declared.parts.AssertionParts.{AssertionParts}
-use Rattle.entries.specs.declared.statement_record.Record.{Record}
-use Rattle.entries.specs.declared.statement_record.Row.{Row}
+use Rattle.entries.specs.declared.statement_record.StatementRecord.{StatementRecord}
+use Rattle.entries.specs.declared.statement_record.AssertionRow.{AssertionRow}
 use Rattle.entries.specs.declared.statement_record.Buffers.{Buffers}
 use Rattle.entries.specs.declared.sizes.Sizes.{Sizes}
 use Rattle.entries.specs.Entries.{AreShapedParts, assertion_of, made, partless}
@@ -39,7 +39,7 @@ range-none xs n = ap (λ m. take m (drop n xs)) (sub_self n)
 
 -- ---- an assertion, with its row
 
-module _ (b m c : Buffers) (rs qs : List Record) (r : Record) (w : Row) (h : Head) (p : AssertionParts)
+module _ (b m c : Buffers) (rs qs : List StatementRecord) (r : StatementRecord) (w : AssertionRow) (h : Head) (p : AssertionParts)
     (packed : ArePacked b (places_of b rs)) (shaped : AreShapedParts p) (grows : Grows b m) (row : IsRowOf b m p w)
     (numbers : c.numbers.items ≡ m.numbers.items) (hypotheses : c.hypotheses.items ≡ m.hypotheses.items) (asked : c.asked.items ≡ m.asked.items) (groups : c.groups.items ≡ m.groups.items)
     (rows : c.rows.items ≡ b.rows.items ++ w ∷ [])
@@ -106,7 +106,7 @@ module _ (b m c : Buffers) (rs qs : List Record) (r : Record) (w : Row) (h : Hea
 
 -- ---- any other statement
 
-module _ (b c : Buffers) (rs qs : List Record) (r : Record) (h : Head) (codes : List ℕ) (whole : Bool)
+module _ (b c : Buffers) (rs qs : List StatementRecord) (r : StatementRecord) (h : Head) (codes : List ℕ) (whole : Bool)
     (packed : ArePacked b (places_of b rs))
     (numbers : c.numbers.items ≡ b.numbers.items ++ codes) (hypotheses : c.hypotheses.items ≡ b.hypotheses.items) (asked : c.asked.items ≡ b.asked.items) (groups : c.groups.items ≡ b.groups.items)
     (rows : c.rows.items ≡ b.rows.items)

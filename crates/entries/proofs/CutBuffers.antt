@@ -3,7 +3,7 @@ use Rattle.std.specs.Prelude.{◌≡◌, ℕ, suc, ◌≤◌, Bool, true, false,
 use Rattle.std.proofs.Common.{◌∙◌, ap, sym, subst, arith, append-nil}
 use Rattle.std.proofs.lemmas.List.{length-take-le}
 use Rattle.std.proofs.lemmas.Option.{slice_get-get_or}
-use Rattle.entries.specs.declared.statement_record.Record.{Record}
+use Rattle.entries.specs.declared.statement_record.StatementRecord.{StatementRecord}
 use Rattle.entries.specs.declared.statement_record.Buffers.{Buffers}
 use Rattle.entries.specs.declared.sizes.Sizes.{Sizes}
 use Rattle.entries.specs.Stored.Records.{Place, no_row, hypotheses_by, groups_by, hypotheses_at, groups_at, place_by, place_of, places_of, end_of, entry_of, sizes_of, start_of, IsWithin, ArePacked, Grows, Begins}
@@ -13,21 +13,21 @@ use Rattle.entries.proofs.StatementRecordLemmas.{rows-of, rows_after, rows_from-
 
 -- ---- where a statement begins
 
-start-hypotheses : (b : Buffers) (r : Record) (end : ℕ) → rows_after r.has_row r.row ≤ length b.rows.items → (place_of b r end).hypotheses_from ≡ hypotheses_at b r.row
+start-hypotheses : (b : Buffers) (r : StatementRecord) (end : ℕ) → rows_after r.has_row r.row ≤ length b.rows.items → (place_of b r end).hypotheses_from ≡ hypotheses_at b r.row
 start-hypotheses b r end = by r.has_row
   where
     by : (t : Bool) → rows_after t r.row ≤ length b.rows.items → (place_by t b r end).hypotheses_from ≡ hypotheses_at b r.row
     by true le = sym (ap (hypotheses_by (length b.hypotheses.items)) (slice_get-get_or b.rows.items r.row no_row (omega (arith, le))))
     by false le = refl
 
-start-groups : (b : Buffers) (r : Record) (end : ℕ) → rows_after r.has_row r.row ≤ length b.rows.items → (place_of b r end).groups_from ≡ groups_at b r.row
+start-groups : (b : Buffers) (r : StatementRecord) (end : ℕ) → rows_after r.has_row r.row ≤ length b.rows.items → (place_of b r end).groups_from ≡ groups_at b r.row
 start-groups b r end = by r.has_row
   where
     by : (t : Bool) → rows_after t r.row ≤ length b.rows.items → (place_by t b r end).groups_from ≡ groups_at b r.row
     by true le = sym (ap (groups_by (length b.groups.items)) (slice_get-get_or b.rows.items r.row no_row (omega (arith, le))))
     by false le = refl
 
-module _ (b c : Buffers) (rs : List Record) (n : ℕ) (r : Record) (s : Sizes) (p : ArePacked c (places_of c rs)) (here : slice_get rs n ≡ Some r)
+module _ (b c : Buffers) (rs : List StatementRecord) (n : ℕ) (r : StatementRecord) (s : Sizes) (p : ArePacked c (places_of c rs)) (here : slice_get rs n ≡ Some r)
     (numbers : s.numbers ≡ r.from) (hypotheses : s.hypotheses ≡ hypotheses_at c r.row) (groups : s.groups ≡ groups_at c r.row) (rows : s.rows ≡ r.row) (k : IsCut b c s) where
   abbrev end : ℕ
   end = end_of c (drop (suc n) rs)
@@ -98,7 +98,7 @@ module _ (b c : Buffers) (rs : List Record) (n : ℕ) (r : Record) (s : Sizes) (
 
 -- ---- back to what it was
 
-module _ (b m c : Buffers) (rs qs : List Record) (n : Sizes) (p : ArePacked b (places_of b rs)) (g : Grows b m) (k : IsCut c m n)
+module _ (b m c : Buffers) (rs qs : List StatementRecord) (n : Sizes) (p : ArePacked b (places_of b rs)) (g : Grows b m) (k : IsCut c m n)
     (numbers : n.numbers ≡ length b.numbers.items) (hypotheses : n.hypotheses ≡ length b.hypotheses.items) (groups : n.groups ≡ length b.groups.items) (rows : n.rows ≡ length b.rows.items) (same : qs ≡ rs) where
   back-numbers : c.numbers.items ≡ b.numbers.items
   back-numbers = k.numbers ∙ take-extends b.numbers.items m.numbers.items n.numbers numbers g.numbers

@@ -3,8 +3,8 @@ use Rattle.std.specs.Prelude.{◌≡◌, ℕ, suc, ◌+◌, ◌-◌, ◌<◌, �
 use Rattle.std.proofs.Common.{◌∙◌, ap, sym, subst, arith}
 use Rattle.std.proofs.lemmas.List.{length-map}
 use Rattle.std.proofs.lemmas.Option.{slice_get-map, same_Some}
-use Rattle.entries.specs.declared.statement_record.Record.{Record}
-use Rattle.entries.specs.declared.statement_record.Row.{Row}
+use Rattle.entries.specs.declared.statement_record.StatementRecord.{StatementRecord}
+use Rattle.entries.specs.declared.statement_record.AssertionRow.{AssertionRow}
 use Rattle.entries.specs.declared.statement_record.Buffers.{Buffers}
 use Rattle.entries.specs.Entries.{Entry, Assertion}
 use Rattle.entries.specs.Stored.Spans.{AreSpansIn, cut}
@@ -13,14 +13,14 @@ use Rattle.entries.proofs.BufferPlaceLemmas.{within-at, groups-at}
 use Rattle.entries.proofs.StatementRecordLemmas.{rows-of, rows_after, places-get, places-length, end-by}
 use Rattle.entries.proofs.AddedStatement.{range-none}
 
-pub index-in : (b : Buffers) (rs : List Record) (es : List Entry) (i : ℕ) → map (entry_of b) (places_of b rs) ≡ es → i < length es → i < length rs
+pub index-in : (b : Buffers) (rs : List StatementRecord) (es : List Entry) (i : ℕ) → map (entry_of b) (places_of b rs) ≡ es → i < length es → i < length rs
 index-in b rs es i v h = let n = length-map (places_of b rs) (entry_of b) in let m = places-length b rs in let l = ap length v in omega arith
 
-pub is-entry : (b : Buffers) (rs : List Record) (es : List Entry) (i : ℕ) (r : Record) → map (entry_of b) (places_of b rs) ≡ es → slice_get rs i ≡ Some r → slice_get es i ≡ Some (entry_of b (place_of b r (end_of b (drop (suc i) rs))))
+pub is-entry : (b : Buffers) (rs : List StatementRecord) (es : List Entry) (i : ℕ) (r : StatementRecord) → map (entry_of b) (places_of b rs) ≡ es → slice_get rs i ≡ Some r → slice_get es i ≡ Some (entry_of b (place_of b r (end_of b (drop (suc i) rs))))
 is-entry b rs es i r v e = ap (λ xs. slice_get xs i) (sym v) ∙ (slice_get-map (entry_of b) (places_of b rs) i ∙ ap (option_map (entry_of b)) (places-get b rs i r e))
 
 -- what the row of a statement says: of a statement that has none, that its parts are empty
-pub record IsReading (b : Buffers) (w : Row) (a : Assertion) : Type 0 where
+pub record IsReading (b : Buffers) (w : AssertionRow) (a : Assertion) : Type 0 where
   pub whole : w.whole ≡ a.whole
   pub heads_in : w.symbols ≤ w.heads
   pub places_in : w.heads ≤ w.places
@@ -35,7 +35,7 @@ pub record IsReading (b : Buffers) (w : Row) (a : Assertion) : Type 0 where
   pub groups : cut (slice_range b.numbers.items w.heads w.places) (slice_range b.groups.items w.groups_from w.groups) ≡ a.groups
   pub grouped : AreSpansIn (w.places - w.heads) (slice_range b.groups.items w.groups_from w.groups)
 
-reads-by : (t : Bool) (b : Buffers) (r : Record) (end : ℕ) → IsWithin (sizes_of b) (place_by t b r end) → HasGroups b (place_by t b r end) → IsReading b (row_by t r.whole b.rows.items r.row) (entry_of b (place_by t b r end)).assertion
+reads-by : (t : Bool) (b : Buffers) (r : StatementRecord) (end : ℕ) → IsWithin (sizes_of b) (place_by t b r end) → HasGroups b (place_by t b r end) → IsReading b (row_by t r.whole b.rows.items r.row) (entry_of b (place_by t b r end)).assertion
 reads-by true b r end w g = record {
   whole = refl;
   heads_in = w.heads;
@@ -67,7 +67,7 @@ reads-by false b r end w g = record {
   grouped = tt;
 }
 
-module _ (b : Buffers) (rs : List Record) (es : List Entry) (i : ℕ) (r : Record) (p : ArePacked b (places_of b rs)) (v : map (entry_of b) (places_of b rs) ≡ es) (here : slice_get rs i ≡ Some r) where
+module _ (b : Buffers) (rs : List StatementRecord) (es : List Entry) (i : ℕ) (r : StatementRecord) (p : ArePacked b (places_of b rs)) (v : map (entry_of b) (places_of b rs) ≡ es) (here : slice_get rs i ≡ Some r) where
   abbrev place : Place
   place = place_of b r (end_of b (drop (suc i) rs))
 

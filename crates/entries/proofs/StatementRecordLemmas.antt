@@ -2,8 +2,8 @@
 use Rattle.std.specs.Prelude.{◌≡◌, ℕ, zero, suc, ◌+◌, ◌<◌, ◌≤◌, Bool, true, false, List, [], ◌∷◌, ◌++◌, length, take, drop, slice_get, get_or, Some, None, refl, ◌⊎◌}
 use Rattle.std.proofs.Common.{◌∙◌, ap, sym, arith, inl, inr}
 use Rattle.std.proofs.lemmas.Option.{slice_get-get_or, get_or_from_slice_get, slice_get_cases, same_Some}
-use Rattle.entries.specs.declared.statement_record.Record.{Record}
-use Rattle.entries.specs.declared.statement_record.Row.{Row}
+use Rattle.entries.specs.declared.statement_record.StatementRecord.{StatementRecord}
+use Rattle.entries.specs.declared.statement_record.AssertionRow.{AssertionRow}
 use Rattle.entries.specs.declared.statement_record.Buffers.{Buffers}
 use Rattle.entries.specs.Stored.Spans.{Extends}
 use Rattle.entries.specs.Stored.Records.{head_of, no_row, hypotheses_by, groups_by, hypotheses_at, groups_at, row_place, plain_place, place_by, place_of, end_of, from_by, places_of, sizes_of, AreWithin, Begins}
@@ -15,28 +15,28 @@ abbrev pub rows_after : Bool → ℕ → ℕ
 rows_after true k = k + 1
 rows_after false k = k
 
-pub rows-of : (b : Buffers) (r : Record) (end : ℕ) → (place_of b r end).rows ≡ rows_after r.has_row r.row
+pub rows-of : (b : Buffers) (r : StatementRecord) (end : ℕ) → (place_of b r end).rows ≡ rows_after r.has_row r.row
 rows-of b r end = by r.has_row
   where
     by : (t : Bool) → (place_by t b r end).rows ≡ rows_after t r.row
     by true = refl
     by false = refl
 
-pub rows_from-of : (b : Buffers) (r : Record) (end : ℕ) → (place_of b r end).rows_from ≡ r.row
+pub rows_from-of : (b : Buffers) (r : StatementRecord) (end : ℕ) → (place_of b r end).rows_from ≡ r.row
 rows_from-of b r end = by r.has_row
   where
     by : (t : Bool) → (place_by t b r end).rows_from ≡ r.row
     by true = refl
     by false = refl
 
-pub from-of : (b : Buffers) (r : Record) (end : ℕ) → (place_of b r end).from ≡ r.from
+pub from-of : (b : Buffers) (r : StatementRecord) (end : ℕ) → (place_of b r end).from ≡ r.from
 from-of b r end = by r.has_row
   where
     by : (t : Bool) → (place_by t b r end).from ≡ r.from
     by true = refl
     by false = refl
 
-pub head-of : (b : Buffers) (r : Record) (end : ℕ) → (place_of b r end).head ≡ head_of r
+pub head-of : (b : Buffers) (r : StatementRecord) (end : ℕ) → (place_of b r end).head ≡ head_of r
 head-of b r end = by r.has_row
   where
     by : (t : Bool) → (place_by t b r end).head ≡ head_of r
@@ -61,7 +61,7 @@ get-extends xs ys k x h e = ap (λ zs. slice_get zs k) h.1 ∙ get-more xs h.0 k
 pub hypotheses-same : (b c : Buffers) (k : ℕ) → Extends b.rows.items c.rows.items → Begins b c → k ≤ length b.rows.items → hypotheses_at c k ≡ hypotheses_at b k
 hypotheses-same b c k g s le = by (slice_get_cases b.rows.items k).1
   where
-    by : ((w : Row) × (k < length b.rows.items) × (slice_get b.rows.items k ≡ Some w) × (get_or b.rows.items k w ≡ w)) ⊎ ((length b.rows.items ≤ k) × (slice_get b.rows.items k ≡ None)) → hypotheses_at c k ≡ hypotheses_at b k
+    by : ((w : AssertionRow) × (k < length b.rows.items) × (slice_get b.rows.items k ≡ Some w) × (get_or b.rows.items k w ≡ w)) ⊎ ((length b.rows.items ≤ k) × (slice_get b.rows.items k ≡ None)) → hypotheses_at c k ≡ hypotheses_at b k
     by (inl p) = ap (hypotheses_by (length c.hypotheses.items)) (get-extends b.rows.items c.rows.items k p.0 g p.2) ∙ sym (ap (hypotheses_by (length b.hypotheses.items)) p.2)
     by (inr p) =
         let e : k ≡ length b.rows.items = omega (arith, p.0, le) in
@@ -70,13 +70,13 @@ hypotheses-same b c k g s le = by (slice_get_cases b.rows.items k).1
 pub groups-same : (b c : Buffers) (k : ℕ) → Extends b.rows.items c.rows.items → Begins b c → k ≤ length b.rows.items → groups_at c k ≡ groups_at b k
 groups-same b c k g s le = by (slice_get_cases b.rows.items k).1
   where
-    by : ((w : Row) × (k < length b.rows.items) × (slice_get b.rows.items k ≡ Some w) × (get_or b.rows.items k w ≡ w)) ⊎ ((length b.rows.items ≤ k) × (slice_get b.rows.items k ≡ None)) → groups_at c k ≡ groups_at b k
+    by : ((w : AssertionRow) × (k < length b.rows.items) × (slice_get b.rows.items k ≡ Some w) × (get_or b.rows.items k w ≡ w)) ⊎ ((length b.rows.items ≤ k) × (slice_get b.rows.items k ≡ None)) → groups_at c k ≡ groups_at b k
     by (inl p) = ap (groups_by (length c.groups.items)) (get-extends b.rows.items c.rows.items k p.0 g p.2) ∙ sym (ap (groups_by (length b.groups.items)) p.2)
     by (inr p) =
         let e : k ≡ length b.rows.items = omega (arith, p.0, le) in
         ap (groups_at c) e ∙ (s.groups ∙ sym (ap (groups_by (length b.groups.items)) p.1))
 
-pub place-same : (b c : Buffers) (r : Record) (end : ℕ) → Extends b.rows.items c.rows.items → Begins b c → rows_after r.has_row r.row ≤ length b.rows.items → place_of c r end ≡ place_of b r end
+pub place-same : (b c : Buffers) (r : StatementRecord) (end : ℕ) → Extends b.rows.items c.rows.items → Begins b c → rows_after r.has_row r.row ≤ length b.rows.items → place_of c r end ≡ place_of b r end
 place-same b c r end g s = by r.has_row
   where
     by : (t : Bool) → rows_after t r.row ≤ length b.rows.items → place_by t c r end ≡ place_by t b r end
@@ -88,23 +88,23 @@ place-same b c r end g s = by r.has_row
 
 -- ---- all places
 
-pub places-length : (b : Buffers) (rs : List Record) → length (places_of b rs) ≡ length rs
+pub places-length : (b : Buffers) (rs : List StatementRecord) → length (places_of b rs) ≡ length rs
 places-length b [] = refl
 places-length b (r ∷ rs) = ap suc (places-length b rs)
 
-pub places-get : (b : Buffers) (rs : List Record) (i : ℕ) (r : Record) → slice_get rs i ≡ Some r → slice_get (places_of b rs) i ≡ Some (place_of b r (end_of b (drop (suc i) rs)))
+pub places-get : (b : Buffers) (rs : List StatementRecord) (i : ℕ) (r : StatementRecord) → slice_get rs i ≡ Some r → slice_get (places_of b rs) i ≡ Some (place_of b r (end_of b (drop (suc i) rs)))
 places-get b [] zero r e = absurd (cc)
 places-get b [] (suc i) r e = absurd (cc)
-places-get b (q ∷ rs) zero r e = ap (λ (x : Record). Some (place_of b x (end_of b rs))) (same_Some _ _ e)
+places-get b (q ∷ rs) zero r e = ap (λ (x : StatementRecord). Some (place_of b x (end_of b rs))) (same_Some _ _ e)
 places-get b (q ∷ rs) (suc i) r e = places-get b rs i r e
 
-pub end-by : (b : Buffers) (k : ℕ) (rs : List Record) → end_of b (drop k rs) ≡ from_by (length b.numbers.items) (slice_get rs k)
+pub end-by : (b : Buffers) (k : ℕ) (rs : List StatementRecord) → end_of b (drop k rs) ≡ from_by (length b.numbers.items) (slice_get rs k)
 end-by b zero [] = refl
 end-by b zero (r ∷ rs) = refl
 end-by b (suc k) [] = refl
 end-by b (suc k) (r ∷ rs) = end-by b k rs
 
-pub places-push : (b c : Buffers) (rs : List Record) (s : Record) → Extends b.rows.items c.rows.items → Begins b c → s.from ≡ length b.numbers.items → AreWithin (sizes_of b) (places_of b rs) → places_of c (rs ++ s ∷ []) ≡ places_of b rs ++ place_of c s (length c.numbers.items) ∷ []
+pub places-push : (b c : Buffers) (rs : List StatementRecord) (s : StatementRecord) → Extends b.rows.items c.rows.items → Begins b c → s.from ≡ length b.numbers.items → AreWithin (sizes_of b) (places_of b rs) → places_of c (rs ++ s ∷ []) ≡ places_of b rs ++ place_of c s (length c.numbers.items) ∷ []
 places-push b c [] s g st f w = refl
 places-push b c (r ∷ rs) s g st f w =
     let le = w.0.rows_end in
@@ -112,11 +112,11 @@ places-push b c (r ∷ rs) s g st f w =
     let p = ap (place_of c r) (end-push rs) ∙ place-same b c r (end_of b rs) g st (omega (arith, k, le)) in
     ap (λ x. x ∷ places_of c (rs ++ s ∷ [])) p ∙ ap (λ xs. place_of b r (end_of b rs) ∷ xs) (places-push b c rs s g st f w.1)
   where
-    end-push : (qs : List Record) → end_of c (qs ++ s ∷ []) ≡ end_of b qs
+    end-push : (qs : List StatementRecord) → end_of c (qs ++ s ∷ []) ≡ end_of b qs
     end-push [] = f
     end-push (q ∷ qs) = refl
 
-pub places-take : (b c : Buffers) (n : ℕ) (rs : List Record) (r : Record) → Extends b.rows.items c.rows.items → Begins b c → slice_get rs n ≡ Some r → length b.numbers.items ≡ r.from → AreWithin (sizes_of b) (take n (places_of c rs)) → places_of b (take n rs) ≡ take n (places_of c rs)
+pub places-take : (b c : Buffers) (n : ℕ) (rs : List StatementRecord) (r : StatementRecord) → Extends b.rows.items c.rows.items → Begins b c → slice_get rs n ≡ Some r → length b.numbers.items ≡ r.from → AreWithin (sizes_of b) (take n (places_of c rs)) → places_of b (take n rs) ≡ take n (places_of c rs)
 places-take b c zero rs r g st h f w = refl
 places-take b c (suc n) [] r g st h f w = absurd (cc)
 places-take b c (suc n) (q ∷ rs) r g st h f w =
@@ -125,19 +125,19 @@ places-take b c (suc n) (q ∷ rs) r g st h f w =
     let p = ap (place_of b q) (end-take n rs h) ∙ sym (place-same b c q (end_of c rs) g st (omega (arith, k, le))) in
     ap (λ x. x ∷ places_of b (take n rs)) p ∙ ap (λ xs. place_of c q (end_of c rs) ∷ xs) (places-take b c n rs r g st h f w.1)
   where
-    end-take : (m : ℕ) (qs : List Record) → slice_get qs m ≡ Some r → end_of b (take m qs) ≡ end_of c qs
+    end-take : (m : ℕ) (qs : List StatementRecord) → slice_get qs m ≡ Some r → end_of b (take m qs) ≡ end_of c qs
     end-take zero [] e = absurd (cc)
-    end-take zero (x ∷ qs) e = f ∙ ap (λ (y : Record). y.from) (sym (same_Some _ _ e))
+    end-take zero (x ∷ qs) e = f ∙ ap (λ (y : StatementRecord). y.from) (sym (same_Some _ _ e))
     end-take (suc m) [] e = absurd (cc)
     end-take (suc m) (x ∷ qs) e = refl
 
 -- the same lists have the same places
-pub places-equal : (b c : Buffers) (rs : List Record) → c.numbers.items ≡ b.numbers.items → c.hypotheses.items ≡ b.hypotheses.items → c.groups.items ≡ b.groups.items → c.rows.items ≡ b.rows.items → places_of c rs ≡ places_of b rs
+pub places-equal : (b c : Buffers) (rs : List StatementRecord) → c.numbers.items ≡ b.numbers.items → c.hypotheses.items ≡ b.hypotheses.items → c.groups.items ≡ b.groups.items → c.rows.items ≡ b.rows.items → places_of c rs ≡ places_of b rs
 places-equal b c [] n h k w = refl
 places-equal b c (r ∷ rs) n h k w =
     ap (λ x. x ∷ places_of c rs) (ap (place_of c r) (end-equal rs) ∙ place r.has_row) ∙ ap (λ xs. place_of b r (end_of b rs) ∷ xs) (places-equal b c rs n h k w)
   where
-    end-equal : (qs : List Record) → end_of c qs ≡ end_of b qs
+    end-equal : (qs : List StatementRecord) → end_of c qs ≡ end_of b qs
     end-equal [] = ap length n
     end-equal (q ∷ qs) = refl
 

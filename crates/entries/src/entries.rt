@@ -11,7 +11,9 @@ use crate::groups::Groups;
 use crate::head::Head;
 use crate::parts::AssertionParts;
 use crate::sizes::{cut, sizes_before, sizes_now};
-use crate::statement_record::{Buffers, Record, Row, record_of, row_of, symbols_end};
+use crate::statement_record::{
+    AssertionRow, Buffers, StatementRecord, record_of, row_of, symbols_end,
+};
 use std::alloc::{AllocError, Global};
 use std::marker::Model;
 
@@ -21,7 +23,7 @@ use std::marker::Model;
 /// hypotheses or groups has a row beside.
 #[derive(Drop)]
 pub struct Entries {
-    records: Vec<Record>,
+    records: Vec<StatementRecord>,
     buffers: Buffers,
 }
 
@@ -207,7 +209,7 @@ fn is_partless(parts: &AssertionParts<'_>) -> bool
 
 /// Adds a statement's parts behind the others, with their row, and its record.
 fn add(
-    records: &mut Vec<Record>,
+    records: &mut Vec<StatementRecord>,
     buffers: &mut Buffers,
     head: Head,
     parts: &AssertionParts<'_>,
@@ -227,7 +229,7 @@ fn add(
 
 /// Adds a statement that has no parts of an assertion, and its record.
 fn add_plain(
-    records: &mut Vec<Record>,
+    records: &mut Vec<StatementRecord>,
     buffers: &mut Buffers,
     head: Head,
     codes: &[u32],
@@ -257,7 +259,7 @@ fn add_last<T: Copy>(items: &mut Vec<T>, last: T) -> Result<(), AllocError>
 }
 
 /// Adds the parts of an assertion behind the others, and tells where they stand.
-fn add_parts(buffers: &mut Buffers, parts: &AssertionParts<'_>) -> Result<Row, AllocError>
+fn add_parts(buffers: &mut Buffers, parts: &AssertionParts<'_>) -> Result<AssertionRow, AllocError>
     requires shaped { AreShapedParts parts.now }
     requires paired { length buffers.old.asked.items ≡ length buffers.old.hypotheses.items }
     ensures added { IfOk result (λ w. IsRowOf buffers.old buffers.new parts.now w) }
@@ -270,7 +272,7 @@ fn add_parts(buffers: &mut Buffers, parts: &AssertionParts<'_>) -> Result<Row, A
     append(&mut buffers.asked, parts.asked)?;
     let groups_from = place(buffers.groups.len())?;
     let groups = append(&mut buffers.groups, parts.groups)?;
-    Ok(Row {
+    Ok(AssertionRow {
         whole: parts.whole,
         symbols: ends.symbols,
         heads: ends.heads,

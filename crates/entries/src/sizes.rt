@@ -2,7 +2,7 @@
 ghost use Rattle.std.specs.Prelude.{◌≡◌, take};
 ghost use Rattle.entries.specs.Stored.Records.{sizes_of, hypotheses_at, groups_at};
 
-use crate::statement_record::{Buffers, Record};
+use crate::statement_record::{Buffers, StatementRecord};
 
 /// How many items the buffers have.
 #[derive(Clone, Copy, Drop)]
@@ -26,7 +26,7 @@ pub fn sizes_now(buffers: &Buffers) -> Sizes
 }
 
 /// How many they had before a statement came.
-pub fn sizes_before(buffers: &Buffers, kept: Record) -> Sizes
+pub fn sizes_before(buffers: &Buffers, kept: StatementRecord) -> Sizes
     ensures numbers { result.numbers ≡ kept.from }
     ensures hypotheses { result.hypotheses ≡ hypotheses_at buffers.now kept.row }
     ensures groups { result.groups ≡ groups_at buffers.now kept.row }

@@ -11,7 +11,7 @@ use crate::links::Links;
 /// A statement: what is in its head, and where its numbers begin. They end where those of the next statement begin.
 /// A statement that has hypotheses or groups has a row beside.
 #[derive(Clone, Copy, Drop)]
-pub struct Record {
+pub struct StatementRecord {
     pub kind: Kind,
     pub has_row: bool,
     /// Of a statement without a row: whether its parts, of which there are none, are whole.
@@ -27,7 +27,7 @@ pub struct Record {
 /// Where the parts of an assertion stand. Its symbols, the heads of its hypotheses and its groups' variables stand one
 /// behind the other, each part up to its end.
 #[derive(Clone, Copy, Drop)]
-pub struct Row {
+pub struct AssertionRow {
     pub whole: bool,
     pub symbols: u32,
     pub heads: u32,
@@ -47,11 +47,11 @@ pub struct Buffers {
     pub asked: Vec<Hypothesis>,
     pub groups: Vec<BufferPart>,
     /// Where they stand, of each assertion.
-    pub rows: Vec<Row>,
+    pub rows: Vec<AssertionRow>,
 }
 
 /// The row of a statement.
-pub fn row_of(rows: &[Row], kept: Record) -> Row
+pub fn row_of(rows: &[AssertionRow], kept: StatementRecord) -> AssertionRow
     requires { kept.has_row ≡ true → kept.row < length rows.now }
     ensures { result ≡ own_row rows.now kept }
 {
@@ -63,10 +63,10 @@ pub fn row_of(rows: &[Row], kept: Record) -> Row
 }
 
 /// What a row would say of a statement that has no parts.
-fn rowless(whole: bool) -> Row
+fn rowless(whole: bool) -> AssertionRow
     ensures { result ≡ rowless whole }
 {
-    Row {
+    AssertionRow {
         whole,
         symbols: 0,
         heads: 0,
@@ -79,14 +79,14 @@ fn rowless(whole: bool) -> Row
 }
 
 /// The record of a statement with this head.
-pub fn record_of(head: Head, has_row: bool, whole: bool, from: u32, row: u32) -> Record
+pub fn record_of(head: Head, has_row: bool, whole: bool, from: u32, row: u32) -> StatementRecord
     ensures head { head_of result ≡ head }
     ensures has_row { result.has_row ≡ has_row }
     ensures whole { result.whole ≡ whole }
     ensures from { result.from ≡ from }
     ensures row { result.row ≡ row }
 {
-    Record {
+    StatementRecord {
         kind: head.kind,
         has_row,
         whole,
@@ -100,10 +100,10 @@ pub fn record_of(head: Head, has_row: bool, whole: bool, from: u32, row: u32) ->
 
 /// Where the symbols of a statement end: as its row says, or else where the numbers of the next one begin, or all end.
 pub fn symbols_end(
-    rows: &[Row],
-    records: &[Record],
+    rows: &[AssertionRow],
+    records: &[StatementRecord],
     index: usize,
-    kept: Record,
+    kept: StatementRecord,
     end: usize,
 ) -> usize
     requires place { index < length records.now }

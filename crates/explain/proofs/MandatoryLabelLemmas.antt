@@ -12,7 +12,7 @@ use Rattle.scope.proofs.StatementPlaces.{stands-within}
 use Rattle.frame.specs.FrameOf.{hypotheses}
 use Rattle.verify.specs.Proves.{mandatory_labels, label_or_none}
 use Rattle.verify.specs.Right.{IsProvable}
-use Rattle.verify.specs.declared.label_table.Entry.TheVariants.{Hypothesis, Nothing}
+use Rattle.verify.specs.declared.label_table.LabelEntry.TheVariants.{Hypothesis, Nothing}
 use Rattle.verify.specs.LabelTable.{IsEntry}
 use Rattle.verify.proofs.MandatoryEntries.{mandatory-entries}
 

@@ -1,7 +1,7 @@
 //! The commands on a database: `outline`, and the questions on a text that is applied to an empty library.
 use crate::input_output::{NO_MEMORY, ReadFailure, print, print_no_memory, read_text};
 use crate::printed_refusal::{print_outline_reason, print_refusal};
-use crate::proofs::{Wanted, print_proof};
+use crate::proofs::{WantedSteps, print_proof};
 use bytes::Bytes;
 use commands::Question;
 use extract::{ExtractFault, extract};
@@ -121,7 +121,7 @@ fn print_answer<O: Write>(
             essential,
             form,
         } => {
-            let wanted = Wanted {
+            let wanted = WantedSteps {
                 label: label.as_bytes(),
                 is_essential: *essential,
                 form: *form,

@@ -14,7 +14,7 @@ use steps::{ProofTable, essential_table, proof_table};
 
 /// What is wanted of a proof.
 #[derive(Drop)]
-pub struct Wanted<'a> {
+pub struct WantedSteps<'a> {
     pub label: &'a [u8],
     /// The essential steps alone.
     pub is_essential: bool,
@@ -55,7 +55,7 @@ impl From<WriteFault> for ProofFault {
 pub fn print_proof<O: Write>(
     alloc: Global,
     library: &Library,
-    wanted: &Wanted<'_>,
+    wanted: &WantedSteps<'_>,
     output: &mut O,
 ) -> u8 {
     match write_proof(alloc, library, wanted, output) {
@@ -69,7 +69,7 @@ pub fn print_proof<O: Write>(
 fn write_proof<O: Write>(
     alloc: Global,
     library: &Library,
-    wanted: &Wanted<'_>,
+    wanted: &WantedSteps<'_>,
     output: &mut O,
 ) -> Result<(), ProofFault> {
     let (at, items) = library.items(wanted.label)?;

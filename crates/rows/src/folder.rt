@@ -1,7 +1,7 @@
 //! The rows of all files, one after another.
 use crate::files::{row_files, text_of};
 use crate::judging::judge;
-use cases::{Row, Unread, parse_rows};
+use cases::{Row, UnreadRows, parse_rows};
 use std::io;
 use std::rt::Files;
 use std::sync::Wait;
@@ -42,11 +42,11 @@ fn run_file<
                 run_row(rt, name, &row, tally)?;
             }
         }
-        Err(Unread::Line(line)) => {
+        Err(UnreadRows::Line(line)) => {
             tally.failed = tally.failed.saturating_add(1);
             println!(rt; "{name}: no line of a row: {line}")?;
         }
-        Err(Unread::Memory) => return Err(io::Error::from(io::ErrorKind::OutOfMemory)),
+        Err(UnreadRows::Memory) => return Err(io::Error::from(io::ErrorKind::OutOfMemory)),
     }
     Ok(())
 }

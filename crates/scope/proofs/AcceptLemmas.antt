@@ -17,9 +17,9 @@ use Rattle.scope.specs.Numbering.{names_of, can_push}
 use Rattle.scope.specs.Kinds.{Declared, declared_names, kind_in, with_kind, with_kinds, AreNew, is_label_kind, IsLabelled}
 use Rattle.scope.specs.Stored.Stacks.{IsKept}
 use Rattle.scope.specs.Symbols.{symbols_of, symbols_by}
-use Rattle.scope.specs.declared.stack_heights.Sizes.{Sizes}
-use Rattle.scope.specs.declared.numbering.Kind.{Kind}
-use Rattle.scope.specs.declared.numbering.Kind.TheVariants.{Label, Constant, Variable}
+use Rattle.scope.specs.declared.stack_heights.StackHeights.{StackHeights}
+use Rattle.scope.specs.declared.numbering.NameKind.{NameKind}
+use Rattle.scope.specs.declared.numbering.NameKind.TheVariants.{Label, Constant, Variable}
 use Rattle.names.proofs.AddedNames.{with_names-more, numbers_in-more, has-more, has-with_names, number_in-more}
 use Rattle.names.proofs.CodesLemmas.{same_name, name_same}
 use Rattle.scope.proofs.NamesLemmas.{declared_names-with_kinds, active-named, kind_in-append, or_kind}
@@ -30,20 +30,20 @@ use Rattle.scope.proofs.DeclaredLemmas.{tells-nothing, tells-constants, tells-va
 use Rattle.scope.proofs.GoingBackLemmas.{all-has, apart_from, fresh-none, inactive-free, inactive-not, can_push-names}
 use Rattle.scope.proofs.LegalLemmas.{legal-constants, legal-variables, legal-label, legal-float}
 
-pub same-kept : {S S' M : Database} {names names' : Declared} {vs vs' ts ts' : List ℕ} {blocks blocks' : List Sizes} {mark : Sizes} {m : ℕ} → S ≡ S' → names ≡ names' → vs ≡ vs' → ts ≡ ts' → blocks ≡ blocks'
+pub same-kept : {S S' M : Database} {names names' : Declared} {vs vs' ts ts' : List ℕ} {blocks blocks' : List StackHeights} {mark : StackHeights} {m : ℕ} → S ≡ S' → names ≡ names' → vs ≡ vs' → ts ≡ ts' → blocks ≡ blocks'
     → IsKept S M names vs ts blocks mark m → IsKept S' M names' vs' ts' blocks' mark m
 same-kept {S' = S'} {M = M} {names = names} {names' = names'} {vs = vs} {vs' = vs'} {ts = ts} {ts' = ts'} {blocks = blocks} {blocks' = blocks'} {mark = mark} {m = m} a b c d e k =
-    subst (λ (x : List Sizes). IsKept S' M names' vs' ts' x mark m) e (subst (λ (x : List ℕ). IsKept S' M names' vs' x blocks mark m) d (subst (λ (x : List ℕ). IsKept S' M names' x ts blocks mark m) c
+    subst (λ (x : List StackHeights). IsKept S' M names' vs' ts' x mark m) e (subst (λ (x : List ℕ). IsKept S' M names' vs' x blocks mark m) d (subst (λ (x : List ℕ). IsKept S' M names' x ts blocks mark m) c
     (subst (λ (x : Declared). IsKept S' M x vs ts blocks mark m) b (subst (λ (x : Database). IsKept x M names vs ts blocks mark m) a k))))
 
-with_kind-more : (names : Declared) (kind : Kind) (x : Name) → (more : Declared) × (with_kind names kind x ≡ names ++ more)
+with_kind-more : (names : Declared) (kind : NameKind) (x : Name) → (more : Declared) × (with_kind names kind x ≡ names ++ more)
 with_kind-more names kind x = by (is_some (kind_in names x))
   where
     by : (b : Bool) → (more : Declared) × (cond b names (names ++ (x, kind) ∷ []) ≡ names ++ more)
     by true = ([], sym (append-nil names))
     by false = ((x, kind) ∷ [], refl)
 
-pub with_kinds-more : (names : Declared) (kind : Kind) (xs : List Name) → (more : Declared) × (with_kinds names kind xs ≡ names ++ more)
+pub with_kinds-more : (names : Declared) (kind : NameKind) (xs : List Name) → (more : Declared) × (with_kinds names kind xs ≡ names ++ more)
 with_kinds-more names kind [] = ([], sym (append-nil names))
 with_kinds-more names kind (x ∷ xs) =
     let one = with_kind-more names kind x in
@@ -65,7 +65,7 @@ symbols-labelled (Prove label expr proof) l is = refl
 no_names : (names : List Name) → AreNamed names []
 no_names names x h = absurd (true≢false (sym h))
 
-module _ (S M : Database) (names : Declared) (vs ts : List ℕ) (blocks : List Sizes) (mark : Sizes) (m : ℕ) (k : IsKept S M names vs ts blocks mark m) where
+module _ (S M : Database) (names : Declared) (vs ts : List ℕ) (blocks : List StackHeights) (mark : StackHeights) (m : ℕ) (k : IsKept S M names vs ts blocks mark m) where
   pub accept-constants : (xs : List Name) → broken_rule S (Const xs) ≡ None → IsKept (S ++ Const xs ∷ []) M (with_kinds names Constant xs) vs ts blocks mark m
   accept-constants xs legal =
       let l = legal-constants S xs legal in
@@ -133,7 +133,7 @@ module _ (S M : Database) (names : Declared) (vs ts : List ℕ) (blocks : List S
       let N : Declared = with_kinds names Label (l ∷ []) in
       let more = with_kinds-more names Label (l ∷ []) in
       let known : has_name v (declared_names names) ≡ true = float-known l c v legal in
-      let longer : declared_names N ≡ declared_names names ++ declared_names more.0 = ap declared_names more.1 ∙ map-append (λ (p : Name × Kind). p.0) names more.0 in
+      let longer : declared_names N ≡ declared_names names ++ declared_names more.0 = ap declared_names more.1 ∙ map-append (λ (p : Name × NameKind). p.0) names more.0 in
       let number : number_in (declared_names N) v ≡ number_in (declared_names names) v = ap (λ ns. number_in ns v) longer ∙ number_in-more v (declared_names names) (declared_names more.0) known in
       same-kept refl refl (append-nil vs) (ap (λ n. ts ++ n ∷ []) number) refl
       (kept-more S M (Float l c v) names N vs ts blocks mark m refl refl more
@@ -182,11 +182,11 @@ pub ok_of : {A B : Type 0} {P : Type 0} (r : Result A B) → is_err r ≡ false 
 ok_of (Ok x) h p = p
 ok_of (Err e) h p = cc
 
-pub with_kind-new : (names : Declared) (kind : Kind) (x : Name) → kind_in names x ≡ None → with_kind names kind x ≡ names ++ (x, kind) ∷ []
+pub with_kind-new : (names : Declared) (kind : NameKind) (x : Name) → kind_in names x ≡ None → with_kind names kind x ≡ names ++ (x, kind) ∷ []
 with_kind-new names kind x h = ap (λ k. cond (is_some k) names (names ++ (x, kind) ∷ [])) h
 
 -- of new names those behind the first are new once it is declared
-pub new-rest : (names : Declared) (kind : Kind) (x : Name) (xs : List Name) → AreNew names (x ∷ xs) → AreNew (with_kind names kind x) xs
+pub new-rest : (names : Declared) (kind : NameKind) (x : Name) (xs : List Name) → AreNew names (x ∷ xs) → AreNew (with_kind names kind x) xs
 new-rest names kind x xs new =
     let apart = and_parts (not (has_name x xs)) (all_different xs) new.1 in (
       λ y h. ap (λ ns. kind_in ns y) (with_kind-new names kind x (new.0 x (ap (λ b. b || has_name x xs) (name_same x))))

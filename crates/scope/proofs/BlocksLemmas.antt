@@ -8,7 +8,7 @@ use Rattle.mm_read.specs.declared.stmt.Stmt.TheVariants.{Open}
 use Rattle.mm_read.specs.Statements.{Database}
 use Rattle.scope.specs.Active.{count, stays_open, active_from, is_open, is_close, is_closed}
 use Rattle.scope.specs.Stored.Stacks.{sizes_of, blocks_from}
-use Rattle.scope.specs.declared.stack_heights.Sizes.{Sizes}
+use Rattle.scope.specs.declared.stack_heights.StackHeights.{StackHeights}
 use Rattle.scope.specs.Laws.{has_open, before_open}
 use Rattle.scope.proofs.ActiveLemmas.{left_open, count-left_open, no_deficit}
 
@@ -19,7 +19,7 @@ blocks_from-append pre (p ∷ es) fs =
     ∙ (by (is_open p.1) (blocks_from (pre ++ p ∷ []) es) (blocks_from (pre ++ p ∷ [] ++ es) fs)
     ∙ ap (λ q. blocks_from pre (p ∷ es) ++ blocks_from q fs) (append_assoc pre (p ∷ []) es))
   where
-    by : (b : Bool) (xs ys : List Sizes) → cond b (sizes_of pre ∷ (xs ++ ys)) (xs ++ ys) ≡ cond b (sizes_of pre ∷ xs) xs ++ ys
+    by : (b : Bool) (xs ys : List StackHeights) → cond b (sizes_of pre ∷ (xs ++ ys)) (xs ++ ys) ≡ cond b (sizes_of pre ∷ xs) xs ++ ys
     by true xs ys = refl
     by false xs ys = refl
 
@@ -65,7 +65,7 @@ pub blocks-close : (pre es : List (ℕ × Stmt)) → has_open es ≡ true → bl
 blocks-close pre [] h = cc
 blocks-close pre (p ∷ es) h = by (has_open es) refl (is_open p.1) refl h (blocks-close (pre ++ p ∷ []) es)
   where
-    move : (b : Bool) (xs : List Sizes) (z z' : Sizes) → z ≡ z' → cond b (sizes_of pre ∷ (xs ++ z ∷ [])) (xs ++ z ∷ []) ≡ cond b (sizes_of pre ∷ xs) xs ++ z' ∷ []
+    move : (b : Bool) (xs : List StackHeights) (z z' : StackHeights) → z ≡ z' → cond b (sizes_of pre ∷ (xs ++ z ∷ [])) (xs ++ z ∷ []) ≡ cond b (sizes_of pre ∷ xs) xs ++ z' ∷ []
     move true xs z z' e = ap (λ y. sizes_of pre ∷ (xs ++ y ∷ [])) e
     move false xs z z' e = ap (λ y. xs ++ y ∷ []) e
 

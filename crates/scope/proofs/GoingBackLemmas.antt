@@ -16,8 +16,8 @@ use Rattle.names.specs.Codes.{numbers_in, number_in, AreNamed}
 use Rattle.scope.specs.Numbering.{names_of, can_push}
 use Rattle.scope.specs.Kinds.{Declared, declared_symbols, kind_in, TellsAll, is_label_kind, is_constant_kind}
 use Rattle.scope.specs.Stored.Stacks.{sizes_of, blocks_of, IsKept}
-use Rattle.scope.specs.declared.stack_heights.Sizes.{Sizes}
-use Rattle.scope.specs.declared.numbering.Kind.{Kind}
+use Rattle.scope.specs.declared.stack_heights.StackHeights.{StackHeights}
+use Rattle.scope.specs.declared.numbering.NameKind.{NameKind}
 use Rattle.scope.proofs.ActiveLemmas.{active_from-later, below-deficit, no_deficit, deficit, deficit-append, left_open}
 use Rattle.scope.proofs.BlocksLemmas.{length-blocks, closed-left}
 use Rattle.names.proofs.AddedNames.{numbers_in-more, has_name-append}
@@ -27,7 +27,7 @@ use Rattle.scope.proofs.SortsLemmas.{numbers-has, fresh-kind}
 
 -- ---- marking, and going back to the mark
 
-pub kept-mark : (S M : Database) (names : Declared) (vs ts : List ℕ) (blocks : List Sizes) (mark sizes : Sizes) (m n : ℕ) → is_closed S ≡ true → sizes ≡ sizes_of (active S) → n ≡ length names
+pub kept-mark : (S M : Database) (names : Declared) (vs ts : List ℕ) (blocks : List StackHeights) (mark sizes : StackHeights) (m n : ℕ) → is_closed S ≡ true → sizes ≡ sizes_of (active S) → n ≡ length names
     → IsKept S M names vs ts blocks mark m → IsKept S S names vs ts blocks sizes n
 kept-mark S M names vs ts blocks mark sizes m n closed height count k = record {
   named = k.named;
@@ -62,7 +62,7 @@ stack-back f S M T stack e below known is =
     ∙ (ap (numbers_in (names_of S)) (take_at A (flat_map f (active_from (1 + length M) T)) (length A) refl)
     ∙ (ap (λ ns. numbers_in ns A) (ap names_of e ∙ more.1) ∙ numbers_in-more (names_of M) more.0 A known))))
 
-pub kept-back : (S M : Database) (names : Declared) (vs ts : List ℕ) (blocks : List Sizes) (mark : Sizes) (m : ℕ) → IsKept S M names vs ts blocks mark m
+pub kept-back : (S M : Database) (names : Declared) (vs ts : List ℕ) (blocks : List StackHeights) (mark : StackHeights) (m : ℕ) → IsKept S M names vs ts blocks mark m
     → IsKept M M (take m names) (take mark.variables vs) (take mark.typed ts) [] mark m
 kept-back S M names vs ts blocks mark m k =
     let km = k.marked in
@@ -73,7 +73,7 @@ kept-back S M names vs ts blocks mark m k =
     let never : stays_open 0 M ≡ true = below-deficit 0 M (omega (arith, deficit-append M T (no_deficit T below), ap deficit e, no_deficit S k.never_below)) in
     let none : left_open M ≡ 0 = closed_none M never km.closed in
     record {
-      named = sym (take-map (λ (p : Name × Kind). p.0) m names) ∙ (ap (take m) (k.named ∙ (ap names_of e ∙ more.1)) ∙ (ap (λ i. take i (names_of M ++ more.0)) km.count ∙ take_at (names_of M) more.0 (length (names_of M)) refl));
+      named = sym (take-map (λ (p : Name × NameKind). p.0) m names) ∙ (ap (take m) (k.named ∙ (ap names_of e ∙ more.1)) ∙ (ap (λ i. take i (names_of M ++ more.0)) km.count ∙ take_at (names_of M) more.0 (length (names_of M)) refl));
       told = km.told;
       symbols = km.symbols;
       variables_are = ap (λ z. take z.variables vs) km.sizes ∙ stack-back (λ p. variables p.1) S M T vs e below (active-named M) k.variables_are;
@@ -114,7 +114,7 @@ all-has p x (y ∷ xs) h k = by (name_eq x y) refl (and_parts (p y) (list_all p 
 pub fresh-none : (S : Database) (names : Declared) (x : Name) → TellsAll S names → not (was_symbol S x || was_label S x) ≡ true → kind_in names x ≡ None
 fresh-none S names x told h = by (kind_in names x) (fresh-kind S x (kind_in names x) (told x) ∙ h)
   where
-    by : (k : Option Kind) → not (is_some k) ≡ true → k ≡ None
+    by : (k : Option NameKind) → not (is_some k) ≡ true → k ≡ None
     by None h = refl
     by (Some k) h = cc
 

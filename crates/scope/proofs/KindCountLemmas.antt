@@ -5,10 +5,10 @@ use Rattle.std.proofs.lemmas.List.{length-map}
 use Rattle.mm_lex.specs.Alphabet.{Name}
 use Rattle.scope.specs.Stored.KindCounts.{kinds_of, behind, AreCounted, count_behind}
 use Rattle.scope.specs.Kinds.{declared_symbols, symbols_before, with_their, is_symbol_kind}
-use Rattle.scope.specs.declared.numbering.Entry.{Entry}
-use Rattle.scope.specs.declared.numbering.Kind.{Kind}
+use Rattle.scope.specs.declared.numbering.CountedKind.{CountedKind}
+use Rattle.scope.specs.declared.numbering.NameKind.{NameKind}
 
-pub kinds-length : (names : List Name) (entries : List Entry) → length entries ≡ length names → length (kinds_of entries) ≡ length names
+pub kinds-length : (names : List Name) (entries : List CountedKind) → length entries ≡ length names → length (kinds_of entries) ≡ length names
 kinds-length names entries h = length-map entries (λ e. e.kind) ∙ h
 
 -- as many of each stay
@@ -20,18 +20,18 @@ take-same n (x ∷ xs) [] h = absurd (omega (arith, h))
 take-same zero (x ∷ xs) (y ∷ ys) h = refl
 take-same (suc n) (x ∷ xs) (y ∷ ys) h = ap suc (take-same n xs ys (omega (arith, h)))
 
-pub counted-push : (n : ℕ) (entries : List Entry) (e : Entry) → AreCounted n entries → e.before ≡ count_behind n entries → AreCounted n (entries ++ e ∷ [])
+pub counted-push : (n : ℕ) (entries : List CountedKind) (e : CountedKind) → AreCounted n entries → e.before ≡ count_behind n entries → AreCounted n (entries ++ e ∷ [])
 counted-push n [] e c h = (h, tt)
 counted-push n (d ∷ entries) e c h = (c.0, counted-push (behind d) entries e c.1 h)
 
-pub counted-take : (n i : ℕ) (entries : List Entry) → AreCounted n entries → AreCounted n (take i entries)
+pub counted-take : (n i : ℕ) (entries : List CountedKind) → AreCounted n entries → AreCounted n (take i entries)
 counted-take n zero [] c = tt
 counted-take n (suc i) [] c = tt
 counted-take n zero (e ∷ entries) c = tt
 counted-take n (suc i) (e ∷ entries) c = (c.0, counted-take (behind e) i entries c.1)
 
 -- there are no more symbols than names
-pub count-below : (n : ℕ) (entries : List Entry) → AreCounted n entries → count_behind n entries ≤ n + length entries
+pub count-below : (n : ℕ) (entries : List CountedKind) → AreCounted n entries → count_behind n entries ≤ n + length entries
 count-below n [] c = omega arith
 count-below n (e ∷ entries) c = let rest = count-below (behind e) entries c.1 in let one = step (is_symbol_kind e.kind) in omega (arith, rest, one)
   where
@@ -40,13 +40,13 @@ count-below n (e ∷ entries) c = let rest = count-below (behind e) entries c.1 
     step false = let h = c.0 in omega (arith, h)
 
 -- the count of an entry is that of the symbols before its place
-pub count-at : (names : List Name) (entries : List Entry) (n i : ℕ) (e : Entry) → length entries ≡ length names → AreCounted n entries → slice_get entries i ≡ Some e
+pub count-at : (names : List Name) (entries : List CountedKind) (n i : ℕ) (e : CountedKind) → length entries ≡ length names → AreCounted n entries → slice_get entries i ≡ Some e
     → e.before ≡ n + symbols_before (with_their names (kinds_of entries)) i
 count-at names [] n i e l c h = cc
 count-at [] (d ∷ entries) n i e l c h = absurd (omega (arith, l))
-count-at (x ∷ names) (d ∷ entries) n zero e l c h = ap (λ (z : Entry). z.before) (sym (same d e h)) ∙ (c.0 ∙ none n)
+count-at (x ∷ names) (d ∷ entries) n zero e l c h = ap (λ (z : CountedKind). z.before) (sym (same d e h)) ∙ (c.0 ∙ none n)
   where
-    same : (a b : Entry) → Some a ≡ Some b → a ≡ b
+    same : (a b : CountedKind) → Some a ≡ Some b → a ≡ b
     same a b e = cc
 
     none : (n : ℕ) → n ≡ n + 0
@@ -59,12 +59,12 @@ count-at (x ∷ names) (d ∷ entries) n (suc i) e l c h = by (is_symbol_kind d.
     by false k = let o = c.0 in omega (arith, k, o)
 
 -- the count behind the last entry, by its kind
-pub last-behind : (n : ℕ) (entries : List Entry) (e : Entry) (k : Kind) → Some e ≡ slice_get entries (length entries - 1) → e.kind ≡ k → AreCounted n entries
+pub last-behind : (n : ℕ) (entries : List CountedKind) (e : CountedKind) (k : NameKind) → Some e ≡ slice_get entries (length entries - 1) → e.kind ≡ k → AreCounted n entries
     → cond (is_symbol_kind k) (e.before + 1) e.before ≡ count_behind n entries
 last-behind n [] e k h own c = cc
 last-behind n (d ∷ []) e k h own c = ap (λ k. cond (is_symbol_kind k) (e.before + 1) e.before) (sym own) ∙ ap behind (same e d h)
   where
-    same : (a b : Entry) → Some a ≡ Some b → a ≡ b
+    same : (a b : CountedKind) → Some a ≡ Some b → a ≡ b
     same a b e = cc
 last-behind n (d ∷ f ∷ entries) e k h own c =
     last-behind (behind d) (f ∷ entries) e k (h ∙ ap (slice_get (d ∷ f ∷ entries)) (place (length entries))) own c.1

@@ -12,7 +12,7 @@ use Rattle.scope.specs.Active.{variables, was_variable, active_from, active_vari
 use Rattle.names.specs.Codes.{with_name, with_names, AreNamed}
 use Rattle.scope.specs.Numbering.{names_from, names_of, declared_by}
 use Rattle.scope.specs.Kinds.{Declared, declared_names, kind_in, with_kind, with_kinds}
-use Rattle.scope.specs.declared.numbering.Kind.{Kind}
+use Rattle.scope.specs.declared.numbering.NameKind.{NameKind}
 use Rattle.names.proofs.CodesLemmas.{name_same, same_name}
 use Rattle.names.proofs.AddedNames.{or_cases, has_name-append, with_names-more, has-more, has-with_names}
 
@@ -87,27 +87,27 @@ kind-has (p ∷ names) x = by (name_eq x p.0) (kind-has names x)
     by true e = refl
     by false e = e
 
-declared_names-with_kind : (names : Declared) (kind : Kind) (x : Name) → declared_names (with_kind names kind x) ≡ with_name (declared_names names) x
+declared_names-with_kind : (names : Declared) (kind : NameKind) (x : Name) → declared_names (with_kind names kind x) ≡ with_name (declared_names names) x
 declared_names-with_kind names kind x =
     ap (λ b. declared_names (cond b names (names ++ (x, kind) ∷ []))) (kind-has names x) ∙ by (has_name x (declared_names names))
   where
     by : (b : Bool) → declared_names (cond b names (names ++ (x, kind) ∷ [])) ≡ cond b (declared_names names) (declared_names names ++ x ∷ [])
     by true = refl
-    by false = map-append (λ (p : Name × Kind). p.0) names ((x, kind) ∷ [])
+    by false = map-append (λ (p : Name × NameKind). p.0) names ((x, kind) ∷ [])
 
-pub declared_names-with_kinds : (names : Declared) (kind : Kind) (xs : List Name) → declared_names (with_kinds names kind xs) ≡ with_names (declared_names names) xs
+pub declared_names-with_kinds : (names : Declared) (kind : NameKind) (xs : List Name) → declared_names (with_kinds names kind xs) ≡ with_names (declared_names names) xs
 declared_names-with_kinds names kind [] = refl
 declared_names-with_kinds names kind (x ∷ xs) =
     declared_names-with_kinds (with_kind names kind x) kind xs ∙ ap (λ ns. with_names ns xs) (declared_names-with_kind names kind x)
 
 -- the kind of a name after some are declared
-abbrev pub or_kind : Option Kind → Bool → Kind → Option Kind
+abbrev pub or_kind : Option NameKind → Bool → NameKind → Option NameKind
 or_kind (Some k) new kind = Some k
 or_kind None true kind = Some kind
 or_kind None false kind = None
 
 -- the kind of a name, after one is declared
-pub kind_in-append : (names : Declared) (x y : Name) (kind : Kind) → kind_in (names ++ (y, kind) ∷ []) x ≡ or_kind (kind_in names x) (name_eq x y) kind
+pub kind_in-append : (names : Declared) (x y : Name) (kind : NameKind) → kind_in (names ++ (y, kind) ∷ []) x ≡ or_kind (kind_in names x) (name_eq x y) kind
 kind_in-append [] x y kind = by (name_eq x y)
   where
     by : (b : Bool) → cond b (Some kind) None ≡ or_kind None b kind
@@ -120,10 +120,10 @@ kind_in-append (p ∷ names) x y kind = by (name_eq x p.0) (kind_in-append names
     by true e = refl
     by false e = e
 
-kind_in-with_kind : (names : Declared) (x y : Name) (kind : Kind) → kind_in (with_kind names kind y) x ≡ or_kind (kind_in names x) (name_eq x y) kind
+kind_in-with_kind : (names : Declared) (x y : Name) (kind : NameKind) → kind_in (with_kind names kind y) x ≡ or_kind (kind_in names x) (name_eq x y) kind
 kind_in-with_kind names x y kind = by (is_some (kind_in names y)) refl
   where
-    known : (k : Option Kind) (b : Bool) → (b ≡ true → is_some k ≡ true) → k ≡ or_kind k b kind
+    known : (k : Option NameKind) (b : Bool) → (b ≡ true → is_some k ≡ true) → k ≡ or_kind k b kind
     known (Some k) b h = refl
     known None true h = absurd (true≢false (sym (h refl)))
     known None false h = refl
@@ -132,17 +132,17 @@ kind_in-with_kind names x y kind = by (is_some (kind_in names y)) refl
     by true h = known (kind_in names x) (name_eq x y) (λ e. ap (λ z. is_some (kind_in names z)) (same_name x y e) ∙ h)
     by false h = kind_in-append names x y kind
 
-pub kind_in-with_kinds : (names : Declared) (x : Name) (kind : Kind) (xs : List Name) → kind_in (with_kinds names kind xs) x ≡ or_kind (kind_in names x) (has_name x xs) kind
+pub kind_in-with_kinds : (names : Declared) (x : Name) (kind : NameKind) (xs : List Name) → kind_in (with_kinds names kind xs) x ≡ or_kind (kind_in names x) (has_name x xs) kind
 kind_in-with_kinds names x kind [] = none (kind_in names x)
   where
-    none : (k : Option Kind) → k ≡ or_kind k false kind
+    none : (k : Option NameKind) → k ≡ or_kind k false kind
     none (Some k) = refl
     none None = refl
 kind_in-with_kinds names x kind (y ∷ xs) =
     kind_in-with_kinds (with_kind names kind y) x kind xs
     ∙ (ap (λ k. or_kind k (has_name x xs) kind) (kind_in-with_kind names x y kind) ∙ twice (kind_in names x) (name_eq x y) (has_name x xs))
   where
-    twice : (k : Option Kind) (a b : Bool) → or_kind (or_kind k a kind) b kind ≡ or_kind k (a || b) kind
+    twice : (k : Option NameKind) (a b : Bool) → or_kind (or_kind k a kind) b kind ≡ or_kind k (a || b) kind
     twice (Some k) a b = refl
     twice None true b = refl
     twice None false b = refl

@@ -13,8 +13,8 @@ use Rattle.scope.specs.Legal.{all_different}
 use Rattle.names.specs.Codes.{number_in, numbers_in}
 use Rattle.scope.specs.Kinds.{Tells}
 use Rattle.scope.specs.Sorts.{IsSort, sort_by, is_constant_sort, is_variable_sort, is_label_sort, is_inactive_sort}
-use Rattle.scope.specs.declared.numbering.Kind.{Kind}
-use Rattle.scope.specs.declared.numbering.Kind.TheVariants.{Label, Constant, Variable}
+use Rattle.scope.specs.declared.numbering.NameKind.{NameKind}
+use Rattle.scope.specs.declared.numbering.NameKind.TheVariants.{Label, Constant, Variable}
 use Rattle.scope.specs.declared.legal.Sort.{Sort}
 use Rattle.scope.specs.declared.legal.Sort.TheVariants as sort
 use Rattle.names.proofs.AddedNames.{has_name-append, number_in-same}
@@ -117,7 +117,7 @@ variable-sort S x t = by (is_variable S x) (has_float S x) refl refl
     by false b p q = record { constant = t.constant; variable = p; label = t.label; untyped = ap (λ c. not c || has_float S x) p }
 
 -- a name with no kind was never declared, and one with a kind was
-pub fresh-kind : (S : Database) (x : Name) (k : Option Kind) → Tells S x k → not (is_some k) ≡ not (was_symbol S x || was_label S x)
+pub fresh-kind : (S : Database) (x : Name) (k : Option NameKind) → Tells S x k → not (is_some k) ≡ not (was_symbol S x || was_label S x)
 fresh-kind S x None t = ap not (sym (ap (λ b. b || was_label S x) (was_symbol-either S x ∙ (ap (λ b. b || was_variable S x) t.constant ∙ t.variable)) ∙ t.label))
 fresh-kind S x (Some Label) t = ap not (sym (ap (λ b. b || was_label S x) (was_symbol-either S x ∙ (ap (λ b. b || was_variable S x) t.constant ∙ t.variable)) ∙ t.label))
 fresh-kind S x (Some Constant) t = ap not (sym (ap (λ b. b || was_label S x) (was_symbol-either S x ∙ ap (λ b. b || was_variable S x) t.constant)))

@@ -16,7 +16,7 @@ use Rattle.scope.specs.Numbering.{names_of, declared_by}
 use Rattle.scope.specs.Kinds.{Declared, declared_names, declared_symbols, TellsAll}
 use Rattle.scope.specs.Symbols.{symbols_of, symbols_by}
 use Rattle.scope.specs.Stored.Stacks.{sizes_of, blocks_from, blocks_of, IsKept, IsMarked}
-use Rattle.scope.specs.declared.stack_heights.Sizes.{Sizes}
+use Rattle.scope.specs.declared.stack_heights.StackHeights.{StackHeights}
 use Rattle.scope.specs.Laws.{has_open, before_open}
 use Rattle.scope.proofs.ActiveLemmas.{active_from-append, active_from-close, stays_open-append, flat_map-taken, from_open, split_open, below-deficit, no_deficit, deficit-close, left_open, count-left_open, count-append, none-left}
 use Rattle.scope.proofs.BlocksLemmas.{blocks_from-append, blocks-close}
@@ -53,7 +53,7 @@ known-more f S s h old new x has =
     by true e k = ap (has_name x) (names_of-later S (s ∷ [])).1 ∙ has-more x (names_of S) (names_of-later S (s ∷ [])).0 (old x e)
     by false e k = new x (sym (ap (λ b. b || has_name x (f (1 + length S, s))) e) ∙ k)
 
-marked-more : (S M : Database) (s : Stmt) (names names' : Declared) (mark : Sizes) (m : ℕ) → is_close s ≡ false → declared_names names ≡ names_of S → ((more : Declared) × (names' ≡ names ++ more))
+marked-more : (S M : Database) (s : Stmt) (names names' : Declared) (mark : StackHeights) (m : ℕ) → is_close s ≡ false → declared_names names ≡ names_of S → ((more : Declared) × (names' ≡ names ++ more))
     → IsMarked S M names mark m → IsMarked (S ++ s ∷ []) M names' mark m
 marked-more S M s names names' mark m h named prefix k = record {
   later = (k.later.0 ++ s ∷ [], ap (λ D. D ++ s ∷ []) k.later.1 ∙ append_assoc M k.later.0 (s ∷ []), stays_open-append 0 k.later.0 s h ∙ k.later.2);
@@ -65,7 +65,7 @@ marked-more S M s names names' mark m h named prefix k = record {
   typed_known = k.typed_known;
 }
 
-pub kept-more : (S M : Database) (s : Stmt) (names names' : Declared) (vs ts : List ℕ) (blocks : List Sizes) (mark : Sizes) (m : ℕ) → is_close s ≡ false → is_open s ≡ false
+pub kept-more : (S M : Database) (s : Stmt) (names names' : Declared) (vs ts : List ℕ) (blocks : List StackHeights) (mark : StackHeights) (m : ℕ) → is_close s ≡ false → is_open s ≡ false
     → ((more : Declared) × (names' ≡ names ++ more)) → declared_names names' ≡ with_names (names_of S) (declared_by s) → TellsAll (S ++ s ∷ []) names'
     → declared_symbols names' ≡ with_names (symbols_of S) (symbols_by s)
     → AreNamed (declared_names names') (typed_by s)
@@ -88,7 +88,7 @@ kept-more S M s names names' vs ts blocks mark m shut plain prefix named told sy
 
 -- ---- a `${`
 
-pub kept-open : (S M : Database) (names : Declared) (vs ts : List ℕ) (blocks : List Sizes) (mark sizes : Sizes) (m : ℕ) → sizes ≡ sizes_of (active S) → IsKept S M names vs ts blocks mark m
+pub kept-open : (S M : Database) (names : Declared) (vs ts : List ℕ) (blocks : List StackHeights) (mark sizes : StackHeights) (m : ℕ) → sizes ≡ sizes_of (active S) → IsKept S M names vs ts blocks mark m
     → IsKept (S ++ Open ∷ []) M names vs ts (blocks ++ sizes ∷ []) mark m
 kept-open S M names vs ts blocks mark sizes m height k = record {
   named = k.named ∙ sym (names_of-append S Open);
@@ -157,7 +157,7 @@ known-close f S none known x h =
     ∙ known x (ap (has_name x) (ap (flat_map f) (split_open (active S)) ∙ flat_map-append f (before_open (active S)) (from_open (active S)))
     ∙ has-more x (flat_map f (before_open (active S))) (flat_map f (from_open (active S))) (ap (has_name x) (sym (flat_map-close f S none)) ∙ h))
 
-pub kept-close : (S M : Database) (names : Declared) (vs ts : List ℕ) (blocks front : List Sizes) (mark last : Sizes) (m : ℕ) → nat_lt (count is_close S) (count is_open S) ≡ true
+pub kept-close : (S M : Database) (names : Declared) (vs ts : List ℕ) (blocks front : List StackHeights) (mark last : StackHeights) (m : ℕ) → nat_lt (count is_close S) (count is_open S) ≡ true
     → blocks ≡ front ++ last ∷ [] → IsKept S M names vs ts blocks mark m
     → IsKept (S ++ Close ∷ []) M names (take last.variables vs) (take last.typed ts) front mark m
 kept-close S M names vs ts blocks front mark last m legal split k =

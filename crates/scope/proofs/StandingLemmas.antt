@@ -12,7 +12,7 @@ use Rattle.scope.specs.Kinds.{Declared}
 use Rattle.scope.specs.Stored.Stacks.{sizes_of, blocks_from, IsKept}
 use Rattle.scope.specs.Laws.{before_open}
 use Rattle.scope.specs.Standing.{stands_at, standing_of, IsStanding}
-use Rattle.scope.specs.declared.stack_heights.Sizes.{Sizes}
+use Rattle.scope.specs.declared.stack_heights.StackHeights.{StackHeights}
 use Rattle.scope.specs.declared.standing.Standing.{Standing}
 use Rattle.scope.proofs.ActiveLemmas.{active_from-later, flat_map-taken}
 use Rattle.scope.proofs.BlocksLemmas.{blocks-close}
@@ -30,7 +30,7 @@ standing-more S M s standing n m shut k = record {
     next : (a b : ℕ) → a ≡ b → a + 1 ≡ 1 + b
     next a b e = omega arith
 
-pub standing-close : (S M : Database) (names : Declared) (vs ts : List ℕ) (blocks front : List Sizes) (mark last : Sizes) (i n m : ℕ) (standing : List Standing)
+pub standing-close : (S M : Database) (names : Declared) (vs ts : List ℕ) (blocks front : List StackHeights) (mark last : StackHeights) (i n m : ℕ) (standing : List Standing)
     → nat_lt (count is_close S) (count is_open S) ≡ true → blocks ≡ front ++ last ∷ [] → IsKept S M names vs ts blocks mark i → IsStanding S M standing n m
     → IsStanding (S ++ Close ∷ []) M (take last.standing standing) (n + 1) m
 standing-close S M names vs ts blocks front mark last i n m standing legal split k st =
@@ -39,7 +39,7 @@ standing-close S M names vs ts blocks front mark last i n m standing legal split
     sym split ∙ (k.blocks_are ∙ blocks-close [] (active S) (has_open-some 1 S (some_open S k.never_below legal))) in
     let both = same_from_push front (blocks_from [] (before_open (active S))) last (sizes_of (before_open (active S))) ends in
     record {
-      standing_are = ap (λ (z : Sizes). take z.standing standing) both.1 ∙ (ap (take (length (flat_map f (before_open (active S))))) st.standing_are
+      standing_are = ap (λ (z : StackHeights). take z.standing standing) both.1 ∙ (ap (take (length (flat_map f (before_open (active S))))) st.standing_are
           ∙ (flat_map-taken f (active S) ∙ sym (flat_map-close f S refl)));
       count_is = ap (λ j. j + 1) st.count_is ∙ sym (length_push S Close);
       marked_count_is = st.marked_count_is;
@@ -48,7 +48,7 @@ standing-close S M names vs ts blocks front mark last i n m standing legal split
 pub standing-mark : (S M : Database) (standing : List Standing) (n m : ℕ) → IsStanding S M standing n m → IsStanding S S standing n n
 standing-mark S M standing n m k = record { standing_are = k.standing_are; count_is = k.count_is; marked_count_is = k.count_is }
 
-pub standing-back : (S M : Database) (names : Declared) (vs ts : List ℕ) (blocks : List Sizes) (mark : Sizes) (i n m : ℕ) (standing : List Standing)
+pub standing-back : (S M : Database) (names : Declared) (vs ts : List ℕ) (blocks : List StackHeights) (mark : StackHeights) (i n m : ℕ) (standing : List Standing)
     → IsKept S M names vs ts blocks mark i → IsStanding S M standing n m → IsStanding M M (take mark.standing standing) m m
 standing-back S M names vs ts blocks mark i n m standing k st =
     let f : ℕ × Stmt → List Standing = λ p. stands_at p.0 p.1 in
@@ -56,7 +56,7 @@ standing-back S M names vs ts blocks mark i n m standing k st =
     let split : standing_of S ≡ standing_of M ++ flat_map f (active_from (1 + length M) T) =
     ap standing_of k.marked.later.1 ∙ (ap (flat_map f) (active_from-later 1 M T k.marked.later.2) ∙ flat_map-append f (active M) (active_from (1 + length M) T)) in
     record {
-      standing_are = ap (λ (z : Sizes). take z.standing standing) k.marked.sizes ∙ (ap (take (length (standing_of M))) (st.standing_are ∙ split)
+      standing_are = ap (λ (z : StackHeights). take z.standing standing) k.marked.sizes ∙ (ap (take (length (standing_of M))) (st.standing_are ∙ split)
           ∙ take_at (standing_of M) (flat_map f (active_from (1 + length M) T)) (length (standing_of M)) refl);
       count_is = st.marked_count_is;
       marked_count_is = st.marked_count_is;

@@ -14,8 +14,8 @@ use Rattle.names.specs.Codes.{name_at, decode, with_name, with_names, AreCodes}
 use Rattle.scope.specs.Kinds.{Declared, declared_names, declared_symbols, symbols_before, kind_in, with_kind, with_kinds, is_label_kind, is_symbol_kind}
 use Rattle.scope.specs.Stored.Noted.{IsNumberOf, AreNoted, IsAppended, IsOfLast}
 use Rattle.scope.specs.Symbols.{symbols_by, symbols_from, symbols_of, symbols_in}
-use Rattle.scope.specs.declared.numbering.Kind.{Kind}
-use Rattle.scope.specs.declared.numbering.Kind.TheVariants.{Label, Constant, Variable}
+use Rattle.scope.specs.declared.numbering.NameKind.{NameKind}
+use Rattle.scope.specs.declared.numbering.NameKind.TheVariants.{Label, Constant, Variable}
 use Rattle.names.proofs.CodesLemmas.{name_same, same_name}
 use Rattle.scope.proofs.NamesLemmas.{or_kind, kind_in-with_kinds}
 
@@ -39,15 +39,15 @@ declared_symbols-label names l = by (is_some (kind_in names l))
     by false = declared_symbols-append names ((l, Label) ∷ []) ∙ append-nil (declared_symbols names)
 
 -- a name of a symbol's kind is among the symbols, and one of no kind is not
-has-symbol : (names : Declared) (x : Name) (k : Option Kind) → kind_in names x ≡ k → is_label_kind k ≡ false → has_name x (declared_symbols names) ≡ is_some k
+has-symbol : (names : Declared) (x : Name) (k : Option NameKind) → kind_in names x ≡ k → is_label_kind k ≡ false → has_name x (declared_symbols names) ≡ is_some k
 has-symbol [] x None e h = refl
 has-symbol [] x (Some k) e h = cc
 has-symbol (p ∷ names) x k e h = by (name_eq x p.0) p.1 refl e (has-symbol names x k)
   where
-    clash : (k : Option Kind) → Some Label ≡ k → is_label_kind k ≡ false → ⊥
+    clash : (k : Option NameKind) → Some Label ≡ k → is_label_kind k ≡ false → ⊥
     clash k e h = true≢false (ap is_label_kind e ∙ h)
 
-    by : (b : Bool) (own : Kind) → name_eq x p.0 ≡ b → cond b (Some own) (kind_in names x) ≡ k → (kind_in names x ≡ k → is_label_kind k ≡ false → has_name x (declared_symbols names) ≡ is_some k)
+    by : (b : Bool) (own : NameKind) → name_eq x p.0 ≡ b → cond b (Some own) (kind_in names x) ≡ k → (kind_in names x ≡ k → is_label_kind k ≡ false → has_name x (declared_symbols names) ≡ is_some k)
         → has_name x (cond (is_symbol_kind own) (p.0 ∷ declared_symbols names) (declared_symbols names)) ≡ is_some k
     by true Label q e rest = absurd (clash k e h)
     by true Constant q e rest = ap (λ b. b || has_name x (declared_symbols names)) q ∙ ap is_some e
@@ -56,7 +56,7 @@ has-symbol (p ∷ names) x k e h = by (name_eq x p.0) p.1 refl e (has-symbol nam
     by false Constant q e rest = ap (λ b. b || has_name x (declared_symbols names)) q ∙ rest e h
     by false Variable q e rest = ap (λ b. b || has_name x (declared_symbols names)) q ∙ rest e h
 
-declared_symbols-with_kind : (names : Declared) (kind : Kind) (x : Name) → is_symbol_kind kind ≡ true → is_label_kind (kind_in names x) ≡ false → declared_symbols (with_kind names kind x) ≡ with_name (declared_symbols names) x
+declared_symbols-with_kind : (names : Declared) (kind : NameKind) (x : Name) → is_symbol_kind kind ≡ true → is_label_kind (kind_in names x) ≡ false → declared_symbols (with_kind names kind x) ≡ with_name (declared_symbols names) x
 declared_symbols-with_kind names kind x own free =
     by (is_some (kind_in names x)) ∙ ap (λ b. cond b (declared_symbols names) (declared_symbols names ++ x ∷ [])) (sym (has-symbol names x (kind_in names x) refl free))
   where
@@ -64,18 +64,18 @@ declared_symbols-with_kind names kind x own free =
     by true = refl
     by false = declared_symbols-append names ((x, kind) ∷ []) ∙ ap (λ b. declared_symbols names ++ cond b (x ∷ []) []) own
 
-pub declared_symbols-with_kinds : (names : Declared) (kind : Kind) (xs : List Name) → is_symbol_kind kind ≡ true → ((x : Name) → has_name x xs ≡ true → is_label_kind (kind_in names x) ≡ false)
+pub declared_symbols-with_kinds : (names : Declared) (kind : NameKind) (xs : List Name) → is_symbol_kind kind ≡ true → ((x : Name) → has_name x xs ≡ true → is_label_kind (kind_in names x) ≡ false)
     → declared_symbols (with_kinds names kind xs) ≡ with_names (declared_symbols names) xs
 declared_symbols-with_kinds names kind [] own free = refl
 declared_symbols-with_kinds names kind (x ∷ xs) own free =
     declared_symbols-with_kinds (with_kind names kind x) kind xs own later
     ∙ ap (λ ns. with_names ns xs) (declared_symbols-with_kind names kind x own (free x (ap (λ b. b || has_name x xs) (name_same x))))
   where
-    or_free : (k : Option Kind) (b : Bool) → is_label_kind k ≡ false → is_label_kind (or_kind k b kind) ≡ false
+    or_free : (k : Option NameKind) (b : Bool) → is_label_kind k ≡ false → is_label_kind (or_kind k b kind) ≡ false
     or_free (Some k) b h = h
     or_free None true h = not_label kind own
       where
-        not_label : (k : Kind) → is_symbol_kind k ≡ true → is_label_kind (Some k) ≡ false
+        not_label : (k : NameKind) → is_symbol_kind k ≡ true → is_label_kind (Some k) ≡ false
         not_label Label e = cc
         not_label Constant e = refl
         not_label Variable e = refl
@@ -98,15 +98,15 @@ symbols_of-append S s = symbols_from-append [] S (s ∷ [])
 -- ---- the number of a symbol
 
 -- where the name at a place is a symbol, its number is the count of the symbols before
-pub symbol-at : (names : Declared) (x : Name) (n : ℕ) (k : Kind) → n < length (declared_names names) → name_at (declared_names names) n ≡ x → ((m : ℕ) → m < n → name_at (declared_names names) m ≡ x → ⊥)
+pub symbol-at : (names : Declared) (x : Name) (n : ℕ) (k : NameKind) → n < length (declared_names names) → name_at (declared_names names) n ≡ x → ((m : ℕ) → m < n → name_at (declared_names names) m ≡ x → ⊥)
     → kind_in names x ≡ Some k → is_symbol_kind k ≡ true → IsNumberOf (declared_symbols names) x (symbols_before names n)
 symbol-at [] x n k lt e first h own = absurd (omega (arith, lt))
 symbol-at (p ∷ names) x zero k lt e first h own = by p.1 (ap (λ b. cond b (Some p.1) (kind_in names x)) (sym (ap (name_eq x) e ∙ name_same x)) ∙ h)
   where
-    some_same : (a b : Kind) → Some a ≡ Some b → a ≡ b
+    some_same : (a b : NameKind) → Some a ≡ Some b → a ≡ b
     some_same a b e = cc
 
-    by : (kind : Kind) → Some kind ≡ Some k → IsNumberOf (cond (is_symbol_kind kind) (p.0 ∷ declared_symbols names) (declared_symbols names)) x 0
+    by : (kind : NameKind) → Some kind ≡ Some k → IsNumberOf (cond (is_symbol_kind kind) (p.0 ∷ declared_symbols names) (declared_symbols names)) x 0
     by Label f = absurd (true≢false (sym own ∙ ap is_symbol_kind (sym (some_same Label k f))))
     by Constant f = (omega arith, e)
     by Variable f = (omega arith, e)

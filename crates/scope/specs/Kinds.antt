@@ -8,15 +8,15 @@ use Rattle.mm_read.specs.Statements.{Database}
 use Rattle.scope.specs.Active.{is_constant, was_variable, was_label, label_of, constants, variables, typed_by, is_open, is_close}
 use Rattle.scope.specs.Legal.{all_different}
 use Rattle.scope.specs.Numbering.{declared_by}
-use Rattle.scope.specs.declared.numbering.Kind.{Kind}
-use Rattle.scope.specs.declared.numbering.Kind.TheVariants.{Label, Constant, Variable}
+use Rattle.scope.specs.declared.numbering.NameKind.{NameKind}
+use Rattle.scope.specs.declared.numbering.NameKind.TheVariants.{Label, Constant, Variable}
 
 -- names with what they were declared as
 abbrev pub Declared : Type 0
-Declared = List (Name × Kind)
+Declared = List (Name × NameKind)
 
 -- each name with the kind that has its place
-abbrev pub with_their : List Name → List Kind → Declared
+abbrev pub with_their : List Name → List NameKind → Declared
 with_their [] kinds = []
 with_their (x ∷ names) [] = []
 with_their (x ∷ names) (k ∷ kinds) = (x, k) ∷ with_their names kinds
@@ -25,23 +25,23 @@ abbrev pub declared_names : Declared → List Name
 declared_names names = map (λ p. p.0) names
 
 -- the kind of a name, by the first entry for it
-abbrev pub kind_in : Declared → Name → Option Kind
+abbrev pub kind_in : Declared → Name → Option NameKind
 kind_in [] x = None
 kind_in (p ∷ names) x = if name_eq x p.0 then Some p.1 else kind_in names x
 
-abbrev pub is_label_kind : Option Kind → Bool
+abbrev pub is_label_kind : Option NameKind → Bool
 is_label_kind (Some Label) = true
 is_label_kind kind = false
 
-abbrev pub is_constant_kind : Option Kind → Bool
+abbrev pub is_constant_kind : Option NameKind → Bool
 is_constant_kind (Some Constant) = true
 is_constant_kind kind = false
 
-abbrev pub is_variable_kind : Option Kind → Bool
+abbrev pub is_variable_kind : Option NameKind → Bool
 is_variable_kind (Some Variable) = true
 is_variable_kind kind = false
 
-abbrev pub is_symbol_kind : Kind → Bool
+abbrev pub is_symbol_kind : NameKind → Bool
 is_symbol_kind Label = false
 is_symbol_kind kind = true
 
@@ -56,7 +56,7 @@ abbrev pub symbols_before : Declared → ℕ → ℕ
 symbols_before names n = length (declared_symbols (take n names))
 
 -- the kind tells what the statements say of the name
-pub record Tells (S : Database) (x : Name) (kind : Option Kind) : Type 0 where
+pub record Tells (S : Database) (x : Name) (kind : Option NameKind) : Type 0 where
   pub label : was_label S x ≡ is_label_kind kind
   pub constant : is_constant S x ≡ is_constant_kind kind
   pub variable : was_variable S x ≡ is_variable_kind kind
@@ -65,10 +65,10 @@ abbrev pub TellsAll : Database → Declared → Type 0
 TellsAll S names = (x : Name) → Tells S x (kind_in names x)
 
 -- the names after one is declared: it keeps the kind that it has
-abbrev pub with_kind : Declared → Kind → Name → Declared
+abbrev pub with_kind : Declared → NameKind → Name → Declared
 with_kind names kind x = if is_some (kind_in names x) then names else names ++ (x, kind) ∷ []
 
-abbrev pub with_kinds : Declared → Kind → List Name → Declared
+abbrev pub with_kinds : Declared → NameKind → List Name → Declared
 with_kinds names kind [] = names
 with_kinds names kind (x ∷ xs) = with_kinds (with_kind names kind x) kind xs
 

@@ -7,15 +7,15 @@ ghost use Rattle.scope.specs.Active.{bare, active};
 ghost use Rattle.scope.specs.Stored.Stacks.{sizes_of};
 ghost use Rattle.scope.specs.Kinds.{Declared, declared_names, kind_in, with_kind, with_kinds, AreNew, IsLabelled};
 ghost use Rattle.scope.specs.Legal.{IsLegal};
-ghost use Rattle.scope.specs.declared.numbering.Kind.TheVariants as shape_kind;
+ghost use Rattle.scope.specs.declared.numbering.NameKind.TheVariants as shape_kind;
 ghost use Rattle.names.specs.Codes.{number_in, numbers_in, with_names};
 ghost use Rattle.scope.specs.Numbering.{can_push};
 
 use crate::history::History;
 use crate::judge::Judge;
-use crate::numbering::{Kind, Numbering};
+use crate::numbering::{NameKind, Numbering};
 use crate::stack::Stack;
-use crate::stack_heights::Sizes;
+use crate::stack_heights::StackHeights;
 use crate::standing::push_standing;
 use mm_lex::{Word, Words};
 use mm_read::Stmt;
@@ -91,7 +91,7 @@ impl Judge {
         ensures err { OnErr result (self.new.statements ≡ self.old.statements) }
         ensures marked { self.new.marked ≡ self.old.marked }
     {
-        declare_all(&mut self.names, self.alloc, symbols, Kind::Constant)?;
+        declare_all(&mut self.names, self.alloc, symbols, NameKind::Constant)?;
         self.accepted = History::after(&self.accepted, stmt);
         self.count += 1;
         Ok(())
@@ -171,10 +171,10 @@ impl Judge {
     }
 
     /// How high the stacks stand.
-    pub(crate) fn sizes(&self) -> Sizes
+    pub(crate) fn sizes(&self) -> StackHeights
         ensures { result ≡ sizes_of (active self.now.statements) }
     {
-        Sizes {
+        StackHeights {
             variables: self.variables.len(),
             typed: self.typed.len(),
             standing: self.standing.len(),
@@ -196,7 +196,7 @@ fn declare_and_push(
     ensures same_stack { OnErr result (stack.new ≡ stack.old) }
 {
     let len = names.len();
-    declare_all(names, alloc, symbols, Kind::Variable)?;
+    declare_all(names, alloc, symbols, NameKind::Variable)?;
     let pushed = push_all(stack, names, symbols);
     if pushed.is_err() {
         names.truncate(len);
@@ -247,7 +247,7 @@ fn declare_label(names: &mut Numbering, alloc: Global, label: &[u8]) -> Result<(
     ensures ok { OnOk result (names.new ≡ with_kind names.old shape_kind.Label label.now) }
     ensures err { OnErr result (names.new ≡ names.old) }
 {
-    names.declare(alloc, label, Kind::Label)
+    names.declare(alloc, label, NameKind::Label)
 }
 
 /// Gives a kind to a name that has none. A variable may have had it before, in a block that is closed.
@@ -255,13 +255,13 @@ fn declare_one(
     names: &mut Numbering,
     alloc: Global,
     name: &[u8],
-    kind: Kind,
+    kind: NameKind,
 ) -> Result<(), AllocError>
     requires { kind ≢ shape_kind.Variable → kind_in names.old name.now ≡ None }
     ensures ok { OnOk result (names.new ≡ with_kind names.old kind name.now) }
     ensures err { OnErr result (names.new ≡ names.old) }
 {
-    if matches!(kind, Kind::Variable) && names.find(name).is_some() {
+    if matches!(kind, NameKind::Variable) && names.find(name).is_some() {
         return Ok(());
     }
     names.declare(alloc, name, kind)
@@ -272,7 +272,7 @@ fn declare_all(
     names: &mut Numbering,
     alloc: Global,
     symbols: &Words,
-    kind: Kind,
+    kind: NameKind,
 ) -> Result<(), AllocError>
     requires { kind ≢ shape_kind.Variable → AreNew names.old symbols.now }
     ensures ok { OnOk result (names.new ≡ with_kinds names.old kind symbols.now) }
@@ -290,7 +290,7 @@ fn declare_each(
     names: &mut Numbering,
     alloc: Global,
     symbols: &Words,
-    kind: Kind,
+    kind: NameKind,
 ) -> Result<(), AllocError>
     requires { kind ≢ shape_kind.Variable → AreNew names.old symbols.now }
     ensures ok { OnOk result (names.new ≡ with_kinds names.old kind symbols.now) }

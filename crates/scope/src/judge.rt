@@ -5,7 +5,7 @@ ghost use Rattle.scope.specs.Active.{is_closed};
 use crate::history::History;
 use crate::numbering::Numbering;
 use crate::stack::Stack;
-use crate::stack_heights::Sizes;
+use crate::stack_heights::StackHeights;
 use crate::standing::{Standing, copy_standing};
 use std::alloc::{AllocError, Global};
 use std::marker::Model;
@@ -21,8 +21,8 @@ pub(crate) struct Judge {
     pub(crate) typed: Stack,
     pub(crate) standing: Vec<Standing>,
     pub(crate) count: usize,
-    pub(crate) blocks: Vec<Sizes>,
-    pub(crate) mark: Sizes,
+    pub(crate) blocks: Vec<StackHeights>,
+    pub(crate) mark: StackHeights,
     pub(crate) marked_names: usize,
     pub(crate) marked_count: usize,
     pub(crate) alloc: Global,
@@ -54,7 +54,7 @@ impl Judge {
             standing: Vec::new(alloc),
             count: 0,
             blocks: Vec::new(alloc),
-            mark: Sizes {
+            mark: StackHeights {
                 variables: 0,
                 typed: 0,
                 standing: 0,

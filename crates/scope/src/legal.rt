@@ -14,7 +14,7 @@ ghost use Rattle.scope.specs.Symbols.{symbols_of};
 
 use crate::judge::Judge;
 use crate::noted::Noted;
-use crate::numbering::Kind;
+use crate::numbering::NameKind;
 use crate::rule::Rule;
 use mm_lex::{Word, Words};
 use mm_read::Stmt;
@@ -249,11 +249,11 @@ impl Judge {
         ensures number { is_symbol_sort result.0 ≡ true → IsNumberOf (symbols_of self.now.statements) name.now result.1 }
     {
         match self.names.find(name) {
-            Some((number, Kind::Constant)) => (Sort::Constant, self.names.symbol(number)),
-            Some((number, Kind::Variable)) => {
+            Some((number, NameKind::Constant)) => (Sort::Constant, self.names.symbol(number)),
+            Some((number, NameKind::Variable)) => {
                 (self.sort_of_number(number), self.names.symbol(number))
             }
-            Some((_, Kind::Label)) => (Sort::Label, 0),
+            Some((_, NameKind::Label)) => (Sort::Label, 0),
             None => (Sort::Inactive, 0),
         }
     }

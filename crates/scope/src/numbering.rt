@@ -10,7 +10,7 @@ use std::marker::Model;
 
 /// What a name was declared as. It is never declared as anything else.
 #[derive(Clone, Copy, Debug, Drop, PartialEq, Eq)]
-pub enum Kind {
+pub enum NameKind {
     Label,
     Constant,
     Variable,
@@ -18,8 +18,8 @@ pub enum Kind {
 
 /// A kind, and how many of the names before are symbols.
 #[derive(Clone, Copy, Debug, Drop, PartialEq, Eq)]
-pub struct Entry {
-    pub kind: Kind,
+pub struct CountedKind {
+    pub kind: NameKind,
     pub before: u32,
 }
 
@@ -27,16 +27,16 @@ pub struct Entry {
 #[derive(Drop)]
 pub struct Numbering {
     names: NameTable,
-    entries: Vec<Entry>,
+    entries: Vec<CountedKind>,
 }
 
 impl Model for Numbering {
     ghost use Rattle.std.specs.Prelude.{ℕ, List, ◌≡◌, length};
     ghost use Rattle.scope.specs.Stored.KindCounts.{kinds_of, AreCounted};
     ghost use Rattle.scope.specs.Kinds.{with_their};
-    ghost use Rattle.scope.specs.declared.numbering.Kind.{Kind};
+    ghost use Rattle.scope.specs.declared.numbering.NameKind.{NameKind};
 
-    ghost Value = { List (List ℕ × Kind) };
+    ghost Value = { List (List ℕ × NameKind) };
 
     ghost view = { λ a. with_their a.names (kinds_of a.entries.items) };
 
@@ -71,7 +71,7 @@ impl Numbering {
     }
 
     /// The number and the kind of a name that was declared.
-    pub(crate) fn find(&self, name: &[u8]) -> Option<(u32, Kind)>
+    pub(crate) fn find(&self, name: &[u8]) -> Option<(u32, NameKind)>
         ensures number { option_map (λ p. p.0) result ≡ code_of (declared_names self.now) name.now }
         ensures kind { option_map (λ p. p.1) result ≡ kind_in self.now name.now }
     {
@@ -106,7 +106,7 @@ impl Numbering {
         &mut self,
         alloc: Global,
         name: &[u8],
-        kind: Kind,
+        kind: NameKind,
     ) -> Result<(), AllocError>
         requires { kind_in self.old name.now ≡ None }
         ensures ok { OnOk result (self.new ≡ self.old ++ (name.now, kind) ∷ []) }
@@ -114,7 +114,7 @@ impl Numbering {
     {
         let number = self.names.add(alloc, name)?;
         let before = symbol_count(self.entries.as_slice());
-        let pushed = self.entries.push(Entry { kind, before });
+        let pushed = self.entries.push(CountedKind { kind, before });
         if pushed.is_err() {
             self.names.truncate(number);
             return Err(AllocError);
@@ -140,7 +140,7 @@ impl Numbering {
 }
 
 /// The entry at an index.
-fn entry_at(entries: &[Entry], index: usize) -> Entry
+fn entry_at(entries: &[CountedKind], index: usize) -> CountedKind
     requires { index < length entries.now }
     ensures { slice_get entries.now index ≡ Some result }
 {
@@ -148,16 +148,16 @@ fn entry_at(entries: &[Entry], index: usize) -> Entry
 }
 
 /// How many of the names are symbols.
-fn symbol_count(entries: &[Entry]) -> u32
+fn symbol_count(entries: &[CountedKind]) -> u32
     requires few { length entries.now < 2 ^ 32 }
     requires counted { AreCounted 0 entries.now }
     ensures { result ≡ count_behind 0 entries.now }
 {
     match entries.last() {
         Some(last) => match last.kind {
-            Kind::Label => last.before,
-            Kind::Constant => last.before + 1,
-            Kind::Variable => last.before + 1,
+            NameKind::Label => last.before,
+            NameKind::Constant => last.before + 1,
+            NameKind::Variable => last.before + 1,
         },
         None => 0,
     }

@@ -3,7 +3,7 @@
 /// How many active variables there are, and how many of them have an active `$f`, and how many
 /// `$f`, `$e` and `$d` are active.
 #[derive(Clone, Copy, Debug, Drop, PartialEq, Eq)]
-pub struct Sizes {
+pub struct StackHeights {
     pub variables: usize,
     pub typed: usize,
     pub standing: usize,

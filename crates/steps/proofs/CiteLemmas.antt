@@ -34,7 +34,7 @@ use Rattle.steps.specs.StepTable.{Step, IsPlaced, stands, comes_last, of_hypothe
 use Rattle.steps.specs.Rows.{Row, no_row, expr_in, Follows, from_hypothesis, from_assertion, AreRows}
 use Rattle.steps.specs.StepTable as table
 use Rattle.steps.specs.Stored.Drafted.{row_of, rows_of, codes_in, progress_of, IsDraft, IsTied, GivesHypothesis, GivesAssertion}
-use Rattle.steps.specs.declared.table_draft.Draft.{Draft}
+use Rattle.steps.specs.declared.table_draft.TableDraft.{TableDraft}
 use Rattle.steps.proofs.PlacingLemmas.{found-draft, found-placed, found-tied, made-draft, made-placed, made-tied}
 use Rattle.frame.proofs.FoundByNumber.{some-same}
 use Rattle.frame.proofs.SymbolNumberLemmas.{below-take}
@@ -57,10 +57,10 @@ codes-named S at names rows (k ∷ ks) are b = (one rows k are b.0, codes-named 
     one rs k are h = let r = there rs k h in subst (λ x. AreBelow (length names) x.expr) (sym (get_or_from_slice_get rs k r.0 no_row r.1)) ((are k r.0 r.1).named)
 
 -- the citation is noted, and the results of the run are the expressions of the rows
-abbrev IsNoted : Database → ℕ → List Name → Draft → Name → Draft → State → Type 0
+abbrev IsNoted : Database → ℕ → List Name → TableDraft → Name → TableDraft → State → Type 0
 IsNoted S at names d label new next = Notes S at (progress_of d) (Cite label) (progress_of new) × IsTied names new next
 
-module _ (S : Database) (at : ℕ) (names : List Name) (legal : AreLegal S names) (d : Draft) (is : IsDraft S at names d) (label : Name) (st : State) (tied : IsTied names d st) where
+module _ (S : Database) (at : ℕ) (names : List Name) (legal : AreLegal S names) (d : TableDraft) (is : IsDraft S at names d) (label : Name) (st : State) (tied : IsTied names d st) where
   -- ---- a hypothesis
 
   module _ (i : ℕ) (s : Stmt) (codes : List ℕ) (carries : Carries S i s label) (active : IsHypothesis S at i s) (named : decode names codes ≡ expr_of s) (low : AreBelow (length names) codes) where
@@ -81,11 +81,11 @@ module _ (S : Database) (at : ℕ) (names : List Name) (legal : AreLegal S names
         let same : t ≡ s = some-same carries'.stands (ap (stmt_at S) (legal.once a i t s label carries' carries) ∙ carries.stands) in
         absurd (not_both s active.kind (ap is_assertion (sym same) ∙ fits.assertion))
 
-    hypothesis-draft' : (new : Draft) → GivesHypothesis d new i codes → IsDraft S at names new
+    hypothesis-draft' : (new : TableDraft) → GivesHypothesis d new i codes → IsDraft S at names new
     hypothesis-draft' new (inl finds) = found-draft S at names legal d new is h_step d.stack.items (expr_of s) finds is.stack_below hypothesis-same
     hypothesis-draft' new (inr makes) = made-draft S at names legal d new is h_step d.stack.items codes makes is.stack_below tt (from_hypothesis s active refl named) low
 
-    hypothesis-tied' : (new : Draft) → GivesHypothesis d new i codes → (b : List Expr) (f : Expr) → (st.stack ≡ b) × (f ≡ expr_of s) → IsNoted S at names d label new (with_result st b f)
+    hypothesis-tied' : (new : TableDraft) → GivesHypothesis d new i codes → (b : List Expr) (f : Expr) → (st.stack ≡ b) × (f ≡ expr_of s) → IsNoted S at names d label new (with_result st b f)
     hypothesis-tied' new (inl finds) b f (whole, gives) = (
       (d.stack.items, h_step, finds.place, makes_hypothesis s carries active refl refl, found-placed S at names legal d new is h_step d.stack.items (expr_of s) finds is.stack_below hypothesis-same, finds.stack, finds.saved),
       found-tied S at names legal d new is h_step d.stack.items f finds is.stack_below (λ r e x. hypothesis-same r e x ∙ sym gives) st b tied (tied.stack ∙ whole),
@@ -96,10 +96,10 @@ module _ (S : Database) (at : ℕ) (names : List Name) (legal : AreLegal S names
           made-tied S at names legal d new is h_step d.stack.items codes makes is.stack_below tt follows low st b f tied (tied.stack ∙ whole) (named ∙ sym gives),
         )
 
-    pub hypothesis-draft : (new : Draft) → GivesHypothesis d new i codes → IsDraft S at names new
+    pub hypothesis-draft : (new : TableDraft) → GivesHypothesis d new i codes → IsDraft S at names new
     hypothesis-draft = hypothesis-draft'
 
-    pub hypothesis-done : (new : Draft) → GivesHypothesis d new i codes → (next : State) → Steps S at st (Cite label) next → IsNoted S at names d label new next
+    pub hypothesis-done : (new : TableDraft) → GivesHypothesis d new i codes → (next : State) → Steps S at st (Cite label) next → IsNoted S at names d label new next
     hypothesis-done new gives next run = subst (IsNoted S at names d label new) (sym run.3) (hypothesis-tied' new gives run.0 run.1 (run-hypothesis run.0 run.1 run.2))
 
   -- ---- an assertion
@@ -228,12 +228,12 @@ module _ (S : Database) (at : ℕ) (names : List Name) (legal : AreLegal S names
     makes-step : table.Makes S at label d.stack.items (below n d.stack.items) a_step
     makes-step = makes_assertion s carries (record { earlier = earlier; assertion = has.1 }) (length-top n d.stack.items many ∙ hypotheses-count) (halves n d.stack.items)
 
-    pub assertion-draft : (new : Draft) → GivesAssertion d new a c → IsDraft S at names new
+    pub assertion-draft : (new : TableDraft) → GivesAssertion d new a c → IsDraft S at names new
     assertion-draft new (inl finds) = found-draft S at names legal d new is a_step (below n d.stack.items) run.1 finds low_rest assertion-same
     assertion-draft new (inr (ρ, read, makes)) = made-draft S at names legal d new is a_step (below n d.stack.items) (code_apply ρ c.conclusion.now) makes low_rest low_top (made-follows ρ read) (made-coded ρ read)
 
     -- a step found or made notes the citation, with what the run gives
-    done' : (new : Draft) → GivesAssertion d new a c → IsNoted S at names d label new (with_result st run.0 run.1)
+    done' : (new : TableDraft) → GivesAssertion d new a c → IsNoted S at names d label new (with_result st run.0 run.1)
     done' new (inl finds) = (
       (below n d.stack.items, a_step, finds.place, makes-step, found-placed S at names legal d new is a_step (below n d.stack.items) run.1 finds low_rest assertion-same, finds.stack, finds.saved),
       found-tied S at names legal d new is a_step (below n d.stack.items) run.1 finds low_rest assertion-same st run.0 tied instance.front,
@@ -244,7 +244,7 @@ module _ (S : Database) (at : ℕ) (names : List Name) (legal : AreLegal S names
           made-tied S at names legal d new is a_step (below n d.stack.items) e makes low_rest low_top (made-follows ρ read) (made-coded ρ read) st run.0 run.1 tied instance.front (made-step ρ read),
         )
 
-    pub assertion-done : (new : Draft) → GivesAssertion d new a c → IsNoted S at names d label new next
+    pub assertion-done : (new : TableDraft) → GivesAssertion d new a c → IsNoted S at names d label new next
     assertion-done new gives = subst (IsNoted S at names d label new) (sym run.3) (done' new gives)
 
     pub heads-count : length c.heads.now ≡ n

@@ -18,7 +18,7 @@ use Rattle.verify.proofs.ResultPlaceLemmas.{get-map}
 use Rattle.steps.specs.StepTable.{Progress}
 use Rattle.steps.specs.Rows.{steps_of, expr_in, AreRows}
 use Rattle.steps.specs.Stored.Drafted.{row_of, rows_of, AreInBuffer, AreKnown, IsDraft, IsTied, CanDo, IsDone}
-use Rattle.steps.specs.declared.table_draft.Draft.{Draft}
+use Rattle.steps.specs.declared.table_draft.TableDraft.{TableDraft}
 use Rattle.frame.proofs.StoredOneMore.{map-push}
 use Rattle.frame.proofs.SymbolNumberLemmas.{below-push}
 use Rattle.frame.proofs.ApartLemmas.{below-at}
@@ -32,7 +32,7 @@ front-last (x ∷ y ∷ xs) d h =
     let e : suc (suc (length xs)) - 1 ≡ suc (suc (length xs) - 1) = omega arith in
     (x ∷ r.0, ap (λ zs. x ∷ zs) r.1 ∙ ap (λ k. x ∷ r.0 ++ get_or (x ∷ y ∷ xs) k d ∷ []) (sym e))
 
-module _ (S : Database) (at : ℕ) (names : List Name) (d : Draft) (is : IsDraft S at names d) where
+module _ (S : Database) (at : ℕ) (names : List Name) (d : TableDraft) (is : IsDraft S at names d) where
   abbrev f : ℕ → Expr
   f = expr_in names (rows_of d)
 
@@ -45,7 +45,7 @@ module _ (S : Database) (at : ℕ) (names : List Name) (d : Draft) (is : IsDraft
       let a = length-append b (e ∷ []) in
       omega (arith, l, m, a)
 
-  module _ (new : Draft) (p : ℕ) (same_placed : new.placed.items ≡ d.placed.items) (same_symbols : new.symbols ≡ d.symbols) (same_known : new.known ≡ d.known) where
+  module _ (new : TableDraft) (p : ℕ) (same_placed : new.placed.items ≡ d.placed.items) (same_symbols : new.symbols ≡ d.symbols) (same_known : new.known ≡ d.known) where
     -- a draft with the same steps and symbols has the same rows
     same_rows : rows_of new ≡ rows_of d
     same_rows = ap (λ s. map (row_of s) new.placed.items) same_symbols ∙ ap (map (row_of d.symbols)) same_placed
@@ -101,7 +101,7 @@ module _ (S : Database) (at : ℕ) (names : List Name) (d : Draft) (is : IsDraft
       low (x ∷ xs) zero h = omega arith
       low (x ∷ xs) (suc k) h = let r = low xs k h in omega (arith, r)
 
-  module _ (new : Draft) (k p : ℕ) (there : k < length d.saved.items) (is_p : p ≡ get_or d.saved.items k p) (same_placed : new.placed.items ≡ d.placed.items) (same_symbols : new.symbols ≡ d.symbols) (same_known : new.known ≡ d.known)
+  module _ (new : TableDraft) (k p : ℕ) (there : k < length d.saved.items) (is_p : p ≡ get_or d.saved.items k p) (same_placed : new.placed.items ≡ d.placed.items) (same_symbols : new.symbols ≡ d.symbols) (same_known : new.known ≡ d.known)
       (stack : new.stack.items ≡ d.stack.items ++ p ∷ []) (same_saved : new.saved.items ≡ d.saved.items) where
     pub recalled-draft : IsDraft S at names new
     recalled-draft =

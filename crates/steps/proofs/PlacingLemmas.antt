@@ -14,12 +14,12 @@ use Rattle.steps.specs.StepTable.{Step, IsPlaced, stands, comes_last}
 use Rattle.steps.specs.Rows.{Row, no_row, steps_of, expr_in, Follows, AreRows}
 use Rattle.steps.specs.Stored.Drafted as drafted
 use Rattle.steps.specs.Stored.Drafted.{row_of, rows_of, codes_in, key_of, progress_of, IsDraft, IsTied, Finds, GivesHypothesis, GivesAssertion}
-use Rattle.steps.specs.declared.table_draft.Draft.{Draft}
+use Rattle.steps.specs.declared.table_draft.TableDraft.{TableDraft}
 use Rattle.steps.proofs.DraftRowLemmas.{rows-more, buffer-snoc, row-at, exprs-front, rows-snoc, known-snoc}
 use Rattle.frame.proofs.StoredOneMore.{map-push}
 use Rattle.frame.proofs.SymbolNumberLemmas.{below-push, below-more}
 
-module _ (S : Database) (at : ℕ) (names : List Name) (legal : AreLegal S names) (d new : Draft) (is : IsDraft S at names d) where
+module _ (S : Database) (at : ℕ) (names : List Name) (legal : AreLegal S names) (d new : TableDraft) (is : IsDraft S at names d) where
   abbrev rows : List Row
   rows = rows_of d
 

@@ -17,7 +17,7 @@ use Rattle.verify.proofs.StepLemmas.{items-more, all-taken}
 use Rattle.steps.specs.StepTable.{progress, NotesAll, AreSteps}
 use Rattle.steps.specs.Rows.{steps_of, expr_in}
 use Rattle.steps.specs.Stored.Drafted.{row_of, rows_of, progress_of, IsTied, CanDo, IsDone}
-use Rattle.steps.specs.declared.table_draft.Draft.{Draft}
+use Rattle.steps.specs.declared.table_draft.TableDraft.{TableDraft}
 use Rattle.steps.proofs.SoundLemmas.{notes-sound, notes-snoc, nothing-sound, root-last}
 use Rattle.frame.proofs.FoundByNumber.{some-same}
 
@@ -27,7 +27,7 @@ drop-more labels (x ∷ xs) zero h = refl
 drop-more labels (x ∷ xs) (suc i) h = let e : suc i + 1 ≡ suc (i + 1) = omega arith in drop-more labels xs i (omega (arith, h)) ∙ ap (λ k. item_of labels (get_or xs i 0) ∷ map (item_of labels) (drop k (x ∷ xs))) (sym e)
 
 module _ (S : Database) (at : ℕ) (names : List Name) where
-  pub record Reached (labels : List Name) (numbers : List ℕ) (i : ℕ) (d : Draft) : Type 0 where
+  pub record Reached (labels : List Name) (numbers : List ℕ) (i : ℕ) (d : TableDraft) : Type 0 where
     pub state : State
     pub end : State
     pub stmt : Stmt
@@ -37,7 +37,7 @@ module _ (S : Database) (at : ℕ) (names : List Name) where
     pub ends : end.stack ≡ expr_of stmt ∷ []
     pub noted : NotesAll S at (progress [] [] []) (map (item_of labels) (take i numbers)) (progress_of d)
 
-  pub reached-start : AreLegal S names → (labels : List Name) (numbers : List ℕ) (items : List Item) (d : Draft) → items_of labels numbers ≡ items → IsRight S at items → d.placed.items ≡ [] → d.stack.items ≡ [] → d.saved.items ≡ []
+  pub reached-start : AreLegal S names → (labels : List Name) (numbers : List ℕ) (items : List Item) (d : TableDraft) → items_of labels numbers ≡ items → IsRight S at items → d.placed.items ≡ [] → d.stack.items ≡ [] → d.saved.items ≡ []
       → Reached labels numbers 0 d
   reached-start legal labels numbers items d same (t, derives) placed stack saved =
       let r = spellings_run S at (legal.single at) items t derives.after derives.weight derives.spelled in
@@ -54,13 +54,13 @@ module _ (S : Database) (at : ℕ) (names : List Name) where
       }
 
   -- the item may be done
-  pub reached-run : (labels : List Name) (numbers : List ℕ) (i : ℕ) (d : Draft) → i < length numbers → (r : Reached labels numbers i d) → (next : State) × Steps S at r.state (item_of labels (get_or numbers i 0)) next × Runs S at next (map (item_of labels) (drop (i + 1) numbers)) r.end
+  pub reached-run : (labels : List Name) (numbers : List ℕ) (i : ℕ) (d : TableDraft) → i < length numbers → (r : Reached labels numbers i d) → (next : State) × Steps S at r.state (item_of labels (get_or numbers i 0)) next × Runs S at next (map (item_of labels) (drop (i + 1) numbers)) r.end
   reached-run labels numbers i d h r = subst (λ is. Runs S at r.state is r.end) (drop-more labels numbers i h) r.rest
 
-  pub reached-can : (labels : List Name) (numbers : List ℕ) (i : ℕ) (d : Draft) → i < length numbers → Reached labels numbers i d → CanDo S at names d (item_of labels (get_or numbers i 0))
+  pub reached-can : (labels : List Name) (numbers : List ℕ) (i : ℕ) (d : TableDraft) → i < length numbers → Reached labels numbers i d → CanDo S at names d (item_of labels (get_or numbers i 0))
   reached-can labels numbers i d h r = let x = reached-run labels numbers i d h r in (r.state, x.0, r.tied, x.1)
 
-  pub reached-next : (labels : List Name) (numbers : List ℕ) (i : ℕ) (d new : Draft) → i < length numbers → Reached labels numbers i d → IsDone S at names d (item_of labels (get_or numbers i 0)) new → Reached labels numbers (i + 1) new
+  pub reached-next : (labels : List Name) (numbers : List ℕ) (i : ℕ) (d new : TableDraft) → i < length numbers → Reached labels numbers i d → IsDone S at names d (item_of labels (get_or numbers i 0)) new → Reached labels numbers (i + 1) new
   reached-next labels numbers i d new h r done =
       let x = reached-run labels numbers i d h r in
       let y = done r.state x.0 r.tied x.1 in
@@ -77,7 +77,7 @@ module _ (S : Database) (at : ℕ) (names : List Name) where
       }
 
   -- all were done
-  module _ (labels : List Name) (numbers : List ℕ) (items : List Item) (i : ℕ) (d : Draft) (same : items_of labels numbers ≡ items) (h : length numbers ≤ i) (r : Reached labels numbers i d) where
+  module _ (labels : List Name) (numbers : List ℕ) (items : List Item) (i : ℕ) (d : TableDraft) (same : items_of labels numbers ≡ items) (h : length numbers ≤ i) (r : Reached labels numbers i d) where
     -- the run is at its end
     over : r.state ≡ r.end
     over = subst (λ is. Runs S at r.state is r.end) (ap (map (item_of labels)) (drop_all i numbers h)) r.rest

@@ -11,7 +11,7 @@ ghost use Rattle.proof_code.specs.declared.item.Item.TheVariants.{Cite, Recall, 
 ghost use Rattle.proof_code.specs.ItemNumbers.{item_of};
 ghost use Rattle.steps.specs.Stored.Drafted.{IsDraft, CanDo, IsDone};
 
-use crate::table_draft::{Draft, cite_hypothesis, cite_parts};
+use crate::table_draft::{TableDraft, cite_hypothesis, cite_parts};
 use entries::Cited;
 use frame::{Frames, Gathered, Meaning};
 use std::alloc::{AllocError, Global};
@@ -34,7 +34,7 @@ pub fn cited_at<'a>(
 }
 
 /// Marks the last result.
-fn mark(frames: &Frames, at: usize, draft: &mut Draft) -> Result<(), AllocError>
+fn mark(frames: &Frames, at: usize, draft: &mut TableDraft) -> Result<(), AllocError>
     requires draft { IsDraft frames.now.statements at frames.now.names draft.old }
     requires can { CanDo frames.now.statements at frames.now.names draft.old Mark }
     ensures draft { OnOk result (IsDraft frames.now.statements at frames.now.names draft.new) }
@@ -47,7 +47,7 @@ fn mark(frames: &Frames, at: usize, draft: &mut Draft) -> Result<(), AllocError>
 }
 
 /// Puts the result that was marked as number `k` from 0 on top.
-fn recall(frames: &Frames, at: usize, k: usize, draft: &mut Draft) -> Result<(), AllocError>
+fn recall(frames: &Frames, at: usize, k: usize, draft: &mut TableDraft) -> Result<(), AllocError>
     requires draft { IsDraft frames.now.statements at frames.now.names draft.old }
     requires can { CanDo frames.now.statements at frames.now.names draft.old (Recall (suc k)) }
     ensures draft { OnOk result (IsDraft frames.now.statements at frames.now.names draft.new) }
@@ -65,7 +65,7 @@ fn cite(
     at: usize,
     position: usize,
     gathered: &mut Gathered,
-    draft: &mut Draft,
+    draft: &mut TableDraft,
 ) -> Result<(), AllocError>
     requires legal { AreLegal frames.now.statements frames.now.names }
     requires place { (1 ≤ at) × (at ≤ length frames.now.statements) }
@@ -94,7 +94,7 @@ pub fn note(
     positions: &[Option<usize>],
     number: u32,
     gathered: &mut Gathered,
-    draft: &mut Draft,
+    draft: &mut TableDraft,
 ) -> Result<(), AllocError>
     requires legal { AreLegal frames.now.statements frames.now.names }
     requires place { (1 ≤ at) × (at ≤ length frames.now.statements) }

@@ -8,7 +8,7 @@ ghost use Rattle.steps.specs.Rows.{no_row, row, steps_of, expr_in, AreRows};
 ghost use Rattle.steps.specs.Unfolded.{last_unfolded};
 
 use crate::noting::note;
-use crate::table_draft::{Draft, PlacedStep};
+use crate::table_draft::{PlacedStep, TableDraft};
 use frame::{Frames, Gathered};
 use proof_code::Items;
 use std::alloc::{AllocError, Global};
@@ -120,7 +120,7 @@ pub fn proof_table(
     let parts = items.parts();
     let positions = frames.positions(parts.labels)?;
     let mut gathered = Gathered::new(alloc);
-    let mut draft = Draft::new(alloc);
+    let mut draft = TableDraft::new(alloc);
     for number in parts.numbers {
         note(
             alloc,

@@ -28,7 +28,7 @@ pub struct PlacedStep {
 
 /// The steps so far, those of the results that wait and of those that were marked, and buffers.
 #[derive(Drop)]
-pub struct Draft {
+pub struct TableDraft {
     pub placed: Vec<PlacedStep>,
     pub symbols: Buffer,
     pub stack: Vec<usize>,
@@ -38,13 +38,13 @@ pub struct Draft {
     pub places: Vec<ExpressionPlace>,
 }
 
-impl Draft {
+impl TableDraft {
     /// No steps.
-    pub fn new(alloc: Global) -> Draft
+    pub fn new(alloc: Global) -> TableDraft
         ensures draft { (S : List Statement) (at : ℕ) (names : List Name) → IsDraft S at names result }
         ensures empty { (result.placed.items ≡ []) × (result.stack.items ≡ []) × (result.saved.items ≡ []) }
     {
-        Draft {
+        TableDraft {
             placed: Vec::new(alloc),
             symbols: Buffer::new(alloc),
             stack: Vec::new(alloc),
@@ -57,7 +57,7 @@ impl Draft {
 }
 
 /// Adds a step that does not stand yet, and puts its result on top.
-fn add_step(draft: &mut Draft, key: Vec<usize>, step: PlacedStep) -> Result<(), AllocError>
+fn add_step(draft: &mut TableDraft, key: Vec<usize>, step: PlacedStep) -> Result<(), AllocError>
     requires { key.items ≡ step.position ∷ step.taken.items }
     ensures { OnOk result (Adds draft.old draft.new step) }
 {
@@ -71,7 +71,7 @@ fn add_step(draft: &mut Draft, key: Vec<usize>, step: PlacedStep) -> Result<(), 
 /// Cites a hypothesis.
 pub fn cite_hypothesis(
     alloc: Global,
-    draft: &mut Draft,
+    draft: &mut TableDraft,
     position: usize,
     expr: &[u32],
 ) -> Result<(), AllocError>
@@ -127,7 +127,7 @@ fn fill_places(
 /// Cites an assertion by its parts.
 pub fn cite_parts(
     alloc: Global,
-    draft: &mut Draft,
+    draft: &mut TableDraft,
     position: usize,
     cited: &Cited<'_>,
 ) -> Result<(), AllocError>

@@ -8,7 +8,7 @@ use Rattle.scope.specs.Active.{is_variable}
 use Rattle.names.specs.Codes.{name_at}
 use Rattle.frame.specs.FrameOf.{is_pair}
 use Rattle.frame.specs.Parts.{Numbered}
-use Rattle.subst.specs.declared.findings.Symbol.{Symbol}
+use Rattle.subst.specs.declared.findings.FoundSymbol.{FoundSymbol}
 use Rattle.subst.specs.declared.findings.Variable.{Variable}
 use Rattle.subst.specs.Findings.{Found, symbol_at, no_symbol, variable_at, no_variable, variable_name, is_kept, IsKnown, IsAt, IsListed, Grows, IsNoted, AreBits, IsSame, IsAmong, HavePlaces, IsRowApart}
 use Rattle.subst.proofs.BitsLemmas.{zero-none, one-own, one-only, or-left, or-right, or-either, and-left, and-all, and-not}
@@ -126,7 +126,7 @@ each-more P xs x d each own j h = by (cases_lt j (length xs))
 -- ---- a symbol more
 
 module _ (v : Numbered) (f : Found) (known : IsKnown v f) where
-  pub known-symbol : (s : Symbol) → AreBits v f s.bit (IsSame s.number) → IsKnown v (record { symbols = f.symbols ++ s ∷ []; variables = f.variables })
+  pub known-symbol : (s : FoundSymbol) → AreBits v f s.bit (IsSame s.number) → IsKnown v (record { symbols = f.symbols ++ s ∷ []; variables = f.variables })
   known-symbol s own = record {
     few = known.few;
     symbol = λ j h. (let e = each-more (λ t. AreBits v f t.bit (IsSame t.number)) f.symbols s no_symbol known.symbol own j h in
@@ -147,13 +147,13 @@ pub pushed : {T E A : Type 0} (r : Result T E) (x a b : A) → is_err r ≡ fals
 pushed (Ok t) x a b e h = h
 pushed (Err f) x a b e h = cc
 
-pub symbol-added : (v : Numbered) (f : Found) (symbols new : List Symbol) (variables : List Variable) (s : Symbol) → record { symbols = symbols; variables = variables } ≡ f → IsKnown v f → AreBits v f s.bit (IsSame s.number)
+pub symbol-added : (v : Numbered) (f : Found) (symbols new : List FoundSymbol) (variables : List Variable) (s : FoundSymbol) → record { symbols = symbols; variables = variables } ≡ f → IsKnown v f → AreBits v f s.bit (IsSame s.number)
     → new ≡ symbols ++ s ∷ [] → IsKnown v (record { symbols = new; variables = variables })
 symbol-added v f symbols new variables s same known own is =
-    subst (λ (ss : List Symbol). IsKnown v (record { symbols = ss; variables = variables })) (sym is)
+    subst (λ (ss : List FoundSymbol). IsKnown v (record { symbols = ss; variables = variables })) (sym is)
     (known-symbol v (record { symbols = symbols; variables = variables }) (subst (IsKnown v) (sym same) known) s (subst (λ (g : Found). AreBits v g s.bit (IsSame s.number)) (sym same) own))
 
-pub variable-added : (v : Numbered) (symbols : List Symbol) (old new : List Variable) (x place : ℕ) → place ≡ length old → place < 64 → new ≡ old ++ record { symbol = x; apart = 0 } ∷ []
+pub variable-added : (v : Numbered) (symbols : List FoundSymbol) (old new : List Variable) (x place : ℕ) → place ≡ length old → place < 64 → new ≡ old ++ record { symbol = x; apart = 0 } ∷ []
     → AreBits v (record { symbols = symbols; variables = new }) (1 * 2 ^ place % 2 ^ 64) (IsSame x)
 variable-added v symbols old new x place count low is =
     bits-variable v (record { symbols = symbols; variables = new }) x place low
@@ -254,7 +254,7 @@ row-good v f i bits known there places all j b = by (or-either (variable_at f i)
     by (inr more) = (places.each j more, all.each j more)
 
 -- a row that was read, with what was found
-pub known-noted : (v : Numbered) (f : Found) (i bits : ℕ) (symbols : List Symbol) (variables : List Variable) (r : Variable) → record { symbols = symbols; variables = variables } ≡ f → IsKnown v f → i < length f.variables
+pub known-noted : (v : Numbered) (f : Found) (i bits : ℕ) (symbols : List FoundSymbol) (variables : List Variable) (r : Variable) → record { symbols = symbols; variables = variables } ≡ f → IsKnown v f → i < length f.variables
     → HavePlaces f bits → r ≡ variable_at f i → IsRowApart v f i bits
     → IsKnown v (record { symbols = symbols; variables = slice_set variables i (record { symbol = r.symbol; apart = bit_or r.apart bits }) })
 known-noted v f i bits symbols variables r same known there places row all =
@@ -262,7 +262,7 @@ known-noted v f i bits symbols variables r same known there places row all =
     (subst (λ (h : Found). IsKnown v (record { symbols = h.symbols; variables = slice_set h.variables i (record { symbol = (variable_at f i).symbol; apart = bit_or (variable_at f i).apart bits }) })) (sym same)
     (known-row v f known i there (record { symbol = (variable_at f i).symbol; apart = bit_or (variable_at f i).apart bits }) refl (row-good v f i bits known there places all)))
 
-pub row-read : (f : Found) (symbols : List Symbol) (variables : List Variable) (i : ℕ) (r d : Variable) → record { symbols = symbols; variables = variables } ≡ f → i < length f.variables → r ≡ get_or variables i d → r ≡ variable_at f i
+pub row-read : (f : Found) (symbols : List FoundSymbol) (variables : List Variable) (i : ℕ) (r d : Variable) → record { symbols = symbols; variables = variables } ≡ f → i < length f.variables → r ≡ get_or variables i d → r ≡ variable_at f i
 row-read f symbols variables i r d same h e = e ∙ (get_or_default variables i d no_variable there ∙ ap (λ (g : Found). variable_at g i) same)
   where
     there : i < length variables
@@ -280,7 +280,7 @@ row-on v f g i bits grows there places row = record { each = λ j b. kept-grown 
 pub known-none : (v : Numbered) (f : Found) → f.symbols ≡ [] → f.variables ≡ [] → IsKnown v f
 known-none v f ss vs =
     let n = ap (λ (xs : List Variable). length xs) vs in
-    let m = ap (λ (xs : List Symbol). length xs) ss in
+    let m = ap (λ (xs : List FoundSymbol). length xs) ss in
     record {
       few = omega (arith, n);
       symbol = λ j h. absurd (omega (arith, h, m));

@@ -8,17 +8,17 @@ use Rattle.scope.specs.Active.{is_variable}
 use Rattle.names.specs.Codes.{name_at}
 use Rattle.frame.specs.FrameOf.{is_pair}
 use Rattle.frame.specs.Parts.{Numbered}
-use Rattle.subst.specs.declared.findings.Symbol.{Symbol}
+use Rattle.subst.specs.declared.findings.FoundSymbol.{FoundSymbol}
 use Rattle.subst.specs.declared.findings.Variable.{Variable}
 
 pub record Found : Type 0 where
-  pub symbols : List Symbol
+  pub symbols : List FoundSymbol
   pub variables : List Variable
 
-abbrev pub no_symbol : Symbol
+abbrev pub no_symbol : FoundSymbol
 no_symbol = record { number = 0; bit = 0 }
 
-abbrev pub symbol_at : Found → ℕ → Symbol
+abbrev pub symbol_at : Found → ℕ → FoundSymbol
 symbol_at f j = get_or f.symbols j no_symbol
 
 abbrev pub no_variable : Variable

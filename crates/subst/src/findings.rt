@@ -16,7 +16,7 @@ const MOST: usize = 64;
 
 /// A symbol of the proof.
 #[derive(Clone, Copy, Drop)]
-pub struct Symbol {
+pub struct FoundSymbol {
     number: u32,
     /// The bit of its place among the variables; no bit where it is none.
     bit: u64,
@@ -38,7 +38,7 @@ pub struct Variable {
 #[derive(Drop)]
 pub struct Findings {
     hints: Vec<u32>,
-    symbols: Vec<Symbol>,
+    symbols: Vec<FoundSymbol>,
     variables: Vec<Variable>,
 }
 
@@ -196,7 +196,7 @@ impl Findings {
         let Ok(place) = u32::try_from(self.symbols.len()) else {
             return None;
         };
-        if self.symbols.push(Symbol { number, bit }).is_err() {
+        if self.symbols.push(FoundSymbol { number, bit }).is_err() {
             return None;
         }
         if let Some(hint) = self.hints.get_mut(number as usize) {

@@ -1,6 +1,6 @@
 //! What is submitted at one node is added and listed at each, whichever node leads; what is answered after the stop; a desk in
 //! another thread.
-use crate::three::{Kept, added_by_all, everywhere, open, text};
+use crate::three::{EntryKeep, added_by_all, everywhere, open, text};
 use cluster::Ahead;
 use library::Entry;
 use net::StepFault;
@@ -44,7 +44,7 @@ fn agree<R: Threads + Wait + Clock + Copy + Send + Sync + Drop + 'static>(
 fn works<R: Threads + Wait + Clock>(
     rt: &R,
     alloc: Global,
-    cluster: &mut Cluster<OpenGate, Kept>,
+    cluster: &mut Cluster<OpenGate, EntryKeep>,
     leader: u8,
 ) -> Result<bool, StepFault> {
     let desk = cluster.desk()?;
@@ -54,8 +54,8 @@ fn works<R: Threads + Wait + Clock>(
 fn works_at<R: Threads + Wait + Clock>(
     rt: &R,
     alloc: Global,
-    cluster: &mut Cluster<OpenGate, Kept>,
-    desk: &Desk<OpenGate, Kept>,
+    cluster: &mut Cluster<OpenGate, EntryKeep>,
+    desk: &Desk<OpenGate, EntryKeep>,
     leader: u8,
 ) -> Result<bool, StepFault> {
     let served = serves(rt, alloc, desk, leader);
@@ -67,7 +67,7 @@ fn works_at<R: Threads + Wait + Clock>(
 fn serves<R: Wait + Clock>(
     rt: &R,
     alloc: Global,
-    desk: &Desk<OpenGate, Kept>,
+    desk: &Desk<OpenGate, EntryKeep>,
     leader: u8,
 ) -> Result<bool, StepFault> {
     desk.begin(rt, leader)?;
@@ -81,7 +81,10 @@ fn serves<R: Wait + Clock>(
 }
 
 /// Whether node 2 has the text again once it has restarted, by what the others answer it.
-fn comes_back<R: Wait + Clock>(rt: &R, desk: &Desk<OpenGate, Kept>) -> Result<bool, StepFault> {
+fn comes_back<R: Wait + Clock>(
+    rt: &R,
+    desk: &Desk<OpenGate, EntryKeep>,
+) -> Result<bool, StepFault> {
     desk.restart(rt, 2)?;
     added_by_all(rt, desk, 1)
 }
@@ -90,8 +93,8 @@ fn comes_back<R: Wait + Clock>(rt: &R, desk: &Desk<OpenGate, Kept>) -> Result<bo
 fn stops<R: Threads + Wait>(
     rt: &R,
     alloc: Global,
-    cluster: &mut Cluster<OpenGate, Kept>,
-    desk: &Desk<OpenGate, Kept>,
+    cluster: &mut Cluster<OpenGate, EntryKeep>,
+    desk: &Desk<OpenGate, EntryKeep>,
 ) -> Result<bool, StepFault> {
     let report = cluster.stop(rt)?;
     let worked = report.handled.iter().filter(|count| **count > 0).count();
@@ -99,7 +102,7 @@ fn stops<R: Threads + Wait>(
 }
 
 /// Whether node 1 lists the axiom p alone, and no node is ahead.
-fn lists_alike<R: Wait>(rt: &R, desk: &Desk<OpenGate, Kept>) -> Result<bool, StepFault> {
+fn lists_alike<R: Wait>(rt: &R, desk: &Desk<OpenGate, EntryKeep>) -> Result<bool, StepFault> {
     let list = desk.list(rt, 1)?;
     let listed = match list.as_slice() {
         [only] => !only.proved && only.label.as_bytes() == b"p".as_slice(),
@@ -112,7 +115,7 @@ fn lists_alike<R: Wait>(rt: &R, desk: &Desk<OpenGate, Kept>) -> Result<bool, Ste
 fn knows_no_node<R: Wait>(
     rt: &R,
     alloc: Global,
-    desk: &Desk<OpenGate, Kept>,
+    desk: &Desk<OpenGate, EntryKeep>,
     k: u8,
 ) -> Result<bool, StepFault> {
     Ok(
@@ -126,8 +129,8 @@ fn knows_no_node<R: Wait>(
 fn has_stopped<R: Threads + Wait>(
     rt: &R,
     alloc: Global,
-    cluster: &mut Cluster<OpenGate, Kept>,
-    desk: &Desk<OpenGate, Kept>,
+    cluster: &mut Cluster<OpenGate, EntryKeep>,
+    desk: &Desk<OpenGate, EntryKeep>,
 ) -> Result<bool, StepFault> {
     Ok(
         desk.begin(rt, 0) == Err(StepFault::Stopped)
@@ -156,7 +159,7 @@ fn submits_elsewhere<R: Threads + Wait + Clock + Copy + Send + Sync + Drop + 'st
 fn adds_and_stops<R: Threads + Wait + Clock + Copy + Send + Sync + Drop + 'static>(
     rt: &R,
     alloc: Global,
-    cluster: &mut Cluster<OpenGate, Kept>,
+    cluster: &mut Cluster<OpenGate, EntryKeep>,
 ) -> Result<bool, StepFault> {
     let added = adds_theirs(rt, alloc, cluster);
     cluster.stop(rt)?;
@@ -167,7 +170,7 @@ fn adds_and_stops<R: Threads + Wait + Clock + Copy + Send + Sync + Drop + 'stati
 fn adds_theirs<R: Threads + Wait + Clock + Copy + Send + Sync + Drop + 'static>(
     rt: &R,
     alloc: Global,
-    cluster: &Cluster<OpenGate, Kept>,
+    cluster: &Cluster<OpenGate, EntryKeep>,
 ) -> Result<bool, StepFault> {
     let desk = cluster.desk()?;
     let submitted = submit_elsewhere(rt, alloc, cluster);
@@ -178,7 +181,7 @@ fn adds_theirs<R: Threads + Wait + Clock + Copy + Send + Sync + Drop + 'static>(
 fn submit_elsewhere<R: Threads + Wait + Copy + Send + Sync + Drop + 'static>(
     rt: &R,
     alloc: Global,
-    cluster: &Cluster<OpenGate, Kept>,
+    cluster: &Cluster<OpenGate, EntryKeep>,
 ) -> Result<(), StepFault> {
     let entry = text(alloc, 1, b"$c a $.")?;
     let theirs = cluster.desk()?;
@@ -192,7 +195,7 @@ fn submit_elsewhere<R: Threads + Wait + Copy + Send + Sync + Drop + 'static>(
 /// Begins a ballot at node 0 and submits there.
 fn submit_first<G: Gate + Drop, R: Wait + Drop>(
     rt: R,
-    desk: Desk<G, Kept>,
+    desk: Desk<G, EntryKeep>,
     entry: Entry,
 ) -> Result<(), StepFault> {
     desk.begin(&rt, 0)?;

@@ -1,5 +1,5 @@
 //! Two nodes side by side: each waits before an entry for the other.
-use crate::three::{Kept, added_by_all, everywhere, submit_one, three};
+use crate::three::{EntryKeep, added_by_all, everywhere, submit_one, three};
 use net::StepFault;
 use nodes::{Clear, Cluster, Desk};
 use std::alloc::Global;
@@ -82,7 +82,7 @@ fn meet_at<R: Threads + Wait + Clock + Copy + Send + Sync + Drop + 'static>(
 fn adds_one<R: Wait + Clock>(
     rt: &R,
     alloc: Global,
-    cluster: &Cluster<Meeting, Kept>,
+    cluster: &Cluster<Meeting, EntryKeep>,
 ) -> Result<bool, StepFault> {
     let desk = cluster.desk()?;
     adds_at(rt, alloc, &desk)
@@ -91,7 +91,7 @@ fn adds_one<R: Wait + Clock>(
 fn adds_at<R: Wait + Clock>(
     rt: &R,
     alloc: Global,
-    desk: &Desk<Meeting, Kept>,
+    desk: &Desk<Meeting, EntryKeep>,
 ) -> Result<bool, StepFault> {
     desk.begin(rt, 0)?;
     submit_one(rt, alloc, desk, 1, b"$c a $.")?;

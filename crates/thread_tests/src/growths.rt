@@ -1,5 +1,5 @@
 //! A text is decided after any one growth that is refused.
-use crate::three::{Kept, everywhere, open, settled, text};
+use crate::three::{EntryKeep, everywhere, open, settled, text};
 use library::Verdict;
 use net::StepFault;
 use nodes::{Clear, Cluster, Desk};
@@ -35,7 +35,7 @@ fn decided_by_three<R: Threads + Wait + Clock + Copy + Send + Sync + Drop + 'sta
 fn decided_and_stopped<R: Threads + Wait + Clock>(
     rt: &R,
     alloc: Global,
-    cluster: &mut Cluster<OpenGate, Kept>,
+    cluster: &mut Cluster<OpenGate, EntryKeep>,
 ) -> Result<Option<Verdict>, StepFault> {
     let verdict = match cluster.desk() {
         Ok(desk) => decided(rt, alloc, &desk),
@@ -52,7 +52,7 @@ fn decided_and_stopped<R: Threads + Wait + Clock>(
 fn decided<G: Gate, R: Wait + Clock>(
     rt: &R,
     alloc: Global,
-    desk: &Desk<G, Kept>,
+    desk: &Desk<G, EntryKeep>,
 ) -> Result<Option<Verdict>, StepFault> {
     for _turn in 0..30u8 {
         if desk.begin(rt, 0) == Err(StepFault::Down) {

@@ -15,7 +15,7 @@ use synod::Weights;
 use verify_pool::{Gate, OpenGate, Workers};
 use world::Carried;
 
-pub type Kept = MemoryKeep<Carried>;
+pub type EntryKeep = MemoryKeep<Carried>;
 
 /// A text of author 7.
 pub fn text(alloc: Global, serial: u64, text: &[u8]) -> Result<Entry, AllocError> {
@@ -37,11 +37,15 @@ pub fn three<
     weights: Weights,
     gate: Arc<G>,
     weathers: Vec<W>,
-) -> Result<Cluster<G, Kept>, StepFault>
+) -> Result<Cluster<G, EntryKeep>, StepFault>
     requires weights { length weights ≡ 3 }
     requires weathers { length weathers.items ≡ 3 }
 {
-    let Ok(keeps) = vec![in alloc; Kept::new(alloc), Kept::new(alloc), Kept::new(alloc)] else {
+    let Ok(keeps) = vec![in alloc;
+        EntryKeep::new(alloc),
+        EntryKeep::new(alloc),
+        EntryKeep::new(alloc),
+    ] else {
         return Err(StepFault::Memory);
     };
     start(rt, alloc, weights, Workers::of(2), gate, weathers, keeps)
@@ -56,7 +60,7 @@ pub fn open<
     alloc: Global,
     weights: Weights,
     weathers: Vec<W>,
-) -> Result<Cluster<OpenGate, Kept>, StepFault>
+) -> Result<Cluster<OpenGate, EntryKeep>, StepFault>
     requires weights { length weights ≡ 3 }
     requires weathers { length weathers.items ≡ 3 }
 {
@@ -70,7 +74,7 @@ pub fn open<
 pub fn submit_one<G: Gate, R: Wait>(
     rt: &R,
     alloc: Global,
-    desk: &Desk<G, Kept>,
+    desk: &Desk<G, EntryKeep>,
     serial: u64,
     source: &[u8],
 ) -> Result<(), StepFault> {
@@ -92,7 +96,7 @@ pub fn everywhere<W: Weather + Copy>(alloc: Global, weather: W) -> Result<Vec<W>
 /// The verdict at node `k` on the text of that number, asked each millisecond, so often at most, until it is known.
 pub fn settled<G: Gate, R: Wait + Clock>(
     rt: &R,
-    desk: &Desk<G, Kept>,
+    desk: &Desk<G, EntryKeep>,
     k: u8,
     serial: u64,
     asked: u32,
@@ -113,7 +117,7 @@ pub const OFTEN: u32 = 20_000;
 /// Whether each node adds the text of that number.
 pub fn added_by_all<G: Gate, R: Wait + Clock>(
     rt: &R,
-    desk: &Desk<G, Kept>,
+    desk: &Desk<G, EntryKeep>,
     serial: u64,
 ) -> Result<bool, StepFault> {
     for k in [0, 1, 2] {

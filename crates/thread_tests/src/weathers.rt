@@ -1,7 +1,7 @@
 //! Hints that are repeated and delayed, a restart, and a gap in one node's log that a later answer fills.
 ghost use Rattle.std.specs.Prelude.{◌≡◌, length, IfOk};
 
-use crate::three::{Kept, OFTEN, added_by_all, everywhere, open, settled, submit_one, text};
+use crate::three::{EntryKeep, OFTEN, added_by_all, everywhere, open, settled, submit_one, text};
 use library::{Entry, Library, Verdict};
 use net::StepFault;
 use nodes::{Cluster, Desk, Fate, Weather};
@@ -96,7 +96,7 @@ fn serve_like<R: Threads + Wait + Clock + Copy + Send + Sync + Drop + 'static>(
 fn serves_and_stops<R: Threads + Wait + Clock>(
     rt: &R,
     alloc: Global,
-    cluster: &mut Cluster<OpenGate, Kept>,
+    cluster: &mut Cluster<OpenGate, EntryKeep>,
     library: &Library,
 ) -> Result<bool, StepFault> {
     let served = serve_all(rt, alloc, cluster, library);
@@ -107,7 +107,7 @@ fn serves_and_stops<R: Threads + Wait + Clock>(
 fn serve_all<R: Wait + Clock>(
     rt: &R,
     alloc: Global,
-    cluster: &Cluster<OpenGate, Kept>,
+    cluster: &Cluster<OpenGate, EntryKeep>,
     library: &Library,
 ) -> Result<bool, StepFault> {
     let desk = cluster.desk()?;
@@ -117,7 +117,7 @@ fn serve_all<R: Wait + Clock>(
 fn serve_at<R: Wait + Clock>(
     rt: &R,
     alloc: Global,
-    desk: &Desk<OpenGate, Kept>,
+    desk: &Desk<OpenGate, EntryKeep>,
     library: &Library,
 ) -> Result<bool, StepFault> {
     if !is_new(rt, desk)? {
@@ -134,7 +134,7 @@ fn serve_at<R: Wait + Clock>(
 }
 
 /// Whether the first node and the last list nothing.
-fn is_new<R: Wait>(rt: &R, desk: &Desk<OpenGate, Kept>) -> Result<bool, StepFault> {
+fn is_new<R: Wait>(rt: &R, desk: &Desk<OpenGate, EntryKeep>) -> Result<bool, StepFault> {
     Ok(desk.list(rt, 0)?.is_empty() && desk.list(rt, 2)?.is_empty())
 }
 
@@ -142,7 +142,7 @@ fn is_new<R: Wait>(rt: &R, desk: &Desk<OpenGate, Kept>) -> Result<bool, StepFaul
 fn submit_all<G: Gate, R: Wait>(
     rt: &R,
     alloc: Global,
-    desk: &Desk<G, Kept>,
+    desk: &Desk<G, EntryKeep>,
 ) -> Result<(), StepFault> {
     desk.begin(rt, 0)?;
     for (serial, source) in TEXTS {
@@ -154,7 +154,7 @@ fn submit_all<G: Gate, R: Wait>(
 /// Whether node `k` has the verdicts and the assertions of that library.
 fn serves<G: Gate, R: Wait + Clock>(
     rt: &R,
-    desk: &Desk<G, Kept>,
+    desk: &Desk<G, EntryKeep>,
     k: u8,
     library: &Library,
 ) -> Result<bool, StepFault> {
@@ -225,7 +225,7 @@ fn fills_its_gap<R: Threads + Wait + Clock + Copy + Send + Sync + Drop + 'static
 fn learns_and_stops<R: Threads + Wait + Clock>(
     rt: &R,
     alloc: Global,
-    cluster: &mut Cluster<OpenGate, Kept>,
+    cluster: &mut Cluster<OpenGate, EntryKeep>,
     first: &AtomicU8,
     last: &AtomicU8,
 ) -> Result<bool, StepFault> {
@@ -259,7 +259,7 @@ fn told_by(told: &Arc<AtomicU8>) -> Result<Told, AllocError> {
 fn learns_all<R: Wait + Clock>(
     rt: &R,
     alloc: Global,
-    cluster: &Cluster<OpenGate, Kept>,
+    cluster: &Cluster<OpenGate, EntryKeep>,
     first: &AtomicU8,
     last: &AtomicU8,
 ) -> Result<bool, StepFault> {
@@ -270,7 +270,7 @@ fn learns_all<R: Wait + Clock>(
 fn learns_at<R: Wait + Clock>(
     rt: &R,
     alloc: Global,
-    desk: &Desk<OpenGate, Kept>,
+    desk: &Desk<OpenGate, EntryKeep>,
     first: &AtomicU8,
     last: &AtomicU8,
 ) -> Result<bool, StepFault> {
@@ -297,7 +297,7 @@ const QUIET: u64 = 100;
 fn decide<R: Wait + Clock>(
     rt: &R,
     alloc: Global,
-    desk: &Desk<OpenGate, Kept>,
+    desk: &Desk<OpenGate, EntryKeep>,
     serial: u64,
 ) -> Result<bool, StepFault> {
     submit_one(rt, alloc, desk, serial, b"")?;

@@ -15,8 +15,8 @@ use Rattle.frame.specs.Citations.{Carries, IsHypothesis}
 use Rattle.frame.specs.AtPosition.{AreLegal}
 use Rattle.proof_code.specs.declared.item.Item.TheVariants.{Cite}
 use Rattle.proof_code.specs.ItemNumbers.{item_of}
-use Rattle.verify.specs.declared.label_table.Entry.{Entry}
-use Rattle.verify.specs.declared.label_table.Entry.TheVariants.{Hypothesis, Assertion, Nothing}
+use Rattle.verify.specs.declared.label_table.LabelEntry.{LabelEntry}
+use Rattle.verify.specs.declared.label_table.LabelEntry.TheVariants.{Hypothesis, Assertion, Nothing}
 use Rattle.verify.specs.Machine.{Results, State, with_result}
 use Rattle.verify.specs.ResultPlaces.{Adds, Gives, Marks, Recalls}
 use Rattle.verify.specs.Goes.{named, AreNamed, Goes, behind, IsGiven, AreGiven, AreKnown, GoesOn}
@@ -57,18 +57,18 @@ module _ (S : Database) (names : List Name) (at : ℕ) where
       let w = ap (λ (st : State). st.weight) p.3 in
       omega (arith, heavy, w)
 
-  known-same : (table : List Entry) (old new : Results ℕ) → AreKnown S names table old → AreNamed names new → new.saved ≡ old.saved → AreKnown S names table new
+  known-same : (table : List LabelEntry) (old new : Results ℕ) → AreKnown S names table old → AreNamed names new → new.saved ≡ old.saved → AreKnown S names table new
   known-same table old new k named same = record { are_named = named; given = subst (AreGiven S names table) (sym same) k.given }
 
   -- an assertion leaves what is saved
-  pub assertion-on : (table : List Entry) (label : Name) (old new : Results ℕ) (r : Result Bool AllocError) → AreKnown S names table old
+  pub assertion-on : (table : List LabelEntry) (label : Name) (old new : Results ℕ) (r : Result Bool AllocError) → AreKnown S names table old
       → IfOk r (λ ok. Goes ok S at names (Cite label) old new) → IfOk r (λ ok. IsTrue ok → new.saved ≡ old.saved)
       → IfOk r (λ ok. GoesOn ok S at names table (Cite label) old new)
   assertion-on table label old new (Err e) k goes same = tt
   assertion-on table label old new (Ok true) k goes same = (cite-behind (length table) true label old new goes, λ e. known-same table old new k goes.1 (same refl))
   assertion-on table label old new (Ok false) k goes same = (cite-behind (length table) false label old new goes, λ e. absurd (true≢false (sym e)))
 
-  module _ (legal : AreLegal S names) (table : List Entry) (old new : Results ℕ) (known : AreKnown S names table old) where
+  module _ (legal : AreLegal S names) (table : List LabelEntry) (old new : Results ℕ) (known : AreKnown S names table old) where
     -- behind the results of the labels, codes stand for names
     below_named : AreNamed names (behind (length table) old)
     below_named = behind-named (length table) old known.are_named
@@ -158,7 +158,7 @@ module _ (S : Database) (names : List Name) (at : ℕ) where
         adds (Ok true) h = ap (behind (length table)) (h.2 ∙ ap (with_result old old.stack) (sym (get_or_from_slice_get old.saved k h.0 [] h.1)))
         adds (Ok false) h = h (get_or old.saved k []) there
 
-        by : (entry : Entry) → IsEntry S at (get_or labels k []) entry → IsGiven S names entry (get_or old.saved k []) → IfOk r (λ ok. Goes ok S at names (Cite (get_or labels k [])) (behind (length table) old) (behind (length table) new))
+        by : (entry : LabelEntry) → IsEntry S at (get_or labels k []) entry → IsGiven S names entry (get_or old.saved k []) → IfOk r (λ ok. Goes ok S at names (Cite (get_or labels k [])) (behind (length table) old) (behind (length table) new))
         by (Hypothesis i) entry given =
             hypothesis-result S names at legal (behind (length table) old) (behind (length table) new) below_named (get_or labels k []) i entry.0 entry.1 r (get_or old.saved k []) entry.0 entry.2
             (given some entry.0 entry.2.stands) (all-get (length names) k old.saved (get_or old.saved k []) known.are_named.saved_named there) (adds r recalls)
@@ -222,13 +222,13 @@ module _ (S : Database) (names : List Name) (at : ℕ) where
 
   -- ---- the start
 
-  pub start-known : (table : List Entry) (st : Results ℕ) → st ≡ (let r : Results ℕ = record { stack = []; saved = replicate (length table) []; weight = 0 } in r) → AreKnown S names table st
+  pub start-known : (table : List LabelEntry) (st : Results ℕ) → st ≡ (let r : Results ℕ = record { stack = []; saved = replicate (length table) []; weight = 0 } in r) → AreKnown S names table st
   start-known table st is = subst (AreKnown S names table) (sym is) (record {
     are_named = record { stack_named = tt; saved_named = all-none (length names) (length table) };
     given = record { enough = (let l = length-none (length table) in omega (arith, l)); each = λ k less. by k (get_or table k Nothing) };
   })
     where
-      by : (k : ℕ) (entry : Entry) → IsGiven S names entry (get_or (let r : List (List ℕ) = replicate (length table) [] in r) k [])
+      by : (k : ℕ) (entry : LabelEntry) → IsGiven S names entry (get_or (let r : List (List ℕ) = replicate (length table) [] in r) k [])
       by k (Hypothesis i) = λ some. absurd (omega (arith, some, ap length (get-none (length table) k)))
       by k (Assertion a) = get-none (length table) k
       by k Nothing = get-none (length table) k

@@ -10,8 +10,8 @@ use Rattle.frame.specs.Citations.{Carries, IsHypothesis}
 use Rattle.frame.specs.FrameOf.{HasAssertion}
 use Rattle.frame.specs.AtPosition.{HasLabelsOnce, IsPosition, ArePositions}
 use Rattle.verify.specs.Spells.{IsCitable}
-use Rattle.verify.specs.declared.label_table.Entry.{Entry}
-use Rattle.verify.specs.declared.label_table.Entry.TheVariants.{Nothing}
+use Rattle.verify.specs.declared.label_table.LabelEntry.{LabelEntry}
+use Rattle.verify.specs.declared.label_table.LabelEntry.TheVariants.{Nothing}
 use Rattle.verify.specs.LabelTable.{IsEntry, AreEntries}
 use Rattle.frame.proofs.FoundByNumber.{some-same}
 use Rattle.frame.proofs.PositionLemmas.{get-front, get-last}
@@ -37,7 +37,7 @@ pub has_with : (S : Database) (a : ℕ) (s t : Stmt) (label : Name) → Carries 
 has_with S a s t label carries has = (carries.stands, ap is_assertion (some-same carries.stands has.0) ∙ has.1)
 
 -- one more label
-pub entries-more : (S : Database) (at : ℕ) (ls : List Name) (label : Name) (es : List Entry) (entry : Entry) → AreEntries S at ls es → IsEntry S at label entry → AreEntries S at (ls ++ label ∷ []) (es ++ entry ∷ [])
+pub entries-more : (S : Database) (at : ℕ) (ls : List Name) (label : Name) (es : List LabelEntry) (entry : LabelEntry) → AreEntries S at ls es → IsEntry S at label entry → AreEntries S at (ls ++ label ∷ []) (es ++ entry ∷ [])
 entries-more S at ls label es entry a is = record { count = counted; each = λ k h. each k h (nat_lt k (length ls)) refl }
   where
     counted : length (es ++ entry ∷ []) ≡ length (ls ++ label ∷ [])
@@ -57,7 +57,7 @@ entries-more S at ls label es entry a is = record { count = counted; each = λ k
         (subst (IsEntry S at label) (sym (get-last es entry k Nothing (same ∙ sym c))) is)
 
 -- one more entry, by the position of the next label
-pub table-more : (S : Database) (at : ℕ) (labels : List Name) (positions : List (Option ℕ)) (i : ℕ) (d : Option ℕ) (table table' : List Entry) (entry : Entry) → ArePositions S labels positions → i < length positions
+pub table-more : (S : Database) (at : ℕ) (labels : List Name) (positions : List (Option ℕ)) (i : ℕ) (d : Option ℕ) (table table' : List LabelEntry) (entry : LabelEntry) → ArePositions S labels positions → i < length positions
     → AreEntries S at (take i labels) table → table' ≡ table ++ entry ∷ [] → ((label : Name) → IsPosition S label (get_or positions i d) → IsEntry S at label entry) → AreEntries S at (take (i + 1) labels) table'
 table-more S at labels positions i d table table' entry are less front grown is =
     let c = are.count in
@@ -67,7 +67,7 @@ table-more S at labels positions i d table table' entry are less front grown is 
     (subst (AreEntries S at (take i labels ++ get_or labels i [] ∷ [])) (sym grown) (entries-more S at (take i labels) (get_or labels i []) table entry front (is (get_or labels i []) here)))
 
 -- what a place of the table names
-pub entry_at : (S : Database) (at : ℕ) (labels : List Name) (table : List Entry) (k : ℕ) (d : Entry) → AreEntries S at labels table → k < length table → IsEntry S at (get_or labels k []) (get_or table k d)
+pub entry_at : (S : Database) (at : ℕ) (labels : List Name) (table : List LabelEntry) (k : ℕ) (d : LabelEntry) → AreEntries S at labels table → k < length table → IsEntry S at (get_or labels k []) (get_or table k d)
 entry_at S at labels table k d are h =
     let c = are.count in
     subst (IsEntry S at (get_or labels k [])) (get_or_default table k Nothing d h) (are.each k (omega (arith, h, c)))

@@ -10,7 +10,7 @@ use Rattle.scope.specs.Active.{before}
 use Rattle.frame.specs.FrameOf.{hypotheses}
 use Rattle.frame.specs.AtPosition.{HasLabelsOnce}
 use Rattle.proof_code.specs.Reading.{share_label}
-use Rattle.verify.specs.declared.label_table.Entry.{Entry}
+use Rattle.verify.specs.declared.label_table.LabelEntry.{LabelEntry}
 use Rattle.verify.specs.Proves.{mandatory_labels}
 use Rattle.verify.specs.Right.{IsProvable}
 use Rattle.verify.specs.LabelTable.{is_hypothesis_among, IsEntry, AreEntries}
@@ -21,12 +21,12 @@ use Rattle.frame.proofs.FoundByNumber.{some-same}
 -- ---- the listed labels, one after another
 
 -- the first n of the words are added to the table, and none of them is the label of a mandatory hypothesis
-pub record AreAdded (S : Database) (at : ℕ) (words left : List Name) (n : ℕ) (old table : List Entry) : Type 0 where
+pub record AreAdded (S : Database) (at : ℕ) (words left : List Name) (n : ℕ) (old table : List LabelEntry) : Type 0 where
   pub rest : drop n words ≡ left
   pub entries : (front : List Name) → AreEntries S at front old → AreEntries S at (front ++ take n words) table
   pub apart : (s : Stmt) → IsProvable S at s → share_label (mandatory_labels S at s) (take n words) ≡ false
 
-pub none-added : (S : Database) (at : ℕ) (words : List Name) (table : List Entry) → AreAdded S at words words 0 table table
+pub none-added : (S : Database) (at : ℕ) (words : List Name) (table : List LabelEntry) → AreAdded S at words words 0 table table
 none-added S at words table = record {
   rest = refl;
   entries = λ front are. subst (λ ls. AreEntries S at ls table) (sym (append-nil front)) are;
@@ -44,7 +44,7 @@ any-more f (x ∷ xs) (suc i) (suc j) h t = by (any-more f xs i j (omega (arith,
     by more true u = refl
     by more false u = more u
 
-module _ (S : Database) (at : ℕ) (words left : List Name) (n : ℕ) (old table : List Entry) (added : AreAdded S at words left n old table) (within : n < length words) where
+module _ (S : Database) (at : ℕ) (words left : List Name) (n : ℕ) (old table : List LabelEntry) (added : AreAdded S at words left n old table) (within : n < length words) where
   pub word-left : left ≡ [] → ⊥
   word-left none = let l = length-drop n words in let e = ap length (added.rest ∙ none) in omega (arith, within, l, e)
 
@@ -57,13 +57,13 @@ module _ (S : Database) (at : ℕ) (words left : List Name) (n : ℕ) (old table
     taken : take (n + 1) words ≡ take n words ++ label ∷ []
     taken = take_more words n [] within ∙ ap (λ l. take n words ++ l ∷ []) (let e = at_drop in let same : slice_index_or words n [] ≡ label = cc in same)
 
-    module _ (entry : Entry) (once : HasLabelsOnce S) (is : IsEntry S at label entry) where
+    module _ (entry : LabelEntry) (once : HasLabelsOnce S) (is : IsEntry S at label entry) where
       shared-now : (s : Stmt) → IsProvable S at s → share_label (mandatory_labels S at s) (take (n + 1) words) ≡ is_hypothesis_among (hypotheses (before S at) s) entry
       shared-now s p =
           ap (share_label (mandatory_labels S at s)) taken
           ∙ (shared-more S at s (take n words) label entry once p is ∙ ap (λ b. b || is_hypothesis_among (hypotheses (before S at) s) entry) (added.apart s p))
 
-      pub one-added : (s : Stmt) → IsProvable S at s → is_hypothesis_among (hypotheses (before S at) s) entry ≡ false → (more : List Entry) → more ≡ table ++ entry ∷ [] → AreAdded S at words rest (n + 1) old more
+      pub one-added : (s : Stmt) → IsProvable S at s → is_hypothesis_among (hypotheses (before S at) s) entry ≡ false → (more : List LabelEntry) → more ≡ table ++ entry ∷ [] → AreAdded S at words rest (n + 1) old more
       one-added s p other more grown = record {
         rest = let e = at_drop in let same : drop (n + 1) words ≡ rest = cc in same;
         entries = λ front are.

@@ -16,8 +16,8 @@ use Rattle.frame.specs.Citations.{Carries, is_hypothesis_kind}
 use Rattle.frame.specs.FrameOf.{hypotheses, is_hypothesis}
 use Rattle.frame.specs.AtPosition.{HasLabelsOnce}
 use Rattle.proof_code.specs.Reading.{share_label}
-use Rattle.verify.specs.declared.label_table.Entry.{Entry}
-use Rattle.verify.specs.declared.label_table.Entry.TheVariants.{Hypothesis, Assertion, Nothing}
+use Rattle.verify.specs.declared.label_table.LabelEntry.{LabelEntry}
+use Rattle.verify.specs.declared.label_table.LabelEntry.TheVariants.{Hypothesis, Assertion, Nothing}
 use Rattle.verify.specs.Proves.{label_or_none, mandatory_labels}
 use Rattle.verify.specs.Right.{IsProvable}
 use Rattle.verify.specs.LabelTable.{is_hypothesis_among, IsEntry}
@@ -33,12 +33,12 @@ same-test false false p q = refl
 same-test true false p q = sym (p refl)
 same-test false true p q = q refl
 
-abbrev is_at : ℕ → Entry → Bool
+abbrev is_at : ℕ → LabelEntry → Bool
 is_at p (Hypothesis i) = p == i
 is_at p (Assertion a) = false
 is_at p Nothing = false
 
-one-test : (S : Database) (at : ℕ) (label : Name) (e : Entry) (p : ℕ) → HasLabelsOnce S → IsEntry S at label e → IsMandatory S at p → name_eq label (label_or_none (stmt_at S p)) ≡ is_at p e
+one-test : (S : Database) (at : ℕ) (label : Name) (e : LabelEntry) (p : ℕ) → HasLabelsOnce S → IsEntry S at label e → IsMandatory S at p → name_eq label (label_or_none (stmt_at S p)) ≡ is_at p e
 one-test S at label (Hypothesis i) p once is m =
     same-test (name_eq label (label_or_none (stmt_at S p))) (p == i)
     (λ t.
@@ -66,7 +66,7 @@ one-test S at label Nothing p once is m =
     absurd ((is p m.stmt (subst (Carries S p m.stmt) (sym same) m.carries)).0 m.active))
     (λ f. absurd (true≢false (sym f)))
 
-among-some : (S : Database) (at : ℕ) (label : Name) (e : Entry) (ps : List ℕ) → HasLabelsOnce S → IsEntry S at label e → AreMandatory S at ps → has_name label (labels_at S ps) ≡ list_any (λ p. is_at p e) ps
+among-some : (S : Database) (at : ℕ) (label : Name) (e : LabelEntry) (ps : List ℕ) → HasLabelsOnce S → IsEntry S at label e → AreMandatory S at ps → has_name label (labels_at S ps) ≡ list_any (λ p. is_at p e) ps
 among-some S at label e [] once is m = refl
 among-some S at label e (p ∷ ps) once is m =
     ap (λ b. b || has_name label (labels_at S ps)) (one-test S at label e p once is m.0) ∙ ap (λ b. is_at p e || b) (among-some S at label e ps once is m.1)
@@ -76,18 +76,18 @@ none-at [] = refl
 none-at (p ∷ ps) = none-at ps
 
 -- the code looks for a position where the entry is a hypothesis, and nowhere else
-among : (ps : List ℕ) (e : Entry) → list_any (λ p. is_at p e) ps ≡ is_hypothesis_among ps e
+among : (ps : List ℕ) (e : LabelEntry) → list_any (λ p. is_at p e) ps ≡ is_hypothesis_among ps e
 among ps (Hypothesis i) = refl
 among ps (Assertion a) = none-at ps
 among ps Nothing = none-at ps
 
-pub label-among : (S : Database) (at : ℕ) (s : Stmt) (label : Name) (e : Entry) → HasLabelsOnce S → IsProvable S at s → IsEntry S at label e
+pub label-among : (S : Database) (at : ℕ) (s : Stmt) (label : Name) (e : LabelEntry) → HasLabelsOnce S → IsProvable S at s → IsEntry S at label e
     → has_name label (mandatory_labels S at s) ≡ is_hypothesis_among (hypotheses (before S at) s) e
 label-among S at s label e once p is =
     among-some S at label e (hypotheses (before S at) s) once is (mandatory-of S at s p) ∙ among (hypotheses (before S at) s) e
 
 -- one more listed label
-pub shared-more : (S : Database) (at : ℕ) (s : Stmt) (listed : List Name) (label : Name) (e : Entry) → HasLabelsOnce S → IsProvable S at s → IsEntry S at label e
+pub shared-more : (S : Database) (at : ℕ) (s : Stmt) (listed : List Name) (label : Name) (e : LabelEntry) → HasLabelsOnce S → IsProvable S at s → IsEntry S at label e
     → share_label (mandatory_labels S at s) (listed ++ label ∷ []) ≡ (share_label (mandatory_labels S at s) listed || is_hypothesis_among (hypotheses (before S at) s) e)
 shared-more S at s listed label e once p is =
     list_any-append (λ l. has_name l (mandatory_labels S at s)) listed (label ∷ [])

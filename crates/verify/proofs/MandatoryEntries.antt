@@ -12,8 +12,8 @@ use Rattle.scope.proofs.StatementPlaces.{stands-within}
 use Rattle.frame.specs.Citations.{Carries, IsHypothesis, is_hypothesis_kind}
 use Rattle.frame.specs.FrameOf.{HasAssertion, hypotheses}
 use Rattle.frame.proofs.PlacedHypotheses.{IsHyp, AreHyps, hyps}
-use Rattle.verify.specs.declared.label_table.Entry.{Entry}
-use Rattle.verify.specs.declared.label_table.Entry.TheVariants.{Hypothesis, Nothing}
+use Rattle.verify.specs.declared.label_table.LabelEntry.{LabelEntry}
+use Rattle.verify.specs.declared.label_table.LabelEntry.TheVariants.{Hypothesis, Nothing}
 use Rattle.verify.specs.Proves.{label_or_none, mandatory_labels}
 use Rattle.verify.specs.Right.{IsProvable}
 use Rattle.verify.specs.LabelTable.{IsEntry, AreEntries}
@@ -108,7 +108,7 @@ entry-each S at [] h k less = absurd (omega (arith, less))
 entry-each S at (p ∷ ps) h zero less = (h.0.stmt, h.0.carries, h.0.active)
 entry-each S at (p ∷ ps) h (suc k) less = entry-each S at ps h.1 k (omega (arith, less))
 
-pub mandatory-entries : (S : Database) (at : ℕ) (s : Stmt) (ps : List ℕ) (table : List Entry) → IsProvable S at s → ps ≡ hypotheses (before S at) s → table ≡ map Hypothesis ps → AreEntries S at (mandatory_labels S at s) table
+pub mandatory-entries : (S : Database) (at : ℕ) (s : Stmt) (ps : List ℕ) (table : List LabelEntry) → IsProvable S at s → ps ≡ hypotheses (before S at) s → table ≡ map Hypothesis ps → AreEntries S at (mandatory_labels S at s) table
 mandatory-entries S at s ps table p are filled =
     let hs : List ℕ = hypotheses (before S at) s in
     subst (AreEntries S at (labels_at S (hypotheses (before S at) s))) (sym (filled ∙ ap (map Hypothesis) are))

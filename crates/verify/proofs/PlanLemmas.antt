@@ -4,7 +4,7 @@ use Rattle.std.proofs.Common.{sym, ◌∙◌, ap, subst, arith, length-append}
 use Rattle.std.proofs.lemmas.List.{length-map}
 use Rattle.frame.specs.Below.{AreBelow}
 use Rattle.verify.specs.declared.plan.Node.{Node}
-use Rattle.verify.specs.declared.plan.Plan.{Plan}
+use Rattle.verify.specs.declared.plan.TreePlan.{TreePlan}
 use Rattle.verify.specs.Derivations.{Derivation, hyp}
 use Rattle.verify.specs.Growth.{trees, with_tree, GrowsMark, GrowsRecall}
 use Rattle.verify.specs.ResultPlaces.{below, top}
@@ -39,7 +39,7 @@ ordered-snoc k (m ∷ ns) n o h = (o.0, ordered-snoc (k + 1) ns n o.1 (let e : k
 
 -- ---- a node was added, above the numbers of `rest`
 
-pub added-plan : (old new : Plan) (n : Node) (rest : List ℕ) → IsPlan old → IsAfter (length old.nodes.items) n → AreBelow (length old.nodes.items) rest
+pub added-plan : (old new : TreePlan) (n : Node) (rest : List ℕ) → IsPlan old → IsAfter (length old.nodes.items) n → AreBelow (length old.nodes.items) rest
     → new.nodes.items ≡ old.nodes.items ++ n ∷ [] → new.stack.items ≡ rest ++ length old.nodes.items ∷ [] → new.saved.items ≡ old.saved.items → IsPlan new
 added-plan old new n rest is behind_kids low nodes stack saved =
     let l = length-append old.nodes.items (n ∷ []) in
@@ -54,7 +54,7 @@ added-plan old new n rest is behind_kids low nodes stack saved =
 trees-same : (a b c d : List Derivation) → a ≡ b → c ≡ d → trees a c ≡ trees b d
 trees-same a b c d p q = ap (λ v. trees v c) p ∙ ap (trees b) q
 
-pub added-trees : (old new : Plan) (n : Node) (rest : List ℕ) → IsPlan old → AreBelow (length old.nodes.items) rest
+pub added-trees : (old new : TreePlan) (n : Node) (rest : List ℕ) → IsPlan old → AreBelow (length old.nodes.items) rest
     → new.nodes.items ≡ old.nodes.items ++ n ∷ [] → new.stack.items ≡ rest ++ length old.nodes.items ∷ [] → new.saved.items ≡ old.saved.items
     → trees_of new ≡ with_tree (trees_of old) (map (pick (built old.nodes.items)) rest) (derive (built old.nodes.items) n)
 added-trees old new n rest is low nodes stack saved =
@@ -85,7 +85,7 @@ last-cut (y ∷ z ∷ xs) x h =
     let h' : slice_get (z ∷ xs) (length xs) ≡ Some x = ap (slice_get (y ∷ z ∷ xs)) (sym one) ∙ h in
     ap (λ r. y ∷ r) (last-cut (z ∷ xs) x (ap (slice_get (z ∷ xs)) two ∙ h') ∙ ap (λ n. take n (z ∷ xs) ++ x ∷ []) two) ∙ ap (λ n. take n (y ∷ z ∷ xs) ++ x ∷ []) (sym one)
 
-pub marked-plan : (old new : Plan) (k : ℕ) → IsPlan old → slice_get old.stack.items (length old.stack.items - 1) ≡ Some k
+pub marked-plan : (old new : TreePlan) (k : ℕ) → IsPlan old → slice_get old.stack.items (length old.stack.items - 1) ≡ Some k
     → new.nodes.items ≡ old.nodes.items → new.stack.items ≡ old.stack.items → new.saved.items ≡ old.saved.items ++ k ∷ [] → IsPlan new
 marked-plan old new k is at nodes stack saved =
     record {
@@ -94,7 +94,7 @@ marked-plan old new k is at nodes stack saved =
       saved_below = subst (λ ns. AreBelow (length ns) new.saved.items) (sym nodes) (subst (AreBelow (length old.nodes.items)) (sym saved) (below-push _ old.saved.items k is.saved_below (below-get _ old.stack.items _ k is.stack_below at)));
     }
 
-pub marked-grew : (old new : Plan) (k : ℕ) → slice_get old.stack.items (length old.stack.items - 1) ≡ Some k
+pub marked-grew : (old new : TreePlan) (k : ℕ) → slice_get old.stack.items (length old.stack.items - 1) ≡ Some k
     → new.nodes.items ≡ old.nodes.items → new.stack.items ≡ old.stack.items → new.saved.items ≡ old.saved.items ++ k ∷ [] → GrowsMark true (trees_of old) (trees_of new)
 marked-grew old new k at nodes stack saved =
     let ts = built old.nodes.items in (
@@ -105,7 +105,7 @@ marked-grew old new k at nodes stack saved =
           (ap (λ ns. map (pick (built ns)) new.saved.items) nodes ∙ (ap (map (pick ts)) saved ∙ map-push (pick ts) old.saved.items k)),
     )
 
-pub recalled-plan : (old new : Plan) (i k d : ℕ) → IsPlan old → i < length old.saved.items → k ≡ get_or old.saved.items i d
+pub recalled-plan : (old new : TreePlan) (i k d : ℕ) → IsPlan old → i < length old.saved.items → k ≡ get_or old.saved.items i d
     → new.nodes.items ≡ old.nodes.items → new.stack.items ≡ old.stack.items ++ k ∷ [] → new.saved.items ≡ old.saved.items → IsPlan new
 recalled-plan old new i k d is lt at nodes stack saved =
     record {
@@ -114,7 +114,7 @@ recalled-plan old new i k d is lt at nodes stack saved =
       saved_below = subst (λ ns. AreBelow (length ns) new.saved.items) (sym nodes) (subst (AreBelow (length old.nodes.items)) (sym saved) is.saved_below);
     }
 
-pub recalled-grew : (old new : Plan) (n k d : ℕ) → (n ≡ 0 → ⊥) → n ≤ length old.saved.items → k ≡ get_or old.saved.items (n - 1) d
+pub recalled-grew : (old new : TreePlan) (n k d : ℕ) → (n ≡ 0 → ⊥) → n ≤ length old.saved.items → k ≡ get_or old.saved.items (n - 1) d
     → new.nodes.items ≡ old.nodes.items → new.stack.items ≡ old.stack.items ++ k ∷ [] → new.saved.items ≡ old.saved.items → GrowsRecall true n (trees_of old) (trees_of new)
 recalled-grew old new zero k d nz le at nodes stack saved = absurd (nz refl)
 recalled-grew old new (suc i) k d nz le at nodes stack saved =

@@ -12,7 +12,7 @@ use Rattle.verify.specs.declared.answer.TreeFault.TheVariants.{Wrong, TooLarge, 
 use Rattle.verify.specs.declared.tree.Tree.{Tree}
 use Rattle.verify.specs.declared.tree_size.Extent.{Extent}
 use Rattle.verify.specs.declared.plan.Node.{Node}
-use Rattle.verify.specs.declared.plan.Plan.{Plan}
+use Rattle.verify.specs.declared.plan.TreePlan.{TreePlan}
 use Rattle.verify.specs.Derivations.{Derivation, derivation_of, node_count, depth}
 use Rattle.verify.specs.Right.{IsRight, Derives, IsSmall, IsProvable}
 use Rattle.verify.specs.Growth.{trees, GrowsBy}
@@ -39,19 +39,19 @@ large-answer S at once items (Err TooLarge) d s never t p big = inl refl
 large-answer S at once items (Err Memory) d s never t p big = inr refl
 
 -- the number of the derivation that is left
-pub record IsRoot (S : Database) (at : ℕ) (items : List Item) (p : Plan) (root : ℕ) : Type 0 where
+pub record IsRoot (S : Database) (at : ℕ) (items : List Item) (p : TreePlan) (root : ℕ) : Type 0 where
   pub tree : Derivation
   pub derives : Derives S at items tree
   pub there : root < length p.nodes.items
   pub stands : pick (built p.nodes.items) root ≡ tree
 
-pub some-number : (S : Database) (at : ℕ) → HasLabelsOnce S → (items : List Item) (p : Plan) → IsRight S at items → GrowsBy S at (trees [] []) items (trees_of p) → 0 < length p.stack.items
+pub some-number : (S : Database) (at : ℕ) → HasLabelsOnce S → (items : List Item) (p : TreePlan) → IsRight S at items → GrowsBy S at (trees [] []) items (trees_of p) → 0 < length p.stack.items
 some-number S at once items p right grown =
     let l = leaves S at once items (trees_of p) right grown in
     (only-number (pick (built p.nodes.items)) p.stack.items l.0 l.2).0
 
 -- the one number on the stack is that of the derivation spelled
-pub root : (S : Database) (at : ℕ) → HasLabelsOnce S → (items : List Item) (p : Plan) (k d : ℕ) → IsRight S at items → IsPlan p → GrowsBy S at (trees [] []) items (trees_of p) → k ≡ get_or p.stack.items 0 d → IsRoot S at items p k
+pub root : (S : Database) (at : ℕ) → HasLabelsOnce S → (items : List Item) (p : TreePlan) (k d : ℕ) → IsRight S at items → IsPlan p → GrowsBy S at (trees [] []) items (trees_of p) → k ≡ get_or p.stack.items 0 d → IsRoot S at items p k
 root S at once items p k d right is grown at_root =
     let l = leaves S at once items (trees_of p) right grown in
     let o = only-number (pick (built p.nodes.items)) p.stack.items l.0 l.2 in

@@ -9,8 +9,8 @@ use Rattle.scope.specs.Active.{stmt_at, expr_of}
 use Rattle.names.specs.Codes.{decode}
 use Rattle.frame.specs.Below.{AllBelow}
 use Rattle.proof_code.specs.declared.item.Item.{Item}
-use Rattle.verify.specs.declared.label_table.Entry.{Entry}
-use Rattle.verify.specs.declared.label_table.Entry.TheVariants.{Hypothesis, Assertion, Nothing}
+use Rattle.verify.specs.declared.label_table.LabelEntry.{LabelEntry}
+use Rattle.verify.specs.declared.label_table.LabelEntry.TheVariants.{Hypothesis, Assertion, Nothing}
 use Rattle.verify.specs.Machine.{Results, State, Steps}
 use Rattle.verify.specs.Right.{weight_limit}
 
@@ -35,19 +35,19 @@ abbrev pub behind : ℕ → Results ℕ → Results ℕ
 behind n st = record { stack = st.stack; saved = drop n st.saved; weight = st.weight }
 
 -- what is kept for a label is nothing, or the expression of the hypothesis that it names
-abbrev pub IsGiven : Database → List Name → Entry → List ℕ → Type 0
+abbrev pub IsGiven : Database → List Name → LabelEntry → List ℕ → Type 0
 IsGiven S names (Hypothesis i) e = 0 < length e → (s : Stmt) → stmt_at S i ≡ Some s → decode names e ≡ expr_of s
 IsGiven S names (Assertion a) e = e ≡ []
 IsGiven S names Nothing e = e ≡ []
 
-pub record AreGiven (S : Database) (names : List Name) (table : List Entry) (saved : List (List ℕ)) : Type 0 where
+pub record AreGiven (S : Database) (names : List Name) (table : List LabelEntry) (saved : List (List ℕ)) : Type 0 where
   pub enough : length table ≤ length saved
   pub each : (k : ℕ) → k < length table → IsGiven S names (get_or table k Nothing) (get_or saved k [])
 
-pub record AreKnown (S : Database) (names : List Name) (table : List Entry) (st : Results ℕ) : Type 0 where
+pub record AreKnown (S : Database) (names : List Name) (table : List LabelEntry) (st : Results ℕ) : Type 0 where
   pub are_named : AreNamed names st
   pub given : AreGiven S names table st.saved
 
 -- the same of an item where the first results are kept for labels
-abbrev pub GoesOn : Bool → Database → ℕ → List Name → List Entry → Item → Results ℕ → Results ℕ → Type 0
+abbrev pub GoesOn : Bool → Database → ℕ → List Name → List LabelEntry → Item → Results ℕ → Results ℕ → Type 0
 GoesOn ok S at names table item old new = Goes ok S at names item (behind (length table) old) (behind (length table) new) × (IsTrue ok → AreKnown S names table new)

@@ -7,23 +7,23 @@ use Rattle.mm_lex.specs.Alphabet.{Name}
 use Rattle.mm_read.specs.declared.stmt.Stmt.{Stmt}
 use Rattle.mm_read.specs.Statements.{Database}
 use Rattle.frame.specs.Citations.{Carries, IsHypothesis}
-use Rattle.verify.specs.declared.label_table.Entry.{Entry}
-use Rattle.verify.specs.declared.label_table.Entry.TheVariants.{Hypothesis, Assertion, Nothing}
+use Rattle.verify.specs.declared.label_table.LabelEntry.{LabelEntry}
+use Rattle.verify.specs.declared.label_table.LabelEntry.TheVariants.{Hypothesis, Assertion, Nothing}
 use Rattle.verify.specs.Spells.{IsCitable}
 
 -- what a label names at `at`: an active hypothesis, an earlier assertion, or nothing that may be cited there
-abbrev pub IsEntry : Database → ℕ → Name → Entry → Type 0
+abbrev pub IsEntry : Database → ℕ → Name → LabelEntry → Type 0
 IsEntry S at label (Hypothesis i) = (s : Stmt) × Carries S i s label × IsHypothesis S at i s
 IsEntry S at label (Assertion a) = (s : Stmt) × Carries S a s label × IsCitable S at a s
 IsEntry S at label Nothing = (i : ℕ) (s : Stmt) → Carries S i s label → (IsHypothesis S at i s → ⊥) × (IsCitable S at i s → ⊥)
 
 -- what each label of the table names
-pub record AreEntries (S : Database) (at : ℕ) (labels : List Name) (table : List Entry) : Type 0 where
+pub record AreEntries (S : Database) (at : ℕ) (labels : List Name) (table : List LabelEntry) : Type 0 where
   pub count : length table ≡ length labels
   pub each : (k : ℕ) → k < length labels → IsEntry S at (get_or labels k []) (get_or table k Nothing)
 
 -- the entry is a hypothesis at one of these positions
-abbrev pub is_hypothesis_among : List ℕ → Entry → Bool
+abbrev pub is_hypothesis_among : List ℕ → LabelEntry → Bool
 is_hypothesis_among positions (Hypothesis i) = list_any (λ p. p == i) positions
 is_hypothesis_among positions (Assertion a) = false
 is_hypothesis_among positions Nothing = false

@@ -4,7 +4,7 @@
 use Rattle.std.specs.Prelude.{ℕ, ◌+◌, List, [], ◌∷◌, ◌++◌, length, map, get_or}
 use Rattle.frame.specs.Below.{AreBelow}
 use Rattle.verify.specs.declared.plan.Node.{Node}
-use Rattle.verify.specs.declared.plan.Plan.{Plan}
+use Rattle.verify.specs.declared.plan.TreePlan.{TreePlan}
 use Rattle.verify.specs.declared.plan.Node.TheVariants.{Hyp, Apply}
 use Rattle.verify.specs.Derivations.{Derivation, hyp, apply, from_list}
 use Rattle.verify.specs.Growth.{Trees, trees}
@@ -41,11 +41,11 @@ abbrev pub seen_by : List Node → List ℕ → List ℕ → Trees
 seen_by ns stack saved = trees (map (pick (built ns)) stack) (map (pick (built ns)) saved)
 
 -- the trees of a plan
-abbrev pub trees_of : Plan → Trees
+abbrev pub trees_of : TreePlan → Trees
 trees_of p = seen_by p.nodes.items p.stack.items p.saved.items
 
 -- each node stands behind its children, and each number has a node
-pub record IsPlan (p : Plan) : Type 0 where
+pub record IsPlan (p : TreePlan) : Type 0 where
   pub ordered : AreOrdered 0 p.nodes.items
   pub stack_below : AreBelow (length p.nodes.items) p.stack.items
   pub saved_below : AreBelow (length p.nodes.items) p.saved.items

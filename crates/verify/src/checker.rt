@@ -7,7 +7,7 @@ ghost use Rattle.verify.specs.Proves.{Proves};
 ghost use Rattle.verify.specs.Right.{IsProvable, IsRight, Says};
 
 use crate::answer::Answer;
-use crate::label_table::{Entry, add_listed, fill_mandatory, fill_table};
+use crate::label_table::{LabelEntry, add_listed, fill_mandatory, fill_table};
 use crate::results::Results;
 use crate::run::run;
 use frame::{Frames, Gathered};
@@ -21,7 +21,7 @@ use subst::Findings;
 pub struct Checker {
     alloc: Global,
     reader: Reader,
-    table: Vec<Entry>,
+    table: Vec<LabelEntry>,
     mandatory: Vec<u32>,
     gathered: Gathered,
     findings: Findings,

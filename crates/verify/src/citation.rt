@@ -12,10 +12,10 @@ ghost use Rattle.proof_code.specs.declared.item.Item.TheVariants.{Cite};
 ghost use Rattle.proof_code.specs.ItemNumbers.{item_of};
 ghost use Rattle.subst.specs.Findings.{IsKnown};
 ghost use Rattle.verify.specs.Goes.{Goes, AreNamed, AreKnown, GoesOn};
-ghost use Rattle.verify.specs.declared.label_table.Entry.TheVariants.{Nothing};
+ghost use Rattle.verify.specs.declared.label_table.LabelEntry.TheVariants.{Nothing};
 ghost use Rattle.verify.specs.LabelTable.{IsEntry, AreEntries};
 
-use crate::label_table::Entry;
+use crate::label_table::LabelEntry;
 use crate::results::Results;
 use entries::Cited;
 use frame::{Frames, Gathered, Pairs};
@@ -96,7 +96,7 @@ fn cite(
     frames: &Frames,
     at: usize,
     pairs: &Pairs<'_>,
-    table: &[Entry],
+    table: &[LabelEntry],
     label: usize,
     gathered: &mut Gathered,
     findings: &mut Findings,
@@ -114,11 +114,11 @@ fn cite(
         → IfOk result (λ ok. GoesOn ok frames.now.statements at frames.now.names table.now (Cite name) results.old.results results.new.results) }
 {
     match table[label] {
-        Entry::Hypothesis(position) => results.give(label, frames.expr(position)),
-        Entry::Assertion(position) => cite_assertion(
+        LabelEntry::Hypothesis(position) => results.give(label, frames.expr(position)),
+        LabelEntry::Assertion(position) => cite_assertion(
             frames, at, pairs, position, gathered, findings, results,
         ),
-        Entry::Nothing => Ok(false),
+        LabelEntry::Nothing => Ok(false),
     }
 }
 
@@ -127,7 +127,7 @@ pub fn step(
     frames: &Frames,
     at: usize,
     pairs: &Pairs<'_>,
-    table: &[Entry],
+    table: &[LabelEntry],
     number: u32,
     gathered: &mut Gathered,
     findings: &mut Findings,

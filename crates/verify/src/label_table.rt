@@ -19,7 +19,7 @@ use std::alloc::AllocError;
 
 /// What a label names at a statement.
 #[derive(Clone, Copy, Drop)]
-pub enum Entry {
+pub enum LabelEntry {
     /// A hypothesis that is active there, by position.
     Hypothesis(usize),
     /// An earlier assertion, by position.
@@ -29,18 +29,18 @@ pub enum Entry {
 }
 
 /// What a label names at the statement, by the position of the statement that has the label.
-fn entry_of(frames: &Frames, at: usize, position: Option<usize>) -> Entry
+fn entry_of(frames: &Frames, at: usize, position: Option<usize>) -> LabelEntry
     requires legal { AreLegal frames.now.statements frames.now.names }
     requires place { (1 ≤ at) × (at ≤ length frames.now.statements) }
     ensures { (label : Name) → IsPosition frames.now.statements label position → IsEntry frames.now.statements at label result }
 {
     let Some(position) = position else {
-        return Entry::Nothing;
+        return LabelEntry::Nothing;
     };
     match frames.meaning(at, position) {
-        Meaning::Hypothesis(_) => Entry::Hypothesis(position),
-        Meaning::Assertion => Entry::Assertion(position),
-        Meaning::Nothing => Entry::Nothing,
+        Meaning::Hypothesis(_) => LabelEntry::Hypothesis(position),
+        Meaning::Assertion => LabelEntry::Assertion(position),
+        Meaning::Nothing => LabelEntry::Nothing,
     }
 }
 
@@ -49,7 +49,7 @@ pub fn fill_table(
     frames: &Frames,
     at: usize,
     labels: &Words,
-    table: &mut Vec<Entry>,
+    table: &mut Vec<LabelEntry>,
 ) -> Result<(), AllocError>
     requires place { (1 ≤ at) × (at ≤ length frames.now.statements) }
     ensures entries { OnOk result (AreEntries frames.now.statements at labels.now table.new.items) }
@@ -68,7 +68,7 @@ pub fn fill_mandatory(
     frames: &Frames,
     at: usize,
     mandatory: &mut Vec<u32>,
-    table: &mut Vec<Entry>,
+    table: &mut Vec<LabelEntry>,
 ) -> Result<(), AllocError>
     requires { (s : Statement) × IsProvable frames.now.statements at s }
     ensures mandatory { OnOk result ((s : Statement) → IsProvable frames.now.statements at s → mandatory.new.items ≡ hypotheses (before frames.now.statements at) s) }
@@ -80,18 +80,18 @@ pub fn fill_mandatory(
     frames.mandatory(at, mandatory)?;
     table.clear();
     for position in mandatory.as_slice() {
-        table.push(Entry::Hypothesis(*position as usize))?;
+        table.push(LabelEntry::Hypothesis(*position as usize))?;
     }
     Ok(())
 }
 
 /// Whether the entry is one of these hypotheses.
-fn is_among(entry: Entry, hypotheses: &[u32]) -> bool
+fn is_among(entry: LabelEntry, hypotheses: &[u32]) -> bool
     requires { IsNonDecreasing hypotheses.now }
     ensures { result ≡ is_hypothesis_among hypotheses.now entry }
 {
     match entry {
-        Entry::Hypothesis(position) => match u32::try_from(position) {
+        LabelEntry::Hypothesis(position) => match u32::try_from(position) {
             Ok(position) => hypotheses.binary_search(&position).is_ok(),
             Err(_) => false,
         },
@@ -105,7 +105,7 @@ pub fn add_listed(
     at: usize,
     mandatory: &[u32],
     heading: Heading<'_>,
-    table: &mut Vec<Entry>,
+    table: &mut Vec<LabelEntry>,
 ) -> Result<bool, AllocError>
     requires mandatory { (s : Statement) → IsProvable frames.now.statements at s → mandatory.now ≡ hypotheses (before frames.now.statements at) s }
     requires legal { AreLegal frames.now.statements frames.now.names }

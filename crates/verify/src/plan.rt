@@ -13,7 +13,7 @@ ghost use Rattle.verify.specs.Growth.{trees, with_tree, GrowsMark, GrowsRecall, 
 ghost use Rattle.verify.specs.Plan.{trees_of, IsPlan};
 ghost use Rattle.verify.specs.LabelTable.{IsEntry, AreEntries};
 
-use crate::label_table::Entry;
+use crate::label_table::LabelEntry;
 use frame::Frames;
 use std::alloc::{AllocError, Global};
 
@@ -28,7 +28,7 @@ pub enum Node {
 
 /// The derivations of a proof so far: nodes, and the numbers of those that wait and of those that were marked.
 #[derive(Drop)]
-pub struct Plan {
+pub struct TreePlan {
     pub nodes: Vec<Node>,
     pub stack: Vec<usize>,
     pub saved: Vec<usize>,
@@ -37,11 +37,11 @@ pub struct Plan {
 }
 
 /// A plan of nothing.
-pub fn new_plan(alloc: Global) -> Plan
+pub fn new_plan(alloc: Global) -> TreePlan
     ensures plan { IsPlan result }
     ensures empty { trees_of result ≡ trees [] [] }
 {
-    Plan {
+    TreePlan {
         nodes: Vec::new(alloc),
         stack: Vec::new(alloc),
         saved: Vec::new(alloc),
@@ -50,7 +50,7 @@ pub fn new_plan(alloc: Global) -> Plan
 }
 
 /// Marks the last derivation, if there is one.
-fn mark(plan: &mut Plan) -> Result<bool, AllocError>
+fn mark(plan: &mut TreePlan) -> Result<bool, AllocError>
     requires { IsPlan plan.old }
     ensures plan { OnOk result (IsPlan plan.new) }
     ensures grew { IfOk result (λ ok. GrowsMark ok (trees_of plan.old) (trees_of plan.new)) }
@@ -66,7 +66,7 @@ fn mark(plan: &mut Plan) -> Result<bool, AllocError>
 }
 
 /// Puts the marked derivation of that number on top, if there is one.
-fn recall(plan: &mut Plan, k: usize) -> Result<bool, AllocError>
+fn recall(plan: &mut TreePlan, k: usize) -> Result<bool, AllocError>
     requires { IsPlan plan.old }
     ensures plan { OnOk result (IsPlan plan.new) }
     ensures grew { IfOk result (λ ok. GrowsRecall ok k (trees_of plan.old) (trees_of plan.new)) }
@@ -80,7 +80,7 @@ fn recall(plan: &mut Plan, k: usize) -> Result<bool, AllocError>
 }
 
 /// Adds a hypothesis.
-fn add_hypothesis(plan: &mut Plan, position: usize) -> Result<(), AllocError>
+fn add_hypothesis(plan: &mut TreePlan, position: usize) -> Result<(), AllocError>
     requires { IsPlan plan.old }
     ensures plan { OnOk result (IsPlan plan.new) }
     ensures grew { OnOk result (trees_of plan.new ≡ with_tree (trees_of plan.old) (trees_of plan.old).stack (hyp position)) }
@@ -92,7 +92,7 @@ fn add_hypothesis(plan: &mut Plan, position: usize) -> Result<(), AllocError>
 }
 
 /// Adds an assertion over the last `count` derivations.
-fn add_assertion(plan: &mut Plan, position: usize, count: usize) -> Result<(), AllocError>
+fn add_assertion(plan: &mut TreePlan, position: usize, count: usize) -> Result<(), AllocError>
     requires plan { IsPlan plan.old }
     requires count { count ≤ length plan.old.stack.items }
     ensures plan { OnOk result (IsPlan plan.new) }
@@ -108,7 +108,7 @@ fn add_assertion(plan: &mut Plan, position: usize, count: usize) -> Result<(), A
 }
 
 /// Cites what a label names.
-fn cite(frames: &Frames, entry: Entry, plan: &mut Plan) -> Result<bool, AllocError>
+fn cite(frames: &Frames, entry: LabelEntry, plan: &mut TreePlan) -> Result<bool, AllocError>
     requires plan { IsPlan plan.old }
     requires entry { (at : ℕ) × (label : Name) × IsEntry frames.now.statements at label entry }
     ensures plan { OnOk result (IsPlan plan.new) }
@@ -116,11 +116,11 @@ fn cite(frames: &Frames, entry: Entry, plan: &mut Plan) -> Result<bool, AllocErr
         → IfOk result (λ ok. Grew ok frames.now.statements at (trees_of plan.old) (Cite label) (trees_of plan.new)) }
 {
     match entry {
-        Entry::Hypothesis(position) => {
+        LabelEntry::Hypothesis(position) => {
             add_hypothesis(plan, position)?;
             Ok(true)
         }
-        Entry::Assertion(position) => {
+        LabelEntry::Assertion(position) => {
             plan.mandatory.clear();
             frames.mandatory(position, &mut plan.mandatory)?;
             let count = plan.mandatory.len();
@@ -130,16 +130,16 @@ fn cite(frames: &Frames, entry: Entry, plan: &mut Plan) -> Result<bool, AllocErr
             add_assertion(plan, position, count)?;
             Ok(true)
         }
-        Entry::Nothing => Ok(false),
+        LabelEntry::Nothing => Ok(false),
     }
 }
 
 /// Does one item, by its number.
 pub fn grow(
     frames: &Frames,
-    table: &[Entry],
+    table: &[LabelEntry],
     number: u32,
-    plan: &mut Plan,
+    plan: &mut TreePlan,
 ) -> Result<bool, AllocError>
     requires plan { IsPlan plan.old }
     requires entries { (at : ℕ) × (labels : List Name) × AreEntries frames.now.statements at labels table.now }

@@ -9,7 +9,7 @@ ghost use Rattle.verify.specs.LabelTable.{AreEntries};
 
 use crate::answer::Answer;
 use crate::citation::step;
-use crate::label_table::Entry;
+use crate::label_table::LabelEntry;
 use crate::results::Results;
 use frame::{Frames, Gathered};
 use std::alloc::AllocError;
@@ -20,7 +20,7 @@ use subst::Findings;
 pub fn run(
     frames: &Frames,
     at: usize,
-    table: &[Entry],
+    table: &[LabelEntry],
     numbers: &[u32],
     gathered: &mut Gathered,
     findings: &mut Findings,

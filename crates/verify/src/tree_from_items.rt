@@ -11,7 +11,7 @@ ghost use Rattle.verify.specs.Plan.{built, pick, AreOrdered, trees_of, IsPlan};
 use crate::answer::{Answer, TreeFault};
 use crate::checker::check;
 use crate::label_table::fill_table;
-use crate::plan::{Node, Plan, grow, new_plan};
+use crate::plan::{Node, TreePlan, grow, new_plan};
 use crate::tree::Tree;
 use crate::tree_size::measure;
 use frame::Frames;
@@ -69,7 +69,7 @@ fn right_derivation(
 }
 
 /// The plan that the items of a right proof make.
-fn plan_of(alloc: Global, frames: &Frames, at: usize, items: &Items) -> Result<Plan, AllocError>
+fn plan_of(alloc: Global, frames: &Frames, at: usize, items: &Items) -> Result<TreePlan, AllocError>
     requires { IsRight frames.now.statements at items.now }
     ensures once { HasLabelsOnce frames.now.statements }
     ensures plan { IfOk result IsPlan }

@@ -2,8 +2,8 @@
 -- The code's own form: no public clause cites it.
 -- So more behind the buffers changes no statement, and the buffers can be cut where a statement begins.
 use Rattle.std.specs.Prelude.{◌≡◌, ℕ, ◌+◌, ◌-◌, ◌<◌, ◌≤◌, ◌^◌, Bool, true, false, List, [], ◌∷◌, length, take, slice_get, slice_range, get_or, Option, Some, None, ◌++◌}
-use Rattle.entries.specs.declared.statement_record.Record.{Record}
-use Rattle.entries.specs.declared.statement_record.Row.{Row}
+use Rattle.entries.specs.declared.statement_record.StatementRecord.{StatementRecord}
+use Rattle.entries.specs.declared.statement_record.AssertionRow.{AssertionRow}
 use Rattle.entries.specs.declared.statement_record.Buffers.{Buffers}
 use Rattle.entries.specs.declared.entries.Ends.{Ends}
 use Rattle.entries.specs.declared.sizes.Sizes.{Sizes}
@@ -45,29 +45,29 @@ entry_of b p = record {
 
 -- ---- from the records to the places
 
-abbrev pub head_of : Record → Head
+abbrev pub head_of : StatementRecord → Head
 head_of r = record { kind = r.kind; label = r.label; names = r.names; links = r.links }
 
 -- what a row would say of a statement that has none
-abbrev pub rowless : Bool → Row
+abbrev pub rowless : Bool → AssertionRow
 rowless whole = record { whole = whole; symbols = 0; heads = 0; places = 0; hypotheses_from = 0; hypotheses = 0; groups_from = 0; groups = 0 }
 
-abbrev pub no_row : Row
+abbrev pub no_row : AssertionRow
 no_row = rowless false
 
-abbrev pub row_by : Bool → Bool → List Row → ℕ → Row
+abbrev pub row_by : Bool → Bool → List AssertionRow → ℕ → AssertionRow
 row_by true whole rows k = get_or rows k no_row
 row_by false whole rows k = rowless whole
 
-abbrev pub own_row : List Row → Record → Row
+abbrev pub own_row : List AssertionRow → StatementRecord → AssertionRow
 own_row rows r = row_by r.has_row r.whole rows r.row
 
 -- how many hypotheses and groups there were before the row at k
-abbrev pub hypotheses_by : ℕ → Option Row → ℕ
+abbrev pub hypotheses_by : ℕ → Option AssertionRow → ℕ
 hypotheses_by n None = n
 hypotheses_by n (Some w) = w.hypotheses_from
 
-abbrev pub groups_by : ℕ → Option Row → ℕ
+abbrev pub groups_by : ℕ → Option AssertionRow → ℕ
 groups_by n None = n
 groups_by n (Some w) = w.groups_from
 
@@ -78,7 +78,7 @@ abbrev pub groups_at : Buffers → ℕ → ℕ
 groups_at b k = groups_by (length b.groups.items) (slice_get b.rows.items k)
 
 -- the place of a statement with the row w
-abbrev pub row_place : Record → Row → Place
+abbrev pub row_place : StatementRecord → AssertionRow → Place
 row_place r w = record {
   head = head_of r;
   whole = w.whole;
@@ -95,7 +95,7 @@ row_place r w = record {
 }
 
 -- the place of a statement that has none, whose numbers end there, behind so many hypotheses and groups
-abbrev pub plain_place : Record → ℕ → ℕ → ℕ → Place
+abbrev pub plain_place : StatementRecord → ℕ → ℕ → ℕ → Place
 plain_place r end hypotheses groups = record {
   head = head_of r;
   whole = r.whole;
@@ -111,29 +111,29 @@ plain_place r end hypotheses groups = record {
   rows = r.row;
 }
 
-abbrev pub place_by : Bool → Buffers → Record → ℕ → Place
+abbrev pub place_by : Bool → Buffers → StatementRecord → ℕ → Place
 place_by true b r end = row_place r (get_or b.rows.items r.row no_row)
 place_by false b r end = plain_place r end (hypotheses_at b r.row) (groups_at b r.row)
 
-abbrev pub place_of : Buffers → Record → ℕ → Place
+abbrev pub place_of : Buffers → StatementRecord → ℕ → Place
 place_of b r end = place_by r.has_row b r end
 
 -- where the numbers end of a statement that stands before these
-abbrev pub end_of : Buffers → List Record → ℕ
+abbrev pub end_of : Buffers → List StatementRecord → ℕ
 end_of b [] = length b.numbers.items
 end_of b (r ∷ rs) = r.from
 
 -- the same by the next record
-abbrev pub from_by : ℕ → Option Record → ℕ
+abbrev pub from_by : ℕ → Option StatementRecord → ℕ
 from_by n None = n
 from_by n (Some r) = r.from
 
 -- where its symbols end
-abbrev pub symbols_by : Bool → Row → ℕ → ℕ
+abbrev pub symbols_by : Bool → AssertionRow → ℕ → ℕ
 symbols_by true w end = w.symbols
 symbols_by false w end = end
 
-abbrev pub places_of : Buffers → List Record → List Place
+abbrev pub places_of : Buffers → List StatementRecord → List Place
 places_of b [] = []
 places_of b (r ∷ rs) = place_of b r (end_of b rs) ∷ places_of b rs
 
@@ -205,7 +205,7 @@ pub record AreEnds (old new : List ℕ) (p : AssertionParts) (e : Ends) : Type 0
   pub places : slice_range new e.heads e.places ≡ p.places.now
 
 -- the parts of an assertion stand in these buffers, from there on, where the row tells
-pub record IsRowOf (old new : Buffers) (p : AssertionParts) (w : Row) : Type 0 where
+pub record IsRowOf (old new : Buffers) (p : AssertionParts) (w : AssertionRow) : Type 0 where
   pub whole : w.whole ≡ p.whole
   pub from_symbols : length old.numbers.items ≤ w.symbols
   pub symbols_heads : w.symbols ≤ w.heads

@@ -11,24 +11,24 @@ use Rattle.scope.specs.Numbering.{names_of}
 use Rattle.scope.specs.Kinds.{Declared, declared_names, declared_symbols, TellsAll}
 use Rattle.scope.specs.Standing.{stands_at, IsStanding}
 use Rattle.scope.specs.Symbols.{symbols_of}
-use Rattle.scope.specs.declared.stack_heights.Sizes.{Sizes}
+use Rattle.scope.specs.declared.stack_heights.StackHeights.{StackHeights}
 use Rattle.scope.specs.declared.standing.Standing.{Standing}
 
 -- how high the stacks stand behind these active statements
-abbrev pub sizes_of : List (ℕ × Stmt) → Sizes
+abbrev pub sizes_of : List (ℕ × Stmt) → StackHeights
 sizes_of es = record { variables = length (flat_map (λ p. variables p.1) es); typed = length (flat_map (λ p. typed_by p.1) es); standing = length (flat_map (λ p. stands_at p.0 p.1) es) }
 
 -- how high they stood before each of the open blocks
-abbrev pub blocks_from : List (ℕ × Stmt) → List (ℕ × Stmt) → List Sizes
+abbrev pub blocks_from : List (ℕ × Stmt) → List (ℕ × Stmt) → List StackHeights
 blocks_from before [] = []
 blocks_from before (p ∷ es) =
     if is_open p.1 then sizes_of before ∷ blocks_from (before ++ p ∷ []) es else blocks_from (before ++ p ∷ []) es
 
-abbrev pub blocks_of : Database → List Sizes
+abbrev pub blocks_of : Database → List StackHeights
 blocks_of S = blocks_from [] (active S)
 
 -- the marked statements are the first ones, and what follows them closes none of their blocks, of which none is open
-pub record IsMarked (S M : Database) (names : Declared) (mark : Sizes) (marked_names : ℕ) : Type 0 where
+pub record IsMarked (S M : Database) (names : Declared) (mark : StackHeights) (marked_names : ℕ) : Type 0 where
   pub later : (T : Database) × (S ≡ M ++ T) × (stays_open 0 T ≡ true)
   pub closed : is_closed M ≡ true
   pub sizes : mark ≡ sizes_of (active M)
@@ -37,7 +37,7 @@ pub record IsMarked (S M : Database) (names : Declared) (mark : Sizes) (marked_n
   pub symbols : declared_symbols (take marked_names names) ≡ symbols_of M
   pub typed_known : AreNamed (names_of M) (typed_variables M)
 
-pub record IsKept (S M : Database) (names : Declared) (variable_stack typed_stack : List ℕ) (blocks : List Sizes) (mark : Sizes) (marked_names : ℕ) : Type 0 where
+pub record IsKept (S M : Database) (names : Declared) (variable_stack typed_stack : List ℕ) (blocks : List StackHeights) (mark : StackHeights) (marked_names : ℕ) : Type 0 where
   pub named : declared_names names ≡ names_of S
   pub told : TellsAll S names
   pub symbols : declared_symbols names ≡ symbols_of S
@@ -48,6 +48,6 @@ pub record IsKept (S M : Database) (names : Declared) (variable_stack typed_stac
   pub never_below : stays_open 0 S ≡ true
   pub marked : IsMarked S M names mark marked_names
 
-pub record IsScope (S M : Database) (names : Declared) (variable_stack typed_stack : List ℕ) (standing : List Standing) (blocks : List Sizes) (mark : Sizes) (marked_names count marked_count : ℕ) : Type 0 where
+pub record IsScope (S M : Database) (names : Declared) (variable_stack typed_stack : List ℕ) (standing : List Standing) (blocks : List StackHeights) (mark : StackHeights) (marked_names count marked_count : ℕ) : Type 0 where
   pub kept : IsKept S M names variable_stack typed_stack blocks mark marked_names
   pub stands : IsStanding S M standing count marked_count

@@ -19,7 +19,7 @@ use Rattle.verify.specs.Fits.{AreRead}
 use Rattle.verify.specs.ResultPlaces.{below, top}
 use Rattle.verify.specs.Machine.{State, Steps}
 use Rattle.steps.specs.declared.table_draft.PlacedStep.{PlacedStep}
-use Rattle.steps.specs.declared.table_draft.Draft.{Draft}
+use Rattle.steps.specs.declared.table_draft.TableDraft.{TableDraft}
 use Rattle.steps.specs.StepTable.{Step, Progress, progress, Notes}
 use Rattle.steps.specs.Rows.{Row, no_row, steps_of, expr_in, AreRows}
 
@@ -41,17 +41,17 @@ pub record AreKnown (known : BTreeMap (Vec ℕ Global) ℕ) (steps : List Step) 
 abbrev pub row_of : List ℕ → PlacedStep → Row
 row_of symbols p = record { step = record { position = p.position; taken = p.taken.items }; expr = seen_at symbols p.place }
 
-abbrev pub rows_of : Draft → List Row
+abbrev pub rows_of : TableDraft → List Row
 rows_of d = map (row_of d.symbols) d.placed.items
 
 abbrev pub AreInBuffer : ℕ → List PlacedStep → Type 0
 AreInBuffer n [] = Unit {0}
 AreInBuffer n (p ∷ ps) = (p.place.start ≤ p.place.end) × (p.place.end ≤ n) × AreInBuffer n ps
 
-abbrev pub progress_of : Draft → Progress
+abbrev pub progress_of : TableDraft → Progress
 progress_of d = progress (steps_of (rows_of d)) d.stack.items d.saved.items
 
-pub record IsDraft (S : Database) (at : ℕ) (names : List Name) (d : Draft) : Type 0 where
+pub record IsDraft (S : Database) (at : ℕ) (names : List Name) (d : TableDraft) : Type 0 where
   pub inside : AreInBuffer (length d.symbols) d.placed.items
   pub rows : AreRows S at names (rows_of d)
   pub known : AreKnown d.known (steps_of (rows_of d))
@@ -59,20 +59,20 @@ pub record IsDraft (S : Database) (at : ℕ) (names : List Name) (d : Draft) : T
   pub saved_below : AreBelow (length d.placed.items) d.saved.items
 
 -- the results of a run are the expressions of the rows
-pub record IsTied (names : List Name) (d : Draft) (st : State) : Type 0 where
+pub record IsTied (names : List Name) (d : TableDraft) (st : State) : Type 0 where
   pub stack : map (expr_in names (rows_of d)) d.stack.items ≡ st.stack
   pub saved : map (expr_in names (rows_of d)) d.saved.items ≡ st.saved
 
 -- a run does the item
-abbrev pub CanDo : Database → ℕ → List Name → Draft → Item → Type 0
+abbrev pub CanDo : Database → ℕ → List Name → TableDraft → Item → Type 0
 CanDo S at names old item = (st : State) × (next : State) × IsTied names old st × Steps S at st item next
 
 -- where a run does the item, it was noted, and the results of the run are the expressions of the rows
-abbrev pub IsDone : Database → ℕ → List Name → Draft → Item → Draft → Type 0
+abbrev pub IsDone : Database → ℕ → List Name → TableDraft → Item → TableDraft → Type 0
 IsDone S at names old item new = (st next : State) → IsTied names old st → Steps S at st item next → Notes S at (progress_of old) item (progress_of new) × IsTied names new next
 
 -- the code of the row at a place
-abbrev pub codes_in : Draft → ℕ → List ℕ
+abbrev pub codes_in : TableDraft → ℕ → List ℕ
 codes_in d k = (get_or (rows_of d) k no_row).expr
 
 -- where the expression of the step at a place lies
@@ -81,14 +81,14 @@ place_in [] k = record { start = 0; end = 0 }
 place_in (p ∷ ps) zero = p.place
 place_in (p ∷ ps) (suc k) = place_in ps k
 
-pub record AreHeld (d : Draft) : Type 0 where
+pub record AreHeld (d : TableDraft) : Type 0 where
   pub inside : AreInBuffer (length d.symbols) d.placed.items
   pub stack_below : AreBelow (length d.placed.items) d.stack.items
 
 -- ---- what a change adds
 
 -- a step was added, and its result put on top
-pub record Adds (old new : Draft) (step : PlacedStep) : Type 0 where
+pub record Adds (old new : TableDraft) (step : PlacedStep) : Type 0 where
   pub placed : new.placed.items ≡ old.placed.items ++ step ∷ []
   pub symbols : new.symbols ≡ old.symbols
   pub stack : new.stack.items ≡ old.stack.items ++ length old.placed.items ∷ []
@@ -97,7 +97,7 @@ pub record Adds (old new : Draft) (step : PlacedStep) : Type 0 where
   pub others : (x : List ℕ) → x ≢ step.position ∷ step.taken.items → place_of new.known x ≡ place_of old.known x
 
 -- a step that was there, in place of the results above `below`
-pub record Finds (old new : Draft) (step : Step) (below : List ℕ) : Type 0 where
+pub record Finds (old new : TableDraft) (step : Step) (below : List ℕ) : Type 0 where
   pub place : ℕ
   pub found : place_of old.known (key_of step) ≡ Some place
   pub stack : new.stack.items ≡ below ++ place ∷ []
@@ -107,7 +107,7 @@ pub record Finds (old new : Draft) (step : Step) (below : List ℕ) : Type 0 whe
   pub known : new.known ≡ old.known
 
 -- a step that was not there, with its expression, in place of the results above `below`
-pub record Makes (old new : Draft) (step : Step) (below e : List ℕ) : Type 0 where
+pub record Makes (old new : TableDraft) (step : Step) (below e : List ℕ) : Type 0 where
   pub made : PlacedStep
   pub is_position : made.position ≡ step.position
   pub is_taken : made.taken.items ≡ step.taken
@@ -121,12 +121,12 @@ pub record Makes (old new : Draft) (step : Step) (below e : List ℕ) : Type 0 w
   pub own : place_of new.known (key_of step) ≡ Some (length old.placed.items)
   pub others : (x : List ℕ) → x ≢ key_of step → place_of new.known x ≡ place_of old.known x
 
-abbrev pub GivesHypothesis : Draft → Draft → ℕ → List ℕ → Type 0
+abbrev pub GivesHypothesis : TableDraft → TableDraft → ℕ → List ℕ → Type 0
 GivesHypothesis old new position e =
     let step : Step = record { position = position; taken = [] } in Finds old new step old.stack.items ⊎ Makes old new step old.stack.items e
 
 -- an assertion takes as many results as it has hypotheses, and its images are read off them
-abbrev pub GivesAssertion : Draft → Draft → ℕ → Cited → Type 0
+abbrev pub GivesAssertion : TableDraft → TableDraft → ℕ → Cited → Type 0
 GivesAssertion old new position cited =
     let n = length cited.hypotheses.now in
     let step : Step = record { position = position; taken = top n old.stack.items } in

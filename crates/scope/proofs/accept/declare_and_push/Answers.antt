@@ -5,7 +5,7 @@ use Rattle.mm_lex.specs.Alphabet.{has_name}
 use Rattle.scope.specs.Kinds.{declared_names}
 use Rattle.names.specs.Codes.{numbers_in}
 use Rattle.scope.specs.Numbering.{can_push}
-use Rattle.scope.specs.declared.numbering.Kind.TheVariants.{Variable}
+use Rattle.scope.specs.declared.numbering.NameKind.TheVariants.{Variable}
 use Rattle.scope.proofs.NamesLemmas.{declared_names-with_kinds, all-with_names}
 use Rattle.scope.proofs.AcceptLemmas.{with_kinds-more}
 use Rattle.scope.proofs.accept.declare_and_push.Goals as goal

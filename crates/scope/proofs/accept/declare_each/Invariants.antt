@@ -1,6 +1,6 @@
 use Rattle.std.proofs.Common.{◌≡◌, ◌≢◌, ◌++◌}
 use Rattle.scope.specs.Kinds.{Declared, with_kinds, AreNew}
-use Rattle.scope.specs.declared.numbering.Kind.TheVariants.{Variable}
+use Rattle.scope.specs.declared.numbering.NameKind.TheVariants.{Variable}
 use Rattle.scope.proofs.accept.declare_each.Given as goal
 
 abbrev pub invariant-loop-symbol : goal.invariant-loop-symbol

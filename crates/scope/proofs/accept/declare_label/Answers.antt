@@ -1,6 +1,6 @@
 use Rattle.std.proofs.Common.{◌∙◌, sym}
 use Rattle.std.proofs.lemmas.Result.{on_ok_weaker}
-use Rattle.scope.specs.declared.numbering.Kind.TheVariants.{Label}
+use Rattle.scope.specs.declared.numbering.NameKind.TheVariants.{Label}
 use Rattle.scope.proofs.AcceptLemmas.{with_kind-new}
 use Rattle.scope.proofs.accept.declare_label.Goals as goal
 

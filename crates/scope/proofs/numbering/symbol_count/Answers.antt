@@ -1,6 +1,6 @@
 use Rattle.std.proofs.Common.{arith, ◌≡◌, ◌+◌}
 use Rattle.scope.specs.Stored.KindCounts.{count_behind}
-use Rattle.scope.specs.declared.numbering.Kind.TheVariants.{Label, Constant, Variable}
+use Rattle.scope.specs.declared.numbering.NameKind.TheVariants.{Label, Constant, Variable}
 use Rattle.scope.proofs.KindCountLemmas.{last-behind, count-below}
 use Rattle.scope.proofs.numbering.symbol_count.Goals as goal
 

@@ -1,5 +1,5 @@
 use Rattle.std.proofs.Common.{◌≡◌, map, take}
-use Rattle.verify.specs.declared.label_table.Entry.TheVariants.{Hypothesis}
+use Rattle.verify.specs.declared.label_table.LabelEntry.TheVariants.{Hypothesis}
 use Rattle.verify.proofs.label_table.fill_mandatory.Given as goal
 
 abbrev pub invariant-loop-position : goal.invariant-loop-position

@@ -1,6 +1,6 @@
 use Rattle.std.proofs.Common.{sym, ◌∙◌, ap, arith}
 use Rattle.std.proofs.lemmas.List.Sorted.{searched}
-use Rattle.verify.specs.declared.label_table.Entry.TheVariants.{Hypothesis}
+use Rattle.verify.specs.declared.label_table.LabelEntry.TheVariants.{Hypothesis}
 use Rattle.verify.specs.LabelTable.{is_hypothesis_among}
 use Rattle.verify.proofs.ListedLabels.{found-is, none-is}
 use Rattle.verify.proofs.label_table.is_among.Goals as goal

@@ -7,7 +7,7 @@ use Rattle.verify.specs.Growth.{Trees, trees, GrowsBy, Grew}
 use Rattle.verify.specs.Plan.{trees_of}
 use Rattle.verify.specs.Right.{IsRight}
 use Rattle.verify.specs.LabelTable.{AreEntries}
-use Rattle.verify.specs.declared.label_table.Entry.{Entry}
+use Rattle.verify.specs.declared.label_table.LabelEntry.{LabelEntry}
 use Rattle.verify.proofs.StepLemmas.{items-more, items-rest}
 use Rattle.verify.proofs.GrowthLemmas.{never-stuck, grows-on}
 use Rattle.verify.proofs.tree_from_items.plan_of.Goals as goal
@@ -16,7 +16,7 @@ if_ok : {A E : Type 0} (r : Result A E) (x : A) (P : A → Type 0) → r ≡ Ok 
 if_ok r x P e h = let Q : Result _ _ → Type 0 = λ v. IfOk v P in subst Q e h
 
 -- what the item did
-went : (S : Database) (at : ℕ) (labels : List Name) (n : ℕ) (old new : Trees) (table table' : List Entry) (E : Type 0) (r : Result Bool E) (ok b : Bool) → HasLabelsOnce S → table' ≡ table → AreEntries S at labels table
+went : (S : Database) (at : ℕ) (labels : List Name) (n : ℕ) (old new : Trees) (table table' : List LabelEntry) (E : Type 0) (r : Result Bool E) (ok b : Bool) → HasLabelsOnce S → table' ≡ table → AreEntries S at labels table
     → ((a : ℕ) (ls : List Name) → HasLabelsOnce S → AreEntries S a ls table' → IfOk r (λ v. Grew v S a old (item_of ls n) new)) → r ≡ Ok ok → ok ≡ b → Grew b S at old (item_of labels n) new
 went S at labels n old new table table' E r ok b once same are grew was is =
     subst (λ v. Grew v S at old (item_of labels n) new) is (if_ok r ok (λ v. Grew v S at old (item_of labels n) new) was (grew at labels once (subst (AreEntries S at labels) (sym same) are)))

@@ -6,7 +6,7 @@ use Rattle.std.specs.List.{list_any}
 use Rattle.mm_lex.specs.Alphabet.{has_name}
 use Rattle.scope.specs.Kinds.{kind_in, with_kind, declared_names}
 use Rattle.names.specs.Codes.{number_in}
-use Rattle.scope.specs.declared.numbering.Kind.TheVariants.{Label}
+use Rattle.scope.specs.declared.numbering.NameKind.TheVariants.{Label}
 use Rattle.scope.specs.Standing.{stands_at}
 use Rattle.scope.proofs.StandingLemmas.{same-standing, standing-more}
 use Rattle.scope.proofs.AcceptLemmas.{same-kept, ok_of, accept-float, label-none, float-known, float-apart}

@@ -2,7 +2,7 @@ use Rattle.std.proofs.Common.{◌++◌, ◌+◌, ◌≡◌, ◌∙◌, ap, sym, 
 use Rattle.scope.specs.Active.{bare}
 use Rattle.scope.specs.Legal.{broken_rule}
 use Rattle.scope.specs.Kinds.{kind_in, with_kind}
-use Rattle.scope.specs.declared.numbering.Kind.TheVariants.{Label}
+use Rattle.scope.specs.declared.numbering.NameKind.TheVariants.{Label}
 use Rattle.scope.proofs.StandingLemmas.{same-standing, standing-more, stands-bare}
 use Rattle.scope.proofs.AcceptLemmas.{same-kept, ok_of, accept-labelled, label-none, bare-labelled, bare-rule}
 use Rattle.scope.proofs.judge.Judge.accept_labelled.Goals as goal

@@ -4,7 +4,7 @@ use Rattle.std.proofs.lemmas.List.{map-append}
 use Rattle.scope.specs.Kinds.{kind_in, with_their}
 use Rattle.scope.proofs.KindsLemmas.{none-kind, their-push}
 use Rattle.scope.specs.Stored.KindCounts.{kinds_of, AreCounted, count_behind}
-use Rattle.scope.specs.declared.numbering.Entry.{Entry}
+use Rattle.scope.specs.declared.numbering.CountedKind.{CountedKind}
 use Rattle.scope.proofs.KindCountLemmas.{kinds-length, counted-push}
 use Rattle.scope.proofs.numbering.Numbering.declare.Goals as goal
 use Rattle.scope.proofs.numbering.Numbering.declare.Goals.{Else-is_err}
@@ -27,7 +27,7 @@ returns-clause-ok c =
 
 pub invariant_of-self-else-is_err : goal.invariant_of-self-else-is_err
 invariant_of-self-else-is_err c =
-    let e : Entry = record { kind = c.args.kind; before = c.symbol_count-before.result } in
+    let e : CountedKind = record { kind = c.args.kind; before = c.symbol_count-before.result } in
     let long = ap length (entries-are c) ∙ length-append c.self.inside.entries.items (e ∷ []) in
     let more = ap length c.in_ok-number.ensures.ok ∙ length-append c.self.inside.names (c.args.name.now ∷ []) in (
       omega (arith, long, more, c.self.invariant.0),

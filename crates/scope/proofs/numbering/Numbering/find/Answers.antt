@@ -4,7 +4,7 @@ use Rattle.std.proofs.lemmas.Option.{slice_get-map}
 use Rattle.names.specs.Codes.{code_of}
 use Rattle.mm_lex.specs.Alphabet.{Name}
 use Rattle.scope.specs.Kinds.{Declared, declared_names, kind_in, with_their}
-use Rattle.scope.specs.declared.numbering.Kind.{Kind}
+use Rattle.scope.specs.declared.numbering.NameKind.{NameKind}
 use Rattle.names.proofs.CodesLemmas.{code-name, code-first}
 use Rattle.names.proofs.CodesLemmas.{unknown-number}
 use Rattle.scope.proofs.KindsLemmas.{names-seen, kind-at, kind-none}
@@ -12,7 +12,7 @@ use Rattle.scope.specs.Stored.KindCounts.{kinds_of}
 use Rattle.scope.proofs.KindCountLemmas.{kinds-length}
 use Rattle.scope.proofs.numbering.Numbering.find.Goals as goal
 
-declared : (names : List Name) (kinds : List Kind) (seen : Declared) → length kinds ≡ length names → with_their names kinds ≡ seen → declared_names seen ≡ names
+declared : (names : List Name) (kinds : List NameKind) (seen : Declared) → length kinds ≡ length names → with_their names kinds ≡ seen → declared_names seen ≡ names
 declared names kinds seen l v = ap declared_names (sym v) ∙ names-seen names kinds l
 
 pub overflow_cast-result : goal.overflow_cast-result

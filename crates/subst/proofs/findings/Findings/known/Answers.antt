@@ -1,6 +1,6 @@
 use Rattle.std.proofs.Common.{arith, ap, ◌∙◌, sym, ◌<◌, length}
 use Rattle.std.proofs.lemmas.List.{get_or_default}
-use Rattle.subst.specs.declared.findings.Symbol.{Symbol}
+use Rattle.subst.specs.declared.findings.FoundSymbol.{FoundSymbol}
 use Rattle.subst.specs.Findings.{Found, symbol_at, no_symbol}
 use Rattle.subst.proofs.findings.Findings.known.Goals as goal
 
@@ -12,6 +12,6 @@ returns-then-listed-symbol c =
     record {
       place = c.index.result.now;
       there = omega (arith, count, low);
-      same = ap (λ (s : Symbol). s.number) (sym read) ∙ c.if-listed-symbol.true;
-      own = ap (λ (s : Symbol). s.bit) (sym read);
+      same = ap (λ (s : FoundSymbol). s.number) (sym read) ∙ c.if-listed-symbol.true;
+      own = ap (λ (s : FoundSymbol). s.bit) (sym read);
     }
