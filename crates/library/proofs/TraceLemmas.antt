@@ -9,7 +9,6 @@ use Rattle.mm_read.specs.Statements.{Database}
 use Rattle.scope.specs.Active.{stmt_at, is_provable}
 use Rattle.verify.specs.Proves.{label_or_none}
 use Rattle.verify.specs.Right.{IsProvable}
-use Rattle.verify.proofs.ListedLabels.{rises-less}
 use Rattle.library.specs.Uses.{RestsOn, Uses, directly, through, is_axiom, IsAxiomAt, Rises, IsIn, AreLabelsOf}
 use Rattle.library.specs.UseMarks.{IsMarked, Reaches, starts, leads, AreReached, axiom_label, axioms_in}
 
@@ -54,16 +53,21 @@ positions n (s ∷ S) [] = []
 positions n (s ∷ S) (false ∷ ms) = positions (suc n) S ms
 positions n (s ∷ S) (true ∷ ms) = cond (is_axiom s) (n ∷ positions (suc n) S ms) (positions (suc n) S ms)
 
+-- numbers that rise above one number rise above a lower one
+rises-below : (a b : ℕ) (ns : List ℕ) → a ≤ b → Rises b ns → Rises a ns
+rises-below a b [] h r = tt
+rises-below a b (n ∷ ns) h r = (let l = r.0 in omega (arith, h, l), r.1)
+
 -- the positions of the `$a` that are marked rise
 rising : (n : ℕ) (S : Database) (ms : List Bool) → Rises n (positions (suc n) S ms)
 rising n [] ms = tt
 rising n (s ∷ S) [] = tt
-rising n (s ∷ S) (false ∷ ms) = rises-less n (suc n) (positions (suc (suc n)) S ms) (omega arith) (rising (suc n) S ms)
+rising n (s ∷ S) (false ∷ ms) = rises-below n (suc n) (positions (suc (suc n)) S ms) (omega arith) (rising (suc n) S ms)
 rising n (s ∷ S) (true ∷ ms) = by (rising (suc n) S ms) (is_axiom s)
   where
     by : Rises (suc n) (positions (suc (suc n)) S ms) → (b : Bool) → Rises n (cond b (suc n ∷ positions (suc (suc n)) S ms) (positions (suc (suc n)) S ms))
     by rest true = (omega arith, rest)
-    by rest false = rises-less n (suc n) (positions (suc (suc n)) S ms) (omega arith) rest
+    by rest false = rises-below n (suc n) (positions (suc (suc n)) S ms) (omega arith) rest
 
 -- a marked `$a` of the list, the first statement having this number
 record IsChosen (n : ℕ) (S : Database) (ms : List Bool) (a : ℕ) : Type 0 where
