@@ -8,7 +8,7 @@ ghost use Rattle.switch.specs.Switch.{world_of};
 ghost use Rattle.nodes.specs.Desk.{IsPlayed, IsRestarted};
 ghost use Rattle.nodes.specs.Report.{is_own};
 
-use cluster::{NodeCell, Switch, begin_on, offer_on, restart_on};
+use cluster::{NodeCell, Switch, begin_on, deliver_on, offer_on, restart_on};
 use library::Entry;
 use net::{Event, MOST_EVENTS, StepFault};
 use std::alloc::Global;
@@ -61,6 +61,17 @@ impl<K: Keep<Carried>> Board<K> {
         ensures { IsRestarted cell.old.at result }
     {
         restart_on(cell, &mut self.switch)
+    }
+
+    /// Delivers packets one after another, and gives the hints of what they post. A delivery that is refused posts nothing.
+    pub fn deliver_all(&mut self, alloc: Global, packets: &[u64]) -> Vec<Hint> {
+        let before = self.posted;
+        for number in packets {
+            if let Ok(count) = deliver_on(&mut self.switch, *number) {
+                self.posted = count;
+            }
+        }
+        self.hints(alloc, before, self.posted)
     }
 
     /// The hints of the packets posted by an event that was answered so, all packets being counted.

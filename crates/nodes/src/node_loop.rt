@@ -3,31 +3,46 @@ use crate::board::Hint;
 use crate::shared::Shared;
 use crate::weather::{Fate, Weather};
 use crossbeam_channel::Receiver;
+use std::iter;
 use std::sync::{Arc, Wait};
 use std::thread::Threads;
 use synod::Keep;
 use verify_pool::Gate;
 use world::Carried;
 
-/// Takes hint after hint until the channel ends.
+/// How many of the hints that wait a node takes at once: each lock is taken once for all of them.
+const MOST_HINTS: usize = 32;
+
+/// Takes the hints that wait, turn after turn, until the channel ends.
 pub(crate) fn run_node<
     G: Gate + Sync + Drop,
     K: Keep<Carried> + Drop,
     W: Weather + Drop,
     R: Threads + Wait + Sync + Drop,
 >(rt: R, shared: Arc<Shared<G, K>>, k: u8, mut weather: W, hints: Receiver<u64>) {
+    let mut packets = Vec::new(shared.alloc);
     for _ in rt.forever() {
-        let Ok(number) = hints.recv(&rt) else {
+        let Ok(first) = hints.recv(&rt) else {
             break;
         };
-        match weather.turn(number) {
-            Fate::Pass => shared.handle(&rt, k, number),
-            Fate::Drop => {}
-            Fate::Twice => {
-                shared.handle(&rt, k, number);
-                shared.handle(&rt, k, number);
+        packets.clear();
+        for number in iter::once(first)
+            .chain(hints.try_iter(&rt))
+            .take(MOST_HINTS)
+        {
+            // A hint for which there is no memory is a lost packet.
+            match weather.turn(number) {
+                Fate::Pass => {
+                    let _ = packets.push(number);
+                }
+                Fate::Drop => {}
+                Fate::Twice => {
+                    let _ = packets.push(number);
+                    let _ = packets.push(number);
+                }
+                Fate::Later => shared.send(&rt, &[Hint { node: k, number }]),
             }
-            Fate::Later => shared.send(&rt, &[Hint { node: k, number }]),
         }
+        shared.handle(&rt, k, packets.as_slice());
     }
 }

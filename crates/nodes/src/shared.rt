@@ -5,7 +5,7 @@ ghost use Rattle.net.specs.declared.fault.StepFault.TheVariants.{NoNode, Apart};
 ghost use Rattle.nodes.specs.Desk.{IsCompared};
 
 use crate::board::{Board, Hint};
-use cluster::{Ahead, NodeCell, Switch, apply_on_with, belongs, compare_on, deliver_on, take_on};
+use cluster::{Ahead, NodeCell, Switch, apply_on_with, belongs, compare_on, take_on};
 use crossbeam_channel::Sender;
 use net::StepFault;
 use slots::SLOTS;
@@ -56,9 +56,9 @@ impl<G: Gate, K: Keep<Carried>> Shared<G, K> {
         }
     }
 
-    /// Delivers a packet at node `k`, takes over what its log has, sends the hints of the posts, and applies. What meets want of
-    /// memory is taken over or applied at a later hint.
-    pub fn handle<R: Threads + Wait + Sync>(&self, rt: &R, k: u8, number: u64)
+    /// Delivers packets at node `k` one after another, takes over what its log has then, sends the hints of their posts, and applies.
+    /// What meets want of memory is taken over or applied at a later hint.
+    pub fn handle<R: Threads + Wait + Sync>(&self, rt: &R, k: u8, packets: &[u64])
     where
         G: Sync,
     {
@@ -66,15 +66,13 @@ impl<G: Gate, K: Keep<Carried>> Shared<G, K> {
             return;
         };
         let mut cell = lock.lock(rt);
-        let posts = {
+        let hints = {
             let mut board = self.board.lock(rt);
-            let answer = deliver_on(&mut board.switch, number);
+            let hints = board.deliver_all(self.alloc, packets);
             take_all(&mut cell, &board);
-            board.posts(self.alloc, answer)
+            hints
         };
-        if let Ok(hints) = posts {
-            self.send(rt, &hints);
-        }
+        self.send(rt, &hints);
         self.apply_all(rt, &mut cell, k);
     }
 
