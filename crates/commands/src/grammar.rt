@@ -8,9 +8,168 @@ const VERSION: &str = "1.0.0";
 /// The line that `--version` prints.
 pub const VERSION_LINE: &str = "mmlib 1.0.0\n";
 
+/// What a command takes behind its name.
+enum Form {
+    /// A label.
+    Label,
+    /// One label or more.
+    Labels,
+    /// An option that is there or not.
+    Flag,
+    /// An option with a value, which is called so.
+    Value(&'static str),
+}
+
+/// A label or an option of a command.
+struct Argument {
+    name: &'static str,
+    form: Form,
+    is_required: bool,
+    /// The option that may not stand beside it.
+    without: Option<&'static str>,
+    help: &'static str,
+}
+
+const LABEL: Argument = Argument {
+    name: "label",
+    form: Form::Label,
+    is_required: true,
+    without: None,
+    help: "A label of the database; one that begins with - stands after --",
+};
+
+const LABELS: Argument = Argument {
+    name: "labels",
+    form: Form::Labels,
+    is_required: true,
+    without: None,
+    help: "The labels of assertions; those that begin with - stand after --",
+};
+
+const NODES: Argument = Argument {
+    name: "nodes",
+    form: Form::Value("N"),
+    is_required: true,
+    without: None,
+    help: "How many nodes there are, 1 to 9",
+};
+
+const WORKERS: Argument = Argument {
+    name: "workers",
+    form: Form::Value("W"),
+    is_required: true,
+    without: None,
+    help: "How many threads check the proofs of one entry, 1 to 16",
+};
+
+const WEIGHTS: Argument = Argument {
+    name: "weights",
+    form: Form::Value("W,W,.."),
+    is_required: false,
+    without: None,
+    help: "The weight of each node, 1 to 100; else each weighs 1",
+};
+
+const ALL: Argument = Argument {
+    name: "all",
+    form: Form::Flag,
+    is_required: false,
+    without: None,
+    help: "Those too that use it through others",
+};
+
+const ESSENTIAL: Argument = Argument {
+    name: "essential",
+    form: Form::Flag,
+    is_required: false,
+    without: None,
+    help: "The last step, and those alone that are taken for an $e",
+};
+
+const DOT: Argument = Argument {
+    name: "dot",
+    form: Form::Flag,
+    is_required: false,
+    without: Some("html"),
+    help: "A picture of the steps, for Graphviz",
+};
+
+const HTML: Argument = Argument {
+    name: "html",
+    form: Form::Flag,
+    is_required: false,
+    without: None,
+    help: "A page that stands alone",
+};
+
+/// A command: its name, what it is about, and what it takes.
+struct Shape {
+    name: &'static str,
+    about: &'static str,
+    arguments: &'static [Argument],
+}
+
+const COMMANDS: [Shape; 11] = [
+    Shape {
+        name: "outline",
+        about: "Print the statements of the database on standard input, one a line: mmlib outline < set.mm",
+        arguments: &[],
+    },
+    Shape {
+        name: "check",
+        about: "Check the proofs of the database on standard input: mmlib check < set.mm",
+        arguments: &[],
+    },
+    Shape {
+        name: "list",
+        about: "Print the assertions of the database on standard input, one a line: mmlib list < set.mm",
+        arguments: &[],
+    },
+    Shape {
+        name: "export",
+        about: "Print the database on standard input in the export form: mmlib export < set.mm",
+        arguments: &[],
+    },
+    Shape {
+        name: "tree",
+        about: "Print the derivation of a $p of the database on standard input, a node a line: mmlib tree id < set.mm",
+        arguments: &[LABEL],
+    },
+    Shape {
+        name: "trace",
+        about: "Print the axioms that a $p of the database on standard input rests on: mmlib trace id < set.mm",
+        arguments: &[LABEL],
+    },
+    Shape {
+        name: "usage",
+        about: "Print who cites a statement of the database on standard input: mmlib usage id < set.mm",
+        arguments: &[LABEL, ALL],
+    },
+    Shape {
+        name: "proof",
+        about: "Print the steps of the proof of a $p of the database on standard input: mmlib proof id --essential < set.mm",
+        arguments: &[LABEL, ESSENTIAL, DOT, HTML],
+    },
+    Shape {
+        name: "extract",
+        about: "Print some assertions of the database on standard input, with all that they need: mmlib extract id < set.mm",
+        arguments: &[LABELS],
+    },
+    Shape {
+        name: "play",
+        about: "Drive a world of nodes by the script on standard input",
+        arguments: &[NODES, WEIGHTS],
+    },
+    Shape {
+        name: "serve",
+        about: "Serve the script on standard input by nodes that are threads",
+        arguments: &[NODES, WORKERS, WEIGHTS],
+    },
+];
+
 /// All commands of the program.
 pub fn commands<'a>(alloc: Global) -> Result<Command<'a>, AllocError> {
-    let program = Command::new(alloc, "mmlib")
+    let mut program = Command::new(alloc, "mmlib")
         .version(VERSION)
         .about(
             "Formal mathematics in the Metamath language, and replicas of one library.\n\
@@ -18,196 +177,40 @@ pub fn commands<'a>(alloc: Global) -> Result<Command<'a>, AllocError> {
         )
         .no_binary_name(true)
         .subcommand_required(true);
-    let asked = with_questions(alloc, with_lists(alloc, program)?)?;
-    with_scripts(alloc, asked)
+    for shape in &COMMANDS {
+        program = program.subcommand(command(alloc, shape)?)?;
+    }
+    Ok(program)
 }
 
-/// The commands on a database as a whole.
-fn with_lists<'a>(alloc: Global, program: Command<'a>) -> Result<Command<'a>, AllocError> {
-    let program = with_list(
-        alloc,
-        program,
-        "outline",
-        "Print the statements of the database on standard input, one a line: mmlib outline < set.mm",
-    )?;
-    let program = with_list(
-        alloc,
-        program,
-        "check",
-        "Check the proofs of the database on standard input: mmlib check < set.mm",
-    )?;
-    let program = with_list(
-        alloc,
-        program,
-        "list",
-        "Print the assertions of the database on standard input, one a line: mmlib list < set.mm",
-    )?;
-    with_list(
-        alloc,
-        program,
-        "export",
-        "Print the database on standard input in the export form: mmlib export < set.mm",
-    )
+/// The command of that shape.
+fn command<'a>(alloc: Global, shape: &Shape) -> Result<Command<'a>, AllocError> {
+    let mut command = Command::new(alloc, shape.name).about(shape.about);
+    for argument in shape.arguments {
+        command = command.arg(made(alloc, argument)?)?;
+    }
+    Ok(command)
 }
 
-/// The program with one command more, which takes no option.
-fn with_list<'a>(
-    alloc: Global,
-    program: Command<'a>,
-    name: &'static str,
-    about: &'static str,
-) -> Result<Command<'a>, AllocError> {
-    program.subcommand(Command::new(alloc, name).about(about))
-}
-
-/// The program with one command more.
-fn added<'a>(
-    program: Command<'a>,
-    command: Result<Command<'a>, AllocError>,
-) -> Result<Command<'a>, AllocError> {
-    program.subcommand(command?)
-}
-
-/// The commands on what a label of a database names.
-fn with_questions<'a>(alloc: Global, program: Command<'a>) -> Result<Command<'a>, AllocError> {
-    let program = added(program, tree_command(alloc))?;
-    let program = added(program, trace_command(alloc))?;
-    let program = added(program, usage_command(alloc))?;
-    let program = added(program, proof_command(alloc))?;
-    added(program, extract_command(alloc))
-}
-
-fn tree_command<'a>(alloc: Global) -> Result<Command<'a>, AllocError> {
-    Command::new(alloc, "tree")
-        .about(
-            "Print the derivation of a $p of the database on standard input, a node a line: mmlib tree id < set.mm",
-        )
-        .arg(label_argument(alloc))
-}
-
-fn trace_command<'a>(alloc: Global) -> Result<Command<'a>, AllocError> {
-    Command::new(alloc, "trace")
-        .about(
-            "Print the axioms that a $p of the database on standard input rests on: mmlib trace id < set.mm",
-        )
-        .arg(label_argument(alloc))
-}
-
-fn usage_command<'a>(alloc: Global) -> Result<Command<'a>, AllocError> {
-    Command::new(alloc, "usage")
-        .about(
-            "Print who cites a statement of the database on standard input: mmlib usage id < set.mm",
-        )
-        .arg(label_argument(alloc))?
-        .arg(all_option(alloc))
-}
-
-fn proof_command<'a>(alloc: Global) -> Result<Command<'a>, AllocError> {
-    Command::new(alloc, "proof")
-        .about(
-            "Print the steps of the proof of a $p of the database on standard input: mmlib proof id --essential < set.mm",
-        )
-        .arg(label_argument(alloc))?
-        .arg(essential_option(alloc))?
-        .arg(dot_option(alloc).conflicts_with("html")?)?
-        .arg(html_option(alloc))
-}
-
-fn extract_command<'a>(alloc: Global) -> Result<Command<'a>, AllocError> {
-    Command::new(alloc, "extract")
-        .about(
-            "Print some assertions of the database on standard input, with all that they need: mmlib extract id < set.mm",
-        )
-        .arg(labels_argument(alloc))
-}
-
-/// The commands that run a script.
-fn with_scripts<'a>(alloc: Global, program: Command<'a>) -> Result<Command<'a>, AllocError> {
-    let program = added(program, play_command(alloc))?;
-    added(program, serve_command(alloc))
-}
-
-fn play_command<'a>(alloc: Global) -> Result<Command<'a>, AllocError> {
-    Command::new(alloc, "play")
-        .about("Drive a world of nodes by the script on standard input")
-        .arg(nodes_option(alloc))?
-        .arg(weights_option(alloc))
-}
-
-fn serve_command<'a>(alloc: Global) -> Result<Command<'a>, AllocError> {
-    Command::new(alloc, "serve")
-        .about("Serve the script on standard input by nodes that are threads")
-        .arg(nodes_option(alloc))?
-        .arg(workers_option(alloc))?
-        .arg(weights_option(alloc))
-}
-
-fn label_argument<'a>(alloc: Global) -> Arg<'a> {
-    Arg::new(alloc, "label")
-        .value_name("LABEL")
-        .required(true)
-        .help("A label of the database; one that begins with - stands after --")
-}
-
-fn labels_argument<'a>(alloc: Global) -> Arg<'a> {
-    Arg::new(alloc, "labels")
-        .value_name("LABEL")
-        .action(ArgAction::Append)
-        .required(true)
-        .num_args(1..)
-        .help("The labels of assertions; those that begin with - stand after --")
-}
-
-fn all_option<'a>(alloc: Global) -> Arg<'a> {
-    Arg::new(alloc, "all")
-        .long("all")
-        .action(ArgAction::SetTrue)
-        .help("Those too that use it through others")
-}
-
-fn essential_option<'a>(alloc: Global) -> Arg<'a> {
-    Arg::new(alloc, "essential")
-        .long("essential")
-        .action(ArgAction::SetTrue)
-        .help("The last step, and those alone that are taken for an $e")
-}
-
-fn dot_option<'a>(alloc: Global) -> Arg<'a> {
-    Arg::new(alloc, "dot")
-        .long("dot")
-        .action(ArgAction::SetTrue)
-        .help("A picture of the steps, for Graphviz")
-}
-
-fn html_option<'a>(alloc: Global) -> Arg<'a> {
-    Arg::new(alloc, "html")
-        .long("html")
-        .action(ArgAction::SetTrue)
-        .help("A page that stands alone")
-}
-
-fn nodes_option<'a>(alloc: Global) -> Arg<'a> {
-    Arg::new(alloc, "nodes")
-        .long("nodes")
-        .value_name("N")
-        .action(ArgAction::Set)
-        .required(true)
-        .help("How many nodes there are, 1 to 9")
-}
-
-fn workers_option<'a>(alloc: Global) -> Arg<'a> {
-    Arg::new(alloc, "workers")
-        .long("workers")
-        .value_name("W")
-        .action(ArgAction::Set)
-        .required(true)
-        .help("How many threads check the proofs of one entry, 1 to 16")
-}
-
-fn weights_option<'a>(alloc: Global) -> Arg<'a> {
-    Arg::new(alloc, "weights")
-        .long("weights")
-        .value_name("W,W,..")
-        .action(ArgAction::Set)
-        .help("The weight of each node, 1 to 100; else each weighs 1")
+/// The argument or option so described.
+fn made<'a>(alloc: Global, argument: &Argument) -> Result<Arg<'a>, AllocError> {
+    let arg = Arg::new(alloc, argument.name)
+        .required(argument.is_required)
+        .help(argument.help);
+    let formed = match argument.form {
+        Form::Label => arg.value_name("LABEL"),
+        Form::Labels => arg
+            .value_name("LABEL")
+            .action(ArgAction::Append)
+            .num_args(1..),
+        Form::Flag => arg.long(argument.name).action(ArgAction::SetTrue),
+        Form::Value(value) => arg
+            .long(argument.name)
+            .value_name(value)
+            .action(ArgAction::Set),
+    };
+    match argument.without {
+        Some(other) => formed.conflicts_with(other),
+        None => Ok(formed),
+    }
 }
