@@ -1,7 +1,6 @@
 -- A map that ends in an entry stays one with an entry more, and is copied slot by slot.
-use Rattle.std.proofs.Common.{◌≡◌, ℕ, zero, suc, ◌+◌, ◌<◌, ◌≤◌, List, [], ◌∷◌, Option, Some, None, length, take, refl, ap, sym, ◌∙◌, subst, arith, add-one, le_of_suc-le-suc}
+use Rattle.std.proofs.Common.{◌≡◌, ℕ, zero, suc, ◌+◌, ◌<◌, List, [], ◌∷◌, Option, Some, None, length, take, refl, ap, sym, ◌∙◌, subst, arith, add-one, le_of_suc-le-suc}
 use Rattle.slots.specs.FiniteMap.{entry_at, put_at, trim_head, trimmed}
-use Rattle.std.proofs.lemmas.List.{take_all}
 use Rattle.synod.specs.declared.change.Held.{Held}
 use Rattle.synod.specs.declared.change.Change.{Change}
 use Rattle.synod.specs.declared.change.Change.TheVariants.{Round, Promise, Entry}
@@ -61,11 +60,3 @@ stays_whole {V} old new change is whole = subst (λ (k : Kept V). trimmed k.acce
   by_change (Some (Round r)) = whole
   by_change (Some (Promise b)) = whole
   by_change (Some (Entry s held)) = trimmed-put_at old.accepted s held ∙ ap (λ (xs : List (Option (Held V))). put_at xs s held) whole
-
--- all its slots are gone through, and then round and promise are taken
-pub copied_is : {V : Type 0} (source copy first last : Kept V) (n : ℕ) → copy.accepted ≡ trimmed (take n source.accepted) → length source.accepted ≤ n → trimmed source.accepted ≡ source.accepted
-    → first ≡ changed_by copy (Some (Round source.round)) → last ≡ changed_by first (Some (Promise source.promise)) → last ≡ source
-copied_is {V} source copy first last n so_far all whole is_first is_last =
-    let entries : copy.accepted ≡ source.accepted = so_far ∙ ap (λ (xs : List (Option (Held V))). trimmed xs) (take_all n source.accepted all) ∙ whole in
-    is_last ∙ ap (λ (k : Kept V). changed_by k (Some (Promise source.promise))) is_first
-    ∙ ap (λ (xs : List (Option (Held V))). let k : Kept V = record { promise = source.promise; round = source.round; accepted = xs } in k) entries

@@ -220,7 +220,7 @@ impl NodeCell {
         ensures { self.new ≡ new_cell self.old.at }
     {
         self.entries.clear();
-        self.replica = Replica::new(self.alloc);
+        self.replica.give_up(self.alloc);
     }
 }
 

@@ -1,6 +1,6 @@
 -- Two databases walked side by side, and what of the one is kept in the other.
 use Rattle.std.specs.Prelude.{◌≡◌, ℕ, zero, suc, ◌+◌, ◌-◌, ◌<◌, ◌≤◌, true, false, List, [], ◌∷◌, ◌++◌, length, map, take, get_or, slice_get, Some, Result, Ok, Err, IfOk, refl}
-use Rattle.std.proofs.Common.{sym, ◌∙◌, ap, subst, arith, inl, inr, take_all}
+use Rattle.std.proofs.Common.{sym, ◌∙◌, ap, subst, arith, inl, inr}
 use Rattle.std.proofs.lemmas.Bool.{cases_eq}
 use Rattle.std.proofs.lemmas.List.{take_more, take-map}
 use Rattle.mm_lex.specs.Alphabet.{Name}
@@ -135,9 +135,3 @@ walk-none S T labels W P eW eP =
     none : (i : ℕ) (s : Stmt) → i ≤ 0 → stmt_at S i ≡ Some s → ⊥
     none zero s upto stands = let f = stands in cc
     none (suc i) s upto stands = absurd (omega (arith, upto))
-
-pub walk-part : (S T : Database) (labels : List Name) (n k : ℕ) (W P : Database) → length S ≤ n → length T ≤ k → IsWalked S T labels n k W P → IsPart T S
-walk-part S T labels n k W P over past w = subst (λ U. IsPart U S) (take_all k T past) (subst (IsPart (take k T)) (take_all n S over) w.part_of)
-
-pub walk-kept : (S T : Database) (labels : List Name) (n k : ℕ) (W P : Database) → length S ≤ n → IsWalked S T labels n k W P → AreKept S T labels (length S)
-walk-kept S T labels n k W P over w = λ i s upto. w.kept i s (omega (arith, upto, over))

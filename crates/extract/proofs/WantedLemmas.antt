@@ -37,9 +37,6 @@ pub record IsPassed (S : Database) (labels : List Name) (n : ℕ) : Type 0 where
   pub right : AreRight S [] (take n labels)
   pub rest : (f : ExtractFault) → IsFirstWrong S [] labels f → IsFirstWrong S (take n labels) (drop n labels) f
 
-pub passed-none : (S : Database) (labels : List Name) → IsPassed S labels 0
-passed-none S labels = record { right = tt; rest = λ f w. w }
-
 -- ---- no label is judged in two ways
 
 module _ (S F : Database) (same : F ≡ bares S) (once : HasLabelsOnce F) where

@@ -42,8 +42,24 @@ pub(crate) fn is_extract(
         part: Scope::new(alloc),
         next: 0,
     };
+    is_walk(alloc, whole, part, labels, &mut walk)
+}
+
+/// Whether nothing speaks against it up to the end of both lists, from a walk that begins.
+fn is_walk(
+    alloc: Global,
+    whole: &[Stmt],
+    part: &[Stmt],
+    labels: &[&str],
+    walk: &mut Walk,
+) -> Result<bool, AllocError>
+    requires shaped { AreShaped whole.now }
+    requires begins { IsWalked whole.now part.now (map (λ label. label.now) labels.now) 0 walk.old.next walk.old.whole.statements walk.old.part.statements }
+    ensures part { IfOk result (λ yes. yes ≡ true → IsPart part.now whole.now) }
+    ensures kept { IfOk result (λ yes. yes ≡ true → AreKept whole.now part.now (map (λ label. label.now) labels.now) (length whole.now)) }
+{
     for index in 0..whole.len() {
-        if !advance(alloc, whole, part, labels, index, &mut walk)? {
+        if !advance(alloc, whole, part, labels, index, walk)? {
             return Ok(false);
         }
     }

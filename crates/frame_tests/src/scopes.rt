@@ -39,7 +39,11 @@ fn symbols_have_their_numbers(rt: HostRuntime) {
 /// Whether a scope notes these numbers behind the text, and none once it goes back.
 fn notes(alloc: Global, text: &[u8], want: &[u32]) -> bool {
     let mut scope = Scope::new(alloc);
-    adds_each(alloc, &mut scope, text) && are_noted(&scope, want) && forgets(&mut scope)
+    notes_in(alloc, &mut scope, text, want)
+}
+
+fn notes_in(alloc: Global, scope: &mut Scope, text: &[u8], want: &[u32]) -> bool {
+    adds_each(alloc, scope, text) && are_noted(scope, want) && forgets(scope)
 }
 
 fn forgets(scope: &mut Scope) -> bool {

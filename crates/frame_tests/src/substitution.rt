@@ -30,11 +30,27 @@ fn gives(
     want: &[u32],
 ) -> Result<bool, AllocError> {
     let mut subst = Subst::new(alloc);
+    gives_by(alloc, &mut subst, x, y, expr, want)
+}
+
+/// The same by those images, of which there are none yet.
+fn gives_by(
+    alloc: Global,
+    subst: &mut Subst,
+    x: &[u32],
+    y: &[u32],
+    expr: &[u32],
+    want: &[u32],
+) -> Result<bool, AllocError> {
     subst.set(X, &[X, X])?;
     subst.set(X, x)?;
     subst.set(Y, y)?;
-    let applied = apply(alloc, &subst, expr)?;
-    Ok(applied.as_slice() == want && is_added(alloc, &subst, expr, want)?)
+    Ok(becomes(alloc, subst, expr, want)? && is_added(alloc, subst, expr, want)?)
+}
+
+/// Whether the expression becomes that one.
+fn becomes(alloc: Global, subst: &Subst, expr: &[u32], want: &[u32]) -> Result<bool, AllocError> {
+    Ok(apply(alloc, subst, expr)?.as_slice() == want)
 }
 
 /// Whether that is what is added to a buffer twice.

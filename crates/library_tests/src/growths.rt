@@ -1,6 +1,6 @@
 //! Where a growth is refused nothing is decided, and the same text asked again has its verdict: run with each allocation refused
 //! in turn.
-use crate::text_entries::{entry, verdict_on};
+use crate::text_entries::{entry, of_new, verdict_on};
 use crate::worker_counts::by_workers;
 use bytes::Bytes;
 use library::{Cause, Library, Verdict};
@@ -33,8 +33,7 @@ fn whole_or_nothing_after_a_refused_growth(rt: HostRuntime) {
 }
 
 fn decides_each(alloc: Global) -> bool {
-    let mut library = Library::new(alloc);
-    decides_rows(alloc, &mut library)
+    of_new(alloc, |library| decides_rows(alloc, library))
 }
 
 /// Whether each text has its verdict, and so many statements stand then.

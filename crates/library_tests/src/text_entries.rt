@@ -31,8 +31,17 @@ fn texts_have_a_limit(rt: HostRuntime) {
 fn spaces_verdict(alloc: Global, length: usize) -> Option<Verdict> {
     let text = Bytes::from_vec(vec![in alloc; b' '; length].ok()?).ok()?;
     let entry = entry(1, text);
+    of_new(alloc, |library| verdict_on(library, &entry))
+}
+
+/// What is asked of a new library. It is dropped by a call, whose drops are proved once for each type, and not laid out here.
+pub fn of_new<T, F: FnOnce(&mut Library) -> T>(alloc: Global, ask: F) -> T
+    requires { F.IsAlwaysCallable ask }
+{
     let mut library = Library::new(alloc);
-    verdict_on(&mut library, &entry)
+    let answer = ask(&mut library);
+    drop(library);
+    answer
 }
 
 /// The verdict on the entry; nothing where there is no memory.

@@ -1,7 +1,7 @@
 //! The same verdict by any number of workers, and two workers side by side.
 ghost use Rattle.std.specs.Prelude.{◌≤◌};
 
-use crate::text_entries::entry;
+use crate::text_entries::{entry, of_new};
 use bytes::Bytes;
 use library::{Cause, Entry, Library, Verdict};
 use std::alloc::Global;
@@ -62,8 +62,11 @@ pub fn by_workers<G: Gate + Sync, R: Threads + Sync>(
     requires { (1 ≤ workers) × (workers ≤ 16) }
 {
     let entry = entry(1, Bytes::copy_from_slice(alloc, text).ok()?);
-    let mut library = Library::new(alloc);
-    asked_again(rt, &mut library, &entry, workers, gate)
+    let workers = Workers::of(workers);
+    of_new(
+        alloc,
+        |library| asked_again(rt, library, &entry, workers, gate),
+    )
 }
 
 /// The verdict on the entry, asked once more where a growth is refused.
@@ -71,16 +74,12 @@ fn asked_again<G: Gate + Sync, R: Threads + Sync>(
     rt: &R,
     library: &mut Library,
     entry: &Entry,
-    workers: usize,
+    workers: Workers,
     gate: &G,
-) -> Option<Verdict>
-    requires { (1 ≤ workers) × (workers ≤ 16) }
-{
-    match library.apply_with(rt, Some(entry), Workers::of(workers), gate) {
+) -> Option<Verdict> {
+    match library.apply_with(rt, Some(entry), workers, gate) {
         Ok(verdict) => Some(verdict),
-        Err(_) => library
-            .apply_with(rt, Some(entry), Workers::of(workers), gate)
-            .ok(),
+        Err(_) => library.apply_with(rt, Some(entry), workers, gate).ok(),
     }
 }
 

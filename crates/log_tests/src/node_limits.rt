@@ -32,24 +32,40 @@ fn the_log_may_be_full(rt: HostRuntime) {
 /// offer.
 fn fills_its_log(alloc: Global) -> Option<bool> {
     let mut node = NodeCore::new(alloc, 0, Weights::equal(1));
-    let _prepare = node.begin().ok()?;
-    let promise = Body::Promise {
-        ballot: Ballot { round: 1, node: 0 },
-        page: 1,
-        count: 1,
-        reports: last_reported(alloc)?,
-    };
+    let filled = is_filled(alloc, &mut node);
+    // Drops by a call are proved once for each type, and not laid out here.
+    drop(node);
+    filled
+}
+
+/// The same of that node, which is new.
+fn is_filled(alloc: Global, node: &mut NodeCore<Number>) -> Option<bool> {
+    if node.begin().is_err() {
+        return None;
+    }
+    let proposed = proposed_behind(alloc, node)?;
+    Some(proposed == SLOTS as usize && node.offer(Number(2)).err() == Some(Refusal::LogFull))
+}
+
+/// How many packets the node posts where a promise to it reports a value at the last slot.
+fn proposed_behind(alloc: Global, node: &mut NodeCore<Number>) -> Option<usize> {
     if node.nodes() == 0 {
         return None;
     }
-    let posts = node
-        .on_packet(&Packet {
-            from: 0,
-            to: 0,
-            body: promise,
-        })
-        .ok()?;
-    Some(posts.len() == SLOTS as usize && node.offer(Number(2)).err() == Some(Refusal::LogFull))
+    let promise = Packet {
+        from: 0,
+        to: 0,
+        body: Body::Promise {
+            ballot: Ballot { round: 1, node: 0 },
+            page: 1,
+            count: 1,
+            reports: last_reported(alloc)?,
+        },
+    };
+    match node.on_packet(&promise) {
+        Ok(posts) => Some(posts.len()),
+        Err(_) => None,
+    }
 }
 
 /// A value at the last slot.
@@ -74,20 +90,28 @@ fn the_rounds_may_be_spent(rt: HostRuntime) {
 
 /// Whether a node that hears of the greatest round begins no other.
 fn spends_its_rounds(alloc: Global) -> Option<bool> {
-    let mut node: NodeCore<Number> = NodeCore::new(alloc, 0, Weights::equal(1));
+    let mut node = NodeCore::new(alloc, 0, Weights::equal(1));
+    let spent = are_spent(&mut node);
+    drop(node);
+    spent
+}
+
+/// The same of that node, which is new.
+fn are_spent(node: &mut NodeCore<Number>) -> Option<bool> {
+    if node.nodes() == 0 {
+        return None;
+    }
     let ballot = Ballot {
         round: u64::MAX,
         node: 0,
     };
-    if node.nodes() == 0 {
+    let prepare = Packet {
+        from: 0,
+        to: 0,
+        body: Body::Prepare { ballot, first: 0 },
+    };
+    if node.on_packet(&prepare).is_err() {
         return None;
     }
-    let _promise = node
-        .on_packet(&Packet {
-            from: 0,
-            to: 0,
-            body: Body::Prepare { ballot, first: 0 },
-        })
-        .ok()?;
     Some(node.begin().err() == Some(Refusal::RoundsSpent))
 }

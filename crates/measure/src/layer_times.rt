@@ -71,6 +71,15 @@ fn count_legal(alloc: Global, statements: &[Stmt]) -> usize
     requires { AreShaped statements.now }
 {
     let mut scope = Scope::new(alloc);
+    let legal = count_accepted(&mut scope, statements);
+    drop(scope);
+    legal
+}
+
+/// The same with a scope that has no statement yet.
+fn count_accepted(scope: &mut Scope, statements: &[Stmt]) -> usize
+    requires { AreShaped statements.now }
+{
     let mut steps = Steps::new();
     let mut legal = 0usize;
     for statement in statements {
@@ -88,9 +97,20 @@ fn count_framed(alloc: Global, statements: &[Stmt]) -> usize
 {
     let mut scope = Scope::new(alloc);
     let mut frames = Frames::new(alloc);
+    let kept = count_kept(&mut scope, &mut frames, statements);
+    drop(frames);
+    drop(scope);
+    kept
+}
+
+/// The same with a scope and frames that have no statement yet.
+fn count_kept(scope: &mut Scope, frames: &mut Frames, statements: &[Stmt]) -> usize
+    requires same { frames.old.statements ≡ scope.old.statements }
+    requires shaped { AreShaped statements.now }
+{
     let mut steps = Steps::new();
     for statement in statements {
-        if !add(&mut scope, &mut frames, statement, &mut steps) {
+        if !add(scope, frames, statement, &mut steps) {
             break;
         }
     }
@@ -104,14 +124,31 @@ fn count_proved(alloc: Global, statements: &[Stmt]) -> usize
     let mut scope = Scope::new(alloc);
     let mut frames = Frames::new(alloc);
     let mut checker = Checker::new(alloc);
+    let right = count_right(&mut scope, &mut frames, &mut checker, statements);
+    drop(checker);
+    drop(frames);
+    drop(scope);
+    right
+}
+
+/// The same with a scope and frames that have no statement yet, and a checker.
+fn count_right(
+    scope: &mut Scope,
+    frames: &mut Frames,
+    checker: &mut Checker,
+    statements: &[Stmt],
+) -> usize
+    requires same { frames.old.statements ≡ scope.old.statements }
+    requires shaped { AreShaped statements.now }
+{
     let mut steps = Steps::new();
     let mut proved = 0usize;
     for statement in statements {
-        if !add(&mut scope, &mut frames, statement, &mut steps) {
+        if !add(scope, frames, statement, &mut steps) {
             break;
         }
         if let Stmt::Prove { proof, .. } = statement {
-            if is_proved(&mut checker, &frames, statement, proof) {
+            if is_proved(checker, frames, statement, proof) {
                 proved = proved.saturating_add(1);
             }
         }

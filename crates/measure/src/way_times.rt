@@ -38,33 +38,47 @@ fn time_entry<R: Threads + Sync + Clock + Print + Eprint>(
     alloc: Global,
     entry: &Entry,
 ) -> io::Result<()> {
-    time_one_thread(rt, alloc, entry)?;
-    time_workers(rt, alloc, entry, "1 worker", Workers::of(1))?;
-    time_workers(rt, alloc, entry, "2 workers", Workers::of(2))?;
-    time_workers(rt, alloc, entry, "4 workers", Workers::of(4))
+    time_way(rt, alloc, entry, "one thread", None)?;
+    time_way(rt, alloc, entry, "1 worker", Some(Workers::of(1)))?;
+    time_way(rt, alloc, entry, "2 workers", Some(Workers::of(2)))?;
+    time_way(rt, alloc, entry, "4 workers", Some(Workers::of(4)))
 }
 
-fn time_one_thread<R: Clock + Print + Eprint>(
-    rt: &R,
-    alloc: Global,
-    entry: &Entry,
-) -> io::Result<()> {
-    let start = Instant::now(rt)?;
-    let verdict = Library::new(alloc).apply(Some(entry));
-    tell(rt, "one thread", start, &verdict)
-}
-
-/// The entry applied to a new library by some workers.
-fn time_workers<R: Threads + Sync + Clock + Print + Eprint>(
+fn time_way<R: Threads + Sync + Clock + Print + Eprint>(
     rt: &R,
     alloc: Global,
     entry: &Entry,
     way: &str,
-    workers: Workers,
+    workers: Option<Workers>,
 ) -> io::Result<()> {
     let start = Instant::now(rt)?;
-    let verdict = Library::new(alloc).apply_with(rt, Some(entry), workers, &OpenGate);
+    let verdict = judge_new(rt, alloc, entry, workers);
     tell(rt, way, start, &verdict)
+}
+
+/// The verdict of a new library on the entry, by some workers, or on this thread.
+fn judge_new<R: Threads + Sync>(
+    rt: &R,
+    alloc: Global,
+    entry: &Entry,
+    workers: Option<Workers>,
+) -> Result<Verdict, AllocError> {
+    let mut library = Library::new(alloc);
+    let verdict = judge(rt, &mut library, entry, workers);
+    drop(library);
+    verdict
+}
+
+fn judge<R: Threads + Sync>(
+    rt: &R,
+    library: &mut Library,
+    entry: &Entry,
+    workers: Option<Workers>,
+) -> Result<Verdict, AllocError> {
+    match workers {
+        Some(workers) => library.apply_with(rt, Some(entry), workers, &OpenGate),
+        None => library.apply(Some(entry)),
+    }
 }
 
 /// Tells how long a way took that began at `start`, and its verdict.

@@ -14,6 +14,18 @@ pub fn broken(alloc: Global, statements: &[Stmt]) -> Result<Option<(usize, Rule)
     ensures { IfOk result (λ found. found ≡ first_broken 1 [] statements.now) }
 {
     let mut scope = Scope::new(alloc);
+    broken_behind(&mut scope, statements)
+}
+
+/// The same by a scope of no statement.
+fn broken_behind(
+    scope: &mut Scope,
+    statements: &[Stmt],
+) -> Result<Option<(usize, Rule)>, AllocError>
+    requires shaped { AreShaped statements.now }
+    requires empty { scope.old.statements ≡ [] }
+    ensures { IfOk result (λ found. found ≡ first_broken 1 [] statements.now) }
+{
     let mut steps = Steps::new();
     for (index, statement) in statements.iter().enumerate() {
         if let Err(rule) = scope.add(statement, &mut steps) {

@@ -1,5 +1,7 @@
 //! The command `proof`: the steps of a proof as lines, as a picture or as a page.
 ghost use Rattle.std.specs.Prelude.{◌≤◌, length};
+ghost use Rattle.mm_read.specs.declared.stmt.Stmt.{Stmt as Statement};
+ghost use Rattle.verify.specs.Right.{IsProvable};
 ghost use Rattle.steps.specs.Rows.{AreRows};
 
 use crate::database_commands::fault_line;
@@ -75,48 +77,75 @@ fn write_proof<O: Write>(
     let (at, items) = library.items(wanted.label)?;
     let frames = library.frames();
     let steps = proof_table(alloc, frames, at, &items)?;
-    match wanted.form {
-        ProofForm::Steps => {
-            let listed = listed(alloc, frames, at, steps, wanted.is_essential)?;
-            write_plain(alloc, output, frames, &listed)?
-        }
-        ProofForm::Picture => {
-            let listed = listed(alloc, frames, at, steps, wanted.is_essential)?;
-            write_dot(alloc, output, frames, wanted.label, &listed)?
-        }
-        ProofForm::Page => {
-            let essential = essential_table(alloc, frames, at, &steps)?;
-            let axioms = library.trace(wanted.label)?;
-            let users = library.usage(wanted.label, false)?;
-            let theorem = Theorem {
-                statements: library.statements(),
-                frames,
-                at,
-                steps: &steps,
-                essential: &essential,
-                axioms: &axioms,
-                users: &users,
-            };
-            write_page(alloc, output, &theorem, !wanted.is_essential)?
-        }
+    write_steps(alloc, library, frames, at, &steps, wanted, output)
+}
+
+/// Writes these steps of the `$p` at a position as they are wanted.
+fn write_steps<O: Write>(
+    alloc: Global,
+    library: &Library,
+    frames: &Frames,
+    at: usize,
+    steps: &ProofTable,
+    wanted: &WantedSteps<'_>,
+    output: &mut O,
+) -> Result<(), ProofFault>
+    requires at { (1 ≤ at) × (at ≤ length frames.now.statements) }
+    requires provable { (s : Statement) × IsProvable frames.now.statements at s }
+    requires rows { AreRows frames.now.statements at frames.now.names steps.now }
+{
+    if matches!(wanted.form, ProofForm::Page) {
+        write_theorem(alloc, library, frames, at, steps, wanted, output)
+    } else if wanted.is_essential {
+        let essential = essential_table(alloc, frames, at, steps)?;
+        write_listed(alloc, frames, &essential, wanted, output)
+    } else {
+        write_listed(alloc, frames, steps, wanted, output)
+    }
+}
+
+/// Writes these steps as lines or as a picture.
+fn write_listed<O: Write>(
+    alloc: Global,
+    frames: &Frames,
+    steps: &ProofTable,
+    wanted: &WantedSteps<'_>,
+    output: &mut O,
+) -> Result<(), ProofFault> {
+    if matches!(wanted.form, ProofForm::Picture) {
+        write_dot(alloc, output, frames, wanted.label, steps)?;
+    } else {
+        write_plain(alloc, output, frames, steps)?;
     }
     Ok(())
 }
 
-/// The steps that are listed: all, or the essential ones alone.
-fn listed(
+/// Writes the page of the `$p` at a position, which has these steps.
+fn write_theorem<O: Write>(
     alloc: Global,
+    library: &Library,
     frames: &Frames,
     at: usize,
-    steps: ProofTable,
-    is_essential: bool,
-) -> Result<ProofTable, AllocError>
+    steps: &ProofTable,
+    wanted: &WantedSteps<'_>,
+    output: &mut O,
+) -> Result<(), ProofFault>
     requires at { (1 ≤ at) × (at ≤ length frames.now.statements) }
-    requires rows { AreRows frames.now.statements at frames.now.names steps }
+    requires provable { (s : Statement) × IsProvable frames.now.statements at s }
+    requires rows { AreRows frames.now.statements at frames.now.names steps.now }
 {
-    if is_essential {
-        essential_table(alloc, frames, at, &steps)
-    } else {
-        Ok(steps)
-    }
+    let essential = essential_table(alloc, frames, at, steps)?;
+    let axioms = library.trace(wanted.label)?;
+    let users = library.usage(wanted.label, false)?;
+    let theorem = Theorem {
+        statements: library.statements(),
+        frames,
+        at,
+        steps,
+        essential: &essential,
+        axioms: &axioms,
+        users: &users,
+    };
+    write_page(alloc, output, &theorem, !wanted.is_essential)?;
+    Ok(())
 }

@@ -1,5 +1,5 @@
 -- Writes one after another, and texts of rows one after another.
-use Rattle.std.specs.Prelude.{◌≡◌, ℕ, suc, ◌+◌, ◌<◌, ◌≤◌, List, [], ◌∷◌, ◌++◌, length, take, get_or, Option, Some, None, Result, Ok, Err, OnOk, refl}
+use Rattle.std.specs.Prelude.{◌≡◌, ℕ, suc, ◌+◌, ◌<◌, ◌≤◌, List, [], ◌∷◌, ◌++◌, length, take, get_or, Option, Some, None, Result, Ok, Err, OnOk}
 use Rattle.std.specs.Io.KnownBytes.{Appends}
 use Rattle.std.proofs.Common.{sym, ◌∙◌, ap, subst, arith}
 use Rattle.std.proofs.lemmas.List.{append-nil, append_assoc, take_more, take_all, length-take-le}
@@ -7,21 +7,12 @@ use Rattle.steps.specs.Rows.{Row, no_row}
 use Rattle.proof_pages.specs.StepLines.{texts_from}
 use Rattle.proof_pages.specs.Writing.{Wrote}
 
--- a writer to which nothing is written
-pub appends_none : (a : Option (List ℕ)) → Appends a a []
-appends_none None = tt
-appends_none (Some xs) = sym (append-nil xs)
-
 -- what is written after what was written before
 pub appends_on : (a b c : Option (List ℕ)) (x y : List ℕ) → Appends a b x → Appends b c y → Appends a c (x ++ y)
 appends_on None b c x y h k = tt
 appends_on (Some xs) None c x y h k = absurd h
 appends_on (Some xs) (Some ys) None x y h k = absurd k
 appends_on (Some xs) (Some ys) (Some zs) x y h k = k ∙ (ap (λ s. s ++ y) h ∙ append_assoc xs x y)
-
--- nothing is written, and the text is what is held back
-pub wrote_none : (a : Option (List ℕ)) (text : List ℕ) → Wrote a a text text
-wrote_none a text = record { done = []; written = appends_none a; whole = refl }
 
 -- a text, and more behind it, part of which may be written
 pub wrote_on : (a b c : Option (List ℕ)) (held text later more : List ℕ) → Wrote a b held text → Wrote b c later (held ++ more) → Wrote a c later (text ++ more)

@@ -50,38 +50,47 @@ pub fn write_page<W: Write>(
     let hypotheses = hypotheses_of(alloc, theorem.frames, theorem.at)?;
     let colours = colours_of(alloc, theorem, &hypotheses)?;
     let mut page = Vec::new(alloc);
-    push_head(&mut page, label_at(theorem.frames, theorem.at))?;
-    push_theorem(&mut page, theorem, &colours)?;
-    push_hypotheses(&mut page, theorem.frames, &colours, &hypotheses)?;
-    push_apart(alloc, &mut page, theorem, &colours)?;
-    push_legend(&mut page, theorem.frames, &colours)?;
-    page.extend_from_slice(b"<h2>Proof</h2>\n")?;
-    write_steps(
+    write_parts(
+        alloc,
         out,
         &mut page,
-        theorem.frames,
+        theorem,
         &colours,
-        b"e",
-        theorem.essential,
-    )?;
+        &hypotheses,
+        is_whole,
+    )
+}
+
+/// Writes the parts of the page one after another; `page` is what is held back.
+fn write_parts<W: Write>(
+    alloc: Global,
+    out: &mut W,
+    page: &mut Vec<u8>,
+    theorem: &Theorem<'_>,
+    colours: &Colours,
+    hypotheses: &[u32],
+    is_whole: bool,
+) -> Result<(), WriteFault>
+    requires { (s : Statement) × IsProvable theorem.now.frames.now.statements theorem.now.at s }
+{
+    push_head(page, label_at(theorem.frames, theorem.at))?;
+    push_theorem(page, theorem, colours)?;
+    push_hypotheses(page, theorem.frames, colours, hypotheses)?;
+    push_apart(alloc, page, theorem, colours)?;
+    push_legend(page, theorem.frames, colours)?;
+    page.extend_from_slice(b"<h2>Proof</h2>\n")?;
+    write_steps(out, page, theorem.frames, colours, b"e", theorem.essential)?;
     if is_whole {
         page.extend_from_slice(b"<details>\n<summary>All steps</summary>\n")?;
-        write_steps(
-            out,
-            &mut page,
-            theorem.frames,
-            &colours,
-            b"s",
-            theorem.steps,
-        )?;
+        write_steps(out, page, theorem.frames, colours, b"s", theorem.steps)?;
         page.extend_from_slice(b"</details>\n")?;
     }
     page.extend_from_slice(b"<h2>Axioms that it rests on</h2>\n")?;
-    push_labels(&mut page, theorem.axioms)?;
+    push_labels(page, theorem.axioms)?;
     page.extend_from_slice(b"<h2>Theorems that cite it</h2>\n")?;
-    push_labels(&mut page, theorem.users)?;
+    push_labels(page, theorem.users)?;
     page.extend_from_slice(b"</body>\n</html>\n")?;
-    write_rest(out, &page)
+    write_rest(out, page)
 }
 
 /// The mandatory hypotheses of the theorem at a position, by position.

@@ -40,9 +40,14 @@ fn last_nodes(alloc: Global, statements: &[Stmt], mandatory: &Words) -> Option<u
 {
     let mut scope = Scope::new(alloc);
     let mut frames = Frames::new(alloc);
-    nodes_in(alloc, statements, mandatory, &mut scope, &mut frames)
+    let nodes = nodes_in(alloc, statements, mandatory, &mut scope, &mut frames);
+    // Drops by a call are proved once for each type, and not laid out here.
+    drop(frames);
+    drop(scope);
+    nodes
 }
 
+/// The same with this scope and these frames, of nothing yet.
 fn nodes_in(
     alloc: Global,
     statements: &[Stmt],

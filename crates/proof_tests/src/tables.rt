@@ -91,8 +91,27 @@ fn last_shows(alloc: Global, statements: &[Stmt], mandatory: &Words, row: &Row) 
 {
     let mut scope = Scope::new(alloc);
     let mut frames = Frames::new(alloc);
-    let last = push_all(&mut scope, &mut frames, statements)?;
-    shows_at(alloc, &frames, last, mandatory, row)
+    let shown = shows_in(alloc, statements, mandatory, row, &mut scope, &mut frames);
+    // Drops by a call are proved once for each type, and not laid out here.
+    drop(frames);
+    drop(scope);
+    shown
+}
+
+/// The same with this scope and these frames, of nothing yet.
+fn shows_in(
+    alloc: Global,
+    statements: &[Stmt],
+    mandatory: &Words,
+    row: &Row,
+    scope: &mut Scope,
+    frames: &mut Frames,
+) -> Option<bool>
+    requires shaped { AreShaped statements.now }
+    requires same { scope.old.statements ≡ frames.old.statements }
+{
+    let last = push_all(scope, frames, statements)?;
+    shows_at(alloc, frames, last, mandatory, row)
 }
 
 /// The same of the statement that was pushed last.

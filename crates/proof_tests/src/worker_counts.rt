@@ -141,8 +141,30 @@ fn judge<G: Gate + Sync, R: Threads + Sync>(
 {
     let mut frames = Frames::new(alloc);
     let mut jobs = Vec::new(alloc);
-    if push_all(alloc, statements, &mut frames, &mut jobs) {
-        checked_again(rt, alloc, &frames, jobs.as_slice(), workers, gate)
+    let least = judge_in(rt, alloc, statements, workers, gate, &mut jobs, &mut frames);
+    // Drops by a call are proved once for each type, and not laid out here.
+    drop(jobs);
+    drop(frames);
+    least
+}
+
+/// The same with these jobs and these frames, of which there are none yet.
+fn judge_in<G: Gate + Sync, R: Threads + Sync>(
+    rt: &R,
+    alloc: Global,
+    statements: &[Stmt],
+    workers: usize,
+    gate: &G,
+    jobs: &mut Vec<Job>,
+    frames: &mut Frames,
+) -> Option<Option<usize>>
+    requires shaped { AreShaped statements.now }
+    requires workers { (1 ≤ workers) × (workers ≤ 16) }
+    requires none { frames.old.statements ≡ [] }
+    requires jobs { AreJobs frames.old.statements jobs.old.items }
+{
+    if push_all(alloc, statements, frames, jobs) {
+        checked_again(rt, alloc, frames, jobs.as_slice(), workers, gate)
     } else {
         None
     }
@@ -174,7 +196,9 @@ fn push_all(alloc: Global, statements: &[Stmt], frames: &mut Frames, jobs: &mut 
     ensures { IsTrue result → AreJobs frames.new.statements jobs.new.items }
 {
     let mut scope = Scope::new(alloc);
-    push_each(alloc, statements, &mut scope, frames, jobs)
+    let pushed = push_each(alloc, statements, &mut scope, frames, jobs);
+    drop(scope);
+    pushed
 }
 
 fn push_each(

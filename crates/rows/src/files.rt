@@ -1,37 +1,74 @@
 //! The files of rows.
-use std::alloc::AllocError;
+use std::alloc::{AllocError, Global};
+use std::fs::DirEntry;
 use std::rt::Files;
 use std::{fs, io};
 
-/// The names of the files of rows in a folder, in order.
-pub fn row_files<R: Files + AllocGlobal + Clone + Drop>(
+/// Adds the names of the files of rows in a folder to names, and puts them in order.
+pub fn push_row_files<R: Files + AllocGlobal + Clone + Drop>(
     rt: &R,
     folder: &str,
-) -> io::Result<Vec<String>> {
-    let mut names = Vec::new(rt.alloc());
+    names: &mut Vec<String>,
+) -> io::Result<()> {
     for entry in fs::read_dir(rt, folder)? {
-        let entry = entry?;
-        if entry.file_name().ends_with(".rows") {
-            let name = String::from_str(rt.alloc(), entry.file_name())?;
-            names.push(name).map_err(AllocError::from)?;
-        }
+        push_entry(rt.alloc(), entry, names)?;
     }
-    names.sort()?;
-    Ok(names)
+    Ok(names.sort()?)
 }
 
-/// The text of a file of rows. A line `include FILE` gives the lines of that file.
-pub fn text_of<R: Files + AllocGlobal>(rt: &R, folder: &str, name: &str) -> io::Result<String> {
+fn push_entry<R: Files + Drop>(
+    alloc: Global,
+    entry: io::Result<DirEntry<R>>,
+    names: &mut Vec<String>,
+) -> io::Result<()> {
+    let entry = entry?;
+    Ok(push_name(alloc, entry.file_name(), names)?)
+}
+
+/// Adds the name of a file of rows.
+fn push_name(alloc: Global, name: &str, names: &mut Vec<String>) -> Result<(), AllocError> {
+    if name.ends_with(".rows") {
+        names.push(String::from_str(alloc, name)?)?;
+    }
+    Ok(())
+}
+
+/// Adds the text of a file of rows. A line `include FILE` gives the lines of that file.
+pub fn push_text<R: Files + AllocGlobal>(
+    rt: &R,
+    folder: &str,
+    name: &str,
+    text: &mut String,
+) -> io::Result<()> {
     let file = read_file(rt, folder, name)?;
-    let mut text = String::new(rt.alloc());
+    push_lines(rt, folder, file.as_str(), text)
+}
+
+fn push_lines<R: Files + AllocGlobal>(
+    rt: &R,
+    folder: &str,
+    file: &str,
+    text: &mut String,
+) -> io::Result<()> {
     for line in file.split('\n') {
         match line.strip_prefix("include ") {
-            Some(part) => text.push_str(read_file(rt, folder, part)?.as_str())?,
+            Some(part) => push_part(rt, folder, part, text)?,
             None => text.push_str(line)?,
         }
         text.push_str("\n")?;
     }
-    Ok(text)
+    Ok(())
+}
+
+/// Adds the lines of a file.
+fn push_part<R: Files + AllocGlobal>(
+    rt: &R,
+    folder: &str,
+    part: &str,
+    text: &mut String,
+) -> io::Result<()> {
+    let file = read_file(rt, folder, part)?;
+    Ok(text.push_str(file.as_str())?)
 }
 
 fn read_file<R: Files + AllocGlobal>(rt: &R, folder: &str, name: &str) -> io::Result<String> {

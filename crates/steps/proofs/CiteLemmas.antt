@@ -1,7 +1,7 @@
 -- What a citation adds to a table, where a run takes the same step.
 use Rattle.std.specs.Prelude.{◌≡◌, ℕ, zero, suc, ◌-◌, ◌<◌, ◌≤◌, List, [], ◌∷◌, ◌++◌, length, map, drop, get_or, slice_get, Some, refl}
 use Rattle.std.proofs.Common.{sym, ◌∙◌, ap, subst, arith, inl, inr}
-use Rattle.std.proofs.lemmas.List.{length-map}
+use Rattle.std.proofs.lemmas.List.{length-map, map-append}
 use Rattle.std.proofs.lemmas.Option.{get_or_from_slice_get}
 use Rattle.mm_lex.specs.Alphabet.{Name}
 use Rattle.mm_read.specs.declared.stmt.Stmt.{Stmt}
@@ -38,7 +38,6 @@ use Rattle.steps.specs.declared.table_draft.TableDraft.{TableDraft}
 use Rattle.steps.proofs.PlacingLemmas.{found-draft, found-placed, found-tied, made-draft, made-placed, made-tied}
 use Rattle.frame.proofs.FoundByNumber.{some-same}
 use Rattle.frame.proofs.SymbolNumberLemmas.{below-take}
-use Rattle.proof_code.proofs.LettersLemmas.{map-append}
 
 top-map : {A B : Type 0} (f : A → B) (n : ℕ) (xs : List A) → top n (map f xs) ≡ map f (top n xs)
 top-map f n xs = ap (λ l. drop (l - n) (map f xs)) (length-map xs f) ∙ sym (map-drop f (length xs - n) xs)

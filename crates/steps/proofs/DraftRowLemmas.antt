@@ -7,6 +7,7 @@ use Rattle.std.specs.declared.vec.Vec.{Vec}
 use Rattle.std.specs.declared.alloc.Global.{Global}
 use Rattle.std.proofs.lemmas.Slice.Eq.{bytes_eq-Decides}
 use Rattle.std.proofs.lemmas.Option.{slice_get_within}
+use Rattle.std.proofs.lemmas.List.{map_push}
 use Rattle.mm_lex.specs.Alphabet.{Name}
 use Rattle.mm_read.specs.Statements.{Database}
 use Rattle.names.specs.Codes.{decode}
@@ -18,7 +19,6 @@ use Rattle.steps.specs.StepTable.{Step}
 use Rattle.steps.specs.Rows.{Row, row, no_row, steps_of, expr_in, Follows, from_hypothesis, from_assertion, IsRow, AreRows}
 use Rattle.steps.specs.Stored.Drafted.{row_of, key_of, place_of, AreKnown, AreInBuffer}
 use Rattle.frame.proofs.SymbolNumberLemmas.{below-more}
-use Rattle.frame.proofs.StoredOneMore.{map-push}
 use Rattle.entries.proofs.StatementRecordLemmas.{get-last}
 
 -- ---- one buffer
@@ -32,7 +32,7 @@ rows-kept xs e (p ∷ ps) b =
 pub rows-more : (xs e zs : List ℕ) (ps : List PlacedStep) (p : PlacedStep) (step : Step) → AreInBuffer (length xs) ps → zs ≡ xs ++ e → p.place.start ≡ length xs → p.place.end ≡ length zs
     → p.position ≡ step.position → p.taken.items ≡ step.taken → map (row_of zs) (ps ++ p ∷ []) ≡ map (row_of xs) ps ++ (let r : Row = record { step = step; expr = e } in r) ∷ []
 rows-more xs e zs ps p step b same start end position taken =
-    map-push (row_of zs) ps p
+    map_push (row_of zs) ps p
     ∙ (ap (λ r. r ++ row_of zs p ∷ []) (ap (λ s. map (row_of s) ps) same ∙ rows-kept xs e ps b)
     ∙ ap (λ r. map (row_of xs) ps ++ r ∷ [])
     (ap (λ s. let r : Row = record { step = record { position = p.position; taken = p.taken.items }; expr = s } in r) (seen-last xs e zs p.place same start end)

@@ -1,7 +1,7 @@
 -- What one item does to a draft.
 use Rattle.std.specs.Prelude.{◌≡◌, ℕ, zero, suc, ◌-◌, ◌<◌, List, [], ◌∷◌, ◌++◌, length, map, get_or, slice_get, Option, Some, None, refl}
 use Rattle.std.proofs.Common.{sym, ◌∙◌, ap, subst, arith, length-append}
-use Rattle.std.proofs.lemmas.List.{length-map}
+use Rattle.std.proofs.lemmas.List.{length-map, map_push}
 use Rattle.std.proofs.lemmas.Option.{slice_get-get_or}
 use Rattle.mm_lex.specs.Alphabet.{Name}
 use Rattle.mm_read.specs.declared.stmt.Stmt.{Stmt}
@@ -19,7 +19,6 @@ use Rattle.steps.specs.StepTable.{Progress}
 use Rattle.steps.specs.Rows.{steps_of, expr_in, AreRows}
 use Rattle.steps.specs.Stored.Drafted.{row_of, rows_of, AreInBuffer, AreKnown, IsDraft, IsTied, CanDo, IsDone}
 use Rattle.steps.specs.declared.table_draft.TableDraft.{TableDraft}
-use Rattle.frame.proofs.StoredOneMore.{map-push}
 use Rattle.frame.proofs.SymbolNumberLemmas.{below-push}
 use Rattle.frame.proofs.ApartLemmas.{below-at}
 
@@ -72,7 +71,7 @@ module _ (S : Database) (at : ℕ) (names : List Name) (d : TableDraft) (is : Is
       marked-done st next tied (b, e, whole, goes) =
           let w = front-last d.stack.items p some in
           let split : d.stack.items ≡ w.0 ++ p ∷ [] = w.1 ∙ ap (λ k. w.0 ++ k ∷ []) (sym last) in
-          let both : map f w.0 ++ f p ∷ [] ≡ b ++ e ∷ [] = sym (map-push f w.0 p) ∙ (ap (map f) (sym split) ∙ (tied.stack ∙ whole)) in
+          let both : map f w.0 ++ f p ∷ [] ≡ b ++ e ∷ [] = sym (map_push f w.0 p) ∙ (ap (map f) (sym split) ∙ (tied.stack ∙ whole)) in
           let cut = append_cut (map f w.0) b (f p ∷ []) (e ∷ []) both refl in
           let one : f p ≡ e = (let x = cut.1 in cc) in (
             (
@@ -84,7 +83,7 @@ module _ (S : Database) (at : ℕ) (names : List Name) (d : TableDraft) (is : Is
                   ∙ ap (λ s. let v : Progress = record { steps = steps_of (rows_of d); stack = d.stack.items; saved = s } in v) saved),
             ),
             subst (IsTied names new) (sym goes)
-                (tied-same (with_mark st e) (ap (map f) same_stack ∙ tied.stack) (ap (map f) saved ∙ (map-push f d.saved.items p ∙ (ap (λ r. r ++ f p ∷ []) tied.saved ∙ ap (λ x. st.saved ++ x ∷ []) one)))),
+                (tied-same (with_mark st e) (ap (map f) same_stack ∙ tied.stack) (ap (map f) saved ∙ (map_push f d.saved.items p ∙ (ap (λ r. r ++ f p ∷ []) tied.saved ∙ ap (λ x. st.saved ++ x ∷ []) one)))),
           )
 
   -- ---- a recall
@@ -121,7 +120,7 @@ module _ (S : Database) (at : ℕ) (names : List Name) (d : TableDraft) (is : Is
           ),
           subst (IsTied names new) (sym goes)
               (tied-same new p same_placed same_symbols same_known (with_result st st.stack e)
-              (ap (map f) stack ∙ (map-push f d.stack.items p ∙ (ap (λ r. r ++ f p ∷ []) tied.stack ∙ ap (λ x. st.stack ++ x ∷ []) (sym one)))) (ap (map f) same_saved ∙ tied.saved)),
+              (ap (map f) stack ∙ (map_push f d.stack.items p ∙ (ap (λ r. r ++ f p ∷ []) tied.stack ∙ ap (λ x. st.stack ++ x ∷ []) (sym one)))) (ap (map f) same_saved ∙ tied.saved)),
         )
 
 -- what may be cited is not nothing

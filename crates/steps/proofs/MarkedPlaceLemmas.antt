@@ -1,24 +1,18 @@
 -- The marked places in order, and their numbers.
 use Rattle.std.specs.Prelude.{◌≡◌, ◌⊎◌, ℕ, zero, suc, ◌+◌, ◌<◌, ◌≤◌, Bool, true, false, if◌then◌else◌, List, [], ◌∷◌, ◌++◌, length, map, get_or, slice_get, Some, refl}
 use Rattle.std.proofs.Common.{sym, ◌∙◌, ap, subst, arith, length-append, inl, inr}
-use Rattle.std.proofs.lemmas.List.{length-map}
+use Rattle.std.proofs.lemmas.List.{length-map, map_push}
 use Rattle.std.specs.List.Sorted.{IsStrictlyIncreasing}
 use Rattle.std.proofs.lemmas.Option.{slice_get-get_or, get_or_from_slice_get}
+use Rattle.std.proofs.lemmas.Bool.{cases_Bool, cases_lt}
 use Rattle.mm_read.specs.Statements.{Database}
 use Rattle.steps.specs.Rows.{Row, no_row, steps_of}
 use Rattle.steps.specs.Essential.{essential_of, IsEssential, is_taken, IsRenumbered, AreEssential}
 use Rattle.steps.specs.Stored.Marked.{HasMark, AreMarks, marked_before, number_of, AreNumbers, kept_row}
 use Rattle.steps.proofs.DraftRowLemmas.{some-front, some-more, step-at}
 use Rattle.steps.proofs.EssentialMarkLemmas.{from-or-at}
-use Rattle.frame.proofs.OneFrameLemmas.{low-or-not}
 use Rattle.frame.proofs.FoundByNumber.{map-at}
-use Rattle.frame.proofs.StoredOneMore.{map-push}
 use Rattle.entries.proofs.StatementRecordLemmas.{get-last}
-
--- a Boolean is true or false
-either : (b : Bool) → (b ≡ true) ⊎ (b ≡ false)
-either true = inl refl
-either false = inr refl
 
 module _ (marks : List Bool) where
   abbrev next : ℕ → Bool → List ℕ
@@ -33,7 +27,7 @@ module _ (marks : List Bool) where
   -- a marked place stands at its number
   pub stands-at : (i k : ℕ) → k < i → HasMark marks k → slice_get (marked_before marks i) (number_of marks k) ≡ Some k
   stands-at zero k l h = absurd (omega (arith, l))
-  stands-at (suc i) k l h = by (λ s. stands-at i k s h) (from-or-at k i (omega (arith, l))) (either (get_or marks i false))
+  stands-at (suc i) k l h = by (λ s. stands-at i k s h) (from-or-at k i (omega (arith, l))) (cases_Bool (get_or marks i false))
     where
       by : (suc k ≤ i → slice_get (marked_before marks i) (number_of marks k) ≡ Some k) → (i ≡ k) ⊎ (suc k ≤ i) → (get_or marks i false ≡ true) ⊎ (get_or marks i false ≡ false)
           → slice_get (marked_before marks (suc i)) (number_of marks k) ≡ Some k
@@ -55,7 +49,7 @@ module _ (marks : List Bool) where
   -- what stands at a number is a marked place that has it
   pub has-number : (i n k : ℕ) → slice_get (marked_before marks i) n ≡ Some k → (k < i) × HasMark marks k × (n ≡ number_of marks k)
   has-number zero n k h = cc
-  has-number (suc i) n k h = by (has-number i n k) (either (get_or marks i false))
+  has-number (suc i) n k h = by (has-number i n k) (cases_Bool (get_or marks i false))
     where
       by : (slice_get (marked_before marks i) n ≡ Some k → IsNumbered i n k) → (get_or marks i false ≡ true) ⊎ (get_or marks i false ≡ false) → IsNumbered (suc i) n k
       by before (inl t) = number-last i n k t before (some-front (marked_before marks i) i n k (ap (λ v. slice_get v n) (sym (before-marked i t)) ∙ h))
@@ -65,7 +59,7 @@ module _ (marks : List Bool) where
   pub kept-more : (f : ℕ → Row) (k : ℕ) (old new : List Row) → HasMark marks k → old ≡ map f (marked_before marks k) → new ≡ old ++ f k ∷ [] → new ≡ map f (marked_before marks (k + 1))
   kept-more f k old new h is e =
       let one : k + 1 ≡ suc k = omega arith in
-      e ∙ (ap (λ r. r ++ f k ∷ []) is ∙ (sym (map-push f (marked_before marks k) k) ∙ (ap (map f) (sym (before-marked k h)) ∙ ap (λ i. map f (marked_before marks i)) (sym one))))
+      e ∙ (ap (λ r. r ++ f k ∷ []) is ∙ (sym (map_push f (marked_before marks k) k) ∙ (ap (map f) (sym (before-marked k h)) ∙ ap (λ i. map f (marked_before marks i)) (sym one))))
 
   pub kept-same : (f : ℕ → Row) (k : ℕ) (old : List Row) → get_or marks k false ≡ false → old ≡ map f (marked_before marks k) → old ≡ map f (marked_before marks (k + 1))
   kept-same f k old h is =
@@ -83,10 +77,10 @@ module _ (marks : List Bool) where
     where
       by : (j ≤ i → number_of marks j ≤ number_of marks i) → (suc i ≡ j) ⊎ (suc j ≤ suc i) → number_of marks j ≤ number_of marks (suc i)
       by before (inl e) = subst (λ x. number_of marks j ≤ number_of marks x) (sym e) (omega arith)
-      by before (inr s) = let r = before (omega (arith, s)) in let t = one-longer i (either (get_or marks i false)) in omega (arith, r, t)
+      by before (inr s) = let r = before (omega (arith, s)) in let t = one-longer i (cases_Bool (get_or marks i false)) in omega (arith, r, t)
 
   pub in-order : (i : ℕ) → IsStrictlyIncreasing (marked_before marks i)
-  in-order i = λ n within. by n (low-or-not (get_or (marked_before marks i) n 0) (get_or (marked_before marks i) (n + 1) 0)) within
+  in-order i = λ n within. by n (cases_lt (get_or (marked_before marks i) n 0) (get_or (marked_before marks i) (n + 1) 0)) within
     where
       by : (n : ℕ) → (get_or (marked_before marks i) n 0 < get_or (marked_before marks i) (n + 1) 0) ⊎ (get_or (marked_before marks i) (n + 1) 0 ≤ get_or (marked_before marks i) n 0) → n + 1 < length (marked_before marks i)
           → get_or (marked_before marks i) n 0 < get_or (marked_before marks i) (n + 1) 0
@@ -100,7 +94,7 @@ module _ (marks : List Bool) where
           absurd (omega (arith, m, x, y))
 
   pub numbers-more : (k n : ℕ) (numbers : List ℕ) → AreNumbers marks k numbers → n ≡ number_of marks k → AreNumbers marks (k + 1) (numbers ++ n ∷ [])
-  numbers-more k n numbers are e = record { count = (let l = length-append numbers (n ∷ []) in let c = are.count in omega (arith, l, c)); each = λ j l. each j (low-or-not j k) l }
+  numbers-more k n numbers are e = record { count = (let l = length-append numbers (n ∷ []) in let c = are.count in omega (arith, l, c)); each = λ j l. each j (cases_lt j k) l }
     where
       each : (j : ℕ) → (j < k) ⊎ (k ≤ j) → suc j ≤ k + 1 → get_or (numbers ++ n ∷ []) j 0 ≡ number_of marks j
       each j (inl less) l =
@@ -129,7 +123,7 @@ module _ (S : Database) (rows : List Row) (marks : List Bool) (are : AreMarks S 
 
   -- a marked place is the place of a row
   within : (k : ℕ) → HasMark marks k → k < length rows
-  within k h = by (low-or-not k (length marks))
+  within k h = by (cases_lt k (length marks))
     where
       past : (xs : List Bool) (k : ℕ) → length xs ≤ k → get_or xs k false ≡ false
       past [] k l = refl

@@ -1,7 +1,7 @@
 -- A step that stood already, or that is new, in a table while it is made.
 use Rattle.std.specs.Prelude.{◌≡◌, ℕ, ◌+◌, ◌<◌, ◌≤◌, List, [], ◌∷◌, ◌++◌, length, map, slice_get, Some}
 use Rattle.std.proofs.Common.{sym, ◌∙◌, ap, subst, arith, length-append}
-use Rattle.std.proofs.lemmas.List.{length-map}
+use Rattle.std.proofs.lemmas.List.{length-map, map_push}
 use Rattle.std.proofs.lemmas.Option.{get_or_from_slice_get, slice_get_within}
 use Rattle.mm_lex.specs.Alphabet.{Name}
 use Rattle.mm_read.specs.Statements.{Expr, Database}
@@ -16,7 +16,6 @@ use Rattle.steps.specs.Stored.Drafted as drafted
 use Rattle.steps.specs.Stored.Drafted.{row_of, rows_of, codes_in, key_of, progress_of, IsDraft, IsTied, Finds, GivesHypothesis, GivesAssertion}
 use Rattle.steps.specs.declared.table_draft.TableDraft.{TableDraft}
 use Rattle.steps.proofs.DraftRowLemmas.{rows-more, buffer-snoc, row-at, exprs-front, rows-snoc, known-snoc}
-use Rattle.frame.proofs.StoredOneMore.{map-push}
 use Rattle.frame.proofs.SymbolNumberLemmas.{below-push, below-more}
 
 module _ (S : Database) (at : ℕ) (names : List Name) (legal : AreLegal S names) (d new : TableDraft) (is : IsDraft S at names d) where
@@ -65,7 +64,7 @@ module _ (S : Database) (at : ℕ) (names : List Name) (legal : AreLegal S names
         let r = row-at rows finds.place step at_step in
         let e : expr_in names rows finds.place ≡ f = ap (λ x. decode names x.expr) (get_or_from_slice_get rows finds.place r.0 no_row r.1) ∙ gives r.0 r.2 ((is.rows finds.place r.0 r.1).follows) in
         record {
-          stack = ap (λ x. map (expr_in names x) new.stack.items) same_rows ∙ (ap (map (expr_in names rows)) finds.stack ∙ (map-push (expr_in names rows) rest finds.place ∙ (ap (λ x. x ++ expr_in names rows finds.place ∷ []) front ∙ ap (λ x. b ++ x ∷ []) e)));
+          stack = ap (λ x. map (expr_in names x) new.stack.items) same_rows ∙ (ap (map (expr_in names rows)) finds.stack ∙ (map_push (expr_in names rows) rest finds.place ∙ (ap (λ x. x ++ expr_in names rows finds.place ∷ []) front ∙ ap (λ x. b ++ x ∷ []) e)));
           saved = ap (λ x. map (expr_in names x) new.saved.items) same_rows ∙ (ap (map (expr_in names rows)) finds.saved ∙ tied.saved);
         }
 
@@ -84,7 +83,7 @@ module _ (S : Database) (at : ℕ) (names : List Name) (legal : AreLegal S names
 
     -- the steps are those before, and the new one
     more_steps : steps_of (rows_of new) ≡ steps_of rows ++ step ∷ []
-    more_steps = ap steps_of more_rows ∙ map-push (λ r. r.step) rows row
+    more_steps = ap steps_of more_rows ∙ map_push (λ r. r.step) rows row
 
     -- there are as many steps as were placed
     steps_count : length (steps_of rows) ≡ length d.placed.items
@@ -119,7 +118,7 @@ module _ (S : Database) (at : ℕ) (names : List Name) (legal : AreLegal S names
     made-tied st b f tied front ends =
         record {
           stack = ap (λ x. map (expr_in names x) new.stack.items) more_rows ∙ (ap (map (expr_in names (rows ++ row ∷ []))) makes.stack
-              ∙ (map-push (expr_in names (rows ++ row ∷ [])) rest (length d.placed.items)
+              ∙ (map_push (expr_in names (rows ++ row ∷ [])) rest (length d.placed.items)
               ∙ (ap (λ x. x ++ expr_in names (rows ++ row ∷ []) (length d.placed.items) ∷ []) (exprs-front names rows row rest (rows_below rest low) ∙ front)
               ∙ ap (λ x. b ++ x ∷ []) (ap (λ x. decode names x.expr) (get-last rows row (length d.placed.items) no_row (sym count)) ∙ ends))));
           saved = ap (λ x. map (expr_in names x) new.saved.items) more_rows ∙ (ap (map (expr_in names (rows ++ row ∷ []))) makes.saved

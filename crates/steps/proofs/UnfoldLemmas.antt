@@ -1,7 +1,8 @@
 -- The steps of items last_unfolded to the derivation that the items spell.
 use Rattle.std.specs.Prelude.{◌≡◌, ℕ, zero, suc, ◌+◌, ◌-◌, ◌<◌, Bool, true, false, if◌then◌else◌, List, [], ◌∷◌, ◌++◌, length, map, slice_get, Some, refl}
 use Rattle.std.proofs.Common.{sym, ◌∙◌, ap, subst, arith, length-append}
-use Rattle.std.proofs.lemmas.List.{length-map}
+use Rattle.std.proofs.lemmas.List.{length-map, map_push, map-append}
+use Rattle.frame.proofs.FoundByNumber.{map-at}
 use Rattle.mm_lex.specs.Alphabet.{Name}
 use Rattle.mm_read.specs.declared.stmt.Stmt.{Stmt}
 use Rattle.mm_read.specs.Statements.{Database}
@@ -17,13 +18,11 @@ use Rattle.verify.specs.Plan.{pick}
 use Rattle.verify.specs.Right.{IsRight, Derives}
 use Rattle.verify.proofs.Decide.{not_both}
 use Rattle.verify.proofs.GrowthLemmas.{leaves}
-use Rattle.verify.proofs.PlanLemmas.{map-pick}
+use Rattle.verify.proofs.PlanLemmas.{map-pick, trees-same}
 use Rattle.frame.proofs.PositionLemmas.{get-front, get-last}
 use Rattle.steps.specs.StepTable.{Step, Progress, progress, IsPlaced, stands, comes_last, Makes, of_hypothesis, of_assertion, Notes, NotesAll, AreSteps}
 use Rattle.steps.specs.Unfolded.{has_assertion, citation_over, unfolded_behind, unfolded, last_unfolded}
 use Rattle.steps.proofs.SoundLemmas.{IsSound, note-sound, nothing-sound, below-split}
-use Rattle.proof_code.proofs.LettersLemmas.{map-append}
-use Rattle.frame.proofs.StoredOneMore.{map-push}
 
 module _ (S : Database) where
   -- ---- a list of steps, one by one
@@ -86,14 +85,6 @@ module _ (S : Database) where
   abbrev seen : Progress → Trees
   seen p = trees (map (pick (unfolded S p.steps)) p.stack) (map (pick (unfolded S p.steps)) p.saved)
 
-  trees-same : (a b c d : List Derivation) → a ≡ b → c ≡ d → trees a c ≡ trees b d
-  trees-same a b c d p q = ap (λ v. trees v c) p ∙ ap (trees b) q
-
-  some-map : (f : ℕ → Derivation) (xs : List ℕ) (k x : ℕ) → slice_get xs k ≡ Some x → slice_get (map f xs) k ≡ Some (f x)
-  some-map f [] k x h = cc
-  some-map f (y ∷ xs) zero x h = let e : y ≡ x = cc in ap (λ z. Some (f z)) e
-  some-map f (y ∷ xs) (suc k) x h = some-map f xs k x h
-
   -- a citation puts the derivation of its step on those below
   cites-over : (p q : Progress) (below : List ℕ) (step : Step) (n : ℕ) → IsSound p → AreBelow (length p.steps) below → IsPlaced p.steps step q.steps n → q.stack ≡ below ++ n ∷ [] → q.saved ≡ p.saved
       → seen q ≡ trees (map (pick (unfolded S p.steps)) below ++ citation_over S (unfolded S p.steps) step ∷ []) (map (pick (unfolded S p.steps)) p.saved)
@@ -101,7 +92,7 @@ module _ (S : Database) where
       let us = unfolded S p.steps in
       ap (λ s. trees (map (pick (unfolded S s)) q.stack) (map (pick (unfolded S s)) q.saved)) same
       ∙ trees-same _ _ _ _
-      (ap (map (pick us)) stack ∙ (map-push (pick us) below n ∙ ap (λ t. map (pick us) below ++ t ∷ []) (unfolded-at p.steps n step h (is.ordered n step h))))
+      (ap (map (pick us)) stack ∙ (map_push (pick us) below n ∙ ap (λ t. map (pick us) below ++ t ∷ []) (unfolded-at p.steps n step h (is.ordered n step h))))
       (ap (map (pick us)) saved)
   cites-over p q below step n is low (comes_last fresh place more) stack saved =
       let us = unfolded S p.steps in
@@ -111,7 +102,7 @@ module _ (S : Database) where
       ap (λ vs. trees (map (pick vs) q.stack) (map (pick vs) q.saved)) grown
       ∙ trees-same _ _ _ _
       (ap (map (pick (us ++ t ∷ []))) stack
-      ∙ (map-push (pick (us ++ t ∷ [])) below n
+      ∙ (map_push (pick (us ++ t ∷ [])) below n
       ∙ (ap (λ r. r ++ pick (us ++ t ∷ []) n ∷ []) (map-pick us (t ∷ []) below (subst (λ k. AreBelow k below) (sym len) low))
       ∙ ap (λ x. map (pick us) below ++ x ∷ []) (get-last us t n (hyp 0) (place ∙ sym len)))))
       (ap (map (pick (us ++ t ∷ []))) saved ∙ map-pick us (t ∷ []) p.saved (subst (λ k. AreBelow k p.saved) (sym len) is.saved_below))
@@ -153,15 +144,15 @@ module _ (S : Database) where
     note-grows p q (Recall (suc k)) is h =
         let us = unfolded S p.steps in (
           pick us h.0,
-          some-map (pick us) p.saved k h.0 h.1,
-          ap seen h.2 ∙ ap (λ s. trees s (map (pick us) p.saved)) (map-push (pick us) p.stack h.0),
+          map-at (pick us) p.saved k h.0 h.1,
+          ap seen h.2 ∙ ap (λ s. trees s (map (pick us) p.saved)) (map_push (pick us) p.stack h.0),
         )
     note-grows p q Mark is h =
         let us = unfolded S p.steps in (
           map (pick us) h.0,
           pick us h.1,
-          ap (map (pick us)) h.2 ∙ map-push (pick us) h.0 h.1,
-          ap seen h.3 ∙ ap (trees (map (pick us) p.stack)) (map-push (pick us) p.saved h.1),
+          ap (map (pick us)) h.2 ∙ map_push (pick us) h.0 h.1,
+          ap seen h.3 ∙ ap (trees (map (pick us) p.stack)) (map_push (pick us) p.saved h.1),
         )
 
     notes-grow : (items : List Item) (p q : Progress) → IsSound p → NotesAll S at p items q → GrowsBy S at (seen p) items (seen q)

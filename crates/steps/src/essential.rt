@@ -1,5 +1,5 @@
 //! The steps that a mathematician reads.
-ghost use Rattle.std.specs.Prelude.{◌≡◌, suc, ◌<◌, ◌≤◌, IfOk, OnOk, length, map, get_or};
+ghost use Rattle.std.specs.Prelude.{◌≡◌, suc, ◌<◌, ◌≤◌, [], IfOk, OnOk, length, map, get_or};
 ghost use Rattle.frame.specs.Below.{AreBelow};
 ghost use Rattle.steps.specs.Rows.{no_row, steps_of, AreRows};
 ghost use Rattle.steps.specs.Essential.{essential_of, AreEssential};
@@ -155,9 +155,28 @@ pub fn essential_table(
     ensures { IfOk result (λ kept. AreEssential frames.now.statements table.now kept) }
 {
     let marks = marks_of(alloc, frames, at, table)?;
+    let mut kept = ProofTable::new(alloc);
+    keep_marked(alloc, frames, at, table, &marks, &mut kept)?;
+    Ok(kept)
+}
+
+/// Keeps the steps that are marked.
+fn keep_marked(
+    alloc: Global,
+    frames: &Frames,
+    at: usize,
+    table: &ProofTable,
+    marks: &[bool],
+    kept: &mut ProofTable,
+) -> Result<(), AllocError>
+    requires at { (1 ≤ at) × (at ≤ length frames.now.statements) }
+    requires rows { AreRows frames.now.statements at frames.now.names table.now }
+    requires marks { AreMarks frames.now.statements (steps_of table.now) marks.now }
+    requires empty { kept.old ≡ [] }
+    ensures { OnOk result (AreEssential frames.now.statements table.now kept.new) }
+{
     let mut gathered = Gathered::new(alloc);
     let mut numbers = Vec::new(alloc);
-    let mut kept = ProofTable::new(alloc);
     for place in 0..table.len() {
         numbers.push(kept.len())?;
         if marks[place] {
@@ -166,5 +185,5 @@ pub fn essential_table(
             kept.push(table.position(place), taken, table.expr(place))?;
         }
     }
-    Ok(kept)
+    Ok(())
 }

@@ -56,7 +56,10 @@ fn serve_as_one<R: Threads + Wait + Clock + Copy + Send + Sync + Drop + 'static>
     alloc: Global,
 ) -> Result<bool, StepFault> {
     let mut library = Library::new(alloc);
-    serve_as(rt, alloc, &mut library)
+    let served = serve_as(rt, alloc, &mut library);
+    // Drops by a call are proved once for each type, and not laid out here.
+    drop(library);
+    served
 }
 
 /// The same of that library, which is new.

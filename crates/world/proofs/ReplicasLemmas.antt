@@ -4,6 +4,7 @@ use Rattle.std.specs.Prelude.{IsOk, IfErr}
 use Rattle.std.proofs.lemmas.Bool.Decides.{nat_tests}
 use Rattle.std.proofs.lemmas.List.{length-set, length-replicate, take-append-le}
 use Rattle.std.proofs.lemmas.Option.{slice_get_within}
+use Rattle.synod.proofs.LogLemmas.{take_next}
 use Rattle.library.specs.declared.entry.Entry.{Entry}
 use Rattle.library.specs.declared.verdict.Verdict.{Verdict}
 use Rattle.library.specs.LibraryOf.{Applies, IsLibraryOf}
@@ -26,12 +27,6 @@ use Rattle.net.proofs.GrowingLists.{at_set_other}
 
 -- A library and its log.
 
--- the first elements of a list and the next one are one more of the first
-take_one_more : {A : Type 0} (n : ℕ) (xs : List A) (x : A) → slice_get xs n ≡ Some x → take (suc n) xs ≡ take n xs ++ x ∷ []
-take_one_more n [] x is = cc
-take_one_more zero (y ∷ xs) x is = let same : y ≡ x = cc in ap (λ z. z ∷ []) same
-take_one_more (suc n) (y ∷ xs) x is = ap (λ ys. y ∷ ys) (take_one_more n xs x is)
-
 -- a new library is that of no entries of a log
 pub new_is_of_log : (log : List (Option Entry)) → IsOfLog log new_library
 new_is_of_log log = record { within = omega arith; library = refl }
@@ -51,7 +46,7 @@ of_log_applied log node entry verdict next h is applies one_more =
     let up : next.applied ≡ suc node.applied = one_more ∙ add-one node.applied in
     record {
       within = let low = slice_get_within log node.applied entry is in omega (arith, up, low);
-      library = subst (λ (es : List (Option Entry)). IsLibraryOf es next.library) (sym (ap (λ (n : ℕ). take n log) up ∙ take_one_more node.applied log entry is))
+      library = subst (λ (es : List (Option Entry)). IsLibraryOf es next.library) (sym (ap (λ (n : ℕ). take n log) up ∙ take_next log node.applied entry is))
           (library-more (take node.applied log) node.library next.library entry verdict h.library applies);
     }
 

@@ -9,6 +9,7 @@ use library::{Entry, Library, Verdict};
 use net::StepFault;
 use std::alloc::{AllocError, Global};
 use std::marker::Model;
+use std::mem;
 use std::thread::Threads;
 use verify_pool::{Gate, Workers};
 
@@ -36,6 +37,13 @@ impl Replica {
             library: Library::new(alloc),
             applied: 0,
         }
+    }
+
+    /// It is given up for that of a new node. It takes no memory.
+    pub fn give_up(&mut self, alloc: Global)
+        ensures { self.new ≡ new_library }
+    {
+        let _old = mem::replace(self, Replica::new(alloc));
     }
 
     /// How many entries were applied: the slot of the next.
@@ -120,7 +128,7 @@ pub(crate) fn give_up(alloc: Global, replicas: &mut Vec<Replica>, restarted: Opt
 {
     if let Some(k) = restarted {
         if let Some(replica) = replicas.get_mut(k as usize) {
-            *replica = Replica::new(alloc);
+            replica.give_up(alloc);
         }
     }
 }

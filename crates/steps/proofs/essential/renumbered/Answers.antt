@@ -1,10 +1,10 @@
 use Rattle.std.proofs.Common.{◌∷◌, ◌++◌, [], map, take, get_or, sym, ◌∙◌, ap}
+use Rattle.frame.proofs.ApartLemmas.{below-at}
 use Rattle.steps.proofs.DraftLemmas.{map-more}
 use Rattle.steps.proofs.essential.renumbered.Goals as goal
-use Rattle.frame.proofs.DeclareLemmas.{below-at}
 
 pub number_at-requires : goal.number_at-requires
-number_at-requires c = below-at _ c.args.list.now c.loop-place.place-index c.requires c.loop-place-test.true
+number_at-requires c = below-at _ c.args.list.now c.loop-place.place-index 0 c.requires c.loop-place-test.true
 
 pub loop-place-preserved : goal.loop-place-preserved
 loop-place-preserved c =

@@ -2,8 +2,7 @@ use Rattle.std.proofs.Common.{suc, ◌-◌, [], get_or, arith, sym, ◌∙◌, a
 use Rattle.std.proofs.lemmas.Result.{on_ok_weaker}
 use Rattle.proof_code.specs.declared.item.Item.TheVariants.{Recall}
 use Rattle.proof_code.specs.ItemNumbers.{item_of}
-use Rattle.proof_code.proofs.RowOfNumbers.{item-cite}
-use Rattle.verify.proofs.GrowthLemmas.{item-recall}
+use Rattle.proof_code.proofs.RowOfNumbers.{item-cite, item-recall}
 use Rattle.steps.specs.Stored.Drafted.{CanDo, IsDone}
 use Rattle.steps.proofs.DraftedItemLemmas.{position-there}
 use Rattle.steps.proofs.noting.note.Goals as goal

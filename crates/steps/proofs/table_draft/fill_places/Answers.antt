@@ -1,11 +1,11 @@
 use Rattle.std.proofs.Common.{◌∷◌, ◌++◌, [], map, take, sym, ◌∙◌, ap}
+use Rattle.frame.proofs.ApartLemmas.{below-at}
 use Rattle.steps.specs.Stored.Drafted.{place_in}
 use Rattle.steps.proofs.DraftLemmas.{map-more}
 use Rattle.steps.proofs.table_draft.fill_places.Goals as goal
-use Rattle.frame.proofs.DeclareLemmas.{below-at}
 
 pub place_at-requires : goal.place_at-requires
-place_at-requires c = below-at _ c.args.taken.now c.loop-number.number-index c.requires c.loop-number-test.true
+place_at-requires c = below-at _ c.args.taken.now c.loop-number.number-index 0 c.requires c.loop-number-test.true
 
 pub loop-number-preserved : goal.loop-number-preserved
 loop-number-preserved c =

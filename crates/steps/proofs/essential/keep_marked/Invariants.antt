@@ -1,9 +1,9 @@
 use Rattle.std.proofs.Common.{◌≡◌, map}
 use Rattle.steps.specs.Stored.Marked.{marked_before, AreNumbers, kept_row}
-use Rattle.steps.proofs.essential.essential_table.Given as goal
+use Rattle.steps.proofs.essential.keep_marked.Given as goal
 
 -- the marked rows before this place
 abbrev pub invariant-loop-place : goal.invariant-loop-place
 invariant-loop-place l =
-    AreNumbers l.marks.items l.place l.numbers.items
-    × (l.kept ≡ map (kept_row l.frames.statements l.table l.marks.items) (marked_before l.marks.items l.place))
+    AreNumbers l.marks l.place l.numbers.items
+    × (l.kept ≡ map (kept_row l.frames.statements l.table l.marks) (marked_before l.marks l.place))

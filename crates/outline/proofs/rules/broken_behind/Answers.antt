@@ -1,6 +1,6 @@
 use Rattle.std.proofs.Common.{◌∙◌, sym, arith, true≢false}
 use Rattle.outline.proofs.FirstBrokenLemmas.{is_behind_more, breaks, ends_good, ends_open}
-use Rattle.outline.proofs.rules.broken.Goals as goal
+use Rattle.outline.proofs.rules.broken_behind.Goals as goal
 
 pub loop-index-preserved : goal.loop-index-preserved
 loop-index-preserved c =
@@ -16,5 +16,5 @@ returns-in-Err c =
 pub returns-in-Ok : goal.returns-in-Ok
 returns-in-Ok c = ends_good c.loop-index.invariant (omega arith) c.close_at_end.result c.in-Ok.field-0 c.in-Ok.is c.close_at_end.ensures.open
 
-pub returns : goal.returns
-returns c = ends_open c.loop-index.invariant (omega arith) c.close_at_end.result c.in-Err-close_at_end.rule tt c.in-Err-close_at_end.is c.close_at_end.ensures.open c.close_at_end.ensures.closed
+pub returns-in-Err-close_at_end : goal.returns-in-Err-close_at_end
+returns-in-Err-close_at_end c = ends_open c.loop-index.invariant (omega arith) c.close_at_end.result c.in-Err-close_at_end.rule tt c.in-Err-close_at_end.is c.close_at_end.ensures.open c.close_at_end.ensures.closed
