@@ -2,7 +2,7 @@
 -- statement begins.
 use Rattle.std.specs.Prelude.{◌≡◌, ℕ, zero, suc, ◌+◌, ◌-◌, ◌<◌, ◌≤◌, ◌^◌, List, [], ◌∷◌, ◌++◌, length, map, take, slice_get, Some, refl, ◌⊎◌}
 use Rattle.std.proofs.Common.{◌∙◌, ap, sym, subst, arith, inl, inr}
-use Rattle.std.proofs.lemmas.List.{length-append, length-take-le, map-append, take-append-le}
+use Rattle.std.proofs.lemmas.List.{length-append, length-take-le, map-append, take-append-le, take-map}
 use Rattle.std.proofs.lemmas.Option.{slice_get_within, same_Some}
 use Rattle.std.proofs.Math.Seq.{take-append_seam}
 use Rattle.entries.specs.declared.sizes.Sizes.{Sizes}
@@ -204,9 +204,4 @@ module _ (b c : Buffers) (rs : List Place) (n : ℕ) (r : Place) (p : ArePacked 
   }
 
   pub items-cut : map (entry_of b) (take n rs) ≡ take n (map (entry_of c) rs)
-  items-cut = sym (entries-same b c (take n rs) (cut-grows b c (start_of r) k) fits pairs) ∙ map-take (entry_of c) n rs
-    where
-      map-take : {A B : Type 0} (f : A → B) (m : ℕ) (xs : List A) → map f (take m xs) ≡ take m (map f xs)
-      map-take f zero xs = refl
-      map-take f (suc m) [] = refl
-      map-take f (suc m) (x ∷ xs) = ap (λ ys. f x ∷ ys) (map-take f m xs)
+  items-cut = sym (entries-same b c (take n rs) (cut-grows b c (start_of r) k) fits pairs) ∙ sym (take-map (entry_of c) n rs)

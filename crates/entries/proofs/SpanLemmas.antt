@@ -43,9 +43,6 @@ extends-refl a = ([], sym (append-nil a))
 pub extends-trans : {A : Type 0} (a b c : List A) → Extends a b → Extends b c → Extends a c
 extends-trans a b c p q = (p.0 ++ q.0, q.1 ∙ (ap (λ w. w ++ q.0) p.1 ∙ append_assoc a p.0 q.0))
 
-pub extends-by : {A : Type 0} (a b more : List A) → b ≡ a ++ more → Extends a b
-extends-by a b more e = (more, e)
-
 pub extends-length : {A : Type 0} (a b : List A) → Extends a b → length a ≤ length b
 extends-length a b h = let l = length-append a h.0 in let m = ap length h.1 in omega arith
 

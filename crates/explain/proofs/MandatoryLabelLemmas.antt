@@ -1,10 +1,8 @@
 -- The labels of the mandatory hypotheses.
-use Rattle.std.specs.Prelude.{◌≡◌, ℕ, zero, suc, ◌+◌, ◌<◌, ◌≤◌, true, List, [], ◌∷◌, ◌++◌, length, map, take, get_or, Some, unwrap_or, refl}
-use Rattle.std.specs.List.{list_all}
+use Rattle.std.specs.Prelude.{◌≡◌, ℕ, zero, suc, ◌+◌, ◌<◌, ◌≤◌, List, [], ◌∷◌, ◌++◌, length, map, take, get_or, Some, unwrap_or, refl}
 use Rattle.std.proofs.Common.{sym, ◌∙◌, ap, subst, arith}
 use Rattle.std.proofs.lemmas.List.{map_more, length-map}
-use Rattle.mm_lex.specs.Alphabet.{Name, is_visible}
-use Rattle.mm_lex.specs.Words.{is_word}
+use Rattle.mm_lex.specs.Alphabet.{Name}
 use Rattle.mm_read.specs.declared.stmt.Stmt.{Stmt}
 use Rattle.mm_read.specs.Statements.{Database}
 use Rattle.scope.specs.Active.{before, stmt_at, label_of}
@@ -44,8 +42,3 @@ labels-more S ps k p d label front after h less is labelled so_far added =
     added ∙ (ap (λ r. r ++ label ∷ []) so_far
     ∙ (ap (λ l. map (λ i. label_or_none (stmt_at S i)) (take k ps) ++ l ∷ []) (one ∙ ap (λ i. label_or_none (stmt_at S i)) is)
     ∙ sym (map_more (λ i. label_or_none (stmt_at S i)) ps k d less)))
-
--- bytes that can be seen are a word
-pub word-is : (bytes : List ℕ) → (bytes ≡ [] → ⊥) → list_all is_visible bytes ≡ true → is_word bytes ≡ true
-word-is [] some h = absurd (some refl)
-word-is (b ∷ bytes) some h = h

@@ -6,8 +6,7 @@ use Rattle.proof_code.specs.declared.item.Item.{Item}
 use Rattle.proof_code.specs.declared.fault.CodeFault.{CodeFault}
 use Rattle.proof_code.specs.declared.fault.CodeFault.TheVariants.{Unfinished, Malformed}
 use Rattle.proof_code.specs.Writes.{Writes, WritesPacked, IsMalformed, is_compressed, is_unfinished}
-use Rattle.frame.proofs.ActiveBehind.{not-both}
-use Rattle.proof_code.proofs.OneList.{one_answer}
+use Rattle.proof_code.proofs.OneList.{one_answer, malformed-none}
 
 abbrev Found : List Name → List Name → Option (List Item) → Type 0
 Found tokens mandatory found = MatchOption found ((other : List Item) → ¬ Writes tokens mandatory other) (λ items. Writes tokens mandatory items)
@@ -21,10 +20,7 @@ module _ {E : Type 0} (tokens mandatory : List Name) (r : Result (List Item) Cod
       → IfOk result (λ found. Found tokens mandatory found)
   packed-found compressed items malformed = by result w
     where
-      malformed-none : r ≡ Err Malformed → (other : List Item) → Writes tokens mandatory other → ⊥
-      malformed-none e other q = elim q [ inl p ↦ (malformed.0 e).1 other p.1 | inr p ↦ not-both (is_compressed tokens) compressed p.0 ]
-
       by : (result : Result (Option (List Item)) E) → IfOk result (λ found. Written r found) → IfOk result (λ found. Found tokens mandatory found)
       by (Ok (Some items')) e = inl (compressed, subst (λ q. IfOk q (λ is. WritesPacked tokens mandatory is)) e items)
-      by (Ok None) e = elim e [ inl u ↦ (λ other w. (one_answer tokens mandatory).finished other w (unfinished.0 u)) | inr m ↦ malformed-none m ]
+      by (Ok None) e = elim e [ inl u ↦ (λ other w. (one_answer tokens mandatory).finished other w (unfinished.0 u)) | inr m ↦ malformed-none tokens mandatory compressed (malformed.0 m) ]
       by (Err x) e = tt

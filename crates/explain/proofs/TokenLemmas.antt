@@ -121,7 +121,3 @@ module _ (tokens mandatory : List Name) (index : ℕ) (rest : List Name) (l : Is
   letters-write f c told =
       let w = told (mandatory ++ l.first.front) count in
       (w.0, writes-compressed tokens mandatory index rest w.0 f c l (subst (λ letters. WritesRow (mandatory ++ l.first.front) letters w.0) text w.1))
-
-pub joined-more : (front : List ℕ) (word : Name) (left rest : List Name) (letters more : List ℕ) → left ≡ word ∷ rest → letters ++ joined left ≡ front → more ≡ letters ++ word → more ++ joined rest ≡ front
-joined-more front word left rest letters more e so_far added =
-    ap (λ m. m ++ joined rest) added ∙ (append_assoc letters word (joined rest) ∙ (ap (λ l. letters ++ joined l) (sym e) ∙ so_far))

@@ -1,7 +1,7 @@
 -- What is active behind a statement.
-use Rattle.std.specs.Prelude.{◌≡◌, ℕ, zero, suc, ◌+◌, ◌-◌, Bool, true, false, cond, ◌||◌, List, [], ◌∷◌, ◌++◌, Option, Some, None, refl}
+use Rattle.std.specs.Prelude.{◌≡◌, ℕ, zero, suc, ◌+◌, ◌-◌, Bool, true, false, cond, ◌||◌, List, [], ◌∷◌, ◌++◌, Option, Some, None, refl, not}
 use Rattle.std.specs.List.{list_any}
-use Rattle.std.proofs.Common.{sym, ◌∙◌, ap}
+use Rattle.std.proofs.Common.{◌∙◌, ap}
 use Rattle.std.proofs.lemmas.Slice.Eq.{bytes_eq-Decides}
 use Rattle.std.proofs.lemmas.Bool.{or_left, or_right}
 use Rattle.mm_lex.specs.Alphabet.{Name, name_eq}
@@ -25,8 +25,10 @@ AreOnce (Some x ∷ vs) = IsElsewhere x vs × AreOnce vs
 
 -- ---- tests
 
-pub not-both : (a : Bool) → a ≡ true → a ≡ false → ⊥
-not-both a p q = let e : true ≡ false = sym p ∙ q in cc
+-- what follows from a test that holds
+pub implied : (a b : Bool) → (not a || b) ≡ true → a ≡ true → b ≡ true
+implied true b h e = h
+implied false b h e = cc
 
 -- the test for equal names holds of equal names
 pub same : (x y : Name) → x ≡ y → name_eq x y ≡ true

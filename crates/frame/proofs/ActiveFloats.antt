@@ -3,6 +3,7 @@ use Rattle.std.specs.Prelude.{◌≡◌, ℕ, zero, suc, ◌+◌, ◌-◌, ◌<�
 use Rattle.std.proofs.Common.{sym, ◌∙◌, ap, arith, inl, inr, length-append}
 use Rattle.std.proofs.lemmas.Slice.Eq.{bytes_eq-Decides}
 use Rattle.std.proofs.lemmas.Bool.{and_parts}
+use Rattle.frame.proofs.LinksLemmas.{cut-here}
 use Rattle.mm_lex.specs.Alphabet.{Name, has_name}
 use Rattle.mm_read.specs.declared.stmt.Stmt.{Stmt}
 use Rattle.mm_read.specs.declared.stmt.Stmt.TheVariants as stmt
@@ -13,16 +14,10 @@ use Rattle.entries.specs.declared.kind.Kind.TheVariants.{Open, Close, Const, Var
 use Rattle.frame.specs.Stored.AssertionParts.{is_float_in}
 use Rattle.frame.proofs.LegalLabels.{AllKept}
 use Rattle.frame.proofs.ActiveBehind.{stands-active}
-use Rattle.frame.proofs.LegalBehind.{kept-legal, legal-keeps, Order, earlier, at_one, later, order}
-use Rattle.frame.proofs.FoundByNumber.{middle}
+use Rattle.frame.proofs.LegalBehind.{kept-legal, legal-keeps, Order, earlier, at_one, later, order, stands-at}
 use Rattle.frame.proofs.OpenLemmas.{stays_open-front}
 
 -- ---- cuts
-
-pub cut-at : (S : Database) (n : ℕ) (t : Stmt) → slice_get S n ≡ Some t → S ≡ take n S ++ t ∷ drop (suc n) S
-cut-at [] n t h = cc
-cut-at (s ∷ S) zero t h = let e : s ≡ t = cc in ap (λ u. u ∷ S) e
-cut-at (s ∷ S) (suc n) t h = ap (λ w. s ∷ w) (cut-at S n t h)
 
 pub length-cut : (S : Database) (n : ℕ) (t : Stmt) → slice_get S n ≡ Some t → length (take n S) ≡ n
 length-cut [] n t h = cc
@@ -49,7 +44,7 @@ rest-active S A t B whole stays =
 -- behind an active `$f` of x no other `$f` of x stands
 pub one-float : (S A : Database) (m l x : Name) (B : Database) (k : ℕ) (m' l' : Name) → AllKept S → S ≡ A ++ stmt.Float m l x ∷ B → stays_open 0 B ≡ true → slice_get S k ≡ Some (stmt.Float m' l' x) → length A < k → ⊥
 one-float S A m l x B k m' l' all whole stays at_k lt =
-    by (order A (stmt.Float m l x) B (take k S) (stmt.Float m' l' x) (drop (suc k) S) (sym whole ∙ cut-at S k (stmt.Float m' l' x) at_k))
+    by (order A (stmt.Float m l x) B (take k S) (stmt.Float m' l' x) (drop (suc k) S) (sym whole ∙ cut-here S k (stmt.Float m' l' x) at_k))
   where
     len : length (take k S) ≡ k
     len = length-cut S k (stmt.Float m' l' x) at_k
@@ -58,7 +53,7 @@ one-float S A m l x B k m' l' all whole stays at_k lt =
     by (at_one t p q) = let e = ap length p in omega (arith, e, len, lt)
     by (later M p q) = let e = ap length p in let n = length-append (take k S) (stmt.Float m' l' x ∷ M) in omega (arith, e, n, len, lt)
     by (earlier M p q) =
-        let legal = kept-legal S (take k S) (stmt.Float m' l' x) (drop (suc k) S) all (cut-at S k (stmt.Float m' l' x) at_k) in
+        let legal = kept-legal S (take k S) (stmt.Float m' l' x) (drop (suc k) S) all (cut-here S k (stmt.Float m' l' x) at_k) in
         let g : (is_variable (take k S) x && not (has_float (take k S) x)) ≡ true = (legal-keeps (take k S) (stmt.Float m' l' x) legal).g7 in
         let none = and_parts (is_variable (take k S) x) (not (has_float (take k S) x)) g in
         let inside : stays_open 0 M ≡ true = stays_open-front 0 M (stmt.Float m' l' x ∷ drop (suc k) S) (ap (stays_open 0) (sym q) ∙ stays) in
@@ -126,8 +121,8 @@ stays-behind (stmt.Prove m w r) B h k = cc
 pub one-place : (S A : Database) (m l x : Name) (B A' : Database) (m' l' : Name) (B' : Database) → AllKept S → S ≡ A ++ stmt.Float m l x ∷ B → stays_open 0 B ≡ true
     → S ≡ A' ++ stmt.Float m' l' x ∷ B' → stays_open 0 B' ≡ true → length A ≡ length A'
 one-place S A m l x B A' m' l' B' all whole stays whole' stays' =
-    let there : slice_get S (length A) ≡ Some (stmt.Float m l x) = ap (λ w. slice_get w (length A)) whole ∙ middle A (stmt.Float m l x) B in
-    let there' : slice_get S (length A') ≡ Some (stmt.Float m' l' x) = ap (λ w. slice_get w (length A')) whole' ∙ middle A' (stmt.Float m' l' x) B' in
+    let there : slice_get S (length A) ≡ Some (stmt.Float m l x) = ap (λ w. slice_get w (length A)) whole ∙ stands-at A (stmt.Float m l x) B in
+    let there' : slice_get S (length A') ≡ Some (stmt.Float m' l' x) = ap (λ w. slice_get w (length A')) whole' ∙ stands-at A' (stmt.Float m' l' x) B' in
     let f = one-float S A m l x B (length A') m' l' all whole stays there' in
     let g = one-float S A' m' l' x B' (length A) m l all whole' stays' there in
     omega (arith, f, g)

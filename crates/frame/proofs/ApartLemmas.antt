@@ -2,9 +2,10 @@
 use Rattle.std.specs.Prelude.{◌≡◌, ℕ, ◌+◌, ◌<◌, ◌%◌, Bool, true, false, not, ◌||◌, ◌&&◌, ◌==◌, take, List, [], ◌∷◌, zero, suc, length, map, get_or, slice_index_or, slice_set, refl}
 use Rattle.std.specs.List.{list_all, list_any}
 use Rattle.std.proofs.Common.{sym, ◌∙◌, ap, arith, true≢false}
-use Rattle.std.proofs.lemmas.Bool.{and_parts, and_from, or_left, or_right, or_from}
+use Rattle.std.proofs.lemmas.Bool.{and_parts, and_from, or_left, or_right, or_from, or_parts, not_from_false, false_from_ne_true}
 use Rattle.std.proofs.lemmas.List.Folds.{list_all-map, list_all_more, list_all_at, list_any_more}
 use Rattle.std.proofs.lemmas.List.{get_or-set_same}
+use Rattle.frame.proofs.ActiveBehind.{implied}
 use Rattle.mm_lex.specs.Alphabet.{Name, name_eq, has_name}
 use Rattle.mm_read.specs.declared.stmt.Stmt.{Stmt}
 use Rattle.mm_read.specs.Statements.{Expr, Database}
@@ -19,7 +20,6 @@ use Rattle.frame.specs.Below.{AreBelow}
 use Rattle.frame.specs.Covers.{is_listed, are_listed, does_cover, are_covered, do_share, is_pair_apart, is_variable_apart, is_symbol_apart, are_marked}
 use Rattle.frame.proofs.KindWalk.{has-decode}
 use Rattle.frame.proofs.MarkLemmas.{set_true}
-use Rattle.scope.proofs.ActiveLemmas.{or_false_right}
 
 -- ---- a list that a loop goes through
 
@@ -97,33 +97,34 @@ any-has p (y ∷ xs) h = by (p y) refl h (any-has p xs)
 
 pub none-has : (p : Name → Bool) (xs : List Name) → list_any p xs ≡ false → (x : Name) → has_name x xs ≡ true → p x ≡ false
 none-has p [] h x k = cc
-none-has p (y ∷ xs) h x k = by (name_eq x y) refl k (λ in_xs. none-has p xs (or_false_right (p y) (list_any p xs) h) x in_xs)
+none-has p (y ∷ xs) h x k = by (name_eq x y) refl k (λ in_xs. none-has p xs (or_parts (p y) (list_any p xs) h).1 x in_xs)
   where
-    left : (a b : Bool) → (a || b) ≡ false → a ≡ false
-    left true b e = cc
-    left false b e = refl
-
     by : (b : Bool) → name_eq x y ≡ b → (b || has_name x xs) ≡ true → (has_name x xs ≡ true → p x ≡ false) → p x ≡ false
-    by true e k rest = ap p (same_name x y e) ∙ left (p y) (list_any p xs) h
+    by true e k rest = ap p (same_name x y e) ∙ (or_parts (p y) (list_any p xs) h).0
     by false e k rest = rest k
 
 -- ---- two images
+
+-- two symbols are kept apart where the first is no variable
+pub kept_by : (a b c : Bool) → a ≡ false → (not a || not b || c) ≡ true
+kept_by true b c e = cc
+kept_by false b c e = refl
+
+-- a disjunction whose first two parts fail holds by the third
+pub last_part : (a b c : Bool) → a ≡ true → b ≡ true → (not a || not b || c) ≡ true → c ≡ true
+last_part true true c p q h = h
+last_part true false c p q h = cc
+last_part false b c p q h = cc
 
 module _ (S : Database) where
   abbrev is_good : Name → Name → Bool
   is_good u v = not (is_variable S u) || not (is_variable S v) || is_pair S u v
 
-  -- a disjunction whose first two parts fail holds by the third
-  third : (a b c : Bool) → a ≡ true → b ≡ true → (not a || not b || c) ≡ true → c ≡ true
-  third true true c p q h = h
-  third true false c p q h = cc
-  third false b c p q h = cc
-
   -- images that are apart: each two variables, one from each, are a pair
   pub pair_at : (e f : Expr) → are_apart S e f ≡ true → (u v : Name) → is_variable S u ≡ true → is_variable S v ≡ true
       → has_name u e ≡ true → has_name v f ≡ true → is_pair S u v ≡ true
   pair_at e f h u v p q in_e in_f =
-      third (is_variable S u) (is_variable S v) (is_pair S u v) p q
+      last_part (is_variable S u) (is_variable S v) (is_pair S u v) p q
       (all-has (is_good u) v f (all-has (λ w. list_all (is_good w) f) u e h in_e) in_f)
 
   -- and the other way round
@@ -150,11 +151,7 @@ module _ (S : Database) where
   any-group u v (s ∷ ps) e f p q in_e in_f h = by (does_cover S e f s.1) refl h (any-group u v ps e f p q in_e in_f)
     where
       listed : (names : List Name) (w : Name) (g : Expr) → is_variable S w ≡ true → has_name w g ≡ true → are_listed S names g ≡ true → has_name w names ≡ true
-      listed names w g var in_g all = second (is_variable S w) (has_name w names) var (all-has (is_listed S names) w g all in_g)
-        where
-          second : (a b : Bool) → a ≡ true → (not a || b) ≡ true → b ≡ true
-          second true b e h = h
-          second false b e h = cc
+      listed names w g var in_g all = implied (is_variable S w) (has_name w names) (all-has (is_listed S names) w g all in_g) var
 
       by : (b : Bool) → does_cover S e f s.1 ≡ b → (b || list_any (λ p. does_cover S e f p.1) ps) ≡ true
           → (list_any (λ p. does_cover S e f p.1) ps ≡ true → list_any (λ names. has_name u names && has_name v names) (map (λ p. separated p.1) ps) ≡ true)
@@ -179,13 +176,11 @@ module _ (S : Database) where
       pair : (u v : Name) → is_variable S u ≡ true → is_variable S v ≡ true → has_name u e ≡ true → has_name v f ≡ true
           → (is_variable S v && has_name v e) ≡ false → is_pair S u v ≡ true
       pair u v p q in_e in_f none =
-          and_from (not (name_eq u v)) (list_any (λ names. has_name u names && has_name v names) (groups S)) (differ (name_eq u v) refl)
+          and_from (not (name_eq u v)) (list_any (λ names. has_name u names && has_name v names) (groups S)) (not_from_false (name_eq u v) (false_from_ne_true (name_eq u v) same))
           (any-group u v (active S) e f p q in_e in_f cover)
         where
-          differ : (b : Bool) → name_eq u v ≡ b → not b ≡ true
-          differ true same =
-              absurd (true≢false (sym (and_from (is_variable S v) (has_name v e) q (ap (λ w. has_name w e) (sym (same_name u v same)) ∙ in_e)) ∙ none))
-          differ false same = refl
+          same : name_eq u v ≡ true → ⊥
+          same is = true≢false (sym (and_from (is_variable S v) (has_name v e) q (ap (λ w. has_name w e) (sym (same_name u v is)) ∙ in_e)) ∙ none)
 
       by : (b : Bool) → do_share S e f ≡ b → not b ≡ are_apart S e f
       by true h = let r = any-has (λ v. is_variable S v && has_name v e) f h in shared r.0 r.1 r.2 (are_apart S e f) refl

@@ -8,7 +8,7 @@ use Rattle.mm_read.specs.declared.stmt.Stmt.{Stmt}
 use Rattle.mm_read.specs.Statements.{Database}
 use Rattle.scope.specs.Active.{stays_open, is_open, is_close, is_active}
 use Rattle.frame.specs.Links.{actives, last_active}
-use Rattle.frame.proofs.LinksLemmas.{IsLastAt, last-cases, before-block, same-block}
+use Rattle.frame.proofs.LinksLemmas.{IsLastAt, last-cases, before-block, same-block, cut-here}
 use Rattle.frame.proofs.OpenLemmas.{stays_open-front, IsNoClose}
 
 pub get-take : {A : Type 0} (i m : ℕ) (S : List A) → i < m → slice_get (take m S) i ≡ slice_get S i
@@ -17,11 +17,6 @@ get-take zero (suc m) [] h = refl
 get-take (suc i) (suc m) [] h = refl
 get-take zero (suc m) (x ∷ S) h = refl
 get-take (suc i) (suc m) (x ∷ S) h = get-take i m S (omega (arith, h))
-
-pub cut-here : {A : Type 0} (S : List A) (k : ℕ) (t : A) → slice_get S k ≡ Some t → S ≡ take k S ++ t ∷ drop (suc k) S
-cut-here [] k t g = cc
-cut-here (x ∷ S) zero t g = let same : x ≡ t = cc in ap (λ v. v ∷ S) same
-cut-here (x ∷ S) (suc k) t g = ap (λ r. x ∷ r) (cut-here S k t g)
 
 pub last-within : (kind : Stmt → Bool) (S : Database) → IsNoClose kind → last_active kind S ≤ length S
 last-within kind S n = by (last-cases kind S n)

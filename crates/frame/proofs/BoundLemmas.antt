@@ -4,6 +4,7 @@ use Rattle.std.specs.List.{list_any, list_all}
 use Rattle.std.proofs.Common.{sym, ◌∙◌, ap, subst, arith, append-nil}
 use Rattle.std.proofs.lemmas.Slice.Eq.{bytes_eq-Decides}
 use Rattle.std.proofs.lemmas.Bool.{and_parts, or_left, or_right}
+use Rattle.frame.proofs.LegalBehind.{stands-at}
 use Rattle.mm_lex.specs.Alphabet.{Name, name_eq, has_name}
 use Rattle.mm_read.specs.declared.stmt.Stmt.{Stmt}
 use Rattle.mm_read.specs.declared.stmt.Stmt.TheVariants.{Open, Close, Const, Var, Disj, Float, Ess, Axiom, Prove}
@@ -22,7 +23,7 @@ use Rattle.frame.proofs.TypedVariables.{first-fixed, own-fixed, float-kinds}
 use Rattle.frame.proofs.VariablePlaceLemmas.{is_flt, used-has-place, mandatory-place, variables-once}
 use Rattle.frame.proofs.GroupsLemmas.{has-filter}
 use Rattle.entries.proofs.BufferPlaceLemmas.{take-get}
-use Rattle.frame.proofs.FoundByNumber.{map-back, map-at, middle, kept-front, some-same}
+use Rattle.frame.proofs.FoundByNumber.{map-back, map-at, kept-front, some-same}
 use Rattle.frame.proofs.PlacedHypotheses.{IsHyp, AreHyps, hyps}
 
 -- ---- lists
@@ -81,7 +82,7 @@ module _ (S : Database) (a : ℕ) (s : Stmt) (legal : AllKept S) (is : HasAssert
   -- a hypothesis of the assertion stands in the whole database, and its variable is read before the assertion
   there : (p : ℕ) (h : IsHyp T s p) → (stmt_at S p ≡ Some h.stmt) × (variable_at T p ≡ variable_of h.stmt)
   there p h =
-      let here : slice_get T (length h.front) ≡ Some h.stmt = ap (λ w. slice_get w (length h.front)) h.whole ∙ middle h.front h.stmt h.rest in
+      let here : slice_get T (length h.front) ≡ Some h.stmt = ap (λ w. slice_get w (length h.front)) h.whole ∙ stands-at h.front h.stmt h.rest in
       let t = take-get (a - 1) (length h.front) S h.stmt here in
       (ap (stmt_at S) h.at ∙ t.1, ap (variable_at T) h.at ∙ ap option_variable here)
 

@@ -1,6 +1,9 @@
 -- Collecting positions: the loops' steps.
 use Rattle.std.specs.Prelude.{◌≡◌, ℕ, zero, suc, ◌+◌, ◌-◌, ◌<◌, ◌≤◌, Bool, true, false, cond, ◌==◌, nat_lt, ◌⊎◌, List, [], ◌∷◌, ◌++◌, length, map, drop, get_or, slice_get, Some, refl}
 use Rattle.std.proofs.Common.{sym, ◌∙◌, ap, subst, arith, inl, inr}
+use Rattle.std.proofs.lemmas.Bool.{and_parts}
+use Rattle.std.proofs.lemmas.List.{drop_more}
+use Rattle.std.proofs.lemmas.Option.{slice_get_within}
 use Rattle.mm_read.specs.declared.stmt.Stmt.{Stmt}
 use Rattle.mm_read.specs.Statements.{Database}
 use Rattle.mm_lex.specs.Alphabet.{Name}
@@ -9,11 +12,10 @@ use Rattle.names.specs.Codes.{name_at, decode}
 use Rattle.entries.specs.declared.kind.Kind.{Kind}
 use Rattle.entries.specs.declared.kind.Kind.TheVariants.{Open, Close, Const, Var, Disj, Float, Ess, Axiom, Prove}
 use Rattle.entries.specs.Entries.{Entry}
-use Rattle.frame.specs.Stored.Hypotheses.{inserted, with_float, with_floats, with_all, with_essentials, kept_at}
+use Rattle.frame.specs.Stored.Hypotheses.{inserted, with_float, with_all, with_essentials, kept_at}
 use Rattle.frame.specs.Stored.EntryMeanings.{floats, last_from, last_where, stmt_by, stmt_of, is_float_kind}
 use Rattle.frame.specs.Stored.Counts.{IsPlain}
 use Rattle.scope.proofs.ActiveLemmas.{place}
-use Rattle.mm_lex.proofs.WordsLemmas.{and_left}
 
 pub inserted-here : (p q : ℕ) (qs : List ℕ) → p ≡ q → inserted p (q ∷ qs) ≡ q ∷ qs
 inserted-here p q qs e = let t : (p == q) ≡ true = grind (arith, e) in ap (λ b. cond b (q ∷ qs) (cond (nat_lt p q) (p ∷ q ∷ qs) (q ∷ inserted p qs))) t
@@ -29,17 +31,6 @@ inserted-after p q qs l =
     let f : (p == q) ≡ false = grind (arith, l) in
     let t : nat_lt p q ≡ false = grind (arith, l) in
     ap (λ b. cond b (q ∷ qs) (cond (nat_lt p q) (p ∷ q ∷ qs) (q ∷ inserted p qs))) f ∙ ap (λ b. cond b (p ∷ q ∷ qs) (q ∷ inserted p qs)) t
-
-pub drop-at : (xs : List ℕ) (i : ℕ) → i < length xs → drop i xs ≡ get_or xs i 0 ∷ drop (i + 1) xs
-drop-at [] i h = absurd (omega (arith, h))
-drop-at (x ∷ xs) zero h = ap (λ r. x ∷ r) (drop-zero xs)
-  where
-    drop-zero : (ys : List ℕ) → ys ≡ drop (0 + 1) (x ∷ ys)
-    drop-zero ys = refl
-drop-at (x ∷ xs) (suc i) h = drop-at xs i (omega (arith, h)) ∙ ap (λ n. get_or xs i 0 ∷ drop n (x ∷ xs)) (place i)
-  where
-    place : (n : ℕ) → suc (n + 1) ≡ suc n + 1
-    place n = omega arith
 
 -- ---- the last `$f` of a symbol
 
@@ -81,23 +72,13 @@ float-stands names labels es c p h some = by (last-is (floats c) 0 1 es p (omega
     get-map (x ∷ xs) zero e g = let same : x ≡ e = cc in ap (λ d. Some (stmt_of names labels d)) same
     get-map (x ∷ xs) (suc i) e g = get-map xs i e g
 
-    get-below : (xs : List Entry) (i : ℕ) (e : Entry) → slice_get xs i ≡ Some e → i < length xs
-    get-below [] i e g = cc
-    get-below (x ∷ xs) zero e g = omega arith
-    get-below (x ∷ xs) (suc i) e g = let r = get-below xs i e g in omega (arith, r)
-
     by : (p ≡ 0) ⊎ ((i : ℕ) × (e : Entry) × (slice_get es i ≡ Some e) × (floats c e ≡ true) × (p ≡ 1 + i)) → (1 ≤ p) × (p ≤ length es) × IsPlain (slice_get (map (stmt_of names labels) es) (p - 1))
     by (inl z) = absurd (some z)
     by (inr r) =
-        let k = r.0 in let at = r.4 in let lt = get-below es k r.1 r.2 in
+        let k = r.0 in let at = r.4 in let lt = slice_get_within es k r.1 r.2 in
         let back : p - 1 ≡ k = omega (arith, at) in
         let there : slice_get (map (stmt_of names labels) es) (p - 1) ≡ Some (stmt_of names labels r.1) = ap (slice_get (map (stmt_of names labels) es)) back ∙ get-map es k r.1 r.2 in
-        (omega (arith, at), omega (arith, at, lt), subst IsPlain (sym there) (float-plain names labels r.1 (and_left (is_float_kind r.1.kind) _ r.3)))
-
-pub float-none : (es : List Entry) (S : Database) (c : ℕ) (list : List ℕ) → last_where (floats c) es ≡ 0 → with_float es S c list ≡ list
-float-none es S c list z =
-    let t : (last_where (floats c) es == 0) ≡ true = grind (arith, z) in
-    ap (λ b. cond b list (cond (is_active S (last_where (floats c) es) (length S + 1)) (inserted (last_where (floats c) es) list) list)) t
+        (omega (arith, at), omega (arith, at, lt), subst IsPlain (sym there) (float-plain names labels r.1 (and_parts (is_float_kind r.1.kind) _ r.3).0))
 
 pub float-some : (es : List Entry) (S : Database) (c p : ℕ) (list : List ℕ) (b : Bool) → p ≡ last_where (floats c) es → (p ≡ 0 → ⊥) → is_active S p (length S + 1) ≡ b
     → with_float es S c list ≡ cond b (inserted p list) list
@@ -105,10 +86,6 @@ float-some es S c p list b h some a =
     let f : (p == 0) ≡ false = grind (arith, some) in
     ap (λ q. cond (q == 0) list (cond (is_active S q (length S + 1)) (inserted q list) list)) (sym h)
     ∙ (ap (λ t. cond t list (cond (is_active S p (length S + 1)) (inserted p list) list)) f ∙ ap (λ t. cond t (inserted p list) list) a)
-
-pub floats-step : (es : List Entry) (S : Database) (codes : List ℕ) (i : ℕ) (list : List ℕ) → i < length codes
-    → with_floats es S (drop i codes) list ≡ with_floats es S (drop (i + 1) codes) (with_float es S (get_or codes i 0) list)
-floats-step es S codes i list h = ap (λ r. with_floats es S r list) (drop-at codes i h)
 
 -- ---- the active `$e`, from the last one back
 
@@ -118,7 +95,7 @@ essentials-step es [] p s list = refl
 essentials-step es (q ∷ qs) p s list = ap (λ r. with_all (kept_at es q.0) (inserted q.0 r)) (essentials-step es qs p s list)
 
 pub all-step : (ps : List ℕ) (i : ℕ) (list : List ℕ) → i < length ps → with_all (drop i ps) list ≡ with_all (drop (i + 1) ps) (inserted (get_or ps i 0) list)
-all-step ps i list h = ap (λ r. with_all r list) (drop-at ps i h)
+all-step ps i list h = ap (λ r. with_all r list) (drop_more ps i 0 h)
 
 pub index-is : {A : Type 0} (xs : List A) (i : ℕ) (x y : A) → slice_get xs i ≡ Some y → x ≡ get_or xs i x → x ≡ y
 index-is [] i x y h e = cc

@@ -2,7 +2,8 @@
 use Rattle.std.specs.Prelude.{◌≡◌, ℕ, suc, ◌+◌, ◌-◌, ◌<◌, Bool, true, false, ◌&&◌, ◌||◌, ◌⊎◌, List, [], ◌∷◌, ◌++◌, length, map, filter, take, drop, slice_get, Some, refl}
 use Rattle.std.specs.List.{list_any}
 use Rattle.std.proofs.Common.{sym, ◌∙◌, ap, subst, arith, inl, inr, append_assoc}
-use Rattle.std.proofs.lemmas.Bool.{or_left, or_right, and_parts}
+use Rattle.std.proofs.lemmas.Bool.{or_left, or_right, and_parts, both_ways}
+use Rattle.frame.proofs.LinksLemmas.{cut-here}
 use Rattle.mm_lex.specs.Alphabet.{Name, has_name}
 use Rattle.mm_read.specs.declared.stmt.Stmt.{Stmt}
 use Rattle.mm_read.specs.declared.stmt.Stmt.TheVariants as stmt
@@ -19,15 +20,15 @@ use Rattle.frame.specs.Stored.Counts.{AreNumbered, HasTwo}
 use Rattle.frame.specs.Stored.Hypotheses.{with_floats, collected, kept_at, option_kept}
 use Rattle.frame.specs.Stored.AssertionParts.{is_float_in, floats_in}
 use Rattle.frame.proofs.LegalLabels.{AllKept}
-use Rattle.frame.proofs.ActiveBehind.{Stands, active-stands, stands-active, open_both, not-both}
+use Rattle.frame.proofs.ActiveBehind.{Stands, active-stands, stands-active, open_both}
 use Rattle.frame.proofs.TypedVariables.{float-kinds, is_ess, typed-before}
 use Rattle.frame.proofs.VariablePlaceLemmas.{active-rest}
-use Rattle.frame.proofs.FoundByNumber.{map-back, map-at, middle, numbered-at}
+use Rattle.frame.proofs.FoundByNumber.{map-back, map-at, numbered-at}
 use Rattle.frame.proofs.AscendingLists.{In, same-lists}
 use Rattle.frame.proofs.ActivePositions.{LastAt, NoneOf, last-is, IsFloatOf, SomeFloat, floats-in, in-floats, ascends-floats, SomeEssential, essentials-in, in-essentials, ascends-essentials, IsActiveAt, active-members, members-active, ascends-active}
 use Rattle.frame.proofs.NamedCodes.{coded, has-code, code-low, floats-is, is-floats}
-use Rattle.frame.proofs.ActiveFloats.{cut-at, length-cut, rest-active, one-float, hyp-kind, ess-hyp, float-in-kind, float-of-kind, stays-behind, one-place}
-use Rattle.frame.proofs.LegalBehind.{before-at}
+use Rattle.frame.proofs.ActiveFloats.{length-cut, rest-active, one-float, hyp-kind, ess-hyp, float-in-kind, float-of-kind, stays-behind, one-place}
+use Rattle.frame.proofs.LegalBehind.{before-at, stands-at}
 
 -- ---- what is found is what is meant
 
@@ -42,7 +43,7 @@ module _ (es : List Entry) (names labels : List Name) (m : ℕ) (S : Database)
 
   entry-of : (A : Database) (t : Stmt) (B : Database) → S ≡ A ++ t ∷ B → EntryOf (length A) t
   entry-of A t B cut =
-      let b = map-back (stmt_of names labels) es (length A) t (ap (λ w. slice_get w (length A)) (sym whole ∙ cut) ∙ middle A t B) in
+      let b = map-back (stmt_of names labels) es (length A) t (ap (λ w. slice_get w (length A)) (sym whole ∙ cut) ∙ stands-at A t B) in
       let n = numbered-at (length names) m es (length A) b.0 numbered b.1 in
       record { entry = b.0; found = b.1; is = b.2; below = n.0; two = n.1 }
 
@@ -67,7 +68,7 @@ module _ (es : List Entry) (names labels : List Name) (m : ℕ) (S : Database)
           let there : slice_get S l.place ≡ Some (stmt.Float (name_at labels x.label) k.0 (name_at names c))
           = ap (λ w. slice_get w l.place) whole ∙ (map-at (stmt_of names labels) es l.place x l.found ∙ ap Some k.1) in
           let t = stmt.Float (name_at labels x.label) k.0 (name_at names c) in
-          let cut = cut-at S l.place t there in
+          let cut = cut-here S l.place t there in
           let len = length-cut S l.place t there in
           let stays = active-rest S l.place (ap (λ n. is_active S n (length S + 1)) (sym place) ∙ f.stands) in
           let var = (float-kinds S (take l.place S) (name_at labels x.label) k.0 (name_at names c) (drop (suc l.place) S) all cut stays).1 in
@@ -85,13 +86,13 @@ module _ (es : List Entry) (names labels : List Name) (m : ℕ) (S : Database)
       passes = is-floats names c x.entry (name_at labels x.entry.label) l u distinct x.below x.two small (sym x.is)
 
       by : (NoneOf (floats c) es × (last_from (floats c) 0 1 es ≡ 0)) ⊎ LastAt (floats c) 1 es (last_from (floats c) 0 1 es) → p ≡ last_where (floats c) es
-      by (inl n) = absurd (not-both (floats c x.entry) passes (n.0.fails (length A) x.entry x.found))
+      by (inl n) = absurd (both_ways (floats c x.entry) (n.0.fails (length A) x.entry x.found) passes)
       by (inr k) =
           let y = floats-is names c k.entry (name_at labels k.entry.label) k.passes in
           let there : slice_get S k.place ≡ Some (stmt.Float (name_at labels k.entry.label) y.0 (name_at names c))
           = ap (λ w. slice_get w k.place) whole ∙ (map-at (stmt_of names labels) es k.place k.entry k.found ∙ ap Some y.1) in
           let not-before : length A < k.place → ⊥ = one-float S A u l (name_at names c) B k.place (name_at labels k.entry.label) y.0 all cut stays there in
-          let not-after : k.place < length A → ⊥ = λ lt. not-both (floats c x.entry) passes (k.last (length A) x.entry lt x.found) in
+          let not-after : k.place < length A → ⊥ = λ lt. both_ways (floats c x.entry) (k.last (length A) x.entry lt x.found) passes in
           let is = k.is in
           equal is (between k.place (length A) not-after not-before)
         where

@@ -1,6 +1,6 @@
 -- The storage with its first statements alone.
 use Rattle.std.specs.Prelude.{◌≡◌, ℕ, zero, suc, ◌+◌, ◌-◌, ◌<◌, true, List, [], ◌∷◌, ◌++◌, length, map, take, drop, slice_get, Option, Some, None, refl}
-use Rattle.std.proofs.Common.{sym, ◌∙◌, ap, subst, arith, take-take}
+use Rattle.std.proofs.Common.{sym, ◌∙◌, ap, subst, arith, take-take, add-zero}
 use Rattle.std.proofs.lemmas.List.{length-take-le, take-map, take-append-drop, take_at}
 use Rattle.mm_lex.specs.Alphabet.{Name}
 use Rattle.mm_read.specs.declared.stmt.Stmt.{Stmt}
@@ -39,10 +39,7 @@ labels_of-append (s ∷ A) B = ap (option_list (label_of s)) (labels_of-append A
     by (Some x) = refl
 
 positions_from-append : (at : ℕ) (A B : Database) → positions_from at (A ++ B) ≡ positions_from at A ++ positions_from (at + length A) B
-positions_from-append at [] B = ap (λ n. positions_from n B) (place at)
-  where
-    place : (n : ℕ) → n ≡ n + 0
-    place n = omega arith
+positions_from-append at [] B = ap (λ n. positions_from n B) (sym (add-zero at))
 positions_from-append at (s ∷ A) B =
     ap (option_position (label_of s) at) (positions_from-append (at + 1) A B ∙ ap (λ n. positions_from (at + 1) A ++ positions_from n B) (place at (length A))) ∙ by (label_of s)
   where

@@ -1,38 +1,12 @@
 -- The last declarations of symbols, one statement more.
-use Rattle.std.specs.Prelude.{◌≡◌, ℕ, zero, suc, ◌+◌, ◌<◌, Bool, true, false, cond, ◌||◌, nat_eq, List, [], ◌∷◌, ◌++◌, length, take, get_or, slice_get, slice_set, Some, refl}
-use Rattle.std.specs.List.{list_any}
-use Rattle.std.proofs.Common.{sym, ◌∙◌, ap, arith}
+use Rattle.std.specs.Prelude.{◌≡◌, ℕ, zero, suc, ◌+◌, Bool, false, cond, ◌||◌, nat_eq, List, [], ◌∷◌, ◌++◌, length, get_or, slice_get, slice_set, Some}
+use Rattle.std.proofs.Common.{sym, ◌∙◌, ap, arith, add-zero}
 use Rattle.std.proofs.Math.Bool.{or-true, or-false}
-use Rattle.frame.specs.Below.{AreBelow}
 use Rattle.entries.specs.Entries.{Entry}
 use Rattle.frame.specs.declared.storage.Symbol.{Symbol}
 use Rattle.frame.specs.Stored.EntryMeanings.{floats, declares, last_from, symbol_of}
 use Rattle.frame.specs.Stored.Counts.{with_entry}
 use Rattle.scope.proofs.ActiveLemmas.{place}
-
-pub below-at : (n : ℕ) (codes : List ℕ) (k : ℕ) → AreBelow n codes → k < length codes → get_or codes k 0 < n
-below-at n [] k h l = absurd (omega (arith, l))
-below-at n (c ∷ codes) zero h l = h.0
-below-at n (c ∷ codes) (suc k) h l = below-at n codes k h.1 (omega (arith, l))
-
-pub any-take-more : (p : ℕ → Bool) (xs : List ℕ) (i : ℕ) → i < length xs → list_any p (take (i + 1) xs) ≡ (list_any p (take i xs) || p (get_or xs i 0))
-any-take-more p [] i h = absurd (omega (arith, h))
-any-take-more p (x ∷ xs) zero h = or-same (p x) xs
-  where
-    or-same : (b : Bool) (ys : List ℕ) → (b || list_any p (take 0 ys)) ≡ b
-    or-same true ys = refl
-    or-same false [] = refl
-    or-same false (y ∷ ys) = refl
-any-take-more p (x ∷ xs) (suc i) h =
-    ap (λ n. list_any p (take n (x ∷ xs))) (place i)
-    ∙ (ap (λ b. p x || b) (any-take-more p xs i (omega (arith, h))) ∙ sym (or-assoc (p x) (list_any p (take i xs)) (p (get_or xs i 0))))
-  where
-    place : (n : ℕ) → suc n + 1 ≡ suc (n + 1)
-    place n = omega arith
-
-    or-assoc : (a b c : Bool) → ((a || b) || c) ≡ (a || (b || c))
-    or-assoc true b c = refl
-    or-assoc false b c = refl
 
 abbrev pub noted : Symbol → ℕ → Bool → Symbol
 noted x at any = record { float = x.float; variable = cond any at x.variable }
@@ -56,10 +30,7 @@ note-step (y ∷ xs) (suc k) (suc c) at r x any g e =
     note-step xs k c at r x any g e ∙ ap (λ b. Some (noted x at (any || b))) same
 
 pub last_from-push : (test : Entry → Bool) (found at : ℕ) (es : List Entry) (e : Entry) → last_from test found at (es ++ e ∷ []) ≡ cond (test e) (at + length es) (last_from test found at es)
-last_from-push test found at [] e = ap (λ n. cond (test e) n found) (place at)
-  where
-    place : (n : ℕ) → n ≡ n + 0
-    place n = omega arith
+last_from-push test found at [] e = ap (λ n. cond (test e) n found) (sym (add-zero at))
 last_from-push test found at (d ∷ es) e =
     last_from-push test (cond (test d) at found) (at + 1) es e
     ∙ ap (λ n. cond (test e) n (last_from test (cond (test d) at found) (at + 1) es)) (place at (length es))

@@ -4,7 +4,8 @@ use Rattle.std.specs.List.{list_all}
 use Rattle.std.proofs.Common.{sym, ◌∙◌, ap, subst, arith, inl, inr, append-nil, append_assoc}
 use Rattle.std.proofs.Math.Seq.{take-append_seam}
 use Rattle.std.proofs.lemmas.List.{take-append-drop}
-use Rattle.std.proofs.lemmas.Bool.{or_right, or_left, not-false, and_parts}
+use Rattle.std.proofs.lemmas.Bool.{or_right, or_left, not-false, and_parts, or_parts}
+use Rattle.std.proofs.Math.Bool.{or-false}
 use Rattle.mm_lex.specs.Alphabet.{Name, name_eq, has_name}
 use Rattle.mm_read.specs.declared.stmt.Stmt.{Stmt}
 use Rattle.mm_read.specs.declared.stmt.Stmt.TheVariants.{Open, Close, Const, Var, Disj, Float, Ess, Axiom, Prove}
@@ -26,7 +27,7 @@ use Rattle.frame.specs.declared.storage.Stock.{Stock}
 use Rattle.frame.specs.Stored.Whole.{AreNumbersOf, AreStored}
 use Rattle.frame.specs.Stored.EntryMeanings.{statements_of}
 use Rattle.entries.specs.Stored.Spans.{Extends}
-use Rattle.scope.proofs.SymbolNameLemmas.{symbols_from-append, symbols_of-append}
+use Rattle.scope.proofs.SymbolNameLemmas.{symbols_from-append, symbols_of-append, symbols_in-bare, symbols_by-bare}
 
 -- ---- as statements come
 
@@ -56,11 +57,7 @@ symbols_of-front n S =
 
 -- what a statement declares as a constant or a variable is among the symbols that it declares
 declares : (s : Stmt) (x : Name) → (has_name x (constants s) || has_name x (variables s)) ≡ true → has_name x (symbols_by s) ≡ true
-declares (Const names) x h = first (has_name x names) h
-  where
-    first : (b : Bool) → (b || false) ≡ true → b ≡ true
-    first true k = refl
-    first false k = cc
+declares (Const names) x h = sym (or-false (has_name x names)) ∙ h
 declares (Var names) x h = h
 declares Open x h = cc
 declares Close x h = cc
@@ -127,30 +124,6 @@ legal-named S (Ess label expr) h = expr-named S (Ess label expr) expr refl h
 legal-named S (Axiom label expr) h = expr-named S (Axiom label expr) expr refl h
 legal-named S (Prove label expr proof) h = expr-named S (Prove label expr proof) expr refl h
 
--- ---- a statement without its proof has the same symbols
-
-pub symbols_in-bare : (s : Stmt) → symbols_in (bare s) ≡ symbols_in s
-symbols_in-bare Open = refl
-symbols_in-bare Close = refl
-symbols_in-bare (Const names) = refl
-symbols_in-bare (Var names) = refl
-symbols_in-bare (Disj names) = refl
-symbols_in-bare (Float label constant variable) = refl
-symbols_in-bare (Ess label expr) = refl
-symbols_in-bare (Axiom label expr) = refl
-symbols_in-bare (Prove label expr proof) = refl
-
-pub symbols_by-bare : (s : Stmt) → symbols_by (bare s) ≡ symbols_by s
-symbols_by-bare Open = refl
-symbols_by-bare Close = refl
-symbols_by-bare (Const names) = refl
-symbols_by-bare (Var names) = refl
-symbols_by-bare (Disj names) = refl
-symbols_by-bare (Float label constant variable) = refl
-symbols_by-bare (Ess label expr) = refl
-symbols_by-bare (Axiom label expr) = refl
-symbols_by-bare (Prove label expr proof) = refl
-
 -- ---- what the scope noted
 
 codes-below : (n : ℕ) (codes : List ℕ) → list_all (λ c. nat_lt c n) codes ≡ true → AreBelow n codes
@@ -174,13 +147,8 @@ noted-numbers S names s codes kept noted =
 fresh-last : (names : List Name) (x : Name) → AreDistinct (names ++ x ∷ []) → has_name x names ≡ false
 fresh-last [] x d = refl
 fresh-last (y ∷ names) x d =
-    ap (λ b. b || has_name x names) (name_eq-comm x y ∙ last (has_name y names) (name_eq y x) (sym (has_name-append y names (x ∷ [])) ∙ d.0))
+    ap (λ b. b || has_name x names) (name_eq-comm x y ∙ sym (or-false (name_eq y x)) ∙ (or_parts (has_name y names) (name_eq y x || false) (sym (has_name-append y names (x ∷ [])) ∙ d.0)).1)
     ∙ fresh-last names x d.1
-  where
-    last : (a b : Bool) → (a || (b || false)) ≡ false → b ≡ false
-    last true b h = cc
-    last false true h = cc
-    last false false h = refl
 
 -- a name that was there keeps its number
 pub with-known : (old new : List Name) (x : Name) (n : ℕ) → (n < length new) × (name_at new n ≡ x) → new ≡ old → new ≡ with_name old x

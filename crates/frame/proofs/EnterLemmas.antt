@@ -2,6 +2,8 @@
 use Rattle.std.specs.Prelude.{◌≡◌, ℕ, ◌+◌, List, [], ◌∷◌, ◌++◌, length, take, slice_get, Some, Result, Ok, Err, OnOk, Bool, true, ◌||◌, refl}
 use Rattle.std.proofs.Common.{sym, ◌∙◌, ap, subst, arith, length-append}
 use Rattle.std.proofs.lemmas.List.{length-map}
+use Rattle.names.proofs.CodesLemmas.{name_at-last}
+use Rattle.scope.proofs.SymbolNameLemmas.{symbols_by-bare}
 use Rattle.mm_lex.specs.Alphabet.{Name}
 use Rattle.mm_read.specs.declared.stmt.Stmt.{Stmt}
 use Rattle.mm_read.specs.declared.stmt.Stmt.TheVariants as stmt
@@ -10,19 +12,14 @@ use Rattle.names.specs.Codes.{name_at, decode, with_names}
 use Rattle.scope.specs.Symbols.{symbols_by, symbols_in}
 use Rattle.frame.specs.Below.{AreBelow}
 use Rattle.entries.specs.declared.head.Head.{Head}
-use Rattle.frame.specs.declared.draft.Draft.{Draft}
-use Rattle.entries.specs.Stored.Spans.{AreSpansIn}
 use Rattle.entries.specs.Entries.{Assertion, Entry}
 use Rattle.entries.specs.declared.kind.Kind.{Kind}
 use Rattle.entries.specs.declared.kind.Kind.TheVariants.{Open, Close, Const, Var, Disj, Float, Ess, Axiom, Prove}
-use Rattle.frame.specs.Stored.Drafts.{IsDraft, IsPartless}
 use Rattle.frame.specs.declared.storage.Stock.{Stock}
 use Rattle.frame.specs.Stored.EntryMeanings.{stmt_by, stmt_of, statements_of, option_list, option_position}
 use Rattle.frame.specs.Stored.Whole.{AreStored, AreNumbersOf, Entered, IsHead, IsKeptOf, IsNext}
 use Rattle.frame.specs.Stored.AssertionParts.{floats_in, kept_with, has_parts}
 use Rattle.frame.specs.Stored.Counts.{kind_of, IsLabelBelow, HasTwo}
-use Rattle.frame.proofs.DeclaredSymbolLemmas.{symbols_by-bare}
-use Rattle.names.proofs.DistinctLemmas.{name_at-last}
 
 pub ok-both : {T E : Type 0} (r : Result T E) (P Q R : Type 0) → (P → Q → R) → OnOk r P → OnOk r Q → OnOk r R
 ok-both (Ok x) P Q R f p q = f p q
@@ -31,10 +28,6 @@ ok-both (Err e) P Q R f p q = tt
 pub ok-given : {T E : Type 0} (r : Result T E) (A P Q R : Type 0) → (P → (A → Q) → R) → OnOk r P → (A → OnOk r Q) → OnOk r R
 ok-given (Ok x) A P Q R f p q = f p q
 ok-given (Err e) A P Q R f p q = tt
-
-pub ok-same : {T E : Type 0} (r : Result T E) (P : Type 0) → P → OnOk r P
-ok-same (Ok x) P p = p
-ok-same (Err e) P p = tt
 
 -- ---- a statement by its kind, its label and its symbols
 
@@ -173,9 +166,3 @@ essentials-kept k stored i x h e =
     by Var g = cc
     by Disj g = cc
     by Float g = cc
-
-pub partless-draft : (d : Draft) → IsPartless d → IsDraft d
-partless-draft d p = record {
-  paired = ap length p.asked ∙ sym (ap length p.hypotheses);
-  grouped = subst (AreSpansIn (length d.places.items)) (sym p.groups) tt;
-}

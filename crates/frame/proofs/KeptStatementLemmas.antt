@@ -1,6 +1,7 @@
 -- A statement that is kept by numbers says what the statement says.
 use Rattle.std.specs.Prelude.{◌≡◌, ℕ, suc, ◌+◌, ◌-◌, ◌<◌, ◌≤◌, Bool, true, false, cond, List, [], ◌∷◌, ◌++◌, length, map, filter, take, slice_get, Option, Some, None, is_some, refl}
 use Rattle.std.proofs.Common.{sym, ◌∙◌, ap, subst, arith, append_assoc, length-append}
+use Rattle.frame.proofs.LegalBehind.{stands-at}
 use Rattle.mm_lex.specs.Alphabet.{Name}
 use Rattle.mm_read.specs.declared.stmt.Stmt.{Stmt}
 use Rattle.mm_read.specs.Statements.{Database}
@@ -23,7 +24,7 @@ use Rattle.frame.specs.Stored.NumberPlaces.{place_of}
 use Rattle.frame.proofs.LegalLabels.{AllKept}
 use Rattle.frame.proofs.VariablePlaceLemmas.{mandatory-place}
 use Rattle.entries.proofs.BufferPlaceLemmas.{take-get}
-use Rattle.frame.proofs.FoundByNumber.{map-back, map-at, middle, kept-front, option_name, OptionBelow, OptionsBelow, place-found, place-none, has-some, variable-named, variable-below, numbered-at, asked-kind}
+use Rattle.frame.proofs.FoundByNumber.{map-back, map-at, kept-front, option_name, OptionBelow, OptionsBelow, place-found, place-none, has-some, variable-named, variable-below, numbered-at, asked-kind}
 use Rattle.frame.proofs.PlacedHypotheses.{IsHyp, AreHyps, hyps}
 
 -- ---- the assertion
@@ -65,7 +66,7 @@ module _ (es : List Entry) (names labels : List Name) (m a : ℕ) (e : Entry) (d
 
   entry-at : (p : ℕ) (h : IsHyp front_of own p) → IsEntryAt p h
   entry-at p h =
-      let there : slice_get front_of (length h.front) ≡ Some h.stmt = ap (λ w. slice_get w (length h.front)) h.whole ∙ middle h.front h.stmt h.rest in
+      let there : slice_get front_of (length h.front) ≡ Some h.stmt = ap (λ w. slice_get w (length h.front)) h.whole ∙ stands-at h.front h.stmt h.rest in
       let t = take-get (a - 1) (length h.front) all h.stmt there in
       let b = map-back (stmt_of names labels) es (length h.front) h.stmt t.1 in
       let one : p - 1 ≡ length h.front = (let q = h.at in omega (arith, q)) in
@@ -74,13 +75,13 @@ module _ (es : List Entry) (names labels : List Name) (m a : ℕ) (e : Entry) (d
 
   stands-there : (p : ℕ) (h : IsHyp front_of own p) → stmt_at all p ≡ Some h.stmt
   stands-there p h =
-      let there : slice_get front_of (length h.front) ≡ Some h.stmt = ap (λ w. slice_get w (length h.front)) h.whole ∙ middle h.front h.stmt h.rest in
+      let there : slice_get front_of (length h.front) ≡ Some h.stmt = ap (λ w. slice_get w (length h.front)) h.whole ∙ stands-at h.front h.stmt h.rest in
       let t = take-get (a - 1) (length h.front) all h.stmt there in
       ap (stmt_at all) h.at ∙ t.1
 
   variable-there : (p : ℕ) (h : IsHyp front_of own p) → frame_of.variable_at front_of p ≡ option_name names (variable_at es p)
   variable-there p h =
-      let there : slice_get front_of (length h.front) ≡ Some h.stmt = ap (λ w. slice_get w (length h.front)) h.whole ∙ middle h.front h.stmt h.rest in
+      let there : slice_get front_of (length h.front) ≡ Some h.stmt = ap (λ w. slice_get w (length h.front)) h.whole ∙ stands-at h.front h.stmt h.rest in
       let x = entry-at p h in
       ap (frame_of.variable_at front_of) h.at ∙ (ap frame_of.option_variable there ∙ (ap variable_of x.same
       ∙ (variable-named names x.entry.kind (name_at labels x.entry.label) x.entry.symbols x.two
@@ -170,7 +171,7 @@ module _ (es : List Entry) (names labels : List Name) (m a : ℕ) (e : Entry) (d
 
       found : (x : Entry) × (slice_get es (n - 1) ≡ Some x) × (t ≡ stmt_of names labels x)
       found =
-          let there : slice_get front_of (length A) ≡ Some t = ap (λ w. slice_get w (length A)) whole ∙ middle A t T in
+          let there : slice_get front_of (length A) ≡ Some t = ap (λ w. slice_get w (length A)) whole ∙ stands-at A t T in
           let u = take-get (a - 1) (length A) all t there in
           let b = map-back (stmt_of names labels) es (length A) t u.1 in
           let one : n - 1 ≡ length A = omega (arith, at_n) in

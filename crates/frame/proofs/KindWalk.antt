@@ -5,7 +5,7 @@ use Rattle.std.proofs.Common.{sym, ◌∙◌, ap, arith}
 use Rattle.std.proofs.Math.Bool.{or-false}
 use Rattle.std.proofs.lemmas.List.Folds.{list_any-append}
 use Rattle.std.proofs.lemmas.Slice.Eq.{bytes_eq-Decides}
-use Rattle.std.proofs.lemmas.Bool.{or_right}
+use Rattle.std.proofs.lemmas.Bool.{or_right, or_parts}
 use Rattle.std.proofs.lemmas.Option.{same_Some}
 use Rattle.mm_lex.specs.Alphabet.{Name, name_eq, has_name}
 use Rattle.mm_read.specs.declared.stmt.Stmt.{Stmt}
@@ -22,18 +22,13 @@ use Rattle.entries.specs.declared.kind.Kind.{Kind}
 use Rattle.entries.specs.declared.kind.Kind.TheVariants.{Open, Close, Const, Var, Disj, Float, Ess, Axiom, Prove}
 use Rattle.entries.specs.Entries.{Entry}
 use Rattle.frame.specs.Stored.EntryMeanings.{stmt_by, stmt_of}
-use Rattle.scope.proofs.ActiveLemmas.{or_false_right}
 
 -- ---- numbers are the same where their names are
 
 pub not-has : (names : List Name) (n : ℕ) (x : Name) → has_name x names ≡ false → n < length names → name_eq x (name_at names n) ≡ false
 not-has [] n x h l = absurd (omega (arith, l))
-not-has (y ∷ names) zero x h l = left (name_eq x y) (has_name x names) h
-  where
-    left : (a b : Bool) → (a || b) ≡ false → a ≡ false
-    left true b e = cc
-    left false b e = refl
-not-has (y ∷ names) (suc n) x h l = not-has names n x (or_false_right (name_eq x y) (has_name x names) h) (omega (arith, l))
+not-has (y ∷ names) zero x h l = (or_parts (name_eq x y) (has_name x names) h).0
+not-has (y ∷ names) (suc n) x h l = not-has names n x (or_parts (name_eq x y) (has_name x names) h).1 (omega (arith, l))
 
 eq-flip : (x y : Name) → name_eq y x ≡ false → name_eq x y ≡ false
 eq-flip x y h = by (name_eq x y) refl

@@ -3,8 +3,9 @@ use Rattle.std.specs.Prelude.{◌≡◌, suc, ◌+◌, ◌-◌, Bool, true, fals
 use Rattle.std.specs.List.{list_any, list_all, find}
 use Rattle.std.proofs.Common.{sym, ◌∙◌, ap, subst, arith}
 use Rattle.std.proofs.lemmas.List.Folds.{list_any-append}
-use Rattle.std.proofs.lemmas.Bool.{or_left, or_right, and_parts, not-true}
-use Rattle.mm_lex.specs.Alphabet.{Name, name_eq, has_name}
+use Rattle.std.proofs.lemmas.Bool.{or_left, or_right, and_parts, not-true, or_parts, not-false, both_ways, false_from_ne_true}
+use Rattle.scope.proofs.GoingBackLemmas.{all-has}
+use Rattle.mm_lex.specs.Alphabet.{Name, has_name}
 use Rattle.mm_read.specs.declared.stmt.Stmt.{Stmt}
 use Rattle.mm_read.specs.declared.stmt.Stmt.TheVariants.{Open, Close, Const, Var, Disj, Float, Ess, Axiom, Prove}
 use Rattle.mm_read.specs.Statements.{Database}
@@ -13,8 +14,7 @@ use Rattle.scope.specs.declared.rule.Rule.TheVariants.{G1, G2, G3, G4, G5, G6, G
 use Rattle.scope.specs.Active.{stmt_at, before, constants, variables, is_variable, is_constant, was_symbol}
 use Rattle.scope.specs.Legal.{IsLegal, keeps, all_different}
 use Rattle.frame.proofs.LegalLabels.{AllKept}
-use Rattle.frame.proofs.ActiveBehind.{not-both, same, active-stands}
-use Rattle.mm_read.proofs.Places.{same as equal}
+use Rattle.frame.proofs.ActiveBehind.{same, active-stands}
 
 -- ---- what a legal statement keeps
 
@@ -24,14 +24,6 @@ find-none p x xs h = by (p x) refl h
     by : (b : Bool) → p x ≡ b → cond b (Some x) (find p xs) ≡ None → (p x ≡ false) × (find p xs ≡ None)
     by true e k = cc
     by false e k = (e, k)
-
--- a rule that is not broken is kept
-kept : (S : Database) (s : Stmt) (rule : Rule) → not (keeps S s rule) ≡ false → keeps S s rule ≡ true
-kept S s rule h = by (keeps S s rule) h
-  where
-    by : (b : Bool) → not b ≡ false → b ≡ true
-    by true e = refl
-    by false e = cc
 
 pub record Keeps (S : Database) (s : Stmt) : Type 0 where
   pub g2 : keeps S s G2 ≡ true
@@ -53,10 +45,17 @@ legal-keeps S s h =
     let r7 = find-none p G7 (G8 ∷ G9 ∷ G10 ∷ []) r6.1 in
     let r8 = find-none p G8 (G9 ∷ G10 ∷ []) r7.1 in
     let r9 = find-none p G9 (G10 ∷ []) r8.1 in
-    record { g2 = kept S s G2 r2.0; g3 = kept S s G3 r3.0; g5 = kept S s G5 r5.0; g6 = kept S s G6 r6.0; g7 = kept S s G7 r7.0; g9 = kept S s G9 r9.0 }
+    record {
+      g2 = not-false (keeps S s G2) r2.0;
+      g3 = not-false (keeps S s G3) r3.0;
+      g5 = not-false (keeps S s G5) r5.0;
+      g6 = not-false (keeps S s G6) r6.0;
+      g7 = not-false (keeps S s G7) r7.0;
+      g9 = not-false (keeps S s G9) r9.0;
+    }
 
--- the statement in the middle of kept ones is legal behind those before it
-pub stands-at : (A : Database) (t : Stmt) (B : Database) → slice_get (A ++ t ∷ B) (length A) ≡ Some t
+-- the element behind a front stands at the front's length
+pub stands-at : {X : Type 0} (A : List X) (t : X) (B : List X) → slice_get (A ++ t ∷ B) (length A) ≡ Some t
 stands-at [] t B = refl
 stands-at (a ∷ A) t B = stands-at A t B
 
@@ -101,15 +100,6 @@ is_const (Ess l e) x h = cc
 is_const (Axiom l e) x h = cc
 is_const (Prove l e p) x h = cc
 
--- each element of a list that passes
-pub all-has : (p : Name → Bool) (xs : List Name) (x : Name) → list_all p xs ≡ true → has_name x xs ≡ true → p x ≡ true
-all-has p [] x a h = cc
-all-has p (y ∷ xs) x a h = by (all-has p xs x (and_parts (p y) (list_all p xs) a).1) (name_eq x y) refl h
-  where
-    by : (has_name x xs ≡ true → p x ≡ true) → (b : Bool) → name_eq x y ≡ b → (b || has_name x xs) ≡ true → p x ≡ true
-    by more true e k = ap p (equal x y e) ∙ (and_parts (p y) (list_all p xs) a).0
-    by more false e k = more k
-
 -- where a list has an element that passes, it can be cut there
 pub record Cut (S : Database) (q : Stmt → Bool) : Type 0 where
   pub front : Database
@@ -135,23 +125,16 @@ var-fresh : (A : Database) (ws : List Name) (x : Name) → IsLegal A (Var ws) �
 var-fresh A ws x legal h =
     let g : (list_all (λ y. not (is_variable A y || is_constant A y || Rattle.scope.specs.Active.was_label A y)) ws && all_different ws) ≡ true = (legal-keeps A (Var ws) legal).g3 in
     let each = and_parts (list_all (λ y. not (is_variable A y || is_constant A y || Rattle.scope.specs.Active.was_label A y)) ws) (all_different ws) g in
-    middle (is_variable A x) (is_constant A x) (Rattle.scope.specs.Active.was_label A x) (not-true (is_variable A x || is_constant A x || Rattle.scope.specs.Active.was_label A x) (all-has (λ y. not (is_variable A y || is_constant A y || Rattle.scope.specs.Active.was_label A y)) ws x each.0 h))
-  where
-    middle : (a b c : Bool) → (a || b || c) ≡ false → b ≡ false
-    middle true b c k = cc
-    middle false true c k = cc
-    middle false false c k = refl
+    let none = or_parts (is_variable A x || is_constant A x) (Rattle.scope.specs.Active.was_label A x)
+    (not-true (is_variable A x || is_constant A x || Rattle.scope.specs.Active.was_label A x) (all-has (λ y. not (is_variable A y || is_constant A y || Rattle.scope.specs.Active.was_label A y)) x ws each.0 h)) in
+    (or_parts (is_variable A x) (is_constant A x) none.0).1
 
 -- a legal `$c` lists no symbol that stands before it
 const-fresh : (A : Database) (ws : List Name) (x : Name) → IsLegal A (Const ws) → has_name x ws ≡ true → was_symbol A x ≡ false
 const-fresh A ws x legal h =
     let g : (list_all (λ y. not (was_symbol A y || Rattle.scope.specs.Active.was_label A y)) ws && all_different ws) ≡ true = (legal-keeps A (Const ws) legal).g2 in
     let each = and_parts (list_all (λ y. not (was_symbol A y || Rattle.scope.specs.Active.was_label A y)) ws) (all_different ws) g in
-    first (was_symbol A x) (Rattle.scope.specs.Active.was_label A x) (not-true (was_symbol A x || Rattle.scope.specs.Active.was_label A x) (all-has (λ y. not (was_symbol A y || Rattle.scope.specs.Active.was_label A y)) ws x each.0 h))
-  where
-    first : (a c : Bool) → (a || c) ≡ false → a ≡ false
-    first true c k = cc
-    first false c k = refl
+    (or_parts (was_symbol A x) (Rattle.scope.specs.Active.was_label A x) (not-true (was_symbol A x || Rattle.scope.specs.Active.was_label A x) (all-has (λ y. not (was_symbol A y || Rattle.scope.specs.Active.was_label A y)) x ws each.0 h))).0
 
 -- two cuts of one list: one before the other, or the same
 pub data Order (A : Database) (t : Stmt) (B C : Database) (u : Stmt) (D : Database) : Type 0 where
@@ -177,7 +160,7 @@ no_variable : (S : Database) (x : Name) (A : Database) (t : Stmt) (B C : Databas
 no_variable S x A t B C u D all p q const var (earlier M e f) =
     let v = is_var u x var in
     let legal : IsLegal C (Var v.0) = subst (IsLegal C) v.1 (kept-legal S C u D all q) in
-    not-both (is_constant C x) (ap (λ w. is_constant w x) e ∙ any-middle (λ s. has_name x (constants s)) A t M const) (var-fresh C v.0 x legal (sym (ap (λ s. has_name x (variables s)) v.1) ∙ var))
+    both_ways (is_constant C x) (var-fresh C v.0 x legal (sym (ap (λ s. has_name x (variables s)) v.1) ∙ var)) (ap (λ w. is_constant w x) e ∙ any-middle (λ s. has_name x (constants s)) A t M const)
 no_variable S x A t B C u D all p q const var (at_one same e f) =
     let v = is_var u x var in
     let k = is_const t x const in
@@ -185,15 +168,14 @@ no_variable S x A t B C u D all p q const var (at_one same e f) =
 no_variable S x A t B C u D all p q const var (later M e f) =
     let k = is_const t x const in
     let legal : IsLegal A (Const k.0) = subst (IsLegal A) k.1 (kept-legal S A t B all p) in
-    not-both (was_symbol A x) (ap (λ w. was_symbol w x) e ∙ any-middle (λ s. has_name x (constants s) || has_name x (variables s)) C u M (or_right (has_name x (constants u)) (has_name x (variables u)) var))
-    (const-fresh A k.0 x legal (sym (ap (λ s. has_name x (constants s)) k.1) ∙ const))
+    both_ways (was_symbol A x) (const-fresh A k.0 x legal (sym (ap (λ s. has_name x (constants s)) k.1) ∙ const))
+    (ap (λ w. was_symbol w x) e ∙ any-middle (λ s. has_name x (constants s) || has_name x (variables s)) C u M (or_right (has_name x (constants u)) (has_name x (variables u)) var))
 
 pub constant-no_variable : (S : Database) (x : Name) → AllKept S → is_constant S x ≡ true → is_variable S x ≡ false
-constant-no_variable S x all h = by (is_variable S x) refl
+constant-no_variable S x all h = false_from_ne_true (is_variable S x) both
   where
-    by : (b : Bool) → is_variable S x ≡ b → b ≡ false
-    by false e = refl
-    by true e =
+    both : is_variable S x ≡ true → ⊥
+    both e =
         let k = cut (λ s. has_name x (constants s)) S h in
         let v = active-stands (λ s. has_name x (variables s)) 1 S e in
-        absurd (no_variable S x k.front k.stmt k.rest v.front v.stmt v.rest all k.whole v.whole k.passes v.passes (order k.front k.stmt k.rest v.front v.stmt v.rest (sym k.whole ∙ v.whole)))
+        no_variable S x k.front k.stmt k.rest v.front v.stmt v.rest all k.whole v.whole k.passes v.passes (order k.front k.stmt k.rest v.front v.stmt v.rest (sym k.whole ∙ v.whole))

@@ -1,15 +1,16 @@
 -- What the last active statement of a kind says of the others.
-use Rattle.std.specs.Prelude.{◌≡◌, ℕ, zero, suc, ◌+◌, ◌-◌, ◌<◌, ◌≤◌, Bool, true, false, cond, ◌==◌, ◌⊎◌, [], ◌∷◌, ◌++◌, length, take, drop, filter, slice_get, Some, refl}
+use Rattle.std.specs.Prelude.{◌≡◌, ℕ, zero, suc, ◌+◌, ◌-◌, ◌<◌, ◌≤◌, Bool, true, false, cond, ◌==◌, ◌⊎◌, [], ◌∷◌, ◌++◌, length, take, drop, filter, slice_get, Some, refl, List}
 use Rattle.std.proofs.Common.{sym, ◌∙◌, ap, subst, arith, inl, inr, append_assoc, append-nil, length-append}
 use Rattle.std.proofs.Math.Seq.{take-append_seam}
 use Rattle.std.proofs.lemmas.List.{drop-append-le, length-take-le}
 use Rattle.std.proofs.lemmas.Bool.{eqb-true}
+use Rattle.std.specs.Cmp.{both_ways}
 use Rattle.mm_read.specs.declared.stmt.Stmt.{Stmt}
 use Rattle.mm_read.specs.declared.stmt.Stmt.TheVariants.{Open, Close}
 use Rattle.mm_read.specs.Statements.{Database}
 use Rattle.scope.specs.Active.{stays_open, active_from, is_open, is_close}
 use Rattle.frame.specs.Links.{actives_from, actives, last_position, last_active}
-use Rattle.frame.proofs.OpenLemmas.{StaysOpen, IsLast, IsNoClose, no_close, split_last, last-actives, last-position, last_position-push, actives-append, stays_open-any, stays_open-append, none-open, closed-rest, close-actives, close-outside}
+use Rattle.frame.proofs.OpenLemmas.{StaysOpen, IsLast, IsNoClose, no_close, split_last, last-actives, last-position, last_position-push, actives-append, stays_open-any, stays_open-append, none-open, closed-rest, close-actives, close-outside, alone-stays}
 use Rattle.frame.proofs.LegalBehind.{stands-at}
 
 -- none is active, or the last one ends the list of those that were active before it
@@ -55,10 +56,6 @@ last-cases kind S n = by (split_last kind S)
 
 -- ---- one more statement
 
-alone-stays : (s : Stmt) → is_close s ≡ false → StaysOpen (s ∷ [])
-alone-stays Close e = cc
-alone-stays s e = λ d. refl
-
 pub actives-push : (kind : Stmt → Bool) (S : Database) (s : Stmt) → is_close s ≡ false
     → actives kind (S ++ s ∷ []) ≡ actives kind S ++ cond (kind s) ((1 + length S, s) ∷ []) []
 actives-push kind S s c = actives-append kind 1 S (s ∷ []) (alone-stays s c)
@@ -95,13 +92,8 @@ last-close kind S n = by (split_last is_open S)
 -- no block that opened behind it is open any more: it is active where it has the same last block
 pub same-block : (E X : Database) (s : Stmt) (T : Database) → E ≡ X ++ s ∷ T → is_open s ≡ false → is_close s ≡ false → stays_open 0 E ≡ true → last_active is_open E ≤ length X
     → (last_active is_open X == last_active is_open E) ≡ stays_open 0 T
-same-block E X s T e o c whole low = both (last_active is_open X == last_active is_open E) (stays_open 0 T) there back
+same-block E X s T e o c whole low = both_ways (last_active is_open X == last_active is_open E) (stays_open 0 T) there back
   where
-    both : (a b : Bool) → (a ≡ true → b ≡ true) → (b ≡ true → a ≡ true) → a ≡ b
-    both true b f g = sym (f refl)
-    both false true f g = g refl
-    both false false f g = refl
-
     rest-stays : (t : Stmt) → is_open t ≡ false → is_close t ≡ false → stays_open 0 (t ∷ T) ≡ true → stays_open 0 T ≡ true
     rest-stays Open a b h = cc
     rest-stays Close a b h = cc
@@ -155,28 +147,26 @@ same-block E X s T e o c whole low = both (last_active is_open X == last_active 
             let b : last_active is_open E ≡ 1 + length (X ++ s ∷ p.0) = last-position is_open E (X ++ s ∷ p.0) p.1 p.2 l (no_close is_open p.1 refl p.3.of_kind) in
             absurd (omega (arith, b, low, length-append X (s ∷ p.0)))
 
+-- a list can be cut where an element stands
+pub cut-here : {A : Type 0} (S : List A) (k : ℕ) (t : A) → slice_get S k ≡ Some t → S ≡ take k S ++ t ∷ drop (suc k) S
+cut-here [] k t g = cc
+cut-here (x ∷ S) zero t g = let same : x ≡ t = cc in ap (λ v. v ∷ S) same
+cut-here (x ∷ S) (suc k) t g = ap (λ r. x ∷ r) (cut-here S k t g)
+
 -- behind an active `${` it is as active as it was in front of it
 pub before-block : (E : Database) (p : ℕ) (s : Stmt) (i : ℕ) → IsLastAt is_open E p s → i < p → stays_open 0 (drop i E) ≡ stays_open 0 (drop i (take (p - 1) E))
 before-block E p s i l h =
     let cut : E ≡ take (p - 1) E ++ s ∷ drop p E = cut-at E p s l.above l.stands in
-    let n : length (take (p - 1) E) ≡ p - 1 = len-take E (p - 1) (omega (arith, l.within)) in
+    let n : length (take (p - 1) E) ≡ p - 1 = length-take-le (p - 1) E (omega (arith, l.within)) in
     let le : i ≤ length (take (p - 1) E) = omega (arith, n, h) in
     ap (λ r. stays_open 0 (drop i r)) cut
     ∙ (ap (stays_open 0) (drop-append-le i (take (p - 1) E) (s ∷ drop p E) le)
     ∙ stays_open-append 0 (drop i (take (p - 1) E)) (s ∷ drop p E) (open-stays s l.of_kind))
   where
-    len-take : (S : Database) (k : ℕ) → k ≤ length S → length (take k S) ≡ k
-    len-take S k le = length-take-le k S le
-
     open-stays : (t : Stmt) → is_open t ≡ true → StaysOpen (t ∷ drop p E)
     open-stays Open k = λ d. stays_open-any (suc d) (drop p E) l.stays
     open-stays Close k = cc
     open-stays t k = cc
-
-    cut-here : (S : Database) (k : ℕ) (t : Stmt) → slice_get S k ≡ Some t → S ≡ take k S ++ t ∷ drop (suc k) S
-    cut-here [] k t g = cc
-    cut-here (x ∷ S) zero t g = let same : x ≡ t = cc in ap (λ v. v ∷ S) same
-    cut-here (x ∷ S) (suc k) t g = ap (λ r. x ∷ r) (cut-here S k t g)
 
     cut-at : (S : Database) (q : ℕ) (t : Stmt) → 1 ≤ q → slice_get S (q - 1) ≡ Some t → S ≡ take (q - 1) S ++ t ∷ drop q S
     cut-at S q t a g =

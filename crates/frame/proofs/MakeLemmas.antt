@@ -2,8 +2,7 @@
 use Rattle.std.specs.Prelude.{◌≡◌, ℕ, zero, suc, ◌+◌, ◌-◌, ◌<◌, ◌≤◌, Bool, true, false, cond, List, [], ◌∷◌, ◌++◌, length, map, filter, take, reverse, get_or, slice_get, slice_range, Option, Some, refl}
 use Rattle.std.proofs.Common.{sym, ◌∙◌, ap, subst, arith, append_assoc, append-nil}
 use Rattle.std.proofs.lemmas.List.Elements.{filter-append}
-use Rattle.std.proofs.lemmas.List.{length-append, map-append, reverse-append}
-use Rattle.std.proofs.Math.Seq.{take-append_seam}
+use Rattle.std.proofs.lemmas.List.{length-append, map-append, reverse-append, map_push, take_more}
 use Rattle.indexmap.proofs.ReorderLemmas.{map-reverse}
 use Rattle.mm_read.specs.declared.stmt.Stmt.{Stmt}
 use Rattle.entries.specs.declared.buffer_part.BufferPart.{BufferPart}
@@ -16,28 +15,15 @@ use Rattle.entries.specs.Entries.{Entry}
 use Rattle.frame.specs.Stored.AssertionParts.{is_placed, placed, variable_at, option_variable, variable_by, symbols_at, has_two, groups_by}
 use Rattle.frame.specs.Stored.Hypotheses.{is_hypothesis_entry, AreHypotheses}
 use Rattle.frame.specs.Stored.EntryMeanings.{statements_of}
-use Rattle.frame.proofs.StoredOneMore.{map-push}
 
 -- ---- one symbol more
-
-pub take-more : (xs : List ℕ) (i : ℕ) → i < length xs → take (i + 1) xs ≡ take i xs ++ get_or xs i 0 ∷ []
-take-more [] i h = absurd (omega (arith, h))
-take-more (x ∷ xs) zero h = by xs
-  where
-    by : (ys : List ℕ) → take (0 + 1) (x ∷ ys) ≡ take 0 (x ∷ ys) ++ x ∷ []
-    by [] = refl
-    by (y ∷ ys) = refl
-take-more (x ∷ xs) (suc i) h = ap (λ n. take n (x ∷ xs)) (place i) ∙ ap (λ r. x ∷ r) (take-more xs i (omega (arith, h)))
-  where
-    place : (n : ℕ) → suc n + 1 ≡ suc (n + 1)
-    place n = omega arith
 
 pub placed-behind : (vs : List (Option ℕ)) (codes base found new : List ℕ) (i : ℕ) → i < length codes → found ≡ base ++ placed vs (take i codes)
     → new ≡ found ++ cond (is_placed vs (get_or codes i 0)) (get_or codes i 0 ∷ []) [] → new ≡ base ++ placed vs (take (i + 1) codes)
 placed-behind vs codes base found new i h e n =
     let c = get_or codes i 0 in
     n ∙ (ap (λ r. r ++ placed vs (c ∷ [])) e ∙ (append_assoc base (placed vs (take i codes)) (placed vs (c ∷ []))
-    ∙ ap (λ r. base ++ r) (sym (filter-append (is_placed vs) (take i codes) (c ∷ [])) ∙ ap (placed vs) (sym (take-more codes i h)))))
+    ∙ ap (λ r. base ++ r) (sym (filter-append (is_placed vs) (take i codes) (c ∷ [])) ∙ ap (placed vs) (sym (take_more codes i 0 h)))))
 
 -- ---- the hypotheses, one by one
 
@@ -51,11 +37,11 @@ pub variables-more : (es : List Entry) (ps : List ℕ) (found new : List (Option
     → new ≡ found ++ variable_by e.kind e.symbols ∷ [] → new ≡ map (variable_at es) (take (i + 1) ps)
 variables-more es ps found new i e h g f n =
     n ∙ (ap (λ r. r ++ variable_by e.kind e.symbols ∷ []) f ∙ (ap (λ o. map (variable_at es) (take i ps) ++ option_variable o ∷ []) (sym g)
-    ∙ (sym (map-push (variable_at es) (take i ps) (get_or ps i 0)) ∙ ap (map (variable_at es)) (sym (take-more ps i h)))))
+    ∙ (sym (map_push (variable_at es) (take i ps) (get_or ps i 0)) ∙ ap (map (variable_at es)) (sym (take_more ps i 0 h)))))
 
 pub map-more : {A : Type 0} (f : ℕ → A) (ps : List ℕ) (found new : List A) (i : ℕ) → i < length ps → found ≡ map f (take i ps) → new ≡ found ++ f (get_or ps i 0) ∷ [] → new ≡ map f (take (i + 1) ps)
 map-more f ps found new i h e n =
-    n ∙ (ap (λ r. r ++ f (get_or ps i 0) ∷ []) e ∙ (sym (map-push f (take i ps) (get_or ps i 0)) ∙ ap (map f) (sym (take-more ps i h))))
+    n ∙ (ap (λ r. r ++ f (get_or ps i 0) ∷ []) e ∙ (sym (map_push f (take i ps) (get_or ps i 0)) ∙ ap (map f) (sym (take_more ps i 0 h))))
 
 -- ---- the groups, from the last `$d` back
 
@@ -63,11 +49,6 @@ has_two-len : {A : Type 0} (xs : List A) → 1 < length xs → has_two xs ≡ tr
 has_two-len [] h = absurd (omega (arith, h))
 has_two-len (x ∷ []) h = absurd (omega (arith, h))
 has_two-len (x ∷ y ∷ xs) h = refl
-
-few-len : {A : Type 0} (xs : List A) → length xs ≤ 1 → has_two xs ≡ false
-few-len [] h = refl
-few-len (x ∷ []) h = refl
-few-len (x ∷ y ∷ xs) h = absurd (omega (arith, h))
 
 -- the groups found so far, the last one first, are those of the `$d` walked over
 abbrev pub AreGroups : List Entry → List (Option ℕ) → List (ℕ × Stmt) → List (ℕ × Stmt) → List (List ℕ) → Type 0
@@ -124,13 +105,3 @@ group-within places new a b s group e from to h k =
     let l = length-append places group in
     let m = ap length e in
     subst (AreSpansIn (length new)) (sym k) (spans-push (length places) (length new) a s (omega arith) h (omega arith) (omega arith))
-
--- fewer than two places are taken back
-pub group-dropped : (places new back : List ℕ) (a : List BufferPart) (group : List ℕ) → new ≡ places ++ group → back ≡ take (length places) new → length new ≤ length places + 1
-    → cut back a ≡ cond (has_two group) (cut places a ++ group ∷ []) (cut places a)
-group-dropped places new back a group e k few =
-    let l = length-append places group in
-    let m = ap length e in
-    let one : has_two group ≡ false = few-len group (omega arith) in
-    let same : back ≡ places = k ∙ (ap (take (length places)) e ∙ take-append_seam places group) in
-    ap (λ w. cut w a) same ∙ sym (ap (λ t. cond t (cut places a ++ group ∷ []) (cut places a)) one)

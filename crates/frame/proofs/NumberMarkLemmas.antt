@@ -1,7 +1,7 @@
 -- A table that has the place of each number of a list that has one.
-use Rattle.std.specs.Prelude.{◌≡◌, ℕ, zero, suc, ◌+◌, ◌<◌, ◌≤◌, Bool, true, false, cond, ◌⊎◌, List, [], ◌∷◌, ◌++◌, length, slice_get, not, is_some, Option, Some, None, refl}
+use Rattle.std.specs.Prelude.{◌≡◌, ℕ, zero, suc, ◌+◌, ◌≤◌, Bool, true, false, cond, ◌⊎◌, List, [], ◌∷◌, ◌++◌, length, slice_get, not, is_some, Option, Some, None, refl}
 use Rattle.std.proofs.Common.{sym, ◌∙◌, ap, subst, arith, inl, inr}
-use Rattle.std.proofs.lemmas.Option.{same_Some}
+use Rattle.std.proofs.lemmas.Option.{same_Some, slice_get_within}
 use Rattle.frame.specs.Stored.NumberPlaces.{is_code, place_from, place_of, AreMarked}
 use Rattle.frame.proofs.FoundByNumber.{is_code-same}
 
@@ -30,12 +30,6 @@ has-place k (v ∷ vs) c (suc i) h = by (is_code c v) refl (has-place (k + 1) vs
     by true e m = (k, refl)
     by false e m = m
 
--- an index with an element is below the length
-within : (vs : List (Option ℕ)) (k : ℕ) (v : Option ℕ) → slice_get vs k ≡ Some v → k < length vs
-within [] k v s = cc
-within (w ∷ vs) zero v s = omega arith
-within (w ∷ vs) (suc k) v s = let r = within vs k v s in omega (arith, r)
-
 -- what the table says of a number is its place, if the number stands there
 pub place-marked : (table : List ℕ) (vs : List (Option ℕ)) (c k : ℕ) (v : Option ℕ) → AreMarked table vs → slice_get table c ≡ Some k → slice_get vs k ≡ Some v → is_code c v ≡ true → place_of vs c ≡ Some k
 place-marked table vs c k v m h s t =
@@ -55,7 +49,7 @@ no-place vs c never = by (place_of vs c) refl
 
 -- and else the number has no place
 pub place-elsewhere : (table : List ℕ) (vs : List (Option ℕ)) (c k : ℕ) → AreMarked table vs → slice_get table c ≡ Some k → length vs ≤ k → place_of vs c ≡ None
-place-elsewhere table vs c k m h l = no-place vs c (λ r p s. let w = within vs r (Some c) s in let same : k ≡ r = same_Some _ _ (sym h ∙ m c r p) in omega (arith, w, same, l))
+place-elsewhere table vs c k m h l = no-place vs c (λ r p s. let w = slice_get_within vs r (Some c) s in let same : k ≡ r = same_Some _ _ (sym h ∙ m c r p) in omega (arith, w, same, l))
 
 pub place-other : (table : List ℕ) (vs : List (Option ℕ)) (c k : ℕ) (v : Option ℕ) → AreMarked table vs → slice_get table c ≡ Some k → slice_get vs k ≡ Some v → is_code c v ≡ false → place_of vs c ≡ None
 place-other table vs c k v m h g f =
@@ -64,14 +58,6 @@ place-other table vs c k v m h g f =
     let w : v ≡ Some c = same_Some _ _ (sym g ∙ (ap (slice_get vs) same ∙ s)) in
     let t : is_code c v ≡ true = ap (is_code c) w ∙ is-code c in
     let bad : true ≡ false = sym t ∙ f in cc)
-
-pub place-unmarked : (table : List ℕ) (vs : List (Option ℕ)) (c : ℕ) → AreMarked table vs → length table ≤ c → place_of vs c ≡ None
-place-unmarked table vs c m l = no-place vs c (λ r p s. let w = below table c r (m c r p) in omega (arith, w, l))
-  where
-    below : (xs : List ℕ) (i x : ℕ) → slice_get xs i ≡ Some x → i < length xs
-    below [] i x h = cc
-    below (y ∷ xs) zero x h = omega arith
-    below (y ∷ xs) (suc i) x h = let r = below xs i x h in omega (arith, r)
 
 -- one place more
 abbrev pub IsNewPlace : ℕ → List (Option ℕ) → Option ℕ → ℕ → ℕ → Type 0
@@ -115,11 +101,6 @@ marked-new table new vs c m noted others none = λ d r h. by d r (place-push 0 v
     by d r (inr p) =
         let same : c ≡ d = same_Some _ _ p.1 in let at = p.2 in let n : length vs ≡ r = omega (arith, at) in
         subst (λ x. slice_get new x ≡ Some r) same (noted ∙ ap Some n)
-
--- the table changes at a number that has no place
-pub marked-still : (table new : List ℕ) (vs : List (Option ℕ)) (c : ℕ) → AreMarked table vs
-    → ((d k : ℕ) → (d ≡ c → ⊥) → slice_get table d ≡ Some k → slice_get new d ≡ Some k) → place_of vs c ≡ None → AreMarked new vs
-marked-still table new vs c m others none = λ d r h. others d r (λ e. let bad = sym (ap (place_of vs) e ∙ none) ∙ h in cc) (m d r h)
 
 pub none-is : (o : Option ℕ) (b : Bool) → is_some o ≡ not b → b ≡ true → o ≡ None
 none-is None b h e = refl

@@ -1,8 +1,9 @@
 -- What is gathered from what stands is the frame of the definition.
-use Rattle.std.specs.Prelude.{◌≡◌, ℕ, zero, suc, ◌<◌, ◌≤◌, Bool, true, false, cond, ◌&&◌, ◌||◌, List, [], ◌∷◌, ◌++◌, map, filter, length, refl, Some, None, is_some, nat_lt}
+use Rattle.std.specs.Prelude.{◌≡◌, ℕ, ◌<◌, ◌≤◌, Bool, true, false, cond, ◌&&◌, ◌||◌, List, [], ◌∷◌, ◌++◌, map, filter, length, refl, Some, None, is_some, nat_lt}
 use Rattle.std.specs.List.{list_any, flat_map, position_or_len}
-use Rattle.std.proofs.Common.{◌∙◌, ap, sym, arith, ◌⊎◌, inl, inr}
+use Rattle.std.proofs.Common.{◌∙◌, ap, sym, inl, inr}
 use Rattle.std.proofs.Math.Bool.{or-false}
+use Rattle.std.proofs.lemmas.Bool.{cases_lt}
 use Rattle.mm_lex.specs.Alphabet.{Name, name_eq, has_name}
 use Rattle.mm_read.specs.declared.stmt.Stmt.{Stmt}
 use Rattle.mm_read.specs.declared.stmt.Stmt.TheVariants.{Open, Close, Const, Var, Disj, Float, Ess, Axiom, Prove}
@@ -34,53 +35,13 @@ noted-known old new x name n low at same =
 noted-new : (old : List Name) (x name : Name) → has_name x (old ++ name ∷ []) ≡ (has_name x old || name_eq x name)
 noted-new old x name = has_name-append x old (name ∷ []) ∙ ap (λ b. has_name x old || b) (or-false (name_eq x name))
 
-pub low-or-not : (n m : ℕ) → (n < m) ⊎ (m ≤ n)
-low-or-not n zero = inr (omega arith)
-low-or-not zero (suc m) = inl (omega arith)
-low-or-not (suc n) (suc m) = elim (low-or-not n m) [ inl h ↦ inl (omega (arith, h)) | inr h ↦ inr (omega (arith, h)) ]
-
 -- a name that is given a number where it has none
 pub noted : (old new : List Name) (x name : Name) (n : ℕ) → name_at new n ≡ name → (n < length old → new ≡ old) → (length old ≤ n → new ≡ old ++ name ∷ [])
     → has_name x new ≡ (has_name x old || name_eq x name)
-noted old new x name n at same more = elim (low-or-not n (length old)) [
+noted old new x name n at same more = elim (cases_lt n (length old)) [
   | inl h ↦ noted-known old new x name n h at (same h)
   | inr h ↦ ap (has_name x) (more h) ∙ noted-new old x name
 ]
-
--- a variable of an expression noted
-pub noted-step : (S : Database) (x symbol : Name) (u r : Bool) → is_variable S symbol ≡ true
-    → ((u || name_eq x symbol) || (is_variable S x && r)) ≡ (u || (is_variable S x && (name_eq x symbol || r)))
-noted-step S x symbol u r is = by (name_eq x symbol) refl
-  where
-    bools : (u v r : Bool) → v ≡ true → ((u || true) || (v && r)) ≡ (u || (v && true))
-    bools true v r h = refl
-    bools false true r h = refl
-    bools false false r h = cc
-
-    flat : (u v r : Bool) → ((u || false) || (v && r)) ≡ (u || (v && r))
-    flat u v r = ap (λ b. b || (v && r)) (or-false u)
-
-    by : (b : Bool) → name_eq x symbol ≡ b → ((u || b) || (is_variable S x && r)) ≡ (u || (is_variable S x && (b || r)))
-    by true e = bools u (is_variable S x) r (ap (is_variable S) (same_name x symbol e) ∙ is)
-    by false e = flat u (is_variable S x) r
-
--- another symbol passed over
-pub noted-skip : (S : Database) (x symbol : Name) (u r : Bool) → is_variable S symbol ≡ false
-    → (u || (is_variable S x && r)) ≡ (u || (is_variable S x && (name_eq x symbol || r)))
-noted-skip S x symbol u r is = by (name_eq x symbol) refl
-  where
-    bools : (v r : Bool) → v ≡ false → (v && r) ≡ (v && true)
-    bools false r h = refl
-    bools true r h = cc
-
-    by : (b : Bool) → name_eq x symbol ≡ b → (u || (is_variable S x && r)) ≡ (u || (is_variable S x && (b || r)))
-    by true e = ap (λ b. u || b) (bools (is_variable S x) r (ap (is_variable S) (same_name x symbol e) ∙ is))
-    by false e = refl
-
-pub noted-end : (u v : Bool) → (u || (v && false)) ≡ u
-noted-end true v = refl
-noted-end false true = refl
-noted-end false false = refl
 
 -- an `$e` more
 pub noted-more : (u v a r : Bool) → ((u || (v && a)) || (v && r)) ≡ (u || (v && (a || r)))
@@ -164,14 +125,6 @@ groups-all S s used m ((at, Prove label expr proof) ∷ es) = groups-all S s use
 
 pub groups-mandatory : (S : Database) (s : Stmt) (used : List Name) → AreMandatory S s used → groups_among used (standing_of S) ≡ mandatory_groups S s
 groups-mandatory S s used m = groups-all S s used m (active S)
-
-pub separates-two : (names : List Name) (b : Bool) → (b ≡ true → 1 < length names) → (b ≡ false → length names ≤ 1) → separates names ≡ b
-separates-two [] true h k = absurd (omega (arith, h refl))
-separates-two [] false h k = refl
-separates-two (x ∷ []) true h k = absurd (omega (arith, h refl))
-separates-two (x ∷ []) false h k = refl
-separates-two (x ∷ y ∷ names) true h k = refl
-separates-two (x ∷ y ∷ names) false h k = absurd (omega (arith, k refl))
 
 pub code-has : (names : List Name) (x : Name) → is_some (code_of names x) ≡ has_name x names
 code-has names x = by (nat_lt (position_or_len (name_eq x) names) (length names)) ∙ lt-list_any (name_eq x) names

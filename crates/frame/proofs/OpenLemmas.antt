@@ -118,10 +118,6 @@ AreClosed [] = Unit {0}
 AreClosed (Open ∷ S) = (stays_open 0 S ≡ false) × AreClosed S
 AreClosed (s ∷ S) = AreClosed S
 
-not-nil : (b : Bool) (x : ℕ × Stmt) (xs : List (ℕ × Stmt)) → cond b (x ∷ xs) xs ≡ [] → (b ≡ false) × (xs ≡ [])
-not-nil true x xs h = cc
-not-nil false x xs h = (refl, h)
-
 not-nil-open : (b : Bool) (at : ℕ) (r : List (ℕ × Stmt)) → filter (λ p. is_open p.1) (cond b ((at, Open) ∷ r) r) ≡ [] → (b ≡ false) × (filter (λ p. is_open p.1) r ≡ [])
 not-nil-open true at r h = cc
 not-nil-open false at r h = (refl, h)
@@ -236,13 +232,14 @@ mutual
   closed-counts-below (suc k) (Close ∷ T) f c = omega (arith, closed-counts-below k T f c)
   closed-counts-below k (s ∷ T) f c = closed-counts-below k T f c
 
+-- a statement alone stays open where it is no `$}`
+pub alone-stays : (s : Stmt) → is_close s ≡ false → StaysOpen (s ∷ [])
+alone-stays Close e = cc
+alone-stays s e = λ d. refl
+
 -- one more statement stays open: a `$}` where there is a block to close
 pub stays_open-push : (S : Database) (s : Stmt) → is_close s ≡ false → stays_open 0 S ≡ true → stays_open 0 (S ++ s ∷ []) ≡ true
-stays_open-push S s c h = stays_open-append 0 S (s ∷ []) (alone s c) ∙ h
-  where
-    alone : (t : Stmt) → is_close t ≡ false → StaysOpen (t ∷ [])
-    alone Close e = cc
-    alone t e = λ d. refl
+stays_open-push S s c h = stays_open-append 0 S (s ∷ []) (alone-stays s c) ∙ h
 
 pub stays_open-close : (S : Database) → count is_close S < count is_open S → stays_open 0 S ≡ true → stays_open 0 (S ++ Close ∷ []) ≡ true
 stays_open-close S more h = by (split_last is_open S)

@@ -2,7 +2,8 @@
 use Rattle.std.specs.Prelude.{◌≡◌, ℕ, zero, suc, ◌+◌, ◌-◌, ◌<◌, ◌≤◌, Bool, true, false, cond, ◌&&◌, ◌||◌, ◌==◌, ◌⊎◌, List, [], ◌∷◌, ◌++◌, length, map, take, drop, slice_get, Some, refl}
 use Rattle.std.specs.List.{list_any}
 use Rattle.std.proofs.Common.{sym, ◌∙◌, ap, subst, arith, inl, inr}
-use Rattle.std.proofs.lemmas.Bool.{or_from}
+use Rattle.std.proofs.lemmas.Bool.{or_from, and_parts}
+use Rattle.frame.proofs.LinksLemmas.{cut-here}
 use Rattle.mm_lex.specs.Alphabet.{Name, name_eq, has_name}
 use Rattle.mm_read.specs.declared.stmt.Stmt.{Stmt}
 use Rattle.mm_read.specs.Statements.{Database}
@@ -10,7 +11,7 @@ use Rattle.scope.specs.Active.{stays_open, active, active_from, is_active, varia
 use Rattle.names.specs.Codes.{name_at, decode, AreDistinct}
 use Rattle.frame.specs.Below.{AreBelow}
 use Rattle.frame.specs.Links.{is_var}
-use Rattle.frame.proofs.BlockWalkLemmas.{cut-here, get-take, active-stays}
+use Rattle.frame.proofs.BlockWalkLemmas.{get-take, active-stays}
 use Rattle.frame.proofs.ActiveBehind.{stands-active}
 use Rattle.frame.proofs.CollectLemmas.{last-is}
 use Rattle.frame.proofs.StoredReading.{get-stmt}
@@ -22,7 +23,6 @@ use Rattle.entries.specs.Entries.{Entry}
 use Rattle.frame.specs.Stored.EntryMeanings.{stmt_by, stmt_of, declares, is_var_kind, last_from, last_where}
 use Rattle.frame.specs.Stored.Counts.{AreNumbered, IsPlain}
 use Rattle.frame.proofs.KindWalk.{not-has, has-decode, entry-var, other-var}
-use Rattle.mm_lex.proofs.WordsLemmas.{and_left}
 
 -- ---- the last `$v` of a symbol
 
@@ -147,4 +147,4 @@ var-plain names labels x p es h some = by (last-is (declares x) 0 1 es p (omega 
     by (inr r) =
         let at = r.4 in
         let back : p - 1 ≡ r.0 = omega (arith, at) in
-        (omega (arith, at), subst IsPlain (sym (ap (slice_get (map (stmt_of names labels) es)) back ∙ get-stmt names labels es r.0 r.1 r.2)) (plain r.1.kind _ _ (and_left (is_var_kind r.1.kind) _ r.3)))
+        (omega (arith, at), subst IsPlain (sym (ap (slice_get (map (stmt_of names labels) es)) back ∙ get-stmt names labels es r.0 r.1 r.2)) (plain r.1.kind _ _ (and_parts (is_var_kind r.1.kind) _ r.3).0))

@@ -1,10 +1,10 @@
 -- The positions of labels, one after another.
 use Rattle.std.specs.Prelude.{◌≡◌, ℕ, zero, suc, ◌<◌, Bool, true, false, nat_lt, List, [], ◌∷◌, ◌++◌, length, map, get_or, Option, None, refl}
 use Rattle.std.proofs.Common.{sym, ◌∙◌, ap, subst, arith, length-append, Bor}
+use Rattle.std.proofs.lemmas.List.{map_push}
 use Rattle.mm_lex.specs.Alphabet.{Name}
 use Rattle.mm_read.specs.Statements.{Database}
 use Rattle.frame.specs.AtPosition.{IsPosition, ArePositions}
-use Rattle.frame.proofs.StoredOneMore.{map-push}
 
 pub get-front : {A : Type 0} (xs ys : List A) (k : ℕ) (d : A) → k < length xs → get_or (xs ++ ys) k d ≡ get_or xs k d
 get-front [] ys k d h = absurd (omega (arith, h))
@@ -41,5 +41,5 @@ positions-end S ls label ps p a is = record { count = counted; each = λ k h. ea
 pub positions-more : (S : Database) (labels : List (Bor Name)) (label : Bor Name) (ps ps' : List (Option ℕ)) (p : Option ℕ) → ArePositions S (map (λ l. l.now) labels) ps
     → ps' ≡ ps ++ p ∷ [] → IsPosition S label.now p → ArePositions S (map (λ l. l.now) (labels ++ label ∷ [])) ps'
 positions-more S labels label ps ps' p are grown is =
-    subst (λ ls. ArePositions S ls ps') (sym (map-push (λ l. l.now) labels label))
+    subst (λ ls. ArePositions S ls ps') (sym (map_push (λ l. l.now) labels label))
     (subst (ArePositions S (map (λ l. l.now) labels ++ label.now ∷ [])) (sym grown) (positions-end S (map (λ l. l.now) labels) label.now ps p are is))

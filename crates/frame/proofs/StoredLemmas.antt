@@ -1,7 +1,7 @@
 -- The storage with one more statement.
 use Rattle.std.specs.Prelude.{◌≡◌, ℕ, ◌+◌, ◌-◌, ◌<◌, ◌≤◌, ◌^◌, true, ◌⊎◌, List, [], ◌∷◌, ◌++◌, length, map, take, slice_get, Some}
 use Rattle.std.proofs.Common.{sym, ◌∙◌, ap, subst, arith, inl, inr}
-use Rattle.std.proofs.lemmas.List.{length-map, take-append-le}
+use Rattle.std.proofs.lemmas.List.{length-map, take-append-le, map_push}
 use Rattle.mm_lex.specs.Alphabet.{Name}
 use Rattle.mm_read.specs.declared.stmt.Stmt.{Stmt}
 use Rattle.mm_read.specs.Statements.{Database}
@@ -22,7 +22,7 @@ use Rattle.frame.specs.Stored.AssertionParts.{has_parts, IsKeptAs}
 use Rattle.frame.proofs.DeclareLemmas.{symbol_of-push}
 use Rattle.frame.proofs.UndoLemmas.{replaced_of-push}
 use Rattle.frame.proofs.AssertionLemmas.{kept-more, kept-moved}
-use Rattle.frame.proofs.StoredOneMore.{stmt-more, statements-more, map-push, numbered-push, labels_of-push, positions_from-push, take-whole, legal-push, stays-push, numbered-at, still-reads}
+use Rattle.frame.proofs.StoredOneMore.{stmt-more, statements-more, numbered-push, labels_of-push, positions_from-push, take-whole, legal-push, stays-push, numbered-at, still-reads}
 use Rattle.scope.proofs.SymbolNameLemmas.{symbols_of-append}
 use Rattle.entries.proofs.SpanLemmas.{extends-length}
 use Rattle.entries.proofs.BufferPlaceLemmas.{get-push}
@@ -65,7 +65,7 @@ module _ (names labels : List Name) (positions : List ℕ) (symbols : List Symbo
   pub pushed-statements : map (stmt_of names' labels') entries' ≡ map (stmt_of names labels) entries ++ s ∷ []
   pushed-statements =
       ap (map (stmt_of names' labels')) p.entries_more
-      ∙ (map-push (stmt_of names' labels') entries e
+      ∙ (map_push (stmt_of names' labels') entries e
       ∙ (ap (λ r. r ++ stmt_of names' labels' e ∷ []) (statements-more names names' labels labels' entries p.names_more labels-extend k.coded)
       ∙ ap (λ t. map (stmt_of names labels) entries ++ t ∷ []) p.stands))
 

@@ -1,7 +1,7 @@
 -- The parts of the storage with one more statement: numbers, labels, positions, symbols.
 use Rattle.std.specs.Prelude.{◌≡◌, ℕ, zero, suc, ◌+◌, ◌-◌, ◌<◌, ◌≤◌, Bool, true, false, cond, not, ◌&&◌, ◌||◌, ◌==◌, nat_lt, ◌⊎◌, List, [], ◌∷◌, ◌++◌, length, map, take, slice_get, Option, Some, None, refl}
 use Rattle.std.specs.List.{list_any}
-use Rattle.std.proofs.Common.{sym, ◌∙◌, ap, subst, arith, inl, inr}
+use Rattle.std.proofs.Common.{sym, ◌∙◌, ap, subst, arith, inl, inr, add-zero}
 use Rattle.std.proofs.Math.Bool.{and-false}
 use Rattle.std.proofs.lemmas.List.{take-append-le}
 use Rattle.std.proofs.lemmas.Bool.{cases_lt, ltb-true}
@@ -55,10 +55,6 @@ statements-more names names' labels labels' (e ∷ es) p q h =
     ap (λ s. s ∷ map (stmt_of names' labels') es) (stmt-more names names' labels labels' e p q h.0 h.1)
     ∙ ap (λ r. stmt_of names labels e ∷ r) (statements-more names names' labels labels' es p q h.2)
 
-pub map-push : {A B : Type 0} (f : A → B) (xs : List A) (x : A) → map f (xs ++ x ∷ []) ≡ map f xs ++ f x ∷ []
-map-push f [] x = refl
-map-push f (y ∷ xs) x = ap (λ r. f y ∷ r) (map-push f xs x)
-
 label-more : (kind : Kind) (l m n : ℕ) → m ≤ n → IsLabelBelow kind l m → IsLabelBelow kind l n
 label-more Open l m n le h = tt
 label-more Close l m n le h = tt
@@ -86,10 +82,7 @@ labels_of-push (t ∷ S) s = ap (option_list (label_of t)) (labels_of-push S s) 
     by (Some x) = refl
 
 pub positions_from-push : (at : ℕ) (S : Database) (s : Stmt) → positions_from at (S ++ s ∷ []) ≡ positions_from at S ++ option_position (label_of s) (at + length S) []
-positions_from-push at [] s = ap (λ n. option_position (label_of s) n []) (place at)
-  where
-    place : (n : ℕ) → n ≡ n + 0
-    place n = omega arith
+positions_from-push at [] s = ap (λ n. option_position (label_of s) n []) (sym (add-zero at))
 positions_from-push at (t ∷ S) s =
     ap (option_position (label_of t) at) (positions_from-push (at + 1) S s ∙ ap (λ n. positions_from (at + 1) S ++ option_position (label_of s) n []) (place at (length S))) ∙ by (label_of t)
   where

@@ -9,12 +9,13 @@ use Rattle.scope.specs.Active.{stmt_at, label_of, expr_of, is_assertion, was_lab
 use Rattle.names.specs.Codes.{name_at, decode}
 use Rattle.frame.specs.Citations.{is_hypothesis_kind}
 use Rattle.std.proofs.lemmas.Slice.Eq.{bytes_eq-Decides}
+use Rattle.std.proofs.lemmas.Bool.{or_parts}
 use Rattle.entries.specs.declared.kind.Kind.{Kind}
 use Rattle.entries.specs.declared.kind.Kind.TheVariants.{Open, Close, Const, Var, Disj, Float, Ess, Axiom, Prove}
 use Rattle.entries.specs.Entries.{Entry}
 use Rattle.frame.specs.Stored.EntryMeanings.{stmt_by, stmt_of, labels_of, positions_from, option_list, option_position}
 use Rattle.frame.specs.Stored.Counts.{HasTwo, AreNumbered}
-use Rattle.scope.proofs.ActiveLemmas.{place, or_false_right}
+use Rattle.scope.proofs.ActiveLemmas.{place}
 
 -- ---- reading an entry
 
@@ -120,7 +121,7 @@ label-none (t ∷ S) x h zero s g l =
     let same : t ≡ s = cc in
     let own : has_label x (label_of t) ≡ true = ap (λ r. has_label x (label_of r)) same ∙ (ap (has_label x) l ∙ (bytes_eq-Decides x x).1 refl) in
     let bad : true ≡ false = sym (ap (λ b. b || was_label S x) own) ∙ h in cc
-label-none (t ∷ S) x h (suc i) s g l = label-none S x (or_false_right (has_label x (label_of t)) (was_label S x) h) i s g l
+label-none (t ∷ S) x h (suc i) s g l = label-none S x (or_parts (has_label x (label_of t)) (was_label S x) h).1 i s g l
 
 -- the kinds of assertions
 abbrev pub IsCitable : Kind → Type 0

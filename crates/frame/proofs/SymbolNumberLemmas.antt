@@ -1,9 +1,8 @@
 -- Numbers and the names that they stand for, as both grow.
-use Rattle.std.specs.Prelude.{◌≡◌, ℕ, ◌<◌, ◌≤◌, true, false, ◌⊎◌, List, [], ◌∷◌, ◌++◌, length, take, refl, zero, suc}
-use Rattle.std.proofs.Common.{sym, ◌∙◌, ap, arith, inl, inr, append_assoc}
+use Rattle.std.specs.Prelude.{◌≡◌, ℕ, ◌<◌, ◌≤◌, List, [], ◌∷◌, ◌++◌, length, take, refl, zero, suc}
+use Rattle.std.proofs.Common.{sym, ◌∙◌, ap, arith, append_assoc}
 use Rattle.std.proofs.Math.Seq.{take-append_seam}
-use Rattle.std.proofs.lemmas.Bool.{cases_lt}
-use Rattle.mm_lex.specs.Alphabet.{Name, has_name}
+use Rattle.mm_lex.specs.Alphabet.{Name}
 use Rattle.names.specs.Codes.{name_at, decode, with_name, with_names}
 use Rattle.frame.specs.Below.{AreBelow}
 use Rattle.frame.specs.declared.storage.Symbol.{Symbol}
@@ -11,7 +10,6 @@ use Rattle.entries.specs.Stored.Spans.{Extends}
 use Rattle.frame.specs.Stored.Counts.{AreZero, AreZeroBehind}
 use Rattle.names.proofs.DistinctLemmas.{name_at-more}
 use Rattle.entries.proofs.SpanLemmas.{extends-length}
-use Rattle.names.proofs.CodesLemmas.{has-at}
 
 -- cut back to where it began, the list is as before
 pub take-extends : {A : Type 0} (a b : List A) → Extends a b → take (length a) b ≡ a
@@ -64,14 +62,6 @@ pub stand-step : (old new words rest : List Name) (codes : List ℕ) (c : ℕ) (
 stand-step old new words rest codes c x p below e h =
     ap (λ r. r ++ rest) (decode-push new codes c ∙ (ap (λ r. r ++ name_at new c ∷ []) (decode-extends old new codes p below) ∙ ap (λ y. decode old codes ++ y ∷ []) e))
     ∙ (append_assoc (decode old codes) (x ∷ []) rest ∙ h)
-
--- a name that was not there gets the number behind the others
-pub fresh-number : (old new : List Name) (x : Name) (n : ℕ) → has_name x old ≡ false → (n < length new) × (name_at new n ≡ x) → (n < length old → new ≡ old) → length old ≤ n
-fresh-number old new x n f p k = by (cases_lt n (length old))
-  where
-    by : (n < length old) ⊎ (length old ≤ n) → length old ≤ n
-    by (inl lt) = let t : true ≡ false = sym (has-at old x n lt (ap (λ r. name_at r n) (sym (k lt)) ∙ p.1)) ∙ f in cc
-    by (inr ge) = ge
 
 pub name_at-extends : (names new : List Name) (n : ℕ) → Extends names new → n < length names → name_at new n ≡ name_at names n
 name_at-extends names new n p h = ap (λ r. name_at r n) p.1 ∙ name_at-more names p.0 n h

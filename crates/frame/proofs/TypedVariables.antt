@@ -3,7 +3,8 @@ use Rattle.std.specs.Prelude.{◌≡◌, ◌+◌, ◌-◌, Bool, true, false, no
 use Rattle.std.specs.List.{list_any}
 use Rattle.std.proofs.Common.{◌∙◌, ap, append_assoc}
 use Rattle.std.proofs.lemmas.List.Folds.{list_any-append}
-use Rattle.std.proofs.lemmas.Bool.{or_left, and_parts}
+use Rattle.std.proofs.lemmas.Bool.{or_left, and_parts, both_ways}
+use Rattle.scope.proofs.GoingBackLemmas.{all-has}
 use Rattle.mm_lex.specs.Alphabet.{Name, has_name}
 use Rattle.mm_read.specs.declared.stmt.Stmt.{Stmt}
 use Rattle.mm_read.specs.declared.stmt.Stmt.TheVariants.{Open, Close, Const, Var, Disj, Float, Ess, Axiom, Prove}
@@ -13,8 +14,8 @@ use Rattle.scope.specs.Legal.{IsLegal, starts_with_constant}
 use Rattle.frame.specs.FrameOf.{is_used}
 use Rattle.frame.specs.Bound.{IsFirstFixed}
 use Rattle.frame.proofs.LegalLabels.{AllKept}
-use Rattle.frame.proofs.ActiveBehind.{not-both, active-stands, stands-active, open_both}
-use Rattle.frame.proofs.LegalBehind.{legal-keeps, kept-legal, all-has, constant-no_variable}
+use Rattle.frame.proofs.ActiveBehind.{active-stands, stands-active, open_both, implied}
+use Rattle.frame.proofs.LegalBehind.{legal-keeps, kept-legal, constant-no_variable}
 
 -- ---- the four facts
 
@@ -71,14 +72,9 @@ own-fixed S (Const ws) all legal = tt
 own-fixed S (Var ws) all legal = tt
 own-fixed S (Disj ws) all legal = tt
 
--- what follows from a test that holds
-implied : (a b : Bool) → (not a || b) ≡ true → a ≡ true → b ≡ true
-implied true b h e = h
-implied false b h e = cc
-
 typed-own : (S : Database) (s : Stmt) (x : Name) → IsLegal S s → is_assertion s ≡ true → has_name x (expr_of s) ≡ true → is_variable S x ≡ true → has_float S x ≡ true
-typed-own S (Axiom l e) x legal asserts h v = implied (is_variable S x) (has_float S x) (all-has (λ y. not (is_variable S y) || has_float S y) e x (legal-keeps S (Axiom l e) legal).g9 h) v
-typed-own S (Prove l e p) x legal asserts h v = implied (is_variable S x) (has_float S x) (all-has (λ y. not (is_variable S y) || has_float S y) e x (legal-keeps S (Prove l e p) legal).g9 h) v
+typed-own S (Axiom l e) x legal asserts h v = implied (is_variable S x) (has_float S x) (all-has (λ y. not (is_variable S y) || has_float S y) x e (legal-keeps S (Axiom l e) legal).g9 h) v
+typed-own S (Prove l e p) x legal asserts h v = implied (is_variable S x) (has_float S x) (all-has (λ y. not (is_variable S y) || has_float S y) x e (legal-keeps S (Prove l e p) legal).g9 h) v
 typed-own S Open x legal asserts h v = cc
 typed-own S Close x legal asserts h v = cc
 typed-own S (Const ws) x legal asserts h v = cc
@@ -104,12 +100,12 @@ pub typed-before : (S A : Database) (l : Name) (e : Expr) (B : Database) (x : Na
 typed-before S A l e B x all whole h v =
     let legal = kept-legal S A (Ess l e) B all whole in
     let k = legal-keeps A (Ess l e) legal in
-    let known : (is_constant A x || is_variable A x) ≡ true = all-has (λ y. is_constant A y || is_variable A y) e x k.g5 h in
+    let known : (is_constant A x || is_variable A x) ≡ true = all-has (λ y. is_constant A y || is_variable A y) x e k.g5 h in
     let var : is_variable A x ≡ true = by (is_constant A x) refl (is_variable A x) known in
-    implied (is_variable A x) (has_float A x) (all-has (λ y. not (is_variable A y) || has_float A y) e x k.g9 h) var
+    implied (is_variable A x) (has_float A x) (all-has (λ y. not (is_variable A y) || has_float A y) x e k.g9 h) var
   where
     by : (a : Bool) → is_constant A x ≡ a → (b : Bool) → (a || b) ≡ true → b ≡ true
-    by true p b q = absurd (not-both (is_variable S x) v (constant-no_variable S x all (constant-front S A (Ess l e) B x whole p)))
+    by true p b q = absurd (both_ways (is_variable S x) (constant-no_variable S x all (constant-front S A (Ess l e) B x whole p)) v)
     by false p b q = q
 
 typed-ess : (S A : Database) (l : Name) (e : Expr) (B : Database) (x : Name) → AllKept S → S ≡ A ++ Ess l e ∷ B → stays_open 0 B ≡ true → has_name x e ≡ true → is_variable S x ≡ true → has_float S x ≡ true

@@ -6,6 +6,7 @@ use Rattle.std.proofs.lemmas.List.{take_all}
 use Rattle.std.proofs.lemmas.Option.{get_or_from_slice_get}
 use Rattle.std.proofs.Math.Bool.{or-true, or-false}
 use Rattle.std.proofs.Math.Seq.{drop-append_seam}
+use Rattle.frame.proofs.LegalBehind.{stands-at}
 use Rattle.entries.specs.Entries.{Entry}
 use Rattle.entries.specs.declared.kind.Kind.{Kind}
 use Rattle.entries.specs.declared.kind.Kind.TheVariants.{Open, Close, Const, Var, Disj, Float, Ess, Axiom, Prove}
@@ -39,11 +40,6 @@ get-set (y ∷ xs) zero (suc c) new x g = let no : nat_eq (suc c) zero ≡ false
 get-set (y ∷ xs) (suc k) zero new x g = let no : nat_eq zero (suc k) ≡ false = grind arith in g ∙ ap (λ b. Some (cond b new x)) (sym no)
 get-set (y ∷ xs) (suc k) (suc c) new x g = let same : nat_eq c k ≡ nat_eq (suc c) (suc k) = grind arith in get-set xs k c new x g ∙ ap (λ b. Some (cond b new x)) same
 
-read-at : (xs : List Symbol) (k : ℕ) (r x : Symbol) → slice_get xs k ≡ Some x → r ≡ get_or xs k r → r ≡ x
-read-at [] k r x g e = cc
-read-at (y ∷ xs) zero r x g e = let same : y ≡ x = cc in e ∙ same
-read-at (y ∷ xs) (suc k) r x g e = read-at xs k r x g e
-
 same-number : (c k : ℕ) → nat_eq c k ≡ true → c ≡ k
 same-number c k h = grind (arith, h)
 
@@ -55,7 +51,7 @@ restore-step xs k c v r y x any g e h = get-set xs k c (record { float = r.float
     by : (t : Bool) → nat_eq c k ≡ t → ◌≡◌ {A = Option Symbol} (Some (cond t (record { float = r.float; variable = v }) (noted y (x c) any))) (Some (noted y (x c) (any || t)))
     by true same =
         let c-is : c ≡ k = same-number c k same in
-        let f : r.float ≡ y.float = ap (λ s. s.float) (read-at xs k r (noted y (x c) any) (ap (slice_get xs) (sym c-is) ∙ g) e) in
+        let f : r.float ≡ y.float = ap (λ s. s.float) (e ∙ get_or_from_slice_get xs k (noted y (x c) any) r (ap (slice_get xs) (sym c-is) ∙ g)) in
         ap (λ n. Some (record { float = n; variable = v })) f
         ∙ (ap (λ n. Some (record { float = y.float; variable = n })) (h ∙ ap x (sym c-is)) ∙ ap (λ b. Some (noted y (x c) b)) (sym (or-true any)))
     by false other = ap (λ b. Some (noted y (x c) b)) (sym (or-false any))
@@ -84,14 +80,10 @@ restored-variables old new own codes olds x at kind h each n reads c lt = by own
 
 -- ---- one entry less
 
-get-seam : (front more : List Entry) (e : Entry) → slice_get (front ++ e ∷ more) (length front) ≡ Some e
-get-seam [] more e = refl
-get-seam (d ∷ front) more e = get-seam front more e
-
 pub front-step : (all xs front : List Entry) (e : Entry) → Extends xs all → xs ≡ front ++ e ∷ [] → Extends front all × (slice_get all (length front) ≡ Some e)
 front-step all xs front e p h =
     let is : all ≡ front ++ e ∷ p.0 = p.1 ∙ (ap (λ r. r ++ p.0) h ∙ append_assoc front (e ∷ []) p.0) in
-    ((e ∷ p.0, is), ap (λ r. slice_get r (length front)) is ∙ get-seam front p.0 e)
+    ((e ∷ p.0, is), ap (λ r. slice_get r (length front)) is ∙ stands-at front e p.0)
 
 pub last-of : {A : Type 0} (xs : List A) (n : ℕ) (x : A) → n + 1 ≡ length xs → slice_get xs n ≡ Some x → xs ≡ take n xs ++ x ∷ []
 last-of [] n x h g = absurd (omega (arith, h))

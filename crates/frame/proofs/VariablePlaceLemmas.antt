@@ -1,20 +1,20 @@
 -- The mandatory variables are the variables of the mandatory `$f`, and each has one place.
-use Rattle.std.specs.Prelude.{◌≡◌, ℕ, zero, suc, ◌+◌, ◌-◌, Bool, true, false, not, cond, ◌&&◌, ◌||◌, List, [], ◌∷◌, ◌++◌, length, map, filter, take, drop, Option, Some, None, slice_get, refl}
+use Rattle.std.specs.Prelude.{◌≡◌, ℕ, suc, ◌+◌, ◌-◌, Bool, true, false, not, cond, ◌&&◌, ◌||◌, List, [], ◌∷◌, ◌++◌, length, map, filter, take, drop, Option, Some, None, slice_get, refl}
 use Rattle.std.specs.List.{list_any}
 use Rattle.std.proofs.Common.{sym, ◌∙◌, ap, subst, arith, append_assoc, length-append}
-use Rattle.std.proofs.lemmas.Bool.{or_left, or_right, and_parts, not-true}
+use Rattle.std.proofs.lemmas.Bool.{or_left, or_right, and_parts, not-true, both_ways as not_both}
+use Rattle.std.specs.Cmp.{both_ways}
 use Rattle.mm_lex.specs.Alphabet.{Name, name_eq}
 use Rattle.mm_read.specs.declared.stmt.Stmt.{Stmt}
 use Rattle.mm_read.specs.declared.stmt.Stmt.TheVariants.{Open, Close, Const, Var, Disj, Float, Ess, Axiom, Prove}
 use Rattle.mm_read.specs.Statements.{Database}
-use Rattle.scope.specs.Active.{stmt_at, stays_open, active, active_from, is_active, is_assertion, is_variable, is_float_of, has_float}
+use Rattle.scope.specs.Active.{stays_open, active, active_from, is_active, is_assertion, is_variable, is_float_of, has_float}
 use Rattle.scope.specs.Legal.{IsLegal}
 use Rattle.frame.specs.FrameOf.{is_used, is_mandatory, is_hypothesis, variable_of, variable_at, variables_of, is_some_name, has_place}
 use Rattle.frame.proofs.LegalLabels.{AllKept}
-use Rattle.frame.proofs.ActiveBehind.{IsElsewhere, AreOnce, not-both, stands-active}
+use Rattle.frame.proofs.ActiveBehind.{IsElsewhere, AreOnce, stands-active}
 use Rattle.frame.proofs.LegalBehind.{legal-keeps, stands-at, kept-legal}
-use Rattle.frame.proofs.TypedVariables.{float-kinds, used-typed}
-use Rattle.frame.proofs.ActiveFloats.{cut-at}
+use Rattle.frame.proofs.TypedVariables.{used-typed}
 use Rattle.mm_read.proofs.Places.{same}
 use Rattle.frame.proofs.OpenLemmas.{stays_open-front}
 
@@ -107,13 +107,8 @@ used-has-place S s x all legal asserts used var =
 
 -- the mandatory variables are those with a place
 pub mandatory-place : (S : Database) (s : Stmt) (x : Name) → AllKept S → IsLegal S s → is_assertion s ≡ true → is_mandatory S s x ≡ has_place (variables_of S s) x
-mandatory-place S s x all legal asserts = by (is_mandatory S s x) (has_place (variables_of S s) x) there back
+mandatory-place S s x all legal asserts = both_ways (is_mandatory S s x) (has_place (variables_of S s) x) there back
   where
-    by : (a b : Bool) → (a ≡ true → b ≡ true) → (b ≡ true → a ≡ true) → a ≡ b
-    by true b f h = sym (f refl)
-    by false true f h = h refl
-    by false false f h = refl
-
     there : is_mandatory S s x ≡ true → has_place (variables_of S s) x ≡ true
     there m = let p = and_parts (is_variable S x) (is_used S s x) m in used-has-place S s x all legal asserts p.1 p.0
 
@@ -151,7 +146,7 @@ differs A l c x M t y stays legal is = by (name_eq y x) refl
 
     by : (b : Bool) → name_eq y x ≡ b → b ≡ false
     by false e = refl
-    by true e = absurd (not-both (has_float (A ++ Float l c x ∷ M) y) (stands-active (is_float_of y) 1 A (Float l c x) M stays e) none)
+    by true e = absurd (not_both (has_float (A ++ Float l c x ∷ M) y) none (stands-active (is_float_of y) 1 A (Float l c x) M stays e))
 
 once-more : (x : Name) (o : Option Name) (vs : List (Option Name)) → ((y : Name) → o ≡ Some y → name_eq y x ≡ false) → IsElsewhere x vs → IsElsewhere x (o ∷ vs)
 once-more x None vs f h = h
@@ -212,7 +207,3 @@ active-rest S n h =
     let parts = and_parts (Rattle.std.specs.Prelude.nat_le 1 (suc n) && Rattle.std.specs.Prelude.nat_lt (suc n) (length S + 1)) (stays_open 0 (take (length S + 1 - 1 - suc n) (drop (suc n) S))) h in
     let l = Rattle.std.proofs.Common.length-drop (suc n) S in
     ap (stays_open 0) (sym (Rattle.std.proofs.lemmas.List.take_all (length S + 1 - 1 - suc n) (drop (suc n) S) (omega (arith, l)))) ∙ parts.1
-
-pub float-kinds-at : (S : Database) (p : ℕ) (l c x : Name) → AllKept S → stmt_at S p ≡ Some (Float l c x) → is_active S p (length S + 1) ≡ true → (is_variable S c ≡ false) × (is_variable S x ≡ true)
-float-kinds-at S zero l c x all stands h = cc
-float-kinds-at S (suc n) l c x all stands h = float-kinds S (take n S) l c x (drop (suc n) S) all (cut-at S n (Float l c x) stands) (active-rest S n h)

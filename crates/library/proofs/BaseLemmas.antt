@@ -1,13 +1,14 @@
 -- A text whole or not at all: what the judging of its statements makes of good statements.
-use Rattle.std.specs.Prelude.{◌≡◌, ℕ, zero, suc, ◌+◌, ◌-◌, ◌≤◌, Bool, true, false, ◌&&◌, IsTrue, List, [], ◌∷◌, ◌++◌, length, take, drop, get_or, Option, Some, None, Result, Ok, Err, IfOk, OnErr, refl}
+use Rattle.std.specs.Prelude.{◌≡◌, ℕ, zero, suc, ◌+◌, ◌-◌, ◌≤◌, Bool, true, false, ◌&&◌, [], ◌∷◌, ◌++◌, length, take, drop, get_or, Option, Some, None, Result, Ok, Err, IfOk, OnErr, refl}
 use Rattle.std.specs.List.{list_all}
-use Rattle.std.proofs.Common.{sym, ◌∙◌, ap, subst, arith, inl, inr, take_all}
-use Rattle.std.proofs.lemmas.List.{map-append, take-append-drop, take-append-le, length-take-le, length-drop, length-map, drop-append-le, drop_all}
+use Rattle.std.proofs.Common.{sym, ◌∙◌, ap, subst, arith, inl, inr}
+use Rattle.std.proofs.lemmas.List.{map-append, take-append-drop, length-take-le, length-drop, length-map, take_rest}
+use Rattle.std.proofs.Math.Seq.{take-append_seam, drop-append_seam}
 use Rattle.mm_read.specs.declared.stmt.Stmt.{Stmt}
 use Rattle.mm_read.specs.Statements.{Database, AreShaped, is_shaped}
 use Rattle.scope.specs.declared.rule.Rule.{Rule as BrokenRule}
 use Rattle.scope.specs.Accepted.{Accepted}
-use Rattle.scope.specs.Active.{bare, bares, is_closed, is_provable, stmt_at}
+use Rattle.scope.specs.Active.{bare, bares, is_provable, stmt_at}
 use Rattle.scope.specs.Legal.{first_broken}
 use Rattle.scope.proofs.StatementPlaces.{stands-within}
 use Rattle.frame.specs.Parts.{Numbered}
@@ -23,9 +24,6 @@ use Rattle.library.proofs.JoinedRulesLemmas.{legal-more, first_broken-bares, bar
 use Rattle.library.proofs.ProvingLemmas.{AreProved, stands-other}
 
 -- ---- lists
-
-pub rest-is : {A : Type 0} (S : List A) (k : ℕ) → take (length S - k) (drop k S) ≡ drop k S
-rest-is S k = let l = length-drop k S in take_all (length S - k) (drop k S) (omega (arith, l))
 
 pub bares-bares : (S : Database) → bares (bares S) ≡ bares S
 bares-bares [] = refl
@@ -131,13 +129,13 @@ bares-join S old next front before after = after ∙ (ap (λ U. U ++ bares (drop
 
 -- what follows the first statements, as a slice
 pub frames-whole : (S old next : Database) (front : ℕ) → old ≡ bares (take front S) → next ≡ old ++ bares (take (length S - front) (drop front S)) → next ≡ bares (take front S ++ drop front S)
-frames-whole S old next front before after = bares-join S old next front before (after ∙ ap (λ U. old ++ bares U) (rest-is S front))
+frames-whole S old next front before after = bares-join S old next front before (after ∙ ap (λ U. old ++ bares U) (take_rest S front))
 
 pub frames-all : (S old next : Database) (front : ℕ) → old ≡ bares (take front S) → next ≡ old ++ bares (take (length S - front) (drop front S)) → next ≡ bares S
 frames-all S old next front before after = frames-whole S old next front before after ∙ ap bares (take-append-drop front S)
 
 pub broken-slice : (S F : Database) (front : ℕ) (found : Option (ℕ × BrokenRule)) → F ≡ bares (take front S) → found ≡ first_broken 1 F (take (length S - front) (drop front S)) → first_broken 1 (take front S) (drop front S) ≡ found
-broken-slice S F front found same is = sym (is ∙ (ap (first_broken 1 F) (rest-is S front) ∙ broken-behind S F front same))
+broken-slice S F front found same is = sym (is ∙ (ap (first_broken 1 F) (take_rest S front) ∙ broken-behind S F front same))
 
 -- ---- added whole, or gone back
 
@@ -155,12 +153,6 @@ pub record Extended {E : Type 0} (L T new : Database) (r : Result (Option Cause)
   pub judged : IfOk r (λ found. Extends L T found new)
   pub same : OnErr r (new ≡ L)
 
-pub take-front : {A : Type 0} (xs ys : List A) → take (length xs) (xs ++ ys) ≡ xs
-take-front xs ys = take-append-le (length xs) xs ys (omega arith) ∙ take_all (length xs) xs (omega arith)
-
-drop-front : {A : Type 0} (xs ys : List A) → drop (length xs) (xs ++ ys) ≡ ys
-drop-front xs ys = drop-append-le (length xs) xs ys (omega arith) ∙ ap (λ zs. zs ++ ys) (drop_all (length xs) xs (omega arith))
-
 length-bares : (S : Database) → length (bares S) ≡ length S
 length-bares S = length-map S bare
 
@@ -174,16 +166,16 @@ module _ (L T whole new : Database) (front : ℕ) (scope scope' scope'' : Accept
   Stays = (new ≡ whole) × (frames'' ≡ frames') × (scope''.statements ≡ scope'.statements) × (scope''.marked ≡ scope'.statements)
 
   first-part : take front whole ≡ L
-  first-part = ap (λ n. take n whole) is_front ∙ (ap (take (length L)) is_whole ∙ take-front L T)
+  first-part = ap (λ n. take n whole) is_front ∙ (ap (take (length L)) is_whole ∙ take-append_seam L T)
 
   last-part : drop front whole ≡ T
-  last-part = ap (λ n. drop n whole) is_front ∙ (ap (drop (length L)) is_whole ∙ drop-front L T)
+  last-part = ap (λ n. drop n whole) is_front ∙ (ap (drop (length L)) is_whole ∙ drop-append_seam L T)
 
   back-base : Back → (new ≡ L) × IsBase new scope'' frames''
   back-base b =
       let same : new ≡ L = b.0 ∙ first-part in
       let cut : take front frames'.statements ≡ bares L =
-      ap (take front) (begins.1 ∙ ap (λ U. U ++ begins.0) base.frames_are) ∙ (ap (λ n. take n (bares L ++ begins.0)) (is_front ∙ sym (length-bares L)) ∙ take-front (bares L) begins.0) in (
+      ap (take front) (begins.1 ∙ ap (λ U. U ++ begins.0) base.frames_are) ∙ (ap (λ n. take n (bares L ++ begins.0)) (is_front ∙ sym (length-bares L)) ∙ take-append_seam (bares L) begins.0) in (
         same,
         subst (λ U. IsBase U scope'' frames'') (sym same)
             (record { shaped = base.shaped; good = base.good; scope_is = b.2 ∙ (marked ∙ base.marked_is); marked_is = b.3 ∙ (marked ∙ base.marked_is); frames_are = b.1 ∙ cut }),
@@ -217,8 +209,3 @@ module _ (L T whole new : Database) (front : ℕ) (scope scope' scope'' : Accept
   extended {E} (Err x) placed kept back =
       let b = back-base (back (λ e. absurd (let f : ◌≡◌ {A = Result (Option Cause) E} (Err x) (Ok None) = e in cc))) in
       record { base = b.1; judged = tt; same = b.0 }
-
--- no block is open where all were found good
-pub placed-closed : {E : Type 0} (L T : Database) (scope : Accepted) (frames : Numbered) (r : Result (Option Cause) E) → IfOk r (λ found. IsPlaced L T scope frames found) → r ≡ Ok None → IsTrue (is_closed scope.statements)
-placed-closed L T scope frames (Ok found) placed e = placed.closed (cc)
-placed-closed L T scope frames (Err x) placed e = absurd (let f = e in cc)

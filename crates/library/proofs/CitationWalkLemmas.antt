@@ -2,7 +2,7 @@
 use Rattle.std.specs.Prelude.{◌≡◌, ◌⊎◌, ℕ, zero, suc, ◌-◌, ◌<◌, ◌≤◌, Bool, true, false, List, [], ◌∷◌, ◌++◌, length, get_or, Some, option_map, slice_get, slice_set, replicate, Result, Ok, Err, OnOk, refl}
 use Rattle.std.proofs.Common.{sym, ◌∙◌, ap, subst, arith, inl, inr}
 use Rattle.std.proofs.lemmas.Bool.{cases_eq}
-use Rattle.std.proofs.lemmas.List.{length-set, length-replicate, get_or-set_same, get_or-set_other}
+use Rattle.std.proofs.lemmas.List.{length-set, length-replicate, get_or-set_same, get_or-set_other, get_or_default}
 use Rattle.mm_lex.specs.Alphabet.{Name}
 use Rattle.mm_read.specs.declared.stmt.Stmt.{Stmt}
 use Rattle.mm_read.specs.Statements.{Database}
@@ -233,11 +233,6 @@ cites-no-proof S at s here other a c =
 
 -- ---- one position of the walk
 
-get-any : (ms : List Bool) (n : ℕ) (d e : Bool) → n < length ms → get_or ms n d ≡ get_or ms n e
-get-any [] n d e h = absurd (omega (arith, h))
-get-any (m ∷ ms) zero d e h = refl
-get-any (m ∷ ms) (suc n) d e h = get-any ms n d e (omega (arith, h))
-
 pub step-pass : (S : Database) (j p : ℕ) (ms ms' : List Bool) (bit : Bool) → 0 < p → ms' ≡ ms → bit ≡ get_or ms (p - 1) bit → bit ≡ false → IsWalked S j p ms → IsWalked S j (p - 1) ms'
 step-pass S j zero ms ms' bit h e is unset w = absurd (omega (arith, h))
 step-pass S j (suc n) ms ms' bit h e is unset w =
@@ -252,6 +247,6 @@ step-proof S F j (suc n) ms lent ms' ms'' bit h same good once lending e is set 
     let less : suc n - 1 ≡ n = omega arith in
     let count = w.count in
     let below = w.below in
-    let marked : get_or ms n false ≡ true = get-any ms n false bit (omega (arith, count, below)) ∙ (sym (is ∙ ap (λ k. get_or ms k bit) less) ∙ set) in
+    let marked : get_or ms n false ≡ true = get_or_default ms n false bit (omega (arith, count, below)) ∙ (sym (is ∙ ap (λ k. get_or ms k bit) less) ∙ set) in
     subst (λ k. IsWalked S j k ms'') (sym less) (subst (IsWalked S j n) (sym e)
     (walk-proof S j n ms ms' good (subst HasLabelsOnce same once) w marked (subst (λ l. MarksCited S (suc n) l ms') lending m)))

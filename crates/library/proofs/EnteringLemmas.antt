@@ -1,22 +1,17 @@
 -- Statements entered one by one: what is left to judge behind those that were taken.
-use Rattle.std.specs.Prelude.{◌≡◌, ℕ, ◌+◌, ◌<◌, ◌≤◌, IsTrue, List, [], ◌∷◌, ◌++◌, length, take, drop, get_or, Option, Some, None, Result, Ok, Err, IfSome, OnOk, is_err, false, refl}
-use Rattle.std.proofs.Common.{sym, ◌∙◌, ap, arith, append_assoc}
-use Rattle.std.proofs.lemmas.List.{map_more, drop_more, drop_all}
+use Rattle.std.specs.Prelude.{◌≡◌, ℕ, ◌+◌, ◌<◌, ◌≤◌, IsTrue, List, [], ◌∷◌, ◌++◌, length, take, drop, get_or, None, Result, Ok, Err, OnOk, is_err, false}
+use Rattle.std.proofs.Common.{sym, ◌∙◌, ap, append_assoc}
+use Rattle.std.proofs.lemmas.List.{map_more, drop_more}
 use Rattle.mm_read.specs.declared.stmt.Stmt.{Stmt}
 use Rattle.mm_read.specs.Statements.{Database}
-use Rattle.scope.specs.declared.rule.Rule.{Rule}
 use Rattle.scope.specs.Active.{bare, bares}
-use Rattle.scope.specs.Legal.{broken_rule, end_rule, first_broken, numbered}
-use Rattle.library.specs.Judging.{Begins}
-use Rattle.library.proofs.JoinedRulesLemmas.{first_broken-taken, first_broken-here}
+use Rattle.scope.specs.Legal.{broken_rule, first_broken}
+use Rattle.library.proofs.JoinedRulesLemmas.{first_broken-taken}
 
 -- what a result says, once it is known to be one
 pub on-ok : {A E P : Type 0} (r : Result A E) → is_err r ≡ false → OnOk r P → P
 on-ok (Ok a) e p = p
 on-ok (Err x) e p = absurd (let f : Rattle.std.specs.Prelude.true ≡ false = e in cc)
-
-pub begins-through : (A B C T : Database) → B ≡ A ++ T → Begins B C → Begins A C
-begins-through A B C T e b = (T ++ b.0, b.1 ∙ (ap (λ U. U ++ b.0) e ∙ append_assoc A T b.0))
 
 pub taken-more : (S : Database) (i : ℕ) (s : Stmt) → i < length S → s ≡ get_or S i s → bares (take (i + 1) S) ≡ bares (take i S) ++ bare s ∷ []
 taken-more S i s less is = map_more bare S i s less ∙ ap (λ r. bares (take i S) ++ bare r ∷ []) (sym is)
@@ -33,17 +28,3 @@ pub left-more : (cur old next S : Database) (i : ℕ) (s : Stmt) → i < length 
     → first_broken 1 old S ≡ first_broken (i + 1) cur (drop i S) → first_broken 1 old S ≡ first_broken (i + 1 + 1) next (drop (i + 1) S)
 left-more cur old next S i s less is legal after left =
     left ∙ (left-at cur S i s less is ∙ (first_broken-taken (i + 1) cur s (drop (i + 1) S) (sym legal) ∙ ap (λ U. first_broken (i + 1 + 1) U (drop (i + 1) S)) (sym after)))
-
-pub left-here : (cur old S : Database) (i : ℕ) (s : Stmt) (rule : Rule) → i < length S → s ≡ get_or S i s → Some rule ≡ broken_rule cur s
-    → first_broken 1 old S ≡ first_broken (i + 1) cur (drop i S) → Some (i + 1, rule) ≡ first_broken 1 old S
-left-here cur old S i s rule less is broken left =
-    sym (left ∙ (left-at cur S i s less is ∙ first_broken-here (i + 1) cur s (drop (i + 1) S) rule (sym broken)))
-
-pub left-end : (cur old S : Database) (i : ℕ) → i ≡ length S → first_broken 1 old S ≡ first_broken (i + 1) cur (drop i S) → first_broken 1 old S ≡ numbered (length S + 1) (end_rule cur)
-left-end cur old S i at_end left =
-    left ∙ (ap (λ k. first_broken (k + 1) cur (drop k S)) at_end ∙ ap (first_broken (length S + 1) cur) (drop_all (length S) S (omega arith)))
-
--- the rule that an open block breaks
-pub end-is : (r : Option Rule) (rule : Rule) → IfSome r (λ other. ◌≡◌ {A = Result (Unit {0}) Rule} (Err rule) (Err other)) → (r ≡ None → ◌≡◌ {A = Result (Unit {0}) Rule} (Err rule) (Ok tt)) → r ≡ Some rule
-end-is None rule shown none = absurd (let e = none refl in cc)
-end-is (Some other) rule shown none = ap Some (let e = shown in cc)

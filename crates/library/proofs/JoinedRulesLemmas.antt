@@ -93,7 +93,3 @@ pub first_broken-taken : (at : ℕ) (S : Database) (s : Stmt) (T : Database) →
 first_broken-taken at S s T legal =
     legal-later at (broken_rule S s) (first_broken (at + 1) (S ++ s ∷ []) T) legal
     ∙ first_broken-bares (at + 1) (S ++ s ∷ []) (S ++ bare s ∷ []) T (map-append bare S (s ∷ []) ∙ (ap (λ v. map bare S ++ v ∷ []) (sym (bare-bare s)) ∙ sym (map-append bare S (bare s ∷ []))))
-
--- a statement that breaks a rule is the first of those that come
-pub first_broken-here : (at : ℕ) (S : Database) (s : Stmt) (T : Database) (rule : Rule) → broken_rule S s ≡ Some rule → first_broken at S (s ∷ T) ≡ Some (at, rule)
-first_broken-here at S s T rule h = ap (λ r. or_later at r (first_broken (at + 1) (S ++ s ∷ []) T)) h

@@ -1,6 +1,7 @@
 -- The library of a log is one, it only grows, and it is good.
 use Rattle.std.specs.Prelude.{◌≡◌, ℕ, IsTrue, List, [], ◌∷◌, ◌++◌, length, Option, Some, None, refl}
 use Rattle.std.proofs.Common.{sym, ◌∙◌, ap, subst, append-nil, append_assoc}
+use Rattle.std.proofs.lemmas.Bool.{both_ways}
 use Rattle.mm_read.specs.declared.stmt.Stmt.{Stmt}
 use Rattle.mm_read.specs.Statements.{Database}
 use Rattle.verify.specs.Right.{IsProvable}
@@ -13,7 +14,6 @@ use Rattle.library.specs.Charters.{may_declare}
 use Rattle.library.specs.Good.{Good}
 use Rattle.library.specs.LibraryOf.{Replica, empty, status_of, decided_with, Decides, AppliesAt, Applies, Runs, IsLibraryOf}
 use Rattle.library.proofs.CausesLemmas.{one-verdict, one-reading}
-use Rattle.frame.proofs.ActiveBehind.{not-both}
 
 -- ---- one verdict and one replica
 
@@ -37,8 +37,8 @@ decides-one old new other (Text submission) v w p q =
     let same = one-verdict old.statements old.charter submission v w (text-verdict old new submission v p) (text-verdict old other submission w q) in
     (same, text-replica old new other submission w (subst (λ u. Decides old (Text submission) u new) same p) q)
 decides-one old new other (Charter author serial names) Added Added p q = (refl, p.1 ∙ sym q.1)
-decides-one old new other (Charter author serial names) Added (Refused c) p q = absurd (not-both (may_declare old.charter author) p.0 q.0)
-decides-one old new other (Charter author serial names) (Refused c) Added p q = absurd (not-both (may_declare old.charter author) q.0 p.0)
+decides-one old new other (Charter author serial names) Added (Refused c) p q = absurd (both_ways (may_declare old.charter author) q.0 p.0)
+decides-one old new other (Charter author serial names) (Refused c) Added p q = absurd (both_ways (may_declare old.charter author) p.0 q.0)
 decides-one old new other (Charter author serial names) (Refused c) (Refused d) p q =
     let same : c ≡ d = p.1 ∙ sym q.1 in
     (ap Refused same, p.2 ∙ (ap (λ e. record old { decided = decided_with old (Charter author serial names) (Refused e) }) same ∙ sym q.2))

@@ -6,6 +6,8 @@ use Rattle.std.proofs.lemmas.Bool.Decides.{nat_tests}
 use Rattle.std.proofs.lemmas.Option.{slice_get-map}
 use Rattle.std.proofs.lemmas.Slice.Eq.{bytes_eq-Decides}
 use Rattle.std.proofs.lemmas.List.{map-append, length-map, length-drop, take_more, drop_more, get_or_append_left}
+use Rattle.std.proofs.lemmas.Bool.{both_ways}
+use Rattle.std.proofs.Math.Seq.{take-append_seam}
 use Rattle.mm_lex.specs.Alphabet.{Name, name_eq, has_name}
 use Rattle.mm_read.specs.declared.stmt.Stmt.{Stmt}
 use Rattle.mm_read.specs.Statements.{Database}
@@ -21,10 +23,8 @@ use Rattle.verify.specs.Proves.{label_or_none, mandatory_labels}
 use Rattle.verify.specs.Right.{IsProvable}
 use Rattle.library.specs.Good.{Good, IsProved}
 use Rattle.library.specs.UseMarks.{is_marked, place_of, AreWanted, ItemsMeet, ProofMeets, TellsMeeting, listed_in, ListsNone, ListsSome}
-use Rattle.library.proofs.BaseLemmas.{take-front}
 use Rattle.library.proofs.FrontLemmas.{AreHypothesesAt, hypotheses-at}
 use Rattle.library.proofs.WrittenItemsLemmas.{stands-bare}
-use Rattle.frame.proofs.ActiveBehind.{not-both}
 use Rattle.frame.proofs.PositionLemmas.{positions-end}
 use Rattle.library.proofs.UseMarkLemmas.{meets-items}
 use Rattle.library.proofs.MayCiteLemmas.{kind-labelled, cited-label}
@@ -166,7 +166,7 @@ late-meets S marks words left n count old wanted numbers found tested same once 
 
 module _ (tokens words : List Name) (mandatory count : ℕ) (numbers : List ℕ) (h : IsHeading tokens mandatory words count numbers) where
   listed-is : take count words ≡ h.listed
-  listed-is = ap (λ n. take n words) (sym h.many) ∙ (ap (take (length h.listed)) h.whole ∙ take-front h.listed (finish ∷ h.rest))
+  listed-is = ap (λ n. take n words) (sym h.many) ∙ (ap (take (length h.listed)) h.whole ∙ take-append_seam h.listed (finish ∷ h.rest))
 
   pub tells-heading : (S : Database) (labels : List Name) (marks : List Bool) (found : Bool) → length labels ≡ mandatory
       → (found ≡ true ↔ ItemsMeet S (items_of (labels ++ take count words) numbers) marks) → TellsMeeting S labels tokens marks found
@@ -234,7 +234,7 @@ module _ (S F : Database) (same : F ≡ bares S) (good : Good S) (at : ℕ) (s :
       (subst (λ r. Writes (proof_of r) (mandatory_labels (bares S) at r) p.items) (sym (same-statement S at s p.stmt provable p.provable)) p.written)
 
   packed-here : (items : List Item) → is_compressed tokens ≡ true → Writes tokens (mandatory_labels (bares S) at s) items → WritesPacked tokens (mandatory_labels (bares S) at s) items
-  packed-here items compressed written = elim written [ inl packed ↦ packed.1 | inr plain ↦ absurd (not-both (is_compressed tokens) compressed plain.0) ]
+  packed-here items compressed written = elim written [ inl packed ↦ packed.1 | inr plain ↦ absurd (both_ways (is_compressed tokens) plain.0 compressed) ]
 
   pub told-meets : is_compressed tokens ≡ true → (found : Bool) → ((r : Stmt) → stmt_at F at ≡ Some r → TellsMeeting F (mandatory_labels F at r) tokens marks found) → found ≡ true ↔ ProofMeets S at marks
   told-meets compressed found told =
@@ -250,7 +250,7 @@ module _ (S F : Database) (same : F ≡ bares S) (good : Good S) (at : ℕ) (s :
       ((λ f. meets.0 (m.2.0 f)), λ q. m.2.1 (meets.1 q))
 
   plain-here : (items : List Item) → is_compressed tokens ≡ false → Writes tokens (mandatory_labels (bares S) at s) items → WritesPlain tokens items
-  plain-here items plain written = elim written [ inl packed ↦ absurd (not-both (is_compressed tokens) packed.0 plain) | inr w ↦ w.1 ]
+  plain-here items plain written = elim written [ inl packed ↦ absurd (both_ways (is_compressed tokens) plain packed.0) | inr w ↦ w.1 ]
 
   -- what the tokens of a normal proof list is what it cites
   pub listed-meets : is_compressed tokens ≡ false → (found : Bool) → (found ≡ false → ListsNone F tokens marks) → (found ≡ true → ListsSome F tokens marks) → found ≡ true ↔ ProofMeets S at marks

@@ -1,6 +1,7 @@
 -- From the verifier's answer to whether a `$p` is proved.
-use Rattle.std.specs.Prelude.{◌≡◌, ℕ, zero, suc, ◌+◌, ◌-◌, ◌<◌, ◌≤◌, ◌⊎◌, ◌↔◌, refl, true, false, IsTrue, List, map, Option, Some, None, Result, Ok, Err, IfOk, MatchOption}
-use Rattle.std.proofs.Common.{sym, ◌∙◌, ap, subst, inl, inr, arith}
+use Rattle.std.specs.Prelude.{◌≡◌, ℕ, ◌-◌, ◌<◌, ◌≤◌, ◌⊎◌, ◌↔◌, refl, true, false, IsTrue, List, map, Option, Some, None, Result, Ok, Err, IfOk, MatchOption}
+use Rattle.std.proofs.Common.{sym, ◌∙◌, ap, subst, inl, inr}
+use Rattle.std.proofs.lemmas.Bool.{both_ways}
 use Rattle.mm_lex.specs.Alphabet.{Name}
 use Rattle.mm_read.specs.declared.stmt.Stmt.{Stmt}
 use Rattle.mm_read.specs.Statements.{Database}
@@ -15,8 +16,7 @@ use Rattle.verify.specs.Proves.{label_or_none, mandatory_labels, Proves}
 use Rattle.verify.specs.Right.{IsProvable, IsRight, Says}
 use Rattle.verify.proofs.RightLemmas.{provable-bare}
 use Rattle.library.specs.Judging.{StandsProved}
-use Rattle.frame.proofs.ActiveBehind.{not-both}
-use Rattle.proof_code.proofs.OneList.{one_answer}
+use Rattle.proof_code.proofs.OneList.{one_answer, malformed-none}
 use Rattle.library.proofs.FrontLemmas.{hypotheses-bare}
 
 -- ---- items
@@ -33,22 +33,19 @@ module _ (tokens mandatory : List Name) (r : Result (List Item) CodeFault) (foun
   pub packed-found : is_compressed tokens ≡ true → IfOk r (λ items. WritesPacked tokens mandatory items) → (r ≡ Err Malformed) ↔ IsMalformed tokens (WritesPacked tokens mandatory) → Found tokens mandatory found
   packed-found compressed items malformed = by found w
     where
-      malformed-none : r ≡ Err Malformed → (other : List Item) → Writes tokens mandatory other → ⊥
-      malformed-none e other q = elim q [ inl p ↦ (malformed.0 e).1 other p.1 | inr p ↦ not-both (is_compressed tokens) compressed p.0 ]
-
       by : (found : Option (List Item)) → Written r found → Found tokens mandatory found
       by (Some items') e = inl (compressed, subst (λ q. IfOk q (λ is. WritesPacked tokens mandatory is)) e items)
-      by None e = elim e [ inl u ↦ (λ other w. (one_answer tokens mandatory).finished other w (unfinished.0 u)) | inr m ↦ malformed-none m ]
+      by None e = elim e [ inl u ↦ (λ other w. (one_answer tokens mandatory).finished other w (unfinished.0 u)) | inr m ↦ malformed-none tokens mandatory compressed (malformed.0 m) ]
 
   pub normal-found : is_compressed tokens ≡ false → IfOk r (λ items. WritesPlain tokens items) → (r ≡ Err Malformed) ↔ IsMalformed tokens (WritesPlain tokens) → Found tokens mandatory found
   normal-found plain items malformed = by found w
     where
-      malformed-none : r ≡ Err Malformed → (other : List Item) → Writes tokens mandatory other → ⊥
-      malformed-none e other q = elim q [ inl p ↦ not-both (is_compressed tokens) p.0 plain | inr p ↦ (malformed.0 e).1 other p.1 ]
+      none : r ≡ Err Malformed → (other : List Item) → Writes tokens mandatory other → ⊥
+      none e other q = elim q [ inl p ↦ both_ways (is_compressed tokens) plain p.0 | inr p ↦ (malformed.0 e).1 other p.1 ]
 
       by : (found : Option (List Item)) → Written r found → Found tokens mandatory found
       by (Some items') e = inr (plain, subst (λ q. IfOk q (λ is. WritesPlain tokens is)) e items)
-      by None e = elim e [ inl u ↦ (λ other w. (one_answer tokens mandatory).finished other w (unfinished.0 u)) | inr m ↦ malformed-none m ]
+      by None e = elim e [ inl u ↦ (λ other w. (one_answer tokens mandatory).finished other w (unfinished.0 u)) | inr m ↦ none m ]
 
 -- ---- proofs
 
@@ -109,13 +106,6 @@ stands-other S at s here other r p = absurd (other (ap is_provable (let e : Some
 
 abbrev pub AreProved : Database → ℕ → ℕ → Type 0
 AreProved S front end = (at : ℕ) → front < at → at ≤ end → StandsProved S at
-
-pub proved-more : (S : Database) (front end : ℕ) → AreProved S front end → StandsProved S (end + 1) → AreProved S front (end + 1)
-proved-more S front end before here at above within = by (end + 1 - at) refl
-  where
-    by : (n : ℕ) → end + 1 - at ≡ n → StandsProved S at
-    by zero e = subst (StandsProved S) (omega (arith, e, within)) here
-    by (suc n) e = before at above (omega (arith, e))
 
 -- ---- results
 

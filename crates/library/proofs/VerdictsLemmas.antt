@@ -1,24 +1,16 @@
 -- The table of verdicts is their list: what is looked up, and what is added.
-use Rattle.std.specs.Prelude.{◌≡◌, ℕ, Bool, true, false, ◌&&◌, ◌==◌, cond, List, [], ◌∷◌, ◌++◌, Option, Some, None, IfSome, refl}
+use Rattle.std.specs.Prelude.{◌≡◌, ℕ, Bool, true, false, ◌&&◌, ◌==◌, cond, List, [], ◌∷◌, ◌++◌, Some, None, IfSome, refl}
 use Rattle.std.specs.Map.{lookup}
 use Rattle.std.proofs.Common.{◌∙◌, ap}
+use Rattle.scope.proofs.KindsLemmas.{none-cond}
 use Rattle.indexmap.specs.IndexMap.{insert_entry}
 use Rattle.library.specs.declared.verdict.Verdict.{Verdict}
-use Rattle.mm_read.specs.Statements.{Database}
-use Rattle.library.specs.declared.entry.Entry.{Entry}
-use Rattle.library.specs.declared.entry.Entry.TheVariants.{Text, Charter}
-use Rattle.library.specs.declared.verdict.Verdict.TheVariants.{Added, Nothing, Repeat, Refused}
 use Rattle.library.specs.LibraryOf.{Decided, status}
 use Rattle.library.specs.Ledger.{decided_of, IsDecision, AreDecisions}
-use Rattle.library.specs.Judging.{Judges}
 
 pub lookup-status : (author serial : ℕ) (es : List ((ℕ × ℕ) × Verdict)) → lookup (λ k. (author == k.0) && (serial == k.1)) es ≡ status (decided_of es) author serial
 lookup-status author serial [] = refl
 lookup-status author serial (e ∷ es) = ap (λ r. cond ((author == e.0.0) && (serial == e.0.1)) (Some e.1) r) (lookup-status author serial es)
-
-none-cond : {A : Type 0} (b : Bool) (x : A) (r : Option A) → cond b (Some x) r ≡ None → (b ≡ false) × (r ≡ None)
-none-cond true x r h = cc
-none-cond false x r h = (refl, h)
 
 -- what was not decided goes last
 pub decided_of-insert : (author serial : ℕ) (v : Verdict) (es : List ((ℕ × ℕ) × Verdict)) → status (decided_of es) author serial ≡ None
@@ -42,13 +34,3 @@ status-decided author serial (d ∷ ds) are = by ((author == d.author) && (seria
 pub decisions-more : (ds : List Decided) (d : Decided) → AreDecisions ds → IsDecision d.verdict → AreDecisions (ds ++ d ∷ [])
 decisions-more [] d are is = (is, tt)
 decisions-more (first ∷ ds) d are is = (are.0, decisions-more ds d are.1 is)
-
-pub judges-decision : (L L' : Database) (charter charter' : Option (List ℕ)) (entry : Entry) (v : Verdict) → Judges L charter entry v L' charter' → IsDecision v
-judges-decision L L' charter charter' (Text submission) Added j = tt
-judges-decision L L' charter charter' (Text submission) (Refused cause) j = tt
-judges-decision L L' charter charter' (Text submission) Nothing j = absurd j.0
-judges-decision L L' charter charter' (Text submission) Repeat j = absurd j.0
-judges-decision L L' charter charter' (Charter author serial names) Added j = tt
-judges-decision L L' charter charter' (Charter author serial names) (Refused cause) j = tt
-judges-decision L L' charter charter' (Charter author serial names) Nothing j = absurd j.0
-judges-decision L L' charter charter' (Charter author serial names) Repeat j = absurd j.0

@@ -4,24 +4,19 @@ use Rattle.std.specs.List.{list_all, position, position_or_len}
 use Rattle.std.proofs.Common.{cond, ltb-true, sym, ◌∙◌, ap, arith, get_or}
 use Rattle.std.proofs.lemmas.List.Sums.{passes_at_first}
 use Rattle.std.proofs.Math.Seq.{take-length}
-use Rattle.std.proofs.lemmas.Bool.{not-true}
+use Rattle.std.proofs.lemmas.Bool.{not-true, and_parts}
+use Rattle.std.proofs.Math.Bool.{not-not}
 use Rattle.mm_lex.specs.Alphabet.{is_allowed}
 use Rattle.mm_lex.specs.Tokens.{IsClean}
 use Rattle.mm_lex.specs.TextFaults.{IsFirstBadByte}
 use Rattle.mm_lex.proofs.RunsLemmas.{all_before, found_at, found_none}
-use Rattle.mm_lex.proofs.WordsLemmas.{and_left, and_right}
 
 abbrev pub is_bad : ℕ → Bool
 is_bad b = not (is_allowed b)
 
--- a Boolean denied twice is itself
-pub twice_not : (t : Bool) → t ≡ not (not t)
-twice_not true = refl
-twice_not false = refl
-
 -- the bytes before the first bad one are allowed
 allowed_before : (text : List ℕ) → list_all is_allowed (take (position_or_len is_bad text) text) ≡ true
-allowed_before text = all_before is_bad is_allowed (λ b. twice_not (is_allowed b)) text
+allowed_before text = all_before is_bad is_allowed (λ b. sym (not-not (is_allowed b))) text
 
 pub IsFirstBadByte-found : (text : List ℕ) (offset : ℕ) → Some offset ≡ position is_bad text → IsFirstBadByte text offset
 IsFirstBadByte-found text offset found =
@@ -45,7 +40,7 @@ first_is : (text : List ℕ) (offset : ℕ) → offset < length text → is_allo
 first_is [] offset inside bad before = absurd (omega (arith, inside))
 first_is (b ∷ text) zero inside bad before = rw bad refl
 first_is (b ∷ text) (suc offset) inside bad before =
-    first_step b text offset (and_left _ _ before) (first_is text offset (omega (arith, inside)) bad (and_right _ _ before))
+    first_step b text offset (and_parts (is_allowed b) (list_all is_allowed (take offset text)) before).0 (first_is text offset (omega (arith, inside)) bad (and_parts (is_allowed b) (list_all is_allowed (take offset text)) before).1)
 
 pub IsFirstBadByte-place : (text : List ℕ) (offset : ℕ) → IsFirstBadByte text offset → position_or_len is_bad text ≡ offset
 IsFirstBadByte-place text offset is = first_is text offset is.inside is.bad is.before
@@ -53,7 +48,7 @@ IsFirstBadByte-place text offset is = first_is text offset is.inside is.bad is.b
 -- in a clean text the search for a bad byte goes to the end
 clean_is : (text : List ℕ) → list_all is_allowed text ≡ true → position_or_len is_bad text ≡ length text
 clean_is [] h = refl
-clean_is (b ∷ text) h = first_step b text (length text) (and_left _ _ h) (clean_is text (and_right _ _ h))
+clean_is (b ∷ text) h = first_step b text (length text) (and_parts (is_allowed b) (list_all is_allowed text) h).0 (clean_is text (and_parts (is_allowed b) (list_all is_allowed text) h).1)
 
 -- a text is clean or has a text fault, not both
 pub IsClean-no_fault : (text : List ℕ) (offset : ℕ) → IsClean text → IsFirstBadByte text offset → ⊥

@@ -3,7 +3,7 @@ use Rattle.std.specs.Prelude.{◌≡◌, ℕ, ◌≤◌, true, List, [], ◌∷�
 use Rattle.std.proofs.Common.{sym, ◌∙◌, ap, arith, subst, append_assoc}
 use Rattle.std.proofs.lemmas.List.{append-nil, map-append}
 use Rattle.std.proofs.Math.Seq.{drop-length}
-use Rattle.std.proofs.lemmas.Bool.{and_from}
+use Rattle.std.proofs.lemmas.Bool.{and_from, and_parts}
 use Rattle.mm_lex.specs.declared.span.Span.{Span}
 use Rattle.mm_lex.specs.declared.fault.LexFault.{LexFault}
 use Rattle.mm_lex.specs.declared.fault.LexFault.TheVariants.{Text, Comment, Memory}
@@ -14,7 +14,6 @@ use Rattle.mm_lex.specs.Comments.{runs_behind, IsClosedAt}
 use Rattle.mm_lex.specs.Between.{HasBetween, AreBehind, StopsBehind, FailsBehind}
 use Rattle.mm_lex.proofs.Cutting.{Outcome, prepend, scan, scan_cut, scan-cut, scan-stops}
 use Rattle.mm_lex.proofs.CuttingMeans.{with_plain, with_comment, cuts_as, no_runs, cut-scan, stops-scan}
-use Rattle.mm_lex.proofs.WordsLemmas.{and_left, and_right}
 
 -- the runs behind comments
 abbrev outer : List Part → List Span
@@ -27,7 +26,7 @@ module _ {text : List ℕ} where
   plain_cut : (front spans tokens : List Span) → AllPlain text front → Cuts text spans tokens → Cuts text (front ++ spans) (front ++ tokens)
   plain_cut [] spans tokens are cut = cut
   plain_cut (s ∷ front) spans tokens are cut =
-      with_plain text s (front ++ spans) (front ++ tokens) (and_left (is_plain (word text s)) _ are) (plain_cut front spans tokens (and_right (is_plain (word text s)) _ are) cut)
+      with_plain text s (front ++ spans) (front ++ tokens) (and_parts (is_plain (word text s)) _ are).0 (plain_cut front spans tokens (and_parts (is_plain (word text s)) _ are).1 cut)
 
   -- plain runs and whole comments before a cut
   parts_cut : (first : List Span) (ps : List Part) (spans tokens : List Span) → AllPlain text first → AreParts text ps → Cuts text spans tokens

@@ -1,13 +1,13 @@
 -- The cut at the comments, read once from left to right: it gives tokens exactly where there is a cut,
 -- and else the offset of the comment fault.
-use Rattle.std.specs.Prelude.{◌≡◌, ℕ, Bool, true, false, not, ◌||◌, List, [], ◌∷◌, ◌++◌, flat_map, Option, Some, None, Result, Ok, Err, refl}
+use Rattle.std.specs.Prelude.{◌≡◌, ℕ, Bool, true, false, ◌||◌, List, [], ◌∷◌, ◌++◌, flat_map, Option, Some, None, Result, Ok, Err, refl}
 use Rattle.std.proofs.Common.{sym, ◌∙◌, ap, inl, inr, append_assoc}
 use Rattle.std.proofs.lemmas.List.{append-nil}
+use Rattle.std.proofs.lemmas.Bool.{and_parts, or_parts, not-true}
 use Rattle.mm_lex.specs.declared.span.Span.{Span}
 use Rattle.mm_lex.specs.Alphabet.{name_eq, word}
 use Rattle.mm_lex.specs.Tokens.{opener, closer, is_plain, AllPlain, Part, part_spans, IsPart, AreParts, Cuts}
 use Rattle.mm_lex.specs.TextFaults.{IsStrayCloser, IsNestedOpener, IsUnclosed, StopsAt}
-use Rattle.mm_lex.proofs.WordsLemmas.{and_left, and_right}
 
 -- the tokens, or the offset at which the cut stops
 abbrev pub Outcome : Type 0
@@ -45,17 +45,6 @@ prepend-nil (Err offset) = refl
 pub prepend-append : (xs ys : List Span) (r : Outcome) → prepend xs (prepend ys r) ≡ prepend (xs ++ ys) r
 prepend-append xs ys (Ok rest) = ap Ok (sym (append_assoc xs ys rest))
 prepend-append xs ys (Err offset) = refl
-
--- a plain run does not open a comment
-no_opener : (a b : Bool) → not (a || b) ≡ true → a ≡ false
-no_opener true b h = cc
-no_opener false b h = refl
-
--- .. nor closes one
-no_closer : (a b : Bool) → not (a || b) ≡ true → b ≡ false
-no_closer true b h = cc
-no_closer false true h = cc
-no_closer false false h = refl
 
 module _ (text : List ℕ) where
   abbrev pub opens : Span → Bool
@@ -112,18 +101,20 @@ module _ (text : List ℕ) where
   pub scan_all_plain : (xs ys : List Span) → AllPlain text xs → scan text (xs ++ ys) None ≡ prepend xs (scan text ys None)
   scan_all_plain [] ys h = sym (prepend-nil (scan text ys None))
   scan_all_plain (s ∷ xs) ys h =
-      let here : is_plain (word text s) ≡ true = and_left _ _ h in
-      let rest : AllPlain text xs = and_right _ _ h in
-      scan_plain s (xs ++ ys) (no_opener (opens s) (closes s) here) (no_closer (opens s) (closes s) here)
+      let here : is_plain (word text s) ≡ true = (and_parts (is_plain (word text s)) _ h).0 in
+      let rest : AllPlain text xs = (and_parts (is_plain (word text s)) _ h).1 in
+      let none = or_parts (opens s) (closes s) (not-true (opens s || closes s) here) in
+      scan_plain s (xs ++ ys) none.0 none.1
       ∙ (ap (prepend (s ∷ [])) (scan_all_plain xs ys rest) ∙ prepend-append (s ∷ []) xs (scan text ys None))
 
   -- plain runs inside of a comment are passed over
   pub scan_all_inside : (xs ys : List Span) (offset : ℕ) → AllPlain text xs → scan text (xs ++ ys) (Some offset) ≡ scan text ys (Some offset)
   scan_all_inside [] ys offset h = refl
   scan_all_inside (s ∷ xs) ys offset h =
-      let here : is_plain (word text s) ≡ true = and_left _ _ h in
-      scan_inside s (xs ++ ys) offset (no_opener (opens s) (closes s) here) (no_closer (opens s) (closes s) here)
-      ∙ scan_all_inside xs ys offset (and_right _ _ h)
+      let here : is_plain (word text s) ≡ true = (and_parts (is_plain (word text s)) _ h).0 in
+      let none = or_parts (opens s) (closes s) (not-true (opens s || closes s) here) in
+      scan_inside s (xs ++ ys) offset none.0 none.1
+      ∙ scan_all_inside xs ys offset (and_parts (is_plain (word text s)) _ h).1
 
   -- ---- a cut, and then other runs
 

@@ -2,7 +2,7 @@
 use Rattle.std.specs.Prelude.{◌≡◌, ℕ, ◌+◌, ◌<◌, ◌≤◌, Bool, true, false, not, cond, nat_le, nat_lt, List, [], ◌∷◌, length, take, drop, map, refl}
 use Rattle.std.specs.List.{list_all, position_or_len, prefix_len}
 use Rattle.std.proofs.Common.{sym, ◌∙◌, ap, arith, leb, ltb, eqb, replicate, w8, ◌%◌, ◌^◌}
-use Rattle.std.proofs.lemmas.Bool.{eqb-true, eqb-false}
+use Rattle.std.proofs.lemmas.Bool.{eqb-true, eqb-false, and_parts}
 use Rattle.std.specs.Simd.Lanes.{zip2, mask_l, top}
 use Rattle.std.specs.Int.Count.{count_trailing_zeros}
 use Rattle.std.proofs.lemmas.Simd.{bitmask_splat, tops_compared, zip2_splat_left, mask_l-mod, trailing_mask_l, leading_from_mask_l}
@@ -10,7 +10,6 @@ use Rattle.std.proofs.lemmas.List.{length-map, take-append-drop, length-drop, le
 use Rattle.std.proofs.lemmas.List.Folds.{prefix_len-append, list_all-append}
 use Rattle.mm_lex.specs.Alphabet.{is_white, is_allowed}
 use Rattle.mm_lex.specs.Tokens.{IsClean}
-use Rattle.mm_lex.proofs.WordsLemmas.{and_left, and_right}
 
 abbrev pub is_low : ℕ → Bool
 is_low b = nat_le b 32
@@ -29,18 +28,18 @@ is_low-white b h = by (is_low b) (is_white b) refl refl
 
 pub clean-drop : (n : ℕ) (text : List ℕ) → IsClean text → IsClean (drop n text)
 clean-drop n text clean =
-    and_right (list_all is_allowed (take n text)) _ (sym (list_all-append is_allowed (take n text) (drop n text)) ∙ (ap (list_all is_allowed) (take-append-drop n text) ∙ clean))
+    (and_parts (list_all is_allowed (take n text)) (list_all is_allowed (drop n text)) (sym (list_all-append is_allowed (take n text) (drop n text)) ∙ (ap (list_all is_allowed) (take-append-drop n text) ∙ clean))).1
 
 pub clean-take : (n : ℕ) (text : List ℕ) → IsClean text → IsClean (take n text)
 clean-take n text clean =
-    and_left (list_all is_allowed (take n text)) (list_all is_allowed (drop n text)) (sym (list_all-append is_allowed (take n text) (drop n text)) ∙ (ap (list_all is_allowed) (take-append-drop n text) ∙ clean))
+    (and_parts (list_all is_allowed (take n text)) (list_all is_allowed (drop n text)) (sym (list_all-append is_allowed (take n text) (drop n text)) ∙ (ap (list_all is_allowed) (take-append-drop n text) ∙ clean))).0
 
 -- in a clean text the first byte up to the space is the first white one
 pub low_is_white : (text : List ℕ) → IsClean text → position_or_len is_low text ≡ position_or_len is_white text
 low_is_white [] clean = refl
 low_is_white (b ∷ text) clean =
-    ap (λ t. cond (not t) (1 + position_or_len is_low text) 0) (is_low-white b (and_left (is_allowed b) _ clean))
-    ∙ ap (λ n. cond (not (is_white b)) (1 + n) 0) (low_is_white text (and_right (is_allowed b) _ clean))
+    ap (λ t. cond (not t) (1 + position_or_len is_low text) 0) (is_low-white b (and_parts (is_allowed b) _ clean).0)
+    ∙ ap (λ n. cond (not (is_white b)) (1 + n) 0) (low_is_white text (and_parts (is_allowed b) _ clean).1)
 
 abbrev pub is_high : ℕ → Bool
 is_high b = nat_lt 32 b
@@ -58,8 +57,8 @@ is_high-shown b h = by (is_high b) (is_white b) refl refl
 pub high_is_shown : (text : List ℕ) → IsClean text → position_or_len is_high text ≡ position_or_len (λ b. not (is_white b)) text
 high_is_shown [] clean = refl
 high_is_shown (b ∷ text) clean =
-    ap (λ t. cond (not t) (1 + position_or_len is_high text) 0) (is_high-shown b (and_left (is_allowed b) _ clean))
-    ∙ ap (λ n. cond (not (not (is_white b))) (1 + n) 0) (high_is_shown text (and_right (is_allowed b) _ clean))
+    ap (λ t. cond (not t) (1 + position_or_len is_high text) 0) (is_high-shown b (and_parts (is_allowed b) _ clean).0)
+    ∙ ap (λ n. cond (not (not (is_white b))) (1 + n) 0) (high_is_shown text (and_parts (is_allowed b) _ clean).1)
 
 -- ---- a mask
 

@@ -1,5 +1,5 @@
 -- The test whether two names are the same tells it.
-use Rattle.std.specs.Prelude.{◌≡◌, true, refl}
+use Rattle.std.specs.Prelude.{◌≡◌, true, refl, Bool, false, cond, ◌||◌}
 use Rattle.std.proofs.lemmas.Slice.Eq.{bytes_eq-Decides}
 use Rattle.mm_lex.specs.Alphabet.{Name, name_eq}
 
@@ -10,3 +10,10 @@ name_same x = (bytes_eq-Decides x x).1 refl
 -- names that the test finds the same are one
 pub same_name : (x y : Name) → name_eq x y ≡ true → x ≡ y
 same_name x y h = (bytes_eq-Decides x y).0 h
+
+-- a test that is tried before others is one behind them
+pub tried_first : (a b : Bool) → cond a true b ≡ (b || (a || false))
+tried_first true true = refl
+tried_first true false = refl
+tried_first false true = refl
+tried_first false false = refl

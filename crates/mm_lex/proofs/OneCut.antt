@@ -1,10 +1,10 @@
 -- The cut at the comments is unique: a list of plain runs ends where the first run stands that is not plain.
 use Rattle.std.specs.Prelude.{◌≡◌, ℕ, true, false, List, [], ◌∷◌, ◌++◌, flat_map, refl}
 use Rattle.std.proofs.Common.{sym, ◌∙◌, ap, true≢false, append_assoc}
+use Rattle.std.proofs.lemmas.Bool.{and_parts}
 use Rattle.mm_lex.specs.declared.span.Span.{Span}
 use Rattle.mm_lex.specs.Alphabet.{word}
 use Rattle.mm_lex.specs.Tokens.{opener, closer, is_plain, AllPlain, Part, part_spans, AreParts, Cuts}
-use Rattle.mm_lex.proofs.WordsLemmas.{and_left, and_right}
 
 module _ (text : List ℕ) where
   -- the runs are none, or begin with one that is not plain
@@ -25,14 +25,14 @@ module _ (text : List ℕ) where
   same_split [] [] rs ss h k m n e = record { front = refl; back = e }
   same_split [] (y ∷ ys) [] ss h k m n e = cc
   same_split [] (y ∷ ys) (r ∷ rs) ss h k m n e =
-      let same : r ≡ y = cc in absurd (unmarked y r (sym same) (and_left _ _ k) m)
+      let same : r ≡ y = cc in absurd (unmarked y r (sym same) (and_parts (is_plain (word text y)) _ k).0 m)
   same_split (x ∷ xs) [] rs [] h k m n e = cc
   same_split (x ∷ xs) [] rs (s ∷ ss) h k m n e =
-      let same : x ≡ s = cc in absurd (unmarked x s same (and_left _ _ h) n)
+      let same : x ≡ s = cc in absurd (unmarked x s same (and_parts (is_plain (word text x)) _ h).0 n)
   same_split (x ∷ xs) (y ∷ ys) rs ss h k m n e =
       let first : x ≡ y = cc in
       let rest : xs ++ rs ≡ ys ++ ss = cc in
-      let more = same_split xs ys rs ss (and_right _ _ h) (and_right _ _ k) m n rest in
+      let more = same_split xs ys rs ss (and_parts (is_plain (word text x)) _ h).1 (and_parts (is_plain (word text y)) _ k).1 m n rest in
       record { front = let front = more.front in cc; back = more.back }
 
   -- a `$(` is not plain

@@ -6,16 +6,15 @@ use Rattle.std.proofs.lemmas.List.{append-nil, length-take, length-drop}
 use Rattle.std.proofs.lemmas.List.Elements.{All-push}
 use Rattle.std.proofs.lemmas.List.Folds.{list_all-append}
 use Rattle.std.proofs.lemmas.Slice.Eq.{bytes_eq-Decides}
-use Rattle.std.proofs.lemmas.Bool.{and_from}
+use Rattle.std.proofs.lemmas.Bool.{and_from, and_parts}
 use Rattle.mm_lex.specs.declared.span.Span.{Span}
 use Rattle.mm_lex.specs.Alphabet.{Name, is_white, is_visible, is_allowed, runs, word, IsRunAt}
 use Rattle.mm_lex.specs.Words.{is_word}
 use Rattle.mm_lex.specs.Tokens.{opener, closer, is_plain, AllPlain, IsClean, AreTokens, IsWordAt}
 use Rattle.mm_lex.specs.TextFaults.{IsCommentFault}
 use Rattle.mm_lex.specs.Comments.{runs_behind, PassesPlain, IsClosedAt, IsNestedAt}
-use Rattle.mm_lex.proofs.WordsLemmas.{and_left, and_right}
 use Rattle.mm_lex.proofs.LanesLemmas.{clean-take, clean-drop}
-use Rattle.mm_lex.proofs.Cutting.{prepend, prepend-nil, prepend-append, scan, opens, closes, scan_opener, scan_closer, scan_plain, scan_nested, scan_closing, scan_all_inside, is_opener, is_closer, closer_no_opener, scan-stops}
+use Rattle.mm_lex.proofs.Cutting.{prepend, prepend-append, scan, opens, closes, scan_opener, scan_closer, scan_plain, scan_nested, scan_closing, scan_all_inside, is_opener, is_closer, closer_no_opener, scan-stops}
 use Rattle.mm_lex.proofs.CuttingMeans.{cut-scan, stops-scan, plain}
 
 -- ---- a run of a clean text is a word
@@ -30,8 +29,8 @@ visible_byte false false h k = cc
 all_visible : (bytes : Name) → list_all is_allowed bytes ≡ true → list_all (λ b. not (is_white b)) bytes ≡ true → list_all is_visible bytes ≡ true
 all_visible [] h k = refl
 all_visible (b ∷ bytes) h k =
-    and_from (is_visible b) _ (visible_byte (is_visible b) (is_white b) (and_left (is_allowed b) _ h) (and_left (not (is_white b)) _ k))
-    (all_visible bytes (and_right (is_allowed b) _ h) (and_right (not (is_white b)) _ k))
+    and_from (is_visible b) _ (visible_byte (is_visible b) (is_white b) (and_parts (is_allowed b) _ h).0 (and_parts (not (is_white b)) _ k).0)
+    (all_visible bytes (and_parts (is_allowed b) _ h).1 (and_parts (not (is_white b)) _ k).1)
 
 -- visible bytes, at least one, are a word
 some_word : (bytes : Name) → 0 < length bytes → list_all is_visible bytes ≡ true → is_word bytes ≡ true
@@ -50,10 +49,6 @@ IsWordAt-run text s clean is =
 
 -- ---- inside of a comment
 
--- from a place to itself no run is passed
-pub inside_start : (text : List ℕ) (from : ℕ) → from ≤ length text → PassesPlain text from from
-inside_start text from within = record { passed = []; later = omega arith; within = within; whole = refl; plain = refl }
-
 -- and on from there
 pub passes_on : {text : List ℕ} {from at end : ℕ} → PassesPlain text from at → PassesPlain text at end → PassesPlain text from end
 passes_on {text} {from} {at} {end} so more = record {
@@ -66,7 +61,7 @@ passes_on {text} {from} {at} {end} so more = record {
 
 all_plain-push : (text : List ℕ) (xs : List Span) (s : Span) → AllPlain text xs → is_plain (word text s) ≡ true → AllPlain text (xs ++ s ∷ [])
 all_plain-push text [] s h k = and_from _ _ k refl
-all_plain-push text (x ∷ xs) s h k = and_from (is_plain (word text x)) _ (and_left (is_plain (word text x)) _ h) (all_plain-push text xs s (and_right (is_plain (word text x)) _ h) k)
+all_plain-push text (x ∷ xs) s h k = and_from (is_plain (word text x)) _ (and_parts (is_plain (word text x)) _ h).0 (all_plain-push text xs s (and_parts (is_plain (word text x)) _ h).1 k)
 
 module _ {text : List ℕ} {from at : ℕ} (so : PassesPlain text from at) where
   module _ (s : Span) (run : runs_behind text at ≡ s ∷ runs_behind text s.end) (is : IsRunAt text s) (later : at ≤ s.start) where
@@ -120,14 +115,6 @@ pub record Cut (text : List ℕ) (spans : List Span) (refused : Bool) (at : ℕ)
   pub whole : scan text (runs text) None ≡ prepend tokens (scan text (runs_behind text at) None)
   pub kept : refused ≡ false → spans ≡ tokens
   pub words : All (IsWordAt text) spans
-
--- the runs behind the first place are all runs
-runs_start : (text : List ℕ) → runs_behind text 0 ≡ runs text
-runs_start text = refl
-
--- nothing is read, and no growth was refused
-pub cut_start : (text : List ℕ) → Cut text [] false 0
-cut_start text = record { tokens = []; within = omega arith; whole = sym (prepend-nil (scan text (runs text) None)); kept = λ e. refl; words = λ k d h. absurd (omega (arith, h)) }
 
 -- a token more is kept, where no growth was refused before or now
 kept_push : (refused r : Bool) (spans tokens : List Span) (s : Span) → (refused ≡ false → spans ≡ tokens) → (refused ≡ true → r ≡ true)

@@ -141,11 +141,6 @@ stretch_byte : (xs : List ℕ) → 0 < length xs → ends_here xs ≡ false → 
 stretch_byte [] some e = absurd (omega (arith, some))
 stretch_byte (b ∷ xs) some e = one_step (ends_here (b ∷ xs)) (stretch xs) e
 
--- where they end at the first byte, there is no stretch
-pub stretch_none : (xs : List ℕ) → ends_here xs ≡ true → stretch xs ≡ 0
-stretch_none [] e = refl
-stretch_none (b ∷ xs) e = rw e refl
-
 -- where they do not end at the next byte of the text, it is passed
 pub stretch_one : (text : List ℕ) (at : ℕ) → at < length text → stretch text ≡ at + stretch (drop at text) → ends_here (drop at text) ≡ false
     → stretch text ≡ at + 1 + stretch (drop (at + 1) text)

@@ -2,11 +2,11 @@
 use Rattle.std.specs.Prelude.{◌≡◌, ℕ, ◌<◌, zero, suc, Bool, true, false, not, cond, ◌&&◌, ◌||◌, ◌==◌, List, [], ◌∷◌, take, refl}
 use Rattle.std.specs.List.{list_all, slice_split, onto_first}
 use Rattle.std.proofs.Common.{sym, ◌∙◌, ap, arith}
-use Rattle.std.proofs.lemmas.Bool.{and_from}
+use Rattle.std.proofs.lemmas.Bool.{and_from, and_parts}
 use Rattle.mm_lex.specs.Alphabet.{Name, is_white, is_visible, is_allowed, starts_white, is_symbol, has_byte, is_empty}
 use Rattle.mm_lex.specs.Tokens.{IsClean}
 use Rattle.mm_lex.specs.Stored.Stretch.{stretch, ends_here, ends_between}
-use Rattle.mm_lex.proofs.WordsLemmas.{and_left, and_right, first_part}
+use Rattle.mm_lex.proofs.WordsLemmas.{first_part}
 
 abbrev pub is_space : ℕ → Bool
 is_space c = c == 32
@@ -89,14 +89,14 @@ two_more b c d bytes shown clean from behind false e = rw (stretch_on c (d ∷ b
 
 -- the stretch from a byte that is not white is tidy
 tidy_from : (b : ℕ) (bytes : List ℕ) → list_all is_allowed (b ∷ bytes) ≡ true → Tidies b bytes
-tidy_from b [] clean white goes = shown_byte b 32 (and_left (is_allowed b) _ clean) white goes
+tidy_from b [] clean white goes = shown_byte b 32 (and_parts (is_allowed b) _ clean).0 white goes
 tidy_from b (c ∷ []) clean white goes =
-    let next = and_right (is_allowed b) _ clean in
-    last_two b c (shown_byte b c (and_left (is_allowed b) _ clean) white goes) (and_left (is_allowed c) _ next) (tidy_from c [] next) (ends_here (c ∷ [])) refl
+    let next = (and_parts (is_allowed b) _ clean).1 in
+    last_two b c (shown_byte b c (and_parts (is_allowed b) _ clean).0 white goes) (and_parts (is_allowed c) _ next).0 (tidy_from c [] next) (ends_here (c ∷ [])) refl
 tidy_from b (c ∷ d ∷ bytes) clean white goes =
-    let next = and_right (is_allowed b) _ clean in
-    two_more b c d bytes (shown_byte b c (and_left (is_allowed b) _ clean) white goes) (and_left (is_allowed c) _ next)
-    (tidy_from c (d ∷ bytes) next) (tidy_from d bytes (and_right (is_allowed c) _ next)) (ends_here (c ∷ d ∷ bytes)) refl
+    let next = (and_parts (is_allowed b) _ clean).1 in
+    two_more b c d bytes (shown_byte b c (and_parts (is_allowed b) _ clean).0 white goes) (and_parts (is_allowed c) _ next).0
+    (tidy_from c (d ∷ bytes) next) (tidy_from d bytes (and_parts (is_allowed c) _ next).1) (ends_here (c ∷ d ∷ bytes)) refl
 
 -- a stretch of a clean text that does not start white is tidy
 pub stretch_tidy : (bytes : List ℕ) → IsClean bytes → starts_white bytes ≡ false → 0 < stretch bytes → is_tidy (take (stretch bytes) bytes) ≡ true
@@ -157,21 +157,21 @@ split_gap c bytes h = rw h refl
 module _ (b c : ℕ) (bytes : List ℕ) (tidy : is_tidy (b ∷ c ∷ bytes) ≡ true) where
   -- the first is a byte of a symbol
   pub first_byte : is_symbol_byte b ≡ true
-  first_byte = and_left (is_symbol_byte b) _ tidy
+  first_byte = (and_parts (is_symbol_byte b) _ tidy).0
 
   -- behind a space the bytes are tidy
   pub behind_gap : is_space c ≡ true → is_tidy bytes ≡ true
-  behind_gap e = ap (λ u. cond u (is_tidy bytes) (is_tidy (c ∷ bytes))) (sym e) ∙ and_right (is_symbol_byte b) _ tidy
+  behind_gap e = ap (λ u. cond u (is_tidy bytes) (is_tidy (c ∷ bytes))) (sym e) ∙ (and_parts (is_symbol_byte b) _ tidy).1
 
   -- behind another byte they are tidy with it
   pub behind_byte : is_space c ≡ false → is_tidy (c ∷ bytes) ≡ true
-  behind_byte e = ap (λ u. cond u (is_tidy bytes) (is_tidy (c ∷ bytes))) (sym e) ∙ and_right (is_symbol_byte b) _ tidy
+  behind_byte e = ap (λ u. cond u (is_tidy bytes) (is_tidy (c ∷ bytes))) (sym e) ∙ (and_parts (is_symbol_byte b) _ tidy).1
 
 -- a byte of a symbol put to the first of some symbols leaves symbols
 symbols_onto : (b : ℕ) (parts : List Name) (w : Name) (ws : List Name) → parts ≡ w ∷ ws → is_symbol_byte b ≡ true → list_all is_symbol parts ≡ true → list_all is_symbol (onto_first b parts) ≡ true
 symbols_onto b parts w ws e h k =
     let these = sym (ap (list_all is_symbol) e) ∙ k in
-    ap (λ r. list_all is_symbol (onto_first b r)) e ∙ and_from (is_symbol (b ∷ w)) _ (symbol_cons b w h (and_left (is_symbol w) _ these)) (and_right (is_symbol w) _ these)
+    ap (λ r. list_all is_symbol (onto_first b r)) e ∙ and_from (is_symbol (b ∷ w)) _ (symbol_cons b w h (and_parts (is_symbol w) _ these).0) (and_parts (is_symbol w) _ these).1
 
 abbrev AreSymbols : List ℕ → Type 0
 AreSymbols bytes = list_all is_symbol (split_of bytes) ≡ true

@@ -3,13 +3,12 @@ use Rattle.std.specs.Prelude.{◌≡◌, ℕ, ◌+◌, ◌-◌, ◌<◌, ◌≤�
 use Rattle.std.specs.List.{list_all, onto_first}
 use Rattle.std.proofs.Common.{sym, ◌∙◌, ap, arith}
 use Rattle.std.proofs.lemmas.List.{take-append-drop, drop-drop, length-take-le, length-drop}
-use Rattle.std.proofs.lemmas.Bool.{and_from}
+use Rattle.std.proofs.lemmas.Bool.{and_from, and_parts}
 use Rattle.mm_lex.specs.declared.span.Span.{Span}
 use Rattle.mm_lex.specs.Alphabet.{Name, is_white, is_visible, starts_white, with_byte, runs_from, word, is_symbol, has_byte}
 use Rattle.mm_lex.specs.Words.{words_of, is_word}
 use Rattle.mm_lex.specs.Tokens.{is_plain, AllPlain, IsClean, words}
 use Rattle.mm_lex.specs.Stored.Stretch.{stretch}
-use Rattle.mm_lex.proofs.WordsLemmas.{and_left, and_right}
 use Rattle.mm_lex.proofs.PlainLemmas.{append_step}
 use Rattle.mm_lex.proofs.TidyLemmas.{is_space, is_symbol_byte, is_tidy, stretch_tidy, space_is, not_white, split_of, split_byte, split_gap, first_byte, behind_gap, behind_byte, tidy_symbols}
 
@@ -52,7 +51,7 @@ word_more text at end b bytes e long =
 -- tidy bytes begin with a byte of a symbol
 head_byte : (c : ℕ) (bytes : List ℕ) → is_tidy (c ∷ bytes) ≡ true → is_symbol_byte c ≡ true
 head_byte c [] h = h
-head_byte c (d ∷ bytes) h = and_left (is_symbol_byte c) _ h
+head_byte c (d ∷ bytes) h = (and_parts (is_symbol_byte c) _ h).0
 
 module _ (text more : List ℕ) where
   -- a byte before others: behind it stands a gap and the next word, or the rest of its own word
@@ -120,12 +119,12 @@ words_of-some (b ∷ bytes) h = refl
 -- a symbol is a word
 symbol_word : (w : Name) → is_symbol w ≡ true → is_word w ≡ true
 symbol_word [] h = cc
-symbol_word (b ∷ w) h = and_left (list_all is_visible (b ∷ w)) _ h
+symbol_word (b ∷ w) h = (and_parts (list_all is_visible (b ∷ w)) _ h).0
 
 -- a symbol is plain, for it has no `$`
 symbol_plain : (w : Name) → is_symbol w ≡ true → is_plain w ≡ true
 symbol_plain [] h = cc
-symbol_plain (b ∷ w) h = rw (no_dollar b (has_byte 36 w) (and_right (list_all is_visible (b ∷ w)) _ h)) refl
+symbol_plain (b ∷ w) h = rw (no_dollar b (has_byte 36 w) (and_parts (list_all is_visible (b ∷ w)) _ h).1) refl
   where
     no_dollar : (b : ℕ) (t : Bool) → not ((b == 36) || t) ≡ true → (b == 36) ≡ false
     no_dollar b t h = by (b == 36) h
@@ -137,13 +136,13 @@ symbol_plain (b ∷ w) h = rw (no_dollar b (has_byte 36 w) (and_right (list_all 
 -- symbols are words
 pub symbols_words : (ws : List Name) → list_all is_symbol ws ≡ true → list_all is_word ws ≡ true
 symbols_words [] h = refl
-symbols_words (w ∷ ws) h = and_from _ _ (symbol_word w (and_left (is_symbol w) _ h)) (symbols_words ws (and_right (is_symbol w) _ h))
+symbols_words (w ∷ ws) h = and_from _ _ (symbol_word w (and_parts (is_symbol w) _ h).0) (symbols_words ws (and_parts (is_symbol w) _ h).1)
 
 -- runs whose words are symbols are plain
 symbols_plain : (text : List ℕ) (spans : List Span) → list_all is_symbol (words text spans) ≡ true → AllPlain text spans
 symbols_plain text [] h = refl
 symbols_plain text (s ∷ spans) h =
-    and_from _ _ (symbol_plain (word text s) (and_left (is_symbol (word text s)) _ h)) (symbols_plain text spans (and_right (is_symbol (word text s)) _ h))
+    and_from _ _ (symbol_plain (word text s) (and_parts (is_symbol (word text s)) _ h).0) (symbols_plain text spans (and_parts (is_symbol (word text s)) _ h).1)
 
 -- the runs at the front are these, and their words are symbols
 pub record IsFrontOf (text : List ℕ) (at n : ℕ) (bytes : List ℕ) : Type 0 where

@@ -1,11 +1,10 @@
 -- Words at the end of a buffer.
-use Rattle.std.specs.Prelude.{◌≡◌, ℕ, ◌+◌, ◌-◌, Bool, true, false, not, cond, ◌&&◌, ◌==◌, List, [], ◌∷◌, ◌++◌, length, ◌<◌, take, drop, count_by, nat_lt, Some, None, refl}
+use Rattle.std.specs.Prelude.{◌≡◌, ℕ, ◌+◌, ◌-◌, Bool, true, false, not, cond, ◌==◌, List, [], ◌∷◌, ◌++◌, length, ◌<◌, take, drop, count_by, nat_lt, Some, None, refl}
 use Rattle.std.specs.List.{list_all, slice_split, onto_first, position, position_or_len, before_first, after_first}
 use Rattle.std.proofs.Common.{sym, ◌∙◌, ap, arith, true≢false, ltb-true, ltb-false}
 use Rattle.std.proofs.lemmas.List.Splits.{join_with_byte-slice_split, slice_split_first, length-slice_split}
-use Rattle.std.proofs.lemmas.List.{length-drop}
-use Rattle.std.proofs.Math.Seq.{take-length}
 use Rattle.std.proofs.lemmas.List.Sums.{prefix_len-le-length}
+use Rattle.std.proofs.lemmas.Bool.{and_parts}
 use Rattle.mm_lex.specs.Alphabet.{Name, is_visible}
 use Rattle.mm_lex.specs.Words.{spaced, words_of, is_word}
 
@@ -15,9 +14,6 @@ is_space c = c == 32
 pub spaced-words_of : (text : List ℕ) → spaced (words_of text) ≡ text
 spaced-words_of [] = refl
 spaced-words_of (b ∷ text) = join_with_byte-slice_split 32 (b ∷ text)
-
-onto_first-append : (x : ℕ) (xs : List ℕ) (ys zs : List Name) → onto_first x ((xs ∷ ys) ++ zs) ≡ onto_first x (xs ∷ ys) ++ zs
-onto_first-append x xs ys zs = refl
 
 -- a split has a first part
 first_step : (t : Bool) (b : ℕ) (parts : List Name) → (x : List ℕ) × (xs : List Name) × (parts ≡ x ∷ xs)
@@ -44,16 +40,6 @@ slice_split-space (b ∷ text) more =
     ap (λ r. cond (is_space b) ([] ∷ r) (onto_first b r)) (slice_split-space text more)
     ∙ split_step (is_space b) b (slice_split is_space text) (slice_split is_space more) p.0 p.1 p.2
 
--- of two that hold, the first
-pub and_left : (a b : Bool) → (a && b) ≡ true → a ≡ true
-and_left true b h = refl
-and_left false b h = cc
-
--- of two that hold, the second
-pub and_right : (a b : Bool) → (a && b) ≡ true → b ≡ true
-and_right true b h = h
-and_right false b h = cc
-
 -- a visible byte is no space
 visible_no_space : (b : ℕ) → is_visible b ≡ true → is_space b ≡ false
 visible_no_space b h = by (is_space b) refl
@@ -66,22 +52,24 @@ visible_no_space b h = by (is_space b) refl
 split_visible : (w : Name) → list_all is_visible w ≡ true → slice_split is_space w ≡ w ∷ []
 split_visible [] h = refl
 split_visible (b ∷ w) h =
-    ap (λ t. cond t ([] ∷ slice_split is_space w) (onto_first b (slice_split is_space w))) (visible_no_space b (and_left (is_visible b) (list_all is_visible w) h))
-    ∙ ap (onto_first b) (split_visible w (and_right (is_visible b) (list_all is_visible w) h))
+    ap (λ t. cond t ([] ∷ slice_split is_space w) (onto_first b (slice_split is_space w))) (visible_no_space b (and_parts (is_visible b) (list_all is_visible w) h).0)
+    ∙ ap (onto_first b) (split_visible w (and_parts (is_visible b) (list_all is_visible w) h).1)
+
+-- each byte of a word can be seen
+pub word-visible : (w : Name) → is_word w ≡ true → list_all is_visible w ≡ true
+word-visible [] h = cc
+word-visible (b ∷ w) h = h
 
 -- one word alone
 pub words_of-one : (w : Name) → is_word w ≡ true → words_of w ≡ w ∷ []
 words_of-one [] h = cc
 words_of-one (b ∷ w) h = split_visible (b ∷ w) h
 
--- a word more
-pub words_of-push : (b : ℕ) (text : List ℕ) (w : Name) → is_word w ≡ true → words_of ((b ∷ text) ++ 32 ∷ w) ≡ words_of (b ∷ text) ++ w ∷ []
-words_of-push b text [] h = cc
-words_of-push b text (c ∷ w) h = slice_split-space (b ∷ text) (c ∷ w) ∙ ap (λ r. slice_split is_space (b ∷ text) ++ r) (split_visible (c ∷ w) h)
-
 pub AreWords-push : (ws : List Name) (w : Name) → list_all is_word ws ≡ true → is_word w ≡ true → list_all is_word (ws ++ w ∷ []) ≡ true
 AreWords-push [] w h k = rw k refl
-AreWords-push (v ∷ ws) w h k = rw (and_left (is_word v) (list_all is_word ws) h) (AreWords-push ws w (and_right (is_word v) (list_all is_word ws) h) k)
+AreWords-push (v ∷ ws) w h k =
+    let parts : (is_word v ≡ true) × (list_all is_word ws ≡ true) = and_parts (is_word v) (list_all is_word ws) h in
+    rw parts.0 (AreWords-push ws w parts.1 k)
 
 -- a text whose length is not 0 has a byte
 pub some_by_len : (text : List ℕ) (len : ℕ) → len ≡ length text → false ≡ (len == 0) → 0 < length text
@@ -107,7 +95,7 @@ slice_split-whole (b ∷ text) h = whole_step (is_space b) b text h (slice_split
 
 -- what is behind a space has a word
 words_of-behind : (text rest : List ℕ) (w : Name) → slice_split is_space text ≡ w ∷ slice_split is_space rest → list_all is_word (slice_split is_space text) ≡ true → slice_split is_space rest ≡ words_of rest
-words_of-behind text [] w e k = absurd (true≢false (sym (and_right (is_word w) false (sym (ap (list_all is_word) e) ∙ k))))
+words_of-behind text [] w e k = absurd (true≢false (sym (and_parts (is_word w) false (sym (ap (list_all is_word) e) ∙ k)).1))
 words_of-behind text (b ∷ rest) w e k = refl
 
 words_of-last : (text : List ℕ) → position_or_len is_space text ≡ length text → 0 < length text → words_of text ≡ text ∷ []
@@ -141,15 +129,11 @@ module _ (text : List ℕ) where
 
 -- the words behind the first are words
 pub AreWords-behind : (ws vs : List Name) (w : Name) → ws ≡ w ∷ vs → list_all is_word ws ≡ true → list_all is_word vs ≡ true
-AreWords-behind ws vs w e k = and_right (is_word w) (list_all is_word vs) (sym (ap (list_all is_word) e) ∙ k)
+AreWords-behind ws vs w e k = (and_parts (is_word w) (list_all is_word vs) (sym (ap (list_all is_word) e) ∙ k)).1
 
 pub length-words_of : (text : List ℕ) → 0 < length text → length (words_of text) ≡ count_by is_space text + 1
 length-words_of [] some = absurd (omega (arith, some))
 length-words_of (b ∷ text) some = length-slice_split is_space (b ∷ text)
-
--- the slice from a place on is what is behind it
-pub take-rest : (k : ℕ) (text : List ℕ) → take (length text - k) (drop k text) ≡ drop k text
-take-rest k text = ap (λ n. take n (drop k text)) (sym (length-drop k text)) ∙ take-length (drop k text)
 
 -- a list of words is what its text is cut into
 split_word : (w : Name) → is_word w ≡ true → slice_split is_space w ≡ w ∷ []
@@ -162,7 +146,7 @@ split_spaced w [] h k = split_word w h
 split_spaced w (v ∷ ws) h k =
     slice_split-space w (spaced (v ∷ ws))
     ∙ (ap (λ r. r ++ slice_split is_space (spaced (v ∷ ws))) (split_word w h)
-    ∙ ap (λ r. w ∷ r) (split_spaced v ws (and_left _ _ k) (and_right _ _ k)))
+    ∙ ap (λ r. w ∷ r) (split_spaced v ws (and_parts (is_word v) (list_all is_word ws) k).0 (and_parts (is_word v) (list_all is_word ws) k).1))
 
 -- the words of a buffer that has a word are its parts
 same_words : (w : Name) (ws : List Name) → is_word w ≡ true → slice_split is_space (spaced (w ∷ ws)) ≡ w ∷ ws → words_of (spaced (w ∷ ws)) ≡ w ∷ ws
@@ -172,4 +156,6 @@ same_words (b ∷ w) (v ∷ ws) h e = e
 
 pub words_of-spaced : (ws : List Name) → list_all is_word ws ≡ true → words_of (spaced ws) ≡ ws
 words_of-spaced [] h = refl
-words_of-spaced (w ∷ ws) h = same_words w ws (and_left _ _ h) (split_spaced w ws (and_left _ _ h) (and_right _ _ h))
+words_of-spaced (w ∷ ws) h =
+    let parts : (is_word w ≡ true) × (list_all is_word ws ≡ true) = and_parts (is_word w) (list_all is_word ws) h in
+    same_words w ws parts.0 (split_spaced w ws parts.0 parts.1)

@@ -7,6 +7,7 @@ use Rattle.std.proofs.Math.Seq.{take-append_seam, drop-append_seam}
 use Rattle.std.proofs.lemmas.Bool.{and_parts, and_from}
 use Rattle.std.proofs.lemmas.Bool.Decides.{nat_tests}
 use Rattle.std.proofs.lemmas.List.Folds.{list_all-map, list_all-append}
+use Rattle.mm_lex.proofs.WordsLemmas.{word-visible}
 use Rattle.mm_lex.specs.declared.span.Span.{Span}
 use Rattle.mm_lex.specs.Alphabet.{Name, is_empty, is_white, is_visible, is_allowed, is_symbol, is_label, is_label_byte, has_byte, runs, runs_from, starts_white, with_byte, word}
 use Rattle.mm_lex.specs.Words.{spaced, is_word}
@@ -104,11 +105,6 @@ visible_allowed (b ∷ w) h =
     let parts : (is_visible b ≡ true) × (list_all is_visible w ≡ true) = and_parts (is_visible b) (list_all is_visible w) h in
     and_from (is_allowed b) (list_all is_allowed w) (ap (λ t. t || is_white b) parts.0) (visible_allowed w parts.1)
 
--- the bytes of a word are visible
-word_visible : (w : Name) → is_word w ≡ true → list_all is_visible w ≡ true
-word_visible [] h = refl
-word_visible (b ∷ w) h = h
-
 -- a white byte is allowed
 white_allowed : (b : ℕ) → is_white b ≡ true → is_allowed b ≡ true
 white_allowed b h = grind (arith, nat_tests, h)
@@ -119,7 +115,7 @@ clean-laid (p ∷ laid) h =
     let parts : ((is_word p.0 && is_white p.1) ≡ true) × (is_laid laid ≡ true) = and_parts (is_word p.0 && is_white p.1) (is_laid laid) h in
     let own : (is_word p.0 ≡ true) × (is_white p.1 ≡ true) = and_parts (is_word p.0) (is_white p.1) parts.0 in
     list_all-append is_allowed p.0 (p.1 ∷ laid_text laid)
-    ∙ and_from (list_all is_allowed p.0) (is_allowed p.1 && list_all is_allowed (laid_text laid)) (visible_allowed p.0 (word_visible p.0 own.0))
+    ∙ and_from (list_all is_allowed p.0) (is_allowed p.1 && list_all is_allowed (laid_text laid)) (visible_allowed p.0 (word-visible p.0 own.0))
     (and_from (is_allowed p.1) (list_all is_allowed (laid_text laid)) (white_allowed p.1 own.1) (clean-laid laid parts.1))
 
 -- ---- the export form is so laid

@@ -4,6 +4,7 @@ use Rattle.std.specs.Prelude.{◌≡◌, true, ◌&&◌, cond, List, [], ◌∷�
 use Rattle.std.specs.List.{list_all}
 use Rattle.std.proofs.Common.{sym, ◌∙◌, ap}
 use Rattle.std.proofs.lemmas.Bool.{and_parts}
+use Rattle.std.proofs.lemmas.Option.{some_pair_parts}
 use Rattle.mm_lex.specs.Alphabet.{Name, name_eq, is_symbol, is_label, has_byte}
 use Rattle.mm_read.specs.declared.stmt.Stmt.{Stmt}
 use Rattle.mm_read.specs.declared.stmt.Stmt.TheVariants.{Open, Close, Const, Var, Disj, Float, Ess, Axiom, Prove}
@@ -101,21 +102,6 @@ front-written (Prove label expr proof) rest h =
 
 -- ---- one list of statements
 
--- the first of a pair, where there is one
-first_of_option : {A B : Type 0} → A → Option (A × B) → A
-first_of_option x None = x
-first_of_option x (Some p) = p.0
-
--- .. and the second
-second_of_option : {A B : Type 0} → B → Option (A × B) → B
-second_of_option x None = x
-second_of_option x (Some p) = p.1
-
--- pairs that are one have the same first and the same second
-some_pair : {A B : Type 0} (a c : A) (b d : B) → ◌≡◌ {A = Option (A × B)} (Some (a, b)) (Some (c, d)) → (a ≡ c) × (b ≡ d)
-unfolding first_of_option second_of_option
-some_pair a c b d e = (ap (first_of_option a) e, ap (second_of_option b) e)
-
 -- a statement has a token
 pub none_spelled : (s : Stmt) (S : Database) → is_shaped s ≡ true → spelled (s ∷ S) ≡ [] → ⊥
 none_spelled s S h e = none (sym (front-written s (spelled S) h) ∙ ap front e)
@@ -127,7 +113,7 @@ none_spelled s S h e = none (sym (front-written s (spelled S) h) ∙ ap front e)
 pub same_front : (s t : Stmt) (rest more : List Name) → is_shaped s ≡ true → is_shaped t ≡ true → stmt_tokens s ++ rest ≡ stmt_tokens t ++ more → (s ≡ t) × (rest ≡ more)
 same_front s t rest more hs ht e =
     let both : ◌≡◌ {A = Option (Stmt × List Name)} (Some (s, rest)) (Some (t, more)) = sym (front-written s rest hs) ∙ (ap front e ∙ front-written t more ht) in
-    some_pair s t rest more both
+    some_pair_parts s t rest more both
 
 -- the law: what spells the same tokens is one list of statements
 pub one_spelling : laws.OneSpelling

@@ -5,7 +5,7 @@ use Rattle.std.specs.List.{list_all}
 use Rattle.std.specs.Option.{option_and_then}
 use Rattle.std.proofs.Common.{sym, ◌∙◌, ap, arith, refl, subst}
 use Rattle.std.proofs.lemmas.Bool.{and_parts}
-use Rattle.std.proofs.lemmas.Option.{option_and_then_some}
+use Rattle.std.proofs.lemmas.Option.{option_and_then_some, same_Some}
 use Rattle.mm_lex.specs.Alphabet.{Name, name_eq, is_symbol, is_label}
 pub use Rattle.mm_lex.proofs.NameLemmas.{same_name as same}
 use Rattle.mm_read.specs.declared.stmt.Stmt.{Stmt}
@@ -196,10 +196,7 @@ back (proving (suc n)) t p tokens e after = symbol t p tokens after (proving (su
 
 -- what follows the last of these tokens follows the first place
 pub go_back : (q : Place) (xs : List Name) (p : Place) (tokens : List Name) → go q xs ≡ Some p → CanFollow p tokens → CanFollow q (xs ++ tokens)
-go_back q [] p tokens e after = subst (λ x. CanFollow x tokens) (sym (same_place q p e)) after
-  where
-    same_place : (a b : Place) → ◌≡◌ {A = Option Place} (Some a) (Some b) → a ≡ b
-    same_place a b e = cc
+go_back q [] p tokens e after = subst (λ x. CanFollow x tokens) (sym (same_Some q p e)) after
 go_back q (t ∷ xs) p tokens e after =
     option_and_then_some (λ r. go r xs) (step q t) p e (λ r is rest. back q t r (xs ++ tokens) is (go_back r xs p tokens rest after))
 

@@ -5,6 +5,7 @@ use Rattle.std.specs.Option.{option_and_then}
 use Rattle.std.proofs.Common.{sym, ◌∙◌, ap, arith, refl, subst, inl, inr, append_assoc, ltb-true, ltb-false, nat_lt, append-nil}
 use Rattle.std.proofs.lemmas.List.{take_all}
 use Rattle.std.proofs.Math.Seq.{take-append_seam, take-append-add}
+use Rattle.std.proofs.lemmas.Option.{same_Some}
 use Rattle.mm_lex.specs.Alphabet.{Name}
 use Rattle.mm_read.specs.Statements.{Database, AreShaped, is_shaped, spelled}
 use Rattle.mm_read.specs.Reads.{CanGoOn, IsShapeFault}
@@ -49,14 +50,11 @@ stops_at done rest t p e stop = record {
 -- the tokens end inside of a statement
 pub ends_inside : (done : List Name) (p : Place) → go between done ≡ Some p → (p ≡ between → ⊥) → IsShapeFault done (length done + 1)
 ends_inside done p e inside = record {
-  none = λ S hS is. inside (same_place p between (sym e ∙ (ap (go between) (sym is ∙ sym (append-nil (spelled S))) ∙ go-spelled S [] hS)));
+  none = λ S hS is. inside (same_Some p between (sym e ∙ (ap (go between) (sym is ∙ sym (append-nil (spelled S))) ∙ go-spelled S [] hS)));
   before = subst CanGoOn (sym first) (can_go_on done p e);
   here = inr refl;
 }
   where
-    same_place : (a b : Place) → ◌≡◌ {A = Option Place} (Some a) (Some b) → a ≡ b
-    same_place a b e = cc
-
     first : take (length done + 1 - 1) done ≡ done
     first = ap (λ n. take n done) (omega arith) ∙ (ap (take (length done)) (sym (append-nil done)) ∙ take-append_seam done [])
 

@@ -1,10 +1,9 @@
 -- A list of statements and what stands behind it: what fits there fits the whole, and what does not fit there does not fit the whole.
-use Rattle.std.specs.Prelude.{◌≡◌, ℕ, ◌+◌, ◌-◌, ◌<◌, ◌≤◌, ◌⊎◌, suc, zero, true, List, [], ◌∷◌, ◌++◌, length, take}
+use Rattle.std.specs.Prelude.{◌≡◌, ℕ, ◌+◌, ◌-◌, ◌<◌, ◌⊎◌, suc, zero, true, List, [], ◌∷◌, ◌++◌, length, take}
 use Rattle.std.specs.List.{list_all}
 use Rattle.std.proofs.Common.{sym, ◌∙◌, ap, arith, refl, subst, inl, inr, append_assoc, length-append}
 use Rattle.std.proofs.Math.Seq.{take-append-add}
 use Rattle.std.proofs.lemmas.Bool.{and_parts}
-use Rattle.std.proofs.lemmas.List.{take_all}
 use Rattle.mm_lex.specs.Alphabet.{Name}
 use Rattle.mm_read.specs.declared.stmt.Stmt.{Stmt}
 use Rattle.mm_read.specs.declared.stmt.Stmt.TheVariants.{Open, Close, Const, Var, Disj, Float, Ess, Axiom, Prove}
@@ -53,17 +52,6 @@ fault_some tokens zero fault = absurd (by fault.here)
     by (inl stop) = stop (record { statements = []; rest = []; shaped = refl; whole = refl })
     by (inr end) = omega (arith, end)
 fault_some tokens (suc token) fault = omega arith
-
--- .. and stands among them, or right behind
-pub fault_within : (tokens : List Name) (token : ℕ) → IsShapeFault tokens token → token ≤ length tokens + 1
-fault_within tokens token fault = by fault.here
-  where
-    beyond : (CanGoOn (take token tokens) → ⊥) → length tokens + 1 < token → ⊥
-    beyond stop far = stop (subst CanGoOn (take_all (token - 1) tokens (omega (arith, far)) ∙ sym (take_all token tokens (omega (arith, far)))) fault.before)
-
-    by : (CanGoOn (take token tokens) → ⊥) ⊎ (token ≡ length tokens + 1) → token ≤ length tokens + 1
-    by (inl stop) = omega (arith, beyond stop)
-    by (inr end) = omega (arith, end)
 
 module _ (S : Database) (shaped : list_all is_shaped S ≡ true) (rest : List Name) where
   -- what can go on can go on behind statements

@@ -3,6 +3,7 @@ use Rattle.std.specs.Prelude.{◌≡◌, ℕ, ◌+◌, Bool, true, false, not, c
 use Rattle.std.proofs.Common.{sym, ◌∙◌, ap, subst, arith, inl, inr, append_assoc}
 use Rattle.std.proofs.lemmas.List.{append-nil}
 use Rattle.std.proofs.lemmas.Bool.{or_left, or_right}
+use Rattle.std.proofs.Math.Bool.{or_assoc}
 pub use Rattle.std.proofs.lemmas.Bool.{or_cases}
 use Rattle.mm_lex.specs.Alphabet.{Name, name_eq, has_name}
 use Rattle.names.specs.Codes.{with_name, with_names, number_in, numbers_in, AreNamed}
@@ -10,11 +11,7 @@ use Rattle.mm_lex.proofs.NameLemmas.{name_same, same_name}
 
 pub has_name-append : (x : Name) (xs ys : List Name) → has_name x (xs ++ ys) ≡ (has_name x xs || has_name x ys)
 has_name-append x [] ys = refl
-has_name-append x (y ∷ xs) ys = ap (λ b. name_eq x y || b) (has_name-append x xs ys) ∙ or_assoc (name_eq x y) (has_name x xs) (has_name x ys)
-  where
-    or_assoc : (a b c : Bool) → (a || (b || c)) ≡ ((a || b) || c)
-    or_assoc true b c = refl
-    or_assoc false b c = refl
+has_name-append x (y ∷ xs) ys = ap (λ b. name_eq x y || b) (has_name-append x xs ys) ∙ sym (or_assoc (name_eq x y) (has_name x xs) (has_name x ys))
 
 pub with_name-more : (names : List Name) (x : Name) → (more : List Name) × (with_name names x ≡ names ++ more)
 with_name-more names x = by (has_name x names)

@@ -3,7 +3,8 @@ use Rattle.std.specs.Prelude.{◌≡◌, ℕ, zero, suc, ◌+◌, ◌<◌, Bool,
 use Rattle.std.specs.List.{list_any, position_or_len, prefix_len}
 use Rattle.std.proofs.Common.{sym, ◌∙◌, ap, true≢false, arith, length-append}
 use Rattle.std.proofs.lemmas.List.Quantifiers.{position-Some}
-use Rattle.std.proofs.lemmas.Bool.{or_right}
+use Rattle.std.proofs.lemmas.Bool.{or_right, false_from_ne_true}
+use Rattle.std.proofs.lemmas.Option.{cond_some}
 use Rattle.mm_lex.specs.Alphabet.{Name, name_eq, has_name}
 pub use Rattle.mm_lex.proofs.NameLemmas.{name_same, same_name}
 use Rattle.names.specs.Codes.{name_at, code_of, AreDistinct, number_in, AreNamed}
@@ -40,11 +41,10 @@ place-at : (names : List Name) (x : Name) (n : ℕ) → AreDistinct names → n 
 place-at [] x n d h e = absurd (omega (arith, h))
 place-at (y ∷ names) x zero d h e = first_step (name_eq x y) (prefix_len (λ a. not (name_eq x a)) names) (ap (name_eq x) e ∙ name_same x)
 place-at (y ∷ names) x (suc n) d h e =
-    later_step (name_eq x y) (prefix_len (λ a. not (name_eq x a)) names) n (apart (name_eq x y) refl) (place-at names x n d.1 (omega (arith, h)) e)
+    later_step (name_eq x y) (prefix_len (λ a. not (name_eq x a)) names) n (false_from_ne_true (name_eq x y) same) (place-at names x n d.1 (omega (arith, h)) e)
   where
-    apart : (b : Bool) → name_eq x y ≡ b → name_eq x y ≡ false
-    apart false q = q
-    apart true q = absurd (true≢false (sym (has-at names x n (omega (arith, h)) e) ∙ (ap (λ z. has_name z names) (same_name x y q) ∙ d.0)))
+    same : name_eq x y ≡ true → ⊥
+    same q = true≢false (sym (has-at names x n (omega (arith, h)) e) ∙ (ap (λ z. has_name z names) (same_name x y q) ∙ d.0))
 
 -- the number that a name stands at is its number, where the names are told apart
 pub code-at : (names : List Name) (x : Name) (n : ℕ) → AreDistinct names → n < length names → name_at names n ≡ x → code_of names x ≡ Some n
@@ -76,15 +76,16 @@ code-absent names x none = by (code_of names x) refl
     by None e = e
     by (Some n) e = let p = code-name names x n e in absurd (none n p.0 p.1)
 
--- the name that was put last has the number behind the others
+-- the name that was put last stands behind the others
+pub name_at-last : (names : List Name) (x : Name) → name_at (names ++ x ∷ []) (length names) ≡ x
+name_at-last [] x = refl
+name_at-last (y ∷ names) x = name_at-last names x
+
+-- .. and has the number behind theirs
 pub added-name : (old new : List Name) (x : Name) (n : ℕ) → n ≡ length old → new ≡ old ++ x ∷ [] → (n < length new) × (name_at new n ≡ x)
 added-name old new x n e h =
     let l = ap length h ∙ length-append old (x ∷ []) in
-    (omega (arith, l, e), ap (λ r. name_at r n) h ∙ (ap (name_at (old ++ x ∷ [])) e ∙ last old x))
-  where
-    last : (names : List Name) (y : Name) → name_at (names ++ y ∷ []) (length names) ≡ y
-    last [] y = refl
-    last (z ∷ names) y = last names y
+    (omega (arith, l, e), ap (λ r. name_at r n) h ∙ (ap (name_at (old ++ x ∷ [])) e ∙ name_at-last old x))
 
 -- one element more: the search ends before the end where this one passes, or it did before
 pub lt_step : (b : Bool) (r l : ℕ) (q : Bool) → nat_lt r l ≡ q → nat_lt (cond (not b) (1 + r) 0) (suc l) ≡ (b || q)
@@ -96,19 +97,14 @@ pub lt-list_any : {A : Type 0} (p : A → Bool) (xs : List A) → nat_lt (positi
 lt-list_any p [] = refl
 lt-list_any p (x ∷ xs) = lt_step (p x) (prefix_len (λ a. not (p a)) xs) (length xs) (list_any p xs) (lt-list_any p xs)
 
--- what a test gave in place of nothing passed the test
-some_cond : {A : Type 0} (b : Bool) (x y : A) → cond b (Some x) None ≡ Some y → (b ≡ true) × (x ≡ y)
-some_cond true x y h = (refl, cc)
-some_cond false x y h = cc
-
--- where it gave nothing, the test failed
+-- where a test gave nothing, it failed
 none_cond : {A : Type 0} (b : Bool) (x : A) → cond b (Some x) None ≡ None → b ≡ false
 none_cond true x h = cc
 none_cond false x h = refl
 
 pub found-number : (names : List Name) (x : Name) (n : ℕ) → Some n ≡ code_of names x → (has_name x names ≡ true) × (number_in names x ≡ n)
 found-number names x n h =
-    let s = some_cond (nat_lt (number_in names x) (length names)) (number_in names x) n (sym h) in
+    let s = cond_some (nat_lt (number_in names x) (length names)) (number_in names x) n (sym h) in
     (sym (lt-list_any (name_eq x) names) ∙ s.0, s.1)
 
 pub unknown-number : (names : List Name) (x : Name) → None ≡ code_of names x → has_name x names ≡ false

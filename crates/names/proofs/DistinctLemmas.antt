@@ -12,10 +12,6 @@ name_at-more [] more n h = absurd (omega (arith, h))
 name_at-more (x ∷ names) more zero h = refl
 name_at-more (x ∷ names) more (suc n) h = name_at-more names more n (omega (arith, h))
 
-pub name_at-last : (names : List Name) (x : Name) → name_at (names ++ x ∷ []) (length names) ≡ x
-name_at-last [] x = refl
-name_at-last (y ∷ names) x = name_at-last names x
-
 pub name_at-take : (n : ℕ) (names : List Name) (k : ℕ) → k < length (take n names) → name_at (take n names) k ≡ name_at names k
 name_at-take n names k h = sym (name_at-more (take n names) (drop n names) k h) ∙ ap (λ xs. name_at xs k) (take-append-drop n names)
 

@@ -12,8 +12,8 @@ use Rattle.names.specs.declared.keys.TheConstants.{APART}
 use Rattle.names.specs.declared.kept.Kept.{Kept}
 use Rattle.names.specs.declared.table.Slot.{Slot}
 use Rattle.names.specs.Stored.Table.{IsHeld, IsKept, AreKept, AreFewer, AreHeld, AreFound, IsTable}
-use Rattle.names.proofs.CodesLemmas.{code-at, has-at}
-use Rattle.names.proofs.DistinctLemmas.{name_at-more, name_at-last, name_at-take, length-take-below}
+use Rattle.names.proofs.CodesLemmas.{code-at, has-at, name_at-last}
+use Rattle.names.proofs.DistinctLemmas.{name_at-more, name_at-take, length-take-below}
 
 -- names of two numbers are two
 pub names-apart : (names : List Name) (j k : ℕ) → AreDistinct names → j < length names → k < length names → j ≢ k → name_at names j ≢ name_at names k

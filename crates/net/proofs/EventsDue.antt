@@ -1,6 +1,5 @@
 -- What an event comes to at its node, and what is ready while nodes stand.
-use Rattle.std.proofs.Common.{◌≡◌, ℕ, zero, suc, ◌<◌, List, [], ◌∷◌, length, get_or, set, slice_get, Option, Some, None, Ok, refl, ap, sym, ◌∙◌, subst, arith}
-use Rattle.std.proofs.lemmas.Option.{slice_get_within}
+use Rattle.std.proofs.Common.{◌≡◌, ℕ, zero, suc, List, [], ◌∷◌, length, get_or, set, slice_get, Option, Some, None, Ok, refl, ap, sym, ◌∙◌, subst, arith}
 use Rattle.std.specs.List.{AllByRecursion}
 use Rattle.std.specs.Option.{option_map}
 use Rattle.synod.specs.declared.packet.Packet.{Packet}
@@ -14,7 +13,7 @@ use Rattle.synod.specs.Step.{on_packet, restarted}
 use Rattle.synod.proofs.RoomLemmas.{same_room}
 use Rattle.net.specs.declared.event.Event.TheVariants.{Offer, Begin, Deliver, Restart}
 use Rattle.net.specs.World.{answered, at_node, delivered}
-use Rattle.net.specs.KeptPart.{addressed, change_at, change_delivered}
+use Rattle.net.specs.KeptPart.{change_at, change_delivered}
 use Rattle.net.specs.Taken.{Taken, nodes_of}
 use Rattle.net.specs.Due.{Work, steps, restarts, Due, posts_of, step_of, IsReadyAt, ComesTo, NetView, AreStill, IsStill, IsDue}
 use Rattle.net.proofs.GrowingLists.{at_front}
@@ -67,10 +66,6 @@ not_mapped (Some p) is = cc
 pub mapped : {V : Type 0} (o : Option (Packet V)) (k : ℕ) → option_map (λ (p : Packet V). p.to) o ≡ Some k → (p : Packet V) × (o ≡ Some p) × (p.to ≡ k)
 mapped None k is = cc
 mapped (Some p) k is = (p, refl, let same : p.to ≡ k = cc in same)
-
--- a packet of a delivery is there
-pub packet_there : {V : Type 0} (ps : List (Packet V)) (number k : ℕ) → addressed ps (Deliver number) ≡ Some k → number < length ps
-packet_there ps number k at = let p = mapped (slice_get ps number) k at in slice_get_within ps number p.0 p.1
 
 -- Nodes that stand, with room at least as much.
 

@@ -4,6 +4,7 @@ use Rattle.std.proofs.Common.{◌≡◌, ◌≢◌, ℕ, zero, suc, ◌+◌, ◌
 use Rattle.std.proofs.lemmas.List.{length-map}
 use Rattle.std.proofs.lemmas.Bool.Decides.{nat_tests}
 use Rattle.std.specs.List.{AllByRecursion}
+use Rattle.std.proofs.lemmas.Bool.{and_parts, not-true}
 use Rattle.slots.specs.declared.slots.TheConstants.{SLOTS}
 use Rattle.slots.specs.FiniteMap.{entry_at, front_of}
 use Rattle.slots.proofs.Lists.{In}
@@ -191,21 +192,15 @@ module _ {V : Type 0} {offers : List V} {l : Ledger V} (n : Node V) (sound : IsS
         })
         tt refl
 
-  -- of a test and the denial of another, what each comes to
-  both_true : (s t : Bool) → (s && not t) ≡ true → (s ≡ true) × (t ≡ false)
-  both_true true true e = cc
-  both_true true false e = (refl, refl)
-  both_true false t e = cc
-
   -- a page is gathered, if it is of the ballot and its sender is not heard, or nothing happens
   comes_either : (p : ℕ) (b : Ballot) (number count : ℕ) (reports : List (SlotReport V)) → IsPagePacket l p b number count reports → (c : Ballot) (first : ℕ) → n.role ≡ Preparing c first
       → IsPreparing l n.me c first n.pages n.heard → (t : Bool) → (is_same b c && not (is_heard n.heard p)) ≡ t
       → Goes (if t then gathers n p c first count (with_page n.pages p (number - 1) reports) else unchanged n)
   comes_either p b number count reports packet c first role preparing false test = same_ledger sound holds tt refl
   comes_either p b number count reports packet c first role preparing true test =
-      let tests = both_true (is_same b c) (is_heard n.heard p) test in
+      let tests = and_parts (is_same b c) (not (is_heard n.heard p)) test in
       let here : IsPagePacket l p c number count reports = subst (λ (d : Ballot). IsPagePacket l p d number count reports) (same_true b c tests.0) packet in
-      gathers_either p c number count reports here first role preparing tests.1 (all_had (pages_from (with_page n.pages p (number - 1) reports) p) count) refl
+      gathers_either p c number count reports here first role preparing (not-true (is_heard n.heard p) tests.1) (all_had (pages_from (with_page n.pages p (number - 1) reports) p) count) refl
 
   -- a page of a promise continues the story in each role
   promise_as : (p : ℕ) (b : Ballot) (number count : ℕ) (reports : List (SlotReport V)) → IsPagePacket l p b number count reports → (role : Role) → n.role ≡ role

@@ -7,7 +7,8 @@ use Rattle.names.proofs.CodesLemmas.{name_eq-comm, has-at, code-name}
 use Rattle.names.proofs.AddedNames.{has_name-append}
 use Rattle.std.specs.Prelude.{slice_index_or, ◌≤◌}
 use Rattle.std.proofs.Common.{inl, inr}
-use Rattle.std.proofs.lemmas.Bool.{or_parts, or_right, cases_lt}
+use Rattle.std.proofs.lemmas.Bool.{or_parts, or_right, cases_lt, false_from_ne_true}
+use Rattle.std.proofs.Math.Bool.{or_assoc, or-false}
 use Rattle.scope.specs.Legal.{all_different}
 use Rattle.offence.specs.Offends.{IsTwice}
 use Rattle.offence.specs.Marks.{marked}
@@ -52,12 +53,11 @@ at_place w v (x ∷ names) (m ∷ marks) zero d h e l =
     ap (λ b. cond b v m ∷ marked (λ x. name_eq x w) v names marks) (ap (λ y. name_eq y w) e ∙ name_same w)
     ∙ ap (λ l. v ∷ l) (marked-absent w v names marks (ap (λ y. has_name y names) (sym e) ∙ d.0))
 at_place w v (x ∷ names) (m ∷ marks) (suc n) d h e l =
-    ap (λ b. cond b v m ∷ marked (λ x. name_eq x w) v names marks) (apart (name_eq x w) refl)
+    ap (λ b. cond b v m ∷ marked (λ x. name_eq x w) v names marks) (false_from_ne_true (name_eq x w) same)
     ∙ ap (λ l. m ∷ l) (at_place w v names marks n d.1 (omega (arith, h)) e (omega (arith, l)))
   where
-    apart : (b : Bool) → name_eq x w ≡ b → name_eq x w ≡ false
-    apart false q = q
-    apart true q = absurd (true≢false (sym (has-at names w n (omega (arith, h)) e) ∙ (ap (λ z. has_name z names) (sym (same_name x w q)) ∙ d.0)))
+    same : name_eq x w ≡ true → ⊥
+    same q = true≢false (sym (has-at names w n (omega (arith, h)) e) ∙ (ap (λ z. has_name z names) (sym (same_name x w q)) ∙ d.0))
 
 pub marked-one : (w : Name) (v : Bool) (names : List Name) (marks : List Bool) (n : ℕ) → AreDistinct names → code_of names w ≡ Some n → length marks ≡ length names
     → slice_set marks n v ≡ marked (λ x. name_eq x w) v names marks
@@ -93,11 +93,7 @@ pub marked-three : (p q r : Name → Bool) (v : Bool) (names : List Name) (marks
     → marked r v names (marked q v names (marked p v names marks)) ≡ marked (λ x. p x || (q x || r x)) v names marks
 marked-three p q r v names marks =
     ap (marked r v names) (marked-both q p (λ x. p x || q x) v (λ x. refl) names marks)
-    ∙ marked-both r (λ x. p x || q x) (λ x. p x || (q x || r x)) v (λ x. left (p x) (q x) (r x)) names marks
-  where
-    left : (a b c : Bool) → (a || (b || c)) ≡ ((a || b) || c)
-    left true b c = refl
-    left false b c = refl
+    ∙ marked-both r (λ x. p x || q x) (λ x. p x || (q x || r x)) v (λ x. sym (or_assoc (p x) (q x) (r x))) names marks
 
 -- ---- reading a mark
 
@@ -123,13 +119,9 @@ coded old new x w n at same more h = by (name_eq x w) refl
       | inr high ↦ ap (has_name x) (more high) ∙ (has_name-append x old (w ∷ []) ∙ ap (λ b. b || has_name x (w ∷ [])) k)
     ]
 
-    or_no : (a : Bool) → a ≡ (a || false)
-    or_no true = refl
-    or_no false = refl
-
     by : (b : Bool) → name_eq x w ≡ b → has_name x new ≡ true
     by true e = has-at new x n at.0 (at.1 ∙ sym (same_name x w e))
-    by false e = kept (or_no (has_name x old) ∙ (ap (λ b. has_name x old || b) (sym e) ∙ h))
+    by false e = kept (sym (or-false (has_name x old)) ∙ (ap (λ b. has_name x old || b) (sym e) ∙ h))
 
 -- a name that has a code or is still to get one does so also when the next has got its own
 pub coded_first : (old new rest : List Name) (x w : Name) (n : ℕ) → (n < length new) × (name_at new n ≡ w) → (n < length old → new ≡ old) → (length old ≤ n → new ≡ old ++ w ∷ [])
@@ -138,19 +130,7 @@ coded_first old new rest x w n at same more h = by (has_name x rest) refl
   where
     by : (b : Bool) → has_name x rest ≡ b → (has_name x new || has_name x rest) ≡ true
     by true e = or_right (has_name x new) (has_name x rest) e
-    by false e = ap (λ b. b || has_name x rest) (coded old new x w n at same more (ap (λ b. has_name x old || b) (sym (no (name_eq x w) (has_name x rest) e)) ∙ h))
-      where
-        no : (a b : Bool) → b ≡ false → (a || b) ≡ a
-        no true b e = refl
-        no false b e = e
-
--- where none is left, each has a code
-pub all_coded : (names words rest : List Name) (x : Name) → rest ≡ [] → (has_name x names || has_name x rest) ≡ true → has_name x names ≡ true
-all_coded names words rest x e h = or_no (has_name x names) ∙ (ap (λ r. has_name x names || has_name x r) (sym e) ∙ h)
-  where
-    or_no : (a : Bool) → a ≡ (a || false)
-    or_no true = refl
-    or_no false = refl
+    by false e = ap (λ b. b || has_name x rest) (coded old new x w n at same more (ap (λ b. has_name x old || b) (sym (ap (λ c. name_eq x w || c) e ∙ or-false (name_eq x w))) ∙ h))
 
 -- ---- the first that stands twice
 

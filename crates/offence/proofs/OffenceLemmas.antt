@@ -5,7 +5,9 @@ use Rattle.std.proofs.lemmas.Result.{IfOk-weaker}
 use Rattle.scope.specs.declared.rule.Rule.{Rule}
 use Rattle.offence.specs.declared.symbol_search.Test.{Test}
 use Rattle.std.specs.List.{list_any, list_all}
-use Rattle.std.proofs.lemmas.Bool.{and_from}
+use Rattle.std.proofs.lemmas.Bool.{and_from, and_parts, or_parts, not-true}
+use Rattle.std.proofs.Math.Bool.{or_assoc, or_comm, not-not}
+use Rattle.scope.proofs.SortsLemmas.{or_swap}
 use Rattle.mm_lex.specs.Alphabet.{Name, has_name}
 use Rattle.mm_read.specs.declared.stmt.Stmt.{Stmt}
 use Rattle.mm_read.specs.declared.stmt.Stmt.TheVariants.{Open, Close, Const, Var, Disj, Float, Ess, Axiom, Prove}
@@ -19,8 +21,6 @@ use Rattle.offence.specs.declared.search.Part.TheVariants as part
 use Rattle.offence.specs.declared.symbol_search.Test.TheVariants as test
 use Rattle.offence.specs.Search.{meets, fails}
 use Rattle.offence.specs.Offends.{Offends, Among, IsTwice, IsRepeated, IsSymbolOf, IsLabelOf, typed_expr}
-use Rattle.mm_lex.proofs.BadByteLemmas.{twice_not}
-use Rattle.scope.proofs.LegalLemmas.{or_comm}
 
 -- ---- lists and tests
 
@@ -37,18 +37,7 @@ none_all t p same (x ∷ xs) h = by (t x) refl (list_any t xs) refl (none_all t 
 -- one of a list passes the one test or the other where one passes either
 any_or : {A : Type 0} (p q r : A → Bool) → ((x : A) → r x ≡ (p x || q x)) → (xs : List A) → (list_any p xs || list_any q xs) ≡ list_any r xs
 any_or p q r same [] = refl
-any_or p q r same (x ∷ xs) = swap (p x) (q x) (list_any p xs) (list_any q xs) ∙ (ap (λ b. b || (list_any p xs || list_any q xs)) (sym (same x)) ∙ ap (λ b. r x || b) (any_or p q r same xs))
-  where
-    swap : (a b c d : Bool) → ((a || c) || (b || d)) ≡ ((a || b) || (c || d))
-    swap true b c d = refl
-    swap false true true d = refl
-    swap false true false d = refl
-    swap false false c d = refl
-
--- the brackets of three tests moved to the right
-or_left : (a b c : Bool) → ((a || b) || c) ≡ (a || (b || c))
-or_left true b c = refl
-or_left false b c = refl
+any_or p q r same (x ∷ xs) = or_swap (p x) (list_any p xs) (q x) (list_any q xs) ∙ (ap (λ b. b || (list_any p xs || list_any q xs)) (sym (same x)) ∙ ap (λ b. r x || b) (any_or p q r same xs))
 
 -- a statement carries or declares the name where it was a symbol or a label before
 named_is : (S : Database) (x : Name) → (was_symbol S x || was_label S x) ≡ list_any (meets part.Named x) S
@@ -116,7 +105,7 @@ G3_twice S names r none told broken =
     (λ differ. contradict (and_from _ _ (none_all (fails S test.Taken) (λ x. not (is_variable S x || is_constant S x || was_label S x)) same names none) differ) broken) (λ j k h. h) told
   where
     same : (x : Name) → not (is_variable S x || is_constant S x || was_label S x) ≡ not (fails S test.Taken x)
-    same x = ap not (or_left (is_variable S x) (is_constant S x) (was_label S x) ∙ ap (λ b. is_variable S x || b) (fixed_is S x))
+    same x = ap not (or_assoc (is_variable S x) (is_constant S x) (was_label S x) ∙ ap (λ b. is_variable S x || b) (fixed_is S x))
 
 -- of G8, where each is an active variable: one stands twice
 pub G8_twice : {E : Type 0} (S : Database) (names : List Name) (r : Result (Option Witness) E) → list_any (fails S test.Inactive) names ≡ false
@@ -124,7 +113,7 @@ pub G8_twice : {E : Type 0} (S : Database) (names : List Name) (r : Result (Opti
     → keeps S (Disj names) G8 ≡ false → IfOk r (λ found. IsSomeAnd found (Offends S (Disj names) G8))
 G8_twice S names r none told broken =
     by_twice names r (Offends S (Disj names) G8)
-    (λ differ. contradict (and_from _ _ differ (none_all (fails S test.Inactive) (is_variable S) (λ x. twice_not (is_variable S x)) names none)) broken) (λ j k h. h) told
+    (λ differ. contradict (and_from _ _ differ (none_all (fails S test.Inactive) (is_variable S) (λ x. sym (not-not (is_variable S x))) names none)) broken) (λ j k h. h) told
 
 -- G4 looks at the label alone
 keeps_label : (S : Database) (s : Stmt) → keeps S s G4 ≡ is_fresh_label S (label_of s)
@@ -170,13 +159,8 @@ pub G5_is : {E : Type 0} (S : Database) (s : Stmt) (expr : Expr) (r : Result (Op
     → keeps S s G5 ≡ false → IfOk r (λ found. IsSomeAnd found (Offends S s G5))
 G5_is S s expr r is =
     by_symbol S s G5 test.Unknown (λ x. is_constant S x || is_variable S x) expr r (keeps_expr S s ∙ ap (list_all (λ x. is_constant S x || is_variable S x)) is)
-    (λ x. twice_not (is_constant S x || is_variable S x))
-    (λ k h. record { name = h.name; stands = ap (λ e. slice_get e k) is ∙ h.stands; is = neither (is_constant S h.name) (is_variable S h.name) h.is })
-  where
-    neither : (a b : Bool) → not (a || b) ≡ true → (a ≡ false) × (b ≡ false)
-    neither true b h = cc
-    neither false true h = cc
-    neither false false h = (refl, refl)
+    (λ x. sym (not-not (is_constant S x || is_variable S x)))
+    (λ k h. record { name = h.name; stands = ap (λ e. slice_get e k) is ∙ h.stands; is = or_parts (is_constant S h.name) (is_variable S h.name) (not-true (is_constant S h.name || is_variable S h.name) h.is) })
 
 -- G9 looks at the expression of a `$e`, `$a` or `$p` alone
 keeps_typed : (S : Database) (s : Stmt) → keeps S s G9 ≡ are_typed S (typed_expr s)
@@ -197,14 +181,9 @@ pub G9_is : {E : Type 0} (S : Database) (s : Stmt) (expr : Expr) (r : Result (Op
 G9_is S s expr r is =
     by_symbol S s G9 test.Untyped (λ x. not (is_variable S x) || has_float S x) expr r (keeps_typed S s ∙ ap (are_typed S) is)
     (λ x. not_and (is_variable S x) (has_float S x))
-    (λ k h. record { name = h.name; stands = ap (λ e. slice_get e k) is ∙ h.stands; is = apart (is_variable S h.name) (has_float S h.name) h.is })
+    (λ k h. record { name = h.name; stands = ap (λ e. slice_get e k) is ∙ h.stands; is = let t = and_parts (is_variable S h.name) (not (has_float S h.name)) h.is in (t.0, not-true (has_float S h.name) t.1) })
   where
     not_and : (a b : Bool) → (not a || b) ≡ not (a && not b)
     not_and true true = refl
     not_and true false = refl
     not_and false b = refl
-
-    apart : (a b : Bool) → (a && not b) ≡ true → (a ≡ true) × (b ≡ false)
-    apart true true h = cc
-    apart true false h = (refl, refl)
-    apart false b h = cc

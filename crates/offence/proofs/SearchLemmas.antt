@@ -199,8 +199,3 @@ IsActiveAt-any S i t is =
 pub some_told : (r : Option ℕ) (b : Bool) (P : ℕ → Type 0) → MatchOption r (b ≡ false) P → ((i : ℕ) → P i → b ≡ true) → is_some r ≡ b
 some_told None b P none some = sym none
 some_told (Some i) b P h some = sym (some i h)
-
--- a denial, from the other side
-pub not_back : (a b : Bool) → b ≡ not a → a ≡ not b
-not_back true b e = sym (ap not e)
-not_back false b e = sym (ap not e)

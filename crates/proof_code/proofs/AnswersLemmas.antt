@@ -1,5 +1,5 @@
 -- From what a reader answers to the public answer.
-use Rattle.std.specs.Prelude.{◌≡◌, ℕ, zero, suc, ◌+◌, ◌-◌, ◌*◌, ◌↔◌, Bool, true, false, cond, ◌&&◌, ◌||◌, ◌==◌, nat_le, IsTrue, IsFalse, List, [], ◌∷◌, ◌++◌, length, Option, Some, None, Result, Ok, Err, IfOk, map, slice_get, refl}
+use Rattle.std.specs.Prelude.{◌≡◌, ℕ, zero, suc, ◌+◌, ◌-◌, ◌*◌, ◌↔◌, Bool, true, false, cond, ◌&&◌, ◌||◌, ◌==◌, nat_le, IsTrue, IsFalse, List, [], ◌∷◌, ◌++◌, length, Option, Some, None, Result, Err, map, slice_get, refl}
 use Rattle.std.specs.List.{list_all, list_any, range_with_len}
 use Rattle.std.specs.Option.{option_map}
 use Rattle.std.proofs.Common.{sym, ◌∙◌, ap, arith, true≢false, append_assoc, length-append}
@@ -109,14 +109,6 @@ module _ (tokens : List Name) (Written : List Item → Type 0) (finished : (item
   pub written_malformed : (result : Result (List Item) CodeFault) → (result ≡ Err Malformed → ⊥) → (items : List Item) → Written items → (result ≡ Err Malformed) ↔ IsMalformed tokens (Finished tokens Written)
   written_malformed result other items w = (λ e. absurd (other e), λ m. absurd (m.1 items (finished items w, w)))
 
--- where none are, the `?` decides
-pub fault_unfinished : (tokens : List Name) (fault : CodeFault) → fault ≡ cond (is_unfinished tokens) Unfinished Malformed → (◌≡◌ {A = Result (List Item) CodeFault} (Err fault) (Err Unfinished)) ↔ IsTrue (is_unfinished tokens)
-fault_unfinished tokens fault h = by (is_unfinished tokens) h
-  where
-    by : (t : Bool) → fault ≡ cond t Unfinished Malformed → (◌≡◌ {A = Result (List Item) CodeFault} (Err fault) (Err Unfinished)) ↔ (t ≡ true)
-    by true h = (λ e. refl, λ t. ap Err h)
-    by false h = (λ e. cc, λ t. cc)
-
 -- where no items are written, the answer is Malformed just where there is no `?`
 pub fault_malformed : (tokens : List Name) (Written : List Item → Type 0) (fault : CodeFault) → fault ≡ cond (is_unfinished tokens) Unfinished Malformed → ((items : List Item) → Written items → ⊥)
     → (◌≡◌ {A = Result (List Item) CodeFault} (Err fault) (Err Malformed)) ↔ IsMalformed tokens (Finished tokens Written)
@@ -125,19 +117,6 @@ fault_malformed tokens Written fault h none = by (is_unfinished tokens) refl h
     by : (t : Bool) → is_unfinished tokens ≡ t → fault ≡ cond t Unfinished Malformed → (◌≡◌ {A = Result (List Item) CodeFault} (Err fault) (Err Malformed)) ↔ IsMalformed tokens (Finished tokens Written)
     by true u h = (λ e. cc, λ m. absurd (true≢false (sym u ∙ m.0)))
     by false u h = (λ e. (u, λ items w. none items w.1), λ m. ap Err h)
-
--- what a reader of normal proofs answers
-pub cites_all : {E : Type 0} (tokens : List Name) (result : Result (List Item) E) → list_all is_label tokens ≡ true → IfOk result (λ items. items ≡ map (λ token. Cite token) tokens)
-    → ((items : List Item) × WritesNormal tokens items) × IfOk result (WritesNormal tokens)
-cites_all tokens result labels h = ((map (λ token. Cite token) tokens, record { labels = labels; cites = refl }), by result h)
-  where
-    by : {E : Type 0} (result : Result (List Item) E) → IfOk result (λ items. items ≡ map (λ token. Cite token) tokens) → IfOk result (WritesNormal tokens)
-    by (Ok items) h = record { labels = labels; cites = h }
-    by (Err e) h = tt
-
--- a token that is no label keeps a normal proof from writing items
-pub no_labels : (tokens : List Name) → list_all is_label tokens ≡ false → (items : List Item) → WritesNormal tokens items → ⊥
-no_labels tokens some items w = true≢false (sym w.labels ∙ some)
 
 slice_get-behind : (front : List Name) (x : Name) (rest : List Name) → slice_get (front ++ x ∷ rest) (length front) ≡ Some x
 slice_get-behind [] x rest = refl

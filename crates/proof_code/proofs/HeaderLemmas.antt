@@ -8,21 +8,13 @@ use Rattle.std.proofs.lemmas.Option.{none-some, same_Some}
 use Rattle.std.proofs.lemmas.List.{append-nil}
 use Rattle.std.proofs.lemmas.Slice.Eq.{bytes_eq-Decides}
 use Rattle.std.proofs.lemmas.Bool.{or_parts, not-true, or_from, and_from, and_parts}
-use Rattle.mm_lex.specs.Alphabet.{Name, name_eq, has_name, is_label, is_label_byte}
+use Rattle.mm_lex.specs.Alphabet.{Name, name_eq, has_name, is_label}
 use Rattle.mm_lex.specs.Words.{spaced, is_word, AreWords}
 use Rattle.proof_code.specs.Text.{Header, with_label, header_of}
 use Rattle.proof_code.specs.Writes.{finish}
 
-pub is_label-word : (word : Name) → is_word word ≡ true → is_label word ≡ list_all is_label_byte word
-is_label-word [] h = cc
-is_label-word (b ∷ word) h = refl
-
 abbrev with_labels : List Name → Option Header → Option Header
 with_labels listed o = option_map (λ header. record { listed = listed ++ header.listed; rest = header.rest }) o
-
-with_labels-none : (o : Option Header) → o ≡ with_labels [] o
-with_labels-none None = refl
-with_labels-none (Some header) = refl
 
 with_labels-more : (listed : List Name) (label : Name) (o : Option Header) → with_labels listed (option_map (with_label label) o) ≡ with_labels (listed ++ label ∷ []) o
 with_labels-more listed label None = refl
@@ -75,18 +67,6 @@ pub record IsListedTo (mandatory before words : List Name) (end count : ℕ) : T
   pub decides : header_of mandatory before ≡ with_labels listed (header_of mandatory words)
   pub visible : AreWords words
 
--- at the outset no label is read
-pub listed_none : (mandatory before : List Name) → AreWords before → IsListedTo mandatory before before 0 0
-listed_none mandatory before visible = record {
-  listed = [];
-  whole = refl;
-  long = refl;
-  bytes = refl;
-  few = omega arith;
-  decides = with_labels-none (header_of mandatory before);
-  visible = visible;
-}
-
 module _ (mandatory before words : List Name) (end count : ℕ) (read : IsListedTo mandatory before words end count) (word : Name) (rest : List Name) (first : words ≡ word ∷ rest) where
   -- the next word is a word
   pub word_visible : IsTrue (is_word word)
@@ -131,10 +111,6 @@ module _ (mandatory before words : List Name) (end count : ℕ) (read : IsListed
         ∙ with_labels-more read.listed word (header_of mandatory rest)));
     visible = (and_parts (is_word word) (list_all is_word rest) (sym (ap (list_all is_word) first) ∙ read.visible)).1;
   }
-
--- without a `)` there is no header
-pub nothing_ends : (mandatory before words : List Name) (end count : ℕ) → IsListedTo mandatory before words end count → words ≡ [] → header_of mandatory before ≡ None
-nothing_ends mandatory before words end count read none = read.decides ∙ ap (λ ws. with_labels read.listed (header_of mandatory ws)) none
 
 -- ---- what the header means
 

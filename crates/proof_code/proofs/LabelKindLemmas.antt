@@ -1,8 +1,7 @@
 -- Labels whose kinds are marked.
-use Rattle.std.specs.Prelude.{◌≡◌, ℕ, zero, suc, ◌<◌, Bool, true, false, ◌||◌, ◌&&◌, List, [], ◌∷◌, ◌++◌, length, slice_index_or, slice_set, bytes_eq, cond, refl, Result, Ok, Err, OnOk, is_err}
-use Rattle.std.specs.List.{list_any}
+use Rattle.std.specs.Prelude.{◌≡◌, ℕ, zero, suc, ◌<◌, Bool, true, false, ◌&&◌, List, [], ◌∷◌, ◌++◌, length, slice_index_or, slice_set, bytes_eq, cond, refl, Result, Ok, Err, OnOk, is_err}
 use Rattle.std.proofs.Common.{sym, ◌∙◌, ap, true≢false, append_assoc}
-use Rattle.std.proofs.lemmas.List.{append-nil, get_or-set_same}
+use Rattle.std.proofs.lemmas.List.{get_or-set_same}
 use Rattle.std.proofs.lemmas.List.Folds.{list_all-append, list_any-append}
 use Rattle.std.proofs.lemmas.Slice.Eq.{bytes_eq-Decides}
 use Rattle.std.specs.HashSet.{HashSet, contains}
@@ -10,6 +9,7 @@ use Rattle.std.specs.declared.hash.FoldHasher.{FoldHasher}
 use Rattle.std.specs.declared.hash.BuildHasherDefault.{BuildHasherDefault}
 use Rattle.std.specs.Borrow.{Bor}
 use Rattle.std.proofs.lemmas.Bool.{and_parts}
+use Rattle.mm_lex.proofs.NameLemmas.{tried_first}
 use Rattle.mm_lex.specs.Alphabet.{Name, name_eq, has_name}
 use Rattle.proof_code.specs.LabelKinds.{kind_of, are_marked, AreNames}
 
@@ -43,10 +43,6 @@ pub record AreMarkedTo (labels left : List Name) (kinds : List Bool) : Type 0 wh
   pub whole : labels ≡ done ++ left
   pub marked : are_marked kinds done ≡ true
 
--- at the outset no kind need be marked
-pub marked_none : (labels left : List Name) (kinds : List Bool) → left ≡ labels → AreMarkedTo labels left kinds
-marked_none labels left kinds e = record { done = []; whole = sym e; marked = refl }
-
 -- the kind of one more label is marked
 pub marked_more : (labels left rest : List Name) (label : Name) (k : ℕ) (kinds : List Bool) → AreMarkedTo labels left kinds → left ≡ label ∷ rest → k ≡ kind_of label → k < length kinds → AreMarkedTo labels rest (slice_set kinds k true)
 marked_more labels left rest label k kinds m first is within = record {
@@ -55,10 +51,6 @@ marked_more labels left rest label k kinds m first is within = record {
   marked = list_all-append (λ label. slice_index_or (slice_set kinds k true) (kind_of label) false) m.done (label ∷ [])
       ∙ rw (are_marked-set kinds k m.done m.marked) (ap (λ t. t && true) (ap (λ j. slice_index_or (slice_set kinds k true) j false) (sym is) ∙ get_or-set_same kinds k true false within));
 }
-
--- where no label is left, the kinds of all are marked
-pub marked_all : (labels left : List Name) (kinds : List Bool) → AreMarkedTo labels left kinds → left ≡ [] → are_marked kinds labels ≡ true
-marked_all labels left kinds m none = ap (are_marked kinds) (m.whole ∙ (ap (λ ws. m.done ++ ws) none ∙ append-nil m.done)) ∙ m.marked
 
 -- ---- the set of the names
 
@@ -76,10 +68,6 @@ bytes_eq-sym a b = by (bytes_eq a b) refl (bytes_eq b a) refl
     by false e true f = absurd (true≢false (sym ((bytes_eq-Decides a b).1 (sym ((bytes_eq-Decides b a).0 f))) ∙ e))
     by false e false f = refl
 
--- an empty set names no label
-pub names_none : (labels left : List Name) (names : HashSet (Bor Name) (BuildHasherDefault FoldHasher)) → left ≡ labels → names.keys ≡ [] → NamesTo labels left names
-names_none labels left names e empty = record { done = []; whole = sym e; named = λ label. ap (list_any (λ key. bytes_eq label.now key.now)) empty }
-
 -- one more label comes into the set
 pub names_more : (labels left rest : List Name) (label : Bor Name) (old new : HashSet (Bor Name) (BuildHasherDefault FoldHasher)) → NamesTo labels left old → left ≡ label.now ∷ rest
     → ((q : Bor Name) → contains (λ a b. bytes_eq a.now b.now) new q ≡ cond (bytes_eq label.now q.now) true (contains (λ a b. bytes_eq a.now b.now) old q)) → NamesTo labels rest new
@@ -87,18 +75,8 @@ names_more labels left rest label old new m first updates = record {
   done = m.done ++ label.now ∷ [];
   whole = m.whole ∙ (ap (λ ws. m.done ++ ws) first ∙ sym (append_assoc m.done (label.now ∷ []) rest));
   named = λ q. updates q ∙ (ap (λ t. cond (bytes_eq label.now q.now) true t) (m.named q) ∙ (ap (λ t. cond t true (has_name q.now m.done)) (bytes_eq-sym label.now q.now)
-      ∙ (turn (bytes_eq q.now label.now) (has_name q.now m.done) ∙ sym (list_any-append (name_eq q.now) m.done (label.now ∷ [])))));
+      ∙ (tried_first (bytes_eq q.now label.now) (has_name q.now m.done) ∙ sym (list_any-append (name_eq q.now) m.done (label.now ∷ [])))));
 }
-  where
-    turn : (a b : Bool) → cond a true b ≡ (b || (a || false))
-    turn true true = refl
-    turn true false = refl
-    turn false true = refl
-    turn false false = refl
-
--- where no label is left, the set has just the names of the labels
-pub names_all : (labels left : List Name) (names : HashSet (Bor Name) (BuildHasherDefault FoldHasher)) → NamesTo labels left names → left ≡ [] → AreNames names labels
-names_all labels left names m none label = m.named label ∙ ap (has_name label.now) (sym (m.whole ∙ (ap (λ ws. m.done ++ ws) none ∙ append-nil m.done)))
 
 -- what holds where a call succeeds, where it has not failed
 pub on_ok : {A E : Type 0} (r : Result A E) (P : Type 0) → OnOk r P → false ≡ is_err r → P

@@ -4,6 +4,7 @@ use Rattle.std.specs.Option.{option_map}
 use Rattle.std.proofs.Common.{sym, ◌∙◌, ap, arith, true≢false}
 use Rattle.std.proofs.lemmas.Option.{none-some}
 use Rattle.std.proofs.lemmas.Bool.Decides.{nat_tests}
+use Rattle.std.proofs.Math.Bool.{and-false}
 use Rattle.mm_lex.specs.Alphabet.{Name}
 use Rattle.proof_code.specs.declared.item.Item.{Item}
 use Rattle.proof_code.specs.declared.item.Item.TheVariants.{Cite, Recall, Mark}
@@ -90,17 +91,13 @@ numbers_from-over limit digits (letter ∷ letters) over =
     test : nat_le (20 * digits + (letter - 64)) limit ≡ false
     test = grind (arith, nat_tests)
 
-    none : (a : Bool) → (a && false) ≡ false
-    none true = refl
-    none false = refl
-
     by : (f l : Bool) → numbers_from limit (5 * digits + (letter - 84)) letters ≡ None
         → cond f (numbers_from limit (5 * digits + (letter - 84)) letters)
         (cond l (with_number limit (20 * digits + (letter - 64)) (numbers_from limit 0 letters))
         (cond ((letter == 90) && (digits == 0)) (option_map (λ numbers. 0 ∷ numbers) (numbers_from (limit + 1) 0 letters)) None)) ≡ None
     by true l ih = ih
     by false true ih = rw test refl
-    by false false ih = rw (some, none (letter == 90)) refl
+    by false false ih = let none : ((letter == 90) && false) ≡ false = and-false (letter == 90) in rw (some, none) refl
 
 -- a letter U to Y that takes the word over the limit
 pub numbers_from-first : (limit digits letter : ℕ) (letters : List ℕ) → is_first letter ≡ true → limit < 20 * (5 * digits + (letter - 84)) → numbers_from limit digits (letter ∷ letters) ≡ None

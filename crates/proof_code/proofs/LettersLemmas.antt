@@ -6,6 +6,7 @@ use Rattle.std.proofs.Common.{sym, ◌∙◌, ap, subst, arith, true≢false}
 use Rattle.std.proofs.lemmas.Option.{slice_get-map, none-some, same_Some}
 use Rattle.std.proofs.lemmas.Bool.Decides.{nat_tests}
 use Rattle.std.proofs.lemmas.Bool.{and_parts}
+use Rattle.std.proofs.lemmas.List.{map-append}
 use Rattle.mm_lex.specs.Alphabet.{Name}
 use Rattle.proof_code.specs.Letters.{first_letters, last_letters, words_of_size, words_below, IsNumber, is_last, is_first, number_from, number_of}
 
@@ -21,10 +22,6 @@ count_below (suc n) = count_below n + count_of_size n
 -- the numbers from `from` on, `count` of them
 abbrev row : ℕ → ℕ → List (Option ℕ)
 row from count = map Some (range_with_len from count)
-
-pub map-append : {A B : Type 0} (f : A → B) (xs ys : List A) → map f (xs ++ ys) ≡ map f xs ++ map f ys
-map-append f [] ys = refl
-map-append f (x ∷ xs) ys = ap (λ r. f x ∷ r) (map-append f xs ys)
 
 -- two rows one behind the other
 row-append : (a m n b : ℕ) → b ≡ a + m → row a m ++ row b n ≡ row a (m + n)

@@ -8,6 +8,7 @@ use Rattle.std.proofs.lemmas.List.{append-nil, drop_more}
 use Rattle.std.proofs.lemmas.Option.{same_Some}
 use Rattle.std.proofs.lemmas.Slice.Eq.{bytes_eq-Decides}
 use Rattle.std.proofs.lemmas.Bool.{and_parts}
+use Rattle.std.proofs.Math.Bool.{and-false}
 use Rattle.mm_lex.specs.Alphabet.{Name, name_eq, is_visible, is_label, is_label_byte}
 use Rattle.mm_lex.specs.Words.{spaced, is_word}
 use Rattle.proof_code.specs.Listing.{class_of, letters_from, more_labels, behind_none, counted}
@@ -74,10 +75,6 @@ letters-none b [] (next ∷ words) seen other = by (b == 41) refl
 letters-none b (c ∷ word) words seen other =
     let parts : (is_visible c ≡ true) × (list_all is_visible word ≡ true) = and_parts (is_visible c) (list_all is_visible word) seen in
     ap (λ t. cond t (Some (word ++ behind words)) None) (ap (λ t. (b == 41) && t) (not_space c parts.0) ∙ and-false (b == 41))
-  where
-    and-false : (t : Bool) → (t && false) ≡ false
-    and-false true = refl
-    and-false false = refl
 
 none-behind : (fresh : Bool) (letters : Option (List ℕ)) → letters ≡ None → behind_none fresh letters ≡ None
 none-behind true letters e = ap (option_map (λ l. (0, l))) e

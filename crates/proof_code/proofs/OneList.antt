@@ -4,13 +4,14 @@ use Rattle.std.specs.List.{list_all}
 use Rattle.std.proofs.Common.{sym, ◌∙◌, ap, true≢false, inl, inr}
 use Rattle.std.proofs.lemmas.Option.{none-some, same_Some}
 use Rattle.std.proofs.lemmas.Slice.Eq.{bytes_eq-Decides}
+use Rattle.std.proofs.lemmas.Bool.{both_ways}
 use Rattle.mm_lex.specs.Alphabet.{Name, is_label}
 use Rattle.proof_code.specs.declared.item.Item.{Item}
 use Rattle.proof_code.specs.declared.item.Item.TheVariants.{Cite}
 use Rattle.proof_code.specs.Laws.{OneAnswer}
 use Rattle.proof_code.specs.ItemNumbers.{items_of}
 use Rattle.proof_code.specs.Text.{Header, header_of, numbers_from, starts_with_mark}
-use Rattle.proof_code.specs.Writes.{begin, is_unfinished, is_compressed, WritesRow, WritesCompressed, WritesNormal, Writes, IsMalformed}
+use Rattle.proof_code.specs.Writes.{begin, is_unfinished, is_compressed, WritesRow, WritesCompressed, WritesNormal, Writes, IsMalformed, WritesPacked}
 use Rattle.proof_code.proofs.LetterItemLemmas.{RowIsRead, WritesRow-read, read-WritesRow}
 use Rattle.proof_code.proofs.WritesLemmas.{joined, no_header, row_behind, written_behind}
 
@@ -92,6 +93,11 @@ compressed_or_not tokens mandatory compressed =
 finished : (tokens mandatory : List Name) (items : List Item) → Writes tokens mandatory items → is_unfinished tokens ≡ false
 finished tokens mandatory items (inl w) = w.1.0
 finished tokens mandatory items (inr w) = w.1.0
+
+-- the tokens of a compressed proof that are malformed write no items
+pub malformed-none : (tokens mandatory : List Name) → is_compressed tokens ≡ true → IsMalformed tokens (WritesPacked tokens mandatory) → (items : List Item) → Writes tokens mandatory items → ⊥
+malformed-none tokens mandatory compressed malformed items (inl w) = malformed.1 items w.1
+malformed-none tokens mandatory compressed malformed items (inr w) = both_ways (is_compressed tokens) w.0 compressed
 
 abbrev Answer : List Name → List Name → Type 0
 Answer tokens mandatory = ((items : List Item) × Writes tokens mandatory items) ⊎ IsTrue (is_unfinished tokens) ⊎ IsMalformed tokens (Writes tokens mandatory)

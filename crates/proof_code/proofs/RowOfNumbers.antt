@@ -4,7 +4,7 @@ use Rattle.std.specs.Option.{option_map}
 use Rattle.std.proofs.Common.{◌∙◌, ap, arith}
 use Rattle.std.proofs.lemmas.Option.{none-some, same_Some, slice_get_within, get_or_from_slice_get}
 use Rattle.std.proofs.lemmas.Bool.Decides.{nat_tests}
-use Rattle.std.proofs.lemmas.Bool.{lt-ltb}
+use Rattle.std.proofs.lemmas.Bool.{lt-ltb, le-ltb}
 use Rattle.mm_lex.specs.Alphabet.{Name, is_empty}
 use Rattle.proof_code.specs.declared.item.Item.{Item}
 use Rattle.proof_code.specs.declared.item.Item.TheVariants.{Cite, Recall, Mark}
@@ -60,6 +60,10 @@ item_of-cite labels (suc n) k label is at =
 -- and the label is the one at that place
 pub item-cite : (labels : List Name) (n k : ℕ) → n ≡ suc k → k < length labels → item_of labels n ≡ Cite (get_or labels k [])
 item-cite labels n k e h = ap (item_of labels) e ∙ ap (λ b. cond b (Cite (get_or labels k [])) (Recall (suc (k - length labels)))) (lt-ltb k (length labels) h)
+
+-- a number behind those of the labels recalls a mark
+pub item-recall : (labels : List Name) (n k : ℕ) → n ≡ suc k → length labels ≤ k → item_of labels n ≡ Recall (suc (k - length labels))
+item-recall labels n k e h = ap (item_of labels) e ∙ ap (λ b. cond b (Cite (get_or labels k [])) (Recall (suc (k - length labels)))) (le-ltb k (length labels) h)
 
 item_of-recall : (labels : List Name) (number k : ℕ) → number ≡ length labels + k → 1 ≤ k → item_of labels number ≡ Recall k
 item_of-recall labels zero k is some = absurd (omega arith)

@@ -5,6 +5,8 @@ use Rattle.std.proofs.Common.{sym, ◌∙◌, ap, arith, true≢false, length-ap
 use Rattle.std.proofs.lemmas.List.{append-nil}
 use Rattle.std.proofs.lemmas.List.Folds.{list_any-append}
 use Rattle.std.proofs.lemmas.Bool.{and_parts}
+use Rattle.std.proofs.Math.Bool.{or-false}
+use Rattle.mm_lex.proofs.WordsLemmas.{word-visible}
 use Rattle.mm_lex.specs.Alphabet.{Name, is_visible, has_byte}
 use Rattle.mm_lex.specs.Words.{spaced, is_word}
 use Rattle.proof_code.specs.Text.{letters_of}
@@ -23,19 +25,14 @@ letters_of-visible (b ∷ word) text h =
     let parts : (is_visible b ≡ true) × (list_all is_visible word ≡ true) = and_parts (is_visible b) (list_all is_visible word) h in
     rw (not_space b parts.0) (ap (λ r. b ∷ r) (letters_of-visible word text parts.1))
 
--- each byte of a word can be seen
-visible : (word : Name) → is_word word ≡ true → list_all is_visible word ≡ true
-visible [] h = cc
-visible (b ∷ word) h = h
-
 -- the letters of words are the words joined
 pub letters_of-spaced : (words : List Name) → list_all is_word words ≡ true → letters_of (spaced words) ≡ flat_map (λ word. word) words
 letters_of-spaced [] h = refl
 letters_of-spaced (word ∷ []) h =
-    ap letters_of (sym (append-nil word)) ∙ letters_of-visible word [] (visible word (and_parts (is_word word) true h).0)
+    ap letters_of (sym (append-nil word)) ∙ letters_of-visible word [] (word-visible word (and_parts (is_word word) true h).0)
 letters_of-spaced (word ∷ next ∷ words) h =
     let parts : (is_word word ≡ true) × (list_all is_word (next ∷ words) ≡ true) = and_parts (is_word word) (list_all is_word (next ∷ words)) h in
-    letters_of-visible word (32 ∷ spaced (next ∷ words)) (visible word parts.0) ∙ ap (λ r. word ++ r) (letters_of-spaced (next ∷ words) parts.1)
+    letters_of-visible word (32 ∷ spaced (next ∷ words)) (word-visible word parts.0) ∙ ap (λ r. word ++ r) (letters_of-spaced (next ∷ words) parts.1)
 
 -- a word is not empty
 some_byte : (word : Name) → is_word word ≡ true → 1 ≤ length word
@@ -50,21 +47,10 @@ length-spaced (word ∷ next ∷ words) h =
     let parts : (is_word word ≡ true) × (list_all is_word (next ∷ words) ≡ true) = and_parts (is_word word) (list_all is_word (next ∷ words)) h in
     omega (arith, some_byte word parts.0, length-spaced (next ∷ words) parts.1, length-append word (32 ∷ spaced (next ∷ words)))
 
--- a text behind another
-pub length-spaced_behind : (front words : List Name) → length (spaced words) ≤ length (spaced (front ++ words))
-length-spaced_behind [] words = omega arith
-length-spaced_behind (word ∷ []) [] = omega arith
-length-spaced_behind (word ∷ []) (next ∷ words) = omega (arith, length-append word (32 ∷ spaced (next ∷ words)))
-length-spaced_behind (word ∷ v ∷ front) words = omega (arith, length-spaced_behind (v ∷ front) words, length-append word (32 ∷ spaced (v ∷ (front ++ words))))
-
 -- a byte other than a space is in the text where it is in a word
 pub list_any-spaced : (byte : ℕ) (words : List Name) → (32 == byte) ≡ false → list_any (λ b. b == byte) (spaced words) ≡ list_any (has_byte byte) words
 list_any-spaced byte [] h = refl
-list_any-spaced byte (word ∷ []) h = or_none (list_any (λ b. b == byte) word)
-  where
-    or_none : (a : Bool) → a ≡ (a || false)
-    or_none true = refl
-    or_none false = refl
+list_any-spaced byte (word ∷ []) h = sym (or-false (list_any (λ b. b == byte) word))
 list_any-spaced byte (word ∷ next ∷ words) h =
     list_any-append (λ b. b == byte) word (32 ∷ spaced (next ∷ words))
     ∙ (ap (λ t. has_byte byte word || (t || list_any (λ b. b == byte) (spaced (next ∷ words)))) h

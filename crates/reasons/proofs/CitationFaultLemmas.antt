@@ -1,10 +1,12 @@
 -- Hypotheses that ask for other results.
-use Rattle.std.proofs.Common.{◌≡◌, ℕ, zero, suc, ◌+◌, ◌<◌, List, [], ◌∷◌, ◌++◌, length, take, get_or, map, refl, sym, ◌∙◌, ap, subst, add-one, Some, slice_get}
+use Rattle.std.proofs.Common.{◌≡◌, ℕ, ◌+◌, ◌<◌, List, [], ◌∷◌, ◌++◌, length, take, get_or, map, refl, sym, ◌∙◌, ap, subst, add-one, Some, slice_get}
 use Rattle.std.specs.Prelude.{Bool, true, false, not, bytes_eq}
 use Rattle.std.proofs.lemmas.Slice.Eq.{bytes_eq-Decides}
 use Rattle.std.specs.Global.{Vec}
 use Rattle.std.proofs.Math.Seq.{take-suc}
 use Rattle.std.proofs.lemmas.Option.{slice_get-get_or, slice_get_read}
+use Rattle.std.proofs.lemmas.List.{take-map, map_push}
+use Rattle.std.proofs.lemmas.Bool.{not-false, not-true, both_ways}
 use Rattle.mm_lex.specs.Alphabet.{Name}
 use Rattle.mm_read.specs.declared.stmt.Stmt.{Stmt}
 use Rattle.mm_read.specs.declared.stmt.Stmt.TheVariants as stmt
@@ -25,13 +27,7 @@ use Rattle.frame.specs.FrameOf.{hypotheses}
 use Rattle.reasons.specs.ReadImages.{images_read, named_images, AreVariables}
 use Rattle.reasons.specs.CitationFaults.{asks, AllFit, IsOther, BeginsOther, IsOtherConstant, StartsOther, IsFloat, IsSaid, IsMismatch}
 use Rattle.reasons.proofs.NamedLemmas.{apply_same}
-use Rattle.frame.proofs.StoredOneMore.{map-push}
 use Rattle.frame.proofs.FoundByNumber.{map-at, name_at-injective, decode-injective}
-
-take-map : {A B : Type 0} (f : A → B) (n : ℕ) (xs : List A) → take n (map f xs) ≡ map f (take n xs)
-take-map f zero xs = refl
-take-map f (suc n) [] = refl
-take-map f (suc n) (x ∷ xs) = ap (λ r. f x ∷ r) (take-map f n xs)
 
 -- the expression of the statement that stands there
 pub expr_is : (S : Database) (p : ℕ) (s : Stmt) → stmt_at S p ≡ Some s → expr_at S p ≡ expr_of s
@@ -50,7 +46,7 @@ module _ (S : Database) (names : List Name) (σ : Images) (ps : List ℕ) (resul
       take-map (λ v. decode names v.items) (k + 1) results
       ∙ (ap (λ n. map (λ v. decode names v.items) (take n results)) (add-one k)
       ∙ (ap (λ l. map (λ v. decode names v.items) l) (take-suc results k r inside ∙ ap (λ v. take k results ++ v ∷ []) (sym here))
-      ∙ (map-push (λ v. decode names v.items) (take k results) r
+      ∙ (map_push (λ v. decode names v.items) (take k results) r
       ∙ ap (λ l. l ++ decode names r.items ∷ []) (sym (take-map (λ v. decode names v.items) k results)))))
 
   -- one hypothesis more has its result
@@ -58,7 +54,7 @@ module _ (S : Database) (names : List Name) (σ : Images) (ps : List ℕ) (resul
   fit_more e =
       ap (λ n. map (asks S σ) (take n ps)) (add-one k)
       ∙ (ap (λ l. map (asks S σ) l) (take-suc ps k 0 within)
-      ∙ (map-push (asks S σ) (take k ps) (get_or ps k 0)
+      ∙ (map_push (asks S σ) (take k ps) (get_or ps k 0)
       ∙ (ap (λ l. l ++ asks S σ (get_or ps k 0) ∷ []) before
       ∙ (ap (λ x. take k (named names results) ++ x ∷ []) e ∙ sym last_is))))
 
@@ -139,16 +135,8 @@ mismatch_is S names a s rs kind head p k asked there Unmarked said other constan
 
 -- what a test of two lists tells
 pub not_ne : (b : Bool) (xs ys : List ℕ) → b ≡ not (bytes_eq xs ys) → b ≡ false → xs ≡ ys
-not_ne b xs ys e f = (bytes_eq-Decides xs ys).0 (by (bytes_eq xs ys) (sym e ∙ f))
-  where
-    by : (c : Bool) → not c ≡ false → c ≡ true
-    by true h = refl
-    by false h = cc
+not_ne b xs ys e f = (bytes_eq-Decides xs ys).0 (not-false (bytes_eq xs ys) (sym e ∙ f))
 
 -- lists of which the test says that they differ are not equal
 pub is_ne : (b : Bool) (xs ys : List ℕ) → b ≡ not (bytes_eq xs ys) → b ≡ true → ys ≡ xs → ⊥
-is_ne b xs ys e f same = by (bytes_eq xs ys) (sym e ∙ f) ((bytes_eq-Decides xs ys).1 (sym same))
-  where
-    by : (c : Bool) → not c ≡ true → c ≡ true → ⊥
-    by true h k = cc
-    by false h k = cc
+is_ne b xs ys e f same = both_ways (bytes_eq xs ys) (not-true (bytes_eq xs ys) (sym e ∙ f)) ((bytes_eq-Decides xs ys).1 (sym same))

@@ -19,18 +19,6 @@ module _ (names : List Name) (p : Name → Bool) (xs : List ℕ) (i : ℕ) where
       ap (λ l. list_all p (decode names l)) (drop-cons xs i 0 inside)
       ∙ (ap (λ b. b && list_all p (decode names (drop (suc i) xs))) e ∙ ap (λ k. list_all p (decode names (drop k xs))) (sym (add-one i)))
 
--- behind the last symbol nothing is left to test
-pub all_end : (names : List Name) (p : Name → Bool) (xs : List ℕ) (i : ℕ) → length xs ≤ i → list_all p (decode names (drop i xs)) ≡ true
-all_end names p [] zero h = refl
-all_end names p [] (suc i) h = refl
-all_end names p (x ∷ xs) zero h = absurd (omega (arith, h))
-all_end names p (x ∷ xs) (suc i) h = all_end names p xs i (omega (arith, h))
-
--- what every name passes the names of a list pass
-pub all_of : (p : Name → Bool) (xs : List Name) → ((x : Name) → p x ≡ true) → list_all p xs ≡ true
-all_of p [] h = refl
-all_of p (x ∷ xs) h = ap (λ b. b && list_all p xs) (h x) ∙ all_of p xs h
-
 -- the name of each number of a list is among the names of the list
 pub has_at : (names : List Name) (xs : List ℕ) (i : ℕ) → i < length xs → has_name (name_at names (get_or xs i 0)) (decode names xs) ≡ true
 has_at names [] i h = absurd (omega (arith, h))
@@ -38,13 +26,6 @@ has_at names (x ∷ xs) zero h = ap (λ b. b || has_name (name_at names x) (deco
 has_at names (x ∷ xs) (suc i) h =
     let y = name_at names (get_or xs i 0) in
     ap (λ b. name_eq y (name_at names x) || b) (has_at names xs i (omega (arith, h))) ∙ or-true (name_eq y (name_at names x))
-
--- two symbols are kept apart where the first is no variable
-pub kept_by : (a b c : Bool) → a ≡ false → (not a || not b || c) ≡ true
-kept_by a b c e = ap (λ x. not x || not b || c) e ∙ left (not b) c
-  where
-    left : (b c : Bool) → (true || b || c) ≡ true
-    left b c = refl
 
 -- numbers that are not equal are told apart by the test
 pub numbers_differ : (m n : ℕ) → (n ≡ m → ⊥) → nat_eq m n ≡ false

@@ -1,5 +1,5 @@
 -- The image of a symbol, by the first entry for it, and the symbols of images.
-use Rattle.std.proofs.Common.{◌≡◌, ℕ, zero, suc, ◌+◌, ◌<◌, ◌≤◌, Bool, true, false, cond, List, [], ◌∷◌, ◌++◌, length, drop, get_or, arith, refl, sym, ◌∙◌, ap, add-one, subst}
+use Rattle.std.proofs.Common.{◌≡◌, ℕ, suc, ◌+◌, ◌<◌, Bool, true, false, cond, List, [], ◌∷◌, ◌++◌, length, drop, get_or, sym, ◌∙◌, ap, add-one, subst}
 use Rattle.std.specs.Prelude.{nat_eq}
 use Rattle.std.proofs.Math.Seq.{drop-cons}
 use Rattle.frame.specs.Below.{AreBelow}
@@ -21,13 +21,6 @@ module _ (images : List Image) (i : ℕ) (x : Image) (symbol : ℕ) (inside : i 
   -- .. and else those behind it
   pub image_behind : nat_eq symbol x.variable ≡ false → code_image (code_images (drop i images)) symbol ≡ code_image (code_images (drop (i + 1) images)) symbol
   image_behind e = ap (λ d. code_image (code_images d) symbol) opened ∙ ap (λ b. cond b x.symbols.items (code_image (code_images (drop (i + 1) images)) symbol)) e
-
--- a symbol for which no entry is left is its own image
-pub image_none : (images : List Image) (i symbol : ℕ) → length images ≤ i → code_image (code_images (drop i images)) symbol ≡ symbol ∷ []
-image_none [] zero symbol h = refl
-image_none [] (suc i) symbol h = refl
-image_none (x ∷ images) zero symbol h = absurd (omega (arith, h))
-image_none (x ∷ images) (suc i) symbol h = image_none images i symbol (omega (arith, h))
 
 -- the symbols of images
 pub image-below : (n : ℕ) (images : List Image) (symbol : ℕ) → AreImages n images → symbol < n → AreBelow n (code_image (code_images images) symbol)

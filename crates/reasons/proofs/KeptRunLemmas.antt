@@ -5,6 +5,7 @@ use Rattle.std.specs.Prelude.{IsTrue}
 use Rattle.std.specs.Global.{Vec}
 use Rattle.std.specs.List.{list_all}
 use Rattle.std.proofs.lemmas.List.{length-map}
+use Rattle.std.proofs.lemmas.Option.{same_Some}
 use Rattle.mm_lex.specs.Alphabet.{Name}
 use Rattle.mm_read.specs.declared.stmt.Stmt.{Stmt}
 use Rattle.mm_read.specs.declared.stmt.Stmt.TheVariants as stmt
@@ -143,10 +144,7 @@ wrong_fails S names at a s h below rs Unmarked light whole count earlier stands 
 
 -- a statement that stands where an assertion stands is an assertion
 pub assertion_is : (S : Database) (a : ℕ) (r s : Stmt) → HasAssertion S a r → stmt_at S a ≡ Some s → HasAssertion S a s
-assertion_is S a r s has e = (e, subst (λ t. IsTrue (is_assertion t)) (some_same r s (sym has.0 ∙ e)) has.1)
-  where
-    some_same : (r s : Stmt) → Some r ≡ Some s → r ≡ s
-    some_same r s h = cc
+assertion_is S a r s has e = (e, subst (λ t. IsTrue (is_assertion t)) (same_Some r s (sym has.0 ∙ e)) has.1)
 
 -- the results that are taken are as many by name
 pub count_is : (names : List Name) (base : ℕ) (xs : List (Vec ℕ)) (n : ℕ) → (length xs - base ≡ n) × (base ≤ length xs) → length (named names (take (length xs - base) (drop base xs))) ≡ n
@@ -157,7 +155,4 @@ count_is names base xs n h =
 -- a statement that stands where a hypothesis stands is that hypothesis, and has its expression
 pub hypothesis_is : (S : Database) (names : List Name) (at i : ℕ) (r s : Stmt) (e : List ℕ) → IsHypothesis S at i r → decode names e ≡ expr_of r → stmt_at S i ≡ Some s
     → (IsHypothesis S at i s) × (decode names e ≡ expr_of s)
-hypothesis_is S names at i r s e is same stands = subst (λ t. (IsHypothesis S at i t) × (decode names e ≡ expr_of t)) (some_same r s (sym is.stands ∙ stands)) (is, same)
-  where
-    some_same : (r s : Stmt) → Some r ≡ Some s → r ≡ s
-    some_same r s h = cc
+hypothesis_is S names at i r s e is same stands = subst (λ t. (IsHypothesis S at i t) × (decode names e ≡ expr_of t)) (same_Some r s (sym is.stands ∙ stands)) (is, same)

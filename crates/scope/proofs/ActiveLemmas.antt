@@ -1,9 +1,10 @@
 -- What a statement more does to what is active.
-use Rattle.std.specs.Prelude.{◌≡◌, ℕ, zero, suc, ◌+◌, ◌-◌, ◌≤◌, Bool, true, false, cond, ◌||◌, List, [], ◌∷◌, ◌++◌, length, take, refl}
+use Rattle.std.specs.Prelude.{◌≡◌, ℕ, zero, suc, ◌+◌, ◌-◌, ◌≤◌, Bool, true, false, cond, List, [], ◌∷◌, ◌++◌, length, take, refl}
 use Rattle.std.specs.List.{flat_map}
 use Rattle.std.proofs.Common.{◌∙◌, ap, sym, arith, true≢false}
 use Rattle.std.proofs.lemmas.List.{take_at}
 use Rattle.std.proofs.lemmas.Grind.{flat_map-append}
+use Rattle.std.proofs.lemmas.Bool.{or_parts}
 use Rattle.mm_read.specs.declared.stmt.Stmt.{Stmt}
 use Rattle.mm_read.specs.declared.stmt.Stmt.TheVariants.{Open, Close}
 use Rattle.mm_read.specs.Statements.{Database}
@@ -132,14 +133,9 @@ split_open (p ∷ es) = by (has_open es) (split_open es)
     by true e = ap (λ r. p ∷ r) e
     by false e = refl
 
--- a disjunction that does not hold has no right part that holds
-pub or_false_right : (a b : Bool) → (a || b) ≡ false → b ≡ false
-or_false_right true b h = cc
-or_false_right false b h = h
-
 pub before_open-none : (es : List (ℕ × Stmt)) → has_open es ≡ false → before_open es ≡ []
 before_open-none [] h = refl
-before_open-none (p ∷ es) h = ap (λ b. cond b (p ∷ before_open es) []) (or_false_right (is_open p.1) (has_open es) h)
+before_open-none (p ∷ es) h = ap (λ b. cond b (p ∷ before_open es) []) (or_parts (is_open p.1) (has_open es) h).1
 
 pub open-left : (at : ℕ) (S : Database) → has_open (active_from at S) ≡ true → 1 ≤ left_open S
 open-left at [] h = cc
@@ -168,7 +164,7 @@ none-left at (s ∷ S) h = by (stays_open 0 S) h (none-left (at + 1) S)
   where
     by : (b : Bool) → has_open (cond b ((at, s) ∷ active_from (at + 1) S) (active_from (at + 1) S)) ≡ false
         → (has_open (active_from (at + 1) S) ≡ false → left_open S ≡ 0) → left_open S ≡ 0
-    by true h rest = rest (or_false_right (is_open s) (has_open (active_from (at + 1) S)) h)
+    by true h rest = rest (or_parts (is_open s) (has_open (active_from (at + 1) S)) h).1
     by false h rest = rest h
 
 -- a `$}` closes what is still open exactly where a block is

@@ -4,6 +4,7 @@ use Rattle.std.specs.List.{list_any}
 use Rattle.std.proofs.Common.{◌∙◌, ap, sym, subst, arith, true≢false, length-append}
 use Rattle.std.proofs.Math.Bool.{or-false}
 use Rattle.std.proofs.lemmas.List.{length-map}
+use Rattle.std.proofs.lemmas.List.Folds.{list_any-append}
 use Rattle.mm_lex.specs.Alphabet.{Name, name_eq, has_name}
 use Rattle.mm_read.specs.declared.stmt.Stmt.{Stmt}
 use Rattle.mm_read.specs.declared.stmt.Stmt.TheVariants.{Const, Var}
@@ -22,16 +23,7 @@ use Rattle.scope.proofs.NamesLemmas.{names_from-append, names_of-later, or_kind,
 -- ---- what a statement more declares
 
 any-append : (p : Stmt → Bool) (S : Database) (s : Stmt) → list_any p (S ++ s ∷ []) ≡ (list_any p S || p s)
-any-append p [] s = or_no (p s)
-  where
-    or_no : (b : Bool) → (b || false) ≡ b
-    or_no true = refl
-    or_no false = refl
-any-append p (t ∷ S) s = ap (λ b. p t || b) (any-append p S s) ∙ or_assoc (p t) (list_any p S) (p s)
-  where
-    or_assoc : (a b c : Bool) → (a || (b || c)) ≡ ((a || b) || c)
-    or_assoc true b c = refl
-    or_assoc false b c = refl
+any-append p S s = list_any-append p S (s ∷ []) ∙ ap (λ b. list_any p S || b) (or-false (p s))
 
 -- the three tests after one more statement, from what it adds to each
 tells-step : (S : Database) (s : Stmt) (x : Name) (k k' : Option NameKind) → Tells S x k

@@ -6,7 +6,7 @@ use Rattle.std.proofs.Math.Bool.{or-false}
 use Rattle.std.proofs.lemmas.List.{append-nil, map-append, take-map, take-take, take_all, take_at, length-map, nil_from_length}
 use Rattle.std.proofs.lemmas.Grind.{flat_map-append}
 use Rattle.std.proofs.lemmas.Bool.Decides.{nat_tests}
-use Rattle.std.proofs.lemmas.Bool.{and_parts}
+use Rattle.std.proofs.lemmas.Bool.{and_parts, or_parts, not-true}
 use Rattle.mm_lex.specs.Alphabet.{Name, name_eq, has_name}
 use Rattle.mm_read.specs.declared.stmt.Stmt.{Stmt}
 use Rattle.mm_read.specs.Statements.{Database}
@@ -121,21 +121,13 @@ fresh-none S names x told h = by (kind_in names x) (fresh-kind S x (kind_in name
 pub inactive-free : (S : Database) (names : Declared) (x : Name) → TellsAll S names → not (is_variable S x || is_constant S x || was_label S x) ≡ true
     → (is_label_kind (kind_in names x) ≡ false) × (is_constant_kind (kind_in names x) ≡ false)
 inactive-free S names x told h =
-    let p = parts (is_variable S x) (is_constant S x) (was_label S x) h in
-    (sym (told x).label ∙ p.2, sym (told x).constant ∙ p.1)
-  where
-    parts : (a b c : Bool) → not (a || b || c) ≡ true → (a ≡ false) × (b ≡ false) × (c ≡ false)
-    parts false false false h = (refl, refl, refl)
-    parts true b c h = cc
-    parts false true c h = cc
-    parts false false true h = cc
+    let p = or_parts (is_variable S x || is_constant S x) (was_label S x) (not-true (is_variable S x || is_constant S x || was_label S x) h) in
+    (sym (told x).label ∙ p.1, sym (told x).constant ∙ (or_parts (is_variable S x) (is_constant S x) p.0).1)
 
 pub inactive-not : (S : Database) (x : Name) → not (is_variable S x || is_constant S x || was_label S x) ≡ true → is_variable S x ≡ false
-inactive-not S x h = by (is_variable S x) (is_constant S x) (was_label S x) h
-  where
-    by : (a b c : Bool) → not (a || b || c) ≡ true → a ≡ false
-    by false b c h = refl
-    by true b c h = cc
+inactive-not S x h =
+    let p = or_parts (is_variable S x || is_constant S x) (was_label S x) (not-true (is_variable S x || is_constant S x || was_label S x) h) in
+    (or_parts (is_variable S x) (is_constant S x) p.0).0
 
 -- a name of a list is another than one that is not in it
 pub apart_from : (w x : Name) (ws : List Name) → has_name x ws ≡ true → not (has_name w ws) ≡ true → name_eq x w ≡ false

@@ -1,7 +1,8 @@
 -- The counts beside the kinds.
 use Rattle.std.specs.Prelude.{◌≡◌, ℕ, zero, suc, ◌+◌, ◌-◌, ◌≤◌, Bool, true, false, cond, List, [], ◌∷◌, ◌++◌, length, take, Some, slice_get, refl}
-use Rattle.std.proofs.Common.{◌∙◌, ap, sym, arith}
+use Rattle.std.proofs.Common.{◌∙◌, ap, sym, arith, add-zero}
 use Rattle.std.proofs.lemmas.List.{length-map}
+use Rattle.std.proofs.lemmas.Option.{same_Some}
 use Rattle.mm_lex.specs.Alphabet.{Name}
 use Rattle.scope.specs.Stored.KindCounts.{kinds_of, behind, AreCounted, count_behind}
 use Rattle.scope.specs.Kinds.{declared_symbols, symbols_before, with_their, is_symbol_kind}
@@ -44,13 +45,7 @@ pub count-at : (names : List Name) (entries : List CountedKind) (n i : ℕ) (e :
     → e.before ≡ n + symbols_before (with_their names (kinds_of entries)) i
 count-at names [] n i e l c h = cc
 count-at [] (d ∷ entries) n i e l c h = absurd (omega (arith, l))
-count-at (x ∷ names) (d ∷ entries) n zero e l c h = ap (λ (z : CountedKind). z.before) (sym (same d e h)) ∙ (c.0 ∙ none n)
-  where
-    same : (a b : CountedKind) → Some a ≡ Some b → a ≡ b
-    same a b e = cc
-
-    none : (n : ℕ) → n ≡ n + 0
-    none n = omega arith
+count-at (x ∷ names) (d ∷ entries) n zero e l c h = ap (λ (z : CountedKind). z.before) (sym (same_Some d e h)) ∙ (c.0 ∙ sym (add-zero n))
 count-at (x ∷ names) (d ∷ entries) n (suc i) e l c h = by (is_symbol_kind d.kind) (count-at names entries (behind d) i e (omega (arith, l)) c.1 h)
   where
     by : (b : Bool) → e.before ≡ cond b (d.before + 1) d.before + symbols_before (with_their names (kinds_of entries)) i
@@ -62,10 +57,7 @@ count-at (x ∷ names) (d ∷ entries) n (suc i) e l c h = by (is_symbol_kind d.
 pub last-behind : (n : ℕ) (entries : List CountedKind) (e : CountedKind) (k : NameKind) → Some e ≡ slice_get entries (length entries - 1) → e.kind ≡ k → AreCounted n entries
     → cond (is_symbol_kind k) (e.before + 1) e.before ≡ count_behind n entries
 last-behind n [] e k h own c = cc
-last-behind n (d ∷ []) e k h own c = ap (λ k. cond (is_symbol_kind k) (e.before + 1) e.before) (sym own) ∙ ap behind (same e d h)
-  where
-    same : (a b : CountedKind) → Some a ≡ Some b → a ≡ b
-    same a b e = cc
+last-behind n (d ∷ []) e k h own c = ap (λ k. cond (is_symbol_kind k) (e.before + 1) e.before) (sym own) ∙ ap behind (same_Some e d h)
 last-behind n (d ∷ f ∷ entries) e k h own c =
     last-behind (behind d) (f ∷ entries) e k (h ∙ ap (slice_get (d ∷ f ∷ entries)) (place (length entries))) own c.1
   where

@@ -1,7 +1,7 @@
 -- Names and their kinds, as two lists.
 use Rattle.std.specs.Prelude.{◌≡◌, ℕ, zero, suc, ◌<◌, Bool, true, false, ◌||◌, cond, List, [], ◌∷◌, ◌++◌, length, take, Option, Some, None, slice_get, refl}
 use Rattle.std.proofs.Common.{sym, ◌∙◌, ap, arith}
-use Rattle.std.proofs.lemmas.Bool.{or_parts}
+use Rattle.std.proofs.lemmas.Bool.{or_parts, false_from_ne_true}
 use Rattle.mm_lex.specs.Alphabet.{Name, name_eq, has_name}
 use Rattle.names.specs.Codes.{name_at}
 use Rattle.scope.specs.Kinds.{declared_names, kind_in, with_their}
@@ -29,12 +29,11 @@ kind-at (y ∷ names) (l ∷ kinds) x zero k lt e first h =
     own : (x y : Name) → y ≡ x → name_eq x y ≡ true
     own x y e = ap (name_eq x) e ∙ name_same x
 kind-at (y ∷ names) (l ∷ kinds) x (suc n) k lt e first h =
-    ap (λ b. cond b (Some l) (kind_in (with_their names kinds) x)) (other (name_eq x y) refl)
+    ap (λ b. cond b (Some l) (kind_in (with_their names kinds) x)) (false_from_ne_true (name_eq x y) same)
     ∙ kind-at names kinds x n k (omega (arith, lt)) e (λ m p. first (suc m) (omega (arith, p))) h
   where
-    other : (b : Bool) → name_eq x y ≡ b → name_eq x y ≡ false
-    other false q = q
-    other true q = absurd (first 0 (omega arith) (sym (same_name x y q)))
+    same : name_eq x y ≡ true → ⊥
+    same q = first 0 (omega arith) (sym (same_name x y q))
 
 pub kind-none : (names : List Name) (kinds : List NameKind) (x : Name) → has_name x names ≡ false → kind_in (with_their names kinds) x ≡ None
 kind-none [] kinds x h = refl
@@ -43,17 +42,18 @@ kind-none (y ∷ names) (l ∷ kinds) x h =
     let p = or_parts (name_eq x y) (has_name x names) h in
     ap (λ b. cond b (Some l) (kind_in (with_their names kinds) x)) p.0 ∙ kind-none names kinds x p.1
 
+-- where a test that gives something or the rest gave nothing, it failed, and the rest is nothing
+pub none-cond : {A : Type 0} (b : Bool) (x : A) (r : Option A) → cond b (Some x) r ≡ None → (b ≡ false) × (r ≡ None)
+none-cond true x r h = cc
+none-cond false x r h = (refl, h)
+
 -- a name with no kind is not among them
 pub none-kind : (names : List Name) (kinds : List NameKind) (x : Name) → length kinds ≡ length names → kind_in (with_their names kinds) x ≡ None → has_name x names ≡ false
 none-kind [] kinds x l h = refl
 none-kind (y ∷ names) [] x l h = absurd (omega (arith, l))
 none-kind (y ∷ names) (k ∷ kinds) x l h =
-    let p = none_cond (name_eq x y) k (kind_in (with_their names kinds) x) h in
+    let p = none-cond (name_eq x y) k (kind_in (with_their names kinds) x) h in
     ap (λ b. b || has_name x names) p.0 ∙ none-kind names kinds x (omega (arith, l)) p.1
-  where
-    none_cond : (b : Bool) (k : NameKind) (r : Option NameKind) → cond b (Some k) r ≡ None → (b ≡ false) × (r ≡ None)
-    none_cond true k r h = cc
-    none_cond false k r h = (refl, h)
 
 pub their-push : (names : List Name) (kinds : List NameKind) (x : Name) (k : NameKind) → length kinds ≡ length names → with_their (names ++ x ∷ []) (kinds ++ k ∷ []) ≡ with_their names kinds ++ (x, k) ∷ []
 their-push [] [] x k h = refl

@@ -3,6 +3,8 @@ use Rattle.std.specs.Prelude.{◌≡◌, Bool, true, false, not, cond, ◌||◌,
 use Rattle.std.specs.List.{list_all}
 use Rattle.std.proofs.Common.{◌∙◌, ap, sym}
 use Rattle.std.proofs.lemmas.Bool.{and_parts}
+use Rattle.std.proofs.Math.Bool.{or_comm, and-true, not-not}
+use Rattle.std.proofs.lemmas.Option.{same_Some}
 use Rattle.mm_lex.specs.Alphabet.{Name}
 use Rattle.mm_read.specs.declared.stmt.Stmt.{Stmt}
 use Rattle.mm_read.specs.declared.stmt.Stmt.TheVariants.{Open, Close, Const, Var, Disj, Float, Ess, Axiom, Prove}
@@ -18,13 +20,6 @@ use Rattle.scope.specs.declared.rule.Rule.TheVariants.{G4, G5, G6, G7}
 first_rule : (b : Bool) (r : Rule) (rest : Option Rule) → cond (not b) (Some r) rest ≡ None → (b ≡ true) × (rest ≡ None)
 first_rule true r rest h = (refl, h)
 first_rule false r rest h = cc
-
--- a disjunction the other way round
-pub or_comm : (a b : Bool) → (a || b) ≡ (b || a)
-or_comm true true = refl
-or_comm true false = refl
-or_comm false true = refl
-or_comm false false = refl
 
 pub legal-constants : (S : Database) (xs : List Name) → broken_rule S (Const xs) ≡ None
     → (list_all (λ x. not (was_symbol S x || was_label S x)) xs ≡ true) × (all_different xs ≡ true)
@@ -47,22 +42,10 @@ legal-label S Close l e h = cc
 legal-label S (Const xs) l e h = cc
 legal-label S (Var xs) l e h = cc
 legal-label S (Disj xs) l e h = cc
-legal-label S (Float label constant variable) l e h = ap (λ x. not (was_symbol S x || was_label S x)) (sym (named label l e)) ∙ fresh S label (first_rule _ _ _ h).0
-  where
-    named : (a b : Name) → Some a ≡ Some b → a ≡ b
-    named a b e = cc
-legal-label S (Ess label expr) l e h = ap (λ x. not (was_symbol S x || was_label S x)) (sym (named label l e)) ∙ fresh S label (first_rule _ _ _ h).0
-  where
-    named : (a b : Name) → Some a ≡ Some b → a ≡ b
-    named a b e = cc
-legal-label S (Axiom label expr) l e h = ap (λ x. not (was_symbol S x || was_label S x)) (sym (named label l e)) ∙ fresh S label (first_rule _ _ _ h).0
-  where
-    named : (a b : Name) → Some a ≡ Some b → a ≡ b
-    named a b e = cc
-legal-label S (Prove label expr proof) l e h = ap (λ x. not (was_symbol S x || was_label S x)) (sym (named label l e)) ∙ fresh S label (first_rule _ _ _ h).0
-  where
-    named : (a b : Name) → Some a ≡ Some b → a ≡ b
-    named a b e = cc
+legal-label S (Float label constant variable) l e h = ap (λ x. not (was_symbol S x || was_label S x)) (sym (same_Some label l e)) ∙ fresh S label (first_rule _ _ _ h).0
+legal-label S (Ess label expr) l e h = ap (λ x. not (was_symbol S x || was_label S x)) (sym (same_Some label l e)) ∙ fresh S label (first_rule _ _ _ h).0
+legal-label S (Axiom label expr) l e h = ap (λ x. not (was_symbol S x || was_label S x)) (sym (same_Some label l e)) ∙ fresh S label (first_rule _ _ _ h).0
+legal-label S (Prove label expr proof) l e h = ap (λ x. not (was_symbol S x || was_label S x)) (sym (same_Some label l e)) ∙ fresh S label (first_rule _ _ _ h).0
 
 pub legal-float : (S : Database) (label constant variable : Name) → broken_rule S (Float label constant variable) ≡ None → (is_variable S variable ≡ true) × (not (has_float S variable) ≡ true)
 legal-float S label constant variable h =
@@ -82,12 +65,8 @@ float-sorts S l c v p q new first second =
     (λ j. cond (not (unused j)) (Some G4)
     (cond (not ((first.constant j || first.variable j) && ((second.constant j || second.variable j) && true))) (Some G5)
     (cond (not (first.constant j)) (Some G6) (cond (not (untyped j)) (Some G7) None))))
-    ∙ ap (λ b. cond (not (is_symbol_sort p && b)) (Some G5) (cond (not (is_constant_sort p)) (Some G6) (cond (not (is_untyped_sort q)) (Some G7) None))) (and_true (is_symbol_sort q))
+    ∙ ap (λ b. cond (not (is_symbol_sort p && b)) (Some G5) (cond (not (is_constant_sort p)) (Some G6) (cond (not (is_untyped_sort q)) (Some G7) None))) (and-true (is_symbol_sort q))
   where
-    and_true : (b : Bool) → (b && true) ≡ b
-    and_true true = refl
-    and_true false = refl
-
     unused : not (was_label S l || was_symbol S l) ≡ true
     unused = ap not (or_comm (was_label S l) (was_symbol S l)) ∙ new
 
@@ -95,9 +74,5 @@ float-sorts S l c v p q new first second =
     turned true b = refl
     turned false b = refl
 
-    twice : (b : Bool) → not (not b) ≡ b
-    twice true = refl
-    twice false = refl
-
     untyped : (is_variable S v && not (has_float S v)) ≡ is_untyped_sort q
-    untyped = turned (is_variable S v) (has_float S v) ∙ (ap not second.untyped ∙ twice (is_untyped_sort q))
+    untyped = turned (is_variable S v) (has_float S v) ∙ (ap not second.untyped ∙ not-not (is_untyped_sort q))

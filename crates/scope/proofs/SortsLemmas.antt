@@ -3,7 +3,9 @@ use Rattle.std.specs.Prelude.{◌≡◌, ℕ, ◌+◌, ◌==◌, Bool, true, fal
 use Rattle.std.specs.List.{list_any, flat_map}
 use Rattle.std.proofs.Common.{sym, ◌∙◌, ap, arith, true≢false, take, ◌<◌, append_assoc, length-append}
 use Rattle.std.proofs.lemmas.List.{take_at, length_push}
-use Rattle.std.proofs.lemmas.Bool.{eqb-true, eq-eqb}
+use Rattle.std.proofs.lemmas.Bool.{eqb-true, eq-eqb, false_from_ne_true}
+use Rattle.std.proofs.Math.Bool.{or-false, and-false}
+use Rattle.mm_lex.proofs.NameLemmas.{tried_first}
 use Rattle.mm_lex.specs.Alphabet.{Name, name_eq, has_name}
 use Rattle.mm_read.specs.declared.stmt.Stmt.{Stmt}
 use Rattle.mm_read.specs.declared.stmt.Stmt.TheVariants.{Open, Close, Const, Var, Disj, Float, Ess, Axiom, Prove}
@@ -12,10 +14,9 @@ use Rattle.scope.specs.Active.{variables, constants, active, is_float_of, typed_
 use Rattle.scope.specs.Legal.{all_different}
 use Rattle.names.specs.Codes.{number_in, numbers_in}
 use Rattle.scope.specs.Kinds.{Tells}
-use Rattle.scope.specs.Sorts.{IsSort, sort_by, is_constant_sort, is_variable_sort, is_label_sort, is_inactive_sort}
+use Rattle.scope.specs.Sorts.{IsSort, sort_by}
 use Rattle.scope.specs.declared.numbering.NameKind.{NameKind}
 use Rattle.scope.specs.declared.numbering.NameKind.TheVariants.{Label, Constant, Variable}
-use Rattle.scope.specs.declared.legal.Sort.{Sort}
 use Rattle.scope.specs.declared.legal.Sort.TheVariants as sort
 use Rattle.names.proofs.AddedNames.{has_name-append, number_in-same}
 use Rattle.names.proofs.CodesLemmas.{same_name, name_eq-comm}
@@ -37,11 +38,7 @@ types Close x = refl
 types (Const names) x = refl
 types (Var names) x = refl
 types (Disj names) x = refl
-types (Float label constant variable) x = or_no (name_eq x variable)
-  where
-    or_no : (b : Bool) → b ≡ (b || false)
-    or_no true = refl
-    or_no false = refl
+types (Float label constant variable) x = sym (or-false (name_eq x variable))
 types (Ess label expr) x = refl
 types (Axiom label expr) x = refl
 types (Prove label expr proof) x = refl
@@ -55,17 +52,18 @@ any-typed (p ∷ es) x =
 pub has_float-typed : (S : Database) (x : Name) → has_float S x ≡ has_name x (typed_variables S)
 has_float-typed S x = any-typed (active S) x
 
+-- four tests, those in the middle the other way round
+pub or_swap : (a b c d : Bool) → ((a || b) || (c || d)) ≡ ((a || c) || (b || d))
+or_swap true b c d = refl
+or_swap false true true d = refl
+or_swap false true false d = refl
+or_swap false false c d = refl
+
 pub was_symbol-either : (S : Database) (x : Name) → was_symbol S x ≡ (is_constant S x || was_variable S x)
 was_symbol-either [] x = refl
 was_symbol-either (s ∷ S) x =
     ap (λ b. (has_name x (constants s) || has_name x (variables s)) || b) (was_symbol-either S x)
-    ∙ swap (has_name x (constants s)) (has_name x (variables s)) (is_constant S x) (was_variable S x)
-  where
-    swap : (a b c d : Bool) → ((a || b) || (c || d)) ≡ ((a || c) || (b || d))
-    swap true b c d = refl
-    swap false true true d = refl
-    swap false true false d = refl
-    swap false false c d = refl
+    ∙ or_swap (has_name x (constants s)) (has_name x (variables s)) (is_constant S x) (was_variable S x)
 
 -- ---- numbers found
 
@@ -87,11 +85,7 @@ numbers-has names x (y ∷ xs) h = ap (λ b. b || list_any (λ n. n == number_in
 
 -- what was never declared as a variable is no active one
 not_active : (S : Database) (x : Name) → was_variable S x ≡ false → is_variable S x ≡ false
-not_active S x h = by (is_variable S x) refl
-  where
-    by : (b : Bool) → is_variable S x ≡ b → b ≡ false
-    by true e = absurd (true≢false (sym (active-was 1 S x (sym (is_variable-active S x) ∙ e)) ∙ h))
-    by false e = refl
+not_active S x h = false_from_ne_true (is_variable S x) (λ e. true≢false (sym (active-was 1 S x (sym (is_variable-active S x) ∙ e)) ∙ h))
 
 pub constant-sort : (S : Database) (x : Name) → Tells S x (Some Constant) → IsSort S x sort.Constant
 constant-sort S x t =
@@ -143,13 +137,9 @@ pub all_different-front : (xs ys : List Name) → all_different xs ≡ false →
 all_different-front [] ys h = cc
 all_different-front (x ∷ xs) ys h = by (has_name x xs) refl h (all_different-front xs ys)
   where
-    and_false : (a : Bool) → (a && false) ≡ false
-    and_false true = refl
-    and_false false = refl
-
     by : (a : Bool) → has_name x xs ≡ a → (not a && all_different xs) ≡ false → (all_different xs ≡ false → all_different (xs ++ ys) ≡ false) → (not (has_name x (xs ++ ys)) && all_different (xs ++ ys)) ≡ false
     by true e h rest = ap (λ b. not b && all_different (xs ++ ys)) (has_name-append x xs ys ∙ ap (λ b. b || has_name x ys) e)
-    by false e h rest = ap (λ b. not (has_name x (xs ++ ys)) && b) (rest h) ∙ and_false (not (has_name x (xs ++ ys)))
+    by false e h rest = ap (λ b. not (has_name x (xs ++ ys)) && b) (rest h) ∙ and-false (not (has_name x (xs ++ ys)))
 
 pub first-length : {A : Type 0} (xs rest ws : List A) (i : ℕ) → xs ++ rest ≡ ws → i + length rest ≡ length ws → length xs ≡ i
 first-length xs rest ws i e h = omega (arith, length-append xs rest, ap length e)
@@ -164,20 +154,6 @@ short_differ [] h = refl
 short_differ (x ∷ []) h = refl
 short_differ (x ∷ y ∷ xs) h = absurd (omega arith)
 
--- what may be declared as a variable
-pub inactive-sort : (S : Database) (x : Name) (k : Sort) → IsSort S x k → not (is_variable S x || is_constant S x || was_label S x) ≡ is_inactive_sort k
-inactive-sort S x k t =
-    ap (λ b. not (b || is_constant S x || was_label S x)) t.variable
-    ∙ (ap (λ b. not (is_variable_sort k || b || was_label S x)) t.constant
-    ∙ (ap (λ b. not (is_variable_sort k || is_constant_sort k || b)) t.label ∙ by k))
-  where
-    by : (k : Sort) → not (is_variable_sort k || is_constant_sort k || is_label_sort k) ≡ is_inactive_sort k
-    by sort.Constant = refl
-    by sort.Typed = refl
-    by sort.Untyped = refl
-    by sort.Label = refl
-    by sort.Inactive = refl
-
 -- a name that is found has a kind, and so it is among the names
 pub some_second : {A B : Type 0} (r : Option (A × B)) → is_some r ≡ is_some (option_map (λ (p : A × B). p.1) r)
 some_second None = refl
@@ -191,10 +167,4 @@ not-denied false f value e h = ap not (sym e ∙ h)
 -- the names seen, after one more
 pub one-seen : (x w : Name) (names : List Name) (same seen : Bool) → same ≡ name_eq w x → seen ≡ has_name x names → cond same true seen ≡ has_name x (names ++ w ∷ [])
 one-seen x w names same seen is was =
-    ap (λ b. cond b true seen) (is ∙ name_eq-comm w x) ∙ (ap (cond (name_eq x w) true) was ∙ (by (name_eq x w) (has_name x names) ∙ sym (has_name-append x names (w ∷ []))))
-  where
-    by : (a b : Bool) → cond a true b ≡ (b || (a || false))
-    by true true = refl
-    by true false = refl
-    by false true = refl
-    by false false = refl
+    ap (λ b. cond b true seen) (is ∙ name_eq-comm w x) ∙ (ap (cond (name_eq x w) true) was ∙ (tried_first (name_eq x w) (has_name x names) ∙ sym (has_name-append x names (w ∷ []))))

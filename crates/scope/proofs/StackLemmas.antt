@@ -1,7 +1,7 @@
 -- Where a number stands in a stack.
-use Rattle.std.specs.Prelude.{◌≡◌, ℕ, zero, suc, ◌<◌, Bool, true, false, ◌||◌, ◌==◌, List, [], ◌∷◌, ◌++◌, length, Some, slice_get, refl}
+use Rattle.std.specs.Prelude.{◌≡◌, ℕ, zero, suc, Bool, true, false, ◌||◌, ◌==◌, List, [], ◌∷◌, ◌++◌, length, Some, slice_get, refl}
 use Rattle.std.specs.List.{list_any}
-use Rattle.std.proofs.Common.{sym, ◌∙◌, ap, arith, ◌≢◌, ◌⊎◌, inl, inr, true≢false, slice_set}
+use Rattle.std.proofs.Common.{sym, ◌∙◌, ap, arith, ◌≢◌, ◌⊎◌, inl, inr, true≢false}
 use Rattle.std.proofs.lemmas.Bool.Decides.{nat_tests}
 use Rattle.std.proofs.lemmas.Bool.{or_right, eqb-true}
 
@@ -33,23 +33,3 @@ pushed [] y zero n h = inr (refl, cc)
 pushed [] y (suc k) n h = cc
 pushed (x ∷ xs) y zero n h = inl h
 pushed (x ∷ xs) y (suc k) n h = elim (pushed xs y k n h) [ inl h ↦ inl h | inr p ↦ inr (ap suc p.0, p.1) ]
-
--- a write elsewhere leaves it
-pub set_other : (xs : List ℕ) (i v n k : ℕ) → n ≢ i → slice_get xs n ≡ Some k → slice_get (slice_set xs i v) n ≡ Some k
-set_other [] i v n k ne h = h
-set_other (x ∷ xs) zero v zero k ne h = absurd (ne refl)
-set_other (x ∷ xs) (suc i) v zero k ne h = h
-set_other (x ∷ xs) zero v (suc n) k ne h = h
-set_other (x ∷ xs) (suc i) v (suc n) k ne h = set_other xs i v n k (λ e. ne (ap suc e)) h
-
--- a write is read back
-pub set_same : (xs : List ℕ) (i v : ℕ) → i < length xs → slice_get (slice_set xs i v) i ≡ Some v
-set_same [] i v h = absurd (omega arith)
-set_same (x ∷ xs) zero v h = refl
-set_same (x ∷ xs) (suc i) v h = set_same xs i v (omega arith)
-
--- what stands there stands there in a longer list
-pub longer : (xs ys : List ℕ) (n k : ℕ) → slice_get xs n ≡ Some k → slice_get (xs ++ ys) n ≡ Some k
-longer [] ys n k h = cc
-longer (x ∷ xs) ys zero k h = h
-longer (x ∷ xs) ys (suc n) k h = longer xs ys n k h

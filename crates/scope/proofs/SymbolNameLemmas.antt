@@ -2,9 +2,10 @@
 use Rattle.std.specs.Prelude.{◌≡◌, ℕ, zero, suc, ◌<◌, Bool, true, false, cond, ◌||◌, ◌&&◌, nat_lt, List, [], ◌∷◌, ◌++◌, length, take, Option, Some, None, is_some, refl}
 use Rattle.std.specs.List.{list_all}
 use Rattle.std.proofs.Common.{◌∙◌, ap, sym, subst, arith, true≢false}
-use Rattle.std.proofs.lemmas.List.{append-nil, append_assoc, map-append, same_from_push}
+use Rattle.std.proofs.lemmas.List.{append-nil, map-append, same_from_push}
 use Rattle.std.proofs.lemmas.List.Folds.{list_all-append}
 use Rattle.std.proofs.lemmas.Bool.{or_right, lt-ltb}
+use Rattle.std.proofs.lemmas.Option.{same_Some}
 use Rattle.mm_lex.specs.Alphabet.{Name, name_eq, has_name}
 use Rattle.mm_read.specs.declared.stmt.Stmt.{Stmt}
 use Rattle.mm_read.specs.declared.stmt.Stmt.TheVariants.{Open, Close, Const, Var, Disj, Float, Ess, Axiom, Prove}
@@ -103,11 +104,8 @@ pub symbol-at : (names : Declared) (x : Name) (n : ℕ) (k : NameKind) → n < l
 symbol-at [] x n k lt e first h own = absurd (omega (arith, lt))
 symbol-at (p ∷ names) x zero k lt e first h own = by p.1 (ap (λ b. cond b (Some p.1) (kind_in names x)) (sym (ap (name_eq x) e ∙ name_same x)) ∙ h)
   where
-    some_same : (a b : NameKind) → Some a ≡ Some b → a ≡ b
-    some_same a b e = cc
-
     by : (kind : NameKind) → Some kind ≡ Some k → IsNumberOf (cond (is_symbol_kind kind) (p.0 ∷ declared_symbols names) (declared_symbols names)) x 0
-    by Label f = absurd (true≢false (sym own ∙ ap is_symbol_kind (sym (some_same Label k f))))
+    by Label f = absurd (true≢false (sym own ∙ ap is_symbol_kind (sym (same_Some Label k f))))
     by Constant f = (omega arith, e)
     by Variable f = (omega arith, e)
 symbol-at (p ∷ names) x (suc n) k lt e first h own =
@@ -129,52 +127,43 @@ pub noted-more : (symbols : List Name) (xs : Expr) (x : Name) (n : ℕ) (old new
 noted-more symbols xs x n old None is more noted = tt
 noted-more symbols xs x n None (Some new) is more noted = cc
 noted-more symbols xs x n (Some old) (Some new) is more noted =
-    let same : new ≡ old ++ n ∷ [] = some_same new (old ++ n ∷ []) more in
+    let same : new ≡ old ++ n ∷ [] = same_Some new (old ++ n ∷ []) more in
     let below : nat_lt n (length symbols) ≡ true = lt-ltb n (length symbols) is.0 in (
       ap (list_all (λ m. nat_lt m (length symbols))) same ∙ (list_all-append (λ m. nat_lt m (length symbols)) old (n ∷ []) ∙ (ap (λ b. b && (nat_lt n (length symbols) && true)) noted.0 ∙ ap (λ b. b && true) below)),
       ap (decode symbols) same ∙ (map-append (name_at symbols) old (n ∷ []) ∙ (ap (λ r. r ++ name_at symbols n ∷ []) noted.1 ∙ ap (λ y. xs ++ y ∷ []) is.1)),
     )
-  where
-    some_same : (a b : List ℕ) → Some a ≡ Some b → a ≡ b
-    some_same a b e = cc
 
 -- what was noted stands for the first of the symbols, and the rest is to come
 abbrev pub AreDone : List Name → Expr → Expr → Option (List ℕ) → Type 0
 AreDone symbols all rest noted = (done : Expr) × (done ++ rest ≡ all) × AreNoted symbols done noted
 
-pub done-more : (symbols : List Name) (all rest : Expr) (x : Name) (old new : Option (List ℕ)) → AreDone symbols all (x ∷ rest) old → ((xs : Expr) → AreNoted symbols xs old → AreNoted symbols (xs ++ x ∷ []) new)
-    → AreDone symbols all rest new
-done-more symbols all rest x old new d step = (d.0 ++ x ∷ [], append_assoc d.0 (x ∷ []) rest ∙ d.1, step d.0 d.2)
+-- a statement without its proof has the same symbols, and declares the same
+pub symbols_in-bare : (s : Stmt) → symbols_in (bare s) ≡ symbols_in s
+symbols_in-bare Open = refl
+symbols_in-bare Close = refl
+symbols_in-bare (Const names) = refl
+symbols_in-bare (Var names) = refl
+symbols_in-bare (Disj names) = refl
+symbols_in-bare (Float label constant variable) = refl
+symbols_in-bare (Ess label expr) = refl
+symbols_in-bare (Axiom label expr) = refl
+symbols_in-bare (Prove label expr proof) = refl
 
-pub done-all : (symbols : List Name) (all : Expr) (noted : Option (List ℕ)) → AreDone symbols all [] noted → AreNoted symbols all noted
-done-all symbols all noted d = subst (λ xs. AreNoted symbols xs noted) (sym (append-nil d.0) ∙ d.1) d.2
+pub symbols_by-bare : (s : Stmt) → symbols_by (bare s) ≡ symbols_by s
+symbols_by-bare Open = refl
+symbols_by-bare Close = refl
+symbols_by-bare (Const names) = refl
+symbols_by-bare (Var names) = refl
+symbols_by-bare (Disj names) = refl
+symbols_by-bare (Float label constant variable) = refl
+symbols_by-bare (Ess label expr) = refl
+symbols_by-bare (Axiom label expr) = refl
+symbols_by-bare (Prove label expr proof) = refl
 
 -- the symbols of a statement that declares none, behind it
 pub of-last : (S : Database) (s : Stmt) (noted : Option (List ℕ)) → symbols_by s ≡ [] → AreNoted (symbols_of S) (symbols_in s) noted → IsOfLast (S ++ bare s ∷ []) noted
 of-last S s None none noted = tt
 of-last S s (Some numbers) none noted = λ T t e.
     let both = same_from_push S T (bare s) t e in
-    let same : symbols_of (S ++ bare s ∷ []) ≡ symbols_of S = symbols_of-append S (bare s) ∙ ap (with_names (symbols_of S)) (bare-by s ∙ none) in
-    (subst (λ N. AreCodes N numbers) (sym same) noted.0, ap (λ N. decode N numbers) same ∙ (noted.1 ∙ (sym (bare-in s) ∙ ap symbols_in both.1)))
-  where
-    bare-by : (s : Stmt) → symbols_by (bare s) ≡ symbols_by s
-    bare-by (Prove label expr proof) = refl
-    bare-by Open = refl
-    bare-by Close = refl
-    bare-by (Const xs) = refl
-    bare-by (Var xs) = refl
-    bare-by (Disj xs) = refl
-    bare-by (Float label constant variable) = refl
-    bare-by (Ess label expr) = refl
-    bare-by (Axiom label expr) = refl
-
-    bare-in : (s : Stmt) → symbols_in (bare s) ≡ symbols_in s
-    bare-in (Prove label expr proof) = refl
-    bare-in Open = refl
-    bare-in Close = refl
-    bare-in (Const xs) = refl
-    bare-in (Var xs) = refl
-    bare-in (Disj xs) = refl
-    bare-in (Float label constant variable) = refl
-    bare-in (Ess label expr) = refl
-    bare-in (Axiom label expr) = refl
+    let same : symbols_of (S ++ bare s ∷ []) ≡ symbols_of S = symbols_of-append S (bare s) ∙ ap (with_names (symbols_of S)) (symbols_by-bare s ∙ none) in
+    (subst (λ N. AreCodes N numbers) (sym same) noted.0, ap (λ N. decode N numbers) same ∙ (noted.1 ∙ (sym (symbols_in-bare s) ∙ ap symbols_in both.1)))

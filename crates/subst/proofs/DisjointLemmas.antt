@@ -2,7 +2,7 @@
 use Rattle.std.specs.Prelude.{◌≡◌, Bool, true, false, not, ◌&&◌, ◌||◌, List, [], ◌∷◌, refl}
 use Rattle.std.specs.List.{list_all, list_any}
 use Rattle.std.proofs.Common.{sym, ◌∙◌, ap, true≢false}
-use Rattle.std.proofs.lemmas.Bool.{and_parts, and_from, not-true, or_left, or_right}
+use Rattle.std.proofs.lemmas.Bool.{and_parts, and_from, not-true, or_left, or_right, not_from_false, false_from_ne_true}
 use Rattle.mm_lex.specs.Alphabet.{Name, name_eq, has_name}
 use Rattle.mm_read.specs.Statements.{Expr, Database}
 use Rattle.scope.specs.Active.{is_variable}
@@ -33,11 +33,10 @@ module _ (S : Database) where
     where
       pair : (u v : Name) → is_variable S u ≡ true → is_variable S v ≡ true → has_name u e ≡ true → has_name v f ≡ true → is_pair S u v ≡ true
       pair u v p q in_e in_f =
-          and_from (not (name_eq u v)) (list_any (λ names. has_name u names && has_name v names) (groups S)) (differ (name_eq u v) refl) (k.each_listed u v p q in_e in_f)
+          and_from (not (name_eq u v)) (list_any (λ names. has_name u names && has_name v names) (groups S)) (not_from_false (name_eq u v) (false_from_ne_true (name_eq u v) same)) (k.each_listed u v p q in_e in_f)
         where
-          differ : (b : Bool) → name_eq u v ≡ b → not b ≡ true
-          differ true same = absurd (k.none_shared u p in_e (ap (λ w. has_name w f) (same_name u v same) ∙ in_f))
-          differ false same = refl
+          same : name_eq u v ≡ true → ⊥
+          same is = k.none_shared u p in_e (ap (λ w. has_name w f) (same_name u v is) ∙ in_f)
 
   -- a symbol that is no variable is apart from all
   no_variable : (x u : Name) → is_variable S x ≡ false → is_variable S u ≡ true → has_name u (x ∷ []) ≡ true → ⊥

@@ -1,9 +1,9 @@
 -- What was found of the symbols of a proof, and how more of it is noted.
-use Rattle.std.specs.Prelude.{if◌then◌else◌, ◌≡◌, ℕ, zero, suc, ◌+◌, ◌*◌, ◌%◌, ◌^◌, ◌<◌, ◌≤◌, ◌⊎◌, true, false, List, [], ◌∷◌, ◌++◌, length, get_or, slice_set, Result, Ok, Err, is_ok, is_err, refl}
+use Rattle.std.specs.Prelude.{if◌then◌else◌, ◌≡◌, ℕ, ◌+◌, ◌*◌, ◌%◌, ◌^◌, ◌<◌, ◌≤◌, ◌⊎◌, true, false, List, [], ◌∷◌, ◌++◌, length, get_or, slice_set, Result, Ok, Err, is_ok, is_err, refl}
 use Rattle.std.specs.Int.{bit_at, bit_not}
 use Rattle.std.proofs.Common.{sym, ◌∙◌, ap, subst, arith, inl, inr, bit_and, bit_or, w64}
 use Rattle.std.proofs.lemmas.Bool.{cases_eq, cases_lt}
-use Rattle.std.proofs.lemmas.List.{get_or-set_same, get_or-set_other, length-set, get_or_default}
+use Rattle.std.proofs.lemmas.List.{get_or-set_same, get_or-set_other, length-set, get_or_default, get_or_append_left, get_or_push, length_push}
 use Rattle.scope.specs.Active.{is_variable}
 use Rattle.names.specs.Codes.{name_at}
 use Rattle.frame.specs.FrameOf.{is_pair}
@@ -99,29 +99,16 @@ listed-bits v f x bit known at =
 
 -- ---- lists that grow
 
-get-front : {A : Type 0} (xs : List A) (x d : A) (j : ℕ) → j < length xs → get_or (xs ++ x ∷ []) j d ≡ get_or xs j d
-get-front [] x d j h = absurd (omega (arith, h))
-get-front (y ∷ xs) x d zero h = refl
-get-front (y ∷ xs) x d (suc j) h = get-front xs x d j (omega (arith, h))
-
-get-last : {A : Type 0} (xs : List A) (x d : A) → get_or (xs ++ x ∷ []) (length xs) d ≡ x
-get-last [] x d = refl
-get-last (y ∷ xs) x d = get-last xs x d
-
-count-more : {A : Type 0} (xs : List A) (x : A) → length (xs ++ x ∷ []) ≡ length xs + 1
-count-more [] x = refl
-count-more (y ∷ xs) x = let e = count-more xs x in omega (arith, e)
-
 -- what is true of each element, and of one more
 each-more : {A : Type 0} (P : A → Type 0) (xs : List A) (x d : A) → ((j : ℕ) → j < length xs → P (get_or xs j d)) → P x → (j : ℕ) → j < length (xs ++ x ∷ []) → P (get_or (xs ++ x ∷ []) j d)
 each-more P xs x d each own j h = by (cases_lt j (length xs))
   where
     by : (j < length xs) ⊎ (length xs ≤ j) → P (get_or (xs ++ x ∷ []) j d)
-    by (inl low) = subst P (sym (get-front xs x d j low)) (each j low)
+    by (inl low) = subst P (sym (get_or_append_left xs (x ∷ []) d j low)) (each j low)
     by (inr high) =
-        let n = count-more xs x in
+        let n = length_push xs x in
         let last : length xs ≡ j = omega (arith, n, high, h) in
-        subst P (sym (get-last xs x d) ∙ ap (λ m. get_or (xs ++ x ∷ []) m d) last) own
+        subst P (sym (get_or_push xs x d j last)) own
 
 -- ---- a symbol more
 
@@ -158,10 +145,10 @@ pub variable-added : (v : Numbered) (symbols : List FoundSymbol) (old new : List
 variable-added v symbols old new x place count low is =
     bits-variable v (record { symbols = symbols; variables = new }) x place low
     (record {
-      there = (let n = ap (λ (xs : List Variable). length xs) is ∙ count-more old row in omega (arith, n, count));
+      there = (let n = ap (λ (xs : List Variable). length xs) is ∙ length_push old row in omega (arith, n, count));
       same =
           ap (λ (xs : List Variable). (get_or xs place no_variable).symbol) is
-          ∙ (ap (λ m. (get_or (old ++ row ∷ []) m no_variable).symbol) count ∙ ap (λ (r : Variable). r.symbol) (get-last old row no_variable));
+          ∙ (ap (λ m. (get_or (old ++ row ∷ []) m no_variable).symbol) count ∙ ap (λ (r : Variable). r.symbol) (get_or_push old row no_variable (length old) refl));
     })
   where
     row : Variable

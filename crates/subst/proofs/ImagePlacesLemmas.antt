@@ -2,7 +2,7 @@
 use Rattle.std.specs.Prelude.{◌≡◌, ℕ, ◌≤◌, Bool, true, false, cond, nat_eq, List, [], ◌∷◌, ◌++◌, length, Option, Some, None, refl}
 use Rattle.std.specs.Map.{lookup}
 use Rattle.std.proofs.Common.{sym, ◌∙◌, ap, subst, arith}
-use Rattle.frame.specs.Substitution.{CodeImages, code_image, code_apply}
+use Rattle.frame.specs.Substitution.{code_image}
 use Rattle.subst.specs.declared.expression_place.ExpressionPlace.{ExpressionPlace}
 use Rattle.subst.specs.ExpressionPlaces.{seen_at, images_at, AreInside}
 use Rattle.subst.proofs.ExpressionPlaceLemmas.{seen-more}
@@ -59,7 +59,3 @@ image-set xs ys ps qs s p x w set seen =
     by : (b : Bool) → by_place (xs ++ ys) x (cond b (Some p) (lookup (nat_eq x) ps)) ≡ cond b ys (code_image (images_at xs ps) x)
     by true = seen
     by false = sym (image-by_place (xs ++ ys) ps x) ∙ image-more xs ys ps x w
-
-pub apply-same : (σ τ : CodeImages) (e : List ℕ) → ((x : ℕ) → code_image σ x ≡ code_image τ x) → code_apply σ e ≡ code_apply τ e
-apply-same σ τ [] h = refl
-apply-same σ τ (x ∷ e) h = ap (λ r. r ++ code_apply σ e) (h x) ∙ ap (λ r. code_image τ x ++ r) (apply-same σ τ e h)

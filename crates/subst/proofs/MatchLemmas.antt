@@ -1,8 +1,9 @@
 -- An expression with the images put in, against symbols that stand.
 use Rattle.std.specs.Prelude.{◌≡◌, ℕ, zero, suc, ◌+◌, ◌<◌, true, false, List, [], ◌∷◌, ◌++◌, length, take, drop, get_or, Option, Some, None, IfSome, IfNone, MatchOption, refl, bytes_eq}
-use Rattle.std.proofs.Common.{sym, ◌∙◌, ap, arith, append_assoc, Bor}
+use Rattle.std.proofs.Common.{sym, ◌∙◌, ap, arith, append_assoc, Bor, drop-cons}
 use Rattle.std.proofs.lemmas.List.{take-append-drop, append_cancel_left}
 use Rattle.std.proofs.lemmas.Slice.Eq.{bytes_eq-Decides}
+use Rattle.std.proofs.Math.Seq.{take-append_seam}
 use Rattle.frame.specs.Substitution.{CodeImages, code_image, code_apply}
 use Rattle.subst.proofs.WrittenImages.{apply-take}
 
@@ -10,16 +11,12 @@ use Rattle.subst.proofs.WrittenImages.{apply-take}
 strips : (rest image : List ℕ) → bytes_eq (take (length image) rest) image ≡ true → rest ≡ image ++ drop (length image) rest
 strips rest image h = sym (take-append-drop (length image) rest) ∙ ap (λ s. s ++ drop (length image) rest) ((bytes_eq-Decides (take (length image) rest) image).0 h)
 
-take-over : (image more : List ℕ) → take (length image) (image ++ more) ≡ image
-take-over [] more = refl
-take-over (x ∷ image) more = ap (λ r. x ∷ r) (take-over image more)
-
 bytes-refl : (x : List ℕ) → bytes_eq x x ≡ true
 bytes-refl x = grind (arith, bytes_eq-Decides)
 
 strips-none : (rest image more : List ℕ) → bytes_eq (take (length image) rest) image ≡ false → rest ≡ image ++ more → ⊥
 strips-none rest image more h e =
-    let t : take (length image) rest ≡ image = ap (take (length image)) e ∙ take-over image more in
+    let t : take (length image) rest ≡ image = ap (take (length image)) e ∙ take-append_seam image more in
     let b : bytes_eq (take (length image) rest) image ≡ true = ap (λ s. bytes_eq s image) t ∙ bytes-refl image in
     let c : true ≡ false = sym b ∙ h in cc
 
@@ -41,18 +38,13 @@ apply-front σ [] (suc i) = refl
 apply-front σ (x ∷ e) (suc i) =
     ap (λ r. code_image σ x ++ r) (apply-front σ e i) ∙ sym (append_assoc (code_image σ x) (code_apply σ (take i e)) (code_apply σ (drop i e)))
 
-drop-at : (xs : List ℕ) (i : ℕ) → i < length xs → drop i xs ≡ get_or xs i 0 ∷ drop (suc i) xs
-drop-at [] i h = absurd (omega (arith, h))
-drop-at (x ∷ xs) zero h = refl
-drop-at (x ∷ xs) (suc i) h = drop-at xs i (omega (arith, h))
-
 -- at the symbol whose image the rest does not begin with
 pub match-fails : (σ : CodeImages) (e whole rest : List ℕ) (i : ℕ) → i < length e → whole ≡ code_apply σ (take i e) ++ rest
     → ((more : List ℕ) → rest ≡ code_image σ (get_or e i 0) ++ more → ⊥) → whole ≡ code_apply σ e → ⊥
 match-fails σ e whole rest i h front none all =
     none (code_apply σ (drop (suc i) e))
     (append_cancel_left (code_apply σ (take i e)) rest (code_image σ (get_or e i 0) ++ code_apply σ (drop (suc i) e))
-    (sym front ∙ (all ∙ (apply-front σ e i ∙ ap (λ s. code_apply σ (take i e) ++ code_apply σ s) (drop-at e i h)))))
+    (sym front ∙ (all ∙ (apply-front σ e i ∙ ap (λ s. code_apply σ (take i e) ++ code_apply σ s) (drop-cons e i 0 h)))))
 
 pub match-goes : (σ : CodeImages) (e whole rest more : List ℕ) (i : ℕ) → i < length e → whole ≡ code_apply σ (take i e) ++ rest
     → rest ≡ code_image σ (get_or e i 0) ++ more → whole ≡ code_apply σ (take (i + 1) e) ++ more

@@ -2,9 +2,11 @@
 use Rattle.std.specs.Prelude.{◌≡◌, ℕ, zero, suc, ◌+◌, ◌<◌, ◌≤◌, ◌⊎◌, Bool, true, false, not, ◌||◌, ◌&&◌, ◌==◌, List, [], ◌∷◌, length, map, take, drop, get_or, slice_get, Some, refl}
 use Rattle.std.specs.List.{list_all, list_any, position_or_len}
 use Rattle.std.proofs.Common.{sym, ◌∙◌, ap, subst, arith, inl, inr, bit_or}
-use Rattle.std.proofs.lemmas.Bool.{lt-ltb, and_from, or_right, cases_eq, cases_order}
+use Rattle.std.proofs.lemmas.Bool.{lt-ltb, and_from, or_right, cases_eq, cases_order, or_parts}
 use Rattle.std.proofs.lemmas.List.Folds.{list_all-map, list_all_at, list_all_more}
 use Rattle.std.proofs.lemmas.Option.{get_or_from_slice_get, slice_get_within}
+use Rattle.std.proofs.Math.Bool.{and_comm, and_self_left}
+use Rattle.std.proofs.lemmas.List.{drop_more}
 use Rattle.mm_lex.specs.Alphabet.{Name, name_eq, has_name}
 use Rattle.mm_read.specs.Statements.{Expr, Database}
 use Rattle.scope.specs.Active.{is_variable}
@@ -74,13 +76,7 @@ any-same p q (x ∷ xs) h = ap (λ b. b || list_any p xs) (h x) ∙ ap (λ b. q 
 pair-swap : (D : Database) (x y : Name) → is_pair D x y ≡ is_pair D y x
 pair-swap D x y =
     ap (λ b. not b && list_any (λ names. has_name x names && has_name y names) (groups D)) (name_eq-comm x y)
-    ∙ ap (λ b. not (name_eq y x) && b) (any-same (λ names. has_name x names && has_name y names) (λ names. has_name y names && has_name x names) (groups D) (λ names. and-swap (has_name x names) (has_name y names)))
-  where
-    and-swap : (a b : Bool) → (a && b) ≡ (b && a)
-    and-swap true true = refl
-    and-swap true false = refl
-    and-swap false true = refl
-    and-swap false false = refl
+    ∙ ap (λ b. not (name_eq y x) && b) (any-same (λ names. has_name x names && has_name y names) (λ names. has_name y names && has_name x names) (groups D) (λ names. and_comm (has_name x names) (has_name y names)))
 
 apart-swap : (D : Database) (e f : Expr) → are_apart D e f ≡ are_apart D f e
 apart-swap D e f =
@@ -120,21 +116,12 @@ module _ (D : Database) (image_of : ℕ → Expr) where
       ap (λ b. ((b || are_apart D (image_of k) (image_of k)) && list_all (are_two_apart D image_of k) group) && list_all (is_number_apart D image_of (k ∷ group)) group) (eq-own k)
       ∙ (ap (λ b. list_all (are_two_apart D image_of k) group && b) (all-both (λ l. are_two_apart D image_of l k) (λ l. list_all (are_two_apart D image_of l) group) group)
       ∙ (ap (λ b. list_all (are_two_apart D image_of k) group && (b && are_numbers_apart D image_of group)) (all-same (λ l. are_two_apart D image_of l k) (are_two_apart D image_of k) group (λ l. two-swap l k))
-      ∙ (once (list_all (are_two_apart D image_of k) group) (are_numbers_apart D image_of group)
+      ∙ (and_self_left (list_all (are_two_apart D image_of k) group) (are_numbers_apart D image_of group)
       ∙ ap (λ b. list_all (are_two_apart D image_of k) group && b) (group-by_rest group))))
-    where
-      once : (a b : Bool) → (a && (a && b)) ≡ (a && b)
-      once true b = refl
-      once false b = refl
-
-  drop-at : (xs : List ℕ) (i d : ℕ) → i < length xs → drop i xs ≡ get_or xs i d ∷ drop (i + 1) xs
-  drop-at [] i d h = absurd (omega (arith, h))
-  drop-at (x ∷ xs) zero d h = refl
-  drop-at (x ∷ xs) (suc i) d h = let e : suc (i + 1) ≡ suc i + 1 = omega arith in drop-at xs i d (omega (arith, h)) ∙ ap (λ n. get_or xs i d ∷ drop n (x ∷ xs)) e
 
   pub rest-at : (group : List ℕ) (i d : ℕ) → i < length group
       → is_rest_apart (drop i group) ≡ (is_number_apart D image_of (drop (i + 1) group) (get_or group i d) && is_rest_apart (drop (i + 1) group))
-  rest-at group i d h = ap is_rest_apart (drop-at group i d h)
+  rest-at group i d h = ap is_rest_apart (drop_more group i d h)
 
 -- ---- each held against those before it
 
@@ -151,16 +138,8 @@ any-at p (suc n) (x ∷ xs) h = by (p x) refl h (any-at p n xs)
 none-at : (p : ℕ → Bool) (n : ℕ) (xs : List ℕ) (c : ℕ) → list_any p (take n xs) ≡ false → c < n → c < length xs → p (get_or xs c 0) ≡ false
 none-at p zero xs c h low there = absurd (omega (arith, low))
 none-at p (suc n) [] c h low there = absurd (omega (arith, there))
-none-at p (suc n) (x ∷ xs) zero h low there = neither (p x) (list_any p (take n xs)) h
-  where
-    neither : (a b : Bool) → (a || b) ≡ false → a ≡ false
-    neither true b e = cc
-    neither false b e = refl
-none-at p (suc n) (x ∷ xs) (suc c) h low there = none-at p n xs c (other (p x) (list_any p (take n xs)) h) (omega (arith, low)) (omega (arith, there))
-  where
-    other : (a b : Bool) → (a || b) ≡ false → b ≡ false
-    other true b e = cc
-    other false b e = e
+none-at p (suc n) (x ∷ xs) zero h low there = (or_parts (p x) (list_any p (take n xs)) h).0
+none-at p (suc n) (x ∷ xs) (suc c) h low there = none-at p n xs c (or_parts (p x) (list_any p (take n xs)) h).1 (omega (arith, low)) (omega (arith, there))
 
 module _ (D : Database) (image_of : ℕ → Expr) (group : List ℕ) where
   abbrev two : ℕ → ℕ → Bool

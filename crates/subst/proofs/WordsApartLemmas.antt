@@ -4,6 +4,7 @@ use Rattle.std.specs.List.{list_all}
 use Rattle.std.proofs.Common.{sym, ◌∙◌, ap, arith, inl, inr}
 use Rattle.std.proofs.lemmas.Bool.{and_from, and_parts}
 use Rattle.std.proofs.lemmas.List.Folds.{list_all-map}
+use Rattle.frame.proofs.ApartLemmas.{kept_by, last_part}
 use Rattle.scope.specs.Active.{is_variable}
 use Rattle.names.specs.Codes.{name_at, decode}
 use Rattle.frame.specs.Covers.{is_symbol_apart}
@@ -30,10 +31,6 @@ module _ (v : Numbered) (f : Found) (known : IsKnown v f) (left right : ℕ) (P 
   pub good-from : AreWordsApart v f left right → (x y : ℕ) → P x → Q y → is_good v x y ≡ true
   good-from apart x y p q = by (ls.each x p) (rs.each y q)
     where
-      first : (a b c : Bool) → a ≡ false → (not a || not b || c) ≡ true
-      first true b c h = cc
-      first false b c h = refl
-
       second : (a b c : Bool) → b ≡ false → (not a || not b || c) ≡ true
       second true true c h = cc
       second true false c h = refl
@@ -45,22 +42,17 @@ module _ (v : Numbered) (f : Found) (known : IsKnown v f) (left right : ℕ) (P 
       third false b c h = refl
 
       by : IsNoted v f left x → IsNoted v f right y → is_good v x y ≡ true
-      by (inl none) other = first _ _ _ none
+      by (inl none) other = kept_by _ _ _ none
       by (inr one) (inl none) = second _ _ _ none
       by (inr one) (inr two) = third _ _ _ (sym (at-names v f one.0 two.0 x y one.1 two.1) ∙ (apart.each one.0 one.2).each two.0 two.2)
 
   pub words-from : ((x y : ℕ) → P x → Q y → is_good v x y ≡ true) → AreWordsApart v f left right
   words-from good = record { each = λ i a. record { each = λ j b. by i j (ls.only i a) (rs.only j b) } }
     where
-      last : (a b c : Bool) → a ≡ true → b ≡ true → (not a || not b || c) ≡ true → c ≡ true
-      last true true c p q h = h
-      last true false c p q h = cc
-      last false b c p q h = cc
-
       by : (i j : ℕ) → (x : ℕ) × P x × IsAt f i x → (y : ℕ) × Q y × IsAt f j y → is_kept v f i j ≡ true
       by i j o u =
           at-names v f i j o.0 u.0 o.2 u.2
-          ∙ last _ _ _ (is-variable v f i o.0 known o.2) (is-variable v f j u.0 known u.2) (good o.0 u.0 o.1 u.1)
+          ∙ last_part _ _ _ (is-variable v f i o.0 known o.2) (is-variable v f j u.0 known u.2) (good o.0 u.0 o.1 u.1)
 
 -- ---- two images
 

@@ -23,10 +23,6 @@ under_false a b h = grind (arith, nat_tests)
 pub upto_under : (a b c : Ballot) → Upto a b → Under b c → Under a c
 upto_under a b c h k = grind arith
 
--- under a ballot that is up to another is under the other
-pub under_upto : (a b c : Ballot) → Under a b → Upto b c → Under a c
-under_upto a b c h k = grind arith
-
 -- up to a ballot that is up to another is up to the other
 pub upto_upto : (a b c : Ballot) → Upto a b → Upto b c → Upto a c
 upto_upto a b c h k = grind arith

@@ -1,6 +1,6 @@
 -- The highest report of a slot, the reports being gone through from the first on, and one above the greatest slot.
 use Rattle.std.proofs.Common.{◌≡◌, ◌≢◌, ℕ, zero, suc, ◌+◌, ◌-◌, ◌<◌, ◌≤◌, max, min, Bool, true, false, ◌==◌, List, [], ◌∷◌, ◌++◌, length, take, drop, drop-cons, add-one, Option, Some, None, refl, ap, sym, ◌∙◌, subst, arith, if◌then◌else◌, append_assoc, append-nil, get_or, set, length-set, slice_index_or, eqb-true, le_of_suc-le-suc, ◌⊎◌, inl, inr, drop_of_length-le, length-take-le}
-use Rattle.std.proofs.lemmas.List.{get_or-set_same, get_or-set_other, get_or_default}
+use Rattle.std.proofs.lemmas.List.{get_or-set_same, get_or-set_other, get_or_default, take_all}
 use Rattle.std.proofs.lemmas.Bool.Decides.{nat_tests}
 use Rattle.std.specs.List.{AllByRecursion}
 use Rattle.std.specs.Borrow.{Bor}
@@ -113,21 +113,11 @@ joined-under {V} q r e = ap (λ (t : Bool). let o : Option (SlotReport V) = if t
 pub joined-upto : {V : Type 0} (q r : SlotReport V) → is_under q.ballot r.ballot ≡ false → joined_with (Some q) r ≡ Some q
 joined-upto {V} q r e = ap (λ (t : Bool). let o : Option (SlotReport V) = if t then Some r else Some q in o) e
 
-pub copied-Some : {V : Type 0} (item : Option (Bor (SlotReport V))) (b : Bor (SlotReport V)) → item ≡ Some b → option_copied item ≡ Some b.now
-copied-Some {V} item b e = ap (λ (o : Option (Bor (SlotReport V))). option_copied o) e
-
-pub copied-None : {V : Type 0} (item : Option (Bor (SlotReport V))) → item ≡ None → option_copied item ≡ None
-copied-None {V} item e = ap (λ (o : Option (Bor (SlotReport V))). option_copied o) e
-
 -- One above the greatest slot.
 
 pub above_all-append : {V : Type 0} (rs qs : List (SlotReport V)) → above_all (rs ++ qs) ≡ max (above_all rs) (above_all qs)
 above_all-append [] qs = omega arith
 above_all-append (r ∷ rs) qs = let e = above_all-append rs qs in omega (arith, e)
-
-pub top-above : {V : Type 0} (first : ℕ) (rs : List (SlotReport V)) (above : ℕ) → above ≡ above_all rs → (above ≡ 0 → first ≡ top_reported first rs) × ((above ≡ 0 → ⊥) → above ≡ top_reported first rs)
-top-above first [] above e = (λ z. refl, λ n. absurd (n e))
-top-above first (r ∷ rs) above e = (λ z. absurd (omega (arith, e, z)), λ n. e)
 
 -- The pages and the reports that were gone through, and those to come.
 
@@ -167,22 +157,6 @@ pages_next {V} pages i page is low = ap (λ (ps : List (Bor (List (SlotReport V)
 -- a table of nothing
 pub highest_of_none : {V : Type 0} (first : ℕ) (table : List (Option (Bor (SlotReport V)))) → ((k : ℕ) → slice_index_or table k None ≡ None) → AreHighest first table []
 highest_of_none {V} first table none k low = ap (λ (o : Option (Bor (SlotReport V))). option_copied o) (none k)
-
--- a table of nothing, with nothing at one place more
-pub none_push : {A : Type 0} (table more : List (Option A)) → more ≡ table ++ None ∷ [] → ((k : ℕ) → slice_index_or table k None ≡ None) → (k : ℕ) → slice_index_or more k None ≡ None
-none_push {A} table more e none k = ap (λ (xs : List (Option A)). slice_index_or xs k None) e ∙ pushed table none k where
-  pushed : {A : Type 0} (table : List (Option A)) → ((k : ℕ) → slice_index_or table k None ≡ None) → (k : ℕ) → slice_index_or (table ++ None ∷ []) k None ≡ None
-  pushed [] none zero = refl
-  pushed [] none (suc k) = refl
-  pushed (x ∷ table) none zero = none 0
-  pushed (x ∷ table) none (suc k) = pushed table (λ j. none (suc j)) k
-
--- to take as many elements as there are, or more, is to take all
-pub take_past : {A : Type 0} (xs : List A) (i : ℕ) → length xs ≤ i → take i xs ≡ xs
-take_past [] zero h = refl
-take_past [] (suc i) h = refl
-take_past (x ∷ xs) zero h = absurd (omega arith)
-take_past (x ∷ xs) (suc i) h = ap (λ ys. x ∷ ys) (take_past xs i (le_of_suc-le-suc h))
 
 -- one slot more is filled
 pub fill_next : {V : Type 0} (me : ℕ) (weights : List ℕ) (b : Ballot) (s n m : ℕ) (reports : List (SlotReport V)) (v : Option V) (posts more : List (Packet V)) → more ≡ posts ++ to_all me weights (Accept b s v) → v ≡ reported_value (highest_at s reports) → n ≡ suc m
@@ -240,9 +214,9 @@ pub take_min : {A : Type 0} (xs : List A) (n taken : ℕ) → taken ≡ min (len
 take_min {A} xs n taken e = elim (le_or_lt (length xs) n) [
   | inl all ↦
       let whole : taken ≡ length xs = omega (arith, e, all) in (
-        take_past xs taken (omega (arith, whole)) ∙ sym (take_past xs n all),
+        take_all taken xs (omega (arith, whole)) ∙ sym (take_all n xs all),
         drop_of_length-le xs (omega (arith, whole)) ∙ sym (drop_of_length-le xs all),
-        ap (λ (ys : List A). length ys) (take_past xs n all) ∙ sym whole,
+        ap (λ (ys : List A). length ys) (take_all n xs all) ∙ sym whole,
       )
   | inr some ↦
       let part : taken ≡ n = omega (arith, e, some) in

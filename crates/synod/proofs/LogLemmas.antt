@@ -11,7 +11,7 @@ gap_entry (Some x ∷ xs) zero h = refl
 gap_entry (Some x ∷ xs) (suc s) h = gap_entry xs s (le_of_suc-le-suc h)
 
 -- the first elements, with the one that follows
-take_next : {T : Type 0} (xs : List T) (i : ℕ) (x : T) → slice_get xs i ≡ Some x → take (suc i) xs ≡ take i xs ++ x ∷ []
+pub take_next : {T : Type 0} (xs : List T) (i : ℕ) (x : T) → slice_get xs i ≡ Some x → take (suc i) xs ≡ take i xs ++ x ∷ []
 take_next [] i x h = cc
 take_next (y ∷ xs) zero x h = cc
 take_next (y ∷ xs) (suc i) x h = ap (λ ys. y ∷ ys) (take_next xs i x h)

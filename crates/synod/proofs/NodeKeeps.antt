@@ -18,11 +18,10 @@ use Rattle.synod.specs.declared.proposer.Role.{Role}
 use Rattle.synod.specs.declared.proposer.Role.TheVariants.{Idle, Preparing, Leading}
 use Rattle.synod.specs.declared.refusal.Refusal.{Refusal}
 use Rattle.synod.specs.declared.refusal.Refusal.TheVariants.{Busy, LogFull, RoundsSpent, TooLong}
-use Rattle.synod.specs.Weights.{IsWeights}
 use Rattle.synod.specs.Ballots.{is_under}
 use Rattle.synod.specs.Packets.{packet, to_all_from, to_all, to_others_from, to_others, accepts, IsBody, IsPost}
 use Rattle.synod.specs.Record.{Kept}
-use Rattle.synod.specs.Node.{Node, Stepped, unchanged, new_node, no_pages}
+use Rattle.synod.specs.Node.{Node, Stepped, unchanged, no_pages}
 use Rattle.synod.specs.Log.{log_length}
 use Rattle.synod.specs.Acceptor.{refuses, held, takes_value, on_accept}
 use Rattle.synod.specs.Proposer.{waits, takes_slot, offer_waits, offer_as, offered, next_round, next_ballot, begins, begun, is_at, idles, on_nack}
@@ -95,10 +94,6 @@ posts_accepts me weights b s (v ∷ vs) from le =
     (posts_accepts me weights b (suc s) vs from (omega arith))
 
 -- A new node.
-
--- it is what every node is, where its weights are weights and it is one of them
-pub new_is_node : {V : Type 0} (me : ℕ) (weights : List ℕ) → IsWeights weights → me < length weights → IsNode (new_node {V = V} me weights)
-new_is_node me weights are one = record { weights = are; me = one; accepted = omega arith; learned = omega arith; role = tt; pages = tt }
 
 module _ {V : Type 0} (n : Node V) (is : IsNode n) where
   abbrev pub nodes : ℕ

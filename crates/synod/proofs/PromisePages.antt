@@ -57,12 +57,6 @@ cut-later (suc room) [] i h = absurd (omega arith)
 cut-later zero (x ∷ xs) i h = refl
 cut-later (suc room) (x ∷ xs) i h = onto_first-later x (cut room xs) i ∙ cut-later room xs i (le_of_suc-le-suc h)
 
-cut-end : {T : Type 0} (room : ℕ) (xs : List T) (i : ℕ) → length xs ≤ room → slice_get (cut room xs) (suc i) ≡ None
-cut-end zero [] i h = refl
-cut-end (suc room) [] i h = refl
-cut-end zero (x ∷ xs) i h = absurd (omega arith)
-cut-end (suc room) (x ∷ xs) i h = onto_first-later x (cut room xs) i ∙ cut-end room xs i (le_of_suc-le-suc h)
-
 pub page-is : {T : Type 0} (i : ℕ) (xs : List T) → (256 * i < length xs) ⊎ (i ≡ 0) → slice_get (pages_of xs) i ≡ Some (take 256 (drop (256 * i) xs))
 page-is zero xs h = cut-first 256 xs
 page-is (suc i) xs (inr e) = absurd (omega (arith, e))

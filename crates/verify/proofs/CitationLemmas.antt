@@ -1,7 +1,7 @@
 -- The citation of an assertion, by results of numbers.
 use Rattle.std.specs.Prelude.{◌≡◌, ℕ, ◌-◌, ◌<◌, ◌≤◌, true, false, List, [], ◌++◌, length, map, get_or, slice_get, Some}
 use Rattle.std.proofs.Common.{sym, ◌∙◌, ap, subst, arith, length-append}
-use Rattle.std.proofs.lemmas.List.{length-map}
+use Rattle.std.proofs.lemmas.List.{length-map, map-append}
 use Rattle.mm_lex.specs.Alphabet.{Name}
 use Rattle.mm_read.specs.declared.stmt.Stmt.{Stmt}
 use Rattle.mm_read.specs.Statements.{Expr, Database}
@@ -28,7 +28,6 @@ use Rattle.verify.proofs.Decide.{append_cut, length-premises, not_both}
 use Rattle.verify.proofs.ImageLemmas.{only, apply-below, are-codes}
 use Rattle.verify.proofs.Named.{named-result, result-named, all-take, all-drop, halves, length-top}
 use Rattle.frame.proofs.FoundByNumber.{some-same}
-use Rattle.proof_code.proofs.LettersLemmas.{map-append}
 
 -- what the code finds wherever the citation can give f
 pub record Meets (S : Database) (names : List Name) (at a : ℕ) (c : Cited) (stack : List (List ℕ)) (f : Expr) : Type 0 where

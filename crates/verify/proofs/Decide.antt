@@ -1,7 +1,7 @@
 -- The machine has one way to go, so that a run that cannot go on refutes the proof.
 use Rattle.std.specs.Prelude.{◌≡◌, ℕ, zero, suc, ◌+◌, ◌<◌, ◌≤◌, true, List, [], ◌∷◌, ◌++◌, length, Some, refl}
 use Rattle.std.proofs.Common.{sym, ◌∙◌, ap, subst, arith, append-nil, length-append}
-use Rattle.std.proofs.lemmas.List.{length-map}
+use Rattle.std.proofs.lemmas.List.{length-map, same_from_push}
 use Rattle.mm_lex.specs.Alphabet.{Name}
 use Rattle.mm_read.specs.declared.stmt.Stmt.{Stmt}
 use Rattle.mm_read.specs.declared.stmt.Stmt.TheVariants.{Open, Close, Const, Var, Disj, Float, Ess, Axiom, Prove}
@@ -11,13 +11,11 @@ use Rattle.frame.specs.FrameOf.{hypotheses}
 use Rattle.frame.specs.Substitution.{Images, apply as applied}
 use Rattle.proof_code.specs.declared.item.Item.{Item}
 use Rattle.proof_code.specs.declared.item.Item.TheVariants.{Cite, Recall, Mark}
-use Rattle.verify.specs.Concludes.{Concludes}
 use Rattle.frame.specs.Citations.{IsHypothesis, IsInstance, premises, is_hypothesis_kind, expr_at, Carries}
 use Rattle.verify.specs.Machine.{State, start, Cites, of_hypothesis, of_assertion, IsSaved, with_result, with_mark, Steps, Runs}
 use Rattle.verify.specs.Right.{IsRight, weight_limit}
 use Rattle.frame.specs.AtPosition.{IsSingle, HasLabelsOnce}
 use Rattle.verify.proofs.Sound.{Spelled, sound}
-use Rattle.verify.specs.Derivations.{Derivation}
 use Rattle.verify.proofs.Complete.{state, Result, complete, conclude_instance, conclude_same}
 use Rattle.frame.proofs.FoundByNumber.{some-same}
 
@@ -90,10 +88,7 @@ module _ (S : Database) (at : ℕ) (single : IsSingle S at) (once : HasLabelsOnc
   pub steps_same : (st x y : State) (item : Item) → Steps S at st item x → Steps S at st item y → x ≡ y
   steps_same st x y (Cite label) p q = let r = cites_same label st.stack p.0 q.0 p.1 q.1 p.2 q.2 in result_same st x y p.0 q.0 p.1 q.1 p.3 q.3 r.0 r.1
   steps_same st x y (Recall k) p q = result_same st x y st.stack st.stack p.0 q.0 p.2 q.2 refl (saved_same st.saved k p.0 q.0 p.1 q.1)
-  steps_same st x y Mark p q = p.3 ∙ (ap (with_mark st) (append_last p.0 q.0 p.1 q.1 (sym p.2 ∙ q.2)) ∙ sym q.3)
-    where
-      append_last : (b c : List Expr) (e f : Expr) → b ++ e ∷ [] ≡ c ++ f ∷ [] → e ≡ f
-      append_last b c e f h = let r : e ∷ [] ≡ f ∷ [] = (append_cut b c (e ∷ []) (f ∷ []) h refl).1 in cc
+  steps_same st x y Mark p q = p.3 ∙ (ap (with_mark st) (same_from_push p.0 q.0 p.1 q.1 (sym p.2 ∙ q.2)).1 ∙ sym q.3)
 
   -- a run over the first items, cut off a longer one
   pub runs_rest : (front rest : List Item) (st mid end : State) → Runs S at st (front ++ rest) end → Runs S at st front mid → Runs S at mid rest end
@@ -127,12 +122,9 @@ module _ (S : Database) (at : ℕ) (single : IsSingle S at) (once : HasLabelsOnc
       record {
         end = state S at single (r.result ∷ []) r.saved' (0 + d.weight);
         runs = r.leads.runs [] 0;
-        one = ap (λ e. e ∷ []) (conclude_same' t r.result (expr_of d.stmt) r.concludes d.concludes ∙ ap expr_of (some-same d.stands stands));
+        one = ap (λ e. e ∷ []) (conclude_same S at single t r.result (expr_of d.stmt) r.concludes d.concludes ∙ ap expr_of (some-same d.stands stands));
         light = omega (arith, d.light);
       }
-    where
-      conclude_same' : (u : Derivation) (e f : Expr) → Concludes S at u e → Concludes S at u f → e ≡ f
-      conclude_same' = conclude_same S at single
 
   -- items that run so are right
   pub accepts_right : (items : List Item) (s : Stmt) → stmt_at S at ≡ Some s → Accepts items (expr_of s) → IsRight S at items

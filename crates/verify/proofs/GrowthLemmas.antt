@@ -1,7 +1,6 @@
 -- What the code knows at each exit of an item, as a fact of the machine over derivations.
-use Rattle.std.specs.Prelude.{◌≡◌, ℕ, suc, ◌-◌, ◌<◌, ◌≤◌, Bool, true, false, cond, List, [], ◌∷◌, ◌++◌, length, map, get_or, Result, Ok, Err, IfOk, refl}
+use Rattle.std.specs.Prelude.{◌≡◌, ℕ, suc, ◌-◌, ◌<◌, ◌≤◌, Bool, true, false, List, [], ◌∷◌, ◌++◌, length, map, get_or, Result, Ok, Err, IfOk, refl}
 use Rattle.std.proofs.Common.{sym, ◌∙◌, ap, subst, arith, length-append}
-use Rattle.std.proofs.lemmas.Bool.{le-ltb}
 use Rattle.mm_lex.specs.Alphabet.{Name}
 use Rattle.mm_read.specs.declared.stmt.Stmt.{Stmt}
 use Rattle.mm_read.specs.Statements.{Database}
@@ -12,7 +11,7 @@ use Rattle.frame.specs.AtPosition.{HasLabelsOnce}
 use Rattle.proof_code.specs.declared.item.Item.{Item}
 use Rattle.proof_code.specs.declared.item.Item.TheVariants.{Cite, Recall}
 use Rattle.proof_code.specs.ItemNumbers.{item_of}
-use Rattle.proof_code.proofs.RowOfNumbers.{item-cite}
+use Rattle.proof_code.proofs.RowOfNumbers.{item-cite, item-recall}
 use Rattle.verify.specs.Derivations.{Derivation, hyp, apply, from_list}
 use Rattle.verify.specs.Spells.{IsCitable}
 use Rattle.verify.specs.Growth.{Trees, trees, with_tree, Builds, a_hypothesis, an_assertion, GrowsBy, Grew, GrowsMark, GrowsRecall}
@@ -21,9 +20,6 @@ use Rattle.verify.proofs.Named.{halves, length-top}
 use Rattle.verify.specs.Right.{IsRight, Derives}
 use Rattle.verify.proofs.Unique.{apart_kinds, grows_append, grows_same, grows_by_same, yields}
 use Rattle.frame.proofs.FoundByNumber.{some-same}
-
-pub item-recall : (labels : List Name) (n k : ℕ) → n ≡ suc k → length labels ≤ k → item_of labels n ≡ Recall (suc (k - length labels))
-item-recall labels n k e h = ap (item_of labels) e ∙ ap (λ b. cond b (Cite (get_or labels k [])) (Recall (suc (k - length labels)))) (le-ltb k (length labels) h)
 
 module _ (S : Database) (at : ℕ) (label : Name) where
   -- an assertion takes as many derivations as it has hypotheses

@@ -5,6 +5,7 @@ use Rattle.std.proofs.lemmas.Bool.Decides.{nat_tests}
 use Rattle.std.proofs.lemmas.List.{drop-append-le}
 use Rattle.std.specs.declared.alloc.AllocError.{AllocError}
 use Rattle.std.proofs.lemmas.Option.{get_or_from_slice_get, slice_get-get_or}
+use Rattle.subst.proofs.NumbersApartLemmas.{below-group}
 use Rattle.mm_lex.specs.Alphabet.{Name}
 use Rattle.mm_read.specs.declared.stmt.Stmt.{Stmt}
 use Rattle.mm_read.specs.Statements.{Database}
@@ -21,7 +22,7 @@ use Rattle.verify.specs.Machine.{Results, State, with_result}
 use Rattle.verify.specs.ResultPlaces.{Adds, Gives, Marks, Recalls}
 use Rattle.verify.specs.Goes.{named, AreNamed, Goes, behind, IsGiven, AreGiven, AreKnown, GoesOn}
 use Rattle.verify.specs.LabelTable.{IsEntry, AreEntries}
-use Rattle.verify.proofs.Named.{all-drop, all-get}
+use Rattle.verify.proofs.Named.{all-drop}
 use Rattle.verify.proofs.ResultPlaceLemmas.{map-drop, results-same}
 use Rattle.verify.proofs.StepLemmas.{hypothesis-result, nothing-goes, mark-result, cite-number, recall-number}
 use Rattle.frame.proofs.PositionLemmas.{get-front}
@@ -118,7 +119,7 @@ module _ (S : Database) (names : List Name) (at : ℕ) where
 
     recall-known : (k : ℕ) → Recalls true old new (suc k) → AreKnown S names table new
     recall-known k r = subst (AreKnown S names table) (sym r.2) (record {
-      are_named = record { stack_named = all-snoc (length names) old.stack r.0 known.are_named.stack_named (all-get (length names) k old.saved r.0 known.are_named.saved_named r.1); saved_named = known.are_named.saved_named };
+      are_named = record { stack_named = all-snoc (length names) old.stack r.0 known.are_named.stack_named (below-group (length names) old.saved k r.0 known.are_named.saved_named r.1); saved_named = known.are_named.saved_named };
       given = known.given;
     })
 
@@ -161,7 +162,7 @@ module _ (S : Database) (names : List Name) (at : ℕ) where
         by : (entry : LabelEntry) → IsEntry S at (get_or labels k []) entry → IsGiven S names entry (get_or old.saved k []) → IfOk r (λ ok. Goes ok S at names (Cite (get_or labels k [])) (behind (length table) old) (behind (length table) new))
         by (Hypothesis i) entry given =
             hypothesis-result S names at legal (behind (length table) old) (behind (length table) new) below_named (get_or labels k []) i entry.0 entry.1 r (get_or old.saved k []) entry.0 entry.2
-            (given some entry.0 entry.2.stands) (all-get (length names) k old.saved (get_or old.saved k []) known.are_named.saved_named there) (adds r recalls)
+            (given some entry.0 entry.2.stands) (below-group (length names) old.saved k (get_or old.saved k []) known.are_named.saved_named there) (adds r recalls)
         by (Assertion a) entry given = absurd (omega (arith, some, ap length given))
         by Nothing entry given = absurd (omega (arith, some, ap length given))
 

@@ -1,7 +1,7 @@
 -- What a label names, found once.
-use Rattle.std.specs.Prelude.{◌≡◌, ℕ, zero, suc, ◌+◌, ◌-◌, ◌<◌, Bool, true, false, nat_lt, List, [], ◌∷◌, ◌++◌, length, take, get_or, Option, Some, None, refl}
+use Rattle.std.specs.Prelude.{◌≡◌, ℕ, suc, ◌+◌, ◌-◌, ◌<◌, Bool, true, false, nat_lt, List, [], ◌∷◌, ◌++◌, length, take, get_or, Option, Some, None, refl}
 use Rattle.std.proofs.Common.{sym, ◌∙◌, ap, subst, arith, length-append}
-use Rattle.std.proofs.lemmas.List.{get_or_default}
+use Rattle.std.proofs.lemmas.List.{get_or_default, take_more}
 use Rattle.mm_lex.specs.Alphabet.{Name}
 use Rattle.mm_read.specs.declared.stmt.Stmt.{Stmt}
 use Rattle.mm_read.specs.Statements.{Database}
@@ -15,13 +15,6 @@ use Rattle.verify.specs.declared.label_table.LabelEntry.TheVariants.{Nothing}
 use Rattle.verify.specs.LabelTable.{IsEntry, AreEntries}
 use Rattle.frame.proofs.FoundByNumber.{some-same}
 use Rattle.frame.proofs.PositionLemmas.{get-front, get-last}
-
-pub take-more : {A : Type 0} (xs : List A) (i : ℕ) (d : A) → i < length xs → take (i + 1) xs ≡ take i xs ++ get_or xs i d ∷ []
-take-more [] i d h = absurd (omega (arith, h))
-take-more (x ∷ xs) zero d h = refl
-take-more (x ∷ xs) (suc i) d h =
-    let e : suc i + 1 ≡ suc (i + 1) = omega arith in
-    ap (λ n. take n (x ∷ xs)) e ∙ ap (λ r. x ∷ r) (take-more xs i d (omega (arith, h)))
 
 -- the one statement with the label may not be cited
 pub nothing : (S : Database) (at i : ℕ) (s : Stmt) (label : Name) → HasLabelsOnce S → Carries S i s label
@@ -63,7 +56,7 @@ table-more S at labels positions i d table table' entry are less front grown is 
     let c = are.count in
     let within : i < length labels = omega (arith, less, c) in
     let here = subst (IsPosition S (get_or labels i [])) (get_or_default positions i None d less) (are.each i within) in
-    subst (λ ls. AreEntries S at ls table') (sym (take-more labels i [] within))
+    subst (λ ls. AreEntries S at ls table') (sym (take_more labels i [] within))
     (subst (AreEntries S at (take i labels ++ get_or labels i [] ∷ [])) (sym grown) (entries-more S at (take i labels) (get_or labels i []) table entry front (is (get_or labels i []) here)))
 
 -- what a place of the table names

@@ -1,7 +1,7 @@
 -- The listed labels, one after another.
 use Rattle.std.specs.Prelude.{◌≡◌, ℕ, zero, suc, ◌+◌, ◌-◌, ◌<◌, ◌≤◌, Bool, true, false, ◌||◌, List, [], ◌∷◌, ◌++◌, length, take, drop, slice_index_or, refl}
 use Rattle.std.specs.List.{list_any}
-use Rattle.std.proofs.Common.{sym, ◌∙◌, ap, subst, arith, true≢false, append_assoc, append-nil}
+use Rattle.std.proofs.Common.{sym, ◌∙◌, ap, subst, arith, true≢false, append_assoc}
 use Rattle.std.proofs.lemmas.List.{length-drop, drop_more, take_more}
 use Rattle.mm_lex.specs.Alphabet.{Name, has_name}
 use Rattle.mm_read.specs.declared.stmt.Stmt.{Stmt}
@@ -25,13 +25,6 @@ pub record AreAdded (S : Database) (at : ℕ) (words left : List Name) (n : ℕ)
   pub rest : drop n words ≡ left
   pub entries : (front : List Name) → AreEntries S at front old → AreEntries S at (front ++ take n words) table
   pub apart : (s : Stmt) → IsProvable S at s → share_label (mandatory_labels S at s) (take n words) ≡ false
-
-pub none-added : (S : Database) (at : ℕ) (words : List Name) (table : List LabelEntry) → AreAdded S at words words 0 table table
-none-added S at words table = record {
-  rest = refl;
-  entries = λ front are. subst (λ ls. AreEntries S at ls table) (sym (append-nil front)) are;
-  apart = λ s p. refl;
-}
 
 any-more : (f : Name → Bool) (xs : List Name) (i j : ℕ) → i ≤ j → list_any f (take i xs) ≡ true → list_any f (take j xs) ≡ true
 any-more f [] zero j h t = absurd (true≢false (sym t))

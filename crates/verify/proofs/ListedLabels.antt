@@ -8,6 +8,7 @@ use Rattle.std.proofs.lemmas.Bool.Decides.{nat_tests}
 use Rattle.std.proofs.lemmas.List.Folds.{list_any-append}
 use Rattle.std.proofs.lemmas.Slice.Eq.{bytes_eq-Decides}
 use Rattle.std.proofs.lemmas.Bool.{or_right}
+use Rattle.std.specs.Cmp.{both_ways}
 use Rattle.mm_lex.specs.Alphabet.{Name, name_eq, has_name}
 use Rattle.mm_read.specs.declared.stmt.Stmt.{Stmt}
 use Rattle.mm_read.specs.Statements.{Database}
@@ -27,12 +28,6 @@ use Rattle.verify.proofs.Decide.{not_both}
 
 -- ---- a listed label
 
-same-test : (a b : Bool) → (a ≡ true → b ≡ true) → (b ≡ true → a ≡ true) → a ≡ b
-same-test true true p q = refl
-same-test false false p q = refl
-same-test true false p q = sym (p refl)
-same-test false true p q = q refl
-
 abbrev is_at : ℕ → LabelEntry → Bool
 is_at p (Hypothesis i) = p == i
 is_at p (Assertion a) = false
@@ -40,7 +35,7 @@ is_at p Nothing = false
 
 one-test : (S : Database) (at : ℕ) (label : Name) (e : LabelEntry) (p : ℕ) → HasLabelsOnce S → IsEntry S at label e → IsMandatory S at p → name_eq label (label_or_none (stmt_at S p)) ≡ is_at p e
 one-test S at label (Hypothesis i) p once is m =
-    same-test (name_eq label (label_or_none (stmt_at S p))) (p == i)
+    both_ways (name_eq label (label_or_none (stmt_at S p))) (p == i)
     (λ t.
     let same : label ≡ label_or_none (stmt_at S p) = (bytes_eq-Decides label (label_or_none (stmt_at S p))).0 t in
     let one : p ≡ i = once p i m.stmt is.0 (label_or_none (stmt_at S p)) m.carries (subst (Carries S i is.0) same is.1) in
@@ -51,7 +46,7 @@ one-test S at label (Hypothesis i) p once is m =
     let equal : Some label ≡ Some (label_or_none (stmt_at S p)) = sym there.carried ∙ (ap label_of (some-same there.stands m.carries.stands) ∙ m.carries.carried) in
     (bytes_eq-Decides label (label_or_none (stmt_at S p))).1 (let q : label ≡ label_or_none (stmt_at S p) = cc in q))
 one-test S at label (Assertion a) p once is m =
-    same-test (name_eq label (label_or_none (stmt_at S p))) false
+    both_ways (name_eq label (label_or_none (stmt_at S p))) false
     (λ t.
     let same : label ≡ label_or_none (stmt_at S p) = (bytes_eq-Decides label (label_or_none (stmt_at S p))).0 t in
     let there : Carries S a is.0 (label_or_none (stmt_at S p)) = subst (Carries S a is.0) same is.1 in
@@ -60,7 +55,7 @@ one-test S at label (Assertion a) p once is m =
     absurd (not_both is.0 (ap is_hypothesis_kind (sym stmt) ∙ m.active.kind) is.2.assertion))
     (λ f. absurd (true≢false (sym f)))
 one-test S at label Nothing p once is m =
-    same-test (name_eq label (label_or_none (stmt_at S p))) false
+    both_ways (name_eq label (label_or_none (stmt_at S p))) false
     (λ t.
     let same : label ≡ label_or_none (stmt_at S p) = (bytes_eq-Decides label (label_or_none (stmt_at S p))).0 t in
     absurd ((is p m.stmt (subst (Carries S p m.stmt) (sym same) m.carries)).0 m.active))

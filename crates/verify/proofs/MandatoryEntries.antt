@@ -7,10 +7,10 @@ use Rattle.mm_lex.specs.Alphabet.{Name}
 use Rattle.mm_read.specs.declared.stmt.Stmt.{Stmt}
 use Rattle.mm_read.specs.declared.stmt.Stmt.TheVariants.{Open, Close, Const, Var, Disj, Float, Ess, Axiom, Prove}
 use Rattle.mm_read.specs.Statements.{Database}
-use Rattle.scope.specs.Active.{before, is_assertion, is_provable, label_of, stays_open, stmt_at}
+use Rattle.scope.specs.Active.{before, label_of, stays_open, stmt_at}
 use Rattle.scope.proofs.StatementPlaces.{stands-within}
 use Rattle.frame.specs.Citations.{Carries, IsHypothesis, is_hypothesis_kind}
-use Rattle.frame.specs.FrameOf.{HasAssertion, hypotheses}
+use Rattle.frame.specs.FrameOf.{hypotheses}
 use Rattle.frame.proofs.PlacedHypotheses.{IsHyp, AreHyps, hyps}
 use Rattle.verify.specs.declared.label_table.LabelEntry.{LabelEntry}
 use Rattle.verify.specs.declared.label_table.LabelEntry.TheVariants.{Hypothesis, Nothing}
@@ -18,20 +18,6 @@ use Rattle.verify.specs.Proves.{label_or_none, mandatory_labels}
 use Rattle.verify.specs.Right.{IsProvable}
 use Rattle.verify.specs.LabelTable.{IsEntry, AreEntries}
 use Rattle.frame.proofs.AssertionLemmas.{hypothesis-kinds}
-
-pub provable-assertion : (s : Stmt) → is_provable s ≡ true → is_assertion s ≡ true
-provable-assertion (Prove label expr proof) h = refl
-provable-assertion (Axiom label expr) h = refl
-provable-assertion Open h = cc
-provable-assertion Close h = cc
-provable-assertion (Const names) h = cc
-provable-assertion (Var names) h = cc
-provable-assertion (Disj names) h = cc
-provable-assertion (Float label constant variable) h = cc
-provable-assertion (Ess label expr) h = cc
-
-pub has-provable : (S : Database) (at : ℕ) (s : Stmt) → IsProvable S at s → HasAssertion S at s
-has-provable S at s p = (p.stands, provable-assertion s p.provable)
 
 -- ---- one hypothesis
 

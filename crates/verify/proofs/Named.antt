@@ -1,7 +1,8 @@
 -- Steps over codes are steps over the names that they stand for.
 use Rattle.std.specs.Prelude.{◌≡◌, ℕ, zero, suc, ◌+◌, ◌-◌, ◌≤◌, Bool, true, false, List, [], ◌∷◌, ◌++◌, length, map, take, drop, get_or, slice_get, Some, refl}
 use Rattle.std.proofs.Common.{sym, ◌∙◌, ap, subst, arith, length-append, length-drop}
-use Rattle.std.proofs.lemmas.List.{length-map, take-append-drop}
+use Rattle.std.proofs.lemmas.List.{length-map, take-append-drop, map_push}
+use Rattle.subst.proofs.NumbersApartLemmas.{below-group}
 use Rattle.mm_lex.specs.Alphabet.{Name}
 use Rattle.mm_read.specs.declared.stmt.Stmt.{Stmt}
 use Rattle.mm_read.specs.Statements.{Expr, Database}
@@ -15,7 +16,6 @@ use Rattle.frame.specs.Below.{AreBelow, AllBelow}
 use Rattle.verify.specs.Goes.{named, AreNamed, Goes}
 use Rattle.verify.proofs.ResultPlaceLemmas.{results-same}
 use Rattle.verify.proofs.SavedLists.{all-snoc}
-use Rattle.frame.proofs.StoredOneMore.{map-push}
 
 pub all-take : (n k : ℕ) (es : List (List ℕ)) → AllBelow n es → AllBelow n (take k es)
 all-take n zero es p = tt
@@ -27,21 +27,16 @@ all-drop n zero es p = p
 all-drop n (suc k) [] p = tt
 all-drop n (suc k) (e ∷ es) p = all-drop n k es p.1
 
-pub all-get : (n k : ℕ) (es : List (List ℕ)) (e : List ℕ) → AllBelow n es → slice_get es k ≡ Some e → AreBelow n e
-all-get n k [] e p h = cc
-all-get n zero (x ∷ es) e p h = let q : x ≡ e = cc in subst (AreBelow n) q p.0
-all-get n (suc k) (x ∷ es) e p h = all-get n k es e p.1 h
-
 module _ (names : List Name) where
   pub named-result : (st : Results ℕ) (b : List (List ℕ)) (e : List ℕ) → named names (with_result st b e) ≡ with_result (named names st) (map (decode names) b) (decode names e)
   named-result st b e =
       results-same (map (decode names) (b ++ e ∷ [])) (map (decode names) b ++ decode names e ∷ []) (map (decode names) st.saved) (map (decode names) st.saved) (st.weight + length e) (st.weight + length (decode names e))
-      (map-push (decode names) b e) refl (ap (λ n. st.weight + n) (sym (length-map e (name_at names))))
+      (map_push (decode names) b e) refl (ap (λ n. st.weight + n) (sym (length-map e (name_at names))))
 
   named-mark : (st : Results ℕ) (e : List ℕ) → named names (with_mark st e) ≡ with_mark (named names st) (decode names e)
   named-mark st e =
       results-same (map (decode names) st.stack) (map (decode names) st.stack) (map (decode names) (st.saved ++ e ∷ [])) (map (decode names) st.saved ++ decode names e ∷ []) st.weight st.weight
-      refl (map-push (decode names) st.saved e) refl
+      refl (map_push (decode names) st.saved e) refl
 
   pub result-named : (st : Results ℕ) (b : List (List ℕ)) (e : List ℕ) → AreNamed names st → AllBelow (length names) b → AreBelow (length names) e → AreNamed names (with_result st b e)
   result-named st b e a p q = record { stack_named = all-snoc (length names) b e p q; saved_named = a.saved_named }
@@ -66,7 +61,7 @@ module _ (names : List Name) where
 
   saved-named : (es : List (List ℕ)) (k : ℕ) (e : List ℕ) → AllBelow (length names) es → IsSaved es k e → AreBelow (length names) e
   saved-named es zero e p h = absurd h
-  saved-named es (suc k) e p h = all-get (length names) k es e p h
+  saved-named es (suc k) e p h = below-group (length names) es k e p h
 
   module _ (S : Database) (at : ℕ) where
     -- ---- a recall, a mark, a hypothesis
@@ -85,7 +80,7 @@ module _ (names : List Name) where
 
     pub goes-mark : (ok : Bool) (old new : Results ℕ) → AreNamed names old → Marks ok old new → Goes ok S at names Mark old new
     goes-mark true old new a m = (
-      (map (decode names) m.0, decode names m.1, ap (map (decode names)) m.2 ∙ map-push (decode names) m.0 m.1, ap (named names) m.3 ∙ named-mark old m.1),
+      (map (decode names) m.0, decode names m.1, ap (map (decode names)) m.2 ∙ map_push (decode names) m.0 m.1, ap (named names) m.3 ∙ named-mark old m.1),
       subst (AreNamed names) (sym m.3) (record { stack_named = a.stack_named; saved_named = all-snoc (length names) old.saved m.1 a.saved_named (last-named m.0 m.1 (subst (AllBelow (length names)) m.2 a.stack_named)) }),
     )
       where

@@ -1,7 +1,7 @@
 -- Plans grow as trees do.
 use Rattle.std.specs.Prelude.{◌≡◌, ℕ, zero, suc, ◌+◌, ◌-◌, ◌<◌, ◌≤◌, true, List, [], ◌∷◌, ◌++◌, length, map, take, drop, get_or, slice_get, Some, refl}
 use Rattle.std.proofs.Common.{sym, ◌∙◌, ap, subst, arith, length-append}
-use Rattle.std.proofs.lemmas.List.{length-map}
+use Rattle.std.proofs.lemmas.List.{length-map, take-map, map_push}
 use Rattle.frame.specs.Below.{AreBelow}
 use Rattle.verify.specs.declared.plan.Node.{Node}
 use Rattle.verify.specs.declared.plan.TreePlan.{TreePlan}
@@ -9,11 +9,10 @@ use Rattle.verify.specs.Derivations.{Derivation, hyp}
 use Rattle.verify.specs.Growth.{trees, with_tree, GrowsMark, GrowsRecall}
 use Rattle.verify.specs.ResultPlaces.{below, top}
 use Rattle.verify.specs.Plan.{pick, derive, built_from, built, IsAfter, AreOrdered, trees_of, IsPlan}
-use Rattle.verify.proofs.ResultPlaceLemmas.{map-take, map-drop, get-map-some}
+use Rattle.verify.proofs.ResultPlaceLemmas.{map-drop, get-map-some}
 use Rattle.frame.proofs.PositionLemmas.{get-front, get-last}
 use Rattle.frame.proofs.SymbolNumberLemmas.{below-more, below-push}
 use Rattle.frame.proofs.ApartLemmas.{below-at}
-use Rattle.frame.proofs.StoredOneMore.{map-push}
 
 pub built-snoc : (ts : List Derivation) (ns : List Node) (n : Node) → built_from ts (ns ++ n ∷ []) ≡ built_from ts ns ++ derive (built_from ts ns) n ∷ []
 built-snoc ts [] n = refl
@@ -51,7 +50,8 @@ added-plan old new n rest is behind_kids low nodes stack saved =
       saved_below = subst (AreBelow (length new.nodes.items)) (sym saved) (below-more _ _ old.saved.items longer is.saved_below);
     }
 
-trees-same : (a b c d : List Derivation) → a ≡ b → c ≡ d → trees a c ≡ trees b d
+-- trees whose parts are the same
+pub trees-same : (a b c d : List Derivation) → a ≡ b → c ≡ d → trees a c ≡ trees b d
 trees-same a b c d p q = ap (λ v. trees v c) p ∙ ap (trees b) q
 
 pub added-trees : (old new : TreePlan) (n : Node) (rest : List ℕ) → IsPlan old → AreBelow (length old.nodes.items) rest
@@ -63,7 +63,7 @@ added-trees old new n rest is low nodes stack saved =
     let len : length ts ≡ length old.nodes.items = length-built' old.nodes.items in
     trees-same _ _ _ _
     (ap (λ us. map (pick us) new.stack.items) grown ∙ (ap (map (pick (ts ++ derive ts n ∷ []))) stack
-    ∙ (map-push (pick (ts ++ derive ts n ∷ [])) rest (length old.nodes.items)
+    ∙ (map_push (pick (ts ++ derive ts n ∷ [])) rest (length old.nodes.items)
     ∙ (ap (λ r. r ++ pick (ts ++ derive ts n ∷ []) (length old.nodes.items) ∷ []) (map-pick ts (derive ts n ∷ []) rest (subst (λ k. AreBelow k rest) (sym len) low))
     ∙ ap (λ t. map (pick ts) rest ++ t ∷ []) (get-last ts (derive ts n) (length old.nodes.items) (hyp 0) (sym len))))))
     (ap (λ us. map (pick us) new.saved.items) grown ∙ (ap (map (pick (ts ++ derive ts n ∷ []))) saved
@@ -100,9 +100,9 @@ marked-grew old new k at nodes stack saved =
     let ts = built old.nodes.items in (
       map (pick ts) (take (length old.stack.items - 1) old.stack.items),
       pick ts k,
-      ap (map (pick ts)) (last-cut old.stack.items k at) ∙ map-push (pick ts) (take (length old.stack.items - 1) old.stack.items) k,
+      ap (map (pick ts)) (last-cut old.stack.items k at) ∙ map_push (pick ts) (take (length old.stack.items - 1) old.stack.items) k,
       trees-same _ _ _ _ (ap (λ ns. map (pick (built ns)) new.stack.items) nodes ∙ ap (map (pick ts)) stack)
-          (ap (λ ns. map (pick (built ns)) new.saved.items) nodes ∙ (ap (map (pick ts)) saved ∙ map-push (pick ts) old.saved.items k)),
+          (ap (λ ns. map (pick (built ns)) new.saved.items) nodes ∙ (ap (map (pick ts)) saved ∙ map_push (pick ts) old.saved.items k)),
     )
 
 pub recalled-plan : (old new : TreePlan) (i k d : ℕ) → IsPlan old → i < length old.saved.items → k ≡ get_or old.saved.items i d
@@ -123,7 +123,7 @@ recalled-grew old new (suc i) k d nz le at nodes stack saved =
     let at' : k ≡ get_or old.saved.items i d = at ∙ ap (λ m. get_or old.saved.items m d) one in (
       pick ts k,
       get-map-some (pick ts) old.saved.items i d (omega (arith, le)) ∙ ap (λ v. Some (pick ts v)) (sym at'),
-      trees-same _ _ _ _ (ap (λ ns. map (pick (built ns)) new.stack.items) nodes ∙ (ap (map (pick ts)) stack ∙ map-push (pick ts) old.stack.items k))
+      trees-same _ _ _ _ (ap (λ ns. map (pick (built ns)) new.stack.items) nodes ∙ (ap (map (pick ts)) stack ∙ map_push (pick ts) old.stack.items k))
           (ap (λ ns. map (pick (built ns)) new.saved.items) nodes ∙ ap (map (pick ts)) saved),
     )
 
@@ -136,4 +136,4 @@ kids-top ts stack kids keep count at whole =
 pub rest-below : (ts : List Derivation) (stack rest : List ℕ) (keep count : ℕ) → keep ≡ length stack - count → rest ≡ take keep stack → map (pick ts) rest ≡ below count (map (pick ts) stack)
 rest-below ts stack rest keep count at whole =
     let l = length-map stack (pick ts) in
-    ap (map (pick ts)) whole ∙ (map-take (pick ts) keep stack ∙ ap (λ n. take n (map (pick ts) stack)) (omega (arith, at, l)))
+    ap (map (pick ts)) whole ∙ (sym (take-map (pick ts) keep stack) ∙ ap (λ n. take n (map (pick ts) stack)) (omega (arith, at, l)))

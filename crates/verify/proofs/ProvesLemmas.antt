@@ -1,7 +1,7 @@
 -- From a compressed proof that was read to whether its tokens write a right proof.
-use Rattle.std.specs.Prelude.{◌≡◌, ℕ, zero, suc, Bool, true, false, not, List, [], ◌∷◌, ◌++◌, length, take, Result, Ok, Err, IfOk}
+use Rattle.std.specs.Prelude.{◌≡◌, ℕ, Bool, true, false, not, List, ◌∷◌, ◌++◌, length, take, Result, Ok, Err, IfOk}
 use Rattle.std.proofs.Common.{sym, ◌∙◌, ap, subst, inl, inr, true≢false}
-use Rattle.std.proofs.lemmas.List.{length-map}
+use Rattle.std.proofs.lemmas.List.{length-map, take_at}
 use Rattle.std.proofs.lemmas.Bool.{not-false, not-true}
 use Rattle.mm_lex.specs.Alphabet.{Name}
 use Rattle.mm_read.specs.declared.stmt.Stmt.{Stmt}
@@ -20,11 +20,6 @@ use Rattle.verify.specs.Proves.{label_or_none, mandatory_labels, Proves}
 use Rattle.verify.specs.Right.{IsProvable, IsRight, Says}
 use Rattle.frame.proofs.FoundByNumber.{some-same}
 
-take-front : (xs ys : List Name) (n : ℕ) → length xs ≡ n → take n (xs ++ ys) ≡ xs
-take-front [] ys n e = ap (λ k. take k ys) (sym e)
-take-front (x ∷ xs) ys zero e = cc
-take-front (x ∷ xs) ys (suc n) e = ap (λ r. x ∷ r) (take-front xs ys n (let q : length xs ≡ n = cc in q))
-
 module _ (S : Database) (at : ℕ) (s : Stmt) (tokens : List Name) (provable : IsProvable S at s) (compressed : is_compressed tokens ≡ true) where
   written-by : (items : List Item) → Writes tokens (mandatory_labels S at s) items → WritesCompressed tokens (mandatory_labels S at s) items
   written-by items w = elim w [ inl p ↦ p.1.1 | inr p ↦ absurd (true≢false (sym compressed ∙ p.0)) ]
@@ -42,7 +37,7 @@ module _ (S : Database) (at : ℕ) (s : Stmt) (tokens : List Name) (provable : I
 
   module _ (m : ℕ) (words : List Name) (count : ℕ) (numbers : List ℕ) (heading : IsHeading tokens m words count numbers) where
     listed-is : take count words ≡ heading.listed
-    listed-is = ap (take count) heading.whole ∙ take-front heading.listed (finish ∷ heading.rest) count heading.many
+    listed-is = ap (take count) heading.whole ∙ take_at heading.listed (finish ∷ heading.rest) count heading.many
 
     -- a mandatory label is listed
     pub one-listed : (b : Bool) → b ≡ false → b ≡ not (share_label (mandatory_labels S at s) (take count words)) → Proves S at tokens → ⊥

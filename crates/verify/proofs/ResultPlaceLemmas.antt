@@ -1,7 +1,7 @@
 -- Results in a buffer that grows.
 use Rattle.std.specs.Prelude.{◌≡◌, ℕ, zero, suc, ◌+◌, ◌-◌, ◌<◌, ◌≤◌, List, [], ◌∷◌, ◌++◌, length, map, take, drop, get_or, replicate, slice_get, slice_set, Some, refl}
 use Rattle.std.proofs.Common.{sym, ◌∙◌, ap, subst, arith, length-append, length-drop}
-use Rattle.std.proofs.lemmas.List.{length-map, take_all}
+use Rattle.std.proofs.lemmas.List.{length-map, take-map, map_push, take_rest}
 use Rattle.subst.specs.declared.expression_place.ExpressionPlace.{ExpressionPlace}
 use Rattle.subst.specs.ExpressionPlaces.{seen_at, AreWithin, AreInside}
 use Rattle.subst.proofs.ExpressionPlaceLemmas.{map-seen-more, within-weaken, within-snoc, within-take, within-drop, within-get, within-at, seen-get, length-seen, seen-last}
@@ -9,12 +9,6 @@ use Rattle.subst.proofs.ImagePlacesLemmas.{inside-more, inside-none}
 use Rattle.verify.specs.Machine.{Results, with_result, IsSaved}
 use Rattle.verify.specs.ResultPlaces.{seen, AreKept, below, top}
 use Rattle.verify.specs.Right.{weight_limit}
-use Rattle.frame.proofs.StoredOneMore.{map-push}
-
-pub map-take : {A B : Type 0} (f : A → B) (k : ℕ) (xs : List A) → map f (take k xs) ≡ take k (map f xs)
-map-take f zero xs = refl
-map-take f (suc k) [] = refl
-map-take f (suc k) (x ∷ xs) = ap (λ r. f x ∷ r) (map-take f k xs)
 
 pub map-drop : {A B : Type 0} (f : A → B) (k : ℕ) (xs : List A) → map f (drop k xs) ≡ drop k (map f xs)
 map-drop f zero xs = refl
@@ -49,7 +43,7 @@ pub added-seen : (xs ys zs : List ℕ) (stack rest saved stack' : List Expressio
     → seen zs stack' saved v ≡ with_result (seen xs stack saved w) (map (seen_at xs) rest) ys
 added-seen xs ys zs stack rest saved stack' w v p k r e low high whole weighs =
     results-same (map (seen_at zs) stack') (map (seen_at xs) rest ++ ys ∷ []) (map (seen_at zs) saved) (map (seen_at xs) saved) v (w + length ys)
-    (ap (map (seen_at zs)) whole ∙ (map-push (seen_at zs) rest p
+    (ap (map (seen_at zs)) whole ∙ (map_push (seen_at zs) rest p
     ∙ (ap (λ r. r ++ seen_at zs p ∷ []) (ap (λ s. map (seen_at s) rest) e ∙ map-seen-more xs ys rest r)
     ∙ ap (λ s. map (seen_at xs) rest ++ s ∷ []) (seen-last xs ys zs p e low high))))
     (ap (λ s. map (seen_at s) saved) e ∙ map-seen-more xs ys saved k)
@@ -146,7 +140,7 @@ recall-seen xs stack stack' saved w v k d p a less at whole weighs =
       seen_at xs p,
       get-map-some (seen_at xs) saved k d less ∙ ap (λ q. Some (seen_at xs q)) (sym at),
       results-same (map (seen_at xs) stack') (map (seen_at xs) stack ++ seen_at xs p ∷ []) (map (seen_at xs) saved) (map (seen_at xs) saved) v (w + length (seen_at xs p))
-          (ap (map (seen_at xs)) whole ∙ map-push (seen_at xs) stack p) refl (weighs ∙ ap (λ n. w + n) (sym len)),
+          (ap (map (seen_at xs)) whole ∙ map_push (seen_at xs) stack p) refl (weighs ∙ ap (λ n. w + n) (sym len)),
     )
 
 -- a saved result that is too heavy
@@ -203,16 +197,13 @@ started-seen xs n stack saved e f g =
 
 -- ---- the last results
 
-pub rest-of : {A : Type 0} (k : ℕ) (s : List A) → take (length s - k) (drop k s) ≡ drop k s
-rest-of k s = take_all (length s - k) (drop k s) (let e = length-drop k s in omega (arith, e))
-
 -- the places of the last r results
 pub last-count : {A : Type 0} (k r : ℕ) (s : List A) → r ≤ length s → k ≡ length s - r → length (take (length s - k) (drop k s)) ≡ r
-last-count k r s h e = let a = ap length (rest-of k s) in let b = length-drop k s in omega (arith, a, b, h, e)
+last-count k r s h e = let a = ap length (take_rest s k) in let b = length-drop k s in omega (arith, a, b, h, e)
 
 pub last-seen : (xs : List ℕ) (k r : ℕ) (s : List ExpressionPlace) → k ≡ length s - r → map (seen_at xs) (take (length s - k) (drop k s)) ≡ top r (map (seen_at xs) s)
 last-seen xs k r s e =
-    ap (map (seen_at xs)) (rest-of k s) ∙ (map-drop (seen_at xs) k s
+    ap (map (seen_at xs)) (take_rest s k) ∙ (map-drop (seen_at xs) k s
     ∙ ap (λ n. drop n (map (seen_at xs) s)) (e ∙ ap (λ n. n - r) (sym (length-map s (seen_at xs)))))
 
 -- the same, for copies of the buffer and of the places
@@ -234,7 +225,7 @@ pub apply-seen : (xs ys zs : List ℕ) (images : List (ℕ × ExpressionPlace)) 
     → seen zs stack' saved v ≡ with_result (seen xs stack saved w) (below r (map (seen_at xs) stack)) ys
 apply-seen xs ys zs images stack saved stack' w v k r p a at e low high whole weighs =
     added-seen xs ys zs stack (take k stack) saved stack' w v p a.saved_within (within-take (length xs) k stack a.stack_within) e low high whole weighs
-    ∙ ap (λ b. with_result (seen xs stack saved w) b ys) (map-take (seen_at xs) k stack ∙ ap (λ n. take n (map (seen_at xs) stack)) (at ∙ ap (λ n. n - r) (sym (length-map stack (seen_at xs)))))
+    ∙ ap (λ b. with_result (seen xs stack saved w) b ys) (sym (take-map (seen_at xs) k stack) ∙ ap (λ n. take n (map (seen_at xs) stack)) (at ∙ ap (λ n. n - r) (sym (length-map stack (seen_at xs)))))
 
 pub apply-cut : (xs zs ys : List ℕ) (images : List (ℕ × ExpressionPlace)) (stack saved stack' : List ExpressionPlace) (w v k : ℕ) → AreKept xs images stack saved w → zs ≡ xs ++ ys → stack' ≡ take k stack
     → v ≡ w + length ys → v ≤ weight_limit → AreKept zs images stack' saved v

@@ -1,15 +1,13 @@
 -- Extents, one child and one node at a time.
 use Rattle.std.specs.Prelude.{◌≡◌, ℕ, zero, suc, ◌+◌, ◌<◌, ◌≤◌, min, max, List, [], ◌∷◌, ◌++◌, length, map, take, get_or, slice_get, Some, refl}
 use Rattle.std.proofs.Common.{sym, ◌∙◌, ap, subst, arith}
-use Rattle.std.proofs.lemmas.List.{length-map}
+use Rattle.std.proofs.lemmas.List.{length-map, map_push, take_more}
 use Rattle.verify.specs.declared.tree_size.Extent.{Extent}
 use Rattle.verify.specs.declared.plan.Node.{Node}
 use Rattle.verify.specs.Derivations.{Derivation, from_list, node_count, nodes_in, depth, depth_in}
 use Rattle.verify.specs.Plan.{pick, derive, built, IsAfter, AreOrdered}
 use Rattle.verify.specs.Extents.{extent_of}
 use Rattle.verify.proofs.PlanLemmas.{built-snoc, length-built'}
-use Rattle.frame.proofs.StoredOneMore.{map-push}
-use Rattle.verify.proofs.LabelTableLemmas.{take-more}
 
 nodes_in-snoc : (ts : List Derivation) (t : Derivation) → nodes_in (from_list (ts ++ t ∷ [])) ≡ nodes_in (from_list ts) + node_count t
 nodes_in-snoc [] t = omega arith
@@ -39,9 +37,6 @@ pub record IsSoFar (ts : List Derivation) (kids : List ℕ) (i nodes deep : ℕ)
   pub counted : nodes ≡ min (1 + nodes_in (from_list (map (pick ts) (take i kids)))) 65537
   pub reached : deep ≡ min (1 + depth_in (from_list (map (pick ts) (take i kids)))) 1025
 
-pub so-far-start : (ts : List Derivation) (kids : List ℕ) → IsSoFar ts kids 0 1 1
-so-far-start ts kids = record { counted = omega arith; reached = omega arith }
-
 pub so-far-step : (ts : List Derivation) (kids : List ℕ) (extents : List Extent) (i nodes deep nodes' deep' : ℕ) (e : Extent) → IsSoFar ts kids i nodes deep → extents ≡ map extent_of ts → i < length kids
     → slice_get extents (get_or kids i 0) ≡ Some e
     → nodes' ≡ min (nodes + e.nodes) 65537 → deep' ≡ max deep (min (e.depth + 1) 1025) → IsSoFar ts kids (i + 1) nodes' deep'
@@ -50,7 +45,7 @@ so-far-step ts kids extents i nodes deep nodes' deep' e far is h at p q =
     let x : e ≡ extent_of (pick ts k) = child-extent extents ts k e is at in
     let en : e.nodes ≡ min (node_count (pick ts k)) 65537 = ap (λ v. v.nodes) x in
     let ed : e.depth ≡ min (depth (pick ts k)) 1025 = ap (λ v. v.depth) x in
-    let more : map (pick ts) (take (i + 1) kids) ≡ map (pick ts) (take i kids) ++ pick ts k ∷ [] = ap (map (pick ts)) (take-more kids i 0 h) ∙ map-push (pick ts) (take i kids) k in
+    let more : map (pick ts) (take (i + 1) kids) ≡ map (pick ts) (take i kids) ++ pick ts k ∷ [] = ap (map (pick ts)) (take_more kids i 0 h) ∙ map_push (pick ts) (take i kids) k in
     let n : nodes_in (from_list (map (pick ts) (take (i + 1) kids))) ≡ nodes_in (from_list (map (pick ts) (take i kids))) + node_count (pick ts k) = ap (λ v. nodes_in (from_list v)) more ∙ nodes_in-snoc (map (pick ts) (take i kids)) (pick ts k) in
     let d : depth_in (from_list (map (pick ts) (take (i + 1) kids))) ≡ max (depth_in (from_list (map (pick ts) (take i kids)))) (depth (pick ts k)) = ap (λ v. depth_in (from_list v)) more ∙ depth_in-snoc (map (pick ts) (take i kids)) (pick ts k) in
     let a = far.counted in
@@ -67,13 +62,13 @@ pub node-after : (ns : List Node) (i : ℕ) (d : Node) → AreOrdered 0 ns → i
 node-after ns i d o h = let e : 0 + i ≡ i = omega arith in subst (λ j. IsAfter j (get_or ns i d)) e (take-ordered 0 ns i d o h)
 
 pub built-more : (ns : List Node) (i : ℕ) (d : Node) → i < length ns → built (take (i + 1) ns) ≡ built (take i ns) ++ derive (built (take i ns)) (get_or ns i d) ∷ []
-built-more ns i d h = ap built (take-more ns i d h) ∙ built-snoc [] (take i ns) (get_or ns i d)
+built-more ns i d h = ap built (take_more ns i d h) ∙ built-snoc [] (take i ns) (get_or ns i d)
 
 pub measured-more : (ns : List Node) (i : ℕ) (d : Node) (extents extents' : List Extent) (e : Extent) → i < length ns → extents ≡ map extent_of (built (take i ns)) → e ≡ extent_of (derive (built (take i ns)) (get_or ns i d)) → extents' ≡ extents ++ e ∷ []
     → extents' ≡ map extent_of (built (take (i + 1) ns))
 measured-more ns i d extents extents' e h so is grown =
     grown ∙ (ap (λ v. v ++ e ∷ []) so ∙ (ap (λ v. map extent_of (built (take i ns)) ++ v ∷ []) is
-    ∙ (sym (map-push extent_of (built (take i ns)) (derive (built (take i ns)) (get_or ns i d))) ∙ ap (map extent_of) (sym (built-more ns i d h)))))
+    ∙ (sym (map_push extent_of (built (take i ns)) (derive (built (take i ns)) (get_or ns i d))) ∙ ap (map extent_of) (sym (built-more ns i d h)))))
 
 pub measured-length : (ns : List Node) (i : ℕ) (extents : List Extent) → i ≤ length ns → extents ≡ map extent_of (built (take i ns)) → length extents ≡ i
 measured-length ns i extents h so =

@@ -1,8 +1,8 @@
 -- What the code knows at each exit of a step, as a fact of the machine.
-use Rattle.std.specs.Prelude.{◌≡◌, ℕ, zero, suc, ◌+◌, ◌-◌, ◌<◌, ◌≤◌, Bool, true, false, cond, nat_lt, List, [], ◌∷◌, ◌++◌, length, map, take, drop, get_or, Some, Result, Ok, Err, IfOk, refl}
+use Rattle.std.specs.Prelude.{◌≡◌, ℕ, zero, suc, ◌+◌, ◌-◌, ◌<◌, ◌≤◌, Bool, true, false, List, [], ◌∷◌, ◌++◌, length, map, take, drop, get_or, Some, Result, Ok, Err, IfOk, refl}
 use Rattle.std.proofs.Common.{sym, ◌∙◌, ap, subst, arith}
 use Rattle.std.specs.declared.alloc.AllocError.{AllocError}
-use Rattle.std.proofs.lemmas.Bool.{lt-ltb, le-ltb}
+use Rattle.proof_code.proofs.RowOfNumbers.{item-cite, item-recall}
 use Rattle.mm_lex.specs.Alphabet.{Name}
 use Rattle.mm_read.specs.declared.stmt.Stmt.{Stmt}
 use Rattle.mm_read.specs.Statements.{Expr, Database}
@@ -92,22 +92,16 @@ module _ (S : Database) (names : List Name) (at : ℕ) (legal : AreLegal S names
 
   -- ---- the number of an item
 
-  item-low : (labels : List Name) (k n : ℕ) → n ≡ suc k → k < length labels → item_of labels n ≡ Cite (get_or labels k [])
-  item-low labels k n e h = ap (item_of labels) e ∙ ap (λ b. cond b (Cite (get_or labels k [])) (Recall (suc (k - length labels)))) (let b : nat_lt k (length labels) ≡ true = lt-ltb k (length labels) h in b)
-
-  item-high : (labels : List Name) (k n : ℕ) → n ≡ suc k → length labels ≤ k → item_of labels n ≡ Recall (suc (k - length labels))
-  item-high labels k n e h = ap (item_of labels) e ∙ ap (λ b. cond b (Cite (get_or labels k [])) (Recall (suc (k - length labels)))) (le-ltb k (length labels) h)
-
   pub cite-number : (old new : Results ℕ) (r : Result Bool AllocError) (labels : List Name) (label : Name) (n k : ℕ) → n ≡ suc k → k < length labels → label ≡ get_or labels k []
       → IfOk r (λ ok. Goes ok S at names (Cite label) old new) → IfOk r (λ ok. Goes ok S at names (item_of labels n) old new)
   cite-number old new r labels label n k e h at_k p =
-      subst (λ i. IfOk r (λ ok. Goes ok S at names i old new)) (ap Cite at_k ∙ sym (item-low labels k n e h)) p
+      subst (λ i. IfOk r (λ ok. Goes ok S at names i old new)) (ap Cite at_k ∙ sym (item-cite labels n k e h)) p
 
   pub recall-number : (old new : Results ℕ) (an : AreNamed names old) (r : Result Bool AllocError) (labels : List Name) (n k m : ℕ) → n ≡ suc k → length labels ≤ k → m ≡ suc (k - length labels)
       → IfOk r (λ ok. Recalls ok old new m) → IfOk r (λ ok. Goes ok S at names (item_of labels n) old new)
   recall-number old new an (Err f) labels n k m e h at_m p = tt
   recall-number old new an (Ok ok) labels n k m e h at_m p =
-      subst (λ i. Goes ok S at names i old new) (ap Recall at_m ∙ sym (item-high labels k n e h)) (goes-recall names S at ok old new m an p)
+      subst (λ i. Goes ok S at names i old new) (ap Recall at_m ∙ sym (item-recall labels n k e h)) (goes-recall names S at ok old new m an p)
 
   -- ---- the whole proof
 

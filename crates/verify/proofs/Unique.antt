@@ -1,6 +1,7 @@
 -- Items spell at most one derivation.
 use Rattle.std.specs.Prelude.{◌≡◌, ℕ, zero, suc, List, [], ◌∷◌, ◌++◌, length, refl}
 use Rattle.std.proofs.Common.{sym, ◌∙◌, ap, subst, append_assoc, append-nil}
+use Rattle.std.proofs.lemmas.List.{same_from_push}
 use Rattle.mm_lex.specs.Alphabet.{Name}
 use Rattle.mm_read.specs.declared.stmt.Stmt.{Stmt}
 use Rattle.mm_read.specs.Statements.{Expr, Database}
@@ -114,10 +115,7 @@ module _ (S : Database) (at : ℕ) where
         let r = builds_same label st.stack p.0 q.0 p.1 q.1 p.2 q.2 in
         p.3 ∙ (ap (λ b. trees (b ++ p.1 ∷ []) st.saved) r.0 ∙ (ap (λ t. trees (q.0 ++ t ∷ []) st.saved) r.1 ∙ sym q.3))
     grows_same st x y (Recall k) p q = p.2 ∙ (ap (λ t. trees (st.stack ++ t ∷ []) st.saved) (kept_same st.saved k p.0 q.0 p.1 q.1) ∙ sym q.2)
-    grows_same st x y Mark p q = p.3 ∙ (ap (λ t. trees st.stack (st.saved ++ t ∷ [])) (last_same p.0 q.0 p.1 q.1 (sym p.2 ∙ q.2)) ∙ sym q.3)
-      where
-        last_same : (b c : List Derivation) (t u : Derivation) → b ++ t ∷ [] ≡ c ++ u ∷ [] → t ≡ u
-        last_same b c t u h = let r : t ∷ [] ≡ u ∷ [] = (append_cut b c (t ∷ []) (u ∷ []) h refl).1 in cc
+    grows_same st x y Mark p q = p.3 ∙ (ap (λ t. trees st.stack (st.saved ++ t ∷ [])) (same_from_push p.0 q.0 p.1 q.1 (sym p.2 ∙ q.2)).1 ∙ sym q.3)
 
     -- so do items one after another
     pub grows_by_same : (items : List Item) (st x y : Trees) → GrowsBy S at st items x → GrowsBy S at st items y → x ≡ y

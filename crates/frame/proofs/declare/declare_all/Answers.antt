@@ -2,12 +2,14 @@ use Rattle.std.proofs.Common.{◌∙◌, ap, sym, arith, length, take, get_or}
 use Rattle.std.specs.Prelude.{Some, nat_eq}
 use Rattle.std.specs.List.{list_any}
 use Rattle.std.proofs.lemmas.List.{length-set}
-use Rattle.frame.proofs.DeclareLemmas.{below-at, any-take-more, noted, note-step}
+use Rattle.std.proofs.lemmas.List.Folds.{list_any_more}
+use Rattle.frame.proofs.ApartLemmas.{below-at}
+use Rattle.frame.proofs.DeclareLemmas.{noted, note-step}
 use Rattle.frame.proofs.declare.declare_all.Goals as goal
 
 pub index_mut-symbol-requires : goal.index_mut-symbol-requires
 index_mut-symbol-requires c =
-    let b = below-at (length c.args.symbols.now.items) c.args.codes.now c.loop-code.code-index c.requires (omega arith) in
+    let b = below-at (length c.args.symbols.now.items) c.args.codes.now c.loop-code.code-index 0 c.requires (omega arith) in
     let n = c.loop-code.invariant.count in
     omega (arith, b, n)
 
@@ -16,7 +18,7 @@ loop-code-preserved c = record {
   each = λ k x h.
       let i = c.loop-code.code-index in
       let code = get_or c.args.codes.now i 0 in
-      let more = any-take-more (nat_eq k) c.args.codes.now i (omega arith) in
+      let more = list_any_more (nat_eq k) c.args.codes.now i 0 (omega arith) in
       note-step c.loop-code.symbols.items code k c.args.at c.index_mut-symbol.result.now x (list_any (nat_eq k) (take i c.args.codes.now)) (c.loop-code.invariant.each k x h) c.index_mut-symbol.ensures.value
       ∙ ap (λ b. Some (noted x c.args.at b)) (sym more);
   count = length-set c.loop-code.symbols.items (get_or c.args.codes.now c.loop-code.code-index 0) _ ∙ c.loop-code.invariant.count;

@@ -1,6 +1,6 @@
 use Rattle.std.proofs.Common.{arith, length}
-use Rattle.frame.proofs.DeclareLemmas.{below-at}
+use Rattle.frame.proofs.ApartLemmas.{below-at}
 use Rattle.frame.proofs.mandatory.put_floats.Goals as goal
 
 pub put_float-requires-clause-code : goal.put_float-requires-clause-code
-put_float-requires-clause-code c = below-at (length c.args.stock.now.names) c.args.codes.now c.loop-code.code-index c.requires.codes (omega arith)
+put_float-requires-clause-code c = below-at (length c.args.stock.now.names) c.args.codes.now c.loop-code.code-index 0 c.requires.codes (omega arith)

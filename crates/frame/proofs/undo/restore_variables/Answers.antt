@@ -2,13 +2,15 @@ use Rattle.std.proofs.Common.{◌∙◌, ap, sym, arith, length, take, get_or}
 use Rattle.std.specs.Prelude.{Some, nat_eq}
 use Rattle.std.specs.List.{list_any}
 use Rattle.std.proofs.lemmas.List.{length-set, take_all}
-use Rattle.frame.proofs.DeclareLemmas.{below-at, any-take-more, noted}
+use Rattle.std.proofs.lemmas.List.Folds.{list_any_more}
+use Rattle.frame.proofs.ApartLemmas.{below-at}
+use Rattle.frame.proofs.DeclareLemmas.{noted}
 use Rattle.frame.proofs.UndoLemmas.{map-at, restore-step}
 use Rattle.frame.proofs.undo.restore_variables.Goals as goal
 
 pub index_mut-symbol-requires : goal.index_mut-symbol-requires
 index_mut-symbol-requires c =
-    let b = below-at (length c.args.symbols.now.items) c.args.codes.now c.loop-place.place c.requires.below (omega arith) in
+    let b = below-at (length c.args.symbols.now.items) c.args.codes.now c.loop-place.place 0 c.requires.below (omega arith) in
     let n = c.loop-place.invariant.count in
     omega (arith, b, n)
 
@@ -19,7 +21,7 @@ loop-place-preserved c = record {
       let codes = c.args.codes.now in
       restore-step c.loop-place.symbols.items (get_or codes i 0) k (get_or c.args.replaced.now i 0) c.index_mut-symbol.result.now y x (list_any (nat_eq k) (take i codes))
       (c.loop-place.invariant.each x h k y g) c.index_mut-symbol.ensures.value (ap (λ r. get_or r i 0) h ∙ map-at x codes i (omega arith))
-      ∙ ap (λ b. Some (noted y (x k) b)) (sym (any-take-more (nat_eq k) codes i (omega arith)));
+      ∙ ap (λ b. Some (noted y (x k) b)) (sym (list_any_more (nat_eq k) codes i 0 (omega arith)));
   count = length-set c.loop-place.symbols.items (get_or c.args.codes.now c.loop-place.place 0) _ ∙ c.loop-place.invariant.count;
 }
 

@@ -1,13 +1,13 @@
 use Rattle.std.proofs.Common.{refl}
-use Rattle.mm_lex.proofs.WordsLemmas.{take-rest}
+use Rattle.std.proofs.lemmas.List.{take_rest}
 use Rattle.mm_lex.proofs.PlainLemmas.{plain_found, plain_unfound}
 use Rattle.mm_lex.proofs.comment.plain_end.Goals as goal
 
 pub returns-in-Some : goal.returns-in-Some
 returns-in-Some c =
-    plain_found c.args.text.now c.args.at c.requires c.in-Some.dollar c.white_end.result _ _ (take-rest c.args.at c.args.text.now) refl
+    plain_found c.args.text.now c.args.at c.requires c.in-Some.dollar c.white_end.result _ _ (take_rest c.args.text.now c.args.at) refl
     c.in-Some.ensures.0 c.white_end.ensures.within c.white_end.ensures.white
 
 pub returns-in-None : goal.returns-in-None
 returns-in-None c =
-    plain_unfound c.args.text.now c.args.at c.requires _ (take-rest c.args.at c.args.text.now) c.in-None.ensures
+    plain_unfound c.args.text.now c.args.at c.requires _ (take_rest c.args.text.now c.args.at) c.in-None.ensures

@@ -1,6 +1,6 @@
 use Rattle.std.proofs.Common.{◌∙◌, ap, sym, arith, take, length, ◌+◌, ◌≤◌}
 use Rattle.std.specs.List.{position_or_len}
-use Rattle.mm_lex.proofs.WordsLemmas.{take-rest}
+use Rattle.std.proofs.lemmas.List.{take_rest}
 use Rattle.mm_lex.proofs.LanesLemmas.{is_low, ends_here, goes_on}
 use Rattle.mm_lex.proofs.lanes.count_visible.Goals as goal
 
@@ -8,7 +8,7 @@ pub returns-then-count-lt-LANES-clause-count : goal.returns-then-count-lt-LANES-
 returns-then-count-lt-LANES-clause-count c =
     let text = c.args.text.now in
     let at = c.loop-at.at in
-    let counted = c.count_in_lanes-count.ensures.count ∙ ap (λ r. position_or_len is_low (take 16 r)) (take-rest at text) in
+    let counted = c.count_in_lanes-count.ensures.count ∙ ap (λ r. position_or_len is_low (take 16 r)) (take_rest text at) in
     let room : at + 16 ≤ length text = omega (arith, c.loop-at-test.true, c.loop-at.invariant.0) in
     sym (ends_here text at c.requires room c.loop-at.invariant.1 c.count_in_lanes-count.result counted c.if-count-lt-LANES.true)
 
@@ -17,7 +17,7 @@ loop-at-preserved c =
     let text = c.args.text.now in
     let at = c.loop-at.at in
     let count = c.count_in_lanes-count.result in
-    let counted = c.count_in_lanes-count.ensures.count ∙ ap (λ r. position_or_len is_low (take 16 r)) (take-rest at text) in
+    let counted = c.count_in_lanes-count.ensures.count ∙ ap (λ r. position_or_len is_low (take 16 r)) (take_rest text at) in
     let room : at + 16 ≤ length text = omega (arith, c.loop-at-test.true, c.loop-at.invariant.0) in
     let inside : at + count ≤ length text = omega (arith, room, c.count_in_lanes-count.ensures.within) in
     (inside, goes_on text at c.requires room c.loop-at.invariant.1 count counted (omega (arith, c.count_in_lanes-count.ensures.within, c.if-count-lt-LANES.false)))

@@ -1,5 +1,5 @@
 use Rattle.std.proofs.Common.{◌∙◌, ap, sym, arith, length, ◌+◌, ◌<◌, ◌≤◌}
-use Rattle.mm_lex.proofs.WordsLemmas.{take-rest}
+use Rattle.std.proofs.lemmas.List.{take_rest}
 use Rattle.mm_lex.proofs.StretchLemmas.{lanes_count, stretch_goes_on, stretch_ends}
 use Rattle.mm_lex.proofs.stretch.count_spaced.Goals as goal
 
@@ -7,7 +7,7 @@ pub returns-then-count-lt-LANES-clause-count : goal.returns-then-count-lt-LANES-
 returns-then-count-lt-LANES-clause-count c =
     let text = c.args.text.now in
     let at = c.loop-at.at in
-    let counted = c.count_in_lanes-count.ensures.count ∙ ap (lanes_count 16) (take-rest at text) in
+    let counted = c.count_in_lanes-count.ensures.count ∙ ap (lanes_count 16) (take_rest text at) in
     let room : at + 16 < length text = omega (arith, c.loop-at-test.true, c.loop-at.invariant.0) in
     sym (stretch_ends text at room c.loop-at.invariant.1 c.count_in_lanes-count.result counted c.if-count-lt-LANES.true)
 
@@ -16,7 +16,7 @@ loop-at-preserved c =
     let text = c.args.text.now in
     let at = c.loop-at.at in
     let count = c.count_in_lanes-count.result in
-    let counted = c.count_in_lanes-count.ensures.count ∙ ap (lanes_count 16) (take-rest at text) in
+    let counted = c.count_in_lanes-count.ensures.count ∙ ap (lanes_count 16) (take_rest text at) in
     let room : at + 16 < length text = omega (arith, c.loop-at-test.true, c.loop-at.invariant.0) in
     let inside : at + count ≤ length text = omega (arith, room, c.count_in_lanes-count.ensures.within) in
     (inside, stretch_goes_on text at room c.loop-at.invariant.1 count counted (omega (arith, c.count_in_lanes-count.ensures.within, c.if-count-lt-LANES.false)))

@@ -1,8 +1,7 @@
 use Rattle.std.proofs.Common.{◌∙◌, ap, sym, refl, arith, drop, length, ◌≡◌, ◌<◌, ◌≤◌, ◌+◌, false}
-use Rattle.std.proofs.lemmas.List.{length-drop}
+use Rattle.std.proofs.lemmas.List.{length-drop, take_rest}
 use Rattle.mm_lex.specs.Alphabet.{starts_white}
 use Rattle.mm_lex.specs.Stored.Stretch.{stretch}
-use Rattle.mm_lex.proofs.WordsLemmas.{take-rest}
 use Rattle.mm_lex.proofs.ListLemmas.{adds_none, adds_on, adds_white, stretch_words, stretch_adds}
 use Rattle.mm_lex.proofs.symbol_list.push_pieces.Goals as goal
 
@@ -14,7 +13,7 @@ push_text-requires c =
     let text = c.args.text.now in
     let start = c.pass_white-start.result in
     let n = c.count_spaced.result in
-    let rest = take-rest start text in
+    let rest = take_rest text start in
     let is : n ≡ stretch (drop start text) = c.count_spaced.ensures.count ∙ ap stretch rest in
     let some : 0 < n = omega (arith, c.if-start-end.false) in
     let within : start + n ≤ length text = omega (arith, c.count_spaced.ensures.within, ap length rest, length-drop start text, c.pass_white-start.ensures.within) in
@@ -26,7 +25,7 @@ loop-at-preserved c =
     let text = c.args.text.now in
     let start = c.pass_white-start.result in
     let n = c.count_spaced.result in
-    let rest = take-rest start text in
+    let rest = take_rest text start in
     let is : n ≡ stretch (drop start text) = c.count_spaced.ensures.count ∙ ap stretch rest in
     let some : 0 < n = omega (arith, c.if-start-end.false) in
     let within : start + n ≤ length text = omega (arith, c.count_spaced.ensures.within, ap length rest, length-drop start text, c.pass_white-start.ensures.within) in

@@ -1,8 +1,8 @@
 use Rattle.std.proofs.Common.{◌∙◌, ap, ◌-◌, ◌<◌, length, take, drop, refl, arith}
 use Rattle.std.specs.List.{position_or_len}
+use Rattle.std.proofs.lemmas.List.{take_rest}
 use Rattle.mm_lex.specs.Alphabet.{is_white}
 use Rattle.mm_lex.proofs.RunsLemmas.{is_shown, no_run, next_run-whole, next_run-place}
-use Rattle.mm_lex.proofs.WordsLemmas.{take-rest}
 use Rattle.mm_lex.proofs.LanesLemmas.{clean-drop, clean-take}
 use Rattle.mm_lex.proofs.visible_run.next_run.Goals as goal
 
@@ -20,7 +20,7 @@ count_visible-visible-requires c =
 pub returns-then-white-rest-clause-run : goal.returns-then-white-rest-clause-run
 returns-then-white-rest-clause-run c =
     let text = c.args.text.now in
-    let rest = take-rest c.args.at text in
+    let rest = take_rest text c.args.at in
     let blanks = c.count_white-white.ensures.count ∙ ap (position_or_len is_shown) rest in
     no_run text c.args.at c.count_white-white.result _ c.requires.place blanks refl (c.if-white-rest.true ∙ ap length rest)
 
@@ -29,10 +29,10 @@ returns-clause-run c =
     let text = c.args.text.now in
     let at = c.args.at in
     let white = c.count_white-white.result in
-    let rest = take-rest at text in
+    let rest = take_rest text at in
     let part = take (length text - at) (drop at text) in
     let blanks = c.count_white-white.ensures.count ∙ ap (position_or_len is_shown) rest in
-    let shown = c.count_visible-visible.ensures.count ∙ (ap (position_or_len is_white) (take-rest white part) ∙ ap (λ r. position_or_len is_white (drop white r)) rest) in
+    let shown = c.count_visible-visible.ensures.count ∙ (ap (position_or_len is_white) (take_rest part white) ∙ ap (λ r. position_or_len is_white (drop white r)) rest) in
     let inside : white < length (drop at text) = omega (arith, ap length rest) in
     next_run-whole text at white c.count_visible-visible.result c.requires.place blanks shown inside
 
@@ -41,9 +41,9 @@ returns-clause-place c =
     let text = c.args.text.now in
     let at = c.args.at in
     let white = c.count_white-white.result in
-    let rest = take-rest at text in
+    let rest = take_rest text at in
     let part = take (length text - at) (drop at text) in
     let blanks = c.count_white-white.ensures.count ∙ ap (position_or_len is_shown) rest in
-    let shown = c.count_visible-visible.ensures.count ∙ (ap (position_or_len is_white) (take-rest white part) ∙ ap (λ r. position_or_len is_white (drop white r)) rest) in
+    let shown = c.count_visible-visible.ensures.count ∙ (ap (position_or_len is_white) (take_rest part white) ∙ ap (λ r. position_or_len is_white (drop white r)) rest) in
     let inside : white < length (drop at text) = omega (arith, ap length rest) in
     next_run-place text at white c.count_visible-visible.result c.requires.place blanks shown inside

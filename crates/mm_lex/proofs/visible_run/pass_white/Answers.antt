@@ -1,7 +1,7 @@
 use Rattle.std.proofs.Common.{◌∙◌, ap, length, drop, ◌-◌}
 use Rattle.std.specs.List.{position_or_len}
+use Rattle.std.proofs.lemmas.List.{take_rest}
 use Rattle.mm_lex.proofs.RunsLemmas.{is_shown, pass_white, shown_behind}
-use Rattle.mm_lex.proofs.WordsLemmas.{take-rest}
 use Rattle.mm_lex.proofs.LanesLemmas.{clean-drop, clean-take}
 use Rattle.mm_lex.proofs.visible_run.pass_white.Goals as goal
 
@@ -10,10 +10,10 @@ count_white-requires c = clean-take (length c.args.text.now - c.args.at) (drop c
 
 pub returns-clause-runs : goal.returns-clause-runs
 returns-clause-runs c =
-    let blanks = c.count_white.ensures.count ∙ ap (position_or_len is_shown) (take-rest c.args.at c.args.text.now) in
+    let blanks = c.count_white.ensures.count ∙ ap (position_or_len is_shown) (take_rest c.args.text.now c.args.at) in
     pass_white c.args.text.now c.args.at c.count_white.result c.requires.place blanks
 
 pub returns-clause-shown : goal.returns-clause-shown
 returns-clause-shown c = λ inside.
-    let blanks = c.count_white.ensures.count ∙ ap (position_or_len is_shown) (take-rest c.args.at c.args.text.now) in
+    let blanks = c.count_white.ensures.count ∙ ap (position_or_len is_shown) (take_rest c.args.text.now c.args.at) in
     shown_behind c.args.text.now c.args.at c.count_white.result c.requires.place blanks inside

@@ -1,13 +1,14 @@
 use Rattle.std.proofs.Common.{◌∙◌, ap, sym, ◌+◌, ◌∷◌, take}
+use Rattle.std.proofs.lemmas.List.{take_rest}
 use Rattle.mm_lex.specs.Words.{words_of}
-use Rattle.mm_lex.proofs.WordsLemmas.{at_position, no_position, AreWords-behind, take-rest}
+use Rattle.mm_lex.proofs.WordsLemmas.{at_position, no_position, AreWords-behind}
 use Rattle.mm_lex.proofs.word_iter.split_word.Goals as goal
 
 pub returns-in-Some-clause-first : goal.returns-in-Some-clause-first
 returns-in-Some-clause-first c =
     let text = c.args.text.now in
     at_position text c.in-Some.end c.in-Some.ensures.place c.requires.words
-    ∙ ap (λ rest. take c.in-Some.end text ∷ words_of rest) (sym (take-rest (c.in-Some.end + 1) text))
+    ∙ ap (λ rest. take c.in-Some.end text ∷ words_of rest) (sym (take_rest text (c.in-Some.end + 1)))
 
 pub returns-in-Some-clause-rest : goal.returns-in-Some-clause-rest
 returns-in-Some-clause-rest c =

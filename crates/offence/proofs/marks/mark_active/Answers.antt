@@ -1,12 +1,12 @@
 use Rattle.std.proofs.Common.{◌≡◌, ◌∙◌, sym, ap, arith, ◌+◌, ◌-◌, ◌<◌, ◌==◌, ◌&&◌, drop, length, []}
 use Rattle.std.specs.List.{list_any}
+use Rattle.std.proofs.Math.Bool.{or_comm}
 use Rattle.scope.specs.Active.{active_from}
 use Rattle.offence.specs.Marks.{marked}
 use Rattle.offence.specs.Search.{meets}
 use Rattle.offence.proofs.MarksLemmas.{marked-both, marked-none}
 use Rattle.offence.proofs.SearchLemmas.{active_back, closed_on, closed_few, none_active, none_closed}
 use Rattle.offence.proofs.marks.mark_active.Goals as goal
-use Rattle.scope.proofs.LegalLemmas.{or_comm}
 
 pub loop-i-init : goal.loop-i-init
 loop-i-init c =

@@ -1,5 +1,6 @@
 use Rattle.std.proofs.Common.{◌≡◌, ◌∙◌, ◌||◌, ◌&&◌, Bool, true, false, not, cond, sym, ap, refl, map, replicate, length}
 use Rattle.std.specs.List.{list_any}
+use Rattle.std.proofs.Math.Bool.{or-false}
 use Rattle.mm_lex.specs.Alphabet.{Name}
 use Rattle.scope.specs.Active.{active}
 use Rattle.offence.specs.declared.search.Part.TheVariants as part
@@ -24,11 +25,7 @@ either false b = yes b
 neither : (a b : Bool) → cond a false (cond b false true) ≡ not (b || a)
 neither true true = refl
 neither true false = refl
-neither false b = no b ∙ ap not (or_no b)
-  where
-    or_no : (b : Bool) → b ≡ (b || false)
-    or_no true = refl
-    or_no false = refl
+neither false b = no b ∙ ap not (sym (or-false b))
 
 but_not : (a b : Bool) → cond a false (cond b true false) ≡ (b && not a)
 but_not true true = refl

@@ -3,9 +3,9 @@ use Rattle.scope.specs.Active.{is_variable}
 use Rattle.names.specs.Codes.{name_at, decode}
 use Rattle.frame.specs.FrameOf.{is_pair}
 use Rattle.reasons.specs.Clashes.{is_kept}
-use Rattle.reasons.proofs.ClashLemmas.{all_of, has_at, kept_by}
+use Rattle.reasons.proofs.ClashLemmas.{has_at}
 use Rattle.reasons.proofs.clash.not_with.Goals as goal
-use Rattle.frame.proofs.ApartLemmas.{below-at}
+use Rattle.frame.proofs.ApartLemmas.{below-at, kept_by, all-true}
 
 pub variable-requires-in-loop-other : goal.variable-requires-in-loop-other
 variable-requires-in-loop-other c = below-at (length c.args.pairs.now.names) c.args.right.now c.loop-other.other-index 0 c.requires.right c.loop-other-test.true
@@ -16,7 +16,7 @@ has-requires c = (c.requires.one, below-at (length c.args.pairs.now.names) c.arg
 pub returns-then-not-variable : goal.returns-then-not-variable
 returns-then-not-variable c =
     let S = c.args.pairs.now.statements in let names = c.args.pairs.now.names in let u = name_at names c.args.one in
-    all_of (is_kept S u) (decode names c.args.right.now) (λ v. kept_by (is_variable S u) (is_variable S v) (is_pair S u v) (sym c.variable.ensures ∙ c.if-not-variable.true))
+    all-true (is_kept S u) (decode names c.args.right.now) (λ v. kept_by (is_variable S u) (is_variable S v) (is_pair S u v) (sym c.variable.ensures ∙ c.if-not-variable.true))
 
 pub returns-then-not-has : goal.returns-then-not-has
 returns-then-not-has c =

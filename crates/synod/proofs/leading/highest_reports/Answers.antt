@@ -1,8 +1,9 @@
 use Rattle.std.proofs.Common.{ℕ, List, take, ap, sym, ◌∙◌, subst, arith}
 use Rattle.std.specs.Borrow.{Bor}
+use Rattle.std.proofs.lemmas.List.{take_all}
 use Rattle.synod.specs.declared.packet.SlotReport.{SlotReport}
 use Rattle.synod.specs.Heights.{all_of, AreHighest}
-use Rattle.synod.proofs.HeightsLemmas.{take_next, take_past, all_of-push, highest_of_none}
+use Rattle.synod.proofs.HeightsLemmas.{take_next, all_of-push, highest_of_none}
 use Rattle.synod.proofs.leading.highest_reports.Goals as goal
 
 pub loop-page-init : goal.loop-page-init
@@ -19,4 +20,4 @@ loop-page-preserved g c =
 
 pub returns-clause-highest : goal.returns-clause-highest
 returns-clause-highest g c =
-    subst (λ (ps : List (Bor (List (SlotReport g.row.V.Denot)))). AreHighest c.args.first c.loop-page.table.items (all_of ps)) (take_past c.args.pages.now c.loop-page.page-index (omega arith)) c.loop-page.invariant.highest
+    subst (λ (ps : List (Bor (List (SlotReport g.row.V.Denot)))). AreHighest c.args.first c.loop-page.table.items (all_of ps)) (take_all c.loop-page.page-index c.args.pages.now (omega arith)) c.loop-page.invariant.highest

@@ -1,7 +1,8 @@
 use Rattle.std.proofs.Common.{ℕ, List, [], ◌∷◌, ◌++◌, take, ap, sym, ◌∙◌, subst, arith, append_assoc}
+use Rattle.std.proofs.lemmas.List.{take_all}
 use Rattle.synod.specs.declared.packet.SlotReport.{SlotReport}
 use Rattle.synod.specs.Heights.{AreHighest}
-use Rattle.synod.proofs.HeightsLemmas.{take_next, take_past}
+use Rattle.synod.proofs.HeightsLemmas.{take_next}
 use Rattle.synod.proofs.leading.keep_page.Goals as goal
 
 pub loop-report-preserved : goal.loop-report-preserved
@@ -17,4 +18,4 @@ loop-report-preserved g c = record {
 
 pub returns-clause-highest : goal.returns-clause-highest
 returns-clause-highest g c = λ reports h.
-    subst (λ (rs : List (SlotReport g.row.V.Denot)). AreHighest c.args.first c.loop-report.table.items (reports ++ rs)) (take_past c.args.page.now c.loop-report.report-index (omega arith)) (c.loop-report.invariant.highest reports h)
+    subst (λ (rs : List (SlotReport g.row.V.Denot)). AreHighest c.args.first c.loop-report.table.items (reports ++ rs)) (take_all c.loop-report.report-index c.args.page.now (omega arith)) (c.loop-report.invariant.highest reports h)
