@@ -10,23 +10,13 @@ use Rattle.program.proofs.proofs.write_proof.Goals as goal
 within : (S F : Database) (at : ℕ) (s : Stmt) → F ≡ bares S → IsProvable S at s → (1 ≤ at) × (at ≤ length F)
 within S F at s same p = let provable = provable-bare S F at s same p in stands-within F at (bare s) provable.stands
 
-pub listed-requires-clause-at : goal.listed-requires-clause-at
-listed-requires-clause-at g c =
+pub write_steps-requires-clause-at : goal.write_steps-requires-clause-at
+write_steps-requires-clause-at g c =
     let named = c.in_ok-at.ensures.items.named in
     within c.args.library.now.replica.statements c.frames-frames.result.now.statements c.in_ok-at.at named.stmt c.frames-frames.ensures.same named.provable
 
-pub listed-requires-in-Picture-clause-at : goal.listed-requires-in-Picture-clause-at
-listed-requires-in-Picture-clause-at g c =
-    let named = c.in_ok-at.ensures.items.named in
-    within c.args.library.now.replica.statements c.frames-frames.result.now.statements c.in_ok-at.at named.stmt c.frames-frames.ensures.same named.provable
-
-pub essential_table-requires-clause-at : goal.essential_table-requires-clause-at
-essential_table-requires-clause-at g c =
-    let named = c.in_ok-at.ensures.items.named in
-    within c.args.library.now.replica.statements c.frames-frames.result.now.statements c.in_ok-at.at named.stmt c.frames-frames.ensures.same named.provable
-
-pub write_page-requires : goal.write_page-requires
-write_page-requires g c =
+pub write_steps-requires-clause-provable : goal.write_steps-requires-clause-provable
+write_steps-requires-clause-provable g c =
     let named = c.in_ok-at.ensures.items.named in (
       bare named.stmt,
       provable-bare c.args.library.now.replica.statements c.frames-frames.result.now.statements c.in_ok-at.at named.stmt c.frames-frames.ensures.same named.provable,
