@@ -4,8 +4,6 @@
 use Rattle.std.specs.Prelude.{◌≡◌, ℕ, ◌+◌, ◌≤◌, Bool, true, false, List, [], ◌∷◌, ◌++◌, Option, Some, None, Result, Ok, Err, length, slice_get}
 use Rattle.slots.specs.declared.slots.TheConstants.{SLOTS}
 use Rattle.library.specs.declared.entry.Entry.{Entry}
-use Rattle.library.specs.declared.verdict.Verdict.{Verdict}
-use Rattle.library.specs.LibraryOf.{Applies}
 use Rattle.world.specs.declared.carried.Carried.{Carried}
 use Rattle.net.specs.declared.fault.StepFault.{StepFault}
 use Rattle.net.specs.declared.fault.StepFault.TheVariants.{Memory}

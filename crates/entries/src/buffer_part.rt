@@ -3,14 +3,14 @@ ghost use Rattle.std.specs.Prelude.{◌≡◌, ◌≤◌, ◌<◌, length, slice
 
 use std::alloc::AllocError;
 
-/// The items of a buffer from the one place up to the other.
+/// The places of a statement from the one up to the other.
 #[derive(Clone, Copy, Drop)]
 pub struct BufferPart {
     pub from: u32,
     pub to: u32,
 }
 
-/// A place in a buffer. Buffers have at most 2^32 - 1 items: more are answered as want of memory.
+/// A place within one statement, or the number of a row or a label, in 32 bits: more are answered as want of memory.
 pub fn place(at: usize) -> Result<u32, AllocError>
     ensures { IfOk result (λ n. n ≡ at) }
 {
@@ -31,11 +31,11 @@ pub fn between(from: usize, to: usize) -> Result<BufferPart, AllocError>
 }
 
 /// A part of the items.
-pub fn part<T>(items: &[T], from: u32, to: u32) -> &[T]
+pub fn part<T>(items: &[T], from: usize, to: usize) -> &[T]
     requires { (from ≤ to) × (to ≤ length items.now) }
     ensures { result.now ≡ slice_range items.now from to }
 {
-    &items[from as usize..to as usize]
+    &items[from..to]
 }
 
 /// The item at an index.

@@ -84,7 +84,7 @@ impl Entries {
             label: kept.label,
             names: kept.names,
             links: kept.links,
-            symbols: &numbers[kept.from as usize..to],
+            symbols: part(numbers, kept.from, to),
         }
     }
 
@@ -220,7 +220,7 @@ fn add(
     ensures grows { Grows buffers.old buffers.new }
     ensures same { OnErr result (records.new.items ≡ records.old.items) }
 {
-    let from = place(buffers.numbers.len())?;
+    let from = buffers.numbers.len();
     let row = place(buffers.rows.len())?;
     let last = add_parts(buffers, parts)?;
     add_last(&mut buffers.rows, last)?;
@@ -240,7 +240,7 @@ fn add_plain(
     ensures grows { Grows buffers.old buffers.new }
     ensures same { OnErr result (records.new.items ≡ records.old.items) }
 {
-    let from = place(buffers.numbers.len())?;
+    let from = buffers.numbers.len();
     let row = place(buffers.rows.len())?;
     append(&mut buffers.numbers, codes)?;
     add_last(records, record_of(head, false, whole, from, row))
@@ -267,10 +267,10 @@ fn add_parts(buffers: &mut Buffers, parts: &AssertionParts<'_>) -> Result<Assert
     ensures same { buffers.new.rows.items ≡ buffers.old.rows.items }
 {
     let ends = add_numbers(&mut buffers.numbers, parts)?;
-    let hypotheses_from = place(buffers.hypotheses.len())?;
+    let hypotheses_from = buffers.hypotheses.len();
     let hypotheses = append(&mut buffers.hypotheses, parts.hypotheses)?;
     append(&mut buffers.asked, parts.asked)?;
-    let groups_from = place(buffers.groups.len())?;
+    let groups_from = buffers.groups.len();
     let groups = append(&mut buffers.groups, parts.groups)?;
     Ok(AssertionRow {
         whole: parts.whole,
@@ -287,10 +287,10 @@ fn add_parts(buffers: &mut Buffers, parts: &AssertionParts<'_>) -> Result<Assert
 /// Where the numbers of a statement end, one part behind the other.
 #[derive(Clone, Copy, Drop)]
 pub struct Ends {
-    pub from: u32,
-    pub symbols: u32,
-    pub heads: u32,
-    pub places: u32,
+    pub from: usize,
+    pub symbols: usize,
+    pub heads: usize,
+    pub places: usize,
 }
 
 /// Adds a statement's numbers behind the others.
@@ -298,7 +298,7 @@ fn add_numbers(numbers: &mut Vec<u32>, parts: &AssertionParts<'_>) -> Result<End
     ensures added { IfOk result (λ ends. AreEnds numbers.old.items numbers.new.items parts.now ends) }
     ensures grows { Extends numbers.old.items numbers.new.items }
 {
-    let from = place(numbers.len())?;
+    let from = numbers.len();
     let symbols = append(numbers, parts.symbols)?;
     let heads = append(numbers, parts.heads)?;
     let places = append(numbers, parts.places)?;
@@ -312,19 +312,19 @@ fn add_numbers(numbers: &mut Vec<u32>, parts: &AssertionParts<'_>) -> Result<End
 
 /// Adds items, and tells where they end.
 #[inline(always)]
-fn append<T: Copy>(buffer: &mut Vec<T>, items: &[T]) -> Result<u32, AllocError>
+fn append<T: Copy>(buffer: &mut Vec<T>, items: &[T]) -> Result<usize, AllocError>
     ensures ok { OnOk result (buffer.new.items ≡ buffer.old.items ++ items.now) }
     ensures place { IfOk result (λ n. n ≡ length buffer.new.items) }
     ensures grows { Extends buffer.old.items buffer.new.items }
 {
     if items.is_empty() {
-        return place(buffer.len());
+        return Ok(buffer.len());
     }
     if buffer.capacity() - buffer.len() < items.len() {
         widen(buffer);
     }
     buffer.extend_from_slice(items)?;
-    place(buffer.len())
+    Ok(buffer.len())
 }
 
 /// Asks for fifteen times the room of what a full buffer has: so little is copied while it grows, and little

@@ -46,6 +46,6 @@ impl<'a> Groups<'a> {
         ensures { slice_get self.now index ≡ Some result.now }
     {
         let span = item(self.spans, index);
-        part(self.places, span.from, span.to)
+        part(self.places, span.from as usize, span.to as usize)
     }
 }

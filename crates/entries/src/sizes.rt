@@ -34,11 +34,11 @@ pub fn sizes_before(buffers: &Buffers, kept: StatementRecord) -> Sizes
 {
     let rows = kept.row as usize;
     let (hypotheses, groups) = match buffers.rows.get(rows) {
-        Some(row) => (row.hypotheses_from as usize, row.groups_from as usize),
+        Some(row) => (row.hypotheses_from, row.groups_from),
         None => (buffers.hypotheses.len(), buffers.groups.len()),
     };
     Sizes {
-        numbers: kept.from as usize,
+        numbers: kept.from,
         hypotheses,
         groups,
         rows,

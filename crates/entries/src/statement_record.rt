@@ -12,16 +12,16 @@ use crate::links::Links;
 /// A statement that has hypotheses or groups has a row beside.
 #[derive(Clone, Copy, Drop)]
 pub struct StatementRecord {
+    pub from: usize,
+    pub label: u32,
+    pub names: u32,
+    pub links: Links,
+    /// How many rows there were: the number of its own, where it has one.
+    pub row: u32,
     pub kind: Kind,
     pub has_row: bool,
     /// Of a statement without a row: whether its parts, of which there are none, are whole.
     pub whole: bool,
-    pub label: u32,
-    pub names: u32,
-    pub links: Links,
-    pub from: u32,
-    /// How many rows there were: the number of its own, where it has one.
-    pub row: u32,
 }
 
 /// Where the parts of an assertion stand. Its symbols, the heads of its hypotheses and its groups' variables stand one
@@ -29,14 +29,14 @@ pub struct StatementRecord {
 #[derive(Clone, Copy, Drop)]
 pub struct AssertionRow {
     pub whole: bool,
-    pub symbols: u32,
-    pub heads: u32,
-    pub places: u32,
+    pub symbols: usize,
+    pub heads: usize,
+    pub places: usize,
     /// Its hypotheses, and what they are.
-    pub hypotheses_from: u32,
-    pub hypotheses: u32,
-    pub groups_from: u32,
-    pub groups: u32,
+    pub hypotheses_from: usize,
+    pub hypotheses: usize,
+    pub groups_from: usize,
+    pub groups: usize,
 }
 
 /// The parts of all statements.
@@ -79,7 +79,7 @@ fn rowless(whole: bool) -> AssertionRow
 }
 
 /// The record of a statement with this head.
-pub fn record_of(head: Head, has_row: bool, whole: bool, from: u32, row: u32) -> StatementRecord
+pub fn record_of(head: Head, has_row: bool, whole: bool, from: usize, row: u32) -> StatementRecord
     ensures head { head_of result ≡ head }
     ensures has_row { result.has_row ≡ has_row }
     ensures whole { result.whole ≡ whole }
@@ -87,14 +87,14 @@ pub fn record_of(head: Head, has_row: bool, whole: bool, from: u32, row: u32) ->
     ensures row { result.row ≡ row }
 {
     StatementRecord {
-        kind: head.kind,
-        has_row,
-        whole,
+        from,
         label: head.label,
         names: head.names,
         links: head.links,
-        from,
         row,
+        kind: head.kind,
+        has_row,
+        whole,
     }
 }
 
@@ -111,10 +111,10 @@ pub fn symbols_end(
     ensures { result ≡ symbols_by kept.has_row (own_row rows.now kept) (from_by end (slice_get records.now (index + 1))) }
 {
     if kept.has_row {
-        return row_of(rows, kept).symbols as usize;
+        return row_of(rows, kept).symbols;
     }
     match records.get(index + 1) {
-        Some(next) => next.from as usize,
+        Some(next) => next.from,
         None => end,
     }
 }

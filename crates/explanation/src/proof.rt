@@ -17,7 +17,7 @@ use frame::Frames;
 use mm_read::{ReadFault, Stmt, read};
 use proof_code::Items;
 use reasons::{Fault, Reason};
-use scope::Scope;
+use scope::Rules;
 use std::alloc::Global;
 
 /// The rule of proof code that a proof breaks, or the first fault of its run.
@@ -42,26 +42,26 @@ fn explain_at(alloc: Global, page: &mut Page, statements: &[Stmt], theorem: &The
     requires shaped { AreShaped statements.now }
     requires provable { (s : Statement) × IsProvable statements.now theorem.now.at s }
 {
-    let mut scope = Scope::new(alloc);
+    let mut rules = Rules::new(alloc);
     let mut frames = Frames::new(alloc);
-    explain_entered(alloc, page, statements, theorem, &mut scope, &mut frames);
+    explain_entered(alloc, page, statements, theorem, &mut rules, &mut frames);
 }
 
-/// The same, where the scope and the frames have no statement yet.
+/// The same, where the rules and the frames have no statement yet.
 fn explain_entered(
     alloc: Global,
     page: &mut Page,
     statements: &[Stmt],
     theorem: &Theorem<'_>,
-    scope: &mut Scope,
+    rules: &mut Rules,
     frames: &mut Frames,
 )
     requires shaped { AreShaped statements.now }
     requires provable { (s : Statement) × IsProvable statements.now theorem.now.at s }
-    requires no_scope { scope.old.statements ≡ [] }
+    requires no_rules { rules.old.statements ≡ [] }
     requires no_frames { frames.old.statements ≡ [] }
 {
-    match enter(scope, frames, statements) {
+    match enter(rules, frames, statements) {
         Ok(true) => explain_theorem(alloc, page, frames, theorem),
         Ok(false) => {}
         Err(_) => page.refuse(),

@@ -10,7 +10,6 @@ use Rattle.mm_read.specs.declared.stmt.Stmt.TheVariants as stmt
 use Rattle.mm_read.specs.Statements.{Expr, Database}
 use Rattle.scope.specs.Active.{stays_open, is_active, is_essential, is_variable, has_float, is_float_of}
 use Rattle.frame.specs.FrameOf.{is_mandatory, is_hypothesis}
-use Rattle.entries.specs.declared.kind.Kind.TheVariants.{Open, Close, Const, Var, Disj, Float, Ess, Axiom, Prove}
 use Rattle.frame.specs.Stored.AssertionParts.{is_float_in}
 use Rattle.frame.proofs.LegalLabels.{AllKept}
 use Rattle.frame.proofs.ActiveBehind.{stands-active}

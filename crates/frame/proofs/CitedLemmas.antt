@@ -15,7 +15,7 @@ use Rattle.frame.specs.Below.{AreBelow}
 use Rattle.frame.specs.Cited.{AreListsOf, IsCited}
 use Rattle.frame.specs.Bound.{IsBound}
 use Rattle.frame.specs.AtPosition.{AreLegal}
-use Rattle.frame.specs.Stored.EntryMeanings.{stmt_by, stmt_of, statements_of}
+use Rattle.frame.specs.Stored.EntryMeanings.{names_in, labels_in, stmt_by, stmt_of, statements_of}
 use Rattle.frame.specs.Stored.Whole.{AreStored}
 use Rattle.frame.specs.Stored.AssertionParts.{IsKeptAs, has_parts}
 use Rattle.frame.proofs.DeclaredSymbolLemmas.{stored-distinct}
@@ -43,41 +43,41 @@ parts-kind names labels e = by e.kind
 pub record IsThere (k : Stock) (a i : ℕ) (s : Stmt) (e : Entry) : Type 0 where
   pub place : a ≡ i + 1
   pub here : slice_get k.entries i ≡ Some e
-  pub is : stmt_of k.names k.labels e ≡ s
-  pub kept : IsKeptAs k.entries (take i (statements_of k)) (stmt_of k.names k.labels e) e.assertion
+  pub is : stmt_of (names_in k) (labels_in k) e ≡ s
+  pub kept : IsKeptAs k.entries (take i (statements_of k)) (stmt_of (names_in k) (labels_in k) e) e.assertion
 
 pub is-there : (k : Stock) (a : ℕ) (s : Stmt) → AreStored k → HasAssertion (statements_of k) a s → (i : ℕ) × (e : Entry) × IsThere k a i s e
 is-there k zero s stored h = let g = h.0 in cc
 is-there k (suc i) s stored h =
-    let e = get-entry k.names k.labels k.entries i s h.0 in
-    let asserts : is_assertion (stmt_of k.names k.labels e.0) ≡ true = ap is_assertion e.2 ∙ h.1 in
-    (i, e.0, record { place = omega arith; here = e.1; is = e.2; kept = stored.parts_kept i e.0 e.1 (parts-kind k.names k.labels e.0 asserts) })
+    let e = get-entry (names_in k) (labels_in k) k.entries i s h.0 in
+    let asserts : is_assertion (stmt_of (names_in k) (labels_in k) e.0) ≡ true = ap is_assertion e.2 ∙ h.1 in
+    (i, e.0, record { place = omega arith; here = e.1; is = e.2; kept = stored.kept.parts_kept i e.0 e.1 (parts-kind (names_in k) (labels_in k) e.0 asserts) })
 
 -- the expression of the assertion, by numbers
-pub there-expr : (k : Stock) (a i : ℕ) (s : Stmt) (e : Entry) → AreStored k → is_assertion s ≡ true → IsThere k a i s e → (decode k.names e.symbols ≡ expr_of s) × AreBelow (length k.names) e.symbols
+pub there-expr : (k : Stock) (a i : ℕ) (s : Stmt) (e : Entry) → AreStored k → is_assertion s ≡ true → IsThere k a i s e → (decode (names_in k) e.symbols ≡ expr_of s) × AreBelow (length (names_in k)) e.symbols
 there-expr k a i s e stored asserts t = (
-  sym (ap expr_of (sym t.is) ∙ own-expr k.names e.kind (name_at k.labels e.label) e.symbols (ap is_assertion t.is ∙ asserts)),
-  (numbered-at (length k.names) (length k.labels) k.entries i e stored.coded t.here).0,
+  sym (ap expr_of (sym t.is) ∙ own-expr (names_in k) e.kind (name_at (labels_in k) e.label) e.symbols (ap is_assertion t.is ∙ asserts)),
+  (numbered-at (length (names_in k)) (length (labels_in k)) k.entries i e stored.kept.coded t.here).0,
 )
 
 -- lists of which all is said are those of the assertion
 pub there-lists : (k : Stock) (a i : ℕ) (s : Stmt) (e : Entry) (d : Assertion) → AreStored k → is_assertion s ≡ true → IsThere k a i s e
-    → IsKeptAs k.entries (take i (statements_of k)) (stmt_of k.names k.labels e) d → d.whole ≡ true → AreListsOf (statements_of k) k.names a d s
+    → IsKeptAs k.entries (take i (statements_of k)) (stmt_of (names_in k) (labels_in k) e) d → d.whole ≡ true → AreListsOf (statements_of k) (names_in k) a d s
 there-lists k a i s e d stored asserts t kept whole =
-    subst (λ n. AreListsOf (statements_of k) k.names n d s) (sym t.place)
-    (subst (λ x. AreListsOf (statements_of k) k.names (i + 1) d x) t.is
-    (lists-at k.entries k.names k.labels (length k.labels) i e d (stored-distinct k stored) stored.coded stored.legal t.here (ap is_assertion t.is ∙ asserts) kept whole))
+    subst (λ n. AreListsOf (statements_of k) (names_in k) n d s) (sym t.place)
+    (subst (λ x. AreListsOf (statements_of k) (names_in k) (i + 1) d x) t.is
+    (lists-at k.entries (names_in k) (labels_in k) (length (labels_in k)) i e d (stored-distinct k stored) stored.kept.coded stored.kept.legal t.here (ap is_assertion t.is ∙ asserts) kept whole))
 
-pub there-cited : (k : Stock) (a i : ℕ) (s : Stmt) (e : Entry) (c : Cited) → AreStored k → is_assertion s ≡ true → IsThere k a i s e → AreWhole e c → IsCited (statements_of k) k.names a s c
+pub there-cited : (k : Stock) (a i : ℕ) (s : Stmt) (e : Entry) (c : Cited) → AreStored k → is_assertion s ≡ true → IsThere k a i s e → AreWhole e c → IsCited (statements_of k) (names_in k) a s c
 there-cited k a i s e c stored asserts t w =
     let x = there-expr k a i s e stored asserts t in
-    lists-cited (statements_of k) k.names a s e.assertion e.symbols (there-lists k a i s e e.assertion stored asserts t t.kept w.whole) x.0 x.1 c w.heads w.hypotheses w.conclusion w.groups
+    lists-cited (statements_of k) (names_in k) a s e.assertion e.symbols (there-lists k a i s e e.assertion stored asserts t t.kept w.whole) x.0 x.1 c w.heads w.hypotheses w.conclusion w.groups
 
-pub all-legal : (k : Stock) → AreStored k → AreLegal (statements_of k) k.names
+pub all-legal : (k : Stock) → AreStored k → AreLegal (statements_of k) (names_in k)
 all-legal k stored =
-    let each : (a : ℕ) (s : Stmt) → HasAssertion (statements_of k) a s → IsBound (statements_of k) a s = λ a s h. bound (statements_of k) a s stored.legal h in
+    let each : (a : ℕ) (s : Stmt) → HasAssertion (statements_of k) a s → IsBound (statements_of k) a s = λ a s h. bound (statements_of k) a s stored.kept.legal h in
     record {
-      once = legal-labels (statements_of k) stored.legal;
+      once = legal-labels (statements_of k) stored.kept.legal;
       single = λ at. bound-single (statements_of k) at each;
       bound = each;
       distinct = stored-distinct k stored;

@@ -12,7 +12,6 @@ use Rattle.scope.specs.Active.{stays_open, active, is_active, expr_of, is_essent
 use Rattle.names.specs.Codes.{name_at, decode, AreDistinct}
 use Rattle.frame.specs.FrameOf.{is_used, is_mandatory, is_hypothesis, hypotheses}
 use Rattle.frame.specs.Below.{AreBelow}
-use Rattle.entries.specs.declared.kind.Kind.TheVariants.{Float}
 use Rattle.entries.specs.Entries.{Entry}
 use Rattle.frame.specs.Links.{actives}
 use Rattle.frame.specs.Stored.EntryMeanings.{stmt_of, floats, last_from, last_where}

@@ -3,18 +3,20 @@ use Rattle.std.specs.Prelude.{◌≡◌, ℕ, zero, suc, ◌+◌, ◌-◌, ◌<�
 use Rattle.std.proofs.Common.{sym, ◌∙◌, ap, subst, arith, take-take, add-zero}
 use Rattle.std.proofs.lemmas.List.{length-take-le, take-map, take-append-drop, take_at}
 use Rattle.mm_lex.specs.Alphabet.{Name}
-use Rattle.mm_read.specs.declared.stmt.Stmt.{Stmt}
 use Rattle.mm_read.specs.Statements.{Database}
+use Rattle.scope.specs.Kinds.{IsNumberingOf}
 use Rattle.scope.specs.Active.{before, label_of, stays_open}
 use Rattle.scope.specs.Legal.{IsLegal}
-use Rattle.scope.specs.Symbols.{symbols_of}
+use Rattle.scope.specs.Symbols.{symbols_of, labels_of, option_list}
 use Rattle.entries.specs.declared.links.Links.{Links}
 use Rattle.entries.specs.Entries.{Entry}
 use Rattle.frame.specs.declared.storage.Symbol.{Symbol}
 use Rattle.frame.specs.Links.{links_of}
-use Rattle.frame.specs.Stored.EntryMeanings.{stmt_of, labels_of, positions_from, option_list, option_position, AreAllLegal, ReadsAs, replaced_of, symbol_of}
+use Rattle.frame.specs.Stored.EntryMeanings.{stmt_of, statements_of, positions_from, option_position, AreAllLegal, ReadsAs, replaced_of, symbol_of}
 use Rattle.frame.specs.Stored.Counts.{AreNumbered, KeepsCounts}
-use Rattle.frame.specs.Stored.Whole.{AreKept}
+use Rattle.frame.specs.declared.storage.Stock.{Stock}
+use Rattle.frame.specs.Stored.Naming.{naming_of}
+use Rattle.frame.specs.Stored.Whole.{AreKept, AreStored}
 use Rattle.entries.specs.Stored.Spans.{Extends}
 use Rattle.frame.specs.Stored.AssertionParts.{has_parts, IsKeptAs}
 use Rattle.entries.proofs.SpanLemmas.{extends-take}
@@ -22,6 +24,7 @@ use Rattle.entries.proofs.BufferPlaceLemmas.{take-get}
 use Rattle.frame.proofs.BlockWalkLemmas.{get-take}
 use Rattle.frame.proofs.DeclaredSymbolLemmas.{symbols_of-front}
 use Rattle.frame.proofs.AssertionLemmas.{kept-moved}
+use Rattle.frame.proofs.NamingLemmas.{naming-all, naming-length, naming_of-front}
 use Rattle.frame.proofs.OpenLemmas.{stays_open-front}
 use Rattle.frame.proofs.StoredOneMore.{statements-more, stmt-more, numbered-at}
 use Rattle.frame.proofs.StoredTaken.{length-positions}
@@ -72,8 +75,8 @@ legal-front n S all (suc j) s h =
 pub record IsCut (names labels : List Name) (positions : List ℕ) (symbols : List Symbol) (entries : List Entry)
     (names' labels' : List Name) (positions' : List ℕ) (between symbols' : List Symbol) (replaced' : List ℕ) (entries' : List Entry) (links' : Links) (n : ℕ) (e : Entry) : Type 0 where
   pub at : slice_get entries n ≡ Some e
-  pub names_cut : names' ≡ take e.names names
-  pub labels_cut : labels' ≡ take e.label labels
+  pub names_cut : names' ≡ symbols_of (take n (map (stmt_of names labels) entries))
+  pub labels_cut : labels' ≡ labels_of (take n (map (stmt_of names labels) entries))
   pub positions_cut : positions' ≡ take e.label positions
   pub between_count : length between ≡ length symbols
   pub symbols_cut : symbols' ≡ take e.names between
@@ -94,22 +97,20 @@ module _ (names labels : List Name) (positions : List ℕ) (symbols : List Symbo
   counts = k.counts_kept n e p.at
 
   pub names-front : Extends names' names
-  names-front = subst (λ r. Extends r names) (sym p.names_cut) (extends-take e.names names)
+  names-front =
+      let m = length (symbols_of (take n S)) in
+      subst (λ r. Extends r names) (ap (take m) k.names_kept ∙ (symbols_of-front n S ∙ sym p.names_cut)) (extends-take m names)
 
   labels-extend : Extends labels' labels
-  labels-extend = subst (λ r. Extends r labels) (sym p.labels_cut) (extends-take e.label labels)
+  labels-extend =
+      let m = length (labels_of (take n S)) in
+      subst (λ r. Extends r labels) (ap (take m) k.labels_kept ∙ (labels-front n S ∙ sym p.labels_cut)) (extends-take m labels)
 
   names-count : length names' ≡ e.names
-  names-count = ap length p.names_cut ∙ length-take-le e.names names counts.within
-
-  names-are : names' ≡ symbols_of (take n S)
-  names-are = p.names_cut ∙ (ap (take e.names) k.names_kept ∙ (ap (λ m. take m (symbols_of S)) counts.name_count ∙ symbols_of-front n S))
-
-  labels-are : labels' ≡ labels_of (take n S)
-  labels-are = p.labels_cut ∙ (ap (take e.label) k.labels_kept ∙ (ap (λ m. take m (labels_of S)) counts.label_count ∙ labels-front n S))
+  names-count = ap length p.names_cut ∙ sym counts.name_count
 
   labels-count : length labels' ≡ e.label
-  labels-count = ap length labels-are ∙ sym counts.label_count
+  labels-count = ap length p.labels_cut ∙ sym counts.label_count
 
   -- the first entries use no other names and labels
   numbered : AreNumbered (length names') (length labels') (take n entries)
@@ -170,8 +171,8 @@ module _ (names labels : List Name) (positions : List ℕ) (symbols : List Symbo
     linked = λ i d h. let q = there i d h in k.linked i d q.1 ∙ ap links_of (sym (front-of i q.0));
     stays = ap (stays_open 0) cut-statements ∙ stays_open-front 0 (take n S) (drop n S) (ap (stays_open 0) (take-append-drop n S) ∙ k.stays);
     legal = subst AreAllLegal (sym cut-statements) (legal-front n S k.legal);
-    names_kept = names-are ∙ ap symbols_of (sym cut-statements);
-    labels_kept = labels-are ∙ ap labels_of (sym cut-statements);
+    names_kept = p.names_cut ∙ ap symbols_of (sym cut-statements);
+    labels_kept = p.labels_cut ∙ ap labels_of (sym cut-statements);
     positions_kept = p.positions_cut ∙ (ap (take e.label) k.positions_kept ∙ (ap (λ m. take m (positions_from 1 S)) counts.label_count ∙ (positions-front n S ∙ ap (positions_from 1) (sym cut-statements))));
     coded = subst (AreNumbered (length names') (length labels')) (sym p.entries_cut) numbered;
     symbols_kept = symbols'';
@@ -184,3 +185,17 @@ module _ (names labels : List Name) (positions : List ℕ) (symbols : List Symbo
     few = let a = names-count in let w = counts.within in let f = k.few in omega (arith, a, w, f);
     parts_kept = parts';
   }
+
+-- ---- the numbering of the first statements
+
+module _ (k : Stock) (n : ℕ) (e : Entry) (stored : AreStored k) (at : slice_get k.entries n ≡ Some e) where
+  pub front-naming : IsNumberingOf (take n (statements_of k)) (naming_of (take n (statements_of k)))
+  front-naming = naming-all (take n (statements_of k)) (legal-front n (statements_of k) stored.kept.legal)
+
+  -- the entry behind them tells how many names it has
+  pub numbering-front : take (e.names + e.label) k.numbering ≡ naming_of (take n (statements_of k))
+  numbering-front =
+      let counts = stored.kept.counts_kept n e at in
+      let all = naming-length (take n (statements_of k)) (naming_of (take n (statements_of k))) front-naming in
+      let count : e.names + e.label ≡ length (naming_of (take n (statements_of k))) = omega (arith, counts.name_count, counts.label_count, all) in
+      ap (take (e.names + e.label)) stored.numbered ∙ (ap (λ m. take m (naming_of (statements_of k))) count ∙ naming_of-front n (statements_of k))

@@ -3,23 +3,25 @@ use Rattle.std.specs.Prelude.{◌≡◌, ℕ, ◌+◌, List, [], ◌∷◌, ◌+
 use Rattle.std.proofs.Common.{sym, ◌∙◌, ap, subst, arith, length-append}
 use Rattle.std.proofs.lemmas.List.{length-map}
 use Rattle.names.proofs.CodesLemmas.{name_at-last}
-use Rattle.scope.proofs.SymbolNameLemmas.{symbols_by-bare}
 use Rattle.mm_lex.specs.Alphabet.{Name}
 use Rattle.mm_read.specs.declared.stmt.Stmt.{Stmt}
 use Rattle.mm_read.specs.declared.stmt.Stmt.TheVariants as stmt
 use Rattle.scope.specs.Active.{bare, label_of, expr_of, is_assertion, is_essential}
-use Rattle.names.specs.Codes.{name_at, decode, with_names}
-use Rattle.scope.specs.Symbols.{symbols_by, symbols_in}
+use Rattle.names.specs.Codes.{name_at, decode}
+use Rattle.scope.specs.Symbols.{symbols_in, option_list}
+use Rattle.scope.specs.Kinds.{Declared, declared_symbols, declared_labels}
 use Rattle.frame.specs.Below.{AreBelow}
 use Rattle.entries.specs.declared.head.Head.{Head}
 use Rattle.entries.specs.Entries.{Assertion, Entry}
 use Rattle.entries.specs.declared.kind.Kind.{Kind}
 use Rattle.entries.specs.declared.kind.Kind.TheVariants.{Open, Close, Const, Var, Disj, Float, Ess, Axiom, Prove}
 use Rattle.frame.specs.declared.storage.Stock.{Stock}
-use Rattle.frame.specs.Stored.EntryMeanings.{stmt_by, stmt_of, statements_of, option_list, option_position}
+use Rattle.frame.specs.Stored.EntryMeanings.{names_in, labels_in, stmt_by, stmt_of, statements_of, option_position}
+use Rattle.frame.specs.Stored.Naming.{with_symbols, with_label, with_statement, IsFresh}
 use Rattle.frame.specs.Stored.Whole.{AreStored, AreNumbersOf, Entered, IsHead, IsKeptOf, IsNext}
 use Rattle.frame.specs.Stored.AssertionParts.{floats_in, kept_with, has_parts}
 use Rattle.frame.specs.Stored.Counts.{kind_of, IsLabelBelow, HasTwo}
+use Rattle.frame.proofs.NamingLemmas.{symbols-with_label, labels-with_statement, with_statement-bare}
 
 pub ok-both : {T E : Type 0} (r : Result T E) (P Q R : Type 0) → (P → Q → R) → OnOk r P → OnOk r Q → OnOk r R
 ok-both (Ok x) P Q R f p q = f p q
@@ -28,6 +30,21 @@ ok-both (Err e) P Q R f p q = tt
 pub ok-given : {T E : Type 0} (r : Result T E) (A P Q R : Type 0) → (P → (A → Q) → R) → OnOk r P → (A → OnOk r Q) → OnOk r R
 ok-given (Ok x) A P Q R f p q = f p q
 ok-given (Err e) A P Q R f p q = tt
+
+-- a statement with a label declares no symbols: the label is new still
+pub still-fresh : (names new : Declared) (s : Stmt) → IsFresh names (label_of s) → new ≡ with_symbols names s → IsFresh new (label_of s)
+still-fresh names new s h e = subst (λ N. IsFresh N (label_of s)) (sym e) (by s h)
+  where
+    by : (s : Stmt) → IsFresh names (label_of s) → IsFresh (with_symbols names s) (label_of s)
+    by stmt.Open h = h
+    by stmt.Close h = h
+    by (stmt.Const xs) h = h
+    by (stmt.Var xs) h = h
+    by (stmt.Disj xs) h = h
+    by (stmt.Float label constant variable) h = h
+    by (stmt.Ess label expr) h = h
+    by (stmt.Axiom label expr) h = h
+    by (stmt.Prove label expr proof) h = h
 
 -- ---- a statement by its kind, its label and its symbols
 
@@ -98,7 +115,7 @@ parts-kind (stmt.Axiom label expr) = refl
 parts-kind (stmt.Prove label expr proof) = refl
 
 -- the numbers are those of the expression, where the statement is an assertion or a `$e`
-pub next-bare : (k : Stock) (is_own : Bool) (codes : List ℕ) (s : Stmt) → (is_essential s ≡ true → is_own ≡ true) → has_parts (kind_of s) ≡ true → decode k.names codes ≡ symbols_in s → IsNext k is_own codes (bare s)
+pub next-bare : (k : Stock) (is_own : Bool) (codes : List ℕ) (s : Stmt) → (is_essential s ≡ true → is_own ≡ true) → has_parts (kind_of s) ≡ true → decode (names_in k) codes ≡ symbols_in s → IsNext k is_own codes (bare s)
 next-bare k w codes (stmt.Axiom label expr) l a e = record { own = l; stand = e }
 next-bare k w codes (stmt.Prove label expr proof) l a e = record { own = l; stand = e }
 next-bare k w codes (stmt.Ess label expr) l a e = record { own = l; stand = e }
@@ -111,28 +128,29 @@ next-bare k w codes (stmt.Float label constant variable) l a e = cc
 
 -- the numbers of the symbols, then the parts, then the label: what is kept is the statement
 pub entered-statement : (old mid new : Stock) (codes : List ℕ) (d : Assertion) (h : Head) (s : Stmt) → IsHead old (bare s) h
-    → mid.names ≡ with_names old.names (symbols_by s) → AreNumbersOf mid.names s codes → new.names ≡ mid.names
-    → new.labels ≡ old.labels ++ option_list (label_of s) [] → new.positions.items ≡ old.positions.items ++ option_position (label_of s) (length old.entries + 1) []
+    → mid.numbering ≡ with_symbols old.numbering s → AreNumbersOf (names_in mid) s codes → new.numbering ≡ with_label mid.numbering (label_of s) → new.positions.items ≡ old.positions.items ++ option_position (label_of s) (length old.entries + 1) []
     → (has_parts (kind_of s) ≡ true → IsKeptOf old (bare s) d)
     → Entered old new (bare s) (record { kind = h.kind; label = h.label; names = h.names; links = h.links; symbols = codes; assertion = d })
-entered-statement old mid new codes d h s head made_names numbers same_names labels positions kept =
+entered-statement old mid new codes d h s head with_its_symbols numbers with_its_label positions kept =
+    let numbering : new.numbering ≡ with_statement old.numbering s = with_its_label ∙ ap (λ N. with_label N (label_of s)) with_its_symbols in
+    let same_names : names_in new ≡ names_in mid = ap declared_symbols with_its_label ∙ symbols-with_label mid.numbering (label_of s) in
+    let labels : labels_in new ≡ labels_in old ++ option_list (label_of s) [] = ap declared_labels numbering ∙ labels-with_statement old.numbering s in
     let kind : h.kind ≡ kind_of s = head.kind ∙ kind_of-bare s in
     let same_label = label_of-bare s in
-    let stand : decode new.names codes ≡ symbols_in s = ap (λ ns. decode ns codes) same_names ∙ numbers.stand in
+    let stand : decode (names_in new) codes ≡ symbols_in s = ap (λ ns. decode ns codes) same_names ∙ numbers.stand in
     record {
-      stands = ap (λ q. stmt_by q (name_at new.labels h.label) (decode new.names codes)) kind
-          ∙ (ap (λ n. stmt_by (kind_of s) (name_at new.labels n) (decode new.names codes)) head.label
-          ∙ (ap (λ ls. stmt_by (kind_of s) (name_at ls (length old.labels)) (decode new.names codes)) labels
-          ∙ (ap (stmt_by (kind_of s) (name_at (old.labels ++ option_list (label_of s) []) (length old.labels))) stand ∙ stands-for s old.labels)));
+      stands = ap (λ q. stmt_by q (name_at (labels_in new) h.label) (decode (names_in new) codes)) kind
+          ∙ (ap (λ n. stmt_by (kind_of s) (name_at (labels_in new) n) (decode (names_in new) codes)) head.label
+          ∙ (ap (λ ls. stmt_by (kind_of s) (name_at ls (length (labels_in old))) (decode (names_in new) codes)) labels
+          ∙ (ap (stmt_by (kind_of s) (name_at (labels_in old ++ option_list (label_of s) []) (length (labels_in old)))) stand ∙ stands-for s (labels_in old))));
       symbols = subst (λ ns. AreBelow (length ns) codes) (sym same_names) numbers.below;
-      label = subst (λ q. IsLabelBelow q h.label (length new.labels)) (sym kind)
-          (subst (λ n. IsLabelBelow (kind_of s) n (length new.labels)) (sym head.label)
-          (subst (λ ls. IsLabelBelow (kind_of s) (length old.labels) (length ls)) (sym labels) (label-below s old.labels)));
+      label = subst (λ q. IsLabelBelow q h.label (length (labels_in new))) (sym kind)
+          (subst (λ n. IsLabelBelow (kind_of s) n (length (labels_in new))) (sym head.label)
+          (subst (λ ls. IsLabelBelow (kind_of s) (length (labels_in old)) (length ls)) (sym labels) (label-below s (labels_in old))));
       names_before = head.names;
       labels_before = head.label;
-      two = subst (λ q. HasTwo q codes) (sym kind) (has-two s new.names codes stand);
-      names = same_names ∙ (made_names ∙ ap (with_names old.names) (sym (symbols_by-bare s)));
-      labels = labels ∙ ap (λ o. old.labels ++ option_list o []) (sym same_label);
+      two = subst (λ q. HasTwo q codes) (sym kind) (has-two s (names_in new) codes stand);
+      numbering = numbering ∙ sym (with_statement-bare old.numbering s);
       positions = positions ∙ ap (λ o. old.positions.items ++ option_position o (length old.entries + 1) []) (sym same_label);
       links = head.links;
       kept = λ a. kept (sym (ap has_parts kind) ∙ a);
@@ -150,13 +168,13 @@ not-essential (stmt.Disj names) a e = cc
 not-essential (stmt.Float label constant variable) a e = cc
 
 -- what is kept with each `$e`
-pub essentials-kept : (k : Stock) → AreStored k → (i : ℕ) (x : Entry) → slice_get k.entries i ≡ Some x → is_essential (stmt_of k.names k.labels x) ≡ true
-    → x.assertion.hypotheses ≡ floats_in (take i (statements_of k)) (expr_of (stmt_of k.names k.labels x))
+pub essentials-kept : (k : Stock) → AreStored k → (i : ℕ) (x : Entry) → slice_get k.entries i ≡ Some x → is_essential (stmt_of (names_in k) (labels_in k) x) ≡ true
+    → x.assertion.hypotheses ≡ floats_in (take i (statements_of k)) (expr_of (stmt_of (names_in k) (labels_in k) x))
 essentials-kept k stored i x h e =
-    let kept = stored.parts_kept i x h (by x.kind e) in
-    kept.hypotheses_kept ∙ ap (λ b. kept_with b (take i (statements_of k)) (stmt_of k.names k.labels x)) (kept.own_kept e)
+    let kept = stored.kept.parts_kept i x h (by x.kind e) in
+    kept.hypotheses_kept ∙ ap (λ b. kept_with b (take i (statements_of k)) (stmt_of (names_in k) (labels_in k) x)) (kept.own_kept e)
   where
-    by : (kind : Kind) → is_essential (stmt_by kind (name_at k.labels x.label) (decode k.names x.symbols)) ≡ true → has_parts kind ≡ true
+    by : (kind : Kind) → is_essential (stmt_by kind (name_at (labels_in k) x.label) (decode (names_in k) x.symbols)) ≡ true → has_parts kind ≡ true
     by Ess g = refl
     by Axiom g = refl
     by Prove g = refl

@@ -2,16 +2,20 @@
 use Rattle.std.specs.Prelude.{◌≡◌, ℕ, ◌+◌, List, [], ◌∷◌, ◌++◌, length, slice_get, Some, Result, Ok, Err, OnErr}
 use Rattle.std.proofs.Common.{◌∙◌, ap, sym, subst, append-nil}
 use Rattle.mm_read.specs.declared.stmt.Stmt.{Stmt}
+use Rattle.mm_read.specs.Statements.{Database}
 use Rattle.scope.specs.Legal.{IsLegal}
+use Rattle.scope.specs.Kinds.{declared_symbols, declared_labels}
 use Rattle.entries.specs.declared.kind.Kind.{Kind}
 use Rattle.entries.specs.declared.links.Links.{Links}
 use Rattle.frame.specs.declared.storage.Stock.{Stock}
 use Rattle.frame.specs.declared.storage.Symbol.{Symbol}
 use Rattle.entries.specs.Entries.{Entry}
 use Rattle.frame.specs.Links.{links_of}
+use Rattle.frame.specs.Stored.Naming.{with_statement, naming_of}
 use Rattle.frame.specs.Stored.Whole.{AreStored, Entered}
 use Rattle.frame.specs.Stored.Counts.{Grown, HasRoom, IsBehind, with_declared}
-use Rattle.frame.specs.Stored.EntryMeanings.{ReadsAs, replaced_by, statements_of, symbol_of}
+use Rattle.frame.specs.Stored.EntryMeanings.{names_in, labels_in, ReadsAs, replaced_by, statements_of, symbol_of}
+use Rattle.frame.proofs.NamingLemmas.{naming_of-append, symbols-extend, symbols-with_statement, labels-with_statement, stored-naming}
 use Rattle.frame.proofs.StoredLemmas.{IsPushed}
 use Rattle.frame.proofs.StoredOneMore.{still-reads}
 
@@ -21,9 +25,8 @@ on-err-same (Err e) P p = p
 
 pub grown-behind : (old new : Stock) → Grown old new → IsBehind old new
 grown-behind old new g = record {
-  names = g.names;
+  numbering = g.numbering;
   symbols = g.symbols;
-  labels = g.labels;
   positions = g.positions;
   replaced = ([], ap (λ v. v.items) g.replaced ∙ sym (append-nil old.replaced.items));
   entries = g.entries;
@@ -36,14 +39,15 @@ pub is-pushed : (old new : Stock) (s : Stmt) (e : Entry) (kind : Kind) (codes co
     → ((x : ℕ → Symbol) → ReadsAs read x → replaced' ≡ new.replaced.items ++ replaced_by x kind codes)
     → ((c : ℕ) (x : Symbol) → slice_get new.symbols.items c ≡ Some x → slice_get declared c ≡ Some (with_declared kind codes' at c x)) → length declared ≡ length new.symbols.items
     → entries' ≡ new.entries ++ e ∷ [] → links' ≡ links_of (statements_of old ++ s ∷ [])
-    → IsPushed old.names old.labels old.positions.items old.symbols.items old.replaced.items old.entries old.links
-    new.names new.labels new.positions.items new.symbols.items declared replaced' entries' links' s e
+    → IsPushed (names_in old) (labels_in old) old.positions.items old.symbols.items old.replaced.items old.entries old.links
+    (names_in new) (labels_in new) new.positions.items new.symbols.items declared replaced' entries' links' s e
 is-pushed old new s e kind codes codes' at read declared replaced' entries' links' stored own g room legal of_kind same same' place reads noted each count pushed links =
+    let told = (stored-naming old stored).told in
     let before = subst (λ r. ReadsAs r (symbol_of old.entries)) (sym reads)
-    (still-reads old.names old.labels old.positions.items old.symbols.items old.replaced.items old.entries old.links new.symbols.items stored g.symbols) in
+    (still-reads (names_in old) (labels_in old) old.positions.items old.symbols.items old.replaced.items old.entries old.links new.symbols.items stored.kept g.symbols) in
     record {
-      names_more = g.names;
-      names_made = own.names;
+      names_more = symbols-extend old.numbering new.numbering g.numbering;
+      names_made = ap declared_symbols own.numbering ∙ symbols-with_statement (statements_of old) old.numbering told s legal;
       symbols_more = g.symbols;
       noted = λ c x q. each c x q ∙ (ap (λ m. Some (with_declared kind codes' m c x)) place
           ∙ (ap (λ r. Some (with_declared kind r (length old.entries + 1) c x)) same'
@@ -61,7 +65,7 @@ is-pushed old new s e kind codes codes' at read declared replaced' entries' link
           ∙ (ap (λ r. old.replaced.items ++ replaced_by (symbol_of old.entries) kind r) same
           ∙ ap (λ r. old.replaced.items ++ replaced_by (symbol_of old.entries) r e.symbols) of_kind));
       two = own.two;
-      labels_more = own.labels;
+      labels_more = ap declared_labels own.numbering ∙ labels-with_statement old.numbering s;
       positions_more = own.positions;
       entry_links = own.links;
       entries_more = pushed ∙ ap (λ q. q ++ e ∷ []) g.entries;
@@ -69,3 +73,8 @@ is-pushed old new s e kind codes codes' at read declared replaced' entries' link
       kept = own.kept;
       links_next = links;
     }
+
+-- the numbering is that of the statements, with one more
+pub numbered-pushed : (old new : Stock) (s : Stmt) (e : Entry) (T : Database) → AreStored old → Entered old new s e → T ≡ statements_of old ++ s ∷ [] → new.numbering ≡ naming_of T
+numbered-pushed old new s e T stored own same =
+    own.numbering ∙ (ap (λ N. with_statement N s) stored.numbered ∙ (sym (naming_of-append (statements_of old) s) ∙ ap naming_of (sym same)))

@@ -1,5 +1,5 @@
 -- The mandatory hypotheses of an assertion that keeps its own `$f` alone: with those of the `$e` that are active there.
-use Rattle.std.specs.Prelude.{◌≡◌, ℕ, zero, suc, ◌+◌, ◌-◌, ◌<◌, Bool, true, false, cond, List, [], ◌∷◌, ◌++◌, length, map, filter, take, drop, slice_get, Option, Some, None, IfSome, refl}
+use Rattle.std.specs.Prelude.{◌≡◌, ℕ, zero, suc, ◌+◌, ◌-◌, Bool, true, false, cond, List, [], ◌∷◌, ◌++◌, length, map, filter, take, drop, slice_get, Option, Some, None, IfSome, refl}
 use Rattle.std.proofs.Common.{sym, ◌∙◌, ap, subst, arith, take-take}
 use Rattle.std.proofs.lemmas.List.{take-map, take-append-drop}
 use Rattle.mm_lex.specs.Alphabet.{Name}
@@ -13,9 +13,9 @@ use Rattle.frame.specs.Links.{actives, is_disj}
 use Rattle.frame.specs.Cited.{AreListsOf}
 use Rattle.frame.specs.declared.storage.Stock.{Stock}
 use Rattle.entries.specs.Entries.{Entry, Assertion}
-use Rattle.frame.specs.Stored.EntryMeanings.{stmt_of, statements_of}
+use Rattle.frame.specs.Stored.EntryMeanings.{names_in, labels_in, stmt_of, statements_of}
 use Rattle.frame.specs.Stored.Whole.{AreStored}
-use Rattle.frame.specs.Stored.Hypotheses.{AreHypotheses, IsSpread, Ascends, inserted, option_kept, kept_at, with_all, with_essentials, with_floats, collected}
+use Rattle.frame.specs.Stored.Hypotheses.{AreHypotheses, IsSpread, Ascends, inserted, option_kept, kept_at, with_all, with_essentials, with_floats}
 use Rattle.frame.specs.Stored.AssertionParts.{kept_with, variable_at, symbols_at, groups_by, floats_in, is_float_in}
 use Rattle.frame.specs.Stored.Counts.{AreNumbered}
 use Rattle.frame.proofs.DeclaredSymbolLemmas.{stored-distinct}
@@ -105,47 +105,47 @@ module _ (k : Stock) (a i : ℕ) (s : Stmt) (e : Entry) (stored : AreStored k) (
 
   -- the statement that its entry stands for
   own : Stmt
-  own = stmt_of k.names k.labels e
+  own = stmt_of (names_in k) (labels_in k) e
 
-  at-own : hypotheses (take i S) (stmt_of k.names k.labels e) ≡ hypotheses (take (a - 1) S) s
-  at-own = ap (λ n. hypotheses (take n S) (stmt_of k.names k.labels e)) (sym back) ∙ ap (hypotheses (take (a - 1) S)) t.is
+  at-own : hypotheses (take i S) (stmt_of (names_in k) (labels_in k) e) ≡ hypotheses (take (a - 1) S) s
+  at-own = ap (λ n. hypotheses (take n S) (stmt_of (names_in k) (labels_in k) e)) (sym back) ∙ ap (hypotheses (take (a - 1) S)) t.is
 
   -- where its parts are not whole, its hypotheses are the `$f` of its own variables
-  floats : e.assertion.whole ≡ false → e.assertion.hypotheses ≡ floats_in (take i S) (expr_of (stmt_of k.names k.labels e))
-  floats w = t.kept.hypotheses_kept ∙ ap (λ b. kept_with b (take i S) (stmt_of k.names k.labels e)) w
+  floats : e.assertion.whole ≡ false → e.assertion.hypotheses ≡ floats_in (take i S) (expr_of (stmt_of (names_in k) (labels_in k) e))
+  floats w = t.kept.hypotheses_kept ∙ ap (λ b. kept_with b (take i S) (stmt_of (names_in k) (labels_in k) e)) w
 
   pub mandatory-whole : e.assertion.whole ≡ true → e.assertion.hypotheses ≡ hypotheses (take (a - 1) S) s
-  mandatory-whole w = t.kept.hypotheses_kept ∙ (ap (λ b. kept_with b (take i S) (stmt_of k.names k.labels e)) w ∙ at-own)
+  mandatory-whole w = t.kept.hypotheses_kept ∙ (ap (λ b. kept_with b (take i S) (stmt_of (names_in k) (labels_in k) e)) w ∙ at-own)
 
   pub own-ascends : e.assertion.whole ≡ false → Ascends e.assertion.hypotheses
-  own-ascends w = subst Ascends (sym (floats w)) (ascends-floats_in (take i S) (expr_of (stmt_of k.names k.labels e)))
+  own-ascends w = subst Ascends (sym (floats w)) (ascends-floats_in (take i S) (expr_of (stmt_of (names_in k) (labels_in k) e)))
 
   pub mandatory-own : e.assertion.whole ≡ false → with_essentials k.entries (actives is_essential (take (a - 1) S)) e.assertion.hypotheses ≡ hypotheses (take (a - 1) S) s
   mandatory-own w =
       let x = there-expr k a i s e stored asserts t in
-      let stand : decode k.names e.symbols ≡ expr_of (stmt_of k.names k.labels e) = x.0 ∙ ap expr_of (sym t.is) in
+      let stand : decode (names_in k) e.symbols ≡ expr_of (stmt_of (names_in k) (labels_in k) e) = x.0 ∙ ap expr_of (sym t.is) in
       ap (λ n. with_essentials k.entries (actives is_essential (take n S)) e.assertion.hypotheses) back
       ∙ (ap (with_essentials k.entries (actives is_essential (take i S))) (floats w)
-      ∙ (gathered-hypotheses k.entries k.names k.labels (length k.labels) i (stmt_of k.names k.labels e) e.symbols (stored-distinct k stored) stored.coded stored.legal x.1 stand (essentials-kept k stored) ∙ at-own))
+      ∙ (gathered-hypotheses k.entries (names_in k) (labels_in k) (length (labels_in k)) i (stmt_of (names_in k) (labels_in k) e) e.symbols (stored-distinct k stored) stored.kept.coded stored.kept.legal x.1 stand (essentials-kept k stored) ∙ at-own))
 
   pub mandatory-are : AreHypotheses k.entries (hypotheses (take (a - 1) S) s)
   mandatory-are =
       let few = take (a - 1) k.entries in
-      let is : take (a - 1) S ≡ map (stmt_of k.names k.labels) few = take-map (stmt_of k.names k.labels) (a - 1) k.entries in
+      let is : take (a - 1) S ≡ map (stmt_of (names_in k) (labels_in k)) few = take-map (stmt_of (names_in k) (labels_in k)) (a - 1) k.entries in
       subst (λ D. AreHypotheses k.entries (hypotheses D s)) (sym is)
-      (subst (λ es. AreHypotheses es (hypotheses (map (stmt_of k.names k.labels) few) s)) (take-append-drop (a - 1) k.entries)
-      (grown few (drop (a - 1) k.entries) (hypotheses (map (stmt_of k.names k.labels) few) s) (hypotheses-are k.names k.labels few s)))
+      (subst (λ es. AreHypotheses es (hypotheses (map (stmt_of (names_in k) (labels_in k)) few) s)) (take-append-drop (a - 1) k.entries)
+      (grown few (drop (a - 1) k.entries) (hypotheses (map (stmt_of (names_in k) (labels_in k)) few) s) (hypotheses-are (names_in k) (labels_in k) few s)))
     where
       grown : (es more : List Entry) (ps : List ℕ) → AreHypotheses es ps → AreHypotheses (es ++ more) ps
       grown es more [] h = tt
       grown es more (p ∷ ps) h = ((h.0.0, h.0.1, get-more es more (p - 1) h.0.0 h.0.2, h.0.3), grown es more ps h.1)
 
   -- what is said of its hypotheses, and its groups
-  pub spread-lists : (ps : List ℕ) (d : Assertion) → IsSpread k.entries (take (a - 1) S) ps d → ps ≡ hypotheses (take (a - 1) S) s → AreListsOf S k.names a d s
+  pub spread-lists : (ps : List ℕ) (d : Assertion) → IsSpread k.entries (take (a - 1) S) ps d → ps ≡ hypotheses (take (a - 1) S) s → AreListsOf S (names_in k) a d s
   spread-lists ps d p h =
       there-lists k a i s e d stored asserts t
       (record {
-        hypotheses_kept = p.same ∙ (h ∙ (sym at-own ∙ ap (λ b. kept_with b (take i S) (stmt_of k.names k.labels e)) (sym p.is_whole)));
+        hypotheses_kept = p.same ∙ (h ∙ (sym at-own ∙ ap (λ b. kept_with b (take i S) (stmt_of (names_in k) (labels_in k) e)) (sym p.is_whole)));
         asked_kept = p.described.asked_made;
         heads_kept = p.described.heads_made;
         groups_kept = λ w. p.groups_made ∙ ap (λ n. groups_by (map (variable_at k.entries) d.hypotheses) (map (λ q. symbols_at k.entries q.0) (actives is_disj (take n S)))) back;

@@ -1,5 +1,5 @@
 -- What a legal statement keeps of what stands before it; a constant is never a variable.
-use Rattle.std.specs.Prelude.{◌≡◌, suc, ◌+◌, ◌-◌, Bool, true, false, not, cond, ◌&&◌, ◌||◌, List, [], ◌∷◌, ◌++◌, length, take, Some, None, slice_get, refl}
+use Rattle.std.specs.Prelude.{◌≡◌, suc, ◌-◌, Bool, true, false, not, cond, ◌&&◌, ◌||◌, List, [], ◌∷◌, ◌++◌, length, take, Some, None, slice_get, refl}
 use Rattle.std.specs.List.{list_any, list_all, find}
 use Rattle.std.proofs.Common.{sym, ◌∙◌, ap, subst, arith}
 use Rattle.std.proofs.lemmas.List.Folds.{list_any-append}

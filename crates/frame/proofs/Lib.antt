@@ -12,6 +12,7 @@ pub mod StoredOneMore
 pub mod StoredLemmas
 pub mod StoredTaken
 pub mod StoredReading
+pub mod NamingLemmas
 pub mod ExtendLemmas
 pub mod CutStorage
 pub mod CollectLemmas
@@ -43,3 +44,4 @@ pub mod OneFrameLemmas
 pub mod LabelLemmas
 pub mod PositionLemmas
 mod Rows
+pub mod AddedNumbers

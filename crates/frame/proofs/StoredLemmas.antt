@@ -1,20 +1,21 @@
 -- The storage with one more statement.
-use Rattle.std.specs.Prelude.{◌≡◌, ℕ, ◌+◌, ◌-◌, ◌<◌, ◌≤◌, ◌^◌, true, ◌⊎◌, List, [], ◌∷◌, ◌++◌, length, map, take, slice_get, Some}
+use Rattle.std.specs.Prelude.{◌≡◌, ℕ, ◌+◌, ◌<◌, ◌≤◌, ◌^◌, true, ◌⊎◌, List, [], ◌∷◌, ◌++◌, length, map, take, slice_get, Some}
 use Rattle.std.proofs.Common.{sym, ◌∙◌, ap, subst, arith, inl, inr}
 use Rattle.std.proofs.lemmas.List.{length-map, take-append-le, map_push}
 use Rattle.mm_lex.specs.Alphabet.{Name}
 use Rattle.mm_read.specs.declared.stmt.Stmt.{Stmt}
 use Rattle.mm_read.specs.Statements.{Database}
-use Rattle.scope.specs.Active.{label_of, stays_open, count}
+use Rattle.scope.specs.Active.{label_of, stays_open}
 use Rattle.scope.specs.Legal.{IsLegal}
 use Rattle.names.specs.Codes.{with_names}
-use Rattle.scope.specs.Symbols.{symbols_by, symbols_of}
+use Rattle.scope.specs.Symbols.{symbols_by, symbols_of, labels_of, option_list}
+use Rattle.scope.proofs.NamesLemmas.{symbols_of-append}
 use Rattle.frame.specs.Below.{AreBelow}
 use Rattle.entries.specs.declared.links.Links.{Links}
 use Rattle.entries.specs.Entries.{Entry}
 use Rattle.frame.specs.declared.storage.Symbol.{Symbol}
 use Rattle.frame.specs.Links.{links_of}
-use Rattle.frame.specs.Stored.EntryMeanings.{stmt_of, labels_of, positions_from, option_list, option_position, AreAllLegal, symbol_of, replaced_by, replaced_of, numbered}
+use Rattle.frame.specs.Stored.EntryMeanings.{stmt_of, positions_from, option_position, AreAllLegal, symbol_of, replaced_by, replaced_of}
 use Rattle.frame.specs.Stored.Counts.{IsLabelBelow, HasTwo, AreNumbered, AreZeroBehind, with_entry, KeepsCounts}
 use Rattle.frame.specs.Stored.Whole.{AreKept}
 use Rattle.entries.specs.Stored.Spans.{Extends}
@@ -23,7 +24,6 @@ use Rattle.frame.proofs.DeclareLemmas.{symbol_of-push}
 use Rattle.frame.proofs.UndoLemmas.{replaced_of-push}
 use Rattle.frame.proofs.AssertionLemmas.{kept-more, kept-moved}
 use Rattle.frame.proofs.StoredOneMore.{stmt-more, statements-more, numbered-push, labels_of-push, positions_from-push, take-whole, legal-push, stays-push, numbered-at, still-reads}
-use Rattle.scope.proofs.SymbolNameLemmas.{symbols_of-append}
 use Rattle.entries.proofs.SpanLemmas.{extends-length}
 use Rattle.entries.proofs.BufferPlaceLemmas.{get-push}
 use Rattle.frame.proofs.LabelLemmas.{label-below-at}

@@ -6,21 +6,22 @@ use Rattle.std.proofs.Math.Bool.{and-false}
 use Rattle.std.proofs.lemmas.List.{take-append-le}
 use Rattle.std.proofs.lemmas.Bool.{cases_lt, ltb-true}
 use Rattle.std.proofs.Math.Seq.{take-length}
-use Rattle.mm_lex.specs.Alphabet.{Name, has_name}
+use Rattle.mm_lex.specs.Alphabet.{Name}
 use Rattle.mm_read.specs.declared.stmt.Stmt.{Stmt}
 use Rattle.mm_read.specs.declared.stmt.Stmt.TheVariants as stmt
 use Rattle.mm_read.specs.Statements.{Database}
-use Rattle.scope.specs.Active.{before, label_of, was_label, has_label, stays_open, is_close, is_open, count}
+use Rattle.scope.specs.Active.{before, label_of, stays_open, is_close, is_open, count}
 use Rattle.scope.specs.Legal.{IsLegal}
 use Rattle.scope.specs.declared.rule.Rule.TheVariants.{G10}
 use Rattle.names.specs.Codes.{name_at, decode}
+use Rattle.scope.specs.Symbols.{labels_of, option_list}
 use Rattle.frame.specs.Below.{AreBelow}
 use Rattle.entries.specs.declared.links.Links.{Links}
 use Rattle.entries.specs.declared.kind.Kind.{Kind}
 use Rattle.entries.specs.declared.kind.Kind.TheVariants.{Open, Close, Const, Var, Disj, Float, Ess, Axiom, Prove}
 use Rattle.entries.specs.Entries.{Entry}
 use Rattle.frame.specs.declared.storage.Symbol.{Symbol}
-use Rattle.frame.specs.Stored.EntryMeanings.{stmt_by, stmt_of, labels_of, positions_from, option_list, option_position, AreAllLegal, symbol_of, ReadsAs, floats, declares, second_is, is_float_kind, is_var_kind, last_from}
+use Rattle.frame.specs.Stored.EntryMeanings.{stmt_by, stmt_of, positions_from, option_position, AreAllLegal, symbol_of, ReadsAs, floats, declares, second_is, is_float_kind, is_var_kind, last_from}
 use Rattle.frame.specs.Stored.Counts.{IsLabelBelow, HasTwo, AreNumbered, AreZero, AreZeroBehind, zero_symbol}
 use Rattle.frame.specs.Stored.Whole.{AreKept}
 use Rattle.entries.specs.Stored.Spans.{Extends}
@@ -89,14 +90,6 @@ positions_from-push at (t ∷ S) s =
     by : (o : Option Name) → option_position o at (positions_from (at + 1) S ++ option_position (label_of s) (at + suc (length S)) []) ≡ option_position o at (positions_from (at + 1) S) ++ option_position (label_of s) (at + suc (length S)) []
     by None = refl
     by (Some x) = refl
-
-has-option : (o : Option Name) (x : Name) (ls : List Name) → has_name x (option_list o ls) ≡ (has_label x o || has_name x ls)
-has-option None x ls = refl
-has-option (Some y) x ls = refl
-
-pub has-labels_of : (S : Database) (x : Name) → has_name x (labels_of S) ≡ was_label S x
-has-labels_of [] x = refl
-has-labels_of (s ∷ S) x = has-option (label_of s) x (labels_of S) ∙ ap (λ b. has_label x (label_of s) || b) (has-labels_of S x)
 
 -- ---- the statements
 

@@ -7,13 +7,14 @@ use Rattle.mm_read.specs.declared.stmt.Stmt.{Stmt}
 use Rattle.mm_read.specs.Statements.{Database}
 use Rattle.scope.specs.Active.{stmt_at, label_of, expr_of, is_assertion, was_label, has_label}
 use Rattle.names.specs.Codes.{name_at, decode}
+use Rattle.scope.specs.Symbols.{labels_of, option_list}
 use Rattle.frame.specs.Citations.{is_hypothesis_kind}
 use Rattle.std.proofs.lemmas.Slice.Eq.{bytes_eq-Decides}
 use Rattle.std.proofs.lemmas.Bool.{or_parts}
 use Rattle.entries.specs.declared.kind.Kind.{Kind}
 use Rattle.entries.specs.declared.kind.Kind.TheVariants.{Open, Close, Const, Var, Disj, Float, Ess, Axiom, Prove}
 use Rattle.entries.specs.Entries.{Entry}
-use Rattle.frame.specs.Stored.EntryMeanings.{stmt_by, stmt_of, labels_of, positions_from, option_list, option_position}
+use Rattle.frame.specs.Stored.EntryMeanings.{stmt_by, stmt_of, positions_from, option_position}
 use Rattle.frame.specs.Stored.Counts.{HasTwo, AreNumbered}
 use Rattle.scope.proofs.ActiveLemmas.{place}
 

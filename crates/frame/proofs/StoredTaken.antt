@@ -1,23 +1,23 @@
 -- Legality looks at no proof, and taken back everything is as before.
-use Rattle.std.specs.Prelude.{◌≡◌, ℕ, suc, ◌+◌, ◌-◌, List, [], ◌∷◌, length, map, take, Option, Some, None, refl}
+use Rattle.std.specs.Prelude.{◌≡◌, ℕ, suc, ◌+◌, List, [], ◌∷◌, length, map, take, Option, Some, None, refl}
 use Rattle.std.proofs.Common.{sym, ◌∙◌, ap}
-use Rattle.mm_lex.specs.Alphabet.{Name, has_name}
+use Rattle.mm_lex.specs.Alphabet.{Name}
 use Rattle.mm_read.specs.declared.stmt.Stmt.{Stmt}
 use Rattle.mm_read.specs.declared.stmt.Stmt.TheVariants as stmt
 use Rattle.mm_read.specs.Statements.{Database}
-use Rattle.scope.specs.Active.{bare, label_of, count}
+use Rattle.scope.specs.Active.{bare, label_of}
 use Rattle.scope.specs.Legal.{IsLegal}
-use Rattle.entries.specs.declared.kind.Kind.TheVariants.{Open, Close, Const, Var, Disj, Float, Ess, Axiom, Prove}
+use Rattle.scope.specs.Symbols.{labels_of, option_list}
 use Rattle.frame.specs.declared.storage.Stock.{Stock}
-use Rattle.frame.specs.Stored.EntryMeanings.{stmt_of, labels_of, positions_from, option_list, option_position, statements_of, numbered}
-use Rattle.frame.specs.Stored.Counts.{IsFresh, IsBehind}
-use Rattle.frame.specs.Stored.Whole.{AreStored}
+use Rattle.frame.specs.Stored.EntryMeanings.{names_in, labels_in, stmt_of, positions_from, option_position, statements_of, numbered}
+use Rattle.frame.specs.Stored.Counts.{IsBehind}
+use Rattle.frame.specs.Stored.Naming.{naming_of}
+use Rattle.frame.specs.Stored.Whole.{AreKept, AreStored}
+use Rattle.scope.specs.Kinds.{Declared, declared_symbols, declared_labels}
 use Rattle.frame.proofs.SymbolNumberLemmas.{take-extends}
-use Rattle.frame.proofs.LegalLabels.{fresh}
-use Rattle.frame.proofs.StoredOneMore.{has-labels_of}
 use Rattle.frame.proofs.StoredLemmas.{kept-same}
 
--- ---- legality looks at no proof, and a legal label is new
+-- ---- legality looks at no proof
 pub legal-bare : (S : Database) (s : Stmt) → IsLegal S s → IsLegal S (bare s)
 legal-bare S stmt.Open h = h
 legal-bare S stmt.Close h = h
@@ -28,13 +28,6 @@ legal-bare S (stmt.Float a b c) h = h
 legal-bare S (stmt.Ess a b) h = h
 legal-bare S (stmt.Axiom a b) h = h
 legal-bare S (stmt.Prove a b c) h = h
-
-pub legal-fresh : (labels : List Name) (S : Database) (s : Stmt) → labels ≡ labels_of S → IsLegal S s → IsFresh labels (label_of s)
-legal-fresh labels S s e l = by (label_of s) refl
-  where
-    by : (o : Option Name) → label_of s ≡ o → IsFresh labels o
-    by None h = tt
-    by (Some x) h = ap (has_name x) e ∙ (has-labels_of S x ∙ fresh S s x l h)
 
 -- ---- taken back, everything is as before
 
@@ -49,40 +42,48 @@ length-positions at (s ∷ S) = length-option (label_of s) at (positions_from (a
 -- what was left behind, and what it was cut to
 pub record IsTakenBack (old mid new : Stock) : Type 0 where
   pub behind : IsBehind old mid
-  pub names_cut : new.names ≡ take (length old.names) mid.names
-  pub symbols_cut : new.symbols.items ≡ take (length old.names) mid.symbols.items
-  pub labels_cut : new.labels ≡ take (length old.labels) mid.labels
-  pub positions_cut : new.positions.items ≡ take (length old.labels) mid.positions.items
+  pub numbering_cut : new.numbering ≡ take (length old.numbering) mid.numbering
+  pub symbols_cut : new.symbols.items ≡ take (length (names_in new)) mid.symbols.items
+  pub positions_cut : new.positions.items ≡ take (length (labels_in new)) mid.positions.items
   pub replaced_cut : new.replaced.items ≡ take (length old.replaced.items) mid.replaced.items
   pub entries_cut : new.entries ≡ mid.entries
   pub links_cut : new.links ≡ mid.links
 
-module _ (old mid new : Stock) (k : AreStored old) (t : IsTakenBack old mid new) where
-  back-names : new.names ≡ old.names
-  back-names = t.names_cut ∙ take-extends old.names mid.names t.behind.names
+module _ (old mid new : Stock) (stored : AreStored old) (t : IsTakenBack old mid new) where
+  k : AreKept (names_in old) (labels_in old) old.positions.items old.symbols.items old.replaced.items old.entries old.links
+  k = stored.kept
 
-  back-labels : new.labels ≡ old.labels
-  back-labels = t.labels_cut ∙ take-extends old.labels mid.labels t.behind.labels
+  back-numbering : new.numbering ≡ old.numbering
+  back-numbering = t.numbering_cut ∙ take-extends old.numbering mid.numbering t.behind.numbering
+
+  back-names : names_in new ≡ names_in old
+  back-names = ap declared_symbols back-numbering
+
+  back-labels : labels_in new ≡ labels_in old
+  back-labels = ap declared_labels back-numbering
 
   back-entries : new.entries ≡ old.entries
   back-entries = t.entries_cut ∙ t.behind.entries
 
+  back-statements : statements_of new ≡ statements_of old
+  back-statements =
+      ap (λ es. map (stmt_of (names_in new) (labels_in new)) es) back-entries
+      ∙ ap (λ (N : Declared). map (stmt_of (declared_symbols N) (declared_labels N)) old.entries) back-numbering
+
   pub back-stored : AreStored new
   back-stored =
       let z = t.behind.symbols in
-      let n : length old.labels ≡ length old.positions.items =
-      ap length k.labels_kept ∙ (sym (length-positions 1 (statements_of old)) ∙ ap length (sym k.positions_kept)) in
-      kept-same old.names old.labels old.positions.items old.symbols.items old.replaced.items old.entries old.links
-      new.names new.labels new.positions.items new.symbols.items new.replaced.items new.entries new.links
-      back-names back-labels
-      (t.positions_cut ∙ (ap (λ m. take m mid.positions.items) n ∙ take-extends old.positions.items mid.positions.items t.behind.positions))
-      (t.symbols_cut ∙ (ap (λ m. take m mid.symbols.items) (sym k.count) ∙ take-extends old.symbols.items mid.symbols.items (z.0, z.1)))
-      (t.replaced_cut ∙ take-extends old.replaced.items mid.replaced.items t.behind.replaced)
-      back-entries
-      (t.links_cut ∙ t.behind.links) k
-
-  pub back-numbered : numbered new ≡ numbered old
-  back-numbered =
-      ap (λ es. record { statements = map (stmt_of new.names new.labels) es; names = new.names }) back-entries
-      ∙ (ap (λ ls. record { statements = map (stmt_of new.names ls) old.entries; names = new.names }) back-labels
-      ∙ ap (λ ns. record { statements = map (stmt_of ns old.labels) old.entries; names = ns }) back-names)
+      let symbols : length (names_in new) ≡ length old.symbols.items = ap length back-names ∙ sym k.count in
+      let labels : length (labels_in new) ≡ length old.positions.items =
+      ap length (back-labels ∙ k.labels_kept) ∙ (sym (length-positions 1 (statements_of old)) ∙ ap length (sym k.positions_kept)) in
+      record {
+        kept = kept-same (names_in old) (labels_in old) old.positions.items old.symbols.items old.replaced.items old.entries old.links
+            (names_in new) (labels_in new) new.positions.items new.symbols.items new.replaced.items new.entries new.links
+            back-names back-labels
+            (t.positions_cut ∙ (ap (λ m. take m mid.positions.items) labels ∙ take-extends old.positions.items mid.positions.items t.behind.positions))
+            (t.symbols_cut ∙ (ap (λ m. take m mid.symbols.items) symbols ∙ take-extends old.symbols.items mid.symbols.items (z.0, z.1)))
+            (t.replaced_cut ∙ take-extends old.replaced.items mid.replaced.items t.behind.replaced)
+            back-entries
+            (t.links_cut ∙ t.behind.links) k;
+        numbered = back-numbering ∙ (stored.numbered ∙ ap naming_of (sym back-statements));
+      }

@@ -1,13 +1,21 @@
 -- Numbers and the names that they stand for, as both grow.
-use Rattle.std.specs.Prelude.{◌≡◌, ℕ, ◌<◌, ◌≤◌, List, [], ◌∷◌, ◌++◌, length, take, refl, zero, suc}
+use Rattle.std.specs.Prelude.{◌≡◌, ℕ, ◌<◌, ◌≤◌, List, [], ◌∷◌, ◌++◌, length, take, refl, zero, suc, Bool, true, false, cond, Option, Some, None}
 use Rattle.std.proofs.Common.{sym, ◌∙◌, ap, arith, append_assoc}
 use Rattle.std.proofs.Math.Seq.{take-append_seam}
-use Rattle.mm_lex.specs.Alphabet.{Name}
-use Rattle.names.specs.Codes.{name_at, decode, with_name, with_names}
+use Rattle.std.proofs.lemmas.Bool.{or_left, or_right}
+use Rattle.mm_lex.specs.Alphabet.{Name, name_eq, has_name}
+use Rattle.names.specs.Codes.{name_at, decode}
+use Rattle.names.proofs.CodesLemmas.{name_same}
+use Rattle.scope.specs.Kinds.{Declared, declared_symbols, kind_in, with_kind, with_kinds, is_label_kind, is_symbol_kind}
+use Rattle.scope.specs.declared.numbering.NameKind.{NameKind}
+use Rattle.scope.specs.declared.numbering.NameKind.TheVariants.{Label, Constant, Variable}
+use Rattle.scope.proofs.NamesLemmas.{or_kind, kind_in-with_kinds}
+use Rattle.scope.proofs.SymbolNameLemmas.{names_that-append}
 use Rattle.frame.specs.Below.{AreBelow}
 use Rattle.frame.specs.declared.storage.Symbol.{Symbol}
 use Rattle.entries.specs.Stored.Spans.{Extends}
 use Rattle.frame.specs.Stored.Counts.{AreZero, AreZeroBehind}
+use Rattle.frame.specs.Stored.Naming.{is_declared, AreDeclared, AreNoLabels}
 use Rattle.names.proofs.DistinctLemmas.{name_at-more}
 use Rattle.entries.proofs.SpanLemmas.{extends-length}
 
@@ -66,5 +74,38 @@ stand-step old new words rest codes c x p below e h =
 pub name_at-extends : (names new : List Name) (n : ℕ) → Extends names new → n < length names → name_at new n ≡ name_at names n
 name_at-extends names new n p h = ap (λ r. name_at r n) p.1 ∙ name_at-more names p.0 n h
 
-pub made-step : (names rest words done : List Name) (x : Name) → with_names names words ≡ done → words ≡ x ∷ rest → with_names (with_name names x) rest ≡ done
-made-step names rest words done x h is = ap (with_names names) (sym is) ∙ h
+pub made-step : (names done : Declared) (kind : NameKind) (rest words : List Name) (x : Name) → with_kinds names kind words ≡ done → words ≡ x ∷ rest → with_kinds (with_kind names kind x) kind rest ≡ done
+made-step names done kind rest words x h is = ap (with_kinds names kind) (sym is) ∙ h
+
+-- ---- the numbers of symbols in a numbering
+
+-- a new symbol is the last one
+pub symbols-push : (names : Declared) (x : Name) (kind : NameKind) → is_symbol_kind kind ≡ true → declared_symbols (names ++ (x, kind) ∷ []) ≡ declared_symbols names ++ x ∷ []
+symbols-push names x kind own = names_that-append is_symbol_kind names ((x, kind) ∷ []) ∙ ap (λ b. declared_symbols names ++ cond b (x ∷ []) []) own
+
+-- where the names are no labels, those behind the first are none once it is a symbol
+pub no_labels-rest : (names : Declared) (words rest : List Name) (x : Name) (kind : NameKind) → is_symbol_kind kind ≡ true → AreNoLabels names words → words ≡ x ∷ rest → AreNoLabels (with_kind names kind x) rest
+no_labels-rest names words rest x kind own free is y h =
+    ap is_label_kind (kind_in-with_kinds names y kind (x ∷ []))
+    ∙ or_free (kind_in names y) (has_name y (x ∷ [])) (free y (ap (has_name y) is ∙ or_right (name_eq y x) (has_name y rest) h))
+  where
+    not_label : (k : NameKind) → is_symbol_kind k ≡ true → is_label_kind (Some k) ≡ false
+    not_label Label e = cc
+    not_label Constant e = refl
+    not_label Variable e = refl
+
+    or_free : (k : Option NameKind) (b : Bool) → is_label_kind k ≡ false → is_label_kind (or_kind k b kind) ≡ false
+    or_free (Some k) b e = e
+    or_free None true e = not_label kind own
+    or_free None false e = refl
+
+-- the first of names that are no labels
+pub no_labels-first : (names : Declared) (words rest : List Name) (x : Name) → AreNoLabels names words → words ≡ x ∷ rest → is_label_kind (kind_in names x) ≡ false
+no_labels-first names words rest x free is = free x (ap (has_name x) is ∙ or_left (name_eq x x) (has_name x rest) (name_same x))
+
+-- the first of names that are symbols, and the rest of them
+pub declared-first : (names : Declared) (words rest : List Name) (x : Name) → AreDeclared names words → words ≡ x ∷ rest → is_declared (kind_in names x) ≡ true
+declared-first names words rest x all is = all x (ap (has_name x) is ∙ or_left (name_eq x x) (has_name x rest) (name_same x))
+
+pub declared-rest : (names : Declared) (words rest : List Name) (x : Name) → AreDeclared names words → words ≡ x ∷ rest → AreDeclared names rest
+declared-rest names words rest x all is y h = all y (ap (has_name y) is ∙ or_right (name_eq y x) (has_name y rest) h)

@@ -1,5 +1,5 @@
 -- The constant of an active `$f` is no variable, and a variable that is used has an active `$f`.
-use Rattle.std.specs.Prelude.{◌≡◌, ◌+◌, ◌-◌, Bool, true, false, not, ◌&&◌, ◌||◌, [], ◌∷◌, ◌++◌, refl}
+use Rattle.std.specs.Prelude.{◌≡◌, Bool, true, false, not, ◌&&◌, ◌||◌, [], ◌∷◌, ◌++◌, refl}
 use Rattle.std.specs.List.{list_any}
 use Rattle.std.proofs.Common.{◌∙◌, ap, append_assoc}
 use Rattle.std.proofs.lemmas.List.Folds.{list_any-append}

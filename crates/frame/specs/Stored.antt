@@ -9,4 +9,5 @@ pub mod Drafts
 pub mod OneFrame
 pub mod NumberPlaces
 pub mod Plain
+pub mod Naming
 pub mod Whole

@@ -7,7 +7,7 @@ ghost use Rattle.frame.specs.Below.{AreBelow};
 ghost use Rattle.frame.specs.Disjoint.{are_apart};
 ghost use Rattle.frame.specs.Covers.{are_listed, are_covered, do_share, are_marked, is_variable_apart};
 ghost use Rattle.frame.specs.Stored.Whole.{AreStored};
-ghost use Rattle.frame.specs.Stored.EntryMeanings.{statements_of};
+ghost use Rattle.frame.specs.Stored.EntryMeanings.{names_in, statements_of};
 ghost use Rattle.frame.specs.declared.active_apart.TheConstants.{PLACES};
 
 use crate::at_position::links_at;
@@ -44,11 +44,11 @@ impl<'a> Pairs<'a> {
 #[inline(never)]
 fn is_covered(stock: &Stock, at: usize, left: &[u32], right: &[u32]) -> bool
     requires stored { AreStored stock.now }
-    requires distinct { AreDistinct stock.now.names }
+    requires distinct { AreDistinct (names_in stock.now) }
     requires place { (1 ≤ at) × (at ≤ length (statements_of stock.now)) }
-    requires left { AreBelow (length stock.now.names) left.now }
-    requires right { AreBelow (length stock.now.names) right.now }
-    ensures { result ≡ are_covered (before (statements_of stock.now) at) (decode stock.now.names left.now) (decode stock.now.names right.now) }
+    requires left { AreBelow (length (names_in stock.now)) left.now }
+    requires right { AreBelow (length (names_in stock.now)) right.now }
+    ensures { result ≡ are_covered (before (statements_of stock.now) at) (decode (names_in stock.now) left.now) (decode (names_in stock.now) right.now) }
 {
     let pairs = Pairs { stock, at };
     let mut hints = [0usize; PLACES];

@@ -10,7 +10,7 @@ ghost use Rattle.frame.specs.Cited.{IsCited, IsGathered};
 ghost use Rattle.frame.specs.Stored.Drafts.{IsDraft, drafted};
 ghost use Rattle.frame.specs.Links.{last_active, links_of};
 ghost use Rattle.frame.specs.Stored.Whole.{AreStored};
-ghost use Rattle.frame.specs.Stored.EntryMeanings.{statements_of};
+ghost use Rattle.frame.specs.Stored.EntryMeanings.{names_in, statements_of};
 ghost use Rattle.frame.specs.Stored.Counts.{IsPlain, IsHypothesisAt};
 
 use crate::draft::Draft;
@@ -51,8 +51,8 @@ pub fn is_active_at(stock: &Stock, i: usize, at: usize) -> bool
 pub fn expr_at(stock: &Stock, at: usize) -> &[u32]
     requires stored { AreStored stock.now }
     requires place { (1 ≤ at) × (at ≤ length (statements_of stock.now)) }
-    ensures same { (s : Statement) → stmt_at (statements_of stock.now) at ≡ Some s → decode stock.now.names result.now ≡ expr_of s }
-    ensures codes { AreBelow (length stock.now.names) result.now }
+    ensures same { (s : Statement) → stmt_at (statements_of stock.now) at ≡ Some s → decode (names_in stock.now) result.now ≡ expr_of s }
+    ensures codes { AreBelow (length (names_in stock.now)) result.now }
 {
     let entry = stock.entries.entry(at - 1);
     match entry.kind {
@@ -68,7 +68,7 @@ pub fn expr_at(stock: &Stock, at: usize) -> &[u32]
 pub fn meaning_at(stock: &Stock, at: usize, i: usize) -> Meaning<'_>
     requires stored { AreStored stock.now }
     requires place { (1 ≤ at) × (at ≤ length (statements_of stock.now)) }
-    ensures { IsMeaning (statements_of stock.now) stock.now.names at i result }
+    ensures { IsMeaning (statements_of stock.now) (names_in stock.now) at i result }
 {
     if i == 0 || i >= at {
         return Meaning::Nothing;
@@ -87,7 +87,7 @@ fn hypothesis_at(stock: &Stock, at: usize, i: usize) -> Meaning<'_>
     requires stored { AreStored stock.now }
     requires place { (1 ≤ i) × (i < at) × (at ≤ length (statements_of stock.now)) }
     requires kind { IsHypothesisAt (slice_get (statements_of stock.now) (i - 1)) }
-    ensures { IsMeaning (statements_of stock.now) stock.now.names at i result }
+    ensures { IsMeaning (statements_of stock.now) (names_in stock.now) at i result }
 {
     if is_active_at(stock, i, at) {
         Meaning::Hypothesis(expr_at(stock, i))
@@ -100,7 +100,7 @@ fn hypothesis_at(stock: &Stock, at: usize, i: usize) -> Meaning<'_>
 pub fn cited_at(stock: &Stock, a: usize) -> Option<Cited<'_>>
     requires stored { AreStored stock.now }
     requires assertion { (s : Statement) × HasAssertion (statements_of stock.now) a s }
-    ensures { (s : Statement) → stmt_at (statements_of stock.now) a ≡ Some s → IfSome result (IsCited (statements_of stock.now) stock.now.names a s) }
+    ensures { (s : Statement) → stmt_at (statements_of stock.now) a ≡ Some s → IfSome result (IsCited (statements_of stock.now) (names_in stock.now) a s) }
 {
     stock.entries.cited(a - 1)
 }
@@ -110,8 +110,8 @@ pub fn gathered_at<'a>(stock: &'a Stock, a: usize, draft: &'a Draft) -> Cited<'a
     requires stored { AreStored stock.now }
     requires assertion { (s : Statement) × HasAssertion (statements_of stock.now) a s }
     requires draft { IsDraft draft.now }
-    requires gathered { IsGathered (statements_of stock.now) stock.now.names a (drafted draft.now) }
-    ensures { (s : Statement) → stmt_at (statements_of stock.now) a ≡ Some s → IsCited (statements_of stock.now) stock.now.names a s result }
+    requires gathered { IsGathered (statements_of stock.now) (names_in stock.now) a (drafted draft.now) }
+    ensures { (s : Statement) → stmt_at (statements_of stock.now) a ≡ Some s → IsCited (statements_of stock.now) (names_in stock.now) a s result }
 {
     Cited {
         heads: &draft.heads,

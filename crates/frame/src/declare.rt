@@ -1,8 +1,9 @@
 //! What one more statement changes: the last declarations of symbols, and what is active behind it.
-ghost use Rattle.std.specs.Prelude.{◌≡◌, ℕ, ◌+◌, ◌<◌, ◌≤◌, ◌==◌, ◌++◌, ◌∷◌, [], Some, length, take, slice_get, IfOk, OnOk, OnErr, false, if◌then◌else◌};
+ghost use Rattle.std.specs.Prelude.{◌≡◌, ℕ, ◌+◌, ◌<◌, ◌≤◌, ◌==◌, ◌++◌, ◌∷◌, [], None, Some, length, take, slice_get, IfOk, OnOk, OnErr, false, if◌then◌else◌};
 ghost use Rattle.std.specs.List.{list_any};
-ghost use Rattle.mm_lex.specs.Alphabet.{has_name};
 ghost use Rattle.mm_read.specs.declared.stmt.Stmt.{Stmt as Statement};
+ghost use Rattle.scope.specs.Kinds.{kind_in};
+ghost use Rattle.scope.specs.declared.numbering.NameKind.TheVariants.{Label};
 ghost use Rattle.frame.specs.Below.{AreBelow};
 ghost use Rattle.frame.specs.Links.{links_of};
 ghost use Rattle.frame.specs.declared.storage.Symbol.{Symbol as Declared};
@@ -13,27 +14,28 @@ ghost use Rattle.frame.specs.Stored.Counts.{with_declared, kind_of};
 use crate::at_position::links_at;
 use crate::storage::{Stock, Symbol};
 use entries::{Kind, Links};
-use names::NameTable;
+use scope::{NameKind, Numbering};
 use std::alloc::{AllocError, Global};
 
 /// Gives a label its number and its position.
 pub fn name_label(
     alloc: Global,
-    labels: &mut NameTable,
+    numbering: &mut Numbering,
     positions: &mut Vec<u32>,
     label: &[u8],
     at: u32,
 ) -> Result<(), AllocError>
-    requires { has_name label.now labels.old ≡ false }
-    ensures labels { OnOk result (labels.new ≡ labels.old ++ label.now ∷ []) }
+    requires { kind_in numbering.old label.now ≡ None }
+    ensures numbering { OnOk result (numbering.new ≡ numbering.old ++ (label.now, Label) ∷ []) }
     ensures positions { OnOk result (positions.new.items ≡ positions.old.items ++ at ∷ []) }
-    ensures labels_err { OnErr result (labels.new ≡ labels.old) }
+    ensures numbering_err { OnErr result (numbering.new ≡ numbering.old) }
     ensures positions_err { OnErr result (positions.new.items ≡ positions.old.items) }
 {
-    let number = labels.add(alloc, label)?;
+    let count = numbering.len();
+    numbering.declare(alloc, label, NameKind::Label)?;
     let added = positions.push(at);
     if added.is_err() {
-        labels.truncate(number);
+        numbering.truncate(count);
         return Err(AllocError);
     }
     Ok(())

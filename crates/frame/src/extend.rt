@@ -7,7 +7,7 @@ ghost use Rattle.scope.specs.Symbols.{symbols_by};
 ghost use Rattle.frame.specs.Stored.Whole.{AreNumbersOf, AreStored};
 ghost use Rattle.frame.specs.Stored.Counts.{IsBehind};
 ghost use Rattle.entries.specs.Stored.Spans.{Extends};
-ghost use Rattle.frame.specs.Stored.EntryMeanings.{statements_of};
+ghost use Rattle.frame.specs.Stored.EntryMeanings.{labels_in, names_in, statements_of};
 
 use crate::declare::{declare, links_after};
 use crate::draft::Draft;
@@ -17,11 +17,12 @@ use crate::shape::kind;
 use crate::storage::Stock;
 use crate::undo::{note_replaced, take_away};
 use mm_read::Stmt;
+use scope::Rules;
 use std::alloc::{AllocError, Global};
 
 /// Adds the statement behind the others, with the numbers of its symbols where they were noted. Where a growth is refused,
 /// more may be left behind what was there.
-pub fn extend(
+fn extend(
     alloc: Global,
     stock: &mut Stock,
     draft: &mut Draft,
@@ -30,13 +31,13 @@ pub fn extend(
 ) -> Result<(), AllocError>
     requires stored { AreStored stock.old }
     requires legal { IsLegal (statements_of stock.old) stmt.now }
-    requires noted { IfSome noted (λ numbers. AreNumbersOf (with_names stock.old.names (symbols_by stmt.now)) stmt.now numbers.now) }
+    requires noted { IfSome noted (λ numbers. AreNumbersOf (with_names (names_in stock.old) (symbols_by stmt.now)) stmt.now numbers.now) }
     ensures stored { OnOk result (AreStored stock.new) }
     ensures added { OnOk result (statements_of stock.new ≡ statements_of stock.old ++ bare stmt.now ∷ []) }
-    ensures names { Extends stock.old.names stock.new.names }
+    ensures names { Extends stock.old.numbering stock.new.numbering }
     ensures behind { OnErr result (IsBehind stock.old stock.new) }
 {
-    match plain_numbers(&stock.names, stmt, noted) {
+    match plain_numbers(&stock.numbering, stmt, noted) {
         Some(codes) => extend_plain(alloc, stock, stmt, codes),
         None => extend_drafted(alloc, stock, draft, stmt, noted),
     }
@@ -52,10 +53,10 @@ fn extend_drafted(
 ) -> Result<(), AllocError>
     requires stored { AreStored stock.old }
     requires legal { IsLegal (statements_of stock.old) stmt.now }
-    requires noted { IfSome noted (λ numbers. AreNumbersOf (with_names stock.old.names (symbols_by stmt.now)) stmt.now numbers.now) }
+    requires noted { IfSome noted (λ numbers. AreNumbersOf (with_names (names_in stock.old) (symbols_by stmt.now)) stmt.now numbers.now) }
     ensures stored { OnOk result (AreStored stock.new) }
     ensures added { OnOk result (statements_of stock.new ≡ statements_of stock.old ++ bare stmt.now ∷ []) }
-    ensures names { Extends stock.old.names stock.new.names }
+    ensures names { Extends stock.old.numbering stock.new.numbering }
     ensures behind { OnErr result (IsBehind stock.old stock.new) }
 {
     let at = stock.entries.len() + 1;
@@ -71,20 +72,76 @@ fn extend_drafted(
     Ok(())
 }
 
-/// Takes back what was left behind the first names, labels and replaced declarations.
-pub fn roll_back(stock: &mut Stock, names: usize, labels: usize, replaced: usize)
-    ensures names { stock.new.names ≡ take names stock.old.names }
-    ensures symbols { stock.new.symbols.items ≡ take names stock.old.symbols.items }
-    ensures labels { stock.new.labels ≡ take labels stock.old.labels }
-    ensures positions { stock.new.positions.items ≡ take labels stock.old.positions.items }
+/// Adds the statement behind the others, with the numbers of its symbols where they were noted.
+///
+/// Where a growth is refused, everything is as before.
+pub fn extend_whole(
+    alloc: Global,
+    stock: &mut Stock,
+    draft: &mut Draft,
+    stmt: &Stmt,
+    noted: Option<&[u32]>,
+) -> Result<(), AllocError>
+    requires stored { AreStored stock.old }
+    requires legal { IsLegal (statements_of stock.old) stmt.now }
+    requires noted { IfSome noted (λ numbers. AreNumbersOf (with_names (names_in stock.old) (symbols_by stmt.now)) stmt.now numbers.now) }
+    ensures stored { AreStored stock.new }
+    ensures added { OnOk result (statements_of stock.new ≡ statements_of stock.old ++ bare stmt.now ∷ []) }
+    ensures same { OnErr result (statements_of stock.new ≡ statements_of stock.old) }
+{
+    let names = stock.numbering.len();
+    let replaced = stock.replaced.len();
+    let result = extend(alloc, stock, draft, stmt, noted);
+    if result.is_err() {
+        roll_back(stock, names, replaced);
+    }
+    result
+}
+
+/// Adds the statement behind the others, and has the rules accept it, whose state stands behind the same statements.
+///
+/// Where a growth is refused, everything is as before.
+pub fn add_legal(
+    alloc: Global,
+    stock: &mut Stock,
+    draft: &mut Draft,
+    rules: &mut Rules,
+    stmt: &Stmt,
+    noted: Option<&[u32]>,
+) -> Result<(), AllocError>
+    requires stored { AreStored stock.old }
+    requires same { rules.old.statements ≡ statements_of stock.old }
+    requires legal { IsLegal (statements_of stock.old) stmt.now }
+    requires noted { IfSome noted (λ numbers. AreNumbersOf (with_names (names_in stock.old) (symbols_by stmt.now)) stmt.now numbers.now) }
+    ensures stored { AreStored stock.new }
+    ensures added { OnOk result (statements_of stock.new ≡ statements_of stock.old ++ bare stmt.now ∷ []) }
+    ensures accepted { OnOk result (rules.new.statements ≡ rules.old.statements ++ bare stmt.now ∷ []) }
+    ensures same { OnErr result (statements_of stock.new ≡ statements_of stock.old) }
+    ensures same_rules { OnErr result (rules.new.statements ≡ rules.old.statements) }
+    ensures marked { rules.new.marked ≡ rules.old.marked }
+{
+    let front = stock.entries.len();
+    extend_whole(alloc, stock, draft, stmt, noted)?;
+    let entry = stock.entries.entry(front);
+    let accepted = rules.accept(stmt, entry.symbols);
+    if accepted.is_err() {
+        cut(stock, front);
+    }
+    accepted
+}
+
+/// Takes back what was left behind the first names and replaced declarations.
+fn roll_back(stock: &mut Stock, names: usize, replaced: usize)
+    ensures names { stock.new.numbering ≡ take names stock.old.numbering }
+    ensures symbols { stock.new.symbols.items ≡ take (length (names_in stock.new)) stock.old.symbols.items }
+    ensures positions { stock.new.positions.items ≡ take (length (labels_in stock.new)) stock.old.positions.items }
     ensures replaced { stock.new.replaced.items ≡ take replaced stock.old.replaced.items }
     ensures entries { stock.new.entries ≡ stock.old.entries }
     ensures links { stock.new.links ≡ stock.old.links }
 {
-    stock.names.truncate(names);
-    stock.symbols.truncate(names);
-    stock.labels.truncate(labels);
-    stock.positions.truncate(labels);
+    stock.numbering.truncate(names);
+    stock.symbols.truncate(stock.numbering.symbol_count());
+    stock.positions.truncate(stock.numbering.label_count());
     stock.replaced.truncate(replaced);
 }
 
@@ -95,12 +152,11 @@ pub fn cut(stock: &mut Stock, len: usize)
     requires { AreStored stock.old }
     ensures stored { AreStored stock.new }
     ensures statements { statements_of stock.new ≡ take len (statements_of stock.old) }
-    ensures names { Extends stock.new.names stock.old.names }
+    ensures names { Extends (names_in stock.new) (names_in stock.old) }
 {
     if len < stock.entries.len() {
         let first = stock.entries.entry(len);
-        let names = first.names as usize;
-        let labels = first.label as usize;
+        let names = first.names as usize + first.label as usize;
         let links = first.links;
         take_away(
             &mut stock.symbols,
@@ -109,7 +165,7 @@ pub fn cut(stock: &mut Stock, len: usize)
             len,
         );
         let replaced = stock.replaced.len();
-        roll_back(stock, names, labels, replaced);
+        roll_back(stock, names, replaced);
         stock.links = links;
     }
 }

@@ -1,10 +1,10 @@
 //! The statements of a database by position.
-ghost use Rattle.std.specs.Prelude.{◌≡◌, ℕ, ◌+◌, ◌≤◌, [], ◌∷◌, ◌++◌, Some, IfOk, OnOk, OnErr, IfSome, length, take, option_map};
+ghost use Rattle.std.specs.Prelude.{◌≡◌, ℕ, ◌+◌, ◌≤◌, [], ◌∷◌, ◌++◌, Some, IfOk, IfErr, OnOk, OnErr, IfSome, length, take, option_map};
 ghost use Rattle.mm_read.specs.declared.stmt.Stmt.{Stmt as Statement};
 ghost use Rattle.scope.specs.Active.{bare, before, stmt_at, expr_of, label_of};
-ghost use Rattle.scope.specs.Legal.{IsLegal};
+ghost use Rattle.scope.specs.Legal.{IsLegal, broken_rule};
 ghost use Rattle.names.specs.Codes.{decode, name_at};
-ghost use Rattle.scope.specs.Symbols.{symbols_of, AreOfLast};
+ghost use Rattle.scope.specs.Symbols.{symbols_of};
 ghost use Rattle.frame.specs.Below.{AreBelow};
 ghost use Rattle.frame.specs.FrameOf.{HasAssertion, hypotheses};
 ghost use Rattle.frame.specs.AtPosition.{IsMeaning, IsPosition, ArePositions, AreLegal};
@@ -13,17 +13,17 @@ ghost use Rattle.entries.specs.Stored.Spans.{Extends};
 
 use crate::at_position::{cited_at, expr_at, gathered_at, meaning_at};
 use crate::draft::Draft;
-use crate::extend::{cut, extend, roll_back};
+use crate::extend::{add_legal, cut, extend_whole};
 use crate::gathered::Gathered;
 use crate::hypotheses::{gather_at, label_at, mandatory_at};
 use crate::meaning::Meaning;
 use crate::pairs::Pairs;
 use crate::storage::Stock;
+use crate::symbol_numbers::label_number;
 use entries::{Cited, Entries, Links};
 use mm_lex::Words;
 use mm_read::Stmt;
-use names::NameTable;
-use scope::{Scope, Steps};
+use scope::{Noted, Numbering, Rule, Rules, Scope, Steps};
 use std::alloc::{AllocError, Global};
 use std::marker::Model;
 
@@ -36,6 +36,7 @@ pub struct Frames {
     alloc: Global,
     stock: Stock,
     draft: Draft,
+    noted: Noted,
 }
 
 impl Model for Frames {
@@ -60,8 +61,7 @@ impl Frames {
         Frames {
             alloc,
             stock: Stock {
-                names: NameTable::new(alloc),
-                labels: NameTable::new(alloc),
+                numbering: Numbering::new(alloc),
                 positions: Vec::new(alloc),
                 symbols: Vec::new(alloc),
                 replaced: Vec::new(alloc),
@@ -74,6 +74,7 @@ impl Frames {
                 },
             },
             draft: Draft::new(alloc),
+            noted: Noted::new(alloc),
         }
     }
 
@@ -89,7 +90,7 @@ impl Frames {
     pub fn reserve(&mut self, labels: usize)
         ensures { self.new ≡ self.old }
     {
-        self.stock.labels.reserve(self.alloc, labels);
+        self.stock.numbering.reserve(self.alloc, labels);
         let _ = self.stock.positions.reserve(labels);
     }
 
@@ -105,27 +106,8 @@ impl Frames {
         ensures same { OnErr result (self.new ≡ self.old) }
         ensures counted { steps.new.count ≡ steps.old.count + 1 }
     {
-        self.keep_noted(stmt, None, steps)
-    }
-
-    /// Adds the statement that the scope accepted last, as `keep` does, by the numbers that the scope noted of its
-    /// symbols.
-    pub fn keep_accepted(
-        &mut self,
-        scope: &Scope,
-        stmt: &Stmt,
-        steps: &mut Steps,
-    ) -> Result<(), AllocError>
-        requires last { scope.now.statements ≡ self.old.statements ++ bare stmt.now ∷ [] }
-        requires legal { IsLegal self.old.statements stmt.now }
-        ensures added { OnOk result (self.new.statements ≡ self.old.statements ++ bare stmt.now ∷ []) }
-        ensures names { Extends self.old.names self.new.names }
-        ensures symbols { self.new.names ≡ symbols_of self.new.statements }
-        ensures same { OnErr result (self.new ≡ self.old) }
-        ensures counted { steps.new.count ≡ steps.old.count + 1 }
-    {
-        let noted = scope.symbols();
-        self.keep_noted(stmt, noted, steps)
+        steps.tick();
+        extend_whole(self.alloc, &mut self.stock, &mut self.draft, stmt, None)
     }
 
     /// Adds the statement that the scope accepts next, as `keep` does.
@@ -142,30 +124,44 @@ impl Frames {
         self.keep(stmt, steps)
     }
 
-    /// Adds a statement, by the numbers of its symbols where they were noted.
-    fn keep_noted(
-        &mut self,
-        stmt: &Stmt,
-        noted: Option<&[u32]>,
-        steps: &mut Steps,
-    ) -> Result<(), AllocError>
-        requires legal { IsLegal self.old.statements stmt.now }
-        requires noted { IfSome noted (λ numbers. AreOfLast (self.old.statements ++ bare stmt.now ∷ []) numbers.now) }
+    /// Adds the next statement, where it breaks none of the rules G1 to G10: the rules, whose state stands behind the
+    /// same statements, are lent the numbering, and accept it.
+    ///
+    /// Errors: the least rule that it breaks, or `Memory` where it breaks none; everything is then as before. Cost: the
+    /// statement's own size; one step is counted, whatever is answered.
+    pub fn add(&mut self, rules: &mut Rules, stmt: &Stmt, steps: &mut Steps) -> Result<(), Rule>
+        requires same { rules.old.statements ≡ self.old.statements }
         ensures added { OnOk result (self.new.statements ≡ self.old.statements ++ bare stmt.now ∷ []) }
-        ensures names { Extends self.old.names self.new.names }
-        ensures symbols { self.new.names ≡ symbols_of self.new.statements }
+        ensures accepted { OnOk result (rules.new.statements ≡ rules.old.statements ++ bare stmt.now ∷ []) }
+        ensures legal { OnOk result (IsLegal self.old.statements stmt.now) }
+
+        // A broken rule is answered also where every growth is refused.
+        ensures broken { IfSome (broken_rule self.old.statements stmt.now) (λ rule. result ≡ Err rule) }
+        ensures only_memory { IsLegal self.old.statements stmt.now → IfErr result (λ rule. rule ≡ Rule.Memory) }
         ensures same { OnErr result (self.new ≡ self.old) }
+        ensures same_rules { OnErr result (rules.new.statements ≡ rules.old.statements) }
+        ensures marked { rules.new.marked ≡ rules.old.marked }
         ensures counted { steps.new.count ≡ steps.old.count + 1 }
     {
         steps.tick();
-        let names = self.stock.names.len();
-        let labels = self.stock.labels.len();
-        let replaced = self.stock.replaced.len();
-        let result = extend(self.alloc, &mut self.stock, &mut self.draft, stmt, noted);
-        if result.is_err() {
-            roll_back(&mut self.stock, names, labels, replaced);
+        self.noted.begin();
+        let broken = rules.broken_rule(&self.stock.numbering, self.alloc, stmt, &mut self.noted);
+        if let Some(rule) = broken {
+            return Err(rule);
         }
-        result
+        let noted = self.noted.numbers();
+        let added = add_legal(
+            self.alloc,
+            &mut self.stock,
+            &mut self.draft,
+            rules,
+            stmt,
+            noted,
+        );
+        match added {
+            Ok(()) => Ok(()),
+            Err(AllocError) => Err(Rule::Memory),
+        }
     }
 
     /// Only the first `len` statements stay.
@@ -183,8 +179,8 @@ impl Frames {
     pub fn position(&self, label: &[u8]) -> Option<usize>
         ensures { IsPosition self.now.statements label.now result }
     {
-        let number = self.stock.labels.find(label)?;
-        Some(self.stock.positions[number] as usize)
+        let number = label_number(&self.stock.numbering, label)?;
+        Some(self.stock.positions[number as usize] as usize)
     }
 
     /// The position of the statement with each label.
@@ -284,9 +280,8 @@ impl Frames {
     pub fn symbol(&self, number: u32) -> &[u8]
         ensures { result.now ≡ name_at self.now.names number }
     {
-        let number = number as usize;
-        if number < self.stock.names.len() {
-            self.stock.names.name(number)
+        if (number as usize) < self.stock.numbering.symbol_count() {
+            self.stock.numbering.symbol(number)
         } else {
             &[]
         }

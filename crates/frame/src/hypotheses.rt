@@ -7,7 +7,7 @@ ghost use Rattle.frame.specs.Cited.{IsGathered};
 ghost use Rattle.frame.specs.Stored.Drafts.{IsDraft, drafted};
 ghost use Rattle.frame.specs.Stored.Labels.{is_label_kind};
 ghost use Rattle.frame.specs.Stored.Whole.{AreStored};
-ghost use Rattle.frame.specs.Stored.EntryMeanings.{statements_of};
+ghost use Rattle.frame.specs.Stored.EntryMeanings.{names_in, statements_of};
 
 use crate::draft::Draft;
 use crate::make::spread;
@@ -35,7 +35,7 @@ pub fn mandatory_at(stock: &Stock, a: usize, list: &mut Vec<u32>) -> Result<(), 
 pub fn gather_at(stock: &Stock, a: usize, draft: &mut Draft) -> Result<(), AllocError>
     requires stored { AreStored stock.now }
     requires assertion { (s : Statement) × HasAssertion (statements_of stock.now) a s }
-    ensures gathered { OnOk result (IsGathered (statements_of stock.now) stock.now.names a (drafted draft.new)) }
+    ensures gathered { OnOk result (IsGathered (statements_of stock.now) (names_in stock.now) a (drafted draft.new)) }
     ensures draft { OnOk result (IsDraft draft.new) }
 {
     draft.clear();
@@ -51,7 +51,7 @@ pub fn label_at(stock: &Stock, at: usize) -> Option<&[u8]>
 {
     let entry = stock.entries.entry(at - 1);
     if is_labelled(entry.kind) {
-        Some(stock.labels.name(entry.label as usize))
+        Some(stock.numbering.label(entry.label))
     } else {
         None
     }

@@ -9,7 +9,7 @@ ghost use Rattle.frame.specs.Stored.Whole.{AreStored};
 ghost use Rattle.frame.specs.Stored.Hypotheses.{AreHypotheses, AreParts, IsSpread, collected, with_floats};
 ghost use Rattle.frame.specs.Stored.Counts.{HasTwo};
 ghost use Rattle.frame.specs.Stored.AssertionParts.{asked_at, asked_by, head_at, has_two, variable_at, variable_by, symbols_at, groups_by, placed};
-ghost use Rattle.frame.specs.Stored.EntryMeanings.{statements_of};
+ghost use Rattle.frame.specs.Stored.EntryMeanings.{names_in, statements_of};
 
 use crate::at_position::links_at;
 use crate::draft::Draft;
@@ -179,7 +179,7 @@ pub fn spread(stock: &Stock, at: usize, draft: &mut Draft) -> Result<(), AllocEr
 /// its own variables, or all mandatory hypotheses, where it may keep more than its own and these are few.
 pub fn parts(stock: &Stock, draft: &mut Draft, is_own: bool) -> Result<(), AllocError>
     requires stored { AreStored stock.now }
-    requires codes { AreBelow (length stock.now.names) draft.old.symbols.items }
+    requires codes { AreBelow (length (names_in stock.now)) draft.old.symbols.items }
     requires floats { AreHypotheses stock.now.entries (with_floats stock.now.entries (statements_of stock.now) draft.old.symbols.items []) }
     requires hypotheses { AreHypotheses stock.now.entries (collected stock.now.entries (statements_of stock.now) draft.old.symbols.items) }
     requires partless { IsPartless draft.old }

@@ -5,7 +5,7 @@ ghost use Rattle.frame.specs.Links.{actives};
 ghost use Rattle.frame.specs.Below.{AreBelow};
 ghost use Rattle.frame.specs.Stored.Whole.{AreStored};
 ghost use Rattle.frame.specs.Stored.Hypotheses.{Ascends, IsLooked, inserted, with_all, with_float, with_floats, with_essentials};
-ghost use Rattle.frame.specs.Stored.EntryMeanings.{floats, last_where, statements_of};
+ghost use Rattle.frame.specs.Stored.EntryMeanings.{floats, last_where, names_in, statements_of};
 
 use crate::at_position::{is_active_at, links_at};
 use crate::places::Places;
@@ -50,7 +50,7 @@ fn put_float(
     code: u32,
 ) -> Result<(), AllocError>
     requires stored { AreStored stock.now }
-    requires code { code < length stock.now.names }
+    requires code { code < length (names_in stock.now) }
     requires looked { IsLooked stock.now.entries (statements_of stock.now) looked.old list.old.items }
     ensures list { OnOk result (list.new.items ≡ with_float stock.now.entries (statements_of stock.now) code list.old.items) }
     ensures looked { OnOk result (IsLooked stock.now.entries (statements_of stock.now) looked.new list.new.items) }
@@ -74,7 +74,7 @@ pub fn put_floats(
     codes: &[u32],
 ) -> Result<(), AllocError>
     requires stored { AreStored stock.now }
-    requires codes { AreBelow (length stock.now.names) codes.now }
+    requires codes { AreBelow (length (names_in stock.now)) codes.now }
     requires looked { IsLooked stock.now.entries (statements_of stock.now) looked.old list.old.items }
     ensures list { OnOk result (list.new.items ≡ with_floats stock.now.entries (statements_of stock.now) codes.now list.old.items) }
     ensures looked { OnOk result (IsLooked stock.now.entries (statements_of stock.now) looked.new list.new.items) }

@@ -6,10 +6,11 @@ ghost use Rattle.scope.specs.Active.{active, before, is_variable, separated};
 ghost use Rattle.names.specs.Codes.{name_at, code_of, AreDistinct};
 ghost use Rattle.frame.specs.FrameOf.{is_pair};
 ghost use Rattle.frame.specs.Stored.Whole.{AreStored};
-ghost use Rattle.frame.specs.Stored.EntryMeanings.{statements_of};
+ghost use Rattle.frame.specs.Stored.EntryMeanings.{names_in, statements_of};
 
 use crate::at_position::{is_active_at, links_at};
 use crate::storage::Stock;
+use crate::symbol_numbers::symbol_number;
 use std::marker::Model;
 
 /// The `$d` that are active at a position.
@@ -29,12 +30,12 @@ impl<'a> Model for Pairs<'a> {
     ghost use Rattle.std.specs.Prelude.{◌≤◌, length};
     ghost use Rattle.scope.specs.Active.{before};
     ghost use Rattle.names.specs.Codes.{AreDistinct};
-    ghost use Rattle.frame.specs.Stored.EntryMeanings.{statements_of};
+    ghost use Rattle.frame.specs.Stored.EntryMeanings.{names_in, statements_of};
     ghost use Rattle.frame.specs.Stored.Whole.{AreStored};
 
-    ghost view = { λ a. record { statements = before (statements_of a.stock.now) a.at; names = a.stock.now.names } };
+    ghost view = { λ a. record { statements = before (statements_of a.stock.now) a.at; names = names_in a.stock.now } };
 
-    ghost invariant = { λ a. AreStored a.stock.now × AreDistinct a.stock.now.names × (1 ≤ a.at) × (a.at ≤ length (statements_of a.stock.now)) };
+    ghost invariant = { λ a. AreStored a.stock.now × AreDistinct (names_in a.stock.now) × (1 ≤ a.at) × (a.at ≤ length (statements_of a.stock.now)) };
 }
 
 impl<'a> Pairs<'a> {
@@ -53,10 +54,7 @@ impl<'a> Pairs<'a> {
         ensures number { result ≡ code_of self.now.names name.now }
         ensures unnamed { IfNone result (is_variable self.now.statements name.now ≡ false) }
     {
-        match self.stock.names.find(name) {
-            Some(number) => Some(number as u32),
-            None => None,
-        }
+        symbol_number(&self.stock.numbering, name)
     }
 
     /// Whether x is a variable there.
@@ -75,8 +73,8 @@ impl<'a> Pairs<'a> {
 fn stand_together(stock: &Stock, at: usize, x: u32, y: u32) -> bool
     requires stored { AreStored stock.now }
     requires place { (1 ≤ at) × (at ≤ length (statements_of stock.now)) }
-    requires names { (x < length stock.now.names) × (y < length stock.now.names) × AreDistinct stock.now.names }
-    ensures { result ≡ list_any (λ p. has_name (name_at stock.now.names x) (separated p.1) && has_name (name_at stock.now.names y) (separated p.1)) (active (before (statements_of stock.now) at)) }
+    requires names { (x < length (names_in stock.now)) × (y < length (names_in stock.now)) × AreDistinct (names_in stock.now) }
+    ensures { result ≡ list_any (λ p. has_name (name_at (names_in stock.now) x) (separated p.1) && has_name (name_at (names_in stock.now) y) (separated p.1)) (active (before (statements_of stock.now) at)) }
 {
     let mut last = links_at(stock, at).disjoint;
     while last != 0 {
@@ -111,8 +109,8 @@ fn contains_both(codes: &[u32], x: u32, y: u32) -> bool
 fn is_variable_at(stock: &Stock, at: usize, x: u32) -> bool
     requires stored { AreStored stock.now }
     requires place { (1 ≤ at) × (at ≤ length (statements_of stock.now)) }
-    requires names { (x < length stock.now.names) × AreDistinct stock.now.names }
-    ensures { result ≡ is_variable (before (statements_of stock.now) at) (name_at stock.now.names x) }
+    requires names { (x < length (names_in stock.now)) × AreDistinct (names_in stock.now) }
+    ensures { result ≡ is_variable (before (statements_of stock.now) at) (name_at (names_in stock.now) x) }
 {
     let declared = stock.symbols[x as usize].variable;
     if declared == 0 {
@@ -128,8 +126,8 @@ fn is_variable_at(stock: &Stock, at: usize, x: u32) -> bool
 fn is_listed_at(stock: &Stock, at: usize, x: u32) -> bool
     requires stored { AreStored stock.now }
     requires place { (1 ≤ at) × (at ≤ length (statements_of stock.now)) }
-    requires names { (x < length stock.now.names) × AreDistinct stock.now.names }
-    ensures { result ≡ is_variable (before (statements_of stock.now) at) (name_at stock.now.names x) }
+    requires names { (x < length (names_in stock.now)) × AreDistinct (names_in stock.now) }
+    ensures { result ≡ is_variable (before (statements_of stock.now) at) (name_at (names_in stock.now) x) }
 {
     let mut last = links_at(stock, at).variable;
     while last != 0 {

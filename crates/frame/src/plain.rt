@@ -3,12 +3,13 @@ ghost use Rattle.std.specs.Prelude.{◌≡◌, ◌++◌, ◌∷◌, [], OnOk, On
 ghost use Rattle.scope.specs.Active.{bare};
 ghost use Rattle.scope.specs.Legal.{IsLegal};
 ghost use Rattle.names.specs.Codes.{with_names};
+ghost use Rattle.scope.specs.Kinds.{declared_symbols};
 ghost use Rattle.scope.specs.Symbols.{symbols_by};
 ghost use Rattle.frame.specs.Stored.Plain.{ArePlainNumbers};
 ghost use Rattle.frame.specs.Stored.Whole.{AreNumbersOf, AreStored};
 ghost use Rattle.frame.specs.Stored.Counts.{IsBehind};
 ghost use Rattle.entries.specs.Stored.Spans.{Extends};
-ghost use Rattle.frame.specs.Stored.EntryMeanings.{statements_of};
+ghost use Rattle.frame.specs.Stored.EntryMeanings.{names_in, statements_of};
 
 use crate::declare::{declare, links_after};
 use crate::enter::{enter_label, head};
@@ -16,21 +17,21 @@ use crate::shape::kind;
 use crate::storage::Stock;
 use crate::undo::note_replaced;
 use mm_read::Stmt;
-use names::NameTable;
+use scope::Numbering;
 use std::alloc::{AllocError, Global};
 
 const NOTHING: &[u32] = &[];
 
 /// The numbers of the symbols of a statement that declares nothing and is kept without hypotheses, where they are known.
 pub fn plain_numbers<'a>(
-    names: &NameTable,
+    numbering: &Numbering,
     stmt: &Stmt,
     noted: Option<&'a [u32]>,
 ) -> Option<&'a [u32]>
-    requires { IfSome noted (λ numbers. AreNumbersOf (with_names names.now (symbols_by stmt.now)) stmt.now numbers.now) }
-    ensures { IfSome result (λ numbers. ArePlainNumbers names.now stmt.now numbers.now) }
+    requires { IfSome noted (λ numbers. AreNumbersOf (with_names (declared_symbols numbering.now) (symbols_by stmt.now)) stmt.now numbers.now) }
+    ensures { IfSome result (λ numbers. ArePlainNumbers (declared_symbols numbering.now) stmt.now numbers.now) }
 {
-    let _names = names;
+    let _numbering = numbering;
     match stmt {
         Stmt::Open => Some(NOTHING),
         Stmt::Close => Some(NOTHING),
@@ -53,10 +54,10 @@ pub fn extend_plain(
 ) -> Result<(), AllocError>
     requires stored { AreStored stock.old }
     requires legal { IsLegal (statements_of stock.old) stmt.now }
-    requires plain { ArePlainNumbers stock.old.names stmt.now codes.now }
+    requires plain { ArePlainNumbers (names_in stock.old) stmt.now codes.now }
     ensures stored { OnOk result (AreStored stock.new) }
     ensures added { OnOk result (statements_of stock.new ≡ statements_of stock.old ++ bare stmt.now ∷ []) }
-    ensures names { Extends stock.old.names stock.new.names }
+    ensures names { Extends stock.old.numbering stock.new.numbering }
     ensures behind { OnErr result (IsBehind stock.old stock.new) }
 {
     let at = stock.entries.len() + 1;

@@ -1,6 +1,6 @@
 //! The statements of a database as numbers.
 use entries::{Entries, Links};
-use names::NameTable;
+use scope::Numbering;
 
 /// The last statements that declare a symbol, by position, or 0.
 #[derive(Clone, Copy, Drop)]
@@ -11,13 +11,11 @@ pub struct Symbol {
     pub variable: usize,
 }
 
-/// The statements, the names of their symbols and of their labels in order of first declaration,
-/// the position of each label, the last declarations of each symbol, those that others replaced, and what is active
-/// at the end.
+/// The statements, their symbols and labels by number, the position of each label, the last declarations of each symbol,
+/// those that others replaced, and what is active at the end.
 #[derive(Drop)]
 pub struct Stock {
-    pub names: NameTable,
-    pub labels: NameTable,
+    pub numbering: Numbering,
     pub positions: Vec<u32>,
     pub symbols: Vec<Symbol>,
     /// What each `$f`, and each symbol of each `$v`, replaced in `symbols`, in order.

@@ -39,7 +39,7 @@ shaped-append (s ∷ S) T p q = by (is_shaped s) (λ h. shaped-append S T h q) p
 
 -- ---- judged behind the first statements
 
--- what is broken behind the scope is broken behind the statements
+-- what is broken behind the rules is broken behind the statements
 pub broken-behind : (S F : Database) (front : ℕ) → F ≡ bares (take front S) → first_broken 1 F (drop front S) ≡ first_broken 1 (take front S) (drop front S)
 broken-behind S F front same = first_broken-bares 1 F (take front S) (drop front S) (ap bares same ∙ bares-bares (take front S))
 
@@ -120,9 +120,9 @@ fault-of L T s n (Rule m rule) kept first is = absurd is
 some-none : {A P : Type 0} {x : A} → Some x ≡ None → P
 some-none {x = x} e = absurd (let f : Some x ≡ None = e in cc)
 
--- where a fault was found, nothing is said of where scope and frames stand
-pub placed-fault : (L T : Database) (scope : Accepted) (frames : Numbered) (cause : Cause) → IsFault L T cause → IsPlaced L T scope frames (Some cause)
-placed-fault L T scope frames cause fault = record { judged = fault; scope_is = λ e. some-none e; frames_are = λ e. some-none e; closed = λ e. some-none e }
+-- where a fault was found, nothing is said of where rules and frames stand
+pub placed-fault : (L T : Database) (rules : Accepted) (frames : Numbered) (cause : Cause) → IsFault L T cause → IsPlaced L T rules frames (Some cause)
+placed-fault L T rules frames cause fault = record { judged = fault; rules_are = λ e. some-none e; frames_are = λ e. some-none e; closed = λ e. some-none e }
 
 bares-join : (S old next : Database) (front : ℕ) → old ≡ bares (take front S) → next ≡ old ++ bares (drop front S) → next ≡ bares (take front S ++ drop front S)
 bares-join S old next front before after = after ∙ (ap (λ U. U ++ bares (drop front S)) before ∙ sym (map-append bare (take front S) (drop front S)))
@@ -148,22 +148,22 @@ good-more L T good judged = record { legal = legal-more L T good.legal judged.0;
       | inr q ↦ subst (IsProved (L ++ T)) (sym q.1) (judged.1 q.0 s q.2)
     ]
 
-pub record Extended {E : Type 0} (L T new : Database) (r : Result (Option Cause) E) (scope : Accepted) (frames : Numbered) : Type 0 where
-  pub base : IsBase new scope frames
+pub record Extended {E : Type 0} (L T new : Database) (r : Result (Option Cause) E) (rules : Accepted) (frames : Numbered) : Type 0 where
+  pub base : IsBase new rules frames
   pub judged : IfOk r (λ found. Extends L T found new)
   pub same : OnErr r (new ≡ L)
 
 length-bares : (S : Database) → length (bares S) ≡ length S
 length-bares S = length-map S bare
 
-module _ (L T whole new : Database) (front : ℕ) (scope scope' scope'' : Accepted) (frames frames' frames'' : Numbered) (base : IsBase L scope frames) (shaped : AreShaped T)
-    (is_whole : whole ≡ L ++ T) (is_front : front ≡ length L) (marked : scope'.marked ≡ scope.marked) (begins : Begins frames.statements frames'.statements) where
+module _ (L T whole new : Database) (front : ℕ) (rules rules' rules'' : Accepted) (frames frames' frames'' : Numbered) (base : IsBase L rules frames) (shaped : AreShaped T)
+    (is_whole : whole ≡ L ++ T) (is_front : front ≡ length L) (marked : rules'.marked ≡ rules.marked) (begins : Begins frames.statements frames'.statements) where
   -- what going back leaves
   abbrev pub Back : Type 0
-  Back = (new ≡ take front whole) × (frames''.statements ≡ take front frames'.statements) × (scope''.statements ≡ scope'.marked) × (scope''.marked ≡ scope'.marked)
+  Back = (new ≡ take front whole) × (frames''.statements ≡ take front frames'.statements) × (rules''.statements ≡ rules'.marked) × (rules''.marked ≡ rules'.marked)
 
   abbrev pub Stays : Type 0
-  Stays = (new ≡ whole) × (frames'' ≡ frames') × (scope''.statements ≡ scope'.statements) × (scope''.marked ≡ scope'.statements)
+  Stays = (new ≡ whole) × (frames'' ≡ frames') × (rules''.statements ≡ rules'.statements) × (rules''.marked ≡ rules'.statements)
 
   first-part : take front whole ≡ L
   first-part = ap (λ n. take n whole) is_front ∙ (ap (take (length L)) is_whole ∙ take-append_seam L T)
@@ -171,33 +171,33 @@ module _ (L T whole new : Database) (front : ℕ) (scope scope' scope'' : Accept
   last-part : drop front whole ≡ T
   last-part = ap (λ n. drop n whole) is_front ∙ (ap (drop (length L)) is_whole ∙ drop-append_seam L T)
 
-  back-base : Back → (new ≡ L) × IsBase new scope'' frames''
+  back-base : Back → (new ≡ L) × IsBase new rules'' frames''
   back-base b =
       let same : new ≡ L = b.0 ∙ first-part in
       let cut : take front frames'.statements ≡ bares L =
       ap (take front) (begins.1 ∙ ap (λ U. U ++ begins.0) base.frames_are) ∙ (ap (λ n. take n (bares L ++ begins.0)) (is_front ∙ sym (length-bares L)) ∙ take-append_seam (bares L) begins.0) in (
         same,
-        subst (λ U. IsBase U scope'' frames'') (sym same)
-            (record { shaped = base.shaped; good = base.good; scope_is = b.2 ∙ (marked ∙ base.marked_is); marked_is = b.3 ∙ (marked ∙ base.marked_is); frames_are = b.1 ∙ cut }),
+        subst (λ U. IsBase U rules'' frames'') (sym same)
+            (record { shaped = base.shaped; good = base.good; rules_are = b.2 ∙ (marked ∙ base.marked_is); marked_is = b.3 ∙ (marked ∙ base.marked_is); frames_are = b.1 ∙ cut }),
       )
 
-  placed-here : (found : Option Cause) → IsPlaced (take front whole) (drop front whole) scope' frames' found → IsPlaced L T scope' frames' found
-  placed-here found p = subst (λ U. IsPlaced U T scope' frames' found) first-part (subst (λ U. IsPlaced (take front whole) U scope' frames' found) last-part p)
+  placed-here : (found : Option Cause) → IsPlaced (take front whole) (drop front whole) rules' frames' found → IsPlaced L T rules' frames' found
+  placed-here found p = subst (λ U. IsPlaced U T rules' frames' found) first-part (subst (λ U. IsPlaced (take front whole) U rules' frames' found) last-part p)
 
-  -- a text that was judged stands whole or is gone back from, and scope and frames are those of what stands
-  pub extended : {E : Type 0} (r : Result (Option Cause) E) → IfOk r (λ found. IsPlaced (take front whole) (drop front whole) scope' frames' found) → (r ≡ Ok None → Stays) → ((r ≡ Ok None → ⊥) → Back)
-      → Extended L T new r scope'' frames''
+  -- a text that was judged stands whole or is gone back from, and rules and frames are those of what stands
+  pub extended : {E : Type 0} (r : Result (Option Cause) E) → IfOk r (λ found. IsPlaced (take front whole) (drop front whole) rules' frames' found) → (r ≡ Ok None → Stays) → ((r ≡ Ok None → ⊥) → Back)
+      → Extended L T new r rules'' frames''
   extended (Ok None) placed kept back =
       let k = kept refl in
       let p = placed-here None placed in
       let good = good-more L T base.good p.judged in
       let same : new ≡ L ++ T = k.0 ∙ is_whole in
       record {
-        base = subst (λ U. IsBase U scope'' frames'') (sym same) (record {
+        base = subst (λ U. IsBase U rules'' frames'') (sym same) (record {
           shaped = shaped-append L T base.shaped shaped;
           good = good;
-          scope_is = k.2 ∙ p.scope_is refl;
-          marked_is = k.3 ∙ p.scope_is refl;
+          rules_are = k.2 ∙ p.rules_are refl;
+          marked_is = k.3 ∙ p.rules_are refl;
           frames_are = ap (λ f. f.statements) k.1 ∙ p.frames_are refl;
         });
         judged = (good, same);

@@ -1,5 +1,5 @@
 -- Statements entered one by one: what is left to judge behind those that were taken.
-use Rattle.std.specs.Prelude.{◌≡◌, ℕ, ◌+◌, ◌<◌, ◌≤◌, IsTrue, List, [], ◌∷◌, ◌++◌, length, take, drop, get_or, None, Result, Ok, Err, OnOk, is_err, false}
+use Rattle.std.specs.Prelude.{◌≡◌, ℕ, ◌+◌, ◌<◌, [], ◌∷◌, ◌++◌, length, take, drop, get_or, None, Result, Ok, Err, OnOk, is_err, false}
 use Rattle.std.proofs.Common.{sym, ◌∙◌, ap, append_assoc}
 use Rattle.std.proofs.lemmas.List.{map_more, drop_more}
 use Rattle.mm_read.specs.declared.stmt.Stmt.{Stmt}

@@ -1,6 +1,6 @@
 -- What judging statements behind others finds: the least rule broken, or else the least `$p` that is not proved.
 -- Source: this project's profile; Metamath, 4.2 and appendix B.
--- The code adds the statements to a scope and to frames, and goes back where it finds a fault.
+-- The code adds the statements to the state of the rules and to frames, and goes back where it finds a fault.
 use Rattle.std.specs.Prelude.{◌≡◌, ℕ, ◌+◌, ◌<◌, ◌≤◌, IsTrue, IsFalse, true, false, List, ◌++◌, length, Option, Some, None, Result, Ok, Err, IfOk, IfErr, Vec}
 use Rattle.std.specs.declared.alloc.Global.{Global}
 use Rattle.mm_read.specs.declared.stmt.Stmt.{Stmt}
@@ -53,20 +53,20 @@ IsJudged L T None =
     (first_broken 1 L T ≡ None) × ((n : ℕ) (s : Stmt) → IsProvable T n s → IsProved (L ++ T) (length L + n))
 IsJudged L T (Some cause) = IsFault L T cause
 
--- scope and frames stand behind the statements, which are good and marked
-pub record IsBase (S : Database) (scope : Accepted) (frames : Numbered) : Type 0 where
+-- rules and frames stand behind the statements, which are good and marked
+pub record IsBase (S : Database) (rules : Accepted) (frames : Numbered) : Type 0 where
   pub shaped : AreShaped S
   pub good : Good S
-  pub scope_is : scope.statements ≡ bares S
-  pub marked_is : scope.marked ≡ bares S
+  pub rules_are : rules.statements ≡ bares S
+  pub marked_is : rules.marked ≡ bares S
   pub frames_are : frames.statements ≡ bares S
 
--- behind L the statements T were judged: where they may stand scope and frames stand behind them, and no block is open
-pub record IsPlaced (L T : Database) (scope : Accepted) (frames : Numbered) (found : Option Cause) : Type 0 where
+-- behind L the statements T were judged: where they may stand rules and frames stand behind them, and no block is open
+pub record IsPlaced (L T : Database) (rules : Accepted) (frames : Numbered) (found : Option Cause) : Type 0 where
   pub judged : IsJudged L T found
-  pub scope_is : found ≡ None → scope.statements ≡ bares (L ++ T)
+  pub rules_are : found ≡ None → rules.statements ≡ bares (L ++ T)
   pub frames_are : found ≡ None → frames.statements ≡ bares (L ++ T)
-  pub closed : found ≡ None → IsTrue (is_closed scope.statements)
+  pub closed : found ≡ None → IsTrue (is_closed rules.statements)
 
 -- the statement of that number is not proved, and its tokens decide the cause
 abbrev pub IsUnproved : Stmt → ℕ → Cause → Type 0

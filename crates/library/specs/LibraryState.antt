@@ -1,6 +1,6 @@
 -- What contracts see of a library: its replica, and the count of its steps.
 -- Source: this project's profile.
--- The code has the statements three times: as they were read, as a scope, and as frames.
+-- The code has the statements three times: as they were read, as the state of the rules, and as frames.
 use Rattle.std.specs.Prelude.{◌≡◌, ℕ, ◌+◌, ◌*◌, ◌≤◌, length, Option, Some, None}
 use Rattle.mm_read.specs.Statements.{Database}
 use Rattle.mm_read.specs.Reads.{Reads}

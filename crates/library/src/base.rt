@@ -20,17 +20,17 @@ use frame::Frames;
 use mm_lex::Word;
 use mm_read::Stmt;
 use proof_code::Items;
-use scope::{Scope, Steps};
+use scope::{Rules, Steps};
 use std::alloc::{AllocError, Global};
 use std::marker::Model;
 use verify::Tree;
 
-/// Good statements as they were read, with the scope and the frames behind them. Contracts see the list of statements.
+/// Good statements as they were read, with the rules and the frames behind them. Contracts see the list of statements.
 #[derive(Drop)]
 pub(crate) struct Base {
     alloc: Global,
     statements: Vec<Stmt>,
-    scope: Scope,
+    rules: Rules,
     frames: Frames,
 }
 
@@ -42,7 +42,7 @@ impl Model for Base {
 
     ghost view = { λ a. a.statements.items };
 
-    ghost invariant = { λ a. IsBase a.statements.items a.scope a.frames };
+    ghost invariant = { λ a. IsBase a.statements.items a.rules a.frames };
 }
 
 impl Base {
@@ -53,7 +53,7 @@ impl Base {
         Base {
             alloc,
             statements: Vec::new(alloc),
-            scope: Scope::new(alloc),
+            rules: Rules::new(alloc),
             frames: Frames::new(alloc),
         }
     }
@@ -146,7 +146,7 @@ impl Base {
         append_all(&mut self.statements, more)?;
         let found = judge(
             self.alloc,
-            &mut self.scope,
+            &mut self.rules,
             &mut self.frames,
             &self.statements,
             front,
@@ -155,7 +155,7 @@ impl Base {
         );
         settle(
             &mut self.statements,
-            &mut self.scope,
+            &mut self.rules,
             &mut self.frames,
             front,
             found,
@@ -183,7 +183,7 @@ fn append_all(statements: &mut Vec<Stmt>, mut more: Vec<Stmt>) -> Result<(), All
 /// Errors: a growth was refused. Cost: that of these statements, two steps each.
 fn judge<F: Fn(&Proofs<'_>) -> Result<Option<usize>, AllocError>>(
     alloc: Global,
-    scope: &mut Scope,
+    rules: &mut Rules,
     frames: &mut Frames,
     statements: &[Stmt],
     front: usize,
@@ -194,15 +194,15 @@ fn judge<F: Fn(&Proofs<'_>) -> Result<Option<usize>, AllocError>>(
     requires finds { FindsLeast (FnReturnsAt F.Fn least.now) }
     requires within { front ≤ length statements.now }
     requires shaped { AreShaped (drop front statements.now) }
-    requires scope { scope.old.statements ≡ bares (take front statements.now) }
+    requires rules { rules.old.statements ≡ bares (take front statements.now) }
     requires frames { frames.old.statements ≡ bares (take front statements.now) }
-    ensures placed { IfOk result (IsPlaced (take front statements.now) (drop front statements.now) scope.new frames.new) }
+    ensures placed { IfOk result (IsPlaced (take front statements.now) (drop front statements.now) rules.new frames.new) }
     ensures begins { Begins frames.old.statements frames.new.statements }
-    ensures marked { scope.new.marked ≡ scope.old.marked }
+    ensures marked { rules.new.marked ≡ rules.old.marked }
     ensures counted { steps.new.count ≤ steps.old.count + 2 * length (drop front statements.now) }
 {
-    make_room(scope, frames, &statements[front..]);
-    match enter(scope, frames, &statements[front..], steps)? {
+    make_room(frames, &statements[front..]);
+    match enter(rules, frames, &statements[front..], steps)? {
         None => {}
         Some((statement, rule)) => return Ok(Some(Cause::Rule { statement, rule })),
     }
@@ -227,43 +227,43 @@ fn unproved(statement: &Stmt, number: usize) -> Cause
 /// memory.
 fn settle(
     statements: &mut Vec<Stmt>,
-    scope: &mut Scope,
+    rules: &mut Rules,
     frames: &mut Frames,
     front: usize,
     found: Result<Option<Cause>, AllocError>,
 ) -> Result<Option<Cause>, AllocError>
-    requires closed { found ≡ Ok None → IsTrue (is_closed scope.old.statements) }
+    requires closed { found ≡ Ok None → IsTrue (is_closed rules.old.statements) }
     ensures found { result ≡ found }
     ensures kept { found ≡ Ok None → (statements.new.items ≡ statements.old.items) × (frames.new ≡ frames.old)
-        × (scope.new.statements ≡ scope.old.statements) × (scope.new.marked ≡ scope.old.statements) }
+        × (rules.new.statements ≡ rules.old.statements) × (rules.new.marked ≡ rules.old.statements) }
     ensures back { (found ≡ Ok None → ⊥) → (statements.new.items ≡ take front statements.old.items)
         × (frames.new.statements ≡ take front frames.old.statements)
-        × (scope.new.statements ≡ scope.old.marked) × (scope.new.marked ≡ scope.old.marked) }
+        × (rules.new.statements ≡ rules.old.marked) × (rules.new.marked ≡ rules.old.marked) }
 {
     match found {
         Ok(None) => {
-            scope.mark();
+            rules.mark();
             Ok(None)
         }
         Ok(Some(cause)) => {
-            go_back(statements, scope, frames, front);
+            go_back(statements, rules, frames, front);
             Ok(Some(cause))
         }
         Err(AllocError) => {
-            go_back(statements, scope, frames, front);
+            go_back(statements, rules, frames, front);
             Err(AllocError)
         }
     }
 }
 
 /// Goes back to the marked statements, which are the first `front`. Takes no memory.
-fn go_back(statements: &mut Vec<Stmt>, scope: &mut Scope, frames: &mut Frames, front: usize)
+fn go_back(statements: &mut Vec<Stmt>, rules: &mut Rules, frames: &mut Frames, front: usize)
     ensures statements { statements.new.items ≡ take front statements.old.items }
     ensures frames { frames.new.statements ≡ take front frames.old.statements }
-    ensures scope { scope.new.statements ≡ scope.old.marked }
-    ensures marked { scope.new.marked ≡ scope.old.marked }
+    ensures rules { rules.new.statements ≡ rules.old.marked }
+    ensures marked { rules.new.marked ≡ rules.old.marked }
 {
     statements.truncate(front);
-    scope.back();
+    rules.back();
     frames.shorten(front);
 }

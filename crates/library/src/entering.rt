@@ -1,4 +1,4 @@
-//! The statements of a text behind those that stand: scope and frames take them, up to the first that breaks a rule.
+//! The statements of a text behind those that stand: rules and frames take them, up to the first that breaks a rule.
 ghost use Rattle.std.specs.Prelude.{◌≡◌, ℕ, ◌+◌, ◌*◌, ◌≤◌, ◌∷◌, [], ◌++◌, length, Some, None, IfOk, IfErr, IsTrue, is_some};
 ghost use Rattle.mm_read.specs.Statements.{IsShaped, AreShaped};
 ghost use Rattle.scope.specs.declared.rule.Rule.{Rule as BrokenRule};
@@ -8,19 +8,17 @@ ghost use Rattle.library.specs.Judging.{Begins};
 
 use frame::Frames;
 use mm_read::Stmt;
-use scope::{Rule, Scope, Steps};
+use scope::{Rule, Rules, Steps};
 use std::alloc::AllocError;
 
 /// Makes room for the labels of the statements, where there is memory for it.
-pub(crate) fn make_room(scope: &mut Scope, frames: &mut Frames, statements: &[Stmt])
-    ensures scope { scope.new ≡ scope.old }
-    ensures frames { frames.new ≡ frames.old }
+pub(crate) fn make_room(frames: &mut Frames, statements: &[Stmt])
+    ensures { frames.new ≡ frames.old }
 {
     let labels = statements
         .iter()
         .filter(|statement| has_label(statement))
         .count();
-    scope.reserve(labels);
     frames.reserve(labels);
 }
 
@@ -37,59 +35,56 @@ fn has_label(statement: &Stmt) -> bool
     }
 }
 
-/// Adds the statements to the frames and the scope, up to the first that breaks a rule, and answers its number, counted
+/// Adds the statements to the frames and the rules, up to the first that breaks a rule, and answers its number, counted
 /// from 1, and its least rule. A block that is open at the end breaks G10 one above the last statement.
 ///
 /// Errors: a growth was refused. Cost: that of the statements, two steps each.
 pub(crate) fn enter(
-    scope: &mut Scope,
+    rules: &mut Rules,
     frames: &mut Frames,
     statements: &[Stmt],
     steps: &mut Steps,
 ) -> Result<Option<(usize, Rule)>, AllocError>
     requires shaped { AreShaped statements.now }
-    requires same { frames.old.statements ≡ scope.old.statements }
-    ensures found { IfOk result (λ broken. broken ≡ first_broken 1 scope.old.statements statements.now) }
-    ensures scope { result ≡ Ok None → scope.new.statements ≡ scope.old.statements ++ bares statements.now }
+    requires same { frames.old.statements ≡ rules.old.statements }
+    ensures found { IfOk result (λ broken. broken ≡ first_broken 1 rules.old.statements statements.now) }
+    ensures rules { result ≡ Ok None → rules.new.statements ≡ rules.old.statements ++ bares statements.now }
     ensures frames { result ≡ Ok None → frames.new.statements ≡ frames.old.statements ++ bares statements.now }
-    ensures closed { result ≡ Ok None → IsTrue (is_closed scope.new.statements) }
+    ensures closed { result ≡ Ok None → IsTrue (is_closed rules.new.statements) }
     ensures begins { Begins frames.old.statements frames.new.statements }
-    ensures marked { scope.new.marked ≡ scope.old.marked }
+    ensures marked { rules.new.marked ≡ rules.old.marked }
     ensures counted { steps.new.count ≤ steps.old.count + 2 * length statements.now }
 {
     for (index, statement) in statements.iter().enumerate() {
-        match enter_one(scope, frames, statement, steps)? {
+        match enter_one(rules, frames, statement, steps)? {
             None => {}
             Some(rule) => return Ok(Some((index + 1, rule))),
         }
     }
-    match scope.close_at_end() {
+    match rules.close_at_end() {
         Ok(()) => Ok(None),
         Err(rule) => Ok(Some((statements.len() + 1, rule))),
     }
 }
 
-/// Adds the statement to the frames and the scope, where it breaks no rule.
+/// Adds the statement to the frames and the rules, where it breaks no rule.
 fn enter_one(
-    scope: &mut Scope,
+    rules: &mut Rules,
     frames: &mut Frames,
     statement: &Stmt,
     steps: &mut Steps,
 ) -> Result<Option<Rule>, AllocError>
     requires shaped { IsShaped statement.now }
-    requires same { frames.old.statements ≡ scope.old.statements }
-    ensures found { IfOk result (λ broken. broken ≡ broken_rule scope.old.statements statement.now) }
-    ensures scope { result ≡ Ok None → scope.new.statements ≡ scope.old.statements ++ bare statement.now ∷ [] }
+    requires same { frames.old.statements ≡ rules.old.statements }
+    ensures found { IfOk result (λ broken. broken ≡ broken_rule rules.old.statements statement.now) }
+    ensures rules { result ≡ Ok None → rules.new.statements ≡ rules.old.statements ++ bare statement.now ∷ [] }
     ensures frames { result ≡ Ok None → frames.new.statements ≡ frames.old.statements ++ bare statement.now ∷ [] }
     ensures begins { Begins frames.old.statements frames.new.statements }
-    ensures marked { scope.new.marked ≡ scope.old.marked }
+    ensures marked { rules.new.marked ≡ rules.old.marked }
     ensures counted { steps.new.count ≤ steps.old.count + 2 }
 {
-    match scope.add(statement, steps) {
-        Ok(()) => {
-            frames.keep_accepted(scope, statement, steps)?;
-            Ok(None)
-        }
+    match frames.add(rules, statement, steps) {
+        Ok(()) => Ok(None),
         Err(rule) => {
             if rule == Rule::Memory {
                 return Err(AllocError);

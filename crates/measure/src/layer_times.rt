@@ -8,7 +8,7 @@ ghost use Rattle.frame.specs.FrameOf.{HasAssertion};
 use frame::Frames;
 use mm_lex::Words;
 use mm_read::Stmt;
-use scope::{Scope, Steps};
+use scope::{Rules, Scope, Steps};
 use std::alloc::Global;
 use std::io;
 use std::rt::Clock;
@@ -62,7 +62,7 @@ fn time_statements<R: Clock + Print + Eprint>(
     println!(rt; "statements {count}, legal {legal}, framed {framed}, proved {proved}")?;
     tell(rt, "read", before, parsed)?;
     tell(rt, "scope", parsed, judged)?;
-    tell(rt, "scope and frames", judged, kept)?;
+    tell(rt, "rules and frames", judged, kept)?;
     tell(rt, "all and proofs", kept, verified)
 }
 
@@ -91,26 +91,26 @@ fn count_accepted(scope: &mut Scope, statements: &[Stmt]) -> usize
     legal
 }
 
-/// How many statements a scope accepts and frames keep, up to the first that breaks a rule.
+/// How many statements rules accept and frames keep, up to the first that breaks a rule.
 fn count_framed(alloc: Global, statements: &[Stmt]) -> usize
     requires { AreShaped statements.now }
 {
-    let mut scope = Scope::new(alloc);
+    let mut rules = Rules::new(alloc);
     let mut frames = Frames::new(alloc);
-    let kept = count_kept(&mut scope, &mut frames, statements);
+    let kept = count_kept(&mut rules, &mut frames, statements);
     drop(frames);
-    drop(scope);
+    drop(rules);
     kept
 }
 
-/// The same with a scope and frames that have no statement yet.
-fn count_kept(scope: &mut Scope, frames: &mut Frames, statements: &[Stmt]) -> usize
-    requires same { frames.old.statements ≡ scope.old.statements }
+/// The same with rules and frames that have no statement yet.
+fn count_kept(rules: &mut Rules, frames: &mut Frames, statements: &[Stmt]) -> usize
+    requires same { frames.old.statements ≡ rules.old.statements }
     requires shaped { AreShaped statements.now }
 {
     let mut steps = Steps::new();
     for statement in statements {
-        if !add(scope, frames, statement, &mut steps) {
+        if !add(rules, frames, statement, &mut steps) {
             break;
         }
     }
@@ -121,30 +121,30 @@ fn count_kept(scope: &mut Scope, frames: &mut Frames, statements: &[Stmt]) -> us
 fn count_proved(alloc: Global, statements: &[Stmt]) -> usize
     requires { AreShaped statements.now }
 {
-    let mut scope = Scope::new(alloc);
+    let mut rules = Rules::new(alloc);
     let mut frames = Frames::new(alloc);
     let mut checker = Checker::new(alloc);
-    let right = count_right(&mut scope, &mut frames, &mut checker, statements);
+    let right = count_right(&mut rules, &mut frames, &mut checker, statements);
     drop(checker);
     drop(frames);
-    drop(scope);
+    drop(rules);
     right
 }
 
-/// The same with a scope and frames that have no statement yet, and a checker.
+/// The same with rules and frames that have no statement yet, and a checker.
 fn count_right(
-    scope: &mut Scope,
+    rules: &mut Rules,
     frames: &mut Frames,
     checker: &mut Checker,
     statements: &[Stmt],
 ) -> usize
-    requires same { frames.old.statements ≡ scope.old.statements }
+    requires same { frames.old.statements ≡ rules.old.statements }
     requires shaped { AreShaped statements.now }
 {
     let mut steps = Steps::new();
     let mut proved = 0usize;
     for statement in statements {
-        if !add(scope, frames, statement, &mut steps) {
+        if !add(rules, frames, statement, &mut steps) {
             break;
         }
         if let Stmt::Prove { proof, .. } = statement {
@@ -157,16 +157,13 @@ fn count_right(
 }
 
 /// Whether the statement is legal next, and was added.
-fn add(scope: &mut Scope, frames: &mut Frames, statement: &Stmt, steps: &mut Steps) -> bool
-    requires same { frames.old.statements ≡ scope.old.statements }
+fn add(rules: &mut Rules, frames: &mut Frames, statement: &Stmt, steps: &mut Steps) -> bool
+    requires same { frames.old.statements ≡ rules.old.statements }
     requires shaped { IsShaped statement.now }
-    ensures same { IsTrue result → frames.new.statements ≡ scope.new.statements }
+    ensures same { IsTrue result → frames.new.statements ≡ rules.new.statements }
     ensures added { IsTrue result → frames.new.statements ≡ frames.old.statements ++ bare statement.now ∷ [] }
 {
-    match scope.add(statement, steps) {
-        Ok(()) => frames.keep_accepted(scope, statement, steps).is_ok(),
-        Err(_) => false,
-    }
+    frames.add(rules, statement, steps).is_ok()
 }
 
 /// Whether the proof of the statement that the frames hold last is right.

@@ -66,11 +66,11 @@ impl<V: Value> Due<V> {
     }
 
     /// A restart starts from that record.
-    pub fn load(&mut self, record: Record<V>)
-        ensures { self.new ≡ loads_due self.old record.kept }
+    pub fn load(&mut self, stored: Record<V>)
+        ensures { self.new ≡ loads_due self.old stored.kept }
     {
         if let Work::Restart(_, loaded) = &mut self.work {
-            *loaded = Some(record);
+            *loaded = Some(stored);
         }
     }
 
@@ -126,7 +126,7 @@ pub(crate) fn commit_at<V: Value>(node: &mut NodeCore<V>, work: Work<V>) -> Vec<
         Work::Step(ready) => node.commit(ready),
         Work::Restart(posts, loaded) => {
             match loaded {
-                Some(record) => node.commit_reload(record),
+                Some(stored) => node.commit_reload(stored),
                 None => node.commit_restart(),
             }
             posts

@@ -13,7 +13,7 @@ use Rattle.proof_code.specs.ItemNumbers.{items_of}
 use Rattle.proof_code.specs.Text.{with_number, numbers_from, starts_with_mark}
 use Rattle.proof_code.specs.Writes.{AreItems, starts_with_result, WritesRow}
 use Rattle.proof_code.proofs.LettersLemmas.{number_of-placed}
-use Rattle.proof_code.proofs.NumbersOfRow.{joined, means, begun-none, ReadRow, read_row}
+use Rattle.proof_code.proofs.NumbersOfRow.{joined, begun-none, ReadRow, read_row}
 use Rattle.proof_code.proofs.RowOfNumbers.{RowRead, row_read}
 
 -- ---- the first letter

@@ -1,24 +1,28 @@
 -- What a statement more declares.
-use Rattle.std.specs.Prelude.{◌≡◌, ℕ, ◌+◌, ◌≤◌, Bool, true, false, ◌||◌, List, [], ◌∷◌, ◌++◌, length, Option, Some, None, refl}
+use Rattle.std.specs.Prelude.{◌≡◌, ℕ, Bool, true, false, ◌||◌, List, [], ◌∷◌, ◌++◌, Option, Some, None, refl}
 use Rattle.std.specs.List.{list_any}
-use Rattle.std.proofs.Common.{◌∙◌, ap, sym, subst, arith, true≢false, length-append}
+use Rattle.std.proofs.Common.{◌∙◌, ap, sym, subst, true≢false}
 use Rattle.std.proofs.Math.Bool.{or-false}
-use Rattle.std.proofs.lemmas.List.{length-map}
+use Rattle.std.proofs.lemmas.List.{append-nil}
 use Rattle.std.proofs.lemmas.List.Folds.{list_any-append}
 use Rattle.mm_lex.specs.Alphabet.{Name, name_eq, has_name}
 use Rattle.mm_read.specs.declared.stmt.Stmt.{Stmt}
-use Rattle.mm_read.specs.declared.stmt.Stmt.TheVariants.{Const, Var}
+use Rattle.mm_read.specs.declared.stmt.Stmt.TheVariants.{Open, Close, Const, Var, Disj, Float, Ess, Axiom, Prove}
 use Rattle.mm_read.specs.Statements.{Database}
-use Rattle.scope.specs.Active.{constants, variables, label_of, has_label}
+use Rattle.scope.specs.Active.{bare, constants, variables, label_of, has_label}
+use Rattle.scope.specs.Legal.{broken_rule}
 use Rattle.names.specs.Codes.{with_names}
-use Rattle.scope.specs.Numbering.{names_of, declared_by}
-use Rattle.scope.specs.Kinds.{Declared, declared_names, kind_in, Tells, TellsAll, with_kinds, is_label_kind, is_constant_kind, is_variable_kind}
-use Rattle.scope.specs.Stored.Stacks.{IsMarked}
-use Rattle.scope.specs.declared.stack_heights.StackHeights.{StackHeights}
+use Rattle.scope.specs.Kinds.{Declared, kind_in, Tells, TellsAll, IsNumberingOf, with_kind, with_kinds, is_label_kind, is_constant_kind, is_variable_kind}
+use Rattle.scope.specs.Symbols.{symbols_of, symbols_by, symbols_after, symbols_in, option_list, labels_of}
+use Rattle.scope.specs.Stored.Declares.{declared_with, MayDeclare, IsNotedBy}
+use Rattle.scope.specs.Stored.Noted.{AreNoted}
 use Rattle.scope.specs.declared.numbering.NameKind.{NameKind}
 use Rattle.scope.specs.declared.numbering.NameKind.TheVariants.{Label, Constant, Variable}
 use Rattle.names.proofs.CodesLemmas.{same_name}
-use Rattle.scope.proofs.NamesLemmas.{names_from-append, names_of-later, or_kind, kind_in-with_kinds}
+use Rattle.scope.proofs.NamesLemmas.{or_kind, kind_in-with_kinds, symbols_of-append, labels_of-append}
+use Rattle.scope.proofs.SymbolNameLemmas.{declared_symbols-label, declared_symbols-with_kinds, declared_labels-label, declared_labels-with_kinds}
+use Rattle.scope.proofs.GoingBackLemmas.{all-has, fresh-none, inactive-free}
+use Rattle.scope.proofs.LegalLemmas.{legal-constants, legal-variables, legal-label}
 
 -- ---- what a statement more declares
 
@@ -90,13 +94,95 @@ tells-label S s names l labelled c v fresh told x =
     by (Some k) true p q t = absurd (clash k (sym p ∙ (ap (kind_in names) (same_name x l q) ∙ fresh)))
     by (Some k) false p q t = tells-step S s x (Some k) (Some k) t (ap (λ b. is_label_kind (Some k) || b) (has ∙ q) ∙ or-false (is_label_kind (Some k))) (with_c (Some k)) (with_v (Some k))
 
--- ---- the names of one statement more
+-- ---- the numbering after a legal statement
 
-pub names_of-append : (S : Database) (s : Stmt) → names_of (S ++ s ∷ []) ≡ with_names (names_of S) (declared_by s)
-names_of-append S s = names_from-append [] S (s ∷ [])
+numbering-nothing : (S : Database) (s : Stmt) (names : Declared) → ((x : Name) → has_label x (label_of s) ≡ false) → constants s ≡ [] → variables s ≡ [] → label_of s ≡ None → symbols_by s ≡ [] → IsNumberingOf S names → IsNumberingOf (S ++ s ∷ []) names
+numbering-nothing S s names l c v label by k = record {
+  told = tells-nothing S s names l c v k.told;
+  symbols = k.symbols ∙ sym (symbols_of-append S s ∙ ap (with_names (symbols_of S)) by);
+  labels = k.labels ∙ sym (labels_of-append S s ∙ (ap (λ o. labels_of S ++ option_list o []) label ∙ append-nil (labels_of S)));
+}
 
-pub marked-within : (S M : Database) (names : Declared) (mark : StackHeights) (m : ℕ) → declared_names names ≡ names_of S → IsMarked S M names mark m → m ≤ length names
-marked-within S M names mark m named k =
-    let more = names_of-later M k.later.0 in
-    let all : length names ≡ length (names_of M) + length more.0 = sym (length-map names (λ p. p.0)) ∙ (ap length (named ∙ (ap names_of k.later.1 ∙ more.1)) ∙ length-append (names_of M) more.0) in
-    omega (arith, k.count, all)
+pub numbering-open : (S : Database) (names : Declared) → IsNumberingOf S names → IsNumberingOf (S ++ Open ∷ []) names
+numbering-open S names k = numbering-nothing S Open names (λ x. refl) refl refl refl refl k
+
+pub numbering-close : (S : Database) (names : Declared) → IsNumberingOf S names → IsNumberingOf (S ++ Close ∷ []) names
+numbering-close S names k = numbering-nothing S Close names (λ x. refl) refl refl refl refl k
+
+pub numbering-disjoint : (S : Database) (names : Declared) (xs : List Name) → IsNumberingOf S names → IsNumberingOf (S ++ Disj xs ∷ []) names
+numbering-disjoint S names xs k = numbering-nothing S (Disj xs) names (λ x. refl) refl refl refl refl k
+
+-- the symbols of a legal `$c` are new, and those of a legal `$v` are no labels
+pub constants-free : (S : Database) (names : Declared) (xs : List Name) → broken_rule S (Const xs) ≡ None → TellsAll S names → (x : Name) → has_name x xs ≡ true → kind_in names x ≡ None
+constants-free S names xs legal told x h = fresh-none S names x told (all-has _ x xs (legal-constants S xs legal).0 h)
+
+pub variables-free : (S : Database) (names : Declared) (xs : List Name) → broken_rule S (Var xs) ≡ None → TellsAll S names → (x : Name) → has_name x xs ≡ true → (is_label_kind (kind_in names x) ≡ false) × (is_constant_kind (kind_in names x) ≡ false)
+variables-free S names xs legal told x h = inactive-free S names x told (all-has _ x xs (legal-variables S xs legal).0 h)
+
+pub numbering-constants : (S : Database) (names : Declared) (xs : List Name) → broken_rule S (Const xs) ≡ None → IsNumberingOf S names → IsNumberingOf (S ++ Const xs ∷ []) (with_kinds names Constant xs)
+numbering-constants S names xs legal k =
+    let new = constants-free S names xs legal k.told in
+    record {
+      told = tells-constants S names xs new k.told;
+      symbols = declared_symbols-with_kinds names Constant xs refl (λ x h. ap is_label_kind (new x h)) ∙ (ap (λ ns. with_names ns xs) k.symbols ∙ sym (symbols_of-append S (Const xs)));
+      labels = declared_labels-with_kinds names Constant xs refl ∙ (k.labels ∙ sym (labels_of-append S (Const xs) ∙ append-nil (labels_of S)));
+    }
+
+pub numbering-variables : (S : Database) (names : Declared) (xs : List Name) → broken_rule S (Var xs) ≡ None → IsNumberingOf S names → IsNumberingOf (S ++ Var xs ∷ []) (with_kinds names Variable xs)
+numbering-variables S names xs legal k =
+    let free = variables-free S names xs legal k.told in
+    record {
+      told = tells-variables S names xs free k.told;
+      symbols = declared_symbols-with_kinds names Variable xs refl (λ x h. (free x h).0) ∙ (ap (λ ns. with_names ns xs) k.symbols ∙ sym (symbols_of-append S (Var xs)));
+      labels = declared_labels-with_kinds names Variable xs refl ∙ (k.labels ∙ sym (labels_of-append S (Var xs) ∙ append-nil (labels_of S)));
+    }
+
+-- the label of a legal statement is new
+pub label-free : (S : Database) (names : Declared) (s : Stmt) (l : Name) → label_of s ≡ Some l → broken_rule S s ≡ None → TellsAll S names → kind_in names l ≡ None
+label-free S names s l is legal told = fresh-none S names l told (legal-label S s l is legal)
+
+pub numbering-label : (S : Database) (names : Declared) (s : Stmt) (l : Name) → label_of s ≡ Some l → constants s ≡ [] → variables s ≡ [] → symbols_by s ≡ [] → broken_rule S s ≡ None → IsNumberingOf S names → IsNumberingOf (S ++ s ∷ []) (with_kind names Label l)
+numbering-label S names s l is c v none legal k =
+    let new = label-free S names s l is legal k.told in
+    record {
+      told = tells-label S s names l is c v new k.told;
+      symbols = declared_symbols-label names l ∙ (k.symbols ∙ sym (symbols_of-append S s ∙ ap (with_names (symbols_of S)) none));
+      labels = declared_labels-label names l new ∙ (ap (λ ls. ls ++ l ∷ []) k.labels ∙ sym (labels_of-append S s ∙ ap (λ o. labels_of S ++ option_list o []) is));
+    }
+
+-- ---- by the shape of the statement
+
+pub may-declare : (S : Database) (s : Stmt) (names : Declared) → broken_rule S s ≡ None → TellsAll S names → MayDeclare names s
+may-declare S (Const xs) names legal told = λ x h. ap is_label_kind (constants-free S names xs legal told x h)
+may-declare S (Var xs) names legal told = λ x h. (variables-free S names xs legal told x h).0
+may-declare S (Float label constant variable) names legal told = label-free S names (Float label constant variable) label refl legal told
+may-declare S (Ess label expr) names legal told = label-free S names (Ess label expr) label refl legal told
+may-declare S (Axiom label expr) names legal told = label-free S names (Axiom label expr) label refl legal told
+may-declare S (Prove label expr proof) names legal told = label-free S names (Prove label expr proof) label refl legal told
+may-declare S Open names legal told = tt
+may-declare S Close names legal told = tt
+may-declare S (Disj xs) names legal told = tt
+
+pub numbering-after : (S : Database) (s : Stmt) (names : Declared) → broken_rule S s ≡ None → IsNumberingOf S names → IsNumberingOf (S ++ bare s ∷ []) (declared_with names s)
+numbering-after S (Const xs) names legal k = numbering-constants S names xs legal k
+numbering-after S (Var xs) names legal k = numbering-variables S names xs legal k
+numbering-after S (Float label constant variable) names legal k = numbering-label S names (Float label constant variable) label refl refl refl refl legal k
+numbering-after S (Ess label expr) names legal k = numbering-label S names (Ess label expr) label refl refl refl refl legal k
+numbering-after S (Axiom label expr) names legal k = numbering-label S names (Axiom label expr) label refl refl refl refl legal k
+numbering-after S (Prove label expr proof) names legal k = numbering-label S names (Prove label expr []) label refl refl refl refl legal k
+numbering-after S Open names legal k = numbering-open S names k
+numbering-after S Close names legal k = numbering-close S names k
+numbering-after S (Disj xs) names legal k = numbering-disjoint S names xs k
+
+-- what is noted of a legal statement stands for its symbols
+pub noted-after : (S : Database) (s : Stmt) (names : Declared) (old new : Option (List ℕ)) → broken_rule S s ≡ None → IsNumberingOf S names → IsNotedBy (declared_with names s) s old new
+    → AreNoted (symbols_after S s) (symbols_in s) old → AreNoted (symbols_after S s) (symbols_in s) new
+noted-after S (Const xs) names old new legal k is noted = subst (λ (N : List Name). AreNoted N xs new) ((numbering-constants S names xs legal k).symbols ∙ symbols_of-append S (Const xs)) is
+noted-after S (Var xs) names old new legal k is noted = subst (λ (N : List Name). AreNoted N xs new) ((numbering-variables S names xs legal k).symbols ∙ symbols_of-append S (Var xs)) is
+noted-after S (Float label constant variable) names old new legal k is noted = subst (AreNoted (symbols_of S) (constant ∷ variable ∷ [])) (sym is) noted
+noted-after S (Ess label expr) names old new legal k is noted = subst (AreNoted (symbols_of S) expr) (sym is) noted
+noted-after S (Axiom label expr) names old new legal k is noted = subst (AreNoted (symbols_of S) expr) (sym is) noted
+noted-after S (Prove label expr proof) names old new legal k is noted = subst (AreNoted (symbols_of S) expr) (sym is) noted
+noted-after S Open names old new legal k is noted = subst (AreNoted (symbols_of S) []) (sym is) noted
+noted-after S Close names old new legal k is noted = subst (AreNoted (symbols_of S) []) (sym is) noted
+noted-after S (Disj xs) names old new legal k is noted = subst (AreNoted (symbols_of S) xs) (sym is) noted

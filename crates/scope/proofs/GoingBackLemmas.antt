@@ -1,93 +1,93 @@
 -- Marking, and going back to the mark; what the rules say of the names to be declared.
 use Rattle.std.specs.Prelude.{◌≡◌, ℕ, ◌+◌, ◌==◌, Bool, true, false, not, ◌||◌, ◌&&◌, List, [], ◌∷◌, ◌++◌, length, take, Option, Some, None, is_some, refl}
 use Rattle.std.specs.List.{list_any, list_all, flat_map}
-use Rattle.std.proofs.Common.{◌∙◌, ap, sym, subst, arith, true≢false}
+use Rattle.std.proofs.Common.{◌∙◌, ap, sym, arith, true≢false}
 use Rattle.std.proofs.Math.Bool.{or-false}
-use Rattle.std.proofs.lemmas.List.{append-nil, map-append, take-map, take-take, take_all, take_at, length-map, nil_from_length}
+use Rattle.std.proofs.lemmas.List.{append-nil, map-append, take-map, take_at, nil_from_length}
 use Rattle.std.proofs.lemmas.Grind.{flat_map-append}
 use Rattle.std.proofs.lemmas.Bool.Decides.{nat_tests}
 use Rattle.std.proofs.lemmas.Bool.{and_parts, or_parts, not-true}
 use Rattle.mm_lex.specs.Alphabet.{Name, name_eq, has_name}
 use Rattle.mm_read.specs.declared.stmt.Stmt.{Stmt}
 use Rattle.mm_read.specs.Statements.{Database}
-use Rattle.scope.specs.Active.{stays_open, active_from, active, is_closed, count, variables, typed_by, was_label, was_symbol, is_constant, is_variable}
+use Rattle.scope.specs.Active.{stays_open, active_from, active, is_closed, variables, typed_by, was_label, was_symbol, is_constant, is_variable}
 use Rattle.scope.specs.Legal.{all_different}
 use Rattle.names.specs.Codes.{numbers_in, number_in, AreNamed}
-use Rattle.scope.specs.Numbering.{names_of, can_push}
-use Rattle.scope.specs.Kinds.{Declared, declared_symbols, kind_in, TellsAll, is_label_kind, is_constant_kind}
-use Rattle.scope.specs.Stored.Stacks.{sizes_of, blocks_of, IsKept}
+use Rattle.scope.specs.Symbols.{symbols_of}
+use Rattle.scope.specs.Standing.{stands_at, standing_of}
+use Rattle.scope.specs.declared.standing.Standing.{Standing}
+use Rattle.scope.specs.Kinds.{Declared, kind_in, TellsAll, is_label_kind, is_constant_kind}
+use Rattle.scope.specs.Stored.Stacks.{sizes_of, blocks_of, can_push, IsKept}
 use Rattle.scope.specs.declared.stack_heights.StackHeights.{StackHeights}
 use Rattle.scope.specs.declared.numbering.NameKind.{NameKind}
 use Rattle.scope.proofs.ActiveLemmas.{active_from-later, below-deficit, no_deficit, deficit, deficit-append, left_open}
 use Rattle.scope.proofs.BlocksLemmas.{length-blocks, closed-left}
 use Rattle.names.proofs.AddedNames.{numbers_in-more, has_name-append}
 use Rattle.names.proofs.CodesLemmas.{name_same, same_name}
-use Rattle.scope.proofs.NamesLemmas.{names_of-later, active-named}
+use Rattle.scope.proofs.NamesLemmas.{symbols_of-later, active-named}
 use Rattle.scope.proofs.SortsLemmas.{numbers-has, fresh-kind}
 
 -- ---- marking, and going back to the mark
 
-pub kept-mark : (S M : Database) (names : Declared) (vs ts : List ℕ) (blocks : List StackHeights) (mark sizes : StackHeights) (m n : ℕ) → is_closed S ≡ true → sizes ≡ sizes_of (active S) → n ≡ length names
-    → IsKept S M names vs ts blocks mark m → IsKept S S names vs ts blocks sizes n
-kept-mark S M names vs ts blocks mark sizes m n closed height count k = record {
-  named = k.named;
-  told = k.told;
-  symbols = k.symbols;
+pub kept-mark : (S M : Database) (vs ts : List ℕ) (n : ℕ) (blocks : List StackHeights) (mark sizes : StackHeights) → is_closed S ≡ true → sizes ≡ sizes_of (active S)
+    → IsKept S M vs ts n blocks mark → IsKept S S vs ts n blocks sizes
+kept-mark S M vs ts n blocks mark sizes closed height k = record {
   variables_are = k.variables_are;
   typed_are = k.typed_are;
   typed_known = k.typed_known;
+  standing_is = k.standing_is;
   blocks_are = k.blocks_are;
   never_below = k.never_below;
   marked = record {
     later = ([], sym (append-nil S), refl);
     closed = closed;
     sizes = height;
-    count = count ∙ (sym (length-map names (λ p. p.0)) ∙ ap length k.named);
-    told = subst (λ (ns : Declared). TellsAll S ns) (sym (ap (λ i. take i names) count ∙ take_all (length names) names (omega arith))) k.told;
-    symbols = ap declared_symbols (ap (λ i. take i names) count ∙ take_all (length names) names (omega arith)) ∙ k.symbols;
     typed_known = k.typed_known;
   };
 }
 
-stack-back : (f : ℕ × Stmt → List Name) (S M T : Database) (stack : List ℕ) → S ≡ M ++ T → stays_open 0 T ≡ true → AreNamed (names_of M) (flat_map f (active M))
-    → stack ≡ numbers_in (names_of S) (flat_map f (active S)) → take (length (flat_map f (active M))) stack ≡ numbers_in (names_of M) (flat_map f (active M))
+stack-back : (f : ℕ × Stmt → List Name) (S M T : Database) (stack : List ℕ) → S ≡ M ++ T → stays_open 0 T ≡ true → AreNamed (symbols_of M) (flat_map f (active M))
+    → stack ≡ numbers_in (symbols_of S) (flat_map f (active S)) → take (length (flat_map f (active M))) stack ≡ numbers_in (symbols_of M) (flat_map f (active M))
 stack-back f S M T stack e below known is =
-    let more = names_of-later M T in
+    let more = symbols_of-later M T in
     let A : List Name = flat_map f (active M) in
     let split : flat_map f (active S) ≡ A ++ flat_map f (active_from (1 + length M) T) =
     ap (λ D. flat_map f (active D)) e ∙ (ap (flat_map f) (active_from-later 1 M T below) ∙ flat_map-append f (active M) (active_from (1 + length M) T)) in
     ap (take (length A)) is
-    ∙ (take-map (number_in (names_of S)) (length A) (flat_map f (active S))
-    ∙ (ap (λ r. numbers_in (names_of S) (take (length A) r)) split
-    ∙ (ap (numbers_in (names_of S)) (take_at A (flat_map f (active_from (1 + length M) T)) (length A) refl)
-    ∙ (ap (λ ns. numbers_in ns A) (ap names_of e ∙ more.1) ∙ numbers_in-more (names_of M) more.0 A known))))
+    ∙ (take-map (number_in (symbols_of S)) (length A) (flat_map f (active S))
+    ∙ (ap (λ r. numbers_in (symbols_of S) (take (length A) r)) split
+    ∙ (ap (numbers_in (symbols_of S)) (take_at A (flat_map f (active_from (1 + length M) T)) (length A) refl)
+    ∙ (ap (λ ns. numbers_in ns A) (ap symbols_of e ∙ more.1) ∙ numbers_in-more (symbols_of M) more.0 A known))))
 
-pub kept-back : (S M : Database) (names : Declared) (vs ts : List ℕ) (blocks : List StackHeights) (mark : StackHeights) (m : ℕ) → IsKept S M names vs ts blocks mark m
-    → IsKept M M (take m names) (take mark.variables vs) (take mark.typed ts) [] mark m
-kept-back S M names vs ts blocks mark m k =
+-- what stands at the mark is the first of what stood
+pub standing-back : (S M : Database) (vs ts : List ℕ) (n : ℕ) (blocks : List StackHeights) (mark : StackHeights) → IsKept S M vs ts n blocks mark → take (length (standing_of M)) (standing_of S) ≡ standing_of M
+standing-back S M vs ts n blocks mark k =
+    let f : ℕ × Stmt → List Standing = λ p. stands_at p.0 p.1 in
+    let T = k.marked.later.0 in
+    ap (λ D. take (length (standing_of M)) (standing_of D)) k.marked.later.1
+    ∙ (ap (take (length (standing_of M))) (ap (flat_map f) (active_from-later 1 M T k.marked.later.2) ∙ flat_map-append f (active M) (active_from (1 + length M) T))
+    ∙ take_at (standing_of M) (flat_map f (active_from (1 + length M) T)) (length (standing_of M)) refl)
+
+pub kept-back : (S M : Database) (vs ts : List ℕ) (n : ℕ) (blocks : List StackHeights) (mark : StackHeights) → IsKept S M vs ts n blocks mark
+    → IsKept M M (take mark.variables vs) (take mark.typed ts) mark.standing [] mark
+kept-back S M vs ts n blocks mark k =
     let km = k.marked in
     let T = km.later.0 in
     let e : S ≡ M ++ T = km.later.1 in
     let below : stays_open 0 T ≡ true = km.later.2 in
-    let more = names_of-later M T in
     let never : stays_open 0 M ≡ true = below-deficit 0 M (omega (arith, deficit-append M T (no_deficit T below), ap deficit e, no_deficit S k.never_below)) in
     let none : left_open M ≡ 0 = closed_none M never km.closed in
     record {
-      named = sym (take-map (λ (p : Name × NameKind). p.0) m names) ∙ (ap (take m) (k.named ∙ (ap names_of e ∙ more.1)) ∙ (ap (λ i. take i (names_of M ++ more.0)) km.count ∙ take_at (names_of M) more.0 (length (names_of M)) refl));
-      told = km.told;
-      symbols = km.symbols;
       variables_are = ap (λ z. take z.variables vs) km.sizes ∙ stack-back (λ p. variables p.1) S M T vs e below (active-named M) k.variables_are;
       typed_are = ap (λ z. take z.typed ts) km.sizes ∙ stack-back (λ p. typed_by p.1) S M T ts e below km.typed_known k.typed_are;
       typed_known = km.typed_known;
+      standing_is = ap (λ z. z.standing) km.sizes;
       blocks_are = sym (nil_from_length (blocks_of M) (length-blocks [] 1 M ∙ none));
       never_below = never;
       marked = record {
         later = ([], sym (append-nil M), refl);
         closed = km.closed;
         sizes = km.sizes;
-        count = km.count;
-        told = subst (λ (ns : Declared). TellsAll M ns) (sym (take-take m m names (omega arith))) km.told;
-        symbols = ap declared_symbols (take-take m m names (omega arith)) ∙ km.symbols;
         typed_known = km.typed_known;
       };
     }

@@ -4,6 +4,7 @@ pub mod NamesLemmas
 pub mod SortsLemmas
 pub mod KindCountLemmas
 pub mod SymbolNameLemmas
+pub mod EntryLemmas
 pub mod DeclaredLemmas
 pub mod StackFollows
 pub mod GoingBackLemmas

@@ -1,37 +1,59 @@
--- The names of a list of statements, and their numbers.
-use Rattle.std.specs.Prelude.{◌≡◌, ℕ, ◌+◌, Bool, true, false, cond, ◌||◌, ◌&&◌, List, [], ◌∷◌, ◌++◌, Option, Some, None, is_some, refl}
-use Rattle.std.specs.List.{list_all, flat_map}
+-- The symbols and the labels of a list of statements, and names with kinds.
+use Rattle.std.specs.Prelude.{◌≡◌, ℕ, ◌+◌, Bool, true, false, cond, ◌||◌, List, [], ◌∷◌, ◌++◌, Option, Some, None, is_some, refl}
+use Rattle.std.specs.List.{flat_map}
 use Rattle.std.proofs.Common.{sym, ◌∙◌, ap, true≢false, ◌⊎◌, inl, inr, append_assoc}
-use Rattle.std.proofs.lemmas.List.{append-nil, map-append}
+use Rattle.std.proofs.lemmas.List.{append-nil}
 use Rattle.std.proofs.lemmas.Bool.{or_left, or_right}
 use Rattle.mm_lex.specs.Alphabet.{Name, name_eq, has_name}
 use Rattle.mm_read.specs.declared.stmt.Stmt.{Stmt}
 use Rattle.mm_read.specs.declared.stmt.Stmt.TheVariants.{Open, Close, Const, Var, Disj, Float, Ess, Axiom, Prove}
 use Rattle.mm_read.specs.Statements.{Database}
-use Rattle.scope.specs.Active.{variables, was_variable, active_from, active_variables, stays_open}
-use Rattle.names.specs.Codes.{with_name, with_names, AreNamed}
-use Rattle.scope.specs.Numbering.{names_from, names_of, declared_by}
+use Rattle.scope.specs.Active.{label_of, variables, was_variable, active_from, active_variables, stays_open}
+use Rattle.names.specs.Codes.{with_names, AreNamed, AreDistinct}
+use Rattle.names.proofs.DistinctLemmas.{distinct-with_names}
+use Rattle.scope.specs.Symbols.{symbols_by, symbols_from, symbols_of, option_list, labels_of}
 use Rattle.scope.specs.Kinds.{Declared, declared_names, kind_in, with_kind, with_kinds}
 use Rattle.scope.specs.declared.numbering.NameKind.{NameKind}
-use Rattle.names.proofs.CodesLemmas.{name_same, same_name}
+use Rattle.names.proofs.CodesLemmas.{same_name}
 use Rattle.names.proofs.AddedNames.{or_cases, has_name-append, with_names-more, has-more, has-with_names}
 
--- ---- names are only added at the end
+-- ---- symbols are only added at the end
 
-pub names_from-append : (names : List Name) (S T : Database) → names_from names (S ++ T) ≡ names_from (names_from names S) T
-names_from-append names [] T = refl
-names_from-append names (s ∷ S) T = names_from-append (with_names names (declared_by s)) S T
+pub symbols_from-append : (symbols : List Name) (S T : Database) → symbols_from symbols (S ++ T) ≡ symbols_from (symbols_from symbols S) T
+symbols_from-append symbols [] T = refl
+symbols_from-append symbols (s ∷ S) T = symbols_from-append (with_names symbols (symbols_by s)) S T
 
-pub names_from-more : (names : List Name) (S : Database) → (more : List Name) × (names_from names S ≡ names ++ more)
-names_from-more names [] = ([], sym (append-nil names))
-names_from-more names (s ∷ S) =
-    let one = with_names-more names (declared_by s) in
-    let rest = names_from-more (with_names names (declared_by s)) S in
-    (one.0 ++ rest.0, rest.1 ∙ (ap (λ ns. ns ++ rest.0) one.1 ∙ append_assoc names one.0 rest.0))
+pub symbols_of-append : (S : Database) (s : Stmt) → symbols_of (S ++ s ∷ []) ≡ with_names (symbols_of S) (symbols_by s)
+symbols_of-append S s = symbols_from-append [] S (s ∷ [])
 
--- the later names
-pub names_of-later : (S T : Database) → (more : List Name) × (names_of (S ++ T) ≡ names_of S ++ more)
-names_of-later S T = let rest = names_from-more (names_of S) T in (rest.0, names_from-append [] S T ∙ rest.1)
+symbols_from-more : (symbols : List Name) (S : Database) → (more : List Name) × (symbols_from symbols S ≡ symbols ++ more)
+symbols_from-more symbols [] = ([], sym (append-nil symbols))
+symbols_from-more symbols (s ∷ S) =
+    let one = with_names-more symbols (symbols_by s) in
+    let rest = symbols_from-more (with_names symbols (symbols_by s)) S in
+    (one.0 ++ rest.0, rest.1 ∙ (ap (λ ns. ns ++ rest.0) one.1 ∙ append_assoc symbols one.0 rest.0))
+
+-- the later symbols
+pub symbols_of-later : (S T : Database) → (more : List Name) × (symbols_of (S ++ T) ≡ symbols_of S ++ more)
+symbols_of-later S T = let rest = symbols_from-more (symbols_of S) T in (rest.0, symbols_from-append [] S T ∙ rest.1)
+
+-- no symbol stands twice
+pub symbols-distinct : (S : Database) → AreDistinct (symbols_of S)
+symbols-distinct S = by [] S tt
+  where
+    by : (symbols : List Name) (S : Database) → AreDistinct symbols → AreDistinct (symbols_from symbols S)
+    by symbols [] d = d
+    by symbols (s ∷ S) d = by (with_names symbols (symbols_by s)) S (distinct-with_names symbols (symbols_by s) d)
+
+-- ---- labels are only added at the end
+
+pub labels_of-append : (S : Database) (s : Stmt) → labels_of (S ++ s ∷ []) ≡ labels_of S ++ option_list (label_of s) []
+labels_of-append [] s = refl
+labels_of-append (t ∷ S) s = ap (option_list (label_of t)) (labels_of-append S s) ∙ by (label_of t)
+  where
+    by : (l : Option Name) → option_list l (labels_of S ++ option_list (label_of s) []) ≡ option_list l (labels_of S) ++ option_list (label_of s) []
+    by None = refl
+    by (Some l) = refl
 
 -- ---- what is active was declared
 
@@ -54,7 +76,7 @@ active-was at (s ∷ S) x h = by (stays_open 0 S) h (active-was (at + 1) S x)
     by false k rest = first (inr (rest k))
 
 -- the names of a `$v` are declared by it
-declares : (s : Stmt) (x : Name) → has_name x (variables s) ≡ true → has_name x (declared_by s) ≡ true
+declares : (s : Stmt) (x : Name) → has_name x (variables s) ≡ true → has_name x (symbols_by s) ≡ true
 declares (Var names) x h = h
 declares Open x h = cc
 declares Close x h = cc
@@ -65,16 +87,16 @@ declares (Ess label expr) x h = cc
 declares (Axiom label expr) x h = cc
 declares (Prove label expr proof) x h = cc
 
-pub was-named : (names : List Name) (S : Database) (x : Name) → was_variable S x ≡ true → has_name x (names_from names S) ≡ true
+was-named : (names : List Name) (S : Database) (x : Name) → was_variable S x ≡ true → has_name x (symbols_from names S) ≡ true
 was-named names [] x h = cc
 was-named names (s ∷ S) x h = elim (or_cases (has_name x (variables s)) (was_variable S x) h) [
-  | inl k ↦ let rest = names_from-more (with_names names (declared_by s)) S in
-      ap (has_name x) rest.1 ∙ has-more x (with_names names (declared_by s)) rest.0 (has-with_names x names (declared_by s) (declares s x k))
-  | inr k ↦ was-named (with_names names (declared_by s)) S x k
+  | inl k ↦ let rest = symbols_from-more (with_names names (symbols_by s)) S in
+      ap (has_name x) rest.1 ∙ has-more x (with_names names (symbols_by s)) rest.0 (has-with_names x names (symbols_by s) (declares s x k))
+  | inr k ↦ was-named (with_names names (symbols_by s)) S x k
 ]
 
 -- the active variables have numbers
-pub active-named : (S : Database) → AreNamed (names_of S) (active_variables S)
+pub active-named : (S : Database) → AreNamed (symbols_of S) (active_variables S)
 active-named S x h = was-named [] S x (active-was 1 S x h)
 
 -- ---- names with kinds
@@ -86,19 +108,6 @@ kind-has (p ∷ names) x = by (name_eq x p.0) (kind-has names x)
     by : (b : Bool) → is_some (kind_in names x) ≡ has_name x (declared_names names) → is_some (cond b (Some p.1) (kind_in names x)) ≡ (b || has_name x (declared_names names))
     by true e = refl
     by false e = e
-
-declared_names-with_kind : (names : Declared) (kind : NameKind) (x : Name) → declared_names (with_kind names kind x) ≡ with_name (declared_names names) x
-declared_names-with_kind names kind x =
-    ap (λ b. declared_names (cond b names (names ++ (x, kind) ∷ []))) (kind-has names x) ∙ by (has_name x (declared_names names))
-  where
-    by : (b : Bool) → declared_names (cond b names (names ++ (x, kind) ∷ [])) ≡ cond b (declared_names names) (declared_names names ++ x ∷ [])
-    by true = refl
-    by false = map-append (λ (p : Name × NameKind). p.0) names ((x, kind) ∷ [])
-
-pub declared_names-with_kinds : (names : Declared) (kind : NameKind) (xs : List Name) → declared_names (with_kinds names kind xs) ≡ with_names (declared_names names) xs
-declared_names-with_kinds names kind [] = refl
-declared_names-with_kinds names kind (x ∷ xs) =
-    declared_names-with_kinds (with_kind names kind x) kind xs ∙ ap (λ ns. with_names ns xs) (declared_names-with_kind names kind x)
 
 -- the kind of a name after some are declared
 abbrev pub or_kind : Option NameKind → Bool → NameKind → Option NameKind
@@ -146,13 +155,3 @@ kind_in-with_kinds names x kind (y ∷ xs) =
     twice (Some k) a b = refl
     twice None true b = refl
     twice None false b = refl
-
--- each of them is among the names after
-pub all-with_names : (names xs : List Name) → list_all (λ x. has_name x (with_names names xs)) xs ≡ true
-all-with_names names xs = by xs (λ x h. has-with_names x names xs h)
-  where
-    by : (ys : List Name) → ((x : Name) → has_name x ys ≡ true → has_name x (with_names names xs) ≡ true) → list_all (λ x. has_name x (with_names names xs)) ys ≡ true
-    by [] h = refl
-    by (y ∷ ys) h =
-        ap (λ b. b && list_all (λ x. has_name x (with_names names xs)) ys) (h y (or_left (name_eq y y) (has_name y ys) (name_same y)))
-        ∙ by ys (λ x k. h x (or_right (name_eq x y) (has_name x ys) k))

@@ -1,8 +1,8 @@
 -- How the stacks of a scope follow a statement that opens or closes no block, a `${` and a `$}`.
 use Rattle.std.specs.Prelude.{◌≡◌, ℕ, zero, suc, ◌+◌, ◌≤◌, Bool, true, false, cond, ◌||◌, nat_lt, List, [], ◌∷◌, ◌++◌, length, take, refl}
 use Rattle.std.specs.List.{flat_map}
-use Rattle.std.proofs.Common.{◌∙◌, ap, sym, subst, arith, append_assoc, true≢false}
-use Rattle.std.proofs.lemmas.List.{append-nil, map-append, take-append-le, take-map, same_from_push}
+use Rattle.std.proofs.Common.{◌∙◌, ap, sym, arith, append_assoc, true≢false, length-append}
+use Rattle.std.proofs.lemmas.List.{append-nil, map-append, take-map, same_from_push}
 use Rattle.std.proofs.lemmas.Grind.{flat_map-append}
 use Rattle.std.proofs.lemmas.Bool.Decides.{nat_tests}
 use Rattle.std.proofs.lemmas.Bool.{eqb-true}
@@ -11,19 +11,16 @@ use Rattle.mm_read.specs.declared.stmt.Stmt.{Stmt}
 use Rattle.mm_read.specs.declared.stmt.Stmt.TheVariants.{Open, Close}
 use Rattle.mm_read.specs.Statements.{Database}
 use Rattle.scope.specs.Active.{stays_open, active_from, active, is_open, is_close, is_closed, count, variables, typed_by}
-use Rattle.names.specs.Codes.{with_names, numbers_in, number_in, AreNamed}
-use Rattle.scope.specs.Numbering.{names_of, declared_by}
-use Rattle.scope.specs.Kinds.{Declared, declared_names, declared_symbols, TellsAll}
-use Rattle.scope.specs.Symbols.{symbols_of, symbols_by}
+use Rattle.names.specs.Codes.{numbers_in, number_in, AreNamed}
+use Rattle.scope.specs.Standing.{stands_at, standing_of}
+use Rattle.scope.specs.Symbols.{symbols_of}
 use Rattle.scope.specs.Stored.Stacks.{sizes_of, blocks_from, blocks_of, IsKept, IsMarked}
 use Rattle.scope.specs.declared.stack_heights.StackHeights.{StackHeights}
 use Rattle.scope.specs.Laws.{has_open, before_open}
 use Rattle.scope.proofs.ActiveLemmas.{active_from-append, active_from-close, stays_open-append, flat_map-taken, from_open, split_open, below-deficit, no_deficit, deficit-close, left_open, count-left_open, count-append, none-left}
 use Rattle.scope.proofs.BlocksLemmas.{blocks_from-append, blocks-close}
 use Rattle.names.proofs.AddedNames.{numbers_in-more, has-more, has_name-append}
-use Rattle.scope.proofs.NamesLemmas.{names_of-later, active-named}
-use Rattle.scope.proofs.SymbolNameLemmas.{symbols_of-append}
-use Rattle.scope.proofs.DeclaredLemmas.{tells-nothing, names_of-append, marked-within}
+use Rattle.scope.proofs.NamesLemmas.{symbols_of-later, symbols_of-append, active-named}
 
 -- ---- a statement that is no bracket
 
@@ -33,73 +30,65 @@ flat_map-more f S s h =
     ap (flat_map f) (active_from-append 1 S s h)
     ∙ (flat_map-append f (active S) ((1 + length S, s) ∷ []) ∙ ap (λ r. flat_map f (active S) ++ r) (append-nil (f (1 + length S, s))))
 
-stack-more : (f : ℕ × Stmt → List Name) (S : Database) (s : Stmt) (stack : List ℕ) → is_close s ≡ false → AreNamed (names_of S) (flat_map f (active S))
-    → stack ≡ numbers_in (names_of S) (flat_map f (active S))
-    → stack ++ numbers_in (names_of (S ++ s ∷ [])) (f (1 + length S, s)) ≡ numbers_in (names_of (S ++ s ∷ [])) (flat_map f (active (S ++ s ∷ [])))
+stack-more : (f : ℕ × Stmt → List Name) (S : Database) (s : Stmt) (stack : List ℕ) → is_close s ≡ false → AreNamed (symbols_of S) (flat_map f (active S))
+    → stack ≡ numbers_in (symbols_of S) (flat_map f (active S))
+    → stack ++ numbers_in (symbols_of (S ++ s ∷ [])) (f (1 + length S, s)) ≡ numbers_in (symbols_of (S ++ s ∷ [])) (flat_map f (active (S ++ s ∷ [])))
 stack-more f S s stack h known is =
-    let more = names_of-later S (s ∷ []) in
-    ap (λ r. r ++ numbers_in (names_of (S ++ s ∷ [])) (f (1 + length S, s)))
-    (is ∙ (sym (numbers_in-more (names_of S) more.0 (flat_map f (active S)) known) ∙ ap (λ ns. numbers_in ns (flat_map f (active S))) (sym more.1)))
-    ∙ (sym (map-append (number_in (names_of (S ++ s ∷ []))) (flat_map f (active S)) (f (1 + length S, s)))
-    ∙ ap (numbers_in (names_of (S ++ s ∷ []))) (sym (flat_map-more f S s h)))
+    let more = symbols_of-later S (s ∷ []) in
+    ap (λ r. r ++ numbers_in (symbols_of (S ++ s ∷ [])) (f (1 + length S, s)))
+    (is ∙ (sym (numbers_in-more (symbols_of S) more.0 (flat_map f (active S)) known) ∙ ap (λ ns. numbers_in ns (flat_map f (active S))) (sym more.1)))
+    ∙ (sym (map-append (number_in (symbols_of (S ++ s ∷ []))) (flat_map f (active S)) (f (1 + length S, s)))
+    ∙ ap (numbers_in (symbols_of (S ++ s ∷ []))) (sym (flat_map-more f S s h)))
 
-known-more : (f : ℕ × Stmt → List Name) (S : Database) (s : Stmt) → is_close s ≡ false → AreNamed (names_of S) (flat_map f (active S)) → AreNamed (names_of (S ++ s ∷ [])) (f (1 + length S, s))
-    → AreNamed (names_of (S ++ s ∷ [])) (flat_map f (active (S ++ s ∷ [])))
+known-more : (f : ℕ × Stmt → List Name) (S : Database) (s : Stmt) → is_close s ≡ false → AreNamed (symbols_of S) (flat_map f (active S)) → AreNamed (symbols_of (S ++ s ∷ [])) (f (1 + length S, s))
+    → AreNamed (symbols_of (S ++ s ∷ [])) (flat_map f (active (S ++ s ∷ [])))
 known-more f S s h old new x has =
-    let more = names_of-later S (s ∷ []) in
+    let more = symbols_of-later S (s ∷ []) in
     by (has_name x (flat_map f (active S))) refl (sym (has_name-append x (flat_map f (active S)) (f (1 + length S, s))) ∙ (ap (has_name x) (sym (flat_map-more f S s h)) ∙ has))
   where
-    by : (b : Bool) → has_name x (flat_map f (active S)) ≡ b → (has_name x (flat_map f (active S)) || has_name x (f (1 + length S, s))) ≡ true → has_name x (names_of (S ++ s ∷ [])) ≡ true
-    by true e k = ap (has_name x) (names_of-later S (s ∷ [])).1 ∙ has-more x (names_of S) (names_of-later S (s ∷ [])).0 (old x e)
+    by : (b : Bool) → has_name x (flat_map f (active S)) ≡ b → (has_name x (flat_map f (active S)) || has_name x (f (1 + length S, s))) ≡ true → has_name x (symbols_of (S ++ s ∷ [])) ≡ true
+    by true e k = ap (has_name x) (symbols_of-later S (s ∷ [])).1 ∙ has-more x (symbols_of S) (symbols_of-later S (s ∷ [])).0 (old x e)
     by false e k = new x (sym (ap (λ b. b || has_name x (f (1 + length S, s))) e) ∙ k)
 
-marked-more : (S M : Database) (s : Stmt) (names names' : Declared) (mark : StackHeights) (m : ℕ) → is_close s ≡ false → declared_names names ≡ names_of S → ((more : Declared) × (names' ≡ names ++ more))
-    → IsMarked S M names mark m → IsMarked (S ++ s ∷ []) M names' mark m
-marked-more S M s names names' mark m h named prefix k = record {
+marked-more : (S M : Database) (s : Stmt) (mark : StackHeights) → is_close s ≡ false → IsMarked S M mark → IsMarked (S ++ s ∷ []) M mark
+marked-more S M s mark h k = record {
   later = (k.later.0 ++ s ∷ [], ap (λ D. D ++ s ∷ []) k.later.1 ∙ append_assoc M k.later.0 (s ∷ []), stays_open-append 0 k.later.0 s h ∙ k.later.2);
   closed = k.closed;
   sizes = k.sizes;
-  count = k.count;
-  told = subst (λ (ns : Declared). TellsAll M ns) (sym (ap (take m) prefix.1 ∙ take-append-le m names prefix.0 (marked-within S M names mark m named k))) k.told;
-  symbols = ap declared_symbols (ap (take m) prefix.1 ∙ take-append-le m names prefix.0 (marked-within S M names mark m named k)) ∙ k.symbols;
   typed_known = k.typed_known;
 }
 
-pub kept-more : (S M : Database) (s : Stmt) (names names' : Declared) (vs ts : List ℕ) (blocks : List StackHeights) (mark : StackHeights) (m : ℕ) → is_close s ≡ false → is_open s ≡ false
-    → ((more : Declared) × (names' ≡ names ++ more)) → declared_names names' ≡ with_names (names_of S) (declared_by s) → TellsAll (S ++ s ∷ []) names'
-    → declared_symbols names' ≡ with_names (symbols_of S) (symbols_by s)
-    → AreNamed (declared_names names') (typed_by s)
-    → IsKept S M names vs ts blocks mark m
-    → IsKept (S ++ s ∷ []) M names' (vs ++ numbers_in (declared_names names') (variables s)) (ts ++ numbers_in (declared_names names') (typed_by s)) blocks mark m
-kept-more S M s names names' vs ts blocks mark m shut plain prefix named told symbols known k =
-    let is : declared_names names' ≡ names_of (S ++ s ∷ []) = named ∙ sym (names_of-append S s) in
-    record {
-      named = is;
-      told = told;
-      symbols = symbols ∙ sym (symbols_of-append S s);
-      variables_are = ap (λ ns. vs ++ numbers_in ns (variables s)) is ∙ stack-more (λ p. variables p.1) S s vs shut (active-named S) k.variables_are;
-      typed_are = ap (λ ns. ts ++ numbers_in ns (typed_by s)) is ∙ stack-more (λ p. typed_by p.1) S s ts shut k.typed_known k.typed_are;
-      typed_known = known-more (λ p. typed_by p.1) S s shut k.typed_known (subst (λ (ns : List Name). AreNamed ns (typed_by s)) is known);
-      blocks_are = k.blocks_are ∙ sym (ap (blocks_from []) (active_from-append 1 S s shut) ∙ (blocks_from-append [] (active S) ((1 + length S, s) ∷ [])
-          ∙ (ap (λ b. blocks_of S ++ cond b (sizes_of (active S) ∷ []) []) plain ∙ append-nil (blocks_of S))));
-      never_below = stays_open-append 0 S s shut ∙ k.never_below;
-      marked = marked-more S M s names names' mark m shut k.named prefix k.marked;
-    }
+-- what stands, after a statement that closes nothing
+pub standing-more : (S : Database) (s : Stmt) → is_close s ≡ false → standing_of (S ++ s ∷ []) ≡ standing_of S ++ stands_at (1 + length S) s
+standing-more S s h = flat_map-more (λ p. stands_at p.0 p.1) S s h
+
+pub kept-more : (S M : Database) (s : Stmt) (vs ts : List ℕ) (n m : ℕ) (blocks : List StackHeights) (mark : StackHeights) → is_close s ≡ false → is_open s ≡ false
+    → AreNamed (symbols_of (S ++ s ∷ [])) (typed_by s) → length (stands_at (1 + length S) s) ≡ m
+    → IsKept S M vs ts n blocks mark
+    → IsKept (S ++ s ∷ []) M (vs ++ numbers_in (symbols_of (S ++ s ∷ [])) (variables s)) (ts ++ numbers_in (symbols_of (S ++ s ∷ [])) (typed_by s)) (n + m) blocks mark
+kept-more S M s vs ts n m blocks mark shut plain known stand k = record {
+  variables_are = stack-more (λ p. variables p.1) S s vs shut (active-named S) k.variables_are;
+  typed_are = stack-more (λ p. typed_by p.1) S s ts shut k.typed_known k.typed_are;
+  typed_known = known-more (λ p. typed_by p.1) S s shut k.typed_known known;
+  standing_is = let long = ap length (standing-more S s shut) ∙ length-append (standing_of S) (stands_at (1 + length S) s) in let is = k.standing_is in omega (arith, long, is, stand);
+  blocks_are = k.blocks_are ∙ sym (ap (blocks_from []) (active_from-append 1 S s shut) ∙ (blocks_from-append [] (active S) ((1 + length S, s) ∷ [])
+      ∙ (ap (λ b. blocks_of S ++ cond b (sizes_of (active S) ∷ []) []) plain ∙ append-nil (blocks_of S))));
+  never_below = stays_open-append 0 S s shut ∙ k.never_below;
+  marked = marked-more S M s mark shut k.marked;
+}
 
 -- ---- a `${`
 
-pub kept-open : (S M : Database) (names : Declared) (vs ts : List ℕ) (blocks : List StackHeights) (mark sizes : StackHeights) (m : ℕ) → sizes ≡ sizes_of (active S) → IsKept S M names vs ts blocks mark m
-    → IsKept (S ++ Open ∷ []) M names vs ts (blocks ++ sizes ∷ []) mark m
-kept-open S M names vs ts blocks mark sizes m height k = record {
-  named = k.named ∙ sym (names_of-append S Open);
-  told = tells-nothing S Open names (λ x. refl) refl refl k.told;
-  symbols = k.symbols ∙ sym (symbols_of-append S Open);
+pub kept-open : (S M : Database) (vs ts : List ℕ) (n : ℕ) (blocks : List StackHeights) (mark sizes : StackHeights) → sizes ≡ sizes_of (active S) → IsKept S M vs ts n blocks mark
+    → IsKept (S ++ Open ∷ []) M vs ts n (blocks ++ sizes ∷ []) mark
+kept-open S M vs ts n blocks mark sizes height k = record {
   variables_are = sym (append-nil vs) ∙ stack-more (λ p. variables p.1) S Open vs refl (active-named S) k.variables_are;
   typed_are = sym (append-nil ts) ∙ stack-more (λ p. typed_by p.1) S Open ts refl k.typed_known k.typed_are;
   typed_known = known-more (λ p. typed_by p.1) S Open refl k.typed_known (λ x h. absurd (true≢false (sym h)));
+  standing_is = k.standing_is ∙ ap length (sym (append-nil (standing_of S)) ∙ sym (standing-more S Open refl));
   blocks_are = ap (λ b. b ++ sizes ∷ []) k.blocks_are ∙ (ap (λ z. blocks_of S ++ z ∷ []) height ∙ sym (ap (blocks_from []) (active_from-append 1 S Open refl) ∙ blocks_from-append [] (active S) ((1 + length S, Open) ∷ [])));
   never_below = stays_open-append 0 S Open refl ∙ k.never_below;
-  marked = marked-more S M Open names names mark m refl k.named ([], sym (append-nil names)) k.marked;
+  marked = marked-more S M Open mark refl k.marked;
 }
 
 -- ---- a `$}`
@@ -110,12 +99,12 @@ flat_map-close f S none =
     ∙ (flat_map-append f (before_open (active S)) ((1 + length S, Close) ∷ [])
     ∙ (ap (λ r. flat_map f (before_open (active S)) ++ (r ++ [])) none ∙ append-nil (flat_map f (before_open (active S)))))
 
-stack-close : (f : ℕ × Stmt → List Name) (S : Database) (stack : List ℕ) → f (1 + length S, Close) ≡ [] → stack ≡ numbers_in (names_of S) (flat_map f (active S))
-    → take (length (flat_map f (before_open (active S)))) stack ≡ numbers_in (names_of (S ++ Close ∷ [])) (flat_map f (active (S ++ Close ∷ [])))
+stack-close : (f : ℕ × Stmt → List Name) (S : Database) (stack : List ℕ) → f (1 + length S, Close) ≡ [] → stack ≡ numbers_in (symbols_of S) (flat_map f (active S))
+    → take (length (flat_map f (before_open (active S)))) stack ≡ numbers_in (symbols_of (S ++ Close ∷ [])) (flat_map f (active (S ++ Close ∷ [])))
 stack-close f S stack none is =
     ap (take (length (flat_map f (before_open (active S))))) is
-    ∙ (take-map (number_in (names_of S)) (length (flat_map f (before_open (active S)))) (flat_map f (active S))
-    ∙ (ap (numbers_in (names_of S)) (flat_map-taken f (active S) ∙ sym (flat_map-close f S none)) ∙ ap (λ ns. numbers_in ns (flat_map f (active (S ++ Close ∷ [])))) (sym (names_of-append S Close))))
+    ∙ (take-map (number_in (symbols_of S)) (length (flat_map f (before_open (active S)))) (flat_map f (active S))
+    ∙ (ap (numbers_in (symbols_of S)) (flat_map-taken f (active S) ∙ sym (flat_map-close f S none)) ∙ ap (λ ns. numbers_in ns (flat_map f (active (S ++ Close ∷ [])))) (sym (symbols_of-append S Close))))
 
 -- a block is open
 pub some_open : (S : Database) → stays_open 0 S ≡ true → nat_lt (count is_close S) (count is_open S) ≡ true → 1 ≤ left_open S
@@ -151,36 +140,31 @@ later-close S M T e closed below all some =
       ap (count is_close) e ∙ count-append is_close M T,
     )
 
-known-close : (f : ℕ × Stmt → List Name) (S : Database) → f (1 + length S, Close) ≡ [] → AreNamed (names_of S) (flat_map f (active S)) → AreNamed (names_of (S ++ Close ∷ [])) (flat_map f (active (S ++ Close ∷ [])))
+known-close : (f : ℕ × Stmt → List Name) (S : Database) → f (1 + length S, Close) ≡ [] → AreNamed (symbols_of S) (flat_map f (active S)) → AreNamed (symbols_of (S ++ Close ∷ [])) (flat_map f (active (S ++ Close ∷ [])))
 known-close f S none known x h =
-    ap (has_name x) (names_of-append S Close)
+    ap (has_name x) (symbols_of-append S Close)
     ∙ known x (ap (has_name x) (ap (flat_map f) (split_open (active S)) ∙ flat_map-append f (before_open (active S)) (from_open (active S)))
     ∙ has-more x (flat_map f (before_open (active S))) (flat_map f (from_open (active S))) (ap (has_name x) (sym (flat_map-close f S none)) ∙ h))
 
-pub kept-close : (S M : Database) (names : Declared) (vs ts : List ℕ) (blocks front : List StackHeights) (mark last : StackHeights) (m : ℕ) → nat_lt (count is_close S) (count is_open S) ≡ true
-    → blocks ≡ front ++ last ∷ [] → IsKept S M names vs ts blocks mark m
-    → IsKept (S ++ Close ∷ []) M names (take last.variables vs) (take last.typed ts) front mark m
-kept-close S M names vs ts blocks front mark last m legal split k =
+pub kept-close : (S M : Database) (vs ts : List ℕ) (n : ℕ) (blocks front : List StackHeights) (mark last : StackHeights) → nat_lt (count is_close S) (count is_open S) ≡ true
+    → blocks ≡ front ++ last ∷ [] → IsKept S M vs ts n blocks mark
+    → IsKept (S ++ Close ∷ []) M (take last.variables vs) (take last.typed ts) last.standing front mark
+kept-close S M vs ts n blocks front mark last legal split k =
     let some = some_open S k.never_below legal in
     let ends : front ++ last ∷ [] ≡ blocks_from [] (before_open (active S)) ++ sizes_of (before_open (active S)) ∷ [] =
     sym split ∙ (k.blocks_are ∙ blocks-close [] (active S) (has_open-some 1 S some)) in
     let both = same_from_push front (blocks_from [] (before_open (active S))) last (sizes_of (before_open (active S))) ends in
     record {
-      named = k.named ∙ sym (names_of-append S Close);
-      told = tells-nothing S Close names (λ x. refl) refl refl k.told;
-      symbols = k.symbols ∙ sym (symbols_of-append S Close);
       variables_are = ap (λ z. take z.variables vs) both.1 ∙ stack-close (λ p. variables p.1) S vs refl k.variables_are;
       typed_are = ap (λ z. take z.typed ts) both.1 ∙ stack-close (λ p. typed_by p.1) S ts refl k.typed_are;
       typed_known = known-close (λ p. typed_by p.1) S refl k.typed_known;
+      standing_is = ap (λ z. z.standing) both.1 ∙ ap length (sym (flat_map-close (λ p. stands_at p.0 p.1) S refl));
       blocks_are = both.0 ∙ sym (ap (blocks_from []) (active_from-close 1 S) ∙ (blocks_from-append [] (before_open (active S)) ((1 + length S, Close) ∷ []) ∙ append-nil (blocks_from [] (before_open (active S)))));
       never_below = below-deficit 0 (S ++ Close ∷ []) (omega (arith, deficit-close S, no_deficit S k.never_below, some));
       marked = let km = k.marked in record {
         later = (km.later.0 ++ Close ∷ [], ap (λ D. D ++ Close ∷ []) km.later.1 ∙ append_assoc M km.later.0 (Close ∷ []), later-close S M km.later.0 km.later.1 km.closed km.later.2 k.never_below some);
         closed = km.closed;
         sizes = km.sizes;
-        count = km.count;
-        told = km.told;
-        symbols = km.symbols;
         typed_known = km.typed_known;
       };
     }

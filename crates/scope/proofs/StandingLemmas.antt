@@ -1,70 +1,72 @@
 -- The active `$f`, `$e` and `$d` follow the statements.
-use Rattle.std.specs.Prelude.{◌≡◌, ℕ, ◌+◌, true, false, nat_lt, List, [], ◌∷◌, ◌++◌, length, take, refl}
+use Rattle.std.specs.Prelude.{◌≡◌, ℕ, suc, ◌+◌, ◌≤◌, Bool, true, false, cond, List, [], ◌∷◌, ◌++◌, length, take, refl}
 use Rattle.std.specs.List.{flat_map}
-use Rattle.std.proofs.Common.{◌∙◌, ap, sym, arith, subst}
-use Rattle.std.proofs.lemmas.List.{take_at, same_from_push, length_push}
+use Rattle.std.proofs.Common.{◌∙◌, ap, sym, arith, subst, length-append}
+use Rattle.std.proofs.lemmas.List.{append-nil, take_all}
 use Rattle.std.proofs.lemmas.Grind.{flat_map-append}
 use Rattle.mm_read.specs.declared.stmt.Stmt.{Stmt}
 use Rattle.mm_read.specs.declared.stmt.Stmt.TheVariants.{Open, Close, Const, Var, Disj, Float, Ess, Axiom, Prove}
 use Rattle.mm_read.specs.Statements.{Database}
-use Rattle.scope.specs.Active.{active, active_from, bare, is_open, is_close, count}
-use Rattle.scope.specs.Kinds.{Declared}
-use Rattle.scope.specs.Stored.Stacks.{sizes_of, blocks_from, IsKept}
+use Rattle.scope.specs.Active.{active, active_from, bare, is_close, stays_open}
 use Rattle.scope.specs.Laws.{before_open}
-use Rattle.scope.specs.Standing.{stands_at, standing_of, IsStanding}
-use Rattle.scope.specs.declared.stack_heights.StackHeights.{StackHeights}
+use Rattle.scope.specs.Standing.{stands_at, standing_of}
 use Rattle.scope.specs.declared.standing.Standing.{Standing}
-use Rattle.scope.proofs.ActiveLemmas.{active_from-later, flat_map-taken}
-use Rattle.scope.proofs.BlocksLemmas.{blocks-close}
-use Rattle.scope.proofs.StackFollows.{flat_map-more, flat_map-close, has_open-some, some_open}
+use Rattle.scope.proofs.ActiveLemmas.{flat_map-taken}
+use Rattle.scope.proofs.StackFollows.{flat_map-close, standing-more}
 
-pub standing-more : (S M : Database) (s : Stmt) (standing : List Standing) (n m : ℕ) → is_close s ≡ false → IsStanding S M standing n m
-    → IsStanding (S ++ s ∷ []) M (standing ++ stands_at (n + 1) s) (n + 1) m
-standing-more S M s standing n m shut k = record {
-  standing_are = ap (λ i. standing ++ stands_at i s) (next n (length S) k.count_is)
-      ∙ (ap (λ st. st ++ stands_at (1 + length S) s) k.standing_are ∙ sym (flat_map-more (λ p. stands_at p.0 p.1) S s shut));
-  count_is = ap (λ i. i + 1) k.count_is ∙ sym (length_push S s);
-  marked_count_is = k.marked_count_is;
-}
+-- what stands behind one statement more: the first of what stood and of what stands by it
+pub standing-after : (S : Database) (s : Stmt) → take (length (standing_of (S ++ s ∷ []))) (standing_of S ++ stands_at (length S + 1) s) ≡ standing_of (S ++ s ∷ [])
+standing-after S s = by (is_close s) refl
   where
-    next : (a b : ℕ) → a ≡ b → a + 1 ≡ 1 + b
-    next a b e = omega arith
+    next : (n : ℕ) → n + 1 ≡ 1 + n
+    next n = omega arith
 
-pub standing-close : (S M : Database) (names : Declared) (vs ts : List ℕ) (blocks front : List StackHeights) (mark last : StackHeights) (i n m : ℕ) (standing : List Standing)
-    → nat_lt (count is_close S) (count is_open S) ≡ true → blocks ≡ front ++ last ∷ [] → IsKept S M names vs ts blocks mark i → IsStanding S M standing n m
-    → IsStanding (S ++ Close ∷ []) M (take last.standing standing) (n + 1) m
-standing-close S M names vs ts blocks front mark last i n m standing legal split k st =
-    let f : ℕ × Stmt → List Standing = λ p. stands_at p.0 p.1 in
-    let ends : front ++ last ∷ [] ≡ blocks_from [] (before_open (active S)) ++ sizes_of (before_open (active S)) ∷ [] =
-    sym split ∙ (k.blocks_are ∙ blocks-close [] (active S) (has_open-some 1 S (some_open S k.never_below legal))) in
-    let both = same_from_push front (blocks_from [] (before_open (active S))) last (sizes_of (before_open (active S))) ends in
-    record {
-      standing_are = ap (λ (z : StackHeights). take z.standing standing) both.1 ∙ (ap (take (length (flat_map f (before_open (active S))))) st.standing_are
-          ∙ (flat_map-taken f (active S) ∙ sym (flat_map-close f S refl)));
-      count_is = ap (λ j. j + 1) st.count_is ∙ sym (length_push S Close);
-      marked_count_is = st.marked_count_is;
-    }
+    closed : (t : Stmt) → is_close t ≡ true → t ≡ Close
+    closed Close h = refl
+    closed Open h = cc
+    closed (Const names) h = cc
+    closed (Var names) h = cc
+    closed (Disj names) h = cc
+    closed (Float label constant variable) h = cc
+    closed (Ess label expr) h = cc
+    closed (Axiom label expr) h = cc
+    closed (Prove label expr proof) h = cc
 
-pub standing-mark : (S M : Database) (standing : List Standing) (n m : ℕ) → IsStanding S M standing n m → IsStanding S S standing n n
-standing-mark S M standing n m k = record { standing_are = k.standing_are; count_is = k.count_is; marked_count_is = k.count_is }
+    by : (b : Bool) → is_close s ≡ b → take (length (standing_of (S ++ s ∷ []))) (standing_of S ++ stands_at (length S + 1) s) ≡ standing_of (S ++ s ∷ [])
+    by true h = subst (λ (t : Stmt). take (length (standing_of (S ++ t ∷ []))) (standing_of S ++ stands_at (length S + 1) t) ≡ standing_of (S ++ t ∷ [])) (sym (closed s h))
+        (ap (λ r. take (length r) (standing_of S ++ [])) (flat_map-close (λ p. stands_at p.0 p.1) S refl)
+        ∙ (ap (take (length (flat_map (λ p. stands_at p.0 p.1) (before_open (active S))))) (append-nil (standing_of S))
+        ∙ (flat_map-taken (λ p. stands_at p.0 p.1) (active S) ∙ sym (flat_map-close (λ p. stands_at p.0 p.1) S refl))))
+    by false h =
+        let more : standing_of S ++ stands_at (length S + 1) s ≡ standing_of (S ++ s ∷ []) = ap (λ i. standing_of S ++ stands_at i s) (next (length S)) ∙ sym (standing-more S s h) in
+        ap (take (length (standing_of (S ++ s ∷ [])))) more ∙ take_all (length (standing_of (S ++ s ∷ []))) (standing_of (S ++ s ∷ [])) (omega arith)
 
-pub standing-back : (S M : Database) (names : Declared) (vs ts : List ℕ) (blocks : List StackHeights) (mark : StackHeights) (i n m : ℕ) (standing : List Standing)
-    → IsKept S M names vs ts blocks mark i → IsStanding S M standing n m → IsStanding M M (take mark.standing standing) m m
-standing-back S M names vs ts blocks mark i n m standing k st =
-    let f : ℕ × Stmt → List Standing = λ p. stands_at p.0 p.1 in
-    let T = k.marked.later.0 in
-    let split : standing_of S ≡ standing_of M ++ flat_map f (active_from (1 + length M) T) =
-    ap standing_of k.marked.later.1 ∙ (ap (flat_map f) (active_from-later 1 M T k.marked.later.2) ∙ flat_map-append f (active M) (active_from (1 + length M) T)) in
-    record {
-      standing_are = ap (λ (z : StackHeights). take z.standing standing) k.marked.sizes ∙ (ap (take (length (standing_of M))) (st.standing_are ∙ split)
-          ∙ take_at (standing_of M) (flat_map f (active_from (1 + length M) T)) (length (standing_of M)) refl);
-      count_is = st.marked_count_is;
-      marked_count_is = st.marked_count_is;
-    }
+-- no more stand than there are statements
+pub standing-fewer : (S : Database) → length (standing_of S) ≤ length S
+standing-fewer S = let one = stand (active S) in let all = active-fewer 1 S in omega (arith, one, all)
+  where
+    single : (at : ℕ) (s : Stmt) → length (stands_at at s) ≤ 1
+    single at Open = omega arith
+    single at Close = omega arith
+    single at (Const names) = omega arith
+    single at (Var names) = omega arith
+    single at (Disj names) = omega arith
+    single at (Float label constant variable) = omega arith
+    single at (Ess label expr) = omega arith
+    single at (Axiom label expr) = omega arith
+    single at (Prove label expr proof) = omega arith
 
-pub same-standing : {S S' M : Database} {st st' : List Standing} {n m : ℕ} → S ≡ S' → st ≡ st' → IsStanding S M st n m → IsStanding S' M st' n m
-same-standing {S' = S'} {M = M} {st = st} {n = n} {m = m} a b k =
-    subst (λ (x : List Standing). IsStanding S' M x n m) b (subst (λ (x : Database). IsStanding x M st n m) a k)
+    stand : (es : List (ℕ × Stmt)) → length (flat_map (λ p. stands_at p.0 p.1) es) ≤ length es
+    stand [] = omega arith
+    stand (p ∷ es) = let rest = stand es in let one = single p.0 p.1 in let all = length-append (stands_at p.0 p.1) (flat_map (λ (p : ℕ × Stmt). stands_at p.0 p.1) es) in omega (arith, rest, one, all)
+
+    active-fewer : (at : ℕ) (S : Database) → length (active_from at S) ≤ length S
+    active-fewer at [] = omega arith
+    active-fewer at (s ∷ S) = one (stays_open 0 S) (active-fewer (at + 1) S)
+      where
+        one : (b : Bool) → length (active_from (at + 1) S) ≤ length S → length (cond b ((at, s) ∷ active_from (at + 1) S) (active_from (at + 1) S)) ≤ suc (length S)
+        one true h = omega (arith, h)
+        one false h = omega (arith, h)
 
 -- what stands there is copied whole
 pub stands-again : (es : List (ℕ × Stmt)) → flat_map (λ e. stands_at e.at e.stmt) (flat_map (λ p. stands_at p.0 p.1) es) ≡ flat_map (λ p. stands_at p.0 p.1) es

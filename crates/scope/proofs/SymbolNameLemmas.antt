@@ -1,33 +1,34 @@
 -- The names that are no labels are the declared symbols.
 use Rattle.std.specs.Prelude.{◌≡◌, ℕ, zero, suc, ◌<◌, Bool, true, false, cond, ◌||◌, ◌&&◌, nat_lt, List, [], ◌∷◌, ◌++◌, length, take, Option, Some, None, is_some, refl}
 use Rattle.std.specs.List.{list_all}
-use Rattle.std.proofs.Common.{◌∙◌, ap, sym, subst, arith, true≢false}
-use Rattle.std.proofs.lemmas.List.{append-nil, map-append, same_from_push}
+use Rattle.std.proofs.Common.{◌∙◌, ap, sym, arith, true≢false, length-append}
+use Rattle.std.proofs.lemmas.List.{append-nil, map-append}
 use Rattle.std.proofs.lemmas.List.Folds.{list_all-append}
-use Rattle.std.proofs.lemmas.Bool.{or_right, lt-ltb}
+use Rattle.std.proofs.lemmas.Bool.{or_right, lt-ltb, ltb-true, and_parts}
 use Rattle.std.proofs.lemmas.Option.{same_Some}
 use Rattle.mm_lex.specs.Alphabet.{Name, name_eq, has_name}
 use Rattle.mm_read.specs.declared.stmt.Stmt.{Stmt}
 use Rattle.mm_read.specs.declared.stmt.Stmt.TheVariants.{Open, Close, Const, Var, Disj, Float, Ess, Axiom, Prove}
-use Rattle.mm_read.specs.Statements.{Database, Expr}
+use Rattle.mm_read.specs.Statements.{Expr}
 use Rattle.scope.specs.Active.{bare}
 use Rattle.names.specs.Codes.{name_at, decode, with_name, with_names, AreCodes}
-use Rattle.scope.specs.Kinds.{Declared, declared_names, declared_symbols, symbols_before, kind_in, with_kind, with_kinds, is_label_kind, is_symbol_kind}
-use Rattle.scope.specs.Stored.Noted.{IsNumberOf, AreNoted, IsAppended, IsOfLast}
-use Rattle.scope.specs.Symbols.{symbols_by, symbols_from, symbols_of, symbols_in}
+use Rattle.scope.specs.Kinds.{Declared, declared_names, names_that, declared_symbols, declared_labels, kind_in, with_kind, with_kinds, is_label_kind, is_symbol_kind, is_labelling, IsNumberOf}
+use Rattle.scope.specs.Stored.Noted.{AreNoted, IsAppended}
+use Rattle.scope.specs.Symbols.{symbols_by, symbols_in}
 use Rattle.scope.specs.declared.numbering.NameKind.{NameKind}
 use Rattle.scope.specs.declared.numbering.NameKind.TheVariants.{Label, Constant, Variable}
 use Rattle.names.proofs.CodesLemmas.{name_same, same_name}
+use Rattle.names.proofs.DistinctLemmas.{name_at-more}
 use Rattle.scope.proofs.NamesLemmas.{or_kind, kind_in-with_kinds}
 
--- ---- the names that are no labels
+-- ---- the names that are no labels, and the labels
 
-declared_symbols-append : (names more : Declared) → declared_symbols (names ++ more) ≡ declared_symbols names ++ declared_symbols more
-declared_symbols-append [] more = refl
-declared_symbols-append (p ∷ names) more = by (is_symbol_kind p.1) (declared_symbols-append names more)
+pub names_that-append : (own : NameKind → Bool) (names more : Declared) → names_that own (names ++ more) ≡ names_that own names ++ names_that own more
+names_that-append own [] more = refl
+names_that-append own (p ∷ names) more = by (own p.1) (names_that-append own names more)
   where
-    by : (b : Bool) → declared_symbols (names ++ more) ≡ declared_symbols names ++ declared_symbols more
-        → cond b (p.0 ∷ declared_symbols (names ++ more)) (declared_symbols (names ++ more)) ≡ cond b (p.0 ∷ declared_symbols names) (declared_symbols names) ++ declared_symbols more
+    by : (b : Bool) → names_that own (names ++ more) ≡ names_that own names ++ names_that own more
+        → cond b (p.0 ∷ names_that own (names ++ more)) (names_that own (names ++ more)) ≡ cond b (p.0 ∷ names_that own names) (names_that own names) ++ names_that own more
     by true e = ap (λ r. p.0 ∷ r) e
     by false e = e
 
@@ -37,7 +38,28 @@ declared_symbols-label names l = by (is_some (kind_in names l))
   where
     by : (b : Bool) → declared_symbols (cond b names (names ++ (l, Label) ∷ [])) ≡ declared_symbols names
     by true = refl
-    by false = declared_symbols-append names ((l, Label) ∷ []) ∙ append-nil (declared_symbols names)
+    by false = names_that-append is_symbol_kind names ((l, Label) ∷ []) ∙ append-nil (declared_symbols names)
+
+-- a symbol is no label
+no_label : (kind : NameKind) → is_symbol_kind kind ≡ true → is_labelling kind ≡ false
+no_label Label e = cc
+no_label Constant e = refl
+no_label Variable e = refl
+
+declared_labels-symbol : (names : Declared) (kind : NameKind) (x : Name) → is_symbol_kind kind ≡ true → declared_labels (with_kind names kind x) ≡ declared_labels names
+declared_labels-symbol names kind x own = by (is_some (kind_in names x))
+  where
+    by : (b : Bool) → declared_labels (cond b names (names ++ (x, kind) ∷ [])) ≡ declared_labels names
+    by true = refl
+    by false = names_that-append is_labelling names ((x, kind) ∷ []) ∙ (ap (λ b. declared_labels names ++ cond b (x ∷ []) []) (no_label kind own) ∙ append-nil (declared_labels names))
+
+pub declared_labels-with_kinds : (names : Declared) (kind : NameKind) (xs : List Name) → is_symbol_kind kind ≡ true → declared_labels (with_kinds names kind xs) ≡ declared_labels names
+declared_labels-with_kinds names kind [] own = refl
+declared_labels-with_kinds names kind (x ∷ xs) own = declared_labels-with_kinds (with_kind names kind x) kind xs own ∙ declared_labels-symbol names kind x own
+
+-- a new label is the last one
+pub declared_labels-label : (names : Declared) (l : Name) → kind_in names l ≡ None → declared_labels (with_kind names Label l) ≡ declared_labels names ++ l ∷ []
+declared_labels-label names l new = ap (λ k. declared_labels (cond (is_some k) names (names ++ (l, Label) ∷ []))) new ∙ names_that-append is_labelling names ((l, Label) ∷ [])
 
 -- a name of a symbol's kind is among the symbols, and one of no kind is not
 has-symbol : (names : Declared) (x : Name) (k : Option NameKind) → kind_in names x ≡ k → is_label_kind k ≡ false → has_name x (declared_symbols names) ≡ is_some k
@@ -63,60 +85,50 @@ declared_symbols-with_kind names kind x own free =
   where
     by : (b : Bool) → declared_symbols (cond b names (names ++ (x, kind) ∷ [])) ≡ cond b (declared_symbols names) (declared_symbols names ++ x ∷ [])
     by true = refl
-    by false = declared_symbols-append names ((x, kind) ∷ []) ∙ ap (λ b. declared_symbols names ++ cond b (x ∷ []) []) own
+    by false = names_that-append is_symbol_kind names ((x, kind) ∷ []) ∙ ap (λ b. declared_symbols names ++ cond b (x ∷ []) []) own
+
+-- where a symbol is declared, no other name becomes a label
+pub label_free : (names : Declared) (kind : NameKind) (x y : Name) → is_symbol_kind kind ≡ true → is_label_kind (kind_in names y) ≡ false → is_label_kind (kind_in (with_kind names kind x) y) ≡ false
+label_free names kind x y own free = ap is_label_kind (kind_in-with_kinds names y kind (x ∷ [])) ∙ or_free (kind_in names y) (has_name y (x ∷ [])) free
+  where
+    not_label : (k : NameKind) → is_symbol_kind k ≡ true → is_label_kind (Some k) ≡ false
+    not_label Label e = cc
+    not_label Constant e = refl
+    not_label Variable e = refl
+
+    or_free : (k : Option NameKind) (b : Bool) → is_label_kind k ≡ false → is_label_kind (or_kind k b kind) ≡ false
+    or_free (Some k) b h = h
+    or_free None true h = not_label kind own
+    or_free None false h = refl
 
 pub declared_symbols-with_kinds : (names : Declared) (kind : NameKind) (xs : List Name) → is_symbol_kind kind ≡ true → ((x : Name) → has_name x xs ≡ true → is_label_kind (kind_in names x) ≡ false)
     → declared_symbols (with_kinds names kind xs) ≡ with_names (declared_symbols names) xs
 declared_symbols-with_kinds names kind [] own free = refl
 declared_symbols-with_kinds names kind (x ∷ xs) own free =
-    declared_symbols-with_kinds (with_kind names kind x) kind xs own later
+    declared_symbols-with_kinds (with_kind names kind x) kind xs own (λ y h. label_free names kind x y own (free y (or_right (name_eq y x) (has_name y xs) h)))
     ∙ ap (λ ns. with_names ns xs) (declared_symbols-with_kind names kind x own (free x (ap (λ b. b || has_name x xs) (name_same x))))
-  where
-    or_free : (k : Option NameKind) (b : Bool) → is_label_kind k ≡ false → is_label_kind (or_kind k b kind) ≡ false
-    or_free (Some k) b h = h
-    or_free None true h = not_label kind own
-      where
-        not_label : (k : NameKind) → is_symbol_kind k ≡ true → is_label_kind (Some k) ≡ false
-        not_label Label e = cc
-        not_label Constant e = refl
-        not_label Variable e = refl
-    or_free None false h = refl
-
-    later : (y : Name) → has_name y xs ≡ true → is_label_kind (kind_in (with_kind names kind x) y) ≡ false
-    later y h =
-        ap is_label_kind (kind_in-with_kinds names y kind (x ∷ []))
-        ∙ or_free (kind_in names y) (has_name y (x ∷ [])) (free y (or_right (name_eq y x) (has_name y xs) h))
-
--- ---- the symbols of one statement more
-
-pub symbols_from-append : (symbols : List Name) (S T : Database) → symbols_from symbols (S ++ T) ≡ symbols_from (symbols_from symbols S) T
-symbols_from-append symbols [] T = refl
-symbols_from-append symbols (s ∷ S) T = symbols_from-append (with_names symbols (symbols_by s)) S T
-
-pub symbols_of-append : (S : Database) (s : Stmt) → symbols_of (S ++ s ∷ []) ≡ with_names (symbols_of S) (symbols_by s)
-symbols_of-append S s = symbols_from-append [] S (s ∷ [])
 
 -- ---- the number of a symbol
 
--- where the name at a place is a symbol, its number is the count of the symbols before
-pub symbol-at : (names : Declared) (x : Name) (n : ℕ) (k : NameKind) → n < length (declared_names names) → name_at (declared_names names) n ≡ x → ((m : ℕ) → m < n → name_at (declared_names names) m ≡ x → ⊥)
-    → kind_in names x ≡ Some k → is_symbol_kind k ≡ true → IsNumberOf (declared_symbols names) x (symbols_before names n)
-symbol-at [] x n k lt e first h own = absurd (omega (arith, lt))
-symbol-at (p ∷ names) x zero k lt e first h own = by p.1 (ap (λ b. cond b (Some p.1) (kind_in names x)) (sym (ap (name_eq x) e ∙ name_same x)) ∙ h)
+-- where the name at a place is of one of some kinds, its number among them is the count of those before
+pub number-at : (own : NameKind → Bool) (names : Declared) (x : Name) (n : ℕ) (k : NameKind) → n < length (declared_names names) → name_at (declared_names names) n ≡ x → ((m : ℕ) → m < n → name_at (declared_names names) m ≡ x → ⊥)
+    → kind_in names x ≡ Some k → own k ≡ true → IsNumberOf (names_that own names) x (length (names_that own (take n names)))
+number-at own [] x n k lt e first h is = absurd (omega (arith, lt))
+number-at own (p ∷ names) x zero k lt e first h is =
+    by (own p.1) (ap own (same_Some p.1 k (ap (λ b. cond b (Some p.1) (kind_in names x)) (sym (ap (name_eq x) e ∙ name_same x)) ∙ h)) ∙ is)
   where
-    by : (kind : NameKind) → Some kind ≡ Some k → IsNumberOf (cond (is_symbol_kind kind) (p.0 ∷ declared_symbols names) (declared_symbols names)) x 0
-    by Label f = absurd (true≢false (sym own ∙ ap is_symbol_kind (sym (same_Some Label k f))))
-    by Constant f = (omega arith, e)
-    by Variable f = (omega arith, e)
-symbol-at (p ∷ names) x (suc n) k lt e first h own =
-    by (is_symbol_kind p.1) (symbol-at names x n k (omega (arith, lt)) e (λ m q. first (suc m) (omega (arith, q))) (ap (λ b. cond b (Some p.1) (kind_in names x)) (sym (other (name_eq x p.0) refl)) ∙ h) own)
+    by : (b : Bool) → b ≡ true → IsNumberOf (cond b (p.0 ∷ names_that own names) (names_that own names)) x 0
+    by true f = (omega arith, e)
+    by false f = cc
+number-at own (p ∷ names) x (suc n) k lt e first h is =
+    by (own p.1) (number-at own names x n k (omega (arith, lt)) e (λ m q. first (suc m) (omega (arith, q))) (ap (λ b. cond b (Some p.1) (kind_in names x)) (sym (other (name_eq x p.0) refl)) ∙ h) is)
   where
     other : (b : Bool) → name_eq x p.0 ≡ b → name_eq x p.0 ≡ false
     other false q = q
     other true q = absurd (first 0 (omega arith) (sym (same_name x p.0 q)))
 
-    by : (b : Bool) → IsNumberOf (declared_symbols names) x (symbols_before names n)
-        → IsNumberOf (cond b (p.0 ∷ declared_symbols names) (declared_symbols names)) x (length (cond b (p.0 ∷ declared_symbols (take n names)) (declared_symbols (take n names))))
+    by : (b : Bool) → IsNumberOf (names_that own names) x (length (names_that own (take n names)))
+        → IsNumberOf (cond b (p.0 ∷ names_that own names) (names_that own names)) x (length (cond b (p.0 ∷ names_that own (take n names)) (names_that own (take n names))))
     by true is = let lt = is.0 in (omega (arith, lt), is.1)
     by false is = is
 
@@ -132,6 +144,26 @@ noted-more symbols xs x n (Some old) (Some new) is more noted =
       ap (list_all (λ m. nat_lt m (length symbols))) same ∙ (list_all-append (λ m. nat_lt m (length symbols)) old (n ∷ []) ∙ (ap (λ b. b && (nat_lt n (length symbols) && true)) noted.0 ∙ ap (λ b. b && true) below)),
       ap (decode symbols) same ∙ (map-append (name_at symbols) old (n ∷ []) ∙ (ap (λ r. r ++ name_at symbols n ∷ []) noted.1 ∙ ap (λ y. xs ++ y ∷ []) is.1)),
     )
+
+-- with more symbols
+pub noted-later : (symbols more : List Name) (xs : Expr) (noted : Option (List ℕ)) → AreNoted symbols xs noted → AreNoted (symbols ++ more) xs noted
+noted-later symbols more xs None are = tt
+noted-later symbols more xs (Some numbers) are = (codes numbers are.0, same numbers are.0 ∙ are.1)
+  where
+    within : (n : ℕ) → nat_lt n (length symbols) ≡ true → n < length (symbols ++ more)
+    within n h = let below = ltb-true n (length symbols) h in let long = length-append symbols more in omega (arith, below, long)
+
+    codes : (ns : List ℕ) → AreCodes symbols ns → AreCodes (symbols ++ more) ns
+    codes [] h = refl
+    codes (n ∷ ns) h =
+        let p = and_parts (nat_lt n (length symbols)) (list_all (λ m. nat_lt m (length symbols)) ns) h in
+        ap (λ b. b && list_all (λ m. nat_lt m (length (symbols ++ more))) ns) (lt-ltb n (length (symbols ++ more)) (within n p.0)) ∙ codes ns p.1
+
+    same : (ns : List ℕ) → AreCodes symbols ns → decode (symbols ++ more) ns ≡ decode symbols ns
+    same [] h = refl
+    same (n ∷ ns) h =
+        let p = and_parts (nat_lt n (length symbols)) (list_all (λ m. nat_lt m (length symbols)) ns) h in
+        ap (λ x. x ∷ decode (symbols ++ more) ns) (name_at-more symbols more n (ltb-true n (length symbols) p.0)) ∙ ap (λ r. name_at symbols n ∷ r) (same ns p.1)
 
 -- what was noted stands for the first of the symbols, and the rest is to come
 abbrev pub AreDone : List Name → Expr → Expr → Option (List ℕ) → Type 0
@@ -159,11 +191,3 @@ symbols_by-bare (Float label constant variable) = refl
 symbols_by-bare (Ess label expr) = refl
 symbols_by-bare (Axiom label expr) = refl
 symbols_by-bare (Prove label expr proof) = refl
-
--- the symbols of a statement that declares none, behind it
-pub of-last : (S : Database) (s : Stmt) (noted : Option (List ℕ)) → symbols_by s ≡ [] → AreNoted (symbols_of S) (symbols_in s) noted → IsOfLast (S ++ bare s ∷ []) noted
-of-last S s None none noted = tt
-of-last S s (Some numbers) none noted = λ T t e.
-    let both = same_from_push S T (bare s) t e in
-    let same : symbols_of (S ++ bare s ∷ []) ≡ symbols_of S = symbols_of-append S (bare s) ∙ ap (with_names (symbols_of S)) (symbols_by-bare s ∙ none) in
-    (subst (λ N. AreCodes N numbers) (sym same) noted.0, ap (λ N. decode N numbers) same ∙ (noted.1 ∙ (sym (symbols_in-bare s) ∙ ap symbols_in both.1)))

@@ -1,13 +1,13 @@
 -- What a name was declared as.
 -- Source: Metamath, 4.2.
 -- The code keeps a name's kind beside its number; the model looks through the statements.
-use Rattle.std.specs.Prelude.{◌≡◌, Bool, true, false, List, [], ◌∷◌, ◌++◌, map, length, take, ℕ, Option, Some, None, is_some, if◌then◌else◌}
+use Rattle.std.specs.Prelude.{◌≡◌, ◌<◌, Bool, true, false, List, [], ◌∷◌, ◌++◌, map, length, take, ℕ, Option, Some, None, is_some, if◌then◌else◌}
 use Rattle.mm_lex.specs.Alphabet.{Name, name_eq, has_name}
-use Rattle.mm_read.specs.declared.stmt.Stmt.{Stmt}
 use Rattle.mm_read.specs.Statements.{Database}
-use Rattle.scope.specs.Active.{is_constant, was_variable, was_label, label_of, constants, variables, typed_by, is_open, is_close}
+use Rattle.scope.specs.Active.{is_constant, was_variable, was_label}
+use Rattle.names.specs.Codes.{name_at}
 use Rattle.scope.specs.Legal.{all_different}
-use Rattle.scope.specs.Numbering.{declared_by}
+use Rattle.scope.specs.Symbols.{symbols_of, labels_of}
 use Rattle.scope.specs.declared.numbering.NameKind.{NameKind}
 use Rattle.scope.specs.declared.numbering.NameKind.TheVariants.{Label, Constant, Variable}
 
@@ -45,13 +45,34 @@ abbrev pub is_symbol_kind : NameKind → Bool
 is_symbol_kind Label = false
 is_symbol_kind kind = true
 
+abbrev pub is_labelling : NameKind → Bool
+is_labelling Label = true
+is_labelling kind = false
+
+-- the names of some kinds, in order
+abbrev pub names_that : (NameKind → Bool) → Declared → List Name
+names_that own [] = []
+names_that own (p ∷ names) =
+    if own p.1 then p.0 ∷ names_that own names else names_that own names
+
 -- the names that are no labels, in order
 abbrev pub declared_symbols : Declared → List Name
-declared_symbols [] = []
-declared_symbols (p ∷ names) =
-    if is_symbol_kind p.1 then p.0 ∷ declared_symbols names else declared_symbols names
+declared_symbols names = names_that is_symbol_kind names
 
--- how many of them stand before a place
+-- the labels, in order
+abbrev pub declared_labels : Declared → List Name
+declared_labels names = names_that is_labelling names
+
+-- those among which a name of this kind has its number
+abbrev pub names_as : NameKind → Declared → List Name
+names_as Label names = declared_labels names
+names_as kind names = declared_symbols names
+
+-- the number stands for the name
+abbrev pub IsNumberOf : List Name → Name → ℕ → Type 0
+IsNumberOf names x n = (n < length names) × (name_at names n ≡ x)
+
+-- how many symbols stand before a place
 abbrev pub symbols_before : Declared → ℕ → ℕ
 symbols_before names n = length (declared_symbols (take n names))
 
@@ -64,6 +85,12 @@ pub record Tells (S : Database) (x : Name) (kind : Option NameKind) : Type 0 whe
 abbrev pub TellsAll : Database → Declared → Type 0
 TellsAll S names = (x : Name) → Tells S x (kind_in names x)
 
+-- the labels and the symbols of the statements, each with its kind
+pub record IsNumberingOf (S : Database) (names : Declared) : Type 0 where
+  pub told : TellsAll S names
+  pub symbols : declared_symbols names ≡ symbols_of S
+  pub labels : declared_labels names ≡ labels_of S
+
 -- the names after one is declared: it keeps the kind that it has
 abbrev pub with_kind : Declared → NameKind → Name → Declared
 with_kind names kind x = if is_some (kind_in names x) then names else names ++ (x, kind) ∷ []
@@ -75,13 +102,3 @@ with_kinds names kind (x ∷ xs) = with_kinds (with_kind names kind x) kind xs
 -- names of which none has a kind, and none stands twice
 abbrev pub AreNew : Declared → List Name → Type 0
 AreNew names xs = ((x : Name) → has_name x xs ≡ true → kind_in names x ≡ None) × (all_different xs ≡ true)
-
--- a statement other than `$f` that declares this label alone
-pub record IsLabelled (s : Stmt) (label : Name) : Type 0 where
-  pub labelled : label_of s ≡ Some label
-  pub no_constants : constants s ≡ []
-  pub no_variables : variables s ≡ []
-  pub untyped : typed_by s ≡ []
-  pub declared : declared_by s ≡ label ∷ []
-  pub no_open : is_open s ≡ false
-  pub no_close : is_close s ≡ false

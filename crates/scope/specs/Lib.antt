@@ -1,7 +1,6 @@
 pub mod Active
 pub mod Legal
 pub mod Accepted
-pub mod Numbering
 pub mod Kinds
 pub mod Standing
 pub mod Sorts

@@ -1,7 +1,7 @@
 -- The active `$f`, `$e` and `$d`, with their positions.
 -- Source: Metamath, 4.2.8: what is active, hypothesis by hypothesis.
 -- The code keeps them on a stack; the model filters what is active.
-use Rattle.std.specs.Prelude.{◌≡◌, ℕ, List, [], ◌∷◌, length}
+use Rattle.std.specs.Prelude.{ℕ, List, [], ◌∷◌}
 use Rattle.std.specs.List.{flat_map}
 use Rattle.mm_read.specs.declared.stmt.Stmt.{Stmt}
 use Rattle.mm_read.specs.declared.stmt.Stmt.TheVariants.{Disj, Float, Ess}
@@ -19,9 +19,3 @@ stands_at at s = []
 -- those that are active, in order
 abbrev pub standing_of : Database → List Standing
 standing_of S = flat_map (λ p. stands_at p.0 p.1) (active S)
-
--- they are kept, and so are the counts of the statements and of the marked ones
-pub record IsStanding (S M : Database) (standing : List Standing) (count marked_count : ℕ) : Type 0 where
-  pub standing_are : standing ≡ standing_of S
-  pub count_is : count ≡ length S
-  pub marked_count_is : marked_count ≡ length M

@@ -1,10 +1,11 @@
 -- Symbols as numbers: each declared symbol has the place of its first declaration among all symbols, from 0.
 -- Source: this project's form of keeping symbols; what declares a symbol is Metamath, 4.2.1.
-use Rattle.std.specs.Prelude.{◌≡◌, ℕ, List, [], ◌∷◌, ◌++◌}
+use Rattle.std.specs.Prelude.{◌≡◌, ℕ, List, [], ◌∷◌, Option, Some, None}
 use Rattle.mm_lex.specs.Alphabet.{Name}
 use Rattle.mm_read.specs.declared.stmt.Stmt.{Stmt}
 use Rattle.mm_read.specs.declared.stmt.Stmt.TheVariants.{Const, Var, Disj, Float, Ess, Axiom, Prove}
 use Rattle.mm_read.specs.Statements.{Expr, Database}
+use Rattle.scope.specs.Active.{label_of}
 use Rattle.names.specs.Codes.{decode, with_names, AreCodes}
 
 -- the symbols that a statement declares
@@ -32,7 +33,26 @@ symbols_in (Axiom label expr) = expr
 symbols_in (Prove label expr proof) = expr
 symbols_in s = []
 
--- the numbers stand for the symbols of the last statement
-abbrev pub AreOfLast : Database → List ℕ → Type 0
-AreOfLast S numbers =
-    (T : Database) (s : Stmt) → S ≡ T ++ s ∷ [] → AreCodes (symbols_of S) numbers × (decode (symbols_of S) numbers ≡ symbols_in s)
+-- the numbers stand for the symbols of an expression
+abbrev pub AreNumbers : List Name → Expr → List ℕ → Type 0
+AreNumbers symbols xs numbers = AreCodes symbols numbers × (decode symbols numbers ≡ xs)
+
+-- the numbers stand for the variables that a `$v` declares, or for the two symbols of a `$f`; of another statement nothing is asked
+abbrev pub AreVariableNumbers : List Name → Stmt → List ℕ → Type 0
+AreVariableNumbers symbols (Var xs) numbers = AreNumbers symbols xs numbers
+AreVariableNumbers symbols (Float label constant variable) numbers = AreNumbers symbols (constant ∷ variable ∷ []) numbers
+AreVariableNumbers symbols s numbers = Unit {0}
+
+-- the symbols after one statement more
+abbrev pub symbols_after : Database → Stmt → List Name
+symbols_after S s = with_names (symbols_of S) (symbols_by s)
+
+-- what is in an option, before a list
+abbrev pub option_list : {A : Type 0} → Option A → List A → List A
+option_list None xs = xs
+option_list (Some x) xs = x ∷ xs
+
+-- the labels, in order
+abbrev pub labels_of : Database → List Name
+labels_of [] = []
+labels_of (s ∷ S) = option_list (label_of s) (labels_of S)

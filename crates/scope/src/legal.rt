@@ -4,22 +4,22 @@ ghost use Rattle.std.specs.List.{list_all, list_any};
 ghost use Rattle.mm_lex.specs.Alphabet.{has_name};
 ghost use Rattle.mm_read.specs.Statements.{Expr};
 ghost use Rattle.mm_read.specs.declared.stmt.Stmt.TheVariants as stmt;
-ghost use Rattle.scope.specs.Active.{bare, active_variables, typed_variables, is_constant, is_variable, was_label, was_symbol, is_closed, count, is_open, is_close};
+ghost use Rattle.scope.specs.Active.{is_constant, is_variable, was_label, was_symbol};
 ghost use Rattle.scope.specs.Legal.{all_different, are_typed, starts_with_constant, broken_rule};
-ghost use Rattle.scope.specs.Stored.Noted.{IsNumberOf, AreNoted, IsOfLast};
-ghost use Rattle.scope.specs.Sorts.{IsSort, is_symbol_sort, sort_by, sorts_rule};
-ghost use Rattle.names.specs.Codes.{numbers_in};
-ghost use Rattle.scope.specs.Numbering.{names_of};
-ghost use Rattle.scope.specs.Symbols.{symbols_of};
+ghost use Rattle.scope.specs.Stored.Noted.{AreNoted};
+ghost use Rattle.scope.specs.Kinds.{IsNumberOf};
+ghost use Rattle.scope.specs.Sorts.{IsSort, is_symbol_sort, sorts_rule};
+ghost use Rattle.scope.specs.Symbols.{symbols_of, symbols_after, symbols_in};
 
-use crate::judge::Judge;
 use crate::noted::Noted;
-use crate::numbering::NameKind;
+use crate::numbering::{NameKind, Numbering};
 use crate::rule::Rule;
+use crate::rules::Rules;
 use mm_lex::{Word, Words};
 use mm_read::Stmt;
 use std::alloc::{AllocError, Global};
 use std::collections::BTreeSet;
+use std::marker::Model;
 
 /// Lists of fewer words are compared pair by pair.
 const FEW: usize = 16;
@@ -35,15 +35,35 @@ pub(crate) enum Sort {
     Inactive,
 }
 
-impl Judge {
+/// What judges the next statement: the state of the rules, and the numbering of the names. Contracts see the statements
+/// accepted so far.
+#[derive(Drop)]
+pub(crate) struct Judge<'a> {
+    pub(crate) rules: &'a Rules,
+    pub(crate) names: &'a Numbering,
+    pub(crate) alloc: Global,
+}
+
+impl<'a> Model for Judge<'a> {
+    ghost use Rattle.scope.specs.Accepted.{Accepted};
+    ghost use Rattle.scope.specs.Kinds.{IsNumberingOf};
+
+    ghost Value = { Accepted };
+
+    ghost view = { λ a. a.rules.now };
+
+    ghost invariant = { λ a. IsNumberingOf a.rules.now.statements a.names.now };
+}
+
+impl<'a> Judge<'a> {
     /// The least rule that the statement would break as the next one.
     ///
-    /// Where it breaks none and the notes have begun, they are the numbers of its symbols, but for
-    /// `${`, `$}`, `$c` and `$v`. Memory is taken for notes that have begun alone.
+    /// Where it breaks none and the notes have begun, they are the numbers of its symbols, but for `$c` and `$v`, for
+    /// which they are taken away. Memory is taken for notes that have begun alone.
     pub(crate) fn broken_rule(&self, stmt: &Stmt, noted: &mut Noted) -> Option<Rule>
         requires { AreNoted (symbols_of self.now.statements) [] noted.old }
         ensures rule { result ≡ broken_rule self.now.statements stmt.now }
-        ensures noted { result ≡ None → IsOfLast (self.now.statements ++ bare stmt.now ∷ []) noted.new }
+        ensures noted { result ≡ None → AreNoted (symbols_after self.now.statements stmt.now) (symbols_in stmt.now) noted.new }
     {
         match stmt {
             Stmt::Disj(symbols) => self.broken_by_disjoint(symbols, noted),
@@ -55,14 +75,8 @@ impl Judge {
             Stmt::Ess { label, expr } => self.broken_by_labelled(label, expr, noted),
             Stmt::Axiom { label, expr } => self.broken_by_labelled(label, expr, noted),
             Stmt::Prove { label, expr, .. } => self.broken_by_labelled(label, expr, noted),
-            Stmt::Open => {
-                noted.forget();
-                None
-            }
-            Stmt::Close => {
-                noted.forget();
-                self.broken_by_close()
-            }
+            Stmt::Open => None,
+            Stmt::Close => self.broken_by_close(),
             Stmt::Const(symbols) => {
                 noted.forget();
                 self.broken_by_constants(symbols)
@@ -77,7 +91,7 @@ impl Judge {
     fn broken_by_close(&self) -> Option<Rule>
         ensures { result ≡ broken_rule self.now.statements stmt.Close }
     {
-        if self.is_closed() {
+        if self.rules.is_closed() {
             return Some(Rule::G10);
         }
         None
@@ -86,7 +100,7 @@ impl Judge {
     fn broken_by_constants(&self, symbols: &Words) -> Option<Rule>
         ensures { result ≡ broken_rule self.now.statements (stmt.Const symbols.now) }
     {
-        if !self.is_closed() {
+        if !self.rules.is_closed() {
             return Some(Rule::G1);
         }
         if !self.are_fresh(symbols) {
@@ -216,14 +230,6 @@ impl Judge {
         true
     }
 
-    /// Whether no block is open.
-    pub(crate) fn is_closed(&self) -> bool
-        ensures closed { result ≡ is_closed self.now.statements }
-        ensures open { nat_lt (count is_close self.now.statements) (count is_open self.now.statements) ≡ not result }
-    {
-        self.blocks.is_empty()
-    }
-
     /// What a name is.
     pub(crate) fn sort(&self, name: &[u8]) -> Sort
         ensures { IsSort self.now.statements name.now result }
@@ -249,26 +255,10 @@ impl Judge {
         ensures number { is_symbol_sort result.0 ≡ true → IsNumberOf (symbols_of self.now.statements) name.now result.1 }
     {
         match self.names.find(name) {
-            Some((number, NameKind::Constant)) => (Sort::Constant, self.names.symbol(number)),
-            Some((number, NameKind::Variable)) => {
-                (self.sort_of_number(number), self.names.symbol(number))
-            }
+            Some((number, NameKind::Constant)) => (Sort::Constant, number),
+            Some((number, NameKind::Variable)) => (self.rules.sort_of_variable(number), number),
             Some((_, NameKind::Label)) => (Sort::Label, 0),
             None => (Sort::Inactive, 0),
-        }
-    }
-
-    /// What a variable is that was declared.
-    #[inline(always)]
-    fn sort_of_number(&self, number: u32) -> Sort
-        ensures { result ≡ sort_by (list_any (λ n. n == number) (numbers_in (names_of self.now.statements) (active_variables self.now.statements))) (list_any (λ n. n == number) (numbers_in (names_of self.now.statements) (typed_variables self.now.statements))) }
-    {
-        if self.variables.place(number).is_none() {
-            Sort::Inactive
-        } else if self.typed.place(number).is_some() {
-            Sort::Typed
-        } else {
-            Sort::Untyped
         }
     }
 

@@ -1,20 +1,22 @@
 //! May this statement come next, and what is active behind it: the rules G1 to G10.
 //!
-//! The crate above uses one contract: `Scope::add` accepts exactly the legal next statement, and else answers the least rule that
-//! it breaks. Read `rule`, `standing` and `steps`, then `scope` and `reading` (what it tells); `judge` is what stands behind it,
-//! `legal` decides the rules, `accept` has what a statement changes; `numbering`, `stack`, `stack_heights`, `history` and `noted`
-//! are the parts, `laws` what is active.
+//! The crates above use two contracts: `Scope::add` accepts exactly the legal next statement, and else answers the least rule
+//! that it breaks; `Rules` does the same with a numbering that is lent to it, so that one table of names serves rules and frames.
+//! Read `rule`, `standing` and `steps`, then `scope` and `reading` (what it tells) and `rules`; `legal` decides the rules,
+//! `accept` has what a statement changes in their state and `declare` what it declares in the numbering; `numbering`, `stack`,
+//! `stack_heights`, `history` and `noted` are the parts, `laws` what is active.
 #![tactic(auto)]
 
 mod accept;
+mod declare;
 mod history;
-mod judge;
 mod laws;
 mod legal;
 mod noted;
 mod numbering;
 mod reading;
 mod rule;
+mod rules;
 mod scope;
 mod stack;
 mod stack_heights;
@@ -23,7 +25,10 @@ mod steps;
 
 pub use history::History;
 pub use laws::{active_by_sentence, active_closed, active_later, active_more, rules_ignore_proofs};
+pub use noted::Noted;
+pub use numbering::{NameKind, Numbering};
 pub use rule::Rule;
+pub use rules::Rules;
 pub use scope::Scope;
 pub use standing::Standing;
 pub use steps::Steps;

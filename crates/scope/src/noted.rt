@@ -9,7 +9,7 @@ use std::marker::Model;
 ///
 /// The buffer is kept from statement to statement.
 #[derive(Drop)]
-pub(crate) struct Noted {
+pub struct Noted {
     numbers: Vec<u32>,
     whole: bool,
 }
@@ -24,7 +24,7 @@ impl Model for Noted {
 
 impl Noted {
     /// Nothing is noted, until it begins.
-    pub(crate) fn new(alloc: Global) -> Noted
+    pub fn new(alloc: Global) -> Noted
         ensures { result ≡ None }
     {
         Noted {
@@ -34,7 +34,7 @@ impl Noted {
     }
 
     /// Begins with no numbers.
-    pub(crate) fn begin(&mut self)
+    pub fn begin(&mut self)
         ensures { self.new ≡ Some [] }
     {
         self.numbers.clear();
@@ -42,7 +42,7 @@ impl Noted {
     }
 
     /// Takes the notes away.
-    pub(crate) fn forget(&mut self)
+    pub fn forget(&mut self)
         ensures { self.new ≡ None }
     {
         self.whole = false;
@@ -50,7 +50,7 @@ impl Noted {
 
     /// Notes one number more. Where a growth is refused the notes are taken away.
     #[inline(always)]
-    pub(crate) fn note(&mut self, number: u32)
+    pub fn note(&mut self, number: u32)
         ensures { IsAppended number self.old self.new }
     {
         if self.whole && self.numbers.push(number).is_err() {
@@ -59,7 +59,7 @@ impl Noted {
     }
 
     /// The numbers, where they were noted.
-    pub(crate) fn numbers(&self) -> Option<&[u32]>
+    pub fn numbers(&self) -> Option<&[u32]>
         ensures some { is_some result ≡ is_some self.now }
         ensures numbers { IfSome result (λ numbers. self.now ≡ Some numbers.now) }
     {

@@ -1,8 +1,7 @@
 //! Labels and symbols as numbers, in the order of their first declaration.
-ghost use Rattle.std.specs.Prelude.{◌≡◌, ◌<◌, ◌≤◌, ◌^◌, [], ◌∷◌, ◌++◌, take, length, option_map, slice_get, IfOk, IfSome, IfNone, OnOk, OnErr, None, Some};
-ghost use Rattle.names.specs.Codes.{name_at, code_of};
-ghost use Rattle.scope.specs.Stored.KindCounts.{AreCounted, count_behind};
-ghost use Rattle.scope.specs.Kinds.{declared_names, kind_in, symbols_before};
+ghost use Rattle.std.specs.Prelude.{◌≡◌, ℕ, ◌+◌, ◌-◌, ◌<◌, ◌≤◌, ◌^◌, [], ◌∷◌, ◌++◌, take, length, option_map, slice_get, IfOk, IfSome, OnOk, OnErr, None, Some, if◌then◌else◌};
+ghost use Rattle.names.specs.Codes.{name_at};
+ghost use Rattle.scope.specs.Kinds.{declared_symbols, declared_labels, names_as, kind_in, is_symbol_kind, is_labelling, IsNumberOf};
 
 use names::NameTable;
 use std::alloc::{AllocError, Global};
@@ -23,16 +22,24 @@ pub struct CountedKind {
     pub before: u32,
 }
 
-/// Names with their kinds. The number of a name is its place, from 0.
+/// The labels and the declared symbols, in the order of their first declaration. Contracts see the list of the names
+/// with what each was declared as.
+///
+/// A symbol's number is its place among the symbols, a label's its place among the labels, from 0. Both stand in one
+/// table, so that a name is looked up once whatever it is.
 #[derive(Drop)]
 pub struct Numbering {
     names: NameTable,
     entries: Vec<CountedKind>,
+    /// The places of the symbols in the table, by number.
+    symbols: Vec<u32>,
+    /// The places of the labels in the table, by number.
+    labels: Vec<u32>,
 }
 
 impl Model for Numbering {
-    ghost use Rattle.std.specs.Prelude.{ℕ, List, ◌≡◌, length};
-    ghost use Rattle.scope.specs.Stored.KindCounts.{kinds_of, AreCounted};
+    ghost use Rattle.std.specs.Prelude.{ℕ, List};
+    ghost use Rattle.scope.specs.Stored.KindCounts.{kinds_of, IsCounted};
     ghost use Rattle.scope.specs.Kinds.{with_their};
     ghost use Rattle.scope.specs.declared.numbering.NameKind.{NameKind};
 
@@ -40,102 +47,148 @@ impl Model for Numbering {
 
     ghost view = { λ a. with_their a.names (kinds_of a.entries.items) };
 
-    ghost invariant = { λ a. (length a.entries.items ≡ length a.names) × AreCounted 0 a.entries.items };
+    ghost invariant = { λ a. IsCounted a.names a.entries.items a.symbols.items a.labels.items };
 }
 
 impl Numbering {
     /// No names.
-    pub(crate) fn new(alloc: Global) -> Numbering
+    pub fn new(alloc: Global) -> Numbering
         ensures { result ≡ [] }
     {
         Numbering {
             names: NameTable::new(alloc),
             entries: Vec::new(alloc),
+            symbols: Vec::new(alloc),
+            labels: Vec::new(alloc),
         }
     }
 
     /// The same names.
-    pub(crate) fn copy(&self, alloc: Global) -> Result<Numbering, AllocError>
+    pub fn copy(&self, alloc: Global) -> Result<Numbering, AllocError>
         ensures { IfOk result (λ names. names ≡ self.now) }
     {
         let names = self.names.copy(alloc)?;
         let entries = Vec::from_slice(alloc, self.entries.as_slice())?;
-        Ok(Numbering { names, entries })
+        let symbols = Vec::from_slice(alloc, self.symbols.as_slice())?;
+        let labels = Vec::from_slice(alloc, self.labels.as_slice())?;
+        Ok(Numbering {
+            names,
+            entries,
+            symbols,
+            labels,
+        })
     }
 
     /// How many names there are.
-    pub(crate) fn len(&self) -> usize
+    pub fn len(&self) -> usize
         ensures { result ≡ length self.now }
     {
         self.names.len()
     }
 
-    /// The number and the kind of a name that was declared.
-    pub(crate) fn find(&self, name: &[u8]) -> Option<(u32, NameKind)>
-        ensures number { option_map (λ p. p.0) result ≡ code_of (declared_names self.now) name.now }
+    /// How many symbols there are.
+    pub fn symbol_count(&self) -> usize
+        ensures { result ≡ length (declared_symbols self.now) }
+    {
+        self.symbols.len()
+    }
+
+    /// How many labels there are.
+    pub fn label_count(&self) -> usize
+        ensures { result ≡ length (declared_labels self.now) }
+    {
+        self.labels.len()
+    }
+
+    /// What a name was declared as, with its number among the symbols or among the labels. Cost: one look at the table.
+    #[inline(always)]
+    pub fn find(&self, name: &[u8]) -> Option<(u32, NameKind)>
         ensures kind { option_map (λ p. p.1) result ≡ kind_in self.now name.now }
+        ensures number { IfSome result (λ p. IsNumberOf (names_as p.1 self.now) name.now p.0) }
     {
         match self.names.find(name) {
-            Some(number) => Some((
-                number as u32,
-                entry_at(self.entries.as_slice(), number).kind,
-            )),
+            Some(place) => {
+                let entry = entry_at(self.entries.as_slice(), place);
+                Some((number_at(entry, place as u32), entry.kind))
+            }
             None => None,
         }
     }
 
-    /// How many symbols stand before a number: of a symbol, its number among the symbols.
-    #[inline(always)]
-    pub(crate) fn symbol(&self, number: u32) -> u32
-        requires { number < length self.now }
-        ensures { result ≡ symbols_before self.now number }
+    /// The symbol of a number.
+    pub fn symbol(&self, number: u32) -> &[u8]
+        requires { number < length (declared_symbols self.now) }
+        ensures { result.now ≡ name_at (declared_symbols self.now) number }
     {
-        entry_at(self.entries.as_slice(), number as usize).before
+        self.names.name(self.symbols[number as usize] as usize)
     }
 
-    /// The name of a number.
-    pub(crate) fn name(&self, number: u32) -> &[u8]
-        requires { number < length self.now }
-        ensures { result.now ≡ name_at (declared_names self.now) number }
+    /// The label of a number.
+    pub fn label(&self, number: u32) -> &[u8]
+        requires { number < length (declared_labels self.now) }
+        ensures { result.now ≡ name_at (declared_labels self.now) number }
     {
-        self.names.name(number as usize)
+        self.names.name(self.labels[number as usize] as usize)
     }
 
-    /// Gives the next number to a name that has none.
-    pub(crate) fn declare(
-        &mut self,
-        alloc: Global,
-        name: &[u8],
-        kind: NameKind,
-    ) -> Result<(), AllocError>
+    /// Puts a name that is not yet declared behind the others, and tells its number.
+    pub fn declare(&mut self, alloc: Global, name: &[u8], kind: NameKind) -> Result<u32, AllocError>
         requires { kind_in self.old name.now ≡ None }
         ensures ok { OnOk result (self.new ≡ self.old ++ (name.now, kind) ∷ []) }
+        ensures number { IfOk result (λ n. IsNumberOf (names_as kind self.new) name.now n) }
         ensures err { OnErr result (self.new ≡ self.old) }
     {
-        let number = self.names.add(alloc, name)?;
-        let before = symbol_count(self.entries.as_slice());
-        let pushed = self.entries.push(CountedKind { kind, before });
-        if pushed.is_err() {
-            self.names.truncate(number);
+        let place = self.names.add(alloc, name)?;
+        let before = self.symbols.len() as u32;
+        let entry = CountedKind { kind, before };
+        let added = push_entry(
+            &mut self.entries,
+            &mut self.symbols,
+            &mut self.labels,
+            entry,
+            place as u32,
+        );
+        if added.is_err() {
+            self.names.truncate(place);
             return Err(AllocError);
         }
-        Ok(())
+        Ok(number_at(entry, place as u32))
     }
 
-    /// Makes room for so many more names, where there is memory for it.
-    pub(crate) fn reserve(&mut self, alloc: Global, more: usize)
+    /// Makes room for so many more labels, where there is memory for it.
+    pub fn reserve(&mut self, alloc: Global, labels: usize)
         ensures { self.new ≡ self.old }
     {
-        self.names.reserve(alloc, more);
-        let _ = self.entries.reserve(more);
+        self.names.reserve(alloc, labels);
+        let _ = self.entries.reserve(labels);
+        let _ = self.labels.reserve(labels);
     }
 
     /// Keeps the first `len` names.
-    pub(crate) fn truncate(&mut self, len: usize)
+    pub fn truncate(&mut self, len: usize)
         ensures { self.new ≡ take len self.old }
     {
+        if len >= self.names.len() {
+            return;
+        }
+        let before = entry_at(self.entries.as_slice(), len).before as usize;
         self.names.truncate(len);
         self.entries.truncate(len);
+        self.symbols.truncate(before);
+        self.labels.truncate(len - before);
+    }
+}
+
+/// The number among the symbols or among the labels of the name at a place, by its entry.
+#[inline(always)]
+fn number_at(entry: CountedKind, place: u32) -> u32
+    requires { entry.before ≤ place }
+    ensures { result ≡ (if is_symbol_kind entry.kind then entry.before else place - entry.before) }
+{
+    match entry.kind {
+        NameKind::Label => place - entry.before,
+        NameKind::Constant => entry.before,
+        NameKind::Variable => entry.before,
     }
 }
 
@@ -147,18 +200,46 @@ fn entry_at(entries: &[CountedKind], index: usize) -> CountedKind
     entries[index]
 }
 
-/// How many of the names are symbols.
-fn symbol_count(entries: &[CountedKind]) -> u32
-    requires few { length entries.now < 2 ^ 32 }
-    requires counted { AreCounted 0 entries.now }
-    ensures { result ≡ count_behind 0 entries.now }
+/// Puts an entry behind the others, and its place behind those of the names of its kind.
+fn push_entry(
+    entries: &mut Vec<CountedKind>,
+    symbols: &mut Vec<u32>,
+    labels: &mut Vec<u32>,
+    entry: CountedKind,
+    place: u32,
+) -> Result<(), AllocError>
+    ensures entries { OnOk result (entries.new.items ≡ entries.old.items ++ entry ∷ []) }
+    ensures symbols { OnOk result (symbols.new.items ≡ symbols.old.items ++ (if is_symbol_kind entry.kind then place ∷ [] else [])) }
+    ensures labels { OnOk result (labels.new.items ≡ labels.old.items ++ (if is_labelling entry.kind then place ∷ [] else [])) }
+    ensures same_entries { OnErr result (entries.new.items ≡ entries.old.items) }
+    ensures same_symbols { OnErr result (symbols.new.items ≡ symbols.old.items) }
+    ensures same_labels { OnErr result (labels.new.items ≡ labels.old.items) }
 {
-    match entries.last() {
-        Some(last) => match last.kind {
-            NameKind::Label => last.before,
-            NameKind::Constant => last.before + 1,
-            NameKind::Variable => last.before + 1,
-        },
-        None => 0,
+    match entry.kind {
+        NameKind::Label => push_both(entries, labels, entry, place),
+        NameKind::Constant => push_both(entries, symbols, entry, place),
+        NameKind::Variable => push_both(entries, symbols, entry, place),
     }
+}
+
+/// Puts an entry and its place behind the others.
+fn push_both(
+    entries: &mut Vec<CountedKind>,
+    places: &mut Vec<u32>,
+    entry: CountedKind,
+    place: u32,
+) -> Result<(), AllocError>
+    ensures entries { OnOk result (entries.new.items ≡ entries.old.items ++ entry ∷ []) }
+    ensures places { OnOk result (places.new.items ≡ places.old.items ++ place ∷ []) }
+    ensures same_entries { OnErr result (entries.new.items ≡ entries.old.items) }
+    ensures same_places { OnErr result (places.new.items ≡ places.old.items) }
+{
+    let count = places.len();
+    places.push(place)?;
+    let added = entries.push(entry);
+    if added.is_err() {
+        places.truncate(count);
+        return Err(AllocError);
+    }
+    Ok(())
 }

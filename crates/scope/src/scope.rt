@@ -1,35 +1,49 @@
 //! The statements accepted so far, and what is active behind them.
-ghost use Rattle.std.specs.Prelude.{◌≡◌, ◌+◌, ◌++◌, ◌∷◌, [], OnOk, OnErr, IfOk, IfErr, IfSome, IsTrue, None};
+ghost use Rattle.std.specs.Prelude.{◌≡◌, ◌+◌, ◌<◌, ◌^◌, ◌++◌, ◌∷◌, [], List, length, OnOk, OnErr, IfOk, IfErr, IfSome, IsTrue, None};
 ghost use Rattle.mm_read.specs.Statements.{IsShaped};
 ghost use Rattle.scope.specs.Active.{bare, is_closed};
 ghost use Rattle.scope.specs.Legal.{IsLegal, broken_rule, end_rule};
+ghost use Rattle.scope.specs.Kinds.{Declared, IsNumberingOf};
+ghost use Rattle.scope.specs.Standing.{standing_of};
+ghost use Rattle.scope.specs.Stored.Noted.{AreNoted};
+ghost use Rattle.scope.specs.declared.standing.Standing.{Standing as Standings};
+ghost use Rattle.scope.specs.Symbols.{symbols_after, symbols_in};
 
-use crate::judge::Judge;
+use crate::declare::declare;
+use crate::legal::Judge;
 use crate::noted::Noted;
+use crate::numbering::Numbering;
 use crate::rule::Rule;
+use crate::rules::Rules;
+use crate::standing::{Standing, copy_standing, push_standing};
 use crate::steps::Steps;
 use mm_read::Stmt;
 use std::alloc::{AllocError, Global};
 use std::marker::Model;
 
-/// The statements accepted so far, and those of them that are marked.
-///
-/// Beside them stand the numbers of the symbols of the last one, where they were noted.
+/// The statements accepted so far, and those of them that are marked: the state of the rules with a numbering of its own,
+/// and the `$f`, `$e` and `$d` that are active.
 #[derive(Drop)]
 pub struct Scope {
-    pub(crate) judge: Judge,
-    pub(crate) noted: Noted,
+    alloc: Global,
+    pub(crate) rules: Rules,
+    pub(crate) names: Numbering,
+    pub(crate) standing: Vec<Standing>,
+    pub(crate) count: usize,
+    marked_names: usize,
+    marked_count: usize,
+    noted: Noted,
 }
 
 impl Model for Scope {
     ghost use Rattle.scope.specs.Accepted.{Accepted};
-    ghost use Rattle.scope.specs.Stored.Noted.{IsOfLast};
+    ghost use Rattle.scope.specs.Stored.Stacks.{IsScope};
 
     ghost Value = { Accepted };
 
-    ghost view = { λ a. a.judge };
+    ghost view = { λ a. a.rules };
 
-    ghost invariant = { λ a. IsOfLast a.judge.statements a.noted };
+    ghost invariant = { λ a. IsScope a.rules.statements a.rules.marked a.names a.marked_names a.standing.items a.count a.marked_count };
 }
 
 impl Scope {
@@ -39,7 +53,13 @@ impl Scope {
         ensures marked { result.marked ≡ [] }
     {
         Scope {
-            judge: Judge::new(alloc),
+            alloc,
+            rules: Rules::new(alloc),
+            names: Numbering::new(alloc),
+            standing: Vec::new(alloc),
+            count: 0,
+            marked_names: 0,
+            marked_count: 0,
             noted: Noted::new(alloc),
         }
     }
@@ -63,20 +83,43 @@ impl Scope {
     {
         steps.tick();
         self.noted.begin();
-        if let Some(rule) = self.judge.broken_rule(stmt, &mut self.noted) {
-            self.noted.forget();
+        let broken = self
+            .rules
+            .broken_rule(&self.names, self.alloc, stmt, &mut self.noted);
+        if let Some(rule) = broken {
             return Err(rule);
         }
-        if self.judge.len() == usize::MAX {
-            self.noted.forget();
+        if self.count == usize::MAX {
             return Err(Rule::Memory);
         }
-        match self.judge.accept(stmt) {
-            Ok(()) => Ok(()),
-            Err(AllocError) => {
-                self.noted.forget();
-                Err(Rule::Memory)
-            }
+        let names = self.names.len();
+        let standing = self.standing.len();
+        let taken = take_in(
+            self.alloc,
+            &mut self.rules,
+            &mut self.names,
+            &mut self.standing,
+            self.count + 1,
+            stmt,
+            &mut self.noted,
+        );
+        if taken.is_err() {
+            self.names.truncate(names);
+            self.standing.truncate(standing);
+            return Err(Rule::Memory);
+        }
+        self.count += 1;
+        Ok(())
+    }
+
+    /// What judges the next statement.
+    pub(crate) fn judge(&self) -> Judge<'_>
+        ensures { result ≡ self.now }
+    {
+        Judge {
+            rules: &self.rules,
+            names: &self.names,
+            alloc: self.alloc,
         }
     }
 
@@ -87,8 +130,9 @@ impl Scope {
     pub fn broken_rule(&self, stmt: &Stmt) -> Option<Rule>
         ensures { result ≡ broken_rule self.now.statements stmt.now }
     {
-        let mut unnoted = Noted::new(self.judge.alloc);
-        self.judge.broken_rule(stmt, &mut unnoted)
+        let mut unnoted = Noted::new(self.alloc);
+        self.rules
+            .broken_rule(&self.names, self.alloc, stmt, &mut unnoted)
     }
 
     /// What the end of the text breaks: G10 where a block is open. It takes no memory.
@@ -97,11 +141,7 @@ impl Scope {
         ensures open { IfSome (end_rule self.now.statements) (λ rule. result ≡ Err rule) }
         ensures closed { end_rule self.now.statements ≡ None → result ≡ Ok tt }
     {
-        if self.judge.is_closed() {
-            Ok(())
-        } else {
-            Err(Rule::G10)
-        }
+        self.rules.close_at_end()
     }
 
     /// Makes room for so many more labels, where there is memory for it: statements that carry them are then added
@@ -109,7 +149,7 @@ impl Scope {
     pub fn reserve(&mut self, labels: usize)
         ensures { self.new ≡ self.old }
     {
-        self.judge.reserve(labels);
+        self.names.reserve(self.alloc, labels);
     }
 
     /// Marks the statements accepted so far. It takes no memory.
@@ -118,7 +158,9 @@ impl Scope {
         ensures statements { self.new.statements ≡ self.old.statements }
         ensures marked { self.new.marked ≡ self.old.statements }
     {
-        self.judge.mark();
+        self.rules.mark();
+        self.marked_names = self.names.len();
+        self.marked_count = self.count;
     }
 
     /// Goes back to the marked statements. It takes no memory.
@@ -126,8 +168,10 @@ impl Scope {
         ensures statements { self.new.statements ≡ self.old.marked }
         ensures marked { self.new.marked ≡ self.old.marked }
     {
-        self.judge.back();
-        self.noted.forget();
+        self.rules.back();
+        self.names.truncate(self.marked_names);
+        self.standing.truncate(self.rules.standing());
+        self.count = self.marked_count;
     }
 
     /// The same scope.
@@ -135,8 +179,49 @@ impl Scope {
         ensures { IfOk result (λ scope. scope ≡ self.now) }
     {
         Ok(Scope {
-            judge: self.judge.copy()?,
-            noted: Noted::new(self.judge.alloc),
+            alloc: self.alloc,
+            rules: self.rules.copy(self.alloc)?,
+            names: self.names.copy(self.alloc)?,
+            standing: copy_standing(self.alloc, self.standing.as_slice())?,
+            count: self.count,
+            marked_names: self.marked_names,
+            marked_count: self.marked_count,
+            noted: Noted::new(self.alloc),
         })
     }
+}
+
+/// Takes a legal statement in, by the numbers that were noted of its symbols.
+///
+/// Where a growth is refused the rules are as before, and the names and what stood are the first ones.
+fn take_in(
+    alloc: Global,
+    rules: &mut Rules,
+    names: &mut Numbering,
+    standing: &mut Vec<Standing>,
+    at: usize,
+    stmt: &Stmt,
+    noted: &mut Noted,
+) -> Result<(), AllocError>
+    requires legal { IsLegal rules.old.statements stmt.now }
+    requires numbering { IsNumberingOf rules.old.statements names.old }
+    requires standing { standing.old.items ≡ standing_of rules.old.statements }
+    requires at { at ≡ length rules.old.statements + 1 }
+    requires noted { AreNoted (symbols_after rules.old.statements stmt.now) (symbols_in stmt.now) noted.old }
+    ensures added { OnOk result (rules.new.statements ≡ rules.old.statements ++ bare stmt.now ∷ []) }
+    ensures same { OnErr result (rules.new.statements ≡ rules.old.statements) }
+    ensures marked { rules.new.marked ≡ rules.old.marked }
+    ensures numbering { OnOk result (IsNumberingOf (rules.old.statements ++ bare stmt.now ∷ []) names.new) }
+    ensures names { (more : Declared) × (names.new ≡ names.old ++ more) }
+    ensures standing { OnOk result (standing.new.items ≡ standing_of (rules.old.statements ++ bare stmt.now ∷ [])) }
+    ensures behind { OnErr result ((more : List Standings) × (standing.new.items ≡ standing.old.items ++ more)) }
+{
+    push_standing(standing, alloc, at, stmt)?;
+    declare(names, alloc, stmt, noted)?;
+    match noted.numbers() {
+        Some(numbers) => rules.accept(stmt, numbers)?,
+        None => return Err(AllocError),
+    }
+    standing.truncate(rules.standing());
+    Ok(())
 }

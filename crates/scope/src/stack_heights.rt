@@ -1,4 +1,4 @@
-//! How high the stacks of a scope stand.
+//! How high the stacks of the rules stand.
 
 /// How many active variables there are, and how many of them have an active `$f`, and how many
 /// `$f`, `$e` and `$d` are active.

@@ -13,7 +13,7 @@ use Rattle.frame.proofs.PositionLemmas.{get-last}
 use Rattle.steps.specs.StepTable.{Step, IsPlaced, stands, comes_last}
 use Rattle.steps.specs.Rows.{Row, no_row, steps_of, expr_in, Follows, AreRows}
 use Rattle.steps.specs.Stored.Drafted as drafted
-use Rattle.steps.specs.Stored.Drafted.{row_of, rows_of, codes_in, key_of, progress_of, IsDraft, IsTied, Finds, GivesHypothesis, GivesAssertion}
+use Rattle.steps.specs.Stored.Drafted.{row_of, rows_of, IsDraft, IsTied, Finds}
 use Rattle.steps.specs.declared.table_draft.TableDraft.{TableDraft}
 use Rattle.steps.proofs.DraftRowLemmas.{rows-more, buffer-snoc, row-at, exprs-front, rows-snoc, known-snoc}
 use Rattle.frame.proofs.SymbolNumberLemmas.{below-push, below-more}

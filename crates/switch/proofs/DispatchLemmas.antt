@@ -20,7 +20,7 @@ use Rattle.net.proofs.TakenLemmas.{length-nodes_of, count_shown}
 use Rattle.switch.specs.Seat.{up, down, Seated, Fails, change_owed}
 use Rattle.switch.specs.Switch.{Place, Shared, event_owed, IsOwing, IsSwitch, world_of, is_down_at, due, ActsUp, Acts, ActsDown, Restarts}
 use Rattle.switch.proofs.SeatsLemmas.{count_places, down_place}
-use Rattle.switch.proofs.SwitchLemmas.{shared, still_switch, at}
+use Rattle.switch.proofs.SwitchLemmas.{shared, still_switch}
 use Rattle.switch.proofs.CallLemmas.{still_shared, of_world, after_is, is_up_at, kept_up, failed, failed_acts, played, played_acts}
 
 -- Which nodes there are.

@@ -298,11 +298,11 @@ impl<V: Value> NodeCore<V> {
     }
 
     /// The same with a loaded record as the kept part.
-    pub fn commit_reload(&mut self, record: Record<V>)
-        ensures { self.new.node ≡ (reloaded self.old.node record.kept).node }
+    pub fn commit_reload(&mut self, stored: Record<V>)
+        ensures { self.new.node ≡ (reloaded self.old.node stored.kept).node }
     {
-        prove!(record.top() <= SLOTS);
-        self.record = record;
+        prove!(stored.top() <= SLOTS);
+        self.record = stored;
         self.commit_restart();
     }
 
@@ -317,12 +317,12 @@ impl<V: Value> NodeCore<V> {
     }
 
     /// Restarts with a loaded record as the kept part.
-    pub fn reload(&mut self, record: Record<V>) -> Result<Vec<Packet<V>>, Refusal>
-        ensures makes { Makes self.old.node self.new.node (Ok (reloaded self.old.node record.kept)) result }
+    pub fn reload(&mut self, stored: Record<V>) -> Result<Vec<Packet<V>>, Refusal>
+        ensures makes { Makes self.old.node self.new.node (Ok (reloaded self.old.node stored.kept)) result }
         ensures posts { IfOk result (λ posts. AllByRecursion (IsPost (length self.old.node.weights)) posts.items) }
     {
         let posts = self.ready_restart()?;
-        self.commit_reload(record);
+        self.commit_reload(stored);
         Ok(posts)
     }
 

@@ -14,16 +14,16 @@ use std::alloc::{AllocError, Global};
 /// The reports of the entries from `first` on, in order of slots, cut into pages.
 fn report_pages<V: Value>(
     alloc: Global,
-    record: &Record<V>,
+    stored: &Record<V>,
     first: u32,
 ) -> Result<Vec<Reports<V>>, AllocError>
-    ensures pages { IfOk result (λ pages. pages.items ≡ pages_of (reports_from first 0 record.now.kept.accepted)) }
+    ensures pages { IfOk result (λ pages. pages.items ≡ pages_of (reports_from first 0 stored.now.kept.accepted)) }
     ensures few { IfOk result (λ pages. length pages.items ≤ MOST_PAGES) }
 {
     let mut pages = Vec::new(alloc);
     let mut page = Vec::new(alloc);
-    for slot in first..record.top() {
-        if let Some(held) = record.get(slot) {
+    for slot in first..stored.top() {
+        if let Some(held) = stored.get(slot) {
             if page.len() == PAGE_REPORTS {
                 pages.push(Reports::new(page))?;
                 page = Vec::new(alloc);
@@ -72,14 +72,14 @@ fn post_pages<V: Value>(
 /// The packets of a promise: what was accepted from `first` on, in pages.
 pub(crate) fn promise_posts<V: Value>(
     alloc: Global,
-    record: &Record<V>,
+    stored: &Record<V>,
     me: u8,
     to: u8,
     ballot: Ballot,
     first: u32,
 ) -> Result<Vec<Packet<V>>, AllocError>
-    ensures { IfOk result (λ posts. posts.items ≡ promise_posts me to ballot (pages_of (reports_from first 0 record.now.kept.accepted))) }
+    ensures { IfOk result (λ posts. posts.items ≡ promise_posts me to ballot (pages_of (reports_from first 0 stored.now.kept.accepted))) }
 {
-    let pages = report_pages(alloc, record, first)?;
+    let pages = report_pages(alloc, stored, first)?;
     post_pages(alloc, me, to, ballot, pages)
 }

@@ -1,5 +1,5 @@
 -- Extents, one child and one node at a time.
-use Rattle.std.specs.Prelude.{◌≡◌, ℕ, zero, suc, ◌+◌, ◌<◌, ◌≤◌, min, max, List, [], ◌∷◌, ◌++◌, length, map, take, get_or, slice_get, Some, refl}
+use Rattle.std.specs.Prelude.{◌≡◌, ℕ, zero, suc, ◌+◌, ◌<◌, ◌≤◌, min, max, List, [], ◌∷◌, ◌++◌, length, map, take, get_or, slice_get, Some}
 use Rattle.std.proofs.Common.{sym, ◌∙◌, ap, subst, arith}
 use Rattle.std.proofs.lemmas.List.{length-map, map_push, take_more}
 use Rattle.verify.specs.declared.tree_size.Extent.{Extent}

@@ -1,11 +1,11 @@
 -- Numbers that stand for names, and what one more entry changes. The code's own form: no public clause cites it.
-use Rattle.std.specs.Prelude.{◌≡◌, ℕ, ◌+◌, ◌<◌, ◌≤◌, ◌^◌, ◌==◌, true, false, ◌&&◌, if◌then◌else◌, List, [], ◌∷◌, ◌++◌, length, map, take, slice_get, Option, Some, None}
+use Rattle.std.specs.Prelude.{◌≡◌, ℕ, ◌<◌, ◌≤◌, ◌^◌, ◌==◌, true, false, ◌&&◌, if◌then◌else◌, List, [], ◌∷◌, ◌++◌, length, map, take, slice_get, Option, Some, None}
 use Rattle.std.specs.List.{list_any}
-use Rattle.mm_lex.specs.Alphabet.{Name, has_name}
+use Rattle.mm_lex.specs.Alphabet.{Name}
 use Rattle.mm_read.specs.declared.stmt.Stmt.{Stmt}
 use Rattle.mm_read.specs.declared.stmt.Stmt.TheVariants as stmt
 use Rattle.scope.specs.Active.{is_open, is_close}
-use Rattle.scope.specs.Symbols.{symbols_of}
+use Rattle.scope.specs.Symbols.{symbols_of, labels_of}
 use Rattle.entries.specs.declared.kind.Kind.{Kind}
 use Rattle.entries.specs.declared.kind.Kind.TheVariants.{Open, Close, Const, Var, Disj, Float, Ess, Axiom, Prove}
 use Rattle.entries.specs.Entries.{Entry}
@@ -14,7 +14,7 @@ use Rattle.frame.specs.declared.storage.Stock.{Stock}
 use Rattle.entries.specs.Stored.Spans.{Extends}
 use Rattle.frame.specs.Citations.{is_hypothesis_kind}
 use Rattle.frame.specs.Below.{AreBelow}
-use Rattle.frame.specs.Stored.EntryMeanings.{stmt_of, numbered, labels_of, is_float_kind, is_var_kind, second_is}
+use Rattle.frame.specs.Stored.EntryMeanings.{stmt_of, names_in, is_float_kind, is_var_kind, second_is}
 
 -- ---- numbers that stand for names
 
@@ -81,33 +81,26 @@ with_entry e at c x = with_declared e.kind e.symbols at c x
 
 -- there is room for the numbers of names: fewer than 2^31, and each with its declarations
 pub record HasRoom (k : Stock) : Type 0 where
-  pub count : length k.symbols.items ≡ length k.names
-  pub few : length k.names < 2 ^ 31
+  pub count : length k.symbols.items ≡ length (names_in k)
+  pub few : length (names_in k) < 2 ^ 31
 
--- more names, labels and positions behind those that were there; the entries and the links stay
+-- more names and positions behind those that were there; the entries and the links stay
 pub record Grown (old new : Stock) : Type 0 where
-  pub names : Extends old.names new.names
+  pub numbering : Extends old.numbering new.numbering
   pub symbols : AreZeroBehind old.symbols.items new.symbols.items
-  pub labels : Extends old.labels new.labels
   pub positions : Extends old.positions.items new.positions.items
   pub replaced : new.replaced ≡ old.replaced
   pub entries : new.entries ≡ old.entries
   pub links : new.links ≡ old.links
 
--- the storage with more names, labels and positions behind those that were there: cut back it is as before
+-- the storage with more names and positions behind those that were there: cut back it is as before
 pub record IsBehind (old new : Stock) : Type 0 where
-  pub names : Extends old.names new.names
+  pub numbering : Extends old.numbering new.numbering
   pub symbols : AreZeroBehind old.symbols.items new.symbols.items
-  pub labels : Extends old.labels new.labels
   pub positions : Extends old.positions.items new.positions.items
   pub replaced : Extends old.replaced.items new.replaced.items
   pub entries : new.entries ≡ old.entries
   pub links : new.links ≡ old.links
-
--- the label, if there is one, is new
-abbrev pub IsFresh : List Name → Option Name → Type 0
-IsFresh labels None = Unit {0}
-IsFresh labels (Some x) = has_name x labels ≡ false
 
 abbrev pub IsLabelled : Kind → Type 0
 IsLabelled Float = Unit {0}

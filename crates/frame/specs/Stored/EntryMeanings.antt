@@ -7,6 +7,7 @@ use Rattle.mm_read.specs.declared.stmt.Stmt.TheVariants as stmt
 use Rattle.mm_read.specs.Statements.{Expr, Database}
 use Rattle.scope.specs.Active.{stmt_at, before, label_of}
 use Rattle.scope.specs.Legal.{IsLegal}
+use Rattle.scope.specs.Kinds.{declared_symbols, declared_labels}
 use Rattle.names.specs.Codes.{name_at, decode}
 use Rattle.entries.specs.declared.kind.Kind.{Kind}
 use Rattle.entries.specs.declared.kind.Kind.TheVariants.{Open, Close, Const, Var, Disj, Float, Ess, Axiom, Prove}
@@ -30,21 +31,20 @@ stmt_by Prove label names = stmt.Prove label names []
 abbrev pub stmt_of : List Name → List Name → Entry → Stmt
 stmt_of names labels e = stmt_by e.kind (name_at labels e.label) (decode names e.symbols)
 
+-- the symbols and the labels of a storage, by number
+abbrev pub names_in : Stock → List Name
+names_in k = declared_symbols k.numbering
+
+abbrev pub labels_in : Stock → List Name
+labels_in k = declared_labels k.numbering
+
 abbrev pub statements_of : Stock → Database
-statements_of k = map (stmt_of k.names k.labels) k.entries
+statements_of k = map (stmt_of (names_in k) (labels_in k)) k.entries
 
 abbrev pub numbered : Stock → Numbered
-numbered k = record { statements = statements_of k; names = k.names }
+numbered k = record { statements = statements_of k; names = names_in k }
 
--- the labels, in order, and where they stand
-abbrev pub option_list : {A : Type 0} → Option A → List A → List A
-option_list None xs = xs
-option_list (Some x) xs = x ∷ xs
-
-abbrev pub labels_of : Database → List Name
-labels_of [] = []
-labels_of (s ∷ S) = option_list (label_of s) (labels_of S)
-
+-- where the labels stand
 abbrev pub option_position : {A : Type 0} → Option A → ℕ → List ℕ → List ℕ
 option_position None at ps = ps
 option_position (Some x) at ps = at ∷ ps

@@ -3,8 +3,8 @@ use Rattle.std.specs.Prelude.{◌≡◌, ℕ, ◌+◌, ◌<◌, ◌^◌, Bool, t
 use Rattle.mm_lex.specs.Alphabet.{Name}
 use Rattle.mm_read.specs.declared.stmt.Stmt.{Stmt}
 use Rattle.scope.specs.Active.{label_of, expr_of, is_essential, stays_open}
-use Rattle.names.specs.Codes.{decode, with_names}
-use Rattle.scope.specs.Symbols.{symbols_by, symbols_in, symbols_of}
+use Rattle.names.specs.Codes.{decode}
+use Rattle.scope.specs.Symbols.{symbols_in, symbols_of, labels_of}
 use Rattle.entries.specs.declared.links.Links.{Links}
 use Rattle.entries.specs.declared.head.Head.{Head}
 use Rattle.entries.specs.Entries.{Entry}
@@ -13,8 +13,9 @@ use Rattle.frame.specs.declared.storage.Symbol.{Symbol}
 use Rattle.frame.specs.declared.storage.Stock.{Stock}
 use Rattle.frame.specs.Below.{AreBelow}
 use Rattle.frame.specs.Links.{links_of}
-use Rattle.frame.specs.Stored.EntryMeanings.{stmt_of, statements_of, option_list, labels_of, option_position, positions_from, AreAllLegal, symbol_of, replaced_of}
+use Rattle.frame.specs.Stored.EntryMeanings.{stmt_of, names_in, labels_in, statements_of, option_position, positions_from, AreAllLegal, symbol_of, replaced_of}
 use Rattle.frame.specs.Stored.Counts.{IsLabelBelow, HasTwo, AreNumbered, KeepsCounts, kind_of}
+use Rattle.frame.specs.Stored.Naming.{with_statement, naming_of}
 use Rattle.frame.specs.Stored.AssertionParts.{IsKeptAs, has_parts}
 
 -- the storage of a database
@@ -34,26 +35,26 @@ pub record AreKept (names labels : List Name) (positions : List ℕ) (symbols : 
   pub few : length names < 2 ^ 31
   pub parts_kept : (i : ℕ) (e : Entry) → slice_get entries i ≡ Some e → has_parts e.kind ≡ true → IsKeptAs entries (take i (map (stmt_of names labels) entries)) (stmt_of names labels e) e.assertion
 
-abbrev pub AreStored : Stock → Type 0
-AreStored k = AreKept k.names k.labels k.positions.items k.symbols.items k.replaced.items k.entries k.links
+pub record AreStored (k : Stock) : Type 0 where
+  pub kept : AreKept (names_in k) (labels_in k) k.positions.items k.symbols.items k.replaced.items k.entries k.links
+  pub numbered : k.numbering ≡ naming_of (statements_of k)
 
 -- what is noted of the statement that comes next
 pub record IsHead (k : Stock) (s : Stmt) (h : Head) : Type 0 where
   pub kind : h.kind ≡ kind_of s
-  pub label : h.label ≡ length k.labels
-  pub names : h.names ≡ length k.names
+  pub label : h.label ≡ length (labels_in k)
+  pub names : h.names ≡ length (names_in k)
   pub links : h.links ≡ k.links
 
 -- the entry is the statement: its numbers are among those of the storage, which has its label and position
 pub record Entered (old new : Stock) (s : Stmt) (e : Entry) : Type 0 where
-  pub stands : stmt_of new.names new.labels e ≡ s
-  pub symbols : AreBelow (length new.names) e.symbols
-  pub label : IsLabelBelow e.kind e.label (length new.labels)
-  pub names_before : e.names ≡ length old.names
-  pub labels_before : e.label ≡ length old.labels
+  pub stands : stmt_of (names_in new) (labels_in new) e ≡ s
+  pub symbols : AreBelow (length (names_in new)) e.symbols
+  pub label : IsLabelBelow e.kind e.label (length (labels_in new))
+  pub names_before : e.names ≡ length (names_in old)
+  pub labels_before : e.label ≡ length (labels_in old)
   pub two : HasTwo e.kind e.symbols
-  pub names : new.names ≡ with_names old.names (symbols_by s)
-  pub labels : new.labels ≡ old.labels ++ option_list (label_of s) []
+  pub numbering : new.numbering ≡ with_statement old.numbering s
   pub positions : new.positions.items ≡ old.positions.items ++ option_position (label_of s) (length old.entries + 1) []
   pub links : e.links ≡ old.links
   pub kept : has_parts e.kind ≡ true → IsKeptAs old.entries (statements_of old) s e.assertion
@@ -66,7 +67,7 @@ pub record AreNumbersOf (names : List Name) (s : Stmt) (codes : List ℕ) : Type
 -- the symbols are those of the assertion s or, where it is one, of the `$e` s
 pub record IsNext (k : Stock) (is_own : Bool) (codes : List ℕ) (s : Stmt) : Type 0 where
   pub own : is_essential s ≡ true → is_own ≡ true
-  pub stand : decode k.names codes ≡ expr_of s
+  pub stand : decode (names_in k) codes ≡ expr_of s
 
 abbrev pub IsKeptOf : Stock → Stmt → Assertion → Type 0
 IsKeptOf k s d = IsKeptAs k.entries (statements_of k) s d

@@ -1,7 +1,8 @@
--- Kinds with the count of the symbols before each.
+-- Kinds with the count of the symbols before each, and the places of the names of some kinds.
 -- The code's own form: no clause of a scope cites it.
-use Rattle.std.specs.Prelude.{◌≡◌, ℕ, ◌+◌, List, [], ◌∷◌, map, if◌then◌else◌}
-use Rattle.scope.specs.Kinds.{is_symbol_kind}
+use Rattle.std.specs.Prelude.{◌≡◌, ℕ, ◌+◌, Bool, List, [], ◌∷◌, map, length, if◌then◌else◌}
+use Rattle.mm_lex.specs.Alphabet.{Name}
+use Rattle.scope.specs.Kinds.{is_symbol_kind, is_labelling}
 use Rattle.scope.specs.declared.numbering.NameKind.{NameKind}
 use Rattle.scope.specs.declared.numbering.CountedKind.{CountedKind}
 
@@ -17,7 +18,15 @@ abbrev pub AreCounted : ℕ → List CountedKind → Type 0
 AreCounted n [] = Unit {0}
 AreCounted n (e ∷ entries) = (e.before ≡ n) × AreCounted (behind e) entries
 
--- the count behind the last
-abbrev pub count_behind : ℕ → List CountedKind → ℕ
-count_behind n [] = n
-count_behind n (e ∷ entries) = count_behind (behind e) entries
+-- the places of the entries of some kinds, of which the first has the place n
+abbrev pub places_that : (NameKind → Bool) → ℕ → List CountedKind → List ℕ
+places_that own n [] = []
+places_that own n (e ∷ entries) =
+    if own e.kind then n ∷ places_that own (n + 1) entries else places_that own (n + 1) entries
+
+-- an entry for each name, and the places of the symbols and of the labels
+pub record IsCounted (names : List Name) (entries : List CountedKind) (symbols labels : List ℕ) : Type 0 where
+  pub same : length entries ≡ length names
+  pub counted : AreCounted 0 entries
+  pub symbols_are : symbols ≡ places_that is_symbol_kind 0 entries
+  pub labels_are : labels ≡ places_that is_labelling 0 entries

@@ -1,15 +1,14 @@
--- How a scope is kept: as stacks of numbers with the places where the open blocks start, and where the mark stands.
+-- How the rules are kept: as stacks of numbers with the places where the open blocks start, and where the mark stands.
 -- Source: this project's form.
 -- The model has positions and bracket counts; here each field of the code is said as a function of the statements.
-use Rattle.std.specs.Prelude.{◌≡◌, ℕ, true, List, [], ◌∷◌, ◌++◌, length, take, if◌then◌else◌}
-use Rattle.std.specs.List.{flat_map}
+use Rattle.std.specs.Prelude.{◌≡◌, ℕ, ◌≤◌, Bool, true, false, not, ◌&&◌, ◌==◌, List, [], ◌∷◌, ◌++◌, length, take, if◌then◌else◌}
+use Rattle.std.specs.List.{flat_map, list_any}
 use Rattle.mm_read.specs.declared.stmt.Stmt.{Stmt}
 use Rattle.mm_read.specs.Statements.{Database}
-use Rattle.scope.specs.Active.{active, stays_open, is_open, is_closed, variables, typed_by, active_variables, typed_variables}
+use Rattle.scope.specs.Active.{active, stays_open, is_open, is_close, is_closed, variables, typed_by, active_variables, typed_variables}
 use Rattle.names.specs.Codes.{numbers_in, AreNamed}
-use Rattle.scope.specs.Numbering.{names_of}
-use Rattle.scope.specs.Kinds.{Declared, declared_names, declared_symbols, TellsAll}
-use Rattle.scope.specs.Standing.{stands_at, IsStanding}
+use Rattle.scope.specs.Kinds.{Declared, IsNumberingOf}
+use Rattle.scope.specs.Standing.{stands_at, standing_of}
 use Rattle.scope.specs.Symbols.{symbols_of}
 use Rattle.scope.specs.declared.stack_heights.StackHeights.{StackHeights}
 use Rattle.scope.specs.declared.standing.Standing.{Standing}
@@ -27,27 +26,40 @@ blocks_from before (p ∷ es) =
 abbrev pub blocks_of : Database → List StackHeights
 blocks_of S = blocks_from [] (active S)
 
+-- whether none of the numbers comes twice, on the stack or among those to be put there
+abbrev pub can_push : List ℕ → List ℕ → Bool
+can_push stack [] = true
+can_push stack (n ∷ ns) = not (list_any (λ m. m == n) stack) && can_push (stack ++ n ∷ []) ns
+
+-- a statement that opens and closes no block, and neither declares nor types a variable; n more stand behind it
+pub record IsPlain (s : Stmt) (n : ℕ) : Type 0 where
+  pub no_open : is_open s ≡ false
+  pub no_close : is_close s ≡ false
+  pub no_variables : variables s ≡ []
+  pub untyped : typed_by s ≡ []
+  pub stand : (at : ℕ) → length (stands_at at s) ≡ n
+
 -- the marked statements are the first ones, and what follows them closes none of their blocks, of which none is open
-pub record IsMarked (S M : Database) (names : Declared) (mark : StackHeights) (marked_names : ℕ) : Type 0 where
+pub record IsMarked (S M : Database) (mark : StackHeights) : Type 0 where
   pub later : (T : Database) × (S ≡ M ++ T) × (stays_open 0 T ≡ true)
   pub closed : is_closed M ≡ true
   pub sizes : mark ≡ sizes_of (active M)
-  pub count : marked_names ≡ length (names_of M)
-  pub told : TellsAll M (take marked_names names)
-  pub symbols : declared_symbols (take marked_names names) ≡ symbols_of M
-  pub typed_known : AreNamed (names_of M) (typed_variables M)
+  pub typed_known : AreNamed (symbols_of M) (typed_variables M)
 
-pub record IsKept (S M : Database) (names : Declared) (variable_stack typed_stack : List ℕ) (blocks : List StackHeights) (mark : StackHeights) (marked_names : ℕ) : Type 0 where
-  pub named : declared_names names ≡ names_of S
-  pub told : TellsAll S names
-  pub symbols : declared_symbols names ≡ symbols_of S
-  pub variables_are : variable_stack ≡ numbers_in (names_of S) (active_variables S)
-  pub typed_are : typed_stack ≡ numbers_in (names_of S) (typed_variables S)
-  pub typed_known : AreNamed (names_of S) (typed_variables S)
+pub record IsKept (S M : Database) (variable_stack typed_stack : List ℕ) (standing : ℕ) (blocks : List StackHeights) (mark : StackHeights) : Type 0 where
+  pub variables_are : variable_stack ≡ numbers_in (symbols_of S) (active_variables S)
+  pub typed_are : typed_stack ≡ numbers_in (symbols_of S) (typed_variables S)
+  pub typed_known : AreNamed (symbols_of S) (typed_variables S)
+  pub standing_is : standing ≡ length (standing_of S)
   pub blocks_are : blocks ≡ blocks_of S
   pub never_below : stays_open 0 S ≡ true
-  pub marked : IsMarked S M names mark marked_names
+  pub marked : IsMarked S M mark
 
-pub record IsScope (S M : Database) (names : Declared) (variable_stack typed_stack : List ℕ) (standing : List Standing) (blocks : List StackHeights) (mark : StackHeights) (marked_names count marked_count : ℕ) : Type 0 where
-  pub kept : IsKept S M names variable_stack typed_stack blocks mark marked_names
-  pub stands : IsStanding S M standing count marked_count
+-- what a scope has beside its rules: the numbering, those marked of it, what stands, and the counts of the statements
+pub record IsScope (S M : Database) (names : Declared) (marked_names : ℕ) (standing : List Standing) (count marked_count : ℕ) : Type 0 where
+  pub numbering : IsNumberingOf S names
+  pub marked_numbering : IsNumberingOf M (take marked_names names)
+  pub marked_within : marked_names ≤ length names
+  pub standing_are : standing ≡ standing_of S
+  pub count_is : count ≡ length S
+  pub marked_count_is : marked_count ≡ length M

@@ -1,4 +1,4 @@
-use Rattle.std.proofs.Common.{Option, length, refl, sym, subst, ◌∙◌, arith}
+use Rattle.std.proofs.Common.{Option, length, refl, sym, subst, arith}
 use Rattle.std.specs.Prelude.{option_map}
 use Rattle.std.specs.Borrow.{Bor}
 use Rattle.net.specs.World.{log_after}

@@ -14,4 +14,4 @@ returns-clause-added c =
     ok-weaker c.add_last-2.result _ _
     (λ behind. added-row b m new c.args.records.now.items c.add_last-2.new.items.items r.result c.in_ok-last.last c.args.head c.args.parts.now c.requires.packed c.requires.shaped told.grows told.added
     refl refl refl refl (c.in_ok-add_last.ensures.ok ∙ ap (λ ws. ws ++ c.in_ok-last.last ∷ []) told.same)
-    r.ensures.head r.ensures.has_row (omega (arith, r.ensures.from, c.in_ok-from.ensures, c.len.ensures, b.numbers.ok.0)) (omega (arith, r.ensures.row, c.in_ok-row.ensures, c.len-2.ensures, b.rows.ok.0)) behind) c.add_last-2.ensures.ok
+    r.ensures.head r.ensures.has_row (omega (arith, r.ensures.from, c.len-from.ensures, b.numbers.ok.0)) (omega (arith, r.ensures.row, c.in_ok-row.ensures, c.len.ensures, b.rows.ok.0)) behind) c.add_last-2.ensures.ok

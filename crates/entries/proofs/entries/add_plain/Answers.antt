@@ -11,4 +11,4 @@ returns-clause-added c =
     ok-weaker c.add_last.result _ _
     (λ behind. added-plain b new c.args.records.now.items c.add_last.new.items.items r.result c.args.head c.args.codes.now c.args.whole c.requires.packed
     c.in_ok-append.ensures.ok refl refl refl refl
-    r.ensures.head r.ensures.has_row r.ensures.whole (omega (arith, r.ensures.from, c.in_ok-from.ensures, c.len.ensures, b.numbers.ok.0)) (omega (arith, r.ensures.row, c.in_ok-row.ensures, c.len-2.ensures, b.rows.ok.0)) behind) c.add_last.ensures.ok
+    r.ensures.head r.ensures.has_row r.ensures.whole (omega (arith, r.ensures.from, c.len-from.ensures, b.numbers.ok.0)) (omega (arith, r.ensures.row, c.in_ok-row.ensures, c.len.ensures, b.rows.ok.0)) behind) c.add_last.ensures.ok

@@ -4,6 +4,6 @@ use Rattle.explanation.proofs.judged.enter.Given as goal
 
 abbrev pub invariant-loop-stmt : goal.invariant-loop-stmt
 invariant-loop-stmt l = record {
-  same : l.scope.statements ≡ l.frames.statements;
+  same : l.rules.statements ≡ l.frames.statements;
   taken : l.frames.statements ≡ bares (take l.stmt-index l.statements);
 }

@@ -54,4 +54,4 @@ returns c =
     let w = c.loop-block.invariant.1 in
     let p = c.loop-block.block in
     ap (λ q. nat_eq q p) (ap (λ k. k.block) c.links_at.ensures)
-    ∙ plain-end S c.args.i c.args.at p c.loop-block.invariant.0 (slice_get S (c.args.i - 1)) refl c.requires.plain w (omega arith) c.requires.place.0 c.requires.place.1 c.requires.stored.stays
+    ∙ plain-end S c.args.i c.args.at p c.loop-block.invariant.0 (slice_get S (c.args.i - 1)) refl c.requires.plain w (omega arith) c.requires.place.0 c.requires.place.1 c.requires.stored.kept.stays

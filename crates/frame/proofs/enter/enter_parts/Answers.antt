@@ -1,6 +1,6 @@
 use Rattle.std.proofs.Common.{◌∙◌, ap, sym}
-use Rattle.std.specs.Prelude.{◌||◌, true, false}
-use Rattle.scope.specs.Active.{bare, is_assertion, is_essential}
+use Rattle.std.specs.Prelude.{◌||◌, false}
+use Rattle.scope.specs.Active.{bare, is_essential}
 use Rattle.frame.proofs.EnterLemmas.{next-bare, not-essential, parts-kind}
 use Rattle.frame.proofs.enter.enter_parts.Goals as goal
 

@@ -1,15 +1,17 @@
 use Rattle.std.proofs.Common.{◌≡◌, ◌∙◌, ap, sym, subst, arith, refl, length, take}
 use Rattle.std.proofs.Math.Seq.{take-length}
 use Rattle.frame.specs.Stored.Counts.{AreNumbered}
-use Rattle.frame.specs.Stored.EntryMeanings.{ReadsAs, replaced_of, symbol_of}
+use Rattle.frame.specs.Stored.EntryMeanings.{names_in, labels_in, statements_of, ReadsAs, replaced_of, symbol_of}
+use Rattle.scope.specs.Kinds.{declared_symbols, declared_labels}
+use Rattle.frame.specs.Stored.Naming.{naming_of}
 use Rattle.entries.specs.Entries.{seen}
-use Rattle.frame.proofs.CutStorage.{IsCut, kept-cut, cut-statements, names-front}
+use Rattle.frame.proofs.CutStorage.{IsCut, kept-cut, cut-statements, names-front, front-naming, numbering-front}
 use Rattle.frame.proofs.extend.cut.Goals as goal
 
 pub take_away-requires-clause-numbered : goal.take_away-requires-clause-numbered
 take_away-requires-clause-numbered c =
     let k = c.args.stock.now in
-    (length k.labels, subst (λ n. AreNumbered n (length k.labels) k.entries) (sym c.requires.count) c.requires.coded)
+    (length (labels_in k), subst (λ n. AreNumbered n (length (labels_in k)) k.entries) (sym c.requires.kept.count) c.requires.kept.coded)
 
 pub returns-then-len : goal.returns-then-len
 returns-then-len c =
@@ -22,20 +24,29 @@ returns-then-len c =
     let back = c.roll_back.ensures in
     let new = c.roll_back.new.stock in
     let all : c.len-replaced.result ≡ length left = omega (arith, c.len-replaced.ensures, c.take_away.new.replaced.ok.0) in
-    let cut : IsCut k.names k.labels k.positions.items k.symbols.items k.entries new.names new.labels new.positions.items between new.symbols.items new.replaced.items new.entries e.links n e = record {
+    let numbering : new.numbering ≡ naming_of (take n (statements_of k)) = back.names ∙ (ap (λ m. take m k.numbering) (omega arith) ∙ numbering-front k n e c.requires c.entry-first.ensures.1) in
+    let fewer = front-naming k n e c.requires c.entry-first.ensures.1 in
+    let names = ap declared_symbols numbering ∙ fewer.symbols in
+    let labels = ap declared_labels numbering ∙ fewer.labels in
+    let counts = c.requires.kept.counts_kept n e c.entry-first.ensures.1 in
+    let cut : IsCut (names_in k) (labels_in k) k.positions.items k.symbols.items k.entries (names_in new) (labels_in new) new.positions.items between new.symbols.items new.replaced.items new.entries e.links n e = record {
       at = c.entry-first.ensures.1;
-      names_cut = back.names;
-      labels_cut = back.labels;
-      positions_cut = back.positions;
+      names_cut = names;
+      labels_cut = labels;
+      positions_cut = back.positions ∙ ap (λ m. take m k.positions.items) (ap length labels ∙ sym counts.label_count);
       between_count = away.count;
-      symbols_cut = back.symbols;
+      symbols_cut = back.symbols ∙ ap (λ m. take m between) (ap length names ∙ sym counts.name_count);
       entries_cut = back.entries ∙ away.entries;
       declared = subst (λ v. ReadsAs between (symbol_of v)) (sym back.entries) away.declared;
       noted = back.replaced ∙ (ap (λ m. take m left) all ∙ (take-length left ∙ (away.noted ∙ ap (λ v. replaced_of v) (sym back.entries))));
       links_back = refl;
     } in
+    let statements = cut-statements (names_in k) (labels_in k) k.positions.items k.symbols.items k.replaced.items k.entries k.links (names_in new) (labels_in new) new.positions.items between new.symbols.items new.replaced.items new.entries e.links n e c.requires.kept cut in
     record {
-      stored = kept-cut k.names k.labels k.positions.items k.symbols.items k.replaced.items k.entries k.links new.names new.labels new.positions.items between new.symbols.items new.replaced.items new.entries e.links n e c.requires cut;
-      statements = cut-statements k.names k.labels k.positions.items k.symbols.items k.replaced.items k.entries k.links new.names new.labels new.positions.items between new.symbols.items new.replaced.items new.entries e.links n e c.requires cut;
-      names = names-front k.names k.labels k.positions.items k.symbols.items k.replaced.items k.entries k.links new.names new.labels new.positions.items between new.symbols.items new.replaced.items new.entries e.links n e c.requires cut;
+      stored = record {
+        kept = kept-cut (names_in k) (labels_in k) k.positions.items k.symbols.items k.replaced.items k.entries k.links (names_in new) (labels_in new) new.positions.items between new.symbols.items new.replaced.items new.entries e.links n e c.requires.kept cut;
+        numbered = numbering ∙ ap naming_of (sym statements);
+      };
+      statements = statements;
+      names = names-front (names_in k) (labels_in k) k.positions.items k.symbols.items k.replaced.items k.entries k.links (names_in new) (labels_in new) new.positions.items between new.symbols.items new.replaced.items new.entries e.links n e c.requires.kept cut;
     }

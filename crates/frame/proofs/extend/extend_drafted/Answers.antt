@@ -4,16 +4,12 @@ use Rattle.scope.specs.Active.{bare}
 use Rattle.entries.specs.Entries.{assertion_of, made as made_of}
 use Rattle.frame.specs.Below.{AreBelow}
 use Rattle.frame.specs.Stored.Drafts.{made}
-use Rattle.frame.specs.Stored.EntryMeanings.{statements_of}
+use Rattle.frame.specs.Stored.EntryMeanings.{names_in, labels_in, statements_of}
 use Rattle.frame.specs.Stored.Counts.{kind_of, HasTwo}
-use Rattle.frame.proofs.ExtendLemmas.{is-pushed}
+use Rattle.frame.proofs.ExtendLemmas.{is-pushed, numbered-pushed}
 use Rattle.frame.proofs.StoredLemmas.{kept-pushed, pushed-statements}
-use Rattle.frame.proofs.StoredTaken.{legal-bare, legal-fresh}
+use Rattle.frame.proofs.StoredTaken.{legal-bare}
 use Rattle.frame.proofs.extend.extend_drafted.Goals as goal
-
-pub enter-requires-clause-fresh : goal.enter-requires-clause-fresh
-enter-requires-clause-fresh c =
-    legal-fresh c.args.stock.now.labels (statements_of c.args.stock.now) c.args.stmt.now c.requires.stored.labels_kept c.requires.legal
 
 pub note_replaced-requires-clause-below : goal.note_replaced-requires-clause-below
 note_replaced-requires-clause-below c =
@@ -26,7 +22,7 @@ note_replaced-requires-clause-below c =
     let own = c.in_ok-enter.ensures.entered h ishead in
     let room = c.in_ok-enter.ensures.room in
     subst (λ xs. AreBelow (length xs) c.deref-2.result.now) (sym c.deref.ensures.value)
-    (subst (λ n. AreBelow n c.deref-2.result.now) (sym room.count) (subst (AreBelow (length new.names)) (sym c.deref-2.ensures.value) own.symbols))
+    (subst (λ n. AreBelow n c.deref-2.result.now) (sym room.count) (subst (AreBelow (length (names_in new))) (sym c.deref-2.ensures.value) own.symbols))
 
 pub note_replaced-requires-clause-two : goal.note_replaced-requires-clause-two
 note_replaced-requires-clause-two c =
@@ -50,7 +46,7 @@ declare-requires c =
     let ishead = c.in_ok-head.ensures s kind-is in
     let own = c.in_ok-enter.ensures.entered h ishead in
     let room = c.in_ok-enter.ensures.room in
-    subst (λ n. AreBelow n c.deref-3.result.now) (sym room.count) (subst (AreBelow (length new.names)) (sym c.deref-3.ensures.value) own.symbols)
+    subst (λ n. AreBelow n c.deref-3.result.now) (sym room.count) (subst (AreBelow (length (names_in new))) (sym c.deref-3.ensures.value) own.symbols)
 
 pub returns-clause-stored : goal.returns-clause-stored
 returns-clause-stored c =
@@ -68,8 +64,13 @@ returns-clause-stored c =
     let pushed = is-pushed k new s e c.kind-kind.result c.deref-2.result.now c.deref-3.result.now (c.len-at.result + 1) c.deref.result.now c.declare.new.symbols.items c.note_replaced.new.replaced.items c.push.new.self c.links_after-links.result
     c.requires.stored (entered.entered h head) entered.grown entered.room (legal-bare (statements_of k) c.args.stmt.now c.requires.legal) (is_kind ∙ sym head.kind) c.deref-2.ensures.value c.deref-3.ensures.value (omega (arith, c.len-at.ensures.len)) c.deref.ensures.value
     c.in_ok-note_replaced.ensures.noted c.declare.ensures.each c.declare.ensures.count added (c.links_after-links.ensures s (sym is_kind)) in
-    kept-pushed k.names k.labels k.positions.items k.symbols.items k.replaced.items k.entries k.links new.names new.labels new.positions.items new.symbols.items
-    c.declare.new.symbols.items c.note_replaced.new.replaced.items c.push.new.self c.links_after-links.result s e c.requires.stored pushed
+    let statements = pushed-statements (names_in k) (labels_in k) k.positions.items k.symbols.items k.replaced.items k.entries k.links (names_in new) (labels_in new) new.positions.items new.symbols.items
+    c.declare.new.symbols.items c.note_replaced.new.replaced.items c.push.new.self c.links_after-links.result s e c.requires.stored.kept pushed in
+    record {
+      kept = kept-pushed (names_in k) (labels_in k) k.positions.items k.symbols.items k.replaced.items k.entries k.links (names_in new) (labels_in new) new.positions.items new.symbols.items
+          c.declare.new.symbols.items c.note_replaced.new.replaced.items c.push.new.self c.links_after-links.result s e c.requires.stored.kept pushed;
+      numbered = numbered-pushed k new s e _ c.requires.stored (entered.entered h head) statements;
+    }
 
 pub returns-clause-added : goal.returns-clause-added
 returns-clause-added c =
@@ -87,5 +88,5 @@ returns-clause-added c =
     let pushed = is-pushed k new s e c.kind-kind.result c.deref-2.result.now c.deref-3.result.now (c.len-at.result + 1) c.deref.result.now c.declare.new.symbols.items c.note_replaced.new.replaced.items c.push.new.self c.links_after-links.result
     c.requires.stored (entered.entered h head) entered.grown entered.room (legal-bare (statements_of k) c.args.stmt.now c.requires.legal) (is_kind ∙ sym head.kind) c.deref-2.ensures.value c.deref-3.ensures.value (omega (arith, c.len-at.ensures.len)) c.deref.ensures.value
     c.in_ok-note_replaced.ensures.noted c.declare.ensures.each c.declare.ensures.count added (c.links_after-links.ensures s (sym is_kind)) in
-    pushed-statements k.names k.labels k.positions.items k.symbols.items k.replaced.items k.entries k.links new.names new.labels new.positions.items new.symbols.items
-    c.declare.new.symbols.items c.note_replaced.new.replaced.items c.push.new.self c.links_after-links.result s e c.requires.stored pushed
+    pushed-statements (names_in k) (labels_in k) k.positions.items k.symbols.items k.replaced.items k.entries k.links (names_in new) (labels_in new) new.positions.items new.symbols.items
+    c.declare.new.symbols.items c.note_replaced.new.replaced.items c.push.new.self c.links_after-links.result s e c.requires.stored.kept pushed

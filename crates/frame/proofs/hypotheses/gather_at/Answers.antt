@@ -3,7 +3,7 @@ use Rattle.std.proofs.lemmas.Option.{same_Some}
 use Rattle.frame.specs.Stored.Drafts.{drafted}
 use Rattle.frame.specs.Cited.{AreListsOf}
 use Rattle.frame.specs.Stored.Hypotheses.{AreHypotheses}
-use Rattle.frame.specs.Stored.EntryMeanings.{statements_of}
+use Rattle.frame.specs.Stored.EntryMeanings.{names_in, statements_of}
 use Rattle.entries.proofs.AddedStatement.{ok-weaker}
 use Rattle.frame.proofs.CitedLemmas.{is-there}
 use Rattle.frame.proofs.GatheredHypotheses.{mandatory-are, spread-lists}
@@ -25,6 +25,6 @@ returns-clause-gathered c =
     ok-weaker c.spread.result _ _
     (λ p r h.
     let same : s ≡ r = same_Some _ _ (sym c.requires.assertion.1.0 ∙ h) in
-    subst (AreListsOf (statements_of k) k.names c.args.a (drafted c.spread.new.draft)) same
+    subst (AreListsOf (statements_of k) (names_in k) c.args.a (drafted c.spread.new.draft)) same
     (spread-lists k c.args.a t.0 s t.1 c.requires.stored c.requires.assertion.1.1 t.2 c.mandatory_at.new.list.items (drafted c.spread.new.draft) p (c.in_ok-mandatory_at.ensures s c.requires.assertion.1.0)))
     c.spread.ensures.spread

@@ -1,12 +1,12 @@
-use Rattle.std.proofs.Common.{◌≡◌, ◌∙◌, ◌-◌, ap, sym, subst, arith, get_or, length}
+use Rattle.std.proofs.Common.{◌∙◌, ◌-◌, ap, sym, arith, get_or, length}
 use Rattle.std.specs.Prelude.{◌++◌, ◌∷◌, []}
 use Rattle.std.proofs.lemmas.Option.{slice_get_within}
 use Rattle.entries.specs.Entries.{seen}
 use Rattle.frame.specs.Cited.{head_of}
-use Rattle.frame.specs.Stored.Counts.{HasTwo}
-use Rattle.frame.specs.Stored.AssertionParts.{asked_by, asked_at, head_at, option_asked, option_symbols}
+use Rattle.frame.specs.Stored.AssertionParts.{asked_at, head_at, option_asked, option_symbols}
 use Rattle.frame.proofs.StoredReading.{two-of}
 use Rattle.frame.proofs.MakeLemmas.{hypothesis-at, map-more}
+use Rattle.frame.specs.Stored.EntryMeanings.{names_in, labels_in}
 use Rattle.frame.proofs.make.describe.Goals as goal
 
 pub overflow_sub-position : goal.overflow_sub-position
@@ -29,7 +29,7 @@ hypothesis-requires c =
     let k = c.args.stock.now in
     let i = c.loop-position.position-index in
     let p = get_or c.args.hypotheses.now i 0 in
-    two-of (length k.names) (length k.labels) k.entries c.requires.stored.coded (p - 1) (seen c.entry-entry.result c.entry-entry.ensures.0) c.entry-entry.ensures.1
+    two-of (length (names_in k)) (length (labels_in k)) k.entries c.requires.stored.kept.coded (p - 1) (seen c.entry-entry.result c.entry-entry.ensures.0) c.entry-entry.ensures.1
 
 pub loop-position-preserved : goal.loop-position-preserved
 loop-position-preserved c =

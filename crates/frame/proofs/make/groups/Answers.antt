@@ -2,7 +2,7 @@ use Rattle.std.proofs.Common.{◌≡◌, ◌-◌, ap, sym, subst, arith, take, r
 use Rattle.std.proofs.lemmas.List.{length-map, length-take-le}
 use Rattle.frame.specs.Links.{actives, is_disj}
 use Rattle.entries.specs.Stored.Spans.{cut, AreSpansIn}
-use Rattle.frame.specs.Stored.EntryMeanings.{statements_of, stmt_of}
+use Rattle.frame.specs.Stored.EntryMeanings.{names_in, labels_in, statements_of, stmt_of}
 use Rattle.frame.specs.Stored.AssertionParts.{placed, symbols_at, option_symbols, has_two}
 use Rattle.entries.specs.Entries.{seen}
 use Rattle.frame.proofs.BlockWalkLemmas.{walk-back, walk-over, last-within}
@@ -16,7 +16,7 @@ entry-entry-requires c =
     let S = statements_of k in
     let i = c.loop-last.invariant.walk in
     let p = c.loop-last.last in
-    let n = length-map k.entries (stmt_of k.names k.labels) in
+    let n = length-map k.entries (stmt_of (names_in k) (labels_in k)) in
     let w = walk-back is_disj S i.0 p refl i.1 i.2 c.loop-last-test.true in
     let b = w.1.within in let one = w.1.above in let high = i.1 in
     omega (arith, n, b, one, high)
@@ -38,7 +38,7 @@ loop-last-smaller c =
     let w = walk-back is_disj S i.0 p refl i.1 i.2 c.loop-last-test.true in
     let b = w.1.within in let one = w.1.above in let high = i.1 in
     let e = seen c.entry-entry.result c.entry-entry.ensures.0 in
-    let l = ap (λ q. q.disjoint) (c.requires.stored.linked (p - 1) e c.entry-entry.ensures.1) in
+    let l = ap (λ q. q.disjoint) (c.requires.stored.kept.linked (p - 1) e c.entry-entry.ensures.1) in
     let a = last-within is_disj (take (p - 1) S) refl in
     let d = length-take-le (p - 1) S (omega (arith, b, high)) in
     omega (arith, l, a, d, one)
@@ -53,7 +53,7 @@ loop-last-preserved c =
     let b = w.1.within in let one = w.1.above in let high = i.1 in
     let e = seen c.entry-entry.result c.entry-entry.ensures.0 in
     let g = c.entry-entry.ensures.1 in
-    let l = ap (λ q. q.disjoint) (c.requires.stored.linked (p - 1) e g) in
+    let l = ap (λ q. q.disjoint) (c.requires.stored.kept.linked (p - 1) e g) in
     let vs = c.args.variables.now in
     let group = placed vs c.entry-entry.result.symbols.now in
     let own : group ≡ placed vs (symbols_at k.entries p) = ap (placed vs) (ap option_symbols (sym g)) in

@@ -1,9 +1,9 @@
-use Rattle.std.proofs.Common.{◌≡◌, ◌-◌, ◌∙◌, ap, sym, subst, arith, length, take, refl}
+use Rattle.std.proofs.Common.{◌≡◌, ◌-◌, ◌∙◌, ap, sym, subst, arith, take, refl}
 use Rattle.std.proofs.lemmas.List.{length-map, length-take-le}
 use Rattle.scope.specs.Active.{is_essential}
 use Rattle.frame.specs.Links.{actives}
 use Rattle.frame.specs.Stored.Hypotheses.{Ascends, inserted, with_all, with_essentials, kept_at, option_kept}
-use Rattle.frame.specs.Stored.EntryMeanings.{statements_of, stmt_of}
+use Rattle.frame.specs.Stored.EntryMeanings.{names_in, labels_in, statements_of, stmt_of}
 use Rattle.frame.proofs.BlockWalkLemmas.{walk-back, walk-over, last-within}
 use Rattle.frame.proofs.CollectLemmas.{essentials-step}
 use Rattle.frame.proofs.AscendingLists.{ascends-inserted}
@@ -16,7 +16,7 @@ hypotheses-requires c =
     let S = statements_of k in
     let i = c.loop-essential.invariant in
     let p = c.loop-essential.essential in
-    let n = length-map k.entries (stmt_of k.names k.labels) in
+    let n = length-map k.entries (stmt_of (names_in k) (labels_in k)) in
     let w = walk-back is_essential S i.0 p refl i.1 i.2 c.loop-essential-test.true in
     let b = w.1.within in let one = w.1.above in let high = i.1 in
     omega (arith, n, b, one, high)
@@ -27,7 +27,7 @@ entry-essential-requires c =
     let S = statements_of k in
     let i = c.loop-essential.invariant in
     let p = c.loop-essential.essential in
-    let n = length-map k.entries (stmt_of k.names k.labels) in
+    let n = length-map k.entries (stmt_of (names_in k) (labels_in k)) in
     let w = walk-back is_essential S i.0 p refl i.1 i.2 c.loop-essential-test.true in
     let b = w.1.within in let one = w.1.above in let high = i.1 in
     omega (arith, n, b, one, high)
@@ -41,12 +41,12 @@ loop-essential-smaller c =
     let S = statements_of k in
     let i = c.loop-essential.invariant in
     let p = c.loop-essential.essential in
-    let n = length-map k.entries (stmt_of k.names k.labels) in
+    let n = length-map k.entries (stmt_of (names_in k) (labels_in k)) in
     let w = walk-back is_essential S i.0 p refl i.1 i.2 c.loop-essential-test.true in
     let b = w.1.within in let one = w.1.above in let high = i.1 in
     let e = seen c.entry-essential.result c.entry-essential.ensures.0 in
     let g = c.entry-essential.ensures.1 in
-    let l = ap (λ q. q.essential) (c.requires.stored.linked (p - 1) e g) in
+    let l = ap (λ q. q.essential) (c.requires.stored.kept.linked (p - 1) e g) in
     let a = last-within is_essential (take (p - 1) S) refl in
     let d = length-take-le (p - 1) S (omega (arith, b, high)) in
     omega (arith, l, a, d, one)
@@ -57,12 +57,12 @@ loop-essential-preserved c =
     let S = statements_of k in
     let i = c.loop-essential.invariant in
     let p = c.loop-essential.essential in
-    let n = length-map k.entries (stmt_of k.names k.labels) in
+    let n = length-map k.entries (stmt_of (names_in k) (labels_in k)) in
     let w = walk-back is_essential S i.0 p refl i.1 i.2 c.loop-essential-test.true in
     let b = w.1.within in let one = w.1.above in let high = i.1 in
     let e = seen c.entry-essential.result c.entry-essential.ensures.0 in
     let g = c.entry-essential.ensures.1 in
-    let l = ap (λ q. q.essential) (c.requires.stored.linked (p - 1) e g) in
+    let l = ap (λ q. q.essential) (c.requires.stored.kept.linked (p - 1) e g) in
     let es = k.entries in
     let there = actives is_essential (take (p - 1) S) in
     let kept = c.hypotheses.ensures e g in

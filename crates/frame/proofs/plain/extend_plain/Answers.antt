@@ -1,18 +1,20 @@
 use Rattle.std.proofs.Common.{◌≡◌, ◌+◌, ◌∙◌, ap, sym, arith, refl, length}
 use Rattle.std.proofs.lemmas.Bool.{false≢true}
 use Rattle.scope.specs.Active.{bare}
-use Rattle.names.specs.Codes.{with_names}
 use Rattle.entries.specs.Entries.{plain}
 use Rattle.frame.specs.Stored.Counts.{HasRoom, kind_of}
-use Rattle.frame.specs.Stored.EntryMeanings.{statements_of}
+use Rattle.frame.specs.Stored.EntryMeanings.{names_in, labels_in, statements_of}
 use Rattle.frame.proofs.EnterLemmas.{entered-statement}
-use Rattle.frame.proofs.ExtendLemmas.{on-err-same, grown-behind, is-pushed}
+use Rattle.frame.proofs.ExtendLemmas.{on-err-same, grown-behind, is-pushed, numbered-pushed}
+use Rattle.frame.proofs.NamingLemmas.{label-fresh, no-symbols, stored-naming}
 use Rattle.frame.proofs.StoredLemmas.{kept-pushed, pushed-statements}
-use Rattle.frame.proofs.StoredTaken.{legal-bare, legal-fresh}
+use Rattle.frame.proofs.StoredTaken.{legal-bare}
 use Rattle.frame.proofs.plain.extend_plain.Goals as goal
 
 pub enter_label-requires : goal.enter_label-requires
-enter_label-requires c = record { fresh = legal-fresh c.args.stock.now.labels (statements_of c.args.stock.now) c.args.stmt.now c.requires.stored.labels_kept c.requires.legal }
+enter_label-requires c =
+    let k = c.args.stock.now in
+    record { fresh = label-fresh (statements_of k) k.numbering (stored-naming k c.requires.stored).told c.args.stmt.now c.requires.legal }
 
 pub returns-in_err-enter_label-clause-behind : goal.returns-in_err-enter_label-clause-behind
 returns-in_err-enter_label-clause-behind c =
@@ -29,14 +31,19 @@ returns-clause-stored c =
     let told = c.in_ok-enter_label.ensures in
     let is_kind : c.kind-kind.result ≡ kind_of (bare s) = c.kind-kind.ensures in
     let head = c.in_ok-head.ensures (bare s) is_kind in
-    let own = entered-statement k k new codes e.assertion h s head (ap (with_names k.names) (sym c.requires.plain.declares_none)) c.requires.plain.numbers told.names told.labels told.positions
+    let own = entered-statement k k new codes e.assertion h s head (sym (no-symbols k.numbering s c.requires.plain.declares_none)) c.requires.plain.numbers told.numbering told.positions
     (λ a. absurd (false≢true (sym c.requires.plain.asks_none ∙ a))) in
-    let room : HasRoom new = record { count = ap (λ v. length v.items) told.same_symbols ∙ (c.requires.stored.count ∙ ap length (sym told.names)); few = let n = ap length told.names in let f = c.requires.stored.few in omega (arith, n, f) } in
+    let room : HasRoom new = record { count = ap (λ v. length v.items) told.same_symbols ∙ (c.requires.stored.kept.count ∙ ap length (sym told.names)); few = let n = ap length told.names in let f = c.requires.stored.kept.few in omega (arith, n, f) } in
     let pushed = is-pushed k new (bare s) e c.kind-kind.result codes codes (c.len-at.result + 1) c.deref.result.now c.declare.new.symbols.items c.note_replaced.new.replaced.items c.push_plain.new.self c.links_after-links.result
     c.requires.stored own told.grown room (legal-bare (statements_of k) s c.requires.legal) (is_kind ∙ sym head.kind) refl refl (omega (arith, c.len-at.ensures.len)) c.deref.ensures.value
     c.in_ok-note_replaced.ensures.noted c.declare.ensures.each c.declare.ensures.count c.in_ok-push_plain.ensures.added (c.links_after-links.ensures (bare s) (sym is_kind)) in
-    kept-pushed k.names k.labels k.positions.items k.symbols.items k.replaced.items k.entries k.links new.names new.labels new.positions.items new.symbols.items
-    c.declare.new.symbols.items c.note_replaced.new.replaced.items c.push_plain.new.self c.links_after-links.result (bare s) e c.requires.stored pushed
+    let statements = pushed-statements (names_in k) (labels_in k) k.positions.items k.symbols.items k.replaced.items k.entries k.links (names_in new) (labels_in new) new.positions.items new.symbols.items
+    c.declare.new.symbols.items c.note_replaced.new.replaced.items c.push_plain.new.self c.links_after-links.result (bare s) e c.requires.stored.kept pushed in
+    record {
+      kept = kept-pushed (names_in k) (labels_in k) k.positions.items k.symbols.items k.replaced.items k.entries k.links (names_in new) (labels_in new) new.positions.items new.symbols.items
+          c.declare.new.symbols.items c.note_replaced.new.replaced.items c.push_plain.new.self c.links_after-links.result (bare s) e c.requires.stored.kept pushed;
+      numbered = numbered-pushed k new (bare s) e _ c.requires.stored own statements;
+    }
 
 pub returns-clause-added : goal.returns-clause-added
 returns-clause-added c =
@@ -49,11 +56,11 @@ returns-clause-added c =
     let told = c.in_ok-enter_label.ensures in
     let is_kind : c.kind-kind.result ≡ kind_of (bare s) = c.kind-kind.ensures in
     let head = c.in_ok-head.ensures (bare s) is_kind in
-    let own = entered-statement k k new codes e.assertion h s head (ap (with_names k.names) (sym c.requires.plain.declares_none)) c.requires.plain.numbers told.names told.labels told.positions
+    let own = entered-statement k k new codes e.assertion h s head (sym (no-symbols k.numbering s c.requires.plain.declares_none)) c.requires.plain.numbers told.numbering told.positions
     (λ a. absurd (false≢true (sym c.requires.plain.asks_none ∙ a))) in
-    let room : HasRoom new = record { count = ap (λ v. length v.items) told.same_symbols ∙ (c.requires.stored.count ∙ ap length (sym told.names)); few = let n = ap length told.names in let f = c.requires.stored.few in omega (arith, n, f) } in
+    let room : HasRoom new = record { count = ap (λ v. length v.items) told.same_symbols ∙ (c.requires.stored.kept.count ∙ ap length (sym told.names)); few = let n = ap length told.names in let f = c.requires.stored.kept.few in omega (arith, n, f) } in
     let pushed = is-pushed k new (bare s) e c.kind-kind.result codes codes (c.len-at.result + 1) c.deref.result.now c.declare.new.symbols.items c.note_replaced.new.replaced.items c.push_plain.new.self c.links_after-links.result
     c.requires.stored own told.grown room (legal-bare (statements_of k) s c.requires.legal) (is_kind ∙ sym head.kind) refl refl (omega (arith, c.len-at.ensures.len)) c.deref.ensures.value
     c.in_ok-note_replaced.ensures.noted c.declare.ensures.each c.declare.ensures.count c.in_ok-push_plain.ensures.added (c.links_after-links.ensures (bare s) (sym is_kind)) in
-    pushed-statements k.names k.labels k.positions.items k.symbols.items k.replaced.items k.entries k.links new.names new.labels new.positions.items new.symbols.items
-    c.declare.new.symbols.items c.note_replaced.new.replaced.items c.push_plain.new.self c.links_after-links.result (bare s) e c.requires.stored pushed
+    pushed-statements (names_in k) (labels_in k) k.positions.items k.symbols.items k.replaced.items k.entries k.links (names_in new) (labels_in new) new.positions.items new.symbols.items
+    c.declare.new.symbols.items c.note_replaced.new.replaced.items c.push_plain.new.self c.links_after-links.result (bare s) e c.requires.stored.kept pushed

@@ -1,17 +1,20 @@
 use Rattle.std.proofs.Common.{◌≡◌, ◌<◌, ◌^◌, ◌++◌, length}
-use Rattle.names.specs.Codes.{decode, with_names}
+use Rattle.names.specs.Codes.{decode}
+use Rattle.scope.specs.Kinds.{declared_symbols, with_kinds}
 use Rattle.frame.specs.Below.{AreBelow}
 use Rattle.entries.specs.Stored.Spans.{Extends}
 use Rattle.frame.specs.Stored.Counts.{AreZeroBehind}
+use Rattle.frame.specs.Stored.Naming.{AreNoLabels}
 use Rattle.frame.proofs.symbol_numbers.declared_numbers.Given as goal
 
 abbrev pub invariant-loop-word : goal.invariant-loop-word
 invariant-loop-word l = record {
-  codes : AreBelow (length l.names) l.codes.items;
-  stand : decode l.names l.codes.items ++ l.word-iterator ≡ l.words;
-  made : with_names l.names l.word-iterator ≡ with_names l.fn.names l.words;
-  names : Extends l.fn.names l.names;
+  codes : AreBelow (length (declared_symbols l.numbering)) l.codes.items;
+  stand : decode (declared_symbols l.numbering) l.codes.items ++ l.word-iterator ≡ l.words;
+  made : with_kinds l.numbering l.kind l.word-iterator ≡ with_kinds l.fn.numbering l.kind l.words;
+  no_labels : AreNoLabels l.numbering l.word-iterator;
+  names : Extends l.fn.numbering l.numbering;
   symbols : AreZeroBehind l.fn.symbols.items l.symbols.items;
-  count : length l.symbols.items ≡ length l.names;
-  few : length l.names < 2 ^ 31;
+  count : length l.symbols.items ≡ length (declared_symbols l.numbering);
+  few : length (declared_symbols l.numbering) < 2 ^ 31;
 }

@@ -5,22 +5,22 @@ use Rattle.library.proofs.base.judge.Goals as goal
 
 pub returns-in-Some-clause-placed : goal.returns-in-Some-clause-placed
 returns-in-Some-clause-placed g c =
-    placed-fault _ _ _ _ _ (broken-slice c.args.statements.now _ c.args.front _ (ap (λ s. s.statements) c.make_room.ensures.scope ∙ c.requires.scope) c.in_ok-enter.ensures.found ∙ c.in-Some.is)
+    placed-fault _ _ _ _ _ (broken-slice c.args.statements.now _ c.args.front _ c.requires.rules c.in_ok-enter.ensures.found ∙ c.in-Some.is)
 
 pub least_unproved-requires-clause-same : goal.least_unproved-requires-clause-same
 least_unproved-requires-clause-same g c =
-    frames-all c.args.statements.now _ _ c.args.front (ap (λ k. k.statements) c.make_room.ensures.frames ∙ c.requires.frames) (c.in_ok-enter.ensures.frames (ap Ok c.in-None.is))
+    frames-all c.args.statements.now _ _ c.args.front (ap (λ k. k.statements) c.make_room.ensures ∙ c.requires.frames) (c.in_ok-enter.ensures.frames (ap Ok c.in-None.is))
 
 pub returns-in-None-2-clause-placed : goal.returns-in-None-2-clause-placed
 returns-in-None-2-clause-placed g c =
     let known = ap Ok c.in-None.is in
     record {
       judged = (
-        broken-slice c.args.statements.now _ c.args.front _ (ap (λ s. s.statements) c.make_room.ensures.scope ∙ c.requires.scope) c.in_ok-enter.ensures.found ∙ c.in-None.is,
+        broken-slice c.args.statements.now _ c.args.front _ c.requires.rules c.in_ok-enter.ensures.found ∙ c.in-None.is,
         all-proved c.args.statements.now c.args.front c.requires.within (subst (IsLeastUnproved c.args.statements.now c.args.front) c.in-None-2.is c.in_ok-least_unproved.ensures),
       );
-      scope_is = λ e. frames-whole c.args.statements.now _ _ c.args.front (ap (λ s. s.statements) c.make_room.ensures.scope ∙ c.requires.scope) (c.in_ok-enter.ensures.scope known);
-      frames_are = λ e. frames-whole c.args.statements.now _ _ c.args.front (ap (λ k. k.statements) c.make_room.ensures.frames ∙ c.requires.frames) (c.in_ok-enter.ensures.frames known);
+      rules_are = λ e. frames-whole c.args.statements.now _ _ c.args.front c.requires.rules (c.in_ok-enter.ensures.rules known);
+      frames_are = λ e. frames-whole c.args.statements.now _ _ c.args.front (ap (λ k. k.statements) c.make_room.ensures ∙ c.requires.frames) (c.in_ok-enter.ensures.frames known);
       closed = λ e. c.in_ok-enter.ensures.closed known;
     }
 
@@ -28,7 +28,7 @@ pub returns-in-Some-2-clause-placed : goal.returns-in-Some-2-clause-placed
 returns-in-Some-2-clause-placed g c =
     placed-fault _ _ _ _ _
     (fault-of (take c.args.front c.args.statements.now) (drop c.args.front c.args.statements.now) c.index-statements-at.result _ c.unproved.result
-    (broken-slice c.args.statements.now _ c.args.front _ (ap (λ s. s.statements) c.make_room.ensures.scope ∙ c.requires.scope) c.in_ok-enter.ensures.found ∙ c.in-None.is)
+    (broken-slice c.args.statements.now _ c.args.front _ c.requires.rules c.in_ok-enter.ensures.found ∙ c.in-None.is)
     (first-fault c.args.statements.now c.args.front c.requires.within c.in-Some-2.at c.index-statements-at.result
     (subst (IsLeastUnproved c.args.statements.now c.args.front) c.in-Some-2.is c.in_ok-least_unproved.ensures) c.index-statements-at.is)
     c.unproved.ensures)

@@ -12,9 +12,9 @@ loop-index-preserved c =
     let steps = e.counted in
     let so_far = i.counted in
     record {
-      scope_is = kept-more _ _ _ _ c.loop-index.index s.result less s.is i.scope_is (e.scope known);
+      rules_are = kept-more _ _ _ _ c.loop-index.index s.result less s.is i.rules_are (e.rules known);
       frames_are = kept-more _ _ _ _ c.loop-index.index s.result less s.is i.frames_are (e.frames known);
-      left = left-more _ _ _ _ c.loop-index.index s.result less s.is (sym c.in-None.is ∙ e.found) (e.scope known) i.left;
+      left = left-more _ _ _ _ c.loop-index.index s.result less s.is (sym c.in-None.is ∙ e.found) (e.rules known) i.left;
       mark = e.marked ∙ i.mark;
       counted = omega (arith, steps, so_far);
     }

@@ -1,5 +1,5 @@
 use Rattle.std.specs.Prelude.{◌≡◌, true, false, Option, Some, None, Result, Err, IfSome, refl}
-use Rattle.std.proofs.Common.{ap, subst}
+use Rattle.std.proofs.Common.{◌∙◌, ap, subst}
 use denote.Enum.Bare.{sameb}
 use Rattle.scope.specs.contracts.rule.Rule.{the_type}
 use Rattle.scope.specs.declared.rule.Rule.{Rule}
@@ -14,5 +14,6 @@ rule-is (Some r) rule shown none other = ap Some (let e = shown in cc)
 
 pub returns-else-eq-clause-found : goal.returns-else-eq-clause-found
 returns-else-eq-clause-found c =
-    rule-is (broken_rule c.args.scope.now.statements c.args.statement.now) c.in-Err.rule c.in-Err.ensures.broken c.in-Err.ensures.only_memory
+    rule-is (broken_rule c.args.frames.now.statements c.args.statement.now) c.in-Err.rule c.in-Err.ensures.broken c.in-Err.ensures.only_memory
     (λ e. let same : false ≡ true = subst (λ r. false ≡ sameb the_type r Memory) e c.if-eq.ensures in cc)
+    ∙ ap (λ S. broken_rule S c.args.statement.now) c.requires.same

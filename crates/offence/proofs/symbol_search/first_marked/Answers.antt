@@ -1,4 +1,4 @@
-use Rattle.std.proofs.Common.{◌≡◌, ◌∙◌, ◌||◌, sym, ap, arith, ◌∷◌, length, drop}
+use Rattle.std.proofs.Common.{◌≡◌, ◌∙◌, ◌||◌, sym, ap, ◌∷◌, drop}
 use Rattle.std.specs.List.{list_any}
 use Rattle.offence.proofs.SearchLemmas.{behind, first_is}
 use Rattle.offence.proofs.symbol_search.first_marked.Goals as goal

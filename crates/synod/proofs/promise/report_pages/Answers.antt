@@ -33,5 +33,5 @@ returns-clause-pages g c = gathers-last c.args.first c.loop-slot.slot _ c.loop-s
 
 pub returns-clause-few : goal.returns-clause-few
 returns-clause-few g c =
-    let pages : c.push-2.new.self.items ≡ pages_of (reports_from c.args.first 0 c.args.record.now.kept.accepted) = returns-clause-pages g c in
-    rw pages (pages-within c.args.first c.args.record.now.kept.accepted (omega (arith, c.top-slot-end.ensures.top, c.top-slot-end.ensures.within)))
+    let pages : c.push-2.new.self.items ≡ pages_of (reports_from c.args.first 0 c.args.stored.now.kept.accepted) = returns-clause-pages g c in
+    rw pages (pages-within c.args.first c.args.stored.now.kept.accepted (omega (arith, c.top-slot-end.ensures.top, c.top-slot-end.ensures.within)))

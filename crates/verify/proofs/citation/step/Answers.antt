@@ -1,5 +1,4 @@
-use Rattle.std.proofs.Common.{◌≡◌, ℕ, ◌-◌, [], get_or, arith, refl}
-use Rattle.std.specs.Prelude.{suc}
+use Rattle.std.proofs.Common.{◌-◌, [], get_or, arith, refl}
 use Rattle.verify.proofs.KnownResultLemmas.{mark-on, has-on, recall-on, cite-on}
 use Rattle.verify.proofs.LabelTableLemmas.{entry_at, suc_back}
 use Rattle.verify.proofs.citation.step.Goals as goal

@@ -17,8 +17,8 @@ symbols_end-to-requires-clause-row c = λ t.
     let got = ap (λ xs. slice_get xs c.args.index) (sym c.deref.ensures.value) ∙ c.item-kept.ensures in
     subst (λ xs. c.item-kept.result.row < length xs) (sym c.deref-2.ensures.value) (has-row c.self.inside.buffers c.self.inside.records.items c.args.self.now c.args.index c.item-kept.result c.self.invariant c.self.view_is got t)
 
-pub slice_bounds-result-count : goal.slice_bounds-result-count
-slice_bounds-result-count c =
+pub part-requires : goal.part-requires
+part-requires c =
     let b = c.self.inside.buffers in
     let rs = c.self.inside.records.items in
     let r = c.item-kept.result in
@@ -32,41 +32,7 @@ slice_bounds-result-count c =
     ∙ (ap (λ qs. symbols_by r.has_row (own_row b.rows.items r) (from_by (length c.as_slice-numbers.result.now) (slice_get qs (c.args.index + 1)))) c.deref-3.ensures.value
     ∙ (ap (λ m. symbols_by r.has_row (own_row b.rows.items r) (from_by m (slice_get rs (c.args.index + 1)))) n
     ∙ sym (symbols-there b rs c.args.self.now c.args.index r c.self.invariant c.self.view_is got)))) in
-    omega (arith, f, to, w.symbols)
-
-pub slice_bounds-result-start : goal.slice_bounds-result-start
-slice_bounds-result-start c =
-    let b = c.self.inside.buffers in
-    let rs = c.self.inside.records.items in
-    let r = c.item-kept.result in
-    let got = ap (λ xs. slice_get xs c.args.index) (sym c.deref.ensures.value) ∙ c.item-kept.ensures in
-    let w = own-place b rs c.args.self.now c.args.index r c.self.invariant c.self.view_is got in
-    let f = from-of b r (end_of b (drop (suc c.args.index) rs)) in
-    let n = ap length c.as_slice-numbers.ensures.value in
-    let to : c.symbols_end-to.result ≡ (place_of b r (end_of b (drop (suc c.args.index) rs))).symbols =
-    c.symbols_end-to.ensures
-    ∙ (ap (λ ws. symbols_by r.has_row (own_row ws r) (from_by (length c.as_slice-numbers.result.now) (slice_get c.deref-3.result.now (c.args.index + 1)))) c.deref-2.ensures.value
-    ∙ (ap (λ qs. symbols_by r.has_row (own_row b.rows.items r) (from_by (length c.as_slice-numbers.result.now) (slice_get qs (c.args.index + 1)))) c.deref-3.ensures.value
-    ∙ (ap (λ m. symbols_by r.has_row (own_row b.rows.items r) (from_by m (slice_get rs (c.args.index + 1)))) n
-    ∙ sym (symbols-there b rs c.args.self.now c.args.index r c.self.invariant c.self.view_is got)))) in
-    omega (arith, f, to, w.symbols)
-
-pub slice_bounds-result-end : goal.slice_bounds-result-end
-slice_bounds-result-end c =
-    let b = c.self.inside.buffers in
-    let rs = c.self.inside.records.items in
-    let r = c.item-kept.result in
-    let got = ap (λ xs. slice_get xs c.args.index) (sym c.deref.ensures.value) ∙ c.item-kept.ensures in
-    let w = own-place b rs c.args.self.now c.args.index r c.self.invariant c.self.view_is got in
-    let f = from-of b r (end_of b (drop (suc c.args.index) rs)) in
-    let n = ap length c.as_slice-numbers.ensures.value in
-    let to : c.symbols_end-to.result ≡ (place_of b r (end_of b (drop (suc c.args.index) rs))).symbols =
-    c.symbols_end-to.ensures
-    ∙ (ap (λ ws. symbols_by r.has_row (own_row ws r) (from_by (length c.as_slice-numbers.result.now) (slice_get c.deref-3.result.now (c.args.index + 1)))) c.deref-2.ensures.value
-    ∙ (ap (λ qs. symbols_by r.has_row (own_row b.rows.items r) (from_by (length c.as_slice-numbers.result.now) (slice_get qs (c.args.index + 1)))) c.deref-3.ensures.value
-    ∙ (ap (λ m. symbols_by r.has_row (own_row b.rows.items r) (from_by m (slice_get rs (c.args.index + 1)))) n
-    ∙ sym (symbols-there b rs c.args.self.now c.args.index r c.self.invariant c.self.view_is got)))) in
-    omega (arith, n, to, w.heads, w.places, w.numbers)
+    (omega (arith, f, to, w.symbols), omega (arith, n, to, w.heads, w.places, w.numbers))
 
 pub returns : goal.returns
 returns c =
@@ -86,7 +52,7 @@ returns c =
     let a = (entry_of b (place_of b r (end_of b (drop (suc c.args.index) rs)))).assertion in
     let e = is-entry b rs c.args.self.now c.args.index r c.self.view_is got in
     let symbols = ap (λ k. slice_range b.numbers.items k (place_of b r (end_of b (drop (suc c.args.index) rs))).symbols) f
-    ∙ (ap (slice_range b.numbers.items r.from) (sym to) ∙ ap (λ xs. slice_range xs r.from c.symbols_end-to.result) (sym c.as_slice-numbers.ensures.value)) in (
+    ∙ (ap (slice_range b.numbers.items r.from) (sym to) ∙ (ap (λ xs. slice_range xs r.from c.symbols_end-to.result) (sym c.as_slice-numbers.ensures.value) ∙ sym c.part.ensures)) in (
       a,
       e ∙ (ap (λ (h : Head). Some (record { kind = h.kind; label = h.label; names = h.names; links = h.links; symbols = slice_range b.numbers.items (place_of b r (end_of b (drop (suc c.args.index) rs))).from (place_of b r (end_of b (drop (suc c.args.index) rs))).symbols; assertion = a })) (head-of b r (end_of b (drop (suc c.args.index) rs)))
           ∙ ap (λ xs. Some (record { kind = r.kind; label = r.label; names = r.names; links = r.links; symbols = xs; assertion = a })) symbols),

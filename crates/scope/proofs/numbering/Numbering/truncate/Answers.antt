@@ -1,19 +1,47 @@
-use Rattle.std.proofs.Common.{◌∙◌, ap, sym, subst, length, take}
-use Rattle.std.proofs.lemmas.List.{take-map}
-use Rattle.scope.specs.Kinds.{with_their}
-use Rattle.scope.proofs.KindsLemmas.{their-take}
-use Rattle.scope.specs.Stored.KindCounts.{kinds_of, AreCounted}
-use Rattle.scope.proofs.KindCountLemmas.{kinds-length, counted-take, take-same}
+use Rattle.std.proofs.Common.{◌∙◌, ap, sym, subst, arith, length, take}
+use Rattle.std.specs.Prelude.{slice_get}
+use Rattle.std.proofs.lemmas.List.{take-map, take_all}
+use Rattle.scope.specs.Kinds.{with_their, declared_symbols, declared_labels, is_symbol_kind, is_labelling}
+use Rattle.scope.proofs.KindsLemmas.{their-take, length-seen}
+use Rattle.scope.specs.Stored.KindCounts.{kinds_of, AreCounted, places_that}
+use Rattle.scope.proofs.KindCountLemmas.{kinds-length, counted-take, take-same, places-take}
+use Rattle.scope.proofs.EntryLemmas.{symbols-before, labels-before, before-within}
 use Rattle.scope.proofs.numbering.Numbering.truncate.Goals as goal
+
+pub returns-then-len : goal.returns-then-len
+returns-then-len c =
+    let a = c.self.inside in
+    let all = ap length (sym c.self.view_is) ∙ length-seen a.names (kinds_of a.entries.items) (kinds-length a.names a.entries.items c.self.invariant.same) in
+    let len = c.len.ensures in let past = c.if-len.true in
+    sym (take_all c.args.len c.args.self.now (omega (arith, all, len, past)))
+
+pub overflow_sub-len : goal.overflow_sub-len
+overflow_sub-len c =
+    let a = c.self.inside in
+    let len = c.len.ensures in let within = c.if-len.false in
+    before-within a.names a.entries.items c.self.invariant.same c.self.invariant.counted c.entry_at-before.result c.args.len (omega (arith, len, within))
+    (ap (λ es. slice_get es c.args.len) (sym c.as_slice.ensures.value) ∙ c.entry_at-before.ensures)
 
 pub returns : goal.returns
 returns c =
+    let a = c.self.inside in
     ap (λ names. with_their names (kinds_of c.truncate-2.new.self.items)) c.truncate.ensures
-    ∙ (ap (with_their (take c.args.len c.self.inside.names)) (ap kinds_of c.truncate-2.ensures.items ∙ sym (take-map (λ e. e.kind) c.args.len c.self.inside.entries.items))
-    ∙ (their-take c.args.len c.self.inside.names (kinds_of c.self.inside.entries.items) (kinds-length c.self.inside.names c.self.inside.entries.items c.self.invariant.0) ∙ ap (take c.args.len) c.self.view_is))
+    ∙ (ap (with_their (take c.args.len a.names)) (ap kinds_of c.truncate-2.ensures.items ∙ sym (take-map (λ e. e.kind) c.args.len a.entries.items))
+    ∙ (their-take c.args.len a.names (kinds_of a.entries.items) (kinds-length a.names a.entries.items c.self.invariant.same) ∙ ap (take c.args.len) c.self.view_is))
 
 pub invariant_of-self : goal.invariant_of-self
-invariant_of-self c = (
-  ap length c.truncate-2.ensures.items ∙ (take-same c.args.len c.self.inside.entries.items c.self.inside.names c.self.invariant.0 ∙ ap length (sym c.truncate.ensures)),
-  subst (AreCounted 0) (sym c.truncate-2.ensures.items) (counted-take 0 c.args.len c.self.inside.entries.items c.self.invariant.1),
-)
+invariant_of-self c =
+    let a = c.self.inside in
+    let D = take c.args.len (with_their a.names (kinds_of a.entries.items)) in
+    let len = c.len.ensures in let within = c.if-len.false in
+    let at = ap (λ es. slice_get es c.args.len) (sym c.as_slice.ensures.value) ∙ c.entry_at-before.ensures in
+    let symbols = symbols-before a.names a.entries.items c.self.invariant.same c.self.invariant.counted c.entry_at-before.result c.args.len at in
+    let labels = labels-before a.names a.entries.items c.self.invariant.same c.self.invariant.counted c.entry_at-before.result c.args.len (omega (arith, len, within)) at in
+    record {
+      same = ap length c.truncate-2.ensures.items ∙ (take-same c.args.len a.entries.items a.names c.self.invariant.same ∙ ap length (sym c.truncate.ensures));
+      counted = subst (AreCounted 0) (sym c.truncate-2.ensures.items) (counted-take 0 c.args.len a.entries.items c.self.invariant.counted);
+      symbols_are = c.truncate-3.ensures.items ∙ (ap (λ n. take n a.symbols.items) symbols ∙ (ap (take (length (declared_symbols D))) c.self.invariant.symbols_are
+          ∙ (sym (places-take is_symbol_kind 0 c.args.len a.names a.entries.items c.self.invariant.same) ∙ ap (places_that is_symbol_kind 0) (sym c.truncate-2.ensures.items))));
+      labels_are = c.truncate-4.ensures.items ∙ (ap (λ n. take n a.labels.items) labels ∙ (ap (take (length (declared_labels D))) c.self.invariant.labels_are
+          ∙ (sym (places-take is_labelling 0 c.args.len a.names a.entries.items c.self.invariant.same) ∙ ap (places_that is_labelling 0) (sym c.truncate-2.ensures.items))));
+    }

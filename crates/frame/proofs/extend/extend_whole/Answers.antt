@@ -1,0 +1,21 @@
+use Rattle.std.proofs.Common.{◌∙◌, ap, sym, take, arith}
+use Rattle.frame.specs.Stored.Counts.{IsBehind}
+use Rattle.frame.proofs.StoredTaken.{back-stored}
+use Rattle.entries.proofs.AddedStatement.{on-err}
+use Rattle.frame.proofs.extend.extend_whole.Goals as goal
+
+pub returns-then-is_err-clause-stored : goal.returns-then-is_err-clause-stored
+returns-then-is_err-clause-stored c =
+    let old = c.args.stock.now in
+    let mid = c.extend-result.new.stock in
+    let behind = on-err c.extend-result.result (IsBehind old mid) (sym c.is_err.ensures.value ∙ c.if-is_err.true) c.extend-result.ensures.behind in
+    let cut = c.roll_back.ensures in
+    back-stored old mid c.roll_back.new.stock c.requires.stored (record {
+      behind = behind;
+      numbering_cut = cut.names ∙ ap (λ n. take n mid.numbering) c.len-names.ensures;
+      symbols_cut = cut.symbols;
+      positions_cut = cut.positions;
+      replaced_cut = cut.replaced ∙ ap (λ n. take n mid.replaced.items) (omega (arith, c.len-replaced.ensures, old.replaced.ok.0));
+      entries_cut = cut.entries;
+      links_cut = cut.links;
+    })

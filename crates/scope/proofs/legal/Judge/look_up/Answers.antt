@@ -1,0 +1,59 @@
+use Rattle.std.proofs.Common.{◌≡◌, ◌∙◌, ap, sym, subst, Some, None, ◌==◌, Option, ℕ, List}
+use Rattle.std.specs.List.{list_any}
+use Rattle.mm_lex.specs.Alphabet.{Name}
+use Rattle.mm_read.specs.Statements.{Database}
+use Rattle.scope.specs.Accepted.{Accepted}
+use Rattle.scope.specs.Active.{active_variables, typed_variables, is_variable, has_float}
+use Rattle.names.specs.Codes.{numbers_in}
+use Rattle.scope.specs.Kinds.{Declared, kind_in, names_as, Tells, TellsAll, IsNumberOf}
+use Rattle.scope.specs.Symbols.{symbols_of}
+use Rattle.scope.specs.Sorts.{IsSort, sort_by}
+use Rattle.scope.specs.declared.numbering.NameKind.{NameKind}
+use Rattle.scope.specs.declared.legal.Sort.{Sort}
+use Rattle.scope.specs.declared.numbering.NameKind.TheVariants.{Constant, Variable, Label}
+use Rattle.scope.specs.declared.legal.Sort.TheVariants as sort
+use Rattle.scope.proofs.SortsLemmas.{constant-sort, label-sort, no-sort, variable-sort, numbers-has, is_variable-active, has_float-typed}
+use Rattle.scope.proofs.NamesLemmas.{symbols-distinct}
+use Rattle.names.proofs.CodesLemmas.{code-at, found-number}
+use Rattle.scope.proofs.legal.Judge.look_up.Goals as goal
+
+-- what the numbering says of the kind of a name, of the statements
+tells : (S : Database) (names : Declared) (x : Name) (k : Option NameKind) → TellsAll S names → k ≡ kind_in names x → Tells S x k
+tells S names x k told is = subst (λ (k : Option NameKind). Tells S x k) (sym is) (told x)
+
+pub returns-in-Some-default-Constant-clause-sort : goal.returns-in-Some-default-Constant-clause-sort
+returns-in-Some-default-Constant-clause-sort c =
+    let S = c.self.inside.rules.now.statements in let x = c.args.name.now in let s = c.in-Some-default-Constant in
+    subst (λ (v : Accepted). IsSort v.statements x sort.Constant) c.self.view_is
+    (constant-sort S x (tells S c.self.inside.names.now x (Some Constant) c.self.invariant.told (ap Some (sym s.field-0-1-is) ∙ s.ensures.kind)))
+
+pub returns-in-Some-default-Label-clause-sort : goal.returns-in-Some-default-Label-clause-sort
+returns-in-Some-default-Label-clause-sort c =
+    let S = c.self.inside.rules.now.statements in let x = c.args.name.now in let s = c.in-Some-default-Label in
+    subst (λ (v : Accepted). IsSort v.statements x sort.Label) c.self.view_is
+    (label-sort S x (tells S c.self.inside.names.now x (Some Label) c.self.invariant.told (ap Some (sym s.field-0-1-is) ∙ s.ensures.kind)))
+
+pub returns-in-None-clause-sort : goal.returns-in-None-clause-sort
+returns-in-None-clause-sort c =
+    let S = c.self.inside.rules.now.statements in let x = c.args.name.now in
+    subst (λ (v : Accepted). IsSort v.statements x sort.Inactive) c.self.view_is
+    (no-sort S x (tells S c.self.inside.names.now x None c.self.invariant.told c.in-None.ensures.kind))
+
+-- the sort of a variable by its number
+variable : (S : Database) (x : Name) (n : ℕ) (r : Sort) → Tells S x (Some Variable) → IsNumberOf (symbols_of S) x n
+    → r ≡ sort_by (list_any (λ m. m == n) (numbers_in (symbols_of S) (active_variables S))) (list_any (λ m. m == n) (numbers_in (symbols_of S) (typed_variables S))) → IsSort S x r
+variable S x n r t number is =
+    let found = found-number (symbols_of S) x n (sym (code-at (symbols_of S) x n (symbols-distinct S) number.0 number.1)) in
+    let active : list_any (λ m. m == n) (numbers_in (symbols_of S) (active_variables S)) ≡ is_variable S x =
+    ap (λ k. list_any (λ m. m == k) (numbers_in (symbols_of S) (active_variables S))) (sym found.1) ∙ (numbers-has (symbols_of S) x (active_variables S) found.0 ∙ sym (is_variable-active S x)) in
+    let typed : list_any (λ m. m == n) (numbers_in (symbols_of S) (typed_variables S)) ≡ has_float S x =
+    ap (λ k. list_any (λ m. m == k) (numbers_in (symbols_of S) (typed_variables S))) (sym found.1) ∙ (numbers-has (symbols_of S) x (typed_variables S) found.0 ∙ sym (has_float-typed S x)) in
+    subst (λ (q : Sort). IsSort S x q) (sym (is ∙ (ap (λ a. sort_by a (list_any (λ m. m == n) (numbers_in (symbols_of S) (typed_variables S)))) active ∙ ap (λ b. sort_by (is_variable S x) b) typed))) (variable-sort S x t)
+
+pub returns-in-Some-default-Variable-clause-sort : goal.returns-in-Some-default-Variable-clause-sort
+returns-in-Some-default-Variable-clause-sort c =
+    let S = c.self.inside.rules.now.statements in let x = c.args.name.now in let s = c.in-Some-default-Variable in let names = c.self.inside.names.now in
+    subst (λ (v : Accepted). IsSort v.statements x c.sort_of_variable.result) c.self.view_is
+    (variable S x s.number c.sort_of_variable.result (tells S names x (Some Variable) c.self.invariant.told (ap Some (sym s.field-0-1-is) ∙ s.ensures.kind))
+    (subst (λ (N : List Name). IsNumberOf N x s.number) c.self.invariant.symbols (subst (λ (k : NameKind). IsNumberOf (names_as k names) x s.number) s.field-0-1-is s.ensures.number))
+    c.sort_of_variable.ensures)

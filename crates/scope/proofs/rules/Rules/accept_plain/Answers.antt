@@ -1,0 +1,19 @@
+use Rattle.std.proofs.Common.{ap, sym, refl, arith, length}
+use Rattle.scope.specs.Active.{bare}
+use Rattle.scope.proofs.StandingLemmas.{standing-fewer}
+use Rattle.scope.proofs.AcceptLemmas.{same-kept, accept-plain, bare-plain}
+use Rattle.scope.proofs.rules.Rules.accept_plain.Goals as goal
+
+pub invariant_of-self : goal.invariant_of-self
+invariant_of-self c =
+    let a = c.self.inside in let S = a.accepted.statements in
+    same-kept (sym c.after-self-inside.ensures) refl refl refl refl
+    (accept-plain S a.marked.statements a.variables a.typed a.standing a.blocks.items a.mark c.self.invariant (bare c.args.stmt.now) c.args.standing (bare-plain c.args.stmt.now c.args.standing c.requires.plain))
+
+pub overflow_add-self : goal.overflow_add-self
+overflow_add-self c =
+    let few = standing-fewer c.self.inside.accepted.statements in
+    let is = c.self.invariant.standing_is in
+    let same = ap (λ v. length v.statements) c.self.view_is in
+    let room = c.requires.room in let one = c.requires.one in
+    omega (arith, few, is, same, room, one)

@@ -1,0 +1,15 @@
+use Rattle.std.proofs.Common.{◌≡◌, ◌∙◌, sym, subst, refl}
+use Rattle.mm_read.specs.Statements.{Database}
+use Rattle.scope.specs.Stored.Stacks.{IsKept}
+use Rattle.scope.proofs.AcceptLemmas.{same-kept}
+use Rattle.scope.proofs.rules.Rules.copy.Goals as goal
+
+pub invariant_of-result : goal.invariant_of-result
+invariant_of-result c =
+    let a = c.self.inside in let S = a.accepted.statements in
+    let same : S ≡ c.same.result.statements = sym c.same.ensures in
+    let variables : a.variables ≡ c.in_ok-copy.field-0 = sym c.in_ok-copy.ensures in
+    let typed : a.typed ≡ c.in_ok-copy-2.field-0 = sym c.in_ok-copy-2.ensures in
+    let blocks : a.blocks.items ≡ c.in_ok-from_slice.field-0.items = sym (c.in_ok-from_slice.ensures.items ∙ c.as_slice.ensures.value) in
+    same-kept same variables typed refl blocks
+    (subst (λ (M : Database). IsKept S M a.variables a.typed a.standing a.blocks.items a.mark) (sym c.same-2.ensures) c.self.invariant)

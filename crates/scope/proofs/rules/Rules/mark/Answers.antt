@@ -1,0 +1,14 @@
+use Rattle.std.proofs.Common.{◌≡◌, ◌∙◌, ap, sym, subst, true}
+use Rattle.scope.specs.Active.{is_closed, active}
+use Rattle.scope.specs.Stored.Stacks.{IsKept, sizes_of}
+use Rattle.mm_read.specs.Statements.{Database}
+use Rattle.scope.proofs.GoingBackLemmas.{kept-mark}
+use Rattle.scope.proofs.rules.Rules.mark.Goals as goal
+
+pub invariant_of-self : goal.invariant_of-self
+invariant_of-self c =
+    let a = c.self.inside in let S = a.accepted.statements in
+    let closed : is_closed S ≡ true = ap (λ v. is_closed v.statements) c.self.view_is ∙ c.requires in
+    subst (λ (M : Database). IsKept S M a.variables a.typed a.standing a.blocks.items c.sizes-self-inside.result) (sym c.same-self-inside.ensures)
+    (kept-mark S a.marked.statements a.variables a.typed a.standing a.blocks.items a.mark c.sizes-self-inside.result closed
+    (c.sizes-self-inside.ensures ∙ ap (λ v. sizes_of (active v.statements)) (sym c.self.view_is)) c.self.invariant)

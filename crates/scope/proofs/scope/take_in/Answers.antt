@@ -1,0 +1,48 @@
+use Rattle.std.proofs.Common.{◌∙◌, ap, sym, subst, length, take, ◌++◌, ◌∷◌, [], ◌+◌, Option, List, ℕ}
+use Rattle.scope.specs.Active.{bare}
+use Rattle.scope.specs.Kinds.{Declared, IsNumberingOf}
+use Rattle.scope.specs.Standing.{stands_at, standing_of}
+use Rattle.scope.specs.Stored.Declares.{IsNotedBy}
+use Rattle.scope.specs.Stored.Noted.{AreNoted}
+use Rattle.scope.specs.Symbols.{symbols_after, symbols_in, AreNumbers, AreVariableNumbers}
+use Rattle.mm_lex.specs.Alphabet.{Name}
+use Rattle.mm_read.specs.declared.stmt.Stmt.{Stmt}
+use Rattle.mm_read.specs.declared.stmt.Stmt.TheVariants.{Open, Close, Const, Var, Disj, Float, Ess, Axiom, Prove}
+use Rattle.scope.proofs.DeclaredLemmas.{may-declare, numbering-after, noted-after}
+use Rattle.scope.proofs.StandingLemmas.{standing-after, stands-bare}
+use Rattle.scope.proofs.scope.take_in.Goals as goal
+
+pub declare-requires : goal.declare-requires
+declare-requires c = may-declare c.args.rules.now.statements c.args.stmt.now c.args.names.now c.requires.legal c.requires.numbering.told
+
+-- the numbers of all symbols are those that are asked for
+asked : (symbols : List Name) (s : Stmt) (numbers : List ℕ) → AreNumbers symbols (symbols_in s) numbers → AreVariableNumbers symbols s numbers
+asked symbols (Var xs) numbers are = are
+asked symbols (Float label constant variable) numbers are = are
+asked symbols Open numbers are = tt
+asked symbols Close numbers are = tt
+asked symbols (Const xs) numbers are = tt
+asked symbols (Disj xs) numbers are = tt
+asked symbols (Ess label expr) numbers are = tt
+asked symbols (Axiom label expr) numbers are = tt
+asked symbols (Prove label expr proof) numbers are = tt
+
+pub accept-requires-clause-numbers : goal.accept-requires-clause-numbers
+accept-requires-clause-numbers c =
+    let S = c.args.rules.now.statements in let s = c.args.stmt.now in
+    asked (symbols_after S s) s c.in-Some.numbers.now (subst (λ (o : Option (List ℕ)). AreNoted (symbols_after S s) (symbols_in s) o) c.in-Some.ensures.numbers
+    (noted-after S s c.args.names.now c.args.noted.now c.declare.new.noted c.requires.legal c.requires.numbering
+    (subst (λ (names : Declared). IsNotedBy names s c.args.noted.now c.declare.new.noted) c.in_ok-declare.ensures.names c.in_ok-declare.ensures.noted) c.requires.noted))
+
+pub returns-clause-numbering : goal.returns-clause-numbering
+returns-clause-numbering c =
+    let S = c.args.rules.now.statements in let s = c.args.stmt.now in
+    subst (λ (names : Declared). IsNumberingOf (S ++ bare s ∷ []) names) (sym c.in_ok-declare.ensures.names) (numbering-after S s c.args.names.now c.requires.legal c.requires.numbering)
+
+pub returns-clause-standing : goal.returns-clause-standing
+returns-clause-standing c =
+    let S = c.args.rules.now.statements in let s = c.args.stmt.now in
+    c.truncate.ensures.items
+    ∙ (ap (λ st. take c.standing.result st) (c.in_ok-push_standing.ensures.ok ∙ (ap (λ st. st ++ stands_at c.args.at s) c.requires.standing ∙ ap (λ at. standing_of S ++ stands_at at s) c.requires.at))
+    ∙ (ap (λ n. take n (standing_of S ++ stands_at (length S + 1) s)) (c.standing.ensures ∙ ap (λ D. length (standing_of D)) c.in_ok-accept-in-Some.ensures.ok)
+    ∙ (ap (λ st. take (length (standing_of (S ++ bare s ∷ []))) (standing_of S ++ st)) (sym (stands-bare (length S + 1) s)) ∙ standing-after S (bare s))))

@@ -1,0 +1,35 @@
+-- What a statement declares in the numbering, by its shape.
+-- Source: this project's form; what declares a name is Metamath, 4.2.
+use Rattle.std.specs.Prelude.{◌≡◌, ℕ, true, false, List, Option, None}
+use Rattle.mm_lex.specs.Alphabet.{Name, has_name}
+use Rattle.mm_read.specs.declared.stmt.Stmt.{Stmt}
+use Rattle.mm_read.specs.declared.stmt.Stmt.TheVariants.{Const, Var, Float, Ess, Axiom, Prove}
+use Rattle.scope.specs.Kinds.{Declared, declared_symbols, kind_in, is_label_kind, with_kind, with_kinds}
+use Rattle.scope.specs.Stored.Noted.{AreNoted}
+use Rattle.scope.specs.declared.numbering.NameKind.TheVariants.{Label, Constant, Variable}
+
+-- the names behind the statement
+abbrev pub declared_with : Declared → Stmt → Declared
+declared_with names (Const xs) = with_kinds names Constant xs
+declared_with names (Var xs) = with_kinds names Variable xs
+declared_with names (Float label constant variable) = with_kind names Label label
+declared_with names (Ess label expr) = with_kind names Label label
+declared_with names (Axiom label expr) = with_kind names Label label
+declared_with names (Prove label expr proof) = with_kind names Label label
+declared_with names s = names
+
+-- its symbols are no labels, and its label is new
+abbrev pub MayDeclare : Declared → Stmt → Type 0
+MayDeclare names (Const xs) = (x : Name) → has_name x xs ≡ true → is_label_kind (kind_in names x) ≡ false
+MayDeclare names (Var xs) = (x : Name) → has_name x xs ≡ true → is_label_kind (kind_in names x) ≡ false
+MayDeclare names (Float label constant variable) = kind_in names label ≡ None
+MayDeclare names (Ess label expr) = kind_in names label ≡ None
+MayDeclare names (Axiom label expr) = kind_in names label ≡ None
+MayDeclare names (Prove label expr proof) = kind_in names label ≡ None
+MayDeclare names s = Unit {0}
+
+-- the numbers of the symbols that a `$c` or a `$v` declares are noted; those of another statement stay as they were
+abbrev pub IsNotedBy : Declared → Stmt → Option (List ℕ) → Option (List ℕ) → Type 0
+IsNotedBy names (Const xs) old new = AreNoted (declared_symbols names) xs new
+IsNotedBy names (Var xs) old new = AreNoted (declared_symbols names) xs new
+IsNotedBy names s old new = new ≡ old

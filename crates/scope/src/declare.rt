@@ -1,0 +1,95 @@
+//! What a legal statement declares, in the numbering.
+ghost use Rattle.std.specs.Prelude.{◌≡◌, ◌++◌, ◌∷◌, [], None, true, false, IfOk, OnOk, OnErr};
+ghost use Rattle.mm_lex.specs.Alphabet.{Name, has_name};
+ghost use Rattle.scope.specs.Kinds.{Declared, IsNumberOf, declared_symbols, is_label_kind, is_symbol_kind, kind_in, with_kind, with_kinds};
+ghost use Rattle.scope.specs.Stored.Declares.{IsNotedBy, MayDeclare, declared_with};
+ghost use Rattle.scope.specs.Stored.Noted.{AreNoted};
+ghost use Rattle.scope.specs.declared.numbering.NameKind.TheVariants as shape_kind;
+
+use crate::noted::Noted;
+use crate::numbering::{NameKind, Numbering};
+use mm_lex::{Word, Words};
+use mm_read::Stmt;
+use std::alloc::{AllocError, Global};
+
+/// Declares what a legal statement declares. The numbers of the symbols of a `$c` and a `$v` are noted.
+///
+/// Where a growth is refused, the names that were there stay the first ones.
+pub(crate) fn declare(
+    names: &mut Numbering,
+    alloc: Global,
+    stmt: &Stmt,
+    noted: &mut Noted,
+) -> Result<(), AllocError>
+    requires { MayDeclare names.old stmt.now }
+    ensures names { OnOk result (names.new ≡ declared_with names.old stmt.now) }
+    ensures noted { OnOk result (IsNotedBy names.new stmt.now noted.old noted.new) }
+    ensures more { (more : Declared) × (names.new ≡ names.old ++ more) }
+{
+    match stmt {
+        Stmt::Const(symbols) => declare_symbols(names, alloc, symbols, NameKind::Constant, noted),
+        Stmt::Var(symbols) => declare_symbols(names, alloc, symbols, NameKind::Variable, noted),
+        Stmt::Float { label, .. } => declare_label(names, alloc, label),
+        Stmt::Ess { label, .. } => declare_label(names, alloc, label),
+        Stmt::Axiom { label, .. } => declare_label(names, alloc, label),
+        Stmt::Prove { label, .. } => declare_label(names, alloc, label),
+        Stmt::Open => Ok(()),
+        Stmt::Close => Ok(()),
+        Stmt::Disj(_) => Ok(()),
+    }
+}
+
+/// Declares a label that no name is yet.
+fn declare_label(names: &mut Numbering, alloc: Global, label: &Word) -> Result<(), AllocError>
+    requires { kind_in names.old label.now ≡ None }
+    ensures ok { OnOk result (names.new ≡ with_kind names.old shape_kind.Label label.now) }
+    ensures err { OnErr result (names.new ≡ names.old) }
+{
+    names.declare(alloc, label.as_bytes(), NameKind::Label)?;
+    Ok(())
+}
+
+/// Gives a kind to each of the symbols that has none, and notes their numbers.
+fn declare_symbols(
+    names: &mut Numbering,
+    alloc: Global,
+    symbols: &Words,
+    kind: NameKind,
+    noted: &mut Noted,
+) -> Result<(), AllocError>
+    requires symbol { is_symbol_kind kind ≡ true }
+    requires free { (x : Name) → has_name x symbols.now ≡ true → is_label_kind (kind_in names.old x) ≡ false }
+    ensures ok { OnOk result (names.new ≡ with_kinds names.old kind symbols.now) }
+    ensures noted { OnOk result (AreNoted (declared_symbols names.new) symbols.now noted.new) }
+    ensures more { (more : Declared) × (names.new ≡ names.old ++ more) }
+{
+    noted.begin();
+    for symbol in symbols.iter() {
+        let number = declare_symbol(names, alloc, symbol, kind)?;
+        noted.note(number);
+    }
+    Ok(())
+}
+
+/// Gives a kind to a symbol that has none, and tells its number. A variable may have had it before, in a block that is
+/// closed.
+fn declare_symbol(
+    names: &mut Numbering,
+    alloc: Global,
+    symbol: &[u8],
+    kind: NameKind,
+) -> Result<u32, AllocError>
+    requires is_symbol { is_symbol_kind kind ≡ true }
+    requires free { is_label_kind (kind_in names.old symbol.now) ≡ false }
+    ensures ok { OnOk result (names.new ≡ with_kind names.old kind symbol.now) }
+    ensures number { IfOk result (λ n. IsNumberOf (declared_symbols names.new) symbol.now n) }
+    ensures more { (more : Declared) × (names.new ≡ names.old ++ more) }
+{
+    match names.find(symbol) {
+        Some((number, _)) => Ok(number),
+        None => {
+            let number = names.declare(alloc, symbol, kind)?;
+            Ok(number)
+        }
+    }
+}

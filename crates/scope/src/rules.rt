@@ -1,0 +1,186 @@
+//! The state of the rules: which variables are active, and where the open blocks start.
+ghost use Rattle.std.specs.Prelude.{◌≡◌, ◌==◌, ◌++◌, ◌∷◌, [], length, not, nat_lt, take, None, IfOk, IfSome, OnOk, IsTrue};
+ghost use Rattle.std.specs.List.{list_any};
+ghost use Rattle.names.specs.Codes.{numbers_in};
+ghost use Rattle.scope.specs.Active.{active, active_variables, typed_variables, is_closed, count, is_open, is_close};
+ghost use Rattle.scope.specs.Kinds.{IsNumberingOf};
+ghost use Rattle.scope.specs.Legal.{broken_rule, end_rule};
+ghost use Rattle.scope.specs.Sorts.{sort_by};
+ghost use Rattle.scope.specs.Standing.{standing_of};
+ghost use Rattle.scope.specs.Stored.Noted.{AreNoted};
+ghost use Rattle.scope.specs.Stored.Stacks.{sizes_of};
+ghost use Rattle.scope.specs.Symbols.{symbols_of, symbols_after, symbols_in};
+
+use crate::history::History;
+use crate::legal::{Judge, Sort};
+use crate::noted::Noted;
+use crate::numbering::Numbering;
+use crate::rule::Rule;
+use crate::stack::Stack;
+use crate::stack_heights::StackHeights;
+use mm_read::Stmt;
+use std::alloc::{AllocError, Global};
+use std::marker::Model;
+
+/// What the rules know of the statements accepted so far, and of those that are marked: their stacks, by the
+/// numbers of symbols. The numbering itself is lent to them, so that others use it too. Contracts see the statements.
+#[derive(Drop)]
+pub struct Rules {
+    pub(crate) accepted: History,
+    pub(crate) marked: History,
+    pub(crate) variables: Stack,
+    pub(crate) typed: Stack,
+    pub(crate) standing: usize,
+    pub(crate) blocks: Vec<StackHeights>,
+    pub(crate) mark: StackHeights,
+}
+
+impl Model for Rules {
+    ghost use Rattle.scope.specs.Accepted.{Accepted};
+    ghost use Rattle.scope.specs.Stored.Stacks.{IsKept};
+
+    ghost Value = { Accepted };
+
+    ghost view = { λ a. record { statements = a.accepted.statements; marked = a.marked.statements } };
+
+    ghost invariant = { λ a. IsKept a.accepted.statements a.marked.statements a.variables a.typed a.standing a.blocks.items a.mark };
+}
+
+impl Rules {
+    /// No statement yet, marked there.
+    pub fn new(alloc: Global) -> Rules
+        ensures statements { result.statements ≡ [] }
+        ensures marked { result.marked ≡ [] }
+    {
+        Rules {
+            accepted: History::new(),
+            marked: History::new(),
+            variables: Stack::new(alloc),
+            typed: Stack::new(alloc),
+            standing: 0,
+            blocks: Vec::new(alloc),
+            mark: StackHeights {
+                variables: 0,
+                typed: 0,
+                standing: 0,
+            },
+        }
+    }
+
+    /// Marks the statements accepted so far. It takes no memory.
+    pub fn mark(&mut self)
+        requires { IsTrue (is_closed self.old.statements) }
+        ensures statements { self.new.statements ≡ self.old.statements }
+        ensures marked { self.new.marked ≡ self.old.statements }
+    {
+        self.mark = self.sizes();
+        self.marked = History::same(&self.accepted);
+    }
+
+    /// Goes back to the marked statements. It takes no memory.
+    pub fn back(&mut self)
+        ensures statements { self.new.statements ≡ self.old.marked }
+        ensures marked { self.new.marked ≡ self.old.marked }
+        // What stands at the mark is the first of what stood.
+        ensures standing { take (length (standing_of self.old.marked)) (standing_of self.old.statements) ≡ standing_of self.old.marked }
+    {
+        self.variables.truncate(self.mark.variables);
+        self.typed.truncate(self.mark.typed);
+        self.standing = self.mark.standing;
+        self.blocks.clear();
+        self.accepted = History::same(&self.marked);
+    }
+
+    /// The same statements, marked there.
+    pub fn copy(&self, alloc: Global) -> Result<Rules, AllocError>
+        ensures { IfOk result (λ rules. rules ≡ self.now) }
+    {
+        Ok(Rules {
+            accepted: History::same(&self.accepted),
+            marked: History::same(&self.marked),
+            variables: self.variables.copy(alloc)?,
+            typed: self.typed.copy(alloc)?,
+            standing: self.standing,
+            blocks: Vec::from_slice(alloc, self.blocks.as_slice())?,
+            mark: self.mark,
+        })
+    }
+
+    /// Whether no block is open.
+    pub fn is_closed(&self) -> bool
+        ensures closed { result ≡ is_closed self.now.statements }
+        ensures open { nat_lt (count is_close self.now.statements) (count is_open self.now.statements) ≡ not result }
+    {
+        self.blocks.is_empty()
+    }
+
+    /// What the end of the text breaks: G10 where a block is open. It takes no memory.
+    pub fn close_at_end(&self) -> Result<(), Rule>
+        ensures ok { OnOk result (IsTrue (is_closed self.now.statements)) }
+        ensures open { IfSome (end_rule self.now.statements) (λ rule. result ≡ Err rule) }
+        ensures closed { end_rule self.now.statements ≡ None → result ≡ Ok tt }
+    {
+        if self.is_closed() {
+            Ok(())
+        } else {
+            Err(Rule::G10)
+        }
+    }
+
+    /// The least rule that a statement would break as the next one, by the numbering of the names so far.
+    ///
+    /// Where it breaks none and the notes have begun, they are the numbers of its symbols, but for `$c` and `$v`, for
+    /// which they are taken away. Memory is taken for notes that have begun alone. Cost: the statement's own size.
+    /// Source: Metamath, chapter 4; the rules are `specs/Legal.antt`.
+    pub fn broken_rule<'a>(
+        &'a self,
+        names: &'a Numbering,
+        alloc: Global,
+        stmt: &Stmt,
+        noted: &mut Noted,
+    ) -> Option<Rule>
+        requires numbering { IsNumberingOf self.now.statements names.now }
+        requires empty { AreNoted (symbols_of self.now.statements) [] noted.old }
+        ensures rule { result ≡ broken_rule self.now.statements stmt.now }
+        ensures noted { result ≡ None → AreNoted (symbols_after self.now.statements stmt.now) (symbols_in stmt.now) noted.new }
+    {
+        let judge = Judge {
+            rules: self,
+            names,
+            alloc,
+        };
+        judge.broken_rule(stmt, noted)
+    }
+
+    /// How many `$f`, `$e` and `$d` are active.
+    pub(crate) fn standing(&self) -> usize
+        ensures { result ≡ length (standing_of self.now.statements) }
+    {
+        self.standing
+    }
+
+    /// What a variable is that was declared, by its number among the symbols.
+    #[inline(always)]
+    pub(crate) fn sort_of_variable(&self, number: u32) -> Sort
+        ensures { result ≡ sort_by (list_any (λ n. n == number) (numbers_in (symbols_of self.now.statements) (active_variables self.now.statements))) (list_any (λ n. n == number) (numbers_in (symbols_of self.now.statements) (typed_variables self.now.statements))) }
+    {
+        if self.variables.place(number).is_none() {
+            Sort::Inactive
+        } else if self.typed.place(number).is_some() {
+            Sort::Typed
+        } else {
+            Sort::Untyped
+        }
+    }
+
+    /// How high the stacks stand.
+    pub(crate) fn sizes(&self) -> StackHeights
+        ensures { result ≡ sizes_of (active self.now.statements) }
+    {
+        StackHeights {
+            variables: self.variables.len(),
+            typed: self.typed.len(),
+            standing: self.standing,
+        }
+    }
+}
