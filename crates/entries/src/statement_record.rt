@@ -46,7 +46,7 @@ pub struct Buffers {
     pub hypotheses: Vec<u32>,
     pub asked: Vec<Hypothesis>,
     pub groups: Vec<BufferPart>,
-    /// Where they stand, of each assertion.
+    /// Where they stand, of each statement that has hypotheses or groups.
     pub rows: Vec<AssertionRow>,
 }
 

@@ -97,7 +97,7 @@ impl Frames {
     /// Adds a statement that is legal behind those that are here.
     ///
     /// Where a growth is refused, everything is as before. One step is counted, whatever is answered.
-    /// Cost: the statement's own size.
+    /// Cost: the statement's own size, and for each of its variables the open blocks behind its `$f`.
     pub fn keep(&mut self, stmt: &Stmt, steps: &mut Steps) -> Result<(), AllocError>
         requires { IsLegal self.old.statements stmt.now }
         ensures added { OnOk result (self.new.statements ≡ self.old.statements ++ bare stmt.now ∷ []) }
@@ -127,8 +127,8 @@ impl Frames {
     /// Adds the next statement, where it breaks none of the rules G1 to G10: the rules, whose state stands behind the
     /// same statements, are lent the numbering, and accept it.
     ///
-    /// Errors: the least rule that it breaks, or `Memory` where it breaks none; everything is then as before. Cost: the
-    /// statement's own size; one step is counted, whatever is answered.
+    /// Errors: the least rule that it breaks, or `Memory` where it breaks none; everything is then as before. Cost: that
+    /// of `Rules::broken_rule` and of `keep`; one step is counted, whatever is answered.
     pub fn add(&mut self, rules: &mut Rules, stmt: &Stmt, steps: &mut Steps) -> Result<(), Rule>
         requires same { rules.old.statements ≡ self.old.statements }
         ensures added { OnOk result (self.new.statements ≡ self.old.statements ++ bare stmt.now ∷ []) }
@@ -237,7 +237,7 @@ impl Frames {
 
     /// Makes the lists of the assertion at a position, of which only what it adds to what is active is kept.
     ///
-    /// Cost: the size of its hypotheses and of the active `$d`.
+    /// Cost: the size of its hypotheses and of the active `$d`; of n active `$e` also n²/2 moves of a number.
     pub fn gather(&self, a: usize, gathered: &mut Gathered) -> Result<(), AllocError>
         requires { (s : Statement) × HasAssertion self.now.statements a s }
         ensures { OnOk result (IsGathered self.now.statements self.now.names a gathered.new) }

@@ -99,7 +99,7 @@ fn put_all(list: &mut Vec<u32>, positions: &[u32]) -> Result<(), AllocError>
 
 /// Adds the `$e` that are active at `at`, and the `$f` that are kept with them, in their places.
 ///
-/// Cost: for each of these a search by halves.
+/// Cost: for each of these a search by halves, and a move of those that stand behind its place.
 pub fn add_essentials(stock: &Stock, at: usize, list: &mut Vec<u32>) -> Result<(), AllocError>
     requires stored { AreStored stock.now }
     requires place { (1 ≤ at) × (at ≤ length (statements_of stock.now) + 1) }

@@ -59,7 +59,7 @@ impl<'a> Pairs<'a> {
 
     /// Whether x is a variable there.
     ///
-    /// Cost: that of one look-up, but for a variable that is declared again behind the position: then the symbols
+    /// Cost: one look-up, and the open blocks behind its last `$v`; where that one is not active there, also the symbols
     /// of the active `$v`.
     pub fn variable(&self, x: u32) -> bool
         requires { x < length self.now.names }

@@ -22,7 +22,7 @@ use std::alloc::{AllocError, Global};
 
 const NOTHING: &[u32] = &[];
 
-/// The numbers of the symbols of a statement that declares nothing and is kept without hypotheses, where they are known.
+/// The numbers of the symbols of a `${`, `$}`, `$d` or `$f`, where they are known.
 pub fn plain_numbers<'a>(
     numbering: &Numbering,
     stmt: &Stmt,

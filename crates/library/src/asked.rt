@@ -64,8 +64,8 @@ impl Library {
     /// library; with `all` of those too that use it through others, as `trace` has it.
     ///
     /// Errors: `NoLabel` where no statement has the label, also where every growth is refused; `Memory` in place of an answer
-    /// alone. Cost: that of the proofs behind the statement, each read once, and a byte a statement. Source: Metamath, 4.2.6
-    /// and appendix B.
+    /// alone. Cost: that of the proofs behind the statement, each read once, and once more where it lists what is sought, and
+    /// a byte a statement. Source: Metamath, 4.2.6 and appendix B.
     pub fn usage(&self, label: &[u8], all: bool) -> Result<Vec<Word>, AskFault>
         ensures labels { IfOk result (λ labels. IsUsage self.now.replica.statements label.now all labels.items) }
         ensures no_label { (result ≡ Err AskFault.NoLabel) ↔ HasNoLabel self.now.replica.statements label.now }

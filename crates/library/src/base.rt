@@ -128,7 +128,7 @@ impl Base {
 
     /// Adds the statements whole, where they are good behind those that stand; else it answers why they are not.
     ///
-    /// Errors: a growth was refused; nothing is added then. Cost: that of the statements added, two steps each.
+    /// Errors: a growth was refused; nothing is added then. Cost: that of the statements added, one step each.
     pub(crate) fn extend<F: Fn(&Proofs<'_>) -> Result<Option<usize>, AllocError>>(
         &mut self,
         more: Vec<Stmt>,
@@ -180,7 +180,7 @@ fn append_all(statements: &mut Vec<Stmt>, mut more: Vec<Stmt>) -> Result<(), All
 
 /// Why the statements behind the first `front` may not stand there; none where they may.
 ///
-/// Errors: a growth was refused. Cost: that of these statements, two steps each.
+/// Errors: a growth was refused. Cost: that of these statements, one step each.
 fn judge<F: Fn(&Proofs<'_>) -> Result<Option<usize>, AllocError>>(
     alloc: Global,
     rules: &mut Rules,

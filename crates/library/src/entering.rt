@@ -38,7 +38,7 @@ fn has_label(statement: &Stmt) -> bool
 /// Adds the statements to the frames and the rules, up to the first that breaks a rule, and answers its number, counted
 /// from 1, and its least rule. A block that is open at the end breaks G10 one above the last statement.
 ///
-/// Errors: a growth was refused. Cost: that of the statements, two steps each.
+/// Errors: a growth was refused. Cost: that of the statements, one step each.
 pub(crate) fn enter(
     rules: &mut Rules,
     frames: &mut Frames,

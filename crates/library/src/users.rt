@@ -24,7 +24,8 @@ use std::alloc::{AllocError, Global};
 /// The labels of the `$p` that cite the statement at a position, each once, in order; with `all` of those too that cite one
 /// of them, and so on.
 ///
-/// Errors: a growth was refused. Cost: that of the proofs behind the position, each read once, and a byte a statement.
+/// Errors: a growth was refused. Cost: that of the proofs behind the position, each read once, and once more where it lists what is
+/// sought, and a byte a statement.
 pub(crate) fn users(
     alloc: Global,
     frames: &Frames,

@@ -19,7 +19,7 @@ pub struct NameTable {
     texts: Texts,
     kept: Kept,
     slots: Vec<Slot>,
-    /// How many slots are taken, those of names that are gone with them.
+    /// How many slots are taken at most, those of names that are gone with them.
     taken: usize,
 }
 
@@ -71,7 +71,8 @@ impl NameTable {
         self.texts.len()
     }
 
-    /// The code of a name that has one. Cost: one pass over the name, and few looks at the table.
+    /// The code of a name that has one. Cost: one pass over the name and 32 looks at the table at most; where it is not
+    /// found there, the logarithm of how many names stand apart in comparisons.
     pub fn find(&self, name: &[u8]) -> Option<usize>
         ensures code { result ≡ code_of self.now name.now }
         ensures fits { IfSome result (λ n. n < 2 ^ 32) }

@@ -17,7 +17,7 @@ use std::alloc::{AllocError, Global};
 pub(crate) const NO_NAME: u32 = 4294967295;
 
 /// How many slots are looked at for one name. A name that finds none of them free goes into the overflow.
-pub(crate) const REACH: usize = 64;
+pub(crate) const REACH: usize = 32;
 
 /// How many slots the first table has.
 const FIRST_SLOTS: usize = 16;

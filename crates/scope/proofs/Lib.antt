@@ -2,6 +2,7 @@ pub mod Databases
 pub mod KindsLemmas
 pub mod NamesLemmas
 pub mod SortsLemmas
+pub mod OrderedLemmas
 pub mod KindCountLemmas
 pub mod SymbolNameLemmas
 pub mod EntryLemmas

@@ -1,11 +1,10 @@
 -- What a look-up says of a symbol.
-use Rattle.std.specs.Prelude.{◌≡◌, ℕ, ◌+◌, ◌==◌, Bool, true, false, not, cond, ◌||◌, ◌&&◌, List, [], ◌∷◌, ◌++◌, length, Option, Some, None, is_some, refl, option_map}
+use Rattle.std.specs.Prelude.{◌≡◌, ℕ, ◌+◌, ◌==◌, Bool, true, false, not, ◌||◌, ◌&&◌, List, [], ◌∷◌, ◌++◌, length, Option, Some, None, is_some, refl, option_map}
 use Rattle.std.specs.List.{list_any, flat_map}
 use Rattle.std.proofs.Common.{sym, ◌∙◌, ap, arith, true≢false, take, ◌<◌, append_assoc, length-append}
 use Rattle.std.proofs.lemmas.List.{take_at, length_push}
 use Rattle.std.proofs.lemmas.Bool.{eqb-true, eq-eqb, false_from_ne_true}
 use Rattle.std.proofs.Math.Bool.{or-false, and-false}
-use Rattle.mm_lex.proofs.NameLemmas.{tried_first}
 use Rattle.mm_lex.specs.Alphabet.{Name, name_eq, has_name}
 use Rattle.mm_read.specs.declared.stmt.Stmt.{Stmt}
 use Rattle.mm_read.specs.declared.stmt.Stmt.TheVariants.{Open, Close, Const, Var, Disj, Float, Ess, Axiom, Prove}
@@ -158,13 +157,3 @@ short_differ (x ∷ y ∷ xs) h = absurd (omega arith)
 pub some_second : {A B : Type 0} (r : Option (A × B)) → is_some r ≡ is_some (option_map (λ (p : A × B). p.1) r)
 some_second None = refl
 some_second (Some p) = refl
-
--- a truth value whose denial is known
-pub not-denied : (b f value : Bool) → f ≡ not b → f ≡ value → b ≡ not value
-not-denied true f value e h = ap not (sym e ∙ h)
-not-denied false f value e h = ap not (sym e ∙ h)
-
--- the names seen, after one more
-pub one-seen : (x w : Name) (names : List Name) (same seen : Bool) → same ≡ name_eq w x → seen ≡ has_name x names → cond same true seen ≡ has_name x (names ++ w ∷ [])
-one-seen x w names same seen is was =
-    ap (λ b. cond b true seen) (is ∙ name_eq-comm w x) ∙ (ap (cond (name_eq x w) true) was ∙ (tried_first (name_eq x w) (has_name x names) ∙ sym (has_name-append x names (w ∷ []))))

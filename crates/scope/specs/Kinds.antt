@@ -2,11 +2,10 @@
 -- Source: Metamath, 4.2.
 -- The code keeps a name's kind beside its number; the model looks through the statements.
 use Rattle.std.specs.Prelude.{◌≡◌, ◌<◌, Bool, true, false, List, [], ◌∷◌, ◌++◌, map, length, take, ℕ, Option, Some, None, is_some, if◌then◌else◌}
-use Rattle.mm_lex.specs.Alphabet.{Name, name_eq, has_name}
+use Rattle.mm_lex.specs.Alphabet.{Name, name_eq}
 use Rattle.mm_read.specs.Statements.{Database}
 use Rattle.scope.specs.Active.{is_constant, was_variable, was_label}
 use Rattle.names.specs.Codes.{name_at}
-use Rattle.scope.specs.Legal.{all_different}
 use Rattle.scope.specs.Symbols.{symbols_of, labels_of}
 use Rattle.scope.specs.declared.numbering.NameKind.{NameKind}
 use Rattle.scope.specs.declared.numbering.NameKind.TheVariants.{Label, Constant, Variable}
@@ -98,7 +97,3 @@ with_kind names kind x = if is_some (kind_in names x) then names else names ++ (
 abbrev pub with_kinds : Declared → NameKind → List Name → Declared
 with_kinds names kind [] = names
 with_kinds names kind (x ∷ xs) = with_kinds (with_kind names kind x) kind xs
-
--- names of which none has a kind, and none stands twice
-abbrev pub AreNew : Declared → List Name → Type 0
-AreNew names xs = ((x : Name) → has_name x xs ≡ true → kind_in names x ≡ None) × (all_different xs ≡ true)

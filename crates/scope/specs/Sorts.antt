@@ -27,10 +27,6 @@ abbrev pub is_label_sort : Sort → Bool
 is_label_sort Label = true
 is_label_sort sort = false
 
-abbrev pub is_inactive_sort : Sort → Bool
-is_inactive_sort Inactive = true
-is_inactive_sort sort = false
-
 -- by whether it is an active variable, and has an active `$f`
 abbrev pub sort_by : Bool → Bool → Sort
 sort_by false typed = Inactive

@@ -1,5 +1,6 @@
--- How a scope is kept: its stacks and counts, the kinds of names, and what it notes. No public clause cites it.
+-- How a scope is kept: its stacks and counts, the kinds of names, what it notes, and words in order. No public clause cites it but for `AreNoted` and `IsAppended`.
 pub mod Stacks
 pub mod KindCounts
 pub mod Noted
 pub mod Declares
+pub mod Ordered

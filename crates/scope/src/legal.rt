@@ -1,5 +1,5 @@
 //! The rules of a statement, by a function for each shape of statement.
-ghost use Rattle.std.specs.Prelude.{◌≡◌, ◌==◌, Bool, true, false, not, ◌&&◌, ◌||◌, nat_lt, take, Some, None, IfOk, ◌++◌, ◌∷◌, [], is_some, if◌then◌else◌};
+ghost use Rattle.std.specs.Prelude.{◌≡◌, ◌==◌, Bool, true, false, not, ◌&&◌, ◌||◌, nat_lt, take, length, Some, None, IfOk, ◌++◌, ◌∷◌, [], is_some, if◌then◌else◌};
 ghost use Rattle.std.specs.List.{list_all, list_any};
 ghost use Rattle.mm_lex.specs.Alphabet.{has_name};
 ghost use Rattle.mm_read.specs.Statements.{Expr};
@@ -7,6 +7,7 @@ ghost use Rattle.mm_read.specs.declared.stmt.Stmt.TheVariants as stmt;
 ghost use Rattle.scope.specs.Active.{is_constant, is_variable, was_label, was_symbol};
 ghost use Rattle.scope.specs.Legal.{all_different, are_typed, starts_with_constant, broken_rule};
 ghost use Rattle.scope.specs.Stored.Noted.{AreNoted};
+ghost use Rattle.scope.specs.Stored.Ordered.{DifferNext, IsTwice};
 ghost use Rattle.scope.specs.Kinds.{IsNumberOf};
 ghost use Rattle.scope.specs.Sorts.{IsSort, is_symbol_sort, sorts_rule};
 ghost use Rattle.scope.specs.Symbols.{symbols_of, symbols_after, symbols_in};
@@ -18,7 +19,6 @@ use crate::rules::Rules;
 use mm_lex::{Word, Words};
 use mm_read::Stmt;
 use std::alloc::{AllocError, Global};
-use std::collections::BTreeSet;
 use std::marker::Model;
 
 /// Lists of fewer words are compared pair by pair.
@@ -58,8 +58,8 @@ impl<'a> Model for Judge<'a> {
 impl<'a> Judge<'a> {
     /// The least rule that the statement would break as the next one.
     ///
-    /// Where it breaks none and the notes have begun, they are the numbers of its symbols, but for `$c` and `$v`, for
-    /// which they are taken away. Memory is taken for notes that have begun alone.
+    /// Where it breaks none and the notes have begun, they are the numbers of its symbols, or taken away where a growth
+    /// is refused; for `$c` and `$v` they are taken away.
     pub(crate) fn broken_rule(&self, stmt: &Stmt, noted: &mut Noted) -> Option<Rule>
         requires { AreNoted (symbols_of self.now.statements) [] noted.old }
         ensures rule { result ≡ broken_rule self.now.statements stmt.now }
@@ -309,16 +309,29 @@ fn are_different(alloc: Global, words: &Words) -> bool
     }
 }
 
+/// The same by the words in order, where one that stands twice is next to itself.
 fn differ_by_order(alloc: Global, words: &Words) -> Result<bool, AllocError>
     ensures { IfOk result (λ differ. differ ≡ all_different words.now) }
 {
-    let mut seen = BTreeSet::new(alloc);
+    let mut ordered = Vec::new(alloc);
     for word in words.iter() {
-        if !seen.insert(word)? {
-            return Ok(false);
+        ordered.push(word)?;
+    }
+    ordered.sort_unstable();
+    Ok(differ_next(&ordered))
+}
+
+/// Whether no word is the one before it.
+fn differ_next(words: &[&[u8]]) -> bool
+    ensures yes { result ≡ true → DifferNext words.now (length words.now) }
+    ensures no { result ≡ false → IsTwice words.now }
+{
+    for i in 1..words.len() {
+        if words[i - 1] == words[i] {
+            return false;
         }
     }
-    Ok(true)
+    true
 }
 
 /// The same without memory; the cost is the square of the count of words.

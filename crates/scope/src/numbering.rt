@@ -100,7 +100,8 @@ impl Numbering {
         self.labels.len()
     }
 
-    /// What a name was declared as, with its number among the symbols or among the labels. Cost: one look at the table.
+    /// What a name was declared as, with its number among the symbols or among the labels. Cost: that of
+    /// `NameTable::find`.
     #[inline(always)]
     pub fn find(&self, name: &[u8]) -> Option<(u32, NameKind)>
         ensures kind { option_map (λ p. p.1) result ≡ kind_in self.now name.now }

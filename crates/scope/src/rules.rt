@@ -129,8 +129,10 @@ impl Rules {
 
     /// The least rule that a statement would break as the next one, by the numbering of the names so far.
     ///
-    /// Where it breaks none and the notes have begun, they are the numbers of its symbols, but for `$c` and `$v`, for
-    /// which they are taken away. Memory is taken for notes that have begun alone. Cost: the statement's own size.
+    /// Where it breaks none and the notes have begun, they are the numbers of its symbols, or taken away where a growth
+    /// is refused; for `$c` and `$v` they are taken away. Memory is taken for notes that have begun, and for the call
+    /// where a list of names is long; no answer depends on it. Cost: the statement's own size, and of a long list of
+    /// names that of putting it in order, or without memory the square of their count.
     /// Source: Metamath, chapter 4; the rules are `specs/Legal.antt`.
     pub fn broken_rule<'a>(
         &'a self,

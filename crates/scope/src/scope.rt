@@ -67,7 +67,7 @@ impl Scope {
     /// Adds the next statement, where it breaks none of the rules G1 to G10.
     ///
     /// Errors: the least rule that it breaks, or `Memory` where it breaks none; the scope is then as
-    /// before. Cost: the statement's own size; one step is counted, whatever is answered.
+    /// before. Cost: that of `Rules::broken_rule`; one step is counted, whatever is answered.
     /// Source: Metamath, chapter 4; the rules are `specs/Legal.antt`.
     pub fn add(&mut self, stmt: &Stmt, steps: &mut Steps) -> Result<(), Rule>
         requires { IsShaped stmt.now }
@@ -123,9 +123,10 @@ impl Scope {
         }
     }
 
-    /// The least rule that the statement would break as the next one. It takes no memory.
+    /// The least rule that the statement would break as the next one. A long list of names takes memory for the call, where
+    /// there is some; no answer depends on it.
     ///
-    /// Cost: the statement's own size. Source: Metamath, chapter 4; the rules are
+    /// Cost: that of `Rules::broken_rule`. Source: Metamath, chapter 4; the rules are
     /// `specs/Legal.antt`.
     pub fn broken_rule(&self, stmt: &Stmt) -> Option<Rule>
         ensures { result ≡ broken_rule self.now.statements stmt.now }

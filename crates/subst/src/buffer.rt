@@ -88,7 +88,7 @@ impl Buffer {
     /// images are places in this buffer.
     ///
     /// Errors: where memory is refused the buffer is as before.
-    /// Cost: the symbols read and written, each once.
+    /// Cost: the symbols read and written, each once; twice where the buffer has to grow.
     pub fn add_applied(
         &mut self,
         images: &ImagePlaces,

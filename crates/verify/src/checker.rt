@@ -44,8 +44,9 @@ impl Checker {
 
     /// Whether the items are a right proof of the `$p` at that position.
     ///
-    /// Cost: each label is looked up once; an item costs the length of the result that it leaves, a recall and a mark
-    /// nothing more. Source: Metamath, 4.2.6 and appendix B.
+    /// Cost: each label is looked up once; a recall and a mark are one step, a citation costs the lengths of the result
+    /// that it leaves and of those that it holds against a `$e`, that of the pair clause, and where its lists are long
+    /// that of `Frames::gather`. Source: Metamath, 4.2.6 and appendix B.
     pub fn check(&mut self, frames: &Frames, at: usize, items: &Items) -> Result<Answer, AllocError>
         requires { (s : Statement) × IsProvable frames.now.statements at s }
         ensures { IfOk result (λ answer. Says answer (IsRight frames.now.statements at items.now)) }
@@ -65,8 +66,8 @@ impl Checker {
 
     /// Whether the tokens write a right proof of the `$p` at that position.
     ///
-    /// Cost: that of reading the tokens and checking their items; a mandatory hypothesis is known by its position, so
-    /// its label is neither copied nor looked up. Source: Metamath, 4.2.6 and appendix B.
+    /// Cost: that of reading the tokens and checking their items; in a compressed proof a mandatory hypothesis is known
+    /// by its position, so its label is neither copied nor looked up. Source: Metamath, 4.2.6 and appendix B.
     pub fn prove(
         &mut self,
         frames: &Frames,

@@ -102,13 +102,6 @@ pub record IsBehind (old new : Stock) : Type 0 where
   pub entries : new.entries ≡ old.entries
   pub links : new.links ≡ old.links
 
-abbrev pub IsLabelled : Kind → Type 0
-IsLabelled Float = Unit {0}
-IsLabelled Ess = Unit {0}
-IsLabelled Axiom = Unit {0}
-IsLabelled Prove = Unit {0}
-IsLabelled kind = ⊥
-
 -- a `$f` or a `$e`
 abbrev pub IsHypothesisAt : Option Stmt → Type 0
 IsHypothesisAt None = ⊥

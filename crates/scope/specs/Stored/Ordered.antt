@@ -1,0 +1,15 @@
+-- Words in order: one that stands twice is next to itself. The code's own form: no public clause cites it.
+use Rattle.std.specs.Prelude.{◌≡◌, ℕ, ◌+◌, ◌<◌, true, false, List, length, get_or}
+use Rattle.std.specs.Borrow.{Bor}
+use Rattle.mm_lex.specs.Alphabet.{Name, name_eq}
+
+-- of the first n words none is the one before it
+abbrev pub DifferNext : List (Bor Name) → ℕ → Type 0
+DifferNext words n = (k : ℕ) (d : Bor Name) → k + 1 < n → name_eq (get_or words k d).now (get_or words (k + 1) d).now ≡ false
+
+-- a word is the one before it
+pub record IsTwice (words : List (Bor Name)) : Type 0 where
+  pub place : ℕ
+  pub other : Bor Name
+  pub within : place + 1 < length words
+  pub same : name_eq (get_or words place other).now (get_or words (place + 1) other).now ≡ true
