@@ -13,9 +13,10 @@ use Rattle.entries.specs.Entries.{Entry}
 use Rattle.frame.specs.Links.{links_of}
 use Rattle.frame.specs.Stored.Naming.{with_statement, naming_of}
 use Rattle.frame.specs.Stored.Whole.{AreStored, Entered}
-use Rattle.frame.specs.Stored.Counts.{Grown, HasRoom, IsBehind, with_declared}
+use Rattle.frame.specs.Stored.Counts.{Grown, HasRoom, IsBehind, AreZeroBehind, with_declared}
 use Rattle.frame.specs.Stored.EntryMeanings.{names_in, labels_in, ReadsAs, replaced_by, statements_of, symbol_of}
 use Rattle.frame.proofs.NamingLemmas.{naming_of-append, symbols-extend, symbols-with_statement, labels-with_statement, stored-naming}
+use Rattle.entries.specs.Stored.Spans.{Extends}
 use Rattle.frame.proofs.StoredLemmas.{IsPushed}
 use Rattle.frame.proofs.StoredOneMore.{still-reads}
 
@@ -29,9 +30,26 @@ grown-behind old new g = record {
   symbols = g.symbols;
   positions = g.positions;
   replaced = ([], ap (λ v. v.items) g.replaced ∙ sym (append-nil old.replaced.items));
+  ends = ([], ap (λ v. v.items) g.ends ∙ sym (append-nil old.ends.items));
   entries = g.entries;
   links = g.links;
 }
+
+-- with what a statement replaces, and the end of its block
+pub noted-behind : (old new last : Stock) → Grown old new → last.numbering ≡ new.numbering → last.symbols ≡ new.symbols → last.positions ≡ new.positions
+    → Extends new.replaced.items last.replaced.items → Extends new.ends.items last.ends.items → last.entries ≡ new.entries → last.links ≡ new.links → IsBehind old last
+noted-behind old new last g numbering symbols positions replaced ends entries links = record {
+  numbering = subst (Extends old.numbering) (sym numbering) g.numbering;
+  symbols = subst (λ v. AreZeroBehind old.symbols.items v.items) (sym symbols) g.symbols;
+  positions = subst (λ v. Extends old.positions.items v.items) (sym positions) g.positions;
+  replaced = subst (λ r. Extends r last.replaced.items) (ap (λ v. v.items) g.replaced) replaced;
+  ends = subst (λ r. Extends r last.ends.items) (ap (λ v. v.items) g.ends) ends;
+  entries = entries ∙ g.entries;
+  links = links ∙ g.links;
+}
+
+pub nothing-behind : (xs : List ℕ) → Extends xs xs
+nothing-behind xs = ([], sym (append-nil xs))
 
 pub is-pushed : (old new : Stock) (s : Stmt) (e : Entry) (kind : Kind) (codes codes' : List ℕ) (at : ℕ) (read declared : List Symbol) (replaced' : List ℕ) (entries' : List Entry) (links' : Links)
     → AreStored old → Entered old new s e → Grown old new → HasRoom new → IsLegal (statements_of old) s

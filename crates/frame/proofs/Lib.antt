@@ -24,6 +24,7 @@ pub mod AssertionLemmas
 pub mod CitedLemmas
 pub mod GroupsLemmas
 pub mod BlockWalkLemmas
+pub mod EndLemmas
 pub mod LegalLabels
 pub mod ActiveBehind
 pub mod LegalBehind

@@ -190,10 +190,10 @@ below-closes zero (Close ∷ B) h = cc
 below-closes (suc k) (Close ∷ B) h = below-closes k B h
 below-closes k (s ∷ B) h = below-closes k B h
 
-closes-stay : (B : Database) → stays_open 0 B ≡ true → StaysOpen (Open ∷ (B ++ Close ∷ []))
+pub closes-stay : (B : Database) → stays_open 0 B ≡ true → StaysOpen (Open ∷ (B ++ Close ∷ []))
 closes-stay B h d = below-closes d B (stays_open-any d B h)
 
-is-open : (s : Stmt) → is_open s ≡ true → s ≡ Open
+pub is-open : (s : Stmt) → is_open s ≡ true → s ≡ Open
 is-open Open h = refl
 is-open Close h = cc
 is-open s h = cc

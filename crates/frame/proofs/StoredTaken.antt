@@ -1,6 +1,8 @@
 -- Legality looks at no proof, and taken back everything is as before.
 use Rattle.std.specs.Prelude.{◌≡◌, ℕ, suc, ◌+◌, List, [], ◌∷◌, length, map, take, Option, Some, None, refl}
-use Rattle.std.proofs.Common.{sym, ◌∙◌, ap}
+use Rattle.std.proofs.Common.{sym, ◌∙◌, ap, subst}
+use Rattle.std.proofs.lemmas.List.{length-map}
+use Rattle.frame.specs.Stored.Ends.{AreEnds}
 use Rattle.mm_lex.specs.Alphabet.{Name}
 use Rattle.mm_read.specs.declared.stmt.Stmt.{Stmt}
 use Rattle.mm_read.specs.declared.stmt.Stmt.TheVariants as stmt
@@ -9,7 +11,7 @@ use Rattle.scope.specs.Active.{bare, label_of}
 use Rattle.scope.specs.Legal.{IsLegal}
 use Rattle.scope.specs.Symbols.{labels_of, option_list}
 use Rattle.frame.specs.declared.storage.Stock.{Stock}
-use Rattle.frame.specs.Stored.EntryMeanings.{names_in, labels_in, stmt_of, positions_from, option_position, statements_of, numbered}
+use Rattle.frame.specs.Stored.EntryMeanings.{names_in, labels_in, stmt_of, positions_from, option_position, statements_of}
 use Rattle.frame.specs.Stored.Counts.{IsBehind}
 use Rattle.frame.specs.Stored.Naming.{naming_of}
 use Rattle.frame.specs.Stored.Whole.{AreKept, AreStored}
@@ -46,6 +48,7 @@ pub record IsTakenBack (old mid new : Stock) : Type 0 where
   pub symbols_cut : new.symbols.items ≡ take (length (names_in new)) mid.symbols.items
   pub positions_cut : new.positions.items ≡ take (length (labels_in new)) mid.positions.items
   pub replaced_cut : new.replaced.items ≡ take (length old.replaced.items) mid.replaced.items
+  pub ends_cut : new.ends.items ≡ take (length mid.entries) mid.ends.items
   pub entries_cut : new.entries ≡ mid.entries
   pub links_cut : new.links ≡ mid.links
 
@@ -76,6 +79,8 @@ module _ (old mid new : Stock) (stored : AreStored old) (t : IsTakenBack old mid
       let symbols : length (names_in new) ≡ length old.symbols.items = ap length back-names ∙ sym k.count in
       let labels : length (labels_in new) ≡ length old.positions.items =
       ap length (back-labels ∙ k.labels_kept) ∙ (sym (length-positions 1 (statements_of old)) ∙ ap length (sym k.positions_kept)) in
+      let all : length mid.entries ≡ length old.ends.items = ap length t.behind.entries ∙ (sym (length-map old.entries (stmt_of (names_in old) (labels_in old))) ∙ sym stored.ended.count) in
+      let ends : new.ends.items ≡ old.ends.items = t.ends_cut ∙ (ap (λ m. take m mid.ends.items) all ∙ take-extends old.ends.items mid.ends.items t.behind.ends) in
       record {
         kept = kept-same (names_in old) (labels_in old) old.positions.items old.symbols.items old.replaced.items old.entries old.links
             (names_in new) (labels_in new) new.positions.items new.symbols.items new.replaced.items new.entries new.links
@@ -86,4 +91,5 @@ module _ (old mid new : Stock) (stored : AreStored old) (t : IsTakenBack old mid
             back-entries
             (t.links_cut ∙ t.behind.links) k;
         numbered = back-numbering ∙ (stored.numbered ∙ ap naming_of (sym back-statements));
+        ended = subst (AreEnds new.ends.items) (sym back-statements) (subst (λ r. AreEnds r (statements_of old)) (sym ends) stored.ended);
       }

@@ -10,4 +10,5 @@ pub mod OneFrame
 pub mod NumberPlaces
 pub mod Plain
 pub mod Naming
+pub mod Ends
 pub mod Whole

@@ -33,18 +33,19 @@ pub fn links_at(stock: &Stock, at: usize) -> Links
 
 /// Whether the statement at i, which is neither `${` nor `$}`, is active at `at`.
 ///
-/// Cost: the blocks that opened between the two and are open at `at`.
+/// Cost: two look-ups.
 pub fn is_active_at(stock: &Stock, i: usize, at: usize) -> bool
     requires stored { AreStored stock.now }
     requires place { (1 ≤ i) × (i < at) × (at ≤ length (statements_of stock.now) + 1) }
     requires plain { IsPlain (slice_get (statements_of stock.now) (i - 1)) }
     ensures { result ≡ is_active (statements_of stock.now) i at }
 {
-    let mut block = links_at(stock, at).block;
-    while block as usize > i {
-        block = links_at(stock, block as usize).block;
+    let block = links_at(stock, i).block as usize;
+    if block == 0 {
+        return true;
     }
-    links_at(stock, i).block == block
+    let end = stock.ends[block - 1] as usize;
+    end == 0 || at <= end
 }
 
 /// The expression of the statement at `at`; nothing where it has none.

@@ -11,6 +11,7 @@ ghost use Rattle.frame.specs.Stored.EntryMeanings.{labels_in, names_in, statemen
 
 use crate::declare::{declare, links_after};
 use crate::draft::Draft;
+use crate::ends::{note_end, note_statement};
 use crate::enter::{enter, head};
 use crate::plain::{extend_plain, plain_numbers};
 use crate::shape::kind;
@@ -66,8 +67,10 @@ fn extend_drafted(
     draft.clear();
     enter(alloc, stock, draft, stmt, noted)?;
     note_replaced(&stock.symbols, kind, &draft.symbols, &mut stock.replaced)?;
+    note_statement(&mut stock.ends)?;
     stock.entries.push(head, &draft.parts())?;
     declare(&mut stock.symbols, kind, &draft.symbols, at);
+    note_end(&mut stock.ends, kind, stock.links.block, at as u32);
     stock.links = links;
     Ok(())
 }
@@ -130,12 +133,13 @@ pub fn add_legal(
     accepted
 }
 
-/// Takes back what was left behind the first names and replaced declarations.
+/// Takes back what was left behind the first names and replaced declarations, and behind the statements.
 fn roll_back(stock: &mut Stock, names: usize, replaced: usize)
     ensures names { stock.new.numbering ≡ take names stock.old.numbering }
     ensures symbols { stock.new.symbols.items ≡ take (length (names_in stock.new)) stock.old.symbols.items }
     ensures positions { stock.new.positions.items ≡ take (length (labels_in stock.new)) stock.old.positions.items }
     ensures replaced { stock.new.replaced.items ≡ take replaced stock.old.replaced.items }
+    ensures ends { stock.new.ends.items ≡ take (length stock.old.entries) stock.old.ends.items }
     ensures entries { stock.new.entries ≡ stock.old.entries }
     ensures links { stock.new.links ≡ stock.old.links }
 {
@@ -143,6 +147,7 @@ fn roll_back(stock: &mut Stock, names: usize, replaced: usize)
     stock.symbols.truncate(stock.numbering.symbol_count());
     stock.positions.truncate(stock.numbering.label_count());
     stock.replaced.truncate(replaced);
+    stock.ends.truncate(stock.entries.len());
 }
 
 /// Only the first `len` statements stay.
@@ -161,6 +166,7 @@ pub fn cut(stock: &mut Stock, len: usize)
         take_away(
             &mut stock.symbols,
             &mut stock.replaced,
+            &mut stock.ends,
             &mut stock.entries,
             len,
         );

@@ -65,6 +65,7 @@ impl Frames {
                 positions: Vec::new(alloc),
                 symbols: Vec::new(alloc),
                 replaced: Vec::new(alloc),
+                ends: Vec::new(alloc),
                 entries: Entries::new(alloc),
                 links: Links {
                     block: 0,
@@ -97,7 +98,7 @@ impl Frames {
     /// Adds a statement that is legal behind those that are here.
     ///
     /// Where a growth is refused, everything is as before. One step is counted, whatever is answered.
-    /// Cost: the statement's own size, and for each of its variables the open blocks behind its `$f`.
+    /// Cost: the statement's own size.
     pub fn keep(&mut self, stmt: &Stmt, steps: &mut Steps) -> Result<(), AllocError>
         requires { IsLegal self.old.statements stmt.now }
         ensures added { OnOk result (self.new.statements ≡ self.old.statements ++ bare stmt.now ∷ []) }

@@ -12,6 +12,7 @@ mod assertion;
 mod at_position;
 mod declare;
 mod draft;
+mod ends;
 mod enter;
 mod extend;
 mod frames;

@@ -59,8 +59,7 @@ impl<'a> Pairs<'a> {
 
     /// Whether x is a variable there.
     ///
-    /// Cost: one look-up, and the open blocks behind its last `$v`; where that one is not active there, also the symbols
-    /// of the active `$v`.
+    /// Cost: a few look-ups; where its last `$v` is not active there, also the symbols of the active `$v`.
     pub fn variable(&self, x: u32) -> bool
         requires { x < length self.now.names }
         ensures { result ≡ is_variable self.now.statements (name_at self.now.names x) }

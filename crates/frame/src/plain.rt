@@ -12,6 +12,7 @@ ghost use Rattle.entries.specs.Stored.Spans.{Extends};
 ghost use Rattle.frame.specs.Stored.EntryMeanings.{names_in, statements_of};
 
 use crate::declare::{declare, links_after};
+use crate::ends::{note_end, note_statement};
 use crate::enter::{enter_label, head};
 use crate::shape::kind;
 use crate::storage::Stock;
@@ -66,8 +67,10 @@ pub fn extend_plain(
     let head = head(stock, kind)?;
     enter_label(alloc, stock, stmt)?;
     note_replaced(&stock.symbols, kind, codes, &mut stock.replaced)?;
+    note_statement(&mut stock.ends)?;
     stock.entries.push_plain(head, codes)?;
     declare(&mut stock.symbols, kind, codes, at);
+    note_end(&mut stock.ends, kind, stock.links.block, at as u32);
     stock.links = links;
     Ok(())
 }

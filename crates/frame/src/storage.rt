@@ -12,7 +12,7 @@ pub struct Symbol {
 }
 
 /// The statements, their symbols and labels by number, the position of each label, the last declarations of each symbol,
-/// those that others replaced, and what is active at the end.
+/// those that others replaced, where blocks end, and what is active at the end.
 #[derive(Drop)]
 pub struct Stock {
     pub numbering: Numbering,
@@ -20,6 +20,8 @@ pub struct Stock {
     pub symbols: Vec<Symbol>,
     /// What each `$f`, and each symbol of each `$v`, replaced in `symbols`, in order.
     pub replaced: Vec<usize>,
+    /// Of each `${` the position of its `$}`, or 0 while its block is open; of another statement 0.
+    pub ends: Vec<u32>,
     pub entries: Entries,
     pub links: Links,
 }

@@ -6,7 +6,10 @@ ghost use Rattle.frame.specs.declared.storage.Symbol.{Symbol as Declared};
 ghost use Rattle.frame.specs.Stored.Counts.{AreNumbered, HasTwo, with_declared};
 ghost use Rattle.entries.specs.Stored.Spans.{Extends};
 ghost use Rattle.frame.specs.Stored.EntryMeanings.{ReadsAs, replaced_by, replaced_of, symbol_of};
+ghost use Rattle.frame.specs.Stored.Ends.{AreBlocks, TellEnds};
+ghost use Rattle.mm_read.specs.Statements.{Database};
 
+use crate::ends::note_end;
 use crate::storage::Symbol;
 use entries::{Entries, Kind};
 use std::alloc::AllocError;
@@ -49,10 +52,12 @@ fn note_variables(
     Ok(())
 }
 
-/// Takes the entries behind the first `len` away, the last one first, and their declarations with them.
+/// Takes the entries behind the first `len` away, the last one first, and with them their declarations and the ends of
+/// blocks that they are.
 pub fn take_away(
     symbols: &mut Vec<Symbol>,
     replaced: &mut Vec<usize>,
+    ends: &mut Vec<u32>,
     entries: &mut Entries,
     len: usize,
 )
@@ -60,15 +65,19 @@ pub fn take_away(
     requires numbered { (m : ℕ) × AreNumbered (length symbols.old.items) m entries.old }
     requires declared { ReadsAs symbols.old.items (symbol_of entries.old) }
     requires noted { replaced.old.items ≡ replaced_of entries.old }
+    requires blocks { (S : Database) × AreBlocks entries.old S × (length S ≡ length ends.old.items) }
     ensures entries { entries.new ≡ take len entries.old }
     ensures declared { ReadsAs symbols.new.items (symbol_of entries.new) }
     ensures noted { replaced.new.items ≡ replaced_of entries.new }
+    ensures ends { (S : Database) → AreBlocks entries.old S → TellEnds ends.old.items S → length S ≡ length ends.old.items → TellEnds ends.new.items (take len S) }
     ensures count { length symbols.new.items ≡ length symbols.old.items }
+    ensures count_ends { length ends.new.items ≡ length ends.old.items }
 {
     while entries.len() > len {
         let last = entries.len() - 1;
         let entry = entries.entry(last);
         take_back(symbols, replaced, entry.kind, entry.symbols);
+        note_end(ends, entry.kind, entry.links.block, 0);
         entries.truncate(last);
     }
 }

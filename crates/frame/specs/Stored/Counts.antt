@@ -90,6 +90,7 @@ pub record Grown (old new : Stock) : Type 0 where
   pub symbols : AreZeroBehind old.symbols.items new.symbols.items
   pub positions : Extends old.positions.items new.positions.items
   pub replaced : new.replaced ≡ old.replaced
+  pub ends : new.ends ≡ old.ends
   pub entries : new.entries ≡ old.entries
   pub links : new.links ≡ old.links
 
@@ -99,6 +100,7 @@ pub record IsBehind (old new : Stock) : Type 0 where
   pub symbols : AreZeroBehind old.symbols.items new.symbols.items
   pub positions : Extends old.positions.items new.positions.items
   pub replaced : Extends old.replaced.items new.replaced.items
+  pub ends : Extends old.ends.items new.ends.items
   pub entries : new.entries ≡ old.entries
   pub links : new.links ≡ old.links
 

@@ -17,6 +17,7 @@ use Rattle.frame.specs.Stored.EntryMeanings.{stmt_of, names_in, labels_in, state
 use Rattle.frame.specs.Stored.Counts.{IsLabelBelow, HasTwo, AreNumbered, KeepsCounts, kind_of}
 use Rattle.frame.specs.Stored.Naming.{with_statement, naming_of}
 use Rattle.frame.specs.Stored.AssertionParts.{IsKeptAs, has_parts}
+use Rattle.frame.specs.Stored.Ends.{AreEnds}
 
 -- the storage of a database
 pub record AreKept (names labels : List Name) (positions : List ℕ) (symbols : List Symbol) (replaced : List ℕ) (entries : List Entry) (links : Links) : Type 0 where
@@ -38,6 +39,7 @@ pub record AreKept (names labels : List Name) (positions : List ℕ) (symbols : 
 pub record AreStored (k : Stock) : Type 0 where
   pub kept : AreKept (names_in k) (labels_in k) k.positions.items k.symbols.items k.replaced.items k.entries k.links
   pub numbered : k.numbering ≡ naming_of (statements_of k)
+  pub ended : AreEnds k.ends.items (statements_of k)
 
 -- what is noted of the statement that comes next
 pub record IsHead (k : Stock) (s : Stmt) (h : Head) : Type 0 where

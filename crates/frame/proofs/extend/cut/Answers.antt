@@ -1,5 +1,10 @@
 use Rattle.std.proofs.Common.{◌≡◌, ◌∙◌, ap, sym, subst, arith, refl, length, take}
 use Rattle.std.proofs.Math.Seq.{take-length}
+use Rattle.std.specs.Prelude.{◌<◌}
+use Rattle.std.proofs.lemmas.List.{length-take-le}
+use Rattle.std.proofs.lemmas.Option.{slice_get_within}
+use Rattle.frame.specs.Stored.Ends.{AreEnds}
+use Rattle.frame.proofs.EndLemmas.{ends-front, stored-blocks}
 use Rattle.frame.specs.Stored.Counts.{AreNumbered}
 use Rattle.frame.specs.Stored.EntryMeanings.{names_in, labels_in, statements_of, ReadsAs, replaced_of, symbol_of}
 use Rattle.scope.specs.Kinds.{declared_symbols, declared_labels}
@@ -7,6 +12,9 @@ use Rattle.frame.specs.Stored.Naming.{naming_of}
 use Rattle.entries.specs.Entries.{seen}
 use Rattle.frame.proofs.CutStorage.{IsCut, kept-cut, cut-statements, names-front, front-naming, numbering-front}
 use Rattle.frame.proofs.extend.cut.Goals as goal
+
+pub take_away-requires-clause-blocks : goal.take_away-requires-clause-blocks
+take_away-requires-clause-blocks c = let k = c.args.stock.now in (statements_of k, stored-blocks k c.requires, sym c.requires.ended.count)
 
 pub take_away-requires-clause-numbered : goal.take_away-requires-clause-numbered
 take_away-requires-clause-numbered c =
@@ -41,11 +49,17 @@ returns-then-len c =
       noted = back.replaced ∙ (ap (λ m. take m left) all ∙ (take-length left ∙ (away.noted ∙ ap (λ v. replaced_of v) (sym back.entries))));
       links_back = refl;
     } in
+    let S = statements_of k in
+    let fewer-than : n < length S = let lt = slice_get_within k.entries n e c.entry-first.ensures.1 in let m = (stored-blocks k c.requires).count in omega (arith, lt, m) in
+    let long : length c.take_away.new.entries ≡ n = ap length away.entries ∙ length-take-le n k.entries (let m = (stored-blocks k c.requires).count in omega (arith, fewer-than, m)) in
+    let ends : new.ends.items ≡ take n c.take_away.new.ends.items = back.ends ∙ ap (λ m. take m c.take_away.new.ends.items) long in
     let statements = cut-statements (names_in k) (labels_in k) k.positions.items k.symbols.items k.replaced.items k.entries k.links (names_in new) (labels_in new) new.positions.items between new.symbols.items new.replaced.items new.entries e.links n e c.requires.kept cut in
     record {
       stored = record {
         kept = kept-cut (names_in k) (labels_in k) k.positions.items k.symbols.items k.replaced.items k.entries k.links (names_in new) (labels_in new) new.positions.items between new.symbols.items new.replaced.items new.entries e.links n e c.requires.kept cut;
         numbered = numbering ∙ ap naming_of (sym statements);
+        ended = subst (AreEnds new.ends.items) (sym statements) (subst (λ r. AreEnds r (take n S)) (sym ends)
+            (ends-front c.take_away.new.ends.items S n (omega (arith, fewer-than)) (away.count_ends ∙ c.requires.ended.count) (away.ends S (stored-blocks k c.requires) c.requires.ended.tell (sym c.requires.ended.count))));
       };
       statements = statements;
       names = names-front (names_in k) (labels_in k) k.positions.items k.symbols.items k.replaced.items k.entries k.links (names_in new) (labels_in new) new.positions.items between new.symbols.items new.replaced.items new.entries e.links n e c.requires.kept cut;

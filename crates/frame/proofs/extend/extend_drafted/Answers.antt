@@ -6,6 +6,7 @@ use Rattle.frame.specs.Below.{AreBelow}
 use Rattle.frame.specs.Stored.Drafts.{made}
 use Rattle.frame.specs.Stored.EntryMeanings.{names_in, labels_in, statements_of}
 use Rattle.frame.specs.Stored.Counts.{kind_of, HasTwo}
+use Rattle.frame.proofs.EndLemmas.{block-within, ends-next}
 use Rattle.frame.proofs.ExtendLemmas.{is-pushed, numbered-pushed}
 use Rattle.frame.proofs.StoredLemmas.{kept-pushed, pushed-statements}
 use Rattle.frame.proofs.StoredTaken.{legal-bare}
@@ -70,6 +71,8 @@ returns-clause-stored c =
       kept = kept-pushed (names_in k) (labels_in k) k.positions.items k.symbols.items k.replaced.items k.entries k.links (names_in new) (labels_in new) new.positions.items new.symbols.items
           c.declare.new.symbols.items c.note_replaced.new.replaced.items c.push.new.self c.links_after-links.result s e c.requires.stored.kept pushed;
       numbered = numbered-pushed k new s e _ c.requires.stored (entered.entered h head) statements;
+      ended = ends-next k s _ c.kind-kind.result new.links.block (c.len-at.result + 1) c.note_statement.new.ends.items c.note_end.new.ends.items c.requires.stored is_kind (ap (λ l. l.block) entered.grown.links)
+          (omega (arith, c.len-at.ensures.len)) (c.in_ok-note_statement.ensures.added ∙ ap (λ v. v.items ++ 0 ∷ []) entered.grown.ends) c.note_end.ensures statements;
     }
 
 pub returns-clause-added : goal.returns-clause-added
@@ -90,3 +93,10 @@ returns-clause-added c =
     c.in_ok-note_replaced.ensures.noted c.declare.ensures.each c.declare.ensures.count added (c.links_after-links.ensures s (sym is_kind)) in
     pushed-statements (names_in k) (labels_in k) k.positions.items k.symbols.items k.replaced.items k.entries k.links (names_in new) (labels_in new) new.positions.items new.symbols.items
     c.declare.new.symbols.items c.note_replaced.new.replaced.items c.push.new.self c.links_after-links.result s e c.requires.stored.kept pushed
+
+pub note_end-requires : goal.note_end-requires
+note_end-requires c =
+    let k = c.args.stock.now in
+    let g = c.in_ok-enter.ensures.grown in
+    block-within k c.enter.new.stock.links.block c.note_statement.new.ends.items c.requires.stored (ap (λ l. l.block) g.links)
+    (c.in_ok-note_statement.ensures.added ∙ ap (λ v. v.items ++ 0 ∷ []) g.ends)

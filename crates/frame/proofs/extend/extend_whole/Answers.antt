@@ -16,6 +16,7 @@ returns-then-is_err-clause-stored c =
       symbols_cut = cut.symbols;
       positions_cut = cut.positions;
       replaced_cut = cut.replaced ∙ ap (λ n. take n mid.replaced.items) (omega (arith, c.len-replaced.ensures, old.replaced.ok.0));
+      ends_cut = cut.ends;
       entries_cut = cut.entries;
       links_cut = cut.links;
     })

@@ -1,9 +1,12 @@
-use Rattle.std.proofs.Common.{◌≡◌, ◌+◌, ◌-◌, ◌∙◌, ap, sym, subst, arith, length, length-append, take}
+use Rattle.std.proofs.Common.{◌≡◌, ◌+◌, ◌-◌, ◌∙◌, ap, sym, subst, arith, refl, append-nil, length, length-append, take}
+use Rattle.std.proofs.lemmas.List.{take_all}
 use Rattle.std.specs.Prelude.{[], ◌∷◌, Some}
 use Rattle.frame.specs.Below.{AreBelow}
 use Rattle.entries.specs.Entries.{seen}
 use Rattle.entries.specs.Stored.Spans.{Extends}
 use Rattle.frame.specs.Stored.EntryMeanings.{ReadsAs, replaced_of, symbol_of}
+use Rattle.frame.specs.Stored.Ends.{TellEnds}
+use Rattle.frame.proofs.EndLemmas.{block-fits, ends-taken, length-with}
 use Rattle.frame.proofs.DeclareLemmas.{symbol_of-push}
 use Rattle.frame.proofs.StoredOneMore.{numbered-at}
 use Rattle.frame.proofs.StoredReading.{two-of}
@@ -55,5 +58,43 @@ loop-entries-preserved c =
           (c.take_back.ensures.symbols (replaced_of front) (symbol_of front) (1 + length front) behind
           (λ k lt. i.declared k lt ∙ ap Some (ap (λ es. symbol_of es k) is ∙ symbol_of-push front e k)));
       noted = c.take_back.ensures.replaced (replaced_of front) (symbol_of front) behind ∙ ap replaced_of (sym cut);
+      ended = λ S blocks told size.
+          let here = front-step c.args.entries.now all front e i.front is in
+          subst (λ es. TellEnds c.note_end.new.ends.items (take (length es) S)) (sym cut)
+          (ends-taken c.args.entries.now front all S e c.loop-entries.ends.items c.note_end.new.ends.items blocks is here.1 (size ∙ sym i.ends_count) (i.ended S blocks told size) c.note_end.ensures);
+      ends_count = ap length c.note_end.ensures ∙ (length-with e.kind e.links.block 0 c.loop-entries.ends.items ∙ i.ends_count);
       count = c.take_back.ensures.count ∙ i.count;
+    }
+
+pub note_end-requires : goal.note_end-requires
+note_end-requires c =
+    let i = c.loop-entries.invariant in
+    let all = c.loop-entries.entries in
+    let front = take (c.len-last.result - 1) all in
+    let e = seen c.entry-entry.result c.entry-entry.ensures.0 in
+    let is = last-of all (c.len-last.result - 1) e (omega (arith, c.len-last.ensures.len, c.loop-entries-test.true, c.len.ensures.len)) c.entry-entry.ensures.1 in
+    let here = front-step c.args.entries.now all front e i.front is in
+    block-fits c.args.entries.now c.requires.blocks.0 (length front) (length c.loop-entries.ends.items) e c.requires.blocks.1 here.1 (c.requires.blocks.2 ∙ sym i.ends_count)
+
+pub returns-clause-ends : goal.returns-clause-ends
+returns-clause-ends c = λ S blocks told size.
+    let n : length c.loop-entries.entries ≡ c.args.len = let w = c.loop-entries.invariant.enough in omega (arith, w, c.len.ensures.len) in
+    subst (λ m. TellEnds c.loop-entries.ends.items (take m S)) n (c.loop-entries.invariant.ended S blocks told size)
+
+pub returns-clause-count_ends : goal.returns-clause-count_ends
+returns-clause-count_ends c = c.loop-entries.invariant.ends_count
+
+pub loop-entries-init : goal.loop-entries-init
+loop-entries-init c =
+    let es = c.args.entries.now in
+    record {
+      front = ([], sym (append-nil es));
+      enough = c.requires.within;
+      declared = c.requires.declared;
+      noted = c.requires.noted;
+      ended = λ S blocks told size.
+          let n = blocks.count in
+          subst (TellEnds c.args.ends.now.items) (sym (take_all (length es) S (omega (arith, n)))) told;
+      ends_count = refl;
+      count = refl;
     }

@@ -1,4 +1,6 @@
-use Rattle.std.proofs.Common.{◌≡◌, ◌≤◌, length}
+use Rattle.std.proofs.Common.{◌≡◌, ◌≤◌, length, take}
+use Rattle.mm_read.specs.Statements.{Database}
+use Rattle.frame.specs.Stored.Ends.{AreBlocks, TellEnds}
 use Rattle.entries.specs.Stored.Spans.{Extends}
 use Rattle.frame.specs.Stored.EntryMeanings.{ReadsAs, replaced_of, symbol_of}
 use Rattle.frame.proofs.undo.take_away.Given as goal
@@ -9,6 +11,8 @@ invariant-loop-entries l = record {
   enough : l.len ≤ length l.entries;
   declared : ReadsAs l.symbols.items (symbol_of l.entries);
   noted : l.replaced.items ≡ replaced_of l.entries;
+  ended : (S : Database) → AreBlocks l.fn.entries S → TellEnds l.fn.ends.items S → length S ≡ length l.fn.ends.items → TellEnds l.ends.items (take (length l.entries) S);
+  ends_count : length l.ends.items ≡ length l.fn.ends.items;
   count : length l.symbols.items ≡ length l.fn.symbols.items;
 }
 
