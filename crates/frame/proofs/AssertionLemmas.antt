@@ -17,7 +17,7 @@ use Rattle.entries.specs.declared.kind.Kind.TheVariants.{Open, Close, Const, Var
 use Rattle.entries.specs.Entries.{Entry, Assertion}
 use Rattle.entries.proofs.StatementRecordLemmas.{get-more}
 use Rattle.frame.specs.Stored.EntryMeanings.{stmt_by, stmt_of}
-use Rattle.frame.specs.Stored.Hypotheses.{AreHypotheses, AreParts, is_hypothesis_entry, with_floats, collected}
+use Rattle.frame.specs.Stored.Hypotheses.{AreHypotheses, AreParts, is_hypothesis_entry, AreFloats, AreCollected}
 use Rattle.frame.specs.Stored.AssertionParts.{IsKeptAs, kept_with, is_float_in, floats_in, variable_at, option_variable, option_asked, symbols_at, option_symbols, groups_by}
 
 pub get-entry : (names labels : List Name) (es : List Entry) (i : ℕ) (s : Stmt) → slice_get (map (stmt_of names labels) es) i ≡ Some s → (e : Entry) × (slice_get es i ≡ Some e) × (stmt_of names labels e ≡ s)
@@ -196,16 +196,16 @@ kept-moved names labels es fs i s d same k =
     subst (λ x. IsKeptAs x S s d) (sym up) (subst (λ T. IsKeptAs (few ++ drop i fs) T s d) (sym is) (kept-more names labels few (drop i fs) s d low))
 
 -- what was made of the symbols of s is what s is kept as
-pub parts-kept : (es : List Entry) (S : Database) (s : Stmt) (codes : List ℕ) (d : Assertion) → collected es S codes ≡ hypotheses S s → with_floats es S codes [] ≡ floats_in S (expr_of s)
+pub parts-kept : (es : List Entry) (S : Database) (s : Stmt) (codes : List ℕ) (d : Assertion) → ((list : List ℕ) → AreCollected es S codes list → list ≡ hypotheses S s) → ((list : List ℕ) → AreFloats es S codes list → list ≡ floats_in S (expr_of s))
     → (is_essential s ≡ true → d.whole ≡ false) → AreParts es S codes d → IsKeptAs es S s d
 parts-kept es S s codes d all own partial p = record {
-  hypotheses_kept = p.hypotheses_found ∙ by d.whole;
+  hypotheses_kept = by d.whole refl;
   asked_kept = p.described.asked_made;
   heads_kept = p.described.heads_made;
   groups_kept = p.groups_made;
   own_kept = partial;
 }
   where
-    by : (b : Bool) → cond b (collected es S codes) (with_floats es S codes []) ≡ kept_with b S s
-    by true = all
-    by false = own
+    by : (b : Bool) → d.whole ≡ b → d.hypotheses ≡ kept_with b S s
+    by true w = all d.hypotheses (p.whole_found w)
+    by false w = own d.hypotheses (p.own_found w)

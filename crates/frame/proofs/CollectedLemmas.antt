@@ -13,18 +13,17 @@ use Rattle.names.specs.Codes.{name_at, decode, AreDistinct}
 use Rattle.frame.specs.FrameOf.{is_used, is_mandatory, is_hypothesis, hypotheses}
 use Rattle.frame.specs.Below.{AreBelow}
 use Rattle.entries.specs.Entries.{Entry}
-use Rattle.frame.specs.Links.{actives}
 use Rattle.frame.specs.Stored.EntryMeanings.{stmt_of, floats, last_from, last_where}
 use Rattle.frame.specs.Stored.Counts.{AreNumbered, HasTwo}
-use Rattle.frame.specs.Stored.Hypotheses.{with_floats, collected, kept_at, option_kept}
+use Rattle.frame.specs.Stored.Hypotheses.{In, IsFloatOf, SomeFloat, IsGiven, AreFloats, AreCollected, kept_at, option_kept}
 use Rattle.frame.specs.Stored.AssertionParts.{is_float_in, floats_in}
 use Rattle.frame.proofs.LegalLabels.{AllKept}
 use Rattle.frame.proofs.ActiveBehind.{Stands, active-stands, stands-active, open_both}
 use Rattle.frame.proofs.TypedVariables.{float-kinds, is_ess, typed-before}
 use Rattle.frame.proofs.VariablePlaceLemmas.{active-rest}
 use Rattle.frame.proofs.FoundByNumber.{map-back, map-at, numbered-at}
-use Rattle.frame.proofs.AscendingLists.{In, same-lists}
-use Rattle.frame.proofs.ActivePositions.{LastAt, NoneOf, last-is, IsFloatOf, SomeFloat, floats-in, in-floats, ascends-floats, SomeEssential, essentials-in, in-essentials, ascends-essentials, IsActiveAt, active-members, members-active, ascends-active}
+use Rattle.frame.proofs.AscendingLists.{same-lists}
+use Rattle.frame.proofs.ActivePositions.{LastAt, NoneOf, last-is, IsActiveAt, active-members, members-active, ascends-active}
 use Rattle.frame.proofs.NamedCodes.{coded, has-code, code-low, floats-is, is-floats}
 use Rattle.frame.proofs.ActiveFloats.{length-cut, rest-active, one-float, hyp-kind, ess-hyp, float-in-kind, float-of-kind, stays-behind, one-place}
 use Rattle.frame.proofs.LegalBehind.{before-at, stands-at}
@@ -108,26 +107,20 @@ module _ (es : List Entry) (names labels : List Name) (m : ℕ) (S : Database)
   -- ---- the `$f` of the symbols of an expression
 
   module _ (codes : List ℕ) (low : AreBelow (length names) codes) where
-    found-float : (p : ℕ) → In p (with_floats es S codes []) → In p (floats_in S (decode names codes))
-    found-float p i = by (floats-in es S p codes [] i)
-      where
-        by : In p [] ⊎ SomeFloat es S codes p → In p (floats_in S (decode names codes))
-        by (inl j) = absurd j
-        by (inr f) = float-member (is_float_in (decode names codes)) f.code p f.float (λ l k v. has-code names codes f.code f.among)
+    pub found-float : (p : ℕ) → SomeFloat es S codes p → In p (floats_in S (decode names codes))
+    found-float p f = float-member (is_float_in (decode names codes)) f.code p f.float (λ l k v. has-code names codes f.code f.among)
 
-    float-found : (p : ℕ) → In p (floats_in S (decode names codes)) → In p (with_floats es S codes [])
+    pub float-found : (p : ℕ) → In p (floats_in S (decode names codes)) → SomeFloat es S codes p
     float-found p i =
         let h = active-members S (is_float_in (decode names codes)) p [] S 1 refl refl i in
         let f = float-in-kind (decode names codes) h.stmt h.passes in
         let c = coded names codes f.2 f.4 in
-        in-floats es S p codes []
-        (inr (record { code = c.code; among = c.among; float = last_float p c.code h.front h.rest f.0 f.1 f.2 (h.whole ∙ ap (λ t. h.front ++ t ∷ h.rest) f.3) h.at h.stays (code-low (length names) c.code codes low c.among) c.name }))
+        record { code = c.code; among = c.among; float = last_float p c.code h.front h.rest f.0 f.1 f.2 (h.whole ∙ ap (λ t. h.front ++ t ∷ h.rest) f.3) h.at h.stays (code-low (length names) c.code codes low c.among) c.name }
 
-    pub found-floats : with_floats es S codes [] ≡ floats_in S (decode names codes)
-    found-floats =
-        same-lists (with_floats es S codes []) (floats_in S (decode names codes))
-        (ascends-floats es S codes [] tt) (ascends-active (is_float_in (decode names codes)) 1 S).1
-        found-float float-found
+    pub found-floats : (list : List ℕ) → AreFloats es S codes list → list ≡ floats_in S (decode names codes)
+    found-floats list l =
+        same-lists list (floats_in S (decode names codes)) l.ascends (ascends-active (is_float_in (decode names codes)) 1 S).1
+        (λ p i. found-float p (l.only p i)) (λ p i. l.all p (float-found p i))
 
   -- ---- the mandatory hypotheses
 
@@ -166,27 +159,15 @@ module _ (es : List Entry) (names labels : List Name) (m : ℕ) (S : Database)
         members (is_hypothesis S s) p g.front (stmt.Float f.0 f.1 f.2) behind cut g.at stays (ap (λ b. b && is_used S s f.2) var ∙ used-ess r h f.2 f.4)
 
     -- what is collected is a hypothesis
-    collected-hyp : (p : ℕ) → In p (collected es S codes) → In p (hypotheses S s)
-    collected-hyp p i = by (essentials-in es p (actives is_essential S) (with_floats es S codes []) i)
+    collected-hyp : (p : ℕ) → SomeFloat es S codes p ⊎ IsGiven es S p → In p (hypotheses S s)
+    collected-hyp p (inl f) =
+        float-member (is_hypothesis S s) f.code p f.float
+        (λ l k v. ap (λ b. b && is_used S s (name_at names f.code)) v ∙ used-own (name_at names f.code) (ap (has_name (name_at names f.code)) (sym same) ∙ has-code names codes f.code f.among))
+    collected-hyp p (inr e) = way (active-members S is_essential e.essential [] S 1 refl refl e.among) e.way
       where
-        own : In p [] ⊎ SomeFloat es S codes p → In p (hypotheses S s)
-        own (inl j) = absurd j
-        own (inr f) =
-            float-member (is_hypothesis S s) f.code p f.float
-            (λ l k v. ap (λ b. b && is_used S s (name_at names f.code)) v ∙ used-own (name_at names f.code) (ap (has_name (name_at names f.code)) (sym same) ∙ has-code names codes f.code f.among))
-
-        ess : SomeEssential es (map (λ q. q.0) (actives is_essential S)) p → In p (hypotheses S s)
-        ess e =
-            let h = active-members S is_essential e.essential [] S 1 refl refl e.among in
-            way h e.way
-          where
-            way : IsActiveAt S is_essential e.essential → (p ≡ e.essential) ⊎ In p (kept_at es e.essential) → In p (hypotheses S s)
-            way h (inl k) = members (is_hypothesis S s) p h.front h.stmt h.rest h.whole (k ∙ h.at) h.stays (ess-hyp S s h.stmt h.passes)
-            way h (inr f) = kept-hyp e.essential p h f
-
-        by : In p (with_floats es S codes []) ⊎ SomeEssential es (map (λ q. q.0) (actives is_essential S)) p → In p (hypotheses S s)
-        by (inl j) = own (floats-in es S p codes [] j)
-        by (inr e) = ess e
+        way : IsActiveAt S is_essential e.essential → (p ≡ e.essential) ⊎ In p (kept_at es e.essential) → In p (hypotheses S s)
+        way h (inl k) = members (is_hypothesis S s) p h.front h.stmt h.rest h.whole (k ∙ h.at) h.stays (ess-hyp S s h.stmt h.passes)
+        way h (inr f) = kept-hyp e.essential p h f
 
     -- the `$f` of a variable of an active `$e` was kept with it
     float-kept : (r p : ℕ) (h : IsActiveAt S is_essential r) (A B : Database) (u l x : Name) → S ≡ A ++ stmt.Float u l x ∷ B → p ≡ suc (length A) → stays_open 0 B ≡ true
@@ -207,50 +188,42 @@ module _ (es : List Entry) (names labels : List Name) (m : ℕ) (S : Database)
         subst (In p) (sym (ess-kept r h)) (subst (λ D. In p (floats_in D (expr_of h.stmt))) (sym there) i)
 
     -- a hypothesis is collected
-    hyp-collected : (p : ℕ) → In p (hypotheses S s) → In p (collected es S codes)
+    hyp-collected : (p : ℕ) → In p (hypotheses S s) → SomeFloat es S codes p ⊎ IsGiven es S p
     hyp-collected p i = by h (hyp-kind S s h.stmt h.passes)
       where
         h : IsActiveAt S (is_hypothesis S s) p
         h = active-members S (is_hypothesis S s) p [] S 1 refl refl i
 
-        through : SomeEssential es (map (λ q. q.0) (actives is_essential S)) p → In p (collected es S codes)
-        through e = in-essentials es p (actives is_essential S) (with_floats es S codes []) (inr e)
-
-        direct : SomeFloat es S codes p → In p (collected es S codes)
-        direct f = in-essentials es p (actives is_essential S) (with_floats es S codes []) (inl (in-floats es S p codes [] (inr f)))
-
-        by : IsActiveAt S (is_hypothesis S s) p → (is_essential h.stmt ≡ true) ⊎ ((u : Name) × (l : Name) × (x : Name) × (h.stmt ≡ stmt.Float u l x) × (is_mandatory S s x ≡ true)) → In p (collected es S codes)
-        by k (inl e) = through (record { essential = p; among = members is_essential p h.front h.stmt h.rest h.whole h.at h.stays e; way = inl refl })
+        by : IsActiveAt S (is_hypothesis S s) p → (is_essential h.stmt ≡ true) ⊎ ((u : Name) × (l : Name) × (x : Name) × (h.stmt ≡ stmt.Float u l x) × (is_mandatory S s x ≡ true)) → SomeFloat es S codes p ⊎ IsGiven es S p
+        by k (inl e) = inr (record { essential = p; among = members is_essential p h.front h.stmt h.rest h.whole h.at h.stays e; way = inl refl })
         by k (inr f) = let m = and_parts (is_variable S f.2) (is_used S s f.2) f.4 in used m.0 (has_name f.2 (expr_of s)) refl m.1
           where
             cut : S ≡ h.front ++ stmt.Float f.0 f.1 f.2 ∷ h.rest
             cut = h.whole ∙ ap (λ t. h.front ++ t ∷ h.rest) f.3
 
-            own : has_name f.2 (expr_of s) ≡ true → In p (collected es S codes)
+            own : has_name f.2 (expr_of s) ≡ true → SomeFloat es S codes p ⊎ IsGiven es S p
             own e =
                 let c = coded names codes f.2 (ap (has_name f.2) same ∙ e) in
-                direct (record { code = c.code; among = c.among; float = last_float p c.code h.front h.rest f.0 f.1 f.2 cut h.at h.stays (code-low (length names) c.code codes low c.among) c.name })
+                inl (record { code = c.code; among = c.among; float = last_float p c.code h.front h.rest f.0 f.1 f.2 cut h.at h.stays (code-low (length names) c.code codes low c.among) c.name })
 
-            ess : is_variable S f.2 ≡ true → list_any (λ q. is_essential q.1 && has_name f.2 (expr_of q.1)) (active S) ≡ true → In p (collected es S codes)
+            ess : is_variable S f.2 ≡ true → list_any (λ q. is_essential q.1 && has_name f.2 (expr_of q.1)) (active S) ≡ true → SomeFloat es S codes p ⊎ IsGiven es S p
             ess var e = found (active-stands (λ t. is_essential t && has_name f.2 (expr_of t)) 1 S e)
               where
-                found : Stands S (λ t. is_essential t && has_name f.2 (expr_of t)) → In p (collected es S codes)
+                found : Stands S (λ t. is_essential t && has_name f.2 (expr_of t)) → SomeFloat es S codes p ⊎ IsGiven es S p
                 found r =
                     let two = and_parts (is_essential r.stmt) (has_name f.2 (expr_of r.stmt)) r.passes in
                     let a : IsActiveAt S is_essential (suc (length r.front)) = record { front = r.front; stmt = r.stmt; rest = r.rest; whole = r.whole; at = refl; stays = r.stays; passes = two.0 } in
-                    through (record {
+                    inr (record {
                       essential = suc (length r.front);
                       among = members is_essential (suc (length r.front)) r.front r.stmt r.rest r.whole refl r.stays two.0;
                       way = inr (float-kept (suc (length r.front)) p a h.front h.rest f.0 f.1 f.2 cut h.at h.stays two.1 var);
                     })
 
-            used : is_variable S f.2 ≡ true → (b : Bool) → has_name f.2 (expr_of s) ≡ b → (b || list_any (λ q. is_essential q.1 && has_name f.2 (expr_of q.1)) (active S)) ≡ true → In p (collected es S codes)
+            used : is_variable S f.2 ≡ true → (b : Bool) → has_name f.2 (expr_of s) ≡ b → (b || list_any (λ q. is_essential q.1 && has_name f.2 (expr_of q.1)) (active S)) ≡ true → SomeFloat es S codes p ⊎ IsGiven es S p
             used var true e k' = own e
             used var false e k' = ess var k'
 
-    pub collected-hypotheses : collected es S codes ≡ hypotheses S s
-    collected-hypotheses =
-        same-lists (collected es S codes) (hypotheses S s)
-        (ascends-essentials es (actives is_essential S) (with_floats es S codes []) (ascends-floats es S codes [] tt))
-        (ascends-active (is_hypothesis S s) 1 S).1
-        collected-hyp hyp-collected
+    pub collected-hypotheses : (list : List ℕ) → AreCollected es S codes list → list ≡ hypotheses S s
+    collected-hypotheses list l =
+        same-lists list (hypotheses S s) l.ascends (ascends-active (is_hypothesis S s) 1 S).1
+        (λ p i. collected-hyp p (l.only p i)) (λ p i. l.all p (hyp-collected p i))

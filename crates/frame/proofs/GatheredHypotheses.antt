@@ -1,11 +1,11 @@
 -- The mandatory hypotheses of an assertion that keeps its own `$f` alone: with those of the `$e` that are active there.
-use Rattle.std.specs.Prelude.{◌≡◌, ℕ, zero, suc, ◌+◌, ◌-◌, Bool, true, false, cond, List, [], ◌∷◌, ◌++◌, length, map, filter, take, drop, slice_get, Option, Some, None, IfSome, refl}
-use Rattle.std.proofs.Common.{sym, ◌∙◌, ap, subst, arith, take-take}
+use Rattle.std.specs.Prelude.{◌≡◌, ℕ, zero, suc, ◌-◌, ◌⊎◌, true, false, List, [], ◌∷◌, ◌++◌, length, map, take, drop, slice_get, Option, Some, None, IfSome, refl}
+use Rattle.std.proofs.Common.{sym, ◌∙◌, ap, subst, arith, inl, inr, ⊎_elim, take-take}
 use Rattle.std.proofs.lemmas.List.{take-map, take-append-drop}
 use Rattle.mm_lex.specs.Alphabet.{Name}
 use Rattle.mm_read.specs.declared.stmt.Stmt.{Stmt}
-use Rattle.mm_read.specs.Statements.{Expr, Database}
-use Rattle.scope.specs.Active.{active, expr_of, is_assertion, is_essential}
+use Rattle.mm_read.specs.Statements.{Database}
+use Rattle.scope.specs.Active.{expr_of, is_assertion, is_essential}
 use Rattle.names.specs.Codes.{decode, AreDistinct}
 use Rattle.frame.specs.FrameOf.{hypotheses}
 use Rattle.frame.specs.Below.{AreBelow}
@@ -15,19 +15,20 @@ use Rattle.frame.specs.declared.storage.Stock.{Stock}
 use Rattle.entries.specs.Entries.{Entry, Assertion}
 use Rattle.frame.specs.Stored.EntryMeanings.{names_in, labels_in, stmt_of, statements_of}
 use Rattle.frame.specs.Stored.Whole.{AreStored}
-use Rattle.frame.specs.Stored.Hypotheses.{AreHypotheses, IsSpread, Ascends, inserted, option_kept, kept_at, with_all, with_essentials, with_floats}
-use Rattle.frame.specs.Stored.AssertionParts.{kept_with, variable_at, symbols_at, groups_by, floats_in, is_float_in}
+use Rattle.frame.specs.Stored.Hypotheses.{In, AreHypotheses, IsSpread, SomeFloat, IsGiven, AreWith, option_kept, kept_at}
+use Rattle.frame.specs.Stored.AssertionParts.{kept_with, variable_at, symbols_at, groups_by, floats_in}
 use Rattle.frame.specs.Stored.Counts.{AreNumbered}
 use Rattle.frame.proofs.DeclaredSymbolLemmas.{stored-distinct}
 use Rattle.frame.proofs.LegalLabels.{AllKept}
-use Rattle.frame.proofs.AssertionLemmas.{AllAre, active-are, get-entry, hypotheses-are}
+use Rattle.frame.proofs.AssertionLemmas.{get-entry, hypotheses-are}
 use Rattle.frame.proofs.EnterLemmas.{essentials-kept, not-essential}
 use Rattle.frame.proofs.CitedLemmas.{IsThere, there-expr, there-lists}
 use Rattle.entries.proofs.BufferPlaceLemmas.{take-get}
 use Rattle.entries.proofs.StatementRecordLemmas.{get-more}
 use Rattle.frame.proofs.FoundByNumber.{kept-front}
-use Rattle.frame.proofs.CollectedLemmas.{found-floats, collected-hypotheses}
-use Rattle.frame.proofs.ActivePositions.{ascends-active}
+use Rattle.frame.proofs.CollectedLemmas.{found-float, float-found, collected-hypotheses}
+use Rattle.frame.proofs.ActivePositions.{active-members}
+use Rattle.frame.proofs.LegalBehind.{stands-at}
 
 pub some-map : {A : Type 0} (o : Option A) (P Q : A → Type 0) → ((x : A) → P x → Q x) → IfSome o P → IfSome o Q
 some-map (Some x) P Q f p = f x p
@@ -39,42 +40,36 @@ numbered-front n m zero (e ∷ es) h = tt
 numbered-front n m (suc i) [] h = tt
 numbered-front n m (suc i) (e ∷ es) h = (h.0, h.1, numbered-front n m i es h.2, h.3)
 
--- what is kept with active `$e` stays, whatever is put behind
-essentials-same : (names labels : List Name) (es more : List Entry) (list : List ℕ)
-    → with_essentials es (actives is_essential (map (stmt_of names labels) es)) list ≡ with_essentials (es ++ more) (actives is_essential (map (stmt_of names labels) es)) list
-essentials-same names labels es more list = all (active S) (active-are Stands 1 S (λ k t g. let e = get-entry names labels es k t g in (e.0, ap (slice_get es) (back k) ∙ e.1)))
+-- what is kept with an active `$e` stays, whatever is put behind
+kept-same : (names labels : List Name) (es more : List Entry) (r : ℕ) → In r (map (λ q. q.0) (actives is_essential (map (stmt_of names labels) es))) → kept_at (es ++ more) r ≡ kept_at es r
+kept-same names labels es more r i =
+    let S = map (stmt_of names labels) es in
+    let h = active-members S is_essential r [] S 1 refl refl i in
+    let back : r - 1 ≡ length h.front = let at = h.at in omega (arith, at) in
+    let e = get-entry names labels es (length h.front) h.stmt (ap (λ w. slice_get w (length h.front)) h.whole ∙ stands-at h.front h.stmt h.rest) in
+    let there = ap (slice_get es) back ∙ e.1 in
+    ap option_kept (get-more es more (r - 1) e.0 there ∙ sym there)
+
+given-more : (names labels : List Name) (es more : List Entry) (p : ℕ) → IsGiven es (map (stmt_of names labels) es) p → IsGiven (es ++ more) (map (stmt_of names labels) es) p
+given-more names labels es more p g = record { essential = g.essential; among = g.among; way = by g.way }
   where
-    S : Database
-    S = map (stmt_of names labels) es
+    by : (p ≡ g.essential) ⊎ In p (kept_at es g.essential) → (p ≡ g.essential) ⊎ In p (kept_at (es ++ more) g.essential)
+    by (inl e) = inl e
+    by (inr i) = inr (subst (In p) (sym (kept-same names labels es more g.essential g.among)) i)
 
-    Stands : ℕ → Stmt → Type 0
-    Stands p t = (e : Entry) × (slice_get es (p - 1) ≡ Some e)
-
-    back : (k : ℕ) → 1 + k - 1 ≡ k
-    back k = omega arith
-
-    all : (ps : List (ℕ × Stmt)) → AllAre (λ p t. (e : Entry) × (slice_get es (p - 1) ≡ Some e)) ps
-        → with_essentials es (filter (λ p. is_essential p.1) ps) list ≡ with_essentials (es ++ more) (filter (λ p. is_essential p.1) ps) list
-    all [] g = refl
-    all (p ∷ ps) g = step (is_essential p.1) (all ps g.1)
-      where
-        step : (b : Bool) → with_essentials es (filter (λ q. is_essential q.1) ps) list ≡ with_essentials (es ++ more) (filter (λ q. is_essential q.1) ps) list
-            → with_essentials es (cond b (p ∷ filter (λ q. is_essential q.1) ps) (filter (λ q. is_essential q.1) ps)) list
-            ≡ with_essentials (es ++ more) (cond b (p ∷ filter (λ q. is_essential q.1) ps) (filter (λ q. is_essential q.1) ps)) list
-        step true r =
-            ap (λ o. with_all (option_kept o) (inserted p.0 (with_essentials es (filter (λ q. is_essential q.1) ps) list))) (g.0.1 ∙ sym (get-more es more (p.0 - 1) g.0.0 g.0.1))
-            ∙ ap (λ w. with_all (kept_at (es ++ more) p.0) (inserted p.0 w)) r
-        step false r = r
-
-pub ascends-floats_in : (S : Database) (e : Expr) → Ascends (floats_in S e)
-ascends-floats_in S e = (ascends-active (is_float_in e) 1 S).1
+given-less : (names labels : List Name) (es more : List Entry) (p : ℕ) → IsGiven (es ++ more) (map (stmt_of names labels) es) p → IsGiven es (map (stmt_of names labels) es) p
+given-less names labels es more p g = record { essential = g.essential; among = g.among; way = by g.way }
+  where
+    by : (p ≡ g.essential) ⊎ In p (kept_at (es ++ more) g.essential) → (p ≡ g.essential) ⊎ In p (kept_at es g.essential)
+    by (inl e) = inl e
+    by (inr i) = inr (subst (In p) (kept-same names labels es more g.essential g.among) i)
 
 -- its own `$f` with the active `$e` and what is kept with these
 pub gathered-hypotheses : (es : List Entry) (names labels : List Name) (m i : ℕ) (s : Stmt) (codes : List ℕ) → AreDistinct names → AreNumbered (length names) m es → AllKept (map (stmt_of names labels) es)
     → AreBelow (length names) codes → decode names codes ≡ expr_of s
     → ((k : ℕ) (x : Entry) → slice_get es k ≡ Some x → is_essential (stmt_of names labels x) ≡ true → x.assertion.hypotheses ≡ floats_in (take k (map (stmt_of names labels) es)) (expr_of (stmt_of names labels x)))
-    → with_essentials es (actives is_essential (take i (map (stmt_of names labels) es))) (floats_in (take i (map (stmt_of names labels) es)) (expr_of s)) ≡ hypotheses (take i (map (stmt_of names labels) es)) s
-gathered-hypotheses es names labels m i s codes distinct numbered legal low stand kept =
+    → (list : List ℕ) → AreWith es (take i (map (stmt_of names labels) es)) (floats_in (take i (map (stmt_of names labels) es)) (expr_of s)) list → list ≡ hypotheses (take i (map (stmt_of names labels) es)) s
+gathered-hypotheses es names labels m i s codes distinct numbered legal low stand kept list w =
     let S = map (stmt_of names labels) es in
     let few = take i es in
     let T = map (stmt_of names labels) few in
@@ -85,13 +80,14 @@ gathered-hypotheses es names labels m i s codes distinct numbered legal low stan
     = λ k x h e.
     let t = take-get i k es x h in
     kept k x t.1 e ∙ ap (λ D. floats_in D (expr_of (stmt_of names labels x))) (sym (take-take k i S (omega (arith, t.0))) ∙ ap (take k) is) in
-    let own : with_floats few T codes [] ≡ floats_in T (expr_of s) = found-floats few names labels m T refl distinct n all codes low ∙ ap (floats_in T) stand in
-    let found : with_essentials few (actives is_essential T) (floats_in T (expr_of s)) ≡ hypotheses T s
-    = ap (with_essentials few (actives is_essential T)) (sym own) ∙ collected-hypotheses few names labels m T refl distinct n all s codes low stand here in
     let whole : es ≡ few ++ drop i es = sym (take-append-drop i es) in
-    ap (λ D. with_essentials es (actives is_essential D) (floats_in D (expr_of s))) is
-    ∙ (ap (λ x. with_essentials x (actives is_essential T) (floats_in T (expr_of s))) whole
-    ∙ (sym (essentials-same names labels few (drop i es) (floats_in T (expr_of s))) ∙ (found ∙ ap (λ D. hypotheses D s) (sym is))))
+    let w' : AreWith (few ++ drop i es) T (floats_in T (expr_of s)) list = subst (λ x. AreWith x T (floats_in T (expr_of s)) list) whole (subst (λ D. AreWith es D (floats_in D (expr_of s)) list) is w) in
+    let there : (p : ℕ) → SomeFloat few T codes p ⊎ IsGiven few T p → In p (floats_in T (expr_of s)) ⊎ IsGiven (few ++ drop i es) T p
+    = λ p. ⊎_elim (λ f. inl (subst (λ e. In p (floats_in T e)) stand (found-float few names labels m T refl distinct n all codes low p f))) (λ g. inr (given-more names labels few (drop i es) p g)) in
+    let back : (p : ℕ) → In p (floats_in T (expr_of s)) ⊎ IsGiven (few ++ drop i es) T p → SomeFloat few T codes p ⊎ IsGiven few T p
+    = λ p. ⊎_elim (λ j. inl (float-found few names labels m T refl distinct n all codes low p (subst (λ e. In p (floats_in T e)) (sym stand) j))) (λ g. inr (given-less names labels few (drop i es) p g)) in
+    collected-hypotheses few names labels m T refl distinct n all s codes low stand here list (record { ascends = w'.ascends; all = λ p x. w'.all p (there p x); only = λ p j. back p (w'.only p j) })
+    ∙ ap (λ D. hypotheses D s) (sym is)
 
 -- ---- an assertion that is there
 
@@ -117,16 +113,13 @@ module _ (k : Stock) (a i : ℕ) (s : Stmt) (e : Entry) (stored : AreStored k) (
   pub mandatory-whole : e.assertion.whole ≡ true → e.assertion.hypotheses ≡ hypotheses (take (a - 1) S) s
   mandatory-whole w = t.kept.hypotheses_kept ∙ (ap (λ b. kept_with b (take i S) (stmt_of (names_in k) (labels_in k) e)) w ∙ at-own)
 
-  pub own-ascends : e.assertion.whole ≡ false → Ascends e.assertion.hypotheses
-  own-ascends w = subst Ascends (sym (floats w)) (ascends-floats_in (take i S) (expr_of (stmt_of (names_in k) (labels_in k) e)))
-
-  pub mandatory-own : e.assertion.whole ≡ false → with_essentials k.entries (actives is_essential (take (a - 1) S)) e.assertion.hypotheses ≡ hypotheses (take (a - 1) S) s
-  mandatory-own w =
+  pub mandatory-own : e.assertion.whole ≡ false → (list : List ℕ) → AreWith k.entries (take (a - 1) S) e.assertion.hypotheses list → list ≡ hypotheses (take (a - 1) S) s
+  mandatory-own w list l =
       let x = there-expr k a i s e stored asserts t in
       let stand : decode (names_in k) e.symbols ≡ expr_of (stmt_of (names_in k) (labels_in k) e) = x.0 ∙ ap expr_of (sym t.is) in
-      ap (λ n. with_essentials k.entries (actives is_essential (take n S)) e.assertion.hypotheses) back
-      ∙ (ap (with_essentials k.entries (actives is_essential (take i S))) (floats w)
-      ∙ (gathered-hypotheses k.entries (names_in k) (labels_in k) (length (labels_in k)) i (stmt_of (names_in k) (labels_in k) e) e.symbols (stored-distinct k stored) stored.kept.coded stored.kept.legal x.1 stand (essentials-kept k stored) ∙ at-own))
+      gathered-hypotheses k.entries (names_in k) (labels_in k) (length (labels_in k)) i (stmt_of (names_in k) (labels_in k) e) e.symbols (stored-distinct k stored) stored.kept.coded stored.kept.legal x.1 stand (essentials-kept k stored)
+      list (subst (λ own. AreWith k.entries (take i S) own list) (floats w) (subst (λ n. AreWith k.entries (take n S) e.assertion.hypotheses list) back l))
+      ∙ at-own
 
   pub mandatory-are : AreHypotheses k.entries (hypotheses (take (a - 1) S) s)
   mandatory-are =

@@ -40,7 +40,6 @@ pub mod ActivePositions
 pub mod NamedCodes
 pub mod ActiveFloats
 pub mod CollectedLemmas
-pub mod LookedLemmas
 pub mod OneFrameLemmas
 pub mod LabelLemmas
 pub mod PositionLemmas

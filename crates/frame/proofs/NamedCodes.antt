@@ -13,7 +13,7 @@ use Rattle.entries.specs.Entries.{Entry}
 use Rattle.frame.specs.Stored.EntryMeanings.{stmt_by, floats, second_is, is_float_kind}
 use Rattle.frame.specs.Stored.Counts.{HasTwo}
 use Rattle.frame.proofs.FoundByNumber.{name_at-injective}
-use Rattle.frame.proofs.AscendingLists.{In}
+use Rattle.frame.specs.Stored.Hypotheses.{In}
 
 -- ---- names
 

@@ -1,19 +1,19 @@
 //! The hypotheses that are kept with a statement, what they are, and what is kept apart.
-ghost use Rattle.std.specs.Prelude.{◌≡◌, ◌+◌, ◌-◌, ◌<◌, ◌≤◌, ◌++◌, ◌∷◌, [], true, false, if◌then◌else◌, length, map, take, OnOk};
+ghost use Rattle.std.specs.Prelude.{◌≡◌, ℕ, List, ◌+◌, ◌-◌, ◌<◌, ◌≤◌, ◌++◌, ◌∷◌, [], true, false, if◌then◌else◌, length, map, take, OnOk};
 ghost use Rattle.entries.specs.Stored.Spans.{cut, AreSpansIn};
 ghost use Rattle.frame.specs.Below.{AreBelow};
 ghost use Rattle.frame.specs.Cited.{head_of};
 ghost use Rattle.frame.specs.Stored.Drafts.{IsPartless, IsUndescribed, IsDraft, drafted};
 ghost use Rattle.frame.specs.Links.{actives, is_disj};
 ghost use Rattle.frame.specs.Stored.Whole.{AreStored};
-ghost use Rattle.frame.specs.Stored.Hypotheses.{AreHypotheses, AreParts, IsSpread, collected, with_floats};
+ghost use Rattle.frame.specs.Stored.Hypotheses.{AreHypotheses, AreParts, AreFloats, AreCollected, IsSpread};
 ghost use Rattle.frame.specs.Stored.Counts.{HasTwo};
 ghost use Rattle.frame.specs.Stored.AssertionParts.{asked_at, asked_by, head_at, has_two, variable_at, variable_by, symbols_at, groups_by, placed};
 ghost use Rattle.frame.specs.Stored.EntryMeanings.{names_in, statements_of};
 
 use crate::at_position::links_at;
 use crate::draft::Draft;
-use crate::mandatory::{add_essentials, are_few, put_floats};
+use crate::mandatory::{add_essentials, are_few, find_floats};
 use crate::places::Places;
 use crate::storage::Stock;
 use entries::buffer_part::between;
@@ -180,15 +180,15 @@ pub fn spread(stock: &Stock, at: usize, draft: &mut Draft) -> Result<(), AllocEr
 pub fn parts(stock: &Stock, draft: &mut Draft, is_own: bool) -> Result<(), AllocError>
     requires stored { AreStored stock.now }
     requires codes { AreBelow (length (names_in stock.now)) draft.old.symbols.items }
-    requires floats { AreHypotheses stock.now.entries (with_floats stock.now.entries (statements_of stock.now) draft.old.symbols.items []) }
-    requires hypotheses { AreHypotheses stock.now.entries (collected stock.now.entries (statements_of stock.now) draft.old.symbols.items) }
+    requires floats { (list : List ℕ) → AreFloats stock.now.entries (statements_of stock.now) draft.old.symbols.items list → AreHypotheses stock.now.entries list }
+    requires hypotheses { (list : List ℕ) → AreCollected stock.now.entries (statements_of stock.now) draft.old.symbols.items list → AreHypotheses stock.now.entries list }
     requires partless { IsPartless draft.old }
     ensures parts { OnOk result (AreParts stock.now.entries (statements_of stock.now) draft.old.symbols.items (drafted draft.new)) }
     ensures own { is_own ≡ true → OnOk result (draft.new.whole ≡ false) }
     ensures draft { OnOk result (IsDraft draft.new) }
     ensures symbols { draft.new.symbols.items ≡ draft.old.symbols.items }
 {
-    put_floats(
+    find_floats(
         stock,
         &mut draft.looked,
         &mut draft.hypotheses,
@@ -204,7 +204,7 @@ pub fn parts(stock: &Stock, draft: &mut Draft, is_own: bool) -> Result<(), Alloc
 /// The parts, where only the `$f` of its own variables are kept.
 fn own_parts(stock: &Stock, draft: &mut Draft) -> Result<(), AllocError>
     requires stored { AreStored stock.now }
-    requires found { draft.old.hypotheses.items ≡ with_floats stock.now.entries (statements_of stock.now) draft.old.symbols.items [] }
+    requires found { AreFloats stock.now.entries (statements_of stock.now) draft.old.symbols.items draft.old.hypotheses.items }
     requires floats { AreHypotheses stock.now.entries draft.old.hypotheses.items }
     requires undescribed { IsUndescribed draft.old }
     requires own { draft.old.whole ≡ false }
@@ -219,8 +219,8 @@ fn own_parts(stock: &Stock, draft: &mut Draft) -> Result<(), AllocError>
 /// The parts, where all mandatory hypotheses are kept.
 fn whole_parts(stock: &Stock, draft: &mut Draft) -> Result<(), AllocError>
     requires stored { AreStored stock.now }
-    requires found { draft.old.hypotheses.items ≡ with_floats stock.now.entries (statements_of stock.now) draft.old.symbols.items [] }
-    requires hypotheses { AreHypotheses stock.now.entries (collected stock.now.entries (statements_of stock.now) draft.old.symbols.items) }
+    requires found { AreFloats stock.now.entries (statements_of stock.now) draft.old.symbols.items draft.old.hypotheses.items }
+    requires hypotheses { (list : List ℕ) → AreCollected stock.now.entries (statements_of stock.now) draft.old.symbols.items list → AreHypotheses stock.now.entries list }
     requires undescribed { IsUndescribed draft.old }
     ensures parts { OnOk result (AreParts stock.now.entries (statements_of stock.now) draft.old.symbols.items (drafted draft.new)) }
     ensures draft { OnOk result (IsDraft draft.new) }

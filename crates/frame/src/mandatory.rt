@@ -1,10 +1,8 @@
 //! The mandatory hypotheses of an assertion, found by the symbols that it uses.
-ghost use Rattle.std.specs.Prelude.{◌≡◌, ◌+◌, ◌-◌, ◌≤◌, ◌<◌, length, take, OnOk};
-ghost use Rattle.scope.specs.Active.{is_essential};
-ghost use Rattle.frame.specs.Links.{actives};
+ghost use Rattle.std.specs.Prelude.{◌≡◌, ◌+◌, ◌-◌, ◌≤◌, ◌<◌, [], length, take, OnOk};
 ghost use Rattle.frame.specs.Below.{AreBelow};
 ghost use Rattle.frame.specs.Stored.Whole.{AreStored};
-ghost use Rattle.frame.specs.Stored.Hypotheses.{Ascends, IsLooked, inserted, with_all, with_float, with_floats, with_essentials};
+ghost use Rattle.frame.specs.Stored.Hypotheses.{In, AreThose, HasMore, IsFloatOf, AreLooked, AreFloats, AreWith};
 ghost use Rattle.frame.specs.Stored.EntryMeanings.{floats, last_where, names_in, statements_of};
 
 use crate::at_position::{is_active_at, links_at};
@@ -12,38 +10,30 @@ use crate::places::Places;
 use crate::storage::Stock;
 use std::alloc::AllocError;
 
-/// Puts a position in its place, once.
-fn put(list: &mut Vec<u32>, position: u32) -> Result<(), AllocError>
-    requires { Ascends list.old.items }
-    ensures { OnOk result (list.new.items ≡ inserted position list.old.items) }
+/// Puts positions in ascending order, each once.
+fn order(list: &mut Vec<u32>)
+    ensures { AreThose (λ p. In p list.old.items) list.new.items }
 {
-    match list.binary_search(&position) {
-        Ok(_) => Ok(()),
-        Err(i) => {
-            list.insert(i, position)?;
-            Ok(())
-        }
-    }
+    list.sort_unstable();
+    list.dedup();
 }
 
-/// Puts in the last `$f` of a symbol, where it is active behind all statements.
-fn put_last(stock: &Stock, list: &mut Vec<u32>, code: u32, float: usize) -> Result<(), AllocError>
+/// Adds the last `$f` of a symbol, where it is active behind all statements.
+fn add_last(stock: &Stock, list: &mut Vec<u32>, code: u32, float: usize) -> Result<(), AllocError>
     requires stored { AreStored stock.now }
     requires last { float ≡ last_where (floats code) stock.now.entries }
     requires some { 1 ≤ float }
-    requires ascends { Ascends list.old.items }
-    ensures { OnOk result (list.new.items ≡ with_float stock.now.entries (statements_of stock.now) code list.old.items) }
+    ensures { OnOk result (HasMore (IsFloatOf stock.now.entries (statements_of stock.now) code) list.old.items list.new.items) }
 {
     let _code = code;
     if is_active_at(stock, float, stock.entries.len() + 1) {
-        put(list, float as u32)
-    } else {
-        Ok(())
+        list.push(float as u32)?;
     }
+    Ok(())
 }
 
-/// Puts in the `$f` of a symbol that is active behind all statements, if there is one.
-fn put_float(
+/// Adds the `$f` of a symbol that is active behind all statements, if there is one and it is not there.
+fn add_float(
     stock: &Stock,
     looked: &mut Places,
     list: &mut Vec<u32>,
@@ -51,9 +41,9 @@ fn put_float(
 ) -> Result<(), AllocError>
     requires stored { AreStored stock.now }
     requires code { code < length (names_in stock.now) }
-    requires looked { IsLooked stock.now.entries (statements_of stock.now) looked.old list.old.items }
-    ensures list { OnOk result (list.new.items ≡ with_float stock.now.entries (statements_of stock.now) code list.old.items) }
-    ensures looked { OnOk result (IsLooked stock.now.entries (statements_of stock.now) looked.new list.new.items) }
+    requires looked { AreLooked stock.now.entries (statements_of stock.now) looked.old list.old.items }
+    ensures more { OnOk result (HasMore (IsFloatOf stock.now.entries (statements_of stock.now) code) list.old.items list.new.items) }
+    ensures looked { OnOk result (AreLooked stock.now.entries (statements_of stock.now) looked.new list.new.items) }
 {
     let float = stock.symbols[code as usize].float;
     if float == 0 {
@@ -62,12 +52,14 @@ fn put_float(
     if looked.place(code).is_some() {
         return Ok(());
     }
-    put_last(stock, list, code, float)?;
+    add_last(stock, list, code, float)?;
     looked.push(Some(code))
 }
 
-/// Puts in the active `$f` of each of the symbols.
-pub fn put_floats(
+/// Finds the active `$f` of the symbols, in order.
+///
+/// Cost: that of the symbols, and of putting the `$f` in order.
+pub fn find_floats(
     stock: &Stock,
     looked: &mut Places,
     list: &mut Vec<u32>,
@@ -75,44 +67,33 @@ pub fn put_floats(
 ) -> Result<(), AllocError>
     requires stored { AreStored stock.now }
     requires codes { AreBelow (length (names_in stock.now)) codes.now }
-    requires looked { IsLooked stock.now.entries (statements_of stock.now) looked.old list.old.items }
-    ensures list { OnOk result (list.new.items ≡ with_floats stock.now.entries (statements_of stock.now) codes.now list.old.items) }
-    ensures looked { OnOk result (IsLooked stock.now.entries (statements_of stock.now) looked.new list.new.items) }
+    requires looked { looked.old ≡ [] }
+    requires empty { list.old.items ≡ [] }
+    ensures { OnOk result (AreFloats stock.now.entries (statements_of stock.now) codes.now list.new.items) }
 {
     for code in codes {
-        put_float(stock, looked, list, *code)?;
+        add_float(stock, looked, list, *code)?;
     }
+    order(list);
     Ok(())
 }
 
-/// Puts each of the positions in its place, once.
-fn put_all(list: &mut Vec<u32>, positions: &[u32]) -> Result<(), AllocError>
-    requires { Ascends list.old.items }
-    ensures list { OnOk result (list.new.items ≡ with_all positions.now list.old.items) }
-    ensures ascends { OnOk result (Ascends list.new.items) }
-{
-    for position in positions {
-        put(list, *position)?;
-    }
-    Ok(())
-}
-
-/// Adds the `$e` that are active at `at`, and the `$f` that are kept with them, in their places.
+/// Adds the `$e` that are active at `at`, and the `$f` that are kept with them, all in order.
 ///
-/// Cost: for each of these a search by halves, and a move of those that stand behind its place.
+/// Cost: that of these, and of putting them in order.
 pub fn add_essentials(stock: &Stock, at: usize, list: &mut Vec<u32>) -> Result<(), AllocError>
     requires stored { AreStored stock.now }
     requires place { (1 ≤ at) × (at ≤ length (statements_of stock.now) + 1) }
-    requires ascends { Ascends list.old.items }
-    ensures { OnOk result (list.new.items ≡ with_essentials stock.now.entries (actives is_essential (take (at - 1) (statements_of stock.now))) list.old.items) }
+    ensures { OnOk result (AreWith stock.now.entries (take (at - 1) (statements_of stock.now)) list.old.items list.new.items) }
 {
     let mut essential = links_at(stock, at).essential;
     while essential != 0 {
         let index = essential as usize - 1;
-        put(list, essential)?;
-        put_all(list, stock.entries.hypotheses(index))?;
+        list.push(essential)?;
+        list.extend_from_slice(stock.entries.hypotheses(index))?;
         essential = stock.entries.entry(index).links.essential;
     }
+    order(list);
     Ok(())
 }
 

@@ -1,6 +1,5 @@
 -- How the mandatory hypotheses are found: the `$f` of the symbols of the assertion and of the active `$e`, and these. The code's own form: no public clause cites it.
-use Rattle.std.specs.Prelude.{◌≡◌, ℕ, ◌+◌, ◌-◌, ◌<◌, ◌≤◌, ◌==◌, nat_lt, Bool, true, false, if◌then◌else◌, List, [], ◌∷◌, length, map, slice_get, Option, Some, None}
-use Rattle.mm_read.specs.declared.stmt.Stmt.{Stmt}
+use Rattle.std.specs.Prelude.{◌≡◌, ℕ, ◌+◌, ◌-◌, ◌<◌, ◌≤◌, ◌⊎◌, Bool, true, false, List, [], ◌∷◌, length, map, slice_get, Option, Some, None}
 use Rattle.mm_read.specs.Statements.{Database}
 use Rattle.scope.specs.Active.{is_active, is_essential}
 use Rattle.entries.specs.declared.kind.Kind.{Kind}
@@ -14,10 +13,9 @@ use Rattle.frame.specs.Stored.AssertionParts.{variable_at, symbols_at, groups_by
 
 -- ---- how the mandatory hypotheses are found: the `$f` of the symbols of the assertion and of the active `$e`, and these
 
--- the list with one more position in its place, each position once
-abbrev pub inserted : ℕ → List ℕ → List ℕ
-inserted p [] = p ∷ []
-inserted p (q ∷ qs) = if p == q then q ∷ qs else (if nat_lt p q then p ∷ q ∷ qs else q ∷ inserted p qs)
+abbrev pub In : ℕ → List ℕ → Type 0
+In p [] = ⊥
+In p (q ∷ qs) = (p ≡ q) ⊎ In p qs
 
 -- in ascending order, each once
 abbrev pub AreAbove : ℕ → List ℕ → Type 0
@@ -28,20 +26,33 @@ abbrev pub Ascends : List ℕ → Type 0
 Ascends [] = Unit {0}
 Ascends (p ∷ ps) = AreAbove p ps × Ascends ps
 
--- with the last `$f` of the symbol c, where it is active behind all entries
-abbrev pub with_float : List Entry → Database → ℕ → List ℕ → List ℕ
-with_float es S c list =
-    let p = last_where (floats c) es in
-    if p == 0 then list else (if is_active S p (length S + 1) then inserted p list else list)
-
-abbrev pub with_floats : List Entry → Database → List ℕ → List ℕ → List ℕ
-with_floats es S [] list = list
-with_floats es S (c ∷ codes) list = with_floats es S codes (with_float es S c list)
-
--- the list has the active `$f` of each symbol that was looked at
-pub record IsLooked (es : List Entry) (S : Database) (looked : List (Option ℕ)) (list : List ℕ) : Type 0 where
+-- the list has just those that P holds of, in ascending order, each once
+pub record AreThose (P : ℕ → Type 0) (list : List ℕ) : Type 0 where
   pub ascends : Ascends list
-  pub has : (c k : ℕ) → place_of looked c ≡ Some k → with_float es S c list ≡ list
+  pub all : (p : ℕ) → P p → In p list
+  pub only : (p : ℕ) → In p list → P p
+
+-- the list has what it had, and those that P holds of
+pub record HasMore (P : ℕ → Type 0) (old new : List ℕ) : Type 0 where
+  pub stays : (p : ℕ) → In p old → In p new
+  pub all : (p : ℕ) → P p → In p new
+  pub only : (p : ℕ) → In p new → In p old ⊎ P p
+
+-- p is the last `$f` of the symbol c, and active behind all entries
+pub record IsFloatOf (es : List Entry) (S : Database) (c p : ℕ) : Type 0 where
+  pub last : p ≡ last_where (floats c) es
+  pub some : p ≡ 0 → ⊥
+  pub stands : is_active S p (length S + 1) ≡ true
+
+-- p is that of one of the symbols
+pub record SomeFloat (es : List Entry) (S : Database) (codes : List ℕ) (p : ℕ) : Type 0 where
+  pub code : ℕ
+  pub among : In code codes
+  pub float : IsFloatOf es S code p
+
+-- the list has the `$f` of each symbol that was looked at
+abbrev pub AreLooked : List Entry → Database → List (Option ℕ) → List ℕ → Type 0
+AreLooked es S looked list = (c k p : ℕ) → place_of looked c ≡ Some k → IsFloatOf es S c p → In p list
 
 -- the hypotheses that are kept with the statement at a position
 abbrev pub option_kept : Option Entry → List ℕ
@@ -51,17 +62,26 @@ option_kept (Some e) = e.assertion.hypotheses
 abbrev pub kept_at : List Entry → ℕ → List ℕ
 kept_at es p = option_kept (slice_get es (p - 1))
 
-abbrev pub with_all : List ℕ → List ℕ → List ℕ
-with_all [] list = list
-with_all (p ∷ ps) list = with_all ps (inserted p list)
+-- p is a `$e` at one of the positions, or kept with one
+pub record SomeEssential (es : List Entry) (qs : List ℕ) (p : ℕ) : Type 0 where
+  pub essential : ℕ
+  pub among : In essential qs
+  pub way : (p ≡ essential) ⊎ In p (kept_at es essential)
 
--- with the active `$e`, the last one first, and the `$f` that are kept with them
-abbrev pub with_essentials : List Entry → List (ℕ × Stmt) → List ℕ → List ℕ
-with_essentials es [] list = list
-with_essentials es (q ∷ qs) list = with_all (kept_at es q.0) (inserted q.0 (with_essentials es qs list))
+-- p is an active `$e`, or kept with one
+abbrev pub IsGiven : List Entry → Database → ℕ → Type 0
+IsGiven es S p = SomeEssential es (map (λ q. q.0) (actives is_essential S)) p
 
-abbrev pub collected : List Entry → Database → List ℕ → List ℕ
-collected es S codes = with_essentials es (actives is_essential S) (with_floats es S codes [])
+-- the `$f` of the symbols; with them the active `$e` and what is kept with these
+abbrev pub AreFloats : List Entry → Database → List ℕ → List ℕ → Type 0
+AreFloats es S codes list = AreThose (SomeFloat es S codes) list
+
+abbrev pub AreCollected : List Entry → Database → List ℕ → List ℕ → Type 0
+AreCollected es S codes list = AreThose (λ p. SomeFloat es S codes p ⊎ IsGiven es S p) list
+
+-- those before, with the active `$e` and what is kept with these
+abbrev pub AreWith : List Entry → Database → List ℕ → List ℕ → Type 0
+AreWith es S old new = AreThose (λ p. In p old ⊎ IsGiven es S p) new
 
 abbrev pub is_hypothesis_entry : Kind → Bool
 is_hypothesis_entry Float = true
@@ -87,6 +107,7 @@ pub record IsSpread (es : List Entry) (S : Database) (ps : List ℕ) (d : Assert
 
 -- the parts of an assertion or a `$e` with these symbols, behind the statements S
 pub record AreParts (es : List Entry) (S : Database) (codes : List ℕ) (d : Assertion) : Type 0 where
-  pub hypotheses_found : d.hypotheses ≡ (if d.whole then collected es S codes else with_floats es S codes [])
+  pub whole_found : d.whole ≡ true → AreCollected es S codes d.hypotheses
+  pub own_found : d.whole ≡ false → AreFloats es S codes d.hypotheses
   pub described : AreDescribed es d
   pub groups_made : d.whole ≡ true → d.groups ≡ groups_by (map (variable_at es) d.hypotheses) (map (λ q. symbols_at es q.0) (actives is_disj S))
