@@ -238,7 +238,7 @@ impl Frames {
 
     /// Makes the lists of the assertion at a position, of which only what it adds to what is active is kept.
     ///
-    /// Cost: the size of its hypotheses and of the active `$d`; of n active `$e` also n²/2 moves of a number.
+    /// Cost: the size of its hypotheses, which a sort puts in order, and of the active `$d`.
     pub fn gather(&self, a: usize, gathered: &mut Gathered) -> Result<(), AllocError>
         requires { (s : Statement) × HasAssertion self.now.statements a s }
         ensures { OnOk result (IsGathered self.now.statements self.now.names a gathered.new) }
