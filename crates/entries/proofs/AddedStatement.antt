@@ -1,165 +1,150 @@
--- One more statement: its place is the last one, and its parts are what was added.
-use Rattle.std.specs.Prelude.{◌≡◌, ℕ, ◌-◌, true, false, Bool, List, [], ◌∷◌, ◌++◌, length, slice_get, slice_range, get_or, take, drop, Some, None, refl, Result, Ok, Err, OnOk, OnErr, is_err}
-use Rattle.std.proofs.Common.{◌∙◌, ap, sym, subst, arith, append-nil}
-use Rattle.std.proofs.lemmas.List.{length-append}
-use Rattle.std.proofs.lemmas.Option.{slice_get_past, slice_get-get_or, get_or_from_slice_get}
-use Rattle.std.proofs.Math.Nat.{sub_self}
-use Rattle.std.proofs.Math.Seq.{get_or-append_seam}
-use Rattle.entries.specs.declared.cited_parts.Hypothesis.{Hypothesis}
+-- One statement more or less: its numbers and groups stand behind those of the others.
+use Rattle.std.specs.Prelude.{◌≡◌, ℕ, ◌+◌, ◌-◌, ◌<◌, ◌^◌, true, false, Bool, List, [], ◌∷◌, ◌++◌, length, slice_get, slice_range, take, drop, Some, None, refl, Result, Ok, Err, OnOk, OnErr, is_err}
+use Rattle.std.proofs.Common.{◌∙◌, ap, sym, subst, arith}
+use Rattle.std.proofs.lemmas.List.{length-append, length-take-le, take-append-drop, drop_more, nil_from_length}
+use Rattle.std.proofs.lemmas.Bool.{ltb-false}
+use Rattle.std.proofs.lemmas.Option.{slice_get_within, get_or_from_slice_get}
+use Rattle.std.proofs.Math.Seq.{take-append_seam, take-length}
+use Rattle.entries.specs.declared.buffer_part.BufferPart.{BufferPart}
 use Rattle.entries.specs.declared.head.Head.{Head}
 use Rattle.entries.specs.declared.parts.AssertionParts.{AssertionParts}
 use Rattle.entries.specs.declared.statement_record.StatementRecord.{StatementRecord}
-use Rattle.entries.specs.declared.statement_record.AssertionRow.{AssertionRow}
-use Rattle.entries.specs.declared.statement_record.Buffers.{Buffers}
-use Rattle.entries.specs.declared.sizes.Sizes.{Sizes}
-use Rattle.entries.specs.Entries.{AreShapedParts, assertion_of, made, partless}
-use Rattle.entries.specs.Stored.Spans.{AreSpansIn, Extends, cut}
-use Rattle.entries.specs.Stored.Records.{head_of, no_row, hypotheses_by, groups_by, groups_at, row_place, plain_place, place_by, place_of, places_of, entry_of, ArePacked, Grows, Begins, IsRowOf, IsAdded}
-use Rattle.entries.proofs.SpanLemmas.{range-behind, extends-length, extends-refl}
-use Rattle.entries.proofs.StatementRecordLemmas.{places-push}
+use Rattle.entries.specs.declared.layout.Layout.{Layout}
+use Rattle.entries.specs.Entries.{AreShapedParts, assertion_of, made}
+use Rattle.entries.specs.Stored.Spans.{AreSpansIn, Extends}
+use Rattle.entries.specs.Stored.Records.{counts_of, has_parts, run_of, record_by, layout_in, run_by, spans_by, entry_of, entries_of, IsKept, AreKept, ArePacked}
+use Rattle.entries.proofs.SpanLemmas.{range-behind, extends-refl, extends-take, extends-trans}
+use Rattle.entries.proofs.StatementRecordLemmas.{entries-length, at-index}
+use Rattle.entries.proofs.BufferPlaceLemmas.{entries-before, kept-before, kept-cut}
 
-made-same : (h k : Head) (u' v' : Bool) (s t : List ℕ) (a b : List ℕ) (p q : List Hypothesis) (u v : List ℕ) (g l : List (List ℕ))
-    → h ≡ k → u' ≡ v' → s ≡ t → a ≡ b → p ≡ q → u ≡ v → g ≡ l
-    → made h s (record { whole = u'; hypotheses = a; asked = p; heads = u; groups = g }) ≡ made k t (record { whole = v'; hypotheses = b; asked = q; heads = v; groups = l })
-made-same h k u' v' s t a b p q u v g l e1 e0 e2 e3 e4 e5 e6 = cc
+-- ---- one more
 
-abbrev sizes : ℕ → ℕ → ℕ → ℕ → Sizes
-sizes n h g r = record { numbers = n; hypotheses = h; groups = g; rows = r }
+-- the numbers and the groups are as many as the layout tells
+pub record IsLaid (at : Layout) (run : List ℕ) (spans : List BufferPart) : Type 0 where
+  pub whole : at.end ≡ length run
+  pub count : at.groups ≡ length spans
+  pub grouped : AreSpansIn (at.end - at.places) spans
 
-sizes-same : (a b c d e f g h : ℕ) → a ≡ b → c ≡ d → e ≡ f → g ≡ h → sizes a c e g ≡ sizes b d f h
-sizes-same a b c d e f g h p q r s = cc
+module _ (ns ms : List ℕ) (gs hs : List BufferPart) (rs qs : List StatementRecord) (h : Head) (t whole : Bool) (run : List ℕ) (spans : List BufferPart)
+    (packed : ArePacked ns gs rs) (numbers : ms ≡ ns ++ run) (groups : hs ≡ gs ++ spans) (records : qs ≡ rs ++ record_by h t whole (length ns) (length gs) ∷ []) where
+  abbrev last : StatementRecord
+  last = record_by h t whole (length ns) (length gs)
 
-get-seam : {A : Type 0} (xs : List A) (x d : A) (n : ℕ) → n ≡ length xs → slice_get (xs ++ x ∷ []) n ≡ Some x
-get-seam xs x d n e =
-    let l = length-append xs (x ∷ []) in
-    slice_get-get_or (xs ++ x ∷ []) n d (omega (arith, l, e)) ∙ ap Some (ap (λ m. get_or (xs ++ x ∷ []) m d) e ∙ get_or-append_seam xs x [] d)
+  last-run : run_by ms last None ≡ run
+  last-run = range-behind ns run ms ms (length ns) (length ms) refl numbers refl (extends-refl ms)
 
-pub range-none : {A : Type 0} (xs : List A) (n : ℕ) → slice_range xs n n ≡ []
-range-none xs n = ap (λ m. take m (drop n xs)) (sub_self n)
+  last-spans : spans_by hs last None ≡ spans
+  last-spans = range-behind gs spans hs hs (length gs) (length hs) refl groups refl (extends-refl hs)
 
--- ---- an assertion, with its row
+  pub entries-push : entries_of ms hs qs ≡ entries_of ns gs rs ++ entry_of last run spans ∷ []
+  entries-push =
+      ap (entries_of ms hs) records
+      ∙ (entries-before ns ms gs hs last [] (run, numbers) (spans, groups) refl refl rs packed.kept
+      ∙ ap (λ e. entries_of ns gs rs ++ e ∷ []) (let e = last-run in let f = last-spans in cc))
 
-module _ (b m c : Buffers) (rs qs : List StatementRecord) (r : StatementRecord) (w : AssertionRow) (h : Head) (p : AssertionParts)
-    (packed : ArePacked b (places_of b rs)) (shaped : AreShapedParts p) (grows : Grows b m) (row : IsRowOf b m p w)
-    (numbers : c.numbers.items ≡ m.numbers.items) (hypotheses : c.hypotheses.items ≡ m.hypotheses.items) (asked : c.asked.items ≡ m.asked.items) (groups : c.groups.items ≡ m.groups.items)
-    (rows : c.rows.items ≡ b.rows.items ++ w ∷ [])
-    (head : head_of r ≡ h) (kind : r.has_row ≡ true) (from : r.from ≡ length b.numbers.items) (at : r.row ≡ length b.rows.items) (behind : qs ≡ rs ++ r ∷ []) where
-  row-there : slice_get c.rows.items r.row ≡ Some w
-  row-there = ap (λ ws. slice_get ws r.row) rows ∙ get-seam b.rows.items w no_row r.row at
+  pub packed-push : IsLaid (layout_in t run) run spans → length rs + 2 < 2 ^ 32 → ArePacked ms hs qs
+  packed-push laid few =
+      let n = length-append ns run in let l = ap length numbers in
+      let m = length-append gs spans in let j = ap length groups in
+      let k = length-append rs (last ∷ []) in
+      let kept : IsKept ms hs last None = record {
+        placed = record { from = omega arith; end = omega arith; whole = rw last-run laid.whole };
+        grouped = record { count = rw last-run (omega arith); end = omega arith; spans = rw (last-run, last-spans) laid.grouped };
+      } in
+      subst (ArePacked ms hs) (sym records) (record {
+        kept = kept-before ns ms gs hs last [] (run, numbers) (spans, groups) refl refl rs packed.kept (kept, tt);
+        few = omega arith;
+      })
 
-  row-at : slice_get c.rows.items (length b.rows.items) ≡ Some w
-  row-at = ap (λ ws. slice_get ws (length b.rows.items)) rows ∙ get-seam b.rows.items w no_row (length b.rows.items) refl
+-- ---- its parts are those that were added
 
-  rows-more : Extends b.rows.items c.rows.items
-  rows-more = (w ∷ [], rows)
+-- of a statement without parts all lists but its symbols are empty
+pub record IsBare (p : AssertionParts) : Type 0 where
+  pub hypotheses : p.hypotheses.now ≡ []
+  pub asked : p.asked.now ≡ []
+  pub heads : p.heads.now ≡ []
+  pub groups : p.groups.now ≡ []
 
-  -- the new row begins where the old hypotheses and groups end
-  begins : Begins b c
-  begins = record {
-    hypotheses = ap (hypotheses_by (length c.hypotheses.items)) row-at ∙ row.hypotheses_from;
-    groups = ap (groups_by (length c.groups.items)) row-at ∙ row.groups_from;
-  }
+bare : (p : AssertionParts) → AreShapedParts p → has_parts p ≡ false → IsBare p
+bare p shaped none =
+    let n = ltb-false 0 (length p.hypotheses.now + length p.groups.now) none in
+    let s = shaped in
+    record { hypotheses = nil_from_length _ (omega arith); asked = nil_from_length _ (omega arith); heads = nil_from_length _ (omega arith); groups = nil_from_length _ (omega arith) }
 
-  -- the place of the new record is that of its row
-  placed : place_of c r (length c.numbers.items) ≡ row_place r w
-  placed = ap (λ t. place_by t c r (length c.numbers.items)) kind ∙ ap (row_place r) (get_or_from_slice_get c.rows.items r.row w no_row row-there)
+pub run-laid : (p : AssertionParts) (t : Bool) → AreShapedParts p → has_parts p ≡ t → IsLaid (layout_in t (run_of t p)) (run_of t p) p.groups.now
+run-laid p true shaped e =
+    let n : length p.places.now ≡ (layout_in true (run_of true p)).end - (layout_in true (run_of true p)).places = omega arith in
+    let s = shaped in
+    record { whole = simp length-append (omega arith); count = refl; grouped = subst (λ m. AreSpansIn m p.groups.now) n shaped.grouped }
+run-laid p false shaped e =
+    let b = bare p shaped e in
+    record { whole = omega arith; count = sym (ap length b.groups); grouped = rw b.groups tt }
 
-  last-entry : entry_of c (row_place r w) ≡ made h p.symbols.now (assertion_of p)
-  last-entry = made-same (head_of r) h w.whole p.whole _ p.symbols.now _ p.hypotheses.now _ p.asked.now _ p.heads.now _ (cut p.places.now p.groups.now)
-      head
-      row.whole
-      (ap (λ xs. slice_range xs r.from w.symbols) numbers ∙ (ap (λ n. slice_range m.numbers.items n w.symbols) from ∙ row.symbols))
-      (ap (λ xs. slice_range xs w.hypotheses_from w.hypotheses) hypotheses ∙ row.hypotheses)
-      (ap (λ xs. slice_range xs w.hypotheses_from w.hypotheses) asked ∙ row.asked)
-      (ap (λ xs. slice_range xs w.symbols w.heads) numbers ∙ row.heads)
-      (ap (λ xs. cut (slice_range xs w.heads w.places) (slice_range c.groups.items w.groups_from w.groups)) numbers
-      ∙ (ap (λ xs. cut xs (slice_range c.groups.items w.groups_from w.groups)) row.places
-      ∙ ap (cut p.places.now) (ap (λ xs. slice_range xs w.groups_from w.groups) groups ∙ row.groups)))
+pub run-entry : (h : Head) (p : AssertionParts) (from groups : ℕ) (t : Bool) → AreShapedParts p → has_parts p ≡ t → entry_of (record_by h t p.whole from groups) (run_of t p) p.groups.now ≡ made h p.symbols.now (assertion_of p)
+run-entry h p from groups true shaped e =
+    let s = shaped in
+    let heads = counts_of p ++ p.heads.now in
+    let asked = heads ++ p.asked.now in
+    let symbols = asked ++ p.symbols.now in
+    let hypotheses = symbols ++ p.hypotheses.now in
+    let run = hypotheses ++ p.places.now in
+    let to_hypotheses : Extends hypotheses run = (p.places.now, refl) in
+    let to_symbols : Extends symbols run = extends-trans symbols hypotheses run (p.hypotheses.now, refl) to_hypotheses in
+    let to_asked : Extends asked run = extends-trans asked symbols run (p.symbols.now, refl) to_symbols in
+    let to_heads : Extends heads run = extends-trans heads asked run (p.asked.now, refl) to_asked in
+    let l = layout_in true run in
+    let i = length-append (counts_of p) p.heads.now in let j = length-append heads p.asked.now in let k = length-append asked p.symbols.now in
+    let m = length-append symbols p.hypotheses.now in let n = length-append hypotheses p.places.now in
+    let u = range-behind (counts_of p) p.heads.now heads run l.heads l.asked (omega arith) refl (omega arith) to_heads in
+    let v = range-behind heads p.asked.now asked run l.asked l.symbols (omega arith) refl (omega arith) to_asked in
+    let w = range-behind asked p.symbols.now symbols run l.symbols l.hypotheses (omega arith) refl (omega arith) to_symbols in
+    let x = range-behind symbols p.hypotheses.now hypotheses run l.hypotheses l.places (omega arith) refl (omega arith) to_hypotheses in
+    let y = range-behind hypotheses p.places.now run run l.places l.end (omega arith) refl (omega arith) (extends-refl run) in
+    cc
+run-entry h p from groups false shaped e =
+    let b = bare p shaped e in
+    let at = layout_in false p.symbols.now in
+    let n : at.hypotheses - 0 ≡ length p.symbols.now = omega arith in
+    let m : at.places - at.hypotheses ≡ 0 = omega arith in
+    let u : slice_range p.symbols.now 0 at.hypotheses ≡ p.symbols.now = ap (λ k. take k p.symbols.now) n ∙ take-length p.symbols.now in
+    let v : slice_range p.symbols.now at.hypotheses at.places ≡ [] = ap (λ k. take k (drop at.hypotheses p.symbols.now)) m in
+    rw (b.hypotheses, b.asked, b.heads, b.groups) cc
 
-  pub added-row : IsAdded b c (places_of b rs) (places_of c qs) (made h p.symbols.now (assertion_of p))
-  added-row =
-      let n = ap length numbers in let a = ap length hypotheses in let g = ap length groups in let l = ap length rows in
-      let k = length-append b.rows.items (w ∷ []) in
-      let more = extends-length b.hypotheses.items m.hypotheses.items grows.hypotheses in
-      let more' = extends-length b.groups.items m.groups.items grows.groups in
-      let q = ap length asked in
-      record {
-        last = row_place r w;
-        behind = ap (places_of c) behind ∙ (places-push b c rs r rows-more begins from packed.within ∙ ap (λ x. places_of b rs ++ x ∷ []) placed);
-        entry = last-entry;
-        within = record {
-          symbols = let x = row.from_symbols in omega arith;
-          heads = row.symbols_heads;
-          places = row.heads_places;
-          numbers = let x = row.within in omega arith;
-          hypotheses = let x = row.hypotheses_from in let y = row.hypotheses_end in omega arith;
-          hypotheses_end = let y = row.hypotheses_end in omega arith;
-          groups = let x = row.groups_from in let y = row.groups_end in omega arith;
-          groups_end = let y = row.groups_end in omega arith;
-          rows = omega arith;
-          rows_end = omega arith;
-        };
-        grouped = subst (λ spans. AreSpansIn (w.places - w.heads) spans) (sym (ap (λ xs. slice_range xs w.groups_from w.groups) groups ∙ row.groups)) (subst (λ x. AreSpansIn x p.groups.now) (sym row.count) shaped.grouped);
-        start = sizes-same r.from (length b.numbers.items) w.hypotheses_from (length b.hypotheses.items) w.groups_from (length b.groups.items) r.row (length b.rows.items) from row.hypotheses_from row.groups_from at;
-        paired = q ∙ (row.paired ∙ sym a);
-      }
+-- ---- fewer
 
--- ---- any other statement
+module _ (ms : List ℕ) (hs : List BufferPart) (us : List StatementRecord) (n : ℕ) (s : StatementRecord) (packed : ArePacked ms hs us) (here : slice_get us n ≡ Some s) where
+  abbrev a : List ℕ
+  a = take s.from ms
 
-module _ (b c : Buffers) (rs qs : List StatementRecord) (r : StatementRecord) (h : Head) (codes : List ℕ) (whole : Bool)
-    (packed : ArePacked b (places_of b rs))
-    (numbers : c.numbers.items ≡ b.numbers.items ++ codes) (hypotheses : c.hypotheses.items ≡ b.hypotheses.items) (asked : c.asked.items ≡ b.asked.items) (groups : c.groups.items ≡ b.groups.items)
-    (rows : c.rows.items ≡ b.rows.items)
-    (head : head_of r ≡ h) (kind : r.has_row ≡ false) (same_whole : r.whole ≡ whole) (from : r.from ≡ length b.numbers.items) (at : r.row ≡ length b.rows.items) (behind : qs ≡ rs ++ r ∷ []) where
-  none-at : slice_get c.rows.items r.row ≡ None
-  none-at = let l = ap length rows in slice_get_past c.rows.items r.row (omega (arith, l, at))
+  abbrev g : List BufferPart
+  g = take s.groups hs
 
-  none-there : slice_get c.rows.items (length b.rows.items) ≡ None
-  none-there = let l = ap length rows in slice_get_past c.rows.items (length b.rows.items) (omega (arith, l))
+  split : take n us ++ s ∷ drop (n + 1) us ≡ us
+  split =
+      ap (λ xs. take n us ++ xs) (sym (drop_more us n s (slice_get_within us n s here) ∙ ap (λ x. x ∷ drop (n + 1) us) (get_or_from_slice_get us n s s here)))
+      ∙ take-append-drop n us
 
-  plain-begins : Begins b c
-  plain-begins = record {
-    hypotheses = ap (hypotheses_by (length c.hypotheses.items)) none-there ∙ ap length hypotheses;
-    groups = ap (groups_by (length c.groups.items)) none-there ∙ ap length groups;
-  }
+  from-length : s.from ≡ length a
+  from-length = let k = (at-index ms hs us (entries_of ms hs us) n s packed.kept refl refl here).kept.placed in sym (length-take-le s.from ms (omega arith))
 
-  plain-placed : place_of c r (length c.numbers.items) ≡ plain_place r (length c.numbers.items) (length c.hypotheses.items) (length c.groups.items)
-  plain-placed =
-      ap (λ t. place_by t c r (length c.numbers.items)) kind
-      ∙ (ap (λ x. plain_place r (length c.numbers.items) (hypotheses_by (length c.hypotheses.items) x) (groups_at c r.row)) none-at
-      ∙ ap (λ x. plain_place r (length c.numbers.items) (length c.hypotheses.items) (groups_by (length c.groups.items) x)) none-at)
+  groups-length : s.groups ≡ length g
+  groups-length = let k = (at-index ms hs us (entries_of ms hs us) n s packed.kept refl refl here).kept.grouped in sym (length-take-le s.groups hs (omega arith))
 
-  pub added-plain : IsAdded b c (places_of b rs) (places_of c qs) (made h codes (partless whole))
-  added-plain =
-      let n = ap length numbers in let a = ap length hypotheses in let g = ap length groups in let l = ap length rows in let q = ap length asked in
-      let k = length-append b.numbers.items codes in
-      record {
-        last = plain_place r (length c.numbers.items) (length c.hypotheses.items) (length c.groups.items);
-        behind = ap (places_of c) behind ∙ (places-push b c rs r ([], rows ∙ sym (append-nil b.rows.items)) plain-begins from packed.within ∙ ap (λ x. places_of b rs ++ x ∷ []) plain-placed);
-        entry = made-same (head_of r) h r.whole whole _ codes _ [] _ [] _ [] _ []
-            head
-            same_whole
-            (range-behind b.numbers.items codes c.numbers.items c.numbers.items r.from (length c.numbers.items) from numbers refl (extends-refl c.numbers.items))
-            (range-none c.hypotheses.items (length c.hypotheses.items))
-            (range-none c.asked.items (length c.hypotheses.items))
-            (range-none c.numbers.items (length c.numbers.items))
-            (ap (cut (slice_range c.numbers.items (length c.numbers.items) (length c.numbers.items))) (range-none c.groups.items (length c.groups.items)));
-        within = record {
-          symbols = omega (arith, n, k, from);
-          heads = omega arith;
-          places = omega arith;
-          numbers = omega arith;
-          hypotheses = omega arith;
-          hypotheses_end = omega arith;
-          groups = omega arith;
-          groups_end = omega arith;
-          rows = omega arith;
-          rows_end = omega (arith, l, at);
-        };
-        grouped = subst (AreSpansIn (length c.numbers.items - length c.numbers.items)) (sym (range-none c.groups.items (length c.groups.items))) tt;
-        start = sizes-same r.from (length b.numbers.items) (length c.hypotheses.items) (length b.hypotheses.items) (length c.groups.items) (length b.groups.items) r.row (length b.rows.items) from a g at;
-        paired = q ∙ (packed.paired ∙ sym a);
-      }
+  kept-fewer : AreKept a g (take n us)
+  kept-fewer = kept-cut a ms g hs s (drop (n + 1) us) (extends-take s.from ms) (extends-take s.groups hs) from-length groups-length (take n us) (subst (AreKept ms hs) (sym split) packed.kept)
+
+  fewer-length : length (take n us) ≡ n
+  fewer-length = let w = slice_get_within us n s here in length-take-le n us (omega arith)
+
+  pub packed-fewer : ArePacked a g (take n us)
+  packed-fewer = record { kept = kept-fewer; few = let m = packed.few in let w = slice_get_within us n s here in let l = fewer-length in omega arith }
+
+  pub entries-fewer : entries_of a g (take n us) ≡ take n (entries_of ms hs us)
+  entries-fewer =
+      let es = entries_of a g (take n us) in
+      let more = entries_of ms hs (s ∷ drop (n + 1) us) in
+      let e = entries-before a ms g hs s (drop (n + 1) us) (extends-take s.from ms) (extends-take s.groups hs) from-length groups-length (take n us) kept-fewer in
+      sym (ap (λ xs. take n (entries_of ms hs xs)) (sym split) ∙ (ap (take n) e ∙ (ap (λ k. take k (es ++ more)) (sym (entries-length a g (take n us) ∙ fewer-length)) ∙ take-append_seam es more)))
 
 -- ---- what a growth answered
 

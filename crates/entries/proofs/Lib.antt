@@ -1,6 +1,4 @@
 pub mod SpanLemmas
-pub mod BufferPlaceLemmas
 pub mod StatementRecordLemmas
+pub mod BufferPlaceLemmas
 pub mod AddedStatement
-pub mod CutBuffers
-pub mod ReadLemmas

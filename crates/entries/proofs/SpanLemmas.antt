@@ -1,7 +1,7 @@
 -- Parts of a buffer.
-use Rattle.std.specs.Prelude.{◌≡◌, ℕ, zero, suc, ◌+◌, ◌-◌, ◌≤◌, List, [], ◌∷◌, ◌++◌, length, take, drop, reverse, slice_get, slice_range, Some, refl}
+use Rattle.std.specs.Prelude.{◌≡◌, ℕ, zero, suc, ◌-◌, ◌≤◌, List, [], ◌∷◌, ◌++◌, length, take, drop, reverse, slice_get, slice_range, Some, refl}
 use Rattle.std.proofs.Common.{◌∙◌, ap, sym, subst, arith, append-nil, append_assoc}
-use Rattle.std.proofs.lemmas.List.{length-append, length-drop, length-take-le, take-append-le, drop-append-le, take-append-drop, reverse-append}
+use Rattle.std.proofs.lemmas.List.{length-append, length-drop, take-append-le, drop-append-le, take-append-drop, reverse-append}
 use Rattle.std.proofs.Math.Seq.{take-append_seam, drop-append_seam}
 use Rattle.std.proofs.lemmas.Option.{same_Some}
 use Rattle.entries.specs.declared.buffer_part.BufferPart.{BufferPart}
@@ -23,19 +23,12 @@ range-more xs more from to p q =
 pub range-extends : {A : Type 0} (xs ys : List A) (from to : ℕ) → Extends xs ys → from ≤ to → to ≤ length xs → slice_range ys from to ≡ slice_range xs from to
 range-extends xs ys from to h p q = ap (λ zs. slice_range zs from to) h.1 ∙ range-more xs h.0 from to p q
 
--- the part between two others
-pub range-seam : {A : Type 0} (xs ys zs : List A) (from to : ℕ) → from ≡ length xs → to ≡ length xs + length ys → slice_range (xs ++ (ys ++ zs)) from to ≡ ys
-range-seam xs ys zs from to p q =
-    let k : to - from ≡ length ys = omega arith in
-    ap (λ n. take n (drop from (xs ++ (ys ++ zs)))) k ∙ (ap (λ n. take (length ys) (drop n (xs ++ (ys ++ zs)))) p ∙ (ap (take (length ys)) (drop-append_seam xs (ys ++ zs)) ∙ take-append_seam ys zs))
-
 -- what was put behind a list, with more behind it
 pub range-behind : {A : Type 0} (xs ys zs all : List A) (from to : ℕ) → from ≡ length xs → zs ≡ xs ++ ys → to ≡ length zs → Extends zs all → slice_range all from to ≡ ys
 range-behind xs ys zs all from to p e q h =
-    let l = length-append xs ys in
-    let m = ap length e in
+    let k : to - from ≡ length ys = let l = length-append xs ys in let m = ap length e in omega arith in
     let whole : all ≡ xs ++ (ys ++ h.0) = h.1 ∙ (ap (λ w. w ++ h.0) e ∙ append_assoc xs ys h.0) in
-    ap (λ w. slice_range w from to) whole ∙ range-seam xs ys h.0 from to p (omega arith)
+    rw (k, p, whole, drop-append_seam) (take-append_seam ys h.0)
 
 pub extends-refl : {A : Type 0} (a : List A) → Extends a a
 extends-refl a = ([], sym (append-nil a))
@@ -48,16 +41,6 @@ extends-length a b h = let l = length-append a h.0 in let m = ap length h.1 in o
 
 pub extends-take : {A : Type 0} (n : ℕ) (a : List A) → Extends (take n a) a
 extends-take n a = (drop n a, sym (take-append-drop n a))
-
-pub take-extends : {A : Type 0} (a b : List A) (n : ℕ) → n ≡ length a → Extends a b → take n b ≡ a
-take-extends a b n e h = ap (λ m. take m b) e ∙ (ap (take (length a)) h.1 ∙ take-append_seam a h.0)
-
--- a part that was read from a slice of a buffer
-pub part-of : {A : Type 0} (buffer slice part : List A) (from to : ℕ) → slice ≡ buffer → part ≡ slice_range slice from to → part ≡ slice_range buffer from to
-part-of buffer slice part from to e h = h ∙ ap (λ xs. slice_range xs from to) e
-
-pub length-range : {A : Type 0} (xs : List A) (from to : ℕ) → to ≤ length xs → length (slice_range xs from to) ≡ to - from
-length-range xs from to p = let d = length-drop from xs in let t = length-take-le (to - from) (drop from xs) (omega arith) in t
 
 spans-append : (n : ℕ) (a b : List BufferPart) → AreSpansIn n a → AreSpansIn n b → AreSpansIn n (a ++ b)
 spans-append n [] b h k = k

@@ -1,7 +1,7 @@
 -- A statement as numbers, as plain lists.
 -- Metamath, 4.2.6 and 4.2.7: an assertion is cited by what it asks of its hypotheses. What the numbers mean is said in `frame`.
 -- The code keeps the lists of all statements in a few buffers.
-use Rattle.std.specs.Prelude.{◌≡◌, ℕ, Bool, true, false, List, [], length, slice_get, Some}
+use Rattle.std.specs.Prelude.{◌≡◌, ℕ, Bool, true, false, List, [], length, map, slice_get, Some}
 use Rattle.entries.specs.declared.cited_parts.Hypothesis.{Hypothesis}
 use Rattle.entries.specs.declared.cited_parts.Cited.{Cited}
 use Rattle.entries.specs.declared.links.Links.{Links}
@@ -9,6 +9,7 @@ use Rattle.entries.specs.declared.kind.Kind.{Kind}
 use Rattle.entries.specs.declared.head.Head.{Head}
 use Rattle.entries.specs.declared.parts.AssertionParts.{AssertionParts}
 use Rattle.entries.specs.declared.entry_ref.EntryRef.{EntryRef}
+use Rattle.entries.specs.Hypotheses.{told}
 use Rattle.entries.specs.Stored.Spans.{cut, AreSpansIn}
 
 -- hypotheses by position, what each is and its first symbol, and groups of variables; of most statements all lists are empty.
@@ -31,11 +32,12 @@ pub record Entry : Type 0 where
 
 -- the parts of an assertion that is added
 abbrev pub assertion_of : AssertionParts → Assertion
-assertion_of p = record { whole = p.whole; hypotheses = p.hypotheses.now; asked = p.asked.now; heads = p.heads.now; groups = cut p.places.now p.groups.now }
+assertion_of p = record { whole = p.whole; hypotheses = p.hypotheses.now; asked = map told p.asked.now; heads = p.heads.now; groups = cut p.places.now p.groups.now }
 
--- of each hypothesis it is said what it is, and the groups are parts of the places
+-- of each hypothesis it is said what it is and how it begins, and the groups are parts of the places
 pub record AreShapedParts (p : AssertionParts) : Type 0 where
   pub paired : length p.asked.now ≡ length p.hypotheses.now
+  pub headed : length p.heads.now ≡ length p.hypotheses.now
   pub grouped : AreSpansIn (length p.places.now) p.groups.now
 
 -- the statement with this head, these symbols and these parts
@@ -58,7 +60,7 @@ seen x a = record { kind = x.kind; label = x.label; names = x.names; links = x.l
 pub record AreWhole (e : Entry) (c : Cited) : Type 0 where
   pub whole : e.assertion.whole ≡ true
   pub heads : c.heads.now ≡ e.assertion.heads
-  pub hypotheses : c.hypotheses.now ≡ e.assertion.asked
+  pub hypotheses : c.hypotheses ≡ e.assertion.asked
   pub conclusion : c.conclusion.now ≡ e.symbols
   pub groups : c.groups ≡ e.assertion.groups
 

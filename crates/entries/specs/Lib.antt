@@ -1,2 +1,3 @@
+pub mod Hypotheses
 pub mod Entries
 pub mod Stored

@@ -1,9 +1,17 @@
 //! What a verifier reads of an assertion that is cited.
+ghost use Rattle.std.specs.Prelude.{◌≡◌, ◌<◌, length, map, slice_get, Some, IfOk};
+ghost use Rattle.entries.specs.Hypotheses.{told};
 
+use crate::buffer_part::item;
 use crate::groups::Groups;
+use std::alloc::AllocError;
+use std::marker::Model;
 
 /// The head of an expression that has no symbols. No symbol has this number.
 pub const NO_HEAD: u32 = u32::MAX;
+
+/// From this number on a number tells a `$e` by its position, below it a `$f` by its variable.
+pub const ESSENTIALS: u32 = 0x8000_0000;
 
 /// A mandatory hypothesis, by numbers of symbols.
 #[derive(Clone, Copy, Debug, Drop, PartialEq, Eq)]
@@ -14,13 +22,77 @@ pub enum Hypothesis {
     Essential(u32),
 }
 
+/// The hypothesis as one number. A variable or a position that does not fit beside the other kind is want of memory.
+pub fn number_of(hypothesis: Hypothesis) -> Result<u32, AllocError>
+    ensures { IfOk result (λ n. told n ≡ hypothesis) }
+{
+    match hypothesis {
+        Hypothesis::Float(variable) if variable < ESSENTIALS => Ok(variable),
+        Hypothesis::Essential(position) if position < ESSENTIALS => Ok(ESSENTIALS + position),
+        _ => Err(AllocError),
+    }
+}
+
+/// Hypotheses, each as one number. Contracts see the list of the hypotheses.
+#[derive(Drop)]
+pub struct Hypotheses<'a> {
+    numbers: &'a [u32],
+}
+
+impl<'a> Model for Hypotheses<'a> {
+    ghost use Rattle.std.specs.Prelude.{List, map};
+    ghost use Rattle.entries.specs.declared.cited_parts.Hypothesis.{Hypothesis};
+    ghost use Rattle.entries.specs.Hypotheses.{told};
+
+    ghost Value = { List Hypothesis };
+
+    ghost view = { λ a. map told a.numbers.now };
+}
+
+impl<'a> Hypotheses<'a> {
+    /// Those that these numbers tell.
+    pub fn new(numbers: &'a [u32]) -> Hypotheses<'a>
+        ensures { result ≡ map told numbers.now }
+    {
+        Hypotheses { numbers }
+    }
+
+    /// How many there are.
+    pub fn len(&self) -> usize
+        ensures { result ≡ length self.now }
+    {
+        self.numbers.len()
+    }
+
+    /// The hypothesis at an index, from 0.
+    #[inline(always)]
+    pub fn get(&self, index: usize) -> Hypothesis
+        requires { index < length self.now }
+        ensures { slice_get self.now index ≡ Some result }
+    {
+        hypothesis_of(item(self.numbers, index))
+    }
+}
+
+/// The hypothesis that a number tells.
+#[inline(always)]
+fn hypothesis_of(number: u32) -> Hypothesis
+    ensures { result ≡ told number }
+{
+    if number < ESSENTIALS {
+        Hypothesis::Float(number)
+    } else {
+        Hypothesis::Essential(number - ESSENTIALS)
+    }
+}
+
 /// An assertion by numbers of symbols.
 #[derive(Drop)]
 pub struct Cited<'a> {
     /// The first symbol of each mandatory hypothesis, in order.
     pub heads: &'a [u32],
     /// What each is, in order.
-    pub hypotheses: &'a [Hypothesis],
+    pub hypotheses: Hypotheses<'a>,
     /// Its expression.
     pub conclusion: &'a [u32],
     /// The variables whose images are kept apart, each two of a group.

@@ -1,43 +1,51 @@
 //! The statements of a database as numbers, by position.
 ghost use Rattle.std.specs.Prelude.{◌≡◌, ◌≤◌, ◌<◌, ◌+◌, ◌^◌, ◌++◌, ◌∷◌, [], length, take, slice_get, Some, OnOk, OnErr, IfOk, IfSome, true};
-ghost use Rattle.entries.specs.Entries.{Entry, IsEntry, AreWhole, AreShapedParts, assertion_of, made, partless, plain};
-ghost use Rattle.entries.specs.Stored.Records.{IsAdded, IsRowOf, ArePacked, Grows, AreEnds, places_of};
+ghost use Rattle.entries.specs.Entries.{Entry, IsEntry, AreWhole, AreShapedParts, assertion_of, made, plain};
+ghost use Rattle.entries.specs.Stored.Records.{IsPlaced, IsStored, has_parts, layout_in, record_by, run_by, run_of};
 ghost use Rattle.entries.specs.Stored.Spans.{Extends};
 
-use crate::buffer_part::{item, part, place};
-use crate::cited_parts::Cited;
+use crate::buffer_part::{BufferPart, item, part, place};
+use crate::cited_parts::{Cited, Hypotheses};
 use crate::entry_ref::EntryRef;
 use crate::groups::Groups;
 use crate::head::Head;
+use crate::layout::{Layout, assertion_layout, counts, lay};
 use crate::parts::AssertionParts;
-use crate::sizes::{cut, sizes_before, sizes_now};
-use crate::statement_record::{
-    AssertionRow, Buffers, StatementRecord, record_of, row_of, symbols_end,
-};
+use crate::statement_record::{StatementRecord, record_of};
 use std::alloc::{AllocError, Global};
 use std::marker::Model;
 
 /// Statements as numbers. Contracts see the list of them, with plain lists for their parts.
 ///
-/// Inside the parts of all statements stand in a few buffers; a statement is one record of fixed size, and one that has
-/// hypotheses or groups has a row beside.
+/// Inside, a statement is one record of fixed size, and the numbers of all stand in one buffer: so what a citation reads
+/// of an assertion lies side by side. Groups are kept beside, since few assertions have them.
 #[derive(Drop)]
 pub struct Entries {
     records: Vec<StatementRecord>,
-    buffers: Buffers,
+    numbers: Vec<u32>,
+    groups: Vec<BufferPart>,
+}
+
+/// What is kept of one statement: its record, its numbers, where its parts stand among them, and its groups.
+#[derive(Clone, Copy, Drop)]
+struct Stored<'a> {
+    kept: StatementRecord,
+    numbers: &'a [u32],
+    at: Layout,
+    groups: &'a [BufferPart],
 }
 
 impl Model for Entries {
-    ghost use Rattle.std.specs.Prelude.{List, map};
+    ghost use Rattle.std.specs.Prelude.{List};
     ghost use Rattle.entries.specs.Entries.{Entry};
 
     ghost Value = { List Entry };
 
-    ghost use Rattle.entries.specs.Stored.Records.{entry_of, places_of, ArePacked};
+    ghost use Rattle.entries.specs.Stored.Records.{entries_of, ArePacked};
 
-    ghost view = { λ a. map (entry_of a.buffers) (places_of a.buffers a.records.items) };
+    ghost view = { λ a. entries_of a.numbers.items a.groups.items a.records.items };
 
-    ghost invariant = { λ a. ArePacked a.buffers (places_of a.buffers a.records.items) };
+    ghost invariant = { λ a. ArePacked a.numbers.items a.groups.items a.records.items };
 }
 
 impl Entries {
@@ -47,13 +55,8 @@ impl Entries {
     {
         Entries {
             records: Vec::new(alloc),
-            buffers: Buffers {
-                numbers: Vec::new(alloc),
-                hypotheses: Vec::new(alloc),
-                asked: Vec::new(alloc),
-                groups: Vec::new(alloc),
-                rows: Vec::new(alloc),
-            },
+            numbers: Vec::new(alloc),
+            groups: Vec::new(alloc),
         }
     }
 
@@ -70,21 +73,18 @@ impl Entries {
         requires { index < length self.now }
         ensures { IsEntry self.now index result }
     {
-        let kept = item(&self.records, index);
-        let numbers = self.buffers.numbers.as_slice();
-        let to = symbols_end(
-            &self.buffers.rows,
-            &self.records,
-            index,
+        let Stored {
             kept,
-            numbers.len(),
-        );
+            numbers,
+            at,
+            ..
+        } = self.stored(index);
         EntryRef {
             kind: kept.kind,
             label: kept.label,
             names: kept.names,
             links: kept.links,
-            symbols: part(numbers, kept.from, to),
+            symbols: part(numbers, at.symbols, at.hypotheses),
         }
     }
 
@@ -93,9 +93,8 @@ impl Entries {
         requires { index < length self.now }
         ensures { (e : Entry) → slice_get self.now index ≡ Some e → result.now ≡ e.assertion.hypotheses }
     {
-        let row = row_of(&self.buffers.rows, item(&self.records, index));
-        let hypotheses = self.buffers.hypotheses.as_slice();
-        part(hypotheses, row.hypotheses_from, row.hypotheses)
+        let Stored { numbers, at, .. } = self.stored(index);
+        part(numbers, at.hypotheses, at.places)
     }
 
     /// Whether the parts of the assertion at an index are whole.
@@ -103,7 +102,7 @@ impl Entries {
         requires { index < length self.now }
         ensures { (e : Entry) → slice_get self.now index ≡ Some e → result ≡ e.assertion.whole }
     {
-        row_of(&self.buffers.rows, item(&self.records, index)).whole
+        self.stored(index).kept.whole
     }
 
     /// The parts of the assertion at an index, where they are whole.
@@ -111,20 +110,38 @@ impl Entries {
         requires { index < length self.now }
         ensures { (e : Entry) → slice_get self.now index ≡ Some e → IfSome result (AreWhole e) }
     {
-        let row = row_of(&self.buffers.rows, item(&self.records, index));
-        let numbers = self.buffers.numbers.as_slice();
-        if row.whole {
-            Some(Cited {
-                heads: part(numbers, row.symbols, row.heads),
-                hypotheses: part(&self.buffers.asked, row.hypotheses_from, row.hypotheses),
-                conclusion: self.entry(index).symbols,
-                groups: Groups {
-                    spans: part(&self.buffers.groups, row.groups_from, row.groups),
-                    places: part(numbers, row.heads, row.places),
-                },
-            })
-        } else {
-            None
+        let Stored {
+            kept,
+            numbers,
+            at,
+            groups,
+        } = self.stored(index);
+        if !kept.whole {
+            return None;
+        }
+        Some(Cited {
+            heads: part(numbers, at.heads, at.asked),
+            hypotheses: Hypotheses::new(part(numbers, at.asked, at.symbols)),
+            conclusion: part(numbers, at.symbols, at.hypotheses),
+            groups: Groups::new(groups, part(numbers, at.places, at.end)),
+        })
+    }
+
+    /// What is kept of the statement at an index.
+    #[inline(always)]
+    fn stored(&self, index: usize) -> Stored<'_>
+        requires { index < length self.now }
+        ensures { IsStored (slice_get self.now index) result }
+    {
+        let kept = item(&self.records, index);
+        let (numbers, at) = run_at(&self.records, &self.numbers, index, kept);
+        let from = kept.groups as usize;
+        let groups = part(&self.groups, from, from + at.groups);
+        Stored {
+            kept,
+            numbers,
+            at,
+            groups,
         }
     }
 
@@ -134,11 +151,24 @@ impl Entries {
         ensures added { OnOk result (self.new ≡ self.old ++ made head parts.now.symbols.now (assertion_of parts.now) ∷ []) }
         ensures same { OnErr result (self.new ≡ self.old) }
     {
-        if is_partless(parts) {
-            self.push_partless(head, parts.symbols, parts.whole)
-        } else {
-            self.push_parts(head, parts)
+        let count = self.records.len();
+        if count + 2 >= u32::MAX as usize {
+            return Err(AllocError);
         }
+        let from = self.numbers.len();
+        let groups = self.groups.len();
+        let added = add(
+            &mut self.records,
+            &mut self.numbers,
+            &mut self.groups,
+            head,
+            parts,
+        );
+        if added.is_err() {
+            self.numbers.truncate(from);
+            self.groups.truncate(groups);
+        }
+        added
     }
 
     /// Adds a statement that has no parts of an assertion, with these symbols. Where a growth is refused, everything is
@@ -147,42 +177,16 @@ impl Entries {
         ensures added { OnOk result (self.new ≡ self.old ++ plain head codes.now ∷ []) }
         ensures same { OnErr result (self.new ≡ self.old) }
     {
-        self.push_partless(head, codes, false)
-    }
-
-    /// Adds a statement with its parts.
-    fn push_parts(&mut self, head: Head, parts: &AssertionParts<'_>) -> Result<(), AllocError>
-        requires { AreShapedParts parts.now }
-        ensures added { OnOk result (self.new ≡ self.old ++ made head parts.now.symbols.now (assertion_of parts.now) ∷ []) }
-        ensures same { OnErr result (self.new ≡ self.old) }
-    {
-        let count = self.records.len();
-        if count + 2 >= u32::MAX as usize {
-            return Err(AllocError);
-        }
-        let before = sizes_now(&self.buffers);
-        let added = add(&mut self.records, &mut self.buffers, head, parts);
-        if added.is_err() {
-            cut(&mut self.buffers, before);
-        }
-        added
-    }
-
-    /// Adds a statement without parts, which takes a record alone.
-    fn push_partless(&mut self, head: Head, codes: &[u32], whole: bool) -> Result<(), AllocError>
-        ensures added { OnOk result (self.new ≡ self.old ++ made head codes.now (partless whole) ∷ []) }
-        ensures same { OnErr result (self.new ≡ self.old) }
-    {
-        let count = self.records.len();
-        if count + 2 >= u32::MAX as usize {
-            return Err(AllocError);
-        }
-        let before = sizes_now(&self.buffers);
-        let added = add_plain(&mut self.records, &mut self.buffers, head, codes, whole);
-        if added.is_err() {
-            cut(&mut self.buffers, before);
-        }
-        added
+        let parts = AssertionParts {
+            whole: false,
+            symbols: codes,
+            hypotheses: &[],
+            asked: &[],
+            heads: &[],
+            places: &[],
+            groups: &[],
+        };
+        self.push(head, &parts)
     }
 
     /// Keeps the first `len` statements. It takes no memory.
@@ -190,141 +194,108 @@ impl Entries {
         ensures { self.new ≡ take len self.old }
     {
         if len < self.records.len() {
-            let before = sizes_before(&self.buffers, item(&self.records, len));
-            cut(&mut self.buffers, before);
+            let first = item(&self.records, len);
+            self.numbers.truncate(first.from);
+            self.groups.truncate(first.groups as usize);
             self.records.truncate(len);
         }
     }
 }
 
-/// Whether there are no hypotheses and no groups.
-fn is_partless(parts: &AssertionParts<'_>) -> bool
-    ensures { result ≡ true → assertion_of parts.now ≡ partless parts.now.whole }
+/// The numbers of the statement at an index, which has this record, and where its parts stand among them.
+#[inline(always)]
+fn run_at<'a>(
+    records: &[StatementRecord],
+    numbers: &'a [u32],
+    index: usize,
+    kept: StatementRecord,
+) -> (&'a [u32], Layout)
+    requires within { index < length records.now }
+    requires placed { IsPlaced numbers.now kept (slice_get records.now (index + 1)) }
+    ensures numbers { result.0.now ≡ run_by numbers.now kept (slice_get records.now (index + 1)) }
+    ensures at { result.1 ≡ layout_in kept.has_parts result.0.now }
 {
-    parts.hypotheses.is_empty()
-        && parts.asked.is_empty()
-        && parts.heads.is_empty()
-        && parts.groups.is_empty()
+    if kept.has_parts {
+        let rest = part(numbers, kept.from, numbers.len());
+        let at = assertion_layout(rest);
+        return (part(rest, 0, at.end), at);
+    }
+    let end = match records.get(index + 1) {
+        Some(next) => next.from,
+        None => numbers.len(),
+    };
+    (
+        part(numbers, kept.from, end),
+        lay(0, 0, end - kept.from, 0, 0),
+    )
 }
 
-/// Adds a statement's parts behind the others, with their row, and its record.
+/// Adds a statement's parts behind the others, and its record.
 fn add(
     records: &mut Vec<StatementRecord>,
-    buffers: &mut Buffers,
+    numbers: &mut Vec<u32>,
+    groups: &mut Vec<BufferPart>,
     head: Head,
     parts: &AssertionParts<'_>,
 ) -> Result<(), AllocError>
-    requires shaped { AreShapedParts parts.now }
-    requires packed { ArePacked buffers.old (places_of buffers.old records.old.items) }
-    ensures added { OnOk result (IsAdded buffers.old buffers.new (places_of buffers.old records.old.items) (places_of buffers.new records.new.items) (made head parts.now.symbols.now (assertion_of parts.now))) }
-    ensures grows { Grows buffers.old buffers.new }
+    ensures added { OnOk result (numbers.new.items ≡ numbers.old.items ++ run_of (has_parts parts.now) parts.now) }
+    ensures groups { OnOk result (groups.new.items ≡ groups.old.items ++ parts.now.groups.now) }
+    ensures last { OnOk result (records.new.items ≡ records.old.items ++ record_by head (has_parts parts.now) parts.now.whole (length numbers.old.items) (length groups.old.items) ∷ []) }
     ensures same { OnErr result (records.new.items ≡ records.old.items) }
-{
-    let from = buffers.numbers.len();
-    let row = place(buffers.rows.len())?;
-    let last = add_parts(buffers, parts)?;
-    add_last(&mut buffers.rows, last)?;
-    add_last(records, record_of(head, true, parts.whole, from, row))
-}
-
-/// Adds a statement that has no parts of an assertion, and its record.
-fn add_plain(
-    records: &mut Vec<StatementRecord>,
-    buffers: &mut Buffers,
-    head: Head,
-    codes: &[u32],
-    whole: bool,
-) -> Result<(), AllocError>
-    requires packed { ArePacked buffers.old (places_of buffers.old records.old.items) }
-    ensures added { OnOk result (IsAdded buffers.old buffers.new (places_of buffers.old records.old.items) (places_of buffers.new records.new.items) (made head codes.now (partless whole))) }
-    ensures grows { Grows buffers.old buffers.new }
-    ensures same { OnErr result (records.new.items ≡ records.old.items) }
-{
-    let from = buffers.numbers.len();
-    let row = place(buffers.rows.len())?;
-    append(&mut buffers.numbers, codes)?;
-    add_last(records, record_of(head, false, whole, from, row))
-}
-
-/// Adds a record or a row.
-fn add_last<T: Copy>(items: &mut Vec<T>, last: T) -> Result<(), AllocError>
-    ensures ok { OnOk result (items.new.items ≡ items.old.items ++ last ∷ []) }
-    ensures err { OnErr result (items.new.items ≡ items.old.items) }
-{
-    if items.len() == items.capacity() {
-        widen(items);
-    }
-    items.push(last)?;
-    Ok(())
-}
-
-/// Adds the parts of an assertion behind the others, and tells where they stand.
-fn add_parts(buffers: &mut Buffers, parts: &AssertionParts<'_>) -> Result<AssertionRow, AllocError>
-    requires shaped { AreShapedParts parts.now }
-    requires paired { length buffers.old.asked.items ≡ length buffers.old.hypotheses.items }
-    ensures added { IfOk result (λ w. IsRowOf buffers.old buffers.new parts.now w) }
-    ensures grows { Grows buffers.old buffers.new }
-    ensures same { buffers.new.rows.items ≡ buffers.old.rows.items }
-{
-    let ends = add_numbers(&mut buffers.numbers, parts)?;
-    let hypotheses_from = buffers.hypotheses.len();
-    let hypotheses = append(&mut buffers.hypotheses, parts.hypotheses)?;
-    append(&mut buffers.asked, parts.asked)?;
-    let groups_from = buffers.groups.len();
-    let groups = append(&mut buffers.groups, parts.groups)?;
-    Ok(AssertionRow {
-        whole: parts.whole,
-        symbols: ends.symbols,
-        heads: ends.heads,
-        places: ends.places,
-        hypotheses_from,
-        hypotheses,
-        groups_from,
-        groups,
-    })
-}
-
-/// Where the numbers of a statement end, one part behind the other.
-#[derive(Clone, Copy, Drop)]
-pub struct Ends {
-    pub from: usize,
-    pub symbols: usize,
-    pub heads: usize,
-    pub places: usize,
-}
-
-/// Adds a statement's numbers behind the others.
-fn add_numbers(numbers: &mut Vec<u32>, parts: &AssertionParts<'_>) -> Result<Ends, AllocError>
-    ensures added { IfOk result (λ ends. AreEnds numbers.old.items numbers.new.items parts.now ends) }
-    ensures grows { Extends numbers.old.items numbers.new.items }
+    ensures more { Extends numbers.old.items numbers.new.items }
+    ensures more_groups { Extends groups.old.items groups.new.items }
 {
     let from = numbers.len();
-    let symbols = append(numbers, parts.symbols)?;
-    let heads = append(numbers, parts.heads)?;
-    let places = append(numbers, parts.places)?;
-    Ok(Ends {
-        from,
-        symbols,
-        heads,
-        places,
-    })
+    let first = place(groups.len())?;
+    let has_parts = parts.hypotheses.len() + parts.groups.len() > 0;
+    let record = record_of(head, has_parts, parts.whole, from, first);
+    append(groups, parts.groups)?;
+    add_numbers(numbers, parts, has_parts)?;
+    append(records, &[record])
 }
 
-/// Adds items, and tells where they end.
+/// Adds the numbers of an assertion with its parts, or the symbols alone.
+fn add_numbers(
+    numbers: &mut Vec<u32>,
+    parts: &AssertionParts<'_>,
+    has_parts: bool,
+) -> Result<(), AllocError>
+    ensures added { OnOk result (numbers.new.items ≡ numbers.old.items ++ run_of has_parts parts.now) }
+    ensures more { Extends numbers.old.items numbers.new.items }
+{
+    if !has_parts {
+        return append(numbers, parts.symbols);
+    }
+    append_both(numbers, &counts(parts)?, parts.heads)?;
+    append_both(numbers, parts.asked, parts.symbols)?;
+    append_both(numbers, parts.hypotheses, parts.places)
+}
+
+/// Adds both lists at the end.
 #[inline(always)]
-fn append<T: Copy>(buffer: &mut Vec<T>, items: &[T]) -> Result<usize, AllocError>
+fn append_both(buffer: &mut Vec<u32>, first: &[u32], second: &[u32]) -> Result<(), AllocError>
+    ensures ok { OnOk result (buffer.new.items ≡ (buffer.old.items ++ first.now) ++ second.now) }
+    ensures grows { Extends buffer.old.items buffer.new.items }
+{
+    append(buffer, first)?;
+    append(buffer, second)
+}
+
+/// Adds items at the end.
+#[inline(always)]
+fn append<T: Copy>(buffer: &mut Vec<T>, items: &[T]) -> Result<(), AllocError>
     ensures ok { OnOk result (buffer.new.items ≡ buffer.old.items ++ items.now) }
-    ensures place { IfOk result (λ n. n ≡ length buffer.new.items) }
+    ensures err { OnErr result (buffer.new.items ≡ buffer.old.items) }
     ensures grows { Extends buffer.old.items buffer.new.items }
 {
     if items.is_empty() {
-        return Ok(buffer.len());
+        return Ok(());
     }
     if buffer.capacity() - buffer.len() < items.len() {
         widen(buffer);
     }
     buffer.extend_from_slice(items)?;
-    Ok(buffer.len())
+    Ok(())
 }
 
 /// Asks for fifteen times the room of what a full buffer has: so little is copied while it grows, and little

@@ -2,7 +2,7 @@
 //!
 //! `Entries` is seen as a list of statements, each with plain lists for its parts; inside, the parts of all stand in a few
 //! buffers. The crate above says which names the numbers stand for. Reading order: `kind`, `links`, `head`, `buffer_part`,
-//! `groups`, `cited_parts`, `parts`, `entry_ref`; `statement_record`, `sizes`, `entries`.
+//! `groups`, `cited_parts`, `parts`, `entry_ref`; `layout`, `statement_record`, `entries`.
 #![tactic(auto)]
 
 pub mod buffer_part;
@@ -12,13 +12,13 @@ mod entry_ref;
 mod groups;
 mod head;
 mod kind;
+mod layout;
 mod links;
 mod parts;
-mod sizes;
 mod statement_record;
 
 pub use buffer_part::BufferPart;
-pub use cited_parts::{Cited, Hypothesis, NO_HEAD};
+pub use cited_parts::{Cited, Hypotheses, Hypothesis, NO_HEAD, number_of};
 pub use entries::Entries;
 pub use entry_ref::EntryRef;
 pub use groups::Groups;

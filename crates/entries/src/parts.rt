@@ -1,6 +1,5 @@
 //! The parts of a statement that is added.
 use crate::buffer_part::BufferPart;
-use crate::cited_parts::Hypothesis;
 
 /// A statement's symbols, and the parts of an assertion. Most other statements have none.
 #[derive(Clone, Copy, Drop)]
@@ -11,8 +10,8 @@ pub struct AssertionParts<'a> {
     pub symbols: &'a [u32],
     /// The positions of its hypotheses, in order.
     pub hypotheses: &'a [u32],
-    /// What each is.
-    pub asked: &'a [Hypothesis],
+    /// What each is, as `cited_parts::number_of` has it.
+    pub asked: &'a [u32],
     /// The first symbol of each.
     pub heads: &'a [u32],
     /// The variables whose images are kept apart, one group behind the other.

@@ -1,0 +1,75 @@
+//! Where the parts of a statement stand among its numbers.
+ghost use Rattle.std.specs.Prelude.{◌≡◌, ◌≤◌, ◌<◌, ◌^◌, length, IfOk, true};
+ghost use Rattle.entries.specs.Stored.Records.{laid, layout_in, counts_of};
+ghost use Rattle.entries.specs.declared.layout.TheConstants.{COUNTS};
+
+use crate::buffer_part::{item, place};
+use crate::parts::AssertionParts;
+use std::alloc::AllocError;
+
+/// So many numbers stand before the parts of an assertion: how many hypotheses, symbols, groups and variables of groups it has.
+pub const COUNTS: usize = 4;
+
+/// Where each part of a statement begins among its numbers, one behind the other, and where the last one ends.
+#[derive(Clone, Copy, Drop)]
+pub struct Layout {
+    /// The first symbols of its hypotheses.
+    pub heads: usize,
+    /// What its hypotheses are.
+    pub asked: usize,
+    /// Its symbols.
+    pub symbols: usize,
+    /// The positions of its hypotheses.
+    pub hypotheses: usize,
+    /// The variables of its groups.
+    pub places: usize,
+    pub end: usize,
+    /// How many groups it has.
+    pub groups: usize,
+}
+
+/// The layout of so many hypotheses, symbols, groups and variables of groups, the first part of which begins there.
+#[inline(always)]
+pub fn lay(heads: usize, count: usize, symbols: usize, groups: usize, places: usize) -> Layout
+    requires { (laid heads count symbols groups places).end < 2 ^ 64 }
+    ensures { result ≡ laid heads count symbols groups places }
+{
+    let asked = heads + count;
+    let hypotheses = asked + count + symbols;
+    Layout {
+        heads,
+        asked,
+        symbols: asked + count,
+        hypotheses,
+        places: hypotheses + count,
+        end: hypotheses + count + places,
+        groups,
+    }
+}
+
+/// The layout of an assertion whose numbers begin here.
+#[inline(always)]
+pub fn assertion_layout(numbers: &[u32]) -> Layout
+    requires { COUNTS ≤ length numbers.now }
+    ensures { result ≡ layout_in true numbers.now }
+{
+    lay(
+        COUNTS,
+        item(numbers, 0) as usize,
+        item(numbers, 1) as usize,
+        item(numbers, 2) as usize,
+        item(numbers, 3) as usize,
+    )
+}
+
+/// What stands before the parts.
+pub fn counts(parts: &AssertionParts<'_>) -> Result<[u32; COUNTS], AllocError>
+    ensures { IfOk result (λ counts. counts ≡ counts_of parts.now) }
+{
+    Ok([
+        place(parts.hypotheses.len())?,
+        place(parts.symbols.len())?,
+        place(parts.groups.len())?,
+        place(parts.places.len())?,
+    ])
+}
