@@ -6,7 +6,7 @@ use Rattle.std.proofs.lemmas.Slice.Eq.{bytes_eq-Decides}
 use Rattle.std.proofs.lemmas.Bool.{or_left, or_right}
 use Rattle.mm_lex.specs.Alphabet.{Name, name_eq}
 use Rattle.mm_read.specs.declared.stmt.Stmt.{Stmt}
-use Rattle.mm_read.specs.declared.stmt.Stmt.TheVariants.{Open, Close, Const, Var, Disj, Float, Ess, Axiom, Prove}
+use Rattle.mm_read.specs.declared.stmt.Stmt.TheVariants.{Open, Close}
 use Rattle.mm_read.specs.Statements.{Database}
 use Rattle.scope.specs.Active.{stays_open, active_from}
 use Rattle.frame.proofs.OpenLemmas.{stays_open-any}
@@ -76,10 +76,4 @@ open_both d [] U h k = stays_open-any d U k
 open_both d (Open ∷ T) U h k = open_both (suc d) T U h k
 open_both zero (Close ∷ T) U h k = cc
 open_both (suc d) (Close ∷ T) U h k = open_both d T U h k
-open_both d (Const ws ∷ T) U h k = open_both d T U h k
-open_both d (Var ws ∷ T) U h k = open_both d T U h k
-open_both d (Disj ws ∷ T) U h k = open_both d T U h k
-open_both d (Float l c v ∷ T) U h k = open_both d T U h k
-open_both d (Ess l e ∷ T) U h k = open_both d T U h k
-open_both d (Axiom l e ∷ T) U h k = open_both d T U h k
-open_both d (Prove l e p ∷ T) U h k = open_both d T U h k
+open_both d (s ∷ T) U h k = open_both d T U h k

@@ -5,7 +5,7 @@ use Rattle.mm_read.specs.declared.stmt.Stmt.{Stmt}
 use Rattle.mm_read.specs.Statements.{Database}
 use Rattle.scope.specs.Active.{stays_open, active_from}
 use Rattle.entries.specs.Entries.{Entry}
-use Rattle.frame.specs.Stored.EntryMeanings.{last_from}
+use Rattle.frame.specs.Stored.EntryMeanings.{last_from, last_where}
 use Rattle.frame.specs.Stored.Hypotheses.{In, AreAbove, Ascends}
 
 -- ---- the last entry that passes a test
@@ -47,6 +47,20 @@ last-is test found at (e ∷ es) = by (test e) refl (last-is test at (at + 1) es
         none : (j : ℕ) (x : Entry) → slice_get (e ∷ es) j ≡ Some x → test x ≡ false
         none zero x g = let same : e ≡ x = cc in ap test (sym same) ∙ t
         none (suc j) x g = n.0.fails j x g
+
+pub last-none : (test : Entry → Bool) (es : List Entry) → last_where test es ≡ 0 → NoneOf test es
+last-none test es z = by (last-is test 0 1 es)
+  where
+    by : (NoneOf test es × (last_where test es ≡ 0)) ⊎ LastAt test 1 es (last_where test es) → NoneOf test es
+    by (inl n) = n.0
+    by (inr l) = let is = l.is in absurd (omega (arith, is, z))
+
+pub last-some : (test : Entry → Bool) (es : List Entry) (p : ℕ) → p ≡ last_where test es → (p ≡ 0 → ⊥) → LastAt test 1 es p
+last-some test es p h some = by (last-is test 0 1 es)
+  where
+    by : (NoneOf test es × (last_where test es ≡ 0)) ⊎ LastAt test 1 es (last_where test es) → LastAt test 1 es p
+    by (inl n) = absurd (some (h ∙ n.1))
+    by (inr l) = subst (LastAt test 1 es) (sym h) l
 
 -- ---- the active statements that pass a test, by position
 

@@ -1,5 +1,5 @@
 -- Two images are apart just where no variable stands in both, if one active `$d` lists the variables of both.
-use Rattle.std.specs.Prelude.{◌≡◌, ℕ, ◌+◌, ◌<◌, ◌%◌, Bool, true, false, not, ◌||◌, ◌&&◌, ◌==◌, take, List, [], ◌∷◌, zero, suc, length, map, get_or, slice_index_or, slice_set, refl}
+use Rattle.std.specs.Prelude.{◌≡◌, ℕ, ◌+◌, ◌<◌, ◌%◌, Bool, true, false, not, ◌||◌, ◌&&◌, ◌==◌, take, List, [], ◌∷◌, zero, suc, length, map, filter, cond, get_or, slice_index_or, slice_set, refl}
 use Rattle.std.specs.List.{list_all, list_any}
 use Rattle.std.proofs.Common.{sym, ◌∙◌, ap, arith, true≢false}
 use Rattle.std.proofs.lemmas.Bool.{and_parts, and_from, or_left, or_right, or_from, or_parts, not_from_false, false_from_ne_true}
@@ -57,6 +57,14 @@ repeat-passes p f (y ∷ xs) x h k =
     by true e k rest = let same : x ≡ y = grind (arith, e) in ap (λ n. p (f n)) same ∙ (and_parts (p (f y)) (list_all p (map f xs)) h).0
     by false e k rest = rest k
 
+-- ---- all names of a list
+
+pub all-from : (p : Name → Bool) (xs : List Name) → ((x : Name) → has_name x xs ≡ true → p x ≡ true) → list_all p xs ≡ true
+all-from p [] h = refl
+all-from p (y ∷ xs) h =
+    and_from (p y) (list_all p xs) (h y (or_left (name_eq y y) (has_name y xs) (name_same y)))
+    (all-from p xs (λ x k. h x (or_right (name_eq x y) (has_name x xs) k)))
+
 pub all-true : {A : Type 0} (p : A → Bool) (xs : List A) → ((x : A) → p x ≡ true) → list_all p xs ≡ true
 all-true p [] h = refl
 all-true p (x ∷ xs) h = ap (λ b. b && list_all p xs) (h x) ∙ all-true p xs h
@@ -76,14 +84,6 @@ pair_constant S u v e = ap (λ b. not b || is_pair S u v) e
 -- two variables are apart where they are a pair
 pub pair_variable : (S : Database) (u v : Name) → is_variable S v ≡ true → is_pair_apart S u v ≡ is_pair S u v
 pair_variable S u v e = ap (λ b. not b || is_pair S u v) e
-
--- ---- all names of a list
-
-pub all-from : (p : Name → Bool) (xs : List Name) → ((x : Name) → has_name x xs ≡ true → p x ≡ true) → list_all p xs ≡ true
-all-from p [] h = refl
-all-from p (y ∷ xs) h =
-    and_from (p y) (list_all p xs) (h y (or_left (name_eq y y) (has_name y xs) (name_same y)))
-    (all-from p xs (λ x k. h x (or_right (name_eq x y) (has_name x xs) k)))
 
 -- one that passes the test stands in the list, or none does
 pub any-has : (p : Name → Bool) (xs : List Name) → list_any p xs ≡ true → (x : Name) × (has_name x xs ≡ true) × (p x ≡ true)
@@ -146,23 +146,27 @@ module _ (S : Database) where
 
   -- a list among those of the active `$d`
   any-group : (u v : Name) (ps : List (ℕ × Stmt)) (e f : Expr) → is_variable S u ≡ true → is_variable S v ≡ true → has_name u e ≡ true → has_name v f ≡ true
-      → list_any (λ p. does_cover S e f p.1) ps ≡ true → list_any (λ names. has_name u names && has_name v names) (map (λ p. separated p.1) ps) ≡ true
+      → list_any (λ p. does_cover S e f (separated p.1)) (filter (λ p. is_disj p.1) ps) ≡ true → list_any (λ names. has_name u names && has_name v names) (map (λ p. separated p.1) ps) ≡ true
   any-group u v [] e f p q in_e in_f h = cc
-  any-group u v (s ∷ ps) e f p q in_e in_f h = by (does_cover S e f s.1) refl h (any-group u v ps e f p q in_e in_f)
+  any-group u v (s ∷ ps) e f p q in_e in_f h = by (is_disj s.1) (does_cover S e f (separated s.1)) refl h (any-group u v ps e f p q in_e in_f)
     where
+      both : List Name → Bool
+      both names = has_name u names && has_name v names
+
       listed : (names : List Name) (w : Name) (g : Expr) → is_variable S w ≡ true → has_name w g ≡ true → are_listed S names g ≡ true → has_name w names ≡ true
       listed names w g var in_g all = implied (is_variable S w) (has_name w names) (all-has (is_listed S names) w g all in_g) var
 
-      by : (b : Bool) → does_cover S e f s.1 ≡ b → (b || list_any (λ p. does_cover S e f p.1) ps) ≡ true
-          → (list_any (λ p. does_cover S e f p.1) ps ≡ true → list_any (λ names. has_name u names && has_name v names) (map (λ p. separated p.1) ps) ≡ true)
-          → ((has_name u (separated s.1) && has_name v (separated s.1)) || list_any (λ names. has_name u names && has_name v names) (map (λ p. separated p.1) ps)) ≡ true
-      by true c h rest =
-          let k = and_parts (is_disj s.1) (are_listed S (separated s.1) e && are_listed S (separated s.1) f) c in
-          let l = and_parts (are_listed S (separated s.1) e) (are_listed S (separated s.1) f) k.1 in
-          or_left (has_name u (separated s.1) && has_name v (separated s.1)) (list_any (λ names. has_name u names && has_name v names) (map (λ p. separated p.1) ps))
+      by : (a b : Bool) → does_cover S e f (separated s.1) ≡ b → list_any (λ p. does_cover S e f (separated p.1)) (cond a (s ∷ filter (λ p. is_disj p.1) ps) (filter (λ p. is_disj p.1) ps)) ≡ true
+          → (list_any (λ p. does_cover S e f (separated p.1)) (filter (λ p. is_disj p.1) ps) ≡ true → list_any both (map (λ p. separated p.1) ps) ≡ true)
+          → (both (separated s.1) || list_any both (map (λ p. separated p.1) ps)) ≡ true
+      by true true c h rest =
+          let l = and_parts (are_listed S (separated s.1) e) (are_listed S (separated s.1) f) c in
+          or_left (both (separated s.1)) (list_any both (map (λ p. separated p.1) ps))
           (and_from (has_name u (separated s.1)) (has_name v (separated s.1)) (listed (separated s.1) u e p in_e l.0) (listed (separated s.1) v f q in_f l.1))
-      by false c h rest =
-          or_right (has_name u (separated s.1) && has_name v (separated s.1)) (list_any (λ names. has_name u names && has_name v names) (map (λ p. separated p.1) ps)) (rest h)
+      by true false c h rest =
+          or_right (both (separated s.1)) (list_any both (map (λ p. separated p.1) ps))
+          (rest (ap (λ t. t || list_any (λ p. does_cover S e f (separated p.1)) (filter (λ p. is_disj p.1) ps)) (sym c) ∙ h))
+      by false b c h rest = or_right (both (separated s.1)) (list_any both (map (λ p. separated p.1) ps)) (rest h)
 
   pub covered-apart : (e f : Expr) → are_covered S e f ≡ true → not (do_share S e f) ≡ are_apart S e f
   covered-apart e f cover = by (do_share S e f) refl
@@ -238,13 +242,3 @@ marked_more places marked codes i p d h e low before =
     ∙ and_from (are_marked places (slice_set marked p true) (take i codes)) (slice_index_or (slice_set marked p true) (get_or codes i d % places) false)
     (all-set places marked p (take i codes) before)
     (ap (λ n. slice_index_or (slice_set marked p true) n false) (sym e) ∙ get_or-set_same marked p true false low)
-
--- a `$d` covers where its list does
-pub covers-told : (S : Database) (e f : Expr) (list : List Name) (s : Stmt) (b : Bool) → is_disj s ≡ true → separated s ≡ list
-    → b ≡ (are_listed S list e && are_listed S list f) → does_cover S e f s ≡ b
-covers-told S e f list s b d l h =
-    ap (λ t. t && (are_listed S (separated s) e && are_listed S (separated s) f)) d
-    ∙ (ap (λ names. are_listed S names e && are_listed S names f) l ∙ sym h)
-
-pub covers-other : (S : Database) (e f : Expr) (s : Stmt) → is_disj s ≡ false → does_cover S e f s ≡ false
-covers-other S e f s d = ap (λ t. t && (are_listed S (separated s) e && are_listed S (separated s) f)) d

@@ -1,14 +1,14 @@
 -- What is active at a position, and walking back from one active statement of a kind to the one before it.
-use Rattle.std.specs.Prelude.{◌≡◌, ℕ, zero, suc, ◌+◌, ◌-◌, ◌<◌, ◌≤◌, Bool, true, ◌&&◌, nat_lt, ◌⊎◌, List, [], ◌∷◌, ◌++◌, length, take, drop, slice_get, Some, refl}
+use Rattle.std.specs.Prelude.{◌≡◌, ℕ, zero, suc, ◌+◌, ◌-◌, ◌<◌, ◌≤◌, Bool, true, cond, ◌&&◌, nat_lt, ◌⊎◌, List, [], ◌∷◌, ◌++◌, length, take, drop, slice_get, Some, refl}
 use Rattle.std.proofs.Common.{sym, ◌∙◌, ap, subst, arith, inl, inr}
-use Rattle.std.proofs.lemmas.List.{length-take-le, take-take, drop-take}
+use Rattle.std.proofs.lemmas.List.{length-take-le, take-take, take_all, drop-take}
 use Rattle.std.proofs.lemmas.Bool.{le-leb, lt-ltb}
 use Rattle.mm_read.specs.declared.stmt.Stmt.{Stmt}
 use Rattle.mm_read.specs.Statements.{Database}
 use Rattle.scope.specs.Active.{stays_open, is_active}
 use Rattle.frame.specs.Links.{actives, last_active}
-use Rattle.frame.proofs.LinksLemmas.{IsLastAt, last-cases}
-use Rattle.frame.proofs.OpenLemmas.{IsNoClose}
+use Rattle.frame.proofs.LinksLemmas.{IsLastAt, last-cases, actives-push, length-cut}
+use Rattle.frame.proofs.OpenLemmas.{IsNoClose, no_close}
 
 pub get-take : {A : Type 0} (i m : ℕ) (S : List A) → i < m → slice_get (take m S) i ≡ slice_get S i
 get-take i zero S h = absurd (omega (arith, h))
@@ -31,6 +31,10 @@ active-stays S i at one h =
     ap (λ b. b && nat_lt i at && stays_open 0 (take (at - 1 - i) (drop i S))) (le-leb 1 i one)
     ∙ (ap (λ b. b && stays_open 0 (take (at - 1 - i) (drop i S))) (lt-ltb i at h)
     ∙ ap (stays_open 0) (sym (ap (λ m. drop i (take m S)) cut ∙ drop-take i (at - 1 - i) S)))
+
+-- the same behind all statements
+pub active-end : (S : Database) (n : ℕ) → n < length S → is_active S (suc n) (length S + 1) ≡ stays_open 0 (drop (suc n) S)
+active-end S n lt = active-stays S (suc n) (length S + 1) (omega arith) (omega (arith, lt)) ∙ ap (λ T. stays_open 0 (drop (suc n) T)) (take_all (length S + 1 - 1) S (omega arith))
 
 -- ---- from one active statement of a kind to the one before it
 
@@ -59,6 +63,22 @@ walk-back kind S m p n le e some = by (last-cases kind (take m S) n)
             list = l.list ∙ ap (λ r. actives kind r ++ (p, q.0) ∷ []) (take-take (p - 1) m S (omega (arith, pm)));
           },
         )
+
+pub take-one : {A : Type 0} (S : List A) (k : ℕ) (s : A) → slice_get S k ≡ Some s → take (suc k) S ≡ take k S ++ s ∷ []
+take-one [] k s g = cc
+take-one (x ∷ S) zero s g = let same : x ≡ s = cc in ap (λ y. y ∷ []) same
+take-one (x ∷ S) (suc k) s g = ap (λ r. x ∷ r) (take-one S k s g)
+
+-- it is the last one of those active behind itself
+pub back-own : (kind : Stmt → Bool) (S : Database) (m p : ℕ) (s : Stmt) → IsNoClose kind → IsBack kind S m p s → actives kind (take p S) ≡ actives kind (take (p - 1) S) ++ (p, s) ∷ []
+back-own kind S m p s n b =
+    let one = b.above in
+    let place : 1 + length (take (p - 1) S) ≡ p = omega (arith, one, length-cut S (p - 1) s b.stands) in
+    let up : p ≡ suc (p - 1) = omega (arith, one) in
+    ap (λ i. actives kind (take i S)) up
+    ∙ (ap (actives kind) (take-one S (p - 1) s b.stands)
+    ∙ (actives-push kind (take (p - 1) S) s (no_close kind s n b.of_kind)
+    ∙ (ap (λ t. actives kind (take (p - 1) S) ++ cond t ((1 + length (take (p - 1) S), s) ∷ []) []) b.of_kind ∙ ap (λ i. actives kind (take (p - 1) S) ++ (i, s) ∷ []) place)))
 
 pub walk-over : (kind : Stmt → Bool) (S : Database) (m p : ℕ) → IsNoClose kind → p ≡ last_active kind (take m S) → p ≡ 0 → actives kind (take m S) ≡ []
 walk-over kind S m p n e z = by (last-cases kind (take m S) n)

@@ -1,16 +1,17 @@
 -- Collecting positions: the loops' steps.
-use Rattle.std.specs.Prelude.{◌≡◌, ℕ, zero, suc, ◌+◌, ◌-◌, ◌<◌, ◌≤◌, Bool, true, false, cond, ◌⊎◌, List, [], ◌∷◌, ◌++◌, length, map, get_or, slice_get, Some, refl}
-use Rattle.std.proofs.Common.{sym, ◌∙◌, ap, subst, arith, inl, inr}
+use Rattle.std.specs.Prelude.{◌≡◌, ℕ, zero, suc, ◌+◌, ◌-◌, ◌<◌, ◌≤◌, Bool, true, ◌⊎◌, List, [], ◌∷◌, ◌++◌, length, map, get_or, slice_get, Some, refl}
+use Rattle.std.proofs.Common.{sym, ◌∙◌, ap, subst, arith, inl, inr, true≢false, cond, false}
+use Rattle.scope.specs.Active.{is_active}
+use Rattle.frame.specs.declared.storage.Stock.{Stock}
 use Rattle.std.proofs.lemmas.Bool.{and_parts}
-use Rattle.std.proofs.lemmas.List.{take_more}
+use Rattle.std.proofs.lemmas.List.{take_more, length-map}
 use Rattle.std.proofs.lemmas.List.Kept.{Contains-dedup_nat, Contains-from_dedup}
 use Rattle.std.proofs.lemmas.List.Sorted.{Contains-permutation, IsPermutation-sym}
 use Rattle.std.proofs.lemmas.Map.Keys.{IsStrictlyIncreasing-dedup}
 use Rattle.std.specs.List.{Contains, dedup}
 use Rattle.std.specs.List.Sorted.{IsPermutation, IsSorted, IsStrictlyIncreasing}
 use Rattle.std.proofs.Common.{nat_cmp}
-use Rattle.std.specs.Prelude.{eqb, take, Option, None, is_some}
-use Rattle.frame.specs.Stored.NumberPlaces.{place_of}
+use Rattle.std.specs.Prelude.{eqb, take, Option}
 use Rattle.frame.proofs.NumberMarkLemmas.{IsNewPlace, place-push}
 use Rattle.frame.proofs.AscendingLists.{above-less}
 use Rattle.std.proofs.lemmas.Option.{slice_get_within, same_Some}
@@ -18,58 +19,34 @@ use Rattle.mm_read.specs.Statements.{Database}
 use Rattle.mm_lex.specs.Alphabet.{Name}
 use Rattle.names.specs.Codes.{name_at, decode}
 use Rattle.entries.specs.declared.kind.Kind.{Kind}
-use Rattle.entries.specs.declared.kind.Kind.TheVariants.{Open, Close, Const, Var, Disj, Float, Ess, Axiom, Prove}
+use Rattle.entries.specs.declared.kind.Kind.TheVariants.{Float}
 use Rattle.entries.specs.Entries.{Entry}
 use Rattle.frame.specs.Stored.Hypotheses.{In, Ascends, AreThose, HasMore, IsFloatOf, SomeFloat, AreLooked, AreFloats, SomeEssential, IsGiven, AreWith, AreCollected, kept_at}
-use Rattle.frame.specs.Stored.EntryMeanings.{floats, last_from, last_where, stmt_by, stmt_of, is_float_kind}
+use Rattle.frame.specs.Stored.EntryMeanings.{floats, last_where, stmt_by, stmt_of, is_float_kind, names_in, labels_in, statements_of}
 use Rattle.frame.specs.Stored.Counts.{IsPlain}
-use Rattle.scope.proofs.ActiveLemmas.{place}
+use Rattle.frame.proofs.StoredReading.{get-stmt}
+use Rattle.frame.proofs.ActivePositions.{last-some}
 
-pub last-is : (test : Entry → Bool) (found at : ℕ) (es : List Entry) (p : ℕ) → 1 ≤ at → last_from test found at es ≡ p
-    → (p ≡ found) ⊎ ((i : ℕ) × (e : Entry) × (slice_get es i ≡ Some e) × (test e ≡ true) × (p ≡ at + i))
-last-is test found at [] p one h = inl (sym h)
-last-is test found at (e ∷ es) p one h = by (last-is test (cond (test e) at found) (at + 1) es p (omega arith) h)
-  where
-    here : (b : Bool) → test e ≡ b → p ≡ cond b at found → (p ≡ found) ⊎ ((i : ℕ) × (d : Entry) × (slice_get (e ∷ es) i ≡ Some d) × (test d ≡ true) × (p ≡ at + i))
-    here true t q = inr (0, e, refl, t, omega (arith, q))
-    here false t q = inl q
-
-    by : (p ≡ cond (test e) at found) ⊎ ((i : ℕ) × (d : Entry) × (slice_get es i ≡ Some d) × (test d ≡ true) × (p ≡ at + 1 + i))
-        → (p ≡ found) ⊎ ((i : ℕ) × (d : Entry) × (slice_get (e ∷ es) i ≡ Some d) × (test d ≡ true) × (p ≡ at + i))
-    by (inl q) = here (test e) refl q
-    by (inr r) = let k = r.0 in inr (suc k, r.1, r.2, r.3, r.4 ∙ place at k)
+-- where only such statements pass a test, one that neither opens nor closes a block stands at the last place that passes
+pub stands-plain : (test : Entry → Bool) (names labels : List Name) (es : List Entry) (p : ℕ) → ((e : Entry) → test e ≡ true → IsPlain (Some (stmt_of names labels e))) → p ≡ last_where test es → (p ≡ 0 → ⊥)
+    → (1 ≤ p) × (p ≤ length es) × IsPlain (slice_get (map (stmt_of names labels) es) (p - 1))
+stands-plain test names labels es p plain h some =
+    let r = last-some test es p h some in
+    let at = r.is in let lt = slice_get_within es r.place r.entry r.found in
+    let back : p - 1 ≡ r.place = omega (arith, at) in
+    let there = ap (slice_get (map (stmt_of names labels) es)) back ∙ get-stmt names labels es r.place r.entry r.found in
+    (omega (arith, at), omega (arith, at, lt), subst IsPlain (sym there) (plain r.entry r.passes))
 
 float-plain : (names labels : List Name) (e : Entry) → is_float_kind e.kind ≡ true → IsPlain (Some (stmt_of names labels e))
 float-plain names labels e = by e.kind
   where
     by : (kind : Kind) → is_float_kind kind ≡ true → IsPlain (Some (stmt_by kind (name_at labels e.label) (decode names e.symbols)))
     by Float h = (refl, refl)
-    by Open h = cc
-    by Close h = cc
-    by Const h = cc
-    by Var h = cc
-    by Disj h = cc
-    by Ess h = cc
-    by Axiom h = cc
-    by Prove h = cc
+    by kind h = cc
 
--- it stands in the list, and opens or closes no block
 pub float-stands : (names labels : List Name) (es : List Entry) (c p : ℕ) → p ≡ last_where (floats c) es → (p ≡ 0 → ⊥)
     → (1 ≤ p) × (p ≤ length es) × IsPlain (slice_get (map (stmt_of names labels) es) (p - 1))
-float-stands names labels es c p h some = by (last-is (floats c) 0 1 es p (omega arith) (sym h))
-  where
-    get-map : (xs : List Entry) (i : ℕ) (e : Entry) → slice_get xs i ≡ Some e → slice_get (map (stmt_of names labels) xs) i ≡ Some (stmt_of names labels e)
-    get-map [] i e g = cc
-    get-map (x ∷ xs) zero e g = let same : x ≡ e = cc in ap (λ d. Some (stmt_of names labels d)) same
-    get-map (x ∷ xs) (suc i) e g = get-map xs i e g
-
-    by : (p ≡ 0) ⊎ ((i : ℕ) × (e : Entry) × (slice_get es i ≡ Some e) × (floats c e ≡ true) × (p ≡ 1 + i)) → (1 ≤ p) × (p ≤ length es) × IsPlain (slice_get (map (stmt_of names labels) es) (p - 1))
-    by (inl z) = absurd (some z)
-    by (inr r) =
-        let k = r.0 in let at = r.4 in let lt = slice_get_within es k r.1 r.2 in
-        let back : p - 1 ≡ k = omega (arith, at) in
-        let there : slice_get (map (stmt_of names labels) es) (p - 1) ≡ Some (stmt_of names labels r.1) = ap (slice_get (map (stmt_of names labels) es)) back ∙ get-map es k r.1 r.2 in
-        (omega (arith, at), omega (arith, at, lt), subst IsPlain (sym there) (float-plain names labels r.1 (and_parts (is_float_kind r.1.kind) _ r.3).0))
+float-stands names labels es c p h some = stands-plain (floats c) names labels es p (λ e f. float-plain names labels e (and_parts (is_float_kind e.kind) _ f).0) h some
 
 pub index-is : {A : Type 0} (xs : List A) (i : ℕ) (x y : A) → slice_get xs i ≡ Some y → x ≡ get_or xs i x → x ≡ y
 index-is [] i x y h e = cc
@@ -130,11 +107,7 @@ ordered xs ys zs moved sorted is = subst (AreThose (λ p. In p xs)) (sym is) (re
 
 -- ---- the `$f` of the symbols
 
--- none was added
-pub no-float : (es : List Entry) (S : Database) (c : ℕ) (list : List ℕ) → ((p : ℕ) → IsFloatOf es S c p → In p list) → HasMore (IsFloatOf es S c) list list
-no-float es S c list there = record { stays = λ p i. i; all = there; only = λ p i. inl i }
-
-pub one-float : (es : List Entry) (S : Database) (c q : ℕ) (list : List ℕ) → IsFloatOf es S c q → HasMore (IsFloatOf es S c) list (list ++ q ∷ [])
+one-float : (es : List Entry) (S : Database) (c q : ℕ) (list : List ℕ) → IsFloatOf es S c q → HasMore (IsFloatOf es S c) list (list ++ q ∷ [])
 one-float es S c q list f = record {
   stays = λ p i. in-left p list (q ∷ []) i;
   all = λ p g. in-right p list (q ∷ []) (inl (g.last ∙ sym f.last));
@@ -146,6 +119,17 @@ one-float es S c q list f = record {
     by p (inr (inl e)) = inr (subst (IsFloatOf es S c) (sym e) f)
     by p (inr (inr i)) = absurd i
 
+-- the last `$f` was added, where it is active
+pub float-more : (k : Stock) (c q at : ℕ) (list new : List ℕ) (b : Bool) → q ≡ last_where (floats c) k.entries → (q ≡ 0 → ⊥) → at ≡ length k.entries → b ≡ is_active (statements_of k) q (at + 1) → new ≡ cond b (list ++ q ∷ []) list
+    → HasMore (IsFloatOf k.entries (statements_of k) c) list new
+float-more k c q at list new b last some size stands is =
+    let S = statements_of k in
+    subst (HasMore (IsFloatOf k.entries S c) list) (sym is) (by b (ap (λ n. is_active S q (n + 1)) (length-map k.entries (stmt_of (names_in k) (labels_in k)) ∙ sym size) ∙ sym stands))
+  where
+    by : (b : Bool) → is_active (statements_of k) q (length (statements_of k) + 1) ≡ b → HasMore (IsFloatOf k.entries (statements_of k) c) list (cond b (list ++ q ∷ []) list)
+    by true h = one-float k.entries (statements_of k) c q list (record { last = last; some = some; stands = h })
+    by false h = record { stays = λ p i. i; all = λ p f. absurd (true≢false (sym f.stands ∙ (ap (λ n. is_active (statements_of k) n (length (statements_of k) + 1)) (f.last ∙ sym last) ∙ h))); only = λ p i. inl i }
+
 -- what was looked at before, and one symbol more
 pub looked-more : (es : List Entry) (S : Database) (looked : List (Option ℕ)) (c : ℕ) (old new : List ℕ) → HasMore (IsFloatOf es S c) old new → AreLooked es S looked old → AreLooked es S (looked ++ Some c ∷ []) new
 looked-more es S looked c old new more there d k p h f = by (place-push 0 looked (Some c) d k h)
@@ -153,17 +137,6 @@ looked-more es S looked c old new more there d k p h f = by (place-push 0 looked
     by : IsNewPlace 0 looked (Some c) d k → In p new
     by (inl q) = more.stays p (there d k p q f)
     by (inr q) = let same : c ≡ d = same_Some _ _ q.1 in more.all p (subst (λ x. IsFloatOf es S x p) (sym same) f)
-
-pub looked-known : (es : List Entry) (S : Database) (looked : List (Option ℕ)) (c : ℕ) (list : List ℕ) (o : Option ℕ) → AreLooked es S looked list → o ≡ place_of looked c → is_some o ≡ true → HasMore (IsFloatOf es S c) list list
-looked-known es S looked c list None there e h = cc
-looked-known es S looked c list (Some k) there e h = no-float es S c list (λ p f. there c k p (sym e) f)
-
--- nothing was looked at yet
-pub no-floats : (es : List Entry) (S : Database) (list : List ℕ) → HasMore (SomeFloat es S []) list list
-no-floats es S list = record { stays = λ p i. i; all = λ p f. absurd f.among; only = λ p i. inl i }
-
-pub none-placed : (looked : List (Option ℕ)) (c k : ℕ) → looked ≡ [] → place_of looked c ≡ Some k → ⊥
-none-placed looked c k none h = let e : place_of [] c ≡ Some k = subst (λ l. place_of l c ≡ Some k) none h in cc
 
 -- one symbol more of the list
 pub floats-more : (es : List Entry) (S : Database) (codes : List ℕ) (i : ℕ) (old mid new : List ℕ) → i < length codes → HasMore (SomeFloat es S (take i codes)) old mid → HasMore (IsFloatOf es S (get_or codes i 0)) mid new

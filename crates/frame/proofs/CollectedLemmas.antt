@@ -2,8 +2,9 @@
 use Rattle.std.specs.Prelude.{◌≡◌, ℕ, suc, ◌+◌, ◌-◌, ◌<◌, Bool, true, false, ◌&&◌, ◌||◌, ◌⊎◌, List, [], ◌∷◌, ◌++◌, length, map, filter, take, drop, slice_get, Some, refl}
 use Rattle.std.specs.List.{list_any}
 use Rattle.std.proofs.Common.{sym, ◌∙◌, ap, subst, arith, inl, inr, append_assoc}
+use Rattle.std.proofs.Math.Seq.{take-append_seam}
 use Rattle.std.proofs.lemmas.Bool.{or_left, or_right, and_parts, both_ways}
-use Rattle.frame.proofs.LinksLemmas.{cut-here}
+use Rattle.frame.proofs.LinksLemmas.{cut-here, length-cut}
 use Rattle.mm_lex.specs.Alphabet.{Name, has_name}
 use Rattle.mm_read.specs.declared.stmt.Stmt.{Stmt}
 use Rattle.mm_read.specs.declared.stmt.Stmt.TheVariants as stmt
@@ -20,13 +21,14 @@ use Rattle.frame.specs.Stored.AssertionParts.{is_float_in, floats_in}
 use Rattle.frame.proofs.LegalLabels.{AllKept}
 use Rattle.frame.proofs.ActiveBehind.{Stands, active-stands, stands-active, open_both}
 use Rattle.frame.proofs.TypedVariables.{float-kinds, is_ess, typed-before}
-use Rattle.frame.proofs.VariablePlaceLemmas.{active-rest}
+use Rattle.frame.proofs.BlockWalkLemmas.{active-end}
+use Rattle.std.proofs.lemmas.Option.{slice_get_within}
 use Rattle.frame.proofs.FoundByNumber.{map-back, map-at, numbered-at}
 use Rattle.frame.proofs.AscendingLists.{same-lists}
-use Rattle.frame.proofs.ActivePositions.{LastAt, NoneOf, last-is, IsActiveAt, active-members, members-active, ascends-active}
+use Rattle.frame.proofs.ActivePositions.{LastAt, NoneOf, last-is, last-some, IsActiveAt, active-members, members-active, ascends-active}
 use Rattle.frame.proofs.NamedCodes.{coded, has-code, code-low, floats-is, is-floats}
-use Rattle.frame.proofs.ActiveFloats.{length-cut, rest-active, one-float, hyp-kind, ess-hyp, float-in-kind, float-of-kind, stays-behind, one-place}
-use Rattle.frame.proofs.LegalBehind.{before-at, stands-at}
+use Rattle.frame.proofs.ActiveFloats.{rest-active, one-float, hyp-kind, ess-hyp, float-in-kind, float-of-kind, stays-behind, one-place}
+use Rattle.frame.proofs.LegalBehind.{stands-at}
 
 -- ---- what is found is what is meant
 
@@ -55,22 +57,18 @@ module _ (es : List Entry) (names labels : List Name) (m : ℕ) (S : Database)
   -- the `$f` of a symbol, where such a `$f` passes the test
   float-member : (q : Stmt → Bool) (c p : ℕ) → IsFloatOf es S c p → ((l k : Name) → is_variable S (name_at names c) ≡ true → q (stmt.Float l k (name_at names c)) ≡ true)
       → In p (map (λ y. y.0) (filter (λ y. q y.1) (active S)))
-  float-member q c p f passes = by (last-is (floats c) 0 1 es)
-    where
-      by : (NoneOf (floats c) es × (last_from (floats c) 0 1 es ≡ 0)) ⊎ LastAt (floats c) 1 es (last_from (floats c) 0 1 es) → In p (map (λ y. y.0) (filter (λ y. q y.1) (active S)))
-      by (inl n) = absurd (f.some (f.last ∙ n.1))
-      by (inr l) =
-          let place : p ≡ suc l.place = (let q' = f.last in let r = l.is in omega (arith, q', r)) in
-          let x = l.entry in
-          let k = floats-is names c x (name_at labels x.label) l.passes in
-          let there : slice_get S l.place ≡ Some (stmt.Float (name_at labels x.label) k.0 (name_at names c))
-          = ap (λ w. slice_get w l.place) whole ∙ (map-at (stmt_of names labels) es l.place x l.found ∙ ap Some k.1) in
-          let t = stmt.Float (name_at labels x.label) k.0 (name_at names c) in
-          let cut = cut-here S l.place t there in
-          let len = length-cut S l.place t there in
-          let stays = active-rest S l.place (ap (λ n. is_active S n (length S + 1)) (sym place) ∙ f.stands) in
-          let var = (float-kinds S (take l.place S) (name_at labels x.label) k.0 (name_at names c) (drop (suc l.place) S) all cut stays).1 in
-          members q p (take l.place S) t (drop (suc l.place) S) cut (omega (arith, len, place)) stays (passes (name_at labels x.label) k.0 var)
+  float-member q c p f passes =
+      let r = last-some (floats c) es p f.last f.some in
+      let place : p ≡ suc r.place = (let is = r.is in omega (arith, is)) in
+      let x = r.entry in
+      let k = floats-is names c x (name_at labels x.label) r.passes in
+      let there : slice_get S r.place ≡ Some (stmt.Float (name_at labels x.label) k.0 (name_at names c))
+      = ap (λ w. slice_get w r.place) whole ∙ (map-at (stmt_of names labels) es r.place x r.found ∙ ap Some k.1) in
+      let t = stmt.Float (name_at labels x.label) k.0 (name_at names c) in
+      let cut = cut-here S r.place t there in
+      let stays = sym (active-end S r.place (slice_get_within S r.place t there)) ∙ (ap (λ n. is_active S n (length S + 1)) (sym place) ∙ f.stands) in
+      let var = (float-kinds S (take r.place S) (name_at labels x.label) k.0 (name_at names c) (drop (suc r.place) S) all cut stays).1 in
+      members q p (take r.place S) t (drop (suc r.place) S) cut (omega (arith, length-cut S r.place t there, place)) stays (passes (name_at labels x.label) k.0 var)
 
   -- the active `$f` of a number is its last one
   is-float : (p c : ℕ) (A B : Database) (u l : Name) → S ≡ A ++ stmt.Float u l (name_at names c) ∷ B → p ≡ suc (length A) → stays_open 0 B ≡ true → c < length names → IsFloatOf es S c p
@@ -134,7 +132,7 @@ module _ (es : List Entry) (names labels : List Name) (m : ℕ) (S : Database)
         ap (λ k. option_kept (slice_get es k)) one ∙ (ap option_kept x.found
         ∙ (kept (length h.front) x.entry x.found (sym (ap is_essential x.is) ∙ h.passes)
         ∙ (ap (λ t. floats_in (take (length h.front) S) (expr_of t)) (sym x.is)
-        ∙ ap (λ D. floats_in D (expr_of h.stmt)) (ap (take (length h.front)) h.whole ∙ before-at h.front h.stmt h.rest))))
+        ∙ ap (λ D. floats_in D (expr_of h.stmt)) (ap (take (length h.front)) h.whole ∙ take-append_seam h.front (h.stmt ∷ h.rest)))))
 
     used-own : (x : Name) → has_name x (expr_of s) ≡ true → is_used S s x ≡ true
     used-own x h = or_left (has_name x (expr_of s)) _ h

@@ -1,18 +1,17 @@
 -- The storage with its first statements alone.
-use Rattle.std.specs.Prelude.{◌≡◌, ℕ, zero, suc, ◌+◌, ◌-◌, ◌<◌, true, List, [], ◌∷◌, ◌++◌, length, map, take, drop, slice_get, Option, Some, None, refl}
-use Rattle.std.proofs.Common.{sym, ◌∙◌, ap, subst, arith, take-take, add-zero}
+use Rattle.std.specs.Prelude.{◌≡◌, ℕ, ◌+◌, ◌<◌, true, List, length, map, take, drop, slice_get, Some, refl}
+use Rattle.std.proofs.Common.{sym, ◌∙◌, ap, subst, arith, take-take}
 use Rattle.std.proofs.lemmas.List.{length-take-le, take-map, take-append-drop, take_at}
 use Rattle.mm_lex.specs.Alphabet.{Name}
 use Rattle.mm_read.specs.Statements.{Database}
 use Rattle.scope.specs.Kinds.{IsNumberingOf}
-use Rattle.scope.specs.Active.{before, label_of, stays_open}
-use Rattle.scope.specs.Legal.{IsLegal}
-use Rattle.scope.specs.Symbols.{symbols_of, labels_of, option_list}
+use Rattle.scope.specs.Active.{stays_open}
+use Rattle.scope.specs.Symbols.{symbols_of, labels_of}
 use Rattle.entries.specs.declared.links.Links.{Links}
 use Rattle.entries.specs.Entries.{Entry}
 use Rattle.frame.specs.declared.storage.Symbol.{Symbol}
 use Rattle.frame.specs.Links.{links_of}
-use Rattle.frame.specs.Stored.EntryMeanings.{stmt_of, statements_of, positions_from, option_position, AreAllLegal, ReadsAs, replaced_of, symbol_of}
+use Rattle.frame.specs.Stored.EntryMeanings.{stmt_of, statements_of, positions_from, AreAllLegal, ReadsAs, replaced_of, symbol_of}
 use Rattle.frame.specs.Stored.Counts.{AreNumbered, KeepsCounts}
 use Rattle.frame.specs.declared.storage.Stock.{Stock}
 use Rattle.frame.specs.Stored.Naming.{naming_of}
@@ -24,31 +23,15 @@ use Rattle.entries.proofs.BufferPlaceLemmas.{take-get}
 use Rattle.frame.proofs.BlockWalkLemmas.{get-take}
 use Rattle.frame.proofs.DeclaredSymbolLemmas.{symbols_of-front}
 use Rattle.frame.proofs.AssertionLemmas.{kept-moved}
+use Rattle.frame.proofs.FoundByNumber.{kept-front}
 use Rattle.frame.proofs.NamingLemmas.{naming-all, naming-length, naming_of-front}
 use Rattle.frame.proofs.OpenLemmas.{stays_open-front}
-use Rattle.frame.proofs.StoredOneMore.{statements-more, stmt-more, numbered-at}
+use Rattle.frame.proofs.StoredOneMore.{positions_from-append, statements-more, stmt-more, numbered-at}
 use Rattle.frame.proofs.StoredTaken.{length-positions}
-use Rattle.scope.proofs.ActiveLemmas.{place}
+use Rattle.scope.proofs.NamesLemmas.{labels_of-append}
 use Rattle.frame.proofs.LabelLemmas.{label-below-at}
 
 -- ---- labels and positions
-
-labels_of-append : (A B : Database) → labels_of (A ++ B) ≡ labels_of A ++ labels_of B
-labels_of-append [] B = refl
-labels_of-append (s ∷ A) B = ap (option_list (label_of s)) (labels_of-append A B) ∙ by (label_of s)
-  where
-    by : (o : Option Name) → option_list o (labels_of A ++ labels_of B) ≡ option_list o (labels_of A) ++ labels_of B
-    by None = refl
-    by (Some x) = refl
-
-positions_from-append : (at : ℕ) (A B : Database) → positions_from at (A ++ B) ≡ positions_from at A ++ positions_from (at + length A) B
-positions_from-append at [] B = ap (λ n. positions_from n B) (sym (add-zero at))
-positions_from-append at (s ∷ A) B =
-    ap (option_position (label_of s) at) (positions_from-append (at + 1) A B ∙ ap (λ n. positions_from (at + 1) A ++ positions_from n B) (place at (length A))) ∙ by (label_of s)
-  where
-    by : (o : Option Name) → option_position o at (positions_from (at + 1) A ++ positions_from (at + suc (length A)) B) ≡ option_position o at (positions_from (at + 1) A) ++ positions_from (at + suc (length A)) B
-    by None = refl
-    by (Some x) = refl
 
 labels-front : (n : ℕ) (S : Database) → take (length (labels_of (take n S))) (labels_of S) ≡ labels_of (take n S)
 labels-front n S =
@@ -59,16 +42,6 @@ positions-front : (n : ℕ) (S : Database) → take (length (labels_of (take n S
 positions-front n S =
     ap (take (length (labels_of (take n S)))) (ap (positions_from 1) (sym (take-append-drop n S)) ∙ positions_from-append 1 (take n S) (drop n S))
     ∙ take_at (positions_from 1 (take n S)) (positions_from (1 + length (take n S)) (drop n S)) (length (labels_of (take n S))) (length-positions 1 (take n S))
-
--- ---- the statements
-
-legal-front : (n : ℕ) (S : Database) → AreAllLegal S → AreAllLegal (take n S)
-legal-front n S all zero s h = cc
-legal-front n S all (suc j) s h =
-    let g = take-get n j S s h in
-    let lt = g.0 in
-    let same : before (take n S) (suc j) ≡ before S (suc j) = take-take (suc j - 1) n S (omega (arith, lt)) in
-    subst (λ B. IsLegal B s) (sym same) (all (suc j) s g.1)
 
 -- ---- what was done to the parts: the statement behind the first n is e
 
@@ -170,7 +143,7 @@ module _ (names labels : List Name) (positions : List ℕ) (symbols : List Symbo
     last = p.links_back ∙ (k.linked n e p.at ∙ ap links_of (sym cut-statements));
     linked = λ i d h. let q = there i d h in k.linked i d q.1 ∙ ap links_of (sym (front-of i q.0));
     stays = ap (stays_open 0) cut-statements ∙ stays_open-front 0 (take n S) (drop n S) (ap (stays_open 0) (take-append-drop n S) ∙ k.stays);
-    legal = subst AreAllLegal (sym cut-statements) (legal-front n S k.legal);
+    legal = subst AreAllLegal (sym cut-statements) (kept-front S n k.legal);
     names_kept = p.names_cut ∙ ap symbols_of (sym cut-statements);
     labels_kept = p.labels_cut ∙ ap labels_of (sym cut-statements);
     positions_kept = p.positions_cut ∙ (ap (take e.label) k.positions_kept ∙ (ap (λ m. take m (positions_from 1 S)) counts.label_count ∙ (positions-front n S ∙ ap (positions_from 1) (sym cut-statements))));
@@ -190,7 +163,7 @@ module _ (names labels : List Name) (positions : List ℕ) (symbols : List Symbo
 
 module _ (k : Stock) (n : ℕ) (e : Entry) (stored : AreStored k) (at : slice_get k.entries n ≡ Some e) where
   pub front-naming : IsNumberingOf (take n (statements_of k)) (naming_of (take n (statements_of k)))
-  front-naming = naming-all (take n (statements_of k)) (legal-front n (statements_of k) stored.kept.legal)
+  front-naming = naming-all (take n (statements_of k)) (kept-front (statements_of k) n stored.kept.legal)
 
   -- the entry behind them tells how many names it has
   pub numbering-front : take (e.names + e.label) k.numbering ≡ naming_of (take n (statements_of k))

@@ -3,7 +3,7 @@ use Rattle.std.specs.Prelude.{◌≡◌, ◌≢◌, ℕ, zero, suc, ◌+◌, ◌
 use Rattle.std.proofs.Common.{sym, ◌∙◌, ap, subst, arith, inl, inr, append_assoc, length-append, take-take}
 use Rattle.std.proofs.Math.ListN.{get_or-append}
 use Rattle.std.proofs.Math.Seq.{take-length, take-append_seam, get_or-append_seam}
-use Rattle.std.proofs.lemmas.List.{drop-append-le, length-take-le, take-append-drop, take-append-le, get_or-set_same, get_or-set_other, drop_all, length-set, length-map}
+use Rattle.std.proofs.lemmas.List.{get_or-take, drop-append-le, length-take-le, take-append-drop, take-append-le, get_or-set_same, get_or-set_other, drop_all, length-set, length-map}
 use Rattle.std.proofs.lemmas.Bool.{cases_lt, cases_eq, false_from_ne_true, false≢true}
 use Rattle.std.proofs.lemmas.Option.{slice_get_within, same_Some, slice_get-get_or}
 use Rattle.frame.proofs.LegalBehind.{stands-at}
@@ -12,7 +12,8 @@ use Rattle.mm_read.specs.declared.stmt.Stmt.{Stmt}
 use Rattle.mm_read.specs.declared.stmt.Stmt.TheVariants.{Open, Close}
 use Rattle.mm_read.specs.Statements.{Database}
 use Rattle.scope.specs.Active.{stays_open, is_open, is_close, is_active}
-use Rattle.frame.specs.Links.{actives_from, last_active, last_position}
+use Rattle.entries.specs.declared.links.Links.{Links}
+use Rattle.frame.specs.Links.{actives_from, last_active, last_position, links_of}
 use Rattle.frame.specs.Stored.Counts.{kind_of, IsPlain}
 use Rattle.entries.specs.declared.kind.Kind.{Kind}
 use Rattle.entries.specs.declared.kind.Kind.TheVariants as kind
@@ -26,7 +27,7 @@ use Rattle.frame.specs.Stored.Ends.{IsEnd, TellEnds, AreEnds, AreBlocks, with_en
 use Rattle.entries.specs.Entries.{Entry}
 use Rattle.frame.proofs.OpenLemmas.{StaysOpen, AreClosed, IsLast, stays_open-any, stays_open-append, stays_open-front, stays_open-push, split_last, none-open, closed-rest, closes-stay, is-open, last-position, no_close}
 use Rattle.frame.proofs.LinksLemmas.{cut-here, drop-seam}
-use Rattle.frame.proofs.BlockWalkLemmas.{get-take, last-within, active-stays, IsBack, walk-back}
+use Rattle.frame.proofs.BlockWalkLemmas.{get-take, take-one, last-within, active-stays, IsBack, walk-back}
 
 -- ---- what follows a `${`
 
@@ -80,9 +81,21 @@ still-or-last S b s g o h = by (split_last is_open (drop (suc b) S))
         ∙ stays_open-front 0 A (Open ∷ B) (ap (stays_open 0) (sym cut) ∙ h))))
 
 is-close : (s : Stmt) → is_close s ≡ true → s ≡ Close
-is-close Open h = cc
 is-close Close h = refl
 is-close s h = cc
+
+-- a statement that is not the `$}` of the block leaves it open
+leaves-open : (S : Database) (b block : ℕ) (t s : Stmt) → slice_get S b ≡ Some t → is_open t ≡ true → stays_open 0 (drop (suc b) S) ≡ true → block ≡ last_active is_open S → (s ≡ Close → block ≢ suc b)
+    → stays_open 0 (drop (suc b) S ++ s ∷ []) ≡ true
+leaves-open S b block t s g opens o is ne = by (is_close s) refl
+  where
+    still : (stays_open 0 (drop (suc b) S ++ Close ∷ []) ≡ true) ⊎ (last_active is_open S ≡ suc b) → s ≡ Close → stays_open 0 (drop (suc b) S ++ s ∷ []) ≡ true
+    still (inl h) c = ap (λ r. stays_open 0 (drop (suc b) S ++ r ∷ [])) c ∙ h
+    still (inr l) c = absurd (ne c (is ∙ l))
+
+    by : (x : Bool) → is_close s ≡ x → stays_open 0 (drop (suc b) S ++ s ∷ []) ≡ true
+    by true c = still (still-or-last S b t g opens o) (is-close s c)
+    by false c = stays_open-push (drop (suc b) S) s c o
 
 -- ---- the end of one block
 
@@ -176,17 +189,6 @@ length-with kind.Close zero at ends = refl
 length-with kind.Close (suc b) at ends = length-set ends b at
 length-with q block at ends = refl
 
-read-front : (ends : List ℕ) (b n : ℕ) → b < n → n ≤ length ends → get_or (take n ends) b 0 ≡ get_or ends b 0
-read-front ends b n lt le =
-    let w = length-take-le n ends le in
-    same_Some (get_or (take n ends) b 0) (get_or ends b 0)
-    (sym (slice_get-get_or (take n ends) b 0 (omega (arith, w, lt))) ∙ (get-take b n ends lt ∙ slice_get-get_or ends b 0 (omega (arith, lt, le))))
-
-take-one : (S : Database) (i : ℕ) (s : Stmt) → slice_get S i ≡ Some s → take (suc i) S ≡ take i S ++ s ∷ []
-take-one [] i s g = cc
-take-one (x ∷ S) zero s g = let same : x ≡ s = cc in ap (λ v. v ∷ []) same
-take-one (x ∷ S) (suc i) s g = ap (λ r. x ∷ r) (take-one S i s g)
-
 -- one statement more
 pub tells-more : (ends : List ℕ) (S : Database) (s : Stmt) (block : ℕ) → length ends ≡ length S → TellEnds ends S → block ≡ last_active is_open S
     → TellEnds (with_end (kind_of s) block (length S + 1) (ends ++ 0 ∷ [])) (S ++ s ∷ [])
@@ -205,18 +207,7 @@ tells-more ends S s block n told is b t g opens = by (cases_lt b (length S))
     of lt = stood S s b lt ∙ g
 
     kept : (lt : b < length S) (c : ℕ) → (s ≡ Close → block ≢ suc b) → IsEnd S b c → IsEnd (S ++ s ∷ []) b c
-    kept lt zero ne e = more (is_close s) refl
-      where
-        o : stays_open 0 (drop (suc b) S) ≡ true
-        o = no-end S b s lt e
-
-        still : (stays_open 0 (drop (suc b) S ++ Close ∷ []) ≡ true) ⊎ (last_active is_open S ≡ suc b) → s ≡ Close → IsEnd (S ++ s ∷ []) b 0
-        still (inl h) c = open-end (S ++ s ∷ []) b (ap (stays_open 0) (behind-more S b s lt ∙ ap (λ r. drop (suc b) S ++ r ∷ []) c) ∙ h)
-        still (inr l) c = absurd (ne c (is ∙ l))
-
-        more : (x : Bool) → is_close s ≡ x → IsEnd (S ++ s ∷ []) b 0
-        more true c = still (still-or-last S b t (of lt) opens o) (is-close s c)
-        more false c = open-end (S ++ s ∷ []) b (ap (stays_open 0) (behind-more S b s lt) ∙ stays_open-push (drop (suc b) S) s c o)
+    kept lt zero ne e = open-end (S ++ s ∷ []) b (ap (stays_open 0) (behind-more S b s lt) ∙ leaves-open S b block t s (of lt) opens (no-end S b s lt e) is ne)
     kept lt (suc c) ne e = kept-end S b s lt (suc c) (omega arith) e
 
     inside : (lt : b < length S)
@@ -258,7 +249,7 @@ tells-less ends S s block n told is b t g opens = by (noted-end ends s block 0 b
     e = told b t (sym (stood S s b lt) ∙ g) opens
 
     ended : length S < c → (s ≡ Close → block ≢ suc b) → ⊥
-    ended above ne = more (is_close s) refl
+    ended above ne = false≢true (sym f ∙ leaves-open S b block t s g opens o is ne)
       where
         size : length (S ++ s ∷ []) ≡ length S + 1
         size = length-append S (s ∷ [])
@@ -273,14 +264,6 @@ tells-less ends S s block n told is b t g opens = by (noted-end ends s block 0 b
             let w = e.within in
             let r : (c == 0 || nat_lt (length S + 1) c) ≡ false = grind (arith, above, w, size) in
             ap (stays_open 0) (sym (whole S b s lt (length S + 1) (omega (arith, size)) (omega arith))) ∙ (e.tells (length S + 1) (omega (arith, lt)) (omega (arith, size)) ∙ r)
-
-        still : (stays_open 0 (drop (suc b) S ++ Close ∷ []) ≡ true) ⊎ (last_active is_open S ≡ suc b) → s ≡ Close → ⊥
-        still (inl h) c = false≢true (sym f ∙ (ap (λ r. stays_open 0 (drop (suc b) S ++ r ∷ [])) c ∙ h))
-        still (inr l) c = ne c (is ∙ l)
-
-        more : (x : Bool) → is_close s ≡ x → ⊥
-        more true c = still (still-or-last S b t g opens o) (is-close s c)
-        more false c = false≢true (sym f ∙ stays_open-push (drop (suc b) S) s c o)
 
     left : (s ≡ Close → block ≢ suc b) → (length S < c) ⊎ (c ≤ length S) → IsEnd S b c
     left ne (inl above) = absurd (ended above ne)
@@ -366,10 +349,10 @@ pub record IsTold (ends : List ℕ) (S : Database) (i at block : ℕ) : Type 0 w
   pub within : block ≢ 0 → block - 1 < length ends
   pub inside : (x : ℕ) → block ≢ 0 → x ≡ get_or ends (block - 1) x → is_active S i at ≡ (x == 0 || nat_le at x)
 
-pub active-told : (ends : List ℕ) (S : Database) (i at block : ℕ) (found : Option Stmt) → AreEnds ends S → stays_open 0 S ≡ true → slice_get S (i - 1) ≡ found → IsPlain found
+told-by : (ends : List ℕ) (S : Database) (i at block : ℕ) (found : Option Stmt) → AreEnds ends S → stays_open 0 S ≡ true → slice_get S (i - 1) ≡ found → IsPlain found
     → 1 ≤ i → i < at → at ≤ length S + 1 → block ≡ last_active is_open (take (i - 1) S) → IsTold ends S i at block
-active-told ends S i at block None told whole g plain one lt le is = absurd plain
-active-told ends S i at block (Some s) told whole g plain one lt le is = record {
+told-by ends S i at block None told whole g plain one lt le is = absurd plain
+told-by ends S i at block (Some s) told whole g plain one lt le is = record {
   outside = λ z. active-outside S i at s one lt le g plain.0 plain.1 whole (sym is ∙ z);
   within = λ some. let b = back some in let w = b.1.within in let n = told.count in omega (arith, w, n, lt, le, one, b.1.above);
   inside = λ x some e.
@@ -382,6 +365,11 @@ active-told ends S i at block (Some s) told whole g plain one lt le is = record 
   where
     back : block ≢ 0 → (t : Stmt) × IsBack is_open S (i - 1) block t
     back some = walk-back is_open S (i - 1) block refl (omega (arith, lt, le)) is some
+
+pub active-told : (k : Stock) (i at : ℕ) (l : Links) → AreStored k → (1 ≤ i) × (i < at) × (at ≤ length (statements_of k) + 1) → IsPlain (slice_get (statements_of k) (i - 1)) → l ≡ links_of (take (i - 1) (statements_of k))
+    → IsTold k.ends.items (statements_of k) i at l.block
+active-told k i at l stored place plain is =
+    told-by k.ends.items (statements_of k) i at l.block (slice_get (statements_of k) (i - 1)) stored.ended stored.kept.stays refl plain place.0 place.1 place.2 (ap (λ r. r.block) is)
 
 -- ---- the ends in the storage
 
@@ -422,7 +410,7 @@ ends-front ends S n le size told = record {
   tell = λ b s g o.
       let lt = slice_get_within (take n S) b s g in
       let w = length-take-le n S le in
-      subst (IsEnd (take n S) b) (sym (read-front ends b n (omega (arith, lt, w)) (omega (arith, le, size)))) (told b s g o);
+      subst (IsEnd (take n S) b) (sym (get_or-take n ends b 0 (omega (arith, lt, w)))) (told b s g o);
 }
 
 -- ---- the last one taken away
@@ -452,14 +440,7 @@ ends-taken es front all S e ends ends' blocks is here size told noted =
 
 kind-by : (q : Kind) (label : Name) (names : List Name) → q ≡ kind_of (stmt_by q label names)
 kind-by kind.Open label names = refl
-kind-by kind.Close label names = refl
-kind-by kind.Const label names = refl
-kind-by kind.Var label names = refl
-kind-by kind.Disj label names = refl
-kind-by kind.Float label names = refl
-kind-by kind.Ess label names = refl
-kind-by kind.Axiom label names = refl
-kind-by kind.Prove label names = refl
+kind-by kind label names = refl
 
 pub stored-blocks : (k : Stock) → AreStored k → AreBlocks k.entries (statements_of k)
 stored-blocks k stored = record {

@@ -1,98 +1,65 @@
 -- What was done to the parts of the storage for one more statement.
-use Rattle.std.specs.Prelude.{◌≡◌, ℕ, ◌+◌, List, [], ◌∷◌, ◌++◌, length, slice_get, Some, Result, Ok, Err, OnErr}
-use Rattle.std.proofs.Common.{◌∙◌, ap, sym, subst, append-nil}
+use Rattle.std.specs.Prelude.{◌≡◌, ℕ, ◌+◌, List, [], ◌∷◌, ◌++◌, length, slice_get, true, Option, Some}
+use Rattle.std.proofs.Common.{◌∙◌, ap, sym}
 use Rattle.mm_read.specs.declared.stmt.Stmt.{Stmt}
 use Rattle.mm_read.specs.Statements.{Database}
-use Rattle.scope.specs.Legal.{IsLegal}
-use Rattle.scope.specs.Kinds.{declared_symbols, declared_labels}
+use Rattle.scope.specs.Active.{bare, label_of}
+use Rattle.scope.specs.Declares.{declared_with}
+use Rattle.scope.proofs.BareLemmas.{declared_with-bare, legal-bare}
+use Rattle.entries.specs.declared.head.Head.{Head}
 use Rattle.entries.specs.declared.kind.Kind.{Kind}
 use Rattle.entries.specs.declared.links.Links.{Links}
 use Rattle.frame.specs.declared.storage.Stock.{Stock}
 use Rattle.frame.specs.declared.storage.Symbol.{Symbol}
-use Rattle.entries.specs.Entries.{Entry}
+use Rattle.entries.specs.Entries.{Assertion, Entry, made}
 use Rattle.frame.specs.Links.{links_of}
-use Rattle.frame.specs.Stored.Naming.{with_statement, naming_of}
-use Rattle.frame.specs.Stored.Whole.{AreStored, Entered}
-use Rattle.frame.specs.Stored.Counts.{Grown, HasRoom, IsBehind, AreZeroBehind, with_declared}
-use Rattle.frame.specs.Stored.EntryMeanings.{names_in, labels_in, ReadsAs, replaced_by, statements_of, symbol_of}
-use Rattle.frame.proofs.NamingLemmas.{naming_of-append, symbols-extend, symbols-with_statement, labels-with_statement, stored-naming}
-use Rattle.entries.specs.Stored.Spans.{Extends}
+use Rattle.frame.specs.Stored.AssertionParts.{has_parts}
+use Rattle.frame.specs.Stored.Naming.{naming_of}
+use Rattle.frame.specs.Stored.Whole.{AreStored, IsKeptOf}
+use Rattle.frame.specs.Stored.Counts.{Grown, HasRoom, with_declared}
+use Rattle.frame.specs.Stored.EntryMeanings.{names_in, labels_in, option_position, ReadsAs, replaced_by, statements_of, symbol_of}
+use Rattle.frame.proofs.EnterLemmas.{IsEntered, named, entered-stands, entered-below, entered-label, entered-two, label_of-bare}
+use Rattle.frame.proofs.NamingLemmas.{naming_of-append, symbols-extend}
 use Rattle.frame.proofs.StoredLemmas.{IsPushed}
 use Rattle.frame.proofs.StoredOneMore.{still-reads}
 
-pub on-err-same : {T E : Type 0} (r : Result T E) (P : Type 0) → P → OnErr r P
-on-err-same (Ok x) P p = tt
-on-err-same (Err e) P p = p
-
-pub grown-behind : (old new : Stock) → Grown old new → IsBehind old new
-grown-behind old new g = record {
-  numbering = g.numbering;
-  symbols = g.symbols;
-  positions = g.positions;
-  replaced = ([], ap (λ v. v.items) g.replaced ∙ sym (append-nil old.replaced.items));
-  ends = ([], ap (λ v. v.items) g.ends ∙ sym (append-nil old.ends.items));
-  entries = g.entries;
-  links = g.links;
-}
-
--- with what a statement replaces, and the end of its block
-pub noted-behind : (old new last : Stock) → Grown old new → last.numbering ≡ new.numbering → last.symbols ≡ new.symbols → last.positions ≡ new.positions
-    → Extends new.replaced.items last.replaced.items → Extends new.ends.items last.ends.items → last.entries ≡ new.entries → last.links ≡ new.links → IsBehind old last
-noted-behind old new last g numbering symbols positions replaced ends entries links = record {
-  numbering = subst (Extends old.numbering) (sym numbering) g.numbering;
-  symbols = subst (λ v. AreZeroBehind old.symbols.items v.items) (sym symbols) g.symbols;
-  positions = subst (λ v. Extends old.positions.items v.items) (sym positions) g.positions;
-  replaced = subst (λ r. Extends r last.replaced.items) (ap (λ v. v.items) g.replaced) replaced;
-  ends = subst (λ r. Extends r last.ends.items) (ap (λ v. v.items) g.ends) ends;
-  entries = entries ∙ g.entries;
-  links = links ∙ g.links;
-}
-
-pub nothing-behind : (xs : List ℕ) → Extends xs xs
-nothing-behind xs = ([], sym (append-nil xs))
-
-pub is-pushed : (old new : Stock) (s : Stmt) (e : Entry) (kind : Kind) (codes codes' : List ℕ) (at : ℕ) (read declared : List Symbol) (replaced' : List ℕ) (entries' : List Entry) (links' : Links)
-    → AreStored old → Entered old new s e → Grown old new → HasRoom new → IsLegal (statements_of old) s
-    → kind ≡ e.kind → codes ≡ e.symbols → codes' ≡ e.symbols → at ≡ length old.entries + 1 → read ≡ new.symbols.items
-    → ((x : ℕ → Symbol) → ReadsAs read x → replaced' ≡ new.replaced.items ++ replaced_by x kind codes)
-    → ((c : ℕ) (x : Symbol) → slice_get new.symbols.items c ≡ Some x → slice_get declared c ≡ Some (with_declared kind codes' at c x)) → length declared ≡ length new.symbols.items
-    → entries' ≡ new.entries ++ e ∷ [] → links' ≡ links_of (statements_of old ++ s ∷ [])
+-- what was entered of a legal statement, and what became of the parts of the storage
+pub is-pushed : (old new : Stock) (s : Stmt) (h : Head) (a : Assertion) (codes : List ℕ) (before after : Option (List ℕ)) (kind : Kind) (at : ℕ) (declared : List Symbol) (replaced' : List ℕ) (entries' : List Entry) (links' : Links)
+    → IsEntered old new s h before after → after ≡ Some codes → Grown old new → HasRoom new
+    → new.positions.items ≡ old.positions.items ++ option_position (label_of s) (length old.entries + 1) [] → (has_parts h.kind ≡ true → IsKeptOf old (bare s) a)
+    → kind ≡ h.kind → at ≡ length old.entries + 1 → ((x : ℕ → Symbol) → ReadsAs new.symbols.items x → replaced' ≡ new.replaced.items ++ replaced_by x kind codes)
+    → ((c : ℕ) (x : Symbol) → slice_get new.symbols.items c ≡ Some x → slice_get declared c ≡ Some (with_declared kind codes at c x)) → length declared ≡ length new.symbols.items
+    → entries' ≡ new.entries ++ made h codes a ∷ [] → links' ≡ links_of (statements_of old ++ bare s ∷ [])
     → IsPushed (names_in old) (labels_in old) old.positions.items old.symbols.items old.replaced.items old.entries old.links
-    (names_in new) (labels_in new) new.positions.items new.symbols.items declared replaced' entries' links' s e
-is-pushed old new s e kind codes codes' at read declared replaced' entries' links' stored own g room legal of_kind same same' place reads noted each count pushed links =
-    let told = (stored-naming old stored).told in
-    let before = subst (λ r. ReadsAs r (symbol_of old.entries)) (sym reads)
-    (still-reads (names_in old) (labels_in old) old.positions.items old.symbols.items old.replaced.items old.entries old.links new.symbols.items stored.kept g.symbols) in
+    (names_in new) (labels_in new) new.positions.items new.symbols.items declared replaced' entries' links' (bare s) (made h codes a)
+is-pushed old new s h a codes before after kind at declared replaced' entries' links' e are g room positions kept of_kind place noted each count pushed links =
+    let now = named old new s h before after codes e are in
     record {
       names_more = symbols-extend old.numbering new.numbering g.numbering;
-      names_made = ap declared_symbols own.numbering ∙ symbols-with_statement (statements_of old) old.numbering told s legal;
+      names_made = now.symbols;
       symbols_more = g.symbols;
-      noted = λ c x q. each c x q ∙ (ap (λ m. Some (with_declared kind codes' m c x)) place
-          ∙ (ap (λ r. Some (with_declared kind r (length old.entries + 1) c x)) same'
-          ∙ ap (λ r. Some (with_declared r e.symbols (length old.entries + 1) c x)) of_kind));
+      noted = λ c x q. each c x q ∙ (ap (λ m. Some (with_declared kind codes m c x)) place ∙ ap (λ r. Some (with_declared r codes (length old.entries + 1) c x)) of_kind);
       noted_count = count;
       count = room.count;
       few = room.few;
-      stands = own.stands;
-      below = own.symbols;
-      label = own.label;
-      names_before = own.names_before;
-      labels_before = own.labels_before;
-      replaced_more = noted (symbol_of old.entries) before
-          ∙ (ap (λ r. r.items ++ replaced_by (symbol_of old.entries) kind codes) g.replaced
-          ∙ (ap (λ r. old.replaced.items ++ replaced_by (symbol_of old.entries) kind r) same
-          ∙ ap (λ r. old.replaced.items ++ replaced_by (symbol_of old.entries) r e.symbols) of_kind));
-      two = own.two;
-      labels_more = ap declared_labels own.numbering ∙ labels-with_statement old.numbering s;
-      positions_more = own.positions;
-      entry_links = own.links;
-      entries_more = pushed ∙ ap (λ q. q ++ e ∷ []) g.entries;
-      legal = legal;
-      kept = own.kept;
+      stands = entered-stands old new s h before after codes e are a;
+      below = entered-below old new s h before after codes e are;
+      label = entered-label old new s h before after codes e are;
+      names_before = e.head.names;
+      labels_before = e.head.label;
+      replaced_more = noted (symbol_of old.entries) (still-reads (names_in old) (labels_in old) old.positions.items old.symbols.items old.replaced.items old.entries old.links new.symbols.items e.stored.kept g.symbols)
+          ∙ (ap (λ r. r.items ++ replaced_by (symbol_of old.entries) kind codes) g.replaced ∙ ap (λ r. old.replaced.items ++ replaced_by (symbol_of old.entries) r codes) of_kind);
+      two = entered-two old new s h before after codes e are;
+      labels_made = now.labels;
+      positions_more = positions ∙ ap (λ o. old.positions.items ++ option_position o (length old.entries + 1) []) (sym (label_of-bare s));
+      entry_links = e.head.links;
+      entries_more = pushed ∙ ap (λ q. q ++ made h codes a ∷ []) g.entries;
+      legal = legal-bare (statements_of old) s e.legal;
+      kept = kept;
       links_next = links;
     }
 
 -- the numbering is that of the statements, with one more
-pub numbered-pushed : (old new : Stock) (s : Stmt) (e : Entry) (T : Database) → AreStored old → Entered old new s e → T ≡ statements_of old ++ s ∷ [] → new.numbering ≡ naming_of T
-numbered-pushed old new s e T stored own same =
-    own.numbering ∙ (ap (λ N. with_statement N s) stored.numbered ∙ (sym (naming_of-append (statements_of old) s) ∙ ap naming_of (sym same)))
+pub numbered-pushed : (old new : Stock) (s : Stmt) (T : Database) → AreStored old → new.numbering ≡ declared_with old.numbering s → T ≡ statements_of old ++ bare s ∷ [] → new.numbering ≡ naming_of T
+numbered-pushed old new s T stored own same =
+    own ∙ (sym (declared_with-bare old.numbering s) ∙ (ap (λ N. declared_with N (bare s)) stored.numbered ∙ (sym (naming_of-append (statements_of old) (bare s)) ∙ ap naming_of (sym same))))

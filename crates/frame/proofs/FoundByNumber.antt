@@ -1,10 +1,10 @@
 -- Names told apart, places of numbers, and statements by their kinds.
-use Rattle.std.specs.Prelude.{◌≡◌, ℕ, zero, suc, ◌+◌, ◌-◌, ◌<◌, Bool, true, false, cond, ◌==◌, ◌||◌, List, [], ◌∷◌, length, map, take, get_or, slice_get, Option, Some, None, refl}
-use Rattle.std.specs.List.{list_any}
+use Rattle.std.specs.Prelude.{◌≡◌, ℕ, zero, suc, ◌+◌, ◌-◌, ◌<◌, Bool, true, false, cond, ◌==◌, ◌||◌, List, [], ◌∷◌, length, map, take, get_or, slice_get, Option, Some, None, option_map, refl}
 use Rattle.std.proofs.Common.{sym, ◌∙◌, ap, subst, arith, take-take}
 use Rattle.std.proofs.lemmas.Slice.Eq.{bytes_eq-Decides}
 use Rattle.std.proofs.lemmas.Bool.{or_right}
-use Rattle.mm_lex.specs.Alphabet.{Name, name_eq, has_name}
+use Rattle.std.proofs.lemmas.Option.{same_Some, slice_get-map, slice_get_within, get_or_from_slice_get}
+use Rattle.mm_lex.specs.Alphabet.{Name, name_eq}
 use Rattle.mm_read.specs.declared.stmt.Stmt.{Stmt}
 use Rattle.mm_read.specs.Statements.{Database}
 use Rattle.scope.specs.Active.{expr_of, is_assertion}
@@ -14,7 +14,7 @@ use Rattle.frame.specs.FrameOf.{is_hypothesis, variable_of, is_some_name, has_pl
 use Rattle.frame.specs.Below.{AreBelow}
 use Rattle.frame.specs.Cited.{head_of, IsHead, IsOf}
 use Rattle.entries.specs.declared.kind.Kind.{Kind}
-use Rattle.entries.specs.declared.kind.Kind.TheVariants.{Open, Close, Const, Var, Disj, Float, Ess, Axiom, Prove}
+use Rattle.entries.specs.declared.kind.Kind.TheVariants.{Float, Ess, Axiom, Prove}
 use Rattle.entries.specs.Entries.{Entry}
 use Rattle.frame.specs.Stored.EntryMeanings.{stmt_by}
 use Rattle.frame.specs.Stored.Counts.{AreNumbered, HasTwo}
@@ -22,7 +22,7 @@ use Rattle.frame.specs.Stored.AssertionParts.{variable_by, asked_by}
 use Rattle.frame.specs.Stored.NumberPlaces.{is_code, place_from}
 use Rattle.entries.proofs.BufferPlaceLemmas.{take-get}
 use Rattle.frame.proofs.LegalLabels.{AllKept}
-use Rattle.names.proofs.CodesLemmas.{name_same}
+use Rattle.names.proofs.CodesLemmas.{name_same, code-at}
 
 -- ---- lists
 
@@ -32,9 +32,7 @@ map-back f (x ∷ xs) zero y h = (x, refl, cc)
 map-back f (x ∷ xs) (suc k) y h = map-back f xs k y h
 
 pub map-at : {A B : Type 0} (f : A → B) (xs : List A) (k : ℕ) (x : A) → slice_get xs k ≡ Some x → slice_get (map f xs) k ≡ Some (f x)
-map-at f [] k x h = cc
-map-at f (y ∷ xs) zero x h = let e : y ≡ x = cc in ap (λ v. Some (f v)) e
-map-at f (y ∷ xs) (suc k) x h = map-at f xs k x h
+map-at f xs k x h = slice_get-map f xs k ∙ ap (option_map f) h
 
 pub some-same : {A : Type 0} {o : Option A} {x y : A} → o ≡ Some x → o ≡ Some y → x ≡ y
 some-same {x = x} {y = y} p q = let e : Some x ≡ Some y = sym p ∙ q in cc
@@ -50,23 +48,8 @@ kept-front all n legal (suc k) t h =
 
 -- ---- names told apart
 
-pub has-at : (names : List Name) (j : ℕ) → j < length names → has_name (name_at names j) names ≡ true
-has-at [] j h = absurd (omega (arith, h))
-has-at (x ∷ names) zero h = ap (λ b. b || list_any (name_eq x) names) (name_same x)
-has-at (x ∷ names) (suc j) h = or_right (name_eq (name_at names j) x) (list_any (name_eq (name_at names j)) names) (has-at names j (omega (arith, h)))
-
 pub name_at-injective : (names : List Name) (i j : ℕ) → AreDistinct names → i < length names → j < length names → name_at names i ≡ name_at names j → i ≡ j
-name_at-injective [] i j d h k e = absurd (omega (arith, h))
-name_at-injective (x ∷ names) zero zero d h k e = refl
-name_at-injective (x ∷ names) zero (suc j) d h k e =
-    let there = has-at names j (omega (arith, k)) in
-    let here : has_name x names ≡ true = ap (λ y. has_name y names) e ∙ there in
-    let f : false ≡ true = sym d.0 ∙ here in cc
-name_at-injective (x ∷ names) (suc i) zero d h k e =
-    let there = has-at names i (omega (arith, h)) in
-    let here : has_name x names ≡ true = ap (λ y. has_name y names) (sym e) ∙ there in
-    let f : false ≡ true = sym d.0 ∙ here in cc
-name_at-injective (x ∷ names) (suc i) (suc j) d h k e = ap suc (name_at-injective names i j d.1 (omega (arith, h)) (omega (arith, k)) e)
+name_at-injective names i j d h k e = same_Some i j (sym (code-at names (name_at names i) i d h refl) ∙ code-at names (name_at names i) j d k (sym e))
 
 -- numbers that stand for the same names are the same
 pub decode-injective : (names : List Name) (a b : List ℕ) → AreDistinct names → AreBelow (length names) a → AreBelow (length names) b → decode names a ≡ decode names b → a ≡ b
@@ -96,14 +79,20 @@ pub is_code-same : (c : ℕ) (v : Option ℕ) → is_code c v ≡ true → v ≡
 is_code-same c None h = cc
 is_code-same c (Some x) h = let e : c ≡ x = grind (arith, h) in ap Some (sym e)
 
-pub place-found : (k : ℕ) (vs : List (Option ℕ)) (c r : ℕ) → place_from k vs c ≡ Some r → (j : ℕ) × (r ≡ k + j) × (j < length vs) × (get_or vs j None ≡ Some c)
-place-found k [] c r h = cc
-place-found k (v ∷ vs) c r h = by (is_code c v) refl (place-found (k + 1) vs c r) h
+-- a number stands at its place
+pub place-stands : (k : ℕ) (vs : List (Option ℕ)) (c r : ℕ) → place_from k vs c ≡ Some r → (i : ℕ) × (r ≡ k + i) × (slice_get vs i ≡ Some (Some c))
+place-stands k [] c r h = cc
+place-stands k (v ∷ vs) c r h = by (is_code c v) refl (place-stands (k + 1) vs c r) h
   where
-    by : (b : Bool) → is_code c v ≡ b → (place_from (k + 1) vs c ≡ Some r → (j : ℕ) × (r ≡ k + 1 + j) × (j < length vs) × (get_or vs j None ≡ Some c)) → cond b (Some k) (place_from (k + 1) vs c) ≡ Some r
-        → (j : ℕ) × (r ≡ k + j) × (j < length (v ∷ vs)) × (get_or (v ∷ vs) j None ≡ Some c)
-    by true e more q = (0, (let same : k ≡ r = cc in omega (arith, same)), omega arith, is_code-same c v e)
-    by false e more q = let r' = more q in (suc r'.0, (let x = r'.1 in omega (arith, x)), (let x = r'.2 in omega (arith, x)), r'.3)
+    by : (b : Bool) → is_code c v ≡ b → (place_from (k + 1) vs c ≡ Some r → (i : ℕ) × (r ≡ k + 1 + i) × (slice_get vs i ≡ Some (Some c))) → cond b (Some k) (place_from (k + 1) vs c) ≡ Some r
+        → (i : ℕ) × (r ≡ k + i) × (slice_get (v ∷ vs) i ≡ Some (Some c))
+    by true e more q = let same : k ≡ r = cc in (0, omega (arith, same), ap Some (is_code-same c v e))
+    by false e more q = let m = more q in let n = m.0 in let at = m.1 in (suc n, omega (arith, at), m.2)
+
+pub place-found : (k : ℕ) (vs : List (Option ℕ)) (c r : ℕ) → place_from k vs c ≡ Some r → (j : ℕ) × (r ≡ k + j) × (j < length vs) × (get_or vs j None ≡ Some c)
+place-found k vs c r h =
+    let p = place-stands k vs c r h in
+    (p.0, p.1, slice_get_within vs p.0 (Some c) p.2, get_or_from_slice_get vs p.0 (Some c) None p.2)
 
 pub place-none : (names : List Name) (k : ℕ) (vs : List (Option ℕ)) (c : ℕ) → AreDistinct names → OptionsBelow (length names) vs → c < length names → place_from k vs c ≡ None → has_place (map (option_name names) vs) (name_at names c) ≡ false
 place-none names k [] c d b l h = refl
@@ -137,30 +126,16 @@ has-some names (v ∷ vs) (suc j) c h = or_right (is_some_name (name_at names c)
 
 -- the variable of a `$f` by its number and by its name
 pub variable-named : (names : List Name) (kind : Kind) (label : Name) (codes : List ℕ) → HasTwo kind codes → variable_of (stmt_by kind label (decode names codes)) ≡ option_name names (variable_by kind codes)
-variable-named names Open label codes two = refl
-variable-named names Close label codes two = refl
-variable-named names Const label codes two = refl
-variable-named names Var label codes two = refl
-variable-named names Disj label codes two = refl
-variable-named names Ess label codes two = refl
-variable-named names Axiom label codes two = refl
-variable-named names Prove label codes two = refl
 variable-named names Float label [] two = absurd (omega (arith, two))
 variable-named names Float label (x ∷ []) two = absurd (omega (arith, two))
 variable-named names Float label (x ∷ y ∷ codes) two = refl
+variable-named names kind label codes two = refl
 
 pub variable-below : (n : ℕ) (kind : Kind) (codes : List ℕ) → AreBelow n codes → OptionBelow n (variable_by kind codes)
-variable-below n Open codes b = tt
-variable-below n Close codes b = tt
-variable-below n Const codes b = tt
-variable-below n Var codes b = tt
-variable-below n Disj codes b = tt
-variable-below n Ess codes b = tt
-variable-below n Axiom codes b = tt
-variable-below n Prove codes b = tt
 variable-below n Float [] b = tt
 variable-below n Float (x ∷ []) b = tt
 variable-below n Float (x ∷ y ∷ codes) b = b.1.0
+variable-below n kind codes b = tt
 
 pub numbered-at : (n m : ℕ) (es : List Entry) (k : ℕ) (e : Entry) → AreNumbered n m es → slice_get es k ≡ Some e → AreBelow n e.symbols × HasTwo e.kind e.symbols
 numbered-at n m [] k e a h = cc
@@ -170,13 +145,7 @@ numbered-at n m (x ∷ es) (suc k) e a h = numbered-at n m es k e a.2 h
 pub own-expr : (names : List Name) (kind : Kind) (label : Name) (codes : List ℕ) → is_assertion (stmt_by kind label (decode names codes)) ≡ true → expr_of (stmt_by kind label (decode names codes)) ≡ decode names codes
 own-expr names Axiom label codes h = refl
 own-expr names Prove label codes h = refl
-own-expr names Open label codes h = cc
-own-expr names Close label codes h = cc
-own-expr names Const label codes h = cc
-own-expr names Var label codes h = cc
-own-expr names Disj label codes h = cc
-own-expr names Float label codes h = cc
-own-expr names Ess label codes h = cc
+own-expr names kind label codes h = cc
 
 -- a hypothesis by its kind
 pub asked-kind : (names : List Name) (kind : Kind) (label : Name) (codes : List ℕ) (p : ℕ) (S : Database) (s : Stmt) → AreBelow (length names) codes → HasTwo kind codes
@@ -187,10 +156,4 @@ asked-kind names Float label (x ∷ []) p S s b two h = absurd (omega (arith, tw
 asked-kind names Float label (x ∷ y ∷ codes) p S s b two h = ((b.0, refl), (b.1.0, refl))
 asked-kind names Ess label [] p S s b two h = (refl, refl)
 asked-kind names Ess label (x ∷ codes) p S s b two h = ((b.0, refl), refl)
-asked-kind names Open label codes p S s b two h = cc
-asked-kind names Close label codes p S s b two h = cc
-asked-kind names Const label codes p S s b two h = cc
-asked-kind names Var label codes p S s b two h = cc
-asked-kind names Disj label codes p S s b two h = cc
-asked-kind names Axiom label codes p S s b two h = cc
-asked-kind names Prove label codes p S s b two h = cc
+asked-kind names kind label codes p S s b two h = cc

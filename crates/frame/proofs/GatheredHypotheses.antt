@@ -20,15 +20,13 @@ use Rattle.frame.specs.Stored.AssertionParts.{kept_with, variable_at, symbols_at
 use Rattle.frame.specs.Stored.Counts.{AreNumbered}
 use Rattle.frame.proofs.DeclaredSymbolLemmas.{stored-distinct}
 use Rattle.frame.proofs.LegalLabels.{AllKept}
-use Rattle.frame.proofs.AssertionLemmas.{get-entry, hypotheses-are}
+use Rattle.frame.proofs.AssertionLemmas.{active-entry, hypotheses-are}
 use Rattle.frame.proofs.EnterLemmas.{essentials-kept, not-essential}
 use Rattle.frame.proofs.CitedLemmas.{IsThere, there-expr, there-lists}
 use Rattle.entries.proofs.BufferPlaceLemmas.{take-get}
 use Rattle.entries.proofs.StatementRecordLemmas.{get-more}
 use Rattle.frame.proofs.FoundByNumber.{kept-front}
 use Rattle.frame.proofs.CollectedLemmas.{found-float, float-found, collected-hypotheses}
-use Rattle.frame.proofs.ActivePositions.{active-members}
-use Rattle.frame.proofs.LegalBehind.{stands-at}
 
 pub some-map : {A : Type 0} (o : Option A) (P Q : A → Type 0) → ((x : A) → P x → Q x) → IfSome o P → IfSome o Q
 some-map (Some x) P Q f p = f x p
@@ -42,27 +40,14 @@ numbered-front n m (suc i) (e ∷ es) h = (h.0, h.1, numbered-front n m i es h.2
 
 -- what is kept with an active `$e` stays, whatever is put behind
 kept-same : (names labels : List Name) (es more : List Entry) (r : ℕ) → In r (map (λ q. q.0) (actives is_essential (map (stmt_of names labels) es))) → kept_at (es ++ more) r ≡ kept_at es r
-kept-same names labels es more r i =
-    let S = map (stmt_of names labels) es in
-    let h = active-members S is_essential r [] S 1 refl refl i in
-    let back : r - 1 ≡ length h.front = let at = h.at in omega (arith, at) in
-    let e = get-entry names labels es (length h.front) h.stmt (ap (λ w. slice_get w (length h.front)) h.whole ∙ stands-at h.front h.stmt h.rest) in
-    let there = ap (slice_get es) back ∙ e.1 in
-    ap option_kept (get-more es more (r - 1) e.0 there ∙ sym there)
+kept-same names labels es more r i = let e = active-entry names labels es is_essential r i in ap option_kept (get-more es more (r - 1) e.0 e.2 ∙ sym e.2)
 
-given-more : (names labels : List Name) (es more : List Entry) (p : ℕ) → IsGiven es (map (stmt_of names labels) es) p → IsGiven (es ++ more) (map (stmt_of names labels) es) p
-given-more names labels es more p g = record { essential = g.essential; among = g.among; way = by g.way }
+given-by : (es fs : List Entry) (S : Database) (p : ℕ) → ((r : ℕ) → In r (map (λ q. q.0) (actives is_essential S)) → kept_at fs r ≡ kept_at es r) → IsGiven es S p → IsGiven fs S p
+given-by es fs S p same g = record { essential = g.essential; among = g.among; way = by g.way }
   where
-    by : (p ≡ g.essential) ⊎ In p (kept_at es g.essential) → (p ≡ g.essential) ⊎ In p (kept_at (es ++ more) g.essential)
+    by : (p ≡ g.essential) ⊎ In p (kept_at es g.essential) → (p ≡ g.essential) ⊎ In p (kept_at fs g.essential)
     by (inl e) = inl e
-    by (inr i) = inr (subst (In p) (sym (kept-same names labels es more g.essential g.among)) i)
-
-given-less : (names labels : List Name) (es more : List Entry) (p : ℕ) → IsGiven (es ++ more) (map (stmt_of names labels) es) p → IsGiven es (map (stmt_of names labels) es) p
-given-less names labels es more p g = record { essential = g.essential; among = g.among; way = by g.way }
-  where
-    by : (p ≡ g.essential) ⊎ In p (kept_at (es ++ more) g.essential) → (p ≡ g.essential) ⊎ In p (kept_at es g.essential)
-    by (inl e) = inl e
-    by (inr i) = inr (subst (In p) (kept-same names labels es more g.essential g.among) i)
+    by (inr i) = inr (subst (In p) (sym (same g.essential g.among)) i)
 
 -- its own `$f` with the active `$e` and what is kept with these
 pub gathered-hypotheses : (es : List Entry) (names labels : List Name) (m i : ℕ) (s : Stmt) (codes : List ℕ) → AreDistinct names → AreNumbered (length names) m es → AllKept (map (stmt_of names labels) es)
@@ -83,9 +68,9 @@ gathered-hypotheses es names labels m i s codes distinct numbered legal low stan
     let whole : es ≡ few ++ drop i es = sym (take-append-drop i es) in
     let w' : AreWith (few ++ drop i es) T (floats_in T (expr_of s)) list = subst (λ x. AreWith x T (floats_in T (expr_of s)) list) whole (subst (λ D. AreWith es D (floats_in D (expr_of s)) list) is w) in
     let there : (p : ℕ) → SomeFloat few T codes p ⊎ IsGiven few T p → In p (floats_in T (expr_of s)) ⊎ IsGiven (few ++ drop i es) T p
-    = λ p. ⊎_elim (λ f. inl (subst (λ e. In p (floats_in T e)) stand (found-float few names labels m T refl distinct n all codes low p f))) (λ g. inr (given-more names labels few (drop i es) p g)) in
+    = λ p. ⊎_elim (λ f. inl (subst (λ e. In p (floats_in T e)) stand (found-float few names labels m T refl distinct n all codes low p f))) (λ g. inr (given-by few (few ++ drop i es) T p (kept-same names labels few (drop i es)) g)) in
     let back : (p : ℕ) → In p (floats_in T (expr_of s)) ⊎ IsGiven (few ++ drop i es) T p → SomeFloat few T codes p ⊎ IsGiven few T p
-    = λ p. ⊎_elim (λ j. inl (float-found few names labels m T refl distinct n all codes low p (subst (λ e. In p (floats_in T e)) (sym stand) j))) (λ g. inr (given-less names labels few (drop i es) p g)) in
+    = λ p. ⊎_elim (λ j. inl (float-found few names labels m T refl distinct n all codes low p (subst (λ e. In p (floats_in T e)) (sym stand) j))) (λ g. inr (given-by (few ++ drop i es) few T p (λ r j. sym (kept-same names labels few (drop i es) r j)) g)) in
     collected-hypotheses few names labels m T refl distinct n all s codes low stand here list (record { ascends = w'.ascends; all = λ p x. w'.all p (there p x); only = λ p j. back p (w'.only p j) })
     ∙ ap (λ D. hypotheses D s) (sym is)
 

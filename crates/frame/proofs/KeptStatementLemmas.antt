@@ -253,9 +253,9 @@ module _ (es : List Entry) (names labels : List Name) (m a : ℕ) (e : Entry) (d
 
 -- the lists, and the expression, are what is cited
 pub lists-cited : (S : Database) (names : List Name) (a : ℕ) (s : Stmt) (d : Assertion) (codes : List ℕ) → AreListsOf S names a d s → decode names codes ≡ expr_of s → AreBelow (length names) codes
-    → (c : Cited) → c.heads.now ≡ d.heads → c.hypotheses.now ≡ d.asked → c.conclusion.now ≡ codes → c.groups ≡ d.groups → IsCited S names a s c
+    → (c : Cited) → c.heads.now ≡ d.heads → c.hypotheses ≡ d.asked → c.conclusion.now ≡ codes → c.groups ≡ d.groups → IsCited S names a s c
 lists-cited S names a s d codes l stand low c p q k g = record {
-  asked = subst (λ hs. AreAsked S names (hypotheses (before S a) s) hs c.hypotheses.now) (sym p) (subst (AreAsked S names (hypotheses (before S a) s) d.heads) (sym q) l.asked);
+  asked = subst (λ hs. AreAsked S names (hypotheses (before S a) s) hs c.hypotheses) (sym p) (subst (AreAsked S names (hypotheses (before S a) s) d.heads) (sym q) l.asked);
   conclusion = ap (decode names) k ∙ stand;
   conclusion_below = subst (AreBelow (length names)) (sym k) low;
   groups = ap (map (decode names)) g ∙ l.groups;

@@ -1,48 +1,45 @@
--- Looking through the active statements of a kind, from the last one back.
-use Rattle.std.specs.Prelude.{◌≡◌, ℕ, zero, suc, ◌-◌, ◌<◌, ◌≤◌, Bool, true, false, cond, ◌||◌, ◌==◌, nat_eq, List, [], ◌∷◌, length, map, take, filter, slice_get, Some, refl}
+-- Going through the active statements of a kind, from the last one back.
+use Rattle.std.specs.Prelude.{◌≡◌, ℕ, zero, suc, ◌-◌, ◌<◌, ◌≤◌, Bool, true, false, cond, ◌||◌, ◌==◌, nat_eq, List, [], ◌∷◌, ◌++◌, length, take, filter, slice_get, Some, refl}
 use Rattle.std.specs.List.{list_any}
-use Rattle.std.proofs.Common.{sym, ◌∙◌, ap, arith}
+use Rattle.std.proofs.Common.{sym, ◌∙◌, ap, arith, true≢false}
+use Rattle.std.specs.Cmp.{both_ways}
 use Rattle.std.proofs.Math.Bool.{or-false}
+use Rattle.std.proofs.lemmas.List.{length-map}
 use Rattle.std.proofs.lemmas.List.Folds.{list_any-append}
-use Rattle.std.proofs.lemmas.Slice.Eq.{bytes_eq-Decides}
-use Rattle.std.proofs.lemmas.Bool.{or_right, or_parts}
+use Rattle.std.proofs.lemmas.Bool.{or_right, false_from_ne_true}
+use Rattle.names.proofs.CodesLemmas.{has-at, name_same, same_name}
+use Rattle.frame.proofs.FoundByNumber.{name_at-injective}
 use Rattle.std.proofs.lemmas.Option.{same_Some}
 use Rattle.mm_lex.specs.Alphabet.{Name, name_eq, has_name}
 use Rattle.mm_read.specs.declared.stmt.Stmt.{Stmt}
 use Rattle.mm_read.specs.declared.stmt.Stmt.TheVariants as stmt
 use Rattle.mm_read.specs.Statements.{Database}
-use Rattle.scope.specs.Active.{separated, variables}
+use Rattle.scope.specs.Active.{active, separated, variables, is_essential}
 use Rattle.names.specs.Codes.{name_at, decode, AreDistinct}
 use Rattle.frame.specs.Below.{AreBelow}
-use Rattle.frame.specs.Links.{actives, last_active, is_var, is_disj}
-use Rattle.frame.proofs.OpenLemmas.{IsNoClose}
-use Rattle.frame.proofs.BlockWalkLemmas.{IsBack, walk-back, walk-over}
+use Rattle.frame.specs.Links.{actives, last_position, last_active, links_of, is_var, is_disj}
+use Rattle.frame.proofs.OpenLemmas.{IsNoClose, last_position-push}
+use Rattle.frame.proofs.BlockWalkLemmas.{walk-back, walk-over, back-own}
+use Rattle.frame.proofs.StoredOneMore.{numbered-at}
 use Rattle.frame.proofs.StoredReading.{get-stmt}
 use Rattle.entries.specs.declared.kind.Kind.{Kind}
-use Rattle.entries.specs.declared.kind.Kind.TheVariants.{Open, Close, Const, Var, Disj, Float, Ess, Axiom, Prove}
+use Rattle.entries.specs.declared.kind.Kind.TheVariants.{Var, Disj}
 use Rattle.entries.specs.Entries.{Entry}
-use Rattle.frame.specs.Stored.EntryMeanings.{stmt_by, stmt_of}
+use Rattle.entries.specs.declared.links.Links.{Links}
+use Rattle.frame.specs.declared.storage.Stock.{Stock}
+use Rattle.frame.specs.Stored.EntryMeanings.{stmt_by, stmt_of, names_in, labels_in, statements_of}
+use Rattle.frame.specs.Stored.Whole.{AreStored}
 
 -- ---- numbers are the same where their names are
 
 pub not-has : (names : List Name) (n : ℕ) (x : Name) → has_name x names ≡ false → n < length names → name_eq x (name_at names n) ≡ false
-not-has [] n x h l = absurd (omega (arith, l))
-not-has (y ∷ names) zero x h l = (or_parts (name_eq x y) (has_name x names) h).0
-not-has (y ∷ names) (suc n) x h l = not-has names n x (or_parts (name_eq x y) (has_name x names) h).1 (omega (arith, l))
-
-eq-flip : (x y : Name) → name_eq y x ≡ false → name_eq x y ≡ false
-eq-flip x y h = by (name_eq x y) refl
-  where
-    by : (b : Bool) → name_eq x y ≡ b → b ≡ false
-    by true e = let f : true ≡ false = sym ((bytes_eq-Decides y x).1 (sym ((bytes_eq-Decides x y).0 e))) ∙ h in cc
-    by false e = refl
+not-has names n x h l = false_from_ne_true (name_eq x (name_at names n)) (λ e. true≢false (sym (has-at names x n l (sym (same_name x (name_at names n) e))) ∙ h))
 
 pub same-number : (names : List Name) (m n : ℕ) → AreDistinct names → m < length names → n < length names → nat_eq m n ≡ name_eq (name_at names m) (name_at names n)
-same-number [] m n d a b = absurd (omega (arith, a))
-same-number (x ∷ names) zero zero d a b = sym ((bytes_eq-Decides x x).1 refl)
-same-number (x ∷ names) zero (suc n) d a b = let f : nat_eq zero (suc n) ≡ false = grind arith in f ∙ sym (not-has names n x d.0 (omega (arith, b)))
-same-number (x ∷ names) (suc m) zero d a b = let f : nat_eq (suc m) zero ≡ false = grind arith in f ∙ sym (eq-flip (name_at names m) x (not-has names m x d.0 (omega (arith, a))))
-same-number (x ∷ names) (suc m) (suc n) d a b = let e : nat_eq (suc m) (suc n) ≡ nat_eq m n = grind arith in e ∙ same-number names m n d.1 (omega (arith, a)) (omega (arith, b))
+same-number names m n d a b =
+    both_ways (nat_eq m n) (name_eq (name_at names m) (name_at names n))
+    (λ e. let same : m ≡ n = grind (arith, e) in ap (λ k. name_eq (name_at names m) (name_at names k)) (sym same) ∙ name_same (name_at names m))
+    (λ e. let same = name_at-injective names m n d a b (same_name (name_at names m) (name_at names n) e) in grind (arith, same))
 
 pub has-decode : (names : List Name) (x : ℕ) (codes : List ℕ) → AreDistinct names → x < length names → AreBelow (length names) codes
     → list_any (λ y. x == y) codes ≡ has_name (name_at names x) (decode names codes)
@@ -60,70 +57,135 @@ any-kind kind g no_other (p ∷ ps) = by (kind p.1) refl (any-kind kind g no_oth
     by true e r = ap (λ t. g p || t) r
     by false e r = ap (λ t. t || list_any g ps) (no_other p e) ∙ r
 
--- ---- the walk
+-- ---- the walk from one active statement of a kind to the one before it
 
-pub record IsSought (kind : Stmt → Bool) (g : ℕ × Stmt → Bool) (S : Database) (at p m : ℕ) : Type 0 where
-  pub high : m ≤ length S
-  pub last : p ≡ last_active kind (take m S)
-  pub same : list_any g (actives kind (take m S)) ≡ list_any g (actives kind (take (at - 1) S))
+-- the links tell of the last active statement of a kind that no `$}` has
+pub record IsChain (kind : Stmt → Bool) (link : Links → ℕ) : Type 0 where
+  pub no_close : IsNoClose kind
+  pub tells : (S : Database) → link (links_of S) ≡ last_active kind S
 
-last-any : (g : ℕ × Stmt → Bool) (q : ℕ × Stmt) (b : Bool) → g q ≡ b → list_any g (q ∷ []) ≡ b
-last-any g q true h = ap (λ t. t || false) h
-last-any g q false h = ap (λ t. t || false) h
+pub disjoint_chain : IsChain is_disj (λ l. l.disjoint)
+disjoint_chain = record { no_close = refl; tells = λ S. refl }
 
-module _ (kind : Stmt → Bool) (g : ℕ × Stmt → Bool) (S : Database) (at p m : ℕ) (n : IsNoClose kind) (w : IsSought kind g S at p m) where
-  pub sought-here : (p ≡ 0 → ⊥) → (s : Stmt) × IsBack kind S m p s
-  sought-here some = walk-back kind S m p n w.high w.last some
+pub variable_chain : IsChain is_var (λ l. l.variable)
+variable_chain = record { no_close = refl; tells = λ S. refl }
 
-  pub sought-found : (s : Stmt) → IsBack kind S m p s → g (p, s) ≡ true → list_any g (actives kind (take (at - 1) S)) ≡ true
-  sought-found s b h =
-      sym w.same ∙ (ap (list_any g) b.list ∙ (list_any-append g (actives kind (take (p - 1) S)) ((p, s) ∷ []) ∙ or_right (list_any g (actives kind (take (p - 1) S))) (list_any g ((p, s) ∷ [])) (last-any g (p, s) true h)))
+pub essential_chain : IsChain is_essential (λ l. l.essential)
+essential_chain = record { no_close = refl; tells = λ S. refl }
 
-  pub sought-step : (s : Stmt) → IsBack kind S m p s → g (p, s) ≡ false → IsSought kind g S at (last_active kind (take (p - 1) S)) (p - 1)
-  sought-step s b h =
-      let a = b.within in let c = w.high in
-      record {
-        high = omega (arith, a, c);
-        last = refl;
-        same = sym (ap (list_any g) b.list ∙ (list_any-append g (actives kind (take (p - 1) S)) ((p, s) ∷ [])
-            ∙ (ap (λ t. list_any g (actives kind (take (p - 1) S)) || t) (last-any g (p, s) false h) ∙ or-false (list_any g (actives kind (take (p - 1) S)))))) ∙ w.same;
-      }
+-- those of the kind that are active behind the first p statements
+abbrev pub walked : (Stmt → Bool) → Stock → ℕ → List (ℕ × Stmt)
+walked kind k p = actives kind (take p (statements_of k))
 
-  pub sought-over : p ≡ 0 → list_any g (actives kind (take (at - 1) S)) ≡ false
-  sought-over z = sym w.same ∙ ap (list_any g) (walk-over kind S m p n w.last z)
+-- the last of them stands at p, or there is none and p is 0
+pub record IsAt (kind : Stmt → Bool) (k : Stock) (p : ℕ) : Type 0 where
+  pub within : p ≤ length k.entries
+  pub last : p ≡ last_active kind (take p (statements_of k))
 
--- ---- the entries walked over
+-- the last one of those behind the first m stands at p
+pub record IsFrom (kind : Stmt → Bool) (k : Stock) (m p : ℕ) : Type 0 where
+  pub at : IsAt kind k p
+  pub low : p ≤ m
+  pub same : walked kind k p ≡ walked kind k m
 
-pub entry-disj : (names labels : List Name) (e : Entry) → is_disj (stmt_of names labels e) ≡ true → separated (stmt_of names labels e) ≡ decode names e.symbols
+as-many : (k : Stock) → length (statements_of k) ≡ length k.entries
+as-many k = length-map k.entries (stmt_of (names_in k) (labels_in k))
+
+from : (kind : Stmt → Bool) → IsNoClose kind → (k : Stock) (m p : ℕ) → m ≤ length k.entries → p ≡ last_active kind (take m (statements_of k)) → IsFrom kind k m p
+from kind n k m zero high h = record { at = record { within = omega arith; last = refl }; low = omega arith; same = sym (walk-over kind (statements_of k) m zero n h refl) }
+from kind n k m (suc i) high h =
+    let b = walk-back kind (statements_of k) m (suc i) n (omega (arith, high, as-many k)) h (λ z. cc) in
+    let le = b.1.within in
+    let own = back-own kind (statements_of k) m (suc i) b.0 n b.1 in
+    record {
+      at = record { within = omega (arith, le, high); last = sym (ap last_position own ∙ last_position-push (actives kind (take (suc i - 1) (statements_of k))) (suc i, b.0)) };
+      low = le;
+      same = own ∙ sym b.1.list;
+    }
+
+pub walk-from : {kind : Stmt → Bool} {link : Links → ℕ} (k : Stock) (m : ℕ) (l : Links) → IsChain kind link → m ≤ length (statements_of k) → l ≡ links_of (take m (statements_of k)) → IsFrom kind k m (link l)
+walk-from {kind = kind} {link = link} k m l chain high h =
+    from kind chain.no_close k m (link l) (omega (arith, high, as-many k)) (ap link h ∙ chain.tells (take m (statements_of k)))
+
+-- the statement at p is read, and q is where the one before it stands
+pub record IsStep (kind : Stmt → Bool) (k : Stock) (p : ℕ) (e : Entry) (q : ℕ) : Type 0 where
+  pub smaller : q < p
+  pub at : IsAt kind k q
+  pub list : walked kind k p ≡ walked kind k q ++ (p, stmt_of (names_in k) (labels_in k) e) ∷ []
+  pub of_kind : kind (stmt_of (names_in k) (labels_in k) e) ≡ true
+  pub below : AreBelow (length (names_in k)) e.symbols
+
+pub walk-step : {kind : Stmt → Bool} {link : Links → ℕ} {k : Stock} {p : ℕ} (e : Entry) → IsChain kind link → AreStored k → IsAt kind k p → (p ≡ 0 → ⊥) → slice_get k.entries (p - 1) ≡ Some e → IsStep kind k p e (link e.links)
+walk-step {kind = kind} {link = link} {k = k} {p = p} e chain stored at some got =
+    let S = statements_of k in
+    let high = at.within in
+    let b = walk-back kind S p p chain.no_close (omega (arith, high, as-many k)) at.last some in
+    let one = b.1.above in
+    let f = from kind chain.no_close k (p - 1) (link e.links) (omega (arith, high)) (ap link (stored.kept.linked (p - 1) e got) ∙ chain.tells (take (p - 1) S)) in
+    let low = f.low in
+    let is : b.0 ≡ stmt_of (names_in k) (labels_in k) e = same_Some _ _ (sym b.1.stands ∙ get-stmt (names_in k) (labels_in k) k.entries (p - 1) e got) in
+    record {
+      smaller = omega (arith, low, one);
+      at = f.at;
+      list = b.1.list ∙ (ap (λ r. r ++ (p, b.0) ∷ []) (sym f.same) ∙ ap (λ s. walked kind k (link e.links) ++ (p, s) ∷ []) is);
+      of_kind = ap kind (sym is) ∙ b.1.of_kind;
+      below = numbered-at (length (names_in k)) (length (labels_in k)) k.entries stored.kept.coded (p - 1) e got;
+    }
+
+-- ---- whether one of the statements walked over has a list that passes a test
+
+-- the lists of the statements of a kind
+pub record AreLists (kind : Stmt → Bool) (lists : Stmt → List Name) : Type 0 where
+  pub stand : (names labels : List Name) (e : Entry) → kind (stmt_of names labels e) ≡ true → lists (stmt_of names labels e) ≡ decode names e.symbols
+  pub other : (s : Stmt) → kind s ≡ false → lists s ≡ []
+
+pub record IsSought (kind : Stmt → Bool) (lists : Stmt → List Name) (test : List Name → Bool) (k : Stock) (p : ℕ) (answer : Bool) : Type 0 where
+  pub at : IsAt kind k p
+  pub same : list_any (λ q. test (lists q.1)) (walked kind k p) ≡ answer
+
+pub sought-start : {kind : Stmt → Bool} {link : Links → ℕ} {lists : Stmt → List Name} {test : List Name → Bool} {answer : Bool} (k : Stock) (m : ℕ) (l : Links) → IsChain kind link
+    → m ≤ length (statements_of k) → l ≡ links_of (take m (statements_of k)) → list_any (λ q. test (lists q.1)) (walked kind k m) ≡ answer → IsSought kind lists test k (link l) answer
+sought-start {lists = lists} {test = test} k m l chain high h is =
+    let f = walk-from k m l chain high h in
+    record { at = f.at; same = ap (list_any (λ q. test (lists q.1))) f.same ∙ is }
+
+-- where the empty list does not pass, the statements of other kinds may be among them
+pub any-active : {kind : Stmt → Bool} {lists : Stmt → List Name} (test : List Name → Bool) (S : Database) → AreLists kind lists → test [] ≡ false
+    → list_any (λ q. test (lists q.1)) (actives kind S) ≡ list_any (λ q. test (lists q.1)) (active S)
+any-active {kind = kind} {lists = lists} test S are none = sym (any-kind kind (λ q. test (lists q.1)) (λ q o. ap test (are.other q.1 o) ∙ none) (active S))
+
+module _ {kind : Stmt → Bool} {lists : Stmt → List Name} {test : List Name → Bool} {k : Stock} {p q : ℕ} {answer : Bool} (e : Entry) (are : AreLists kind lists) (step : IsStep kind k p e q) (w : IsSought kind lists test k p answer) where
+  joined : (list_any (λ r. test (lists r.1)) (walked kind k q) || (test (decode (names_in k) e.symbols) || false)) ≡ answer
+  joined =
+      ap (λ l. list_any (λ r. test (lists r.1)) (walked kind k q) || (test l || false)) (sym (are.stand (names_in k) (labels_in k) e step.of_kind))
+      ∙ (sym (list_any-append (λ (r : ℕ × Stmt). test (lists r.1)) (walked kind k q) ((p, stmt_of (names_in k) (labels_in k) e) ∷ [])) ∙ (ap (list_any (λ r. test (lists r.1))) (sym step.list) ∙ w.same))
+
+  pub sought-found : test (decode (names_in k) e.symbols) ≡ true → true ≡ answer
+  sought-found h =
+      sym (or_right (list_any (λ r. test (lists r.1)) (walked kind k q)) (true || false) refl) ∙ (ap (λ t. list_any (λ r. test (lists r.1)) (walked kind k q) || (t || false)) (sym h) ∙ joined)
+
+  pub sought-step : test (decode (names_in k) e.symbols) ≡ false → IsSought kind lists test k q answer
+  sought-step h = record {
+    at = step.at;
+    same = sym (or-false (list_any (λ r. test (lists r.1)) (walked kind k q))) ∙ (ap (λ t. list_any (λ r. test (lists r.1)) (walked kind k q) || (t || false)) (sym h) ∙ joined);
+  }
+
+entry-disj : (names labels : List Name) (e : Entry) → is_disj (stmt_of names labels e) ≡ true → separated (stmt_of names labels e) ≡ decode names e.symbols
 entry-disj names labels e = by e.kind
   where
     by : (kind : Kind) → is_disj (stmt_by kind (name_at labels e.label) (decode names e.symbols)) ≡ true → separated (stmt_by kind (name_at labels e.label) (decode names e.symbols)) ≡ decode names e.symbols
     by Disj h = refl
-    by Open h = cc
-    by Close h = cc
-    by Const h = cc
-    by Var h = cc
-    by Float h = cc
-    by Ess h = cc
-    by Axiom h = cc
-    by Prove h = cc
+    by kind h = cc
 
 pub entry-var : (names labels : List Name) (e : Entry) → is_var (stmt_of names labels e) ≡ true → variables (stmt_of names labels e) ≡ decode names e.symbols
 entry-var names labels e = by e.kind
   where
     by : (kind : Kind) → is_var (stmt_by kind (name_at labels e.label) (decode names e.symbols)) ≡ true → variables (stmt_by kind (name_at labels e.label) (decode names e.symbols)) ≡ decode names e.symbols
     by Var h = refl
-    by Disj h = cc
-    by Open h = cc
-    by Close h = cc
-    by Const h = cc
-    by Float h = cc
-    by Ess h = cc
-    by Axiom h = cc
-    by Prove h = cc
+    by kind h = cc
 
 -- a statement that lists no variables
-pub other-disj : (s : Stmt) → is_disj s ≡ false → separated s ≡ []
+other-disj : (s : Stmt) → is_disj s ≡ false → separated s ≡ []
 other-disj (stmt.Disj n) h = cc
 other-disj s h = refl
 
@@ -131,14 +193,8 @@ pub other-var : (s : Stmt) → is_var s ≡ false → variables s ≡ []
 other-var (stmt.Var n) h = cc
 other-var s h = refl
 
--- what is read at the place of the walk
-pub record IsRead (kind : Stmt → Bool) (names labels : List Name) (es : List Entry) (p m : ℕ) (e : Entry) (s : Stmt) : Type 0 where
-  pub entry : slice_get es (p - 1) ≡ Some e
-  pub is : stmt_of names labels e ≡ s
-  pub back : IsBack kind (map (stmt_of names labels) es) m p s
+pub disjoint_lists : AreLists is_disj separated
+disjoint_lists = record { stand = entry-disj; other = other-disj }
 
-pub read-here : (kind : Stmt → Bool) (g : ℕ × Stmt → Bool) (names labels : List Name) (es : List Entry) (at p m : ℕ) (e : Entry) → IsNoClose kind → IsSought kind g (map (stmt_of names labels) es) at p m → (p ≡ 0 → ⊥)
-    → slice_get es (p - 1) ≡ Some e → (s : Stmt) × IsRead kind names labels es p m e s
-read-here kind g names labels es at p m e n w some got =
-    let b = sought-here kind g (map (stmt_of names labels) es) at p m n w some in
-    (b.0, record { entry = got; is = same_Some _ _ (sym (get-stmt names labels es (p - 1) e got) ∙ b.1.stands); back = b.1 })
+pub variable_lists : AreLists is_var variables
+variable_lists = record { stand = entry-var; other = other-var }

@@ -6,7 +6,7 @@ use Rattle.scope.specs.Active.{label_of}
 use Rattle.names.specs.Codes.{name_at, decode}
 use Rattle.entries.specs.Entries.{Entry}
 use Rattle.entries.specs.declared.kind.Kind.{Kind}
-use Rattle.entries.specs.declared.kind.Kind.TheVariants.{Open, Close, Const, Var, Disj, Float, Ess, Axiom, Prove}
+use Rattle.entries.specs.declared.kind.Kind.TheVariants.{Float, Ess, Axiom, Prove}
 use Rattle.frame.specs.Stored.Labels.{is_label_kind}
 use Rattle.frame.specs.Stored.EntryMeanings.{stmt_by, stmt_of}
 use Rattle.frame.specs.Stored.Counts.{AreNumbered, IsLabelBelow}
@@ -21,11 +21,7 @@ label-below Float label m h b = b
 label-below Ess label m h b = b
 label-below Axiom label m h b = b
 label-below Prove label m h b = b
-label-below Open label m h b = cc
-label-below Close label m h b = cc
-label-below Const label m h b = cc
-label-below Var label m h b = cc
-label-below Disj label m h b = cc
+label-below kind label m h b = cc
 
 pub label-is : (names labels : List Name) (e : Entry) → is_label_kind e.kind ≡ true → label_of (stmt_of names labels e) ≡ Some (name_at labels e.label)
 label-is names labels e = by e.kind
@@ -35,11 +31,7 @@ label-is names labels e = by e.kind
     by Ess h = refl
     by Axiom h = refl
     by Prove h = refl
-    by Open h = cc
-    by Close h = cc
-    by Const h = cc
-    by Var h = cc
-    by Disj h = cc
+    by kind h = cc
 
 pub label-none : (names labels : List Name) (e : Entry) → is_label_kind e.kind ≡ false → label_of (stmt_of names labels e) ≡ None
 label-none names labels e = by e.kind
@@ -49,8 +41,4 @@ label-none names labels e = by e.kind
     by Ess h = cc
     by Axiom h = cc
     by Prove h = cc
-    by Open h = refl
-    by Close h = refl
-    by Const h = refl
-    by Var h = refl
-    by Disj h = refl
+    by kind h = refl

@@ -1,29 +1,22 @@
 -- What a legal statement keeps of what stands before it; a constant is never a variable.
-use Rattle.std.specs.Prelude.{◌≡◌, suc, ◌-◌, Bool, true, false, not, cond, ◌&&◌, ◌||◌, List, [], ◌∷◌, ◌++◌, length, take, Some, None, slice_get, refl}
-use Rattle.std.specs.List.{list_any, list_all, find}
+use Rattle.std.specs.Prelude.{◌≡◌, suc, ◌-◌, Bool, true, false, not, ◌&&◌, ◌||◌, List, [], ◌∷◌, ◌++◌, length, take, Some, slice_get, refl}
+use Rattle.std.specs.List.{list_any, list_all}
 use Rattle.std.proofs.Common.{sym, ◌∙◌, ap, subst, arith}
+use Rattle.std.proofs.Math.Seq.{take-append_seam}
 use Rattle.std.proofs.lemmas.List.Folds.{list_any-append}
 use Rattle.std.proofs.lemmas.Bool.{or_left, or_right, and_parts, not-true, or_parts, not-false, both_ways, false_from_ne_true}
 use Rattle.scope.proofs.GoingBackLemmas.{all-has}
 use Rattle.mm_lex.specs.Alphabet.{Name, has_name}
 use Rattle.mm_read.specs.declared.stmt.Stmt.{Stmt}
-use Rattle.mm_read.specs.declared.stmt.Stmt.TheVariants.{Open, Close, Const, Var, Disj, Float, Ess, Axiom, Prove}
+use Rattle.mm_read.specs.declared.stmt.Stmt.TheVariants.{Const, Var}
 use Rattle.mm_read.specs.Statements.{Database}
-use Rattle.scope.specs.declared.rule.Rule.{Rule}
 use Rattle.scope.specs.declared.rule.Rule.TheVariants.{G1, G2, G3, G4, G5, G6, G7, G8, G9, G10}
 use Rattle.scope.specs.Active.{stmt_at, before, constants, variables, is_variable, is_constant, was_symbol}
 use Rattle.scope.specs.Legal.{IsLegal, keeps, all_different}
-use Rattle.frame.proofs.LegalLabels.{AllKept}
+use Rattle.frame.proofs.LegalLabels.{AllKept, all-fail}
 use Rattle.frame.proofs.ActiveBehind.{same, active-stands}
 
 -- ---- what a legal statement keeps
-
-find-none : {A : Type 0} (p : A → Bool) (x : A) (xs : List A) → find p (x ∷ xs) ≡ None → (p x ≡ false) × (find p xs ≡ None)
-find-none p x xs h = by (p x) refl h
-  where
-    by : (b : Bool) → p x ≡ b → cond b (Some x) (find p xs) ≡ None → (p x ≡ false) × (find p xs ≡ None)
-    by true e k = cc
-    by false e k = (e, k)
 
 pub record Keeps (S : Database) (s : Stmt) : Type 0 where
   pub g2 : keeps S s G2 ≡ true
@@ -35,23 +28,14 @@ pub record Keeps (S : Database) (s : Stmt) : Type 0 where
 
 pub legal-keeps : (S : Database) (s : Stmt) → IsLegal S s → Keeps S s
 legal-keeps S s h =
-    let p : Rule → Bool = λ rule. not (keeps S s rule) in
-    let r1 = find-none p G1 (G2 ∷ G3 ∷ G4 ∷ G5 ∷ G6 ∷ G7 ∷ G8 ∷ G9 ∷ G10 ∷ []) h in
-    let r2 = find-none p G2 (G3 ∷ G4 ∷ G5 ∷ G6 ∷ G7 ∷ G8 ∷ G9 ∷ G10 ∷ []) r1.1 in
-    let r3 = find-none p G3 (G4 ∷ G5 ∷ G6 ∷ G7 ∷ G8 ∷ G9 ∷ G10 ∷ []) r2.1 in
-    let r4 = find-none p G4 (G5 ∷ G6 ∷ G7 ∷ G8 ∷ G9 ∷ G10 ∷ []) r3.1 in
-    let r5 = find-none p G5 (G6 ∷ G7 ∷ G8 ∷ G9 ∷ G10 ∷ []) r4.1 in
-    let r6 = find-none p G6 (G7 ∷ G8 ∷ G9 ∷ G10 ∷ []) r5.1 in
-    let r7 = find-none p G7 (G8 ∷ G9 ∷ G10 ∷ []) r6.1 in
-    let r8 = find-none p G8 (G9 ∷ G10 ∷ []) r7.1 in
-    let r9 = find-none p G9 (G10 ∷ []) r8.1 in
+    let r = all-fail (λ rule. not (keeps S s rule)) (G1 ∷ G2 ∷ G3 ∷ G4 ∷ G5 ∷ G6 ∷ G7 ∷ G8 ∷ G9 ∷ G10 ∷ []) h in
     record {
-      g2 = not-false (keeps S s G2) r2.0;
-      g3 = not-false (keeps S s G3) r3.0;
-      g5 = not-false (keeps S s G5) r5.0;
-      g6 = not-false (keeps S s G6) r6.0;
-      g7 = not-false (keeps S s G7) r7.0;
-      g9 = not-false (keeps S s G9) r9.0;
+      g2 = not-false (keeps S s G2) r.1.0;
+      g3 = not-false (keeps S s G3) r.1.1.0;
+      g5 = not-false (keeps S s G5) r.1.1.1.1.0;
+      g6 = not-false (keeps S s G6) r.1.1.1.1.1.0;
+      g7 = not-false (keeps S s G7) r.1.1.1.1.1.1.0;
+      g9 = not-false (keeps S s G9) r.1.1.1.1.1.1.1.1.0;
     }
 
 -- the element behind a front stands at the front's length
@@ -59,15 +43,11 @@ pub stands-at : {X : Type 0} (A : List X) (t : X) (B : List X) → slice_get (A 
 stands-at [] t B = refl
 stands-at (a ∷ A) t B = stands-at A t B
 
-pub before-at : (A : Database) (t : Stmt) (B : Database) → take (length A) (A ++ t ∷ B) ≡ A
-before-at [] t B = refl
-before-at (a ∷ A) t B = ap (λ r. a ∷ r) (before-at A t B)
-
 pub kept-legal : (S A : Database) (t : Stmt) (B : Database) → AllKept S → S ≡ A ++ t ∷ B → IsLegal A t
 kept-legal S A t B all whole =
     let at : stmt_at S (suc (length A)) ≡ Some t = ap (λ v. slice_get v (length A)) whole ∙ stands-at A t B in
     let one : suc (length A) - 1 ≡ length A = omega arith in
-    let cut : before S (suc (length A)) ≡ A = ap (λ n. take n S) one ∙ (ap (take (length A)) whole ∙ before-at A t B) in
+    let cut : before S (suc (length A)) ≡ A = ap (λ n. take n S) one ∙ (ap (take (length A)) whole ∙ take-append_seam A (t ∷ B)) in
     subst (λ D. IsLegal D t) cut (all (suc (length A)) t at)
 
 -- ---- a constant is never a variable
@@ -79,26 +59,12 @@ lists x s = has_name x (variables s)
 -- a statement that does so is a `$v`
 is_var : (t : Stmt) (x : Name) → has_name x (variables t) ≡ true → (ws : List Name) × (t ≡ Var ws)
 is_var (Var ws) x h = (ws, refl)
-is_var Open x h = cc
-is_var Close x h = cc
-is_var (Const ws) x h = cc
-is_var (Disj ws) x h = cc
-is_var (Float l c v) x h = cc
-is_var (Ess l e) x h = cc
-is_var (Axiom l e) x h = cc
-is_var (Prove l e p) x h = cc
+is_var s x h = cc
 
 -- a statement that declares x as a constant is a `$c`
 is_const : (t : Stmt) (x : Name) → has_name x (constants t) ≡ true → (ws : List Name) × (t ≡ Const ws)
 is_const (Const ws) x h = (ws, refl)
-is_const Open x h = cc
-is_const Close x h = cc
-is_const (Var ws) x h = cc
-is_const (Disj ws) x h = cc
-is_const (Float l c v) x h = cc
-is_const (Ess l e) x h = cc
-is_const (Axiom l e) x h = cc
-is_const (Prove l e p) x h = cc
+is_const s x h = cc
 
 -- where a list has an element that passes, it can be cut there
 pub record Cut (S : Database) (q : Stmt → Bool) : Type 0 where

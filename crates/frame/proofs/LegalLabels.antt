@@ -1,14 +1,14 @@
 -- What the verifier uses of legal statements.
-use Rattle.std.specs.Prelude.{◌≡◌, ℕ, zero, suc, ◌-◌, ◌<◌, Bool, true, false, not, cond, ◌||◌, [], ◌∷◌, take, Option, Some, None, slice_get, refl}
+use Rattle.std.specs.Prelude.{◌≡◌, ℕ, zero, suc, ◌-◌, ◌<◌, Bool, true, false, not, cond, ◌||◌, List, [], ◌∷◌, take, Some, None, slice_get, refl}
 use Rattle.std.proofs.Common.{sym, ◌∙◌, ap, arith}
 use Rattle.std.proofs.lemmas.Slice.Eq.{bytes_eq-Decides}
 use Rattle.std.proofs.lemmas.Bool.{or_left, or_right}
 use Rattle.mm_lex.specs.Alphabet.{Name}
 use Rattle.mm_read.specs.declared.stmt.Stmt.{Stmt}
-use Rattle.mm_read.specs.declared.stmt.Stmt.TheVariants.{Open, Close, Const, Var, Disj, Float, Ess, Axiom, Prove}
+use Rattle.mm_read.specs.declared.stmt.Stmt.TheVariants.{Float, Ess, Axiom, Prove}
 use Rattle.mm_read.specs.Statements.{Database}
-use Rattle.scope.specs.declared.rule.Rule.{Rule}
-use Rattle.scope.specs.declared.rule.Rule.TheVariants.{G1, G2, G3, G4}
+use Rattle.std.specs.List.{find}
+use Rattle.scope.specs.declared.rule.Rule.TheVariants.{G1, G2, G3, G4, G5, G6, G7, G8, G9, G10}
 use Rattle.scope.specs.Active.{stmt_at, before, label_of, has_label, was_label, was_symbol}
 use Rattle.scope.specs.Legal.{IsLegal, keeps}
 use Rattle.frame.specs.Citations.{Carries}
@@ -18,17 +18,22 @@ use Rattle.frame.specs.AtPosition.{HasLabelsOnce}
 abbrev pub AllKept : Database → Type 0
 AllKept S = (j : ℕ) (s : Stmt) → stmt_at S j ≡ Some s → IsLegal (before S j) s
 
--- where no rule is broken, the fourth is not
-fourth : (a b c d : Bool) (rest : Option Rule) → cond a (Some G1) (cond b (Some G2) (cond c (Some G3) (cond d (Some G4) rest))) ≡ None → d ≡ false
-fourth true b c d rest h = cc
-fourth false true c d rest h = cc
-fourth false false true d rest h = cc
-fourth false false false true rest h = cc
-fourth false false false false rest h = refl
+-- where none is found that passes, all fail
+abbrev pub AllFail : {A : Type 0} → (A → Bool) → List A → Type 0
+AllFail p [] = Unit {0}
+AllFail p (x ∷ xs) = (p x ≡ false) × AllFail p xs
+
+pub all-fail : {A : Type 0} (p : A → Bool) (xs : List A) → find p xs ≡ None → AllFail p xs
+all-fail p [] h = tt
+all-fail p (x ∷ xs) h = by (p x) refl h (all-fail p xs)
+  where
+    by : (b : Bool) → p x ≡ b → cond b (Some x) (find p xs) ≡ None → (find p xs ≡ None → AllFail p xs) → (p x ≡ false) × AllFail p xs
+    by true e k rest = cc
+    by false e k rest = (e, rest k)
 
 -- a legal statement keeps G4
 keeps_label : (S : Database) (s : Stmt) → IsLegal S s → not (keeps S s G4) ≡ false
-keeps_label S s h = fourth (not (keeps S s G1)) (not (keeps S s G2)) (not (keeps S s G3)) (not (keeps S s G4)) _ h
+keeps_label S s h = (all-fail (λ rule. not (keeps S s rule)) (G1 ∷ G2 ∷ G3 ∷ G4 ∷ G5 ∷ G6 ∷ G7 ∷ G8 ∷ G9 ∷ G10 ∷ []) h).1.1.1.0
 
 -- what is neither of two is not the first
 not_or : (a b : Bool) → not (not (a || b)) ≡ false → a ≡ false
@@ -41,11 +46,7 @@ fresh S (Float l c v) label h e = let same : l ≡ label = cc in ap (was_label S
 fresh S (Ess l x) label h e = let same : l ≡ label = cc in ap (was_label S) (sym same) ∙ not_or (was_label S l) (was_symbol S l) (keeps_label S (Ess l x) h)
 fresh S (Axiom l x) label h e = let same : l ≡ label = cc in ap (was_label S) (sym same) ∙ not_or (was_label S l) (was_symbol S l) (keeps_label S (Axiom l x) h)
 fresh S (Prove l x p) label h e = let same : l ≡ label = cc in ap (was_label S) (sym same) ∙ not_or (was_label S l) (was_symbol S l) (keeps_label S (Prove l x p) h)
-fresh S Open label h e = cc
-fresh S Close label h e = cc
-fresh S (Const ws) label h e = cc
-fresh S (Var ws) label h e = cc
-fresh S (Disj ws) label h e = cc
+fresh S s label h e = cc
 
 -- a statement with a label has that label by the test
 has_own : (s : Stmt) (label : Name) → label_of s ≡ Some label → has_label label (label_of s) ≡ true

@@ -2,6 +2,8 @@
 use Rattle.std.specs.Prelude.{◌≡◌, ℕ, zero, suc, ◌+◌, ◌-◌, ◌≤◌, Bool, true, false, cond, ◌==◌, ◌⊎◌, [], ◌∷◌, ◌++◌, length, take, drop, slice_get, Some, refl, List}
 use Rattle.std.proofs.Common.{sym, ◌∙◌, ap, subst, arith, inl, inr, append-nil, length-append}
 use Rattle.std.proofs.Math.Seq.{take-append_seam}
+use Rattle.std.proofs.lemmas.List.{length-take-le}
+use Rattle.std.proofs.lemmas.Option.{slice_get_within}
 use Rattle.mm_read.specs.declared.stmt.Stmt.{Stmt}
 use Rattle.mm_read.specs.declared.stmt.Stmt.TheVariants.{Close}
 use Rattle.mm_read.specs.Statements.{Database}
@@ -19,12 +21,12 @@ pub record IsLastAt (kind : Stmt → Bool) (S : Database) (p : ℕ) (s : Stmt) :
   pub stays : stays_open 0 (drop p S) ≡ true
   pub list : actives kind S ≡ actives kind (take (p - 1) S) ++ (p, s) ∷ []
 
+pub drop-front : (A : Database) (t : Stmt) (B : Database) → drop (suc (length A)) (A ++ t ∷ B) ≡ B
+drop-front [] t B = refl
+drop-front (a ∷ A) t B = drop-front A t B
+
 pub drop-seam : (A : Database) (s : Stmt) (B : Database) → drop (1 + length A) (A ++ s ∷ B) ≡ B
-drop-seam [] s B = refl
-drop-seam (a ∷ A) s B = ap (λ n. drop n (a ∷ (A ++ s ∷ B))) (place (length A)) ∙ drop-seam A s B
-  where
-    place : (n : ℕ) → 1 + suc n ≡ suc (1 + n)
-    place n = omega arith
+drop-seam A s B = let up : 1 + length A ≡ suc (length A) = omega arith in ap (λ n. drop n (A ++ s ∷ B)) up ∙ drop-front A s B
 
 at-last : (kind : Stmt → Bool) (S A : Database) (s : Stmt) (B : Database) → IsNoClose kind → IsLast kind S A s B → IsLastAt kind S (1 + length A) s
 at-last kind S A s B n l =
@@ -89,3 +91,6 @@ pub cut-here : {A : Type 0} (S : List A) (k : ℕ) (t : A) → slice_get S k ≡
 cut-here [] k t g = cc
 cut-here (x ∷ S) zero t g = let same : x ≡ t = cc in ap (λ v. v ∷ S) same
 cut-here (x ∷ S) (suc k) t g = ap (λ r. x ∷ r) (cut-here S k t g)
+
+pub length-cut : {A : Type 0} (S : List A) (k : ℕ) (t : A) → slice_get S k ≡ Some t → length (take k S) ≡ k
+length-cut S k t g = length-take-le k S (let lt = slice_get_within S k t g in omega (arith, lt))

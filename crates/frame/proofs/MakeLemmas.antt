@@ -8,22 +8,9 @@ use Rattle.mm_read.specs.declared.stmt.Stmt.{Stmt}
 use Rattle.entries.specs.declared.buffer_part.BufferPart.{BufferPart}
 use Rattle.entries.specs.Stored.Spans.{cut, AreSpansIn}
 use Rattle.entries.proofs.SpanLemmas.{range-behind, extends-refl, cut-more, cut-push, spans-push}
-use Rattle.entries.specs.declared.links.Links.{Links}
-use Rattle.frame.specs.declared.storage.Stock.{Stock}
-use Rattle.frame.specs.Links.{actives, last_active, is_disj, links_of}
 use Rattle.entries.specs.Entries.{Entry}
-use Rattle.frame.specs.Stored.AssertionParts.{is_placed, placed, variable_at, option_variable, variable_by, symbols_at, has_two, groups_by}
+use Rattle.frame.specs.Stored.AssertionParts.{placed, symbols_at, has_two, groups_by}
 use Rattle.frame.specs.Stored.Hypotheses.{is_hypothesis_entry, AreHypotheses}
-use Rattle.frame.specs.Stored.EntryMeanings.{statements_of}
-
--- ---- one symbol more
-
-pub placed-behind : (vs : List (Option ℕ)) (codes base found new : List ℕ) (i : ℕ) → i < length codes → found ≡ base ++ placed vs (take i codes)
-    → new ≡ found ++ cond (is_placed vs (get_or codes i 0)) (get_or codes i 0 ∷ []) [] → new ≡ base ++ placed vs (take (i + 1) codes)
-placed-behind vs codes base found new i h e n =
-    let c = get_or codes i 0 in
-    n ∙ (ap (λ r. r ++ placed vs (c ∷ [])) e ∙ (append_assoc base (placed vs (take i codes)) (placed vs (c ∷ []))
-    ∙ ap (λ r. base ++ r) (sym (filter-append (is_placed vs) (take i codes) (c ∷ [])) ∙ ap (placed vs) (sym (take_more codes i 0 h)))))
 
 -- ---- the hypotheses, one by one
 
@@ -32,12 +19,6 @@ pub hypothesis-at : (es : List Entry) (ps : List ℕ) (k : ℕ) → AreHypothese
 hypothesis-at es [] k h l = absurd (omega (arith, l))
 hypothesis-at es (p ∷ ps) zero h l = h.0
 hypothesis-at es (p ∷ ps) (suc k) h l = hypothesis-at es ps k h.1 (omega (arith, l))
-
-pub variables-more : (es : List Entry) (ps : List ℕ) (found new : List (Option ℕ)) (i : ℕ) (e : Entry) → i < length ps → slice_get es (get_or ps i 0 - 1) ≡ Some e → found ≡ map (variable_at es) (take i ps)
-    → new ≡ found ++ variable_by e.kind e.symbols ∷ [] → new ≡ map (variable_at es) (take (i + 1) ps)
-variables-more es ps found new i e h g f n =
-    n ∙ (ap (λ r. r ++ variable_by e.kind e.symbols ∷ []) f ∙ (ap (λ o. map (variable_at es) (take i ps) ++ option_variable o ∷ []) (sym g)
-    ∙ (sym (map_push (variable_at es) (take i ps) (get_or ps i 0)) ∙ ap (map (variable_at es)) (sym (take_more ps i 0 h)))))
 
 pub map-more : {A : Type 0} (f : ℕ → A) (ps : List ℕ) (found new : List A) (i : ℕ) → i < length ps → found ≡ map f (take i ps) → new ≡ found ++ f (get_or ps i 0) ∷ [] → new ≡ map f (take (i + 1) ps)
 map-more f ps found new i h e n =
@@ -69,17 +50,10 @@ groups-step es vs all rest before p s found group e g k b h =
     last true w = ap (λ x. cond (has_two x) (x ∷ []) [] ++ reverse found) (sym g) ∙ (ap (λ u. cond u (group ∷ []) [] ++ reverse found) w ∙ sym (reverse-append found (group ∷ [])))
     last false w = ap (λ x. cond (has_two x) (x ∷ []) [] ++ reverse found) (sym g) ∙ ap (λ u. cond u (group ∷ []) [] ++ reverse found) w
 
-pub groups-start : (k : Stock) (at : ℕ) (vs : List (Option ℕ)) (found : List (List ℕ)) (links : Links) → found ≡ [] → 1 ≤ at → at ≤ length (statements_of k) + 1 → links ≡ links_of (take (at - 1) (statements_of k))
-    → (m : ℕ) × (m ≤ length (statements_of k)) × (links.disjoint ≡ last_active is_disj (take m (statements_of k)))
-    × AreGroups k.entries vs (actives is_disj (take (at - 1) (statements_of k))) (actives is_disj (take m (statements_of k))) found
-groups-start k at vs found links e one high h =
-    let S = statements_of k in (
-      at - 1,
-      omega (arith, one, high),
-      ap (λ l. l.disjoint) h,
-      sym (ap (λ f. groups_by vs (map (λ q. symbols_at k.entries q.0) (actives is_disj (take (at - 1) S))) ++ reverse f) e
-          ∙ append-nil (groups_by vs (map (λ q. symbols_at k.entries q.0) (actives is_disj (take (at - 1) S))))),
-    )
+pub groups-start : (es : List Entry) (vs : List (Option ℕ)) (all rest : List (ℕ × Stmt)) (found : List (List ℕ)) → found ≡ [] → rest ≡ all → AreGroups es vs all rest found
+groups-start es vs all rest found e same =
+    sym (ap (λ f. groups_by vs (map (λ q. symbols_at es q.0) rest) ++ reverse f) e
+    ∙ (append-nil (groups_by vs (map (λ q. symbols_at es q.0) rest)) ∙ ap (λ r. groups_by vs (map (λ q. symbols_at es q.0) r)) same))
 
 pub groups-end : (es : List Entry) (vs : List (Option ℕ)) (all rest : List (ℕ × Stmt)) (places : List ℕ) (found new : List BufferPart) → AreGroups es vs all rest (cut places found) → rest ≡ [] → new ≡ reverse found
     → cut places new ≡ groups_by vs (map (λ q. symbols_at es q.0) all)

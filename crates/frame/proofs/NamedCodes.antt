@@ -8,7 +8,7 @@ use Rattle.mm_read.specs.declared.stmt.Stmt.TheVariants as stmt
 use Rattle.names.specs.Codes.{name_at, decode, AreDistinct}
 use Rattle.frame.specs.Below.{AreBelow}
 use Rattle.entries.specs.declared.kind.Kind.{Kind}
-use Rattle.entries.specs.declared.kind.Kind.TheVariants.{Open, Close, Const, Var, Disj, Float, Ess, Axiom, Prove}
+use Rattle.entries.specs.declared.kind.Kind.TheVariants.{Open, Float}
 use Rattle.entries.specs.Entries.{Entry}
 use Rattle.frame.specs.Stored.EntryMeanings.{stmt_by, floats, second_is, is_float_kind}
 use Rattle.frame.specs.Stored.Counts.{HasTwo}
@@ -52,14 +52,7 @@ floats-is names c x label h =
   where
     by : (k : Kind) → is_float_kind k ≡ true → k ≡ Float
     by Float e = refl
-    by Open e = cc
-    by Close e = cc
-    by Const e = cc
-    by Var e = cc
-    by Disj e = cc
-    by Ess e = cc
-    by Axiom e = cc
-    by Prove e = cc
+    by kind e = cc
 
     second : (codes : List ℕ) → second_is c codes ≡ true → name_at (decode names codes) 1 ≡ name_at names c
     second [] e = cc
@@ -78,10 +71,4 @@ is-floats names c x label l m distinct low two small h = by x.kind x.symbols low
         let same : z ≡ c = name_at-injective names z c distinct b.1.0 small q in
         grind (arith, same)
     by Open codes b t e = cc
-    by Close codes b t e = cc
-    by Const codes b t e = cc
-    by Var codes b t e = cc
-    by Disj codes b t e = cc
-    by Ess codes b t e = cc
-    by Axiom codes b t e = cc
-    by Prove codes b t e = cc
+    by kind codes b t e = cc

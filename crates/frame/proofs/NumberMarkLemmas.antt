@@ -3,20 +3,10 @@ use Rattle.std.specs.Prelude.{◌≡◌, ℕ, zero, suc, ◌+◌, ◌≤◌, Boo
 use Rattle.std.proofs.Common.{sym, ◌∙◌, ap, subst, arith, inl, inr}
 use Rattle.std.proofs.lemmas.Option.{same_Some, slice_get_within}
 use Rattle.frame.specs.Stored.NumberPlaces.{is_code, place_from, place_of, AreMarked}
-use Rattle.frame.proofs.FoundByNumber.{is_code-same}
+use Rattle.frame.proofs.FoundByNumber.{is_code-same, place-stands}
 
 is-code : (c : ℕ) → is_code c (Some c) ≡ true
 is-code c = grind arith
-
--- a number stands at its place
-pub place-stands : (k : ℕ) (vs : List (Option ℕ)) (c r : ℕ) → place_from k vs c ≡ Some r → (i : ℕ) × (r ≡ k + i) × (slice_get vs i ≡ Some (Some c))
-place-stands k [] c r h = cc
-place-stands k (v ∷ vs) c r h = by (is_code c v) refl (place-stands (k + 1) vs c r) h
-  where
-    by : (b : Bool) → is_code c v ≡ b → (place_from (k + 1) vs c ≡ Some r → (i : ℕ) × (r ≡ k + 1 + i) × (slice_get vs i ≡ Some (Some c))) → cond b (Some k) (place_from (k + 1) vs c) ≡ Some r
-        → (i : ℕ) × (r ≡ k + i) × (slice_get (v ∷ vs) i ≡ Some (Some c))
-    by true e more q = let same : k ≡ r = cc in (0, omega (arith, same), ap Some (is_code-same c v e))
-    by false e more q = let m = more q in let n = m.0 in let at = m.1 in (suc n, omega (arith, at), m.2)
 
 -- a number that stands somewhere has a place
 pub has-place : (k : ℕ) (vs : List (Option ℕ)) (c i : ℕ) → slice_get vs i ≡ Some (Some c) → (r : ℕ) × (place_from k vs c ≡ Some r)

@@ -6,19 +6,18 @@ use Rattle.std.proofs.Math.Bool.{or-false}
 use Rattle.std.proofs.lemmas.Bool.{cases_lt}
 use Rattle.mm_lex.specs.Alphabet.{Name, name_eq, has_name}
 use Rattle.mm_read.specs.declared.stmt.Stmt.{Stmt}
-use Rattle.mm_read.specs.declared.stmt.Stmt.TheVariants.{Open, Close, Const, Var, Disj, Float, Ess, Axiom, Prove}
+use Rattle.mm_read.specs.declared.stmt.Stmt.TheVariants.{Disj, Float, Ess}
 use Rattle.mm_read.specs.Statements.{Database, Expr}
 use Rattle.scope.specs.Active.{active, separated, expr_of, is_essential, is_variable}
 use Rattle.names.specs.Codes.{name_at, code_of}
 use Rattle.scope.specs.Standing.{stands_at, standing_of}
 use Rattle.scope.specs.declared.standing.Standing.{Standing}
-use Rattle.names.proofs.CodesLemmas.{same_name}
+use Rattle.names.proofs.CodesLemmas.{has-at, same_name}
 use Rattle.names.proofs.AddedNames.{has_name-append}
 use Rattle.frame.specs.Parts.{FrameParts}
 use Rattle.frame.specs.FrameOf.{is_mandatory, is_hypothesis, hypotheses, mandatory_groups, separates}
 use Rattle.names.proofs.CodesLemmas.{lt-list_any}
 use Rattle.frame.specs.Stored.OneFrame.{AreMandatory, is_in_essential, asks, asked, among, groups_among}
-use Rattle.frame.proofs.FoundByNumber.{has-at}
 
 -- one more test, for a name that stands among the names already, changes nothing
 known : (names : List Name) (x y : Name) (b : Bool) → name_eq x y ≡ b → has_name y names ≡ true → has_name x names ≡ (has_name x names || b)
@@ -30,7 +29,7 @@ known names x y true e h =
 noted-known : (old new : List Name) (x name : Name) (n : ℕ) → n < length old → name_at new n ≡ name → new ≡ old
     → has_name x new ≡ (has_name x old || name_eq x name)
 noted-known old new x name n low at same =
-    ap (has_name x) same ∙ known old x name (name_eq x name) refl (ap (λ z. has_name z old) (sym (ap (λ z. name_at z n) (sym same) ∙ at)) ∙ has-at old n low)
+    ap (has_name x) same ∙ known old x name (name_eq x name) refl (has-at old name n low (ap (λ z. name_at z n) (sym same) ∙ at))
 
 noted-new : (old : List Name) (x name : Name) → has_name x (old ++ name ∷ []) ≡ (has_name x old || name_eq x name)
 noted-new old x name = has_name-append x old (name ∷ []) ∙ ap (λ b. has_name x old || b) (or-false (name_eq x name))
@@ -53,15 +52,8 @@ noted-more false false a r = refl
 any-standing : (x : Name) (es : List (ℕ × Stmt))
     → list_any (is_in_essential x) (flat_map (λ p. stands_at p.0 p.1) es) ≡ list_any (λ p. is_essential p.1 && has_name x (expr_of p.1)) es
 any-standing x [] = refl
-any-standing x ((at, Open) ∷ es) = any-standing x es
-any-standing x ((at, Close) ∷ es) = any-standing x es
-any-standing x ((at, Const names) ∷ es) = any-standing x es
-any-standing x ((at, Var names) ∷ es) = any-standing x es
-any-standing x ((at, Disj names) ∷ es) = any-standing x es
-any-standing x ((at, Float label constant variable) ∷ es) = any-standing x es
 any-standing x ((at, Ess label expr) ∷ es) = ap (λ b. has_name x expr || b) (any-standing x es)
-any-standing x ((at, Axiom label expr) ∷ es) = any-standing x es
-any-standing x ((at, Prove label expr proof) ∷ es) = any-standing x es
+any-standing x ((at, t) ∷ es) = any-standing x es
 
 -- the assertion's own variables are noted, and the `$e` are left
 pub noted-start : (S : Database) (s : Stmt) (x : Name)
@@ -75,11 +67,6 @@ noted-start S s x =
 asked-all : (S : Database) (s : Stmt) (used : List Name) → AreMandatory S s used → (es : List (ℕ × Stmt))
     → asked used (flat_map (λ p. stands_at p.0 p.1) es) ≡ map (λ p. p.0) (filter (λ p. is_hypothesis S s p.1) es)
 asked-all S s used m [] = refl
-asked-all S s used m ((at, Open) ∷ es) = asked-all S s used m es
-asked-all S s used m ((at, Close) ∷ es) = asked-all S s used m es
-asked-all S s used m ((at, Const names) ∷ es) = asked-all S s used m es
-asked-all S s used m ((at, Var names) ∷ es) = asked-all S s used m es
-asked-all S s used m ((at, Disj names) ∷ es) = asked-all S s used m es
 asked-all S s used m ((at, Float label constant variable) ∷ es) =
     by (has_name variable used) (is_mandatory S s variable) (m variable) (filter (λ (e : Standing). asks used e.stmt) (flat_map (λ p. stands_at p.0 p.1) es)) (filter (λ (p : ℕ × Stmt). is_hypothesis S s p.1) es) (asked-all S s used m es)
   where
@@ -91,8 +78,7 @@ asked-all S s used m ((at, Float label constant variable) ∷ es) =
     by true false e xs ps h = cc
     by false true e xs ps h = cc
 asked-all S s used m ((at, Ess label expr) ∷ es) = ap (λ ps. at ∷ ps) (asked-all S s used m es)
-asked-all S s used m ((at, Axiom label expr) ∷ es) = asked-all S s used m es
-asked-all S s used m ((at, Prove label expr proof) ∷ es) = asked-all S s used m es
+asked-all S s used m ((at, t) ∷ es) = asked-all S s used m es
 
 pub asked-hypotheses : (S : Database) (s : Stmt) (used : List Name) → AreMandatory S s used → asked used (standing_of S) ≡ hypotheses S s
 asked-hypotheses S s used m = asked-all S s used m (active S)
@@ -111,17 +97,10 @@ among-mandatory S s used m (x ∷ names) =
 groups-all : (S : Database) (s : Stmt) (used : List Name) → AreMandatory S s used → (es : List (ℕ × Stmt))
     → groups_among used (flat_map (λ p. stands_at p.0 p.1) es) ≡ filter separates (map (filter (is_mandatory S s)) (map (λ p. separated p.1) es))
 groups-all S s used m [] = refl
-groups-all S s used m ((at, Open) ∷ es) = groups-all S s used m es
-groups-all S s used m ((at, Close) ∷ es) = groups-all S s used m es
-groups-all S s used m ((at, Const names) ∷ es) = groups-all S s used m es
-groups-all S s used m ((at, Var names) ∷ es) = groups-all S s used m es
 groups-all S s used m ((at, Disj names) ∷ es) =
     ap (λ g. cond (separates g) (g ∷ groups_among used (flat_map (λ p. stands_at p.0 p.1) es)) (groups_among used (flat_map (λ p. stands_at p.0 p.1) es))) (among-mandatory S s used m names)
     ∙ ap (λ r. cond (separates (filter (is_mandatory S s) names)) (filter (is_mandatory S s) names ∷ r) r) (groups-all S s used m es)
-groups-all S s used m ((at, Float label constant variable) ∷ es) = groups-all S s used m es
-groups-all S s used m ((at, Ess label expr) ∷ es) = groups-all S s used m es
-groups-all S s used m ((at, Axiom label expr) ∷ es) = groups-all S s used m es
-groups-all S s used m ((at, Prove label expr proof) ∷ es) = groups-all S s used m es
+groups-all S s used m ((at, t) ∷ es) = groups-all S s used m es
 
 pub groups-mandatory : (S : Database) (s : Stmt) (used : List Name) → AreMandatory S s used → groups_among used (standing_of S) ≡ mandatory_groups S s
 groups-mandatory S s used m = groups-all S s used m (active S)

@@ -2,6 +2,7 @@
 use Rattle.std.specs.Prelude.{◌≡◌, ℕ, zero, suc, ◌+◌, ◌<◌, ◌≤◌, Bool, true, false, cond, ◌⊎◌, List, [], ◌∷◌, ◌++◌, length, filter, refl}
 use Rattle.std.proofs.Common.{sym, ◌∙◌, ap, arith, inl, inr, append_assoc, append-nil, add-zero}
 use Rattle.std.proofs.lemmas.Bool.{false_from_ne_true}
+use Rattle.std.proofs.lemmas.List.Elements.{filter-append}
 use Rattle.mm_read.specs.declared.stmt.Stmt.{Stmt}
 use Rattle.mm_read.specs.declared.stmt.Stmt.TheVariants.{Open, Close}
 use Rattle.mm_read.specs.Statements.{Database}
@@ -47,11 +48,6 @@ active_from-append at (s ∷ A) U h =
     ∙ (ap (λ r. cond (stays_open 0 A) ((at, s) ∷ r) r) (active_from-append (at + 1) A U h)
     ∙ (cond-append (stays_open 0 A) (at, s) (active_from (at + 1) A) (active_from (at + 1 + length A) U)
     ∙ ap (λ n. cond (stays_open 0 A) ((at, s) ∷ active_from (at + 1) A) (active_from (at + 1) A) ++ active_from n U) (place at (length A))))
-
-pub filter-append : {A : Type 0} (p : A → Bool) (xs ys : List A) → filter p (xs ++ ys) ≡ filter p xs ++ filter p ys
-filter-append p [] ys = refl
-filter-append p (x ∷ xs) ys =
-    ap (λ r. cond (p x) (x ∷ r) r) (filter-append p xs ys) ∙ cond-append (p x) x (filter p xs) (filter p ys)
 
 pub actives-append : (kind : Stmt → Bool) (at : ℕ) (A U : Database) → StaysOpen U → actives_from kind at (A ++ U) ≡ actives_from kind at A ++ actives_from kind (at + length A) U
 actives-append kind at A U h = ap (filter (λ p. kind p.1)) (active_from-append at A U h) ∙ filter-append (λ p. kind p.1) (active_from at A) (active_from (at + length A) U)

@@ -1,15 +1,14 @@
 -- The storage with one more statement.
 use Rattle.std.specs.Prelude.{◌≡◌, ℕ, ◌+◌, ◌<◌, ◌≤◌, ◌^◌, true, ◌⊎◌, List, [], ◌∷◌, ◌++◌, length, map, take, slice_get, Some}
 use Rattle.std.proofs.Common.{sym, ◌∙◌, ap, subst, arith, inl, inr}
+use Rattle.std.proofs.Math.Seq.{take-append_seam}
 use Rattle.std.proofs.lemmas.List.{length-map, take-append-le, map_push}
 use Rattle.mm_lex.specs.Alphabet.{Name}
 use Rattle.mm_read.specs.declared.stmt.Stmt.{Stmt}
-use Rattle.mm_read.specs.Statements.{Database}
 use Rattle.scope.specs.Active.{label_of, stays_open}
 use Rattle.scope.specs.Legal.{IsLegal}
-use Rattle.names.specs.Codes.{with_names}
-use Rattle.scope.specs.Symbols.{symbols_by, symbols_of, labels_of, option_list}
-use Rattle.scope.proofs.NamesLemmas.{symbols_of-append}
+use Rattle.scope.specs.Symbols.{symbols_of, labels_of}
+use Rattle.scope.proofs.NamesLemmas.{labels_of-append}
 use Rattle.frame.specs.Below.{AreBelow}
 use Rattle.entries.specs.declared.links.Links.{Links}
 use Rattle.entries.specs.Entries.{Entry}
@@ -23,7 +22,7 @@ use Rattle.frame.specs.Stored.AssertionParts.{has_parts, IsKeptAs}
 use Rattle.frame.proofs.DeclareLemmas.{symbol_of-push}
 use Rattle.frame.proofs.UndoLemmas.{replaced_of-push}
 use Rattle.frame.proofs.AssertionLemmas.{kept-more, kept-moved}
-use Rattle.frame.proofs.StoredOneMore.{stmt-more, statements-more, numbered-push, labels_of-push, positions_from-push, take-whole, legal-push, stays-push, numbered-at, still-reads}
+use Rattle.frame.proofs.StoredOneMore.{stmt-more, statements-more, numbered-push, positions_from-push, legal-push, stays-push, numbered-at, still-reads}
 use Rattle.entries.proofs.SpanLemmas.{extends-length}
 use Rattle.entries.proofs.BufferPlaceLemmas.{get-push}
 use Rattle.frame.proofs.LabelLemmas.{label-below-at}
@@ -34,7 +33,7 @@ use Rattle.frame.proofs.LabelLemmas.{label-below-at}
 pub record IsPushed (names labels : List Name) (positions : List ℕ) (symbols : List Symbol) (replaced : List ℕ) (entries : List Entry) (links : Links)
     (names' labels' : List Name) (positions' : List ℕ) (between symbols' : List Symbol) (replaced' : List ℕ) (entries' : List Entry) (links' : Links) (s : Stmt) (e : Entry) : Type 0 where
   pub names_more : Extends names names'
-  pub names_made : names' ≡ with_names names (symbols_by s)
+  pub names_made : names' ≡ symbols_of (map (stmt_of names labels) entries ++ s ∷ [])
   pub symbols_more : AreZeroBehind symbols between
   pub noted : (c : ℕ) (x : Symbol) → slice_get between c ≡ Some x → slice_get symbols' c ≡ Some (with_entry e (length entries + 1) c x)
   pub noted_count : length symbols' ≡ length between
@@ -47,7 +46,7 @@ pub record IsPushed (names labels : List Name) (positions : List ℕ) (symbols :
   pub labels_before : e.label ≡ length labels
   pub replaced_more : replaced' ≡ replaced ++ replaced_by (symbol_of entries) e.kind e.symbols
   pub two : HasTwo e.kind e.symbols
-  pub labels_more : labels' ≡ labels ++ option_list (label_of s) []
+  pub labels_made : labels' ≡ labels_of (map (stmt_of names labels) entries ++ s ∷ [])
   pub positions_more : positions' ≡ positions ++ option_position (label_of s) (length entries + 1) []
   pub entry_links : e.links ≡ links
   pub entries_more : entries' ≡ entries ++ e ∷ []
@@ -60,7 +59,7 @@ module _ (names labels : List Name) (positions : List ℕ) (symbols : List Symbo
     (k : AreKept names labels positions symbols replaced entries links)
     (p : IsPushed names labels positions symbols replaced entries links names' labels' positions' between symbols' replaced' entries' links' s e) where
   labels-extend : Extends labels labels'
-  labels-extend = (option_list (label_of s) [], p.labels_more)
+  labels-extend = (labels_of (s ∷ []), p.labels_made ∙ (labels_of-append (map (stmt_of names labels) entries) (s ∷ []) ∙ ap (λ r. r ++ labels_of (s ∷ [])) (sym k.labels_kept)))
 
   pub pushed-statements : map (stmt_of names' labels') entries' ≡ map (stmt_of names labels) entries ++ s ∷ []
   pushed-statements =
@@ -73,16 +72,23 @@ module _ (names labels : List Name) (positions : List ℕ) (symbols : List Symbo
   len : length (map (stmt_of names labels) entries) ≡ length entries
   len = length-map entries (stmt_of names labels)
 
+  -- the statements before an entry that was there, and before the new one
+  early : (i : ℕ) → i < length entries → take i (map (stmt_of names' labels') entries') ≡ take i (map (stmt_of names labels) entries)
+  early i lt = ap (take i) pushed-statements ∙ take-append-le i (map (stmt_of names labels) entries) (s ∷ []) (omega (arith, lt, len))
+
+  late : (i : ℕ) → i ≡ length entries → take i (map (stmt_of names' labels') entries') ≡ map (stmt_of names labels) entries
+  late i is = ap (take i) pushed-statements ∙ (ap (λ n. take n (map (stmt_of names labels) entries ++ s ∷ [])) (is ∙ sym len) ∙ take-append_seam (map (stmt_of names labels) entries) (s ∷ []))
+
+  found : (i : ℕ) (d : Entry) → slice_get entries' i ≡ Some d → ((i < length entries) × (slice_get entries i ≡ Some d)) ⊎ ((i ≡ length entries) × (e ≡ d))
+  found i d h = get-push entries e d i (ap (λ r. slice_get r i) (sym p.entries_more) ∙ h)
+
   -- each entry has the links of the statements before it
   linked' : (i : ℕ) (d : Entry) → slice_get entries' i ≡ Some d → d.links ≡ links_of (take i (map (stmt_of names' labels') entries'))
-  linked' i d h = by (get-push entries e d i (ap (λ r. slice_get r i) (sym p.entries_more) ∙ h))
+  linked' i d h = by (found i d h)
     where
       by : ((i < length entries) × (slice_get entries i ≡ Some d)) ⊎ ((i ≡ length entries) × (e ≡ d)) → d.links ≡ links_of (take i (map (stmt_of names' labels') entries'))
-      by (inl q) =
-          k.linked i d q.1 ∙ ap links_of (sym (ap (take i) pushed-statements ∙ take-append-le i (map (stmt_of names labels) entries) (s ∷ []) (omega (arith, q.0, len))))
-      by (inr q) =
-          ap (λ x. x.links) (sym q.1) ∙ (p.entry_links ∙ (k.last
-          ∙ ap links_of (sym (ap (take i) pushed-statements ∙ (ap (λ n. take n (map (stmt_of names labels) entries ++ s ∷ [])) (q.0 ∙ sym len) ∙ take-whole (map (stmt_of names labels) entries) s)))))
+      by (inl q) = k.linked i d q.1 ∙ ap links_of (sym (early i q.0))
+      by (inr q) = ap (λ x. x.links) (sym q.1) ∙ (p.entry_links ∙ (k.last ∙ ap links_of (sym (late i q.0))))
 
   -- each symbol tells its declarations, the new statement's with them
   symbols'' : (c : ℕ) → c < length names' → slice_get symbols' c ≡ Some (symbol_of entries' c)
@@ -93,26 +99,19 @@ module _ (names labels : List Name) (positions : List ℕ) (symbols : List Symbo
 
   -- each assertion is kept as what it is, the new one too
   parts' : (i : ℕ) (d : Entry) → slice_get entries' i ≡ Some d → has_parts d.kind ≡ true → IsKeptAs entries' (take i (map (stmt_of names' labels') entries')) (stmt_of names' labels' d) d.assertion
-  parts' i d h a = by (get-push entries e d i (ap (λ r. slice_get r i) (sym p.entries_more) ∙ h))
+  parts' i d h a = by (found i d h)
     where
-      S : Database
-      S = map (stmt_of names labels) entries
-
       by : ((i < length entries) × (slice_get entries i ≡ Some d)) ⊎ ((i ≡ length entries) × (e ≡ d)) → IsKeptAs entries' (take i (map (stmt_of names' labels') entries')) (stmt_of names' labels' d) d.assertion
       by (inl q) =
-          let here : take i (map (stmt_of names' labels') entries') ≡ take i (map (stmt_of names labels) entries) =
-          ap (take i) pushed-statements ∙ take-append-le i (map (stmt_of names labels) entries) (s ∷ []) (omega (arith, q.0, len)) in
           let same : stmt_of names' labels' d ≡ stmt_of names labels d = stmt-more names names' labels labels' d p.names_more labels-extend (numbered-at (length names) (length labels) entries k.coded i d q.1) (label-below-at (length names) (length labels) entries k.coded i d q.1) in
           subst (λ es. IsKeptAs es (take i (map (stmt_of names' labels') entries')) (stmt_of names' labels' d) d.assertion) (sym p.entries_more)
-          (subst (λ T. IsKeptAs (entries ++ e ∷ []) T (stmt_of names' labels' d) d.assertion) (sym here)
+          (subst (λ T. IsKeptAs (entries ++ e ∷ []) T (stmt_of names' labels' d) d.assertion) (sym (early i q.0))
           (subst (λ t. IsKeptAs (entries ++ e ∷ []) (take i (map (stmt_of names labels) entries)) t d.assertion) (sym same)
           (kept-moved names labels entries (entries ++ e ∷ []) i (stmt_of names labels d) d.assertion (sym (take-append-le i entries (e ∷ []) (omega (arith, q.0)))) (k.parts_kept i d q.1 a))))
       by (inr q) =
-          let here : take i (map (stmt_of names' labels') entries') ≡ map (stmt_of names labels) entries =
-          ap (take i) pushed-statements ∙ (ap (λ n. take n (map (stmt_of names labels) entries ++ s ∷ [])) (q.0 ∙ sym len) ∙ take-whole (map (stmt_of names labels) entries) s) in
           subst (λ w. IsKeptAs entries' (take i (map (stmt_of names' labels') entries')) (stmt_of names' labels' w) w.assertion) q.1
           (subst (λ es. IsKeptAs es (take i (map (stmt_of names' labels') entries')) (stmt_of names' labels' e) e.assertion) (sym p.entries_more)
-          (subst (λ T. IsKeptAs (entries ++ e ∷ []) T (stmt_of names' labels' e) e.assertion) (sym here)
+          (subst (λ T. IsKeptAs (entries ++ e ∷ []) T (stmt_of names' labels' e) e.assertion) (sym (late i q.0))
           (subst (λ t. IsKeptAs (entries ++ e ∷ []) (map (stmt_of names labels) entries) t e.assertion) (sym p.stands)
           (kept-more names labels entries (e ∷ []) s e.assertion (p.kept (ap (λ w. has_parts w.kind) q.1 ∙ a))))))
 
@@ -120,18 +119,18 @@ module _ (names labels : List Name) (positions : List ℕ) (symbols : List Symbo
   front-before i lt = ap (take i) p.entries_more ∙ take-append-le i entries (e ∷ []) (omega (arith, lt))
 
   whole-before : take (length entries) entries' ≡ entries
-  whole-before = ap (take (length entries)) p.entries_more ∙ take-whole entries e
+  whole-before = ap (take (length entries)) p.entries_more ∙ take-append_seam entries (e ∷ [])
 
   -- each entry keeps the counts before it, the new one too
   counts' : (i : ℕ) (d : Entry) → slice_get entries' i ≡ Some d → KeepsCounts names' labels' entries' i d
-  counts' i d h = by (get-push entries e d i (ap (λ r. slice_get r i) (sym p.entries_more) ∙ h))
+  counts' i d h = by (found i d h)
     where
       more : length names ≤ length names'
       more = extends-length names names' p.names_more
 
       -- an entry before the end of the old ones is one of them
       old : (j : ℕ) (x : Entry) → j < length entries → slice_get entries' j ≡ Some x → slice_get entries j ≡ Some x
-      old j x lt g = stay (get-push entries e x j (ap (λ r. slice_get r j) (sym p.entries_more) ∙ g))
+      old j x lt g = stay (found j x g)
         where
           stay : ((j < length entries) × (slice_get entries j ≡ Some x)) ⊎ ((j ≡ length entries) × (e ≡ x)) → slice_get entries j ≡ Some x
           stay (inl q) = q.1
@@ -141,18 +140,14 @@ module _ (names labels : List Name) (positions : List ℕ) (symbols : List Symbo
       by (inl q) =
           let c = k.counts_kept i d q.1 in
           let w = c.within in
-          let here : take i (map (stmt_of names' labels') entries') ≡ take i (map (stmt_of names labels) entries) =
-          ap (take i) pushed-statements ∙ take-append-le i (map (stmt_of names labels) entries) (s ∷ []) (omega (arith, q.0, len)) in
           record {
             within = omega (arith, w, more);
             rising = λ j x lt g. c.rising j x lt (old j x (omega (arith, lt, q.0)) g);
             numbered = subst (AreNumbered d.names d.label) (sym (front-before i q.0)) c.numbered;
-            label_count = c.label_count ∙ ap (λ S. length (labels_of S)) (sym here);
-            name_count = c.name_count ∙ ap (λ S. length (symbols_of S)) (sym here);
+            label_count = c.label_count ∙ ap (λ S. length (labels_of S)) (sym (early i q.0));
+            name_count = c.name_count ∙ ap (λ S. length (symbols_of S)) (sym (early i q.0));
           }
       by (inr q) =
-          let here : take i (map (stmt_of names' labels') entries') ≡ map (stmt_of names labels) entries =
-          ap (take i) pushed-statements ∙ (ap (λ n. take n (map (stmt_of names labels) entries ++ s ∷ [])) (q.0 ∙ sym len) ∙ take-whole (map (stmt_of names labels) entries) s) in
           let n : d.names ≡ length names = ap (λ w. w.names) (sym q.1) ∙ p.names_before in
           let m : d.label ≡ length labels = ap (λ w. w.label) (sym q.1) ∙ p.labels_before in
           record {
@@ -160,8 +155,8 @@ module _ (names labels : List Name) (positions : List ℕ) (symbols : List Symbo
             rising = λ j x lt g. let w = (k.counts_kept j x (old j x (omega (arith, lt, q.0)) g)).within in omega (arith, w, n);
             numbered = subst (AreNumbered d.names d.label) (sym (ap (λ a. take a entries') q.0 ∙ whole-before))
                 (subst (λ a. AreNumbered a d.label entries) (sym n) (subst (λ a. AreNumbered (length names) a entries) (sym m) k.coded));
-            label_count = m ∙ ap length (k.labels_kept ∙ ap labels_of (sym here));
-            name_count = n ∙ ap length (k.names_kept ∙ ap symbols_of (sym here));
+            label_count = m ∙ ap length (k.labels_kept ∙ ap labels_of (sym (late i q.0)));
+            name_count = n ∙ ap length (k.names_kept ∙ ap symbols_of (sym (late i q.0)));
           }
 
   pub kept-pushed : AreKept names' labels' positions' symbols' replaced' entries' links'
@@ -170,8 +165,8 @@ module _ (names labels : List Name) (positions : List ℕ) (symbols : List Symbo
     linked = linked';
     stays = ap (stays_open 0) pushed-statements ∙ stays-push (map (stmt_of names labels) entries) s k.stays p.legal;
     legal = subst AreAllLegal (sym pushed-statements) (legal-push (map (stmt_of names labels) entries) s k.legal p.legal);
-    names_kept = p.names_made ∙ (ap (λ r. with_names r (symbols_by s)) k.names_kept ∙ (sym (symbols_of-append (map (stmt_of names labels) entries) s) ∙ ap symbols_of (sym pushed-statements)));
-    labels_kept = p.labels_more ∙ (ap (λ r. r ++ option_list (label_of s) []) k.labels_kept ∙ (sym (labels_of-push (map (stmt_of names labels) entries) s) ∙ ap labels_of (sym pushed-statements)));
+    names_kept = p.names_made ∙ ap symbols_of (sym pushed-statements);
+    labels_kept = p.labels_made ∙ ap labels_of (sym pushed-statements);
     positions_kept = p.positions_more ∙ (ap (λ r. r ++ option_position (label_of s) (length entries + 1) []) k.positions_kept
         ∙ (ap (λ n. positions_from 1 (map (stmt_of names labels) entries) ++ option_position (label_of s) n []) (omega (arith, len))
         ∙ (sym (positions_from-push 1 (map (stmt_of names labels) entries) s) ∙ ap (positions_from 1) (sym pushed-statements))));

@@ -5,7 +5,7 @@ use Rattle.std.proofs.Common.{sym, ◌∙◌, ap, subst, arith, inl, inr, add-ze
 use Rattle.std.proofs.Math.Bool.{and-false}
 use Rattle.std.proofs.lemmas.List.{take-append-le}
 use Rattle.std.proofs.lemmas.Bool.{cases_lt, ltb-true}
-use Rattle.std.proofs.Math.Seq.{take-length}
+use Rattle.std.proofs.Math.Seq.{take-append_seam}
 use Rattle.mm_lex.specs.Alphabet.{Name}
 use Rattle.mm_read.specs.declared.stmt.Stmt.{Stmt}
 use Rattle.mm_read.specs.declared.stmt.Stmt.TheVariants as stmt
@@ -14,11 +14,10 @@ use Rattle.scope.specs.Active.{before, label_of, stays_open, is_close, is_open, 
 use Rattle.scope.specs.Legal.{IsLegal}
 use Rattle.scope.specs.declared.rule.Rule.TheVariants.{G10}
 use Rattle.names.specs.Codes.{name_at, decode}
-use Rattle.scope.specs.Symbols.{labels_of, option_list}
 use Rattle.frame.specs.Below.{AreBelow}
 use Rattle.entries.specs.declared.links.Links.{Links}
 use Rattle.entries.specs.declared.kind.Kind.{Kind}
-use Rattle.entries.specs.declared.kind.Kind.TheVariants.{Open, Close, Const, Var, Disj, Float, Ess, Axiom, Prove}
+use Rattle.entries.specs.declared.kind.Kind.TheVariants.{Float, Ess, Axiom, Prove}
 use Rattle.entries.specs.Entries.{Entry}
 use Rattle.frame.specs.declared.storage.Symbol.{Symbol}
 use Rattle.frame.specs.Stored.EntryMeanings.{stmt_by, stmt_of, positions_from, option_position, AreAllLegal, symbol_of, ReadsAs, floats, declares, second_is, is_float_kind, is_var_kind, last_from}
@@ -39,15 +38,11 @@ stmt-more names names' labels labels' e p q below label =
     ap (stmt_by e.kind (name_at labels' e.label)) (decode-extends names names' e.symbols p below) ∙ by e.kind label
   where
     by : (kind : Kind) → IsLabelBelow kind e.label (length labels) → stmt_by kind (name_at labels' e.label) (decode names e.symbols) ≡ stmt_by kind (name_at labels e.label) (decode names e.symbols)
-    by Open h = refl
-    by Close h = refl
-    by Const h = refl
-    by Var h = refl
-    by Disj h = refl
     by Float h = ap (λ x. stmt_by Float x (decode names e.symbols)) (name_at-extends labels labels' e.label q h)
     by Ess h = ap (λ x. stmt_by Ess x (decode names e.symbols)) (name_at-extends labels labels' e.label q h)
     by Axiom h = ap (λ x. stmt_by Axiom x (decode names e.symbols)) (name_at-extends labels labels' e.label q h)
     by Prove h = ap (λ x. stmt_by Prove x (decode names e.symbols)) (name_at-extends labels labels' e.label q h)
+    by kind h = refl
 
 pub statements-more : (names names' labels labels' : List Name) (es : List Entry) → Extends names names' → Extends labels labels' → AreNumbered (length names) (length labels) es
     → map (stmt_of names' labels') es ≡ map (stmt_of names labels) es
@@ -57,44 +52,32 @@ statements-more names names' labels labels' (e ∷ es) p q h =
     ∙ ap (λ r. stmt_of names labels e ∷ r) (statements-more names names' labels labels' es p q h.2)
 
 label-more : (kind : Kind) (l m n : ℕ) → m ≤ n → IsLabelBelow kind l m → IsLabelBelow kind l n
-label-more Open l m n le h = tt
-label-more Close l m n le h = tt
-label-more Const l m n le h = tt
-label-more Var l m n le h = tt
-label-more Disj l m n le h = tt
 label-more Float l m n le h = omega (arith, le, h)
 label-more Ess l m n le h = omega (arith, le, h)
 label-more Axiom l m n le h = omega (arith, le, h)
 label-more Prove l m n le h = omega (arith, le, h)
+label-more kind l m n le h = tt
 
 pub numbered-push : (n n' m m' : ℕ) (es : List Entry) (e : Entry) → n ≤ n' → m ≤ m' → AreNumbered n m es → AreBelow n' e.symbols → IsLabelBelow e.kind e.label m' → HasTwo e.kind e.symbols → AreNumbered n' m' (es ++ e ∷ [])
 numbered-push n n' m m' [] e le le' h b l t = (b, l, tt, t)
 numbered-push n n' m m' (d ∷ es) e le le' h b l t =
     (below-more n n' d.symbols le h.0, label-more d.kind d.label m m' le' h.1, numbered-push n n' m m' es e le le' h.2 b l t, h.3)
 
--- ---- labels and positions
+-- ---- positions
 
-pub labels_of-push : (S : Database) (s : Stmt) → labels_of (S ++ s ∷ []) ≡ labels_of S ++ option_list (label_of s) []
-labels_of-push [] s = refl
-labels_of-push (t ∷ S) s = ap (option_list (label_of t)) (labels_of-push S s) ∙ by (label_of t)
+pub positions_from-append : (at : ℕ) (A B : Database) → positions_from at (A ++ B) ≡ positions_from at A ++ positions_from (at + length A) B
+positions_from-append at [] B = ap (λ n. positions_from n B) (sym (add-zero at))
+positions_from-append at (s ∷ A) B =
+    ap (option_position (label_of s) at) (positions_from-append (at + 1) A B ∙ ap (λ n. positions_from (at + 1) A ++ positions_from n B) (place at (length A))) ∙ by (label_of s)
   where
-    by : (o : Option Name) → option_list o (labels_of S ++ option_list (label_of s) []) ≡ option_list o (labels_of S) ++ option_list (label_of s) []
+    by : (o : Option Name) → option_position o at (positions_from (at + 1) A ++ positions_from (at + suc (length A)) B) ≡ option_position o at (positions_from (at + 1) A) ++ positions_from (at + suc (length A)) B
     by None = refl
     by (Some x) = refl
 
 pub positions_from-push : (at : ℕ) (S : Database) (s : Stmt) → positions_from at (S ++ s ∷ []) ≡ positions_from at S ++ option_position (label_of s) (at + length S) []
-positions_from-push at [] s = ap (λ n. option_position (label_of s) n []) (sym (add-zero at))
-positions_from-push at (t ∷ S) s =
-    ap (option_position (label_of t) at) (positions_from-push (at + 1) S s ∙ ap (λ n. positions_from (at + 1) S ++ option_position (label_of s) n []) (place at (length S))) ∙ by (label_of t)
-  where
-    by : (o : Option Name) → option_position o at (positions_from (at + 1) S ++ option_position (label_of s) (at + suc (length S)) []) ≡ option_position o at (positions_from (at + 1) S) ++ option_position (label_of s) (at + suc (length S)) []
-    by None = refl
-    by (Some x) = refl
+positions_from-push at S s = positions_from-append at S (s ∷ [])
 
 -- ---- the statements
-
-pub take-whole : {A : Type 0} (xs : List A) (x : A) → take (length xs) (xs ++ x ∷ []) ≡ xs
-take-whole xs x = take-append-le (length xs) xs (x ∷ []) (omega arith) ∙ take-length xs
 
 pub legal-push : (S : Database) (s : Stmt) → AreAllLegal S → IsLegal S s → AreAllLegal (S ++ s ∷ [])
 legal-push S s all own zero r h = cc
@@ -109,7 +92,7 @@ legal-push S s all own (suc j) r h = by (get-push S s r j h)
         ap (λ n. take n (S ++ s ∷ [])) back ∙ (take-append-le j S (s ∷ []) (omega (arith, p.0)) ∙ ap (λ n. take n S) (sym back)) in
         subst (λ B. IsLegal B r) (sym same) (all (suc j) r p.1)
     by (inr p) =
-        let same : before (S ++ s ∷ []) (suc j) ≡ S = ap (λ n. take n (S ++ s ∷ [])) (back ∙ p.0) ∙ take-whole S s in
+        let same : before (S ++ s ∷ []) (suc j) ≡ S = ap (λ n. take n (S ++ s ∷ [])) (back ∙ p.0) ∙ take-append_seam S (s ∷ []) in
         subst (λ B. IsLegal B r) (sym same) (subst (IsLegal S) p.1 own)
 
 last-rule : (b : Bool) → cond (not b) (Some G10) None ≡ None → b ≡ true
@@ -118,14 +101,7 @@ last-rule false h = cc
 
 pub stays-push : (S : Database) (s : Stmt) → stays_open 0 S ≡ true → IsLegal S s → stays_open 0 (S ++ s ∷ []) ≡ true
 stays-push S stmt.Close h l = stays_open-close S (ltb-true (count is_close S) (count is_open S) (last-rule (nat_lt (count is_close S) (count is_open S)) l)) h
-stays-push S stmt.Open h l = stays_open-push S stmt.Open refl h
-stays-push S (stmt.Const n) h l = stays_open-push S (stmt.Const n) refl h
-stays-push S (stmt.Var n) h l = stays_open-push S (stmt.Var n) refl h
-stays-push S (stmt.Disj n) h l = stays_open-push S (stmt.Disj n) refl h
-stays-push S (stmt.Float a b c) h l = stays_open-push S (stmt.Float a b c) refl h
-stays-push S (stmt.Ess a b) h l = stays_open-push S (stmt.Ess a b) refl h
-stays-push S (stmt.Axiom a b) h l = stays_open-push S (stmt.Axiom a b) refl h
-stays-push S (stmt.Prove a b c) h l = stays_open-push S (stmt.Prove a b c) refl h
+stays-push S s h l = stays_open-push S s refl h
 
 -- ---- a number that no entry has
 
@@ -167,13 +143,6 @@ get-zero [] (x ∷ more) zero z le lt = ap Some z.0
 get-zero [] (x ∷ more) (suc c) z le lt = get-zero [] more c z.1 (omega arith) (omega (arith, lt))
 get-zero (x ∷ old) more zero z le lt = absurd (omega (arith, le))
 get-zero (x ∷ old) more (suc c) z le lt = get-zero old more c z (omega (arith, le)) (omega (arith, lt))
-
-pub get-less : (i : ℕ) (S : Database) (k : ℕ) (s : Stmt) → slice_get (take i S) k ≡ Some s → slice_get S k ≡ Some s
-get-less zero [] k s g = g
-get-less zero (t ∷ S) k s g = cc
-get-less (suc i) [] k s g = g
-get-less (suc i) (t ∷ S) zero s g = g
-get-less (suc i) (t ∷ S) (suc k) s g = get-less i S k s g
 
 -- the symbols and more that nothing declares read as before
 pub still-reads : (names labels : List Name) (positions : List ℕ) (symbols : List Symbol) (replaced : List ℕ) (entries : List Entry) (links : Links) (between : List Symbol)

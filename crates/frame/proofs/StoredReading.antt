@@ -1,7 +1,7 @@
 -- Reading an entry of the storage, and the position of a label.
-use Rattle.std.specs.Prelude.{◌≡◌, ℕ, zero, suc, ◌+◌, ◌-◌, ◌<◌, ◌≤◌, true, false, ◌||◌, List, [], ◌∷◌, length, map, get_or, slice_get, Option, Some, None, refl}
-use Rattle.std.proofs.Common.{sym, ◌∙◌, ap, subst, arith}
-use Rattle.std.proofs.lemmas.Option.{same_Some}
+use Rattle.std.specs.Prelude.{◌≡◌, ℕ, zero, suc, ◌+◌, ◌-◌, ◌<◌, ◌≤◌, true, false, ◌||◌, ◌⊎◌, List, [], ◌∷◌, length, map, get_or, slice_get, Option, Some, None, option_map, refl}
+use Rattle.std.proofs.Common.{sym, ◌∙◌, ap, subst, arith, inl, inr}
+use Rattle.std.proofs.lemmas.Option.{same_Some, slice_get-map}
 use Rattle.mm_lex.specs.Alphabet.{Name}
 use Rattle.mm_read.specs.declared.stmt.Stmt.{Stmt}
 use Rattle.mm_read.specs.Statements.{Database}
@@ -12,8 +12,9 @@ use Rattle.frame.specs.Citations.{is_hypothesis_kind}
 use Rattle.std.proofs.lemmas.Slice.Eq.{bytes_eq-Decides}
 use Rattle.std.proofs.lemmas.Bool.{or_parts}
 use Rattle.entries.specs.declared.kind.Kind.{Kind}
-use Rattle.entries.specs.declared.kind.Kind.TheVariants.{Open, Close, Const, Var, Disj, Float, Ess, Axiom, Prove}
+use Rattle.entries.specs.declared.kind.Kind.TheVariants.{Float, Ess, Axiom, Prove}
 use Rattle.entries.specs.Entries.{Entry}
+use Rattle.frame.specs.Stored.Labels.{is_label_kind}
 use Rattle.frame.specs.Stored.EntryMeanings.{stmt_by, stmt_of, positions_from, option_position}
 use Rattle.frame.specs.Stored.Counts.{HasTwo, AreNumbered}
 use Rattle.scope.proofs.ActiveLemmas.{place}
@@ -21,9 +22,7 @@ use Rattle.scope.proofs.ActiveLemmas.{place}
 -- ---- reading an entry
 
 pub get-stmt : (names labels : List Name) (es : List Entry) (i : ℕ) (e : Entry) → slice_get es i ≡ Some e → slice_get (map (stmt_of names labels) es) i ≡ Some (stmt_of names labels e)
-get-stmt names labels [] i e h = cc
-get-stmt names labels (d ∷ es) zero e h = let same : d ≡ e = cc in ap (λ x. Some (stmt_of names labels x)) same
-get-stmt names labels (d ∷ es) (suc i) e h = get-stmt names labels es i e h
+get-stmt names labels es i e h = slice_get-map (stmt_of names labels) es i ∙ ap (option_map (stmt_of names labels)) h
 
 pub stmt-at-suc : (S : Database) (at : ℕ) → 1 ≤ at → stmt_at S at ≡ slice_get S (at - 1)
 stmt-at-suc S zero h = absurd (omega (arith, h))
@@ -43,60 +42,38 @@ two-names names (x ∷ []) h = absurd (omega (arith, h))
 two-names names (x ∷ y ∷ []) h = refl
 two-names names (x ∷ y ∷ z ∷ codes) h = absurd (omega (arith, h))
 
--- the kinds of statements that have an expression
-abbrev pub HasExpr : Kind → Type 0
-HasExpr Float = Unit {0}
-HasExpr Ess = Unit {0}
-HasExpr Axiom = Unit {0}
-HasExpr Prove = Unit {0}
-HasExpr kind = ⊥
-
-pub entry-expr : (names labels : List Name) (e : Entry) → HasExpr e.kind → HasTwo e.kind e.symbols → decode names e.symbols ≡ expr_of (stmt_of names labels e)
+pub entry-expr : (names labels : List Name) (e : Entry) → is_label_kind e.kind ≡ true → HasTwo e.kind e.symbols → decode names e.symbols ≡ expr_of (stmt_of names labels e)
 entry-expr names labels e = by e.kind
   where
-    by : (kind : Kind) → HasExpr kind → HasTwo kind e.symbols → decode names e.symbols ≡ expr_of (stmt_by kind (name_at labels e.label) (decode names e.symbols))
+    by : (kind : Kind) → is_label_kind kind ≡ true → HasTwo kind e.symbols → decode names e.symbols ≡ expr_of (stmt_by kind (name_at labels e.label) (decode names e.symbols))
     by Float h t = two-names names e.symbols t
     by Ess h t = refl
     by Axiom h t = refl
     by Prove h t = refl
-    by Open h t = absurd h
-    by Close h t = absurd h
-    by Const h t = absurd h
-    by Var h t = absurd h
-    by Disj h t = absurd h
+    by kind h t = cc
 
--- a statement without an expression
-abbrev pub HasNone : Kind → Type 0
-HasNone Float = ⊥
-HasNone Ess = ⊥
-HasNone Axiom = ⊥
-HasNone Prove = ⊥
-HasNone kind = Unit {0}
-
-pub entry-none : (names labels : List Name) (e : Entry) → HasNone e.kind → (expr_of (stmt_of names labels e) ≡ []) × (is_hypothesis_kind (stmt_of names labels e) ≡ false) × (is_assertion (stmt_of names labels e) ≡ false)
+pub entry-none : (names labels : List Name) (e : Entry) → is_label_kind e.kind ≡ false → expr_of (stmt_of names labels e) ≡ []
 entry-none names labels e = by e.kind
   where
-    by : (kind : Kind) → HasNone kind → (expr_of (stmt_by kind (name_at labels e.label) (decode names e.symbols)) ≡ []) × (is_hypothesis_kind (stmt_by kind (name_at labels e.label) (decode names e.symbols)) ≡ false) × (is_assertion (stmt_by kind (name_at labels e.label) (decode names e.symbols)) ≡ false)
-    by Open h = (refl, refl, refl)
-    by Close h = (refl, refl, refl)
-    by Const h = (refl, refl, refl)
-    by Var h = (refl, refl, refl)
-    by Disj h = (refl, refl, refl)
-    by Float h = absurd h
-    by Ess h = absurd h
-    by Axiom h = absurd h
-    by Prove h = absurd h
+    by : (kind : Kind) → is_label_kind kind ≡ false → expr_of (stmt_by kind (name_at labels e.label) (decode names e.symbols)) ≡ []
+    by Float h = cc
+    by Ess h = cc
+    by Axiom h = cc
+    by Prove h = cc
+    by kind h = refl
 
-pub none-of : (kind : Kind) → (kind ≡ Float → ⊥) → (kind ≡ Ess → ⊥) → (kind ≡ Axiom → ⊥) → (kind ≡ Prove → ⊥) → HasNone kind
-none-of Float a b c d = a refl
-none-of Ess a b c d = b refl
-none-of Axiom a b c d = c refl
-none-of Prove a b c d = d refl
-none-of Open a b c d = tt
-none-of Close a b c d = tt
-none-of Const a b c d = tt
-none-of Var a b c d = tt
-none-of Disj a b c d = tt
+-- a statement that is no hypothesis and no assertion
+pub neither : (names labels : List Name) (e : Entry) → (e.kind ≡ Float → ⊥) → (e.kind ≡ Ess → ⊥) → (e.kind ≡ Axiom → ⊥) → (e.kind ≡ Prove → ⊥)
+    → (is_hypothesis_kind (stmt_of names labels e) ≡ false) × (is_assertion (stmt_of names labels e) ≡ false)
+neither names labels e = by e.kind
+  where
+    by : (kind : Kind) → (kind ≡ Float → ⊥) → (kind ≡ Ess → ⊥) → (kind ≡ Axiom → ⊥) → (kind ≡ Prove → ⊥)
+        → (is_hypothesis_kind (stmt_by kind (name_at labels e.label) (decode names e.symbols)) ≡ false) × (is_assertion (stmt_by kind (name_at labels e.label) (decode names e.symbols)) ≡ false)
+    by Float a b c d = absurd (a refl)
+    by Ess a b c d = absurd (b refl)
+    by Axiom a b c d = absurd (c refl)
+    by Prove a b c d = absurd (d refl)
+    by kind a b c d = (refl, refl)
 
 -- ---- the position of a label
 
@@ -124,26 +101,14 @@ label-none (t ∷ S) x h zero s g l =
     let bad : true ≡ false = sym (ap (λ b. b || was_label S x) own) ∙ h in cc
 label-none (t ∷ S) x h (suc i) s g l = label-none S x (or_parts (has_label x (label_of t)) (was_label S x) h).1 i s g l
 
--- the kinds of assertions
-abbrev pub IsCitable : Kind → Type 0
-IsCitable Axiom = Unit {0}
-IsCitable Prove = Unit {0}
-IsCitable kind = ⊥
+pub entry-assertion : (names labels : List Name) (e : Entry) → (e.kind ≡ Axiom) ⊎ (e.kind ≡ Prove) → is_assertion (stmt_of names labels e) ≡ true
+entry-assertion names labels e (inl is) = ap (λ kind. is_assertion (stmt_by kind (name_at labels e.label) (decode names e.symbols))) is
+entry-assertion names labels e (inr is) = ap (λ kind. is_assertion (stmt_by kind (name_at labels e.label) (decode names e.symbols))) is
 
-pub entry-assertion : (names labels : List Name) (e : Entry) → IsCitable e.kind → is_assertion (stmt_of names labels e) ≡ true
-entry-assertion names labels e = by e.kind
-  where
-    by : (kind : Kind) → IsCitable kind → is_assertion (stmt_by kind (name_at labels e.label) (decode names e.symbols)) ≡ true
-    by Axiom h = refl
-    by Prove h = refl
-    by Open h = absurd h
-    by Close h = absurd h
-    by Const h = absurd h
-    by Var h = absurd h
-    by Disj h = absurd h
-    by Float h = absurd h
-    by Ess h = absurd h
+-- the statement of an entry stands at its position
+pub entry-stands : (names labels : List Name) (es : List Entry) (at : ℕ) (e : Entry) → 1 ≤ at → slice_get es (at - 1) ≡ Some e → stmt_at (map (stmt_of names labels) es) at ≡ Some (stmt_of names labels e)
+entry-stands names labels es at e one g = stmt-at-suc (map (stmt_of names labels) es) at one ∙ get-stmt names labels es (at - 1) e g
 
 -- the entry read is that of the statement
 pub is-entry : (names labels : List Name) (es : List Entry) (at : ℕ) (e : Entry) (s : Stmt) → 1 ≤ at → slice_get es (at - 1) ≡ Some e → stmt_at (map (stmt_of names labels) es) at ≡ Some s → stmt_of names labels e ≡ s
-is-entry names labels es at e s one g h = same_Some _ _ (sym (get-stmt names labels es (at - 1) e g) ∙ (sym (stmt-at-suc (map (stmt_of names labels) es) at one) ∙ h))
+is-entry names labels es at e s one g h = same_Some _ _ (sym (entry-stands names labels es at e one g) ∙ h)

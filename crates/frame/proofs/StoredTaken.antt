@@ -1,14 +1,11 @@
--- Legality looks at no proof, and taken back everything is as before.
+-- Taken back everything is as before.
 use Rattle.std.specs.Prelude.{◌≡◌, ℕ, suc, ◌+◌, List, [], ◌∷◌, length, map, take, Option, Some, None, refl}
 use Rattle.std.proofs.Common.{sym, ◌∙◌, ap, subst}
 use Rattle.std.proofs.lemmas.List.{length-map}
 use Rattle.frame.specs.Stored.Ends.{AreEnds}
 use Rattle.mm_lex.specs.Alphabet.{Name}
-use Rattle.mm_read.specs.declared.stmt.Stmt.{Stmt}
-use Rattle.mm_read.specs.declared.stmt.Stmt.TheVariants as stmt
 use Rattle.mm_read.specs.Statements.{Database}
-use Rattle.scope.specs.Active.{bare, label_of}
-use Rattle.scope.specs.Legal.{IsLegal}
+use Rattle.scope.specs.Active.{label_of}
 use Rattle.scope.specs.Symbols.{labels_of, option_list}
 use Rattle.frame.specs.declared.storage.Stock.{Stock}
 use Rattle.frame.specs.Stored.EntryMeanings.{names_in, labels_in, stmt_of, positions_from, option_position, statements_of}
@@ -18,18 +15,6 @@ use Rattle.frame.specs.Stored.Whole.{AreKept, AreStored}
 use Rattle.scope.specs.Kinds.{Declared, declared_symbols, declared_labels}
 use Rattle.frame.proofs.SymbolNumberLemmas.{take-extends}
 use Rattle.frame.proofs.StoredLemmas.{kept-same}
-
--- ---- legality looks at no proof
-pub legal-bare : (S : Database) (s : Stmt) → IsLegal S s → IsLegal S (bare s)
-legal-bare S stmt.Open h = h
-legal-bare S stmt.Close h = h
-legal-bare S (stmt.Const n) h = h
-legal-bare S (stmt.Var n) h = h
-legal-bare S (stmt.Disj n) h = h
-legal-bare S (stmt.Float a b c) h = h
-legal-bare S (stmt.Ess a b) h = h
-legal-bare S (stmt.Axiom a b) h = h
-legal-bare S (stmt.Prove a b c) h = h
 
 -- ---- taken back, everything is as before
 

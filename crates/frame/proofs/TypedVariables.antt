@@ -7,7 +7,7 @@ use Rattle.std.proofs.lemmas.Bool.{or_left, and_parts, both_ways}
 use Rattle.scope.proofs.GoingBackLemmas.{all-has}
 use Rattle.mm_lex.specs.Alphabet.{Name, has_name}
 use Rattle.mm_read.specs.declared.stmt.Stmt.{Stmt}
-use Rattle.mm_read.specs.declared.stmt.Stmt.TheVariants.{Open, Close, Const, Var, Disj, Float, Ess, Axiom, Prove}
+use Rattle.mm_read.specs.declared.stmt.Stmt.TheVariants.{Float, Ess, Axiom, Prove}
 use Rattle.mm_read.specs.Statements.{Expr, Database}
 use Rattle.scope.specs.Active.{stays_open, active, constants, variables, expr_of, is_assertion, is_essential, is_variable, is_constant, is_float_of, has_float}
 use Rattle.scope.specs.Legal.{IsLegal, starts_with_constant}
@@ -41,59 +41,36 @@ float-kinds S A l c x B all whole stays =
       still-active (λ s. has_name x (variables s)) S A (Float l c x) B whole stays (and_parts (is_variable A x) (not (has_float A x)) g7).0,
     )
 
--- an expression begins with a constant, so with no variable
-fixed : (S A B : Database) (t : Stmt) (e : Expr) → AllKept S → S ≡ A ++ t ∷ B → starts_with_constant A e ≡ true → IsFirstFixed S e
-fixed S A B t [] all whole h = tt
-fixed S A B t (x ∷ e) all whole h = constant-no_variable S x all (constant-front S A t B x whole h)
+-- an expression of a legal statement begins with a constant; where no constant is a variable, with no variable
+fixed : (S A : Database) (s : Stmt) → ((x : Name) → is_constant A x ≡ true → is_variable S x ≡ false) → IsLegal A s → IsFirstFixed S (expr_of s)
+fixed S A s other legal = by s legal
+  where
+    first : (e : Expr) → starts_with_constant A e ≡ true → IsFirstFixed S e
+    first [] h = tt
+    first (x ∷ e) h = other x h
+
+    by : (s : Stmt) → IsLegal A s → IsFirstFixed S (expr_of s)
+    by (Float l c x) k = other c (legal-keeps A (Float l c x) k).g6
+    by (Ess l e) k = first e (legal-keeps A (Ess l e) k).g6
+    by (Axiom l e) k = first e (legal-keeps A (Axiom l e) k).g6
+    by (Prove l e p) k = first e (legal-keeps A (Prove l e p) k).g6
+    by s k = tt
 
 pub first-fixed : (S A : Database) (t : Stmt) (B : Database) → AllKept S → S ≡ A ++ t ∷ B → IsFirstFixed S (expr_of t)
-first-fixed S A (Float l c x) B all whole = fixed S A B (Float l c x) (c ∷ x ∷ []) all whole (legal-keeps A (Float l c x) (kept-legal S A (Float l c x) B all whole)).g6
-first-fixed S A (Ess l e) B all whole = fixed S A B (Ess l e) e all whole (legal-keeps A (Ess l e) (kept-legal S A (Ess l e) B all whole)).g6
-first-fixed S A (Axiom l e) B all whole = fixed S A B (Axiom l e) e all whole (legal-keeps A (Axiom l e) (kept-legal S A (Axiom l e) B all whole)).g6
-first-fixed S A (Prove l e p) B all whole = fixed S A B (Prove l e p) e all whole (legal-keeps A (Prove l e p) (kept-legal S A (Prove l e p) B all whole)).g6
-first-fixed S A Open B all whole = tt
-first-fixed S A Close B all whole = tt
-first-fixed S A (Const ws) B all whole = tt
-first-fixed S A (Var ws) B all whole = tt
-first-fixed S A (Disj ws) B all whole = tt
-
-fixed-own : (S : Database) (e : Expr) → AllKept S → starts_with_constant S e ≡ true → IsFirstFixed S e
-fixed-own S [] all h = tt
-fixed-own S (x ∷ e) all h = constant-no_variable S x all h
+first-fixed S A t B all whole = fixed S A t (λ x h. constant-no_variable S x all (constant-front S A t B x whole h)) (kept-legal S A t B all whole)
 
 pub own-fixed : (S : Database) (s : Stmt) → AllKept S → IsLegal S s → IsFirstFixed S (expr_of s)
-own-fixed S (Float l c x) all legal = fixed-own S (c ∷ x ∷ []) all (legal-keeps S (Float l c x) legal).g6
-own-fixed S (Ess l e) all legal = fixed-own S e all (legal-keeps S (Ess l e) legal).g6
-own-fixed S (Axiom l e) all legal = fixed-own S e all (legal-keeps S (Axiom l e) legal).g6
-own-fixed S (Prove l e p) all legal = fixed-own S e all (legal-keeps S (Prove l e p) legal).g6
-own-fixed S Open all legal = tt
-own-fixed S Close all legal = tt
-own-fixed S (Const ws) all legal = tt
-own-fixed S (Var ws) all legal = tt
-own-fixed S (Disj ws) all legal = tt
+own-fixed S s all legal = fixed S S s (λ x h. constant-no_variable S x all h) legal
 
 typed-own : (S : Database) (s : Stmt) (x : Name) → IsLegal S s → is_assertion s ≡ true → has_name x (expr_of s) ≡ true → is_variable S x ≡ true → has_float S x ≡ true
 typed-own S (Axiom l e) x legal asserts h v = implied (is_variable S x) (has_float S x) (all-has (λ y. not (is_variable S y) || has_float S y) x e (legal-keeps S (Axiom l e) legal).g9 h) v
 typed-own S (Prove l e p) x legal asserts h v = implied (is_variable S x) (has_float S x) (all-has (λ y. not (is_variable S y) || has_float S y) x e (legal-keeps S (Prove l e p) legal).g9 h) v
-typed-own S Open x legal asserts h v = cc
-typed-own S Close x legal asserts h v = cc
-typed-own S (Const ws) x legal asserts h v = cc
-typed-own S (Var ws) x legal asserts h v = cc
-typed-own S (Disj ws) x legal asserts h v = cc
-typed-own S (Float l c w) x legal asserts h v = cc
-typed-own S (Ess l e) x legal asserts h v = cc
+typed-own S s x legal asserts h v = cc
 
 -- a statement that passes as an `$e` with x is an `$e`, and x stands in its expression
 pub is_ess : (t : Stmt) (x : Name) → (is_essential t && has_name x (expr_of t)) ≡ true → (l : Name) × (e : Expr) × (t ≡ Ess l e) × (has_name x e ≡ true)
 is_ess (Ess l e) x h = (l, e, refl, h)
-is_ess Open x h = cc
-is_ess Close x h = cc
-is_ess (Const ws) x h = cc
-is_ess (Var ws) x h = cc
-is_ess (Disj ws) x h = cc
-is_ess (Float l c w) x h = cc
-is_ess (Axiom l e) x h = cc
-is_ess (Prove l e p) x h = cc
+is_ess s x h = cc
 
 -- a variable of a `$e` has a `$f` that is active before it
 pub typed-before : (S A : Database) (l : Name) (e : Expr) (B : Database) (x : Name) → AllKept S → S ≡ A ++ Ess l e ∷ B → has_name x e ≡ true → is_variable S x ≡ true → has_float A x ≡ true

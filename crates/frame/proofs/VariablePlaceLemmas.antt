@@ -1,14 +1,14 @@
 -- The mandatory variables are the variables of the mandatory `$f`, and each has one place.
-use Rattle.std.specs.Prelude.{◌≡◌, ℕ, suc, ◌+◌, ◌-◌, Bool, true, false, not, cond, ◌&&◌, ◌||◌, List, [], ◌∷◌, ◌++◌, length, map, filter, take, drop, Option, Some, None, slice_get, refl}
+use Rattle.std.specs.Prelude.{◌≡◌, ℕ, suc, ◌+◌, Bool, true, false, not, cond, ◌&&◌, ◌||◌, List, [], ◌∷◌, ◌++◌, length, map, filter, Option, Some, None, slice_get, refl}
 use Rattle.std.specs.List.{list_any}
 use Rattle.std.proofs.Common.{sym, ◌∙◌, ap, subst, arith, append_assoc, length-append}
 use Rattle.std.proofs.lemmas.Bool.{or_left, or_right, and_parts, not-true, both_ways as not_both}
 use Rattle.std.specs.Cmp.{both_ways}
 use Rattle.mm_lex.specs.Alphabet.{Name, name_eq}
 use Rattle.mm_read.specs.declared.stmt.Stmt.{Stmt}
-use Rattle.mm_read.specs.declared.stmt.Stmt.TheVariants.{Open, Close, Const, Var, Disj, Float, Ess, Axiom, Prove}
+use Rattle.mm_read.specs.declared.stmt.Stmt.TheVariants.{Float}
 use Rattle.mm_read.specs.Statements.{Database}
-use Rattle.scope.specs.Active.{stays_open, active, active_from, is_active, is_assertion, is_variable, is_float_of, has_float}
+use Rattle.scope.specs.Active.{stays_open, active, active_from, is_assertion, is_variable, is_float_of, has_float}
 use Rattle.scope.specs.Legal.{IsLegal}
 use Rattle.frame.specs.FrameOf.{is_used, is_mandatory, is_hypothesis, variable_of, variable_at, variables_of, is_some_name, has_place}
 use Rattle.frame.proofs.LegalLabels.{AllKept}
@@ -44,14 +44,7 @@ variables-listed S A (s ∷ T) n r whole at =
 -- the head of a list of statements by position, where one holds a place for x
 place-head : (S : Database) (s t : Stmt) (x : Name) → is_hypothesis S s t ≡ true → is_some_name x (variable_of t) ≡ true → is_mandatory S s x ≡ true
 place-head S s (Float l c y) x h e = ap (is_mandatory S s) (same x y e) ∙ h
-place-head S s (Ess l w) x h e = cc
-place-head S s Open x h e = cc
-place-head S s Close x h e = cc
-place-head S s (Const ws) x h e = cc
-place-head S s (Var ws) x h e = cc
-place-head S s (Disj ws) x h e = cc
-place-head S s (Axiom l w) x h e = cc
-place-head S s (Prove l w p) x h e = cc
+place-head S s t x h e = cc
 
 place-mandatory : (S : Database) (s : Stmt) (x : Name) (L : List (ℕ × Stmt)) → list_any (is_some_name x) (map (λ p. variable_of p.1) (filter (λ p. is_hypothesis S s p.1) L)) ≡ true → is_mandatory S s x ≡ true
 place-mandatory S s x [] h = cc
@@ -68,14 +61,7 @@ place-mandatory S s x (p ∷ L) h = by (place-mandatory S s x L) (is_hypothesis 
 
 float-head : (S : Database) (s t : Stmt) (x : Name) → is_mandatory S s x ≡ true → is_float_of x t ≡ true → (is_hypothesis S s t ≡ true) × (is_some_name x (variable_of t) ≡ true)
 float-head S s (Float l c y) x m e = (ap (is_mandatory S s) (sym (same x y e)) ∙ m, e)
-float-head S s (Ess l w) x m e = cc
-float-head S s Open x m e = cc
-float-head S s Close x m e = cc
-float-head S s (Const ws) x m e = cc
-float-head S s (Var ws) x m e = cc
-float-head S s (Disj ws) x m e = cc
-float-head S s (Axiom l w) x m e = cc
-float-head S s (Prove l w p) x m e = cc
+float-head S s t x m e = cc
 
 mandatory-listed : (S : Database) (s : Stmt) (x : Name) (L : List (ℕ × Stmt)) → is_mandatory S s x ≡ true → list_any (λ p. is_float_of x p.1) L ≡ true
     → list_any (is_some_name x) (map (λ p. variable_of p.1) (filter (λ p. is_hypothesis S s p.1) L)) ≡ true
@@ -120,14 +106,7 @@ mandatory-place S s x all legal asserts = both_ways (is_mandatory S s x) (has_pl
 -- a statement that has a variable is a `$f` of it
 pub is_flt : (t : Stmt) (y : Name) → variable_of t ≡ Some y → (l c : Name) × (t ≡ Float l c y)
 is_flt (Float l c w) y h = let e : w ≡ y = cc in (l, c, ap (Float l c) e)
-is_flt (Ess l w) y h = cc
-is_flt Open y h = cc
-is_flt Close y h = cc
-is_flt (Const ws) y h = cc
-is_flt (Var ws) y h = cc
-is_flt (Disj ws) y h = cc
-is_flt (Axiom l w) y h = cc
-is_flt (Prove l w p) y h = cc
+is_flt s y h = cc
 
 -- behind an active `$f` of x there is none that is another `$f` of x
 differs : (A : Database) (l c x : Name) (M : Database) (t : Stmt) (y : Name) → stays_open 0 M ≡ true → IsLegal (A ++ Float l c x ∷ M) t → variable_of t ≡ Some y → name_eq y x ≡ false
@@ -198,12 +177,3 @@ once-from S A (t ∷ B) n r all whole =
 
 pub variables-once : (S : Database) (s : Stmt) → AllKept S → AreOnce (variables_of S s)
 variables-once S s all = subst AreOnce (sym (listed S s)) (once-from S [] S 1 (λ p. is_hypothesis S s p.1) all refl)
-
--- ---- by position
-
--- a statement that is active behind S, and those after it close nothing of it
-pub active-rest : (S : Database) (n : ℕ) → is_active S (suc n) (length S + 1) ≡ true → stays_open 0 (drop (suc n) S) ≡ true
-active-rest S n h =
-    let parts = and_parts (Rattle.std.specs.Prelude.nat_le 1 (suc n) && Rattle.std.specs.Prelude.nat_lt (suc n) (length S + 1)) (stays_open 0 (take (length S + 1 - 1 - suc n) (drop (suc n) S))) h in
-    let l = Rattle.std.proofs.Common.length-drop (suc n) S in
-    ap (stays_open 0) (sym (Rattle.std.proofs.lemmas.List.take_all (length S + 1 - 1 - suc n) (drop (suc n) S) (omega (arith, l)))) ∙ parts.1

@@ -55,7 +55,7 @@ IsGathered S names a g = (s : Stmt) → stmt_at S a ≡ Some s → AreListsOf S 
 
 -- the parts of the assertion s at a
 pub record IsCited (S : Database) (names : List Name) (a : ℕ) (s : Stmt) (c : Cited) : Type 0 where
-  pub asked : AreAsked S names (hypotheses (before S a) s) c.heads.now c.hypotheses.now
+  pub asked : AreAsked S names (hypotheses (before S a) s) c.heads.now c.hypotheses
   pub conclusion : decode names c.conclusion.now ≡ expr_of s
   pub conclusion_below : AreBelow (length names) c.conclusion.now
   pub groups : map (decode names) c.groups ≡ mandatory_groups (before S a) s

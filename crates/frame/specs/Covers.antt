@@ -4,10 +4,9 @@
 use Rattle.std.specs.Prelude.{ℕ, Bool, false, not, ◌&&◌, ◌||◌, ◌%◌, List, slice_index_or}
 use Rattle.std.specs.List.{list_all, list_any}
 use Rattle.mm_lex.specs.Alphabet.{Name, has_name}
-use Rattle.mm_read.specs.declared.stmt.Stmt.{Stmt}
 use Rattle.mm_read.specs.Statements.{Expr, Database}
-use Rattle.scope.specs.Active.{active, separated, is_variable}
-use Rattle.frame.specs.Links.{is_disj}
+use Rattle.scope.specs.Active.{separated, is_variable}
+use Rattle.frame.specs.Links.{actives, is_disj}
 use Rattle.frame.specs.FrameOf.{is_pair}
 
 -- the symbol, where it is a variable, stands in the list
@@ -17,12 +16,13 @@ is_listed S names u = not (is_variable S u) || has_name u names
 abbrev pub are_listed : Database → List Name → Expr → Bool
 are_listed S names e = list_all (is_listed S names) e
 
--- a `$d` that lists each variable of both
-abbrev pub does_cover : Database → Expr → Expr → Stmt → Bool
-does_cover S e f s = is_disj s && (are_listed S (separated s) e && are_listed S (separated s) f)
+-- the list has each variable of both
+abbrev pub does_cover : Database → Expr → Expr → List Name → Bool
+does_cover S e f names = are_listed S names e && are_listed S names f
 
+-- an active `$d` lists each variable of both
 abbrev pub are_covered : Database → Expr → Expr → Bool
-are_covered S e f = list_any (λ p. does_cover S e f p.1) (active S)
+are_covered S e f = list_any (λ p. does_cover S e f (separated p.1)) (actives is_disj S)
 
 -- some variable stands in both
 abbrev pub do_share : Database → Expr → Expr → Bool

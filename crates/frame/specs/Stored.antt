@@ -8,7 +8,6 @@ pub mod Labels
 pub mod Drafts
 pub mod OneFrame
 pub mod NumberPlaces
-pub mod Plain
 pub mod Naming
 pub mod Ends
 pub mod Whole

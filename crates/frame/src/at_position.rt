@@ -9,6 +9,7 @@ ghost use Rattle.frame.specs.AtPosition.{IsMeaning};
 ghost use Rattle.frame.specs.Cited.{IsCited, IsGathered};
 ghost use Rattle.frame.specs.Stored.Drafts.{IsDraft, drafted};
 ghost use Rattle.frame.specs.Links.{last_active, links_of};
+ghost use Rattle.frame.specs.Stored.Labels.{is_label_kind};
 ghost use Rattle.frame.specs.Stored.Whole.{AreStored};
 ghost use Rattle.frame.specs.Stored.EntryMeanings.{names_in, statements_of};
 ghost use Rattle.frame.specs.Stored.Counts.{IsPlain, IsHypothesisAt};
@@ -16,7 +17,7 @@ ghost use Rattle.frame.specs.Stored.Counts.{IsPlain, IsHypothesisAt};
 use crate::draft::Draft;
 use crate::meaning::Meaning;
 use crate::storage::Stock;
-use entries::{Cited, Groups, Kind, Links};
+use entries::{Cited, Groups, Hypotheses, Kind, Links};
 
 /// What is active before the statement at `at`, or at the end.
 pub fn links_at(stock: &Stock, at: usize) -> Links
@@ -56,13 +57,18 @@ pub fn expr_at(stock: &Stock, at: usize) -> &[u32]
     ensures codes { AreBelow (length (names_in stock.now)) result.now }
 {
     let entry = stock.entries.entry(at - 1);
-    match entry.kind {
-        Kind::Float => entry.symbols,
-        Kind::Ess => entry.symbols,
-        Kind::Axiom => entry.symbols,
-        Kind::Prove => entry.symbols,
-        _ => &[],
+    if has_expression(entry.kind) {
+        entry.symbols
+    } else {
+        &[]
     }
+}
+
+/// Whether the statements of a kind have an expression. They are those with a label.
+fn has_expression(kind: Kind) -> bool
+    ensures { result ≡ is_label_kind kind }
+{
+    matches!(kind, Kind::Float | Kind::Ess | Kind::Axiom | Kind::Prove)
 }
 
 /// What a citation of the statement at i means at `at`.
@@ -75,10 +81,8 @@ pub fn meaning_at(stock: &Stock, at: usize, i: usize) -> Meaning<'_>
         return Meaning::Nothing;
     }
     match stock.entries.entry(i - 1).kind {
-        Kind::Float => hypothesis_at(stock, at, i),
-        Kind::Ess => hypothesis_at(stock, at, i),
-        Kind::Axiom => Meaning::Assertion,
-        Kind::Prove => Meaning::Assertion,
+        Kind::Float | Kind::Ess => hypothesis_at(stock, at, i),
+        Kind::Axiom | Kind::Prove => Meaning::Assertion,
         _ => Meaning::Nothing,
     }
 }
@@ -116,7 +120,7 @@ pub fn gathered_at<'a>(stock: &'a Stock, a: usize, draft: &'a Draft) -> Cited<'a
 {
     Cited {
         heads: &draft.heads,
-        hypotheses: &draft.asked,
+        hypotheses: Hypotheses::new(&draft.asked),
         conclusion: expr_at(stock, a),
         groups: Groups::new(&draft.groups, &draft.places),
     }

@@ -1,42 +1,66 @@
-//! What one more statement changes: the last declarations of symbols, and what is active behind it.
-ghost use Rattle.std.specs.Prelude.{◌≡◌, ℕ, ◌+◌, ◌<◌, ◌≤◌, ◌==◌, ◌++◌, ◌∷◌, [], None, Some, length, take, slice_get, IfOk, OnOk, OnErr, false, if◌then◌else◌};
+//! What one more statement changes: the names and the last declarations of symbols, and what is active behind it.
+ghost use Rattle.std.specs.Prelude.{◌≡◌, ℕ, ◌+◌, ◌<◌, ◌≤◌, ◌==◌, ◌++◌, ◌∷◌, [], Some, length, slice_get, OnOk, if◌then◌else◌};
 ghost use Rattle.std.specs.List.{list_any};
 ghost use Rattle.mm_read.specs.declared.stmt.Stmt.{Stmt as Statement};
-ghost use Rattle.scope.specs.Kinds.{kind_in};
-ghost use Rattle.scope.specs.declared.numbering.NameKind.TheVariants.{Label};
+ghost use Rattle.scope.specs.Active.{label_of};
+ghost use Rattle.scope.specs.Declares.{IsNotedBy, MayDeclare, declared_with};
 ghost use Rattle.frame.specs.Below.{AreBelow};
 ghost use Rattle.frame.specs.Links.{links_of};
 ghost use Rattle.frame.specs.declared.storage.Symbol.{Symbol as Declared};
 ghost use Rattle.frame.specs.Stored.Whole.{AreStored};
-ghost use Rattle.frame.specs.Stored.EntryMeanings.{statements_of};
-ghost use Rattle.frame.specs.Stored.Counts.{with_declared, kind_of};
+ghost use Rattle.frame.specs.Stored.EntryMeanings.{option_position, statements_of};
+ghost use Rattle.frame.specs.Stored.Counts.{AreZeroBehind, Grown, HasRoom, with_declared, kind_of, next_links};
 
 use crate::at_position::links_at;
+use crate::shape::label;
 use crate::storage::{Stock, Symbol};
 use entries::{Kind, Links};
-use scope::{NameKind, Numbering};
+use mm_read::Stmt;
+use scope::{Noted, declare_names};
 use std::alloc::{AllocError, Global};
 
-/// Gives a label its number and its position.
-pub fn name_label(
-    alloc: Global,
-    numbering: &mut Numbering,
-    positions: &mut Vec<u32>,
-    label: &[u8],
-    at: u32,
-) -> Result<(), AllocError>
-    requires { kind_in numbering.old label.now ≡ None }
-    ensures numbering { OnOk result (numbering.new ≡ numbering.old ++ (label.now, Label) ∷ []) }
-    ensures positions { OnOk result (positions.new.items ≡ positions.old.items ++ at ∷ []) }
-    ensures numbering_err { OnErr result (numbering.new ≡ numbering.old) }
-    ensures positions_err { OnErr result (positions.new.items ≡ positions.old.items) }
+/// There are fewer symbols than this, so numbers fit in 32 bits.
+const NAMES_LIMIT: usize = 2147483648;
+
+/// Puts symbols that nothing declares behind the others, so that there are so many.
+fn add_symbols(symbols: &mut Vec<Symbol>, count: usize) -> Result<(), AllocError>
+    requires { length symbols.old.items ≤ count }
+    ensures behind { AreZeroBehind symbols.old.items symbols.new.items }
+    ensures count { OnOk result (length symbols.new.items ≡ count) }
 {
-    let count = numbering.len();
-    numbering.declare(alloc, label, NameKind::Label)?;
-    let added = positions.push(at);
-    if added.is_err() {
-        numbering.truncate(count);
+    for _ in symbols.len()..count {
+        symbols.push(Symbol {
+            float: 0,
+            variable: 0,
+        })?;
+    }
+    Ok(())
+}
+
+/// Declares what the statement that comes next declares, whose label gets its position. The numbers of the symbols of a
+/// `$c` and a `$v` are noted.
+pub fn declare_next(
+    alloc: Global,
+    stock: &mut Stock,
+    stmt: &Stmt,
+    noted: &mut Noted,
+) -> Result<(), AllocError>
+    requires free { MayDeclare stock.old.numbering stmt.now }
+    requires room { HasRoom stock.old }
+    ensures grown { Grown stock.old stock.new }
+    ensures room { OnOk result (HasRoom stock.new) }
+    ensures numbering { OnOk result (stock.new.numbering ≡ declared_with stock.old.numbering stmt.now) }
+    ensures positions { OnOk result (stock.new.positions.items ≡ stock.old.positions.items ++ option_position (label_of stmt.now) (length stock.old.entries + 1) []) }
+    ensures noted { OnOk result (IsNotedBy stock.new.numbering stmt.now noted.old noted.new) }
+{
+    declare_names(&mut stock.numbering, alloc, stmt, noted)?;
+    let count = stock.numbering.symbol_count();
+    if count >= NAMES_LIMIT {
         return Err(AllocError);
+    }
+    add_symbols(&mut stock.symbols, count)?;
+    if label(stmt).is_some() {
+        stock.positions.push(stock.entries.len() as u32 + 1)?;
     }
     Ok(())
 }
@@ -46,10 +70,8 @@ pub fn links_after(stock: &Stock, kind: Kind) -> Links
     requires { AreStored stock.now }
     ensures { (s : Statement) → kind_of s ≡ kind → result ≡ links_of (statements_of stock.now ++ s ∷ []) }
 {
-    let at = stock.entries.len() as u32 + 1;
     let links = stock.links;
     match kind {
-        Kind::Open => Links { block: at, ..links },
         Kind::Close => {
             if links.block == 0 {
                 Links {
@@ -62,23 +84,23 @@ pub fn links_after(stock: &Stock, kind: Kind) -> Links
                 links_at(stock, links.block as usize)
             }
         }
-        Kind::Var => Links {
-            variable: at,
-            ..links
-        },
-        Kind::Disj => Links {
-            disjoint: at,
-            ..links
-        },
-        Kind::Ess => Links {
-            essential: at,
-            ..links
-        },
-        Kind::Const => links,
-        Kind::Float => links,
-        Kind::Axiom => links,
-        Kind::Prove => links,
+        _ => links_with(links, kind, stock.entries.len() as u32 + 1),
     }
+}
+
+/// What is active behind a statement of a kind at `at`, if it is no `$}`.
+fn links_with(links: Links, kind: Kind, at: u32) -> Links
+    ensures { result ≡ next_links links at kind }
+{
+    let mut links = links;
+    match kind {
+        Kind::Open => links.block = at,
+        Kind::Var => links.variable = at,
+        Kind::Disj => links.disjoint = at,
+        Kind::Ess => links.essential = at,
+        _ => {}
+    }
+    links
 }
 
 /// Notes the `$v` at `at` as the last one of its symbols.

@@ -4,7 +4,7 @@ ghost use Rattle.entries.specs.Entries.{AreShapedParts, assertion_of};
 ghost use Rattle.frame.specs.Stored.Drafts.{IsDraft, IsPartless, drafted};
 
 use crate::places::Places;
-use entries::{AssertionParts, BufferPart, Hypothesis};
+use entries::{AssertionParts, BufferPart};
 use std::alloc::Global;
 
 /// The numbers of a statement's symbols, and the parts of an assertion. Its buffers serve one statement after another.
@@ -20,8 +20,8 @@ pub struct Draft {
     pub hypotheses: Vec<u32>,
     /// The variables of the hypotheses, at their places.
     pub variables: Places,
-    /// What each hypothesis is.
-    pub asked: Vec<Hypothesis>,
+    /// What each hypothesis is, as one number.
+    pub asked: Vec<u32>,
     /// The first symbol of each.
     pub heads: Vec<u32>,
     /// The variables whose images are kept apart, one group behind the other.

@@ -20,12 +20,7 @@ pub fn note_end(ends: &mut Vec<u32>, kind: Kind, block: u32, at: u32)
     requires { block ≤ length ends.old.items }
     ensures { ends.new.items ≡ with_end kind block at ends.old.items }
 {
-    match kind {
-        Kind::Close => {
-            if block != 0 {
-                ends[block as usize - 1] = at;
-            }
-        }
-        _ => {}
+    if matches!(kind, Kind::Close) && block != 0 {
+        ends[block as usize - 1] = at;
     }
 }

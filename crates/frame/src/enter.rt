@@ -1,31 +1,27 @@
 //! A statement as numbers.
-ghost use Rattle.std.specs.Prelude.{◌≡◌, ◌+◌, ◌<◌, ◌^◌, ◌++◌, ◌∷◌, [], length, IfOk, OnOk, IfSome, true, false};
+ghost use Rattle.std.specs.Prelude.{◌≡◌, ◌++◌, ◌∷◌, [], length, IfOk, OnOk, OnErr, true};
 ghost use Rattle.mm_read.specs.declared.stmt.Stmt.{Stmt as Statement};
-ghost use Rattle.scope.specs.Active.{bare, label_of, is_assertion};
-ghost use Rattle.scope.specs.Legal.{IsLegal};
+ghost use Rattle.scope.specs.Active.{bare};
 ghost use Rattle.names.specs.Codes.{with_names};
-ghost use Rattle.scope.specs.Kinds.{declared_symbols};
+ghost use Rattle.scope.specs.Stored.Noted.{AreNoted};
 ghost use Rattle.scope.specs.Symbols.{symbols_by, symbols_in};
-ghost use Rattle.entries.specs.declared.head.Head.{Head as Before};
+ghost use Rattle.entries.specs.Entries.{made};
 ghost use Rattle.frame.specs.Below.{AreBelow};
-ghost use Rattle.frame.specs.Stored.Drafts.{IsPartless, IsDraft, drafted, made};
-ghost use Rattle.frame.specs.Stored.Whole.{AreNumbersOf, Entered, AreStored, IsHead, IsNext, IsKeptOf};
-ghost use Rattle.frame.specs.Stored.Counts.{Grown, HasRoom, kind_of};
-ghost use Rattle.frame.specs.Stored.EntryMeanings.{names_in, option_position, statements_of};
+ghost use Rattle.frame.specs.Stored.Drafts.{IsPartless, IsDraft, drafted};
+ghost use Rattle.frame.specs.Stored.Whole.{AreStored, IsHead, IsNext, IsKeptOf, IsDraftOf, parts_of};
+ghost use Rattle.frame.specs.Stored.Counts.{HasRoom, kind_of};
+ghost use Rattle.frame.specs.Stored.EntryMeanings.{names_in};
 ghost use Rattle.frame.specs.Stored.AssertionParts.{has_parts};
-ghost use Rattle.frame.specs.Stored.Naming.{with_symbols, with_label, AreDeclared, IsFresh};
 
-use crate::declare::name_label;
 use crate::draft::Draft;
 use crate::make::parts;
-use crate::shape::{is_assertion, is_essential, label};
+use crate::shape::{has_parts, is_essential, kind};
 use crate::storage::Stock;
-use crate::symbol_numbers::{declared_numbers, numbers};
 use entries::buffer_part::place;
-use entries::{Head, Kind};
+use entries::{Entries, Head, Kind};
 use mm_read::Stmt;
-use scope::{NameKind, Numbering};
-use std::alloc::{AllocError, Global};
+use scope::Noted;
+use std::alloc::AllocError;
 
 /// What is noted of a statement of this kind that comes next.
 pub fn head(stock: &Stock, kind: Kind) -> Result<Head, AllocError>
@@ -38,91 +34,6 @@ pub fn head(stock: &Stock, kind: Kind) -> Result<Head, AllocError>
         names: stock.numbering.symbol_count() as u32,
         links: stock.links,
     })
-}
-
-/// Adds the numbers of the symbols of a statement to codes, of which there are none: those that were noted, where they
-/// were. A declaration gives its symbols numbers.
-fn enter_symbols(
-    alloc: Global,
-    stock: &mut Stock,
-    codes: &mut Vec<u32>,
-    stmt: &Stmt,
-    noted: Option<&[u32]>,
-) -> Result<(), AllocError>
-    requires stored { AreStored stock.old }
-    requires legal { IsLegal (statements_of stock.old) stmt.now }
-    requires noted { IfSome noted (λ numbers. AreNumbersOf (with_names (names_in stock.old) (symbols_by stmt.now)) stmt.now numbers.now) }
-    requires empty { codes.old.items ≡ [] }
-    ensures grown { Grown stock.old stock.new }
-    ensures room { HasRoom stock.new }
-    ensures same_positions { stock.new.positions.items ≡ stock.old.positions.items }
-    ensures numbering { OnOk result (stock.new.numbering ≡ with_symbols stock.old.numbering stmt.now) }
-    ensures numbers { OnOk result (AreNumbersOf (names_in stock.new) stmt.now codes.new.items) }
-    ensures same { has_parts (kind_of stmt.now) ≡ true → stock.new ≡ stock.old }
-{
-    match stmt {
-        Stmt::Const(words) => declared_numbers(
-            alloc,
-            &mut stock.numbering,
-            &mut stock.symbols,
-            words,
-            NameKind::Constant,
-            codes,
-        ),
-        Stmt::Var(words) => declared_numbers(
-            alloc,
-            &mut stock.numbering,
-            &mut stock.symbols,
-            words,
-            NameKind::Variable,
-            codes,
-        ),
-        _ => known_numbers(&stock.numbering, codes, stmt, noted),
-    }
-}
-
-/// Adds the numbers of the symbols of a statement, which all have one, to codes, of which there are none: those that
-/// were noted, where they were.
-fn known_numbers(
-    numbering: &Numbering,
-    codes: &mut Vec<u32>,
-    stmt: &Stmt,
-    noted: Option<&[u32]>,
-) -> Result<(), AllocError>
-    requires declared { AreDeclared numbering.now (symbols_in stmt.now) }
-    requires noted { IfSome noted (λ numbers. AreNumbersOf (declared_symbols numbering.now) stmt.now numbers.now) }
-    requires empty { codes.old.items ≡ [] }
-    ensures { OnOk result (AreNumbersOf (declared_symbols numbering.now) stmt.now codes.new.items) }
-{
-    match noted {
-        Some(found) => {
-            codes.extend_from_slice(found)?;
-            Ok(())
-        }
-        None => numbers(numbering, stmt, codes),
-    }
-}
-
-/// Gives the label of the statement that comes next, where it has one, its number and its position.
-pub fn enter_label(alloc: Global, stock: &mut Stock, stmt: &Stmt) -> Result<(), AllocError>
-    requires fresh { IsFresh stock.old.numbering (label_of stmt.now) }
-    ensures grown { Grown stock.old stock.new }
-    ensures names { names_in stock.new ≡ names_in stock.old }
-    ensures same_symbols { stock.new.symbols ≡ stock.old.symbols }
-    ensures numbering { OnOk result (stock.new.numbering ≡ with_label stock.old.numbering (label_of stmt.now)) }
-    ensures positions { OnOk result (stock.new.positions.items ≡ stock.old.positions.items ++ option_position (label_of stmt.now) (length stock.old.entries + 1) []) }
-{
-    let Some(label) = label(stmt) else {
-        return Ok(());
-    };
-    let at = stock.entries.len() as u32 + 1;
-    name_label(
-        alloc,
-        &mut stock.numbering,
-        &mut stock.positions,
-        label.as_bytes(),
-        at,
-    )
 }
 
 /// Finds what is kept of an assertion or a `$e` with the symbols of the draft.
@@ -138,44 +49,43 @@ fn keep(stock: &Stock, draft: &mut Draft, is_own: bool) -> Result<(), AllocError
     parts(stock, draft, is_own)
 }
 
-/// Finds the parts of an assertion or of a `$e` with the symbols of the draft. Another statement has none.
-fn enter_parts(stock: &Stock, draft: &mut Draft, stmt: &Stmt) -> Result<(), AllocError>
-    requires stored { has_parts (kind_of stmt.now) ≡ true → AreStored stock.now }
-    requires legal { has_parts (kind_of stmt.now) ≡ true → IsLegal (statements_of stock.now) stmt.now }
-    requires numbers { AreNumbersOf (names_in stock.now) stmt.now draft.old.symbols.items }
-    requires partless { IsPartless draft.old }
-    ensures kept { has_parts (kind_of stmt.now) ≡ true → OnOk result (IsKeptOf stock.now (bare stmt.now) (drafted draft.new)) }
-    ensures draft { OnOk result (IsDraft draft.new) }
-    ensures symbols { draft.new.symbols.items ≡ draft.old.symbols.items }
-{
-    if is_assertion(stmt) {
-        keep(stock, draft, false)
-    } else if is_essential(stmt) {
-        keep(stock, draft, true)
-    } else {
-        Ok(())
-    }
-}
-
-/// Finds the numbers and the parts of the statement, and puts its names and its label in the storage.
-pub fn enter(
-    alloc: Global,
-    stock: &mut Stock,
+/// Finds the parts of an assertion or of a `$e` by the numbers that were noted of its symbols. Another statement has none.
+pub fn enter_parts(
+    stock: &Stock,
     draft: &mut Draft,
     stmt: &Stmt,
-    noted: Option<&[u32]>,
+    noted: &Noted,
 ) -> Result<(), AllocError>
-    requires stored { AreStored stock.old }
-    requires legal { IsLegal (statements_of stock.old) stmt.now }
-    requires noted { IfSome noted (λ numbers. AreNumbersOf (with_names (names_in stock.old) (symbols_by stmt.now)) stmt.now numbers.now) }
-    requires symbols { draft.old.symbols.items ≡ [] }
-    requires partless { IsPartless draft.old }
-    ensures grown { Grown stock.old stock.new }
-    ensures room { HasRoom stock.new }
-    ensures entered { (h : Before) → IsHead stock.old (bare stmt.now) h → OnOk result (Entered stock.old stock.new (bare stmt.now) (made h draft.new)) }
-    ensures draft { OnOk result (IsDraft draft.new) }
+    requires stored { AreStored stock.now }
+    requires noted { AreNoted (with_names (names_in stock.now) (symbols_by stmt.now)) (symbols_in stmt.now) noted.now }
+    ensures { has_parts (kind_of stmt.now) ≡ true → OnOk result (IsDraftOf stock.now (bare stmt.now) noted.now draft.new) }
 {
-    enter_symbols(alloc, stock, &mut draft.symbols, stmt, noted)?;
-    enter_parts(stock, draft, stmt)?;
-    enter_label(alloc, stock, stmt)
+    if !has_parts(kind(stmt)) {
+        return Ok(());
+    }
+    let Some(codes) = noted.numbers() else {
+        return Err(AllocError);
+    };
+    draft.clear();
+    draft.symbols.extend_from_slice(codes)?;
+    keep(stock, draft, is_essential(stmt))
+}
+
+/// Puts a statement behind the others, with its parts where it has some.
+pub fn push_entry(
+    entries: &mut Entries,
+    head: Head,
+    codes: &[u32],
+    draft: &Draft,
+) -> Result<(), AllocError>
+    requires shaped { has_parts head.kind ≡ true → IsDraft draft.now }
+    requires symbols { has_parts head.kind ≡ true → draft.now.symbols.items ≡ codes.now }
+    ensures added { OnOk result (entries.new ≡ entries.old ++ made head codes.now (parts_of head.kind draft.now) ∷ []) }
+    ensures same { OnErr result (entries.new ≡ entries.old) }
+{
+    if has_parts(head.kind) {
+        entries.push(head, &draft.parts())
+    } else {
+        entries.push_plain(head, codes)
+    }
 }

@@ -1,24 +1,25 @@
 //! One statement more in the storage, or none, or only the first ones.
-ghost use Rattle.std.specs.Prelude.{◌≡◌, ◌++◌, ◌∷◌, [], OnOk, OnErr, IfSome, take, length};
+ghost use Rattle.std.specs.Prelude.{◌≡◌, ◌++◌, ◌∷◌, [], OnOk, OnErr, take, length};
 ghost use Rattle.scope.specs.Active.{bare};
 ghost use Rattle.scope.specs.Legal.{IsLegal};
 ghost use Rattle.names.specs.Codes.{with_names};
-ghost use Rattle.scope.specs.Symbols.{symbols_by};
-ghost use Rattle.frame.specs.Stored.Whole.{AreNumbersOf, AreStored};
+ghost use Rattle.scope.specs.Stored.Noted.{AreNoted};
+ghost use Rattle.scope.specs.Symbols.{symbols_by, symbols_in};
+ghost use Rattle.frame.specs.Stored.Whole.{AreStored};
 ghost use Rattle.frame.specs.Stored.Counts.{IsBehind};
 ghost use Rattle.entries.specs.Stored.Spans.{Extends};
 ghost use Rattle.frame.specs.Stored.EntryMeanings.{labels_in, names_in, statements_of};
 
-use crate::declare::{declare, links_after};
+use crate::declare::{declare, declare_next, links_after};
 use crate::draft::Draft;
 use crate::ends::{note_end, note_statement};
-use crate::enter::{enter, head};
-use crate::plain::{extend_plain, plain_numbers};
+use crate::enter::{enter_parts, head, push_entry};
 use crate::shape::kind;
 use crate::storage::Stock;
+use crate::symbol_numbers::find_numbers;
 use crate::undo::{note_replaced, take_away};
 use mm_read::Stmt;
-use scope::Rules;
+use scope::{Noted, Rules};
 use std::alloc::{AllocError, Global};
 
 /// Adds the statement behind the others, with the numbers of its symbols where they were noted. Where a growth is refused,
@@ -28,48 +29,29 @@ fn extend(
     stock: &mut Stock,
     draft: &mut Draft,
     stmt: &Stmt,
-    noted: Option<&[u32]>,
+    noted: &mut Noted,
 ) -> Result<(), AllocError>
     requires stored { AreStored stock.old }
     requires legal { IsLegal (statements_of stock.old) stmt.now }
-    requires noted { IfSome noted (λ numbers. AreNumbersOf (with_names (names_in stock.old) (symbols_by stmt.now)) stmt.now numbers.now) }
+    requires noted { AreNoted (with_names (names_in stock.old) (symbols_by stmt.now)) (symbols_in stmt.now) noted.old }
     ensures stored { OnOk result (AreStored stock.new) }
     ensures added { OnOk result (statements_of stock.new ≡ statements_of stock.old ++ bare stmt.now ∷ []) }
-    ensures names { Extends stock.old.numbering stock.new.numbering }
-    ensures behind { OnErr result (IsBehind stock.old stock.new) }
-{
-    match plain_numbers(&stock.numbering, stmt, noted) {
-        Some(codes) => extend_plain(alloc, stock, stmt, codes),
-        None => extend_drafted(alloc, stock, draft, stmt, noted),
-    }
-}
-
-/// The same by way of the draft.
-fn extend_drafted(
-    alloc: Global,
-    stock: &mut Stock,
-    draft: &mut Draft,
-    stmt: &Stmt,
-    noted: Option<&[u32]>,
-) -> Result<(), AllocError>
-    requires stored { AreStored stock.old }
-    requires legal { IsLegal (statements_of stock.old) stmt.now }
-    requires noted { IfSome noted (λ numbers. AreNumbersOf (with_names (names_in stock.old) (symbols_by stmt.now)) stmt.now numbers.now) }
-    ensures stored { OnOk result (AreStored stock.new) }
-    ensures added { OnOk result (statements_of stock.new ≡ statements_of stock.old ++ bare stmt.now ∷ []) }
-    ensures names { Extends stock.old.numbering stock.new.numbering }
     ensures behind { OnErr result (IsBehind stock.old stock.new) }
 {
     let at = stock.entries.len() + 1;
     let kind = kind(stmt);
     let links = links_after(stock, kind);
     let head = head(stock, kind)?;
-    draft.clear();
-    enter(alloc, stock, draft, stmt, noted)?;
-    note_replaced(&stock.symbols, kind, &draft.symbols, &mut stock.replaced)?;
+    find_numbers(&stock.numbering, stmt, noted);
+    enter_parts(stock, draft, stmt, noted)?;
+    declare_next(alloc, stock, stmt, noted)?;
+    let Some(codes) = noted.numbers() else {
+        return Err(AllocError);
+    };
+    note_replaced(&stock.symbols, kind, codes, &mut stock.replaced)?;
     note_statement(&mut stock.ends)?;
-    stock.entries.push(head, &draft.parts())?;
-    declare(&mut stock.symbols, kind, &draft.symbols, at);
+    push_entry(&mut stock.entries, head, codes, draft)?;
+    declare(&mut stock.symbols, kind, codes, at);
     note_end(&mut stock.ends, kind, stock.links.block, at as u32);
     stock.links = links;
     Ok(())
@@ -83,11 +65,11 @@ pub fn extend_whole(
     stock: &mut Stock,
     draft: &mut Draft,
     stmt: &Stmt,
-    noted: Option<&[u32]>,
+    noted: &mut Noted,
 ) -> Result<(), AllocError>
     requires stored { AreStored stock.old }
     requires legal { IsLegal (statements_of stock.old) stmt.now }
-    requires noted { IfSome noted (λ numbers. AreNumbersOf (with_names (names_in stock.old) (symbols_by stmt.now)) stmt.now numbers.now) }
+    requires noted { AreNoted (with_names (names_in stock.old) (symbols_by stmt.now)) (symbols_in stmt.now) noted.old }
     ensures stored { AreStored stock.new }
     ensures added { OnOk result (statements_of stock.new ≡ statements_of stock.old ++ bare stmt.now ∷ []) }
     ensures same { OnErr result (statements_of stock.new ≡ statements_of stock.old) }
@@ -110,12 +92,12 @@ pub fn add_legal(
     draft: &mut Draft,
     rules: &mut Rules,
     stmt: &Stmt,
-    noted: Option<&[u32]>,
+    noted: &mut Noted,
 ) -> Result<(), AllocError>
     requires stored { AreStored stock.old }
     requires same { rules.old.statements ≡ statements_of stock.old }
     requires legal { IsLegal (statements_of stock.old) stmt.now }
-    requires noted { IfSome noted (λ numbers. AreNumbersOf (with_names (names_in stock.old) (symbols_by stmt.now)) stmt.now numbers.now) }
+    requires noted { AreNoted (with_names (names_in stock.old) (symbols_by stmt.now)) (symbols_in stmt.now) noted.old }
     ensures stored { AreStored stock.new }
     ensures added { OnOk result (statements_of stock.new ≡ statements_of stock.old ++ bare stmt.now ∷ []) }
     ensures accepted { OnOk result (rules.new.statements ≡ rules.old.statements ++ bare stmt.now ∷ []) }

@@ -108,7 +108,14 @@ impl Frames {
         ensures counted { steps.new.count ≡ steps.old.count + 1 }
     {
         steps.tick();
-        extend_whole(self.alloc, &mut self.stock, &mut self.draft, stmt, None)
+        self.noted.forget();
+        extend_whole(
+            self.alloc,
+            &mut self.stock,
+            &mut self.draft,
+            stmt,
+            &mut self.noted,
+        )
     }
 
     /// Adds the statement that the scope accepts next, as `keep` does.
@@ -150,19 +157,15 @@ impl Frames {
         if let Some(rule) = broken {
             return Err(rule);
         }
-        let noted = self.noted.numbers();
-        let added = add_legal(
+        add_legal(
             self.alloc,
             &mut self.stock,
             &mut self.draft,
             rules,
             stmt,
-            noted,
-        );
-        match added {
-            Ok(()) => Ok(()),
-            Err(AllocError) => Err(Rule::Memory),
-        }
+            &mut self.noted,
+        )
+        .map_err(|_| Rule::Memory)
     }
 
     /// Only the first `len` statements stay.

@@ -3,7 +3,7 @@
 //! `Frames` keeps the statements of a database by position, and reads off them what a verifier asks: what a citation means at a
 //! statement, the parts of an assertion, and the variables that are kept apart. `frame` gathers the `Frame` of one assertion from
 //! what is active. Reading order: `storage`, `shape`, `places`, `draft`; `symbol_numbers`, `declare`, `undo`, `mandatory`,
-//! `make`, `enter`, `plain`, `extend` (one statement more); `at_position`, `hypotheses`, `meaning`, `gathered`, `pairs`,
+//! `make`, `enter`, `extend` (one statement more); `at_position`, `hypotheses`, `meaning`, `gathered`, `pairs`,
 //! `active_apart`, `frames` (what is asked); `assertion`, `one_frame`; `laws`.
 #![tactic(auto)]
 
@@ -25,7 +25,6 @@ mod meaning;
 mod one_frame;
 mod pairs;
 mod places;
-mod plain;
 mod shape;
 mod storage;
 mod symbol_numbers;

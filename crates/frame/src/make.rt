@@ -1,5 +1,6 @@
 //! The hypotheses that are kept with a statement, what they are, and what is kept apart.
 ghost use Rattle.std.specs.Prelude.{◌≡◌, ℕ, List, ◌+◌, ◌-◌, ◌<◌, ◌≤◌, ◌++◌, ◌∷◌, [], true, false, if◌then◌else◌, length, map, take, OnOk};
+ghost use Rattle.entries.specs.Hypotheses.{told};
 ghost use Rattle.entries.specs.Stored.Spans.{cut, AreSpansIn};
 ghost use Rattle.frame.specs.Below.{AreBelow};
 ghost use Rattle.frame.specs.Cited.{head_of};
@@ -17,7 +18,7 @@ use crate::mandatory::{add_essentials, are_few, find_floats};
 use crate::places::Places;
 use crate::storage::Stock;
 use entries::buffer_part::between;
-use entries::{BufferPart, EntryRef, Hypothesis, Kind, NO_HEAD};
+use entries::{BufferPart, EntryRef, Hypothesis, Kind, NO_HEAD, number_of};
 use std::alloc::AllocError;
 
 /// The variable of a `$f`.
@@ -67,19 +68,19 @@ fn hypothesis(entry: EntryRef<'_>, position: u32) -> Hypothesis
 fn describe(
     stock: &Stock,
     hypotheses: &[u32],
-    asked: &mut Vec<Hypothesis>,
+    asked: &mut Vec<u32>,
     heads: &mut Vec<u32>,
 ) -> Result<(), AllocError>
     requires stored { AreStored stock.now }
     requires hypotheses { AreHypotheses stock.now.entries hypotheses.now }
     requires no_asked { asked.old.items ≡ [] }
     requires no_heads { heads.old.items ≡ [] }
-    ensures asked { OnOk result (asked.new.items ≡ map (asked_at stock.now.entries) hypotheses.now) }
+    ensures asked { OnOk result (map told asked.new.items ≡ map (asked_at stock.now.entries) hypotheses.now) }
     ensures heads { OnOk result (heads.new.items ≡ map (head_at stock.now.entries) hypotheses.now) }
 {
     for position in hypotheses {
         let entry = stock.entries.entry(*position as usize - 1);
-        asked.push(hypothesis(entry, *position))?;
+        asked.push(number_of(hypothesis(entry, *position))?)?;
         heads.push(head(entry.symbols))?;
     }
     Ok(())
@@ -90,17 +91,9 @@ fn add_placed(variables: &Places, codes: &[u32], places: &mut Vec<u32>) -> Resul
     ensures { OnOk result (places.new.items ≡ places.old.items ++ placed variables.now codes.now) }
 {
     for code in codes {
-        add_if(variables.place(*code).is_some(), *code, places)?;
-    }
-    Ok(())
-}
-
-/// Adds a symbol, where it is among them.
-fn add_if(is_among: bool, code: u32, found: &mut Vec<u32>) -> Result<(), AllocError>
-    ensures { OnOk result (found.new.items ≡ found.old.items ++ (if is_among then code ∷ [] else [])) }
-{
-    if is_among {
-        found.push(code)?;
+        if variables.place(*code).is_some() {
+            places.push(*code)?;
+        }
     }
     Ok(())
 }
@@ -195,25 +188,10 @@ pub fn parts(stock: &Stock, draft: &mut Draft, is_own: bool) -> Result<(), Alloc
         &draft.symbols,
     )?;
     if is_own || !are_few(stock, draft.hypotheses.len()) {
-        own_parts(stock, draft)
+        describe(stock, &draft.hypotheses, &mut draft.asked, &mut draft.heads)
     } else {
         whole_parts(stock, draft)
     }
-}
-
-/// The parts, where only the `$f` of its own variables are kept.
-fn own_parts(stock: &Stock, draft: &mut Draft) -> Result<(), AllocError>
-    requires stored { AreStored stock.now }
-    requires found { AreFloats stock.now.entries (statements_of stock.now) draft.old.symbols.items draft.old.hypotheses.items }
-    requires floats { AreHypotheses stock.now.entries draft.old.hypotheses.items }
-    requires undescribed { IsUndescribed draft.old }
-    requires own { draft.old.whole ≡ false }
-    ensures parts { OnOk result (AreParts stock.now.entries (statements_of stock.now) draft.old.symbols.items (drafted draft.new)) }
-    ensures own { draft.new.whole ≡ false }
-    ensures draft { OnOk result (IsDraft draft.new) }
-    ensures symbols { draft.new.symbols.items ≡ draft.old.symbols.items }
-{
-    describe(stock, &draft.hypotheses, &mut draft.asked, &mut draft.heads)
 }
 
 /// The parts, where all mandatory hypotheses are kept.

@@ -3,7 +3,7 @@ ghost use Rattle.std.specs.Prelude.{◌≡◌, ◌+◌, ◌-◌, ◌≤◌, ◌<
 ghost use Rattle.frame.specs.Below.{AreBelow};
 ghost use Rattle.frame.specs.Stored.Whole.{AreStored};
 ghost use Rattle.frame.specs.Stored.Hypotheses.{In, AreThose, HasMore, IsFloatOf, AreLooked, AreFloats, AreWith};
-ghost use Rattle.frame.specs.Stored.EntryMeanings.{floats, last_where, names_in, statements_of};
+ghost use Rattle.frame.specs.Stored.EntryMeanings.{names_in, statements_of};
 
 use crate::at_position::{is_active_at, links_at};
 use crate::places::Places;
@@ -16,20 +16,6 @@ fn order(list: &mut Vec<u32>)
 {
     list.sort_unstable();
     list.dedup();
-}
-
-/// Adds the last `$f` of a symbol, where it is active behind all statements.
-fn add_last(stock: &Stock, list: &mut Vec<u32>, code: u32, float: usize) -> Result<(), AllocError>
-    requires stored { AreStored stock.now }
-    requires last { float ≡ last_where (floats code) stock.now.entries }
-    requires some { 1 ≤ float }
-    ensures { OnOk result (HasMore (IsFloatOf stock.now.entries (statements_of stock.now) code) list.old.items list.new.items) }
-{
-    let _code = code;
-    if is_active_at(stock, float, stock.entries.len() + 1) {
-        list.push(float as u32)?;
-    }
-    Ok(())
 }
 
 /// Adds the `$f` of a symbol that is active behind all statements, if there is one and it is not there.
@@ -46,14 +32,14 @@ fn add_float(
     ensures looked { OnOk result (AreLooked stock.now.entries (statements_of stock.now) looked.new list.new.items) }
 {
     let float = stock.symbols[code as usize].float;
-    if float == 0 {
+    if float == 0 || looked.place(code).is_some() {
         return Ok(());
     }
-    if looked.place(code).is_some() {
-        return Ok(());
+    looked.push(Some(code))?;
+    if is_active_at(stock, float, stock.entries.len() + 1) {
+        list.push(float as u32)?;
     }
-    add_last(stock, list, code, float)?;
-    looked.push(Some(code))
+    Ok(())
 }
 
 /// Finds the active `$f` of the symbols, in order.

@@ -1,9 +1,8 @@
 //! The frame of one assertion, from what is active.
-ghost use Rattle.std.specs.Prelude.{◌≡◌, ◌||◌, ◌&&◌, IsTrue, OnOk, IfOk, is_some};
+ghost use Rattle.std.specs.Prelude.{◌≡◌, ◌||◌, ◌&&◌, IsTrue, OnOk, IfOk};
 ghost use Rattle.mm_lex.specs.Alphabet.{Name, name_eq, has_name};
-ghost use Rattle.scope.specs.Active.{is_assertion, is_variable, expr_of};
-ghost use Rattle.scope.specs.Standing.{standing_of};
-ghost use Rattle.frame.specs.FrameOf.{frame_of, hypotheses, mandatory_groups, separates};
+ghost use Rattle.scope.specs.Active.{is_assertion, expr_of};
+ghost use Rattle.frame.specs.FrameOf.{frame_of, hypotheses};
 ghost use Rattle.frame.specs.Stored.OneFrame.{AreNoted, AreMandatory, among, asked, asks, groups_among};
 
 use crate::assertion::Frame;
@@ -38,12 +37,7 @@ fn expression(stmt: &Stmt) -> &Words
     ensures { result.now ≡ expr_of stmt.now }
 {
     match stmt {
-        Stmt::Axiom { label: _, expr } => expr,
-        Stmt::Prove {
-            label: _,
-            expr,
-            proof: _,
-        } => expr,
+        Stmt::Axiom { expr, .. } | Stmt::Prove { expr, .. } => expr,
         _ => unreachable!(),
     }
 }
@@ -56,7 +50,7 @@ fn mandatory_variables(alloc: Global, scope: &Scope, stmt: &Stmt) -> Result<Name
     let mut used = NameTable::new(alloc);
     note_variables(alloc, scope, &mut used, expression(stmt))?;
     for entry in scope.standing().iter() {
-        if let Stmt::Ess { label: _, expr } = &entry.stmt {
+        if let Stmt::Ess { expr, .. } = &entry.stmt {
             note_variables(alloc, scope, &mut used, expr)?;
         }
     }
@@ -111,11 +105,7 @@ fn is_asked(used: &NameTable, stmt: &Stmt) -> bool
 {
     match stmt {
         Stmt::Ess { .. } => true,
-        Stmt::Float {
-            label: _,
-            constant: _,
-            variable,
-        } => has(used, variable.as_bytes()),
+        Stmt::Float { variable, .. } => has(used, variable.as_bytes()),
         _ => false,
     }
 }

@@ -1,6 +1,7 @@
 //! What is read off a statement.
 ghost use Rattle.std.specs.Prelude.{◌≡◌, option_map};
 ghost use Rattle.scope.specs.Active.{bare, label_of, is_assertion, is_essential};
+ghost use Rattle.frame.specs.Stored.AssertionParts.{has_parts};
 ghost use Rattle.frame.specs.Stored.Counts.{kind_of};
 
 use entries::Kind;
@@ -17,18 +18,10 @@ pub fn kind(stmt: &Stmt) -> Kind
         Stmt::Const(_) => Kind::Const,
         Stmt::Var(_) => Kind::Var,
         Stmt::Disj(_) => Kind::Disj,
-        Stmt::Float {
-            label: _,
-            constant: _,
-            variable: _,
-        } => Kind::Float,
-        Stmt::Ess { label: _, expr: _ } => Kind::Ess,
-        Stmt::Axiom { label: _, expr: _ } => Kind::Axiom,
-        Stmt::Prove {
-            label: _,
-            expr: _,
-            proof: _,
-        } => Kind::Prove,
+        Stmt::Float { .. } => Kind::Float,
+        Stmt::Ess { .. } => Kind::Ess,
+        Stmt::Axiom { .. } => Kind::Axiom,
+        Stmt::Prove { .. } => Kind::Prove,
     }
 }
 
@@ -37,18 +30,8 @@ pub fn label(stmt: &Stmt) -> Option<&Word>
     ensures { option_map (λ word. word.now) result ≡ label_of stmt.now }
 {
     match stmt {
-        Stmt::Float {
-            label,
-            constant: _,
-            variable: _,
-        } => Some(label),
-        Stmt::Ess { label, expr: _ } => Some(label),
-        Stmt::Axiom { label, expr: _ } => Some(label),
-        Stmt::Prove {
-            label,
-            expr: _,
-            proof: _,
-        } => Some(label),
+        Stmt::Float { label, .. } | Stmt::Ess { label, .. } => Some(label),
+        Stmt::Axiom { label, .. } | Stmt::Prove { label, .. } => Some(label),
         _ => None,
     }
 }
@@ -65,4 +48,11 @@ pub fn is_essential(stmt: &Stmt) -> bool
     ensures { result ≡ is_essential stmt.now }
 {
     matches!(stmt, Stmt::Ess { .. })
+}
+
+/// Whether statements of a kind have the parts of an assertion.
+pub fn has_parts(kind: Kind) -> bool
+    ensures { result ≡ has_parts kind }
+{
+    matches!(kind, Kind::Ess | Kind::Axiom | Kind::Prove)
 }

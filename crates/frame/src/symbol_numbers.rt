@@ -1,90 +1,15 @@
 //! Numbers of symbols and labels.
-ghost use Rattle.std.specs.Prelude.{◌≡◌, ◌+◌, ◌<◌, ◌^◌, [], ◌∷◌, ◌++◌, length, Some, IfOk, OnOk, OnErr, IfSome, IfNone, true, false, ℕ, slice_get};
-ghost use Rattle.mm_lex.specs.Alphabet.{Name};
-ghost use Rattle.names.specs.Codes.{name_at, decode};
-ghost use Rattle.scope.specs.Kinds.{declared_symbols, declared_labels, kind_in, with_kind, with_kinds, is_label_kind, is_symbol_kind, IsNumberOf};
-ghost use Rattle.scope.specs.Symbols.{symbols_in};
-ghost use Rattle.frame.specs.Below.{AreBelow};
-ghost use Rattle.frame.specs.Stored.Whole.{AreNumbersOf};
-ghost use Rattle.entries.specs.Stored.Spans.{Extends};
-ghost use Rattle.frame.specs.Stored.Counts.{zero_symbol, AreZeroBehind};
-ghost use Rattle.frame.specs.Stored.Naming.{is_declared, AreDeclared, AreNoLabels};
+ghost use Rattle.std.specs.Prelude.{◌≡◌, ◌++◌, ◌∷◌, [], IfSome, IfNone, false};
+ghost use Rattle.mm_read.specs.Statements.{Expr};
+ghost use Rattle.names.specs.Codes.{with_names};
+ghost use Rattle.scope.specs.Kinds.{declared_symbols, declared_labels, kind_in, is_label_kind, IsNumberOf};
+ghost use Rattle.scope.specs.Stored.Noted.{AreNoted};
+ghost use Rattle.scope.specs.Symbols.{symbols_by, symbols_in};
+ghost use Rattle.frame.specs.Stored.Naming.{is_declared};
 
-use crate::storage::Symbol;
 use mm_lex::Words;
 use mm_read::Stmt;
-use scope::{NameKind, Numbering};
-use std::alloc::{AllocError, Global};
-
-/// There are fewer names than this, so numbers fit in 32 bits.
-const NAMES_LIMIT: usize = 2147483648;
-
-/// The number of a symbol that is declared, which is given one where it has none.
-fn declared_number(
-    alloc: Global,
-    numbering: &mut Numbering,
-    symbols: &mut Vec<Symbol>,
-    word: &[u8],
-    kind: NameKind,
-) -> Result<u32, AllocError>
-    requires count { length symbols.old.items ≡ length (declared_symbols numbering.old) }
-    requires few { length (declared_symbols numbering.old) < 2 ^ 31 }
-    requires kind { is_symbol_kind kind ≡ true }
-    requires no_label { is_label_kind (kind_in numbering.old word.now) ≡ false }
-    ensures name { IfOk result (λ n. IsNumberOf (declared_symbols numbering.new) word.now n) }
-    ensures made { OnOk result (numbering.new ≡ with_kind numbering.old kind word.now) }
-    ensures names { Extends numbering.old numbering.new }
-    ensures symbols { AreZeroBehind symbols.old.items symbols.new.items }
-    ensures count { length symbols.new.items ≡ length (declared_symbols numbering.new) }
-    ensures few { length (declared_symbols numbering.new) < 2 ^ 31 }
-{
-    if let Some((number, _)) = numbering.find(word) {
-        return Ok(number);
-    }
-    let number = numbering.symbol_count();
-    if number + 1 >= NAMES_LIMIT {
-        return Err(AllocError);
-    }
-    symbols.push(Symbol {
-        float: 0,
-        variable: 0,
-    })?;
-    let declared = numbering.declare(alloc, word, kind);
-    if declared.is_err() {
-        symbols.truncate(number);
-        return Err(AllocError);
-    }
-    Ok(number as u32)
-}
-
-/// Adds the numbers of the symbols of a declaration to codes, of which there are none.
-pub fn declared_numbers(
-    alloc: Global,
-    numbering: &mut Numbering,
-    symbols: &mut Vec<Symbol>,
-    words: &Words,
-    kind: NameKind,
-    codes: &mut Vec<u32>,
-) -> Result<(), AllocError>
-    requires count { length symbols.old.items ≡ length (declared_symbols numbering.old) }
-    requires few { length (declared_symbols numbering.old) < 2 ^ 31 }
-    requires kind { is_symbol_kind kind ≡ true }
-    requires no_labels { AreNoLabels numbering.old words.now }
-    requires empty { codes.old.items ≡ [] }
-    ensures codes { OnOk result (AreBelow (length (declared_symbols numbering.new)) codes.new.items) }
-    ensures stand { OnOk result (decode (declared_symbols numbering.new) codes.new.items ≡ words.now) }
-    ensures made { OnOk result (numbering.new ≡ with_kinds numbering.old kind words.now) }
-    ensures names { Extends numbering.old numbering.new }
-    ensures symbols { AreZeroBehind symbols.old.items symbols.new.items }
-    ensures count { length symbols.new.items ≡ length (declared_symbols numbering.new) }
-    ensures few { length (declared_symbols numbering.new) < 2 ^ 31 }
-{
-    for word in words.iter() {
-        let code = declared_number(alloc, numbering, symbols, word, kind)?;
-        codes.push(code)?;
-    }
-    Ok(())
-}
+use scope::{NameKind, Noted, Numbering};
 
 /// The number of a symbol; none where the word is no symbol.
 pub fn symbol_number(numbering: &Numbering, word: &[u8]) -> Option<u32>
@@ -112,61 +37,51 @@ pub fn label_number(numbering: &Numbering, word: &[u8]) -> Option<u32>
     }
 }
 
-/// The number of a symbol that has one.
-fn number(numbering: &Numbering, word: &[u8]) -> u32
-    requires { is_declared (kind_in numbering.now word.now) ≡ true }
-    ensures { IsNumberOf (declared_symbols numbering.now) word.now result }
+/// Notes the number of a symbol.
+fn note_symbol(numbering: &Numbering, word: &[u8], noted: &mut Noted)
+    ensures { (xs : Expr) → AreNoted (declared_symbols numbering.now) xs noted.old → AreNoted (declared_symbols numbering.now) (xs ++ word.now ∷ []) noted.new }
 {
     match symbol_number(numbering, word) {
-        Some(number) => number,
-        None => unreachable!(),
+        Some(number) => noted.note(number),
+        None => noted.forget(),
     }
 }
 
-/// Adds the numbers of the symbols of a list to codes, of which there are none.
-fn list_numbers(
-    numbering: &Numbering,
-    words: &Words,
-    codes: &mut Vec<u32>,
-) -> Result<(), AllocError>
-    requires declared { AreDeclared numbering.now words.now }
-    requires empty { codes.old.items ≡ [] }
-    ensures codes { OnOk result (AreBelow (length (declared_symbols numbering.now)) codes.new.items) }
-    ensures stand { OnOk result (decode (declared_symbols numbering.now) codes.new.items ≡ words.now) }
+/// Notes the numbers of the symbols of a list, and no others.
+fn note_list(numbering: &Numbering, words: &Words, noted: &mut Noted)
+    ensures { AreNoted (declared_symbols numbering.now) words.now noted.new }
 {
+    noted.begin();
     for word in words.iter() {
-        codes.push(number(numbering, word))?;
+        note_symbol(numbering, word, noted);
     }
-    Ok(())
 }
 
-/// Adds the numbers of the symbols of a statement, which all have one, to codes, of which there are none.
-pub fn numbers(numbering: &Numbering, stmt: &Stmt, codes: &mut Vec<u32>) -> Result<(), AllocError>
-    requires declared { AreDeclared numbering.now (symbols_in stmt.now) }
-    requires empty { codes.old.items ≡ [] }
-    ensures { OnOk result (AreNumbersOf (declared_symbols numbering.now) stmt.now codes.new.items) }
+/// Notes the numbers of the symbols of a statement, where they are not noted. Those that it declares have none yet.
+pub fn find_numbers(numbering: &Numbering, stmt: &Stmt, noted: &mut Noted)
+    requires { AreNoted (with_names (declared_symbols numbering.now) (symbols_by stmt.now)) (symbols_in stmt.now) noted.old }
+    ensures { AreNoted (with_names (declared_symbols numbering.now) (symbols_by stmt.now)) (symbols_in stmt.now) noted.new }
 {
+    if noted.numbers().is_some() {
+        return;
+    }
     match stmt {
-        Stmt::Open => Ok(()),
-        Stmt::Close => Ok(()),
-        Stmt::Const(words) => list_numbers(numbering, words, codes),
-        Stmt::Var(words) => list_numbers(numbering, words, codes),
-        Stmt::Disj(words) => list_numbers(numbering, words, codes),
+        Stmt::Open => noted.begin(),
+        Stmt::Close => noted.begin(),
+        Stmt::Const(_) => {}
+        Stmt::Var(_) => {}
+        Stmt::Disj(words) => note_list(numbering, words, noted),
         Stmt::Float {
-            label: _,
             constant,
             variable,
+            ..
         } => {
-            codes.push(number(numbering, constant.as_bytes()))?;
-            codes.push(number(numbering, variable.as_bytes()))?;
-            Ok(())
+            noted.begin();
+            note_symbol(numbering, constant.as_bytes(), noted);
+            note_symbol(numbering, variable.as_bytes(), noted);
         }
-        Stmt::Ess { label: _, expr } => list_numbers(numbering, expr, codes),
-        Stmt::Axiom { label: _, expr } => list_numbers(numbering, expr, codes),
-        Stmt::Prove {
-            label: _,
-            expr,
-            proof: _,
-        } => list_numbers(numbering, expr, codes),
+        Stmt::Ess { expr, .. } => note_list(numbering, expr, noted),
+        Stmt::Axiom { expr, .. } => note_list(numbering, expr, noted),
+        Stmt::Prove { expr, .. } => note_list(numbering, expr, noted),
     }
 }

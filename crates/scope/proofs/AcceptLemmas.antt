@@ -147,6 +147,3 @@ bare-rule S (Axiom label expr) = refl
 pub ok_of : {A B : Type 0} {P : Type 0} (r : Result A B) → is_err r ≡ false → OnOk r P → P
 ok_of (Ok x) h p = p
 ok_of (Err e) h p = cc
-
-pub with_kind-new : (names : Declared) (kind : NameKind) (x : Name) → kind_in names x ≡ None → with_kind names kind x ≡ names ++ (x, kind) ∷ []
-with_kind-new names kind x h = ap (λ k. cond (is_some k) names (names ++ (x, kind) ∷ [])) h

@@ -1,4 +1,4 @@
--- No rule looks at a proof.
+-- No rule looks at a proof, and a statement declares the same without it.
 use Rattle.std.specs.Prelude.{◌≡◌, ℕ, zero, suc, ◌+◌, ◌==◌, Bool, true, false, not, cond, ◌||◌, ◌&&◌, nat_lt, List, [], ◌∷◌, Some, None, refl}
 use Rattle.std.specs.List.{list_any, list_all}
 use Rattle.std.proofs.Common.{◌∙◌, ap}
@@ -7,7 +7,10 @@ use Rattle.mm_read.specs.declared.stmt.Stmt.{Stmt}
 use Rattle.mm_read.specs.declared.stmt.Stmt.TheVariants.{Open, Close, Const, Var, Disj, Float, Ess, Axiom, Prove}
 use Rattle.mm_read.specs.Statements.{Database, Expr}
 use Rattle.scope.specs.Active.{bare, bares, count, stays_open, active_from, is_open, is_close, constants, variables, label_of, has_label, is_float_of, is_variable, is_constant, was_symbol, was_label, has_float}
-use Rattle.scope.specs.Legal.{broken_rule, end_rule, all_different}
+use Rattle.scope.specs.Legal.{IsLegal, broken_rule, end_rule, all_different}
+use Rattle.scope.specs.Kinds.{Declared}
+use Rattle.scope.specs.Symbols.{symbols_by}
+use Rattle.scope.specs.Declares.{declared_with}
 use Rattle.scope.specs.declared.rule.Rule.TheVariants.{G1, G2, G3, G4, G5, G6, G7, G8, G9, G10}
 
 -- what does not look at a proof is the same of a statement without one
@@ -21,6 +24,15 @@ bare-same f h (Disj names) = refl
 bare-same f h (Float label constant variable) = refl
 bare-same f h (Ess label expr) = refl
 bare-same f h (Axiom label expr) = refl
+
+pub symbols_by-bare : (s : Stmt) → symbols_by (bare s) ≡ symbols_by s
+symbols_by-bare s = bare-same symbols_by (λ l e p. refl) s
+
+pub declared_with-bare : (names : Declared) (s : Stmt) → declared_with names (bare s) ≡ declared_with names s
+declared_with-bare names s = bare-same (declared_with names) (λ l e p. refl) s
+
+pub legal-bare : (S : Database) (s : Stmt) → IsLegal S s → IsLegal S (bare s)
+legal-bare S s h = bare-same (broken_rule S) (λ l e p. refl) s ∙ h
 
 any-bares : (p : Stmt → Bool) → ((s : Stmt) → p (bare s) ≡ p s) → (S : Database) → list_any p (bares S) ≡ list_any p S
 any-bares p h [] = refl

@@ -9,18 +9,19 @@ use Rattle.mm_lex.specs.Alphabet.{Name, name_eq, has_name}
 use Rattle.mm_read.specs.declared.stmt.Stmt.{Stmt}
 use Rattle.mm_read.specs.declared.stmt.Stmt.TheVariants.{Open, Close, Const, Var, Disj, Float, Ess, Axiom, Prove}
 use Rattle.mm_read.specs.Statements.{Database}
-use Rattle.scope.specs.Active.{bare, constants, variables, label_of, has_label}
+use Rattle.scope.specs.Active.{constants, variables, label_of, has_label}
 use Rattle.scope.specs.Legal.{broken_rule}
 use Rattle.names.specs.Codes.{with_names}
 use Rattle.scope.specs.Kinds.{Declared, kind_in, Tells, TellsAll, IsNumberingOf, with_kind, with_kinds, is_label_kind, is_constant_kind, is_variable_kind}
 use Rattle.scope.specs.Symbols.{symbols_of, symbols_by, symbols_after, symbols_in, option_list, labels_of}
-use Rattle.scope.specs.Stored.Declares.{declared_with, MayDeclare, IsNotedBy}
+use Rattle.scope.specs.Declares.{declared_with, MayDeclare, IsNotedBy}
 use Rattle.scope.specs.Stored.Noted.{AreNoted}
 use Rattle.scope.specs.declared.numbering.NameKind.{NameKind}
 use Rattle.scope.specs.declared.numbering.NameKind.TheVariants.{Label, Constant, Variable}
 use Rattle.names.proofs.CodesLemmas.{same_name}
 use Rattle.scope.proofs.NamesLemmas.{or_kind, kind_in-with_kinds, symbols_of-append, labels_of-append}
 use Rattle.scope.proofs.SymbolNameLemmas.{declared_symbols-label, declared_symbols-with_kinds, declared_labels-label, declared_labels-with_kinds}
+use Rattle.scope.proofs.AcceptLemmas.{with_kinds-more}
 use Rattle.scope.proofs.GoingBackLemmas.{all-has, fresh-none, inactive-free}
 use Rattle.scope.proofs.LegalLemmas.{legal-constants, legal-variables, legal-label}
 
@@ -100,17 +101,8 @@ numbering-nothing : (S : Database) (s : Stmt) (names : Declared) → ((x : Name)
 numbering-nothing S s names l c v label by k = record {
   told = tells-nothing S s names l c v k.told;
   symbols = k.symbols ∙ sym (symbols_of-append S s ∙ ap (with_names (symbols_of S)) by);
-  labels = k.labels ∙ sym (labels_of-append S s ∙ (ap (λ o. labels_of S ++ option_list o []) label ∙ append-nil (labels_of S)));
+  labels = k.labels ∙ sym (labels_of-append S (s ∷ []) ∙ (ap (λ o. labels_of S ++ option_list o []) label ∙ append-nil (labels_of S)));
 }
-
-pub numbering-open : (S : Database) (names : Declared) → IsNumberingOf S names → IsNumberingOf (S ++ Open ∷ []) names
-numbering-open S names k = numbering-nothing S Open names (λ x. refl) refl refl refl refl k
-
-pub numbering-close : (S : Database) (names : Declared) → IsNumberingOf S names → IsNumberingOf (S ++ Close ∷ []) names
-numbering-close S names k = numbering-nothing S Close names (λ x. refl) refl refl refl refl k
-
-pub numbering-disjoint : (S : Database) (names : Declared) (xs : List Name) → IsNumberingOf S names → IsNumberingOf (S ++ Disj xs ∷ []) names
-numbering-disjoint S names xs k = numbering-nothing S (Disj xs) names (λ x. refl) refl refl refl refl k
 
 -- the symbols of a legal `$c` are new, and those of a legal `$v` are no labels
 pub constants-free : (S : Database) (names : Declared) (xs : List Name) → broken_rule S (Const xs) ≡ None → TellsAll S names → (x : Name) → has_name x xs ≡ true → kind_in names x ≡ None
@@ -125,7 +117,7 @@ numbering-constants S names xs legal k =
     record {
       told = tells-constants S names xs new k.told;
       symbols = declared_symbols-with_kinds names Constant xs refl (λ x h. ap is_label_kind (new x h)) ∙ (ap (λ ns. with_names ns xs) k.symbols ∙ sym (symbols_of-append S (Const xs)));
-      labels = declared_labels-with_kinds names Constant xs refl ∙ (k.labels ∙ sym (labels_of-append S (Const xs) ∙ append-nil (labels_of S)));
+      labels = declared_labels-with_kinds names Constant xs refl ∙ (k.labels ∙ sym (labels_of-append S (Const xs ∷ []) ∙ append-nil (labels_of S)));
     }
 
 pub numbering-variables : (S : Database) (names : Declared) (xs : List Name) → broken_rule S (Var xs) ≡ None → IsNumberingOf S names → IsNumberingOf (S ++ Var xs ∷ []) (with_kinds names Variable xs)
@@ -134,7 +126,7 @@ numbering-variables S names xs legal k =
     record {
       told = tells-variables S names xs free k.told;
       symbols = declared_symbols-with_kinds names Variable xs refl (λ x h. (free x h).0) ∙ (ap (λ ns. with_names ns xs) k.symbols ∙ sym (symbols_of-append S (Var xs)));
-      labels = declared_labels-with_kinds names Variable xs refl ∙ (k.labels ∙ sym (labels_of-append S (Var xs) ∙ append-nil (labels_of S)));
+      labels = declared_labels-with_kinds names Variable xs refl ∙ (k.labels ∙ sym (labels_of-append S (Var xs ∷ []) ∙ append-nil (labels_of S)));
     }
 
 -- the label of a legal statement is new
@@ -147,7 +139,7 @@ numbering-label S names s l is c v none legal k =
     record {
       told = tells-label S s names l is c v new k.told;
       symbols = declared_symbols-label names l ∙ (k.symbols ∙ sym (symbols_of-append S s ∙ ap (with_names (symbols_of S)) none));
-      labels = declared_labels-label names l new ∙ (ap (λ ls. ls ++ l ∷ []) k.labels ∙ sym (labels_of-append S s ∙ ap (λ o. labels_of S ++ option_list o []) is));
+      labels = declared_labels-label names l new ∙ (ap (λ ls. ls ++ l ∷ []) k.labels ∙ sym (labels_of-append S (s ∷ []) ∙ ap (λ o. labels_of S ++ option_list o []) is));
     }
 
 -- ---- by the shape of the statement
@@ -163,16 +155,28 @@ may-declare S Open names legal told = tt
 may-declare S Close names legal told = tt
 may-declare S (Disj xs) names legal told = tt
 
-pub numbering-after : (S : Database) (s : Stmt) (names : Declared) → broken_rule S s ≡ None → IsNumberingOf S names → IsNumberingOf (S ++ bare s ∷ []) (declared_with names s)
+pub numbering-after : (S : Database) (s : Stmt) (names : Declared) → broken_rule S s ≡ None → IsNumberingOf S names → IsNumberingOf (S ++ s ∷ []) (declared_with names s)
 numbering-after S (Const xs) names legal k = numbering-constants S names xs legal k
 numbering-after S (Var xs) names legal k = numbering-variables S names xs legal k
 numbering-after S (Float label constant variable) names legal k = numbering-label S names (Float label constant variable) label refl refl refl refl legal k
 numbering-after S (Ess label expr) names legal k = numbering-label S names (Ess label expr) label refl refl refl refl legal k
 numbering-after S (Axiom label expr) names legal k = numbering-label S names (Axiom label expr) label refl refl refl refl legal k
-numbering-after S (Prove label expr proof) names legal k = numbering-label S names (Prove label expr []) label refl refl refl refl legal k
-numbering-after S Open names legal k = numbering-open S names k
-numbering-after S Close names legal k = numbering-close S names k
-numbering-after S (Disj xs) names legal k = numbering-disjoint S names xs k
+numbering-after S (Prove label expr proof) names legal k = numbering-label S names (Prove label expr proof) label refl refl refl refl legal k
+numbering-after S Open names legal k = numbering-nothing S Open names (λ x. refl) refl refl refl refl k
+numbering-after S Close names legal k = numbering-nothing S Close names (λ x. refl) refl refl refl refl k
+numbering-after S (Disj xs) names legal k = numbering-nothing S (Disj xs) names (λ x. refl) refl refl refl refl k
+
+-- names are only added at the end
+pub declared_with-more : (names : Declared) (s : Stmt) → (more : Declared) × (declared_with names s ≡ names ++ more)
+declared_with-more names (Const xs) = with_kinds-more names Constant xs
+declared_with-more names (Var xs) = with_kinds-more names Variable xs
+declared_with-more names (Float label constant variable) = with_kinds-more names Label (label ∷ [])
+declared_with-more names (Ess label expr) = with_kinds-more names Label (label ∷ [])
+declared_with-more names (Axiom label expr) = with_kinds-more names Label (label ∷ [])
+declared_with-more names (Prove label expr proof) = with_kinds-more names Label (label ∷ [])
+declared_with-more names Open = ([], sym (append-nil names))
+declared_with-more names Close = ([], sym (append-nil names))
+declared_with-more names (Disj xs) = ([], sym (append-nil names))
 
 -- what is noted of a legal statement stands for its symbols
 pub noted-after : (S : Database) (s : Stmt) (names : Declared) (old new : Option (List ℕ)) → broken_rule S s ≡ None → IsNumberingOf S names → IsNotedBy (declared_with names s) s old new

@@ -47,11 +47,11 @@ symbols-distinct S = by [] S tt
 
 -- ---- labels are only added at the end
 
-pub labels_of-append : (S : Database) (s : Stmt) → labels_of (S ++ s ∷ []) ≡ labels_of S ++ option_list (label_of s) []
-labels_of-append [] s = refl
-labels_of-append (t ∷ S) s = ap (option_list (label_of t)) (labels_of-append S s) ∙ by (label_of t)
+pub labels_of-append : (S T : Database) → labels_of (S ++ T) ≡ labels_of S ++ labels_of T
+labels_of-append [] T = refl
+labels_of-append (t ∷ S) T = ap (option_list (label_of t)) (labels_of-append S T) ∙ by (label_of t)
   where
-    by : (l : Option Name) → option_list l (labels_of S ++ option_list (label_of s) []) ≡ option_list l (labels_of S) ++ option_list (label_of s) []
+    by : (l : Option Name) → option_list l (labels_of S ++ labels_of T) ≡ option_list l (labels_of S) ++ labels_of T
     by None = refl
     by (Some l) = refl
 

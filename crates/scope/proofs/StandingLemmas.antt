@@ -12,6 +12,7 @@ use Rattle.scope.specs.Laws.{before_open}
 use Rattle.scope.specs.Standing.{stands_at, standing_of}
 use Rattle.scope.specs.declared.standing.Standing.{Standing}
 use Rattle.scope.proofs.ActiveLemmas.{flat_map-taken}
+use Rattle.scope.proofs.BareLemmas.{bare-same}
 use Rattle.scope.proofs.StackFollows.{flat_map-close, standing-more}
 
 -- what stands behind one statement more: the first of what stood and of what stands by it
@@ -87,12 +88,4 @@ stands-again (p ∷ es) =
     once at (Prove label expr proof) = refl
 
 pub stands-bare : (at : ℕ) (s : Stmt) → stands_at at (bare s) ≡ stands_at at s
-stands-bare at Open = refl
-stands-bare at Close = refl
-stands-bare at (Const names) = refl
-stands-bare at (Var names) = refl
-stands-bare at (Disj names) = refl
-stands-bare at (Float label constant variable) = refl
-stands-bare at (Ess label expr) = refl
-stands-bare at (Axiom label expr) = refl
-stands-bare at (Prove label expr proof) = refl
+stands-bare at s = bare-same (stands_at at) (λ l e p. refl) s

@@ -7,14 +7,10 @@ use Rattle.std.proofs.lemmas.List.Folds.{list_all-append}
 use Rattle.std.proofs.lemmas.Bool.{or_right, lt-ltb, ltb-true, and_parts}
 use Rattle.std.proofs.lemmas.Option.{same_Some}
 use Rattle.mm_lex.specs.Alphabet.{Name, name_eq, has_name}
-use Rattle.mm_read.specs.declared.stmt.Stmt.{Stmt}
-use Rattle.mm_read.specs.declared.stmt.Stmt.TheVariants.{Open, Close, Const, Var, Disj, Float, Ess, Axiom, Prove}
 use Rattle.mm_read.specs.Statements.{Expr}
-use Rattle.scope.specs.Active.{bare}
 use Rattle.names.specs.Codes.{name_at, decode, with_name, with_names, AreCodes}
 use Rattle.scope.specs.Kinds.{Declared, declared_names, names_that, declared_symbols, declared_labels, kind_in, with_kind, with_kinds, is_label_kind, is_symbol_kind, is_labelling, IsNumberOf}
 use Rattle.scope.specs.Stored.Noted.{AreNoted, IsAppended}
-use Rattle.scope.specs.Symbols.{symbols_by, symbols_in}
 use Rattle.scope.specs.declared.numbering.NameKind.{NameKind}
 use Rattle.scope.specs.declared.numbering.NameKind.TheVariants.{Label, Constant, Variable}
 use Rattle.names.proofs.CodesLemmas.{name_same, same_name}
@@ -168,26 +164,3 @@ noted-later symbols more xs (Some numbers) are = (codes numbers are.0, same numb
 -- what was noted stands for the first of the symbols, and the rest is to come
 abbrev pub AreDone : List Name → Expr → Expr → Option (List ℕ) → Type 0
 AreDone symbols all rest noted = (done : Expr) × (done ++ rest ≡ all) × AreNoted symbols done noted
-
--- a statement without its proof has the same symbols, and declares the same
-pub symbols_in-bare : (s : Stmt) → symbols_in (bare s) ≡ symbols_in s
-symbols_in-bare Open = refl
-symbols_in-bare Close = refl
-symbols_in-bare (Const names) = refl
-symbols_in-bare (Var names) = refl
-symbols_in-bare (Disj names) = refl
-symbols_in-bare (Float label constant variable) = refl
-symbols_in-bare (Ess label expr) = refl
-symbols_in-bare (Axiom label expr) = refl
-symbols_in-bare (Prove label expr proof) = refl
-
-pub symbols_by-bare : (s : Stmt) → symbols_by (bare s) ≡ symbols_by s
-symbols_by-bare Open = refl
-symbols_by-bare Close = refl
-symbols_by-bare (Const names) = refl
-symbols_by-bare (Var names) = refl
-symbols_by-bare (Disj names) = refl
-symbols_by-bare (Float label constant variable) = refl
-symbols_by-bare (Ess label expr) = refl
-symbols_by-bare (Axiom label expr) = refl
-symbols_by-bare (Prove label expr proof) = refl

@@ -6,4 +6,5 @@ pub mod Standing
 pub mod Sorts
 pub mod Laws
 pub mod Symbols
+pub mod Declares
 pub mod Stored

@@ -2,5 +2,4 @@
 pub mod Stacks
 pub mod KindCounts
 pub mod Noted
-pub mod Declares
 pub mod Ordered

@@ -1,8 +1,8 @@
 //! What a legal statement declares, in the numbering.
-ghost use Rattle.std.specs.Prelude.{◌≡◌, ◌++◌, ◌∷◌, [], None, true, false, IfOk, OnOk, OnErr};
+ghost use Rattle.std.specs.Prelude.{◌≡◌, ◌++◌, None, true, false, IfOk, OnOk, OnErr};
 ghost use Rattle.mm_lex.specs.Alphabet.{Name, has_name};
 ghost use Rattle.scope.specs.Kinds.{Declared, IsNumberOf, declared_symbols, is_label_kind, is_symbol_kind, kind_in, with_kind, with_kinds};
-ghost use Rattle.scope.specs.Stored.Declares.{IsNotedBy, MayDeclare, declared_with};
+ghost use Rattle.scope.specs.Declares.{IsNotedBy, MayDeclare, declared_with};
 ghost use Rattle.scope.specs.Stored.Noted.{AreNoted};
 ghost use Rattle.scope.specs.declared.numbering.NameKind.TheVariants as shape_kind;
 
@@ -15,7 +15,7 @@ use std::alloc::{AllocError, Global};
 /// Declares what a legal statement declares. The numbers of the symbols of a `$c` and a `$v` are noted.
 ///
 /// Where a growth is refused, the names that were there stay the first ones.
-pub(crate) fn declare(
+pub fn declare_names(
     names: &mut Numbering,
     alloc: Global,
     stmt: &Stmt,

@@ -23,6 +23,7 @@ mod stack_heights;
 mod standing;
 mod steps;
 
+pub use declare::declare_names;
 pub use history::History;
 pub use laws::{active_by_sentence, active_closed, active_later, active_more, rules_ignore_proofs};
 pub use noted::Noted;

@@ -9,7 +9,7 @@ ghost use Rattle.scope.specs.Stored.Noted.{AreNoted};
 ghost use Rattle.scope.specs.declared.standing.Standing.{Standing as Standings};
 ghost use Rattle.scope.specs.Symbols.{symbols_after, symbols_in};
 
-use crate::declare::declare;
+use crate::declare::declare_names;
 use crate::legal::Judge;
 use crate::noted::Noted;
 use crate::numbering::Numbering;
@@ -218,7 +218,7 @@ fn take_in(
     ensures behind { OnErr result ((more : List Standings) × (standing.new.items ≡ standing.old.items ++ more)) }
 {
     push_standing(standing, alloc, at, stmt)?;
-    declare(names, alloc, stmt, noted)?;
+    declare_names(names, alloc, stmt, noted)?;
     match noted.numbers() {
         Some(numbers) => rules.accept(stmt, numbers)?,
         None => return Err(AllocError),

@@ -6,6 +6,7 @@ use Rattle.mm_read.specs.declared.stmt.Stmt.{Stmt}
 use Rattle.mm_read.specs.declared.stmt.Stmt.TheVariants as stmt
 use Rattle.scope.specs.Active.{is_open, is_close}
 use Rattle.scope.specs.Symbols.{symbols_of, labels_of}
+use Rattle.entries.specs.declared.links.Links.{Links}
 use Rattle.entries.specs.declared.kind.Kind.{Kind}
 use Rattle.entries.specs.declared.kind.Kind.TheVariants.{Open, Close, Const, Var, Disj, Float, Ess, Axiom, Prove}
 use Rattle.entries.specs.Entries.{Entry}
@@ -70,6 +71,14 @@ kind_of (stmt.Float label constant variable) = Float
 kind_of (stmt.Ess label expr) = Ess
 kind_of (stmt.Axiom label expr) = Axiom
 kind_of (stmt.Prove label expr proof) = Prove
+
+-- the links behind a statement of a kind at a position, if it is no `$}`
+abbrev pub next_links : Links → ℕ → Kind → Links
+next_links l at Open = record { block = at; essential = l.essential; variable = l.variable; disjoint = l.disjoint }
+next_links l at Ess = record { block = l.block; essential = at; variable = l.variable; disjoint = l.disjoint }
+next_links l at Var = record { block = l.block; essential = l.essential; variable = at; disjoint = l.disjoint }
+next_links l at Disj = record { block = l.block; essential = l.essential; variable = l.variable; disjoint = at }
+next_links l at kind = l
 
 -- what one more entry makes of the last declarations of a symbol
 abbrev pub with_declared : Kind → List ℕ → ℕ → ℕ → Symbol → Symbol

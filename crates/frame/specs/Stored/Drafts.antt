@@ -1,22 +1,19 @@
 -- What is found out about a statement before it is kept.
 -- The code's own form: no public clause cites it.
-use Rattle.std.specs.Prelude.{◌≡◌, false, [], length}
-use Rattle.entries.specs.Entries.{Assertion, Entry, made as made_of}
+use Rattle.std.specs.Prelude.{◌≡◌, false, [], length, map}
+use Rattle.entries.specs.Entries.{Assertion}
+use Rattle.entries.specs.Hypotheses.{told}
 use Rattle.entries.specs.Stored.Spans.{cut, AreSpansIn}
-use Rattle.entries.specs.declared.head.Head.{Head}
 use Rattle.frame.specs.declared.draft.Draft.{Draft}
 
 abbrev pub drafted : Draft → Assertion
-drafted d = record { whole = d.whole; hypotheses = d.hypotheses.items; asked = d.asked.items; heads = d.heads.items; groups = cut d.places.items d.groups.items }
+drafted d = record { whole = d.whole; hypotheses = d.hypotheses.items; asked = map told d.asked.items; heads = d.heads.items; groups = cut d.places.items d.groups.items }
 
--- of each hypothesis it is said what it is, and the groups are parts of the places
+-- of each hypothesis it is said what it is and how it begins, and the groups are parts of the places
 pub record IsDraft (d : Draft) : Type 0 where
   pub paired : length d.asked.items ≡ length d.hypotheses.items
+  pub headed : length d.heads.items ≡ length d.hypotheses.items
   pub grouped : AreSpansIn (length d.places.items) d.groups.items
-
--- the statement that is kept of a draft
-abbrev pub made : Head → Draft → Entry
-made h d = made_of h d.symbols.items (drafted d)
 
 -- no part of an assertion was found yet
 pub record IsPartless (d : Draft) : Type 0 where

@@ -1,22 +1,23 @@
 -- The storage of a database. The code's own form: no public clause cites it.
-use Rattle.std.specs.Prelude.{◌≡◌, ℕ, ◌+◌, ◌<◌, ◌^◌, Bool, true, List, [], ◌++◌, length, map, take, slice_get, Some}
+use Rattle.std.specs.Prelude.{◌≡◌, ℕ, ◌<◌, ◌^◌, Bool, true, false, if◌then◌else◌, List, length, map, take, slice_get, Option, Some}
 use Rattle.mm_lex.specs.Alphabet.{Name}
 use Rattle.mm_read.specs.declared.stmt.Stmt.{Stmt}
-use Rattle.scope.specs.Active.{label_of, expr_of, is_essential, stays_open}
+use Rattle.scope.specs.Active.{expr_of, is_essential, stays_open}
 use Rattle.names.specs.Codes.{decode}
-use Rattle.scope.specs.Symbols.{symbols_in, symbols_of, labels_of}
+use Rattle.scope.specs.Symbols.{symbols_of, labels_of}
 use Rattle.entries.specs.declared.links.Links.{Links}
 use Rattle.entries.specs.declared.head.Head.{Head}
-use Rattle.entries.specs.Entries.{Entry}
-use Rattle.entries.specs.Entries.{Assertion}
+use Rattle.entries.specs.declared.kind.Kind.{Kind}
+use Rattle.entries.specs.Entries.{Assertion, Entry, partless}
 use Rattle.frame.specs.declared.storage.Symbol.{Symbol}
 use Rattle.frame.specs.declared.storage.Stock.{Stock}
-use Rattle.frame.specs.Below.{AreBelow}
+use Rattle.frame.specs.declared.draft.Draft.{Draft}
 use Rattle.frame.specs.Links.{links_of}
-use Rattle.frame.specs.Stored.EntryMeanings.{stmt_of, names_in, labels_in, statements_of, option_position, positions_from, AreAllLegal, symbol_of, replaced_of}
-use Rattle.frame.specs.Stored.Counts.{IsLabelBelow, HasTwo, AreNumbered, KeepsCounts, kind_of}
-use Rattle.frame.specs.Stored.Naming.{with_statement, naming_of}
+use Rattle.frame.specs.Stored.EntryMeanings.{stmt_of, names_in, labels_in, statements_of, positions_from, AreAllLegal, symbol_of, replaced_of}
+use Rattle.frame.specs.Stored.Counts.{AreNumbered, KeepsCounts, kind_of}
+use Rattle.frame.specs.Stored.Naming.{naming_of}
 use Rattle.frame.specs.Stored.AssertionParts.{IsKeptAs, has_parts}
+use Rattle.frame.specs.Stored.Drafts.{IsDraft, drafted}
 use Rattle.frame.specs.Stored.Ends.{AreEnds}
 
 -- the storage of a database
@@ -48,23 +49,9 @@ pub record IsHead (k : Stock) (s : Stmt) (h : Head) : Type 0 where
   pub names : h.names ≡ length (names_in k)
   pub links : h.links ≡ k.links
 
--- the entry is the statement: its numbers are among those of the storage, which has its label and position
-pub record Entered (old new : Stock) (s : Stmt) (e : Entry) : Type 0 where
-  pub stands : stmt_of (names_in new) (labels_in new) e ≡ s
-  pub symbols : AreBelow (length (names_in new)) e.symbols
-  pub label : IsLabelBelow e.kind e.label (length (labels_in new))
-  pub names_before : e.names ≡ length (names_in old)
-  pub labels_before : e.label ≡ length (labels_in old)
-  pub two : HasTwo e.kind e.symbols
-  pub numbering : new.numbering ≡ with_statement old.numbering s
-  pub positions : new.positions.items ≡ old.positions.items ++ option_position (label_of s) (length old.entries + 1) []
-  pub links : e.links ≡ old.links
-  pub kept : has_parts e.kind ≡ true → IsKeptAs old.entries (statements_of old) s e.assertion
-
--- the numbers stand for the symbols of the statement
-pub record AreNumbersOf (names : List Name) (s : Stmt) (codes : List ℕ) : Type 0 where
-  pub below : AreBelow (length names) codes
-  pub stand : decode names codes ≡ symbols_in s
+-- the parts of an entry of this kind
+abbrev pub parts_of : Kind → Draft → Assertion
+parts_of kind d = if has_parts kind then drafted d else partless false
 
 -- the symbols are those of the assertion s or, where it is one, of the `$e` s
 pub record IsNext (k : Stock) (is_own : Bool) (codes : List ℕ) (s : Stmt) : Type 0 where
@@ -73,3 +60,9 @@ pub record IsNext (k : Stock) (is_own : Bool) (codes : List ℕ) (s : Stmt) : Ty
 
 abbrev pub IsKeptOf : Stock → Stmt → Assertion → Type 0
 IsKeptOf k s d = IsKeptAs k.entries (statements_of k) s d
+
+-- the draft is of a statement with these numbers
+pub record IsDraftOf (k : Stock) (s : Stmt) (noted : Option (List ℕ)) (d : Draft) : Type 0 where
+  pub shaped : IsDraft d
+  pub symbols : noted ≡ Some d.symbols.items
+  pub kept : IsKeptOf k s (drafted d)

@@ -1,4 +1,4 @@
-use Rattle.std.proofs.Common.{◌∙◌, ap, sym, arith, length, take, get_or}
+use Rattle.std.proofs.Common.{◌∙◌, ap, sym, arith, refl, length, take, get_or}
 use Rattle.std.specs.Prelude.{Some, nat_eq}
 use Rattle.std.specs.List.{list_any}
 use Rattle.std.proofs.lemmas.List.{length-set}
@@ -19,7 +19,7 @@ loop-code-preserved c = record {
       let i = c.loop-code.code-index in
       let code = get_or c.args.codes.now i 0 in
       let more = list_any_more (nat_eq k) c.args.codes.now i 0 (omega arith) in
-      note-step c.loop-code.symbols.items code k c.args.at c.index_mut-symbol.result.now x (list_any (nat_eq k) (take i c.args.codes.now)) (c.loop-code.invariant.each k x h) c.index_mut-symbol.ensures.value
+      note-step c.loop-code.symbols.items code k c.args.at c.index_mut-symbol.result.now x (λ n. c.args.at) (list_any (nat_eq k) (take i c.args.codes.now)) (c.loop-code.invariant.each k x h) c.index_mut-symbol.ensures.value refl
       ∙ ap (λ b. Some (noted x c.args.at b)) (sym more);
   count = length-set c.loop-code.symbols.items (get_or c.args.codes.now c.loop-code.code-index 0) _ ∙ c.loop-code.invariant.count;
 }

@@ -1,5 +1,7 @@
 use Rattle.std.proofs.Common.{◌∙◌, ◌-◌, ap, sym, arith, get_or, length}
-use Rattle.std.specs.Prelude.{◌++◌, ◌∷◌, []}
+use Rattle.std.specs.Prelude.{◌++◌, ◌∷◌, [], map}
+use Rattle.std.proofs.lemmas.List.{map-append}
+use Rattle.entries.specs.Hypotheses.{told}
 use Rattle.std.proofs.lemmas.Option.{slice_get_within}
 use Rattle.entries.specs.Entries.{seen}
 use Rattle.frame.specs.Cited.{head_of}
@@ -40,8 +42,8 @@ loop-position-preserved c =
     let g = c.entry-entry.ensures.1 in
     let l = c.loop-position in
     record {
-      asked = map-more (asked_at k.entries) ps l.asked.items c.push.new.self.items i (omega arith) l.invariant.asked
-          (c.in_ok-push.ensures.items ∙ ap (λ h. l.asked.items ++ h ∷ []) (c.hypothesis.ensures ∙ sym (ap (option_asked p) g)));
+      asked = map-more (asked_at k.entries) ps (map told l.asked.items) (map told c.push.new.self.items) i (omega arith) l.invariant.asked
+          (ap (map told) c.in_ok-push.ensures.items ∙ (map-append told l.asked.items _ ∙ ap (λ h. map told l.asked.items ++ h ∷ []) (c.in_ok-number_of.ensures ∙ (c.hypothesis.ensures ∙ sym (ap (option_asked p) g)))));
       heads = map-more (head_at k.entries) ps l.heads.items c.push-in-loop-position.new.self.items i (omega arith) l.invariant.heads
           (c.in_ok-push-2.ensures.items ∙ ap (λ h. l.heads.items ++ h ∷ []) (c.head.ensures ∙ sym (ap (λ o. head_of (option_symbols o)) g)));
     }

@@ -1,10 +1,11 @@
 use Rattle.std.proofs.Common.{◌≡◌, take}
 use Rattle.std.specs.Prelude.{map}
+use Rattle.entries.specs.Hypotheses.{told}
 use Rattle.frame.specs.Stored.AssertionParts.{asked_at, head_at}
 use Rattle.frame.proofs.make.describe.Given as goal
 
 abbrev pub invariant-loop-position : goal.invariant-loop-position
 invariant-loop-position l = record {
-  asked : l.asked.items ≡ map (asked_at l.stock.entries) (take l.position-index l.hypotheses);
+  asked : map told l.asked.items ≡ map (asked_at l.stock.entries) (take l.position-index l.hypotheses);
   heads : l.heads.items ≡ map (head_at l.stock.entries) (take l.position-index l.hypotheses);
 }

@@ -1,14 +1,16 @@
-use Rattle.std.proofs.Common.{◌≡◌, ◌-◌, ◌≤◌, ℕ, length, take}
-use Rattle.frame.specs.Links.{actives, last_active, is_disj}
+use Rattle.std.proofs.Common.{length}
+use Rattle.scope.specs.Active.{before}
+use Rattle.frame.specs.Links.{actives, is_disj}
 use Rattle.entries.specs.Stored.Spans.{cut, AreSpansIn}
 use Rattle.frame.specs.Stored.EntryMeanings.{statements_of}
+use Rattle.frame.proofs.KindWalk.{IsAt, walked}
 use Rattle.frame.proofs.MakeLemmas.{AreGroups}
 use Rattle.frame.proofs.make.groups.Given as goal
 
 abbrev pub invariant-loop-last : goal.invariant-loop-last
 invariant-loop-last l = record {
-  walk : (m : ℕ) × (m ≤ length (statements_of l.stock)) × (l.last ≡ last_active is_disj (take m (statements_of l.stock)))
-      × AreGroups l.stock.entries l.variables (actives is_disj (take (l.fn.at - 1) (statements_of l.stock))) (actives is_disj (take m (statements_of l.stock))) (cut l.places.items l.groups.items);
+  at : IsAt is_disj l.stock l.last;
+  found : AreGroups l.stock.entries l.variables (actives is_disj (before (statements_of l.stock) l.fn.at)) (walked is_disj l.stock l.last) (cut l.places.items l.groups.items);
   within : AreSpansIn (length l.places.items) l.groups.items;
 }
 

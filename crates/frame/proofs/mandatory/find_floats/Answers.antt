@@ -3,19 +3,11 @@ use Rattle.std.proofs.lemmas.List.{take_all}
 use Rattle.frame.proofs.ApartLemmas.{below-at}
 use Rattle.frame.specs.Stored.EntryMeanings.{names_in, statements_of}
 use Rattle.frame.specs.Stored.Hypotheses.{HasMore, SomeFloat}
-use Rattle.frame.proofs.CollectLemmas.{no-floats, none-placed, floats-more, floats-ordered}
+use Rattle.frame.proofs.CollectLemmas.{floats-more, floats-ordered}
 use Rattle.frame.proofs.mandatory.find_floats.Goals as goal
 
 pub add_float-requires-clause-code : goal.add_float-requires-clause-code
 add_float-requires-clause-code c = below-at (length (names_in c.args.stock.now)) c.args.codes.now c.loop-code.code-index 0 c.requires.codes (omega arith)
-
-pub loop-code-init : goal.loop-code-init
-loop-code-init c =
-    let k = c.args.stock.now in
-    record {
-      more = no-floats k.entries (statements_of k) c.args.list.now.items;
-      looked = λ d i p h f. absurd (none-placed c.args.looked.now d i c.requires.looked h);
-    }
 
 pub loop-code-preserved : goal.loop-code-preserved
 loop-code-preserved c =

@@ -1,83 +1,29 @@
-use Rattle.std.proofs.Common.{◌≡◌, ◌∙◌, ◌-◌, ap, sym, subst, arith, length, take, refl, ℕ}
-use Rattle.std.specs.Prelude.{Bool, true, false, ◌==◌, List}
-use Rattle.std.specs.List.{list_any}
-use Rattle.std.proofs.lemmas.List.{length-map, length-take-le}
+use Rattle.std.proofs.Common.{◌∙◌, ◌-◌, sym, arith, take, refl}
 use Rattle.mm_lex.specs.Alphabet.{has_name}
-use Rattle.mm_read.specs.declared.stmt.Stmt.{Stmt}
-use Rattle.scope.specs.Active.{active, before, variables}
-use Rattle.names.specs.Codes.{name_at, decode}
-use Rattle.frame.specs.Links.{is_var}
-use Rattle.frame.specs.Stored.EntryMeanings.{names_in, labels_in, statements_of, stmt_of}
-use Rattle.frame.proofs.BlockWalkLemmas.{last-within}
-use Rattle.frame.proofs.StoredOneMore.{numbered-at}
-use Rattle.frame.proofs.KindWalk.{IsSought, sought-here, sought-found, sought-step, sought-over, read-here, any-kind, has-decode, entry-var, other-var}
+use Rattle.names.specs.Codes.{name_at}
+use Rattle.frame.specs.Stored.EntryMeanings.{names_in, statements_of}
+use Rattle.frame.proofs.KindWalk.{has-decode, walk-step, variable_chain, variable_lists, sought-start, any-active, sought-found, sought-step}
 use Rattle.entries.specs.Entries.{seen}
 use Rattle.frame.proofs.pairs.is_listed_at.Goals as goal
 
-pub entry-entry-requires : goal.entry-entry-requires
-entry-entry-requires c =
-    let k = c.args.stock.now in
-    let g = (λ (p : ℕ × Stmt). has_name (name_at (names_in k) c.args.x) (variables p.1)) in
-    let i = c.loop-last.invariant in
-    let p = c.loop-last.last in
-    let b = sought-here is_var g (statements_of k) c.args.at p i.0 refl i.1 c.loop-last-test.true in
-    let n = length-map k.entries (stmt_of (names_in k) (labels_in k)) in
-    let high = i.1.high in let le = b.1.within in let one = b.1.above in
-    omega (arith, n, high, le, one)
-
 pub loop-last-init : goal.loop-last-init
 loop-last-init c =
+    let k = c.args.stock.now in
     let n = c.requires.place in
-    (c.args.at - 1, record { high = omega (arith, n.0, n.1); last = ap (λ q. q.variable) c.links_at-last.ensures; same = refl })
-
--- what the test of the code says of the statement
-told : (names labels : List (List ℕ)) (x : ℕ) (codes : List ℕ) (s : Stmt) (b : Bool) → list_any (λ y. x == y) codes ≡ has_name (name_at names x) (decode names codes) → variables s ≡ decode names codes → b ≡ list_any (λ y. x == y) codes → has_name (name_at names x) (variables s) ≡ b
-told names labels x codes s b h v e = ap (has_name (name_at names x)) v ∙ (sym h ∙ sym e)
+    sought-start k (c.args.at - 1) c.links_at-last.result variable_chain (omega (arith, n.0, n.1)) c.links_at-last.ensures
+    (any-active (has_name (name_at (names_in k) c.args.x)) (take (c.args.at - 1) (statements_of k)) variable_lists refl)
 
 pub returns-then-contains : goal.returns-then-contains
 returns-then-contains c =
-    let k = c.args.stock.now in
-    let g = (λ (p : ℕ × Stmt). has_name (name_at (names_in k) c.args.x) (variables p.1)) in
-    let i = c.loop-last.invariant in
-    let p = c.loop-last.last in
-    let r = read-here is_var g (names_in k) (labels_in k) k.entries c.args.at p i.0 (seen c.entry-entry.result c.entry-entry.ensures.0) refl i.1 c.loop-last-test.true c.entry-entry.ensures.1 in
-    let b = r.1.back in
-    let high = i.1.high in let le = b.within in let one = b.above in
     let e = seen c.entry-entry.result c.entry-entry.ensures.0 in
-    let yes = told (names_in k) (labels_in k) c.args.x e.symbols r.0 true (has-decode (names_in k) c.args.x e.symbols c.requires.names.1 c.requires.names.0 (numbered-at (length (names_in k)) (length (labels_in k)) k.entries c.requires.stored.kept.coded (p - 1) e r.1.entry)) (ap variables (sym r.1.is) ∙ entry-var (names_in k) (labels_in k) e (ap is_var r.1.is ∙ b.of_kind)) (sym c.if-contains.true ∙ c.contains.ensures) in
-    sym (any-kind is_var g (λ q h. ap (has_name (name_at (names_in k) c.args.x)) (other-var q.1 h)) (active (before (statements_of k) c.args.at)) ∙ sought-found is_var g (statements_of k) c.args.at p i.0 refl i.1 r.0 b yes)
+    let s = walk-step e variable_chain c.requires.stored c.loop-last.invariant.at c.loop-last-test.true c.entry-entry.ensures.1 in
+    sought-found e variable_lists s c.loop-last.invariant (sym (has-decode (names_in c.args.stock.now) c.args.x e.symbols c.requires.names.1 c.requires.names.0 s.below) ∙ (sym c.contains.ensures ∙ c.if-contains.true))
 
 pub loop-last-smaller : goal.loop-last-smaller
-loop-last-smaller c =
-    let k = c.args.stock.now in
-    let g = (λ (p : ℕ × Stmt). has_name (name_at (names_in k) c.args.x) (variables p.1)) in
-    let i = c.loop-last.invariant in
-    let p = c.loop-last.last in
-    let r = read-here is_var g (names_in k) (labels_in k) k.entries c.args.at p i.0 (seen c.entry-entry.result c.entry-entry.ensures.0) refl i.1 c.loop-last-test.true c.entry-entry.ensures.1 in
-    let b = r.1.back in
-    let high = i.1.high in let le = b.within in let one = b.above in
-    let l = ap (λ q. q.variable) (c.requires.stored.kept.linked (p - 1) (seen c.entry-entry.result c.entry-entry.ensures.0) r.1.entry) in
-    let a = last-within is_var (take (p - 1) (statements_of k)) refl in
-    let d = length-take-le (p - 1) (statements_of k) (omega (arith, le, high)) in
-    omega (arith, l, a, d, one)
+loop-last-smaller c = (walk-step (seen c.entry-entry.result c.entry-entry.ensures.0) variable_chain c.requires.stored c.loop-last.invariant.at c.loop-last-test.true c.entry-entry.ensures.1).smaller
 
 pub loop-last-preserved : goal.loop-last-preserved
 loop-last-preserved c =
-    let k = c.args.stock.now in
-    let g = (λ (p : ℕ × Stmt). has_name (name_at (names_in k) c.args.x) (variables p.1)) in
-    let i = c.loop-last.invariant in
-    let p = c.loop-last.last in
-    let r = read-here is_var g (names_in k) (labels_in k) k.entries c.args.at p i.0 (seen c.entry-entry.result c.entry-entry.ensures.0) refl i.1 c.loop-last-test.true c.entry-entry.ensures.1 in
-    let b = r.1.back in
-    let high = i.1.high in let le = b.within in let one = b.above in
     let e = seen c.entry-entry.result c.entry-entry.ensures.0 in
-    let l = ap (λ q. q.variable) (c.requires.stored.kept.linked (p - 1) e r.1.entry) in
-    let nay = told (names_in k) (labels_in k) c.args.x e.symbols r.0 false (has-decode (names_in k) c.args.x e.symbols c.requires.names.1 c.requires.names.0 (numbered-at (length (names_in k)) (length (labels_in k)) k.entries c.requires.stored.kept.coded (p - 1) e r.1.entry)) (ap variables (sym r.1.is) ∙ entry-var (names_in k) (labels_in k) e (ap is_var r.1.is ∙ b.of_kind)) (sym c.if-contains.false ∙ c.contains.ensures) in
-    (p - 1, subst (λ q. IsSought is_var g (statements_of k) c.args.at q (p - 1)) (sym l) (sought-step is_var g (statements_of k) c.args.at p i.0 refl i.1 r.0 b nay))
-
-pub returns : goal.returns
-returns c =
-    let k = c.args.stock.now in
-    let g = (λ (p : ℕ × Stmt). has_name (name_at (names_in k) c.args.x) (variables p.1)) in
-    let i = c.loop-last.invariant in
-    sym (any-kind is_var g (λ q h. ap (has_name (name_at (names_in k) c.args.x)) (other-var q.1 h)) (active (before (statements_of k) c.args.at)) ∙ sought-over is_var g (statements_of k) c.args.at c.loop-last.last i.0 refl i.1 c.loop-last-test.false)
+    let s = walk-step e variable_chain c.requires.stored c.loop-last.invariant.at c.loop-last-test.true c.entry-entry.ensures.1 in
+    sought-step e variable_lists s c.loop-last.invariant (sym (has-decode (names_in c.args.stock.now) c.args.x e.symbols c.requires.names.1 c.requires.names.0 s.below) ∙ (sym c.contains.ensures ∙ c.if-contains.false))

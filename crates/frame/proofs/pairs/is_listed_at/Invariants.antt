@@ -1,6 +1,6 @@
-use Rattle.std.proofs.Common.{ℕ}
+use Rattle.std.specs.List.{list_any}
 use Rattle.mm_lex.specs.Alphabet.{has_name}
-use Rattle.scope.specs.Active.{variables}
+use Rattle.scope.specs.Active.{active, before, variables}
 use Rattle.names.specs.Codes.{name_at}
 use Rattle.frame.specs.Links.{is_var}
 use Rattle.frame.specs.Stored.EntryMeanings.{names_in, statements_of}
@@ -8,7 +8,9 @@ use Rattle.frame.proofs.KindWalk.{IsSought}
 use Rattle.frame.proofs.pairs.is_listed_at.Given as goal
 
 abbrev pub invariant-loop-last : goal.invariant-loop-last
-invariant-loop-last l = (m : ℕ) × IsSought is_var (λ p. has_name (name_at (names_in l.stock) l.x) (variables p.1)) (statements_of l.stock) l.at l.last m
+invariant-loop-last l =
+    let x = name_at (names_in l.stock) l.x in
+    IsSought is_var variables (has_name x) l.stock l.last (list_any (λ p. has_name x (variables p.1)) (active (before (statements_of l.stock) l.at)))
 
 abbrev pub decreases-loop-last : goal.decreases-loop-last
 decreases-loop-last l = l.last

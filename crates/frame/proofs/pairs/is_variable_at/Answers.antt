@@ -14,7 +14,7 @@ pub is_active_at-requires-clause-plain : goal.is_active_at-requires-clause-plain
 is_active_at-requires-clause-plain c =
     let k = c.args.stock.now in
     let z = ap (λ s. s.variable) (index-is k.symbols.items c.args.x c.index.result.now _ (c.requires.stored.kept.symbols_kept c.args.x c.requires.names.0) c.index.ensures) in
-    (var-plain (names_in k) (labels_in k) c.args.x c.index.result.now.variable k.entries z c.if-declared-eq0.false).1
+    var-plain (names_in k) (labels_in k) c.args.x c.index.result.now.variable k.entries z c.if-declared-eq0.false
 
 pub returns-then-is_active_at : goal.returns-then-is_active_at
 returns-then-is_active_at c =

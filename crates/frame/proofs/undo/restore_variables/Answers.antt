@@ -1,11 +1,10 @@
 use Rattle.std.proofs.Common.{◌∙◌, ap, sym, arith, length, take, get_or}
 use Rattle.std.specs.Prelude.{Some, nat_eq}
 use Rattle.std.specs.List.{list_any}
-use Rattle.std.proofs.lemmas.List.{length-set, take_all}
+use Rattle.std.proofs.lemmas.List.{get_or-map, length-set, take_all}
 use Rattle.std.proofs.lemmas.List.Folds.{list_any_more}
 use Rattle.frame.proofs.ApartLemmas.{below-at}
-use Rattle.frame.proofs.DeclareLemmas.{noted}
-use Rattle.frame.proofs.UndoLemmas.{map-at, restore-step}
+use Rattle.frame.proofs.DeclareLemmas.{noted, note-step}
 use Rattle.frame.proofs.undo.restore_variables.Goals as goal
 
 pub index_mut-symbol-requires : goal.index_mut-symbol-requires
@@ -19,8 +18,8 @@ loop-place-preserved c = record {
   each = λ x h k y g.
       let i = c.loop-place.place in
       let codes = c.args.codes.now in
-      restore-step c.loop-place.symbols.items (get_or codes i 0) k (get_or c.args.replaced.now i 0) c.index_mut-symbol.result.now y x (list_any (nat_eq k) (take i codes))
-      (c.loop-place.invariant.each x h k y g) c.index_mut-symbol.ensures.value (ap (λ r. get_or r i 0) h ∙ map-at x codes i (omega arith))
+      note-step c.loop-place.symbols.items (get_or codes i 0) k (get_or c.args.replaced.now i 0) c.index_mut-symbol.result.now y x (list_any (nat_eq k) (take i codes))
+      (c.loop-place.invariant.each x h k y g) c.index_mut-symbol.ensures.value (ap (λ r. get_or r i 0) h ∙ get_or-map x codes i 0 0 (omega arith))
       ∙ ap (λ b. Some (noted y (x k) b)) (sym (list_any_more (nat_eq k) codes i 0 (omega arith)));
   count = length-set c.loop-place.symbols.items (get_or c.args.codes.now c.loop-place.place 0) _ ∙ c.loop-place.invariant.count;
 }

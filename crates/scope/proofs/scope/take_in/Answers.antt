@@ -2,18 +2,19 @@ use Rattle.std.proofs.Common.{◌∙◌, ap, sym, subst, length, take, ◌++◌,
 use Rattle.scope.specs.Active.{bare}
 use Rattle.scope.specs.Kinds.{Declared, IsNumberingOf}
 use Rattle.scope.specs.Standing.{stands_at, standing_of}
-use Rattle.scope.specs.Stored.Declares.{IsNotedBy}
+use Rattle.scope.specs.Declares.{IsNotedBy}
 use Rattle.scope.specs.Stored.Noted.{AreNoted}
 use Rattle.scope.specs.Symbols.{symbols_after, symbols_in, AreNumbers, AreVariableNumbers}
 use Rattle.mm_lex.specs.Alphabet.{Name}
 use Rattle.mm_read.specs.declared.stmt.Stmt.{Stmt}
 use Rattle.mm_read.specs.declared.stmt.Stmt.TheVariants.{Open, Close, Const, Var, Disj, Float, Ess, Axiom, Prove}
+use Rattle.scope.proofs.BareLemmas.{declared_with-bare, legal-bare}
 use Rattle.scope.proofs.DeclaredLemmas.{may-declare, numbering-after, noted-after}
 use Rattle.scope.proofs.StandingLemmas.{standing-after, stands-bare}
 use Rattle.scope.proofs.scope.take_in.Goals as goal
 
-pub declare-requires : goal.declare-requires
-declare-requires c = may-declare c.args.rules.now.statements c.args.stmt.now c.args.names.now c.requires.legal c.requires.numbering.told
+pub declare_names-requires : goal.declare_names-requires
+declare_names-requires c = may-declare c.args.rules.now.statements c.args.stmt.now c.args.names.now c.requires.legal c.requires.numbering.told
 
 -- the numbers of all symbols are those that are asked for
 asked : (symbols : List Name) (s : Stmt) (numbers : List ℕ) → AreNumbers symbols (symbols_in s) numbers → AreVariableNumbers symbols s numbers
@@ -31,13 +32,13 @@ pub accept-requires-clause-numbers : goal.accept-requires-clause-numbers
 accept-requires-clause-numbers c =
     let S = c.args.rules.now.statements in let s = c.args.stmt.now in
     asked (symbols_after S s) s c.in-Some.numbers.now (subst (λ (o : Option (List ℕ)). AreNoted (symbols_after S s) (symbols_in s) o) c.in-Some.ensures.numbers
-    (noted-after S s c.args.names.now c.args.noted.now c.declare.new.noted c.requires.legal c.requires.numbering
-    (subst (λ (names : Declared). IsNotedBy names s c.args.noted.now c.declare.new.noted) c.in_ok-declare.ensures.names c.in_ok-declare.ensures.noted) c.requires.noted))
+    (noted-after S s c.args.names.now c.args.noted.now c.declare_names.new.noted c.requires.legal c.requires.numbering
+    (subst (λ (names : Declared). IsNotedBy names s c.args.noted.now c.declare_names.new.noted) c.in_ok-declare_names.ensures.names c.in_ok-declare_names.ensures.noted) c.requires.noted))
 
 pub returns-clause-numbering : goal.returns-clause-numbering
 returns-clause-numbering c =
     let S = c.args.rules.now.statements in let s = c.args.stmt.now in
-    subst (λ (names : Declared). IsNumberingOf (S ++ bare s ∷ []) names) (sym c.in_ok-declare.ensures.names) (numbering-after S s c.args.names.now c.requires.legal c.requires.numbering)
+    subst (λ (names : Declared). IsNumberingOf (S ++ bare s ∷ []) names) (declared_with-bare c.args.names.now s ∙ sym c.in_ok-declare_names.ensures.names) (numbering-after S (bare s) c.args.names.now (legal-bare S s c.requires.legal) c.requires.numbering)
 
 pub returns-clause-standing : goal.returns-clause-standing
 returns-clause-standing c =

@@ -1,6 +1,6 @@
 use Rattle.std.proofs.lemmas.List.{get_or_read}
 use Rattle.std.proofs.Common.{◌≡◌, ◌<◌, ◌+◌, ◌∙◌, ap, sym, subst, arith, length, get_or, ℕ, List}
-use Rattle.std.specs.Prelude.{zero, suc, Option, Some, None, false, slice_get}
+use Rattle.std.specs.Prelude.{zero, suc, Some, false, slice_get}
 use Rattle.mm_lex.specs.Alphabet.{Name}
 use Rattle.mm_read.specs.Statements.{Database}
 use Rattle.mm_read.specs.declared.stmt.Stmt.{Stmt}
@@ -31,10 +31,6 @@ none S T x same free i s c = by i c.stands
     by zero g = cc
     by (suc j) g = label-none S x free j s (ap (λ q. slice_get q j) same ∙ g) c.carried
 
-is-none : (S : Database) (x : Name) (o : Option ℕ) → o ≡ None → ((i : ℕ) (s : Stmt) → Carries S i s x → ⊥) → IsPosition S x o
-is-none S x None e h = h
-is-none S x (Some n) e h = cc
-
 below : (S : Database) (labels : List Name) (positions : List ℕ) (x : Name) (n : ℕ) → labels ≡ labels_of S → positions ≡ positions_from 1 S → IsNumberOf labels x n → n < length positions
 below S labels positions x n a b k =
     let l = ap length a in let m = ap length b in let q = length-positions 1 S in let lt = k.0 in
@@ -44,7 +40,7 @@ pub returns-in_err-number : goal.returns-in_err-number
 returns-in_err-number c =
     let k = c.self.inside.stock in
     let told = (stored-naming k c.self.invariant).told c.args.label.now in
-    is-none c.args.self.now.statements c.args.label.now c.from_residual.result c.from_residual.ensures
+    subst (IsPosition c.args.self.now.statements c.args.label.now) (sym c.from_residual.ensures)
     (none (statements_of k) c.args.self.now.statements c.args.label.now (ap (λ v. v.statements) c.self.view_is) (told.label ∙ c.in_err-number.ensures.none))
 
 pub index-requires : goal.index-requires

@@ -1,0 +1,80 @@
+use Rattle.std.proofs.Common.{◌≡◌, ◌∙◌, ap, sym, subst, arith, length, ◌+◌, ◌++◌, ◌∷◌, [], true}
+use Rattle.std.specs.Prelude.{if◌then◌else◌, false}
+use Rattle.scope.specs.Active.{bare}
+use Rattle.scope.proofs.DeclaredLemmas.{may-declare}
+use Rattle.entries.specs.Entries.{made, partless}
+use Rattle.frame.specs.Below.{AreBelow}
+use Rattle.frame.specs.Stored.AssertionParts.{has_parts}
+use Rattle.frame.specs.Stored.Drafts.{drafted}
+use Rattle.frame.specs.Stored.EntryMeanings.{names_in, labels_in, statements_of, ReadsAs}
+use Rattle.frame.specs.Stored.Whole.{IsKeptOf, parts_of}
+use Rattle.frame.proofs.EndLemmas.{block-within, ends-next}
+use Rattle.frame.proofs.EnterLemmas.{IsEntered, entered-below, kind_of-bare}
+use Rattle.frame.proofs.ExtendLemmas.{is-pushed, numbered-pushed}
+use Rattle.frame.proofs.NamingLemmas.{stored-naming}
+use Rattle.frame.proofs.StoredLemmas.{kept-pushed, pushed-statements}
+use Rattle.frame.proofs.extend.extend.Goals as goal
+use Rattle.frame.proofs.extend.extend.Goals.{In-Some}
+
+pub declare_next-requires-clause-free : goal.declare_next-requires-clause-free
+declare_next-requires-clause-free c =
+    let k = c.args.stock.now in
+    may-declare (statements_of k) c.args.stmt.now k.numbering c.requires.legal (stored-naming k c.requires.stored).told
+
+entered : (c : In-Some) → IsEntered c.args.stock.now c.declare_next.new.stock c.args.stmt.now c.in_ok-head.head c.find_numbers.new.noted c.declare_next.new.noted
+entered c = record {
+  stored = c.requires.stored;
+  legal = c.requires.legal;
+  head = c.in_ok-head.ensures (bare c.args.stmt.now) c.kind-kind.ensures;
+  declared = c.in_ok-declare_next.ensures.numbering;
+  noted = c.find_numbers.ensures;
+  noted_after = c.in_ok-declare_next.ensures.noted;
+}
+
+below : (c : In-Some) → AreBelow (length c.declare_next.new.stock.symbols.items) c.in-Some.codes.now
+below c =
+    subst (λ n. AreBelow n c.in-Some.codes.now) (sym c.in_ok-declare_next.ensures.room.count)
+    (entered-below c.args.stock.now c.declare_next.new.stock c.args.stmt.now c.in_ok-head.head c.find_numbers.new.noted c.declare_next.new.noted c.in-Some.codes.now (entered c) c.in-Some.ensures.numbers)
+
+pub note_replaced-requires-clause-below : goal.note_replaced-requires-clause-below
+note_replaced-requires-clause-below c =
+    subst (λ xs. AreBelow (length xs) c.in-Some.codes.now) (sym c.deref.ensures.value) (below (goal.at.note_replaced-requires-clause-below c).In-Some)
+
+pub declare-requires : goal.declare-requires
+declare-requires c = below (goal.at.declare-requires c).In-Some
+
+pub note_end-requires : goal.note_end-requires
+note_end-requires c =
+    let k = c.args.stock.now in
+    let g = c.in_ok-declare_next.ensures.grown in
+    block-within k c.declare_next.new.stock.links.block c.note_statement.new.ends.items c.requires.stored (ap (λ l. l.block) g.links)
+    (c.in_ok-note_statement.ensures.added ∙ ap (λ v. v.items ++ 0 ∷ []) g.ends)
+
+pub returns : goal.returns
+returns c =
+    let k = c.args.stock.now in
+    let s = bare c.args.stmt.now in
+    let h = c.in_ok-head.head in
+    let new = c.declare_next.new.stock in
+    let codes = c.in-Some.codes.now in
+    let told = c.in_ok-declare_next.ensures in
+    let e = entered (goal.at.returns c).In-Some in
+    let a = parts_of h.kind c.enter_parts.new.draft in
+    let kept : has_parts h.kind ≡ true → IsKeptOf k s a = λ own.
+    subst (λ b. IsKeptOf k s (if b then drafted c.enter_parts.new.draft else partless false)) (sym own) (c.in_ok-enter_parts.ensures (ap has_parts (sym (e.head.kind ∙ kind_of-bare c.args.stmt.now)) ∙ own)).kept in
+    let pushed = is-pushed k new c.args.stmt.now h a codes c.find_numbers.new.noted c.declare_next.new.noted c.kind-kind.result (c.len-at.result + 1) c.declare.new.symbols.items c.note_replaced.new.replaced.items c.push_entry.new.entries c.links_after-links.result
+    e c.in-Some.ensures.numbers told.grown told.room told.positions kept (c.kind-kind.ensures ∙ sym e.head.kind) (omega (arith, c.len-at.ensures.len))
+    (λ x reads. c.in_ok-note_replaced.ensures.noted x (subst (λ xs. ReadsAs xs x) (sym c.deref.ensures.value) reads)) c.declare.ensures.each c.declare.ensures.count c.in_ok-push_entry.ensures.added (c.links_after-links.ensures s (sym c.kind-kind.ensures)) in
+    let statements = pushed-statements (names_in k) (labels_in k) k.positions.items k.symbols.items k.replaced.items k.entries k.links (names_in new) (labels_in new) new.positions.items new.symbols.items
+    c.declare.new.symbols.items c.note_replaced.new.replaced.items c.push_entry.new.entries c.links_after-links.result s (made h codes a) c.requires.stored.kept pushed in
+    record {
+      stored = record {
+        kept = kept-pushed (names_in k) (labels_in k) k.positions.items k.symbols.items k.replaced.items k.entries k.links (names_in new) (labels_in new) new.positions.items new.symbols.items
+            c.declare.new.symbols.items c.note_replaced.new.replaced.items c.push_entry.new.entries c.links_after-links.result s (made h codes a) c.requires.stored.kept pushed;
+        numbered = numbered-pushed k new c.args.stmt.now _ c.requires.stored told.numbering statements;
+        ended = ends-next k s _ c.kind-kind.result new.links.block (c.len-at.result + 1) c.note_statement.new.ends.items c.note_end.new.ends.items c.requires.stored c.kind-kind.ensures (ap (λ l. l.block) told.grown.links)
+            (omega (arith, c.len-at.ensures.len)) (c.in_ok-note_statement.ensures.added ∙ ap (λ v. v.items ++ 0 ∷ []) told.grown.ends) c.note_end.ensures statements;
+      };
+      added = statements;
+      behind = tt;
+    }

@@ -1,0 +1,6 @@
+use Rattle.scope.specs.Kinds.{declared_symbols}
+use Rattle.scope.proofs.SymbolNameLemmas.{AreDone}
+use Rattle.frame.proofs.symbol_numbers.note_list.Given as goal
+
+abbrev pub invariant-loop-word : goal.invariant-loop-word
+invariant-loop-word l = record { noted : AreDone (declared_symbols l.numbering) l.words l.word-iterator l.noted }
