@@ -1,5 +1,5 @@
--- From what a reader answers to the public answer.
-use Rattle.std.specs.Prelude.{◌≡◌, ℕ, zero, suc, ◌+◌, ◌-◌, ◌*◌, ◌↔◌, Bool, true, false, cond, ◌&&◌, ◌||◌, ◌==◌, nat_le, IsTrue, IsFalse, List, [], ◌∷◌, ◌++◌, length, Option, Some, None, Result, Err, map, slice_get, refl}
+-- What writes items has no `?`; and the numbers of a normal proof.
+use Rattle.std.specs.Prelude.{◌≡◌, ℕ, zero, suc, ◌+◌, ◌-◌, ◌*◌, Bool, true, false, cond, ◌&&◌, ◌||◌, ◌==◌, nat_le, List, [], ◌∷◌, ◌++◌, length, Option, Some, None, map, slice_get, refl}
 use Rattle.std.specs.List.{list_all, list_any, range_with_len}
 use Rattle.std.specs.Option.{option_map}
 use Rattle.std.proofs.Common.{sym, ◌∙◌, ap, arith, true≢false, append_assoc, length-append}
@@ -9,14 +9,12 @@ use Rattle.std.proofs.lemmas.Bool.{and_parts}
 use Rattle.mm_lex.specs.Alphabet.{Name, has_byte, is_label, is_label_byte}
 use Rattle.mm_lex.specs.Words.{spaced}
 use Rattle.proof_code.specs.declared.item.Item.{Item}
-use Rattle.proof_code.specs.declared.fault.CodeFault.{CodeFault}
-use Rattle.proof_code.specs.declared.fault.CodeFault.TheVariants.{Unfinished, Malformed}
 use Rattle.proof_code.specs.declared.item.Item.TheVariants.{Cite}
 use Rattle.proof_code.specs.Letters.{is_first, is_last}
 use Rattle.proof_code.specs.ItemNumbers.{item_of, items_of}
 use Rattle.proof_code.specs.Text.{with_number, numbers_from}
-use Rattle.proof_code.specs.Writes.{finish, question_mark, is_unfinished, WritesRow, WritesCompressed, WritesNormal, IsMalformed}
-use Rattle.proof_code.proofs.WritesLemmas.{joined}
+use Rattle.proof_code.specs.Writes.{finish, question_mark, is_unfinished, WritesRow, WritesCompressed}
+use Rattle.proof_code.proofs.NumbersOfRow.{joined}
 use Rattle.proof_code.proofs.LetterItemLemmas.{RowIsRead, read-WritesRow}
 use Rattle.proof_code.proofs.RowOfNumbers.{item_of-cite}
 use Rattle.proof_code.proofs.TextLemmas.{list_any-spaced, list_any-joined}
@@ -81,10 +79,6 @@ row_finished labels rest items w = by (is_unfinished rest) refl (read-WritesRow 
     by true e read = absurd (none-some read.numbers (sym (letters_finished (length labels) 0 (joined rest) (list_any-joined question_mark rest ∙ e)) ∙ read.read))
     by false e read = refl
 
--- a normal proof that writes items has no `?`
-pub normal_finished : (tokens : List Name) (items : List Item) → WritesNormal tokens items → is_unfinished tokens ≡ false
-normal_finished tokens items w = labels_finished tokens w.labels
-
 -- a compressed proof that writes items has no `?`
 pub compressed_finished : (tokens mandatory : List Name) (items : List Item) → WritesCompressed tokens mandatory items → is_unfinished tokens ≡ false
 compressed_finished tokens mandatory items w =
@@ -95,28 +89,7 @@ compressed_finished tokens mandatory items w =
 pub is_unfinished-text : (tokens : List Name) (text : List ℕ) (r : Bool) → text ≡ spaced tokens → r ≡ list_any (λ b. b == question_mark) text → is_unfinished tokens ≡ r
 is_unfinished-text tokens text r is h = sym (list_any-spaced question_mark tokens refl) ∙ (ap (list_any (λ b. b == question_mark)) (sym is) ∙ sym h)
 
--- ---- the clauses of the public answer
-
-abbrev Finished : List Name → (List Item → Type 0) → List Item → Type 0
-Finished tokens Written items = IsFalse (is_unfinished tokens) × Written items
-
-module _ (tokens : List Name) (Written : List Item → Type 0) (finished : (items : List Item) → Written items → is_unfinished tokens ≡ false) where
-  -- where items are written neither fault is answered
-  pub written_unfinished : (result : Result (List Item) CodeFault) → (result ≡ Err Unfinished → ⊥) → (items : List Item) → Written items → (result ≡ Err Unfinished) ↔ IsTrue (is_unfinished tokens)
-  written_unfinished result other items w = (λ e. absurd (other e), λ u. absurd (true≢false (sym u ∙ finished items w)))
-
-  -- nor Malformed, which is said of tokens that write none
-  pub written_malformed : (result : Result (List Item) CodeFault) → (result ≡ Err Malformed → ⊥) → (items : List Item) → Written items → (result ≡ Err Malformed) ↔ IsMalformed tokens (Finished tokens Written)
-  written_malformed result other items w = (λ e. absurd (other e), λ m. absurd (m.1 items (finished items w, w)))
-
--- where no items are written, the answer is Malformed just where there is no `?`
-pub fault_malformed : (tokens : List Name) (Written : List Item → Type 0) (fault : CodeFault) → fault ≡ cond (is_unfinished tokens) Unfinished Malformed → ((items : List Item) → Written items → ⊥)
-    → (◌≡◌ {A = Result (List Item) CodeFault} (Err fault) (Err Malformed)) ↔ IsMalformed tokens (Finished tokens Written)
-fault_malformed tokens Written fault h none = by (is_unfinished tokens) refl h
-  where
-    by : (t : Bool) → is_unfinished tokens ≡ t → fault ≡ cond t Unfinished Malformed → (◌≡◌ {A = Result (List Item) CodeFault} (Err fault) (Err Malformed)) ↔ IsMalformed tokens (Finished tokens Written)
-    by true u h = (λ e. cc, λ m. absurd (true≢false (sym u ∙ m.0)))
-    by false u h = (λ e. (u, λ items w. none items w.1), λ m. ap Err h)
+-- ---- the numbers of a normal proof
 
 slice_get-behind : (front : List Name) (x : Name) (rest : List Name) → slice_get (front ++ x ∷ rest) (length front) ≡ Some x
 slice_get-behind [] x rest = refl

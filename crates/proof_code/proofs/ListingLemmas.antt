@@ -1,5 +1,5 @@
 -- The labels counted byte by byte are those that the header lists.
-use Rattle.std.specs.Prelude.{◌≡◌, ℕ, zero, suc, ◌+◌, ◌<◌, ◌≤◌, Bool, true, false, cond, ◌&&◌, ◌==◌, List, [], ◌∷◌, ◌++◌, length, drop, slice_index_or, Option, Some, None, IsSomeAnd, refl}
+use Rattle.std.specs.Prelude.{◌≡◌, ℕ, zero, suc, ◌+◌, ◌<◌, ◌≤◌, Bool, true, false, cond, ◌&&◌, ◌==◌, List, [], ◌∷◌, ◌++◌, length, drop, slice_index_or, Option, Some, None, refl}
 use Rattle.std.specs.List.{list_all}
 use Rattle.std.specs.Option.{option_map}
 use Rattle.std.proofs.Common.{sym, ◌∙◌, ap, arith, true≢false}
@@ -117,18 +117,18 @@ told-more : (word : Name) (o : Option Header) → more_labels 1 (told o) ≡ tol
 told-more word None = refl
 told-more word (Some header) = ap (λ n. Some (n, spaced header.rest)) (let e : 1 + length header.listed ≡ length (word ∷ header.listed) = omega arith in e)
 
-pub counted-header : (words : List Name) → list_all is_word words ≡ true → counted true (spaced words) ≡ told (header_of [] words)
+pub counted-header : (words : List Name) → list_all is_word words ≡ true → counted true (spaced words) ≡ told (header_of words)
 counted-header [] h = refl
 counted-header (word ∷ words) h = ap (counted true) (spaced-first word words) ∙ by (counted-header words parts.1) (name_eq word finish) refl (is_label word) refl
   where
     parts : (is_word word ≡ true) × (list_all is_word words ≡ true)
     parts = and_parts (is_word word) (list_all is_word words) h
 
-    by : counted true (spaced words) ≡ told (header_of [] words) → (t : Bool) → name_eq word finish ≡ t → (u : Bool) → is_label word ≡ u
-        → counted true (word ++ behind words) ≡ told (cond t (Some (record { listed = []; rest = words })) (cond (u && true) (option_map (with_label word) (header_of [] words)) None))
+    by : counted true (spaced words) ≡ told (header_of words) → (t : Bool) → name_eq word finish ≡ t → (u : Bool) → is_label word ≡ u
+        → counted true (word ++ behind words) ≡ told (cond t (Some (record { listed = []; rest = words })) (cond u (option_map (with_label word) (header_of words)) None))
     by more true e u f = ap (λ w. counted true (w ++ behind words)) ((bytes_eq-Decides word finish).0 e) ∙ counted-finish words
     by more false e true f =
-        counted-word word (behind words) f ∙ (counted-behind words ∙ (ap (more_labels 1) more ∙ told-more word (header_of [] words)))
+        counted-word word (behind words) f ∙ (counted-behind words ∙ (ap (more_labels 1) more ∙ told-more word (header_of words)))
     by more false e false f = counted-none word words parts.0 f e
 
 -- ---- the loop
@@ -165,15 +165,19 @@ told-none : (o : Option Header) → told o ≡ None → o ≡ None
 told-none None e = refl
 told-none (Some header) e = cc
 
-told-some : (o : Option Header) (count : ℕ) (letters : List ℕ) → told o ≡ Some (count, letters) → IsSomeAnd o (λ header. (spaced header.rest ≡ letters) × (length header.listed ≡ count))
+-- a header is read, and these are the text of what is left and how many labels there are
+abbrev pub Counted : Option Header → List ℕ → ℕ → Type 0
+Counted o letters count = (header : Header) × (o ≡ Some header) × (spaced header.rest ≡ letters) × (length header.listed ≡ count)
+
+told-some : (o : Option Header) (count : ℕ) (letters : List ℕ) → told o ≡ Some (count, letters) → Counted o letters count
 told-some None count letters e = cc
 told-some (Some header) count letters e =
     let pair : (length header.listed, spaced header.rest) ≡ (count, letters) = same_Some (length header.listed, spaced header.rest) (count, letters) e in
-    (ap (λ p. p.1) pair, ap (λ p. p.0) pair)
+    (header, refl, ap (λ p. p.1) pair, ap (λ p. p.0) pair)
 
-pub listing-none : (words : List Name) (text : List ℕ) → list_all is_word words ≡ true → text ≡ spaced words → counted true text ≡ None → header_of [] words ≡ None
-listing-none words text visible is none = told-none (header_of [] words) (sym (counted-header words visible) ∙ (ap (counted true) (sym is) ∙ none))
+pub listing-none : (words : List Name) (text : List ℕ) → list_all is_word words ≡ true → text ≡ spaced words → counted true text ≡ None → header_of words ≡ None
+listing-none words text visible is none = told-none (header_of words) (sym (counted-header words visible) ∙ (ap (counted true) (sym is) ∙ none))
 
 pub listing-some : (words : List Name) (text : List ℕ) (count : ℕ) (letters : List ℕ) → list_all is_word words ≡ true → text ≡ spaced words → counted true text ≡ Some (count, letters)
-    → IsSomeAnd (header_of [] words) (λ header. (spaced header.rest ≡ letters) × (length header.listed ≡ count))
-listing-some words text count letters visible is some = told-some (header_of [] words) count letters (sym (counted-header words visible) ∙ (ap (counted true) (sym is) ∙ some))
+    → Counted (header_of words) letters count
+listing-some words text count letters visible is some = told-some (header_of words) count letters (sym (counted-header words visible) ∙ (ap (counted true) (sym is) ∙ some))

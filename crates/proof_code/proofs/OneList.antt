@@ -10,10 +10,12 @@ use Rattle.proof_code.specs.declared.item.Item.{Item}
 use Rattle.proof_code.specs.declared.item.Item.TheVariants.{Cite}
 use Rattle.proof_code.specs.Laws.{OneAnswer}
 use Rattle.proof_code.specs.ItemNumbers.{items_of}
+use Rattle.proof_code.specs.Reading.{share_label}
 use Rattle.proof_code.specs.Text.{Header, header_of, numbers_from, starts_with_mark}
 use Rattle.proof_code.specs.Writes.{begin, is_unfinished, is_compressed, WritesRow, WritesCompressed, WritesNormal, Writes, IsMalformed, WritesPacked}
 use Rattle.proof_code.proofs.LetterItemLemmas.{RowIsRead, WritesRow-read, read-WritesRow}
-use Rattle.proof_code.proofs.WritesLemmas.{joined, no_header, row_behind, written_behind}
+use Rattle.proof_code.proofs.NumbersOfRow.{joined}
+use Rattle.proof_code.proofs.WritesLemmas.{without_header, row_behind, written_behind}
 
 -- ---- one list
 
@@ -43,10 +45,10 @@ by_header (Some header) none some = some header refl
 one_compressed : (tokens mandatory : List Name) (a b : List Item) → is_compressed tokens ≡ true → WritesCompressed tokens mandatory a → WritesCompressed tokens mandatory b → a ≡ b
 one_compressed tokens mandatory a b compressed wa wb =
     let starts : tokens ≡ begin ∷ behind_first tokens = begins_so tokens compressed in
-    by_header (header_of mandatory (behind_first tokens))
-    (λ none. absurd (no_header tokens mandatory (behind_first tokens) starts none a wa))
+    by_header (header_of (behind_first tokens))
+    (λ none. absurd (without_header tokens (behind_first tokens) starts none mandatory a wa))
     (λ header read. one_row (mandatory ++ header.listed) (joined header.rest) a b
-    (row_behind tokens mandatory (behind_first tokens) header starts read a wa) (row_behind tokens mandatory (behind_first tokens) header starts read b wb))
+    (row_behind tokens (behind_first tokens) starts header read mandatory a wa).1 (row_behind tokens (behind_first tokens) starts header read mandatory b wb).1)
 
 -- tokens of either kind write one list
 pub one_list : (tokens mandatory : List Name) (a b : List Item) → Writes tokens mandatory a → Writes tokens mandatory b → a ≡ b
@@ -80,14 +82,18 @@ row_or_not labels letters = by (starts_with_mark letters) refl (numbers_from (le
 -- a compressed proof writes items or none, by its header and its row
 compressed_or_not : (tokens mandatory : List Name) → is_compressed tokens ≡ true → Written (WritesCompressed tokens mandatory)
 compressed_or_not tokens mandatory compressed =
-    let starts : tokens ≡ begin ∷ behind_first tokens = begins_so tokens compressed in
-    by_header (header_of mandatory (behind_first tokens))
-    (λ none. inr (λ items w. no_header tokens mandatory (behind_first tokens) starts none items w))
-    (λ header read. by header read starts (row_or_not (mandatory ++ header.listed) (joined header.rest)))
+    by_header (header_of (behind_first tokens))
+    (λ none. inr (without_header tokens (behind_first tokens) starts none mandatory))
+    (λ header read. by header read (share_label mandatory header.listed) refl (row_or_not (mandatory ++ header.listed) (joined header.rest)))
   where
-    by : (header : Header) → header_of mandatory (behind_first tokens) ≡ Some header → tokens ≡ begin ∷ behind_first tokens → Written (WritesRow (mandatory ++ header.listed) (joined header.rest)) → Written (WritesCompressed tokens mandatory)
-    by header read starts (inl w) = inl (w.0, written_behind tokens mandatory (behind_first tokens) header starts read w.0 w.1)
-    by header read starts (inr none) = inr (λ items w. none items (row_behind tokens mandatory (behind_first tokens) header starts read items w))
+    starts : tokens ≡ begin ∷ behind_first tokens
+    starts = begins_so tokens compressed
+
+    by : (header : Header) → header_of (behind_first tokens) ≡ Some header → (t : Bool) → share_label mandatory header.listed ≡ t
+        → Written (WritesRow (mandatory ++ header.listed) (joined header.rest)) → Written (WritesCompressed tokens mandatory)
+    by header read true e row = inr (λ items w. true≢false (sym e ∙ (row_behind tokens (behind_first tokens) starts header read mandatory items w).0))
+    by header read false e (inl w) = inl (w.0, written_behind tokens (behind_first tokens) starts header read mandatory w.0 e w.1)
+    by header read false e (inr none) = inr (λ items w. none items (row_behind tokens (behind_first tokens) starts header read mandatory items w).1)
 
 -- tokens that write items have no `?`
 finished : (tokens mandatory : List Name) (items : List Item) → Writes tokens mandatory items → is_unfinished tokens ≡ false

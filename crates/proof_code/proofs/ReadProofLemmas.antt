@@ -1,24 +1,29 @@
 -- A compressed proof that is read with no mandatory label at hand.
-use Rattle.std.specs.Prelude.{◌≡◌, ℕ, ◌+◌, ◌-◌, ◌*◌, ◌<◌, ◌≤◌, Bool, true, false, cond, ◌==◌, ◌^◌, nat_le, List, [], ◌∷◌, ◌++◌, length, drop, slice_index_or, Option, Some, None, IsSomeAnd, refl}
+use Rattle.std.specs.Prelude.{◌≡◌, ℕ, ◌+◌, ◌-◌, ◌*◌, ◌<◌, suc, ◌≤◌, Bool, true, false, cond, ◌==◌, nat_le, List, [], ◌∷◌, ◌++◌, length, take, drop, slice_index_or, slice_set, Option, Some, None, refl}
 use Rattle.std.specs.List.{list_all}
-use Rattle.std.proofs.Common.{sym, ◌∙◌, ap, subst, arith, true≢false, length-append}
+use Rattle.std.proofs.Common.{sym, ◌∙◌, ap, subst, arith, true≢false, length-append, append_assoc}
+use Rattle.std.proofs.Math.Seq.{take-append_seam}
 use Rattle.std.proofs.lemmas.Bool.Decides.{nat_tests}
-use Rattle.std.proofs.lemmas.List.{drop_more, drop_all, append-nil}
-use Rattle.std.proofs.lemmas.Option.{none-some, same_Some}
+use Rattle.std.proofs.lemmas.List.{drop_more, drop_all, append-nil, take-set, take_more_set}
+use Rattle.std.proofs.lemmas.List.Folds.{list_all-append}
+use Rattle.std.proofs.lemmas.Option.{none-some}
 use Rattle.std.proofs.lemmas.Bool.{and_parts}
 use Rattle.mm_lex.specs.Alphabet.{Name}
-use Rattle.mm_lex.specs.Words.{spaced, is_word}
+use Rattle.mm_lex.specs.Words.{is_word, AreWords}
 use Rattle.proof_code.specs.declared.item.Item.{Item}
+use Rattle.proof_code.specs.declared.letter_numbers.Letter.{Letter}
 use Rattle.proof_code.specs.Letters.{is_first, is_last}
 use Rattle.proof_code.specs.ItemNumbers.{items_of}
-use Rattle.proof_code.specs.Reading.{before_rest, Goes, IsLetter, share_label, IsHeading}
+use Rattle.proof_code.specs.Reading.{before_rest, ended, Goes, IsLetter, share_label, IsHeading}
 use Rattle.proof_code.specs.Text.{Header, header_of, letters_of, starts_with_mark, numbers_from}
 use Rattle.proof_code.specs.Writes.{begin, finish, WritesCompressed}
-use Rattle.proof_code.proofs.HeaderLemmas.{IsHeader, header-read, read-header}
+use Rattle.proof_code.proofs.HeaderLemmas.{IsHeader, header-read}
 use Rattle.proof_code.proofs.LettersLemmas.{is_first-true}
 use Rattle.proof_code.proofs.LetterItemLemmas.{numbers_from-first, RowIsRead, WritesRow-read, read-WritesRow}
+use Rattle.proof_code.proofs.ListingLemmas.{Counted}
+use Rattle.proof_code.proofs.NumbersOfRow.{joined}
 use Rattle.proof_code.proofs.TextLemmas.{letters_of-spaced}
-use Rattle.proof_code.proofs.WritesLemmas.{joined, written_behind, starts_with_mark-spaced, some_and}
+use Rattle.proof_code.proofs.WritesLemmas.{row_behind, written_behind, starts_with_mark-spaced}
 
 -- ---- the letters
 
@@ -31,13 +36,30 @@ pub before-none : (o : Option (List ℕ)) → o ≡ before_rest [] o
 before-none None = refl
 before-none (Some xs) = refl
 
+before-more : (numbers more : List ℕ) (o : Option (List ℕ)) → before_rest numbers (before_rest more o) ≡ before_rest (numbers ++ more) o
+before-more numbers more None = refl
+before-more numbers more (Some rest) = ap Some (sym (append_assoc numbers more rest))
+
+-- what is written at the end of what counts, where it counts
+take-ended : (numbers : List ℕ) (count : ℕ) (letter : Letter) → count < length numbers → take (count + cond letter.ends 1 0) (slice_set numbers count letter.value) ≡ take count numbers ++ ended (Some letter)
+take-ended numbers count letter within = by letter.ends
+  where
+    by : (ends : Bool) → take (count + cond ends 1 0) (slice_set numbers count letter.value) ≡ take count numbers ++ cond ends (letter.value ∷ []) []
+    by true = take_more_set numbers count letter.value within
+    by false =
+        let same : count + 0 ≡ count = omega arith in
+        ap (λ n. take n (slice_set numbers count letter.value)) same ∙ (take-set numbers count letter.value ∙ sym (append-nil (take count numbers)))
+
 pub read-none : (labels : ℕ) (text : List ℕ) → IsRead labels text labels 0 [] 0
 read-none labels text = before-none (numbers_from labels 0 (letters_of text))
 
 module _ (labels : ℕ) (text : List ℕ) (limit digits : ℕ) (numbers : List ℕ) (index : ℕ) (read : IsRead labels text limit digits numbers index) where
-  pub read-more : (limit' digits' : ℕ) (more : List ℕ) → index < length text → Goes limit digits (slice_index_or text index 0) numbers limit' digits' more → IsRead labels text limit' digits' more (index + 1)
+  -- one byte more is read
+  pub read-more : (limit' digits' : ℕ) (more : List ℕ) → index < length text → Goes limit digits (slice_index_or text index 0) more limit' digits' → IsRead labels text limit' digits' (numbers ++ more) (index + 1)
   read-more limit' digits' more within goes =
-      read ∙ (ap (λ rest. before_rest numbers (numbers_from limit digits (letters_of rest))) (drop_more text index 0 within) ∙ goes (drop (index + 1) text))
+      let rest : List ℕ = drop (index + 1) text in
+      read ∙ (ap (λ rest. before_rest numbers (numbers_from limit digits (letters_of rest))) (drop_more text index 0 within)
+      ∙ (ap (before_rest numbers) (goes rest) ∙ before-more numbers more (numbers_from limit' digits' (letters_of rest))))
 
   pub read-broken : index < length text → ((rest : List ℕ) → numbers_from limit digits (letters_of (slice_index_or text index 0 ∷ rest)) ≡ None) → numbers_from labels 0 (letters_of text) ≡ None
   read-broken within none =
@@ -57,13 +79,20 @@ module _ (labels : ℕ) (text : List ℕ) (limit digits : ℕ) (numbers : List �
       let test : (digits == 0) ≡ false = grind (arith, nat_tests) in
       left end ∙ ap (λ t. before_rest numbers (cond t (Some []) None)) test
 
--- a letter U to Y with which the word comes to more than the limit
-over-first : (limit digits letter : ℕ) → 85 ≤ letter → letter ≤ 89 → limit < 5 * digits + (letter - 84) → (text : List ℕ) → numbers_from limit digits (letters_of (letter ∷ text)) ≡ None
-over-first limit digits letter low high over text =
-    let visible : (letter == 32) ≡ false = grind (arith, nat_tests) in
-    rw visible (numbers_from-first limit digits letter (letters_of text) (is_first-true letter low high) (omega arith))
+module _ (labels : ℕ) (text : List ℕ) (limit digits : ℕ) (numbers : List ℕ) (count index limit' digits' : ℕ) (read : IsRead labels text limit digits (take count numbers) index) (within : index < length text) where
+  -- one letter more is read into a list
+  pub write-more : (letter : Letter) → count < length numbers → Goes limit digits (slice_index_or text index 0) (ended (Some letter)) limit' digits'
+      → IsRead labels text limit' digits' (take (count + cond letter.ends 1 0) (slice_set numbers count letter.value)) (index + 1)
+  write-more letter room goes =
+      rw (take-ended numbers count letter room) (read-more labels text limit digits (take count numbers) index read limit' digits' (ended (Some letter)) within goes)
 
--- a letter A to T with which it does
+  -- a space is passed over
+  pub pass-over : Goes limit digits (slice_index_or text index 0) (ended None) limit' digits' → IsRead labels text limit' digits' (take count numbers) (index + 1)
+  pass-over goes =
+      let P : List ℕ → Type 0 = λ kept. IsRead labels text limit' digits' kept (index + 1) in
+      subst P (append-nil (take count numbers)) (read-more labels text limit digits (take count numbers) index read limit' digits' [] within goes)
+
+-- a letter A to T with which the word comes to more than the limit
 over-last : (limit digits letter : ℕ) → 65 ≤ letter → letter ≤ 84 → limit < 20 * digits + (letter - 64) → (text : List ℕ) → numbers_from limit digits (letters_of (letter ∷ text)) ≡ None
 over-last limit digits letter low high over text =
     let visible : (letter == 32) ≡ false = grind (arith, nat_tests) in
@@ -72,85 +101,73 @@ over-last limit digits letter low high over text =
     let test : nat_le (20 * digits + (letter - 64)) limit ≡ false = grind (arith, nat_tests) in
     rw (visible, first, last, test) refl
 
--- a letter A to Z with which it does: a mark does so behind digits
-pub over_limit : (limit digits letter value : ℕ) (ends : Bool) → IsLetter letter digits value ends → 65 ≤ letter → letter ≤ 90 → limit < value → (text : List ℕ) → numbers_from limit digits (letters_of (letter ∷ text)) ≡ None
-over_limit limit digits letter value ends is low high over text = by (nat_le letter 84) refl (letter == 90) refl
+-- a letter U to Y with which it does however it ends
+over-first : (limit digits letter : ℕ) → 85 ≤ letter → letter ≤ 89 → limit < 20 * (5 * digits + (letter - 84)) → (text : List ℕ) → numbers_from limit digits (letters_of (letter ∷ text)) ≡ None
+over-first limit digits letter low high over text =
+    let visible : (letter == 32) ≡ false = grind (arith, nat_tests) in
+    rw visible (numbers_from-first limit digits letter (letters_of text) (is_first-true letter low high) over)
+
+-- a letter A to Z with which it does so: a mark does behind digits
+pub over_limit : (limit most digits letter value : ℕ) (ends : Bool) → IsLetter letter digits value ends → 65 ≤ letter → letter ≤ 90 → limit < 20 * most + 20 → cond ends limit most < value
+    → (text : List ℕ) → numbers_from limit digits (letters_of (letter ∷ text)) ≡ None
+over_limit limit most digits letter value ends is low high room over text = by (nat_le letter 84) refl (letter == 90) refl
   where
     by : (s : Bool) → nat_le letter 84 ≡ s → (t : Bool) → (letter == 90) ≡ t → numbers_from limit digits (letters_of (letter ∷ text)) ≡ None
     by true e t f =
         let last : letter ≤ 84 = grind (arith, nat_tests) in
-        let value_is : value ≡ 20 * digits + (letter - 64) = (is.last last).0 in
-        over-last limit digits letter low last (omega arith) text
+        let bound : limit < value = rw (is.last last).1 at over in
+        over-last limit digits letter low last (omega (arith, bound, (is.last last).0)) text
     by false e false f =
         let first : 85 ≤ letter = grind (arith, nat_tests) in
         let before : letter ≤ 89 = grind (arith, nat_tests) in
-        let value_is : value ≡ 5 * digits + (letter - 84) = (is.first first before).0 in
-        over-first limit digits letter first before (omega arith) text
+        let bound : most < value = rw (is.first first before).1 at over in
+        over-first limit digits letter first before (omega (arith, bound, room, (is.first first before).0)) text
     by false e true f =
         let mark : letter ≡ 90 = grind (arith, nat_tests) in
-        let value_is : value ≡ 2 ^ 32 * digits = (is.mark mark).0 in
-        let test : (digits == 0) ≡ false = grind (arith, nat_tests) in
-        rw (mark, test) refl
+        let bound : limit < value = rw (is.mark mark).2 at over in
+        let some : (digits == 0) ≡ false = by_digits (digits == 0) refl bound in
+        rw (mark, some) refl
+      where
+        by_digits : (t : Bool) → (digits == 0) ≡ t → limit < value → t ≡ false
+        by_digits true e bound =
+            let none : digits ≡ 0 = grind (arith, nat_tests) in
+            let mark : letter ≡ 90 = grind (arith, nat_tests) in
+            absurd (omega (arith, bound, (is.mark mark).0 none))
+        by_digits false e bound = refl
 
 -- ---- the whole proof
 
--- no listed label is one of no mandatory labels
-none_shared : (listed : List Name) → share_label [] listed ≡ false
-none_shared [] = refl
-none_shared (label ∷ listed) = none_shared listed
-
--- without a header nothing is written
-pub without_header : (tokens before : List Name) → tokens ≡ begin ∷ before → header_of [] before ≡ None → (labels : List Name) (items : List Item) → WritesCompressed tokens labels items → ⊥
-without_header tokens before starts none labels items w =
-    let same : before ≡ w.listed ++ finish ∷ w.rest = cc (starts, w.whole) in
-    none-some (record { listed = w.listed; rest = w.rest }) (sym none ∙ (ap (header_of []) same ∙ read-header [] w.listed w.rest w.labels (none_shared w.listed)))
-
--- what reading the header tells: the text of what is left, and how many labels there are
-abbrev pub Counted : List Name → List ℕ → ℕ → Type 0
-Counted before letters count = IsSomeAnd (header_of [] before) (λ header. (spaced header.rest ≡ letters) × (length header.listed ≡ count))
-
-module _ (tokens before : List Name) (letters : List ℕ) (count : ℕ) (starts : tokens ≡ begin ∷ before) (visible : list_all is_word tokens ≡ true) (found : Counted before letters count) where
-  -- the header that was read, with what was told of it
-  got : (header : Header) × (header_of [] before ≡ Some header) × ((spaced header.rest ≡ letters) × (length header.listed ≡ count))
-  got = some_and (header_of [] before) (λ header. (spaced header.rest ≡ letters) × (length header.listed ≡ count)) found
-
+module _ (tokens before : List Name) (letters : List ℕ) (count : ℕ) (starts : tokens ≡ begin ∷ before) (visible : list_all is_word tokens ≡ true) (found : Counted (header_of before) letters count) where
+  -- the header that was read
   abbrev header : Header
-  header = got.0
+  header = found.0
 
   -- it has the parts of the definition
-  is : IsHeader [] before header
-  is = header-read [] before header got.1
+  is : IsHeader before header
+  is = header-read before header found.1
 
   -- what follows the `)` are words
   rest_visible : list_all is_word header.rest ≡ true
   rest_visible =
       let all : list_all is_word (header.listed ++ finish ∷ header.rest) ≡ true = sym (ap (λ ws. list_all is_word (begin ∷ ws)) is.whole) ∙ (sym (ap (list_all is_word) starts) ∙ visible) in
-      (and_parts (list_all is_word header.listed) (list_all is_word header.rest) (sym (Rattle.std.proofs.lemmas.List.Folds.list_all-append is_word header.listed (finish ∷ header.rest)) ∙ all)).1
-
-  -- it is the header of whatever is written
-  same_header : (labels : List Name) (items : List Item) (w : WritesCompressed tokens labels items) → record { listed = w.listed; rest = w.rest } ≡ header
-  same_header labels items w =
-      let same : before ≡ w.listed ++ finish ∷ w.rest = cc (starts, w.whole) in
-      same_Some (record { listed = w.listed; rest = w.rest }) header (sym (read-header [] w.listed w.rest w.labels (none_shared w.listed)) ∙ (sym (ap (header_of []) same) ∙ got.1))
+      (and_parts (list_all is_word header.listed) (list_all is_word header.rest) (sym (list_all-append is_word header.listed (finish ∷ header.rest)) ∙ all)).1
 
   module _ (mandatory limit : ℕ) (limit_is : limit ≡ mandatory + count) where
     -- the bytes of the letters are those of the words behind the `)`, joined
     letters_are : letters_of letters ≡ joined header.rest
-    letters_are = ap letters_of (sym got.2.0) ∙ letters_of-spaced header.rest rest_visible
+    letters_are = ap letters_of (sym found.2) ∙ letters_of-spaced header.rest rest_visible
 
     -- they begin with a mark where the joined words do
     first_is : starts_with_mark letters ≡ starts_with_mark (joined header.rest)
-    first_is = ap starts_with_mark (sym got.2.0) ∙ starts_with_mark-spaced header.rest rest_visible
+    first_is = ap starts_with_mark (sym found.2) ∙ starts_with_mark-spaced header.rest rest_visible
 
     -- the limit counts the mandatory labels and the listed ones
     numbered : (labels : List Name) → length labels ≡ mandatory → length (labels ++ header.listed) ≡ limit
-    numbered labels long = omega (arith, length-append labels header.listed, got.2.1, limit_is, long)
+    numbered labels long = omega (arith, length-append labels header.listed, found.3, limit_is, long)
 
     -- whatever is written behind the header is read as a row
     is_row : (labels : List Name) (items : List Item) → WritesCompressed tokens labels items → RowIsRead (labels ++ header.listed) (joined header.rest) items
-    is_row labels items w =
-        let P : Header → Type 0 = λ header. Rattle.proof_code.specs.Writes.WritesRow (labels ++ header.listed) (joined header.rest) items in
-        read-WritesRow (labels ++ header.listed) (joined header.rest) items (subst P (same_header labels items w) w.letters)
+    is_row labels items w = read-WritesRow (labels ++ header.listed) (joined header.rest) items (row_behind tokens before starts header found.1 labels items w).1
 
     -- letters that begin with a mark write nothing
     pub marked_first : starts_with_mark letters ≡ true → (labels : List Name) (items : List Item) → WritesCompressed tokens labels items → ⊥
@@ -168,11 +185,43 @@ module _ (tokens before : List Name) (letters : List ℕ) (count : ℕ) (starts 
       listed = header.listed;
       rest = header.rest;
       whole = is.whole;
-      many = got.2.1;
+      many = found.3;
       apart = λ labels long apart.
-          written_behind tokens labels before header starts (ap (header_of labels) is.whole ∙ read-header labels header.listed header.rest is.labels apart) (items_of (labels ++ header.listed) numbers)
+          written_behind tokens before starts header found.1 labels (items_of (labels ++ header.listed) numbers) apart
           (WritesRow-read (labels ++ header.listed) (joined header.rest) numbers (sym first_is ∙ first)
           (ap (λ l. numbers_from l 0 (joined header.rest)) (numbered labels long) ∙ (ap (numbers_from limit 0) (sym letters_are) ∙ read)));
-      shared = λ labels shared items w.
-          true≢false (sym shared ∙ (sym (ap (λ (h : Header). share_label labels h.listed) (same_header labels items w)) ∙ w.apart));
+      shared = λ labels shared items w. true≢false (sym shared ∙ (row_behind tokens before starts header found.1 labels items w).0);
+    }
+
+-- ---- with the mandatory labels
+
+module _ (tokens mandatory words : List Name) (many count : ℕ) (numbers : List ℕ) (many_is : many ≡ length mandatory) (h : IsHeading tokens many words count numbers) where
+  -- the labels that are listed
+  listed-is : take count words ≡ h.listed
+  listed-is = ap (take count) h.whole ∙ (ap (λ n. take n (h.listed ++ finish ∷ h.rest)) (sym h.many) ∙ take-append_seam h.listed (finish ∷ h.rest))
+
+  -- where one of them is a mandatory one, nothing is written
+  pub shared-none : share_label mandatory (take count words) ≡ true → (items : List Item) → WritesCompressed tokens mandatory items → ⊥
+  shared-none s = h.shared mandatory (ap (share_label mandatory) (sym listed-is) ∙ s)
+
+  -- else the items of the numbers
+  pub apart-written : share_label mandatory (take count words) ≡ false → WritesCompressed tokens mandatory (items_of (mandatory ++ take count words) numbers)
+  apart-written s = rw listed-is (h.apart mandatory (sym many_is) (ap (share_label mandatory) (sym listed-is) ∙ s))
+
+-- ---- the table of the labels
+
+-- with so many of the words that are left, the labels are all
+pub record AreAdded (all labels words : List Name) (left : ℕ) : Type 0 where
+  pub joined : labels ++ take left words ≡ all
+  pub some : left ≤ length words
+  pub visible : AreWords words
+
+-- the first of them is added
+pub one-added : (all labels words : List Name) (left next : ℕ) (label : Name) (rest new : List Name) → AreAdded all labels words left → words ≡ label ∷ rest → left ≡ suc next → new ≡ labels ++ label ∷ [] → AreAdded all new rest next
+one-added all labels words left next label rest new added first more is =
+    let taken : take left words ≡ label ∷ take next rest = ap (λ n. take n words) more ∙ ap (take (suc next)) first in
+    record {
+      joined = ap (λ ws. ws ++ take next rest) is ∙ (append_assoc labels (label ∷ []) (take next rest) ∙ (ap (λ ws. labels ++ ws) (sym taken) ∙ added.joined));
+      some = omega (arith, more, added.some, ap length first);
+      visible = (and_parts (is_word label) (list_all is_word rest) (sym (ap (list_all is_word) first) ∙ added.visible)).1;
     }

@@ -3,8 +3,6 @@ pub mod Writes
 pub mod ItemNumbers
 pub mod Text
 pub mod Listing
-pub mod LetterSteps
-pub mod LabelKinds
-pub mod Answers
+pub mod LabelNames
 pub mod Reading
 pub mod Laws

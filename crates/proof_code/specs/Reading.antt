@@ -1,11 +1,12 @@
 -- A compressed proof that is read: what one byte of the letters does, and what the whole proof writes.
 -- Source: Metamath, appendix B.
 -- The code reads with no mandatory label at hand: whether a listed label is one of them is left to the caller.
-use Rattle.std.specs.Prelude.{◌≡◌, ℕ, ◌+◌, ◌-◌, ◌*◌, ◌^◌, ◌≤◌, Bool, true, false, IsTrue, IsFalse, List, ◌∷◌, ◌++◌, length, Option}
+use Rattle.std.specs.Prelude.{◌≡◌, ℕ, ◌+◌, ◌-◌, ◌*◌, ◌^◌, ◌≤◌, Bool, true, false, IsTrue, IsFalse, if◌then◌else◌, List, [], ◌∷◌, ◌++◌, length, Option, Some, None}
 use Rattle.std.specs.List.{list_any}
 use Rattle.std.specs.Option.{option_map}
 use Rattle.mm_lex.specs.Alphabet.{Name, has_name}
 use Rattle.proof_code.specs.declared.item.Item.{Item}
+use Rattle.proof_code.specs.declared.letter_numbers.Letter.{Letter}
 use Rattle.proof_code.specs.ItemNumbers.{items_of}
 use Rattle.proof_code.specs.Text.{letters_of, numbers_from}
 use Rattle.proof_code.specs.Writes.{finish, WritesCompressed}
@@ -14,17 +15,22 @@ use Rattle.proof_code.specs.Writes.{finish, WritesCompressed}
 abbrev pub before_rest : List ℕ → Option (List ℕ) → Option (List ℕ)
 before_rest numbers rest = option_map (λ more. numbers ++ more) rest
 
--- what one byte does between two places with the numbers that stand before them, whatever text follows
-abbrev pub Goes : ℕ → ℕ → ℕ → List ℕ → ℕ → ℕ → List ℕ → Type 0
-Goes limit digits byte before limit' digits' behind =
-    (text : List ℕ) → before_rest before (numbers_from limit digits (letters_of (byte ∷ text))) ≡ before_rest behind (numbers_from limit' digits' (letters_of text))
+-- the number that a letter ends, if there is a letter and it ends one
+abbrev pub ended : Option Letter → List ℕ
+ended None = []
+ended (Some letter) = if letter.ends then letter.value ∷ [] else []
+
+-- what one byte does between two places, and the numbers that it ends, whatever text follows
+abbrev pub Goes : ℕ → ℕ → ℕ → List ℕ → ℕ → ℕ → Type 0
+Goes limit digits byte numbers limit' digits' =
+    (text : List ℕ) → numbers_from limit digits (letters_of (byte ∷ text)) ≡ before_rest numbers (numbers_from limit' digits' (letters_of text))
 
 -- the digits before a letter A to Z come to this value with it, and it may end a number: a mark comes to 0, and behind
--- digits to more than any limit below 2 ^ 32
+-- digits to more than any limit
 pub record IsLetter (letter digits value : ℕ) (ends : Bool) : Type 0 where
   pub last : letter ≤ 84 → (value ≡ 20 * digits + (letter - 64)) × (ends ≡ true)
   pub first : 85 ≤ letter → letter ≤ 89 → (value ≡ 5 * digits + (letter - 84)) × (ends ≡ false)
-  pub mark : letter ≡ 90 → (value ≡ 2 ^ 32 * digits) × (ends ≡ true)
+  pub mark : letter ≡ 90 → (digits ≡ 0 → value ≡ 0) × (1 ≤ digits → value ≡ 2 ^ 64 - digits) × (ends ≡ true)
 
 -- some listed label is a mandatory one
 abbrev pub share_label : List Name → List Name → Bool

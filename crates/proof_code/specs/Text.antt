@@ -1,9 +1,9 @@
 -- Tokens read from left to right, for the private functions.
 -- Source: Metamath, appendix B.
--- This is the code's way to read; that it gives what `Writes` says is proved in RowLemmas and HeaderLemmas.
-use Rattle.std.specs.Prelude.{ℕ, ◌+◌, ◌-◌, ◌*◌, Bool, false, not, ◌&&◌, ◌==◌, nat_le, if◌then◌else◌, List, [], ◌∷◌, Option, Some, None}
+-- This is the code's way to read; that it gives what `Writes` says is proved in LetterItemLemmas and HeaderLemmas.
+use Rattle.std.specs.Prelude.{ℕ, ◌+◌, ◌-◌, ◌*◌, Bool, false, ◌&&◌, ◌==◌, nat_le, if◌then◌else◌, List, [], ◌∷◌, Option, Some, None}
 use Rattle.std.specs.Option.{option_map}
-use Rattle.mm_lex.specs.Alphabet.{Name, name_eq, has_name, is_label}
+use Rattle.mm_lex.specs.Alphabet.{Name, name_eq, is_label}
 use Rattle.proof_code.specs.Letters.{is_first, is_last}
 use Rattle.proof_code.specs.Writes.{finish}
 
@@ -36,8 +36,8 @@ pub record Header : Type 0 where
 abbrev pub with_label : Name → Header → Header
 with_label label header = record { listed = label ∷ header.listed; rest = header.rest }
 
-abbrev pub header_of : List Name → List Name → Option Header
-header_of mandatory [] = None
-header_of mandatory (token ∷ tokens) =
+abbrev pub header_of : List Name → Option Header
+header_of [] = None
+header_of (token ∷ tokens) =
     if name_eq token finish then Some (record { listed = []; rest = tokens })
-    else (if is_label token && not (has_name token mandatory) then option_map (with_label token) (header_of mandatory tokens) else None)
+    else (if is_label token then option_map (with_label token) (header_of tokens) else None)

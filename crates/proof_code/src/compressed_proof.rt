@@ -1,13 +1,13 @@
 //! Compressed proofs.
-ghost use Rattle.std.specs.Prelude.{◌≡◌, ◌↔◌, IsTrue, IfOk, Err};
-ghost use Rattle.proof_code.specs.Writes.{is_unfinished, is_compressed, WritesCompressed, WritesPacked, IsMalformed};
-ghost use Rattle.proof_code.specs.Answers.{Answers};
+ghost use Rattle.std.specs.Prelude.{◌≡◌, ◌↔◌, ◌<◌, ◌≤◌, ◌^◌, ◌++◌, length, take, drop, IsTrue, IfOk, Err};
+ghost use Rattle.proof_code.specs.Writes.{is_unfinished, is_compressed, WritesPacked, IsMalformed};
+ghost use Rattle.proof_code.specs.Reading.{share_label};
 
-use crate::fault::{CodeFault, code_fault};
-use crate::header::{read_listed, table_of};
-use crate::items::{Items, join_parts};
-use crate::letters::{read_letters, starts_with_mark};
-use mm_lex::Words;
+use crate::fault::{CodeFault, is_unfinished};
+use crate::items::Items;
+use crate::mandatory_labels::Mandatory;
+use crate::reader::{Heading, Reader};
+use mm_lex::{WordIter, Words};
 use std::alloc::{AllocError, Global};
 
 /// Whether the tokens are those of a compressed proof: the first one is `(`.
@@ -24,37 +24,67 @@ pub fn is_compressed(tokens: &Words) -> bool
 ///
 /// Errors: `Unfinished` where a token has the byte `?`, else `Malformed` where the tokens write no items, both also
 /// where every growth is refused. Cost: the sizes of the tokens and of the mandatory labels (where there is no memory
-/// to hash many mandatory labels, each listed label is looked for among them). Source: Metamath, appendix B.
+/// to hash mandatory labels, each listed label is looked for among them). Source: Metamath, appendix B.
 pub fn packed(alloc: Global, tokens: &Words, mandatory: &Words) -> Result<Items, CodeFault>
     requires { IsTrue (is_compressed tokens.now) }
     ensures items { IfOk result (λ items. WritesPacked tokens.now mandatory.now items) }
     ensures unfinished { (result ≡ Err CodeFault.Unfinished) ↔ IsTrue (is_unfinished tokens.now) }
     ensures malformed { (result ≡ Err CodeFault.Malformed) ↔ IsMalformed tokens.now (WritesPacked tokens.now mandatory.now) }
 {
-    match read_compressed(alloc, tokens, mandatory) {
-        Some(Ok(items)) => Ok(items),
-        Some(Err(AllocError)) => Err(CodeFault::Memory),
-        None => Err(code_fault(tokens)),
+    if is_unfinished(tokens) {
+        return Err(CodeFault::Unfinished);
+    }
+    let mut reader = Reader::new(alloc);
+    let Some((heading, kept)) = reader.find(tokens, count_labels(mandatory)) else {
+        return Err(CodeFault::Malformed);
+    };
+    let Heading { words, count } = heading;
+    if shares_label(alloc, mandatory, words, count) {
+        return Err(CodeFault::Malformed);
+    }
+    match (table_of(alloc, tokens, mandatory, count), kept) {
+        (Ok(labels), Ok(())) => Ok(Items::from_parts(labels, reader.into_numbers())),
+        _ => Err(CodeFault::Memory),
     }
 }
 
-/// The items of a compressed proof, `None` where the tokens write none.
-fn read_compressed(
+/// How many labels there are, each with a byte or more and a space behind it.
+fn count_labels(labels: &Words) -> usize
+    ensures count { result ≡ length labels.now }
+    ensures few { result ≤ 2 ^ 62 }
+{
+    if labels.as_text().is_empty() {
+        return 0;
+    }
+    labels.len()
+}
+
+/// Whether one of the first `count` words is a mandatory label.
+fn shares_label(alloc: Global, mandatory: &Words, words: WordIter<'_>, count: usize) -> bool
+    ensures { result ≡ share_label mandatory.now (take count words.entry) }
+{
+    let known = Mandatory::new(alloc, mandatory);
+    words.take(count).any(|label| known.has(label))
+}
+
+/// The mandatory labels and then those that the tokens list, `count` of them.
+fn table_of(
     alloc: Global,
     tokens: &Words,
     mandatory: &Words,
-) -> Option<Result<Items, AllocError>>
-    requires { IsTrue (is_compressed tokens.now) }
-    ensures { Answers (WritesCompressed tokens.now mandatory.now) result }
+    count: usize,
+) -> Result<Words, AllocError>
+    requires { count < length tokens.now }
+    ensures { IfOk result (λ labels. labels ≡ mandatory.now ++ take count (drop 1 tokens.now)) }
 {
+    let mut labels = mandatory.copy(alloc)?;
     let mut words = tokens.iter();
     let _ = words.next();
-    let listed = read_listed(alloc, &mut words, mandatory)?;
-    let letters = words.as_text();
-    if starts_with_mark(letters) {
-        return None;
+    for _ in 0..count {
+        let Some(label) = words.next() else {
+            unreachable!();
+        };
+        labels.push(label)?;
     }
-    let first = mandatory.as_text();
-    let numbers = read_letters(alloc, letters, mandatory.len() + listed.count)?;
-    Some(join_parts(table_of(alloc, first, listed.text), numbers))
+    Ok(labels)
 }

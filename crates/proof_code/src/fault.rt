@@ -1,5 +1,5 @@
 //! Why tokens write no items.
-ghost use Rattle.std.specs.Prelude.{◌≡◌, ◌⊎◌, Ok, Err, if◌then◌else◌, IfOk, OnErr, MatchOption};
+ghost use Rattle.std.specs.Prelude.{◌≡◌, ◌⊎◌, Ok, Err, IfOk, OnErr, MatchOption};
 ghost use Rattle.proof_code.specs.Writes.{is_unfinished};
 
 use crate::items::Items;
@@ -22,17 +22,6 @@ pub fn is_unfinished(tokens: &Words) -> bool
     ensures { result ≡ is_unfinished tokens.now }
 {
     tokens.as_text().contains(&b'?')
-}
-
-/// Why tokens that write no items do not.
-pub(crate) fn code_fault(tokens: &Words) -> CodeFault
-    ensures { result ≡ (if is_unfinished tokens.now then CodeFault.Unfinished else CodeFault.Malformed) }
-{
-    if is_unfinished(tokens) {
-        CodeFault::Unfinished
-    } else {
-        CodeFault::Malformed
-    }
 }
 
 /// The items, or none where the tokens write none. Errors: want of memory, where the reader answered that.

@@ -1,9 +1,8 @@
 //! The items of a proof, as a table of labels and one number for each item.
-ghost use Rattle.std.specs.Prelude.{◌≡◌, IfOk, IsOkAnd};
+ghost use Rattle.std.specs.Prelude.{◌≡◌};
 ghost use Rattle.proof_code.specs.ItemNumbers.{items_of};
 
 use mm_lex::Words;
-use std::alloc::AllocError;
 use std::marker::Model;
 
 /// The items of a proof. Contracts see the list of them.
@@ -55,14 +54,4 @@ impl Items {
             numbers: self.numbers.as_slice(),
         }
     }
-}
-
-/// The items of a table of labels and of numbers, where neither was refused a growth.
-pub(crate) fn join_parts(
-    labels: Result<Words, AllocError>,
-    numbers: Result<Vec<u32>, AllocError>,
-) -> Result<Items, AllocError>
-    ensures { IfOk result (λ items. IsOkAnd labels (λ labels. IsOkAnd numbers (λ numbers. items ≡ items_of labels numbers.items))) }
-{
-    Ok(Items::from_parts(labels?, numbers?))
 }

@@ -1,13 +1,10 @@
-//! The letters of a compressed proof, read where there is room for a number for each.
+//! The letters of a compressed proof, and the numbers that they write.
 //!
 //! Which letter comes next cannot be foreseen, so no branch depends on it: what a letter is chooses values alone, and the
 //! one test of each is whether a number is over the limit.
-ghost use Rattle.std.specs.Prelude.{◌≡◌, ◌+◌, ◌^◌, ◌<◌, ◌≤◌, ◌∷◌, ℕ, List, length, take, None, Some, IfNone, IfSome};
-ghost use Rattle.proof_code.specs.Text.{letters_of, numbers_from};
-ghost use Rattle.proof_code.specs.Reading.{Goes, IsLetter};
-
-/// How often the digits before a mark count: no mark stands behind digits, and one that does comes to more than any limit.
-const BEYOND: usize = 1 << 32;
+ghost use Rattle.std.specs.Prelude.{◌≡◌, ◌+◌, ◌*◌, ◌^◌, ◌<◌, ◌≤◌, ◌∷◌, ℕ, List, length, take, max, None, Some, IfNone, IfSome, MatchOption};
+ghost use Rattle.proof_code.specs.Text.{letters_of, numbers_from, starts_with_mark};
+ghost use Rattle.proof_code.specs.Reading.{Goes, IsLetter, ended};
 
 /// What a letter makes of the digits before it.
 #[derive(Clone, Copy)]
@@ -23,15 +20,20 @@ struct Letter {
 fn letter_behind(byte: u8, digits: usize) -> Letter
     requires first { 65 ≤ byte }
     requires last { byte ≤ 90 }
-    requires small { digits < 2 ^ 32 }
+    requires small { 20 * digits + 26 < 2 ^ 64 }
     ensures { IsLetter byte digits result.value result.ends }
 {
     let letter = usize::from(byte - 64);
     let ends = byte < b'U' || byte > b'Y';
+    let mark = if digits == 0 {
+        0
+    } else {
+        usize::MAX - (digits - 1)
+    };
     let last = if byte < b'Z' {
         20 * digits + letter
     } else {
-        BEYOND * digits
+        mark
     };
     let value = if ends {
         last
@@ -48,40 +50,44 @@ struct Word {
     limit: usize,
     /// What the letters U to Y of the word that is begun come to, each counting 1 to 5 in base 5.
     digits: usize,
-    ghost short: { digits ≤ limit },
 }
 
 impl Word {
-    /// Goes over one byte, and tells how many numbers are written then; `None` where the letters write nothing with it,
-    /// whatever follows.
+    /// Goes over one byte, where digits over `most` come to more than the limit however the word ends; `None` where the
+    /// letters write nothing with it, whatever follows.
     ///
-    /// What the word comes to is written at `count` for each letter, and counts where the letter ends a number. Only a mark
-    /// comes to 0.
+    /// A space is no letter and is passed over.
     #[inline(always)]
-    fn read(&mut self, byte: u8, numbers: &mut [u32], count: usize) -> Option<usize>
-        requires room { count < length numbers.old }
-        requires small { self.old.limit + 1 < 2 ^ 32 }
-        ensures some { IfSome result (λ more. Goes self.old.limit self.old.digits byte (take count numbers.old) self.new.limit self.new.digits (take more numbers.new)) }
+    fn read(&mut self, byte: u8, most: usize) -> Option<Option<Letter>>
+        requires begun { self.old.digits ≤ most }
+        requires most { self.old.limit < 20 * most + 20 }
+        requires small { 20 * most + 26 < 2 ^ 64 }
+        requires beyond { self.old.limit + most < 2 ^ 64 }
+        ensures some { IfSome result (λ letter. Goes self.old.limit self.old.digits byte (ended letter) self.new.limit self.new.digits) }
         ensures none { IfNone result ((text : List ℕ) → numbers_from self.old.limit self.old.digits (letters_of (byte ∷ text)) ≡ None) }
-        ensures limit { self.new.limit ≤ self.old.limit + 1 }
-        ensures count { IfSome result (λ more. more ≤ count + 1) }
+        ensures limit { (self.old.limit ≤ self.new.limit) × (self.new.limit ≤ self.old.limit + 1) }
+        ensures begun { self.new.digits ≤ most }
+        ensures value { IfSome result (λ letter. IfSome letter (λ letter. letter.value ≤ max self.old.limit most)) }
     {
         if byte < b'A' || byte > b'Z' {
-            return if byte == b' ' { Some(count) } else { None };
+            return if byte == b' ' { Some(None) } else { None };
         }
         let letter = letter_behind(byte, self.digits);
-        if letter.value > self.limit {
+        let bound = if letter.ends { self.limit } else { most };
+        if letter.value > bound {
             return None;
         }
-        numbers[count] = letter.value as u32;
         self.digits = if letter.ends { 0 } else { letter.value };
         self.limit += usize::from(letter.value == 0);
-        Some(count + usize::from(letter.ends))
+        Some(Some(letter))
     }
 }
 
 /// Writes the numbers of the letters of a text, where `labels` labels are numbered, and tells how many there are;
 /// `None` where the letters write none. Spaces may cut the letters anywhere.
+///
+/// What the word comes to is written for each letter, and counts where the letter ends a number.
+#[inline(never)]
 pub(crate) fn write_numbers(text: &[u8], labels: usize, numbers: &mut [u32]) -> Option<usize>
     requires small { labels + length text.now < 2 ^ 32 }
     requires room { length text.now ≤ length numbers.old }
@@ -95,7 +101,36 @@ pub(crate) fn write_numbers(text: &[u8], labels: usize, numbers: &mut [u32]) -> 
     };
     let mut count = 0;
     for byte in text {
-        count = word.read(*byte, numbers, count)?;
+        let limit = word.limit;
+        let Some(letter) = word.read(*byte, limit)? else {
+            continue;
+        };
+        numbers[count] = letter.value as u32;
+        count += usize::from(letter.ends);
     }
     if word.digits == 0 { Some(count) } else { None }
+}
+
+/// Goes over the letters in the same way, and writes nothing.
+pub(crate) fn pass_letters(text: &[u8], labels: usize) -> Option<()>
+    requires { labels + length text.now < 3 * 2 ^ 62 }
+    ensures { MatchOption result (numbers_from labels 0 (letters_of text.now) ≡ None)
+        (λ _. (numbers : List ℕ) × (numbers_from labels 0 (letters_of text.now) ≡ Some numbers)) }
+{
+    let most = (labels + text.len()) / 20;
+    let mut word = Word {
+        limit: labels,
+        digits: 0,
+    };
+    for byte in text {
+        word.read(*byte, most)?;
+    }
+    if word.digits == 0 { Some(()) } else { None }
+}
+
+/// Whether the letters begin with a mark.
+pub(crate) fn starts_with_mark(letters: &[u8]) -> bool
+    ensures { result ≡ starts_with_mark letters.now }
+{
+    matches!(letters, [b'Z', ..])
 }

@@ -5,19 +5,16 @@
 //! list of items, and gives its labels once each and a number for each item. `Reader::read` does so of one compressed
 //! proof after another, for mandatory labels that the caller knows otherwise.
 //!
-//! To read: `item`, `items`, `fault`, then `normal_proof` and `compressed_proof` with its parts `header` (the labels in
-//! parentheses), `mandatory_labels` and `letters` (the numbers); `reader` with `listing` (the labels counted) and
-//! `letter_numbers`; and `laws`.
+//! To read: `item`, `items`, `fault`, then `normal_proof`; `reader` with its parts `listing` (the labels counted) and
+//! `letter_numbers`; `compressed_proof` above it, with `mandatory_labels`; and `laws`.
 #![tactic(auto)]
 
 mod compressed_proof;
 mod fault;
-mod header;
 mod item;
 mod items;
 mod laws;
 mod letter_numbers;
-mod letters;
 mod listing;
 mod mandatory_labels;
 mod normal_proof;

@@ -1,5 +1,5 @@
 //! The labels that a compressed proof lists, counted byte by byte.
-ghost use Rattle.std.specs.Prelude.{◌≡◌, ◌≤◌, MatchOption, None, Some, true};
+ghost use Rattle.std.specs.Prelude.{◌≡◌, ◌+◌, ◌≤◌, length, MatchOption, IfSome, None, Some, true};
 ghost use Rattle.proof_code.specs.Listing.{class_of, counted, letters_from};
 
 /// The class of each byte: 0 where a label may have it, 1 for a space, 2 for the others.
@@ -29,7 +29,8 @@ pub(crate) struct Listing<'a> {
 
 /// Counts the labels of a text up to the word `)`; `None` where this is missing or where a word before it is no label.
 pub(crate) fn count_listed(text: &[u8]) -> Option<Listing<'_>>
-    ensures { MatchOption result (counted true text.now ≡ None) (λ r. counted true text.now ≡ Some (r.count, r.letters.now)) }
+    ensures counted { MatchOption result (counted true text.now ≡ None) (λ r. counted true text.now ≡ Some (r.count, r.letters.now)) }
+    ensures within { IfSome result (λ r. r.count + length r.letters.now ≤ length text.now) }
 {
     let mut count = 0;
     let mut last = SPACE;
@@ -60,7 +61,8 @@ fn class_of(byte: u8) -> u8
 
 /// What stands behind the word `)` that a text begins with.
 fn letters_from(text: &[u8]) -> Option<&[u8]>
-    ensures { MatchOption result (letters_from text.now ≡ None) (λ letters. letters_from text.now ≡ Some letters.now) }
+    ensures letters { MatchOption result (letters_from text.now ≡ None) (λ letters. letters_from text.now ≡ Some letters.now) }
+    ensures within { IfSome result (λ letters. length letters.now ≤ length text.now) }
 {
     match text {
         [b')'] => Some(&[]),

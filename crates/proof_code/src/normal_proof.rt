@@ -3,10 +3,9 @@ ghost use Rattle.std.specs.Prelude.{◌≡◌, ◌↔◌, IsTrue, IfOk, Err, map
 ghost use Rattle.std.specs.List.{list_all};
 ghost use Rattle.mm_lex.specs.Alphabet.{is_label};
 ghost use Rattle.proof_code.specs.declared.item.Item.TheVariants.{Cite};
-ghost use Rattle.proof_code.specs.Writes.{is_unfinished, WritesNormal, WritesPlain, IsMalformed};
-ghost use Rattle.proof_code.specs.Answers.{Answers};
+ghost use Rattle.proof_code.specs.Writes.{is_unfinished, WritesPlain, IsMalformed};
 
-use crate::fault::{CodeFault, code_fault};
+use crate::fault::{CodeFault, is_unfinished};
 use crate::items::Items;
 use mm_lex::{Words, is_label};
 use std::alloc::{AllocError, Global};
@@ -20,21 +19,15 @@ pub fn normal(alloc: Global, tokens: &Words) -> Result<Items, CodeFault>
     ensures unfinished { (result ≡ Err CodeFault.Unfinished) ↔ IsTrue (is_unfinished tokens.now) }
     ensures malformed { (result ≡ Err CodeFault.Malformed) ↔ IsMalformed tokens.now (WritesPlain tokens.now) }
 {
-    match read_normal(alloc, tokens) {
-        Some(Ok(items)) => Ok(items),
-        Some(Err(AllocError)) => Err(CodeFault::Memory),
-        None => Err(code_fault(tokens)),
+    if is_unfinished(tokens) {
+        return Err(CodeFault::Unfinished);
     }
-}
-
-/// The items of a normal proof, `None` where the tokens write none.
-fn read_normal(alloc: Global, tokens: &Words) -> Option<Result<Items, AllocError>>
-    ensures { Answers (WritesNormal tokens.now) result }
-{
-    if are_labels(tokens) {
-        Some(cite_all(alloc, tokens))
-    } else {
-        None
+    if !are_labels(tokens) {
+        return Err(CodeFault::Malformed);
+    }
+    match cite_all(alloc, tokens) {
+        Ok(items) => Ok(items),
+        Err(AllocError) => Err(CodeFault::Memory),
     }
 }
 

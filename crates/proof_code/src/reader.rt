@@ -1,13 +1,12 @@
 //! Compressed proofs read into a buffer that is kept.
-ghost use Rattle.std.specs.Prelude.{◌≡◌, ℕ, ◌+◌, ◌^◌, ◌<◌, [], List, length, take, IsTrue, IfOk, IfNone, IfSome, MatchOption, OnOk, Some, None};
+ghost use Rattle.std.specs.Prelude.{◌≡◌, ℕ, ◌+◌, ◌*◌, ◌^◌, ◌<◌, ◌≤◌, [], ◌∷◌, List, length, take, IsTrue, IfOk, MatchOption, OnOk, Some, None};
 ghost use Rattle.mm_lex.specs.Alphabet.{Name};
 ghost use Rattle.proof_code.specs.declared.item.Item.{Item};
 ghost use Rattle.proof_code.specs.Text.{letters_of, numbers_from};
-ghost use Rattle.proof_code.specs.Writes.{is_compressed, WritesCompressed};
+ghost use Rattle.proof_code.specs.Writes.{begin, is_compressed, WritesCompressed};
 ghost use Rattle.proof_code.specs.Reading.{IsHeading};
 
-use crate::letter_numbers::write_numbers;
-use crate::letters::starts_with_mark;
+use crate::letter_numbers::{pass_letters, starts_with_mark, write_numbers};
 use crate::listing::{Listing, count_listed};
 use mm_lex::{WordIter, Words};
 use std::alloc::{AllocError, Global};
@@ -77,38 +76,75 @@ impl Reader {
             ((labels : List Name) → length labels ≡ mandatory → (items : List Item) → ¬ WritesCompressed tokens.now labels items)
             (λ heading. IsHeading tokens.now mandatory heading.words heading.count self.new)) }
     {
-        let mut words = tokens.iter();
-        let _ = words.next();
-        let Some(Listing { count, letters }) = count_listed(words.as_text()) else {
-            return Ok(None);
-        };
-        if starts_with_mark(letters) {
-            return Ok(None);
-        }
-        if mandatory > MOST_LETTERS || count > MOST_LETTERS || letters.len() > MOST_LETTERS {
+        if mandatory > MOST_LETTERS {
             return Err(AllocError);
         }
-        match self.read_letters(letters, mandatory + count)? {
-            Some(()) => Ok(Some(Heading { words, count })),
-            None => Ok(None),
-        }
-    }
-
-    /// Reads the letters of a proof with so many labels; nothing where they write no numbers.
-    fn read_letters(&mut self, letters: &[u8], labels: usize) -> Result<Option<()>, AllocError>
-        requires { labels + length letters.now < 2 ^ 32 }
-        ensures { IfOk result (λ found. MatchOption found
-            (numbers_from labels 0 (letters_of letters.now) ≡ None)
-            (λ _. numbers_from labels 0 (letters_of letters.now) ≡ Some self.new)) }
-    {
-        self.count = 0;
-        if self.buffer.len() < letters.len() {
-            self.buffer.resize(letters.len(), 0)?;
-        }
-        let Some(count) = write_numbers(letters, labels, &mut self.buffer) else {
+        let Some((heading, kept)) = self.find(tokens, mandatory) else {
             return Ok(None);
         };
-        self.count = count;
-        Ok(Some(()))
+        kept?;
+        Ok(Some(heading))
     }
+
+    /// Reads in the same way, and tells whether the numbers were kept. `None` comes whatever memory there is.
+    pub(crate) fn find<'a>(
+        &mut self,
+        tokens: &'a Words,
+        mandatory: usize,
+    ) -> Option<(Heading<'a>, Result<(), AllocError>)>
+        requires compressed { IsTrue (is_compressed tokens.now) }
+        requires few { mandatory ≤ 2 ^ 62 }
+        ensures { MatchOption result
+            ((labels : List Name) → length labels ≡ mandatory → (items : List Item) → ¬ WritesCompressed tokens.now labels items)
+            (λ found. (tokens.now ≡ begin ∷ found.0.words) × (numbers : List ℕ) × IsHeading tokens.now mandatory found.0.words found.0.count numbers × OnOk found.1 (numbers ≡ self.new)) }
+    {
+        let mut words = tokens.iter();
+        let _ = words.next();
+        let Listing { count, letters } = count_listed(words.as_text())?;
+        if starts_with_mark(letters) {
+            return None;
+        }
+        let kept = self.read_letters(letters, mandatory + count)?;
+        Some((Heading { words, count }, kept))
+    }
+
+    /// Reads the letters of a proof with so many labels, and tells whether the numbers were kept; `None` where they
+    /// write none.
+    fn read_letters(&mut self, letters: &[u8], labels: usize) -> Option<Result<(), AllocError>>
+        requires { labels + length letters.now < 3 * 2 ^ 62 }
+        ensures { MatchOption result (numbers_from labels 0 (letters_of letters.now) ≡ None)
+            (λ kept. (numbers : List ℕ) × (numbers_from labels 0 (letters_of letters.now) ≡ Some numbers) × OnOk kept (numbers ≡ self.new)) }
+    {
+        self.count = 0;
+        if make_room(&mut self.buffer, labels, letters.len()).is_err() {
+            pass_letters(letters, labels)?;
+            return Some(Err(AllocError));
+        }
+        self.count = write_numbers(letters, labels, &mut self.buffer)?;
+        Some(Ok(()))
+    }
+
+    /// The numbers of the last proof that was read, in a buffer of their own.
+    pub(crate) fn into_numbers(self) -> Vec<u32>
+        ensures { result.items ≡ self }
+    {
+        let mut numbers = self.buffer;
+        numbers.truncate(self.count);
+        numbers
+    }
+}
+
+/// Makes room for a number for each of so many letters. Errors: a growth was refused, or there are too many of them or
+/// of the labels.
+fn make_room(buffer: &mut Vec<u32>, labels: usize, letters: usize) -> Result<(), AllocError>
+    ensures room { OnOk result (letters ≤ length buffer.new.items) }
+    ensures few { OnOk result (labels + letters < 2 ^ 32) }
+{
+    if labels > MOST_LETTERS || letters > MOST_LETTERS {
+        return Err(AllocError);
+    }
+    if buffer.len() < letters {
+        buffer.resize(letters, 0)?;
+    }
+    Ok(())
 }

@@ -1,26 +1,27 @@
-use Rattle.std.proofs.Common.{Ok, Err}
-use Rattle.proof_code.specs.declared.fault.CodeFault.TheVariants.{Memory}
-use Rattle.proof_code.specs.Writes.{WritesCompressed}
-use Rattle.proof_code.proofs.AnswersLemmas.{compressed_finished, written_unfinished, written_malformed, fault_malformed}
+use Rattle.std.proofs.Common.{◌≡◌, ◌++◌, false, take, drop, refl, sym, ◌∙◌, ap}
+use Rattle.proof_code.specs.Writes.{is_unfinished}
+use Rattle.proof_code.proofs.ReadProofLemmas.{shared-none, apart-written}
 use Rattle.proof_code.proofs.compressed_proof.packed.Goals as goal
 
-pub returns-in-Some-Ok-clause-items : goal.returns-in-Some-Ok-clause-items
-returns-in-Some-Ok-clause-items c = let w = rw c.in-Some-Ok.field-0-is at c.in-Some-Ok.ensures.1 in (compressed_finished c.args.tokens.now c.args.mandatory.now c.in-Some-Ok.items w, w)
+pub returns-in_default-clause-malformed : goal.returns-in_default-clause-malformed
+returns-in_default-clause-malformed c =
+    let finished : is_unfinished c.args.tokens.now ≡ false = sym c.is_unfinished.ensures ∙ c.if-is_unfinished.false in
+    (λ e. (finished, λ items w. c.in_default.ensures c.args.mandatory.now (sym c.count_labels.ensures.count) items w.1), λ m. refl)
 
-pub returns-in-Some-Ok-clause-unfinished : goal.returns-in-Some-Ok-clause-unfinished
-returns-in-Some-Ok-clause-unfinished c =
-    let w = rw c.in-Some-Ok.field-0-is at c.in-Some-Ok.ensures.1 in
-    written_unfinished c.args.tokens.now (WritesCompressed c.args.tokens.now c.args.mandatory.now) (compressed_finished c.args.tokens.now c.args.mandatory.now) (Ok c.in-Some-Ok.items) (λ e. cc) c.in-Some-Ok.items w
+pub returns-then-shares_label-clause-malformed : goal.returns-then-shares_label-clause-malformed
+returns-then-shares_label-clause-malformed c =
+    let finished : is_unfinished c.args.tokens.now ≡ false = sym c.is_unfinished.ensures ∙ c.if-is_unfinished.false in
+    let none = shared-none _ c.args.mandatory.now _ _ _ _ c.count_labels.ensures.count c.in-Some.ensures.2 (sym c.shares_label.ensures ∙ c.if-shares_label.true) in
+    (λ e. (finished, λ items w. none items w.1), λ m. refl)
 
-pub returns-in-Some-Err-clause-unfinished : goal.returns-in-Some-Err-clause-unfinished
-returns-in-Some-Err-clause-unfinished c =
-    let w = c.in-Some-Err.ensures.0 in
-    written_unfinished c.args.tokens.now (WritesCompressed c.args.tokens.now c.args.mandatory.now) (compressed_finished c.args.tokens.now c.args.mandatory.now) (Err Memory) (λ e. cc) w.0 w.1
+pub returns-in-Ok-Ok-clause-items : goal.returns-in-Ok-Ok-clause-items
+returns-in-Ok-Ok-clause-items c =
+    let found = c.in-Some.ensures in
+    let mandatory = c.args.mandatory.now in
+    let labels = c.in-Ok-Ok.ensures ∙ ap (λ tokens. mandatory ++ take c.in-Some.heading.count (drop 1 tokens)) found.0 in
+    let numbers = rw c.in-Ok-Ok.is-1 at found.3 in
+    let written = apart-written _ mandatory _ _ _ _ c.count_labels.ensures.count found.2 (sym c.shares_label.ensures ∙ c.if-shares_label.false) in
+    (sym c.is_unfinished.ensures ∙ c.if-is_unfinished.false, rw (c.from_parts.ensures, c.into_numbers.ensures, ← numbers, labels) written)
 
-pub returns-in-Some-Err-clause-malformed : goal.returns-in-Some-Err-clause-malformed
-returns-in-Some-Err-clause-malformed c =
-    let w = c.in-Some-Err.ensures.0 in
-    written_malformed c.args.tokens.now (WritesCompressed c.args.tokens.now c.args.mandatory.now) (compressed_finished c.args.tokens.now c.args.mandatory.now) (Err Memory) (λ e. cc) w.0 w.1
-
-pub returns-in-None-clause-malformed : goal.returns-in-None-clause-malformed
-returns-in-None-clause-malformed c = fault_malformed c.args.tokens.now (WritesCompressed c.args.tokens.now c.args.mandatory.now) c.code_fault.result c.code_fault.ensures c.in-None.ensures
+pub returns-in-Ok-Ok-clause-malformed : goal.returns-in-Ok-Ok-clause-malformed
+returns-in-Ok-Ok-clause-malformed c = (λ e. cc, λ m. absurd (m.1 c.from_parts.result (returns-in-Ok-Ok-clause-items c)))

@@ -3,6 +3,9 @@ use Rattle.proof_code.proofs.ReadProofLemmas.{IsRead}
 use Rattle.proof_code.proofs.letter_numbers.write_numbers.Given as goal
 
 abbrev pub invariant-loop-byte : goal.invariant-loop-byte
-invariant-loop-byte l =
-    IsRead l.labels l.text l.word.limit l.word.digits (take l.count l.numbers) l.byte-index
-    × (l.count ≤ l.byte-index) × (l.word.limit ≤ l.labels + l.byte-index)
+invariant-loop-byte l = record {
+  read : IsRead l.labels l.text l.word.limit l.word.digits (take l.count l.numbers) l.byte-index;
+  kept : l.count ≤ l.byte-index;
+  room : l.word.limit ≤ l.labels + l.byte-index;
+  begun : l.word.digits ≤ l.word.limit;
+}

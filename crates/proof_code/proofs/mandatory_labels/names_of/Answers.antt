@@ -1,4 +1,4 @@
-use Rattle.proof_code.proofs.LabelKindLemmas.{names_more, on_ok}
+use Rattle.proof_code.proofs.LabelNameLemmas.{names_more, on_ok}
 use Rattle.proof_code.proofs.mandatory_labels.names_of.Goals as goal
 
 pub loop-label-preserved : goal.loop-label-preserved

@@ -1,4 +1,4 @@
-use Rattle.proof_code.proofs.LabelKindLemmas.{NamesTo}
+use Rattle.proof_code.proofs.LabelNameLemmas.{NamesTo}
 use Rattle.proof_code.proofs.mandatory_labels.names_of.Given as goal
 
 abbrev pub invariant-loop-label : goal.invariant-loop-label
