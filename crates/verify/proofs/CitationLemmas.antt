@@ -31,22 +31,22 @@ use Rattle.frame.proofs.FoundByNumber.{some-same}
 
 -- what the code finds wherever the citation can give f
 pub record Meets (S : Database) (names : List Name) (at a : ℕ) (c : Cited) (stack : List (List ℕ)) (f : Expr) : Type 0 where
-  pub many : length c.hypotheses.now ≤ length stack
-  pub typed : (k x : ℕ) → slice_get c.hypotheses.now k ≡ Some (Float x) → IsTyped (get_or c.heads.now k 0) (get_or (top (length c.hypotheses.now) stack) k [])
-  pub fits : (ρ : CodeImages) → AreRead c.heads.now c.hypotheses.now (top (length c.hypotheses.now) stack) ρ → DoFit S (images_of_names names ρ) c.hypotheses.now (map (decode names) (top (length c.hypotheses.now) stack))
-  pub apart : (ρ : CodeImages) → AreRead c.heads.now c.hypotheses.now (top (length c.hypotheses.now) stack) ρ → are_groups_apart (before S at) (images_of_names names ρ) (map (decode names) c.groups) ≡ true
-  pub gives : (ρ : CodeImages) → AreRead c.heads.now c.hypotheses.now (top (length c.hypotheses.now) stack) ρ → f ≡ decode names (code_apply ρ c.conclusion.now)
+  pub many : length c.hypotheses ≤ length stack
+  pub typed : (k x : ℕ) → slice_get c.hypotheses k ≡ Some (Float x) → IsTyped (get_or c.heads.now k 0) (get_or (top (length c.hypotheses) stack) k [])
+  pub fits : (ρ : CodeImages) → AreRead c.heads.now c.hypotheses (top (length c.hypotheses) stack) ρ → DoFit S (images_of_names names ρ) c.hypotheses (map (decode names) (top (length c.hypotheses) stack))
+  pub apart : (ρ : CodeImages) → AreRead c.heads.now c.hypotheses (top (length c.hypotheses) stack) ρ → are_groups_apart (before S at) (images_of_names names ρ) (map (decode names) c.groups) ≡ true
+  pub gives : (ρ : CodeImages) → AreRead c.heads.now c.hypotheses (top (length c.hypotheses) stack) ρ → f ≡ decode names (code_apply ρ c.conclusion.now)
 
 module _ (S : Database) (names : List Name) (at a : ℕ) (s : Stmt) (c : Cited) (legal : AreLegal S names) (bound : IsBound S a s) (is : IsCited S names a s c) where
   abbrev n : ℕ
-  n = length c.hypotheses.now
+  n = length c.hypotheses
 
   -- the conclusion under the images that were read, by names
   conclusion-named : (ρ : CodeImages) → decode names (code_apply ρ c.conclusion.now) ≡ applied (images_of_names names ρ) (expr_of s)
   conclusion-named ρ = substitution_over_names names ρ c.conclusion.now legal.distinct (are-codes names c.conclusion.now is.conclusion_below) ∙ ap (applied (images_of_names names ρ)) is.conclusion
 
   pub goes-assertion : (old new : Results ℕ) (label : Name) (ρ : CodeImages) → AreNamed names old → Carries S a s label → HasAssertion S a s → a < at
-      → n ≤ length old.stack → AreRead c.heads.now c.hypotheses.now (top n old.stack) ρ → DoFit S (images_of_names names ρ) c.hypotheses.now (map (decode names) (top n old.stack))
+      → n ≤ length old.stack → AreRead c.heads.now c.hypotheses (top n old.stack) ρ → DoFit S (images_of_names names ρ) c.hypotheses (map (decode names) (top n old.stack))
       → are_groups_apart (before S at) (images_of_names names ρ) (map (decode names) c.groups) ≡ true
       → Adds true old new (below n old.stack) (code_apply ρ c.conclusion.now)
       → Goes true S at names (Cite label) old new
@@ -56,28 +56,28 @@ module _ (S : Database) (names : List Name) (at a : ℕ) (s : Stmt) (c : Cited) 
       let count = length-top n old.stack many in
       let low = all-drop (length names) (length old.stack - n) old.stack an.stack_named in
       let τ = only (is_variable (before S a)) (images_of_names names ρ) in
-      let prem : premises S a s τ ≡ map (decode names) es = premises-read S names a s legal.distinct bound c.heads.now c.hypotheses.now is.asked es count ρ read fits in
+      let prem : premises S a s τ ≡ map (decode names) es = premises-read S names a s legal.distinct bound c.heads.now c.hypotheses is.asked es count ρ read fits in
       let away : are_groups_apart (before S at) τ (mandatory_groups (before S a) s) ≡ true
-      = apart-τ S names a s legal.distinct bound c.heads.now c.hypotheses.now is.asked es count ρ read (before S at) (mandatory_groups (before S a) s) ∙ (ap (are_groups_apart (before S at) (images_of_names names ρ)) (sym is.groups) ∙ apart) in
+      = apart-τ S names a s legal.distinct bound c.heads.now c.hypotheses is.asked es count ρ read (before S at) (mandatory_groups (before S a) s) ∙ (ap (are_groups_apart (before S at) (images_of_names names ρ)) (sym is.groups) ∙ apart) in
       let whole : map (decode names) old.stack ≡ map (decode names) (below n old.stack) ++ premises S a s τ
       = ap (map (decode names)) (halves n old.stack) ∙ (map-append (decode names) (below n old.stack) es ∙ ap (λ v. map (decode names) (below n old.stack) ++ v) (sym prem)) in
-      let gives : decode names e ≡ applied τ (expr_of s) = conclusion-named ρ ∙ sym (apply-τ S names a s legal.distinct bound c.heads.now c.hypotheses.now is.asked es count ρ read (expr_of s)) in (
+      let gives : decode names e ≡ applied τ (expr_of s) = conclusion-named ρ ∙ sym (apply-τ S names a s legal.distinct bound c.heads.now c.hypotheses is.asked es count ρ read (expr_of s)) in (
         (
           map (decode names) (below n old.stack),
           decode names e,
           of_assertion a s τ carries
-              (record { earlier = earlier; stands = has.0; assertion = has.1; of_variables = of_variables S names a s legal.distinct bound c.heads.now c.hypotheses.now is.asked es count ρ read; apart = away }) whole gives,
+              (record { earlier = earlier; stands = has.0; assertion = has.1; of_variables = of_variables S names a s legal.distinct bound c.heads.now c.hypotheses is.asked es count ρ read; apart = away }) whole gives,
           ap (named names) adds ∙ named-result names old (below n old.stack) e,
         ),
         subst (AreNamed names) (sym adds) (result-named names old (below n old.stack) e an (all-take (length names) (length old.stack - n) old.stack an.stack_named)
-            (apply-below names ρ c.conclusion.now (read-over S names a s legal.distinct bound c.heads.now c.hypotheses.now is.asked es count ρ read low) is.conclusion_below)),
+            (apply-below names ρ c.conclusion.now (read-over S names a s legal.distinct bound c.heads.now c.hypotheses is.asked es count ρ read low) is.conclusion_below)),
       )
 
   -- whatever the citation can give, the code finds
   meets : (old : Results ℕ) (σ : Images) (b : List Expr) (f : Expr) → AreNamed names old
       → IsInstance S at a s σ → map (decode names) old.stack ≡ b ++ premises S a s σ → f ≡ applied σ (expr_of s) → Meets S names at a c old.stack f
   meets old σ b f an fits whole gives =
-      let lp : length (premises S a s σ) ≡ n = length-premises S a s σ ∙ sym (asked-lengths S names _ c.heads.now c.hypotheses.now is.asked).1 in
+      let lp : length (premises S a s σ) ≡ n = length-premises S a s σ ∙ sym (asked-lengths S names _ c.heads.now c.hypotheses is.asked).1 in
       let ls = ap length whole in
       let la = length-append b (premises S a s σ) in
       let lm = length-map old.stack (decode names) in
@@ -89,11 +89,11 @@ module _ (S : Database) (names : List Name) (at a : ℕ) (s : Stmt) (c : Cited) 
       let low = all-drop (length names) (length old.stack - n) old.stack an.stack_named in
       record {
         many = many;
-        typed = premise-typed S names a s legal.distinct bound c.heads.now c.hypotheses.now is.asked es count low σ fits.of_variables (sym cut);
-        fits = λ ρ read. fits-agree S names a s legal.distinct bound c.heads.now c.hypotheses.now is.asked es count low σ fits.of_variables (sym cut) ρ read;
+        typed = premise-typed S names a s legal.distinct bound c.heads.now c.hypotheses is.asked es count low σ fits.of_variables (sym cut);
+        fits = λ ρ read. fits-agree S names a s legal.distinct bound c.heads.now c.hypotheses is.asked es count low σ fits.of_variables (sym cut) ρ read;
         apart = λ ρ read. ap (are_groups_apart (before S at) (images_of_names names ρ)) is.groups
-            ∙ (apart-agrees S names a s legal.distinct bound c.heads.now c.hypotheses.now is.asked es count low σ fits.of_variables (sym cut) ρ read (before S at) ∙ fits.apart);
-        gives = λ ρ read. gives ∙ (conclusion-agrees S names a s legal.distinct bound c.heads.now c.hypotheses.now is.asked es count low σ fits.of_variables (sym cut) ρ read ∙ sym (conclusion-named ρ));
+            ∙ (apart-agrees S names a s legal.distinct bound c.heads.now c.hypotheses is.asked es count low σ fits.of_variables (sym cut) ρ read (before S at) ∙ fits.apart);
+        gives = λ ρ read. gives ∙ (conclusion-agrees S names a s legal.distinct bound c.heads.now c.hypotheses is.asked es count low σ fits.of_variables (sym cut) ρ read ∙ sym (conclusion-named ρ));
       }
 
   -- every step by the label is one by this assertion
@@ -108,7 +108,7 @@ module _ (S : Database) (names : List Name) (at a : ℕ) (s : Stmt) (c : Cited) 
       meets old σ b f an (subst (λ u. IsInstance S at a u σ) e (subst (λ m. IsInstance S at m t σ) i fits))
       (whole ∙ (ap (λ m. b ++ premises S m t σ) i ∙ ap (λ u. b ++ premises S a u σ) e)) (gives ∙ ap (λ u. applied σ (expr_of u)) e)
 
-  pub goes-heavy : (old new : Results ℕ) (label : Name) (ρ : CodeImages) → AreNamed names old → Carries S a s label → HasAssertion S a s → AreRead c.heads.now c.hypotheses.now (top n old.stack) ρ
+  pub goes-heavy : (old new : Results ℕ) (label : Name) (ρ : CodeImages) → AreNamed names old → Carries S a s label → HasAssertion S a s → AreRead c.heads.now c.hypotheses (top n old.stack) ρ
       → Adds false old new (below n old.stack) (code_apply ρ c.conclusion.now) → Goes false S at names (Cite label) old new
   goes-heavy old new label ρ an carries has read heavy = λ next p.
       let m = meets-step old label p.0 p.1 an carries has p.2 in

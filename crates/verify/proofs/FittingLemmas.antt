@@ -1,6 +1,7 @@
 -- A result held against a `$e` with the images put in, by numbers and by names.
-use Rattle.std.specs.Prelude.{◌≡◌, ℕ, zero, suc, ◌<◌, ◌↔◌, Bool, IsTrue, List, [], ◌∷◌, length, get_or, Some}
-use Rattle.std.proofs.Common.{sym, ◌∙◌, ap, arith}
+use Rattle.std.specs.Prelude.{◌≡◌, ℕ, zero, suc, ◌<◌, ◌↔◌, Bool, IsTrue, List, [], ◌∷◌, slice_get, Some}
+use Rattle.std.proofs.Common.{sym, ◌∙◌, ap, subst, length}
+use Rattle.std.proofs.lemmas.Option.{same_Some}
 use Rattle.mm_lex.specs.Alphabet.{Name}
 use Rattle.mm_read.specs.declared.stmt.Stmt.{Stmt}
 use Rattle.mm_read.specs.Statements.{Database}
@@ -25,7 +26,7 @@ essential-iff S names ρ q s r e b distinct stands same below over low h =
       λ d. h.1 (decode-injective names r (code_apply ρ e) distinct low (apply-below names ρ e over below) (d ∙ sym whole)),
     )
 
-pub standing-at : (S : Database) (hs : List Hypothesis) (k : ℕ) (d : Hypothesis) → AreStanding S hs → k < length hs → IsStanding S (get_or hs k d)
-standing-at S [] k d a h = absurd (omega (arith, h))
-standing-at S (x ∷ hs) zero d a h = a.0
-standing-at S (x ∷ hs) (suc k) d a h = standing-at S hs k d a.1 (omega (arith, h))
+pub standing-at : (S : Database) (hs : List Hypothesis) (k : ℕ) (h : Hypothesis) → AreStanding S hs → slice_get hs k ≡ Some h → IsStanding S h
+standing-at S [] k h a e = absurd (cc)
+standing-at S (x ∷ hs) zero h a e = subst (IsStanding S) (same_Some x h e) a.0
+standing-at S (x ∷ hs) (suc k) h a e = standing-at S hs k h a.1 e

@@ -36,7 +36,7 @@ module _ (S : Database) (names : List Name) (at : ℕ) (legal : AreLegal S names
   module _ (old new : Results ℕ) (an : AreNamed names old) where
     module _ (label : Name) (a : ℕ) (c : Cited) (s : Stmt) (carries : Carries S a s label) (has : HasAssertion S a s) (bound : IsBound S a s) (is : IsCited S names a s c) where
       abbrev n : ℕ
-      n = length c.hypotheses.now
+      n = length c.hypotheses
 
       -- a citation whose results do not meet the assertion has no step
       not_cited : ((f : Expr) → Meets S names at a c old.stack f → ⊥) → Goes false S at names (Cite label) old new
@@ -45,23 +45,23 @@ module _ (S : Database) (names : List Name) (at : ℕ) (legal : AreLegal S names
       pub assertion-few : length old.stack < n → Goes false S at names (Cite label) old new
       assertion-few h = not_cited (λ f m. (let many = m.many in omega (arith, h, many)))
 
-      pub assertion-untyped : (σ : CodeImages) → Reads false c.heads.now c.hypotheses.now (top n old.stack) σ → Goes false S at names (Cite label) old new
+      pub assertion-untyped : (σ : CodeImages) → Reads false c.heads.now c.hypotheses (top n old.stack) σ → Goes false S at names (Cite label) old new
       assertion-untyped σ r = not_cited (λ f m. r.3 (m.typed r.0 r.1 r.2))
 
-      module _ (ρ : CodeImages) (read : AreRead c.heads.now c.hypotheses.now (top n old.stack) ρ) where
-        pub assertion-unfit : (DoFit S (images_of_names names ρ) c.hypotheses.now (map (decode names) (top n old.stack)) → ⊥) → Goes false S at names (Cite label) old new
+      module _ (ρ : CodeImages) (read : AreRead c.heads.now c.hypotheses (top n old.stack) ρ) where
+        pub assertion-unfit : (DoFit S (images_of_names names ρ) c.hypotheses (map (decode names) (top n old.stack)) → ⊥) → Goes false S at names (Cite label) old new
         assertion-unfit h = not_cited (λ f m. h (m.fits ρ read))
 
         pub assertion-clash : are_groups_apart (before S at) (images_of_names names ρ) (map (decode names) c.groups) ≡ false → Goes false S at names (Cite label) old new
         assertion-clash h = not_cited (λ f m. (let e : true ≡ false = sym (m.apart ρ read) ∙ h in cc))
 
-        assertion-by : (ok : Bool) → a < at → n ≤ length old.stack → DoFit S (images_of_names names ρ) c.hypotheses.now (map (decode names) (top n old.stack))
+        assertion-by : (ok : Bool) → a < at → n ≤ length old.stack → DoFit S (images_of_names names ρ) c.hypotheses (map (decode names) (top n old.stack))
             → are_groups_apart (before S at) (images_of_names names ρ) (map (decode names) c.groups) ≡ true
             → Adds ok old new (below n old.stack) (code_apply ρ c.conclusion.now) → Goes ok S at names (Cite label) old new
         assertion-by true earlier many fits apart adds = goes-assertion S names at a s c legal bound is old new label ρ an carries has earlier many read fits apart adds
         assertion-by false earlier many fits apart adds = goes-heavy S names at a s c legal bound is old new label ρ an carries has read adds
 
-        pub assertion-result : (r : Result Bool AllocError) → a < at → n ≤ length old.stack → DoFit S (images_of_names names ρ) c.hypotheses.now (map (decode names) (top n old.stack))
+        pub assertion-result : (r : Result Bool AllocError) → a < at → n ≤ length old.stack → DoFit S (images_of_names names ρ) c.hypotheses (map (decode names) (top n old.stack))
             → are_groups_apart (before S at) (images_of_names names ρ) (map (decode names) c.groups) ≡ true
             → IfOk r (λ ok. Adds ok old new (below n old.stack) (code_apply ρ c.conclusion.now)) → IfOk r (λ ok. Goes ok S at names (Cite label) old new)
         assertion-result (Err e) earlier many fits apart adds = tt

@@ -79,10 +79,10 @@ fn cite_parts(
     if count > results.len() {
         return Ok(false);
     }
-    if !results.read_images(cited.heads, cited.hypotheses)? {
+    if !results.read_images(cited.heads, &cited.hypotheses)? {
         return Ok(false);
     }
-    if !results.fits(frames, cited.hypotheses) {
+    if !results.fits(frames, &cited.hypotheses) {
         return Ok(false);
     }
     if !results.are_apart(pairs, &cited.groups, findings) {

@@ -9,7 +9,7 @@ ghost use Rattle.subst.specs.Images.{AreOver};
 ghost use Rattle.subst.specs.ExpressionPlaces.{seen_at, images_at, AreWithin, AreInside};
 ghost use Rattle.verify.specs.Fits.{IsStanding, AreStanding, FitsOne, DoFit};
 
-use entries::Hypothesis;
+use entries::{Hypotheses, Hypothesis};
 use frame::Frames;
 use subst::{ExpressionPlace, ImagePlaces, matches, symbols_at};
 
@@ -43,7 +43,7 @@ pub fn all_fit(
     frames: &Frames,
     symbols: &[u32],
     images: &ImagePlaces,
-    hypotheses: &[Hypothesis],
+    hypotheses: &Hypotheses<'_>,
     places: &[ExpressionPlace],
 ) -> bool
     requires legal { AreLegal frames.now.statements frames.now.names }
@@ -55,8 +55,8 @@ pub fn all_fit(
     requires named { AllBelow (length frames.now.names) (map (seen_at symbols.now) places.now) }
     ensures { IsTrue result ↔ DoFit frames.now.statements (images_of_names frames.now.names (images_at symbols.now images.now)) hypotheses.now (map (decode frames.now.names) (map (seen_at symbols.now) places.now)) }
 {
-    for (k, hypothesis) in hypotheses.iter().enumerate() {
-        if !fits_one(frames, symbols, images, *hypothesis, places[k]) {
+    for k in 0..hypotheses.len() {
+        if !fits_one(frames, symbols, images, hypotheses.get(k), places[k]) {
             return false;
         }
     }

@@ -5,7 +5,7 @@ ghost use Rattle.subst.specs.ExpressionPlaces.{AreWithin, AreInside};
 ghost use Rattle.verify.specs.Fits.{AreDifferent};
 ghost use Rattle.verify.specs.ReadPlaces.{ReadsOne, ReadsAll};
 
-use entries::Hypothesis;
+use entries::{Hypotheses, Hypothesis};
 use std::alloc::AllocError;
 use subst::{ExpressionPlace, ImagePlaces};
 
@@ -47,7 +47,7 @@ pub fn read_off(
     images: &mut ImagePlaces,
     symbols: &[u32],
     heads: &[u32],
-    hypotheses: &[Hypothesis],
+    hypotheses: &Hypotheses<'_>,
     places: &[ExpressionPlace],
 ) -> Result<bool, AllocError>
     requires same { length places.now ≡ length hypotheses.now }
@@ -58,8 +58,8 @@ pub fn read_off(
     ensures inside { (n : ℕ) → AreWithin n places.now → AreInside n images.new }
 {
     images.clear();
-    for (k, hypothesis) in hypotheses.iter().enumerate() {
-        if !read_one(images, symbols, heads[k], *hypothesis, places[k])? {
+    for k in 0..hypotheses.len() {
+        if !read_one(images, symbols, heads[k], hypotheses.get(k), places[k])? {
             return Ok(false);
         }
     }

@@ -15,7 +15,7 @@ ghost use Rattle.verify.specs.Right.{weight_limit};
 
 use crate::fitting::all_fit;
 use crate::reading_off::read_off;
-use entries::{Groups, Hypothesis};
+use entries::{Groups, Hypotheses};
 use frame::{Frames, Pairs};
 use std::alloc::{AllocError, Global};
 use std::marker::Model;
@@ -95,6 +95,7 @@ impl Results {
     }
 
     /// Marks the last result.
+    #[inline(always)]
     pub fn mark(&mut self) -> Result<bool, AllocError>
         ensures { IfOk result (λ ok. Marks ok self.old.results self.new.results) }
     {
@@ -109,6 +110,7 @@ impl Results {
     }
 
     /// Whether a result with symbols is saved at that index.
+    #[inline(always)]
     pub fn has(&self, index: usize) -> bool
         ensures within { IsTrue result → index < length self.now.results.saved }
         ensures some { IsTrue result → 0 < length (get_or self.now.results.saved index []) }
@@ -121,6 +123,7 @@ impl Results {
     }
 
     /// Puts the result that is saved at that index on top, if there is one and it is light enough.
+    #[inline(always)]
     pub fn recall(&mut self, index: usize) -> Result<bool, AllocError>
         ensures { IfOk result (λ ok. Recalls ok self.old.results self.new.results (suc index)) }
     {
@@ -142,7 +145,7 @@ impl Results {
     pub fn read_images(
         &mut self,
         heads: &[u32],
-        hypotheses: &[Hypothesis],
+        hypotheses: &Hypotheses<'_>,
     ) -> Result<bool, AllocError>
         requires same { length heads.now ≡ length hypotheses.now }
         requires count { length hypotheses.now ≤ length self.old.results.stack }
@@ -161,7 +164,7 @@ impl Results {
     }
 
     /// Whether the last results are the expressions of the `$e` with the images put in.
-    pub fn fits(&self, frames: &Frames, hypotheses: &[Hypothesis]) -> bool
+    pub fn fits(&self, frames: &Frames, hypotheses: &Hypotheses<'_>) -> bool
         requires legal { AreLegal frames.now.statements frames.now.names }
         requires standing { AreStanding frames.now.statements hypotheses.now }
         requires count { length hypotheses.now ≤ length self.now.results.stack }

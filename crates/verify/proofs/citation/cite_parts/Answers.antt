@@ -33,25 +33,26 @@ fit-as : (b : Bool) (S : Database) (names : List Name) (σ : CodeImages) (hs : L
     → IsTrue b ↔ DoFit S (images_of_names names σ) hs (map (decode names) (top (length hs) stack)) → IsTrue b ↔ DoFit S (images_of_names names σ) hs (map (decode names) (top (length hs) stack'))
 fit-as b S names σ hs stack stack' e h = subst (λ v. IsTrue b ↔ DoFit S (images_of_names names σ) hs (map (decode names) (top (length hs) v))) e h
 
-adds-as : (r : Result Bool AllocError) (old old' new : Results ℕ) (n : ℕ) (e : List ℕ) → old ≡ old' → IfOk r (λ ok. Adds ok old new (below n old.stack) e) → IfOk r (λ ok. Adds ok old' new (below n old'.stack) e)
-adds-as r old old' new n e same h = subst (λ (v : Results ℕ). IfOk r (λ ok. Adds ok v new (below n v.stack) e)) same h
+adds-as : (r : Result Bool AllocError) (old old' new : Results ℕ) (m n : ℕ) (e : List ℕ) → old ≡ old' → m ≡ n → IfOk r (λ ok. Adds ok old new (below m old.stack) e) → IfOk r (λ ok. Adds ok old' new (below n old'.stack) e)
+adds-as r old old' new m n e same count h =
+    subst (λ (v : Results ℕ). IfOk r (λ ok. Adds ok v new (below n v.stack) e)) same (subst (λ k. IfOk r (λ ok. Adds ok old new (below k old.stack) e)) count h)
 
 pub read_images-requires-clause-same : goal.read_images-requires-clause-same
 read_images-requires-clause-same c =
     let cited = c.requires.cited c.requires.assertion.0 c.requires.assertion.1.0 in
-    let l = asked-lengths c.args.frames.now.statements c.args.frames.now.names _ c.args.cited.now.heads.now c.args.cited.now.hypotheses.now cited.asked in
+    let l = asked-lengths c.args.frames.now.statements c.args.frames.now.names _ c.args.cited.now.heads.now c.args.cited.now.hypotheses cited.asked in
     l.0 ∙ sym l.1
 
 pub read_images-requires-clause-different : goal.read_images-requires-clause-different
 read_images-requires-clause-different c =
     let cited = c.requires.cited c.requires.assertion.0 c.requires.assertion.1.0 in
-    asked-different c.args.frames.now.statements c.args.frames.now.names c.args.position c.requires.assertion.0 c.args.cited.now.heads.now c.args.cited.now.hypotheses.now
+    asked-different c.args.frames.now.statements c.args.frames.now.names c.args.position c.requires.assertion.0 c.args.cited.now.heads.now c.args.cited.now.hypotheses
     (c.requires.legal.bound _ c.requires.assertion.0 c.requires.assertion.1) cited.asked
 
 pub fits-requires-clause-standing : goal.fits-requires-clause-standing
 fits-requires-clause-standing c =
     let cited = c.requires.cited c.requires.assertion.0 c.requires.assertion.1.0 in
-    asked-standing c.args.frames.now.statements c.args.frames.now.names _ c.args.cited.now.heads.now c.args.cited.now.hypotheses.now cited.asked
+    asked-standing c.args.frames.now.statements c.args.frames.now.names _ c.args.cited.now.heads.now c.args.cited.now.hypotheses cited.asked
 
 pub fits-requires-clause-over : goal.fits-requires-clause-over
 fits-requires-clause-over c =
@@ -59,8 +60,8 @@ fits-requires-clause-over c =
     let names = c.args.frames.now.names in
     let cited = c.requires.cited c.requires.assertion.0 c.requires.assertion.1.0 in
     let stack = c.args.results.now.results.stack in
-    let n = length c.args.cited.now.hypotheses.now in
-    read-over S names c.args.position c.requires.assertion.0 c.requires.legal.distinct (c.requires.legal.bound _ c.requires.assertion.0 c.requires.assertion.1) c.args.cited.now.heads.now c.args.cited.now.hypotheses.now
+    let n = length c.args.cited.now.hypotheses in
+    read-over S names c.args.position c.requires.assertion.0 c.requires.legal.distinct (c.requires.legal.bound _ c.requires.assertion.0 c.requires.assertion.1) c.args.cited.now.heads.now c.args.cited.now.hypotheses
     cited.asked (top n stack) (length-top n stack (let h = c.if-count-len.false in omega (arith, h, c.len.ensures)))
     c.read_images.new.self.images (reads-as _ true _ _ _ _ c.if-not-branch.false c.in_ok-read_images.ensures.read) (all-drop (length names) (length stack - n) stack c.requires.named.stack_named)
 
@@ -70,9 +71,9 @@ are_apart-requires-clause-over c =
     let names = c.args.frames.now.names in
     let cited = c.requires.cited c.requires.assertion.0 c.requires.assertion.1.0 in
     let stack = c.args.results.now.results.stack in
-    let n = length c.args.cited.now.hypotheses.now in
+    let n = length c.args.cited.now.hypotheses in
     subst (λ v. AreOver v c.read_images.new.self.images) (sym c.requires.names)
-    (read-over S names c.args.position c.requires.assertion.0 c.requires.legal.distinct (c.requires.legal.bound _ c.requires.assertion.0 c.requires.assertion.1) c.args.cited.now.heads.now c.args.cited.now.hypotheses.now
+    (read-over S names c.args.position c.requires.assertion.0 c.requires.legal.distinct (c.requires.legal.bound _ c.requires.assertion.0 c.requires.assertion.1) c.args.cited.now.heads.now c.args.cited.now.hypotheses
     cited.asked (top n stack) (length-top n stack (let h = c.if-count-len.false in omega (arith, h, c.len.ensures)))
     c.read_images.new.self.images (reads-as _ true _ _ _ _ c.if-not-branch.false c.in_ok-read_images.ensures.read) (all-drop (length names) (length stack - n) stack c.requires.named.stack_named))
 
@@ -111,10 +112,10 @@ returns-clause-goes c = λ label s carries.
     c.apply.result c.requires.earlier (let h = c.if-count-len.false in omega (arith, h, c.len.ensures))
     ((fit-as _ _ _ _ _ _ _ (ap (λ (v : Results ℕ). v.stack) c.in_ok-read_images.ensures.same) c.fits.ensures).0 c.if-not-fits.false)
     (apart-by _ _ _ _ _ c.read_images.new.self.images c.args.cited.now.groups _ c.requires.active c.requires.names c.are_apart.ensures.apart c.if-not-are_apart.false)
-    (adds-as _ c.read_images.new.self.results _ _ _ _ c.in_ok-read_images.ensures.same c.apply.ensures)
+    (adds-as _ c.read_images.new.self.results _ _ _ _ _ c.in_ok-read_images.ensures.same c.len-count.ensures c.apply.ensures)
 
 pub returns-clause-saved : goal.returns-clause-saved
-returns-clause-saved c = saved-same c.args.results.now.results _ _ _ c.apply.result (adds-as _ c.read_images.new.self.results _ _ _ _ c.in_ok-read_images.ensures.same c.apply.ensures)
+returns-clause-saved c = saved-same c.args.results.now.results _ _ _ c.apply.result (adds-as _ c.read_images.new.self.results _ _ _ _ _ c.in_ok-read_images.ensures.same c.len-count.ensures c.apply.ensures)
 
 pub are_apart-requires-clause-below : goal.are_apart-requires-clause-below
 are_apart-requires-clause-below c =

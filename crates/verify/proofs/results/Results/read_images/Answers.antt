@@ -1,6 +1,6 @@
 use Rattle.std.specs.Prelude.{◌≡◌, ℕ, ◌-◌, ◌≤◌, Bool, List, Result, Ok, Err, IfOk, length, map, take, drop, refl}
 use Rattle.std.specs.declared.alloc.AllocError.{AllocError}
-use Rattle.std.proofs.Common.{arith, ap, subst}
+use Rattle.std.proofs.Common.{arith, ap, subst, ◌∙◌}
 use Rattle.std.proofs.lemmas.List.{length-map}
 use Rattle.subst.specs.declared.expression_place.ExpressionPlace.{ExpressionPlace}
 use Rattle.subst.specs.ExpressionPlaces.{seen_at, images_at, AreWithin}
@@ -28,17 +28,24 @@ invariant_of-self c =
 
 pub read_off-requires-clause-same : goal.read_off-requires-clause-same
 read_off-requires-clause-same c =
-    let few = few_of c.self.inside.symbols c.self.inside.stack.items c.args.self.now.results.stack (length c.args.hypotheses.now) (ap (λ v. v.results.stack) c.self.view_is) c.requires.count in
-    rw (c.deref.ensures.value) (last-count (c.len.result - length c.args.hypotheses.now) (length c.args.hypotheses.now) c.self.inside.stack.items few (omega (arith, c.len.ensures)))
+    let m = c.len-2.result in
+    let few = few_of c.self.inside.symbols c.self.inside.stack.items c.args.self.now.results.stack m (ap (λ v. v.results.stack) c.self.view_is) (omega (arith, c.requires.count, c.len-2.ensures)) in
+    let last : length (take (length c.deref.result.now - (c.len.result - m)) (drop (c.len.result - m) c.deref.result.now)) ≡ m
+    = rw (c.deref.ensures.value) (last-count (c.len.result - m) m c.self.inside.stack.items few (omega (arith, c.len.ensures))) in
+    last ∙ c.len-2.ensures
 
 pub returns-clause-read : goal.returns-clause-read
 returns-clause-read c =
+    let m = c.len-2.result in
+    let few = few_of c.self.inside.symbols c.self.inside.stack.items c.args.self.now.results.stack m (ap (λ v. v.results.stack) c.self.view_is) (omega (arith, c.requires.count, c.len-2.ensures)) in
+    let last : length (take (length c.deref.result.now - (c.len.result - m)) (drop (c.len.result - m) c.deref.result.now)) ≡ m
+    = rw (c.deref.ensures.value) (last-count (c.len.result - m) m c.self.inside.stack.items few (omega (arith, c.len.ensures))) in
     let n = length c.args.hypotheses.now in
-    let few = few_of c.self.inside.symbols c.self.inside.stack.items c.args.self.now.results.stack n (ap (λ v. v.results.stack) c.self.view_is) c.requires.count in
-    reads-result c.read_off.result c.self.inside.symbols c.as_slice.result.now c.args.heads.now c.args.hypotheses.now (take (length c.deref.result.now - (c.len.result - n)) (drop (c.len.result - n) c.deref.result.now)) _ (top n c.args.self.now.results.stack) c.as_slice.ensures.symbols
-    (rw (c.deref.ensures.value) (last-count (c.len.result - n) n c.self.inside.stack.items few (omega (arith, c.len.ensures))))
+    reads-result c.read_off.result c.self.inside.symbols c.as_slice.result.now c.args.heads.now c.args.hypotheses.now (take (length c.deref.result.now - (c.len.result - m)) (drop (c.len.result - m) c.deref.result.now)) _ (top n c.args.self.now.results.stack) c.as_slice.ensures.symbols
+    (last ∙ c.len-2.ensures)
     (rw (c.deref.ensures.value) (last-within _ _ _ c.self.invariant.stack_within))
-    (seen_eq c.self.inside.symbols c.self.inside.symbols c.self.inside.stack.items c.deref.result.now c.args.self.now.results.stack (c.len.result - n) n refl c.deref.ensures.value (ap (λ v. v.results.stack) c.self.view_is) (omega (arith, c.len.ensures)))
+    (seen_eq c.self.inside.symbols c.self.inside.symbols c.self.inside.stack.items c.deref.result.now c.args.self.now.results.stack (c.len.result - m) m refl c.deref.ensures.value (ap (λ v. v.results.stack) c.self.view_is) (omega (arith, c.len.ensures))
+    ∙ ap (λ k. top k c.args.self.now.results.stack) c.len-2.ensures)
     c.read_off.ensures.ok
 
 pub read_off-requires-clause-within : goal.read_off-requires-clause-within
