@@ -169,7 +169,7 @@ fn conclude(
     ensures told { (s : Statement) → stmt_at frames.now.statements a ≡ Some s
         → IfOk result (IsConcluded frames.now.statements frames.now.names at a s (named frames.now.names results.now) room) }
 {
-    let images = read_images(alloc, cited.hypotheses, results)?;
+    let images = read_images(alloc, &cited.hypotheses, results)?;
     if let Some(fault) = find_other(alloc, frames, a, mandatory, cited, results, &images)? {
         return Ok(Concluded::Wrong(fault));
     }
@@ -220,7 +220,7 @@ fn find_other(
         if asked.as_slice() != result {
             let result = Vec::from_slice(alloc, result)?;
             return Ok(Some(other(
-                cited.hypotheses[k],
+                cited.hypotheses.get(k),
                 cited.heads[k],
                 a,
                 hypothesis,

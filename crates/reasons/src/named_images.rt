@@ -5,7 +5,7 @@ ghost use Rattle.frame.specs.Substitution.{code_image, code_apply};
 ghost use Rattle.reasons.specs.Stored.Vectors.{codes, AreSymbols, AreImages, code_images};
 ghost use Rattle.reasons.specs.ReadImages.{codes_read};
 
-use entries::Hypothesis;
+use entries::{Hypotheses, Hypothesis};
 use std::alloc::{AllocError, Global};
 
 /// What a variable stands for.
@@ -18,7 +18,7 @@ pub struct Image {
 /// The images that results give: the result for a `$f`, without its constant, is that of its variable.
 pub fn read_images(
     alloc: Global,
-    kinds: &[Hypothesis],
+    kinds: &Hypotheses<'_>,
     results: &[Vec<u32>],
 ) -> Result<Vec<Image>, AllocError>
     requires { length kinds.now ≡ length results.now }
@@ -27,7 +27,7 @@ pub fn read_images(
 {
     let mut images = Vec::new(alloc);
     for k in 0..kinds.len() {
-        if let Hypothesis::Float(variable) = kinds[k] {
+        if let Hypothesis::Float(variable) = kinds.get(k) {
             let symbols = Vec::from_slice(alloc, behind_first(results[k].as_slice()))?;
             images.push(Image { variable, symbols })?;
         }

@@ -105,7 +105,7 @@ module _ (S : Database) (at : ℕ) (names : List Name) (legal : AreLegal S names
 
   module _ (a : ℕ) (s : Stmt) (c : Cited) (carries : Carries S a s label) (has : HasAssertion S a s) (earlier : a < at) (cited : IsCited S names a s c) (next : State) (run : Steps S at st (Cite label) next) where
     abbrev n : ℕ
-    n = length c.hypotheses.now
+    n = length c.hypotheses
 
     abbrev rows' : List Row
     rows' = rows_of d
@@ -149,14 +149,14 @@ module _ (S : Database) (at : ℕ) (names : List Name) (legal : AreLegal S names
     top-codes = top-map (codes_in d) n d.stack.items
 
     -- the code for a `$f` begins with the symbol that it asks for
-    pub typed : (k x : ℕ) → slice_get c.hypotheses.now k ≡ Some (Float x) → IsTyped (get_or c.heads.now k 0) (get_or (map (codes_in d) (top n d.stack.items)) k [])
+    pub typed : (k x : ℕ) → slice_get c.hypotheses k ≡ Some (Float x) → IsTyped (get_or c.heads.now k 0) (get_or (map (codes_in d) (top n d.stack.items)) k [])
     typed k x kind = subst (λ es. IsTyped (get_or c.heads.now k 0) (get_or es k [])) top-codes (meets'.typed k x kind)
 
     abbrev a_step : Step
     a_step = record { position = a; taken = top n d.stack.items }
 
     hypotheses-count : n ≡ length (hypotheses (before S a) s)
-    hypotheses-count = (asked-lengths S names (hypotheses (before S a) s) c.heads.now c.hypotheses.now cited.asked).1
+    hypotheses-count = (asked-lengths S names (hypotheses (before S a) s) c.heads.now c.hypotheses cited.asked).1
 
     record Instance : Type 0 where
       images : Images
@@ -210,18 +210,18 @@ module _ (S : Database) (at : ℕ) (names : List Name) (legal : AreLegal S names
         let takes2 = takes1 ∙ ap (λ u. premises S a u σ) same in
         is' ∙ (ap (λ u. applied σ (expr_of u)) same ∙ (legal.single at a s σ instance.images fits2 instance.fits (sym takes2 ∙ instance.takes) ∙ sym instance.gives))
 
-    made-step : (ρ : CodeImages) → AreRead c.heads.now c.hypotheses.now (map (codes_in d) (top n d.stack.items)) ρ → decode names (code_apply ρ c.conclusion.now) ≡ run.1
-    made-step ρ read = sym (meets'.gives ρ (subst (λ es. AreRead c.heads.now c.hypotheses.now es ρ) (sym top-codes) read))
+    made-step : (ρ : CodeImages) → AreRead c.heads.now c.hypotheses (map (codes_in d) (top n d.stack.items)) ρ → decode names (code_apply ρ c.conclusion.now) ≡ run.1
+    made-step ρ read = sym (meets'.gives ρ (subst (λ es. AreRead c.heads.now c.hypotheses es ρ) (sym top-codes) read))
 
-    made-follows : (ρ : CodeImages) → AreRead c.heads.now c.hypotheses.now (map (codes_in d) (top n d.stack.items)) ρ → Follows S at names rows' (record { step = a_step; expr = code_apply ρ c.conclusion.now })
+    made-follows : (ρ : CodeImages) → AreRead c.heads.now c.hypotheses (map (codes_in d) (top n d.stack.items)) ρ → Follows S at names rows' (record { step = a_step; expr = code_apply ρ c.conclusion.now })
     made-follows ρ read = from_assertion s instance.images instance.fits instance.takes (made-step ρ read ∙ instance.gives)
 
-    made-coded : (ρ : CodeImages) → AreRead c.heads.now c.hypotheses.now (map (codes_in d) (top n d.stack.items)) ρ → AreBelow (length names) (code_apply ρ c.conclusion.now)
+    made-coded : (ρ : CodeImages) → AreRead c.heads.now c.hypotheses (map (codes_in d) (top n d.stack.items)) ρ → AreBelow (length names) (code_apply ρ c.conclusion.now)
     made-coded ρ read =
         let es = map (codes_in d) (top n d.stack.items) in
-        let len : length es ≡ length c.hypotheses.now = length-map (top n d.stack.items) (codes_in d) ∙ length-top n d.stack.items many in
+        let len : length es ≡ length c.hypotheses = length-map (top n d.stack.items) (codes_in d) ∙ length-top n d.stack.items many in
         apply-below names ρ c.conclusion.now
-        (read-over S names a s legal.distinct bound c.heads.now c.hypotheses.now cited.asked es len ρ read (codes-named S at names rows' (top n d.stack.items) is.rows (in_rows (top n d.stack.items) low_top)))
+        (read-over S names a s legal.distinct bound c.heads.now c.hypotheses cited.asked es len ρ read (codes-named S at names rows' (top n d.stack.items) is.rows (in_rows (top n d.stack.items) low_top)))
         cited.conclusion_below
 
     makes-step : table.Makes S at label d.stack.items (below n d.stack.items) a_step
@@ -247,8 +247,8 @@ module _ (S : Database) (at : ℕ) (names : List Name) (legal : AreLegal S names
     assertion-done new gives = subst (IsNoted S at names d label new) (sym run.3) (done' new gives)
 
     pub heads-count : length c.heads.now ≡ n
-    heads-count = let l = asked-lengths S names (hypotheses (before S a) s) c.heads.now c.hypotheses.now cited.asked in l.0 ∙ sym l.1
+    heads-count = let l = asked-lengths S names (hypotheses (before S a) s) c.heads.now c.hypotheses cited.asked in l.0 ∙ sym l.1
 
     -- no two of its `$f` are of one variable
-    pub different : AreDifferent c.hypotheses.now
-    different = asked-different S names a s c.heads.now c.hypotheses.now bound cited.asked
+    pub different : AreDifferent c.hypotheses
+    different = asked-different S names a s c.heads.now c.hypotheses bound cited.asked

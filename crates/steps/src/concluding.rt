@@ -19,13 +19,13 @@ pub fn conclude(
     cited: &Cited<'_>,
     places: &[ExpressionPlace],
 ) -> Result<ExpressionPlace, AllocError>
-    requires same { length places.now ≡ length cited.now.hypotheses.now }
-    requires heads { length cited.now.heads.now ≡ length cited.now.hypotheses.now }
+    requires same { length places.now ≡ length cited.now.hypotheses }
+    requires heads { length cited.now.heads.now ≡ length cited.now.hypotheses }
     requires within { AreWithin (length symbols.old) places.now }
-    requires different { AreDifferent cited.now.hypotheses.now }
-    requires typed { (k x : ℕ) → slice_get cited.now.hypotheses.now k ≡ Some (Float x)
+    requires different { AreDifferent cited.now.hypotheses }
+    requires typed { (k x : ℕ) → slice_get cited.now.hypotheses k ≡ Some (Float x)
         → IsTyped (get_or cited.now.heads.now k 0) (get_or (map (seen_at symbols.old) places.now) k []) }
-    ensures added { OnOk result ((ρ : CodeImages) × AreRead cited.now.heads.now cited.now.hypotheses.now (map (seen_at symbols.old) places.now) ρ
+    ensures added { OnOk result ((ρ : CodeImages) × AreRead cited.now.heads.now cited.now.hypotheses (map (seen_at symbols.old) places.now) ρ
         × (symbols.new ≡ symbols.old ++ code_apply ρ cited.now.conclusion.now)) }
     ensures place { IfOk result (λ place. (place.start ≡ length symbols.old) × (place.end ≡ length symbols.new)) }
 {
@@ -34,7 +34,7 @@ pub fn conclude(
         images,
         symbols.as_slice(),
         cited.heads,
-        cited.hypotheses,
+        &cited.hypotheses,
         places,
     )? {
         unreachable!();

@@ -7,22 +7,22 @@ ghost use Rattle.steps.specs.Stored.Marked.{taken_by, mark_each, mark_last, AreM
 
 use crate::noting::cited_at;
 use crate::steps_table::ProofTable;
-use entries::Hypothesis;
+use entries::{Hypotheses, Hypothesis};
 use frame::{Frames, Gathered, Meaning};
 use std::alloc::{AllocError, Global};
 
 /// Those of the places that are taken for a `$e`.
 fn premises_among(
     alloc: Global,
-    hypotheses: &[Hypothesis],
+    hypotheses: &Hypotheses<'_>,
     taken: &[usize],
 ) -> Result<Vec<usize>, AllocError>
     requires { length taken.now ≡ length hypotheses.now }
     ensures { IfOk result (λ list. list.items ≡ taken_by hypotheses.now taken.now) }
 {
     let mut list = Vec::new(alloc);
-    for (k, hypothesis) in hypotheses.iter().enumerate() {
-        match *hypothesis {
+    for k in 0..hypotheses.len() {
+        match hypotheses.get(k) {
             Hypothesis::Float(_) => {}
             Hypothesis::Essential(_) => list.push(taken[k])?,
         }
@@ -48,7 +48,7 @@ fn premises_of(
     match frames.meaning(at, position) {
         Meaning::Assertion => {
             let cited = cited_at(frames, position, gathered)?;
-            premises_among(alloc, cited.hypotheses, table.taken(place))
+            premises_among(alloc, &cited.hypotheses, table.taken(place))
         }
         Meaning::Hypothesis(_) => Ok(Vec::new(alloc)),
         Meaning::Nothing => unreachable!(),

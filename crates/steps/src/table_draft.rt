@@ -132,11 +132,11 @@ pub fn cite_parts(
     cited: &Cited<'_>,
 ) -> Result<(), AllocError>
     requires held { AreHeld draft.old }
-    requires many { length cited.now.hypotheses.now ≤ length draft.old.stack.items }
-    requires heads { length cited.now.heads.now ≡ length cited.now.hypotheses.now }
-    requires different { AreDifferent cited.now.hypotheses.now }
-    requires typed { (k x : ℕ) → slice_get cited.now.hypotheses.now k ≡ Some (Float x)
-        → IsTyped (get_or cited.now.heads.now k 0) (get_or (map (codes_in draft.old) (top (length cited.now.hypotheses.now) draft.old.stack.items)) k []) }
+    requires many { length cited.now.hypotheses ≤ length draft.old.stack.items }
+    requires heads { length cited.now.heads.now ≡ length cited.now.hypotheses }
+    requires different { AreDifferent cited.now.hypotheses }
+    requires typed { (k x : ℕ) → slice_get cited.now.hypotheses k ≡ Some (Float x)
+        → IsTyped (get_or cited.now.heads.now k 0) (get_or (map (codes_in draft.old) (top (length cited.now.hypotheses) draft.old.stack.items)) k []) }
     ensures { OnOk result (GivesAssertion draft.old draft.new position cited.now) }
 {
     let kept = draft.stack.len() - cited.hypotheses.len();

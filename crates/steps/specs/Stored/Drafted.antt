@@ -128,8 +128,8 @@ GivesHypothesis old new position e =
 -- an assertion takes as many results as it has hypotheses, and its images are read off them
 abbrev pub GivesAssertion : TableDraft → TableDraft → ℕ → Cited → Type 0
 GivesAssertion old new position cited =
-    let n = length cited.hypotheses.now in
+    let n = length cited.hypotheses in
     let step : Step = record { position = position; taken = top n old.stack.items } in
     Finds old new step (below n old.stack.items)
-    ⊎ ((ρ : CodeImages) × AreRead cited.heads.now cited.hypotheses.now (map (codes_in old) (top n old.stack.items)) ρ
+    ⊎ ((ρ : CodeImages) × AreRead cited.heads.now cited.hypotheses (map (codes_in old) (top n old.stack.items)) ρ
     × Makes old new step (below n old.stack.items) (code_apply ρ cited.conclusion.now))

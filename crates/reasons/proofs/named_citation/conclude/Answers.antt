@@ -15,7 +15,7 @@ pub read_images-requires : goal.read_images-requires
 read_images-requires c =
     let s = c.requires.assertion.0 in let e = c.requires.assertion.1.0 in
     let S = c.args.frames.now.statements in let cited = c.requires.cited s e in
-    asked-kinds S c.args.frames.now.names (hypotheses (before S c.args.a) s) c.args.cited.now.heads.now c.args.cited.now.hypotheses.now cited.asked ∙ sym (c.requires.count s e)
+    asked-kinds S c.args.frames.now.names (hypotheses (before S c.args.a) s) c.args.cited.now.heads.now c.args.cited.now.hypotheses cited.asked ∙ sym (c.requires.count s e)
 
 pub find_other-requires-clause-images : goal.find_other-requires-clause-images
 find_other-requires-clause-images c =
@@ -47,7 +47,7 @@ find_other-requires-clause-read c s e =
     let ps = hypotheses (before S c.args.a) s in
     let told = c.in_ok-images.ensures.read in
     let is = ap code_images c.deref.ensures.value ∙ told in
-    let are = images_are S names ps c.args.cited.now.heads.now c.args.cited.now.hypotheses.now (codes c.args.results.now) cited.asked in
+    let are = images_are S names ps c.args.cited.now.heads.now c.args.cited.now.hypotheses (codes c.args.results.now) cited.asked in
     (ap (named_images names) is ∙ (are.0 ∙ ap (images_read S ps) (named-codes names c.args.results.now)), subst (λ σ. AreVariables (length names) σ) (sym is) are.1)
 
 pub find_clash-requires-clause-variables : goal.find_clash-requires-clause-variables
@@ -56,7 +56,7 @@ find_clash-requires-clause-variables c =
     let S = c.args.frames.now.statements in let names = c.args.frames.now.names in let cited = c.requires.cited s e in
     let ps = hypotheses (before S c.args.a) s in
     let is = ap code_images c.as_slice.ensures.value ∙ c.in_ok-images.ensures.read in
-    let are = images_are S names ps c.args.cited.now.heads.now c.args.cited.now.hypotheses.now (codes c.args.results.now) cited.asked in
+    let are = images_are S names ps c.args.cited.now.heads.now c.args.cited.now.hypotheses (codes c.args.results.now) cited.asked in
     subst (λ ns. AreVariables (length ns) (code_images c.as_slice.result.now)) (sym c.active_pairs-pairs.ensures.names) (subst (λ σ. AreVariables (length names) σ) (sym is) are.1)
 
 pub find_clash-requires-clause-distinct : goal.find_clash-requires-clause-distinct
@@ -73,7 +73,7 @@ returns-in-Some-clash-clause-told c s e =
     let rs = named names c.args.results.now in
     let ps = hypotheses (before S c.args.a) s in
     let is = ap code_images c.as_slice.ensures.value ∙ c.in_ok-images.ensures.read in
-    let are = images_are S names ps c.args.cited.now.heads.now c.args.cited.now.hypotheses.now (codes c.args.results.now) cited.asked in
+    let are = images_are S names ps c.args.cited.now.heads.now c.args.cited.now.hypotheses (codes c.args.results.now) cited.asked in
     let pn = c.active_pairs-pairs.ensures.names in
     let images = ap (λ ns. named_images ns (code_images c.as_slice.result.now)) pn ∙ (ap (named_images names) is ∙ (are.0 ∙ ap (images_read S ps) (named-codes names c.args.results.now))) in
     let groups = ap (λ ns. map (decode ns) c.args.cited.now.groups) pn ∙ cited.groups in
@@ -85,7 +85,7 @@ returns-in-Some-2-clause-told c s e =
     let ps = hypotheses (before S c.args.a) s in
     let is = ap code_images c.as_slice.ensures.value ∙ c.in_ok-images.ensures.read in
     let is-2 = ap code_images c.as_slice-2.ensures.value ∙ c.in_ok-images.ensures.read in
-    let are = images_are S names ps c.args.cited.now.heads.now c.args.cited.now.hypotheses.now (codes c.args.results.now) cited.asked in
+    let are = images_are S names ps c.args.cited.now.heads.now c.args.cited.now.hypotheses (codes c.args.results.now) cited.asked in
     let pn = c.active_pairs-pairs.ensures.names in
     let read = are.0 ∙ ap (images_read S ps) (named-codes names c.args.results.now) in
     let images = ap (λ ns. named_images ns (code_images c.as_slice.result.now)) pn ∙ (ap (named_images names) is ∙ read) in
@@ -107,7 +107,7 @@ returns-clause-told c s e =
     let ps = hypotheses (before S c.args.a) s in
     let is = ap code_images c.as_slice.ensures.value ∙ c.in_ok-images.ensures.read in
     let is-2 = ap code_images c.as_slice-2.ensures.value ∙ c.in_ok-images.ensures.read in
-    let are = images_are S names ps c.args.cited.now.heads.now c.args.cited.now.hypotheses.now (codes c.args.results.now) cited.asked in
+    let are = images_are S names ps c.args.cited.now.heads.now c.args.cited.now.hypotheses (codes c.args.results.now) cited.asked in
     let pn = c.active_pairs-pairs.ensures.names in
     let read = are.0 ∙ ap (images_read S ps) (named-codes names c.args.results.now) in
     let images = ap (λ ns. named_images ns (code_images c.as_slice.result.now)) pn ∙ (ap (named_images names) is ∙ read) in

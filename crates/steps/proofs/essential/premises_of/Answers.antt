@@ -37,7 +37,7 @@ returns-in_ok-cited-in-Assertion c =
     let rows = c.args.table.now in
     let m = c.in-Assertion.ensures in
     let cited = c.in_ok-cited-in-Assertion.ensures m.0 m.1.0 in
-    let hs = c.in_ok-cited-in-Assertion.cited.hypotheses.now in
+    let hs = c.in_ok-cited-in-Assertion.cited.hypotheses in
     IfOk-weaker c.premises_among.result (λ list. list.items ≡ taken_by hs c.taken.result.now) _
     (λ list e. e ∙ (ap (taken_by hs) c.taken.ensures
     ∙ sym (essential-by S c.args.at c.args.frames.now.names rows (get_or rows c.args.place no_row) (follows-at S c.args.at c.args.frames.now.names rows c.args.place c.requires.rows c.requires.place) c.position-position.result c.position-position.ensures
