@@ -1,4 +1,5 @@
 use Rattle.std.proofs.Common.{◌<◌, ◌≤◌, ◌∙◌, ℕ, List, ap, sym, subst, length, get_or, arith}
+use Rattle.std.proofs.lemmas.Option.{get_or_from_slice_get}
 use Rattle.scope.specs.Active.{before}
 use Rattle.scope.proofs.StatementPlaces.{stands-within}
 use Rattle.entries.specs.declared.cited_parts.Hypothesis.{Hypothesis}
@@ -7,7 +8,7 @@ use Rattle.frame.specs.FrameOf.{hypotheses}
 use Rattle.reasons.proofs.VectorLemmas.{asked-at, asked-heads, asked-kinds}
 use Rattle.names.specs.Codes.{decode}
 use Rattle.frame.specs.Below.{AreBelow}
-use Rattle.frame.specs.Cited.{AreAsked}
+use Rattle.frame.specs.Cited.{AreAsked, IsAsked}
 use Rattle.reasons.specs.Stored.Vectors.{code_images, named}
 use Rattle.reasons.specs.ReadImages.{named_images, images_read}
 use Rattle.reasons.specs.CitationFaults.{IsOther}
@@ -33,16 +34,16 @@ expr-requires c =
     let asked = asked-at S c.args.frames.now.names ps c.args.cited.now.heads.now c.args.cited.now.hypotheses c.loop-k.k d cited.asked inside in
     subst (λ xs. (1 ≤ get_or xs c.loop-k.k 0) × (get_or xs c.loop-k.k 0 ≤ length S)) (sym same) (stands-within S (get_or ps c.loop-k.k 0) asked.stmt asked.stands)
 
-pub bounds-cited-k : goal.bounds-cited-k
-bounds-cited-k c =
+pub get-requires : goal.get-requires
+get-requires c =
     let s = c.requires.assertion.0 in let e = c.requires.assertion.1.0 in
     let S = c.args.frames.now.statements in let cited = c.requires.cited s e in
     let same = ap length (c.requires.mandatory s e) in
     let count = asked-kinds S c.args.frames.now.names (hypotheses (before S c.args.a) s) c.args.cited.now.heads.now c.args.cited.now.hypotheses cited.asked in
     let all = c.requires.count s e in omega (arith, all, count, c.loop-k-test.true)
 
-pub bounds-cited-k-then-ne : goal.bounds-cited-k-then-ne
-bounds-cited-k-then-ne c =
+pub bounds-cited-k : goal.bounds-cited-k
+bounds-cited-k c =
     let s = c.requires.assertion.0 in let e = c.requires.assertion.1.0 in
     let S = c.args.frames.now.statements in let cited = c.requires.cited s e in
     let same = ap length (c.requires.mandatory s e) in
@@ -74,7 +75,9 @@ returns-then-ne c s e =
     let d : Hypothesis = Float 0 in
     let within : c.loop-k.k < length hyps = let count = c.requires.count s e in let long = ap length same in omega (arith, count, long, c.loop-k-test.true) in
     let all = subst (λ ps. AreAsked S names ps c.args.cited.now.heads.now c.args.cited.now.hypotheses) (sym same) cited.asked in
-    let asked = asked-at S names hyps c.args.cited.now.heads.now c.args.cited.now.hypotheses c.loop-k.k d all within in
+    let kind = c.get.result in
+    let asked = subst (IsAsked S names (get_or hyps c.loop-k.k 0) (get_or c.args.cited.now.heads.now c.loop-k.k 0)) (get_or_from_slice_get c.args.cited.now.hypotheses c.loop-k.k kind d c.get.ensures)
+    (asked-at S names hyps c.args.cited.now.heads.now c.args.cited.now.hypotheses c.loop-k.k d all within) in
     let told = rw c.in-Some.is at c.in_ok-asked.ensures in
     let is = asked_is S names c.requires.legal.distinct (code_images c.args.images.now) (c.requires.read s e).1 (get_or hyps c.loop-k.k 0) asked.stmt asked.stands
     c.expr.result.now (c.expr.ensures.same asked.stmt asked.stands) c.expr.ensures.codes c.in-Some.asked.items told.0 in
@@ -91,7 +94,7 @@ returns-then-ne c s e =
     let first = subst (λ σ. IsOther S σ hyps rs c.loop-k.k p (decode names c.in-Some.asked.items) (decode names c.index-results-k.result.items)) (c.requires.read s e).0 other in
     let second = subst (λ qs. IsOther S read qs rs c.loop-k.k p (decode names c.in-Some.asked.items) (decode names c.index-results-k.result.items)) same first in
     let third = subst (λ xs. IsOther S read ps rs c.loop-k.k p (decode names c.in-Some.asked.items) (decode names xs)) (sym copied) second in
-    mismatch_is S names c.args.a s rs (get_or c.args.cited.now.hypotheses c.loop-k.k d) (get_or c.args.cited.now.heads.now c.loop-k.k 0) p c.loop-k.k c.in-Some.asked c.in_ok-result.result c.other.result
+    mismatch_is S names c.args.a s rs kind (get_or c.args.cited.now.heads.now c.loop-k.k 0) p c.loop-k.k c.in-Some.asked c.in_ok-result.result c.other.result
     c.other.ensures third
-    (λ float starts. other_constant S names c.requires.legal.distinct p (get_or c.args.cited.now.heads.now c.loop-k.k 0) (get_or c.args.cited.now.hypotheses c.loop-k.k d) asked
+    (λ float starts. other_constant S names c.requires.legal.distinct p (get_or c.args.cited.now.heads.now c.loop-k.k 0) kind asked
     c.in_ok-result.result.items (subst (λ xs. AreBelow n xs) (sym copied) below) float starts)
