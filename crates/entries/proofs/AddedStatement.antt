@@ -1,18 +1,9 @@
 -- One statement more or less: its numbers and groups stand behind those of the others.
-use Rattle.std.specs.Prelude.{◌≡◌, ℕ, ◌+◌, ◌-◌, ◌<◌, ◌^◌, true, false, Bool, List, [], ◌∷◌, ◌++◌, length, slice_get, slice_range, take, drop, Some, None, refl, Result, Ok, Err, OnOk, OnErr, is_err}
-use Rattle.std.proofs.Common.{◌∙◌, ap, sym, subst, arith}
-use Rattle.std.proofs.lemmas.List.{length-append, length-take-le, take-append-drop, drop_more, nil_from_length}
+use Rattle.entries.proofs.Words.{◌≡◌, ℕ, ◌+◌, ◌-◌, ◌<◌, ◌^◌, true, false, Bool, List, [], ◌∷◌, ◌++◌, length, slice_get, slice_range, take, drop, Some, None, refl, Result, Ok, Err, OnOk, OnErr, is_err, ◌∙◌, ap, sym, subst, arith, length-append, length-take-le, take-append-drop, drop_more, nil_from_length, slice_get_within, get_or_from_slice_get, take-append_seam, take-length}
+use Rattle.entries.proofs.Words.{BufferPart, StatementRecord, Layout, AreShapedParts, assertion_of, made, AreSpansIn, Extends, counts_of, has_parts, run_of, record_by, layout_in, run_by, spans_by, entry_of, entries_of, IsKept, AreKept, ArePacked}
 use Rattle.std.proofs.lemmas.Bool.{ltb-false}
-use Rattle.std.proofs.lemmas.Option.{slice_get_within, get_or_from_slice_get}
-use Rattle.std.proofs.Math.Seq.{take-append_seam, take-length}
-use Rattle.entries.specs.declared.buffer_part.BufferPart.{BufferPart}
 use Rattle.entries.specs.declared.head.Head.{Head}
 use Rattle.entries.specs.declared.parts.AssertionParts.{AssertionParts}
-use Rattle.entries.specs.declared.statement_record.StatementRecord.{StatementRecord}
-use Rattle.entries.specs.declared.layout.Layout.{Layout}
-use Rattle.entries.specs.Entries.{AreShapedParts, assertion_of, made}
-use Rattle.entries.specs.Stored.Spans.{AreSpansIn, Extends}
-use Rattle.entries.specs.Stored.Records.{counts_of, has_parts, run_of, record_by, layout_in, run_by, spans_by, entry_of, entries_of, IsKept, AreKept, ArePacked}
 use Rattle.entries.proofs.SpanLemmas.{range-behind, extends-refl, extends-take, extends-trans}
 use Rattle.entries.proofs.StatementRecordLemmas.{entries-length, at-index}
 use Rattle.entries.proofs.BufferPlaceLemmas.{entries-before, kept-before, kept-cut}

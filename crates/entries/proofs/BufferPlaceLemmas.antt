@@ -1,28 +1,19 @@
 -- Statements in shared buffers: more behind them changes no statement, and they can be cut where a statement begins.
-use Rattle.std.specs.Prelude.{◌≡◌, ℕ, zero, suc, ◌<◌, ◌≤◌, List, [], ◌∷◌, ◌++◌, length, take, slice_get, slice_range, Some, refl, ◌⊎◌}
-use Rattle.std.proofs.Common.{◌∙◌, ap, arith, inl, inr}
-use Rattle.std.proofs.lemmas.Option.{same_Some}
-use Rattle.entries.specs.declared.statement_record.StatementRecord.{StatementRecord}
-use Rattle.entries.specs.declared.buffer_part.BufferPart.{BufferPart}
-use Rattle.entries.specs.Stored.Spans.{Extends}
-use Rattle.entries.specs.Stored.Records.{end_by, groups_by, run_by, spans_by, entries_of, AreKept}
+use Rattle.entries.proofs.Words.{◌≡◌, ℕ, zero, suc, ◌<◌, ◌≤◌, List, [], ◌∷◌, ◌++◌, length, take, slice_get, slice_range, Some, refl, ◌⊎◌, ◌∙◌, ap, arith, inl, inr, same_Some, StatementRecord, BufferPart, Extends, end_by, groups_by, run_by, spans_by, entries_of, AreKept}
 use Rattle.entries.proofs.SpanLemmas.{range-extends, extends-length}
 
 pub get-push : {A : Type 0} (xs : List A) (x y : A) (i : ℕ) → slice_get (xs ++ x ∷ []) i ≡ Some y → ((i < length xs) × (slice_get xs i ≡ Some y)) ⊎ ((i ≡ length xs) × (x ≡ y))
 get-push [] x y zero e = inr (refl, same_Some _ _ e)
 get-push [] x y (suc i) e = absurd (cc)
 get-push (z ∷ xs) x y zero e = inl (omega arith, e)
-get-push (z ∷ xs) x y (suc i) e = lift (get-push xs x y i e)
-  where
-    lift : ((i < length xs) × (slice_get xs i ≡ Some y)) ⊎ ((i ≡ length xs) × (x ≡ y)) → ((suc i < length (z ∷ xs)) × (slice_get xs i ≡ Some y)) ⊎ ((suc i ≡ length (z ∷ xs)) × (x ≡ y))
-    lift (inl p) = inl (omega (arith, p.0), p.1)
-    lift (inr p) = inr (ap suc p.0, p.1)
+get-push (z ∷ xs) x y (suc i) e = elim (get-push xs x y i e) [
+  | inl p ↦ inl (omega (arith, p.0), p.1)
+  | inr p ↦ inr (ap suc p.0, p.1)
+]
 
 pub take-get : {A : Type 0} (n i : ℕ) (xs : List A) (x : A) → slice_get (take n xs) i ≡ Some x → (i < n) × (slice_get xs i ≡ Some x)
-take-get zero zero xs x e = absurd (cc)
-take-get zero (suc i) xs x e = absurd (cc)
-take-get (suc n) zero [] x e = absurd (cc)
-take-get (suc n) (suc i) [] x e = absurd (cc)
+take-get zero i xs x e = absurd (cc)
+take-get (suc n) i [] x e = absurd (cc)
 take-get (suc n) zero (y ∷ xs) x e = (omega arith, e)
 take-get (suc n) (suc i) (y ∷ xs) x e = let r = take-get n i xs x e in (omega (arith, r.0), r.1)
 

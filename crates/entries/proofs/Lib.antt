@@ -1,3 +1,4 @@
+pub mod Words
 pub mod SpanLemmas
 pub mod StatementRecordLemmas
 pub mod BufferPlaceLemmas

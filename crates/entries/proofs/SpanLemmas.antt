@@ -1,16 +1,9 @@
 -- Parts of a buffer.
-use Rattle.std.specs.Prelude.{◌≡◌, ℕ, zero, suc, ◌-◌, ◌≤◌, List, [], ◌∷◌, ◌++◌, length, take, drop, reverse, slice_get, slice_range, Some, refl}
-use Rattle.std.proofs.Common.{◌∙◌, ap, sym, subst, arith, append-nil, append_assoc}
-use Rattle.std.proofs.lemmas.List.{length-append, length-drop, take-append-le, drop-append-le, take-append-drop, reverse-append}
-use Rattle.std.proofs.Math.Seq.{take-append_seam, drop-append_seam}
-use Rattle.std.proofs.lemmas.Option.{same_Some}
-use Rattle.entries.specs.declared.buffer_part.BufferPart.{BufferPart}
-use Rattle.entries.specs.Stored.Spans.{cut, AreSpansIn, Extends}
+use Rattle.entries.proofs.Words.{◌≡◌, ℕ, zero, suc, ◌-◌, ◌≤◌, List, [], ◌∷◌, ◌++◌, length, take, drop, reverse, slice_get, slice_range, Some, refl, ◌∙◌, ap, sym, subst, arith, append-nil, append_assoc, length-append, length-drop, take-append-le, drop-append-le, take-append-drop, reverse-append, take-append_seam, drop-append_seam, same_Some, BufferPart, cut, AreSpansIn, Extends}
 
 pub span-in : (n : ℕ) (spans : List BufferPart) (i : ℕ) (s : BufferPart) → AreSpansIn n spans → slice_get spans i ≡ Some s → (s.from ≤ s.to) × (s.to ≤ n)
-span-in n [] zero s h e = absurd (cc)
-span-in n [] (suc i) s h e = absurd (cc)
-span-in n (t ∷ spans) zero s h e = subst (λ (x : BufferPart). (x.from ≤ x.to) × (x.to ≤ n)) (same_Some _ _ e) h.0
+span-in n [] i s h e = absurd (cc)
+span-in n (t ∷ spans) zero s h e = rw (← same_Some t s e) h.0
 span-in n (t ∷ spans) (suc i) s h e = span-in n spans i s h.1 e
 
 pub range-more : {A : Type 0} (xs more : List A) (from to : ℕ) → from ≤ to → to ≤ length xs → slice_range (xs ++ more) from to ≡ slice_range xs from to

@@ -1,13 +1,5 @@
 -- What is kept of the statement at an index.
-use Rattle.std.specs.Prelude.{◌≡◌, ℕ, zero, suc, ◌+◌, ◌-◌, Bool, true, false, List, [], ◌∷◌, ◌++◌, length, slice_get, slice_range, Option, Some, refl}
-use Rattle.std.proofs.Common.{◌∙◌, ap, sym, subst, arith, Bor}
-use Rattle.std.proofs.lemmas.Option.{same_Some}
-use Rattle.entries.specs.declared.layout.Layout.{Layout}
-use Rattle.entries.specs.declared.statement_record.StatementRecord.{StatementRecord}
-use Rattle.entries.specs.declared.buffer_part.BufferPart.{BufferPart}
-use Rattle.entries.specs.Entries.{Entry}
-use Rattle.entries.specs.Stored.Spans.{AreSpansIn}
-use Rattle.entries.specs.Stored.Records.{layout_in, groups_by, run_by, spans_by, entry_of, entries_of, IsKept, AreKept, IsOrdered, IsStored}
+use Rattle.entries.proofs.Words.{◌≡◌, ℕ, zero, suc, ◌+◌, ◌-◌, Bool, true, false, List, [], ◌∷◌, ◌++◌, length, slice_get, slice_range, Option, Some, refl, ◌∙◌, ap, sym, subst, arith, Bor, same_Some, Layout, StatementRecord, BufferPart, Entry, AreSpansIn, layout_in, groups_by, run_by, spans_by, entry_of, entries_of, IsKept, AreKept, IsOrdered, IsStored}
 
 -- an element keeps its place where more stands behind the list
 pub get-more : {A : Type 0} (xs more : List A) (k : ℕ) (x : A) → slice_get xs k ≡ Some x → slice_get (xs ++ more) k ≡ Some x
@@ -31,12 +23,11 @@ pub record IsAt (numbers : List ℕ) (groups : List BufferPart) (r : StatementRe
 pub at-index : (numbers : List ℕ) (groups : List BufferPart) (rs : List StatementRecord) (es : List Entry) (i : ℕ) (r : StatementRecord) → AreKept numbers groups rs → entries_of numbers groups rs ≡ es → {qs : List StatementRecord} → qs ≡ rs → slice_get qs i ≡ Some r → IsAt numbers groups r (slice_get rs (i + 1)) (slice_get es i)
 at-index numbers groups rs es i r kept view same here =
     let n : suc i ≡ i + 1 = omega arith in
-    subst (λ xs. IsAt numbers groups r (slice_get rs (i + 1)) (slice_get xs i)) view (subst (λ k. IsAt numbers groups r (slice_get rs k) (slice_get (entries_of numbers groups rs) i)) n (by rs i kept (ap (λ xs. slice_get xs i) (sym same) ∙ here)))
+    rw (← view, ← n) (by rs i kept (rw (← same) here))
   where
     by : (qs : List StatementRecord) (j : ℕ) → AreKept numbers groups qs → slice_get qs j ≡ Some r → IsAt numbers groups r (slice_get qs (suc j)) (slice_get (entries_of numbers groups qs) j)
-    by [] zero k e = absurd (cc)
-    by [] (suc j) k e = absurd (cc)
-    by (q ∷ qs) zero k e = subst (λ (x : StatementRecord). IsAt numbers groups x (slice_get qs zero) (slice_get (entries_of numbers groups (q ∷ qs)) zero)) (same_Some _ _ e) (record { kept = k.0; entry = refl })
+    by [] j k e = absurd (cc)
+    by (q ∷ qs) zero k e = rw (← same_Some q r e) (record { kept = k.0; entry = refl })
     by (q ∷ qs) (suc j) k e = by qs j k.1 e
 
 -- the parts stand one behind the other
@@ -58,8 +49,8 @@ module _ (numbers : List ℕ) (groups : List BufferPart) (r : StatementRecord) (
       let p = a.kept.placed in let w = a.kept.grouped in
       let of_next : spans.now ≡ spans_by groups r next = part ∙ ap (slice_range groups r.groups) groups-count in
       record {
-        ordered = subst IsOrdered (sym laid) (ordered r.has_parts run.now);
+        ordered = rw laid (ordered r.has_parts run.now);
         whole = sym (ap (λ (x : Layout). x.end) layout) ∙ (p.whole ∙ sym (ap length same));
-        grouped = subst (λ xs. AreSpansIn (at.end - at.places) xs) (sym of_next) (subst (λ (x : Layout). AreSpansIn (x.end - x.places) (spans_by groups r next)) layout w.spans);
+        grouped = rw (of_next, ← layout) w.spans;
         entry = a.entry ∙ (let l = layout in cc);
       }

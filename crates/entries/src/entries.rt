@@ -11,7 +11,7 @@ use crate::groups::Groups;
 use crate::head::Head;
 use crate::layout::{Layout, assertion_layout, counts, lay};
 use crate::parts::AssertionParts;
-use crate::statement_record::{StatementRecord, record_of};
+use crate::statement_record::StatementRecord;
 use std::alloc::{AllocError, Global};
 use std::marker::Model;
 
@@ -248,10 +248,21 @@ fn add(
     let from = numbers.len();
     let first = place(groups.len())?;
     let has_parts = parts.hypotheses.len() + parts.groups.len() > 0;
-    let record = record_of(head, has_parts, parts.whole, from, first);
     append(groups, parts.groups)?;
     add_numbers(numbers, parts, has_parts)?;
-    append(records, &[record])
+    append(
+        records,
+        &[StatementRecord {
+            from,
+            groups: first,
+            label: head.label,
+            names: head.names,
+            links: head.links,
+            kind: head.kind,
+            has_parts,
+            whole: parts.whole,
+        }],
+    )
 }
 
 /// Adds the numbers of an assertion with its parts, or the symbols alone.

@@ -1,8 +1,5 @@
 //! How a statement is kept.
-ghost use Rattle.std.specs.Prelude.{◌≡◌};
-ghost use Rattle.entries.specs.Stored.Records.{record_by};
 
-use crate::head::Head;
 use crate::kind::Kind;
 use crate::links::Links;
 
@@ -21,26 +18,4 @@ pub struct StatementRecord {
     pub has_parts: bool,
     /// Whether its parts are whole.
     pub whole: bool,
-}
-
-/// The record of a statement with this head.
-pub fn record_of(
-    head: Head,
-    has_parts: bool,
-    whole: bool,
-    from: usize,
-    groups: u32,
-) -> StatementRecord
-    ensures { result ≡ record_by head has_parts whole from groups }
-{
-    StatementRecord {
-        from,
-        groups,
-        label: head.label,
-        names: head.names,
-        links: head.links,
-        kind: head.kind,
-        has_parts,
-        whole,
-    }
 }

@@ -1,5 +1,4 @@
-use Rattle.std.proofs.Common.{ap, arith}
-use Rattle.std.specs.Prelude.{length}
+use Rattle.entries.proofs.Words.{ap, arith, length}
 use Rattle.entries.proofs.StatementRecordLemmas.{entries-length}
 use Rattle.entries.proofs.entries.Entries.len.Goals as goal
 

@@ -1,7 +1,4 @@
-use Rattle.std.proofs.Common.{◌∙◌, ap, sym, refl, arith}
-use Rattle.std.specs.Prelude.{◌++◌, ◌∷◌, [], length}
-use Rattle.entries.specs.Entries.{assertion_of, made}
-use Rattle.entries.specs.Stored.Records.{has_parts, run_of, entries_of}
+use Rattle.entries.proofs.Words.{◌∙◌, ap, sym, refl, arith, ◌++◌, ◌∷◌, [], length, assertion_of, made, has_parts, run_of, entries_of}
 use Rattle.entries.proofs.AddedStatement.{on-ok, ok-weaker, entries-push, packed-push, run-laid, run-entry}
 use Rattle.entries.proofs.entries.Entries.push.Goals as goal
 

@@ -1,6 +1,4 @@
-use Rattle.std.proofs.Common.{◌∙◌, ap, sym, take, arith}
-use Rattle.std.specs.Prelude.{slice_get, length}
-use Rattle.std.proofs.Math.Seq.{take_all}
+use Rattle.entries.proofs.Words.{◌∙◌, ap, sym, take, arith, slice_get, length, take_all}
 use Rattle.entries.proofs.StatementRecordLemmas.{entries-length}
 use Rattle.entries.proofs.AddedStatement.{packed-fewer, entries-fewer}
 use Rattle.entries.proofs.entries.Entries.truncate.Goals as goal

@@ -1,8 +1,4 @@
-use Rattle.std.proofs.Common.{length, slice_get, Some, sym, ap, ◌∙◌, arith}
-use Rattle.std.proofs.lemmas.List.{length-map}
-use Rattle.std.proofs.lemmas.Option.{slice_get-map}
-use Rattle.std.specs.Prelude.{slice_range, option_map}
-use Rattle.entries.specs.declared.buffer_part.BufferPart.{BufferPart}
+use Rattle.entries.proofs.Words.{length, slice_get, Some, sym, ap, ◌∙◌, arith, length-map, slice_get-map, slice_range, option_map, BufferPart}
 use Rattle.entries.proofs.SpanLemmas.{span-in}
 use Rattle.entries.proofs.groups.Groups.get.Goals as goal
 
