@@ -1,8 +1,7 @@
+pub mod Words
 pub mod LettersLemmas
-pub mod NumbersOfRow
 pub mod RowOfNumbers
 pub mod LetterItemLemmas
-pub mod HeaderLemmas
 pub mod TextLemmas
 pub mod WritesLemmas
 pub mod AnswersLemmas

@@ -1,29 +1,13 @@
 -- A compressed proof that is read with no mandatory label at hand.
-use Rattle.std.specs.Prelude.{◌≡◌, ℕ, ◌+◌, ◌-◌, ◌*◌, ◌<◌, suc, ◌≤◌, Bool, true, false, cond, ◌==◌, nat_le, List, [], ◌∷◌, ◌++◌, length, take, drop, slice_index_or, slice_set, Option, Some, None, refl}
-use Rattle.std.specs.List.{list_all}
-use Rattle.std.proofs.Common.{sym, ◌∙◌, ap, subst, arith, true≢false, length-append, append_assoc}
+use Rattle.proof_code.proofs.Words.{◌≡◌, ℕ, ◌+◌, ◌-◌, ◌*◌, ◌<◌, suc, ◌≤◌, Bool, true, false, cond, ◌==◌, nat_le, List, [], ◌∷◌, ◌++◌, length, take, drop, slice_index_or, Option, Some, None, refl, list_all, sym, ◌∙◌, ap, arith, true≢false, length-append, append_assoc, nat_tests, drop_more, list_all-append, none-some, and_parts}
+use Rattle.proof_code.proofs.Words.{Name, is_word, AreWords, Item, items_of, before_rest, Goes, IsLetter, share_label, IsHeading, Header, header_of, letters_of, starts_with_mark, numbers_from, begin, finish, WritesCompressed}
 use Rattle.std.proofs.Math.Seq.{take-append_seam}
-use Rattle.std.proofs.lemmas.Bool.Decides.{nat_tests}
-use Rattle.std.proofs.lemmas.List.{drop_more, drop_all, append-nil, take-set, take_more_set}
-use Rattle.std.proofs.lemmas.List.Folds.{list_all-append}
-use Rattle.std.proofs.lemmas.Option.{none-some}
-use Rattle.std.proofs.lemmas.Bool.{and_parts}
-use Rattle.mm_lex.specs.Alphabet.{Name}
-use Rattle.mm_lex.specs.Words.{is_word, AreWords}
-use Rattle.proof_code.specs.declared.item.Item.{Item}
-use Rattle.proof_code.specs.declared.letter_numbers.Letter.{Letter}
-use Rattle.proof_code.specs.Letters.{is_first, is_last}
-use Rattle.proof_code.specs.ItemNumbers.{items_of}
-use Rattle.proof_code.specs.Reading.{before_rest, ended, Goes, IsLetter, share_label, IsHeading}
-use Rattle.proof_code.specs.Text.{Header, header_of, letters_of, starts_with_mark, numbers_from}
-use Rattle.proof_code.specs.Writes.{begin, finish, WritesCompressed}
-use Rattle.proof_code.proofs.HeaderLemmas.{IsHeader, header-read}
-use Rattle.proof_code.proofs.LettersLemmas.{is_first-true}
-use Rattle.proof_code.proofs.LetterItemLemmas.{numbers_from-first, RowIsRead, WritesRow-read, read-WritesRow}
+use Rattle.proof_code.proofs.LettersLemmas.{first_bounds, last_bounds}
+use Rattle.proof_code.proofs.LetterItemLemmas.{numbers_from-over, RowIsRead, WritesRow-read, read-WritesRow}
 use Rattle.proof_code.proofs.ListingLemmas.{Counted}
-use Rattle.proof_code.proofs.NumbersOfRow.{joined}
+use Rattle.proof_code.proofs.RowOfNumbers.{joined, by_letter}
 use Rattle.proof_code.proofs.TextLemmas.{letters_of-spaced}
-use Rattle.proof_code.proofs.WritesLemmas.{row_behind, written_behind, starts_with_mark-spaced}
+use Rattle.proof_code.proofs.WritesLemmas.{IsHeader, header-read, row_behind, written_behind, starts_with_mark-spaced}
 
 -- ---- the letters
 
@@ -40,16 +24,6 @@ before-more : (numbers more : List ℕ) (o : Option (List ℕ)) → before_rest 
 before-more numbers more None = refl
 before-more numbers more (Some rest) = ap Some (sym (append_assoc numbers more rest))
 
--- what is written at the end of what counts, where it counts
-take-ended : (numbers : List ℕ) (count : ℕ) (letter : Letter) → count < length numbers → take (count + cond letter.ends 1 0) (slice_set numbers count letter.value) ≡ take count numbers ++ ended (Some letter)
-take-ended numbers count letter within = by letter.ends
-  where
-    by : (ends : Bool) → take (count + cond ends 1 0) (slice_set numbers count letter.value) ≡ take count numbers ++ cond ends (letter.value ∷ []) []
-    by true = take_more_set numbers count letter.value within
-    by false =
-        let same : count + 0 ≡ count = omega arith in
-        ap (λ n. take n (slice_set numbers count letter.value)) same ∙ (take-set numbers count letter.value ∙ sym (append-nil (take count numbers)))
-
 pub read-none : (labels : ℕ) (text : List ℕ) → IsRead labels text labels 0 [] 0
 read-none labels text = before-none (numbers_from labels 0 (letters_of text))
 
@@ -61,79 +35,27 @@ module _ (labels : ℕ) (text : List ℕ) (limit digits : ℕ) (numbers : List �
       read ∙ (ap (λ rest. before_rest numbers (numbers_from limit digits (letters_of rest))) (drop_more text index 0 within)
       ∙ (ap (before_rest numbers) (goes rest) ∙ before-more numbers more (numbers_from limit' digits' (letters_of rest))))
 
-  pub read-broken : index < length text → ((rest : List ℕ) → numbers_from limit digits (letters_of (slice_index_or text index 0 ∷ rest)) ≡ None) → numbers_from labels 0 (letters_of text) ≡ None
-  read-broken within none =
-      read ∙ ap (before_rest numbers) (ap (λ rest. numbers_from limit digits (letters_of rest)) (drop_more text index 0 within) ∙ none (drop (index + 1) text))
-
-  -- at the end of the text the digits decide, behind the numbers kept
-  left : length text ≤ index → numbers_from labels 0 (letters_of text) ≡ before_rest numbers (cond (digits == 0) (Some []) None)
-  left end = read ∙ ap (λ rest. before_rest numbers (numbers_from limit digits (letters_of rest))) (drop_all index text end)
-
-  pub read-all : length text ≤ index → digits ≡ 0 → numbers_from labels 0 (letters_of text) ≡ Some numbers
-  read-all end none =
-      let test : (digits == 0) ≡ true = grind (arith, nat_tests) in
-      left end ∙ (ap (λ t. before_rest numbers (cond t (Some []) None)) test ∙ ap Some (append-nil numbers))
-
-  pub read-cut : length text ≤ index → (digits ≡ 0 → ⊥) → numbers_from labels 0 (letters_of text) ≡ None
-  read-cut end some =
-      let test : (digits == 0) ≡ false = grind (arith, nat_tests) in
-      left end ∙ ap (λ t. before_rest numbers (cond t (Some []) None)) test
-
-module _ (labels : ℕ) (text : List ℕ) (limit digits : ℕ) (numbers : List ℕ) (count index limit' digits' : ℕ) (read : IsRead labels text limit digits (take count numbers) index) (within : index < length text) where
-  -- one letter more is read into a list
-  pub write-more : (letter : Letter) → count < length numbers → Goes limit digits (slice_index_or text index 0) (ended (Some letter)) limit' digits'
-      → IsRead labels text limit' digits' (take (count + cond letter.ends 1 0) (slice_set numbers count letter.value)) (index + 1)
-  write-more letter room goes =
-      rw (take-ended numbers count letter room) (read-more labels text limit digits (take count numbers) index read limit' digits' (ended (Some letter)) within goes)
-
-  -- a space is passed over
-  pub pass-over : Goes limit digits (slice_index_or text index 0) (ended None) limit' digits' → IsRead labels text limit' digits' (take count numbers) (index + 1)
-  pass-over goes =
-      let P : List ℕ → Type 0 = λ kept. IsRead labels text limit' digits' kept (index + 1) in
-      subst P (append-nil (take count numbers)) (read-more labels text limit digits (take count numbers) index read limit' digits' [] within goes)
-
--- a letter A to T with which the word comes to more than the limit
-over-last : (limit digits letter : ℕ) → 65 ≤ letter → letter ≤ 84 → limit < 20 * digits + (letter - 64) → (text : List ℕ) → numbers_from limit digits (letters_of (letter ∷ text)) ≡ None
-over-last limit digits letter low high over text =
-    let visible : (letter == 32) ≡ false = grind (arith, nat_tests) in
-    let first : is_first letter ≡ false = grind (arith, nat_tests) in
-    let last : is_last letter ≡ true = grind (arith, nat_tests) in
-    let test : nat_le (20 * digits + (letter - 64)) limit ≡ false = grind (arith, nat_tests) in
-    rw (visible, first, last, test) refl
-
--- a letter U to Y with which it does however it ends
-over-first : (limit digits letter : ℕ) → 85 ≤ letter → letter ≤ 89 → limit < 20 * (5 * digits + (letter - 84)) → (text : List ℕ) → numbers_from limit digits (letters_of (letter ∷ text)) ≡ None
-over-first limit digits letter low high over text =
-    let visible : (letter == 32) ≡ false = grind (arith, nat_tests) in
-    rw visible (numbers_from-first limit digits letter (letters_of text) (is_first-true letter low high) over)
-
--- a letter A to Z with which it does so: a mark does behind digits
+-- a letter A to Z with which the word comes to more than the limit however it ends: a mark does behind digits
 pub over_limit : (limit most digits letter value : ℕ) (ends : Bool) → IsLetter letter digits value ends → 65 ≤ letter → letter ≤ 90 → limit < 20 * most + 20 → cond ends limit most < value
     → (text : List ℕ) → numbers_from limit digits (letters_of (letter ∷ text)) ≡ None
-over_limit limit most digits letter value ends is low high room over text = by (nat_le letter 84) refl (letter == 90) refl
-  where
-    by : (s : Bool) → nat_le letter 84 ≡ s → (t : Bool) → (letter == 90) ≡ t → numbers_from limit digits (letters_of (letter ∷ text)) ≡ None
-    by true e t f =
-        let last : letter ≤ 84 = grind (arith, nat_tests) in
-        let bound : limit < value = rw (is.last last).1 at over in
-        over-last limit digits letter low last (omega (arith, bound, (is.last last).0)) text
-    by false e false f =
-        let first : 85 ≤ letter = grind (arith, nat_tests) in
-        let before : letter ≤ 89 = grind (arith, nat_tests) in
-        let bound : most < value = rw (is.first first before).1 at over in
-        over-first limit digits letter first before (omega (arith, bound, room, (is.first first before).0)) text
-    by false e true f =
-        let mark : letter ≡ 90 = grind (arith, nat_tests) in
-        let bound : limit < value = rw (is.mark mark).2 at over in
-        let some : (digits == 0) ≡ false = by_digits (digits == 0) refl bound in
-        rw (mark, some) refl
-      where
-        by_digits : (t : Bool) → (digits == 0) ≡ t → limit < value → t ≡ false
-        by_digits true e bound =
-            let none : digits ≡ 0 = grind (arith, nat_tests) in
-            let mark : letter ≡ 90 = grind (arith, nat_tests) in
-            absurd (omega (arith, bound, (is.mark mark).0 none))
-        by_digits false e bound = refl
+over_limit limit most digits letter value ends is low high room over text =
+    let visible : (letter == 32) ≡ false = grind (arith, nat_tests) in
+    rw visible (by_letter (λ o. o ≡ None) limit digits letter (letters_of text)
+    (λ first.
+    let bounds : (85 ≤ letter) × (letter ≤ 89) = first_bounds letter first in
+    let value_is = is.first bounds.0 bounds.1 in
+    let bound : most < value = rw value_is.1 at over in
+    numbers_from-over limit (5 * digits + (letter - 84)) (letters_of text) (omega (arith, bound, room, value_is.0)))
+    (λ first last.
+    let value_is = is.last (last_bounds letter last).1 in
+    let bound : limit < value = rw value_is.1 at over in
+    let test : nat_le (20 * digits + (letter - 64)) limit ≡ false = grind (arith, nat_tests, bound, value_is.0) in
+    rw test refl)
+    (λ mark none.
+    let value_is = is.mark mark in
+    let bound : limit < value = rw value_is.2 at over in
+    absurd (omega (arith, bound, value_is.0 none)))
+    (λ first last. refl))
 
 -- ---- the whole proof
 

@@ -1,63 +1,27 @@
--- A row's numbers are read.
-use Rattle.std.specs.Prelude.{◌≡◌, ℕ, zero, suc, ◌+◌, ◌-◌, ◌*◌, ◌<◌, ◌≤◌, Bool, true, false, cond, ◌&&◌, ◌==◌, nat_lt, nat_le, List, [], ◌∷◌, ◌++◌, length, Option, Some, None, slice_get, refl, get_or}
-use Rattle.std.specs.Option.{option_map}
-use Rattle.std.proofs.Common.{◌∙◌, ap, arith}
-use Rattle.std.proofs.lemmas.Option.{none-some, same_Some, slice_get_within, get_or_from_slice_get}
-use Rattle.std.proofs.lemmas.Bool.Decides.{nat_tests}
-use Rattle.std.proofs.lemmas.Bool.{lt-ltb, le-ltb}
-use Rattle.mm_lex.specs.Alphabet.{Name, is_empty}
-use Rattle.proof_code.specs.declared.item.Item.{Item}
-use Rattle.proof_code.specs.declared.item.Item.TheVariants.{Cite, Recall, Mark}
-use Rattle.proof_code.specs.Letters.{IsNumber, is_first, is_last, number_from}
-use Rattle.proof_code.specs.ItemNumbers.{item_of, items_of}
-use Rattle.proof_code.specs.Text.{with_number, numbers_from}
-use Rattle.proof_code.specs.Writes.{AreItems}
-use Rattle.proof_code.proofs.LettersLemmas.{number_of-placed}
-use Rattle.proof_code.proofs.NumbersOfRow.{joined}
+-- Letters read from left to right give the numbers of one row of words and marks, and a row's numbers are read.
+use Rattle.proof_code.proofs.Words.{◌≡◌, ℕ, zero, suc, ◌+◌, ◌-◌, ◌*◌, ◌<◌, ◌≤◌, false, true, cond, ◌&&◌, ◌==◌, nat_lt, nat_le, List, [], ◌∷◌, ◌++◌, flat_map, length, Option, Some, None, refl, get_or, option_map, sym, ◌∙◌, ap, arith, append_assoc, none-some, same_Some, slice_get-get_or, slice_get_within, get_or_from_slice_get, nat_tests, cond_both, and_parts, eqb-true, leb-true, ltb-true, ltb-false, lt-ltb, le-ltb, append-nil}
+use Rattle.proof_code.proofs.Words.{Name, is_empty, Item, Cite, Recall, Mark, IsNumber, is_first, is_last, number_from, number_of, item_of, items_of, with_number, numbers_from, mark, AreItems}
+use Rattle.proof_code.proofs.LettersLemmas.{number_of-placed, placed-number_of, first_bounds, last_bounds}
 
--- ---- complete: a row's numbers are read
+abbrev pub joined : List Name → List ℕ
+joined row = flat_map (λ word. word) row
 
--- the letters of one word and what follows
-numbers_from-word : (limit d number : ℕ) (word : Name) (rest : List ℕ) → number_from d word ≡ Some number → numbers_from limit d (word ++ rest) ≡ with_number limit number (numbers_from limit 0 rest)
-numbers_from-word limit d number [] rest h = absurd (none-some number h)
-numbers_from-word limit d number (letter ∷ word) rest h = by (numbers_from-word limit (5 * d + (letter - 84)) number word rest) (is_first letter) refl (is_last letter) refl h
-  where
-    by : (number_from (5 * d + (letter - 84)) word ≡ Some number → numbers_from limit (5 * d + (letter - 84)) (word ++ rest) ≡ with_number limit number (numbers_from limit 0 rest))
-        → (f : Bool) → is_first letter ≡ f → (l : Bool) → is_last letter ≡ l
-        → cond f (number_from (5 * d + (letter - 84)) word) (cond (l && is_empty word) (Some (20 * d + (letter - 64))) None) ≡ Some number
-        → cond f (numbers_from limit (5 * d + (letter - 84)) (word ++ rest))
-        (cond l (with_number limit (20 * d + (letter - 64)) (numbers_from limit 0 (word ++ rest)))
-        (cond ((letter == 90) && (d == 0)) (option_map (λ numbers. 0 ∷ numbers) (numbers_from (limit + 1) 0 (word ++ rest))) None)) ≡ with_number limit number (numbers_from limit 0 rest)
-    by ih true first l last h = ih h
-    by ih false first true last h = alone word h
-      where
-        alone : (word : Name) → cond (true && is_empty word) (Some (20 * d + (letter - 64))) None ≡ Some number
-            → with_number limit (20 * d + (letter - 64)) (numbers_from limit 0 (word ++ rest)) ≡ with_number limit number (numbers_from limit 0 rest)
-        alone [] h = ap (λ n. with_number limit n (numbers_from limit 0 rest)) (same_Some (20 * d + (letter - 64)) number h)
-        alone (x ∷ word) h = absurd (none-some number h)
-    by ih false first false last h = absurd (none-some number h)
+-- ---- one letter
 
--- the numbers of a row, and its items from them
-pub record RowRead (labels : List Name) (limit : ℕ) (letters : List ℕ) (items : List Item) : Type 0 where
-  pub numbers : List ℕ
-  pub read : numbers_from limit 0 letters ≡ Some numbers
-  pub are : items_of labels numbers ≡ items
+-- what holds of the numbers, whatever letter comes first
+pub by_letter : (P : Option (List ℕ) → Type 0) (limit digits letter : ℕ) (letters : List ℕ)
+    → (is_first letter ≡ true → P (numbers_from limit (5 * digits + (letter - 84)) letters))
+    → (is_first letter ≡ false → is_last letter ≡ true → P (with_number limit (20 * digits + (letter - 64)) (numbers_from limit 0 letters)))
+    → (letter ≡ 90 → digits ≡ 0 → P (option_map (λ numbers. 0 ∷ numbers) (numbers_from (limit + 1) 0 letters)))
+    → (is_first letter ≡ false → is_last letter ≡ false → P None) → P (numbers_from limit digits (letter ∷ letters))
+by_letter P limit digits letter letters first last marks none =
+    cond_both (is_first letter) _ _ P first (λ f. cond_both (is_last letter) _ _ P (last f) (λ l. cond_both ((letter == 90) && (digits == 0)) _ _ P
+    (λ m. let parts : ((letter == 90) ≡ true) × ((digits == 0) ≡ true) = and_parts (letter == 90) (digits == 0) m in marks (eqb-true letter 90 parts.0) (eqb-true digits 0 parts.1))
+    (λ m. none f l)))
 
-with_number-within : (limit number : ℕ) (numbers : List ℕ) (rest : Option (List ℕ)) → number ≤ limit → rest ≡ Some numbers → with_number limit number rest ≡ Some (number ∷ numbers)
-with_number-within limit number numbers rest within e =
-    let test : nat_le number limit ≡ true = grind (arith, nat_tests) in
-    rw (test, e) refl
+-- ---- what a number means
 
-pub item_of-cite : (labels : List Name) (number k : ℕ) (label : Name) → number ≡ k + 1 → slice_get labels k ≡ Some label → item_of labels number ≡ Cite label
-item_of-cite labels zero k label is at = absurd (omega arith)
-item_of-cite labels (suc n) k label is at =
-    let same : n ≡ k = omega arith in
-    let here : slice_get labels n ≡ Some label = ap (slice_get labels) same ∙ at in
-    let within : n < length labels = slice_get_within labels n label here in
-    let test : nat_lt n (length labels) ≡ true = grind (arith, nat_tests) in
-    rw test (ap Cite (get_or_from_slice_get labels n label [] here))
-
--- and the label is the one at that place
+-- a number within those of the labels cites the label at that place
 pub item-cite : (labels : List Name) (n k : ℕ) → n ≡ suc k → k < length labels → item_of labels n ≡ Cite (get_or labels k [])
 item-cite labels n k e h = ap (item_of labels) e ∙ ap (λ b. cond b (Cite (get_or labels k [])) (Recall (suc (k - length labels)))) (lt-ltb k (length labels) h)
 
@@ -65,21 +29,116 @@ item-cite labels n k e h = ap (item_of labels) e ∙ ap (λ b. cond b (Cite (get
 pub item-recall : (labels : List Name) (n k : ℕ) → n ≡ suc k → length labels ≤ k → item_of labels n ≡ Recall (suc (k - length labels))
 item-recall labels n k e h = ap (item_of labels) e ∙ ap (λ b. cond b (Cite (get_or labels k [])) (Recall (suc (k - length labels)))) (le-ltb k (length labels) h)
 
-item_of-recall : (labels : List Name) (number k : ℕ) → number ≡ length labels + k → 1 ≤ k → item_of labels number ≡ Recall k
-item_of-recall labels zero k is some = absurd (omega arith)
-item_of-recall labels (suc n) k is some =
-    let test : nat_lt n (length labels) ≡ false = grind (arith, nat_tests) in
-    let count : suc (n - length labels) ≡ k = omega arith in
-    rw test (ap Recall count)
+-- a word whose number is within the labels and the marks means the item of that number
+means : (labels : List Name) (marks number : ℕ) (word : Name) (row : List Name) (items : List Item)
+    → 1 ≤ number → number ≤ length labels + marks → IsNumber word number → AreItems labels marks row items → AreItems labels marks (word ∷ row) (item_of labels number ∷ items)
+means labels marks zero word row items some within is rest = absurd (omega arith)
+means labels marks (suc n) word row items some within is rest =
+    cond_both (nat_lt n (length labels)) _ _ (λ item. AreItems labels marks (word ∷ row) (item ∷ items))
+    (λ e. (suc n, is, (n, omega arith, slice_get-get_or labels n [] (ltb-true n (length labels) e)), rest))
+    (λ e. let outside : length labels ≤ n = ltb-false n (length labels) e in (suc n, is, (omega arith, omega arith, omega arith), rest))
+
+-- ---- sound: the numbers read are those of a row
+
+-- the letters `before` of a word that is begun come to `digits`
+pub record Begun (before : Name) (digits : ℕ) : Type 0 where
+  pub counts : (word : Name) → number_of (before ++ word) ≡ number_from digits word
+  pub none : digits ≡ 0 → before ≡ []
+
+pub begun-none : Begun [] 0
+begun-none = record { counts = λ word. refl; none = λ e. refl }
+
+begun-more : (before : Name) (digits letter : ℕ) → Begun before digits → is_first letter ≡ true → Begun (before ++ letter ∷ []) (5 * digits + (letter - 84))
+begun-more before digits letter begun first =
+    let bounds : (85 ≤ letter) × (letter ≤ 89) = first_bounds letter first in
+    record {
+      counts = λ word. ap number_of (append_assoc before (letter ∷ []) word) ∙ (begun.counts (letter ∷ word) ∙ rw first refl);
+      none = λ e. absurd (omega (arith, e, bounds.0));
+    }
+
+pub record ReadRow (labels : List Name) (marks : ℕ) (before : Name) (letters : List ℕ) (numbers : List ℕ) : Type 0 where
+  pub row : List Name
+  pub whole : before ++ letters ≡ joined row
+  pub means : AreItems labels marks row (items_of labels numbers)
+
+option_map-some : {A B : Type 0} (f : A → B) (o : Option A) (y : B) → option_map f o ≡ Some y → (x : A) × (o ≡ Some x) × (f x ≡ y)
+option_map-some f None y h = absurd (none-some y h)
+option_map-some f (Some x) y h = (x, refl, same_Some (f x) y h)
+
+with_number-some : (limit number : ℕ) (rest : Option (List ℕ)) (numbers : List ℕ) → with_number limit number rest ≡ Some numbers
+    → (number ≤ limit) × ((more : List ℕ) × (rest ≡ Some more) × (number ∷ more ≡ numbers))
+with_number-some limit number rest numbers =
+    cond_both (nat_le number limit) _ _ (λ o. o ≡ Some numbers → (number ≤ limit) × ((more : List ℕ) × (rest ≡ Some more) × (number ∷ more ≡ numbers)))
+    (λ e h. (leb-true number limit e, option_map-some (λ numbers. number ∷ numbers) rest numbers h)) (λ e h. absurd (none-some numbers h))
+
+-- a word's last letter
+read_last : (labels : List Name) (marks limit digits : ℕ) (before : Name) (letter : ℕ) (letters numbers : List ℕ) → limit ≡ length labels + marks → Begun before digits
+    → is_first letter ≡ false → is_last letter ≡ true → ((more : List ℕ) → numbers_from limit 0 letters ≡ Some more → ReadRow labels marks [] letters more)
+    → with_number limit (20 * digits + (letter - 64)) (numbers_from limit 0 letters) ≡ Some numbers → ReadRow labels marks before (letter ∷ letters) numbers
+read_last labels marks limit digits before letter letters numbers is begun first last ih h =
+    let number : ℕ = 20 * digits + (letter - 64) in
+    let bounds : (65 ≤ letter) × (letter ≤ 84) = last_bounds letter last in
+    let got : (number ≤ limit) × ((more : List ℕ) × (numbers_from limit 0 letters ≡ Some more) × (number ∷ more ≡ numbers)) = with_number-some limit number (numbers_from limit 0 letters) numbers h in
+    let read : ReadRow labels marks [] letters got.1.0 = ih got.1.0 got.1.1 in
+    let word : Name = before ++ letter ∷ [] in
+    let ends : number_from digits (letter ∷ []) ≡ Some number = rw (first, last) refl in
+    rw (← got.1.2) (record {
+      row = word ∷ read.row;
+      whole = sym (append_assoc before (letter ∷ []) letters) ∙ ap (λ r. word ++ r) read.whole;
+      means = means labels marks number word read.row (items_of labels got.1.0) (omega (arith, bounds.0)) (omega (arith, is, got.0)) (placed-number_of word number (begun.counts (letter ∷ []) ∙ ends)) read.means;
+    })
+
+-- letters that give numbers are a row, and its items are those of the numbers
+pub read_row : (labels : List Name) (marks limit digits : ℕ) (before : Name) (letters numbers : List ℕ) → limit ≡ length labels + marks → Begun before digits
+    → numbers_from limit digits letters ≡ Some numbers → ReadRow labels marks before letters numbers
+read_row labels marks limit digits before [] numbers is begun =
+    cond_both (digits == 0) _ _ (λ o. o ≡ Some numbers → ReadRow labels marks before [] numbers)
+    (λ e h. rw (← same_Some [] numbers h) (record { row = []; whole = append-nil before ∙ begun.none (eqb-true digits 0 e); means = tt })) (λ e h. absurd (none-some numbers h))
+read_row labels marks limit digits before (letter ∷ letters) numbers is begun =
+    by_letter (λ o. o ≡ Some numbers → ReadRow labels marks before (letter ∷ letters) numbers) limit digits letter letters
+    (λ first h.
+    let read : ReadRow labels marks (before ++ letter ∷ []) letters numbers = read_row labels marks limit (5 * digits + (letter - 84)) (before ++ letter ∷ []) letters numbers is (begun-more before digits letter begun first) h in
+    record { row = read.row; whole = sym (append_assoc before (letter ∷ []) letters) ∙ read.whole; means = read.means })
+    (λ first last h. read_last labels marks limit digits before letter letters numbers is begun first last (λ more. read_row labels marks limit 0 [] letters more is begun-none) h)
+    (λ z none h.
+    let got : (more : List ℕ) × (numbers_from (limit + 1) 0 letters ≡ Some more) × (0 ∷ more ≡ numbers) = option_map-some (λ numbers. 0 ∷ numbers) (numbers_from (limit + 1) 0 letters) numbers h in
+    let read : ReadRow labels (marks + 1) [] letters got.0 = read_row labels (marks + 1) (limit + 1) 0 [] letters got.0 (omega (arith, is)) begun-none got.1 in
+    rw (← got.2, begun.none none, z) (record { row = mark ∷ read.row; whole = ap (λ r. mark ++ r) read.whole; means = (refl, read.means) }))
+    (λ first last h. absurd (none-some numbers h))
+
+-- ---- complete: a row's numbers are read
+
+-- the letters of one word and what follows
+numbers_from-word : (limit d number : ℕ) (word : Name) (rest : List ℕ) → number_from d word ≡ Some number → numbers_from limit d (word ++ rest) ≡ with_number limit number (numbers_from limit 0 rest)
+numbers_from-word limit d number [] rest h = absurd (none-some number h)
+numbers_from-word limit d number (letter ∷ word) rest h =
+    by_letter (λ o. o ≡ with_number limit number (numbers_from limit 0 rest)) limit d letter (word ++ rest)
+    (λ first. numbers_from-word limit (5 * d + (letter - 84)) number word rest (rw first at h))
+    (λ first last. alone word (rw (first, last) at h))
+    (λ z none. absurd (none-some number (rw z at h)))
+    (λ first last. absurd (none-some number (rw (first, last) at h)))
+  where
+    alone : (word : Name) → cond (true && is_empty word) (Some (20 * d + (letter - 64))) None ≡ Some number
+        → with_number limit (20 * d + (letter - 64)) (numbers_from limit 0 (word ++ rest)) ≡ with_number limit number (numbers_from limit 0 rest)
+    alone [] h = ap (λ n. with_number limit n (numbers_from limit 0 rest)) (same_Some (20 * d + (letter - 64)) number h)
+    alone (x ∷ word) h = absurd (none-some number h)
+
+-- the numbers of a row, and its items from them
+pub record RowRead (labels : List Name) (limit : ℕ) (letters : List ℕ) (items : List Item) : Type 0 where
+  pub numbers : List ℕ
+  pub read : numbers_from limit 0 letters ≡ Some numbers
+  pub are : items_of labels numbers ≡ items
 
 -- a word's item before those that follow
 word_read : (labels : List Name) (marks limit number : ℕ) (word : Name) (row : List Name) (item : Item) (items : List Item)
     → IsNumber word number → number ≤ limit → item_of labels number ≡ item → RowRead labels limit (joined row) items → RowRead labels limit (word ++ joined row) (item ∷ items)
-word_read labels marks limit number word row item items is within of more = record {
-  numbers = number ∷ more.numbers;
-  read = numbers_from-word limit 0 number word (joined row) (number_of-placed word number is) ∙ with_number-within limit number more.numbers (numbers_from limit 0 (joined row)) within more.read;
-  are = ap (λ i. i ∷ items_of labels more.numbers) of ∙ ap (λ (items : List Item). item ∷ items) more.are;
-}
+word_read labels marks limit number word row item items is within of more =
+    let test : nat_le number limit ≡ true = grind (arith, nat_tests) in
+    record {
+      numbers = number ∷ more.numbers;
+      read = numbers_from-word limit 0 number word (joined row) (number_of-placed word number is) ∙ rw (test, more.read) refl;
+      are = rw (of, more.are) refl;
+    }
 
 -- the numbers of a row's words are read, where the limit counts the labels and the marks before
 pub row_read : (labels : List Name) (marks limit : ℕ) (row : List Name) (items : List Item) → limit ≡ length labels + marks → AreItems labels marks row items → RowRead labels limit (joined row) items
@@ -88,13 +147,12 @@ row_read labels marks limit [] (item ∷ items) is m = absurd m
 row_read labels marks limit (word ∷ row) [] is m = absurd m
 row_read labels marks limit (word ∷ row) (Mark ∷ items) is m =
     let more : RowRead labels (limit + 1) (joined row) items = row_read labels (marks + 1) (limit + 1) row items (omega (arith, is)) m.1 in
-    record {
-      numbers = 0 ∷ more.numbers;
-      read = ap (λ w. numbers_from limit 0 (w ++ joined row)) m.0 ∙ ap (option_map (λ (numbers : List ℕ). 0 ∷ numbers)) more.read;
-      are = ap (λ (items : List Item). Mark ∷ items) more.are;
-    }
+    record { numbers = 0 ∷ more.numbers; read = rw (m.0, more.read) refl; are = rw more.are refl }
 row_read labels marks limit (word ∷ row) (Cite label ∷ items) is m =
     let inside : m.2.0 < length labels = slice_get_within labels m.2.0 label m.2.2 in
-    word_read labels marks limit m.0 word row (Cite label) items m.1 (omega (arith, is, m.2.1)) (item_of-cite labels m.0 m.2.0 label m.2.1 m.2.2) (row_read labels marks limit row items is m.3)
+    word_read labels marks limit m.0 word row (Cite label) items m.1 (omega (arith, is, m.2.1))
+    (item-cite labels m.0 m.2.0 (omega (arith, m.2.1)) inside ∙ ap Cite (get_or_from_slice_get labels m.2.0 label [] m.2.2)) (row_read labels marks limit row items is m.3)
 row_read labels marks limit (word ∷ row) (Recall k ∷ items) is m =
-    word_read labels marks limit m.0 word row (Recall k) items m.1 (omega (arith, is, m.2.0, m.2.2)) (item_of-recall labels m.0 k m.2.0 m.2.1) (row_read labels marks limit row items is m.3)
+    let number : m.0 ≡ suc (length labels + k - 1) = omega (arith, m.2.0, m.2.1) in
+    word_read labels marks limit m.0 word row (Recall k) items m.1 (omega (arith, is, m.2.0, m.2.2))
+    (item-recall labels m.0 (length labels + k - 1) number (omega (arith, m.2.1)) ∙ ap Recall (omega (arith, m.2.1))) (row_read labels marks limit row items is m.3)

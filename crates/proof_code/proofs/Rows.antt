@@ -1,12 +1,5 @@
 -- Words, numbers and items, worked out.
-use Rattle.std.specs.Prelude.{◌≡◌, true, [], ◌∷◌, codes, None, Some, refl}
-use Rattle.std.proofs.Common.{arith}
-use Rattle.mm_lex.specs.Words.{words_of}
-use Rattle.proof_code.specs.declared.item.Item.TheVariants.{Cite, Recall, Mark}
-use Rattle.proof_code.specs.Letters.{IsNumber, number_of}
-use Rattle.proof_code.specs.ItemNumbers.{items_of}
-use Rattle.proof_code.specs.Text.{letters_of, numbers_from}
-use Rattle.proof_code.specs.Writes.{is_unfinished, is_compressed, WritesPlain, WritesPacked}
+use Rattle.proof_code.proofs.Words.{◌≡◌, true, [], ◌∷◌, codes, None, Some, refl, arith, words_of, Cite, Recall, Mark, IsNumber, number_of, items_of, letters_of, numbers_from, is_unfinished, is_compressed, WritesPlain, WritesPacked}
 
 -- ---- the order of the words (Metamath, appendix B)
 

@@ -1,23 +1,10 @@
 -- The text of some words: its letters, its length, and a byte in it.
-use Rattle.std.specs.Prelude.{◌≡◌, ℕ, ◌+◌, ◌*◌, ◌≤◌, Bool, true, false, ◌||◌, ◌==◌, List, [], ◌∷◌, ◌++◌, flat_map, length, refl}
-use Rattle.std.specs.List.{list_all, list_any}
-use Rattle.std.proofs.Common.{sym, ◌∙◌, ap, arith, true≢false, length-append}
-use Rattle.std.proofs.lemmas.List.{append-nil}
-use Rattle.std.proofs.lemmas.List.Folds.{list_any-append}
-use Rattle.std.proofs.lemmas.Bool.{and_parts}
-use Rattle.std.proofs.Math.Bool.{or-false}
+use Rattle.proof_code.proofs.Words.{◌≡◌, ℕ, ◌+◌, ◌*◌, ◌≤◌, true, false, ◌||◌, ◌==◌, List, [], ◌∷◌, ◌++◌, flat_map, length, refl, list_all, list_any, sym, ◌∙◌, ap, arith, true≢false, length-append, append-nil, list_any-append, and_parts, eqb-true, false_from_ne_true, or-false, Name, is_visible, has_byte, spaced, is_word, letters_of}
 use Rattle.mm_lex.proofs.WordsLemmas.{word-visible}
-use Rattle.mm_lex.specs.Alphabet.{Name, is_visible, has_byte}
-use Rattle.mm_lex.specs.Words.{spaced, is_word}
-use Rattle.proof_code.specs.Text.{letters_of}
 
 -- a byte that one can see is no space
 pub not_space : (b : ℕ) → is_visible b ≡ true → (b == 32) ≡ false
-not_space b h = by (b == 32) refl
-  where
-    by : (t : Bool) → (b == 32) ≡ t → t ≡ false
-    by true e = let is : b ≡ 32 = grind (arith, e) in absurd (true≢false (sym h ∙ ap is_visible is))
-    by false e = refl
+not_space b h = false_from_ne_true (b == 32) (λ e. true≢false (sym h ∙ ap is_visible (eqb-true b 32 e)))
 
 letters_of-visible : (word : Name) (text : List ℕ) → list_all is_visible word ≡ true → letters_of (word ++ text) ≡ word ++ letters_of text
 letters_of-visible [] text h = refl

@@ -1,18 +1,43 @@
 -- What is read from left to right is what the tokens write.
-use Rattle.std.specs.Prelude.{◌≡◌, true, false, List, [], ◌∷◌, ◌++◌, Option, Some, None, MatchOption, refl}
-use Rattle.std.specs.List.{list_all}
-use Rattle.std.proofs.Common.{sym, ◌∙◌, ap, subst, true≢false, Bor}
-use Rattle.std.proofs.lemmas.Option.{none-some, same_Some}
-use Rattle.std.proofs.lemmas.Slice.Eq.{bytes_eq-Decides}
-use Rattle.std.specs.Prelude.{ℕ}
-use Rattle.mm_lex.specs.Alphabet.{Name}
-use Rattle.mm_lex.specs.Words.{spaced, is_word}
-use Rattle.proof_code.specs.declared.item.Item.{Item}
-use Rattle.proof_code.specs.Reading.{share_label}
-use Rattle.proof_code.specs.Text.{Header, header_of, starts_with_mark}
-use Rattle.proof_code.specs.Writes.{begin, finish, is_compressed, WritesRow, WritesCompressed}
-use Rattle.proof_code.proofs.HeaderLemmas.{IsHeader, header-read, read-header}
-use Rattle.proof_code.proofs.NumbersOfRow.{joined}
+use Rattle.proof_code.proofs.Words.{◌≡◌, ℕ, true, false, List, [], ◌∷◌, ◌++◌, Option, Some, None, MatchOption, refl, list_all, option_map, sym, ◌∙◌, ap, true≢false, inl, inr, none-some, same_Some, bytes_eq-Decides, and_from, and_parts, cases_Bool, false_from_ne_true, Name, name_eq, is_label, spaced, is_word, Item, share_label, Header, with_label, header_of, starts_with_mark, begin, finish, is_compressed, WritesRow, WritesCompressed}
+use Rattle.std.proofs.Common.{Bor}
+use Rattle.proof_code.proofs.RowOfNumbers.{joined}
+
+-- ---- the header
+
+-- the header's parts are those of the definition
+pub record IsHeader (tokens : List Name) (header : Header) : Type 0 where
+  pub whole : tokens ≡ header.listed ++ finish ∷ header.rest
+  pub labels : list_all is_label header.listed ≡ true
+
+-- a header with a label put before comes from one without that label
+some_header : (o : Option Header) (label : Name) (header : Header) → option_map (with_label label) o ≡ Some header → (more : Header) × (o ≡ Some more) × (with_label label more ≡ header)
+some_header None label header h = absurd (none-some header h)
+some_header (Some more) label header h = (more, refl, same_Some (with_label label more) header h)
+
+-- a header that is read is one
+pub header-read : (tokens : List Name) (header : Header) → header_of tokens ≡ Some header → IsHeader tokens header
+header-read [] header h = absurd (none-some header h)
+header-read (token ∷ tokens) header h = elim (cases_Bool (name_eq token finish)) [
+  | inl e ↦ rw (← same_Some (record { listed = []; rest = tokens }) header (rw e at h)) (record { whole = ap (λ t. t ∷ tokens) ((bytes_eq-Decides token finish).0 e); labels = refl })
+  | inr e ↦ elim (cases_Bool (is_label token)) [
+    | inl is ↦
+        let got : (more : Header) × (header_of tokens ≡ Some more) × (with_label token more ≡ header) = some_header (header_of tokens) token header (rw (e, is) at h) in
+        let more : IsHeader tokens got.0 = header-read tokens got.0 got.1 in
+        rw (← got.2) (record { whole = ap (λ ts. token ∷ ts) more.whole; labels = and_from (is_label token) (list_all is_label got.0.listed) is more.labels })
+    | inr is ↦ absurd (none-some header (rw (e, is) at h))
+  ]
+]
+
+-- and the one that is there is read
+read-header : (listed rest : List Name) → list_all is_label listed ≡ true → header_of (listed ++ finish ∷ rest) ≡ Some (record { listed = listed; rest = rest })
+read-header [] rest labels = refl
+read-header (label ∷ listed) rest labels =
+    let is : (is_label label ≡ true) × (list_all is_label listed ≡ true) = and_parts (is_label label) (list_all is_label listed) labels in
+    let goes_on : name_eq label finish ≡ false = false_from_ne_true (name_eq label finish) (λ e. true≢false (sym is.0 ∙ ap is_label ((bytes_eq-Decides label finish).0 e))) in
+    rw (goes_on, is.0) (ap (option_map (with_label label)) (read-header listed rest is.1))
+
+-- ---- the whole proof
 
 -- the first token of a compressed proof, taken off, is `(`
 pub begins : (iter tokens before : List Name) (r : Option (Bor (List ℕ))) → MatchOption r ((iter ≡ []) × (before ≡ [])) (λ x. iter ≡ x.now ∷ before) → iter ≡ tokens → is_compressed tokens ≡ true → tokens ≡ begin ∷ before
@@ -43,8 +68,7 @@ module _ (tokens before : List Name) (starts : tokens ≡ begin ∷ before) wher
     -- behind the header that is read a row is written, and it lists no mandatory label
     pub row_behind : (labels : List Name) (items : List Item) → WritesCompressed tokens labels items → (share_label labels header.listed ≡ false) × WritesRow (labels ++ header.listed) (joined header.rest) items
     row_behind labels items w =
-        let P : Header → Type 0 = λ header. (share_label labels header.listed ≡ false) × WritesRow (labels ++ header.listed) (joined header.rest) items in
-        subst P (same_Some (record { listed = w.listed; rest = w.rest }) header (sym (header-is labels items w) ∙ read)) (w.apart, w.letters)
+        rw (← same_Some (record { listed = w.listed; rest = w.rest }) header (sym (header-is labels items w) ∙ read)) (w.apart, w.letters)
 
     -- and such a row is written by the whole proof
     pub written_behind : (labels : List Name) (items : List Item) → share_label labels header.listed ≡ false → WritesRow (labels ++ header.listed) (joined header.rest) items → WritesCompressed tokens labels items

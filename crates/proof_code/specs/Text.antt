@@ -1,6 +1,6 @@
 -- Tokens read from left to right, for the private functions.
 -- Source: Metamath, appendix B.
--- This is the code's way to read; that it gives what `Writes` says is proved in LetterItemLemmas and HeaderLemmas.
+-- This is the code's way to read; that it gives what `Writes` says is proved in LetterItemLemmas and WritesLemmas.
 use Rattle.std.specs.Prelude.{ℕ, ◌+◌, ◌-◌, ◌*◌, Bool, false, ◌&&◌, ◌==◌, nat_le, if◌then◌else◌, List, [], ◌∷◌, Option, Some, None}
 use Rattle.std.specs.Option.{option_map}
 use Rattle.mm_lex.specs.Alphabet.{Name, name_eq, is_label}

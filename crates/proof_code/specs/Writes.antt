@@ -43,17 +43,14 @@ AreItems labels marks [] [] = Unit {0}
 AreItems labels marks [] (item ∷ items) = ⊥
 AreItems labels marks (word ∷ row) [] = ⊥
 AreItems labels marks (word ∷ row) (Mark ∷ items) = (word ≡ mark) × AreItems labels (marks + 1) row items
-AreItems labels marks (word ∷ row) (Cite label ∷ items) =
-    (number : ℕ) × IsNumber word number × Means labels marks number (Cite label) × AreItems labels marks row items
-AreItems labels marks (word ∷ row) (Recall k ∷ items) =
-    (number : ℕ) × IsNumber word number × Means labels marks number (Recall k) × AreItems labels marks row items
+AreItems labels marks (word ∷ row) (item ∷ items) =
+    (number : ℕ) × IsNumber word number × Means labels marks number item × AreItems labels marks row items
 
 -- the items do not begin with a mark
 abbrev pub starts_with_result : List Item → Bool
 starts_with_result [] = true
 starts_with_result (Mark ∷ items) = false
-starts_with_result (Cite label ∷ items) = true
-starts_with_result (Recall k ∷ items) = true
+starts_with_result (item ∷ items) = true
 
 -- the letters are a row of words and marks that gives the items
 pub record WritesRow (labels : List Name) (letters : List ℕ) (items : List Item) : Type 0 where

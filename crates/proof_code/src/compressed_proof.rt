@@ -5,7 +5,7 @@ ghost use Rattle.proof_code.specs.Reading.{share_label};
 
 use crate::fault::{CodeFault, is_unfinished};
 use crate::items::Items;
-use crate::mandatory_labels::Mandatory;
+use crate::mandatory_labels::{Mandatory, names_of};
 use crate::reader::{Heading, Reader};
 use mm_lex::{WordIter, Words};
 use std::alloc::{AllocError, Global};
@@ -63,7 +63,11 @@ fn count_labels(labels: &Words) -> usize
 fn shares_label(alloc: Global, mandatory: &Words, words: WordIter<'_>, count: usize) -> bool
     ensures { result ≡ share_label mandatory.now (take count words.entry) }
 {
-    let known = Mandatory::new(alloc, mandatory);
+    let names = names_of(alloc, mandatory);
+    let known = Mandatory {
+        labels: mandatory,
+        names,
+    };
     words.take(count).any(|label| known.has(label))
 }
 

@@ -11,22 +11,12 @@ use std::collections::HashSet;
 /// The mandatory labels, and their names hashed where there is memory for that.
 #[derive(Drop)]
 pub(crate) struct Mandatory<'a> {
-    labels: &'a Words,
-    names: Option<HashSet<&'a [u8]>>,
+    pub(crate) labels: &'a Words,
+    pub(crate) names: Option<HashSet<&'a [u8]>>,
     ghost named: { ForSome names (λ names. AreNames names labels.now) },
 }
 
 impl<'a> Mandatory<'a> {
-    /// Cost: the size of the labels.
-    pub(crate) fn new(alloc: Global, labels: &'a Words) -> Mandatory<'a>
-        ensures { result.labels.now ≡ labels.entry.now }
-    {
-        Mandatory {
-            labels,
-            names: names_of(alloc, labels),
-        }
-    }
-
     /// Whether it is the name of one of them.
     pub(crate) fn has(&self, label: &[u8]) -> bool
         ensures { result ≡ has_name label.now self.now.labels.now }
@@ -38,16 +28,16 @@ impl<'a> Mandatory<'a> {
     }
 }
 
-/// The names of the labels, `None` where a growth was refused.
-fn names_of<'a>(alloc: Global, labels: &'a Words) -> Option<HashSet<&'a [u8]>>
+/// The names of the labels, `None` where a growth was refused. Cost: the size of the labels.
+pub(crate) fn names_of<'a>(alloc: Global, labels: &'a Words) -> Option<HashSet<&'a [u8]>>
     ensures { IfSome result (λ names. AreNames names labels.entry.now) }
 {
     let mut names = HashSet::new(alloc);
     let mut left = labels.iter();
     while let Some(label) = left.next() {
-        if names.insert(label).is_err() {
+        let Ok(_) = names.insert(label) else {
             return None;
-        }
+        };
     }
     Some(names)
 }

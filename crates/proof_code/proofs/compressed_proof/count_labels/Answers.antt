@@ -1,5 +1,4 @@
-use Rattle.std.proofs.Common.{◌≡◌, ap, arith, length}
-use Rattle.std.proofs.lemmas.Bool.Decides.{nat_tests}
+use Rattle.proof_code.proofs.Words.{◌≡◌, ap, arith, length, nat_tests}
 use Rattle.proof_code.proofs.TextLemmas.{length-spaced}
 use Rattle.proof_code.proofs.compressed_proof.count_labels.Goals as goal
 

@@ -1,5 +1,4 @@
-use Rattle.std.proofs.Common.{◌≡◌, ◌++◌, false, take, drop, refl, sym, ◌∙◌, ap}
-use Rattle.proof_code.specs.Writes.{is_unfinished}
+use Rattle.proof_code.proofs.Words.{◌≡◌, ◌++◌, false, take, drop, refl, sym, ◌∙◌, ap, is_unfinished}
 use Rattle.proof_code.proofs.ReadProofLemmas.{shared-none, apart-written}
 use Rattle.proof_code.proofs.compressed_proof.packed.Goals as goal
 

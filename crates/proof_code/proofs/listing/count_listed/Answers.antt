@@ -1,6 +1,4 @@
-use Rattle.std.proofs.Common.{arith, ◌+◌, subst}
-use Rattle.std.specs.Prelude.{◌≡◌, ◌==◌, true, drop}
-use Rattle.proof_code.specs.Listing.{more_labels, counted}
+use Rattle.proof_code.proofs.Words.{arith, ◌+◌, subst, ◌≡◌, ◌==◌, true, drop, more_labels, counted}
 use Rattle.proof_code.proofs.ListingLemmas.{counted-more}
 use Rattle.proof_code.proofs.listing.count_listed.Goals as goal
 

@@ -1,6 +1,4 @@
-use Rattle.std.proofs.Common.{◌≡◌, ◌≤◌, true, drop}
-use Rattle.std.specs.Prelude.{◌==◌}
-use Rattle.proof_code.specs.Listing.{more_labels, counted}
+use Rattle.proof_code.proofs.Words.{◌≡◌, ◌≤◌, true, drop, ◌==◌, more_labels, counted}
 use Rattle.proof_code.proofs.listing.count_listed.Given as goal
 
 abbrev pub invariant-loop-index : goal.invariant-loop-index

@@ -1,5 +1,4 @@
-use Rattle.std.proofs.Common.{◌≡◌, ◌+◌, ◌∷◌, refl, sym}
-use Rattle.proof_code.specs.Writes.{begin}
+use Rattle.proof_code.proofs.Words.{◌≡◌, ◌+◌, ◌∷◌, refl, sym, begin}
 use Rattle.proof_code.proofs.ListingLemmas.{listing-none, listing-some}
 use Rattle.proof_code.proofs.WritesLemmas.{begins, without_header}
 use Rattle.proof_code.proofs.ReadProofLemmas.{marked_first, unnumbered, heading}
