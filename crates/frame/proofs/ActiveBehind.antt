@@ -1,15 +1,6 @@
 -- What is active behind a statement.
-use Rattle.std.specs.Prelude.{◌≡◌, ℕ, zero, suc, ◌+◌, Bool, true, false, cond, ◌||◌, List, [], ◌∷◌, ◌++◌, Option, Some, None, refl, not}
-use Rattle.std.specs.List.{list_any}
-use Rattle.std.proofs.Common.{◌∙◌, ap}
-use Rattle.std.proofs.lemmas.Slice.Eq.{bytes_eq-Decides}
-use Rattle.std.proofs.lemmas.Bool.{or_left, or_right}
-use Rattle.mm_lex.specs.Alphabet.{Name, name_eq}
-use Rattle.mm_read.specs.declared.stmt.Stmt.{Stmt}
-use Rattle.mm_read.specs.declared.stmt.Stmt.TheVariants.{Open, Close}
-use Rattle.mm_read.specs.Statements.{Database}
-use Rattle.scope.specs.Active.{stays_open, active_from}
-use Rattle.frame.proofs.OpenLemmas.{stays_open-any}
+use Rattle.frame.proofs.Words.{list_any, ◌∙◌, ap, arith, ◌≡◌, ℕ, ◌+◌, Bool, true, false, cond, ◌||◌, List, [], ◌∷◌, ◌++◌, Option, Some, None, refl, not, bytes_eq-Decides, or_left, or_right, Name, name_eq, Stmt, Database, stays_open, active_from, below-deficit, deficit-below, no_deficit}
+use Rattle.frame.proofs.OpenLemmas.{deficit-join}
 
 -- x is none of the variables
 abbrev pub IsElsewhere : Name → List (Option Name) → Type 0
@@ -72,8 +63,4 @@ stands-active q n (t ∷ front) s rest opens passes = by (stands-active q (n + 1
 
 -- two lists that close no block before them, one behind the other, close none either
 pub open_both : (d : ℕ) (T U : Database) → stays_open d T ≡ true → stays_open 0 U ≡ true → stays_open d (T ++ U) ≡ true
-open_both d [] U h k = stays_open-any d U k
-open_both d (Open ∷ T) U h k = open_both (suc d) T U h k
-open_both zero (Close ∷ T) U h k = cc
-open_both (suc d) (Close ∷ T) U h k = open_both d T U h k
-open_both d (s ∷ T) U h k = open_both d T U h k
+open_both d T U h k = below-deficit d (T ++ U) (omega (arith, deficit-join T U, deficit-below d T h, no_deficit U k))

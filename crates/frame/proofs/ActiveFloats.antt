@@ -1,19 +1,10 @@
 -- Of one variable one `$f` is active, and a hypothesis is a `$e` or such a `$f`.
-use Rattle.std.specs.Prelude.{◌≡◌, ℕ, suc, ◌+◌, ◌<◌, true, false, not, ◌&&◌, ◌⊎◌, ◌∷◌, ◌++◌, length, take, drop, slice_get, Some, refl}
-use Rattle.std.proofs.Common.{sym, ◌∙◌, ap, arith, inl, inr, length-append}
-use Rattle.std.proofs.lemmas.Slice.Eq.{bytes_eq-Decides}
-use Rattle.std.proofs.lemmas.Bool.{and_parts}
-use Rattle.frame.proofs.LinksLemmas.{cut-here, length-cut, drop-front}
-use Rattle.mm_lex.specs.Alphabet.{Name, has_name}
-use Rattle.mm_read.specs.declared.stmt.Stmt.{Stmt}
+use Rattle.frame.proofs.Words.{sym, ◌∙◌, ap, subst, arith, inl, inr, length-append, take-append-drop, ◌≡◌, ℕ, suc, ◌+◌, ◌-◌, ◌<◌, true, false, not, ◌&&◌, ◌⊎◌, ◌∷◌, ◌++◌, length, take, drop, slice_get, Some, refl, take-append-add, bytes_eq-Decides, and_parts, Name, has_name, Stmt, Expr, Database, stays_open, is_active, is_essential, is_variable, has_float, is_float_of, IsLegal, is_mandatory, is_hypothesis, is_float_in}
+use Rattle.frame.proofs.LinksLemmas.{drop-front}
 use Rattle.mm_read.specs.declared.stmt.Stmt.TheVariants as stmt
-use Rattle.mm_read.specs.Statements.{Expr, Database}
-use Rattle.scope.specs.Active.{stays_open, is_active, is_essential, is_variable, has_float, is_float_of}
-use Rattle.frame.specs.FrameOf.{is_mandatory, is_hypothesis}
-use Rattle.frame.specs.Stored.AssertionParts.{is_float_in}
 use Rattle.frame.proofs.LegalLabels.{AllKept}
 use Rattle.frame.proofs.ActiveBehind.{stands-active}
-use Rattle.frame.proofs.LegalBehind.{kept-legal, legal-keeps, Order, earlier, at_one, later, order, stands-at}
+use Rattle.frame.proofs.LegalBehind.{legal-keeps, stands-at}
 use Rattle.frame.proofs.OpenLemmas.{stays_open-front}
 use Rattle.frame.proofs.BlockWalkLemmas.{active-end}
 
@@ -25,21 +16,15 @@ rest-active S A t B whole stays =
 -- behind an active `$f` of x no other `$f` of x stands
 pub one-float : (S A : Database) (m l x : Name) (B : Database) (k : ℕ) (m' l' : Name) → AllKept S → S ≡ A ++ stmt.Float m l x ∷ B → stays_open 0 B ≡ true → slice_get S k ≡ Some (stmt.Float m' l' x) → length A < k → ⊥
 one-float S A m l x B k m' l' all whole stays at_k lt =
-    by (order A (stmt.Float m l x) B (take k S) (stmt.Float m' l' x) (drop (suc k) S) (sym whole ∙ cut-here S k (stmt.Float m' l' x) at_k))
-  where
-    len : length (take k S) ≡ k
-    len = length-cut S k (stmt.Float m' l' x) at_k
-
-    by : Order A (stmt.Float m l x) B (take k S) (stmt.Float m' l' x) (drop (suc k) S) → ⊥
-    by (at_one t p q) = let e = ap length p in omega (arith, e, len, lt)
-    by (later M p q) = let e = ap length p in let n = length-append (take k S) (stmt.Float m' l' x ∷ M) in omega (arith, e, n, len, lt)
-    by (earlier M p q) =
-        let legal = kept-legal S (take k S) (stmt.Float m' l' x) (drop (suc k) S) all (cut-here S k (stmt.Float m' l' x) at_k) in
-        let g : (is_variable (take k S) x && not (has_float (take k S) x)) ≡ true = (legal-keeps (take k S) (stmt.Float m' l' x) legal).g7 in
-        let none = and_parts (is_variable (take k S) x) (not (has_float (take k S) x)) g in
-        let inside : stays_open 0 M ≡ true = stays_open-front 0 M (stmt.Float m' l' x ∷ drop (suc k) S) (ap (stays_open 0) (sym q) ∙ stays) in
-        let has : has_float (take k S) x ≡ true = ap (λ D. has_float D x) p ∙ stands-active (is_float_of x) 1 A (stmt.Float m l x) M inside ((bytes_eq-Decides x x).1 refl) in
-        let bad : true ≡ false = sym none.1 ∙ ap not has in cc
+    let j = k - suc (length A) in
+    let up : k ≡ length A + suc j = omega (arith, lt) in
+    let before : take k S ≡ A ++ stmt.Float m l x ∷ take j B = ap (take k) whole ∙ (ap (λ n. take n (A ++ stmt.Float m l x ∷ B)) up ∙ take-append-add A (stmt.Float m l x ∷ B) (suc j)) in
+    let legal : IsLegal (take k S) (stmt.Float m' l' x) = let one : suc k - 1 ≡ k = omega arith in subst (λ n. IsLegal (take n S) (stmt.Float m' l' x)) one (all (suc k) (stmt.Float m' l' x) at_k) in
+    let g : (is_variable (take k S) x && not (has_float (take k S) x)) ≡ true = (legal-keeps (take k S) (stmt.Float m' l' x) legal).g7 in
+    let none = and_parts (is_variable (take k S) x) (not (has_float (take k S) x)) g in
+    let inside : stays_open 0 (take j B) ≡ true = stays_open-front 0 (take j B) (drop j B) (ap (stays_open 0) (take-append-drop j B) ∙ stays) in
+    let has : has_float (take k S) x ≡ true = ap (λ D. has_float D x) before ∙ stands-active (is_float_of x) 1 A (stmt.Float m l x) (take j B) inside ((bytes_eq-Decides x x).1 refl) in
+    let bad : true ≡ false = sym none.1 ∙ ap not has in cc
 
 -- a hypothesis is a `$e`, or the `$f` of a mandatory variable
 pub hyp-kind : (S : Database) (s t : Stmt) → is_hypothesis S s t ≡ true → (is_essential t ≡ true) ⊎ ((m : Name) × (l : Name) × (x : Name) × (t ≡ stmt.Float m l x) × (is_mandatory S s x ≡ true))

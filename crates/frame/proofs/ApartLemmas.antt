@@ -1,23 +1,8 @@
 -- Two images are apart just where no variable stands in both, if one active `$d` lists the variables of both.
-use Rattle.std.specs.Prelude.{◌≡◌, ℕ, ◌+◌, ◌<◌, ◌%◌, Bool, true, false, not, ◌||◌, ◌&&◌, ◌==◌, take, List, [], ◌∷◌, zero, suc, length, map, filter, cond, get_or, slice_index_or, slice_set, refl}
-use Rattle.std.specs.List.{list_all, list_any}
-use Rattle.std.proofs.Common.{sym, ◌∙◌, ap, arith, true≢false}
-use Rattle.std.proofs.lemmas.Bool.{and_parts, and_from, or_left, or_right, or_from, or_parts, not_from_false, false_from_ne_true}
-use Rattle.std.proofs.lemmas.List.Folds.{list_all-map, list_all_more, list_all_at, list_any_more}
-use Rattle.std.proofs.lemmas.List.{get_or-set_same}
+use Rattle.frame.proofs.Words.{list_all, list_any, sym, ◌∙◌, ap, arith, ⊎_elim, true≢false, get_or-set_same, ◌≡◌, ℕ, ◌+◌, ◌<◌, ◌%◌, Bool, true, false, not, ◌||◌, ◌&&◌, ◌==◌, take, List, [], ◌∷◌, zero, suc, length, map, filter, cond, get_or, slice_index_or, slice_set, refl, and_parts, and_from, or_left, or_right, or_from, or_cases, not-true, not_from_false, false_from_ne_true, true_from_ne_false, list_all-map, list_all_more, list_all_at, list_any_more, list_any-from_Any, Any-from_list_any}
+use Rattle.frame.proofs.Words.{Name, name_eq, has_name, Stmt, Expr, Database, is_variable, active, separated, name_at, decode, AreDistinct, name_same, same_name, list_any-map, all-has, is_pair, groups, is_disj, are_apart, AreBelow, is_listed, are_listed, does_cover, are_covered, do_share, is_variable_apart, is_symbol_apart, are_marked}
+use Rattle.std.specs.Cmp.{both_ways}
 use Rattle.frame.proofs.ActiveBehind.{implied}
-use Rattle.mm_lex.specs.Alphabet.{Name, name_eq, has_name}
-use Rattle.mm_read.specs.declared.stmt.Stmt.{Stmt}
-use Rattle.mm_read.specs.Statements.{Expr, Database}
-use Rattle.scope.specs.Active.{is_variable, active, separated}
-use Rattle.names.specs.Codes.{name_at, decode, AreDistinct}
-use Rattle.names.proofs.CodesLemmas.{name_same, same_name, list_any-map}
-use Rattle.scope.proofs.GoingBackLemmas.{all-has}
-use Rattle.frame.specs.FrameOf.{is_pair, groups}
-use Rattle.frame.specs.Links.{is_disj}
-use Rattle.frame.specs.Disjoint.{are_apart}
-use Rattle.frame.specs.Below.{AreBelow}
-use Rattle.frame.specs.Covers.{is_listed, are_listed, does_cover, are_covered, do_share, is_pair_apart, is_variable_apart, is_symbol_apart, are_marked}
 use Rattle.frame.proofs.KindWalk.{has-decode}
 use Rattle.frame.proofs.MarkLemmas.{set_true}
 
@@ -48,14 +33,10 @@ below-at n (x ∷ xs) (suc i) d b h = below-at n xs i d b.1 (omega (arith, h))
 
 -- an element that stands among those that pass the test passes it
 pub repeat-passes : {B : Type 0} (p : B → Bool) (f : ℕ → B) (xs : List ℕ) (x : ℕ) → list_all p (map f xs) ≡ true → list_any (λ y. x == y) xs ≡ true → p (f x) ≡ true
-repeat-passes p f [] x h k = cc
-repeat-passes p f (y ∷ xs) x h k =
-    let a = and_parts (p (f y)) (list_all p (map f xs)) h in
-    by (x == y) refl k (repeat-passes p f xs x a.1)
-  where
-    by : (b : Bool) → (x == y) ≡ b → (b || list_any (λ y. x == y) xs) ≡ true → (list_any (λ y. x == y) xs ≡ true → p (f x) ≡ true) → p (f x) ≡ true
-    by true e k rest = let same : x ≡ y = grind (arith, e) in ap (λ n. p (f n)) same ∙ (and_parts (p (f y)) (list_all p (map f xs)) h).0
-    by false e k rest = rest k
+repeat-passes p f xs x h k =
+    let a = Any-from_list_any (λ y. x == y) xs k in
+    let same : x ≡ a.1 = grind (arith, a.4) in
+    true_from_ne_false (p (f x)) (λ e. true≢false (sym h ∙ stops p f xs a.0 a.1 a.2 (ap (λ y. p (f y)) (a.3 ∙ sym same) ∙ e)))
 
 -- ---- all names of a list
 
@@ -77,44 +58,39 @@ symbol_variable S u f e = ap (λ b. list_all (λ v. not b || not (is_variable S 
 pub symbol_constant : (S : Database) (u : Name) (f : Expr) → is_variable S u ≡ false → is_symbol_apart S f u ≡ true
 symbol_constant S u f e = ap (λ b. list_all (λ v. not b || not (is_variable S v) || is_pair S u v) f) e ∙ all-true (λ v. true) f (λ v. refl)
 
--- a variable is apart from a symbol that is none
-pub pair_constant : (S : Database) (u v : Name) → is_variable S v ≡ false → is_pair_apart S u v ≡ true
-pair_constant S u v e = ap (λ b. not b || is_pair S u v) e
-
--- two variables are apart where they are a pair
-pub pair_variable : (S : Database) (u v : Name) → is_variable S v ≡ true → is_pair_apart S u v ≡ is_pair S u v
-pair_variable S u v e = ap (λ b. not b || is_pair S u v) e
-
 -- one that passes the test stands in the list, or none does
-pub any-has : (p : Name → Bool) (xs : List Name) → list_any p xs ≡ true → (x : Name) × (has_name x xs ≡ true) × (p x ≡ true)
-any-has p [] h = cc
-any-has p (y ∷ xs) h = by (p y) refl h (any-has p xs)
-  where
-    by : (b : Bool) → p y ≡ b → (b || list_any p xs) ≡ true → (list_any p xs ≡ true → (x : Name) × (has_name x xs ≡ true) × (p x ≡ true))
-        → (x : Name) × (has_name x (y ∷ xs) ≡ true) × (p x ≡ true)
-    by true e h rest = (y, or_left (name_eq y y) (has_name y xs) (name_same y), e)
-    by false e h rest = let r = rest h in (r.0, or_right (name_eq r.0 y) (has_name r.0 xs) r.1, r.2)
+any-has : (p : Name → Bool) (xs : List Name) → list_any p xs ≡ true → (x : Name) × (has_name x xs ≡ true) × (p x ≡ true)
+any-has p xs h = let a = Any-from_list_any p xs h in (a.1, list_any-from_Any (name_eq a.1) xs (a.0, a.1, a.2, a.3, name_same a.1), a.4)
 
-pub none-has : (p : Name → Bool) (xs : List Name) → list_any p xs ≡ false → (x : Name) → has_name x xs ≡ true → p x ≡ false
-none-has p [] h x k = cc
-none-has p (y ∷ xs) h x k = by (name_eq x y) refl k (λ in_xs. none-has p xs (or_parts (p y) (list_any p xs) h).1 x in_xs)
+none-has : (p : Name → Bool) (xs : List Name) → list_any p xs ≡ false → (x : Name) → has_name x xs ≡ true → p x ≡ false
+none-has p xs h x k = false_from_ne_true (p x) (λ e.
+    let a = Any-from_list_any (name_eq x) xs k in
+    true≢false (sym (list_any-from_Any p xs (a.0, a.1, a.2, a.3, ap p (sym (same_name x a.1 a.4)) ∙ e)) ∙ h))
+
+-- what passes one test among some of a list passes a wider one in the list
+any-filtered : {A : Type 0} (p q test : A → Bool) (xs : List A) → ((x : A) → p x ≡ true → q x ≡ true) → list_any p (filter test xs) ≡ true → list_any q xs ≡ true
+any-filtered p q test [] f h = cc
+any-filtered p q test (x ∷ xs) f h = by (test x) h (any-filtered p q test xs f)
   where
-    by : (b : Bool) → name_eq x y ≡ b → (b || has_name x xs) ≡ true → (has_name x xs ≡ true → p x ≡ false) → p x ≡ false
-    by true e k rest = ap p (same_name x y e) ∙ (or_parts (p y) (list_any p xs) h).0
-    by false e k rest = rest k
+    by : (b : Bool) → list_any p (cond b (x ∷ filter test xs) (filter test xs)) ≡ true → (list_any p (filter test xs) ≡ true → list_any q xs ≡ true) → (q x || list_any q xs) ≡ true
+    by true k more = ⊎_elim (λ e. or_left (q x) _ (f x e)) (λ e. or_right (q x) _ (more e)) (or_cases (p x) _ k)
+    by false k more = or_right (q x) _ (more k)
 
 -- ---- two images
 
 -- two symbols are kept apart where the first is no variable
 pub kept_by : (a b c : Bool) → a ≡ false → (not a || not b || c) ≡ true
-kept_by true b c e = cc
-kept_by false b c e = refl
+kept_by a b c e = rw e
 
 -- a disjunction whose first two parts fail holds by the third
 pub last_part : (a b c : Bool) → a ≡ true → b ≡ true → (not a || not b || c) ≡ true → c ≡ true
-last_part true true c p q h = h
-last_part true false c p q h = cc
-last_part false b c p q h = cc
+last_part a b c p q h = rw (p, q) at h
+
+-- and holds where it follows from them
+from_parts : (a b c : Bool) → (a ≡ true → b ≡ true → c ≡ true) → (not a || not b || c) ≡ true
+from_parts true true c f = f refl refl
+from_parts true false c f = refl
+from_parts false b c f = refl
 
 module _ (S : Database) where
   abbrev is_good : Name → Name → Bool
@@ -132,81 +108,43 @@ module _ (S : Database) where
       → are_apart S e f ≡ true
   apart-from e f k =
       all-from (λ u. list_all (is_good u) f) e
-      (λ u in_e. all-from (is_good u) f (λ v in_f. by u v in_e in_f (is_variable S u) (is_variable S v) refl refl))
-    where
-      by : (u v : Name) → has_name u e ≡ true → has_name v f ≡ true → (a b : Bool) → is_variable S u ≡ a → is_variable S v ≡ b
-          → (not a || not b || is_pair S u v) ≡ true
-      by u v in_e in_f false b p q = refl
-      by u v in_e in_f true false p q = refl
-      by u v in_e in_f true true p q = k u v p q in_e in_f
+      (λ u in_e. all-from (is_good u) f (λ v in_f. from_parts (is_variable S u) (is_variable S v) (is_pair S u v) (λ p q. k u v p q in_e in_f)))
 
   -- no active `$d` keeps a symbol apart from itself
-  pub same_no_pair : (u : Name) → is_pair S u u ≡ false
+  same_no_pair : (u : Name) → is_pair S u u ≡ false
   same_no_pair u = ap (λ t. not t && list_any (λ names. has_name u names && has_name u names) (groups S)) (name_same u)
 
-  -- a list among those of the active `$d`
-  any-group : (u v : Name) (ps : List (ℕ × Stmt)) (e f : Expr) → is_variable S u ≡ true → is_variable S v ≡ true → has_name u e ≡ true → has_name v f ≡ true
-      → list_any (λ p. does_cover S e f (separated p.1)) (filter (λ p. is_disj p.1) ps) ≡ true → list_any (λ names. has_name u names && has_name v names) (map (λ p. separated p.1) ps) ≡ true
-  any-group u v [] e f p q in_e in_f h = cc
-  any-group u v (s ∷ ps) e f p q in_e in_f h = by (is_disj s.1) (does_cover S e f (separated s.1)) refl h (any-group u v ps e f p q in_e in_f)
+  pub covered-apart : (e f : Expr) → are_covered S e f ≡ true → not (do_share S e f) ≡ are_apart S e f
+  covered-apart e f cover = both_ways (not (do_share S e f)) (are_apart S e f) there back
     where
-      both : List Name → Bool
-      both names = has_name u names && has_name v names
-
       listed : (names : List Name) (w : Name) (g : Expr) → is_variable S w ≡ true → has_name w g ≡ true → are_listed S names g ≡ true → has_name w names ≡ true
       listed names w g var in_g all = implied (is_variable S w) (has_name w names) (all-has (is_listed S names) w g all in_g) var
 
-      by : (a b : Bool) → does_cover S e f (separated s.1) ≡ b → list_any (λ p. does_cover S e f (separated p.1)) (cond a (s ∷ filter (λ p. is_disj p.1) ps) (filter (λ p. is_disj p.1) ps)) ≡ true
-          → (list_any (λ p. does_cover S e f (separated p.1)) (filter (λ p. is_disj p.1) ps) ≡ true → list_any both (map (λ p. separated p.1) ps) ≡ true)
-          → (both (separated s.1) || list_any both (map (λ p. separated p.1) ps)) ≡ true
-      by true true c h rest =
-          let l = and_parts (are_listed S (separated s.1) e) (are_listed S (separated s.1) f) c in
-          or_left (both (separated s.1)) (list_any both (map (λ p. separated p.1) ps))
-          (and_from (has_name u (separated s.1)) (has_name v (separated s.1)) (listed (separated s.1) u e p in_e l.0) (listed (separated s.1) v f q in_f l.1))
-      by true false c h rest =
-          or_right (both (separated s.1)) (list_any both (map (λ p. separated p.1) ps))
-          (rest (ap (λ t. t || list_any (λ p. does_cover S e f (separated p.1)) (filter (λ p. is_disj p.1) ps)) (sym c) ∙ h))
-      by false b c h rest = or_right (both (separated s.1)) (list_any both (map (λ p. separated p.1) ps)) (rest h)
+      there : not (do_share S e f) ≡ true → are_apart S e f ≡ true
+      there alone = apart-from e f (λ u v p q in_e in_f.
+          let both = λ (names : List Name). has_name u names && has_name v names in
+          let none = none-has (λ w. is_variable S w && has_name w e) f (not-true (do_share S e f) alone) v in_f in
+          let differ : name_eq u v ≡ false
+          = false_from_ne_true (name_eq u v) (λ is. true≢false (sym (and_from (is_variable S v) (has_name v e) q (ap (λ w. has_name w e) (sym (same_name u v is)) ∙ in_e)) ∙ none)) in
+          and_from (not (name_eq u v)) (list_any both (groups S)) (not_from_false (name_eq u v) differ)
+          (sym (list_any-map (λ (r : ℕ × Stmt). separated r.1) both (active S))
+          ∙ any-filtered (λ r. does_cover S e f (separated r.1)) (λ r. both (separated r.1)) (λ r. is_disj r.1) (active S)
+          (λ r c.
+          let l = and_parts (are_listed S (separated r.1) e) (are_listed S (separated r.1) f) c in
+          and_from (has_name u (separated r.1)) (has_name v (separated r.1)) (listed (separated r.1) u e p in_e l.0) (listed (separated r.1) v f q in_f l.1)) cover))
 
-  pub covered-apart : (e f : Expr) → are_covered S e f ≡ true → not (do_share S e f) ≡ are_apart S e f
-  covered-apart e f cover = by (do_share S e f) refl
-    where
-      shared : (v : Name) → has_name v f ≡ true → (is_variable S v && has_name v e) ≡ true → (b : Bool) → are_apart S e f ≡ b → false ≡ b
-      shared v in_f both false h = refl
-      shared v in_f both true h =
-          let p = and_parts (is_variable S v) (has_name v e) both in
-          absurd (true≢false (sym (pair_at e f h v v p.0 p.0 p.1 in_f) ∙ same_no_pair v))
-
-      pair : (u v : Name) → is_variable S u ≡ true → is_variable S v ≡ true → has_name u e ≡ true → has_name v f ≡ true
-          → (is_variable S v && has_name v e) ≡ false → is_pair S u v ≡ true
-      pair u v p q in_e in_f none =
-          and_from (not (name_eq u v)) (list_any (λ names. has_name u names && has_name v names) (groups S)) (not_from_false (name_eq u v) (false_from_ne_true (name_eq u v) same))
-          (any-group u v (active S) e f p q in_e in_f cover)
-        where
-          same : name_eq u v ≡ true → ⊥
-          same is = true≢false (sym (and_from (is_variable S v) (has_name v e) q (ap (λ w. has_name w e) (sym (same_name u v is)) ∙ in_e)) ∙ none)
-
-      by : (b : Bool) → do_share S e f ≡ b → not b ≡ are_apart S e f
-      by true h = let r = any-has (λ v. is_variable S v && has_name v e) f h in shared r.0 r.1 r.2 (are_apart S e f) refl
-      by false h = sym (apart-from e f (λ u v p q in_e in_f. pair u v p q in_e in_f (none-has (λ v. is_variable S v && has_name v e) f h v in_f)))
+      back : are_apart S e f ≡ true → not (do_share S e f) ≡ true
+      back apart = not_from_false (do_share S e f) (false_from_ne_true (do_share S e f) (λ h.
+          let r = any-has (λ v. is_variable S v && has_name v e) f h in
+          let p = and_parts (is_variable S r.0) (has_name r.0 e) r.2 in
+          true≢false (sym (pair_at e f apart r.0 r.0 p.0 p.0 p.1 r.1) ∙ same_no_pair r.0)))
 
 -- ---- tables
 
--- a symbol that stands in the list, or is no variable, is listed
-pub listed_there : (S : Database) (names : List Name) (codes : List ℕ) (x : ℕ) → AreDistinct names → x < length names → AreBelow (length names) codes
-    → list_any (λ y. x == y) codes ≡ true → is_listed S (decode names codes) (name_at names x) ≡ true
-listed_there S names codes x d l b h =
-    or_right (not (is_variable S (name_at names x))) (has_name (name_at names x) (decode names codes)) (sym (has-decode names x codes d l b) ∙ h)
-
--- a symbol that is no variable counts as listed
-pub listed_constant : (S : Database) (list : List Name) (u : Name) → is_variable S u ≡ false → is_listed S list u ≡ true
-listed_constant S list u h = ap (λ b. not b || has_name u list) h
-
--- a variable whose number is not among those of the list is not listed
-pub unlisted : (S : Database) (names : List Name) (codes : List ℕ) (x : ℕ) → AreDistinct names → x < length names → AreBelow (length names) codes
-    → is_variable S (name_at names x) ≡ true → list_any (λ y. x == y) codes ≡ false → is_listed S (decode names codes) (name_at names x) ≡ false
-unlisted S names codes x d l b var none =
-    ap (λ t. not t || has_name (name_at names x) (decode names codes)) var ∙ (sym (has-decode names x codes d l b) ∙ none)
+-- a symbol is listed where it is no variable, or its number is among those of the list
+pub listed-is : (S : Database) (names : List Name) (codes : List ℕ) (x : ℕ) → AreDistinct names → x < length names → AreBelow (length names) codes
+    → is_listed S (decode names codes) (name_at names x) ≡ (not (is_variable S (name_at names x)) || list_any (λ y. x == y) codes)
+listed-is S names codes x d l b = ap (λ t. not (is_variable S (name_at names x)) || t) (sym (has-decode names x codes d l b))
 
 -- a symbol stands in both where it is a variable and stands in the other
 pub shared : (S : Database) (names : List Name) (codes : List ℕ) (x : ℕ) → AreDistinct names → x < length names → AreBelow (length names) codes
@@ -216,16 +154,9 @@ shared S names codes x d l b = ap (λ t. is_variable S (name_at names x) && t) (
 -- a symbol whose place is not marked is none of the marked ones
 pub unmarked-none : (places : ℕ) (marked : List Bool) (codes : List ℕ) (x : ℕ) → are_marked places marked codes ≡ true → slice_index_or marked (x % places) false ≡ false
     → list_any (λ y. x == y) codes ≡ false
-unmarked-none places marked [] x h off = refl
-unmarked-none places marked (c ∷ codes) x h off =
-    let p = and_parts (slice_index_or marked (c % places) false) (are_marked places marked codes) h in
-    by (x == c) refl p.0 (unmarked-none places marked codes x p.1 off)
-  where
-    by : (b : Bool) → (x == c) ≡ b → slice_index_or marked (c % places) false ≡ true → list_any (λ y. x == y) codes ≡ false → (b || list_any (λ y. x == y) codes) ≡ false
-    by true e on rest =
-        let same : x ≡ c = grind (arith, e) in
-        absurd (true≢false (sym on ∙ (ap (λ n. slice_index_or marked (n % places) false) (sym same) ∙ off)))
-    by false e on rest = rest
+unmarked-none places marked codes x on off =
+    let f = λ (c : ℕ). slice_index_or marked (c % places) false in
+    false_from_ne_true (list_any (λ y. x == y) codes) (λ h. true≢false (sym (repeat-passes (λ b. b) f codes x (list_all-map (λ b. b) f codes ∙ on) h) ∙ off))
 
 all-set : (places : ℕ) (marked : List Bool) (i : ℕ) (codes : List ℕ) → are_marked places marked codes ≡ true → are_marked places (slice_set marked i true) codes ≡ true
 all-set places marked i [] h = refl

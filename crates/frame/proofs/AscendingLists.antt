@@ -1,7 +1,16 @@
--- Lists of positions that rise: two with the same members are one.
-use Rattle.std.specs.Prelude.{◌≡◌, ℕ, ◌<◌, List, [], ◌∷◌, refl}
-use Rattle.std.proofs.Common.{sym, ◌∙◌, ap, arith, inl, inr}
-use Rattle.frame.specs.Stored.Hypotheses.{In, AreAbove, Ascends}
+-- Members of lists of positions; and lists that rise: two with the same members are one.
+use Rattle.frame.proofs.Words.{sym, ◌∙◌, ap, arith, inl, inr, ◌≡◌, ℕ, zero, suc, ◌<◌, List, [], ◌∷◌, slice_get, Some, refl, In, AreAbove, Ascends}
+
+-- a member has a place, and what has a place is a member
+pub in-place : (p : ℕ) (ps : List ℕ) → In p ps → (k : ℕ) × (slice_get ps k ≡ Some p)
+in-place p [] i = absurd i
+in-place p (q ∷ ps) (inl e) = (0, ap Some (sym e))
+in-place p (q ∷ ps) (inr i) = let r = in-place p ps i in (suc r.0, r.1)
+
+pub place-in : (ps : List ℕ) (k p : ℕ) → slice_get ps k ≡ Some p → In p ps
+place-in [] k p h = cc
+place-in (q ∷ ps) zero p h = inl cc
+place-in (q ∷ ps) (suc k) p h = inr (place-in ps k p h)
 
 -- ---- ascending lists
 
@@ -36,3 +45,11 @@ same-lists (x ∷ xs) (y ∷ ys) a b f g =
     back : (p : ℕ) → In p ys → In p (x ∷ xs) → In p xs
     back p i (inr j) = j
     back p i (inl e) = let l = above-in y p ys b.0 i in let h = heads in absurd (omega (arith, l, e, h))
+
+-- what rises has each position once
+pub once-each : (ps : List ℕ) (k j p : ℕ) → Ascends ps → slice_get ps k ≡ Some p → slice_get ps j ≡ Some p → k ≡ j
+once-each [] k j p a h g = cc
+once-each (q ∷ ps) zero zero p a h g = refl
+once-each (q ∷ ps) zero (suc j) p a h g = let l = above-in q p ps a.0 (place-in ps j p g) in let e : q ≡ p = cc in omega (arith, l, e)
+once-each (q ∷ ps) (suc k) zero p a h g = let l = above-in q p ps a.0 (place-in ps k p h) in let e : q ≡ p = cc in omega (arith, l, e)
+once-each (q ∷ ps) (suc k) (suc j) p a h g = ap suc (once-each ps k j p a.1 h g)

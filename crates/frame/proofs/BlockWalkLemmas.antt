@@ -1,28 +1,21 @@
 -- What is active at a position, and walking back from one active statement of a kind to the one before it.
-use Rattle.std.specs.Prelude.{◌≡◌, ℕ, zero, suc, ◌+◌, ◌-◌, ◌<◌, ◌≤◌, Bool, true, cond, ◌&&◌, nat_lt, ◌⊎◌, List, [], ◌∷◌, ◌++◌, length, take, drop, slice_get, Some, refl}
-use Rattle.std.proofs.Common.{sym, ◌∙◌, ap, subst, arith, inl, inr}
-use Rattle.std.proofs.lemmas.List.{length-take-le, take-take, take_all, drop-take}
-use Rattle.std.proofs.lemmas.Bool.{le-leb, lt-ltb}
-use Rattle.mm_read.specs.declared.stmt.Stmt.{Stmt}
-use Rattle.mm_read.specs.Statements.{Database}
-use Rattle.scope.specs.Active.{stays_open, is_active}
-use Rattle.frame.specs.Links.{actives, last_active}
-use Rattle.frame.proofs.LinksLemmas.{IsLastAt, last-cases, actives-push, length-cut}
-use Rattle.frame.proofs.OpenLemmas.{IsNoClose, no_close}
+use Rattle.frame.proofs.Words.{sym, ◌∙◌, ap, arith, inl, inr, length-append, le-leb, lt-ltb, ◌≡◌, ℕ, zero, suc, ◌+◌, ◌-◌, ◌<◌, ◌≤◌, Bool, true, ◌&&◌, nat_lt, List, [], ◌∷◌, ◌++◌, length, take, drop, slice_get, Some, refl, take-append_seam, take-take, take_all, drop-take, Stmt, Database, stays_open, is_active, take-get, actives, last_position, last_active}
+use Rattle.frame.proofs.LegalBehind.{stands-at}
+use Rattle.frame.proofs.LinksLemmas.{actives-push, length-cut}
+use Rattle.frame.proofs.OpenLemmas.{HasLast, IsNoClose, no_close, split_last, last-actives, last-position}
 
 pub get-take : {A : Type 0} (i m : ℕ) (S : List A) → i < m → slice_get (take m S) i ≡ slice_get S i
 get-take i zero S h = absurd (omega (arith, h))
-get-take zero (suc m) [] h = refl
-get-take (suc i) (suc m) [] h = refl
+get-take i (suc m) [] h = refl
 get-take zero (suc m) (x ∷ S) h = refl
 get-take (suc i) (suc m) (x ∷ S) h = get-take i m S (omega (arith, h))
 
 pub last-within : (kind : Stmt → Bool) (S : Database) → IsNoClose kind → last_active kind S ≤ length S
-last-within kind S n = by (last-cases kind S n)
+last-within kind S n = by (split_last kind S)
   where
-    by : ((last_active kind S ≡ 0) × (actives kind S ≡ [])) ⊎ ((s : Stmt) × IsLastAt kind S (last_active kind S) s) → last_active kind S ≤ length S
-    by (inl e) = omega (arith, e.0)
-    by (inr p) = p.1.within
+    by : HasLast kind S → last_active kind S ≤ length S
+    by (inl none) = rw (none 1) (omega arith)
+    by (inr p) = omega (arith, last-position kind S p.0 p.1 p.2 n p.3, ap length p.3.cut, length-append p.0 (p.1 ∷ p.2))
 
 -- what is active at `at` is what stays open behind it
 pub active-stays : (S : Database) (i at : ℕ) → 1 ≤ i → i < at → is_active S i at ≡ stays_open 0 (drop i (take (at - 1) S))
@@ -45,22 +38,26 @@ pub record IsBack (kind : Stmt → Bool) (S : Database) (m p : ℕ) (s : Stmt) :
   pub of_kind : kind s ≡ true
   pub list : actives kind (take m S) ≡ actives kind (take (p - 1) S) ++ (p, s) ∷ []
 
-pub walk-back : (kind : Stmt → Bool) (S : Database) (m p : ℕ) → IsNoClose kind → m ≤ length S → p ≡ last_active kind (take m S) → (p ≡ 0 → ⊥) → (s : Stmt) × IsBack kind S m p s
-walk-back kind S m p n le e some = by (last-cases kind (take m S) n)
+pub walk-back : (kind : Stmt → Bool) (S : Database) (m p : ℕ) → IsNoClose kind → p ≡ last_active kind (take m S) → (p ≡ 0 → ⊥) → (s : Stmt) × IsBack kind S m p s
+walk-back kind S m p n e some = by (split_last kind (take m S))
   where
-    by : ((last_active kind (take m S) ≡ 0) × (actives kind (take m S) ≡ [])) ⊎ ((s : Stmt) × IsLastAt kind (take m S) (last_active kind (take m S)) s) → (s : Stmt) × IsBack kind S m p s
-    by (inl z) = absurd (some (e ∙ z.0))
+    by : HasLast kind (take m S) → (s : Stmt) × IsBack kind S m p s
+    by (inl none) = absurd (some (e ∙ ap last_position (none 1)))
     by (inr q) =
-        let l : IsLastAt kind (take m S) p q.0 = subst (λ k. IsLastAt kind (take m S) k q.0) (sym e) q.1 in
-        let a = l.within in let b = length-take-le m S le in let one = l.above in
-        let pm : p ≤ m = omega (arith, a, b) in (
-          q.0,
+        let A = q.0 in let s = q.1 in let l = q.3 in
+        let at : p ≡ 1 + length A = e ∙ last-position kind (take m S) A s q.2 n l in
+        let back : p - 1 ≡ length A = omega (arith, at) in
+        let there = take-get m (length A) S s (ap (λ r. slice_get r (length A)) l.cut ∙ stands-at A s q.2) in
+        let low = there.0 in
+        let front : A ≡ take (p - 1) S =
+        sym (take-append_seam A (s ∷ q.2)) ∙ (ap (take (length A)) (sym l.cut) ∙ (take-take (length A) m S (omega (arith, low)) ∙ ap (λ k. take k S) (sym back))) in (
+          s,
           record {
-            above = one;
-            within = pm;
-            stands = sym (get-take (p - 1) m S (omega (arith, pm, one))) ∙ l.stands;
+            above = omega (arith, at);
+            within = omega (arith, at, low);
+            stands = ap (slice_get S) back ∙ there.1;
             of_kind = l.of_kind;
-            list = l.list ∙ ap (λ r. actives kind r ++ (p, q.0) ∷ []) (take-take (p - 1) m S (omega (arith, pm)));
+            list = last-actives kind (take m S) A s q.2 n l ∙ (ap (λ r. actives kind r ++ (1 + length A, s) ∷ []) front ∙ ap (λ k. actives kind (take (p - 1) S) ++ (k, s) ∷ []) (sym at));
           },
         )
 
@@ -77,12 +74,11 @@ back-own kind S m p s n b =
     let up : p ≡ suc (p - 1) = omega (arith, one) in
     ap (λ i. actives kind (take i S)) up
     ∙ (ap (actives kind) (take-one S (p - 1) s b.stands)
-    ∙ (actives-push kind (take (p - 1) S) s (no_close kind s n b.of_kind)
-    ∙ (ap (λ t. actives kind (take (p - 1) S) ++ cond t ((1 + length (take (p - 1) S), s) ∷ []) []) b.of_kind ∙ ap (λ i. actives kind (take (p - 1) S) ++ (i, s) ∷ []) place)))
+    ∙ (actives-push kind (take (p - 1) S) s (no_close kind s n b.of_kind) ∙ rw (b.of_kind, place) refl))
 
-pub walk-over : (kind : Stmt → Bool) (S : Database) (m p : ℕ) → IsNoClose kind → p ≡ last_active kind (take m S) → p ≡ 0 → actives kind (take m S) ≡ []
-walk-over kind S m p n e z = by (last-cases kind (take m S) n)
+pub walk-over : (kind : Stmt → Bool) (S : Database) → IsNoClose kind → last_active kind S ≡ 0 → actives kind S ≡ []
+walk-over kind S n z = by (split_last kind S)
   where
-    by : ((last_active kind (take m S) ≡ 0) × (actives kind (take m S) ≡ [])) ⊎ ((s : Stmt) × IsLastAt kind (take m S) (last_active kind (take m S)) s) → actives kind (take m S) ≡ []
-    by (inl q) = q.1
-    by (inr q) = let a = q.1.above in absurd (omega (arith, a, e, z))
+    by : HasLast kind S → actives kind S ≡ []
+    by (inl none) = none 1
+    by (inr p) = absurd (omega (arith, last-position kind S p.0 p.1 p.2 n p.3, z))

@@ -1,27 +1,8 @@
 -- Reading an assertion that is kept, and what follows of all of them.
-use Rattle.std.specs.Prelude.{◌≡◌, ℕ, zero, suc, ◌+◌, true, List, length, take, slice_get, Some, refl}
-use Rattle.std.proofs.Common.{sym, ◌∙◌, ap, subst, arith}
-use Rattle.mm_lex.specs.Alphabet.{Name}
-use Rattle.mm_read.specs.declared.stmt.Stmt.{Stmt}
-use Rattle.scope.specs.Active.{expr_of, is_assertion}
-use Rattle.names.specs.Codes.{name_at, decode}
-use Rattle.frame.specs.FrameOf.{HasAssertion}
-use Rattle.entries.specs.declared.cited_parts.Cited.{Cited}
-use Rattle.entries.specs.Entries.{Entry, Assertion, AreWhole}
-use Rattle.entries.specs.declared.kind.Kind.{Kind}
-use Rattle.entries.specs.declared.kind.Kind.TheVariants.{Open, Close, Const, Var, Disj, Float, Ess, Axiom, Prove}
-use Rattle.frame.specs.declared.storage.Stock.{Stock}
-use Rattle.frame.specs.Below.{AreBelow}
-use Rattle.frame.specs.Cited.{AreListsOf, IsCited}
-use Rattle.frame.specs.Bound.{IsBound}
-use Rattle.frame.specs.AtPosition.{AreLegal}
-use Rattle.frame.specs.Stored.EntryMeanings.{names_in, labels_in, stmt_by, stmt_of, statements_of}
-use Rattle.frame.specs.Stored.Whole.{AreStored}
-use Rattle.frame.specs.Stored.AssertionParts.{IsKeptAs, has_parts}
+use Rattle.frame.proofs.Words.{sym, ◌∙◌, ap, subst, arith, ◌≡◌, ℕ, zero, suc, ◌+◌, ◌-◌, true, List, length, take, slice_get, Some, refl, Name, Stmt, expr_of, is_assertion, name_at, decode, HasAssertion, Cited, Entry, Assertion, AreWhole, Kind, Axiom, Prove, Stock, AreBelow, AreListsOf, IsCited, IsBound, AreLegal, names_in, labels_in, stmt_by, stmt_of, statements_of, AreStored, IsKeptAs, has_parts}
 use Rattle.frame.proofs.DeclaredSymbolLemmas.{stored-distinct}
-use Rattle.frame.proofs.AssertionLemmas.{get-entry}
-use Rattle.frame.proofs.FoundByNumber.{own-expr, numbered-at}
-use Rattle.frame.proofs.KeptStatementLemmas.{lists-at, lists-cited}
+use Rattle.frame.proofs.FoundByNumber.{map-back, own-expr, numbered-at}
+use Rattle.frame.proofs.KeptStatementLemmas.{kept-lists, lists-cited}
 use Rattle.frame.proofs.BoundLemmas.{bound, bound-single}
 use Rattle.frame.proofs.LegalLabels.{legal-labels}
 
@@ -31,27 +12,33 @@ parts-kind names labels e = by e.kind
     by : (kind : Kind) → is_assertion (stmt_by kind (name_at labels e.label) (decode names e.symbols)) ≡ true → has_parts kind ≡ true
     by Axiom h = refl
     by Prove h = refl
-    by Open h = cc
-    by Close h = cc
-    by Const h = cc
-    by Var h = cc
-    by Disj h = cc
-    by Float h = cc
-    by Ess h = cc
+    by kind h = cc
 
 -- the entry of an assertion, and what it keeps
 pub record IsThere (k : Stock) (a i : ℕ) (s : Stmt) (e : Entry) : Type 0 where
   pub place : a ≡ i + 1
   pub here : slice_get k.entries i ≡ Some e
+  pub got : slice_get k.entries (a - 1) ≡ Some e
   pub is : stmt_of (names_in k) (labels_in k) e ≡ s
-  pub kept : IsKeptAs k.entries (take i (statements_of k)) (stmt_of (names_in k) (labels_in k) e) e.assertion
+  pub kept : IsKeptAs k.entries (take (a - 1) (statements_of k)) s e.assertion
 
 pub is-there : (k : Stock) (a : ℕ) (s : Stmt) → AreStored k → HasAssertion (statements_of k) a s → (i : ℕ) × (e : Entry) × IsThere k a i s e
 is-there k zero s stored h = let g = h.0 in cc
 is-there k (suc i) s stored h =
-    let e = get-entry (names_in k) (labels_in k) k.entries i s h.0 in
-    let asserts : is_assertion (stmt_of (names_in k) (labels_in k) e.0) ≡ true = ap is_assertion e.2 ∙ h.1 in
-    (i, e.0, record { place = omega arith; here = e.1; is = e.2; kept = stored.kept.parts_kept i e.0 e.1 (parts-kind (names_in k) (labels_in k) e.0 asserts) })
+    let e = map-back (stmt_of (names_in k) (labels_in k)) k.entries i s h.0 in
+    let is = sym e.2 in
+    let back : i ≡ suc i - 1 = omega arith in
+    let kept = stored.kept.parts_kept i e.0 e.1 (parts-kind (names_in k) (labels_in k) e.0 (ap is_assertion is ∙ h.1)) in (
+      i,
+      e.0,
+      record {
+        place = omega arith;
+        here = e.1;
+        got = ap (slice_get k.entries) (sym back) ∙ e.1;
+        is = is;
+        kept = subst (λ n. IsKeptAs k.entries (take n (statements_of k)) s e.0.assertion) back (subst (λ t. IsKeptAs k.entries (take i (statements_of k)) t e.0.assertion) is kept);
+      },
+    )
 
 -- the expression of the assertion, by numbers
 pub there-expr : (k : Stock) (a i : ℕ) (s : Stmt) (e : Entry) → AreStored k → is_assertion s ≡ true → IsThere k a i s e → (decode (names_in k) e.symbols ≡ expr_of s) × AreBelow (length (names_in k)) e.symbols
@@ -62,11 +49,11 @@ there-expr k a i s e stored asserts t = (
 
 -- lists of which all is said are those of the assertion
 pub there-lists : (k : Stock) (a i : ℕ) (s : Stmt) (e : Entry) (d : Assertion) → AreStored k → is_assertion s ≡ true → IsThere k a i s e
-    → IsKeptAs k.entries (take i (statements_of k)) (stmt_of (names_in k) (labels_in k) e) d → d.whole ≡ true → AreListsOf (statements_of k) (names_in k) a d s
+    → IsKeptAs k.entries (take (a - 1) (statements_of k)) s d → d.whole ≡ true → AreListsOf (statements_of k) (names_in k) a d s
 there-lists k a i s e d stored asserts t kept whole =
-    subst (λ n. AreListsOf (statements_of k) (names_in k) n d s) (sym t.place)
-    (subst (λ x. AreListsOf (statements_of k) (names_in k) (i + 1) d x) t.is
-    (lists-at k.entries (names_in k) (labels_in k) (length (labels_in k)) i e d (stored-distinct k stored) stored.kept.coded stored.kept.legal t.here (ap is_assertion t.is ∙ asserts) kept whole))
+    subst (λ x. AreListsOf (statements_of k) (names_in k) a d x) t.is
+    (kept-lists k.entries (names_in k) (labels_in k) (length (labels_in k)) a e d (stored-distinct k stored) stored.kept.coded stored.kept.legal (let q = t.place in omega (arith, q)) t.got (ap is_assertion t.is ∙ asserts)
+    (subst (λ x. IsKeptAs k.entries (take (a - 1) (statements_of k)) x d) (sym t.is) kept) whole)
 
 pub there-cited : (k : Stock) (a i : ℕ) (s : Stmt) (e : Entry) (c : Cited) → AreStored k → is_assertion s ≡ true → IsThere k a i s e → AreWhole e c → IsCited (statements_of k) (names_in k) a s c
 there-cited k a i s e c stored asserts t w =

@@ -1,25 +1,6 @@
--- The storage with its first statements alone.
-use Rattle.std.specs.Prelude.{◌≡◌, ℕ, ◌+◌, ◌<◌, true, List, length, map, take, drop, slice_get, Some, refl}
-use Rattle.std.proofs.Common.{sym, ◌∙◌, ap, subst, arith, take-take}
-use Rattle.std.proofs.lemmas.List.{length-take-le, take-map, take-append-drop, take_at}
-use Rattle.mm_lex.specs.Alphabet.{Name}
-use Rattle.mm_read.specs.Statements.{Database}
-use Rattle.scope.specs.Kinds.{IsNumberingOf}
-use Rattle.scope.specs.Active.{stays_open}
-use Rattle.scope.specs.Symbols.{symbols_of, labels_of}
-use Rattle.entries.specs.declared.links.Links.{Links}
-use Rattle.entries.specs.Entries.{Entry}
-use Rattle.frame.specs.declared.storage.Symbol.{Symbol}
-use Rattle.frame.specs.Links.{links_of}
-use Rattle.frame.specs.Stored.EntryMeanings.{stmt_of, statements_of, positions_from, AreAllLegal, ReadsAs, replaced_of, symbol_of}
-use Rattle.frame.specs.Stored.Counts.{AreNumbered, KeepsCounts}
-use Rattle.frame.specs.declared.storage.Stock.{Stock}
-use Rattle.frame.specs.Stored.Naming.{naming_of}
-use Rattle.frame.specs.Stored.Whole.{AreKept, AreStored}
-use Rattle.entries.specs.Stored.Spans.{Extends}
-use Rattle.frame.specs.Stored.AssertionParts.{has_parts, IsKeptAs}
-use Rattle.entries.proofs.SpanLemmas.{extends-take}
-use Rattle.entries.proofs.BufferPlaceLemmas.{take-get}
+-- The storage with its first statements alone, and as before when all that was added is taken back.
+use Rattle.frame.proofs.Words.{sym, ◌∙◌, ap, subst, arith, take-take, ◌≡◌, ℕ, ◌+◌, ◌<◌, ◌≤◌, true, List, length, map, take, drop, slice_get, Some, refl, suc, [], ◌∷◌, Option, None, length-take-le, take-map, take-append-drop, take_at, length-map}
+use Rattle.frame.proofs.Words.{Name, Database, IsNumberingOf, Declared, declared_symbols, declared_labels, stays_open, label_of, symbols_of, labels_of, option_list, Links, Entry, Symbol, links_of, stmt_of, statements_of, positions_from, AreAllLegal, ReadsAs, replaced_of, symbol_of, names_in, labels_in, option_position, AreNumbered, KeepsCounts, IsBehind, Stock, naming_of, AreKept, AreStored, Extends, has_parts, IsKeptAs, extends-length, extends-take, take-get, labels_of-append}
 use Rattle.frame.proofs.BlockWalkLemmas.{get-take}
 use Rattle.frame.proofs.DeclaredSymbolLemmas.{symbols_of-front}
 use Rattle.frame.proofs.AssertionLemmas.{kept-moved}
@@ -27,11 +8,18 @@ use Rattle.frame.proofs.FoundByNumber.{kept-front}
 use Rattle.frame.proofs.NamingLemmas.{naming-all, naming-length, naming_of-front}
 use Rattle.frame.proofs.OpenLemmas.{stays_open-front}
 use Rattle.frame.proofs.StoredOneMore.{positions_from-append, statements-more, stmt-more, numbered-at}
-use Rattle.frame.proofs.StoredTaken.{length-positions}
-use Rattle.scope.proofs.NamesLemmas.{labels_of-append}
 use Rattle.frame.proofs.LabelLemmas.{label-below-at}
+use Rattle.frame.proofs.SymbolNumberLemmas.{take-extends}
 
 -- ---- labels and positions
+
+length-option : (o : Option Name) (at : ℕ) (ps : List ℕ) (ls : List Name) → length ps ≡ length ls → length (option_position o at ps) ≡ length (option_list o ls)
+length-option None at ps ls h = h
+length-option (Some x) at ps ls h = ap suc h
+
+pub length-positions : (at : ℕ) (S : Database) → length (positions_from at S) ≡ length (labels_of S)
+length-positions at [] = refl
+length-positions at (s ∷ S) = length-option (label_of s) at (positions_from (at + 1) S) (labels_of S) (length-positions (at + 1) S)
 
 labels-front : (n : ℕ) (S : Database) → take (length (labels_of (take n S))) (labels_of S) ≡ labels_of (take n S)
 labels-front n S =
@@ -58,8 +46,8 @@ pub record IsCut (names labels : List Name) (positions : List ℕ) (symbols : Li
   pub noted : replaced' ≡ replaced_of entries'
   pub links_back : links' ≡ e.links
 
-module _ (names labels : List Name) (positions : List ℕ) (symbols : List Symbol) (replaced : List ℕ) (entries : List Entry) (links : Links)
-    (names' labels' : List Name) (positions' : List ℕ) (between symbols' : List Symbol) (replaced' : List ℕ) (entries' : List Entry) (links' : Links) (n : ℕ) (e : Entry)
+module _ {names labels : List Name} {positions : List ℕ} {symbols : List Symbol} {replaced : List ℕ} {entries : List Entry} {links : Links}
+    {names' labels' : List Name} {positions' : List ℕ} {between symbols' : List Symbol} {replaced' : List ℕ} {entries' : List Entry} {links' : Links} {n : ℕ} {e : Entry}
     (k : AreKept names labels positions symbols replaced entries links)
     (p : IsCut names labels positions symbols entries names' labels' positions' between symbols' replaced' entries' links' n e) where
   abbrev pub S : Database
@@ -82,14 +70,15 @@ module _ (names labels : List Name) (positions : List ℕ) (symbols : List Symbo
   names-count : length names' ≡ e.names
   names-count = ap length p.names_cut ∙ sym counts.name_count
 
+  within : e.names ≤ length names
+  within = omega (arith, extends-length names' names names-front, names-count)
+
   labels-count : length labels' ≡ e.label
   labels-count = ap length p.labels_cut ∙ sym counts.label_count
 
   -- the first entries use no other names and labels
   numbered : AreNumbered (length names') (length labels') (take n entries)
-  numbered =
-      subst (λ a. AreNumbered a (length labels') (take n entries)) (sym names-count)
-      (subst (λ a. AreNumbered e.names a (take n entries)) (sym labels-count) counts.numbered)
+  numbered = rw (names-count, labels-count) counts.numbered
 
   pub cut-statements : map (stmt_of names' labels') entries' ≡ take n S
   cut-statements =
@@ -106,7 +95,7 @@ module _ (names labels : List Name) (positions : List ℕ) (symbols : List Symbo
   -- each symbol that is left tells what is left of its declarations
   symbols'' : (c : ℕ) → c < length names' → slice_get symbols' c ≡ Some (symbol_of entries' c)
   symbols'' c lt =
-      let a = names-count in let b = p.between_count in let d = k.count in let w = counts.within in
+      let a = names-count in let b = p.between_count in let d = k.count in let w = within in
       ap (λ r. slice_get r c) p.symbols_cut ∙ (get-take c e.names between (omega (arith, lt, a)) ∙ p.declared c (omega (arith, lt, a, b, d, w)))
 
   -- an entry that is left keeps the counts before it
@@ -115,11 +104,7 @@ module _ (names labels : List Name) (positions : List ℕ) (symbols : List Symbo
       let q = there i d h in
       let lt = q.0 in
       let c = k.counts_kept i d q.1 in
-      let rise = counts.rising i d lt q.1 in
-      let a = names-count in
       record {
-        within = omega (arith, rise, a);
-        rising = λ j x l g. c.rising j x l (there j x g).1;
         numbered = subst (AreNumbered d.names d.label) (sym (ap (take i) p.entries_cut ∙ take-take i n entries (omega (arith, lt)))) c.numbered;
         label_count = c.label_count ∙ ap (λ T. length (labels_of T)) (sym (front-of i lt));
         name_count = c.name_count ∙ ap (λ T. length (symbols_of T)) (sym (front-of i lt));
@@ -133,10 +118,8 @@ module _ (names labels : List Name) (positions : List ℕ) (symbols : List Symbo
       let here = ap (λ r. slice_get r i) (sym p.entries_cut) ∙ h in
       let same : stmt_of names labels d ≡ stmt_of names' labels' d =
       stmt-more names' names labels' labels d names-front labels-extend (numbered-at (length names') (length labels') (take n entries) numbered i d here) (label-below-at (length names') (length labels') (take n entries) numbered i d here) in
-      subst (λ es. IsKeptAs es (take i (map (stmt_of names' labels') entries')) (stmt_of names' labels' d) d.assertion) (sym p.entries_cut)
-      (subst (λ T. IsKeptAs (take n entries) T (stmt_of names' labels' d) d.assertion) (sym (front-of i lt))
-      (subst (λ t. IsKeptAs (take n entries) (take i S) t d.assertion) same
-      (kept-moved names labels entries (take n entries) i (stmt_of names labels d) d.assertion (sym (take-take i n entries (omega (arith, lt)))) (k.parts_kept i d q.1 a))))
+      rw (front-of i lt, ← same, p.entries_cut)
+      (kept-moved names labels entries (take n entries) i (stmt_of names labels d) d.assertion (sym (take-take i n entries (omega (arith, lt)))) (k.parts_kept i d q.1 a))
 
   pub kept-cut : AreKept names' labels' positions' symbols' replaced' entries' links'
   kept-cut = record {
@@ -152,10 +135,10 @@ module _ (names labels : List Name) (positions : List ℕ) (symbols : List Symbo
     replaced_kept = p.noted;
     counts_kept = counts';
     count =
-        let a = names-count in let b = p.between_count in let d = k.count in let w = counts.within in
+        let a = names-count in let b = p.between_count in let d = k.count in let w = within in
         let c : length symbols' ≡ e.names = ap length p.symbols_cut ∙ length-take-le e.names between (omega (arith, b, d, w)) in
         c ∙ sym a;
-    few = let a = names-count in let w = counts.within in let f = k.few in omega (arith, a, w, f);
+    few = let a = names-count in let f = k.few in omega (arith, a, within, f);
     parts_kept = parts';
   }
 
@@ -172,3 +155,55 @@ module _ (k : Stock) (n : ℕ) (e : Entry) (stored : AreStored k) (at : slice_ge
       let all = naming-length (take n (statements_of k)) (naming_of (take n (statements_of k))) front-naming in
       let count : e.names + e.label ≡ length (naming_of (take n (statements_of k))) = omega (arith, counts.name_count, counts.label_count, all) in
       ap (take (e.names + e.label)) stored.numbered ∙ (ap (λ m. take m (naming_of (statements_of k))) count ∙ naming_of-front n (statements_of k))
+
+-- ---- taken back, everything is as before
+
+-- what was left behind, and what it was cut to
+pub record IsTakenBack (old mid new : Stock) : Type 0 where
+  pub behind : IsBehind old mid
+  pub numbering_cut : new.numbering ≡ take (length old.numbering) mid.numbering
+  pub symbols_cut : new.symbols.items ≡ take (length (names_in new)) mid.symbols.items
+  pub positions_cut : new.positions.items ≡ take (length (labels_in new)) mid.positions.items
+  pub replaced_cut : new.replaced.items ≡ take (length old.replaced.items) mid.replaced.items
+  pub ends_cut : new.ends.items ≡ take (length mid.entries) mid.ends.items
+  pub entries_cut : new.entries ≡ mid.entries
+  pub links_cut : new.links ≡ mid.links
+
+module _ (old mid new : Stock) (stored : AreStored old) (t : IsTakenBack old mid new) where
+  k : AreKept (names_in old) (labels_in old) old.positions.items old.symbols.items old.replaced.items old.entries old.links
+  k = stored.kept
+
+  back-numbering : new.numbering ≡ old.numbering
+  back-numbering = t.numbering_cut ∙ take-extends old.numbering mid.numbering t.behind.numbering
+
+  back-names : names_in new ≡ names_in old
+  back-names = ap declared_symbols back-numbering
+
+  back-labels : labels_in new ≡ labels_in old
+  back-labels = ap declared_labels back-numbering
+
+  back-entries : new.entries ≡ old.entries
+  back-entries = t.entries_cut ∙ t.behind.entries
+
+  back-statements : statements_of new ≡ statements_of old
+  back-statements =
+      ap (λ es. map (stmt_of (names_in new) (labels_in new)) es) back-entries
+      ∙ ap (λ (N : Declared). map (stmt_of (declared_symbols N) (declared_labels N)) old.entries) back-numbering
+
+  pub back-stored : AreStored new
+  back-stored =
+      let z = t.behind.symbols in
+      let many : length (names_in new) ≡ length old.symbols.items = ap length back-names ∙ sym k.count in
+      let labels : length (labels_in new) ≡ length old.positions.items =
+      ap length (back-labels ∙ k.labels_kept) ∙ (sym (length-positions 1 (statements_of old)) ∙ ap length (sym k.positions_kept)) in
+      let all : length mid.entries ≡ length old.ends.items = ap length t.behind.entries ∙ (sym (length-map old.entries (stmt_of (names_in old) (labels_in old))) ∙ sym stored.ended.count) in
+      let ends : new.ends.items ≡ old.ends.items = t.ends_cut ∙ (ap (λ m. take m mid.ends.items) all ∙ take-extends old.ends.items mid.ends.items t.behind.ends) in
+      let positions : new.positions.items ≡ old.positions.items =
+      t.positions_cut ∙ (ap (λ m. take m mid.positions.items) labels ∙ take-extends old.positions.items mid.positions.items t.behind.positions) in
+      let symbols : new.symbols.items ≡ old.symbols.items = t.symbols_cut ∙ (ap (λ m. take m mid.symbols.items) many ∙ take-extends old.symbols.items mid.symbols.items (z.0, z.1)) in
+      let replaced : new.replaced.items ≡ old.replaced.items = t.replaced_cut ∙ take-extends old.replaced.items mid.replaced.items t.behind.replaced in
+      record {
+        kept = rw (back-names, back-labels, positions, symbols, replaced, back-entries, t.links_cut, t.behind.links) k;
+        numbered = back-numbering ∙ (stored.numbered ∙ ap naming_of (sym back-statements));
+        ended = rw (back-statements, ends) stored.ended;
+      }

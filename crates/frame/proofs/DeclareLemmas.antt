@@ -1,13 +1,8 @@
--- The last declarations of symbols, one statement more.
-use Rattle.std.specs.Prelude.{◌≡◌, ℕ, zero, suc, ◌+◌, Bool, true, false, cond, ◌||◌, nat_eq, List, [], ◌∷◌, ◌++◌, length, get_or, slice_get, slice_set, Option, Some, refl}
-use Rattle.std.proofs.Common.{sym, ◌∙◌, ap, arith, add-zero}
-use Rattle.std.proofs.Math.Bool.{or-true, or-false}
-use Rattle.std.proofs.lemmas.Option.{get_or_from_slice_get}
-use Rattle.entries.specs.Entries.{Entry}
-use Rattle.frame.specs.declared.storage.Symbol.{Symbol}
-use Rattle.frame.specs.Stored.EntryMeanings.{floats, declares, last_from, symbol_of}
-use Rattle.frame.specs.Stored.Counts.{with_entry}
-use Rattle.scope.proofs.ActiveLemmas.{place}
+-- The last declarations of symbols, and what they replace: one statement more and one less.
+use Rattle.frame.proofs.Words.{sym, ◌∙◌, ap, arith, add-zero, append-nil, append_assoc, length-append, ◌≡◌, ℕ, zero, suc, ◌+◌, Bool, true, false, cond, ◌||◌, nat_eq, List, [], ◌∷◌, ◌++◌, length, get_or, slice_get, slice_set, Option, Some, refl, ◌-◌, ◌<◌, map, take, drop, or-true, or-false, get_or_from_slice_get, list_any, take_all, take_more, map_push, drop-append_seam}
+use Rattle.frame.proofs.Words.{Entry, Symbol, floats, declares, last_from, symbol_of, ReadsAs, replaced_by, replaced_behind, replaced_of, with_entry, with_declared, place, Kind, Var, Extends}
+use Rattle.frame.proofs.BlockWalkLemmas.{take-one}
+use Rattle.frame.proofs.LegalBehind.{stands-at}
 
 abbrev pub noted : Symbol → ℕ → Bool → Symbol
 noted x at any = record { float = x.float; variable = cond any at x.variable }
@@ -40,10 +35,66 @@ last_from-push test found at (d ∷ es) e =
 
 -- the last declarations behind one more entry
 pub symbol_of-push : (es : List Entry) (e : Entry) (c : ℕ) → symbol_of (es ++ e ∷ []) c ≡ with_entry e (1 + length es) c (symbol_of es c)
-symbol_of-push es e c =
-    let f = last_from-push (floats c) 0 1 es e in
-    let d = last_from-push (declares c) 0 1 es e in
-    symbol-by f d
+symbol_of-push es e c = rw (last_from-push (floats c) 0 1 es e, last_from-push (declares c) 0 1 es e) refl
+
+-- ---- one entry more
+
+replaced-push : (before es : List Entry) (e : Entry) → replaced_behind before (es ++ e ∷ []) ≡ replaced_behind before es ++ replaced_by (symbol_of (before ++ es)) e.kind e.symbols
+replaced-push before [] e =
+    append-nil (replaced_by (symbol_of before) e.kind e.symbols)
+    ∙ ap (λ es. replaced_by (symbol_of es) e.kind e.symbols) (sym (append-nil before))
+replaced-push before (d ∷ es) e =
+    ap (λ r. replaced_by (symbol_of before) d.kind d.symbols ++ r)
+    (replaced-push (before ++ d ∷ []) es e
+    ∙ ap (λ r. replaced_behind (before ++ d ∷ []) es ++ replaced_by (symbol_of r) e.kind e.symbols) (append_assoc before (d ∷ []) es))
+    ∙ sym (append_assoc (replaced_by (symbol_of before) d.kind d.symbols) (replaced_behind (before ++ d ∷ []) es) (replaced_by (symbol_of (before ++ d ∷ es)) e.kind e.symbols))
+
+pub replaced_of-push : (es : List Entry) (e : Entry) → replaced_of (es ++ e ∷ []) ≡ replaced_of es ++ replaced_by (symbol_of es) e.kind e.symbols
+replaced_of-push es e = replaced-push [] es e
+
+-- ---- a `$v` restored
+
+pub restored-variables : (old new : List Symbol) (kind : Kind) (codes olds : List ℕ) (x : ℕ → Symbol) (at : ℕ) → kind ≡ Var → olds ≡ replaced_by x kind codes
+    → ((y : ℕ → ℕ) → olds ≡ map y codes → (c : ℕ) (s : Symbol) → slice_get old c ≡ Some s → slice_get new c ≡ Some (noted s (y c) (list_any (λ k. nat_eq c k) codes)))
+    → length new ≡ length old → ReadsAs old (λ c. with_declared kind codes at c (x c)) → ReadsAs new x
+restored-variables old new kind codes olds x at same h each n reads c lt =
+    each (λ k. (x k).variable) (rw same at h) c _ (rw same at (reads c (omega (arith, n, lt)))) ∙ last (list_any (λ k. nat_eq c k) codes)
   where
-    symbol-by : {a b a' b' : ℕ} → a ≡ a' → b ≡ b' → ◌≡◌ {A = Symbol} (record { float = a; variable = b }) (record { float = a'; variable = b' })
-    symbol-by p q = cc
+    last : (b : Bool) → ◌≡◌ {A = Option Symbol} (Some (noted (record { float = (x c).float; variable = cond b at (x c).variable }) (x c).variable b)) (Some (x c))
+    last true = refl
+    last false = refl
+
+-- ---- one entry less
+
+-- the loop's step: what one more symbol of a `$v` replaces is noted
+pub note-more : (symbols : List Symbol) (codes : List ℕ) (x : ℕ → Symbol) (i v : ℕ) (d : Symbol) (old here new : List ℕ) → i < length codes → get_or codes i 0 < length symbols → ReadsAs symbols x
+    → here ≡ old ++ map (λ c. (x c).variable) (take i codes) → v ≡ (get_or symbols (get_or codes i 0) d).variable → new ≡ here ++ v ∷ []
+    → new ≡ old ++ map (λ c. (x c).variable) (take (i + 1) codes)
+note-more symbols codes x i v d old here new lt inside reads h is more =
+    more ∙ (ap (λ r. r ++ v ∷ []) h ∙ (append_assoc old (map (λ c. (x c).variable) (take i codes)) (v ∷ [])
+    ∙ ap (λ r. old ++ r) (ap (λ n. map (λ c. (x c).variable) (take i codes) ++ n ∷ []) (is ∙ ap (λ s. s.variable) (get_or_from_slice_get symbols (get_or codes i 0) (x (get_or codes i 0)) d (reads (get_or codes i 0) inside)))
+    ∙ sym (ap (map (λ c. (x c).variable)) (take_more codes i 0 lt) ∙ map_push (λ c. (x c).variable) (take i codes) (get_or codes i 0)))))
+
+-- the last of the entries that are left, and those before it
+pub record IsLeft (whole all front : List Entry) (e : Entry) : Type 0 where
+  pub is : all ≡ front ++ e ∷ []
+  pub extends : Extends front whole
+  pub here : slice_get whole (length front) ≡ Some e
+
+pub left : {whole all : List Entry} (n : ℕ) (e : Entry) → Extends all whole → n ≡ length all → 0 < n → slice_get all (n - 1) ≡ Some e → IsLeft whole all (take (n - 1) all) e
+left {whole = whole} {all = all} n e p size some got =
+    let is = sym (take_all (suc (n - 1)) all (omega (arith, size, some))) ∙ take-one all (n - 1) e got in
+    let more : whole ≡ take (n - 1) all ++ e ∷ p.0 = p.1 ∙ (ap (λ r. r ++ p.0) is ∙ append_assoc (take (n - 1) all) (e ∷ []) p.0) in
+    record { is = is; extends = (e ∷ p.0, more); here = ap (λ r. slice_get r (length (take (n - 1) all))) more ∙ stands-at (take (n - 1) all) e p.0 }
+
+-- what was noted last, as a slice
+pub noted-last : (all front last w : List ℕ) (size count : ℕ) → w ≡ all → all ≡ front ++ last → size ≡ length all → length last ≡ count
+    → take (length w - (size - count)) (drop (size - count) w) ≡ last
+noted-last all front last w size count same h n m =
+    let a = length-append front last in
+    let b = ap length h in
+    let e = ap length same in
+    let from : size - count ≡ length front = omega (arith, a, b, n, m) in
+    ap (λ k. take (length w - k) (drop k w)) from
+    ∙ (ap (λ r. take (length w - length front) (drop (length front) r)) (same ∙ h)
+    ∙ (ap (take (length w - length front)) (drop-append_seam front last) ∙ take_all (length w - length front) last (omega (arith, a, b, e))))

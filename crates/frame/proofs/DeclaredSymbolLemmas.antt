@@ -1,27 +1,7 @@
 -- The declared symbols, and that a name of another kind is none of them.
-use Rattle.std.specs.Prelude.{◌≡◌, ℕ, Bool, true, false, cond, ◌||◌, nat_lt, List, [], ◌∷◌, ◌++◌, length, take, drop, refl}
-use Rattle.std.specs.List.{list_all}
-use Rattle.std.proofs.Common.{sym, ◌∙◌, ap, subst, arith}
-use Rattle.std.proofs.Math.Seq.{take-append_seam}
-use Rattle.std.proofs.lemmas.List.{take-append-drop}
-use Rattle.std.proofs.lemmas.Bool.{and_parts, or_parts}
-use Rattle.std.proofs.Math.Bool.{or-false}
-use Rattle.mm_lex.specs.Alphabet.{Name, name_eq, has_name}
-use Rattle.mm_read.specs.declared.stmt.Stmt.{Stmt}
-use Rattle.mm_read.specs.declared.stmt.Stmt.TheVariants.{Open, Close, Const, Var, Disj, Float, Ess, Axiom, Prove}
-use Rattle.mm_read.specs.Statements.{Database}
-use Rattle.scope.specs.Active.{constants, variables, was_symbol, was_variable}
-use Rattle.names.specs.Codes.{with_name, with_names, AreCodes, AreDistinct}
-use Rattle.scope.specs.Kinds.{Declared, declared_symbols, kind_in, is_constant_kind, TellsAll}
-use Rattle.scope.specs.Symbols.{symbols_by, symbols_from, symbols_of}
-use Rattle.names.proofs.AddedNames.{has_name-append}
-use Rattle.scope.proofs.NamesLemmas.{symbols_of-later, symbols-distinct}
-use Rattle.scope.proofs.SortsLemmas.{was_symbol-either}
-use Rattle.frame.specs.Below.{AreBelow}
-use Rattle.frame.specs.declared.storage.Stock.{Stock}
-use Rattle.frame.specs.Stored.Naming.{is_declared}
-use Rattle.frame.specs.Stored.Whole.{AreStored}
-use Rattle.frame.specs.Stored.EntryMeanings.{names_in, statements_of}
+use Rattle.frame.proofs.Words.{list_all, sym, ◌∙◌, ap, subst, arith, take-append-drop, ◌≡◌, ℕ, Bool, true, false, cond, ◌||◌, nat_lt, List, [], ◌∷◌, ◌++◌, length, take, drop, refl, take-append_seam, and_parts, or_parts, or-false}
+use Rattle.frame.proofs.Words.{Name, name_eq, has_name, Stmt, Const, Database, constants, variables, was_symbol, was_variable, with_name, with_names, AreCodes, AreDistinct, Declared, declared_symbols, kind_in, is_constant_kind, TellsAll, symbols_by, symbols_from, symbols_of, has_name-append, symbols_of-later, symbols-distinct, was_symbol-either, AreBelow, Stock, is_declared, AreStored, names_in, statements_of}
+use Rattle.mm_read.specs.declared.stmt.Stmt.TheVariants.{Var}
 
 -- the names of a storage are told apart
 pub stored-distinct : (k : Stock) → AreStored k → AreDistinct (names_in k)
@@ -45,13 +25,7 @@ codes-below names (c ∷ codes) h =
 by-unnamed : (s : Stmt) (x : Name) → (has_name x (constants s) || has_name x (variables s)) ≡ false → has_name x (symbols_by s) ≡ false
 by-unnamed (Const names) x h = sym (or-false (has_name x names)) ∙ h
 by-unnamed (Var names) x h = h
-by-unnamed Open x h = refl
-by-unnamed Close x h = refl
-by-unnamed (Disj names) x h = refl
-by-unnamed (Float label constant variable) x h = refl
-by-unnamed (Ess label expr) x h = refl
-by-unnamed (Axiom label expr) x h = refl
-by-unnamed (Prove label expr proof) x h = refl
+by-unnamed s x h = refl
 
 with-unnamed : (names xs : List Name) (x : Name) → has_name x names ≡ false → has_name x xs ≡ false → has_name x (with_names names xs) ≡ false
 with-unnamed names [] x h k = h

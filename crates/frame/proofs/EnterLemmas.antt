@@ -1,73 +1,40 @@
--- A statement entered with its label stands for itself.
-use Rattle.std.specs.Prelude.{◌≡◌, ℕ, List, [], ◌∷◌, ◌++◌, length, take, slice_get, Option, Some, Result, Ok, Err, OnOk, Bool, true, refl}
-use Rattle.std.proofs.Common.{sym, ◌∙◌, ap, subst, arith, length-append}
-use Rattle.std.proofs.lemmas.List.{length-map}
-use Rattle.names.proofs.CodesLemmas.{name_at-last}
-use Rattle.mm_lex.specs.Alphabet.{Name}
-use Rattle.mm_read.specs.declared.stmt.Stmt.{Stmt}
-use Rattle.mm_read.specs.declared.stmt.Stmt.TheVariants as stmt
-use Rattle.mm_read.specs.Statements.{Database}
-use Rattle.scope.specs.Active.{bare, label_of, expr_of, is_assertion, is_essential}
-use Rattle.scope.specs.Declares.{declared_with, IsNotedBy}
-use Rattle.scope.specs.Legal.{IsLegal}
-use Rattle.names.specs.Codes.{name_at, decode, with_names}
-use Rattle.scope.specs.Symbols.{symbols_by, symbols_in, symbols_of, symbols_after, labels_of, option_list, AreNumbers}
-use Rattle.scope.specs.Stored.Noted.{AreNoted}
-use Rattle.scope.specs.Kinds.{Declared, IsNumberingOf}
+-- A statement entered with its label stands for itself, and what was done to the storage for it.
+use Rattle.frame.proofs.Words.{sym, ◌∙◌, ap, subst, arith, length-append, inl, inr, ◌≡◌, ℕ, List, [], ◌∷◌, ◌++◌, length, take, slice_get, Option, Some, Result, Ok, Err, OnOk, Bool, true, refl, ◌+◌, ◌-◌, ◌<◌, ◌⊎◌, map, length-map, take-append-le, map_push, same_Some, take-append_seam}
+use Rattle.frame.proofs.Words.{name_at-last, Name, Stmt, Database, bare, label_of, expr_of, is_assertion, is_essential, before, stays_open, count, declared_with, IsNotedBy, IsLegal, name_at, decode, with_names, symbols_by, symbols_in, symbols_of, symbols_after, labels_of, option_list, AreNumbers, AreVariableNumbers, AreNoted, IsNumberingOf, numbering-after, noted-after, symbols_of-append, labels_of-append, AreBelow, Assertion, Entry, made, Kind, Ess, Var, Float, Axiom, Prove, Stock, names_in, labels_in, stmt_by, stmt_of, statements_of, option_position, ReadsAs, replaced_by, symbol_of, positions_from, AreAllLegal, AreStored, IsNext, IsKeptOf, AreKept, floats_in, kept_with, has_parts, IsKeptAs, is_label_kind, kind_of, IsLabelBelow, HasTwo, Grown, HasRoom, with_declared, AreNumbered, with_entry, KeepsCounts, Links, Symbol, links_of, naming_of, get-last, Extends, place, get-push, extends-length}
 use Rattle.scope.proofs.BareLemmas.{bare-same, symbols_by-bare, declared_with-bare, legal-bare}
-use Rattle.scope.proofs.DeclaredLemmas.{numbering-after, noted-after}
-use Rattle.scope.proofs.NamesLemmas.{symbols_of-append, labels_of-append}
-use Rattle.frame.specs.Below.{AreBelow}
 use Rattle.entries.specs.declared.head.Head.{Head}
-use Rattle.entries.specs.Entries.{Assertion, Entry, made}
-use Rattle.entries.specs.declared.kind.Kind.{Kind}
-use Rattle.entries.specs.declared.kind.Kind.TheVariants.{Open, Close, Const, Var, Disj, Float, Ess, Axiom, Prove}
-use Rattle.frame.specs.declared.storage.Stock.{Stock}
-use Rattle.frame.specs.Stored.EntryMeanings.{names_in, labels_in, stmt_by, stmt_of, statements_of}
-use Rattle.frame.specs.Stored.Whole.{AreStored, IsHead, IsNext}
-use Rattle.frame.specs.Stored.AssertionParts.{floats_in, kept_with, has_parts}
-use Rattle.frame.specs.Stored.Counts.{kind_of, IsLabelBelow, HasTwo}
+use Rattle.frame.specs.Stored.Whole.{IsHead}
 use Rattle.frame.proofs.DeclaredSymbolLemmas.{codes-below}
-use Rattle.frame.proofs.NamingLemmas.{stored-naming}
+use Rattle.frame.proofs.NamingLemmas.{stored-naming, naming_of-append, symbols-extend}
+use Rattle.frame.proofs.StoredOneMore.{still-reads, numbered-at, statements-more, stmt-more, numbered-push, positions_from-push, legal-push, stays-push}
+use Rattle.frame.proofs.DeclareLemmas.{symbol_of-push, replaced_of-push}
+use Rattle.frame.proofs.AssertionLemmas.{kept-more, kept-moved}
+use Rattle.frame.proofs.LabelLemmas.{label-below-at}
+use Rattle.mm_read.specs.declared.stmt.Stmt.TheVariants as stmt
 
-pub ok-given : {T E : Type 0} (r : Result T E) (A P Q R : Type 0) → (P → (A → Q) → R) → OnOk r P → (A → OnOk r Q) → OnOk r R
-ok-given (Ok x) A P Q R f p q = f p q
-ok-given (Err e) A P Q R f p q = tt
+pub ok-given : {T E : Type 0} (r : Result T E) (A P D Q R : Type 0) → (P → D → (A → Q) → R) → OnOk r P → OnOk r D → (A → OnOk r Q) → OnOk r R
+ok-given (Ok x) A P D Q R f p d q = f p d q
+ok-given (Err e) A P D Q R f p d q = tt
 
 -- ---- a statement by its kind, its label and its symbols
 
 stands-for : (s : Stmt) (labels : List Name) → stmt_by (kind_of s) (name_at (labels ++ option_list (label_of s) []) (length labels)) (symbols_in s) ≡ bare s
-stands-for stmt.Open labels = refl
-stands-for stmt.Close labels = refl
-stands-for (stmt.Const names) labels = refl
-stands-for (stmt.Var names) labels = refl
-stands-for (stmt.Disj names) labels = refl
 stands-for (stmt.Float label constant variable) labels = ap (λ x. stmt.Float x constant variable) (name_at-last labels label)
 stands-for (stmt.Ess label expr) labels = ap (λ x. stmt.Ess x expr) (name_at-last labels label)
 stands-for (stmt.Axiom label expr) labels = ap (λ x. stmt.Axiom x expr) (name_at-last labels label)
 stands-for (stmt.Prove label expr proof) labels = ap (λ x. stmt.Prove x expr []) (name_at-last labels label)
+stands-for s labels = refl
 
 label-below : (s : Stmt) (labels : List Name) → IsLabelBelow (kind_of s) (length labels) (length (labels ++ option_list (label_of s) []))
-label-below stmt.Open labels = tt
-label-below stmt.Close labels = tt
-label-below (stmt.Const names) labels = tt
-label-below (stmt.Var names) labels = tt
-label-below (stmt.Disj names) labels = tt
-label-below (stmt.Float label constant variable) labels = let n = length-append labels (label ∷ []) in omega (arith, n)
-label-below (stmt.Ess label expr) labels = let n = length-append labels (label ∷ []) in omega (arith, n)
-label-below (stmt.Axiom label expr) labels = let n = length-append labels (label ∷ []) in omega (arith, n)
-label-below (stmt.Prove label expr proof) labels = let n = length-append labels (label ∷ []) in omega (arith, n)
+label-below s labels = λ k. let n = length-append labels (option_list (label_of s) []) in omega (arith, n, has-label s k)
+  where
+    has-label : (t : Stmt) → is_label_kind (kind_of t) ≡ true → length (option_list (label_of t) []) ≡ 1
+    has-label (stmt.Float label constant variable) h = refl
+    has-label t h = cc
 
 has-two : (s : Stmt) (names : List Name) (codes : List ℕ) → decode names codes ≡ symbols_in s → HasTwo (kind_of s) codes
 has-two (stmt.Float label constant variable) names codes stand = sym (length-map codes (name_at names)) ∙ ap length stand
-has-two stmt.Open names codes stand = tt
-has-two stmt.Close names codes stand = tt
-has-two (stmt.Const xs) names codes stand = tt
-has-two (stmt.Var xs) names codes stand = tt
-has-two (stmt.Disj xs) names codes stand = tt
-has-two (stmt.Ess label expr) names codes stand = tt
-has-two (stmt.Axiom label expr) names codes stand = tt
-has-two (stmt.Prove label expr proof) names codes stand = tt
+has-two s names codes stand = tt
 
 pub label_of-bare : (s : Stmt) → label_of (bare s) ≡ label_of s
 label_of-bare s = bare-same label_of (λ l e p. refl) s
@@ -81,12 +48,7 @@ pub next-bare : (k : Stock) (is_own : Bool) (codes : List ℕ) (s : Stmt) → (i
 next-bare k w codes (stmt.Axiom label expr) l a n = (codes-below (names_in k) codes n.0, record { own = l; stand = n.1 })
 next-bare k w codes (stmt.Prove label expr proof) l a n = (codes-below (names_in k) codes n.0, record { own = l; stand = n.1 })
 next-bare k w codes (stmt.Ess label expr) l a n = (codes-below (names_in k) codes n.0, record { own = l; stand = n.1 })
-next-bare k w codes stmt.Open l a n = cc
-next-bare k w codes stmt.Close l a n = cc
-next-bare k w codes (stmt.Const names) l a n = cc
-next-bare k w codes (stmt.Var names) l a n = cc
-next-bare k w codes (stmt.Disj names) l a n = cc
-next-bare k w codes (stmt.Float label constant variable) l a n = cc
+next-bare k w codes s l a n = cc
 
 -- what was declared of a statement, and what was noted of it before and after
 pub record IsEntered (old new : Stock) (s : Stmt) (h : Head) (before after : Option (List ℕ)) : Type 0 where
@@ -109,45 +71,32 @@ module _ (old new : Stock) (s : Stmt) (h : Head) (before after : Option (List �
   labels : labels_in new ≡ labels_in old ++ option_list (label_of s) []
   labels = named.labels ∙ (labels_of-append S (bare s ∷ []) ∙ (ap (λ o. labels_of S ++ option_list o []) (label_of-bare s) ∙ ap (λ ls. ls ++ option_list (label_of s) []) (sym e.stored.kept.labels_kept)))
 
+  numbers-after : AreNumbers (symbols_after S s) (symbols_in s) codes
+  numbers-after =
+      subst (λ (o : Option (List ℕ)). AreNoted (symbols_after S s) (symbols_in s) o) are
+      (noted-after S s old.numbering before after e.legal (stored-naming old e.stored) (rw e.declared at e.noted_after) (rw e.stored.kept.names_kept at e.noted))
+
   numbers : AreNumbers (names_in new) (symbols_in s) codes
-  numbers =
-      subst (λ (N : List Name). AreNumbers N (symbols_in s) codes) (sym (named.symbols ∙ (symbols_of-append S (bare s) ∙ ap (with_names (symbols_of S)) (symbols_by-bare s))))
-      (subst (λ (o : Option (List ℕ)). AreNoted (symbols_after S s) (symbols_in s) o) are
-      (noted-after S s old.numbering before after e.legal (stored-naming old e.stored) (subst (λ (N : Declared). IsNotedBy N s before after) e.declared e.noted_after)
-      (subst (λ (N : List Name). AreNoted (with_names N (symbols_by s)) (symbols_in s) before) e.stored.kept.names_kept e.noted)))
+  numbers = subst (λ (N : List Name). AreNumbers N (symbols_in s) codes) (sym (named.symbols ∙ (symbols_of-append S (bare s) ∙ ap (with_names (symbols_of S)) (symbols_by-bare s)))) numbers-after
 
   kind : h.kind ≡ kind_of s
   kind = e.head.kind ∙ kind_of-bare s
 
   pub entered-stands : (a : Assertion) → stmt_of (names_in new) (labels_in new) (made h codes a) ≡ bare s
-  entered-stands a =
-      ap (λ q. stmt_by q (name_at (labels_in new) h.label) (decode (names_in new) codes)) kind
-      ∙ (ap (λ n. stmt_by (kind_of s) (name_at (labels_in new) n) (decode (names_in new) codes)) e.head.label
-      ∙ (ap (λ ls. stmt_by (kind_of s) (name_at ls (length (labels_in old))) (decode (names_in new) codes)) labels
-      ∙ (ap (stmt_by (kind_of s) (name_at (labels_in old ++ option_list (label_of s) []) (length (labels_in old)))) numbers.1 ∙ stands-for s (labels_in old))))
+  entered-stands a = rw (kind, e.head.label, labels, numbers.1) (stands-for s (labels_in old))
 
   pub entered-below : AreBelow (length (names_in new)) codes
   entered-below = codes-below (names_in new) codes numbers.0
 
   pub entered-label : IsLabelBelow h.kind h.label (length (labels_in new))
-  entered-label =
-      subst (λ q. IsLabelBelow q h.label (length (labels_in new))) (sym kind)
-      (subst (λ n. IsLabelBelow (kind_of s) n (length (labels_in new))) (sym e.head.label)
-      (subst (λ ls. IsLabelBelow (kind_of s) (length (labels_in old)) (length ls)) (sym labels) (label-below s (labels_in old))))
+  entered-label = rw (kind, e.head.label, labels) (label-below s (labels_in old))
 
   pub entered-two : HasTwo h.kind codes
   entered-two = subst (λ q. HasTwo q codes) (sym kind) (has-two s (names_in new) codes numbers.1)
 
 pub not-essential : (s : Stmt) → is_assertion s ≡ true → is_essential s ≡ true → ⊥
-not-essential (stmt.Axiom label expr) a e = cc
-not-essential (stmt.Prove label expr proof) a e = cc
 not-essential (stmt.Ess label expr) a e = cc
-not-essential stmt.Open a e = cc
-not-essential stmt.Close a e = cc
-not-essential (stmt.Const names) a e = cc
-not-essential (stmt.Var names) a e = cc
-not-essential (stmt.Disj names) a e = cc
-not-essential (stmt.Float label constant variable) a e = cc
+not-essential s a e = cc
 
 -- what is kept with each `$e`
 pub essentials-kept : (k : Stock) → AreStored k → (i : ℕ) (x : Entry) → slice_get k.entries i ≡ Some x → is_essential (stmt_of (names_in k) (labels_in k) x) ≡ true
@@ -158,11 +107,156 @@ essentials-kept k stored i x h e =
   where
     by : (kind : Kind) → is_essential (stmt_by kind (name_at (labels_in k) x.label) (decode (names_in k) x.symbols)) ≡ true → has_parts kind ≡ true
     by Ess g = refl
-    by Axiom g = refl
-    by Prove g = refl
-    by Open g = cc
-    by Close g = cc
-    by Const g = cc
-    by Var g = cc
-    by Disj g = cc
-    by Float g = cc
+    by kind g = cc
+
+-- ---- what was done to the parts of the storage
+
+variable-numbers : (names : List Name) (s : Stmt) (codes : List ℕ) → AreNumbers names (symbols_in s) codes → AreVariableNumbers names s codes
+variable-numbers names (stmt.Var xs) codes n = n
+variable-numbers names (stmt.Float label constant variable) codes n = n
+variable-numbers names s codes n = tt
+
+-- what became of the parts of the storage
+pub record IsExtended (old new : Stock) (s : Stmt) (h : Head) (a : Assertion) (codes : List ℕ) (kind : Kind) (at : ℕ) (symbols : List Symbol) (replaced : List ℕ) (entries : List Entry) (links : Links) : Type 0 where
+  pub grown : Grown old new
+  pub room : HasRoom new
+  pub positions : new.positions.items ≡ old.positions.items ++ option_position (label_of s) (length old.entries + 1) []
+  pub kept : has_parts h.kind ≡ true → IsKeptOf old (bare s) a
+  pub of_kind : kind ≡ h.kind
+  pub place : at ≡ length old.entries + 1
+  pub noted : (x : ℕ → Symbol) → ReadsAs new.symbols.items x → replaced ≡ new.replaced.items ++ replaced_by x kind codes
+  pub each : (c : ℕ) (x : Symbol) → slice_get new.symbols.items c ≡ Some x → slice_get symbols c ≡ Some (with_declared kind codes at c x)
+  pub count : length symbols ≡ length new.symbols.items
+  pub pushed : entries ≡ new.entries ++ made h codes a ∷ []
+  pub linked : links ≡ links_of (statements_of old ++ bare s ∷ [])
+
+module _ {old new : Stock} {s : Stmt} {h : Head} {a : Assertion} {codes : List ℕ} {before after : Option (List ℕ)} {kind : Kind} {at : ℕ} {symbols : List Symbol} {replaced : List ℕ} {entries : List Entry} {links : Links}
+    (x : IsEntered old new s h before after) (are : after ≡ Some codes) (p : IsExtended old new s h a codes kind at symbols replaced entries links) where
+  abbrev e : Entry
+  e = made h codes a
+
+  now : IsNumberingOf (statements_of old ++ bare s ∷ []) new.numbering
+  now = named old new s h before after codes x are
+
+  legal : IsLegal (statements_of old) (bare s)
+  legal = legal-bare (statements_of old) s x.legal
+
+  entries-more : entries ≡ old.entries ++ e ∷ []
+  entries-more = p.pushed ∙ ap (λ q. q ++ e ∷ []) p.grown.entries
+
+  names-extend : Extends (names_in old) (names_in new)
+  names-extend = symbols-extend old.numbering new.numbering p.grown.numbering
+
+  labels-extend : Extends (labels_in old) (labels_in new)
+  labels-extend = (labels_of (bare s ∷ []), now.labels ∙ (labels_of-append (statements_of old) (bare s ∷ []) ∙ ap (λ r. r ++ labels_of (bare s ∷ [])) (sym x.stored.kept.labels_kept)))
+
+  stands : stmt_of (names_in new) (labels_in new) e ≡ bare s
+  stands = entered-stands old new s h before after codes x are a
+
+  pub pushed-statements : map (stmt_of (names_in new) (labels_in new)) entries ≡ statements_of old ++ bare s ∷ []
+  pushed-statements =
+      ap (map (stmt_of (names_in new) (labels_in new))) entries-more
+      ∙ (map_push (stmt_of (names_in new) (labels_in new)) old.entries e
+      ∙ (ap (λ r. r ++ stmt_of (names_in new) (labels_in new) e ∷ []) (statements-more (names_in old) (names_in new) (labels_in old) (labels_in new) old.entries names-extend labels-extend x.stored.kept.coded)
+      ∙ ap (λ t. statements_of old ++ t ∷ []) stands))
+
+  -- as many statements as entries
+  len : length (statements_of old) ≡ length old.entries
+  len = length-map old.entries (stmt_of (names_in old) (labels_in old))
+
+  -- the statements before an entry that was there, and before the new one
+  early : (i : ℕ) → i < length old.entries → take i (map (stmt_of (names_in new) (labels_in new)) entries) ≡ take i (statements_of old)
+  early i lt = ap (take i) pushed-statements ∙ take-append-le i (statements_of old) (bare s ∷ []) (omega (arith, lt, len))
+
+  late : (i : ℕ) → i ≡ length old.entries → take i (map (stmt_of (names_in new) (labels_in new)) entries) ≡ statements_of old
+  late i is = ap (take i) pushed-statements ∙ (ap (λ n. take n (statements_of old ++ bare s ∷ [])) (is ∙ sym len) ∙ take-append_seam (statements_of old) (bare s ∷ []))
+
+  found : (i : ℕ) (d : Entry) → slice_get entries i ≡ Some d → ((i < length old.entries) × (slice_get old.entries i ≡ Some d)) ⊎ ((i ≡ length old.entries) × (e ≡ d))
+  found i d h = get-push old.entries e d i (ap (λ r. slice_get r i) (sym entries-more) ∙ h)
+
+  -- each entry has the links of the statements before it
+  linked' : (i : ℕ) (d : Entry) → slice_get entries i ≡ Some d → d.links ≡ links_of (take i (map (stmt_of (names_in new) (labels_in new)) entries))
+  linked' i d h = by (found i d h)
+    where
+      by : ((i < length old.entries) × (slice_get old.entries i ≡ Some d)) ⊎ ((i ≡ length old.entries) × (e ≡ d)) → d.links ≡ links_of (take i (map (stmt_of (names_in new) (labels_in new)) entries))
+      by (inl q) = x.stored.kept.linked i d q.1 ∙ ap links_of (sym (early i q.0))
+      by (inr q) = ap (λ w. w.links) (sym q.1) ∙ (x.head.links ∙ (x.stored.kept.last ∙ ap links_of (sym (late i q.0))))
+
+  -- the symbols that were there, and those that nothing declares yet
+  between : ReadsAs new.symbols.items (symbol_of old.entries)
+  between = still-reads (names_in old) (labels_in old) old.positions.items old.symbols.items old.replaced.items old.entries old.links new.symbols.items x.stored.kept p.grown.symbols
+
+  -- each symbol tells its declarations, the new statement's with them
+  symbols' : (c : ℕ) → c < length (names_in new) → slice_get symbols c ≡ Some (symbol_of entries c)
+  symbols' c lt =
+      p.each c (symbol_of old.entries c) (between c (omega (arith, lt, p.room.count)))
+      ∙ rw (p.of_kind, entries-more) (ap Some (ap (λ n. with_entry e n c (symbol_of old.entries c)) (omega (arith, p.place)) ∙ sym (symbol_of-push old.entries e c)))
+
+  -- each assertion is kept as what it is, the new one too
+  parts' : (i : ℕ) (d : Entry) → slice_get entries i ≡ Some d → has_parts d.kind ≡ true → IsKeptAs entries (take i (map (stmt_of (names_in new) (labels_in new)) entries)) (stmt_of (names_in new) (labels_in new) d) d.assertion
+  parts' i d h has = by (found i d h)
+    where
+      by : ((i < length old.entries) × (slice_get old.entries i ≡ Some d)) ⊎ ((i ≡ length old.entries) × (e ≡ d)) → IsKeptAs entries (take i (map (stmt_of (names_in new) (labels_in new)) entries)) (stmt_of (names_in new) (labels_in new) d) d.assertion
+      by (inl q) =
+          let same : stmt_of (names_in new) (labels_in new) d ≡ stmt_of (names_in old) (labels_in old) d =
+          stmt-more (names_in old) (names_in new) (labels_in old) (labels_in new) d names-extend labels-extend (numbered-at (length (names_in old)) (length (labels_in old)) old.entries x.stored.kept.coded i d q.1)
+          (label-below-at (length (names_in old)) (length (labels_in old)) old.entries x.stored.kept.coded i d q.1) in
+          rw (early i q.0, same, entries-more)
+          (kept-moved (names_in old) (labels_in old) old.entries (old.entries ++ e ∷ []) i (stmt_of (names_in old) (labels_in old) d) d.assertion (sym (take-append-le i old.entries (e ∷ []) (omega (arith, q.0)))) (x.stored.kept.parts_kept i d q.1 has))
+      by (inr q) =
+          rw (late i q.0, ← q.1, stands, entries-more) (kept-more (names_in old) (labels_in old) old.entries (e ∷ []) (bare s) a (p.kept (ap (λ w. has_parts w.kind) q.1 ∙ has)))
+
+  -- each entry keeps the counts before it, the new one too
+  counts' : (i : ℕ) (d : Entry) → slice_get entries i ≡ Some d → KeepsCounts (names_in new) (labels_in new) entries i d
+  counts' i d h = by (found i d h)
+    where
+      by : ((i < length old.entries) × (slice_get old.entries i ≡ Some d)) ⊎ ((i ≡ length old.entries) × (e ≡ d)) → KeepsCounts (names_in new) (labels_in new) entries i d
+      by (inl q) =
+          let c = x.stored.kept.counts_kept i d q.1 in
+          record {
+            numbered = subst (AreNumbered d.names d.label) (sym (ap (take i) entries-more ∙ take-append-le i old.entries (e ∷ []) (omega (arith, q.0)))) c.numbered;
+            label_count = c.label_count ∙ ap (λ S. length (labels_of S)) (sym (early i q.0));
+            name_count = c.name_count ∙ ap (λ S. length (symbols_of S)) (sym (early i q.0));
+          }
+      by (inr q) =
+          let n : d.names ≡ length (names_in old) = ap (λ w. w.names) (sym q.1) ∙ x.head.names in
+          let m : d.label ≡ length (labels_in old) = ap (λ w. w.label) (sym q.1) ∙ x.head.label in
+          let front : take i entries ≡ old.entries = ap (take i) entries-more ∙ (ap (λ j. take j (old.entries ++ e ∷ [])) q.0 ∙ take-append_seam old.entries (e ∷ [])) in
+          record {
+            numbered = rw (n, m, front) x.stored.kept.coded;
+            label_count = m ∙ ap length (x.stored.kept.labels_kept ∙ ap labels_of (sym (late i q.0)));
+            name_count = n ∙ ap length (x.stored.kept.names_kept ∙ ap symbols_of (sym (late i q.0)));
+          }
+
+  -- those of the variables of a `$v`, and of the symbols of a `$f`
+  pub added-numbers : (d : Entry) → slice_get entries (length old.entries) ≡ Some d → AreVariableNumbers (symbols_after (statements_of old) s) s d.symbols
+  added-numbers d g =
+      let same : e ≡ d = same_Some e d (sym (ap (λ r. slice_get r (length old.entries)) entries-more ∙ get-last old.entries e) ∙ g) in
+      subst (λ (w : Entry). AreVariableNumbers (symbols_after (statements_of old) s) s w.symbols) same (variable-numbers (symbols_after (statements_of old) s) s codes (numbers-after old new s h before after codes x are))
+
+  pub kept-pushed : AreKept (names_in new) (labels_in new) new.positions.items symbols replaced entries links
+  kept-pushed =
+      let k = x.stored.kept in
+      record {
+        last = p.linked ∙ ap links_of (sym pushed-statements);
+        linked = linked';
+        stays = ap (stays_open 0) pushed-statements ∙ stays-push (statements_of old) (bare s) k.stays legal;
+        legal = subst AreAllLegal (sym pushed-statements) (legal-push (statements_of old) (bare s) k.legal legal);
+        names_kept = now.symbols ∙ ap symbols_of (sym pushed-statements);
+        labels_kept = now.labels ∙ ap labels_of (sym pushed-statements);
+        positions_kept = rw pushed-statements (p.positions ∙ rw (k.positions_kept, ← len, ← label_of-bare s) (ap (λ n. positions_from 1 (statements_of old) ++ option_position (label_of (bare s)) n []) (omega arith) ∙ sym (positions_from-push 1 (statements_of old) (bare s))));
+        coded = subst (AreNumbered (length (names_in new)) (length (labels_in new))) (sym entries-more)
+            (numbered-push (length (names_in old)) (length (names_in new)) (length (labels_in old)) (length (labels_in new)) old.entries e (extends-length (names_in old) (names_in new) names-extend) (extends-length (labels_in old) (labels_in new) labels-extend) k.coded
+            (entered-below old new s h before after codes x are) (entered-label old new s h before after codes x are) (entered-two old new s h before after codes x are));
+        symbols_kept = symbols';
+        replaced_kept = p.noted (symbol_of old.entries) between ∙ rw (p.grown.replaced, p.of_kind, k.replaced_kept, entries-more) (sym (replaced_of-push old.entries e));
+        counts_kept = counts';
+        count = p.count ∙ p.room.count;
+        few = p.room.few;
+        parts_kept = parts';
+      }
+
+-- the numbering is that of the statements, with one more
+pub numbered-pushed : (old new : Stock) (s : Stmt) (T : Database) → AreStored old → new.numbering ≡ declared_with old.numbering s → T ≡ statements_of old ++ bare s ∷ [] → new.numbering ≡ naming_of T
+numbered-pushed old new s T stored own same =
+    own ∙ (sym (declared_with-bare old.numbering s) ∙ (ap (λ N. declared_with N (bare s)) stored.numbered ∙ (sym (naming_of-append (statements_of old) (bare s)) ∙ ap naming_of (sym same))))

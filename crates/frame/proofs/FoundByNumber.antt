@@ -1,28 +1,7 @@
 -- Names told apart, places of numbers, and statements by their kinds.
-use Rattle.std.specs.Prelude.{◌≡◌, ℕ, zero, suc, ◌+◌, ◌-◌, ◌<◌, Bool, true, false, cond, ◌==◌, ◌||◌, List, [], ◌∷◌, length, map, take, get_or, slice_get, Option, Some, None, option_map, refl}
-use Rattle.std.proofs.Common.{sym, ◌∙◌, ap, subst, arith, take-take}
-use Rattle.std.proofs.lemmas.Slice.Eq.{bytes_eq-Decides}
-use Rattle.std.proofs.lemmas.Bool.{or_right}
-use Rattle.std.proofs.lemmas.Option.{same_Some, slice_get-map, slice_get_within, get_or_from_slice_get}
-use Rattle.mm_lex.specs.Alphabet.{Name, name_eq}
-use Rattle.mm_read.specs.declared.stmt.Stmt.{Stmt}
-use Rattle.mm_read.specs.Statements.{Database}
-use Rattle.scope.specs.Active.{expr_of, is_assertion}
-use Rattle.scope.specs.Legal.{IsLegal}
-use Rattle.names.specs.Codes.{name_at, decode, AreDistinct}
-use Rattle.frame.specs.FrameOf.{is_hypothesis, variable_of, is_some_name, has_place}
-use Rattle.frame.specs.Below.{AreBelow}
-use Rattle.frame.specs.Cited.{head_of, IsHead, IsOf}
-use Rattle.entries.specs.declared.kind.Kind.{Kind}
-use Rattle.entries.specs.declared.kind.Kind.TheVariants.{Float, Ess, Axiom, Prove}
-use Rattle.entries.specs.Entries.{Entry}
-use Rattle.frame.specs.Stored.EntryMeanings.{stmt_by}
-use Rattle.frame.specs.Stored.Counts.{AreNumbered, HasTwo}
-use Rattle.frame.specs.Stored.AssertionParts.{variable_by, asked_by}
-use Rattle.frame.specs.Stored.NumberPlaces.{is_code, place_from}
-use Rattle.entries.proofs.BufferPlaceLemmas.{take-get}
+use Rattle.frame.proofs.Words.{sym, ◌∙◌, ap, subst, arith, take-take, ◌≡◌, ℕ, zero, suc, ◌+◌, ◌-◌, ◌<◌, Bool, true, false, cond, ◌==◌, ◌||◌, List, [], ◌∷◌, length, map, take, get_or, slice_get, Option, Some, None, option_map, refl, or_right, both_ways, false_from_ne_true, same_Some, slice_get-map, slice_get_within, get_or_from_slice_get}
+use Rattle.frame.proofs.Words.{Name, name_eq, Stmt, Database, expr_of, is_assertion, IsLegal, name_at, decode, AreDistinct, is_hypothesis, variable_of, is_some_name, has_place, AreBelow, head_of, IsHead, IsOf, Kind, Float, Ess, Axiom, Prove, Entry, stmt_by, AreNumbered, HasTwo, variable_by, asked_by, is_code, place_from, take-get, name_same, same_name, code-at}
 use Rattle.frame.proofs.LegalLabels.{AllKept}
-use Rattle.names.proofs.CodesLemmas.{name_same, code-at}
 
 -- ---- lists
 
@@ -100,14 +79,9 @@ place-none names k (v ∷ vs) c d b l h = by (is_code c v) refl (place-none name
   where
     not-some : (u : Option ℕ) → OptionBelow (length names) u → is_code c u ≡ false → is_some_name (name_at names c) (option_name names u) ≡ false
     not-some None low f = refl
-    not-some (Some y) low f = test (name_eq (name_at names c) (name_at names y)) refl
-      where
-        test : (t : Bool) → name_eq (name_at names c) (name_at names y) ≡ t → t ≡ false
-        test false e = refl
-        test true e =
-            let same : c ≡ y = name_at-injective names c y d l low ((bytes_eq-Decides (name_at names c) (name_at names y)).0 e) in
-            let t : (c == y) ≡ true = grind (arith, same) in
-            let bad : true ≡ false = sym t ∙ f in cc
+    not-some (Some y) low f = false_from_ne_true (name_eq (name_at names c) (name_at names y)) (λ e.
+        let same : c ≡ y = name_at-injective names c y d l low (same_name (name_at names c) (name_at names y) e) in
+        both_ways (c == y) f (grind (arith, same)))
 
     by : (t : Bool) → is_code c v ≡ t → (place_from (k + 1) vs c ≡ None → has_place (map (option_name names) vs) (name_at names c) ≡ false) → cond t (Some k) (place_from (k + 1) vs c) ≡ None
         → has_place (map (option_name names) (v ∷ vs)) (name_at names c) ≡ false

@@ -1,30 +1,11 @@
 -- A statement that is kept by numbers says what the statement says.
-use Rattle.std.specs.Prelude.{◌≡◌, ℕ, suc, ◌+◌, ◌-◌, ◌<◌, ◌≤◌, Bool, true, false, cond, List, [], ◌∷◌, ◌++◌, length, map, filter, take, slice_get, Option, Some, None, is_some, refl}
-use Rattle.std.proofs.Common.{sym, ◌∙◌, ap, subst, arith, append_assoc, length-append}
+use Rattle.frame.proofs.Words.{sym, ◌∙◌, ap, subst, arith, append_assoc, length-append, ◌≡◌, ℕ, suc, ◌+◌, ◌-◌, ◌<◌, ◌≤◌, Bool, true, false, cond, List, [], ◌∷◌, ◌++◌, length, map, filter, take, slice_get, Option, Some, None, is_some, refl}
+use Rattle.frame.proofs.Words.{Name, Stmt, Database, stmt_at, before, stays_open, active_from, expr_of, separated, is_assertion, IsLegal, name_at, decode, AreDistinct, is_mandatory, is_hypothesis, hypotheses, variable_of, variables_of, has_place, separates, AreBelow, AllBelow, head_of, IsHead, IsOf, IsAsked, AreAsked, AreListsOf, IsCited, Cited, Kind, Disj, Entry, Assertion, actives, actives_from, is_disj, stmt_by, stmt_of, AreAllLegal, AreNumbered, HasTwo, variable_at, is_placed, placed, symbols_at, option_symbols, has_two, groups_by, head_at, asked_by, option_asked, asked_at, kept_with, IsKeptAs, place_of, take-get}
 use Rattle.frame.proofs.LegalBehind.{stands-at}
-use Rattle.mm_lex.specs.Alphabet.{Name}
-use Rattle.mm_read.specs.declared.stmt.Stmt.{Stmt}
-use Rattle.mm_read.specs.Statements.{Database}
-use Rattle.scope.specs.Active.{stmt_at, before, stays_open, active_from, expr_of, separated, is_assertion}
-use Rattle.scope.specs.Legal.{IsLegal}
-use Rattle.names.specs.Codes.{name_at, decode, AreDistinct}
-use Rattle.frame.specs.FrameOf.{is_mandatory, is_hypothesis, hypotheses, variable_of, variables_of, has_place, separates}
 use Rattle.frame.specs.FrameOf as frame_of
-use Rattle.frame.specs.Below.{AreBelow, AllBelow}
-use Rattle.frame.specs.Cited.{head_of, IsHead, IsOf, IsAsked, AreAsked, AreListsOf, IsCited}
-use Rattle.entries.specs.declared.cited_parts.Cited.{Cited}
-use Rattle.entries.specs.declared.kind.Kind.{Kind}
-use Rattle.entries.specs.declared.kind.Kind.TheVariants.{Open, Close, Const, Var, Disj, Float, Ess, Axiom, Prove}
-use Rattle.entries.specs.Entries.{Entry, Assertion}
-use Rattle.frame.specs.Links.{actives, actives_from, is_disj}
-use Rattle.frame.specs.Stored.EntryMeanings.{stmt_by, stmt_of, AreAllLegal}
-use Rattle.frame.specs.Stored.Counts.{AreNumbered, HasTwo}
-use Rattle.frame.specs.Stored.AssertionParts.{variable_at, is_placed, placed, symbols_at, option_symbols, has_two, groups_by, head_at, asked_by, option_asked, asked_at, kept_with, IsKeptAs}
-use Rattle.frame.specs.Stored.NumberPlaces.{place_of}
 use Rattle.frame.proofs.LegalLabels.{AllKept}
 use Rattle.frame.proofs.VariablePlaceLemmas.{mandatory-place}
-use Rattle.entries.proofs.BufferPlaceLemmas.{take-get}
-use Rattle.frame.proofs.FoundByNumber.{map-back, map-at, kept-front, option_name, OptionBelow, OptionsBelow, place-found, place-none, has-some, variable-named, variable-below, numbered-at, asked-kind}
+use Rattle.frame.proofs.FoundByNumber.{map-back, map-at, kept-front, option_name, OptionsBelow, place-found, place-none, has-some, variable-named, variable-below, numbered-at, asked-kind}
 use Rattle.frame.proofs.PlacedHypotheses.{IsHyp, AreHyps, hyps}
 
 -- ---- the assertion
@@ -37,7 +18,7 @@ module _ (es : List Entry) (names labels : List Name) (m a : ℕ) (e : Entry) (d
   all = map (stmt_of names labels) es
 
   abbrev front_of : Database
-  front_of = before (map (stmt_of names labels) es) a
+  front_of = before all a
 
   abbrev own : Stmt
   own = stmt_of names labels e
@@ -53,39 +34,33 @@ module _ (es : List Entry) (names labels : List Name) (m a : ℕ) (e : Entry) (d
       let back : suc (a - 1) ≡ a = omega (arith, positive) in
       legal a own (ap (stmt_at all) (sym back) ∙ map-at (stmt_of names labels) es (a - 1) e here)
 
-  own-codes : AreBelow (length names) e.symbols
-  own-codes = (numbered-at (length names) m es (a - 1) e numbered here).0
-
-  -- the entry of a hypothesis
-  pub record IsEntryAt (p : ℕ) (h : IsHyp front_of own p) : Type 0 where
+  -- the entry of a statement that stands in front
+  pub record IsEntryAt (p : ℕ) (A : Database) (t : Stmt) : Type 0 where
     pub entry : Entry
+    pub stands : slice_get front_of (length A) ≡ Some t
+    pub stands_at : stmt_at all (suc (length A)) ≡ Some t
     pub found : slice_get es (p - 1) ≡ Some entry
-    pub same : h.stmt ≡ stmt_of names labels entry
+    pub same : t ≡ stmt_of names labels entry
     pub codes : AreBelow (length names) entry.symbols
     pub two : HasTwo entry.kind entry.symbols
 
-  entry-at : (p : ℕ) (h : IsHyp front_of own p) → IsEntryAt p h
-  entry-at p h =
-      let there : slice_get front_of (length h.front) ≡ Some h.stmt = ap (λ w. slice_get w (length h.front)) h.whole ∙ stands-at h.front h.stmt h.rest in
-      let t = take-get (a - 1) (length h.front) all h.stmt there in
-      let b = map-back (stmt_of names labels) es (length h.front) h.stmt t.1 in
-      let one : p - 1 ≡ length h.front = (let q = h.at in omega (arith, q)) in
-      let n = numbered-at (length names) m es (length h.front) b.0 numbered b.1 in
-      record { entry = b.0; found = ap (slice_get es) one ∙ b.1; same = b.2; codes = n.0; two = n.1 }
+  entry-at : (p : ℕ) (A : Database) (t : Stmt) (T : Database) → front_of ≡ A ++ t ∷ T → p ≡ suc (length A) → IsEntryAt p A t
+  entry-at p A t T whole at =
+      let there : slice_get front_of (length A) ≡ Some t = ap (λ w. slice_get w (length A)) whole ∙ stands-at A t T in
+      let stands = (take-get (a - 1) (length A) all t there).1 in
+      let b = map-back (stmt_of names labels) es (length A) t stands in
+      let one : p - 1 ≡ length A = omega (arith, at) in
+      let n = numbered-at (length names) m es (length A) b.0 numbered b.1 in
+      record { entry = b.0; stands = there; stands_at = stands; found = ap (slice_get es) one ∙ b.1; same = b.2; codes = n.0; two = n.1 }
 
-  stands-there : (p : ℕ) (h : IsHyp front_of own p) → stmt_at all p ≡ Some h.stmt
-  stands-there p h =
-      let there : slice_get front_of (length h.front) ≡ Some h.stmt = ap (λ w. slice_get w (length h.front)) h.whole ∙ stands-at h.front h.stmt h.rest in
-      let t = take-get (a - 1) (length h.front) all h.stmt there in
-      ap (stmt_at all) h.at ∙ t.1
+  hyp-at : (p : ℕ) (h : IsHyp front_of own p) → IsEntryAt p h.front h.stmt
+  hyp-at p h = entry-at p h.front h.stmt h.rest h.whole h.at
 
   variable-there : (p : ℕ) (h : IsHyp front_of own p) → frame_of.variable_at front_of p ≡ option_name names (variable_at es p)
   variable-there p h =
-      let there : slice_get front_of (length h.front) ≡ Some h.stmt = ap (λ w. slice_get w (length h.front)) h.whole ∙ stands-at h.front h.stmt h.rest in
-      let x = entry-at p h in
-      ap (frame_of.variable_at front_of) h.at ∙ (ap frame_of.option_variable there ∙ (ap variable_of x.same
-      ∙ (variable-named names x.entry.kind (name_at labels x.entry.label) x.entry.symbols x.two
-      ∙ sym (ap (λ o. option_name names (Rattle.frame.specs.Stored.AssertionParts.option_variable o)) x.found))))
+      let x = hyp-at p h in
+      ap (frame_of.variable_at front_of) h.at ∙ (ap frame_of.option_variable x.stands ∙ (ap variable_of x.same
+      ∙ (variable-named names x.entry.kind (name_at labels x.entry.label) x.entry.symbols x.two ∙ rw x.found refl)))
 
   variables-there : (ps : List ℕ) → AreHyps front_of own ps → map (frame_of.variable_at front_of) ps ≡ map (option_name names) (map (variable_at es) ps)
   variables-there [] h = refl
@@ -94,8 +69,8 @@ module _ (es : List Entry) (names labels : List Name) (m a : ℕ) (e : Entry) (d
   places-below : (ps : List ℕ) → AreHyps front_of own ps → OptionsBelow (length names) (map (variable_at es) ps)
   places-below [] h = tt
   places-below (p ∷ ps) h =
-      let x = entry-at p h.0 in
-      (subst (λ o. OptionBelow (length names) (Rattle.frame.specs.Stored.AssertionParts.option_variable o)) (sym x.found) (variable-below (length names) x.entry.kind x.entry.symbols x.codes), places-below ps h.1)
+      let x = hyp-at p h.0 in
+      (rw x.found (variable-below (length names) x.entry.kind x.entry.symbols x.codes), places-below ps h.1)
 
   hyps-are : d.hypotheses ≡ hypotheses front_of own
   hyps-are = kept.hypotheses_kept ∙ ap (λ b. kept_with b front_of own) whole
@@ -115,11 +90,11 @@ module _ (es : List Entry) (names labels : List Name) (m a : ℕ) (e : Entry) (d
 
   one-asked : (p : ℕ) → IsHyp front_of own p → IsAsked all names p (head_at es p) (asked_at es p)
   one-asked p h =
-      let x = entry-at p h in
+      let x = hyp-at p h in
       let k = asked-kind names x.entry.kind (name_at labels x.entry.label) x.entry.symbols p front_of own x.codes x.two (sym (ap (is_hypothesis front_of own) x.same) ∙ h.is) in
       record {
         stmt = h.stmt;
-        stands = stands-there p h;
+        stands = ap (stmt_at all) h.at ∙ x.stands_at;
         first = subst (λ o. IsHead names (head_of (option_symbols o)) (expr_of h.stmt)) (sym x.found) (subst (λ t. IsHead names (head_of x.entry.symbols) (expr_of t)) (sym x.same) k.0);
         is = subst (λ o. IsOf names p h.stmt (option_asked p o)) (sym x.found) (subst (λ t. IsOf names p t (asked_by p x.entry.kind x.entry.symbols)) (sym x.same) k.1);
       }
@@ -150,14 +125,16 @@ module _ (es : List Entry) (names labels : List Name) (m a : ℕ) (e : Entry) (d
 
   placed-stands : (codes : List ℕ) → AreBelow (length names) codes → decode names (placed places codes) ≡ filter (is_mandatory front_of own) (decode names codes)
   placed-stands [] b = refl
-  placed-stands (c ∷ codes) b = by (is_placed places c) (is_mandatory front_of own (name_at names c)) (mandatory-is c b.0) (placed-stands codes b.1)
+  placed-stands (c ∷ codes) b = rw (mandatory-is c b.0) (by (is_mandatory front_of own (name_at names c)) (placed-stands codes b.1))
     where
-      by : (t u : Bool) → t ≡ u → decode names (placed places codes) ≡ filter (is_mandatory front_of own) (decode names codes)
-          → decode names (cond t (c ∷ placed places codes) (placed places codes)) ≡ cond u (name_at names c ∷ filter (is_mandatory front_of own) (decode names codes)) (filter (is_mandatory front_of own) (decode names codes))
-      by true true e more = ap (λ r. name_at names c ∷ r) more
-      by false false e more = more
-      by true false e more = cc
-      by false true e more = cc
+      by : (t : Bool) → decode names (placed places codes) ≡ filter (is_mandatory front_of own) (decode names codes)
+          → decode names (cond t (c ∷ placed places codes) (placed places codes)) ≡ cond t (name_at names c ∷ filter (is_mandatory front_of own) (decode names codes)) (filter (is_mandatory front_of own) (decode names codes))
+      by true more = ap (λ r. name_at names c ∷ r) more
+      by false more = more
+
+  with-group : (L : List ℕ) (G : List (List ℕ)) → map (decode names) (cond (has_two L) (L ∷ G) G) ≡ cond (separates (decode names L)) (decode names L ∷ map (decode names) G) (map (decode names) G)
+  with-group (x ∷ y ∷ xs) G = refl
+  with-group xs G = refl
 
   groups-from : (A T : Database) (n : ℕ) → front_of ≡ A ++ T → n ≡ suc (length A)
       → map (decode names) (groups_by places (map (λ q. symbols_at es q.0) (actives_from is_disj n T))) ≡ filter separates (map (filter (is_mandatory front_of own)) (map (λ p. separated p.1) (active_from n T)))
@@ -169,54 +146,24 @@ module _ (es : List Entry) (names labels : List Name) (m a : ℕ) (e : Entry) (d
       Rest : Type 0
       Rest = map (decode names) (groups_by places (map (λ q. symbols_at es q.0) (actives_from is_disj (n + 1) T))) ≡ filter separates (map (filter (is_mandatory front_of own)) (map (λ p. separated p.1) (active_from (n + 1) T)))
 
-      found : (x : Entry) × (slice_get es (n - 1) ≡ Some x) × (t ≡ stmt_of names labels x)
-      found =
-          let there : slice_get front_of (length A) ≡ Some t = ap (λ w. slice_get w (length A)) whole ∙ stands-at A t T in
-          let u = take-get (a - 1) (length A) all t there in
-          let b = map-back (stmt_of names labels) es (length A) t u.1 in
-          let one : n - 1 ≡ length A = omega (arith, at_n) in
-          (b.0, ap (slice_get es) one ∙ b.1, b.2)
-
-      with_group : (L : List ℕ) (F : List Name) → decode names L ≡ F → (G : List (List ℕ)) (R : List (List Name)) → map (decode names) G ≡ R
-          → map (decode names) (cond (has_two L) (L ∷ G) G) ≡ cond (separates F) (F ∷ R) R
-      with_group L F e G R g =
-          subst (λ f. map (decode names) (cond (has_two L) (L ∷ G) G) ≡ cond (separates f) (f ∷ R) R) e
-          (subst (λ r. map (decode names) (cond (has_two L) (L ∷ G) G) ≡ cond (separates (decode names L)) (decode names L ∷ r) r) g (same L))
-        where
-          same : (xs : List ℕ) → map (decode names) (cond (has_two xs) (xs ∷ G) G) ≡ cond (separates (decode names xs)) (decode names xs ∷ map (decode names) G) (map (decode names) G)
-          same [] = refl
-          same (x ∷ []) = refl
-          same (x ∷ y ∷ xs) = refl
-
       Fits : Stmt → Type 0
       Fits u = map (decode names) (groups_by places (map (λ q. symbols_at es q.0) (cond (is_disj u) ((n, u) ∷ actives_from is_disj (n + 1) T) (actives_from is_disj (n + 1) T))))
           ≡ cond (separates (filter (is_mandatory front_of own) (separated u))) (filter (is_mandatory front_of own) (separated u) ∷ filter separates (map (filter (is_mandatory front_of own)) (map (λ p. separated p.1) (active_from (n + 1) T)))) (filter separates (map (filter (is_mandatory front_of own)) (map (λ p. separated p.1) (active_from (n + 1) T))))
 
-      one_group : Rest → (k : Kind) (x : Entry) → slice_get es (n - 1) ≡ Some x → x.kind ≡ k → t ≡ stmt_by k (name_at labels x.label) (decode names x.symbols)
-          → map (decode names) (groups_by places (map (λ q. symbols_at es q.0) (cond (is_disj t) ((n, t) ∷ actives_from is_disj (n + 1) T) (actives_from is_disj (n + 1) T))))
-          ≡ cond (separates (filter (is_mandatory front_of own) (separated t))) (filter (is_mandatory front_of own) (separated t) ∷ filter separates (map (filter (is_mandatory front_of own)) (map (λ p. separated p.1) (active_from (n + 1) T)))) (filter separates (map (filter (is_mandatory front_of own)) (map (λ p. separated p.1) (active_from (n + 1) T))))
-      one_group more Open x f is shape = subst Fits (sym shape) more
-      one_group more Close x f is shape = subst Fits (sym shape) more
-      one_group more Const x f is shape = subst Fits (sym shape) more
-      one_group more Var x f is shape = subst Fits (sym shape) more
-      one_group more Float x f is shape = subst Fits (sym shape) more
-      one_group more Ess x f is shape = subst Fits (sym shape) more
-      one_group more Axiom x f is shape = subst Fits (sym shape) more
-      one_group more Prove x f is shape = subst Fits (sym shape) more
-      one_group more Disj x f is shape =
-          let codes : AreBelow (length names) x.symbols = (numbered-at (length names) m es (n - 1) x numbered f).0 in
-          let G = groups_by places (map (λ q. symbols_at es q.0) (actives_from is_disj (n + 1) T)) in
-          let R = filter separates (map (filter (is_mandatory front_of own)) (map (λ p. separated p.1) (active_from (n + 1) T))) in
-          let F = filter (is_mandatory front_of own) (decode names x.symbols) in
-          subst Fits (sym shape)
-          (subst (λ cs. map (decode names) (cond (has_two (placed places cs)) (placed places cs ∷ G) G) ≡ cond (separates F) (F ∷ R) R) (sym (ap option_symbols f))
-          (with_group (placed places x.symbols) F (placed-stands x.symbols codes) G R more))
+      x : IsEntryAt n A t
+      x = entry-at n A t T whole at_n
+
+      one_group : Rest → (k : Kind) → Fits (stmt_by k (name_at labels x.entry.label) (decode names x.entry.symbols))
+      one_group more Disj =
+          rw (x.found, ← placed-stands x.entry.symbols x.codes, ← more)
+          (with-group (placed places x.entry.symbols) (groups_by places (map (λ q. symbols_at es q.0) (actives_from is_disj (n + 1) T))))
+      one_group more k = more
 
       by : Rest → (b : Bool)
           → map (decode names) (groups_by places (map (λ q. symbols_at es q.0) (filter (λ p. is_disj p.1) (cond b ((n, t) ∷ active_from (n + 1) T) (active_from (n + 1) T)))))
           ≡ filter separates (map (filter (is_mandatory front_of own)) (map (λ p. separated p.1) (cond b ((n, t) ∷ active_from (n + 1) T) (active_from (n + 1) T))))
       by more false = more
-      by more true = one_group more found.0.kind found.0 found.1 refl found.2
+      by more true = subst Fits (sym x.same) (one_group more x.entry.kind)
 
   symbols-low : (p : ℕ) → AreBelow (length names) (symbols_at es p)
   symbols-low p = by (slice_get es (p - 1)) refl

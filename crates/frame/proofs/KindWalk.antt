@@ -1,34 +1,13 @@
 -- Going through the active statements of a kind, from the last one back.
-use Rattle.std.specs.Prelude.{◌≡◌, ℕ, zero, suc, ◌-◌, ◌<◌, ◌≤◌, Bool, true, false, cond, ◌||◌, ◌==◌, nat_eq, List, [], ◌∷◌, ◌++◌, length, take, filter, slice_get, Some, refl}
-use Rattle.std.specs.List.{list_any}
-use Rattle.std.proofs.Common.{sym, ◌∙◌, ap, arith, true≢false}
+use Rattle.frame.proofs.Words.{list_any, sym, ◌∙◌, ap, arith, true≢false, ◌≡◌, ℕ, zero, suc, ◌-◌, ◌<◌, ◌≤◌, Bool, true, false, cond, ◌||◌, ◌==◌, nat_eq, List, [], ◌∷◌, ◌++◌, length, take, filter, slice_get, Some, refl, or-false, length-map, list_any-append, or_right, false_from_ne_true, same_Some}
+use Rattle.frame.proofs.Words.{has-at, name_same, same_name, Name, name_eq, has_name, Stmt, Database, active, separated, variables, is_essential, name_at, decode, AreDistinct, AreBelow, actives, last_position, last_active, links_of, is_var, is_disj, Kind, Var, Disj, Entry, Links, Stock, stmt_by, stmt_of, names_in, labels_in, statements_of, AreStored}
 use Rattle.std.specs.Cmp.{both_ways}
-use Rattle.std.proofs.Math.Bool.{or-false}
-use Rattle.std.proofs.lemmas.List.{length-map}
-use Rattle.std.proofs.lemmas.List.Folds.{list_any-append}
-use Rattle.std.proofs.lemmas.Bool.{or_right, false_from_ne_true}
-use Rattle.names.proofs.CodesLemmas.{has-at, name_same, same_name}
 use Rattle.frame.proofs.FoundByNumber.{name_at-injective}
-use Rattle.std.proofs.lemmas.Option.{same_Some}
-use Rattle.mm_lex.specs.Alphabet.{Name, name_eq, has_name}
-use Rattle.mm_read.specs.declared.stmt.Stmt.{Stmt}
 use Rattle.mm_read.specs.declared.stmt.Stmt.TheVariants as stmt
-use Rattle.mm_read.specs.Statements.{Database}
-use Rattle.scope.specs.Active.{active, separated, variables, is_essential}
-use Rattle.names.specs.Codes.{name_at, decode, AreDistinct}
-use Rattle.frame.specs.Below.{AreBelow}
-use Rattle.frame.specs.Links.{actives, last_position, last_active, links_of, is_var, is_disj}
 use Rattle.frame.proofs.OpenLemmas.{IsNoClose, last_position-push}
 use Rattle.frame.proofs.BlockWalkLemmas.{walk-back, walk-over, back-own}
 use Rattle.frame.proofs.StoredOneMore.{numbered-at}
 use Rattle.frame.proofs.StoredReading.{get-stmt}
-use Rattle.entries.specs.declared.kind.Kind.{Kind}
-use Rattle.entries.specs.declared.kind.Kind.TheVariants.{Var, Disj}
-use Rattle.entries.specs.Entries.{Entry}
-use Rattle.entries.specs.declared.links.Links.{Links}
-use Rattle.frame.specs.declared.storage.Stock.{Stock}
-use Rattle.frame.specs.Stored.EntryMeanings.{stmt_by, stmt_of, names_in, labels_in, statements_of}
-use Rattle.frame.specs.Stored.Whole.{AreStored}
 
 -- ---- numbers are the same where their names are
 
@@ -92,9 +71,9 @@ as-many : (k : Stock) → length (statements_of k) ≡ length k.entries
 as-many k = length-map k.entries (stmt_of (names_in k) (labels_in k))
 
 from : (kind : Stmt → Bool) → IsNoClose kind → (k : Stock) (m p : ℕ) → m ≤ length k.entries → p ≡ last_active kind (take m (statements_of k)) → IsFrom kind k m p
-from kind n k m zero high h = record { at = record { within = omega arith; last = refl }; low = omega arith; same = sym (walk-over kind (statements_of k) m zero n h refl) }
+from kind n k m zero high h = record { at = record { within = omega arith; last = refl }; low = omega arith; same = sym (walk-over kind (take m (statements_of k)) n (sym h)) }
 from kind n k m (suc i) high h =
-    let b = walk-back kind (statements_of k) m (suc i) n (omega (arith, high, as-many k)) h (λ z. cc) in
+    let b = walk-back kind (statements_of k) m (suc i) n h (λ z. cc) in
     let le = b.1.within in
     let own = back-own kind (statements_of k) m (suc i) b.0 n b.1 in
     record {
@@ -119,7 +98,7 @@ pub walk-step : {kind : Stmt → Bool} {link : Links → ℕ} {k : Stock} {p : �
 walk-step {kind = kind} {link = link} {k = k} {p = p} e chain stored at some got =
     let S = statements_of k in
     let high = at.within in
-    let b = walk-back kind S p p chain.no_close (omega (arith, high, as-many k)) at.last some in
+    let b = walk-back kind S p p chain.no_close at.last some in
     let one = b.1.above in
     let f = from kind chain.no_close k (p - 1) (link e.links) (omega (arith, high)) (ap link (stored.kept.linked (p - 1) e got) ∙ chain.tells (take (p - 1) S)) in
     let low = f.low in

@@ -1,18 +1,6 @@
 -- What the verifier uses of legal statements.
-use Rattle.std.specs.Prelude.{◌≡◌, ℕ, zero, suc, ◌-◌, ◌<◌, Bool, true, false, not, cond, ◌||◌, List, [], ◌∷◌, take, Some, None, slice_get, refl}
-use Rattle.std.proofs.Common.{sym, ◌∙◌, ap, arith}
-use Rattle.std.proofs.lemmas.Slice.Eq.{bytes_eq-Decides}
-use Rattle.std.proofs.lemmas.Bool.{or_left, or_right}
-use Rattle.mm_lex.specs.Alphabet.{Name}
-use Rattle.mm_read.specs.declared.stmt.Stmt.{Stmt}
-use Rattle.mm_read.specs.declared.stmt.Stmt.TheVariants.{Float, Ess, Axiom, Prove}
-use Rattle.mm_read.specs.Statements.{Database}
-use Rattle.std.specs.List.{find}
-use Rattle.scope.specs.declared.rule.Rule.TheVariants.{G1, G2, G3, G4, G5, G6, G7, G8, G9, G10}
-use Rattle.scope.specs.Active.{stmt_at, before, label_of, has_label, was_label, was_symbol}
-use Rattle.scope.specs.Legal.{IsLegal, keeps}
-use Rattle.frame.specs.Citations.{Carries}
-use Rattle.frame.specs.AtPosition.{HasLabelsOnce}
+use Rattle.frame.proofs.Words.{sym, ◌∙◌, ap, arith, ◌≡◌, ℕ, zero, suc, ◌-◌, ◌<◌, Bool, true, false, not, cond, ◌||◌, List, [], ◌∷◌, take, Some, None, slice_get, refl, get_or-take, length-take, bytes_eq-Decides, list_any_at, slice_get_within, get_or_from_slice_get, Name, Stmt, Database, find, G1, G2, G3, G4, G5, G6, G7, G8, G9, G10, stmt_at, before, label_of, has_label, was_label, was_symbol, IsLegal, keeps, is_fresh_label, Carries, HasLabelsOnce}
+use Rattle.mm_read.specs.declared.stmt.Stmt.TheVariants.{Float}
 
 -- each statement is legal behind those before it
 abbrev pub AllKept : Database → Type 0
@@ -40,13 +28,13 @@ not_or : (a b : Bool) → not (not (a || b)) ≡ false → a ≡ false
 not_or true b h = cc
 not_or false b h = refl
 
+by-label : (S : Database) (s : Stmt) → keeps S s G4 ≡ is_fresh_label S (label_of s)
+by-label S (Float l c v) = refl
+by-label S s = refl
+
 -- the label of a legal statement was not used before it
 pub fresh : (S : Database) (s : Stmt) (label : Name) → IsLegal S s → label_of s ≡ Some label → was_label S label ≡ false
-fresh S (Float l c v) label h e = let same : l ≡ label = cc in ap (was_label S) (sym same) ∙ not_or (was_label S l) (was_symbol S l) (keeps_label S (Float l c v) h)
-fresh S (Ess l x) label h e = let same : l ≡ label = cc in ap (was_label S) (sym same) ∙ not_or (was_label S l) (was_symbol S l) (keeps_label S (Ess l x) h)
-fresh S (Axiom l x) label h e = let same : l ≡ label = cc in ap (was_label S) (sym same) ∙ not_or (was_label S l) (was_symbol S l) (keeps_label S (Axiom l x) h)
-fresh S (Prove l x p) label h e = let same : l ≡ label = cc in ap (was_label S) (sym same) ∙ not_or (was_label S l) (was_symbol S l) (keeps_label S (Prove l x p) h)
-fresh S s label h e = cc
+fresh S s label h e = not_or (was_label S label) (was_symbol S label) (ap not (sym (by-label S s ∙ ap (is_fresh_label S) e)) ∙ keeps_label S s h)
 
 -- a statement with a label has that label by the test
 has_own : (s : Stmt) (label : Name) → label_of s ≡ Some label → has_label label (label_of s) ≡ true
@@ -54,13 +42,9 @@ has_own s label e = ap (has_label label) e ∙ (bytes_eq-Decides label label).1 
 
 -- a label that a statement carries was used from then on
 was_there : (S : Database) (n k : ℕ) (s : Stmt) (label : Name) → k < n → slice_get S k ≡ Some s → label_of s ≡ Some label → was_label (take n S) label ≡ true
-was_there [] n k s label h e l = cc
-was_there (x ∷ S) zero k s label h e l = absurd (omega (arith, h))
-was_there (x ∷ S) (suc n) zero s label h e l =
-    let same : x ≡ s = cc in
-    or_left (has_label label (label_of x)) (was_label (take n S) label) (ap (λ v. has_label label (label_of v)) same ∙ has_own s label l)
-was_there (x ∷ S) (suc n) (suc k) s label h e l =
-    or_right (has_label label (label_of x)) (was_label (take n S) label) (was_there S n k s label (omega (arith, h)) e l)
+was_there S n k s label h e l =
+    let there = ap (λ t. has_label label (label_of t)) (get_or-take n S k s h ∙ get_or_from_slice_get S k s s e) ∙ has_own s label l in
+    list_any_at (λ t. has_label label (label_of t)) (take n S) k s (omega (arith, length-take n S, slice_get_within S k s e, h)) there
 
 -- no later statement carries the label again
 no_later : (S : Database) → AllKept S → (i j : ℕ) (s r : Stmt) (label : Name) → Carries S i s label → Carries S j r label → i < j → ⊥

@@ -1,19 +1,15 @@
+pub mod Words
 pub mod MarkLemmas
 pub mod NumberMarkLemmas
 pub mod SymbolNumberLemmas
 pub mod OpenLemmas
 pub mod LinksLemmas
-pub mod AfterLemmas
 pub mod DeclareLemmas
-pub mod UndoLemmas
 pub mod DeclaredSymbolLemmas
 pub mod EnterLemmas
 pub mod StoredOneMore
-pub mod StoredLemmas
-pub mod StoredTaken
 pub mod StoredReading
 pub mod NamingLemmas
-pub mod ExtendLemmas
 pub mod CutStorage
 pub mod CollectLemmas
 pub mod KindWalk
@@ -28,7 +24,6 @@ pub mod EndLemmas
 pub mod LegalLabels
 pub mod ActiveBehind
 pub mod LegalBehind
-pub mod TypedVariables
 pub mod VariablePlaceLemmas
 pub mod FoundByNumber
 pub mod PlacedHypotheses
@@ -44,4 +39,3 @@ pub mod OneFrameLemmas
 pub mod LabelLemmas
 pub mod PositionLemmas
 mod Rows
-pub mod AddedNumbers

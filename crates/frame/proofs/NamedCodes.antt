@@ -1,19 +1,7 @@
 -- A name of decoded numbers is that of one of them; a `$f` of a number.
-use Rattle.std.specs.Prelude.{◌≡◌, ℕ, ◌<◌, Bool, true, false, ◌&&◌, ◌||◌, List, [], ◌∷◌, length, refl}
-use Rattle.std.proofs.Common.{sym, ◌∙◌, ap, arith, inl, inr}
-use Rattle.std.proofs.lemmas.Slice.Eq.{bytes_eq-Decides}
-use Rattle.std.proofs.lemmas.Bool.{or_left, or_right, and_parts}
-use Rattle.mm_lex.specs.Alphabet.{Name, name_eq, has_name}
+use Rattle.frame.proofs.Words.{sym, ◌∙◌, ap, arith, inl, inr, ◌≡◌, ℕ, ◌<◌, Bool, true, false, ◌&&◌, ◌||◌, List, [], ◌∷◌, length, refl, bytes_eq-Decides, or_left, or_right, and_parts, Name, name_eq, has_name, name_at, decode, AreDistinct, AreBelow, Kind, Float, Entry, stmt_by, floats, second_is, is_float_kind, HasTwo, In}
 use Rattle.mm_read.specs.declared.stmt.Stmt.TheVariants as stmt
-use Rattle.names.specs.Codes.{name_at, decode, AreDistinct}
-use Rattle.frame.specs.Below.{AreBelow}
-use Rattle.entries.specs.declared.kind.Kind.{Kind}
-use Rattle.entries.specs.declared.kind.Kind.TheVariants.{Open, Float}
-use Rattle.entries.specs.Entries.{Entry}
-use Rattle.frame.specs.Stored.EntryMeanings.{stmt_by, floats, second_is, is_float_kind}
-use Rattle.frame.specs.Stored.Counts.{HasTwo}
 use Rattle.frame.proofs.FoundByNumber.{name_at-injective}
-use Rattle.frame.specs.Stored.Hypotheses.{In}
 
 -- ---- names
 
@@ -55,20 +43,17 @@ floats-is names c x label h =
     by kind e = cc
 
     second : (codes : List ℕ) → second_is c codes ≡ true → name_at (decode names codes) 1 ≡ name_at names c
-    second [] e = cc
-    second (y ∷ []) e = cc
     second (y ∷ z ∷ codes) e = let same : c ≡ z = grind (arith, e) in ap (name_at names) (sym same)
+    second codes e = cc
 
 pub is-floats : (names : List Name) (c : ℕ) (x : Entry) (label l m : Name) → AreDistinct names → AreBelow (length names) x.symbols → HasTwo x.kind x.symbols → c < length names
     → stmt_by x.kind label (decode names x.symbols) ≡ stmt.Float m l (name_at names c) → floats c x ≡ true
 is-floats names c x label l m distinct low two small h = by x.kind x.symbols low two h
   where
     by : (k : Kind) (codes : List ℕ) → AreBelow (length names) codes → HasTwo k codes → stmt_by k label (decode names codes) ≡ stmt.Float m l (name_at names c) → (is_float_kind k && second_is c codes) ≡ true
-    by Float [] b t e = absurd (omega (arith, t))
-    by Float (y ∷ []) b t e = absurd (omega (arith, t))
     by Float (y ∷ z ∷ codes) b t e =
         let q : name_at names z ≡ name_at names c = cc in
         let same : z ≡ c = name_at-injective names z c distinct b.1.0 small q in
         grind (arith, same)
-    by Open codes b t e = cc
+    by Float codes b t e = absurd (omega (arith, t))
     by kind codes b t e = cc

@@ -1,25 +1,7 @@
 -- What the names that statements declare are.
-use Rattle.std.specs.Prelude.{◌≡◌, ℕ, suc, ◌+◌, List, [], ◌∷◌, ◌++◌, length, take, drop, ◌-◌, Result, Ok, Err, OnOk, OnErr, refl}
-use Rattle.std.proofs.Common.{sym, ◌∙◌, ap, subst, arith, append-nil, append_assoc}
-use Rattle.std.proofs.lemmas.List.{take-append-drop}
-use Rattle.std.proofs.Math.Seq.{take-append_seam}
-use Rattle.mm_lex.specs.Alphabet.{Name}
-use Rattle.mm_read.specs.declared.stmt.Stmt.{Stmt}
-use Rattle.mm_read.specs.Statements.{Database}
-use Rattle.scope.specs.Declares.{declared_with}
-use Rattle.scope.specs.Legal.{IsLegal}
-use Rattle.scope.specs.Symbols.{symbols_of, labels_of}
-use Rattle.scope.specs.Kinds.{Declared, declared_symbols, declared_labels, is_symbol_kind, IsNumberingOf}
-use Rattle.scope.proofs.DeclaredLemmas.{declared_with-more, numbering-after}
-use Rattle.scope.proofs.NamesLemmas.{symbols_of-later}
+use Rattle.frame.proofs.Words.{sym, ◌∙◌, ap, subst, arith, append-nil, append_assoc, take-append-drop, ◌≡◌, ℕ, suc, ◌+◌, List, [], ◌∷◌, ◌++◌, length, take, drop, ◌-◌, Result, Ok, Err, OnOk, OnErr, slice_get, refl, take-append_seam}
+use Rattle.frame.proofs.Words.{Name, Stmt, Database, declared_with, IsLegal, symbols_of, labels_of, Declared, declared_symbols, declared_labels, is_symbol_kind, IsNumberingOf, declared_with-more, numbering-after, symbols_of-later, names_that-append, Extends, statements_of, AreAllLegal, naming_from, naming_of, Stock, AreStored, get-more, get-last}
 use Rattle.scope.proofs.KindCountLemmas.{both-counts}
-use Rattle.scope.proofs.SymbolNameLemmas.{names_that-append}
-use Rattle.entries.specs.Stored.Spans.{Extends}
-use Rattle.frame.specs.Stored.EntryMeanings.{statements_of, AreAllLegal}
-use Rattle.frame.specs.Stored.Naming.{naming_from, naming_of}
-use Rattle.frame.specs.declared.storage.Stock.{Stock}
-use Rattle.frame.specs.Stored.Whole.{AreStored}
-use Rattle.frame.proofs.LegalBehind.{stands-at}
 
 -- ---- names are only added at the end
 
@@ -60,7 +42,7 @@ naming-later S (s ∷ T) names all n =
     here : IsLegal S s
     here =
         let front : take (suc (length S) - 1) (S ++ s ∷ T) ≡ S = ap (λ n. take n (S ++ s ∷ T)) (omega arith) ∙ take-append_seam S (s ∷ T) in
-        subst (λ B. IsLegal B s) front (all (suc (length S)) s (stands-at S s T))
+        subst (λ B. IsLegal B s) front (all (suc (length S)) s (ap (λ R. slice_get R (length S)) (sym (append_assoc S (s ∷ []) T)) ∙ get-more (S ++ s ∷ []) T (length S) s (get-last S s)))
 
 pub naming-all : (S : Database) → AreAllLegal S → IsNumberingOf S (naming_of S)
 naming-all S all = naming-later [] S [] all (record { told = λ x. record { label = refl; constant = refl; variable = refl }; symbols = refl; labels = refl })

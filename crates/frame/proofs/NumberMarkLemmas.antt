@@ -1,8 +1,5 @@
 -- A table that has the place of each number of a list that has one.
-use Rattle.std.specs.Prelude.{◌≡◌, ℕ, zero, suc, ◌+◌, ◌≤◌, Bool, true, false, cond, ◌⊎◌, List, [], ◌∷◌, ◌++◌, length, slice_get, not, is_some, Option, Some, None, refl}
-use Rattle.std.proofs.Common.{sym, ◌∙◌, ap, subst, arith, inl, inr}
-use Rattle.std.proofs.lemmas.Option.{same_Some, slice_get_within}
-use Rattle.frame.specs.Stored.NumberPlaces.{is_code, place_from, place_of, AreMarked}
+use Rattle.frame.proofs.Words.{sym, ◌∙◌, ap, subst, arith, inl, inr, ◌≡◌, ℕ, zero, suc, ◌+◌, ◌≤◌, Bool, true, false, cond, ◌⊎◌, List, [], ◌∷◌, ◌++◌, length, slice_get, not, is_some, Option, Some, None, refl, same_Some, slice_get_within, is_code, place_from, place_of, AreMarked}
 use Rattle.frame.proofs.FoundByNumber.{is_code-same, place-stands}
 
 is-code : (c : ℕ) → is_code c (Some c) ≡ true

@@ -1,8 +1,6 @@
 -- Frames, worked out.
-use Rattle.std.specs.Prelude.{◌≡◌, [], ◌∷◌, codes, refl, true, false}
+use Rattle.frame.proofs.Words.{◌≡◌, [], ◌∷◌, codes, refl, true, false, frame_of, is_pair, before}
 use Rattle.mm_read.specs.declared.stmt.Stmt.TheVariants.{Axiom}
-use Rattle.frame.specs.FrameOf.{frame_of, is_pair}
-use Rattle.scope.specs.Active.{before}
 use Rattle.scope.proofs.Databases.{w, demo_before, demo_mp, demo, rows_front, row_ax, row_seven, row_th}
 
 -- `mp` takes the `$f` of P and Q and both `$e`

@@ -1,34 +1,8 @@
 -- The parts of the storage with one more statement: numbers, labels, positions, symbols.
-use Rattle.std.specs.Prelude.{◌≡◌, ℕ, zero, suc, ◌+◌, ◌-◌, ◌<◌, ◌≤◌, Bool, true, false, cond, not, ◌&&◌, ◌||◌, ◌==◌, nat_lt, ◌⊎◌, List, [], ◌∷◌, ◌++◌, length, map, take, slice_get, Option, Some, None, refl}
-use Rattle.std.specs.List.{list_any}
-use Rattle.std.proofs.Common.{sym, ◌∙◌, ap, subst, arith, inl, inr, add-zero}
-use Rattle.std.proofs.Math.Bool.{and-false}
-use Rattle.std.proofs.lemmas.List.{take-append-le}
-use Rattle.std.proofs.lemmas.Bool.{cases_lt, ltb-true}
-use Rattle.std.proofs.Math.Seq.{take-append_seam}
-use Rattle.mm_lex.specs.Alphabet.{Name}
-use Rattle.mm_read.specs.declared.stmt.Stmt.{Stmt}
-use Rattle.mm_read.specs.declared.stmt.Stmt.TheVariants as stmt
-use Rattle.mm_read.specs.Statements.{Database}
-use Rattle.scope.specs.Active.{before, label_of, stays_open, is_close, is_open, count}
-use Rattle.scope.specs.Legal.{IsLegal}
-use Rattle.scope.specs.declared.rule.Rule.TheVariants.{G10}
-use Rattle.names.specs.Codes.{name_at, decode}
-use Rattle.frame.specs.Below.{AreBelow}
-use Rattle.entries.specs.declared.links.Links.{Links}
-use Rattle.entries.specs.declared.kind.Kind.{Kind}
-use Rattle.entries.specs.declared.kind.Kind.TheVariants.{Float, Ess, Axiom, Prove}
-use Rattle.entries.specs.Entries.{Entry}
-use Rattle.frame.specs.declared.storage.Symbol.{Symbol}
-use Rattle.frame.specs.Stored.EntryMeanings.{stmt_by, stmt_of, positions_from, option_position, AreAllLegal, symbol_of, ReadsAs, floats, declares, second_is, is_float_kind, is_var_kind, last_from}
-use Rattle.frame.specs.Stored.Counts.{IsLabelBelow, HasTwo, AreNumbered, AreZero, AreZeroBehind, zero_symbol}
-use Rattle.frame.specs.Stored.Whole.{AreKept}
-use Rattle.entries.specs.Stored.Spans.{Extends}
+use Rattle.frame.proofs.Words.{list_any, sym, ◌∙◌, ap, subst, arith, inl, inr, add-zero, ◌≡◌, ℕ, zero, suc, ◌+◌, ◌-◌, ◌<◌, ◌≤◌, Bool, true, false, cond, not, ◌&&◌, ◌||◌, ◌==◌, nat_lt, ◌⊎◌, List, [], ◌∷◌, ◌++◌, length, map, take, slice_get, Option, Some, None, refl, and-false, take-append-le, cases_lt, ltb-true, take-append_seam}
+use Rattle.frame.proofs.Words.{Name, Stmt, Database, before, label_of, stays_open, is_close, is_open, count, IsLegal, G10, name_at, decode, AreBelow, Links, Kind, Float, Ess, Axiom, Prove, Entry, Symbol, stmt_by, stmt_of, positions_from, option_position, AreAllLegal, symbol_of, ReadsAs, floats, declares, second_is, is_float_kind, is_var_kind, last_from, IsLabelBelow, HasTwo, AreNumbered, AreZero, AreZeroBehind, zero_symbol, AreKept, Extends, get-more, place, stays_open-append, below-deficit, no_deficit, deficit-close, count-left_open, get-push}
 use Rattle.frame.proofs.SymbolNumberLemmas.{decode-extends, name_at-extends, below-more}
-use Rattle.frame.proofs.OpenLemmas.{stays_open-push, stays_open-close}
-use Rattle.entries.proofs.StatementRecordLemmas.{get-more}
-use Rattle.scope.proofs.ActiveLemmas.{place}
-use Rattle.entries.proofs.BufferPlaceLemmas.{get-push}
+use Rattle.mm_read.specs.declared.stmt.Stmt.TheVariants as stmt
 
 -- ---- what was entered stands for what it stood for
 
@@ -38,10 +12,10 @@ stmt-more names names' labels labels' e p q below label =
     ap (stmt_by e.kind (name_at labels' e.label)) (decode-extends names names' e.symbols p below) ∙ by e.kind label
   where
     by : (kind : Kind) → IsLabelBelow kind e.label (length labels) → stmt_by kind (name_at labels' e.label) (decode names e.symbols) ≡ stmt_by kind (name_at labels e.label) (decode names e.symbols)
-    by Float h = ap (λ x. stmt_by Float x (decode names e.symbols)) (name_at-extends labels labels' e.label q h)
-    by Ess h = ap (λ x. stmt_by Ess x (decode names e.symbols)) (name_at-extends labels labels' e.label q h)
-    by Axiom h = ap (λ x. stmt_by Axiom x (decode names e.symbols)) (name_at-extends labels labels' e.label q h)
-    by Prove h = ap (λ x. stmt_by Prove x (decode names e.symbols)) (name_at-extends labels labels' e.label q h)
+    by Float h = ap (λ x. stmt_by Float x (decode names e.symbols)) (name_at-extends labels labels' e.label q (h refl))
+    by Ess h = ap (λ x. stmt_by Ess x (decode names e.symbols)) (name_at-extends labels labels' e.label q (h refl))
+    by Axiom h = ap (λ x. stmt_by Axiom x (decode names e.symbols)) (name_at-extends labels labels' e.label q (h refl))
+    by Prove h = ap (λ x. stmt_by Prove x (decode names e.symbols)) (name_at-extends labels labels' e.label q (h refl))
     by kind h = refl
 
 pub statements-more : (names names' labels labels' : List Name) (es : List Entry) → Extends names names' → Extends labels labels' → AreNumbered (length names) (length labels) es
@@ -51,17 +25,10 @@ statements-more names names' labels labels' (e ∷ es) p q h =
     ap (λ s. s ∷ map (stmt_of names' labels') es) (stmt-more names names' labels labels' e p q h.0 h.1)
     ∙ ap (λ r. stmt_of names labels e ∷ r) (statements-more names names' labels labels' es p q h.2)
 
-label-more : (kind : Kind) (l m n : ℕ) → m ≤ n → IsLabelBelow kind l m → IsLabelBelow kind l n
-label-more Float l m n le h = omega (arith, le, h)
-label-more Ess l m n le h = omega (arith, le, h)
-label-more Axiom l m n le h = omega (arith, le, h)
-label-more Prove l m n le h = omega (arith, le, h)
-label-more kind l m n le h = tt
-
 pub numbered-push : (n n' m m' : ℕ) (es : List Entry) (e : Entry) → n ≤ n' → m ≤ m' → AreNumbered n m es → AreBelow n' e.symbols → IsLabelBelow e.kind e.label m' → HasTwo e.kind e.symbols → AreNumbered n' m' (es ++ e ∷ [])
 numbered-push n n' m m' [] e le le' h b l t = (b, l, tt, t)
 numbered-push n n' m m' (d ∷ es) e le le' h b l t =
-    (below-more n n' d.symbols le h.0, label-more d.kind d.label m m' le' h.1, numbered-push n n' m m' es e le le' h.2 b l t, h.3)
+    (below-more n n' d.symbols le h.0, λ k. let lt = h.1 k in omega (arith, lt, le'), numbered-push n n' m m' es e le le' h.2 b l t, h.3)
 
 -- ---- positions
 
@@ -100,15 +67,16 @@ last-rule true h = refl
 last-rule false h = cc
 
 pub stays-push : (S : Database) (s : Stmt) → stays_open 0 S ≡ true → IsLegal S s → stays_open 0 (S ++ s ∷ []) ≡ true
-stays-push S stmt.Close h l = stays_open-close S (ltb-true (count is_close S) (count is_open S) (last-rule (nat_lt (count is_close S) (count is_open S)) l)) h
-stays-push S s h l = stays_open-push S s refl h
+stays-push S stmt.Close h l =
+    let more = ltb-true (count is_close S) (count is_open S) (last-rule (nat_lt (count is_close S) (count is_open S)) l) in
+    below-deficit 0 (S ++ stmt.Close ∷ []) (omega (arith, more, deficit-close S, count-left_open S, no_deficit S h))
+stays-push S s h l = stays_open-append 0 S s refl ∙ h
 
 -- ---- a number that no entry has
 
 above-second : (n c : ℕ) (codes : List ℕ) → AreBelow n codes → n ≤ c → second_is c codes ≡ false
-above-second n c [] h le = refl
-above-second n c (x ∷ []) h le = refl
 above-second n c (x ∷ y ∷ codes) h le = let a = h.1.0 in let l : y < c = omega (arith, a, le) in grind (arith, l)
+above-second n c codes h le = refl
 
 above-any : (n c : ℕ) (codes : List ℕ) → AreBelow n codes → n ≤ c → list_any (λ x. c == x) codes ≡ false
 above-any n c [] h le = refl
@@ -130,12 +98,10 @@ numbered-at n m (d ∷ es) h (suc k) e g = numbered-at n m es h.2 k e g
 
 pub symbol_of-above : (n m : ℕ) (es : List Entry) (c : ℕ) → AreNumbered n m es → n ≤ c → symbol_of es c ≡ zero_symbol
 symbol_of-above n m es c h le =
-    symbol-by
-    (none-from (floats c) 0 1 es (λ e k g. ap (λ b. is_float_kind e.kind && b) (above-second n c e.symbols (numbered-at n m es h k e g) le) ∙ and-false (is_float_kind e.kind)))
-    (none-from (declares c) 0 1 es (λ e k g. ap (λ b. is_var_kind e.kind && b) (above-any n c e.symbols (numbered-at n m es h k e g) le) ∙ and-false (is_var_kind e.kind)))
-  where
-    symbol-by : {a b : ℕ} → a ≡ 0 → b ≡ 0 → ◌≡◌ {A = Symbol} (record { float = a; variable = b }) zero_symbol
-    symbol-by p q = cc
+    rw (
+      none-from (floats c) 0 1 es (λ e k g. ap (λ b. is_float_kind e.kind && b) (above-second n c e.symbols (numbered-at n m es h k e g) le) ∙ and-false (is_float_kind e.kind)),
+      none-from (declares c) 0 1 es (λ e k g. ap (λ b. is_var_kind e.kind && b) (above-any n c e.symbols (numbered-at n m es h k e g) le) ∙ and-false (is_var_kind e.kind)),
+    ) refl
 
 get-zero : (old more : List Symbol) (c : ℕ) → AreZero more → length old ≤ c → c < length (old ++ more) → slice_get (old ++ more) c ≡ Some zero_symbol
 get-zero [] [] c z le lt = absurd (omega (arith, lt))

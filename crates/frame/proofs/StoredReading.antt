@@ -1,23 +1,6 @@
 -- Reading an entry of the storage, and the position of a label.
-use Rattle.std.specs.Prelude.{◌≡◌, ℕ, zero, suc, ◌+◌, ◌-◌, ◌<◌, ◌≤◌, true, false, ◌||◌, ◌⊎◌, List, [], ◌∷◌, length, map, get_or, slice_get, Option, Some, None, option_map, refl}
-use Rattle.std.proofs.Common.{sym, ◌∙◌, ap, subst, arith, inl, inr}
-use Rattle.std.proofs.lemmas.Option.{same_Some, slice_get-map}
-use Rattle.mm_lex.specs.Alphabet.{Name}
-use Rattle.mm_read.specs.declared.stmt.Stmt.{Stmt}
-use Rattle.mm_read.specs.Statements.{Database}
-use Rattle.scope.specs.Active.{stmt_at, label_of, expr_of, is_assertion, was_label, has_label}
-use Rattle.names.specs.Codes.{name_at, decode}
-use Rattle.scope.specs.Symbols.{labels_of, option_list}
-use Rattle.frame.specs.Citations.{is_hypothesis_kind}
-use Rattle.std.proofs.lemmas.Slice.Eq.{bytes_eq-Decides}
-use Rattle.std.proofs.lemmas.Bool.{or_parts}
-use Rattle.entries.specs.declared.kind.Kind.{Kind}
-use Rattle.entries.specs.declared.kind.Kind.TheVariants.{Float, Ess, Axiom, Prove}
-use Rattle.entries.specs.Entries.{Entry}
-use Rattle.frame.specs.Stored.Labels.{is_label_kind}
-use Rattle.frame.specs.Stored.EntryMeanings.{stmt_by, stmt_of, positions_from, option_position}
-use Rattle.frame.specs.Stored.Counts.{HasTwo, AreNumbered}
-use Rattle.scope.proofs.ActiveLemmas.{place}
+use Rattle.frame.proofs.Words.{sym, ◌∙◌, ap, subst, arith, inl, inr, ◌≡◌, ℕ, zero, suc, ◌+◌, ◌-◌, ◌<◌, ◌≤◌, true, false, ◌⊎◌, List, [], ◌∷◌, length, map, get_or, slice_get, Option, Some, None, option_map, refl, same_Some, slice_get-map, slice_get_within, get_or_from_slice_get, bytes_eq-Decides, both_ways, list_any_at}
+use Rattle.frame.proofs.Words.{Name, Stmt, Database, stmt_at, label_of, expr_of, is_assertion, was_label, has_label, name_at, decode, labels_of, option_list, is_hypothesis_kind, Kind, Float, Ess, Axiom, Prove, Entry, is_label_kind, stmt_by, stmt_of, positions_from, option_position, HasTwo, AreNumbered, place}
 
 -- ---- reading an entry
 
@@ -26,10 +9,7 @@ get-stmt names labels es i e h = slice_get-map (stmt_of names labels) es i ∙ a
 
 pub stmt-at-suc : (S : Database) (at : ℕ) → 1 ≤ at → stmt_at S at ≡ slice_get S (at - 1)
 stmt-at-suc S zero h = absurd (omega (arith, h))
-stmt-at-suc S (suc n) h = ap (slice_get S) (back n)
-  where
-    back : (k : ℕ) → k ≡ suc k - 1
-    back k = omega arith
+stmt-at-suc S (suc n) h = ap (slice_get S) (omega arith)
 
 pub two-of : (n m : ℕ) (es : List Entry) → AreNumbered n m es → (k : ℕ) (e : Entry) → slice_get es k ≡ Some e → HasTwo e.kind e.symbols
 two-of n m [] h k e g = cc
@@ -37,19 +17,14 @@ two-of n m (d ∷ es) h zero e g = let same : d ≡ e = cc in subst (λ x. HasTw
 two-of n m (d ∷ es) h (suc k) e g = two-of n m es h.2 k e g
 
 two-names : (names : List Name) (codes : List ℕ) → length codes ≡ 2 → decode names codes ≡ name_at (decode names codes) 0 ∷ name_at (decode names codes) 1 ∷ []
-two-names names [] h = absurd (omega (arith, h))
-two-names names (x ∷ []) h = absurd (omega (arith, h))
 two-names names (x ∷ y ∷ []) h = refl
-two-names names (x ∷ y ∷ z ∷ codes) h = absurd (omega (arith, h))
+two-names names codes h = absurd (omega (arith, h))
 
 pub entry-expr : (names labels : List Name) (e : Entry) → is_label_kind e.kind ≡ true → HasTwo e.kind e.symbols → decode names e.symbols ≡ expr_of (stmt_of names labels e)
 entry-expr names labels e = by e.kind
   where
     by : (kind : Kind) → is_label_kind kind ≡ true → HasTwo kind e.symbols → decode names e.symbols ≡ expr_of (stmt_by kind (name_at labels e.label) (decode names e.symbols))
     by Float h t = two-names names e.symbols t
-    by Ess h t = refl
-    by Axiom h t = refl
-    by Prove h t = refl
     by kind h t = cc
 
 pub entry-none : (names labels : List Name) (e : Entry) → is_label_kind e.kind ≡ false → expr_of (stmt_of names labels e) ≡ []
@@ -57,10 +32,7 @@ entry-none names labels e = by e.kind
   where
     by : (kind : Kind) → is_label_kind kind ≡ false → expr_of (stmt_by kind (name_at labels e.label) (decode names e.symbols)) ≡ []
     by Float h = cc
-    by Ess h = cc
-    by Axiom h = cc
-    by Prove h = cc
-    by kind h = refl
+    by kind h = cc
 
 -- a statement that is no hypothesis and no assertion
 pub neither : (names labels : List Name) (e : Entry) → (e.kind ≡ Float → ⊥) → (e.kind ≡ Ess → ⊥) → (e.kind ≡ Axiom → ⊥) → (e.kind ≡ Prove → ⊥)
@@ -94,12 +66,9 @@ label-place at (s ∷ S) x n h e = place-step at s S x (label_of s) refl n h e (
 
 -- a label that no statement carries
 pub label-none : (S : Database) (x : Name) → was_label S x ≡ false → (i : ℕ) (s : Stmt) → slice_get S i ≡ Some s → label_of s ≡ Some x → ⊥
-label-none [] x h i s g l = cc
-label-none (t ∷ S) x h zero s g l =
-    let same : t ≡ s = cc in
-    let own : has_label x (label_of t) ≡ true = ap (λ r. has_label x (label_of r)) same ∙ (ap (has_label x) l ∙ (bytes_eq-Decides x x).1 refl) in
-    let bad : true ≡ false = sym (ap (λ b. b || was_label S x) own) ∙ h in cc
-label-none (t ∷ S) x h (suc i) s g l = label-none S x (or_parts (has_label x (label_of t)) (was_label S x) h).1 i s g l
+label-none S x h i s g l =
+    let there = ap (λ t. has_label x (label_of t)) (get_or_from_slice_get S i s s g) ∙ (ap (has_label x) l ∙ (bytes_eq-Decides x x).1 refl) in
+    both_ways (was_label S x) h (list_any_at (λ t. has_label x (label_of t)) S i s (slice_get_within S i s g) there)
 
 pub entry-assertion : (names labels : List Name) (e : Entry) → (e.kind ≡ Axiom) ⊎ (e.kind ≡ Prove) → is_assertion (stmt_of names labels e) ≡ true
 entry-assertion names labels e (inl is) = ap (λ kind. is_assertion (stmt_by kind (name_at labels e.label) (decode names e.symbols))) is

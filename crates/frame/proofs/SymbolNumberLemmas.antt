@@ -1,13 +1,5 @@
 -- Numbers and the names that they stand for, as both grow.
-use Rattle.std.specs.Prelude.{◌≡◌, ℕ, ◌<◌, ◌≤◌, List, [], ◌∷◌, ◌++◌, length, take, refl, zero, suc}
-use Rattle.std.proofs.Common.{◌∙◌, ap, arith, append_assoc}
-use Rattle.std.proofs.Math.Seq.{take-append_seam}
-use Rattle.mm_lex.specs.Alphabet.{Name}
-use Rattle.names.specs.Codes.{name_at, decode}
-use Rattle.frame.specs.Below.{AreBelow}
-use Rattle.frame.specs.declared.storage.Symbol.{Symbol}
-use Rattle.entries.specs.Stored.Spans.{Extends}
-use Rattle.frame.specs.Stored.Counts.{zero_symbol, AreZero, AreZeroBehind}
+use Rattle.frame.proofs.Words.{◌∙◌, ap, arith, append_assoc, ◌≡◌, ℕ, ◌<◌, ◌≤◌, List, [], ◌∷◌, ◌++◌, length, take, refl, zero, suc, take-append_seam, Name, name_at, decode, AreBelow, Symbol, Extends, zero_symbol, AreZero, AreZeroBehind}
 use Rattle.names.proofs.DistinctLemmas.{name_at-more}
 
 -- cut back to where it began, the list is as before
@@ -45,9 +37,8 @@ below-append n (x ∷ xs) ys h k = (h.0, below-append n xs ys h.1 k)
 
 -- and of the first of a list
 pub below-take : (n k : ℕ) (xs : List ℕ) → AreBelow n xs → AreBelow n (take k xs)
-below-take n zero xs h = tt
-below-take n (suc k) [] h = tt
 below-take n (suc k) (x ∷ xs) h = (h.0, below-take n k xs h.1)
+below-take n k xs h = tt
 
 pub name_at-extends : (names new : List Name) (n : ℕ) → Extends names new → n < length names → name_at new n ≡ name_at names n
 name_at-extends names new n p h = ap (λ r. name_at r n) p.1 ∙ name_at-more names p.0 n h

@@ -1,179 +1,145 @@
--- The mandatory variables are the variables of the mandatory `$f`, and each has one place.
-use Rattle.std.specs.Prelude.{◌≡◌, ℕ, suc, ◌+◌, Bool, true, false, not, cond, ◌&&◌, ◌||◌, List, [], ◌∷◌, ◌++◌, length, map, filter, Option, Some, None, slice_get, refl}
-use Rattle.std.specs.List.{list_any}
-use Rattle.std.proofs.Common.{sym, ◌∙◌, ap, subst, arith, append_assoc, length-append}
-use Rattle.std.proofs.lemmas.Bool.{or_left, or_right, and_parts, not-true, both_ways as not_both}
+-- The constant of an active `$f` is no variable, a variable that is used has an active `$f`, and the mandatory variables are those of the mandatory `$f`.
+use Rattle.frame.proofs.Words.{list_any, sym, ◌∙◌, ap, inl, inr, append_assoc, ◌≡◌, ℕ, suc, Bool, true, false, ◌||◌, List, [], ◌∷◌, ◌++◌, length, slice_get, refl, not, ◌&&◌, or_left, or_cases, and_parts, not_both, list_any-append, list_any-from_Any, Any-from_list_any}
+use Rattle.frame.proofs.Words.{Name, has_name, Stmt, Database, Expr, is_assertion, is_variable, is_float_of, stays_open, active, constants, variables, expr_of, is_essential, is_constant, has_float, IsLegal, starts_with_constant, name_same, same_name, list_any-map, is_used, is_mandatory, is_hypothesis, hypotheses, variable_of, variables_of, is_some_name, has_place, In, all-has, IsFirstFixed}
 use Rattle.std.specs.Cmp.{both_ways}
-use Rattle.mm_lex.specs.Alphabet.{Name, name_eq}
-use Rattle.mm_read.specs.declared.stmt.Stmt.{Stmt}
-use Rattle.mm_read.specs.declared.stmt.Stmt.TheVariants.{Float}
-use Rattle.mm_read.specs.Statements.{Database}
-use Rattle.scope.specs.Active.{stays_open, active, active_from, is_assertion, is_variable, is_float_of, has_float}
-use Rattle.scope.specs.Legal.{IsLegal}
-use Rattle.frame.specs.FrameOf.{is_used, is_mandatory, is_hypothesis, variable_of, variable_at, variables_of, is_some_name, has_place}
+use Rattle.mm_read.specs.declared.stmt.Stmt.TheVariants.{Float, Ess, Axiom, Prove}
+use Rattle.frame.specs.FrameOf.{variable_at, option_variable}
 use Rattle.frame.proofs.LegalLabels.{AllKept}
-use Rattle.frame.proofs.ActiveBehind.{IsElsewhere, AreOnce, stands-active}
-use Rattle.frame.proofs.LegalBehind.{legal-keeps, stands-at, kept-legal}
-use Rattle.frame.proofs.TypedVariables.{used-typed}
-use Rattle.mm_read.proofs.Places.{same}
-use Rattle.frame.proofs.OpenLemmas.{stays_open-front}
+use Rattle.frame.proofs.LegalBehind.{stands-at, legal-keeps, kept-legal, constant-no_variable}
+use Rattle.frame.proofs.ActiveBehind.{active-stands, stands-active, open_both, implied}
+use Rattle.frame.proofs.ActivePositions.{active-members}
+use Rattle.frame.proofs.CollectLemmas.{in-contains, contains-in}
+use Rattle.frame.proofs.ActiveFloats.{float-of-kind}
+use Rattle.frame.proofs.PlacedHypotheses.{members, used-cases}
 
--- ---- places
+-- ---- constants and variables of legal statements
 
--- the variables of statements by position are those of the statements
-pub variables-listed : (S A T : Database) (n : ℕ) (r : (ℕ × Stmt) → Bool) → S ≡ A ++ T → n ≡ suc (length A)
-    → map (variable_at S) (map (λ p. p.0) (filter r (active_from n T))) ≡ map (λ p. variable_of p.1) (filter r (active_from n T))
-variables-listed S A [] n r whole at = refl
-variables-listed S A (s ∷ T) n r whole at =
-    let longer : S ≡ (A ++ s ∷ []) ++ T = whole ∙ sym (append_assoc A (s ∷ []) T) in
-    let l = length-append A (s ∷ []) in
-    by (variables-listed S (A ++ s ∷ []) T (n + 1) r longer (omega (arith, at, l))) (stays_open 0 T)
+-- what is active behind A is active behind A, t and B, where t and B close nothing of A
+still-active : (q : Stmt → Bool) (S A : Database) (t : Stmt) (B : Database) → S ≡ A ++ t ∷ B → stays_open 0 (t ∷ B) ≡ true → list_any (λ p. q p.1) (active A) ≡ true → list_any (λ p. q p.1) (active S) ≡ true
+still-active q S A t B whole stays h =
+    let r = active-stands q 1 A h in
+    let longer : S ≡ r.front ++ r.stmt ∷ (r.rest ++ t ∷ B) = whole ∙ (ap (λ w. w ++ t ∷ B) r.whole ∙ append_assoc r.front (r.stmt ∷ r.rest) (t ∷ B)) in
+    ap (λ w. list_any (λ p. q p.1) (active w)) longer ∙ stands-active q 1 r.front r.stmt (r.rest ++ t ∷ B) (open_both 0 r.rest (t ∷ B) r.stays stays) r.passes
+
+constant-front : (S A : Database) (t : Stmt) (B : Database) (x : Name) → S ≡ A ++ t ∷ B → is_constant A x ≡ true → is_constant S x ≡ true
+constant-front S A t B x whole h =
+    ap (λ w. is_constant w x) whole ∙ (list_any-append (λ s. has_name x (constants s)) A (t ∷ B) ∙ or_left (is_constant A x) _ h)
+
+-- the constant of an active `$f` is no variable, and its variable is one
+pub float-kinds : (S A : Database) (l c x : Name) (B : Database) → AllKept S → S ≡ A ++ Float l c x ∷ B → stays_open 0 B ≡ true → (is_variable S c ≡ false) × (is_variable S x ≡ true)
+float-kinds S A l c x B all whole stays =
+    let legal = kept-legal S A (Float l c x) B all whole in
+    let k = legal-keeps A (Float l c x) legal in
+    let g6 : is_constant A c ≡ true = k.g6 in
+    let g7 : (is_variable A x && not (has_float A x)) ≡ true = k.g7 in (
+      constant-no_variable S c all (constant-front S A (Float l c x) B c whole g6),
+      still-active (λ s. has_name x (variables s)) S A (Float l c x) B whole stays (and_parts (is_variable A x) (not (has_float A x)) g7).0,
+    )
+
+-- an expression of a legal statement begins with a constant; where no constant is a variable, with no variable
+fixed : (S A : Database) (s : Stmt) → ((x : Name) → is_constant A x ≡ true → is_variable S x ≡ false) → IsLegal A s → IsFirstFixed S (expr_of s)
+fixed S A s other legal = by s legal
   where
-    here : variable_at S n ≡ variable_of s
-    here = ap (variable_at S) at ∙ ap Rattle.frame.specs.FrameOf.option_variable (ap (λ w. slice_get w (length A)) whole ∙ stands-at A s T)
+    first : (e : Expr) → starts_with_constant A e ≡ true → IsFirstFixed S e
+    first [] h = tt
+    first (x ∷ e) h = other x h
 
-    by : map (variable_at S) (map (λ p. p.0) (filter r (active_from (n + 1) T))) ≡ map (λ p. variable_of p.1) (filter r (active_from (n + 1) T)) → (b : Bool)
-        → map (variable_at S) (map (λ p. p.0) (filter r (cond b ((n, s) ∷ active_from (n + 1) T) (active_from (n + 1) T)))) ≡ map (λ p. variable_of p.1) (filter r (cond b ((n, s) ∷ active_from (n + 1) T) (active_from (n + 1) T)))
-    by more false = more
-    by more true = one (r (n, s))
-      where
-        one : (c : Bool) → map (variable_at S) (map (λ p. p.0) (cond c ((n, s) ∷ filter r (active_from (n + 1) T)) (filter r (active_from (n + 1) T)))) ≡ map (λ p. variable_of p.1) (cond c ((n, s) ∷ filter r (active_from (n + 1) T)) (filter r (active_from (n + 1) T)))
-        one true = ap (λ v. v ∷ map (variable_at S) (map (λ p. p.0) (filter r (active_from (n + 1) T)))) here ∙ ap (λ vs. variable_of s ∷ vs) more
-        one false = more
+    by : (s : Stmt) → IsLegal A s → IsFirstFixed S (expr_of s)
+    by (Float l c x) k = other c (legal-keeps A (Float l c x) k).g6
+    by (Ess l e) k = first e (legal-keeps A (Ess l e) k).g6
+    by (Axiom l e) k = first e (legal-keeps A (Axiom l e) k).g6
+    by (Prove l e p) k = first e (legal-keeps A (Prove l e p) k).g6
+    by s k = tt
 
--- the head of a list of statements by position, where one holds a place for x
-place-head : (S : Database) (s t : Stmt) (x : Name) → is_hypothesis S s t ≡ true → is_some_name x (variable_of t) ≡ true → is_mandatory S s x ≡ true
-place-head S s (Float l c y) x h e = ap (is_mandatory S s) (same x y e) ∙ h
-place-head S s t x h e = cc
+pub first-fixed : (S A : Database) (t : Stmt) (B : Database) → AllKept S → S ≡ A ++ t ∷ B → IsFirstFixed S (expr_of t)
+first-fixed S A t B all whole = fixed S A t (λ x h. constant-no_variable S x all (constant-front S A t B x whole h)) (kept-legal S A t B all whole)
 
-place-mandatory : (S : Database) (s : Stmt) (x : Name) (L : List (ℕ × Stmt)) → list_any (is_some_name x) (map (λ p. variable_of p.1) (filter (λ p. is_hypothesis S s p.1) L)) ≡ true → is_mandatory S s x ≡ true
-place-mandatory S s x [] h = cc
-place-mandatory S s x (p ∷ L) h = by (place-mandatory S s x L) (is_hypothesis S s p.1) refl h
-  where
-    head : is_hypothesis S s p.1 ≡ true → (list_any (is_some_name x) (map (λ q. variable_of q.1) (filter (λ q. is_hypothesis S s q.1) L)) ≡ true → is_mandatory S s x ≡ true) → (c : Bool) → is_some_name x (variable_of p.1) ≡ c → (c || list_any (is_some_name x) (map (λ q. variable_of q.1) (filter (λ q. is_hypothesis S s q.1) L))) ≡ true → is_mandatory S s x ≡ true
-    head e more true f k = place-head S s p.1 x e f
-    head e more false f k = more k
+pub own-fixed : (S : Database) (s : Stmt) → AllKept S → IsLegal S s → IsFirstFixed S (expr_of s)
+own-fixed S s all legal = fixed S S s (λ x h. constant-no_variable S x all h) legal
 
-    by : (list_any (is_some_name x) (map (λ q. variable_of q.1) (filter (λ q. is_hypothesis S s q.1) L)) ≡ true → is_mandatory S s x ≡ true) → (b : Bool) → is_hypothesis S s p.1 ≡ b
-        → list_any (is_some_name x) (map (λ q. variable_of q.1) (cond b (p ∷ filter (λ q. is_hypothesis S s q.1) L) (filter (λ q. is_hypothesis S s q.1) L))) ≡ true → is_mandatory S s x ≡ true
-    by more true e k = head e more (is_some_name x (variable_of p.1)) refl k
-    by more false e k = more k
+typed-own : (S : Database) (s : Stmt) (x : Name) → IsLegal S s → is_assertion s ≡ true → has_name x (expr_of s) ≡ true → is_variable S x ≡ true → has_float S x ≡ true
+typed-own S (Axiom l e) x legal asserts h v = implied (is_variable S x) (has_float S x) (all-has (λ y. not (is_variable S y) || has_float S y) x e (legal-keeps S (Axiom l e) legal).g9 h) v
+typed-own S (Prove l e p) x legal asserts h v = implied (is_variable S x) (has_float S x) (all-has (λ y. not (is_variable S y) || has_float S y) x e (legal-keeps S (Prove l e p) legal).g9 h) v
+typed-own S s x legal asserts h v = cc
 
-float-head : (S : Database) (s t : Stmt) (x : Name) → is_mandatory S s x ≡ true → is_float_of x t ≡ true → (is_hypothesis S s t ≡ true) × (is_some_name x (variable_of t) ≡ true)
-float-head S s (Float l c y) x m e = (ap (is_mandatory S s) (sym (same x y e)) ∙ m, e)
-float-head S s t x m e = cc
+-- a statement that passes as an `$e` with x is an `$e`, and x stands in its expression
+pub is_ess : (t : Stmt) (x : Name) → (is_essential t && has_name x (expr_of t)) ≡ true → (l : Name) × (e : Expr) × (t ≡ Ess l e) × (has_name x e ≡ true)
+is_ess (Ess l e) x h = (l, e, refl, h)
+is_ess s x h = cc
 
-mandatory-listed : (S : Database) (s : Stmt) (x : Name) (L : List (ℕ × Stmt)) → is_mandatory S s x ≡ true → list_any (λ p. is_float_of x p.1) L ≡ true
-    → list_any (is_some_name x) (map (λ p. variable_of p.1) (filter (λ p. is_hypothesis S s p.1) L)) ≡ true
-mandatory-listed S s x [] m h = cc
-mandatory-listed S s x (p ∷ L) m h = by (mandatory-listed S s x L m) (is_float_of x p.1) refl h
-  where
-    kept_on : list_any (is_some_name x) (map (λ q. variable_of q.1) (filter (λ q. is_hypothesis S s q.1) L)) ≡ true → (b : Bool)
-        → list_any (is_some_name x) (map (λ q. variable_of q.1) (cond b (p ∷ filter (λ q. is_hypothesis S s q.1) L) (filter (λ q. is_hypothesis S s q.1) L))) ≡ true
-    kept_on more true = or_right (is_some_name x (variable_of p.1)) _ more
-    kept_on more false = more
+-- a variable of a `$e` has a `$f` that is active before it
+pub typed-before : (S A : Database) (l : Name) (e : Expr) (B : Database) (x : Name) → AllKept S → S ≡ A ++ Ess l e ∷ B → has_name x e ≡ true → is_variable S x ≡ true → has_float A x ≡ true
+typed-before S A l e B x all whole h v =
+    let legal = kept-legal S A (Ess l e) B all whole in
+    let k = legal-keeps A (Ess l e) legal in
+    let known : (is_constant A x || is_variable A x) ≡ true = all-has (λ y. is_constant A y || is_variable A y) x e k.g5 h in
+    let var : is_variable A x ≡ true =
+    elim (or_cases (is_constant A x) (is_variable A x) known) [
+      | inl p ↦ absurd (not_both (is_variable S x) (constant-no_variable S x all (constant-front S A (Ess l e) B x whole p)) v)
+      | inr q ↦ q
+    ] in
+    implied (is_variable A x) (has_float A x) (all-has (λ y. not (is_variable A y) || has_float A y) x e k.g9 h) var
 
-    by : (list_any (λ q. is_float_of x q.1) L ≡ true → list_any (is_some_name x) (map (λ q. variable_of q.1) (filter (λ q. is_hypothesis S s q.1) L)) ≡ true) → (b : Bool) → is_float_of x p.1 ≡ b
-        → (b || list_any (λ q. is_float_of x q.1) L) ≡ true
-        → list_any (is_some_name x) (map (λ q. variable_of q.1) (cond (is_hypothesis S s p.1) (p ∷ filter (λ q. is_hypothesis S s q.1) L) (filter (λ q. is_hypothesis S s q.1) L))) ≡ true
-    by more true e k =
-        let f = float-head S s p.1 x m e in
-        ap (λ b. list_any (is_some_name x) (map (λ q. variable_of q.1) (cond b (p ∷ filter (λ q. is_hypothesis S s q.1) L) (filter (λ q. is_hypothesis S s q.1) L)))) f.0
-        ∙ or_left (is_some_name x (variable_of p.1)) _ f.1
-    by more false e k = kept_on (more k) (is_hypothesis S s p.1)
+-- a variable that is used has an active `$f`
+pub used-typed : (S : Database) (s : Stmt) (x : Name) → AllKept S → IsLegal S s → is_assertion s ≡ true → is_used S s x ≡ true → is_variable S x ≡ true → has_float S x ≡ true
+used-typed S s x all legal asserts used v = elim (used-cases S s x used) [
+  | inl h ↦ typed-own S s x legal asserts h v
+  | inr r ↦
+      let e = is_ess r.stmt x r.passes in
+      let whole : S ≡ r.front ++ Ess e.0 e.1 ∷ r.rest = r.whole ∙ ap (λ t. r.front ++ t ∷ r.rest) e.2 in
+      still-active (is_float_of x) S r.front (Ess e.0 e.1) r.rest whole r.stays (typed-before S r.front e.0 e.1 r.rest x all whole e.3 v)
+]
 
--- the variables of the hypotheses by position are those of the hypotheses themselves
-listed : (S : Database) (s : Stmt) → variables_of S s ≡ map (λ p. variable_of p.1) (filter (λ p. is_hypothesis S s p.1) (active S))
-listed S s = variables-listed S [] S 1 (λ p. is_hypothesis S s p.1) refl refl
+-- ---- the variables of the mandatory `$f`
 
-pub used-has-place : (S : Database) (s : Stmt) (x : Name) → AllKept S → IsLegal S s → is_assertion s ≡ true → is_used S s x ≡ true → is_variable S x ≡ true → has_place (variables_of S s) x ≡ true
-used-has-place S s x all legal asserts used var =
-    ap (λ vs. has_place vs x) (listed S s)
-    ∙ mandatory-listed S s x (active S) (ap (λ b. b && is_used S s x) var ∙ used) (used-typed S s x all legal asserts used var)
+-- a mandatory `$f` of x
+pub record HasFloatAt (S : Database) (s : Stmt) (x : Name) : Type 0 where
+  pub front : Database
+  pub label : Name
+  pub constant : Name
+  pub rest : Database
+  pub whole : S ≡ front ++ Float label constant x ∷ rest
+  pub listed : In (suc (length front)) (hypotheses S s)
+
+-- a mandatory variable has one
+pub mandatory-float : (S : Database) (s : Stmt) (x : Name) → AllKept S → IsLegal S s → is_assertion s ≡ true → is_mandatory S s x ≡ true → HasFloatAt S s x
+mandatory-float S s x all legal asserts m =
+    let p = and_parts (is_variable S x) (is_used S s x) m in
+    let r = active-stands (is_float_of x) 1 S (used-typed S s x all legal asserts p.1 p.0) in
+    let f = float-of-kind x r.stmt r.passes in
+    let whole : S ≡ r.front ++ Float f.0 f.1 x ∷ r.rest = r.whole ∙ ap (λ t. r.front ++ t ∷ r.rest) f.2 in
+    record { front = r.front; label = f.0; constant = f.1; rest = r.rest; whole = whole; listed = members S (is_hypothesis S s) (suc (length r.front)) r.front (Float f.0 f.1 x) r.rest whole refl r.stays m }
+
+in-any : (q : ℕ → Bool) (ps : List ℕ) (p : ℕ) → In p ps → q p ≡ true → list_any q ps ≡ true
+in-any q ps p i h = let c = in-contains p ps i in list_any-from_Any q ps (c.0, p, c.1, c.2, h)
+
+any-in : (q : ℕ → Bool) (ps : List ℕ) → list_any q ps ≡ true → (p : ℕ) × In p ps × (q p ≡ true)
+any-in q ps h = let a = Any-from_list_any q ps h in (a.1, contains-in a.1 ps (a.0, a.2, a.3), a.4)
 
 -- the mandatory variables are those with a place
 pub mandatory-place : (S : Database) (s : Stmt) (x : Name) → AllKept S → IsLegal S s → is_assertion s ≡ true → is_mandatory S s x ≡ has_place (variables_of S s) x
 mandatory-place S s x all legal asserts = both_ways (is_mandatory S s x) (has_place (variables_of S s) x) there back
   where
+    test : ℕ → Bool
+    test p = is_some_name x (variable_at S p)
+
+    listed : list_any test (hypotheses S s) ≡ has_place (variables_of S s) x
+    listed = list_any-map (variable_at S) (is_some_name x) (hypotheses S s)
+
+    here : (A : Database) (t : Stmt) (B : Database) → S ≡ A ++ t ∷ B → variable_at S (suc (length A)) ≡ variable_of t
+    here A t B whole = ap option_variable (ap (λ w. slice_get w (length A)) whole ∙ stands-at A t B)
+
     there : is_mandatory S s x ≡ true → has_place (variables_of S s) x ≡ true
-    there m = let p = and_parts (is_variable S x) (is_used S s x) m in used-has-place S s x all legal asserts p.1 p.0
+    there m =
+        let f = mandatory-float S s x all legal asserts m in
+        sym listed ∙ in-any test (hypotheses S s) (suc (length f.front)) f.listed (ap (is_some_name x) (here f.front (Float f.label f.constant x) f.rest f.whole) ∙ name_same x)
 
     back : has_place (variables_of S s) x ≡ true → is_mandatory S s x ≡ true
-    back h = place-mandatory S s x (active S) (ap (λ vs. has_place vs x) (sym (listed S s)) ∙ h)
-
--- ---- each variable has one place
-
--- a statement that has a variable is a `$f` of it
-pub is_flt : (t : Stmt) (y : Name) → variable_of t ≡ Some y → (l c : Name) × (t ≡ Float l c y)
-is_flt (Float l c w) y h = let e : w ≡ y = cc in (l, c, ap (Float l c) e)
-is_flt s y h = cc
-
--- behind an active `$f` of x there is none that is another `$f` of x
-differs : (A : Database) (l c x : Name) (M : Database) (t : Stmt) (y : Name) → stays_open 0 M ≡ true → IsLegal (A ++ Float l c x ∷ M) t → variable_of t ≡ Some y → name_eq y x ≡ false
-differs A l c x M t y stays legal is = by (name_eq y x) refl
-  where
-    f : (m : Name) × (d : Name) × (t ≡ Float m d y)
-    f = let r = is_flt t y is in (r.0, r.1, r.2)
-
-    none : has_float (A ++ Float l c x ∷ M) y ≡ false
-    none = fresh f
+    back h =
+        let r = any-in test (hypotheses S s) (listed ∙ h) in
+        let a = active-members S (is_hypothesis S s) r.0 [] S 1 refl refl r.1 in
+        of_kind a.stmt a.passes (ap (is_some_name x) (sym (ap (variable_at S) a.at ∙ here a.front a.stmt a.rest a.whole)) ∙ r.2)
       where
-        fresh : (m : Name) × (d : Name) × (t ≡ Float m d y) → has_float (A ++ Float l c x ∷ M) y ≡ false
-        fresh (m, d, e) =
-            let k : (is_variable (A ++ Float l c x ∷ M) y && not (has_float (A ++ Float l c x ∷ M) y)) ≡ true = (legal-keeps (A ++ Float l c x ∷ M) (Float m d y) (subst (IsLegal (A ++ Float l c x ∷ M)) e legal)).g7 in
-            not-true (has_float (A ++ Float l c x ∷ M) y) (and_parts (is_variable (A ++ Float l c x ∷ M) y) (not (has_float (A ++ Float l c x ∷ M) y)) k).1
-
-    by : (b : Bool) → name_eq y x ≡ b → b ≡ false
-    by false e = refl
-    by true e = absurd (not_both (has_float (A ++ Float l c x ∷ M) y) none (stands-active (is_float_of y) 1 A (Float l c x) M stays e))
-
-once-more : (x : Name) (o : Option Name) (vs : List (Option Name)) → ((y : Name) → o ≡ Some y → name_eq y x ≡ false) → IsElsewhere x vs → IsElsewhere x (o ∷ vs)
-once-more x None vs f h = h
-once-more x (Some y) vs f h = (f y refl, h)
-
--- behind an active `$f` of x no other active `$f` is of x
-elsewhere : (S A : Database) (l c x : Name) (M B : Database) (n : ℕ) (r : (ℕ × Stmt) → Bool) → AllKept S → S ≡ (A ++ Float l c x ∷ M) ++ B → stays_open 0 (M ++ B) ≡ true
-    → IsElsewhere x (map (λ p. variable_of p.1) (filter r (active_from n B)))
-elsewhere S A l c x M [] n r all whole stays = tt
-elsewhere S A l c x M (t ∷ B) n r all whole stays =
-    let longer : (A ++ Float l c x ∷ M) ++ t ∷ B ≡ (A ++ Float l c x ∷ (M ++ t ∷ [])) ++ B
-    = sym (append_assoc (A ++ Float l c x ∷ M) (t ∷ []) B) ∙ ap (λ w. w ++ B) (append_assoc A (Float l c x ∷ M) (t ∷ [])) in
-    let more = elsewhere S A l c x (M ++ t ∷ []) B (n + 1) r all (whole ∙ longer) (ap (stays_open 0) (append_assoc M (t ∷ []) B) ∙ stays) in
-    let legal = kept-legal S (A ++ Float l c x ∷ M) t B all whole in
-    by more (λ y e. differs A l c x M t y (stays_open-front 0 M (t ∷ B) stays) legal e) (stays_open 0 B)
-  where
-    by : IsElsewhere x (map (λ p. variable_of p.1) (filter r (active_from (n + 1) B))) → ((y : Name) → variable_of t ≡ Some y → name_eq y x ≡ false) → (b : Bool)
-        → IsElsewhere x (map (λ p. variable_of p.1) (filter r (cond b ((n, t) ∷ active_from (n + 1) B) (active_from (n + 1) B))))
-    by more f false = more
-    by more f true = one (r (n, t))
-      where
-        one : (d : Bool) → IsElsewhere x (map (λ p. variable_of p.1) (cond d ((n, t) ∷ filter r (active_from (n + 1) B)) (filter r (active_from (n + 1) B))))
-        one true = once-more x (variable_of t) _ f more
-        one false = more
-
-once-head : (o : Option Name) (vs : List (Option Name)) → ((x : Name) → o ≡ Some x → IsElsewhere x vs) → AreOnce vs → AreOnce (o ∷ vs)
-once-head None vs f h = h
-once-head (Some x) vs f h = (f x refl, h)
-
-once-from : (S A B : Database) (n : ℕ) (r : (ℕ × Stmt) → Bool) → AllKept S → S ≡ A ++ B → AreOnce (map (λ p. variable_of p.1) (filter r (active_from n B)))
-once-from S A [] n r all whole = tt
-once-from S A (t ∷ B) n r all whole =
-    let longer : S ≡ (A ++ t ∷ []) ++ B = whole ∙ sym (append_assoc A (t ∷ []) B) in
-    by (once-from S (A ++ t ∷ []) B (n + 1) r all longer) (stays_open 0 B) refl
-  where
-    away : stays_open 0 B ≡ true → (x : Name) → variable_of t ≡ Some x → IsElsewhere x (map (λ p. variable_of p.1) (filter r (active_from (n + 1) B)))
-    away stays x e =
-        let f = is_flt t x e in
-        elsewhere S A f.0 f.1 x [] B (n + 1) r all (whole ∙ (ap (λ u. A ++ u ∷ B) f.2 ∙ sym (append_assoc A (Float f.0 f.1 x ∷ []) B))) stays
-
-    by : AreOnce (map (λ p. variable_of p.1) (filter r (active_from (n + 1) B))) → (b : Bool) → stays_open 0 B ≡ b
-        → AreOnce (map (λ p. variable_of p.1) (filter r (cond b ((n, t) ∷ active_from (n + 1) B) (active_from (n + 1) B))))
-    by more false e = more
-    by more true e = one (r (n, t))
-      where
-        one : (d : Bool) → AreOnce (map (λ p. variable_of p.1) (cond d ((n, t) ∷ filter r (active_from (n + 1) B)) (filter r (active_from (n + 1) B))))
-        one true = once-head (variable_of t) _ (away e) more
-        one false = more
-
-pub variables-once : (S : Database) (s : Stmt) → AllKept S → AreOnce (variables_of S s)
-variables-once S s all = subst AreOnce (sym (listed S s)) (once-from S [] S 1 (λ p. is_hypothesis S s p.1) all refl)
+        of_kind : (t : Stmt) → is_hypothesis S s t ≡ true → is_some_name x (variable_of t) ≡ true → is_mandatory S s x ≡ true
+        of_kind (Float l c y) h e = ap (is_mandatory S s) (same_name x y e) ∙ h
+        of_kind t h e = cc

@@ -2,11 +2,7 @@
 -- Metamath, 4.2: labels name one statement each; what may be cited at a statement.
 -- The code answers by numbers; these words say which statements and names they stand for.
 use Rattle.std.specs.Prelude.{◌≡◌, ℕ, ◌<◌, true, List, [], length, get_or, Option, Some, None}
-use Rattle.mm_lex.specs.Alphabet.{Name}
-use Rattle.mm_read.specs.declared.stmt.Stmt.{Stmt}
-use Rattle.mm_read.specs.Statements.{Database}
-use Rattle.scope.specs.Active.{stmt_at, expr_of, is_assertion}
-use Rattle.names.specs.Codes.{decode, AreDistinct}
+use Rattle.frame.specs.Words.{Name, Stmt, Database, stmt_at, expr_of, is_assertion, decode, AreDistinct}
 use Rattle.frame.specs.FrameOf.{HasAssertion}
 use Rattle.frame.specs.Substitution.{Images, apply as applied}
 use Rattle.frame.specs.declared.meaning.Meaning.{Meaning}

@@ -2,11 +2,8 @@
 -- Metamath, 4.2.4 and 4.2.7: a variable that is used has an active `$f`, and just one; an expression begins with a constant.
 -- The code tests none of this where an assertion is cited.
 use Rattle.std.specs.Prelude.{◌≡◌, ℕ, true, false, List, [], ◌∷◌, slice_get, Some}
-use Rattle.mm_lex.specs.Alphabet.{Name, has_name}
-use Rattle.mm_read.specs.declared.stmt.Stmt.{Stmt}
+use Rattle.frame.specs.Words.{Name, has_name, Stmt, Expr, Database, stmt_at, before, expr_of, is_variable}
 use Rattle.mm_read.specs.declared.stmt.Stmt.TheVariants.{Float, Ess}
-use Rattle.mm_read.specs.Statements.{Expr, Database}
-use Rattle.scope.specs.Active.{stmt_at, before, expr_of, is_variable}
 use Rattle.frame.specs.FrameOf.{hypotheses, mandatory_groups}
 
 -- x is the variable of the `$f` at one of the positions

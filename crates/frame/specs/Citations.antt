@@ -3,11 +3,8 @@
 -- The code knows no images: it reads them off the results.
 use Rattle.std.specs.Prelude.{◌≡◌, ℕ, ◌<◌, Bool, true, false, IsTrue, List, [], map, Option, Some, None}
 use Rattle.std.specs.List.{list_all}
-use Rattle.mm_lex.specs.Alphabet.{Name}
-use Rattle.mm_read.specs.declared.stmt.Stmt.{Stmt}
+use Rattle.frame.specs.Words.{Name, Stmt, Expr, Database, stmt_at, before, is_active, is_variable, is_assertion, expr_of, label_of}
 use Rattle.mm_read.specs.declared.stmt.Stmt.TheVariants.{Float, Ess}
-use Rattle.mm_read.specs.Statements.{Expr, Database}
-use Rattle.scope.specs.Active.{stmt_at, before, is_active, is_variable, is_assertion, expr_of, label_of}
 use Rattle.frame.specs.FrameOf.{hypotheses, mandatory_groups}
 use Rattle.frame.specs.Substitution.{Images, apply as applied}
 use Rattle.frame.specs.Disjoint.{are_groups_apart}

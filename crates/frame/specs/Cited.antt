@@ -2,16 +2,10 @@
 -- Metamath, 4.2.6: an assertion is cited by what it asks of the results for its hypotheses.
 -- The code keeps these parts by the assertion; the expression of a `$e` is read where the `$e` stands.
 use Rattle.std.specs.Prelude.{◌≡◌, ℕ, ◌<◌, List, [], ◌∷◌, length, map, Some}
-use Rattle.mm_lex.specs.Alphabet.{Name}
-use Rattle.mm_read.specs.declared.stmt.Stmt.{Stmt}
+use Rattle.frame.specs.Words.{Name, Stmt, Expr, Database, stmt_at, before, expr_of, name_at, decode, Hypothesis, Assertion}
 use Rattle.mm_read.specs.declared.stmt.Stmt.TheVariants as stmt
-use Rattle.mm_read.specs.Statements.{Expr, Database}
-use Rattle.scope.specs.Active.{stmt_at, before, expr_of}
-use Rattle.names.specs.Codes.{name_at, decode}
-use Rattle.entries.specs.declared.cited_parts.Hypothesis.{Hypothesis}
 use Rattle.entries.specs.declared.cited_parts.Hypothesis.TheVariants.{Float, Essential}
 use Rattle.entries.specs.declared.cited_parts.Cited.{Cited}
-use Rattle.entries.specs.Entries.{Assertion}
 use Rattle.entries.specs.declared.cited_parts.TheConstants.{NO_HEAD}
 use Rattle.frame.specs.FrameOf.{hypotheses, mandatory_groups}
 use Rattle.frame.specs.Below.{AreBelow, AllBelow}

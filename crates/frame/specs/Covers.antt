@@ -3,9 +3,7 @@
 -- The code looks for such a `$d` before it looks at pairs; no public clause cites these words.
 use Rattle.std.specs.Prelude.{ℕ, Bool, false, not, ◌&&◌, ◌||◌, ◌%◌, List, slice_index_or}
 use Rattle.std.specs.List.{list_all, list_any}
-use Rattle.mm_lex.specs.Alphabet.{Name, has_name}
-use Rattle.mm_read.specs.Statements.{Expr, Database}
-use Rattle.scope.specs.Active.{separated, is_variable}
+use Rattle.frame.specs.Words.{Name, has_name, Expr, Database, separated, is_variable}
 use Rattle.frame.specs.Links.{actives, is_disj}
 use Rattle.frame.specs.FrameOf.{is_pair}
 

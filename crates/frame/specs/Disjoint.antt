@@ -1,9 +1,7 @@
 -- Images that are kept apart by the `$d` active behind the statements S.
 use Rattle.std.specs.Prelude.{Bool, not, ◌||◌, List}
 use Rattle.std.specs.List.{list_all}
-use Rattle.mm_lex.specs.Alphabet.{Name, name_eq}
-use Rattle.mm_read.specs.Statements.{Expr, Database}
-use Rattle.scope.specs.Active.{is_variable}
+use Rattle.frame.specs.Words.{Name, name_eq, Expr, Database, is_variable}
 use Rattle.frame.specs.FrameOf.{is_pair}
 use Rattle.frame.specs.Substitution.{Images, image}
 

@@ -1,12 +1,8 @@
 -- The frame of an assertion behind the statements S.
 use Rattle.std.specs.Prelude.{◌≡◌, ℕ, Bool, true, false, not, ◌&&◌, ◌||◌, List, [], ◌∷◌, map, filter, Option, Some, None, IsTrue}
 use Rattle.std.specs.List.{list_any}
-use Rattle.mm_lex.specs.Alphabet.{Name, name_eq}
-use Rattle.mm_lex.specs.Alphabet.{has_name}
-use Rattle.mm_read.specs.declared.stmt.Stmt.{Stmt}
+use Rattle.frame.specs.Words.{Name, name_eq, has_name, Stmt, Database, active, stmt_at, separated, expr_of, is_essential, is_variable, is_assertion}
 use Rattle.mm_read.specs.declared.stmt.Stmt.TheVariants.{Float, Ess}
-use Rattle.mm_read.specs.Statements.{Database}
-use Rattle.scope.specs.Active.{active, stmt_at, separated, expr_of, is_essential, is_variable, is_assertion}
 use Rattle.frame.specs.Parts.{FrameParts}
 
 -- the symbol stands in the assertion or in an active `$e`

@@ -2,9 +2,7 @@
 -- Metamath, 4.2.7: the mandatory `$d` of an assertion are pairs of its mandatory variables.
 -- The code keeps lists and never writes a pair out.
 use Rattle.std.specs.Prelude.{◌≡◌}
-use Rattle.mm_lex.specs.Alphabet.{Name}
-use Rattle.mm_read.specs.declared.stmt.Stmt.{Stmt}
-use Rattle.mm_read.specs.Statements.{Database}
+use Rattle.frame.specs.Words.{Name, Stmt, Database}
 use Rattle.frame.specs.FrameOf.{together, mandatory_groups, is_mandatory_pair}
 
 -- two variables stand together in a list of the frame just where they are a mandatory pair

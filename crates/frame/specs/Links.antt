@@ -2,11 +2,8 @@
 -- Metamath, 4.2.8: blocks nest, so what is active where a statement stands that is active itself is active still.
 -- The code keeps for each position the last active statement of four kinds, and walks back from it.
 use Rattle.std.specs.Prelude.{ℕ, Bool, true, false, List, [], ◌∷◌, filter}
-use Rattle.mm_read.specs.declared.stmt.Stmt.{Stmt}
+use Rattle.frame.specs.Words.{Stmt, Database, active_from, is_open, is_essential, Links}
 use Rattle.mm_read.specs.declared.stmt.Stmt.TheVariants.{Var, Disj}
-use Rattle.mm_read.specs.Statements.{Database}
-use Rattle.scope.specs.Active.{active_from, is_open, is_essential}
-use Rattle.entries.specs.declared.links.Links.{Links}
 
 abbrev pub is_var : Stmt → Bool
 is_var (Var names) = true

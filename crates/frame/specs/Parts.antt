@@ -1,7 +1,6 @@
 -- What contracts see of a frame and of the frames of a database.
 use Rattle.std.specs.Prelude.{ℕ, List}
-use Rattle.mm_lex.specs.Alphabet.{Name}
-use Rattle.mm_read.specs.Statements.{Expr, Database}
+use Rattle.frame.specs.Words.{Name, Expr, Database}
 
 -- hypotheses by position, the lists of variables that are to be kept apart, and the conclusion
 pub record FrameParts : Type 0 where

@@ -1,8 +1,6 @@
 -- Images of symbols put into an expression, all at once. A symbol is a name, or a number that stands for one.
 use Rattle.std.specs.Prelude.{ℕ, suc, Bool, nat_eq, if◌then◌else◌, List, [], ◌∷◌, flat_map}
-use Rattle.mm_lex.specs.Alphabet.{Name, name_eq}
-use Rattle.mm_read.specs.Statements.{Expr}
-use Rattle.names.specs.Codes.{decode}
+use Rattle.frame.specs.Words.{Name, name_eq, Expr, decode}
 
 -- the image of a symbol, by the first entry for it; a symbol with none is its own
 abbrev pub image_by : {A : Type 0} → (A → A → Bool) → List (A × List A) → A → List A

@@ -5,7 +5,7 @@ ghost use Rattle.scope.specs.Active.{before};
 ghost use Rattle.names.specs.Codes.{name_at, decode, AreDistinct};
 ghost use Rattle.frame.specs.Below.{AreBelow};
 ghost use Rattle.frame.specs.Disjoint.{are_apart};
-ghost use Rattle.frame.specs.Covers.{are_listed, are_covered, do_share, are_marked, is_variable_apart};
+ghost use Rattle.frame.specs.Covers.{are_listed, are_covered, do_share, is_variable_apart};
 ghost use Rattle.frame.specs.Stored.Whole.{AreStored};
 ghost use Rattle.frame.specs.Stored.EntryMeanings.{names_in, statements_of};
 ghost use Rattle.frame.specs.declared.active_apart.TheConstants.{PLACES};
@@ -63,7 +63,8 @@ fn is_covered(stock: &Stock, at: usize, left: &[u32], right: &[u32]) -> bool
     false
 }
 
-/// Whether the list has each variable of both. What the hints are before does not matter.
+/// Whether the list has each variable of both. The place of each symbol is hinted first; what the hints are before does not
+/// matter.
 fn covers(pairs: &Pairs<'_>, list: &[u32], hints: &mut [usize], left: &[u32], right: &[u32]) -> bool
     requires distinct { AreDistinct pairs.now.names }
     requires list { AreBelow (length pairs.now.names) list.now }
@@ -73,18 +74,10 @@ fn covers(pairs: &Pairs<'_>, list: &[u32], hints: &mut [usize], left: &[u32], ri
     ensures hints { length hints.new ≡ PLACES }
     ensures covers { result ≡ (are_listed pairs.now.statements (decode pairs.now.names list.now) (decode pairs.now.names left.now) && are_listed pairs.now.statements (decode pairs.now.names list.now) (decode pairs.now.names right.now)) }
 {
-    take_hints(list, hints);
-    lists(pairs, list, hints, left) && lists(pairs, list, hints, right)
-}
-
-/// Notes at the place of each symbol where in the list it stands.
-fn take_hints(list: &[u32], hints: &mut [usize])
-    requires { length hints.old ≡ PLACES }
-    ensures { length hints.new ≡ PLACES }
-{
     for (i, symbol) in list.iter().enumerate() {
         hints[place(*symbol)] = i;
     }
+    lists(pairs, list, hints, left) && lists(pairs, list, hints, right)
 }
 
 /// Whether the list has each variable of the image.
@@ -133,24 +126,15 @@ fn share(pairs: &Pairs<'_>, left: &[u32], right: &[u32]) -> bool
     ensures { result ≡ do_share pairs.now.statements (decode pairs.now.names left.now) (decode pairs.now.names right.now) }
 {
     let mut marked = [false; PLACES];
-    mark(left, &mut marked);
+    for code in left {
+        marked[place(*code)] = true;
+    }
     for symbol in right {
         if marked[place(*symbol)] && pairs.variable(*symbol) && contains(left, *symbol) {
             return true;
         }
     }
     false
-}
-
-/// Marks the places of the symbols.
-fn mark(symbols: &[u32], marked: &mut [bool])
-    requires { length marked.old ≡ PLACES }
-    ensures places { length marked.new ≡ PLACES }
-    ensures marked { IsTrue (are_marked PLACES marked.new symbols.now) }
-{
-    for symbol in symbols {
-        marked[place(*symbol)] = true;
-    }
 }
 
 /// Whether each pair of one variable from each list is kept apart. A variable that stands earlier in its list is passed

@@ -4,20 +4,16 @@ ghost use Rattle.mm_read.specs.declared.stmt.Stmt.{Stmt as Statement};
 ghost use Rattle.scope.specs.Active.{is_active, is_open, is_close, stmt_at, expr_of};
 ghost use Rattle.names.specs.Codes.{decode};
 ghost use Rattle.frame.specs.Below.{AreBelow};
-ghost use Rattle.frame.specs.FrameOf.{HasAssertion};
 ghost use Rattle.frame.specs.AtPosition.{IsMeaning};
-ghost use Rattle.frame.specs.Cited.{IsCited, IsGathered};
-ghost use Rattle.frame.specs.Stored.Drafts.{IsDraft, drafted};
 ghost use Rattle.frame.specs.Links.{last_active, links_of};
 ghost use Rattle.frame.specs.Stored.Labels.{is_label_kind};
 ghost use Rattle.frame.specs.Stored.Whole.{AreStored};
 ghost use Rattle.frame.specs.Stored.EntryMeanings.{names_in, statements_of};
 ghost use Rattle.frame.specs.Stored.Counts.{IsPlain, IsHypothesisAt};
 
-use crate::draft::Draft;
 use crate::meaning::Meaning;
 use crate::storage::Stock;
-use entries::{Cited, Groups, Hypotheses, Kind, Links};
+use entries::{Kind, Links};
 
 /// What is active before the statement at `at`, or at the end.
 pub fn links_at(stock: &Stock, at: usize) -> Links
@@ -98,30 +94,5 @@ fn hypothesis_at(stock: &Stock, at: usize, i: usize) -> Meaning<'_>
         Meaning::Hypothesis(expr_at(stock, i))
     } else {
         Meaning::Nothing
-    }
-}
-
-/// The parts of the assertion at a position, where they are kept whole.
-pub fn cited_at(stock: &Stock, a: usize) -> Option<Cited<'_>>
-    requires stored { AreStored stock.now }
-    requires assertion { (s : Statement) × HasAssertion (statements_of stock.now) a s }
-    ensures { (s : Statement) → stmt_at (statements_of stock.now) a ≡ Some s → IfSome result (IsCited (statements_of stock.now) (names_in stock.now) a s) }
-{
-    stock.entries.cited(a - 1)
-}
-
-/// The parts of the assertion at a position, by lists that were made of it.
-pub fn gathered_at<'a>(stock: &'a Stock, a: usize, draft: &'a Draft) -> Cited<'a>
-    requires stored { AreStored stock.now }
-    requires assertion { (s : Statement) × HasAssertion (statements_of stock.now) a s }
-    requires draft { IsDraft draft.now }
-    requires gathered { IsGathered (statements_of stock.now) (names_in stock.now) a (drafted draft.now) }
-    ensures { (s : Statement) → stmt_at (statements_of stock.now) a ≡ Some s → IsCited (statements_of stock.now) (names_in stock.now) a s result }
-{
-    Cited {
-        heads: &draft.heads,
-        hypotheses: Hypotheses::new(&draft.asked),
-        conclusion: expr_at(stock, a),
-        groups: Groups::new(&draft.groups, &draft.places),
     }
 }

@@ -6,9 +6,8 @@ ghost use Rattle.names.specs.Codes.{with_names};
 ghost use Rattle.scope.specs.Stored.Noted.{AreNoted};
 ghost use Rattle.scope.specs.Symbols.{symbols_by, symbols_in};
 ghost use Rattle.entries.specs.Entries.{made};
-ghost use Rattle.frame.specs.Below.{AreBelow};
-ghost use Rattle.frame.specs.Stored.Drafts.{IsPartless, IsDraft, drafted};
-ghost use Rattle.frame.specs.Stored.Whole.{AreStored, IsHead, IsNext, IsKeptOf, IsDraftOf, parts_of};
+ghost use Rattle.frame.specs.Stored.Drafts.{IsDraft};
+ghost use Rattle.frame.specs.Stored.Whole.{AreStored, IsHead, IsDraftOf, parts_of};
 ghost use Rattle.frame.specs.Stored.Counts.{HasRoom, kind_of};
 ghost use Rattle.frame.specs.Stored.EntryMeanings.{names_in};
 ghost use Rattle.frame.specs.Stored.AssertionParts.{has_parts};
@@ -36,19 +35,6 @@ pub fn head(stock: &Stock, kind: Kind) -> Result<Head, AllocError>
     })
 }
 
-/// Finds what is kept of an assertion or a `$e` with the symbols of the draft.
-fn keep(stock: &Stock, draft: &mut Draft, is_own: bool) -> Result<(), AllocError>
-    requires stored { AreStored stock.now }
-    requires codes { AreBelow (length (names_in stock.now)) draft.old.symbols.items }
-    requires next { (s : Statement) × IsNext stock.now is_own draft.old.symbols.items s }
-    requires partless { IsPartless draft.old }
-    ensures kept { (s : Statement) → IsNext stock.now is_own draft.old.symbols.items s → OnOk result (IsKeptOf stock.now s (drafted draft.new)) }
-    ensures draft { OnOk result (IsDraft draft.new) }
-    ensures symbols { draft.new.symbols.items ≡ draft.old.symbols.items }
-{
-    parts(stock, draft, is_own)
-}
-
 /// Finds the parts of an assertion or of a `$e` by the numbers that were noted of its symbols. Another statement has none.
 pub fn enter_parts(
     stock: &Stock,
@@ -68,7 +54,7 @@ pub fn enter_parts(
     };
     draft.clear();
     draft.symbols.extend_from_slice(codes)?;
-    keep(stock, draft, is_essential(stmt))
+    parts(stock, draft, is_essential(stmt))
 }
 
 /// Puts a statement behind the others, with its parts where it has some.

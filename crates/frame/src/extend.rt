@@ -1,12 +1,13 @@
 //! One statement more in the storage, or none, or only the first ones.
-ghost use Rattle.std.specs.Prelude.{◌≡◌, ◌++◌, ◌∷◌, [], OnOk, OnErr, take, length};
+ghost use Rattle.std.specs.Prelude.{◌≡◌, ◌++◌, ◌∷◌, [], Some, OnOk, OnErr, take, length, slice_get};
 ghost use Rattle.scope.specs.Active.{bare};
 ghost use Rattle.scope.specs.Legal.{IsLegal};
 ghost use Rattle.names.specs.Codes.{with_names};
 ghost use Rattle.scope.specs.Stored.Noted.{AreNoted};
-ghost use Rattle.scope.specs.Symbols.{symbols_by, symbols_in};
+ghost use Rattle.scope.specs.Symbols.{AreVariableNumbers, symbols_after, symbols_by, symbols_in};
 ghost use Rattle.frame.specs.Stored.Whole.{AreStored};
 ghost use Rattle.frame.specs.Stored.Counts.{IsBehind};
+ghost use Rattle.entries.specs.Entries.{Entry};
 ghost use Rattle.entries.specs.Stored.Spans.{Extends};
 ghost use Rattle.frame.specs.Stored.EntryMeanings.{labels_in, names_in, statements_of};
 
@@ -36,6 +37,7 @@ fn extend(
     requires noted { AreNoted (with_names (names_in stock.old) (symbols_by stmt.now)) (symbols_in stmt.now) noted.old }
     ensures stored { OnOk result (AreStored stock.new) }
     ensures added { OnOk result (statements_of stock.new ≡ statements_of stock.old ++ bare stmt.now ∷ []) }
+    ensures numbers { OnOk result ((e : Entry) → slice_get stock.new.entries (length stock.old.entries) ≡ Some e → AreVariableNumbers (symbols_after (statements_of stock.old) stmt.now) stmt.now e.symbols) }
     ensures behind { OnErr result (IsBehind stock.old stock.new) }
 {
     let at = stock.entries.len() + 1;
@@ -72,6 +74,7 @@ pub fn extend_whole(
     requires noted { AreNoted (with_names (names_in stock.old) (symbols_by stmt.now)) (symbols_in stmt.now) noted.old }
     ensures stored { AreStored stock.new }
     ensures added { OnOk result (statements_of stock.new ≡ statements_of stock.old ++ bare stmt.now ∷ []) }
+    ensures numbers { OnOk result ((e : Entry) → slice_get stock.new.entries (length stock.old.entries) ≡ Some e → AreVariableNumbers (symbols_after (statements_of stock.old) stmt.now) stmt.now e.symbols) }
     ensures same { OnErr result (statements_of stock.new ≡ statements_of stock.old) }
 {
     let names = stock.numbering.len();

@@ -11,7 +11,7 @@ ghost use Rattle.frame.specs.AtPosition.{IsMeaning, IsPosition, ArePositions, Ar
 ghost use Rattle.frame.specs.Cited.{IsCited, IsGathered};
 ghost use Rattle.entries.specs.Stored.Spans.{Extends};
 
-use crate::at_position::{cited_at, expr_at, gathered_at, meaning_at};
+use crate::at_position::{expr_at, meaning_at};
 use crate::draft::Draft;
 use crate::extend::{add_legal, cut, extend_whole};
 use crate::gathered::Gathered;
@@ -20,7 +20,7 @@ use crate::meaning::Meaning;
 use crate::pairs::Pairs;
 use crate::storage::Stock;
 use crate::symbol_numbers::label_number;
-use entries::{Cited, Entries, Links};
+use entries::{Cited, Entries, Groups, Hypotheses, Links};
 use mm_lex::Words;
 use mm_read::Stmt;
 use scope::{Noted, Numbering, Rule, Rules, Scope, Steps};
@@ -95,30 +95,10 @@ impl Frames {
         let _ = self.stock.positions.reserve(labels);
     }
 
-    /// Adds a statement that is legal behind those that are here.
+    /// Adds the statement that the scope accepts next.
     ///
     /// Where a growth is refused, everything is as before. One step is counted, whatever is answered.
     /// Cost: the statement's own size.
-    pub fn keep(&mut self, stmt: &Stmt, steps: &mut Steps) -> Result<(), AllocError>
-        requires { IsLegal self.old.statements stmt.now }
-        ensures added { OnOk result (self.new.statements ≡ self.old.statements ++ bare stmt.now ∷ []) }
-        ensures names { Extends self.old.names self.new.names }
-        ensures symbols { self.new.names ≡ symbols_of self.new.statements }
-        ensures same { OnErr result (self.new ≡ self.old) }
-        ensures counted { steps.new.count ≡ steps.old.count + 1 }
-    {
-        steps.tick();
-        self.noted.forget();
-        extend_whole(
-            self.alloc,
-            &mut self.stock,
-            &mut self.draft,
-            stmt,
-            &mut self.noted,
-        )
-    }
-
-    /// Adds the statement that the scope accepts next, as `keep` does.
     pub fn push(&mut self, scope: &Scope, stmt: &Stmt, steps: &mut Steps) -> Result<(), AllocError>
         requires same { scope.now.statements ≡ self.old.statements }
         requires legal { IsLegal scope.now.statements stmt.now }
@@ -129,14 +109,22 @@ impl Frames {
         ensures counted { steps.new.count ≡ steps.old.count + 1 }
     {
         let _scope = scope;
-        self.keep(stmt, steps)
+        self.noted.forget();
+        steps.tick();
+        extend_whole(
+            self.alloc,
+            &mut self.stock,
+            &mut self.draft,
+            stmt,
+            &mut self.noted,
+        )
     }
 
     /// Adds the next statement, where it breaks none of the rules G1 to G10: the rules, whose state stands behind the
     /// same statements, are lent the numbering, and accept it.
     ///
     /// Errors: the least rule that it breaks, or `Memory` where it breaks none; everything is then as before. Cost: that
-    /// of `Rules::broken_rule` and of `keep`; one step is counted, whatever is answered.
+    /// of `Rules::broken_rule` and of `push`; one step is counted, whatever is answered.
     pub fn add(&mut self, rules: &mut Rules, stmt: &Stmt, steps: &mut Steps) -> Result<(), Rule>
         requires same { rules.old.statements ≡ self.old.statements }
         ensures added { OnOk result (self.new.statements ≡ self.old.statements ++ bare stmt.now ∷ []) }
@@ -236,7 +224,7 @@ impl Frames {
         requires { (s : Statement) × HasAssertion self.now.statements a s }
         ensures { (s : Statement) → stmt_at self.now.statements a ≡ Some s → IfSome result (IsCited self.now.statements self.now.names a s) }
     {
-        cited_at(&self.stock, a)
+        self.stock.entries.cited(a - 1)
     }
 
     /// Makes the lists of the assertion at a position, of which only what it adds to what is active is kept.
@@ -259,7 +247,13 @@ impl Frames {
         requires gathered { IsGathered self.now.statements self.now.names a gathered.now }
         ensures { (s : Statement) → stmt_at self.now.statements a ≡ Some s → IsCited self.now.statements self.now.names a s result }
     {
-        gathered_at(&self.stock, a, &gathered.draft)
+        let draft = &gathered.draft;
+        Cited {
+            heads: &draft.heads,
+            hypotheses: Hypotheses::new(&draft.asked),
+            conclusion: expr_at(&self.stock, a),
+            groups: Groups::new(&draft.groups, &draft.places),
+        }
     }
 
     /// Adds the mandatory hypotheses of the assertion at a position, by position, in order, to a list that has none.

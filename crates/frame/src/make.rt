@@ -190,21 +190,8 @@ pub fn parts(stock: &Stock, draft: &mut Draft, is_own: bool) -> Result<(), Alloc
     if is_own || !are_few(stock, draft.hypotheses.len()) {
         describe(stock, &draft.hypotheses, &mut draft.asked, &mut draft.heads)
     } else {
-        whole_parts(stock, draft)
+        let at = stock.entries.len() + 1;
+        add_essentials(stock, at, &mut draft.hypotheses)?;
+        spread(stock, at, draft)
     }
-}
-
-/// The parts, where all mandatory hypotheses are kept.
-fn whole_parts(stock: &Stock, draft: &mut Draft) -> Result<(), AllocError>
-    requires stored { AreStored stock.now }
-    requires found { AreFloats stock.now.entries (statements_of stock.now) draft.old.symbols.items draft.old.hypotheses.items }
-    requires hypotheses { (list : List ℕ) → AreCollected stock.now.entries (statements_of stock.now) draft.old.symbols.items list → AreHypotheses stock.now.entries list }
-    requires undescribed { IsUndescribed draft.old }
-    ensures parts { OnOk result (AreParts stock.now.entries (statements_of stock.now) draft.old.symbols.items (drafted draft.new)) }
-    ensures draft { OnOk result (IsDraft draft.new) }
-    ensures symbols { draft.new.symbols.items ≡ draft.old.symbols.items }
-{
-    let at = stock.entries.len() + 1;
-    add_essentials(stock, at, &mut draft.hypotheses)?;
-    spread(stock, at, draft)
 }

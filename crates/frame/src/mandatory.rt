@@ -91,34 +91,28 @@ const FEW: usize = 64;
 ///
 /// Cost: at most a few steps, however much is active.
 pub fn are_few(stock: &Stock, own: usize) -> bool {
-    are_few_essentials(stock, own) && are_few_disjoint(stock)
-}
-
-fn are_few_essentials(stock: &Stock, own: usize) -> bool {
     let mut essential = stock.links.essential as usize;
     let mut count = own;
     for _ in 0..FEW {
         if essential == 0 || essential > stock.entries.len() || count > FEW {
             break;
         }
-        let index = essential - 1;
-        let floats = stock.entries.hypotheses(index).len();
+        let floats = stock.entries.hypotheses(essential - 1).len();
         count = count.saturating_add(floats).saturating_add(1);
-        essential = stock.entries.entry(index).links.essential as usize;
+        essential = stock.entries.entry(essential - 1).links.essential as usize;
     }
-    essential == 0 && count <= FEW
-}
-
-fn are_few_disjoint(stock: &Stock) -> bool {
+    if essential != 0 || count > FEW {
+        return false;
+    }
     let mut disjoint = stock.links.disjoint as usize;
-    let mut count = 0usize;
+    let mut variables = 0usize;
     for _ in 0..FEW {
-        if disjoint == 0 || disjoint > stock.entries.len() || count > 2 * FEW {
+        if disjoint == 0 || disjoint > stock.entries.len() || variables > 2 * FEW {
             break;
         }
         let entry = stock.entries.entry(disjoint - 1);
-        count = count.saturating_add(entry.symbols.len());
+        variables = variables.saturating_add(entry.symbols.len());
         disjoint = entry.links.disjoint as usize;
     }
-    disjoint == 0 && count <= 2 * FEW
+    disjoint == 0 && variables <= 2 * FEW
 }

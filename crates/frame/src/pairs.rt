@@ -1,8 +1,7 @@
 //! The variables that are kept apart at a position.
 ghost use Rattle.std.specs.Prelude.{◌≡◌, ◌==◌, ◌&&◌, ◌<◌, ◌≤◌, false, length, IfNone};
 ghost use Rattle.std.specs.List.{list_any};
-ghost use Rattle.mm_lex.specs.Alphabet.{has_name};
-ghost use Rattle.scope.specs.Active.{active, before, is_variable, separated};
+ghost use Rattle.scope.specs.Active.{before, is_variable};
 ghost use Rattle.names.specs.Codes.{name_at, code_of, AreDistinct};
 ghost use Rattle.frame.specs.FrameOf.{is_pair};
 ghost use Rattle.frame.specs.Stored.Whole.{AreStored};
@@ -46,7 +45,7 @@ impl<'a> Pairs<'a> {
         requires { (x < length self.now.names) × (y < length self.now.names) }
         ensures { result ≡ is_pair self.now.statements (name_at self.now.names x) (name_at self.now.names y) }
     {
-        x != y && stand_together(self.stock, self.at, x, y)
+        are_pair(self.stock, self.at, x, y)
     }
 
     /// The number of a name, where it has one. A name with none is no variable there.
@@ -68,13 +67,16 @@ impl<'a> Pairs<'a> {
     }
 }
 
-/// Whether both stand in one `$d` that is active at `at`.
-fn stand_together(stock: &Stock, at: usize, x: u32, y: u32) -> bool
+/// Whether they are different and both stand in one `$d` that is active at `at`.
+fn are_pair(stock: &Stock, at: usize, x: u32, y: u32) -> bool
     requires stored { AreStored stock.now }
     requires place { (1 ≤ at) × (at ≤ length (statements_of stock.now)) }
     requires names { (x < length (names_in stock.now)) × (y < length (names_in stock.now)) × AreDistinct (names_in stock.now) }
-    ensures { result ≡ list_any (λ p. has_name (name_at (names_in stock.now) x) (separated p.1) && has_name (name_at (names_in stock.now) y) (separated p.1)) (active (before (statements_of stock.now) at)) }
+    ensures { result ≡ is_pair (before (statements_of stock.now) at) (name_at (names_in stock.now) x) (name_at (names_in stock.now) y) }
 {
+    if x == y {
+        return false;
+    }
     let mut last = links_at(stock, at).disjoint;
     while last != 0 {
         let entry = stock.entries.entry(last as usize - 1);
@@ -118,16 +120,6 @@ fn is_variable_at(stock: &Stock, at: usize, x: u32) -> bool
     if declared < at && is_active_at(stock, declared, at) {
         return true;
     }
-    is_listed_at(stock, at, x)
-}
-
-/// Whether one of the active `$v` has it.
-fn is_listed_at(stock: &Stock, at: usize, x: u32) -> bool
-    requires stored { AreStored stock.now }
-    requires place { (1 ≤ at) × (at ≤ length (statements_of stock.now)) }
-    requires names { (x < length (names_in stock.now)) × AreDistinct (names_in stock.now) }
-    ensures { result ≡ is_variable (before (statements_of stock.now) at) (name_at (names_in stock.now) x) }
-{
     let mut last = links_at(stock, at).variable;
     while last != 0 {
         let entry = stock.entries.entry(last as usize - 1);

@@ -1,5 +1,5 @@
 //! Numbers of symbols by place, and the place of each.
-ghost use Rattle.std.specs.Prelude.{◌≡◌, ℕ, ◌<◌, ◌++◌, ◌∷◌, [], length, slice_get, Some, OnOk, IfSome};
+ghost use Rattle.std.specs.Prelude.{◌≡◌, ℕ, ◌++◌, ◌∷◌, [], slice_get, Some, OnOk};
 ghost use Rattle.frame.specs.Stored.NumberPlaces.{is_code, place_of};
 
 use entries::buffer_part::{item, place};
@@ -39,17 +39,9 @@ impl Places {
         }
     }
 
-    /// How many places there are.
-    pub fn len(&self) -> usize
-        ensures { result ≡ length self.now }
-    {
-        self.list.len()
-    }
-
     /// The first place of a number.
     pub fn place(&self, code: u32) -> Option<usize>
-        ensures place { result ≡ place_of self.now code }
-        ensures within { IfSome result (λ k. k < length self.now) }
+        ensures { result ≡ place_of self.now code }
     {
         let index = code as usize;
         if index >= self.table.len() {

@@ -66,10 +66,8 @@ pub fn find_numbers(numbering: &Numbering, stmt: &Stmt, noted: &mut Noted)
         return;
     }
     match stmt {
-        Stmt::Open => noted.begin(),
-        Stmt::Close => noted.begin(),
-        Stmt::Const(_) => {}
-        Stmt::Var(_) => {}
+        Stmt::Open | Stmt::Close => noted.begin(),
+        Stmt::Const(_) | Stmt::Var(_) => {}
         Stmt::Disj(words) => note_list(numbering, words, noted),
         Stmt::Float {
             constant,
@@ -80,8 +78,8 @@ pub fn find_numbers(numbering: &Numbering, stmt: &Stmt, noted: &mut Noted)
             note_symbol(numbering, constant.as_bytes(), noted);
             note_symbol(numbering, variable.as_bytes(), noted);
         }
-        Stmt::Ess { expr, .. } => note_list(numbering, expr, noted),
-        Stmt::Axiom { expr, .. } => note_list(numbering, expr, noted),
-        Stmt::Prove { expr, .. } => note_list(numbering, expr, noted),
+        Stmt::Ess { expr, .. } | Stmt::Axiom { expr, .. } | Stmt::Prove { expr, .. } => {
+            note_list(numbering, expr, noted)
+        }
     }
 }

@@ -1,17 +1,9 @@
 -- The parts of an assertion, by numbers. The code's own form: no public clause cites it.
 use Rattle.std.specs.Prelude.{◌≡◌, ℕ, ◌-◌, Bool, true, false, if◌then◌else◌, List, [], ◌∷◌, map, filter, get_or, slice_get, Option, Some, None, is_some}
-use Rattle.mm_lex.specs.Alphabet.{has_name}
-use Rattle.mm_read.specs.declared.stmt.Stmt.{Stmt}
+use Rattle.frame.specs.Words.{has_name, Stmt, Expr, Database, expr_of, active, is_essential, Hypothesis, Kind, Float, Ess, Axiom, Prove, Entry, Assertion}
 use Rattle.mm_read.specs.declared.stmt.Stmt.TheVariants as stmt
-use Rattle.mm_read.specs.Statements.{Expr, Database}
-use Rattle.scope.specs.Active.{expr_of, active, is_essential}
 use Rattle.frame.specs.FrameOf.{hypotheses}
-use Rattle.entries.specs.declared.cited_parts.Hypothesis.{Hypothesis}
 use Rattle.entries.specs.declared.cited_parts.Hypothesis.TheVariants as hypothesis
-use Rattle.entries.specs.declared.kind.Kind.{Kind}
-use Rattle.entries.specs.declared.kind.Kind.TheVariants.{Float, Ess, Axiom, Prove}
-use Rattle.entries.specs.Entries.{Entry}
-use Rattle.entries.specs.Entries.{Assertion}
 use Rattle.frame.specs.Stored.NumberPlaces.{place_of}
 use Rattle.frame.specs.Cited.{head_of}
 use Rattle.frame.specs.Links.{actives, is_disj}

@@ -1,31 +1,20 @@
 -- Numbers that stand for names, and what one more entry changes. The code's own form: no public clause cites it.
 use Rattle.std.specs.Prelude.{◌≡◌, ℕ, ◌<◌, ◌≤◌, ◌^◌, ◌==◌, true, false, ◌&&◌, if◌then◌else◌, List, [], ◌∷◌, ◌++◌, length, map, take, slice_get, Option, Some, None}
 use Rattle.std.specs.List.{list_any}
-use Rattle.mm_lex.specs.Alphabet.{Name}
-use Rattle.mm_read.specs.declared.stmt.Stmt.{Stmt}
+use Rattle.frame.specs.Words.{Name, Stmt, is_open, is_close, symbols_of, labels_of, Links, Kind, Open, Close, Const, Var, Disj, Float, Ess, Axiom, Prove, Entry, Extends}
 use Rattle.mm_read.specs.declared.stmt.Stmt.TheVariants as stmt
-use Rattle.scope.specs.Active.{is_open, is_close}
-use Rattle.scope.specs.Symbols.{symbols_of, labels_of}
-use Rattle.entries.specs.declared.links.Links.{Links}
-use Rattle.entries.specs.declared.kind.Kind.{Kind}
-use Rattle.entries.specs.declared.kind.Kind.TheVariants.{Open, Close, Const, Var, Disj, Float, Ess, Axiom, Prove}
-use Rattle.entries.specs.Entries.{Entry}
 use Rattle.frame.specs.declared.storage.Symbol.{Symbol}
 use Rattle.frame.specs.declared.storage.Stock.{Stock}
-use Rattle.entries.specs.Stored.Spans.{Extends}
 use Rattle.frame.specs.Citations.{is_hypothesis_kind}
 use Rattle.frame.specs.Below.{AreBelow}
+use Rattle.frame.specs.Stored.Labels.{is_label_kind}
 use Rattle.frame.specs.Stored.EntryMeanings.{stmt_of, names_in, is_float_kind, is_var_kind, second_is}
 
 -- ---- numbers that stand for names
 
 -- a label's number has a name, where the kind has a label
 abbrev pub IsLabelBelow : Kind → ℕ → ℕ → Type 0
-IsLabelBelow Float label n = label < n
-IsLabelBelow Ess label n = label < n
-IsLabelBelow Axiom label n = label < n
-IsLabelBelow Prove label n = label < n
-IsLabelBelow kind label n = Unit {0}
+IsLabelBelow kind label n = is_label_kind kind ≡ true → label < n
 
 -- a `$f` has two symbols
 abbrev pub HasTwo : Kind → List ℕ → Type 0
@@ -38,8 +27,6 @@ AreNumbered n m (e ∷ es) = AreBelow n e.symbols × IsLabelBelow e.kind e.label
 
 -- the entry e keeps the counts of the names and of the labels before it: those entries use no others
 pub record KeepsCounts (names labels : List Name) (entries : List Entry) (i : ℕ) (e : Entry) : Type 0 where
-  pub within : e.names ≤ length names
-  pub rising : (j : ℕ) (d : Entry) → j < i → slice_get entries j ≡ Some d → d.names ≤ e.names
   pub numbered : AreNumbered e.names e.label (take i entries)
   pub label_count : e.label ≡ length (labels_of (take i (map (stmt_of names labels) entries)))
   pub name_count : e.names ≡ length (symbols_of (take i (map (stmt_of names labels) entries)))

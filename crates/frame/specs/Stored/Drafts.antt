@@ -1,9 +1,8 @@
 -- What is found out about a statement before it is kept.
 -- The code's own form: no public clause cites it.
 use Rattle.std.specs.Prelude.{◌≡◌, false, [], length, map}
-use Rattle.entries.specs.Entries.{Assertion}
+use Rattle.frame.specs.Words.{Assertion, cut, AreSpansIn}
 use Rattle.entries.specs.Hypotheses.{told}
-use Rattle.entries.specs.Stored.Spans.{cut, AreSpansIn}
 use Rattle.frame.specs.declared.draft.Draft.{Draft}
 
 abbrev pub drafted : Draft → Assertion

@@ -1,23 +1,26 @@
 -- Where blocks end (Metamath, 4.2.8), kept of each `${` by its index. The code's own form: no public clause cites it.
-use Rattle.std.specs.Prelude.{◌≡◌, ℕ, suc, ◌<◌, ◌≤◌, ◌==◌, ◌||◌, nat_lt, true, List, length, take, drop, get_or, slice_get, slice_set, Some}
-use Rattle.mm_read.specs.declared.stmt.Stmt.{Stmt}
-use Rattle.mm_read.specs.Statements.{Database}
-use Rattle.scope.specs.Active.{is_open, stays_open}
-use Rattle.entries.specs.Entries.{Entry}
+use Rattle.std.specs.Prelude.{◌≡◌, ℕ, zero, suc, ◌+◌, true, List, [], ◌∷◌, length, take, drop, get_or, slice_get, slice_set, Some}
+use Rattle.frame.specs.Words.{Stmt, Database, is_open, Entry, Kind, Close}
+use Rattle.mm_read.specs.declared.stmt.Stmt.TheVariants as stmt
 use Rattle.frame.specs.Links.{last_active}
 use Rattle.frame.specs.Stored.Counts.{kind_of}
-use Rattle.entries.specs.declared.kind.Kind.{Kind}
-use Rattle.entries.specs.declared.kind.Kind.TheVariants.{Close}
 
--- the block that opened at the index b ends at the position c, or is open where c is 0: behind the first m statements it is
--- open where c is 0 or above m
-pub record IsEnd (S : Database) (b c : ℕ) : Type 0 where
-  pub within : c ≤ length S
-  pub tells : (m : ℕ) → b < m → m ≤ length S → stays_open 0 (drop (suc b) (take m S)) ≡ (c == 0 || nat_lt m c)
+-- the position of the `$}` that ends the block in which the statements stand, where d blocks more are open and the first of them
+-- stands at `at`; 0 where none does
+abbrev pub end_from : ℕ → ℕ → Database → ℕ
+end_from d at [] = 0
+end_from d at (stmt.Open ∷ S) = end_from (suc d) (at + 1) S
+end_from zero at (stmt.Close ∷ S) = at
+end_from (suc d) at (stmt.Close ∷ S) = end_from d (at + 1) S
+end_from d at (s ∷ S) = end_from d (at + 1) S
+
+-- where the block that opened at the index b ends, or 0
+abbrev pub end_of : ℕ → Database → ℕ
+end_of b S = end_from 0 (b + 2) (drop (suc b) S)
 
 -- the list tells of each `${` where its block ends
 abbrev pub TellEnds : List ℕ → Database → Type 0
-TellEnds ends S = (b : ℕ) (s : Stmt) → slice_get S b ≡ Some s → is_open s ≡ true → IsEnd S b (get_or ends b 0)
+TellEnds ends S = (b : ℕ) (s : Stmt) → slice_get S b ≡ Some s → is_open s ≡ true → get_or ends b 0 ≡ end_of b S
 
 pub record AreEnds (ends : List ℕ) (S : Database) : Type 0 where
   pub count : length ends ≡ length S

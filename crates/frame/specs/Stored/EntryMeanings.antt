@@ -1,17 +1,9 @@
 -- What an entry stands for, and what entries say of a symbol's number. The code's own form: no public clause cites it.
 use Rattle.std.specs.Prelude.{◌≡◌, ℕ, ◌+◌, ◌<◌, ◌==◌, Bool, true, false, ◌&&◌, if◌then◌else◌, List, [], ◌∷◌, ◌++◌, length, map, slice_get, Option, Some, None}
 use Rattle.std.specs.List.{list_any}
-use Rattle.mm_lex.specs.Alphabet.{Name}
-use Rattle.mm_read.specs.declared.stmt.Stmt.{Stmt}
+use Rattle.frame.specs.Words.{Name, Stmt, Expr, Database, stmt_at, before, label_of, declared_symbols, declared_labels, name_at, decode, Kind, Open, Close, Const, Var, Disj, Float, Ess, Axiom, Prove, Entry}
 use Rattle.mm_read.specs.declared.stmt.Stmt.TheVariants as stmt
-use Rattle.mm_read.specs.Statements.{Expr, Database}
-use Rattle.scope.specs.Active.{stmt_at, before, label_of}
 use Rattle.scope.specs.Legal.{IsLegal}
-use Rattle.scope.specs.Kinds.{declared_symbols, declared_labels}
-use Rattle.names.specs.Codes.{name_at, decode}
-use Rattle.entries.specs.declared.kind.Kind.{Kind}
-use Rattle.entries.specs.declared.kind.Kind.TheVariants.{Open, Close, Const, Var, Disj, Float, Ess, Axiom, Prove}
-use Rattle.entries.specs.Entries.{Entry}
 use Rattle.frame.specs.declared.storage.Symbol.{Symbol}
 use Rattle.frame.specs.declared.storage.Stock.{Stock}
 use Rattle.frame.specs.Parts.{Numbered}
@@ -69,9 +61,8 @@ is_var_kind Var = true
 is_var_kind kind = false
 
 abbrev pub second_is : ℕ → List ℕ → Bool
-second_is c [] = false
-second_is c (x ∷ []) = false
 second_is c (x ∷ y ∷ codes) = c == y
+second_is c codes = false
 
 abbrev pub floats : ℕ → Entry → Bool
 floats c e = is_float_kind e.kind && second_is c e.symbols
@@ -98,9 +89,8 @@ ReadsAs symbols x = (c : ℕ) → c < length symbols → slice_get symbols c ≡
 -- ---- what a declaration replaces
 
 abbrev pub replaced_float : (ℕ → Symbol) → List ℕ → List ℕ
-replaced_float x [] = []
-replaced_float x (a ∷ []) = []
 replaced_float x (a ∷ c ∷ codes) = (x c).float ∷ []
+replaced_float x codes = []
 
 -- what a statement of this kind with these symbols replaces, where the last declarations before it are x
 abbrev pub replaced_by : (ℕ → Symbol) → Kind → List ℕ → List ℕ

@@ -1,11 +1,6 @@
 -- How the mandatory hypotheses are found: the `$f` of the symbols of the assertion and of the active `$e`, and these. The code's own form: no public clause cites it.
 use Rattle.std.specs.Prelude.{◌≡◌, ℕ, ◌+◌, ◌-◌, ◌<◌, ◌≤◌, ◌⊎◌, Bool, true, false, List, [], ◌∷◌, length, map, slice_get, Option, Some, None}
-use Rattle.mm_read.specs.Statements.{Database}
-use Rattle.scope.specs.Active.{is_active, is_essential}
-use Rattle.entries.specs.declared.kind.Kind.{Kind}
-use Rattle.entries.specs.declared.kind.Kind.TheVariants.{Float, Ess}
-use Rattle.entries.specs.Entries.{Entry}
-use Rattle.entries.specs.Entries.{Assertion}
+use Rattle.frame.specs.Words.{Database, is_active, is_essential, Kind, Float, Ess, Entry, Assertion}
 use Rattle.frame.specs.Stored.NumberPlaces.{place_of}
 use Rattle.frame.specs.Links.{actives, is_disj}
 use Rattle.frame.specs.Stored.EntryMeanings.{floats, last_where}
@@ -44,11 +39,15 @@ pub record IsFloatOf (es : List Entry) (S : Database) (c p : ℕ) : Type 0 where
   pub some : p ≡ 0 → ⊥
   pub stands : is_active S p (length S + 1) ≡ true
 
+-- P ties p to one of the list
+pub record OfSome (P : ℕ → ℕ → Type 0) (list : List ℕ) (p : ℕ) : Type 0 where
+  pub one : ℕ
+  pub among : In one list
+  pub is : P one p
+
 -- p is that of one of the symbols
-pub record SomeFloat (es : List Entry) (S : Database) (codes : List ℕ) (p : ℕ) : Type 0 where
-  pub code : ℕ
-  pub among : In code codes
-  pub float : IsFloatOf es S code p
+abbrev pub SomeFloat : List Entry → Database → List ℕ → ℕ → Type 0
+SomeFloat es S codes p = OfSome (IsFloatOf es S) codes p
 
 -- the list has the `$f` of each symbol that was looked at
 abbrev pub AreLooked : List Entry → Database → List (Option ℕ) → List ℕ → Type 0
@@ -62,15 +61,13 @@ option_kept (Some e) = e.assertion.hypotheses
 abbrev pub kept_at : List Entry → ℕ → List ℕ
 kept_at es p = option_kept (slice_get es (p - 1))
 
--- p is a `$e` at one of the positions, or kept with one
-pub record SomeEssential (es : List Entry) (qs : List ℕ) (p : ℕ) : Type 0 where
-  pub essential : ℕ
-  pub among : In essential qs
-  pub way : (p ≡ essential) ⊎ In p (kept_at es essential)
+-- p is the `$e` at q, or kept with it
+abbrev pub IsWith : List Entry → ℕ → ℕ → Type 0
+IsWith es q p = In p (q ∷ kept_at es q)
 
 -- p is an active `$e`, or kept with one
 abbrev pub IsGiven : List Entry → Database → ℕ → Type 0
-IsGiven es S p = SomeEssential es (map (λ q. q.0) (actives is_essential S)) p
+IsGiven es S p = OfSome (IsWith es) (map (λ q. q.0) (actives is_essential S)) p
 
 -- the `$f` of the symbols; with them the active `$e` and what is kept with these
 abbrev pub AreFloats : List Entry → Database → List ℕ → List ℕ → Type 0
@@ -93,21 +90,20 @@ abbrev pub AreHypotheses : List Entry → List ℕ → Type 0
 AreHypotheses es [] = Unit {0}
 AreHypotheses es (p ∷ ps) = ((e : Entry) × (1 ≤ p) × (slice_get es (p - 1) ≡ Some e) × (is_hypothesis_entry e.kind ≡ true)) × AreHypotheses es ps
 
--- of the hypotheses it is said what they are and what symbols they begin with
-pub record AreDescribed (es : List Entry) (d : Assertion) : Type 0 where
+-- of the hypotheses it is said what they are and what symbols they begin with, and, where they are all, what the `$d` behind S keep apart
+pub record AreDescribed (es : List Entry) (S : Database) (d : Assertion) : Type 0 where
   pub asked_made : d.asked ≡ map (asked_at es) d.hypotheses
   pub heads_made : d.heads ≡ map (head_at es) d.hypotheses
+  pub groups_made : d.whole ≡ true → d.groups ≡ groups_by (map (variable_at es) d.hypotheses) (map (λ q. symbols_at es q.0) (actives is_disj S))
 
 -- an assertion behind the statements S has these hypotheses, of which all is said
 pub record IsSpread (es : List Entry) (S : Database) (ps : List ℕ) (d : Assertion) : Type 0 where
   pub is_whole : d.whole ≡ true
   pub same : d.hypotheses ≡ ps
-  pub described : AreDescribed es d
-  pub groups_made : d.groups ≡ groups_by (map (variable_at es) d.hypotheses) (map (λ q. symbols_at es q.0) (actives is_disj S))
+  pub described : AreDescribed es S d
 
 -- the parts of an assertion or a `$e` with these symbols, behind the statements S
 pub record AreParts (es : List Entry) (S : Database) (codes : List ℕ) (d : Assertion) : Type 0 where
   pub whole_found : d.whole ≡ true → AreCollected es S codes d.hypotheses
   pub own_found : d.whole ≡ false → AreFloats es S codes d.hypotheses
-  pub described : AreDescribed es d
-  pub groups_made : d.whole ≡ true → d.groups ≡ groups_by (map (variable_at es) d.hypotheses) (map (λ q. symbols_at es q.0) (actives is_disj S))
+  pub described : AreDescribed es S d

@@ -1,8 +1,7 @@
 -- Which entries have a label.
 -- The code's own form: no public clause cites it.
 use Rattle.std.specs.Prelude.{Bool, true, false}
-use Rattle.entries.specs.declared.kind.Kind.{Kind}
-use Rattle.entries.specs.declared.kind.Kind.TheVariants.{Float, Ess, Axiom, Prove}
+use Rattle.frame.specs.Words.{Kind, Float, Ess, Axiom, Prove}
 
 abbrev pub is_label_kind : Kind → Bool
 is_label_kind Float = true

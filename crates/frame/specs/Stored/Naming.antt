@@ -1,8 +1,7 @@
 -- The names that statements declare, each with what it was declared as. The code's own form: no public clause cites it.
 use Rattle.std.specs.Prelude.{Bool, ◌||◌, [], ◌∷◌, Option}
-use Rattle.mm_read.specs.Statements.{Database}
+use Rattle.frame.specs.Words.{Database, Declared, is_constant_kind, is_variable_kind}
 use Rattle.scope.specs.Declares.{declared_with}
-use Rattle.scope.specs.Kinds.{Declared, is_constant_kind, is_variable_kind}
 use Rattle.scope.specs.declared.numbering.NameKind.{NameKind}
 
 abbrev pub naming_from : Declared → Database → Declared

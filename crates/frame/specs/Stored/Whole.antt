@@ -1,14 +1,7 @@
 -- The storage of a database. The code's own form: no public clause cites it.
 use Rattle.std.specs.Prelude.{◌≡◌, ℕ, ◌<◌, ◌^◌, Bool, true, false, if◌then◌else◌, List, length, map, take, slice_get, Option, Some}
-use Rattle.mm_lex.specs.Alphabet.{Name}
-use Rattle.mm_read.specs.declared.stmt.Stmt.{Stmt}
-use Rattle.scope.specs.Active.{expr_of, is_essential, stays_open}
-use Rattle.names.specs.Codes.{decode}
-use Rattle.scope.specs.Symbols.{symbols_of, labels_of}
-use Rattle.entries.specs.declared.links.Links.{Links}
+use Rattle.frame.specs.Words.{Name, Stmt, expr_of, is_essential, stays_open, decode, symbols_of, labels_of, Links, Kind, Assertion, Entry, partless}
 use Rattle.entries.specs.declared.head.Head.{Head}
-use Rattle.entries.specs.declared.kind.Kind.{Kind}
-use Rattle.entries.specs.Entries.{Assertion, Entry, partless}
 use Rattle.frame.specs.declared.storage.Symbol.{Symbol}
 use Rattle.frame.specs.declared.storage.Stock.{Stock}
 use Rattle.frame.specs.declared.draft.Draft.{Draft}

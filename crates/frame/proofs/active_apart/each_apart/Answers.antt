@@ -1,6 +1,4 @@
-use Rattle.std.proofs.Common.{◌≡◌, ◌∙◌, sym, length, get_or, true}
-use Rattle.names.specs.Codes.{name_at, decode}
-use Rattle.frame.specs.Covers.{is_symbol_apart}
+use Rattle.frame.proofs.Words.{◌≡◌, ◌∙◌, sym, length, get_or, true, name_at, decode, is_symbol_apart}
 use Rattle.frame.proofs.ApartLemmas.{stops, goes_on, below-at, repeat-passes, symbol_constant, symbol_variable}
 use Rattle.frame.proofs.active_apart.each_apart.Goals as goal
 use Rattle.frame.proofs.active_apart.each_apart.Goals.{else-variable-via-then-variable+then-not-contains+else-not-variable_apart, else-variable-via-then-variable+else-not-contains, else-variable-via-else-variable}

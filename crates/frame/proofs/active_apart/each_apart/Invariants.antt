@@ -1,6 +1,4 @@
-use Rattle.std.proofs.Common.{◌≡◌, true, take}
-use Rattle.names.specs.Codes.{decode}
-use Rattle.frame.specs.Disjoint.{are_apart}
+use Rattle.frame.proofs.Words.{◌≡◌, true, take, decode, are_apart}
 use Rattle.frame.proofs.active_apart.each_apart.Given as goal
 
 abbrev pub invariant-loop-i : goal.invariant-loop-i

@@ -1,6 +1,5 @@
-use Rattle.std.proofs.Common.{◌∙◌, ◌-◌, sym, arith, refl}
+use Rattle.frame.proofs.Words.{◌∙◌, ◌-◌, sym, arith, refl, seen}
 use Rattle.frame.proofs.KindWalk.{walk-step, disjoint_chain, disjoint_lists, sought-start, sought-found, sought-step}
-use Rattle.entries.specs.Entries.{seen}
 use Rattle.frame.proofs.active_apart.is_covered.Goals as goal
 
 pub loop-last-init : goal.loop-last-init

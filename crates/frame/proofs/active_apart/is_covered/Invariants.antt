@@ -1,10 +1,4 @@
-use Rattle.std.specs.Prelude.{◌≡◌, length}
-use Rattle.scope.specs.Active.{before, separated}
-use Rattle.names.specs.Codes.{decode}
-use Rattle.frame.specs.Links.{is_disj}
-use Rattle.frame.specs.Stored.EntryMeanings.{names_in, statements_of}
-use Rattle.frame.specs.Covers.{does_cover, are_covered}
-use Rattle.frame.specs.declared.active_apart.TheConstants.{PLACES}
+use Rattle.frame.proofs.Words.{◌≡◌, length, before, separated, decode, is_disj, names_in, statements_of, does_cover, are_covered, PLACES}
 use Rattle.frame.proofs.KindWalk.{IsSought}
 use Rattle.frame.proofs.active_apart.is_covered.Given as goal
 

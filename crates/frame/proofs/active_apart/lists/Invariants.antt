@@ -1,6 +1,4 @@
-use Rattle.std.specs.Prelude.{◌≡◌, true, take}
-use Rattle.names.specs.Codes.{decode}
-use Rattle.frame.specs.Covers.{are_listed}
+use Rattle.frame.proofs.Words.{◌≡◌, true, take, decode, are_listed}
 use Rattle.frame.proofs.active_apart.lists.Given as goal
 
 abbrev pub invariant-loop-symbol : goal.invariant-loop-symbol

@@ -1,6 +1,4 @@
-use Rattle.std.proofs.Common.{◌≡◌, true, take}
-use Rattle.names.specs.Codes.{name_at, decode}
-use Rattle.frame.specs.Covers.{is_variable_apart}
+use Rattle.frame.proofs.Words.{◌≡◌, true, take, name_at, decode, is_variable_apart}
 use Rattle.frame.proofs.active_apart.variable_apart.Given as goal
 
 abbrev pub invariant-loop-i : goal.invariant-loop-i

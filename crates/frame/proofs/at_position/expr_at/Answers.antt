@@ -1,9 +1,6 @@
-use Rattle.std.proofs.Common.{◌∙◌, ◌-◌, ap, sym, length}
-use Rattle.scope.specs.Active.{expr_of}
-use Rattle.frame.specs.Stored.EntryMeanings.{names_in, labels_in}
+use Rattle.frame.proofs.Words.{◌∙◌, ◌-◌, ap, sym, length, expr_of, names_in, labels_in, seen}
 use Rattle.frame.proofs.StoredReading.{two-of, entry-expr, entry-none, is-entry}
 use Rattle.frame.proofs.StoredOneMore.{numbered-at}
-use Rattle.entries.specs.Entries.{seen}
 use Rattle.frame.proofs.at_position.expr_at.Goals as goal
 
 pub returns-then-has_expression-clause-same : goal.returns-then-has_expression-clause-same

@@ -1,5 +1,4 @@
-use Rattle.std.proofs.Common.{◌≡◌, ◌∙◌, ap, sym, arith, true, false}
-use Rattle.std.specs.Prelude.{nat_le, nat_eq, ◌||◌}
+use Rattle.std.proofs.Common.{◌≡◌, ◌∙◌, ap, sym, arith, true, false, nat_le, nat_eq, ◌||◌}
 use Rattle.frame.proofs.EndLemmas.{active-told}
 use Rattle.frame.proofs.at_position.is_active_at.Goals as goal
 

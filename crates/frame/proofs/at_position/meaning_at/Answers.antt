@@ -1,11 +1,5 @@
-use Rattle.std.proofs.Common.{◌≡◌, ◌∙◌, ap, sym, arith}
-use Rattle.std.specs.Prelude.{IsTrue, Bool, false}
-use Rattle.std.proofs.lemmas.Bool.{false≢true}
-use Rattle.scope.specs.Active.{is_assertion}
-use Rattle.frame.specs.Citations.{is_hypothesis_kind}
-use Rattle.frame.specs.Stored.EntryMeanings.{names_in, labels_in, stmt_of}
+use Rattle.frame.proofs.Words.{◌≡◌, ◌∙◌, ap, sym, arith, IsTrue, Bool, false, false≢true, is_assertion, is_hypothesis_kind, names_in, labels_in, stmt_of, seen}
 use Rattle.frame.proofs.StoredReading.{entry-stands, is-entry, neither, entry-assertion}
-use Rattle.entries.specs.Entries.{seen}
 use Rattle.frame.proofs.at_position.meaning_at.Goals as goal
 
 pub returns-in-Axiom : goal.returns-in-Axiom

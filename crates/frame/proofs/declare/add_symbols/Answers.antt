@@ -1,5 +1,4 @@
-use Rattle.std.proofs.Common.{◌∙◌, ◌∷◌, [], ap, sym, subst, arith, length, length-append}
-use Rattle.frame.specs.Stored.Counts.{zero_symbol, AreZeroBehind}
+use Rattle.frame.proofs.Words.{◌∙◌, ◌∷◌, [], ap, sym, subst, arith, length, length-append, zero_symbol, AreZeroBehind}
 use Rattle.frame.proofs.SymbolNumberLemmas.{zero-push}
 use Rattle.frame.proofs.declare.add_symbols.Goals as goal
 

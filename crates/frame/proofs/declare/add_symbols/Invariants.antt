@@ -1,5 +1,4 @@
-use Rattle.std.proofs.Common.{◌≡◌, length}
-use Rattle.frame.specs.Stored.Counts.{AreZeroBehind}
+use Rattle.frame.proofs.Words.{◌≡◌, length, AreZeroBehind}
 use Rattle.frame.proofs.declare.add_symbols.Given as goal
 
 abbrev pub invariant-loop : goal.invariant-loop

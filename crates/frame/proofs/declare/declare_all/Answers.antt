@@ -1,8 +1,4 @@
-use Rattle.std.proofs.Common.{◌∙◌, ap, sym, arith, refl, length, take, get_or}
-use Rattle.std.specs.Prelude.{Some, nat_eq}
-use Rattle.std.specs.List.{list_any}
-use Rattle.std.proofs.lemmas.List.{length-set}
-use Rattle.std.proofs.lemmas.List.Folds.{list_any_more}
+use Rattle.frame.proofs.Words.{◌∙◌, ap, sym, arith, refl, length, take, get_or, length-set, Some, nat_eq, list_any, list_any_more}
 use Rattle.frame.proofs.ApartLemmas.{below-at}
 use Rattle.frame.proofs.DeclareLemmas.{noted, note-step}
 use Rattle.frame.proofs.declare.declare_all.Goals as goal

@@ -1,7 +1,4 @@
-use Rattle.std.proofs.Common.{◌≡◌, ℕ, length, take}
-use Rattle.std.specs.Prelude.{slice_get, Some, ◌==◌, if◌then◌else◌}
-use Rattle.std.specs.List.{list_any}
-use Rattle.frame.specs.declared.storage.Symbol.{Symbol}
+use Rattle.frame.proofs.Words.{slice_get, Some, ◌==◌, if◌then◌else◌, ◌≡◌, ℕ, length, take, list_any, Symbol}
 use Rattle.frame.proofs.declare.declare_all.Given as goal
 
 abbrev pub invariant-loop-code : goal.invariant-loop-code

@@ -1,6 +1,4 @@
-use Rattle.std.proofs.Common.{arith}
-use Rattle.scope.specs.Kinds.{declared_symbols}
-use Rattle.entries.proofs.SpanLemmas.{extends-length}
+use Rattle.frame.proofs.Words.{arith, declared_symbols, extends-length}
 use Rattle.frame.proofs.NamingLemmas.{symbols-extend}
 use Rattle.frame.proofs.declare.declare_next.Goals as goal
 

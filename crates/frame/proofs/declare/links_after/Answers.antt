@@ -1,11 +1,6 @@
-use Rattle.std.proofs.Common.{◌≡◌, ◌∙◌, ap, sym, arith, refl, true, false, ◌-◌, take}
-use Rattle.std.proofs.lemmas.List.{length-map}
-use Rattle.std.specs.Prelude.{◌==◌}
-use Rattle.frame.specs.Links.{links_of, last_active}
-use Rattle.frame.specs.Stored.EntryMeanings.{names_in, labels_in, statements_of, stmt_of}
-use Rattle.frame.proofs.AfterLemmas.{links-next, links-close}
+use Rattle.frame.proofs.Words.{◌≡◌, ◌∙◌, ap, sym, arith, refl, true, ◌-◌, take, length-map, links_of, last_active, names_in, labels_in, statements_of, stmt_of, is_open}
+use Rattle.frame.proofs.LinksLemmas.{links-next, links-close}
 use Rattle.frame.proofs.BlockWalkLemmas.{last-within}
-use Rattle.scope.specs.Active.{is_open}
 use Rattle.frame.proofs.declare.links_after.Goals as goal
 
 pub links_at-requires-clause-place : goal.links_at-requires-clause-place
@@ -18,15 +13,13 @@ links_at-requires-clause-place c =
 pub returns-then-links-eq0 : goal.returns-then-links-eq0
 returns-then-links-eq0 c = λ s e.
     let S = statements_of c.args.stock.now in
-    let none : (last_active is_open S == 0) ≡ true = grind (arith, sym (ap (λ k. k.block) c.requires.kept.last) ∙ c.if-links-eq0.true) in
-    links-close S s true (e ∙ c.in-Close.is) none
+    let block : 0 ≡ last_active is_open S = sym c.if-links-eq0.true ∙ ap (λ k. k.block) c.requires.kept.last in
+    ap (λ n. links_of (take (n - 1) S)) block ∙ links-close S s (e ∙ c.in-Close.is)
 
 pub returns-else-links-eq0 : goal.returns-else-links-eq0
 returns-else-links-eq0 c = λ s e.
     let S = statements_of c.args.stock.now in
-    let block = ap (λ k. k.block) c.requires.kept.last in
-    let some : (last_active is_open S == 0) ≡ false = grind (arith, block, c.if-links-eq0.false) in
-    c.links_at.ensures ∙ (ap (λ n. links_of (take (n - 1) S)) block ∙ links-close S s false (e ∙ c.in-Close.is) some)
+    c.links_at.ensures ∙ (ap (λ n. links_of (take (n - 1) S)) (ap (λ k. k.block) c.requires.kept.last) ∙ links-close S s (e ∙ c.in-Close.is))
 
 pub returns-in_default : goal.returns-in_default
 returns-in_default c = λ s e.

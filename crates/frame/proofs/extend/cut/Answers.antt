@@ -1,15 +1,5 @@
-use Rattle.std.proofs.Common.{◌≡◌, ◌∙◌, ap, sym, subst, arith, refl, length, take}
-use Rattle.std.proofs.Math.Seq.{take-length}
-use Rattle.std.specs.Prelude.{◌<◌}
-use Rattle.std.proofs.lemmas.List.{length-take-le}
-use Rattle.std.proofs.lemmas.Option.{slice_get_within}
-use Rattle.frame.specs.Stored.Ends.{AreEnds}
+use Rattle.frame.proofs.Words.{◌≡◌, ◌∙◌, ap, sym, subst, arith, refl, length, take, ◌<◌, length-take-le, take-length, slice_get_within, AreNumbered, names_in, labels_in, statements_of, ReadsAs, replaced_of, symbol_of, declared_symbols, declared_labels, naming_of, seen}
 use Rattle.frame.proofs.EndLemmas.{ends-front, stored-blocks}
-use Rattle.frame.specs.Stored.Counts.{AreNumbered}
-use Rattle.frame.specs.Stored.EntryMeanings.{names_in, labels_in, statements_of, ReadsAs, replaced_of, symbol_of}
-use Rattle.scope.specs.Kinds.{declared_symbols, declared_labels}
-use Rattle.frame.specs.Stored.Naming.{naming_of}
-use Rattle.entries.specs.Entries.{seen}
 use Rattle.frame.proofs.CutStorage.{IsCut, kept-cut, cut-statements, names-front, front-naming, numbering-front}
 use Rattle.frame.proofs.extend.cut.Goals as goal
 
@@ -50,17 +40,17 @@ returns-then-len c =
       links_back = refl;
     } in
     let S = statements_of k in
-    let fewer-than : n < length S = let lt = slice_get_within k.entries n e c.entry-first.ensures.1 in let m = (stored-blocks k c.requires).count in omega (arith, lt, m) in
-    let long : length c.take_away.new.entries ≡ n = ap length away.entries ∙ length-take-le n k.entries (let m = (stored-blocks k c.requires).count in omega (arith, fewer-than, m)) in
+    let fewer-than : n < length S = omega (arith, slice_get_within k.entries n e c.entry-first.ensures.1, (stored-blocks k c.requires).count) in
+    let long : length c.take_away.new.entries ≡ n = ap length away.entries ∙ length-take-le n k.entries (omega (arith, fewer-than, (stored-blocks k c.requires).count)) in
     let ends : new.ends.items ≡ take n c.take_away.new.ends.items = back.ends ∙ ap (λ m. take m c.take_away.new.ends.items) long in
-    let statements = cut-statements (names_in k) (labels_in k) k.positions.items k.symbols.items k.replaced.items k.entries k.links (names_in new) (labels_in new) new.positions.items between new.symbols.items new.replaced.items new.entries e.links n e c.requires.kept cut in
+    let statements = cut-statements c.requires.kept cut in
     record {
       stored = record {
-        kept = kept-cut (names_in k) (labels_in k) k.positions.items k.symbols.items k.replaced.items k.entries k.links (names_in new) (labels_in new) new.positions.items between new.symbols.items new.replaced.items new.entries e.links n e c.requires.kept cut;
+        kept = kept-cut c.requires.kept cut;
         numbered = numbering ∙ ap naming_of (sym statements);
-        ended = subst (AreEnds new.ends.items) (sym statements) (subst (λ r. AreEnds r (take n S)) (sym ends)
-            (ends-front c.take_away.new.ends.items S n (omega (arith, fewer-than)) (away.count_ends ∙ c.requires.ended.count) (away.ends S (stored-blocks k c.requires) c.requires.ended.tell (sym c.requires.ended.count))));
+        ended = rw (statements, ends)
+            (ends-front c.take_away.new.ends.items S n (omega (arith, fewer-than)) (away.count_ends ∙ c.requires.ended.count) (away.ends S (stored-blocks k c.requires) c.requires.ended.tell (sym c.requires.ended.count)));
       };
       statements = statements;
-      names = names-front (names_in k) (labels_in k) k.positions.items k.symbols.items k.replaced.items k.entries k.links (names_in new) (labels_in new) new.positions.items between new.symbols.items new.replaced.items new.entries e.links n e c.requires.kept cut;
+      names = names-front c.requires.kept cut;
     }

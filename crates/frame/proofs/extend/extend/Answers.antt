@@ -1,18 +1,7 @@
-use Rattle.std.proofs.Common.{◌≡◌, ◌∙◌, ap, sym, subst, arith, length, ◌+◌, ◌++◌, ◌∷◌, [], true}
-use Rattle.std.specs.Prelude.{if◌then◌else◌, false}
-use Rattle.scope.specs.Active.{bare}
-use Rattle.scope.proofs.DeclaredLemmas.{may-declare}
-use Rattle.entries.specs.Entries.{made, partless}
-use Rattle.frame.specs.Below.{AreBelow}
-use Rattle.frame.specs.Stored.AssertionParts.{has_parts}
-use Rattle.frame.specs.Stored.Drafts.{drafted}
-use Rattle.frame.specs.Stored.EntryMeanings.{names_in, labels_in, statements_of, ReadsAs}
-use Rattle.frame.specs.Stored.Whole.{IsKeptOf, parts_of}
+use Rattle.frame.proofs.Words.{◌≡◌, ◌∙◌, ap, sym, subst, arith, length, ◌+◌, ◌++◌, ◌∷◌, [], true, if◌then◌else◌, false, bare, may-declare, partless, AreBelow, has_parts, drafted, statements_of, ReadsAs, IsKeptOf, parts_of}
 use Rattle.frame.proofs.EndLemmas.{block-within, ends-next}
-use Rattle.frame.proofs.EnterLemmas.{IsEntered, entered-below, kind_of-bare}
-use Rattle.frame.proofs.ExtendLemmas.{is-pushed, numbered-pushed}
+use Rattle.frame.proofs.EnterLemmas.{IsEntered, IsExtended, added-numbers, entered-below, kept-pushed, kind_of-bare, numbered-pushed, pushed-statements}
 use Rattle.frame.proofs.NamingLemmas.{stored-naming}
-use Rattle.frame.proofs.StoredLemmas.{kept-pushed, pushed-statements}
 use Rattle.frame.proofs.extend.extend.Goals as goal
 use Rattle.frame.proofs.extend.extend.Goals.{In-Some}
 
@@ -62,19 +51,28 @@ returns c =
     let a = parts_of h.kind c.enter_parts.new.draft in
     let kept : has_parts h.kind ≡ true → IsKeptOf k s a = λ own.
     subst (λ b. IsKeptOf k s (if b then drafted c.enter_parts.new.draft else partless false)) (sym own) (c.in_ok-enter_parts.ensures (ap has_parts (sym (e.head.kind ∙ kind_of-bare c.args.stmt.now)) ∙ own)).kept in
-    let pushed = is-pushed k new c.args.stmt.now h a codes c.find_numbers.new.noted c.declare_next.new.noted c.kind-kind.result (c.len-at.result + 1) c.declare.new.symbols.items c.note_replaced.new.replaced.items c.push_entry.new.entries c.links_after-links.result
-    e c.in-Some.ensures.numbers told.grown told.room told.positions kept (c.kind-kind.ensures ∙ sym e.head.kind) (omega (arith, c.len-at.ensures.len))
-    (λ x reads. c.in_ok-note_replaced.ensures.noted x (subst (λ xs. ReadsAs xs x) (sym c.deref.ensures.value) reads)) c.declare.ensures.each c.declare.ensures.count c.in_ok-push_entry.ensures.added (c.links_after-links.ensures s (sym c.kind-kind.ensures)) in
-    let statements = pushed-statements (names_in k) (labels_in k) k.positions.items k.symbols.items k.replaced.items k.entries k.links (names_in new) (labels_in new) new.positions.items new.symbols.items
-    c.declare.new.symbols.items c.note_replaced.new.replaced.items c.push_entry.new.entries c.links_after-links.result s (made h codes a) c.requires.stored.kept pushed in
+    let extended : IsExtended k new c.args.stmt.now h a codes c.kind-kind.result (c.len-at.result + 1) c.declare.new.symbols.items c.note_replaced.new.replaced.items c.push_entry.new.entries c.links_after-links.result = record {
+      grown = told.grown;
+      room = told.room;
+      positions = told.positions;
+      kept = kept;
+      of_kind = c.kind-kind.ensures ∙ sym e.head.kind;
+      place = omega (arith, c.len-at.ensures.len);
+      noted = λ x reads. c.in_ok-note_replaced.ensures.noted x (subst (λ xs. ReadsAs xs x) (sym c.deref.ensures.value) reads);
+      each = c.declare.ensures.each;
+      count = c.declare.ensures.count;
+      pushed = c.in_ok-push_entry.ensures.added;
+      linked = c.links_after-links.ensures s (sym c.kind-kind.ensures);
+    } in
+    let statements = pushed-statements e c.in-Some.ensures.numbers extended in
     record {
       stored = record {
-        kept = kept-pushed (names_in k) (labels_in k) k.positions.items k.symbols.items k.replaced.items k.entries k.links (names_in new) (labels_in new) new.positions.items new.symbols.items
-            c.declare.new.symbols.items c.note_replaced.new.replaced.items c.push_entry.new.entries c.links_after-links.result s (made h codes a) c.requires.stored.kept pushed;
+        kept = kept-pushed e c.in-Some.ensures.numbers extended;
         numbered = numbered-pushed k new c.args.stmt.now _ c.requires.stored told.numbering statements;
         ended = ends-next k s _ c.kind-kind.result new.links.block (c.len-at.result + 1) c.note_statement.new.ends.items c.note_end.new.ends.items c.requires.stored c.kind-kind.ensures (ap (λ l. l.block) told.grown.links)
             (omega (arith, c.len-at.ensures.len)) (c.in_ok-note_statement.ensures.added ∙ ap (λ v. v.items ++ 0 ∷ []) told.grown.ends) c.note_end.ensures statements;
       };
       added = statements;
+      numbers = added-numbers e c.in-Some.ensures.numbers extended;
       behind = tt;
     }

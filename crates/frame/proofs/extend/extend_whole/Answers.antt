@@ -1,7 +1,5 @@
-use Rattle.std.proofs.Common.{◌∙◌, ap, sym, take, arith}
-use Rattle.frame.specs.Stored.Counts.{IsBehind}
-use Rattle.frame.proofs.StoredTaken.{back-stored}
-use Rattle.entries.proofs.AddedStatement.{on-err}
+use Rattle.frame.proofs.Words.{◌∙◌, ap, sym, take, arith, IsBehind, on-err}
+use Rattle.frame.proofs.CutStorage.{back-stored}
 use Rattle.frame.proofs.extend.extend_whole.Goals as goal
 
 pub returns-then-is_err-clause-stored : goal.returns-then-is_err-clause-stored

@@ -1,21 +1,15 @@
-use Rattle.std.proofs.Common.{◌≡◌, ◌∙◌, sym, subst}
-use Rattle.std.proofs.lemmas.Option.{same_Some}
-use Rattle.frame.specs.Stored.Drafts.{drafted}
-use Rattle.frame.specs.Cited.{AreListsOf}
-use Rattle.frame.specs.Stored.Hypotheses.{AreHypotheses}
-use Rattle.frame.specs.Stored.EntryMeanings.{names_in, statements_of}
-use Rattle.entries.proofs.AddedStatement.{ok-weaker}
+use Rattle.frame.proofs.Words.{◌≡◌, ◌∙◌, ◌-◌, sym, subst, same_Some, before, is_hypothesis, drafted, AreListsOf, AreHypotheses, names_in, labels_in, statements_of, ok-weaker}
+use Rattle.frame.proofs.AssertionLemmas.{hypotheses-of, hypothesis-kinds}
 use Rattle.frame.proofs.CitedLemmas.{is-there}
-use Rattle.frame.proofs.GatheredHypotheses.{mandatory-are, spread-lists}
+use Rattle.frame.proofs.GatheredHypotheses.{spread-lists}
 use Rattle.frame.proofs.hypotheses.gather_at.Goals as goal
 
 pub spread-requires-clause-hypotheses : goal.spread-requires-clause-hypotheses
 spread-requires-clause-hypotheses c =
     let k = c.args.stock.now in
     let s = c.requires.assertion.0 in
-    let t = is-there k c.args.a s c.requires.stored c.requires.assertion.1 in
-    subst (AreHypotheses k.entries) (sym (c.in_ok-mandatory_at.ensures s c.requires.assertion.1.0))
-    (mandatory-are k c.args.a t.0 s t.1 c.requires.stored c.requires.assertion.1.1 t.2)
+    let T = before (statements_of k) c.args.a in
+    subst (AreHypotheses k.entries) (sym (c.in_ok-mandatory_at.ensures s c.requires.assertion.1.0)) (hypotheses-of (names_in k) (labels_in k) k.entries (c.args.a - 1) (is_hypothesis T s) (hypothesis-kinds T s))
 
 pub returns-clause-gathered : goal.returns-clause-gathered
 returns-clause-gathered c =

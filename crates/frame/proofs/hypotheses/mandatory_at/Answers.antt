@@ -1,34 +1,23 @@
-use Rattle.std.proofs.Common.{◌≡◌, ◌∙◌, ◌-◌, ap, sym, subst, arith, take}
-use Rattle.std.specs.Prelude.{◌++◌, slice_get}
-use Rattle.std.proofs.lemmas.Option.{same_Some}
-use Rattle.scope.specs.Active.{before}
-use Rattle.frame.specs.FrameOf.{hypotheses}
-use Rattle.frame.specs.Stored.Hypotheses.{AreWith}
-use Rattle.frame.specs.Stored.EntryMeanings.{statements_of}
-use Rattle.entries.proofs.AddedStatement.{ok-weaker}
+use Rattle.frame.proofs.Words.{◌≡◌, ◌∙◌, ◌-◌, ap, sym, subst, take, true, ◌++◌, same_Some, before, hypotheses, AreWith, statements_of, ok-weaker}
 use Rattle.frame.proofs.CitedLemmas.{is-there}
-use Rattle.frame.proofs.GatheredHypotheses.{mandatory-whole, mandatory-own}
+use Rattle.frame.proofs.GatheredHypotheses.{kept-by, mandatory-own}
 use Rattle.frame.proofs.hypotheses.mandatory_at.Goals as goal
 
 pub returns-then-is_whole : goal.returns-then-is_whole
 returns-then-is_whole c = λ s h.
     let k = c.args.stock.now in
     let t = is-there k c.args.a c.requires.assertion.0 c.requires.stored c.requires.assertion.1 in
-    let back : c.args.a - 1 ≡ t.0 = omega (arith, t.2.place) in
-    let here = ap (slice_get k.entries) back ∙ t.2.here in
-    let whole = sym (c.is_whole.ensures t.1 here) ∙ c.if-is_whole.true in
-    let list = c.in_ok-extend_from_slice.ensures.items ∙ (ap (λ xs. xs ++ c.hypotheses.result.now) c.requires.empty ∙ c.hypotheses.ensures t.1 here) in
+    let whole = sym (c.is_whole.ensures t.1 t.2.got) ∙ c.if-is_whole.true in
+    let list = c.in_ok-extend_from_slice.ensures.items ∙ (ap (λ xs. xs ++ c.hypotheses.result.now) c.requires.empty ∙ c.hypotheses.ensures t.1 t.2.got) in
     let same : c.requires.assertion.0 ≡ s = same_Some _ _ (sym c.requires.assertion.1.0 ∙ h) in
-    list ∙ (mandatory-whole k c.args.a t.0 c.requires.assertion.0 t.1 c.requires.stored c.requires.assertion.1.1 t.2 whole ∙ ap (hypotheses (before (statements_of k) c.args.a)) same)
+    list ∙ (kept-by k c.args.a t.0 c.requires.assertion.0 t.1 c.requires.stored c.requires.assertion.1.1 t.2 true whole ∙ ap (hypotheses (before (statements_of k) c.args.a)) same)
 
 pub returns-else-is_whole : goal.returns-else-is_whole
 returns-else-is_whole c = λ s h.
     let k = c.args.stock.now in
     let t = is-there k c.args.a c.requires.assertion.0 c.requires.stored c.requires.assertion.1 in
-    let back : c.args.a - 1 ≡ t.0 = omega (arith, t.2.place) in
-    let here = ap (slice_get k.entries) back ∙ t.2.here in
-    let own = sym (c.is_whole.ensures t.1 here) ∙ c.if-is_whole.false in
-    let list = c.in_ok-extend_from_slice.ensures.items ∙ (ap (λ xs. xs ++ c.hypotheses.result.now) c.requires.empty ∙ c.hypotheses.ensures t.1 here) in
+    let own = sym (c.is_whole.ensures t.1 t.2.got) ∙ c.if-is_whole.false in
+    let list = c.in_ok-extend_from_slice.ensures.items ∙ (ap (λ xs. xs ++ c.hypotheses.result.now) c.requires.empty ∙ c.hypotheses.ensures t.1 t.2.got) in
     let same : c.requires.assertion.0 ≡ s = same_Some _ _ (sym c.requires.assertion.1.0 ∙ h) in
     ok-weaker c.add_essentials.result _ _
     (λ w. mandatory-own k c.args.a t.0 c.requires.assertion.0 t.1 c.requires.stored c.requires.assertion.1.1 t.2 own c.add_essentials.new.list.items

@@ -1,5 +1,4 @@
-use Rattle.std.proofs.Common.{◌≡◌, ◌++◌, take}
-use Rattle.frame.specs.Stored.AssertionParts.{placed}
+use Rattle.frame.proofs.Words.{◌≡◌, ◌++◌, take, placed}
 use Rattle.frame.proofs.make.add_placed.Given as goal
 
 abbrev pub invariant-loop-code : goal.invariant-loop-code

@@ -1,7 +1,4 @@
-use Rattle.std.proofs.Common.{◌≡◌, take}
-use Rattle.std.specs.Prelude.{map}
-use Rattle.entries.specs.Hypotheses.{told}
-use Rattle.frame.specs.Stored.AssertionParts.{asked_at, head_at}
+use Rattle.frame.proofs.Words.{◌≡◌, take, map, told, asked_at, head_at}
 use Rattle.frame.proofs.make.describe.Given as goal
 
 abbrev pub invariant-loop-position : goal.invariant-loop-position

@@ -1,12 +1,6 @@
-use Rattle.std.proofs.Common.{◌-◌, ap, sym, subst, arith, take, refl, length}
-use Rattle.frame.specs.Links.{actives, is_disj}
-use Rattle.entries.specs.Stored.Spans.{cut, AreSpansIn}
-use Rattle.frame.specs.Stored.EntryMeanings.{names_in, labels_in, statements_of, stmt_of}
-use Rattle.frame.specs.Stored.AssertionParts.{placed, option_symbols, has_two}
-use Rattle.entries.specs.Entries.{seen}
+use Rattle.frame.proofs.Words.{◌-◌, ap, sym, subst, arith, take, length, actives, is_disj, cut, AreSpansIn, names_in, labels_in, statements_of, stmt_of, option_symbols, seen, spans-reverse}
 use Rattle.frame.proofs.KindWalk.{walked, walk-from, walk-step, disjoint_chain}
 use Rattle.frame.proofs.MakeLemmas.{AreGroups, groups-step, groups-start, groups-end}
-use Rattle.entries.proofs.SpanLemmas.{spans-reverse}
 use Rattle.frame.proofs.make.groups.Goals as goal
 
 pub loop-last-init : goal.loop-last-init
@@ -30,12 +24,11 @@ loop-last-preserved c =
     let s = walk-step e disjoint_chain c.requires.stored c.loop-last.invariant.at c.loop-last-test.true c.entry-entry.ensures.1 in
     let vs = c.args.variables.now in
     let all = actives is_disj (take (c.args.at - 1) (statements_of k)) in
-    let group = placed vs e.symbols in
+    let rest = walked is_disj k c.entry-entry.result.links.disjoint in
     record {
       at = s.at;
-      found = subst (AreGroups k.entries vs all (walked is_disj k c.entry-entry.result.links.disjoint)) (sym c.in_ok-add_group.ensures.added)
-          (groups-step k.entries vs all (walked is_disj k c.loop-last.last) (walked is_disj k c.entry-entry.result.links.disjoint) c.loop-last.last (stmt_of (names_in k) (labels_in k) e) (cut c.loop-last.places.items c.loop-last.groups.items) group
-          s.list (ap (placed vs) (ap option_symbols (sym c.entry-entry.ensures.1))) c.loop-last.invariant.found (has_two group) refl);
+      found = subst (AreGroups k.entries vs all rest) (sym c.in_ok-add_group.ensures.added)
+          (groups-step k.entries vs all (walked is_disj k c.loop-last.last) rest c.loop-last.last (stmt_of (names_in k) (labels_in k) e) (cut c.loop-last.places.items c.loop-last.groups.items) e.symbols s.list (ap option_symbols c.entry-entry.ensures.1) c.loop-last.invariant.found);
       within = c.in_ok-add_group.ensures.within;
     }
 

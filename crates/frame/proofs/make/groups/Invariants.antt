@@ -1,8 +1,4 @@
-use Rattle.std.proofs.Common.{length}
-use Rattle.scope.specs.Active.{before}
-use Rattle.frame.specs.Links.{actives, is_disj}
-use Rattle.entries.specs.Stored.Spans.{cut, AreSpansIn}
-use Rattle.frame.specs.Stored.EntryMeanings.{statements_of}
+use Rattle.frame.proofs.Words.{length, before, actives, is_disj, cut, AreSpansIn, statements_of}
 use Rattle.frame.proofs.KindWalk.{IsAt, walked}
 use Rattle.frame.proofs.MakeLemmas.{AreGroups}
 use Rattle.frame.proofs.make.groups.Given as goal

@@ -1,6 +1,4 @@
-use Rattle.std.proofs.Common.{◌≡◌, take}
-use Rattle.std.specs.Prelude.{map}
-use Rattle.frame.specs.Stored.AssertionParts.{variable_at}
+use Rattle.frame.proofs.Words.{◌≡◌, take, map, variable_at}
 use Rattle.frame.proofs.make.variables.Given as goal
 
 abbrev pub invariant-loop-position : goal.invariant-loop-position

@@ -1,7 +1,4 @@
-use Rattle.std.specs.Prelude.{map}
-use Rattle.scope.specs.Active.{before, is_essential}
-use Rattle.frame.specs.Links.{actives}
-use Rattle.frame.specs.Stored.EntryMeanings.{statements_of}
+use Rattle.frame.proofs.Words.{map, before, is_essential, actives, statements_of, IsWith}
 use Rattle.frame.proofs.KindWalk.{IsAt, walked}
 use Rattle.frame.proofs.CollectLemmas.{HasLeft}
 use Rattle.frame.proofs.mandatory.add_essentials.Given as goal
@@ -9,7 +6,7 @@ use Rattle.frame.proofs.mandatory.add_essentials.Given as goal
 abbrev pub invariant-loop-essential : goal.invariant-loop-essential
 invariant-loop-essential l = record {
   at : IsAt is_essential l.stock l.essential;
-  left : HasLeft l.stock.entries (map (λ q. q.0) (actives is_essential (before (statements_of l.stock) l.fn.at))) (map (λ q. q.0) (walked is_essential l.stock l.essential)) l.fn.list.items l.list.items;
+  left : HasLeft (IsWith l.stock.entries) (map (λ q. q.0) (actives is_essential (before (statements_of l.stock) l.fn.at))) (map (λ q. q.0) (walked is_essential l.stock l.essential)) l.fn.list.items l.list.items;
 }
 
 abbrev pub decreases-loop-essential : goal.decreases-loop-essential

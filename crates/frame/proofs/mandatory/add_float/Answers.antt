@@ -1,7 +1,4 @@
-use Rattle.std.proofs.Common.{◌∙◌, ap, sym, subst, arith, refl}
-use Rattle.std.proofs.lemmas.List.{length-map}
-use Rattle.frame.specs.Stored.EntryMeanings.{names_in, labels_in, statements_of, stmt_of}
-use Rattle.frame.specs.Stored.Hypotheses.{AreLooked}
+use Rattle.frame.proofs.Words.{◌∙◌, ap, sym, subst, arith, refl, length-map, names_in, labels_in, statements_of, stmt_of, AreLooked}
 use Rattle.frame.proofs.CollectLemmas.{index-is, float-stands, float-more, looked-more}
 use Rattle.frame.proofs.mandatory.add_float.Goals as goal
 

@@ -1,5 +1,4 @@
-use Rattle.std.proofs.Common.{◌∙◌, ap}
-use Rattle.frame.specs.Stored.OneFrame.{AreMandatory, asked, groups_among}
+use Rattle.frame.proofs.Words.{◌∙◌, ap, AreMandatory, asked, groups_among}
 use Rattle.frame.proofs.OneFrameLemmas.{asked-hypotheses, groups-mandatory, same-parts}
 use Rattle.frame.proofs.one_frame.frame.Goals as goal
 

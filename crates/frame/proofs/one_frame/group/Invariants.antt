@@ -1,6 +1,5 @@
-use Rattle.std.proofs.Common.{◌≡◌, ◌++◌}
+use Rattle.frame.proofs.Words.{◌≡◌, ◌++◌, among}
 use Rattle.mm_lex.specs.Words.{AreWords}
-use Rattle.frame.specs.Stored.OneFrame.{among}
 use Rattle.frame.proofs.one_frame.group.Given as goal
 
 abbrev pub invariant-loop-name : goal.invariant-loop-name

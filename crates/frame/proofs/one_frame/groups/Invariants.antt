@@ -1,5 +1,4 @@
-use Rattle.std.proofs.Common.{◌≡◌, ◌++◌, drop}
-use Rattle.frame.specs.Stored.OneFrame.{groups_among}
+use Rattle.frame.proofs.Words.{◌≡◌, ◌++◌, drop, groups_among}
 use Rattle.frame.proofs.one_frame.groups.Given as goal
 
 abbrev pub invariant-loop-entry : goal.invariant-loop-entry

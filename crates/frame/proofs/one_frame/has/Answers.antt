@@ -1,5 +1,4 @@
-use Rattle.std.proofs.Common.{◌∙◌, ap}
-use Rattle.std.specs.Prelude.{is_some}
+use Rattle.std.proofs.Common.{◌∙◌, ap, is_some}
 use Rattle.frame.proofs.OneFrameLemmas.{code-has}
 use Rattle.frame.proofs.one_frame.has.Goals as goal
 

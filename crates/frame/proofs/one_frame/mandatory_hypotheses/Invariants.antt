@@ -1,5 +1,4 @@
-use Rattle.std.proofs.Common.{◌≡◌, ◌++◌, drop}
-use Rattle.frame.specs.Stored.OneFrame.{asked}
+use Rattle.frame.proofs.Words.{◌≡◌, ◌++◌, drop, asked}
 use Rattle.frame.proofs.one_frame.mandatory_hypotheses.Given as goal
 
 abbrev pub invariant-loop-entry : goal.invariant-loop-entry

@@ -1,8 +1,4 @@
-use Rattle.std.proofs.Common.{◌≡◌, ◌∙◌, ap, ◌||◌, ◌&&◌, false}
-use Rattle.std.specs.List.{list_any}
-use Rattle.mm_lex.specs.Alphabet.{has_name}
-use Rattle.scope.specs.Active.{is_variable, expr_of}
-use Rattle.frame.specs.Stored.OneFrame.{is_in_essential}
+use Rattle.frame.proofs.Words.{◌≡◌, ◌∙◌, ap, ◌||◌, ◌&&◌, false, list_any, has_name, is_variable, expr_of, is_in_essential}
 use Rattle.frame.proofs.OneFrameLemmas.{noted-start}
 use Rattle.frame.proofs.one_frame.mandatory_variables.Goals as goal
 

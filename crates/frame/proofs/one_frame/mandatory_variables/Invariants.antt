@@ -1,9 +1,4 @@
-use Rattle.std.proofs.Common.{◌≡◌, ◌||◌, ◌&&◌, drop}
-use Rattle.std.specs.List.{list_any}
-use Rattle.mm_lex.specs.Alphabet.{Name, has_name}
-use Rattle.scope.specs.Active.{is_variable}
-use Rattle.frame.specs.FrameOf.{is_mandatory}
-use Rattle.frame.specs.Stored.OneFrame.{is_in_essential}
+use Rattle.frame.proofs.Words.{◌≡◌, ◌||◌, ◌&&◌, drop, list_any, Name, has_name, is_variable, is_mandatory, is_in_essential}
 use Rattle.frame.proofs.one_frame.mandatory_variables.Given as goal
 
 abbrev pub invariant-loop-entry : goal.invariant-loop-entry

@@ -1,6 +1,4 @@
-use Rattle.std.proofs.Common.{◌≡◌, ◌||◌, ◌&&◌}
-use Rattle.mm_lex.specs.Alphabet.{Name, has_name}
-use Rattle.scope.specs.Active.{is_variable}
+use Rattle.frame.proofs.Words.{◌≡◌, ◌||◌, ◌&&◌, Name, has_name, is_variable}
 use Rattle.frame.proofs.one_frame.note_variables.Given as goal
 
 abbrev pub invariant-loop-symbol : goal.invariant-loop-symbol

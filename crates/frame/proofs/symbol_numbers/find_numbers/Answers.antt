@@ -1,10 +1,4 @@
-use Rattle.std.proofs.Common.{◌∙◌, ◌∷◌, [], ap, sym, subst, refl, Option, List, ℕ}
-use Rattle.mm_read.specs.declared.stmt.Stmt.{Stmt}
-use Rattle.mm_read.specs.Statements.{Expr}
-use Rattle.names.specs.Codes.{with_names}
-use Rattle.scope.specs.Kinds.{declared_symbols}
-use Rattle.scope.specs.Stored.Noted.{AreNoted}
-use Rattle.scope.specs.Symbols.{symbols_by, symbols_in}
+use Rattle.frame.proofs.Words.{◌∙◌, ◌∷◌, [], ap, sym, subst, refl, Option, List, ℕ, Stmt, Expr, with_names, declared_symbols, AreNoted, symbols_by, symbols_in}
 use Rattle.frame.proofs.symbol_numbers.find_numbers.Goals as goal
 
 pub returns-in-Float : goal.returns-in-Float
@@ -12,7 +6,7 @@ returns-in-Float c =
     let N = declared_symbols c.args.numbering.now in
     let last = c.note_symbol-in-Float.new.noted in
     let a = c.as_bytes.result.now in
-    let none = subst (λ (o : Option (List ℕ)). AreNoted N [] o) (sym c.begin-in-Float.ensures) (refl, refl) in
+    let none = subst (λ (o : Option (List ℕ)). AreNoted N [] o) (sym c.begin.ensures) (refl, refl) in
     let both = c.note_symbol-in-Float.ensures (a ∷ []) (c.note_symbol.ensures [] none) in
     subst (λ (s : Stmt). AreNoted (with_names N (symbols_by s)) (symbols_in s) last) (sym c.in-Float.is)
     (subst (λ (xs : Expr). AreNoted N xs last) (ap (λ x. x ∷ c.as_bytes-in-Float.result.now ∷ []) c.as_bytes.ensures.bytes ∙ ap (λ x. c.in-Float.constant ∷ x ∷ []) c.as_bytes-in-Float.ensures.bytes) both)

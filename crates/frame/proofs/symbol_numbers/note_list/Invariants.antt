@@ -1,5 +1,4 @@
-use Rattle.scope.specs.Kinds.{declared_symbols}
-use Rattle.scope.proofs.SymbolNameLemmas.{AreDone}
+use Rattle.frame.proofs.Words.{declared_symbols, AreDone}
 use Rattle.frame.proofs.symbol_numbers.note_list.Given as goal
 
 abbrev pub invariant-loop-word : goal.invariant-loop-word

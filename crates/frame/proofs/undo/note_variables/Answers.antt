@@ -1,7 +1,6 @@
-use Rattle.std.proofs.Common.{◌∙◌, ◌++◌, [], ◌∷◌, ap, arith, refl, append_assoc, length, get_or}
+use Rattle.frame.proofs.Words.{◌∙◌, ◌++◌, [], ◌∷◌, ap, arith, refl, append_assoc, length, get_or, Symbol}
 use Rattle.frame.proofs.ApartLemmas.{below-at}
-use Rattle.frame.specs.declared.storage.Symbol.{Symbol}
-use Rattle.frame.proofs.UndoLemmas.{note-more}
+use Rattle.frame.proofs.DeclareLemmas.{note-more}
 use Rattle.frame.proofs.undo.note_variables.Goals as goal
 
 pub bounds-symbols-code : goal.bounds-symbols-code

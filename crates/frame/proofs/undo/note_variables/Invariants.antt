@@ -1,8 +1,4 @@
-use Rattle.std.proofs.Common.{◌≡◌, ◌++◌, ℕ, take}
-use Rattle.std.specs.Prelude.{map}
-use Rattle.frame.specs.declared.storage.Symbol.{Symbol}
-use Rattle.entries.specs.Stored.Spans.{Extends}
-use Rattle.frame.specs.Stored.EntryMeanings.{ReadsAs}
+use Rattle.frame.proofs.Words.{◌≡◌, ◌++◌, ℕ, take, map, Symbol, Extends, ReadsAs}
 use Rattle.frame.proofs.undo.note_variables.Given as goal
 
 abbrev pub invariant-loop-code : goal.invariant-loop-code

@@ -1,4 +1,4 @@
-use Rattle.frame.proofs.UndoLemmas.{restored-variables}
+use Rattle.frame.proofs.DeclareLemmas.{restored-variables}
 use Rattle.frame.proofs.undo.restore.Goals as goal
 
 pub returns-in-Var-clause-symbols : goal.returns-in-Var-clause-symbols

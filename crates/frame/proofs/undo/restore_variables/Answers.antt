@@ -1,8 +1,4 @@
-use Rattle.std.proofs.Common.{◌∙◌, ap, sym, arith, length, take, get_or}
-use Rattle.std.specs.Prelude.{Some, nat_eq}
-use Rattle.std.specs.List.{list_any}
-use Rattle.std.proofs.lemmas.List.{get_or-map, length-set, take_all}
-use Rattle.std.proofs.lemmas.List.Folds.{list_any_more}
+use Rattle.frame.proofs.Words.{◌∙◌, ap, sym, arith, length, take, get_or, Some, nat_eq, list_any, get_or-map, length-set, take_all, list_any_more}
 use Rattle.frame.proofs.ApartLemmas.{below-at}
 use Rattle.frame.proofs.DeclareLemmas.{noted, note-step}
 use Rattle.frame.proofs.undo.restore_variables.Goals as goal

@@ -1,7 +1,4 @@
-use Rattle.std.proofs.Common.{◌≡◌, ℕ, length, take}
-use Rattle.std.specs.Prelude.{map, slice_get, nat_eq, Some}
-use Rattle.std.specs.List.{list_any}
-use Rattle.frame.specs.declared.storage.Symbol.{Symbol}
+use Rattle.frame.proofs.Words.{map, slice_get, nat_eq, Some, ◌≡◌, ℕ, length, take, list_any, Symbol}
 use Rattle.frame.proofs.DeclareLemmas.{noted}
 use Rattle.frame.proofs.undo.restore_variables.Given as goal
 

@@ -1,16 +1,8 @@
-use Rattle.std.proofs.Common.{◌≡◌, ◌+◌, ◌-◌, ◌∙◌, ap, sym, subst, arith, refl, append-nil, length, length-append, take}
-use Rattle.std.proofs.lemmas.List.{take_all}
-use Rattle.std.specs.Prelude.{[], ◌∷◌, Some}
-use Rattle.frame.specs.Below.{AreBelow}
-use Rattle.entries.specs.Entries.{seen}
-use Rattle.entries.specs.Stored.Spans.{Extends}
-use Rattle.frame.specs.Stored.EntryMeanings.{ReadsAs, replaced_of, symbol_of}
-use Rattle.frame.specs.Stored.Ends.{TellEnds}
+use Rattle.frame.proofs.Words.{◌≡◌, ◌+◌, ◌-◌, ◌∙◌, ap, sym, subst, arith, refl, append-nil, length, length-append, take, take_all, [], ◌∷◌, Some, AreBelow, seen, Extends, ReadsAs, replaced_of, symbol_of, TellEnds}
 use Rattle.frame.proofs.EndLemmas.{block-fits, ends-taken, length-with}
-use Rattle.frame.proofs.DeclareLemmas.{symbol_of-push}
+use Rattle.frame.proofs.DeclareLemmas.{symbol_of-push, left, replaced_of-push}
 use Rattle.frame.proofs.StoredOneMore.{numbered-at}
 use Rattle.frame.proofs.StoredReading.{two-of}
-use Rattle.frame.proofs.UndoLemmas.{left, replaced_of-push}
 use Rattle.frame.proofs.undo.take_away.Goals as goal
 
 pub take_back-requires-clause-below : goal.take_back-requires-clause-below

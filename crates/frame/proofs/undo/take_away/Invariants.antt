@@ -1,8 +1,4 @@
-use Rattle.std.proofs.Common.{◌≡◌, ◌≤◌, length, take}
-use Rattle.mm_read.specs.Statements.{Database}
-use Rattle.frame.specs.Stored.Ends.{AreBlocks, TellEnds}
-use Rattle.entries.specs.Stored.Spans.{Extends}
-use Rattle.frame.specs.Stored.EntryMeanings.{ReadsAs, replaced_of, symbol_of}
+use Rattle.frame.proofs.Words.{◌≡◌, ◌≤◌, length, take, Database, AreBlocks, TellEnds, Extends, ReadsAs, replaced_of, symbol_of}
 use Rattle.frame.proofs.undo.take_away.Given as goal
 
 abbrev pub invariant-loop-entries : goal.invariant-loop-entries

@@ -1,6 +1,5 @@
-use Rattle.std.proofs.Common.{arith}
-use Rattle.frame.specs.Stored.EntryMeanings.{replaced_by}
-use Rattle.frame.proofs.UndoLemmas.{noted-last}
+use Rattle.frame.proofs.Words.{arith, replaced_by}
+use Rattle.frame.proofs.DeclareLemmas.{noted-last}
 use Rattle.frame.proofs.undo.take_back.Goals as goal
 
 pub returns-clause-symbols : goal.returns-clause-symbols

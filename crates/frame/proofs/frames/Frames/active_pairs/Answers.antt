@@ -1,17 +1,9 @@
-use Rattle.std.proofs.Common.{ap, sym, subst, ◌≤◌, length}
-use Rattle.frame.specs.Parts.{Numbered}
-use Rattle.frame.specs.AtPosition.{AreLegal}
 use Rattle.frame.proofs.CitedLemmas.{all-legal}
 use Rattle.frame.proofs.DeclaredSymbolLemmas.{stored-distinct}
 use Rattle.frame.proofs.frames.Frames.active_pairs.Goals as goal
 
 pub returns-clause-legal : goal.returns-clause-legal
-returns-clause-legal c = subst (λ (v : Numbered). AreLegal v.statements v.names) c.self.view_is (all-legal c.self.inside.stock c.self.invariant)
+returns-clause-legal c = rw (← c.self.view_is) (all-legal c.self.inside.stock c.self.invariant)
 
 pub invariant_of-result : goal.invariant_of-result
-invariant_of-result c = (
-  c.self.invariant,
-  stored-distinct c.self.inside.stock c.self.invariant,
-  c.requires.0,
-  subst (λ S. c.args.at ≤ length S) (sym (ap (λ v. v.statements) c.self.view_is)) c.requires.1,
-)
+invariant_of-result c = (c.self.invariant, stored-distinct c.self.inside.stock c.self.invariant, c.requires.0, rw (← c.self.view_is) at c.requires.1)

@@ -1,11 +1,14 @@
-use Rattle.std.proofs.Common.{◌∙◌, ap, subst}
-use Rattle.std.specs.Prelude.{IfSome}
-use Rattle.scope.specs.Active.{stmt_at}
-use Rattle.frame.specs.Parts.{Numbered}
-use Rattle.frame.specs.Cited.{IsCited}
+use Rattle.frame.proofs.Words.{◌≡◌, ◌∙◌, ◌-◌, ap, sym, subst, arith, IsTrue, slice_get, same_Some, is_assertion, AreWhole, IsCited, names_in, statements_of}
+use Rattle.frame.proofs.CitedLemmas.{is-there, there-cited}
+use Rattle.frame.proofs.GatheredHypotheses.{some-map}
 use Rattle.frame.proofs.frames.Frames.cited.Goals as goal
 
 pub returns : goal.returns
 returns c = λ s h.
-    subst (λ (v : Numbered). IfSome c.cited_at.result (IsCited v.statements v.names c.args.a s)) c.self.view_is
-    (c.cited_at.ensures s (ap (λ (v : Numbered). stmt_at v.statements c.args.a) c.self.view_is ∙ h))
+    let k = c.self.inside.stock in
+    let asserts : IsTrue (is_assertion s) = subst (λ r. IsTrue (is_assertion r)) (same_Some _ _ (sym c.requires.1.0 ∙ h)) c.requires.1.1 in
+    let t = is-there k c.args.a s c.self.invariant (rw (← c.self.view_is) at h, asserts) in
+    let back : c.args.a - 1 ≡ t.0 = omega (arith, t.2.place) in
+    rw (← c.self.view_is)
+    (some-map c.cited.result (AreWhole t.1) (IsCited (statements_of k) (names_in k) c.args.a s) (λ x p. there-cited k c.args.a t.0 s t.1 x c.self.invariant asserts t.2 p)
+    (c.cited.ensures t.1 (ap (slice_get k.entries) back ∙ t.2.here)))

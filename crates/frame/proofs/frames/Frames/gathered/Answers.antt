@@ -1,16 +1,12 @@
-use Rattle.std.proofs.Common.{◌∙◌, ap, sym, subst}
-use Rattle.scope.specs.Active.{stmt_at}
-use Rattle.frame.specs.Stored.Drafts.{drafted}
-use Rattle.frame.specs.Cited.{IsCited, IsGathered}
-use Rattle.frame.specs.Parts.{Numbered}
+use Rattle.frame.proofs.Words.{◌∙◌, ap, refl, map, told, cut, drafted, names_in, statements_of}
+use Rattle.frame.proofs.KeptStatementLemmas.{lists-cited}
 use Rattle.frame.proofs.frames.Frames.gathered.Goals as goal
-
-pub gathered_at-requires-clause-gathered : goal.gathered_at-requires-clause-gathered
-gathered_at-requires-clause-gathered c =
-    subst (λ (v : Numbered). IsGathered v.statements v.names c.args.a (drafted c.gathered.inside.draft)) (sym c.self.view_is)
-    (subst (IsGathered c.args.self.now.statements c.args.self.now.names c.args.a) (sym c.gathered.view_is) c.requires.gathered)
 
 pub returns : goal.returns
 returns c = λ s h.
-    subst (λ (v : Numbered). IsCited v.statements v.names c.args.a s c.gathered_at.result) c.self.view_is
-    (c.gathered_at.ensures s (ap (λ (v : Numbered). stmt_at v.statements c.args.a) c.self.view_is ∙ h))
+    let k = c.self.inside.stock in
+    let draft = c.gathered.inside.draft in
+    let here = rw (← c.self.view_is) at h in
+    rw (← c.self.view_is)
+    (lists-cited (statements_of k) (names_in k) c.args.a s (drafted draft) c.expr_at.result.now ((rw (← c.self.view_is, ← c.gathered.view_is) at c.requires.gathered) s here) (c.expr_at.ensures.same s here) c.expr_at.ensures.codes _
+    c.deref.ensures.value (c.new.ensures ∙ ap (map told) c.deref-2.ensures.value) refl (c.new-2.ensures ∙ (ap (λ xs. cut xs c.deref-3.result.now) c.deref-4.ensures.value ∙ ap (cut draft.places.items) c.deref-3.ensures.value)))

@@ -1,6 +1,3 @@
-use Rattle.std.proofs.Common.{subst}
-use Rattle.frame.specs.Parts.{Numbered}
-use Rattle.frame.specs.AtPosition.{AreLegal}
 use Rattle.frame.proofs.CitedLemmas.{all-legal}
 use Rattle.frame.proofs.PositionLemmas.{positions-more}
 use Rattle.frame.proofs.frames.Frames.positions.Goals as goal
@@ -11,7 +8,7 @@ loop-label-preserved c =
     c.loop-label.invariant c.in_ok-push.ensures.items c.position.ensures
 
 pub returns-in_err-push-clause-legal : goal.returns-in_err-push-clause-legal
-returns-in_err-push-clause-legal c = subst (λ (v : Numbered). AreLegal v.statements v.names) c.self.view_is (all-legal c.self.inside.stock c.self.invariant)
+returns-in_err-push-clause-legal c = rw (← c.self.view_is) (all-legal c.self.inside.stock c.self.invariant)
 
 pub returns-clause-legal : goal.returns-clause-legal
-returns-clause-legal c = subst (λ (v : Numbered). AreLegal v.statements v.names) c.self.view_is (all-legal c.self.inside.stock c.self.invariant)
+returns-clause-legal c = rw (← c.self.view_is) (all-legal c.self.inside.stock c.self.invariant)

@@ -1,5 +1,4 @@
-use Rattle.std.proofs.Common.{map}
-use Rattle.frame.specs.AtPosition.{ArePositions}
+use Rattle.frame.proofs.Words.{map, ArePositions}
 use Rattle.frame.proofs.frames.Frames.positions.Given as goal
 
 abbrev pub invariant-loop-label : goal.invariant-loop-label

@@ -1,8 +1,4 @@
-use Rattle.std.proofs.Common.{◌≡◌, ◌∙◌, sym, ap, true}
-use Rattle.std.specs.Prelude.{not}
-use Rattle.names.specs.Codes.{decode}
-use Rattle.frame.specs.Parts.{Numbered}
-use Rattle.frame.specs.Covers.{are_covered}
+use Rattle.frame.proofs.Words.{◌≡◌, ◌∙◌, sym, ap, true, not, decode, Numbered, are_covered}
 use Rattle.frame.proofs.ApartLemmas.{covered-apart}
 use Rattle.frame.proofs.pairs.Pairs.apart.Goals as goal
 

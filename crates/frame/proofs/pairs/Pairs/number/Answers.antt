@@ -1,12 +1,4 @@
-use Rattle.std.specs.Prelude.{◌≡◌, ℕ, ◌-◌, false, List, Option, Some, None, IfSome, IfNone, length}
-use Rattle.std.proofs.Common.{◌∙◌, sym, ap, true≢false}
-use Rattle.mm_lex.specs.Alphabet.{Name, has_name}
-use Rattle.scope.specs.Active.{is_variable}
-use Rattle.scope.specs.Kinds.{IsNumberOf}
-use Rattle.names.specs.Codes.{code_of, AreDistinct}
-use Rattle.frame.specs.Parts.{Numbered}
-use Rattle.frame.specs.Stored.EntryMeanings.{names_in, labels_in, statements_of}
-use Rattle.names.proofs.CodesLemmas.{code-at, code-absent, has-at}
+use Rattle.frame.proofs.Words.{◌∙◌, sym, ap, true≢false, ◌≡◌, ℕ, ◌-◌, false, List, Option, Some, None, IfSome, IfNone, length, Name, has_name, is_variable, IsNumberOf, code_of, AreDistinct, Numbered, names_in, labels_in, statements_of, code-at, code-absent, has-at}
 use Rattle.frame.proofs.DeclaredSymbolLemmas.{no-number}
 use Rattle.frame.proofs.NamingLemmas.{stored-naming}
 use Rattle.frame.proofs.PairsLemmas.{unnamed-none}

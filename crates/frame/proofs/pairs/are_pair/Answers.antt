@@ -1,20 +1,18 @@
-use Rattle.std.proofs.Common.{◌≡◌, ◌∙◌, ◌-◌, ◌<◌, ap, sym, arith, length, take, refl, ℕ}
-use Rattle.std.specs.Prelude.{Bool, ◌&&◌, ◌==◌, List}
-use Rattle.std.specs.List.{list_any}
-use Rattle.mm_lex.specs.Alphabet.{Name, has_name}
-use Rattle.names.specs.Codes.{name_at, decode, AreDistinct}
-use Rattle.frame.specs.Below.{AreBelow}
-use Rattle.frame.specs.Stored.EntryMeanings.{names_in, statements_of}
-use Rattle.frame.proofs.KindWalk.{has-decode, walk-step, disjoint_chain, disjoint_lists, sought-start, any-active, sought-found, sought-step}
-use Rattle.entries.specs.Entries.{seen}
-use Rattle.frame.proofs.pairs.stand_together.Goals as goal
+use Rattle.frame.proofs.Words.{◌≡◌, ◌∙◌, ◌-◌, ◌<◌, ap, sym, arith, length, take, refl, ℕ, Bool, ◌&&◌, ◌==◌, not, nat_eq, false, List, list_any, Name, has_name, Stmt, active, separated, name_at, decode, AreDistinct, list_any-map, AreBelow, groups, names_in, statements_of, seen}
+use Rattle.frame.proofs.KindWalk.{same-number, has-decode, walk-step, disjoint_chain, disjoint_lists, sought-start, any-active, sought-found, sought-step}
+use Rattle.frame.proofs.pairs.are_pair.Goals as goal
 
 pub loop-last-init : goal.loop-last-init
 loop-last-init c =
     let k = c.args.stock.now in
     let n = c.requires.place in
+    let r = c.requires.names in
+    let T = take (c.args.at - 1) (statements_of k) in
+    let both = λ (names : List Name). has_name (name_at (names_in k) c.args.x) names && has_name (name_at (names_in k) c.args.y) names in
+    let differ : nat_eq c.args.x c.args.y ≡ false = grind (arith, c.if-x-y.false) in
     sought-start k (c.args.at - 1) c.links_at-last.result disjoint_chain (omega (arith, n.0, n.1)) c.links_at-last.ensures
-    (any-active (λ names. has_name (name_at (names_in k) c.args.x) names && has_name (name_at (names_in k) c.args.y) names) (take (c.args.at - 1) (statements_of k)) disjoint_lists refl)
+    (any-active both T disjoint_lists refl ∙ (list_any-map (λ (p : ℕ × Stmt). separated p.1) both (active T)
+    ∙ ap (λ b. not b && list_any both (groups T)) (sym differ ∙ same-number (names_in k) c.args.x c.args.y r.2 r.0 r.1)))
 
 -- what the test of the code says of the names
 told : (names : List Name) (x y : ℕ) (codes : List ℕ) (a b : Bool) → (x < length names) × (y < length names) × AreDistinct names → AreBelow (length names) codes → a ≡ (list_any (λ c. x == c) codes && list_any (λ c. y == c) codes) → a ≡ b

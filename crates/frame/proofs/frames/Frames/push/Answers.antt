@@ -1,14 +1,10 @@
-use Rattle.std.proofs.Common.{subst}
-use Rattle.scope.specs.Active.{bare}
-use Rattle.entries.specs.Stored.Spans.{Extends}
-use Rattle.frame.specs.Parts.{Numbered}
-use Rattle.frame.specs.Stored.EntryMeanings.{names_in, statements_of}
+use Rattle.frame.proofs.Words.{bare, names_in, statements_of}
 use Rattle.frame.proofs.NamingLemmas.{names-later}
-use Rattle.frame.proofs.frames.Frames.keep.Goals as goal
+use Rattle.frame.proofs.frames.Frames.push.Goals as goal
 
 pub returns-clause-names : goal.returns-clause-names
 returns-clause-names c =
     let old = c.self.inside.stock in let new = c.extend_whole.new.stock in
-    subst (λ (v : Numbered). Extends v.names (names_in new)) c.self.view_is
+    rw (← c.self.view_is)
     (names-later c.extend_whole.result (statements_of old) (bare c.args.stmt.now) (statements_of new) (names_in old) (names_in new) c.self.invariant.kept.names_kept c.extend_whole.ensures.stored.kept.names_kept
     c.extend_whole.ensures.added c.extend_whole.ensures.same)

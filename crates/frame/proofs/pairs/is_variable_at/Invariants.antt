@@ -1,11 +1,6 @@
-use Rattle.std.specs.List.{list_any}
-use Rattle.mm_lex.specs.Alphabet.{has_name}
-use Rattle.scope.specs.Active.{active, before, variables}
-use Rattle.names.specs.Codes.{name_at}
-use Rattle.frame.specs.Links.{is_var}
-use Rattle.frame.specs.Stored.EntryMeanings.{names_in, statements_of}
+use Rattle.frame.proofs.Words.{list_any, has_name, active, before, variables, name_at, is_var, names_in, statements_of}
 use Rattle.frame.proofs.KindWalk.{IsSought}
-use Rattle.frame.proofs.pairs.is_listed_at.Given as goal
+use Rattle.frame.proofs.pairs.is_variable_at.Given as goal
 
 abbrev pub invariant-loop-last : goal.invariant-loop-last
 invariant-loop-last l =

@@ -1,0 +1,14 @@
+-- The words of the layers below in which this crate is specified, passed on from one place.
+pub use Rattle.entries.specs.Entries.{Assertion, Entry, partless}
+pub use Rattle.entries.specs.Stored.Spans.{AreSpansIn, Extends, cut}
+pub use Rattle.entries.specs.declared.cited_parts.Hypothesis.{Hypothesis}
+pub use Rattle.entries.specs.declared.kind.Kind.{Kind}
+pub use Rattle.entries.specs.declared.kind.Kind.TheVariants.{Axiom, Close, Const, Disj, Ess, Float, Open, Prove, Var}
+pub use Rattle.entries.specs.declared.links.Links.{Links}
+pub use Rattle.mm_lex.specs.Alphabet.{Name, has_name, name_eq}
+pub use Rattle.mm_read.specs.Statements.{Database, Expr}
+pub use Rattle.mm_read.specs.declared.stmt.Stmt.{Stmt}
+pub use Rattle.names.specs.Codes.{AreDistinct, decode, name_at}
+pub use Rattle.scope.specs.Active.{active, active_from, before, expr_of, is_active, is_assertion, is_close, is_essential, is_open, is_variable, label_of, separated, stays_open, stmt_at}
+pub use Rattle.scope.specs.Kinds.{Declared, declared_labels, declared_symbols, is_constant_kind, is_variable_kind}
+pub use Rattle.scope.specs.Symbols.{labels_of, symbols_of}
