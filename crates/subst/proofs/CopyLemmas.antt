@@ -1,14 +1,5 @@
 -- Symbols copied and written within one buffer.
-use Rattle.std.specs.Prelude.{◌≡◌, ℕ, ◌+◌, ◌-◌, ◌<◌, ◌≤◌, min, List, ◌++◌, length, take, drop, get_or}
-use Rattle.std.proofs.Common.{sym, ◌∙◌, ap, subst, arith, length-append, append_assoc, take-add}
-use Rattle.std.proofs.lemmas.List.{length-take-le, take-take, drop-drop, drop-take}
-use Rattle.std.proofs.Math.Seq.{take-append-add, take-append_seam}
-use Rattle.std.proofs.lemmas.Simd.{take_more_put_chunk, length-chunk}
-use lib.Lanes.{chunk, put_chunk}
-use Rattle.frame.specs.Substitution.{code_image, code_apply}
-use Rattle.subst.specs.declared.expression_place.ExpressionPlace.{ExpressionPlace}
-use Rattle.subst.specs.ExpressionPlaces.{seen_at, images_at, AreInside}
-use Rattle.subst.specs.Stored.Written.{IsWritten, LacksRoom}
+use Rattle.subst.proofs.Words.{◌≡◌, ℕ, ◌+◌, ◌-◌, ◌<◌, ◌≤◌, min, List, ◌++◌, length, take, drop, get_or, sym, ◌∙◌, ap, subst, arith, length-append, append_assoc, take-add, length-take-le, take-take, drop-drop, drop-take, take-append-add, take-append_seam, take_more_put_chunk, length-chunk, chunk, put_chunk, code_image, code_apply, ExpressionPlace, seen_at, images_at, AreInside, IsWritten, LacksRoom}
 use Rattle.subst.proofs.WrittenImages.{apply-take, len-take, len-within}
 use Rattle.subst.proofs.ExpressionPlaceLemmas.{length-seen}
 use Rattle.subst.proofs.ImagePlacesLemmas.{image-more}

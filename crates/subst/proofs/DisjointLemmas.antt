@@ -1,19 +1,7 @@
 -- The test of the pair clause holds exactly where its two sentences do.
-use Rattle.std.specs.Prelude.{◌≡◌, Bool, true, false, not, ◌&&◌, ◌||◌, List, [], ◌∷◌, refl}
-use Rattle.std.specs.List.{list_all, list_any}
-use Rattle.std.proofs.Common.{sym, ◌∙◌, ap, true≢false}
-use Rattle.std.proofs.lemmas.Bool.{and_parts, and_from, not-true, or_left, or_right, not_from_false, false_from_ne_true}
-use Rattle.mm_lex.specs.Alphabet.{Name, name_eq, has_name}
-use Rattle.mm_read.specs.Statements.{Expr, Database}
-use Rattle.scope.specs.Active.{is_variable}
-use Rattle.names.proofs.CodesLemmas.{name_same, same_name}
+use Rattle.subst.proofs.Words.{◌≡◌, Bool, true, false, not, ◌&&◌, ◌||◌, List, [], ◌∷◌, refl, list_all, list_any, sym, ◌∙◌, ap, true≢false, inl, inr, and_parts, and_from, not-true, or_left, or_right, or_cases, cases_Bool, not_from_false, false_from_ne_true}
+use Rattle.subst.proofs.Words.{Name, name_eq, has_name, Expr, Database, is_variable, name_same, same_name, groups, is_pair, together, Images, image, are_apart, is_group_apart, are_groups_apart, all-from, pair_at, apart-from, PairClause, KeepApart, is_image_apart}
 use Rattle.scope.proofs.GoingBackLemmas.{all-has}
-use Rattle.frame.specs.FrameOf.{groups, is_pair, together}
-use Rattle.frame.specs.Substitution.{Images, image}
-use Rattle.frame.specs.Disjoint.{are_apart, is_group_apart, are_groups_apart}
-use Rattle.frame.proofs.ApartLemmas.{all-from, pair_at, apart-from}
-use Rattle.subst.specs.Laws.{PairClause, KeepApart}
-use Rattle.subst.specs.Images.{is_image_apart}
 
 -- ---- two images
 
@@ -71,43 +59,26 @@ module _ (S : Database) (σ : Images) where
       → list_any (λ names. has_name x names && has_name y names) lists ≡ true → name_eq x y ≡ false → are_apart S (image σ x) (image σ y) ≡ true
   group-apart [] x y h any ne = cc
   group-apart (names ∷ lists) x y h any ne =
-      by (has_name x names && has_name y names) refl any (and_parts (is_group_apart S σ names) (list_all (is_group_apart S σ) lists) h)
-      (λ rest more. group-apart lists x y rest more ne)
-    where
-      cell : (has_name x names && has_name y names) ≡ true → is_group_apart S σ names ≡ true → are_apart S (image σ x) (image σ y) ≡ true
-      cell both clear =
-          let k = and_parts (has_name x names) (has_name y names) both in
-          ap (λ b. b || are_apart S (image σ x) (image σ y)) (sym ne)
-          ∙ all-has (is_clear x) y names (all-has (λ w. list_all (is_clear w) names) x names clear k.0) k.1
-
-      by : (b : Bool) → (has_name x names && has_name y names) ≡ b
-          → (b || list_any (λ names. has_name x names && has_name y names) lists) ≡ true
-          → (is_group_apart S σ names ≡ true) × (list_all (is_group_apart S σ) lists ≡ true)
-          → (list_all (is_group_apart S σ) lists ≡ true → list_any (λ names. has_name x names && has_name y names) lists ≡ true
-          → are_apart S (image σ x) (image σ y) ≡ true)
-          → are_apart S (image σ x) (image σ y) ≡ true
-      by true e any h rest = cell e h.0
-      by false e any h rest = rest h.1 any
+      let clear = and_parts (is_group_apart S σ names) (list_all (is_group_apart S σ) lists) h in
+      elim (or_cases (both x y names) (list_any (both x y) lists) any) [
+        | inl here ↦
+            let k = and_parts (has_name x names) (has_name y names) here in
+            rw ne at (all-has (is_clear x) y names (all-has (λ w. list_all (is_clear w) names) x names clear.0 k.0) k.1)
+        | inr more ↦ group-apart lists x y clear.1 more ne
+      ]
 
   groups-from : (lists : List (List Name)) → ((x y : Name) → together lists x y ≡ true → are_apart S (image σ x) (image σ y) ≡ true)
       → are_groups_apart S σ lists ≡ true
   groups-from [] k = refl
   groups-from (names ∷ lists) k =
       and_from (is_group_apart S σ names) (list_all (is_group_apart S σ) lists)
-      (all-from (λ x. list_all (is_clear x) names) names (λ x in_x. all-from (is_clear x) names (λ y in_y. by x y in_x in_y (name_eq x y) refl)))
-      (groups-from lists (λ x y t. k x y (more x y t)))
-    where
-      by : (x y : Name) → has_name x names ≡ true → has_name y names ≡ true → (b : Bool) → name_eq x y ≡ b
-          → (b || are_apart S (image σ x) (image σ y)) ≡ true
-      by x y in_x in_y true e = refl
-      by x y in_x in_y false e =
-          k x y (and_from (not (name_eq x y)) (both x y names || list_any (both x y) lists) (ap not e)
-          (or_left (both x y names) (list_any (both x y) lists) (and_from (has_name x names) (has_name y names) in_x in_y)))
-
-      more : (x y : Name) → together lists x y ≡ true → together (names ∷ lists) x y ≡ true
-      more x y t =
-          let p = and_parts (not (name_eq x y)) (list_any (both x y) lists) t in
-          and_from (not (name_eq x y)) (both x y names || list_any (both x y) lists) p.0 (or_right (both x y names) (list_any (both x y) lists) p.1)
+      (all-from (λ x. list_all (is_clear x) names) names (λ x in_x. all-from (is_clear x) names (λ y in_y. elim (cases_Bool (name_eq x y)) [
+        | inl e ↦ rw e refl
+        | inr e ↦ rw e (k x y (and_from (not (name_eq x y)) (both x y names || list_any (both x y) lists) (ap not e)
+            (or_left (both x y names) (list_any (both x y) lists) (and_from (has_name x names) (has_name y names) in_x in_y))))
+      ])))
+      (groups-from lists (λ x y t. let p = and_parts (not (name_eq x y)) (list_any (both x y) lists) t in
+      k x y (and_from (not (name_eq x y)) (both x y names || list_any (both x y) lists) p.0 (or_right (both x y names) (list_any (both x y) lists) p.1))))
 
 -- groups are apart where both sentences hold of each two of their variables, and only there
 pub pair_clause : PairClause

@@ -1,10 +1,5 @@
 -- Places in a buffer that grows.
-use Rattle.std.specs.Prelude.{◌≡◌, ℕ, zero, suc, ◌-◌, ◌<◌, ◌≤◌, List, [], ◌∷◌, ◌++◌, length, map, take, drop, get_or, slice_get, Some, refl}
-use Rattle.std.proofs.Common.{◌∙◌, ap, subst, arith, length-append, length-drop}
-use Rattle.std.proofs.lemmas.List.{take-append-le, drop-append-le, length-take-le, take_all}
-use Rattle.std.proofs.Math.Seq.{drop-append_seam}
-use Rattle.subst.specs.declared.expression_place.ExpressionPlace.{ExpressionPlace}
-use Rattle.subst.specs.ExpressionPlaces.{seen_at, AreWithin}
+use Rattle.subst.proofs.Words.{◌≡◌, ℕ, zero, suc, ◌-◌, ◌<◌, ◌≤◌, List, [], ◌∷◌, ◌++◌, length, map, take, drop, get_or, slice_get, Some, refl, ◌∙◌, ap, subst, arith, length-append, length-drop, take-append-le, drop-append-le, length-take-le, take_all, drop-append_seam, ExpressionPlace, seen_at, AreWithin}
 
 pub seen-more : (xs ys : List ℕ) (p : ExpressionPlace) → p.start ≤ p.end → p.end ≤ length xs → seen_at (xs ++ ys) p ≡ seen_at xs p
 seen-more xs ys p low high =

@@ -1,16 +1,8 @@
 -- What was found of the symbols of a proof, and how more of it is noted.
-use Rattle.std.specs.Prelude.{if◌then◌else◌, ◌≡◌, ℕ, ◌+◌, ◌*◌, ◌%◌, ◌^◌, ◌<◌, ◌≤◌, ◌⊎◌, true, false, List, [], ◌∷◌, ◌++◌, length, get_or, slice_set, Result, Ok, Err, is_ok, is_err, refl}
-use Rattle.std.specs.Int.{bit_at, bit_not}
-use Rattle.std.proofs.Common.{sym, ◌∙◌, ap, subst, arith, inl, inr, bit_and, bit_or, w64}
-use Rattle.std.proofs.lemmas.Bool.{cases_eq, cases_lt}
-use Rattle.std.proofs.lemmas.List.{get_or-set_same, get_or-set_other, length-set, get_or_default, get_or_append_left, get_or_push, length_push}
-use Rattle.scope.specs.Active.{is_variable}
-use Rattle.names.specs.Codes.{name_at}
-use Rattle.frame.specs.FrameOf.{is_pair}
-use Rattle.frame.specs.Parts.{Numbered}
-use Rattle.subst.specs.declared.findings.FoundSymbol.{FoundSymbol}
+use Rattle.subst.proofs.Words.{if◌then◌else◌, ◌≡◌, ℕ, ◌+◌, ◌*◌, ◌%◌, ◌^◌, ◌<◌, ◌≤◌, ◌⊎◌, true, false, List, [], ◌∷◌, ◌++◌, length, get_or, slice_set, Result, Ok, Err, is_ok, is_err, refl, bit_at, bit_not, All, sym, ◌∙◌, ap, subst, arith, inl, inr, bit_and, bit_or, w64, cases_eq, get_or-set_same, get_or-set_other, length-set, get_or_default, get_or_append_left, get_or_push, length_push}
+use Rattle.subst.proofs.Words.{is_variable, name_at, Numbered, FoundSymbol, Found, variable_at, no_variable, is_kept, IsRow, IsKnown, IsAt, IsListed, Grows, IsNoted, AreBits, IsSame, IsAmong, HavePlaces, IsRowApart}
+use Rattle.std.proofs.lemmas.List.Elements.{All-nil, All-push, All-weaker, All-set, All-contains}
 use Rattle.subst.specs.declared.findings.Variable.{Variable}
-use Rattle.subst.specs.Findings.{Found, symbol_at, no_symbol, variable_at, no_variable, variable_name, is_kept, IsKnown, IsAt, IsListed, Grows, IsNoted, AreBits, IsSame, IsAmong, HavePlaces, IsRowApart}
 use Rattle.subst.proofs.BitsLemmas.{zero-none, one-own, one-only, or-left, or-right, or-either, and-left, and-all, and-not}
 
 pub grows-own : (f : Found) → Grows f f
@@ -19,17 +11,13 @@ grows-own f = record { each = λ j x at. at }
 pub grows-twice : (f g h : Found) → Grows f g → Grows g h → Grows f h
 grows-twice f g h a b = record { each = λ j x at. b.each j x (a.each j x at) }
 
-own-place : (f : Found) (j : ℕ) → j < length f.variables → IsAt f j (variable_at f j).symbol
-own-place f j h = record { there = h; same = refl }
-
-pub there-grown : (f g : Found) (j : ℕ) → Grows f g → j < length f.variables → j < length g.variables
-there-grown f g j grows h = (grows.each j (variable_at f j).symbol (own-place f j h)).there
+-- a place keeps its variable
+pub place-grown : (f g : Found) (j : ℕ) → Grows f g → j < length f.variables → IsAt g j (variable_at f j).symbol
+place-grown f g j grows h = grows.each j (variable_at f j).symbol (record { there = h; same = refl })
 
 -- a variable that stays has its name
 pub kept-grown : (v : Numbered) (f g : Found) (i j : ℕ) → Grows f g → i < length f.variables → j < length f.variables → is_kept v g i j ≡ is_kept v f i j
-kept-grown v f g i j grows hi hj =
-    ap (λ m. is_pair v.statements (name_at v.names m) (variable_name v g j)) (grows.each i (variable_at f i).symbol (own-place f i hi)).same
-    ∙ ap (λ m. is_pair v.statements (variable_name v f i) (name_at v.names m)) (grows.each j (variable_at f j).symbol (own-place f j hj)).same
+kept-grown v f g i j grows hi hj = rw ((place-grown f g i grows hi).same, (place-grown f g j grows hj).same) refl
 
 -- ---- bits of symbols
 
@@ -47,7 +35,7 @@ pub places-of : (v : Numbered) (f : Found) (bits : ℕ) (P : ℕ → Type 0) →
 places-of v f bits P b = record { each = λ j h. (b.only j h).2.there }
 
 pub places-grown : (f g : Found) (bits : ℕ) → Grows f g → HavePlaces f bits → HavePlaces g bits
-places-grown f g bits grows h = record { each = λ j b. there-grown f g j grows (h.each j b) }
+places-grown f g bits grows h = record { each = λ j b. (place-grown f g j grows (h.each j b)).there }
 
 -- no symbol has no bit
 pub bits-none : (v : Numbered) (f : Found) (P : ℕ → Type 0) → ((x : ℕ) → P x → ⊥) → AreBits v f 0 P
@@ -64,68 +52,42 @@ bits-variable v f x k low at = record {
 pub bits-joined : (v : Numbered) (f : Found) (a b : ℕ) (P Q R : ℕ → Type 0) → AreBits v f a P → AreBits v f b Q
     → ((x : ℕ) → R x → P x ⊎ Q x) → ((x : ℕ) → P x → R x) → ((x : ℕ) → Q x → R x) → AreBits v f (bit_or a b) R
 bits-joined v f a b P Q R first second split left right = record {
-  each = λ x r. from x (split x r);
-  only = λ j h. found j (or-either a b j h);
+  each = λ x r. elim (split x r) [
+    | inl p ↦ noted-more v f f a (bit_or a b) x (grows-own f) (or-left a b) (first.each x p)
+    | inr q ↦ noted-more v f f b (bit_or a b) x (grows-own f) (or-right a b) (second.each x q)
+  ];
+  only = λ j h. elim (or-either a b j h) [
+    | inl l ↦ let o = first.only j l in (o.0, left o.0 o.1, o.2)
+    | inr r ↦ let o = second.only j r in (o.0, right o.0 o.1, o.2)
+  ];
 }
-  where
-    from : (x : ℕ) → P x ⊎ Q x → IsNoted v f (bit_or a b) x
-    from x (inl p) = noted-more v f f a (bit_or a b) x (grows-own f) (or-left a b) (first.each x p)
-    from x (inr q) = noted-more v f f b (bit_or a b) x (grows-own f) (or-right a b) (second.each x q)
-
-    found : (j : ℕ) → (bit_at a j ≡ 1) ⊎ (bit_at b j ≡ 1) → (x : ℕ) × R x × IsAt f j x
-    found j (inl h) = let o = first.only j h in (o.0, left o.0 o.1, o.2)
-    found j (inr h) = let o = second.only j h in (o.0, right o.0 o.1, o.2)
 
 -- one symbol more of an image
 pub bits-more : (v : Numbered) (f : Found) (a b n : ℕ) (xs : List ℕ) → AreBits v f a (IsAmong n xs) → AreBits v f b (IsSame (get_or xs n 0)) → AreBits v f (bit_or a b) (IsAmong (n + 1) xs)
 bits-more v f a b n xs first second =
     bits-joined v f a b (IsAmong n xs) (IsSame (get_or xs n 0)) (IsAmong (n + 1) xs) first second
-    (λ x r. split x r (cases_eq r.0 n))
-    (λ x p. (let low = p.1 in (p.0, omega (arith, low), p.2)))
+    (λ x r. elim (cases_eq r.0 n) [ inl same ↦ inr (sym r.2 ∙ ap (λ m. get_or xs m 0) same) | inr other ↦ inl (r.0, omega (arith, r.1, other), r.2) ])
+    (λ x p. (p.0, omega (arith, p.1), p.2))
     (λ x q. (n, omega arith, sym q))
-  where
-    split : (x : ℕ) (r : IsAmong (n + 1) xs x) → (r.0 ≡ n) ⊎ (r.0 ≡ n → ⊥) → IsAmong n xs x ⊎ IsSame (get_or xs n 0) x
-    split x r (inl same) = inr (sym r.2 ∙ ap (λ m. get_or xs m 0) same)
-    split x r (inr other) = let low = r.1 in inl (r.0, omega (arith, low, other), r.2)
 
 pub bits-start : (v : Numbered) (f : Found) (xs : List ℕ) → AreBits v f 0 (IsAmong 0 xs)
-bits-start v f xs = bits-none v f (IsAmong 0 xs) (λ x p. (let low = p.1 in omega (arith, low)))
+bits-start v f xs = bits-none v f (IsAmong 0 xs) (λ x p. omega (arith, p.1))
 
 -- what a symbol that stands among those found has
 pub listed-bits : (v : Numbered) (f : Found) (x bit : ℕ) → IsKnown v f → IsListed f x bit → AreBits v f bit (IsSame x)
-listed-bits v f x bit known at =
-    subst (λ b. AreBits v f b (IsSame x)) at.own
-    (subst (λ y. AreBits v f (symbol_at f at.place).bit (IsSame y)) at.same (known.symbol at.place at.there))
+listed-bits v f x bit known at = All-contains (λ s. AreBits v f s.bit (IsSame s.number)) f.symbols (record { number = x; bit = bit }) known.symbols at
 
--- ---- lists that grow
-
--- what is true of each element, and of one more
-each-more : {A : Type 0} (P : A → Type 0) (xs : List A) (x d : A) → ((j : ℕ) → j < length xs → P (get_or xs j d)) → P x → (j : ℕ) → j < length (xs ++ x ∷ []) → P (get_or (xs ++ x ∷ []) j d)
-each-more P xs x d each own j h = by (cases_lt j (length xs))
-  where
-    by : (j < length xs) ⊎ (length xs ≤ j) → P (get_or (xs ++ x ∷ []) j d)
-    by (inl low) = subst P (sym (get_or_append_left xs (x ∷ []) d j low)) (each j low)
-    by (inr high) =
-        let n = length_push xs x in
-        let last : length xs ≡ j = omega (arith, n, high, h) in
-        subst P (sym (get_or_push xs x d j last)) own
-
--- ---- a symbol more
-
-module _ (v : Numbered) (f : Found) (known : IsKnown v f) where
-  pub known-symbol : (s : FoundSymbol) → AreBits v f s.bit (IsSame s.number) → IsKnown v (record { symbols = f.symbols ++ s ∷ []; variables = f.variables })
-  known-symbol s own = record {
-    few = known.few;
-    symbol = λ j h. (let e = each-more (λ t. AreBits v f t.bit (IsSame t.number)) f.symbols s no_symbol known.symbol own j h in
-        bits-grown v f (record { symbols = f.symbols ++ s ∷ []; variables = f.variables }) _ _ same-places e);
-    named = known.named;
-    variable = known.variable;
-    within = known.within;
-    pair = known.pair;
-  }
-    where
-      same-places : Grows f (record { symbols = f.symbols ++ s ∷ []; variables = f.variables })
-      same-places = record { each = λ j x at. record { there = at.there; same = at.same } }
+-- what was found stays so where all that stands there now was so before
+known-grown : (v : Numbered) (f g : Found) → Grows f g → length g.variables ≤ 64 → All (λ s. AreBits v f s.bit (IsSame s.number)) g.symbols → All (IsRow v f) g.variables → IsKnown v g
+known-grown v f g grows few symbols rows = record {
+  few = few;
+  symbols = All-weaker (λ s. AreBits v f s.bit (IsSame s.number)) (λ s. AreBits v g s.bit (IsSame s.number)) (λ s own. bits-grown v f g s.bit (IsSame s.number) grows own) g.symbols symbols;
+  rows = All-weaker (IsRow v f) (IsRow v g) (λ r is. record {
+    named = is.named;
+    variable = is.variable;
+    apart = λ j b. let k = is.apart j b in let at = place-grown f g j grows k.0 in (at.there, rw at.same k.1);
+  }) g.variables rows;
+}
 
 -- ---- what was pushed
 
@@ -134,25 +96,33 @@ pub pushed : {T E A : Type 0} (r : Result T E) (x a b : A) → is_err r ≡ fals
 pushed (Ok t) x a b e h = h
 pushed (Err f) x a b e h = cc
 
-pub symbol-added : (v : Numbered) (f : Found) (symbols new : List FoundSymbol) (variables : List Variable) (s : FoundSymbol) → record { symbols = symbols; variables = variables } ≡ f → IsKnown v f → AreBits v f s.bit (IsSame s.number)
-    → new ≡ symbols ++ s ∷ [] → IsKnown v (record { symbols = new; variables = variables })
-symbol-added v f symbols new variables s same known own is =
-    subst (λ (ss : List FoundSymbol). IsKnown v (record { symbols = ss; variables = variables })) (sym is)
-    (known-symbol v (record { symbols = symbols; variables = variables }) (subst (IsKnown v) (sym same) known) s (subst (λ (g : Found). AreBits v g s.bit (IsSame s.number)) (sym same) own))
+pub symbol-added : (v : Numbered) (f : Found) (s : FoundSymbol) → IsKnown v f → AreBits v f s.bit (IsSame s.number) → IsKnown v (record { symbols = f.symbols ++ s ∷ []; variables = f.variables })
+symbol-added v f s known own =
+    known-grown v f (record { symbols = f.symbols ++ s ∷ []; variables = f.variables }) (record { each = λ j x at. record { there = at.there; same = at.same } })
+    known.few (All-push (λ s. AreBits v f s.bit (IsSame s.number)) f.symbols s known.symbols own) known.rows
 
-pub variable-added : (v : Numbered) (symbols : List FoundSymbol) (old new : List Variable) (x place : ℕ) → place ≡ length old → place < 64 → new ≡ old ++ record { symbol = x; apart = 0 } ∷ []
-    → AreBits v (record { symbols = symbols; variables = new }) (1 * 2 ^ place % 2 ^ 64) (IsSame x)
-variable-added v symbols old new x place count low is =
-    bits-variable v (record { symbols = symbols; variables = new }) x place low
-    (record {
-      there = (let n = ap (λ (xs : List Variable). length xs) is ∙ length_push old row in omega (arith, n, count));
-      same =
-          ap (λ (xs : List Variable). (get_or xs place no_variable).symbol) is
-          ∙ (ap (λ m. (get_or (old ++ row ∷ []) m no_variable).symbol) count ∙ ap (λ (r : Variable). r.symbol) (get_or_push old row no_variable (length old) refl));
-    })
-  where
-    row : Variable
-    row = record { symbol = x; apart = 0 }
+module _ (v : Numbered) (f : Found) (x : ℕ) (low : length f.variables < 64) where
+  abbrev row : Variable
+  row = record { symbol = x; apart = 0 }
+
+  abbrev pub with_variable : Found
+  with_variable = record { symbols = f.symbols; variables = f.variables ++ row ∷ [] }
+
+  pub variable-bits : (place : ℕ) → place ≡ length f.variables → AreBits v with_variable (1 * 2 ^ place % 2 ^ 64) (IsSame x)
+  variable-bits place count =
+      rw count (bits-variable v with_variable x (length f.variables) low
+      (record { there = omega (arith, length_push f.variables row); same = ap (λ (r : Variable). r.symbol) (get_or_push f.variables row no_variable (length f.variables) refl) }))
+
+  pub variable-known : IsKnown v f → x < length v.names → is_variable v.statements (name_at v.names x) ≡ true → IsKnown v with_variable
+  variable-known known named variable =
+      known-grown v f with_variable
+      (record {
+        each = λ j y at. record {
+          there = omega (arith, at.there, length_push f.variables row);
+          same = ap (λ (r : Variable). r.symbol) (get_or_append_left f.variables (row ∷ []) no_variable j at.there) ∙ at.same;
+        };
+      })
+      (omega (arith, length_push f.variables row, low)) known.symbols (All-push (IsRow v f) f.variables row known.rows (record { named = named; variable = variable; apart = λ j b. absurd (zero-none j b) }))
 
 -- ---- variables that were found to be kept apart
 
@@ -170,90 +140,57 @@ module _ (v : Numbered) (f : Found) (known : IsKnown v f) (i : ℕ) (there : i <
 
   -- each place keeps its symbol
   symbols : (k : ℕ) → (variable_at with_row k).symbol ≡ (variable_at f k).symbol
-  symbols k = by (cases_eq k i)
-    where
-      by : (k ≡ i) ⊎ (k ≡ i → ⊥) → (variable_at with_row k).symbol ≡ (variable_at f k).symbol
-      by (inl same) = ap (λ n. (variable_at with_row n).symbol) same ∙ (ap (λ (r : Variable). r.symbol) here ∙ (symbol ∙ ap (λ n. (variable_at f n).symbol) (sym same)))
-      by (inr other) = ap (λ (r : Variable). r.symbol) (others k other)
+  symbols k = elim (cases_eq k i) [
+    | inl same ↦ rw (same, here) symbol
+    | inr other ↦ ap (λ (r : Variable). r.symbol) (others k other)
+  ]
 
   -- there are as many variables as before
   count : length with_row.variables ≡ length f.variables
   count = length-set f.variables i row
 
-  -- and no new places
-  within : (k : ℕ) → k < length with_row.variables → k < length f.variables
-  within k h = omega (arith, h, count)
-
   pub grows-row : Grows f with_row
   grows-row = record { each = λ j x at. record { there = (let low = at.there in omega (arith, low, count)); same = symbols j ∙ at.same } }
 
-  module _ (good : (j : ℕ) → bit_at row.apart j ≡ 1 → (j < length f.variables) × (is_kept v f i j ≡ true)) where
-    -- each bit of a row tells a variable that is kept apart, where the new row's do
-    told : (k l : ℕ) → k < length f.variables → bit_at (variable_at with_row k).apart l ≡ 1 → (l < length f.variables) × (is_kept v f k l ≡ true)
-    told k l h b = by (cases_eq k i)
-      where
-        by : (k ≡ i) ⊎ (k ≡ i → ⊥) → (l < length f.variables) × (is_kept v f k l ≡ true)
-        by (inl same) =
-            subst (λ n. (l < length f.variables) × (is_kept v f n l ≡ true)) (sym same)
-            (good l (ap (λ (r : Variable). bit_at r.apart l) (sym here) ∙ (ap (λ n. bit_at (variable_at with_row n).apart l) (sym same) ∙ b)))
-        by (inr other) =
-            let bit : bit_at (variable_at f k).apart l ≡ 1 = ap (λ (r : Variable). bit_at r.apart l) (sym (others k other)) ∙ b in
-            (known.within k l h bit, known.pair k l h bit)
+  pub known-row : ((j : ℕ) → bit_at row.apart j ≡ 1 → (j < length f.variables) × (is_kept v f i j ≡ true)) → IsKnown v with_row
+  known-row good =
+      let old = known.rows i no_variable there in
+      known-grown v f with_row grows-row (omega (arith, known.few, count)) known.symbols
+      (All-set (IsRow v f) f.variables i row (record { named = rw symbol old.named; variable = rw symbol old.variable; apart = λ j b. rw symbol (good j b) }) known.rows)
 
-    pub known-row : IsKnown v with_row
-    known-row = record {
-      few = (let a = known.few in omega (arith, a, count));
-      symbol = λ j h. bits-grown v f with_row _ _ grows-row (known.symbol j h);
-      named = λ j h. subst (λ m. m < length v.names) (sym (symbols j)) (known.named j (within j h));
-      variable = λ j h. ap (λ m. is_variable v.statements (name_at v.names m)) (symbols j) ∙ known.variable j (within j h);
-      within = λ k l h b. (let t = told k l (within k h) b in let m = t.0 in omega (arith, m, count));
-      pair = λ k l h b. (let t = told k l (within k h) b in kept-grown v f with_row k l grows-row (within k h) t.0 ∙ t.1);
-    }
+-- a row that was read, and what is noted of it
+module _ (v : Numbered) (f : Found) (i bits : ℕ) (symbols : List FoundSymbol) (variables : List Variable) (r d : Variable)
+    (same : record { symbols = symbols; variables = variables } ≡ f) (there : i < length f.variables) (read : r ≡ get_or variables i d) where
+  row-read : r ≡ variable_at f i
+  row-read =
+      let n = ap (λ (g : Found). length g.variables) same in
+      read ∙ (get_or_default variables i d no_variable (omega (arith, n, there)) ∙ ap (λ (g : Found). variable_at g i) same)
 
--- a row that has all its bits
-pub row-covered : (v : Numbered) (f : Found) (i bits : ℕ) → IsKnown v f → i < length f.variables → bit_and bits (variable_at f i).apart ≡ bits → IsRowApart v f i bits
-row-covered v f i bits known there all = record { each = λ j b. known.pair i j there (and-all bits (variable_at f i).apart j all b) }
+  abbrev left : ℕ
+  left = bit_and bits (bit_not w64 r.apart)
 
-module _ (v : Numbered) (f : Found) (i bits : ℕ) where
-  abbrev new_bits : ℕ
-  new_bits = bit_and bits (bit_not w64 (variable_at f i).apart)
+  pub places-left : HavePlaces f bits → HavePlaces f left
+  places-left h = record { each = λ j b. h.each j (and-left bits (bit_not w64 r.apart) j b) }
 
-  pub places-new : HavePlaces f bits → HavePlaces f new_bits
-  places-new h = record { each = λ j b. h.each j (and-left bits (bit_not w64 (variable_at f i).apart) j b) }
+  pub row-left : IsRowApart v f i bits → IsRowApart v f i left
+  row-left all = record { each = λ j b. all.each j (and-left bits (bit_not w64 r.apart) j b) }
 
-  pub row-new : IsRowApart v f i bits → IsRowApart v f i new_bits
-  row-new all = record { each = λ j b. all.each j (and-left bits (bit_not w64 (variable_at f i).apart) j b) }
+  module _ (known : IsKnown v f) where
+    noted : (j : ℕ) → bit_at r.apart j ≡ 1 → (j < length f.variables) × (is_kept v f i j ≡ true)
+    noted j b = (known.rows i no_variable there).apart j (rw row-read at b)
 
-  pub row-all : IsKnown v f → i < length f.variables → bits < 2 ^ 64 → (variable_at f i).apart < 2 ^ 64 → IsRowApart v f i new_bits → IsRowApart v f i bits
-  row-all known there fits small new = record { each = λ j b. by j (and-not bits (variable_at f i).apart j fits small b) }
-    where
-      by : (j : ℕ) → (bit_at (variable_at f i).apart j ≡ 1) ⊎ (bit_at new_bits j ≡ 1) → is_kept v f i j ≡ true
-      by j (inl old) = known.pair i j there old
-      by j (inr more) = new.each j more
+    -- a row that has all the bits
+    pub row-covered : bit_and bits r.apart ≡ bits → IsRowApart v f i bits
+    row-covered all = record { each = λ j b. (noted j (and-all bits r.apart j all b)).1 }
 
--- what may be noted of a row
-row-good : (v : Numbered) (f : Found) (i bits : ℕ) → IsKnown v f → i < length f.variables → HavePlaces f bits → IsRowApart v f i bits
-    → (j : ℕ) → bit_at (bit_or (variable_at f i).apart bits) j ≡ 1 → (j < length f.variables) × (is_kept v f i j ≡ true)
-row-good v f i bits known there places all j b = by (or-either (variable_at f i).apart bits j b)
-  where
-    by : (bit_at (variable_at f i).apart j ≡ 1) ⊎ (bit_at bits j ≡ 1) → (j < length f.variables) × (is_kept v f i j ≡ true)
-    by (inl old) = (known.within i j there old, known.pair i j there old)
-    by (inr more) = (places.each j more, all.each j more)
+    pub row-whole : bits < 2 ^ 64 → r.apart < 2 ^ 64 → IsRowApart v f i left → IsRowApart v f i bits
+    row-whole fits small new = record { each = λ j b. elim (and-not bits r.apart j fits small b) [ inl old ↦ (noted j old).1 | inr more ↦ new.each j more ] }
 
--- a row that was read, with what was found
-pub known-noted : (v : Numbered) (f : Found) (i bits : ℕ) (symbols : List FoundSymbol) (variables : List Variable) (r : Variable) → record { symbols = symbols; variables = variables } ≡ f → IsKnown v f → i < length f.variables
-    → HavePlaces f bits → r ≡ variable_at f i → IsRowApart v f i bits
-    → IsKnown v (record { symbols = symbols; variables = slice_set variables i (record { symbol = r.symbol; apart = bit_or r.apart bits }) })
-known-noted v f i bits symbols variables r same known there places row all =
-    subst (λ (q : Variable). IsKnown v (record { symbols = symbols; variables = slice_set variables i (record { symbol = q.symbol; apart = bit_or q.apart bits }) })) (sym row)
-    (subst (λ (h : Found). IsKnown v (record { symbols = h.symbols; variables = slice_set h.variables i (record { symbol = (variable_at f i).symbol; apart = bit_or (variable_at f i).apart bits }) })) (sym same)
-    (known-row v f known i there (record { symbol = (variable_at f i).symbol; apart = bit_or (variable_at f i).apart bits }) refl (row-good v f i bits known there places all)))
-
-pub row-read : (f : Found) (symbols : List FoundSymbol) (variables : List Variable) (i : ℕ) (r d : Variable) → record { symbols = symbols; variables = variables } ≡ f → i < length f.variables → r ≡ get_or variables i d → r ≡ variable_at f i
-row-read f symbols variables i r d same h e = e ∙ (get_or_default variables i d no_variable there ∙ ap (λ (g : Found). variable_at g i) same)
-  where
-    there : i < length variables
-    there = let n = ap (λ (g : Found). length g.variables) same in omega (arith, n, h)
+    pub row-noted : HavePlaces f bits → IsRowApart v f i bits → IsKnown v (record { symbols = symbols; variables = slice_set variables i (record { symbol = r.symbol; apart = bit_or r.apart bits }) })
+    row-noted places all =
+        subst (λ (h : Found). IsKnown v (record { symbols = h.symbols; variables = slice_set h.variables i (record { symbol = r.symbol; apart = bit_or r.apart bits }) })) (sym same)
+        (known-row v f known i there (record { symbol = r.symbol; apart = bit_or r.apart bits }) (ap (λ (q : Variable). q.symbol) row-read)
+        (λ j b. elim (or-either r.apart bits j b) [ inl old ↦ noted j old | inr more ↦ (places.each j more, all.each j more) ]))
 
 -- what is told of places that stay
 pub row-back : (v : Numbered) (f g : Found) (i bits : ℕ) → Grows f g → i < length f.variables → HavePlaces f bits → IsRowApart v g i bits → IsRowApart v f i bits
@@ -265,14 +202,4 @@ row-on v f g i bits grows there places row = record { each = λ j b. kept-grown 
 -- ---- nothing found
 
 pub known-none : (v : Numbered) (f : Found) → f.symbols ≡ [] → f.variables ≡ [] → IsKnown v f
-known-none v f ss vs =
-    let n = ap (λ (xs : List Variable). length xs) vs in
-    let m = ap (λ (xs : List FoundSymbol). length xs) ss in
-    record {
-      few = omega (arith, n);
-      symbol = λ j h. absurd (omega (arith, h, m));
-      named = λ j h. absurd (omega (arith, h, n));
-      variable = λ j h. absurd (omega (arith, h, n));
-      within = λ i j h b. absurd (omega (arith, h, n));
-      pair = λ i j h b. absurd (omega (arith, h, n));
-    }
+known-none v f ss vs = record { few = omega (arith, ap (λ (xs : List Variable). length xs) vs); symbols = rw ss (All-nil _); rows = rw vs (All-nil _) }

@@ -1,10 +1,5 @@
 -- Images that are places in a buffer that grows.
-use Rattle.std.specs.Prelude.{◌≡◌, ℕ, ◌≤◌, Bool, true, false, cond, nat_eq, List, [], ◌∷◌, ◌++◌, length, Option, Some, None, refl}
-use Rattle.std.specs.Map.{lookup}
-use Rattle.std.proofs.Common.{sym, ◌∙◌, ap, subst, arith}
-use Rattle.frame.specs.Substitution.{code_image}
-use Rattle.subst.specs.declared.expression_place.ExpressionPlace.{ExpressionPlace}
-use Rattle.subst.specs.ExpressionPlaces.{seen_at, images_at, AreInside}
+use Rattle.subst.proofs.Words.{◌≡◌, ℕ, ◌≤◌, Bool, true, false, cond, nat_eq, List, [], ◌∷◌, ◌++◌, length, Option, Some, None, refl, lookup, sym, ◌∙◌, ap, subst, arith, code_image, ExpressionPlace, seen_at, images_at, AreInside}
 use Rattle.subst.proofs.ExpressionPlaceLemmas.{seen-more}
 
 -- the image of a symbol, by the place that was found for it

@@ -1,3 +1,4 @@
+pub mod Words
 pub mod ExpressionPlaceLemmas
 pub mod ImagePlacesLemmas
 mod SlotLemmas

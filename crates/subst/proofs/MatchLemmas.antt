@@ -1,10 +1,6 @@
 -- An expression with the images put in, against symbols that stand.
-use Rattle.std.specs.Prelude.{◌≡◌, ℕ, zero, suc, ◌+◌, ◌<◌, true, false, List, [], ◌∷◌, ◌++◌, length, take, drop, get_or, Option, Some, None, IfSome, IfNone, MatchOption, refl, bytes_eq}
-use Rattle.std.proofs.Common.{sym, ◌∙◌, ap, arith, append_assoc, Bor, drop-cons}
-use Rattle.std.proofs.lemmas.List.{take-append-drop, append_cancel_left}
+use Rattle.subst.proofs.Words.{◌≡◌, ℕ, zero, suc, ◌+◌, ◌<◌, true, false, List, [], ◌∷◌, ◌++◌, length, take, drop, get_or, Option, Some, None, IfSome, IfNone, MatchOption, refl, bytes_eq, sym, ◌∙◌, ap, arith, append_assoc, Bor, drop-cons, take-append-drop, append_cancel_left, take-append_seam, CodeImages, code_image, code_apply}
 use Rattle.std.proofs.lemmas.Slice.Eq.{bytes_eq-Decides}
-use Rattle.std.proofs.Math.Seq.{take-append_seam}
-use Rattle.frame.specs.Substitution.{CodeImages, code_image, code_apply}
 use Rattle.subst.proofs.WrittenImages.{apply-take}
 
 -- symbols that begin with an image are the image and the rest

@@ -1,28 +1,11 @@
--- The images of each two numbers of a group, each two compared once.
-use Rattle.std.specs.Prelude.{◌≡◌, ℕ, zero, suc, ◌+◌, ◌<◌, ◌≤◌, ◌⊎◌, Bool, true, false, not, ◌||◌, ◌&&◌, ◌==◌, List, [], ◌∷◌, length, map, take, drop, get_or, slice_get, Some, refl}
-use Rattle.std.specs.List.{list_all, list_any, position_or_len}
-use Rattle.std.proofs.Common.{sym, ◌∙◌, ap, subst, arith, inl, inr, bit_or}
-use Rattle.std.proofs.lemmas.Bool.{lt-ltb, and_from, or_right, cases_eq, cases_order, or_parts}
-use Rattle.std.proofs.lemmas.List.Folds.{list_all-map, list_all_at, list_all_more}
+-- The images of each two numbers of a group, each held against those before it.
+use Rattle.subst.proofs.Words.{◌≡◌, ℕ, zero, suc, ◌+◌, ◌<◌, ◌≤◌, Bool, true, false, not, ◌||◌, ◌&&◌, ◌==◌, List, [], ◌∷◌, length, map, take, drop, get_or, slice_get, Some, refl, list_all, list_any, position_or_len, sym, ◌∙◌, ap, subst, arith, inl, inr, bit_or, true≢false, lt-ltb, and_from, or_right, cases_eq, both_ways, eqb-true, or_cases, or_left, cases_Bool, false_from_ne_true, list_all-map, list_all_at, list_all_more, list_any_at, get_or-take, length-take}
+use Rattle.subst.proofs.Words.{Name, name_eq, has_name, Expr, Database, name_at, decode, AreDistinct, name_same, same_name, name_eq-comm, is_pair, groups, Numbered, CodeImages, code_image, image, images_of_names, are_apart, is_group_apart, are_groups_apart, AreBelow, AllBelow, image_named, are_two_apart, is_number_apart, are_numbers_apart, Found, IsKnown, IsAmong, AreBits, AreWordsApart, pair_at, apart-from}
 use Rattle.std.proofs.lemmas.Option.{get_or_from_slice_get, slice_get_within}
-use Rattle.std.proofs.Math.Bool.{and_comm, and_self_left}
-use Rattle.std.proofs.lemmas.List.{drop_more}
-use Rattle.mm_lex.specs.Alphabet.{Name, name_eq, has_name}
-use Rattle.mm_read.specs.Statements.{Expr, Database}
-use Rattle.scope.specs.Active.{is_variable}
-use Rattle.names.specs.Codes.{name_at, decode, AreDistinct}
-use Rattle.names.proofs.CodesLemmas.{name_same, same_name, name_eq-comm}
-use Rattle.frame.specs.FrameOf.{is_pair, groups}
-use Rattle.frame.specs.Parts.{Numbered}
-use Rattle.frame.specs.Substitution.{CodeImages, code_image, image, images_of_names}
-use Rattle.frame.specs.Disjoint.{are_apart, is_group_apart, are_groups_apart}
-use Rattle.frame.specs.Below.{AreBelow, AllBelow}
-use Rattle.subst.specs.Apart.{image_named, are_two_apart, is_number_apart, are_numbers_apart}
-use Rattle.subst.specs.Findings.{Found, IsKnown, IsAmong, AreBits, AreWordsApart}
+use Rattle.std.proofs.Math.Bool.{and_comm}
 use Rattle.subst.proofs.FindingsLemmas.{bits-joined}
 use Rattle.subst.proofs.WordsApartLemmas.{good-from, words-from, apart-from_good, good-at, all-at, at-all}
 use Rattle.subst.proofs.SubstitutionLemmas.{place-of, image-decode}
-use Rattle.frame.proofs.ApartLemmas.{all-true}
 
 -- ---- lists
 
@@ -49,24 +32,6 @@ group-goes_on p groups i g h before here =
 pub differ : (k l : ℕ) → (k ≡ l → ⊥) → (k == l) ≡ false
 differ k l ne = grind (arith, ne)
 
-all-same : {A : Type 0} (p q : A → Bool) (xs : List A) → ((x : A) → p x ≡ q x) → list_all p xs ≡ list_all q xs
-all-same p q [] h = refl
-all-same p q (x ∷ xs) h = ap (λ b. b && list_all p xs) (h x) ∙ ap (λ b. q x && b) (all-same p q xs h)
-
-all-both : {A : Type 0} (p q : A → Bool) (xs : List A) → list_all (λ x. p x && q x) xs ≡ (list_all p xs && list_all q xs)
-all-both p q [] = refl
-all-both p q (x ∷ xs) = ap (λ b. (p x && q x) && b) (all-both p q xs) ∙ shuffle (p x) (q x) (list_all p xs) (list_all q xs)
-  where
-    shuffle : (a b c d : Bool) → ((a && b) && (c && d)) ≡ ((a && c) && (b && d))
-    shuffle true true c d = refl
-    shuffle true false true d = refl
-    shuffle true false false d = refl
-    shuffle false b c d = refl
-
-all-swap : {A B : Type 0} (p : A → B → Bool) (xs : List A) (ys : List B) → list_all (λ x. list_all (λ y. p x y) ys) xs ≡ list_all (λ y. list_all (λ x. p x y) xs) ys
-all-swap p [] ys = sym (all-true (λ y. true) ys (λ y. refl))
-all-swap p (x ∷ xs) ys = ap (λ b. list_all (λ y. p x y) ys && b) (all-swap p xs ys) ∙ sym (all-both (λ y. p x y) (λ y. list_all (λ z. p z y) xs) ys)
-
 any-same : {A : Type 0} (p q : A → Bool) (xs : List A) → ((x : A) → p x ≡ q x) → list_any p xs ≡ list_any q xs
 any-same p q [] h = refl
 any-same p q (x ∷ xs) h = ap (λ b. b || list_any p xs) (h x) ∙ ap (λ b. q x || b) (any-same p q xs h)
@@ -78,18 +43,8 @@ pair-swap D x y =
     ap (λ b. not b && list_any (λ names. has_name x names && has_name y names) (groups D)) (name_eq-comm x y)
     ∙ ap (λ b. not (name_eq y x) && b) (any-same (λ names. has_name x names && has_name y names) (λ names. has_name y names && has_name x names) (groups D) (λ names. and_comm (has_name x names) (has_name y names)))
 
-apart-swap : (D : Database) (e f : Expr) → are_apart D e f ≡ are_apart D f e
-apart-swap D e f =
-    all-swap (λ u v. not (is_variable D u) || not (is_variable D v) || is_pair D u v) e f
-    ∙ all-same (λ v. list_all (λ u. not (is_variable D u) || not (is_variable D v) || is_pair D u v) e) (λ v. list_all (λ u. not (is_variable D v) || not (is_variable D u) || is_pair D v u) e) f
-    (λ v. all-same (λ u. not (is_variable D u) || not (is_variable D v) || is_pair D u v) (λ u. not (is_variable D v) || not (is_variable D u) || is_pair D v u) e
-    (λ u. either (is_variable D u) (is_variable D v) (is_pair D u v) (is_pair D v u) (pair-swap D u v)))
-  where
-    either : (a b p q : Bool) → p ≡ q → (not a || not b || p) ≡ (not b || not a || q)
-    either true true p q h = h
-    either true false p q h = refl
-    either false true p q h = refl
-    either false false p q h = refl
+apart-swap : (D : Database) (e f : Expr) → are_apart D e f ≡ true → are_apart D f e ≡ true
+apart-swap D e f h = apart-from D f e (λ u v p q in_f in_e. pair-swap D u v ∙ pair_at D e f h v u q p in_e in_f)
 
 eq-swap : (i j : ℕ) → (i == j) ≡ (j == i)
 eq-swap i j = grind arith
@@ -97,49 +52,26 @@ eq-swap i j = grind arith
 eq-own : (j : ℕ) → (j == j) ≡ true
 eq-own j = grind arith
 
--- ---- each two once
-
 module _ (D : Database) (image_of : ℕ → Expr) where
-  two-swap : (k l : ℕ) → are_two_apart D image_of k l ≡ are_two_apart D image_of l k
-  two-swap k l =
-      ap (λ b. b || are_apart D (image_of k) (image_of l)) (eq-swap k l)
-      ∙ ap (λ b. (l == k) || b) (apart-swap D (image_of k) (image_of l))
-
-  -- each image is apart from those of the numbers behind its own
-  abbrev pub is_rest_apart : List ℕ → Bool
-  is_rest_apart [] = true
-  is_rest_apart (k ∷ group) = is_number_apart D image_of group k && is_rest_apart group
-
-  pub group-by_rest : (group : List ℕ) → are_numbers_apart D image_of group ≡ is_rest_apart group
-  group-by_rest [] = refl
-  group-by_rest (k ∷ group) =
-      ap (λ b. ((b || are_apart D (image_of k) (image_of k)) && list_all (are_two_apart D image_of k) group) && list_all (is_number_apart D image_of (k ∷ group)) group) (eq-own k)
-      ∙ (ap (λ b. list_all (are_two_apart D image_of k) group && b) (all-both (λ l. are_two_apart D image_of l k) (λ l. list_all (are_two_apart D image_of l) group) group)
-      ∙ (ap (λ b. list_all (are_two_apart D image_of k) group && (b && are_numbers_apart D image_of group)) (all-same (λ l. are_two_apart D image_of l k) (are_two_apart D image_of k) group (λ l. two-swap l k))
-      ∙ (and_self_left (list_all (are_two_apart D image_of k) group) (are_numbers_apart D image_of group)
-      ∙ ap (λ b. list_all (are_two_apart D image_of k) group && b) (group-by_rest group))))
-
-  pub rest-at : (group : List ℕ) (i d : ℕ) → i < length group
-      → is_rest_apart (drop i group) ≡ (is_number_apart D image_of (drop (i + 1) group) (get_or group i d) && is_rest_apart (drop (i + 1) group))
-  rest-at group i d h = ap is_rest_apart (drop_more group i d h)
+  two-swap : (k l : ℕ) → are_two_apart D image_of k l ≡ true → are_two_apart D image_of l k ≡ true
+  two-swap k l h = elim (or_cases (k == l) (are_apart D (image_of k) (image_of l)) h) [
+    | inl same ↦ or_left (l == k) _ (eq-swap l k ∙ same)
+    | inr apart ↦ or_right (l == k) _ (apart-swap D (image_of k) (image_of l) apart)
+  ]
 
 -- ---- each held against those before it
 
 any-at : (p : ℕ → Bool) (n : ℕ) (xs : List ℕ) → list_any p (take n xs) ≡ true → (c : ℕ) × (c < n) × (p (get_or xs c 0) ≡ true)
 any-at p zero xs h = cc
 any-at p (suc n) [] h = cc
-any-at p (suc n) (x ∷ xs) h = by (p x) refl h (any-at p n xs)
-  where
-    by : (b : Bool) → p x ≡ b → (b || list_any p (take n xs)) ≡ true → (list_any p (take n xs) ≡ true → (c : ℕ) × (c < n) × (p (get_or xs c 0) ≡ true))
-        → (c : ℕ) × (c < suc n) × (p (get_or (x ∷ xs) c 0) ≡ true)
-    by true e h rest = (0, omega arith, e)
-    by false e h rest = let r = rest h in let low = r.1 in (suc r.0, omega (arith, low), r.2)
+any-at p (suc n) (x ∷ xs) h = elim (or_cases (p x) (list_any p (take n xs)) h) [
+  | inl e ↦ (0, omega arith, e)
+  | inr more ↦ let r = any-at p n xs more in (suc r.0, omega (arith, r.1), r.2)
+]
 
 none-at : (p : ℕ → Bool) (n : ℕ) (xs : List ℕ) (c : ℕ) → list_any p (take n xs) ≡ false → c < n → c < length xs → p (get_or xs c 0) ≡ false
-none-at p zero xs c h low there = absurd (omega (arith, low))
-none-at p (suc n) [] c h low there = absurd (omega (arith, there))
-none-at p (suc n) (x ∷ xs) zero h low there = (or_parts (p x) (list_any p (take n xs)) h).0
-none-at p (suc n) (x ∷ xs) (suc c) h low there = none-at p n xs c (or_parts (p x) (list_any p (take n xs)) h).1 (omega (arith, low)) (omega (arith, there))
+none-at p n xs c h low there =
+    false_from_ne_true (p (get_or xs c 0)) (λ e. both_ways (list_any p (take n xs)) h (list_any_at p (take n xs) c 0 (omega (arith, length-take n xs, low, there)) (rw (get_or-take n xs c 0 low) e)))
 
 module _ (D : Database) (image_of : ℕ → Expr) (group : List ℕ) where
   abbrev two : ℕ → ℕ → Bool
@@ -147,45 +79,48 @@ module _ (D : Database) (image_of : ℕ → Expr) (group : List ℕ) where
 
   -- the images of each two of the first n numbers are apart
   pub record ArePairwise (n : ℕ) : Type 0 where
-    pub each : (a b : ℕ) → a < b → b < n → two a b ≡ true
+    pub each : (a b : ℕ) → a < n → b < n → two a b ≡ true
 
   pub pairwise-more : (n : ℕ) → ArePairwise n → ((a : ℕ) → a < n → two a n ≡ true) → ArePairwise (n + 1)
-  pairwise-more n front next = record { each = λ a b h l. by a b h l (cases_eq b n) }
-    where
-      by : (a b : ℕ) → a < b → b < n + 1 → (b ≡ n) ⊎ (b ≡ n → ⊥) → two a b ≡ true
-      by a b h l (inl same) = ap (two a) same ∙ next a (omega (arith, h, same))
-      by a b h l (inr other) = front.each a b h (omega (arith, l, other))
-
-  any-two : (n a b : ℕ) → ArePairwise n → a < n → b < n → two a b ≡ true
-  any-two n a b all ha hb = by (cases_order a b)
-    where
-      by : (a ≡ b) ⊎ ((a < b) ⊎ (b < a)) → two a b ≡ true
-      by (inl same) = ap (two a) (sym same) ∙ ap (λ t. t || are_apart D (image_of (get_or group a 0)) (image_of (get_or group a 0))) (eq-own (get_or group a 0))
-      by (inr (inl less)) = all.each a b less hb
-      by (inr (inr more)) = two-swap D image_of (get_or group a 0) (get_or group b 0) ∙ all.each b a more ha
+  pairwise-more n front next = record {
+    each = λ a b h l. elim (cases_eq a n) [
+      | inl one ↦ elim (cases_eq b n) [
+        | inl same ↦ rw (one, same, eq-own (get_or group n 0)) refl
+        | inr other ↦ rw one (two-swap D image_of (get_or group b 0) (get_or group n 0) (next b (omega (arith, l, other))))
+      ]
+      | inr before ↦ elim (cases_eq b n) [ inl same ↦ rw same (next a (omega (arith, h, before))) | inr other ↦ front.each a b (omega (arith, h, before)) (omega (arith, l, other)) ]
+    ];
+  }
 
   -- a number that stood before
-  pub repeat-apart : (n : ℕ) → ArePairwise n → list_any (λ l. get_or group n 0 == l) (take n group) ≡ true → (a : ℕ) → a < n → two a n ≡ true
+  pub repeat-apart : (n : ℕ) → ArePairwise n → list_any (λ l. l == get_or group n 0) (take n group) ≡ true → (a : ℕ) → a < n → two a n ≡ true
   repeat-apart n all found a h =
-      let r = any-at (λ l. get_or group n 0 == l) n group found in
-      let same : get_or group n 0 ≡ get_or group r.0 0 = (let e = r.2 in grind (arith, e)) in
-      ap (are_two_apart D image_of (get_or group a 0)) same ∙ any-two n a r.0 all h r.1
+      let r = any-at (λ l. l == get_or group n 0) n group found in
+      let same : get_or group n 0 ≡ get_or group r.0 0 = sym (eqb-true (get_or group r.0 0) (get_or group n 0) r.2) in
+      ap (are_two_apart D image_of (get_or group a 0)) same ∙ all.each a r.0 h r.1
+
+  -- a number that is held against each before it by itself
+  pub held-apart : (n : ℕ) → is_number_apart D image_of (take n group) (get_or group n 0) ≡ true → n < length group → (a : ℕ) → a < n → two a n ≡ true
+  held-apart n all there a h =
+      two-swap D image_of (get_or group n 0) (get_or group a 0)
+      (rw (get_or-take n group a 0 h) at (at-all (are_two_apart D image_of (get_or group n 0)) (take n group) a all (omega (arith, length-take n group, h, there))))
+
+  pub held-clash : (n : ℕ) → is_number_apart D image_of (take n group) (get_or group n 0) ≡ false → n < length group → are_numbers_apart D image_of group ≡ false
+  held-clash n clash there = false_from_ne_true (are_numbers_apart D image_of group) (λ all. true≢false (sym (all-at (are_two_apart D image_of (get_or group n 0)) (take n group)
+      (λ a h. let low : a < n = omega (arith, length-take n group, h) in
+      rw (get_or-take n group a 0 low) (at-all (are_two_apart D image_of (get_or group n 0)) group a (at-all (is_number_apart D image_of group) group n all there) (omega (arith, low, there))))) ∙ clash))
 
   pub pairwise-end : (n : ℕ) → length group ≤ n → ArePairwise n → are_numbers_apart D image_of group ≡ true
   pairwise-end n long all =
       all-at (is_number_apart D image_of group) group
-      (λ a h. all-at (are_two_apart D image_of (get_or group a 0)) group (λ b l. any-two n a b all (omega (arith, h, long)) (omega (arith, l, long))))
+      (λ a h. all-at (are_two_apart D image_of (get_or group a 0)) group (λ b l. all.each a b (omega (arith, h, long)) (omega (arith, l, long))))
 
   -- two that are not one
-  numbers-at : are_numbers_apart D image_of group ≡ true → (a b : ℕ) → a < length group → b < length group → (get_or group b 0 == get_or group a 0) ≡ false
+  numbers-at : are_numbers_apart D image_of group ≡ true → (a b : ℕ) → a < length group → b < length group → (get_or group a 0 == get_or group b 0) ≡ false
       → are_apart D (image_of (get_or group a 0)) (image_of (get_or group b 0)) ≡ true
   numbers-at all a b h l differ =
-      other (get_or group a 0 == get_or group b 0) _ (eq-swap (get_or group a 0) (get_or group b 0) ∙ differ)
-      (at-all (are_two_apart D image_of (get_or group a 0)) group b (at-all (is_number_apart D image_of group) group a all h) l)
-    where
-      other : (p q : Bool) → p ≡ false → (p || q) ≡ true → q ≡ true
-      other true q e k = cc
-      other false q e k = k
+      rw differ
+      at (at-all (are_two_apart D image_of (get_or group a 0)) group b (at-all (is_number_apart D image_of group) group a all h) l)
 
 -- x stands in one of the images of the first n numbers
 abbrev pub IsInImages : CodeImages → List ℕ → ℕ → ℕ → Type 0
@@ -199,13 +134,12 @@ module _ (v : Numbered) (f : Found) (known : IsKnown v f) (σ : CodeImages) (gro
   pub images-more : AreBits v f (bit_or before bits) (IsInImages σ group (n + 1))
   images-more =
       bits-joined v f before bits (IsInImages σ group n) (IsAmong (length last_image) last_image) (IsInImages σ group (n + 1)) first own
-      (λ x r. split x r (cases_eq r.0 n))
-      (λ x p. (let low = p.1 in (p.0, omega (arith, low), p.2)))
+      (λ x r. elim (cases_eq r.0 n) [
+        | inl same ↦ inr (subst (λ m. IsAmong (length (code_image σ (get_or group m 0))) (code_image σ (get_or group m 0)) x) same r.2)
+        | inr other ↦ inl (r.0, omega (arith, r.1, other), r.2)
+      ])
+      (λ x p. (p.0, omega (arith, p.1), p.2))
       (λ x q. (n, omega arith, q))
-    where
-      split : (x : ℕ) (r : IsInImages σ group (n + 1) x) → (r.0 ≡ n) ⊎ (r.0 ≡ n → ⊥) → IsInImages σ group n x ⊎ IsAmong (length last_image) last_image x
-      split x r (inl same) = inr (subst (λ m. IsAmong (length (code_image σ (get_or group m 0))) (code_image σ (get_or group m 0)) x) same r.2)
-      split x r (inr other) = let low = r.1 in inl (r.0, omega (arith, low, other), r.2)
 
   -- words that are apart
   pub next-apart : AreWordsApart v f before bits → (a : ℕ) → a < n → are_two_apart v.statements (image_named v.names σ) (get_or group a 0) (get_or group n 0) ≡ true
@@ -215,18 +149,13 @@ module _ (v : Numbered) (f : Found) (known : IsKnown v f) (σ : CodeImages) (gro
       (λ x y p q. good-from v f known before bits (IsInImages σ group n) (IsAmong (length last_image) last_image) first own apart x y (a, h, p) q))
 
   -- words that are not
-  pub next-clash : n < length group → list_any (λ l. get_or group n 0 == l) (take n group) ≡ false → (AreWordsApart v f before bits → ⊥) → are_numbers_apart v.statements (image_named v.names σ) group ≡ false
-  next-clash there none clash = by (are_numbers_apart v.statements (image_named v.names σ) group) refl
-    where
-      differ : (a : ℕ) → a < n → (get_or group n 0 == get_or group a 0) ≡ false
-      differ a h = none-at (λ l. get_or group n 0 == l) n group a none h (omega (arith, h, there))
-
-      by : (b : Bool) → are_numbers_apart v.statements (image_named v.names σ) group ≡ b → are_numbers_apart v.statements (image_named v.names σ) group ≡ false
-      by false all = all
-      by true all =
-          absurd (clash (words-from v f known before bits (IsInImages σ group n) (IsAmong (length last_image) last_image) first own
-          (λ x y p q. good-at v (code_image σ (get_or group p.0 0)) last_image
-          (numbers-at v.statements (image_named v.names σ) group all p.0 n (let low = p.1 in omega (arith, low, there)) there (differ p.0 p.1)) x y p.2 q)))
+  pub next-clash : n < length group → list_any (λ l. l == get_or group n 0) (take n group) ≡ false → (AreWordsApart v f before bits → ⊥) → are_numbers_apart v.statements (image_named v.names σ) group ≡ false
+  next-clash there none clash =
+      false_from_ne_true (are_numbers_apart v.statements (image_named v.names σ) group)
+      (λ all. clash (words-from v f known before bits (IsInImages σ group n) (IsAmong (length last_image) last_image) first own
+      (λ x y p q. let low : p.0 < length group = omega (arith, p.1, there) in
+      good-at v (code_image σ (get_or group p.0 0)) last_image
+      (numbers-at v.statements (image_named v.names σ) group all p.0 n low there (none-at (λ l. l == get_or group n 0) n group p.0 none p.1 low)) x y p.2 q)))
 
 -- ---- numbers for names
 
@@ -236,15 +165,14 @@ all-below n p q (x ∷ xs) b h = ap (λ r. r && list_all p xs) (h x b.0) ∙ ap 
 
 module _ (names : List Name) (distinct : AreDistinct names) where
   eq-named : (k l : ℕ) → k < length names → l < length names → (k == l) ≡ name_eq (name_at names k) (name_at names l)
-  eq-named k l hk hl = by (name_eq (name_at names k) (name_at names l)) refl
-    where
-      by : (b : Bool) → name_eq (name_at names k) (name_at names l) ≡ b → (k == l) ≡ b
-      by true e =
-          let p = place-of names k distinct (lt-ltb k (length names) hk) in
-          let q = place-of names l distinct (lt-ltb l (length names) hl) in
-          let one : k ≡ l = sym p.1 ∙ (ap (λ x. position_or_len (name_eq x) names) (same_name (name_at names k) (name_at names l) e) ∙ q.1) in
-          ap (λ m. m == l) one ∙ eq-own l
-      by false e = differ k l (λ one. (let same : name_eq (name_at names k) (name_at names l) ≡ true = ap (λ m. name_eq (name_at names m) (name_at names l)) one ∙ name_same (name_at names l) in let f : true ≡ false = sym same ∙ e in cc))
+  eq-named k l hk hl = elim (cases_Bool (name_eq (name_at names k) (name_at names l))) [
+    | inl e ↦
+        let p = place-of names k distinct (lt-ltb k (length names) hk) in
+        let q = place-of names l distinct (lt-ltb l (length names) hl) in
+        let one : k ≡ l = sym p.1 ∙ (ap (λ x. position_or_len (name_eq x) names) (same_name (name_at names k) (name_at names l) e) ∙ q.1) in
+        rw e (ap (λ m. m == l) one ∙ eq-own l)
+    | inr e ↦ rw e (differ k l (λ one. true≢false (sym (name_same (name_at names l)) ∙ (ap (λ m. name_eq (name_at names m) (name_at names l)) (sym one) ∙ e))))
+  ]
 
   module _ (D : Database) (σ : CodeImages) where
     two-named : (k l : ℕ) → k < length names → l < length names
@@ -255,11 +183,10 @@ module _ (names : List Name) (distinct : AreDistinct names) where
         ∙ ap (λ e. name_eq (name_at names k) (name_at names l) || are_apart D (image (images_of_names names σ) (name_at names k)) e) (image-decode names σ l distinct (lt-ltb l (length names) hl)))
 
     group-named : (g : List ℕ) → AreBelow (length names) g → are_numbers_apart D (image_named names σ) g ≡ is_group_apart D (images_of_names names σ) (decode names g)
-    group-named g b =
-        all-below (length names) (is_number_apart D (image_named names σ) g) (λ k. list_all (λ y. name_eq (name_at names k) y || are_apart D (image (images_of_names names σ) (name_at names k)) (image (images_of_names names σ) y)) (decode names g)) g b
-        (λ k hk. all-below (length names) (are_two_apart D (image_named names σ) k) (λ l. name_eq (name_at names k) (name_at names l) || are_apart D (image (images_of_names names σ) (name_at names k)) (image (images_of_names names σ) (name_at names l))) g b (λ l hl. two-named k l hk hl)
-        ∙ sym (list_all-map (λ y. name_eq (name_at names k) y || are_apart D (image (images_of_names names σ) (name_at names k)) (image (images_of_names names σ) y)) (name_at names) g))
-        ∙ sym (list_all-map (λ x. list_all (λ y. name_eq x y || are_apart D (image (images_of_names names σ) x) (image (images_of_names names σ) y)) (decode names g)) (name_at names) g)
+    group-named g b = simp list_all-map (
+        all-below (length names) (is_number_apart D (image_named names σ) g) (λ k. list_all (λ l. name_eq (name_at names k) (name_at names l) || are_apart D (image (images_of_names names σ) (name_at names k)) (image (images_of_names names σ) (name_at names l))) g) g b
+        (λ k hk. all-below (length names) (are_two_apart D (image_named names σ) k) (λ l. name_eq (name_at names k) (name_at names l) || are_apart D (image (images_of_names names σ) (name_at names k)) (image (images_of_names names σ) (name_at names l))) g b (λ l hl. two-named k l hk hl))
+        )
 
     pub groups-named : (gs : List (List ℕ)) → AllBelow (length names) gs → list_all (are_numbers_apart D (image_named names σ)) gs ≡ are_groups_apart D (images_of_names names σ) (map (decode names) gs)
     groups-named [] b = refl

@@ -1,9 +1,6 @@
 -- Substitution and the pair clause, worked out.
-use Rattle.std.specs.Prelude.{◌≡◌, [], ◌∷◌, codes, refl, true, false}
-use Rattle.scope.specs.Active.{before}
+use Rattle.subst.proofs.Words.{◌≡◌, [], ◌∷◌, codes, refl, true, false, before, apply, code_apply, are_apart, are_groups_apart}
 use Rattle.scope.proofs.Databases.{w, row_seven}
-use Rattle.frame.specs.Substitution.{apply, code_apply}
-use Rattle.frame.specs.Disjoint.{are_apart, are_groups_apart}
 
 -- x and y in one another's place, put in at once
 swapped : apply ((codes "x", w (codes "y")) ∷ (codes "y", w (codes "x")) ∷ []) (w (codes "|- x R y")) ≡ w (codes "|- y R x")

@@ -1,11 +1,6 @@
 -- What the table of images says of a symbol.
-use Rattle.std.specs.Prelude.{◌≡◌, ℕ, zero, suc, ◌+◌, ◌<◌, ◌≤◌, ◌==◌, Bool, true, false, cond, nat_eq, List, [], ◌∷◌, ◌++◌, length, get_or, replicate, slice_set, Option, Some, None, refl}
-use Rattle.std.specs.Map.{lookup}
-use Rattle.std.proofs.Common.{sym, ◌∙◌, ap, arith}
+use Rattle.subst.proofs.Words.{◌≡◌, ℕ, zero, suc, ◌+◌, ◌<◌, ◌≤◌, ◌==◌, true, false, cond, nat_eq, List, [], ◌∷◌, ◌++◌, length, get_or, replicate, slice_set, Option, Some, None, refl, lookup, sym, ◌∙◌, ap, arith, inl, inr, cases_Bool, ExpressionPlace, Slot, placed, AreUpTo}
 use Rattle.std.proofs.lemmas.Bool.Decides.{nat_tests}
-use Rattle.subst.specs.declared.expression_place.ExpressionPlace.{ExpressionPlace}
-use Rattle.subst.specs.declared.image_places.Slot.{Slot}
-use Rattle.subst.specs.Stored.Slots.{placed, AreUpTo}
 
 abbrev pub slot_of : ℕ → List Slot → ℕ → Option ExpressionPlace
 slot_of round [] x = None
@@ -15,38 +10,22 @@ slot_of round (s ∷ slots) (suc x) = slot_of round slots x
 -- a symbol before those of the table has none
 before : (round k : ℕ) (slots : List Slot) (x : ℕ) → x < k → lookup (nat_eq x) (placed round k slots) ≡ None
 before round k [] x h = refl
-before round k (s ∷ slots) x h = by (s.round == round) (before round (suc k) slots x (omega (arith, h)))
-  where
-    other : nat_eq x k ≡ false
-    other = grind (arith, nat_tests, h)
-
-    by : (b : Bool) → lookup (nat_eq x) (placed round (suc k) slots) ≡ None → lookup (nat_eq x) (cond b ((k, s.place) ∷ placed round (suc k) slots) (placed round (suc k) slots)) ≡ None
-    by true rest = ap (λ b. cond b (Some s.place) (lookup (nat_eq x) (placed round (suc k) slots))) other ∙ rest
-    by false rest = rest
+before round k (s ∷ slots) x h =
+    let other : nat_eq x k ≡ false = grind (arith, nat_tests, h) in
+    let rest : lookup (nat_eq x) (placed round (suc k) slots) ≡ None = before round (suc k) slots x (omega (arith, h)) in
+    elim (cases_Bool (s.round == round)) [ inl e ↦ rw (e, other) rest | inr e ↦ rw e rest ]
 
 -- the table, numbered from k on, gives the symbol k + x what the slot at x says
 from : (round k : ℕ) (slots : List Slot) (x : ℕ) → lookup (nat_eq (k + x)) (placed round k slots) ≡ slot_of round slots x
 from round k [] x = refl
-from round k (s ∷ slots) zero = by (s.round == round)
-  where
-    same : nat_eq (k + zero) k ≡ true
-    same = grind (arith, nat_tests)
-
-    by : (b : Bool) → lookup (nat_eq (k + zero)) (cond b ((k, s.place) ∷ placed round (suc k) slots) (placed round (suc k) slots)) ≡ cond b (Some s.place) None
-    by true = ap (λ b. cond b (Some s.place) (lookup (nat_eq (k + zero)) (placed round (suc k) slots))) same
-    by false = before round (suc k) slots (k + zero) (omega arith)
-from round k (s ∷ slots) (suc x) = by (s.round == round) (from round (suc k) slots x)
-  where
-    other : nat_eq (k + suc x) k ≡ false
-    other = grind (arith, nat_tests)
-
-    next : lookup (nat_eq (suc k + x)) (placed round (suc k) slots) ≡ slot_of round slots x → lookup (nat_eq (k + suc x)) (placed round (suc k) slots) ≡ slot_of round slots x
-    next rest = let e : k + suc x ≡ suc k + x = omega arith in ap (λ n. lookup (nat_eq n) (placed round (suc k) slots)) e ∙ rest
-
-    by : (b : Bool) → lookup (nat_eq (suc k + x)) (placed round (suc k) slots) ≡ slot_of round slots x
-        → lookup (nat_eq (k + suc x)) (cond b ((k, s.place) ∷ placed round (suc k) slots) (placed round (suc k) slots)) ≡ slot_of round slots x
-    by true rest = ap (λ b. cond b (Some s.place) (lookup (nat_eq (k + suc x)) (placed round (suc k) slots))) other ∙ next rest
-    by false rest = next rest
+from round k (s ∷ slots) zero =
+    let same : nat_eq (k + zero) k ≡ true = grind (arith, nat_tests) in
+    elim (cases_Bool (s.round == round)) [ inl e ↦ rw (e, same) refl | inr e ↦ rw e (before round (suc k) slots (k + zero) (omega arith)) ]
+from round k (s ∷ slots) (suc x) =
+    let other : nat_eq (k + suc x) k ≡ false = grind (arith, nat_tests) in
+    let next : k + suc x ≡ suc k + x = omega arith in
+    let rest : lookup (nat_eq (k + suc x)) (placed round (suc k) slots) ≡ slot_of round slots x = rw next (from round (suc k) slots x) in
+    elim (cases_Bool (s.round == round)) [ inl e ↦ rw (e, other) rest | inr e ↦ rw e rest ]
 
 pub placed-slot : (round : ℕ) (slots : List Slot) (x : ℕ) → lookup (nat_eq x) (placed round 0 slots) ≡ slot_of round slots x
 placed-slot round slots x = let e : x ≡ 0 + x = omega arith in ap (λ n. lookup (nat_eq n) (placed round 0 slots)) e ∙ from round 0 slots x
@@ -65,10 +44,10 @@ slot-at round (s ∷ slots) (suc x) d h = slot-at round slots x d (omega (arith,
 -- a later round has set nothing
 pub placed-later : (round later k : ℕ) (slots : List Slot) → AreUpTo round slots → round < later → placed later k slots ≡ []
 placed-later round later k [] u h = refl
-placed-later round later k (s ∷ slots) u h = ap (λ b. cond b ((k, s.place) ∷ placed later (suc k) slots) (placed later (suc k) slots)) other ∙ placed-later round later (suc k) slots u.1 h
-  where
-    other : (s.round == later) ≡ false
-    other = let low = u.0 in grind (arith, nat_tests, low, h)
+placed-later round later k (s ∷ slots) u h =
+    let low = u.0 in
+    let other : (s.round == later) ≡ false = grind (arith, nat_tests, low, h) in
+    rw other (placed-later round later (suc k) slots u.1 h)
 
 pub up_to-later : (round later : ℕ) (slots : List Slot) → AreUpTo round slots → round ≤ later → AreUpTo later slots
 up_to-later round later [] u h = tt
@@ -79,19 +58,13 @@ up_to-later round later (s ∷ slots) u h = (let low = u.0 in omega (arith, low,
 module _ (e : Slot) (unset : e.round ≡ 0) where
   placed-none : (round k m : ℕ) → 1 ≤ round → placed round k (replicate m e) ≡ []
   placed-none round k zero h = refl
-  placed-none round k (suc m) h = ap (λ b. cond b ((k, e.place) ∷ placed round (suc k) (replicate m e)) (placed round (suc k) (replicate m e))) other ∙ placed-none round (suc k) m h
-    where
-      other : (e.round == round) ≡ false
-      other = grind (arith, nat_tests, unset, h)
+  placed-none round k (suc m) h =
+      let other : (e.round == round) ≡ false = grind (arith, nat_tests, unset, h) in
+      rw other (placed-none round (suc k) m h)
 
   pub placed-more : (round k : ℕ) (slots : List Slot) (m : ℕ) → 1 ≤ round → placed round k (slots ++ replicate m e) ≡ placed round k slots
   placed-more round k [] m h = placed-none round k m h
-  placed-more round k (s ∷ slots) m h = by (s.round == round) (placed-more round (suc k) slots m h)
-    where
-      by : (b : Bool) → placed round (suc k) (slots ++ replicate m e) ≡ placed round (suc k) slots
-          → cond b ((k, s.place) ∷ placed round (suc k) (slots ++ replicate m e)) (placed round (suc k) (slots ++ replicate m e)) ≡ cond b ((k, s.place) ∷ placed round (suc k) slots) (placed round (suc k) slots)
-      by true rest = ap (λ r. (k, s.place) ∷ r) rest
-      by false rest = rest
+  placed-more round k (s ∷ slots) m h = rw (placed-more round (suc k) slots m h) refl
 
   up_to-none : (round m : ℕ) → AreUpTo round (replicate m e)
   up_to-none round zero = tt

@@ -1,14 +1,5 @@
 -- Substitution over numbers is substitution over the names that they stand for.
-use Rattle.std.specs.Prelude.{◌≡◌, ℕ, zero, suc, Bool, true, false, cond, not, nat_lt, ◌||◌, ◌+◌, List, [], ◌∷◌, ◌++◌, length, Some, None, refl}
-use Rattle.std.specs.List.{list_all, position_or_len}
-use Rattle.std.proofs.Common.{sym, ◌∙◌, ap, arith}
-use Rattle.std.proofs.lemmas.Bool.{and_parts, ltb-true, lt-ltb, or_parts}
-use Rattle.mm_lex.specs.Alphabet.{Name, name_eq, has_name}
-use Rattle.names.specs.Codes.{name_at, decode, code_of, AreDistinct}
-use Rattle.names.proofs.CodesLemmas.{name_same, name_eq-comm}
-use Rattle.frame.specs.Substitution.{CodeImages, code_image, code_apply, image, images_from, images_of_names}
-use Rattle.names.proofs.CodesLemmas.{found-number, unknown-number}
-use Rattle.subst.specs.Laws.{SubstitutionOverNames}
+use Rattle.subst.proofs.Words.{◌≡◌, ℕ, zero, suc, Bool, true, false, cond, not, nat_lt, ◌||◌, ◌+◌, List, [], ◌∷◌, ◌++◌, length, Some, None, refl, list_all, position_or_len, sym, ◌∙◌, ap, arith, and_parts, ltb-true, lt-ltb, or_parts, Name, name_eq, has_name, name_at, decode, code_of, AreDistinct, name_same, name_eq-comm, CodeImages, code_image, code_apply, image, images_from, images_of_names, found-number, unknown-number, SubstitutionOverNames}
 
 -- one less on both sides keeps a number below the other
 tail_lt : (n m : ℕ) → nat_lt (suc n) (suc m) ≡ true → nat_lt n m ≡ true

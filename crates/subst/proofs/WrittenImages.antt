@@ -1,7 +1,5 @@
 -- Images put in symbol by symbol.
-use Rattle.std.specs.Prelude.{◌≡◌, ℕ, zero, suc, ◌+◌, ◌≤◌, ◌<◌, List, [], ◌∷◌, ◌++◌, length, take, get_or}
-use Rattle.std.proofs.Common.{sym, ◌∙◌, ap, arith, add-one, append_assoc, append-nil, length-append}
-use Rattle.frame.specs.Substitution.{CodeImages, code_image, code_apply}
+use Rattle.subst.proofs.Words.{◌≡◌, ℕ, zero, suc, ◌+◌, ◌≤◌, ◌<◌, List, [], ◌∷◌, ◌++◌, length, take, get_or, sym, ◌∙◌, ap, arith, add-one, append_assoc, append-nil, length-append, CodeImages, code_image, code_apply}
 
 -- one symbol more is put in behind those before it
 more_taken : (σ : CodeImages) (e : List ℕ) (i : ℕ) → i < length e

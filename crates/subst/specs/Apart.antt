@@ -3,11 +3,7 @@
 -- The code goes by numbers; `are_groups_apart`, one number and one group at a time.
 use Rattle.std.specs.Prelude.{ℕ, Bool, ◌||◌, ◌==◌, List}
 use Rattle.std.specs.List.{list_all}
-use Rattle.mm_lex.specs.Alphabet.{Name}
-use Rattle.mm_read.specs.Statements.{Expr, Database}
-use Rattle.names.specs.Codes.{decode}
-use Rattle.frame.specs.Substitution.{CodeImages, code_image}
-use Rattle.frame.specs.Disjoint.{are_apart}
+use Rattle.subst.specs.Words.{Name, Expr, Database, decode, CodeImages, code_image, are_apart}
 
 -- the image of a number, by names
 abbrev pub image_named : List Name → CodeImages → ℕ → Expr

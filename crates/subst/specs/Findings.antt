@@ -3,10 +3,8 @@
 -- The code gives the variables of a proof places, and keeps of each, as bits, those from which it was found to be kept apart.
 use Rattle.std.specs.Prelude.{◌≡◌, ℕ, ◌<◌, ◌≤◌, ◌⊎◌, Bool, true, false, List, length, get_or}
 use Rattle.std.specs.Int.{bit_at}
-use Rattle.mm_lex.specs.Alphabet.{Name}
-use Rattle.scope.specs.Active.{is_variable}
-use Rattle.names.specs.Codes.{name_at}
-use Rattle.frame.specs.FrameOf.{is_pair}
+use Rattle.std.specs.List.{All, Contains}
+use Rattle.subst.specs.Words.{Name, is_variable, name_at, is_pair}
 use Rattle.frame.specs.Parts.{Numbered}
 use Rattle.subst.specs.declared.findings.FoundSymbol.{FoundSymbol}
 use Rattle.subst.specs.declared.findings.Variable.{Variable}
@@ -14,12 +12,6 @@ use Rattle.subst.specs.declared.findings.Variable.{Variable}
 pub record Found : Type 0 where
   pub symbols : List FoundSymbol
   pub variables : List Variable
-
-abbrev pub no_symbol : FoundSymbol
-no_symbol = record { number = 0; bit = 0 }
-
-abbrev pub symbol_at : Found → ℕ → FoundSymbol
-symbol_at f j = get_or f.symbols j no_symbol
 
 abbrev pub no_variable : Variable
 no_variable = record { symbol = 0; apart = 0 }
@@ -59,21 +51,21 @@ IsSame x y = y ≡ x
 abbrev pub IsAmong : ℕ → List ℕ → ℕ → Type 0
 IsAmong n xs x = (k : ℕ) × (k < n) × (get_or xs k 0 ≡ x)
 
+-- a variable, each bit of which is the place of one that is kept apart from it
+pub record IsRow (v : Numbered) (f : Found) (r : Variable) : Type 0 where
+  pub named : r.symbol < length v.names
+  pub variable : is_variable v.statements (name_at v.names r.symbol) ≡ true
+  pub apart : (j : ℕ) → bit_at r.apart j ≡ 1 → (j < length f.variables) × (is_pair v.statements (name_at v.names r.symbol) (variable_name v f j) ≡ true)
+
 -- what was found is so
 pub record IsKnown (v : Numbered) (f : Found) : Type 0 where
   pub few : length f.variables ≤ 64
-  pub symbol : (j : ℕ) → j < length f.symbols → AreBits v f (symbol_at f j).bit (IsSame (symbol_at f j).number)
-  pub named : (j : ℕ) → j < length f.variables → (variable_at f j).symbol < length v.names
-  pub variable : (j : ℕ) → j < length f.variables → is_variable v.statements (variable_name v f j) ≡ true
-  pub within : (i j : ℕ) → i < length f.variables → bit_at (variable_at f i).apart j ≡ 1 → j < length f.variables
-  pub pair : (i j : ℕ) → i < length f.variables → bit_at (variable_at f i).apart j ≡ 1 → is_kept v f i j ≡ true
+  pub symbols : All (λ s. AreBits v f s.bit (IsSame s.number)) f.symbols
+  pub rows : All (IsRow v f) f.variables
 
 -- the symbol x stands among those found, with this bit
-pub record IsListed (f : Found) (x bit : ℕ) : Type 0 where
-  pub place : ℕ
-  pub there : place < length f.symbols
-  pub same : (symbol_at f place).number ≡ x
-  pub own : (symbol_at f place).bit ≡ bit
+abbrev pub IsListed : Found → ℕ → ℕ → Type 0
+IsListed f x bit = Contains f.symbols (record { number = x; bit = bit })
 
 -- each bit is that of a variable
 pub record HavePlaces (f : Found) (bits : ℕ) : Type 0 where

@@ -3,11 +3,8 @@
 -- The code goes through the lists of a frame one variable at a time.
 use Rattle.std.specs.Prelude.{ℕ, ◌<◌, Bool, ◌||◌, List, length}
 use Rattle.std.specs.List.{list_all}
-use Rattle.mm_lex.specs.Alphabet.{Name, name_eq}
-use Rattle.mm_read.specs.Statements.{Expr, Database}
+use Rattle.subst.specs.Words.{Name, name_eq, Expr, Database, CodeImages, Images, code_image, image, are_apart}
 use Rattle.frame.specs.Below.{AreBelow}
-use Rattle.frame.specs.Substitution.{CodeImages, Images, code_image, image}
-use Rattle.frame.specs.Disjoint.{are_apart}
 
 -- the image of each number that stands for a name has such numbers alone
 abbrev pub AreOver : List Name → CodeImages → Type 0

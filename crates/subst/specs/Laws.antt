@@ -3,13 +3,7 @@
 -- The code substitutes over numbers, and tests all symbols of two images against each other at once.
 use Rattle.std.specs.Prelude.{◌≡◌, ℕ, ◌↔◌, ◌&&◌, List, IsTrue}
 use Rattle.std.specs.List.{list_any}
-use Rattle.mm_lex.specs.Alphabet.{Name, has_name}
-use Rattle.mm_read.specs.Statements.{Expr, Database}
-use Rattle.scope.specs.Active.{is_variable}
-use Rattle.names.specs.Codes.{decode, AreCodes, AreDistinct}
-use Rattle.frame.specs.FrameOf.{groups, together}
-use Rattle.frame.specs.Substitution.{CodeImages, Images, image, apply, code_apply, images_of_names}
-use Rattle.frame.specs.Disjoint.{are_groups_apart}
+use Rattle.subst.specs.Words.{Name, has_name, Expr, Database, is_variable, decode, AreCodes, AreDistinct, groups, together, CodeImages, Images, image, apply, code_apply, images_of_names, are_groups_apart}
 
 -- where no two numbers stand for one name, to substitute and then to read names is to read names and then to substitute
 abbrev pub SubstitutionOverNames : Type 0

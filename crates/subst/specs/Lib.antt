@@ -1,3 +1,4 @@
+pub mod Words
 pub mod ExpressionPlaces
 pub mod Images
 pub mod Apart

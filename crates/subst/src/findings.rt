@@ -1,9 +1,8 @@
 //! What was found of the symbols of one proof: which are variables, and which two of them are kept apart.
 ghost use Rattle.std.specs.Prelude.{◌≡◌, ◌<◌, [], length, true, false, IfSome};
-ghost use Rattle.names.specs.Codes.{name_at, decode};
+ghost use Rattle.names.specs.Codes.{name_at};
 ghost use Rattle.scope.specs.Active.{is_variable};
 ghost use Rattle.frame.specs.Below.{AreBelow};
-ghost use Rattle.frame.specs.Disjoint.{are_apart};
 ghost use Rattle.subst.specs.Findings.{IsKnown, IsAt, IsListed, Grows, IsSame, IsAmong, AreBits, HavePlaces, IsRowApart, AreWordsApart};
 
 use crate::bits::{lowest, without};
@@ -74,15 +73,8 @@ impl Findings {
     fn known(&self, symbol: u32) -> Option<u64>
         ensures { IfSome result (IsListed self.now symbol) }
     {
-        let index = symbol as usize;
-        if index >= self.hints.len() {
-            return None;
-        }
-        let place = self.hints[index] as usize;
-        if place >= self.symbols.len() {
-            return None;
-        }
-        let listed = self.symbols[place];
+        let hint = *self.hints.get(symbol as usize)?;
+        let listed = self.symbols.get(hint as usize)?;
         if listed.number == symbol {
             Some(listed.bit)
         } else {
@@ -90,52 +82,9 @@ impl Findings {
         }
     }
 
-    /// The bits of an image whose symbols were all found.
-    #[inline(always)]
-    fn known_bits(&self, pairs: &Pairs<'_>, image: &[u32]) -> Option<u64>
-        requires { IsKnown pairs.now self.now }
-        ensures { IfSome result (λ bits. AreBits pairs.now self.now bits (IsAmong (length image.now) image.now)) }
-    {
-        let _statement = pairs;
-        let mut bits = 0;
-        for symbol in image {
-            bits |= self.known(*symbol)?;
-        }
-        Some(bits)
-    }
-
-    /// The bits of an image. None where there is no room for its symbols.
+    /// The bit of a symbol that was not found yet. None where there is no room for it.
     #[cold]
     #[inline(never)]
-    fn find_bits(&mut self, pairs: &Pairs<'_>, image: &[u32]) -> Option<u64>
-        requires known { IsKnown pairs.now self.old }
-        requires image { AreBelow (length pairs.now.names) image.now }
-        ensures known { IsKnown pairs.now self.new }
-        ensures grows { Grows self.old self.new }
-        ensures bits { IfSome result (λ bits. AreBits pairs.now self.new bits (IsAmong (length image.now) image.now)) }
-    {
-        let mut bits = 0;
-        for symbol in image {
-            bits |= self.look(pairs, *symbol)?;
-        }
-        Some(bits)
-    }
-
-    /// The bit of a symbol. None where there is no room for it.
-    fn look(&mut self, pairs: &Pairs<'_>, symbol: u32) -> Option<u64>
-        requires known { IsKnown pairs.now self.old }
-        requires named { symbol < length pairs.now.names }
-        ensures known { IsKnown pairs.now self.new }
-        ensures grows { Grows self.old self.new }
-        ensures bits { IfSome result (λ bit. AreBits pairs.now self.new bit (IsSame symbol)) }
-    {
-        match self.known(symbol) {
-            Some(bit) => Some(bit),
-            None => self.find(pairs, symbol),
-        }
-    }
-
-    /// The bit of a symbol that was not found yet. None where there is no room for it.
     fn find(&mut self, pairs: &Pairs<'_>, symbol: u32) -> Option<u64>
         requires known { IsKnown pairs.now self.old }
         requires named { symbol < length pairs.now.names }
@@ -159,23 +108,9 @@ impl Findings {
         ensures grows { Grows self.old self.new }
         ensures bits { IfSome result (λ bit. AreBits pairs.now self.new bit (IsSame symbol)) }
     {
-        if pairs.variable(symbol) {
-            self.add_variable(pairs, symbol)
-        } else {
-            Some(0)
+        if !pairs.variable(symbol) {
+            return Some(0);
         }
-    }
-
-    /// Gives a variable a place. None where there is none left.
-    fn add_variable(&mut self, pairs: &Pairs<'_>, symbol: u32) -> Option<u64>
-        requires known { IsKnown pairs.now self.old }
-        requires named { symbol < length pairs.now.names }
-        requires variable { is_variable pairs.now.statements (name_at pairs.now.names symbol) ≡ true }
-        ensures known { IsKnown pairs.now self.new }
-        ensures grows { Grows self.old self.new }
-        ensures bits { IfSome result (λ bit. AreBits pairs.now self.new bit (IsSame symbol)) }
-    {
-        let _statement = pairs;
         let place = self.variables.len();
         let variable = Variable { symbol, apart: 0 };
         if place >= MOST || self.variables.push(variable).is_err() {
@@ -213,10 +148,14 @@ impl Findings {
         ensures grows { Grows self.old self.new }
         ensures bits { IfSome result (λ bits. AreBits pairs.now self.new bits (IsAmong (length image.now) image.now)) }
     {
-        match self.known_bits(pairs, image) {
-            Some(bits) => Some(bits),
-            None => self.find_bits(pairs, image),
+        let mut bits = 0;
+        for symbol in image {
+            bits |= match self.known(*symbol) {
+                Some(bit) => bit,
+                None => self.find(pairs, *symbol)?,
+            };
         }
+        Some(bits)
     }
 
     /// Whether each variable of the one word is kept apart from each of the other.
@@ -294,35 +233,5 @@ impl Findings {
             rest = without(rest, other);
         }
         true
-    }
-
-    /// Whether the images are apart. None where there is no room for their symbols.
-    fn images_apart(&mut self, pairs: &Pairs<'_>, left: &[u32], right: &[u32]) -> Option<bool>
-        requires known { IsKnown pairs.now self.old }
-        requires left { AreBelow (length pairs.now.names) left.now }
-        requires right { AreBelow (length pairs.now.names) right.now }
-        ensures known { IsKnown pairs.now self.new }
-        ensures apart { IfSome result (λ apart. apart ≡ are_apart pairs.now.statements (decode pairs.now.names left.now) (decode pairs.now.names right.now)) }
-    {
-        let first = self.bits_of(pairs, left)?;
-        let second = self.bits_of(pairs, right)?;
-        Some(self.words_apart(pairs, first, second))
-    }
-
-    /// Whether each variable of the one image and each of the other are different and stand together in an active `$d`.
-    ///
-    /// Cost: the symbols of both images, and for each two variables that are new to each other that of `Pairs::has`;
-    /// that of `Pairs::apart` where the proof has more than 64 variables, or memory is refused.
-    pub fn apart(&mut self, pairs: &Pairs<'_>, left: &[u32], right: &[u32]) -> bool
-        requires known { IsKnown pairs.now self.old }
-        requires left { AreBelow (length pairs.now.names) left.now }
-        requires right { AreBelow (length pairs.now.names) right.now }
-        ensures known { IsKnown pairs.now self.new }
-        ensures apart { result ≡ are_apart pairs.now.statements (decode pairs.now.names left.now) (decode pairs.now.names right.now) }
-    {
-        match self.images_apart(pairs, left, right) {
-            Some(apart) => apart,
-            None => pairs.apart(left, right),
-        }
     }
 }

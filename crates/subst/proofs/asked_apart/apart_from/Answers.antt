@@ -1,8 +1,4 @@
-use Rattle.std.proofs.Common.{◌∙◌, sym, ap, subst, length}
-use Rattle.names.specs.Codes.{decode}
-use Rattle.frame.specs.Below.{AreBelow}
-use Rattle.frame.specs.Disjoint.{are_apart}
-use Rattle.names.proofs.CodesLemmas.{code-name}
+use Rattle.subst.proofs.Words.{◌∙◌, sym, ap, subst, length, decode, AreBelow, are_apart, code-name}
 use Rattle.subst.proofs.SubstitutionLemmas.{image-named, image-unnamed}
 use Rattle.subst.proofs.DisjointLemmas.{constant_right}
 use Rattle.subst.proofs.asked_apart.apart_from.Goals as goal

@@ -1,6 +1,4 @@
-use Rattle.std.specs.Prelude.{◌≡◌, drop}
-use Rattle.frame.specs.Disjoint.{are_groups_apart}
-use Rattle.frame.specs.Substitution.{images_of_names}
+use Rattle.subst.proofs.Words.{◌≡◌, drop, are_groups_apart, images_of_names}
 use Rattle.subst.proofs.asked_apart.disjoint.Given as goal
 
 abbrev pub invariant-loop-group : goal.invariant-loop-group

@@ -1,8 +1,4 @@
-use Rattle.std.specs.Prelude.{◌≡◌}
-use Rattle.std.specs.List.{list_all}
-use Rattle.frame.specs.Disjoint.{is_group_apart}
-use Rattle.frame.specs.Substitution.{images_of_names, image}
-use Rattle.subst.specs.Images.{is_image_apart}
+use Rattle.subst.proofs.Words.{◌≡◌, list_all, is_group_apart, images_of_names, image, is_image_apart}
 use Rattle.subst.proofs.asked_apart.group_apart.Given as goal
 
 abbrev pub invariant-loop-x : goal.invariant-loop-x

@@ -1,7 +1,4 @@
-use Rattle.std.specs.Prelude.{◌≡◌}
-use Rattle.names.specs.Codes.{decode}
-use Rattle.frame.specs.Substitution.{images_of_names}
-use Rattle.subst.specs.Images.{is_image_apart}
+use Rattle.subst.proofs.Words.{◌≡◌, decode, images_of_names, is_image_apart}
 use Rattle.subst.proofs.asked_apart.image_apart.Given as goal
 
 abbrev pub invariant-loop-y : goal.invariant-loop-y

@@ -1,9 +1,4 @@
-use Rattle.std.proofs.Common.{◌∙◌, sym, ap, subst, length}
-use Rattle.names.specs.Codes.{decode}
-use Rattle.frame.specs.Below.{AreBelow}
-use Rattle.frame.specs.Substitution.{images_of_names}
-use Rattle.names.proofs.CodesLemmas.{code-name}
-use Rattle.subst.specs.Images.{is_image_apart}
+use Rattle.subst.proofs.Words.{◌∙◌, sym, ap, subst, length, decode, AreBelow, images_of_names, code-name, is_image_apart}
 use Rattle.subst.proofs.SubstitutionLemmas.{image-named, image-unnamed}
 use Rattle.subst.proofs.DisjointLemmas.{constant_image}
 use Rattle.subst.proofs.asked_apart.variable_apart.Goals as goal

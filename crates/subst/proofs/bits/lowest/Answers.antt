@@ -1,5 +1,4 @@
-use Rattle.std.proofs.Common.{rules, w64}
-use Rattle.std.proofs.lemmas.Nat.Bits.{bit_at-trailing_zeros}
+use Rattle.subst.proofs.Words.{rules, w64, bit_at-trailing_zeros}
 use Rattle.subst.proofs.bits.lowest.Goals as goal
 
 pub returns-clause-low : goal.returns-clause-low

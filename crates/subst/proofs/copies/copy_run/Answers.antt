@@ -1,8 +1,6 @@
-use Rattle.std.proofs.Common.{◌+◌, arith, refl, ◌∙◌}
-use Rattle.std.proofs.lemmas.Simd.{length-put_chunk}
+use Rattle.subst.proofs.Words.{◌+◌, arith, refl, ◌∙◌, length-put_chunk, chunk}
 use Rattle.subst.proofs.CopyLemmas.{copy-on}
 use Rattle.subst.proofs.copies.copy_run.Goals as goal
-use lib.Lanes.{chunk}
 
 pub loop-done-preserved : goal.loop-done-preserved
 loop-done-preserved c =

@@ -1,5 +1,4 @@
-use Rattle.std.proofs.Common.{◌≡◌, ◌+◌, ◌-◌, ◌<◌, ◌++◌, length, take, drop}
-use Rattle.std.specs.Prelude.{min}
+use Rattle.subst.proofs.Words.{◌≡◌, ◌+◌, ◌-◌, ◌<◌, ◌++◌, length, take, drop, min}
 use Rattle.subst.proofs.copies.copy_run.Given as goal
 
 abbrev pub invariant-loop-done : goal.invariant-loop-done

@@ -1,5 +1,4 @@
-use Rattle.std.proofs.Common.{arith, ◌∙◌}
-use Rattle.std.specs.Prelude.{Option, None, Some, IfNone}
+use Rattle.subst.proofs.Words.{arith, ◌∙◌, Option, None, Some, IfNone}
 use Rattle.subst.proofs.ImagePlacesLemmas.{inside-more}
 use Rattle.subst.proofs.CopyLemmas.{fill-on, fill-lacks, kept-on, written-kept}
 use Rattle.subst.proofs.filling.fill.Goals as goal

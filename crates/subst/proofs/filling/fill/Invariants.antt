@@ -1,7 +1,4 @@
-use Rattle.std.proofs.Common.{◌≡◌, length, take}
-use Rattle.frame.specs.Substitution.{code_apply}
-use Rattle.subst.specs.ExpressionPlaces.{images_at}
-use Rattle.subst.specs.Stored.Written.{IsWritten}
+use Rattle.subst.proofs.Words.{◌≡◌, length, take, code_apply, images_at, IsWritten}
 use Rattle.subst.proofs.filling.fill.Given as goal
 
 abbrev pub invariant-loop-symbol : goal.invariant-loop-symbol

@@ -1,8 +1,4 @@
-use Rattle.std.proofs.Common.{◌≡◌, ℕ, ◌<◌, ◌++◌, List, length, take, drop, arith, ap, sym, subst, ◌∙◌, append-nil}
-use Rattle.std.proofs.lemmas.List.{take_all, drop_all}
-use Rattle.frame.specs.Substitution.{code_apply}
-use Rattle.subst.specs.ExpressionPlaces.{images_at}
-use Rattle.subst.specs.Stored.Written.{IsWritten}
+use Rattle.subst.proofs.Words.{◌≡◌, ℕ, ◌<◌, ◌++◌, List, length, take, drop, arith, ap, sym, subst, ◌∙◌, append-nil, take_all, drop_all, code_apply, images_at, IsWritten}
 use Rattle.subst.proofs.CopyLemmas.{written-from}
 use Rattle.subst.proofs.filling.fill_growing.Goals as goal
 

@@ -1,6 +1,4 @@
-use Rattle.std.specs.Prelude.{◌≡◌, ℕ, List, Option, IfSome, IfNone, take}
-use Rattle.std.proofs.Common.{sym, ◌∙◌, subst}
-use Rattle.subst.specs.Stored.Written.{IsWritten, LacksRoom}
+use Rattle.subst.proofs.Words.{◌≡◌, ℕ, List, Option, IfSome, IfNone, take, sym, ◌∙◌, subst, IsWritten, LacksRoom}
 use Rattle.subst.proofs.ImagePlacesLemmas.{image-some, image-none}
 use Rattle.subst.proofs.filling.fill_image.Goals as goal
 

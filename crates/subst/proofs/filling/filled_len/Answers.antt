@@ -1,5 +1,4 @@
-use Rattle.std.proofs.Common.{arith, ◌+◌, ◌<◌, length}
-use Rattle.subst.specs.ExpressionPlaces.{images_at}
+use Rattle.subst.proofs.Words.{arith, ◌+◌, ◌<◌, length, images_at}
 use Rattle.subst.proofs.WrittenImages.{len-take, len-within}
 use Rattle.subst.proofs.filling.filled_len.Goals as goal
 

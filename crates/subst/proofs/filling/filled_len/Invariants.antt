@@ -1,6 +1,4 @@
-use Rattle.std.specs.Prelude.{◌≡◌, ◌≤◌, length, take}
-use Rattle.frame.specs.Substitution.{code_apply}
-use Rattle.subst.specs.ExpressionPlaces.{images_at}
+use Rattle.subst.proofs.Words.{◌≡◌, ◌≤◌, length, take, code_apply, images_at}
 use Rattle.subst.proofs.filling.filled_len.Given as goal
 
 abbrev pub invariant-loop-symbol : goal.invariant-loop-symbol

@@ -1,5 +1,4 @@
-use Rattle.std.specs.Prelude.{◌≡◌, ℕ, ◌++◌, List, IfSome, IfNone}
-use Rattle.std.proofs.Common.{sym, ◌∙◌, subst}
+use Rattle.subst.proofs.Words.{◌≡◌, ℕ, ◌++◌, List, IfSome, IfNone, sym, ◌∙◌, subst}
 use Rattle.subst.proofs.ImagePlacesLemmas.{image-some, image-none}
 use Rattle.subst.proofs.MatchLemmas.{strip-some, strip-none}
 use Rattle.subst.proofs.matching.behind.Goals as goal

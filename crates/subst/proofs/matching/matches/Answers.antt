@@ -1,5 +1,4 @@
-use Rattle.std.proofs.Common.{◌≡◌, true, false}
-use Rattle.subst.specs.ExpressionPlaces.{images_at}
+use Rattle.subst.proofs.Words.{◌≡◌, true, false, images_at}
 use Rattle.subst.proofs.MatchLemmas.{match-fails, match-goes}
 use Rattle.subst.proofs.matching.matches.Goals as goal
 

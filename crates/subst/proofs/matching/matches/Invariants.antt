@@ -1,6 +1,4 @@
-use Rattle.std.proofs.Common.{◌≡◌, ◌++◌, take}
-use Rattle.frame.specs.Substitution.{code_apply}
-use Rattle.subst.specs.ExpressionPlaces.{images_at}
+use Rattle.subst.proofs.Words.{◌≡◌, ◌++◌, take, code_apply, images_at}
 use Rattle.subst.proofs.matching.matches.Given as goal
 
 abbrev pub invariant-loop-symbol : goal.invariant-loop-symbol

@@ -1,8 +1,4 @@
-use Rattle.std.specs.List.{list_all}
-use Rattle.std.proofs.Common.{length, arith, sym, ap, ◌∙◌}
-use Rattle.std.proofs.lemmas.List.{take_all}
-use Rattle.subst.specs.ExpressionPlaces.{images_at}
-use Rattle.subst.specs.Apart.{image_named, are_numbers_apart}
+use Rattle.subst.proofs.Words.{list_all, length, arith, sym, ap, ◌∙◌, take_all, images_at, image_named, are_numbers_apart}
 use Rattle.subst.proofs.NumbersApartLemmas.{below-group, group-goes_on, group-stops, groups-named}
 use Rattle.subst.proofs.numbers_apart.groups_apart.Goals as goal
 

@@ -1,8 +1,4 @@
-use Rattle.std.proofs.Common.{◌≡◌, true, take}
-use Rattle.std.specs.List.{list_all}
-use Rattle.subst.specs.ExpressionPlaces.{images_at}
-use Rattle.subst.specs.Findings.{IsKnown}
-use Rattle.subst.specs.Apart.{image_named, are_numbers_apart}
+use Rattle.subst.proofs.Words.{◌≡◌, true, take, list_all, images_at, IsKnown, image_named, are_numbers_apart}
 use Rattle.subst.proofs.numbers_apart.groups_apart.Given as goal
 
 abbrev pub invariant-loop-i : goal.invariant-loop-i

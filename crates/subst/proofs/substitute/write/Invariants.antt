@@ -1,5 +1,4 @@
-use Rattle.std.specs.Prelude.{◌≡◌, ◌++◌, take}
-use Rattle.frame.specs.Substitution.{code_apply}
+use Rattle.subst.proofs.Words.{◌≡◌, ◌++◌, take, code_apply}
 use Rattle.subst.proofs.substitute.write.Given as goal
 
 abbrev pub invariant-loop-symbol : goal.invariant-loop-symbol

@@ -1,9 +1,4 @@
-use Rattle.std.specs.Prelude.{◌≡◌, ℕ, ◌<◌, ◌≤◌, ◌++◌, List, Option, Some, None, IfSome, IfNone, length, take}
-use Rattle.std.proofs.Common.{arith, ◌∙◌, ap, subst}
-use Rattle.frame.specs.Substitution.{code_apply}
-use Rattle.subst.specs.declared.expression_place.ExpressionPlace.{ExpressionPlace}
-use Rattle.subst.specs.ExpressionPlaces.{images_at}
-use Rattle.subst.specs.Stored.Written.{IsWritten}
+use Rattle.subst.proofs.Words.{◌≡◌, ℕ, ◌<◌, ◌≤◌, ◌++◌, List, Option, Some, None, IfSome, IfNone, length, take, arith, ◌∙◌, ap, subst, code_apply, ExpressionPlace, images_at, IsWritten}
 use Rattle.subst.proofs.buffer.Buffer.add_applied.Goals as goal
 
 some_of : (o : Option ℕ) (e : ℕ) (P : ℕ → Type 0) → o ≡ Some e → IfSome o P → P e

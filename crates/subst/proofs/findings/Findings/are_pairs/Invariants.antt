@@ -1,5 +1,4 @@
-use Rattle.std.proofs.Common.{◌≡◌, true}
-use Rattle.subst.specs.Findings.{is_kept}
+use Rattle.subst.proofs.Words.{◌≡◌, true, is_kept}
 use Rattle.subst.proofs.BitsLemmas.{IsTaken}
 use Rattle.subst.proofs.findings.Findings.are_pairs.Given as goal
 

@@ -1,5 +1,4 @@
-use Rattle.std.proofs.Common.{◌∙◌, subst}
-use Rattle.subst.specs.Findings.{Grows}
+use Rattle.subst.proofs.Words.{◌∙◌, subst, Grows}
 use Rattle.subst.proofs.FindingsLemmas.{grows-twice}
 use Rattle.subst.proofs.findings.Findings.find.Goals as goal
 use Rattle.subst.proofs.findings.Findings.find.Goals.{else-index-len-via-then-index-len+else-is_err, else-index-len-via-else-index-len}

@@ -1,10 +1,4 @@
-use Rattle.std.proofs.Common.{◌≡◌, ℕ, ◌<◌, ◌==◌, List, length, get_or, true, false, Bool, sym, ◌∙◌, ap, arith}
-use Rattle.std.specs.Prelude.{nat_eq, cond, Some, None}
-use Rattle.std.specs.Map.{lookup}
-use Rattle.std.proofs.lemmas.Bool.{eq-eqb}
-use Rattle.subst.specs.declared.expression_place.ExpressionPlace.{ExpressionPlace}
-use Rattle.subst.specs.declared.image_places.Slot.{Slot}
-use Rattle.subst.specs.Stored.Slots.{placed}
+use Rattle.subst.proofs.Words.{◌≡◌, ℕ, ◌<◌, ◌==◌, List, length, get_or, true, false, Bool, sym, ◌∙◌, ap, arith, nat_eq, cond, Some, None, lookup, eq-eqb, ExpressionPlace, Slot, placed}
 use Rattle.subst.proofs.SlotLemmas.{placed-slot, slot-none, slot-at}
 use Rattle.subst.proofs.image_places.ImagePlaces.get.Goals as goal
 use Rattle.subst.proofs.NumbersApartLemmas.{differ}

@@ -1,8 +1,4 @@
-use Rattle.std.specs.Prelude.{ℕ, List, Option, Some, nat_eq, cond}
-use Rattle.std.specs.Map.{lookup}
-use Rattle.std.proofs.Common.{arith, refl, sym, ◌∙◌, ap, subst}
-use Rattle.subst.specs.declared.expression_place.ExpressionPlace.{ExpressionPlace}
-use Rattle.subst.specs.Stored.Slots.{placed, AreUpTo}
+use Rattle.subst.proofs.Words.{ℕ, List, Option, Some, nat_eq, cond, lookup, arith, refl, sym, ◌∙◌, ap, subst, ExpressionPlace, placed, AreUpTo}
 use Rattle.subst.proofs.SlotLemmas.{placed-slot, placed-more, slot-set, up_to-set, up_to-more}
 use Rattle.subst.proofs.image_places.ImagePlaces.set.Goals as goal
 

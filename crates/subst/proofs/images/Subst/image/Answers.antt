@@ -1,6 +1,4 @@
-use Rattle.std.proofs.Common.{length, arith, sym, ◌∙◌, ap}
-use Rattle.frame.specs.Substitution.{CodeImages, code_image}
-use Rattle.subst.specs.ExpressionPlaces.{seen_at}
+use Rattle.subst.proofs.Words.{length, arith, sym, ◌∙◌, ap, CodeImages, code_image, seen_at}
 use Rattle.subst.proofs.ImagePlacesLemmas.{image-some, image-none}
 use Rattle.subst.proofs.images.Subst.image.Goals as goal
 

@@ -1,7 +1,4 @@
-use Rattle.std.specs.Prelude.{◌++◌, length, nat_eq, cond}
-use Rattle.std.proofs.Common.{refl, ◌∙◌, ap}
-use Rattle.frame.specs.Substitution.{CodeImages, code_image}
-use Rattle.subst.specs.ExpressionPlaces.{images_at}
+use Rattle.subst.proofs.Words.{◌++◌, length, nat_eq, cond, refl, ◌∙◌, ap, CodeImages, code_image, images_at}
 use Rattle.subst.proofs.ExpressionPlaceLemmas.{seen-last}
 use Rattle.subst.proofs.ImagePlacesLemmas.{image-set}
 use Rattle.subst.proofs.images.Subst.set.Goals as goal

@@ -1,5 +1,5 @@
 use Rattle.subst.specs.Findings.{IsKnown, Grows, AreBits, IsAmong}
-use Rattle.subst.proofs.findings.Findings.find_bits.Given as goal
+use Rattle.subst.proofs.findings.Findings.bits_of.Given as goal
 
 -- the bits of the symbols so far
 abbrev pub invariant-loop-symbol : goal.invariant-loop-symbol
