@@ -1,33 +1,12 @@
 -- The citation of an assertion, by results of numbers.
-use Rattle.std.specs.Prelude.{◌≡◌, ℕ, ◌-◌, ◌<◌, ◌≤◌, true, false, List, [], ◌++◌, length, map, get_or, slice_get, Some}
-use Rattle.std.proofs.Common.{sym, ◌∙◌, ap, subst, arith, length-append}
-use Rattle.std.proofs.lemmas.List.{length-map, map-append}
-use Rattle.mm_lex.specs.Alphabet.{Name}
-use Rattle.mm_read.specs.declared.stmt.Stmt.{Stmt}
-use Rattle.mm_read.specs.Statements.{Expr, Database}
-use Rattle.scope.specs.Active.{stmt_at, before, expr_of, is_assertion, is_variable}
-use Rattle.names.specs.Codes.{name_at, decode}
-use Rattle.frame.specs.FrameOf.{HasAssertion, mandatory_groups}
-use Rattle.frame.specs.Substitution.{Images, apply as applied, CodeImages, code_apply, images_of_names}
-use Rattle.frame.specs.Disjoint.{are_groups_apart}
-use Rattle.frame.specs.Citations.{Carries, IsInstance, premises}
-use Rattle.frame.specs.AtPosition.{AreLegal}
-use Rattle.proof_code.specs.declared.item.Item.TheVariants.{Cite}
-use Rattle.subst.proofs.SubstitutionLemmas.{substitution_over_names}
-use Rattle.entries.specs.declared.cited_parts.Hypothesis.TheVariants.{Float}
+use Rattle.verify.proofs.Words.{◌≡◌, ℕ, ◌-◌, ◌<◌, ◌≤◌, Bool, true, false, List, [], ◌++◌, length, map, get_or, slice_get, Some, sym, ◌∙◌, ap, subst, arith, length-append, length-map, map-append}
+use Rattle.verify.proofs.Words.{Name, Stmt, Expr, Database, stmt_at, before, expr_of, is_assertion, is_variable, name_at, decode, HasAssertion, mandatory_groups, Images, applied, CodeImages, code_apply, images_of_names, are_groups_apart, Carries, IsInstance, premises, AreLegal, Cite, substitution_over_names, Float, IsBound, IsCited, IsTyped, AreRead, DoFit, named, AreNamed, Goes, Results, Cites, of_hypothesis, of_assertion, below, top, Adds, some-same}
 use Rattle.entries.specs.declared.cited_parts.Cited.{Cited}
-use Rattle.frame.specs.Bound.{IsBound}
-use Rattle.frame.specs.Cited.{IsCited}
-use Rattle.verify.specs.Fits.{IsTyped, AreRead, DoFit}
-use Rattle.verify.specs.Goes.{named, AreNamed, Goes}
-use Rattle.verify.specs.Machine.{Results, Cites, of_hypothesis, of_assertion}
-use Rattle.verify.specs.ResultPlaces.{below, top, Adds}
 use Rattle.verify.proofs.MandatoryAsked.{asked-lengths}
 use Rattle.verify.proofs.CitingLemmas.{of_variables, apply-τ, apart-τ, premises-read, premise-typed, fits-agree, conclusion-agrees, apart-agrees, read-over}
 use Rattle.verify.proofs.Decide.{append_cut, length-premises, not_both}
 use Rattle.verify.proofs.ImageLemmas.{only, apply-below, are-codes}
 use Rattle.verify.proofs.Named.{named-result, result-named, all-take, all-drop, halves, length-top}
-use Rattle.frame.proofs.FoundByNumber.{some-same}
 
 -- what the code finds wherever the citation can give f
 pub record Meets (S : Database) (names : List Name) (at a : ℕ) (c : Cited) (stack : List (List ℕ)) (f : Expr) : Type 0 where
@@ -44,34 +23,6 @@ module _ (S : Database) (names : List Name) (at a : ℕ) (s : Stmt) (c : Cited) 
   -- the conclusion under the images that were read, by names
   conclusion-named : (ρ : CodeImages) → decode names (code_apply ρ c.conclusion.now) ≡ applied (images_of_names names ρ) (expr_of s)
   conclusion-named ρ = substitution_over_names names ρ c.conclusion.now legal.distinct (are-codes names c.conclusion.now is.conclusion_below) ∙ ap (applied (images_of_names names ρ)) is.conclusion
-
-  pub goes-assertion : (old new : Results ℕ) (label : Name) (ρ : CodeImages) → AreNamed names old → Carries S a s label → HasAssertion S a s → a < at
-      → n ≤ length old.stack → AreRead c.heads.now c.hypotheses (top n old.stack) ρ → DoFit S (images_of_names names ρ) c.hypotheses (map (decode names) (top n old.stack))
-      → are_groups_apart (before S at) (images_of_names names ρ) (map (decode names) c.groups) ≡ true
-      → Adds true old new (below n old.stack) (code_apply ρ c.conclusion.now)
-      → Goes true S at names (Cite label) old new
-  goes-assertion old new label ρ an carries has earlier many read fits apart adds =
-      let es = top n old.stack in
-      let e = code_apply ρ c.conclusion.now in
-      let count = length-top n old.stack many in
-      let low = all-drop (length names) (length old.stack - n) old.stack an.stack_named in
-      let τ = only (is_variable (before S a)) (images_of_names names ρ) in
-      let prem : premises S a s τ ≡ map (decode names) es = premises-read S names a s legal.distinct bound c.heads.now c.hypotheses is.asked es count ρ read fits in
-      let away : are_groups_apart (before S at) τ (mandatory_groups (before S a) s) ≡ true
-      = apart-τ S names a s legal.distinct bound c.heads.now c.hypotheses is.asked es count ρ read (before S at) (mandatory_groups (before S a) s) ∙ (ap (are_groups_apart (before S at) (images_of_names names ρ)) (sym is.groups) ∙ apart) in
-      let whole : map (decode names) old.stack ≡ map (decode names) (below n old.stack) ++ premises S a s τ
-      = ap (map (decode names)) (halves n old.stack) ∙ (map-append (decode names) (below n old.stack) es ∙ ap (λ v. map (decode names) (below n old.stack) ++ v) (sym prem)) in
-      let gives : decode names e ≡ applied τ (expr_of s) = conclusion-named ρ ∙ sym (apply-τ S names a s legal.distinct bound c.heads.now c.hypotheses is.asked es count ρ read (expr_of s)) in (
-        (
-          map (decode names) (below n old.stack),
-          decode names e,
-          of_assertion a s τ carries
-              (record { earlier = earlier; stands = has.0; assertion = has.1; of_variables = of_variables S names a s legal.distinct bound c.heads.now c.hypotheses is.asked es count ρ read; apart = away }) whole gives,
-          ap (named names) adds ∙ named-result names old (below n old.stack) e,
-        ),
-        subst (AreNamed names) (sym adds) (result-named names old (below n old.stack) e an (all-take (length names) (length old.stack - n) old.stack an.stack_named)
-            (apply-below names ρ c.conclusion.now (read-over S names a s legal.distinct bound c.heads.now c.hypotheses is.asked es count ρ read low) is.conclusion_below)),
-      )
 
   -- whatever the citation can give, the code finds
   meets : (old : Results ℕ) (σ : Images) (b : List Expr) (f : Expr) → AreNamed names old
@@ -108,9 +59,34 @@ module _ (S : Database) (names : List Name) (at a : ℕ) (s : Stmt) (c : Cited) 
       meets old σ b f an (subst (λ u. IsInstance S at a u σ) e (subst (λ m. IsInstance S at m t σ) i fits))
       (whole ∙ (ap (λ m. b ++ premises S m t σ) i ∙ ap (λ u. b ++ premises S a u σ) e)) (gives ∙ ap (λ u. applied σ (expr_of u)) e)
 
-  pub goes-heavy : (old new : Results ℕ) (label : Name) (ρ : CodeImages) → AreNamed names old → Carries S a s label → HasAssertion S a s → AreRead c.heads.now c.hypotheses (top n old.stack) ρ
-      → Adds false old new (below n old.stack) (code_apply ρ c.conclusion.now) → Goes false S at names (Cite label) old new
-  goes-heavy old new label ρ an carries has read heavy = λ next p.
+  pub goes-assertion : (ok : Bool) (old new : Results ℕ) (label : Name) (ρ : CodeImages) → AreNamed names old → Carries S a s label → HasAssertion S a s → a < at
+      → n ≤ length old.stack → AreRead c.heads.now c.hypotheses (top n old.stack) ρ → DoFit S (images_of_names names ρ) c.hypotheses (map (decode names) (top n old.stack))
+      → are_groups_apart (before S at) (images_of_names names ρ) (map (decode names) c.groups) ≡ true
+      → Adds ok old new (below n old.stack) (code_apply ρ c.conclusion.now)
+      → Goes ok S at names (Cite label) old new
+  goes-assertion true old new label ρ an carries has earlier many read fits apart adds =
+      let es = top n old.stack in
+      let e = code_apply ρ c.conclusion.now in
+      let count = length-top n old.stack many in
+      let low = all-drop (length names) (length old.stack - n) old.stack an.stack_named in
+      let τ = only (is_variable (before S a)) (images_of_names names ρ) in
+      let prem : premises S a s τ ≡ map (decode names) es = premises-read S names a s legal.distinct bound c.heads.now c.hypotheses is.asked es count ρ read fits in
+      let away : are_groups_apart (before S at) τ (mandatory_groups (before S a) s) ≡ true
+      = apart-τ S names a s legal.distinct bound c.heads.now c.hypotheses is.asked es count ρ read (before S at) (mandatory_groups (before S a) s) ∙ (ap (are_groups_apart (before S at) (images_of_names names ρ)) (sym is.groups) ∙ apart) in
+      let whole : map (decode names) old.stack ≡ map (decode names) (below n old.stack) ++ premises S a s τ
+      = ap (map (decode names)) (halves n old.stack) ∙ (map-append (decode names) (below n old.stack) es ∙ ap (λ v. map (decode names) (below n old.stack) ++ v) (sym prem)) in
+      let gives : decode names e ≡ applied τ (expr_of s) = conclusion-named ρ ∙ sym (apply-τ S names a s legal.distinct bound c.heads.now c.hypotheses is.asked es count ρ read (expr_of s)) in (
+        (
+          map (decode names) (below n old.stack),
+          decode names e,
+          of_assertion a s τ carries
+              (record { earlier = earlier; stands = has.0; assertion = has.1; of_variables = of_variables S names a s legal.distinct bound c.heads.now c.hypotheses is.asked es count ρ read; apart = away }) whole gives,
+          ap (named names) adds ∙ named-result names old (below n old.stack) e,
+        ),
+        subst (AreNamed names) (sym adds) (result-named names old (below n old.stack) e an (all-take (length names) (length old.stack - n) old.stack an.stack_named)
+            (apply-below names ρ c.conclusion.now (read-over S names a s legal.distinct bound c.heads.now c.hypotheses is.asked es count ρ read low) is.conclusion_below)),
+      )
+  goes-assertion false old new label ρ an carries has earlier many read fits apart heavy = λ next p.
       let m = meets-step old label p.0 p.1 an carries has p.2 in
       let l = ap length (m.gives ρ read) ∙ length-map (code_apply ρ c.conclusion.now) (name_at names) in
       let w = ap (λ v. v.weight) p.3 in

@@ -1,33 +1,11 @@
 -- The results that an assertion takes are what some images make of its hypotheses, exactly where the first symbols agree
 -- and each `$e` is its result under the images that are read off the others.
-use Rattle.std.specs.Prelude.{◌≡◌, ℕ, zero, suc, ◌<◌, Bool, true, false, cond, List, [], ◌∷◌, ◌++◌, length, map, drop, get_or, slice_get, Option, Some, None, ◌⊎◌, refl}
-use Rattle.std.proofs.Common.{sym, ◌∙◌, ap, subst, arith, inl, inr, true≢false, append-nil}
-use Rattle.std.proofs.lemmas.Bool.{lt-ltb}
-use Rattle.std.proofs.lemmas.List.{length-map}
-use Rattle.std.proofs.lemmas.Option.{get_or_from_slice_get, slice_get_within}
-use Rattle.mm_lex.specs.Alphabet.{Name}
-use Rattle.mm_read.specs.declared.stmt.Stmt.{Stmt}
+use Rattle.verify.proofs.Words.{◌≡◌, ℕ, zero, suc, ◌<◌, Bool, true, false, cond, List, [], ◌∷◌, ◌++◌, length, map, drop, get_or, slice_get, Option, Some, None, option_map, ◌⊎◌, refl, sym, ◌∙◌, ap, subst, arith, inl, inr, true≢false, append-nil, lt-ltb, length-map, ext_get_or, get_or_from_slice_get, slice_get_within, slice_get-map}
+use Rattle.verify.proofs.Words.{Name, Stmt, Expr, Database, stmt_at, before, expr_of, is_variable, name_at, decode, code_of, AreDistinct, code-name, hypotheses, mandatory_groups, Images, image, applied, CodeImages, code_image, images_of_names, OfVariables, premises, expr_at, option_expr, are_groups_apart, AreBelow, AllBelow, AreOver, image-named, image-unnamed, image-decode, Hypothesis, Float, Essential, IsBound, HasFloat, IsFirstFixed, head_of, IsHead, IsAsked, AreAsked, IsTyped, AreRead, FitsOne, DoFit, some-same, name_at-injective}
 use Rattle.mm_read.specs.declared.stmt.Stmt.TheVariants as stmt
-use Rattle.mm_read.specs.Statements.{Expr, Database}
-use Rattle.scope.specs.Active.{stmt_at, before, expr_of, is_variable}
-use Rattle.names.specs.Codes.{name_at, decode, code_of, AreDistinct}
-use Rattle.names.proofs.CodesLemmas.{code-name}
-use Rattle.frame.specs.FrameOf.{hypotheses, mandatory_groups}
-use Rattle.frame.specs.Substitution.{Images, image, apply as applied, CodeImages, code_image, images_of_names}
-use Rattle.frame.specs.Citations.{OfVariables, premises, expr_at, option_expr}
-use Rattle.frame.specs.Disjoint.{are_groups_apart}
-use Rattle.frame.specs.Below.{AreBelow, AllBelow}
-use Rattle.subst.specs.Images.{AreOver}
-use Rattle.subst.proofs.SubstitutionLemmas.{image-named, image-unnamed, image-decode}
-use Rattle.entries.specs.declared.cited_parts.Hypothesis.{Hypothesis}
-use Rattle.entries.specs.declared.cited_parts.Hypothesis.TheVariants.{Float, Essential}
-use Rattle.frame.specs.Bound.{IsBound, HasFloat, IsFirstFixed}
-use Rattle.frame.specs.Cited.{head_of, IsHead, IsAsked, AreAsked}
-use Rattle.verify.specs.Fits.{IsTyped, AreRead, FitsOne, DoFit}
 use Rattle.verify.proofs.Named.{all-at}
-use Rattle.verify.proofs.MandatoryAsked.{At, asked-lengths, asked-at, float-at, essential-at, float-number, float-find, lists-same}
+use Rattle.verify.proofs.MandatoryAsked.{At, asked-lengths, asked-at, float-at, essential-at, float-number, float-find}
 use Rattle.verify.proofs.ImageLemmas.{apply-members, groups-members, only, only-all, image-only, image-fixed}
-use Rattle.frame.proofs.FoundByNumber.{some-same, name_at-injective}
 
 -- ---- lists of numbers and of names
 
@@ -36,10 +14,8 @@ get-decode names [] k = refl
 get-decode names (e ∷ rs) zero = refl
 get-decode names (e ∷ rs) (suc k) = get-decode names rs k
 
-get-map-of : {A B : Type 0} (f : A → B) (xs : List A) (k : ℕ) (x : A) (d : B) → slice_get xs k ≡ Some x → get_or (map f xs) k d ≡ f x
-get-map-of f [] k x d h = cc
-get-map-of f (y ∷ xs) zero x d h = let e : y ≡ x = cc in ap f e
-get-map-of f (y ∷ xs) (suc k) x d h = get-map-of f xs k x d h
+pub get-map-of : {A B : Type 0} (f : A → B) (xs : List A) (k : ℕ) (x : A) (d : B) → slice_get xs k ≡ Some x → get_or (map f xs) k d ≡ f x
+get-map-of f xs k x d h = get_or_from_slice_get (map f xs) k (f x) d (slice_get-map f xs k ∙ ap (option_map f) h)
 
 drop-decode : (names : List Name) (e : List ℕ) → drop 1 (decode names e) ≡ decode names (drop 1 e)
 drop-decode names [] = refl
@@ -157,7 +133,7 @@ module _ (S : Database) (names : List Name) (a : ℕ) (s : Stmt) (distinct : Are
 
       pub premises-read : premises S a s τ ≡ map (decode names) rs
       premises-read =
-          lists-same (premises S a s τ) (map (decode names) rs) []
+          ext_get_or [] (premises S a s τ) (map (decode names) rs)
           (length-map ps (λ i. applied τ (expr_at S i)) ∙ (sym lens.1 ∙ (sym count ∙ sym (length-map rs (decode names)))))
           (λ k less. (let less' : k < length rs = (let l = length-map ps (λ i. applied τ (expr_at S i)) in let m = lens.1 in omega (arith, less, l, m, count)) in
           let d = at k less' in

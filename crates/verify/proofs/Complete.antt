@@ -1,21 +1,7 @@
 -- Where items spell a derivation, the machine runs over them and leaves its conclusion on top, whatever lies below.
-use Rattle.std.specs.Prelude.{◌≡◌, ℕ, zero, suc, ◌+◌, List, [], ◌∷◌, ◌++◌, length, Some, slice_get, refl}
-use Rattle.std.proofs.Common.{sym, ◌∙◌, ap, subst, append_assoc, append-nil, add_assoc, add-zero}
-use Rattle.mm_lex.specs.Alphabet.{Name}
-use Rattle.mm_read.specs.declared.stmt.Stmt.{Stmt}
-use Rattle.mm_read.specs.Statements.{Expr, Database}
-use Rattle.scope.specs.Active.{expr_of}
-use Rattle.frame.specs.Substitution.{Images, apply as applied}
-use Rattle.proof_code.specs.declared.item.Item.{Item}
-use Rattle.proof_code.specs.declared.item.Item.TheVariants.{Cite, Recall, Mark}
-use Rattle.verify.specs.Derivations.{Derivation, Derivations, hyp, apply, none, more}
-use Rattle.verify.specs.Concludes.{Concludes, ConcludeAll}
-use Rattle.frame.specs.Citations.{IsHypothesis, IsInstance, premises, Carries}
-use Rattle.verify.specs.Spells.{Spells, SpellsAll, cites_hypothesis, cites_assertion, recalls, marks, spells_none, spells_more}
-use Rattle.verify.specs.Machine.{State, of_hypothesis, of_assertion, Runs}
-use Rattle.frame.specs.AtPosition.{IsSingle}
+use Rattle.verify.proofs.Words.{◌≡◌, ℕ, zero, suc, ◌+◌, List, [], ◌∷◌, ◌++◌, length, Some, slice_get, refl, sym, ◌∙◌, ap, subst, append_assoc, append-nil, add_assoc, add-zero}
+use Rattle.verify.proofs.Words.{Stmt, Expr, Database, expr_of, Images, applied, Item, Cite, Mark, Derivation, Derivations, hyp, apply, none, more, Concludes, ConcludeAll, IsInstance, premises, Carries, Spells, SpellsAll, cites_hypothesis, cites_assertion, recalls, marks, spells_none, spells_more, State, of_hypothesis, of_assertion, Runs, IsSingle, some-same}
 use Rattle.verify.proofs.Sound.{AllConclude, conclude_snoc}
-use Rattle.frame.proofs.FoundByNumber.{some-same}
 
 module _ (S : Database) (at : ℕ) (single : IsSingle S at) where
   -- two instances of one assertion that take the same results conclude the same
@@ -35,10 +21,9 @@ module _ (S : Database) (at : ℕ) (single : IsSingle S at) where
     pub conclude_all_same : (kids : Derivations) (es fs : List Expr) → ConcludeAll S at kids es → ConcludeAll S at kids fs → es ≡ fs
     conclude_all_same none [] [] p q = refl
     conclude_all_same none [] (f ∷ fs) p q = absurd q
-    conclude_all_same none (e ∷ es) fs p q = absurd p
-    conclude_all_same (more t kids) [] fs p q = absurd p
     conclude_all_same (more t kids) (e ∷ es) [] p q = absurd q
     conclude_all_same (more t kids) (e ∷ es) (f ∷ fs) p q = ap (λ r. r ∷ es) (conclude_same t e f p.0 q.0) ∙ ap (λ r. f ∷ r) (conclude_all_same kids es fs p.1 q.1)
+    conclude_all_same kids es fs p q = absurd p
 
   -- ---- runs
 
@@ -50,75 +35,24 @@ module _ (S : Database) (at : ℕ) (single : IsSingle S at) where
   abbrev pub state : List Expr → List Expr → ℕ → State
   state stack saved weight = record { stack = stack; saved = saved; weight = weight }
 
-  -- from any stack and weight, the items lead to these results above the stack
-  pub record Leads (saved : List Expr) (items : List Item) (es saved' : List Expr) (weight : ℕ) : Type 0 where
-    pub runs : (below : List Expr) (w : ℕ) → Runs S at (state below saved w) items (state (below ++ es) saved' (w + weight))
+  -- items behind others, up to the same end
+  runs_behind : (front rest items : List Item) (st mid end end' : State) → items ≡ front ++ rest → Runs S at st front mid → Runs S at mid rest end → end ≡ end' → Runs S at st items end'
+  runs_behind front rest items st mid end end' whole p q same = subst (λ is. Runs S at st is end') (sym whole) (subst (Runs S at st (front ++ rest)) same (runs_append front rest st mid end p q))
 
-  pub record Result (marked : List Derivation) (items : List Item) (t : Derivation) (after : List Derivation) (weight : ℕ) (saved : List Expr) : Type 0 where
+  -- from any stack and weight, the items lead to what the derivation concludes, above the stack
+  pub record Result (items : List Item) (t : Derivation) (after : List Derivation) (weight : ℕ) (saved : List Expr) : Type 0 where
     pub result : Expr
     pub saved' : List Expr
     pub concludes : Concludes S at t result
     pub kept : AllConclude S at after saved'
-    pub leads : Leads saved items (result ∷ []) saved' weight
+    pub runs : (below : List Expr) (w : ℕ) → Runs S at (state below saved w) items (state (below ++ result ∷ []) saved' (w + weight))
 
-  pub record Results (marked : List Derivation) (items : List Item) (kids : Derivations) (after : List Derivation) (weight : ℕ) (saved : List Expr) : Type 0 where
+  pub record Results (items : List Item) (kids : Derivations) (after : List Derivation) (weight : ℕ) (saved : List Expr) : Type 0 where
     pub results : List Expr
     pub saved' : List Expr
     pub conclude : ConcludeAll S at kids results
     pub kept : AllConclude S at after saved'
-    pub leads : Leads saved items results saved' weight
-
-  -- the citation of an active hypothesis leads to its expression
-  cite_hypothesis_leads : (i : ℕ) (s : Stmt) (label : Name) (saved : List Expr) (e : Expr) → Carries S i s label → IsHypothesis S at i s → e ≡ expr_of s → Leads saved (Cite label ∷ []) (e ∷ []) saved (length e)
-  cite_hypothesis_leads i s label saved e carries active same =
-      record { runs = λ below w. (state (below ++ e ∷ []) saved (w + length e), (below, e, of_hypothesis i s carries active same refl, refl), refl) }
-
-  -- items that lead to the premises lead, with the citation behind them, to the conclusion
-  cite_assertion_leads : (a : ℕ) (s : Stmt) (σ : Images) (label : Name) (front items : List Item) (saved saved' es : List Expr) (e : Expr) (front_weight weight : ℕ)
-      → Carries S a s label → IsInstance S at a s σ → es ≡ premises S a s σ → e ≡ applied σ (expr_of s) → Leads saved front es saved' front_weight
-      → items ≡ front ++ Cite label ∷ [] → weight ≡ front_weight + length e → Leads saved items (e ∷ []) saved' weight
-  cite_assertion_leads a s σ label front items saved saved' es e front_weight weight carries fits same gives leads whole weighs =
-      record {
-        runs = λ below w.
-            subst (λ is. Runs S at (state below saved w) is (state (below ++ e ∷ []) saved' (w + weight))) (sym whole)
-            (subst (λ v. Runs S at (state below saved w) (front ++ Cite label ∷ []) (state (below ++ e ∷ []) saved' v)) (add_assoc w front_weight (length e) ∙ ap (λ r. w + r) (sym weighs))
-            (runs_append front (Cite label ∷ []) (state below saved w) (state (below ++ es) saved' (w + front_weight)) (state (below ++ e ∷ []) saved' (w + front_weight + length e))
-            (leads.runs below w)
-            (state (below ++ e ∷ []) saved' (w + front_weight + length e), (below, e, of_assertion a s σ carries fits (ap (λ r. below ++ r) same) gives, refl), refl)));
-      }
-
-  -- a recall leads to the result that was saved
-  recall_leads : (k : ℕ) (saved : List Expr) (e : Expr) → slice_get saved k ≡ Some e → Leads saved (Recall (suc k) ∷ []) (e ∷ []) saved (length e)
-  recall_leads k saved e found = record { runs = λ below w. (state (below ++ e ∷ []) saved (w + length e), (e, found, refl), refl) }
-
-  -- a mark saves the result on top and adds no weight
-  mark_leads : (front items : List Item) (saved saved' : List Expr) (e : Expr) (weight : ℕ) → Leads saved front (e ∷ []) saved' weight → items ≡ front ++ Mark ∷ [] → Leads saved items (e ∷ []) (saved' ++ e ∷ []) weight
-  mark_leads front items saved saved' e weight leads whole =
-      record {
-        runs = λ below w.
-            subst (λ is. Runs S at (state below saved w) is (state (below ++ e ∷ []) (saved' ++ e ∷ []) (w + weight))) (sym whole)
-            (runs_append front (Mark ∷ []) (state below saved w) (state (below ++ e ∷ []) saved' (w + weight)) (state (below ++ e ∷ []) (saved' ++ e ∷ []) (w + weight))
-            (leads.runs below w)
-            (state (below ++ e ∷ []) (saved' ++ e ∷ []) (w + weight), (below, e, refl, refl), refl));
-      }
-
-  -- no items lead to no results
-  none_leads : (saved : List Expr) → Leads saved [] [] saved 0
-  none_leads saved = record { runs = λ below w. ap (λ r. state r saved w) (sym (append-nil below)) ∙ ap (λ r. state (below ++ []) saved r) (sym (add-zero w)) }
-
-  -- the items of a first result and those of the others lead to all of them
-  more_leads : (first rest items : List Item) (saved middle saved' : List Expr) (e : Expr) (es : List Expr) (first_weight rest_weight weight : ℕ)
-      → Leads saved first (e ∷ []) middle first_weight → Leads middle rest es saved' rest_weight → items ≡ first ++ rest → weight ≡ first_weight + rest_weight
-      → Leads saved items (e ∷ es) saved' weight
-  more_leads first rest items saved middle saved' e es first_weight rest_weight weight one all whole weighs =
-      record {
-        runs = λ below w.
-            subst (λ is. Runs S at (state below saved w) is (state (below ++ e ∷ es) saved' (w + weight))) (sym whole)
-            (subst (λ v. Runs S at (state below saved w) (first ++ rest) (state (below ++ e ∷ es) saved' v)) (add_assoc w first_weight rest_weight ∙ ap (λ r. w + r) (sym weighs))
-            (subst (λ stack. Runs S at (state below saved w) (first ++ rest) (state stack saved' (w + first_weight + rest_weight))) (append_assoc below (e ∷ []) es)
-            (runs_append first rest (state below saved w) (state (below ++ e ∷ []) middle (w + first_weight)) (state ((below ++ e ∷ []) ++ es) saved' (w + first_weight + rest_weight))
-            (one.runs below w) (all.runs (below ++ e ∷ []) (w + first_weight)))));
-      }
+    pub runs : (below : List Expr) (w : ℕ) → Runs S at (state below saved w) items (state (below ++ results) saved' (w + weight))
 
   -- what was saved for a derivation
   saved_result : (ts : List Derivation) (es : List Expr) (k : ℕ) (t : Derivation) → AllConclude S at ts es → slice_get ts k ≡ Some t
@@ -128,68 +62,70 @@ module _ (S : Database) (at : ℕ) (single : IsSingle S at) where
   saved_result (u ∷ ts) (e ∷ es) zero t p h = (e, refl, subst (λ r. Concludes S at r e) (cc) p.0)
   saved_result (u ∷ ts) (e ∷ es) (suc k) t p h = saved_result ts es k t p.1 h
 
-  -- a recall spells a saved derivation again, and leads to its conclusion
-  recalled : (marked : List Derivation) (k : ℕ) (t : Derivation) (e : Expr) (saved : List Expr) → slice_get marked k ≡ Some t → Concludes S at t e → AllConclude S at marked saved
-      → Result marked (Recall (suc k) ∷ []) t marked (length e) saved
-  recalled marked k t e saved found ends kept =
-      let r = saved_result marked saved k t kept found in
-      record { result = e; saved' = saved; concludes = ends; kept = kept; leads = recall_leads k saved e (r.1 ∙ ap Some (conclude_same t r.0 e r.2 ends)) }
-
-  -- a citation behind the items of its children leads to what the assertion concludes
-  cited : (marked after : List Derivation) (items front : List Item) (a : ℕ) (kids : Derivations) (front_weight weight : ℕ) (s : Stmt) (e : Expr) (label : Name) (saved : List Expr)
-      → Carries S a s label → Concludes S at (apply a kids) e → Results marked front kids after front_weight saved
-      → items ≡ front ++ Cite label ∷ [] → weight ≡ front_weight + length e → Result marked items (apply a kids) after weight saved
-  cited marked after items front a kids front_weight weight s e label saved carries ends r whole weighs =
-      record {
-        result = e;
-        saved' = r.saved';
-        concludes = ends;
-        kept = r.kept;
-        leads = cite_assertion_leads a ends.0 ends.1 label front items saved r.saved' r.results e front_weight weight
-            (subst (λ v. Carries S a v label) (some-same carries.stands ends.2.stands) carries) ends.2
-            (conclude_all_same kids r.results (premises S a ends.0 ends.1) r.conclude ends.3) ends.4 r.leads whole weighs;
-      }
-
-  -- a mark behind the items of a derivation leads to its conclusion, and saves it
-  marked_result : (marked before after : List Derivation) (items front : List Item) (t : Derivation) (weight : ℕ) (saved : List Expr)
-      → Result marked front t before weight saved → items ≡ front ++ Mark ∷ [] → after ≡ before ++ t ∷ [] → Result marked items t after weight saved
-  marked_result marked before after items front t weight saved r whole added =
-      record {
-        result = r.result;
-        saved' = r.saved' ++ r.result ∷ [];
-        concludes = r.concludes;
-        kept = subst (λ ts. AllConclude S at ts (r.saved' ++ r.result ∷ [])) (sym added) (conclude_snoc S at before t r.saved' r.result r.kept r.concludes);
-        leads = mark_leads front items saved r.saved' r.result weight r.leads whole;
-      }
-
-  -- the items of a first derivation and those of the others lead to their conclusions
-  more_results : (marked middle after : List Derivation) (items first rest : List Item) (t : Derivation) (kids : Derivations) (first_weight rest_weight weight : ℕ) (saved : List Expr)
-      → (r : Result marked first t middle first_weight saved) → Results middle rest kids after rest_weight r.saved'
-      → items ≡ first ++ rest → weight ≡ first_weight + rest_weight → Results marked items (more t kids) after weight saved
-  more_results marked middle after items first rest t kids first_weight rest_weight weight saved r q whole weighs =
-      record {
-        results = r.result ∷ q.results;
-        saved' = q.saved';
-        conclude = (r.concludes, q.conclude);
-        kept = q.kept;
-        leads = more_leads first rest items saved r.saved' q.saved' r.result q.results first_weight rest_weight weight r.leads q.leads whole weighs;
-      }
-
   mutual
     -- COMPLETE: where items spell a derivation, the machine leads to its conclusion, above any stack
     pub complete : {marked after : List Derivation} {items : List Item} {t : Derivation} {weight : ℕ} → Spells S at marked items t after weight
-        → (saved : List Expr) → AllConclude S at marked saved → Result marked items t after weight saved
-    complete (cites_hypothesis {i = i} {label = label} s e carries active ends) saved kept =
-        record { result = e; saved' = saved; concludes = ends; kept = kept; leads = cite_hypothesis_leads i s label saved e carries active (ends.2 ∙ ap expr_of (some-same ends.1.stands active.stands)) }
-    complete {marked} {after} {items} {weight = weight} (cites_assertion {a = a} {kids = kids} s e label front front_weight carries citable ends all whole weighs) saved kept =
-        cited marked after items front a kids front_weight weight s e label saved carries ends (complete_all all saved kept) whole weighs
-    complete {marked} {t = t} (recalls {k = k} e found ends) saved kept = recalled marked k t e saved found ends kept
-    complete {marked} {after} {items} {t} {weight} (marks front before one whole added) saved kept =
-        marked_result marked before after items front t weight saved (complete one saved kept) whole added
+        → (saved : List Expr) → AllConclude S at marked saved → Result items t after weight saved
+    complete (cites_hypothesis {i = i} s e carries active ends) saved kept =
+        record {
+          result = e;
+          saved' = saved;
+          concludes = ends;
+          kept = kept;
+          runs = λ below w. (state (below ++ e ∷ []) saved (w + length e), (below, e, of_hypothesis i s carries active (ends.2 ∙ ap expr_of (some-same ends.1.stands active.stands)) refl, refl), refl);
+        }
+    complete {items = items} {weight = weight} (cites_assertion {a = a} {kids = kids} s e label front front_weight carries citable ends all whole weighs) saved kept =
+        let r = complete_all all saved kept in
+        let premises_same : r.results ≡ premises S a ends.0 ends.1 = conclude_all_same kids r.results (premises S a ends.0 ends.1) r.conclude ends.3 in
+        let carries' : Carries S a ends.0 label = subst (λ v. Carries S a v label) (some-same carries.stands ends.2.stands) carries in
+        record {
+          result = e;
+          saved' = r.saved';
+          concludes = ends;
+          kept = r.kept;
+          runs = λ below w.
+              runs_behind front (Cite label ∷ []) items (state below saved w) (state (below ++ r.results) r.saved' (w + front_weight)) (state (below ++ e ∷ []) r.saved' (w + front_weight + length e)) (state (below ++ e ∷ []) r.saved' (w + weight)) whole
+              (r.runs below w)
+              (state (below ++ e ∷ []) r.saved' (w + front_weight + length e), (below, e, of_assertion a ends.0 ends.1 carries' ends.2 (ap (λ es. below ++ es) premises_same) ends.4, refl), refl)
+              (ap (state (below ++ e ∷ []) r.saved') (add_assoc w front_weight (length e) ∙ ap (λ v. w + v) (sym weighs)));
+        }
+    complete {marked} {t = t} (recalls {k = k} e found ends) saved kept =
+        let r = saved_result marked saved k t kept found in
+        record {
+          result = e;
+          saved' = saved;
+          concludes = ends;
+          kept = kept;
+          runs = λ below w. (state (below ++ e ∷ []) saved (w + length e), (e, r.1 ∙ ap Some (conclude_same t r.0 e r.2 ends), refl), refl);
+        }
+    complete {items = items} {t = t} {weight = weight} (marks front before one whole added) saved kept =
+        let r = complete one saved kept in
+        let marked' = r.saved' ++ r.result ∷ [] in
+        record {
+          result = r.result;
+          saved' = marked';
+          concludes = r.concludes;
+          kept = subst (λ ts. AllConclude S at ts marked') (sym added) (conclude_snoc S at before t r.saved' r.result r.kept r.concludes);
+          runs = λ below w.
+              runs_behind front (Mark ∷ []) items (state below saved w) (state (below ++ r.result ∷ []) r.saved' (w + weight)) (state (below ++ r.result ∷ []) marked' (w + weight)) (state (below ++ r.result ∷ []) marked' (w + weight)) whole
+              (r.runs below w) (state (below ++ r.result ∷ []) marked' (w + weight), (below, r.result, refl, refl), refl) refl;
+        }
 
     pub complete_all : {marked after : List Derivation} {items : List Item} {kids : Derivations} {weight : ℕ} → SpellsAll S at marked items kids after weight
-        → (saved : List Expr) → AllConclude S at marked saved → Results marked items kids after weight saved
-    complete_all spells_none saved kept = record { results = []; saved' = saved; conclude = tt; kept = kept; leads = none_leads saved }
-    complete_all {marked} {after} {items} {weight = weight} (spells_more {t = t} {kids = kids} first rest middle first_weight rest_weight one all whole weighs) saved kept =
+        → (saved : List Expr) → AllConclude S at marked saved → Results items kids after weight saved
+    complete_all spells_none saved kept =
+        record { results = []; saved' = saved; conclude = tt; kept = kept; runs = λ below w. ap (λ r. state r saved w) (sym (append-nil below)) ∙ ap (state (below ++ []) saved) (sym (add-zero w)) }
+    complete_all {items = items} {weight = weight} (spells_more first rest middle first_weight rest_weight one all whole weighs) saved kept =
         let r = complete one saved kept in
-        more_results marked middle after items first rest t kids first_weight rest_weight weight saved r (complete_all all r.saved' r.kept) whole weighs
+        let q = complete_all all r.saved' r.kept in
+        record {
+          results = r.result ∷ q.results;
+          saved' = q.saved';
+          conclude = (r.concludes, q.conclude);
+          kept = q.kept;
+          runs = λ below w.
+              runs_behind first rest items (state below saved w) (state (below ++ r.result ∷ []) r.saved' (w + first_weight)) (state ((below ++ r.result ∷ []) ++ q.results) q.saved' (w + first_weight + rest_weight)) (state (below ++ r.result ∷ q.results) q.saved' (w + weight)) whole
+              (r.runs below w) (q.runs (below ++ r.result ∷ []) (w + first_weight))
+              (ap (λ es. state es q.saved' (w + first_weight + rest_weight)) (append_assoc below (r.result ∷ []) q.results)
+              ∙ ap (state (below ++ r.result ∷ q.results) q.saved') (add_assoc w first_weight rest_weight ∙ ap (λ v. w + v) (sym weighs)));
+        }

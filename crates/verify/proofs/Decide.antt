@@ -1,23 +1,9 @@
 -- The machine has one way to go, so that a run that cannot go on refutes the proof.
-use Rattle.std.specs.Prelude.{◌≡◌, ℕ, zero, suc, ◌+◌, ◌<◌, ◌≤◌, true, List, [], ◌∷◌, ◌++◌, length, Some, refl}
-use Rattle.std.proofs.Common.{sym, ◌∙◌, ap, subst, arith, append-nil, length-append}
-use Rattle.std.proofs.lemmas.List.{length-map, same_from_push}
-use Rattle.mm_lex.specs.Alphabet.{Name}
-use Rattle.mm_read.specs.declared.stmt.Stmt.{Stmt}
-use Rattle.mm_read.specs.declared.stmt.Stmt.TheVariants.{Open, Close, Const, Var, Disj, Float, Ess, Axiom, Prove}
-use Rattle.mm_read.specs.Statements.{Expr, Database}
-use Rattle.scope.specs.Active.{stmt_at, before, expr_of, is_assertion}
-use Rattle.frame.specs.FrameOf.{hypotheses}
-use Rattle.frame.specs.Substitution.{Images, apply as applied}
-use Rattle.proof_code.specs.declared.item.Item.{Item}
-use Rattle.proof_code.specs.declared.item.Item.TheVariants.{Cite, Recall, Mark}
-use Rattle.frame.specs.Citations.{IsHypothesis, IsInstance, premises, is_hypothesis_kind, expr_at, Carries}
-use Rattle.verify.specs.Machine.{State, start, Cites, of_hypothesis, of_assertion, IsSaved, with_result, with_mark, Steps, Runs}
-use Rattle.verify.specs.Right.{IsRight, weight_limit}
-use Rattle.frame.specs.AtPosition.{IsSingle, HasLabelsOnce}
+use Rattle.verify.proofs.Words.{◌≡◌, ℕ, zero, suc, ◌+◌, ◌<◌, ◌≤◌, true, List, [], ◌∷◌, ◌++◌, length, Some, refl, sym, ◌∙◌, ap, subst, arith, append-nil, length-append, length-map, same_from_push}
+use Rattle.verify.proofs.Words.{Name, Stmt, Ess, Expr, Database, stmt_at, before, expr_of, is_assertion, hypotheses, Images, applied, Item, Cite, Recall, Mark, IsHypothesis, IsInstance, premises, is_hypothesis_kind, expr_at, Carries, State, start, Cites, of_hypothesis, of_assertion, IsSaved, with_result, with_mark, Steps, Runs, IsRight, weight_limit, IsSingle, HasLabelsOnce, some-same}
+use Rattle.mm_read.specs.declared.stmt.Stmt.TheVariants.{Float}
 use Rattle.verify.proofs.Sound.{Spelled, sound}
 use Rattle.verify.proofs.Complete.{state, Result, complete, conclude_instance, conclude_same}
-use Rattle.frame.proofs.FoundByNumber.{some-same}
 
 -- two cuts of one list with ends of one length are the same cut
 pub append_cut : {A : Type 0} (b c x y : List A) → b ++ x ≡ c ++ y → length x ≡ length y → (b ≡ c) × (x ≡ y)
@@ -35,15 +21,9 @@ length-premises S a s σ = length-map (hypotheses (before S a) s) (λ i. applied
 
 -- no statement is a hypothesis and an assertion
 pub not_both : (s : Stmt) → is_hypothesis_kind s ≡ true → is_assertion s ≡ true → ⊥
-not_both Open p q = cc
-not_both Close p q = cc
-not_both (Const ws) p q = cc
-not_both (Var ws) p q = cc
-not_both (Disj ws) p q = cc
 not_both (Float l c v) p q = cc
 not_both (Ess l e) p q = cc
-not_both (Axiom l e) p q = cc
-not_both (Prove l e pr) p q = cc
+not_both s p q = cc
 
 module _ (S : Database) (at : ℕ) (single : IsSingle S at) (once : HasLabelsOnce S) where
   -- one label, one statement
@@ -118,10 +98,10 @@ module _ (S : Database) (at : ℕ) (single : IsSingle S at) (once : HasLabelsOnc
   -- right items run through, to the statement's expression alone and within the limit
   pub right_accepts : (items : List Item) (s : Stmt) → stmt_at S at ≡ Some s → IsRight S at items → Accepts items (expr_of s)
   right_accepts items s stands (t, d) =
-      let r : Result S at single [] items t d.after d.weight [] = complete S at single d.spelled [] tt in
+      let r : Result S at single items t d.after d.weight [] = complete S at single d.spelled [] tt in
       record {
         end = state S at single (r.result ∷ []) r.saved' (0 + d.weight);
-        runs = r.leads.runs [] 0;
+        runs = r.runs [] 0;
         one = ap (λ e. e ∷ []) (conclude_same S at single t r.result (expr_of d.stmt) r.concludes d.concludes ∙ ap expr_of (some-same d.stands stands));
         light = omega (arith, d.light);
       }

@@ -1,25 +1,95 @@
--- What the code knows at each exit of an item, as a fact of the machine over derivations.
-use Rattle.std.specs.Prelude.{◌≡◌, ℕ, suc, ◌-◌, ◌<◌, ◌≤◌, Bool, true, false, List, [], ◌∷◌, ◌++◌, length, map, get_or, Result, Ok, Err, IfOk, refl}
-use Rattle.std.proofs.Common.{sym, ◌∙◌, ap, subst, arith, length-append}
-use Rattle.mm_lex.specs.Alphabet.{Name}
-use Rattle.mm_read.specs.declared.stmt.Stmt.{Stmt}
-use Rattle.mm_read.specs.Statements.{Database}
-use Rattle.scope.specs.Active.{stmt_at, before}
-use Rattle.frame.specs.FrameOf.{hypotheses}
-use Rattle.frame.specs.Citations.{Carries, IsHypothesis}
-use Rattle.frame.specs.AtPosition.{HasLabelsOnce}
-use Rattle.proof_code.specs.declared.item.Item.{Item}
-use Rattle.proof_code.specs.declared.item.Item.TheVariants.{Cite, Recall}
-use Rattle.proof_code.specs.ItemNumbers.{item_of}
-use Rattle.proof_code.proofs.RowOfNumbers.{item-cite, item-recall}
-use Rattle.verify.specs.Derivations.{Derivation, hyp, apply, from_list}
-use Rattle.verify.specs.Spells.{IsCitable}
-use Rattle.verify.specs.Growth.{Trees, trees, with_tree, Builds, a_hypothesis, an_assertion, GrowsBy, Grew, GrowsMark, GrowsRecall}
-use Rattle.verify.specs.ResultPlaces.{below, top}
+-- The machine over derivations: items spell one at most, and what the code knows at each exit of an item.
+use Rattle.verify.proofs.Words.{◌≡◌, ℕ, zero, suc, List, [], ◌∷◌, ◌++◌, length, refl, ◌-◌, ◌<◌, ◌≤◌, Bool, true, false, map, get_or, Result, IfOk, sym, ◌∙◌, ap, subst, append_assoc, append-nil, arith, length-append, same_from_push}
+use Rattle.verify.proofs.Words.{Name, Stmt, Expr, Database, stmt_at, before, is_assertion, hypotheses, Item, Cite, Recall, Mark, Derivation, Derivations, hyp, apply, none, more, from_list, ConcludeAll, IsHypothesis, premises, Carries, IsCitable, Spells, SpellsAll, cites_hypothesis, cites_assertion, recalls, marks, spells_none, spells_more, HasLabelsOnce, Trees, trees, Builds, a_hypothesis, an_assertion, IsKept, Grows, GrowsBy, with_tree, Grew, some-same, item_of, item-cite, item-recall, below, top, IsRight, Derives}
+use Rattle.verify.proofs.Decide.{append_cut, length-premises, not_both}
 use Rattle.verify.proofs.Named.{halves, length-top}
-use Rattle.verify.specs.Right.{IsRight, Derives}
-use Rattle.verify.proofs.Unique.{apart_kinds, grows_append, grows_same, grows_by_same, yields}
-use Rattle.frame.proofs.FoundByNumber.{some-same}
+
+abbrev pub to_list : Derivations → List Derivation
+to_list none = []
+to_list (more t kids) = t ∷ to_list kids
+
+from-to : (kids : Derivations) → from_list (to_list kids) ≡ kids
+from-to none = refl
+from-to (more t kids) = ap (λ r. more t r) (from-to kids)
+
+module _ (S : Database) (at : ℕ) where
+  -- what grows over the first items and then over the rest grows over all
+  pub grows_append : (front rest : List Item) (st mid end : Trees) → GrowsBy S at st front mid → GrowsBy S at mid rest end → GrowsBy S at st (front ++ rest) end
+  grows_append [] rest st mid end p q = subst (λ r. GrowsBy S at r rest end) (sym p) q
+  grows_append (item ∷ front) rest st mid end p q = (p.0, p.1, grows_append front rest p.0 mid end p.2 q)
+
+  -- items behind others, up to the same end
+  grows_behind : (front rest items : List Item) (st mid end end' : Trees) → items ≡ front ++ rest → GrowsBy S at st front mid → GrowsBy S at mid rest end → end ≡ end' → GrowsBy S at st items end'
+  grows_behind front rest items st mid end end' whole p q same = subst (λ is. GrowsBy S at st is end') (sym whole) (subst (GrowsBy S at st (front ++ rest)) same (grows_append front rest st mid end p q))
+
+  -- from any stack
+  abbrev pub Yields : List Derivation → List Item → List Derivation → List Derivation → Type 0
+  Yields marked items ts after = (below : List Derivation) → GrowsBy S at (trees below marked) items (trees (below ++ ts) after)
+
+  count-kids : (kids : Derivations) (es : List Expr) → ConcludeAll S at kids es → length (to_list kids) ≡ length es
+  count-kids none [] p = refl
+  count-kids (more t kids) (e ∷ es) p = ap suc (count-kids kids es p.1)
+  count-kids kids es p = absurd p
+
+  mutual
+    pub yields : {marked after : List Derivation} {items : List Item} {t : Derivation} {weight : ℕ} → Spells S at marked items t after weight → Yields marked items (t ∷ []) after
+    yields {marked} (cites_hypothesis {i = i} s e carries active ends) = λ below. (trees (below ++ hyp i ∷ []) marked, (below, hyp i, a_hypothesis i s carries active refl refl, refl), refl)
+    yields {marked} {after} {items} (cites_assertion {a = a} {kids = kids} s e label front front_weight carries citable ends all whole weighs) = λ below.
+        let many : length (to_list kids) ≡ length (hypotheses (before S a) s)
+        = count-kids kids (premises S a ends.0 ends.1) ends.3 ∙ (length-premises S a ends.0 ends.1 ∙ ap (λ u. length (hypotheses (before S a) u)) (some-same ends.2.stands carries.stands)) in
+        let end = trees (below ++ apply a kids ∷ []) after in
+        grows_behind front (Cite label ∷ []) items (trees below marked) (trees (below ++ to_list kids) after) end end whole (yields_all all below)
+        (end, (below, apply a kids, an_assertion a s (to_list kids) carries citable many refl (ap (λ r. apply a r) (sym (from-to kids))), refl), refl) refl
+    yields {marked} {t = t} (recalls e found ends) = λ below. (trees (below ++ t ∷ []) marked, (t, found, refl), refl)
+    yields {marked} {after} {items} {t} (marks front before one whole added) = λ below.
+        let end = trees (below ++ t ∷ []) (before ++ t ∷ []) in
+        grows_behind front (Mark ∷ []) items (trees below marked) (trees (below ++ t ∷ []) before) end (trees (below ++ t ∷ []) after) whole (yields one below) (end, (below, t, refl, refl), refl) (ap (trees (below ++ t ∷ [])) (sym added))
+
+    pub yields_all : {marked after : List Derivation} {items : List Item} {kids : Derivations} {weight : ℕ} → SpellsAll S at marked items kids after weight → Yields marked items (to_list kids) after
+    yields_all {marked} spells_none = λ below. ap (λ r. trees r marked) (sym (append-nil below))
+    yields_all {marked} {after} {items} (spells_more {t = t} {kids = kids} first rest middle first_weight rest_weight one all whole weighs) = λ below.
+        grows_behind first rest items (trees below marked) (trees (below ++ t ∷ []) middle) (trees ((below ++ t ∷ []) ++ to_list kids) after) (trees (below ++ t ∷ to_list kids) after) whole
+        (yields one below) (yields_all all (below ++ t ∷ [])) (ap (λ v. trees v after) (append_assoc below (t ∷ []) (to_list kids)))
+
+  module _ (once : HasLabelsOnce S) where
+    -- a label of an active hypothesis is not that of an assertion which can be cited
+    pub apart_kinds : (i a : ℕ) (s r : Stmt) (label : Name) → Carries S i s label → IsHypothesis S at i s → Carries S a r label → IsCitable S at a r → ⊥
+    apart_kinds i a s r label p h q f = not_both s h.kind (ap is_assertion (some-same p.stands (ap (stmt_at S) (once i a s r label p q) ∙ q.stands)) ∙ f.assertion)
+
+    -- a citation builds one derivation
+    builds_same : (label : Name) (stack b c : List Derivation) (t u : Derivation) → Builds S at label stack b t → Builds S at label stack c u → (b ≡ c) × (t ≡ u)
+    builds_same label stack b c t u (a_hypothesis i s p active same whole) (a_hypothesis j r q active' same' whole') = (sym whole ∙ whole', same ∙ (ap (λ n. hyp n) (once i j s r label p q) ∙ sym same'))
+    builds_same label stack b c t u (a_hypothesis i s p active same whole) (an_assertion a r kids q citable many whole' same') = absurd (apart_kinds i a s r label p active q citable)
+    builds_same label stack b c t u (an_assertion a r kids q citable many whole' same') (a_hypothesis i s p active same whole) = absurd (apart_kinds i a s r label p active q citable)
+    builds_same label stack b c t u (an_assertion a s kids p citable many whole same) (an_assertion d r kids' q citable' many' whole' same') =
+        let n : a ≡ d = once a d s r label p q in
+        let v : s ≡ r = some-same p.stands (ap (stmt_at S) n ∙ q.stands) in
+        let cut = append_cut b c kids kids' (sym whole ∙ whole') (many ∙ (ap (λ k. length (hypotheses (before S k) s)) n ∙ (ap (λ w. length (hypotheses (before S d) w)) v ∙ sym many'))) in
+        (cut.0, same ∙ (ap (λ k. apply k (from_list kids)) n ∙ (ap (λ ks. apply d (from_list ks)) cut.1 ∙ sym same')))
+
+    -- one saved derivation by its number
+    kept_same : (saved : List Derivation) (k : ℕ) (t u : Derivation) → IsKept saved k t → IsKept saved k u → t ≡ u
+    kept_same saved zero t u p q = absurd p
+    kept_same saved (suc k) t u p q = some-same p q
+
+    -- an item makes a stack of derivations grow in one way
+    pub grows_same : (st x y : Trees) (item : Item) → Grows S at st item x → Grows S at st item y → x ≡ y
+    grows_same st x y (Cite label) p q =
+        let r = builds_same label st.stack p.0 q.0 p.1 q.1 p.2 q.2 in
+        p.3 ∙ (ap (λ b. trees (b ++ p.1 ∷ []) st.saved) r.0 ∙ (ap (λ t. trees (q.0 ++ t ∷ []) st.saved) r.1 ∙ sym q.3))
+    grows_same st x y (Recall k) p q = p.2 ∙ (ap (λ t. trees (st.stack ++ t ∷ []) st.saved) (kept_same st.saved k p.0 q.0 p.1 q.1) ∙ sym q.2)
+    grows_same st x y Mark p q = p.3 ∙ (ap (λ t. trees st.stack (st.saved ++ t ∷ [])) (same_from_push p.0 q.0 p.1 q.1 (sym p.2 ∙ q.2)).1 ∙ sym q.3)
+
+    -- so do items one after another
+    pub grows_by_same : (items : List Item) (st x y : Trees) → GrowsBy S at st items x → GrowsBy S at st items y → x ≡ y
+    grows_by_same [] st x y p q = sym p ∙ q
+    grows_by_same (item ∷ items) st x y p q = grows_by_same items p.0 x y p.2 (subst (λ r. GrowsBy S at r items y) (sym (grows_same st p.0 q.0 item p.1 q.1)) q.2)
+
+    -- UNIQUE: the items spell one derivation
+    pub spelled_once : (marked after after' : List Derivation) (items : List Item) (t u : Derivation) (w v : ℕ) → Spells S at marked items t after w → Spells S at marked items u after' v → t ≡ u
+    spelled_once marked after after' items t u w v p q =
+        let e = grows_by_same items (trees [] marked) (trees (t ∷ []) after) (trees (u ∷ []) after') (yields p []) (yields q []) in
+        let f : t ∷ [] ≡ u ∷ [] = ap (λ s. s.stack) e in cc
 
 module _ (S : Database) (at : ℕ) (label : Name) where
   -- an assertion takes as many derivations as it has hypotheses
@@ -37,13 +107,6 @@ module _ (S : Database) (at : ℕ) (label : Name) where
   pub too-few : HasLabelsOnce S → (a : ℕ) (s : Stmt) → Carries S a s label → IsCitable S at a s → (old new : Trees) (count : ℕ) → count ≡ length (hypotheses (before S a) s) → length old.stack < count → Grew false S at old (Cite label) new
   too-few once a s carries citable old new count same few = λ next p. let h = builds-takes once a s carries citable old.stack p.0 p.1 p.2 in omega (arith, h, same, few)
 
-  pub nothing-grows : (old new : Trees) → ((i : ℕ) (s : Stmt) → Carries S i s label → (IsHypothesis S at i s → ⊥) × (IsCitable S at i s → ⊥)) → Grew false S at old (Cite label) new
-  nothing-grows old new none = λ next p. by p.0 p.1 p.2
-    where
-      by : (b : List Derivation) (t : Derivation) → Builds S at label old.stack b t → ⊥
-      by b t (a_hypothesis i s p active same whole) = (none i s p).0 active
-      by b t (an_assertion a s kids p citable many whole same) = (none a s p).1 citable
-
   pub assertion-grows : (a : ℕ) (s : Stmt) → Carries S a s label → IsCitable S at a s → (old new : Trees) (count : ℕ) → count ≡ length (hypotheses (before S a) s) → count ≤ length old.stack
       → new ≡ with_tree old (below count old.stack) (apply a (from_list (top count old.stack))) → Grew true S at old (Cite label) new
   assertion-grows a s carries citable old new count same enough grown = (
@@ -57,17 +120,8 @@ module _ (S : Database) (at : ℕ) (label : Name) where
   hypothesis-grows i s carries active old new grown = (old.stack, hyp i, a_hypothesis i s carries active refl refl, grown)
 
 -- an item by its number
-pub mark-grows : (S : Database) (at : ℕ) (labels : List Name) (n : ℕ) (old new : Trees) {E : Type 0} (r : Result Bool E) → n ≡ 0
-    → IfOk r (λ ok. GrowsMark ok old new) → IfOk r (λ ok. Grew ok S at old (item_of labels n) new)
-mark-grows S at labels n old new (Err e) z h = tt
-mark-grows S at labels n old new (Ok true) z h = subst (λ m. Grew true S at old (item_of labels m) new) (sym z) h
-mark-grows S at labels n old new (Ok false) z h = subst (λ m. Grew false S at old (item_of labels m) new) (sym z) (λ next p. let l = length-append p.0 (p.1 ∷ []) in let e = ap length (sym h ∙ p.2) in omega (arith, l, e))
-
-pub recall-grows : (S : Database) (at : ℕ) (labels : List Name) (n k m : ℕ) (old new : Trees) {E : Type 0} (r : Result Bool E) → n ≡ suc k → length labels ≤ k → m ≡ suc (k - length labels)
-    → IfOk r (λ ok. GrowsRecall ok m old new) → IfOk r (λ ok. Grew ok S at old (item_of labels n) new)
-recall-grows S at labels n k m old new (Err e) p h q g = tt
-recall-grows S at labels n k m old new (Ok true) p h q g = subst (λ i. Grew true S at old i new) (ap Recall q ∙ sym (item-recall labels n k p h)) g
-recall-grows S at labels n k m old new (Ok false) p h q g = subst (λ i. Grew false S at old i new) (ap Recall q ∙ sym (item-recall labels n k p h)) (λ next x. g x.0 x.1)
+pub recall-grows : (S : Database) (at : ℕ) (labels : List Name) (n k : ℕ) (old new : Trees) (ok : Bool) → n ≡ suc k → length labels ≤ k → Grew ok S at old (Recall (suc (k - length labels))) new → Grew ok S at old (item_of labels n) new
+recall-grows S at labels n k old new ok p h g = subst (λ i. Grew ok S at old i new) (sym (item-recall labels n k p h)) g
 
 pub cite-grows : (S : Database) (at : ℕ) (labels : List Name) (n k : ℕ) (old new : Trees) {E : Type 0} (r : Result Bool E) → n ≡ suc k → k < length labels
     → IfOk r (λ ok. Grew ok S at old (Cite (get_or labels k [])) new) → IfOk r (λ ok. Grew ok S at old (item_of labels n) new)
@@ -84,7 +138,7 @@ grows-rest S at once (item ∷ front) rest st mid end p q =
 -- no item of a right proof cannot be done
 pub never-stuck : (S : Database) (at : ℕ) → HasLabelsOnce S → (front rest : List Item) (item : Item) (st new : Trees) → GrowsBy S at (trees [] []) front st → Grew false S at st item new → IsRight S at (front ++ item ∷ rest) → ⊥
 never-stuck S at once front rest item st new p stuck (t, d) =
-    let q = grows-rest S at once front (item ∷ rest) (trees [] []) st (trees (t ∷ []) d.after) ((yields S at d.spelled).grows []) p in
+    let q = grows-rest S at once front (item ∷ rest) (trees [] []) st (trees (t ∷ []) d.after) (yields S at d.spelled []) p in
     stuck q.0 q.1
 
 pub grows-on : (S : Database) (at : ℕ) (items : List Item) (item : Item) (st new : Trees) → GrowsBy S at (trees [] []) items st → Grew true S at st item new → GrowsBy S at (trees [] []) (items ++ item ∷ []) new
@@ -93,7 +147,7 @@ grows-on S at items item st new p g = grows_append S at items (item ∷ []) (tre
 -- the items of a right proof leave its derivation alone
 pub leaves : (S : Database) (at : ℕ) → HasLabelsOnce S → (items : List Item) (end : Trees) → IsRight S at items → GrowsBy S at (trees [] []) items end → (t : Derivation) × Derives S at items t × (end.stack ≡ t ∷ [])
 leaves S at once items end (t, d) p =
-    (t, d, ap (λ r. r.stack) (grows_by_same S at once items (trees [] []) end (trees (t ∷ []) d.after) p ((yields S at d.spelled).grows [])))
+    (t, d, ap (λ r. r.stack) (grows_by_same S at once items (trees [] []) end (trees (t ∷ []) d.after) p (yields S at d.spelled [])))
 
 -- one number stands for it
 pub only-number : (f : ℕ → Derivation) (numbers : List ℕ) (t : Derivation) → map f numbers ≡ t ∷ [] → (0 < length numbers) × ((d : ℕ) → f (get_or numbers 0 d) ≡ t)

@@ -1,17 +1,5 @@
 -- Images of names: where two agree, and those of variables alone.
-use Rattle.std.specs.Prelude.{◌≡◌, ℕ, zero, suc, Bool, true, false, cond, ◌||◌, ◌&&◌, List, [], ◌∷◌, ◌++◌, length, slice_get, Some, refl}
-use Rattle.std.specs.List.{list_all}
-use Rattle.std.proofs.Common.{sym, ◌∙◌, ap, true≢false}
-use Rattle.mm_lex.specs.Alphabet.{Name, name_eq, has_name}
-use Rattle.mm_read.specs.Statements.{Expr, Database}
-use Rattle.std.proofs.lemmas.Bool.{and_from, lt-ltb, or_left, or_right}
-use Rattle.names.specs.Codes.{AreCodes}
-use Rattle.names.proofs.CodesLemmas.{name_same, same_name}
-use Rattle.frame.specs.Substitution.{Images, image, apply as applied, CodeImages, code_image, code_apply}
-use Rattle.frame.specs.Disjoint.{are_apart, is_group_apart, are_groups_apart}
-use Rattle.frame.specs.Below.{AreBelow}
-use Rattle.frame.proofs.SymbolNumberLemmas.{below-append}
-use Rattle.subst.specs.Images.{AreOver}
+use Rattle.verify.proofs.Words.{◌≡◌, ℕ, zero, suc, Bool, true, false, cond, ◌||◌, ◌&&◌, List, [], ◌∷◌, ◌++◌, length, slice_get, Some, refl, list_all, sym, ◌∙◌, ap, true≢false, Name, name_eq, has_name, Expr, Database, and_from, lt-ltb, or_left, or_right, AreCodes, name_same, same_name, Images, image, applied, CodeImages, code_image, code_apply, are_apart, is_group_apart, are_groups_apart, AreBelow, below-append, AreOver}
 
 all-member : (p q : Name → Bool) (xs : List Name) → ((x : Name) → has_name x xs ≡ true → p x ≡ q x) → list_all p xs ≡ list_all q xs
 all-member p q [] h = refl

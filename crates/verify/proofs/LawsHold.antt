@@ -1,11 +1,10 @@
 -- The laws, from the lemmas on runs and spellings.
-use Rattle.std.specs.Prelude.{◌+◌, [], ◌∷◌, refl}
-use Rattle.std.proofs.Common.{arith}
+use Rattle.verify.proofs.Words.{◌+◌, [], ◌∷◌, refl, arith}
 use Rattle.frame.proofs.LegalLabels.{legal-labels}
 use Rattle.verify.specs.Laws.{RunsSpell, SpellingsRun, SpelledOnce}
 use Rattle.verify.proofs.Sound.{Spelled, sound}
 use Rattle.verify.proofs.Complete.{Result, complete, state}
-use Rattle.verify.proofs.Unique.{spelled_once}
+use Rattle.verify.proofs.GrowthLemmas.{spelled_once}
 
 -- a run that leaves one result spells a derivation of it
 pub runs_spell : RunsSpell
@@ -16,11 +15,11 @@ runs_spell S at items end e runs one =
 -- what is spelled runs from the empty stack to the one result that the derivation concludes
 pub spellings_run : SpellingsRun
 spellings_run S at single items t after weight spelled =
-    let r : Result S at single [] items t after weight [] = complete S at single spelled [] tt in
+    let r : Result S at single items t after weight [] = complete S at single spelled [] tt in
     record {
       end = state S at single (r.result ∷ []) r.saved' (0 + weight);
       result = r.result;
-      runs = r.leads.runs [] 0;
+      runs = r.runs [] 0;
       one = refl;
       concludes = r.concludes;
       weighs = omega arith;

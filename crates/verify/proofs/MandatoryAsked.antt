@@ -1,30 +1,6 @@
 -- The mandatory hypotheses of an assertion, one place at a time.
-use Rattle.std.specs.Prelude.{◌≡◌, ℕ, zero, suc, ◌<◌, Bool, true, false, nat_eq, List, [], ◌∷◌, length, get_or, slice_get, Some, ◌⊎◌, refl}
-use Rattle.std.proofs.Common.{sym, ◌∙◌, ap, subst, arith, inl, inr}
-use Rattle.std.proofs.lemmas.Bool.Decides.{nat_tests}
-use Rattle.std.proofs.lemmas.Option.{slice_get_within}
-use Rattle.mm_lex.specs.Alphabet.{Name}
-use Rattle.mm_read.specs.declared.stmt.Stmt.{Stmt}
+use Rattle.verify.proofs.Words.{◌≡◌, ℕ, zero, suc, ◌<◌, Bool, true, false, nat_eq, List, [], ◌∷◌, length, slice_get, Some, ◌⊎◌, refl, sym, ◌∙◌, ap, subst, arith, inl, inr, nat_tests, slice_get_within, Name, Stmt, Expr, Database, stmt_at, before, expr_of, name_at, hypotheses, Hypothesis, Float, Essential, IsBound, IsHead, IsOf, IsAsked, AreAsked, AreDifferent, IsStanding, AreStanding, some-same}
 use Rattle.mm_read.specs.declared.stmt.Stmt.TheVariants as stmt
-use Rattle.mm_read.specs.Statements.{Expr, Database}
-use Rattle.scope.specs.Active.{stmt_at, before, expr_of}
-use Rattle.names.specs.Codes.{name_at}
-use Rattle.frame.specs.FrameOf.{hypotheses}
-use Rattle.entries.specs.declared.cited_parts.Hypothesis.{Hypothesis}
-use Rattle.entries.specs.declared.cited_parts.Hypothesis.TheVariants.{Float, Essential}
-use Rattle.frame.specs.Bound.{IsBound}
-use Rattle.frame.specs.Cited.{IsHead, IsOf, IsAsked, AreAsked}
-use Rattle.verify.specs.Fits.{AreDifferent, IsStanding, AreStanding}
-use Rattle.frame.proofs.FoundByNumber.{some-same}
-
--- ---- lists
-
-pub lists-same : {A : Type 0} (xs ys : List A) (d : A) → length xs ≡ length ys → ((k : ℕ) → k < length xs → get_or xs k d ≡ get_or ys k d) → xs ≡ ys
-lists-same [] [] d l h = refl
-lists-same [] (y ∷ ys) d l h = absurd (omega (arith, l))
-lists-same (x ∷ xs) [] d l h = absurd (omega (arith, l))
-lists-same (x ∷ xs) (y ∷ ys) d l h =
-    ap (λ z. z ∷ xs) (h zero (omega arith)) ∙ ap (λ zs. y ∷ zs) (lists-same xs ys d (omega (arith, l)) (λ k less. h (suc k) (omega (arith, less))))
 
 -- ---- one place
 
@@ -40,23 +16,16 @@ pub record At (S : Database) (names : List Name) (ps heads : List ℕ) (hs : Lis
 module _ (S : Database) (names : List Name) where
   pub asked-lengths : (ps heads : List ℕ) (hs : List Hypothesis) → AreAsked S names ps heads hs → (length heads ≡ length ps) × (length hs ≡ length ps)
   asked-lengths [] [] [] a = (refl, refl)
-  asked-lengths [] [] (h ∷ hs) a = absurd a
-  asked-lengths [] (c ∷ heads) [] a = absurd a
-  asked-lengths [] (c ∷ heads) (h ∷ hs) a = absurd a
-  asked-lengths (p ∷ ps) [] [] a = absurd a
-  asked-lengths (p ∷ ps) [] (h ∷ hs) a = absurd a
-  asked-lengths (p ∷ ps) (c ∷ heads) [] a = absurd a
   asked-lengths (p ∷ ps) (c ∷ heads) (h ∷ hs) a = let r = asked-lengths ps heads hs a.1 in (ap suc r.0, ap suc r.1)
+  asked-lengths ps heads hs a = absurd a
 
   pub asked-at : (ps heads : List ℕ) (hs : List Hypothesis) (k : ℕ) → AreAsked S names ps heads hs → k < length ps → At S names ps heads hs k
   asked-at [] heads hs k a h = absurd (omega (arith, h))
-  asked-at (p ∷ ps) [] [] k a h = absurd a
-  asked-at (p ∷ ps) [] (x ∷ hs) k a h = absurd a
-  asked-at (p ∷ ps) (c ∷ heads) [] k a h = absurd a
   asked-at (p ∷ ps) (c ∷ heads) (x ∷ hs) zero a h = record { position = p; head = c; hypothesis = x; listed = refl; first = refl; kind = refl; asked = a.0 }
   asked-at (p ∷ ps) (c ∷ heads) (x ∷ hs) (suc k) a h =
       let r = asked-at ps heads hs k a.1 (omega (arith, h)) in
       record { position = r.position; head = r.head; hypothesis = r.hypothesis; listed = r.listed; first = r.first; kind = r.kind; asked = r.asked }
+  asked-at ps heads hs k a h = absurd a
 
   -- what stands at a `$f`, and at a `$e`
   pub record FloatAt (p head x : ℕ) : Type 0 where
@@ -66,7 +35,6 @@ module _ (S : Database) (names : List Name) where
     pub stands : stmt_at S p ≡ Some (stmt.Float label constant variable)
     pub below : x < length names
     pub named : name_at names x ≡ variable
-    pub head_below : head < length names
     pub head_named : name_at names head ≡ constant
 
   pub record EssentialAt (p head q : ℕ) : Type 0 where
@@ -80,29 +48,15 @@ module _ (S : Database) (names : List Name) where
   float-at p head x a = by a.stmt a.stands a.first a.is
     where
       by : (r : Stmt) → stmt_at S p ≡ Some r → IsHead names head (expr_of r) → IsOf names p r (Float x) → FloatAt p head x
-      by (stmt.Float l c v) stands first is = record { label = l; constant = c; variable = v; stands = stands; below = is.0; named = is.1; head_below = first.0; head_named = first.1 }
-      by (stmt.Ess l e) stands first is = absurd is
-      by stmt.Open stands first is = absurd is
-      by stmt.Close stands first is = absurd is
-      by (stmt.Const ws) stands first is = absurd is
-      by (stmt.Var ws) stands first is = absurd is
-      by (stmt.Disj ws) stands first is = absurd is
-      by (stmt.Axiom l e) stands first is = absurd is
-      by (stmt.Prove l e pr) stands first is = absurd is
+      by (stmt.Float l c v) stands first is = record { label = l; constant = c; variable = v; stands = stands; below = is.0; named = is.1; head_named = first.1 }
+      by r stands first is = absurd is
 
   pub essential-at : (p head q : ℕ) → IsAsked S names p head (Essential q) → EssentialAt p head q
   essential-at p head q a = by a.stmt a.stands a.first a.is
     where
       by : (r : Stmt) → stmt_at S p ≡ Some r → IsHead names head (expr_of r) → IsOf names p r (Essential q) → EssentialAt p head q
       by (stmt.Ess l e) stands first is = record { label = l; expr = e; stands = stands; same = is; first = first }
-      by (stmt.Float l c v) stands first is = absurd is
-      by stmt.Open stands first is = absurd is
-      by stmt.Close stands first is = absurd is
-      by (stmt.Const ws) stands first is = absurd is
-      by (stmt.Var ws) stands first is = absurd is
-      by (stmt.Disj ws) stands first is = absurd is
-      by (stmt.Axiom l e) stands first is = absurd is
-      by (stmt.Prove l e pr) stands first is = absurd is
+      by r stands first is = absurd is
 
   -- the number of the variable of a `$f`
   pub float-number : (p head : ℕ) (h : Hypothesis) (l c v : Name) → IsAsked S names p head h → stmt_at S p ≡ Some (stmt.Float l c v)
@@ -118,17 +72,12 @@ module _ (S : Database) (names : List Name) where
 
   pub asked-standing : (ps heads : List ℕ) (hs : List Hypothesis) → AreAsked S names ps heads hs → AreStanding S hs
   asked-standing [] [] [] a = tt
-  asked-standing [] [] (h ∷ hs) a = absurd a
-  asked-standing [] (c ∷ heads) [] a = absurd a
-  asked-standing [] (c ∷ heads) (h ∷ hs) a = absurd a
-  asked-standing (p ∷ ps) [] [] a = absurd a
-  asked-standing (p ∷ ps) [] (h ∷ hs) a = absurd a
-  asked-standing (p ∷ ps) (c ∷ heads) [] a = absurd a
   asked-standing (p ∷ ps) (c ∷ heads) (h ∷ hs) a = (one h a.0, asked-standing ps heads hs a.1)
     where
       one : (h : Hypothesis) → IsAsked S names p c h → IsStanding S h
       one (Float x) a = tt
       one (Essential q) a = let f = essential-at p c q a in (stmt.Ess f.label f.expr, ap (stmt_at S) f.same ∙ f.stands)
+  asked-standing ps heads hs a = absurd a
 
   -- the `$f` are of different variables
   pub asked-different : (a : ℕ) (s : Stmt) (heads : List ℕ) (hs : List Hypothesis) → IsBound S a s → AreAsked S names (hypotheses (before S a) s) heads hs → AreDifferent hs

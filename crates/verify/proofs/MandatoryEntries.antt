@@ -1,22 +1,9 @@
 -- The mandatory hypotheses of a statement, as entries of a table.
-use Rattle.std.specs.Prelude.{◌≡◌, ℕ, zero, suc, ◌+◌, ◌-◌, ◌<◌, ◌≤◌, Bool, true, ◌&&◌, nat_le, nat_lt, List, [], ◌∷◌, ◌++◌, length, map, take, drop, get_or, slice_get, Some, unwrap_or, refl}
-use Rattle.std.proofs.Common.{sym, ◌∙◌, ap, subst, arith, length-append}
-use Rattle.std.proofs.lemmas.Bool.Decides.{nat_tests}
-use Rattle.std.proofs.lemmas.List.{take-append-drop, length-take-le, length-map}
-use Rattle.mm_lex.specs.Alphabet.{Name}
-use Rattle.mm_read.specs.declared.stmt.Stmt.{Stmt}
-use Rattle.mm_read.specs.declared.stmt.Stmt.TheVariants.{Open, Close, Const, Var, Disj, Float, Ess, Axiom, Prove}
-use Rattle.mm_read.specs.Statements.{Database}
-use Rattle.scope.specs.Active.{before, label_of, stays_open, stmt_at}
-use Rattle.scope.proofs.StatementPlaces.{stands-within}
-use Rattle.frame.specs.Citations.{Carries, IsHypothesis, is_hypothesis_kind}
-use Rattle.frame.specs.FrameOf.{hypotheses}
+use Rattle.verify.proofs.Words.{◌≡◌, ℕ, zero, suc, ◌+◌, ◌-◌, ◌<◌, ◌≤◌, Bool, true, ◌&&◌, nat_le, nat_lt, List, [], ◌∷◌, ◌++◌, length, map, take, drop, get_or, slice_get, Some, unwrap_or, refl, sym, ◌∙◌, ap, subst, arith, append_assoc, length-append, nat_tests, take-append-drop, take_at, drop_at, length-take-le, length-map, length_push}
+use Rattle.verify.proofs.Words.{Name, Stmt, Ess, Database, before, label_of, stays_open, stmt_at, stands-within, Carries, IsHypothesis, is_hypothesis_kind, hypotheses, LabelEntry, Nothing, label_or_none, mandatory_labels, IsProvable, IsEntry, AreEntries}
+use Rattle.mm_read.specs.declared.stmt.Stmt.TheVariants.{Float}
 use Rattle.frame.proofs.PlacedHypotheses.{IsHyp, AreHyps, hyps}
-use Rattle.verify.specs.declared.label_table.LabelEntry.{LabelEntry}
-use Rattle.verify.specs.declared.label_table.LabelEntry.TheVariants.{Hypothesis, Nothing}
-use Rattle.verify.specs.Proves.{label_or_none, mandatory_labels}
-use Rattle.verify.specs.Right.{IsProvable}
-use Rattle.verify.specs.LabelTable.{IsEntry, AreEntries}
+use Rattle.verify.specs.declared.label_table.LabelEntry.TheVariants.{Hypothesis}
 use Rattle.frame.proofs.AssertionLemmas.{hypothesis-kinds}
 
 -- ---- one hypothesis
@@ -24,26 +11,16 @@ use Rattle.frame.proofs.AssertionLemmas.{hypothesis-kinds}
 has-label : (t : Stmt) → is_hypothesis_kind t ≡ true → label_of t ≡ Some (unwrap_or (label_of t) [])
 has-label (Ess label expr) h = refl
 has-label (Float label constant variable) h = refl
-has-label Open h = cc
-has-label Close h = cc
-has-label (Const names) h = cc
-has-label (Var names) h = cc
-has-label (Disj names) h = cc
-has-label (Axiom label expr) h = cc
-has-label (Prove label expr proof) h = cc
+has-label t h = cc
 
 get-middle : (front : Database) (t : Stmt) (rest more : Database) → slice_get ((front ++ t ∷ rest) ++ more) (length front) ≡ Some t
 get-middle [] t rest more = refl
 get-middle (x ∷ front) t rest more = get-middle front t rest more
 
 between-middle : (front : Database) (t : Stmt) (rest more : Database) (n : ℕ) → n ≡ length rest → take n (drop (suc (length front)) ((front ++ t ∷ rest) ++ more)) ≡ rest
-between-middle [] t rest more n e = front-of rest n e
-  where
-    front-of : (r : Database) (n : ℕ) → n ≡ length r → take n (r ++ more) ≡ r
-    front-of [] n e = ap (λ k. take k more) e
-    front-of (x ∷ r) zero e = absurd (omega (arith, e))
-    front-of (x ∷ r) (suc n) e = ap (λ u. x ∷ u) (front-of r n (omega (arith, e)))
-between-middle (x ∷ front) t rest more n e = between-middle front t rest more n e
+between-middle front t rest more n e =
+    ap (λ u. take n (drop (suc (length front)) u)) (append_assoc front (t ∷ rest) more ∙ sym (append_assoc front (t ∷ []) (rest ++ more)))
+    ∙ (ap (take n) (drop_at (front ++ t ∷ []) (rest ++ more) (suc (length front)) (omega (arith, length_push front t))) ∙ take_at rest more n (sym e))
 
 -- a mandatory hypothesis is an active one, and carries its label
 pub record IsMandatory (S : Database) (at p : ℕ) : Type 0 where

@@ -1,21 +1,33 @@
 -- Steps over codes are steps over the names that they stand for.
-use Rattle.std.specs.Prelude.{◌≡◌, ℕ, zero, suc, ◌+◌, ◌-◌, ◌≤◌, Bool, true, false, List, [], ◌∷◌, ◌++◌, length, map, take, drop, get_or, slice_get, Some, refl}
-use Rattle.std.proofs.Common.{sym, ◌∙◌, ap, subst, arith, length-append, length-drop}
-use Rattle.std.proofs.lemmas.List.{length-map, take-append-drop, map_push}
-use Rattle.subst.proofs.NumbersApartLemmas.{below-group}
-use Rattle.mm_lex.specs.Alphabet.{Name}
-use Rattle.mm_read.specs.declared.stmt.Stmt.{Stmt}
-use Rattle.mm_read.specs.Statements.{Expr, Database}
-use Rattle.scope.specs.Active.{expr_of}
-use Rattle.names.specs.Codes.{name_at, decode}
-use Rattle.proof_code.specs.declared.item.Item.TheVariants.{Cite, Recall, Mark}
-use Rattle.frame.specs.Citations.{IsHypothesis, Carries}
-use Rattle.verify.specs.Machine.{Results, Cites, of_hypothesis, IsSaved, with_result, with_mark}
-use Rattle.verify.specs.ResultPlaces.{below, top, Adds, Marks, Recalls}
-use Rattle.frame.specs.Below.{AreBelow, AllBelow}
-use Rattle.verify.specs.Goes.{named, AreNamed, Goes}
+use Rattle.verify.proofs.Words.{◌≡◌, ℕ, zero, suc, ◌+◌, ◌-◌, ◌≤◌, Bool, true, false, IsTrue, List, [], ◌∷◌, ◌++◌, length, drop, get_or, replicate, slice_get, slice_set, refl, map, take, Some, option_map, sym, ◌∙◌, ap, arith, true≢false, subst, length-append, length-drop, length-map, take-append-drop, map_push, slice_get-map}
+use Rattle.verify.proofs.Words.{AreBelow, AllBelow, Results, IsSaved, with_result, with_mark, Adds, below, top, Marks, Recalls, below-group, Name, Expr, Database, name_at, decode, Recall, Mark, named, AreNamed, Goes}
 use Rattle.verify.proofs.ResultPlaceLemmas.{results-same}
-use Rattle.verify.proofs.SavedLists.{all-snoc}
+
+-- ---- lists
+
+pub all-set : (n k : ℕ) (es : List (List ℕ)) (e : List ℕ) → AllBelow n es → AreBelow n e → AllBelow n (slice_set es k e)
+all-set n k [] e p q = tt
+all-set n zero (x ∷ es) e p q = (q, p.1)
+all-set n (suc k) (x ∷ es) e p q = (p.0, all-set n k es e p.1 q)
+
+pub all-snoc : (n : ℕ) (es : List (List ℕ)) (e : List ℕ) → AllBelow n es → AreBelow n e → AllBelow n (es ++ e ∷ [])
+all-snoc n [] e p q = (q, tt)
+all-snoc n (x ∷ es) e p q = (p.0, all-snoc n es e p.1 q)
+
+pub all-none : (n m : ℕ) → AllBelow n (replicate m [])
+all-none n zero = tt
+all-none n (suc m) = (tt, all-none n m)
+
+pub get-drop : {A : Type 0} (n k : ℕ) (xs : List A) → n ≤ k → slice_get (drop n xs) (k - n) ≡ slice_get xs k
+get-drop zero k xs h = ap (slice_get xs) (let e : k - 0 ≡ k = omega arith in e)
+get-drop (suc n) k [] h = refl
+get-drop (suc n) zero (x ∷ xs) h = absurd (omega (arith, h))
+get-drop (suc n) (suc k) (x ∷ xs) h = ap (slice_get (drop n xs)) (let e : suc k - suc n ≡ k - n = omega arith in e) ∙ get-drop n k xs (omega (arith, h))
+
+-- it is added, and nothing else changes
+pub saved-same : (old new : Results ℕ) (stack : List (List ℕ)) (e : List ℕ) (ok : Bool) → Adds ok old new stack e → IsTrue ok → new.saved ≡ old.saved
+saved-same old new stack e true adds t = ap (λ (st : Results ℕ). st.saved) adds
+saved-same old new stack e false adds t = absurd (true≢false (sym t))
 
 pub all-take : (n k : ℕ) (es : List (List ℕ)) → AllBelow n es → AllBelow n (take k es)
 all-take n zero es p = tt
@@ -42,9 +54,7 @@ module _ (names : List Name) where
   result-named st b e a p q = record { stack_named = all-snoc (length names) b e p q; saved_named = a.saved_named }
 
   get-map-on : (es : List (List ℕ)) (k : ℕ) (e : List ℕ) → slice_get es k ≡ Some e → slice_get (map (decode names) es) k ≡ Some (decode names e)
-  get-map-on [] k e h = cc
-  get-map-on (x ∷ es) zero e h = let q : x ≡ e = cc in ap (λ y. Some (decode names y)) q
-  get-map-on (x ∷ es) (suc k) e h = get-map-on es k e h
+  get-map-on es k e h = slice_get-map (decode names) es k ∙ ap (option_map (decode names)) h
 
   get-map-back : (es : List (List ℕ)) (k : ℕ) (f : Expr) → slice_get (map (decode names) es) k ≡ Some f → (e : List ℕ) × (slice_get es k ≡ Some e) × (f ≡ decode names e)
   get-map-back [] k f h = cc
@@ -90,20 +100,6 @@ module _ (names : List Name) where
     goes-mark false old new a m = λ next p.
         let e : [] ≡ p.0 ++ p.1 ∷ [] = ap (map (decode names)) (sym m) ∙ p.2 in
         absurd (omega (arith, ap length e, length-append p.0 (p.1 ∷ [])))
-
-    -- the label is that of a hypothesis which is active
-    pub goes-hypothesis : (ok : Bool) (old new : Results ℕ) (label : Name) (i : ℕ) (s : Stmt) (e : List ℕ) → AreNamed names old → AreBelow (length names) e → decode names e ≡ expr_of s
-        → Carries S i s label → IsHypothesis S at i s
-        → ((b : List Expr) (f : Expr) → Cites S at label (map (decode names) old.stack) b f → f ≡ expr_of s)
-        → Adds ok old new old.stack e → Goes ok S at names (Cite label) old new
-    goes-hypothesis true old new label i s e a codes same carries active only r = (
-      (map (decode names) old.stack, decode names e, of_hypothesis i s carries active same refl, ap (named names) r ∙ named-result old old.stack e),
-      subst (AreNamed names) (sym r) (result-named old old.stack e a a.stack_named codes),
-    )
-    goes-hypothesis false old new label i s e a codes same carries active only r = λ next p.
-        let len : length p.1 ≡ length e = ap length (only p.0 p.1 p.2) ∙ (ap length (sym same) ∙ length-map e (name_at names)) in
-        let w = ap (λ s'. s'.weight) p.3 in
-        omega (arith, r, len, w)
 
 -- ---- codes with names are told apart by them
 

@@ -1,42 +1,37 @@
 -- Results in a buffer that grows.
-use Rattle.std.specs.Prelude.{◌≡◌, ℕ, zero, suc, ◌+◌, ◌-◌, ◌<◌, ◌≤◌, List, [], ◌∷◌, ◌++◌, length, map, take, drop, get_or, replicate, slice_get, slice_set, Some, refl}
-use Rattle.std.proofs.Common.{sym, ◌∙◌, ap, subst, arith, length-append, length-drop}
-use Rattle.std.proofs.lemmas.List.{length-map, take-map, map_push, take_rest}
-use Rattle.subst.specs.declared.expression_place.ExpressionPlace.{ExpressionPlace}
-use Rattle.subst.specs.ExpressionPlaces.{seen_at, AreWithin, AreInside}
-use Rattle.subst.proofs.ExpressionPlaceLemmas.{map-seen-more, within-weaken, within-snoc, within-take, within-drop, within-get, within-at, seen-get, length-seen, seen-last}
-use Rattle.subst.proofs.ImagePlacesLemmas.{inside-more, inside-none}
-use Rattle.verify.specs.Machine.{Results, with_result, IsSaved}
-use Rattle.verify.specs.ResultPlaces.{seen, AreKept, below, top}
-use Rattle.verify.specs.Right.{weight_limit}
+use Rattle.verify.proofs.Words.{◌≡◌, ℕ, zero, suc, ◌+◌, ◌-◌, ◌<◌, ◌≤◌, List, [], ◌∷◌, ◌++◌, length, map, take, drop, get_or, replicate, slice_get, slice_set, Some, refl, option_map, sym, ◌∙◌, ap, subst, arith, length-append, length-drop, length-map, map-set, take-map, drop-map, map_push, take_rest, slice_get-map, slice_get-get_or}
+use Rattle.verify.proofs.Words.{ExpressionPlace, seen_at, AreWithin, AreInside, map-seen-more, within-weaken, within-snoc, within-take, within-drop, within-get, within-at, seen-get, length-seen, seen-last, inside-more, inside-none, Results, with_result, IsSaved, seen, AreKept, below, top, weight_limit}
 
 pub map-drop : {A B : Type 0} (f : A → B) (k : ℕ) (xs : List A) → map f (drop k xs) ≡ drop k (map f xs)
-map-drop f zero xs = refl
-map-drop f (suc k) [] = refl
-map-drop f (suc k) (x ∷ xs) = map-drop f k xs
-
--- how much longer the buffer is, and how heavy
-grown-few : (xs ys zs : List ℕ) (w v : ℕ) → length xs ≤ w → zs ≡ xs ++ ys → v ≡ w + length ys → length zs ≤ v
-grown-few xs ys zs w v few e weighs = omega (arith, ap length e, length-append xs ys, few, weighs)
+map-drop f k xs = sym (drop-map f k xs)
 
 pub results-same : {A : Type 0} (a b c d : List (List A)) (w v : ℕ) → a ≡ b → c ≡ d → w ≡ v → (let x : Results A = record { stack = a; saved = c; weight = w } in x) ≡ (let y : Results A = record { stack = b; saved = d; weight = v } in y)
 results-same {A} a b c d w v p q r =
     let f : List (List A) → List (List A) → ℕ → Results A = λ s t n. record { stack = s; saved = t; weight = n } in
     ap (λ s. f s c w) p ∙ (ap (λ t. f b t w) q ∙ ap (λ n. f b d n) r)
 
--- a result was written at the end of the buffer, above those of `rest`
-pub added-kept : (xs ys zs : List ℕ) (images : List (ℕ × ExpressionPlace)) (stack rest saved stack' : List ExpressionPlace) (w v : ℕ) (p : ExpressionPlace) → AreKept xs images stack saved w → AreWithin (length xs) rest
-    → zs ≡ xs ++ ys → p.start ≡ length xs → p.end ≡ length zs → stack' ≡ rest ++ p ∷ [] → v ≡ w + length ys → v ≤ weight_limit
-    → AreKept zs images stack' saved v
-added-kept xs ys zs images stack rest saved stack' w v p k r e low high whole weighs light =
+-- the buffer grew, and the weight with it
+grown-kept : (xs ys zs : List ℕ) (images : List (ℕ × ExpressionPlace)) (stack saved : List ExpressionPlace) (w v : ℕ) → AreKept xs images stack saved w → zs ≡ xs ++ ys → v ≡ w + length ys → v ≤ weight_limit → AreKept zs images stack saved v
+grown-kept xs ys zs images stack saved w v k e weighs light =
     let longer : length xs ≤ length zs = omega (arith, ap length e, length-append xs ys) in
+    let few = k.few in
     record {
       images_inside = inside-more (length xs) (length zs) images longer k.images_inside;
-      stack_within = subst (AreWithin (length zs)) (sym whole) (within-snoc (length zs) rest p (within-weaken (length xs) (length zs) rest longer r) (omega (arith, low, high, longer)) (omega (arith, high)));
+      stack_within = within-weaken (length xs) (length zs) stack longer k.stack_within;
       saved_within = within-weaken (length xs) (length zs) saved longer k.saved_within;
-      few = grown-few xs ys zs w v k.few e weighs;
+      few = omega (arith, ap length e, length-append xs ys, few, weighs);
       light = light;
     }
+
+-- the place of what was written at its end
+new-place : (xs ys zs : List ℕ) (p : ExpressionPlace) → zs ≡ xs ++ ys → p.start ≡ length xs → p.end ≡ length zs → (p.start ≤ p.end) × (p.end ≤ length zs)
+new-place xs ys zs p e low high = (omega (arith, ap length e, length-append xs ys, low, high), omega (arith, high))
+
+-- a place on top
+pushed-kept : (xs : List ℕ) (images : List (ℕ × ExpressionPlace)) (stack saved stack' : List ExpressionPlace) (w : ℕ) (p : ExpressionPlace) → AreKept xs images stack saved w → (p.start ≤ p.end) × (p.end ≤ length xs) → stack' ≡ stack ++ p ∷ []
+    → AreKept xs images stack' saved w
+pushed-kept xs images stack saved stack' w p k b whole =
+    record { images_inside = k.images_inside; stack_within = subst (AreWithin (length xs)) (sym whole) (within-snoc (length xs) stack p k.stack_within b.0 b.1); saved_within = k.saved_within; few = k.few; light = k.light }
 
 pub added-seen : (xs ys zs : List ℕ) (stack rest saved stack' : List ExpressionPlace) (w v : ℕ) (p : ExpressionPlace) → AreWithin (length xs) saved → AreWithin (length xs) rest
     → zs ≡ xs ++ ys → p.start ≡ length xs → p.end ≡ length zs → stack' ≡ rest ++ p ∷ [] → v ≡ w + length ys
@@ -56,22 +51,17 @@ within-set n k [] p w low high = tt
 within-set n zero (q ∷ ps) p w low high = (low, high, w.2)
 within-set n (suc k) (q ∷ ps) p w low high = (w.0, w.1, within-set n k ps p w.2 low high)
 
-map-set : {A B : Type 0} (f : A → B) (xs : List A) (k : ℕ) (x : A) → map f (slice_set xs k x) ≡ slice_set (map f xs) k (f x)
-map-set f [] k x = refl
-map-set f (y ∷ xs) zero x = refl
-map-set f (y ∷ xs) (suc k) x = ap (λ r. f y ∷ r) (map-set f xs k x)
-
 -- a result was written at the end of the buffer, and kept
 pub given-cut : (xs ys zs : List ℕ) (images : List (ℕ × ExpressionPlace)) (stack saved stack' saved' : List ExpressionPlace) (w v k : ℕ) (p : ExpressionPlace) → AreKept xs images stack saved w
     → zs ≡ xs ++ ys → p.start ≡ length xs → p.end ≡ length zs → stack' ≡ stack → saved' ≡ slice_set saved k p → v ≡ w + length ys → v ≤ weight_limit → AreKept zs images stack' saved' v
 given-cut xs ys zs images stack saved stack' saved' w v k p kept e low high same set weighs light =
-    let longer : length xs ≤ length zs = omega (arith, ap length e, length-append xs ys) in
+    let g = grown-kept xs ys zs images stack saved w v kept e weighs light in
+    let b = new-place xs ys zs p e low high in
     record {
-      images_inside = inside-more (length xs) (length zs) images longer kept.images_inside;
-      stack_within = subst (AreWithin (length zs)) (sym same) (within-weaken (length xs) (length zs) stack longer kept.stack_within);
-      saved_within = subst (AreWithin (length zs)) (sym set)
-          (within-set (length zs) k saved p (within-weaken (length xs) (length zs) saved longer kept.saved_within) (omega (arith, low, high, longer)) (omega (arith, high)));
-      few = grown-few xs ys zs w v kept.few e weighs;
+      images_inside = g.images_inside;
+      stack_within = subst (AreWithin (length zs)) (sym same) g.stack_within;
+      saved_within = subst (AreWithin (length zs)) (sym set) (within-set (length zs) k saved p g.saved_within b.0 b.1);
+      few = g.few;
       light = light;
     }
 
@@ -79,9 +69,7 @@ pub given-kept : (xs ys zs : List ℕ) (images : List (ℕ × ExpressionPlace)) 
     → zs ≡ xs ++ ys → p.start ≡ length xs → p.end ≡ length zs → stack' ≡ stack ++ p ∷ [] → saved' ≡ slice_set saved k p → v ≡ w + length ys → v ≤ weight_limit
     → AreKept zs images stack' saved' v
 given-kept xs ys zs images stack saved stack' saved' w v k p kept e low high whole set weighs light =
-    let cut = given-cut xs ys zs images stack saved stack saved' w v k p kept e low high refl set weighs light in
-    let added = added-kept xs ys zs images stack stack saved stack' w v p kept kept.stack_within e low high whole weighs light in
-    record { images_inside = cut.images_inside; stack_within = added.stack_within; saved_within = cut.saved_within; few = cut.few; light = light }
+    pushed-kept zs images stack saved' stack' v p (given-cut xs ys zs images stack saved stack saved' w v k p kept e low high refl set weighs light) (new-place xs ys zs p e low high) whole
 
 pub given-seen : (xs ys zs : List ℕ) (images : List (ℕ × ExpressionPlace)) (stack saved stack' saved' : List ExpressionPlace) (w v k : ℕ) (p : ExpressionPlace) → AreKept xs images stack saved w
     → zs ≡ xs ++ ys → p.start ≡ length xs → p.end ≡ length zs → stack' ≡ stack ++ p ∷ [] → saved' ≡ slice_set saved k p → v ≡ w + length ys
@@ -101,25 +89,13 @@ pub kept-mark : (xs : List ℕ) (images : List (ℕ × ExpressionPlace)) (stack 
     → AreKept xs images stack saved' w
 kept-mark xs images stack saved saved' w p k a h e =
     let b = within-get (length xs) k stack p a.stack_within h in
-    record {
-      images_inside = a.images_inside;
-      stack_within = a.stack_within;
-      saved_within = subst (AreWithin (length xs)) (sym e) (within-snoc (length xs) saved p a.saved_within b.0 b.1);
-      few = a.few;
-      light = a.light;
-    }
+    record { images_inside = a.images_inside; stack_within = a.stack_within; saved_within = subst (AreWithin (length xs)) (sym e) (within-snoc (length xs) saved p a.saved_within b.0 b.1); few = a.few; light = a.light }
 
 pub kept-recall : (xs : List ℕ) (images : List (ℕ × ExpressionPlace)) (stack stack' saved : List ExpressionPlace) (w v : ℕ) (p : ExpressionPlace) → AreKept xs images stack saved w → (p.start ≤ p.end) × (p.end ≤ length xs)
     → stack' ≡ stack ++ p ∷ [] → w ≤ v → v ≤ weight_limit → AreKept xs images stack' saved v
 kept-recall xs images stack stack' saved w v p a b e more light =
     let few = a.few in
-    record {
-      images_inside = a.images_inside;
-      stack_within = subst (AreWithin (length xs)) (sym e) (within-snoc (length xs) stack p a.stack_within b.0 b.1);
-      saved_within = a.saved_within;
-      few = omega (arith, few, more);
-      light = light;
-    }
+    pushed-kept xs images stack saved stack' v p (record { images_inside = a.images_inside; stack_within = a.stack_within; saved_within = a.saved_within; few = omega (arith, few, more); light = light }) b e
 
 pub get-map : {A B : Type 0} (f : A → B) (xs : List A) (k : ℕ) (y : B) → slice_get (map f xs) k ≡ Some y → (d : A) → y ≡ f (get_or xs k d)
 get-map f [] k y h d = cc
@@ -127,9 +103,7 @@ get-map f (x ∷ xs) zero y h d = cc
 get-map f (x ∷ xs) (suc k) y h d = get-map f xs k y h d
 
 pub get-map-some : {A B : Type 0} (f : A → B) (xs : List A) (k : ℕ) (d : A) → k < length xs → slice_get (map f xs) k ≡ Some (f (get_or xs k d))
-get-map-some f [] k d h = absurd (omega (arith, h))
-get-map-some f (x ∷ xs) zero d h = refl
-get-map-some f (x ∷ xs) (suc k) d h = get-map-some f xs k d (omega (arith, h))
+get-map-some f xs k d h = slice_get-map f xs k ∙ ap (option_map f) (slice_get-get_or xs k d h)
 
 -- a saved result by its index
 pub recall-seen : (xs : List ℕ) (stack stack' saved : List ExpressionPlace) (w v k : ℕ) (d p : ExpressionPlace) → AreWithin (length xs) saved → k < length saved → p ≡ get_or saved k d
@@ -214,11 +188,26 @@ seen_eq xs ds s e all k r p q v l =
 pub last-within : (n k : ℕ) (s : List ExpressionPlace) → AreWithin n s → AreWithin n (take (length s - k) (drop k s))
 last-within n k s w = within-take n (length s - k) (drop k s) (within-drop n k s w)
 
+-- one of the last r places, in copies of the buffer and of the places
+pub seen_place : (xs ds : List ℕ) (s e : List ExpressionPlace) (all : List (List ℕ)) (k r i : ℕ) (d : ExpressionPlace) → ds ≡ xs → e ≡ s → map (seen_at xs) s ≡ all → k ≡ length s - r → r ≤ length all → i < r → AreWithin (length xs) s
+    → (let p : ExpressionPlace = get_or (take (length e - k) (drop k e)) i d in ((p.start ≤ p.end) × (p.end ≤ length ds)) × (seen_at ds p ≡ get_or (top r all) i []))
+seen_place xs ds s e all k r i d p q v l h less w =
+    let places = take (length e - k) (drop k e) in
+    let seen : map (seen_at ds) places ≡ top r all = seen_eq xs ds s e all k r p q v l in
+    let there : i < length places = omega (arith, ap length seen, length-map places (seen_at ds), length-drop (length all - r) all, h, less) in
+    let within = subst (λ t. AreWithin (length t) places) (sym p) (subst (λ t. AreWithin (length xs) (take (length t - k) (drop k t))) (sym q) (last-within (length xs) k s w)) in
+    (within-at (length ds) i places d within there, sym (seen-get ds i places d there) ∙ ap (λ u. get_or u i []) seen)
+
+pub apply-cut : (xs zs ys : List ℕ) (images : List (ℕ × ExpressionPlace)) (stack saved stack' : List ExpressionPlace) (w v k : ℕ) → AreKept xs images stack saved w → zs ≡ xs ++ ys → stack' ≡ take k stack
+    → v ≡ w + length ys → v ≤ weight_limit → AreKept zs images stack' saved v
+apply-cut xs zs ys images stack saved stack' w v k a e cut weighs light =
+    let g = grown-kept xs ys zs images stack saved w v a e weighs light in
+    record { images_inside = g.images_inside; stack_within = subst (AreWithin (length zs)) (sym cut) (within-take (length zs) k stack g.stack_within); saved_within = g.saved_within; few = g.few; light = light }
+
 pub apply-kept : (xs ys zs : List ℕ) (images : List (ℕ × ExpressionPlace)) (stack saved stack' : List ExpressionPlace) (w v k : ℕ) (p : ExpressionPlace) → AreKept xs images stack saved w
     → zs ≡ xs ++ ys → p.start ≡ length xs → p.end ≡ length zs → stack' ≡ take k stack ++ p ∷ [] → v ≡ w + length ys → v ≤ weight_limit → AreKept zs images stack' saved v
 apply-kept xs ys zs images stack saved stack' w v k p a e low high whole weighs light =
-    added-kept xs ys zs images stack (take k stack) saved stack' w v p a (within-take (length xs) k stack a.stack_within)
-    e low high whole weighs light
+    pushed-kept zs images (take k stack) saved stack' v p (apply-cut xs zs ys images stack saved (take k stack) w v k a e refl weighs light) (new-place xs ys zs p e low high) whole
 
 pub apply-seen : (xs ys zs : List ℕ) (images : List (ℕ × ExpressionPlace)) (stack saved stack' : List ExpressionPlace) (w v k r : ℕ) (p : ExpressionPlace) → AreKept xs images stack saved w → k ≡ length stack - r
     → zs ≡ xs ++ ys → p.start ≡ length xs → p.end ≡ length zs → stack' ≡ take k stack ++ p ∷ [] → v ≡ w + length ys
@@ -226,19 +215,6 @@ pub apply-seen : (xs ys zs : List ℕ) (images : List (ℕ × ExpressionPlace)) 
 apply-seen xs ys zs images stack saved stack' w v k r p a at e low high whole weighs =
     added-seen xs ys zs stack (take k stack) saved stack' w v p a.saved_within (within-take (length xs) k stack a.stack_within) e low high whole weighs
     ∙ ap (λ b. with_result (seen xs stack saved w) b ys) (sym (take-map (seen_at xs) k stack) ∙ ap (λ n. take n (map (seen_at xs) stack)) (at ∙ ap (λ n. n - r) (sym (length-map stack (seen_at xs)))))
-
-pub apply-cut : (xs zs ys : List ℕ) (images : List (ℕ × ExpressionPlace)) (stack saved stack' : List ExpressionPlace) (w v k : ℕ) → AreKept xs images stack saved w → zs ≡ xs ++ ys → stack' ≡ take k stack
-    → v ≡ w + length ys → v ≤ weight_limit → AreKept zs images stack' saved v
-apply-cut xs zs ys images stack saved stack' w v k a e cut weighs light =
-    let longer : length xs ≤ length zs = omega (arith, ap length e, length-append xs ys) in
-    let few = a.few in
-    record {
-      images_inside = inside-more (length xs) (length zs) images longer a.images_inside;
-      stack_within = subst (AreWithin (length zs)) (sym cut) (within-take (length zs) k stack (within-weaken (length xs) (length zs) stack longer a.stack_within));
-      saved_within = within-weaken (length xs) (length zs) saved longer a.saved_within;
-      few = omega (arith, ap length e, length-append xs ys, few, weighs);
-      light = light;
-    }
 
 -- other images
 pub kept-read : (xs : List ℕ) (images images' : List (ℕ × ExpressionPlace)) (stack saved : List ExpressionPlace) (w : ℕ) → AreKept xs images stack saved w → AreInside (length xs) images' → AreKept xs images' stack saved w

@@ -1,31 +1,16 @@
--- What is answered of a right proof.
-use Rattle.std.specs.Prelude.{◌≡◌, ℕ, ◌≤◌, ◌<◌, ◌⊎◌, min, List, [], length, map, get_or, Some, Result, Ok, Err, IfOk, refl, option_map}
-use Rattle.std.proofs.Common.{sym, ◌∙◌, ap, subst, arith, inl, inr}
-use Rattle.std.proofs.lemmas.List.{length-map}
-use Rattle.std.proofs.lemmas.Option.{slice_get-get_or}
-use Rattle.mm_read.specs.Statements.{Database}
-use Rattle.mm_read.specs.declared.stmt.Stmt.{Stmt}
-use Rattle.frame.specs.AtPosition.{HasLabelsOnce}
-use Rattle.proof_code.specs.declared.item.Item.{Item}
+-- What is answered of a right proof, and of a compressed proof that was read.
+use Rattle.verify.proofs.Words.{◌≡◌, ℕ, ◌≤◌, ◌<◌, ◌⊎◌, ◌↔◌, min, List, [], length, map, get_or, Some, Result, Ok, Err, IfOk, refl, option_map, Bool, true, false, not, ◌∷◌, ◌++◌, take, sym, ◌∙◌, ap, subst, arith, inl, inr, true≢false, length-map, take_at, slice_get-get_or, not-false, not-true}
+use Rattle.verify.proofs.Words.{Database, Stmt, HasLabelsOnce, Item, Tree, Extent, Node, TreePlan, Derivation, derivation_of, node_count, depth, IsRight, Derives, IsSmall, IsProvable, Says, trees, GrowsBy, pick, built, trees_of, IsPlan, extent_of, below-at, bare, bares, stmt_at, is_provable, before, stmt_at-bares, Name, hypotheses, items_of, share_label, IsHeading, label_or_none, mandatory_labels, Proves, some-same}
 use Rattle.verify.specs.declared.answer.TreeFault.{TreeFault}
 use Rattle.verify.specs.declared.answer.TreeFault.TheVariants.{Wrong, TooLarge, Memory}
-use Rattle.verify.specs.declared.tree.Tree.{Tree}
-use Rattle.verify.specs.declared.tree_size.Extent.{Extent}
-use Rattle.verify.specs.declared.plan.Node.{Node}
-use Rattle.verify.specs.declared.plan.TreePlan.{TreePlan}
-use Rattle.verify.specs.Derivations.{Derivation, derivation_of, node_count, depth}
-use Rattle.verify.specs.Right.{IsRight, Derives, IsSmall, IsProvable}
-use Rattle.verify.specs.Growth.{trees, GrowsBy}
-use Rattle.verify.specs.Plan.{pick, built, trees_of, IsPlan}
-use Rattle.verify.specs.Extents.{extent_of}
-use Rattle.verify.proofs.Unique.{spelled_once}
-use Rattle.verify.proofs.GrowthLemmas.{leaves, only-number}
-use Rattle.verify.proofs.PlanLemmas.{length-built'}
-use Rattle.verify.proofs.SizeLemmas.{child-extent}
-use Rattle.frame.proofs.ApartLemmas.{below-at}
-use Rattle.scope.specs.Active.{bare, bares, stmt_at, is_provable}
+use Rattle.verify.proofs.GrowthLemmas.{spelled_once, leaves, only-number}
+use Rattle.verify.proofs.PlanLemmas.{length-built', child-extent}
 use Rattle.scope.proofs.BareLemmas.{bare-same}
-use Rattle.scope.proofs.StatementPlaces.{stmt_at-bares}
+use Rattle.proof_code.specs.Writes.{is_compressed, finish, Writes, WritesCompressed}
+use Rattle.proof_code.proofs.AnswersLemmas.{compressed_finished}
+use Rattle.proof_code.proofs.OneList.{one_list}
+use Rattle.verify.specs.declared.answer.Answer.{Answer}
+use Rattle.verify.specs.declared.answer.Answer.TheVariants.{Proved, Wrong}
 
 derives-same : (S : Database) (at : ℕ) → HasLabelsOnce S → (items : List Item) (t u : Derivation) → Derives S at items t → Derives S at items u → t ≡ u
 derives-same S at once items t u p q = spelled_once S at once [] p.after q.after items t u p.weight q.weight p.spelled q.spelled
@@ -69,19 +54,11 @@ extents-length ns extents e = let a = ap length e in let b = length-map (built n
 pub extent-is : (ns : List Node) (extents : List Extent) (k : ℕ) (e d : Extent) → extents ≡ map extent_of (built ns) → k < length extents → e ≡ get_or extents k d → e ≡ extent_of (pick (built ns) k)
 extent-is ns extents k e d is h at = child-extent extents (built ns) k e is (slice_get-get_or extents k d h ∙ ap Some (sym at))
 
-pub small-of : (t : Derivation) (e : Extent) → e ≡ extent_of t → (e.nodes ≤ 65536) × (e.depth ≤ 1024) → IsSmall t
-small-of t e is h =
+pub small-of : (t : Derivation) (e : Extent) → e ≡ extent_of t → IsSmall t ↔ ((e.nodes ≤ 65536) × (e.depth ≤ 1024))
+small-of t e is =
     let n : e.nodes ≡ min (node_count t) 65537 = ap (λ v. v.nodes) is in
     let d : e.depth ≡ min (depth t) 1025 = ap (λ v. v.depth) is in
-    let a = h.0 in let b = h.1 in
-    (omega (arith, n, a), omega (arith, d, b))
-
-pub small-back : (t : Derivation) (e : Extent) → e ≡ extent_of t → IsSmall t → (e.nodes ≤ 65536) × (e.depth ≤ 1024)
-small-back t e is h =
-    let n : e.nodes ≡ min (node_count t) 65537 = ap (λ v. v.nodes) is in
-    let d : e.depth ≡ min (depth t) 1025 = ap (λ v. v.depth) is in
-    let a = h.0 in let b = h.1 in
-    (omega (arith, n, a), omega (arith, d, b))
+    (λ h. (let a = h.0 in let b = h.1 in (omega (arith, n, a), omega (arith, d, b))), λ h. (let a = h.0 in let b = h.1 in (omega (arith, n, a), omega (arith, d, b))))
 
 -- a `$p` stands among the statements without their proofs
 pub provable-bare : (S F : Database) (at : ℕ) (s : Stmt) → F ≡ bares S → IsProvable S at s → IsProvable F at (bare s)
@@ -89,3 +66,48 @@ provable-bare S F at s same p = record {
   stands = ap (λ U. stmt_at U at) same ∙ (stmt_at-bares S at ∙ ap (option_map bare) p.stands);
   provable = bare-same is_provable (λ label expr proof. refl) s ∙ p.provable;
 }
+
+module _ (S : Database) (at : ℕ) (s : Stmt) (tokens : List Name) (provable : IsProvable S at s) (compressed : is_compressed tokens ≡ true) where
+  written-by : (items : List Item) → Writes tokens (mandatory_labels S at s) items → WritesCompressed tokens (mandatory_labels S at s) items
+  written-by items w = elim w [ inl p ↦ p.1.1 | inr p ↦ absurd (true≢false (sym compressed ∙ p.0)) ]
+
+  written-of : (p : Proves S at tokens) → Writes tokens (mandatory_labels S at s) p.items
+  written-of p = subst (λ t. Writes tokens (mandatory_labels S at t) p.items) (some-same p.provable.stands provable.stands) p.written
+
+  -- as many mandatory labels as mandatory hypotheses
+  pub many : (hs : List ℕ) → hs ≡ hypotheses (before S at) s → length (mandatory_labels S at s) ≡ length hs
+  many hs are = length-map (hypotheses (before S at) s) (λ i. label_or_none (stmt_at S i)) ∙ ap length (sym are)
+
+  -- tokens that write nothing under so many mandatory labels
+  pub unwritten : (hs : List ℕ) → hs ≡ hypotheses (before S at) s → ((labels : List Name) → length labels ≡ length hs → (items : List Item) → WritesCompressed tokens labels items → ⊥) → Proves S at tokens → ⊥
+  unwritten hs are none p = none (mandatory_labels S at s) (many hs are) p.items (written-by p.items (written-of p))
+
+  module _ (m : ℕ) (words : List Name) (count : ℕ) (numbers : List ℕ) (heading : IsHeading tokens m words count numbers) where
+    listed-is : take count words ≡ heading.listed
+    listed-is = ap (take count) heading.whole ∙ take_at heading.listed (finish ∷ heading.rest) count heading.many
+
+    -- a mandatory label is listed
+    pub one-listed : (b : Bool) → b ≡ false → b ≡ not (share_label (mandatory_labels S at s) (take count words)) → Proves S at tokens → ⊥
+    one-listed b e is p =
+        heading.shared (mandatory_labels S at s) (ap (share_label (mandatory_labels S at s)) (sym listed-is) ∙ not-false (share_label (mandatory_labels S at s) (take count words)) (sym is ∙ e)) p.items (written-by p.items (written-of p))
+
+    -- none is: the items of the numbers decide
+    pub read-proves : {E : Type 0} (b : Bool) → b ≡ true → b ≡ not (share_label (mandatory_labels S at s) (take count words)) → length (mandatory_labels S at s) ≡ m
+        → (r : Result Answer E) → IfOk r (λ answer. Says answer (IsRight S at (items_of (mandatory_labels S at s ++ take count words) numbers)))
+        → IfOk r (λ answer. Says answer (Proves S at tokens))
+    read-proves {E = E} b e is long r says = by r says
+      where
+        apart : share_label (mandatory_labels S at s) heading.listed ≡ false
+        apart = ap (share_label (mandatory_labels S at s)) (sym listed-is) ∙ not-true (share_label (mandatory_labels S at s) (take count words)) (sym is ∙ e)
+
+        writes : WritesCompressed tokens (mandatory_labels S at s) (items_of (mandatory_labels S at s ++ take count words) numbers)
+        writes = subst (λ l. WritesCompressed tokens (mandatory_labels S at s) (items_of (mandatory_labels S at s ++ l) numbers)) (sym listed-is) (heading.apart (mandatory_labels S at s) long apart)
+
+        written : Writes tokens (mandatory_labels S at s) (items_of (mandatory_labels S at s ++ take count words) numbers)
+        written = inl (compressed, (compressed_finished tokens (mandatory_labels S at s) (items_of (mandatory_labels S at s ++ take count words) numbers) writes, writes))
+
+        by : (r : Result Answer E) → IfOk r (λ answer. Says answer (IsRight S at (items_of (mandatory_labels S at s ++ take count words) numbers))) → IfOk r (λ answer. Says answer (Proves S at tokens))
+        by (Err x) h = tt
+        by (Ok Proved) h = record { stmt = s; items = items_of (mandatory_labels S at s ++ take count words) numbers; provable = provable; written = written; right = h }
+        by (Ok Wrong) h = λ p.
+            h (subst (IsRight S at) (one_list tokens (mandatory_labels S at s) p.items (items_of (mandatory_labels S at s ++ take count words) numbers) (written-of p) written) p.right)

@@ -1,23 +1,26 @@
 -- The worked proofs, found by computation.
-use Rattle.std.specs.Prelude.{◌≡◌, ℕ, List, [], ◌∷◌, ◌++◌, codes, refl, true, map, is_some, is_none, Option, Some, None}
-use Rattle.verify.specs.Derivations.{node_count}
+use Rattle.verify.proofs.Words.{◌≡◌, ℕ, List, [], ◌∷◌, ◌++◌, codes, refl, true, map, is_some, is_none, Option, Some, None, Open, Const, Var, Disj, Axiom, Prove, Database, bares, before, Item, Cite, Recall, Mark, IsRight}
 use Prim.Native.String.{String}
-use Rattle.mm_read.specs.declared.stmt.Stmt.TheVariants.{Open, Const, Var, Disj, Float, Axiom, Prove}
-use Rattle.mm_read.specs.Statements.{Database}
+use Rattle.mm_read.specs.declared.stmt.Stmt.TheVariants.{Float}
 use Rattle.scope.proofs.Databases.{w, demo, row_seven, row_th}
-use Rattle.scope.specs.Active.{bares, before}
-use Rattle.proof_code.specs.declared.item.Item.{Item}
-use Rattle.proof_code.specs.declared.item.Item.TheVariants.{Cite, Recall, Mark}
-use Rattle.verify.proofs.Examples.{swapped}
-use Rattle.verify.specs.Right.{IsRight}
 use Rattle.verify.proofs.Computed.{prove, found}
 
 abbrev cites : String → List Item
 cites text = map (λ l. Cite l) (w (codes text))
 
--- row 4, by going through the items
-row_four : IsRight swapped 6 (map (λ l. Cite l) (w (codes "wy wx ax")))
-row_four = found (prove swapped 6 (map (λ l. Cite l) (w (codes "wy wx ax")))) refl
+-- row 4: both images are put in at once
+abbrev swapped : Database
+swapped =
+    Const (w (codes "|- R wff"))
+    ∷ Var (w (codes "x y"))
+    ∷ Float (codes "wx") (codes "wff") (codes "x")
+    ∷ Float (codes "wy") (codes "wff") (codes "y")
+    ∷ Axiom (codes "ax") (w (codes "|- x R y"))
+    ∷ Prove (codes "th") (w (codes "|- y R x")) []
+    ∷ []
+
+row_four : IsRight swapped 6 (cites "wy wx ax")
+row_four = found (prove _ 6 (cites "wy wx ax")) refl
 
 -- row 5: an empty image
 row_five : IsRight (Const (w (codes "wff |- ( )")) ∷ Var (w (codes "x")) ∷ Float (codes "wx") (codes "wff") (codes "x") ∷ Axiom (codes "we") (w (codes "wff"))
@@ -32,17 +35,13 @@ row_seven_right = found (prove _ 16 (cites "wx wz wx wz ax r")) refl
 two_left : is_none (prove (Const (w (codes "|- o")) ∷ Axiom (codes "a") (w (codes "|- o")) ∷ Prove (codes "th") (w (codes "|- o")) [] ∷ []) 3 (cites "a a")) ≡ true
 two_left = refl
 
--- row 2
-demo_normal : is_some (prove (bares demo) 19 (cites "tt tze tpl tt weq tt tt weq tt a2 tt tze tpl tt weq tt tze tpl tt weq tt tt weq wim tt a2 tt tze tpl tt tt a1 mp mp")) ≡ true
-demo_normal = refl
+-- the weight of a right proof
+abbrev weighed : {S : Database} {at : ℕ} {items : List Item} → Option (IsRight S at items) → ℕ
+weighed None = 0
+weighed (Some r) = r.1.weight
 
--- its weight, and how many nodes the derivation has
-abbrev weighed : {S : Database} {at : ℕ} {items : List Item} → Option (IsRight S at items) → ℕ × ℕ
-weighed None = (0, 0)
-weighed (Some r) = (r.1.weight, node_count r.0)
-
--- row 2 weighs 166, and its derivation has 34 nodes
-demo_normal_weight : weighed (prove (bares demo) 19 (cites "tt tze tpl tt weq tt tt weq tt a2 tt tze tpl tt weq tt tze tpl tt weq tt tt weq wim tt a2 tt tze tpl tt tt a1 mp mp")) ≡ (166, 34)
+-- row 2 weighs 166
+demo_normal_weight : weighed (prove (bares demo) 19 (cites "tt tze tpl tt weq tt tt weq tt a2 tt tze tpl tt weq tt tze tpl tt weq tt tt weq wim tt a2 tt tze tpl tt tt a1 mp mp")) ≡ 166
 demo_normal_weight = refl
 
 -- row 3: the letters `ABCZADZAADZAEZJJKFLIAAGHH`
@@ -50,7 +49,7 @@ abbrev demo_packed : List Item
 demo_packed = cites "tt tze tpl" ++ Mark ∷ (cites "tt weq" ++ Mark ∷ (cites "tt tt weq" ++ Mark ∷ (cites "tt a2" ++ Mark ∷ Recall 2 ∷ Recall 2 ∷ Recall 3 ∷ (cites "wim" ++ Recall 4 ∷ Recall 1 ∷ cites "tt tt a1 mp mp"))))
 
 -- with marks the same derivation weighs 132
-demo_packed_weight : weighed (prove (bares demo) 19 demo_packed) ≡ (132, 34)
+demo_packed_weight : weighed (prove (bares demo) 19 demo_packed) ≡ 132
 demo_packed_weight = refl
 
 -- row 6: nothing keeps x and z apart at the theorem, and then a `$d` does

@@ -1,107 +1,34 @@
 -- What the code knows at each exit of a step, as a fact of the machine.
-use Rattle.std.specs.Prelude.{◌≡◌, ℕ, zero, suc, ◌+◌, ◌-◌, ◌<◌, ◌≤◌, Bool, true, false, List, [], ◌∷◌, ◌++◌, length, map, take, drop, get_or, Some, Result, Ok, Err, IfOk, refl}
-use Rattle.std.proofs.Common.{sym, ◌∙◌, ap, subst, arith}
-use Rattle.std.specs.declared.alloc.AllocError.{AllocError}
-use Rattle.proof_code.proofs.RowOfNumbers.{item-cite, item-recall}
-use Rattle.mm_lex.specs.Alphabet.{Name}
-use Rattle.mm_read.specs.declared.stmt.Stmt.{Stmt}
-use Rattle.mm_read.specs.Statements.{Expr, Database}
-use Rattle.scope.specs.Active.{stmt_at, before, expr_of}
-use Rattle.names.specs.Codes.{decode}
-use Rattle.frame.specs.FrameOf.{HasAssertion}
-use Rattle.proof_code.specs.declared.item.Item.{Item}
-use Rattle.proof_code.specs.declared.item.Item.TheVariants.{Cite, Recall}
-use Rattle.entries.specs.declared.cited_parts.Cited.{Cited}
-use Rattle.frame.specs.Citations.{IsHypothesis, Carries}
-use Rattle.verify.specs.Machine.{Results, State, start, Cites, of_hypothesis, of_assertion, Runs}
-use Rattle.frame.specs.Substitution.{CodeImages, code_apply, images_of_names}
-use Rattle.frame.specs.Disjoint.{are_groups_apart}
-use Rattle.frame.specs.Bound.{IsBound}
-use Rattle.frame.specs.Cited.{IsCited}
-use Rattle.verify.specs.Fits.{AreRead, Reads, DoFit}
-use Rattle.verify.specs.ResultPlaces.{below, top, Adds, Marks, Recalls}
-use Rattle.frame.specs.Below.{AreBelow, AllBelow}
-use Rattle.verify.specs.Goes.{named, AreNamed, Goes}
-use Rattle.frame.specs.AtPosition.{AreLegal}
-use Rattle.proof_code.specs.ItemNumbers.{item_of}
-use Rattle.verify.specs.Spells.{IsCitable}
-use Rattle.verify.specs.Right.{IsRight, weight_limit}
-use Rattle.verify.proofs.Named.{goes-recall, goes-mark, goes-hypothesis}
-use Rattle.verify.proofs.CitationLemmas.{Meets, goes-assertion, goes-heavy, goes-not}
+use Rattle.verify.proofs.Words.{◌≡◌, ℕ, suc, ◌+◌, ◌-◌, ◌<◌, ◌≤◌, Bool, true, false, List, [], ◌∷◌, ◌++◌, length, map, take, drop, get_or, Some, Result, Ok, Err, IfOk, refl, IsTrue, nat_lt, nat_eq, replicate, slice_get, slice_set, sym, ◌∙◌, ap, subst, arith, true≢false, length-append, AllocError, nat_tests, length-map, map-append, take-append-drop, take_all, drop_all, drop_more, map_more, drop-append-le, drop-set-lt, length-set, length-replicate, get_or-set_same, get_or-set_other, get_or-replicate, get_or_from_slice_get, slice_get-get_or}
+use Rattle.verify.proofs.Words.{item-cite, item-recall, Name, Stmt, Database, stmt_at, expr_of, name_at, decode, Item, Cite, Recall, IsHypothesis, Carries, Results, State, start, of_hypothesis, Runs, with_result, Adds, Marks, Recalls, Gives, AreBelow, AllBelow, named, AreNamed, Goes, behind, IsGiven, AreGiven, AreKnown, GoesOn, AreLegal, item_of, IsRight, weight_limit, some-same, decode-injective, below-group, LabelEntry, Nothing, IsEntry, AreEntries, get-front}
+use Rattle.verify.proofs.Named.{goes-recall, goes-mark, named-result, result-named, all-drop, all-set, all-snoc, all-none, get-drop}
 use Rattle.verify.proofs.Decide.{cites_same, refuted_at_end, refuted_at_step, accepts_right}
 use Rattle.verify.proofs.Complete.{runs_append}
-use Rattle.frame.proofs.FoundByNumber.{some-same, decode-injective}
+use Rattle.verify.specs.declared.label_table.LabelEntry.TheVariants.{Hypothesis}
+use Rattle.verify.proofs.ResultPlaceLemmas.{map-drop, results-same}
 
 module _ (S : Database) (names : List Name) (at : ℕ) (legal : AreLegal S names) where
   module _ (old new : Results ℕ) (an : AreNamed names old) where
-    module _ (label : Name) (a : ℕ) (c : Cited) (s : Stmt) (carries : Carries S a s label) (has : HasAssertion S a s) (bound : IsBound S a s) (is : IsCited S names a s c) where
-      abbrev n : ℕ
-      n = length c.hypotheses
-
-      -- a citation whose results do not meet the assertion has no step
-      not_cited : ((f : Expr) → Meets S names at a c old.stack f → ⊥) → Goes false S at names (Cite label) old new
-      not_cited none = goes-not S names at a s c legal bound is old new label an carries has none
-
-      pub assertion-few : length old.stack < n → Goes false S at names (Cite label) old new
-      assertion-few h = not_cited (λ f m. (let many = m.many in omega (arith, h, many)))
-
-      pub assertion-untyped : (σ : CodeImages) → Reads false c.heads.now c.hypotheses (top n old.stack) σ → Goes false S at names (Cite label) old new
-      assertion-untyped σ r = not_cited (λ f m. r.3 (m.typed r.0 r.1 r.2))
-
-      module _ (ρ : CodeImages) (read : AreRead c.heads.now c.hypotheses (top n old.stack) ρ) where
-        pub assertion-unfit : (DoFit S (images_of_names names ρ) c.hypotheses (map (decode names) (top n old.stack)) → ⊥) → Goes false S at names (Cite label) old new
-        assertion-unfit h = not_cited (λ f m. h (m.fits ρ read))
-
-        pub assertion-clash : are_groups_apart (before S at) (images_of_names names ρ) (map (decode names) c.groups) ≡ false → Goes false S at names (Cite label) old new
-        assertion-clash h = not_cited (λ f m. (let e : true ≡ false = sym (m.apart ρ read) ∙ h in cc))
-
-        assertion-by : (ok : Bool) → a < at → n ≤ length old.stack → DoFit S (images_of_names names ρ) c.hypotheses (map (decode names) (top n old.stack))
-            → are_groups_apart (before S at) (images_of_names names ρ) (map (decode names) c.groups) ≡ true
-            → Adds ok old new (below n old.stack) (code_apply ρ c.conclusion.now) → Goes ok S at names (Cite label) old new
-        assertion-by true earlier many fits apart adds = goes-assertion S names at a s c legal bound is old new label ρ an carries has earlier many read fits apart adds
-        assertion-by false earlier many fits apart adds = goes-heavy S names at a s c legal bound is old new label ρ an carries has read adds
-
-        pub assertion-result : (r : Result Bool AllocError) → a < at → n ≤ length old.stack → DoFit S (images_of_names names ρ) c.hypotheses (map (decode names) (top n old.stack))
-            → are_groups_apart (before S at) (images_of_names names ρ) (map (decode names) c.groups) ≡ true
-            → IfOk r (λ ok. Adds ok old new (below n old.stack) (code_apply ρ c.conclusion.now)) → IfOk r (λ ok. Goes ok S at names (Cite label) old new)
-        assertion-result (Err e) earlier many fits apart adds = tt
-        assertion-result (Ok ok) earlier many fits apart adds = assertion-by ok earlier many fits apart adds
-
-    module _ (label : Name) (i : ℕ) (s : Stmt) (carries : Carries S i s label) where
-      pub hypothesis-result : (r : Result Bool AllocError) (e : List ℕ) (t : Stmt) → IsHypothesis S at i t → decode names e ≡ expr_of t → AreBelow (length names) e
-          → IfOk r (λ ok. Adds ok old new old.stack e) → IfOk r (λ ok. Goes ok S at names (Cite label) old new)
-      hypothesis-result (Err f) e t active same codes adds = tt
-      hypothesis-result (Ok ok) e t active same codes adds =
-          let q : t ≡ s = some-same active.stands carries.stands in
-          goes-hypothesis names S at ok old new label i t e an codes same (subst (λ u. Carries S i u label) (sym q) carries) active
-          (λ b f p. (cites_same S at (legal.single at) legal.once label (map (decode names) old.stack) b (map (decode names) old.stack) f (expr_of t) p
-          (of_hypothesis i t (subst (λ u. Carries S i u label) (sym q) carries) active refl refl)).1) adds
-
-    nothing-by : (label : Name) (next : State) (b : List Expr) (f : Expr) → ((i : ℕ) (t : Stmt) → Carries S i t label → (IsHypothesis S at i t → ⊥) × (IsCitable S at i t → ⊥))
-        → Cites S at label (map (decode names) old.stack) b f → weight_limit < next.weight
-    nothing-by label next b f none (of_hypothesis j t carries active same whole) = absurd ((none j t carries).0 active)
-    nothing-by label next b f none (of_assertion j t σ carries fits whole gives) =
-        absurd ((none j t carries).1 (record { earlier = fits.earlier; assertion = fits.assertion }))
-
-    pub nothing-goes : (label : Name) → ((i : ℕ) (t : Stmt) → Carries S i t label → (IsHypothesis S at i t → ⊥) × (IsCitable S at i t → ⊥)) → Goes false S at names (Cite label) old new
-    nothing-goes label none = λ next p. nothing-by label next p.0 p.1 none p.2
-
-    pub mark-result : (r : Result Bool AllocError) (labels : List Name) (n : ℕ) → n ≡ 0 → IfOk r (λ ok. Marks ok old new) → IfOk r (λ ok. Goes ok S at names (item_of labels n) old new)
-    mark-result (Err e) labels n z h = tt
-    mark-result (Ok ok) labels n z h = subst (λ m. Goes ok S at names (item_of labels m) old new) (sym z) (goes-mark names S at ok old new an h)
+    hypothesis-result : (label : Name) (i : ℕ) (s : Stmt) → Carries S i s label → (ok : Bool) (e : List ℕ) → IsHypothesis S at i s → decode names e ≡ expr_of s → AreBelow (length names) e
+        → Adds ok old new old.stack e → Goes ok S at names (Cite label) old new
+    hypothesis-result label i s carries true e active same codes adds = (
+      (map (decode names) old.stack, decode names e, of_hypothesis i s carries active same refl, ap (named names) adds ∙ named-result names old old.stack e),
+      subst (AreNamed names) (sym adds) (result-named names old old.stack e an an.stack_named codes),
+    )
+    hypothesis-result label i s carries false e active same codes heavy = λ next p.
+        let one = (cites_same S at (legal.single at) legal.once label (map (decode names) old.stack) p.0 (map (decode names) old.stack) p.1 (expr_of s) p.2 (of_hypothesis i s carries active refl refl)).1 in
+        let len : length p.1 ≡ length e = ap length one ∙ (ap length (sym same) ∙ length-map e (name_at names)) in
+        let w = ap (λ s'. s'.weight) p.3 in
+        omega (arith, heavy, len, w)
 
   -- ---- the number of an item
 
-  pub cite-number : (old new : Results ℕ) (r : Result Bool AllocError) (labels : List Name) (label : Name) (n k : ℕ) → n ≡ suc k → k < length labels → label ≡ get_or labels k []
-      → IfOk r (λ ok. Goes ok S at names (Cite label) old new) → IfOk r (λ ok. Goes ok S at names (item_of labels n) old new)
-  cite-number old new r labels label n k e h at_k p =
-      subst (λ i. IfOk r (λ ok. Goes ok S at names i old new)) (ap Cite at_k ∙ sym (item-cite labels n k e h)) p
+  cite-number : (old new : Results ℕ) (ok : Bool) (labels : List Name) (n k : ℕ) → n ≡ suc k → k < length labels → Goes ok S at names (Cite (get_or labels k [])) old new → Goes ok S at names (item_of labels n) old new
+  cite-number old new ok labels n k e h p = subst (λ i. Goes ok S at names i old new) (sym (item-cite labels n k e h)) p
 
-  pub recall-number : (old new : Results ℕ) (an : AreNamed names old) (r : Result Bool AllocError) (labels : List Name) (n k m : ℕ) → n ≡ suc k → length labels ≤ k → m ≡ suc (k - length labels)
-      → IfOk r (λ ok. Recalls ok old new m) → IfOk r (λ ok. Goes ok S at names (item_of labels n) old new)
-  recall-number old new an (Err f) labels n k m e h at_m p = tt
-  recall-number old new an (Ok ok) labels n k m e h at_m p =
-      subst (λ i. Goes ok S at names i old new) (ap Recall at_m ∙ sym (item-recall labels n k e h)) (goes-recall names S at ok old new m an p)
+  recall-number : (old new : Results ℕ) (an : AreNamed names old) (ok : Bool) (labels : List Name) (n k m : ℕ) → n ≡ suc k → length labels ≤ k → m ≡ suc (k - length labels)
+      → Recalls ok old new m → Goes ok S at names (item_of labels n) old new
+  recall-number old new an ok labels n k m e h at_m p = subst (λ i. Goes ok S at names i old new) (ap Recall at_m ∙ sym (item-recall labels n k e h)) (goes-recall names S at ok old new m an p)
 
   -- ---- the whole proof
 
@@ -133,23 +60,192 @@ module _ (S : Database) (names : List Name) (at : ℕ) (legal : AreLegal S names
       back (x ∷ y ∷ stack) b h = absurd (omega (arith, ap length h))
 
 pub items-more : (labels : List Name) (numbers : List ℕ) (i : ℕ) → i < length numbers → map (item_of labels) (take (i + 1) numbers) ≡ map (item_of labels) (take i numbers) ++ item_of labels (get_or numbers i 0) ∷ []
-items-more labels [] i h = absurd (omega (arith, h))
-items-more labels (n ∷ numbers) zero h = refl
-items-more labels (n ∷ numbers) (suc i) h =
-    let e : suc i + 1 ≡ suc (i + 1) = omega arith in
-    ap (λ k. map (item_of labels) (take k (n ∷ numbers))) e ∙ ap (λ r. item_of labels n ∷ r) (items-more labels numbers i (omega (arith, h)))
+items-more labels numbers i h = map_more (item_of labels) numbers i 0 h
 
 pub items-rest : (labels : List Name) (numbers : List ℕ) (i : ℕ) → i < length numbers
     → map (item_of labels) numbers ≡ map (item_of labels) (take i numbers) ++ item_of labels (get_or numbers i 0) ∷ map (item_of labels) (drop (i + 1) numbers)
-items-rest labels [] i h = absurd (omega (arith, h))
-items-rest labels (n ∷ numbers) zero h = refl
-items-rest labels (n ∷ numbers) (suc i) h =
-    let e : suc i + 1 ≡ suc (i + 1) = omega arith in
-    ap (λ r. item_of labels n ∷ r) (items-rest labels numbers i (omega (arith, h)))
-    ∙ ap (λ k. map (item_of labels) (take (suc i) (n ∷ numbers)) ++ item_of labels (get_or numbers i 0) ∷ map (item_of labels) (drop k (n ∷ numbers))) (sym e)
+items-rest labels numbers i h =
+    ap (map (item_of labels)) (sym (take-append-drop i numbers))
+    ∙ (map-append (item_of labels) (take i numbers) (drop i numbers) ∙ ap (λ ns. map (item_of labels) (take i numbers) ++ map (item_of labels) ns) (drop_more numbers i 0 h))
 
 pub all-taken : {A B : Type 0} (f : A → B) (xs : List A) (n : ℕ) → length xs ≤ n → map f (take n xs) ≡ map f xs
-all-taken f [] zero h = refl
-all-taken f [] (suc n) h = refl
-all-taken f (x ∷ xs) zero h = absurd (omega (arith, h))
-all-taken f (x ∷ xs) (suc n) h = ap (λ r. f x ∷ r) (all-taken f xs n (omega (arith, h)))
+all-taken f xs n h = ap (map f) (take_all n xs h)
+
+-- ---- results behind those of the labels
+
+module _ (S : Database) (names : List Name) (at : ℕ) where
+  named-behind : (n : ℕ) (st : Results ℕ) → named names (behind n st) ≡ (let r : State = record { stack = map (decode names) st.stack; saved = drop n (map (decode names) st.saved); weight = st.weight } in r)
+  named-behind n st = results-same (map (decode names) st.stack) (map (decode names) st.stack) (map (decode names) (drop n st.saved)) (drop n (map (decode names) st.saved)) st.weight st.weight refl (map-drop (decode names) n st.saved) refl
+
+  pub behind-named : (n : ℕ) (st : Results ℕ) → AreNamed names st → AreNamed names (behind n st)
+  behind-named n st a = record { stack_named = a.stack_named; saved_named = all-drop (length names) n st.saved a.saved_named }
+
+  cite-behind : (n : ℕ) (ok : Bool) (label : Name) (old new : Results ℕ) → Goes ok S at names (Cite label) old new → Goes ok S at names (Cite label) (behind n old) (behind n new)
+  cite-behind n true label old new g = (
+    (
+      g.0.0,
+      g.0.1,
+      g.0.2,
+      named-behind n new ∙ (ap (λ (st : State). (let r : State = record { stack = st.stack; saved = drop n st.saved; weight = st.weight } in r)) g.0.3
+          ∙ ap (λ (st : State). with_result st g.0.0 g.0.1) (sym (named-behind n old))),
+    ),
+    behind-named n new g.1,
+  )
+  cite-behind n false label old new g = λ next p.
+      let heavy = g (with_result (named names old) p.0 p.1) (p.0, p.1, p.2, refl) in
+      let w = ap (λ (st : State). st.weight) p.3 in
+      omega (arith, heavy, w)
+
+  module _ (legal : AreLegal S names) (table : List LabelEntry) (old new : Results ℕ) (known : AreKnown S names table old) where
+    -- behind the results of the labels, codes stand for names
+    below_named : AreNamed names (behind (length table) old)
+    below_named = behind-named (length table) old known.are_named
+
+    -- what is known after an item that was done
+    known-if : (P : Bool → Type 0) → (P true → AreKnown S names table new) → (ok : Bool) → P ok → IsTrue ok → AreKnown S names table new
+    known-if P f true p t = f p
+    known-if P f false p t = absurd (true≢false (sym t))
+
+    -- an assertion leaves what is saved
+    pub cite-on : (labels : List Name) (number k : ℕ) (r : Result Bool AllocError) → number ≡ suc k → AreEntries S at labels table → k < length table
+        → IfOk r (λ ok. Goes ok S at names (Cite (get_or labels k [])) old new) → IfOk r (λ ok. IsTrue ok → new.saved ≡ old.saved)
+        → IfOk r (λ ok. GoesOn ok S at names table (item_of labels number) old new)
+    cite-on labels number k (Err e) is are within goes same = tt
+    cite-on labels number k (Ok ok) is are within goes same = (
+      cite-number S names at legal (behind (length table) old) (behind (length table) new) ok labels number k is (let c = are.count in omega (arith, within, c)) (cite-behind (length table) ok (get_or labels k []) old new goes),
+      λ t. known-if (λ b. Goes b S at names (Cite (get_or labels k [])) old new) (λ g. record { are_named = g.1; given = subst (AreGiven S names table) (sym (same t)) known.given }) ok goes t,
+    )
+
+    -- ---- a hypothesis that is written out
+
+    module _ (labels : List Name) (number k i : ℕ) (s : Stmt) (e : List ℕ) (is : get_or table k Nothing ≡ Hypothesis i) (by_number : number ≡ suc k) (are : AreEntries S at labels table) (within : k < length table)
+        (carries : Carries S i s (get_or labels k [])) (active : IsHypothesis S at i s) (same : decode names e ≡ expr_of s) (codes : AreBelow (length names) e) where
+      give-adds : (ok : Bool) → Gives ok old new k e → Adds ok (behind (length table) old) (behind (length table) new) old.stack e
+      give-adds false gives = gives
+      give-adds true gives =
+          ap (behind (length table)) gives
+          ∙ results-same (old.stack ++ e ∷ []) (old.stack ++ e ∷ []) (drop (length table) (slice_set old.saved k e)) (drop (length table) old.saved) (old.weight + length e) (old.weight + length e)
+          refl (drop-set-lt (length table) old.saved k e within) refl
+
+      give-known : Gives true old new k e → AreKnown S names table new
+      give-known gives = subst (AreKnown S names table) (sym gives) (record {
+        are_named = record { stack_named = all-snoc (length names) old.stack e known.are_named.stack_named codes; saved_named = all-set (length names) k old.saved e known.are_named.saved_named codes };
+        given = record { enough = subst (λ n. length table ≤ n) (sym (length-set old.saved k e)) known.given.enough; each = λ j less. by j less (nat_eq k j) refl };
+      })
+        where
+          by : (j : ℕ) → j < length table → (b : Bool) → nat_eq k j ≡ b → IsGiven S names (get_or table j Nothing) (get_or (slice_set old.saved k e) j [])
+          by j less true t =
+              let one : k ≡ j = grind (arith, nat_tests) in
+              let enough = known.given.enough in
+              subst (λ n. IsGiven S names (get_or table n Nothing) (get_or (slice_set old.saved k e) n [])) one
+              (subst (λ v. IsGiven S names v (get_or (slice_set old.saved k e) k [])) (sym is)
+              (λ some t stands. ap (decode names) (get_or-set_same old.saved k e [] (omega (arith, within, enough))) ∙ (same ∙ ap expr_of (some-same active.stands stands))))
+          by j less false t =
+              let other : k ≡ j → ⊥ = λ q. (let x : nat_eq k j ≡ true = grind (arith, nat_tests) in true≢false (sym x ∙ t)) in
+              subst (IsGiven S names (get_or table j Nothing)) (sym (get_or-set_other old.saved k j e [] (λ q. other (sym q)))) (known.given.each j less)
+
+      pub give-on : (ok : Bool) → Gives ok old new k e → GoesOn ok S at names table (item_of labels number) old new
+      give-on ok gives = (
+        cite-number S names at legal (behind (length table) old) (behind (length table) new) ok labels number k by_number (let c = are.count in omega (arith, within, c))
+            (hypothesis-result S names at legal (behind (length table) old) (behind (length table) new) below_named (get_or labels k []) i s carries ok e active same codes (give-adds ok gives)),
+        known-if (λ b. Gives b old new k e) give-known ok gives,
+      )
+
+    -- ---- a result that is saved
+
+    recall-known : (k : ℕ) → Recalls true old new (suc k) → AreKnown S names table new
+    recall-known k r = subst (AreKnown S names table) (sym r.2) (record {
+      are_named = record { stack_named = all-snoc (length names) old.stack r.0 known.are_named.stack_named (below-group (length names) old.saved k r.0 known.are_named.saved_named r.1); saved_named = known.are_named.saved_named };
+      given = known.given;
+    })
+
+    -- one of those that were marked
+    pub recall-on : (labels : List Name) (k number : ℕ) (ok : Bool) → number ≡ suc k → length table ≡ length labels → length table ≤ k → Recalls ok old new (suc k) → GoesOn ok S at names table (item_of labels number) old new
+    recall-on labels k number ok is count high recalls = (
+      recall-number S names at legal (behind (length table) old) (behind (length table) new) below_named ok labels number k (suc (k - length table)) is (omega (arith, count, high)) (ap (λ n. suc (k - n)) count) (cut-recalls ok recalls),
+      known-if (λ b. Recalls b old new (suc k)) (recall-known k) ok recalls,
+    )
+      where
+        cut-recalls : (b : Bool) → Recalls b old new (suc k) → Recalls b (behind (length table) old) (behind (length table) new) (suc (k - length table))
+        cut-recalls true h = (h.0, get-drop (length table) k old.saved high ∙ h.1, ap (behind (length table)) h.2)
+        cut-recalls false h = λ e saved. h e (sym (get-drop (length table) k old.saved high) ∙ saved)
+
+    -- the one that is kept for a label
+    known-on : (labels : List Name) (k number : ℕ) (ok : Bool) → number ≡ suc k → AreEntries S at labels table → k < length table → 0 < length (get_or old.saved k []) → Recalls ok old new (suc k)
+        → GoesOn ok S at names table (item_of labels number) old new
+    known-on labels k number ok is are within some recalls = (
+      cite-number S names at legal (behind (length table) old) (behind (length table) new) ok labels number k is (let c = are.count in omega (arith, within, c))
+          (by (get_or table k Nothing) (are.each k (let c = are.count in omega (arith, within, c))) (known.given.each k within)),
+      known-if (λ b. Recalls b old new (suc k)) (recall-known k) ok recalls,
+    )
+      where
+        there : slice_get old.saved k ≡ Some (get_or old.saved k [])
+        there = let enough = known.given.enough in slice_get-get_or old.saved k [] (omega (arith, within, enough))
+
+        adds : (b : Bool) → Recalls b old new (suc k) → Adds b (behind (length table) old) (behind (length table) new) old.stack (get_or old.saved k [])
+        adds true h = ap (behind (length table)) (h.2 ∙ ap (with_result old old.stack) (sym (get_or_from_slice_get old.saved k h.0 [] h.1)))
+        adds false h = h (get_or old.saved k []) there
+
+        by : (entry : LabelEntry) → IsEntry S at (get_or labels k []) entry → IsGiven S names entry (get_or old.saved k []) → Goes ok S at names (Cite (get_or labels k [])) (behind (length table) old) (behind (length table) new)
+        by (Hypothesis i) entry given =
+            hypothesis-result S names at legal (behind (length table) old) (behind (length table) new) below_named (get_or labels k []) i entry.0 entry.1 ok (get_or old.saved k []) entry.2
+            (given some entry.0 entry.2.stands) (below-group (length names) old.saved k (get_or old.saved k []) known.are_named.saved_named there) (adds ok recalls)
+        by other entry given = absurd (omega (arith, some, ap length given))
+
+    pub has-on : (labels : List Name) (k number : ℕ) (ok : Bool) → number ≡ suc k → AreEntries S at labels table → 0 < length (get_or old.saved k []) → Recalls ok old new (suc k) → GoesOn ok S at names table (item_of labels number) old new
+    has-on labels k number ok is are some recalls = by (nat_lt k (length table)) refl
+      where
+        by : (b : Bool) → nat_lt k (length table) ≡ b → GoesOn ok S at names table (item_of labels number) old new
+        by true e = known-on labels k number ok is are (grind (arith, nat_tests)) some recalls
+        by false e = recall-on labels k number ok is are.count (grind (arith, nat_tests)) recalls
+
+    -- ---- a mark
+
+    pub mark-on : (labels : List Name) (number : ℕ) (ok : Bool) → number ≡ 0 → Marks ok old new → GoesOn ok S at names table (item_of labels number) old new
+    mark-on labels number ok is marks = (
+      subst (λ m. Goes ok S at names (item_of labels m) (behind (length table) old) (behind (length table) new)) (sym is) (goes-mark names S at ok (behind (length table) old) (behind (length table) new) below_named (cut-marks ok marks)),
+      known-if (λ b. Marks b old new) marked ok marks,
+    )
+      where
+        cut-marks : (b : Bool) → Marks b old new → Marks b (behind (length table) old) (behind (length table) new)
+        cut-marks true h = (
+          h.0,
+          h.1,
+          h.2,
+          ap (behind (length table)) h.3 ∙ results-same old.stack old.stack (drop (length table) (old.saved ++ h.1 ∷ [])) (drop (length table) old.saved ++ h.1 ∷ []) old.weight old.weight
+              refl (drop-append-le (length table) old.saved (h.1 ∷ []) known.given.enough) refl,
+        )
+        cut-marks false h = h
+
+        last-named : (b : List (List ℕ)) (e : List ℕ) → AllBelow (length names) (b ++ e ∷ []) → AreBelow (length names) e
+        last-named [] e p = p.0
+        last-named (x ∷ b) e p = last-named b e p.1
+
+        marked : Marks true old new → AreKnown S names table new
+        marked h =
+            let enough = known.given.enough in
+            subst (AreKnown S names table) (sym h.3) (record {
+              are_named = record {
+                stack_named = known.are_named.stack_named;
+                saved_named = all-snoc (length names) old.saved h.1 known.are_named.saved_named (last-named h.0 h.1 (subst (AllBelow (length names)) h.2 known.are_named.stack_named));
+              };
+              given = record {
+                enough = omega (arith, enough, length-append old.saved (h.1 ∷ []));
+                each = λ k less. subst (IsGiven S names (get_or table k Nothing)) (sym (get-front old.saved (h.1 ∷ []) k [] (omega (arith, enough, less)))) (known.given.each k less);
+              };
+            })
+
+  -- ---- the start
+
+  pub start-known : (table : List LabelEntry) (st : Results ℕ) → st ≡ (let r : Results ℕ = record { stack = []; saved = replicate (length table) []; weight = 0 } in r) → AreKnown S names table st
+  start-known table st is = subst (AreKnown S names table) (sym is) (record {
+    are_named = record { stack_named = tt; saved_named = all-none (length names) (length table) };
+    given = record { enough = (let l = length-replicate (length table) (let r : List ℕ = [] in r) in omega (arith, l)); each = λ k less. by k less (get_or table k Nothing) };
+  })
+    where
+      by : (k : ℕ) → k < length table → (entry : LabelEntry) → IsGiven S names entry (get_or (let r : List (List ℕ) = replicate (length table) [] in r) k [])
+      by k less (Hypothesis i) = λ some. absurd (omega (arith, some, ap length (get_or-replicate (length table) k (let r : List ℕ = [] in r) [] less)))
+      by k less entry = get_or-replicate (length table) k [] [] less
+
+pub start-behind : (n : ℕ) (st : Results ℕ) → st ≡ (let r : Results ℕ = record { stack = []; saved = replicate n []; weight = 0 } in r) → behind n st ≡ (let r : Results ℕ = record { stack = []; saved = []; weight = 0 } in r)
+start-behind n st is = ap (behind n) is ∙ results-same [] [] (drop n (replicate n [])) [] 0 0 refl (drop_all n (replicate n []) (omega (arith, length-replicate n (let r : List ℕ = [] in r)))) refl

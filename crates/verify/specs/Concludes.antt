@@ -2,11 +2,7 @@
 -- Metamath, 4.2.6: a result is a hypothesis, or follows from earlier results by one substitution in an assertion.
 -- The code has a stack of ranges in one buffer of symbols; here are trees.
 use Rattle.std.specs.Prelude.{◌≡◌, ℕ, List, [], ◌∷◌}
-use Rattle.mm_read.specs.declared.stmt.Stmt.{Stmt}
-use Rattle.mm_read.specs.Statements.{Expr, Database}
-use Rattle.scope.specs.Active.{expr_of}
-use Rattle.frame.specs.Substitution.{Images, apply as applied}
-use Rattle.frame.specs.Citations.{IsHypothesis, IsInstance, premises}
+use Rattle.verify.specs.Words.{Stmt, Expr, Database, expr_of, Images, applied, IsHypothesis, IsInstance, premises}
 use Rattle.verify.specs.Derivations.{Derivation, Derivations, hyp, apply, none, more}
 
 -- the derivation concludes the expression: a hypothesis its own, and an assertion, whose hypotheses the children

@@ -2,15 +2,10 @@
 -- Metamath, 4.2.6 and appendix B; `Machine` over names.
 -- The code knows numbers alone; each has a name.
 use Rattle.std.specs.Prelude.{◌≡◌, ℕ, ◌<◌, ◌≤◌, Bool, true, false, IsTrue, List, [], length, map, drop, get_or, Some}
-use Rattle.mm_lex.specs.Alphabet.{Name}
-use Rattle.mm_read.specs.declared.stmt.Stmt.{Stmt}
-use Rattle.mm_read.specs.Statements.{Database}
-use Rattle.scope.specs.Active.{stmt_at, expr_of}
+use Rattle.verify.specs.Words.{Name, Stmt, Database, stmt_at, expr_of, AllBelow, Item}
 use Rattle.names.specs.Codes.{decode}
-use Rattle.frame.specs.Below.{AllBelow}
-use Rattle.proof_code.specs.declared.item.Item.{Item}
 use Rattle.verify.specs.declared.label_table.LabelEntry.{LabelEntry}
-use Rattle.verify.specs.declared.label_table.LabelEntry.TheVariants.{Hypothesis, Assertion, Nothing}
+use Rattle.verify.specs.declared.label_table.LabelEntry.TheVariants.{Hypothesis, Nothing}
 use Rattle.verify.specs.Machine.{Results, State, Steps}
 use Rattle.verify.specs.Right.{weight_limit}
 
@@ -37,8 +32,7 @@ behind n st = record { stack = st.stack; saved = drop n st.saved; weight = st.we
 -- what is kept for a label is nothing, or the expression of the hypothesis that it names
 abbrev pub IsGiven : Database → List Name → LabelEntry → List ℕ → Type 0
 IsGiven S names (Hypothesis i) e = 0 < length e → (s : Stmt) → stmt_at S i ≡ Some s → decode names e ≡ expr_of s
-IsGiven S names (Assertion a) e = e ≡ []
-IsGiven S names Nothing e = e ≡ []
+IsGiven S names other e = e ≡ []
 
 pub record AreGiven (S : Database) (names : List Name) (table : List LabelEntry) (saved : List (List ℕ)) : Type 0 where
   pub enough : length table ≤ length saved

@@ -2,14 +2,7 @@
 -- Metamath, 4.2.6 and appendix B: the stack of a proof, read as trees.
 -- The code keeps each node once, by number; here the trees stand whole.
 use Rattle.std.specs.Prelude.{◌≡◌, ℕ, zero, suc, Bool, true, false, List, [], ◌∷◌, ◌++◌, length, Some, slice_get}
-use Rattle.mm_lex.specs.Alphabet.{Name}
-use Rattle.mm_read.specs.declared.stmt.Stmt.{Stmt}
-use Rattle.mm_read.specs.Statements.{Database}
-use Rattle.scope.specs.Active.{before}
-use Rattle.frame.specs.FrameOf.{hypotheses}
-use Rattle.frame.specs.Citations.{Carries, IsHypothesis}
-use Rattle.proof_code.specs.declared.item.Item.{Item}
-use Rattle.proof_code.specs.declared.item.Item.TheVariants.{Cite, Recall, Mark}
+use Rattle.verify.specs.Words.{Name, Stmt, Database, before, hypotheses, Carries, IsHypothesis, Item, Cite, Recall, Mark}
 use Rattle.verify.specs.Derivations.{Derivation, hyp, apply, from_list}
 use Rattle.verify.specs.Spells.{IsCitable}
 
@@ -49,12 +42,3 @@ Grew false S at old item new = (next : Trees) → Grows S at old item next → �
 -- the derivation t in place of those above `below`
 abbrev pub with_tree : Trees → List Derivation → Derivation → Trees
 with_tree st below t = trees (below ++ t ∷ []) st.saved
-
--- a mark and a recall, done or not to be done
-abbrev pub GrowsMark : Bool → Trees → Trees → Type 0
-GrowsMark true old new = (below : List Derivation) × (t : Derivation) × (old.stack ≡ below ++ t ∷ []) × (new ≡ trees old.stack (old.saved ++ t ∷ []))
-GrowsMark false old new = old.stack ≡ []
-
-abbrev pub GrowsRecall : Bool → ℕ → Trees → Trees → Type 0
-GrowsRecall true k old new = (t : Derivation) × IsKept old.saved k t × (new ≡ trees (old.stack ++ t ∷ []) old.saved)
-GrowsRecall false k old new = (t : Derivation) → IsKept old.saved k t → ⊥

@@ -3,10 +3,7 @@
 -- The code looks each label up once for a proof.
 use Rattle.std.specs.Prelude.{◌≡◌, ◌==◌, ℕ, ◌<◌, Bool, false, List, [], length, get_or}
 use Rattle.std.specs.List.{list_any}
-use Rattle.mm_lex.specs.Alphabet.{Name}
-use Rattle.mm_read.specs.declared.stmt.Stmt.{Stmt}
-use Rattle.mm_read.specs.Statements.{Database}
-use Rattle.frame.specs.Citations.{Carries, IsHypothesis}
+use Rattle.verify.specs.Words.{Name, Stmt, Database, Carries, IsHypothesis}
 use Rattle.verify.specs.declared.label_table.LabelEntry.{LabelEntry}
 use Rattle.verify.specs.declared.label_table.LabelEntry.TheVariants.{Hypothesis, Assertion, Nothing}
 use Rattle.verify.specs.Spells.{IsCitable}
@@ -25,5 +22,4 @@ pub record AreEntries (S : Database) (at : ℕ) (labels : List Name) (table : Li
 -- the entry is a hypothesis at one of these positions
 abbrev pub is_hypothesis_among : List ℕ → LabelEntry → Bool
 is_hypothesis_among positions (Hypothesis i) = list_any (λ p. p == i) positions
-is_hypothesis_among positions (Assertion a) = false
-is_hypothesis_among positions Nothing = false
+is_hypothesis_among positions other = false

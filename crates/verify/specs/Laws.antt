@@ -2,12 +2,9 @@
 -- Metamath, 4.2.6 and appendix B: a proof is right where its stack ends with the statement's expression alone.
 -- The code only runs; that its runs spell derivations, and that it misses none, is said here over names alone.
 use Rattle.std.specs.Prelude.{◌≡◌, ℕ, List, [], ◌∷◌, Some}
-use Rattle.mm_read.specs.declared.stmt.Stmt.{Stmt}
-use Rattle.mm_read.specs.Statements.{Expr, Database}
-use Rattle.scope.specs.Active.{stmt_at, before}
+use Rattle.verify.specs.Words.{Stmt, Expr, Database, stmt_at, before, Item}
 use Rattle.scope.specs.Legal.{IsLegal}
 use Rattle.frame.specs.AtPosition.{IsSingle}
-use Rattle.proof_code.specs.declared.item.Item.{Item}
 use Rattle.verify.specs.Derivations.{Derivation}
 use Rattle.verify.specs.Concludes.{Concludes}
 use Rattle.verify.specs.Spells.{Spells}

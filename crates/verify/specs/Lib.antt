@@ -1,3 +1,4 @@
+pub mod Words
 pub mod Derivations
 pub mod Concludes
 pub mod Spells

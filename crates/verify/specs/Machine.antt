@@ -2,14 +2,7 @@
 -- Metamath, 4.2.6: the stack of a proof; appendix B: the results that were marked.
 -- The code keeps ranges of one buffer of numbers in place of expressions.
 use Rattle.std.specs.Prelude.{◌≡◌, ℕ, zero, suc, ◌+◌, List, [], ◌∷◌, ◌++◌, length, Some, slice_get}
-use Rattle.mm_lex.specs.Alphabet.{Name}
-use Rattle.mm_read.specs.declared.stmt.Stmt.{Stmt}
-use Rattle.mm_read.specs.Statements.{Expr, Database}
-use Rattle.scope.specs.Active.{expr_of}
-use Rattle.frame.specs.Substitution.{Images, apply as applied}
-use Rattle.frame.specs.Citations.{Carries, IsHypothesis, IsInstance, premises}
-use Rattle.proof_code.specs.declared.item.Item.{Item}
-use Rattle.proof_code.specs.declared.item.Item.TheVariants.{Cite, Recall, Mark}
+use Rattle.verify.specs.Words.{Name, Stmt, Expr, Database, expr_of, Images, applied, Carries, IsHypothesis, IsInstance, premises, Item, Cite, Recall, Mark}
 
 -- results that wait, the last on top; results that were marked; the weight so far
 pub record Results (A : Type 0) : Type 0 where

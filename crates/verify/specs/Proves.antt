@@ -2,12 +2,7 @@
 -- Metamath, 4.2.6 and appendix B: the mandatory hypotheses come first in the list of labels of a compressed proof.
 -- The code knows a mandatory hypothesis by its position.
 use Rattle.std.specs.Prelude.{ℕ, List, [], map, Option, Some, None, unwrap_or}
-use Rattle.mm_lex.specs.Alphabet.{Name}
-use Rattle.mm_read.specs.declared.stmt.Stmt.{Stmt}
-use Rattle.mm_read.specs.Statements.{Database}
-use Rattle.scope.specs.Active.{before, stmt_at, label_of}
-use Rattle.frame.specs.FrameOf.{hypotheses}
-use Rattle.proof_code.specs.declared.item.Item.{Item}
+use Rattle.verify.specs.Words.{Name, Stmt, Database, before, stmt_at, label_of, hypotheses, Item}
 use Rattle.proof_code.specs.Writes.{Writes}
 use Rattle.verify.specs.Right.{IsProvable, IsRight}
 

@@ -1,11 +1,9 @@
 -- Images read off results that are places.
 -- Metamath, 4.2.6: what stands behind the first symbol of the result for a `$f` is the image of its variable.
 -- The code sets one image after another; here are those set so far.
-use Rattle.std.specs.Prelude.{◌≡◌, ℕ, ◌+◌, ◌<◌, ◌==◌, nat_eq, Bool, true, false, if◌then◌else◌, List, get_or, slice_get, Some, None}
+use Rattle.std.specs.Prelude.{◌≡◌, ℕ, ◌+◌, ◌<◌, nat_eq, Bool, true, false, List, get_or, slice_get, Some, None}
 use Rattle.std.specs.Map.{lookup}
-use Rattle.subst.specs.declared.expression_place.ExpressionPlace.{ExpressionPlace}
-use Rattle.entries.specs.declared.cited_parts.Hypothesis.{Hypothesis}
-use Rattle.entries.specs.declared.cited_parts.Hypothesis.TheVariants.{Float, Essential}
+use Rattle.verify.specs.Words.{ExpressionPlace, Hypothesis, Float}
 
 -- what stands behind the first symbol
 abbrev pub tail_of : ExpressionPlace → ExpressionPlace
@@ -15,17 +13,9 @@ tail_of p = record { start = p.start + 1; end = p.end }
 abbrev pub BeginsWith : List ℕ → ℕ → ExpressionPlace → Type 0
 BeginsWith symbols head p = (p.start < p.end) × (get_or symbols p.start 0 ≡ head)
 
--- one image was set, or the result begins otherwise
-abbrev pub ReadsOne : Bool → List ℕ → ℕ → Hypothesis → ExpressionPlace → List (ℕ × ExpressionPlace) → List (ℕ × ExpressionPlace) → Type 0
-ReadsOne true symbols head (Float x) p old new = BeginsWith symbols head p × ((y : ℕ) → lookup (nat_eq y) new ≡ (if y == x then Some (tail_of p) else lookup (nat_eq y) old))
-ReadsOne true symbols head (Essential q) p old new = new ≡ old
-ReadsOne false symbols head (Float x) p old new = (BeginsWith symbols head p → ⊥) × (new ≡ old)
-ReadsOne false symbols head (Essential q) p old new = ⊥
-
 -- those of the first n hypotheses
 pub record ReadTo (n : ℕ) (symbols heads : List ℕ) (hs : List Hypothesis) (places : List ExpressionPlace) (images : List (ℕ × ExpressionPlace)) : Type 0 where
-  pub begun : (k x : ℕ) (p : ExpressionPlace) → k < n → slice_get hs k ≡ Some (Float x) → slice_get places k ≡ Some p → BeginsWith symbols (get_or heads k 0) p
-  pub placed : (k x : ℕ) (p : ExpressionPlace) → k < n → slice_get hs k ≡ Some (Float x) → slice_get places k ≡ Some p → lookup (nat_eq x) images ≡ Some (tail_of p)
+  pub each : (k x : ℕ) (p : ExpressionPlace) → k < n → slice_get hs k ≡ Some (Float x) → slice_get places k ≡ Some p → BeginsWith symbols (get_or heads k 0) p × (lookup (nat_eq x) images ≡ Some (tail_of p))
   pub own : (x : ℕ) → ((k : ℕ) → k < n → slice_get hs k ≡ Some (Float x) → ⊥) → lookup (nat_eq x) images ≡ None
 
 -- all of them were set, or a result begins otherwise

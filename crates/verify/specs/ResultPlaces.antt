@@ -2,8 +2,7 @@
 -- Metamath, 4.2.6: the stack of a proof.
 -- The code keeps where each result lies; here they are lists of symbols.
 use Rattle.std.specs.Prelude.{◌≡◌, ℕ, ◌+◌, ◌-◌, ◌<◌, ◌≤◌, Bool, true, false, List, [], ◌∷◌, ◌++◌, length, map, drop, take, slice_set}
-use Rattle.frame.specs.Substitution.{CodeImages}
-use Rattle.subst.specs.declared.expression_place.ExpressionPlace.{ExpressionPlace}
+use Rattle.verify.specs.Words.{CodeImages, ExpressionPlace}
 use Rattle.subst.specs.ExpressionPlaces.{seen_at, images_at, AreWithin, AreInside}
 use Rattle.verify.specs.Machine.{Results, with_result, with_mark, IsSaved}
 use Rattle.verify.specs.Right.{weight_limit}

@@ -2,10 +2,7 @@
 -- Metamath, 4.2.6 and appendix B: the items spell a derivation of the statement's expression.
 -- The code answers from one run over the items; the limit on the weight is this project's.
 use Rattle.std.specs.Prelude.{◌≡◌, ℕ, ◌≤◌, IsTrue, List, [], Some}
-use Rattle.mm_read.specs.declared.stmt.Stmt.{Stmt}
-use Rattle.mm_read.specs.Statements.{Database}
-use Rattle.scope.specs.Active.{stmt_at, expr_of, is_provable}
-use Rattle.proof_code.specs.declared.item.Item.{Item}
+use Rattle.verify.specs.Words.{Stmt, Database, stmt_at, expr_of, is_provable, Item}
 use Rattle.verify.specs.declared.answer.Answer.{Answer}
 use Rattle.verify.specs.declared.answer.Answer.TheVariants.{Proved, Wrong}
 use Rattle.verify.specs.Derivations.{Derivation, node_count, depth}

@@ -2,13 +2,7 @@
 -- Metamath, appendix B: items in the order of a stack; a marked result may be recalled.
 -- The code runs over the items once; here a derivation is spelled with the derivations of its children before it.
 use Rattle.std.specs.Prelude.{◌≡◌, ℕ, suc, ◌+◌, ◌<◌, IsTrue, List, [], ◌∷◌, ◌++◌, length, Some, slice_get}
-use Rattle.mm_lex.specs.Alphabet.{Name}
-use Rattle.mm_read.specs.declared.stmt.Stmt.{Stmt}
-use Rattle.mm_read.specs.Statements.{Expr, Database}
-use Rattle.scope.specs.Active.{is_assertion}
-use Rattle.frame.specs.Citations.{Carries, IsHypothesis}
-use Rattle.proof_code.specs.declared.item.Item.{Item}
-use Rattle.proof_code.specs.declared.item.Item.TheVariants.{Cite, Recall, Mark}
+use Rattle.verify.specs.Words.{Name, Stmt, Expr, Database, is_assertion, Carries, IsHypothesis, Item, Cite, Recall, Mark}
 use Rattle.verify.specs.Derivations.{Derivation, Derivations, hyp, apply, none, more}
 use Rattle.verify.specs.Concludes.{Concludes}
 

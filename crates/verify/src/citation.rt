@@ -1,6 +1,6 @@
 //! One item of a proof.
 
-ghost use Rattle.std.specs.Prelude.{◌≡◌, ◌<◌, List, length, get_or, Some, IfOk, IsTrue};
+ghost use Rattle.std.specs.Prelude.{◌≡◌, ◌<◌, List, Some, IfOk, IsTrue};
 ghost use Rattle.mm_lex.specs.Alphabet.{Name};
 ghost use Rattle.mm_read.specs.declared.stmt.Stmt.{Stmt as Statement};
 ghost use Rattle.scope.specs.Active.{before, stmt_at};
@@ -12,8 +12,7 @@ ghost use Rattle.proof_code.specs.declared.item.Item.TheVariants.{Cite};
 ghost use Rattle.proof_code.specs.ItemNumbers.{item_of};
 ghost use Rattle.subst.specs.Findings.{IsKnown};
 ghost use Rattle.verify.specs.Goes.{Goes, AreNamed, AreKnown, GoesOn};
-ghost use Rattle.verify.specs.declared.label_table.LabelEntry.TheVariants.{Nothing};
-ghost use Rattle.verify.specs.LabelTable.{IsEntry, AreEntries};
+ghost use Rattle.verify.specs.LabelTable.{AreEntries};
 
 use crate::label_table::LabelEntry;
 use crate::results::Results;
@@ -22,37 +21,7 @@ use frame::{Frames, Gathered, Pairs};
 use std::alloc::AllocError;
 use subst::Findings;
 
-/// Takes the results that the assertion asks for, and adds what it gives. Long lists are made in a buffer.
-fn cite_assertion(
-    frames: &Frames,
-    at: usize,
-    pairs: &Pairs<'_>,
-    position: usize,
-    gathered: &mut Gathered,
-    findings: &mut Findings,
-    results: &mut Results,
-) -> Result<bool, AllocError>
-    requires legal { AreLegal frames.now.statements frames.now.names }
-    requires active { pairs.now.statements ≡ before frames.now.statements at }
-    requires names { pairs.now.names ≡ frames.now.names }
-    requires found { IsKnown pairs.now findings.old }
-    requires named { AreNamed frames.now.names results.old.results }
-    requires assertion { (s : Statement) × HasAssertion frames.now.statements position s }
-    requires earlier { position < at }
-    ensures goes { (label : Name) → (s : Statement) → Carries frames.now.statements position s label
-        → IfOk result (λ ok. Goes ok frames.now.statements at frames.now.names (Cite label) results.old.results results.new.results) }
-    ensures found { IsKnown pairs.now findings.new }
-    ensures saved { IfOk result (λ ok. IsTrue ok → results.new.results.saved ≡ results.old.results.saved) }
-{
-    if let Some(cited) = frames.cited(position) {
-        return cite_parts(frames, at, pairs, position, &cited, findings, results);
-    }
-    frames.gather(position, gathered)?;
-    let cited = frames.gathered(position, gathered);
-    cite_parts(frames, at, pairs, position, &cited, findings, results)
-}
-
-/// The same by the parts of the assertion.
+/// Takes the results that an assertion asks for, by its parts, and adds what it gives.
 fn cite_parts(
     frames: &Frames,
     at: usize,
@@ -91,38 +60,7 @@ fn cite_parts(
     results.apply(count, cited.conclusion)
 }
 
-/// Cites what the label of that number names.
-fn cite(
-    frames: &Frames,
-    at: usize,
-    pairs: &Pairs<'_>,
-    table: &[LabelEntry],
-    label: usize,
-    gathered: &mut Gathered,
-    findings: &mut Findings,
-    results: &mut Results,
-) -> Result<bool, AllocError>
-    requires legal { AreLegal frames.now.statements frames.now.names }
-    requires active { pairs.now.statements ≡ before frames.now.statements at }
-    requires names { pairs.now.names ≡ frames.now.names }
-    requires found { IsKnown pairs.now findings.old }
-    requires known { AreKnown frames.now.statements frames.now.names table.now results.old.results }
-    requires within { label < length table.now }
-    requires entry { (name : Name) × IsEntry frames.now.statements at name (get_or table.now label Nothing) }
-    ensures found { IsKnown pairs.now findings.new }
-    ensures goes { (name : Name) → IsEntry frames.now.statements at name (get_or table.now label Nothing)
-        → IfOk result (λ ok. GoesOn ok frames.now.statements at frames.now.names table.now (Cite name) results.old.results results.new.results) }
-{
-    match table[label] {
-        LabelEntry::Hypothesis(position) => results.give(label, frames.expr(position)),
-        LabelEntry::Assertion(position) => cite_assertion(
-            frames, at, pairs, position, gathered, findings, results,
-        ),
-        LabelEntry::Nothing => Ok(false),
-    }
-}
-
-/// Does one item, by its number.
+/// Does one item, by its number. Long lists of an assertion that is cited are made in a buffer.
 pub fn step(
     frames: &Frames,
     at: usize,
@@ -150,9 +88,19 @@ pub fn step(
     if results.has(index) {
         return results.recall(index);
     }
-    if index < table.len() {
-        cite(frames, at, pairs, table, index, gathered, findings, results)
-    } else {
-        results.recall(index)
+    if index >= table.len() {
+        return results.recall(index);
+    }
+    match table[index] {
+        LabelEntry::Hypothesis(position) => results.give(index, frames.expr(position)),
+        LabelEntry::Assertion(position) => {
+            if let Some(cited) = frames.cited(position) {
+                return cite_parts(frames, at, pairs, position, &cited, findings, results);
+            }
+            frames.gather(position, gathered)?;
+            let cited = frames.gathered(position, gathered);
+            cite_parts(frames, at, pairs, position, &cited, findings, results)
+        }
+        LabelEntry::Nothing => Ok(false),
     }
 }

@@ -4,7 +4,7 @@
 //! derivation is spelled that concludes the statement's expression and weighs no more than the limit; else it answers `Wrong`.
 //! `check` is the same of the items.
 //!
-//! Reading order: `answer`, `tree`; `reading_off`, `fitting` and `results` (results as ranges of one buffer), `label_table`,
+//! Reading order: `answer`, `tree`; `reading_off` and `results` (results as ranges of one buffer), `label_table`,
 //! `citation` (one item), `run` and `checker` (a whole proof); `plan`, `tree_size` and `tree_from_items` (the derivation);
 //! `laws`.
 #![tactic(auto)]
@@ -12,7 +12,6 @@
 mod answer;
 mod checker;
 mod citation;
-mod fitting;
 mod label_table;
 pub mod laws;
 mod plan;

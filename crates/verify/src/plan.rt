@@ -1,16 +1,13 @@
 //! A derivation planned: its nodes by number, each after those of its children, and once however often it is recalled.
 
-ghost use Rattle.std.specs.Prelude.{◌≡◌, ℕ, ◌<◌, ◌≤◌, ◌∷◌, ◌++◌, [], List, OnOk, IfOk, length};
+ghost use Rattle.std.specs.Prelude.{◌≡◌, ℕ, [], List, OnOk, IfOk, length};
 ghost use Rattle.mm_lex.specs.Alphabet.{Name};
 ghost use Rattle.mm_read.specs.declared.stmt.Stmt.{Stmt as Statement};
-ghost use Rattle.frame.specs.FrameOf.{HasAssertion};
 ghost use Rattle.frame.specs.AtPosition.{HasLabelsOnce};
-ghost use Rattle.proof_code.specs.declared.item.Item.TheVariants.{Cite, Recall, Mark};
+ghost use Rattle.proof_code.specs.declared.item.Item.TheVariants.{Cite};
 ghost use Rattle.proof_code.specs.ItemNumbers.{item_of};
-ghost use Rattle.verify.specs.Derivations.{hyp, apply, from_list};
-ghost use Rattle.verify.specs.ResultPlaces.{below, top};
-ghost use Rattle.verify.specs.Growth.{trees, with_tree, GrowsMark, GrowsRecall, Grew};
-ghost use Rattle.verify.specs.Plan.{trees_of, IsPlan};
+ghost use Rattle.verify.specs.Growth.{trees, with_tree, Grew};
+ghost use Rattle.verify.specs.Plan.{derive, built, IsAfter, trees_of, IsPlan};
 ghost use Rattle.verify.specs.LabelTable.{IsEntry, AreEntries};
 
 use crate::label_table::LabelEntry;
@@ -49,60 +46,15 @@ pub fn new_plan(alloc: Global) -> TreePlan
     }
 }
 
-/// Marks the last derivation, if there is one.
-fn mark(plan: &mut TreePlan) -> Result<bool, AllocError>
-    requires { IsPlan plan.old }
-    ensures plan { OnOk result (IsPlan plan.new) }
-    ensures grew { IfOk result (λ ok. GrowsMark ok (trees_of plan.old) (trees_of plan.new)) }
-{
-    match plan.stack.last() {
-        Some(number) => {
-            let number = *number;
-            plan.saved.push(number)?;
-            Ok(true)
-        }
-        None => Ok(false),
-    }
-}
-
-/// Puts the marked derivation of that number on top, if there is one.
-fn recall(plan: &mut TreePlan, k: usize) -> Result<bool, AllocError>
-    requires { IsPlan plan.old }
-    ensures plan { OnOk result (IsPlan plan.new) }
-    ensures grew { IfOk result (λ ok. GrowsRecall ok k (trees_of plan.old) (trees_of plan.new)) }
-{
-    if k == 0 || k > plan.saved.len() {
-        return Ok(false);
-    }
-    let number = plan.saved[k - 1];
-    plan.stack.push(number)?;
-    Ok(true)
-}
-
-/// Adds a hypothesis.
-fn add_hypothesis(plan: &mut TreePlan, position: usize) -> Result<(), AllocError>
-    requires { IsPlan plan.old }
-    ensures plan { OnOk result (IsPlan plan.new) }
-    ensures grew { OnOk result (trees_of plan.new ≡ with_tree (trees_of plan.old) (trees_of plan.old).stack (hyp position)) }
-{
-    let number = plan.nodes.len();
-    plan.nodes.push(Node::Hyp(position))?;
-    plan.stack.push(number)?;
-    Ok(())
-}
-
-/// Adds an assertion over the last `count` derivations.
-fn add_assertion(plan: &mut TreePlan, position: usize, count: usize) -> Result<(), AllocError>
+/// Adds a node, and its number on top.
+fn add(plan: &mut TreePlan, node: Node) -> Result<(), AllocError>
     requires plan { IsPlan plan.old }
-    requires count { count ≤ length plan.old.stack.items }
+    requires after { IsAfter (length plan.old.nodes.items) node }
     ensures plan { OnOk result (IsPlan plan.new) }
-    ensures grew { OnOk result (trees_of plan.new ≡ with_tree (trees_of plan.old) (below count (trees_of plan.old).stack)
-        (apply position (from_list (top count (trees_of plan.old).stack)))) }
+    ensures grew { OnOk result (trees_of plan.new ≡ with_tree (trees_of plan.old) (trees_of plan.old).stack (derive (built plan.old.nodes.items) node)) }
 {
-    let keep = plan.stack.len() - count;
-    let kids = plan.stack.split_off(keep)?;
     let number = plan.nodes.len();
-    plan.nodes.push(Node::Apply(position, kids))?;
+    plan.nodes.push(node)?;
     plan.stack.push(number)?;
     Ok(())
 }
@@ -117,7 +69,7 @@ fn cite(frames: &Frames, entry: LabelEntry, plan: &mut TreePlan) -> Result<bool,
 {
     match entry {
         LabelEntry::Hypothesis(position) => {
-            add_hypothesis(plan, position)?;
+            add(plan, Node::Hyp(position))?;
             Ok(true)
         }
         LabelEntry::Assertion(position) => {
@@ -127,7 +79,9 @@ fn cite(frames: &Frames, entry: LabelEntry, plan: &mut TreePlan) -> Result<bool,
             if count > plan.stack.len() {
                 return Ok(false);
             }
-            add_assertion(plan, position, count)?;
+            let keep = plan.stack.len() - count;
+            let kids = plan.stack.split_off(keep)?;
+            add(plan, Node::Apply(position, kids))?;
             Ok(true)
         }
         LabelEntry::Nothing => Ok(false),
@@ -148,12 +102,22 @@ pub fn grow(
         → IfOk result (λ ok. Grew ok frames.now.statements at (trees_of plan.old) (item_of labels number) (trees_of plan.new)) }
 {
     if number == 0 {
-        return mark(plan);
+        let Some(last) = plan.stack.last() else {
+            return Ok(false);
+        };
+        let last = *last;
+        plan.saved.push(last)?;
+        return Ok(true);
     }
     let place = number as usize - 1;
     if place < table.len() {
-        cite(frames, table[place], plan)
-    } else {
-        recall(plan, place - table.len() + 1)
+        return cite(frames, table[place], plan);
     }
+    let index = place - table.len();
+    if index >= plan.saved.len() {
+        return Ok(false);
+    }
+    let saved = plan.saved[index];
+    plan.stack.push(saved)?;
+    Ok(true)
 }

@@ -1,48 +1,16 @@
 //! Images read off results.
 
-ghost use Rattle.std.specs.Prelude.{◌≡◌, ℕ, ◌≤◌, length, IfOk, OnErr};
+ghost use Rattle.std.specs.Prelude.{◌≡◌, ℕ, length, IfOk};
 ghost use Rattle.subst.specs.ExpressionPlaces.{AreWithin, AreInside};
 ghost use Rattle.verify.specs.Fits.{AreDifferent};
-ghost use Rattle.verify.specs.ReadPlaces.{ReadsOne, ReadsAll};
+ghost use Rattle.verify.specs.ReadPlaces.{ReadsAll};
 
 use entries::{Hypotheses, Hypothesis};
 use std::alloc::AllocError;
 use subst::{ExpressionPlace, ImagePlaces};
 
-/// Sets the image of the variable of a `$f` to what stands behind the first symbol of its result; not where the result
-/// begins with another symbol than the one asked for. A `$e` sets none.
-fn read_one(
-    images: &mut ImagePlaces,
-    symbols: &[u32],
-    head: u32,
-    hypothesis: Hypothesis,
-    place: ExpressionPlace,
-) -> Result<bool, AllocError>
-    requires { place.end ≤ length symbols.now }
-    ensures ok { IfOk result (λ ok. ReadsOne ok symbols.now head hypothesis place images.old images.new) }
-    ensures err { OnErr result (images.new ≡ images.old) }
-{
-    match hypothesis {
-        Hypothesis::Float(variable) => {
-            if place.start >= place.end {
-                return Ok(false);
-            }
-            let first = symbols[place.start as usize];
-            if first != head {
-                return Ok(false);
-            }
-            let behind = ExpressionPlace {
-                start: place.start + 1,
-                end: place.end,
-            };
-            images.set(variable, behind)?;
-            Ok(true)
-        }
-        Hypothesis::Essential(_) => Ok(true),
-    }
-}
-
-/// Sets the images of the variables of all `$f`, and no other; or finds a result that begins otherwise.
+/// Sets the images of the variables of all `$f`, and no other, to what stands behind the first symbols of their results;
+/// or finds a result that begins with another symbol than the one asked for.
 pub fn read_off(
     images: &mut ImagePlaces,
     symbols: &[u32],
@@ -59,8 +27,20 @@ pub fn read_off(
 {
     images.clear();
     for k in 0..hypotheses.len() {
-        if !read_one(images, symbols, heads[k], hypotheses.get(k), places[k])? {
-            return Ok(false);
+        if let Hypothesis::Float(variable) = hypotheses.get(k) {
+            let place = places[k];
+            if place.start >= place.end {
+                return Ok(false);
+            }
+            let first = symbols[place.start as usize];
+            if first != heads[k] {
+                return Ok(false);
+            }
+            let behind = ExpressionPlace {
+                start: place.start + 1,
+                end: place.end,
+            };
+            images.set(variable, behind)?;
         }
     }
     Ok(true)

@@ -13,15 +13,14 @@ ghost use Rattle.verify.specs.Machine.{with_result, with_mark, IsSaved};
 ghost use Rattle.verify.specs.ResultPlaces.{below, top, Adds, Gives, Marks, Recalls};
 ghost use Rattle.verify.specs.Right.{weight_limit};
 
-use crate::fitting::all_fit;
 use crate::reading_off::read_off;
-use entries::{Groups, Hypotheses};
+use entries::{Groups, Hypotheses, Hypothesis};
 use frame::{Frames, Pairs};
 use std::alloc::{AllocError, Global};
 use std::marker::Model;
 use subst::{
-    Buffer, ExpressionPlace, Findings, ImagePlaces, SYMBOLS_LIMIT, groups_apart, place_between,
-    symbols_at,
+    Buffer, ExpressionPlace, Findings, ImagePlaces, SYMBOLS_LIMIT, groups_apart, matches,
+    place_between, symbols_at,
 };
 
 /// The place of no symbols.
@@ -163,7 +162,7 @@ impl Results {
         )
     }
 
-    /// Whether the last results are the expressions of the `$e` with the images put in.
+    /// Whether the last results are the expressions of the `$e` with the images put in. Of a `$f` nothing is asked here.
     pub fn fits(&self, frames: &Frames, hypotheses: &Hypotheses<'_>) -> bool
         requires legal { AreLegal frames.now.statements frames.now.names }
         requires standing { AreStanding frames.now.statements hypotheses.now }
@@ -172,14 +171,17 @@ impl Results {
         requires named { AllBelow (length frames.now.names) self.now.results.stack }
         ensures { IsTrue result ↔ DoFit frames.now.statements (images_of_names frames.now.names self.now.images) hypotheses.now (map (decode frames.now.names) (top (length hypotheses.now) self.now.results.stack)) }
     {
-        let keep = self.stack.len() - hypotheses.len();
-        all_fit(
-            frames,
-            self.symbols.as_slice(),
-            &self.images,
-            hypotheses,
-            &self.stack[keep..],
-        )
+        let places = &self.stack[self.stack.len() - hypotheses.len()..];
+        let symbols = self.symbols.as_slice();
+        for k in 0..hypotheses.len() {
+            if let Hypothesis::Essential(position) = hypotheses.get(k) {
+                let expr = frames.expr(position as usize);
+                if !matches(symbols, &self.images, expr, symbols_at(symbols, places[k])) {
+                    return false;
+                }
+            }
+        }
+        true
     }
 
     /// Whether the images of each two variables of a group are apart.

@@ -1,22 +1,8 @@
-use Rattle.std.specs.Prelude.{◌≡◌, ℕ, ◌-◌, ◌↔◌, Bool, true, false, IsTrue, List, Result, IfOk, length, map}
-use Rattle.std.specs.declared.alloc.AllocError.{AllocError}
-use Rattle.std.proofs.Common.{arith, sym, ap, ◌∙◌, subst}
-use Rattle.mm_lex.specs.Alphabet.{Name}
-use Rattle.mm_read.specs.Statements.{Database}
-use Rattle.names.specs.Codes.{decode}
-use Rattle.frame.specs.Below.{AllBelow}
-use Rattle.frame.specs.Disjoint.{are_groups_apart}
-use Rattle.frame.specs.Substitution.{CodeImages, images_of_names}
-use Rattle.subst.specs.Images.{AreOver}
-use Rattle.entries.specs.declared.cited_parts.Hypothesis.{Hypothesis}
-use Rattle.verify.specs.Fits.{Reads, DoFit}
-use Rattle.verify.specs.Machine.{Results}
-use Rattle.verify.specs.ResultPlaces.{below, top, Adds}
+use Rattle.verify.proofs.Words.{◌≡◌, ℕ, ◌-◌, ◌<◌, ◌↔◌, Bool, true, false, IsTrue, List, length, map, arith, sym, ap, ◌∙◌, subst, IfOk-weaker, Name, Database, decode, AllBelow, are_groups_apart, CodeImages, images_of_names, AreOver, Hypothesis, Reads, DoFit, Results, below, top, Adds}
 use Rattle.verify.proofs.MandatoryAsked.{asked-lengths, asked-different, asked-standing}
 use Rattle.verify.proofs.CitingLemmas.{read-over}
-use Rattle.verify.proofs.SavedLists.{saved-same}
-use Rattle.verify.proofs.Named.{all-drop, length-top}
-use Rattle.verify.proofs.StepLemmas.{assertion-few, assertion-untyped, assertion-unfit, assertion-clash, assertion-result}
+use Rattle.verify.proofs.Named.{saved-same, all-drop, length-top}
+use Rattle.verify.proofs.CitationLemmas.{goes-assertion, goes-not}
 use Rattle.verify.proofs.LabelTableLemmas.{has_with}
 use Rattle.verify.proofs.citation.cite_parts.Goals as goal
 
@@ -33,9 +19,8 @@ fit-as : (b : Bool) (S : Database) (names : List Name) (σ : CodeImages) (hs : L
     → IsTrue b ↔ DoFit S (images_of_names names σ) hs (map (decode names) (top (length hs) stack)) → IsTrue b ↔ DoFit S (images_of_names names σ) hs (map (decode names) (top (length hs) stack'))
 fit-as b S names σ hs stack stack' e h = subst (λ v. IsTrue b ↔ DoFit S (images_of_names names σ) hs (map (decode names) (top (length hs) v))) e h
 
-adds-as : (r : Result Bool AllocError) (old old' new : Results ℕ) (m n : ℕ) (e : List ℕ) → old ≡ old' → m ≡ n → IfOk r (λ ok. Adds ok old new (below m old.stack) e) → IfOk r (λ ok. Adds ok old' new (below n old'.stack) e)
-adds-as r old old' new m n e same count h =
-    subst (λ (v : Results ℕ). IfOk r (λ ok. Adds ok v new (below n v.stack) e)) same (subst (λ k. IfOk r (λ ok. Adds ok old new (below k old.stack) e)) count h)
+adds-as : (ok : Bool) (old old' new : Results ℕ) (m n : ℕ) (e : List ℕ) → old ≡ old' → m ≡ n → Adds ok old new (below m old.stack) e → Adds ok old' new (below n old'.stack) e
+adds-as ok old old' new m n e same count h = subst (λ (v : Results ℕ). Adds ok v new (below n v.stack) e) same (subst (λ k. Adds ok old new (below k old.stack) e) count h)
 
 pub read_images-requires-clause-same : goal.read_images-requires-clause-same
 read_images-requires-clause-same c =
@@ -80,42 +65,40 @@ are_apart-requires-clause-over c =
 pub returns-then-count-len-clause-goes : goal.returns-then-count-len-clause-goes
 returns-then-count-len-clause-goes c = λ label s carries.
     let has = has_with _ _ s _ label carries c.requires.assertion.1 in
-    assertion-few _ _ c.args.at c.requires.legal c.args.results.now.results c.args.results.now.results c.requires.named label c.args.position c.args.cited.now s carries
-    has (c.requires.legal.bound _ s has) (c.requires.cited s carries.stands) (omega (arith, c.if-count-len.true, c.len.ensures))
+    let few : length c.args.results.now.results.stack < length c.args.cited.now.hypotheses = omega (arith, c.if-count-len.true, c.len.ensures) in
+    goes-not _ _ c.args.at c.args.position s c.args.cited.now c.requires.legal (c.requires.legal.bound _ s has) (c.requires.cited s carries.stands) c.args.results.now.results c.args.results.now.results label c.requires.named carries has
+    (λ f m. (let many = m.many in omega (arith, few, many)))
 
 pub returns-then-not-branch-clause-goes : goal.returns-then-not-branch-clause-goes
 returns-then-not-branch-clause-goes c = λ label s carries.
     let has = has_with _ _ s _ label carries c.requires.assertion.1 in
-    assertion-untyped _ _ c.args.at c.requires.legal c.args.results.now.results c.read_images.new.self.results c.requires.named label c.args.position c.args.cited.now s carries
-    has (c.requires.legal.bound _ s has) (c.requires.cited s carries.stands) c.read_images.new.self.images (reads-as _ false _ _ _ _ c.if-not-branch.true c.in_ok-read_images.ensures.read)
+    let r = reads-as _ false _ _ _ _ c.if-not-branch.true c.in_ok-read_images.ensures.read in
+    goes-not _ _ c.args.at c.args.position s c.args.cited.now c.requires.legal (c.requires.legal.bound _ s has) (c.requires.cited s carries.stands) c.args.results.now.results c.read_images.new.self.results label c.requires.named carries has
+    (λ f m. r.3 (m.typed r.0 r.1 r.2))
 
 pub returns-then-not-fits-clause-goes : goal.returns-then-not-fits-clause-goes
 returns-then-not-fits-clause-goes c = λ label s carries.
     let has = has_with _ _ s _ label carries c.requires.assertion.1 in
-    assertion-unfit _ _ c.args.at c.requires.legal c.args.results.now.results c.read_images.new.self.results c.requires.named label c.args.position c.args.cited.now s carries
-    has (c.requires.legal.bound _ s has) (c.requires.cited s carries.stands) c.read_images.new.self.images (reads-as _ true _ _ _ _ c.if-not-branch.false c.in_ok-read_images.ensures.read)
-    (λ h. let e = (fit-as _ _ _ _ _ _ _ (ap (λ (v : Results ℕ). v.stack) c.in_ok-read_images.ensures.same) c.fits.ensures).1 h in let f = c.if-not-fits.true in cc)
+    goes-not _ _ c.args.at c.args.position s c.args.cited.now c.requires.legal (c.requires.legal.bound _ s has) (c.requires.cited s carries.stands) c.args.results.now.results c.read_images.new.self.results label c.requires.named carries has
+    (λ f m. (let e = (fit-as _ _ _ _ _ _ _ (ap (λ (v : Results ℕ). v.stack) c.in_ok-read_images.ensures.same) c.fits.ensures).1 (m.fits c.read_images.new.self.images (reads-as _ true _ _ _ _ c.if-not-branch.false c.in_ok-read_images.ensures.read)) in let t = c.if-not-fits.true in cc))
 
 pub returns-then-not-are_apart-clause-goes : goal.returns-then-not-are_apart-clause-goes
 returns-then-not-are_apart-clause-goes c = λ label s carries.
     let has = has_with _ _ s _ label carries c.requires.assertion.1 in
-    assertion-clash _ _ c.args.at c.requires.legal c.args.results.now.results c.read_images.new.self.results c.requires.named label c.args.position c.args.cited.now s carries
-    has (c.requires.legal.bound _ s has) (c.requires.cited s carries.stands) c.read_images.new.self.images (reads-as _ true _ _ _ _ c.if-not-branch.false c.in_ok-read_images.ensures.read)
-    (apart-by _ _ _ _ _ c.read_images.new.self.images c.args.cited.now.groups _ c.requires.active c.requires.names c.are_apart.ensures.apart c.if-not-are_apart.true)
+    goes-not _ _ c.args.at c.args.position s c.args.cited.now c.requires.legal (c.requires.legal.bound _ s has) (c.requires.cited s carries.stands) c.args.results.now.results c.read_images.new.self.results label c.requires.named carries has
+    (λ f m. (let e : true ≡ false = sym (m.apart c.read_images.new.self.images (reads-as _ true _ _ _ _ c.if-not-branch.false c.in_ok-read_images.ensures.read)) ∙ apart-by _ _ _ _ _ c.read_images.new.self.images c.args.cited.now.groups _ c.requires.active c.requires.names c.are_apart.ensures.apart c.if-not-are_apart.true in cc))
 
 pub returns-clause-goes : goal.returns-clause-goes
 returns-clause-goes c = λ label s carries.
     let has = has_with _ _ s _ label carries c.requires.assertion.1 in
-    let cited = c.requires.cited s carries.stands in
-    assertion-result _ _ c.args.at c.requires.legal c.args.results.now.results _ c.requires.named label c.args.position c.args.cited.now s carries
-    has (c.requires.legal.bound _ s has) cited c.read_images.new.self.images (reads-as _ true _ _ _ _ c.if-not-branch.false c.in_ok-read_images.ensures.read)
-    c.apply.result c.requires.earlier (let h = c.if-count-len.false in omega (arith, h, c.len.ensures))
-    ((fit-as _ _ _ _ _ _ _ (ap (λ (v : Results ℕ). v.stack) c.in_ok-read_images.ensures.same) c.fits.ensures).0 c.if-not-fits.false)
-    (apart-by _ _ _ _ _ c.read_images.new.self.images c.args.cited.now.groups _ c.requires.active c.requires.names c.are_apart.ensures.apart c.if-not-are_apart.false)
-    (adds-as _ c.read_images.new.self.results _ _ _ _ _ c.in_ok-read_images.ensures.same c.len-count.ensures c.apply.ensures)
+    IfOk-weaker c.apply.result _ _
+    (λ ok adds. goes-assertion _ _ c.args.at c.args.position s c.args.cited.now c.requires.legal (c.requires.legal.bound _ s has) (c.requires.cited s carries.stands) ok c.args.results.now.results _ label c.read_images.new.self.images c.requires.named carries has c.requires.earlier
+    (let h = c.if-count-len.false in omega (arith, h, c.len.ensures)) (reads-as _ true _ _ _ _ c.if-not-branch.false c.in_ok-read_images.ensures.read) ((fit-as _ _ _ _ _ _ _ (ap (λ (v : Results ℕ). v.stack) c.in_ok-read_images.ensures.same) c.fits.ensures).0 c.if-not-fits.false) (apart-by _ _ _ _ _ c.read_images.new.self.images c.args.cited.now.groups _ c.requires.active c.requires.names c.are_apart.ensures.apart c.if-not-are_apart.false)
+    (adds-as ok c.read_images.new.self.results _ _ _ _ _ c.in_ok-read_images.ensures.same c.len-count.ensures adds)) c.apply.ensures
 
 pub returns-clause-saved : goal.returns-clause-saved
-returns-clause-saved c = saved-same c.args.results.now.results _ _ _ c.apply.result (adds-as _ c.read_images.new.self.results _ _ _ _ _ c.in_ok-read_images.ensures.same c.len-count.ensures c.apply.ensures)
+returns-clause-saved c =
+    IfOk-weaker c.apply.result _ _ (λ ok adds. saved-same c.args.results.now.results _ _ _ ok (adds-as ok c.read_images.new.self.results _ _ _ _ _ c.in_ok-read_images.ensures.same c.len-count.ensures adds)) c.apply.ensures
 
 pub are_apart-requires-clause-below : goal.are_apart-requires-clause-below
 are_apart-requires-clause-below c =

@@ -1,10 +1,5 @@
-use Rattle.std.proofs.Common.{◌<◌, ◌∙◌, not, length, arith, sym, ap, subst}
-use Rattle.std.specs.List.Sorted.{IsNonDecreasing}
-use Rattle.scope.specs.Active.{before}
-use Rattle.scope.proofs.StatementPlaces.{stands-within}
-use Rattle.verify.specs.LabelTable.{is_hypothesis_among}
-use Rattle.verify.proofs.ListedLabels.{hypotheses-rise}
-use Rattle.verify.proofs.ListedAdded.{word-left, one-added, one-shared}
+use Rattle.verify.proofs.Words.{◌<◌, ◌∙◌, not, length, arith, sym, ap, subst, IsNonDecreasing, before, stands-within, is_hypothesis_among}
+use Rattle.verify.proofs.LabelTableLemmas.{hypotheses-rise, word-left, one-added, one-shared}
 use Rattle.verify.proofs.label_table.add_listed.Goals as goal
 
 pub unreachable-requires : goal.unreachable-requires

@@ -1,4 +1,4 @@
-use Rattle.verify.proofs.ListedAdded.{AreAdded}
+use Rattle.verify.proofs.LabelTableLemmas.{AreAdded}
 use Rattle.verify.proofs.label_table.add_listed.Given as goal
 
 abbrev pub invariant-loop : goal.invariant-loop

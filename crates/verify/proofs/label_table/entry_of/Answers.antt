@@ -1,5 +1,4 @@
-use Rattle.std.proofs.Common.{subst}
-use Rattle.frame.specs.AtPosition.{IsPosition}
+use Rattle.verify.proofs.Words.{subst, IsPosition}
 use Rattle.verify.proofs.LabelTableLemmas.{nothing}
 use Rattle.verify.proofs.label_table.entry_of.Goals as goal
 

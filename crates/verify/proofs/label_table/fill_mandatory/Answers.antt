@@ -1,5 +1,4 @@
-use Rattle.std.proofs.Common.{arith, map, ap, ◌∙◌}
-use Rattle.std.proofs.lemmas.List.{take_all}
+use Rattle.verify.proofs.Words.{arith, map, ap, ◌∙◌, take_all}
 use Rattle.verify.specs.declared.label_table.LabelEntry.TheVariants.{Hypothesis}
 use Rattle.verify.proofs.MandatoryEntries.{mandatory-entries}
 use Rattle.verify.proofs.label_table.fill_mandatory.Goals as goal

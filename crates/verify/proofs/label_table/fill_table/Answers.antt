@@ -1,7 +1,4 @@
-use Rattle.std.proofs.Common.{length, arith, ap, sym, subst}
-use Rattle.std.proofs.lemmas.List.{take_all}
-use Rattle.frame.specs.AtPosition.{ArePositions}
-use Rattle.verify.specs.LabelTable.{AreEntries}
+use Rattle.verify.proofs.Words.{length, arith, ap, sym, subst, take_all, ArePositions, AreEntries}
 use Rattle.verify.proofs.LabelTableLemmas.{table-more}
 use Rattle.verify.proofs.label_table.fill_table.Goals as goal
 

@@ -1,5 +1,4 @@
-use Rattle.std.proofs.Common.{take}
-use Rattle.verify.specs.LabelTable.{AreEntries}
+use Rattle.verify.proofs.Words.{take, AreEntries}
 use Rattle.verify.proofs.label_table.fill_table.Given as goal
 
 abbrev pub invariant-loop-position : goal.invariant-loop-position

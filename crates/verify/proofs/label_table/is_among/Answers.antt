@@ -1,8 +1,7 @@
-use Rattle.std.proofs.Common.{sym, ◌∙◌, ap, arith}
+use Rattle.verify.proofs.Words.{sym, ◌∙◌, ap, arith, is_hypothesis_among}
 use Rattle.std.proofs.lemmas.List.Sorted.{searched}
 use Rattle.verify.specs.declared.label_table.LabelEntry.TheVariants.{Hypothesis}
-use Rattle.verify.specs.LabelTable.{is_hypothesis_among}
-use Rattle.verify.proofs.ListedLabels.{found-is, none-is}
+use Rattle.verify.proofs.LabelTableLemmas.{found-is, none-is}
 use Rattle.verify.proofs.label_table.is_among.Goals as goal
 
 pub returns-in-Ok : goal.returns-in-Ok

@@ -1,6 +1,4 @@
-use Rattle.std.proofs.Common.{ℕ}
-use Rattle.subst.specs.ExpressionPlaces.{AreWithin, AreInside}
-use Rattle.verify.specs.ReadPlaces.{ReadTo}
+use Rattle.verify.proofs.Words.{ℕ, AreWithin, AreInside, ReadTo}
 use Rattle.verify.proofs.reading_off.read_off.Given as goal
 
 abbrev pub invariant-loop-k : goal.invariant-loop-k

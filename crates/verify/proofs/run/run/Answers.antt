@@ -1,12 +1,7 @@
-use Rattle.std.proofs.Common.{◌≡◌, ◌+◌, Bool, true, false, Result, Ok, IfOk, get_or, length, map, take, drop, arith, sym, subst, refl}
-use Rattle.proof_code.specs.ItemNumbers.{item_of}
-use Rattle.verify.specs.Goes.{behind, GoesOn}
-use Rattle.verify.specs.Right.{IsRight}
+use Rattle.verify.proofs.Words.{◌≡◌, ◌+◌, Bool, true, false, Result, Ok, IfOk, get_or, length, map, take, drop, arith, sym, subst, refl, IfOk-at_ok, item_of, behind, GoesOn, IsRight, stands-within}
 use Rattle.subst.proofs.FindingsLemmas.{known-none}
-use Rattle.verify.proofs.KnownResultLemmas.{start-known, start-behind}
-use Rattle.verify.proofs.StepLemmas.{Reached, reached-start, reached-step, wrong-step, right-end, wrong-end, items-more, items-rest, all-taken}
+use Rattle.verify.proofs.StepLemmas.{start-known, start-behind, Reached, reached-start, reached-step, wrong-step, right-end, wrong-end, items-more, items-rest, all-taken}
 use Rattle.verify.proofs.run.run.Goals as goal
-use Rattle.scope.proofs.StatementPlaces.{stands-within}
 
 pub loop-number-init : goal.loop-number-init
 loop-number-init c = (
@@ -18,7 +13,7 @@ loop-number-init c = (
 
 -- what the step did
 went : {E : Type 0} (r : Result Bool E) (ok b : Bool) (P : Bool → Type 0) → IfOk r P → r ≡ Ok ok → ok ≡ b → P b
-went r ok b P h was is = subst P is (let Q : Result _ _ → Type 0 = λ v. IfOk v P in subst Q was h)
+went r ok b P h was is = subst P is (IfOk-at_ok P was h)
 
 pub loop-number-preserved : goal.loop-number-preserved
 loop-number-preserved c = (

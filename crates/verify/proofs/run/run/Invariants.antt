@@ -1,10 +1,5 @@
-use Rattle.std.proofs.Common.{List, length, map, take}
-use Rattle.mm_lex.specs.Alphabet.{Name}
-use Rattle.frame.specs.AtPosition.{AreLegal}
-use Rattle.proof_code.specs.ItemNumbers.{item_of}
+use Rattle.verify.proofs.Words.{List, length, map, take, Name, AreLegal, item_of, behind, AreKnown, AreEntries}
 use Rattle.subst.specs.Findings.{IsKnown}
-use Rattle.verify.specs.Goes.{behind, AreKnown}
-use Rattle.verify.specs.LabelTable.{AreEntries}
 use Rattle.verify.proofs.StepLemmas.{Reached}
 use Rattle.verify.proofs.run.run.Given as goal
 

@@ -1,9 +1,7 @@
-use Rattle.std.proofs.Common.{map, arith, sym, ap, ◌∙◌}
-use Rattle.verify.specs.Derivations.{apply, from_list}
-use Rattle.verify.specs.Plan.{built, pick}
+use Rattle.verify.proofs.Words.{map, arith, sym, ap, ◌∙◌, apply, from_list, built, pick}
 use Rattle.verify.proofs.TreeLemmas.{derivation-hyp, derivation-apply}
 use Rattle.verify.proofs.StepLemmas.{all-taken}
-use Rattle.verify.proofs.ExpandLemmas.{picked-hyp, picked-apply, kid-low}
+use Rattle.verify.proofs.PlanLemmas.{picked-hyp, picked-apply, kid-low}
 use Rattle.verify.proofs.tree_from_items.+expand.Goals as goal
 
 pub expand-requires : goal.expand-requires

@@ -1,6 +1,4 @@
-use Rattle.std.proofs.Common.{◌≡◌, map, take}
-use Rattle.verify.specs.Derivations.{derivation_of}
-use Rattle.verify.specs.Plan.{built, pick}
+use Rattle.verify.proofs.Words.{◌≡◌, map, take, derivation_of, built, pick}
 use Rattle.verify.proofs.tree_from_items.+expand.Given as goal
 
 abbrev pub decreases-expand : goal.decreases-expand

@@ -1,25 +1,13 @@
-use Rattle.std.proofs.Common.{◌≡◌, ℕ, ◌+◌, [], Bool, true, false, List, Result, Ok, IfOk, get_or, map, take, drop, sym, ◌∙◌, subst}
-use Rattle.mm_lex.specs.Alphabet.{Name}
-use Rattle.mm_read.specs.Statements.{Database}
-use Rattle.frame.specs.AtPosition.{HasLabelsOnce}
-use Rattle.proof_code.specs.ItemNumbers.{item_of}
-use Rattle.verify.specs.Growth.{Trees, trees, GrowsBy, Grew}
-use Rattle.verify.specs.Plan.{trees_of}
-use Rattle.verify.specs.Right.{IsRight}
-use Rattle.verify.specs.LabelTable.{AreEntries}
-use Rattle.verify.specs.declared.label_table.LabelEntry.{LabelEntry}
+use Rattle.verify.proofs.Words.{◌≡◌, ℕ, ◌+◌, [], Bool, true, false, List, Result, Ok, IfOk, get_or, map, take, drop, sym, ◌∙◌, subst, IfOk-at_ok, Name, Database, HasLabelsOnce, item_of, Trees, trees, GrowsBy, Grew, trees_of, IsRight, AreEntries, LabelEntry}
 use Rattle.verify.proofs.StepLemmas.{items-more, items-rest}
 use Rattle.verify.proofs.GrowthLemmas.{never-stuck, grows-on}
 use Rattle.verify.proofs.tree_from_items.plan_of.Goals as goal
-
-if_ok : {A E : Type 0} (r : Result A E) (x : A) (P : A → Type 0) → r ≡ Ok x → IfOk r P → P x
-if_ok r x P e h = let Q : Result _ _ → Type 0 = λ v. IfOk v P in subst Q e h
 
 -- what the item did
 went : (S : Database) (at : ℕ) (labels : List Name) (n : ℕ) (old new : Trees) (table table' : List LabelEntry) (E : Type 0) (r : Result Bool E) (ok b : Bool) → HasLabelsOnce S → table' ≡ table → AreEntries S at labels table
     → ((a : ℕ) (ls : List Name) → HasLabelsOnce S → AreEntries S a ls table' → IfOk r (λ v. Grew v S a old (item_of ls n) new)) → r ≡ Ok ok → ok ≡ b → Grew b S at old (item_of labels n) new
 went S at labels n old new table table' E r ok b once same are grew was is =
-    subst (λ v. Grew v S at old (item_of labels n) new) is (if_ok r ok (λ v. Grew v S at old (item_of labels n) new) was (grew at labels once (subst (AreEntries S at labels) (sym same) are)))
+    subst (λ v. Grew v S at old (item_of labels n) new) is (IfOk-at_ok (λ v. Grew v S at old (item_of labels n) new) was (grew at labels once (subst (AreEntries S at labels) (sym same) are)))
 
 pub loop-number-preserved : goal.loop-number-preserved
 loop-number-preserved c =

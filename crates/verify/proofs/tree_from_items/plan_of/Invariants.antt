@@ -1,10 +1,4 @@
-use Rattle.std.proofs.Common.{◌≡◌, [], List, map, take}
-use Rattle.mm_lex.specs.Alphabet.{Name}
-use Rattle.frame.specs.AtPosition.{AreLegal}
-use Rattle.proof_code.specs.ItemNumbers.{item_of, items_of}
-use Rattle.verify.specs.Growth.{trees, GrowsBy}
-use Rattle.verify.specs.Plan.{trees_of, IsPlan}
-use Rattle.verify.specs.LabelTable.{AreEntries}
+use Rattle.verify.proofs.Words.{◌≡◌, [], List, map, take, Name, AreLegal, item_of, items_of, trees, GrowsBy, trees_of, IsPlan, AreEntries}
 use Rattle.verify.proofs.tree_from_items.plan_of.Given as goal
 
 -- behind the items so far

@@ -1,8 +1,5 @@
-use Rattle.std.proofs.Common.{length, arith, sym, ap, ◌∙◌, subst}
-use Rattle.verify.specs.Right.{Derives, IsSmall}
-use Rattle.verify.specs.Extents.{extent_of}
-use Rattle.verify.specs.Plan.{pick, built}
-use Rattle.verify.proofs.RightLemmas.{root, some-number, extents-length, extent-is, small-of, small-back}
+use Rattle.verify.proofs.Words.{length, arith, sym, ap, ◌∙◌, subst, Derives, IsSmall, extent_of, pick, built}
+use Rattle.verify.proofs.RightLemmas.{root, some-number, extents-length, extent-is, small-of}
 use Rattle.verify.proofs.tree_from_items.right_derivation.Goals as goal
 
 pub index-root-requires : goal.index-root-requires
@@ -31,7 +28,7 @@ returns-then-not-is_small-clause-large c = λ same.
     let h = r.there in
     let x = extent-is c.deref.result.now c.in_ok-extents.extents.items c.index-root.result.now c.index.result.now c.index.result.now c.in_ok-extents.ensures (omega (arith, h, l, e)) c.index.ensures
     ∙ ap extent_of (ap (λ ns. pick (built ns) c.index-root.result.now) c.deref.ensures.value ∙ r.stands) in
-    (r.tree, r.derives, λ small. let t = c.is_small.ensures.1 (small-back r.tree c.index.result.now x small) in let f = c.if-not-is_small.true in cc)
+    (r.tree, r.derives, λ small. let t = c.is_small.ensures.1 ((small-of r.tree c.index.result.now x).0 small) in let f = c.if-not-is_small.true in cc)
 
 pub returns-clause-tree : goal.returns-clause-tree
 returns-clause-tree c =
@@ -46,4 +43,4 @@ returns-clause-small c =
     let h = r.there in
     let x = extent-is c.deref.result.now c.in_ok-extents.extents.items c.index-root.result.now c.index.result.now c.index.result.now c.in_ok-extents.ensures (omega (arith, h, l, e)) c.index.ensures
     ∙ ap extent_of (ap (λ ns. pick (built ns) c.index-root.result.now) c.deref.ensures.value ∙ r.stands) in
-    subst IsSmall (sym (c.in_ok-tree.ensures ∙ (ap (λ ns. pick (built ns) c.index-root.result.now) c.deref-2.ensures.value ∙ r.stands))) (small-of r.tree c.index.result.now x (c.is_small.ensures.0 c.if-not-is_small.false))
+    subst IsSmall (sym (c.in_ok-tree.ensures ∙ (ap (λ ns. pick (built ns) c.index-root.result.now) c.deref-2.ensures.value ∙ r.stands))) ((small-of r.tree c.index.result.now x).1 (c.is_small.ensures.0 c.if-not-is_small.false))

@@ -1,10 +1,7 @@
-use Rattle.std.proofs.Common.{◌≡◌, ℕ, length, get_or, arith, ◌∙◌}
-use Rattle.std.specs.Prelude.{max}
+use Rattle.verify.proofs.Words.{◌≡◌, ℕ, length, get_or, arith, ◌∙◌, max, nat_tests, below-at}
 use Rattle.std.specs.Ordering.{nat_cmp, ord_max}
-use Rattle.std.proofs.lemmas.Bool.Decides.{nat_tests}
-use Rattle.verify.proofs.SizeLemmas.{so-far-step, extent-low}
+use Rattle.verify.proofs.PlanLemmas.{so-far-step, extent-low}
 use Rattle.verify.proofs.tree_size.above.Goals as goal
-use Rattle.frame.proofs.ApartLemmas.{below-at}
 
 larger : (a b : ℕ) → ord_max nat_cmp a b ≡ max a b
 larger a b = grind (arith, nat_tests)

@@ -1,7 +1,5 @@
-use Rattle.std.proofs.Common.{◌≡◌, ◌≤◌, List, map}
-use Rattle.verify.specs.Derivations.{Derivation}
-use Rattle.verify.specs.Extents.{extent_of}
-use Rattle.verify.proofs.SizeLemmas.{IsSoFar}
+use Rattle.verify.proofs.Words.{◌≡◌, ◌≤◌, List, map, Derivation, extent_of}
+use Rattle.verify.proofs.PlanLemmas.{IsSoFar}
 use Rattle.verify.proofs.tree_size.above.Given as goal
 
 abbrev pub invariant-loop-kid : goal.invariant-loop-kid

@@ -1,7 +1,5 @@
-use Rattle.std.proofs.Common.{length, take, arith, sym, ap, ◌∙◌, subst}
-use Rattle.verify.specs.Extents.{extent_of}
-use Rattle.verify.specs.Plan.{IsAfter, built, derive}
-use Rattle.verify.proofs.SizeLemmas.{node-after, measured-more, measured-length}
+use Rattle.verify.proofs.Words.{length, take, arith, sym, ap, ◌∙◌, subst, extent_of, IsAfter, built, derive}
+use Rattle.verify.proofs.PlanLemmas.{node-after, measured-more, measured-length}
 use Rattle.verify.proofs.tree_size.measure.Goals as goal
 
 pub extent_at-one-requires-clause-after : goal.extent_at-one-requires-clause-after

@@ -1,6 +1,4 @@
-use Rattle.std.proofs.Common.{◌≡◌, map, take}
-use Rattle.verify.specs.Extents.{extent_of}
-use Rattle.verify.specs.Plan.{built}
+use Rattle.verify.proofs.Words.{◌≡◌, map, take, extent_of, built}
 use Rattle.verify.proofs.tree_size.measure.Given as goal
 
 abbrev pub invariant-loop-node : goal.invariant-loop-node

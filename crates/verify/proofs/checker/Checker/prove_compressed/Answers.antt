@@ -1,10 +1,5 @@
-use Rattle.std.proofs.Common.{◌++◌, ◌∙◌, take, sym, subst}
-use Rattle.std.specs.Prelude.{IfOk}
-use Rattle.proof_code.specs.ItemNumbers.{items_of}
-use Rattle.verify.specs.Proves.{mandatory_labels}
-use Rattle.verify.specs.Right.{IsRight, Says}
-use Rattle.verify.specs.LabelTable.{AreEntries}
-use Rattle.verify.proofs.ProvesLemmas.{unwritten, one-listed, many, read-proves}
+use Rattle.verify.proofs.Words.{◌++◌, ◌∙◌, take, sym, subst, IfOk, items_of, mandatory_labels, IsRight, Says, AreEntries}
+use Rattle.verify.proofs.RightLemmas.{unwritten, one-listed, many, read-proves}
 use Rattle.verify.proofs.checker.Checker.prove_compressed.Goals as goal
 
 pub returns-in_default : goal.returns-in_default

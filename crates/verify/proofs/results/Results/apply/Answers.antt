@@ -1,7 +1,5 @@
-use Rattle.std.specs.Prelude.{◌≡◌, ℕ, ◌+◌, ◌-◌, ◌≤◌, ◌∷◌, ◌++◌, [], Bool, true, false, List, length, refl}
-use Rattle.std.proofs.Common.{arith, ap, ◌∙◌, length-append}
+use Rattle.verify.proofs.Words.{◌≡◌, ℕ, ◌+◌, ◌-◌, ◌≤◌, ◌∷◌, ◌++◌, [], Bool, true, false, List, length, refl, arith, ap, ◌∙◌, length-append, weight_limit}
 use Rattle.subst.specs.Stored.Written.{Appends}
-use Rattle.verify.specs.Right.{weight_limit}
 use Rattle.verify.proofs.ResultPlaceLemmas.{apply-kept, apply-seen, apply-cut}
 use Rattle.verify.proofs.results.Results.apply.Goals as goal
 

@@ -1,9 +1,4 @@
-use Rattle.std.proofs.Common.{◌∙◌, ap, map, length, sym, subst}
-use Rattle.names.specs.Codes.{decode}
-use Rattle.frame.specs.Disjoint.{are_groups_apart}
-use Rattle.frame.specs.Substitution.{images_of_names}
-use Rattle.subst.specs.Images.{AreOver}
-use Rattle.subst.specs.ExpressionPlaces.{images_at, AreInside}
+use Rattle.verify.proofs.Words.{◌∙◌, ap, map, length, sym, subst, decode, are_groups_apart, images_of_names, AreOver, images_at, AreInside}
 use Rattle.verify.proofs.results.Results.are_apart.Goals as goal
 
 pub groups_apart-requires-clause-inside : goal.groups_apart-requires-clause-inside

@@ -1,43 +1,58 @@
-use Rattle.std.proofs.Common.{◌-◌, ◌↔◌, IsTrue, length, map, take, drop, arith, sym, ap, subst, ◌∙◌}
-use Rattle.names.specs.Codes.{decode}
-use Rattle.frame.specs.Below.{AllBelow}
-use Rattle.frame.specs.Substitution.{images_of_names}
-use Rattle.subst.specs.Images.{AreOver}
-use Rattle.subst.specs.ExpressionPlaces.{seen_at, images_at, AreInside}
-use Rattle.verify.specs.Fits.{DoFit}
-use Rattle.verify.specs.ResultPlaces.{top}
+use Rattle.verify.proofs.Words.{◌≡◌, ℕ, ◌-◌, [], true, false, slice_get, length, map, get_or, Some, ap, arith, refl, ◌∙◌, slice_get_within, stands-within, decode, images_of_names, images_at, Hypothesis, Float, Essential, FitsOne, top}
 use Rattle.verify.proofs.Named.{all-drop}
-use Rattle.verify.proofs.ResultPlaceLemmas.{last-within, seen_eq}
+use Rattle.verify.proofs.ResultPlaceLemmas.{seen_place}
+use Rattle.verify.proofs.ReadImageLemmas.{standing-at, fits-essential, one-more}
+use Rattle.verify.proofs.results.Results.fits.Goals.{in-Essential+else-not-matches, in_default}
 use Rattle.verify.proofs.results.Results.fits.Goals as goal
 
-pub all_fit-requires-clause-within : goal.all_fit-requires-clause-within
-all_fit-requires-clause-within c = rw (c.as_slice.ensures.symbols, c.deref.ensures.value) (last-within _ _ _ c.self.invariant.stack_within)
+pub expr-expr-requires : goal.expr-expr-requires
+expr-expr-requires c =
+    let s = standing-at c.args.frames.now.statements c.args.hypotheses.now c.loop-k.k (Essential c.in-Essential.position) c.requires.standing (c.get.ensures ∙ ap Some c.in-Essential.is) in
+    stands-within c.args.frames.now.statements c.in-Essential.position s.0 s.1
 
-pub all_fit-requires-clause-inside : goal.all_fit-requires-clause-inside
-all_fit-requires-clause-inside c = subst (λ s. AreInside (length s) c.self.inside.images) (sym c.as_slice.ensures.symbols) c.self.invariant.images_inside
+pub symbols_at-requires : goal.symbols_at-requires
+symbols_at-requires c =
+    (seen_place c.self.inside.symbols c.as_slice-symbols.result.now c.self.inside.stack.items c.deref.result.now c.args.self.now.results.stack (c.len.result - c.len-2.result) c.len-2.result c.loop-k.k _
+    c.as_slice-symbols.ensures.symbols c.deref.ensures.value (ap (λ v. v.results.stack) c.self.view_is) (omega (arith, c.len.ensures)) (omega (arith, c.requires.count, c.len-2.ensures))
+    (let w = slice_get_within c.args.hypotheses.now c.loop-k.k c.get.result c.get.ensures in omega (arith, w, c.len-2.ensures)) c.self.invariant.stack_within).0
 
-pub all_fit-requires-clause-over : goal.all_fit-requires-clause-over
-all_fit-requires-clause-over c =
-    subst (AreOver c.args.frames.now.names) (sym (ap (λ s. images_at s c.self.inside.images) c.as_slice.ensures.symbols ∙ ap (λ v. v.images) c.self.view_is)) c.requires.over
-
-pub all_fit-requires-clause-named : goal.all_fit-requires-clause-named
-all_fit-requires-clause-named c =
-    let n = c.len-2.result in
-    subst (AllBelow (length c.args.frames.now.names))
-    (sym (seen_eq c.self.inside.symbols c.as_slice.result.now c.self.inside.stack.items c.deref.result.now c.args.self.now.results.stack (c.len.result - n) n
-    c.as_slice.ensures.symbols c.deref.ensures.value (ap (λ v. v.results.stack) c.self.view_is) (omega (arith, c.len.ensures))))
-    (all-drop (length c.args.frames.now.names) (length c.args.self.now.results.stack - n) c.args.self.now.results.stack c.requires.named)
-
-pub returns : goal.returns
-returns c =
+pub returns-then-not-matches : goal.returns-then-not-matches
+returns-then-not-matches c =
     let S = c.args.frames.now.statements in
     let names = c.args.frames.now.names in
     let hs = c.args.hypotheses.now in
-    let n = c.len-2.result in
-    let places = take (length c.deref.result.now - (c.len.result - n)) (drop (c.len.result - n) c.deref.result.now) in
-    subst (λ rs. IsTrue c.all_fit.result ↔ DoFit S (images_of_names names c.args.self.now.images) hs (map (decode names) rs))
-    (seen_eq c.self.inside.symbols c.as_slice.result.now c.self.inside.stack.items c.deref.result.now c.args.self.now.results.stack (c.len.result - n) n
-    c.as_slice.ensures.symbols c.deref.ensures.value (ap (λ v. v.results.stack) c.self.view_is) (omega (arith, c.len.ensures))
-    ∙ ap (λ k. top k c.args.self.now.results.stack) c.len-2.ensures)
-    (subst (λ σ. IsTrue c.all_fit.result ↔ DoFit S (images_of_names names σ) hs (map (decode names) (map (seen_at c.as_slice.result.now) places)))
-    (ap (λ s. images_at s c.self.inside.images) c.as_slice.ensures.symbols ∙ ap (λ v. v.images) c.self.view_is) c.all_fit.ensures)
+    let stack = c.args.self.now.results.stack in
+    let at : slice_get hs c.loop-k.k ≡ Some (Essential c.in-Essential.position) = c.get.ensures ∙ ap Some c.in-Essential.is in
+    let place = seen_place c.self.inside.symbols c.as_slice-symbols.result.now c.self.inside.stack.items c.deref.result.now c.args.self.now.results.stack (c.len.result - c.len-2.result) c.len-2.result c.loop-k.k _
+    c.as_slice-symbols.ensures.symbols c.deref.ensures.value (ap (λ v. v.results.stack) c.self.view_is) (omega (arith, c.len.ensures)) (omega (arith, c.requires.count, c.len-2.ensures))
+    (let w = slice_get_within c.args.hypotheses.now c.loop-k.k c.get.result c.get.ensures in omega (arith, w, c.len-2.ensures)) c.self.invariant.stack_within in
+    let iff = fits-essential S names hs (top (length hs) stack) c.args.self.now.images _ c.loop-k.k c.in-Essential.position c.symbols_at.result.now c.expr-expr.result.now c.matches.result c.requires.legal.distinct c.requires.standing at c.expr-expr.ensures.same
+    c.expr-expr.ensures.codes c.requires.over (all-drop (length names) (length stack - length hs) stack c.requires.named) (ap (λ s. images_at s c.self.inside.images) c.as_slice-symbols.ensures.symbols ∙ ap (λ v. v.images) c.self.view_is)
+    (c.symbols_at.ensures ∙ (place.1 ∙ ap (λ n. get_or (top n stack) c.loop-k.k []) c.len-2.ensures)) c.matches.ensures in
+    (λ t. (let e : false ≡ true = t in cc), λ fit. let t = iff.1 (fit.each c.loop-k.k (Essential c.in-Essential.position) at) in let u = c.if-not-matches.true in cc)
+
+pub loop-k-preserved : goal.loop-k-preserved
+loop-k-preserved c =
+    let P : ℕ → Hypothesis → Type 0 = λ j h. FitsOne c.args.frames.now.statements (images_of_names c.args.frames.now.names c.args.self.now.images) h (get_or (map (decode c.args.frames.now.names) (top (length c.args.hypotheses.now) c.args.self.now.results.stack)) j []) in
+    elim c.match-get.branch [
+      | in-Essential+else-not-matches w ↦
+          let S = c.args.frames.now.statements in
+          let names = c.args.frames.now.names in
+          let hs = c.args.hypotheses.now in
+          let stack = c.args.self.now.results.stack in
+          let at : slice_get hs c.loop-k.k ≡ Some (Essential w.in-Essential.position) = c.get.ensures ∙ ap Some w.in-Essential.is in
+          let place = seen_place c.self.inside.symbols c.as_slice-symbols.result.now c.self.inside.stack.items c.deref.result.now c.args.self.now.results.stack (c.len.result - c.len-2.result) c.len-2.result c.loop-k.k _
+          c.as_slice-symbols.ensures.symbols c.deref.ensures.value (ap (λ v. v.results.stack) c.self.view_is) (omega (arith, c.len.ensures)) (omega (arith, c.requires.count, c.len-2.ensures))
+          (let w = slice_get_within c.args.hypotheses.now c.loop-k.k c.get.result c.get.ensures in omega (arith, w, c.len-2.ensures)) c.self.invariant.stack_within in
+          let iff = fits-essential S names hs (top (length hs) stack) c.args.self.now.images _ c.loop-k.k w.in-Essential.position w.symbols_at.result.now w.expr-expr.result.now w.matches.result c.requires.legal.distinct c.requires.standing at w.expr-expr.ensures.same
+          w.expr-expr.ensures.codes c.requires.over (all-drop (length names) (length stack - length hs) stack c.requires.named) (ap (λ s. images_at s c.self.inside.images) c.as_slice-symbols.ensures.symbols ∙ ap (λ v. v.images) c.self.view_is)
+          (w.symbols_at.ensures ∙ (place.1 ∙ ap (λ n. get_or (top n stack) c.loop-k.k []) c.len-2.ensures)) w.matches.ensures in
+          one-more P hs c.loop-k.k (Essential w.in-Essential.position) at c.loop-k.invariant (iff.0 w.if-not-matches.false)
+      | in_default w ↦ one-more P c.args.hypotheses.now c.loop-k.k (Float w.in_default.field-0) (c.get.ensures ∙ ap Some w.in_default.is) c.loop-k.invariant tt
+    ]
+
+pub returns : goal.returns
+returns c = (
+  λ t. record { each = λ j h at. c.loop-k.invariant j h (let w = slice_get_within c.args.hypotheses.now j h at in let e = c.loop-k-test.false in let n = c.len-k-end.ensures in omega (arith, w, e, n)) at },
+  λ f. refl,
+)

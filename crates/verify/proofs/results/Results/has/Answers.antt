@@ -1,5 +1,4 @@
-use Rattle.std.proofs.Common.{◌<◌, [], length, get_or, ap, arith, subst}
-use Rattle.std.proofs.lemmas.Bool.Decides.{nat_tests}
+use Rattle.verify.proofs.Words.{◌<◌, [], length, get_or, ap, arith, subst, nat_tests}
 use Rattle.verify.proofs.ResultPlaceLemmas.{some-saved}
 use Rattle.verify.proofs.results.Results.has.Goals as goal
 

@@ -1,9 +1,5 @@
-use Rattle.std.proofs.Common.{◌≡◌, ℕ, ◌↔◌, ◌∷◌, [], List, length, map, get_or, IsTrue, Bool, arith, sym, ap, ◌∙◌}
-use Rattle.subst.specs.ExpressionPlaces.{seen_at}
-use Rattle.subst.specs.declared.expression_place.ExpressionPlace.{ExpressionPlace}
+use Rattle.verify.proofs.Words.{◌≡◌, ℕ, ◌↔◌, ◌∷◌, [], List, length, map, get_or, IsTrue, Bool, arith, sym, ap, ◌∙◌, seen_at, ExpressionPlace, bytes_eq, bytes_eq-Decides}
 use Rattle.verify.proofs.results.Results.is_only.Goals as goal
-use Rattle.std.specs.Prelude.{bytes_eq}
-use Rattle.std.proofs.lemmas.Slice.Eq.{bytes_eq-Decides}
 
 only_iff : (xs ds r e : List ℕ) (stack : List ExpressionPlace) (all : List (List ℕ)) (p : ExpressionPlace) (b : Bool) → length stack ≡ 1 → p ≡ get_or stack 0 p → r ≡ seen_at ds p → ds ≡ xs → map (seen_at xs) stack ≡ all → b ≡ bytes_eq r e
     → IsTrue b ↔ (all ≡ e ∷ [])

@@ -1,13 +1,4 @@
-use Rattle.std.specs.Prelude.{◌≡◌, ℕ, ◌-◌, ◌≤◌, Bool, List, Result, Ok, Err, IfOk, length, map, take, drop, refl}
-use Rattle.std.specs.declared.alloc.AllocError.{AllocError}
-use Rattle.std.proofs.Common.{arith, ap, subst, ◌∙◌}
-use Rattle.std.proofs.lemmas.List.{length-map}
-use Rattle.subst.specs.declared.expression_place.ExpressionPlace.{ExpressionPlace}
-use Rattle.subst.specs.ExpressionPlaces.{seen_at, images_at, AreWithin}
-use Rattle.entries.specs.declared.cited_parts.Hypothesis.{Hypothesis}
-use Rattle.verify.specs.Fits.{Reads}
-use Rattle.verify.specs.ResultPlaces.{top}
-use Rattle.verify.specs.ReadPlaces.{ReadsAll}
+use Rattle.verify.proofs.Words.{◌≡◌, ℕ, ◌-◌, ◌≤◌, Bool, List, Result, Ok, Err, IfOk, length, map, take, drop, refl, AllocError, arith, ap, subst, ◌∙◌, length-map, ExpressionPlace, seen_at, images_at, AreWithin, Hypothesis, Reads, top, ReadsAll}
 use Rattle.verify.proofs.ResultPlaceLemmas.{last-within, last-count, seen_eq, kept-read}
 use Rattle.verify.proofs.ReadImageLemmas.{reads-seen}
 use Rattle.verify.proofs.results.Results.read_images.Goals as goal

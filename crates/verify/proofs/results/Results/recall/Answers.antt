@@ -1,7 +1,4 @@
-use Rattle.std.proofs.Common.{◌≡◌, ℕ, ◌<◌, ◌≤◌, List, length, get_or, arith, refl, sym, subst}
-use Rattle.subst.specs.declared.expression_place.ExpressionPlace.{ExpressionPlace}
-use Rattle.subst.specs.ExpressionPlaces.{AreWithin}
-use Rattle.subst.proofs.ExpressionPlaceLemmas.{within-at}
+use Rattle.verify.proofs.Words.{◌≡◌, ℕ, ◌<◌, ◌≤◌, List, length, get_or, arith, refl, sym, subst, ExpressionPlace, AreWithin, within-at}
 use Rattle.verify.proofs.ResultPlaceLemmas.{kept-recall, recall-seen, recall-heavy}
 use Rattle.verify.proofs.results.Results.recall.Goals as goal
 

@@ -1,5 +1,4 @@
-use Rattle.std.proofs.Common.{sym, subst}
-use Rattle.subst.specs.ExpressionPlaces.{AreWithin}
+use Rattle.verify.proofs.Words.{sym, subst, AreWithin}
 use Rattle.verify.proofs.ResultPlaceLemmas.{within-none, cleared-kept, resized-none, started-seen}
 use Rattle.verify.proofs.results.Results.start.Goals as goal
 

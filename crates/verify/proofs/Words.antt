@@ -1,0 +1,67 @@
+-- The words in which this crate is proved, and the lemmas of std and of the layers below, passed on from one place.
+pub use Rattle.entries.specs.declared.cited_parts.Hypothesis.{Hypothesis}
+pub use Rattle.entries.specs.declared.cited_parts.Hypothesis.TheVariants.{Essential, Float}
+pub use Rattle.frame.proofs.ApartLemmas.{below-at}
+pub use Rattle.frame.proofs.FoundByNumber.{decode-injective, name_at-injective, some-same}
+pub use Rattle.frame.proofs.PositionLemmas.{get-front, get-last}
+pub use Rattle.frame.proofs.SymbolNumberLemmas.{below-append, below-more, below-push, below-take}
+pub use Rattle.frame.specs.AtPosition.{AreLegal, ArePositions, HasLabelsOnce, IsPosition, IsSingle}
+pub use Rattle.frame.specs.Below.{AllBelow, AreBelow}
+pub use Rattle.frame.specs.Bound.{HasFloat, IsBound, IsFirstFixed}
+pub use Rattle.frame.specs.Citations.{Carries, IsHypothesis, IsInstance, OfVariables, expr_at, is_hypothesis_kind, option_expr, premises}
+pub use Rattle.frame.specs.Cited.{AreAsked, IsAsked, IsCited, IsHead, IsOf, head_of}
+pub use Rattle.frame.specs.Disjoint.{are_apart, are_groups_apart, is_group_apart}
+pub use Rattle.frame.specs.FrameOf.{HasAssertion, hypotheses, is_hypothesis, mandatory_groups}
+pub use Rattle.frame.specs.Substitution.{CodeImages, Images, apply as applied, code_apply, code_image, image, images_of_names}
+pub use Rattle.mm_lex.specs.Alphabet.{Name, has_name, name_eq}
+pub use Rattle.mm_read.specs.Statements.{Database, Expr}
+pub use Rattle.mm_read.specs.declared.stmt.Stmt.{Stmt}
+pub use Rattle.mm_read.specs.declared.stmt.Stmt.TheVariants.{Axiom, Const, Disj, Ess, Open, Prove, Var}
+pub use Rattle.names.proofs.CodesLemmas.{code-name, name_same, same_name}
+pub use Rattle.names.specs.Codes.{AreCodes, AreDistinct, code_of, decode, name_at}
+pub use Rattle.proof_code.proofs.RowOfNumbers.{item-cite, item-recall}
+pub use Rattle.proof_code.specs.ItemNumbers.{item_of, items_of}
+pub use Rattle.proof_code.specs.Reading.{IsHeading, share_label}
+pub use Rattle.proof_code.specs.declared.item.Item.{Item}
+pub use Rattle.proof_code.specs.declared.item.Item.TheVariants.{Cite, Mark, Recall}
+pub use Rattle.scope.proofs.StatementPlaces.{stands-within, stmt_at-bares}
+pub use Rattle.scope.specs.Active.{active_from, bare, bares, before, expr_of, is_active, is_assertion, is_provable, is_variable, label_of, stays_open, stmt_at}
+pub use Rattle.std.proofs.Common.{Bool, IfOk, IsTrue, List, Ok, Result, Some, [], add-zero, add_assoc, ap, append-nil, append_assoc, arith, drop, false, get_or, inl, inr, length, length-append, length-drop, map, not, refl, slice_get, subst, sym, take, true, true≢false, zero-add, ℕ, ◌++◌, ◌+◌, ◌-◌, ◌<◌, ◌↔◌, ◌∙◌, ◌∷◌, ◌≡◌, ◌≤◌}
+pub use Rattle.std.proofs.lemmas.Bool.{and_from, leb-true, lt-ltb, ltb-true, not-false, not-true, or_left, or_right}
+pub use Rattle.std.proofs.lemmas.Bool.Decides.{nat_tests}
+pub use Rattle.std.proofs.lemmas.List.{drop-append-le, drop-drop, drop-map, drop-set-lt, drop-take, drop_all, drop_at, drop_more, ext_get_or, get_or-replicate, get_or-set_other, get_or-set_same, get_or_default, length-map, length-replicate, length-set, length-take-le, length_push, map-append, map-set, map_more, map_push, same_from_push, take-append-drop, take-map, take_all, take_at, take_more, take_rest}
+pub use Rattle.std.proofs.lemmas.Option.{get_or_from_slice_get, same_Some, slice_get-get_or, slice_get-map, slice_get_within}
+pub use Rattle.std.proofs.lemmas.Result.{IfOk-at_ok, IfOk-weaker}
+pub use Rattle.std.proofs.lemmas.Slice.Eq.{bytes_eq-Decides}
+pub use Rattle.std.specs.List.{list_all, list_any}
+pub use Rattle.std.specs.List.Sorted.{IsNonDecreasing}
+pub use Rattle.std.specs.Prelude.{Err, MatchResult, None, Option, Vec, bytes_eq, codes, cond, filter, is_none, is_some, max, min, nat_eq, nat_le, nat_lt, option_map, replicate, slice_index_or, slice_set, suc, unwrap_or, zero, ◌&&◌, ◌==◌, ◌||◌, ◌⊎◌}
+pub use Rattle.std.specs.declared.alloc.AllocError.{AllocError}
+pub use Rattle.std.specs.declared.alloc.Global.{Global}
+pub use Rattle.subst.proofs.ExpressionPlaceLemmas.{length-seen, map-seen-more, seen-get, seen-last, within-at, within-drop, within-get, within-snoc, within-take, within-weaken}
+pub use Rattle.subst.proofs.ImagePlacesLemmas.{image-none, image-some, inside-more, inside-none, inside-set}
+pub use Rattle.subst.proofs.NumbersApartLemmas.{below-drop, below-group}
+pub use Rattle.subst.proofs.SubstitutionLemmas.{image-decode, image-named, image-unnamed, substitution_over_names}
+pub use Rattle.subst.specs.ExpressionPlaces.{AreInside, AreWithin, images_at, seen_at}
+pub use Rattle.subst.specs.Images.{AreOver}
+pub use Rattle.subst.specs.declared.expression_place.ExpressionPlace.{ExpressionPlace}
+pub use Rattle.verify.specs.Concludes.{ConcludeAll, Concludes}
+pub use Rattle.verify.specs.Derivations.{Derivation, Derivations, apply, depth, depth_in, derivation_of, derivation_step, from_list, hyp, more, node_count, nodes_in, none}
+pub use Rattle.verify.specs.Extents.{extent_of}
+pub use Rattle.verify.specs.Fits.{AreDifferent, AreRead, AreStanding, DoFit, FitsOne, IsStanding, IsTyped, Reads}
+pub use Rattle.verify.specs.Goes.{AreGiven, AreKnown, AreNamed, Goes, GoesOn, IsGiven, behind, named}
+pub use Rattle.verify.specs.Growth.{Builds, Grew, Grows, GrowsBy, IsKept, Trees, a_hypothesis, an_assertion, trees, with_tree}
+pub use Rattle.verify.specs.LabelTable.{AreEntries, IsEntry, is_hypothesis_among}
+pub use Rattle.verify.specs.Machine.{Cites, IsSaved, Results, Runs, State, Steps, of_assertion, of_hypothesis, start, with_mark, with_result}
+pub use Rattle.verify.specs.Plan.{AreOrdered, IsAfter, IsPlan, built, built_from, derive, pick, trees_of}
+pub use Rattle.verify.specs.Proves.{Proves, label_or_none, mandatory_labels}
+pub use Rattle.verify.specs.ReadPlaces.{BeginsWith, ReadTo, ReadsAll, tail_of}
+pub use Rattle.verify.specs.ResultPlaces.{Adds, AreKept, Gives, Marks, Recalls, below, seen, top}
+pub use Rattle.verify.specs.Right.{Derives, IsProvable, IsRight, IsSmall, Says, weight_limit}
+pub use Rattle.verify.specs.Spells.{IsCitable, Spells, SpellsAll, cites_assertion, cites_hypothesis, marks, recalls, spells_more, spells_none}
+pub use Rattle.verify.specs.declared.label_table.LabelEntry.{LabelEntry}
+pub use Rattle.verify.specs.declared.label_table.LabelEntry.TheVariants.{Assertion, Nothing}
+pub use Rattle.verify.specs.declared.plan.Node.{Node}
+pub use Rattle.verify.specs.declared.plan.TreePlan.{TreePlan}
+pub use Rattle.verify.specs.declared.tree.Tree.{Tree}
+pub use Rattle.verify.specs.declared.tree_size.Extent.{Extent}

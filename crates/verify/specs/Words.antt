@@ -1,0 +1,14 @@
+-- The words of the layers below in which this crate is specified, passed on from one place.
+pub use Rattle.entries.specs.declared.cited_parts.Hypothesis.{Hypothesis}
+pub use Rattle.entries.specs.declared.cited_parts.Hypothesis.TheVariants.{Essential, Float}
+pub use Rattle.frame.specs.Below.{AllBelow}
+pub use Rattle.frame.specs.Citations.{Carries, IsHypothesis, IsInstance, expr_at, premises}
+pub use Rattle.frame.specs.FrameOf.{hypotheses}
+pub use Rattle.frame.specs.Substitution.{CodeImages, Images, apply as applied, code_image}
+pub use Rattle.mm_lex.specs.Alphabet.{Name}
+pub use Rattle.mm_read.specs.Statements.{Database, Expr}
+pub use Rattle.mm_read.specs.declared.stmt.Stmt.{Stmt}
+pub use Rattle.proof_code.specs.declared.item.Item.{Item}
+pub use Rattle.proof_code.specs.declared.item.Item.TheVariants.{Cite, Mark, Recall}
+pub use Rattle.scope.specs.Active.{before, expr_of, is_assertion, is_provable, label_of, stmt_at}
+pub use Rattle.subst.specs.declared.expression_place.ExpressionPlace.{ExpressionPlace}
