@@ -1,12 +1,8 @@
 -- Jobs stay jobs where statements are added behind; the last `$p` is the next job.
-use Rattle.std.proofs.Common.{◌≡◌, ℕ, zero, suc, ◌++◌, ◌⊎◌, inl, inr, List, [], ◌∷◌, length, slice_get, Some, IsTrue, arith, sym, subst, ap, ◌∙◌}
+use Rattle.verify_pool.proofs.Words.{◌≡◌, ℕ, zero, suc, ◌++◌, ◌⊎◌, inl, inr, List, [], ◌∷◌, length, slice_get, Some, IsTrue, arith, sym, subst, ap, ◌∙◌, same_Some, none-some, Database, Job, IsJob, AreJobs}
 use Rattle.std.proofs.lemmas.List.{length-append}
-use Rattle.std.proofs.lemmas.Option.{same_Some, none-some}
 use Rattle.mm_read.specs.declared.stmt.Stmt.{Stmt}
-use Rattle.mm_read.specs.Statements.{Database}
 use Rattle.scope.specs.Active.{stmt_at, is_provable}
-use Rattle.verify_pool.specs.declared.job.Job.{Job}
-use Rattle.verify_pool.specs.Jobs.{IsJob, AreJobs}
 use Rattle.entries.proofs.StatementRecordLemmas.{get-more, get-last}
 
 -- an element of the longer list is one of the old ones or the new one

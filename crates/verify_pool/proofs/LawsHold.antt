@@ -1,6 +1,5 @@
 -- The laws.
-use Rattle.std.proofs.Common.{◌≡◌, inl, inr, Some, None, arith, refl, ap}
-use Rattle.std.proofs.lemmas.Bool.{cases_lt}
+use Rattle.verify_pool.proofs.Words.{◌≡◌, inl, inr, Some, None, arith, refl, ap, cases_lt}
 use Rattle.verify_pool.specs.Laws.{OneAnswer}
 
 -- two answers for one list of jobs are equal, as neither can be before the other

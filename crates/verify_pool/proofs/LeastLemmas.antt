@@ -1,13 +1,7 @@
 -- The least job that is not right, by index and by job.
-use Rattle.std.proofs.Common.{◌≡◌, ℕ, zero, suc, ◌<◌, List, [], ◌∷◌, length, slice_get, Option, Some, None, Result, Ok, Err, IfOk, IfSome, arith, sym, subst, refl, ◌∙◌}
-use Rattle.std.proofs.lemmas.Option.{same_Some, slice_get_within}
-use Rattle.mm_read.specs.Statements.{Database}
+use Rattle.verify_pool.proofs.Words.{◌≡◌, ℕ, zero, suc, ◌<◌, List, [], ◌∷◌, length, slice_get, Option, Some, None, Result, Ok, Err, IfOk, IfSome, arith, sym, subst, refl, ◌∙◌, same_Some, slice_get_within, Database, Says, Job, IsWrongAt, IsLeast, IsRightJob, IsRightAt, IsBadAt, LeastBad}
 use Rattle.verify.specs.declared.answer.Answer.{Answer}
 use Rattle.verify.specs.declared.answer.Answer.TheVariants.{Proved, Wrong}
-use Rattle.verify.specs.Right.{Says}
-use Rattle.verify_pool.specs.declared.job.Job.{Job}
-use Rattle.verify_pool.specs.Least.{IsWrongAt, IsLeast}
-use Rattle.verify_pool.specs.Jobs.{IsRightJob, IsRightAt, IsBadAt, LeastBad}
 
 -- an index below the length has an element
 get_there : {X : Type 0} (xs : List X) (k : ℕ) → k < length xs → (x : X) × (slice_get xs k ≡ Some x)

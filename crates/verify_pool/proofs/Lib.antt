@@ -1,3 +1,4 @@
+pub mod Words
 pub mod LeastLemmas
 pub mod StripeLemmas
 pub mod JobsLemmas

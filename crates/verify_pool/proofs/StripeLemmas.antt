@@ -1,9 +1,6 @@
 -- What the answers of the stripes say of all jobs.
-use Rattle.std.proofs.Common.{◌≡◌, ℕ, suc, ◌+◌, ◌*◌, ◌/◌, ◌%◌, ◌<◌, ◌≤◌, ◌⊎◌, inl, inr, Option, Some, None, IfSome, Result, Ok, Err, IfOk, arith, sym, subst, below_more, mod-lt, add-one, suc-mul}
+use Rattle.verify_pool.proofs.Words.{◌≡◌, ℕ, suc, ◌+◌, ◌*◌, ◌/◌, ◌%◌, ◌<◌, ◌≤◌, ◌⊎◌, inl, inr, Option, Some, None, IfSome, Result, Ok, Err, IfOk, arith, sym, subst, below_more, mod-lt, add-one, suc-mul, cases_lt, IsBefore, IsWrongAt, IsLeast, IsStripeRightBefore, IsLeastInStripe, IsNoLater}
 use Rattle.std.proofs.lemmas.Nat.{mul-le, div-add-mod'}
-use Rattle.std.proofs.lemmas.Bool.{cases_lt}
-use Rattle.verify_pool.specs.Least.{IsBefore, IsWrongAt, IsLeast}
-use Rattle.verify_pool.specs.Stripes.{IsStripeRightBefore, IsLeastInStripe, IsNoLater}
 
 -- a turn before the next one is this one or before it
 turn_not_after : (first step turn other i : ℕ) → i ≡ first + turn * step → first + other * step < i + step → first + other * step ≤ i

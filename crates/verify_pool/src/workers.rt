@@ -35,11 +35,19 @@ impl Workers {
         Workers { count }
     }
 
-    /// As many as the machine offers threads, and 16 where it offers more; one where it does not tell.
+    /// Twice as many as the machine offers threads, 16 at most, so that what a slower processor leaves is taken by the others;
+    /// one where it offers one or does not tell.
     pub fn offered<R: Threads>(rt: &R) -> Workers {
-        let count = match thread::available_parallelism(rt) {
-            Ok(threads) => threads.get().min(MOST_WORKERS),
+        let threads = match thread::available_parallelism(rt) {
+            Ok(threads) => threads.get(),
             Err(_) => 1,
+        };
+        let count = if threads < 2 {
+            1
+        } else if threads < MOST_WORKERS / 2 {
+            2 * threads
+        } else {
+            MOST_WORKERS
         };
         Workers { count }
     }

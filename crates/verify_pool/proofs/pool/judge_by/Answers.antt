@@ -1,5 +1,4 @@
-use Rattle.std.proofs.Common.{arith, IfOk, Ok, None, slice_index_or, subst, sym, ap, ◌∙◌}
-use Rattle.verify_pool.specs.Stripes.{IsLeastInStripe}
+use Rattle.verify_pool.proofs.Words.{arith, IfOk, Ok, None, slice_index_or, subst, sym, ap, ◌∙◌, IsLeastInStripe}
 use Rattle.verify_pool.proofs.StripeLemmas.{one_stripe_more, one_of_two, stripes_are_all}
 use Rattle.verify_pool.proofs.pool.judge_by.Goals as goal
 

@@ -1,6 +1,4 @@
-use Rattle.std.proofs.Common.{ℕ, ◌<◌, IfSome}
-use Rattle.verify_pool.specs.Least.{IsWrongAt}
-use Rattle.verify_pool.specs.Stripes.{IsStripeRightBefore}
+use Rattle.verify_pool.proofs.Words.{ℕ, ◌<◌, IfSome, IsWrongAt, IsStripeRightBefore}
 use Rattle.verify_pool.proofs.pool.judge_by.Given as goal
 
 abbrev pub invariant-loop-answer : goal.invariant-loop-answer

@@ -1,5 +1,4 @@
-use Rattle.std.proofs.Common.{◌≡◌, ℕ, ◌+◌, ◌*◌, ◌-◌, Some}
-use Rattle.verify_pool.specs.Stripes.{IsStripeRightBefore}
+use Rattle.verify_pool.proofs.Words.{◌≡◌, ℕ, ◌+◌, ◌*◌, ◌-◌, Some, IsStripeRightBefore}
 use Rattle.verify_pool.proofs.stripe.judge_stripe.Given as goal
 
 abbrev pub invariant-loop-index : goal.invariant-loop-index

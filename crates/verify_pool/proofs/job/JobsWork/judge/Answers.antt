@@ -1,7 +1,4 @@
-use Rattle.std.proofs.Common.{◌≡◌, ◌<◌, Some, length, slice_get, get_or, refl, subst, sym, IfOk}
-use Rattle.std.proofs.lemmas.Option.{slice_get_read}
-use Rattle.verify.specs.Right.{Says}
-use Rattle.verify_pool.specs.Jobs.{IsRightAt}
+use Rattle.verify_pool.proofs.Words.{◌≡◌, ◌<◌, Some, length, slice_get, get_or, refl, subst, sym, IfOk, slice_get_read, Says, IsRightAt}
 use Rattle.verify_pool.proofs.LeastLemmas.{job_judged}
 use Rattle.verify_pool.proofs.job.JobsWork.judge.Goals as goal
 
