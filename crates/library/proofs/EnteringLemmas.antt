@@ -1,11 +1,5 @@
 -- Statements entered one by one: what is left to judge behind those that were taken.
-use Rattle.std.specs.Prelude.{◌≡◌, ℕ, ◌+◌, ◌<◌, [], ◌∷◌, ◌++◌, length, take, drop, get_or, None, Result, Ok, Err, OnOk, is_err, false}
-use Rattle.std.proofs.Common.{sym, ◌∙◌, ap, append_assoc}
-use Rattle.std.proofs.lemmas.List.{map_more, drop_more}
-use Rattle.mm_read.specs.declared.stmt.Stmt.{Stmt}
-use Rattle.mm_read.specs.Statements.{Database}
-use Rattle.scope.specs.Active.{bare, bares}
-use Rattle.scope.specs.Legal.{broken_rule, first_broken}
+use Rattle.library.proofs.Words.{◌≡◌, ℕ, ◌+◌, ◌<◌, [], ◌∷◌, ◌++◌, length, take, drop, get_or, None, Result, Ok, Err, OnOk, is_err, false, sym, ◌∙◌, ap, append_assoc, map_more, drop_more, Stmt, Database, bare, bares, broken_rule, first_broken}
 use Rattle.library.proofs.JoinedRulesLemmas.{first_broken-taken}
 
 -- what a result says, once it is known to be one
@@ -21,7 +15,7 @@ pub kept-more : (cur old next S : Database) (i : ℕ) (s : Stmt) → i < length 
 kept-more cur old next S i s less is before after =
     after ∙ (ap (λ U. U ++ bare s ∷ []) before ∙ (append_assoc old (bares (take i S)) (bare s ∷ []) ∙ ap (λ U. old ++ U) (sym (taken-more S i s less is))))
 
-left-at : (cur S : Database) (i : ℕ) (s : Stmt) → i < length S → s ≡ get_or S i s → first_broken (i + 1) cur (drop i S) ≡ first_broken (i + 1) cur (s ∷ drop (i + 1) S)
+pub left-at : (cur S : Database) (i : ℕ) (s : Stmt) → i < length S → s ≡ get_or S i s → first_broken (i + 1) cur (drop i S) ≡ first_broken (i + 1) cur (s ∷ drop (i + 1) S)
 left-at cur S i s less is = ap (first_broken (i + 1) cur) (drop_more S i s less ∙ ap (λ r. r ∷ drop (i + 1) S) (sym is))
 
 pub left-more : (cur old next S : Database) (i : ℕ) (s : Stmt) → i < length S → s ≡ get_or S i s → None ≡ broken_rule cur s → next ≡ cur ++ bare s ∷ []

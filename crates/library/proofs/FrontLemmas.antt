@@ -1,17 +1,7 @@
 -- What is read of the first statements of a list stays so when others come behind.
-use Rattle.std.specs.Prelude.{◌≡◌, ℕ, zero, suc, ◌+◌, ◌-◌, ◌<◌, ◌≤◌, Bool, true, false, ◌&&◌, cond, nat_le, nat_lt, List, [], ◌∷◌, ◌++◌, length, map, filter, take, drop, get_or, Some, slice_get, refl}
-use Rattle.std.proofs.Common.{sym, ◌∙◌, ap, subst, arith, append_assoc, length-append}
-use Rattle.std.proofs.lemmas.Bool.Decides.{nat_tests}
-use Rattle.std.proofs.lemmas.List.{take-append-le, drop-append-le, length-drop, take-append-drop}
-use Rattle.std.proofs.lemmas.Option.{slice_get-get_or}
-use Rattle.mm_read.specs.declared.stmt.Stmt.{Stmt}
-use Rattle.mm_read.specs.declared.stmt.Stmt.TheVariants.{Open, Close, Const, Var, Disj, Float, Ess, Axiom, Prove}
-use Rattle.mm_read.specs.Statements.{Database}
-use Rattle.scope.specs.Active.{stmt_at, before, bare, is_active, stays_open, active_from}
-use Rattle.frame.specs.FrameOf.{hypotheses, is_hypothesis}
-use Rattle.frame.specs.Citations.{is_hypothesis_kind}
+use Rattle.library.proofs.Words.{◌≡◌, ℕ, zero, suc, ◌+◌, ◌-◌, ◌<◌, ◌≤◌, true, ◌&&◌, nat_le, nat_lt, List, [], ◌∷◌, ◌++◌, length, map, take, drop, get_or, Some, slice_get, refl, sym, ◌∙◌, ap, subst, arith, and_parts, nat_tests, take-append-le, drop-append-le, length-drop, take-append-drop, slice_get-get_or, Stmt, Prove, Database, stmt_at, before, bare, is_active, stays_open, hypotheses, is_hypothesis_kind, stands-within, stmt_stays}
 use Rattle.frame.proofs.AssertionLemmas.{hypothesis-kinds}
-use Rattle.verify_pool.proofs.JobsLemmas.{stmt_stays}
+use Rattle.frame.proofs.PlacedHypotheses.{IsHyp, AreHyps, hyps}
 
 pub get-front : {A : Type 0} (xs ys : List A) (n : ℕ) → n < length xs → slice_get (xs ++ ys) n ≡ slice_get xs n
 get-front [] ys n h = absurd (omega (arith, h))
@@ -38,45 +28,15 @@ between-front S T i j less within =
     ap (take (j - 1 - i)) (drop-append-le i S T (omega (arith, less, within)))
     ∙ take-append-le (j - 1 - i) (drop i S) T (omega (arith, less, within, l))
 
-below-of : (a b c : Bool) → (a && b && c) ≡ true → b ≡ true
-below-of true true c h = refl
-below-of true false c h = cc
-below-of false b c h = cc
-
 pub active-below : (S : Database) (i j : ℕ) → is_active S i j ≡ true → i < j
 active-below S i j h =
-    let b = below-of (nat_le 1 i) (nat_lt i j) (stays_open 0 (take (j - 1 - i) (drop i S))) h in
-    grind (arith, nat_tests)
+    let first = and_parts (nat_le 1 i && nat_lt i j) (stays_open 0 (take (j - 1 - i) (drop i S))) h in
+    let b = and_parts (nat_le 1 i) (nat_lt i j) first.0 in
+    grind (arith, nat_tests, b.1)
 
 pub active-later : (S T : Database) (i j : ℕ) → j ≤ length S → is_active S i j ≡ true → is_active (S ++ T) i j ≡ true
 active-later S T i j within h =
     ap (λ U. nat_le 1 i && nat_lt i j && stays_open 0 U) (between-front S T i j (active-below S i j h) within) ∙ h
-
--- none of the positions is above the number
-abbrev pub AreWithin : ℕ → List ℕ → Type 0
-AreWithin n [] = Unit {0}
-AreWithin n (p ∷ ps) = (p ≤ n) × AreWithin n ps
-
-pub map-within : {A : Type 0} (f g : ℕ → A) (n : ℕ) → ((i : ℕ) → i ≤ n → f i ≡ g i) → (ps : List ℕ) → AreWithin n ps → map f ps ≡ map g ps
-map-within f g n same [] within = refl
-map-within f g n same (p ∷ ps) within = ap (λ v. v ∷ map f ps) (same p within.0) ∙ ap (λ vs. g p ∷ vs) (map-within f g n same ps within.1)
-
-within-from : (S A : Database) (s : Stmt) (at n : ℕ) → at + length A ≤ n + 1 → AreWithin n (map (λ p. p.0) (filter (λ p. is_hypothesis S s p.1) (active_from at A)))
-within-from S [] s at n h = tt
-within-from S (t ∷ A) s at n h = by (within-from S A s (at + 1) n (omega (arith, h))) (stays_open 0 A)
-  where
-    by : AreWithin n (map (λ p. p.0) (filter (λ p. is_hypothesis S s p.1) (active_from (at + 1) A))) → (b : Bool)
-        → AreWithin n (map (λ p. p.0) (filter (λ p. is_hypothesis S s p.1) (cond b ((at, t) ∷ active_from (at + 1) A) (active_from (at + 1) A))))
-    by rest false = rest
-    by rest true = one (is_hypothesis S s t)
-      where
-        one : (b : Bool) → AreWithin n (map (λ p. p.0) (cond b ((at, t) ∷ filter (λ p. is_hypothesis S s p.1) (active_from (at + 1) A)) (filter (λ p. is_hypothesis S s p.1) (active_from (at + 1) A))))
-        one false = rest
-        one true = (omega (arith, h), rest)
-
--- mandatory hypotheses stand before their assertion
-pub hypotheses-within : (S : Database) (s : Stmt) (n : ℕ) → length S ≤ n → AreWithin n (hypotheses S s)
-hypotheses-within S s n h = within-from S S s 1 n (omega (arith, h))
 
 -- ---- mandatory hypotheses
 
@@ -90,39 +50,23 @@ abbrev pub AreHypothesesAt : Database → List ℕ → Type 0
 AreHypothesesAt S [] = Unit {0}
 AreHypothesesAt S (p ∷ ps) = IsHypothesisAt S p × AreHypothesesAt S ps
 
-abbrev OthersAt : Database → Database → Database → Stmt → ℕ → Type 0
-OthersAt S whole A s n = AreHypothesesAt whole (map (λ p. p.0) (filter (λ p. is_hypothesis S s p.1) (active_from n A)))
-
-stands-from : (S whole A : Database) (s : Stmt) (front : Database) → whole ≡ front ++ A
-    → AreHypothesesAt whole (map (λ p. p.0) (filter (λ p. is_hypothesis S s p.1) (active_from (1 + length front) A)))
-stands-from S whole [] s front same = tt
-stands-from S whole (t ∷ A) s front same = by (stands-from S whole A s (front ++ t ∷ []) (same ∙ sym (append_assoc front (t ∷ []) A))) (stays_open 0 A)
-  where
-    here : stmt_at whole (1 + length front) ≡ Some t
-    here = let e : 1 + length front ≡ suc (length front + 0) = omega arith in
-        ap (λ U. stmt_at U (1 + length front)) same ∙ (ap (stmt_at (front ++ t ∷ A)) e ∙ get-behind front (t ∷ A) 0)
-
-    by : OthersAt S whole A s (1 + length (front ++ t ∷ [])) → (b : Bool)
-        → AreHypothesesAt whole (map (λ p. p.0) (filter (λ p. is_hypothesis S s p.1) (cond b ((1 + length front, t) ∷ active_from (1 + length front + 1) A) (active_from (1 + length front + 1) A))))
-    by later = all
-      where
-        rest : OthersAt S whole A s (1 + length front + 1)
-        rest =
-            let l = length-append front (t ∷ []) in
-            let e : 1 + length (front ++ t ∷ []) ≡ 1 + length front + 1 = omega (arith, l) in
-            subst (OthersAt S whole A s) e later
-
-        all : (b : Bool) → AreHypothesesAt whole (map (λ p. p.0) (filter (λ p. is_hypothesis S s p.1) (cond b ((1 + length front, t) ∷ active_from (1 + length front + 1) A) (active_from (1 + length front + 1) A))))
-        all false = rest
-        all true = one (is_hypothesis S s t) refl
-          where
-            one : (b : Bool) → is_hypothesis S s t ≡ b
-                → AreHypothesesAt whole (map (λ p. p.0) (cond b ((1 + length front, t) ∷ filter (λ p. is_hypothesis S s p.1) (active_from (1 + length front + 1) A)) (filter (λ p. is_hypothesis S s p.1) (active_from (1 + length front + 1) A))))
-            one false e = rest
-            one true e = (record { stmt = t; stands = here; kind = hypothesis-kinds S s t e }, rest)
-
 pub hypotheses-stand : (S : Database) (s : Stmt) → AreHypothesesAt S (hypotheses S s)
-hypotheses-stand S s = stands-from S S S s [] refl
+hypotheses-stand S s = by (hypotheses S s) (hyps S s)
+  where
+    one : (p : ℕ) → IsHyp S s p → IsHypothesisAt S p
+    one p h =
+        let there : stmt_at S (suc (length h.front)) ≡ slice_get (h.front ++ h.stmt ∷ h.rest) (length h.front) = ap (λ U. slice_get U (length h.front)) h.whole in
+        let last : length h.front ≡ length h.front + 0 = omega arith in
+        record { stmt = h.stmt; stands = ap (stmt_at S) h.at ∙ (there ∙ (ap (slice_get (h.front ++ h.stmt ∷ h.rest)) last ∙ get-behind h.front (h.stmt ∷ h.rest) 0)); kind = hypothesis-kinds S s h.stmt h.is }
+
+    by : (ps : List ℕ) → AreHyps S s ps → AreHypothesesAt S ps
+    by [] h = tt
+    by (p ∷ ps) h = (one p h.0, by ps h.1)
+
+-- what is the same of each position of a list is the same of each hypothesis
+pub map-stand : {A : Type 0} (S : Database) (f g : ℕ → A) → ((i : ℕ) → i ≤ length S → f i ≡ g i) → (ps : List ℕ) → AreHypothesesAt S ps → map f ps ≡ map g ps
+map-stand S f g same [] h = refl
+map-stand S f g same (p ∷ ps) h = ap (λ v. v ∷ map f ps) (same p (stands-within S p h.0.stmt h.0.stands).1) ∙ ap (λ vs. g p ∷ vs) (map-stand S f g same ps h.1)
 
 pub hypotheses-later : (S T : Database) (ps : List ℕ) → AreHypothesesAt S ps → AreHypothesesAt (S ++ T) ps
 hypotheses-later S T [] h = tt
@@ -141,26 +85,12 @@ one-hypothesis S (q ∷ ps) (suc k) p d h less e = one-hypothesis S ps k p d h.1
 -- ---- statements without their proofs
 
 pub hypotheses-bare : (S : Database) (s : Stmt) → hypotheses S (bare s) ≡ hypotheses S s
-hypotheses-bare S Open = refl
-hypotheses-bare S Close = refl
-hypotheses-bare S (Const names) = refl
-hypotheses-bare S (Var names) = refl
-hypotheses-bare S (Disj names) = refl
-hypotheses-bare S (Float label constant variable) = refl
-hypotheses-bare S (Ess label expr) = refl
-hypotheses-bare S (Axiom label expr) = refl
 hypotheses-bare S (Prove label expr proof) = refl
+hypotheses-bare S s = refl
 
 pub kind-bare : (s : Stmt) → is_hypothesis_kind (bare s) ≡ is_hypothesis_kind s
-kind-bare Open = refl
-kind-bare Close = refl
-kind-bare (Const names) = refl
-kind-bare (Var names) = refl
-kind-bare (Disj names) = refl
-kind-bare (Float label constant variable) = refl
-kind-bare (Ess label expr) = refl
-kind-bare (Axiom label expr) = refl
 kind-bare (Prove label expr proof) = refl
+kind-bare s = refl
 
 -- the statement at an index
 pub stands-index : (S : Database) (at : ℕ) (s : Stmt) → 1 ≤ at → at ≤ length S → s ≡ get_or S (at - 1) s → stmt_at S at ≡ Some s

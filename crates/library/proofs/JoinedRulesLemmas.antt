@@ -1,13 +1,6 @@
 -- The rules over two lists, one behind the other.
-use Rattle.std.specs.Prelude.{◌≡◌, ℕ, zero, suc, ◌+◌, ◌-◌, [], ◌∷◌, ◌++◌, map, take, slice_get, Option, Some, None, refl}
-use Rattle.std.proofs.Common.{sym, ◌∙◌, ap, subst, arith, append_assoc, append-nil}
-use Rattle.std.proofs.lemmas.List.{map-append}
-use Rattle.mm_read.specs.declared.stmt.Stmt.{Stmt}
-use Rattle.mm_read.specs.declared.stmt.Stmt.TheVariants.{Open, Close, Const, Var, Disj, Float, Ess, Axiom, Prove}
-use Rattle.mm_read.specs.Statements.{Database}
+use Rattle.library.proofs.Words.{◌≡◌, ℕ, zero, suc, ◌+◌, ◌-◌, [], ◌∷◌, ◌++◌, map, take, slice_get, Option, Some, None, refl, sym, ◌∙◌, ap, subst, arith, append_assoc, append-nil, map-append, Stmt, Prove, Database, bare, bares, before, stmt_at, broken_rule, end_rule, first_broken, or_later, numbered, AllLegal, IsLegal}
 use Rattle.scope.specs.declared.rule.Rule.{Rule}
-use Rattle.scope.specs.Active.{bare, bares, before, stmt_at}
-use Rattle.scope.specs.Legal.{broken_rule, end_rule, first_broken, or_later, numbered, AllLegal, IsLegal}
 use Rattle.scope.proofs.BareLemmas.{broken_rule-bares, end_rule-bares}
 
 -- each of the statements keeps the rules behind those before it
@@ -78,15 +71,8 @@ first_broken-bares at S U (s ∷ T) same =
     ∙ ap (or_later at (broken_rule U s)) (first_broken-bares (at + 1) (S ++ s ∷ []) (U ++ s ∷ []) T (map-append bare S (s ∷ []) ∙ (ap (λ V. V ++ bare s ∷ []) same ∙ sym (map-append bare U (s ∷ [])))))
 
 pub bare-bare : (s : Stmt) → bare (bare s) ≡ bare s
-bare-bare Open = refl
-bare-bare Close = refl
-bare-bare (Const names) = refl
-bare-bare (Var names) = refl
-bare-bare (Disj names) = refl
-bare-bare (Float label constant variable) = refl
-bare-bare (Ess label expr) = refl
-bare-bare (Axiom label expr) = refl
 bare-bare (Prove label expr proof) = refl
+bare-bare s = refl
 
 -- one legal statement taken, the others decide
 pub first_broken-taken : (at : ℕ) (S : Database) (s : Stmt) (T : Database) → IsLegal S s → first_broken at S (s ∷ T) ≡ first_broken (at + 1) (S ++ bare s ∷ []) T

@@ -1,3 +1,4 @@
+pub mod Words
 pub mod UnprovedLemmas
 pub mod AskedLemmas
 pub mod TraceLemmas
@@ -7,7 +8,6 @@ pub mod MayCiteLemmas
 pub mod UseMarkLemmas
 pub mod MeetingLemmas
 pub mod FrontLemmas
-pub mod LaterLemmas
 pub mod GoodLemmas
 pub mod JoinedRulesLemmas
 pub mod CausesLemmas
@@ -17,8 +17,5 @@ pub mod EnteringLemmas
 pub mod WrittenItemsLemmas
 pub mod ProvingLemmas
 pub mod BaseLemmas
-pub mod ReadTextLemmas
-pub mod JudgedStep
-pub mod ListedLemmas
 mod PlainLibraryLemmas
 mod Rows

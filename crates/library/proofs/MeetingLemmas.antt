@@ -1,36 +1,14 @@
 -- Whether a compressed proof cites what is marked, from its numbers and from a test of each of its labels.
-use Rattle.std.specs.Prelude.{◌≡◌, ◌↔◌, ℕ, zero, suc, ◌+◌, ◌-◌, ◌<◌, ◌≤◌, nat_lt, cond, Bool, true, false, ◌||◌, if◌then◌else◌, List, [], ◌∷◌, ◌++◌, length, map, get_or, slice_index_or, take, drop, Option, Some, None, option_map, slice_get, refl}
-use Rattle.std.specs.List.{list_any}
-use Rattle.std.proofs.Common.{true≢false, length-append, sym, ◌∙◌, ap, subst, arith, append_assoc, inl, inr}
-use Rattle.std.proofs.lemmas.Bool.Decides.{nat_tests}
-use Rattle.std.proofs.lemmas.Option.{slice_get-map}
-use Rattle.std.proofs.lemmas.Slice.Eq.{bytes_eq-Decides}
-use Rattle.std.proofs.lemmas.List.{map-append, length-map, length-drop, take_more, drop_more, get_or_append_left}
-use Rattle.std.proofs.lemmas.Bool.{both_ways}
-use Rattle.std.proofs.Math.Seq.{take-append_seam}
-use Rattle.mm_lex.specs.Alphabet.{Name, name_eq, has_name}
-use Rattle.mm_read.specs.declared.stmt.Stmt.{Stmt}
-use Rattle.mm_read.specs.Statements.{Database}
-use Rattle.scope.specs.Active.{bare, bares, before, stmt_at, proof_of}
-use Rattle.frame.specs.FrameOf.{hypotheses}
-use Rattle.frame.specs.AtPosition.{HasLabelsOnce, IsPosition}
-use Rattle.proof_code.specs.declared.item.Item.{Item}
-use Rattle.proof_code.specs.declared.item.Item.TheVariants.{Cite, Recall}
-use Rattle.proof_code.specs.ItemNumbers.{item_of, items_of}
+use Rattle.library.proofs.Words.{◌≡◌, ◌↔◌, ℕ, zero, suc, ◌+◌, ◌-◌, ◌<◌, ◌≤◌, Bool, true, false, ◌||◌, if◌then◌else◌, List, [], ◌∷◌, ◌++◌, length, map, get_or, slice_index_or, take, drop, Option, Some, None, option_map, slice_get, refl, list_any, true≢false, length-append, sym, ◌∙◌, ap, subst, arith, append_assoc, inl, inr, slice_get-map, bytes_eq-Decides, map-append, length-map, length-drop, take_more, drop_more, get_or_append_left, both_ways, true_from_ne_false, cases_lt, take-append_seam}
+use Rattle.library.proofs.Words.{Name, name_eq, has_name, Stmt, Database, bare, bares, before, stmt_at, proof_of, hypotheses, HasLabelsOnce, IsPosition, Item, Cite, Recall, item_of, items_of, finish, Writes, WritesCompressed, WritesPacked, WritesPlain, is_compressed, label_or_none, mandatory_labels, IsProvable, Good, HasItems, is_marked, place_of, AreWanted, ItemsMeet, ProofMeets, listed_in, ListsNone, ListsSome}
+use Rattle.std.proofs.Math.ListN.{get_or-map}
 use Rattle.proof_code.specs.Reading.{IsHeading, share_label}
-use Rattle.proof_code.specs.Writes.{finish, Writes, WritesCompressed, WritesPacked, WritesPlain, is_compressed}
-use Rattle.verify.specs.Proves.{label_or_none, mandatory_labels}
-use Rattle.verify.specs.Right.{IsProvable}
-use Rattle.library.specs.Good.{Good, IsProved}
-use Rattle.library.specs.UseMarks.{is_marked, place_of, AreWanted, ItemsMeet, ProofMeets, TellsMeeting, listed_in, ListsNone, ListsSome}
 use Rattle.library.proofs.FrontLemmas.{AreHypothesesAt, hypotheses-at}
-use Rattle.library.proofs.WrittenItemsLemmas.{stands-bare}
 use Rattle.frame.proofs.PositionLemmas.{positions-end}
-use Rattle.library.proofs.UseMarkLemmas.{meets-items}
+use Rattle.library.proofs.UseMarkLemmas.{meets-items, cite-within, recall-past}
 use Rattle.library.proofs.MayCiteLemmas.{kind-labelled, cited-label}
-use Rattle.library.proofs.ProvingLemmas.{same-statement, labels-bare}
+use Rattle.library.proofs.ProvingLemmas.{has-items, written-of, labels-bare}
 use Rattle.library.proofs.UsersLemmas.{proof-meets}
-use Rattle.library.proofs.CitationWalkLemmas.{has-items}
 
 -- ---- the tests of labels
 
@@ -95,14 +73,9 @@ module _ (S : Database) (marks : List Bool) where
 
 -- ---- what the numbers cite
 
-test-at : (marks : List Bool) (places : List (Option ℕ)) (n : ℕ) → get_or (map (is_marked marks) places) n false ≡ is_marked marks (get_or places n None)
-test-at marks [] n = refl
-test-at marks (o ∷ places) zero = refl
-test-at marks (o ∷ places) (suc n) = test-at marks places n
-
 number-tested : (marks wanted : List Bool) (places : List (Option ℕ)) → wanted ≡ map (is_marked marks) places → (n : ℕ) → is_marked wanted (Some n) ≡ is_marked marks (place_of places n)
 number-tested marks wanted places tests zero = refl
-number-tested marks wanted places tests (suc n) = ap (λ bs. get_or bs n false) tests ∙ test-at marks places n
+number-tested marks wanted places tests (suc n) = ap (λ bs. get_or bs n false) tests ∙ get_or-map (is_marked marks) places n None
 
 any-same : (f g : ℕ → Bool) → ((n : ℕ) → f n ≡ g n) → (ns : List ℕ) → list_any f ns ≡ list_any g ns
 any-same f g same [] = refl
@@ -117,17 +90,12 @@ tested-meets S labels marks wanted numbers found once w is =
 -- what a number cites, it cites where more labels stand behind
 item-front : (labels rest : List Name) (n : ℕ) (label : Name) → item_of labels n ≡ Cite label → item_of (labels ++ rest) n ≡ Cite label
 item-front labels rest zero label e = absurd (let f = e in cc)
-item-front labels rest (suc n) label e = by (nat_lt n (length labels)) refl
-  where
-    by : (b : Bool) → nat_lt n (length labels) ≡ b → item_of (labels ++ rest) (suc n) ≡ Cite label
-    by true q =
-        let less : n < length labels = grind (arith, q) in
-        let l = length-append labels rest in
-        let further : nat_lt n (length (labels ++ rest)) ≡ true = grind (arith, nat_tests) in
-        ap (λ b. cond b (Cite (get_or (labels ++ rest) n [])) (Recall (suc (n - length (labels ++ rest))))) further
-        ∙ (ap Cite (get_or_append_left labels rest [] n less)
-        ∙ (sym (ap (λ b. cond b (Cite (get_or labels n [])) (Recall (suc (n - length labels)))) q) ∙ e))
-    by false q = absurd (let f : Recall (suc (n - length labels)) ≡ Cite label = sym (ap (λ b. cond b (Cite (get_or labels n [])) (Recall (suc (n - length labels)))) q) ∙ e in cc)
+item-front labels rest (suc n) label e = elim (cases_lt n (length labels)) [
+  | inl less ↦ (
+      let l = length-append labels rest in
+      cite-within (labels ++ rest) n (omega (arith, less, l)) ∙ (ap Cite (get_or_append_left labels rest [] n less) ∙ (sym (cite-within labels n less) ∙ e)))
+  | inr more ↦ absurd (let f : Recall (suc (n - length labels)) ≡ Cite label = sym (recall-past labels n more) ∙ e in cc)
+]
 
 front-meets : (S : Database) (labels rest : List Name) (marks : List Bool) (numbers : List ℕ) → ItemsMeet S (items_of labels numbers) marks → ItemsMeet S (items_of (labels ++ rest) numbers) marks
 front-meets S labels rest marks numbers m =
@@ -163,6 +131,11 @@ late-meets S marks words left n count old wanted numbers found tested same once 
     (tested-meets S (front ++ take n words) marks wanted numbers found once (tested.tests front w) any)
 
 -- ---- what a heading lists
+
+-- where the tokens of a compressed proof write items under these labels, it was found whether one cites a statement that is marked
+abbrev pub TellsMeeting : Database → List Name → List Name → List Bool → Bool → Type 0
+TellsMeeting S mandatory tokens marks found =
+    (other : List Item) → WritesCompressed tokens mandatory other → (items : List Item) × WritesCompressed tokens mandatory items × (found ≡ true ↔ ItemsMeet S items marks)
 
 module _ (tokens words : List Name) (mandatory count : ℕ) (numbers : List ℕ) (h : IsHeading tokens mandatory words count numbers) where
   listed-is : take count words ≡ h.listed
@@ -228,41 +201,32 @@ module _ (F : Database) (tokens : List Name) (items : List Item) (marks : List B
 -- ---- the `$p` of good statements
 
 module _ (S F : Database) (same : F ≡ bares S) (good : Good S) (at : ℕ) (s : Stmt) (tokens : List Name) (provable : IsProvable S at s) (e : proof_of s ≡ tokens) (marks : List Bool) where
-  written-here : (p : IsProved S at) → Writes tokens (mandatory_labels (bares S) at s) p.items
-  written-here p =
-      subst (λ t. Writes t (mandatory_labels (bares S) at s) p.items) e
-      (subst (λ r. Writes (proof_of r) (mandatory_labels (bares S) at r) p.items) (sym (same-statement S at s p.stmt provable p.provable)) p.written)
+  -- its proof, by its items
+  good-items : (items : List Item) × HasItems S at items
+  good-items = let p = good.proved at s provable in (p.items, record { stmt = p.stmt; provable = p.provable; written = p.written })
 
-  packed-here : (items : List Item) → is_compressed tokens ≡ true → Writes tokens (mandatory_labels (bares S) at s) items → WritesPacked tokens (mandatory_labels (bares S) at s) items
-  packed-here items compressed written = elim written [ inl packed ↦ packed.1 | inr plain ↦ absurd (both_ways (is_compressed tokens) plain.0 compressed) ]
-
-  pub told-meets : is_compressed tokens ≡ true → (found : Bool) → ((r : Stmt) → stmt_at F at ≡ Some r → TellsMeeting F (mandatory_labels F at r) tokens marks found) → found ≡ true ↔ ProofMeets S at marks
+  pub told-meets : is_compressed tokens ≡ true → (found : Bool) → TellsMeeting F (mandatory_labels F at (bare s)) tokens marks found → found ≡ true ↔ ProofMeets S at marks
   told-meets compressed found told =
-      let p = good.proved at s provable in
-      let written = written-here p in
+      let one = good-items in
       let labels = mandatory_labels (bares S) at s in
-      let packed = packed-here p.items compressed written in
-      let tells : TellsMeeting F labels tokens marks found =
-      subst (λ ls. TellsMeeting F ls tokens marks found) (labels-bare S F at s same provable (bare s) refl) (told (bare s) (stands-bare S F at s same provable)) in
-      let m = tells p.items packed.1 in
-      let has = has-items S at s tokens m.0 provable e (inl (compressed, (packed.0, m.1))) in
-      let meets = proof-meets S F same at marks m.0 has in
+      let tells : TellsMeeting F labels tokens marks found = subst (λ ls. TellsMeeting F ls tokens marks found) (labels-bare S F at s same provable (bare s) refl) told in
+      let packed = packed-of labels one.0 (written-of S at s tokens provable e one.0 one.1) in
+      let m = tells one.0 packed.1 in
+      let meets = proof-meets S F same at marks m.0 (has-items S at s tokens provable e m.0 (inl (compressed, (packed.0, m.1)))) in
       ((λ f. meets.0 (m.2.0 f)), λ q. m.2.1 (meets.1 q))
-
-  plain-here : (items : List Item) → is_compressed tokens ≡ false → Writes tokens (mandatory_labels (bares S) at s) items → WritesPlain tokens items
-  plain-here items plain written = elim written [ inl packed ↦ absurd (both_ways (is_compressed tokens) plain packed.0) | inr w ↦ w.1 ]
+    where
+      packed-of : (labels : List Name) (items : List Item) → Writes tokens labels items → WritesPacked tokens labels items
+      packed-of labels items written = elim written [ inl packed ↦ packed.1 | inr plain ↦ absurd (both_ways (is_compressed tokens) plain.0 compressed) ]
 
   -- what the tokens of a normal proof list is what it cites
   pub listed-meets : is_compressed tokens ≡ false → (found : Bool) → (found ≡ false → ListsNone F tokens marks) → (found ≡ true → ListsSome F tokens marks) → found ≡ true ↔ ProofMeets S at marks
   listed-meets plain found none some =
-      let p = good.proved at s provable in
-      let written = written-here p in
-      let meets = proof-meets S F same at marks p.items (has-items S at s tokens p.items provable e written) in
-      let w = plain-here p.items plain written in (
-        (λ f. meets.0 (some-cited F tokens p.items marks w (some f))),
-        λ q. by found refl (none-cited F tokens p.items marks plain w (meets.1 q)) none,
+      let one = good-items in
+      let meets = proof-meets S F same at marks one.0 one.1 in
+      let w = plain-of (mandatory_labels (bares S) at s) one.0 (written-of S at s tokens provable e one.0 one.1) in (
+        (λ f. meets.0 (some-cited F tokens one.0 marks w (some f))),
+        λ q. true_from_ne_false found (λ f. none-cited F tokens one.0 marks plain w (meets.1 q) (none f)),
       )
     where
-      by : (b : Bool) → found ≡ b → (ListsNone F tokens marks → ⊥) → (found ≡ false → ListsNone F tokens marks) → found ≡ true
-      by true f not none = f
-      by false f not none = absurd (not (none f))
+      plain-of : (labels : List Name) (items : List Item) → Writes tokens labels items → WritesPlain tokens items
+      plain-of labels items written = elim written [ inl packed ↦ absurd (both_ways (is_compressed tokens) plain packed.0) | inr w ↦ w.1 ]

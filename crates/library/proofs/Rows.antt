@@ -1,26 +1,8 @@
 -- Verdicts, worked out.
-use Rattle.std.specs.Prelude.{◌≡◌, ℕ, zero, suc, ◌+◌, ◌<◌, Bool, true, false, List, [], ◌∷◌, ◌++◌, codes, refl, length, Option, Some, None}
-use Rattle.std.specs.List.{list_all}
-use Rattle.std.proofs.Common.{true≢false, sym, ◌∙◌, ap, arith, inl, inr, lit≤, append-nil}
-use Rattle.mm_lex.specs.Alphabet.{Name, is_allowed, runs, word}
+use Rattle.library.proofs.Words.{◌≡◌, ℕ, zero, suc, ◌+◌, ◌<◌, Bool, true, false, List, [], ◌∷◌, ◌++◌, codes, refl, length, Option, Some, None, list_all, true≢false, sym, ◌∙◌, ap, arith, inl, inr, lit≤, append-nil}
+use Rattle.library.proofs.Words.{Name, is_allowed, runs, word, Stmt, Const, Var, Axiom, Prove, Database, AreShaped, spelled, Reads, proof_of, is_provable, G4, Writes, is_unfinished, IsProvable, Submission, Text, Charter, Rule, Unfinished, NotChartered, Added, Nothing, Repeat, Refused, is_rising, forbidden, IsProved, IsCause, Replica, empty, Applies}
 use Rattle.mm_lex.specs.Tokens.{is_plain, words}
-use Rattle.mm_read.specs.declared.stmt.Stmt.{Stmt}
-use Rattle.mm_read.specs.declared.stmt.Stmt.TheVariants.{Const, Var, Axiom, Prove}
-use Rattle.mm_read.specs.Statements.{Database, AreShaped, spelled}
-use Rattle.mm_read.specs.Reads.{Reads}
-use Rattle.scope.specs.Active.{proof_of, is_provable}
-use Rattle.scope.specs.declared.rule.Rule.TheVariants.{G4}
 use Rattle.scope.proofs.Databases.{w}
-use Rattle.proof_code.specs.Writes.{Writes, is_unfinished}
-use Rattle.verify.specs.Right.{IsProvable}
-use Rattle.library.specs.declared.submission.Submission.{Submission}
-use Rattle.library.specs.declared.entry.Entry.TheVariants.{Text, Charter}
-use Rattle.library.specs.declared.verdict.Cause.TheVariants.{Rule, Unfinished, NotChartered}
-use Rattle.library.specs.declared.verdict.Verdict.TheVariants.{Added, Nothing, Repeat, Refused}
-use Rattle.library.specs.Charters.{is_rising, forbidden}
-use Rattle.library.specs.Good.{IsProved}
-use Rattle.library.specs.Causes.{IsCause}
-use Rattle.library.specs.LibraryOf.{Replica, empty, Applies}
 use Rattle.library.proofs.LibraryLemmas.{good-empty}
 
 -- a text without comments
@@ -72,14 +54,9 @@ not_proved p = true≢false (ap is_doubted p.provable.stands ∙ writes_finished
 -- it is refused as unfinished, by its number in the text
 unfinished : IsCause [] None (by_author 7 (codes "$c |- o $. th $p |- o $= ? $.")) (Unfinished 2)
 unfinished = (
-  Prove (codes "th") (w (codes "|- o")) (w (codes "?")),
-  record {
-    statements = doubted;
-    allowed = record { readable = record { short = lit≤ tt; read = plain_reads _ doubted refl refl refl refl }; allowed = refl };
-    legal = refl;
-    fails = record { here = record { stands = refl; provable = refl }; unproved = not_proved; earlier = earlier };
-  },
-  refl,
+  doubted,
+  record { readable = record { short = lit≤ tt; read = plain_reads _ doubted refl refl refl refl }; allowed = refl },
+  (Prove (codes "th") (w (codes "|- o")) (w (codes "?")), refl, record { here = record { stands = refl; provable = refl }; unproved = not_proved; earlier = earlier }, refl),
 )
   where
     earlier : (m : ℕ) (r : Stmt) → m < 2 → IsProvable doubted m r → IsProved ([] ++ doubted) (length {A = Stmt} [] + m)

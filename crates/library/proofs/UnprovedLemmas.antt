@@ -1,14 +1,6 @@
 -- The positions of the `$p` behind the first statements, and what their least that is not right says of all statements.
-use Rattle.std.specs.Prelude.{◌≡◌, ◌⊎◌, ℕ, zero, suc, ◌+◌, ◌<◌, ◌≤◌, Bool, true, false, nat_lt, List, [], ◌∷◌, ◌++◌, length, get_or, Option, Some, None, slice_get, refl}
-use Rattle.std.proofs.Common.{sym, ◌∙◌, subst, arith, inl, inr}
-use Rattle.std.proofs.lemmas.Bool.{cases_eq}
-use Rattle.mm_read.specs.declared.stmt.Stmt.{Stmt}
-use Rattle.mm_read.specs.Statements.{Database}
-use Rattle.scope.specs.Active.{stmt_at, is_provable}
-use Rattle.verify.specs.Right.{IsProvable}
+use Rattle.library.proofs.Words.{◌≡◌, ℕ, zero, suc, ◌+◌, ◌<◌, ◌≤◌, List, [], ◌∷◌, ◌++◌, length, get_or, Option, Some, None, slice_get, sym, subst, arith, inl, inr, cases_eq, cases_order, Stmt, Database, stmt_at, is_provable, IsProvable, IsRightProof, AreProofs, AreBehind, StandsProved, IsLeastUnproved}
 use Rattle.verify_pool.specs.Least.{IsLeast}
-use Rattle.library.specs.Unproved.{IsRightProof, AreProofs, AreBehind}
-use Rattle.library.specs.Judging.{StandsProved, IsLeastUnproved}
 
 -- ---- one more statement
 
@@ -33,16 +25,6 @@ behind-more S front end [] h none = (
 )
 behind-more S front end (at ∷ ps) h are = let l = are.1 in (are.0, omega (arith, l), are.2, behind-more S at end ps l are.3)
 
--- within a list no default is read
-pub get-same : (ps : List ℕ) (i at d : ℕ) → i < length ps → at ≡ get_or ps i d → at ≡ get_or ps i 0
-get-same [] i at d less is = absurd (omega (arith, less))
-get-same (p ∷ ps) zero at d less is = is
-get-same (p ∷ ps) (suc i) at d less is = get-same ps i at d (omega (arith, less)) is
-
--- where no `$p` was found
-pub no-proof : (S : Database) (at : ℕ) (found : Bool) → ((s : Stmt) → stmt_at S at ≡ Some s → found ≡ is_provable s) → found ≡ false → (s : Stmt) → IsProvable S at s → ⊥
-no-proof S at found told not s p = absurd (let e : false ≡ true = sym not ∙ (told s p.stands ∙ p.provable) in cc)
-
 -- ---- all positions
 
 placed-behind : (S : Database) (front end : ℕ) (ps : List ℕ) → AreBehind S front end ps → (k at : ℕ) → slice_get ps k ≡ Some at → (front < at) × (at ≤ end)
@@ -60,14 +42,6 @@ are-proofs S F front ps same are = record {
   placed = λ k at e. let w = placed-behind S front (length S) ps are k at e in let low = w.0 in (omega (arith, low), w.1);
 }
 
--- a position before the other, at it or behind it
-where-at : (at here : ℕ) → (at < here) ⊎ ((at ≡ here) ⊎ (here < at))
-where-at at here = elim (cases_eq at here) [ inl e ↦ inr (inl e) | inr apart ↦ by apart (nat_lt at here) refl ]
-  where
-    by : (at ≡ here → ⊥) → (b : Bool) → nat_lt at here ≡ b → (at < here) ⊎ ((at ≡ here) ⊎ (here < at))
-    by apart true q = inl (grind (arith, q))
-    by apart false q = let le : here ≤ at = grind (arith, q) in inr (inr (omega (arith, le, apart)))
-
 module _ (S : Database) where
   -- the first so many are proved
   abbrev pub FrontProved : ℕ → List ℕ → Type 0
@@ -80,10 +54,10 @@ module _ (S : Database) where
   all-proved : (front end : ℕ) (ps : List ℕ) → AreBehind S front end ps → FrontProved (length ps) ps → (at : ℕ) → front < at → at ≤ end → StandsProved S at
   all-proved front end [] are right at above below = λ s p. absurd (are at s above below p)
   all-proved front end (first ∷ ps) are right at above below =
-      elim (where-at at first) [
-        | inl less ↦ (λ s p. absurd (are.2 at s above less p))
+      elim (cases_order at first) [
+        | inl e ↦ subst (StandsProved S) (sym e) (right 0 (omega arith))
         | inr other ↦ elim other [
-          | inl e ↦ subst (StandsProved S) (sym e) (right 0 (omega arith))
+          | inl less ↦ (λ s p. absurd (are.2 at s above less p))
           | inr more ↦ all-proved first end ps are.3 (λ k less. right (suc k) (omega (arith, less))) at more below
         ]
       ]
@@ -98,10 +72,10 @@ module _ (S : Database) where
         omega (arith, low, above),
         r.1,
         r.2,
-        (λ m over below. elim (where-at m first) [
-          | inl before ↦ (λ s p. absurd (are.2 m s over before p))
+        (λ m over below. elim (cases_order m first) [
+          | inl q ↦ subst (StandsProved S) (sym q) (right 0 (omega arith))
           | inr other ↦ elim other [
-            | inl q ↦ subst (StandsProved S) (sym q) (right 0 (omega arith))
+            | inl before ↦ (λ s p. absurd (are.2 m s over before p))
             | inr more ↦ r.3 m more below
           ]
         ]),

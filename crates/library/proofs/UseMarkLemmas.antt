@@ -1,20 +1,6 @@
 -- The positions of labels, and the marks of what items cite.
-use Rattle.std.specs.Prelude.{◌≡◌, ◌↔◌, ◌||◌, ◌⊎◌, ℕ, zero, suc, ◌-◌, ◌<◌, ◌≤◌, Bool, true, false, cond, nat_lt, List, [], ◌∷◌, length, get_or, slice_set, Option, Some, None, slice_get, refl}
-use Rattle.std.specs.List.{list_any}
-use Rattle.std.proofs.Common.{sym, ◌∙◌, ap, subst, arith, inl, inr}
-use Rattle.std.proofs.lemmas.Bool.{cases_eq, or_right}
-use Rattle.std.proofs.lemmas.Bool.Decides.{nat_tests}
-use Rattle.std.proofs.lemmas.List.{length-set, get_or-set_same, get_or-set_other, get_or_past}
-use Rattle.mm_lex.specs.Alphabet.{Name}
-use Rattle.mm_read.specs.declared.stmt.Stmt.{Stmt}
-use Rattle.mm_read.specs.Statements.{Database}
-use Rattle.frame.specs.Citations.{Carries}
-use Rattle.frame.specs.AtPosition.{IsPosition, ArePositions, HasLabelsOnce}
-use Rattle.proof_code.specs.declared.item.Item.{Item}
-use Rattle.proof_code.specs.declared.item.Item.TheVariants.{Cite, Recall}
-use Rattle.proof_code.specs.ItemNumbers.{item_of, items_of}
-use Rattle.library.specs.UseMarks.{IsMarked, is_marked, mark, place_of, mark_items, ItemsCite, ItemsMeet, MarksItems}
-use Rattle.scope.proofs.StatementPlaces.{stands-within}
+use Rattle.library.proofs.Words.{◌≡◌, ◌↔◌, ◌||◌, ◌⊎◌, ℕ, zero, suc, ◌-◌, ◌<◌, ◌≤◌, Bool, true, false, cond, nat_lt, List, [], ◌∷◌, ◌++◌, length, map, replicate, get_or, slice_set, Option, Some, None, option_map, slice_get, refl, list_any, sym, ◌∙◌, ap, subst, arith, inl, inr, cases_eq, cases_lt, nat_tests, any_passes_from_place, slice_get-map, length-set, length-replicate, get_or-set_same, get_or-set_other, get_or_past}
+use Rattle.library.proofs.Words.{Name, Stmt, Database, Carries, IsPosition, ArePositions, HasLabelsOnce, Item, Cite, Recall, item_of, items_of, IsMarked, is_marked, mark, place_of, mark_items, ItemsMeet, Marks, ItemsCite, stands-within, no-mark}
 
 -- ---- one mark
 
@@ -24,38 +10,88 @@ mark-within (m ∷ ms) zero h = omega arith
 mark-within (m ∷ ms) (suc k) h = let w = mark-within ms k h in omega (arith, w)
 
 pub marked-within : (ms : List Bool) (a : ℕ) → IsMarked ms a → (1 ≤ a) × (a ≤ length ms)
-marked-within ms zero h = absurd h
+marked-within ms zero h = absurd (let e = h in cc)
 marked-within ms (suc k) h = let w = mark-within ms k h in (omega arith, omega (arith, w))
 
-pub marked-is : (marks : List Bool) (a : ℕ) → IsMarked marks a → is_marked marks (Some a) ≡ true
-marked-is marks zero h = absurd h
-marked-is marks (suc k) h = h
-
 pub mark-count : (o : Option ℕ) (ms : List Bool) → length (mark o ms) ≡ length ms
-mark-count None ms = refl
-mark-count (Some zero) ms = refl
 mark-count (Some (suc k)) ms = length-set ms k true
+mark-count o ms = refl
 
 set-true : (ms : List Bool) (n k : ℕ) → n ≡ k → k < length ms → get_or (slice_set ms k true) n false ≡ true
 set-true ms n k e h = ap (λ i. get_or (slice_set ms k true) i false) e ∙ get_or-set_same ms k true false h
 
 pub mark-kept : (o : Option ℕ) (ms : List Bool) (a : ℕ) → IsMarked ms a → IsMarked (mark o ms) a
-mark-kept None ms a h = h
-mark-kept (Some zero) ms a h = h
-mark-kept (Some (suc k)) ms zero h = h
 mark-kept (Some (suc k)) ms (suc n) h = elim (cases_eq n k) [ inl e ↦ set-true ms n k e (subst (λ i. i < length ms) e (mark-within ms n h)) | inr apart ↦ get_or-set_other ms k n true false apart ∙ h ]
+mark-kept o ms a h = h
 
 pub mark-sound : (o : Option ℕ) (ms : List Bool) (a : ℕ) → IsMarked (mark o ms) a → IsMarked ms a ⊎ (o ≡ Some a)
-mark-sound None ms a h = inl h
-mark-sound (Some zero) ms a h = inl h
-mark-sound (Some (suc k)) ms zero h = inl h
 mark-sound (Some (suc k)) ms (suc n) h = elim (cases_eq n k) [ inl e ↦ inr (ap (λ i. Some (suc i)) (sym e)) | inr apart ↦ inl (sym (get_or-set_other ms k n true false apart) ∙ h) ]
+mark-sound o ms a h = inl h
 
 pub mark-whole : (ms : List Bool) (a : ℕ) → 1 ≤ a → a ≤ length ms → IsMarked (mark (Some a) ms) a
 mark-whole ms zero h w = absurd (omega (arith, h))
 mark-whole ms (suc k) h w = get_or-set_same ms k true false (omega (arith, w))
 
+-- where one place alone was marked
+pub one-marked : (n a : ℕ) (ms : List Bool) → 1 ≤ a → a ≤ n → ms ≡ slice_set (replicate n false) (a - 1) true → (length ms ≡ n) × ((b : ℕ) → IsMarked ms b ↔ (b ≡ a))
+one-marked n zero ms h w is = absurd (omega (arith, h))
+one-marked n (suc k) ms h w is = (ap length same ∙ (mark-count (Some (suc k)) none ∙ length-replicate n false), λ b. (to b, from b))
+  where
+    none : List Bool
+    none = replicate n false
+
+    same : ms ≡ mark (Some (suc k)) none
+    same = is ∙ ap (λ i. slice_set none i true) (let e : suc k - 1 ≡ k = omega arith in e)
+
+    unmarked : (b : ℕ) → IsMarked none b → ⊥
+    unmarked zero m = let f = m in cc
+    unmarked (suc i) m = let f : false ≡ true = sym (no-mark n i) ∙ m in absurd (cc)
+
+    to : (b : ℕ) → IsMarked ms b → b ≡ suc k
+    to b m = elim (mark-sound (Some (suc k)) none b (subst (λ marks. IsMarked marks b) same m)) [
+      | inl before ↦ absurd (unmarked b before)
+      | inr here ↦ (let e : suc k ≡ b = (let f = here in cc) in sym e)
+    ]
+
+    from : (b : ℕ) → b ≡ suc k → IsMarked ms b
+    from b e = subst (IsMarked ms) (sym e) (subst (λ marks. IsMarked marks (suc k)) (sym same) (mark-whole none (suc k) h (let l = length-replicate n false in omega (arith, l, w))))
+
 -- ---- the items of numbers
+
+-- where one of the list's values stands
+pub get-map : {A B : Type 0} (f : A → B) (xs : List A) (k : ℕ) (y : B) → slice_get (map f xs) k ≡ Some y → (x : A) × (slice_get xs k ≡ Some x) × (f x ≡ y)
+get-map f [] k y e = absurd (let h = e in cc)
+get-map f (x ∷ xs) zero y e = (x, refl, let h = e in cc)
+get-map f (x ∷ xs) (suc k) y e = get-map f xs k y e
+
+-- a place of two lists is one of the first or of the second
+pub get-either : {A : Type 0} (xs ys : List A) (k : ℕ) (x : A) → slice_get (xs ++ ys) k ≡ Some x → ((i : ℕ) × (slice_get xs i ≡ Some x)) ⊎ ((i : ℕ) × (slice_get ys i ≡ Some x))
+get-either [] ys k x e = inr (k, e)
+get-either (y ∷ xs) ys zero x e = inl (0, e)
+get-either (y ∷ xs) ys (suc k) x e = elim (get-either xs ys k x e) [ inl there ↦ inl (suc there.0, there.1) | inr behind ↦ inr behind ]
+
+any-place : {A : Type 0} (f : A → Bool) (xs : List A) → list_any f xs ≡ true → (k : ℕ) × (x : A) × (slice_get xs k ≡ Some x) × (f x ≡ true)
+any-place f [] h = absurd (let e = h in cc)
+any-place f (x ∷ xs) h = by (f x) refl (any-place f xs)
+  where
+    by : (b : Bool) → f x ≡ b → (list_any f xs ≡ true → (k : ℕ) × (y : _) × (slice_get xs k ≡ Some y) × (f y ≡ true)) → (k : ℕ) × (y : _) × (slice_get (x ∷ xs) k ≡ Some y) × (f y ≡ true)
+    by true e rest = (0, x, refl, e)
+    by false e rest = let r = rest (sym (ap (λ b. b || list_any f xs) e) ∙ h) in (suc r.0, r.1, r.2, r.3)
+
+-- the item of a number is a citation of a label, or lies past the labels
+pub cite-within : (labels : List Name) (n : ℕ) → n < length labels → item_of labels (suc n) ≡ Cite (get_or labels n [])
+cite-within labels n h =
+    let q : nat_lt n (length labels) ≡ true = grind (arith, nat_tests) in
+    ap (λ b. cond b (Cite (get_or labels n [])) (Recall (suc (n - length labels)))) q
+
+pub recall-past : (labels : List Name) (n : ℕ) → length labels ≤ n → item_of labels (suc n) ≡ Recall (suc (n - length labels))
+recall-past labels n h =
+    let q : nat_lt n (length labels) ≡ false = grind (arith, nat_tests) in
+    ap (λ b. cond b (Cite (get_or labels n [])) (Recall (suc (n - length labels)))) q
+
+pub position-is : (S : Database) (label : Name) (o : Option ℕ) (a : ℕ) (s : Stmt) → HasLabelsOnce S → IsPosition S label o → Carries S a s label → o ≡ Some a
+position-is S label None a s once p c = absurd (p a s c)
+position-is S label (Some i) a s once p c = ap Some (once i a p.0 s label p.1 c)
 
 module _ (S : Database) (labels : List Name) (places : List (Option ℕ)) (are : ArePositions S labels places) (once : HasLabelsOnce S) where
   -- an item that cites a statement
@@ -65,51 +101,24 @@ module _ (S : Database) (labels : List Name) (places : List (Option ℕ)) (are :
     pub cites : item ≡ Cite label
     pub carries : Carries S a cited label
 
-  some-position : (label : Name) (o : Option ℕ) (a : ℕ) → IsPosition S label o → o ≡ Some a → (s : Stmt) × Carries S a s label
-  some-position label o a p e = subst (IsPosition S label) e p
-
-  cite-within : (n : ℕ) → n < length labels → item_of labels (suc n) ≡ Cite (get_or labels n [])
-  cite-within n h =
-      let q : nat_lt n (length labels) ≡ true = grind (arith, nat_tests) in
-      ap (λ b. cond b (Cite (get_or labels n [])) (Recall (suc (n - length labels)))) q
-
-  recall-past : (n : ℕ) → length labels ≤ n → item_of labels (suc n) ≡ Recall (suc (n - length labels))
-  recall-past n h =
-      let q : nat_lt n (length labels) ≡ false = grind (arith, nat_tests) in
-      ap (λ b. cond b (Cite (get_or labels n [])) (Recall (suc (n - length labels)))) q
-
   place-sound : (number a : ℕ) → place_of places number ≡ Some a → CitesOne (item_of labels number) a
   place-sound zero a e = absurd (let f = e in cc)
-  place-sound (suc n) a e = by (nat_lt n (length labels)) refl
-    where
-      by : (b : Bool) → nat_lt n (length labels) ≡ b → CitesOne (item_of labels (suc n)) a
-      by true q =
-          let less : n < length labels = grind (arith, q) in
-          let p = some-position (get_or labels n []) (get_or places n None) a (are.each n less) e in
-          record { label = get_or labels n []; cited = p.0; cites = cite-within n less; carries = p.1 }
-      by false q =
-          let more : length labels ≤ n = grind (arith, q) in
-          let c = are.count in
-          let none : get_or places n None ≡ None = get_or_past places n None (omega (arith, more, c)) in
-          absurd (let f : None ≡ Some a = sym none ∙ e in cc)
-
-  position-is : (label : Name) (o : Option ℕ) (a : ℕ) (s : Stmt) → IsPosition S label o → Carries S a s label → o ≡ Some a
-  position-is label None a s p c = absurd (p a s c)
-  position-is label (Some i) a s p c = ap Some (once i a p.0 s label p.1 c)
+  place-sound (suc n) a e = elim (cases_lt n (length labels)) [
+    | inl less ↦ (
+        let p = subst (IsPosition S (get_or labels n [])) e (are.each n less) in
+        record { label = get_or labels n []; cited = p.0; cites = cite-within labels n less; carries = p.1 })
+    | inr more ↦ absurd (let c = are.count in let f : None ≡ Some a = sym (get_or_past places n None (omega (arith, more, c))) ∙ e in cc)
+  ]
 
   place-whole : (number a : ℕ) → CitesOne (item_of labels number) a → place_of places number ≡ Some a
   place-whole zero a c = absurd (let e = c.cites in cc)
-  place-whole (suc n) a c = by (nat_lt n (length labels)) refl
-    where
-      by : (b : Bool) → nat_lt n (length labels) ≡ b → get_or places n None ≡ Some a
-      by true q =
-          let less : n < length labels = grind (arith, q) in
-          let e : Cite (get_or labels n []) ≡ Cite c.label = sym (cite-within n less) ∙ c.cites in
-          let same : get_or labels n [] ≡ c.label = cc in
-          position-is (get_or labels n []) (get_or places n None) a c.cited (are.each n less) (subst (Carries S a c.cited) (sym same) c.carries)
-      by false q =
-          let more : length labels ≤ n = grind (arith, q) in
-          absurd (let e : Recall (suc (n - length labels)) ≡ Cite c.label = sym (recall-past n more) ∙ c.cites in cc)
+  place-whole (suc n) a c = elim (cases_lt n (length labels)) [
+    | inl less ↦ (
+        let e : Cite (get_or labels n []) ≡ Cite c.label = sym (cite-within labels n less) ∙ c.cites in
+        let same : get_or labels n [] ≡ c.label = cc in
+        position-is S (get_or labels n []) (get_or places n None) a c.cited once (are.each n less) (subst (Carries S a c.cited) (sym same) c.carries))
+    | inr more ↦ absurd (let e : Recall (suc (n - length labels)) ≡ Cite c.label = sym (recall-past labels n more) ∙ c.cites in cc)
+  ]
 
   items-count : (numbers : List ℕ) (old : List Bool) → length (mark_items places numbers old) ≡ length old
   items-count [] old = refl
@@ -119,70 +128,66 @@ module _ (S : Database) (labels : List Name) (places : List (Option ℕ)) (are :
   items-kept [] old a h = h
   items-kept (n ∷ ns) old a h = items-kept ns (mark (place_of places n) old) a (mark-kept (place_of places n) old a h)
 
-  item-there : (item : Item) (items : List Item) (a : ℕ) → ItemsCite S items a → ItemsCite S (item ∷ items) a
-  item-there item items a c = record { place = suc c.place; label = c.label; cited = c.cited; cites = c.cites; carries = c.carries }
+  -- one of the numbers cites what stands at the position
+  abbrev HasNumber : List ℕ → ℕ → Type 0
+  HasNumber numbers a = (k : ℕ) × (n : ℕ) × (slice_get numbers k ≡ Some n) × (place_of places n ≡ Some a)
 
-  items-sound : (numbers : List ℕ) (old : List Bool) (a : ℕ) → IsMarked (mark_items places numbers old) a → IsMarked old a ⊎ ItemsCite S (items_of labels numbers) a
+  cites-number : (numbers : List ℕ) (a : ℕ) → ItemsCite S (items_of labels numbers) a → HasNumber numbers a
+  cites-number numbers a c =
+      let m = get-map (item_of labels) numbers c.place (Cite c.label) c.cites in
+      (c.place, m.0, m.1, place-whole m.0 a (record { label = c.label; cited = c.cited; cites = m.2; carries = c.carries }))
+
+  number-cites : (numbers : List ℕ) (a : ℕ) → HasNumber numbers a → ItemsCite S (items_of labels numbers) a
+  number-cites numbers a h =
+      let c = place-sound h.1 a h.3 in
+      record { place = h.0; label = c.label; cited = c.cited; cites = slice_get-map (item_of labels) numbers h.0 ∙ (ap (option_map (item_of labels)) h.2 ∙ ap Some c.cites); carries = c.carries }
+
+  items-sound : (numbers : List ℕ) (old : List Bool) (a : ℕ) → IsMarked (mark_items places numbers old) a → IsMarked old a ⊎ HasNumber numbers a
   items-sound [] old a h = inl h
-  items-sound (n ∷ ns) old a h = elim (items-sound ns (mark (place_of places n) old) a h) [ inl m ↦ first (mark-sound (place_of places n) old a m) | inr c ↦ inr (item-there (item_of labels n) (items_of labels ns) a c) ]
-    where
-      first : IsMarked old a ⊎ (place_of places n ≡ Some a) → IsMarked old a ⊎ ItemsCite S (items_of labels (n ∷ ns)) a
-      first (inl m) = inl m
-      first (inr e) = let c = place-sound n a e in inr (record { place = 0; label = c.label; cited = c.cited; cites = ap Some c.cites; carries = c.carries })
+  items-sound (n ∷ ns) old a h = elim (items-sound ns (mark (place_of places n) old) a h) [
+    | inl m ↦ elim (mark-sound (place_of places n) old a m) [ inl before ↦ inl before | inr e ↦ inr (0, n, refl, e) ]
+    | inr c ↦ inr (suc c.0, c.1, c.2, c.3)
+  ]
 
-  items-whole : (numbers : List ℕ) (old : List Bool) (a : ℕ) → a ≤ length old → ItemsCite S (items_of labels numbers) a → IsMarked (mark_items places numbers old) a
-  items-whole numbers old a w c = by numbers old w c.place c.cites
-    where
-      by : (numbers : List ℕ) (old : List Bool) → a ≤ length old → (place : ℕ) → slice_get (items_of labels numbers) place ≡ Some (Cite c.label) → IsMarked (mark_items places numbers old) a
-      by [] old w place e = absurd (let f = e in cc)
-      by (n ∷ ns) old w zero e =
-          let is : item_of labels n ≡ Cite c.label = cc in
-          let at : place_of places n ≡ Some a = place-whole n a (record { label = c.label; cited = c.cited; cites = is; carries = c.carries }) in
-          items-kept ns (mark (place_of places n) old) a
-          (subst (λ o. IsMarked (mark o old) a) (sym at) (mark-whole old a (stands-within S a c.cited c.carries.stands).0 w))
-      by (n ∷ ns) old w (suc place) e =
-          by ns (mark (place_of places n) old) (subst (λ l. a ≤ l) (sym (mark-count (place_of places n) old)) w) place e
+  items-whole : (numbers : List ℕ) (old : List Bool) (a k n : ℕ) → 1 ≤ a → a ≤ length old → slice_get numbers k ≡ Some n → place_of places n ≡ Some a → IsMarked (mark_items places numbers old) a
+  items-whole [] old a k n h w e at = absurd (let f = e in cc)
+  items-whole (m ∷ ns) old a zero n h w e at =
+      let same : m ≡ n = (let f = e in cc) in
+      items-kept ns (mark (place_of places m) old) a (subst (λ o. IsMarked (mark o old) a) (sym (ap (place_of places) same ∙ at)) (mark-whole old a h w))
+  items-whole (m ∷ ns) old a (suc k) n h w e at = items-whole ns (mark (place_of places m) old) a k n h (subst (λ l. a ≤ l) (sym (mark-count (place_of places m) old)) w) e at
 
-  pub marks-items : (numbers : List ℕ) (items : List Item) (old new : List Bool) → items_of labels numbers ≡ items → mark_items places [] new ≡ mark_items places numbers old → MarksItems S items old new
+  pub marks-items : (numbers : List ℕ) (items : List Item) (old new : List Bool) → items_of labels numbers ≡ items → mark_items places [] new ≡ mark_items places numbers old → Marks (ItemsCite S items) old new
   marks-items numbers items old new same after =
-      subst (λ is. MarksItems S is old new) same
-      (subst (MarksItems S (items_of labels numbers) old) (sym after)
-      (record { count = items-count numbers old; kept = items-kept numbers old; sound = items-sound numbers old; whole = items-whole numbers old }))
+      subst (λ is. Marks (ItemsCite S is) old new) same
+      (subst (Marks (ItemsCite S (items_of labels numbers)) old) (sym after)
+      (record {
+        count = items-count numbers old;
+        kept = items-kept numbers old;
+        sound = λ a h. elim (items-sound numbers old a h) [ inl m ↦ inl m | inr n ↦ inr (number-cites numbers a n) ];
+        whole = λ a w c. let n = cites-number numbers a c in items-whole numbers old a n.0 n.1 (stands-within S a c.cited c.carries.stands).0 w n.2 n.3;
+      }))
 
   -- ---- whether they cite what is marked
 
   marked-some : (marks : List Bool) (o : Option ℕ) → is_marked marks o ≡ true → (a : ℕ) × (o ≡ Some a) × IsMarked marks a
   marked-some marks None h = absurd (let e = h in cc)
-  marked-some marks (Some zero) h = absurd (let e = h in cc)
-  marked-some marks (Some (suc k)) h = (suc k, refl, h)
+  marked-some marks (Some a) h = (a, refl, h)
 
   abbrev Hits : List Bool → ℕ → Bool
   Hits marks number = is_marked marks (place_of places number)
 
-  meets-sound : (marks : List Bool) (numbers : List ℕ) → list_any (Hits marks) numbers ≡ true → ItemsMeet S (items_of labels numbers) marks
-  meets-sound marks [] h = absurd (let e = h in cc)
-  meets-sound marks (n ∷ ns) h = by (meets-sound marks ns) (Hits marks n) refl
-    where
-      by : (list_any (Hits marks) ns ≡ true → ItemsMeet S (items_of labels ns) marks) → (b : Bool) → Hits marks n ≡ b → ItemsMeet S (items_of labels (n ∷ ns)) marks
-      by later true e =
-          let m = marked-some marks (place_of places n) e in
-          let c = place-sound n m.0 m.1 in
-          (m.0, m.2, record { place = 0; label = c.label; cited = c.cited; cites = ap Some c.cites; carries = c.carries })
-      by later false e =
-          let rest = later (sym (ap (λ b. b || list_any (Hits marks) ns) e) ∙ h) in
-          (rest.0, rest.1, item-there (item_of labels n) (items_of labels ns) rest.0 rest.2)
-
-  meets-whole : (marks : List Bool) (numbers : List ℕ) (a : ℕ) → IsMarked marks a → (label : Name) (cited : Stmt) → Carries S a cited label → (place : ℕ) → slice_get (items_of labels numbers) place ≡ Some (Cite label) → list_any (Hits marks) numbers ≡ true
-  meets-whole marks [] a m label cited c place e = absurd (let f = e in cc)
-  meets-whole marks (n ∷ ns) a m label cited c zero e =
-      let is : item_of labels n ≡ Cite label = (let f = e in cc) in
-      let at : place_of places n ≡ Some a = place-whole n a (record { label = label; cited = cited; cites = is; carries = c }) in
-      let hit : Hits marks n ≡ true = ap (is_marked marks) at ∙ marked-is marks a m in
-      ap (λ b. b || list_any (Hits marks) ns) hit
-  meets-whole marks (n ∷ ns) a m label cited c (suc place) e =
-      or_right (Hits marks n) (list_any (Hits marks) ns) (meets-whole marks ns a m label cited c place e)
-
   pub meets-items : (numbers : List ℕ) (items : List Item) (marks : List Bool) (found : Bool) → items_of labels numbers ≡ items → found ≡ list_any (Hits marks) numbers → found ≡ true ↔ ItemsMeet S items marks
   meets-items numbers items marks found same is =
       subst (λ is. found ≡ true ↔ ItemsMeet S is marks) same
-      ((λ e. meets-sound marks numbers (sym is ∙ e)), λ m. is ∙ meets-whole marks numbers m.0 m.1 m.2.label m.2.cited m.2.carries m.2.place m.2.cites)
+      (forth, back)
+    where
+      forth : found ≡ true → ItemsMeet S (items_of labels numbers) marks
+      forth e =
+          let h = any-place (Hits marks) numbers (sym is ∙ e) in
+          let m = marked-some marks (place_of places h.1) h.3 in
+          (m.0, m.2, number-cites numbers m.0 (h.0, h.1, h.2, m.1))
+
+      back : ItemsMeet S (items_of labels numbers) marks → found ≡ true
+      back m =
+          let h = cites-number numbers m.0 m.2 in
+          is ∙ any_passes_from_place (Hits marks) numbers h.0 h.1 h.2 (ap (is_marked marks) h.3 ∙ m.1)

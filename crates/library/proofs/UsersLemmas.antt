@@ -1,22 +1,8 @@
 -- Who uses a statement: the positions behind it are walked up once, and what uses it is marked.
-use Rattle.std.specs.Prelude.{◌≡◌, ◌↔◌, ◌⊎◌, ℕ, zero, suc, ◌+◌, ◌-◌, ◌<◌, ◌≤◌, Bool, true, false, cond, ◌&&◌, List, [], ◌∷◌, ◌++◌, length, replicate, Some, None, slice_set, refl}
-use Rattle.std.proofs.Common.{sym, ◌∙◌, ap, subst, arith, inl, inr, append-nil}
-use Rattle.std.proofs.lemmas.Bool.{cases_eq}
-use Rattle.std.proofs.lemmas.List.{map-append, length-replicate}
-use Rattle.mm_lex.specs.Alphabet.{Name}
-use Rattle.mm_read.specs.declared.stmt.Stmt.{Stmt}
-use Rattle.mm_read.specs.declared.stmt.Stmt.TheVariants.{Open, Close, Const, Var, Disj, Float, Ess, Axiom, Prove}
-use Rattle.mm_read.specs.Statements.{Database}
-use Rattle.scope.specs.Active.{bares, stmt_at, is_provable}
-use Rattle.scope.proofs.StatementPlaces.{stands-within}
-use Rattle.frame.specs.AtPosition.{HasLabelsOnce}
-use Rattle.frame.proofs.MarkLemmas.{no-mark}
-use Rattle.proof_code.specs.declared.item.Item.{Item}
-use Rattle.verify.specs.Proves.{label_or_none}
-use Rattle.library.specs.Good.{Good}
-use Rattle.library.specs.Uses.{HasItems, Cites, RestsOn, directly, through, IsUser, Rises, IsIn, AreLabelsOf}
-use Rattle.library.specs.UseMarks.{IsMarked, mark, ItemsMeet, ProofMeets, NotesUser}
-use Rattle.library.proofs.UseMarkLemmas.{mark-count, mark-kept, mark-sound, mark-whole}
+use Rattle.library.proofs.Words.{◌≡◌, ◌↔◌, ◌⊎◌, ℕ, zero, suc, ◌+◌, ◌-◌, ◌<◌, ◌≤◌, Bool, true, false, cond, ◌&&◌, List, [], ◌∷◌, ◌++◌, length, replicate, Some, None, Option, slice_get, slice_set, refl, sym, ◌∙◌, ap, subst, arith, inl, inr, append-nil, cases_eq, map-append, slice_get_within}
+use Rattle.library.proofs.Words.{Name, Stmt, Prove, Database, bares, stmt_at, is_provable, stands-within, Item, label_or_none, Good, HasItems, Cites, RestsOn, directly, through, IsUser, Rises, IsIn, AreLabelsOf, IsMarked, mark, ItemsMeet, ProofMeets, NotesUser}
+use Rattle.library.proofs.FrontLemmas.{get-front}
+use Rattle.library.proofs.UseMarkLemmas.{mark-count, mark-kept, mark-sound, mark-whole, one-marked, get-either}
 use Rattle.library.proofs.CitationWalkLemmas.{cites-below, cites-of, cited-of}
 
 -- ---- one more label
@@ -26,19 +12,18 @@ rises-last above n [] below h r = (h, tt)
 rises-last above n (m ∷ ns) below h r = (r.0, rises-last m n ns (λ k i. below k (suc i.0, i.1)) (below m (0, refl)) r.1)
 
 in-front : (k : ℕ) (ns ms : List ℕ) → IsIn k ns → IsIn k (ns ++ ms)
-in-front k [] ms i = absurd (let e = i.1 in cc)
-in-front k (n ∷ ns) ms (zero, e) = (0, e)
-in-front k (n ∷ ns) ms (suc p, e) = let i = in-front k ns ms (p, e) in (suc i.0, i.1)
+in-front k ns ms i = (i.0, get-front ns ms i.0 (slice_get_within ns i.0 k i.1) ∙ i.1)
 
 in-last : (n : ℕ) (ns : List ℕ) → IsIn n (ns ++ n ∷ [])
 in-last n [] = (0, refl)
 in-last n (m ∷ ns) = let i = in-last n ns in (suc i.0, i.1)
 
 in-either : (k n : ℕ) (ns : List ℕ) → IsIn k (ns ++ n ∷ []) → IsIn k ns ⊎ (k ≡ n)
-in-either k n [] (zero, e) = inr (let f = e in let g : n ≡ k = cc in sym g)
-in-either k n [] (suc p, e) = absurd (let f = e in cc)
-in-either k n (m ∷ ns) (zero, e) = inl (0, e)
-in-either k n (m ∷ ns) (suc p, e) = elim (in-either k n ns (p, e)) [ inl i ↦ inl (suc i.0, i.1) | inr same ↦ inr same ]
+in-either k n ns i = elim (get-either ns (n ∷ []) i.0 k i.1) [ inl there ↦ inl there | inr last ↦ inr (only last.0 last.1) ]
+  where
+    only : (p : ℕ) → slice_get (n ∷ []) p ≡ Some k → k ≡ n
+    only zero e = let f = e in let same : n ≡ k = cc in sym same
+    only (suc p) e = absurd (let f = e in cc)
 
 -- those that pass up to a position
 abbrev pub Upto : (ℕ → Type 0) → ℕ → ℕ → Type 0
@@ -82,6 +67,20 @@ module _ (S : Database) (P : ℕ → Type 0) (p : ℕ) (labels : List Name) (are
         | inr apart ↦ (are.passing k).1 (let h = u.0 in omega (arith, h, apart), u.1)
       ]
 
+  -- the next position is listed where it passes
+  pub labels-next : (b : Bool) → (b ≡ true → P (suc p)) → (P (suc p) → b ≡ true) → AreLabelsOf S (Upto P (suc p)) (labels ++ cond b (label_or_none (stmt_at S (suc p)) ∷ []) [])
+  labels-next true passes shown = labels-take (passes refl)
+  labels-next false passes shown = subst (AreLabelsOf S (Upto P (suc p))) (sym (append-nil labels)) (labels-pass (λ h. let f = shown h in let e : false ≡ true = f in cc))
+
+-- where none passes up to a position there are no labels
+pub labels-none : (S : Database) (P : ℕ → Type 0) (p : ℕ) → ((j : ℕ) → j ≤ p → P j → ⊥) → AreLabelsOf S (Upto P p) []
+labels-none S P p none = record { positions = []; rising = tt; passing = λ j. ((λ i. absurd (let e = i.1 in cc)), λ u. absurd (none j u.0 u.1)); labelled = refl }
+
+-- the labels of those that pass are those of the same positions under another name
+pub labels-same : (S : Database) (P Q : ℕ → Type 0) (labels : List Name) → AreLabelsOf S P labels → ((a : ℕ) → P a ↔ Q a) → AreLabelsOf S Q labels
+labels-same S P Q labels are same =
+    record { positions = are.positions; rising = are.rising; passing = λ a. ((λ i. (same a).0 ((are.passing a).0 i)), λ q. (are.passing a).1 ((same a).1 q)); labelled = are.labelled }
+
 -- ---- the walk up
 
 -- a position that is marked: the one asked about, or of all users one up to p
@@ -95,10 +94,10 @@ pub record IsSearched (S : Database) (all : Bool) (a p : ℕ) (marks : List Bool
   pub listed : AreLabelsOf S (Upto (IsUser S all a) p) labels
 
 -- whether the proof of the next one meets a mark tells whether it is a user
-user-meets : (S : Database) (all : Bool) (a p : ℕ) (marks : List Bool) (labels : List Name) → Good S → HasLabelsOnce (bares S) → IsSearched S all a p marks labels → IsUser S all a (suc p) → ProofMeets S (suc p) marks
-user-meets S true a p marks labels good once w (directly c) = (a, (w.marked a).1 (inl refl), c)
-user-meets S true a p marks labels good once w (through {b = b} c r) = (b, (w.marked b).1 (inr (let less = cites-below S (suc p) b good once c in omega (arith, less), refl, r)), c)
-user-meets S false a p marks labels good once w c = (a, (w.marked a).1 (inl refl), c)
+user-meets : (S : Database) (all : Bool) (a p : ℕ) (marks : List Bool) (labels : List Name) → Good S → IsSearched S all a p marks labels → IsUser S all a (suc p) → ProofMeets S (suc p) marks
+user-meets S true a p marks labels good w (directly c) = (a, (w.marked a).1 (inl refl), c)
+user-meets S true a p marks labels good w (through {b = b} c r) = (b, (w.marked b).1 (inr (let less = cites-below S (suc p) b good c in omega (arith, less), refl, r)), c)
+user-meets S false a p marks labels good w c = (a, (w.marked a).1 (inl refl), c)
 
 meets-user : (S : Database) (all : Bool) (a p : ℕ) (marks : List Bool) (labels : List Name) → IsSearched S all a p marks labels → ProofMeets S (suc p) marks → IsUser S all a (suc p)
 meets-user S all a p marks labels w (b, m, c) = by all ((w.marked b).0 m)
@@ -117,108 +116,78 @@ user-rests : (S : Database) (all : Bool) (a j : ℕ) → all ≡ true → IsUser
 user-rests S true a j e u = u
 user-rests S false a j e u = absurd (let f = e in cc)
 
-module _ (S : Database) (all : Bool) (a p : ℕ) (marks marks' : List Bool) (labels labels' : List Name) (good : Good S) (once : HasLabelsOnce (bares S)) (within : suc p ≤ length S) (w : IsSearched S all a p marks labels) (n : NotesUser S all (suc p) marks marks' labels labels') where
-  marked-next : (found : Bool) → n.found ≡ found → (found ≡ true → IsUser S all a (suc p)) → (IsUser S all a (suc p) → found ≡ true) → marks' ≡ mark (cond (found && all) (Some (suc p)) None) marks → (b : ℕ) → IsMarked marks' b ↔ IsSought S all a (suc p) b
-  marked-next found e forth back is b = (to found all refl refl, from)
-    where
-      later : IsSought S all a p b → IsSought S all a (suc p) b
-      later (inl same) = inl same
-      later (inr q) = inr (let h = q.0 in omega (arith, h), q.1, q.2)
+-- which position is marked
+when-some : (found all : Bool) (at b : ℕ) → cond (found && all) (Some at) None ≡ Some b → (found ≡ true) × (all ≡ true) × (at ≡ b)
+when-some true true at b e = (refl, refl, let f = e in cc)
+when-some found all at b e = absurd (let f = e in cc)
 
-      to : (f t : Bool) → found ≡ f → all ≡ t → IsMarked marks' b → IsSought S all a (suc p) b
-      to true true f t m =
-          elim (mark-sound (Some (suc p)) marks b (subst (λ ms. IsMarked ms b) (is ∙ ap (λ o. mark o marks) (ap (λ x. cond (x && all) (Some (suc p)) None) f ∙ ap (λ x. cond x (Some (suc p)) None) t)) m)) [
-            | inl before ↦ later ((w.marked b).0 before)
-            | inr here ↦ (let same : suc p ≡ b = (let h = here in cc) in inr (omega (arith, same), t, subst (λ k. RestsOn S k a) same (user-rests S all a (suc p) t (forth f))))
-          ]
-      to true false f t m = later ((w.marked b).0 (subst (λ ms. IsMarked ms b) (is ∙ ap (λ o. mark o marks) (ap (λ x. cond (x && all) (Some (suc p)) None) f ∙ ap (λ x. cond x (Some (suc p)) None) t)) m))
-      to false t' f t m = later ((w.marked b).0 (subst (λ ms. IsMarked ms b) (is ∙ ap (λ o. mark o marks) (ap (λ x. cond (x && all) (Some (suc p)) None) f)) m))
+module _ (S : Database) (all : Bool) (a p : ℕ) (marks marks' : List Bool) (labels labels' : List Name) (good : Good S) (within : suc p ≤ length S) (w : IsSearched S all a p marks labels) (n : NotesUser S all (suc p) marks marks' labels labels') where
+  abbrev Here : Option ℕ
+  Here = cond (n.found && all) (Some (suc p)) None
 
-      kept : IsMarked marks b → IsMarked marks' b
-      kept m = subst (λ ms. IsMarked ms b) (sym is) (mark-kept (cond (found && all) (Some (suc p)) None) marks b m)
+  uses : n.found ≡ true → IsUser S all a (suc p)
+  uses e = meets-user S all a p marks labels w (n.meets.0 e)
 
-      from : IsSought S all a (suc p) b → IsMarked marks' b
-      from (inl same) = kept ((w.marked b).1 (inl same))
-      from (inr q) = elim (cases_eq b (suc p)) [
-        | inl same ↦ (
-            let f : found ≡ true = back (rests-user S all a (suc p) q.1 (subst (λ k. RestsOn S k a) same q.2)) in
-            let which : cond (found && all) (Some (suc p)) None ≡ Some (suc p) = ap (λ x. cond (x && all) (Some (suc p)) None) f ∙ ap (λ x. cond x (Some (suc p)) None) q.1 in
-            subst (IsMarked marks') (sym same) (subst (λ ms. IsMarked ms (suc p)) (sym (is ∙ ap (λ o. mark o marks) which)) (mark-whole marks (suc p) (omega arith) (let c = w.count in omega (arith, within, c)))))
-        | inr apart ↦ kept ((w.marked b).1 (inr (let h = q.0 in omega (arith, h, apart), q.1, q.2)))
-      ]
+  met : IsUser S all a (suc p) → n.found ≡ true
+  met u = n.meets.1 (user-meets S all a p marks labels good w u)
 
-  pub searched-next : IsSearched S all a (suc p) marks' labels'
+  later : (b : ℕ) → IsSought S all a p b → IsSought S all a (suc p) b
+  later b (inl same) = inl same
+  later b (inr q) = inr (let h = q.0 in omega (arith, h), q.1, q.2)
+
+  sought : (b : ℕ) → IsMarked marks' b → IsSought S all a (suc p) b
+  sought b m = elim (mark-sound Here marks b (subst (λ ms. IsMarked ms b) n.marks m)) [
+    | inl before ↦ later b ((w.marked b).0 before)
+    | inr is ↦ (let q = when-some n.found all (suc p) b is in let same = q.2 in inr (omega (arith, same), q.1, subst (λ k. RestsOn S k a) same (user-rests S all a (suc p) q.1 (uses q.0))))
+  ]
+
+  kept : (b : ℕ) → IsMarked marks b → IsMarked marks' b
+  kept b m = subst (λ ms. IsMarked ms b) (sym n.marks) (mark-kept Here marks b m)
+
+  marked : (b : ℕ) → IsSought S all a (suc p) b → IsMarked marks' b
+  marked b (inl same) = kept b ((w.marked b).1 (inl same))
+  marked b (inr q) = elim (cases_eq b (suc p)) [
+    | inl same ↦ (
+        let f = met (rests-user S all a (suc p) q.1 (subst (λ k. RestsOn S k a) same q.2)) in
+        let which : Here ≡ Some (suc p) = ap (λ x. cond (x && all) (Some (suc p)) None) f ∙ ap (λ x. cond x (Some (suc p)) None) q.1 in
+        subst (IsMarked marks') (sym same) (subst (λ ms. IsMarked ms (suc p)) (sym (n.marks ∙ ap (λ o. mark o marks) which)) (mark-whole marks (suc p) (omega arith) (let c = w.count in omega (arith, within, c)))))
+    | inr apart ↦ kept b ((w.marked b).1 (inr (let h = q.0 in omega (arith, h, apart), q.1, q.2)))
+  ]
+
+  searched-next : IsSearched S all a (suc p) marks' labels'
   searched-next =
       record {
-        count = ap length n.marks ∙ (mark-count (cond (n.found && all) (Some (suc p)) None) marks ∙ w.count);
-        marked = marked-next n.found refl uses met n.marks;
-        listed = by n.found refl;
+        count = ap length n.marks ∙ (mark-count Here marks ∙ w.count);
+        marked = λ b. (sought b, marked b);
+        listed = subst (AreLabelsOf S (Upto (IsUser S all a) (suc p))) (sym n.labels) (labels-next S (IsUser S all a) p labels w.listed n.found uses met);
       }
-    where
-      uses : n.found ≡ true → IsUser S all a (suc p)
-      uses e = meets-user S all a p marks labels w (n.meets.0 e)
-
-      met : IsUser S all a (suc p) → n.found ≡ true
-      met u = n.meets.1 (user-meets S all a p marks labels good once w u)
-
-      by : (f : Bool) → n.found ≡ f → AreLabelsOf S (Upto (IsUser S all a) (suc p)) labels'
-      by true e =
-          subst (AreLabelsOf S (Upto (IsUser S all a) (suc p))) (sym (n.labels ∙ ap (λ x. labels ++ cond x (label_or_none (stmt_at S (suc p)) ∷ []) []) e))
-          (labels-take S (IsUser S all a) p labels w.listed (uses e))
-      by false e =
-          subst (AreLabelsOf S (Upto (IsUser S all a) (suc p))) (sym (n.labels ∙ (ap (λ x. labels ++ cond x (label_or_none (stmt_at S (suc p)) ∷ []) []) e ∙ append-nil labels)))
-          (labels-pass S (IsUser S all a) p labels w.listed (λ u. let f : true ≡ false = sym (met u) ∙ e in cc))
 
 -- ---- its beginning and its end
 
-user-above : (S : Database) (all : Bool) (a j : ℕ) → Good S → HasLabelsOnce (bares S) → IsUser S all a j → a < j
-user-above S false a j good once c = cites-below S j a good once c
-user-above S true a j good once r = rests-above j r
-  where
-    rests-above : (j : ℕ) → RestsOn S j a → a < j
-    rests-above j (directly c) = cites-below S j a good once c
-    rests-above j (through {b = b} c r) = let less = cites-below S j b good once c in let rest = rests-above b r in omega (arith, less, rest)
+rests-above : (S : Database) (a j : ℕ) → Good S → RestsOn S j a → a < j
+rests-above S a j good (directly c) = cites-below S j a good c
+rests-above S a j good (through {b = b} c r) = let less = cites-below S j b good c in let rest = rests-above S a b good r in omega (arith, less, rest)
+
+user-above : (S : Database) (all : Bool) (a j : ℕ) → Good S → IsUser S all a j → a < j
+user-above S false a j good c = cites-below S j a good c
+user-above S true a j good r = rests-above S a j good r
 
 user-within : (S : Database) (all : Bool) (a j : ℕ) → IsUser S all a j → (i : List Item) × HasItems S j i
 user-within S false a j c = (c.items, c.has)
 user-within S true a j (directly c) = (c.items, c.has)
 user-within S true a j (through c r) = (c.items, c.has)
 
-pub search-start : (S : Database) (all : Bool) (a : ℕ) (marks : List Bool) → Good S → HasLabelsOnce (bares S) → 1 ≤ a → a ≤ length S → marks ≡ slice_set (replicate (length S) false) (a - 1) true → IsSearched S all a a marks []
-search-start S all zero marks good once h w is = absurd (omega (arith, h))
-search-start S all (suc k) marks good once h w is =
+pub search-start : (S : Database) (all : Bool) (a : ℕ) (marks : List Bool) → Good S → 1 ≤ a → a ≤ length S → marks ≡ slice_set (replicate (length S) false) (a - 1) true → IsSearched S all a a marks []
+search-start S all a marks good h w is =
+    let o = one-marked (length S) a marks h w is in
     record {
-      count = ap length same ∙ (mark-count (Some (suc k)) none ∙ length-replicate (length S) false);
-      marked = λ b. (to b, from b);
-      listed = record { positions = []; rising = tt; passing = λ j. ((λ i. absurd (let e = i.1 in cc)), λ u. absurd (let above = user-above S all (suc k) j good once u.1 in let upto = u.0 in omega (arith, above, upto))); labelled = refl };
+      count = o.0;
+      marked = λ b. ((λ m. inl ((o.1 b).0 m)), λ q. elim q [ inl e ↦ (o.1 b).1 e | inr r ↦ absurd (let above = user-above S true a b good r.2 in let upto = r.0 in omega (arith, above, upto)) ]);
+      listed = labels-none S (IsUser S all a) a (λ j upto u. let above = user-above S all a j good u in omega (arith, above, upto));
     }
-  where
-    none : List Bool
-    none = replicate (length S) false
-
-    same : marks ≡ mark (Some (suc k)) none
-    same = is ∙ ap (λ n. slice_set none n true) (let e : suc k - 1 ≡ k = omega arith in e)
-
-    unmarked : (b : ℕ) → IsMarked none b → ⊥
-    unmarked zero m = m
-    unmarked (suc n) m = let f : false ≡ true = sym (no-mark (length S) n) ∙ m in absurd (cc)
-
-    to : (b : ℕ) → IsMarked marks b → IsSought S all (suc k) (suc k) b
-    to b m = elim (mark-sound (Some (suc k)) none b (subst (λ ms. IsMarked ms b) same m)) [
-      | inl before ↦ absurd (unmarked b before)
-      | inr here ↦ inl (let e : suc k ≡ b = (let f = here in cc) in sym e)
-    ]
-
-    there : IsMarked marks (suc k)
-    there = subst (λ ms. IsMarked ms (suc k)) (sym same) (mark-whole none (suc k) h (let l = length-replicate (length S) false in omega (arith, l, w)))
-
-    from : (b : ℕ) → IsSought S all (suc k) (suc k) b → IsMarked marks b
-    from b (inl e) = subst (IsMarked marks) (sym e) there
-    from b (inr q) = absurd (let above = user-above S true (suc k) b good once q.2 in let upto = q.0 in omega (arith, above, upto))
 
 pub search-end : (S : Database) (all : Bool) (a p : ℕ) (marks : List Bool) (labels : List Name) → length S ≤ p → IsSearched S all a p marks labels → AreLabelsOf S (IsUser S all a) labels
-search-end S all a p marks labels done w =
-    record { positions = w.listed.positions; rising = w.listed.rising; passing = λ j. ((λ i. ((w.listed.passing j).0 i).1), λ u. (w.listed.passing j).1 (within j u, u)); labelled = w.listed.labelled }
+search-end S all a p marks labels done w = labels-same S (Upto (IsUser S all a) p) (IsUser S all a) labels w.listed (λ j. ((λ u. u.1), λ u. (within j u, u)))
   where
     within : (j : ℕ) → IsUser S all a j → j ≤ p
     within j u = let i = user-within S all a j u in let s = stands-within S j i.1.stmt i.1.provable.stands in omega (arith, s.1, done)
@@ -236,22 +205,15 @@ notes-nothing S all at marks labels none =
 
 pub not-provable : (s : Stmt) → ((label : Name) (expr proof : List Name) → s ≡ Prove label expr proof → ⊥) → is_provable s ≡ true → ⊥
 not-provable (Prove label expr proof) other h = other label expr proof refl
-not-provable (Axiom label expr) other h = let e = h in cc
-not-provable Open other h = let e = h in cc
-not-provable Close other h = let e = h in cc
-not-provable (Const names) other h = let e = h in cc
-not-provable (Var names) other h = let e = h in cc
-not-provable (Disj names) other h = let e = h in cc
-not-provable (Float label constant variable) other h = let e = h in cc
-not-provable (Ess label expr) other h = let e = h in cc
+not-provable s other h = let e = h in cc
 
 -- one position of the walk, whose marks were lent
-pub search-step : (S F : Database) (all : Bool) (a p : ℕ) (marks lent marks' marks'' : List Bool) (labels labels' : List Name) → F ≡ bares S → Good S → HasLabelsOnce F → p < length S → lent ≡ marks
+pub search-step : (S : Database) (all : Bool) (a p : ℕ) (marks lent marks' marks'' : List Bool) (labels labels' : List Name) → Good S → p < length S → lent ≡ marks
     → (length marks' ≡ length marks → marks'' ≡ marks') → IsSearched S all a p marks labels → NotesUser S all (p + 1) lent marks' labels labels' → IsSearched S all a (p + 1) marks'' labels'
-search-step S F all a p marks lent marks' marks'' labels labels' same good once within is whole w n =
+search-step S all a p marks lent marks' marks'' labels labels' good within is whole w n =
     let next : p + 1 ≡ suc p = omega arith in
     let m : NotesUser S all (suc p) marks marks' labels labels' = subst (λ k. NotesUser S all k marks marks' labels labels') next (subst (λ ms. NotesUser S all (p + 1) ms marks' labels labels') is n) in
     let count : length marks' ≡ length marks = ap length m.marks ∙ mark-count (cond (m.found && all) (Some (suc p)) None) marks in
     subst (λ k. IsSearched S all a k marks'' labels') (sym next)
     (subst (λ ms. IsSearched S all a (suc p) ms labels') (sym (whole count))
-    (searched-next S all a p marks marks' labels labels' good (subst HasLabelsOnce same once) (omega (arith, within)) w m))
+    (searched-next S all a p marks marks' labels labels' good (omega (arith, within)) w m))

@@ -1,12 +1,8 @@
 -- The table of verdicts is their list: what is looked up, and what is added.
-use Rattle.std.specs.Prelude.{◌≡◌, ℕ, Bool, true, false, ◌&&◌, ◌==◌, cond, List, [], ◌∷◌, ◌++◌, Some, None, IfSome, refl}
+use Rattle.library.proofs.Words.{◌≡◌, ℕ, Bool, true, false, ◌&&◌, ◌==◌, cond, List, [], ◌∷◌, ◌++◌, Some, None, IfSome, refl, ◌∙◌, ap, Verdict, Decided, status, decided_of, IsDecision, AreDecisions}
 use Rattle.std.specs.Map.{lookup}
-use Rattle.std.proofs.Common.{◌∙◌, ap}
 use Rattle.scope.proofs.KindsLemmas.{none-cond}
 use Rattle.indexmap.specs.IndexMap.{insert_entry}
-use Rattle.library.specs.declared.verdict.Verdict.{Verdict}
-use Rattle.library.specs.LibraryOf.{Decided, status}
-use Rattle.library.specs.Ledger.{decided_of, IsDecision, AreDecisions}
 
 pub lookup-status : (author serial : ℕ) (es : List ((ℕ × ℕ) × Verdict)) → lookup (λ k. (author == k.0) && (serial == k.1)) es ≡ status (decided_of es) author serial
 lookup-status author serial [] = refl

@@ -2,16 +2,10 @@
 -- Source: this project's profile; Metamath, 4.2.6 and appendix B.
 -- The code finds the label in a table.
 use Rattle.std.specs.Prelude.{ℕ, Bool, IsFalse, List}
-use Rattle.mm_lex.specs.Alphabet.{Name}
-use Rattle.mm_read.specs.declared.stmt.Stmt.{Stmt}
-use Rattle.mm_read.specs.Statements.{Database}
-use Rattle.scope.specs.Active.{bares, is_provable}
-use Rattle.frame.specs.Citations.{Carries}
-use Rattle.proof_code.specs.declared.item.Item.{Item}
-use Rattle.verify.specs.Right.{IsProvable, IsRight, Derives, IsSmall}
+use Rattle.library.specs.Words.{Name, Stmt, Database, bares, is_provable, Carries, Item, IsProvable, IsRight, Derives, IsSmall}
 use Rattle.verify.specs.Derivations.{Derivation}
 use Rattle.library.specs.declared.asked.AskFault.{AskFault}
-use Rattle.library.specs.declared.asked.AskFault.TheVariants.{NoLabel, NotProvable, TooLarge, Memory}
+use Rattle.library.specs.declared.asked.AskFault.TheVariants.{NoLabel, NotProvable}
 use Rattle.library.specs.Uses.{HasItems, Uses, IsUser, AreLabelsOf}
 
 -- no statement has the label
@@ -49,8 +43,7 @@ pub record IsProofOf (S : Database) (label : Name) (j : ℕ) (items : List Item)
 abbrev pub IsNoProof : Database → Name → AskFault → Type 0
 IsNoProof S label NoLabel = HasNoLabel S label
 IsNoProof S label NotProvable = NamesNoProof S label
-IsNoProof S label TooLarge = ⊥
-IsNoProof S label Memory = ⊥
+IsNoProof S label fault = ⊥
 
 -- the proof of the `$p` at j spells the derivation
 abbrev pub SpellsTree : Database → ℕ → Derivation → Type 0

@@ -2,17 +2,8 @@
 -- Source: this project's profile.
 -- The code stops at the first cause that it meets; here each cause says what does not stand before it.
 use Rattle.std.specs.Prelude.{◌≡◌, ◌≢◌, ℕ, ◌+◌, ◌<◌, ◌≤◌, IsTrue, IsFalse, List, ◌++◌, length, Option, Some, None}
-use Rattle.mm_lex.specs.Alphabet.{Name}
-use Rattle.mm_lex.specs.declared.fault.LexFault.{LexFault}
+use Rattle.library.specs.Words.{Name, LexFault, IsLexFault, Stmt, Database, Reads, HasTokens, IsNoDatabase, proof_of, first_broken, is_unfinished, IsProvable}
 use Rattle.mm_lex.specs.declared.fault.LexFault.TheVariants as lex
-use Rattle.mm_lex.specs.TextFaults.{IsLexFault}
-use Rattle.mm_read.specs.declared.stmt.Stmt.{Stmt}
-use Rattle.mm_read.specs.Statements.{Database}
-use Rattle.mm_read.specs.Reads.{Reads, HasTokens, IsNoDatabase}
-use Rattle.scope.specs.Active.{proof_of}
-use Rattle.scope.specs.Legal.{first_broken}
-use Rattle.proof_code.specs.Writes.{is_unfinished}
-use Rattle.verify.specs.Right.{IsProvable}
 use Rattle.library.specs.declared.submission.TheConstants.{MOST_BYTES}
 use Rattle.library.specs.declared.submission.Submission.{Submission}
 use Rattle.library.specs.declared.verdict.Cause.{Cause}
@@ -36,12 +27,14 @@ pub record IsFirstUnproved (L T : Database) (n : ℕ) (s : Stmt) : Type 0 where
   pub unproved : ¬ IsProved (L ++ T) (length L + n)
   pub earlier : (m : ℕ) (r : Stmt) → m < n → IsProvable T m r → IsProved (L ++ T) (length L + m)
 
--- the text keeps all rules behind L, and statement n is its least `$p` that is not proved
-pub record FailsAt (L : Database) (charter : Option (List ℕ)) (submission : Submission) (n : ℕ) (s : Stmt) : Type 0 where
-  pub statements : Database
-  pub allowed : IsAllowed charter submission statements
-  pub legal : first_broken 1 L statements ≡ None
-  pub fails : IsFirstUnproved L statements n s
+-- why the statements T may not stand behind L: the least rule broken, or the least `$p` that is not proved
+abbrev pub IsFault : Database → Database → Cause → Type 0
+IsFault L T (Rule n rule) = first_broken 1 L T ≡ Some (n, rule)
+IsFault L T (Proof n) =
+    (s : Stmt) × (first_broken 1 L T ≡ None) × IsFirstUnproved L T n s × IsFalse (is_unfinished (proof_of s))
+IsFault L T (Unfinished n) =
+    (s : Stmt) × (first_broken 1 L T ≡ None) × IsFirstUnproved L T n s × IsTrue (is_unfinished (proof_of s))
+IsFault L T cause = ⊥
 
 -- why the submission is not added behind L, under the charter that is there
 abbrev pub IsCause : Database → Option (List ℕ) → Submission → Cause → Type 0
@@ -52,7 +45,4 @@ IsCause L charter submission Shape =
     (length submission.text ≤ MOST_BYTES) × ((tokens : List Name) × HasTokens submission.text tokens × IsNoDatabase tokens)
 IsCause L charter submission (NotChartered n) =
     (T : Database) × IsReadable submission.text T × (forbidden charter submission.author T ≡ Some n)
-IsCause L charter submission (Rule n rule) =
-    (T : Database) × IsAllowed charter submission T × (first_broken 1 L T ≡ Some (n, rule))
-IsCause L charter submission (Proof n) = (s : Stmt) × FailsAt L charter submission n s × IsFalse (is_unfinished (proof_of s))
-IsCause L charter submission (Unfinished n) = (s : Stmt) × FailsAt L charter submission n s × IsTrue (is_unfinished (proof_of s))
+IsCause L charter submission cause = (T : Database) × IsAllowed charter submission T × IsFault L T cause

@@ -3,9 +3,7 @@
 -- The code keeps the numbers of the authors in order; contracts see the list.
 use Rattle.std.specs.Prelude.{ℕ, ◌+◌, ◌≤◌, Bool, true, false, ◌&&◌, nat_lt, ◌==◌, IsTrue, if◌then◌else◌, List, [], ◌∷◌, length, Option, Some, None}
 use Rattle.std.specs.List.{list_any}
-use Rattle.mm_read.specs.declared.stmt.Stmt.{Stmt}
-use Rattle.mm_read.specs.declared.stmt.Stmt.TheVariants.{Const, Axiom}
-use Rattle.mm_read.specs.Statements.{Database}
+use Rattle.library.specs.Words.{Stmt, Const, Axiom, Database}
 use Rattle.library.specs.declared.charter.TheConstants.{MOST_NAMES}
 
 -- each number is below the next

@@ -2,14 +2,7 @@
 -- Source: Metamath, 4.2 and appendix B: each statement keeps the rules, and each `$p` has a right proof.
 -- The code judges what a text adds; here the whole list is judged from its beginning.
 use Rattle.std.specs.Prelude.{ℕ, List}
-use Rattle.mm_read.specs.declared.stmt.Stmt.{Stmt}
-use Rattle.mm_read.specs.Statements.{Database}
-use Rattle.scope.specs.Active.{bares, proof_of}
-use Rattle.scope.specs.Legal.{AllLegal}
-use Rattle.proof_code.specs.declared.item.Item.{Item}
-use Rattle.proof_code.specs.Writes.{Writes}
-use Rattle.verify.specs.Proves.{mandatory_labels}
-use Rattle.verify.specs.Right.{IsProvable, IsRight}
+use Rattle.library.specs.Words.{Stmt, Database, bares, proof_of, AllLegal, Item, Writes, mandatory_labels, IsProvable, IsRight}
 
 -- the tokens of the `$p` at a position write items that are right; a frame and a derivation look at no proof
 pub record IsProved (S : Database) (at : ℕ) : Type 0 where

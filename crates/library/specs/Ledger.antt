@@ -3,7 +3,7 @@
 -- The code has a table by author and number; its entries stand in the order of the log.
 use Rattle.std.specs.Prelude.{ℕ, List, [], ◌∷◌, map, ⊤}
 use Rattle.library.specs.declared.verdict.Verdict.{Verdict}
-use Rattle.library.specs.declared.verdict.Verdict.TheVariants.{Added, Nothing, Repeat, Refused}
+use Rattle.library.specs.declared.verdict.Verdict.TheVariants.{Added, Refused}
 use Rattle.library.specs.LibraryOf.{Decided}
 
 pub record Ledger : Type 0 where
@@ -18,8 +18,7 @@ decided_of entries = map (λ p. record { author = p.0.0; serial = p.0.1; verdict
 abbrev pub IsDecision : Verdict → Type 0
 IsDecision Added = ⊤
 IsDecision (Refused cause) = ⊤
-IsDecision Nothing = ⊥
-IsDecision Repeat = ⊥
+IsDecision verdict = ⊥
 
 abbrev pub AreDecisions : List Decided → Type 0
 AreDecisions [] = ⊤

@@ -1,3 +1,4 @@
+pub mod Words
 pub mod Charters
 pub mod Good
 pub mod Causes

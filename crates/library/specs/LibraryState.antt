@@ -2,8 +2,7 @@
 -- Source: this project's profile.
 -- The code has the statements three times: as they were read, as the state of the rules, and as frames.
 use Rattle.std.specs.Prelude.{◌≡◌, ℕ, ◌+◌, ◌*◌, ◌≤◌, length, Option, Some, None}
-use Rattle.mm_read.specs.Statements.{Database}
-use Rattle.mm_read.specs.Reads.{Reads}
+use Rattle.library.specs.Words.{Database, Reads}
 use Rattle.library.specs.declared.submission.Submission.{Submission}
 use Rattle.library.specs.declared.entry.Entry.{Entry}
 use Rattle.library.specs.declared.entry.Entry.TheVariants.{Text, Charter}

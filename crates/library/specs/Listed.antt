@@ -2,9 +2,7 @@
 -- Source: Metamath, 4.2 (assertions are `$a` and `$p`).
 -- The code copies their labels.
 use Rattle.std.specs.Prelude.{true, false, List, Option, Some, None, filter_map}
-use Rattle.mm_read.specs.declared.stmt.Stmt.{Stmt}
-use Rattle.mm_read.specs.declared.stmt.Stmt.TheVariants.{Axiom, Prove}
-use Rattle.mm_read.specs.Statements.{Database}
+use Rattle.library.specs.Words.{Stmt, Axiom, Prove, Database}
 use Rattle.library.specs.declared.listed.Listed.{Listed}
 
 -- an assertion by its label, and whether it is a `$p`

@@ -1,25 +1,17 @@
 -- The library of a log of texts, by a definition that knows no charter.
 -- Source: this project's profile, as it was before charters.
 -- No code stands on it; a law says that the library of a log without charters is this one.
-use Rattle.std.specs.Prelude.{◌≡◌, ◌≢◌, ℕ, ◌<◌, ◌≤◌, IsTrue, IsFalse, List, [], ◌∷◌, ◌++◌, length, Option, Some, None}
-use Rattle.mm_lex.specs.Alphabet.{Name}
-use Rattle.mm_lex.specs.declared.fault.LexFault.{LexFault}
+use Rattle.std.specs.Prelude.{◌≡◌, ◌≢◌, ◌<◌, ◌≤◌, List, [], ◌∷◌, ◌++◌, length, Option, Some, None}
+use Rattle.library.specs.Words.{Name, LexFault, IsLexFault, Database, HasTokens, IsNoDatabase}
 use Rattle.mm_lex.specs.declared.fault.LexFault.TheVariants as lex
-use Rattle.mm_lex.specs.TextFaults.{IsLexFault}
-use Rattle.mm_read.specs.declared.stmt.Stmt.{Stmt}
-use Rattle.mm_read.specs.Statements.{Database}
-use Rattle.mm_read.specs.Reads.{HasTokens, IsNoDatabase}
-use Rattle.scope.specs.Active.{proof_of}
-use Rattle.scope.specs.Legal.{first_broken}
-use Rattle.proof_code.specs.Writes.{is_unfinished}
 use Rattle.library.specs.declared.submission.TheConstants.{MOST_BYTES}
 use Rattle.library.specs.declared.submission.Submission.{Submission}
 use Rattle.library.specs.declared.verdict.Verdict.{Verdict}
 use Rattle.library.specs.declared.verdict.Verdict.TheVariants.{Added, Nothing, Repeat, Refused}
 use Rattle.library.specs.declared.verdict.Cause.{Cause}
-use Rattle.library.specs.declared.verdict.Cause.TheVariants.{TooLong, Text, Shape, NotChartered, Rule, Proof, Unfinished}
+use Rattle.library.specs.declared.verdict.Cause.TheVariants.{TooLong, Text, Shape}
 use Rattle.library.specs.Good.{Good}
-use Rattle.library.specs.Causes.{IsReadable, IsFirstUnproved}
+use Rattle.library.specs.Causes.{IsReadable, IsFault}
 use Rattle.library.specs.LibraryOf.{Decided, status}
 
 -- the statements added and the verdicts decided
@@ -35,13 +27,6 @@ abbrev pub plain_decided_with : PlainReplica → Submission → Verdict → List
 plain_decided_with old submission verdict =
     old.decided ++ record { author = submission.author; serial = submission.serial; verdict = verdict } ∷ []
 
--- the text keeps all rules behind L, and statement n is its least `$p` that is not proved
-pub record PlainFailsAt (L : Database) (submission : Submission) (n : ℕ) (s : Stmt) : Type 0 where
-  pub statements : Database
-  pub readable : IsReadable submission.text statements
-  pub legal : first_broken 1 L statements ≡ None
-  pub fails : IsFirstUnproved L statements n s
-
 -- why the submission is not added behind L
 abbrev pub IsPlainCause : Database → Submission → Cause → Type 0
 IsPlainCause L submission TooLong = MOST_BYTES < length submission.text
@@ -49,11 +34,7 @@ IsPlainCause L submission Text =
     (length submission.text ≤ MOST_BYTES) × ((fault : LexFault) × IsLexFault submission.text fault × (fault ≢ lex.Memory))
 IsPlainCause L submission Shape =
     (length submission.text ≤ MOST_BYTES) × ((tokens : List Name) × HasTokens submission.text tokens × IsNoDatabase tokens)
-IsPlainCause L submission (Rule n rule) =
-    (T : Database) × IsReadable submission.text T × (first_broken 1 L T ≡ Some (n, rule))
-IsPlainCause L submission (Proof n) = (s : Stmt) × PlainFailsAt L submission n s × IsFalse (is_unfinished (proof_of s))
-IsPlainCause L submission (Unfinished n) = (s : Stmt) × PlainFailsAt L submission n s × IsTrue (is_unfinished (proof_of s))
-IsPlainCause L submission (NotChartered n) = ⊥
+IsPlainCause L submission cause = (T : Database) × IsReadable submission.text T × IsFault L T cause
 
 -- a text that was not decided before makes the replica new of old, with this verdict
 abbrev pub PlainDecides : PlainReplica → Submission → Verdict → PlainReplica → Type 0
@@ -63,8 +44,7 @@ PlainDecides old submission Added new =
 PlainDecides old submission (Refused cause) new =
     IsPlainCause old.statements submission cause
     × (new ≡ record { statements = old.statements; decided = plain_decided_with old submission (Refused cause) })
-PlainDecides old submission Nothing new = ⊥
-PlainDecides old submission Repeat new = ⊥
+PlainDecides old submission verdict new = ⊥
 
 -- with what was decided on the text before
 abbrev pub PlainAppliesAt : Option Verdict → PlainReplica → Submission → Verdict → PlainReplica → Type 0

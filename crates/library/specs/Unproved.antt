@@ -2,10 +2,7 @@
 -- Source: none; for the private functions of `unproved`.
 -- The code keeps their positions, in order.
 use Rattle.std.specs.Prelude.{◌≡◌, ℕ, ◌<◌, ◌≤◌, List, [], ◌∷◌, length, slice_get, get_or, Option, Some, Result, IfOk}
-use Rattle.mm_read.specs.declared.stmt.Stmt.{Stmt}
-use Rattle.mm_read.specs.Statements.{Database}
-use Rattle.scope.specs.Active.{bares}
-use Rattle.verify.specs.Right.{IsProvable}
+use Rattle.library.specs.Words.{Stmt, Database, bares, IsProvable}
 use Rattle.verify_pool.specs.Least.{IsLeast}
 use Rattle.library.specs.Judging.{StandsProved}
 

@@ -1,38 +1,24 @@
--- Which positions a walk down from a `$p` has marked.
--- Source: none; for the private functions of `uses`.
+-- Which positions a walk over citations has marked.
+-- Source: none; for the private functions of `uses` and `users`.
 -- The marks are a list with one place for each position, the first for position 1.
-use Rattle.std.specs.Prelude.{◌≡◌, ◌↔◌, ◌⊎◌, ℕ, zero, suc, ◌≤◌, Bool, true, false, List, [], ◌∷◌, ◌++◌, length, map, cond, ◌&&◌, if◌then◌else◌, Option, Some, None, slice_get, slice_index_or, slice_set}
-use Rattle.std.specs.List.{list_any}
-use Rattle.mm_lex.specs.Alphabet.{Name, name_eq, has_name}
-use Rattle.mm_read.specs.declared.stmt.Stmt.{Stmt}
-use Rattle.mm_read.specs.declared.stmt.Stmt.TheVariants.{Axiom}
-use Rattle.mm_read.specs.Statements.{Database}
-use Rattle.scope.specs.Active.{before, stmt_at}
-use Rattle.frame.specs.FrameOf.{hypotheses}
-use Rattle.frame.specs.Citations.{Carries}
+use Rattle.std.specs.Prelude.{◌≡◌, ◌↔◌, ◌⊎◌, ℕ, zero, suc, ◌≤◌, Bool, true, false, List, [], ◌∷◌, ◌++◌, length, map, cond, ◌&&◌, if◌then◌else◌, Option, Some, None, slice_index_or, slice_set}
+use Rattle.library.specs.Words.{Name, name_eq, has_name, Stmt, Database, stmt_at, Carries, Item, finish, label_or_none}
 use Rattle.frame.specs.AtPosition.{ArePositions}
-use Rattle.proof_code.specs.declared.item.Item.{Item}
-use Rattle.proof_code.specs.declared.item.Item.TheVariants.{Cite}
-use Rattle.proof_code.specs.Writes.{finish, WritesCompressed}
-use Rattle.verify.specs.Proves.{label_or_none}
-use Rattle.library.specs.Uses.{Cites}
+use Rattle.library.specs.Uses.{ItemsCite, Cites, IsAxiomAt}
+
+-- whether a position that there may be is marked
+abbrev pub is_marked : List Bool → Option ℕ → Bool
+is_marked marks (Some (suc k)) = slice_index_or marks k false
+is_marked marks o = false
 
 -- the position is marked
 abbrev pub IsMarked : List Bool → ℕ → Type 0
-IsMarked marks zero = ⊥
-IsMarked marks (suc k) = slice_index_or marks k false ≡ true
-
--- the same as a test, of a position that there may be
-abbrev pub is_marked : List Bool → Option ℕ → Bool
-is_marked marks None = false
-is_marked marks (Some zero) = false
-is_marked marks (Some (suc k)) = slice_index_or marks k false
+IsMarked marks a = is_marked marks (Some a) ≡ true
 
 -- the marks, with that of the position
 abbrev pub mark : Option ℕ → List Bool → List Bool
-mark None marks = marks
-mark (Some zero) marks = marks
 mark (Some (suc k)) marks = slice_set marks k true
+mark o marks = marks
 
 -- the position that the item of a number cites, where these are the positions of its labels
 abbrev pub place_of : List (Option ℕ) → ℕ → Option ℕ
@@ -50,57 +36,20 @@ pub record AreWanted (S : Database) (labels : List Name) (marks wanted : List Bo
   pub named : ArePositions S labels places
   pub tests : wanted ≡ map (is_marked marks) places
 
--- an item cites the statement at a
-pub record ItemsCite (S : Database) (items : List Item) (a : ℕ) : Type 0 where
-  pub place : ℕ
-  pub label : Name
-  pub cited : Stmt
-  pub cites : slice_get items place ≡ Some (Cite label)
-  pub carries : Carries S a cited label
-
--- what the items cite, as far as there is a place for it, is marked beside what was
-pub record MarksItems (S : Database) (items : List Item) (old new : List Bool) : Type 0 where
+-- the positions that pass, as far as there is a place for them, are marked beside what was
+pub record Marks (Passes : ℕ → Type 0) (old new : List Bool) : Type 0 where
   pub count : length new ≡ length old
   pub kept : (a : ℕ) → IsMarked old a → IsMarked new a
-  pub sound : (a : ℕ) → IsMarked new a → IsMarked old a ⊎ ItemsCite S items a
-  pub whole : (a : ℕ) → a ≤ length old → ItemsCite S items a → IsMarked new a
+  pub sound : (a : ℕ) → IsMarked new a → IsMarked old a ⊎ Passes a
+  pub whole : (a : ℕ) → a ≤ length old → Passes a → IsMarked new a
 
--- the same of the proof of the statement at a position
-pub record MarksCited (S : Database) (at : ℕ) (old new : List Bool) : Type 0 where
-  pub count : length new ≡ length old
-  pub kept : (a : ℕ) → IsMarked old a → IsMarked new a
-  pub sound : (a : ℕ) → IsMarked new a → IsMarked old a ⊎ Cites S at a
-  pub whole : (a : ℕ) → a ≤ length old → Cites S at a → IsMarked new a
-
--- one citation after another leads from the one position to the other
-pub data Reaches (S : Database) : ℕ → ℕ → Type 0 where
-  starts : {j : ℕ} → Reaches S j j
-  leads : {j b a : ℕ} → Reaches S j b → Cites S b a → Reaches S j a
-
--- just what citations lead to is marked
-abbrev pub AreReached : Database → ℕ → List Bool → Type 0
-AreReached S j marks = (a : ℕ) → IsMarked marks a ↔ Reaches S j a
-
--- the label of a `$a`
-abbrev pub axiom_label : Stmt → List Name
-axiom_label (Axiom label expr) = label ∷ []
-axiom_label s = []
-
--- the labels of the `$a` that are marked
-abbrev pub axioms_in : Database → List Bool → List Name
-axioms_in [] marks = []
-axioms_in (s ∷ S) [] = []
-axioms_in (s ∷ S) (true ∷ marks) = axiom_label s ++ axioms_in S marks
-axioms_in (s ∷ S) (false ∷ marks) = axioms_in S marks
+-- a `$a` stands there, and is marked
+abbrev pub IsMarkedAxiom : Database → List Bool → ℕ → Type 0
+IsMarkedAxiom S marks a = IsMarked marks a × IsAxiomAt S a
 
 -- an item cites a statement that is marked
 abbrev pub ItemsMeet : Database → List Item → List Bool → Type 0
 ItemsMeet S items marks = (a : ℕ) × IsMarked marks a × ItemsCite S items a
-
--- where the tokens of a compressed proof write items under these labels, it was found whether one cites a statement that is marked
-abbrev pub TellsMeeting : Database → List Name → List Name → List Bool → Bool → Type 0
-TellsMeeting S mandatory tokens marks found =
-    (other : List Item) → WritesCompressed tokens mandatory other → (items : List Item) × WritesCompressed tokens mandatory items × (found ≡ true ↔ ItemsMeet S items marks)
 
 -- the same of the proof of the statement at a position
 abbrev pub ProofMeets : Database → ℕ → List Bool → Type 0
@@ -130,8 +79,3 @@ pub record ListsSome (S : Database) (tokens : List Name) (marks : List Bool) : T
   pub marked : IsMarked marks position
   pub carries : Carries S position stmt label
   pub listed : has_name label (listed_in tokens) ≡ true
-
--- neither one of them, nor a mandatory hypothesis of the statement s at a position, is marked
-pub record MeetsNothing (S : Database) (at : ℕ) (s : Stmt) (tokens : List Name) (marks : List Bool) : Type 0 where
-  pub mandatory : list_any (λ position. is_marked marks (Some position)) (hypotheses (before S at) s) ≡ false
-  pub lists : ListsNone S tokens marks

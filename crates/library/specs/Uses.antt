@@ -2,17 +2,8 @@
 -- Source: Metamath, 4.2.6 and appendix B: a proof cites by labels; a label that is listed and not cited does not count.
 -- The code walks the positions once, from the `$p` down or from the statement up; here one citation leads to the next.
 use Rattle.std.specs.Prelude.{◌≡◌, ◌↔◌, ℕ, ◌<◌, Bool, true, false, IsTrue, List, [], ◌∷◌, map, Some, slice_get}
-use Rattle.mm_lex.specs.Alphabet.{Name}
-use Rattle.mm_read.specs.declared.stmt.Stmt.{Stmt}
-use Rattle.mm_read.specs.declared.stmt.Stmt.TheVariants.{Axiom}
-use Rattle.mm_read.specs.Statements.{Database}
-use Rattle.scope.specs.Active.{bares, stmt_at, proof_of}
-use Rattle.frame.specs.Citations.{Carries}
-use Rattle.proof_code.specs.declared.item.Item.{Item}
+use Rattle.library.specs.Words.{Name, Stmt, Axiom, Database, bares, stmt_at, proof_of, Carries, Item, Writes, label_or_none, mandatory_labels, IsProvable}
 use Rattle.proof_code.specs.declared.item.Item.TheVariants.{Cite}
-use Rattle.proof_code.specs.Writes.{Writes}
-use Rattle.verify.specs.Proves.{label_or_none, mandatory_labels}
-use Rattle.verify.specs.Right.{IsProvable}
 
 -- the tokens of the `$p` at j write these items
 pub record HasItems (S : Database) (j : ℕ) (items : List Item) : Type 0 where
@@ -20,15 +11,19 @@ pub record HasItems (S : Database) (j : ℕ) (items : List Item) : Type 0 where
   pub provable : IsProvable S j stmt
   pub written : Writes (proof_of stmt) (mandatory_labels (bares S) j stmt) items
 
--- an item of the `$p` at j cites the statement at a
-pub record Cites (S : Database) (j a : ℕ) : Type 0 where
-  pub items : List Item
-  pub has : HasItems S j items
+-- one of the items cites the statement at a
+pub record ItemsCite (S : Database) (items : List Item) (a : ℕ) : Type 0 where
   pub place : ℕ
   pub label : Name
   pub cited : Stmt
   pub cites : slice_get items place ≡ Some (Cite label)
   pub carries : Carries S a cited label
+
+-- an item of the `$p` at j cites the statement at a
+pub record Cites (S : Database) (j a : ℕ) : Type 0 where
+  pub items : List Item
+  pub has : HasItems S j items
+  pub one : ItemsCite S items a
 
 abbrev pub is_axiom : Stmt → Bool
 is_axiom (Axiom label expr) = true

@@ -1,15 +1,15 @@
 //! Questions on a label: what the proof of a `$p` rests on, its items and the derivation that they spell; who uses a statement.
-ghost use Rattle.std.specs.Prelude.{◌≡◌, ◌≢◌, ◌≤◌, ◌↔◌, ◌⊎◌, length, Some, Ok, Err, IfOk, IfErr, MatchResult};
+ghost use Rattle.std.specs.Prelude.{◌≡◌, ◌≢◌, ◌↔◌, ◌⊎◌, Ok, Err, IfOk, IfErr, MatchResult};
 ghost use Rattle.mm_read.specs.declared.stmt.Stmt.{Stmt as Statement};
-ghost use Rattle.scope.specs.Active.{bares, is_provable, stmt_at};
-ghost use Rattle.proof_code.specs.declared.item.Item.{Item};
+ghost use Rattle.scope.specs.Active.{bares, is_provable};
 ghost use Rattle.verify.specs.Derivations.{Derivation, derivation_of};
 ghost use Rattle.verify.specs.Right.{IsProvable, IsRight, IsSmall};
 ghost use Rattle.frame.specs.AtPosition.{HasLabelsOnce};
 ghost use Rattle.library.specs.Good.{Good};
-ghost use Rattle.library.specs.Uses.{HasItems, Uses, IsUser, AreLabelsOf};
+ghost use Rattle.library.specs.Uses.{HasItems};
 ghost use Rattle.library.specs.Asked.{HasNoLabel, NamesProof, NamesNoProof, IsTrace, IsUsage, IsProofOf, IsTreeOf, IsNoProof, SpellsTree, SpellsLargeTree};
 
+use crate::base::Base;
 use crate::library::Library;
 use crate::read_items::items_of;
 use crate::users::users;
@@ -18,7 +18,7 @@ use frame::Frames;
 use mm_lex::Word;
 use mm_read::Stmt;
 use proof_code::Items;
-use std::alloc::{AllocError, Global};
+use std::alloc::AllocError;
 use verify::{Tree, TreeFault, derivation};
 
 /// Why a question on a label has no answer.
@@ -57,7 +57,11 @@ impl Library {
         ensures not_provable { (result ≡ Err AskFault.NotProvable) ↔ NamesNoProof self.now.replica.statements label.now }
         ensures small { result ≢ Err AskFault.TooLarge }
     {
-        self.base().trace(label)
+        let base = self.base();
+        match proof_at(base, label) {
+            Ok(at) => axioms_used(base, at),
+            Err(fault) => Err(fault),
+        }
     }
 
     /// The labels of the `$p` whose proofs cite what has the label, a hypothesis or an assertion, each once, in the order of the
@@ -72,7 +76,11 @@ impl Library {
         ensures any_kind { result ≢ Err AskFault.NotProvable }
         ensures small { result ≢ Err AskFault.TooLarge }
     {
-        self.base().usage(label, all)
+        let base = self.base();
+        match base.frames().position(label) {
+            Some(at) => users(base, at, all),
+            None => Err(AskFault::NoLabel),
+        }
     }
 
     /// The position of the `$p` of the label, and the items that the tokens of its proof write, which are right.
@@ -84,7 +92,11 @@ impl Library {
         ensures not_provable { (result ≡ Err AskFault.NotProvable) ↔ NamesNoProof self.now.replica.statements label.now }
         ensures small { result ≢ Err AskFault.TooLarge }
     {
-        self.base().items(label)
+        let base = self.base();
+        match proof_at(base, label) {
+            Ok(at) => items_at(base, at),
+            Err(fault) => Err(fault),
+        }
     }
 
     /// The frames of the statements, no two of which carry one label.
@@ -109,146 +121,59 @@ impl Library {
             → (result ≡ Err AskFault.TooLarge) ⊎ (result ≡ Err AskFault.Memory) }
         ensures only_large { result ≡ Err AskFault.TooLarge → (t : Derivation) × IsTreeOf self.now.replica.statements label.now t × (¬ IsSmall t) }
     {
-        self.base().tree(label)
+        let base = self.base();
+        match proof_at(base, label) {
+            Ok(at) => tree_at(base, at),
+            Err(fault) => Err(fault),
+        }
     }
 }
 
 /// The position of the `$p` of the label.
-pub(crate) fn proof_at(
-    frames: &Frames,
-    statements: &[Stmt],
-    label: &[u8],
-) -> Result<usize, AskFault>
-    requires same { frames.now.statements ≡ bares statements.now }
-    ensures { MatchResult result (NamesProof statements.now label.now) (IsNoProof statements.now label.now) }
+fn proof_at(base: &Base, label: &[u8]) -> Result<usize, AskFault>
+    ensures found { MatchResult result (λ at. NamesProof base.now label.now at × (¬ NamesNoProof base.now label.now)) (IsNoProof base.now label.now) }
+    ensures good { Good base.now }
 {
-    let Some(at) = frames.position(label) else {
+    let Some(at) = base.frames().position(label) else {
         return Err(AskFault::NoLabel);
     };
-    if is_proof_at(statements, at) {
+    if is_proof(base.statement(at)) {
         Ok(at)
     } else {
         Err(AskFault::NotProvable)
     }
 }
 
-/// Whether a `$p` stands at the position.
-pub(crate) fn is_proof_at(statements: &[Stmt], at: usize) -> bool
-    requires { (1 ≤ at) × (at ≤ length statements.now) }
-    ensures { (s : Statement) → stmt_at statements.now at ≡ Some s → result ≡ is_provable s }
+/// Whether the statement is a `$p`.
+pub(crate) fn is_proof(statement: &Stmt) -> bool
+    ensures { result ≡ is_provable statement.now }
 {
-    matches!(&statements[at - 1], Stmt::Prove { .. })
+    matches!(statement, Stmt::Prove { .. })
 }
 
-/// The labels of the `$a` that the `$p` at a position uses.
-pub(crate) fn trace_at(
-    alloc: Global,
-    frames: &Frames,
-    statements: &[Stmt],
-    at: usize,
-) -> Result<Vec<Word>, AskFault>
-    requires same { frames.now.statements ≡ bares statements.now }
-    requires once { HasLabelsOnce frames.now.statements }
-    requires good { Good statements.now }
-    requires provable { (s : Statement) × IsProvable statements.now at s }
-    ensures { MatchResult result (λ labels. AreLabelsOf statements.now (Uses statements.now at) labels.items) (λ fault. fault ≡ AskFault.Memory) }
+/// The position and the items of the `$p` there.
+fn items_at(base: &Base, at: usize) -> Result<(usize, Items), AskFault>
+    requires { (s : Statement) × IsProvable base.now at s }
+    ensures { MatchResult result (λ found. (found.0 ≡ at) × HasItems base.now at found.1 × IsRight (bares base.now) at found.1) (λ fault. fault ≡ AskFault.Memory) }
 {
-    Ok(axioms_used(alloc, frames, statements, at)?)
-}
-
-/// The labels of the `$p` that use what has the label.
-pub(crate) fn usage_of(
-    alloc: Global,
-    frames: &Frames,
-    statements: &[Stmt],
-    label: &[u8],
-    all: bool,
-) -> Result<Vec<Word>, AskFault>
-    requires same { frames.now.statements ≡ bares statements.now }
-    requires once { HasLabelsOnce frames.now.statements }
-    requires good { Good statements.now }
-    ensures labels { IfOk result (λ labels. IsUsage statements.now label.now all labels.items) }
-    ensures no_label { (result ≡ Err AskFault.NoLabel) ↔ HasNoLabel statements.now label.now }
-    ensures fault { IfErr result (λ fault. (fault ≡ AskFault.NoLabel) ⊎ (fault ≡ AskFault.Memory)) }
-{
-    match frames.position(label) {
-        Some(at) => usage_at(alloc, frames, statements, at, all),
-        None => Err(AskFault::NoLabel),
+    match items_of(base, at)? {
+        Some(items) => Ok((at, items)),
+        None => unreachable!(),
     }
-}
-
-/// The labels of the `$p` that use the statement at a position.
-fn usage_at(
-    alloc: Global,
-    frames: &Frames,
-    statements: &[Stmt],
-    at: usize,
-    all: bool,
-) -> Result<Vec<Word>, AskFault>
-    requires same { frames.now.statements ≡ bares statements.now }
-    requires once { HasLabelsOnce frames.now.statements }
-    requires good { Good statements.now }
-    requires place { (1 ≤ at) × (at ≤ length statements.now) }
-    ensures { MatchResult result (λ labels. AreLabelsOf statements.now (IsUser statements.now all at) labels.items) (λ fault. fault ≡ AskFault.Memory) }
-{
-    Ok(users(alloc, frames, statements, at, all)?)
-}
-
-/// The items of the `$p` at a position.
-pub(crate) fn items_at(
-    alloc: Global,
-    frames: &Frames,
-    statements: &[Stmt],
-    at: usize,
-) -> Result<(usize, Items), AskFault>
-    requires same { frames.now.statements ≡ bares statements.now }
-    requires good { Good statements.now }
-    requires provable { (s : Statement) × IsProvable statements.now at s }
-    ensures { MatchResult result (λ found. (found.0 ≡ at) × HasItems statements.now at found.1 × IsRight (bares statements.now) at found.1) (λ fault. fault ≡ AskFault.Memory) }
-{
-    Ok((at, proof_items(alloc, frames, statements, at)?))
 }
 
 /// The derivation that the `$p` at a position spells.
-pub(crate) fn tree_at(
-    alloc: Global,
-    frames: &Frames,
-    statements: &[Stmt],
-    at: usize,
-) -> Result<Tree, AskFault>
-    requires same { frames.now.statements ≡ bares statements.now }
-    requires good { Good statements.now }
-    requires provable { (s : Statement) × IsProvable statements.now at s }
-    ensures tree { IfOk result (λ tree. SpellsTree statements.now at (derivation_of tree)) }
+fn tree_at(base: &Base, at: usize) -> Result<Tree, AskFault>
+    requires provable { (s : Statement) × IsProvable base.now at s }
+    ensures tree { IfOk result (λ tree. SpellsTree base.now at (derivation_of tree)) }
     ensures small { IfOk result (λ tree. IsSmall (derivation_of tree)) }
     ensures fault { IfErr result (λ fault. (fault ≡ AskFault.TooLarge) ⊎ (fault ≡ AskFault.Memory)) }
-    ensures large { SpellsLargeTree statements.now at → (result ≡ Err AskFault.TooLarge) ⊎ (result ≡ Err AskFault.Memory) }
-    ensures only_large { result ≡ Err AskFault.TooLarge → SpellsLargeTree statements.now at }
+    ensures large { SpellsLargeTree base.now at → (result ≡ Err AskFault.TooLarge) ⊎ (result ≡ Err AskFault.Memory) }
+    ensures only_large { result ≡ Err AskFault.TooLarge → SpellsLargeTree base.now at }
 {
-    match proof_items(alloc, frames, statements, at) {
-        Ok(items) => ask_tree(derivation(alloc, frames, at, &items)),
-        Err(AllocError) => Err(AskFault::Memory),
-    }
-}
-
-/// The items of the `$p` at a position.
-fn proof_items(
-    alloc: Global,
-    frames: &Frames,
-    statements: &[Stmt],
-    at: usize,
-) -> Result<Items, AllocError>
-    requires same { frames.now.statements ≡ bares statements.now }
-    requires good { Good statements.now }
-    requires provable { (s : Statement) × IsProvable statements.now at s }
-    ensures { IfOk result (λ items. HasItems statements.now at items) }
-{
-    let Stmt::Prove { proof, .. } = &statements[at - 1] else {
-        unreachable!();
-    };
-    match items_of(alloc, frames, statements, at, proof)? {
-        Some(items) => Ok(items),
-        None => unreachable!(),
+    match items_at(base, at) {
+        Ok(found) => ask_tree(derivation(base.alloc(), base.frames(), at, &found.1)),
+        Err(fault) => Err(fault),
     }
 }
 

@@ -1,5 +1,5 @@
 //! The authors that a charter names.
-ghost use Rattle.std.specs.Prelude.{◌≡◌, length, IfOk, MatchOption};
+ghost use Rattle.std.specs.Prelude.{◌≡◌, IfOk, MatchOption};
 ghost use Rattle.library.specs.Charters.{AreNames, is_rising, names_author};
 
 use std::alloc::AllocError;

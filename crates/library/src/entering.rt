@@ -1,9 +1,8 @@
 //! The statements of a text behind those that stand: rules and frames take them, up to the first that breaks a rule.
-ghost use Rattle.std.specs.Prelude.{◌≡◌, ℕ, ◌+◌, ◌*◌, ◌≤◌, ◌∷◌, [], ◌++◌, length, Some, None, IfOk, IfErr, IsTrue, is_some};
+ghost use Rattle.std.specs.Prelude.{◌≡◌, ◌+◌, ◌*◌, ◌≤◌, ◌∷◌, [], ◌++◌, length, Some, None, IfOk, IsTrue, is_some};
 ghost use Rattle.mm_read.specs.Statements.{IsShaped, AreShaped};
-ghost use Rattle.scope.specs.declared.rule.Rule.{Rule as BrokenRule};
 ghost use Rattle.scope.specs.Active.{bare, bares, is_closed, label_of};
-ghost use Rattle.scope.specs.Legal.{IsLegal, broken_rule, first_broken};
+ghost use Rattle.scope.specs.Legal.{broken_rule, first_broken};
 ghost use Rattle.library.specs.Judging.{Begins};
 
 use frame::Frames;
@@ -56,40 +55,18 @@ pub(crate) fn enter(
     ensures counted { steps.new.count ≤ steps.old.count + 2 * length statements.now }
 {
     for (index, statement) in statements.iter().enumerate() {
-        match enter_one(rules, frames, statement, steps)? {
-            None => {}
-            Some(rule) => return Ok(Some((index + 1, rule))),
+        match frames.add(rules, statement, steps) {
+            Ok(()) => {}
+            Err(rule) => {
+                if rule == Rule::Memory {
+                    return Err(AllocError);
+                }
+                return Ok(Some((index + 1, rule)));
+            }
         }
     }
     match rules.close_at_end() {
         Ok(()) => Ok(None),
         Err(rule) => Ok(Some((statements.len() + 1, rule))),
-    }
-}
-
-/// Adds the statement to the frames and the rules, where it breaks no rule.
-fn enter_one(
-    rules: &mut Rules,
-    frames: &mut Frames,
-    statement: &Stmt,
-    steps: &mut Steps,
-) -> Result<Option<Rule>, AllocError>
-    requires shaped { IsShaped statement.now }
-    requires same { frames.old.statements ≡ rules.old.statements }
-    ensures found { IfOk result (λ broken. broken ≡ broken_rule rules.old.statements statement.now) }
-    ensures rules { result ≡ Ok None → rules.new.statements ≡ rules.old.statements ++ bare statement.now ∷ [] }
-    ensures frames { result ≡ Ok None → frames.new.statements ≡ frames.old.statements ++ bare statement.now ∷ [] }
-    ensures begins { Begins frames.old.statements frames.new.statements }
-    ensures marked { rules.new.marked ≡ rules.old.marked }
-    ensures counted { steps.new.count ≤ steps.old.count + 2 }
-{
-    match frames.add(rules, statement, steps) {
-        Ok(()) => Ok(None),
-        Err(rule) => {
-            if rule == Rule::Memory {
-                return Err(AllocError);
-            }
-            Ok(Some(rule))
-        }
     }
 }

@@ -1,20 +1,18 @@
 //! One replica: the statements that the entries of a log validly add, and the verdicts on them.
-ghost use Rattle.std.specs.Prelude.{◌≡◌, ◌≤◌, ℕ, None, Some, IfOk, IfSome, OnErr, option_map};
+ghost use Rattle.std.specs.Prelude.{◌≡◌, None, Some, IfOk, IfSome, OnErr, option_map};
 ghost use Rattle.std.specs.Fn.{FnReturnsAt};
 ghost use Rattle.mm_read.specs.Statements.{AreShaped};
-ghost use Rattle.library.specs.Charters.{AreNames};
 ghost use Rattle.library.specs.Good.{Good};
 ghost use Rattle.library.specs.LibraryOf.{Applies, empty, status};
 ghost use Rattle.library.specs.Ledger.{IsDecision};
-ghost use Rattle.library.specs.LibraryState.{IsWithinSteps, IsWithinEntry, IsWithinText};
-ghost use Rattle.library.specs.Judging.{Judges, JudgesText, JudgesCharter, ReadsTexts};
+ghost use Rattle.library.specs.LibraryState.{IsWithinSteps, IsWithinEntry};
+ghost use Rattle.library.specs.Judging.{Judges, ReadsTexts};
 ghost use Rattle.library.specs.Unproved.{FindsLeast};
 
 use crate::base::Base;
 use crate::charter::Names;
 use crate::entry::Entry;
 use crate::entry_text::{may_declare, read_text};
-use crate::submission::Submission;
 use crate::unproved::Proofs;
 use crate::verdict::{Cause, Verdict};
 use crate::verdicts::Verdicts;
@@ -152,11 +150,6 @@ impl Library {
         self.base.statements()
     }
 
-    /// The allocator of all that the library keeps and answers.
-    pub(crate) fn alloc(&self) -> Global {
-        self.alloc
-    }
-
     /// The statements with what judges them.
     pub(crate) fn base(&self) -> &Base
         ensures { result.now ≡ self.now.replica.statements }
@@ -172,7 +165,8 @@ impl Library {
     }
 }
 
-/// The verdict on an entry that was not decided before, and what it changes.
+/// The verdict on an entry that was not decided before. The statements of a text are added where they are good; a charter
+/// counts from now on where it is added.
 fn judge<
     T: Fn(&[u8]) -> Result<Vec<Stmt>, ReadFault>,
     F: Fn(&Proofs<'_>) -> Result<Option<usize>, AllocError>,
@@ -189,57 +183,25 @@ fn judge<
     requires callable { F.IsAlwaysCallable least.now }
     requires finds { FindsLeast (FnReturnsAt F.Fn least.now) }
     ensures judged { IfOk result (λ verdict. Judges base.old charter.old entry.now verdict base.new charter.new) }
+    ensures decided { IfOk result IsDecision }
     ensures base { OnErr result (base.new ≡ base.old) }
     ensures charter { OnErr result (charter.new ≡ charter.old) }
     ensures counted { IsWithinEntry entry.now steps.old.count steps.new.count }
 {
     match entry {
-        Entry::Text(submission) => judge_text(base, charter, submission, steps, read, least),
-        Entry::Charter { author, names, .. } => judge_charter(charter, *author, names),
-    }
-}
-
-/// The verdict on a text that was not decided before, whose statements are added where they are good.
-fn judge_text<
-    T: Fn(&[u8]) -> Result<Vec<Stmt>, ReadFault>,
-    F: Fn(&Proofs<'_>) -> Result<Option<usize>, AllocError>,
->(
-    base: &mut Base,
-    charter: &Option<Names>,
-    submission: &Submission,
-    steps: &mut Steps,
-    read: &T,
-    least: &F,
-) -> Result<Verdict, AllocError>
-    requires readable { T.IsAlwaysCallable read.now }
-    requires reads { ReadsTexts (FnReturnsAt T.Fn read.now) }
-    requires callable { F.IsAlwaysCallable least.now }
-    requires finds { FindsLeast (FnReturnsAt F.Fn least.now) }
-    ensures judged { IfOk result (λ verdict. JudgesText base.old charter.now submission.now verdict base.new) }
-    ensures base { OnErr result (base.new ≡ base.old) }
-    ensures counted { IsWithinText submission.now steps.old.count steps.new.count }
-{
-    match read_text(charter, submission, read)? {
-        Ok(statements) => match base.extend(statements, steps, least)? {
-            None => Ok(Verdict::Added),
-            Some(cause) => Ok(Verdict::Refused(cause)),
+        Entry::Text(submission) => match read_text(charter, submission, read)? {
+            Ok(statements) => match base.extend(statements, steps, least)? {
+                None => Ok(Verdict::Added),
+                Some(cause) => Ok(Verdict::Refused(cause)),
+            },
+            Err(cause) => Ok(Verdict::Refused(cause)),
         },
-        Err(cause) => Ok(Verdict::Refused(cause)),
+        Entry::Charter { author, names, .. } => {
+            if !may_declare(charter, *author) {
+                return Ok(Verdict::Refused(Cause::NotChartered { statement: 0 }));
+            }
+            *charter = Some(names.copy()?);
+            Ok(Verdict::Added)
+        }
     }
-}
-
-/// The verdict on a charter that was not decided before, which counts from now on where it is added.
-fn judge_charter(
-    charter: &mut Option<Names>,
-    author: u64,
-    names: &Names,
-) -> Result<Verdict, AllocError>
-    ensures judged { IfOk result (λ verdict. JudgesCharter charter.old author names.now verdict charter.new) }
-    ensures charter { OnErr result (charter.new ≡ charter.old) }
-{
-    if !may_declare(charter, author) {
-        return Ok(Verdict::Refused(Cause::NotChartered { statement: 0 }));
-    }
-    *charter = Some(names.copy()?);
-    Ok(Verdict::Added)
 }

@@ -24,7 +24,12 @@ impl Library {
     pub fn list(&self) -> Result<Vec<Listed>, AllocError>
         ensures { IfOk result (λ list. list.items ≡ listed self.now.replica.statements) }
     {
-        assertions(self.alloc(), self.statements())
+        let alloc = self.base().alloc();
+        let mut list = Vec::new(alloc);
+        for statement in self.statements() {
+            push_assertion(alloc, &mut list, statement)?;
+        }
+        Ok(list)
     }
 
     /// The statements as a text in the export form, which reads as exactly the statements.
@@ -34,19 +39,8 @@ impl Library {
         ensures text { IfOk result (λ text. text.items ≡ export_of self.now.replica.statements) }
         ensures reads { IfOk result (λ text. Reads text.items self.now.replica.statements) }
     {
-        spell(self.alloc(), self.statements())
+        spell(self.base().alloc(), self.statements())
     }
-}
-
-/// The assertions among the statements.
-fn assertions(alloc: Global, statements: &[Stmt]) -> Result<Vec<Listed>, AllocError>
-    ensures { IfOk result (λ list. list.items ≡ listed statements.now) }
-{
-    let mut list = Vec::new(alloc);
-    for statement in statements {
-        push_assertion(alloc, &mut list, statement)?;
-    }
-    Ok(list)
 }
 
 /// Adds the statement to the list, where it is an assertion.

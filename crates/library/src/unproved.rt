@@ -6,7 +6,7 @@ ghost use Rattle.verify.specs.Right.{Says};
 ghost use Rattle.library.specs.Judging.{StandsProved, IsLeastUnproved};
 ghost use Rattle.library.specs.Unproved.{AreBehind, FindsLeast};
 
-use crate::asked::is_proof_at;
+use crate::asked::is_proof;
 use frame::Frames;
 use mm_read::Stmt;
 use std::alloc::{AllocError, Global};
@@ -89,7 +89,7 @@ fn positions_behind(
 {
     let mut positions = Vec::new(alloc);
     for index in front..statements.len() {
-        if is_proof_at(statements, index + 1) {
+        if is_proof(&statements[index]) {
             positions.push(index + 1)?;
         }
     }

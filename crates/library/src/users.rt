@@ -1,19 +1,17 @@
 //! Who uses a statement: the `$p` that cite it, and those that cite one which rests on it.
-ghost use Rattle.std.specs.Prelude.{◌≡◌, ℕ, ◌≤◌, ◌↔◌, ◌++◌, List, true, false, Some, length, map, take, IfOk, IsTrue, OnOk};
+ghost use Rattle.std.specs.Prelude.{◌≡◌, ◌≤◌, ◌↔◌, ◌++◌, List, true, false, Some, length, map, take, IfOk, OnOk, MatchResult};
 ghost use Rattle.std.specs.List.{list_any};
 ghost use Rattle.mm_lex.specs.Alphabet.{Name};
 ghost use Rattle.mm_read.specs.declared.stmt.Stmt.{Stmt as Statement};
-ghost use Rattle.scope.specs.Active.{bares, proof_of, stmt_at};
-ghost use Rattle.frame.specs.FrameOf.{HasAssertion};
+ghost use Rattle.scope.specs.Active.{proof_of};
 ghost use Rattle.frame.specs.AtPosition.{HasLabelsOnce};
 ghost use Rattle.proof_code.specs.ItemNumbers.{items_of};
-ghost use Rattle.proof_code.specs.Writes.{is_compressed};
-ghost use Rattle.verify.specs.Proves.{mandatory_labels};
 ghost use Rattle.verify.specs.Right.{IsProvable};
-ghost use Rattle.library.specs.Good.{Good};
 ghost use Rattle.library.specs.Uses.{IsUser, AreLabelsOf};
-ghost use Rattle.library.specs.UseMarks.{is_marked, AreWanted, ItemsMeet, ProofMeets, TellsMeeting, ListsNone, ListsSome, MeetsNothing, NotesUser};
+ghost use Rattle.library.specs.UseMarks.{is_marked, AreWanted, ItemsMeet, ProofMeets, ListsNone, ListsSome, NotesUser};
 
+use crate::asked::AskFault;
+use crate::base::Base;
 use crate::uses::mark_position;
 use frame::Frames;
 use mm_lex::{Word, Words};
@@ -26,33 +24,17 @@ use std::alloc::{AllocError, Global};
 ///
 /// Errors: a growth was refused. Cost: that of the proofs behind the position, each read once, and once more where it lists what is
 /// sought, and a byte a statement.
-pub(crate) fn users(
-    alloc: Global,
-    frames: &Frames,
-    statements: &[Stmt],
-    at: usize,
-    all: bool,
-) -> Result<Vec<Word>, AllocError>
-    requires same { frames.now.statements ≡ bares statements.now }
-    requires once { HasLabelsOnce frames.now.statements }
-    requires good { Good statements.now }
-    requires place { (1 ≤ at) × (at ≤ length statements.now) }
-    ensures { IfOk result (λ labels. AreLabelsOf statements.now (IsUser statements.now all at) labels.items) }
+pub(crate) fn users(base: &Base, at: usize, all: bool) -> Result<Vec<Word>, AskFault>
+    requires { (1 ≤ at) × (at ≤ length base.now) }
+    ensures { MatchResult result (λ labels. AreLabelsOf base.now (IsUser base.now all at) labels.items) (λ fault. fault ≡ AskFault.Memory) }
 {
-    let mut sought = vec![in alloc; false; statements.len()]?;
+    let statements = base.statements();
+    let mut sought = vec![in base.alloc(); false; statements.len()]?;
     sought[at - 1] = true;
-    let mut labels = Vec::new(alloc);
-    let mut search = Search::new(alloc);
+    let mut labels = Vec::new(base.alloc());
+    let mut search = Search::new(base.alloc());
     for index in at..statements.len() {
-        note_user(
-            &mut search,
-            frames,
-            statements,
-            index + 1,
-            all,
-            &mut sought,
-            &mut labels,
-        )?;
+        note_user(&mut search, base, index + 1, all, &mut sought, &mut labels)?;
     }
     Ok(labels)
 }
@@ -61,27 +43,20 @@ pub(crate) fn users(
 /// from then on.
 fn note_user(
     search: &mut Search,
-    frames: &Frames,
-    statements: &[Stmt],
+    base: &Base,
     at: usize,
     all: bool,
     sought: &mut [bool],
     labels: &mut Vec<Word>,
 ) -> Result<(), AllocError>
-    requires same { frames.now.statements ≡ bares statements.now }
-    requires once { HasLabelsOnce frames.now.statements }
-    requires good { Good statements.now }
-    requires place { (1 ≤ at) × (at ≤ length statements.now) }
-    ensures { OnOk result (NotesUser statements.now all at sought.old sought.new labels.old.items labels.new.items) }
+    requires { (1 ≤ at) × (at ≤ length base.now) }
+    ensures { OnOk result (NotesUser base.now all at sought.old sought.new labels.old.items labels.new.items) }
 {
-    let Stmt::Prove { label, proof, .. } = &statements[at - 1] else {
+    let Stmt::Prove { label, proof, .. } = base.statement(at) else {
         return Ok(());
     };
-    if !search.may_meet(frames, at, proof, sought)? {
-        return Ok(());
-    }
-    if search.meets(frames, statements, at, proof, sought)? {
-        labels.push(label.copy(search.alloc)?)?;
+    if search.meets(base, at, proof, sought)? {
+        labels.push(label.copy(base.alloc())?)?;
         mark_position(sought, if all { Some(at) } else { None });
     }
     Ok(())
@@ -90,7 +65,6 @@ fn note_user(
 /// Reads proofs, one after another, for what they cite, and keeps its buffers.
 #[derive(Drop)]
 struct Search {
-    alloc: Global,
     reader: Reader,
     /// The positions of a proof's mandatory hypotheses.
     mandatory: Vec<u32>,
@@ -102,71 +76,36 @@ impl Search {
     /// A search with empty buffers. Takes no memory.
     fn new(alloc: Global) -> Search {
         Search {
-            alloc,
             reader: Reader::new(alloc),
             mandatory: Vec::new(alloc),
             wanted: Vec::new(alloc),
         }
     }
 
-    /// Whether the `$p` at a position has a marked one among its mandatory hypotheses, or its tokens list the label of one.
-    /// Where neither is so its letters need not be read.
-    fn may_meet(
-        &mut self,
-        frames: &Frames,
-        at: usize,
-        tokens: &Words,
-        marks: &[bool],
-    ) -> Result<bool, AllocError>
-        requires assertion { (s : Statement) × HasAssertion frames.now.statements at s }
-        requires once { HasLabelsOnce frames.now.statements }
-        ensures { IfOk result (λ found. found ≡ false → (s : Statement) → stmt_at frames.now.statements at ≡ Some s → MeetsNothing frames.now.statements at s tokens.now marks.now) }
-    {
-        self.mandatory.clear();
-        frames.mandatory(at, &mut self.mandatory)?;
-        Ok(has_marked(&self.mandatory, marks) || lists_marked(frames, tokens, marks))
-    }
-
     /// Whether the proof of the `$p` at a position, whose tokens these are, cites a statement that is marked. A normal proof
-    /// cites what it lists.
+    /// cites what it lists. Of a compressed one, where no mandatory hypothesis is marked and it lists none that is, the
+    /// letters need not be read.
     fn meets(
         &mut self,
-        frames: &Frames,
-        statements: &[Stmt],
+        base: &Base,
         at: usize,
         tokens: &Words,
         marks: &[bool],
     ) -> Result<bool, AllocError>
-        requires same { frames.now.statements ≡ bares statements.now }
-        requires once { HasLabelsOnce frames.now.statements }
-        requires good { Good statements.now }
-        requires provable { (s : Statement) × IsProvable statements.now at s × (proof_of s ≡ tokens.now) }
-        ensures { IfOk result (λ found. found ≡ true ↔ ProofMeets statements.now at marks.now) }
+        requires { (s : Statement) × IsProvable base.now at s × (proof_of s ≡ tokens.now) }
+        ensures { IfOk result (λ found. found ≡ true ↔ ProofMeets base.now at marks.now) }
     {
-        if is_compressed(tokens) {
-            self.compressed_meets(frames, at, tokens, marks)
-        } else {
-            Ok(lists_marked(frames, tokens, marks))
+        let frames = base.frames();
+        if !is_compressed(tokens) {
+            return Ok(lists_marked(frames, tokens, marks));
         }
-    }
-
-    /// The same for a compressed proof, whose mandatory hypotheses are known by their positions. Where the tokens write no
-    /// items any answer will do.
-    fn compressed_meets(
-        &mut self,
-        frames: &Frames,
-        at: usize,
-        tokens: &Words,
-        marks: &[bool],
-    ) -> Result<bool, AllocError>
-        requires assertion { (s : Statement) × HasAssertion frames.now.statements at s }
-        requires once { HasLabelsOnce frames.now.statements }
-        requires compressed { IsTrue (is_compressed tokens.now) }
-        ensures { IfOk result (λ found. (s : Statement) → stmt_at frames.now.statements at ≡ Some s
-            → TellsMeeting frames.now.statements (mandatory_labels frames.now.statements at s) tokens.now marks.now found) }
-    {
         self.mandatory.clear();
         frames.mandatory(at, &mut self.mandatory)?;
+        if !has_marked(&self.mandatory, marks) {
+            if !lists_marked(frames, tokens, marks) {
+                return Ok(false);
+            }
+        }
         let count = self.mandatory.as_slice().len();
         let Some(heading) = self.reader.read(tokens, count)? else {
             return Ok(false);

@@ -1,8 +1,5 @@
-use Rattle.std.proofs.Common.{refl}
-use Rattle.scope.specs.Active.{bares}
-use Rattle.library.proofs.AskedLemmas.{is-right}
+use Rattle.scope.proofs.StatementPlaces.{stands-within}
 use Rattle.library.proofs.asked.items_at.Goals as goal
 
-pub returns : goal.returns
-returns c =
-    (refl, c.in_ok-proof_items.ensures, is-right c.args.statements.now (bares c.args.statements.now) refl c.args.at c.in_ok-proof_items.field-0 c.requires.good c.in_ok-proof_items.ensures)
+pub items_of-requires : goal.items_of-requires
+items_of-requires c = stands-within c.args.base.now c.args.at c.requires.0 c.requires.1.stands

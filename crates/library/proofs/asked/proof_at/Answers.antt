@@ -1,22 +1,27 @@
-use Rattle.std.proofs.Common.{sym, ◌∙◌}
-use Rattle.library.proofs.AskedLemmas.{named, no-label}
+use Rattle.library.proofs.Words.{◌≡◌, Some, sym, ◌∙◌, ap, is_provable, stands-within, NamesProof}
+use Rattle.library.proofs.AskedLemmas.{named, no-label, not-both}
 use Rattle.library.proofs.asked.proof_at.Goals as goal
-use Rattle.scope.proofs.StatementPlaces.{stands-within}
 
-pub returns-in_default : goal.returns-in_default
-returns-in_default c = no-label c.args.statements.now c.args.frames.now.statements c.requires.same c.args.label.now c.in_default.ensures
+pub returns-in_default-clause-found : goal.returns-in_default-clause-found
+returns-in_default-clause-found c = no-label c.args.base.now c.frames.result.now.statements c.frames.ensures.same c.args.label.now c.in_default.ensures
 
-pub is_proof_at-requires : goal.is_proof_at-requires
-is_proof_at-requires c =
-    let n = named c.args.statements.now c.args.frames.now.statements c.requires.same c.args.label.now c.in-Some.at c.in-Some.ensures in
-    stands-within c.args.statements.now c.in-Some.at n.0 n.1.stands
+pub statement-requires : goal.statement-requires
+statement-requires c =
+    let n = named c.args.base.now c.frames.result.now.statements c.frames.ensures.same c.args.label.now c.in-Some.at c.in-Some.ensures in
+    stands-within c.args.base.now c.in-Some.at n.0 n.1.stands
 
-pub returns-then-is_proof_at : goal.returns-then-is_proof_at
-returns-then-is_proof_at c =
-    let n = named c.args.statements.now c.args.frames.now.statements c.requires.same c.args.label.now c.in-Some.at c.in-Some.ensures in
-    record { stmt = n.0; carries = n.1; provable = record { stands = n.1.stands; provable = sym (c.is_proof_at.ensures n.0 n.1.stands) ∙ c.if-is_proof_at.true } }
+pub returns-then-is_proof-clause-found : goal.returns-then-is_proof-clause-found
+returns-then-is_proof-clause-found c =
+    let n = named c.args.base.now c.frames.result.now.statements c.frames.ensures.same c.args.label.now c.in-Some.at c.in-Some.ensures in
+    let e : Some n.0 ≡ Some c.statement.result.now = sym n.1.stands ∙ c.statement.ensures.stands in
+    let same : n.0 ≡ c.statement.result.now = cc in
+    let proof : NamesProof c.args.base.now c.args.label.now c.in-Some.at =
+    record { stmt = n.0; carries = n.1; provable = record { stands = n.1.stands; provable = ap is_provable same ∙ (sym c.is_proof.ensures ∙ c.if-is_proof.true) } } in
+    (proof, not-both c.args.base.now c.frames.ensures.good c.args.label.now c.in-Some.at proof)
 
-pub returns-else-is_proof_at : goal.returns-else-is_proof_at
-returns-else-is_proof_at c =
-    let n = named c.args.statements.now c.args.frames.now.statements c.requires.same c.args.label.now c.in-Some.at c.in-Some.ensures in
-    record { position = c.in-Some.at; stmt = n.0; carries = n.1; other = sym (c.is_proof_at.ensures n.0 n.1.stands) ∙ c.if-is_proof_at.false }
+pub returns-else-is_proof-clause-found : goal.returns-else-is_proof-clause-found
+returns-else-is_proof-clause-found c =
+    let n = named c.args.base.now c.frames.result.now.statements c.frames.ensures.same c.args.label.now c.in-Some.at c.in-Some.ensures in
+    let e : Some n.0 ≡ Some c.statement.result.now = sym n.1.stands ∙ c.statement.ensures.stands in
+    let same : n.0 ≡ c.statement.result.now = cc in
+    record { position = c.in-Some.at; stmt = n.0; carries = n.1; other = ap is_provable same ∙ (sym c.is_proof.ensures ∙ c.if-is_proof.false) }

@@ -1,6 +1,5 @@
-use Rattle.std.proofs.Common.{Ok, ◌∙◌, ap, subst, take, drop}
-use Rattle.library.specs.Judging.{IsLeastUnproved}
-use Rattle.library.proofs.BaseLemmas.{placed-fault, broken-slice, frames-whole, frames-all, all-proved, first-fault, fault-of}
+use Rattle.library.proofs.Words.{Ok, sym, ◌∙◌, ap, subst, IsLeastUnproved}
+use Rattle.library.proofs.BaseLemmas.{placed-fault, broken-slice, frames-whole, frames-all, all-proved, first-fault}
 use Rattle.library.proofs.base.judge.Goals as goal
 
 pub returns-in-Some-clause-placed : goal.returns-in-Some-clause-placed
@@ -24,11 +23,22 @@ returns-in-None-2-clause-placed g c =
       closed = λ e. c.in_ok-enter.ensures.closed known;
     }
 
-pub returns-in-Some-2-clause-placed : goal.returns-in-Some-2-clause-placed
-returns-in-Some-2-clause-placed g c =
-    placed-fault _ _ _ _ _
-    (fault-of (take c.args.front c.args.statements.now) (drop c.args.front c.args.statements.now) c.index-statements-at.result _ c.unproved.result
-    (broken-slice c.args.statements.now _ c.args.front _ c.requires.rules c.in_ok-enter.ensures.found ∙ c.in-None.is)
-    (first-fault c.args.statements.now c.args.front c.requires.within c.in-Some-2.at c.index-statements-at.result
-    (subst (IsLeastUnproved c.args.statements.now c.args.front) c.in-Some-2.is c.in_ok-least_unproved.ensures) c.index-statements-at.is)
-    c.unproved.ensures)
+pub returns-then-is_unfinished-clause-placed : goal.returns-then-is_unfinished-clause-placed
+returns-then-is_unfinished-clause-placed g c =
+    placed-fault _ _ _ _ _ (
+      c.index-statements-at.result,
+      broken-slice c.args.statements.now _ c.args.front _ c.requires.rules c.in_ok-enter.ensures.found ∙ c.in-None.is,
+      first-fault c.args.statements.now c.args.front c.requires.within c.in-Some-2.at c.index-statements-at.result
+          (subst (IsLeastUnproved c.args.statements.now c.args.front) c.in-Some-2.is c.in_ok-least_unproved.ensures) c.index-statements-at.is,
+      sym c.is_unfinished.ensures ∙ c.if-is_unfinished.true,
+    )
+
+pub returns-else-is_unfinished-clause-placed : goal.returns-else-is_unfinished-clause-placed
+returns-else-is_unfinished-clause-placed g c =
+    placed-fault _ _ _ _ _ (
+      c.index-statements-at.result,
+      broken-slice c.args.statements.now _ c.args.front _ c.requires.rules c.in_ok-enter.ensures.found ∙ c.in-None.is,
+      first-fault c.args.statements.now c.args.front c.requires.within c.in-Some-2.at c.index-statements-at.result
+          (subst (IsLeastUnproved c.args.statements.now c.args.front) c.in-Some-2.is c.in_ok-least_unproved.ensures) c.index-statements-at.is,
+      sym c.is_unfinished.ensures ∙ c.if-is_unfinished.false,
+    )

@@ -1,6 +1,4 @@
-use Rattle.std.proofs.Common.{◌≡◌, ◌+◌, ◌*◌, ◌≤◌, ◌++◌, take, drop}
-use Rattle.scope.specs.Active.{bares}
-use Rattle.scope.specs.Legal.{first_broken}
+use Rattle.library.proofs.Words.{◌≡◌, ◌+◌, ◌*◌, ◌≤◌, ◌++◌, take, drop, bares, first_broken}
 use Rattle.library.proofs.entering.enter.Given as goal
 
 abbrev pub invariant-loop-index : goal.invariant-loop-index

@@ -1,7 +1,11 @@
-use Rattle.std.proofs.Common.{sym, ◌∙◌}
-use Rattle.library.proofs.ReadTextLemmas.{declared-here}
+use Rattle.library.proofs.Words.{◌+◌, ◌∷◌, cond, drop, Some, sym, ◌∙◌, ap, drop_more, first_declaration}
 use Rattle.library.proofs.entry_text.first_declaration.Goals as goal
 
 pub returns-then-is_declaration : goal.returns-then-is_declaration
 returns-then-is_declaration c =
-    declared-here c.args.statements.now c.loop-index.index c.index-statements-index.result c.loop-index-test.true c.index-statements-index.is (sym c.is_declaration.ensures ∙ c.if-is_declaration.true) c.loop-index.invariant
+    let S = c.args.statements.now in
+    let i = c.loop-index.index in
+    let s = c.index-statements-index.result in
+    sym (c.loop-index.invariant
+    ∙ (ap (first_declaration (i + 1)) (drop_more S i s c.loop-index-test.true ∙ ap (λ r. r ∷ drop (i + 1) S) (sym c.index-statements-index.is))
+    ∙ ap (λ b. cond b (Some (i + 1)) (first_declaration (i + 1 + 1) (drop (i + 1) S))) (sym c.is_declaration.ensures ∙ c.if-is_declaration.true)))

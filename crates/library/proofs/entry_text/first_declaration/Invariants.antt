@@ -1,5 +1,4 @@
-use Rattle.std.proofs.Common.{◌≡◌, ◌+◌, drop}
-use Rattle.library.specs.Charters.{first_declaration}
+use Rattle.library.proofs.Words.{◌≡◌, ◌+◌, drop, first_declaration}
 use Rattle.library.proofs.entry_text.first_declaration.Given as goal
 
 abbrev pub invariant-loop-index : goal.invariant-loop-index

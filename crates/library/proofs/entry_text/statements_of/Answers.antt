@@ -1,5 +1,4 @@
-use Rattle.std.proofs.Common.{refl}
-use Rattle.std.proofs.lemmas.Fn.{says_at}
+use Rattle.library.proofs.Words.{refl, says_at}
 use Rattle.library.proofs.entry_text.statements_of.Goals as goal
 
 pub returns-clause-found : goal.returns-clause-found

@@ -1,7 +1,4 @@
-use Rattle.std.proofs.Common.{ap}
-use Rattle.scope.specs.Active.{proof_of, is_provable}
-use Rattle.verify.specs.Right.{IsProvable}
-use Rattle.verify.proofs.RightLemmas.{provable-bare}
+use Rattle.library.proofs.Words.{ap, proof_of, is_provable, IsProvable, provable-bare}
 use Rattle.library.proofs.FrontLemmas.{stands-index}
 use Rattle.library.proofs.ProvingLemmas.{judged-stands}
 use Rattle.library.proofs.unproved.judge_at.Goals as goal

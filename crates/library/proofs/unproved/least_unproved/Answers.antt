@@ -1,7 +1,5 @@
-use Rattle.std.proofs.Common.{Ok, Some, subst, sym, arith}
-use Rattle.std.proofs.lemmas.Fn.{says_at}
-use Rattle.library.specs.Judging.{IsLeastUnproved}
-use Rattle.library.proofs.UnprovedLemmas.{are-proofs, get-same, none-unproved, some-unproved, some-within}
+use Rattle.library.proofs.Words.{Ok, Some, subst, sym, ◌∙◌, arith, get_or_default, says_at, IsLeastUnproved}
+use Rattle.library.proofs.UnprovedLemmas.{are-proofs, none-unproved, some-unproved, some-within}
 use Rattle.library.proofs.unproved.least_unproved.Goals as goal
 
 pub invariant_of-proofs : goal.invariant_of-proofs
@@ -24,7 +22,7 @@ returns-in-Some g c =
     let answer = c.in_ok-index.field-0 in
     let least = c.requires.finds (record { statements = S; positions = ps }) (Ok answer) (says_at g.F.Fn c.least.ensures c.in_ok-index.was) in
     let within = some-within S c.args.front ps c.in_ok-positions.ensures answer least c.in-Some.index c.in-Some.is in
-    let at = get-same ps c.in-Some.index c.index.result.now c.index.result.now within c.index.ensures in
+    let at = c.index.ensures ∙ get_or_default ps c.in-Some.index c.index.result.now 0 within in
     subst (λ n. IsLeastUnproved S c.args.front (Some n)) (sym at) (some-unproved S c.args.front ps c.in_ok-positions.ensures answer least c.in-Some.index c.in-Some.is)
 
 pub returns : goal.returns

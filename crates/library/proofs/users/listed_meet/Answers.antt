@@ -1,6 +1,4 @@
-use Rattle.std.proofs.Common.{◌<◌, ◌+◌, ◌∙◌, Some, ap, sym, length, arith}
-use Rattle.std.specs.List.{list_any}
-use Rattle.library.specs.UseMarks.{is_marked}
+use Rattle.library.proofs.Words.{◌<◌, ◌+◌, ◌∙◌, Some, ap, sym, length, arith, list_any, is_marked}
 use Rattle.library.proofs.MeetingLemmas.{word-left, one-tested, early-meets, late-meets}
 use Rattle.library.proofs.users.listed_meet.Goals as goal
 

@@ -1,8 +1,4 @@
-use Rattle.std.proofs.Common.{◌≡◌, ℕ}
-use Rattle.mm_lex.specs.Alphabet.{Name, has_name}
-use Rattle.mm_read.specs.declared.stmt.Stmt.{Stmt}
-use Rattle.frame.specs.Citations.{Carries}
-use Rattle.library.specs.UseMarks.{IsMarked, listed_in}
+use Rattle.library.proofs.Words.{◌≡◌, ℕ, Name, has_name, Stmt, Carries, IsMarked, listed_in}
 use Rattle.library.proofs.users.lists_marked.Given as goal
 
 abbrev pub invariant-loop-token : goal.invariant-loop-token

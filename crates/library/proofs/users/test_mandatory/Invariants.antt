@@ -1,5 +1,4 @@
-use Rattle.std.proofs.Common.{◌≡◌, map, take, Some}
-use Rattle.library.specs.UseMarks.{is_marked}
+use Rattle.library.proofs.Words.{◌≡◌, map, take, Some, is_marked}
 use Rattle.library.proofs.users.test_mandatory.Given as goal
 
 abbrev pub invariant-loop-position : goal.invariant-loop-position

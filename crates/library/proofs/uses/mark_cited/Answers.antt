@@ -1,6 +1,4 @@
-use Rattle.std.proofs.Common.{sym, ◌∙◌, ap, arith}
-use Rattle.std.proofs.lemmas.List.{drop_all}
-use Rattle.library.specs.UseMarks.{mark_items}
+use Rattle.library.proofs.Words.{sym, ◌∙◌, ap, arith, drop_all, mark_items}
 use Rattle.library.proofs.UseMarkLemmas.{marks-items}
 use Rattle.library.proofs.uses.mark_cited.Goals as goal
 

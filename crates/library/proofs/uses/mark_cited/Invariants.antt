@@ -1,5 +1,4 @@
-use Rattle.std.proofs.Common.{◌≡◌, drop}
-use Rattle.library.specs.UseMarks.{mark_items}
+use Rattle.library.proofs.Words.{◌≡◌, drop, mark_items}
 use Rattle.library.proofs.uses.mark_cited.Given as goal
 
 abbrev pub invariant-loop-number : goal.invariant-loop-number

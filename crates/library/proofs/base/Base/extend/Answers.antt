@@ -1,21 +1,54 @@
-use Rattle.std.proofs.Common.{IfOk, subst, take, drop, arith}
-use Rattle.library.specs.Judging.{IsPlaced}
-use Rattle.library.proofs.BaseLemmas.{extended}
+use Rattle.std.proofs.Common.{arith, Some}
+use Rattle.library.proofs.BaseLemmas.{placed-here, stays-base, back-base}
 use Rattle.library.proofs.base.Base.extend.Goals as goal
 
-pub invariant_of-self-2 : goal.invariant_of-self-2
-invariant_of-self-2 g c =
+pub invariant_of-self-in-Ok-None : goal.invariant_of-self-in-Ok-None
+invariant_of-self-in-Ok-None g c =
     let len = c.len-front.ensures in
-    (extended c.self.inside.statements.items c.args.more.items c.append_all.new.statements.items c.settle.new.statements.items c.len-front.result _ c.judge-found.new.rules _ _ c.judge-found.new.frames _
-    c.self.invariant c.requires.shaped c.in_ok-append_all.ensures.added (omega (arith, len)) c.judge-found.ensures.marked c.judge-found.ensures.begins c.judge-found.result
-    (subst (λ U. IfOk c.judge-found.result (λ found. IsPlaced (take c.len-front.result U) (drop c.len-front.result U) c.judge-found.new.rules c.judge-found.new.frames found)) c.deref.ensures.value c.judge-found.ensures.placed)
-    c.settle.ensures.kept c.settle.ensures.back).base
+    let placed = rw (c.in-Ok-None.field-0-is, c.deref.ensures.value) at c.in-Ok-None.ensures.placed in
+    (stays-base c.self.inside.statements.items c.args.more.items c.append_all.new.statements.items c.len-front.result _ c.judge.new.rules _ c.judge.new.frames
+    c.self.invariant c.in_ok-append_all.ensures.added (omega (arith, len))
+    c.mark.new.self c.requires.shaped placed c.mark.ensures.statements c.mark.ensures.marked).1
 
-pub returns-clause-judged : goal.returns-clause-judged
-returns-clause-judged g c =
+pub returns-in-Ok-None-clause-judged : goal.returns-in-Ok-None-clause-judged
+returns-in-Ok-None-clause-judged g c =
     let len = c.len-front.ensures in
-    rw (← c.self.view_is, c.settle.ensures.found)
-    (extended c.self.inside.statements.items c.args.more.items c.append_all.new.statements.items c.settle.new.statements.items c.len-front.result _ c.judge-found.new.rules _ _ c.judge-found.new.frames _
-    c.self.invariant c.requires.shaped c.in_ok-append_all.ensures.added (omega (arith, len)) c.judge-found.ensures.marked c.judge-found.ensures.begins c.judge-found.result
-    (subst (λ U. IfOk c.judge-found.result (λ found. IsPlaced (take c.len-front.result U) (drop c.len-front.result U) c.judge-found.new.rules c.judge-found.new.frames found)) c.deref.ensures.value c.judge-found.ensures.placed)
-    c.settle.ensures.kept c.settle.ensures.back).judged
+    let placed = rw (c.in-Ok-None.field-0-is, c.deref.ensures.value) at c.in-Ok-None.ensures.placed in
+    let stays = stays-base c.self.inside.statements.items c.args.more.items c.append_all.new.statements.items c.len-front.result _ c.judge.new.rules _ c.judge.new.frames
+    c.self.invariant c.in_ok-append_all.ensures.added (omega (arith, len))
+    c.mark.new.self c.requires.shaped placed c.mark.ensures.statements c.mark.ensures.marked in
+    rw (← c.self.view_is) (stays.0, c.in_ok-append_all.ensures.added)
+
+pub invariant_of-self-in-Ok-Some : goal.invariant_of-self-in-Ok-Some
+invariant_of-self-in-Ok-Some g c =
+    let len = c.len-front.ensures in
+    (back-base c.self.inside.statements.items c.args.more.items c.append_all.new.statements.items c.len-front.result _ c.judge.new.rules _ c.judge.new.frames
+    c.self.invariant c.in_ok-append_all.ensures.added (omega (arith, len))
+    c.truncate.new.self.items c.back.new.self c.shorten.new.self c.judge.ensures.marked c.judge.ensures.begins c.truncate.ensures.items c.shorten.ensures.statements c.back.ensures.statements c.back.ensures.marked).1
+
+pub returns-in-Ok-Some-clause-judged : goal.returns-in-Ok-Some-clause-judged
+returns-in-Ok-Some-clause-judged g c =
+    let len = c.len-front.ensures in
+    let placed = rw (c.in-Ok-Some.field-0-is, c.deref.ensures.value) at c.in-Ok-Some.ensures.placed in
+    let here = placed-here c.self.inside.statements.items c.args.more.items c.append_all.new.statements.items c.len-front.result _ c.judge.new.rules _ c.judge.new.frames
+    c.self.invariant c.in_ok-append_all.ensures.added (omega (arith, len))
+    (Some c.in-Ok-Some.cause) placed in
+    let back = back-base c.self.inside.statements.items c.args.more.items c.append_all.new.statements.items c.len-front.result _ c.judge.new.rules _ c.judge.new.frames
+    c.self.invariant c.in_ok-append_all.ensures.added (omega (arith, len))
+    c.truncate.new.self.items c.back.new.self c.shorten.new.self c.judge.ensures.marked c.judge.ensures.begins c.truncate.ensures.items c.shorten.ensures.statements c.back.ensures.statements c.back.ensures.marked in
+    rw (← c.self.view_is) (here.judged, back.0)
+
+pub invariant_of-self-in-Err : goal.invariant_of-self-in-Err
+invariant_of-self-in-Err g c =
+    let len = c.len-front.ensures in
+    (back-base c.self.inside.statements.items c.args.more.items c.append_all.new.statements.items c.len-front.result _ c.judge.new.rules _ c.judge.new.frames
+    c.self.invariant c.in_ok-append_all.ensures.added (omega (arith, len))
+    c.truncate-in-Err.new.self.items c.back-in-Err.new.self c.shorten-in-Err.new.self c.judge.ensures.marked c.judge.ensures.begins c.truncate-in-Err.ensures.items c.shorten-in-Err.ensures.statements c.back-in-Err.ensures.statements c.back-in-Err.ensures.marked).1
+
+pub returns-in-Err-clause-same : goal.returns-in-Err-clause-same
+returns-in-Err-clause-same g c =
+    let len = c.len-front.ensures in
+    let back = back-base c.self.inside.statements.items c.args.more.items c.append_all.new.statements.items c.len-front.result _ c.judge.new.rules _ c.judge.new.frames
+    c.self.invariant c.in_ok-append_all.ensures.added (omega (arith, len))
+    c.truncate-in-Err.new.self.items c.back-in-Err.new.self c.shorten-in-Err.new.self c.judge.ensures.marked c.judge.ensures.begins c.truncate-in-Err.ensures.items c.shorten-in-Err.ensures.statements c.back-in-Err.ensures.statements c.back-in-Err.ensures.marked in
+    rw (← c.self.view_is) back.0

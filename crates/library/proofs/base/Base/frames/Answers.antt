@@ -1,6 +1,5 @@
-use Rattle.std.proofs.Common.{sym, subst}
-use Rattle.frame.specs.AtPosition.{HasLabelsOnce}
-use Rattle.library.proofs.AskedLemmas.{labels-once}
+use Rattle.library.proofs.Words.{sym, subst, HasLabelsOnce}
+use Rattle.library.proofs.CitationWalkLemmas.{labels-once}
 use Rattle.library.proofs.base.Base.frames.Goals as goal
 
 pub returns-clause-once : goal.returns-clause-once

@@ -1,6 +1,4 @@
-use Rattle.std.proofs.Common.{sym, subst, ◌∙◌, ap, ◌++◌, ◌∷◌, []}
-use Rattle.library.specs.Ledger.{decided_of, AreDecisions}
-use Rattle.library.specs.LibraryOf.{status}
+use Rattle.library.proofs.Words.{sym, subst, ◌∙◌, ap, ◌++◌, ◌∷◌, [], decided_of, AreDecisions, status}
 use Rattle.library.proofs.EnteringLemmas.{on-ok}
 use Rattle.library.proofs.VerdictsLemmas.{decided_of-insert, decisions-more}
 use Rattle.library.proofs.verdicts.Verdicts.push.Goals as goal

@@ -1,6 +1,4 @@
-use Rattle.std.proofs.Common.{◌∙◌, ap, sym, subst, IfSome}
-use Rattle.library.specs.Ledger.{decided_of, IsDecision}
-use Rattle.library.specs.LibraryOf.{status}
+use Rattle.library.proofs.Words.{◌∙◌, ap, sym, subst, IfSome, decided_of, IsDecision, status}
 use Rattle.library.proofs.VerdictsLemmas.{lookup-status, status-decided}
 use Rattle.library.proofs.verdicts.Verdicts.status.Goals as goal
 

@@ -1,8 +1,8 @@
 use Rattle.library.proofs.CitationWalkLemmas.{IsWalked}
-use Rattle.library.proofs.uses.reached.Given as goal
+use Rattle.library.proofs.uses.axioms_used.Given as goal
 
 abbrev pub invariant-loop-position : goal.invariant-loop-position
-invariant-loop-position l = IsWalked l.statements l.at l.position l.marks.items
+invariant-loop-position l = IsWalked l.base l.at l.position l.marks.items
 
 abbrev pub decreases-loop-position : goal.decreases-loop-position
 decreases-loop-position l = l.position
