@@ -1,5 +1,5 @@
 //! Compressed proofs read into a buffer that is kept.
-ghost use Rattle.std.specs.Prelude.{◌≡◌, ℕ, ◌+◌, ◌*◌, ◌^◌, ◌<◌, ◌≤◌, [], ◌∷◌, List, length, take, IsTrue, IfOk, MatchOption, OnOk, Some, None};
+ghost use Rattle.std.specs.Prelude.{◌≡◌, ℕ, ◌+◌, ◌*◌, ◌^◌, ◌<◌, ◌≤◌, [], ◌∷◌, List, length, take, IsTrue, IfOk, IfSome, MatchOption, OnOk, OnErr, Some, None};
 ghost use Rattle.mm_lex.specs.Alphabet.{Name};
 ghost use Rattle.proof_code.specs.declared.item.Item.{Item};
 ghost use Rattle.proof_code.specs.Text.{letters_of, numbers_from};
@@ -65,6 +65,7 @@ impl Reader {
     /// numbers of its items. `None` where it writes no items, whatever the mandatory labels are.
     ///
     /// It writes items where no listed label is a mandatory one, which is left to the caller.
+    /// Errors: a growth was refused; the numbers are those of before then.
     /// Cost: the size of the tokens. Source: Metamath, appendix B.
     pub fn read<'a>(
         &mut self,
@@ -72,9 +73,10 @@ impl Reader {
         mandatory: usize,
     ) -> Result<Option<Heading<'a>>, AllocError>
         requires { IsTrue (is_compressed tokens.now) }
-        ensures { IfOk result (λ found. MatchOption found
+        ensures read { IfOk result (λ found. MatchOption found
             ((labels : List Name) → length labels ≡ mandatory → (items : List Item) → ¬ WritesCompressed tokens.now labels items)
             (λ heading. IsHeading tokens.now mandatory heading.words heading.count self.new)) }
+        ensures same { OnErr result (self.new ≡ self.old) }
     {
         if mandatory > MOST_LETTERS {
             return Err(AllocError);
@@ -94,9 +96,10 @@ impl Reader {
     ) -> Option<(Heading<'a>, Result<(), AllocError>)>
         requires compressed { IsTrue (is_compressed tokens.now) }
         requires few { mandatory ≤ 2 ^ 62 }
-        ensures { MatchOption result
+        ensures read { MatchOption result
             ((labels : List Name) → length labels ≡ mandatory → (items : List Item) → ¬ WritesCompressed tokens.now labels items)
             (λ found. (tokens.now ≡ begin ∷ found.0.words) × (numbers : List ℕ) × IsHeading tokens.now mandatory found.0.words found.0.count numbers × OnOk found.1 (numbers ≡ self.new)) }
+        ensures same { IfSome result (λ found. OnErr found.1 (self.new ≡ self.old)) }
     {
         let mut words = tokens.iter();
         let _ = words.next();
@@ -112,14 +115,15 @@ impl Reader {
     /// write none.
     fn read_letters(&mut self, letters: &[u8], labels: usize) -> Option<Result<(), AllocError>>
         requires { labels + length letters.now < 3 * 2 ^ 62 }
-        ensures { MatchOption result (numbers_from labels 0 (letters_of letters.now) ≡ None)
+        ensures read { MatchOption result (numbers_from labels 0 (letters_of letters.now) ≡ None)
             (λ kept. (numbers : List ℕ) × (numbers_from labels 0 (letters_of letters.now) ≡ Some numbers) × OnOk kept (numbers ≡ self.new)) }
+        ensures same { IfSome result (λ kept. OnErr kept (self.new ≡ self.old)) }
     {
-        self.count = 0;
         if make_room(&mut self.buffer, labels, letters.len()).is_err() {
             pass_letters(letters, labels)?;
             return Some(Err(AllocError));
         }
+        self.count = 0;
         self.count = write_numbers(letters, labels, &mut self.buffer)?;
         Some(Ok(()))
     }
@@ -139,6 +143,7 @@ impl Reader {
 fn make_room(buffer: &mut Vec<u32>, labels: usize, letters: usize) -> Result<(), AllocError>
     ensures room { OnOk result (letters ≤ length buffer.new.items) }
     ensures few { OnOk result (labels + letters < 2 ^ 32) }
+    ensures same { OnErr result (buffer.new.items ≡ buffer.old.items) }
 {
     if labels > MOST_LETTERS || letters > MOST_LETTERS {
         return Err(AllocError);

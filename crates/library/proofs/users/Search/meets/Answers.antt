@@ -29,7 +29,7 @@ returns-in_default c =
     let listed = c.in_ok-mandatory.ensures.listed (bare p.0) (stands-bare c.args.base.now F c.args.at p.0 c.frames-frames.ensures.same p.1) in
     told-meets c.args.base.now F c.frames-frames.ensures.same c.frames-frames.ensures.good c.args.at p.0 c.args.tokens.now p.1 p.2 c.args.marks.now (sym c.is_compressed.ensures ∙ c.if-not-is_compressed.false) false
     (tells-nothing F c.args.tokens.now (mandatory_labels F c.args.at (bare p.0)) _ c.args.marks.now false
-    (labels-long F c.args.at (bare p.0) c.as_slice-count.result.now (c.as_slice-count.ensures.value ∙ listed)) (rw c.in_default.is at c.in_ok-heading.ensures))
+    (labels-long F c.args.at (bare p.0) c.as_slice-count.result.now (c.as_slice-count.ensures.value ∙ listed)) (rw c.in_default.is at c.in_ok-heading.ensures.read))
 
 pub returns : goal.returns
 returns c =
@@ -40,7 +40,7 @@ returns c =
     let listed = c.in_ok-mandatory.ensures.listed (bare p.0) (stands-bare c.args.base.now F c.args.at p.0 c.frames-frames.ensures.same p.1) in
     on_ok c.listed_meet.result
     (λ found told. told-meets c.args.base.now F c.frames-frames.ensures.same c.frames-frames.ensures.good c.args.at p.0 c.args.tokens.now p.1 p.2 marks (sym c.is_compressed.ensures ∙ c.if-not-is_compressed.false) found
-    (tells-heading c.args.tokens.now _ _ _ _ (rw c.in-Some.is at c.in_ok-heading.ensures) F labels marks found
+    (tells-heading c.args.tokens.now _ _ _ _ (rw c.in-Some.is at c.in_ok-heading.ensures.read) F labels marks found
     (labels-long F c.args.at (bare p.0) c.as_slice-count.result.now (c.as_slice-count.ensures.value ∙ listed))
     (subst (λ ns. found ≡ true ↔ ItemsMeet F (items_of (labels ++ take c.in-Some.heading.count c.in-Some.heading.words) ns) marks) c.numbers.ensures
     (told labels (mandatory-wanted F marks c.args.at (bare p.0) c.deref-2.result.now c.test_mandatory.new.wanted.items (c.deref-2.ensures.value ∙ listed) c.in_ok-test_mandatory.ensures)))))

@@ -6,19 +6,19 @@ pub returns-in_default : goal.returns-in_default
 returns-in_default c =
     let s = c.requires.provable.0 in
     unwritten c.args.frames.now.statements c.args.at s c.args.tokens.now c.requires.provable.1 c.requires.compressed c.as_slice-count.result.now
-    (c.as_slice-count.ensures.value ∙ c.in_ok-fill_mandatory.ensures.mandatory s c.requires.provable.1) (rw c.in_default.is at c.in_ok-heading.ensures)
+    (c.as_slice-count.ensures.value ∙ c.in_ok-fill_mandatory.ensures.mandatory s c.requires.provable.1) (rw c.in_default.is at c.in_ok-heading.ensures.read)
 
 pub returns-then-not-branch : goal.returns-then-not-branch
 returns-then-not-branch c =
     let s = c.requires.provable.0 in
-    one-listed c.args.frames.now.statements c.args.at s c.args.tokens.now c.requires.provable.1 c.requires.compressed _ _ _ _ (rw c.in-Some.is at c.in_ok-heading.ensures)
+    one-listed c.args.frames.now.statements c.args.at s c.args.tokens.now c.requires.provable.1 c.requires.compressed _ _ _ _ (rw c.in-Some.is at c.in_ok-heading.ensures.read)
     c.in_ok-add_listed.field-0 c.if-not-branch.true (c.in_ok-add_listed.ensures.apart s c.requires.provable.1)
 
 pub returns : goal.returns
 returns c =
     let s = c.requires.provable.0 in
     let labels = mandatory_labels c.args.frames.now.statements c.args.at s ++ take c.in-Some.heading.count c.in-Some.heading.words in
-    read-proves c.args.frames.now.statements c.args.at s c.args.tokens.now c.requires.provable.1 c.requires.compressed _ _ _ _ (rw c.in-Some.is at c.in_ok-heading.ensures)
+    read-proves c.args.frames.now.statements c.args.at s c.args.tokens.now c.requires.provable.1 c.requires.compressed _ _ _ _ (rw c.in-Some.is at c.in_ok-heading.ensures.read)
     c.in_ok-add_listed.field-0 c.if-not-branch.false (c.in_ok-add_listed.ensures.apart s c.requires.provable.1)
     (many c.args.frames.now.statements c.args.at s c.args.tokens.now c.requires.provable.1 c.requires.compressed c.as_slice-count.result.now (c.as_slice-count.ensures.value ∙ c.in_ok-fill_mandatory.ensures.mandatory s c.requires.provable.1))
     c.run.result
