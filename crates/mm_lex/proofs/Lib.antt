@@ -2,6 +2,7 @@ pub mod NameLemmas
 pub mod WordsLemmas
 pub mod PushLemmas
 pub mod BadByteLemmas
+pub mod FirstSpaceLemmas
 pub mod LanesLemmas
 pub mod RunsLemmas
 pub mod Cutting

@@ -1,9 +1,13 @@
 //! The words of a list, one after another.
-ghost use Rattle.std.specs.Prelude.{◌≡◌, ◌==◌, ◌<◌, ◌∷◌, length, IfSome};
-ghost use Rattle.std.specs.List.{position};
+ghost use Rattle.std.specs.Prelude.{◌≡◌, ◌==◌, ◌<◌, ◌≤◌, ◌∷◌, length, take, IfSome};
+ghost use Rattle.std.specs.List.{position, position_or_len};
 ghost use Rattle.mm_lex.specs.Words.{spaced, words_of, AreWords};
 
 use std::marker::Model;
+use std::simd::prelude::*;
+
+/// How many bytes are looked at together.
+const FIRST: usize = 8;
 
 /// Goes over the words of a list in order. Contracts see the words that are left.
 #[derive(Drop)]
@@ -71,9 +75,31 @@ fn split_word<'a>(text: &'a [u8]) -> (&'a [u8], &'a [u8])
     }
 }
 
+/// The place of the first space. Most words end among the first bytes, which are looked at together.
 fn find_space(text: &[u8]) -> Option<usize>
     ensures place { result ≡ position (λ b. b == 32) text.now }
     ensures within { IfSome result (λ end. end < length text.now) }
 {
+    if text.len() >= FIRST {
+        let end = count_before_space(text);
+        if end < FIRST {
+            return Some(end);
+        }
+    }
     text.iter().position(|b| *b == b' ')
+}
+
+/// How many of the first bytes come before a space.
+fn count_before_space(text: &[u8]) -> usize
+    requires room { 8 ≤ length text.now }
+    ensures count { result ≡ position_or_len (λ b. b == 32) (take 8 text.now) }
+    ensures within { result ≤ 8 }
+{
+    let bytes = u8x8::from_slice(text);
+    let mask = bytes.simd_eq(u8x8::splat(b' ')).to_bitmask();
+    if mask == 0 {
+        FIRST
+    } else {
+        mask.trailing_zeros() as usize
+    }
 }
