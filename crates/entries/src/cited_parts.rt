@@ -41,8 +41,7 @@ pub struct Hypotheses<'a> {
 
 impl<'a> Model for Hypotheses<'a> {
     ghost use Rattle.std.specs.Prelude.{List, map};
-    ghost use Rattle.entries.specs.declared.cited_parts.Hypothesis.{Hypothesis};
-    ghost use Rattle.entries.specs.Hypotheses.{told};
+    ghost use Rattle.{entries.specs.declared.cited_parts.Hypothesis.Hypothesis, entries.specs.Hypotheses.told};
 
     ghost Value = { List Hypothesis };
 

@@ -1,8 +1,6 @@
 //! The statements of a database as numbers, by position.
 ghost use Rattle.std.specs.Prelude.{◌≡◌, ◌≤◌, ◌<◌, ◌+◌, ◌^◌, ◌++◌, ◌∷◌, [], length, take, slice_get, Some, OnOk, OnErr, IfOk, IfSome, true};
-ghost use Rattle.entries.specs.Entries.{Entry, IsEntry, AreWhole, AreShapedParts, assertion_of, made, plain};
-ghost use Rattle.entries.specs.Stored.Records.{IsPlaced, IsStored, has_parts, layout_in, record_by, run_by, run_of};
-ghost use Rattle.entries.specs.Stored.Spans.{Extends};
+ghost use Rattle.{entries.specs.Entries.Entry, entries.specs.Entries.IsEntry, entries.specs.Entries.AreWhole, entries.specs.Entries.AreShapedParts, entries.specs.Entries.assertion_of, entries.specs.Entries.made, entries.specs.Entries.plain, entries.specs.Stored.Records.IsPlaced, entries.specs.Stored.Records.IsStored, entries.specs.Stored.Records.has_parts, entries.specs.Stored.Records.layout_in, entries.specs.Stored.Records.record_by, entries.specs.Stored.Records.run_by, entries.specs.Stored.Records.run_of, entries.specs.Stored.Spans.Extends};
 
 use crate::buffer_part::{BufferPart, item, part, place};
 use crate::cited_parts::{Cited, Hypotheses};
@@ -37,11 +35,9 @@ struct Stored<'a> {
 
 impl Model for Entries {
     ghost use Rattle.std.specs.Prelude.{List};
-    ghost use Rattle.entries.specs.Entries.{Entry};
+    ghost use Rattle.{entries.specs.Entries.Entry, entries.specs.Stored.Records.entries_of, entries.specs.Stored.Records.ArePacked};
 
     ghost Value = { List Entry };
-
-    ghost use Rattle.entries.specs.Stored.Records.{entries_of, ArePacked};
 
     ghost view = { λ a. entries_of a.numbers.items a.groups.items a.records.items };
 

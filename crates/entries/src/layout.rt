@@ -1,7 +1,6 @@
 //! Where the parts of a statement stand among its numbers.
 ghost use Rattle.std.specs.Prelude.{◌≡◌, ◌≤◌, ◌<◌, ◌^◌, length, IfOk, true};
-ghost use Rattle.entries.specs.Stored.Records.{laid, layout_in, counts_of};
-ghost use Rattle.entries.specs.declared.layout.TheConstants.{COUNTS};
+ghost use Rattle.{entries.specs.Stored.Records.laid, entries.specs.Stored.Records.layout_in, entries.specs.Stored.Records.counts_of, entries.specs.declared.layout.TheConstants.COUNTS};
 
 use crate::buffer_part::{item, place};
 use crate::parts::AssertionParts;

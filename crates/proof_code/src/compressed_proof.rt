@@ -1,7 +1,6 @@
 //! Compressed proofs.
 ghost use Rattle.std.specs.Prelude.{◌≡◌, ◌↔◌, ◌<◌, ◌≤◌, ◌^◌, ◌++◌, length, take, drop, IsTrue, IfOk, Err};
-ghost use Rattle.proof_code.specs.Writes.{is_unfinished, is_compressed, WritesPacked, IsMalformed};
-ghost use Rattle.proof_code.specs.Reading.{share_label};
+ghost use Rattle.{proof_code.specs.Writes.is_unfinished, proof_code.specs.Writes.is_compressed, proof_code.specs.Writes.WritesPacked, proof_code.specs.Writes.IsMalformed, proof_code.specs.Reading.share_label};
 
 use crate::fault::{CodeFault, is_unfinished};
 use crate::items::Items;

@@ -3,8 +3,7 @@
 //! Which letter comes next cannot be foreseen, so no branch depends on it: what a letter is chooses values alone, and the
 //! one test of each is whether a number is over the limit.
 ghost use Rattle.std.specs.Prelude.{◌≡◌, ◌+◌, ◌*◌, ◌^◌, ◌<◌, ◌≤◌, ◌∷◌, ℕ, List, length, take, max, None, Some, IfNone, IfSome, MatchOption};
-ghost use Rattle.proof_code.specs.Text.{letters_of, numbers_from, starts_with_mark};
-ghost use Rattle.proof_code.specs.Reading.{Goes, IsLetter, ended};
+ghost use Rattle.{proof_code.specs.Text.letters_of, proof_code.specs.Text.numbers_from, proof_code.specs.Text.starts_with_mark, proof_code.specs.Reading.Goes, proof_code.specs.Reading.IsLetter, proof_code.specs.Reading.ended};
 
 /// What a letter makes of the digits before it.
 #[derive(Clone, Copy)]

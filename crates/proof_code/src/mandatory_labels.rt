@@ -1,8 +1,6 @@
 //! The labels of the mandatory hypotheses, to be looked up.
 ghost use Rattle.std.specs.Prelude.{◌≡◌, IfSome};
-ghost use Rattle.std.specs.Option.{ForSome};
-ghost use Rattle.mm_lex.specs.Alphabet.{has_name};
-ghost use Rattle.proof_code.specs.LabelNames.{AreNames};
+ghost use Rattle.{std.specs.Option.ForSome, mm_lex.specs.Alphabet.has_name, proof_code.specs.LabelNames.AreNames};
 
 use mm_lex::Words;
 use std::alloc::Global;
