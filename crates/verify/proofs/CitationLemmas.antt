@@ -1,12 +1,13 @@
 -- The citation of an assertion, by results of numbers.
 use Rattle.verify.proofs.Words.{◌≡◌, ℕ, ◌-◌, ◌<◌, ◌≤◌, Bool, true, false, List, [], ◌++◌, length, map, get_or, slice_get, Some, sym, ◌∙◌, ap, subst, arith, length-append, length-map, map-append}
-use Rattle.verify.proofs.Words.{Name, Stmt, Expr, Database, stmt_at, before, expr_of, is_assertion, is_variable, name_at, decode, HasAssertion, mandatory_groups, Images, applied, CodeImages, code_apply, images_of_names, are_groups_apart, Carries, IsInstance, premises, AreLegal, Cite, substitution_over_names, Float, IsBound, IsCited, IsTyped, AreRead, DoFit, named, AreNamed, Goes, Results, Cites, of_hypothesis, of_assertion, below, top, Adds, some-same}
+use Rattle.verify.proofs.Words.{Name, Stmt, Expr, Database, stmt_at, before, expr_of, is_assertion, is_variable, name_at, decode, HasAssertion, mandatory_groups, Images, applied, CodeImages, code_apply, images_of_names, are_groups_apart, Carries, IsInstance, premises, AreLegal, Cite, substitution_over_names, Float, IsBound, IsCited, IsTyped, AreRead, DoFit, named, AreNamed, Goes, Results, Cites, of_hypothesis, of_assertion, below, top, Adds, some-same, true≢false, AreOver, MayCite, HasCited, Claim, Found}
+use Rattle.verify.proofs.LabelTableLemmas.{has_with}
 use Rattle.entries.specs.declared.cited_parts.Cited.{Cited}
 use Rattle.verify.proofs.MandatoryAsked.{asked-lengths}
 use Rattle.verify.proofs.CitingLemmas.{of_variables, apply-τ, apart-τ, premises-read, premise-typed, fits-agree, conclusion-agrees, apart-agrees, read-over}
 use Rattle.verify.proofs.Decide.{append_cut, length-premises, not_both}
 use Rattle.verify.proofs.ImageLemmas.{only, apply-below, are-codes}
-use Rattle.verify.proofs.Named.{named-result, result-named, all-take, all-drop, halves, length-top}
+use Rattle.verify.proofs.Named.{saved-same, named-result, result-named, all-take, all-drop, halves, length-top}
 
 -- what the code finds wherever the citation can give f
 pub record Meets (S : Database) (names : List Name) (at a : ℕ) (c : Cited) (stack : List (List ℕ)) (f : Expr) : Type 0 where
@@ -59,7 +60,7 @@ module _ (S : Database) (names : List Name) (at a : ℕ) (s : Stmt) (c : Cited) 
       meets old σ b f an (subst (λ u. IsInstance S at a u σ) e (subst (λ m. IsInstance S at m t σ) i fits))
       (whole ∙ (ap (λ m. b ++ premises S m t σ) i ∙ ap (λ u. b ++ premises S a u σ) e)) (gives ∙ ap (λ u. applied σ (expr_of u)) e)
 
-  pub goes-assertion : (ok : Bool) (old new : Results ℕ) (label : Name) (ρ : CodeImages) → AreNamed names old → Carries S a s label → HasAssertion S a s → a < at
+  goes-assertion : (ok : Bool) (old new : Results ℕ) (label : Name) (ρ : CodeImages) → AreNamed names old → Carries S a s label → HasAssertion S a s → a < at
       → n ≤ length old.stack → AreRead c.heads.now c.hypotheses (top n old.stack) ρ → DoFit S (images_of_names names ρ) c.hypotheses (map (decode names) (top n old.stack))
       → are_groups_apart (before S at) (images_of_names names ρ) (map (decode names) c.groups) ≡ true
       → Adds ok old new (below n old.stack) (code_apply ρ c.conclusion.now)
@@ -92,6 +93,35 @@ module _ (S : Database) (names : List Name) (at a : ℕ) (s : Stmt) (c : Cited) 
       let w = ap (λ v. v.weight) p.3 in
       omega (arith, heavy, l, w)
 
-  pub goes-not : (old new : Results ℕ) (label : Name) → AreNamed names old → Carries S a s label → HasAssertion S a s
+  goes-not : (old new : Results ℕ) (label : Name) → AreNamed names old → Carries S a s label → HasAssertion S a s
       → ((f : Expr) → Meets S names at a c old.stack f → ⊥) → Goes false S at names (Cite label) old new
   goes-not old new label an carries has none = λ next p. absurd (none p.1 (meets-step old label p.0 p.1 an carries has p.2))
+
+-- the same by what a citation rests on
+module _ (t : Claim) (a : ℕ) (found : Found) (old : Results ℕ) (may : MayCite t a found old) (c : Cited) (cited : (s : Stmt) → stmt_at t.frames.now.statements a ≡ Some s → IsCited t.frames.now.statements t.frames.now.names a s c) where
+  abbrev count : ℕ
+  count = length c.hypotheses
+
+  pub over-read : (ρ : CodeImages) → count ≤ length old.stack → AreRead c.heads.now c.hypotheses (top count old.stack) ρ → AreOver t.frames.now.names ρ
+  over-read ρ many read =
+      read-over t.frames.now.statements t.frames.now.names a may.assertion.0 may.ready.legal.distinct (may.ready.legal.bound a may.assertion.0 may.assertion.1) c.heads.now c.hypotheses (cited may.assertion.0 may.assertion.1.0).asked
+      (top count old.stack) (length-top count old.stack many) ρ read (all-drop (length t.frames.now.names) (length old.stack - count) old.stack may.named.stack_named)
+
+  pub has-cited : (ok : Bool) (new : Results ℕ) (ρ : CodeImages) → count ≤ length old.stack → AreRead c.heads.now c.hypotheses (top count old.stack) ρ
+      → DoFit t.frames.now.statements (images_of_names t.frames.now.names ρ) c.hypotheses (map (decode t.frames.now.names) (top count old.stack))
+      → are_groups_apart (before t.frames.now.statements t.at) (images_of_names t.frames.now.names ρ) (map (decode t.frames.now.names) c.groups) ≡ true
+      → Adds ok old new (below count old.stack) (code_apply ρ c.conclusion.now) → HasCited t.frames.now.statements t.at t.frames.now.names a old new ok
+  has-cited ok new ρ many read fits apart adds = (
+    λ label s carries.
+        let has = has_with t.frames.now.statements a s may.assertion.0 label carries may.assertion.1 in
+        goes-assertion t.frames.now.statements t.frames.now.names t.at a s c may.ready.legal (may.ready.legal.bound a s has) (cited s carries.stands) ok old new label ρ may.named carries has may.earlier many read fits apart adds,
+    saved-same old new (below count old.stack) (code_apply ρ c.conclusion.now) ok adds,
+  )
+
+  pub not-cited : (new : Results ℕ) → ((f : Expr) → Meets t.frames.now.statements t.frames.now.names t.at a c old.stack f → ⊥) → HasCited t.frames.now.statements t.at t.frames.now.names a old new false
+  not-cited new none = (
+    λ label s carries.
+        let has = has_with t.frames.now.statements a s may.assertion.0 label carries may.assertion.1 in
+        goes-not t.frames.now.statements t.frames.now.names t.at a s c may.ready.legal (may.ready.legal.bound a s has) (cited s carries.stands) old new label may.named carries has none,
+    λ same. absurd (true≢false (sym same)),
+  )

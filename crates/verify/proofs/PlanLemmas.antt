@@ -1,5 +1,5 @@
 -- Plans grow as trees do; how large their derivations are, and what a node stands for.
-use Rattle.verify.proofs.Words.{◌≡◌, ℕ, zero, suc, ◌+◌, ◌-◌, ◌<◌, ◌≤◌, true, false, List, [], ◌∷◌, ◌++◌, length, map, take, drop, get_or, slice_get, Some, refl, min, max, Vec, sym, ◌∙◌, ap, subst, arith, length-append, append_assoc, length-map, take-map, map_push, take_more, take-append-drop, length-take-le, slice_get_within, Global}
+use Rattle.verify.proofs.Words.{◌≡◌, ℕ, zero, suc, ◌+◌, ◌-◌, ◌<◌, ◌≤◌, true, false, List, [], ◌∷◌, ◌++◌, length, map, take, drop, get_or, slice_get, Some, refl, min, max, Vec, sym, ◌∙◌, ap, subst, arith, length-append, append_assoc, length-map, take-map, map_push, take_more, take_all, take-append-drop, length-take-le, slice_get_within, Global}
 use Rattle.verify.proofs.Words.{Database, AreBelow, Recall, Node, TreePlan, Derivation, hyp, from_list, node_count, nodes_in, depth, depth_in, apply, Trees, trees, with_tree, Grew, below, top, pick, derive, built_from, built, IsAfter, AreOrdered, trees_of, IsPlan, get-front, get-last, below-more, below-push, below-at, Extent, extent_of}
 use Rattle.verify.proofs.ResultPlaceLemmas.{map-drop, get-map-some}
 use Rattle.verify.specs.declared.plan.Node.TheVariants.{Hyp, Apply}
@@ -155,6 +155,10 @@ so-far-step ts kids extents i nodes deep nodes' deep' e far is h at p q =
     let a = far.counted in
     let b = far.reached in
     record { counted = omega (arith, en, n, a, p); reached = omega (arith, ed, d, b, q) }
+
+pub so-far-end : (ts : List Derivation) (ks : List ℕ) (i nodes deep a : ℕ) (kids : Vec ℕ Global) (n : Node) → IsSoFar ts ks i nodes deep → length ks ≤ i → ks ≡ kids.items → n ≡ Apply a kids
+    → (let e : Extent = record { nodes = nodes; depth = deep } in e) ≡ extent_of (derive ts n)
+so-far-end ts ks i nodes deep a kids n far over same is = rw (is, far.counted, far.reached, take_all i ks over, same) refl
 
 -- a node over those before it
 take-ordered : (k : ℕ) (ns : List Node) (i : ℕ) (d : Node) → AreOrdered k ns → i < length ns → IsAfter (k + i) (get_or ns i d)

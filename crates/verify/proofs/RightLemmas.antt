@@ -1,8 +1,7 @@
 -- What is answered of a right proof, and of a compressed proof that was read.
-use Rattle.verify.proofs.Words.{◌≡◌, ℕ, ◌≤◌, ◌<◌, ◌⊎◌, ◌↔◌, min, List, [], length, map, get_or, Some, Result, Ok, Err, IfOk, refl, option_map, Bool, true, false, not, ◌∷◌, ◌++◌, take, sym, ◌∙◌, ap, subst, arith, inl, inr, true≢false, length-map, take_at, slice_get-get_or, not-false, not-true}
-use Rattle.verify.proofs.Words.{Database, Stmt, HasLabelsOnce, Item, Tree, Extent, Node, TreePlan, Derivation, derivation_of, node_count, depth, IsRight, Derives, IsSmall, IsProvable, Says, trees, GrowsBy, pick, built, trees_of, IsPlan, extent_of, below-at, bare, bares, stmt_at, is_provable, before, stmt_at-bares, Name, hypotheses, items_of, share_label, IsHeading, label_or_none, mandatory_labels, Proves, some-same}
-use Rattle.verify.specs.declared.answer.TreeFault.{TreeFault}
-use Rattle.verify.specs.declared.answer.TreeFault.TheVariants.{Wrong, TooLarge, Memory}
+use Rattle.verify.proofs.Words.{◌≡◌, ℕ, ◌≤◌, ◌<◌, ◌↔◌, min, List, [], length, map, get_or, Some, Result, Ok, Err, IfOk, refl, option_map, Bool, true, false, not, ◌∷◌, ◌++◌, take, sym, ◌∙◌, ap, subst, arith, inl, inr, true≢false, length-map, take_at, slice_get-get_or, not-false, not-true}
+use Rattle.verify.proofs.Words.{Database, Stmt, HasLabelsOnce, Item, Extent, Node, TreePlan, Derivation, node_count, depth, IsRight, Derives, IsSmall, IsProvable, Says, trees, GrowsBy, pick, built, trees_of, IsPlan, extent_of, below-at, bare, bares, stmt_at, is_provable, before, stmt_at-bares, Name, hypotheses, items_of, share_label, IsHeading, label_or_none, mandatory_labels, Proves, some-same}
+use Rattle.verify.specs.declared.answer.TreeFault.TheVariants.{Wrong}
 use Rattle.verify.proofs.GrowthLemmas.{spelled_once, leaves, only-number}
 use Rattle.verify.proofs.PlanLemmas.{length-built', child-extent}
 use Rattle.scope.proofs.BareLemmas.{bare-same}
@@ -12,16 +11,9 @@ use Rattle.proof_code.proofs.OneList.{one_list}
 use Rattle.verify.specs.declared.answer.Answer.{Answer}
 use Rattle.verify.specs.declared.answer.Answer.TheVariants.{Proved, Wrong}
 
-derives-same : (S : Database) (at : ℕ) → HasLabelsOnce S → (items : List Item) (t u : Derivation) → Derives S at items t → Derives S at items u → t ≡ u
+-- the items spell one derivation
+pub derives-same : (S : Database) (at : ℕ) → HasLabelsOnce S → (items : List Item) (t u : Derivation) → Derives S at items t → Derives S at items u → t ≡ u
 derives-same S at once items t u p q = spelled_once S at once [] p.after q.after items t u p.weight q.weight p.spelled q.spelled
-
--- a derivation over the limits is not given out
-pub large-answer : (S : Database) (at : ℕ) → HasLabelsOnce S → (items : List Item) (r : Result Tree TreeFault) → IfOk r (λ tree. Derives S at items (derivation_of tree)) → IfOk r (λ tree. IsSmall (derivation_of tree))
-    → (r ≡ Err Wrong → ⊥) → (t : Derivation) → Derives S at items t → (IsSmall t → ⊥) → (r ≡ Err TooLarge) ⊎ (r ≡ Err Memory)
-large-answer S at once items (Ok tree) d s never t p big = absurd (big (subst IsSmall (derives-same S at once items (derivation_of tree) t d p) s))
-large-answer S at once items (Err Wrong) d s never t p big = absurd (never refl)
-large-answer S at once items (Err TooLarge) d s never t p big = inl refl
-large-answer S at once items (Err Memory) d s never t p big = inr refl
 
 -- the number of the derivation that is left
 pub record IsRoot (S : Database) (at : ℕ) (items : List Item) (p : TreePlan) (root : ℕ) : Type 0 where
@@ -50,15 +42,15 @@ root S at once items p k d right is grown at_root =
 pub extents-length : (ns : List Node) (extents : List Extent) → extents ≡ map extent_of (built ns) → length extents ≡ length ns
 extents-length ns extents e = let a = ap length e in let b = length-map (built ns) extent_of in let c = length-built' ns in omega (arith, a, b, c)
 
--- what the extent says of it
-pub extent-is : (ns : List Node) (extents : List Extent) (k : ℕ) (e d : Extent) → extents ≡ map extent_of (built ns) → k < length extents → e ≡ get_or extents k d → e ≡ extent_of (pick (built ns) k)
-extent-is ns extents k e d is h at = child-extent extents (built ns) k e is (slice_get-get_or extents k d h ∙ ap Some (sym at))
-
-pub small-of : (t : Derivation) (e : Extent) → e ≡ extent_of t → IsSmall t ↔ ((e.nodes ≤ 65536) × (e.depth ≤ 1024))
-small-of t e is =
-    let n : e.nodes ≡ min (node_count t) 65537 = ap (λ v. v.nodes) is in
-    let d : e.depth ≡ min (depth t) 1025 = ap (λ v. v.depth) is in
-    (λ h. (let a = h.0 in let b = h.1 in (omega (arith, n, a), omega (arith, d, b))), λ h. (let a = h.0 in let b = h.1 in (omega (arith, n, a), omega (arith, d, b))))
+-- what its extent says of the derivation that is left
+pub root-small : (S : Database) (at : ℕ) (items : List Item) (p : TreePlan) (ns : List Node) (extents : List Extent) (k : ℕ) (e : Extent) (r : IsRoot S at items p k) → ns ≡ p.nodes.items → extents ≡ map extent_of (built ns)
+    → e ≡ get_or extents k e → IsSmall r.tree ↔ ((e.nodes ≤ 65536) × (e.depth ≤ 1024))
+root-small S at items p ns extents k e r same are at_root =
+    let within : k < length extents = omega (arith, r.there, extents-length ns extents are, ap length same) in
+    let is : e ≡ extent_of r.tree = child-extent extents (built ns) k e are (slice_get-get_or extents k e within ∙ ap Some (sym at_root)) ∙ ap extent_of (ap (λ ms. pick (built ms) k) same ∙ r.stands) in
+    let n : e.nodes ≡ min (node_count r.tree) 65537 = ap (λ v. v.nodes) is in
+    let d : e.depth ≡ min (depth r.tree) 1025 = ap (λ v. v.depth) is in
+    (λ h. (omega (arith, n, h.0), omega (arith, d, h.1)), λ h. (omega (arith, n, h.0), omega (arith, d, h.1)))
 
 -- a `$p` stands among the statements without their proofs
 pub provable-bare : (S F : Database) (at : ℕ) (s : Stmt) → F ≡ bares S → IsProvable S at s → IsProvable F at (bare s)

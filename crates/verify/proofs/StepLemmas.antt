@@ -1,6 +1,6 @@
 -- What the code knows at each exit of a step, as a fact of the machine.
 use Rattle.verify.proofs.Words.{◌≡◌, ℕ, suc, ◌+◌, ◌-◌, ◌<◌, ◌≤◌, Bool, true, false, List, [], ◌∷◌, ◌++◌, length, map, take, drop, get_or, Some, Result, Ok, Err, IfOk, refl, IsTrue, nat_lt, nat_eq, replicate, slice_get, slice_set, sym, ◌∙◌, ap, subst, arith, true≢false, length-append, AllocError, nat_tests, length-map, map-append, take-append-drop, take_all, drop_all, drop_more, map_more, drop-append-le, drop-set-lt, length-set, length-replicate, get_or-set_same, get_or-set_other, get_or-replicate, get_or_from_slice_get, slice_get-get_or}
-use Rattle.verify.proofs.Words.{item-cite, item-recall, Name, Stmt, Database, stmt_at, expr_of, name_at, decode, Item, Cite, Recall, IsHypothesis, Carries, Results, State, start, of_hypothesis, Runs, with_result, Adds, Marks, Recalls, Gives, AreBelow, AllBelow, named, AreNamed, Goes, behind, IsGiven, AreGiven, AreKnown, GoesOn, AreLegal, item_of, IsRight, weight_limit, some-same, decode-injective, below-group, LabelEntry, Nothing, IsEntry, AreEntries, get-front}
+use Rattle.verify.proofs.Words.{item-cite, item-recall, Name, Stmt, Database, stmt_at, expr_of, name_at, decode, Item, Cite, Recall, IsHypothesis, Carries, Results, State, start, of_hypothesis, Runs, with_result, Adds, Marks, Recalls, Gives, AreBelow, AllBelow, named, AreNamed, Goes, behind, HasCited, IsGiven, AreGiven, AreKnown, GoesOn, AreLegal, item_of, IsRight, weight_limit, some-same, decode-injective, below-group, LabelEntry, Nothing, IsEntry, AreEntries, get-front}
 use Rattle.verify.proofs.Named.{goes-recall, goes-mark, named-result, result-named, all-drop, all-set, all-snoc, all-none, get-drop}
 use Rattle.verify.proofs.Decide.{cites_same, refuted_at_end, refuted_at_step, accepts_right}
 use Rattle.verify.proofs.Complete.{runs_append}
@@ -107,14 +107,14 @@ module _ (S : Database) (names : List Name) (at : ℕ) where
     known-if P f false p t = absurd (true≢false (sym t))
 
     -- an assertion leaves what is saved
-    pub cite-on : (labels : List Name) (number k : ℕ) (r : Result Bool AllocError) → number ≡ suc k → AreEntries S at labels table → k < length table
-        → IfOk r (λ ok. Goes ok S at names (Cite (get_or labels k [])) old new) → IfOk r (λ ok. IsTrue ok → new.saved ≡ old.saved)
-        → IfOk r (λ ok. GoesOn ok S at names table (item_of labels number) old new)
-    cite-on labels number k (Err e) is are within goes same = tt
-    cite-on labels number k (Ok ok) is are within goes same = (
-      cite-number S names at legal (behind (length table) old) (behind (length table) new) ok labels number k is (let c = are.count in omega (arith, within, c)) (cite-behind (length table) ok (get_or labels k []) old new goes),
-      λ t. known-if (λ b. Goes b S at names (Cite (get_or labels k [])) old new) (λ g. record { are_named = g.1; given = subst (AreGiven S names table) (sym (same t)) known.given }) ok goes t,
-    )
+    pub cite-on : (labels : List Name) (number k a : ℕ) (s : Stmt) (r : Result Bool AllocError) → number ≡ suc k → AreEntries S at labels table → k < length table → Carries S a s (get_or labels k [])
+        → IfOk r (HasCited S at names a old new) → IfOk r (λ ok. GoesOn ok S at names table (item_of labels number) old new)
+    cite-on labels number k a s (Err e) is are within carries cited = tt
+    cite-on labels number k a s (Ok ok) is are within carries cited =
+        let goes = cited.0 (get_or labels k []) s carries in (
+          cite-number S names at legal (behind (length table) old) (behind (length table) new) ok labels number k is (let c = are.count in omega (arith, within, c)) (cite-behind (length table) ok (get_or labels k []) old new goes),
+          λ t. known-if (λ b. Goes b S at names (Cite (get_or labels k [])) old new) (λ g. record { are_named = g.1; given = subst (AreGiven S names table) (sym (cited.1 t)) known.given }) ok goes t,
+        )
 
     -- ---- a hypothesis that is written out
 
@@ -160,7 +160,7 @@ module _ (S : Database) (names : List Name) (at : ℕ) where
     })
 
     -- one of those that were marked
-    pub recall-on : (labels : List Name) (k number : ℕ) (ok : Bool) → number ≡ suc k → length table ≡ length labels → length table ≤ k → Recalls ok old new (suc k) → GoesOn ok S at names table (item_of labels number) old new
+    recall-on : (labels : List Name) (k number : ℕ) (ok : Bool) → number ≡ suc k → length table ≡ length labels → length table ≤ k → Recalls ok old new (suc k) → GoesOn ok S at names table (item_of labels number) old new
     recall-on labels k number ok is count high recalls = (
       recall-number S names at legal (behind (length table) old) (behind (length table) new) below_named ok labels number k (suc (k - length table)) is (omega (arith, count, high)) (ap (λ n. suc (k - n)) count) (cut-recalls ok recalls),
       known-if (λ b. Recalls b old new (suc k)) (recall-known k) ok recalls,
@@ -192,12 +192,12 @@ module _ (S : Database) (names : List Name) (at : ℕ) where
             (given some entry.0 entry.2.stands) (below-group (length names) old.saved k (get_or old.saved k []) known.are_named.saved_named there) (adds ok recalls)
         by other entry given = absurd (omega (arith, some, ap length given))
 
-    pub has-on : (labels : List Name) (k number : ℕ) (ok : Bool) → number ≡ suc k → AreEntries S at labels table → 0 < length (get_or old.saved k []) → Recalls ok old new (suc k) → GoesOn ok S at names table (item_of labels number) old new
-    has-on labels k number ok is are some recalls = by (nat_lt k (length table)) refl
+    pub has-on : (labels : List Name) (k number : ℕ) (ok : Bool) → number ≡ suc k → AreEntries S at labels table → (k < length table → 0 < length (get_or old.saved k [])) × Recalls ok old new (suc k) → GoesOn ok S at names table (item_of labels number) old new
+    has-on labels k number ok is are recalls = by (nat_lt k (length table)) refl
       where
         by : (b : Bool) → nat_lt k (length table) ≡ b → GoesOn ok S at names table (item_of labels number) old new
-        by true e = known-on labels k number ok is are (grind (arith, nat_tests)) some recalls
-        by false e = recall-on labels k number ok is are.count (grind (arith, nat_tests)) recalls
+        by true e = let within : k < length table = grind (arith, nat_tests) in known-on labels k number ok is are within (recalls.0 within) recalls.1
+        by false e = recall-on labels k number ok is are.count (grind (arith, nat_tests)) recalls.1
 
     -- ---- a mark
 

@@ -43,13 +43,14 @@ pub use Rattle.subst.proofs.ImagePlacesLemmas.{image-none, image-some, inside-mo
 pub use Rattle.subst.proofs.NumbersApartLemmas.{below-drop, below-group}
 pub use Rattle.subst.proofs.SubstitutionLemmas.{image-decode, image-named, image-unnamed, substitution_over_names}
 pub use Rattle.subst.specs.ExpressionPlaces.{AreInside, AreWithin, images_at, seen_at}
+pub use Rattle.subst.specs.Findings.{Found}
 pub use Rattle.subst.specs.Images.{AreOver}
 pub use Rattle.subst.specs.declared.expression_place.ExpressionPlace.{ExpressionPlace}
 pub use Rattle.verify.specs.Concludes.{ConcludeAll, Concludes}
 pub use Rattle.verify.specs.Derivations.{Derivation, Derivations, apply, depth, depth_in, derivation_of, derivation_step, from_list, hyp, more, node_count, nodes_in, none}
 pub use Rattle.verify.specs.Extents.{extent_of}
 pub use Rattle.verify.specs.Fits.{AreDifferent, AreRead, AreStanding, DoFit, FitsOne, IsStanding, IsTyped, Reads}
-pub use Rattle.verify.specs.Goes.{AreGiven, AreKnown, AreNamed, Goes, GoesOn, IsGiven, behind, named}
+pub use Rattle.verify.specs.Goes.{AreGiven, AreKnown, AreNamed, Goes, GoesOn, HasCited, IsGiven, MayCite, behind, named}
 pub use Rattle.verify.specs.Growth.{Builds, Grew, Grows, GrowsBy, IsKept, Trees, a_hypothesis, an_assertion, trees, with_tree}
 pub use Rattle.verify.specs.LabelTable.{AreEntries, IsEntry, is_hypothesis_among}
 pub use Rattle.verify.specs.Machine.{Cites, IsSaved, Results, Runs, State, Steps, of_assertion, of_hypothesis, start, with_mark, with_result}
@@ -64,4 +65,5 @@ pub use Rattle.verify.specs.declared.label_table.LabelEntry.TheVariants.{Asserti
 pub use Rattle.verify.specs.declared.plan.Node.{Node}
 pub use Rattle.verify.specs.declared.plan.TreePlan.{TreePlan}
 pub use Rattle.verify.specs.declared.tree.Tree.{Tree}
-pub use Rattle.verify.specs.declared.tree_size.Extent.{Extent}
+pub use Rattle.verify.specs.declared.plan.Extent.{Extent}
+pub use Rattle.verify.specs.declared.citation.Claim.{Claim}

@@ -2,12 +2,16 @@
 -- Metamath, 4.2.6 and appendix B; `Machine` over names.
 -- The code knows numbers alone; each has a name.
 use Rattle.std.specs.Prelude.{◌≡◌, ℕ, ◌<◌, ◌≤◌, Bool, true, false, IsTrue, List, [], length, map, drop, get_or, Some}
-use Rattle.verify.specs.Words.{Name, Stmt, Database, stmt_at, expr_of, AllBelow, Item}
+use Rattle.verify.specs.Words.{Name, Stmt, Database, before, stmt_at, expr_of, AllBelow, Item, Carries, Cite}
 use Rattle.names.specs.Codes.{decode}
 use Rattle.verify.specs.declared.label_table.LabelEntry.{LabelEntry}
 use Rattle.verify.specs.declared.label_table.LabelEntry.TheVariants.{Hypothesis, Nothing}
 use Rattle.verify.specs.Machine.{Results, State, Steps}
 use Rattle.verify.specs.Right.{weight_limit}
+use Rattle.frame.specs.AtPosition.{AreLegal}
+use Rattle.frame.specs.FrameOf.{HasAssertion}
+use Rattle.subst.specs.Findings.{Found, IsKnown}
+use Rattle.verify.specs.declared.citation.Claim.{Claim}
 
 -- the results that the codes stand for
 abbrev pub named : List Name → Results ℕ → State
@@ -22,6 +26,10 @@ pub record AreNamed (names : List Name) (st : Results ℕ) : Type 0 where
 abbrev pub Goes : Bool → Database → ℕ → List Name → Item → Results ℕ → Results ℕ → Type 0
 Goes true S at names item old new = Steps S at (named names old) item (named names new) × AreNamed names new
 Goes false S at names item old new = (next : State) → Steps S at (named names old) item next → weight_limit < next.weight
+
+-- the assertion at a was cited, or it cannot be within the limit
+abbrev pub HasCited : Database → ℕ → List Name → ℕ → Results ℕ → Results ℕ → Bool → Type 0
+HasCited S at names a old new ok = ((label : Name) (s : Stmt) → Carries S a s label → Goes ok S at names (Cite label) old new) × (IsTrue ok → new.saved ≡ old.saved)
 
 -- ---- results that are kept for the labels of the table, before those that were marked
 
@@ -45,3 +53,19 @@ pub record AreKnown (S : Database) (names : List Name) (table : List LabelEntry)
 -- the same of an item where the first results are kept for labels
 abbrev pub GoesOn : Bool → Database → ℕ → List Name → List LabelEntry → Item → Results ℕ → Results ℕ → Type 0
 GoesOn ok S at names table item old new = Goes ok S at names item (behind (length table) old) (behind (length table) new) × (IsTrue ok → AreKnown S names table new)
+
+-- ---- what an item rests on
+
+-- legal statements, the pairs that are active at the statement, and what was found of them
+pub record IsReady (t : Claim) (f : Found) : Type 0 where
+  pub legal : AreLegal t.frames.now.statements t.frames.now.names
+  pub active : t.pairs.statements ≡ before t.frames.now.statements t.at
+  pub names : t.pairs.names ≡ t.frames.now.names
+  pub found : IsKnown t.pairs f
+
+-- the same of an earlier assertion at a, over results whose codes have names
+pub record MayCite (t : Claim) (a : ℕ) (f : Found) (st : Results ℕ) : Type 0 where
+  pub ready : IsReady t f
+  pub named : AreNamed t.frames.now.names st
+  pub assertion : (s : Stmt) × HasAssertion t.frames.now.statements a s
+  pub earlier : a < t.at

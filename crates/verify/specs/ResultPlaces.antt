@@ -1,7 +1,7 @@
 -- Results that lie in one buffer, and images that were read off some of them.
 -- Metamath, 4.2.6: the stack of a proof.
 -- The code keeps where each result lies; here they are lists of symbols.
-use Rattle.std.specs.Prelude.{◌≡◌, ℕ, ◌+◌, ◌-◌, ◌<◌, ◌≤◌, Bool, true, false, List, [], ◌∷◌, ◌++◌, length, map, drop, take, slice_set}
+use Rattle.std.specs.Prelude.{◌≡◌, ℕ, ◌+◌, ◌-◌, ◌<◌, ◌≤◌, Bool, true, false, List, [], ◌∷◌, ◌++◌, length, map, drop, take, slice_set, get_or, suc, Option, Some, None}
 use Rattle.verify.specs.Words.{CodeImages, ExpressionPlace}
 use Rattle.subst.specs.ExpressionPlaces.{seen_at, images_at, AreWithin, AreInside}
 use Rattle.verify.specs.Machine.{Results, with_result, with_mark, IsSaved}
@@ -50,3 +50,8 @@ Marks false old new = old.stack ≡ []
 abbrev pub Recalls : {A : Type 0} → Bool → Results A → Results A → ℕ → Type 0
 Recalls {A} true old new k = (e : List A) × IsSaved old.saved k e × (new ≡ with_result old old.stack e)
 Recalls {A} false old new k = (e : List A) → IsSaved old.saved k e → weight_limit < old.weight + length e
+
+-- the same at an index from 0; or nothing is done, where the index is that of a label for which nothing is kept
+abbrev pub Finds : {A : Type 0} → Option Bool → ℕ → Results A → Results A → ℕ → Type 0
+Finds None labels old new k = (k < labels) × (new ≡ old)
+Finds (Some ok) labels old new k = (k < labels → 0 < length (get_or old.saved k [])) × Recalls ok old new (suc k)

@@ -1,15 +1,12 @@
 //! A whole proof.
 
-ghost use Rattle.std.specs.Prelude.{◌≡◌, IfOk, IsTrue};
-ghost use Rattle.mm_read.specs.declared.stmt.Stmt.{Stmt as Statement};
-ghost use Rattle.proof_code.specs.Writes.{is_compressed};
-ghost use Rattle.verify.specs.Proves.{Proves};
-ghost use Rattle.verify.specs.Right.{IsProvable, IsRight, Says};
+ghost use Rattle.std.specs.Prelude.{◌≡◌, List, IfOk};
+ghost use Rattle.{mm_lex.specs.Alphabet.Name, mm_read.specs.declared.stmt.Stmt.Stmt as Statement, proof_code.specs.ItemNumbers.items_of, verify.specs.LabelTable.AreEntries, verify.specs.Proves.Proves, verify.specs.Right.IsProvable, verify.specs.Right.IsRight, verify.specs.Right.Says};
 
 use crate::answer::Answer;
+use crate::citation::{Buffers, Claim, step};
 use crate::label_table::{LabelEntry, add_listed, fill_mandatory, fill_table};
 use crate::results::Results;
-use crate::run::run;
 use frame::{Frames, Gathered};
 use mm_lex::Words;
 use proof_code::{CodeFault, Items, Reader, is_compressed, normal};
@@ -23,9 +20,7 @@ pub struct Checker {
     reader: Reader,
     table: Vec<LabelEntry>,
     mandatory: Vec<u32>,
-    gathered: Gathered,
-    findings: Findings,
-    results: Results,
+    buffers: Buffers,
 }
 
 impl Checker {
@@ -36,9 +31,11 @@ impl Checker {
             reader: Reader::new(alloc),
             table: Vec::new(alloc),
             mandatory: Vec::new(alloc),
-            gathered: Gathered::new(alloc),
-            findings: Findings::new(alloc),
-            results: Results::new(alloc),
+            buffers: Buffers {
+                gathered: Gathered::new(alloc),
+                findings: Findings::new(alloc),
+                results: Results::new(alloc),
+            },
         }
     }
 
@@ -53,15 +50,7 @@ impl Checker {
     {
         let parts = items.parts();
         fill_table(frames, at, parts.labels, &mut self.table)?;
-        run(
-            frames,
-            at,
-            &self.table,
-            parts.numbers,
-            &mut self.gathered,
-            &mut self.findings,
-            &mut self.results,
-        )
+        run(frames, at, &self.table, parts.numbers, &mut self.buffers)
     }
 
     /// Whether the tokens write a right proof of the `$p` at that position.
@@ -77,27 +66,13 @@ impl Checker {
         requires { (s : Statement) × IsProvable frames.now.statements at s }
         ensures { IfOk result (λ answer. Says answer (Proves frames.now.statements at tokens.now)) }
     {
-        if is_compressed(tokens) {
-            return self.prove_compressed(frames, at, tokens);
+        if !is_compressed(tokens) {
+            return match normal(self.alloc, tokens) {
+                Ok(items) => self.check(frames, at, &items),
+                Err(CodeFault::Memory) => Err(AllocError),
+                Err(_) => Ok(Answer::Wrong),
+            };
         }
-        match normal(self.alloc, tokens) {
-            Ok(items) => self.check(frames, at, &items),
-            Err(CodeFault::Memory) => Err(AllocError),
-            Err(_) => Ok(Answer::Wrong),
-        }
-    }
-
-    /// The same for a compressed proof.
-    fn prove_compressed(
-        &mut self,
-        frames: &Frames,
-        at: usize,
-        tokens: &Words,
-    ) -> Result<Answer, AllocError>
-        requires provable { (s : Statement) × IsProvable frames.now.statements at s }
-        requires compressed { IsTrue (is_compressed tokens.now) }
-        ensures { IfOk result (λ answer. Says answer (Proves frames.now.statements at tokens.now)) }
-    {
         fill_mandatory(frames, at, &mut self.mandatory, &mut self.table)?;
         let count = self.mandatory.as_slice().len();
         let Some(heading) = self.reader.read(tokens, count)? else {
@@ -106,15 +81,8 @@ impl Checker {
         if !add_listed(frames, at, &self.mandatory, heading, &mut self.table)? {
             return Ok(Answer::Wrong);
         }
-        run(
-            frames,
-            at,
-            &self.table,
-            self.reader.numbers(),
-            &mut self.gathered,
-            &mut self.findings,
-            &mut self.results,
-        )
+        let numbers = self.reader.numbers();
+        run(frames, at, &self.table, numbers, &mut self.buffers)
     }
 }
 
@@ -124,4 +92,34 @@ pub fn check(alloc: Global, frames: &Frames, at: usize, items: &Items) -> Result
     ensures { IfOk result (λ answer. Says answer (IsRight frames.now.statements at items.now)) }
 {
     Checker::new(alloc).check(frames, at, items)
+}
+
+/// Whether the items with these numbers, over a table of what the labels name, are a right proof of the `$p` at that
+/// position. The buffers are used for the run.
+fn run(
+    frames: &Frames,
+    at: usize,
+    table: &[LabelEntry],
+    numbers: &[u32],
+    buffers: &mut Buffers,
+) -> Result<Answer, AllocError>
+    requires provable { (s : Statement) × IsProvable frames.now.statements at s }
+    requires entries { (labels : List Name) × AreEntries frames.now.statements at labels table.now }
+    ensures { (labels : List Name) → AreEntries frames.now.statements at labels table.now
+        → IfOk result (λ answer. Says answer (IsRight frames.now.statements at (items_of labels numbers.now))) }
+{
+    buffers.results.start(table.len())?;
+    buffers.findings.clear();
+    let pairs = frames.active_pairs(at);
+    let claim = Claim { frames, at, pairs };
+    for number in numbers {
+        if !step(&claim, table, *number, buffers)? {
+            return Ok(Answer::Wrong);
+        }
+    }
+    if buffers.results.is_only(frames.expr(at)) {
+        Ok(Answer::Proved)
+    } else {
+        Ok(Answer::Wrong)
+    }
 }

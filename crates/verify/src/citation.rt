@@ -1,18 +1,7 @@
 //! One item of a proof.
 
-ghost use Rattle.std.specs.Prelude.{◌≡◌, ◌<◌, List, Some, IfOk, IsTrue};
-ghost use Rattle.mm_lex.specs.Alphabet.{Name};
-ghost use Rattle.mm_read.specs.declared.stmt.Stmt.{Stmt as Statement};
-ghost use Rattle.scope.specs.Active.{before, stmt_at};
-ghost use Rattle.frame.specs.Cited.{IsCited};
-ghost use Rattle.frame.specs.FrameOf.{HasAssertion};
-ghost use Rattle.frame.specs.Citations.{Carries};
-ghost use Rattle.frame.specs.AtPosition.{AreLegal};
-ghost use Rattle.proof_code.specs.declared.item.Item.TheVariants.{Cite};
-ghost use Rattle.proof_code.specs.ItemNumbers.{item_of};
-ghost use Rattle.subst.specs.Findings.{IsKnown};
-ghost use Rattle.verify.specs.Goes.{Goes, AreNamed, AreKnown, GoesOn};
-ghost use Rattle.verify.specs.LabelTable.{AreEntries};
+ghost use Rattle.std.specs.Prelude.{◌≡◌, List, Some, IfOk};
+ghost use Rattle.{mm_lex.specs.Alphabet.Name, mm_read.specs.declared.stmt.Stmt.Stmt as Statement, scope.specs.Active.stmt_at, frame.specs.Cited.IsCited, proof_code.specs.ItemNumbers.item_of, subst.specs.Findings.IsKnown, verify.specs.Goes.HasCited, verify.specs.Goes.AreKnown, verify.specs.Goes.GoesOn, verify.specs.Goes.IsReady, verify.specs.Goes.MayCite, verify.specs.LabelTable.AreEntries};
 
 use crate::label_table::LabelEntry;
 use crate::results::Results;
@@ -21,28 +10,35 @@ use frame::{Frames, Gathered, Pairs};
 use std::alloc::AllocError;
 use subst::Findings;
 
+/// What a proof is to show: the `$p` at a position, and the pairs that are active there.
+#[derive(Drop)]
+pub struct Claim<'a> {
+    pub frames: &'a Frames,
+    pub at: usize,
+    pub pairs: Pairs<'a>,
+}
+
+/// What the items of a proof change. Long lists of an assertion that is cited are gathered.
+#[derive(Drop)]
+pub struct Buffers {
+    pub gathered: Gathered,
+    pub findings: Findings,
+    pub results: Results,
+}
+
 /// Takes the results that an assertion asks for, by its parts, and adds what it gives.
+#[inline(always)]
 fn cite_parts(
-    frames: &Frames,
-    at: usize,
-    pairs: &Pairs<'_>,
+    claim: &Claim<'_>,
     position: usize,
     cited: &Cited<'_>,
     findings: &mut Findings,
     results: &mut Results,
 ) -> Result<bool, AllocError>
-    requires legal { AreLegal frames.now.statements frames.now.names }
-    requires active { pairs.now.statements ≡ before frames.now.statements at }
-    requires names { pairs.now.names ≡ frames.now.names }
-    requires found { IsKnown pairs.now findings.old }
-    requires named { AreNamed frames.now.names results.old.results }
-    requires assertion { (s : Statement) × HasAssertion frames.now.statements position s }
-    requires earlier { position < at }
-    requires cited { (s : Statement) → stmt_at frames.now.statements position ≡ Some s → IsCited frames.now.statements frames.now.names position s cited.now }
-    ensures goes { (label : Name) → (s : Statement) → Carries frames.now.statements position s label
-        → IfOk result (λ ok. Goes ok frames.now.statements at frames.now.names (Cite label) results.old.results results.new.results) }
-    ensures found { IsKnown pairs.now findings.new }
-    ensures saved { IfOk result (λ ok. IsTrue ok → results.new.results.saved ≡ results.old.results.saved) }
+    requires may { MayCite claim.now position findings.old results.old.results }
+    requires cited { (s : Statement) → stmt_at claim.now.frames.now.statements position ≡ Some s → IsCited claim.now.frames.now.statements claim.now.frames.now.names position s cited.now }
+    ensures goes { IfOk result (HasCited claim.now.frames.now.statements claim.now.at claim.now.frames.now.names position results.old.results results.new.results) }
+    ensures found { IsKnown claim.now.pairs findings.new }
 {
     let count = cited.hypotheses.len();
     if count > results.len() {
@@ -51,56 +47,69 @@ fn cite_parts(
     if !results.read_images(cited.heads, &cited.hypotheses)? {
         return Ok(false);
     }
-    if !results.fits(frames, &cited.hypotheses) {
+    if !results.fits(claim.frames, &cited.hypotheses) {
         return Ok(false);
     }
-    if !results.are_apart(pairs, &cited.groups, findings) {
+    if !results.are_apart(&claim.pairs, &cited.groups, findings) {
         return Ok(false);
     }
     results.apply(count, cited.conclusion)
 }
 
-/// Does one item, by its number. Long lists of an assertion that is cited are made in a buffer.
+/// The same of an assertion whose lists are long.
+#[cold]
+#[inline(never)]
+fn cite_long(claim: &Claim<'_>, position: usize, buffers: &mut Buffers) -> Result<bool, AllocError>
+    requires { MayCite claim.now position buffers.old.findings buffers.old.results.results }
+    ensures goes { IfOk result (HasCited claim.now.frames.now.statements claim.now.at claim.now.frames.now.names position buffers.old.results.results buffers.new.results.results) }
+    ensures found { IsKnown claim.now.pairs buffers.new.findings }
+{
+    claim.frames.gather(position, &mut buffers.gathered)?;
+    let cited = claim.frames.gathered(position, &buffers.gathered);
+    let findings = &mut buffers.findings;
+    let results = &mut buffers.results;
+    cite_parts(claim, position, &cited, findings, results)
+}
+
+/// Takes the results that an assertion asks for, and adds what it gives.
+#[inline(never)]
+fn cite(claim: &Claim<'_>, position: usize, buffers: &mut Buffers) -> Result<bool, AllocError>
+    requires { MayCite claim.now position buffers.old.findings buffers.old.results.results }
+    ensures goes { IfOk result (HasCited claim.now.frames.now.statements claim.now.at claim.now.frames.now.names position buffers.old.results.results buffers.new.results.results) }
+    ensures found { IsKnown claim.now.pairs buffers.new.findings }
+{
+    let Some(cited) = claim.frames.cited(position) else {
+        return cite_long(claim, position, buffers);
+    };
+    let findings = &mut buffers.findings;
+    let results = &mut buffers.results;
+    cite_parts(claim, position, &cited, findings, results)
+}
+
+/// Does one item, by its number.
 pub fn step(
-    frames: &Frames,
-    at: usize,
-    pairs: &Pairs<'_>,
+    claim: &Claim<'_>,
     table: &[LabelEntry],
     number: u32,
-    gathered: &mut Gathered,
-    findings: &mut Findings,
-    results: &mut Results,
+    buffers: &mut Buffers,
 ) -> Result<bool, AllocError>
-    requires legal { AreLegal frames.now.statements frames.now.names }
-    requires active { pairs.now.statements ≡ before frames.now.statements at }
-    requires names { pairs.now.names ≡ frames.now.names }
-    requires found { IsKnown pairs.now findings.old }
-    requires known { AreKnown frames.now.statements frames.now.names table.now results.old.results }
-    requires entries { (labels : List Name) × AreEntries frames.now.statements at labels table.now }
-    ensures found { IsKnown pairs.now findings.new }
-    ensures goes { (labels : List Name) → AreEntries frames.now.statements at labels table.now
-        → IfOk result (λ ok. GoesOn ok frames.now.statements at frames.now.names table.now (item_of labels number) results.old.results results.new.results) }
+    requires ready { IsReady claim.now buffers.old.findings }
+    requires known { AreKnown claim.now.frames.now.statements claim.now.frames.now.names table.now buffers.old.results.results }
+    requires entries { (labels : List Name) × AreEntries claim.now.frames.now.statements claim.now.at labels table.now }
+    ensures found { IsKnown claim.now.pairs buffers.new.findings }
+    ensures goes { (labels : List Name) → AreEntries claim.now.frames.now.statements claim.now.at labels table.now
+        → IfOk result (λ ok. GoesOn ok claim.now.frames.now.statements claim.now.at claim.now.frames.now.names table.now (item_of labels number) buffers.old.results.results buffers.new.results.results) }
 {
     if number == 0 {
-        return results.mark();
+        return buffers.results.mark();
     }
     let index = number as usize - 1;
-    if results.has(index) {
-        return results.recall(index);
-    }
-    if index >= table.len() {
-        return results.recall(index);
+    if let Some(done) = buffers.results.recall(index, table.len())? {
+        return Ok(done);
     }
     match table[index] {
-        LabelEntry::Hypothesis(position) => results.give(index, frames.expr(position)),
-        LabelEntry::Assertion(position) => {
-            if let Some(cited) = frames.cited(position) {
-                return cite_parts(frames, at, pairs, position, &cited, findings, results);
-            }
-            frames.gather(position, gathered)?;
-            let cited = frames.gathered(position, gathered);
-            cite_parts(frames, at, pairs, position, &cited, findings, results)
-        }
+        LabelEntry::Hypothesis(i) => buffers.results.give(index, claim.frames.expr(i)),
+        LabelEntry::Assertion(position) => cite(claim, position, buffers),
         LabelEntry::Nothing => Ok(false),
     }
 }

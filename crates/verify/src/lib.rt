@@ -4,9 +4,8 @@
 //! derivation is spelled that concludes the statement's expression and weighs no more than the limit; else it answers `Wrong`.
 //! `check` is the same of the items.
 //!
-//! Reading order: `answer`, `tree`; `reading_off` and `results` (results as ranges of one buffer), `label_table`,
-//! `citation` (one item), `run` and `checker` (a whole proof); `plan`, `tree_size` and `tree_from_items` (the derivation);
-//! `laws`.
+//! Reading order: `answer`, `tree`; `results` (as ranges of one buffer), `label_table`, `citation` (one item), `checker` (a
+//! whole proof); `plan` and `tree_from_items` (the derivation); `laws`.
 #![tactic(auto)]
 
 mod answer;
@@ -15,16 +14,13 @@ mod citation;
 mod label_table;
 pub mod laws;
 mod plan;
-mod reading_off;
 mod results;
-mod run;
 mod tree;
 mod tree_from_items;
-mod tree_size;
 
 pub use answer::{Answer, TreeFault};
 pub use checker::{Checker, check};
-pub use reading_off::read_off;
+pub use plan::{MOST_DEPTH, MOST_NODES};
+pub use results::read_off;
 pub use tree::Tree;
 pub use tree_from_items::derivation;
-pub use tree_size::{MOST_DEPTH, MOST_NODES};

@@ -1,18 +1,18 @@
-//! A derivation planned: its nodes by number, each after those of its children, and once however often it is recalled.
+//! A derivation planned: its nodes by number, each after those of its children, and once however often it is recalled;
+//! and how large the derivations are, before one of them is made.
 
-ghost use Rattle.std.specs.Prelude.{◌≡◌, ℕ, [], List, OnOk, IfOk, length};
-ghost use Rattle.mm_lex.specs.Alphabet.{Name};
-ghost use Rattle.mm_read.specs.declared.stmt.Stmt.{Stmt as Statement};
-ghost use Rattle.frame.specs.AtPosition.{HasLabelsOnce};
-ghost use Rattle.proof_code.specs.declared.item.Item.TheVariants.{Cite};
-ghost use Rattle.proof_code.specs.ItemNumbers.{item_of};
-ghost use Rattle.verify.specs.Growth.{trees, with_tree, Grew};
-ghost use Rattle.verify.specs.Plan.{derive, built, IsAfter, trees_of, IsPlan};
-ghost use Rattle.verify.specs.LabelTable.{IsEntry, AreEntries};
+ghost use Rattle.std.specs.Prelude.{◌≡◌, ℕ, ◌<◌, ◌≤◌, ◌↔◌, [], IsTrue, List, OnOk, IfOk, Some, length, map, slice_get};
+ghost use Rattle.{mm_lex.specs.Alphabet.Name, mm_read.specs.declared.stmt.Stmt.Stmt as Statement, frame.specs.AtPosition.HasLabelsOnce, proof_code.specs.declared.item.Item.TheVariants.Cite, proof_code.specs.ItemNumbers.item_of, verify.specs.Growth.trees, verify.specs.Growth.with_tree, verify.specs.Growth.Grew, verify.specs.Plan.derive, verify.specs.Plan.built, verify.specs.Plan.IsAfter, verify.specs.Plan.trees_of, verify.specs.Plan.IsPlan, verify.specs.Plan.AreOrdered, verify.specs.Extents.extent_of, verify.specs.Right.most_nodes, verify.specs.Right.most_depth, verify.specs.Derivations.Derivation, verify.specs.LabelTable.IsEntry, verify.specs.LabelTable.AreEntries};
 
 use crate::label_table::LabelEntry;
 use frame::Frames;
 use std::alloc::{AllocError, Global};
+
+/// The most nodes that a derivation which is given out has.
+pub const MOST_NODES: usize = 65_536;
+
+/// The depth of the deepest derivation that is given out; a lone node has depth 1.
+pub const MOST_DEPTH: usize = 1_024;
 
 /// A node of a plan.
 #[derive(Drop)]
@@ -31,19 +31,6 @@ pub struct TreePlan {
     pub saved: Vec<usize>,
     /// The mandatory hypotheses of an assertion that is cited.
     pub mandatory: Vec<u32>,
-}
-
-/// A plan of nothing.
-pub fn new_plan(alloc: Global) -> TreePlan
-    ensures plan { IsPlan result }
-    ensures empty { trees_of result ≡ trees [] [] }
-{
-    TreePlan {
-        nodes: Vec::new(alloc),
-        stack: Vec::new(alloc),
-        saved: Vec::new(alloc),
-        mandatory: Vec::new(alloc),
-    }
 }
 
 /// Adds a node, and its number on top.
@@ -120,4 +107,58 @@ pub fn grow(
     let saved = plan.saved[index];
     plan.stack.push(saved)?;
     Ok(true)
+}
+
+/// How many nodes a derivation has, and how deep they lie, each counted no further than one above its limit.
+#[derive(Clone, Copy, Drop)]
+pub struct Extent {
+    pub nodes: usize,
+    pub depth: usize,
+}
+
+/// The extent with that number.
+fn numbered(extents: &[Extent], number: usize) -> Extent
+    requires { number < length extents.now }
+    ensures { slice_get extents.now number ≡ Some result }
+{
+    extents[number]
+}
+
+/// The extent of a node over those before it.
+fn extent_at(node: &Node, extents: &[Extent]) -> Extent
+    requires after { IsAfter (length extents.now) node.now }
+    requires measured { (ts : List Derivation) × (extents.now ≡ map extent_of ts) }
+    ensures { (ts : List Derivation) → extents.now ≡ map extent_of ts → result ≡ extent_of (derive ts node.now) }
+{
+    let Node::Apply(_, kids) = node else {
+        return Extent { nodes: 1, depth: 1 };
+    };
+    let mut nodes = 1;
+    let mut depth = 1;
+    for kid in kids {
+        let extent = numbered(extents, *kid);
+        nodes = (nodes + extent.nodes).min(MOST_NODES + 1);
+        depth = depth.max((extent.depth + 1).min(MOST_DEPTH + 1));
+    }
+    Extent { nodes, depth }
+}
+
+/// The extent of each derivation.
+pub fn measure(alloc: Global, nodes: &[Node]) -> Result<Vec<Extent>, AllocError>
+    requires { AreOrdered 0 nodes.now }
+    ensures { IfOk result (λ extents. extents.items ≡ map extent_of (built nodes.now)) }
+{
+    let mut extents = Vec::new(alloc);
+    for node in nodes {
+        let one = extent_at(node, &extents);
+        extents.push(one)?;
+    }
+    Ok(extents)
+}
+
+/// Whether a derivation is within the limits.
+pub fn is_small(extent: Extent) -> bool
+    ensures { IsTrue result ↔ ((extent.nodes ≤ most_nodes) × (extent.depth ≤ most_depth)) }
+{
+    extent.nodes <= MOST_NODES && extent.depth <= MOST_DEPTH
 }

@@ -1,19 +1,8 @@
 //! The results of a proof so far, as ranges of one buffer.
 
-ghost use Rattle.std.specs.Prelude.{◌≡◌, suc, ◌<◌, ◌≤◌, ◌↔◌, ◌∷◌, ◌++◌, [], length, map, get_or, replicate, IfOk, OnOk, OnErr, IsTrue};
-ghost use Rattle.names.specs.Codes.{decode, AreDistinct};
-ghost use Rattle.frame.specs.Below.{AllBelow};
-ghost use Rattle.frame.specs.Disjoint.{are_groups_apart};
-ghost use Rattle.frame.specs.AtPosition.{AreLegal};
-ghost use Rattle.frame.specs.Substitution.{code_apply, images_of_names};
-ghost use Rattle.subst.specs.Findings.{IsKnown};
-ghost use Rattle.subst.specs.Images.{AreOver};
-ghost use Rattle.verify.specs.Fits.{AreDifferent, AreStanding, Reads, DoFit};
-ghost use Rattle.verify.specs.Machine.{with_result, with_mark, IsSaved};
-ghost use Rattle.verify.specs.ResultPlaces.{below, top, Adds, Gives, Marks, Recalls};
-ghost use Rattle.verify.specs.Right.{weight_limit};
+ghost use Rattle.std.specs.Prelude.{ℕ, ◌≡◌, suc, ◌<◌, ◌≤◌, ◌↔◌, ◌∷◌, ◌++◌, [], length, map, get_or, replicate, IfOk, OnOk, OnErr, IsTrue};
+ghost use Rattle.{names.specs.Codes.decode, names.specs.Codes.AreDistinct, frame.specs.Below.AllBelow, frame.specs.Disjoint.are_groups_apart, frame.specs.AtPosition.AreLegal, frame.specs.Substitution.code_apply, frame.specs.Substitution.images_of_names, subst.specs.Findings.IsKnown, subst.specs.Images.AreOver, subst.specs.ExpressionPlaces.AreWithin, subst.specs.ExpressionPlaces.AreInside, verify.specs.ReadPlaces.ReadsAll, verify.specs.Fits.AreDifferent, verify.specs.Fits.AreStanding, verify.specs.Fits.Reads, verify.specs.Fits.DoFit, verify.specs.Machine.with_result, verify.specs.Machine.with_mark, verify.specs.Machine.IsSaved, verify.specs.ResultPlaces.below, verify.specs.ResultPlaces.top, verify.specs.ResultPlaces.Adds, verify.specs.ResultPlaces.Gives, verify.specs.ResultPlaces.Marks, verify.specs.ResultPlaces.Finds, verify.specs.Right.weight_limit};
 
-use crate::reading_off::read_off;
 use entries::{Groups, Hypotheses, Hypothesis};
 use frame::{Frames, Pairs};
 use std::alloc::{AllocError, Global};
@@ -22,9 +11,6 @@ use subst::{
     Buffer, ExpressionPlace, Findings, ImagePlaces, SYMBOLS_LIMIT, groups_apart, matches,
     place_between, symbols_at,
 };
-
-/// The place of no symbols.
-const EMPTY: ExpressionPlace = ExpressionPlace { start: 0, end: 0 };
 
 /// The results of a proof so far, their symbols in one buffer, and the images that were read off the last of them.
 ///
@@ -72,11 +58,13 @@ impl Results {
         self.stack.clear();
         self.saved.clear();
         self.weight = 0;
-        self.saved.resize(labels, EMPTY)?;
+        self.saved
+            .resize(labels, ExpressionPlace { start: 0, end: 0 })?;
         Ok(())
     }
 
-    /// Adds a result that is written out, and keeps it for the label of that number.
+    /// Adds a result that is written out, and keeps it for the label of that number. It comes once a label.
+    #[inline(never)]
     pub fn give(&mut self, label: usize, expr: &[u32]) -> Result<bool, AllocError>
         requires { label < length self.old.results.saved }
         ensures { IfOk result (λ ok. Gives ok self.old.results self.new.results label expr.now) }
@@ -98,49 +86,40 @@ impl Results {
     pub fn mark(&mut self) -> Result<bool, AllocError>
         ensures { IfOk result (λ ok. Marks ok self.old.results self.new.results) }
     {
-        match self.stack.last() {
-            Some(place) => {
-                let place = *place;
-                self.saved.push(place)?;
-                Ok(true)
-            }
-            None => Ok(false),
-        }
-    }
-
-    /// Whether a result with symbols is saved at that index.
-    #[inline(always)]
-    pub fn has(&self, index: usize) -> bool
-        ensures within { IsTrue result → index < length self.now.results.saved }
-        ensures some { IsTrue result → 0 < length (get_or self.now.results.saved index []) }
-    {
-        if index >= self.saved.len() {
-            return false;
-        }
-        let place = self.saved[index];
-        place.start < place.end
-    }
-
-    /// Puts the result that is saved at that index on top, if there is one and it is light enough.
-    #[inline(always)]
-    pub fn recall(&mut self, index: usize) -> Result<bool, AllocError>
-        ensures { IfOk result (λ ok. Recalls ok self.old.results self.new.results (suc index)) }
-    {
-        if index >= self.saved.len() {
+        let Some(place) = self.stack.last() else {
             return Ok(false);
+        };
+        let place = *place;
+        self.saved.push(place)?;
+        Ok(true)
+    }
+
+    /// Puts the result that is saved at that index on top, if there is one and it is light enough. None where the index is
+    /// that of one of so many labels, and no result with symbols is saved there.
+    #[inline(always)]
+    pub fn recall(&mut self, index: usize, labels: usize) -> Result<Option<bool>, AllocError>
+        requires { labels ≤ length self.old.results.saved }
+        ensures { IfOk result (λ done. Finds done labels self.old.results self.new.results index) }
+    {
+        if index >= self.saved.len() {
+            return Ok(Some(false));
         }
         let place = self.saved[index];
         let len = (place.end - place.start) as usize;
+        if len == 0 && index < labels {
+            return Ok(None);
+        }
         if len > SYMBOLS_LIMIT - self.weight {
-            return Ok(false);
+            return Ok(Some(false));
         }
         self.stack.push(place)?;
         self.weight += len;
-        Ok(true)
+        Ok(Some(true))
     }
 
     /// Reads the images of the variables of the `$f` off the last results, one for each hypothesis; or finds one that
     /// does not begin with the symbol that its `$f` asks for.
+    #[inline(always)]
     pub fn read_images(
         &mut self,
         heads: &[u32],
@@ -152,17 +131,13 @@ impl Results {
         ensures same { self.new.results ≡ self.old.results }
         ensures read { IfOk result (λ ok. Reads ok heads.now hypotheses.now (top (length hypotheses.now) self.old.results.stack) self.new.images) }
     {
-        let keep = self.stack.len() - hypotheses.len();
-        read_off(
-            &mut self.images,
-            self.symbols.as_slice(),
-            heads,
-            hypotheses,
-            &self.stack[keep..],
-        )
+        let places = &self.stack[self.stack.len() - hypotheses.len()..];
+        let symbols = self.symbols.as_slice();
+        read_off(&mut self.images, symbols, heads, hypotheses, places)
     }
 
     /// Whether the last results are the expressions of the `$e` with the images put in. Of a `$f` nothing is asked here.
+    #[inline(always)]
     pub fn fits(&self, frames: &Frames, hypotheses: &Hypotheses<'_>) -> bool
         requires legal { AreLegal frames.now.statements frames.now.names }
         requires standing { AreStanding frames.now.statements hypotheses.now }
@@ -185,6 +160,7 @@ impl Results {
     }
 
     /// Whether the images of each two variables of a group are apart.
+    #[inline(always)]
     pub fn are_apart(&self, pairs: &Pairs<'_>, groups: &Groups<'_>, findings: &mut Findings) -> bool
         requires known { IsKnown pairs.now findings.old }
         requires distinct { AreDistinct pairs.now.names }
@@ -193,16 +169,12 @@ impl Results {
         ensures known { IsKnown pairs.now findings.new }
         ensures apart { result ≡ are_groups_apart pairs.now.statements (images_of_names pairs.now.names self.now.images) (map (decode pairs.now.names) groups.now) }
     {
-        groups_apart(
-            pairs,
-            groups,
-            findings,
-            self.symbols.as_slice(),
-            &self.images,
-        )
+        let symbols = self.symbols.as_slice();
+        groups_apart(pairs, groups, findings, symbols, &self.images)
     }
 
     /// Takes the last r results and adds the expression with the images put in, if it is light enough.
+    #[inline(always)]
     pub fn apply(&mut self, r: usize, expr: &[u32]) -> Result<bool, AllocError>
         requires { r ≤ length self.old.results.stack }
         ensures { IfOk result (λ ok. Adds ok self.old.results self.new.results (below r self.old.results.stack) (code_apply self.old.images expr.now)) }
@@ -238,4 +210,42 @@ impl Results {
         let place = self.stack[0];
         symbols_at(self.symbols.as_slice(), place) == expr
     }
+}
+
+/// Sets the images of the variables of all `$f`, and no other, to what stands behind the first symbols of their results;
+/// or finds a result that begins with another symbol than the one asked for.
+#[inline(always)]
+pub fn read_off(
+    images: &mut ImagePlaces,
+    symbols: &[u32],
+    heads: &[u32],
+    hypotheses: &Hypotheses<'_>,
+    places: &[ExpressionPlace],
+) -> Result<bool, AllocError>
+    requires same { length places.now ≡ length hypotheses.now }
+    requires heads { length heads.now ≡ length hypotheses.now }
+    requires within { AreWithin (length symbols.now) places.now }
+    requires different { AreDifferent hypotheses.now }
+    ensures ok { IfOk result (λ ok. ReadsAll ok (length hypotheses.now) symbols.now heads.now hypotheses.now places.now images.new) }
+    ensures inside { (n : ℕ) → AreWithin n places.now → AreInside n images.new }
+{
+    images.clear();
+    for k in 0..hypotheses.len() {
+        if let Hypothesis::Float(variable) = hypotheses.get(k) {
+            let place = places[k];
+            if place.start >= place.end {
+                return Ok(false);
+            }
+            let first = symbols[place.start as usize];
+            if first != heads[k] {
+                return Ok(false);
+            }
+            let behind = ExpressionPlace {
+                start: place.start + 1,
+                end: place.end,
+            };
+            images.set(variable, behind)?;
+        }
+    }
+    Ok(true)
 }

@@ -1,19 +1,13 @@
 //! The derivation that the items of a proof spell.
 
 ghost use Rattle.std.specs.Prelude.{◌≡◌, ℕ, ◌<◌, ◌⊎◌, [], IfOk, MatchOption, length};
-ghost use Rattle.mm_read.specs.declared.stmt.Stmt.{Stmt as Statement};
-ghost use Rattle.frame.specs.AtPosition.{HasLabelsOnce};
-ghost use Rattle.verify.specs.Derivations.{Derivation, derivation_of};
-ghost use Rattle.verify.specs.Right.{IsProvable, IsRight, Derives, IsSmall};
-ghost use Rattle.verify.specs.Growth.{Trees, trees, GrowsBy};
-ghost use Rattle.verify.specs.Plan.{built, pick, AreOrdered, trees_of, IsPlan};
+ghost use Rattle.{mm_read.specs.declared.stmt.Stmt.Stmt as Statement, frame.specs.AtPosition.HasLabelsOnce, verify.specs.Derivations.Derivation, verify.specs.Derivations.derivation_of, verify.specs.Right.IsProvable, verify.specs.Right.IsRight, verify.specs.Right.Derives, verify.specs.Right.IsSmall, verify.specs.Growth.Trees, verify.specs.Growth.trees, verify.specs.Growth.GrowsBy, verify.specs.Plan.built, verify.specs.Plan.pick, verify.specs.Plan.AreOrdered, verify.specs.Plan.trees_of, verify.specs.Plan.IsPlan};
 
 use crate::answer::{Answer, TreeFault};
 use crate::checker::check;
 use crate::label_table::fill_table;
-use crate::plan::{Node, TreePlan, grow, new_plan};
+use crate::plan::{Node, TreePlan, grow, is_small, measure};
 use crate::tree::Tree;
-use crate::tree_size::measure;
 use frame::Frames;
 use proof_code::Items;
 use std::alloc::{AllocError, Global};
@@ -38,34 +32,16 @@ pub fn derivation(
         → (result ≡ Err TreeFault.TooLarge) ⊎ (result ≡ Err TreeFault.Memory) }
     ensures only_large { result ≡ Err TreeFault.TooLarge → (t : Derivation) × Derives frames.now.statements at items.now t × (¬ IsSmall t) }
 {
-    match check(alloc, frames, at, items)? {
-        Answer::Proved => right_derivation(alloc, frames, at, items),
-        Answer::Wrong => Err(TreeFault::Wrong),
-    }
-}
-
-/// The derivation that the items of a right proof spell.
-fn right_derivation(
-    alloc: Global,
-    frames: &Frames,
-    at: usize,
-    items: &Items,
-) -> Result<Tree, TreeFault>
-    requires right { IsRight frames.now.statements at items.now }
-    ensures once { HasLabelsOnce frames.now.statements }
-    ensures tree { IfOk result (λ tree. Derives frames.now.statements at items.now (derivation_of tree)) }
-    ensures small { IfOk result (λ tree. IsSmall (derivation_of tree)) }
-    ensures never { result ≡ Err TreeFault.Wrong → ⊥ }
-    ensures large { result ≡ Err TreeFault.TooLarge → (t : Derivation) × Derives frames.now.statements at items.now t × (¬ IsSmall t) }
-{
+    let Answer::Proved = check(alloc, frames, at, items)? else {
+        return Err(TreeFault::Wrong);
+    };
     let plan = plan_of(alloc, frames, at, items)?;
     let root = plan.stack[0];
     let extents = measure(alloc, &plan.nodes)?;
-    if !extents[root].is_small() {
+    if !is_small(extents[root]) {
         return Err(TreeFault::TooLarge);
     }
-    let tree = expand(alloc, &plan.nodes, root)?;
-    Ok(tree)
+    Ok(expand(alloc, &plan.nodes, root)?)
 }
 
 /// The plan that the items of a right proof make.
@@ -78,7 +54,12 @@ fn plan_of(alloc: Global, frames: &Frames, at: usize, items: &Items) -> Result<T
     let parts = items.parts();
     let mut table = Vec::new(alloc);
     fill_table(frames, at, parts.labels, &mut table)?;
-    let mut plan = new_plan(alloc);
+    let mut plan = TreePlan {
+        nodes: Vec::new(alloc),
+        stack: Vec::new(alloc),
+        saved: Vec::new(alloc),
+        mandatory: Vec::new(alloc),
+    };
     for number in parts.numbers {
         if !grow(frames, &table, *number, &mut plan)? {
             unreachable!();

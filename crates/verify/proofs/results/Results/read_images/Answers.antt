@@ -32,7 +32,7 @@ returns-clause-read c =
     let last : length (take (length c.deref.result.now - (c.len.result - m)) (drop (c.len.result - m) c.deref.result.now)) ≡ m
     = rw (c.deref.ensures.value) (last-count (c.len.result - m) m c.self.inside.stack.items few (omega (arith, c.len.ensures))) in
     let n = length c.args.hypotheses.now in
-    reads-result c.read_off.result c.self.inside.symbols c.as_slice.result.now c.args.heads.now c.args.hypotheses.now (take (length c.deref.result.now - (c.len.result - m)) (drop (c.len.result - m) c.deref.result.now)) _ (top n c.args.self.now.results.stack) c.as_slice.ensures.symbols
+    reads-result c.read_off.result c.self.inside.symbols c.as_slice-symbols.result.now c.args.heads.now c.args.hypotheses.now (take (length c.deref.result.now - (c.len.result - m)) (drop (c.len.result - m) c.deref.result.now)) _ (top n c.args.self.now.results.stack) c.as_slice-symbols.ensures.symbols
     (last ∙ c.len-2.ensures)
     (rw (c.deref.ensures.value) (last-within _ _ _ c.self.invariant.stack_within))
     (seen_eq c.self.inside.symbols c.self.inside.symbols c.self.inside.stack.items c.deref.result.now c.args.self.now.results.stack (c.len.result - m) m refl c.deref.ensures.value (ap (λ v. v.results.stack) c.self.view_is) (omega (arith, c.len.ensures))
@@ -40,4 +40,4 @@ returns-clause-read c =
     c.read_off.ensures.ok
 
 pub read_off-requires-clause-within : goal.read_off-requires-clause-within
-read_off-requires-clause-within c = rw (c.as_slice.ensures.symbols, c.deref.ensures.value) (last-within _ _ _ c.self.invariant.stack_within)
+read_off-requires-clause-within c = rw (c.as_slice-symbols.ensures.symbols, c.deref.ensures.value) (last-within _ _ _ c.self.invariant.stack_within)

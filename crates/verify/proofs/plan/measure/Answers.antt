@@ -1,6 +1,6 @@
 use Rattle.verify.proofs.Words.{length, take, arith, sym, ap, ◌∙◌, subst, extent_of, IsAfter, built, derive}
 use Rattle.verify.proofs.PlanLemmas.{node-after, measured-more, measured-length}
-use Rattle.verify.proofs.tree_size.measure.Goals as goal
+use Rattle.verify.proofs.plan.measure.Goals as goal
 
 pub extent_at-one-requires-clause-after : goal.extent_at-one-requires-clause-after
 extent_at-one-requires-clause-after c =

@@ -1,7 +1,7 @@
 use Rattle.verify.proofs.Words.{◌<◌, ◌+◌, ◌∙◌, ℕ, length, arith, ap, sym, subst, get_or, Some, slice_get-get_or, slice_get_within, within-at, inside-set, ExpressionPlace, AreWithin, AreInside, tail_of, ReadTo}
 use Rattle.verify.proofs.ReadImageLemmas.{float-next, essential-next}
-use Rattle.verify.proofs.reading_off.read_off.Goals.{in-Float+else-place+else-first-heads+in_ok-set, in_default}
-use Rattle.verify.proofs.reading_off.read_off.Goals as goal
+use Rattle.verify.proofs.results.read_off.Goals.{in-Float+else-place+else-first-heads+in_ok-set, in_default}
+use Rattle.verify.proofs.results.read_off.Goals as goal
 
 pub bounds-symbols-place : goal.bounds-symbols-place
 bounds-symbols-place c =

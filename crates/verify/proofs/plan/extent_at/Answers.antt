@@ -1,0 +1,33 @@
+use Rattle.verify.proofs.Words.{◌≡◌, ℕ, length, get_or, arith, ◌∙◌, max, nat_tests, below-at}
+use Rattle.std.specs.Ordering.{nat_cmp, ord_max}
+use Rattle.verify.proofs.PlanLemmas.{so-far-step, so-far-end, extent-low}
+use Rattle.verify.proofs.plan.extent_at.Goals as goal
+
+larger : (a b : ℕ) → ord_max nat_cmp a b ≡ max a b
+larger a b = grind (arith, nat_tests)
+
+pub numbered-extent-requires : goal.numbered-extent-requires
+numbered-extent-requires c =
+    below-at (length c.args.extents.now) c.deref-kid-items.result.now c.loop-kid.kid-index 0 (rw (c.deref-kid-items.ensures.value) (rw c.in-Apply.is at c.requires.after)) c.loop-kid-test.true
+
+pub overflow_add-nodes : goal.overflow_add-nodes
+overflow_add-nodes c = omega (arith, (extent-low c.args.extents.now c.requires.measured.0 (get_or c.deref-kid-items.result.now c.loop-kid.kid-index 0) c.numbered-extent.result c.requires.measured.1 c.numbered-extent.ensures).0, c.loop-kid.invariant.0)
+
+pub overflow_add-extent : goal.overflow_add-extent
+overflow_add-extent c = omega (arith, (extent-low c.args.extents.now c.requires.measured.0 (get_or c.deref-kid-items.result.now c.loop-kid.kid-index 0) c.numbered-extent.result c.requires.measured.1 c.numbered-extent.ensures).1)
+
+pub loop-kid-preserved : goal.loop-kid-preserved
+loop-kid-preserved c =
+    let d : c.max-depth.result ≡ max c.loop-kid.depth c.min.result = c.max-depth.ensures ∙ larger c.loop-kid.depth c.min.result in
+    let n = c.min-nodes.ensures in
+    let m = c.min.ensures in
+    let low = c.loop-kid.invariant.1 in (
+      omega (arith, n),
+      omega (arith, d, m, low),
+      λ ts is. so-far-step ts c.deref-kid-items.result.now c.args.extents.now c.loop-kid.kid-index c.loop-kid.nodes c.loop-kid.depth c.min-nodes.result c.max-depth.result c.numbered-extent.result (c.loop-kid.invariant.2 ts is) is c.loop-kid-test.true
+          c.numbered-extent.ensures n (omega (arith, d, m)),
+    )
+
+pub returns : goal.returns
+returns c = λ ts is.
+    so-far-end ts c.deref-kid-items.result.now c.loop-kid.kid-index c.loop-kid.nodes c.loop-kid.depth _ c.in-Apply.kids _ (c.loop-kid.invariant.2 ts is) (omega (arith, c.loop-kid-test.false)) c.deref-kid-items.ensures.value c.in-Apply.is

@@ -1,6 +1,0 @@
-use Rattle.verify.proofs.Words.{◌≡◌, ◌≤◌, List, map, Derivation, extent_of}
-use Rattle.verify.proofs.PlanLemmas.{IsSoFar}
-use Rattle.verify.proofs.tree_size.above.Given as goal
-
-abbrev pub invariant-loop-kid : goal.invariant-loop-kid
-invariant-loop-kid l = (l.nodes ≤ 65537) × (l.depth ≤ 1025) × ((ts : List Derivation) → l.extents ≡ map extent_of ts → IsSoFar ts l.kids l.kid-index l.nodes l.depth)
