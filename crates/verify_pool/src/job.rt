@@ -1,8 +1,7 @@
 //! Proofs whose items were made before.
 
 ghost use Rattle.std.specs.Prelude.{◌≡◌, IfOk};
-ghost use Rattle.verify.specs.Right.{Says};
-ghost use Rattle.verify_pool.specs.Jobs.{AreJobs, IsJob, IsRightAt, IsRightJob, LeastBad};
+ghost use Rattle.{verify.specs.Right.Says, verify_pool.specs.Jobs.AreJobs, verify_pool.specs.Jobs.IsJob, verify_pool.specs.Jobs.IsRightAt, verify_pool.specs.Jobs.IsRightJob, verify_pool.specs.Jobs.LeastBad};
 
 use crate::gate::Gate;
 use crate::pool::judge_all;

@@ -4,15 +4,14 @@
 //! each is right, whatever the number of workers; `judge_here` answers it on the calling thread. `check_all` is the same
 //! for jobs whose items were made before.
 //!
-//! Reading order: `work` (jobs by index), `workers`, `gate` (what a thread passes before each job), `stripe` (the jobs of
-//! one worker), `pool` (all of them), `job` (proofs with their items), `laws`.
+//! Reading order: `work` (jobs by index), `workers`, `gate` (what a thread passes before each job), `pool` (the jobs of
+//! one worker, and all of them), `job` (proofs with their items), `laws`.
 #![tactic(auto)]
 
 mod gate;
 mod job;
 pub mod laws;
 mod pool;
-mod stripe;
 mod work;
 mod workers;
 

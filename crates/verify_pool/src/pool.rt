@@ -1,16 +1,15 @@
 //! All jobs, side by side.
 
-ghost use Rattle.std.specs.Prelude.{◌≡◌, ℕ, ◌<◌, ◌≤◌, ◌⊎◌, IfOk, vec_len, slice_index_or};
-ghost use Rattle.verify_pool.specs.Least.{IsLeast};
-ghost use Rattle.verify_pool.specs.Stripes.{IsLeastInStripe, IsNoLater};
+ghost use Rattle.std.specs.Prelude.{◌≡◌, ℕ, ◌+◌, ◌<◌, ◌≤◌, ◌⊎◌, IfOk, vec_len, slice_index_or};
+ghost use Rattle.{verify_pool.specs.Least.IsLeast, verify_pool.specs.Stripes.IsLeastInStripe, verify_pool.specs.Stripes.IsNoLater};
 
-use crate::gate::{Gate, OpenGate};
-use crate::stripe::judge_stripe;
+use crate::gate::{Gate, OpenGate, Place};
 use crate::work::Work;
 use crate::workers::Workers;
 use std::alloc::{AllocError, Global};
 use std::thread;
 use std::thread::Threads;
+use verify::{Answer, Checker};
 
 /// The index, from 0, of the least job that is not right; none where each is right.
 ///
@@ -28,20 +27,6 @@ pub fn judge_all<W: Work + Sync, G: Gate + Sync, R: Threads + Sync>(
     ensures { IfOk result (IsLeast (W.right work.now) (W.count work.now)) }
 {
     let workers = workers.count().min(work.count().max(1));
-    judge_by(rt, alloc, work, workers, gate)
-}
-
-/// The same by so many workers.
-fn judge_by<W: Work + Sync, G: Gate + Sync, R: Threads + Sync>(
-    rt: &R,
-    alloc: Global,
-    work: &W,
-    workers: usize,
-    gate: &G,
-) -> Result<Option<usize>, AllocError>
-    requires { (1 ≤ workers) × (workers ≤ 16) }
-    ensures { IfOk result (IsLeast (W.right work.now) (W.count work.now)) }
-{
     let answers = judge_stripes(rt, alloc, work, workers, gate)?;
     let mut least = None;
     for answer in &answers {
@@ -70,12 +55,8 @@ fn judge_stripes<W: Work + Sync, G: Gate + Sync, R: Threads + Sync>(
     ensures each { IfOk result (λ answers. (k : ℕ) (d : _) → k < workers
         → IfOk (slice_index_or answers.items k d) (λ least. IsLeastInStripe (W.right work.now) (W.count work.now) k workers least)) }
 {
-    thread::map_indices(
-        rt,
-        alloc,
-        workers,
-        &|first: usize| judge_stripe(alloc, work, first, workers, gate),
-    )
+    let judge = |first: usize| judge_stripe(alloc, work, first, workers, gate);
+    thread::map_indices(rt, alloc, workers, &judge)
 }
 
 /// The earlier of two indexes, where there are any.
@@ -88,4 +69,29 @@ fn earlier(a: Option<usize>, b: Option<usize>) -> Option<usize>
         (Some(x), Some(y)) => Some(x.min(y)),
         _ => a.or(b),
     }
+}
+
+/// The least job that is not right of the jobs `first`, `first + step` and so on. The buffers serve one job after another.
+fn judge_stripe<W: Work, G: Gate>(
+    alloc: Global,
+    work: &W,
+    first: usize,
+    step: usize,
+    gate: &G,
+) -> Result<Option<usize>, AllocError>
+    requires step { (1 ≤ step) × (step ≤ 16) }
+    requires first { first < step }
+    ensures { IfOk result (λ least. IsLeastInStripe (W.right work.now) (W.count work.now) first step least) }
+{
+    let mut checker = Checker::new(alloc);
+    let count = work.count();
+    let mut index = first;
+    while index < count {
+        gate.pass(Place::Job(index));
+        if work.judge(index, &mut checker)? == Answer::Wrong {
+            return Ok(Some(index));
+        }
+        index += step;
+    }
+    Ok(None)
 }

@@ -38,17 +38,11 @@ impl Workers {
     /// Twice as many as the machine offers threads, 16 at most, so that what a slower processor leaves is taken by the others;
     /// one where it offers one or does not tell.
     pub fn offered<R: Threads>(rt: &R) -> Workers {
-        let threads = match thread::available_parallelism(rt) {
-            Ok(threads) => threads.get(),
-            Err(_) => 1,
-        };
-        let count = if threads < 2 {
-            1
-        } else if threads < MOST_WORKERS / 2 {
-            2 * threads
-        } else {
-            MOST_WORKERS
-        };
+        let threads = thread::available_parallelism(rt).map_or(1, |threads| threads.get());
+        if threads < 2 {
+            return Workers { count: 1 };
+        }
+        let count = 2 * threads.min(MOST_WORKERS / 2);
         Workers { count }
     }
 

@@ -1,12 +1,12 @@
 use Rattle.verify_pool.proofs.Words.{arith, IfOk, Ok, None, slice_index_or, subst, sym, ap, ◌∙◌, IsLeastInStripe}
 use Rattle.verify_pool.proofs.StripeLemmas.{one_stripe_more, one_of_two, stripes_are_all}
-use Rattle.verify_pool.proofs.pool.judge_by.Goals as goal
+use Rattle.verify_pool.proofs.pool.judge_all.Goals as goal
 
 pub loop-answer-preserved : goal.loop-answer-preserved
 loop-answer-preserved g c =
     let right = g.W.Work.right c.args.work.now in
     let count = g.W.Work.count c.args.work.now in
-    let step = c.args.workers in
+    let step = c.min-workers.result in
     let answer = c.in_ok-answer.field-0 in
     let here : IsLeastInStripe right count c.loop-answer.answer-index step answer =
     subst (λ r. IfOk r (λ least. IsLeastInStripe right count c.loop-answer.answer-index step least)) (ap (λ xs. slice_index_or xs c.loop-answer.answer-index (Ok None)) (sym c.deref-answer-items.ensures.value) ∙ c.in_ok-answer.was)
@@ -21,7 +21,7 @@ pub returns : goal.returns
 returns g c =
     let all = c.in_ok-answers in
     record {
-      before = stripes_are_all (g.W.Work.right c.args.work.now) (g.W.Work.count c.args.work.now) c.args.workers (omega arith) c.loop-answer.least
+      before = stripes_are_all (g.W.Work.right c.args.work.now) (g.W.Work.count c.args.work.now) c.min-workers.result (omega (arith, c.min-workers.ensures, c.max.ensures, c.count.ensures.some)) c.loop-answer.least
           (λ stripe lower. c.loop-answer.invariant.before stripe (omega (arith, all.ensures.count, all.answers.ok.0)));
       wrong = c.loop-answer.invariant.wrong;
     }

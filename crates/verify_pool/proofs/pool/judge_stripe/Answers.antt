@@ -1,6 +1,6 @@
 use Rattle.std.proofs.Common.{rules, ◌+◌, arith}
 use Rattle.verify_pool.proofs.StripeLemmas.{next_turn, stripe_goes_on, stripe_ends}
-use Rattle.verify_pool.proofs.stripe.judge_stripe.Goals as goal
+use Rattle.verify_pool.proofs.pool.judge_stripe.Goals as goal
 
 pub loop-index-preserved : goal.loop-index-preserved
 loop-index-preserved g c =

@@ -1,5 +1,5 @@
 use Rattle.verify_pool.proofs.Words.{◌≡◌, ℕ, ◌+◌, ◌*◌, ◌-◌, Some, IsStripeRightBefore}
-use Rattle.verify_pool.proofs.stripe.judge_stripe.Given as goal
+use Rattle.verify_pool.proofs.pool.judge_stripe.Given as goal
 
 abbrev pub invariant-loop-index : goal.invariant-loop-index
 invariant-loop-index g l = record {
