@@ -1,18 +1,6 @@
 -- What is active behind a statement.
-use Rattle.frame.proofs.Words.{list_any, ◌∙◌, ap, arith, ◌≡◌, ℕ, ◌+◌, Bool, true, false, cond, ◌||◌, List, [], ◌∷◌, ◌++◌, Option, Some, None, refl, not, bytes_eq-Decides, or_left, or_right, Name, name_eq, Stmt, Database, stays_open, active_from, below-deficit, deficit-below, no_deficit}
+use Rattle.frame.proofs.Words.{list_any, ◌∙◌, ap, arith, ◌≡◌, ℕ, ◌+◌, Bool, true, false, cond, ◌||◌, [], ◌∷◌, ◌++◌, refl, not, or_left, or_right, Stmt, Database, stays_open, active_from, below-deficit, deficit-below, no_deficit}
 use Rattle.frame.proofs.OpenLemmas.{deficit-join}
-
--- x is none of the variables
-abbrev pub IsElsewhere : Name → List (Option Name) → Type 0
-IsElsewhere x [] = Unit {0}
-IsElsewhere x (None ∷ vs) = IsElsewhere x vs
-IsElsewhere x (Some y ∷ vs) = (name_eq y x ≡ false) × IsElsewhere x vs
-
--- no variable has two `$f` among the hypotheses
-abbrev pub AreOnce : List (Option Name) → Type 0
-AreOnce [] = Unit {0}
-AreOnce (None ∷ vs) = AreOnce vs
-AreOnce (Some x ∷ vs) = IsElsewhere x vs × AreOnce vs
 
 -- ---- tests
 
@@ -20,10 +8,6 @@ AreOnce (Some x ∷ vs) = IsElsewhere x vs × AreOnce vs
 pub implied : (a b : Bool) → (not a || b) ≡ true → a ≡ true → b ≡ true
 implied true b h e = h
 implied false b h e = cc
-
--- the test for equal names holds of equal names
-pub same : (x y : Name) → x ≡ y → name_eq x y ≡ true
-same x y h = (bytes_eq-Decides x y).1 h
 
 -- ---- what is active
 

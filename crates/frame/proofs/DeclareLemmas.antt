@@ -1,11 +1,11 @@
 -- The last declarations of symbols, and what they replace: one statement more and one less.
-use Rattle.frame.proofs.Words.{sym, ◌∙◌, ap, arith, add-zero, append-nil, append_assoc, length-append, ◌≡◌, ℕ, zero, suc, ◌+◌, Bool, true, false, cond, ◌||◌, nat_eq, List, [], ◌∷◌, ◌++◌, length, get_or, slice_get, slice_set, Option, Some, refl, ◌-◌, ◌<◌, map, take, drop, or-true, or-false, get_or_from_slice_get, list_any, take_all, take_more, map_push, drop-append_seam}
-use Rattle.frame.proofs.Words.{Entry, Symbol, floats, declares, last_from, symbol_of, ReadsAs, replaced_by, replaced_behind, replaced_of, with_entry, with_declared, place, Kind, Var, Extends}
+use Rattle.frame.proofs.Words.{sym, ◌∙◌, ap, arith, add-zero, append-nil, append_assoc, length-append, ◌≡◌, ℕ, zero, suc, ◌+◌, Bool, true, false, cond, ◌||◌, nat_eq, List, [], ◌∷◌, ◌++◌, length, get_or, slice_get, slice_set, Option, Some, refl, ◌-◌, ◌<◌, map, take, drop, or-false, get_or_from_slice_get, list_any, take_all, take_more, map_push, drop-append_seam}
+use Rattle.frame.proofs.Words.{Float, last_of, with_last, is_float_kind, is_var_kind, second_is, ◌&&◌, Entry, Symbol, floats, declares, last_from, symbol_of, ReadsAs, replaced_by, replaced_behind, replaced_of, with_entry, with_declared, place, Kind, Var, Extends}
 use Rattle.frame.proofs.BlockWalkLemmas.{take-one}
 use Rattle.frame.proofs.LegalBehind.{stands-at}
 
-abbrev pub noted : Symbol → ℕ → Bool → Symbol
-noted x at any = record { float = x.float; variable = cond any at x.variable }
+abbrev pub noted : Kind → Symbol → ℕ → Bool → Symbol
+noted kind x at any = cond any (with_last kind at x) x
 
 get-set : (xs : List Symbol) (k c : ℕ) (new x : Symbol) → slice_get xs c ≡ Some x → slice_get (slice_set xs k new) c ≡ Some (cond (nat_eq c k) new x)
 get-set [] k c new x g = cc
@@ -14,18 +14,24 @@ get-set (y ∷ xs) zero (suc c) new x g = let no : nat_eq (suc c) zero ≡ false
 get-set (y ∷ xs) (suc k) zero new x g = let no : nat_eq zero (suc k) ≡ false = grind arith in g ∙ ap (λ b. Some (cond b new x)) (sym no)
 get-set (y ∷ xs) (suc k) (suc c) new x g = let same : nat_eq c k ≡ nat_eq (suc c) (suc k) = grind arith in get-set xs k c new x g ∙ ap (λ b. Some (cond b new x)) same
 
+-- the last declaration of a symbol is the one that was noted last
+noted-again : (kind : Kind) (n : ℕ) (y : Symbol) (any : Bool) → with_last kind n (noted kind y n any) ≡ noted kind y n (any || true)
+noted-again Float n y true = refl
+noted-again Float n y false = refl
+noted-again kind n y true = refl
+noted-again kind n y false = refl
+
 -- one symbol noted, by what is noted of each: the others stay
-pub note-step : (xs : List Symbol) (k c v : ℕ) (r y : Symbol) (x : ℕ → ℕ) (any : Bool) → slice_get xs c ≡ Some (noted y (x c) any) → r ≡ get_or xs k r → v ≡ x k
-    → slice_get (slice_set xs k (record { float = r.float; variable = v })) c ≡ Some (noted y (x c) (any || nat_eq c k))
-note-step xs k c v r y x any g e h = get-set xs k c (record { float = r.float; variable = v }) (noted y (x c) any) g ∙ by (nat_eq c k) refl
+pub note-step : (kind : Kind) (xs : List Symbol) (k c v : ℕ) (r y : Symbol) (x : ℕ → ℕ) (any : Bool) → slice_get xs c ≡ Some (noted kind y (x c) any) → r ≡ get_or xs k r → v ≡ x k
+    → slice_get (slice_set xs k (with_last kind v r)) c ≡ Some (noted kind y (x c) (any || nat_eq c k))
+note-step kind xs k c v r y x any g e h = get-set xs k c (with_last kind v r) (noted kind y (x c) any) g ∙ by (nat_eq c k) refl
   where
-    by : (t : Bool) → nat_eq c k ≡ t → ◌≡◌ {A = Option Symbol} (Some (cond t (record { float = r.float; variable = v }) (noted y (x c) any))) (Some (noted y (x c) (any || t)))
+    by : (t : Bool) → nat_eq c k ≡ t → ◌≡◌ {A = Option Symbol} (Some (cond t (with_last kind v r) (noted kind y (x c) any))) (Some (noted kind y (x c) (any || t)))
     by true same =
         let c-is : c ≡ k = grind (arith, same) in
-        let f : r.float ≡ y.float = ap (λ s. s.float) (e ∙ get_or_from_slice_get xs k (noted y (x c) any) r (ap (slice_get xs) (sym c-is) ∙ g)) in
-        ap (λ n. Some (record { float = n; variable = v })) f
-        ∙ (ap (λ n. Some (record { float = y.float; variable = n })) (h ∙ ap x (sym c-is)) ∙ ap (λ b. Some (noted y (x c) b)) (sym (or-true any)))
-    by false other = ap (λ b. Some (noted y (x c) b)) (sym (or-false any))
+        let f : r ≡ noted kind y (x c) any = e ∙ get_or_from_slice_get xs k (noted kind y (x c) any) r (ap (slice_get xs) (sym c-is) ∙ g) in
+        ap Some (ap (λ n. with_last kind n r) (h ∙ ap x (sym c-is)) ∙ (ap (with_last kind (x c)) f ∙ noted-again kind (x c) y any))
+    by false other = ap (λ b. Some (noted kind y (x c) b)) (sym (or-false any))
 
 pub last_from-push : (test : Entry → Bool) (found at : ℕ) (es : List Entry) (e : Entry) → last_from test found at (es ++ e ∷ []) ≡ cond (test e) (at + length es) (last_from test found at es)
 last_from-push test found at [] e = ap (λ n. cond (test e) n found) (sym (add-zero at))
@@ -33,9 +39,25 @@ last_from-push test found at (d ∷ es) e =
     last_from-push test (cond (test d) at found) (at + 1) es e
     ∙ ap (λ n. cond (test e) n (last_from test (cond (test d) at found) (at + 1) es)) (place at (length es))
 
+-- what one more statement declares, by what it says of a symbol
+declared-is : (kind : Kind) (codes : List ℕ) (c at f v : ℕ)
+    → ◌≡◌ {A = Symbol} (record { float = cond (is_float_kind kind && second_is c codes) at f; variable = cond (is_var_kind kind && list_any (nat_eq c) codes) at v }) (with_declared kind codes at c (record { float = f; variable = v }))
+declared-is Float (a ∷ b ∷ codes) c at f v = by (nat_eq c b)
+  where
+    by : (t : Bool) → ◌≡◌ {A = Symbol} (record { float = cond t at f; variable = v }) (cond (t || false) (record { float = at; variable = v }) (record { float = f; variable = v }))
+    by true = refl
+    by false = refl
+declared-is Float codes c at f v = refl
+declared-is Var codes c at f v = by (list_any (nat_eq c) codes)
+  where
+    by : (t : Bool) → ◌≡◌ {A = Symbol} (record { float = f; variable = cond t at v }) (cond t (record { float = f; variable = at }) (record { float = f; variable = v }))
+    by true = refl
+    by false = refl
+declared-is kind codes c at f v = refl
+
 -- the last declarations behind one more entry
 pub symbol_of-push : (es : List Entry) (e : Entry) (c : ℕ) → symbol_of (es ++ e ∷ []) c ≡ with_entry e (1 + length es) c (symbol_of es c)
-symbol_of-push es e c = rw (last_from-push (floats c) 0 1 es e, last_from-push (declares c) 0 1 es e) refl
+symbol_of-push es e c = rw (last_from-push (floats c) 0 1 es e, last_from-push (declares c) 0 1 es e) (declared-is e.kind e.symbols c (1 + length es) _ _)
 
 -- ---- one entry more
 
@@ -52,28 +74,30 @@ replaced-push before (d ∷ es) e =
 pub replaced_of-push : (es : List Entry) (e : Entry) → replaced_of (es ++ e ∷ []) ≡ replaced_of es ++ replaced_by (symbol_of es) e.kind e.symbols
 replaced_of-push es e = replaced-push [] es e
 
--- ---- a `$v` restored
-
-pub restored-variables : (old new : List Symbol) (kind : Kind) (codes olds : List ℕ) (x : ℕ → Symbol) (at : ℕ) → kind ≡ Var → olds ≡ replaced_by x kind codes
-    → ((y : ℕ → ℕ) → olds ≡ map y codes → (c : ℕ) (s : Symbol) → slice_get old c ≡ Some s → slice_get new c ≡ Some (noted s (y c) (list_any (λ k. nat_eq c k) codes)))
-    → length new ≡ length old → ReadsAs old (λ c. with_declared kind codes at c (x c)) → ReadsAs new x
-restored-variables old new kind codes olds x at same h each n reads c lt =
-    each (λ k. (x k).variable) (rw same at h) c _ (rw same at (reads c (omega (arith, n, lt)))) ∙ last (list_any (λ k. nat_eq c k) codes)
-  where
-    last : (b : Bool) → ◌≡◌ {A = Option Symbol} (Some (noted (record { float = (x c).float; variable = cond b at (x c).variable }) (x c).variable b)) (Some (x c))
-    last true = refl
-    last false = refl
-
 -- ---- one entry less
 
--- the loop's step: what one more symbol of a `$v` replaces is noted
-pub note-more : (symbols : List Symbol) (codes : List ℕ) (x : ℕ → Symbol) (i v : ℕ) (d : Symbol) (old here new : List ℕ) → i < length codes → get_or codes i 0 < length symbols → ReadsAs symbols x
-    → here ≡ old ++ map (λ c. (x c).variable) (take i codes) → v ≡ (get_or symbols (get_or codes i 0) d).variable → new ≡ here ++ v ∷ []
-    → new ≡ old ++ map (λ c. (x c).variable) (take (i + 1) codes)
-note-more symbols codes x i v d old here new lt inside reads h is more =
-    more ∙ (ap (λ r. r ++ v ∷ []) h ∙ (append_assoc old (map (λ c. (x c).variable) (take i codes)) (v ∷ [])
-    ∙ ap (λ r. old ++ r) (ap (λ n. map (λ c. (x c).variable) (take i codes) ++ n ∷ []) (is ∙ ap (λ s. s.variable) (get_or_from_slice_get symbols (get_or codes i 0) (x (get_or codes i 0)) d (reads (get_or codes i 0) inside)))
-    ∙ sym (ap (map (λ c. (x c).variable)) (take_more codes i 0 lt) ∙ map_push (λ c. (x c).variable) (take i codes) (get_or codes i 0)))))
+-- what a statement that declares these symbols replaced is restored
+pub restored : (old new : List Symbol) (kind : Kind) (codes olds : List ℕ) (x : ℕ → Symbol) (at : ℕ) → olds ≡ map (λ c. last_of kind (x c)) codes
+    → ((y : ℕ → ℕ) → olds ≡ map y codes → (c : ℕ) (s : Symbol) → slice_get old c ≡ Some s → slice_get new c ≡ Some (noted kind s (y c) (list_any (λ k. nat_eq c k) codes)))
+    → length new ≡ length old → ReadsAs old (λ c. noted kind (x c) at (list_any (nat_eq c) codes)) → ReadsAs new x
+restored old new kind codes olds x at h each n reads c lt =
+    each (λ k. last_of kind (x k)) h c _ (reads c (omega (arith, n, lt))) ∙ ap Some (back kind (x c) (list_any (nat_eq c) codes))
+  where
+    back : (kind : Kind) (s : Symbol) (b : Bool) → noted kind (noted kind s at b) (last_of kind s) b ≡ s
+    back Float s true = refl
+    back Float s false = refl
+    back kind s true = refl
+    back kind s false = refl
+
+-- the loop's step: what one more symbol's declaration replaces is noted
+pub note-more : (kind : Kind) (symbols : List Symbol) (codes : List ℕ) (x : ℕ → Symbol) (i v : ℕ) (d : Symbol) (old here new : List ℕ) → i < length codes → get_or codes i 0 < length symbols → ReadsAs symbols x
+    → here ≡ old ++ map (λ c. last_of kind (x c)) (take i codes) → v ≡ last_of kind (get_or symbols (get_or codes i 0) d) → new ≡ here ++ v ∷ []
+    → new ≡ old ++ map (λ c. last_of kind (x c)) (take (i + 1) codes)
+note-more kind symbols codes x i v d old here new lt inside reads h is more =
+    let last = λ (c : ℕ). last_of kind (x c) in
+    more ∙ (ap (λ r. r ++ v ∷ []) h ∙ (append_assoc old (map last (take i codes)) (v ∷ [])
+    ∙ ap (λ r. old ++ r) (ap (λ n. map last (take i codes) ++ n ∷ []) (is ∙ ap (last_of kind) (get_or_from_slice_get symbols (get_or codes i 0) (x (get_or codes i 0)) d (reads (get_or codes i 0) inside)))
+    ∙ sym (ap (map last) (take_more codes i 0 lt) ∙ map_push last (take i codes) (get_or codes i 0)))))
 
 -- the last of the entries that are left, and those before it
 pub record IsLeft (whole all front : List Entry) (e : Entry) : Type 0 where

@@ -1,6 +1,6 @@
 -- A statement entered with its label stands for itself, and what was done to the storage for it.
-use Rattle.frame.proofs.Words.{sym, ◌∙◌, ap, subst, arith, length-append, inl, inr, ◌≡◌, ℕ, List, [], ◌∷◌, ◌++◌, length, take, slice_get, Option, Some, Result, Ok, Err, OnOk, Bool, true, refl, ◌+◌, ◌-◌, ◌<◌, ◌⊎◌, map, length-map, take-append-le, map_push, same_Some, take-append_seam}
-use Rattle.frame.proofs.Words.{name_at-last, Name, Stmt, Database, bare, label_of, expr_of, is_assertion, is_essential, before, stays_open, count, declared_with, IsNotedBy, IsLegal, name_at, decode, with_names, symbols_by, symbols_in, symbols_of, symbols_after, labels_of, option_list, AreNumbers, AreVariableNumbers, AreNoted, IsNumberingOf, numbering-after, noted-after, symbols_of-append, labels_of-append, AreBelow, Assertion, Entry, made, Kind, Ess, Var, Float, Axiom, Prove, Stock, names_in, labels_in, stmt_by, stmt_of, statements_of, option_position, ReadsAs, replaced_by, symbol_of, positions_from, AreAllLegal, AreStored, IsNext, IsKeptOf, AreKept, floats_in, kept_with, has_parts, IsKeptAs, is_label_kind, kind_of, IsLabelBelow, HasTwo, Grown, HasRoom, with_declared, AreNumbered, with_entry, KeepsCounts, Links, Symbol, links_of, naming_of, get-last, Extends, place, get-push, extends-length}
+use Rattle.frame.proofs.Words.{sym, ◌∙◌, ap, subst, arith, length-append, inl, inr, ◌≡◌, ℕ, List, [], ◌∷◌, ◌++◌, length, take, slice_get, Option, Some, Result, Ok, Err, OnOk, Bool, true, refl, ◌+◌, ◌<◌, ◌⊎◌, map, length-map, take-append-le, map_push, same_Some, take-append_seam}
+use Rattle.frame.proofs.Words.{name_at-last, Name, Stmt, Database, bare, label_of, expr_of, is_assertion, is_essential, stays_open, declared_with, IsNotedBy, IsLegal, name_at, decode, with_names, symbols_by, symbols_in, symbols_of, symbols_after, labels_of, option_list, AreNumbers, AreVariableNumbers, AreNoted, IsNumberingOf, numbering-after, noted-after, symbols_of-append, labels_of-append, AreBelow, Assertion, Entry, made, Kind, Ess, Stock, names_in, labels_in, stmt_by, stmt_of, statements_of, option_position, ReadsAs, replaced_by, symbol_of, positions_from, AreAllLegal, AreStored, IsNext, IsKeptOf, AreKept, floats_in, kept_with, has_parts, IsKeptAs, is_label_kind, kind_of, IsLabelBelow, HasTwo, Grown, HasRoom, with_declared, AreNumbered, with_entry, KeepsCounts, Links, Symbol, links_of, naming_of, get-last, Extends, get-push, extends-length}
 use Rattle.scope.proofs.BareLemmas.{bare-same, symbols_by-bare, declared_with-bare, legal-bare}
 use Rattle.entries.specs.declared.head.Head.{Head}
 use Rattle.frame.specs.Stored.Whole.{IsHead}

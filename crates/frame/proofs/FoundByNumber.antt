@@ -1,6 +1,6 @@
 -- Names told apart, places of numbers, and statements by their kinds.
-use Rattle.frame.proofs.Words.{sym, ◌∙◌, ap, subst, arith, take-take, ◌≡◌, ℕ, zero, suc, ◌+◌, ◌-◌, ◌<◌, Bool, true, false, cond, ◌==◌, ◌||◌, List, [], ◌∷◌, length, map, take, get_or, slice_get, Option, Some, None, option_map, refl, or_right, both_ways, false_from_ne_true, same_Some, slice_get-map, slice_get_within, get_or_from_slice_get}
-use Rattle.frame.proofs.Words.{Name, name_eq, Stmt, Database, expr_of, is_assertion, IsLegal, name_at, decode, AreDistinct, is_hypothesis, variable_of, is_some_name, has_place, AreBelow, head_of, IsHead, IsOf, Kind, Float, Ess, Axiom, Prove, Entry, stmt_by, AreNumbered, HasTwo, variable_by, asked_by, is_code, place_from, take-get, name_same, same_name, code-at}
+use Rattle.frame.proofs.Words.{is_some, list_any, ◌&&◌, is_float_kind, second_is, sym, ◌∙◌, ap, subst, arith, take-take, ◌≡◌, ℕ, zero, suc, ◌+◌, ◌-◌, ◌<◌, Bool, true, false, cond, ◌||◌, List, [], ◌∷◌, length, map, take, slice_get, Option, Some, None, option_map, refl, same_Some, slice_get-map}
+use Rattle.frame.proofs.Words.{Name, Stmt, Database, expr_of, is_assertion, IsLegal, name_at, decode, AreDistinct, is_hypothesis, AreBelow, head_of, IsHead, IsOf, Kind, Float, Ess, Axiom, Prove, Entry, stmt_by, AreNumbered, HasTwo, variable_by, asked_by, is_code, place_from, take-get, code-at}
 use Rattle.frame.proofs.LegalLabels.{AllKept}
 
 -- ---- lists
@@ -42,18 +42,6 @@ decode-injective names (x ∷ a) (y ∷ b) d p q e =
 
 -- ---- places
 
-abbrev pub option_name : List Name → Option ℕ → Option Name
-option_name names None = None
-option_name names (Some c) = Some (name_at names c)
-
-abbrev pub OptionBelow : ℕ → Option ℕ → Type 0
-OptionBelow n None = Unit {0}
-OptionBelow n (Some c) = c < n
-
-abbrev pub OptionsBelow : ℕ → List (Option ℕ) → Type 0
-OptionsBelow n [] = Unit {0}
-OptionsBelow n (v ∷ vs) = OptionBelow n v × OptionsBelow n vs
-
 pub is_code-same : (c : ℕ) (v : Option ℕ) → is_code c v ≡ true → v ≡ Some c
 is_code-same c None h = cc
 is_code-same c (Some x) h = let e : c ≡ x = grind (arith, h) in ap Some (sym e)
@@ -68,48 +56,23 @@ place-stands k (v ∷ vs) c r h = by (is_code c v) refl (place-stands (k + 1) vs
     by true e more q = let same : k ≡ r = cc in (0, omega (arith, same), ap Some (is_code-same c v e))
     by false e more q = let m = more q in let n = m.0 in let at = m.1 in (suc n, omega (arith, at), m.2)
 
-pub place-found : (k : ℕ) (vs : List (Option ℕ)) (c r : ℕ) → place_from k vs c ≡ Some r → (j : ℕ) × (r ≡ k + j) × (j < length vs) × (get_or vs j None ≡ Some c)
-place-found k vs c r h =
-    let p = place-stands k vs c r h in
-    (p.0, p.1, slice_get_within vs p.0 (Some c) p.2, get_or_from_slice_get vs p.0 (Some c) None p.2)
-
-pub place-none : (names : List Name) (k : ℕ) (vs : List (Option ℕ)) (c : ℕ) → AreDistinct names → OptionsBelow (length names) vs → c < length names → place_from k vs c ≡ None → has_place (map (option_name names) vs) (name_at names c) ≡ false
-place-none names k [] c d b l h = refl
-place-none names k (v ∷ vs) c d b l h = by (is_code c v) refl (place-none names (k + 1) vs c d b.1 l) h
+-- a number has a place just where some place has it
+pub placed-any : (k : ℕ) (vs : List (Option ℕ)) (c : ℕ) → is_some (place_from k vs c) ≡ list_any (is_code c) vs
+placed-any k [] c = refl
+placed-any k (v ∷ vs) c = by (is_code c v) (placed-any (k + 1) vs c)
   where
-    not-some : (u : Option ℕ) → OptionBelow (length names) u → is_code c u ≡ false → is_some_name (name_at names c) (option_name names u) ≡ false
-    not-some None low f = refl
-    not-some (Some y) low f = false_from_ne_true (name_eq (name_at names c) (name_at names y)) (λ e.
-        let same : c ≡ y = name_at-injective names c y d l low (same_name (name_at names c) (name_at names y) e) in
-        both_ways (c == y) f (grind (arith, same)))
-
-    by : (t : Bool) → is_code c v ≡ t → (place_from (k + 1) vs c ≡ None → has_place (map (option_name names) vs) (name_at names c) ≡ false) → cond t (Some k) (place_from (k + 1) vs c) ≡ None
-        → has_place (map (option_name names) (v ∷ vs)) (name_at names c) ≡ false
-    by true e more q = cc
-    by false e more q =
-        ap (λ t. t || has_place (map (option_name names) vs) (name_at names c)) (not-some v b.0 e) ∙ more q
-
-pub has-some : (names : List Name) (vs : List (Option ℕ)) (j c : ℕ) → get_or vs j None ≡ Some c → has_place (map (option_name names) vs) (name_at names c) ≡ true
-has-some names [] j c h = cc
-has-some names (v ∷ vs) zero c h =
-    ap (λ o. is_some_name (name_at names c) (option_name names o) || has_place (map (option_name names) vs) (name_at names c)) h
-    ∙ ap (λ b. b || has_place (map (option_name names) vs) (name_at names c)) (name_same (name_at names c))
-has-some names (v ∷ vs) (suc j) c h = or_right (is_some_name (name_at names c) (option_name names v)) (has_place (map (option_name names) vs) (name_at names c)) (has-some names vs j c h)
+    by : (t : Bool) → is_some (place_from (k + 1) vs c) ≡ list_any (is_code c) vs → is_some (cond t (Some k) (place_from (k + 1) vs c)) ≡ (t || list_any (is_code c) vs)
+    by true more = refl
+    by false more = more
 
 -- ---- statements by their kinds
 
--- the variable of a `$f` by its number and by its name
-pub variable-named : (names : List Name) (kind : Kind) (label : Name) (codes : List ℕ) → HasTwo kind codes → variable_of (stmt_by kind label (decode names codes)) ≡ option_name names (variable_by kind codes)
-variable-named names Float label [] two = absurd (omega (arith, two))
-variable-named names Float label (x ∷ []) two = absurd (omega (arith, two))
-variable-named names Float label (x ∷ y ∷ codes) two = refl
-variable-named names kind label codes two = refl
-
-pub variable-below : (n : ℕ) (kind : Kind) (codes : List ℕ) → AreBelow n codes → OptionBelow n (variable_by kind codes)
-variable-below n Float [] b = tt
-variable-below n Float (x ∷ []) b = tt
-variable-below n Float (x ∷ y ∷ codes) b = b.1.0
-variable-below n kind codes b = tt
+-- the variable of a `$f` is the symbol that it types
+pub code-floats : (c : ℕ) (kind : Kind) (codes : List ℕ) → is_code c (variable_by kind codes) ≡ (is_float_kind kind && second_is c codes)
+code-floats c Float [] = refl
+code-floats c Float (x ∷ []) = refl
+code-floats c Float (x ∷ y ∷ codes) = refl
+code-floats c kind codes = refl
 
 pub numbered-at : (n m : ℕ) (es : List Entry) (k : ℕ) (e : Entry) → AreNumbered n m es → slice_get es k ≡ Some e → AreBelow n e.symbols × HasTwo e.kind e.symbols
 numbered-at n m [] k e a h = cc

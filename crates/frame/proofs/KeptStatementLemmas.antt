@@ -1,11 +1,14 @@
 -- A statement that is kept by numbers says what the statement says.
-use Rattle.frame.proofs.Words.{sym, ◌∙◌, ap, subst, arith, append_assoc, length-append, ◌≡◌, ℕ, suc, ◌+◌, ◌-◌, ◌<◌, ◌≤◌, Bool, true, false, cond, List, [], ◌∷◌, ◌++◌, length, map, filter, take, slice_get, Option, Some, None, is_some, refl}
-use Rattle.frame.proofs.Words.{Name, Stmt, Database, stmt_at, before, stays_open, active_from, expr_of, separated, is_assertion, IsLegal, name_at, decode, AreDistinct, is_mandatory, is_hypothesis, hypotheses, variable_of, variables_of, has_place, separates, AreBelow, AllBelow, head_of, IsHead, IsOf, IsAsked, AreAsked, AreListsOf, IsCited, Cited, Kind, Disj, Entry, Assertion, actives, actives_from, is_disj, stmt_by, stmt_of, AreAllLegal, AreNumbered, HasTwo, variable_at, is_placed, placed, symbols_at, option_symbols, has_two, groups_by, head_at, asked_by, option_asked, asked_at, kept_with, IsKeptAs, place_of, take-get}
+use Rattle.frame.proofs.Words.{In, floats, is_code, option_variable, list_any, list_any-map, sym, ◌∙◌, ap, subst, arith, append_assoc, length-append, ◌≡◌, ℕ, suc, ◌+◌, ◌-◌, ◌<◌, ◌≤◌, Bool, true, false, cond, List, [], ◌∷◌, ◌++◌, length, map, filter, slice_get, Option, Some, None, refl}
+use Rattle.frame.proofs.Words.{Name, Stmt, Database, stmt_at, before, stays_open, active_from, expr_of, separated, is_assertion, IsLegal, name_at, decode, AreDistinct, is_mandatory, is_hypothesis, hypotheses, separates, AreBelow, AllBelow, head_of, IsHead, IsOf, IsAsked, AreAsked, AreListsOf, IsCited, Cited, Kind, Disj, Entry, Assertion, actives, actives_from, is_disj, stmt_by, stmt_of, AreAllLegal, AreNumbered, HasTwo, variable_at, is_placed, placed, symbols_at, option_symbols, has_two, groups_by, head_at, asked_by, option_asked, asked_at, kept_with, IsKeptAs, take-get}
 use Rattle.frame.proofs.LegalBehind.{stands-at}
-use Rattle.frame.specs.FrameOf as frame_of
 use Rattle.frame.proofs.LegalLabels.{AllKept}
-use Rattle.frame.proofs.VariablePlaceLemmas.{mandatory-place}
-use Rattle.frame.proofs.FoundByNumber.{map-back, map-at, kept-front, option_name, OptionsBelow, place-found, place-none, has-some, variable-named, variable-below, numbered-at, asked-kind}
+use Rattle.frame.proofs.VariablePlaceLemmas.{any-in, in-any, mandatory-float}
+use Rattle.frame.proofs.ActivePositions.{active-members}
+use Rattle.frame.proofs.NamedCodes.{floats-is, is-floats}
+use Rattle.mm_read.specs.declared.stmt.Stmt.TheVariants.{Float}
+use Rattle.std.specs.Cmp.{both_ways}
+use Rattle.frame.proofs.FoundByNumber.{map-back, map-at, kept-front, placed-any, code-floats, numbered-at, asked-kind}
 use Rattle.frame.proofs.PlacedHypotheses.{IsHyp, AreHyps, hyps}
 
 -- ---- the assertion
@@ -56,35 +59,11 @@ module _ (es : List Entry) (names labels : List Name) (m a : ℕ) (e : Entry) (d
   hyp-at : (p : ℕ) (h : IsHyp front_of own p) → IsEntryAt p h.front h.stmt
   hyp-at p h = entry-at p h.front h.stmt h.rest h.whole h.at
 
-  variable-there : (p : ℕ) (h : IsHyp front_of own p) → frame_of.variable_at front_of p ≡ option_name names (variable_at es p)
-  variable-there p h =
-      let x = hyp-at p h in
-      ap (frame_of.variable_at front_of) h.at ∙ (ap frame_of.option_variable x.stands ∙ (ap variable_of x.same
-      ∙ (variable-named names x.entry.kind (name_at labels x.entry.label) x.entry.symbols x.two ∙ rw x.found refl)))
-
-  variables-there : (ps : List ℕ) → AreHyps front_of own ps → map (frame_of.variable_at front_of) ps ≡ map (option_name names) (map (variable_at es) ps)
-  variables-there [] h = refl
-  variables-there (p ∷ ps) h = ap (λ v. v ∷ map (frame_of.variable_at front_of) ps) (variable-there p h.0) ∙ ap (λ r. option_name names (variable_at es p) ∷ r) (variables-there ps h.1)
-
-  places-below : (ps : List ℕ) → AreHyps front_of own ps → OptionsBelow (length names) (map (variable_at es) ps)
-  places-below [] h = tt
-  places-below (p ∷ ps) h =
-      let x = hyp-at p h.0 in
-      (rw x.found (variable-below (length names) x.entry.kind x.entry.symbols x.codes), places-below ps h.1)
-
   hyps-are : d.hypotheses ≡ hypotheses front_of own
   hyps-are = kept.hypotheses_kept ∙ ap (λ b. kept_with b front_of own) whole
 
   own-hyps : AreHyps front_of own d.hypotheses
   own-hyps = subst (AreHyps front_of own) (sym hyps-are) (hyps front_of own)
-
-  -- its variables by name are those of its places
-  named : variables_of front_of own ≡ map (option_name names) places
-  named = ap (map (frame_of.variable_at front_of)) (sym hyps-are) ∙ variables-there d.hypotheses own-hyps
-
-  -- its places have names
-  below : OptionsBelow (length names) places
-  below = places-below d.hypotheses own-hyps
 
   -- ---- what is asked of the results
 
@@ -111,17 +90,28 @@ module _ (es : List Entry) (names labels : List Name) (m a : ℕ) (e : Entry) (d
 
   -- ---- groups
 
+  -- a number has a place just where its name is mandatory
   mandatory-is : (c : ℕ) → c < length names → is_placed places c ≡ is_mandatory front_of own (name_at names c)
-  mandatory-is c low = by (place_of places c) refl
+  mandatory-is c low =
+      placed-any 0 places c ∙ (sym (list_any-map (variable_at es) (is_code c) d.hypotheses)
+      ∙ both_ways (list_any (λ p. is_code c (variable_at es p)) d.hypotheses) (is_mandatory front_of own (name_at names c)) there back)
     where
-      mandatory : (t : Bool) → has_place (map (option_name names) places) (name_at names c) ≡ t → t ≡ is_mandatory front_of own (name_at names c)
-      mandatory t h = sym (mandatory-place front_of own (name_at names c) front-legal own-legal asserts ∙ (ap (λ vs. has_place vs (name_at names c)) named ∙ h))
+      there : list_any (λ p. is_code c (variable_at es p)) d.hypotheses ≡ true → is_mandatory front_of own (name_at names c) ≡ true
+      there h =
+          let r = any-in (λ p. is_code c (variable_at es p)) d.hypotheses h in
+          let a = active-members front_of (is_hypothesis front_of own) r.0 [] front_of 1 refl refl (subst (In r.0) hyps-are r.1) in
+          let x = entry-at r.0 a.front a.stmt a.rest a.whole a.at in
+          let passes : floats c x.entry ≡ true = sym (code-floats c x.entry.kind x.entry.symbols) ∙ (ap (λ o. is_code c (option_variable o)) (sym x.found) ∙ r.2) in
+          let y = floats-is names c x.entry (name_at labels x.entry.label) passes in
+          ap (is_hypothesis front_of own) (sym (x.same ∙ y.1)) ∙ a.passes
 
-      by : (o : Option ℕ) → place_of places c ≡ o → is_some o ≡ is_mandatory front_of own (name_at names c)
-      by (Some k) is =
-          let f = place-found 0 places c k is in
-          mandatory true (has-some names places f.0 c f.3)
-      by None is = mandatory false (place-none names 0 places c distinct below low is)
+      back : is_mandatory front_of own (name_at names c) ≡ true → list_any (λ p. is_code c (variable_at es p)) d.hypotheses ≡ true
+      back m =
+          let f = mandatory-float front_of own (name_at names c) front-legal own-legal asserts m in
+          let x = entry-at (suc (length f.front)) f.front (Float f.label f.constant (name_at names c)) f.rest f.whole refl in
+          in-any (λ p. is_code c (variable_at es p)) d.hypotheses (suc (length f.front)) (subst (In (suc (length f.front))) (sym hyps-are) f.listed)
+          (ap (λ o. is_code c (option_variable o)) x.found ∙ (code-floats c x.entry.kind x.entry.symbols
+          ∙ is-floats names c x.entry (name_at labels x.entry.label) f.constant f.label distinct x.codes x.two low (sym x.same)))
 
   placed-stands : (codes : List ℕ) → AreBelow (length names) codes → decode names (placed places codes) ≡ filter (is_mandatory front_of own) (decode names codes)
   placed-stands [] b = refl
@@ -208,12 +198,3 @@ lists-cited S names a s d codes l stand low c p q k g = record {
   groups = ap (map (decode names)) g ∙ l.groups;
   groups_below = subst (AllBelow (length names)) (sym g) l.groups_below;
 }
-
--- the same by the place i of the entry
-pub lists-at : (es : List Entry) (names labels : List Name) (m i : ℕ) (e : Entry) (d : Assertion) → AreDistinct names → AreNumbered (length names) m es → AreAllLegal (map (stmt_of names labels) es)
-    → slice_get es i ≡ Some e → is_assertion (stmt_of names labels e) ≡ true → IsKeptAs es (take i (map (stmt_of names labels) es)) (stmt_of names labels e) d → d.whole ≡ true
-    → AreListsOf (map (stmt_of names labels) es) names (i + 1) d (stmt_of names labels e)
-lists-at es names labels m i e d distinct numbered legal here asserts kept whole =
-    let one : i ≡ i + 1 - 1 = omega arith in
-    kept-lists es names labels m (i + 1) e d distinct numbered legal (omega arith) (ap (slice_get es) (sym one) ∙ here) asserts
-    (subst (λ j. IsKeptAs es (take j (map (stmt_of names labels) es)) (stmt_of names labels e) d) one kept) whole

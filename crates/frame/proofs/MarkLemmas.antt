@@ -1,5 +1,5 @@
 -- Marks in a list of Booleans.
-use Rattle.frame.proofs.Words.{◌∙◌, ap, arith, append-nil, take_all, ◌≡◌, ℕ, zero, suc, Bool, true, false, List, [], ◌∷◌, ◌++◌, length, take, drop, replicate, get_or, slice_set, refl, drop_all}
+use Rattle.frame.proofs.Words.{◌∙◌, ap, arith, append-nil, take_all, ◌≡◌, ℕ, zero, suc, Bool, true, false, List, ◌∷◌, ◌++◌, length, take, drop, replicate, get_or, slice_set, refl, drop_all}
 
 -- a place more is marked, and the others stay
 pub set_true : (marks : List Bool) (i j : ℕ) → get_or marks j false ≡ true → get_or (slice_set marks i true) j false ≡ true

@@ -74,6 +74,10 @@ pub entry-assertion : (names labels : List Name) (e : Entry) → (e.kind ≡ Axi
 entry-assertion names labels e (inl is) = ap (λ kind. is_assertion (stmt_by kind (name_at labels e.label) (decode names e.symbols))) is
 entry-assertion names labels e (inr is) = ap (λ kind. is_assertion (stmt_by kind (name_at labels e.label) (decode names e.symbols))) is
 
+pub entry-hypothesis : (names labels : List Name) (e : Entry) → (e.kind ≡ Float) ⊎ (e.kind ≡ Ess) → (is_hypothesis_kind (stmt_of names labels e) ≡ true) × (is_assertion (stmt_of names labels e) ≡ false)
+entry-hypothesis names labels e (inl is) = rw is (refl, refl)
+entry-hypothesis names labels e (inr is) = rw is (refl, refl)
+
 -- the statement of an entry stands at its position
 pub entry-stands : (names labels : List Name) (es : List Entry) (at : ℕ) (e : Entry) → 1 ≤ at → slice_get es (at - 1) ≡ Some e → stmt_at (map (stmt_of names labels) es) at ≡ Some (stmt_of names labels e)
 entry-stands names labels es at e one g = stmt-at-suc (map (stmt_of names labels) es) at one ∙ get-stmt names labels es (at - 1) e g

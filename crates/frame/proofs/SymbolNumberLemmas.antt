@@ -1,18 +1,18 @@
 -- Numbers and the names that they stand for, as both grow.
-use Rattle.frame.proofs.Words.{◌∙◌, ap, arith, append_assoc, ◌≡◌, ℕ, ◌<◌, ◌≤◌, List, [], ◌∷◌, ◌++◌, length, take, refl, zero, suc, take-append_seam, Name, name_at, decode, AreBelow, Symbol, Extends, zero_symbol, AreZero, AreZeroBehind}
+use Rattle.frame.proofs.Words.{replicate, take_all, zero, ◌∙◌, ap, arith, ◌≡◌, ℕ, ◌<◌, ◌≤◌, List, [], ◌∷◌, ◌++◌, length, take, refl, suc, take-append_seam, Name, name_at, decode, AreBelow, Symbol, Extends, zero_symbol, AreZero, AreZeroBehind}
 use Rattle.names.proofs.DistinctLemmas.{name_at-more}
 
 -- cut back to where it began, the list is as before
 pub take-extends : {A : Type 0} (a b : List A) → Extends a b → take (length a) b ≡ a
 take-extends a b p = ap (take (length a)) p.1 ∙ take-append_seam a p.0
 
--- one symbol more that nothing declares
-pub zero-push : (a b : List Symbol) → AreZeroBehind a b → AreZeroBehind a (b ++ zero_symbol ∷ [])
-zero-push a b p = (p.0 ++ zero_symbol ∷ [], ap (λ r. r ++ zero_symbol ∷ []) p.1 ∙ append_assoc a p.0 (zero_symbol ∷ []), by p.0 p.2)
+-- symbols more that nothing declares
+pub zero-more : (a b : List Symbol) (n m : ℕ) → length a ≤ n → b ≡ take n a ++ replicate m zero_symbol → AreZeroBehind a b
+zero-more a b n m le is = (replicate m zero_symbol, is ∙ ap (λ r. r ++ replicate m zero_symbol) (take_all n a le), zeros m)
   where
-    by : (more : List Symbol) → AreZero more → AreZero (more ++ zero_symbol ∷ [])
-    by [] h = (refl, tt)
-    by (x ∷ more) h = (h.0, by more h.1)
+    zeros : (m : ℕ) → AreZero (replicate m zero_symbol)
+    zeros zero = tt
+    zeros (suc m) = (refl, zeros m)
 
 pub decode-more : (names more : List Name) (codes : List ℕ) → AreBelow (length names) codes → decode (names ++ more) codes ≡ decode names codes
 decode-more names more [] h = refl

@@ -1,13 +1,10 @@
 -- The constant of an active `$f` is no variable, a variable that is used has an active `$f`, and the mandatory variables are those of the mandatory `$f`.
-use Rattle.frame.proofs.Words.{list_any, sym, ◌∙◌, ap, inl, inr, append_assoc, ◌≡◌, ℕ, suc, Bool, true, false, ◌||◌, List, [], ◌∷◌, ◌++◌, length, slice_get, refl, not, ◌&&◌, or_left, or_cases, and_parts, not_both, list_any-append, list_any-from_Any, Any-from_list_any}
-use Rattle.frame.proofs.Words.{Name, has_name, Stmt, Database, Expr, is_assertion, is_variable, is_float_of, stays_open, active, constants, variables, expr_of, is_essential, is_constant, has_float, IsLegal, starts_with_constant, name_same, same_name, list_any-map, is_used, is_mandatory, is_hypothesis, hypotheses, variable_of, variables_of, is_some_name, has_place, In, all-has, IsFirstFixed}
-use Rattle.std.specs.Cmp.{both_ways}
+use Rattle.frame.proofs.Words.{list_any, ◌∙◌, ap, inl, inr, append_assoc, ◌≡◌, ℕ, suc, Bool, true, false, ◌||◌, List, [], ◌∷◌, ◌++◌, length, refl, not, ◌&&◌, or_left, or_cases, and_parts, not_both, list_any-append, list_any-from_Any, Any-from_list_any}
+use Rattle.frame.proofs.Words.{Name, has_name, Stmt, Database, Expr, is_assertion, is_variable, is_float_of, stays_open, active, constants, variables, expr_of, is_essential, is_constant, has_float, IsLegal, starts_with_constant, is_used, is_mandatory, is_hypothesis, hypotheses, In, all-has, IsFirstFixed}
 use Rattle.mm_read.specs.declared.stmt.Stmt.TheVariants.{Float, Ess, Axiom, Prove}
-use Rattle.frame.specs.FrameOf.{variable_at, option_variable}
 use Rattle.frame.proofs.LegalLabels.{AllKept}
-use Rattle.frame.proofs.LegalBehind.{stands-at, legal-keeps, kept-legal, constant-no_variable}
+use Rattle.frame.proofs.LegalBehind.{legal-keeps, kept-legal, constant-no_variable}
 use Rattle.frame.proofs.ActiveBehind.{active-stands, stands-active, open_both, implied}
-use Rattle.frame.proofs.ActivePositions.{active-members}
 use Rattle.frame.proofs.CollectLemmas.{in-contains, contains-in}
 use Rattle.frame.proofs.ActiveFloats.{float-of-kind}
 use Rattle.frame.proofs.PlacedHypotheses.{members, used-cases}
@@ -110,36 +107,8 @@ mandatory-float S s x all legal asserts m =
     let whole : S ≡ r.front ++ Float f.0 f.1 x ∷ r.rest = r.whole ∙ ap (λ t. r.front ++ t ∷ r.rest) f.2 in
     record { front = r.front; label = f.0; constant = f.1; rest = r.rest; whole = whole; listed = members S (is_hypothesis S s) (suc (length r.front)) r.front (Float f.0 f.1 x) r.rest whole refl r.stays m }
 
-in-any : (q : ℕ → Bool) (ps : List ℕ) (p : ℕ) → In p ps → q p ≡ true → list_any q ps ≡ true
+pub in-any : (q : ℕ → Bool) (ps : List ℕ) (p : ℕ) → In p ps → q p ≡ true → list_any q ps ≡ true
 in-any q ps p i h = let c = in-contains p ps i in list_any-from_Any q ps (c.0, p, c.1, c.2, h)
 
-any-in : (q : ℕ → Bool) (ps : List ℕ) → list_any q ps ≡ true → (p : ℕ) × In p ps × (q p ≡ true)
+pub any-in : (q : ℕ → Bool) (ps : List ℕ) → list_any q ps ≡ true → (p : ℕ) × In p ps × (q p ≡ true)
 any-in q ps h = let a = Any-from_list_any q ps h in (a.1, contains-in a.1 ps (a.0, a.2, a.3), a.4)
-
--- the mandatory variables are those with a place
-pub mandatory-place : (S : Database) (s : Stmt) (x : Name) → AllKept S → IsLegal S s → is_assertion s ≡ true → is_mandatory S s x ≡ has_place (variables_of S s) x
-mandatory-place S s x all legal asserts = both_ways (is_mandatory S s x) (has_place (variables_of S s) x) there back
-  where
-    test : ℕ → Bool
-    test p = is_some_name x (variable_at S p)
-
-    listed : list_any test (hypotheses S s) ≡ has_place (variables_of S s) x
-    listed = list_any-map (variable_at S) (is_some_name x) (hypotheses S s)
-
-    here : (A : Database) (t : Stmt) (B : Database) → S ≡ A ++ t ∷ B → variable_at S (suc (length A)) ≡ variable_of t
-    here A t B whole = ap option_variable (ap (λ w. slice_get w (length A)) whole ∙ stands-at A t B)
-
-    there : is_mandatory S s x ≡ true → has_place (variables_of S s) x ≡ true
-    there m =
-        let f = mandatory-float S s x all legal asserts m in
-        sym listed ∙ in-any test (hypotheses S s) (suc (length f.front)) f.listed (ap (is_some_name x) (here f.front (Float f.label f.constant x) f.rest f.whole) ∙ name_same x)
-
-    back : has_place (variables_of S s) x ≡ true → is_mandatory S s x ≡ true
-    back h =
-        let r = any-in test (hypotheses S s) (listed ∙ h) in
-        let a = active-members S (is_hypothesis S s) r.0 [] S 1 refl refl r.1 in
-        of_kind a.stmt a.passes (ap (is_some_name x) (sym (ap (variable_at S) a.at ∙ here a.front a.stmt a.rest a.whole)) ∙ r.2)
-      where
-        of_kind : (t : Stmt) → is_hypothesis S s t ≡ true → is_some_name x (variable_of t) ≡ true → is_mandatory S s x ≡ true
-        of_kind (Float l c y) h e = ap (is_mandatory S s) (same_name x y e) ∙ h
-        of_kind t h e = cc

@@ -1,5 +1,5 @@
 -- The frame of an assertion behind the statements S.
-use Rattle.std.specs.Prelude.{◌≡◌, ℕ, Bool, true, false, not, ◌&&◌, ◌||◌, List, [], ◌∷◌, map, filter, Option, Some, None, IsTrue}
+use Rattle.std.specs.Prelude.{◌≡◌, ℕ, Bool, true, false, not, ◌&&◌, ◌||◌, List, [], ◌∷◌, map, filter, Some, IsTrue}
 use Rattle.std.specs.List.{list_any}
 use Rattle.frame.specs.Words.{Name, name_eq, has_name, Stmt, Database, active, stmt_at, separated, expr_of, is_essential, is_variable, is_assertion}
 use Rattle.mm_read.specs.declared.stmt.Stmt.TheVariants.{Float, Ess}
@@ -53,27 +53,3 @@ frame_of S s = record { hypotheses = hypotheses S s; groups = mandatory_groups S
 -- the assertion at a position of a database
 abbrev pub HasAssertion : Database → ℕ → Stmt → Type 0
 HasAssertion S at s = (stmt_at S at ≡ Some s) × IsTrue (is_assertion s)
-
--- the variable of a `$f`
-abbrev pub variable_of : Stmt → Option Name
-variable_of (Float label constant variable) = Some variable
-variable_of s = None
-
-abbrev pub option_variable : Option Stmt → Option Name
-option_variable None = None
-option_variable (Some s) = variable_of s
-
-abbrev pub variable_at : Database → ℕ → Option Name
-variable_at S p = option_variable (stmt_at S p)
-
--- the variables of the mandatory hypotheses, at their places
-abbrev pub variables_of : Database → Stmt → List (Option Name)
-variables_of S s = map (variable_at S) (hypotheses S s)
-
-abbrev pub is_some_name : Name → Option Name → Bool
-is_some_name x None = false
-is_some_name x (Some y) = name_eq x y
-
--- x is the variable at some place
-abbrev pub has_place : List (Option Name) → Name → Bool
-has_place vs x = list_any (is_some_name x) vs

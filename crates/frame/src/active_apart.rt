@@ -1,18 +1,9 @@
 //! Images that are kept apart by the `$d` active at a position.
-ghost use Rattle.std.specs.Prelude.{◌≡◌, ◌<◌, ◌≤◌, ◌==◌, ◌%◌, ◌&&◌, length, IsTrue, true};
-ghost use Rattle.std.specs.List.{list_any};
-ghost use Rattle.scope.specs.Active.{before};
-ghost use Rattle.names.specs.Codes.{name_at, decode, AreDistinct};
-ghost use Rattle.frame.specs.Below.{AreBelow};
-ghost use Rattle.frame.specs.Disjoint.{are_apart};
-ghost use Rattle.frame.specs.Covers.{are_listed, are_covered, do_share, is_variable_apart};
-ghost use Rattle.frame.specs.Stored.Whole.{AreStored};
-ghost use Rattle.frame.specs.Stored.EntryMeanings.{names_in, statements_of};
-ghost use Rattle.frame.specs.declared.active_apart.TheConstants.{PLACES};
+ghost use Rattle.std.specs.Prelude.{◌≡◌, ◌<◌, ◌==◌, ◌%◌, ◌&&◌, length, IsTrue, true};
+ghost use Rattle.{std.specs.List.list_any, names.specs.Codes.decode, names.specs.Codes.AreDistinct, frame.specs.Below.AreBelow, frame.specs.Disjoint.are_apart, frame.specs.Covers.are_listed, frame.specs.Covers.are_covered, frame.specs.Covers.do_share, frame.specs.declared.active_apart.TheConstants.PLACES};
 
 use crate::at_position::links_at;
 use crate::pairs::{Pairs, contains};
-use crate::storage::Stock;
 
 /// From so many symbols on a list is long: then it is looked at by tables.
 const LONG: usize = 64;
@@ -31,7 +22,7 @@ impl<'a> Pairs<'a> {
         ensures { result ≡ are_apart self.now.statements (decode self.now.names left.now) (decode self.now.names right.now) }
     {
         let long = left.len() >= LONG || right.len() >= LONG;
-        if long && is_covered(self.stock, self.at, left, right) {
+        if long && is_covered(self, left, right) {
             !share(self, left, right)
         } else {
             each_apart(self, left, right)
@@ -42,20 +33,17 @@ impl<'a> Pairs<'a> {
 /// Whether one `$d` that is active at `at` has each variable of both lists.
 #[cold]
 #[inline(never)]
-fn is_covered(stock: &Stock, at: usize, left: &[u32], right: &[u32]) -> bool
-    requires stored { AreStored stock.now }
-    requires distinct { AreDistinct (names_in stock.now) }
-    requires place { (1 ≤ at) × (at ≤ length (statements_of stock.now)) }
-    requires left { AreBelow (length (names_in stock.now)) left.now }
-    requires right { AreBelow (length (names_in stock.now)) right.now }
-    ensures { result ≡ are_covered (before (statements_of stock.now) at) (decode (names_in stock.now) left.now) (decode (names_in stock.now) right.now) }
+fn is_covered(pairs: &Pairs<'_>, left: &[u32], right: &[u32]) -> bool
+    requires left { AreBelow (length pairs.now.names) left.now }
+    requires right { AreBelow (length pairs.now.names) right.now }
+    ensures distinct { AreDistinct pairs.now.names }
+    ensures covered { result ≡ are_covered pairs.now.statements (decode pairs.now.names left.now) (decode pairs.now.names right.now) }
 {
-    let pairs = Pairs { stock, at };
     let mut hints = [0usize; PLACES];
-    let mut last = links_at(stock, at).disjoint;
+    let mut last = links_at(pairs.stock, pairs.at).disjoint;
     while last != 0 {
-        let entry = stock.entries.entry(last as usize - 1);
-        if covers(&pairs, entry.symbols, &mut hints, left, right) {
+        let entry = pairs.stock.entries.entry(last as usize - 1);
+        if covers(pairs, entry.symbols, &mut hints, left, right) {
             return true;
         }
         last = entry.links.disjoint;
@@ -146,23 +134,13 @@ fn each_apart(pairs: &Pairs<'_>, left: &[u32], right: &[u32]) -> bool
 {
     for i in 0..left.len() {
         let x = left[i];
-        if pairs.variable(x) && !contains(&left[..i], x) && !variable_apart(pairs, x, right) {
-            return false;
-        }
-    }
-    true
-}
-
-/// Whether the variable is kept apart from each variable of the image.
-fn variable_apart(pairs: &Pairs<'_>, x: u32, image: &[u32]) -> bool
-    requires x { x < length pairs.now.names }
-    requires image { AreBelow (length pairs.now.names) image.now }
-    ensures { result ≡ is_variable_apart pairs.now.statements (name_at pairs.now.names x) (decode pairs.now.names image.now) }
-{
-    for i in 0..image.len() {
-        let y = image[i];
-        if pairs.variable(y) && !contains(&image[..i], y) && !pairs.has(x, y) {
-            return false;
+        if pairs.variable(x) && !contains(&left[..i], x) {
+            for k in 0..right.len() {
+                let y = right[k];
+                if pairs.variable(y) && !contains(&right[..k], y) && !pairs.has(x, y) {
+                    return false;
+                }
+            }
         }
     }
     true

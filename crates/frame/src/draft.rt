@@ -1,7 +1,6 @@
 //! What is found out about a statement before it is kept.
 ghost use Rattle.std.specs.Prelude.{◌≡◌, []};
-ghost use Rattle.entries.specs.Entries.{AreShapedParts, assertion_of};
-ghost use Rattle.frame.specs.Stored.Drafts.{IsDraft, IsPartless, drafted};
+ghost use Rattle.{entries.specs.Entries.AreShapedParts, entries.specs.Entries.assertion_of, frame.specs.Stored.Drafts.IsDraft, frame.specs.Stored.Drafts.IsPartless, frame.specs.Stored.Drafts.drafted};
 
 use crate::places::Places;
 use entries::{AssertionParts, BufferPart};

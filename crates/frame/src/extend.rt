@@ -1,26 +1,20 @@
 //! One statement more in the storage, or none, or only the first ones.
-ghost use Rattle.std.specs.Prelude.{◌≡◌, ◌++◌, ◌∷◌, [], Some, OnOk, OnErr, take, length, slice_get};
-ghost use Rattle.scope.specs.Active.{bare};
-ghost use Rattle.scope.specs.Legal.{IsLegal};
-ghost use Rattle.names.specs.Codes.{with_names};
-ghost use Rattle.scope.specs.Stored.Noted.{AreNoted};
-ghost use Rattle.scope.specs.Symbols.{AreVariableNumbers, symbols_after, symbols_by, symbols_in};
-ghost use Rattle.frame.specs.Stored.Whole.{AreStored};
-ghost use Rattle.frame.specs.Stored.Counts.{IsBehind};
-ghost use Rattle.entries.specs.Entries.{Entry};
-ghost use Rattle.entries.specs.Stored.Spans.{Extends};
-ghost use Rattle.frame.specs.Stored.EntryMeanings.{labels_in, names_in, statements_of};
+ghost use Rattle.std.specs.Prelude.{true, ◌≡◌, ◌++◌, ◌∷◌, [], Some, OnOk, OnErr, take, length, slice_get, ◌+◌, IfSome, IfErr};
+ghost use Rattle.{names.specs.Codes.with_names, scope.specs.Active.bare, scope.specs.Legal.IsLegal, scope.specs.Legal.broken_rule, scope.specs.Stored.Noted.AreNoted, scope.specs.Symbols.AreVariableNumbers, scope.specs.Symbols.symbols_after, scope.specs.Symbols.symbols_by, scope.specs.Symbols.symbols_in, scope.specs.Symbols.symbols_of, entries.specs.Entries.Entry, entries.specs.Entries.made, entries.specs.Stored.Spans.Extends, frame.specs.Stored.Whole.AreStored, frame.specs.Stored.Whole.parts_of, frame.specs.Stored.Counts.IsBehind, frame.specs.Stored.EntryMeanings.labels_in, frame.specs.Stored.EntryMeanings.names_in, frame.specs.Stored.EntryMeanings.statements_of, frame.specs.Stored.Drafts.IsDraft, frame.specs.Stored.AssertionParts.has_parts};
 
-use crate::declare::{declare, declare_next, links_after};
+use crate::declare::{
+    declare, declare_next, declared, links_after, note_end, note_replaced, take_away,
+};
 use crate::draft::Draft;
-use crate::ends::{note_end, note_statement};
-use crate::enter::{enter_parts, head, push_entry};
-use crate::shape::kind;
+use crate::frames::Frames;
+use crate::make::enter_parts;
+use crate::shape::{has_parts, kind};
 use crate::storage::Stock;
 use crate::symbol_numbers::find_numbers;
-use crate::undo::{note_replaced, take_away};
+use entries::buffer_part::place;
+use entries::{Entries, Head};
 use mm_read::Stmt;
-use scope::{Noted, Rules};
+use scope::{Noted, Rule, Rules, Scope, Steps};
 use std::alloc::{AllocError, Global};
 
 /// Adds the statement behind the others, with the numbers of its symbols where they were noted. Where a growth is refused,
@@ -43,26 +37,51 @@ fn extend(
     let at = stock.entries.len() + 1;
     let kind = kind(stmt);
     let links = links_after(stock, kind);
-    let head = head(stock, kind)?;
+    let head = Head {
+        kind,
+        label: place(stock.numbering.label_count())?,
+        names: stock.numbering.symbol_count() as u32,
+        links: stock.links,
+    };
     find_numbers(&stock.numbering, stmt, noted);
     enter_parts(stock, draft, stmt, noted)?;
     declare_next(alloc, stock, stmt, noted)?;
     let Some(codes) = noted.numbers() else {
         return Err(AllocError);
     };
-    note_replaced(&stock.symbols, kind, codes, &mut stock.replaced)?;
-    note_statement(&mut stock.ends)?;
+    let declared = declared(kind, codes);
+    note_replaced(&stock.symbols, kind, declared, &mut stock.replaced)?;
+    stock.ends.push(0)?;
     push_entry(&mut stock.entries, head, codes, draft)?;
-    declare(&mut stock.symbols, kind, codes, at);
+    declare(&mut stock.symbols, kind, declared, at);
     note_end(&mut stock.ends, kind, stock.links.block, at as u32);
     stock.links = links;
     Ok(())
 }
 
+/// Puts a statement behind the others, with its parts where it has some.
+fn push_entry(
+    entries: &mut Entries,
+    head: Head,
+    codes: &[u32],
+    draft: &Draft,
+) -> Result<(), AllocError>
+    requires shaped { has_parts head.kind ≡ true → IsDraft draft.now }
+    requires symbols { has_parts head.kind ≡ true → draft.now.symbols.items ≡ codes.now }
+    ensures added { OnOk result (entries.new ≡ entries.old ++ made head codes.now (parts_of head.kind draft.now) ∷ []) }
+    ensures same { OnErr result (entries.new ≡ entries.old) }
+{
+    if has_parts(head.kind) {
+        entries.push(head, &draft.parts())
+    } else {
+        entries.push_plain(head, codes)
+    }
+}
+
 /// Adds the statement behind the others, with the numbers of its symbols where they were noted.
 ///
 /// Where a growth is refused, everything is as before.
-pub fn extend_whole(
+fn extend_whole(
     alloc: Global,
     stock: &mut Stock,
     draft: &mut Draft,
@@ -86,38 +105,6 @@ pub fn extend_whole(
     result
 }
 
-/// Adds the statement behind the others, and has the rules accept it, whose state stands behind the same statements.
-///
-/// Where a growth is refused, everything is as before.
-pub fn add_legal(
-    alloc: Global,
-    stock: &mut Stock,
-    draft: &mut Draft,
-    rules: &mut Rules,
-    stmt: &Stmt,
-    noted: &mut Noted,
-) -> Result<(), AllocError>
-    requires stored { AreStored stock.old }
-    requires same { rules.old.statements ≡ statements_of stock.old }
-    requires legal { IsLegal (statements_of stock.old) stmt.now }
-    requires noted { AreNoted (with_names (names_in stock.old) (symbols_by stmt.now)) (symbols_in stmt.now) noted.old }
-    ensures stored { AreStored stock.new }
-    ensures added { OnOk result (statements_of stock.new ≡ statements_of stock.old ++ bare stmt.now ∷ []) }
-    ensures accepted { OnOk result (rules.new.statements ≡ rules.old.statements ++ bare stmt.now ∷ []) }
-    ensures same { OnErr result (statements_of stock.new ≡ statements_of stock.old) }
-    ensures same_rules { OnErr result (rules.new.statements ≡ rules.old.statements) }
-    ensures marked { rules.new.marked ≡ rules.old.marked }
-{
-    let front = stock.entries.len();
-    extend_whole(alloc, stock, draft, stmt, noted)?;
-    let entry = stock.entries.entry(front);
-    let accepted = rules.accept(stmt, entry.symbols);
-    if accepted.is_err() {
-        cut(stock, front);
-    }
-    accepted
-}
-
 /// Takes back what was left behind the first names and replaced declarations, and behind the statements.
 fn roll_back(stock: &mut Stock, names: usize, replaced: usize)
     ensures names { stock.new.numbering ≡ take names stock.old.numbering }
@@ -135,28 +122,90 @@ fn roll_back(stock: &mut Stock, names: usize, replaced: usize)
     stock.ends.truncate(stock.entries.len());
 }
 
-/// Only the first `len` statements stay.
-///
-/// Cost: the size of the statements that go.
-pub fn cut(stock: &mut Stock, len: usize)
-    requires { AreStored stock.old }
-    ensures stored { AreStored stock.new }
-    ensures statements { statements_of stock.new ≡ take len (statements_of stock.old) }
-    ensures names { Extends (names_in stock.new) (names_in stock.old) }
-{
-    if len < stock.entries.len() {
-        let first = stock.entries.entry(len);
-        let names = first.names as usize + first.label as usize;
-        let links = first.links;
-        take_away(
-            &mut stock.symbols,
-            &mut stock.replaced,
-            &mut stock.ends,
-            &mut stock.entries,
-            len,
-        );
-        let replaced = stock.replaced.len();
-        roll_back(stock, names, replaced);
-        stock.links = links;
+impl Frames {
+    /// Adds the statement that the scope accepts next.
+    ///
+    /// Where a growth is refused, everything is as before. One step is counted, whatever is answered.
+    /// Cost: the statement's own size.
+    pub fn push(&mut self, scope: &Scope, stmt: &Stmt, steps: &mut Steps) -> Result<(), AllocError>
+        requires same { scope.now.statements ≡ self.old.statements }
+        requires legal { IsLegal scope.now.statements stmt.now }
+        ensures added { OnOk result (self.new.statements ≡ self.old.statements ++ bare stmt.now ∷ []) }
+        ensures names { Extends self.old.names self.new.names }
+        ensures symbols { self.new.names ≡ symbols_of self.new.statements }
+        ensures same { OnErr result (self.new ≡ self.old) }
+        ensures counted { steps.new.count ≡ steps.old.count + 1 }
+    {
+        let _scope = scope;
+        self.noted.forget();
+        steps.tick();
+        extend_whole(
+            self.alloc,
+            &mut self.stock,
+            &mut self.draft,
+            stmt,
+            &mut self.noted,
+        )
+    }
+
+    /// Adds the next statement, where it breaks none of the rules G1 to G10: the rules, whose state stands behind the
+    /// same statements, are lent the numbering, and accept it.
+    ///
+    /// Errors: the least rule that it breaks, or `Memory` where it breaks none; everything is then as before. Cost: that
+    /// of `Rules::broken_rule` and of `push`; one step is counted, whatever is answered.
+    pub fn add(&mut self, rules: &mut Rules, stmt: &Stmt, steps: &mut Steps) -> Result<(), Rule>
+        requires same { rules.old.statements ≡ self.old.statements }
+        ensures added { OnOk result (self.new.statements ≡ self.old.statements ++ bare stmt.now ∷ []) }
+        ensures accepted { OnOk result (rules.new.statements ≡ rules.old.statements ++ bare stmt.now ∷ []) }
+        ensures legal { OnOk result (IsLegal self.old.statements stmt.now) }
+
+        // A broken rule is answered also where every growth is refused.
+        ensures broken { IfSome (broken_rule self.old.statements stmt.now) (λ rule. result ≡ Err rule) }
+        ensures only_memory { IsLegal self.old.statements stmt.now → IfErr result (λ rule. rule ≡ Rule.Memory) }
+        ensures same { OnErr result (self.new ≡ self.old) }
+        ensures same_rules { OnErr result (rules.new.statements ≡ rules.old.statements) }
+        ensures marked { rules.new.marked ≡ rules.old.marked }
+        ensures counted { steps.new.count ≡ steps.old.count + 1 }
+    {
+        steps.tick();
+        self.noted.begin();
+        let broken = rules.broken_rule(&self.stock.numbering, self.alloc, stmt, &mut self.noted);
+        if let Some(rule) = broken {
+            return Err(rule);
+        }
+        let front = self.stock.entries.len();
+        extend_whole(
+            self.alloc,
+            &mut self.stock,
+            &mut self.draft,
+            stmt,
+            &mut self.noted,
+        )
+        .map_err(|_| Rule::Memory)?;
+        let entry = self.stock.entries.entry(front);
+        let accepted = rules.accept(stmt, entry.symbols);
+        if accepted.is_err() {
+            self.shorten(front);
+        }
+        accepted.map_err(|_| Rule::Memory)
+    }
+
+    /// Only the first `len` statements stay.
+    ///
+    /// Takes no memory. Cost: the size of the statements that go.
+    pub fn shorten(&mut self, len: usize)
+        ensures statements { self.new.statements ≡ take len self.old.statements }
+        ensures names { Extends self.new.names self.old.names }
+        ensures symbols { self.new.names ≡ symbols_of self.new.statements }
+    {
+        if len < self.stock.entries.len() {
+            let first = self.stock.entries.entry(len);
+            let names = first.names as usize + first.label as usize;
+            let links = first.links;
+            take_away(&mut self.stock, len);
+            self.stock.links = links;
+            let replaced = self.stock.replaced.len();
+            roll_back(&mut self.stock, names, replaced);
+        }
     }
 }

@@ -1,29 +1,19 @@
 //! The statements of a database by position.
-ghost use Rattle.std.specs.Prelude.{◌≡◌, ℕ, ◌+◌, ◌≤◌, [], ◌∷◌, ◌++◌, Some, IfOk, IfErr, OnOk, OnErr, IfSome, length, take, option_map};
-ghost use Rattle.mm_read.specs.declared.stmt.Stmt.{Stmt as Statement};
-ghost use Rattle.scope.specs.Active.{bare, before, stmt_at, expr_of, label_of};
-ghost use Rattle.scope.specs.Legal.{IsLegal, broken_rule};
-ghost use Rattle.names.specs.Codes.{decode, name_at};
-ghost use Rattle.scope.specs.Symbols.{symbols_of};
-ghost use Rattle.frame.specs.Below.{AreBelow};
-ghost use Rattle.frame.specs.FrameOf.{HasAssertion, hypotheses};
-ghost use Rattle.frame.specs.AtPosition.{IsMeaning, IsPosition, ArePositions, AreLegal};
-ghost use Rattle.frame.specs.Cited.{IsCited, IsGathered};
-ghost use Rattle.entries.specs.Stored.Spans.{Extends};
+ghost use Rattle.std.specs.Prelude.{◌≡◌, ◌≤◌, [], IfOk, length, Some, option_map, OnOk, IfSome};
+ghost use Rattle.{mm_read.specs.declared.stmt.Stmt.Stmt as Statement, names.specs.Codes.name_at, names.specs.Codes.decode, scope.specs.Active.before, scope.specs.Active.stmt_at, scope.specs.Active.label_of, scope.specs.Active.expr_of, frame.specs.AtPosition.IsPosition, frame.specs.AtPosition.ArePositions, frame.specs.AtPosition.AreLegal, frame.specs.AtPosition.IsMeaning, frame.specs.FrameOf.HasAssertion, frame.specs.FrameOf.hypotheses, frame.specs.Cited.IsGathered, frame.specs.Cited.IsCited, frame.specs.Stored.Drafts.IsDraft, frame.specs.Stored.Drafts.drafted, frame.specs.Below.AreBelow};
 
-use crate::at_position::{expr_at, meaning_at};
+use crate::at_position::is_active_at;
 use crate::draft::Draft;
-use crate::extend::{add_legal, cut, extend_whole};
-use crate::gathered::Gathered;
-use crate::hypotheses::{gather_at, label_at, mandatory_at};
+use crate::make::spread;
+use crate::mandatory::add_essentials;
 use crate::meaning::Meaning;
 use crate::pairs::Pairs;
+use crate::shape::has_label;
 use crate::storage::Stock;
 use crate::symbol_numbers::label_number;
-use entries::{Cited, Entries, Groups, Hypotheses, Links};
+use entries::{Cited, Entries, Groups, Hypotheses, Kind, Links};
 use mm_lex::Words;
-use mm_read::Stmt;
-use scope::{Noted, Numbering, Rule, Rules, Scope, Steps};
+use scope::{Noted, Numbering};
 use std::alloc::{AllocError, Global};
 use std::marker::Model;
 
@@ -33,23 +23,47 @@ use std::marker::Model;
 /// stand for, in order of first declaration.
 #[derive(Drop)]
 pub struct Frames {
-    alloc: Global,
-    stock: Stock,
-    draft: Draft,
-    noted: Noted,
+    pub(crate) alloc: Global,
+    pub(crate) stock: Stock,
+    pub(crate) draft: Draft,
+    pub(crate) noted: Noted,
 }
 
 impl Model for Frames {
-    ghost use Rattle.frame.specs.Parts.{Numbered};
+    ghost use Rattle.{frame.specs.Parts.Numbered, frame.specs.Stored.EntryMeanings.numbered, frame.specs.Stored.Whole.AreStored};
 
     ghost Value = { Numbered };
-
-    ghost use Rattle.frame.specs.Stored.EntryMeanings.{numbered};
-    ghost use Rattle.frame.specs.Stored.Whole.{AreStored};
 
     ghost view = { λ a. numbered a.stock };
 
     ghost invariant = { λ a. AreStored a.stock };
+}
+
+/// The mandatory hypotheses and groups of an assertion, in buffers that serve one after another.
+///
+/// Contracts see them as an assertion is kept.
+#[derive(Drop)]
+pub struct Gathered {
+    draft: Draft,
+}
+
+impl Model for Gathered {
+    ghost use Rattle.{entries.specs.Entries.Assertion, frame.specs.Stored.Drafts.IsDraft, frame.specs.Stored.Drafts.drafted};
+
+    ghost Value = { Assertion };
+
+    ghost view = { λ a. drafted a.draft };
+
+    ghost invariant = { λ a. IsDraft a.draft };
+}
+
+impl Gathered {
+    /// Nothing.
+    pub fn new(alloc: Global) -> Gathered {
+        Gathered {
+            draft: Draft::new(alloc),
+        }
+    }
 }
 
 impl Frames {
@@ -95,78 +109,6 @@ impl Frames {
         let _ = self.stock.positions.reserve(labels);
     }
 
-    /// Adds the statement that the scope accepts next.
-    ///
-    /// Where a growth is refused, everything is as before. One step is counted, whatever is answered.
-    /// Cost: the statement's own size.
-    pub fn push(&mut self, scope: &Scope, stmt: &Stmt, steps: &mut Steps) -> Result<(), AllocError>
-        requires same { scope.now.statements ≡ self.old.statements }
-        requires legal { IsLegal scope.now.statements stmt.now }
-        ensures added { OnOk result (self.new.statements ≡ self.old.statements ++ bare stmt.now ∷ []) }
-        ensures names { Extends self.old.names self.new.names }
-        ensures symbols { self.new.names ≡ symbols_of self.new.statements }
-        ensures same { OnErr result (self.new ≡ self.old) }
-        ensures counted { steps.new.count ≡ steps.old.count + 1 }
-    {
-        let _scope = scope;
-        self.noted.forget();
-        steps.tick();
-        extend_whole(
-            self.alloc,
-            &mut self.stock,
-            &mut self.draft,
-            stmt,
-            &mut self.noted,
-        )
-    }
-
-    /// Adds the next statement, where it breaks none of the rules G1 to G10: the rules, whose state stands behind the
-    /// same statements, are lent the numbering, and accept it.
-    ///
-    /// Errors: the least rule that it breaks, or `Memory` where it breaks none; everything is then as before. Cost: that
-    /// of `Rules::broken_rule` and of `push`; one step is counted, whatever is answered.
-    pub fn add(&mut self, rules: &mut Rules, stmt: &Stmt, steps: &mut Steps) -> Result<(), Rule>
-        requires same { rules.old.statements ≡ self.old.statements }
-        ensures added { OnOk result (self.new.statements ≡ self.old.statements ++ bare stmt.now ∷ []) }
-        ensures accepted { OnOk result (rules.new.statements ≡ rules.old.statements ++ bare stmt.now ∷ []) }
-        ensures legal { OnOk result (IsLegal self.old.statements stmt.now) }
-
-        // A broken rule is answered also where every growth is refused.
-        ensures broken { IfSome (broken_rule self.old.statements stmt.now) (λ rule. result ≡ Err rule) }
-        ensures only_memory { IsLegal self.old.statements stmt.now → IfErr result (λ rule. rule ≡ Rule.Memory) }
-        ensures same { OnErr result (self.new ≡ self.old) }
-        ensures same_rules { OnErr result (rules.new.statements ≡ rules.old.statements) }
-        ensures marked { rules.new.marked ≡ rules.old.marked }
-        ensures counted { steps.new.count ≡ steps.old.count + 1 }
-    {
-        steps.tick();
-        self.noted.begin();
-        let broken = rules.broken_rule(&self.stock.numbering, self.alloc, stmt, &mut self.noted);
-        if let Some(rule) = broken {
-            return Err(rule);
-        }
-        add_legal(
-            self.alloc,
-            &mut self.stock,
-            &mut self.draft,
-            rules,
-            stmt,
-            &mut self.noted,
-        )
-        .map_err(|_| Rule::Memory)
-    }
-
-    /// Only the first `len` statements stay.
-    ///
-    /// Takes no memory. Cost: the size of the statements that go.
-    pub fn shorten(&mut self, len: usize)
-        ensures statements { self.new.statements ≡ take len self.old.statements }
-        ensures names { Extends self.new.names self.old.names }
-        ensures symbols { self.new.names ≡ symbols_of self.new.statements }
-    {
-        cut(&mut self.stock, len);
-    }
-
     /// The position of the statement with this label.
     pub fn position(&self, label: &[u8]) -> Option<usize>
         ensures { IsPosition self.now.statements label.now result }
@@ -195,7 +137,12 @@ impl Frames {
         ensures same { (s : Statement) → stmt_at self.now.statements at ≡ Some s → decode self.now.names result.now ≡ expr_of s }
         ensures codes { AreBelow (length self.now.names) result.now }
     {
-        expr_at(&self.stock, at)
+        let entry = self.stock.entries.entry(at - 1);
+        if has_label(entry.kind) {
+            entry.symbols
+        } else {
+            &[]
+        }
     }
 
     /// What a citation of the statement at i means at `at`.
@@ -203,7 +150,20 @@ impl Frames {
         requires { (1 ≤ at) × (at ≤ length self.now.statements) }
         ensures { IsMeaning self.now.statements self.now.names at i result }
     {
-        meaning_at(&self.stock, at, i)
+        if i == 0 || i >= at {
+            return Meaning::Nothing;
+        }
+        match self.stock.entries.entry(i - 1).kind {
+            Kind::Float | Kind::Ess => {
+                if is_active_at(&self.stock, i, at) {
+                    Meaning::Hypothesis(self.expr(i))
+                } else {
+                    Meaning::Nothing
+                }
+            }
+            Kind::Axiom | Kind::Prove => Meaning::Assertion,
+            _ => Meaning::Nothing,
+        }
     }
 
     /// The variables that are kept apart at a position.
@@ -234,11 +194,22 @@ impl Frames {
         requires { (s : Statement) × HasAssertion self.now.statements a s }
         ensures { OnOk result (IsGathered self.now.statements self.now.names a gathered.new) }
     {
-        let made = gather_at(&self.stock, a, &mut gathered.draft);
+        let made = self.fill(a, &mut gathered.draft);
         if made.is_err() {
             gathered.draft.clear();
         }
         made
+    }
+
+    /// Makes the lists of the assertion at a position.
+    fn fill(&self, a: usize, draft: &mut Draft) -> Result<(), AllocError>
+        requires { (s : Statement) × HasAssertion self.now.statements a s }
+        ensures gathered { OnOk result (IsGathered self.now.statements self.now.names a (drafted draft.new)) }
+        ensures draft { OnOk result (IsDraft draft.new) }
+    {
+        draft.clear();
+        self.mandatory(a, &mut draft.hypotheses)?;
+        spread(&self.stock, a, draft)
     }
 
     /// The parts of the assertion at a position, by the lists that were made of it.
@@ -251,7 +222,7 @@ impl Frames {
         Cited {
             heads: &draft.heads,
             hypotheses: Hypotheses::new(&draft.asked),
-            conclusion: expr_at(&self.stock, a),
+            conclusion: self.expr(a),
             groups: Groups::new(&draft.groups, &draft.places),
         }
     }
@@ -263,7 +234,12 @@ impl Frames {
         ensures listed { (s : Statement) → stmt_at self.now.statements a ≡ Some s → OnOk result (list.new.items ≡ hypotheses (before self.now.statements a) s) }
         ensures legal { AreLegal self.now.statements self.now.names }
     {
-        mandatory_at(&self.stock, a, list)
+        list.extend_from_slice(self.stock.entries.hypotheses(a - 1))?;
+        if self.stock.entries.is_whole(a - 1) {
+            Ok(())
+        } else {
+            add_essentials(&self.stock, a, list)
+        }
     }
 
     /// The label of the statement at a position; none where it has none.
@@ -271,7 +247,12 @@ impl Frames {
         requires { (1 ≤ at) × (at ≤ length self.now.statements) }
         ensures { (s : Statement) → stmt_at self.now.statements at ≡ Some s → option_map (λ r. r.now) result ≡ label_of s }
     {
-        label_at(&self.stock, at)
+        let entry = self.stock.entries.entry(at - 1);
+        if has_label(entry.kind) {
+            Some(self.stock.numbering.label(entry.label))
+        } else {
+            None
+        }
     }
 
     /// The symbol of a number; nothing where no symbol has it.

@@ -2,9 +2,9 @@
 //!
 //! `Frames` keeps the statements of a database by position, and reads off them what a verifier asks: what a citation means at a
 //! statement, the parts of an assertion, and the variables that are kept apart. `frame` gathers the `Frame` of one assertion from
-//! what is active. Reading order: `storage`, `shape`, `places`, `draft`; `symbol_numbers`, `declare`, `undo`, `mandatory`,
-//! `make`, `enter`, `extend` (one statement more); `at_position`, `hypotheses`, `meaning`, `gathered`, `pairs`,
-//! `active_apart`, `frames` (what is asked); `assertion`, `one_frame`; `laws`.
+//! what is active. Reading order: `storage`, `shape`, `places`, `draft`; `symbol_numbers`, `at_position`, `declare`, `mandatory`,
+//! `make`, `extend` (one statement more or less); `meaning`, `frames`, `pairs`, `active_apart` (what is asked); `assertion`,
+//! `one_frame`; `laws`.
 #![tactic(auto)]
 
 mod active_apart;
@@ -12,12 +12,8 @@ mod assertion;
 mod at_position;
 mod declare;
 mod draft;
-mod ends;
-mod enter;
 mod extend;
 mod frames;
-mod gathered;
-mod hypotheses;
 mod laws;
 mod make;
 mod mandatory;
@@ -28,11 +24,9 @@ mod places;
 mod shape;
 mod storage;
 mod symbol_numbers;
-mod undo;
 
 pub use assertion::Frame;
-pub use frames::Frames;
-pub use gathered::Gathered;
+pub use frames::{Frames, Gathered};
 pub use laws::groups_are_pairs;
 pub use meaning::Meaning;
 pub use one_frame::frame;

@@ -1,24 +1,17 @@
 //! The hypotheses that are kept with a statement, what they are, and what is kept apart.
-ghost use Rattle.std.specs.Prelude.{◌≡◌, ℕ, List, ◌+◌, ◌-◌, ◌<◌, ◌≤◌, ◌++◌, ◌∷◌, [], true, false, if◌then◌else◌, length, map, take, OnOk};
-ghost use Rattle.entries.specs.Hypotheses.{told};
-ghost use Rattle.entries.specs.Stored.Spans.{cut, AreSpansIn};
-ghost use Rattle.frame.specs.Below.{AreBelow};
-ghost use Rattle.frame.specs.Cited.{head_of};
-ghost use Rattle.frame.specs.Stored.Drafts.{IsPartless, IsUndescribed, IsDraft, drafted};
-ghost use Rattle.frame.specs.Links.{actives, is_disj};
-ghost use Rattle.frame.specs.Stored.Whole.{AreStored};
-ghost use Rattle.frame.specs.Stored.Hypotheses.{AreHypotheses, AreParts, AreFloats, AreCollected, IsSpread};
-ghost use Rattle.frame.specs.Stored.Counts.{HasTwo};
-ghost use Rattle.frame.specs.Stored.AssertionParts.{asked_at, asked_by, head_at, has_two, variable_at, variable_by, symbols_at, groups_by, placed};
-ghost use Rattle.frame.specs.Stored.EntryMeanings.{names_in, statements_of};
+ghost use Rattle.std.specs.Prelude.{◌≡◌, ℕ, List, ◌+◌, ◌-◌, ◌≤◌, ◌++◌, ◌∷◌, [], true, false, if◌then◌else◌, length, map, take, OnOk};
+ghost use Rattle.{names.specs.Codes.with_names, scope.specs.Active.bare, scope.specs.Stored.Noted.AreNoted, scope.specs.Symbols.symbols_by, scope.specs.Symbols.symbols_in, entries.specs.Hypotheses.told, entries.specs.Stored.Spans.cut, entries.specs.Stored.Spans.AreSpansIn, frame.specs.Below.AreBelow, frame.specs.Cited.head_of, frame.specs.Stored.Drafts.IsPartless, frame.specs.Stored.Drafts.IsUndescribed, frame.specs.Stored.Drafts.IsDraft, frame.specs.Stored.Drafts.drafted, frame.specs.Stored.Whole.AreStored, frame.specs.Stored.Whole.IsDraftOf, frame.specs.Stored.Hypotheses.AreHypotheses, frame.specs.Stored.Hypotheses.AreParts, frame.specs.Stored.Hypotheses.AreFloats, frame.specs.Stored.Hypotheses.AreCollected, frame.specs.Stored.Hypotheses.IsSpread, frame.specs.Stored.Counts.HasTwo, frame.specs.Stored.Counts.kind_of, frame.specs.Stored.AssertionParts.asked_at, frame.specs.Stored.AssertionParts.asked_by, frame.specs.Stored.AssertionParts.head_at, frame.specs.Stored.AssertionParts.has_two, frame.specs.Stored.AssertionParts.variable_at, frame.specs.Stored.AssertionParts.variable_by, frame.specs.Stored.AssertionParts.placed, frame.specs.Stored.AssertionParts.has_parts, frame.specs.Stored.EntryMeanings.names_in, frame.specs.Stored.EntryMeanings.statements_of, frame.specs.FrameOf.hypotheses, frame.specs.Stored.OneFrame.asked};
 
 use crate::at_position::links_at;
 use crate::draft::Draft;
 use crate::mandatory::{add_essentials, are_few, find_floats};
 use crate::places::Places;
+use crate::shape::{has_parts, is_essential, kind};
 use crate::storage::Stock;
 use entries::buffer_part::between;
 use entries::{BufferPart, EntryRef, Hypothesis, Kind, NO_HEAD, number_of};
+use mm_read::Stmt;
+use scope::Noted;
 use std::alloc::AllocError;
 
 /// The variable of a `$f`.
@@ -86,42 +79,6 @@ fn describe(
     Ok(())
 }
 
-/// Adds those of the symbols that are among the variables.
-fn add_placed(variables: &Places, codes: &[u32], places: &mut Vec<u32>) -> Result<(), AllocError>
-    ensures { OnOk result (places.new.items ≡ places.old.items ++ placed variables.now codes.now) }
-{
-    for code in codes {
-        if variables.place(*code).is_some() {
-            places.push(*code)?;
-        }
-    }
-    Ok(())
-}
-
-/// Adds the groups of variables that are kept apart, from the `$d` that are active at `at`.
-fn groups(
-    stock: &Stock,
-    at: usize,
-    variables: &Places,
-    places: &mut Vec<u32>,
-    groups: &mut Vec<BufferPart>,
-) -> Result<(), AllocError>
-    requires stored { AreStored stock.now }
-    requires place { (1 ≤ at) × (at ≤ length (statements_of stock.now) + 1) }
-    requires empty { groups.old.items ≡ [] }
-    ensures groups { OnOk result (cut places.new.items groups.new.items ≡ groups_by variables.now (map (λ q. symbols_at stock.now.entries q.0) (actives is_disj (take (at - 1) (statements_of stock.now))))) }
-    ensures within { OnOk result (AreSpansIn (length places.new.items) groups.new.items) }
-{
-    let mut last = links_at(stock, at).disjoint;
-    while last != 0 {
-        let entry = stock.entries.entry(last as usize - 1);
-        add_group(variables, entry.symbols, places, groups)?;
-        last = entry.links.disjoint;
-    }
-    groups.reverse();
-    Ok(())
-}
-
 /// Adds the group of those of the symbols that are among the variables, where they are two or more.
 fn add_group(
     variables: &Places,
@@ -134,7 +91,11 @@ fn add_group(
     ensures within { OnOk result (AreSpansIn (length places.new.items) groups.new.items) }
 {
     let from = places.len();
-    add_placed(variables, codes, places)?;
+    for code in codes {
+        if variables.place(*code).is_some() {
+            places.push(*code)?;
+        }
+    }
     let to = places.len();
     if to > from + 1 {
         let span = between(from, to)?;
@@ -157,20 +118,25 @@ pub fn spread(stock: &Stock, at: usize, draft: &mut Draft) -> Result<(), AllocEr
 {
     describe(stock, &draft.hypotheses, &mut draft.asked, &mut draft.heads)?;
     variables(stock, &draft.hypotheses, &mut draft.variables)?;
-    groups(
-        stock,
-        at,
-        &draft.variables,
-        &mut draft.places,
-        &mut draft.groups,
-    )?;
+    let mut last = links_at(stock, at).disjoint;
+    while last != 0 {
+        let entry = stock.entries.entry(last as usize - 1);
+        add_group(
+            &draft.variables,
+            entry.symbols,
+            &mut draft.places,
+            &mut draft.groups,
+        )?;
+        last = entry.links.disjoint;
+    }
+    draft.groups.reverse();
     draft.whole = true;
     Ok(())
 }
 
 /// Finds the parts of an assertion or a `$e` with the symbols of the draft, which comes behind all statements: the `$f` of
 /// its own variables, or all mandatory hypotheses, where it may keep more than its own and these are few.
-pub fn parts(stock: &Stock, draft: &mut Draft, is_own: bool) -> Result<(), AllocError>
+fn parts(stock: &Stock, draft: &mut Draft, is_own: bool) -> Result<(), AllocError>
     requires stored { AreStored stock.now }
     requires codes { AreBelow (length (names_in stock.now)) draft.old.symbols.items }
     requires floats { (list : List ℕ) → AreFloats stock.now.entries (statements_of stock.now) draft.old.symbols.items list → AreHypotheses stock.now.entries list }
@@ -194,4 +160,26 @@ pub fn parts(stock: &Stock, draft: &mut Draft, is_own: bool) -> Result<(), Alloc
         add_essentials(stock, at, &mut draft.hypotheses)?;
         spread(stock, at, draft)
     }
+}
+
+/// Finds the parts of an assertion or of a `$e` by the numbers that were noted of its symbols. Another statement has none.
+pub fn enter_parts(
+    stock: &Stock,
+    draft: &mut Draft,
+    stmt: &Stmt,
+    noted: &Noted,
+) -> Result<(), AllocError>
+    requires stored { AreStored stock.now }
+    requires noted { AreNoted (with_names (names_in stock.now) (symbols_by stmt.now)) (symbols_in stmt.now) noted.now }
+    ensures { has_parts (kind_of stmt.now) ≡ true → OnOk result (IsDraftOf stock.now (bare stmt.now) noted.now draft.new) }
+{
+    if !has_parts(kind(stmt)) {
+        return Ok(());
+    }
+    let Some(codes) = noted.numbers() else {
+        return Err(AllocError);
+    };
+    draft.clear();
+    draft.symbols.extend_from_slice(codes)?;
+    parts(stock, draft, is_essential(stmt))
 }

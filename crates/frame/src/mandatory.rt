@@ -1,9 +1,6 @@
 //! The mandatory hypotheses of an assertion, found by the symbols that it uses.
 ghost use Rattle.std.specs.Prelude.{◌≡◌, ◌+◌, ◌-◌, ◌≤◌, ◌<◌, [], length, take, OnOk};
-ghost use Rattle.frame.specs.Below.{AreBelow};
-ghost use Rattle.frame.specs.Stored.Whole.{AreStored};
-ghost use Rattle.frame.specs.Stored.Hypotheses.{In, AreThose, HasMore, IsFloatOf, AreLooked, AreFloats, AreWith};
-ghost use Rattle.frame.specs.Stored.EntryMeanings.{names_in, statements_of};
+ghost use Rattle.{frame.specs.Below.AreBelow, frame.specs.Stored.Whole.AreStored, frame.specs.Stored.Hypotheses.In, frame.specs.Stored.Hypotheses.AreThose, frame.specs.Stored.Hypotheses.HasMore, frame.specs.Stored.Hypotheses.IsFloatOf, frame.specs.Stored.Hypotheses.AreLooked, frame.specs.Stored.Hypotheses.AreFloats, frame.specs.Stored.Hypotheses.AreWith, frame.specs.Stored.EntryMeanings.names_in, frame.specs.Stored.EntryMeanings.statements_of};
 
 use crate::at_position::{is_active_at, links_at};
 use crate::places::Places;

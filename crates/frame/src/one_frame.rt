@@ -1,9 +1,6 @@
 //! The frame of one assertion, from what is active.
-ghost use Rattle.std.specs.Prelude.{◌≡◌, ◌||◌, ◌&&◌, IsTrue, OnOk, IfOk};
-ghost use Rattle.mm_lex.specs.Alphabet.{Name, name_eq, has_name};
-ghost use Rattle.scope.specs.Active.{is_assertion, expr_of};
-ghost use Rattle.frame.specs.FrameOf.{frame_of, hypotheses};
-ghost use Rattle.frame.specs.Stored.OneFrame.{AreNoted, AreMandatory, among, asked, asks, groups_among};
+ghost use Rattle.std.specs.Prelude.{◌≡◌, ◌||◌, IsTrue, OnOk, IfOk};
+ghost use Rattle.{mm_lex.specs.Alphabet.Name, mm_lex.specs.Alphabet.name_eq, mm_lex.specs.Alphabet.has_name, scope.specs.Active.is_assertion, scope.specs.Active.expr_of, frame.specs.FrameOf.frame_of, frame.specs.Stored.OneFrame.AreNoted, frame.specs.Stored.OneFrame.AreMandatory, frame.specs.Stored.OneFrame.among, frame.specs.Stored.OneFrame.asked, frame.specs.Stored.OneFrame.asks, frame.specs.Stored.OneFrame.groups_among};
 
 use crate::assertion::Frame;
 use mm_lex::Words;

@@ -1,11 +1,6 @@
 //! The variables that are kept apart at a position.
-ghost use Rattle.std.specs.Prelude.{◌≡◌, ◌==◌, ◌&&◌, ◌<◌, ◌≤◌, false, length, IfNone};
-ghost use Rattle.std.specs.List.{list_any};
-ghost use Rattle.scope.specs.Active.{before, is_variable};
-ghost use Rattle.names.specs.Codes.{name_at, code_of, AreDistinct};
-ghost use Rattle.frame.specs.FrameOf.{is_pair};
-ghost use Rattle.frame.specs.Stored.Whole.{AreStored};
-ghost use Rattle.frame.specs.Stored.EntryMeanings.{names_in, statements_of};
+ghost use Rattle.std.specs.Prelude.{◌≡◌, ◌==◌, ◌&&◌, ◌<◌, false, length, IfNone};
+ghost use Rattle.{std.specs.List.list_any, names.specs.Codes.name_at, names.specs.Codes.code_of, scope.specs.Active.is_variable, frame.specs.FrameOf.is_pair};
 
 use crate::at_position::{is_active_at, links_at};
 use crate::storage::Stock;
@@ -22,15 +17,10 @@ pub struct Pairs<'a> {
 }
 
 impl<'a> Model for Pairs<'a> {
-    ghost use Rattle.frame.specs.Parts.{Numbered};
+    ghost use Rattle.std.specs.Prelude.{◌≤◌, length};
+    ghost use Rattle.{names.specs.Codes.AreDistinct, scope.specs.Active.before, frame.specs.Parts.Numbered, frame.specs.Stored.EntryMeanings.names_in, frame.specs.Stored.EntryMeanings.statements_of, frame.specs.Stored.Whole.AreStored};
 
     ghost Value = { Numbered };
-
-    ghost use Rattle.std.specs.Prelude.{◌≤◌, length};
-    ghost use Rattle.scope.specs.Active.{before};
-    ghost use Rattle.names.specs.Codes.{AreDistinct};
-    ghost use Rattle.frame.specs.Stored.EntryMeanings.{names_in, statements_of};
-    ghost use Rattle.frame.specs.Stored.Whole.{AreStored};
 
     ghost view = { λ a. record { statements = before (statements_of a.stock.now) a.at; names = names_in a.stock.now } };
 
@@ -45,7 +35,18 @@ impl<'a> Pairs<'a> {
         requires { (x < length self.now.names) × (y < length self.now.names) }
         ensures { result ≡ is_pair self.now.statements (name_at self.now.names x) (name_at self.now.names y) }
     {
-        are_pair(self.stock, self.at, x, y)
+        if x == y {
+            return false;
+        }
+        let mut last = links_at(self.stock, self.at).disjoint;
+        while last != 0 {
+            let entry = self.stock.entries.entry(last as usize - 1);
+            if contains_both(entry.symbols, x, y) {
+                return true;
+            }
+            last = entry.links.disjoint;
+        }
+        false
     }
 
     /// The number of a name, where it has one. A name with none is no variable there.
@@ -63,29 +64,23 @@ impl<'a> Pairs<'a> {
         requires { x < length self.now.names }
         ensures { result ≡ is_variable self.now.statements (name_at self.now.names x) }
     {
-        is_variable_at(self.stock, self.at, x)
-    }
-}
-
-/// Whether they are different and both stand in one `$d` that is active at `at`.
-fn are_pair(stock: &Stock, at: usize, x: u32, y: u32) -> bool
-    requires stored { AreStored stock.now }
-    requires place { (1 ≤ at) × (at ≤ length (statements_of stock.now)) }
-    requires names { (x < length (names_in stock.now)) × (y < length (names_in stock.now)) × AreDistinct (names_in stock.now) }
-    ensures { result ≡ is_pair (before (statements_of stock.now) at) (name_at (names_in stock.now) x) (name_at (names_in stock.now) y) }
-{
-    if x == y {
-        return false;
-    }
-    let mut last = links_at(stock, at).disjoint;
-    while last != 0 {
-        let entry = stock.entries.entry(last as usize - 1);
-        if contains_both(entry.symbols, x, y) {
+        let declared = self.stock.symbols[x as usize].variable;
+        if declared == 0 {
+            return false;
+        }
+        if declared < self.at && is_active_at(self.stock, declared, self.at) {
             return true;
         }
-        last = entry.links.disjoint;
+        let mut last = links_at(self.stock, self.at).variable;
+        while last != 0 {
+            let entry = self.stock.entries.entry(last as usize - 1);
+            if contains(entry.symbols, x) {
+                return true;
+            }
+            last = entry.links.variable;
+        }
+        false
     }
-    false
 }
 
 pub fn contains(codes: &[u32], x: u32) -> bool
@@ -104,29 +99,4 @@ fn contains_both(codes: &[u32], x: u32, y: u32) -> bool
     } else {
         contains(codes, x) && contains(codes, y)
     }
-}
-
-/// Whether an active `$v` has it: the last one that has it, or another.
-fn is_variable_at(stock: &Stock, at: usize, x: u32) -> bool
-    requires stored { AreStored stock.now }
-    requires place { (1 ≤ at) × (at ≤ length (statements_of stock.now)) }
-    requires names { (x < length (names_in stock.now)) × AreDistinct (names_in stock.now) }
-    ensures { result ≡ is_variable (before (statements_of stock.now) at) (name_at (names_in stock.now) x) }
-{
-    let declared = stock.symbols[x as usize].variable;
-    if declared == 0 {
-        return false;
-    }
-    if declared < at && is_active_at(stock, declared, at) {
-        return true;
-    }
-    let mut last = links_at(stock, at).variable;
-    while last != 0 {
-        let entry = stock.entries.entry(last as usize - 1);
-        if contains(entry.symbols, x) {
-            return true;
-        }
-        last = entry.links.variable;
-    }
-    false
 }

@@ -18,10 +18,9 @@ pub struct Places {
 
 impl Model for Places {
     ghost use Rattle.std.specs.Prelude.{ℕ, List, Option};
+    ghost use Rattle.frame.specs.Stored.NumberPlaces.{AreMarked};
 
     ghost Value = { List (Option ℕ) };
-
-    ghost use Rattle.frame.specs.Stored.NumberPlaces.{AreMarked};
 
     ghost view = { λ a. a.list.items };
 

@@ -1,11 +1,8 @@
 //! What is read off a statement.
-ghost use Rattle.std.specs.Prelude.{◌≡◌, option_map};
-ghost use Rattle.scope.specs.Active.{bare, label_of, is_assertion, is_essential};
-ghost use Rattle.frame.specs.Stored.AssertionParts.{has_parts};
-ghost use Rattle.frame.specs.Stored.Counts.{kind_of};
+ghost use Rattle.std.specs.Prelude.{◌≡◌};
+ghost use Rattle.{scope.specs.Active.bare, scope.specs.Active.is_assertion, scope.specs.Active.is_essential, frame.specs.Stored.AssertionParts.has_parts, frame.specs.Stored.Counts.kind_of, frame.specs.Stored.Labels.is_label_kind};
 
 use entries::Kind;
-use mm_lex::Word;
 use mm_read::Stmt;
 
 /// The kind of a statement.
@@ -22,17 +19,6 @@ pub fn kind(stmt: &Stmt) -> Kind
         Stmt::Ess { .. } => Kind::Ess,
         Stmt::Axiom { .. } => Kind::Axiom,
         Stmt::Prove { .. } => Kind::Prove,
-    }
-}
-
-/// The label of a statement.
-pub fn label(stmt: &Stmt) -> Option<&Word>
-    ensures { option_map (λ word. word.now) result ≡ label_of stmt.now }
-{
-    match stmt {
-        Stmt::Float { label, .. } | Stmt::Ess { label, .. } => Some(label),
-        Stmt::Axiom { label, .. } | Stmt::Prove { label, .. } => Some(label),
-        _ => None,
     }
 }
 
@@ -55,4 +41,11 @@ pub fn has_parts(kind: Kind) -> bool
     ensures { result ≡ has_parts kind }
 {
     matches!(kind, Kind::Ess | Kind::Axiom | Kind::Prove)
+}
+
+/// Whether statements of a kind have a label. They are those with an expression.
+pub fn has_label(kind: Kind) -> bool
+    ensures { result ≡ is_label_kind kind }
+{
+    matches!(kind, Kind::Float | Kind::Ess | Kind::Axiom | Kind::Prove)
 }

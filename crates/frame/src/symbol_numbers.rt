@@ -1,11 +1,6 @@
 //! Numbers of symbols and labels.
 ghost use Rattle.std.specs.Prelude.{◌≡◌, ◌++◌, ◌∷◌, [], IfSome, IfNone, false};
-ghost use Rattle.mm_read.specs.Statements.{Expr};
-ghost use Rattle.names.specs.Codes.{with_names};
-ghost use Rattle.scope.specs.Kinds.{declared_symbols, declared_labels, kind_in, is_label_kind, IsNumberOf};
-ghost use Rattle.scope.specs.Stored.Noted.{AreNoted};
-ghost use Rattle.scope.specs.Symbols.{symbols_by, symbols_in};
-ghost use Rattle.frame.specs.Stored.Naming.{is_declared};
+ghost use Rattle.{mm_read.specs.Statements.Expr, names.specs.Codes.with_names, scope.specs.Kinds.declared_symbols, scope.specs.Kinds.declared_labels, scope.specs.Kinds.is_label_kind, scope.specs.Kinds.kind_in, scope.specs.Kinds.IsNumberOf, scope.specs.Stored.Noted.AreNoted, scope.specs.Symbols.symbols_by, scope.specs.Symbols.symbols_in, frame.specs.Stored.Naming.is_declared};
 
 use mm_lex::Words;
 use mm_read::Stmt;

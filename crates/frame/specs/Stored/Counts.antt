@@ -1,14 +1,13 @@
 -- Numbers that stand for names, and what one more entry changes. The code's own form: no public clause cites it.
-use Rattle.std.specs.Prelude.{◌≡◌, ℕ, ◌<◌, ◌≤◌, ◌^◌, ◌==◌, true, false, ◌&&◌, if◌then◌else◌, List, [], ◌∷◌, ◌++◌, length, map, take, slice_get, Option, Some, None}
+use Rattle.std.specs.Prelude.{◌≡◌, ℕ, ◌<◌, ◌^◌, ◌==◌, true, false, if◌then◌else◌, List, [], ◌∷◌, ◌++◌, length, map, take, Option, Some, None}
 use Rattle.std.specs.List.{list_any}
 use Rattle.frame.specs.Words.{Name, Stmt, is_open, is_close, symbols_of, labels_of, Links, Kind, Open, Close, Const, Var, Disj, Float, Ess, Axiom, Prove, Entry, Extends}
 use Rattle.mm_read.specs.declared.stmt.Stmt.TheVariants as stmt
 use Rattle.frame.specs.declared.storage.Symbol.{Symbol}
 use Rattle.frame.specs.declared.storage.Stock.{Stock}
-use Rattle.frame.specs.Citations.{is_hypothesis_kind}
 use Rattle.frame.specs.Below.{AreBelow}
 use Rattle.frame.specs.Stored.Labels.{is_label_kind}
-use Rattle.frame.specs.Stored.EntryMeanings.{stmt_of, names_in, is_float_kind, is_var_kind, second_is}
+use Rattle.frame.specs.Stored.EntryMeanings.{stmt_of, names_in, declared_by, with_last}
 
 -- ---- numbers that stand for names
 
@@ -70,7 +69,7 @@ next_links l at kind = l
 -- what one more entry makes of the last declarations of a symbol
 abbrev pub with_declared : Kind → List ℕ → ℕ → ℕ → Symbol → Symbol
 with_declared kind codes at c x =
-    record { float = if is_float_kind kind && second_is c codes then at else x.float; variable = if is_var_kind kind && list_any (λ y. c == y) codes then at else x.variable }
+    if list_any (λ y. c == y) (declared_by kind codes) then with_last kind at x else x
 
 abbrev pub with_entry : Entry → ℕ → ℕ → Symbol → Symbol
 with_entry e at c x = with_declared e.kind e.symbols at c x
@@ -99,8 +98,3 @@ pub record IsBehind (old new : Stock) : Type 0 where
   pub ends : Extends old.ends.items new.ends.items
   pub entries : new.entries ≡ old.entries
   pub links : new.links ≡ old.links
-
--- a `$f` or a `$e`
-abbrev pub IsHypothesisAt : Option Stmt → Type 0
-IsHypothesisAt None = ⊥
-IsHypothesisAt (Some s) = is_hypothesis_kind s ≡ true

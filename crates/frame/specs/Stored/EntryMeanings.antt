@@ -88,15 +88,24 @@ ReadsAs symbols x = (c : ℕ) → c < length symbols → slice_get symbols c ≡
 
 -- ---- what a declaration replaces
 
-abbrev pub replaced_float : (ℕ → Symbol) → List ℕ → List ℕ
-replaced_float x (a ∷ c ∷ codes) = (x c).float ∷ []
-replaced_float x codes = []
+-- the symbols that a statement of this kind with these symbols declares
+abbrev pub declared_by : Kind → List ℕ → List ℕ
+declared_by Float (a ∷ c ∷ codes) = c ∷ []
+declared_by Var codes = codes
+declared_by kind codes = []
+
+-- the last declaration of a symbol by statements of this kind, and another in its place
+abbrev pub last_of : Kind → Symbol → ℕ
+last_of Float x = x.float
+last_of kind x = x.variable
+
+abbrev pub with_last : Kind → ℕ → Symbol → Symbol
+with_last Float at x = record { float = at; variable = x.variable }
+with_last kind at x = record { float = x.float; variable = at }
 
 -- what a statement of this kind with these symbols replaces, where the last declarations before it are x
 abbrev pub replaced_by : (ℕ → Symbol) → Kind → List ℕ → List ℕ
-replaced_by x Float codes = replaced_float x codes
-replaced_by x Var codes = map (λ c. (x c).variable) codes
-replaced_by x kind codes = []
+replaced_by x kind codes = map (λ c. last_of kind (x c)) (declared_by kind codes)
 
 -- the same for each entry of a list, behind others
 abbrev pub replaced_behind : List Entry → List Entry → List ℕ

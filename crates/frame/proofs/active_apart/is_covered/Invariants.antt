@@ -4,12 +4,12 @@ use Rattle.frame.proofs.active_apart.is_covered.Given as goal
 
 abbrev pub invariant-loop-last : goal.invariant-loop-last
 invariant-loop-last l =
-    let S = before (statements_of l.stock) l.at in
-    let left = decode (names_in l.stock) l.left in
-    let right = decode (names_in l.stock) l.right in
+    let S = before (statements_of l.pairs-inside.stock.now) l.pairs-inside.at in
+    let left = decode (names_in l.pairs-inside.stock.now) l.left in
+    let right = decode (names_in l.pairs-inside.stock.now) l.right in
     record {
       places : length l.hints ≡ PLACES;
-      sought : IsSought is_disj separated (does_cover S left right) l.stock l.last (are_covered S left right);
+      sought : IsSought is_disj separated (does_cover S left right) l.pairs-inside.stock.now l.last (are_covered S left right);
     }
 
 abbrev pub decreases-loop-last : goal.decreases-loop-last

@@ -1,4 +1,4 @@
-use Rattle.frame.proofs.Words.{◌≡◌, ◌∙◌, ap, sym, arith, refl, true, ◌-◌, take, length-map, links_of, last_active, names_in, labels_in, statements_of, stmt_of, is_open}
+use Rattle.frame.proofs.Words.{◌≡◌, ◌∙◌, ap, sym, arith, refl, ◌-◌, take, length-map, links_of, last_active, names_in, labels_in, statements_of, stmt_of, is_open}
 use Rattle.frame.proofs.LinksLemmas.{links-next, links-close}
 use Rattle.frame.proofs.BlockWalkLemmas.{last-within}
 use Rattle.frame.proofs.declare.links_after.Goals as goal

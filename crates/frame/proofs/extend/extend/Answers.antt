@@ -1,7 +1,8 @@
-use Rattle.frame.proofs.Words.{◌≡◌, ◌∙◌, ap, sym, subst, arith, length, ◌+◌, ◌++◌, ◌∷◌, [], true, if◌then◌else◌, false, bare, may-declare, partless, AreBelow, has_parts, drafted, statements_of, ReadsAs, IsKeptOf, parts_of}
+use Rattle.frame.proofs.Words.{Extends, IsBehind, Result, Ok, Err, OnErr, append-nil, ◌≡◌, ◌∙◌, ap, sym, subst, arith, refl, length, ◌+◌, ◌++◌, ◌∷◌, [], true, if◌then◌else◌, false, bare, may-declare, partless, AreBelow, has_parts, drafted, statements_of, ReadsAs, IsKeptOf, parts_of}
 use Rattle.frame.proofs.EndLemmas.{block-within, ends-next}
 use Rattle.frame.proofs.EnterLemmas.{IsEntered, IsExtended, added-numbers, entered-below, kept-pushed, kind_of-bare, numbered-pushed, pushed-statements}
 use Rattle.frame.proofs.NamingLemmas.{stored-naming}
+use Rattle.entries.specs.declared.head.Head.{Head}
 use Rattle.frame.proofs.extend.extend.Goals as goal
 use Rattle.frame.proofs.extend.extend.Goals.{In-Some}
 
@@ -10,11 +11,14 @@ declare_next-requires-clause-free c =
     let k = c.args.stock.now in
     may-declare (statements_of k) c.args.stmt.now k.numbering c.requires.legal (stored-naming k c.requires.stored).told
 
-entered : (c : In-Some) → IsEntered c.args.stock.now c.declare_next.new.stock c.args.stmt.now c.in_ok-head.head c.find_numbers.new.noted c.declare_next.new.noted
+abbrev head : In-Some → Head
+head c = record { kind = c.kind-kind.result; label = c.in_ok-place.field-0; names = c.symbol_count.result; links = c.args.stock.now.links }
+
+entered : (c : In-Some) → IsEntered c.args.stock.now c.declare_next.new.stock c.args.stmt.now (head c) c.find_numbers.new.noted c.declare_next.new.noted
 entered c = record {
   stored = c.requires.stored;
   legal = c.requires.legal;
-  head = c.in_ok-head.ensures (bare c.args.stmt.now) c.kind-kind.ensures;
+  head = record { kind = c.kind-kind.ensures; label = c.in_ok-place.ensures ∙ c.label_count.ensures; names = c.symbol_count.ensures; links = refl };
   declared = c.in_ok-declare_next.ensures.numbering;
   noted = c.find_numbers.ensures;
   noted_after = c.in_ok-declare_next.ensures.noted;
@@ -23,27 +27,44 @@ entered c = record {
 below : (c : In-Some) → AreBelow (length c.declare_next.new.stock.symbols.items) c.in-Some.codes.now
 below c =
     subst (λ n. AreBelow n c.in-Some.codes.now) (sym c.in_ok-declare_next.ensures.room.count)
-    (entered-below c.args.stock.now c.declare_next.new.stock c.args.stmt.now c.in_ok-head.head c.find_numbers.new.noted c.declare_next.new.noted c.in-Some.codes.now (entered c) c.in-Some.ensures.numbers)
+    (entered-below c.args.stock.now c.declare_next.new.stock c.args.stmt.now (head c) c.find_numbers.new.noted c.declare_next.new.noted c.in-Some.codes.now (entered c) c.in-Some.ensures.numbers)
 
-pub note_replaced-requires-clause-below : goal.note_replaced-requires-clause-below
-note_replaced-requires-clause-below c =
-    subst (λ xs. AreBelow (length xs) c.in-Some.codes.now) (sym c.deref.ensures.value) (below (goal.at.note_replaced-requires-clause-below c).In-Some)
+pub note_replaced-requires : goal.note_replaced-requires
+note_replaced-requires c =
+    subst (λ xs. AreBelow (length xs) c.declared-declared.result.now) (sym c.deref.ensures.value) (c.declared-declared.ensures.below _ (below (goal.at.note_replaced-requires c).In-Some))
 
 pub declare-requires : goal.declare-requires
-declare-requires c = below (goal.at.declare-requires c).In-Some
+declare-requires c = c.declared-declared.ensures.below _ (below (goal.at.declare-requires c).In-Some)
 
 pub note_end-requires : goal.note_end-requires
 note_end-requires c =
     let k = c.args.stock.now in
     let g = c.in_ok-declare_next.ensures.grown in
-    block-within k c.declare_next.new.stock.links.block c.note_statement.new.ends.items c.requires.stored (ap (λ l. l.block) g.links)
-    (c.in_ok-note_statement.ensures.added ∙ ap (λ v. v.items ++ 0 ∷ []) g.ends)
+    block-within k c.declare_next.new.stock.links.block c.push.new.self.items c.requires.stored (ap (λ l. l.block) g.links)
+    (c.in_ok-push.ensures.items ∙ ap (λ v. v.items ++ 0 ∷ []) g.ends)
+
+any-err : {T E P : Type 0} (r : Result T E) → P → OnErr r P
+any-err (Ok x) p = tt
+any-err (Err e) p = p
+
+pub returns-in_err-push-clause-behind : goal.returns-in_err-push-clause-behind
+returns-in_err-push-clause-behind c =
+    let g = c.in_ok-declare_next.ensures.grown in
+    any-err {P = IsBehind c.args.stock.now _} c.from_residual-in_err-push.result (record {
+      numbering = g.numbering;
+      symbols = g.symbols;
+      positions = g.positions;
+      replaced = subst (λ v. Extends v.items c.note_replaced.new.replaced.items) g.replaced c.note_replaced.ensures.behind;
+      ends = ([], c.in_err-push.ensures.items ∙ (ap (λ v. v.items) g.ends ∙ sym (append-nil _)));
+      entries = g.entries;
+      links = g.links;
+    })
 
 pub returns : goal.returns
 returns c =
     let k = c.args.stock.now in
     let s = bare c.args.stmt.now in
-    let h = c.in_ok-head.head in
+    let h = head (goal.at.returns c).In-Some in
     let new = c.declare_next.new.stock in
     let codes = c.in-Some.codes.now in
     let told = c.in_ok-declare_next.ensures in
@@ -58,8 +79,8 @@ returns c =
       kept = kept;
       of_kind = c.kind-kind.ensures ∙ sym e.head.kind;
       place = omega (arith, c.len-at.ensures.len);
-      noted = λ x reads. c.in_ok-note_replaced.ensures.noted x (subst (λ xs. ReadsAs xs x) (sym c.deref.ensures.value) reads);
-      each = c.declare.ensures.each;
+      noted = λ x reads. rw (← c.declared-declared.ensures.declared) (c.in_ok-note_replaced.ensures.noted x (subst (λ xs. ReadsAs xs x) (sym c.deref.ensures.value) reads));
+      each = λ k x g. rw (← c.declared-declared.ensures.declared) (c.declare.ensures.each k x g);
       count = c.declare.ensures.count;
       pushed = c.in_ok-push_entry.ensures.added;
       linked = c.links_after-links.ensures s (sym c.kind-kind.ensures);
@@ -69,8 +90,8 @@ returns c =
       stored = record {
         kept = kept-pushed e c.in-Some.ensures.numbers extended;
         numbered = numbered-pushed k new c.args.stmt.now _ c.requires.stored told.numbering statements;
-        ended = ends-next k s _ c.kind-kind.result new.links.block (c.len-at.result + 1) c.note_statement.new.ends.items c.note_end.new.ends.items c.requires.stored c.kind-kind.ensures (ap (λ l. l.block) told.grown.links)
-            (omega (arith, c.len-at.ensures.len)) (c.in_ok-note_statement.ensures.added ∙ ap (λ v. v.items ++ 0 ∷ []) told.grown.ends) c.note_end.ensures statements;
+        ended = ends-next k s _ c.kind-kind.result new.links.block (c.len-at.result + 1) c.push.new.self.items c.note_end.new.ends.items c.requires.stored c.kind-kind.ensures (ap (λ l. l.block) told.grown.links)
+            (omega (arith, c.len-at.ensures.len)) (c.in_ok-push.ensures.items ∙ ap (λ v. v.items ++ 0 ∷ []) told.grown.ends) c.note_end.ensures statements;
       };
       added = statements;
       numbers = added-numbers e c.in-Some.ensures.numbers extended;

@@ -1,4 +1,4 @@
 use Rattle.frame.proofs.frames.Frames.gather.Goals as goal
 
 pub returns-else-is_err : goal.returns-else-is_err
-returns-else-is_err c = rw (← c.self.view_is) c.gather_at-made.ensures.gathered
+returns-else-is_err c = c.fill-made.ensures.gathered

@@ -1,5 +1,0 @@
-use Rattle.frame.proofs.Words.{◌≡◌, ◌++◌, take, placed}
-use Rattle.frame.proofs.make.add_placed.Given as goal
-
-abbrev pub invariant-loop-code : goal.invariant-loop-code
-invariant-loop-code l = l.places.items ≡ l.initial.places.items ++ placed l.variables (take l.code-index l.codes)
