@@ -1,6 +1,6 @@
 //! The results of a proof so far, as ranges of one buffer.
 
-ghost use Rattle.std.specs.Prelude.{ℕ, ◌≡◌, suc, ◌<◌, ◌≤◌, ◌↔◌, ◌∷◌, ◌++◌, [], length, map, get_or, replicate, IfOk, OnOk, OnErr, IsTrue};
+ghost use Rattle.std.specs.Prelude.{take, ℕ, ◌≡◌, suc, ◌<◌, ◌≤◌, ◌↔◌, ◌∷◌, ◌++◌, [], length, map, get_or, replicate, IfOk, OnOk, OnErr, IsTrue};
 ghost use Rattle.{names.specs.Codes.decode, names.specs.Codes.AreDistinct, frame.specs.Below.AllBelow, frame.specs.Disjoint.are_groups_apart, frame.specs.AtPosition.AreLegal, frame.specs.Substitution.code_apply, frame.specs.Substitution.images_of_names, subst.specs.Findings.IsKnown, subst.specs.Images.AreOver, subst.specs.ExpressionPlaces.AreWithin, subst.specs.ExpressionPlaces.AreInside, verify.specs.ReadPlaces.ReadsAll, verify.specs.Fits.AreDifferent, verify.specs.Fits.AreStanding, verify.specs.Fits.Reads, verify.specs.Fits.DoFit, verify.specs.Machine.with_result, verify.specs.Machine.with_mark, verify.specs.Machine.IsSaved, verify.specs.ResultPlaces.below, verify.specs.ResultPlaces.top, verify.specs.ResultPlaces.Adds, verify.specs.ResultPlaces.Gives, verify.specs.ResultPlaces.Marks, verify.specs.ResultPlaces.Finds, verify.specs.Right.weight_limit};
 
 use entries::{Groups, Hypotheses, Hypothesis};
@@ -187,8 +187,7 @@ impl Results {
         }
         let place = place_between(start, self.symbols.len());
         self.weight += self.symbols.len() - start;
-        self.stack.truncate(keep);
-        self.stack.push(place)?;
+        put_behind(&mut self.stack, keep, place)?;
         Ok(true)
     }
 
@@ -210,6 +209,26 @@ impl Results {
         let place = self.stack[0];
         symbols_at(self.symbols.as_slice(), place) == expr
     }
+}
+
+/// Keeps the first `keep` places and adds one behind them, where one stood mostly.
+#[inline(always)]
+fn put_behind(
+    stack: &mut Vec<ExpressionPlace>,
+    keep: usize,
+    place: ExpressionPlace,
+) -> Result<(), AllocError>
+    requires { keep ≤ length stack.old.items }
+    ensures ok { OnOk result (stack.new.items ≡ take keep stack.old.items ++ place ∷ []) }
+    ensures err { OnErr result (stack.new.items ≡ take keep stack.old.items) }
+{
+    if keep < stack.len() {
+        stack[keep] = place;
+        stack.truncate(keep + 1);
+    } else {
+        stack.push(place)?;
+    }
+    Ok(())
 }
 
 /// Sets the images of the variables of all `$f`, and no other, to what stands behind the first symbols of their results;
